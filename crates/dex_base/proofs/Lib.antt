@@ -1,0 +1,3 @@
+pub mod AdlerSums
+pub mod FieldBounds
+pub mod WordsBytes

@@ -1,0 +1,26 @@
+// The signature and the checksum of a finished file.
+ghost use Rattle.std.specs.Prelude.{◌≡◌, ◌≤◌, ◌++◌, length, take};
+ghost use Rattle.dex_container.specs.Closed.{signed, IsClosed};
+
+use dex_base::{adler32, put_u32_at};
+use sha1::Sha1;
+
+// The signature stands before the checksum, which covers it.
+fn put_signature(bytes: &mut [u8])
+    requires { 32 ≤ length bytes.old }
+    ensures { bytes.new ≡ take 12 bytes.old ++ signed bytes.old }
+{
+    let digest = Sha1::digest(&bytes[32..]);
+    bytes[12..32].copy_from_slice(&digest);
+}
+
+/// Fills in the SHA-1 signature of the bytes from 32 on (bytes 12 to 31), and then the Adler-32 checksum of the
+/// bytes from 12 on (bytes 8 to 11). No other byte changes (Dalvik Executable format, "header_item").
+pub fn close(bytes: &mut [u8])
+    requires { 112 ≤ length bytes.old }
+    ensures { IsClosed bytes.old bytes.new }
+{
+    put_signature(bytes);
+    let checksum = adler32(&bytes[12..]);
+    put_u32_at(bytes, 8, checksum);
+}

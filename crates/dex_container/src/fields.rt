@@ -1,0 +1,87 @@
+// The fields of the header and of the entries of the map, each where Layout says.
+ghost use Rattle.std.specs.Prelude.{◌≡◌, ◌+◌, ◌<◌, ◌≤◌, length};
+ghost use Rattle.dex_container.specs.Layout.{row_bytes, size_of, offset_of, map_place, entry_count, kind_at, items_at, place_at};
+ghost use Rattle.dex_container.specs.Frame.{MapIsReadable};
+
+use dex_base::{u16_at, u32_at};
+
+/// Rows of the six tables, in bytes; the data section is counted in bytes.
+const ROW_BYTES: [u64; 7] = [4, 4, 12, 8, 8, 32, 1];
+
+/// How many bytes a row of a section takes.
+pub fn row_bytes(k: usize) -> u64
+    requires { k < 7 }
+    ensures value { result ≡ row_bytes k }
+    ensures small { result ≤ 32 }
+{
+    ROW_BYTES[k]
+}
+
+/// How many rows section k has; of the data section, how many bytes.
+#[tactic(auto, unfolding(crate::specs::Layout::size_of))]
+pub fn size_of(bytes: &[u8], k: usize) -> u32
+    requires section { k < 7 }
+    requires long { 112 ≤ length bytes.now }
+    ensures { result ≡ size_of bytes.now k }
+{
+    u32_at(bytes, 56 + 8 * k)
+}
+
+/// Where section k begins.
+#[tactic(auto, unfolding(crate::specs::Layout::offset_of))]
+pub fn offset_of(bytes: &[u8], k: usize) -> u32
+    requires section { k < 7 }
+    requires long { 112 ≤ length bytes.now }
+    ensures { result ≡ offset_of bytes.now k }
+{
+    u32_at(bytes, 60 + 8 * k)
+}
+
+/// Where the map stands.
+#[tactic(auto, unfolding(crate::specs::Layout::map_place))]
+pub fn map_place(bytes: &[u8]) -> u32
+    requires { 112 ≤ length bytes.now }
+    ensures { result ≡ map_place bytes.now }
+{
+    u32_at(bytes, 52)
+}
+
+/// How many entries the map has.
+#[tactic(auto, unfolding(crate::specs::Layout::entry_count))]
+pub fn entry_count(bytes: &[u8]) -> u32
+    requires long { 112 ≤ length bytes.now }
+    requires room { map_place bytes.now + 4 ≤ length bytes.now }
+    ensures { result ≡ entry_count bytes.now }
+{
+    u32_at(bytes, map_place(bytes) as usize)
+}
+
+/// The kind that entry i names.
+#[tactic(auto, unfolding(crate::specs::Layout::kind_at))]
+pub fn kind_at(bytes: &[u8], i: usize) -> u16
+    requires map { MapIsReadable bytes.now }
+    requires entry { i < entry_count bytes.now }
+    ensures { result ≡ kind_at bytes.now i }
+{
+    u16_at(bytes, map_place(bytes) as usize + 4 + 12 * i)
+}
+
+/// How many items entry i counts.
+#[tactic(auto, unfolding(crate::specs::Layout::items_at))]
+pub fn items_at(bytes: &[u8], i: usize) -> u32
+    requires map { MapIsReadable bytes.now }
+    requires entry { i < entry_count bytes.now }
+    ensures { result ≡ items_at bytes.now i }
+{
+    u32_at(bytes, map_place(bytes) as usize + 4 + 12 * i + 4)
+}
+
+/// Where the items of entry i begin.
+#[tactic(auto, unfolding(crate::specs::Layout::place_at))]
+pub fn place_at(bytes: &[u8], i: usize) -> u32
+    requires map { MapIsReadable bytes.now }
+    requires entry { i < entry_count bytes.now }
+    ensures { result ≡ place_at bytes.now i }
+{
+    u32_at(bytes, map_place(bytes) as usize + 4 + 12 * i + 8)
+}

@@ -1,0 +1,18 @@
+//! The frame of a file: header, map and checksums.
+//!
+//! `open(bytes)` tests it and answers its `Sections`; `close(&mut bytes)` fills in signature and checksum.
+#![tactic(auto)]
+
+mod closing;
+mod entry;
+mod fields;
+mod header;
+mod laws;
+mod map;
+mod opening;
+mod sections;
+mod sums;
+
+pub use closing::close;
+pub use laws::framed_without_fault;
+pub use opening::{Sections, open};

@@ -1,0 +1,89 @@
+// The map: faults 12 to 14.
+ghost use Rattle.std.specs.Prelude.{◌≡◌, ℕ, ◌+◌, ◌<◌, ◌≤◌, ◌↔◌, length, IsTrue, OnOk, IfErr, MatchOption};
+ghost use Rattle.dex_container.specs.Layout.{entry_count, kind_at};
+ghost use Rattle.dex_container.specs.Frame.{HeaderHolds, SumsHold, SectionsHold, MapIsReadable, MapIsPlaced, EntryHolds, EntriesHold, HasKind, MapHolds};
+ghost use Rattle.dex_container.specs.Faults.{IsFirst};
+
+use crate::entry::entry_holds;
+use crate::fields::{entry_count, kind_at, map_place, offset_of, size_of};
+use dex_base::Fault;
+
+fn map_is_placed(bytes: &[u8]) -> bool
+    requires header { HeaderHolds bytes.now }
+    requires sections { SectionsHold bytes.now }
+    ensures placed { IsTrue result ↔ MapIsPlaced bytes.now }
+    ensures readable { IsTrue result → MapIsReadable bytes.now }
+{
+    let begin = u64::from(offset_of(bytes, 6));
+    let end = begin + u64::from(size_of(bytes, 6));
+    let place = u64::from(map_place(bytes));
+    if place % 4 != 0 || place < begin || end < place + 4 {
+        return false;
+    }
+    place + 4 + 12 * u64::from(entry_count(bytes)) <= end
+}
+
+/// The first entry of a kind, if there is one.
+pub fn find_kind(bytes: &[u8], kind: u16) -> Option<usize>
+    requires map { MapIsReadable bytes.now }
+    ensures { MatchOption result (¬ HasKind bytes.now kind) (λ i. (i < entry_count bytes.now) × (kind_at bytes.now i ≡ kind)) }
+{
+    for i in 0..entry_count(bytes) as usize {
+        if kind_at(bytes, i) == kind {
+            return Some(i);
+        }
+    }
+    None
+}
+
+fn check_entries(bytes: &[u8]) -> Result<(), Fault>
+    requires header { HeaderHolds bytes.now }
+    requires sums { SumsHold bytes.now }
+    requires sections { SectionsHold bytes.now }
+    requires placed { MapIsPlaced bytes.now }
+    requires map { MapIsReadable bytes.now }
+    ensures ok { OnOk result (EntriesHold bytes.now) }
+    ensures err { IfErr result (IsFirst bytes.now) }
+{
+    for i in 0..entry_count(bytes) as usize {
+        if !entry_holds(bytes, i) {
+            return Err(Fault {
+                code: 13,
+                place: u64::from(map_place(bytes)) + 4 + 12 * i as u64,
+            });
+        }
+    }
+    Ok(())
+}
+
+/// The rules of the map as a whole.
+pub fn check_map(bytes: &[u8]) -> Result<(), Fault>
+    requires header { HeaderHolds bytes.now }
+    requires sums { SumsHold bytes.now }
+    requires sections { SectionsHold bytes.now }
+    ensures ok { OnOk result (MapHolds bytes.now) }
+    ensures err { IfErr result (IsFirst bytes.now) }
+{
+    if !map_is_placed(bytes) {
+        return Err(Fault {
+            code: 12,
+            place: 52,
+        });
+    }
+    check_entries(bytes)?;
+    if find_kind(bytes, 0x1000).is_none() {
+        return Err(Fault {
+            code: 14,
+            place: 52,
+        });
+    }
+    for k in 0..6usize {
+        if size_of(bytes, k) > 0 && find_kind(bytes, k as u16 + 1).is_none() {
+            return Err(Fault {
+                code: 14,
+                place: 56 + 8 * k as u64,
+            });
+        }
+    }
+    Ok(())
+}

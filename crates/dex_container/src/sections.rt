@@ -1,0 +1,49 @@
+// Where the header says that tables and data stand: faults 10 and 11.
+ghost use Rattle.std.specs.Prelude.{◌≡◌, ◌<◌, ◌≤◌, ◌↔◌, length, IsTrue, OnOk, IfErr};
+ghost use Rattle.dex_container.specs.Frame.{HeaderHolds, SumsHold, SectionsHold, SectionHolds};
+ghost use Rattle.dex_container.specs.Faults.{IsFirst};
+
+use crate::fields::{offset_of, row_bytes, size_of};
+use dex_base::Fault;
+
+fn section_holds(bytes: &[u8], k: usize) -> bool
+    requires section { k < 7 }
+    requires long { 112 ≤ length bytes.now }
+    ensures { IsTrue result ↔ SectionHolds bytes.now k }
+{
+    let size = u64::from(size_of(bytes, k));
+    let offset = u64::from(offset_of(bytes, k));
+    let is_aligned = k >= 6 || offset % 4 == 0;
+    let is_within = offset + row_bytes(k) * size <= bytes.len() as u64;
+    size == 0 || is_aligned && 112 <= offset && is_within
+}
+
+/// The rules of the seven sections, lowest first.
+pub fn check_sections(bytes: &[u8]) -> Result<(), Fault>
+    requires header { HeaderHolds bytes.now }
+    requires sums { SumsHold bytes.now }
+    ensures ok { OnOk result (SectionsHold bytes.now) }
+    ensures err { IfErr result (IsFirst bytes.now) }
+{
+    for k in 0..7 {
+        if !section_holds(bytes, k) {
+            return Err(Fault {
+                code: 10,
+                place: 56 + 8 * k as u64,
+            });
+        }
+    }
+    if size_of(bytes, 1) > 65535 {
+        return Err(Fault {
+            code: 11,
+            place: 64,
+        });
+    }
+    if size_of(bytes, 2) > 65535 {
+        return Err(Fault {
+            code: 11,
+            place: 72,
+        });
+    }
+    Ok(())
+}

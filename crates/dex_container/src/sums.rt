@@ -1,0 +1,40 @@
+// Checksum and signature: faults 8 and 9.
+ghost use Rattle.std.specs.Prelude.{◌≡◌, ◌≤◌, ◌↔◌, IsTrue, length, OnOk, IfErr};
+ghost use Rattle.dex_container.specs.Frame.{HeaderHolds, SumsHold, HasChecksum, HasSignature};
+ghost use Rattle.dex_container.specs.Faults.{IsFirst};
+
+use dex_base::{Fault, adler32, u32_at};
+use sha1::Sha1;
+
+// Whether the number at byte 8 is the checksum of the bytes behind it.
+#[tactic(auto, unfolding(crate::specs::Frame::HasChecksum))]
+fn has_checksum(bytes: &[u8]) -> bool
+    requires { 12 ≤ length bytes.now }
+    ensures { IsTrue result ↔ HasChecksum bytes.now }
+{
+    u32_at(bytes, 8) == adler32(&bytes[12..])
+}
+
+// Whether bytes 12 to 31 are the signature of the bytes behind them.
+fn has_signature(bytes: &[u8]) -> bool
+    requires { 32 ≤ length bytes.now }
+    ensures { IsTrue result ↔ HasSignature bytes.now }
+{
+    let digest = Sha1::digest(&bytes[32..]);
+    &bytes[12..32] == digest.as_slice()
+}
+
+/// The rules of checksum and signature.
+pub fn check_sums(bytes: &[u8]) -> Result<(), Fault>
+    requires { HeaderHolds bytes.now }
+    ensures ok { OnOk result (SumsHold bytes.now) }
+    ensures err { IfErr result (IsFirst bytes.now) }
+{
+    if !has_checksum(bytes) {
+        return Err(Fault { code: 8, place: 8 });
+    }
+    if !has_signature(bytes) {
+        return Err(Fault { code: 9, place: 12 });
+    }
+    Ok(())
+}

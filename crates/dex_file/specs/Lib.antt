@@ -1,0 +1,3 @@
+pub mod Means
+pub mod Packed
+pub mod Refused

@@ -1,0 +1,10 @@
+//! Whole files: `read` answers the program of a file, and `write` the file of a program.
+#![tactic(auto)]
+
+mod laws;
+mod reading;
+mod writing;
+
+pub use laws::{one_program, written_is_read};
+pub use reading::read;
+pub use writing::write;

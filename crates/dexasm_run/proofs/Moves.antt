@@ -1,0 +1,37 @@
+-- Two reads, or two writes, in a row.
+use Rattle.std.proofs.Common.{◌≡◌, ℕ, ◌+◌, List, [], ◌++◌, Option, None, Some, take, drop, sym, ap, subst, ◌∙◌, append_assoc, append-nil, refl}
+use Rattle.std.specs.Io.KnownBytes.{Appends, Consumes, Keeps}
+use Rattle.std.proofs.Math.Seq.{take-add}
+use Rattle.std.proofs.Common.{Bool, true, ◌||◌, ◌&&◌, ◌==◌, nat_lt, ◌<◌, length, arith}
+use Rattle.std.proofs.lemmas.Bool.Decides.{nat_tests}
+
+pub Consumes-trans : (a b c : Option (List ℕ)) (front rest : List ℕ) → Consumes a b front
+    → Consumes b c rest → Consumes a c (front ++ rest)
+Consumes-trans None b c front rest p q = tt
+Consumes-trans (Some x) None c front rest p q = absurd p
+Consumes-trans (Some x) (Some y) None front rest p q = absurd q
+Consumes-trans (Some x) (Some y) (Some z) front rest p q =
+    p ∙ ap (λ l. front ++ l) q ∙ sym (append_assoc front rest z)
+
+-- the front of a list was written, and then n more
+pub Appends-more : (a b c : Option (List ℕ)) (all : List ℕ) (done n : ℕ) → Appends a b (take done all)
+    → Appends b c (take n (drop done all)) → Appends a c (take (done + n) all)
+Appends-more None b c all done n p q = tt
+Appends-more (Some x) None c all done n p q = absurd p
+Appends-more (Some x) (Some y) None all done n p q = absurd q
+Appends-more (Some x) (Some y) (Some z) all done n p q =
+    q ∙ ap (λ l. l ++ take n (drop done all)) p ∙ append_assoc x _ _
+    ∙ ap (λ l. x ++ l) (sym (take-add done n all))
+
+-- a read of nothing after the bytes given
+pub Consumes-end : (a b c : Option (List ℕ)) (given piece : List ℕ) (n : ℕ) → n ≡ 0 → Consumes a b given
+    → Consumes b c (take n piece) → Consumes a c given
+Consumes-end None b c given piece n e p q = tt
+Consumes-end (Some x) None c given piece n e p q = absurd p
+Consumes-end (Some x) (Some y) None given piece n e p q = absurd q
+Consumes-end (Some x) (Some y) (Some z) given piece n e p q =
+    p ∙ ap (λ l. given ++ l) (q ∙ ap (λ k. take k piece ++ z) e)
+
+-- no byte for a nonempty piece is the end
+pub is_end : (was : Bool) (n room : ℕ) → n ≡ 0 → 0 < room → (was || ((n == 0) && nat_lt 0 room)) ≡ true
+is_end was n room e r = grind (arith, nat_tests)

@@ -1,0 +1,14 @@
+use Rattle.std.proofs.Common.{rules, ◌≡◌, true, List, length, take, ℕ, ◌<◌, nat_lt, subst, sym, ◌∙◌}
+use Rattle.std.specs.Io.KnownBytes.{Consumes}
+use Rattle.dexasm_run.proofs.Moves.{Consumes-end, is_end, Consumes-trans}
+use Rattle.dexasm_run.proofs.running.gather.Goals as goal
+
+pub returns-then-n-eq0 : goal.returns-then-n-eq0
+returns-then-n-eq0 g c =
+    let read = c.in-Ok.ensures in
+    (record { gave = Consumes-end _ _ _ _ _ _ c.if-n-eq0.true c.loop-n.invariant read.bytes.0; end = read.bytes.1 c.if-n-eq0.true (search rules) }, read.ended ∙ is_end _ _ _ c.if-n-eq0.true (search rules))
+
+pub loop-n-preserved : goal.loop-n-preserved
+loop-n-preserved g c =
+    let all : c.extend_from_slice.new.self.items ≡ _ = search rules in
+    subst (Consumes _ _) (sym all) (Consumes-trans _ _ _ _ _ c.loop-n.invariant c.in-Ok.ensures.bytes.0)

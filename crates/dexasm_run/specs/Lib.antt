@@ -1,0 +1,5 @@
+pub mod Answers
+pub mod Ends
+pub mod Runs
+pub mod Status
+pub mod Watching

@@ -1,0 +1,62 @@
+// How a run fails.
+ghost use Rattle.std.specs.Prelude.{◌≡◌, Some, IfOk, string_bytes};
+ghost use Rattle.dexasm_run.specs.Status.{line_of, status_of};
+
+use dex_base::{Fault, fault_name};
+use std::alloc::{AllocError, Global};
+use std::fmt;
+use thiserror::Error;
+
+/// Why a run has no answer. Its text is the line that the program prints.
+#[derive(Debug, Drop, Error)]
+#[error("{}", Line(self))]
+pub enum RunFault {
+    /// A call refused the input: its number is not 255.
+    Refused(Fault),
+    /// The source failed.
+    Input,
+    /// The sink failed.
+    Output,
+    /// Want of memory.
+    Memory,
+}
+
+/// The exit status of the program: 1 refused, 3 input or output, 4 want of memory.
+pub fn status(fault: &RunFault) -> u8
+    ensures { result ≡ status_of fault.now }
+{
+    match fault {
+        RunFault::Refused(_) => 1,
+        RunFault::Input | RunFault::Output => 3,
+        RunFault::Memory => 4,
+    }
+}
+
+/// The line that tells of a fault, as a clause can know it: the derived `Display` shows it, and has no clause.
+#[derive(Clone, Copy)]
+pub struct Line<'a>(pub &'a RunFault);
+
+impl fmt::Display for Line<'_> {
+    ghost output = { λ line. Some (line_of line.0.now) };
+
+    fn fmt<W: fmt::Write>(&self, f: &mut fmt::Formatter<W>) -> fmt::Result {
+        match self.0 {
+            RunFault::Refused(fault) => {
+                let code = fault.code;
+                let name = fault_name(code);
+                let place = fault.place;
+                write!(f, "dexasm: refused {code} {name} at {place}")
+            }
+            RunFault::Input => write!(f, "dexasm: cannot read"),
+            RunFault::Output => write!(f, "dexasm: cannot write"),
+            RunFault::Memory => write!(f, "dexasm: out of memory"),
+        }
+    }
+}
+
+/// The same line as a text.
+pub fn line_text(alloc: Global, fault: &RunFault) -> Result<String, AllocError>
+    ensures { IfOk result (λ text. string_bytes text ≡ line_of fault.now) }
+{
+    Line(fault).to_string(alloc)
+}

@@ -1,0 +1,12 @@
+//! A job run over any reader and any writer: all is read, the whole answer is made, and then it is written.
+#![tactic(auto)]
+
+mod ends;
+mod error;
+mod job;
+mod running;
+
+pub use ends::{Sink, Source, Watched};
+pub use error::{Line, RunFault, line_text, status};
+pub use job::Job;
+pub use running::run;

@@ -1,0 +1,112 @@
+// One run of a job: read all, answer, write all.
+ghost use Rattle.std.specs.Prelude.{◌≡◌, ◌≢◌, ◌<◌, ◌≤◌, vec_len, true, false, ⊤, IfOk, length, take};
+ghost use Rattle.std.specs.Io.KnownBytes.{Keeps};
+ghost use Rattle.dexasm_run.specs.Runs.{Answers, Begins, MatchRun, Refuses, ReadsAll, WritesAll};
+
+use crate::ends::{Sink, Source};
+use crate::error::RunFault;
+use crate::job::{Job, answer};
+use dex_base::Fault;
+use std::alloc::{AllocError, Global};
+
+/// How many bytes one `take` may give.
+const PIECE: usize = 64 * 1024;
+
+/// Takes from the source until it has ended, answers the job on all that it gave, and puts the whole answer.
+///
+/// `Refused` carries a fault of the call that the job stands for, `Input` comes only where the source failed in
+/// this run, `Output` only where the sink did, and `Memory` stands for the fault 255. After `Refused`, `Input` and
+/// `Memory` nothing was put, after `Output` a beginning of the answer. An endless source ends in `Memory` or
+/// `Input`, since each `take` adds a byte, fails or ends the source, and a vector's length is bounded.
+pub fn run<R: Source, W: Sink>(
+    alloc: Global,
+    job: Job,
+    input: &mut R,
+    output: &mut W,
+) -> Result<(), RunFault>
+    requires input_works { R.failed input.old ≡ false }
+    requires input_goes_on { R.ended input.old ≡ false }
+    requires output_works { W.failed output.old ≡ false }
+    ensures bytes { MatchRun result
+        (Answers job (R.remaining input.old) (R.remaining input.new) (W.contents output.old) (W.contents output.new))
+        (Refuses job (R.remaining input.old) (R.remaining input.new))
+        ⊤
+        (Begins job (R.remaining input.old) (R.remaining input.new) (W.contents output.old) (W.contents output.new))
+        ⊤ }
+    ensures flags { MatchRun result (R.ended input.new ≡ true) (λ _. R.ended input.new ≡ true)
+        (R.failed input.new ≡ true) (W.failed output.new ≡ true) ⊤ }
+    ensures unwritten { MatchRun result ⊤ (λ _. Keeps (W.contents output.old) (W.contents output.new))
+        (Keeps (W.contents output.old) (W.contents output.new)) ⊤
+        (Keeps (W.contents output.old) (W.contents output.new)) }
+{
+    let given = read_all(alloc, input)?;
+    let made = match answer(alloc, job, given.as_slice()) {
+        Ok(made) => made,
+        Err(fault) => return Err(refusal(fault)),
+    };
+    write_all(made.as_slice(), output)
+}
+
+// Want of memory is no refusal of the bytes.
+fn refusal(fault: Fault) -> RunFault
+    ensures memory { fault.code ≡ 255 → result ≡ RunFault.Memory }
+    ensures refused { fault.code ≢ 255 → result ≡ RunFault.Refused fault }
+{
+    if fault.code == 255 {
+        RunFault::Memory
+    } else {
+        RunFault::Refused(fault)
+    }
+}
+
+// Room for one `take`.
+fn new_piece(alloc: Global) -> Result<Vec<u8>, AllocError>
+    ensures { IfOk result (λ piece. 0 < vec_len piece) }
+{
+    vec![in alloc; 0; PIECE]
+}
+
+// All that the source gives up to its end.
+fn read_all<R: Source>(alloc: Global, input: &mut R) -> Result<Vec<u8>, RunFault>
+    requires { R.ended input.old ≡ false }
+    ensures { ReadsAll (R.remaining input.old) (R.remaining input.new) (R.failed input.new) (R.ended input.new) result }
+{
+    match new_piece(alloc) {
+        Ok(mut piece) => gather(alloc, input, piece.as_mut_slice()),
+        Err(_) => Err(RunFault::Memory),
+    }
+}
+
+// The same, with room for one piece.
+fn gather<R: Source>(alloc: Global, input: &mut R, piece: &mut [u8]) -> Result<Vec<u8>, RunFault>
+    requires goes_on { R.ended input.old ≡ false }
+    requires room { 0 < length piece.old }
+    ensures { ReadsAll (R.remaining input.old) (R.remaining input.new) (R.failed input.new) (R.ended input.new) result }
+{
+    let mut given = Vec::new(alloc);
+    loop {
+        let Ok(n) = input.take(piece) else {
+            return Err(RunFault::Input);
+        };
+        if n == 0 {
+            return Ok(given);
+        }
+        if given.extend_from_slice(&piece[..n]).is_err() {
+            return Err(RunFault::Memory);
+        }
+    }
+}
+
+// Puts all the bytes, as many at a time as the sink takes.
+fn write_all<W: Sink>(made: &[u8], output: &mut W) -> Result<(), RunFault>
+    ensures { WritesAll (W.contents output.old) (W.contents output.new) (W.failed output.new) made.now result }
+{
+    let mut done = 0;
+    while done < made.len() {
+        match output.put(&made[done..]) {
+            Ok(n) if n > 0 => done += n,
+            _ => return Err(RunFault::Output),
+        }
+    }
+    Ok(())
+}
