@@ -1,2 +1,6 @@
 pub mod Content
 pub mod View
+pub mod Key
+pub mod KeyLaws
+pub mod Shorty
+pub mod Depth

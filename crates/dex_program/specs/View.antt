@@ -1,13 +1,149 @@
--- The content of what lies in memory. Two values are equal by content where these are equal.
-use Rattle.std.specs.Prelude.{map}
+-- What a value in memory says: one function a type, named as the type is, from the type in memory to its content. Two values
+-- are equal by content where their views are equal, in whichever arenas they lie.
+use Rattle.std.specs.Prelude.{map, option_map}
 use Rattle.dex_program.specs.Content as content
-use Rattle.dex_program.specs.declared.program.Class.{Class}
-use Rattle.dex_program.specs.declared.program.Program.{Program}
+use Rattle.dex_program.specs.declared.names.Str.{Str}
+use Rattle.dex_program.specs.declared.names.Desc.{Desc}
+use Rattle.dex_program.specs.declared.names.Proto.{Proto}
+use Rattle.dex_program.specs.declared.names.FieldRef.{FieldRef}
+use Rattle.dex_program.specs.declared.names.MethodRef.{MethodRef}
+use Rattle.dex_program.specs.declared.names.Name.{Name}
+use Rattle.dex_program.specs.declared.names.Name.TheVariants as named
+use Rattle.dex_program.specs.declared.insn.Insn.{Insn}
+use Rattle.dex_program.specs.declared.insn.Insn.TheVariants as made
+use Rattle.dex_program.specs.declared.code.Catch.{Catch}
+use Rattle.dex_program.specs.declared.code.Try.{Try}
+use Rattle.dex_program.specs.declared.code.Code.{Code}
+use Rattle.dex_program.specs.declared.class.Member.{Member}
+use Rattle.dex_program.specs.declared.class.Method.{Method}
+use Rattle.dex_program.specs.declared.class.Class.{Class}
+use Rattle.dex_program.specs.declared.class.Program.{Program}
+use Rattle.dex_program.specs.declared.value.Value.{Value}
+use Rattle.dex_program.specs.declared.value.Value.TheOpen.{Value-F}
+use Rattle.dex_program.specs.declared.value.Value.TheOpen as layer
+use Rattle.dex_program.specs.declared.value.Value.TheFolds.{fold-Value}
 
--- what a class says
+-- ---- Names
+
+abbrev pub str : Str → content.Units
+str s = s.units.now
+
+abbrev pub desc : Desc → content.Descriptor
+desc d = str d.text
+
+abbrev pub proto : Proto → content.Proto
+proto p = record { ret = desc p.ret; params = map desc p.params.now }
+
+abbrev pub field_ref : FieldRef → content.FieldRef
+field_ref f = record { class = desc f.class; name = str f.name; ty = desc f.ty }
+
+abbrev pub method_ref : MethodRef → content.MethodRef
+method_ref m = record { class = desc m.class; name = str m.name; proto = proto m.proto.now }
+
+abbrev pub name : Name → content.Name
+name (named.Text s) = content.OfText (str s)
+name (named.Desc d) = content.OfDesc (desc d)
+name (named.Field f) = content.OfField (field_ref f.now)
+name (named.Method m) = content.OfMethod (method_ref m.now)
+
+-- ---- Values
+
+-- A value whose inner values, if it is an array, are contents already.
+abbrev pub value_step : Value-F content.Value → content.Value
+value_step (layer.Byte n) = content.Byte n
+value_step (layer.Short n) = content.Short n
+value_step (layer.Char unit) = content.Char unit
+value_step (layer.Int n) = content.Int n
+value_step (layer.Long n) = content.Long n
+value_step (layer.Float bits) = content.Float bits
+value_step (layer.Double bits) = content.Double bits
+value_step (layer.Text s) = content.Named (content.OfText (str s))
+value_step (layer.Desc d) = content.Named (content.OfDesc (desc d))
+value_step (layer.Field f) = content.Named (content.OfField (field_ref f.now))
+value_step (layer.Method m) = content.Named (content.OfMethod (method_ref m.now))
+value_step (layer.Enum f) = content.Enum (field_ref f.now)
+value_step (layer.Array vs) = content.Array (content.values vs.now)
+value_step layer.Null = content.Null
+value_step (layer.Bool b) = content.Boolean b
+
+-- From the innermost values outwards. Its equations, one a variant, are the lemmas of proofs/ValueViews.antt.
+abbrev pub value : Value → content.Value
+value = fold-Value content.Value value_step
+
+-- ---- Instructions
+
+abbrev pub insn : Insn → content.Insn
+insn (made.I10x op) = content.I10x op
+insn (made.I12x op a b) = content.I12x op a b
+insn (made.I11n op a b) = content.I11n op a b
+insn (made.I11x op a) = content.I11x op a
+insn (made.I10t op to) = content.I10t op to
+insn (made.I20t op to) = content.I20t op to
+insn (made.I22x op a b) = content.I22x op a b
+insn (made.I21t op a to) = content.I21t op a to
+insn (made.I21s op a b) = content.I21s op a b
+insn (made.I21h op a b) = content.I21h op a b
+insn (made.I21c op a which) = content.I21c op a (name which)
+insn (made.I23x op a b c) = content.I23x op a b c
+insn (made.I22b op a b c) = content.I22b op a b c
+insn (made.I22t op a b to) = content.I22t op a b to
+insn (made.I22s op a b c) = content.I22s op a b c
+insn (made.I22c op a b which) = content.I22c op a b (name which)
+insn (made.I30t op to) = content.I30t op to
+insn (made.I32x op a b) = content.I32x op a b
+insn (made.I31i op a b) = content.I31i op a b
+insn (made.I31t op a to) = content.I31t op a to
+insn (made.I31c op a which) = content.I31c op a (name which)
+insn (made.I35c op n regs which) = content.I35c op n regs (name which)
+insn (made.I3rc op n first which) = content.I3rc op n first (name which)
+insn (made.I51l op a b) = content.I51l op a b
+insn (made.Packed first targets) = content.Packed first targets.now
+insn (made.Sparse keys targets) = content.Sparse keys.now targets.now
+insn (made.Data width bytes) = content.Data width bytes.now
+
+-- ---- Code
+
+abbrev pub catch : Catch → content.Catch
+catch c = record { ty = desc c.ty; at = c.at }
+
+abbrev pub try : Try → content.Try
+try t = record { from = t.from; to = t.to; catches = map catch t.catches.now; catch_all = t.catch_all }
+
+abbrev pub code : Code → content.Code
+code c = record {
+  registers = c.registers;
+  ins = c.ins;
+  outs = c.outs;
+  insns = map insn c.insns.now;
+  tries = map try c.tries.now;
+}
+
+-- ---- Classes
+
+abbrev pub member : Member → content.Member
+member m = record { name = str m.name; ty = desc m.ty; flags = m.flags }
+
+abbrev pub method : Method → content.Method
+method m = record {
+  name = str m.name;
+  proto = proto m.proto.now;
+  flags = m.flags;
+  code = option_map (λ c. code c.now) m.code;
+}
+
 abbrev pub class : Class → content.Class
-class c = content.Empty
+class c = record {
+  ty = desc c.ty;
+  flags = c.flags;
+  superclass = option_map desc c.superclass;
+  interfaces = map desc c.interfaces.now;
+  source = option_map str c.source;
+  statics = map member c.statics.now;
+  values = map value c.values.now;
+  instances = map member c.instances.now;
+  directs = map method c.directs.now;
+  virtuals = map method c.virtuals.now;
+}
 
--- what a program says
 abbrev pub program : Program → content.Program
 program p = map class p.classes.now

@@ -1,0 +1,158 @@
+//! Strings in MUTF-8, with their count and end byte ("Dalvik Executable format", sections "MUTF-8 (Modified UTF-8)
+//! Encoding" and "string_data_item").
+
+ghost use Rattle.std.specs.Prelude.{◌≡◌, ℕ, ◌^◌, ◌<◌, ◌≤◌, ◌+◌, ◌*◌, ◌++◌, List, length, IfOk, IfSome, IfNone, OnOk, OnErr, IsOkUnless, vec_len, vec_capacity};
+ghost use Rattle.dex_base.specs.Grammar.{Begins, NoneBegins, Appends, Many, Counted};
+ghost use Rattle.dex_base.specs.Mutf8.{SpellsUnit, SpellsText, PacksText, mutf8_length, unit_bytes};
+ghost use Rattle.dex_base.specs.Names.{HasUnit};
+ghost use Rattle.dex_base.specs.Leb128.{Spells, Shortest};
+ghost use Rattle.dex_base.specs.Fault.{memory};
+
+use crate::fault::Fault;
+use crate::leb128::{put_uleb, read_uleb};
+use bumpalo::Bump;
+use bumpalo::collections::into_bump_slice;
+use std::alloc::Global;
+
+/// The unit at the front, and how many bytes it takes, seen byte by byte.
+fn unit_at(bytes: &[u8]) -> Option<(u16, usize)>
+    ensures found { IfSome result (λ f. HasUnit bytes.now f.0 f.1) }
+    ensures none { IfNone result ((u len : ℕ) → HasUnit bytes.now u len → ⊥) }
+{
+    if bytes.is_empty() {
+        return None;
+    }
+    let a = bytes[0] as u16;
+    if a < 128 {
+        return if a == 0 { None } else { Some((a, 1)) };
+    }
+    if bytes.len() < 2 {
+        return None;
+    }
+    let b = bytes[1] as u16;
+    if b < 128 || b >= 192 {
+        return None;
+    }
+    if 192 <= a && a < 224 {
+        let unit = (a - 192) * 64 + (b - 128);
+        return if unit != 0 && unit < 128 {
+            None
+        } else {
+            Some((unit, 2))
+        };
+    }
+    if a < 224 || a >= 240 || bytes.len() < 3 {
+        return None;
+    }
+    let c = bytes[2] as u16;
+    if c < 128 || c >= 192 {
+        return None;
+    }
+    let unit = (a - 224) * 4096 + (b - 128) * 64 + (c - 128);
+    if unit < 2048 { None } else { Some((unit, 3)) }
+}
+
+/// The unit at the front, and how many bytes it takes.
+fn read_unit(bytes: &[u8]) -> Option<(u16, usize)>
+    ensures found { IfSome result (λ f. Begins SpellsUnit bytes.now f.0 f.1) }
+    ensures none { IfNone result (NoneBegins SpellsUnit bytes.now) }
+{
+    unit_at(bytes)
+}
+
+/// So many units at the front, and their length.
+fn read_units<'a>(
+    arena: &'a Bump,
+    bytes: &[u8],
+    count: u32,
+) -> Result<Option<(Vec<u16, &'a Bump>, usize)>, Fault>
+    ensures found { IfOk result (λ r. IfSome r (λ f. Begins (Many SpellsUnit count) bytes.now f.0.items f.1)) }
+    ensures none { IfOk result (λ r. IfNone r (NoneBegins (Many SpellsUnit count) bytes.now)) }
+    ensures memory { IsOkUnless result memory }
+{
+    if bytes.len() < count as usize {
+        return Ok(None);
+    }
+    let mut units = Vec::with_capacity(arena, count as usize)?;
+    let mut at = 0;
+    for _ in 0..count {
+        let Some((unit, length)) = read_unit(&bytes[at..]) else {
+            return Ok(None);
+        };
+        units.push(unit)?;
+        at += length;
+    }
+    Ok(Some((units, at)))
+}
+
+/// The string_data_item at the front: its units, placed in the arena, and its length in bytes with count and end byte.
+///
+/// None where no front of the bytes is one: the count is misspelled or above the units that follow, a unit is
+/// misspelled (overlong, or of four bytes), or no zero ends it. Lone surrogates are units like others. The only error
+/// is want of memory; the count is compared with the bytes that are left before memory is asked for it.
+pub fn read_mutf8<'a>(
+    _alloc: Global,
+    arena: &'a Bump,
+    bytes: &[u8],
+) -> Result<Option<(&'a [u16], usize)>, Fault>
+    ensures found { IfOk result (λ r. IfSome r (λ f. Begins SpellsText bytes.now f.0.now f.1)) }
+    ensures none { IfOk result (λ r. IfNone r (NoneBegins SpellsText bytes.now)) }
+    ensures memory { IsOkUnless result memory }
+{
+    let Some((count, front)) = read_uleb(bytes) else {
+        return Ok(None);
+    };
+    let Some((units, back)) = read_units(arena, &bytes[front..], count)? else {
+        return Ok(None);
+    };
+    let length = front + back;
+    if bytes.len() <= length {
+        return Ok(None);
+    }
+    if bytes[length] != 0 {
+        return Ok(None);
+    }
+    Ok(Some((into_bump_slice(units), length + 1)))
+}
+
+/// Appends a unit, where there is room.
+fn put_unit(out: &mut Vec<u8>, unit: u16)
+    requires { vec_len out.old + 3 ≤ vec_capacity out.old }
+    ensures ok { out.new.items ≡ out.old.items ++ unit_bytes unit }
+    ensures len { vec_len out.new ≡ vec_len out.old + length (unit_bytes unit) }
+    ensures capacity { vec_capacity out.new ≡ vec_capacity out.old }
+{
+    if unit != 0 && unit < 128 {
+        out.push_reserved(unit as u8);
+    } else if unit < 2048 {
+        out.push_reserved((192 + unit / 64) as u8);
+        out.push_reserved((128 + unit % 64) as u8);
+    } else {
+        out.push_reserved((224 + unit / 4096) as u8);
+        out.push_reserved((128 + unit / 64 % 64) as u8);
+        out.push_reserved((128 + unit % 64) as u8);
+    }
+}
+
+/// Appends the string_data_item of at most 4294967295 units: the shortest spelling of their count, the units, a zero.
+///
+/// The only error is want of memory, and then `out` holds what it held.
+pub fn put_mutf8(out: &mut Vec<u8>, units: &[u16]) -> Result<(), Fault>
+    requires { length units.now < 2 ^ 32 }
+    ensures ok { OnOk result (Appends PacksText out.old.items out.new.items units.now) }
+    ensures err { OnErr result (out.new.items ≡ out.old.items) }
+    ensures memory { IsOkUnless result memory }
+    ensures len { vec_len out.new ≤ vec_len out.old + mutf8_length units.now + 6 }
+    ensures capacity { vec_capacity out.old ≤ vec_capacity out.new }
+{
+    out.reserve(units.len() * 3 + 6)?;
+    put_uleb(out, units.len() as u32)?;
+    for unit in units {
+        put_unit(out, *unit);
+    }
+    out.push_reserved(0);
+    Ok(())
+}
+
+#[cfg(test)]
+mod tests;

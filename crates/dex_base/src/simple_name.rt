@@ -1,0 +1,113 @@
+//! Names of members, and the simple names that they and class names are made of ("Dalvik Executable format",
+//! section "String syntax").
+
+ghost use Rattle.std.specs.Prelude.{◌≡◌, ℕ, ◌<◌, ◌≤◌, [], ◌∷◌, ◌++◌, ◌↔◌, List, length, IsTrue, IfSome, IfNone};
+ghost use Rattle.dex_base.specs.Grammar.{Begins, NoneBegins};
+ghost use Rattle.dex_base.specs.Descriptor.{IsNamePoint, IsSimpleName, IsMemberName};
+ghost use Rattle.dex_base.specs.Names.{HasPoint, SpellsPoint, IsRun};
+
+const LESS: u16 = b'<' as u16;
+
+const GREATER: u16 = b'>' as u16;
+
+/// Whether a simple name may have this code point.
+fn is_name_point(c: u32) -> bool
+    ensures { IsTrue result ↔ IsNamePoint c }
+{
+    match c {
+        // A-Z a-z 0-9 $ - _
+        65..=90 | 97..=122 | 48..=57 | 36 | 45 | 95 => true,
+        0xa1..=0x1fff | 0x2010..=0x2027 | 0x2030..=0xd7ff => true,
+        0xe000..=0xffef | 0x10000..=0x10ffff => true,
+        _ => false,
+    }
+}
+
+/// The code point of a name at the front, and how many units it takes, seen unit by unit.
+fn point_at(units: &[u16]) -> Option<(u32, usize)>
+    ensures found { IfSome result (λ f. HasPoint units.now f.0 f.1) }
+    ensures none { IfNone result ((c len : ℕ) → HasPoint units.now c len → ⊥) }
+{
+    if units.is_empty() {
+        return None;
+    }
+    let high = units[0] as u32;
+    if high < 0xd800 || high >= 0xdc00 {
+        return if is_name_point(high) {
+            Some((high, 1))
+        } else {
+            None
+        };
+    }
+    if units.len() < 2 {
+        return None;
+    }
+    let low = units[1] as u32;
+    if low < 0xdc00 || low >= 0xe000 {
+        return None;
+    }
+    Some((0x10000 + (high - 0xd800) * 1024 + (low - 0xdc00), 2))
+}
+
+/// The code point of a name at the front, and how many units it takes.
+fn read_point(units: &[u16]) -> Option<(u32, usize)>
+    ensures found { IfSome result (λ f. Begins SpellsPoint units.now f.0 f.1) }
+    ensures some { IfSome result (λ f. 0 < f.1) }
+    ensures none { IfNone result (NoneBegins SpellsPoint units.now) }
+{
+    point_at(units)
+}
+
+/// The length of the longest front that is made of code points of names.
+pub(crate) fn name_run(units: &[u16]) -> usize
+    ensures inside { result ≤ length units.now }
+    ensures run { IsRun units.now result }
+{
+    let mut at = 0;
+    while let Some((_, length)) = read_point(&units[at..]) {
+        at += length;
+    }
+    at
+}
+
+/// Whether the units are a simple name.
+fn is_simple_name(units: &[u16]) -> bool
+    ensures { IsTrue result ↔ IsSimpleName units.now }
+{
+    let run = name_run(units);
+    if run == 0 {
+        return false;
+    }
+    run == units.len()
+}
+
+/// What lies between `<` and `>` at the ends.
+fn between_angles(units: &[u16]) -> Option<&[u16]>
+    ensures found { IfSome result (λ inner. units.now ≡ 60 ∷ inner.now ++ 62 ∷ []) }
+    ensures none { IfNone result ((inner : List ℕ) → units.now ≡ 60 ∷ inner ++ 62 ∷ [] → ⊥) }
+{
+    let length = units.len();
+    if length < 2 {
+        return None;
+    }
+    if units[0] != LESS {
+        return None;
+    }
+    if units[length - 1] != GREATER {
+        return None;
+    }
+    Some(&units[1..length - 1])
+}
+
+/// Whether the units are the name of a field or a method: a simple name, or one between `<` and `>` (MemberName).
+pub fn is_member_name(units: &[u16]) -> bool
+    ensures { IsTrue result ↔ IsMemberName units.now }
+{
+    match between_angles(units) {
+        Some(inner) => is_simple_name(inner),
+        None => is_simple_name(units),
+    }
+}
+
+#[cfg(test)]
+mod tests;

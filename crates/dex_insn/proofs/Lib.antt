@@ -1,0 +1,12 @@
+pub mod Signs
+pub mod Numbers
+pub mod Table
+pub mod Spelled
+pub mod Unique
+pub mod Flaws
+pub mod More
+pub mod Less
+pub mod Fits
+pub mod Laws
+pub mod Mnemonics
+pub mod Rows

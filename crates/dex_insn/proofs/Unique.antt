@@ -1,0 +1,322 @@
+-- The units at a place spell one instruction at most.
+use Rattle.std.proofs.Common.{◌≡◌, ℕ, ◌+◌, ◌-◌, ◌*◌, drop, true, false, length-drop, length-take-le, ◌<◌, ◌≤◌, List, Option, Some, None, sym, ap, ◌∙◌, refl, arith, ℤ, length, if◌then◌else◌, ◌==◌, ◌≢◌, ◌⊎◌, inl, inr, ⊎_elim}
+use Rattle.std.proofs.lemmas.Bool.Decides.{nat_tests}
+use Rattle.std.specs.Prelude.{slice_range, IsTrue}
+use Rattle.dex_insn.specs.Fields.{number, field, signed, Rises}
+use Rattle.dex_insn.specs.Opcodes.{format_of, formats, units_of}
+use Rattle.dex_insn.specs.Raw.{Raw, units, is_payload, packed_units, sparse_units, data_units, I10x, I12x, I11n, I11x, I10t, I20t, I22x, I21t, I21s, I21h, I21c, I23x, I22b, I22t, I22s, I22c, I30t, I32x, I31i, I31t, I31c, I35c, I3rc, I51l, Packed, Sparse, Data}
+use Rattle.dex_insn.specs.RawInsns.{Spells, Begins, registers, IsPayload, IsWidth}
+use Rattle.dex_insn.specs.Flaws.{format_at, has_zero_byte, head_units, payload_units}
+use Rattle.dex_insn.specs.declared.opcode.Format.{Format}
+use Rattle.dex_insn.specs.declared.opcode.Format.TheVariants.{F10x, F12x, F11n, F11x, F10t, F20t, F22x, F21t, F21s, F21h, F21c, F23x, F22b, F22t, F22s, F22c, F30t, F32x, F31i, F31t, F31c, F35c, F3rc, F51l}
+
+-- the instruction that the units spell in a format
+abbrev in_format : List ℕ → Format → Raw
+in_format us F10x = I10x (field us 0 0 8)
+in_format us F12x = I12x (field us 0 0 8) (field us 0 8 4) (field us 0 12 4)
+in_format us F11n = I11n (field us 0 0 8) (field us 0 8 4) (signed 4 (field us 0 12 4))
+in_format us F11x = I11x (field us 0 0 8) (field us 0 8 8)
+in_format us F10t = I10t (field us 0 0 8) (signed 8 (field us 0 8 8))
+in_format us F20t = I20t (field us 0 0 8) (signed 16 (number us 1 1))
+in_format us F22x = I22x (field us 0 0 8) (field us 0 8 8) (number us 1 1)
+in_format us F21t = I21t (field us 0 0 8) (field us 0 8 8) (signed 16 (number us 1 1))
+in_format us F21s = I21s (field us 0 0 8) (field us 0 8 8) (signed 16 (number us 1 1))
+in_format us F21h = I21h (field us 0 0 8) (field us 0 8 8) (signed 16 (number us 1 1))
+in_format us F21c = I21c (field us 0 0 8) (field us 0 8 8) (number us 1 1)
+in_format us F23x = I23x (field us 0 0 8) (field us 0 8 8) (field us 1 0 8) (field us 1 8 8)
+in_format us F22b = I22b (field us 0 0 8) (field us 0 8 8) (field us 1 0 8) (signed 8 (field us 1 8 8))
+in_format us F22t = I22t (field us 0 0 8) (field us 0 8 4) (field us 0 12 4) (signed 16 (number us 1 1))
+in_format us F22s = I22s (field us 0 0 8) (field us 0 8 4) (field us 0 12 4) (signed 16 (number us 1 1))
+in_format us F22c = I22c (field us 0 0 8) (field us 0 8 4) (field us 0 12 4) (number us 1 1)
+in_format us F30t = I30t (field us 0 0 8) (signed 32 (number us 1 2))
+in_format us F32x = I32x (field us 0 0 8) (number us 1 1) (number us 2 1)
+in_format us F31i = I31i (field us 0 0 8) (field us 0 8 8) (signed 32 (number us 1 2))
+in_format us F31t = I31t (field us 0 0 8) (field us 0 8 8) (signed 32 (number us 1 2))
+in_format us F31c = I31c (field us 0 0 8) (field us 0 8 8) (number us 1 2)
+in_format us F35c = I35c (field us 0 0 8) (field us 0 12 4) (registers us (field us 0 12 4)) (number us 1 1)
+in_format us F3rc = I3rc (field us 0 0 8) (field us 0 8 8) (number us 2 1) (number us 1 1)
+in_format us F51l = I51l (field us 0 0 8) (field us 0 8 8) (signed 64 (number us 1 4))
+
+abbrev plain_at : List ℕ → Option Format → Raw
+plain_at us None = I10x 0
+plain_at us (Some format) = in_format us format
+
+plain_is : (us : List ℕ) (f : Format) (op : ℕ) (r : Raw) → Begins us f op → r ≡ in_format us f → r ≡ plain_at us (format_at us)
+plain_is us f op r b e =
+    let k : format_at us ≡ Some f = ap format_of (sym b.opcode) ∙ b.kind in
+    e ∙ ap (plain_at us) (sym k)
+
+pub zero_row : format_of 0 ≡ Some F10x
+unfolding formats
+zero_row = refl
+
+zero_is : (us : List ℕ) (f : Format) (op : ℕ) → Begins us f op → field us 0 0 8 ≡ 0 → Some f ≡ Some F10x
+zero_is us f op b z = sym b.kind ∙ ap format_of (b.opcode ∙ z) ∙ zero_row
+
+-- what is known of an instruction that is no payload
+pub record Plain (us : List ℕ) (r : Raw) : Type 0 where
+  pub f : Format
+  pub op : ℕ
+  pub begins : Begins us f op
+  pub not_payload : ¬ IsPayload us
+  pub zero : IsTrue (has_zero_byte f) → field us 0 8 8 ≡ 0
+  pub count : f ≡ F35c → field us 0 12 4 ≤ 5
+  pub same : r ≡ plain_at us (format_at us)
+  pub size : units r ≡ units_of f
+  pub kind : is_payload r ≡ false
+
+plain_10x : (us : List ℕ) (op : ℕ) → Spells us (I10x op) → Plain us (I10x op)
+unfolding units is_payload
+plain_10x us op h = record { f = F10x; op = op; begins = h.0; not_payload = λ p. omega (arith, p.1); zero = λ _. h.1; count = λ e. cc; same = let o = h.0.opcode in plain_is us F10x op _ h.0 (cc); size = refl; kind = refl }
+
+plain_12x : (us : List ℕ) (op : ℕ) (a : ℕ) (b : ℕ) → Spells us (I12x op a b) → Plain us (I12x op a b)
+unfolding units is_payload
+plain_12x us op a b h = record { f = F12x; op = op; begins = h.0; not_payload = λ p. let e = zero_is us F12x op h.0 p.0 in cc; zero = λ t. cc; count = λ e. cc; same = let o = h.0.opcode in plain_is us F12x op _ h.0 (cc); size = refl; kind = refl }
+
+plain_11n : (us : List ℕ) (op : ℕ) (a : ℕ) (b : ℤ) → Spells us (I11n op a b) → Plain us (I11n op a b)
+unfolding units is_payload
+plain_11n us op a b h = record { f = F11n; op = op; begins = h.0; not_payload = λ p. let e = zero_is us F11n op h.0 p.0 in cc; zero = λ t. cc; count = λ e. cc; same = let o = h.0.opcode in plain_is us F11n op _ h.0 (cc); size = refl; kind = refl }
+
+plain_11x : (us : List ℕ) (op : ℕ) (a : ℕ) → Spells us (I11x op a) → Plain us (I11x op a)
+unfolding units is_payload
+plain_11x us op a h = record { f = F11x; op = op; begins = h.0; not_payload = λ p. let e = zero_is us F11x op h.0 p.0 in cc; zero = λ t. cc; count = λ e. cc; same = let o = h.0.opcode in plain_is us F11x op _ h.0 (cc); size = refl; kind = refl }
+
+plain_10t : (us : List ℕ) (op : ℕ) (offset : ℤ) → Spells us (I10t op offset) → Plain us (I10t op offset)
+unfolding units is_payload
+plain_10t us op offset h = record { f = F10t; op = op; begins = h.0; not_payload = λ p. let e = zero_is us F10t op h.0 p.0 in cc; zero = λ t. cc; count = λ e. cc; same = let o = h.0.opcode in plain_is us F10t op _ h.0 (cc); size = refl; kind = refl }
+
+plain_20t : (us : List ℕ) (op : ℕ) (offset : ℤ) → Spells us (I20t op offset) → Plain us (I20t op offset)
+unfolding units is_payload
+plain_20t us op offset h = record { f = F20t; op = op; begins = h.0; not_payload = λ p. let e = zero_is us F20t op h.0 p.0 in cc; zero = λ _. h.1; count = λ e. cc; same = let o = h.0.opcode in plain_is us F20t op _ h.0 (cc); size = refl; kind = refl }
+
+plain_22x : (us : List ℕ) (op : ℕ) (a : ℕ) (b : ℕ) → Spells us (I22x op a b) → Plain us (I22x op a b)
+unfolding units is_payload
+plain_22x us op a b h = record { f = F22x; op = op; begins = h.0; not_payload = λ p. let e = zero_is us F22x op h.0 p.0 in cc; zero = λ t. cc; count = λ e. cc; same = let o = h.0.opcode in plain_is us F22x op _ h.0 (cc); size = refl; kind = refl }
+
+plain_21t : (us : List ℕ) (op : ℕ) (a : ℕ) (offset : ℤ) → Spells us (I21t op a offset) → Plain us (I21t op a offset)
+unfolding units is_payload
+plain_21t us op a offset h = record { f = F21t; op = op; begins = h.0; not_payload = λ p. let e = zero_is us F21t op h.0 p.0 in cc; zero = λ t. cc; count = λ e. cc; same = let o = h.0.opcode in plain_is us F21t op _ h.0 (cc); size = refl; kind = refl }
+
+plain_21s : (us : List ℕ) (op : ℕ) (a : ℕ) (b : ℤ) → Spells us (I21s op a b) → Plain us (I21s op a b)
+unfolding units is_payload
+plain_21s us op a b h = record { f = F21s; op = op; begins = h.0; not_payload = λ p. let e = zero_is us F21s op h.0 p.0 in cc; zero = λ t. cc; count = λ e. cc; same = let o = h.0.opcode in plain_is us F21s op _ h.0 (cc); size = refl; kind = refl }
+
+plain_21h : (us : List ℕ) (op : ℕ) (a : ℕ) (b : ℤ) → Spells us (I21h op a b) → Plain us (I21h op a b)
+unfolding units is_payload
+plain_21h us op a b h = record { f = F21h; op = op; begins = h.0; not_payload = λ p. let e = zero_is us F21h op h.0 p.0 in cc; zero = λ t. cc; count = λ e. cc; same = let o = h.0.opcode in plain_is us F21h op _ h.0 (cc); size = refl; kind = refl }
+
+plain_21c : (us : List ℕ) (op : ℕ) (a : ℕ) (index : ℕ) → Spells us (I21c op a index) → Plain us (I21c op a index)
+unfolding units is_payload
+plain_21c us op a index h = record { f = F21c; op = op; begins = h.0; not_payload = λ p. let e = zero_is us F21c op h.0 p.0 in cc; zero = λ t. cc; count = λ e. cc; same = let o = h.0.opcode in plain_is us F21c op _ h.0 (cc); size = refl; kind = refl }
+
+plain_23x : (us : List ℕ) (op : ℕ) (a : ℕ) (b : ℕ) (c : ℕ) → Spells us (I23x op a b c) → Plain us (I23x op a b c)
+unfolding units is_payload
+plain_23x us op a b c h = record { f = F23x; op = op; begins = h.0; not_payload = λ p. let e = zero_is us F23x op h.0 p.0 in cc; zero = λ t. cc; count = λ e. cc; same = let o = h.0.opcode in plain_is us F23x op _ h.0 (cc); size = refl; kind = refl }
+
+plain_22b : (us : List ℕ) (op : ℕ) (a : ℕ) (b : ℕ) (c : ℤ) → Spells us (I22b op a b c) → Plain us (I22b op a b c)
+unfolding units is_payload
+plain_22b us op a b c h = record { f = F22b; op = op; begins = h.0; not_payload = λ p. let e = zero_is us F22b op h.0 p.0 in cc; zero = λ t. cc; count = λ e. cc; same = let o = h.0.opcode in plain_is us F22b op _ h.0 (cc); size = refl; kind = refl }
+
+plain_22t : (us : List ℕ) (op : ℕ) (a : ℕ) (b : ℕ) (offset : ℤ) → Spells us (I22t op a b offset) → Plain us (I22t op a b offset)
+unfolding units is_payload
+plain_22t us op a b offset h = record { f = F22t; op = op; begins = h.0; not_payload = λ p. let e = zero_is us F22t op h.0 p.0 in cc; zero = λ t. cc; count = λ e. cc; same = let o = h.0.opcode in plain_is us F22t op _ h.0 (cc); size = refl; kind = refl }
+
+plain_22s : (us : List ℕ) (op : ℕ) (a : ℕ) (b : ℕ) (c : ℤ) → Spells us (I22s op a b c) → Plain us (I22s op a b c)
+unfolding units is_payload
+plain_22s us op a b c h = record { f = F22s; op = op; begins = h.0; not_payload = λ p. let e = zero_is us F22s op h.0 p.0 in cc; zero = λ t. cc; count = λ e. cc; same = let o = h.0.opcode in plain_is us F22s op _ h.0 (cc); size = refl; kind = refl }
+
+plain_22c : (us : List ℕ) (op : ℕ) (a : ℕ) (b : ℕ) (index : ℕ) → Spells us (I22c op a b index) → Plain us (I22c op a b index)
+unfolding units is_payload
+plain_22c us op a b index h = record { f = F22c; op = op; begins = h.0; not_payload = λ p. let e = zero_is us F22c op h.0 p.0 in cc; zero = λ t. cc; count = λ e. cc; same = let o = h.0.opcode in plain_is us F22c op _ h.0 (cc); size = refl; kind = refl }
+
+plain_30t : (us : List ℕ) (op : ℕ) (offset : ℤ) → Spells us (I30t op offset) → Plain us (I30t op offset)
+unfolding units is_payload
+plain_30t us op offset h = record { f = F30t; op = op; begins = h.0; not_payload = λ p. let e = zero_is us F30t op h.0 p.0 in cc; zero = λ _. h.1; count = λ e. cc; same = let o = h.0.opcode in plain_is us F30t op _ h.0 (cc); size = refl; kind = refl }
+
+plain_32x : (us : List ℕ) (op : ℕ) (a : ℕ) (b : ℕ) → Spells us (I32x op a b) → Plain us (I32x op a b)
+unfolding units is_payload
+plain_32x us op a b h = record { f = F32x; op = op; begins = h.0; not_payload = λ p. let e = zero_is us F32x op h.0 p.0 in cc; zero = λ _. h.1; count = λ e. cc; same = let o = h.0.opcode in plain_is us F32x op _ h.0 (cc); size = refl; kind = refl }
+
+plain_31i : (us : List ℕ) (op : ℕ) (a : ℕ) (b : ℤ) → Spells us (I31i op a b) → Plain us (I31i op a b)
+unfolding units is_payload
+plain_31i us op a b h = record { f = F31i; op = op; begins = h.0; not_payload = λ p. let e = zero_is us F31i op h.0 p.0 in cc; zero = λ t. cc; count = λ e. cc; same = let o = h.0.opcode in plain_is us F31i op _ h.0 (cc); size = refl; kind = refl }
+
+plain_31t : (us : List ℕ) (op : ℕ) (a : ℕ) (offset : ℤ) → Spells us (I31t op a offset) → Plain us (I31t op a offset)
+unfolding units is_payload
+plain_31t us op a offset h = record { f = F31t; op = op; begins = h.0; not_payload = λ p. let e = zero_is us F31t op h.0 p.0 in cc; zero = λ t. cc; count = λ e. cc; same = let o = h.0.opcode in plain_is us F31t op _ h.0 (cc); size = refl; kind = refl }
+
+plain_31c : (us : List ℕ) (op : ℕ) (a : ℕ) (index : ℕ) → Spells us (I31c op a index) → Plain us (I31c op a index)
+unfolding units is_payload
+plain_31c us op a index h = record { f = F31c; op = op; begins = h.0; not_payload = λ p. let e = zero_is us F31c op h.0 p.0 in cc; zero = λ t. cc; count = λ e. cc; same = let o = h.0.opcode in plain_is us F31c op _ h.0 (cc); size = refl; kind = refl }
+
+plain_35c : (us : List ℕ) (op : ℕ) (n : ℕ) (regs : List ℕ) (index : ℕ) → Spells us (I35c op n regs index) → Plain us (I35c op n regs index)
+unfolding units is_payload
+plain_35c us op n regs index h = record { f = F35c; op = op; begins = h.0; not_payload = λ p. let e = zero_is us F35c op h.0 p.0 in cc; zero = λ t. cc; count = λ e. omega arith; same = let o = h.0.opcode in plain_is us F35c op _ h.0 (cc); size = refl; kind = refl }
+
+plain_3rc : (us : List ℕ) (op : ℕ) (n : ℕ) (first : ℕ) (index : ℕ) → Spells us (I3rc op n first index) → Plain us (I3rc op n first index)
+unfolding units is_payload
+plain_3rc us op n first index h = record { f = F3rc; op = op; begins = h.0; not_payload = λ p. let e = zero_is us F3rc op h.0 p.0 in cc; zero = λ t. cc; count = λ e. cc; same = let o = h.0.opcode in plain_is us F3rc op _ h.0 (cc); size = refl; kind = refl }
+
+plain_51l : (us : List ℕ) (op : ℕ) (a : ℕ) (b : ℤ) → Spells us (I51l op a b) → Plain us (I51l op a b)
+unfolding units is_payload
+plain_51l us op a b h = record { f = F51l; op = op; begins = h.0; not_payload = λ p. let e = zero_is us F51l op h.0 p.0 in cc; zero = λ t. cc; count = λ e. cc; same = let o = h.0.opcode in plain_is us F51l op _ h.0 (cc); size = refl; kind = refl }
+
+-- the payloads that the units spell, if they spell one
+abbrev packed_at : List ℕ → Raw
+packed_at us = Packed (signed 32 (number us 2 2)) (slice_range us 8 (8 + 4 * number us 1 1))
+
+abbrev sparse_at : List ℕ → Raw
+sparse_at us = Sparse (slice_range us 4 (4 + 4 * number us 1 1)) (slice_range us (4 + 4 * number us 1 1) (4 + 8 * number us 1 1))
+
+abbrev data_at : List ℕ → Raw
+data_at us = Data (number us 1 1) (slice_range us 8 (8 + number us 2 2 * number us 1 1))
+
+-- one of four, by the first unit
+abbrev by_unit : ℕ → Raw → Raw → Raw → Raw → Raw
+by_unit n a b c d = if n == 0x0100 then a else (if n == 0x0200 then b else (if n == 0x0300 then c else d))
+
+-- what the units spell, if they spell anything
+abbrev raw_at : List ℕ → Raw
+raw_at us = by_unit (number us 0 1) (packed_at us) (sparse_at us) (data_at us) (plain_at us (format_at us))
+
+pub slice-length : (us : List ℕ) (a b : ℕ) → a ≤ b → b ≤ length us → length (slice_range us a b) ≡ b - a
+slice-length us a b p q = length-take-le (b - a) (drop a us) (omega (arith, length-drop a us))
+
+-- what is known of a payload
+pub record Load (us : List ℕ) (r : Raw) : Type 0 where
+  pub identifier : IsPayload us
+  pub head : 2 * head_units us ≤ length us
+  pub whole : 2 * payload_units us ≤ length us
+  pub width : number us 0 1 ≡ 0x0300 → IsWidth (number us 1 1)
+  pub keys : number us 0 1 ≡ 0x0200 → Rises (slice_range us 4 (4 + 4 * number us 1 1)) (number us 1 1)
+  pub same : r ≡ raw_at us
+  pub there : (0 < units r) × (2 * units r ≤ length us)
+  pub kind : is_payload r ≡ true
+
+by_1 : (a b c d : Raw) (n : ℕ) → n ≡ 0x0100 → by_unit n a b c d ≡ a
+by_1 a b c d n e = grind (arith, nat_tests)
+
+by_2 : (a b c d : Raw) (n : ℕ) → n ≡ 0x0200 → by_unit n a b c d ≡ b
+by_2 a b c d n e = grind (arith, nat_tests)
+
+by_3 : (a b c d : Raw) (n : ℕ) → n ≡ 0x0300 → by_unit n a b c d ≡ c
+by_3 a b c d n e = grind (arith, nat_tests)
+
+by_0 : (a b c d : Raw) (n : ℕ) → n ≢ 0x0100 → n ≢ 0x0200 → n ≢ 0x0300 → by_unit n a b c d ≡ d
+by_0 a b c d n p q r = grind (arith, nat_tests)
+
+-- the units of a payload, by the second byte
+sizes : (k h p s d : ℕ) → h ≡ k → 2 * (if h == 1 then p else (if h == 2 then s else d)) ≡ 2 * (if k == 1 then p else (if k == 2 then s else d))
+sizes k h p s d e = rw e refl
+
+head_size : (k h : ℕ) → h ≡ k → 2 * (if h == 3 then 4 else 2) ≡ 2 * (if k == 3 then 4 else 2)
+head_size k h e = rw e refl
+
+load_packed : (us : List ℕ) (first : ℤ) (offsets : List ℕ) → Spells us (Packed first offsets) → Load us (Packed first offsets)
+unfolding units is_payload
+load_packed us first offsets h =
+    let n = h.0 in
+    let high : field us 0 8 8 ≡ 1 = omega arith in
+    let w = sizes 1 (field us 0 8 8) (packed_units (number us 1 1)) (sparse_units (number us 1 1)) (data_units (number us 2 2 * number us 1 1)) high in
+    let hd = head_size 1 (field us 0 8 8) high in
+    let first_is = h.2 in let offsets_are = h.3 in let w0 = h.1 in
+    let part = slice-length us 8 (8 + 4 * number us 1 1) (omega arith) (omega arith) in let long = ap length h.3 in
+    let branch = by_1 (packed_at us) (sparse_at us) (data_at us) (plain_at us (format_at us)) (number us 0 1) n in
+    let here : Packed first offsets ≡ packed_at us = cc in
+    record {
+      identifier = (omega arith, omega arith, omega arith);
+      head = omega arith;
+      whole = omega arith;
+      width = λ e. absurd (omega arith);
+      keys = λ e. absurd (omega arith);
+      same = here ∙ sym branch;
+      there = (omega arith, omega arith);
+      kind = refl;
+    }
+
+load_sparse : (us : List ℕ) (keys offsets : List ℕ) → Spells us (Sparse keys offsets) → Load us (Sparse keys offsets)
+unfolding units is_payload
+load_sparse us keys offsets h =
+    let n = h.0 in
+    let high : field us 0 8 8 ≡ 2 = omega arith in
+    let w = sizes 2 (field us 0 8 8) (packed_units (number us 1 1)) (sparse_units (number us 1 1)) (data_units (number us 2 2 * number us 1 1)) high in
+    let hd = head_size 2 (field us 0 8 8) high in
+    let keys_are = h.2 in let offsets_are = h.3 in let w0 = h.1 in
+    let part = slice-length us 4 (4 + 4 * number us 1 1) (omega arith) (omega arith) in let long = ap length h.2 in
+    let branch = by_2 (packed_at us) (sparse_at us) (data_at us) (plain_at us (format_at us)) (number us 0 1) n in
+    let here : Sparse keys offsets ≡ sparse_at us = cc in
+    record {
+      identifier = (omega arith, omega arith, omega arith);
+      head = omega arith;
+      whole = omega arith;
+      width = λ e. absurd (omega arith);
+      keys = λ e. rw (← keys_are) h.4;
+      same = here ∙ sym branch;
+      there = (omega arith, omega arith);
+      kind = refl;
+    }
+
+load_data : (us : List ℕ) (width : ℕ) (bytes : List ℕ) → Spells us (Data width bytes) → Load us (Data width bytes)
+unfolding units is_payload
+load_data us width bytes h =
+    let n = h.0 in
+    let high : field us 0 8 8 ≡ 3 = omega arith in
+    let w = sizes 3 (field us 0 8 8) (packed_units (number us 1 1)) (sparse_units (number us 1 1)) (data_units (number us 2 2 * number us 1 1)) high in
+    let hd = head_size 3 (field us 0 8 8) high in
+    let width_is = h.2 in let w0 = h.1 in
+    let part = slice-length us 8 (8 + number us 2 2 * width) (omega arith) (omega arith) in let long = ap length h.4 in
+    let bytes_are : bytes ≡ slice_range us 8 (8 + number us 2 2 * number us 1 1) = h.4 ∙ ap (λ v. slice_range us 8 (8 + number us 2 2 * v)) h.2 in
+    let fits : 2 * data_units (number us 2 2 * number us 1 1) ≤ length us = rw (← width_is) h.1 in
+    let branch = by_3 (packed_at us) (sparse_at us) (data_at us) (plain_at us (format_at us)) (number us 0 1) n in
+    let here : Data width bytes ≡ data_at us = cc in
+    record {
+      identifier = (omega arith, omega arith, omega arith);
+      head = omega arith;
+      whole = omega arith;
+      width = λ e. rw (← width_is) h.3;
+      keys = λ e. absurd (omega arith);
+      same = here ∙ sym branch;
+      there = (omega arith, omega arith);
+      kind = refl;
+    }
+
+-- each instruction is one or the other
+pub known : (us : List ℕ) (r : Raw) → Spells us r → Plain us r ⊎ Load us r
+known us (I10x op) h = inl (plain_10x us op h)
+known us (I12x op a b) h = inl (plain_12x us op a b h)
+known us (I11n op a b) h = inl (plain_11n us op a b h)
+known us (I11x op a) h = inl (plain_11x us op a h)
+known us (I10t op offset) h = inl (plain_10t us op offset h)
+known us (I20t op offset) h = inl (plain_20t us op offset h)
+known us (I22x op a b) h = inl (plain_22x us op a b h)
+known us (I21t op a offset) h = inl (plain_21t us op a offset h)
+known us (I21s op a b) h = inl (plain_21s us op a b h)
+known us (I21h op a b) h = inl (plain_21h us op a b h)
+known us (I21c op a index) h = inl (plain_21c us op a index h)
+known us (I23x op a b c) h = inl (plain_23x us op a b c h)
+known us (I22b op a b c) h = inl (plain_22b us op a b c h)
+known us (I22t op a b offset) h = inl (plain_22t us op a b offset h)
+known us (I22s op a b c) h = inl (plain_22s us op a b c h)
+known us (I22c op a b index) h = inl (plain_22c us op a b index h)
+known us (I30t op offset) h = inl (plain_30t us op offset h)
+known us (I32x op a b) h = inl (plain_32x us op a b h)
+known us (I31i op a b) h = inl (plain_31i us op a b h)
+known us (I31t op a offset) h = inl (plain_31t us op a offset h)
+known us (I31c op a index) h = inl (plain_31c us op a index h)
+known us (I35c op n regs index) h = inl (plain_35c us op n regs index h)
+known us (I3rc op n first index) h = inl (plain_3rc us op n first index h)
+known us (I51l op a b) h = inl (plain_51l us op a b h)
+known us (Packed first offsets) h = inr (load_packed us first offsets h)
+known us (Sparse keys offsets) h = inr (load_sparse us keys offsets h)
+known us (Data width bytes) h = inr (load_data us width bytes h)
+
+plain_raw : (us : List ℕ) (r : Raw) → Plain us r → r ≡ raw_at us
+plain_raw us r p =
+    let no = p.not_payload in
+    p.same ∙ sym (by_0 _ _ _ _ (number us 0 1) (λ e. no (omega arith, omega arith, omega arith)) (λ e. no (omega arith, omega arith, omega arith)) (λ e. no (omega arith, omega arith, omega arith)))
+
+raw_is : (us : List ℕ) (r : Raw) → Spells us r → r ≡ raw_at us
+raw_is us r h = ⊎_elim (plain_raw us r) (λ (l : Load us r). l.same) (known us r h)
+
+pub once : (us : List ℕ) (x y : Raw) → Spells us x → Spells us y → x ≡ y
+once us x y p q = raw_is us x p ∙ sym (raw_is us y q)

@@ -1,0 +1,66 @@
+//! Reading one instruction.
+
+ghost use Rattle.std.specs.Prelude.{◌≡◌, ◌≤◌, length, IfOk, IfErr, IsOkAnd, ◌%◌};
+ghost use Rattle.dex_insn.specs.Raw.{Raw, raw};
+ghost use Rattle.dex_insn.specs.RawInsns.{Spells, IsPayload, Stands};
+ghost use Rattle.dex_insn.specs.Flaws.{Breaks, IsFaultAt, code_of};
+
+use crate::flaw::Flaw;
+use crate::payload::{read_data, read_packed, read_sparse};
+use crate::plain::read_plain;
+use crate::raw::RawInsn;
+use crate::units::unit;
+use dex_base::Fault;
+
+/// Reads the instruction or payload at the front of the bytes, whose first unit is unit `at`.
+fn read_front(front: &[u8], at: u32) -> Result<RawInsn<'_>, Flaw>
+    requires long { 2 ≤ length front.now }
+    ensures ok { IfOk result (λ insn. Spells front.now (raw insn)) }
+    ensures even { IfOk result (λ insn. IsPayload front.now → at % 2 ≡ 0) }
+    ensures err { IfErr result (λ flaw. Breaks flaw at front.now) }
+{
+    match unit(front, 0) {
+        0x0100 | 0x0200 | 0x0300 if at % 2 == 1 => Err(Flaw::OddPayload),
+        0x0100 => read_packed(front),
+        0x0200 => read_sparse(front),
+        0x0300 => read_data(front),
+        _ => read_plain(front),
+    }
+}
+
+/// The refusal of the instruction at unit `at`.
+fn fault(flaw: Flaw, at: u32) -> Fault
+    ensures code { result.code ≡ code_of flaw }
+    ensures place { result.place ≡ at }
+{
+    Fault {
+        code: flaw.code(),
+        place: u64::from(at),
+    }
+}
+
+/// Reads the instruction or payload at unit `at` of a code's units, given as bytes, two to a unit, the low byte first; a
+/// single last byte is no unit. The formats are those of the page "Dalvik Executable instruction formats", opcodes and payloads
+/// those of the page "Dalvik bytecode".
+///
+/// An error has the place `at`, in units, and one of the codes 62 (unused opcode), 63 (it goes past the units, or `at` does),
+/// 64 (a bit that has to be 0 is set), 66 (format 35c with more than five registers) and 67 (a payload at an odd unit, an element
+/// width other than 1, 2, 4 and 8, or keys that don't rise strictly). Where several rules are broken, the first in the order
+/// 62, 63, 64, 66 is answered, and for payloads in the order odd unit, head past the units, width, length past the units, keys.
+pub fn read_insn(units: &[u8], at: u32) -> Result<RawInsn<'_>, Fault>
+    // What is read stands there.
+    ensures ok { IfOk result (λ insn. Stands units.now at (raw insn)) }
+    // What stands there is read.
+    ensures only { (r : Raw) → Stands units.now at r → IsOkAnd result (λ insn. raw insn ≡ r) }
+    // A refusal names a rule that is broken there.
+    ensures err { IfErr result (λ fault. IsFaultAt units.now at fault) }
+{
+    let begin = 2 * at as usize;
+    if units.len() < begin + 2 {
+        return Err(fault(Flaw::Missing, at));
+    }
+    match read_front(&units[begin..], at) {
+        Ok(insn) => Ok(insn),
+        Err(flaw) => Err(fault(flaw, at)),
+    }
+}

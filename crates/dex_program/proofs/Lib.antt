@@ -1,0 +1,4 @@
+pub mod Comparisons
+pub mod Letters
+pub mod Nesting
+pub mod ValueViews

@@ -1,0 +1,37 @@
+// What rows of field_ids and method_ids have in common: the order by class, name, and type or proto.
+ghost use Rattle.std.specs.Prelude.{◌≡◌, ◌-◌, ◌↔◌, ◌<◌, ◌⊎◌, IsTrue};
+ghost use Rattle.dex_container.specs.Layout.{size_of};
+ghost use Rattle.dex_tables.specs.Sorted.{Rises, MemberIsBelow};
+
+use crate::row_fields::{member_class, member_kind, member_name};
+use dex_container::Sections;
+use std::cmp::Ordering;
+
+/// Whether row i of field_ids (table 4, as the map numbers it) or method_ids (table 5) is above the row before it.
+pub(crate) fn rises(sections: &Sections<'_>, table: u16, i: u32) -> bool
+    requires table { (table ≡ 4) ⊎ (table ≡ 5) }
+    requires row { i < size_of sections.now (table - 1) }
+    ensures { IsTrue result ↔ Rises (MemberIsBelow (table - 1)) sections.now i }
+{
+    i == 0 || is_below(sections, table, i - 1, i)
+}
+
+// Whether row i is below row j.
+fn is_below(sections: &Sections<'_>, table: u16, i: u32, j: u32) -> bool
+    requires table { (table ≡ 4) ⊎ (table ≡ 5) }
+    requires i { i < size_of sections.now (table - 1) }
+    requires j { j < size_of sections.now (table - 1) }
+    ensures { IsTrue result ↔ MemberIsBelow (table - 1) sections.now i j }
+{
+    match member_class(sections, table, i).cmp(&member_class(sections, table, j)) {
+        Ordering::Less => return true,
+        Ordering::Greater => return false,
+        Ordering::Equal => {}
+    }
+    match member_name(sections, table, i).cmp(&member_name(sections, table, j)) {
+        Ordering::Less => return true,
+        Ordering::Greater => return false,
+        Ordering::Equal => {}
+    }
+    member_kind(sections, table, i) < member_kind(sections, table, j)
+}

@@ -1,0 +1,122 @@
+// The table method_ids: each row has a class, a proto and a name ("method_id_item").
+ghost use Rattle.std.specs.Prelude.{◌≡◌, ◌≢◌, ◌<◌, ◌↔◌, ◌⊎◌, IsTrue, IfOk, IfErr, map};
+ghost use Rattle.dex_base.specs.Fault.{memory};
+ghost use Rattle.dex_base.specs.Descriptor.{IsClass, IsArray};
+ghost use Rattle.dex_container.specs.Layout.{size_of};
+ghost use Rattle.dex_program.specs.View.{str, desc, proto, method_ref};
+ghost use Rattle.dex_tables.specs.Names.{AreRows};
+ghost use Rattle.dex_tables.specs.Sorted.{MethodHolds, MethodsHold};
+ghost use Rattle.dex_tables.specs.Stands.{StringStands, TypeStands, ProtoStands, MethodStands};
+ghost use Rattle.dex_tables.specs.TableFaults.{MethodBreaks, BreaksAt, IsFirstRow};
+
+use crate::look_up::{proto_at, string_at, type_at};
+use crate::members::rises;
+use crate::row_fields::{member_class, member_kind, member_name, member_row};
+use bumpalo::Bump;
+use bumpalo::collections::into_bump_slice;
+use dex_base::{Fault, is_array, is_class, is_member_name};
+use dex_container::Sections;
+use dex_program::{Desc, MethodRef, Proto, Str};
+
+/// The number of the table, as the map has it.
+const TABLE: u16 = 5;
+
+/// The methods of all rows, each above the row before by the indices of class, name and proto. A method holds its
+/// proto by reference.
+pub(crate) fn read_methods<'a>(
+    arena: &'a Bump,
+    sections: &Sections<'_>,
+    strings: &[Str<'a>],
+    types: &[Desc<'a>],
+    protos: &'a [Proto<'a>],
+) -> Result<&'a [MethodRef<'a>], Fault>
+    requires strings { AreRows StringStands sections.now 0 (map str strings.now) }
+    requires types { AreRows TypeStands sections.now 1 (map desc types.now) }
+    requires protos { AreRows ProtoStands sections.now 2 (map proto protos.now) }
+    ensures rows { IfOk result (λ methods. AreRows MethodStands sections.now 4 (map method_ref methods.now)) }
+    ensures hold { IfOk result (λ _. MethodsHold sections.now) }
+    ensures err { IfErr result (λ e. e ≢ memory → IsFirstRow MethodBreaks MethodHolds sections.now 4 e) }
+{
+    let (count, _) = sections.table(TABLE);
+    let mut methods: Vec<MethodRef<'a>, &'a Bump> = Vec::with_capacity(arena, count as usize)?;
+    for i in 0..count {
+        let method = next_method(sections, strings, types, protos, i)?;
+        methods.push(method)?;
+    }
+    Ok(into_bump_slice(methods))
+}
+
+// The method of row i, which is above the row before it.
+fn next_method<'a>(
+    sections: &Sections<'_>,
+    strings: &[Str<'a>],
+    types: &[Desc<'a>],
+    protos: &'a [Proto<'a>],
+    i: u32,
+) -> Result<MethodRef<'a>, Fault>
+    requires strings { AreRows StringStands sections.now 0 (map str strings.now) }
+    requires types { AreRows TypeStands sections.now 1 (map desc types.now) }
+    requires protos { AreRows ProtoStands sections.now 2 (map proto protos.now) }
+    requires row { i < size_of sections.now 4 }
+    ensures ok { IfOk result (λ f. MethodStands sections.now i (method_ref f)) }
+    ensures holds { IfOk result (λ _. MethodHolds sections.now i) }
+    ensures err { IfErr result (BreaksAt MethodBreaks sections.now 4 i) }
+{
+    let method = read_method(sections, strings, types, protos, i)?;
+    if !rises(sections, TABLE, i) {
+        return Err(Fault {
+            code: 35,
+            place: member_row(sections, TABLE, i),
+        });
+    }
+    Ok(method)
+}
+
+// The method of row i.
+fn read_method<'a>(
+    sections: &Sections<'_>,
+    strings: &[Str<'a>],
+    types: &[Desc<'a>],
+    protos: &'a [Proto<'a>],
+    i: u32,
+) -> Result<MethodRef<'a>, Fault>
+    requires strings { AreRows StringStands sections.now 0 (map str strings.now) }
+    requires types { AreRows TypeStands sections.now 1 (map desc types.now) }
+    requires protos { AreRows ProtoStands sections.now 2 (map proto protos.now) }
+    requires row { i < size_of sections.now 4 }
+    ensures ok { IfOk result (λ f. MethodStands sections.now i (method_ref f)) }
+    ensures err { IfErr result (BreaksAt MethodBreaks sections.now 4 i) }
+{
+    let row = member_row(sections, TABLE, i);
+    let missing = Fault {
+        code: 33,
+        place: row,
+    };
+    let unfit = Fault {
+        code: 34,
+        place: row,
+    };
+    let Some(class) = type_at(sections, types, u32::from(member_class(sections, TABLE, i))) else {
+        return Err(missing);
+    };
+    let Some(proto) = proto_at(sections, protos, u32::from(member_kind(sections, TABLE, i))) else {
+        return Err(missing);
+    };
+    let Some(name) = string_at(sections, strings, member_name(sections, TABLE, i)) else {
+        return Err(missing);
+    };
+    if !is_class_or_array(class) {
+        return Err(unfit);
+    }
+    if !is_member_name(name.units) {
+        return Err(unfit);
+    }
+    Ok(MethodRef { class, name, proto })
+}
+
+// Whether a type can have methods: a class or an array type.
+fn is_class_or_array(ty: Desc<'_>) -> bool
+    ensures { IsTrue result ↔ (IsClass (desc ty.entry) ⊎ IsArray (desc ty.entry)) }
+{
+    is_class(ty.text.units) || is_array(ty.text.units)
+}

@@ -1,0 +1,151 @@
+// The names that a program needs, of all five kinds, each with its parts.
+ghost use Rattle.std.specs.Prelude.{◌≡◌, OnOk, OnErr, IfOk, IsOkUnless, All, map, option_map, slice_get};
+ghost use Rattle.dex_base.specs.Fault.{memory};
+ghost use Rattle.dex_base.specs.Descriptor.{IsDescriptor};
+ghost use Rattle.dex_program.specs.View.{desc};
+ghost use Rattle.dex_tables.specs.Keys.{key_of_str, key_of_desc, key_of_proto, key_of_field, key_of_method};
+ghost use Rattle.dex_tables.specs.Closure.{nothing, join, AddsPart, IsClosed, string_closure, type_closure, proto_closure, field_closure, method_closure};
+
+use crate::held::Held;
+use crate::ranks::Ranks;
+use bumpalo::Bump;
+use dex_base::Fault;
+use dex_program::{Desc, FieldRef, MethodRef, Proto, Str, shorty_of};
+use std::alloc::Global;
+use std::marker::Model;
+
+/// The names that are needed so far: a set of each of the five kinds, with each name its parts. It stands for the five
+/// sets (`specs/Closure.antt`).
+///
+/// A name that was refused for want of memory may have left some of its parts; all that was held is held.
+#[derive(Drop)]
+pub struct Needed<'a> {
+    alloc: Global,
+    strings: Held<Str<'a>>,
+    types: Held<Desc<'a>>,
+    protos: Held<Proto<'a>>,
+    fields: Held<FieldRef<'a>>,
+    methods: Held<MethodRef<'a>>,
+}
+
+impl<'a> Model for Needed<'a> {
+    ghost use Rattle.dex_tables.specs.Closure.{Five, IsClosed};
+
+    ghost Value = { Five };
+
+    ghost view = { λ n. record { strings = n.strings; types = n.types; protos = n.protos; fields = n.fields; methods = n.methods } };
+
+    ghost invariant = { λ n. IsClosed record { strings = n.strings; types = n.types; protos = n.protos; fields = n.fields; methods = n.methods } };
+}
+
+impl<'a> Needed<'a> {
+    /// No name. Takes no memory.
+    pub fn new(alloc: Global) -> Self
+        ensures { result ≡ nothing }
+    {
+        Needed {
+            alloc,
+            strings: Held::new(alloc),
+            types: Held::new(alloc),
+            protos: Held::new(alloc),
+            fields: Held::new(alloc),
+            methods: Held::new(alloc),
+        }
+    }
+
+    /// Beside each name its parts are held.
+    pub fn holds_parts(&self)
+        ensures { IsClosed self.now }
+    {
+        let _ = &self.strings;
+    }
+
+    /// Adds a string.
+    pub fn add_string(&mut self, name: Str<'a>) -> Result<(), Fault>
+        ensures added { OnOk result (self.new ≡ join self.old (string_closure (key_of_str name.entry))) }
+        ensures partly { OnErr result (AddsPart self.old self.new (join self.old (string_closure (key_of_str name.entry)))) }
+        ensures memory { IsOkUnless result memory }
+    {
+        self.strings.add(name)?;
+        Ok(())
+    }
+
+    /// Adds a type, and its descriptor as a string.
+    pub fn add_type(&mut self, name: Desc<'a>) -> Result<(), Fault>
+        ensures added { OnOk result (self.new ≡ join self.old (type_closure (key_of_desc name.entry))) }
+        ensures partly { OnErr result (AddsPart self.old self.new (join self.old (type_closure (key_of_desc name.entry)))) }
+        ensures memory { IsOkUnless result memory }
+    {
+        self.strings.add(name.text)?;
+        self.types.add(name)?;
+        Ok(())
+    }
+
+    /// Adds a prototype, its shorty, its return type and its parameters. The arena holds the shorty.
+    pub fn add_proto(&mut self, arena: &'a Bump, name: &'a Proto<'a>) -> Result<(), Fault>
+        requires ret { IsDescriptor (desc name.now.ret) }
+        requires params { All IsDescriptor (map desc name.now.params.now) }
+        ensures added { OnOk result (self.new ≡ join self.old (proto_closure (key_of_proto name.now))) }
+        ensures partly { OnErr result (AddsPart self.old self.new (join self.old (proto_closure (key_of_proto name.now)))) }
+        ensures memory { IsOkUnless result memory }
+    {
+        self.strings
+            .add(shorty_of(self.alloc, arena, name.ret, name.params)?)?;
+        self.add_type(name.ret)?;
+        for param in name.params {
+            self.add_type(*param)?;
+        }
+        self.protos.add(*name)?;
+        Ok(())
+    }
+
+    /// Adds a method, its class, its name and its prototype. The arena holds the shorty.
+    pub fn add_method(&mut self, arena: &'a Bump, name: &'a MethodRef<'a>) -> Result<(), Fault>
+        requires ret { IsDescriptor (desc name.now.proto.now.ret) }
+        requires params { All IsDescriptor (map desc name.now.proto.now.params.now) }
+        ensures added { OnOk result (self.new ≡ join self.old (method_closure (key_of_method name.now))) }
+        ensures partly { OnErr result (AddsPart self.old self.new (join self.old (method_closure (key_of_method name.now)))) }
+        ensures memory { IsOkUnless result memory }
+    {
+        self.add_type(name.class)?;
+        self.add_string(name.name)?;
+        self.add_proto(arena, name.proto)?;
+        self.methods.add(*name)?;
+        Ok(())
+    }
+
+    /// Adds a field, its class, its name and its type.
+    pub fn add_field(&mut self, name: &'a FieldRef<'a>) -> Result<(), Fault>
+        ensures added { OnOk result (self.new ≡ join self.old (field_closure (key_of_field name.now))) }
+        ensures partly { OnErr result (AddsPart self.old self.new (join self.old (field_closure (key_of_field name.now)))) }
+        ensures memory { IsOkUnless result memory }
+    {
+        self.add_type(name.class)?;
+        self.add_string(name.name)?;
+        self.add_type(name.ty)?;
+        self.fields.add(*name)?;
+        Ok(())
+    }
+
+    /// The names that are held, with their ranks. No name is added from here on.
+    pub fn freeze(self) -> Result<Ranks<'a>, Fault>
+        ensures same { IfOk result (λ r. r ≡ self.entry) }
+        ensures memory { IsOkUnless result memory }
+    {
+        let Needed {
+            alloc: _,
+            strings,
+            types,
+            protos,
+            fields,
+            methods,
+        } = self;
+        Ok(Ranks::new(
+            strings.freeze(),
+            types.freeze(),
+            protos.freeze(),
+            fields.freeze(),
+            methods.freeze(),
+        ))
+    }
+}

@@ -1,0 +1,219 @@
+// The table proto_ids: each row has a shorty, a return type and a list of parameters ("proto_id_item").
+ghost use Rattle.std.specs.Prelude.{◌≡◌, ◌≢◌, ◌↔◌, ◌<◌, IfOk, IfErr, IfSome, IfNone, IsOkUnless, IsTrue, map};
+ghost use Rattle.dex_base.specs.Fault.{memory};
+ghost use Rattle.dex_container.specs.Frame.{IsFramed};
+ghost use Rattle.dex_container.specs.Layout.{size_of};
+ghost use Rattle.dex_program.specs.View.{str, desc, proto};
+ghost use Rattle.dex_program.specs.Shorty.{letter_of, shorty};
+ghost use Rattle.dex_tables.specs.Names.{AreRows};
+ghost use Rattle.dex_tables.specs.Reading.{IsSectionOf};
+ghost use Rattle.dex_tables.specs.Sorted.{Rises, ProtoHolds, ProtosHold, ProtoIsBelow, ProtoIndexes};
+ghost use Rattle.dex_tables.specs.Stands.{StringStands, TypeStands, ProtoStands, void};
+ghost use Rattle.dex_tables.specs.TableFaults.{ProtoBreaks, ParametersAt, BreaksAt, IsFirstRow};
+
+use crate::look_up::{string_at, type_at};
+use crate::row_fields::{proto_parameters, proto_return, proto_row, proto_shorty};
+use crate::section::{Section, section_of};
+use crate::type_list::{TYPE_LIST, cmp_indexes, indexes_or_none, types_at};
+use bumpalo::Bump;
+use bumpalo::collections::into_bump_slice;
+use dex_base::Fault;
+use dex_container::Sections;
+use dex_program::{Desc, Proto, Str};
+use std::cmp::Ordering;
+
+/// The protos of all rows, each above the row before by the indices of return type and parameters. A proto holds its
+/// types' slices.
+pub(crate) fn read_protos<'a>(
+    arena: &'a Bump,
+    sections: &Sections<'_>,
+    strings: &[Str<'a>],
+    types: &[Desc<'a>],
+) -> Result<&'a [Proto<'a>], Fault>
+    requires strings { AreRows StringStands sections.now 0 (map str strings.now) }
+    requires types { AreRows TypeStands sections.now 1 (map desc types.now) }
+    ensures rows { IfOk result (λ protos. AreRows ProtoStands sections.now 2 (map proto protos.now)) }
+    ensures hold { IfOk result (λ _. ProtosHold sections.now) }
+    ensures err { IfErr result (λ e. e ≢ memory → IsFirstRow ProtoBreaks ProtoHolds sections.now 2 e) }
+{
+    let (count, _) = sections.table(3);
+    let lists = section_of(sections, TYPE_LIST);
+    let mut protos: Vec<Proto<'a>, &'a Bump> = Vec::with_capacity(arena, count as usize)?;
+    for i in 0..count {
+        let proto = next_proto(arena, sections, lists, strings, types, i)?;
+        protos.push(proto)?;
+    }
+    Ok(into_bump_slice(protos))
+}
+
+// The proto of row i, which is above the row before it.
+fn next_proto<'a>(
+    arena: &'a Bump,
+    sections: &Sections<'_>,
+    lists: Section,
+    strings: &[Str<'a>],
+    types: &[Desc<'a>],
+    i: u32,
+) -> Result<Proto<'a>, Fault>
+    requires framed { IsFramed sections.now }
+    requires section { IsSectionOf sections.now 0x1001 lists }
+    requires strings { AreRows StringStands sections.now 0 (map str strings.now) }
+    requires types { AreRows TypeStands sections.now 1 (map desc types.now) }
+    requires row { i < size_of sections.now 2 }
+    ensures ok { IfOk result (λ p. ProtoStands sections.now i (proto p)) }
+    ensures holds { IfOk result (λ _. ProtoHolds sections.now i) }
+    ensures err { IfErr result (λ e. e ≢ memory → BreaksAt ProtoBreaks sections.now 2 i e) }
+{
+    let proto = read_proto(arena, sections, lists, strings, types, i)?;
+    if !rises(sections, lists, i) {
+        return Err(Fault {
+            code: 29,
+            place: proto_row(sections, i),
+        });
+    }
+    Ok(proto)
+}
+
+// The proto of row i.
+fn read_proto<'a>(
+    arena: &'a Bump,
+    sections: &Sections<'_>,
+    lists: Section,
+    strings: &[Str<'a>],
+    types: &[Desc<'a>],
+    i: u32,
+) -> Result<Proto<'a>, Fault>
+    requires framed { IsFramed sections.now }
+    requires section { IsSectionOf sections.now 0x1001 lists }
+    requires strings { AreRows StringStands sections.now 0 (map str strings.now) }
+    requires types { AreRows TypeStands sections.now 1 (map desc types.now) }
+    requires row { i < size_of sections.now 2 }
+    ensures ok { IfOk result (λ p. ProtoStands sections.now i (proto p)) }
+    ensures err { IfErr result (λ e. e ≢ memory → BreaksAt ProtoBreaks sections.now 2 i e) }
+{
+    let row = proto_row(sections, i);
+    let Some(text) = string_at(sections, strings, proto_shorty(sections, i)) else {
+        return Err(Fault {
+            code: 26,
+            place: row,
+        });
+    };
+    let Some(ret) = type_at(sections, types, proto_return(sections, i)) else {
+        return Err(Fault {
+            code: 26,
+            place: row,
+        });
+    };
+    let off = proto_parameters(sections, i);
+    let Some(params) = read_parameters(arena, sections, lists, types, off)? else {
+        return Err(Fault {
+            code: 28,
+            place: row,
+        });
+    };
+    if !is_shorty(text, ret, params) {
+        return Err(Fault {
+            code: 27,
+            place: row,
+        });
+    }
+    Ok(Proto { ret, params })
+}
+
+// The parameters of the list at an offset, none of them void.
+fn read_parameters<'a>(
+    arena: &'a Bump,
+    sections: &Sections<'_>,
+    lists: Section,
+    types: &[Desc<'a>],
+    off: u32,
+) -> Result<Option<&'a [Desc<'a>]>, Fault>
+    requires framed { IsFramed sections.now }
+    requires section { IsSectionOf sections.now 0x1001 lists }
+    requires types { AreRows TypeStands sections.now 1 (map desc types.now) }
+    ensures found { IfOk result (λ r. IfSome r (λ params. ParametersAt sections.now off (map desc params.now))) }
+    ensures none { IfOk result (λ r. IfNone r ((ts : _) → ¬ ParametersAt sections.now off ts)) }
+    ensures memory { IsOkUnless result memory }
+{
+    let Some(params) = types_at(arena, sections, lists, types, off)? else {
+        return Ok(None);
+    };
+    for param in params {
+        if is_void(*param) {
+            return Ok(None);
+        }
+    }
+    Ok(Some(params))
+}
+
+/// Whether a type is void, `V`.
+pub(crate) fn is_void(ty: Desc<'_>) -> bool
+    ensures { IsTrue result ↔ (desc ty.entry ≡ void) }
+{
+    let units = ty.text.units;
+    units.len() == 1 && units[0] == b'V' as u16
+}
+
+// The letter of a type in a shorty.
+fn letter(ty: Desc<'_>) -> u16
+    ensures { result ≡ letter_of (desc ty.entry) }
+{
+    let units = ty.text.units;
+    if units.len() == 0 {
+        return 0;
+    }
+    if units[0] == b'[' as u16 {
+        return b'L' as u16;
+    }
+    units[0]
+}
+
+// Whether the text is the shorty of these types.
+fn is_shorty(text: Str<'_>, ret: Desc<'_>, params: &[Desc<'_>]) -> bool
+    ensures { IsTrue result ↔ (str text.entry ≡ shorty (record { ret = desc ret.entry; params = map desc params.now })) }
+{
+    let units = text.units;
+    if units.len() == 0 {
+        return false;
+    }
+    if units[0] != letter(ret) {
+        return false;
+    }
+    if units.len() - 1 != params.len() {
+        return false;
+    }
+    for i in 0..params.len() {
+        if units[i + 1] != letter(params[i]) {
+            return false;
+        }
+    }
+    true
+}
+
+// Whether row i is above the row before it.
+fn rises(sections: &Sections<'_>, lists: Section, i: u32) -> bool
+    requires framed { IsFramed sections.now }
+    requires section { IsSectionOf sections.now 0x1001 lists }
+    requires row { i < size_of sections.now 2 }
+    ensures { IsTrue result ↔ Rises ProtoIsBelow sections.now i }
+{
+    i == 0 || is_below(sections, lists, i - 1, i)
+}
+
+// Whether row i is below row j.
+fn is_below(sections: &Sections<'_>, lists: Section, i: u32, j: u32) -> bool
+    requires framed { IsFramed sections.now }
+    requires section { IsSectionOf sections.now 0x1001 lists }
+    requires i { i < size_of sections.now 2 }
+    requires j { j < size_of sections.now 2 }
+    ensures { IsTrue result ↔ ProtoIsBelow sections.now i j }
+{
+    let (first, second) = (proto_return(sections, i), proto_return(sections, j));
+    let Some(a) = indexes_or_none(sections, lists, proto_parameters(sections, i)) else {
+        return true;
+    };
+    let Some(b) = indexes_or_none(sections, lists, proto_parameters(sections, j)) else {
+        return true;
+    };
+    matches!(first.cmp(&second).then(cmp_indexes(a, b)), Ordering::Less)
+}
