@@ -8,13 +8,13 @@ ghost use Rattle.dex_tables.specs.Sorted.{FieldHolds, FieldsHold};
 ghost use Rattle.dex_tables.specs.Stands.{StringStands, TypeStands, FieldStands};
 ghost use Rattle.dex_tables.specs.TableFaults.{FieldBreaks, BreaksAt, IsFirstRow};
 
+use crate::kinds::{is_class_type, is_void};
 use crate::look_up::{string_at, type_at};
 use crate::members::rises;
-use crate::proto_ids::is_void;
 use crate::row_fields::{member_class, member_kind, member_name, member_row};
 use bumpalo::Bump;
 use bumpalo::collections::into_bump_slice;
-use dex_base::{Fault, is_class, is_member_name};
+use dex_base::{Fault, is_member_name};
 use dex_container::Sections;
 use dex_program::{Desc, FieldRef, Str};
 
@@ -98,7 +98,7 @@ fn read_field<'a>(
     let Some(name) = string_at(sections, strings, member_name(sections, TABLE, i)) else {
         return Err(missing);
     };
-    if !is_class(class.text.units) {
+    if !is_class_type(class) {
         return Err(unfit);
     }
     if is_void(ty) {

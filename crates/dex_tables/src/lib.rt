@@ -1,23 +1,41 @@
-//! The five tables of names: those that a program needs, with their ranks.
+//! The five tables of names, string_ids to method_ids: read from a file, and the names that a program needs, with their ranks.
+//!
+//! ```
+//! let tables = Tables::read(alloc, &arena, &open(bytes)?)?;
+//! let name = tables.string(3); // the text of row 3
+//! let mut needed = Needed::new(alloc);
+//! needed.add_type(ty)?; // and its descriptor as a string
+//! let rank = needed.freeze()?.index_of_type(ty); // its index in the written file
+//! ```
 #![tactic(auto)]
 
+// Where an item stands, and the fields of a row.
+mod row_fields;
+mod section;
+
+// The tables, in the order in which they are read.
 mod field_ids;
-mod file_laws;
-mod held;
-mod laws;
+mod kinds;
 mod look_up;
 mod members;
 mod method_ids;
-mod needed;
 mod proto_ids;
-mod ranks;
-mod row;
-mod row_fields;
-mod section;
 mod string_ids;
 mod tables;
 mod type_ids;
 mod type_list;
+
+// What the five kinds of names have in common.
+mod row;
+
+// The names that a program needs, and their ranks.
+mod held;
+mod needed;
+mod ranks;
+
+// What holds of rows, names and ranks.
+mod file_laws;
+mod laws;
 
 pub use file_laws::{
     names_of_a_file_are_its_rows, row_denotes_one_name, rows_that_hold_are_clear, section_is_one,

@@ -1,7 +1,6 @@
 // The table method_ids: each row has a class, a proto and a name ("method_id_item").
-ghost use Rattle.std.specs.Prelude.{◌≡◌, ◌≢◌, ◌<◌, ◌↔◌, ◌⊎◌, IsTrue, IfOk, IfErr, map};
+ghost use Rattle.std.specs.Prelude.{◌≡◌, ◌≢◌, ◌<◌, IfOk, IfErr, map};
 ghost use Rattle.dex_base.specs.Fault.{memory};
-ghost use Rattle.dex_base.specs.Descriptor.{IsClass, IsArray};
 ghost use Rattle.dex_container.specs.Layout.{size_of};
 ghost use Rattle.dex_program.specs.View.{str, desc, proto, method_ref};
 ghost use Rattle.dex_tables.specs.Names.{AreRows};
@@ -9,12 +8,13 @@ ghost use Rattle.dex_tables.specs.Sorted.{MethodHolds, MethodsHold};
 ghost use Rattle.dex_tables.specs.Stands.{StringStands, TypeStands, ProtoStands, MethodStands};
 ghost use Rattle.dex_tables.specs.TableFaults.{MethodBreaks, BreaksAt, IsFirstRow};
 
+use crate::kinds::is_class_or_array;
 use crate::look_up::{proto_at, string_at, type_at};
 use crate::members::rises;
 use crate::row_fields::{member_class, member_kind, member_name, member_row};
 use bumpalo::Bump;
 use bumpalo::collections::into_bump_slice;
-use dex_base::{Fault, is_array, is_class, is_member_name};
+use dex_base::{Fault, is_member_name};
 use dex_container::Sections;
 use dex_program::{Desc, MethodRef, Proto, Str};
 
@@ -112,11 +112,4 @@ fn read_method<'a>(
         return Err(unfit);
     }
     Ok(MethodRef { class, name, proto })
-}
-
-// Whether a type can have methods: a class or an array type.
-fn is_class_or_array(ty: Desc<'_>) -> bool
-    ensures { IsTrue result ↔ (IsClass (desc ty.entry) ⊎ IsArray (desc ty.entry)) }
-{
-    is_class(ty.text.units) || is_array(ty.text.units)
 }

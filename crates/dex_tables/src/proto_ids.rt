@@ -8,9 +8,10 @@ ghost use Rattle.dex_program.specs.Shorty.{letter_of, shorty};
 ghost use Rattle.dex_tables.specs.Names.{AreRows};
 ghost use Rattle.dex_tables.specs.Reading.{IsSectionOf};
 ghost use Rattle.dex_tables.specs.Sorted.{Rises, ProtoHolds, ProtosHold, ProtoIsBelow, ProtoIndexes};
-ghost use Rattle.dex_tables.specs.Stands.{StringStands, TypeStands, ProtoStands, void};
+ghost use Rattle.dex_tables.specs.Stands.{StringStands, TypeStands, ProtoStands};
 ghost use Rattle.dex_tables.specs.TableFaults.{ProtoBreaks, ParametersAt, BreaksAt, IsFirstRow};
 
+use crate::kinds::is_void;
 use crate::look_up::{string_at, type_at};
 use crate::row_fields::{proto_parameters, proto_return, proto_row, proto_shorty};
 use crate::section::{Section, section_of};
@@ -144,14 +145,6 @@ fn read_parameters<'a>(
         }
     }
     Ok(Some(params))
-}
-
-/// Whether a type is void, `V`.
-pub(crate) fn is_void(ty: Desc<'_>) -> bool
-    ensures { IsTrue result ↔ (desc ty.entry ≡ void) }
-{
-    let units = ty.text.units;
-    units.len() == 1 && units[0] == b'V' as u16
 }
 
 // The letter of a type in a shorty.
