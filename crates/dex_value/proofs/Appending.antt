@@ -1,0 +1,169 @@
+-- What writing appends.
+use Rattle.std.proofs.Common.{◌≡◌, ℕ, ◌+◌, ◌^◌, ◌<◌, ◌≤◌, List, [], ◌∷◌, ◌++◌, length, take, drop, get_or, map, refl, sym, ap, subst, ◌∙◌, append_assoc, arith, add-one, Result, Ok, Err, OnErr}
+use Rattle.std.proofs.Math.Seq.{drop-cons}
+use Rattle.std.proofs.lemmas.List.{length-append, length-map, map-append, take_more, take_all}
+use Rattle.dex_base.specs.Grammar.{Appends, Each}
+use Rattle.dex_base.specs.Leb128.{Spells, Shortest}
+use Rattle.dex_base.proofs.GrammarLaws.{Each-appends_none, Each-appends_more}
+use Rattle.dex_program.specs.Content.{Name, OfText, OfDesc, OfField, OfMethod, FieldRef, Value, Float, Enum, Array, Values, no_values, more_values, values}
+use Rattle.dex_program.specs.declared.value.Value as made
+use Rattle.dex_program.specs.View.{value}
+use Rattle.dex_tables.specs.Closure.{Five, AreRising, NameRanks}
+use Rattle.dex_tables.proofs.PlaceLemmas.{rank_at}
+use Rattle.dex_value.specs.Spelling.{unsigned_of, SpellsValue, SpellsValues, SpellsArray, count_of}
+use Rattle.dex_value.specs.Named.{NamesHold, AllNamesHold, IsRanked}
+use Rattle.dex_value.specs.Wide.{wide_value, wide_values}
+use Rattle.dex_value.specs.Writing.{UnsignedAs, HighAs, IndexAs, HoldsMore}
+use Rattle.dex_value.proofs.Lists.{count_of-values}
+
+-- ---- one value
+
+-- a name has one rank
+one_rank : (s : Five) (i j : ℕ) (which : Name) → AreRising s → NameRanks s i which → NameRanks s j which → i ≡ j
+one_rank s i j (OfText t) r p q = sym (rank_at s.strings i _ r.strings p) ∙ rank_at s.strings j _ r.strings q
+one_rank s i j (OfDesc t) r p q = sym (rank_at s.types i _ r.types p) ∙ rank_at s.types j _ r.types q
+one_rank s i j (OfField t) r p q = sym (rank_at s.fields i _ r.fields p) ∙ rank_at s.fields j _ r.fields q
+one_rank s i j (OfMethod t) r p q = sym (rank_at s.methods i _ r.methods p) ∙ rank_at s.methods j _ r.methods q
+
+-- the shortest spelling of its rank is that of a name
+pub index_appends : (s : Five) (code i : ℕ) (which : Name) (old new : List ℕ) → AreRising s → NameRanks s i which → Appends (Shortest (UnsignedAs code 4)) old new i → Appends (Shortest (IndexAs (NameRanks s) code)) old new which
+index_appends s code i which old new rise n a =
+    let p = a.spelled.spelled in
+    record {
+      bytes = a.bytes;
+      joined = a.joined;
+      spelled = record {
+        spelled = record { low = p.low; some = p.some; few = p.few; bytes = p.bytes; joined = p.joined; means = subst (λ (j : ℕ). NameRanks s j which) p.means n };
+        least = λ other o. a.spelled.least other
+            (record { low = o.low; some = o.some; few = o.few; bytes = o.bytes; joined = o.joined; means = one_rank s i (unsigned_of o.low) which rise n o.means });
+      };
+    }
+
+pub float_appends : (N : ℕ → Name → Type 0) (bits : ℕ) (old new : List ℕ) → Appends (Shortest (HighAs 16 4)) old new bits → Appends (Shortest (SpellsValue N)) old new (Float bits)
+float_appends N bits old new a = record { bytes = a.bytes; joined = a.joined; spelled = record { spelled = a.spelled.spelled; least = a.spelled.least } }
+
+pub enum_appends : (N : ℕ → Name → Type 0) (f : FieldRef) (old new : List ℕ) → Appends (Shortest (IndexAs N 27)) old new (OfField f) → Appends (Shortest (SpellsValue N)) old new (Enum f)
+enum_appends N f old new a = record { bytes = a.bytes; joined = a.joined; spelled = record { spelled = a.spelled.spelled; least = a.spelled.least } }
+
+-- ---- values
+
+-- the values from a place on
+abbrev pub from : List made.Value → ℕ → Values
+from xs i = values (map value (drop i xs))
+
+pub from_next : (xs : List made.Value) (i : ℕ) (d : made.Value) → i < length xs → from xs i ≡ more_values (value (get_or xs i d)) (from xs (i + 1))
+from_next xs i d some = rw (add-one, drop-cons xs i d some) refl
+
+-- the values before a place are written, and those from it on can be
+pub record Writing (s : Five) (old out : List ℕ) (xs : List made.Value) (i : ℕ) : Type 0 where
+  pub done : Appends (Each (Shortest (SpellsValue (NameRanks s)))) old out (map value (take i xs))
+  pub named : AllNamesHold (IsRanked s) (from xs i)
+  pub less : wide_values (from xs i) ≤ wide_values (values (map value xs))
+
+pub next_named : (P : Name → Type 0) (xs : List made.Value) (i : ℕ) (d : made.Value) → i < length xs → AllNamesHold P (from xs i) → NamesHold P (value (get_or xs i d)) × AllNamesHold P (from xs (i + 1))
+next_named P xs i d some h = let t : AllNamesHold P (more_values (value (get_or xs i d)) (from xs (i + 1))) = subst (λ (vs : Values). AllNamesHold P vs) (from_next xs i d some) h in (t.0, t.1)
+
+pub next_wide : (xs : List made.Value) (i : ℕ) (d : made.Value) → i < length xs → wide_values (from xs i) ≡ wide_value (value (get_or xs i d)) + wide_values (from xs (i + 1))
+next_wide xs i d some = ap wide_values (from_next xs i d some)
+
+pub writing_start : (s : Five) (old : List ℕ) (xs : List made.Value) → AllNamesHold (IsRanked s) (values (map value xs)) → Writing s old old xs 0
+writing_start s old xs named = record { done = Each-appends_none (Shortest (SpellsValue (NameRanks s))) old; named = named; less = omega arith }
+
+pub writing_next : (s : Five) (old mid new : List ℕ) (xs : List made.Value) (i : ℕ) (d : made.Value) → i < length xs → Writing s old mid xs i → Appends (Shortest (SpellsValue (NameRanks s))) mid new (value (get_or xs i d)) → Writing s old new xs (i + 1)
+writing_next s old mid new xs i d some w a = record {
+  done = subst (λ (vs : List Value). Appends (Each (Shortest (SpellsValue (NameRanks s)))) old new vs) (sym (map-append value (take i xs) (get_or xs i d ∷ [])) ∙ ap (map value) (sym (take_more xs i d some)))
+      (Each-appends_more (Shortest (SpellsValue (NameRanks s))) old mid new (map value (take i xs)) (value (get_or xs i d)) w.done a);
+  named = (next_named (IsRanked s) xs i d some w.named).1;
+  less = let e = next_wide xs i d some in let h = w.less in omega (arith, e, h);
+}
+
+pub writing_end : (s : Five) (old new : List ℕ) (xs : List made.Value) (i : ℕ) → length xs ≤ i → Writing s old new xs i → Appends (Each (Shortest (SpellsValue (NameRanks s)))) old new (map value xs)
+writing_end s old new xs i all w = subst (λ (ys : List made.Value). Appends (Each (Shortest (SpellsValue (NameRanks s)))) old new (map value ys)) (take_all i xs all) w.done
+
+-- a value of the list takes at most what all take
+pub one_wide : (s : Five) (old out : List ℕ) (xs : List made.Value) (i : ℕ) (d : made.Value) → i < length xs → Writing s old out xs i → wide_value (value (get_or xs i d)) ≤ wide_values (values (map value xs))
+one_wide s old out xs i d some w = let e = next_wide xs i d some in let h = w.less in omega (arith, e, h)
+
+-- where one value isn't written whole
+pub writing_stops : (s : Five) (old mid new : List ℕ) (xs : List made.Value) (i : ℕ) → Writing s old mid xs i → HoldsMore mid new → HoldsMore old new
+writing_stops s old mid new xs i w m = (w.done.bytes ++ m.0, m.1 ∙ ap (λ l. l ++ m.0) w.done.joined ∙ append_assoc old w.done.bytes m.0)
+
+-- ---- arrays
+
+some_wide : (v : Value) → 0 < wide_value v
+some_wide (Array vs) = omega arith
+some_wide _ = omega arith
+
+-- values take at least as many bytes as there are of them
+count_wide : (vs : Values) → count_of vs ≤ wide_values vs
+count_wide no_values = omega arith
+count_wide (more_values v vs) = let r = count_wide vs in let o = some_wide v in omega (arith, r, o)
+
+pub counted_small : (xs : List made.Value) → wide_values (values (map value xs)) ≤ 4294967295 → length xs < 2 ^ 32
+counted_small xs small =
+    let c = count_wide (values (map value xs)) in
+    let e : count_of (values (map value xs)) ≡ length xs = count_of-values (map value xs) ∙ length-map xs value in
+    omega (arith, c, e, small)
+
+-- each is the shortest, so are all together
+each_least : {V : Type 0} (G : List ℕ → V → Type 0) (vs : List V) (a b : List ℕ) → Each (Shortest G) a vs → Each G b vs → length a ≤ length b
+each_least G [] a b p q = let e = ap length p in omega (arith, e)
+each_least G (v ∷ vs) a b p q =
+    let first = p.3.least q.0 q.3 in
+    let rest = each_least G vs p.1 q.1 p.4 q.4 in
+    let i = ap length p.2 ∙ length-append p.0 p.1 in
+    let j = ap length q.2 ∙ length-append q.0 q.1 in
+    omega (arith, first, rest, i, j)
+
+each_spelled : {V : Type 0} (G : List ℕ → V → Type 0) (vs : List V) (a : List ℕ) → Each (Shortest G) a vs → Each G a vs
+each_spelled G [] a p = p
+each_spelled G (v ∷ vs) a p = (p.0, p.1, p.2, p.3.spelled, each_spelled G vs p.1 p.4)
+
+to_values : (N : ℕ → Name → Type 0) (vs : List Value) (a : List ℕ) → Each (SpellsValue N) a vs → SpellsValues N a (values vs)
+to_values N [] a p = p
+to_values N (v ∷ vs) a p = (p.0, p.1, p.2, p.3, to_values N vs p.1 p.4)
+
+from_values : (N : ℕ → Name → Type 0) (vs : List Value) (a : List ℕ) → SpellsValues N a (values vs) → Each (SpellsValue N) a vs
+from_values N [] a p = p
+from_values N (v ∷ vs) a p = (p.0, p.1, p.2, p.3, from_values N vs p.1 p.4)
+
+module _ (N : ℕ → Name → Type 0) (old mid new : List ℕ) (n : ℕ) (vs : List Value) where
+  -- a count and values, each the shortest, are the shortest array
+  pub array_appends : length vs ≡ n → Appends (Shortest Spells) old mid n → Appends (Each (Shortest (SpellsValue N))) mid new vs → Appends (Shortest (SpellsArray N)) old new vs
+  array_appends len c a = record {
+    bytes = c.bytes ++ a.bytes;
+    joined = a.joined ∙ ap (λ l. l ++ a.bytes) c.joined ∙ append_assoc old c.bytes a.bytes;
+    spelled = record {
+      spelled = record { front = c.bytes; back = a.bytes; joined = refl; first = subst (λ (k : ℕ). Spells c.bytes k) (sym len) c.spelled.spelled; second = (refl, each_spelled (SpellsValue N) vs a.bytes a.spelled) };
+      least = λ other o.
+          let count = c.spelled.least o.front (subst (λ (k : ℕ). Spells o.front k) len o.first) in
+          let back = each_least (SpellsValue N) vs a.bytes o.back a.spelled o.second.1 in
+          let i = length-append c.bytes a.bytes in
+          let j = ap length o.joined ∙ length-append o.front o.back in
+          omega (arith, count, back, i, j);
+    };
+  }
+
+  -- the same behind the head of an array value
+  pub array_value_appends : (start : List ℕ) → length vs ≡ n → old ≡ start ++ 28 ∷ [] → Appends (Shortest Spells) old mid n → Appends (Each (Shortest (SpellsValue N))) mid new vs → Appends (Shortest (SpellsValue N)) start new (Array (values vs))
+  array_value_appends start len head c a =
+      let x = array_appends len c a in
+      let s = x.spelled.spelled in
+      let count = count_of-values vs in
+      record {
+        bytes = 28 ∷ x.bytes;
+        joined = x.joined ∙ ap (λ l. l ++ x.bytes) head ∙ append_assoc start (28 ∷ []) x.bytes;
+        spelled = record {
+          spelled = (x.bytes, refl, record { count = s.front; back = s.back; joined = s.joined; counted = subst (λ (k : ℕ). Spells s.front k) (sym count) s.first; means = to_values N vs s.back s.second.1 });
+          least = λ other o.
+              let b = o.2 in
+              let k = x.spelled.least o.0 (record { front = b.count; back = b.back; joined = b.joined; first = subst (λ (k : ℕ). Spells b.count k) count b.counted; second = (refl, from_values N vs b.back b.means) }) in
+              let e = ap length o.1 in
+              omega (arith, k, e);
+        };
+      }
+
+-- a fact holds of any error
+pub on_err : {T E P : Type 0} (r : Result T E) → P → OnErr r P
+on_err (Ok x) p = tt
+on_err (Err e) p = p

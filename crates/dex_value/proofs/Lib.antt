@@ -1,0 +1,12 @@
+pub mod Lists
+pub mod Ranges
+pub mod Fronts
+pub mod FrontLaws
+pub mod Namings
+pub mod Taking
+pub mod Refusing
+pub mod Places
+pub mod Lengths
+pub mod Weaker
+pub mod Narrow
+pub mod Appending

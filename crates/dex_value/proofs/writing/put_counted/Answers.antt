@@ -1,0 +1,19 @@
+use Rattle.std.proofs.Common.{length, map, arith}
+use Rattle.std.proofs.lemmas.List.{length-map}
+use Rattle.std.proofs.lemmas.Result.{on_ok_weaker}
+use Rattle.dex_program.specs.View.{value}
+use Rattle.dex_tables.specs.Closure.{NameRanks}
+use Rattle.dex_value.proofs.Appending.{counted_small, array_appends}
+use Rattle.dex_value.proofs.writing.put_counted.Goals as goal
+
+pub overflow_cast-all : goal.overflow_cast-all
+overflow_cast-all c =
+    let w = c.requires.small in
+    let n = counted_small c.args.all.now (omega (arith, w)) in
+    omega (arith, n)
+
+pub returns-clause-ok : goal.returns-clause-ok
+returns-clause-ok c =
+    on_ok_weaker c.put_values.result
+    (λ a. array_appends (NameRanks c.args.ranks.now) c.args.out.now.items c.put_uleb.new.out.items c.put_values.new.out.items (length c.args.all.now) (map value c.args.all.now) (length-map c.args.all.now value) c.in_ok-put_uleb.ensures.ok a)
+    c.put_values.ensures.ok

@@ -1,0 +1,167 @@
+-- What a refusal of an encoded_array says: what is wrong with the bytes at its place.
+-- Page: "Dalvik Executable format", "encoded_value encoding" and "encoded_array format".
+use Rattle.std.specs.Prelude.{◌≡◌, ℕ, zero, suc, ◌⊎◌, ◌+◌, ◌-◌, ◌/◌, ◌%◌, ◌<◌, ◌≤◌, ◌==◌, if◌then◌else◌, List, [], ◌∷◌, length, take, drop}
+use Rattle.dex_base.specs.Grammar.{Takes, NoneBegins, Each}
+use Rattle.dex_base.specs.Leb128.{Spells}
+use Rattle.dex_base.specs.declared.fault.Fault.{Fault}
+use Rattle.dex_container.specs.Frame.{IsSection}
+use Rattle.dex_tables.specs.Where.{IsInSection}
+use Rattle.dex_program.specs.Content.{Name, Value}
+use Rattle.dex_value.specs.Spelling.{unsigned_of, type_of}
+use Rattle.dex_value.specs.Standing.{Shallow}
+
+-- ---- heads
+
+-- The greatest number of bytes behind the head of a value of this type; 0 where no value of the type has any.
+abbrev pub widest_of : ℕ → ℕ
+widest_of type =
+    if type == 0 then 1 else (
+    if type == 2 then 2 else (
+    if type == 3 then 2 else (
+    if type == 4 then 4 else (
+    if type == 6 then 8 else (
+    if type == 16 then 4 else (
+    if type == 17 then 8 else (
+    if type == 23 then 4 else (
+    if type == 24 then 4 else (
+    if type == 25 then 4 else (
+    if type == 26 then 4 else (
+    if type == 27 then 4 else (
+    0))))))))))))
+
+-- The head of a value with bytes: of its type, and the argument is in the type's range.
+abbrev pub IsSizedHead : ℕ → Type 0
+IsSizedHead head = head / 32 < widest_of (head % 32)
+
+-- The head of an array, null, false or true.
+abbrev pub IsLoneHead : ℕ → Type 0
+IsLoneHead head = (head ≡ 28) ⊎ (head ≡ 30) ⊎ (head ≡ 31) ⊎ (head ≡ 63)
+
+-- ---- a value
+
+-- The value that begins here has a type or an argument that no value has.
+pub record IsUnknown (bytes : List ℕ) : Type 0 where
+  pub head : ℕ
+  pub rest : List ℕ
+  pub first : bytes ≡ head ∷ rest
+  pub not_sized : ¬ IsSizedHead head
+  pub not_lone : ¬ IsLoneHead head
+
+-- Here begins an array, where no depth is left.
+pub record IsTooDeep (limit : ℕ) (bytes : List ℕ) : Type 0 where
+  pub rest : List ℕ
+  pub first : bytes ≡ 28 ∷ rest
+  pub none_left : limit ≡ 0
+
+-- The bytes end before the head of a value, ..
+abbrev pub IsEnded : List ℕ → Type 0
+IsEnded bytes = bytes ≡ []
+
+-- .. before its last byte, ..
+pub record IsCut (bytes : List ℕ) : Type 0 where
+  pub head : ℕ
+  pub rest : List ℕ
+  pub first : bytes ≡ head ∷ rest
+  pub sized : IsSizedHead head
+  pub short : length rest < head / 32 + 1
+
+-- .. or the count of an array isn't there.
+pub record HasNoCount (limit : ℕ) (bytes : List ℕ) : Type 0 where
+  pub rest : List ℕ
+  pub first : bytes ≡ 28 ∷ rest
+  pub some_left : 0 < limit
+  pub none : NoneBegins Spells rest
+
+-- The name is of the kind that a value of this type names; VALUE_ENUM (27) names a field (25).
+abbrev pub IsOfType : ℕ → Name → Type 0
+IsOfType type which = type_of which ≡ (if type == 27 then 25 else type)
+
+-- The index of the value that begins here stands for no name.
+pub record NamesNothing (N : ℕ → Name → Type 0) (bytes : List ℕ) : Type 0 where
+  pub head : ℕ
+  pub rest : List ℕ
+  pub first : bytes ≡ head ∷ rest
+  pub sized : IsSizedHead head
+  pub named : 23 ≤ head % 32
+  pub whole : head / 32 + 1 ≤ length rest
+  pub nothing : (which : Name) → IsOfType (head % 32) which → ¬ N (unsigned_of (take (head / 32 + 1) rest)) which
+
+-- The faults: 48 has the array's place, 50 and 51 that of the value, from where the section has these bytes to its end.
+abbrev pub values_fault : ℕ → Fault
+values_fault off = record { code = 48; place = off }
+
+abbrev pub kind_fault : ℕ → List ℕ → Fault
+kind_fault end bytes = record { code = 50; place = end - length bytes }
+
+abbrev pub depth_fault : ℕ → List ℕ → Fault
+depth_fault end bytes = record { code = 51; place = end - length bytes }
+
+-- Wrong is the value itself that begins here, in the order in which it is looked at.
+abbrev pub OwnBreaks : (ℕ → Name → Type 0) → ℕ → ℕ → ℕ → List ℕ → Fault → Type 0
+OwnBreaks N off end limit bytes fault =
+    (IsUnknown bytes × (fault ≡ kind_fault end bytes))
+    ⊎ (IsTooDeep limit bytes × (fault ≡ depth_fault end bytes))
+    ⊎ ((IsEnded bytes ⊎ IsCut bytes ⊎ HasNoCount limit bytes) × (fault ≡ values_fault off))
+    ⊎ (NamesNothing N bytes × (fault ≡ kind_fault end bytes))
+
+-- Of n values some are spelled here by G, and at the next one stands the fault.
+pub record NextBreaks (G : List ℕ → Value → Type 0) (Breaks : List ℕ → Fault → Type 0) (n : ℕ) (bytes : List ℕ) (fault : Fault) : Type 0 where
+  pub before : List Value
+  pub left : List ℕ
+  pub spelled : Takes (Each G) bytes before left
+  pub more : length before < n
+  pub breaks : Breaks left fault
+
+-- Here begins an array, and behind its count one of its values is wrong.
+pub record InsideBreaks (G : List ℕ → Value → Type 0) (Breaks : List ℕ → Fault → Type 0) (bytes : List ℕ) (fault : Fault) : Type 0 where
+  pub rest : List ℕ
+  pub first : bytes ≡ 28 ∷ rest
+  pub n : ℕ
+  pub behind : List ℕ
+  pub counted : Takes Spells rest n behind
+  pub next : NextBreaks G Breaks n behind fault
+
+-- A value of at most this depth is due here, and it is wrong, or one inside it is.
+abbrev pub ValueBreaks : (ℕ → Name → Type 0) → ℕ → ℕ → ℕ → List ℕ → Fault → Type 0
+ValueBreaks N off end zero bytes fault = OwnBreaks N off end 0 bytes fault
+ValueBreaks N off end (suc limit) bytes fault =
+    OwnBreaks N off end (suc limit) bytes fault
+    ⊎ InsideBreaks (Shallow N limit) (ValueBreaks N off end limit) bytes fault
+
+-- ---- an array of static values
+
+-- The count is above what is wanted.
+pub record HasTooMany (most : ℕ) (bytes : List ℕ) : Type 0 where
+  pub n : ℕ
+  pub behind : List ℕ
+  pub counted : Takes Spells bytes n behind
+  pub above : most < n
+
+-- Behind a count of at most `most`, the values are at most 64 deep, and one is wrong.
+pub record HasWrongValue (N : ℕ → Name → Type 0) (off end most : ℕ) (bytes : List ℕ) (fault : Fault) : Type 0 where
+  pub n : ℕ
+  pub behind : List ℕ
+  pub counted : Takes Spells bytes n behind
+  pub few : n ≤ most
+  pub next : NextBreaks (Shallow N 64) (ValueBreaks N off end 64) n behind fault
+
+-- What is wrong with an encoded_array whose section has these bytes from it on.
+abbrev pub ArrayBreaks : (ℕ → Name → Type 0) → ℕ → ℕ → ℕ → List ℕ → Fault → Type 0
+ArrayBreaks N off end most bytes fault =
+    (NoneBegins Spells bytes × (fault ≡ values_fault off))
+    ⊎ (HasTooMany most bytes × (fault ≡ record { code = 49; place = off }))
+    ⊎ HasWrongValue N off end most bytes fault
+
+-- These bytes are what the encoded_array section, which goes to `end`, has from this place on.
+pub record IsRest (b : List ℕ) (off end : ℕ) (bytes : List ℕ) : Type 0 where
+  pub begin : ℕ
+  pub section : IsSection b 0x2005 begin end
+  pub behind : begin ≤ off
+  pub before : off < end
+  pub same : bytes ≡ take (end - off) (drop off b)
+
+-- The place lies outside the encoded_array section (48), or what is there is wrong.
+abbrev pub Breaks : (ℕ → Name → Type 0) → List ℕ → ℕ → ℕ → Fault → Type 0
+Breaks N b off most fault =
+    ((¬ IsInSection b 0x2005 off) × (fault ≡ values_fault off))
+    ⊎ ((end : ℕ) × (bytes : List ℕ) × IsRest b off end bytes × ArrayBreaks N off end most bytes fault)

@@ -1,0 +1,78 @@
+-- Which bytes spell which value.
+-- Page: "Dalvik Executable format", "encoded_value encoding", "Value formats" and "encoded_array format".
+use Rattle.std.specs.Prelude.{◌≡◌, ℕ, suc, ℤ, ◌+◌, ◌*◌, ◌-◌, ◌^◌, ◌<◌, ◌≤◌, List, [], ◌∷◌, ◌++◌, length, slice_index, true, false}
+use Rattle.byteorder.specs.Endian.{little_number, twos_complement}
+use Rattle.dex_base.specs.Grammar.{Counted}
+use Rattle.dex_base.specs.Leb128.{Spells}
+use Rattle.dex_program.specs.Content.{Name, OfText, OfDesc, OfField, OfMethod, Value, Byte, Short, Char, Int, Long, Float, Double, Named, Enum, Array, Null, Boolean, Values, no_values, more_values}
+
+-- ---- the bytes behind the head
+
+-- The unsigned number of these bytes, the low byte first.
+unfoldable pub unsigned_of : List ℕ → ℕ
+unsigned_of bytes = little_number (length bytes) bytes
+
+-- The signed number of these bytes in two's complement, the low byte first.
+unfoldable pub signed_of : List ℕ → ℤ
+signed_of bytes = twos_complement (length bytes) (little_number (length bytes) bytes)
+
+-- The number of `width` bytes of which these are the high ones: those that are left out are zeros on the right.
+unfoldable pub high_of : ℕ → List ℕ → ℕ
+high_of width bytes = little_number (length bytes) bytes * 256 ^ (width - length bytes)
+
+-- One to `widest` bytes of this meaning stand behind the head: the type in its low five bits, and in the high three bits the
+-- number of these bytes less one (the page's value_arg).
+pub record Sized (type widest : ℕ) (Means : List ℕ → Type 0) (all : List ℕ) : Type 0 where
+  pub low : List ℕ
+  pub some : 0 < length low
+  pub few : length low ≤ widest
+  pub bytes : (i : ℕ) → slice_index low i < 256
+  pub joined : all ≡ (32 * (length low - 1) + type) ∷ low
+  pub means : Means low
+
+-- ---- values
+
+-- The type of a value that is a name: VALUE_STRING, VALUE_TYPE, VALUE_FIELD, VALUE_METHOD.
+abbrev pub type_of : Name → ℕ
+type_of (OfText units) = 23
+type_of (OfDesc type) = 24
+type_of (OfField field) = 25
+type_of (OfMethod method) = 26
+
+-- How many values.
+abbrev pub count_of : Values → ℕ
+count_of no_values = 0
+count_of (more_values v vs) = suc (count_of vs)
+
+-- A count, and behind it bytes of this meaning.
+pub record Behind (n : ℕ) (Means : List ℕ → Type 0) (bytes : List ℕ) : Type 0 where
+  pub count : List ℕ
+  pub back : List ℕ
+  pub joined : bytes ≡ count ++ back
+  pub counted : Spells count n
+  pub means : Means back
+
+-- The bytes of one value, and those of values one behind the other, where `N` says which index stands for which name.
+abbrev mutual
+  pub SpellsValue : (ℕ → Name → Type 0) → List ℕ → Value → Type 0
+  SpellsValue N bytes (Byte n) = Sized 0 1 (λ low. n ≡ signed_of low) bytes
+  SpellsValue N bytes (Short n) = Sized 2 2 (λ low. n ≡ signed_of low) bytes
+  SpellsValue N bytes (Char unit) = Sized 3 2 (λ low. unit ≡ unsigned_of low) bytes
+  SpellsValue N bytes (Int n) = Sized 4 4 (λ low. n ≡ signed_of low) bytes
+  SpellsValue N bytes (Long n) = Sized 6 8 (λ low. n ≡ signed_of low) bytes
+  SpellsValue N bytes (Float bits) = Sized 16 4 (λ high. bits ≡ high_of 4 high) bytes
+  SpellsValue N bytes (Double bits) = Sized 17 8 (λ high. bits ≡ high_of 8 high) bytes
+  SpellsValue N bytes (Named which) = Sized (type_of which) 4 (λ low. N (unsigned_of low) which) bytes
+  SpellsValue N bytes (Enum constant) = Sized 27 4 (λ low. N (unsigned_of low) (OfField constant)) bytes
+  SpellsValue N bytes (Array vs) = (text : List ℕ) × (bytes ≡ 28 ∷ text) × Behind (count_of vs) (λ back. SpellsValues N back vs) text
+  SpellsValue N bytes Null = bytes ≡ 30 ∷ []
+  SpellsValue N bytes (Boolean false) = bytes ≡ 31 ∷ []
+  SpellsValue N bytes (Boolean true) = bytes ≡ 63 ∷ []
+
+  pub SpellsValues : (ℕ → Name → Type 0) → List ℕ → Values → Type 0
+  SpellsValues N bytes no_values = bytes ≡ []
+  SpellsValues N bytes (more_values v vs) = (front : List ℕ) × (back : List ℕ) × (bytes ≡ front ++ back) × SpellsValue N front v × SpellsValues N back vs
+
+-- An encoded_array: a count, and so many values.
+abbrev pub SpellsArray : (ℕ → Name → Type 0) → List ℕ → List Value → Type 0
+SpellsArray N = Counted Spells (SpellsValue N)

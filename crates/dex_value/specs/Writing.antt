@@ -1,0 +1,45 @@
+-- What the private functions of writing say.
+use Rattle.std.specs.Prelude.{◌≡◌, ℕ, ℤ, pos, negsuc, ◌+◌, ◌*◌, ◌-◌, ◌%◌, ◌^◌, ◌<◌, ◌≤◌, List, ◌∷◌, ◌++◌, length}
+use Rattle.dex_program.specs.Content.{Name}
+use Rattle.dex_value.specs.Spelling.{Sized, signed_of, unsigned_of, high_of}
+
+-- How far a number is from 0, or from -1 where it is negative.
+abbrev pub size_of : ℤ → ℕ
+size_of (pos n) = n
+size_of (negsuc n) = n
+
+-- The fewest bytes that hold an unsigned number, one at least.
+pub record IsWidth (n width : ℕ) : Type 0 where
+  pub some : 0 < width
+  pub few : width ≤ 8
+  pub fits : n < 256 ^ width
+  pub least : (k : ℕ) → 0 < k → n < 256 ^ k → width ≤ k
+
+-- The fewest high bytes of a number of `full` bytes, one at least, behind which all are zeros.
+pub record IsHighWidth (bits full width : ℕ) : Type 0 where
+  pub some : 0 < width
+  pub few : width ≤ full
+  pub zeros : bits % 256 ^ (full - width) ≡ 0
+  pub least : (k : ℕ) → 0 < k → k ≤ full → bits % 256 ^ (full - k) ≡ 0 → width ≤ k
+
+-- The spellings of a number of a type, at most `widest` bytes behind the head.
+abbrev pub SignedAs : ℕ → ℕ → List ℕ → ℤ → Type 0
+SignedAs type widest bytes n = Sized type widest (λ low. n ≡ signed_of low) bytes
+
+abbrev pub UnsignedAs : ℕ → ℕ → List ℕ → ℕ → Type 0
+UnsignedAs type widest bytes n = Sized type widest (λ low. n ≡ unsigned_of low) bytes
+
+abbrev pub HighAs : ℕ → ℕ → List ℕ → ℕ → Type 0
+HighAs type widest bytes bits = Sized type widest (λ high. bits ≡ high_of widest high) bytes
+
+-- The spellings of a name in a value of a type.
+abbrev pub IndexAs : (ℕ → Name → Type 0) → ℕ → List ℕ → Name → Type 0
+IndexAs N type bytes which = Sized type 4 (λ low. N (unsigned_of low) which) bytes
+
+-- The head of so many bytes, and behind it these.
+abbrev pub sized : ℕ → List ℕ → List ℕ
+sized type low = (32 * (length low - 1) + type) ∷ low
+
+-- The Vec holds what it held, and maybe more.
+abbrev pub HoldsMore : List ℕ → List ℕ → Type 0
+HoldsMore old new = (more : List ℕ) × (new ≡ old ++ more)

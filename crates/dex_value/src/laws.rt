@@ -1,0 +1,27 @@
+//! Laws over the definitions, for the proofs of crates above. Those that take any naming stand in `proofs/`: `SpellsArray-weaker`
+//! carries a spelling over to a naming that the first implies.
+ghost use Rattle.std.specs.Prelude.{ℕ, List, length, ◌<◌, ◌≤◌};
+ghost use Rattle.dex_base.specs.Grammar.{IsPrefixUnique};
+ghost use Rattle.dex_program.specs.Content.{Name, Value};
+ghost use Rattle.dex_tables.specs.Names.{Names, NameIsAt};
+ghost use Rattle.dex_tables.specs.Closure.{Five, NameRanks};
+ghost use Rattle.dex_value.specs.Spelling.{SpellsArray};
+ghost use Rattle.dex_value.specs.Wide.{wide_array};
+
+/// No encoded_array begins another one, and it spells one list of values.
+pub fn array_is_prefix_unique()
+    ensures { (names : Names) → IsPrefixUnique (SpellsArray (NameIsAt names)) }
+{}
+
+/// An encoded_array takes at least one byte, and at most its plain sum.
+pub fn array_is_short()
+    ensures some { (ranks : Five) (bytes : List ℕ) (vs : List Value) → SpellsArray (NameRanks ranks) bytes vs → 0 < length bytes }
+    ensures wide { (ranks : Five) (bytes : List ℕ) (vs : List Value) → SpellsArray (NameRanks ranks) bytes vs → length bytes ≤ wide_array vs }
+{}
+
+/// A spelling by ranks is one in a file whose rows are the ranked names.
+pub fn array_carries_over()
+    ensures { (ranks : Five) (names : Names) →
+        ((i : ℕ) (which : Name) → NameRanks ranks i which → NameIsAt names i which) →
+        (bytes : List ℕ) (vs : List Value) → SpellsArray (NameRanks ranks) bytes vs → SpellsArray (NameIsAt names) bytes vs }
+{}

@@ -1,0 +1,28 @@
+//! Encoded values: the initial values of static fields ("Dalvik Executable format": encoded_value, encoded_array).
+//!
+//! `read_array` reads the encoded_array at an offset of a file; `put_array` appends one, in the fewest bytes. Both meet one
+//! relation, `specs/Spelling.antt`, in which the names that indices stand for are a parameter: for a file those of its
+//! tables, for a writer the names by rank.
+#![tactic(auto)]
+
+// The bytes of one value: its head, its number or its name.
+mod names;
+mod numbers;
+mod types;
+
+// Values in values, from a file.
+mod reading;
+
+// Values to bytes, in the fewest.
+mod widths;
+mod writing;
+
+// What crates above rest on.
+mod laws;
+
+pub use laws::{array_carries_over, array_is_prefix_unique, array_is_short};
+pub use reading::read_array;
+pub use writing::put_array;
+
+#[cfg(test)]
+mod tests;

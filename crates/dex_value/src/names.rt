@@ -1,0 +1,45 @@
+// Names by their index.
+ghost use Rattle.std.specs.Prelude.{◌≡◌, ℕ, ◌<◌, ◌≤◌, length, IfSome, IfNone};
+ghost use Rattle.dex_program.specs.Content as content;
+ghost use Rattle.dex_program.specs.View as view;
+ghost use Rattle.dex_program.specs.View.{value};
+ghost use Rattle.dex_tables.specs.Names.{NameIsAt, IsOfKind};
+ghost use Rattle.dex_value.specs.Spelling.{unsigned_of};
+ghost use Rattle.dex_value.specs.Faults.{IsOfType};
+ghost use Rattle.dex_value.specs.Reading.{name_code, kind_of, IsNamed, Stands};
+
+use crate::numbers::unsigned;
+use crate::types::{NameType, name_kind};
+use dex_program::{Name, Value};
+use dex_tables::Tables;
+
+/// The name as a value of this type.
+fn name_value<'a>(ty: NameType, name: Name<'a>) -> Value<'a>
+    requires { IsOfKind (kind_of ty) (view.name name) }
+    ensures { IsNamed (name_code ty) (view.name name.entry) (value result) }
+{
+    match name {
+        Name::Text(text) => Value::Text(text),
+        Name::Desc(desc) => Value::Desc(desc),
+        Name::Field(field) => match ty {
+            NameType::Enum => Value::Enum(field),
+            _ => Value::Field(field),
+        },
+        Name::Method(method) => Value::Method(method),
+    }
+}
+
+/// The name that the bytes behind a head of this type stand for. None where its table has no such row.
+pub fn named<'a>(tables: &Tables<'a>, ty: NameType, low: &[u8]) -> Option<Value<'a>>
+    requires some { 0 < length low.now }
+    requires few { length low.now ≤ 4 }
+    ensures some { IfSome result (λ v. Stands (NameIsAt tables.now) (name_code ty) low.now (value v)) }
+    ensures none { IfNone result ((which : content.Name) →
+        IsOfType (name_code ty) which → ¬ NameIsAt tables.now (unsigned_of low.now) which) }
+{
+    let index = unsigned(low) as u32;
+    match tables.name(name_kind(ty), index) {
+        Some(name) => Some(name_value(ty, name)),
+        None => None,
+    }
+}

@@ -1,0 +1,241 @@
+// Values in the order of their bytes.
+ghost use Rattle.std.specs.Prelude.{◌≡◌, ◌≢◌, ℕ, ◌≤◌, ◌-◌, ◌∷◌, List, length, map, IfOk, IfErr};
+ghost use Rattle.dex_base.specs.Fault.{memory};
+ghost use Rattle.dex_base.specs.Grammar.{Takes, Many};
+ghost use Rattle.dex_program.specs.Content as content;
+ghost use Rattle.dex_program.specs.View.{value};
+ghost use Rattle.dex_tables.specs.Names.{NameIsAt};
+ghost use Rattle.std.specs.List.{AllByRecursion};
+ghost use Rattle.dex_program.specs.Depth.{depth};
+ghost use Rattle.dex_value.specs.Spelling.{SpellsArray};
+ghost use Rattle.dex_value.specs.Standing.{Shallow, ArrayStands};
+ghost use Rattle.dex_value.specs.Faults.{IsLoneHead, OwnBreaks, ValueBreaks, NextBreaks, InsideBreaks, ArrayBreaks, Breaks, values_fault, kind_fault, depth_fault};
+
+use crate::names::named;
+use crate::numbers::number;
+use crate::types::{SizedType, sized_type, widest};
+use bumpalo::Bump;
+use dex_base::{Fault, read_uleb};
+use dex_container::Sections;
+use dex_program::Value;
+use dex_tables::{Tables, bytes_from, section_of};
+use std::alloc::Global;
+
+/// The kind of the section of encoded arrays (TYPE_ENCODED_ARRAY_ITEM).
+const ENCODED_ARRAYS: u16 = 0x2005;
+
+/// How deep an array value may lie.
+const DEPTH: u32 = 64;
+
+/// The head of an array: its type, without an argument.
+const ARRAY: u8 = 0x1c;
+
+/// Where the array of static values begins, and where its section ends, in bytes.
+#[derive(Clone, Copy)]
+struct Span {
+    off: u32,
+    end: u32,
+}
+
+impl Span {
+    /// The bytes run past the section, or a count is misspelled.
+    fn cut(self) -> Fault
+        ensures { result ≡ values_fault self.off }
+    {
+        Fault {
+            code: 48,
+            place: u64::from(self.off),
+        }
+    }
+
+    /// The value at the front of the bytes has a wrong type, argument or index.
+    fn wrong_kind(self, bytes: &[u8]) -> Fault
+        ensures { result ≡ kind_fault self.end bytes.now }
+    {
+        Fault {
+            code: 50,
+            place: self.place_of(bytes),
+        }
+    }
+
+    /// The value at the front of the bytes is an array that lies too deep.
+    fn too_deep(self, bytes: &[u8]) -> Fault
+        ensures { result ≡ depth_fault self.end bytes.now }
+    {
+        Fault {
+            code: 51,
+            place: self.place_of(bytes),
+        }
+    }
+
+    /// Where these bytes begin, which go to the section's end.
+    fn place_of(self, bytes: &[u8]) -> u64
+        ensures { result ≡ self.end - length bytes.now }
+    {
+        u64::from(self.end).saturating_sub(bytes.len() as u64)
+    }
+}
+
+/// A value with bytes behind its head, and what follows it.
+fn read_sized<'a, 'b>(
+    tables: &Tables<'a>,
+    span: Span,
+    bytes: &'b [u8],
+    head: u8,
+    rest: &'b [u8],
+) -> Result<(Value<'a>, &'b [u8]), Fault>
+    requires first { bytes.now ≡ head ∷ rest.now }
+    requires not_lone { ¬ IsLoneHead head }
+    ensures ok { IfOk result (λ x. (limit : ℕ) →
+        Takes (Shallow (NameIsAt tables.now) limit) bytes.now (value x.0) x.1.now) }
+    ensures err { IfErr result (λ e. (limit : ℕ) →
+        OwnBreaks (NameIsAt tables.now) span.off span.end limit bytes.now e) }
+{
+    let Some(ty) = sized_type(head % 32) else {
+        return Err(span.wrong_kind(bytes));
+    };
+    let width = usize::from(head / 32) + 1;
+    if width > widest(ty) {
+        return Err(span.wrong_kind(bytes));
+    }
+    if rest.len() < width {
+        return Err(span.cut());
+    }
+    let (low, after) = rest.split_at(width);
+    match ty {
+        SizedType::Number(ty) => Ok((number(ty, low), after)),
+        SizedType::Name(ty) => match named(tables, ty, low) {
+            Some(value) => Ok((value, after)),
+            None => Err(span.wrong_kind(bytes)),
+        },
+    }
+}
+
+/// The value at the front of the bytes, at most `limit` deep, and what follows it.
+#[cycle(values)]
+fn read_value<'a, 'b>(
+    alloc: Global,
+    arena: &'a Bump,
+    tables: &Tables<'a>,
+    span: Span,
+    limit: u32,
+    bytes: &'b [u8],
+) -> Result<(Value<'a>, &'b [u8]), Fault>
+    ensures ok { IfOk result (λ x.
+        Takes (Shallow (NameIsAt tables.now) limit) bytes.now (value x.0) x.1.now) }
+    ensures err { IfErr result (λ e. e ≢ memory →
+        ValueBreaks (NameIsAt tables.now) span.off span.end limit bytes.now e) }
+{
+    let Some((head, rest)) = bytes.split_first() else {
+        return Err(span.cut());
+    };
+    match *head {
+        ARRAY => {
+            if limit == 0 {
+                return Err(span.too_deep(bytes));
+            }
+            let Some((count, length)) = read_uleb(rest) else {
+                return Err(span.cut());
+            };
+            let (_, left) = rest.split_at(length);
+            let (values, after) = read_values(alloc, arena, tables, span, limit - 1, count, left)?;
+            Ok((Value::Array(values), after))
+        }
+        0x1e => Ok((Value::Null, rest)),
+        0x1f => Ok((Value::Bool(false), rest)),
+        0x3f => Ok((Value::Bool(true), rest)),
+        head => read_sized(tables, span, bytes, head, rest),
+    }
+}
+
+/// So many values, each at most `limit` deep, placed in the arena, and what follows them. Memory is asked for as values
+/// come.
+#[cycle(values)]
+fn read_values<'a, 'b>(
+    alloc: Global,
+    arena: &'a Bump,
+    tables: &Tables<'a>,
+    span: Span,
+    limit: u32,
+    count: u32,
+    bytes: &'b [u8],
+) -> Result<(&'a [Value<'a>], &'b [u8]), Fault>
+    ensures ok { IfOk result (λ x.
+        Takes (Many (Shallow (NameIsAt tables.now) limit) count) bytes.now (map value x.0.now) x.1.now) }
+    ensures err { IfErr result (λ e. e ≢ memory →
+        NextBreaks (Shallow (NameIsAt tables.now) limit) (ValueBreaks (NameIsAt tables.now) span.off span.end limit) count bytes.now e) }
+{
+    let mut all = Vec::new(alloc);
+    let mut left = bytes;
+    for _turn in 0..count {
+        let (one, after) = read_value(alloc, arena, tables, span, limit, left)?;
+        all.push(one)?;
+        left = after;
+    }
+    Ok((arena.try_alloc_slice_copy(&all)?, left))
+}
+
+/// The array whose section has these bytes from it on.
+fn read_rest<'a>(
+    alloc: Global,
+    arena: &'a Bump,
+    tables: &Tables<'a>,
+    span: Span,
+    most: usize,
+    bytes: &[u8],
+) -> Result<&'a [Value<'a>], Fault>
+    ensures ok { IfOk result (λ x. (rest : List ℕ) × Takes (SpellsArray (NameIsAt tables.now)) bytes.now (map value x.now) rest) }
+    ensures few { IfOk result (λ x. length x.now ≤ most) }
+    ensures deep { IfOk result (λ x. AllByRecursion (λ v. depth v ≤ 64) (map value x.now)) }
+    ensures err { IfErr result (λ e. e ≢ memory → ArrayBreaks (NameIsAt tables.now) span.off span.end most bytes.now e) }
+{
+    let Some((count, length)) = read_uleb(bytes) else {
+        return Err(span.cut());
+    };
+    if count as usize > most {
+        return Err(Fault {
+            code: 49,
+            place: u64::from(span.off),
+        });
+    }
+    let (_, left) = bytes.split_at(length);
+    let (values, _) = read_values(alloc, arena, tables, span, DEPTH, count, left)?;
+    Ok(values)
+}
+
+/// The values of the encoded_array at this byte offset of the file, at most `most`, each at most 64 deep. They are
+/// placed in the arena once, and their names are those of the tables.
+///
+/// Refused are: an offset outside the section of encoded arrays, a count that is misspelled, and bytes that run past the
+/// section (48, at `off`); a count above `most` (49, at `off`); a value of a wrong type, argument or index (50, at the
+/// value's first byte); an array value inside 64 others (51, at its first byte). In one value the type and the argument
+/// are looked at first, then the depth, its bytes and its index; values are looked at in the order of their bytes. The
+/// only other error is want of memory, which is asked for as values come, never for a count.
+pub fn read_array<'a>(
+    alloc: Global,
+    arena: &'a Bump,
+    tables: &Tables<'a>,
+    sections: &Sections<'_>,
+    off: u32,
+    most: usize,
+) -> Result<&'a [Value<'a>], Fault>
+    ensures ok { IfOk result (λ values. ArrayStands (NameIsAt tables.now) sections.now off most (map value values.now)) }
+    ensures only { IfOk result (λ values. (vs : List content.Value) →
+        ArrayStands (NameIsAt tables.now) sections.now off most vs → vs ≡ map value values.now) }
+    ensures broken { IfErr result (λ e. e ≢ memory → Breaks (NameIsAt tables.now) sections.now off most e) }
+    ensures refused { IfErr result (λ e. e ≢ memory →
+        (vs : List content.Value) → ¬ ArrayStands (NameIsAt tables.now) sections.now off most vs) }
+{
+    let section = section_of(sections, ENCODED_ARRAYS);
+    let Some(bytes) = bytes_from(sections, ENCODED_ARRAYS, section, off) else {
+        return Err(Fault {
+            code: 48,
+            place: u64::from(off),
+        });
+    };
+    let span = Span {
+        off,
+        end: section.end,
+    };
+    read_rest(alloc, arena, tables, span, most, bytes)
+}
