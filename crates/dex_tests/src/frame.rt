@@ -1,8 +1,10 @@
 // Header, map and checksums, and the file of the program without classes.
+ghost use Rattle.std.specs.Prelude.{◌≡◌, []};
+ghost use Rattle.dex_program.specs.View.{program};
 
 use crate::fixtures::{ONE_CLASS, WITHOUT_CLASSES, closed_with_byte, with_byte};
 use bumpalo::Bump;
-use dex_base::{adler32, put_u32_at};
+use dex_base::{Fault, adler32, put_u32_at};
 use dex_container::{close, framed_without_fault, open};
 use dex_file::{read, write, written_is_read};
 use dex_program::Program;
@@ -26,11 +28,28 @@ fn checked(alloc: Global, bytes: &[u8]) -> (u16, u64) {
     }
 }
 
+/// The program without classes.
+fn nothing<'a>() -> Program<'a>
+    ensures { program result ≡ [] }
+{
+    Program { classes: &[] }
+}
+
+/// What is written of the program without classes.
+fn written(alloc: Global) -> Result<Vec<u8>, Fault> {
+    write(alloc, &nothing())
+}
+
+/// Whether the program without classes is read again from what is written of it.
+fn is_read_again(alloc: Global) -> Result<bool, Fault> {
+    let arena = Bump::new(alloc);
+    let again = written_is_read(alloc, &arena, &nothing())?;
+    Ok(again.classes.is_empty())
+}
+
 #[test]
 fn the_program_without_classes_is_written_in_140_bytes(rt: HostRuntime) -> Result<(), Fail> {
-    let Ok(file) = write(rt.alloc(), &Program { classes: &[] }) else {
-        return Err(Fail::from("want of memory"));
-    };
+    let file = written(rt.alloc())?;
     assert!(rt; file.as_slice() == WITHOUT_CLASSES.as_slice());
     assert_eq!(rt; checked(rt.alloc(), &file), (0, 0));
     Ok(())
@@ -38,11 +57,7 @@ fn the_program_without_classes_is_written_in_140_bytes(rt: HostRuntime) -> Resul
 
 #[test]
 fn what_is_written_is_read_again(rt: HostRuntime) -> Result<(), Fail> {
-    let arena = Bump::new(rt.alloc());
-    let Ok(again) = written_is_read(rt.alloc(), &arena, &Program { classes: &[] }) else {
-        return Err(Fail::from("want of memory"));
-    };
-    assert!(rt; again.classes.is_empty());
+    assert!(rt; is_read_again(rt.alloc())?);
     Ok(())
 }
 
