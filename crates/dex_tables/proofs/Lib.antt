@@ -13,3 +13,5 @@ pub mod OrderLaws
 pub mod ShortyLaws
 pub mod ClearRows
 pub mod NameLaws
+pub mod NeededLemmas
+pub mod IndexLemmas

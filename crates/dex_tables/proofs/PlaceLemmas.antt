@@ -1,19 +1,14 @@
 -- The place of a key in a rising list is its rank.
-use Rattle.std.proofs.Common.{◌≡◌, ℕ, suc, zero, ◌^◌, ◌<◌, List, [], ◌∷◌, Option, Some, None, true, false, Bool, refl, sym, ap, ◌∙◌, subst, arith, get_or, length, slice_get, ◌||◌, ◌⊎◌, inl, inr}
+use Rattle.std.proofs.Common.{◌≡◌, ℕ, suc, zero, ◌^◌, ◌<◌, List, [], ◌∷◌, Option, Some, None, true, false, Bool, refl, sym, ap, ◌∙◌, subst, arith, slice_get, ◌||◌, inl, inr}
 use Rattle.std.proofs.lemmas.Option.{slice_get_within, get_or_from_slice_get}
 use Rattle.std.specs.Prelude.{IfSome, IfNone}
-use Rattle.std.specs.Ordering.{eq_by_cmp, is_eq}
-use Rattle.std.specs.List.{list_any}
+use Rattle.std.specs.Ordering.{eq_by_cmp}
 use Rattle.dex_program.specs.Key.{Key, key_cmp}
 use Rattle.dex_program.specs.KeyLaws.{key_cmp-total, key_cmp-same}
 use Rattle.dex_tables.specs.Rank.{Rising, is_member, rank_of, HasIndex}
 use Rattle.dex_tables.proofs.RisingLemmas.{rank-at}
-use Rattle.dex_tables.proofs.SubsetLemmas.{member_here}
-use Rattle.std.specs.Cmp.{Equal-is, tied_itself}
-
-or_cases : (a b : Bool) → (a || b) ≡ true → (a ≡ true) ⊎ (b ≡ true)
-or_cases true b h = inl refl
-or_cases false b h = inr h
+use Rattle.dex_tables.proofs.SubsetLemmas.{member_here, or_cases}
+use Rattle.std.specs.Cmp.{Equal-is}
 
 -- a key at a place is a member
 pub member_at : (ks : List Key) (i : ℕ) (k : Key) → slice_get ks i ≡ Some k → is_member ks k ≡ true

@@ -8,11 +8,11 @@ use Rattle.dex_program.specs.KeyLaws.{key_cmp-total, key_cmp-same}
 use Rattle.dex_tables.specs.Rank.{insert_key, is_member, add_all, IsSubset}
 use Rattle.dex_tables.proofs.RisingLemmas.{is_member-insert_key, is_member-fold}
 
-or_cases : (a b : Bool) → (a || b) ≡ true → (a ≡ true) ⊎ (b ≡ true)
+pub or_cases : (a b : Bool) → (a || b) ≡ true → (a ≡ true) ⊎ (b ≡ true)
 or_cases true b h = inl refl
 or_cases false b h = inr h
 
-or_right : (a b : Bool) → b ≡ true → (a || b) ≡ true
+pub or_right : (a b : Bool) → b ≡ true → (a || b) ≡ true
 or_right true b h = refl
 or_right false b h = h
 
@@ -72,6 +72,10 @@ IsSubset-add_right ks more =
 pub IsSubset-add_all : (ks more js : List Key) → IsSubset ks js → IsSubset more js → IsSubset (add_all ks more) js
 IsSubset-add_all ks more js f g =
     record { each = λ k h. elim (or_cases (is_member ks k) _ (sym (is_member-fold key_cmp-total key_cmp-same ks more k) ∙ h)) [ inl a ↦ f.each k a | inr b ↦ g.each k b ] }
+
+-- what a union has
+pub added_cases : (ks more : List Key) (k : Key) → is_member (add_all ks more) k ≡ true → (is_member ks k ≡ true) ⊎ (is_member more k ≡ true)
+added_cases ks more k h = or_cases (is_member ks k) _ (sym (is_member-fold key_cmp-total key_cmp-same ks more k) ∙ h)
 
 pub member_middle : (ks : List Key) (x : Key) (js : List Key) → is_member (ks ++ x ∷ js) x ≡ true
 member_middle ks x js = list_any-append (eq_by_cmp key_cmp x) ks (x ∷ js) ∙ or_right (is_member ks x) _ (member_here x js)

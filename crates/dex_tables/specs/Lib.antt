@@ -10,3 +10,5 @@ pub mod TableFaults
 pub mod Where
 pub mod Reading
 pub mod Halves
+pub mod Indices
+pub mod Needed

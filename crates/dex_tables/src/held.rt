@@ -1,6 +1,6 @@
-// The names of one kind that are needed, as a sorted vector: while names are added, and with their ranks.
-ghost use Rattle.std.specs.Prelude.{◌≡◌, List, [], map, OnOk, OnErr, option_map, slice_get};
-ghost use Rattle.dex_tables.specs.Rank.{Rising, insert_key, HasIndex};
+//! The names of one kind that are needed, as a sorted vector: while names are added, and with their ranks.
+ghost use Rattle.std.specs.Prelude.{◌≡◌, ◌<◌, ◌^◌, ℕ, List, [], map, OnOk, OnErr, IfSome, IfNone, option_map, slice_get};
+ghost use Rattle.dex_tables.specs.Rank.{Rising, insert_key, HasIndex, IsAt};
 
 use crate::row::Row;
 use std::alloc::{AllocError, Global};
@@ -78,12 +78,21 @@ impl<N: Row> Model for Ranked<N> {
 impl<N: Row> Ranked<N> {
     /// The rank of a name, where it is held and its rank fits 32 bits.
     pub(crate) fn index_of(&self, name: N) -> Option<u32>
-        ensures { HasIndex self.now (N.key name) result }
+        ensures rank { HasIndex self.now (N.key name) result }
+        ensures some { IfSome result (λ i. IsAt self.now i (N.key name)) }
+        ensures none { IfNone result ((i : ℕ) → i < 2 ^ 32 → ¬ IsAt self.now i (N.key name)) }
     {
         match self.items.binary_search(&name) {
             Ok(at) => u32::try_from(at).ok(),
             Err(_) => None,
         }
+    }
+
+    /// The names, in the order of their ranks.
+    pub(crate) fn names(&self) -> &[N]
+        ensures { map N.key result.now ≡ self.now }
+    {
+        &self.items
     }
 
     /// The keys strictly rise.

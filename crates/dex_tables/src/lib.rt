@@ -37,12 +37,16 @@ mod ranks;
 mod file_laws;
 mod laws;
 
+#[cfg(test)]
+mod tests;
+
 pub use file_laws::{
     names_of_a_file_are_its_rows, row_denotes_one_name, rows_that_hold_are_clear, section_is_one,
     type_list_is_one,
 };
 pub use laws::{
-    fields_rise, keys_compare_as_places, methods_rise, place_is_at_least_rank, protos_rise,
+    closed_have_rows, fields_rise, keys_compare_as_places, look_ups_answer, mentions_have_indices,
+    methods_rise, needed_is_least, place_is_at_least_rank, protos_rise, rising_tables_rise,
     sets_are_their_members, types_rise,
 };
 pub use needed::Needed;

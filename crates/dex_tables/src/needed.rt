@@ -1,16 +1,18 @@
-// The names that a program needs, of all five kinds, each with its parts.
-ghost use Rattle.std.specs.Prelude.{◌≡◌, OnOk, OnErr, IfOk, IsOkUnless, All, map, option_map, slice_get};
+//! The names that a program needs, of all five kinds, each with its parts ("Dalvik Executable format": the indices in
+//! type_id_item, proto_id_item, field_id_item and method_id_item).
+ghost use Rattle.std.specs.Prelude.{◌≡◌, OnOk, OnErr, IfOk, IsOkUnless, All, map};
 ghost use Rattle.dex_base.specs.Fault.{memory};
 ghost use Rattle.dex_base.specs.Descriptor.{IsDescriptor};
-ghost use Rattle.dex_program.specs.View.{desc};
-ghost use Rattle.dex_tables.specs.Keys.{key_of_str, key_of_desc, key_of_proto, key_of_field, key_of_method};
-ghost use Rattle.dex_tables.specs.Closure.{nothing, join, AddsPart, IsClosed, string_closure, type_closure, proto_closure, field_closure, method_closure};
+ghost use Rattle.dex_program.specs.Content.{OfText, OfDesc, OfField, OfMethod};
+ghost use Rattle.dex_program.specs.View.{str, desc, proto, field_ref, method_ref};
+ghost use Rattle.dex_program.specs.View as view;
+ghost use Rattle.dex_tables.specs.Closure.{nothing, with_name, with_proto, AddsPart, IsClosed, HasShorty};
 
 use crate::held::Held;
 use crate::ranks::Ranks;
 use bumpalo::Bump;
 use dex_base::Fault;
-use dex_program::{Desc, FieldRef, MethodRef, Proto, Str, shorty_of};
+use dex_program::{Desc, FieldRef, MethodRef, Name, Proto, Str, shorty_of};
 use std::alloc::Global;
 use std::marker::Model;
 
@@ -38,6 +40,7 @@ impl<'a> Model for Needed<'a> {
     ghost invariant = { λ n. IsClosed record { strings = n.strings; types = n.types; protos = n.protos; fields = n.fields; methods = n.methods } };
 }
 
+#[tactic(auto, unfolding(crate::specs::Closure::with_name, crate::specs::Closure::with_proto))]
 impl<'a> Needed<'a> {
     /// No name. Takes no memory.
     pub fn new(alloc: Global) -> Self
@@ -60,10 +63,11 @@ impl<'a> Needed<'a> {
         let _ = &self.strings;
     }
 
-    /// Adds a string.
+    /// Adds a string. Refused only for want of memory, as all additions are: what was held is held then, and beyond it
+    /// at most parts of the name.
     pub fn add_string(&mut self, name: Str<'a>) -> Result<(), Fault>
-        ensures added { OnOk result (self.new ≡ join self.old (string_closure (key_of_str name.entry))) }
-        ensures partly { OnErr result (AddsPart self.old self.new (join self.old (string_closure (key_of_str name.entry)))) }
+        ensures added { OnOk result (self.new ≡ with_name self.old (OfText (str name.entry))) }
+        ensures partly { OnErr result (AddsPart self.old self.new (with_name self.old (OfText (str name.entry)))) }
         ensures memory { IsOkUnless result memory }
     {
         self.strings.add(name)?;
@@ -72,8 +76,8 @@ impl<'a> Needed<'a> {
 
     /// Adds a type, and its descriptor as a string.
     pub fn add_type(&mut self, name: Desc<'a>) -> Result<(), Fault>
-        ensures added { OnOk result (self.new ≡ join self.old (type_closure (key_of_desc name.entry))) }
-        ensures partly { OnErr result (AddsPart self.old self.new (join self.old (type_closure (key_of_desc name.entry)))) }
+        ensures added { OnOk result (self.new ≡ with_name self.old (OfDesc (desc name.entry))) }
+        ensures partly { OnErr result (AddsPart self.old self.new (with_name self.old (OfDesc (desc name.entry)))) }
         ensures memory { IsOkUnless result memory }
     {
         self.strings.add(name.text)?;
@@ -85,8 +89,8 @@ impl<'a> Needed<'a> {
     pub fn add_proto(&mut self, arena: &'a Bump, name: &'a Proto<'a>) -> Result<(), Fault>
         requires ret { IsDescriptor (desc name.now.ret) }
         requires params { All IsDescriptor (map desc name.now.params.now) }
-        ensures added { OnOk result (self.new ≡ join self.old (proto_closure (key_of_proto name.now))) }
-        ensures partly { OnErr result (AddsPart self.old self.new (join self.old (proto_closure (key_of_proto name.now)))) }
+        ensures added { OnOk result (self.new ≡ with_proto self.old (proto name.now)) }
+        ensures partly { OnErr result (AddsPart self.old self.new (with_proto self.old (proto name.now))) }
         ensures memory { IsOkUnless result memory }
     {
         self.strings
@@ -103,8 +107,8 @@ impl<'a> Needed<'a> {
     pub fn add_method(&mut self, arena: &'a Bump, name: &'a MethodRef<'a>) -> Result<(), Fault>
         requires ret { IsDescriptor (desc name.now.proto.now.ret) }
         requires params { All IsDescriptor (map desc name.now.proto.now.params.now) }
-        ensures added { OnOk result (self.new ≡ join self.old (method_closure (key_of_method name.now))) }
-        ensures partly { OnErr result (AddsPart self.old self.new (join self.old (method_closure (key_of_method name.now)))) }
+        ensures added { OnOk result (self.new ≡ with_name self.old (OfMethod (method_ref name.now))) }
+        ensures partly { OnErr result (AddsPart self.old self.new (with_name self.old (OfMethod (method_ref name.now)))) }
         ensures memory { IsOkUnless result memory }
     {
         self.add_type(name.class)?;
@@ -116,8 +120,8 @@ impl<'a> Needed<'a> {
 
     /// Adds a field, its class, its name and its type.
     pub fn add_field(&mut self, name: &'a FieldRef<'a>) -> Result<(), Fault>
-        ensures added { OnOk result (self.new ≡ join self.old (field_closure (key_of_field name.now))) }
-        ensures partly { OnErr result (AddsPart self.old self.new (join self.old (field_closure (key_of_field name.now)))) }
+        ensures added { OnOk result (self.new ≡ with_name self.old (OfField (field_ref name.now))) }
+        ensures partly { OnErr result (AddsPart self.old self.new (with_name self.old (OfField (field_ref name.now)))) }
         ensures memory { IsOkUnless result memory }
     {
         self.add_type(name.class)?;
@@ -127,7 +131,23 @@ impl<'a> Needed<'a> {
         Ok(())
     }
 
-    /// The names that are held, with their ranks. No name is added from here on.
+    /// Adds what an instruction or a value names, with its parts. The arena holds a method's shorty.
+    pub fn add_name(&mut self, arena: &'a Bump, name: Name<'a>) -> Result<(), Fault>
+        requires { HasShorty (view.name name) }
+        ensures added { OnOk result (self.new ≡ with_name self.old (view.name name.entry)) }
+        ensures partly { OnErr result (AddsPart self.old self.new (with_name self.old (view.name name.entry))) }
+        ensures memory { IsOkUnless result memory }
+    {
+        match name {
+            Name::Text(text) => self.add_string(text),
+            Name::Desc(desc) => self.add_type(desc),
+            Name::Field(field) => self.add_field(field),
+            Name::Method(method) => self.add_method(arena, method),
+        }
+    }
+
+    /// The names that are held, with their ranks. No name is added from here on. Refused only for want of memory, and
+    /// then nothing is given back.
     pub fn freeze(self) -> Result<Ranks<'a>, Fault>
         ensures same { IfOk result (λ r. r ≡ self.entry) }
         ensures memory { IsOkUnless result memory }

@@ -1,8 +1,9 @@
-// The names that a program needs, of all five kinds, with their ranks.
-ghost use Rattle.std.specs.Prelude.{◌≡◌, ◌<◌, ◌^◌, ℕ, IfSome, IfNone, option_map, slice_get};
+//! The names that a program needs, of all five kinds, with their ranks, which are their indices in a table that has no other
+//! names ("Dalvik Executable format": string_ids, type_ids, proto_ids, field_ids and method_ids).
+ghost use Rattle.std.specs.Prelude.{◌≡◌, ◌<◌, ◌^◌, ℕ, IfSome, IfNone, map, option_map, slice_get};
 ghost use Rattle.dex_program.specs.View as view;
 ghost use Rattle.dex_tables.specs.Keys.{key_of_str, key_of_desc, key_of_proto, key_of_field, key_of_method};
-ghost use Rattle.dex_tables.specs.Rank.{HasIndex};
+ghost use Rattle.dex_tables.specs.Rank.{HasIndex, IsAt};
 ghost use Rattle.dex_tables.specs.Closure.{IsClosed, AreRising, NameRanks};
 
 use crate::held::Ranked;
@@ -74,7 +75,6 @@ impl<'a> Ranks<'a> {
         ensures some { IfSome result (λ i. NameRanks self.now i (view.name name.entry)) }
         ensures none { IfNone result ((i : ℕ) → i < 2 ^ 32 → ¬ NameRanks self.now i (view.name name.entry)) }
     {
-        self.rise();
         match name {
             Name::Text(text) => self.index_of_string(text),
             Name::Desc(desc) => self.index_of_type(desc),
@@ -85,35 +85,45 @@ impl<'a> Ranks<'a> {
 
     /// The rank of a string. None where it isn't held, or where the rank is above 4294967295; so with the other kinds.
     pub fn index_of_string(&self, name: Str<'a>) -> Option<u32>
-        ensures { HasIndex self.now.strings (key_of_str name.entry) result }
+        ensures rank { HasIndex self.now.strings (key_of_str name.entry) result }
+        ensures some { IfSome result (λ i. IsAt self.now.strings i (key_of_str name.entry)) }
+        ensures none { IfNone result ((i : ℕ) → i < 2 ^ 32 → ¬ IsAt self.now.strings i (key_of_str name.entry)) }
     {
         self.strings.index_of(name)
     }
 
     /// The rank of a type.
     pub fn index_of_type(&self, name: Desc<'a>) -> Option<u32>
-        ensures { HasIndex self.now.types (key_of_desc name.entry) result }
+        ensures rank { HasIndex self.now.types (key_of_desc name.entry) result }
+        ensures some { IfSome result (λ i. IsAt self.now.types i (key_of_desc name.entry)) }
+        ensures none { IfNone result ((i : ℕ) → i < 2 ^ 32 → ¬ IsAt self.now.types i (key_of_desc name.entry)) }
     {
         self.types.index_of(name)
     }
 
     /// The rank of a prototype.
     pub fn index_of_proto(&self, name: &Proto<'a>) -> Option<u32>
-        ensures { HasIndex self.now.protos (key_of_proto name.now) result }
+        ensures rank { HasIndex self.now.protos (key_of_proto name.now) result }
+        ensures some { IfSome result (λ i. IsAt self.now.protos i (key_of_proto name.now)) }
+        ensures none { IfNone result ((i : ℕ) → i < 2 ^ 32 → ¬ IsAt self.now.protos i (key_of_proto name.now)) }
     {
         self.protos.index_of(*name)
     }
 
     /// The rank of a field.
     pub fn index_of_field(&self, name: &FieldRef<'a>) -> Option<u32>
-        ensures { HasIndex self.now.fields (key_of_field name.now) result }
+        ensures rank { HasIndex self.now.fields (key_of_field name.now) result }
+        ensures some { IfSome result (λ i. IsAt self.now.fields i (key_of_field name.now)) }
+        ensures none { IfNone result ((i : ℕ) → i < 2 ^ 32 → ¬ IsAt self.now.fields i (key_of_field name.now)) }
     {
         self.fields.index_of(*name)
     }
 
     /// The rank of a method.
     pub fn index_of_method(&self, name: &MethodRef<'a>) -> Option<u32>
-        ensures { HasIndex self.now.methods (key_of_method name.now) result }
+        ensures rank { HasIndex self.now.methods (key_of_method name.now) result }
+        ensures some { IfSome result (λ i. IsAt self.now.methods i (key_of_method name.now)) }
+        ensures none { IfNone result ((i : ℕ) → i < 2 ^ 32 → ¬ IsAt self.now.methods i (key_of_method name.now)) }
     {
         self.methods.index_of(*name)
     }
@@ -151,5 +161,40 @@ impl<'a> Ranks<'a> {
         ensures { option_map key_of_method result ≡ slice_get self.now.methods rank }
     {
         self.methods.name_at(rank)
+    }
+
+    /// The strings, in the order of their ranks: the rows of the table. So with the other kinds.
+    pub fn strings(&self) -> &[Str<'a>]
+        ensures { map key_of_str result.now ≡ self.now.strings }
+    {
+        self.strings.names()
+    }
+
+    /// The types, in the order of their ranks.
+    pub fn types(&self) -> &[Desc<'a>]
+        ensures { map key_of_desc result.now ≡ self.now.types }
+    {
+        self.types.names()
+    }
+
+    /// The prototypes, in the order of their ranks.
+    pub fn protos(&self) -> &[Proto<'a>]
+        ensures { map key_of_proto result.now ≡ self.now.protos }
+    {
+        self.protos.names()
+    }
+
+    /// The fields, in the order of their ranks.
+    pub fn fields(&self) -> &[FieldRef<'a>]
+        ensures { map key_of_field result.now ≡ self.now.fields }
+    {
+        self.fields.names()
+    }
+
+    /// The methods, in the order of their ranks.
+    pub fn methods(&self) -> &[MethodRef<'a>]
+        ensures { map key_of_method result.now ≡ self.now.methods }
+    {
+        self.methods.names()
     }
 }

@@ -1,4 +1,4 @@
-// What the five kinds of names have in common: a key, and an order by keys.
+//! What the five kinds of names have in common: a key, and an order by keys.
 ghost use Rattle.std.specs.Prelude.{◌≡◌, refl};
 ghost use Rattle.dex_program.specs.Key.{Key, key_cmp};
 ghost use Rattle.dex_program.specs.KeyLaws.{ordering_then-equal, proto_cmp, field_ref_cmp, method_ref_cmp};
