@@ -1,5 +1,5 @@
 -- Which raw instructions can be written, and their bytes ("Dalvik Executable instruction formats"; payloads: "Dalvik bytecode").
-use Rattle.std.specs.Prelude.{ℕ, ◌≡◌, ◌≤◌, ◌<◌, ◌*◌, ◌+◌, ◌/◌, ◌%◌, ◌++◌, Some, List, [], ◌∷◌, length, get_or, slice_index, if◌then◌else◌, ◌==◌, pos, neg_ℤ, ◌≤ℤ◌, ◌<ℤ◌, FitsSigned}
+use Rattle.std.specs.Prelude.{ℕ, ◌≡◌, ◌≤◌, ◌<◌, ◌*◌, ◌+◌, ◌/◌, ◌%◌, ◌++◌, Some, List, [], ◌∷◌, length, slice_index, if◌then◌else◌, ◌==◌, pos, neg_ℤ, ◌≤ℤ◌, ◌<ℤ◌, FitsSigned}
 use Rattle.std.specs.Int.{cast_unsigned, w8, w16, w32, w64}
 use Rattle.dex_insn.specs.Fields.{Rises}
 use Rattle.dex_insn.specs.Opcodes.{format_of}
@@ -43,10 +43,6 @@ IsRaw (Packed first offsets) = FitsSigned w32 first × (length offsets % 4 ≡ 0
 IsRaw (Sparse keys offsets) = (length keys % 4 ≡ 0) × (length offsets ≡ length keys) × (length keys / 4 < 65536)
     × Rises keys (length keys / 4)
 IsRaw (Data width bytes) = IsWidth width × (length bytes % width ≡ 0) × (length bytes / width < 4294967296)
-
--- each number of the list is a byte
-abbrev pub AreBytes : List ℕ → Type 0
-AreBytes bytes = (i : ℕ) → get_or bytes i 0 < 256
 
 -- the bytes of units, the low byte first
 abbrev pub bytes_of : List ℕ → List ℕ

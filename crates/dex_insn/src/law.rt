@@ -5,7 +5,8 @@ ghost use Rattle.dex_base.specs.declared.fault.Fault.{Fault};
 ghost use Rattle.dex_insn.specs.Raw.{Raw, units, is_payload};
 ghost use Rattle.dex_insn.specs.RawInsns.{Spells, Stands, IsPayload};
 ghost use Rattle.dex_insn.specs.Flaws.{IsFaultAt};
-ghost use Rattle.dex_insn.specs.Written.{AreBytes, IsRaw, written};
+ghost use Rattle.dex_base.specs.Fields.{AreBytes};
+ghost use Rattle.dex_insn.specs.Written.{IsRaw, written};
 
 /// At a unit stands one instruction at most.
 pub fn one_stands()
