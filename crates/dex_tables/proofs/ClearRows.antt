@@ -1,5 +1,5 @@
 -- A row that holds breaks no rule, and a name has one meaning.
-use Rattle.std.proofs.Common.{◌≡◌, ◌≢◌, ℕ, ◌+◌, ◌<◌, ◌≤◌, ◌⊎◌, inl, inr, Bool, true, false, List, [], length, take, drop, refl, sym, ap, ◌∙◌, subst, arith, length-take, length-append, ◌∷◌, Result, Ok, Err, IfErr}
+use Rattle.std.proofs.Common.{◌≡◌, ◌≢◌, ℕ, ◌⊎◌, inl, inr, Bool, true, false, List, [], length, drop, ap, ◌∙◌, subst, arith, length-take, length-append, ◌∷◌}
 use Rattle.std.specs.Prelude.{MatchBool, ◌==◌}
 use Rattle.std.proofs.lemmas.Bool.{cases_lt}
 use Rattle.dex_base.specs.declared.fault.Fault.{Fault}
@@ -9,10 +9,10 @@ use Rattle.dex_base.specs.Mutf8.{SpellsText}
 use Rattle.dex_container.specs.Frame.{IsFramed}
 use Rattle.dex_container.specs.Layout.{size_of}
 use Rattle.dex_container.specs.Faults.{on}
-use Rattle.dex_program.specs.Content.{Units, Proto, FieldRef, MethodRef}
+use Rattle.dex_program.specs.Content.{Units}
 use Rattle.dex_tables.specs.Where.{slice, At, IsInSection}
 use Rattle.dex_tables.specs.RowFields.{string_place, type_string, proto_shorty, proto_return, proto_parameters, member_class, member_kind, member_name}
-use Rattle.dex_tables.specs.Stands.{StringStands, TypeStands, ProtoStands, FieldStands, MethodStands, void}
+use Rattle.dex_tables.specs.Stands.{void}
 use Rattle.dex_program.specs.Shorty.{shorty}
 use Rattle.dex_tables.specs.Sorted.{StringHolds, TypeHolds, ProtoHolds, FieldHolds, MethodHolds, RowsHold}
 use Rattle.dex_tables.specs.TableFaults.{StringBreaks, TypeBreaks, ProtoBreaks, FieldBreaks, MethodBreaks, IsFirstRow}

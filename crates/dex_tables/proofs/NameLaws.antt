@@ -1,11 +1,11 @@
 -- A row denotes one name, and the tables of a file have exactly its rows.
-use Rattle.std.proofs.Common.{◌≡◌, ℕ, suc, ◌<◌, List, [], ◌∷◌, length, get_or, Some, refl, sym, ap, ◌∙◌, subst, arith, slice_get}
+use Rattle.std.proofs.Common.{◌≡◌, ℕ, suc, ◌<◌, List, [], ◌∷◌, length, get_or, Some, refl, sym, ap, ◌∙◌, arith, slice_get}
 use Rattle.std.proofs.lemmas.Option.{slice_get-get_or}
 use Rattle.dex_container.specs.Frame.{IsFramed}
 use Rattle.dex_container.specs.Layout.{size_of}
-use Rattle.dex_program.specs.Content.{Units, Proto, FieldRef, MethodRef, Name, OfText, OfDesc, OfField, OfMethod}
+use Rattle.dex_program.specs.Content.{Proto, FieldRef, MethodRef, Name, OfText, OfDesc, OfField, OfMethod}
 use Rattle.dex_tables.specs.Names.{Names, AreRows, AreNamesOf, NameIsAt}
-use Rattle.dex_tables.specs.RowFields.{type_string, proto_return, proto_parameters, member_class, member_kind, member_name}
+use Rattle.dex_tables.specs.RowFields.{proto_return, proto_parameters, member_class, member_kind, member_name}
 use Rattle.dex_tables.specs.Stands.{StringStands, TypeStands, ProtoStands, FieldStands, MethodStands, NameStands}
 use Rattle.dex_tables.proofs.RowReading.{string_one}
 use Rattle.dex_tables.proofs.TypeLists.{type_one, types_one}

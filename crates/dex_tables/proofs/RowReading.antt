@@ -1,11 +1,7 @@
 -- Tables that are read row by row.
-use Rattle.std.proofs.Common.{◌≡◌, ◌≢◌, ℕ, ◌+◌, ◌-◌, take, drop, ◌<◌, ◌≤◌, zero, suc, List, [], ◌∷◌, ◌++◌, length, map, Option, Some, None, option_map, sym, subst, ap, ◌∙◌, refl, arith, slice_get, get_or, ◌⊎◌, inl, inr, Result, Ok, Err, IfErr}
+use Rattle.std.proofs.Common.{◌≡◌, ℕ, ◌+◌, ◌-◌, take, drop, ◌<◌, ◌≤◌, zero, suc, List, [], ◌∷◌, ◌++◌, length, map, Option, Some, None, option_map, sym, subst, ap, ◌∙◌, refl, arith, slice_get, get_or, ◌⊎◌, inl, inr, Result, Ok, Err, IfErr}
 use Rattle.std.specs.Prelude.{IfSome, IfNone}
-use Rattle.std.specs.declared.cmp.Ordering.{Ordering}
-use Rattle.std.specs.declared.cmp.Ordering.TheVariants.{Less, Equal, Greater}
-use Rattle.std.specs.Ordering.{nat_cmp}
-use Rattle.std.specs.Cmp.Lexicographic.{slice_cmp}
-use Rattle.std.proofs.lemmas.List.{map-append, length-map, length_push}
+use Rattle.std.proofs.lemmas.List.{length-map, length_push}
 use Rattle.std.proofs.lemmas.Option.{slice_get-get_or, slice_get-map, slice_get_within}
 use Rattle.std.proofs.lemmas.Bool.{cases_lt}
 use Rattle.dex_base.specs.Mutf8.{SpellsText}
@@ -14,8 +10,8 @@ use Rattle.dex_container.specs.Frame.{IsFramed}
 use Rattle.dex_container.specs.Layout.{size_of}
 use Rattle.dex_tables.specs.Names.{AreRows}
 use Rattle.dex_tables.specs.Reading.{AreFirst, LastIsBelow, IsSectionOf}
-use Rattle.dex_tables.specs.RowFields.{string_place, type_string}
-use Rattle.dex_tables.specs.Sorted.{Rises, IsBelow, StringIsBelow, TypeIsBelow, RowHolds, RowsHold}
+use Rattle.dex_tables.specs.RowFields.{string_place}
+use Rattle.dex_tables.specs.Sorted.{Rises, IsBelow, StringIsBelow, RowsHold}
 use Rattle.dex_tables.specs.Stands.{StringStands}
 use Rattle.dex_tables.specs.TableFaults.{BreaksAt, IsFirstRow}
 use Rattle.dex_base.specs.declared.fault.Fault.{Fault}

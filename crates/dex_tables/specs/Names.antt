@@ -1,5 +1,5 @@
 -- The names of the five tables of a file, in the order of their rows.
-use Rattle.std.specs.Prelude.{◌≡◌, ⊤, ℕ, List, length, Some, map}
+use Rattle.std.specs.Prelude.{◌≡◌, ⊤, ℕ, List, length, Some}
 use Rattle.std.specs.List.{slice_get}
 use Rattle.dex_container.specs.Layout.{size_of}
 use Rattle.dex_program.specs.Content.{Units, Proto, FieldRef, MethodRef, Name, OfText, OfDesc, OfField, OfMethod}

@@ -5,7 +5,7 @@ use Rattle.std.specs.Cmp.Lexicographic.{slice_cmp}
 use Rattle.std.specs.Ordering.{nat_cmp}
 use Rattle.std.specs.declared.cmp.Ordering.TheVariants.{Less}
 use Rattle.dex_container.specs.Layout.{size_of}
-use Rattle.dex_program.specs.Content.{Units, Proto, FieldRef, MethodRef}
+use Rattle.dex_program.specs.Content.{Units}
 use Rattle.dex_tables.specs.Where.{AtOrNone}
 use Rattle.dex_tables.specs.RowFields.{type_string, proto_return, proto_parameters, member_key}
 use Rattle.dex_tables.specs.Stands.{StringStands, TypeStands, ProtoStands, FieldStands, MethodStands, SpellsIndexes}

@@ -1,6 +1,6 @@
 -- The faults of the five tables, 20 to 35: a function on the number for each table. Each is stated so that it has a
 -- meaning for any file; it is asked only where header, map and checksums, the tables before, and the rows before hold.
-use Rattle.std.specs.Prelude.{◌≡◌, ◌≢◌, ℕ, ◌+◌, ◌<◌, ◌≤◌, ◌⊎◌, List}
+use Rattle.std.specs.Prelude.{◌≡◌, ◌≢◌, ℕ, ◌<◌, ◌≤◌, ◌⊎◌, List}
 use Rattle.std.specs.List.{AllByRecursion}
 use Rattle.dex_base.specs.declared.fault.Fault.{Fault}
 use Rattle.dex_base.specs.Descriptor.{IsDescriptor, IsClass, IsArray, IsMemberName}

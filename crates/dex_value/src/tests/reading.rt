@@ -1,14 +1,32 @@
-use super::fixtures::{ARRAY_AT, file_of, is_same};
+use super::fixtures::{
+    ARRAY_AT, ARRAY_BEHIND_NAMES_AT, file_of, file_with_names, is_same, text_of, type_of,
+};
 use crate::read_array;
 use bumpalo::Bump;
 use dex_base::Fault;
 use dex_container::{close, open};
-use dex_program::{Value, is_within_depth};
+use dex_program::{FieldRef, MethodRef, Value, is_within_depth, place_proto};
 use dex_tables::Tables;
 use std::alloc::Global;
 use std::test::Fail;
 
-/// The values of the array at this place of a file whose section of encoded arrays has these bytes.
+/// The values of the array at this place of a file, which is signed first.
+fn read_in<'a>(
+    alloc: Global,
+    arena: &'a Bump,
+    mut file: Vec<u8>,
+    off: u32,
+    most: usize,
+) -> Result<&'a [Value<'a>], Fault> {
+    if file.len() >= 112 {
+        close(&mut file);
+    }
+    let sections = open(&file)?;
+    let tables = Tables::read(alloc, arena, &sections)?;
+    read_array(alloc, arena, &tables, &sections, off, most)
+}
+
+/// The same in a file without tables whose section of encoded arrays has these bytes.
 fn read_at<'a>(
     alloc: Global,
     arena: &'a Bump,
@@ -16,13 +34,7 @@ fn read_at<'a>(
     off: u32,
     most: usize,
 ) -> Result<&'a [Value<'a>], Fault> {
-    let mut file = file_of(alloc, array)?;
-    if file.len() >= 112 {
-        close(&mut file);
-    }
-    let sections = open(&file)?;
-    let tables = Tables::read(alloc, arena, &sections)?;
-    read_array(alloc, arena, &tables, &sections, off, most)
+    read_in(alloc, arena, file_of(alloc, array)?, off, most)
 }
 
 /// The same at the section's begin.
@@ -101,6 +113,71 @@ fn an_array_is_read(rt: HostRuntime) -> Result<(), Fail> {
     match values {
         [Value::Null] => {}
         _ => panic!(rt; "the array at the second byte"),
+    }
+    Ok(())
+}
+
+/// The same in a file that has five strings, three types, a prototype, a field and a method.
+fn read_named<'a>(alloc: Global, arena: &'a Bump, array: &[u8]) -> Result<&'a [Value<'a>], Fault> {
+    let file = file_with_names(alloc, array)?;
+    read_in(alloc, arena, file, ARRAY_BEHIND_NAMES_AT, 5)
+}
+
+/// The field `LA;->a:I`.
+fn field_of<'a>(arena: &'a Bump) -> Result<&'a FieldRef<'a>, Fault> {
+    Ok(arena.try_alloc(FieldRef {
+        class: type_of(arena, "LA;")?,
+        name: text_of(arena, "a")?,
+        ty: type_of(arena, "I")?,
+    })?)
+}
+
+/// The method `LA;->b()V`.
+fn method_of<'a>(arena: &'a Bump) -> Result<&'a MethodRef<'a>, Fault> {
+    Ok(arena.try_alloc(MethodRef {
+        class: type_of(arena, "LA;")?,
+        name: text_of(arena, "b")?,
+        proto: place_proto(arena, type_of(arena, "V")?, &[])?,
+    })?)
+}
+
+#[test]
+fn names_are_read_by_their_index(rt: HostRuntime) -> Result<(), Fail> {
+    let arena = Bump::new(rt.alloc());
+    let field = field_of(&arena)?;
+    let method = method_of(&arena)?;
+    let cases: [(&[u8], Value<'_>); 6] = [
+        (&[0x17, 4], Value::Text(method.name)),
+        (&[0x37, 4, 0], Value::Text(method.name)),
+        (&[0x18, 1], Value::Desc(method.class)),
+        (&[0x19, 0], Value::Field(field)),
+        (&[0x1a, 0], Value::Method(method)),
+        (&[0x1b, 0], Value::Enum(field)),
+    ];
+    for (bytes, want) in cases {
+        let mut array = Vec::new(rt.alloc());
+        array.push(1)?;
+        array.extend_from_slice(bytes)?;
+        let values = read_named(rt.alloc(), &arena, &array)?;
+        assert!(rt;
+            values.len() == 1 && is_same(&values[0], &want),
+            "{bytes:?}"
+        );
+    }
+    Ok(())
+}
+
+#[test]
+fn the_first_index_past_each_table_is_refused(rt: HostRuntime) -> Result<(), Fail> {
+    let arena = Bump::new(rt.alloc());
+    for (head, index) in [(0x17, 5), (0x18, 3), (0x19, 1), (0x1a, 1), (0x1b, 1)] {
+        match read_named(rt.alloc(), &arena, &[0x01, head, index]) {
+            Ok(_) => panic!(rt; "index {index} under {head}"),
+            Err(fault) => {
+                let place = u64::from(ARRAY_BEHIND_NAMES_AT) + 1;
+                assert_eq!(rt; fault, Fault { code: 50, place }, "under {head}");
+            }
+        }
     }
     Ok(())
 }

@@ -1,4 +1,4 @@
-use Rattle.std.proofs.Common.{refl, sym, map, subst, ◌∙◌, true≢false}
+use Rattle.std.proofs.Common.{sym, map, subst, true≢false}
 use Rattle.dex_program.specs.View.{str, desc}
 use Rattle.dex_tables.specs.Stands.{StringStands, TypeStands}
 use Rattle.dex_tables.specs.TableFaults.{ParametersAt}

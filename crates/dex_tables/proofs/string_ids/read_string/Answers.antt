@@ -1,4 +1,3 @@
-use Rattle.std.proofs.Common.{arith}
 use Rattle.dex_tables.proofs.RowReading.{string_read, string_none}
 use Rattle.dex_tables.proofs.string_ids.read_string.Goals as goal
 

@@ -1,4 +1,4 @@
-use Rattle.std.proofs.Common.{arith, ◌≡◌, ◌<◌, ◌≤◌, ◌/◌, length, min, sym, ap, ◌∙◌, nat_cmp, inl, inr, ◌⊎◌}
+use Rattle.std.proofs.Common.{arith, ◌≡◌, ◌<◌, ◌/◌, length, min, sym, ap, ◌∙◌, nat_cmp, inl, inr}
 use Rattle.std.proofs.lemmas.Bool.{cases_lt}
 use Rattle.dex_tables.specs.Halves.{halves}
 use Rattle.dex_tables.proofs.HalvesLaws.{u16_at-halves}

@@ -1,4 +1,4 @@
-use Rattle.std.proofs.Common.{arith, ◌≡◌, ◌*◌, ◌/◌, ◌<◌, ◌≤◌, map, length, take, get_or, sym, ◌∙◌, ap, subst}
+use Rattle.std.proofs.Common.{arith, ◌<◌, ◌≤◌, map, length, ◌∙◌, subst}
 use Rattle.std.proofs.lemmas.List.{map-append, take_all}
 use Rattle.std.specs.List.{AllZip}
 use Rattle.dex_container.specs.Layout.{size_of}

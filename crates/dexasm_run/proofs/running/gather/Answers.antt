@@ -1,4 +1,4 @@
-use Rattle.std.proofs.Common.{rules, ◌≡◌, true, List, length, take, ℕ, ◌<◌, nat_lt, subst, sym, ◌∙◌}
+use Rattle.std.proofs.Common.{rules, ◌≡◌, subst, sym, ◌∙◌}
 use Rattle.std.specs.Io.KnownBytes.{Consumes}
 use Rattle.dexasm_run.proofs.Moves.{Consumes-end, is_end, Consumes-trans}
 use Rattle.dexasm_run.proofs.running.gather.Goals as goal

@@ -1,4 +1,4 @@
-use Rattle.std.proofs.Common.{◌≡◌, ◌-◌, ◌^◌, vec_len, false}
+use Rattle.std.proofs.Common.{◌-◌, ◌^◌, vec_len}
 use Rattle.std.specs.Io.KnownBytes.{Consumes}
 use Rattle.dexasm_run.proofs.running.gather.Given as goal
 

@@ -1,4 +1,4 @@
-use Rattle.std.proofs.Common.{rules, take}
+use Rattle.std.proofs.Common.{rules}
 use Rattle.std.proofs.lemmas.List.{take_rest}
 use Rattle.dexasm_run.proofs.Moves.{Appends-more}
 use Rattle.dexasm_run.proofs.running.write_all.Goals as goal
