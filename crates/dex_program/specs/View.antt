@@ -25,21 +25,27 @@ use Rattle.dex_program.specs.declared.value.Value.TheFolds.{fold-Value}
 
 -- ---- Names
 
+-- a string's UTF-16 units
 abbrev pub str : Str → content.Units
 str s = s.units.now
 
+-- a type's descriptor
 abbrev pub desc : Desc → content.Descriptor
 desc d = str d.text
 
+-- a prototype's return type and parameters
 abbrev pub proto : Proto → content.Proto
 proto p = record { ret = desc p.ret; params = map desc p.params.now }
 
+-- a field's class, name and type
 abbrev pub field_ref : FieldRef → content.FieldRef
 field_ref f = record { class = desc f.class; name = str f.name; ty = desc f.ty }
 
+-- a method's class, name and prototype
 abbrev pub method_ref : MethodRef → content.MethodRef
 method_ref m = record { class = desc m.class; name = str m.name; proto = proto m.proto.now }
 
+-- which of the four kinds, and the name
 abbrev pub name : Name → content.Name
 name (named.Text s) = content.OfText (str s)
 name (named.Desc d) = content.OfDesc (desc d)
@@ -72,6 +78,7 @@ value = fold-Value content.Value value_step
 
 -- ---- Instructions
 
+-- The same variant, with what its index names and where it branches to.
 abbrev pub insn : Insn → content.Insn
 insn (made.I10x op) = content.I10x op
 insn (made.I12x op a b) = content.I12x op a b
@@ -103,12 +110,15 @@ insn (made.Data width bytes) = content.Data width bytes.now
 
 -- ---- Code
 
+-- a caught type and its handler
 abbrev pub catch : Catch → content.Catch
 catch c = record { ty = desc c.ty; at = c.at }
 
+-- the instructions that a try covers, and its handlers in their order
 abbrev pub try : Try → content.Try
 try t = record { from = t.from; to = t.to; catches = map catch t.catches.now; catch_all = t.catch_all }
 
+-- a body: its registers, instructions and tries
 abbrev pub code : Code → content.Code
 code c = record {
   registers = c.registers;
@@ -120,9 +130,11 @@ code c = record {
 
 -- ---- Classes
 
+-- a field that a class defines
 abbrev pub member : Member → content.Member
 member m = record { name = str m.name; ty = desc m.ty; flags = m.flags }
 
+-- a method that a class defines, and its body if it has one
 abbrev pub method : Method → content.Method
 method m = record {
   name = str m.name;
@@ -131,6 +143,7 @@ method m = record {
   code = option_map (λ c. code c.now) m.code;
 }
 
+-- a class with all that it defines
 abbrev pub class : Class → content.Class
 class c = record {
   ty = desc c.ty;
@@ -145,5 +158,6 @@ class c = record {
   virtuals = map method c.virtuals.now;
 }
 
+-- the classes in their order
 abbrev pub program : Program → content.Program
 program p = map class p.classes.now

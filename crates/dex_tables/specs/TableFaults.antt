@@ -84,22 +84,25 @@ pub record IsFirstRow (Breaks : List ℕ → ℕ → ℕ → Type 0) (Holds : Li
   pub broken : BreaksAt Breaks b k row fault
   pub before : RowsHold Holds b row
 
--- The first fault of a table, where all that comes before the table holds.
+-- The first fault of string_ids, in a framed file.
 pub record IsStringFault (b : List ℕ) (fault : Fault) : Type 0 where
   pub framed : IsFramed b
   pub first : IsFirstRow StringBreaks StringHolds b 0 fault
 
+-- The first of type_ids, where all strings hold.
 pub record IsTypeFault (b : List ℕ) (fault : Fault) : Type 0 where
   pub framed : IsFramed b
   pub strings : StringsHold b
   pub first : IsFirstRow TypeBreaks TypeHolds b 1 fault
 
+-- The first of proto_ids, where all strings and types hold.
 pub record IsProtoFault (b : List ℕ) (fault : Fault) : Type 0 where
   pub framed : IsFramed b
   pub strings : StringsHold b
   pub types : TypesHold b
   pub first : IsFirstRow ProtoBreaks ProtoHolds b 2 fault
 
+-- The first of field_ids, where the three tables before it hold.
 pub record IsFieldFault (b : List ℕ) (fault : Fault) : Type 0 where
   pub framed : IsFramed b
   pub strings : StringsHold b
@@ -107,6 +110,7 @@ pub record IsFieldFault (b : List ℕ) (fault : Fault) : Type 0 where
   pub protos : ProtosHold b
   pub first : IsFirstRow FieldBreaks FieldHolds b 3 fault
 
+-- The first of method_ids, where the four tables before it hold.
 pub record IsMethodFault (b : List ℕ) (fault : Fault) : Type 0 where
   pub framed : IsFramed b
   pub strings : StringsHold b

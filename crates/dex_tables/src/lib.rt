@@ -36,7 +36,6 @@ mod ranks;
 // What holds of rows, names and ranks.
 mod file_laws;
 mod laws;
-
 #[cfg(test)]
 mod tests;
 

@@ -86,13 +86,15 @@ pub record NamesNothing (N : ℕ → Name → Type 0) (bytes : List ℕ) : Type 
   pub whole : head / 32 + 1 ≤ length rest
   pub nothing : (which : Name) → IsOfType (head % 32) which → ¬ N (unsigned_of (take (head / 32 + 1) rest)) which
 
--- The faults: 48 has the array's place, 50 and 51 that of the value, from where the section has these bytes to its end.
+-- 48 has the array's place.
 abbrev pub values_fault : ℕ → Fault
 values_fault off = record { code = 48; place = off }
 
+-- 50 has the value's place: the section has these bytes from there to its end.
 abbrev pub kind_fault : ℕ → List ℕ → Fault
 kind_fault end bytes = record { code = 50; place = end - length bytes }
 
+-- 51 has the value's place too.
 abbrev pub depth_fault : ℕ → List ℕ → Fault
 depth_fault end bytes = record { code = 51; place = end - length bytes }
 

@@ -11,7 +11,7 @@ use Rattle.dex_value.specs.declared.types.NameType.TheVariants as named
 use Rattle.dex_value.specs.declared.types.SizedType.{SizedType}
 use Rattle.dex_value.specs.declared.types.SizedType.TheVariants as sized
 
--- The type in a head.
+-- The type in the head of a number.
 abbrev pub number_code : NumberType → ℕ
 number_code number.Byte = 0
 number_code number.Short = 2
@@ -21,6 +21,7 @@ number_code number.Long = 6
 number_code number.Float = 16
 number_code number.Double = 17
 
+-- The type in the head of a name.
 abbrev pub name_code : NameType → ℕ
 name_code named.String = 23
 name_code named.Type = 24
@@ -36,6 +37,7 @@ kind_of named.Field = kind.Field
 kind_of named.Method = kind.Method
 kind_of named.Enum = kind.Field
 
+-- The type in the head of a number or a name.
 abbrev pub sized_code : SizedType → ℕ
 sized_code (sized.Number ty) = number_code ty
 sized_code (sized.Name ty) = name_code ty

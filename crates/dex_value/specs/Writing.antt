@@ -22,13 +22,15 @@ pub record IsHighWidth (bits full width : ℕ) : Type 0 where
   pub zeros : bits % 256 ^ (full - width) ≡ 0
   pub least : (k : ℕ) → 0 < k → k ≤ full → bits % 256 ^ (full - k) ≡ 0 → width ≤ k
 
--- The spellings of a number of a type, at most `widest` bytes behind the head.
+-- The spellings of a signed number of a type, at most `widest` bytes behind the head.
 abbrev pub SignedAs : ℕ → ℕ → List ℕ → ℤ → Type 0
 SignedAs type widest bytes n = Sized type widest (λ low. n ≡ signed_of low) bytes
 
+-- The same of an unsigned number.
 abbrev pub UnsignedAs : ℕ → ℕ → List ℕ → ℕ → Type 0
 UnsignedAs type widest bytes n = Sized type widest (λ low. n ≡ unsigned_of low) bytes
 
+-- The same of bits whose high-order bytes are spelled.
 abbrev pub HighAs : ℕ → ℕ → List ℕ → ℕ → Type 0
 HighAs type widest bytes bits = Sized type widest (λ high. bits ≡ high_of widest high) bytes
 
