@@ -5,13 +5,14 @@ use Rattle.std.proofs.lemmas.List.{length-append, length-map, map-append, take_m
 use Rattle.dex_base.specs.Grammar.{Appends, Each}
 use Rattle.dex_base.specs.Leb128.{Spells, Shortest}
 use Rattle.dex_base.proofs.GrammarLaws.{Each-appends_none, Each-appends_more}
-use Rattle.dex_program.specs.Content.{Name, OfText, OfDesc, OfField, OfMethod, FieldRef, Value, Float, Enum, Array, Values, no_values, more_values, values}
+use Rattle.dex_program.specs.Content.{Name, OfText, OfDesc, OfField, OfMethod, FieldRef, Value, Float, Enum, Array, Values, more_values, values}
 use Rattle.dex_program.specs.declared.value.Value as made
 use Rattle.dex_program.specs.View.{value}
 use Rattle.dex_tables.specs.Closure.{Five, AreRising, NameRanks}
 use Rattle.dex_tables.proofs.PlaceLemmas.{rank_at}
 use Rattle.dex_value.specs.Spelling.{unsigned_of, SpellsValue, SpellsValues, SpellsArray, count_of}
 use Rattle.dex_value.specs.Named.{NamesHold, AllNamesHold, IsRanked}
+use Rattle.dex_value.specs.Counts.{CountsFit, AllCountsFit}
 use Rattle.dex_value.specs.Wide.{wide_value, wide_values}
 use Rattle.dex_value.specs.Writing.{UnsignedAs, HighAs, IndexAs, HoldsMore}
 use Rattle.dex_value.proofs.Lists.{count_of-values}
@@ -58,22 +59,27 @@ from_next xs i d some = rw (add-one, drop-cons xs i d some) refl
 pub record Writing (s : Five) (old out : List ℕ) (xs : List made.Value) (i : ℕ) : Type 0 where
   pub done : Appends (Each (Shortest (SpellsValue (NameRanks s)))) old out (map value (take i xs))
   pub named : AllNamesHold (IsRanked s) (from xs i)
+  pub counts : AllCountsFit (from xs i)
   pub less : wide_values (from xs i) ≤ wide_values (values (map value xs))
 
 pub next_named : (P : Name → Type 0) (xs : List made.Value) (i : ℕ) (d : made.Value) → i < length xs → AllNamesHold P (from xs i) → NamesHold P (value (get_or xs i d)) × AllNamesHold P (from xs (i + 1))
 next_named P xs i d some h = let t : AllNamesHold P (more_values (value (get_or xs i d)) (from xs (i + 1))) = subst (λ (vs : Values). AllNamesHold P vs) (from_next xs i d some) h in (t.0, t.1)
 
+pub next_counts : (xs : List made.Value) (i : ℕ) (d : made.Value) → i < length xs → AllCountsFit (from xs i) → CountsFit (value (get_or xs i d)) × AllCountsFit (from xs (i + 1))
+next_counts xs i d some h = let t : AllCountsFit (more_values (value (get_or xs i d)) (from xs (i + 1))) = subst (λ (vs : Values). AllCountsFit vs) (from_next xs i d some) h in (t.0, t.1)
+
 pub next_wide : (xs : List made.Value) (i : ℕ) (d : made.Value) → i < length xs → wide_values (from xs i) ≡ wide_value (value (get_or xs i d)) + wide_values (from xs (i + 1))
 next_wide xs i d some = ap wide_values (from_next xs i d some)
 
-pub writing_start : (s : Five) (old : List ℕ) (xs : List made.Value) → AllNamesHold (IsRanked s) (values (map value xs)) → Writing s old old xs 0
-writing_start s old xs named = record { done = Each-appends_none (Shortest (SpellsValue (NameRanks s))) old; named = named; less = omega arith }
+pub writing_start : (s : Five) (old : List ℕ) (xs : List made.Value) → AllNamesHold (IsRanked s) (values (map value xs)) → AllCountsFit (values (map value xs)) → Writing s old old xs 0
+writing_start s old xs named counts = record { done = Each-appends_none (Shortest (SpellsValue (NameRanks s))) old; named = named; counts = counts; less = omega arith }
 
 pub writing_next : (s : Five) (old mid new : List ℕ) (xs : List made.Value) (i : ℕ) (d : made.Value) → i < length xs → Writing s old mid xs i → Appends (Shortest (SpellsValue (NameRanks s))) mid new (value (get_or xs i d)) → Writing s old new xs (i + 1)
 writing_next s old mid new xs i d some w a = record {
   done = subst (λ (vs : List Value). Appends (Each (Shortest (SpellsValue (NameRanks s)))) old new vs) (sym (map-append value (take i xs) (get_or xs i d ∷ [])) ∙ ap (map value) (sym (take_more xs i d some)))
       (Each-appends_more (Shortest (SpellsValue (NameRanks s))) old mid new (map value (take i xs)) (value (get_or xs i d)) w.done a);
   named = (next_named (IsRanked s) xs i d some w.named).1;
+  counts = (next_counts xs i d some w.counts).1;
   less = let e = next_wide xs i d some in let h = w.less in omega (arith, e, h);
 }
 
@@ -90,20 +96,11 @@ writing_stops s old mid new xs i w m = (w.done.bytes ++ m.0, m.1 ∙ ap (λ l. l
 
 -- ---- arrays
 
-some_wide : (v : Value) → 0 < wide_value v
-some_wide (Array vs) = omega arith
-some_wide _ = omega arith
-
--- values take at least as many bytes as there are of them
-count_wide : (vs : Values) → count_of vs ≤ wide_values vs
-count_wide no_values = omega arith
-count_wide (more_values v vs) = let r = count_wide vs in let o = some_wide v in omega (arith, r, o)
-
-pub counted_small : (xs : List made.Value) → wide_values (values (map value xs)) ≤ 4294967295 → length xs < 2 ^ 32
-counted_small xs small =
-    let c = count_wide (values (map value xs)) in
+-- an inner array's count, as the number of its values in memory
+pub counted : (xs : List made.Value) → count_of (values (map value xs)) < 2 ^ 32 → length xs < 2 ^ 32
+counted xs fits =
     let e : count_of (values (map value xs)) ≡ length xs = count_of-values (map value xs) ∙ length-map xs value in
-    omega (arith, c, e, small)
+    omega (arith, e, fits)
 
 -- each is the shortest, so are all together
 each_least : {V : Type 0} (G : List ℕ → V → Type 0) (vs : List V) (a b : List ℕ) → Each (Shortest G) a vs → Each G b vs → length a ≤ length b

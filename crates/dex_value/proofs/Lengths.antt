@@ -43,7 +43,7 @@ module _ (N : ℕ → Name → Type 0) where
         let l = length-append s.0 s.1 in
         omega (arith, front, back, e, l)
 
-  each_values : (vs : List Value) (bytes : List ℕ) → Each (SpellsValue N) bytes vs → SpellsValues N bytes (values vs)
+  pub each_values : (vs : List Value) (bytes : List ℕ) → Each (SpellsValue N) bytes vs → SpellsValues N bytes (values vs)
   each_values [] bytes s = s
   each_values (v ∷ vs) bytes s = (s.0, s.1, s.2, s.3, each_values vs s.1 s.4)
 

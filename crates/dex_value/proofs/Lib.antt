@@ -7,6 +7,7 @@ pub mod Taking
 pub mod Refusing
 pub mod Places
 pub mod Lengths
+pub mod Fitting
 pub mod Weaker
 pub mod Narrow
 pub mod Appending

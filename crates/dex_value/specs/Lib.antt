@@ -4,5 +4,6 @@ pub mod Unique
 pub mod Faults
 pub mod Reading
 pub mod Wide
+pub mod Counts
 pub mod Named
 pub mod Writing

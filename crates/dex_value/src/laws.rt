@@ -2,11 +2,13 @@
 //! carries a spelling over to a naming that the first implies.
 ghost use Rattle.std.specs.Prelude.{ℕ, List, length, ◌<◌, ◌≤◌};
 ghost use Rattle.dex_base.specs.Grammar.{IsPrefixUnique};
-ghost use Rattle.dex_program.specs.Content.{Name, Value};
+ghost use Rattle.dex_program.specs.Content.{Name, Value, values};
 ghost use Rattle.dex_tables.specs.Names.{Names, NameIsAt};
 ghost use Rattle.dex_tables.specs.Closure.{Five, NameRanks};
 ghost use Rattle.dex_value.specs.Spelling.{SpellsArray};
 ghost use Rattle.dex_value.specs.Wide.{wide_array};
+ghost use Rattle.dex_value.specs.Named.{AllNamesHold, IsRanked};
+ghost use Rattle.dex_value.specs.Counts.{ArrayFits};
 
 /// No encoded_array begins another one, and it spells one list of values.
 pub fn array_is_prefix_unique()
@@ -17,6 +19,13 @@ pub fn array_is_prefix_unique()
 pub fn array_is_short()
     ensures some { (ranks : Five) (bytes : List ℕ) (vs : List Value) → SpellsArray (NameRanks ranks) bytes vs → 0 < length bytes }
     ensures wide { (ranks : Five) (bytes : List ℕ) (vs : List Value) → SpellsArray (NameRanks ranks) bytes vs → length bytes ≤ wide_array vs }
+{}
+
+/// What `put_array` asks of values holds of all that any bytes spell. Counts fit also where the plain sum has 32 bits.
+pub fn spelled_array_can_be_put()
+    ensures named { (ranks : Five) (bytes : List ℕ) (vs : List Value) → SpellsArray (NameRanks ranks) bytes vs → AllNamesHold (IsRanked ranks) (values vs) }
+    ensures counts { (ranks : Five) (bytes : List ℕ) (vs : List Value) → SpellsArray (NameRanks ranks) bytes vs → ArrayFits vs }
+    ensures short { (vs : List Value) → wide_array vs ≤ 4294967295 → ArrayFits vs }
 {}
 
 /// A spelling by ranks is one in a file whose rows are the ranked names.

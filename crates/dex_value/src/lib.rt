@@ -20,7 +20,9 @@ mod writing;
 // What crates above rest on.
 mod laws;
 
-pub use laws::{array_carries_over, array_is_prefix_unique, array_is_short};
+pub use laws::{
+    array_carries_over, array_is_prefix_unique, array_is_short, spelled_array_can_be_put,
+};
 pub use reading::read_array;
 pub use writing::put_array;
 

@@ -10,7 +10,7 @@ ghost use Rattle.dex_program.specs.Depth.{depth};
 ghost use Rattle.dex_tables.specs.Closure.{NameRanks};
 ghost use Rattle.dex_value.specs.Spelling.{Sized, unsigned_of, type_of, SpellsValue, SpellsArray};
 ghost use Rattle.dex_value.specs.Named.{NamesHold, AllNamesHold, IsRanked};
-ghost use Rattle.dex_value.specs.Wide.{wide_value, wide_values, wide_array};
+ghost use Rattle.dex_value.specs.Counts.{CountsFit, AllCountsFit, ArrayFits};
 ghost use Rattle.dex_value.specs.Writing.{SignedAs, UnsignedAs, HighAs, IndexAs, size_of, sized, HoldsMore};
 
 use crate::widths::{high_width, signed_width, unsigned_width};
@@ -125,7 +125,7 @@ fn put_leaf(out: &mut Vec<u8>, ranks: &Ranks<'_>, one: &Value<'_>) -> Result<(),
 #[cycle(values)]
 fn put_value(out: &mut Vec<u8>, ranks: &Ranks<'_>, one: &Value<'_>) -> Result<(), Fault>
     requires named { NamesHold (IsRanked ranks.now) (value one.now) }
-    requires small { wide_value (value one.now) ≤ 4294967295 }
+    requires counts { CountsFit (value one.now) }
     ensures ok { OnOk result (Appends (Shortest (SpellsValue (NameRanks ranks.now))) out.old.items out.new.items (value one.now)) }
     ensures err { OnErr result (HoldsMore out.old.items out.new.items) }
     ensures memory { IsOkUnless result memory }
@@ -144,7 +144,7 @@ fn put_value(out: &mut Vec<u8>, ranks: &Ranks<'_>, one: &Value<'_>) -> Result<()
 #[cycle(values)]
 fn put_values(out: &mut Vec<u8>, ranks: &Ranks<'_>, all: &[Value<'_>]) -> Result<(), Fault>
     requires named { AllNamesHold (IsRanked ranks.now) (content.values (map value all.now)) }
-    requires small { wide_values (content.values (map value all.now)) ≤ 4294967295 }
+    requires counts { AllCountsFit (content.values (map value all.now)) }
     ensures ok { OnOk result (Appends (Each (Shortest (SpellsValue (NameRanks ranks.now)))) out.old.items out.new.items (map value all.now)) }
     ensures err { OnErr result (HoldsMore out.old.items out.new.items) }
     ensures memory { IsOkUnless result memory }
@@ -158,7 +158,7 @@ fn put_values(out: &mut Vec<u8>, ranks: &Ranks<'_>, all: &[Value<'_>]) -> Result
 /// Appends a count and values.
 fn put_counted(out: &mut Vec<u8>, ranks: &Ranks<'_>, all: &[Value<'_>]) -> Result<(), Fault>
     requires named { AllNamesHold (IsRanked ranks.now) (content.values (map value all.now)) }
-    requires small { wide_array (map value all.now) ≤ 4294967295 }
+    requires counts { ArrayFits (map value all.now) }
     ensures ok { OnOk result (Appends (Shortest (SpellsArray (NameRanks ranks.now))) out.old.items out.new.items (map value all.now)) }
     ensures err { OnErr result (HoldsMore out.old.items out.new.items) }
     ensures memory { IsOkUnless result memory }
@@ -170,13 +170,13 @@ fn put_counted(out: &mut Vec<u8>, ranks: &Ranks<'_>, all: &[Value<'_>]) -> Resul
 /// Appends the encoded_array of these values: their number as uleb128, then each in the fewest bytes that spell it, its
 /// names by their ranks ("Dalvik Executable format", "encoded_array format").
 ///
-/// Every name in the values has a rank of at most 4294967295, and their plain sum of bytes, with five bytes for each
-/// count and nine for each value that is no array, comes to at most 4294967295.
+/// Every name in the values has to have a rank of at most 4294967295, and no array may have more than 4294967295 values.
+/// All that some bytes spell is so (`spelled_array_can_be_put`), so nothing that can be written is kept out.
 ///
 /// The only error is want of memory, and then `out` holds what it held.
 pub fn put_array(out: &mut Vec<u8>, ranks: &Ranks<'_>, values: &[Value<'_>]) -> Result<(), Fault>
     requires named { AllNamesHold (IsRanked ranks.now) (content.values (map value values.now)) }
-    requires small { wide_array (map value values.now) ≤ 4294967295 }
+    requires counts { ArrayFits (map value values.now) }
     ensures ok { OnOk result (Appends (Shortest (SpellsArray (NameRanks ranks.now))) out.old.items out.new.items (map value values.now)) }
     ensures err { OnErr result (out.new.items ≡ out.old.items) }
     ensures memory { IsOkUnless result memory }

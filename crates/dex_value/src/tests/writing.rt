@@ -1,9 +1,9 @@
-ghost use Rattle.std.specs.Prelude.{◌≡◌, ◌≤◌, IsTrue, map};
+ghost use Rattle.std.specs.Prelude.{◌≤◌, IsTrue, length, map};
 ghost use Rattle.dex_program.specs.Content as content;
 ghost use Rattle.dex_program.specs.View as view;
 ghost use Rattle.dex_program.specs.View.{value};
 ghost use Rattle.dex_value.specs.Named.{NamesHold, AllNamesHold, IsRanked};
-ghost use Rattle.dex_value.specs.Wide.{wide_value, wide_values};
+ghost use Rattle.dex_value.specs.Counts.{CountsFit, AllCountsFit};
 
 use crate::put_array;
 use dex_base::Fault;
@@ -24,7 +24,7 @@ fn has_rank(ranks: &Ranks<'_>, name: Name<'_>) -> bool
 /// Whether the name of a value, if it has one, has a rank. False for arrays.
 fn is_ranked(ranks: &Ranks<'_>, one: &Value<'_>) -> bool
     ensures named { IsTrue result → NamesHold (IsRanked ranks.now) (value one.now) }
-    ensures wide { IsTrue result → wide_value (value one.now) ≡ 9 }
+    ensures counts { IsTrue result → CountsFit (value one.now) }
 {
     match one {
         Value::Text(text) => has_rank(ranks, Name::Text(*text)),
@@ -97,7 +97,8 @@ fn a_value_takes_the_fewest_bytes(rt: HostRuntime) -> Result<(), Fail> {
 /// Appends the array of one array of these values.
 fn put_inner(out: &mut Vec<u8>, ranks: &Ranks<'_>, inner: &[Value<'_>]) -> Result<(), Fault>
     requires named { AllNamesHold (IsRanked ranks.now) (content.values (map value inner.now)) }
-    requires small { wide_values (content.values (map value inner.now)) ≤ 1000 }
+    requires small { length inner.now ≤ 1000 }
+    requires counts { AllCountsFit (content.values (map value inner.now)) }
 {
     put_array(out, ranks, &[Value::Array(inner)])
 }

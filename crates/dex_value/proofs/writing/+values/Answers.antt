@@ -10,14 +10,15 @@ use Rattle.dex_program.proofs.ValueViews.{value_array}
 use Rattle.dex_tables.specs.Closure.{NameRanks}
 use Rattle.dex_value.specs.Spelling.{SpellsValue}
 use Rattle.dex_value.specs.Named.{IsRanked, NamesHold}
+use Rattle.dex_value.specs.Counts.{CountsFit}
 use Rattle.dex_value.specs.Wide.{wide_value, wide_values}
-use Rattle.dex_value.proofs.Appending.{counted_small, array_value_appends, next_named, one_wide, writing_next, writing_stops, on_err}
+use Rattle.dex_value.proofs.Appending.{counted, array_value_appends, next_named, next_counts, one_wide, writing_next, writing_stops, on_err}
 use Rattle.dex_value.proofs.writing.+values.Goals as goal
 
 pub put_value-overflow_cast-all : goal.put_value-overflow_cast-all
 put_value-overflow_cast-all t c =
-    let w = rw (c.in-Array.is, value_array c.in-Array.all) at c.requires.small in
-    let n = counted_small c.in-Array.all.now (omega (arith, w)) in
+    let w = rw (c.in-Array.is, value_array c.in-Array.all) at c.requires.counts in
+    let n = counted c.in-Array.all.now w.0 in
     omega (arith, n)
 
 pub put_value-returns-in_ok-put_uleb-in-Array-clause-ok : goal.put_value-returns-in_ok-put_uleb-in-Array-clause-ok
@@ -34,9 +35,9 @@ put_values-put_value-requires t c =
     let n = (next_named (IsRanked c.args.ranks.now) c.args.all.now c.loop-one.one-index c.one-item.result c.loop-one-test.true c.loop-one.invariant.named).0 in
     let is : get_or c.args.all.now c.loop-one.one-index c.one-item.result ≡ c.one-item.result = sym c.one-item.is in
     let few : wide_value (value c.one-item.result) ≤ wide_values (values (map value c.args.all.now)) = subst (λ (v : made.Value). wide_value (value v) ≤ wide_values (values (map value c.args.all.now))) is w in
-    let small = c.requires.small in
+    let fits = (next_counts c.args.all.now c.loop-one.one-index c.one-item.result c.loop-one-test.true c.loop-one.invariant.counts).0 in
     let most = c.decreases in
-    (omega (arith, few, most), (subst (λ (v : made.Value). NamesHold (IsRanked c.args.ranks.now) (value v)) is n, omega (arith, few, small)))
+    (omega (arith, few, most), (subst (λ (v : made.Value). NamesHold (IsRanked c.args.ranks.now) (value v)) is n, subst (λ (v : made.Value). CountsFit (value v)) is fits))
 
 pub put_values-returns-in_err-put_value-clause-err : goal.put_values-returns-in_err-put_value-clause-err
 put_values-returns-in_err-put_value-clause-err t c =

@@ -3,14 +3,14 @@ use Rattle.std.proofs.lemmas.List.{length-map}
 use Rattle.std.proofs.lemmas.Result.{on_ok_weaker}
 use Rattle.dex_program.specs.View.{value}
 use Rattle.dex_tables.specs.Closure.{NameRanks}
-use Rattle.dex_value.proofs.Appending.{counted_small, array_appends}
+use Rattle.dex_value.proofs.Appending.{array_appends}
 use Rattle.dex_value.proofs.writing.put_counted.Goals as goal
 
 pub overflow_cast-all : goal.overflow_cast-all
 overflow_cast-all c =
-    let w = c.requires.small in
-    let n = counted_small c.args.all.now (omega (arith, w)) in
-    omega (arith, n)
+    let n = c.requires.counts.own in
+    let l = length-map c.args.all.now value in
+    omega (arith, n, l)
 
 pub returns-clause-ok : goal.returns-clause-ok
 returns-clause-ok c =
