@@ -10,12 +10,12 @@ use Rattle.dex_program.specs.declared.value.Value as made
 use Rattle.dex_program.specs.View.{value}
 use Rattle.dex_tables.specs.Closure.{Five, AreRising, NameRanks}
 use Rattle.dex_tables.proofs.PlaceLemmas.{rank_at}
-use Rattle.dex_value.specs.Spelling.{unsigned_of, SpellsValue, SpellsValues, SpellsArray, count_of}
+use Rattle.dex_value.specs.Spelling.{unsigned_of, SpellsValue, SpellsArray, count_of}
 use Rattle.dex_value.specs.Named.{NamesHold, AllNamesHold, IsRanked}
 use Rattle.dex_value.specs.Counts.{CountsFit, AllCountsFit}
 use Rattle.dex_value.specs.Wide.{wide_value, wide_values}
 use Rattle.dex_value.specs.Writing.{UnsignedAs, HighAs, IndexAs, HoldsMore}
-use Rattle.dex_value.proofs.Lists.{count_of-values}
+use Rattle.dex_value.proofs.Lists.{count_of-values, each-values, values-each}
 
 -- ---- one value
 
@@ -116,14 +116,6 @@ each_spelled : {V : Type 0} (G : List ℕ → V → Type 0) (vs : List V) (a : L
 each_spelled G [] a p = p
 each_spelled G (v ∷ vs) a p = (p.0, p.1, p.2, p.3.spelled, each_spelled G vs p.1 p.4)
 
-to_values : (N : ℕ → Name → Type 0) (vs : List Value) (a : List ℕ) → Each (SpellsValue N) a vs → SpellsValues N a (values vs)
-to_values N [] a p = p
-to_values N (v ∷ vs) a p = (p.0, p.1, p.2, p.3, to_values N vs p.1 p.4)
-
-from_values : (N : ℕ → Name → Type 0) (vs : List Value) (a : List ℕ) → SpellsValues N a (values vs) → Each (SpellsValue N) a vs
-from_values N [] a p = p
-from_values N (v ∷ vs) a p = (p.0, p.1, p.2, p.3, from_values N vs p.1 p.4)
-
 module _ (N : ℕ → Name → Type 0) (old mid new : List ℕ) (n : ℕ) (vs : List Value) where
   -- a count and values, each the shortest, are the shortest array
   pub array_appends : length vs ≡ n → Appends (Shortest Spells) old mid n → Appends (Each (Shortest (SpellsValue N))) mid new vs → Appends (Shortest (SpellsArray N)) old new vs
@@ -151,10 +143,10 @@ module _ (N : ℕ → Name → Type 0) (old mid new : List ℕ) (n : ℕ) (vs : 
         bytes = 28 ∷ x.bytes;
         joined = x.joined ∙ ap (λ l. l ++ x.bytes) head ∙ append_assoc start (28 ∷ []) x.bytes;
         spelled = record {
-          spelled = (x.bytes, refl, record { count = s.front; back = s.back; joined = s.joined; counted = subst (λ (k : ℕ). Spells s.front k) (sym count) s.first; means = to_values N vs s.back s.second.1 });
+          spelled = (x.bytes, refl, record { count = s.front; back = s.back; joined = s.joined; counted = subst (λ (k : ℕ). Spells s.front k) (sym count) s.first; means = each-values N vs s.back s.second.1 });
           least = λ other o.
               let b = o.2 in
-              let k = x.spelled.least o.0 (record { front = b.count; back = b.back; joined = b.joined; first = subst (λ (k : ℕ). Spells b.count k) count b.counted; second = (refl, from_values N vs b.back b.means) }) in
+              let k = x.spelled.least o.0 (record { front = b.count; back = b.back; joined = b.joined; first = subst (λ (k : ℕ). Spells b.count k) count b.counted; second = (refl, values-each N vs b.back b.means) }) in
               let e = ap length o.1 in
               omega (arith, k, e);
         };

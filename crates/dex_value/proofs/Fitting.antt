@@ -7,8 +7,7 @@ use Rattle.dex_value.specs.Named.{NamesHold, AllNamesHold, IsRanked}
 use Rattle.dex_value.specs.Counts.{CountsFit, AllCountsFit, ArrayFits}
 use Rattle.dex_value.specs.Wide.{wide_value, wide_values, wide_array}
 use Rattle.dex_value.proofs.Ranges.{unsigned_below}
-use Rattle.dex_value.proofs.Lists.{count_of-values}
-use Rattle.dex_value.proofs.Lengths.{each_values}
+use Rattle.dex_value.proofs.Lists.{count_of-values, each-values}
 
 -- ---- by a spelling
 
@@ -28,7 +27,7 @@ module _ (ranks : Five) where
     values_ranked (more_values v vs) bytes s = (value_ranked v s.0 s.3, values_ranked vs s.1 s.4)
 
   pub spelled_ranked : (bytes : List ℕ) (vs : List Value) → SpellsArray (NameRanks ranks) bytes vs → AllNamesHold (IsRanked ranks) (values vs)
-  spelled_ranked bytes vs s = values_ranked (values vs) s.back (each_values (NameRanks ranks) vs s.back s.second.1)
+  spelled_ranked bytes vs s = values_ranked (values vs) s.back (each-values (NameRanks ranks) vs s.back s.second.1)
 
 module _ (N : ℕ → Name → Type 0) where
   mutual
@@ -41,7 +40,7 @@ module _ (N : ℕ → Name → Type 0) where
     values_fit (more_values v vs) bytes s = (value_fits v s.0 s.3, values_fit vs s.1 s.4)
 
   pub spelled_fits : (bytes : List ℕ) (vs : List Value) → SpellsArray N bytes vs → ArrayFits vs
-  spelled_fits bytes vs s = record { own = s.first.range; inner = values_fit (values vs) s.back (each_values N vs s.back s.second.1) }
+  spelled_fits bytes vs s = record { own = s.first.range; inner = values_fit (values vs) s.back (each-values N vs s.back s.second.1) }
 
 -- ---- by the plain sum
 

@@ -1,11 +1,11 @@
 -- How long spellings are.
-use Rattle.std.proofs.Common.{ℕ, ◌≤◌, List, [], ◌∷◌, length, ap, true, false, arith, lit≤}
+use Rattle.std.proofs.Common.{ℕ, ◌≤◌, List, length, ap, true, false, arith, lit≤}
 use Rattle.std.proofs.lemmas.List.{length-append}
-use Rattle.dex_base.specs.Grammar.{Each}
 use Rattle.dex_base.proofs.LengthLaws.{IsAtMost, Spells-most}
 use Rattle.dex_program.specs.Content.{Name, Value, Byte, Short, Char, Int, Long, Float, Double, Named, Enum, Array, Null, Boolean, Values, no_values, more_values, values}
 use Rattle.dex_value.specs.Spelling.{Sized, SpellsValue, SpellsValues, SpellsArray, count_of}
 use Rattle.dex_value.specs.Wide.{wide_value, wide_values, wide_array}
+use Rattle.dex_value.proofs.Lists.{each-values}
 
 sized_most : (type widest : ℕ) (Means : List ℕ → Type 0) (bytes : List ℕ) → widest ≤ 8 → Sized type widest Means bytes → length bytes ≤ 9
 sized_most type widest Means bytes few s = let f = s.few in let e = ap length s.joined in omega (arith, f, e, few)
@@ -43,15 +43,11 @@ module _ (N : ℕ → Name → Type 0) where
         let l = length-append s.0 s.1 in
         omega (arith, front, back, e, l)
 
-  pub each_values : (vs : List Value) (bytes : List ℕ) → Each (SpellsValue N) bytes vs → SpellsValues N bytes (values vs)
-  each_values [] bytes s = s
-  each_values (v ∷ vs) bytes s = (s.0, s.1, s.2, s.3, each_values vs s.1 s.4)
-
   -- an encoded_array is at most as long as its plain sum
   pub SpellsArray-most : IsAtMost (SpellsArray N) wide_array
   SpellsArray-most bytes vs s =
       let count = Spells-most s.front (length vs) s.first in
-      let back = values_most (values vs) s.back (each_values vs s.back s.second.1) in
+      let back = values_most (values vs) s.back (each-values N vs s.back s.second.1) in
       let e = ap length s.joined in
       let l = length-append s.front s.back in
       omega (arith, count, back, e, l)

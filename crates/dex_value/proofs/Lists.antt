@@ -24,15 +24,21 @@ pub count_of-values : (vs : List Value) → count_of (values vs) ≡ length vs
 count_of-values [] = refl
 count_of-values (v ∷ vs) = ap suc (count_of-values vs)
 
+module _ (N : ℕ → Name → Type 0) where
+  -- the bytes of a list of values are those of the content's own list
+  pub each-values : (vs : List Value) (bytes : List ℕ) → Each (SpellsValue N) bytes vs → SpellsValues N bytes (values vs)
+  each-values [] bytes p = p
+  each-values (v ∷ vs) bytes p = (p.0, p.1, p.2, p.3, each-values vs p.1 p.4)
+
+  pub values-each : (vs : List Value) (bytes : List ℕ) → SpellsValues N bytes (values vs) → Each (SpellsValue N) bytes vs
+  values-each [] bytes p = p
+  values-each (v ∷ vs) bytes p = (p.0, p.1, p.2, p.3, values-each vs p.1 p.4)
+
 module _ (N : ℕ → Name → Type 0) (limit : ℕ) where
   pub each-listed : (bytes : List ℕ) (vs : Values) → SpellsValues N bytes vs → greatest_depth vs ≤ limit → Each (Shallow N limit) bytes (listed vs)
   each-listed bytes no_values p d = p
   each-listed bytes (more_values v vs) p d =
       (p.0, p.1, p.2, record { spelled = p.3; deep = omega arith }, each-listed p.1 vs p.4 (omega arith))
-
-  pub listed-each : (bytes : List ℕ) (vs : List Value) → Each (Shallow N limit) bytes vs → SpellsValues N bytes (values vs)
-  listed-each bytes [] p = p
-  listed-each bytes (v ∷ vs) p = (p.0, p.1, p.2, p.3.spelled, listed-each p.1 vs p.4)
 
   pub each-depth : (bytes : List ℕ) (vs : List Value) → Each (Shallow N limit) bytes vs → greatest_depth (values vs) ≤ limit
   each-depth bytes [] p = omega arith

@@ -14,7 +14,7 @@ use Rattle.dex_value.specs.Spelling.{SpellsValue, SpellsArray}
 use Rattle.dex_value.specs.Standing.{Shallow}
 use Rattle.dex_value.specs.Faults.{widest_of, OwnBreaks, NextBreaks, ValueBreaks}
 use Rattle.dex_value.specs.Reading.{Stands}
-use Rattle.dex_value.proofs.Lists.{listed-each, each-depth, each-deep, each-spelled, count_of-values}
+use Rattle.dex_value.proofs.Lists.{each-values, each-depth, each-deep, each-spelled, count_of-values}
 use Rattle.dex_value.proofs.Fronts.{stands_spells}
 
 -- the bytes of a front are bytes
@@ -64,7 +64,7 @@ module _ (N : ℕ → Name → Type 0) where
               back = t.front;
               joined = refl;
               counted = subst (λ (k : ℕ). Spells (take len rest) k) (sym t.spelled.0 ∙ sym (count_of-values vs)) count.spelled;
-              means = listed-each N (limit - 1) t.front vs each;
+              means = each-values N vs t.front (each-spelled N (limit - 1) t.front vs each);
             },
           );
           deep = omega (arith, d);

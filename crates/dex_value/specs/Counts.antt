@@ -4,7 +4,7 @@ use Rattle.std.specs.Prelude.{⊤, ◌<◌, ◌^◌, List, length}
 use Rattle.dex_program.specs.Content.{Value, Array, Values, no_values, more_values, values}
 use Rattle.dex_value.specs.Spelling.{count_of}
 
--- The count of each array in a value fits, and in values.
+-- Of each array in a value, or in values, the count has 32 bits.
 abbrev mutual
   pub CountsFit : Value → Type 0
   CountsFit (Array vs) = (count_of vs < 2 ^ 32) × AllCountsFit vs
@@ -14,7 +14,7 @@ abbrev mutual
   AllCountsFit no_values = ⊤
   AllCountsFit (more_values v vs) = CountsFit v × AllCountsFit vs
 
--- In an encoded_array its own count fits too.
+-- In an encoded_array its own count has 32 bits too.
 pub record ArrayFits (vs : List Value) : Type 0 where
   pub own : length vs < 2 ^ 32
   pub inner : AllCountsFit (values vs)
