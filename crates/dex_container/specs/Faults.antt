@@ -4,15 +4,15 @@ use Rattle.std.specs.Prelude.{◌≡◌, ℕ, ◌+◌, ◌<◌, ◌≤◌, ◌==
 use Rattle.dex_base.specs.declared.fault.Fault.{Fault}
 use Rattle.dex_base.specs.Fields.{u32_at}
 use Rattle.dex_container.specs.Layout.{size_field, size_of, entry_count, entry_place}
-use Rattle.dex_container.specs.Frame.{HasMagic, HasVersion, HasChecksum, HasSignature, SectionHolds, RowsHold, MapIsPlaced, EntryHolds, HasKind}
+use Rattle.dex_container.specs.Frame.{HasMagic, HasVersion, HasChecksum, HasSignature, SectionHolds, HasFewRows, MapIsPlaced, EntryHolds, HasKind}
 
 -- at this number P, else Q
 abbrev pub on : ℕ → ℕ → Type 0 → Type 0 → Type 0
 on code number P Q = MatchBool (code == number) P Q
 
 -- The fault of this number stands at this place.
-abbrev pub Stands : List ℕ → ℕ → ℕ → Type 0
-Stands b code place =
+abbrev pub FrameBreaks : List ℕ → ℕ → ℕ → Type 0
+FrameBreaks b code place =
     on code 1 ((length b < 112) × (place ≡ length b)) (
     on code 2 (¬ HasMagic b × (place ≡ 0)) (
     on code 3 (¬ HasVersion b × (place ≡ 4)) (
@@ -23,7 +23,7 @@ Stands b code place =
     on code 8 (¬ HasChecksum b × (place ≡ 8)) (
     on code 9 (¬ HasSignature b × (place ≡ 12)) (
     on code 10 ((k : ℕ) × (k < 7) × (¬ SectionHolds b k) × (place ≡ size_field k)) (
-    on code 11 ((k : ℕ) × ((k ≡ 1) ⊎ (k ≡ 2)) × (¬ RowsHold b k) × (place ≡ size_field k)) (
+    on code 11 ((k : ℕ) × ((k ≡ 1) ⊎ (k ≡ 2)) × (¬ HasFewRows b k) × (place ≡ size_field k)) (
     on code 12 (¬ MapIsPlaced b × (place ≡ 52)) (
     on code 13 ((i : ℕ) × (i < entry_count b) × (¬ EntryHolds b i) × (place ≡ entry_place b i)) (
     on code 14 ((¬ HasKind b 0x1000 × (place ≡ 52))
@@ -32,10 +32,10 @@ Stands b code place =
 
 -- No fault of a lower number stands.
 abbrev pub IsClearBelow : List ℕ → ℕ → Type 0
-IsClearBelow b code = (c place : ℕ) → Stands b c place → code ≤ c
+IsClearBelow b code = (c place : ℕ) → FrameBreaks b c place → code ≤ c
 
 -- The fault stands, with the lowest number that stands and at its lowest place.
 pub record IsFirst (b : List ℕ) (fault : Fault) : Type 0 where
-  pub stands : Stands b fault.code fault.place
+  pub stands : FrameBreaks b fault.code fault.place
   pub number : IsClearBelow b fault.code
-  pub place : (place : ℕ) → Stands b fault.code place → fault.place ≤ place
+  pub place : (place : ℕ) → FrameBreaks b fault.code place → fault.place ≤ place

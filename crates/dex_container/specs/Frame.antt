@@ -50,14 +50,14 @@ abbrev pub SectionHolds : List ℕ → ℕ → Type 0
 SectionHolds b k = 0 < size_of b k → IsPlaced b k
 
 -- Section k has at most 65535 rows.
-abbrev pub RowsHold : List ℕ → ℕ → Type 0
-RowsHold b k = size_of b k ≤ 65535
+abbrev pub HasFewRows : List ℕ → ℕ → Type 0
+HasFewRows b k = size_of b k ≤ 65535
 
 -- All sections stand so, and types and protos have few rows.
 pub record SectionsHold (b : List ℕ) : Type 0 where
   pub each : (k : ℕ) → k < 7 → SectionHolds b k
-  pub types : RowsHold b 1
-  pub protos : RowsHold b 2
+  pub types : HasFewRows b 1
+  pub protos : HasFewRows b 2
 
 -- The map stands 4-aligned in the data section, with all its entries.
 pub record MapIsPlaced (b : List ℕ) : Type 0 where

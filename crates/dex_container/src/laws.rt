@@ -1,17 +1,22 @@
 // Laws of the definitions, each the contract of a function that does nothing else.
 
-ghost use Rattle.std.specs.Prelude.{◌↔◌, ℕ};
-ghost use Rattle.dex_container.specs.Frame.{IsFramed};
-ghost use Rattle.dex_container.specs.Faults.{Stands};
+ghost use Rattle.std.specs.Prelude.{◌≡◌, ◌↔◌, ℕ, List};
+ghost use Rattle.dex_container.specs.Frame.{IsFramed, IsSection};
+ghost use Rattle.dex_container.specs.Faults.{FrameBreaks};
 
 use crate::opening::open;
 
 /// Bytes are framed exactly if no fault of header, map and checksums stands.
 pub fn framed_without_fault(bytes: &[u8])
-    ensures { IsFramed bytes.now ↔ ((code place : ℕ) → ¬ Stands bytes.now code place) }
+    ensures { IsFramed bytes.now ↔ ((code place : ℕ) → ¬ FrameBreaks bytes.now code place) }
 {
     match open(bytes) {
         Ok(_) => {}
         Err(_) => {}
     }
 }
+
+/// A kind of data item has one section.
+pub fn section_is_one()
+    ensures { (b : List ℕ) → IsFramed b → (kind begin end first last : ℕ) → IsSection b kind begin end → IsSection b kind first last → (begin ≡ first) × (end ≡ last) }
+{}

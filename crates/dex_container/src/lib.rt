@@ -10,9 +10,11 @@ mod header;
 mod laws;
 mod map;
 mod opening;
+mod section;
 mod sections;
 mod sums;
 
 pub use closing::close;
-pub use laws::framed_without_fault;
+pub use laws::{framed_without_fault, section_is_one};
 pub use opening::{Sections, open};
+pub use section::{Section, bytes_from, section_of};

@@ -6,7 +6,7 @@ use Rattle.std.specs.Prelude.{FitsSigned}
 use Rattle.std.specs.Int.{w8, w16, w32, w64}
 use Rattle.dex_insn.specs.Fields.{number, field, signed}
 use Rattle.dex_insn.specs.Raw.{Raw, I10x, I12x, I11n, I11x, I10t, I20t, I22x, I21t, I21s, I21h, I21c, I23x, I22b, I22t, I22s, I22c, I30t, I32x, I31i, I31t, I31c, I35c, I3rc, I51l, Packed, Sparse, Data}
-use Rattle.dex_insn.specs.RawInsns.{Spells, Stands, IsWidth, registers, register}
+use Rattle.dex_insn.specs.RawInsns.{SpellsInsn, InsnStands, IsElementWidth, registers, register}
 use Rattle.dex_base.specs.Fields.{AreBytes}
 use Rattle.dex_insn.specs.Written.{IsRaw, AreRegisters}
 use Rattle.dex_insn.proofs.Unique.{slice-length}
@@ -74,79 +74,79 @@ named us n = record {
   unused = λ k h. five-free n (field us 2 0 4) (field us 2 4 4) (field us 2 8 4) (field us 2 12 4) (field us 0 8 4) k h;
 }
 
-fits-10x : (us : List ℕ) (op : ℕ) → AreBytes us → Spells us (I10x op) → IsRaw (I10x op)
+fits-10x : (us : List ℕ) (op : ℕ) → AreBytes us → SpellsInsn us (I10x op) → IsRaw (I10x op)
 fits-10x us op bytes h = h.0.kind
 
-fits-12x : (us : List ℕ) (op : ℕ) (a : ℕ) (b : ℕ) → AreBytes us → Spells us (I12x op a b) → IsRaw (I12x op a b)
+fits-12x : (us : List ℕ) (op : ℕ) (a : ℕ) (b : ℕ) → AreBytes us → SpellsInsn us (I12x op a b) → IsRaw (I12x op a b)
 fits-12x us op a b bytes h = (h.0.kind, (let e = h.1 in omega arith), (let e = h.2 in omega arith))
 
-fits-11n : (us : List ℕ) (op : ℕ) (a : ℕ) (b : ℤ) → AreBytes us → Spells us (I11n op a b) → IsRaw (I11n op a b)
+fits-11n : (us : List ℕ) (op : ℕ) (a : ℕ) (b : ℤ) → AreBytes us → SpellsInsn us (I11n op a b) → IsRaw (I11n op a b)
 fits-11n us op a b bytes h = (h.0.kind, (let e = h.1 in omega arith), (nibble b (field us 0 12 4) h.2 (omega arith)).0, (nibble b (field us 0 12 4) h.2 (omega arith)).1)
 
-fits-11x : (us : List ℕ) (op : ℕ) (a : ℕ) → AreBytes us → Spells us (I11x op a) → IsRaw (I11x op a)
+fits-11x : (us : List ℕ) (op : ℕ) (a : ℕ) → AreBytes us → SpellsInsn us (I11x op a) → IsRaw (I11x op a)
 fits-11x us op a bytes h = (h.0.kind, (let e = h.1 in omega arith))
 
-fits-10t : (us : List ℕ) (op : ℕ) (offset : ℤ) → AreBytes us → Spells us (I10t op offset) → IsRaw (I10t op offset)
+fits-10t : (us : List ℕ) (op : ℕ) (offset : ℤ) → AreBytes us → SpellsInsn us (I10t op offset) → IsRaw (I10t op offset)
 fits-10t us op offset bytes h = (h.0.kind, signed-8 offset (field us 0 8 8) h.1 (omega arith))
 
-fits-20t : (us : List ℕ) (op : ℕ) (offset : ℤ) → AreBytes us → Spells us (I20t op offset) → IsRaw (I20t op offset)
+fits-20t : (us : List ℕ) (op : ℕ) (offset : ℤ) → AreBytes us → SpellsInsn us (I20t op offset) → IsRaw (I20t op offset)
 fits-20t us op offset bytes h = (h.0.kind, signed-16 offset (number us 1 1) h.2 (number-1 us 1 bytes))
 
-fits-22x : (us : List ℕ) (op : ℕ) (a : ℕ) (b : ℕ) → AreBytes us → Spells us (I22x op a b) → IsRaw (I22x op a b)
+fits-22x : (us : List ℕ) (op : ℕ) (a : ℕ) (b : ℕ) → AreBytes us → SpellsInsn us (I22x op a b) → IsRaw (I22x op a b)
 fits-22x us op a b bytes h = (h.0.kind, (let e = h.1 in omega arith), rw h.2 (number-1 us 1 bytes))
 
-fits-21t : (us : List ℕ) (op : ℕ) (a : ℕ) (offset : ℤ) → AreBytes us → Spells us (I21t op a offset) → IsRaw (I21t op a offset)
+fits-21t : (us : List ℕ) (op : ℕ) (a : ℕ) (offset : ℤ) → AreBytes us → SpellsInsn us (I21t op a offset) → IsRaw (I21t op a offset)
 fits-21t us op a offset bytes h = (h.0.kind, signed-16 offset (number us 1 1) h.2 (number-1 us 1 bytes), (let e = h.1 in omega arith))
 
-fits-21s : (us : List ℕ) (op : ℕ) (a : ℕ) (b : ℤ) → AreBytes us → Spells us (I21s op a b) → IsRaw (I21s op a b)
+fits-21s : (us : List ℕ) (op : ℕ) (a : ℕ) (b : ℤ) → AreBytes us → SpellsInsn us (I21s op a b) → IsRaw (I21s op a b)
 fits-21s us op a b bytes h = (h.0.kind, (let e = h.1 in omega arith), signed-16 b (number us 1 1) h.2 (number-1 us 1 bytes))
 
-fits-21h : (us : List ℕ) (op : ℕ) (a : ℕ) (b : ℤ) → AreBytes us → Spells us (I21h op a b) → IsRaw (I21h op a b)
+fits-21h : (us : List ℕ) (op : ℕ) (a : ℕ) (b : ℤ) → AreBytes us → SpellsInsn us (I21h op a b) → IsRaw (I21h op a b)
 fits-21h us op a b bytes h = (h.0.kind, (let e = h.1 in omega arith), signed-16 b (number us 1 1) h.2 (number-1 us 1 bytes))
 
-fits-21c : (us : List ℕ) (op : ℕ) (a : ℕ) (index : ℕ) → AreBytes us → Spells us (I21c op a index) → IsRaw (I21c op a index)
+fits-21c : (us : List ℕ) (op : ℕ) (a : ℕ) (index : ℕ) → AreBytes us → SpellsInsn us (I21c op a index) → IsRaw (I21c op a index)
 fits-21c us op a index bytes h = (h.0.kind, rw h.2 (number-1 us 1 bytes), (let e = h.1 in omega arith))
 
-fits-23x : (us : List ℕ) (op : ℕ) (a : ℕ) (b : ℕ) (c : ℕ) → AreBytes us → Spells us (I23x op a b c) → IsRaw (I23x op a b c)
+fits-23x : (us : List ℕ) (op : ℕ) (a : ℕ) (b : ℕ) (c : ℕ) → AreBytes us → SpellsInsn us (I23x op a b c) → IsRaw (I23x op a b c)
 fits-23x us op a b c bytes h = (h.0.kind, (let e = h.1 in omega arith), (let e = h.2 in omega arith), (let e = h.3 in omega arith))
 
-fits-22b : (us : List ℕ) (op : ℕ) (a : ℕ) (b : ℕ) (c : ℤ) → AreBytes us → Spells us (I22b op a b c) → IsRaw (I22b op a b c)
+fits-22b : (us : List ℕ) (op : ℕ) (a : ℕ) (b : ℕ) (c : ℤ) → AreBytes us → SpellsInsn us (I22b op a b c) → IsRaw (I22b op a b c)
 fits-22b us op a b c bytes h = (h.0.kind, (let e = h.1 in omega arith), (let e = h.2 in omega arith), signed-8 c (field us 1 8 8) h.3 (omega arith))
 
-fits-22t : (us : List ℕ) (op : ℕ) (a : ℕ) (b : ℕ) (offset : ℤ) → AreBytes us → Spells us (I22t op a b offset) → IsRaw (I22t op a b offset)
+fits-22t : (us : List ℕ) (op : ℕ) (a : ℕ) (b : ℕ) (offset : ℤ) → AreBytes us → SpellsInsn us (I22t op a b offset) → IsRaw (I22t op a b offset)
 fits-22t us op a b offset bytes h = (h.0.kind, (let e = h.1 in omega arith), (let e = h.2 in omega arith), signed-16 offset (number us 1 1) h.3 (number-1 us 1 bytes))
 
-fits-22s : (us : List ℕ) (op : ℕ) (a : ℕ) (b : ℕ) (c : ℤ) → AreBytes us → Spells us (I22s op a b c) → IsRaw (I22s op a b c)
+fits-22s : (us : List ℕ) (op : ℕ) (a : ℕ) (b : ℕ) (c : ℤ) → AreBytes us → SpellsInsn us (I22s op a b c) → IsRaw (I22s op a b c)
 fits-22s us op a b c bytes h = (h.0.kind, (let e = h.1 in omega arith), (let e = h.2 in omega arith), signed-16 c (number us 1 1) h.3 (number-1 us 1 bytes))
 
-fits-22c : (us : List ℕ) (op : ℕ) (a : ℕ) (b : ℕ) (index : ℕ) → AreBytes us → Spells us (I22c op a b index) → IsRaw (I22c op a b index)
+fits-22c : (us : List ℕ) (op : ℕ) (a : ℕ) (b : ℕ) (index : ℕ) → AreBytes us → SpellsInsn us (I22c op a b index) → IsRaw (I22c op a b index)
 fits-22c us op a b index bytes h = (h.0.kind, (let e = h.1 in omega arith), (let e = h.2 in omega arith), rw h.3 (number-1 us 1 bytes))
 
-fits-30t : (us : List ℕ) (op : ℕ) (offset : ℤ) → AreBytes us → Spells us (I30t op offset) → IsRaw (I30t op offset)
+fits-30t : (us : List ℕ) (op : ℕ) (offset : ℤ) → AreBytes us → SpellsInsn us (I30t op offset) → IsRaw (I30t op offset)
 fits-30t us op offset bytes h = (h.0.kind, signed-32 offset (number us 1 2) h.2 (number-2 us 1 bytes))
 
-fits-32x : (us : List ℕ) (op : ℕ) (a : ℕ) (b : ℕ) → AreBytes us → Spells us (I32x op a b) → IsRaw (I32x op a b)
+fits-32x : (us : List ℕ) (op : ℕ) (a : ℕ) (b : ℕ) → AreBytes us → SpellsInsn us (I32x op a b) → IsRaw (I32x op a b)
 fits-32x us op a b bytes h = (h.0.kind, rw h.2 (number-1 us 1 bytes), rw h.3 (number-1 us 2 bytes))
 
-fits-31i : (us : List ℕ) (op : ℕ) (a : ℕ) (b : ℤ) → AreBytes us → Spells us (I31i op a b) → IsRaw (I31i op a b)
+fits-31i : (us : List ℕ) (op : ℕ) (a : ℕ) (b : ℤ) → AreBytes us → SpellsInsn us (I31i op a b) → IsRaw (I31i op a b)
 fits-31i us op a b bytes h = (h.0.kind, (let e = h.1 in omega arith), signed-32 b (number us 1 2) h.2 (number-2 us 1 bytes))
 
-fits-31t : (us : List ℕ) (op : ℕ) (a : ℕ) (offset : ℤ) → AreBytes us → Spells us (I31t op a offset) → IsRaw (I31t op a offset)
+fits-31t : (us : List ℕ) (op : ℕ) (a : ℕ) (offset : ℤ) → AreBytes us → SpellsInsn us (I31t op a offset) → IsRaw (I31t op a offset)
 fits-31t us op a offset bytes h = (h.0.kind, (let e = h.1 in omega arith), signed-32 offset (number us 1 2) h.2 (number-2 us 1 bytes))
 
-fits-31c : (us : List ℕ) (op : ℕ) (a : ℕ) (index : ℕ) → AreBytes us → Spells us (I31c op a index) → IsRaw (I31c op a index)
+fits-31c : (us : List ℕ) (op : ℕ) (a : ℕ) (index : ℕ) → AreBytes us → SpellsInsn us (I31c op a index) → IsRaw (I31c op a index)
 fits-31c us op a index bytes h = (h.0.kind, (let e = h.1 in omega arith), rw h.2 (number-2 us 1 bytes))
 
-fits-35c : (us : List ℕ) (op : ℕ) (n : ℕ) (regs : List ℕ) (index : ℕ) → AreBytes us → Spells us (I35c op n regs index) → IsRaw (I35c op n regs index)
+fits-35c : (us : List ℕ) (op : ℕ) (n : ℕ) (regs : List ℕ) (index : ℕ) → AreBytes us → SpellsInsn us (I35c op n regs index) → IsRaw (I35c op n regs index)
 fits-35c us op n regs index bytes h = (h.0.kind, h.2, rw h.3 (number-1 us 1 bytes), rw h.4 (named us n))
 
-fits-3rc : (us : List ℕ) (op : ℕ) (n : ℕ) (first : ℕ) (index : ℕ) → AreBytes us → Spells us (I3rc op n first index) → IsRaw (I3rc op n first index)
+fits-3rc : (us : List ℕ) (op : ℕ) (n : ℕ) (first : ℕ) (index : ℕ) → AreBytes us → SpellsInsn us (I3rc op n first index) → IsRaw (I3rc op n first index)
 fits-3rc us op n first index bytes h = (h.0.kind, rw h.2 (number-1 us 1 bytes), (let e = h.1 in omega arith), rw h.3 (number-1 us 2 bytes))
 
-fits-51l : (us : List ℕ) (op : ℕ) (a : ℕ) (b : ℤ) → AreBytes us → Spells us (I51l op a b) → IsRaw (I51l op a b)
+fits-51l : (us : List ℕ) (op : ℕ) (a : ℕ) (b : ℤ) → AreBytes us → SpellsInsn us (I51l op a b) → IsRaw (I51l op a b)
 fits-51l us op a b bytes h = (h.0.kind, (let e = h.1 in omega arith), signed-64 b (number us 1 4) h.2 (number-4 us 1 bytes))
 
-by-width : (n width : ℕ) → IsWidth width → ((n * width) % width ≡ 0) × ((n * width) / width ≡ n)
+by-width : (n width : ℕ) → IsElementWidth width → ((n * width) % width ≡ 0) × ((n * width) / width ≡ n)
 by-width n width h = ⊎_elim
     (λ (e : width ≡ 1). rw e (omega arith, omega arith))
     (⊎_elim
@@ -156,14 +156,14 @@ by-width n width h = ⊎_elim
     (λ (e : width ≡ 8). rw e (omega arith, omega arith))))
     h
 
-fits-packed : (us : List ℕ) (first : ℤ) (offsets : List ℕ) → AreBytes us → Spells us (Packed first offsets) → IsRaw (Packed first offsets)
+fits-packed : (us : List ℕ) (first : ℤ) (offsets : List ℕ) → AreBytes us → SpellsInsn us (Packed first offsets) → IsRaw (Packed first offsets)
 fits-packed us first offsets bytes h =
     let there = h.1 in
     let n1 = number-1 us 1 bytes in
     let long = ap length h.3 ∙ slice-length us 8 (8 + 4 * number us 1 1) (omega arith) (omega arith) in
     (signed-32 first (number us 2 2) h.2 (number-2 us 2 bytes), omega arith, omega arith)
 
-fits-sparse : (us : List ℕ) (keys offsets : List ℕ) → AreBytes us → Spells us (Sparse keys offsets) → IsRaw (Sparse keys offsets)
+fits-sparse : (us : List ℕ) (keys offsets : List ℕ) → AreBytes us → SpellsInsn us (Sparse keys offsets) → IsRaw (Sparse keys offsets)
 fits-sparse us keys offsets bytes h =
     let there = h.1 in
     let n1 = number-1 us 1 bytes in
@@ -172,7 +172,7 @@ fits-sparse us keys offsets bytes h =
     let count : length keys / 4 ≡ number us 1 1 = omega arith in
     (omega arith, omega arith, omega arith, rw count h.4)
 
-fits-data : (us : List ℕ) (width : ℕ) (bytes : List ℕ) → AreBytes us → Spells us (Data width bytes) → IsRaw (Data width bytes)
+fits-data : (us : List ℕ) (width : ℕ) (bytes : List ℕ) → AreBytes us → SpellsInsn us (Data width bytes) → IsRaw (Data width bytes)
 fits-data us width bytes are h =
     let there = h.1 in
     let n2 = number-2 us 2 are in
@@ -181,7 +181,7 @@ fits-data us width bytes are h =
     (h.3, rw long parts.0, rw (long, parts.1) n2)
 
 -- what is spelled in bytes can be written
-pub fits : (r : Raw) (us : List ℕ) → AreBytes us → Spells us r → IsRaw r
+pub fits : (r : Raw) (us : List ℕ) → AreBytes us → SpellsInsn us r → IsRaw r
 fits (I10x op) us bytes h = fits-10x us op bytes h
 fits (I12x op a b) us bytes h = fits-12x us op a b bytes h
 fits (I11n op a b) us bytes h = fits-11n us op a b bytes h
@@ -211,5 +211,5 @@ fits (Sparse keys offsets) us bytes h = fits-sparse us keys offsets bytes h
 fits (Data width elements) us bytes h = fits-data us width elements bytes h
 
 -- what stands in bytes can be written
-pub stands_fits : (bytes : List ℕ) (at : ℕ) (r : Raw) → AreBytes bytes → Stands bytes at r → IsRaw r
+pub stands_fits : (bytes : List ℕ) (at : ℕ) (r : Raw) → AreBytes bytes → InsnStands bytes at r → IsRaw r
 stands_fits bytes at r are s = fits r (drop (2 * at) bytes) (behind bytes (2 * at) are) s.spelled

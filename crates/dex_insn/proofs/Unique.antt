@@ -2,10 +2,10 @@
 use Rattle.std.proofs.Common.{◌≡◌, ℕ, ◌+◌, ◌-◌, ◌*◌, drop, true, false, length-drop, length-take-le, ◌<◌, ◌≤◌, List, Option, Some, None, sym, ap, ◌∙◌, refl, arith, ℤ, length, if◌then◌else◌, ◌==◌, ◌≢◌, ◌⊎◌, inl, inr, ⊎_elim}
 use Rattle.std.proofs.lemmas.Bool.Decides.{nat_tests}
 use Rattle.std.specs.Prelude.{slice_range, IsTrue}
-use Rattle.dex_insn.specs.Fields.{number, field, signed, Rises}
+use Rattle.dex_insn.specs.Fields.{number, field, signed, KeysRise}
 use Rattle.dex_insn.specs.Opcodes.{format_of, formats, units_of}
 use Rattle.dex_insn.specs.Raw.{Raw, units, is_payload, packed_units, sparse_units, data_units, I10x, I12x, I11n, I11x, I10t, I20t, I22x, I21t, I21s, I21h, I21c, I23x, I22b, I22t, I22s, I22c, I30t, I32x, I31i, I31t, I31c, I35c, I3rc, I51l, Packed, Sparse, Data}
-use Rattle.dex_insn.specs.RawInsns.{Spells, Begins, registers, IsPayload, IsWidth}
+use Rattle.dex_insn.specs.RawInsns.{SpellsInsn, BeginsInsn, registers, IsPayload, IsElementWidth}
 use Rattle.dex_insn.specs.Flaws.{format_at, has_zero_byte, head_units, payload_units}
 use Rattle.dex_insn.specs.declared.opcode.Format.{Format}
 use Rattle.dex_insn.specs.declared.opcode.Format.TheVariants.{F10x, F12x, F11n, F11x, F10t, F20t, F22x, F21t, F21s, F21h, F21c, F23x, F22b, F22t, F22s, F22c, F30t, F32x, F31i, F31t, F31c, F35c, F3rc, F51l}
@@ -41,7 +41,7 @@ abbrev plain_at : List ℕ → Option Format → Raw
 plain_at us None = I10x 0
 plain_at us (Some format) = in_format us format
 
-plain_is : (us : List ℕ) (f : Format) (op : ℕ) (r : Raw) → Begins us f op → r ≡ in_format us f → r ≡ plain_at us (format_at us)
+plain_is : (us : List ℕ) (f : Format) (op : ℕ) (r : Raw) → BeginsInsn us f op → r ≡ in_format us f → r ≡ plain_at us (format_at us)
 plain_is us f op r b e =
     let k : format_at us ≡ Some f = ap format_of (sym b.opcode) ∙ b.kind in
     e ∙ ap (plain_at us) (sym k)
@@ -50,14 +50,14 @@ pub zero_row : format_of 0 ≡ Some F10x
 unfolding formats
 zero_row = refl
 
-zero_is : (us : List ℕ) (f : Format) (op : ℕ) → Begins us f op → field us 0 0 8 ≡ 0 → Some f ≡ Some F10x
+zero_is : (us : List ℕ) (f : Format) (op : ℕ) → BeginsInsn us f op → field us 0 0 8 ≡ 0 → Some f ≡ Some F10x
 zero_is us f op b z = sym b.kind ∙ ap format_of (b.opcode ∙ z) ∙ zero_row
 
 -- what is known of an instruction that is no payload
 pub record Plain (us : List ℕ) (r : Raw) : Type 0 where
   pub f : Format
   pub op : ℕ
-  pub begins : Begins us f op
+  pub begins : BeginsInsn us f op
   pub not_payload : ¬ IsPayload us
   pub zero : IsTrue (has_zero_byte f) → field us 0 8 8 ≡ 0
   pub count : f ≡ F35c → field us 0 12 4 ≤ 5
@@ -65,99 +65,99 @@ pub record Plain (us : List ℕ) (r : Raw) : Type 0 where
   pub size : units r ≡ units_of f
   pub kind : is_payload r ≡ false
 
-plain_10x : (us : List ℕ) (op : ℕ) → Spells us (I10x op) → Plain us (I10x op)
+plain_10x : (us : List ℕ) (op : ℕ) → SpellsInsn us (I10x op) → Plain us (I10x op)
 unfolding units is_payload
 plain_10x us op h = record { f = F10x; op = op; begins = h.0; not_payload = λ p. omega (arith, p.1); zero = λ _. h.1; count = λ e. cc; same = let o = h.0.opcode in plain_is us F10x op _ h.0 (cc); size = refl; kind = refl }
 
-plain_12x : (us : List ℕ) (op : ℕ) (a : ℕ) (b : ℕ) → Spells us (I12x op a b) → Plain us (I12x op a b)
+plain_12x : (us : List ℕ) (op : ℕ) (a : ℕ) (b : ℕ) → SpellsInsn us (I12x op a b) → Plain us (I12x op a b)
 unfolding units is_payload
 plain_12x us op a b h = record { f = F12x; op = op; begins = h.0; not_payload = λ p. let e = zero_is us F12x op h.0 p.0 in cc; zero = λ t. cc; count = λ e. cc; same = let o = h.0.opcode in plain_is us F12x op _ h.0 (cc); size = refl; kind = refl }
 
-plain_11n : (us : List ℕ) (op : ℕ) (a : ℕ) (b : ℤ) → Spells us (I11n op a b) → Plain us (I11n op a b)
+plain_11n : (us : List ℕ) (op : ℕ) (a : ℕ) (b : ℤ) → SpellsInsn us (I11n op a b) → Plain us (I11n op a b)
 unfolding units is_payload
 plain_11n us op a b h = record { f = F11n; op = op; begins = h.0; not_payload = λ p. let e = zero_is us F11n op h.0 p.0 in cc; zero = λ t. cc; count = λ e. cc; same = let o = h.0.opcode in plain_is us F11n op _ h.0 (cc); size = refl; kind = refl }
 
-plain_11x : (us : List ℕ) (op : ℕ) (a : ℕ) → Spells us (I11x op a) → Plain us (I11x op a)
+plain_11x : (us : List ℕ) (op : ℕ) (a : ℕ) → SpellsInsn us (I11x op a) → Plain us (I11x op a)
 unfolding units is_payload
 plain_11x us op a h = record { f = F11x; op = op; begins = h.0; not_payload = λ p. let e = zero_is us F11x op h.0 p.0 in cc; zero = λ t. cc; count = λ e. cc; same = let o = h.0.opcode in plain_is us F11x op _ h.0 (cc); size = refl; kind = refl }
 
-plain_10t : (us : List ℕ) (op : ℕ) (offset : ℤ) → Spells us (I10t op offset) → Plain us (I10t op offset)
+plain_10t : (us : List ℕ) (op : ℕ) (offset : ℤ) → SpellsInsn us (I10t op offset) → Plain us (I10t op offset)
 unfolding units is_payload
 plain_10t us op offset h = record { f = F10t; op = op; begins = h.0; not_payload = λ p. let e = zero_is us F10t op h.0 p.0 in cc; zero = λ t. cc; count = λ e. cc; same = let o = h.0.opcode in plain_is us F10t op _ h.0 (cc); size = refl; kind = refl }
 
-plain_20t : (us : List ℕ) (op : ℕ) (offset : ℤ) → Spells us (I20t op offset) → Plain us (I20t op offset)
+plain_20t : (us : List ℕ) (op : ℕ) (offset : ℤ) → SpellsInsn us (I20t op offset) → Plain us (I20t op offset)
 unfolding units is_payload
 plain_20t us op offset h = record { f = F20t; op = op; begins = h.0; not_payload = λ p. let e = zero_is us F20t op h.0 p.0 in cc; zero = λ _. h.1; count = λ e. cc; same = let o = h.0.opcode in plain_is us F20t op _ h.0 (cc); size = refl; kind = refl }
 
-plain_22x : (us : List ℕ) (op : ℕ) (a : ℕ) (b : ℕ) → Spells us (I22x op a b) → Plain us (I22x op a b)
+plain_22x : (us : List ℕ) (op : ℕ) (a : ℕ) (b : ℕ) → SpellsInsn us (I22x op a b) → Plain us (I22x op a b)
 unfolding units is_payload
 plain_22x us op a b h = record { f = F22x; op = op; begins = h.0; not_payload = λ p. let e = zero_is us F22x op h.0 p.0 in cc; zero = λ t. cc; count = λ e. cc; same = let o = h.0.opcode in plain_is us F22x op _ h.0 (cc); size = refl; kind = refl }
 
-plain_21t : (us : List ℕ) (op : ℕ) (a : ℕ) (offset : ℤ) → Spells us (I21t op a offset) → Plain us (I21t op a offset)
+plain_21t : (us : List ℕ) (op : ℕ) (a : ℕ) (offset : ℤ) → SpellsInsn us (I21t op a offset) → Plain us (I21t op a offset)
 unfolding units is_payload
 plain_21t us op a offset h = record { f = F21t; op = op; begins = h.0; not_payload = λ p. let e = zero_is us F21t op h.0 p.0 in cc; zero = λ t. cc; count = λ e. cc; same = let o = h.0.opcode in plain_is us F21t op _ h.0 (cc); size = refl; kind = refl }
 
-plain_21s : (us : List ℕ) (op : ℕ) (a : ℕ) (b : ℤ) → Spells us (I21s op a b) → Plain us (I21s op a b)
+plain_21s : (us : List ℕ) (op : ℕ) (a : ℕ) (b : ℤ) → SpellsInsn us (I21s op a b) → Plain us (I21s op a b)
 unfolding units is_payload
 plain_21s us op a b h = record { f = F21s; op = op; begins = h.0; not_payload = λ p. let e = zero_is us F21s op h.0 p.0 in cc; zero = λ t. cc; count = λ e. cc; same = let o = h.0.opcode in plain_is us F21s op _ h.0 (cc); size = refl; kind = refl }
 
-plain_21h : (us : List ℕ) (op : ℕ) (a : ℕ) (b : ℤ) → Spells us (I21h op a b) → Plain us (I21h op a b)
+plain_21h : (us : List ℕ) (op : ℕ) (a : ℕ) (b : ℤ) → SpellsInsn us (I21h op a b) → Plain us (I21h op a b)
 unfolding units is_payload
 plain_21h us op a b h = record { f = F21h; op = op; begins = h.0; not_payload = λ p. let e = zero_is us F21h op h.0 p.0 in cc; zero = λ t. cc; count = λ e. cc; same = let o = h.0.opcode in plain_is us F21h op _ h.0 (cc); size = refl; kind = refl }
 
-plain_21c : (us : List ℕ) (op : ℕ) (a : ℕ) (index : ℕ) → Spells us (I21c op a index) → Plain us (I21c op a index)
+plain_21c : (us : List ℕ) (op : ℕ) (a : ℕ) (index : ℕ) → SpellsInsn us (I21c op a index) → Plain us (I21c op a index)
 unfolding units is_payload
 plain_21c us op a index h = record { f = F21c; op = op; begins = h.0; not_payload = λ p. let e = zero_is us F21c op h.0 p.0 in cc; zero = λ t. cc; count = λ e. cc; same = let o = h.0.opcode in plain_is us F21c op _ h.0 (cc); size = refl; kind = refl }
 
-plain_23x : (us : List ℕ) (op : ℕ) (a : ℕ) (b : ℕ) (c : ℕ) → Spells us (I23x op a b c) → Plain us (I23x op a b c)
+plain_23x : (us : List ℕ) (op : ℕ) (a : ℕ) (b : ℕ) (c : ℕ) → SpellsInsn us (I23x op a b c) → Plain us (I23x op a b c)
 unfolding units is_payload
 plain_23x us op a b c h = record { f = F23x; op = op; begins = h.0; not_payload = λ p. let e = zero_is us F23x op h.0 p.0 in cc; zero = λ t. cc; count = λ e. cc; same = let o = h.0.opcode in plain_is us F23x op _ h.0 (cc); size = refl; kind = refl }
 
-plain_22b : (us : List ℕ) (op : ℕ) (a : ℕ) (b : ℕ) (c : ℤ) → Spells us (I22b op a b c) → Plain us (I22b op a b c)
+plain_22b : (us : List ℕ) (op : ℕ) (a : ℕ) (b : ℕ) (c : ℤ) → SpellsInsn us (I22b op a b c) → Plain us (I22b op a b c)
 unfolding units is_payload
 plain_22b us op a b c h = record { f = F22b; op = op; begins = h.0; not_payload = λ p. let e = zero_is us F22b op h.0 p.0 in cc; zero = λ t. cc; count = λ e. cc; same = let o = h.0.opcode in plain_is us F22b op _ h.0 (cc); size = refl; kind = refl }
 
-plain_22t : (us : List ℕ) (op : ℕ) (a : ℕ) (b : ℕ) (offset : ℤ) → Spells us (I22t op a b offset) → Plain us (I22t op a b offset)
+plain_22t : (us : List ℕ) (op : ℕ) (a : ℕ) (b : ℕ) (offset : ℤ) → SpellsInsn us (I22t op a b offset) → Plain us (I22t op a b offset)
 unfolding units is_payload
 plain_22t us op a b offset h = record { f = F22t; op = op; begins = h.0; not_payload = λ p. let e = zero_is us F22t op h.0 p.0 in cc; zero = λ t. cc; count = λ e. cc; same = let o = h.0.opcode in plain_is us F22t op _ h.0 (cc); size = refl; kind = refl }
 
-plain_22s : (us : List ℕ) (op : ℕ) (a : ℕ) (b : ℕ) (c : ℤ) → Spells us (I22s op a b c) → Plain us (I22s op a b c)
+plain_22s : (us : List ℕ) (op : ℕ) (a : ℕ) (b : ℕ) (c : ℤ) → SpellsInsn us (I22s op a b c) → Plain us (I22s op a b c)
 unfolding units is_payload
 plain_22s us op a b c h = record { f = F22s; op = op; begins = h.0; not_payload = λ p. let e = zero_is us F22s op h.0 p.0 in cc; zero = λ t. cc; count = λ e. cc; same = let o = h.0.opcode in plain_is us F22s op _ h.0 (cc); size = refl; kind = refl }
 
-plain_22c : (us : List ℕ) (op : ℕ) (a : ℕ) (b : ℕ) (index : ℕ) → Spells us (I22c op a b index) → Plain us (I22c op a b index)
+plain_22c : (us : List ℕ) (op : ℕ) (a : ℕ) (b : ℕ) (index : ℕ) → SpellsInsn us (I22c op a b index) → Plain us (I22c op a b index)
 unfolding units is_payload
 plain_22c us op a b index h = record { f = F22c; op = op; begins = h.0; not_payload = λ p. let e = zero_is us F22c op h.0 p.0 in cc; zero = λ t. cc; count = λ e. cc; same = let o = h.0.opcode in plain_is us F22c op _ h.0 (cc); size = refl; kind = refl }
 
-plain_30t : (us : List ℕ) (op : ℕ) (offset : ℤ) → Spells us (I30t op offset) → Plain us (I30t op offset)
+plain_30t : (us : List ℕ) (op : ℕ) (offset : ℤ) → SpellsInsn us (I30t op offset) → Plain us (I30t op offset)
 unfolding units is_payload
 plain_30t us op offset h = record { f = F30t; op = op; begins = h.0; not_payload = λ p. let e = zero_is us F30t op h.0 p.0 in cc; zero = λ _. h.1; count = λ e. cc; same = let o = h.0.opcode in plain_is us F30t op _ h.0 (cc); size = refl; kind = refl }
 
-plain_32x : (us : List ℕ) (op : ℕ) (a : ℕ) (b : ℕ) → Spells us (I32x op a b) → Plain us (I32x op a b)
+plain_32x : (us : List ℕ) (op : ℕ) (a : ℕ) (b : ℕ) → SpellsInsn us (I32x op a b) → Plain us (I32x op a b)
 unfolding units is_payload
 plain_32x us op a b h = record { f = F32x; op = op; begins = h.0; not_payload = λ p. let e = zero_is us F32x op h.0 p.0 in cc; zero = λ _. h.1; count = λ e. cc; same = let o = h.0.opcode in plain_is us F32x op _ h.0 (cc); size = refl; kind = refl }
 
-plain_31i : (us : List ℕ) (op : ℕ) (a : ℕ) (b : ℤ) → Spells us (I31i op a b) → Plain us (I31i op a b)
+plain_31i : (us : List ℕ) (op : ℕ) (a : ℕ) (b : ℤ) → SpellsInsn us (I31i op a b) → Plain us (I31i op a b)
 unfolding units is_payload
 plain_31i us op a b h = record { f = F31i; op = op; begins = h.0; not_payload = λ p. let e = zero_is us F31i op h.0 p.0 in cc; zero = λ t. cc; count = λ e. cc; same = let o = h.0.opcode in plain_is us F31i op _ h.0 (cc); size = refl; kind = refl }
 
-plain_31t : (us : List ℕ) (op : ℕ) (a : ℕ) (offset : ℤ) → Spells us (I31t op a offset) → Plain us (I31t op a offset)
+plain_31t : (us : List ℕ) (op : ℕ) (a : ℕ) (offset : ℤ) → SpellsInsn us (I31t op a offset) → Plain us (I31t op a offset)
 unfolding units is_payload
 plain_31t us op a offset h = record { f = F31t; op = op; begins = h.0; not_payload = λ p. let e = zero_is us F31t op h.0 p.0 in cc; zero = λ t. cc; count = λ e. cc; same = let o = h.0.opcode in plain_is us F31t op _ h.0 (cc); size = refl; kind = refl }
 
-plain_31c : (us : List ℕ) (op : ℕ) (a : ℕ) (index : ℕ) → Spells us (I31c op a index) → Plain us (I31c op a index)
+plain_31c : (us : List ℕ) (op : ℕ) (a : ℕ) (index : ℕ) → SpellsInsn us (I31c op a index) → Plain us (I31c op a index)
 unfolding units is_payload
 plain_31c us op a index h = record { f = F31c; op = op; begins = h.0; not_payload = λ p. let e = zero_is us F31c op h.0 p.0 in cc; zero = λ t. cc; count = λ e. cc; same = let o = h.0.opcode in plain_is us F31c op _ h.0 (cc); size = refl; kind = refl }
 
-plain_35c : (us : List ℕ) (op : ℕ) (n : ℕ) (regs : List ℕ) (index : ℕ) → Spells us (I35c op n regs index) → Plain us (I35c op n regs index)
+plain_35c : (us : List ℕ) (op : ℕ) (n : ℕ) (regs : List ℕ) (index : ℕ) → SpellsInsn us (I35c op n regs index) → Plain us (I35c op n regs index)
 unfolding units is_payload
 plain_35c us op n regs index h = record { f = F35c; op = op; begins = h.0; not_payload = λ p. let e = zero_is us F35c op h.0 p.0 in cc; zero = λ t. cc; count = λ e. omega arith; same = let o = h.0.opcode in plain_is us F35c op _ h.0 (cc); size = refl; kind = refl }
 
-plain_3rc : (us : List ℕ) (op : ℕ) (n : ℕ) (first : ℕ) (index : ℕ) → Spells us (I3rc op n first index) → Plain us (I3rc op n first index)
+plain_3rc : (us : List ℕ) (op : ℕ) (n : ℕ) (first : ℕ) (index : ℕ) → SpellsInsn us (I3rc op n first index) → Plain us (I3rc op n first index)
 unfolding units is_payload
 plain_3rc us op n first index h = record { f = F3rc; op = op; begins = h.0; not_payload = λ p. let e = zero_is us F3rc op h.0 p.0 in cc; zero = λ t. cc; count = λ e. cc; same = let o = h.0.opcode in plain_is us F3rc op _ h.0 (cc); size = refl; kind = refl }
 
-plain_51l : (us : List ℕ) (op : ℕ) (a : ℕ) (b : ℤ) → Spells us (I51l op a b) → Plain us (I51l op a b)
+plain_51l : (us : List ℕ) (op : ℕ) (a : ℕ) (b : ℤ) → SpellsInsn us (I51l op a b) → Plain us (I51l op a b)
 unfolding units is_payload
 plain_51l us op a b h = record { f = F51l; op = op; begins = h.0; not_payload = λ p. let e = zero_is us F51l op h.0 p.0 in cc; zero = λ t. cc; count = λ e. cc; same = let o = h.0.opcode in plain_is us F51l op _ h.0 (cc); size = refl; kind = refl }
 
@@ -187,8 +187,8 @@ pub record Load (us : List ℕ) (r : Raw) : Type 0 where
   pub identifier : IsPayload us
   pub head : 2 * head_units us ≤ length us
   pub whole : 2 * payload_units us ≤ length us
-  pub width : number us 0 1 ≡ 0x0300 → IsWidth (number us 1 1)
-  pub keys : number us 0 1 ≡ 0x0200 → Rises (slice_range us 4 (4 + 4 * number us 1 1)) (number us 1 1)
+  pub width : number us 0 1 ≡ 0x0300 → IsElementWidth (number us 1 1)
+  pub keys : number us 0 1 ≡ 0x0200 → KeysRise (slice_range us 4 (4 + 4 * number us 1 1)) (number us 1 1)
   pub same : r ≡ raw_at us
   pub there : (0 < units r) × (2 * units r ≤ length us)
   pub kind : is_payload r ≡ true
@@ -212,7 +212,7 @@ sizes k h p s d e = rw e refl
 head_size : (k h : ℕ) → h ≡ k → 2 * (if h == 3 then 4 else 2) ≡ 2 * (if k == 3 then 4 else 2)
 head_size k h e = rw e refl
 
-load_packed : (us : List ℕ) (first : ℤ) (offsets : List ℕ) → Spells us (Packed first offsets) → Load us (Packed first offsets)
+load_packed : (us : List ℕ) (first : ℤ) (offsets : List ℕ) → SpellsInsn us (Packed first offsets) → Load us (Packed first offsets)
 unfolding units is_payload
 load_packed us first offsets h =
     let n = h.0 in
@@ -234,7 +234,7 @@ load_packed us first offsets h =
       kind = refl;
     }
 
-load_sparse : (us : List ℕ) (keys offsets : List ℕ) → Spells us (Sparse keys offsets) → Load us (Sparse keys offsets)
+load_sparse : (us : List ℕ) (keys offsets : List ℕ) → SpellsInsn us (Sparse keys offsets) → Load us (Sparse keys offsets)
 unfolding units is_payload
 load_sparse us keys offsets h =
     let n = h.0 in
@@ -256,7 +256,7 @@ load_sparse us keys offsets h =
       kind = refl;
     }
 
-load_data : (us : List ℕ) (width : ℕ) (bytes : List ℕ) → Spells us (Data width bytes) → Load us (Data width bytes)
+load_data : (us : List ℕ) (width : ℕ) (bytes : List ℕ) → SpellsInsn us (Data width bytes) → Load us (Data width bytes)
 unfolding units is_payload
 load_data us width bytes h =
     let n = h.0 in
@@ -281,7 +281,7 @@ load_data us width bytes h =
     }
 
 -- each instruction is one or the other
-pub known : (us : List ℕ) (r : Raw) → Spells us r → Plain us r ⊎ Load us r
+pub known : (us : List ℕ) (r : Raw) → SpellsInsn us r → Plain us r ⊎ Load us r
 known us (I10x op) h = inl (plain_10x us op h)
 known us (I12x op a b) h = inl (plain_12x us op a b h)
 known us (I11n op a b) h = inl (plain_11n us op a b h)
@@ -315,8 +315,8 @@ plain_raw us r p =
     let no = p.not_payload in
     p.same ∙ sym (by_0 _ _ _ _ (number us 0 1) (λ e. no (omega arith, omega arith, omega arith)) (λ e. no (omega arith, omega arith, omega arith)) (λ e. no (omega arith, omega arith, omega arith)))
 
-raw_is : (us : List ℕ) (r : Raw) → Spells us r → r ≡ raw_at us
+raw_is : (us : List ℕ) (r : Raw) → SpellsInsn us r → r ≡ raw_at us
 raw_is us r h = ⊎_elim (plain_raw us r) (λ (l : Load us r). l.same) (known us r h)
 
-pub once : (us : List ℕ) (x y : Raw) → Spells us x → Spells us y → x ≡ y
+pub once : (us : List ℕ) (x y : Raw) → SpellsInsn us x → SpellsInsn us y → x ≡ y
 once us x y p q = raw_is us x p ∙ sym (raw_is us y q)

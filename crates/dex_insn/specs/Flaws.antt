@@ -1,10 +1,10 @@
 -- Which rule the units at some place break, and by which number a fault names it.
 use Rattle.std.specs.Prelude.{ℕ, ◌≡◌, ◌≤◌, ◌<◌, ◌*◌, ◌+◌, ◌%◌, Option, Some, None, List, length, drop, slice_range, if◌then◌else◌, ◌==◌, Bool, true, false, IsTrue}
 use Rattle.dex_base.specs.declared.fault.Fault.{Fault}
-use Rattle.dex_insn.specs.Fields.{number, field, Rises}
+use Rattle.dex_insn.specs.Fields.{number, field, KeysRise}
 use Rattle.dex_insn.specs.Opcodes.{format_of, units_of}
 use Rattle.dex_insn.specs.Raw.{packed_units, sparse_units, data_units}
-use Rattle.dex_insn.specs.RawInsns.{IsPayload, IsWidth}
+use Rattle.dex_insn.specs.RawInsns.{IsPayload, IsElementWidth}
 use Rattle.dex_insn.specs.declared.opcode.Format.{Format}
 use Rattle.dex_insn.specs.declared.opcode.Format.TheVariants.{F10x, F20t, F30t, F32x, F35c}
 use Rattle.dex_insn.specs.declared.flaw.Flaw.{Flaw}
@@ -32,18 +32,18 @@ payload_units us = if field us 0 8 8 == 1 then packed_units (number us 1 1)
     else (if field us 0 8 8 == 2 then sparse_units (number us 1 1) else data_units (number us 2 2 * number us 1 1))
 
 -- the rule that the instruction at the front of the bytes breaks; its first unit is unit `at` of the code
-abbrev pub Breaks : Flaw → ℕ → List ℕ → Type 0
-Breaks Missing at us = length us < 2
-Breaks Opcode at us = format_at us ≡ None
-Breaks Cut at us = (format : Format) × (¬ IsPayload us) × (format_at us ≡ Some format) × (length us < 2 * units_of format)
-Breaks NonZero at us = (format : Format) × (¬ IsPayload us) × (format_at us ≡ Some format) × IsTrue (has_zero_byte format) × (0 < field us 0 8 8)
-Breaks RegisterCount at us = (format_at us ≡ Some F35c) × (5 < field us 0 12 4)
-Breaks OddPayload at us = IsPayload us × (at % 2 ≡ 1)
-Breaks CutHead at us = IsPayload us × (length us < 2 * head_units us)
-Breaks Width at us = (number us 0 1 ≡ 0x0300) × (8 ≤ length us) × (¬ IsWidth (number us 1 1))
-Breaks CutPayload at us = IsPayload us × (length us < 2 * payload_units us)
-Breaks KeyOrder at us = (number us 0 1 ≡ 0x0200) × (2 * sparse_units (number us 1 1) ≤ length us)
-    × (¬ Rises (slice_range us 4 (4 + 4 * number us 1 1)) (number us 1 1))
+abbrev pub InsnBreaks : Flaw → ℕ → List ℕ → Type 0
+InsnBreaks Missing at us = length us < 2
+InsnBreaks Opcode at us = format_at us ≡ None
+InsnBreaks Cut at us = (format : Format) × (¬ IsPayload us) × (format_at us ≡ Some format) × (length us < 2 * units_of format)
+InsnBreaks NonZero at us = (format : Format) × (¬ IsPayload us) × (format_at us ≡ Some format) × IsTrue (has_zero_byte format) × (0 < field us 0 8 8)
+InsnBreaks RegisterCount at us = (format_at us ≡ Some F35c) × (5 < field us 0 12 4)
+InsnBreaks OddPayload at us = IsPayload us × (at % 2 ≡ 1)
+InsnBreaks CutHead at us = IsPayload us × (length us < 2 * head_units us)
+InsnBreaks Width at us = (number us 0 1 ≡ 0x0300) × (8 ≤ length us) × (¬ IsElementWidth (number us 1 1))
+InsnBreaks CutPayload at us = IsPayload us × (length us < 2 * payload_units us)
+InsnBreaks KeyOrder at us = (number us 0 1 ≡ 0x0200) × (2 * sparse_units (number us 1 1) ≤ length us)
+    × (¬ KeysRise (slice_range us 4 (4 + 4 * number us 1 1)) (number us 1 1))
 
 -- the number by which a fault names the rule
 abbrev pub code_of : Flaw → ℕ
@@ -63,4 +63,4 @@ pub record IsFaultAt (bytes : List ℕ) (at : ℕ) (fault : Fault) : Type 0 wher
   pub flaw : Flaw
   pub code : fault.code ≡ code_of flaw
   pub place : fault.place ≡ at
-  pub broken : Breaks flaw at (drop (2 * at) bytes)
+  pub broken : InsnBreaks flaw at (drop (2 * at) bytes)

@@ -3,46 +3,46 @@
 ghost use Rattle.std.specs.Prelude.{ℕ, List, ◌≡◌, ◌≤◌, ◌<◌, ◌+◌, ◌*◌, ◌%◌, ◌++◌, length, true, false};
 ghost use Rattle.dex_base.specs.declared.fault.Fault.{Fault};
 ghost use Rattle.dex_insn.specs.Raw.{Raw, units, is_payload};
-ghost use Rattle.dex_insn.specs.RawInsns.{Spells, Stands, IsPayload};
+ghost use Rattle.dex_insn.specs.RawInsns.{SpellsInsn, InsnStands, IsPayload};
 ghost use Rattle.dex_insn.specs.Flaws.{IsFaultAt};
 ghost use Rattle.dex_base.specs.Fields.{AreBytes};
 ghost use Rattle.dex_insn.specs.Written.{IsRaw, written};
 
 /// At a unit stands one instruction at most.
 pub fn one_stands()
-    ensures { (bytes : List ℕ) (at : ℕ) (x y : Raw) → Stands bytes at x → Stands bytes at y → x ≡ y }
+    ensures { (bytes : List ℕ) (at : ℕ) (x y : Raw) → InsnStands bytes at x → InsnStands bytes at y → x ≡ y }
 {}
 
 /// An instruction that stands has units, and they are all there.
 pub fn whole_where_one_stands()
-    ensures { (bytes : List ℕ) (at : ℕ) (r : Raw) → Stands bytes at r → (0 < units r) × (2 * at + 2 * units r ≤ length bytes) }
+    ensures { (bytes : List ℕ) (at : ℕ) (r : Raw) → InsnStands bytes at r → (0 < units r) × (2 * at + 2 * units r ≤ length bytes) }
 {}
 
 /// Where an instruction stands, no rule is broken.
 pub fn clear_where_one_stands()
-    ensures { (bytes : List ℕ) (at : ℕ) (r : Raw) (fault : Fault) → Stands bytes at r → IsFaultAt bytes at fault → ⊥ }
+    ensures { (bytes : List ℕ) (at : ℕ) (r : Raw) (fault : Fault) → InsnStands bytes at r → IsFaultAt bytes at fault → ⊥ }
 {}
 
 /// What stands behind an instruction doesn't change its reading.
 pub fn behind_is_free()
-    ensures more { (bytes behind : List ℕ) (at : ℕ) (r : Raw) → Stands bytes at r → Stands (bytes ++ behind) at r }
-    ensures less { (bytes behind : List ℕ) (at : ℕ) (r : Raw) → 2 * at + 2 * units r ≤ length bytes → Stands (bytes ++ behind) at r → Stands bytes at r }
+    ensures more { (bytes behind : List ℕ) (at : ℕ) (r : Raw) → InsnStands bytes at r → InsnStands (bytes ++ behind) at r }
+    ensures less { (bytes behind : List ℕ) (at : ℕ) (r : Raw) → 2 * at + 2 * units r ≤ length bytes → InsnStands (bytes ++ behind) at r → InsnStands bytes at r }
 {}
 
 /// A payload begins with a payload's identifier, and nothing else does.
 pub fn payloads_by_identifier()
-    ensures payload { (us : List ℕ) (r : Raw) → Spells us r → is_payload r ≡ true → IsPayload us }
-    ensures plain { (us : List ℕ) (r : Raw) → Spells us r → is_payload r ≡ false → ¬ IsPayload us }
+    ensures payload { (us : List ℕ) (r : Raw) → SpellsInsn us r → is_payload r ≡ true → IsPayload us }
+    ensures plain { (us : List ℕ) (r : Raw) → SpellsInsn us r → is_payload r ≡ false → ¬ IsPayload us }
 {}
 
 /// What is written stands where it was written, a payload where that is an even unit.
 pub fn written_stands()
     ensures { (before behind : List ℕ) (at : ℕ) (r : Raw) → IsRaw r → length before ≡ 2 * at → (is_payload r ≡ true → at % 2 ≡ 0)
-        → Stands (before ++ (written r ++ behind)) at r }
+        → InsnStands (before ++ (written r ++ behind)) at r }
 {}
 
 /// What stands in bytes can be written: its operands fit their fields.
 #[tactic(auto, using(crate::proofs::Fits::stands_fits))]
 pub fn what_stands_can_be_written()
-    ensures { (bytes : List ℕ) (at : ℕ) (r : Raw) → AreBytes bytes → Stands bytes at r → IsRaw r }
+    ensures { (bytes : List ℕ) (at : ℕ) (r : Raw) → AreBytes bytes → InsnStands bytes at r → IsRaw r }
 {}

@@ -1,10 +1,10 @@
 //! Reading a payload ("Dalvik bytecode", the three payload formats).
 
 ghost use Rattle.std.specs.Prelude.{ℕ, ◌≡◌, ◌≤◌, ◌+◌, ◌*◌, ◌<◌, length, IfOk, IfErr, IsTrue, ◌↔◌};
-ghost use Rattle.dex_insn.specs.Fields.{number, field, Rises};
+ghost use Rattle.dex_insn.specs.Fields.{number, field, KeysRise};
 ghost use Rattle.dex_insn.specs.Raw.{raw};
-ghost use Rattle.dex_insn.specs.RawInsns.{Spells, IsWidth};
-ghost use Rattle.dex_insn.specs.Flaws.{Breaks};
+ghost use Rattle.dex_insn.specs.RawInsns.{SpellsInsn, IsElementWidth};
+ghost use Rattle.dex_insn.specs.Flaws.{InsnBreaks};
 
 use crate::flaw::Flaw;
 use crate::raw::RawInsn;
@@ -13,7 +13,7 @@ use crate::units::{two_units, unit};
 /// Whether the keys, `n` numbers of 32 bits, rise strictly.
 fn rises(keys: &[u8], n: usize) -> bool
     requires { length keys.now ≡ 4 * n }
-    ensures { IsTrue result ↔ Rises keys.now n }
+    ensures { IsTrue result ↔ KeysRise keys.now n }
 {
     for i in 1..n {
         let before = two_units(keys, 2 * (i - 1)).cast_signed();
@@ -30,8 +30,8 @@ fn rises(keys: &[u8], n: usize) -> bool
 pub(crate) fn read_packed(front: &[u8]) -> Result<RawInsn<'_>, Flaw>
     requires long { 2 ≤ length front.now }
     requires identifier { number front.now 0 1 ≡ 0x0100 }
-    ensures ok { IfOk result (λ insn. Spells front.now (raw insn)) }
-    ensures err { IfErr result (λ flaw. (at : ℕ) → Breaks flaw at front.now) }
+    ensures ok { IfOk result (λ insn. SpellsInsn front.now (raw insn)) }
+    ensures err { IfErr result (λ flaw. (at : ℕ) → InsnBreaks flaw at front.now) }
 {
     if front.len() < 4 {
         return Err(Flaw::CutHead);
@@ -51,8 +51,8 @@ pub(crate) fn read_packed(front: &[u8]) -> Result<RawInsn<'_>, Flaw>
 pub(crate) fn read_sparse(front: &[u8]) -> Result<RawInsn<'_>, Flaw>
     requires long { 2 ≤ length front.now }
     requires identifier { number front.now 0 1 ≡ 0x0200 }
-    ensures ok { IfOk result (λ insn. Spells front.now (raw insn)) }
-    ensures err { IfErr result (λ flaw. (at : ℕ) → Breaks flaw at front.now) }
+    ensures ok { IfOk result (λ insn. SpellsInsn front.now (raw insn)) }
+    ensures err { IfErr result (λ flaw. (at : ℕ) → InsnBreaks flaw at front.now) }
 {
     if front.len() < 4 {
         return Err(Flaw::CutHead);
@@ -73,7 +73,7 @@ pub(crate) fn read_sparse(front: &[u8]) -> Result<RawInsn<'_>, Flaw>
 
 /// Whether the elements of an array payload may have this width.
 fn is_width(width: u16) -> bool
-    ensures { IsTrue result ↔ IsWidth width }
+    ensures { IsTrue result ↔ IsElementWidth width }
 {
     width == 1 || width == 2 || width == 4 || width == 8
 }
@@ -83,8 +83,8 @@ fn is_width(width: u16) -> bool
 pub(crate) fn read_data(front: &[u8]) -> Result<RawInsn<'_>, Flaw>
     requires long { 2 ≤ length front.now }
     requires identifier { number front.now 0 1 ≡ 0x0300 }
-    ensures ok { IfOk result (λ insn. Spells front.now (raw insn)) }
-    ensures err { IfErr result (λ flaw. (at : ℕ) → Breaks flaw at front.now) }
+    ensures ok { IfOk result (λ insn. SpellsInsn front.now (raw insn)) }
+    ensures err { IfErr result (λ flaw. (at : ℕ) → InsnBreaks flaw at front.now) }
 {
     if front.len() < 8 {
         return Err(Flaw::CutHead);

@@ -2,8 +2,8 @@
 
 ghost use Rattle.std.specs.Prelude.{ℕ, ◌≡◌, ◌≤◌, length, IfOk, IfErr, ◌/◌, ◌%◌, [], ◌∷◌};
 ghost use Rattle.dex_insn.specs.Raw.{raw};
-ghost use Rattle.dex_insn.specs.RawInsns.{Spells, IsPayload, register};
-ghost use Rattle.dex_insn.specs.Flaws.{Breaks};
+ghost use Rattle.dex_insn.specs.RawInsns.{SpellsInsn, IsPayload, register};
+ghost use Rattle.dex_insn.specs.Flaws.{InsnBreaks};
 
 use crate::columns::format_of;
 use crate::flaw::Flaw;
@@ -17,8 +17,8 @@ use crate::units::{four_units, high_byte, low_byte, signed_nibble, signed_unit, 
 pub(crate) fn read_plain(front: &[u8]) -> Result<RawInsn<'_>, Flaw>
     requires long { 2 ≤ length front.now }
     requires plain { ¬ IsPayload front.now }
-    ensures ok { IfOk result (λ insn. Spells front.now (raw insn)) }
-    ensures err { IfErr result (λ flaw. (at : ℕ) → Breaks flaw at front.now) }
+    ensures ok { IfOk result (λ insn. SpellsInsn front.now (raw insn)) }
+    ensures err { IfErr result (λ flaw. (at : ℕ) → InsnBreaks flaw at front.now) }
 {
     let first = unit(front, 0);
     let (op, high) = (low_byte(first), high_byte(first));

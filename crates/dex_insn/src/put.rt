@@ -3,7 +3,7 @@
 ghost use Rattle.std.specs.Prelude.{◌≡◌, ◌*◌, ◌/◌, ◌%◌, ◌++◌, [], ◌∷◌, OnOk, OnErr, IsOkUnless, length, vec_capacity, ◌≤◌};
 ghost use Rattle.dex_base.specs.Fault.{memory};
 ghost use Rattle.dex_insn.specs.Raw.{raw, units};
-ghost use Rattle.dex_insn.specs.RawInsns.{Spells};
+ghost use Rattle.dex_insn.specs.RawInsns.{SpellsInsn};
 ghost use Rattle.dex_insn.specs.Written.{IsRaw, written, bytes_of};
 
 use crate::put_payload::{put_data, put_packed, put_sparse};
@@ -80,7 +80,7 @@ pub fn put_insn(out: &mut Vec<u8>, insn: &RawInsn<'_>) -> Result<(), Fault>
     // These bytes are appended.
     ensures ok { OnOk result (out.new.items ≡ out.old.items ++ written (raw insn.now)) }
     // They spell the instruction, and are its units.
-    ensures spelled { Spells (written (raw insn.now)) (raw insn.now) }
+    ensures spelled { SpellsInsn (written (raw insn.now)) (raw insn.now) }
     ensures whole { length (written (raw insn.now)) ≡ 2 * units (raw insn.now) }
     ensures err { OnErr result (out.new.items ≡ out.old.items) }
     ensures only_memory { IsOkUnless result memory }

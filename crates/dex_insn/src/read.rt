@@ -2,8 +2,8 @@
 
 ghost use Rattle.std.specs.Prelude.{◌≡◌, ◌≤◌, length, IfOk, IfErr, IsOkAnd, ◌%◌};
 ghost use Rattle.dex_insn.specs.Raw.{Raw, raw};
-ghost use Rattle.dex_insn.specs.RawInsns.{Spells, IsPayload, Stands};
-ghost use Rattle.dex_insn.specs.Flaws.{Breaks, IsFaultAt, code_of};
+ghost use Rattle.dex_insn.specs.RawInsns.{SpellsInsn, IsPayload, InsnStands};
+ghost use Rattle.dex_insn.specs.Flaws.{InsnBreaks, IsFaultAt, code_of};
 
 use crate::flaw::Flaw;
 use crate::payload::{read_data, read_packed, read_sparse};
@@ -15,9 +15,9 @@ use dex_base::Fault;
 /// Reads the instruction or payload at the front of the bytes, whose first unit is unit `at`.
 fn read_front(front: &[u8], at: u32) -> Result<RawInsn<'_>, Flaw>
     requires long { 2 ≤ length front.now }
-    ensures ok { IfOk result (λ insn. Spells front.now (raw insn)) }
+    ensures ok { IfOk result (λ insn. SpellsInsn front.now (raw insn)) }
     ensures even { IfOk result (λ insn. IsPayload front.now → at % 2 ≡ 0) }
-    ensures err { IfErr result (λ flaw. Breaks flaw at front.now) }
+    ensures err { IfErr result (λ flaw. InsnBreaks flaw at front.now) }
 {
     match unit(front, 0) {
         0x0100 | 0x0200 | 0x0300 if at % 2 == 1 => Err(Flaw::OddPayload),
@@ -49,9 +49,9 @@ fn fault(flaw: Flaw, at: u32) -> Fault
 /// 62, 63, 64, 66 is answered, and for payloads in the order odd unit, head past the units, width, length past the units, keys.
 pub fn read_insn(units: &[u8], at: u32) -> Result<RawInsn<'_>, Fault>
     // What is read stands there.
-    ensures ok { IfOk result (λ insn. Stands units.now at (raw insn)) }
+    ensures ok { IfOk result (λ insn. InsnStands units.now at (raw insn)) }
     // What stands there is read.
-    ensures only { (r : Raw) → Stands units.now at r → IsOkAnd result (λ insn. raw insn ≡ r) }
+    ensures only { (r : Raw) → InsnStands units.now at r → IsOkAnd result (λ insn. raw insn ≡ r) }
     // A refusal names a rule that is broken there.
     ensures err { IfErr result (λ fault. IsFaultAt units.now at fault) }
 {

@@ -4,3 +4,5 @@ pub mod Key
 pub mod KeyLaws
 pub mod Shorty
 pub mod Depth
+pub mod Kinds
+pub mod Mentions

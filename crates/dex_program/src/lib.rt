@@ -31,6 +31,7 @@ mod class;
 // What is done with names and values.
 mod compare;
 mod depth;
+mod kinds;
 mod place;
 mod shorty;
 
@@ -42,6 +43,7 @@ pub use compare::{
 };
 pub use depth::is_within_depth;
 pub use insn::Insn;
+pub use kinds::{is_class_or_array, is_class_type, is_void};
 pub use names::{Desc, FieldRef, MethodRef, Name, Proto, Str};
 pub use place::{place_descs, place_proto, place_str};
 pub use shorty::{shorty_laws, shorty_of};

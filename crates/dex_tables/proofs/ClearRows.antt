@@ -10,13 +10,13 @@ use Rattle.dex_container.specs.Frame.{IsFramed}
 use Rattle.dex_container.specs.Layout.{size_of}
 use Rattle.dex_container.specs.Faults.{on}
 use Rattle.dex_program.specs.Content.{Units}
-use Rattle.dex_tables.specs.Where.{slice, At, IsInSection}
+use Rattle.dex_container.specs.Where.{slice, At, IsInSection}
 use Rattle.dex_tables.specs.RowFields.{string_place, type_string, proto_shorty, proto_return, proto_parameters, member_class, member_kind, member_name}
-use Rattle.dex_tables.specs.Stands.{void}
+use Rattle.dex_program.specs.Kinds.{void}
 use Rattle.dex_program.specs.Shorty.{shorty}
 use Rattle.dex_tables.specs.Sorted.{StringHolds, TypeHolds, ProtoHolds, FieldHolds, MethodHolds, RowsHold}
 use Rattle.dex_tables.specs.TableFaults.{StringBreaks, TypeBreaks, ProtoBreaks, FieldBreaks, MethodBreaks, IsFirstRow}
-use Rattle.dex_tables.proofs.Standing.{at_place}
+use Rattle.dex_container.proofs.Standing.{at_place}
 use Rattle.dex_tables.proofs.RowReading.{string_one}
 use Rattle.dex_tables.proofs.TypeLists.{type_one, types_one}
 

@@ -12,8 +12,8 @@ use Rattle.dex_tables.specs.Halves.{halves}
 use Rattle.dex_container.specs.Frame.{IsFramed}
 use Rattle.std.specs.Prelude.{MatchBool, ◌==◌}
 use Rattle.dex_tables.specs.Stands.{SpellsIndexes}
-use Rattle.dex_tables.specs.Where.{slice, At, AtOrNone, IsInSection}
-use Rattle.dex_tables.proofs.Standing.{at_place, At-one}
+use Rattle.dex_container.specs.Where.{slice, At, AtOrNone, IsInSection}
+use Rattle.dex_container.proofs.Standing.{at_place, At-one}
 
 -- ---- numbers and their bytes
 

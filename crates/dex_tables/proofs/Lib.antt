@@ -1,17 +1,7 @@
-pub mod FiveLemmas
-pub mod HeldLemmas
-pub mod RisingLemmas
-pub mod RowLemmas
-pub mod SubsetLemmas
-pub mod UnionLemmas
-pub mod Standing
 pub mod RowReading
-pub mod PlaceLemmas
 pub mod HalvesLaws
 pub mod TypeLists
 pub mod OrderLaws
 pub mod ShortyLaws
 pub mod ClearRows
 pub mod NameLaws
-pub mod NeededLemmas
-pub mod IndexLemmas

@@ -9,16 +9,17 @@ use Rattle.dex_base.proofs.TextLaws.{text_unique}
 use Rattle.dex_container.specs.Frame.{IsFramed}
 use Rattle.dex_container.specs.Layout.{size_of}
 use Rattle.dex_tables.specs.Names.{AreRows}
-use Rattle.dex_tables.specs.Reading.{AreFirst, LastIsBelow, IsSectionOf}
+use Rattle.dex_container.specs.Where.{IsSectionOf}
+use Rattle.dex_tables.specs.Reading.{AreFirst, LastIsBelow}
 use Rattle.dex_tables.specs.RowFields.{string_place}
-use Rattle.dex_tables.specs.Sorted.{Rises, IsBelow, StringIsBelow, RowsHold}
+use Rattle.dex_tables.specs.Sorted.{RowRises, IsBelow, StringIsBelow, RowsHold}
 use Rattle.dex_tables.specs.Stands.{StringStands}
 use Rattle.dex_tables.specs.TableFaults.{BreaksAt, IsFirstRow}
 use Rattle.dex_base.specs.declared.fault.Fault.{Fault}
 use Rattle.std.specs.Result.{IsErrAnd}
-use Rattle.dex_tables.proofs.Standing.{At-one, stands_at, stands_not, mod_one}
-use Rattle.dex_tables.specs.Where.{At}
-use Rattle.dex_tables.specs.declared.section.Section.{Section}
+use Rattle.dex_container.proofs.Standing.{At-one, stands_at, stands_not, mod_one}
+use Rattle.dex_container.specs.Where.{At}
+use Rattle.dex_container.specs.declared.section.Section.{Section}
 use Rattle.dex_base.specs.Grammar.{Begins, NoneBegins}
 use Rattle.dex_program.specs.View.{str}
 use Rattle.dex_program.specs.declared.names.Str.{Str}
@@ -73,7 +74,7 @@ pub string_one : (b : List ℕ) (i : ℕ) (s t : List ℕ) → IsFramed b → St
 string_one b i s t framed x y = At-one SpellsText text_unique b framed 0x2002 1 (string_place b i) s t x.text y.text
 
 -- texts in order make rows in order
-pub string_rises : (b : List ℕ) (n : ℕ) (texts : List (List ℕ)) (next : List ℕ) → IsFramed b → ((i : ℕ) (v : List ℕ) → slice_get texts i ≡ Some v → StringStands b i v) → length texts ≡ n → StringStands b n next → LastIsBelow texts next → Rises (StringIsBelow) b n
+pub string_rises : (b : List ℕ) (n : ℕ) (texts : List (List ℕ)) (next : List ℕ) → IsFramed b → ((i : ℕ) (v : List ℕ) → slice_get texts i ≡ Some v → StringStands b i v) → length texts ≡ n → StringStands b n next → LastIsBelow texts next → RowRises (StringIsBelow) b n
 string_rises b n texts next framed each count stands below j is s t at_j at_n =
     let lt : j < length texts = omega arith in
     let last = get_or texts j [] in
@@ -83,7 +84,7 @@ string_rises b n texts next framed each count stands below j is s t at_j at_n =
     subst (λ (x : List ℕ). IsBelow s x) c (subst (λ (x : List ℕ). IsBelow x next) a (below j last (is ∙ sym count) got))
 
 -- and texts that are not, rows that are not
-pub string_falls : (b : List ℕ) (n : ℕ) (texts : List (List ℕ)) (next : List ℕ) → ((i : ℕ) (v : List ℕ) → slice_get texts i ≡ Some v → StringStands b i v) → length texts ≡ n → StringStands b n next → ¬ LastIsBelow texts next → ¬ Rises StringIsBelow b n
+pub string_falls : (b : List ℕ) (n : ℕ) (texts : List (List ℕ)) (next : List ℕ) → ((i : ℕ) (v : List ℕ) → slice_get texts i ≡ Some v → StringStands b i v) → length texts ≡ n → StringStands b n next → ¬ LastIsBelow texts next → ¬ RowRises StringIsBelow b n
 string_falls b n texts next each count stands not rises =
     not (λ j last is got. rises j (is ∙ count) last next (each j last got) stands)
 
@@ -126,10 +127,10 @@ pub first_row : (Breaks : List ℕ → ℕ → ℕ → Type 0) (Holds : List ℕ
 first_row Breaks Holds b k i e within before broken = record { row = i; within = within; broken = broken; before = before }
 
 -- the row before row i is row i - 1
-pub rises_from : (Below : List ℕ → ℕ → ℕ → Type 0) (b : List ℕ) (i : ℕ) → 0 < i → Below b (i - 1) i → Rises Below b i
+pub rises_from : (Below : List ℕ → ℕ → ℕ → Type 0) (b : List ℕ) (i : ℕ) → 0 < i → Below b (i - 1) i → RowRises Below b i
 rises_from Below b i some below j is = let e : i - 1 ≡ j = omega (arith, is, some) in subst (λ (k : ℕ). Below b k i) e below
 
-pub rises_to : (Below : List ℕ → ℕ → ℕ → Type 0) (b : List ℕ) (i : ℕ) → 0 < i → Rises Below b i → Below b (i - 1) i
+pub rises_to : (Below : List ℕ → ℕ → ℕ → Type 0) (b : List ℕ) (i : ℕ) → 0 < i → RowRises Below b i → Below b (i - 1) i
 rises_to Below b i some rises = rises (i - 1) (omega (arith, some))
 
 -- a fact that follows for whatever is there, or is not

@@ -8,10 +8,11 @@ use Rattle.dex_container.specs.Layout.{size_of}
 use Rattle.dex_program.specs.Content.{Units}
 use Rattle.dex_program.specs.View.{desc}
 use Rattle.dex_program.specs.declared.names.Desc.{Desc}
-use Rattle.dex_tables.specs.Where.{At, AtOrNone}
+use Rattle.dex_container.specs.Where.{At, AtOrNone}
 use Rattle.dex_tables.specs.RowFields.{type_string, proto_return, proto_parameters}
 use Rattle.dex_tables.specs.Sorted.{IsBelow, ProtoIsBelow}
-use Rattle.dex_tables.specs.Stands.{TypeStands, TypesAt, SpellsTypes, SpellsIndexes, void}
+use Rattle.dex_program.specs.Kinds.{void}
+use Rattle.dex_tables.specs.Stands.{TypeStands, TypesAt, SpellsTypes, SpellsIndexes}
 use Rattle.dex_tables.specs.TableFaults.{ParametersAt}
 use Rattle.dex_tables.proofs.RowReading.{string_one}
 use Rattle.dex_tables.proofs.HalvesLaws.{list_or_none_one}

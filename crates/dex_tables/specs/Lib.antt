@@ -1,14 +1,7 @@
-pub mod Closure
-pub mod Keys
 pub mod Names
-pub mod Rank
 pub mod RowFields
-pub mod Rows
 pub mod Sorted
 pub mod Stands
 pub mod TableFaults
-pub mod Where
 pub mod Reading
 pub mod Halves
-pub mod Indices
-pub mod Needed

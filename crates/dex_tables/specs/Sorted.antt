@@ -6,7 +6,7 @@ use Rattle.std.specs.Ordering.{nat_cmp}
 use Rattle.std.specs.declared.cmp.Ordering.TheVariants.{Less}
 use Rattle.dex_container.specs.Layout.{size_of}
 use Rattle.dex_program.specs.Content.{Units}
-use Rattle.dex_tables.specs.Where.{AtOrNone}
+use Rattle.dex_container.specs.Where.{AtOrNone}
 use Rattle.dex_tables.specs.RowFields.{type_string, proto_return, proto_parameters, member_key}
 use Rattle.dex_tables.specs.Stands.{StringStands, TypeStands, ProtoStands, FieldStands, MethodStands, SpellsIndexes}
 
@@ -37,14 +37,14 @@ abbrev pub MemberIsBelow : ℕ → List ℕ → ℕ → ℕ → Type 0
 MemberIsBelow k b i j = IsBelow (member_key b k i) (member_key b k j)
 
 -- The row before row i, if there is one, is below it.
-abbrev pub Rises : (List ℕ → ℕ → ℕ → Type 0) → List ℕ → ℕ → Type 0
-Rises Below b i = (j : ℕ) → j + 1 ≡ i → Below b j i
+abbrev pub RowRises : (List ℕ → ℕ → ℕ → Type 0) → List ℕ → ℕ → Type 0
+RowRises Below b i = (j : ℕ) → j + 1 ≡ i → Below b j i
 
 -- Row i denotes a name, and the row before it is below it.
 pub record RowHolds {V : Type 0} (Stands : List ℕ → ℕ → V → Type 0) (Below : List ℕ → ℕ → ℕ → Type 0) (b : List ℕ) (i : ℕ) : Type 0 where
   pub name : V
   pub stands : Stands b i name
-  pub rises : Rises Below b i
+  pub rises : RowRises Below b i
 
 -- A row of string_ids holds: it denotes a string, above the row before by its units.
 abbrev pub StringHolds : List ℕ → ℕ → Type 0

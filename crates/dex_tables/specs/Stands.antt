@@ -1,5 +1,5 @@
 -- Which name a row of a table denotes (Dalvik Executable format, "string_id_item" to "method_id_item", "type_list").
-use Rattle.std.specs.Prelude.{◌≡◌, ◌≢◌, ℕ, ◌^◌, ◌<◌, ◌⊎◌, List, length, codes, ◌++◌}
+use Rattle.std.specs.Prelude.{◌≡◌, ◌≢◌, ℕ, ◌^◌, ◌<◌, ◌⊎◌, List, length, ◌++◌}
 use Rattle.std.specs.List.{AllZip, AllByRecursion}
 use Rattle.dex_base.specs.Fields.{u32_bytes}
 use Rattle.dex_base.specs.Words.{halves_bytes}
@@ -7,8 +7,9 @@ use Rattle.dex_base.specs.Mutf8.{SpellsText}
 use Rattle.dex_base.specs.Descriptor.{IsDescriptor, IsClass, IsArray, IsMemberName}
 use Rattle.dex_container.specs.Layout.{size_of}
 use Rattle.dex_program.specs.Content.{Units, Proto, FieldRef, MethodRef, Name, OfText, OfDesc, OfField, OfMethod}
+use Rattle.dex_program.specs.Kinds.{void}
 use Rattle.dex_program.specs.Shorty.{shorty}
-use Rattle.dex_tables.specs.Where.{At, AtOrNone}
+use Rattle.dex_container.specs.Where.{At, AtOrNone}
 use Rattle.dex_tables.specs.RowFields.{string_place, type_string, proto_shorty, proto_return, proto_parameters, member_class, member_kind, member_name}
 
 -- Row i of the strings: the text of its string_data_item.
@@ -37,10 +38,6 @@ pub record SpellsTypes (b bytes : List ℕ) (ts : List Units) : Type 0 where
 -- The list of types at an offset, 0 for the empty one.
 abbrev pub TypesAt : List ℕ → ℕ → List Units → Type 0
 TypesAt b place ts = AtOrNone (SpellsTypes b) b 0x1001 4 place ts
-
--- The return type that is no value's type.
-abbrev pub void : Units
-void = codes "V"
 
 -- Row i of the protos: return type, parameters that are not void, and the shorty of these.
 pub record ProtoStands (b : List ℕ) (i : ℕ) (p : Proto) : Type 0 where

@@ -9,17 +9,18 @@ use Rattle.dex_container.specs.Frame.{IsFramed}
 use Rattle.dex_container.specs.Faults.{on}
 use Rattle.dex_program.specs.Content.{Units, Proto}
 use Rattle.dex_program.specs.Shorty.{shorty}
-use Rattle.dex_tables.specs.Where.{IsInSection}
+use Rattle.dex_container.specs.Where.{IsInSection}
 use Rattle.dex_tables.specs.RowFields.{row_place, string_place, type_string, proto_shorty, proto_return, proto_parameters, member_class, member_kind, member_name}
-use Rattle.dex_tables.specs.Stands.{StringStands, TypeStands, TypesAt, void}
-use Rattle.dex_tables.specs.Sorted.{Rises, StringIsBelow, TypeIsBelow, ProtoIsBelow, MemberIsBelow, StringHolds, TypeHolds, ProtoHolds, FieldHolds, MethodHolds, RowsHold, StringsHold, TypesHold, ProtosHold, FieldsHold}
+use Rattle.dex_program.specs.Kinds.{void}
+use Rattle.dex_tables.specs.Stands.{StringStands, TypeStands, TypesAt}
+use Rattle.dex_tables.specs.Sorted.{RowRises, StringIsBelow, TypeIsBelow, ProtoIsBelow, MemberIsBelow, StringHolds, TypeHolds, ProtoHolds, FieldHolds, MethodHolds, RowsHold, StringsHold, TypesHold, ProtosHold, FieldsHold}
 
 -- 20 StringPlace, 21 StringSpelling, 22 StringOrder
 abbrev pub StringBreaks : List ℕ → ℕ → ℕ → Type 0
 StringBreaks b code i =
     on code 20 (¬ IsInSection b 0x2002 (string_place b i)) (
     on code 21 (IsInSection b 0x2002 (string_place b i) × ((s : Units) → ¬ StringStands b i s)) (
-    on code 22 (¬ Rises StringIsBelow b i)
+    on code 22 (¬ RowRises StringIsBelow b i)
     ⊥))
 
 -- 23 TypeIndex, 24 TypeText, 25 TypeOrder
@@ -27,7 +28,7 @@ abbrev pub TypeBreaks : List ℕ → ℕ → ℕ → Type 0
 TypeBreaks b code i =
     on code 23 (size_of b 0 ≤ type_string b i) (
     on code 24 ((t : Units) × StringStands b (type_string b i) t × (¬ IsDescriptor t)) (
-    on code 25 (¬ Rises TypeIsBelow b i)
+    on code 25 (¬ RowRises TypeIsBelow b i)
     ⊥))
 
 -- a list of parameters: types, and none of them void
@@ -50,7 +51,7 @@ ProtoBreaks b code i =
     on code 26 ((size_of b 0 ≤ proto_shorty b i) ⊎ (size_of b 1 ≤ proto_return b i)) (
     on code 28 ((ts : List Units) → ¬ ParametersAt b (proto_parameters b i) ts) (
     on code 27 (HasAnotherShorty b i) (
-    on code 29 (¬ Rises ProtoIsBelow b i)
+    on code 29 (¬ RowRises ProtoIsBelow b i)
     ⊥)))
 
 -- 30 FieldIndex, 31 FieldKind, 32 FieldOrder
@@ -60,7 +61,7 @@ FieldBreaks b code i =
     on code 31 (((t : Units) × TypeStands b (member_class b 3 i) t × (¬ IsClass t))
     ⊎ TypeStands b (member_kind b 3 i) void
     ⊎ ((s : Units) × StringStands b (member_name b 3 i) s × (¬ IsMemberName s))) (
-    on code 32 (¬ Rises (MemberIsBelow 3) b i)
+    on code 32 (¬ RowRises (MemberIsBelow 3) b i)
     ⊥))
 
 -- 33 MethodIndex, 34 MethodKind, 35 MethodOrder
@@ -69,7 +70,7 @@ MethodBreaks b code i =
     on code 33 ((size_of b 1 ≤ member_class b 4 i) ⊎ (size_of b 2 ≤ member_kind b 4 i) ⊎ (size_of b 0 ≤ member_name b 4 i)) (
     on code 34 (((t : Units) × TypeStands b (member_class b 4 i) t × (¬ (IsClass t ⊎ IsArray t)))
     ⊎ ((s : Units) × StringStands b (member_name b 4 i) s × (¬ IsMemberName s))) (
-    on code 35 (¬ Rises (MemberIsBelow 4) b i)
+    on code 35 (¬ RowRises (MemberIsBelow 4) b i)
     ⊥))
 
 -- Row i of table k breaks a rule, and this is the fault, at the row.

@@ -8,7 +8,7 @@ ghost use Rattle.dex_tables.specs.Sorted.{FieldHolds, FieldsHold};
 ghost use Rattle.dex_tables.specs.Stands.{StringStands, TypeStands, FieldStands};
 ghost use Rattle.dex_tables.specs.TableFaults.{FieldBreaks, BreaksAt, IsFirstRow};
 
-use crate::kinds::{is_class_type, is_void};
+use dex_program::{is_class_type, is_void};
 use crate::look_up::{string_at, type_at};
 use crate::members::rises;
 use crate::row_fields::{member_class, member_kind, member_name, member_row};

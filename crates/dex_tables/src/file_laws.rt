@@ -1,17 +1,12 @@
 //! Laws of what stands in a file, each the contract of a function that does nothing. The one that takes any grammar stands in
 //! `proofs/Standing`: `At-one`, that one value stands at a place where no spelling begins another one.
 ghost use Rattle.std.specs.Prelude.{◌≡◌, ℕ, List};
-ghost use Rattle.dex_container.specs.Frame.{IsFramed, IsSection};
+ghost use Rattle.dex_container.specs.Frame.{IsFramed};
 ghost use Rattle.dex_program.specs.Content.{OfText, OfDesc, OfField, OfMethod};
 ghost use Rattle.dex_tables.specs.Names.{AreNamesOf, NameIsAt};
 ghost use Rattle.dex_tables.specs.Sorted.{StringHolds, TypeHolds, ProtoHolds, FieldHolds, MethodHolds};
 ghost use Rattle.dex_tables.specs.Stands.{NameStands, ProtoStands, TypesAt};
 ghost use Rattle.dex_tables.specs.TableFaults.{StringBreaks, TypeBreaks, ProtoBreaks, FieldBreaks, MethodBreaks};
-
-/// A kind of data item has one section.
-pub fn section_is_one()
-    ensures { (b : List ℕ) → IsFramed b → (kind begin end first last : ℕ) → IsSection b kind begin end → IsSection b kind first last → (begin ≡ first) × (end ≡ last) }
-{}
 
 /// At an offset stands one list of types.
 pub fn type_list_is_one()

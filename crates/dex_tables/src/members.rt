@@ -1,7 +1,7 @@
 // What rows of field_ids and method_ids have in common: the order by class, name, and type or proto.
 ghost use Rattle.std.specs.Prelude.{◌≡◌, ◌-◌, ◌↔◌, ◌<◌, ◌⊎◌, IsTrue};
 ghost use Rattle.dex_container.specs.Layout.{size_of};
-ghost use Rattle.dex_tables.specs.Sorted.{Rises, MemberIsBelow};
+ghost use Rattle.dex_tables.specs.Sorted.{RowRises, MemberIsBelow};
 
 use crate::row_fields::{member_class, member_kind, member_name};
 use dex_container::Sections;
@@ -11,7 +11,7 @@ use std::cmp::Ordering;
 pub(crate) fn rises(sections: &Sections<'_>, table: u16, i: u32) -> bool
     requires table { (table ≡ 4) ⊎ (table ≡ 5) }
     requires row { i < size_of sections.now (table - 1) }
-    ensures { IsTrue result ↔ Rises (MemberIsBelow (table - 1)) sections.now i }
+    ensures { IsTrue result ↔ RowRises (MemberIsBelow (table - 1)) sections.now i }
 {
     i == 0 || is_below(sections, table, i - 1, i)
 }

@@ -8,7 +8,7 @@ ghost use Rattle.dex_tables.specs.Sorted.{MethodHolds, MethodsHold};
 ghost use Rattle.dex_tables.specs.Stands.{StringStands, TypeStands, ProtoStands, MethodStands};
 ghost use Rattle.dex_tables.specs.TableFaults.{MethodBreaks, BreaksAt, IsFirstRow};
 
-use crate::kinds::is_class_or_array;
+use dex_program::is_class_or_array;
 use crate::look_up::{proto_at, string_at, type_at};
 use crate::members::rises;
 use crate::row_fields::{member_class, member_kind, member_name, member_row};

@@ -6,15 +6,15 @@ ghost use Rattle.dex_container.specs.Layout.{size_of};
 ghost use Rattle.dex_program.specs.View.{str, desc, proto};
 ghost use Rattle.dex_program.specs.Shorty.{letter_of, shorty};
 ghost use Rattle.dex_tables.specs.Names.{AreRows};
-ghost use Rattle.dex_tables.specs.Reading.{IsSectionOf};
-ghost use Rattle.dex_tables.specs.Sorted.{Rises, ProtoHolds, ProtosHold, ProtoIsBelow, ProtoIndexes};
+ghost use Rattle.dex_container.specs.Where.{IsSectionOf};
+ghost use Rattle.dex_tables.specs.Sorted.{RowRises, ProtoHolds, ProtosHold, ProtoIsBelow, ProtoIndexes};
 ghost use Rattle.dex_tables.specs.Stands.{StringStands, TypeStands, ProtoStands};
 ghost use Rattle.dex_tables.specs.TableFaults.{ProtoBreaks, ParametersAt, BreaksAt, IsFirstRow};
 
-use crate::kinds::is_void;
+use dex_program::is_void;
 use crate::look_up::{string_at, type_at};
 use crate::row_fields::{proto_parameters, proto_return, proto_row, proto_shorty};
-use crate::section::{Section, section_of};
+use dex_container::{Section, section_of};
 use crate::type_list::{TYPE_LIST, cmp_indexes, indexes_or_none, types_at};
 use bumpalo::Bump;
 use bumpalo::collections::into_bump_slice;
@@ -188,7 +188,7 @@ fn rises(sections: &Sections<'_>, lists: Section, i: u32) -> bool
     requires framed { IsFramed sections.now }
     requires section { IsSectionOf sections.now 0x1001 lists }
     requires row { i < size_of sections.now 2 }
-    ensures { IsTrue result ↔ Rises ProtoIsBelow sections.now i }
+    ensures { IsTrue result ↔ RowRises ProtoIsBelow sections.now i }
 {
     i == 0 || is_below(sections, lists, i - 1, i)
 }

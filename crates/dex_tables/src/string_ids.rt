@@ -5,13 +5,14 @@ ghost use Rattle.dex_container.specs.Layout.{size_of};
 ghost use Rattle.dex_container.specs.Frame.{IsFramed};
 ghost use Rattle.dex_program.specs.View.{str};
 ghost use Rattle.dex_tables.specs.Names.{AreRows};
-ghost use Rattle.dex_tables.specs.Reading.{IsSectionOf, LastIsBelow, AreFirst};
+ghost use Rattle.dex_container.specs.Where.{IsSectionOf};
+ghost use Rattle.dex_tables.specs.Reading.{LastIsBelow, AreFirst};
 ghost use Rattle.dex_tables.specs.Sorted.{StringHolds, StringsHold};
 ghost use Rattle.dex_tables.specs.Stands.{StringStands};
 ghost use Rattle.dex_tables.specs.TableFaults.{StringBreaks, BreaksAt, IsFirstRow};
 
 use crate::row_fields::{string_place, string_row};
-use crate::section::{Section, bytes_from, section_of};
+use dex_container::{Section, bytes_from, section_of};
 use bumpalo::Bump;
 use bumpalo::collections::into_bump_slice;
 use dex_base::{Fault, cmp_units, read_mutf8};

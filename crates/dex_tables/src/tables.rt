@@ -11,7 +11,7 @@ ghost use Rattle.dex_tables.specs.TableFaults.{IsTableFault};
 use crate::field_ids::read_fields;
 use crate::method_ids::read_methods;
 use crate::proto_ids::read_protos;
-use crate::section::section_of;
+use dex_container::section_of;
 use crate::string_ids::read_strings;
 use crate::type_ids::read_types;
 use crate::type_list::{TYPE_LIST, types_at};

@@ -4,7 +4,7 @@ ghost use Rattle.dex_base.specs.Fault.{memory};
 ghost use Rattle.dex_container.specs.Layout.{size_of};
 ghost use Rattle.dex_program.specs.View.{str, desc};
 ghost use Rattle.dex_tables.specs.Names.{AreRows};
-ghost use Rattle.dex_tables.specs.Sorted.{Rises, TypeHolds, TypesHold, TypeIsBelow};
+ghost use Rattle.dex_tables.specs.Sorted.{RowRises, TypeHolds, TypesHold, TypeIsBelow};
 ghost use Rattle.dex_tables.specs.Stands.{StringStands, TypeStands};
 ghost use Rattle.dex_tables.specs.TableFaults.{TypeBreaks, BreaksAt, IsFirstRow};
 
@@ -80,7 +80,7 @@ fn read_type<'a>(sections: &Sections<'_>, strings: &[Str<'a>], i: u32) -> Result
 // Whether row i is above the row before it.
 fn rises(sections: &Sections<'_>, i: u32) -> bool
     requires { i < size_of sections.now 1 }
-    ensures { IsTrue result ↔ Rises TypeIsBelow sections.now i }
+    ensures { IsTrue result ↔ RowRises TypeIsBelow sections.now i }
 {
     i == 0 || type_string(sections, i - 1) < type_string(sections, i)
 }

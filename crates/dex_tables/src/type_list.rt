@@ -8,12 +8,12 @@ ghost use Rattle.dex_container.specs.Frame.{IsFramed};
 ghost use Rattle.dex_program.specs.View.{desc};
 ghost use Rattle.dex_tables.specs.Halves.{halves};
 ghost use Rattle.dex_tables.specs.Names.{AreRows};
-ghost use Rattle.dex_tables.specs.Reading.{IsSectionOf};
+ghost use Rattle.dex_container.specs.Where.{IsSectionOf};
 ghost use Rattle.dex_tables.specs.Stands.{TypeStands, TypesAt, SpellsIndexes};
-ghost use Rattle.dex_tables.specs.Where.{At, AtOrNone};
+ghost use Rattle.dex_container.specs.Where.{At, AtOrNone};
 
 use crate::look_up::type_at;
-use crate::section::{Section, bytes_from};
+use dex_container::{Section, bytes_from};
 use bumpalo::Bump;
 use bumpalo::collections::into_bump_slice;
 use dex_base::{Fault, u16_at, u32_at};

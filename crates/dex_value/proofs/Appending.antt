@@ -8,10 +8,11 @@ use Rattle.dex_base.proofs.GrammarLaws.{Each-appends_none, Each-appends_more}
 use Rattle.dex_program.specs.Content.{Name, OfText, OfDesc, OfField, OfMethod, FieldRef, Value, Float, Enum, Array, Values, more_values, values}
 use Rattle.dex_program.specs.declared.value.Value as made
 use Rattle.dex_program.specs.View.{value}
-use Rattle.dex_tables.specs.Closure.{Five, AreRising, NameRanks}
-use Rattle.dex_tables.proofs.PlaceLemmas.{rank_at}
+use Rattle.dex_names.specs.Closure.{Five, AreRising, NameRanks}
+use Rattle.dex_names.proofs.PlaceLemmas.{rank_at}
 use Rattle.dex_value.specs.Spelling.{unsigned_of, SpellsValue, SpellsArray, count_of}
-use Rattle.dex_value.specs.Named.{NamesHold, AllNamesHold, IsRanked}
+use Rattle.dex_program.specs.Mentions.{NamesHold, AllNamesHold}
+use Rattle.dex_value.specs.Named.{IsRanked}
 use Rattle.dex_value.specs.Counts.{CountsFit, AllCountsFit}
 use Rattle.dex_value.specs.Wide.{wide_value, wide_values}
 use Rattle.dex_value.specs.Writing.{UnsignedAs, HighAs, IndexAs, HoldsMore}

@@ -12,7 +12,7 @@ use Rattle.dex_value.specs.Spelling.{unsigned_of, signed_of, high_of, Behind, Sp
 use Rattle.dex_value.specs.Standing.{Shallow}
 use Rattle.dex_value.specs.Unique.{IsFunctional}
 use Rattle.dex_value.specs.Faults.{IsOfType}
-use Rattle.dex_value.specs.Reading.{Stands}
+use Rattle.dex_value.specs.Reading.{ValueStands}
 use Rattle.dex_value.proofs.Lists.{listed, values-listed, length-listed, each-listed}
 use Rattle.dex_value.proofs.Fronts.{SizedFront, ArrayFront, LoneFront, BareNull, BareFalse, BareTrue, Front, front}
 
@@ -54,7 +54,7 @@ module _ (N : ℕ → Name → Type 0) where
   named_leaf v t k low which e of n is =
       record { which = which; value = subst (λ (j : ℕ). v ≡ leaf_value j low which) (sym e) is; name = inl (subst (λ (j : ℕ). IsOfType j which) (sym e) of, n) }
 
-  leaf : (v : Value) (t : ℕ) (low : List ℕ) → Stands N t low v → Leaf N t low v
+  leaf : (v : Value) (t : ℕ) (low : List ℕ) → ValueStands N t low v → Leaf N t low v
   unfolding leaf_value enum_of
   leaf (Byte n) t low s = number_leaf (Byte n) t 0 low s.0 (lit< tt) (ap Byte s.1)
   leaf (Short n) t low s = number_leaf (Short n) t 2 low s.0 (lit< tt) (ap Short s.1)
@@ -76,7 +76,7 @@ module _ (N : ℕ → Name → Type 0) where
   names_type t (OfField n) e = grind (arith, nat_tests)
   names_type t (OfMethod n) e = grind (arith, nat_tests)
 
-  pub stands_one : IsFunctional N → (v w : Value) (t : ℕ) (low : List ℕ) → Stands N t low v → Stands N t low w → v ≡ w
+  pub stands_one : IsFunctional N → (v w : Value) (t : ℕ) (low : List ℕ) → ValueStands N t low v → ValueStands N t low w → v ≡ w
   stands_one one v w t low s r =
       let x = leaf v t low s in
       let y = leaf w t low r in
@@ -112,7 +112,7 @@ module _ (N : ℕ → Name → Type 0) (one : IsFunctional N) where
       let same = head_type (length p.low - 1) (length q.low - 1) p.type q.type p.small q.small parts.0 in
       let lens : length p.low ≡ length q.low = let s = p.some in let r = q.some in let n = same.0 in omega (arith, s, r, n) in
       let low = front_same p.low q.low x y lens parts.1 in
-      let there : Stands N p.type p.low w = subst (λ (t : ℕ). Stands N t p.low w) (sym same.1) (subst (λ (l : List ℕ). Stands N q.type l w) (sym low) q.stands) in (
+      let there : ValueStands N p.type p.low w = subst (λ (t : ℕ). ValueStands N t p.low w) (sym same.1) (subst (λ (l : List ℕ). ValueStands N q.type l w) (sym low) q.stands) in (
         p.joined ∙ ap (λ l. (32 * (length l - 1) + p.type) ∷ l) low ∙ ap (λ t. (32 * (length q.low - 1) + t) ∷ q.low) same.1 ∙ sym q.joined,
         stands_one N one v w p.type p.low p.stands there,
       )

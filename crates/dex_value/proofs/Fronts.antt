@@ -3,7 +3,7 @@ use Rattle.std.proofs.Common.{◌≡◌, ℕ, ◌+◌, ◌*◌, ◌-◌, ◌<◌
 use Rattle.dex_program.specs.Content.{Name, OfText, OfDesc, OfField, OfMethod, Value, Byte, Short, Char, Int, Long, Float, Double, Named, Enum, Array, Null, Boolean, Values}
 use Rattle.dex_value.specs.Spelling.{Sized, Behind, SpellsValue, SpellsValues, count_of}
 use Rattle.dex_value.specs.Faults.{widest_of}
-use Rattle.dex_value.specs.Reading.{Stands}
+use Rattle.dex_value.specs.Reading.{ValueStands}
 
 pub record SizedFront (N : ℕ → Name → Type 0) (bytes : List ℕ) (v : Value) : Type 0 where
   pub type : ℕ
@@ -12,7 +12,7 @@ pub record SizedFront (N : ℕ → Name → Type 0) (bytes : List ℕ) (v : Valu
   pub some : 0 < length low
   pub few : length low ≤ widest_of type
   pub joined : bytes ≡ (32 * (length low - 1) + type) ∷ low
-  pub stands : Stands N type low v
+  pub stands : ValueStands N type low v
 
 pub record ArrayFront (N : ℕ → Name → Type 0) (bytes : List ℕ) (v : Value) : Type 0 where
   pub vs : Values
@@ -30,7 +30,7 @@ abbrev pub Front : (ℕ → Name → Type 0) → List ℕ → Value → Type 0
 Front N bytes v = SizedFront N bytes v ⊎ ArrayFront N bytes v ⊎ LoneFront bytes v
 
 module _ (N : ℕ → Name → Type 0) where
-  sized : (bytes : List ℕ) (v : Value) (type widest : ℕ) (Means : List ℕ → Type 0) → type < 28 → widest ≤ widest_of type → ((low : List ℕ) → Means low → Stands N type low v) → Sized type widest Means bytes → Front N bytes v
+  sized : (bytes : List ℕ) (v : Value) (type widest : ℕ) (Means : List ℕ → Type 0) → type < 28 → widest ≤ widest_of type → ((low : List ℕ) → Means low → ValueStands N type low v) → Sized type widest Means bytes → Front N bytes v
   sized bytes v type widest Means small wide stands s =
       inl (record { type = type; low = s.low; small = small; some = s.some; few = let f = s.few in omega (arith, f, wide); joined = s.joined; stands = stands s.low s.means })
 
@@ -57,7 +57,7 @@ module _ (N : ℕ → Name → Type 0) where
   whole all type widest Means low t is wide means bytes some few joined =
       record { low = low; some = some; few = omega arith; bytes = bytes; joined = subst (λ (k : ℕ). all ≡ (32 * (length low - 1) + k) ∷ low) is joined; means = means }
 
-  pub stands_spells : (all : List ℕ) (v : Value) (t : ℕ) (low : List ℕ) → Stands N t low v → ((i : ℕ) → slice_index low i < 256) → 0 < length low → length low ≤ widest_of t → all ≡ (32 * (length low - 1) + t) ∷ low → SpellsValue N all v
+  pub stands_spells : (all : List ℕ) (v : Value) (t : ℕ) (low : List ℕ) → ValueStands N t low v → ((i : ℕ) → slice_index low i < 256) → 0 < length low → length low ≤ widest_of t → all ≡ (32 * (length low - 1) + t) ∷ low → SpellsValue N all v
   stands_spells all (Byte n) t low s bytes some few joined = whole all 0 1 _ low t s.0 (rw s.0 (lit≤ tt)) s.1 bytes some few joined
   stands_spells all (Short n) t low s bytes some few joined = whole all 2 2 _ low t s.0 (rw s.0 (lit≤ tt)) s.1 bytes some few joined
   stands_spells all (Char unit) t low s bytes some few joined = whole all 3 2 _ low t s.0 (rw s.0 (lit≤ tt)) s.1 bytes some few joined

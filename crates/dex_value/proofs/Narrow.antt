@@ -13,7 +13,7 @@ use Rattle.byteorder.specs.Endian.{twos_complement, little_number, little_bytes}
 use Rattle.byteorder.specs.Numbers.{little_from-lt, little_number-reads_back, length-bytes_low_first}
 use Rattle.dex_base.specs.Leb128.{Shortest}
 use Rattle.dex_value.specs.Spelling.{unsigned_of, signed_of, high_of}
-use Rattle.dex_value.specs.Writing.{IsWidth, IsHighWidth, size_of, sized, SignedAs, UnsignedAs, HighAs}
+use Rattle.dex_value.specs.Writing.{IsNumberWidth, IsHighWidth, magnitude_of, sized, SignedAs, UnsignedAs, HighAs}
 use Rattle.dex_value.proofs.Ranges.{power_most, power_some}
 
 -- a number of at least 256 ^ j doesn't fit j bytes
@@ -23,10 +23,10 @@ above j k n low high = elim (cases_lt j k) [
   | inr more ↦ let p = power_most k j more in absurd (omega (arith, low, high, p))
 ]
 
-pub width_one : (n : ℕ) → n < 256 → IsWidth n 1
+pub width_one : (n : ℕ) → n < 256 → IsNumberWidth n 1
 width_one n h = record { some = lit< tt; few = lit≤ tt; fits = h; least = λ k some fits. some }
 
-pub width_more : (n j : ℕ) → suc j ≤ 8 → 256 ^ j ≤ n → n < 256 ^ suc j → IsWidth n (suc j)
+pub width_more : (n j : ℕ) → suc j ≤ 8 → 256 ^ j ≤ n → n < 256 ^ suc j → IsNumberWidth n (suc j)
 width_more n j few low high = record { some = omega arith; few = few; fits = high; least = λ k some fits. above j k n low fits }
 
 -- ---- in two's complement
@@ -45,7 +45,7 @@ half k some =
     let e : suc (8 * k - 1) ≡ 8 * k = omega arith in
     sym (pow-suc_left 2 (8 * k - 1)) ∙ ap (λ n. 2 ^ n) e ∙ eight k
 
-two_size : (h p q x : ℕ) → p ≡ q → 2 * h ≡ q → x < q → 2 * size_of (if nat_lt x h then pos x else pos x -ℤ pos p) < q
+two_size : (h p q x : ℕ) → p ≡ q → 2 * h ≡ q → x < q → 2 * magnitude_of (if nat_lt x h then pos x else pos x -ℤ pos p) < q
 two_size h p q x e f below = elim (cases_lt x h) [
   | inl low ↦ let t : nat_lt x h ≡ true = grind (arith, nat_tests) in rw t (omega arith)
   | inr high ↦
@@ -55,7 +55,7 @@ two_size h p q x e f below = elim (cases_lt x h) [
 ]
 
 -- a number of so many bytes is that far from 0
-pub twos_size : (k x : ℕ) → 0 < k → x < 256 ^ k → 2 * size_of (twos_complement k x) < 256 ^ k
+pub twos_size : (k x : ℕ) → 0 < k → x < 256 ^ k → 2 * magnitude_of (twos_complement k x) < 256 ^ k
 twos_size k x some h = let e = eight k in let f = half k some in two_size (2 ^ (8 * k - 1)) (2 ^ (8 * k)) (256 ^ k) x e f h
 
 low_pos : (h p m : ℕ) → m < h → p ≡ 2 * h → (if nat_lt (m % p) h then pos (m % p) else pos (m % p) -ℤ pos p) ≡ pos m
@@ -85,7 +85,7 @@ power_whole w few =
     a ∙ ap (λ n. 2 ^ (8 * w) * n) b
 
 -- the number of the low bytes of a number that they hold
-pub twos_low : (w : ℕ) (n : ℤ) → 0 < w → w ≤ 8 → 2 * size_of n < 256 ^ w → twos_complement w (of_z w64 n % 2 ^ (8 * w)) ≡ n
+pub twos_low : (w : ℕ) (n : ℤ) → 0 < w → w ≤ 8 → 2 * magnitude_of n < 256 ^ w → twos_complement w (of_z w64 n % 2 ^ (8 * w)) ≡ n
 twos_low w (pos m) some few h = let e = eight w in let f = half w some in low_pos (2 ^ (8 * w - 1)) (2 ^ (8 * w)) m (omega (arith, h, e, f)) (omega (arith, f, e))
 twos_low w (negsuc m) some few h = let e = eight w in let f = half w some in low_neg (2 ^ (8 * w - 1)) (2 ^ (8 * w)) (2 ^ (64 - 8 * w) - 1) m (omega (arith, h, e, f)) (omega (arith, f, e)) (power_whole w few)
 
@@ -115,7 +115,7 @@ unsigned_low n x h = ap (λ k. little_number k (little_bytes n x)) (little_lengt
 low_below : (w c : ℕ) → c % 2 ^ (8 * w) < 256 ^ w
 low_below w c = let e = eight w in let p = power_some w in let m = mod-lt c {m = 2 ^ (8 * w)} (omega (arith, e, p)) in omega (arith, e, m)
 
-pub signed_low : (w : ℕ) (n : ℤ) → 0 < w → w ≤ 8 → 2 * size_of n < 256 ^ w → signed_of (little_bytes w (of_z w64 n % 2 ^ (8 * w))) ≡ n
+pub signed_low : (w : ℕ) (n : ℤ) → 0 < w → w ≤ 8 → 2 * magnitude_of n < 256 ^ w → signed_of (little_bytes w (of_z w64 n % 2 ^ (8 * w))) ≡ n
 unfolding signed_of
 signed_low w n some few h =
     let x = of_z w64 n % 2 ^ (8 * w) in
@@ -133,7 +133,7 @@ high_means bits q x w z low len scale small zeros is e =
 -- ---- the shortest spellings
 
 module _ (code widest w : ℕ) where
-  pub shortest_unsigned : (n : ℕ) (low : List ℕ) → IsWidth n w → 0 < widest → n < 256 ^ widest → low ≡ little_bytes w n → Shortest (UnsignedAs code widest) (sized code low) n
+  pub shortest_unsigned : (n : ℕ) (low : List ℕ) → IsNumberWidth n w → 0 < widest → n < 256 ^ widest → low ≡ little_bytes w n → Shortest (UnsignedAs code widest) (sized code low) n
   unfolding unsigned_of
   shortest_unsigned n low is some fits e = subst (λ (l : List ℕ). Shortest (UnsignedAs code widest) (sized code l) n) (sym e) (record {
     spelled = record {
@@ -153,7 +153,7 @@ module _ (code widest w : ℕ) where
         omega (arith, k, l, j);
   })
 
-  pub shortest_signed : (n : ℤ) (low : List ℕ) → IsWidth (2 * size_of n) w → 0 < widest → 2 * size_of n < 256 ^ widest → low ≡ little_bytes w (of_z w64 n % 2 ^ (8 * w)) → Shortest (SignedAs code widest) (sized code low) n
+  pub shortest_signed : (n : ℤ) (low : List ℕ) → IsNumberWidth (2 * magnitude_of n) w → 0 < widest → 2 * magnitude_of n < 256 ^ widest → low ≡ little_bytes w (of_z w64 n % 2 ^ (8 * w)) → Shortest (SignedAs code widest) (sized code low) n
   unfolding signed_of
   shortest_signed n low is some fits e =
       let x = of_z w64 n % 2 ^ (8 * w) in
@@ -169,7 +169,7 @@ module _ (code widest w : ℕ) where
         least = λ other o.
             let b = little_from-lt 0 (length o.low) o.low o.bytes in
             let s = twos_size (length o.low) (little_number (length o.low) o.low) o.some b in
-            let m : size_of n ≡ size_of (twos_complement (length o.low) (little_number (length o.low) o.low)) = ap size_of o.means in
+            let m : magnitude_of n ≡ magnitude_of (twos_complement (length o.low) (little_number (length o.low) o.low)) = ap magnitude_of o.means in
             let k = is.least (length o.low) o.some (omega (arith, s, m)) in
             let l = little_length w x in
             let j = ap length o.joined in

@@ -6,16 +6,16 @@ use Rattle.dex_base.specs.Grammar.{Takes}
 use Rattle.dex_base.specs.declared.fault.Fault.{Fault}
 use Rattle.dex_base.proofs.LengthLaws.{IsAtLeast, Spells-least}
 use Rattle.dex_base.proofs.TakesLaws.{Begins-from_takes, Takes-unique}
-use Rattle.dex_tables.specs.declared.section.Section.{Section}
-use Rattle.dex_tables.specs.Where.{slice, At, IsInSection}
-use Rattle.dex_tables.specs.Reading.{IsSectionOf}
-use Rattle.dex_tables.proofs.Standing.{stands_at, at_place, mod_one}
+use Rattle.dex_container.specs.declared.section.Section.{Section}
+use Rattle.dex_container.specs.Where.{slice, At, IsInSection}
+use Rattle.dex_container.specs.Where.{IsSectionOf}
+use Rattle.dex_container.proofs.Standing.{stands_at, at_place, mod_one}
 use Rattle.dex_program.specs.Content.{Name, Value}
 use Rattle.dex_program.specs.Depth.{depth}
 use Rattle.dex_value.specs.Spelling.{SpellsArray}
 use Rattle.dex_value.specs.Standing.{ArrayStands}
 use Rattle.dex_value.specs.Unique.{IsFunctional}
-use Rattle.dex_value.specs.Faults.{ArrayBreaks, Breaks}
+use Rattle.dex_value.specs.Faults.{ArrayBreaks, ArrayBreaksAt}
 use Rattle.dex_value.proofs.FrontLaws.{SpellsArray-unique}
 use Rattle.dex_value.proofs.Refusing.{array_none}
 
@@ -64,6 +64,6 @@ module _ (N : ℕ → Name → Type 0) (b rest : List ℕ) (s : Section) (off : 
       let t = at_takes vs a.stands in
       array_none N one off s.end most rest fault u vs t.0 t.1 a.few a.deep
 
-  pub broken : (most : ℕ) (fault : Fault) → s.begin ≤ off → off < s.end → ArrayBreaks N off s.end most rest fault → Breaks N b off most fault
+  pub broken : (most : ℕ) (fault : Fault) → s.begin ≤ off → off < s.end → ArrayBreaks N off s.end most rest fault → ArrayBreaksAt N b off most fault
   broken most fault low high u =
       inr (s.end, rest, record { begin = s.begin; section = is.some (omega (arith, low, high)); behind = low; before = high; same = same }, u)

@@ -14,7 +14,7 @@ use Rattle.dex_value.specs.Spelling.{unsigned_of, SpellsValue, SpellsArray, coun
 use Rattle.dex_value.specs.Standing.{Shallow}
 use Rattle.dex_value.specs.Unique.{IsFunctional}
 use Rattle.dex_value.specs.Faults.{widest_of, IsSizedHead, IsLoneHead, IsUnknown, IsTooDeep, IsEnded, IsCut, HasNoCount, IsOfType, NamesNothing, OwnBreaks, NextBreaks, InsideBreaks, ValueBreaks, ArrayBreaks}
-use Rattle.dex_value.specs.Reading.{Stands}
+use Rattle.dex_value.specs.Reading.{ValueStands}
 use Rattle.dex_value.proofs.Lists.{listed, each-shallow}
 use Rattle.dex_value.proofs.Fronts.{SizedFront, ArrayFront, Front, front}
 use Rattle.dex_value.proofs.FrontLaws.{cons_head, first_of_lone, sized_not_array, array_depth, array_each, shallow_unique}
@@ -43,7 +43,7 @@ head_arg n t h = omega arith
 sized_head : (n t : ℕ) → t < 28 → n < widest_of t → IsSizedHead (32 * n + t)
 sized_head n t h few = subst (λ (k : ℕ). k < widest_of ((32 * n + t) % 32)) (sym (head_arg n t h)) (subst (λ (k : ℕ). n < widest_of k) (sym (head_type n t h)) few)
 
-stands_name : (N : ℕ → Name → Type 0) (t : ℕ) (low : List ℕ) (v : Value) → 23 ≤ t → Stands N t low v → (which : Name) × IsOfType t which × N (unsigned_of low) which
+stands_name : (N : ℕ → Name → Type 0) (t : ℕ) (low : List ℕ) (v : Value) → 23 ≤ t → ValueStands N t low v → (which : Name) × IsOfType t which × N (unsigned_of low) which
 stands_name N t low (Named (OfText n)) h s = (OfText n, rw s.0 refl, s.1)
 stands_name N t low (Named (OfDesc n)) h s = (OfDesc n, rw s.0 refl, s.1)
 stands_name N t low (Named (OfField n)) h s = (OfField n, rw s.0 refl, s.1)
@@ -138,9 +138,9 @@ module _ (N : ℕ → Name → Type 0) where
   own_none off end limit bytes fault (inr (inr (inr u))) a after v e s = nothing_none bytes a after v u.0 e (front N a v s.spelled)
 
 -- where the next of the values breaks, they aren't all spelled
-next_none : (G : List ℕ → Value → Type 0) (Breaks : List ℕ → Fault → Type 0) → IsPrefixUnique G → ((bytes : List ℕ) (fault : Fault) → Breaks bytes fault → NoneBegins G bytes)
-    → (n : ℕ) (bytes : List ℕ) (fault : Fault) → NextBreaks G Breaks n bytes fault → NoneBegins (Many G n) bytes
-next_none G Breaks unique none n bytes fault u front after vs e s =
+next_none : (G : List ℕ → Value → Type 0) (ArrayBreaksAt : List ℕ → Fault → Type 0) → IsPrefixUnique G → ((bytes : List ℕ) (fault : Fault) → ArrayBreaksAt bytes fault → NoneBegins G bytes)
+    → (n : ℕ) (bytes : List ℕ) (fault : Fault) → NextBreaks G ArrayBreaksAt n bytes fault → NoneBegins (Many G n) bytes
+next_none G ArrayBreaksAt unique none n bytes fault u front after vs e s =
     let t = u.spelled in
     let more = u.more in
     let len = s.0 in

@@ -13,7 +13,7 @@ use Rattle.dex_program.specs.Depth.{depth}
 use Rattle.dex_value.specs.Spelling.{SpellsValue, SpellsArray}
 use Rattle.dex_value.specs.Standing.{Shallow}
 use Rattle.dex_value.specs.Faults.{widest_of, OwnBreaks, NextBreaks, ValueBreaks}
-use Rattle.dex_value.specs.Reading.{Stands}
+use Rattle.dex_value.specs.Reading.{ValueStands}
 use Rattle.dex_value.proofs.Lists.{each-values, each-depth, each-deep, each-spelled, count_of-values}
 use Rattle.dex_value.proofs.Fronts.{stands_spells}
 
@@ -29,12 +29,12 @@ module _ (N : ℕ → Name → Type 0) where
   flat : (limit : ℕ) (bytes front rest : List ℕ) (v : Value) → bytes ≡ front ++ rest → SpellsValue N front v → depth v ≡ 0 → Takes (Shallow N limit) bytes v rest
   flat limit bytes front rest v whole s d = record { front = front; whole = whole; spelled = record { spelled = s; deep = omega arith } }
 
-  stands_flat : (t : ℕ) (low : List ℕ) (v : Value) → Stands N t low v → depth v ≡ 0
+  stands_flat : (t : ℕ) (low : List ℕ) (v : Value) → ValueStands N t low v → depth v ≡ 0
   stands_flat t low (Array vs) s = absurd s
   stands_flat t low _ s = refl
 
   pub takes_sized : (limit head : ℕ) (bytes rest low after : List ℕ) (v : Value) → bytes ≡ head ∷ rest → low ≡ take (head / 32 + 1) rest → after ≡ drop (head / 32 + 1) rest → head / 32 + 1 ≤ length rest → ((i : ℕ) → slice_index rest i < 256)
-      → head / 32 + 1 ≤ widest_of (head % 32) → Stands N (head % 32) low v → Takes (Shallow N limit) bytes v after
+      → head / 32 + 1 ≤ widest_of (head % 32) → ValueStands N (head % 32) low v → Takes (Shallow N limit) bytes v after
   takes_sized limit head bytes rest low after v first front back enough small few s =
       let len : length low ≡ head / 32 + 1 = ap length front ∙ length-take-le (head / 32 + 1) rest enough in
       let one : head ≡ 32 * (length low - 1) + head % 32 = omega arith in
@@ -89,9 +89,9 @@ pub takes_many : {V : Type 0} (G : List ℕ → V → Type 0) (n : ℕ) (bytes l
 takes_many G n bytes left vs len t = record { front = t.front; whole = t.whole; spelled = (len, t.spelled) }
 
 -- of the values that are due the next one breaks
-pub next_breaks : (G : List ℕ → Value → Type 0) (Breaks : List ℕ → Fault → Type 0) (n turn : ℕ) (bytes left : List ℕ) (fault : Fault) (items : List made.Value)
-    → Takes (Each G) bytes (map value items) left → length items ≡ turn → turn < n → Breaks left fault → NextBreaks G Breaks n bytes fault
-next_breaks G Breaks n turn bytes left fault items t len more breaks =
+pub next_breaks : (G : List ℕ → Value → Type 0) (ArrayBreaksAt : List ℕ → Fault → Type 0) (n turn : ℕ) (bytes left : List ℕ) (fault : Fault) (items : List made.Value)
+    → Takes (Each G) bytes (map value items) left → length items ≡ turn → turn < n → ArrayBreaksAt left fault → NextBreaks G ArrayBreaksAt n bytes fault
+next_breaks G ArrayBreaksAt n turn bytes left fault items t len more breaks =
     record { before = map value items; left = left; spelled = t; more = let l = length-map items value in omega (arith, l, len, more); breaks = breaks }
 
 -- one value more is read

@@ -5,7 +5,7 @@ use Rattle.dex_base.specs.Grammar.{Takes, NoneBegins, Each}
 use Rattle.dex_base.specs.Leb128.{Spells}
 use Rattle.dex_base.specs.declared.fault.Fault.{Fault}
 use Rattle.dex_container.specs.Frame.{IsSection}
-use Rattle.dex_tables.specs.Where.{IsInSection}
+use Rattle.dex_container.specs.Where.{IsInSection}
 use Rattle.dex_program.specs.Content.{Name, Value}
 use Rattle.dex_value.specs.Spelling.{unsigned_of, type_of}
 use Rattle.dex_value.specs.Standing.{Shallow}
@@ -107,21 +107,21 @@ OwnBreaks N off end limit bytes fault =
     ⊎ (NamesNothing N bytes × (fault ≡ kind_fault end bytes))
 
 -- Of n values some are spelled here by G, and at the next one stands the fault.
-pub record NextBreaks (G : List ℕ → Value → Type 0) (Breaks : List ℕ → Fault → Type 0) (n : ℕ) (bytes : List ℕ) (fault : Fault) : Type 0 where
+pub record NextBreaks (G : List ℕ → Value → Type 0) (ArrayBreaksAt : List ℕ → Fault → Type 0) (n : ℕ) (bytes : List ℕ) (fault : Fault) : Type 0 where
   pub before : List Value
   pub left : List ℕ
   pub spelled : Takes (Each G) bytes before left
   pub more : length before < n
-  pub breaks : Breaks left fault
+  pub breaks : ArrayBreaksAt left fault
 
 -- Here begins an array, and behind its count one of its values is wrong.
-pub record InsideBreaks (G : List ℕ → Value → Type 0) (Breaks : List ℕ → Fault → Type 0) (bytes : List ℕ) (fault : Fault) : Type 0 where
+pub record InsideBreaks (G : List ℕ → Value → Type 0) (ArrayBreaksAt : List ℕ → Fault → Type 0) (bytes : List ℕ) (fault : Fault) : Type 0 where
   pub rest : List ℕ
   pub first : bytes ≡ 28 ∷ rest
   pub n : ℕ
   pub behind : List ℕ
   pub counted : Takes Spells rest n behind
-  pub next : NextBreaks G Breaks n behind fault
+  pub next : NextBreaks G ArrayBreaksAt n behind fault
 
 -- A value of at most this depth is due here, and it is wrong, or one inside it is.
 abbrev pub ValueBreaks : (ℕ → Name → Type 0) → ℕ → ℕ → ℕ → List ℕ → Fault → Type 0
@@ -163,7 +163,7 @@ pub record IsRest (b : List ℕ) (off end : ℕ) (bytes : List ℕ) : Type 0 whe
   pub same : bytes ≡ take (end - off) (drop off b)
 
 -- The place lies outside the encoded_array section (48), or what is there is wrong.
-abbrev pub Breaks : (ℕ → Name → Type 0) → List ℕ → ℕ → ℕ → Fault → Type 0
-Breaks N b off most fault =
+abbrev pub ArrayBreaksAt : (ℕ → Name → Type 0) → List ℕ → ℕ → ℕ → Fault → Type 0
+ArrayBreaksAt N b off most fault =
     ((¬ IsInSection b 0x2005 off) × (fault ≡ values_fault off))
     ⊎ ((end : ℕ) × (bytes : List ℕ) × IsRest b off end bytes × ArrayBreaks N off end most bytes fault)

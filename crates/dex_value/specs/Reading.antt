@@ -60,7 +60,7 @@ IsNamed type which (Enum constant) = (type ≡ 27) × (which ≡ OfField constan
 IsNamed type which _ = ⊥
 
 -- Behind a head of this type these bytes stand for the value.
-abbrev pub Stands : (ℕ → Name → Type 0) → ℕ → List ℕ → Value → Type 0
-Stands N type low (Named which) = (type ≡ type_of which) × N (unsigned_of low) which
-Stands N type low (Enum constant) = (type ≡ 27) × N (unsigned_of low) (OfField constant)
-Stands N type low v = IsNumber type low v
+abbrev pub ValueStands : (ℕ → Name → Type 0) → ℕ → List ℕ → Value → Type 0
+ValueStands N type low (Named which) = (type ≡ type_of which) × N (unsigned_of low) which
+ValueStands N type low (Enum constant) = (type ≡ 27) × N (unsigned_of low) (OfField constant)
+ValueStands N type low v = IsNumber type low v

@@ -1,7 +1,7 @@
 -- Where an encoded_array of static values stands in a file (the page's static_values_off), and how deep its values may be.
 use Rattle.std.specs.Prelude.{ℕ, ◌≤◌, List, length}
 use Rattle.std.specs.List.{AllByRecursion}
-use Rattle.dex_tables.specs.Where.{At}
+use Rattle.dex_container.specs.Where.{At}
 use Rattle.dex_program.specs.Content.{Name, Value}
 use Rattle.dex_program.specs.Depth.{depth}
 use Rattle.dex_value.specs.Spelling.{SpellsValue, SpellsArray}

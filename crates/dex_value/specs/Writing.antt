@@ -4,12 +4,12 @@ use Rattle.dex_program.specs.Content.{Name}
 use Rattle.dex_value.specs.Spelling.{Sized, signed_of, unsigned_of, high_of}
 
 -- How far a number is from 0, or from -1 where it is negative.
-abbrev pub size_of : ℤ → ℕ
-size_of (pos n) = n
-size_of (negsuc n) = n
+abbrev pub magnitude_of : ℤ → ℕ
+magnitude_of (pos n) = n
+magnitude_of (negsuc n) = n
 
 -- The fewest bytes that hold an unsigned number, one at least.
-pub record IsWidth (n width : ℕ) : Type 0 where
+pub record IsNumberWidth (n width : ℕ) : Type 0 where
   pub some : 0 < width
   pub few : width ≤ 8
   pub fits : n < 256 ^ width

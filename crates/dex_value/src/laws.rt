@@ -4,10 +4,11 @@ ghost use Rattle.std.specs.Prelude.{ℕ, List, length, ◌<◌, ◌≤◌};
 ghost use Rattle.dex_base.specs.Grammar.{IsPrefixUnique};
 ghost use Rattle.dex_program.specs.Content.{Name, Value, values};
 ghost use Rattle.dex_tables.specs.Names.{Names, NameIsAt};
-ghost use Rattle.dex_tables.specs.Closure.{Five, NameRanks};
+ghost use Rattle.dex_names.specs.Closure.{Five, NameRanks};
 ghost use Rattle.dex_value.specs.Spelling.{SpellsArray};
 ghost use Rattle.dex_value.specs.Wide.{wide_array};
-ghost use Rattle.dex_value.specs.Named.{AllNamesHold, IsRanked};
+ghost use Rattle.dex_program.specs.Mentions.{AllNamesHold};
+ghost use Rattle.dex_value.specs.Named.{IsRanked};
 ghost use Rattle.dex_value.specs.Counts.{ArrayFits};
 
 /// No encoded_array begins another one, and it spells one list of values.

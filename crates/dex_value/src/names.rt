@@ -6,7 +6,7 @@ ghost use Rattle.dex_program.specs.View.{value};
 ghost use Rattle.dex_tables.specs.Names.{NameIsAt, IsOfKind};
 ghost use Rattle.dex_value.specs.Spelling.{unsigned_of};
 ghost use Rattle.dex_value.specs.Faults.{IsOfType};
-ghost use Rattle.dex_value.specs.Reading.{name_code, kind_of, IsNamed, Stands};
+ghost use Rattle.dex_value.specs.Reading.{name_code, kind_of, IsNamed, ValueStands};
 
 use crate::numbers::unsigned;
 use crate::types::{NameType, name_kind};
@@ -33,7 +33,7 @@ fn name_value<'a>(ty: NameType, name: Name<'a>) -> Value<'a>
 pub fn named<'a>(tables: &Tables<'a>, ty: NameType, low: &[u8]) -> Option<Value<'a>>
     requires some { 0 < length low.now }
     requires few { length low.now ≤ 4 }
-    ensures some { IfSome result (λ v. Stands (NameIsAt tables.now) (name_code ty) low.now (value v)) }
+    ensures some { IfSome result (λ v. ValueStands (NameIsAt tables.now) (name_code ty) low.now (value v)) }
     ensures none { IfNone result ((which : content.Name) →
         IsOfType (name_code ty) which → ¬ NameIsAt tables.now (unsigned_of low.now) which) }
 {

@@ -9,7 +9,7 @@ ghost use Rattle.std.specs.List.{AllByRecursion};
 ghost use Rattle.dex_program.specs.Depth.{depth};
 ghost use Rattle.dex_value.specs.Spelling.{SpellsArray};
 ghost use Rattle.dex_value.specs.Standing.{Shallow, ArrayStands};
-ghost use Rattle.dex_value.specs.Faults.{IsLoneHead, OwnBreaks, ValueBreaks, NextBreaks, InsideBreaks, ArrayBreaks, Breaks, values_fault, kind_fault, depth_fault};
+ghost use Rattle.dex_value.specs.Faults.{IsLoneHead, OwnBreaks, ValueBreaks, NextBreaks, InsideBreaks, ArrayBreaks, ArrayBreaksAt, values_fault, kind_fault, depth_fault};
 
 use crate::names::named;
 use crate::numbers::number;
@@ -18,7 +18,8 @@ use bumpalo::Bump;
 use dex_base::{Fault, read_uleb};
 use dex_container::Sections;
 use dex_program::Value;
-use dex_tables::{Tables, bytes_from, section_of};
+use dex_container::{bytes_from, section_of};
+use dex_tables::{Tables};
 use std::alloc::Global;
 
 /// The kind of the section of encoded arrays (TYPE_ENCODED_ARRAY_ITEM).
@@ -222,7 +223,7 @@ pub fn read_array<'a>(
     ensures ok { IfOk result (λ values. ArrayStands (NameIsAt tables.now) sections.now off most (map value values.now)) }
     ensures only { IfOk result (λ values. (vs : List content.Value) →
         ArrayStands (NameIsAt tables.now) sections.now off most vs → vs ≡ map value values.now) }
-    ensures broken { IfErr result (λ e. e ≢ memory → Breaks (NameIsAt tables.now) sections.now off most e) }
+    ensures broken { IfErr result (λ e. e ≢ memory → ArrayBreaksAt (NameIsAt tables.now) sections.now off most e) }
     ensures refused { IfErr result (λ e. e ≢ memory →
         (vs : List content.Value) → ¬ ArrayStands (NameIsAt tables.now) sections.now off most vs) }
 {

@@ -1,10 +1,10 @@
 // The fewest bytes that a number takes.
 ghost use Rattle.std.specs.Prelude.{◌≡◌, ℕ, ◌+◌, ◌*◌, ◌^◌, ◌<◌, ◌≤◌};
-ghost use Rattle.dex_value.specs.Writing.{IsWidth, IsHighWidth, size_of};
+ghost use Rattle.dex_value.specs.Writing.{IsNumberWidth, IsHighWidth, magnitude_of};
 
 /// The fewest bytes that hold the number, one at least.
 pub fn unsigned_width(n: u64) -> usize
-    ensures { IsWidth n result }
+    ensures { IsNumberWidth n result }
 {
     if n < 1 << 8 {
         1
@@ -27,7 +27,7 @@ pub fn unsigned_width(n: u64) -> usize
 
 /// How far a number is from 0, or from -1 where it is negative.
 fn size(n: i64) -> u64
-    ensures value { result ≡ size_of n }
+    ensures value { result ≡ magnitude_of n }
     ensures small { result < 2 ^ 63 }
 {
     if n < 0 { (-(n + 1)) as u64 } else { n as u64 }
@@ -35,7 +35,7 @@ fn size(n: i64) -> u64
 
 /// The fewest bytes that hold the number in two's complement, one at least: one bit is the sign.
 pub fn signed_width(n: i64) -> usize
-    ensures { IsWidth (2 * size_of n) result }
+    ensures { IsNumberWidth (2 * magnitude_of n) result }
 {
     unsigned_width(2 * size(n))
 }

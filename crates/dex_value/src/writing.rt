@@ -7,17 +7,18 @@ ghost use Rattle.dex_program.specs.View as view;
 ghost use Rattle.dex_program.specs.View.{value};
 ghost use Rattle.dex_program.specs.Content as content;
 ghost use Rattle.dex_program.specs.Depth.{depth};
-ghost use Rattle.dex_tables.specs.Closure.{NameRanks};
+ghost use Rattle.dex_names.specs.Closure.{NameRanks};
 ghost use Rattle.dex_value.specs.Spelling.{Sized, unsigned_of, type_of, SpellsValue, SpellsArray};
-ghost use Rattle.dex_value.specs.Named.{NamesHold, AllNamesHold, IsRanked};
+ghost use Rattle.dex_program.specs.Mentions.{NamesHold, AllNamesHold};
+ghost use Rattle.dex_value.specs.Named.{IsRanked};
 ghost use Rattle.dex_value.specs.Counts.{CountsFit, AllCountsFit, ArrayFits};
-ghost use Rattle.dex_value.specs.Writing.{SignedAs, UnsignedAs, HighAs, IndexAs, size_of, sized, HoldsMore};
+ghost use Rattle.dex_value.specs.Writing.{SignedAs, UnsignedAs, HighAs, IndexAs, magnitude_of, sized, HoldsMore};
 
 use crate::widths::{high_width, signed_width, unsigned_width};
 use byteorder::{ByteOrder, LittleEndian};
 use dex_base::{Fault, put_uleb};
 use dex_program::{Name, Value};
-use dex_tables::Ranks;
+use dex_names::Ranks;
 
 /// Appends a head of this type and the bytes behind it.
 fn put_sized(out: &mut Vec<u8>, code: u8, low: &[u8]) -> Result<(), Fault>
@@ -36,7 +37,7 @@ fn put_sized(out: &mut Vec<u8>, code: u8, low: &[u8]) -> Result<(), Fault>
 fn put_signed(out: &mut Vec<u8>, code: u8, n: i64, widest: usize) -> Result<(), Fault>
     requires code { code < 32 }
     requires some { 0 < widest }
-    requires fits { 2 * size_of n < 256 ^ widest }
+    requires fits { 2 * magnitude_of n < 256 ^ widest }
     ensures ok { OnOk result (Appends (Shortest (SignedAs code widest)) out.old.items out.new.items n) }
     ensures err { OnErr result (HoldsMore out.old.items out.new.items) }
     ensures memory { IsOkUnless result memory }

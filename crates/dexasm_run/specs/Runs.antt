@@ -32,8 +32,8 @@ abbrev pub Refuses : Job → Option (List ℕ) → Option (List ℕ) → Fault �
 Refuses job had left fault = (given : List ℕ) × IsWhole had left given × Refusal job given fault
 
 -- the same, of a sink that took only a beginning of the answer
-abbrev pub Begins : Job → Option (List ℕ) → Option (List ℕ) → Option (List ℕ) → Option (List ℕ) → Type 0
-Begins job had left held holds = (given : List ℕ) × (made : List ℕ) × (n : ℕ)
+abbrev pub BeginsAnswer : Job → Option (List ℕ) → Option (List ℕ) → Option (List ℕ) → Option (List ℕ) → Type 0
+BeginsAnswer job had left held holds = (given : List ℕ) × (made : List ℕ) × (n : ℕ)
     × IsWhole had left given × Answer job given made × (n ≤ length made)
     × Appends held holds (take n made)
 

@@ -1,7 +1,7 @@
 // One run of a job: read all, answer, write all.
 ghost use Rattle.std.specs.Prelude.{◌≡◌, ◌≢◌, ◌<◌, ◌≤◌, vec_len, true, false, ⊤, IfOk, length, take};
 ghost use Rattle.std.specs.Io.KnownBytes.{Keeps};
-ghost use Rattle.dexasm_run.specs.Runs.{Answers, Begins, MatchRun, Refuses, ReadsAll, WritesAll};
+ghost use Rattle.dexasm_run.specs.Runs.{Answers, BeginsAnswer, MatchRun, Refuses, ReadsAll, WritesAll};
 
 use crate::ends::{Sink, Source};
 use crate::error::RunFault;
@@ -31,7 +31,7 @@ pub fn run<R: Source, W: Sink>(
         (Answers job (R.remaining input.old) (R.remaining input.new) (W.contents output.old) (W.contents output.new))
         (Refuses job (R.remaining input.old) (R.remaining input.new))
         ⊤
-        (Begins job (R.remaining input.old) (R.remaining input.new) (W.contents output.old) (W.contents output.new))
+        (BeginsAnswer job (R.remaining input.old) (R.remaining input.new) (W.contents output.old) (W.contents output.new))
         ⊤ }
     ensures flags { MatchRun result (R.ended input.new ≡ true) (λ _. R.ended input.new ≡ true)
         (R.failed input.new ≡ true) (W.failed output.new ≡ true) ⊤ }

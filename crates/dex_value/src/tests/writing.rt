@@ -2,13 +2,14 @@ ghost use Rattle.std.specs.Prelude.{◌≤◌, IsTrue, length, map};
 ghost use Rattle.dex_program.specs.Content as content;
 ghost use Rattle.dex_program.specs.View as view;
 ghost use Rattle.dex_program.specs.View.{value};
-ghost use Rattle.dex_value.specs.Named.{NamesHold, AllNamesHold, IsRanked};
+ghost use Rattle.dex_program.specs.Mentions.{NamesHold, AllNamesHold};
+ghost use Rattle.dex_value.specs.Named.{IsRanked};
 ghost use Rattle.dex_value.specs.Counts.{CountsFit, AllCountsFit};
 
 use crate::put_array;
 use dex_base::Fault;
 use dex_program::{Desc, FieldRef, Name, Str, Value};
-use dex_tables::{Needed, Ranks};
+use dex_names::{Needed, Ranks};
 use std::alloc::Global;
 use std::test::Fail;
 

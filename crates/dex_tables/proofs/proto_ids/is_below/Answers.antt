@@ -4,7 +4,7 @@ use Rattle.std.specs.Ordering.{ordering_then}
 use Rattle.dex_tables.specs.Halves.{halves}
 use Rattle.dex_tables.specs.RowFields.{proto_return}
 use Rattle.dex_tables.specs.Stands.{SpellsIndexes}
-use Rattle.dex_tables.specs.Where.{AtOrNone}
+use Rattle.dex_container.specs.Where.{AtOrNone}
 use Rattle.dex_tables.proofs.TypeLists.{protos_below, below_protos}
 use Rattle.dex_tables.proofs.proto_ids.is_below.Goals as goal
 

@@ -1,6 +1,6 @@
 use Rattle.dex_base.specs.Grammar.{NoneBegins}
 use Rattle.dex_tables.specs.Stands.{SpellsIndexes}
-use Rattle.dex_tables.proofs.Standing.{stands_at, stands_not}
+use Rattle.dex_container.proofs.Standing.{stands_at, stands_not}
 use Rattle.dex_tables.proofs.RowReading.{some_weaker, none_weaker}
 use Rattle.dex_tables.proofs.HalvesLaws.{list_placed}
 use Rattle.dex_tables.proofs.type_list.indexes_at.Goals as goal

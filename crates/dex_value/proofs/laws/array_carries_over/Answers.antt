@@ -1,4 +1,4 @@
-use Rattle.dex_tables.specs.Closure.{NameRanks}
+use Rattle.dex_names.specs.Closure.{NameRanks}
 use Rattle.dex_tables.specs.Names.{NameIsAt}
 use Rattle.dex_value.proofs.Weaker.{SpellsArray-weaker}
 use Rattle.dex_value.proofs.laws.array_carries_over.Goals as goal

@@ -3,7 +3,7 @@ use Rattle.std.proofs.lemmas.List.{length-map}
 use Rattle.std.proofs.lemmas.Result.{IfErr-weaker, IfOk-weaker}
 use Rattle.dex_program.specs.View.{value}
 use Rattle.dex_tables.specs.Names.{NameIsAt}
-use Rattle.dex_tables.specs.Reading.{IsSectionOf}
+use Rattle.dex_container.specs.Where.{IsSectionOf}
 use Rattle.dex_value.proofs.Namings.{NameIsAt-functional}
 use Rattle.dex_value.proofs.Places.{outside_none, array_stands, array_only, broken_none, broken}
 use Rattle.dex_value.proofs.reading.read_array.Goals as goal

@@ -2,7 +2,7 @@ use Rattle.std.proofs.Common.{◌≡◌, ◌+◌, ◌%◌, ℕ, take, drop, ap, 
 use Rattle.dex_program.specs.View.{value}
 use Rattle.dex_tables.specs.Names.{NameIsAt}
 use Rattle.dex_value.specs.Faults.{widest_of}
-use Rattle.dex_value.specs.Reading.{sized_code, IsNumber, Stands}
+use Rattle.dex_value.specs.Reading.{sized_code, IsNumber, ValueStands}
 use Rattle.dex_value.proofs.Namings.{number_stands}
 use Rattle.dex_value.proofs.Taking.{takes_sized}
 use Rattle.dex_value.proofs.reading.read_sized.Goals as goal
@@ -35,4 +35,4 @@ returns-in-Some-named-clause-ok c = λ limit.
     (c.split_at.ensures.back ∙ ap (λ (n : ℕ). drop (n + 1) c.args.rest.now) w)
     (omega (arith, w, least)) (λ i. (c.type_inv.rest i).fits)
     (omega (arith, w, wide, widest))
-    (subst (λ (t : ℕ). Stands (NameIsAt c.args.tables.now) t c.split_at.result.0.now (value c.in-Some-named.value)) same c.in-Some-named.ensures.some)
+    (subst (λ (t : ℕ). ValueStands (NameIsAt c.args.tables.now) t c.split_at.result.0.now (value c.in-Some-named.value)) same c.in-Some-named.ensures.some)

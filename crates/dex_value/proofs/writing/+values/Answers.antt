@@ -7,9 +7,10 @@ use Rattle.dex_program.specs.Content.{values}
 use Rattle.dex_program.specs.View.{value}
 use Rattle.dex_program.specs.declared.value.Value as made
 use Rattle.dex_program.proofs.ValueViews.{value_array}
-use Rattle.dex_tables.specs.Closure.{NameRanks}
+use Rattle.dex_names.specs.Closure.{NameRanks}
 use Rattle.dex_value.specs.Spelling.{SpellsValue}
-use Rattle.dex_value.specs.Named.{IsRanked, NamesHold}
+use Rattle.dex_program.specs.Mentions.{NamesHold}
+use Rattle.dex_value.specs.Named.{IsRanked}
 use Rattle.dex_value.specs.Counts.{CountsFit}
 use Rattle.dex_value.specs.Wide.{wide_value, wide_values}
 use Rattle.dex_value.proofs.Appending.{counted, array_value_appends, next_named, next_counts, one_wide, writing_next, writing_stops, on_err}

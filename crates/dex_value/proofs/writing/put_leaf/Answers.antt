@@ -4,7 +4,7 @@ use Rattle.dex_base.specs.Grammar.{Appends}
 use Rattle.dex_base.specs.Leb128.{Shortest}
 use Rattle.dex_program.specs.View.{field_ref}
 use Rattle.dex_program.proofs.ValueViews.{value_float, value_enum}
-use Rattle.dex_tables.specs.Closure.{NameRanks}
+use Rattle.dex_names.specs.Closure.{NameRanks}
 use Rattle.dex_value.specs.Writing.{HighAs}
 use Rattle.dex_value.proofs.Appending.{float_appends, enum_appends}
 use Rattle.dex_value.proofs.writing.put_leaf.Goals as goal

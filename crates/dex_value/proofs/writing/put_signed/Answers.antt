@@ -2,7 +2,7 @@ use Rattle.std.proofs.Common.{◌*◌, take}
 use Rattle.std.proofs.lemmas.Int.{to_z-of_z}
 use Rattle.std.proofs.lemmas.Result.{on_ok_weaker}
 use mir.Syntax.{w64}
-use Rattle.dex_value.specs.Writing.{IsWidth, size_of, sized}
+use Rattle.dex_value.specs.Writing.{IsNumberWidth, magnitude_of, sized}
 use Rattle.dex_value.proofs.Narrow.{low_is, shortest_signed}
 use Rattle.dex_value.proofs.writing.put_signed.Goals as goal
 
@@ -10,7 +10,7 @@ pub returns-clause-ok : goal.returns-clause-ok
 returns-clause-ok c =
     let w = c.signed_width-width.result in
     let back = to_z-of_z w64 c.args.n c.ranges.n in
-    let is : IsWidth (2 * size_of c.args.n) w = rw back at c.signed_width-width.ensures in
+    let is : IsNumberWidth (2 * magnitude_of c.args.n) w = rw back at c.signed_width-width.ensures in
     let buffer = rw back at c.write_int.ensures in
     on_ok_weaker c.put_sized.result
     (λ e. record {

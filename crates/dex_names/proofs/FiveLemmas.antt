@@ -1,0 +1,245 @@
+-- Five sets together: parts, unions and closure.
+use Rattle.std.proofs.Common.{◌<◌, zero, suc, length, take, drop, get_or, ap, arith, ◌≡◌, ℕ, true, List, [], ◌∷◌, ◌++◌, map, refl, ◌⊎◌, inl, inr, Result, Ok, Err, OnErr}
+use Rattle.std.proofs.lemmas.List.{map-append}
+use Rattle.dex_program.specs.Key.{Key}
+use Rattle.dex_names.specs.Closure.{shorty_of_texts}
+use Rattle.dex_names.specs.Rank.{insert_key, is_member, IsSubset}
+use Rattle.dex_names.specs.Closure.{Five, nothing, alone, join, IsPart, AddsPart, IsClosed, string_closure, type_closure, proto_parts, proto_closure, field_closure, method_closure}
+use Rattle.dex_names.specs.declared.needed.Needed.TheInside.{Inside}
+use Rattle.dex_names.proofs.SubsetLemmas as sub
+
+pub IsPart-refl : (s : Five) → IsPart s s
+IsPart-refl s =
+    record { strings = sub.IsSubset-refl _; types = sub.IsSubset-refl _; protos = sub.IsSubset-refl _; fields = sub.IsSubset-refl _; methods = sub.IsSubset-refl _ }
+
+pub IsPart-trans : (s t u : Five) → IsPart s t → IsPart t u → IsPart s u
+IsPart-trans s t u f g =
+    record { strings = sub.IsSubset-trans s.strings t.strings u.strings f.strings g.strings; types = sub.IsSubset-trans s.types t.types u.types f.types g.types; protos = sub.IsSubset-trans s.protos t.protos u.protos f.protos g.protos; fields = sub.IsSubset-trans s.fields t.fields u.fields f.fields g.fields; methods = sub.IsSubset-trans s.methods t.methods u.methods f.methods g.methods }
+
+pub IsPart-left : (s t : Five) → IsPart s (join s t)
+IsPart-left s t =
+    record { strings = sub.IsSubset-add_left s.strings t.strings; types = sub.IsSubset-add_left s.types t.types; protos = sub.IsSubset-add_left s.protos t.protos; fields = sub.IsSubset-add_left s.fields t.fields; methods = sub.IsSubset-add_left s.methods t.methods }
+
+pub IsPart-right : (s t : Five) → IsPart t (join s t)
+IsPart-right s t =
+    record { strings = sub.IsSubset-add_right s.strings t.strings; types = sub.IsSubset-add_right s.types t.types; protos = sub.IsSubset-add_right s.protos t.protos; fields = sub.IsSubset-add_right s.fields t.fields; methods = sub.IsSubset-add_right s.methods t.methods }
+
+pub IsPart-join : (s t u : Five) → IsPart s u → IsPart t u → IsPart (join s t) u
+IsPart-join s t u f g =
+    record { strings = sub.IsSubset-add_all s.strings t.strings u.strings f.strings g.strings; types = sub.IsSubset-add_all s.types t.types u.types f.types g.types; protos = sub.IsSubset-add_all s.protos t.protos u.protos f.protos g.protos; fields = sub.IsSubset-add_all s.fields t.fields u.fields f.fields g.fields; methods = sub.IsSubset-add_all s.methods t.methods u.methods f.methods g.methods }
+
+-- a larger addend gives a larger union
+pub join_grows : (s t u : Five) → IsPart t u → IsPart (join s t) (join s u)
+join_grows s t u f = IsPart-join s t (join s u) (IsPart-left s u) (IsPart-trans t u (join s u) f (IsPart-right s u))
+
+-- what is closed stays so where each new name has its parts
+module _ (s t : Five) (closed : IsClosed s) (grows : IsPart s t) where
+  pub closed_more : ((k : Key) → is_member t.types k ≡ true → IsPart (type_closure k) t ⊎ (is_member s.types k ≡ true)) → ((k : Key) → is_member t.protos k ≡ true → IsPart (proto_closure k) t ⊎ (is_member s.protos k ≡ true)) → ((k : Key) → is_member t.fields k ≡ true → IsPart (field_closure k) t ⊎ (is_member s.fields k ≡ true)) → ((k : Key) → is_member t.methods k ≡ true → IsPart (method_closure k) t ⊎ (is_member s.methods k ≡ true)) → IsClosed t
+  closed_more types protos fields methods =
+      record {
+        of_types = λ k h. elim (types k h) [ inl p ↦ p | inr m ↦ IsPart-trans (type_closure k) s t (closed.of_types k m) grows ];
+        of_protos = λ k h. elim (protos k h) [ inl p ↦ p | inr m ↦ IsPart-trans (proto_closure k) s t (closed.of_protos k m) grows ];
+        of_fields = λ k h. elim (fields k h) [ inl p ↦ p | inr m ↦ IsPart-trans (field_closure k) s t (closed.of_fields k m) grows ];
+        of_methods = λ k h. elim (methods k h) [ inl p ↦ p | inr m ↦ IsPart-trans (method_closure k) s t (closed.of_methods k m) grows ];
+      }
+
+module _ (s : Five) (closed : IsClosed s) (x : Key) where
+  -- one more string breaks nothing
+  pub closed-strings : IsClosed (record s { strings = insert_key s.strings x })
+  closed-strings =
+      closed_more s (record s { strings = insert_key s.strings x }) closed (record { strings = sub.IsSubset-insert s.strings x; types = sub.IsSubset-refl _; protos = sub.IsSubset-refl _; fields = sub.IsSubset-refl _; methods = sub.IsSubset-refl _ }) (λ k h. inr h) (λ k h. inr h) (λ k h. inr h) (λ k h. inr h)
+
+  -- nor does another name whose parts are there
+  pub closed-types : IsPart (type_closure x) (record s { types = insert_key s.types x }) → IsClosed (record s { types = insert_key s.types x })
+  closed-types p =
+      closed_more s (record s { types = insert_key s.types x }) closed (record { strings = sub.IsSubset-refl _; types = sub.IsSubset-insert s.types x; protos = sub.IsSubset-refl _; fields = sub.IsSubset-refl _; methods = sub.IsSubset-refl _ }) (λ k h. elim (sub.inserted_cases s.types x k h) [ inl e ↦ inl (rw e p) | inr m ↦ inr m ]) (λ k h. inr h) (λ k h. inr h) (λ k h. inr h)
+
+  pub closed-protos : IsPart (proto_closure x) (record s { protos = insert_key s.protos x }) → IsClosed (record s { protos = insert_key s.protos x })
+  closed-protos p =
+      closed_more s (record s { protos = insert_key s.protos x }) closed (record { strings = sub.IsSubset-refl _; types = sub.IsSubset-refl _; protos = sub.IsSubset-insert s.protos x; fields = sub.IsSubset-refl _; methods = sub.IsSubset-refl _ }) (λ k h. inr h) (λ k h. elim (sub.inserted_cases s.protos x k h) [ inl e ↦ inl (rw e p) | inr m ↦ inr m ]) (λ k h. inr h) (λ k h. inr h)
+
+  pub closed-fields : IsPart (field_closure x) (record s { fields = insert_key s.fields x }) → IsClosed (record s { fields = insert_key s.fields x })
+  closed-fields p =
+      closed_more s (record s { fields = insert_key s.fields x }) closed (record { strings = sub.IsSubset-refl _; types = sub.IsSubset-refl _; protos = sub.IsSubset-refl _; fields = sub.IsSubset-insert s.fields x; methods = sub.IsSubset-refl _ }) (λ k h. inr h) (λ k h. inr h) (λ k h. elim (sub.inserted_cases s.fields x k h) [ inl e ↦ inl (rw e p) | inr m ↦ inr m ]) (λ k h. inr h)
+
+  pub closed-methods : IsPart (method_closure x) (record s { methods = insert_key s.methods x }) → IsClosed (record s { methods = insert_key s.methods x })
+  closed-methods p =
+      closed_more s (record s { methods = insert_key s.methods x }) closed (record { strings = sub.IsSubset-refl _; types = sub.IsSubset-refl _; protos = sub.IsSubset-refl _; fields = sub.IsSubset-refl _; methods = sub.IsSubset-insert s.methods x }) (λ k h. inr h) (λ k h. inr h) (λ k h. inr h) (λ k h. elim (sub.inserted_cases s.methods x k h) [ inl e ↦ inl (rw e p) | inr m ↦ inr m ])
+
+-- what the fields of a `Needed` hold
+abbrev pub five_of : Inside → Five
+five_of n = record { strings = n.strings; types = n.types; protos = n.protos; fields = n.fields; methods = n.methods }
+
+-- ---- what a refused addition leaves
+
+pub refused : {T E : Type 0} (r : Result T E) {P : Type 0} → P → OnErr r P
+refused (Ok x) p = tt
+refused (Err e) p = p
+
+pub unchanged : (s t : Five) → AddsPart s s (join s t)
+unchanged s t = record { keeps = IsPart-refl s; adds = IsPart-left s t }
+
+pub all_added : (s t : Five) → AddsPart s (join s t) (join s t)
+all_added s t = record { keeps = IsPart-left s t; adds = IsPart-refl (join s t) }
+
+-- a part of t was added, and then what an addition of u left, where t has both
+pub more_added : (s a u t new : Five) → IsPart a t → IsPart u t → AddsPart (join s a) new (join (join s a) u) → AddsPart s new (join s t)
+more_added s a u t new first second left =
+    record {
+      keeps = IsPart-trans s (join s a) new (IsPart-left s a) left.keeps;
+      adds = IsPart-trans new (join (join s a) u) (join s t) left.adds (IsPart-join (join s a) u (join s t) (join_grows s a t first) (IsPart-trans u t (join s t) second (IsPart-right s t)));
+    }
+
+pub part_added : (s a t : Five) → IsPart a t → AddsPart s (join s a) (join s t)
+part_added s a t first = record { keeps = IsPart-left s a; adds = join_grows s a t first }
+
+-- ---- what each closure has
+
+pub string_in_type : (k : Key) → IsPart (string_closure k) (type_closure k)
+string_in_type k =
+    record { strings = sub.IsSubset-refl _; types = sub.IsSubset-nil _; protos = sub.IsSubset-refl _; fields = sub.IsSubset-refl _; methods = sub.IsSubset-refl _ }
+
+-- the shorty and some types of a proto
+pub front_in_proto : (shorty : List ℕ) (texts more : List (List ℕ)) → shorty ≡ shorty_of_texts (texts ++ more) → IsPart (proto_parts shorty texts) (proto_closure (texts ++ more))
+front_in_proto shorty texts more is =
+    let alike : map alone (texts ++ more) ≡ map alone texts ++ map alone more = map-append alone texts more in
+    let front : IsSubset (map alone texts) (map alone (texts ++ more)) = rw alike (sub.IsSubset-append (map alone texts) (map alone more)) in
+    let strings : IsSubset (alone shorty ∷ map alone texts) (alone (shorty_of_texts (texts ++ more)) ∷ map alone (texts ++ more)) =
+    rw is (sub.IsSubset-cons (alone (shorty_of_texts (texts ++ more))) (map alone texts) (alone (shorty_of_texts (texts ++ more)) ∷ map alone (texts ++ more)) (sub.member_here (alone (shorty_of_texts (texts ++ more))) (map alone (texts ++ more))) (sub.IsSubset-tail _ (map alone texts) (map alone (texts ++ more)) front)) in
+    record {
+      strings = strings;
+      types = front;
+      protos = sub.IsSubset-nil ((texts ++ more) ∷ []);
+      fields = sub.IsSubset-refl _;
+      methods = sub.IsSubset-refl _;
+    }
+
+pub parts_in_proto : (k : Key) → IsPart (proto_parts (shorty_of_texts k) k) (proto_closure k)
+parts_in_proto k =
+    record { strings = sub.IsSubset-refl (proto_closure k).strings; types = sub.IsSubset-refl _; protos = sub.IsSubset-nil _; fields = sub.IsSubset-refl _; methods = sub.IsSubset-refl _ }
+
+pub type_in_proto : (front : List (List ℕ)) (t : List ℕ) (rest : List (List ℕ)) → IsPart (type_closure (alone t)) (proto_closure (front ++ t ∷ rest))
+type_in_proto front t rest =
+    let k = front ++ t ∷ rest in
+    let here : is_member (map alone k) (alone t) ≡ true = rw map-append (sub.member_middle (map alone front) (alone t) (map alone rest)) in
+    let types : IsSubset (alone t ∷ []) (map alone k) = sub.IsSubset-one (alone t) (map alone k) here in
+    record {
+      strings = sub.IsSubset-tail (alone (shorty_of_texts k)) (alone t ∷ []) (map alone k) types;
+      types = types;
+      protos = sub.IsSubset-nil _;
+      fields = sub.IsSubset-refl _;
+      methods = sub.IsSubset-refl _;
+    }
+
+-- the shorty and the types in front were added, and then what an addition of the next type left
+pub next_type : (s l new : Five) (k front : List (List ℕ)) (t : List ℕ) (rest : List (List ℕ)) → k ≡ front ++ t ∷ rest → l ≡ join s (proto_parts (shorty_of_texts k) front) → AddsPart l new (join l (type_closure (alone t))) → AddsPart s new (join s (proto_closure k))
+next_type s l new k front t rest split is left =
+    rw split
+    (more_added s (proto_parts (shorty_of_texts (front ++ t ∷ rest)) front) (type_closure (alone t)) (proto_closure (front ++ t ∷ rest)) new (front_in_proto _ front (t ∷ rest) refl) (type_in_proto front t rest) (rw (is, split) at left))
+
+pub proto_there : (l : Five) (k : Key) → IsPart (proto_parts (shorty_of_texts k) k) l → IsPart (proto_closure k) (record l { protos = insert_key l.protos k })
+proto_there l k p =
+    record { strings = p.strings; types = p.types; protos = sub.IsSubset-one k (insert_key l.protos k) (sub.member_inserted l.protos k); fields = sub.IsSubset-nil _; methods = sub.IsSubset-nil _ }
+
+-- a list at an index
+pub split_at : {A B : Type 0} (f : A → B) (xs : List A) (i : ℕ) (d : A) → i < length xs → map f xs ≡ map f (take i xs) ++ f (get_or xs i d) ∷ map f (drop (suc i) xs)
+split_at f [] i d lt = absurd (omega arith)
+split_at f (x ∷ xs) zero d lt = refl
+split_at f (x ∷ xs) (suc i) d lt = ap (λ l. f x ∷ l) (split_at f xs i d (omega arith))
+
+-- ---- methods
+
+pub wider : (s u t new : Five) → IsPart u t → AddsPart s new (join s u) → AddsPart s new (join s t)
+wider s u t new f left = record { keeps = left.keeps; adds = IsPart-trans new (join s u) (join s t) left.adds (join_grows s u t f) }
+
+module _ (class name : List ℕ) (proto : Key) where
+  abbrev k : Key
+  k = class ∷ name ∷ proto
+
+  -- the class and the name, and with the proto all but the method itself
+  abbrev pub method_front : Five
+  method_front = record nothing { strings = alone class ∷ alone name ∷ []; types = alone class ∷ [] }
+
+  abbrev pub method_parts : Five
+  method_parts = record (method_closure k) { methods = [] }
+
+  pub front_in_method : IsPart method_front (method_closure k)
+  front_in_method =
+      record {
+        strings = sub.IsSubset-append (alone class ∷ alone name ∷ []) (proto_closure proto).strings;
+        types = sub.IsSubset-append (alone class ∷ []) (proto_closure proto).types;
+        protos = sub.IsSubset-nil _;
+        fields = sub.IsSubset-refl _;
+        methods = sub.IsSubset-nil _;
+      }
+
+  pub class_in_front : IsPart (type_closure (alone class)) method_front
+  class_in_front =
+      record { strings = sub.IsSubset-append (alone class ∷ []) (alone name ∷ []); types = sub.IsSubset-refl _; protos = sub.IsSubset-refl _; fields = sub.IsSubset-refl _; methods = sub.IsSubset-refl _ }
+
+  pub name_in_front : IsPart (string_closure (alone name)) method_front
+  name_in_front =
+      record { strings = sub.IsSubset-tail (alone class) (alone name ∷ []) (alone name ∷ []) (sub.IsSubset-refl _); types = sub.IsSubset-nil _; protos = sub.IsSubset-refl _; fields = sub.IsSubset-refl _; methods = sub.IsSubset-refl _ }
+
+  pub class_in_method : IsPart (type_closure (alone class)) (method_closure k)
+  class_in_method = IsPart-trans (type_closure (alone class)) method_front (method_closure k) class_in_front front_in_method
+
+  pub name_in_method : IsPart (string_closure (alone name)) (method_closure k)
+  name_in_method = IsPart-trans (string_closure (alone name)) method_front (method_closure k) name_in_front front_in_method
+
+  pub proto_in_method : IsPart (proto_closure proto) (method_closure k)
+  proto_in_method =
+      let strings = (proto_closure proto).strings in
+      let types = (proto_closure proto).types in
+      record {
+        strings = sub.IsSubset-tail (alone class) strings (alone name ∷ strings) (sub.IsSubset-tail (alone name) strings strings (sub.IsSubset-refl _));
+        types = sub.IsSubset-tail (alone class) types types (sub.IsSubset-refl _);
+        protos = sub.IsSubset-refl _;
+        fields = sub.IsSubset-refl _;
+        methods = sub.IsSubset-nil _;
+      }
+
+  pub parts_in_method : IsPart method_parts (method_closure k)
+  parts_in_method =
+      record { strings = sub.IsSubset-refl (method_closure k).strings; types = sub.IsSubset-refl (method_closure k).types; protos = sub.IsSubset-refl _; fields = sub.IsSubset-refl _; methods = sub.IsSubset-nil _ }
+
+  pub method_there : (l : Five) → IsPart method_parts l → IsPart (method_closure k) (record l { methods = insert_key l.methods k })
+  method_there l p =
+      record { strings = p.strings; types = p.types; protos = p.protos; fields = sub.IsSubset-nil _; methods = sub.IsSubset-one k (insert_key l.methods k) (sub.member_inserted l.methods k) }
+
+-- ---- fields
+
+pub field_there : (class name ty : List ℕ) (l : Five) → IsPart (record (field_closure (class ∷ name ∷ ty ∷ [])) { fields = [] }) l → IsPart (field_closure (class ∷ name ∷ ty ∷ [])) (record l { fields = insert_key l.fields (class ∷ name ∷ ty ∷ []) })
+field_there class name ty l p =
+    let k = class ∷ name ∷ ty ∷ [] in
+    record { strings = p.strings; types = p.types; protos = p.protos; fields = sub.IsSubset-one k (insert_key l.fields k) (sub.member_inserted l.fields k); methods = p.methods }
+
+module _ (class name ty : List ℕ) where
+  abbrev f : Key
+  f = class ∷ name ∷ ty ∷ []
+
+  -- the class and the name, and with the type all but the field itself
+  abbrev pub field_front : Five
+  field_front = record nothing { strings = alone class ∷ alone name ∷ []; types = alone class ∷ [] }
+
+  abbrev pub field_parts : Five
+  field_parts = record (field_closure f) { fields = [] }
+
+  pub parts_in_field : IsPart field_parts (field_closure f)
+  parts_in_field =
+      record { strings = sub.IsSubset-refl (field_closure f).strings; types = sub.IsSubset-refl (field_closure f).types; protos = sub.IsSubset-refl _; fields = sub.IsSubset-nil _; methods = sub.IsSubset-refl _ }
+
+  pub front_in_field : IsPart field_front (field_closure f)
+  front_in_field =
+      record { strings = sub.IsSubset-append (alone class ∷ alone name ∷ []) (alone ty ∷ []); types = sub.IsSubset-append (alone class ∷ []) (alone ty ∷ []); protos = sub.IsSubset-refl _; fields = sub.IsSubset-nil _; methods = sub.IsSubset-refl _ }
+
+  pub class_in_field : IsPart (type_closure (alone class)) (field_closure f)
+  class_in_field = IsPart-trans (type_closure (alone class)) field_front (field_closure f) (class_in_front class name []) front_in_field
+
+  pub name_in_field : IsPart (string_closure (alone name)) (field_closure f)
+  name_in_field = IsPart-trans (string_closure (alone name)) field_front (field_closure f) (name_in_front class name []) front_in_field
+
+  pub type_in_field : IsPart (type_closure (alone ty)) (field_closure f)
+  type_in_field =
+      let one = alone ty ∷ [] in
+      record { strings = sub.IsSubset-tail _ _ _ (sub.IsSubset-tail _ _ _ (sub.IsSubset-refl _)); types = sub.IsSubset-tail (alone class) one one (sub.IsSubset-refl _); protos = sub.IsSubset-refl _; fields = sub.IsSubset-nil _; methods = sub.IsSubset-refl _ }

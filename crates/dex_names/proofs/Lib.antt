@@ -1,0 +1,9 @@
+pub mod FiveLemmas
+pub mod HeldLemmas
+pub mod RisingLemmas
+pub mod RowLemmas
+pub mod SubsetLemmas
+pub mod UnionLemmas
+pub mod PlaceLemmas
+pub mod NeededLemmas
+pub mod IndexLemmas

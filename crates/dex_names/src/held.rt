@@ -1,0 +1,111 @@
+//! The names of one kind that are needed, as a sorted vector: while names are added, and with their ranks.
+ghost use Rattle.std.specs.Prelude.{◌≡◌, ◌<◌, ◌^◌, ℕ, List, [], map, OnOk, OnErr, IfSome, IfNone, option_map, slice_get};
+ghost use Rattle.dex_names.specs.Rank.{Rising, insert_key, HasIndex, IsAt};
+
+use crate::row::Row;
+use std::alloc::{AllocError, Global};
+use std::marker::Model;
+
+/// A set of names, in the order of their table. It stands for the rising list of their keys.
+#[derive(Drop)]
+pub(crate) struct Held<N: Row> {
+    items: Vec<N>,
+}
+
+impl<N: Row> Model for Held<N> {
+    ghost use Rattle.std.specs.Prelude.{List, map};
+    ghost use Rattle.dex_program.specs.Key.{Key};
+    ghost use Rattle.dex_names.specs.Rank.{Rising};
+
+    ghost Value = { List Key };
+
+    ghost view = { λ h. map N.key h.items.items };
+
+    ghost invariant = { λ h. Rising (map N.key h.items.items) };
+}
+
+impl<N: Row> Held<N> {
+    /// No name.
+    pub(crate) fn new(alloc: Global) -> Self
+        ensures { result ≡ [] }
+    {
+        Held {
+            items: Vec::new(alloc),
+        }
+    }
+
+    /// Adds a name, if it isn't there yet.
+    pub(crate) fn add(&mut self, name: N) -> Result<(), AllocError>
+        ensures added { OnOk result (self.new ≡ insert_key self.old (N.key name)) }
+        ensures unchanged { OnErr result (self.new ≡ self.old) }
+    {
+        match self.items.binary_search(&name) {
+            Ok(_) => Ok(()),
+            Err(at) => {
+                self.items.insert(at, name)?;
+                Ok(())
+            }
+        }
+    }
+
+    /// The names with their ranks.
+    pub(crate) fn freeze(self) -> Ranked<N>
+        ensures same { result ≡ self }
+    {
+        let Held { items } = self;
+        Ranked { items }
+    }
+}
+
+/// A set of names that stays, each with its rank. It stands for the rising list of their keys.
+#[derive(Drop)]
+pub(crate) struct Ranked<N: Row> {
+    items: Vec<N>,
+}
+
+impl<N: Row> Model for Ranked<N> {
+    ghost use Rattle.std.specs.Prelude.{List, map};
+    ghost use Rattle.dex_program.specs.Key.{Key};
+    ghost use Rattle.dex_names.specs.Rank.{Rising};
+
+    ghost Value = { List Key };
+
+    ghost view = { λ h. map N.key h.items.items };
+
+    ghost invariant = { λ h. Rising (map N.key h.items.items) };
+}
+
+impl<N: Row> Ranked<N> {
+    /// The rank of a name, where it is held and its rank fits 32 bits.
+    pub(crate) fn index_of(&self, name: N) -> Option<u32>
+        ensures rank { HasIndex self.now (N.key name) result }
+        ensures some { IfSome result (λ i. IsAt self.now i (N.key name)) }
+        ensures none { IfNone result ((i : ℕ) → i < 2 ^ 32 → ¬ IsAt self.now i (N.key name)) }
+    {
+        match self.items.binary_search(&name) {
+            Ok(at) => u32::try_from(at).ok(),
+            Err(_) => None,
+        }
+    }
+
+    /// The names, in the order of their ranks.
+    pub(crate) fn names(&self) -> &[N]
+        ensures { map N.key result.now ≡ self.now }
+    {
+        &self.items
+    }
+
+    /// The keys strictly rise.
+    pub(crate) fn rises(&self)
+        ensures { Rising self.now }
+    {
+        let _ = &self.items;
+    }
+
+    /// The name with this rank.
+    pub(crate) fn name_at(&self, rank: u32) -> Option<N>
+        ensures { option_map N.key result ≡ slice_get self.now rank }
+    {
+        self.items.get(rank as usize).copied()
+    }
+}

@@ -1,0 +1,30 @@
+//! Names as rows of the five tables, string_ids to method_ids: the names that a program needs, with their parts, and their ranks.
+//!
+//! ```
+//! let mut needed = Needed::new(alloc);
+//! needed.add_type(ty)?; // and its descriptor as a string
+//! let rank = needed.freeze()?.index_of_type(ty); // its index in the written file
+//! ```
+#![tactic(auto)]
+
+// What the five kinds of names have in common.
+mod row;
+
+// The names that a program needs, and their ranks.
+mod held;
+mod needed;
+mod ranks;
+
+// What holds of rows, names and ranks.
+mod laws;
+#[cfg(test)]
+mod tests;
+
+pub use laws::{
+    closed_have_rows, fields_rise, keys_compare_as_places, look_ups_answer, mentions_have_indices,
+    methods_rise, needed_is_least, place_is_at_least_rank, protos_rise, rising_tables_rise,
+    sets_are_their_members, types_rise,
+};
+pub use needed::Needed;
+pub use ranks::Ranks;
+pub use row::Row;

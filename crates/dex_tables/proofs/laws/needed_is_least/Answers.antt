@@ -1,8 +1,0 @@
-use Rattle.dex_tables.proofs.NeededLemmas as law
-use Rattle.dex_tables.proofs.laws.needed_is_least.Goals as goal
-
-pub returns-clause-least : goal.returns-clause-least
-returns-clause-least c = law.needed_is_least
-
-pub returns-clause-only : goal.returns-clause-only
-returns-clause-only c = law.least_is_needed
