@@ -12,3 +12,4 @@ pub mod TakesLaws
 pub mod WeakerLaws
 pub mod WordsBytes
 pub mod Deciding
+pub mod OrderLaws

@@ -4,7 +4,7 @@ use Rattle.std.proofs.lemmas.List.{map-append}
 use Rattle.dex_program.specs.Key.{text_key, Key}
 use Rattle.dex_names.specs.Closure.{shorty_of_texts}
 use Rattle.dex_names.specs.Rank.{insert_key, is_member, IsSubset}
-use Rattle.dex_names.specs.Closure.{Five, nothing, join, IsPart, AddsPart, IsClosed, string_closure, type_closure, proto_parts, proto_closure, field_closure, method_closure}
+use Rattle.dex_names.specs.Closure.{Five, nothing, AreRising, join, IsPart, AddsPart, IsClosed, type_closure, proto_parts, proto_closure, field_closure, method_closure}
 use Rattle.dex_names.specs.declared.needed.Needed.TheInside.{Inside}
 use Rattle.dex_names.proofs.SubsetLemmas as sub
 
@@ -93,51 +93,60 @@ more_added s a u t new first second left =
 pub part_added : (s a t : Five) → IsPart a t → AddsPart s (join s a) (join s t)
 part_added s a t first = record { keeps = IsPart-left s a; adds = join_grows s a t first }
 
--- ---- what each closure has
+-- a part of what is held adds nothing
+pub part_adds_nothing : (s t : Five) → AreRising s → IsPart t s → s ≡ join s t
+part_adds_nothing s t up f =
+    λ i. record { strings = sub.add_all-subset s.strings t.strings up.strings f.strings i; types = sub.add_all-subset s.types t.types up.types f.types i; protos = sub.add_all-subset s.protos t.protos up.protos f.protos i; fields = sub.add_all-subset s.fields t.fields up.fields f.fields i; methods = sub.add_all-subset s.methods t.methods up.methods f.methods i }
 
-pub string_in_type : (k : Key) → IsPart (string_closure k) (type_closure k)
-string_in_type k =
-    record { strings = sub.IsSubset-refl _; types = sub.IsSubset-nil _; protos = sub.IsSubset-refl _; fields = sub.IsSubset-refl _; methods = sub.IsSubset-refl _ }
+-- ---- types
+
+abbrev pub type_parts : Key → Five
+type_parts k = record (type_closure k) { types = [] }
+
+-- ---- prototypes
+
+abbrev pub parts_of_proto : Key → Five
+parts_of_proto k = proto_parts (shorty_of_texts k) k
 
 -- the shorty and some types of a proto
-pub front_in_proto : (shorty : List ℕ) (texts more : List (List ℕ)) → shorty ≡ shorty_of_texts (texts ++ more) → IsPart (proto_parts shorty texts) (proto_closure (texts ++ more))
-front_in_proto shorty texts more is =
-    let alike : map text_key (texts ++ more) ≡ map text_key texts ++ map text_key more = map-append text_key texts more in
-    let front : IsSubset (map text_key texts) (map text_key (texts ++ more)) = rw alike (sub.IsSubset-append (map text_key texts) (map text_key more)) in
-    let strings : IsSubset (text_key shorty ∷ map text_key texts) (text_key (shorty_of_texts (texts ++ more)) ∷ map text_key (texts ++ more)) =
-    rw is (sub.IsSubset-cons (text_key (shorty_of_texts (texts ++ more))) (map text_key texts) (text_key (shorty_of_texts (texts ++ more)) ∷ map text_key (texts ++ more)) (sub.member_here (text_key (shorty_of_texts (texts ++ more))) (map text_key (texts ++ more))) (sub.IsSubset-tail _ (map text_key texts) (map text_key (texts ++ more)) front)) in
+pub front_in_proto : (front more : List (List ℕ)) → IsPart (proto_parts (shorty_of_texts (front ++ more)) front) (parts_of_proto (front ++ more))
+front_in_proto front more =
+    let shorty = text_key (shorty_of_texts (front ++ more)) in
+    let all = map text_key (front ++ more) in
+    let alike : all ≡ map text_key front ++ map text_key more = map-append text_key front more in
+    let texts : IsSubset (map text_key front) all = rw alike (sub.IsSubset-append (map text_key front) (map text_key more)) in
     record {
-      strings = strings;
-      types = front;
-      protos = sub.IsSubset-nil ((texts ++ more) ∷ []);
+      strings = sub.IsSubset-cons shorty (map text_key front) (shorty ∷ all) (sub.member_here shorty all) (sub.IsSubset-tail shorty (map text_key front) all texts);
+      types = texts;
+      protos = sub.IsSubset-refl _;
       fields = sub.IsSubset-refl _;
       methods = sub.IsSubset-refl _;
     }
 
-pub parts_in_proto : (k : Key) → IsPart (proto_parts (shorty_of_texts k) k) (proto_closure k)
+-- the text of one of its types
+text_in_proto : (front : List (List ℕ)) (t : List ℕ) (rest : List (List ℕ)) → IsPart (type_parts (text_key t)) (parts_of_proto (front ++ t ∷ rest))
+text_in_proto front t rest =
+    let all = map text_key (front ++ t ∷ rest) in
+    let here : is_member all (text_key t) ≡ true = rw map-append (sub.member_middle (map text_key front) (text_key t) (map text_key rest)) in
+    record {
+      strings = sub.IsSubset-tail (text_key (shorty_of_texts (front ++ t ∷ rest))) (text_key t ∷ []) all (sub.IsSubset-one (text_key t) all here);
+      types = sub.IsSubset-nil _;
+      protos = sub.IsSubset-refl _;
+      fields = sub.IsSubset-refl _;
+      methods = sub.IsSubset-refl _;
+    }
+
+-- the shorty and the types in front were added, and then what a refusal of the next type left
+pub next_type : (s l new : Five) (k front : List (List ℕ)) (t : List ℕ) (rest : List (List ℕ)) → k ≡ front ++ t ∷ rest → l ≡ join s (proto_parts (shorty_of_texts k) front) → AddsPart l new (join l (type_parts (text_key t))) → AddsPart s new (join s (parts_of_proto k))
+next_type s l new k front t rest split is left =
+    rw split
+    (more_added s (proto_parts (shorty_of_texts (front ++ t ∷ rest)) front) (type_parts (text_key t)) (parts_of_proto (front ++ t ∷ rest)) new (front_in_proto front (t ∷ rest)) (text_in_proto front t rest) (rw (is, split) at left))
+
+pub parts_in_proto : (k : Key) → IsPart (parts_of_proto k) (proto_closure k)
 parts_in_proto k =
     record { strings = sub.IsSubset-refl (proto_closure k).strings; types = sub.IsSubset-refl _; protos = sub.IsSubset-nil _; fields = sub.IsSubset-refl _; methods = sub.IsSubset-refl _ }
 
-pub type_in_proto : (front : List (List ℕ)) (t : List ℕ) (rest : List (List ℕ)) → IsPart (type_closure (text_key t)) (proto_closure (front ++ t ∷ rest))
-type_in_proto front t rest =
-    let k = front ++ t ∷ rest in
-    let here : is_member (map text_key k) (text_key t) ≡ true = rw map-append (sub.member_middle (map text_key front) (text_key t) (map text_key rest)) in
-    let types : IsSubset (text_key t ∷ []) (map text_key k) = sub.IsSubset-one (text_key t) (map text_key k) here in
-    record {
-      strings = sub.IsSubset-tail (text_key (shorty_of_texts k)) (text_key t ∷ []) (map text_key k) types;
-      types = types;
-      protos = sub.IsSubset-nil _;
-      fields = sub.IsSubset-refl _;
-      methods = sub.IsSubset-refl _;
-    }
-
--- the shorty and the types in front were added, and then what an addition of the next type left
-pub next_type : (s l new : Five) (k front : List (List ℕ)) (t : List ℕ) (rest : List (List ℕ)) → k ≡ front ++ t ∷ rest → l ≡ join s (proto_parts (shorty_of_texts k) front) → AddsPart l new (join l (type_closure (text_key t))) → AddsPart s new (join s (proto_closure k))
-next_type s l new k front t rest split is left =
-    rw split
-    (more_added s (proto_parts (shorty_of_texts (front ++ t ∷ rest)) front) (type_closure (text_key t)) (proto_closure (front ++ t ∷ rest)) new (front_in_proto _ front (t ∷ rest) refl) (type_in_proto front t rest) (rw (is, split) at left))
-
-pub proto_there : (l : Five) (k : Key) → IsPart (proto_parts (shorty_of_texts k) k) l → IsPart (proto_closure k) (record l { protos = insert_key l.protos k })
+pub proto_there : (l : Five) (k : Key) → IsPart (parts_of_proto k) l → IsPart (proto_closure k) (record l { protos = insert_key l.protos k })
 proto_there l k p =
     record { strings = p.strings; types = p.types; protos = sub.IsSubset-one k (insert_key l.protos k) (sub.member_inserted l.protos k); fields = sub.IsSubset-nil _; methods = sub.IsSubset-nil _ }
 
@@ -147,99 +156,85 @@ split_at f [] i d lt = absurd (omega arith)
 split_at f (x ∷ xs) zero d lt = refl
 split_at f (x ∷ xs) (suc i) d lt = ap (λ l. f x ∷ l) (split_at f xs i d (omega arith))
 
--- ---- methods
+-- ---- methods and fields
 
+-- a refusal of a part is one of the whole
 pub wider : (s u t new : Five) → IsPart u t → AddsPart s new (join s u) → AddsPart s new (join s t)
 wider s u t new f left = record { keeps = left.keeps; adds = IsPart-trans new (join s u) (join s t) left.adds (join_grows s u t f) }
 
-module _ (class name : List ℕ) (proto : Key) where
-  abbrev k : Key
-  k = class ∷ name ∷ proto
+module _ (class name : List ℕ) where
+  -- the class and the name
+  abbrev pub member_front : Five
+  member_front = record nothing { strings = text_key class ∷ text_key name ∷ []; types = text_key class ∷ [] }
 
-  -- the class and the name, and with the proto all but the method itself
-  abbrev pub method_front : Five
-  method_front = record nothing { strings = text_key class ∷ text_key name ∷ []; types = text_key class ∷ [] }
-
-  abbrev pub method_parts : Five
-  method_parts = record (method_closure k) { methods = [] }
-
-  pub front_in_method : IsPart method_front (method_closure k)
-  front_in_method =
-      record {
-        strings = sub.IsSubset-append (text_key class ∷ text_key name ∷ []) (proto_closure proto).strings;
-        types = sub.IsSubset-append (text_key class ∷ []) (proto_closure proto).types;
-        protos = sub.IsSubset-nil _;
-        fields = sub.IsSubset-refl _;
-        methods = sub.IsSubset-nil _;
-      }
-
-  pub class_in_front : IsPart (type_closure (text_key class)) method_front
+  pub class_in_front : IsPart (type_closure (text_key class)) member_front
   class_in_front =
       record { strings = sub.IsSubset-append (text_key class ∷ []) (text_key name ∷ []); types = sub.IsSubset-refl _; protos = sub.IsSubset-refl _; fields = sub.IsSubset-refl _; methods = sub.IsSubset-refl _ }
 
-  pub name_in_front : IsPart (string_closure (text_key name)) method_front
-  name_in_front =
-      record { strings = sub.IsSubset-tail (text_key class) (text_key name ∷ []) (text_key name ∷ []) (sub.IsSubset-refl _); types = sub.IsSubset-nil _; protos = sub.IsSubset-refl _; fields = sub.IsSubset-refl _; methods = sub.IsSubset-refl _ }
+  pub class_text_in_front : IsPart (type_parts (text_key class)) member_front
+  class_text_in_front =
+      record { strings = sub.IsSubset-append (text_key class ∷ []) (text_key name ∷ []); types = sub.IsSubset-nil _; protos = sub.IsSubset-refl _; fields = sub.IsSubset-refl _; methods = sub.IsSubset-refl _ }
 
-  pub class_in_method : IsPart (type_closure (text_key class)) (method_closure k)
-  class_in_method = IsPart-trans (type_closure (text_key class)) method_front (method_closure k) class_in_front front_in_method
+  module _ (proto : Key) where
+    abbrev k : Key
+    k = class ∷ name ∷ proto
 
-  pub name_in_method : IsPart (string_closure (text_key name)) (method_closure k)
-  name_in_method = IsPart-trans (string_closure (text_key name)) method_front (method_closure k) name_in_front front_in_method
+    -- all but the method itself
+    abbrev pub method_parts : Five
+    method_parts = record (method_closure k) { methods = [] }
 
-  pub proto_in_method : IsPart (proto_closure proto) (method_closure k)
-  proto_in_method =
-      let strings = (proto_closure proto).strings in
-      let types = (proto_closure proto).types in
-      record {
-        strings = sub.IsSubset-tail (text_key class) strings (text_key name ∷ strings) (sub.IsSubset-tail (text_key name) strings strings (sub.IsSubset-refl _));
-        types = sub.IsSubset-tail (text_key class) types types (sub.IsSubset-refl _);
-        protos = sub.IsSubset-refl _;
-        fields = sub.IsSubset-refl _;
-        methods = sub.IsSubset-nil _;
-      }
+    pub front_in_method : IsPart member_front method_parts
+    front_in_method =
+        record {
+          strings = sub.IsSubset-append (text_key class ∷ text_key name ∷ []) (proto_closure proto).strings;
+          types = sub.IsSubset-append (text_key class ∷ []) (proto_closure proto).types;
+          protos = sub.IsSubset-nil _;
+          fields = sub.IsSubset-refl _;
+          methods = sub.IsSubset-refl _;
+        }
 
-  pub parts_in_method : IsPart method_parts (method_closure k)
-  parts_in_method =
-      record { strings = sub.IsSubset-refl (method_closure k).strings; types = sub.IsSubset-refl (method_closure k).types; protos = sub.IsSubset-refl _; fields = sub.IsSubset-refl _; methods = sub.IsSubset-nil _ }
+    proto_in_parts : IsPart (proto_closure proto) method_parts
+    proto_in_parts =
+        let strings = (proto_closure proto).strings in
+        let types = (proto_closure proto).types in
+        record {
+          strings = sub.IsSubset-tail (text_key class) strings (text_key name ∷ strings) (sub.IsSubset-tail (text_key name) strings strings (sub.IsSubset-refl _));
+          types = sub.IsSubset-tail (text_key class) types types (sub.IsSubset-refl _);
+          protos = sub.IsSubset-refl _;
+          fields = sub.IsSubset-refl _;
+          methods = sub.IsSubset-refl _;
+        }
 
-  pub method_there : (l : Five) → IsPart method_parts l → IsPart (method_closure k) (record l { methods = insert_key l.methods k })
-  method_there l p =
-      record { strings = p.strings; types = p.types; protos = p.protos; fields = sub.IsSubset-nil _; methods = sub.IsSubset-one k (insert_key l.methods k) (sub.member_inserted l.methods k) }
+    pub proto_parts_in_method : IsPart (parts_of_proto proto) method_parts
+    proto_parts_in_method = IsPart-trans (parts_of_proto proto) (proto_closure proto) method_parts (parts_in_proto proto) proto_in_parts
 
--- ---- fields
+    parts_in_method : IsPart method_parts (method_closure k)
+    parts_in_method =
+        record { strings = sub.IsSubset-refl (method_closure k).strings; types = sub.IsSubset-refl (method_closure k).types; protos = sub.IsSubset-refl _; fields = sub.IsSubset-refl _; methods = sub.IsSubset-nil _ }
 
-pub field_there : (class name ty : List ℕ) (l : Five) → IsPart (record (field_closure (class ∷ name ∷ ty ∷ [])) { fields = [] }) l → IsPart (field_closure (class ∷ name ∷ ty ∷ [])) (record l { fields = insert_key l.fields (class ∷ name ∷ ty ∷ []) })
-field_there class name ty l p =
-    let k = class ∷ name ∷ ty ∷ [] in
-    record { strings = p.strings; types = p.types; protos = p.protos; fields = sub.IsSubset-one k (insert_key l.fields k) (sub.member_inserted l.fields k); methods = p.methods }
+    pub proto_in_method : IsPart (proto_closure proto) (method_closure k)
+    proto_in_method = IsPart-trans (proto_closure proto) method_parts (method_closure k) proto_in_parts parts_in_method
 
-module _ (class name ty : List ℕ) where
-  abbrev f : Key
-  f = class ∷ name ∷ ty ∷ []
+    pub method_there : (l : Five) → IsPart method_parts l → IsPart (method_closure k) (record l { methods = insert_key l.methods k })
+    method_there l p =
+        record { strings = p.strings; types = p.types; protos = p.protos; fields = sub.IsSubset-nil _; methods = sub.IsSubset-one k (insert_key l.methods k) (sub.member_inserted l.methods k) }
 
-  -- the class and the name, and with the type all but the field itself
-  abbrev pub field_front : Five
-  field_front = record nothing { strings = text_key class ∷ text_key name ∷ []; types = text_key class ∷ [] }
+  module _ (ty : List ℕ) where
+    abbrev f : Key
+    f = class ∷ name ∷ ty ∷ []
 
-  abbrev pub field_parts : Five
-  field_parts = record (field_closure f) { fields = [] }
+    -- all but the field itself
+    abbrev pub field_parts : Five
+    field_parts = record (field_closure f) { fields = [] }
 
-  pub parts_in_field : IsPart field_parts (field_closure f)
-  parts_in_field =
-      record { strings = sub.IsSubset-refl (field_closure f).strings; types = sub.IsSubset-refl (field_closure f).types; protos = sub.IsSubset-refl _; fields = sub.IsSubset-nil _; methods = sub.IsSubset-refl _ }
+    pub front_in_field : IsPart member_front field_parts
+    front_in_field =
+        record { strings = sub.IsSubset-append (text_key class ∷ text_key name ∷ []) (text_key ty ∷ []); types = sub.IsSubset-append (text_key class ∷ []) (text_key ty ∷ []); protos = sub.IsSubset-refl _; fields = sub.IsSubset-refl _; methods = sub.IsSubset-refl _ }
 
-  pub front_in_field : IsPart field_front (field_closure f)
-  front_in_field =
-      record { strings = sub.IsSubset-append (text_key class ∷ text_key name ∷ []) (text_key ty ∷ []); types = sub.IsSubset-append (text_key class ∷ []) (text_key ty ∷ []); protos = sub.IsSubset-refl _; fields = sub.IsSubset-nil _; methods = sub.IsSubset-refl _ }
+    pub type_text_in_field : IsPart (type_parts (text_key ty)) field_parts
+    type_text_in_field =
+        record { strings = sub.IsSubset-tail _ _ _ (sub.IsSubset-tail _ _ _ (sub.IsSubset-refl _)); types = sub.IsSubset-nil _; protos = sub.IsSubset-refl _; fields = sub.IsSubset-refl _; methods = sub.IsSubset-refl _ }
 
-  pub class_in_field : IsPart (type_closure (text_key class)) (field_closure f)
-  class_in_field = IsPart-trans (type_closure (text_key class)) field_front (field_closure f) (class_in_front class name []) front_in_field
-
-  pub name_in_field : IsPart (string_closure (text_key name)) (field_closure f)
-  name_in_field = IsPart-trans (string_closure (text_key name)) field_front (field_closure f) (name_in_front class name []) front_in_field
-
-  pub type_in_field : IsPart (type_closure (text_key ty)) (field_closure f)
-  type_in_field =
-      let one = text_key ty ∷ [] in
-      record { strings = sub.IsSubset-tail _ _ _ (sub.IsSubset-tail _ _ _ (sub.IsSubset-refl _)); types = sub.IsSubset-tail (text_key class) one one (sub.IsSubset-refl _); protos = sub.IsSubset-refl _; fields = sub.IsSubset-nil _; methods = sub.IsSubset-refl _ }
+    pub field_there : (l : Five) → IsPart field_parts l → IsPart (field_closure f) (record l { fields = insert_key l.fields f })
+    field_there l p =
+        record { strings = p.strings; types = p.types; protos = p.protos; fields = sub.IsSubset-one f (insert_key l.fields f) (sub.member_inserted l.fields f); methods = p.methods }

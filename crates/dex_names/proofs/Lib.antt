@@ -7,3 +7,4 @@ pub mod UnionLemmas
 pub mod PlaceLemmas
 pub mod NeededLemmas
 pub mod IndexLemmas
+pub mod ShortyLemmas

@@ -81,6 +81,21 @@ with_name s name = join s (closure_of name)
 unfoldable pub with_proto : Five → Proto → Five
 with_proto s p = join s (proto_closure (proto_key p))
 
+-- the parts of a name of any kind, without the name
+abbrev pub parts_of : Name → Five
+parts_of (OfText s) = nothing
+parts_of (OfDesc t) = record (type_closure (text_key t)) { types = [] }
+parts_of (OfField f) = record (field_closure (field_ref_key f)) { fields = [] }
+parts_of (OfMethod m) = record (method_closure (method_ref_key m)) { methods = [] }
+
+-- the sets, and the parts of a name
+unfoldable pub with_parts : Five → Name → Five
+with_parts s name = join s (parts_of name)
+
+-- the sets, and the parts of a proto
+unfoldable pub with_proto_parts : Five → Proto → Five
+with_proto_parts s p = join s (proto_parts (shorty_of_texts (proto_key p)) (proto_key p))
+
 -- the sets, and these names with their parts
 abbrev pub with_names : Five → List Name → Five
 with_names s names = fold with_name s names

@@ -1,27 +1,27 @@
-//! The names of one kind that are needed, as a sorted vector: while names are added, and with their ranks.
-ghost use Rattle.std.specs.Prelude.{◌≡◌, ◌<◌, ◌^◌, ℕ, List, [], map, OnOk, OnErr, IfSome, IfNone, option_map, slice_get};
-ghost use Rattle.dex_names.specs.Rank.{Rising, insert_key, HasIndex, IsAt};
+//! The names of one kind that are needed: a hashed set in the order of first need while names are added, and then a list in
+//! the order of their ranks.
+ghost use Rattle.std.specs.Prelude.{◌≡◌, ◌<◌, ◌^◌, ℕ, List, [], map, OnOk, OnErr, IfOk, IfSome, IfNone, option_map, slice_get};
+ghost use Rattle.dex_names.specs.Rank.{Rising, insert_key, is_member, HasIndex, IsAt};
 
 use crate::row::Row;
+use indexmap::IndexSet;
 use std::alloc::{AllocError, Global};
 use std::marker::Model;
 
-/// A set of names, in the order of their table. It stands for the rising list of their keys.
+/// A set of names, in the order of first need. It stands for the rising list of their keys.
 #[derive(Drop)]
 pub(crate) struct Held<N: Row> {
-    items: Vec<N>,
+    items: IndexSet<N>,
 }
 
 impl<N: Row> Model for Held<N> {
-    ghost use Rattle.std.specs.Prelude.{List, map};
+    ghost use Rattle.std.specs.Prelude.{List, [], map};
     ghost use Rattle.dex_program.specs.Key.{Key};
-    ghost use Rattle.dex_names.specs.Rank.{Rising};
+    ghost use Rattle.dex_names.specs.Rank.{add_all};
 
     ghost Value = { List Key };
 
-    ghost view = { λ h. map N.key h.items.items };
-
-    ghost invariant = { λ h. Rising (map N.key h.items.items) };
+    ghost view = { λ h. add_all [] (map N.key h.items.keys) };
 }
 
 impl<N: Row> Held<N> {
@@ -30,8 +30,22 @@ impl<N: Row> Held<N> {
         ensures { result ≡ [] }
     {
         Held {
-            items: Vec::new(alloc),
+            items: IndexSet::new(alloc),
         }
+    }
+
+    /// Whether a name is there.
+    pub(crate) fn holds(&self, name: &N) -> bool
+        ensures { result ≡ is_member self.now (N.key name.now) }
+    {
+        self.items.contains(name)
+    }
+
+    /// The keys strictly rise.
+    pub(crate) fn rises(&self)
+        ensures { Rising self.now }
+    {
+        let _ = &self.items;
     }
 
     /// Adds a name, if it isn't there yet.
@@ -39,25 +53,21 @@ impl<N: Row> Held<N> {
         ensures added { OnOk result (self.new ≡ insert_key self.old (N.key name)) }
         ensures unchanged { OnErr result (self.new ≡ self.old) }
     {
-        match self.items.binary_search(&name) {
-            Ok(_) => Ok(()),
-            Err(at) => {
-                self.items.insert(at, name)?;
-                Ok(())
-            }
-        }
+        self.items.insert(name)?;
+        Ok(())
     }
 
-    /// The names with their ranks.
-    pub(crate) fn freeze(self) -> Ranked<N>
-        ensures same { result ≡ self }
+    /// The names with their ranks: each kind is sorted once.
+    pub(crate) fn ranked(&self, alloc: Global) -> Result<Ranked<N>, AllocError>
+        ensures same { IfOk result (λ r. r ≡ self.now) }
     {
-        let Held { items } = self;
-        Ranked { items }
+        let mut items = Vec::from_slice(alloc, self.items.as_slice())?;
+        items.sort()?;
+        Ok(Ranked { items })
     }
 }
 
-/// A set of names that stays, each with its rank. It stands for the rising list of their keys.
+/// A set of names that stays, each with its rank, in the order of these. It stands for the rising list of their keys.
 #[derive(Drop)]
 pub(crate) struct Ranked<N: Row> {
     items: Vec<N>,
@@ -92,7 +102,7 @@ impl<N: Row> Ranked<N> {
     pub(crate) fn names(&self) -> &[N]
         ensures { map N.key result.now ≡ self.now }
     {
-        &self.items
+        self.items.as_slice()
     }
 
     /// The keys strictly rise.

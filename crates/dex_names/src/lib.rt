@@ -14,6 +14,7 @@ mod row;
 mod held;
 mod needed;
 mod ranks;
+mod shorty;
 
 // What holds of rows, names and ranks.
 mod laws;

@@ -6,7 +6,7 @@ ghost use Rattle.dex_base.specs.Descriptor.{IsDescriptor};
 ghost use Rattle.dex_program.specs.Content.{OfText, OfDesc, OfField, OfMethod};
 ghost use Rattle.dex_program.specs.View.{str, desc, proto, field_ref, method_ref};
 ghost use Rattle.dex_program.specs.View as view;
-ghost use Rattle.dex_names.specs.Closure.{nothing, with_name, with_proto, AddsPart, IsClosed, HasShorty};
+ghost use Rattle.dex_names.specs.Closure.{nothing, with_name, with_proto, with_parts, with_proto_parts, AddsPart, AreRising, IsClosed, HasShorty};
 
 use crate::held::Held;
 use crate::ranks::Ranks;
@@ -19,7 +19,8 @@ use std::marker::Model;
 /// The names that are needed so far: a set of each of the five kinds, with each name its parts. It stands for the five
 /// sets (`specs/Closure.antt`).
 ///
-/// A name that was refused for want of memory may have left some of its parts; all that was held is held.
+/// Each kind is kept in the order of first need and sorted once, by `freeze`. A name that was refused for want of memory
+/// may have left some of its parts; all that was held is held.
 #[derive(Drop)]
 pub struct Needed<'a> {
     alloc: Global,
@@ -40,7 +41,7 @@ impl<'a> Model for Needed<'a> {
     ghost invariant = { λ n. IsClosed record { strings = n.strings; types = n.types; protos = n.protos; fields = n.fields; methods = n.methods } };
 }
 
-#[tactic(auto, unfolding(crate::specs::Closure::with_name, crate::specs::Closure::with_proto))]
+#[tactic(auto, unfolding(crate::specs::Closure::with_name, crate::specs::Closure::with_proto, crate::specs::Closure::with_parts, crate::specs::Closure::with_proto_parts))]
 impl<'a> Needed<'a> {
     /// No name. Takes no memory.
     pub fn new(alloc: Global) -> Self
@@ -63,11 +64,22 @@ impl<'a> Needed<'a> {
         let _ = &self.strings;
     }
 
+    // In each of the five sets the names strictly rise.
+    fn rise(&self)
+        ensures { AreRising self.now }
+    {
+        self.strings.rises();
+        self.types.rises();
+        self.protos.rises();
+        self.fields.rises();
+        self.methods.rises();
+    }
+
     /// Adds a string. Refused only for want of memory, as all additions are: what was held is held then, and beyond it
-    /// at most parts of the name.
+    /// at most parts of the name, never the name itself.
     pub fn add_string(&mut self, name: Str<'a>) -> Result<(), Fault>
         ensures added { OnOk result (self.new ≡ with_name self.old (OfText (str name.entry))) }
-        ensures partly { OnErr result (AddsPart self.old self.new (with_name self.old (OfText (str name.entry)))) }
+        ensures unchanged { OnErr result (self.new ≡ self.old) }
         ensures memory { IsOkUnless result memory }
     {
         self.strings.add(name)?;
@@ -77,7 +89,7 @@ impl<'a> Needed<'a> {
     /// Adds a type, and its descriptor as a string.
     pub fn add_type(&mut self, name: Desc<'a>) -> Result<(), Fault>
         ensures added { OnOk result (self.new ≡ with_name self.old (OfDesc (desc name.entry))) }
-        ensures partly { OnErr result (AddsPart self.old self.new (with_name self.old (OfDesc (desc name.entry)))) }
+        ensures partly { OnErr result (AddsPart self.old self.new (with_parts self.old (OfDesc (desc name.entry)))) }
         ensures memory { IsOkUnless result memory }
     {
         self.strings.add(name.text)?;
@@ -85,14 +97,19 @@ impl<'a> Needed<'a> {
         Ok(())
     }
 
-    /// Adds a prototype, its shorty, its return type and its parameters. The arena holds the shorty.
-    pub fn add_proto(&mut self, arena: &'a Bump, name: &'a Proto<'a>) -> Result<(), Fault>
+    /// Adds a prototype, its shorty, its return type and its parameters. The arena holds the shorty, which is spelled only
+    /// where the prototype isn't held yet.
+    pub fn add_proto(&mut self, arena: &'a Bump, name: &Proto<'a>) -> Result<(), Fault>
         requires ret { IsDescriptor (desc name.now.ret) }
         requires params { All IsDescriptor (map desc name.now.params.now) }
         ensures added { OnOk result (self.new ≡ with_proto self.old (proto name.now)) }
-        ensures partly { OnErr result (AddsPart self.old self.new (with_proto self.old (proto name.now))) }
+        ensures partly { OnErr result (AddsPart self.old self.new (with_proto_parts self.old (proto name.now))) }
         ensures memory { IsOkUnless result memory }
     {
+        if self.protos.holds(name) {
+            self.rise();
+            return Ok(());
+        }
         self.strings
             .add(shorty_of(self.alloc, arena, name.ret, name.params)?)?;
         self.add_type(name.ret)?;
@@ -104,13 +121,17 @@ impl<'a> Needed<'a> {
     }
 
     /// Adds a method, its class, its name and its prototype. The arena holds the shorty.
-    pub fn add_method(&mut self, arena: &'a Bump, name: &'a MethodRef<'a>) -> Result<(), Fault>
+    pub fn add_method(&mut self, arena: &'a Bump, name: &MethodRef<'a>) -> Result<(), Fault>
         requires ret { IsDescriptor (desc name.now.proto.now.ret) }
         requires params { All IsDescriptor (map desc name.now.proto.now.params.now) }
         ensures added { OnOk result (self.new ≡ with_name self.old (OfMethod (method_ref name.now))) }
-        ensures partly { OnErr result (AddsPart self.old self.new (with_name self.old (OfMethod (method_ref name.now)))) }
+        ensures partly { OnErr result (AddsPart self.old self.new (with_parts self.old (OfMethod (method_ref name.now)))) }
         ensures memory { IsOkUnless result memory }
     {
+        if self.methods.holds(name) {
+            self.rise();
+            return Ok(());
+        }
         self.add_type(name.class)?;
         self.add_string(name.name)?;
         self.add_proto(arena, name.proto)?;
@@ -119,11 +140,15 @@ impl<'a> Needed<'a> {
     }
 
     /// Adds a field, its class, its name and its type.
-    pub fn add_field(&mut self, name: &'a FieldRef<'a>) -> Result<(), Fault>
+    pub fn add_field(&mut self, name: &FieldRef<'a>) -> Result<(), Fault>
         ensures added { OnOk result (self.new ≡ with_name self.old (OfField (field_ref name.now))) }
-        ensures partly { OnErr result (AddsPart self.old self.new (with_name self.old (OfField (field_ref name.now)))) }
+        ensures partly { OnErr result (AddsPart self.old self.new (with_parts self.old (OfField (field_ref name.now)))) }
         ensures memory { IsOkUnless result memory }
     {
+        if self.fields.holds(name) {
+            self.rise();
+            return Ok(());
+        }
         self.add_type(name.class)?;
         self.add_string(name.name)?;
         self.add_type(name.ty)?;
@@ -135,7 +160,7 @@ impl<'a> Needed<'a> {
     pub fn add_name(&mut self, arena: &'a Bump, name: Name<'a>) -> Result<(), Fault>
         requires { HasShorty (view.name name) }
         ensures added { OnOk result (self.new ≡ with_name self.old (view.name name.entry)) }
-        ensures partly { OnErr result (AddsPart self.old self.new (with_name self.old (view.name name.entry))) }
+        ensures partly { OnErr result (AddsPart self.old self.new (with_parts self.old (view.name name.entry))) }
         ensures memory { IsOkUnless result memory }
     {
         match name {
@@ -152,20 +177,19 @@ impl<'a> Needed<'a> {
         ensures same { IfOk result (λ r. r ≡ self.entry) }
         ensures memory { IsOkUnless result memory }
     {
-        let Needed {
-            alloc: _,
-            strings,
-            types,
-            protos,
-            fields,
-            methods,
-        } = self;
-        Ok(Ranks::new(
-            strings.freeze(),
-            types.freeze(),
-            protos.freeze(),
-            fields.freeze(),
-            methods.freeze(),
-        ))
+        self.ranks()
+    }
+
+    // The names that are held, with their ranks.
+    fn ranks(&self) -> Result<Ranks<'a>, Fault>
+        ensures same { IfOk result (λ r. r ≡ self.now) }
+        ensures memory { IsOkUnless result memory }
+    {
+        let strings = self.strings.ranked(self.alloc)?;
+        let types = self.types.ranked(self.alloc)?;
+        let protos = self.protos.ranked(self.alloc)?;
+        let fields = self.fields.ranked(self.alloc)?;
+        let methods = self.methods.ranked(self.alloc)?;
+        Ok(Ranks::new(strings, types, protos, fields, methods))
     }
 }

@@ -46,5 +46,5 @@ pub use insn::Insn;
 pub use kinds::{is_class_or_array, is_class_type, is_void};
 pub use names::{Desc, FieldRef, MethodRef, Name, Proto, Str};
 pub use place::{place_descs, place_proto, place_str};
-pub use shorty::{shorty_laws, shorty_of};
+pub use shorty::{letter, shorty_laws, shorty_of};
 pub use value::Value;

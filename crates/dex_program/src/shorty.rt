@@ -1,6 +1,6 @@
 //! The short form of a prototype ("Dalvik Executable format", "String syntax": ShortyDescriptor).
 
-ghost use Rattle.std.specs.Prelude.{◌≡◌, ◌↔◌, ◌<◌, ℕ, List, All, IfOk, IsOkUnless, length, map};
+ghost use Rattle.std.specs.Prelude.{◌≡◌, ◌↔◌, ℕ, List, All, IfOk, IsOkUnless, map};
 ghost use Rattle.dex_base.specs.Descriptor.{IsDescriptor};
 ghost use Rattle.dex_bytes.specs.Fault.{memory};
 ghost use Rattle.dex_program.specs.Shorty.{StandsFor, letter_of, shorty};
@@ -18,12 +18,15 @@ const REFERENCE: u16 = b'L' as u16;
 /// The first unit of an array type.
 const ARRAY: u16 = b'[' as u16;
 
-// The letter of a type in a shorty.
-fn letter(ty: Desc<'_>) -> u16
-    requires { 0 < length (desc ty) }
+/// The letter of a type in a shorty: `L` for classes and arrays, else the first unit of its descriptor (0 of an empty text).
+pub fn letter(ty: Desc<'_>) -> u16
     ensures { result ≡ letter_of (desc ty.entry) }
 {
-    match ty.text.units[0] {
+    let units = ty.text.units;
+    if units.is_empty() {
+        return 0;
+    }
+    match units[0] {
         ARRAY => REFERENCE,
         first => first,
     }

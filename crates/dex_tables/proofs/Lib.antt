@@ -1,7 +1,6 @@
 pub mod RowReading
 pub mod HalvesLaws
 pub mod TypeLists
-pub mod OrderLaws
 pub mod ShortyLaws
 pub mod ClearRows
 pub mod NameLaws

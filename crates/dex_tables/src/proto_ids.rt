@@ -4,7 +4,7 @@ ghost use Rattle.dex_bytes.specs.Fault.{memory};
 ghost use Rattle.dex_container.specs.Frame.{IsFramed};
 ghost use Rattle.dex_container.specs.Layout.{size_of};
 ghost use Rattle.dex_program.specs.View.{str, desc, proto};
-ghost use Rattle.dex_program.specs.Shorty.{letter_of, shorty};
+ghost use Rattle.dex_program.specs.Shorty.{shorty};
 ghost use Rattle.dex_tables.specs.Names.{AreRows};
 ghost use Rattle.dex_container.specs.Where.{IsSectionOf};
 ghost use Rattle.dex_tables.specs.Sorted.{RowRises, ProtoHolds, ProtosHold, ProtoIsBelow, ProtoIndexes};
@@ -18,7 +18,7 @@ use bumpalo::Bump;
 use bumpalo::collections::into_bump_slice;
 use dex_base::{Fault, fault};
 use dex_container::{Section, Sections, kind, section_of};
-use dex_program::{Desc, Proto, Str, is_void};
+use dex_program::{Desc, Proto, Str, is_void, letter};
 use std::cmp::Ordering;
 
 /// The protos of all rows, each above the row before by the indices of return type and parameters. A proto holds its
@@ -128,20 +128,6 @@ fn read_parameters<'a>(
         }
     }
     Ok(Some(params))
-}
-
-// The letter of a type in a shorty.
-fn letter(ty: Desc<'_>) -> u16
-    ensures { result ≡ letter_of (desc ty.entry) }
-{
-    let units = ty.text.units;
-    if units.len() == 0 {
-        return 0;
-    }
-    if units[0] == b'[' as u16 {
-        return b'L' as u16;
-    }
-    units[0]
 }
 
 // Whether the text is the shorty of these types.
