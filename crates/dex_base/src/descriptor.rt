@@ -159,6 +159,3 @@ pub fn is_array(units: &[u16]) -> bool
     }
     is_descriptor(units)
 }
-
-#[cfg(test)]
-mod tests;

@@ -215,6 +215,3 @@ pub fn put_sleb(out: &mut Vec<u8>, n: i32) -> Result<(), Fault>
     let width = sleb_width(n);
     put_sequence(out, width.length, width.bits)
 }
-
-#[cfg(test)]
-mod tests;

@@ -39,6 +39,3 @@ pub use mutf8::{put_mutf8, read_mutf8};
 pub use simple_name::is_member_name;
 pub use units::cmp_units;
 pub use words::push_words;
-
-#[cfg(test)]
-mod tests;

@@ -153,6 +153,3 @@ pub fn put_mutf8(out: &mut Vec<u8>, units: &[u16]) -> Result<(), Fault>
     out.push_reserved(0);
     Ok(())
 }
-
-#[cfg(test)]
-mod tests;

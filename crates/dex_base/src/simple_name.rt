@@ -108,6 +108,3 @@ pub fn is_member_name(units: &[u16]) -> bool
         None => is_simple_name(units),
     }
 }
-
-#[cfg(test)]
-mod tests;

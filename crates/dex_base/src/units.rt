@@ -13,6 +13,3 @@ pub fn cmp_units(a: &[u16], b: &[u16]) -> Ordering
 {
     a.cmp(&b)
 }
-
-#[cfg(test)]
-mod tests;

@@ -32,10 +32,6 @@ mod put_units;
 // What holds of every table row, and of whatever stands at a unit.
 mod law;
 mod table_law;
-#[cfg(test)]
-mod table_tests;
-#[cfg(test)]
-mod tests;
 
 pub use columns::{format_of, index_kind_of, mnemonic_of};
 pub use law::{

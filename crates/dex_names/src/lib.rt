@@ -17,8 +17,6 @@ mod ranks;
 
 // What holds of rows, names and ranks.
 mod laws;
-#[cfg(test)]
-mod tests;
 
 pub use laws::{
     closed_have_rows, fields_rise, keys_compare_as_places, look_ups_answer, mentions_have_indices,

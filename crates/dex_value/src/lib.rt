@@ -25,6 +25,3 @@ pub use laws::{
 };
 pub use reading::read_array;
 pub use writing::put_array;
-
-#[cfg(test)]
-mod tests;
