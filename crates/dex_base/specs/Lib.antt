@@ -1,10 +1,3 @@
-pub mod Adler32
 pub mod Descriptor
-pub mod Fault
-pub mod Fields
-pub mod Grammar
-pub mod Leb128
 pub mod Mutf8
 pub mod Names
-pub mod Sequence
-pub mod Words

@@ -1,41 +1,35 @@
-//! What all layers share: faults, numbers in bytes, checksums, LEB128 numbers, MUTF-8 strings, names and descriptors,
-//! and the words in which they say which bytes spell which value (`specs/Grammar.antt`).
+//! Texts: MUTF-8 strings, the order of strings, names and descriptors; and, from `dex_bytes`, faults, numbers in bytes and the
+//! checksum, which all layers share.
 //!
 //! ```
 //! let mut out = Vec::new(alloc);
-//! put_uleb(&mut out, 300)?; // ac 02
 //! put_mutf8(&mut out, &[0x56])?; // 01 56 00
-//! let number = read_uleb(&out); // Some((300, 2))
-//! let text = read_mutf8(alloc, &arena, &out[2..])?; // Some(([0x56], 3))
+//! let text = read_mutf8(alloc, &arena, &out)?; // Some(([0x56], 3))
 //! ```
 #![tactic(auto)]
 
-mod adler;
-mod descriptor;
-mod fault;
-mod fault_names;
-mod fields;
-mod laws;
-mod leb128;
+// Strings.
 mod mutf8;
-mod simple_name;
 mod units;
-mod words;
 
-pub use adler::adler32;
+// Names.
+mod descriptor;
+mod simple_name;
+
+// What holds of these.
+mod laws;
+
 pub use descriptor::{descriptor_length, is_array, is_class, is_descriptor};
-pub use fault::Fault;
-pub use fault_names::fault_name;
-pub use fields::{put_u32_at, u16_at, u32_at};
-pub use laws::{
-    class_begins_with_l, counted_list_is_prefix_unique, descriptor_has_no_parenthesis,
-    descriptor_is_prefix_free, member_name_has_no_parenthesis, number_at_the_front_is_one,
-    packed_text_is_one_text, packed_text_is_short, pair_is_prefix_unique,
-    places_of_numbers_are_decided, shortest_spelling_is_one, sleb_is_prefix_unique,
-    text_is_prefix_unique, uleb_is_prefix_unique, unit_has_one_spelling, unit_is_prefix_unique,
+pub use dex_bytes::{
+    Fault, adler32, fault, fault_name, push_words, put_sleb, put_u32_at, put_uleb, read_sleb,
+    read_uleb, u16_at, u32_at,
 };
-pub use leb128::{put_sleb, put_uleb, read_sleb, read_uleb};
+pub use laws::{
+    class_begins_with_l, descriptor_has_no_parenthesis, descriptor_is_prefix_free,
+    member_name_has_no_parenthesis, names_are_decided, packed_text_is_one_text,
+    packed_text_is_short, text_is_prefix_unique, texts_are_decided, unit_has_one_spelling,
+    unit_is_prefix_unique,
+};
 pub use mutf8::{put_mutf8, read_mutf8};
 pub use simple_name::is_member_name;
 pub use units::cmp_units;
-pub use words::push_words;

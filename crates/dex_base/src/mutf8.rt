@@ -1,17 +1,16 @@
 //! Strings in MUTF-8, with their count and end byte ("Dalvik Executable format", sections "MUTF-8 (Modified UTF-8)
 //! Encoding" and "string_data_item").
 
-ghost use Rattle.std.specs.Prelude.{◌≡◌, ℕ, ◌^◌, ◌<◌, ◌≤◌, ◌+◌, ◌*◌, ◌++◌, List, length, IfOk, IfSome, IfNone, OnOk, OnErr, IsOkUnless, vec_len, vec_capacity};
-ghost use Rattle.dex_base.specs.Grammar.{Begins, NoneBegins, Appends, Many, Counted};
+ghost use Rattle.std.specs.Prelude.{◌≡◌, ℕ, ◌^◌, ◌<◌, ◌≤◌, ◌+◌, ◌*◌, ◌++◌, List, length, IfOk, IfSome, IfNone, OnOk, OnErr, IsOk, IsOkUnless, vec_len, vec_capacity};
+ghost use Rattle.dex_bytes.specs.Grammar.{Begins, NoneBegins, Appends, Many, Counted};
 ghost use Rattle.dex_base.specs.Mutf8.{SpellsUnit, SpellsText, PacksText, mutf8_length, unit_bytes};
 ghost use Rattle.dex_base.specs.Names.{HasUnit};
-ghost use Rattle.dex_base.specs.Leb128.{Spells, Shortest};
-ghost use Rattle.dex_base.specs.Fault.{memory};
+ghost use Rattle.dex_bytes.specs.Leb128.{Spells, Shortest};
+ghost use Rattle.dex_bytes.specs.Fault.{memory};
 
-use crate::fault::Fault;
-use crate::leb128::{put_uleb, read_uleb};
 use bumpalo::Bump;
 use bumpalo::collections::into_bump_slice;
+use dex_bytes::{Fault, put_uleb, read_uleb};
 use std::alloc::Global;
 
 /// The unit at the front, and how many bytes it takes, seen byte by byte.
@@ -136,7 +135,8 @@ fn put_unit(out: &mut Vec<u8>, unit: u16)
 
 /// Appends the string_data_item of at most 4294967295 units: the shortest spelling of their count, the units, a zero.
 ///
-/// The only error is want of memory, and then `out` holds what it held.
+/// The only error is want of memory, and then `out` holds what it held; where there is room for three bytes a unit and 6
+/// more, there is none.
 pub fn put_mutf8(out: &mut Vec<u8>, units: &[u16]) -> Result<(), Fault>
     requires { length units.now < 2 ^ 32 }
     ensures ok { OnOk result (Appends PacksText out.old.items out.new.items units.now) }
@@ -144,6 +144,7 @@ pub fn put_mutf8(out: &mut Vec<u8>, units: &[u16]) -> Result<(), Fault>
     ensures memory { IsOkUnless result memory }
     ensures len { vec_len out.new ≤ vec_len out.old + mutf8_length units.now + 6 }
     ensures capacity { vec_capacity out.old ≤ vec_capacity out.new }
+    ensures room { vec_len out.old + 3 * length units.now + 6 ≤ vec_capacity out.old → IsOk result }
 {
     out.reserve(units.len() * 3 + 6)?;
     put_uleb(out, units.len() as u32)?;

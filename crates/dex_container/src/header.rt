@@ -3,7 +3,7 @@ ghost use Rattle.std.specs.Prelude.{◌≡◌, OnOk, IfErr};
 ghost use Rattle.dex_container.specs.Frame.{HeaderHolds};
 ghost use Rattle.dex_container.specs.Faults.{IsFirst};
 
-use dex_base::{Fault, u16_at, u32_at};
+use dex_base::{Fault, fault, u16_at, u32_at};
 
 /// The rules of magic, version, file_size, header_size, endian_tag and link_size.
 pub fn check_header(bytes: &[u8]) -> Result<(), Fault>
@@ -11,28 +11,25 @@ pub fn check_header(bytes: &[u8]) -> Result<(), Fault>
     ensures err { IfErr result (IsFirst bytes.now) }
 {
     if bytes.len() < 112 {
-        return Err(Fault {
-            code: 1,
-            place: bytes.len() as u64,
-        });
+        return Err(Fault::at(fault::TOO_SHORT, bytes.len() as u64));
     }
     if u32_at(bytes, 0) != 0x0a78_6564 || bytes[7] != 0 {
-        return Err(Fault { code: 2, place: 0 });
+        return Err(Fault::at(fault::MAGIC, 0));
     }
     if u16_at(bytes, 4) != 0x3330 || bytes[6] != 0x35 {
-        return Err(Fault { code: 3, place: 4 });
+        return Err(Fault::at(fault::VERSION, 4));
     }
     if u32_at(bytes, 32) as usize != bytes.len() {
-        return Err(Fault { code: 4, place: 32 });
+        return Err(Fault::at(fault::FILE_SIZE, 32));
     }
     if u32_at(bytes, 36) != 112 {
-        return Err(Fault { code: 5, place: 36 });
+        return Err(Fault::at(fault::HEADER_SIZE, 36));
     }
     if u32_at(bytes, 40) != 0x1234_5678 {
-        return Err(Fault { code: 6, place: 40 });
+        return Err(Fault::at(fault::ENDIAN, 40));
     }
     if u32_at(bytes, 44) != 0 {
-        return Err(Fault { code: 7, place: 44 });
+        return Err(Fault::at(fault::LINKED, 44));
     }
     Ok(())
 }

@@ -7,6 +7,7 @@ mod closing;
 mod entry;
 mod fields;
 mod header;
+pub mod kind;
 mod laws;
 mod map;
 mod opening;

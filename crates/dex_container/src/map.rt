@@ -6,7 +6,8 @@ ghost use Rattle.dex_container.specs.Faults.{IsFirst};
 
 use crate::entry::entry_holds;
 use crate::fields::{entry_count, kind_at, map_place, offset_of, size_of};
-use dex_base::Fault;
+use crate::kind;
+use dex_base::{Fault, fault};
 
 fn map_is_placed(bytes: &[u8]) -> bool
     requires header { HeaderHolds bytes.now }
@@ -47,10 +48,10 @@ fn check_entries(bytes: &[u8]) -> Result<(), Fault>
 {
     for i in 0..entry_count(bytes) as usize {
         if !entry_holds(bytes, i) {
-            return Err(Fault {
-                code: 13,
-                place: u64::from(map_place(bytes)) + 4 + 12 * i as u64,
-            });
+            return Err(Fault::at(
+                fault::MAP_ENTRY,
+                u64::from(map_place(bytes)) + 4 + 12 * i as u64,
+            ));
         }
     }
     Ok(())
@@ -65,24 +66,15 @@ pub fn check_map(bytes: &[u8]) -> Result<(), Fault>
     ensures err { IfErr result (IsFirst bytes.now) }
 {
     if !map_is_placed(bytes) {
-        return Err(Fault {
-            code: 12,
-            place: 52,
-        });
+        return Err(Fault::at(fault::MAP_PLACE, 52));
     }
     check_entries(bytes)?;
-    if find_kind(bytes, 0x1000).is_none() {
-        return Err(Fault {
-            code: 14,
-            place: 52,
-        });
+    if find_kind(bytes, kind::MAP_LIST).is_none() {
+        return Err(Fault::at(fault::MAP_MISSING, 52));
     }
     for k in 0..6usize {
         if size_of(bytes, k) > 0 && find_kind(bytes, k as u16 + 1).is_none() {
-            return Err(Fault {
-                code: 14,
-                place: 56 + 8 * k as u64,
-            });
+            return Err(Fault::at(fault::MAP_MISSING, 56 + 8 * k as u64));
         }
     }
     Ok(())

@@ -4,7 +4,7 @@ ghost use Rattle.dex_container.specs.Frame.{HeaderHolds, SumsHold, SectionsHold,
 ghost use Rattle.dex_container.specs.Faults.{IsFirst};
 
 use crate::fields::{offset_of, row_bytes, size_of};
-use dex_base::Fault;
+use dex_base::{Fault, fault};
 
 fn section_holds(bytes: &[u8], k: usize) -> bool
     requires section { k < 7 }
@@ -27,23 +27,14 @@ pub fn check_sections(bytes: &[u8]) -> Result<(), Fault>
 {
     for k in 0..7 {
         if !section_holds(bytes, k) {
-            return Err(Fault {
-                code: 10,
-                place: 56 + 8 * k as u64,
-            });
+            return Err(Fault::at(fault::SECTION_RANGE, 56 + 8 * k as u64));
         }
     }
     if size_of(bytes, 1) > 65535 {
-        return Err(Fault {
-            code: 11,
-            place: 64,
-        });
+        return Err(Fault::at(fault::TOO_MANY_ROWS, 64));
     }
     if size_of(bytes, 2) > 65535 {
-        return Err(Fault {
-            code: 11,
-            place: 72,
-        });
+        return Err(Fault::at(fault::TOO_MANY_ROWS, 72));
     }
     Ok(())
 }

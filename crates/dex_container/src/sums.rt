@@ -3,7 +3,7 @@ ghost use Rattle.std.specs.Prelude.{◌≡◌, ◌≤◌, ◌↔◌, IsTrue, len
 ghost use Rattle.dex_container.specs.Frame.{HeaderHolds, SumsHold, HasChecksum, HasSignature};
 ghost use Rattle.dex_container.specs.Faults.{IsFirst};
 
-use dex_base::{Fault, adler32, u32_at};
+use dex_base::{Fault, adler32, fault, u32_at};
 use sha1::Sha1;
 
 // Whether the number at byte 8 is the checksum of the bytes behind it.
@@ -31,10 +31,10 @@ pub fn check_sums(bytes: &[u8]) -> Result<(), Fault>
     ensures err { IfErr result (IsFirst bytes.now) }
 {
     if !has_checksum(bytes) {
-        return Err(Fault { code: 8, place: 8 });
+        return Err(Fault::at(fault::CHECKSUM, 8));
     }
     if !has_signature(bytes) {
-        return Err(Fault { code: 9, place: 12 });
+        return Err(Fault::at(fault::SIGNATURE, 12));
     }
     Ok(())
 }

@@ -1,7 +1,7 @@
 -- The constant file, closed, means the program without classes, and is packed.
 use Rattle.std.proofs.Common.{◌≡◌, ℕ, zero, suc, ◌+◌, ◌<◌, ◌≤◌, List, [], length, refl, sym, ap, ◌*◌, ◌∙◌, arith, lit<, inl, inr, subst, ⊎_elim}
 use Rattle.std.proofs.lemmas.Bool.{cases_lt}
-use Rattle.dex_base.specs.Fields.{u16_at, u32_at}
+use Rattle.dex_bytes.specs.Fields.{u16_at, u32_at}
 use Rattle.dex_container.specs.Layout.{size_of, offset_of, map_place, entry_count, kind_at, items_at, place_at, entry_place}
 use Rattle.dex_container.specs.Frame.{IsPlaced, HeaderHolds, SectionsHold, MapHolds, EntryHolds}
 use Rattle.dex_container.specs.Closed.{IsClosed}

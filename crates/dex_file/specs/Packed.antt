@@ -1,6 +1,6 @@
 -- Files without slack, as they are written.
 use Rattle.std.specs.Prelude.{◌≡◌, ℕ, zero, suc, ◌+◌, ◌*◌, ◌<◌, List, length}
-use Rattle.dex_base.specs.Fields.{u16_at, u32_at}
+use Rattle.dex_bytes.specs.Fields.{u16_at, u32_at}
 use Rattle.dex_container.specs.Layout.{row_bytes, size_of, offset_of, data_begin, data_end, map_place, map_end, entry_count, entry_place}
 
 -- where the first k tables end, if they stand end to end behind the header

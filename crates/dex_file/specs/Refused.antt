@@ -1,6 +1,6 @@
 -- Why a file is not read.
 use Rattle.std.specs.Prelude.{◌≡◌, ℕ, ◌<◌, ◌⊎◌, List}
-use Rattle.dex_base.specs.declared.fault.Fault.{Fault}
+use Rattle.dex_bytes.specs.declared.fault.Fault.{Fault}
 use Rattle.dex_container.specs.Layout.{size_field, size_of}
 use Rattle.dex_container.specs.Frame.{IsFramed}
 use Rattle.dex_container.specs.Faults.{IsFirst}

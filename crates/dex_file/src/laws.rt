@@ -1,6 +1,6 @@
 // Laws of reading and writing, each the contract of a function that only makes the calls.
 ghost use Rattle.std.specs.Prelude.{◌≡◌, [], ℕ, List, IfOk, IsOkUnless};
-ghost use Rattle.dex_base.specs.Fault.{memory};
+ghost use Rattle.dex_bytes.specs.Fault.{memory};
 ghost use Rattle.dex_program.specs.View as view;
 ghost use Rattle.dex_file.specs.Means.{Means};
 

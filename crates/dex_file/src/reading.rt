@@ -1,13 +1,13 @@
 // From the bytes of a file to its program.
 ghost use Rattle.std.specs.Prelude.{◌≡◌, ◌≢◌, [], IfOk, IfErr, OnOk, IsOkUnless};
-ghost use Rattle.dex_base.specs.Fault.{memory};
+ghost use Rattle.dex_bytes.specs.Fault.{memory};
 ghost use Rattle.dex_container.specs.Frame.{IsFramed};
 ghost use Rattle.dex_program.specs.View as view;
 ghost use Rattle.dex_file.specs.Means.{Means, HasNoRows};
 ghost use Rattle.dex_file.specs.Refused.{IsFirstTable, IsRefused};
 
 use bumpalo::Bump;
-use dex_base::Fault;
+use dex_base::{Fault, fault};
 use dex_container::{Sections, open};
 use dex_program::Program;
 use std::alloc::Global;
@@ -37,10 +37,7 @@ fn check_no_rows(sections: &Sections<'_>) -> Result<(), Fault>
     for k in 0..6u16 {
         let (rows, _) = sections.table(k + 1);
         if rows > 0 {
-            return Err(Fault {
-                code: 200,
-                place: 56 + 8 * u64::from(k),
-            });
+            return Err(Fault::at(fault::NOT_YET, 56 + 8 * u64::from(k)));
         }
     }
     Ok(())

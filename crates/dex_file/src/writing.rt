@@ -1,6 +1,6 @@
 // From a program to the bytes of its file.
 ghost use Rattle.std.specs.Prelude.{◌≡◌, [], IfOk, IsOkUnless};
-ghost use Rattle.dex_base.specs.Fault.{memory};
+ghost use Rattle.dex_bytes.specs.Fault.{memory};
 ghost use Rattle.dex_program.specs.View as view;
 ghost use Rattle.dex_file.specs.Means.{Means};
 ghost use Rattle.dex_file.specs.Packed.{IsPacked};

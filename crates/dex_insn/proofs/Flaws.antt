@@ -47,7 +47,7 @@ two_heads h n p q = grind (arith, nat_tests)
 
 not_plain : (flaw : Flaw) (at : ℕ) (us : List ℕ) (it : Raw) → Plain us it → InsnBreaks flaw at us → ⊥
 not_plain Missing at us it p b = let s = some_unit p.f in let w = p.begins.whole in omega arith
-not_plain Opcode at us it p b = let k : format_at us ≡ Some p.f = ap format_of (sym p.begins.opcode) ∙ p.begins.kind in cc
+not_plain Opcode at us it p b = let none = b.1 in let k : format_at us ≡ Some p.f = ap format_of (sym p.begins.opcode) ∙ p.begins.kind in cc
 not_plain Cut at us it p b = let g = format_is us it p b.0 b.2 in let w = p.begins.whole in let e = ap units_of g in omega arith
 not_plain NonZero at us it p b = let g = format_is us it p b.0 b.2 in let z = p.zero (ap has_zero_byte (sym g) ∙ b.3) in omega arith
 not_plain RegisterCount at us it p b = let g = format_is us it p F35c b.0 in let n = p.count (sym g) in omega arith
@@ -59,7 +59,7 @@ not_plain KeyOrder at us it p b = p.not_payload (omega arith, omega arith, omega
 
 not_load : (flaw : Flaw) (at : ℕ) (us : List ℕ) (it : Raw) → Load us it → (IsPayload us → at % 2 ≡ 0) → InsnBreaks flaw at us → ⊥
 not_load Missing at us it p even b = two_heads _ _ p.head b
-not_load Opcode at us it p even b = let k : format_at us ≡ Some F10x = ap format_of p.identifier.0 ∙ zero_row in cc
+not_load Opcode at us it p even b = let none = b.1 in let k : format_at us ≡ Some F10x = ap format_of p.identifier.0 ∙ zero_row in cc
 not_load Cut at us it p even b = b.1 p.identifier
 not_load NonZero at us it p even b = b.1 p.identifier
 not_load RegisterCount at us it p even b = let k : format_at us ≡ Some F10x = ap format_of p.identifier.0 ∙ zero_row in cc

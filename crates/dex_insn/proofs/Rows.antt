@@ -5,7 +5,6 @@ use Rattle.dex_insn.specs.Opcodes.{formats, index_kinds, format_of, index_kind_o
 use Rattle.dex_insn.specs.Mnemonics.{mnemonics, mnemonic_of, IsNamed, is_mnemonic_byte}
 use Rattle.dex_insn.specs.declared.opcode.Format.{Format}
 use Rattle.dex_insn.specs.declared.opcode.IndexKind.{IndexKind}
-use Rattle.dex_insn.specs.declared.opcode.IndexKind.TheVariants.{NoIndex}
 
 abbrev same_bool : Bool → Bool → Bool
 same_bool true true = true
@@ -23,7 +22,7 @@ both true b e = (refl, e)
 both false b e = absurd (cc)
 
 -- each used row names a table exactly if its format has an index
-abbrev kinds_agree : List (Option Format) → List IndexKind → Bool
+abbrev kinds_agree : List (Option Format) → List (Option IndexKind) → Bool
 kinds_agree [] ks = true
 kinds_agree (f ∷ fs) [] = false
 kinds_agree (None ∷ fs) (k ∷ ks) = kinds_agree fs ks
@@ -33,7 +32,7 @@ all_agree : kinds_agree formats index_kinds ≡ true
 unfolding formats index_kinds
 all_agree = refl
 
-row-agrees : (fs : List (Option Format)) (ks : List IndexKind) (i : ℕ) (f : Format) → kinds_agree fs ks ≡ true → get_or fs i None ≡ Some f → has_index f ≡ names_table (get_or ks i NoIndex)
+row-agrees : (fs : List (Option Format)) (ks : List (Option IndexKind)) (i : ℕ) (f : Format) → kinds_agree fs ks ≡ true → get_or fs i None ≡ Some f → has_index f ≡ names_table (get_or ks i None)
 row-agrees [] ks i f e is = absurd (cc)
 row-agrees (g ∷ fs) [] i f e is = absurd (cc)
 row-agrees (None ∷ fs) (k ∷ ks) zero f e is = absurd (cc)

@@ -1,6 +1,6 @@
 -- Which rule the units at some place break, and by which number a fault names it.
 use Rattle.std.specs.Prelude.{ℕ, ◌≡◌, ◌≤◌, ◌<◌, ◌*◌, ◌+◌, ◌%◌, Option, Some, None, List, length, drop, slice_range, if◌then◌else◌, ◌==◌, Bool, true, false, IsTrue}
-use Rattle.dex_base.specs.declared.fault.Fault.{Fault}
+use Rattle.dex_bytes.specs.declared.fault.Fault.{Fault}
 use Rattle.dex_insn.specs.Fields.{number, field, KeysRise}
 use Rattle.dex_insn.specs.Opcodes.{format_of, units_of}
 use Rattle.dex_insn.specs.Raw.{packed_units, sparse_units, data_units}
@@ -34,7 +34,7 @@ payload_units us = if field us 0 8 8 == 1 then packed_units (number us 1 1)
 -- the rule that the instruction at the front of the bytes breaks; its first unit is unit `at` of the code
 abbrev pub InsnBreaks : Flaw → ℕ → List ℕ → Type 0
 InsnBreaks Missing at us = length us < 2
-InsnBreaks Opcode at us = format_at us ≡ None
+InsnBreaks Opcode at us = (2 ≤ length us) × (format_at us ≡ None)
 InsnBreaks Cut at us = (format : Format) × (¬ IsPayload us) × (format_at us ≡ Some format) × (length us < 2 * units_of format)
 InsnBreaks NonZero at us = (format : Format) × (¬ IsPayload us) × (format_at us ≡ Some format) × IsTrue (has_zero_byte format) × (0 < field us 0 8 8)
 InsnBreaks RegisterCount at us = (format_at us ≡ Some F35c) × (5 < field us 0 12 4)

@@ -2,7 +2,6 @@
 use Rattle.std.specs.Prelude.{ℕ, Bool, true, false, List, map, get_or, Option, Some, None, option_map}
 use Rattle.dex_insn.specs.declared.opcode.Opcode.{Opcode}
 use Rattle.dex_insn.specs.declared.opcode.IndexKind.{IndexKind}
-use Rattle.dex_insn.specs.declared.opcode.IndexKind.TheVariants.{NoIndex}
 use Rattle.dex_insn.specs.declared.opcode.Format.{Format}
 use Rattle.dex_insn.specs.declared.opcode.Format.TheVariants.{F10x, F12x, F11n, F11x, F10t, F20t, F22x, F21t, F21s, F21h, F21c, F23x, F22b, F22t, F22s, F22c, F30t, F32x, F31i, F31t, F31c, F35c, F3rc, F51l}
 use Rattle.dex_insn.specs.declared.opcodes.TheConstants.{OPCODES}
@@ -11,9 +10,9 @@ use Rattle.dex_insn.specs.declared.opcodes.TheConstants.{OPCODES}
 abbrev pub format_in : {M : Type 0} → Option (Opcode M) → Option Format
 format_in row = option_map (λ r. r.format) row
 
--- the index kind in a row
-abbrev pub index_kind_in : {M : Type 0} → Option (Opcode M) → IndexKind
-index_kind_in None = NoIndex
+-- the table of the index in a row
+abbrev pub index_kind_in : {M : Type 0} → Option (Opcode M) → Option IndexKind
+index_kind_in None = None
 index_kind_in (Some r) = r.index
 
 -- the column of the formats
@@ -21,16 +20,16 @@ unfoldable pub formats : List (Option Format)
 formats = map format_in OPCODES
 
 -- the column of the index kinds
-unfoldable pub index_kinds : List IndexKind
+unfoldable pub index_kinds : List (Option IndexKind)
 index_kinds = map index_kind_in OPCODES
 
 -- the format of an opcode: none where it is unused
 abbrev pub format_of : ℕ → Option Format
 format_of op = get_or formats op None
 
--- the table that the index of its instructions is a row of
-abbrev pub index_kind_of : ℕ → IndexKind
-index_kind_of op = get_or index_kinds op NoIndex
+-- the table that the index of its instructions is a row of: none where they have no index
+abbrev pub index_kind_of : ℕ → Option IndexKind
+index_kind_of op = get_or index_kinds op None
 
 -- how many units an instruction of the format has: the first digit of the format's ID
 -- ("Dalvik Executable instruction formats", "Format IDs")
@@ -70,6 +69,6 @@ has_index F3rc = true
 has_index _ = false
 
 -- the index is a row of a table
-abbrev pub names_table : IndexKind → Bool
-names_table NoIndex = false
-names_table _ = true
+abbrev pub names_table : Option IndexKind → Bool
+names_table None = false
+names_table (Some kind) = true

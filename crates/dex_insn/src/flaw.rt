@@ -2,6 +2,8 @@
 
 ghost use Rattle.std.specs.Prelude.{◌≡◌};
 
+use dex_base::fault;
+
 /// A rule that is broken at some place. It is finer than the number of the fault.
 #[derive(Clone, Copy)]
 pub(crate) enum Flaw {
@@ -35,11 +37,11 @@ impl Flaw {
         ensures { result ≡ code_of self }
     {
         match self {
-            Flaw::Opcode => 62,
-            Flaw::Missing | Flaw::Cut | Flaw::CutHead | Flaw::CutPayload => 63,
-            Flaw::NonZero => 64,
-            Flaw::RegisterCount => 66,
-            Flaw::OddPayload | Flaw::Width | Flaw::KeyOrder => 67,
+            Flaw::Opcode => fault::OPCODE,
+            Flaw::Missing | Flaw::Cut | Flaw::CutHead | Flaw::CutPayload => fault::CUT,
+            Flaw::NonZero => fault::NON_ZERO,
+            Flaw::RegisterCount => fault::REGISTER_COUNT,
+            Flaw::OddPayload | Flaw::Width | Flaw::KeyOrder => fault::PAYLOAD,
         }
     }
 }

@@ -1,4 +1,5 @@
 //! What an opcode says: the format of its instructions, the table that their index is in, and its mnemonic.
+//! Pages: "Dalvik bytecode", "Dalvik Executable instruction formats".
 
 ghost use Rattle.std.specs.Prelude.{◌≡◌};
 
@@ -36,13 +37,11 @@ impl Format {
     }
 }
 
-/// The table of the file that the index in an instruction is a row of.
+/// A table of names of the file, in which the index in an instruction or a value is a row.
 #[derive(Clone, Copy, PartialEq, Eq, Debug)]
 pub enum IndexKind {
-    /// The format has no index.
-    NoIndex,
     /// `string_ids`
-    Text,
+    String,
     /// `type_ids`
     Type,
     /// `field_ids`
@@ -56,5 +55,6 @@ pub enum IndexKind {
 pub struct Opcode<M> {
     pub mnemonic: M,
     pub format: Format,
-    pub index: IndexKind,
+    /// The table of its index: `None` where the format has no index.
+    pub index: Option<IndexKind>,
 }

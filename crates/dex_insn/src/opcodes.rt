@@ -1,237 +1,248 @@
-//! The opcodes of version 035 ("Dalvik bytecode", "Summary of bytecode set").
+//! The opcodes of version 035.
+//! Page: "Dalvik bytecode", "Summary of bytecode set".
 
 use crate::opcode::{Format, IndexKind, Opcode};
+
+/// A row: mnemonic, format, and where the format has an index the table that it is in.
+macro_rules! row {
+    ($mnemonic:literal $format:ident) => {
+        Some(Opcode { mnemonic: $mnemonic, format: Format::$format, index: None })
+    };
+    ($mnemonic:literal $format:ident $table:ident) => {
+        Some(Opcode { mnemonic: $mnemonic, format: Format::$format, index: Some(IndexKind::$table) })
+    };
+}
 
 /// What each opcode stands for: nothing where it is unused.
 #[rattlefmt::skip]
 pub static OPCODES: [Option<Opcode<&str>>; 256] = [
-    Some(Opcode { mnemonic: "nop", format: Format::F10x, index: IndexKind::NoIndex }), // 00
-    Some(Opcode { mnemonic: "move", format: Format::F12x, index: IndexKind::NoIndex }), // 01
-    Some(Opcode { mnemonic: "move/from16", format: Format::F22x, index: IndexKind::NoIndex }), // 02
-    Some(Opcode { mnemonic: "move/16", format: Format::F32x, index: IndexKind::NoIndex }), // 03
-    Some(Opcode { mnemonic: "move-wide", format: Format::F12x, index: IndexKind::NoIndex }), // 04
-    Some(Opcode { mnemonic: "move-wide/from16", format: Format::F22x, index: IndexKind::NoIndex }), // 05
-    Some(Opcode { mnemonic: "move-wide/16", format: Format::F32x, index: IndexKind::NoIndex }), // 06
-    Some(Opcode { mnemonic: "move-object", format: Format::F12x, index: IndexKind::NoIndex }), // 07
-    Some(Opcode { mnemonic: "move-object/from16", format: Format::F22x, index: IndexKind::NoIndex }), // 08
-    Some(Opcode { mnemonic: "move-object/16", format: Format::F32x, index: IndexKind::NoIndex }), // 09
-    Some(Opcode { mnemonic: "move-result", format: Format::F11x, index: IndexKind::NoIndex }), // 0a
-    Some(Opcode { mnemonic: "move-result-wide", format: Format::F11x, index: IndexKind::NoIndex }), // 0b
-    Some(Opcode { mnemonic: "move-result-object", format: Format::F11x, index: IndexKind::NoIndex }), // 0c
-    Some(Opcode { mnemonic: "move-exception", format: Format::F11x, index: IndexKind::NoIndex }), // 0d
-    Some(Opcode { mnemonic: "return-void", format: Format::F10x, index: IndexKind::NoIndex }), // 0e
-    Some(Opcode { mnemonic: "return", format: Format::F11x, index: IndexKind::NoIndex }), // 0f
-    Some(Opcode { mnemonic: "return-wide", format: Format::F11x, index: IndexKind::NoIndex }), // 10
-    Some(Opcode { mnemonic: "return-object", format: Format::F11x, index: IndexKind::NoIndex }), // 11
-    Some(Opcode { mnemonic: "const/4", format: Format::F11n, index: IndexKind::NoIndex }), // 12
-    Some(Opcode { mnemonic: "const/16", format: Format::F21s, index: IndexKind::NoIndex }), // 13
-    Some(Opcode { mnemonic: "const", format: Format::F31i, index: IndexKind::NoIndex }), // 14
-    Some(Opcode { mnemonic: "const/high16", format: Format::F21h, index: IndexKind::NoIndex }), // 15
-    Some(Opcode { mnemonic: "const-wide/16", format: Format::F21s, index: IndexKind::NoIndex }), // 16
-    Some(Opcode { mnemonic: "const-wide/32", format: Format::F31i, index: IndexKind::NoIndex }), // 17
-    Some(Opcode { mnemonic: "const-wide", format: Format::F51l, index: IndexKind::NoIndex }), // 18
-    Some(Opcode { mnemonic: "const-wide/high16", format: Format::F21h, index: IndexKind::NoIndex }), // 19
-    Some(Opcode { mnemonic: "const-string", format: Format::F21c, index: IndexKind::Text }), // 1a
-    Some(Opcode { mnemonic: "const-string/jumbo", format: Format::F31c, index: IndexKind::Text }), // 1b
-    Some(Opcode { mnemonic: "const-class", format: Format::F21c, index: IndexKind::Type }), // 1c
-    Some(Opcode { mnemonic: "monitor-enter", format: Format::F11x, index: IndexKind::NoIndex }), // 1d
-    Some(Opcode { mnemonic: "monitor-exit", format: Format::F11x, index: IndexKind::NoIndex }), // 1e
-    Some(Opcode { mnemonic: "check-cast", format: Format::F21c, index: IndexKind::Type }), // 1f
-    Some(Opcode { mnemonic: "instance-of", format: Format::F22c, index: IndexKind::Type }), // 20
-    Some(Opcode { mnemonic: "array-length", format: Format::F12x, index: IndexKind::NoIndex }), // 21
-    Some(Opcode { mnemonic: "new-instance", format: Format::F21c, index: IndexKind::Type }), // 22
-    Some(Opcode { mnemonic: "new-array", format: Format::F22c, index: IndexKind::Type }), // 23
-    Some(Opcode { mnemonic: "filled-new-array", format: Format::F35c, index: IndexKind::Type }), // 24
-    Some(Opcode { mnemonic: "filled-new-array/range", format: Format::F3rc, index: IndexKind::Type }), // 25
-    Some(Opcode { mnemonic: "fill-array-data", format: Format::F31t, index: IndexKind::NoIndex }), // 26
-    Some(Opcode { mnemonic: "throw", format: Format::F11x, index: IndexKind::NoIndex }), // 27
-    Some(Opcode { mnemonic: "goto", format: Format::F10t, index: IndexKind::NoIndex }), // 28
-    Some(Opcode { mnemonic: "goto/16", format: Format::F20t, index: IndexKind::NoIndex }), // 29
-    Some(Opcode { mnemonic: "goto/32", format: Format::F30t, index: IndexKind::NoIndex }), // 2a
-    Some(Opcode { mnemonic: "packed-switch", format: Format::F31t, index: IndexKind::NoIndex }), // 2b
-    Some(Opcode { mnemonic: "sparse-switch", format: Format::F31t, index: IndexKind::NoIndex }), // 2c
-    Some(Opcode { mnemonic: "cmpl-float", format: Format::F23x, index: IndexKind::NoIndex }), // 2d
-    Some(Opcode { mnemonic: "cmpg-float", format: Format::F23x, index: IndexKind::NoIndex }), // 2e
-    Some(Opcode { mnemonic: "cmpl-double", format: Format::F23x, index: IndexKind::NoIndex }), // 2f
-    Some(Opcode { mnemonic: "cmpg-double", format: Format::F23x, index: IndexKind::NoIndex }), // 30
-    Some(Opcode { mnemonic: "cmp-long", format: Format::F23x, index: IndexKind::NoIndex }), // 31
-    Some(Opcode { mnemonic: "if-eq", format: Format::F22t, index: IndexKind::NoIndex }), // 32
-    Some(Opcode { mnemonic: "if-ne", format: Format::F22t, index: IndexKind::NoIndex }), // 33
-    Some(Opcode { mnemonic: "if-lt", format: Format::F22t, index: IndexKind::NoIndex }), // 34
-    Some(Opcode { mnemonic: "if-ge", format: Format::F22t, index: IndexKind::NoIndex }), // 35
-    Some(Opcode { mnemonic: "if-gt", format: Format::F22t, index: IndexKind::NoIndex }), // 36
-    Some(Opcode { mnemonic: "if-le", format: Format::F22t, index: IndexKind::NoIndex }), // 37
-    Some(Opcode { mnemonic: "if-eqz", format: Format::F21t, index: IndexKind::NoIndex }), // 38
-    Some(Opcode { mnemonic: "if-nez", format: Format::F21t, index: IndexKind::NoIndex }), // 39
-    Some(Opcode { mnemonic: "if-ltz", format: Format::F21t, index: IndexKind::NoIndex }), // 3a
-    Some(Opcode { mnemonic: "if-gez", format: Format::F21t, index: IndexKind::NoIndex }), // 3b
-    Some(Opcode { mnemonic: "if-gtz", format: Format::F21t, index: IndexKind::NoIndex }), // 3c
-    Some(Opcode { mnemonic: "if-lez", format: Format::F21t, index: IndexKind::NoIndex }), // 3d
+    row!("nop" F10x), // 00
+    row!("move" F12x), // 01
+    row!("move/from16" F22x), // 02
+    row!("move/16" F32x), // 03
+    row!("move-wide" F12x), // 04
+    row!("move-wide/from16" F22x), // 05
+    row!("move-wide/16" F32x), // 06
+    row!("move-object" F12x), // 07
+    row!("move-object/from16" F22x), // 08
+    row!("move-object/16" F32x), // 09
+    row!("move-result" F11x), // 0a
+    row!("move-result-wide" F11x), // 0b
+    row!("move-result-object" F11x), // 0c
+    row!("move-exception" F11x), // 0d
+    row!("return-void" F10x), // 0e
+    row!("return" F11x), // 0f
+    row!("return-wide" F11x), // 10
+    row!("return-object" F11x), // 11
+    row!("const/4" F11n), // 12
+    row!("const/16" F21s), // 13
+    row!("const" F31i), // 14
+    row!("const/high16" F21h), // 15
+    row!("const-wide/16" F21s), // 16
+    row!("const-wide/32" F31i), // 17
+    row!("const-wide" F51l), // 18
+    row!("const-wide/high16" F21h), // 19
+    row!("const-string" F21c String), // 1a
+    row!("const-string/jumbo" F31c String), // 1b
+    row!("const-class" F21c Type), // 1c
+    row!("monitor-enter" F11x), // 1d
+    row!("monitor-exit" F11x), // 1e
+    row!("check-cast" F21c Type), // 1f
+    row!("instance-of" F22c Type), // 20
+    row!("array-length" F12x), // 21
+    row!("new-instance" F21c Type), // 22
+    row!("new-array" F22c Type), // 23
+    row!("filled-new-array" F35c Type), // 24
+    row!("filled-new-array/range" F3rc Type), // 25
+    row!("fill-array-data" F31t), // 26
+    row!("throw" F11x), // 27
+    row!("goto" F10t), // 28
+    row!("goto/16" F20t), // 29
+    row!("goto/32" F30t), // 2a
+    row!("packed-switch" F31t), // 2b
+    row!("sparse-switch" F31t), // 2c
+    row!("cmpl-float" F23x), // 2d
+    row!("cmpg-float" F23x), // 2e
+    row!("cmpl-double" F23x), // 2f
+    row!("cmpg-double" F23x), // 30
+    row!("cmp-long" F23x), // 31
+    row!("if-eq" F22t), // 32
+    row!("if-ne" F22t), // 33
+    row!("if-lt" F22t), // 34
+    row!("if-ge" F22t), // 35
+    row!("if-gt" F22t), // 36
+    row!("if-le" F22t), // 37
+    row!("if-eqz" F21t), // 38
+    row!("if-nez" F21t), // 39
+    row!("if-ltz" F21t), // 3a
+    row!("if-gez" F21t), // 3b
+    row!("if-gtz" F21t), // 3c
+    row!("if-lez" F21t), // 3d
     None, // 3e
     None, // 3f
     None, // 40
     None, // 41
     None, // 42
     None, // 43
-    Some(Opcode { mnemonic: "aget", format: Format::F23x, index: IndexKind::NoIndex }), // 44
-    Some(Opcode { mnemonic: "aget-wide", format: Format::F23x, index: IndexKind::NoIndex }), // 45
-    Some(Opcode { mnemonic: "aget-object", format: Format::F23x, index: IndexKind::NoIndex }), // 46
-    Some(Opcode { mnemonic: "aget-boolean", format: Format::F23x, index: IndexKind::NoIndex }), // 47
-    Some(Opcode { mnemonic: "aget-byte", format: Format::F23x, index: IndexKind::NoIndex }), // 48
-    Some(Opcode { mnemonic: "aget-char", format: Format::F23x, index: IndexKind::NoIndex }), // 49
-    Some(Opcode { mnemonic: "aget-short", format: Format::F23x, index: IndexKind::NoIndex }), // 4a
-    Some(Opcode { mnemonic: "aput", format: Format::F23x, index: IndexKind::NoIndex }), // 4b
-    Some(Opcode { mnemonic: "aput-wide", format: Format::F23x, index: IndexKind::NoIndex }), // 4c
-    Some(Opcode { mnemonic: "aput-object", format: Format::F23x, index: IndexKind::NoIndex }), // 4d
-    Some(Opcode { mnemonic: "aput-boolean", format: Format::F23x, index: IndexKind::NoIndex }), // 4e
-    Some(Opcode { mnemonic: "aput-byte", format: Format::F23x, index: IndexKind::NoIndex }), // 4f
-    Some(Opcode { mnemonic: "aput-char", format: Format::F23x, index: IndexKind::NoIndex }), // 50
-    Some(Opcode { mnemonic: "aput-short", format: Format::F23x, index: IndexKind::NoIndex }), // 51
-    Some(Opcode { mnemonic: "iget", format: Format::F22c, index: IndexKind::Field }), // 52
-    Some(Opcode { mnemonic: "iget-wide", format: Format::F22c, index: IndexKind::Field }), // 53
-    Some(Opcode { mnemonic: "iget-object", format: Format::F22c, index: IndexKind::Field }), // 54
-    Some(Opcode { mnemonic: "iget-boolean", format: Format::F22c, index: IndexKind::Field }), // 55
-    Some(Opcode { mnemonic: "iget-byte", format: Format::F22c, index: IndexKind::Field }), // 56
-    Some(Opcode { mnemonic: "iget-char", format: Format::F22c, index: IndexKind::Field }), // 57
-    Some(Opcode { mnemonic: "iget-short", format: Format::F22c, index: IndexKind::Field }), // 58
-    Some(Opcode { mnemonic: "iput", format: Format::F22c, index: IndexKind::Field }), // 59
-    Some(Opcode { mnemonic: "iput-wide", format: Format::F22c, index: IndexKind::Field }), // 5a
-    Some(Opcode { mnemonic: "iput-object", format: Format::F22c, index: IndexKind::Field }), // 5b
-    Some(Opcode { mnemonic: "iput-boolean", format: Format::F22c, index: IndexKind::Field }), // 5c
-    Some(Opcode { mnemonic: "iput-byte", format: Format::F22c, index: IndexKind::Field }), // 5d
-    Some(Opcode { mnemonic: "iput-char", format: Format::F22c, index: IndexKind::Field }), // 5e
-    Some(Opcode { mnemonic: "iput-short", format: Format::F22c, index: IndexKind::Field }), // 5f
-    Some(Opcode { mnemonic: "sget", format: Format::F21c, index: IndexKind::Field }), // 60
-    Some(Opcode { mnemonic: "sget-wide", format: Format::F21c, index: IndexKind::Field }), // 61
-    Some(Opcode { mnemonic: "sget-object", format: Format::F21c, index: IndexKind::Field }), // 62
-    Some(Opcode { mnemonic: "sget-boolean", format: Format::F21c, index: IndexKind::Field }), // 63
-    Some(Opcode { mnemonic: "sget-byte", format: Format::F21c, index: IndexKind::Field }), // 64
-    Some(Opcode { mnemonic: "sget-char", format: Format::F21c, index: IndexKind::Field }), // 65
-    Some(Opcode { mnemonic: "sget-short", format: Format::F21c, index: IndexKind::Field }), // 66
-    Some(Opcode { mnemonic: "sput", format: Format::F21c, index: IndexKind::Field }), // 67
-    Some(Opcode { mnemonic: "sput-wide", format: Format::F21c, index: IndexKind::Field }), // 68
-    Some(Opcode { mnemonic: "sput-object", format: Format::F21c, index: IndexKind::Field }), // 69
-    Some(Opcode { mnemonic: "sput-boolean", format: Format::F21c, index: IndexKind::Field }), // 6a
-    Some(Opcode { mnemonic: "sput-byte", format: Format::F21c, index: IndexKind::Field }), // 6b
-    Some(Opcode { mnemonic: "sput-char", format: Format::F21c, index: IndexKind::Field }), // 6c
-    Some(Opcode { mnemonic: "sput-short", format: Format::F21c, index: IndexKind::Field }), // 6d
-    Some(Opcode { mnemonic: "invoke-virtual", format: Format::F35c, index: IndexKind::Method }), // 6e
-    Some(Opcode { mnemonic: "invoke-super", format: Format::F35c, index: IndexKind::Method }), // 6f
-    Some(Opcode { mnemonic: "invoke-direct", format: Format::F35c, index: IndexKind::Method }), // 70
-    Some(Opcode { mnemonic: "invoke-static", format: Format::F35c, index: IndexKind::Method }), // 71
-    Some(Opcode { mnemonic: "invoke-interface", format: Format::F35c, index: IndexKind::Method }), // 72
+    row!("aget" F23x), // 44
+    row!("aget-wide" F23x), // 45
+    row!("aget-object" F23x), // 46
+    row!("aget-boolean" F23x), // 47
+    row!("aget-byte" F23x), // 48
+    row!("aget-char" F23x), // 49
+    row!("aget-short" F23x), // 4a
+    row!("aput" F23x), // 4b
+    row!("aput-wide" F23x), // 4c
+    row!("aput-object" F23x), // 4d
+    row!("aput-boolean" F23x), // 4e
+    row!("aput-byte" F23x), // 4f
+    row!("aput-char" F23x), // 50
+    row!("aput-short" F23x), // 51
+    row!("iget" F22c Field), // 52
+    row!("iget-wide" F22c Field), // 53
+    row!("iget-object" F22c Field), // 54
+    row!("iget-boolean" F22c Field), // 55
+    row!("iget-byte" F22c Field), // 56
+    row!("iget-char" F22c Field), // 57
+    row!("iget-short" F22c Field), // 58
+    row!("iput" F22c Field), // 59
+    row!("iput-wide" F22c Field), // 5a
+    row!("iput-object" F22c Field), // 5b
+    row!("iput-boolean" F22c Field), // 5c
+    row!("iput-byte" F22c Field), // 5d
+    row!("iput-char" F22c Field), // 5e
+    row!("iput-short" F22c Field), // 5f
+    row!("sget" F21c Field), // 60
+    row!("sget-wide" F21c Field), // 61
+    row!("sget-object" F21c Field), // 62
+    row!("sget-boolean" F21c Field), // 63
+    row!("sget-byte" F21c Field), // 64
+    row!("sget-char" F21c Field), // 65
+    row!("sget-short" F21c Field), // 66
+    row!("sput" F21c Field), // 67
+    row!("sput-wide" F21c Field), // 68
+    row!("sput-object" F21c Field), // 69
+    row!("sput-boolean" F21c Field), // 6a
+    row!("sput-byte" F21c Field), // 6b
+    row!("sput-char" F21c Field), // 6c
+    row!("sput-short" F21c Field), // 6d
+    row!("invoke-virtual" F35c Method), // 6e
+    row!("invoke-super" F35c Method), // 6f
+    row!("invoke-direct" F35c Method), // 70
+    row!("invoke-static" F35c Method), // 71
+    row!("invoke-interface" F35c Method), // 72
     None, // 73
-    Some(Opcode { mnemonic: "invoke-virtual/range", format: Format::F3rc, index: IndexKind::Method }), // 74
-    Some(Opcode { mnemonic: "invoke-super/range", format: Format::F3rc, index: IndexKind::Method }), // 75
-    Some(Opcode { mnemonic: "invoke-direct/range", format: Format::F3rc, index: IndexKind::Method }), // 76
-    Some(Opcode { mnemonic: "invoke-static/range", format: Format::F3rc, index: IndexKind::Method }), // 77
-    Some(Opcode { mnemonic: "invoke-interface/range", format: Format::F3rc, index: IndexKind::Method }), // 78
+    row!("invoke-virtual/range" F3rc Method), // 74
+    row!("invoke-super/range" F3rc Method), // 75
+    row!("invoke-direct/range" F3rc Method), // 76
+    row!("invoke-static/range" F3rc Method), // 77
+    row!("invoke-interface/range" F3rc Method), // 78
     None, // 79
     None, // 7a
-    Some(Opcode { mnemonic: "neg-int", format: Format::F12x, index: IndexKind::NoIndex }), // 7b
-    Some(Opcode { mnemonic: "not-int", format: Format::F12x, index: IndexKind::NoIndex }), // 7c
-    Some(Opcode { mnemonic: "neg-long", format: Format::F12x, index: IndexKind::NoIndex }), // 7d
-    Some(Opcode { mnemonic: "not-long", format: Format::F12x, index: IndexKind::NoIndex }), // 7e
-    Some(Opcode { mnemonic: "neg-float", format: Format::F12x, index: IndexKind::NoIndex }), // 7f
-    Some(Opcode { mnemonic: "neg-double", format: Format::F12x, index: IndexKind::NoIndex }), // 80
-    Some(Opcode { mnemonic: "int-to-long", format: Format::F12x, index: IndexKind::NoIndex }), // 81
-    Some(Opcode { mnemonic: "int-to-float", format: Format::F12x, index: IndexKind::NoIndex }), // 82
-    Some(Opcode { mnemonic: "int-to-double", format: Format::F12x, index: IndexKind::NoIndex }), // 83
-    Some(Opcode { mnemonic: "long-to-int", format: Format::F12x, index: IndexKind::NoIndex }), // 84
-    Some(Opcode { mnemonic: "long-to-float", format: Format::F12x, index: IndexKind::NoIndex }), // 85
-    Some(Opcode { mnemonic: "long-to-double", format: Format::F12x, index: IndexKind::NoIndex }), // 86
-    Some(Opcode { mnemonic: "float-to-int", format: Format::F12x, index: IndexKind::NoIndex }), // 87
-    Some(Opcode { mnemonic: "float-to-long", format: Format::F12x, index: IndexKind::NoIndex }), // 88
-    Some(Opcode { mnemonic: "float-to-double", format: Format::F12x, index: IndexKind::NoIndex }), // 89
-    Some(Opcode { mnemonic: "double-to-int", format: Format::F12x, index: IndexKind::NoIndex }), // 8a
-    Some(Opcode { mnemonic: "double-to-long", format: Format::F12x, index: IndexKind::NoIndex }), // 8b
-    Some(Opcode { mnemonic: "double-to-float", format: Format::F12x, index: IndexKind::NoIndex }), // 8c
-    Some(Opcode { mnemonic: "int-to-byte", format: Format::F12x, index: IndexKind::NoIndex }), // 8d
-    Some(Opcode { mnemonic: "int-to-char", format: Format::F12x, index: IndexKind::NoIndex }), // 8e
-    Some(Opcode { mnemonic: "int-to-short", format: Format::F12x, index: IndexKind::NoIndex }), // 8f
-    Some(Opcode { mnemonic: "add-int", format: Format::F23x, index: IndexKind::NoIndex }), // 90
-    Some(Opcode { mnemonic: "sub-int", format: Format::F23x, index: IndexKind::NoIndex }), // 91
-    Some(Opcode { mnemonic: "mul-int", format: Format::F23x, index: IndexKind::NoIndex }), // 92
-    Some(Opcode { mnemonic: "div-int", format: Format::F23x, index: IndexKind::NoIndex }), // 93
-    Some(Opcode { mnemonic: "rem-int", format: Format::F23x, index: IndexKind::NoIndex }), // 94
-    Some(Opcode { mnemonic: "and-int", format: Format::F23x, index: IndexKind::NoIndex }), // 95
-    Some(Opcode { mnemonic: "or-int", format: Format::F23x, index: IndexKind::NoIndex }), // 96
-    Some(Opcode { mnemonic: "xor-int", format: Format::F23x, index: IndexKind::NoIndex }), // 97
-    Some(Opcode { mnemonic: "shl-int", format: Format::F23x, index: IndexKind::NoIndex }), // 98
-    Some(Opcode { mnemonic: "shr-int", format: Format::F23x, index: IndexKind::NoIndex }), // 99
-    Some(Opcode { mnemonic: "ushr-int", format: Format::F23x, index: IndexKind::NoIndex }), // 9a
-    Some(Opcode { mnemonic: "add-long", format: Format::F23x, index: IndexKind::NoIndex }), // 9b
-    Some(Opcode { mnemonic: "sub-long", format: Format::F23x, index: IndexKind::NoIndex }), // 9c
-    Some(Opcode { mnemonic: "mul-long", format: Format::F23x, index: IndexKind::NoIndex }), // 9d
-    Some(Opcode { mnemonic: "div-long", format: Format::F23x, index: IndexKind::NoIndex }), // 9e
-    Some(Opcode { mnemonic: "rem-long", format: Format::F23x, index: IndexKind::NoIndex }), // 9f
-    Some(Opcode { mnemonic: "and-long", format: Format::F23x, index: IndexKind::NoIndex }), // a0
-    Some(Opcode { mnemonic: "or-long", format: Format::F23x, index: IndexKind::NoIndex }), // a1
-    Some(Opcode { mnemonic: "xor-long", format: Format::F23x, index: IndexKind::NoIndex }), // a2
-    Some(Opcode { mnemonic: "shl-long", format: Format::F23x, index: IndexKind::NoIndex }), // a3
-    Some(Opcode { mnemonic: "shr-long", format: Format::F23x, index: IndexKind::NoIndex }), // a4
-    Some(Opcode { mnemonic: "ushr-long", format: Format::F23x, index: IndexKind::NoIndex }), // a5
-    Some(Opcode { mnemonic: "add-float", format: Format::F23x, index: IndexKind::NoIndex }), // a6
-    Some(Opcode { mnemonic: "sub-float", format: Format::F23x, index: IndexKind::NoIndex }), // a7
-    Some(Opcode { mnemonic: "mul-float", format: Format::F23x, index: IndexKind::NoIndex }), // a8
-    Some(Opcode { mnemonic: "div-float", format: Format::F23x, index: IndexKind::NoIndex }), // a9
-    Some(Opcode { mnemonic: "rem-float", format: Format::F23x, index: IndexKind::NoIndex }), // aa
-    Some(Opcode { mnemonic: "add-double", format: Format::F23x, index: IndexKind::NoIndex }), // ab
-    Some(Opcode { mnemonic: "sub-double", format: Format::F23x, index: IndexKind::NoIndex }), // ac
-    Some(Opcode { mnemonic: "mul-double", format: Format::F23x, index: IndexKind::NoIndex }), // ad
-    Some(Opcode { mnemonic: "div-double", format: Format::F23x, index: IndexKind::NoIndex }), // ae
-    Some(Opcode { mnemonic: "rem-double", format: Format::F23x, index: IndexKind::NoIndex }), // af
-    Some(Opcode { mnemonic: "add-int/2addr", format: Format::F12x, index: IndexKind::NoIndex }), // b0
-    Some(Opcode { mnemonic: "sub-int/2addr", format: Format::F12x, index: IndexKind::NoIndex }), // b1
-    Some(Opcode { mnemonic: "mul-int/2addr", format: Format::F12x, index: IndexKind::NoIndex }), // b2
-    Some(Opcode { mnemonic: "div-int/2addr", format: Format::F12x, index: IndexKind::NoIndex }), // b3
-    Some(Opcode { mnemonic: "rem-int/2addr", format: Format::F12x, index: IndexKind::NoIndex }), // b4
-    Some(Opcode { mnemonic: "and-int/2addr", format: Format::F12x, index: IndexKind::NoIndex }), // b5
-    Some(Opcode { mnemonic: "or-int/2addr", format: Format::F12x, index: IndexKind::NoIndex }), // b6
-    Some(Opcode { mnemonic: "xor-int/2addr", format: Format::F12x, index: IndexKind::NoIndex }), // b7
-    Some(Opcode { mnemonic: "shl-int/2addr", format: Format::F12x, index: IndexKind::NoIndex }), // b8
-    Some(Opcode { mnemonic: "shr-int/2addr", format: Format::F12x, index: IndexKind::NoIndex }), // b9
-    Some(Opcode { mnemonic: "ushr-int/2addr", format: Format::F12x, index: IndexKind::NoIndex }), // ba
-    Some(Opcode { mnemonic: "add-long/2addr", format: Format::F12x, index: IndexKind::NoIndex }), // bb
-    Some(Opcode { mnemonic: "sub-long/2addr", format: Format::F12x, index: IndexKind::NoIndex }), // bc
-    Some(Opcode { mnemonic: "mul-long/2addr", format: Format::F12x, index: IndexKind::NoIndex }), // bd
-    Some(Opcode { mnemonic: "div-long/2addr", format: Format::F12x, index: IndexKind::NoIndex }), // be
-    Some(Opcode { mnemonic: "rem-long/2addr", format: Format::F12x, index: IndexKind::NoIndex }), // bf
-    Some(Opcode { mnemonic: "and-long/2addr", format: Format::F12x, index: IndexKind::NoIndex }), // c0
-    Some(Opcode { mnemonic: "or-long/2addr", format: Format::F12x, index: IndexKind::NoIndex }), // c1
-    Some(Opcode { mnemonic: "xor-long/2addr", format: Format::F12x, index: IndexKind::NoIndex }), // c2
-    Some(Opcode { mnemonic: "shl-long/2addr", format: Format::F12x, index: IndexKind::NoIndex }), // c3
-    Some(Opcode { mnemonic: "shr-long/2addr", format: Format::F12x, index: IndexKind::NoIndex }), // c4
-    Some(Opcode { mnemonic: "ushr-long/2addr", format: Format::F12x, index: IndexKind::NoIndex }), // c5
-    Some(Opcode { mnemonic: "add-float/2addr", format: Format::F12x, index: IndexKind::NoIndex }), // c6
-    Some(Opcode { mnemonic: "sub-float/2addr", format: Format::F12x, index: IndexKind::NoIndex }), // c7
-    Some(Opcode { mnemonic: "mul-float/2addr", format: Format::F12x, index: IndexKind::NoIndex }), // c8
-    Some(Opcode { mnemonic: "div-float/2addr", format: Format::F12x, index: IndexKind::NoIndex }), // c9
-    Some(Opcode { mnemonic: "rem-float/2addr", format: Format::F12x, index: IndexKind::NoIndex }), // ca
-    Some(Opcode { mnemonic: "add-double/2addr", format: Format::F12x, index: IndexKind::NoIndex }), // cb
-    Some(Opcode { mnemonic: "sub-double/2addr", format: Format::F12x, index: IndexKind::NoIndex }), // cc
-    Some(Opcode { mnemonic: "mul-double/2addr", format: Format::F12x, index: IndexKind::NoIndex }), // cd
-    Some(Opcode { mnemonic: "div-double/2addr", format: Format::F12x, index: IndexKind::NoIndex }), // ce
-    Some(Opcode { mnemonic: "rem-double/2addr", format: Format::F12x, index: IndexKind::NoIndex }), // cf
-    Some(Opcode { mnemonic: "add-int/lit16", format: Format::F22s, index: IndexKind::NoIndex }), // d0
-    Some(Opcode { mnemonic: "rsub-int", format: Format::F22s, index: IndexKind::NoIndex }), // d1
-    Some(Opcode { mnemonic: "mul-int/lit16", format: Format::F22s, index: IndexKind::NoIndex }), // d2
-    Some(Opcode { mnemonic: "div-int/lit16", format: Format::F22s, index: IndexKind::NoIndex }), // d3
-    Some(Opcode { mnemonic: "rem-int/lit16", format: Format::F22s, index: IndexKind::NoIndex }), // d4
-    Some(Opcode { mnemonic: "and-int/lit16", format: Format::F22s, index: IndexKind::NoIndex }), // d5
-    Some(Opcode { mnemonic: "or-int/lit16", format: Format::F22s, index: IndexKind::NoIndex }), // d6
-    Some(Opcode { mnemonic: "xor-int/lit16", format: Format::F22s, index: IndexKind::NoIndex }), // d7
-    Some(Opcode { mnemonic: "add-int/lit8", format: Format::F22b, index: IndexKind::NoIndex }), // d8
-    Some(Opcode { mnemonic: "rsub-int/lit8", format: Format::F22b, index: IndexKind::NoIndex }), // d9
-    Some(Opcode { mnemonic: "mul-int/lit8", format: Format::F22b, index: IndexKind::NoIndex }), // da
-    Some(Opcode { mnemonic: "div-int/lit8", format: Format::F22b, index: IndexKind::NoIndex }), // db
-    Some(Opcode { mnemonic: "rem-int/lit8", format: Format::F22b, index: IndexKind::NoIndex }), // dc
-    Some(Opcode { mnemonic: "and-int/lit8", format: Format::F22b, index: IndexKind::NoIndex }), // dd
-    Some(Opcode { mnemonic: "or-int/lit8", format: Format::F22b, index: IndexKind::NoIndex }), // de
-    Some(Opcode { mnemonic: "xor-int/lit8", format: Format::F22b, index: IndexKind::NoIndex }), // df
-    Some(Opcode { mnemonic: "shl-int/lit8", format: Format::F22b, index: IndexKind::NoIndex }), // e0
-    Some(Opcode { mnemonic: "shr-int/lit8", format: Format::F22b, index: IndexKind::NoIndex }), // e1
-    Some(Opcode { mnemonic: "ushr-int/lit8", format: Format::F22b, index: IndexKind::NoIndex }), // e2
+    row!("neg-int" F12x), // 7b
+    row!("not-int" F12x), // 7c
+    row!("neg-long" F12x), // 7d
+    row!("not-long" F12x), // 7e
+    row!("neg-float" F12x), // 7f
+    row!("neg-double" F12x), // 80
+    row!("int-to-long" F12x), // 81
+    row!("int-to-float" F12x), // 82
+    row!("int-to-double" F12x), // 83
+    row!("long-to-int" F12x), // 84
+    row!("long-to-float" F12x), // 85
+    row!("long-to-double" F12x), // 86
+    row!("float-to-int" F12x), // 87
+    row!("float-to-long" F12x), // 88
+    row!("float-to-double" F12x), // 89
+    row!("double-to-int" F12x), // 8a
+    row!("double-to-long" F12x), // 8b
+    row!("double-to-float" F12x), // 8c
+    row!("int-to-byte" F12x), // 8d
+    row!("int-to-char" F12x), // 8e
+    row!("int-to-short" F12x), // 8f
+    row!("add-int" F23x), // 90
+    row!("sub-int" F23x), // 91
+    row!("mul-int" F23x), // 92
+    row!("div-int" F23x), // 93
+    row!("rem-int" F23x), // 94
+    row!("and-int" F23x), // 95
+    row!("or-int" F23x), // 96
+    row!("xor-int" F23x), // 97
+    row!("shl-int" F23x), // 98
+    row!("shr-int" F23x), // 99
+    row!("ushr-int" F23x), // 9a
+    row!("add-long" F23x), // 9b
+    row!("sub-long" F23x), // 9c
+    row!("mul-long" F23x), // 9d
+    row!("div-long" F23x), // 9e
+    row!("rem-long" F23x), // 9f
+    row!("and-long" F23x), // a0
+    row!("or-long" F23x), // a1
+    row!("xor-long" F23x), // a2
+    row!("shl-long" F23x), // a3
+    row!("shr-long" F23x), // a4
+    row!("ushr-long" F23x), // a5
+    row!("add-float" F23x), // a6
+    row!("sub-float" F23x), // a7
+    row!("mul-float" F23x), // a8
+    row!("div-float" F23x), // a9
+    row!("rem-float" F23x), // aa
+    row!("add-double" F23x), // ab
+    row!("sub-double" F23x), // ac
+    row!("mul-double" F23x), // ad
+    row!("div-double" F23x), // ae
+    row!("rem-double" F23x), // af
+    row!("add-int/2addr" F12x), // b0
+    row!("sub-int/2addr" F12x), // b1
+    row!("mul-int/2addr" F12x), // b2
+    row!("div-int/2addr" F12x), // b3
+    row!("rem-int/2addr" F12x), // b4
+    row!("and-int/2addr" F12x), // b5
+    row!("or-int/2addr" F12x), // b6
+    row!("xor-int/2addr" F12x), // b7
+    row!("shl-int/2addr" F12x), // b8
+    row!("shr-int/2addr" F12x), // b9
+    row!("ushr-int/2addr" F12x), // ba
+    row!("add-long/2addr" F12x), // bb
+    row!("sub-long/2addr" F12x), // bc
+    row!("mul-long/2addr" F12x), // bd
+    row!("div-long/2addr" F12x), // be
+    row!("rem-long/2addr" F12x), // bf
+    row!("and-long/2addr" F12x), // c0
+    row!("or-long/2addr" F12x), // c1
+    row!("xor-long/2addr" F12x), // c2
+    row!("shl-long/2addr" F12x), // c3
+    row!("shr-long/2addr" F12x), // c4
+    row!("ushr-long/2addr" F12x), // c5
+    row!("add-float/2addr" F12x), // c6
+    row!("sub-float/2addr" F12x), // c7
+    row!("mul-float/2addr" F12x), // c8
+    row!("div-float/2addr" F12x), // c9
+    row!("rem-float/2addr" F12x), // ca
+    row!("add-double/2addr" F12x), // cb
+    row!("sub-double/2addr" F12x), // cc
+    row!("mul-double/2addr" F12x), // cd
+    row!("div-double/2addr" F12x), // ce
+    row!("rem-double/2addr" F12x), // cf
+    row!("add-int/lit16" F22s), // d0
+    row!("rsub-int" F22s), // d1
+    row!("mul-int/lit16" F22s), // d2
+    row!("div-int/lit16" F22s), // d3
+    row!("rem-int/lit16" F22s), // d4
+    row!("and-int/lit16" F22s), // d5
+    row!("or-int/lit16" F22s), // d6
+    row!("xor-int/lit16" F22s), // d7
+    row!("add-int/lit8" F22b), // d8
+    row!("rsub-int/lit8" F22b), // d9
+    row!("mul-int/lit8" F22b), // da
+    row!("div-int/lit8" F22b), // db
+    row!("rem-int/lit8" F22b), // dc
+    row!("and-int/lit8" F22b), // dd
+    row!("or-int/lit8" F22b), // de
+    row!("xor-int/lit8" F22b), // df
+    row!("shl-int/lit8" F22b), // e0
+    row!("shr-int/lit8" F22b), // e1
+    row!("ushr-int/lit8" F22b), // e2
     None, // e3
     None, // e4
     None, // e5

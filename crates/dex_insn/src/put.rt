@@ -1,7 +1,7 @@
 //! Writing one instruction.
 
-ghost use Rattle.std.specs.Prelude.{◌≡◌, ◌*◌, ◌/◌, ◌%◌, ◌++◌, [], ◌∷◌, OnOk, OnErr, IsOkUnless, length, vec_capacity, ◌≤◌};
-ghost use Rattle.dex_base.specs.Fault.{memory};
+ghost use Rattle.std.specs.Prelude.{◌≡◌, ◌*◌, ◌/◌, ◌%◌, ◌++◌, [], ◌∷◌, OnOk, OnErr, IsOk, IsOkUnless, length, vec_len, vec_capacity, ◌+◌, ◌≤◌};
+ghost use Rattle.dex_bytes.specs.Fault.{memory};
 ghost use Rattle.dex_insn.specs.Raw.{raw, units};
 ghost use Rattle.dex_insn.specs.RawInsns.{SpellsInsn};
 ghost use Rattle.dex_insn.specs.Written.{IsRaw, written, bytes_of};
@@ -18,6 +18,7 @@ use std::alloc::AllocError;
 fn put_long(out: &mut Vec<u8>, first: u16, bits: u64) -> Result<(), AllocError>
     ensures ok { OnOk result (out.new.items ≡ out.old.items ++ bytes_of (first ∷ bits % 65536 ∷ bits / 65536 % 65536 ∷ bits / 4294967296 % 65536 ∷ bits / 281474976710656 ∷ [])) }
     ensures err { OnErr result (out.new.items ≡ out.old.items) }
+    ensures room { vec_len out.old + 10 ≤ vec_capacity out.old → IsOk result }
 {
     put_five(
         out,
@@ -31,11 +32,12 @@ fn put_long(out: &mut Vec<u8>, first: u16, bits: u64) -> Result<(), AllocError>
 
 /// Appends an instruction or a payload, by its format.
 #[rattlefmt::skip]
-#[tactic(auto, unfolding(crate::specs::Written::written, crate::specs::Raw::raw))]
+#[tactic(auto, unfolding(crate::specs::Written::written, crate::specs::Raw::raw, crate::specs::Raw::units))]
 fn put_raw(out: &mut Vec<u8>, insn: RawInsn<'_>) -> Result<(), AllocError>
     requires { IsRaw (raw insn) }
     ensures ok { OnOk result (out.new.items ≡ out.old.items ++ written (raw insn.entry)) }
     ensures err { OnErr result (out.new.items ≡ out.old.items) }
+    ensures room { vec_len out.old + 2 * units (raw insn.entry) ≤ vec_capacity out.old → IsOk result }
 {
     match insn {
         RawInsn::I10x { op } => put_one(out, u16::from(op)),
@@ -73,7 +75,8 @@ fn put_raw(out: &mut Vec<u8>, insn: RawInsn<'_>) -> Result<(), AllocError>
 /// registers that format 35c doesn't name are 0, and so is the byte that pads an array payload.
 ///
 /// The opcode has to be one of the variant's format, each operand has to fit its field, registers that 35c doesn't name have to be
-/// 0, and a payload has to keep its rules. An error is want of memory, and leaves the Vec as it was.
+/// 0, and a payload has to keep its rules. An error is want of memory, and leaves the Vec as it was; where there is
+/// room for the units, there is none.
 #[tactic(auto, using(crate::proofs::Spelled::spells, crate::proofs::Spelled::length_written))]
 pub fn put_insn(out: &mut Vec<u8>, insn: &RawInsn<'_>) -> Result<(), Fault>
     requires { IsRaw (raw insn.now) }
@@ -84,6 +87,8 @@ pub fn put_insn(out: &mut Vec<u8>, insn: &RawInsn<'_>) -> Result<(), Fault>
     ensures whole { length (written (raw insn.now)) ≡ 2 * units (raw insn.now) }
     ensures err { OnErr result (out.new.items ≡ out.old.items) }
     ensures only_memory { IsOkUnless result memory }
+    // Where there is room for its units, there is none.
+    ensures room { vec_len out.old + 2 * units (raw insn.now) ≤ vec_capacity out.old → IsOk result }
 {
     put_raw(out, *insn)?;
     Ok(())

@@ -1,6 +1,6 @@
 //! Units from their parts, and units appended.
 
-ghost use Rattle.std.specs.Prelude.{◌≡◌, ◌≤◌, ◌<◌, ◌+◌, ◌*◌, ◌/◌, ◌%◌, ◌++◌, [], ◌∷◌, OnOk, OnErr, vec_capacity};
+ghost use Rattle.std.specs.Prelude.{◌≡◌, ◌≤◌, ◌<◌, ◌+◌, ◌*◌, ◌/◌, ◌%◌, ◌++◌, [], ◌∷◌, OnOk, OnErr, IsOk, vec_len, vec_capacity};
 ghost use Rattle.std.specs.Int.{cast_unsigned, w32};
 ghost use Rattle.dex_insn.specs.Written.{bytes_of};
 
@@ -52,6 +52,7 @@ pub(crate) fn put_one(out: &mut Vec<u8>, u0: u16) -> Result<(), AllocError>
     ensures ok { OnOk result (out.new.items ≡ out.old.items ++ bytes_of (u0 ∷ [])) }
     ensures err { OnErr result (out.new.items ≡ out.old.items) }
     ensures capacity { vec_capacity out.old ≤ vec_capacity out.new }
+    ensures room { vec_len out.old + 2 ≤ vec_capacity out.old → IsOk result }
 {
     out.extend_from_slice(&[(u0 % 256) as u8, (u0 / 256) as u8])
 }
@@ -61,6 +62,7 @@ pub(crate) fn put_two(out: &mut Vec<u8>, u0: u16, u1: u16) -> Result<(), AllocEr
     ensures ok { OnOk result (out.new.items ≡ out.old.items ++ bytes_of (u0 ∷ u1 ∷ [])) }
     ensures err { OnErr result (out.new.items ≡ out.old.items) }
     ensures capacity { vec_capacity out.old ≤ vec_capacity out.new }
+    ensures room { vec_len out.old + 4 ≤ vec_capacity out.old → IsOk result }
 {
     out.extend_from_slice(&[
         (u0 % 256) as u8,
@@ -75,6 +77,7 @@ pub(crate) fn put_three(out: &mut Vec<u8>, u0: u16, u1: u16, u2: u16) -> Result<
     ensures ok { OnOk result (out.new.items ≡ out.old.items ++ bytes_of (u0 ∷ u1 ∷ u2 ∷ [])) }
     ensures err { OnErr result (out.new.items ≡ out.old.items) }
     ensures capacity { vec_capacity out.old ≤ vec_capacity out.new }
+    ensures room { vec_len out.old + 6 ≤ vec_capacity out.old → IsOk result }
 {
     out.extend_from_slice(&[
         (u0 % 256) as u8,
@@ -97,6 +100,7 @@ pub(crate) fn put_four(
     ensures ok { OnOk result (out.new.items ≡ out.old.items ++ bytes_of (u0 ∷ u1 ∷ u2 ∷ u3 ∷ [])) }
     ensures err { OnErr result (out.new.items ≡ out.old.items) }
     ensures capacity { vec_capacity out.old ≤ vec_capacity out.new }
+    ensures room { vec_len out.old + 8 ≤ vec_capacity out.old → IsOk result }
 {
     out.extend_from_slice(&[
         (u0 % 256) as u8,
@@ -122,6 +126,7 @@ pub(crate) fn put_five(
     ensures ok { OnOk result (out.new.items ≡ out.old.items ++ bytes_of (u0 ∷ u1 ∷ u2 ∷ u3 ∷ u4 ∷ [])) }
     ensures err { OnErr result (out.new.items ≡ out.old.items) }
     ensures capacity { vec_capacity out.old ≤ vec_capacity out.new }
+    ensures room { vec_len out.old + 10 ≤ vec_capacity out.old → IsOk result }
 {
     out.extend_from_slice(&[
         (u0 % 256) as u8,

@@ -33,10 +33,7 @@ fn fault(flaw: Flaw, at: u32) -> Fault
     ensures code { result.code ≡ code_of flaw }
     ensures place { result.place ≡ at }
 {
-    Fault {
-        code: flaw.code(),
-        place: u64::from(at),
-    }
+    Fault::at(flaw.code(), u64::from(at))
 }
 
 /// Reads the instruction or payload at unit `at` of a code's units, given as bytes, two to a unit, the low byte first; a

@@ -1,10 +1,10 @@
 -- Five sets together: parts, unions and closure.
 use Rattle.std.proofs.Common.{◌<◌, zero, suc, length, take, drop, get_or, ap, arith, ◌≡◌, ℕ, true, List, [], ◌∷◌, ◌++◌, map, refl, ◌⊎◌, inl, inr, Result, Ok, Err, OnErr}
 use Rattle.std.proofs.lemmas.List.{map-append}
-use Rattle.dex_program.specs.Key.{Key}
+use Rattle.dex_program.specs.Key.{text_key, Key}
 use Rattle.dex_names.specs.Closure.{shorty_of_texts}
 use Rattle.dex_names.specs.Rank.{insert_key, is_member, IsSubset}
-use Rattle.dex_names.specs.Closure.{Five, nothing, alone, join, IsPart, AddsPart, IsClosed, string_closure, type_closure, proto_parts, proto_closure, field_closure, method_closure}
+use Rattle.dex_names.specs.Closure.{Five, nothing, join, IsPart, AddsPart, IsClosed, string_closure, type_closure, proto_parts, proto_closure, field_closure, method_closure}
 use Rattle.dex_names.specs.declared.needed.Needed.TheInside.{Inside}
 use Rattle.dex_names.proofs.SubsetLemmas as sub
 
@@ -102,10 +102,10 @@ string_in_type k =
 -- the shorty and some types of a proto
 pub front_in_proto : (shorty : List ℕ) (texts more : List (List ℕ)) → shorty ≡ shorty_of_texts (texts ++ more) → IsPart (proto_parts shorty texts) (proto_closure (texts ++ more))
 front_in_proto shorty texts more is =
-    let alike : map alone (texts ++ more) ≡ map alone texts ++ map alone more = map-append alone texts more in
-    let front : IsSubset (map alone texts) (map alone (texts ++ more)) = rw alike (sub.IsSubset-append (map alone texts) (map alone more)) in
-    let strings : IsSubset (alone shorty ∷ map alone texts) (alone (shorty_of_texts (texts ++ more)) ∷ map alone (texts ++ more)) =
-    rw is (sub.IsSubset-cons (alone (shorty_of_texts (texts ++ more))) (map alone texts) (alone (shorty_of_texts (texts ++ more)) ∷ map alone (texts ++ more)) (sub.member_here (alone (shorty_of_texts (texts ++ more))) (map alone (texts ++ more))) (sub.IsSubset-tail _ (map alone texts) (map alone (texts ++ more)) front)) in
+    let alike : map text_key (texts ++ more) ≡ map text_key texts ++ map text_key more = map-append text_key texts more in
+    let front : IsSubset (map text_key texts) (map text_key (texts ++ more)) = rw alike (sub.IsSubset-append (map text_key texts) (map text_key more)) in
+    let strings : IsSubset (text_key shorty ∷ map text_key texts) (text_key (shorty_of_texts (texts ++ more)) ∷ map text_key (texts ++ more)) =
+    rw is (sub.IsSubset-cons (text_key (shorty_of_texts (texts ++ more))) (map text_key texts) (text_key (shorty_of_texts (texts ++ more)) ∷ map text_key (texts ++ more)) (sub.member_here (text_key (shorty_of_texts (texts ++ more))) (map text_key (texts ++ more))) (sub.IsSubset-tail _ (map text_key texts) (map text_key (texts ++ more)) front)) in
     record {
       strings = strings;
       types = front;
@@ -118,13 +118,13 @@ pub parts_in_proto : (k : Key) → IsPart (proto_parts (shorty_of_texts k) k) (p
 parts_in_proto k =
     record { strings = sub.IsSubset-refl (proto_closure k).strings; types = sub.IsSubset-refl _; protos = sub.IsSubset-nil _; fields = sub.IsSubset-refl _; methods = sub.IsSubset-refl _ }
 
-pub type_in_proto : (front : List (List ℕ)) (t : List ℕ) (rest : List (List ℕ)) → IsPart (type_closure (alone t)) (proto_closure (front ++ t ∷ rest))
+pub type_in_proto : (front : List (List ℕ)) (t : List ℕ) (rest : List (List ℕ)) → IsPart (type_closure (text_key t)) (proto_closure (front ++ t ∷ rest))
 type_in_proto front t rest =
     let k = front ++ t ∷ rest in
-    let here : is_member (map alone k) (alone t) ≡ true = rw map-append (sub.member_middle (map alone front) (alone t) (map alone rest)) in
-    let types : IsSubset (alone t ∷ []) (map alone k) = sub.IsSubset-one (alone t) (map alone k) here in
+    let here : is_member (map text_key k) (text_key t) ≡ true = rw map-append (sub.member_middle (map text_key front) (text_key t) (map text_key rest)) in
+    let types : IsSubset (text_key t ∷ []) (map text_key k) = sub.IsSubset-one (text_key t) (map text_key k) here in
     record {
-      strings = sub.IsSubset-tail (alone (shorty_of_texts k)) (alone t ∷ []) (map alone k) types;
+      strings = sub.IsSubset-tail (text_key (shorty_of_texts k)) (text_key t ∷ []) (map text_key k) types;
       types = types;
       protos = sub.IsSubset-nil _;
       fields = sub.IsSubset-refl _;
@@ -132,10 +132,10 @@ type_in_proto front t rest =
     }
 
 -- the shorty and the types in front were added, and then what an addition of the next type left
-pub next_type : (s l new : Five) (k front : List (List ℕ)) (t : List ℕ) (rest : List (List ℕ)) → k ≡ front ++ t ∷ rest → l ≡ join s (proto_parts (shorty_of_texts k) front) → AddsPart l new (join l (type_closure (alone t))) → AddsPart s new (join s (proto_closure k))
+pub next_type : (s l new : Five) (k front : List (List ℕ)) (t : List ℕ) (rest : List (List ℕ)) → k ≡ front ++ t ∷ rest → l ≡ join s (proto_parts (shorty_of_texts k) front) → AddsPart l new (join l (type_closure (text_key t))) → AddsPart s new (join s (proto_closure k))
 next_type s l new k front t rest split is left =
     rw split
-    (more_added s (proto_parts (shorty_of_texts (front ++ t ∷ rest)) front) (type_closure (alone t)) (proto_closure (front ++ t ∷ rest)) new (front_in_proto _ front (t ∷ rest) refl) (type_in_proto front t rest) (rw (is, split) at left))
+    (more_added s (proto_parts (shorty_of_texts (front ++ t ∷ rest)) front) (type_closure (text_key t)) (proto_closure (front ++ t ∷ rest)) new (front_in_proto _ front (t ∷ rest) refl) (type_in_proto front t rest) (rw (is, split) at left))
 
 pub proto_there : (l : Five) (k : Key) → IsPart (proto_parts (shorty_of_texts k) k) l → IsPart (proto_closure k) (record l { protos = insert_key l.protos k })
 proto_there l k p =
@@ -158,7 +158,7 @@ module _ (class name : List ℕ) (proto : Key) where
 
   -- the class and the name, and with the proto all but the method itself
   abbrev pub method_front : Five
-  method_front = record nothing { strings = alone class ∷ alone name ∷ []; types = alone class ∷ [] }
+  method_front = record nothing { strings = text_key class ∷ text_key name ∷ []; types = text_key class ∷ [] }
 
   abbrev pub method_parts : Five
   method_parts = record (method_closure k) { methods = [] }
@@ -166,34 +166,34 @@ module _ (class name : List ℕ) (proto : Key) where
   pub front_in_method : IsPart method_front (method_closure k)
   front_in_method =
       record {
-        strings = sub.IsSubset-append (alone class ∷ alone name ∷ []) (proto_closure proto).strings;
-        types = sub.IsSubset-append (alone class ∷ []) (proto_closure proto).types;
+        strings = sub.IsSubset-append (text_key class ∷ text_key name ∷ []) (proto_closure proto).strings;
+        types = sub.IsSubset-append (text_key class ∷ []) (proto_closure proto).types;
         protos = sub.IsSubset-nil _;
         fields = sub.IsSubset-refl _;
         methods = sub.IsSubset-nil _;
       }
 
-  pub class_in_front : IsPart (type_closure (alone class)) method_front
+  pub class_in_front : IsPart (type_closure (text_key class)) method_front
   class_in_front =
-      record { strings = sub.IsSubset-append (alone class ∷ []) (alone name ∷ []); types = sub.IsSubset-refl _; protos = sub.IsSubset-refl _; fields = sub.IsSubset-refl _; methods = sub.IsSubset-refl _ }
+      record { strings = sub.IsSubset-append (text_key class ∷ []) (text_key name ∷ []); types = sub.IsSubset-refl _; protos = sub.IsSubset-refl _; fields = sub.IsSubset-refl _; methods = sub.IsSubset-refl _ }
 
-  pub name_in_front : IsPart (string_closure (alone name)) method_front
+  pub name_in_front : IsPart (string_closure (text_key name)) method_front
   name_in_front =
-      record { strings = sub.IsSubset-tail (alone class) (alone name ∷ []) (alone name ∷ []) (sub.IsSubset-refl _); types = sub.IsSubset-nil _; protos = sub.IsSubset-refl _; fields = sub.IsSubset-refl _; methods = sub.IsSubset-refl _ }
+      record { strings = sub.IsSubset-tail (text_key class) (text_key name ∷ []) (text_key name ∷ []) (sub.IsSubset-refl _); types = sub.IsSubset-nil _; protos = sub.IsSubset-refl _; fields = sub.IsSubset-refl _; methods = sub.IsSubset-refl _ }
 
-  pub class_in_method : IsPart (type_closure (alone class)) (method_closure k)
-  class_in_method = IsPart-trans (type_closure (alone class)) method_front (method_closure k) class_in_front front_in_method
+  pub class_in_method : IsPart (type_closure (text_key class)) (method_closure k)
+  class_in_method = IsPart-trans (type_closure (text_key class)) method_front (method_closure k) class_in_front front_in_method
 
-  pub name_in_method : IsPart (string_closure (alone name)) (method_closure k)
-  name_in_method = IsPart-trans (string_closure (alone name)) method_front (method_closure k) name_in_front front_in_method
+  pub name_in_method : IsPart (string_closure (text_key name)) (method_closure k)
+  name_in_method = IsPart-trans (string_closure (text_key name)) method_front (method_closure k) name_in_front front_in_method
 
   pub proto_in_method : IsPart (proto_closure proto) (method_closure k)
   proto_in_method =
       let strings = (proto_closure proto).strings in
       let types = (proto_closure proto).types in
       record {
-        strings = sub.IsSubset-tail (alone class) strings (alone name ∷ strings) (sub.IsSubset-tail (alone name) strings strings (sub.IsSubset-refl _));
-        types = sub.IsSubset-tail (alone class) types types (sub.IsSubset-refl _);
+        strings = sub.IsSubset-tail (text_key class) strings (text_key name ∷ strings) (sub.IsSubset-tail (text_key name) strings strings (sub.IsSubset-refl _));
+        types = sub.IsSubset-tail (text_key class) types types (sub.IsSubset-refl _);
         protos = sub.IsSubset-refl _;
         fields = sub.IsSubset-refl _;
         methods = sub.IsSubset-nil _;
@@ -220,7 +220,7 @@ module _ (class name ty : List ℕ) where
 
   -- the class and the name, and with the type all but the field itself
   abbrev pub field_front : Five
-  field_front = record nothing { strings = alone class ∷ alone name ∷ []; types = alone class ∷ [] }
+  field_front = record nothing { strings = text_key class ∷ text_key name ∷ []; types = text_key class ∷ [] }
 
   abbrev pub field_parts : Five
   field_parts = record (field_closure f) { fields = [] }
@@ -231,15 +231,15 @@ module _ (class name ty : List ℕ) where
 
   pub front_in_field : IsPart field_front (field_closure f)
   front_in_field =
-      record { strings = sub.IsSubset-append (alone class ∷ alone name ∷ []) (alone ty ∷ []); types = sub.IsSubset-append (alone class ∷ []) (alone ty ∷ []); protos = sub.IsSubset-refl _; fields = sub.IsSubset-nil _; methods = sub.IsSubset-refl _ }
+      record { strings = sub.IsSubset-append (text_key class ∷ text_key name ∷ []) (text_key ty ∷ []); types = sub.IsSubset-append (text_key class ∷ []) (text_key ty ∷ []); protos = sub.IsSubset-refl _; fields = sub.IsSubset-nil _; methods = sub.IsSubset-refl _ }
 
-  pub class_in_field : IsPart (type_closure (alone class)) (field_closure f)
-  class_in_field = IsPart-trans (type_closure (alone class)) field_front (field_closure f) (class_in_front class name []) front_in_field
+  pub class_in_field : IsPart (type_closure (text_key class)) (field_closure f)
+  class_in_field = IsPart-trans (type_closure (text_key class)) field_front (field_closure f) (class_in_front class name []) front_in_field
 
-  pub name_in_field : IsPart (string_closure (alone name)) (field_closure f)
-  name_in_field = IsPart-trans (string_closure (alone name)) field_front (field_closure f) (name_in_front class name []) front_in_field
+  pub name_in_field : IsPart (string_closure (text_key name)) (field_closure f)
+  name_in_field = IsPart-trans (string_closure (text_key name)) field_front (field_closure f) (name_in_front class name []) front_in_field
 
-  pub type_in_field : IsPart (type_closure (alone ty)) (field_closure f)
+  pub type_in_field : IsPart (type_closure (text_key ty)) (field_closure f)
   type_in_field =
-      let one = alone ty ∷ [] in
-      record { strings = sub.IsSubset-tail _ _ _ (sub.IsSubset-tail _ _ _ (sub.IsSubset-refl _)); types = sub.IsSubset-tail (alone class) one one (sub.IsSubset-refl _); protos = sub.IsSubset-refl _; fields = sub.IsSubset-nil _; methods = sub.IsSubset-refl _ }
+      let one = text_key ty ∷ [] in
+      record { strings = sub.IsSubset-tail _ _ _ (sub.IsSubset-tail _ _ _ (sub.IsSubset-refl _)); types = sub.IsSubset-tail (text_key class) one one (sub.IsSubset-refl _); protos = sub.IsSubset-refl _; fields = sub.IsSubset-nil _; methods = sub.IsSubset-refl _ }

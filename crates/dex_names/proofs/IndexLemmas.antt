@@ -12,7 +12,7 @@ use Rattle.dex_program.specs.Key.{Key, key_cmp, units_cmp, text_key, proto_key, 
 use Rattle.dex_program.specs.KeyLaws.{ordering_then-equal}
 use Rattle.dex_program.specs.Shorty.{shorty}
 use Rattle.dex_names.specs.Rank.{Rising, is_member, IsSubset, IsAt}
-use Rattle.dex_names.specs.Closure.{Five, alone, NameRanks, Holds, proto_closure}
+use Rattle.dex_names.specs.Closure.{Five, NameRanks, Holds, proto_closure}
 use Rattle.dex_program.specs.Mentions.{mentions}
 use Rattle.dex_names.specs.Needed.{needed}
 use Rattle.dex_names.specs.Indices.{HasPlace, AreIndices, ClosedHaveRows, RisingTablesRise, LookUpsAnswer, MentionsHaveIndices}
@@ -38,11 +38,11 @@ others : (k : Key) (ks table : List Key) → IsSubset (k ∷ ks) table → IsSub
 others k ks table part = record { each = λ j h. part.each j (or_right (eq_by_cmp key_cmp j k) (is_member ks j) h) }
 
 -- texts that a table has, have indices
-indices_of : (table : List Key) (texts : List Units) → IsSubset (map alone texts) table → (row : List ℕ) × AreIndices table row texts
+indices_of : (table : List Key) (texts : List Units) → IsSubset (map text_key texts) table → (row : List ℕ) × AreIndices table row texts
 indices_of table [] part = ([], tt)
 indices_of table (t ∷ texts) part =
-    let here = first_place (alone t) (map alone texts) table part in
-    let rest = indices_of table texts (others (alone t) (map alone texts) table part) in
+    let here = first_place (text_key t) (map text_key texts) table part in
+    let rest = indices_of table texts (others (text_key t) (map text_key texts) table part) in
     (here.0 ∷ rest.0, (here.1, rest.1))
 
 pub closed_have_rows : ClosedHaveRows
@@ -51,20 +51,20 @@ closed_have_rows s f =
       types = λ i t at.
           first_place (text_key t) [] s.strings (f.of_types (text_key t) (member_at s.types i (text_key t) at)).strings;
       shorties = λ i p at.
-          first_place (text_key (shorty p)) (map alone (proto_key p)) s.strings (f.of_protos (proto_key p) (member_at s.protos i (proto_key p) at)).strings;
+          first_place (text_key (shorty p)) (map text_key (proto_key p)) s.strings (f.of_protos (proto_key p) (member_at s.protos i (proto_key p) at)).strings;
       protos = λ i p at.
           indices_of s.types (proto_key p) (f.of_protos (proto_key p) (member_at s.protos i (proto_key p) at)).types;
       fields = λ i k at.
           let parts = f.of_fields (field_ref_key k) (member_at s.fields i (field_ref_key k) at) in
-          let class = first_place (text_key k.class) (alone k.ty ∷ []) s.types parts.types in
-          let ty = first_place (text_key k.ty) [] s.types (others (alone k.class) (alone k.ty ∷ []) s.types parts.types) in
-          let name = first_place (text_key k.name) (alone k.ty ∷ []) s.strings (others (alone k.class) (alone k.name ∷ alone k.ty ∷ []) s.strings parts.strings) in
+          let class = first_place (text_key k.class) (text_key k.ty ∷ []) s.types parts.types in
+          let ty = first_place (text_key k.ty) [] s.types (others (text_key k.class) (text_key k.ty ∷ []) s.types parts.types) in
+          let name = first_place (text_key k.name) (text_key k.ty ∷ []) s.strings (others (text_key k.class) (text_key k.name ∷ text_key k.ty ∷ []) s.strings parts.strings) in
           (class.0 ∷ name.0 ∷ ty.0 ∷ [], record { class = class.0; name = name.0; ty = ty.0; row_is = refl; class_is = class.1; name_is = name.1; ty_is = ty.1 });
       methods = λ i m at.
           let k = proto_key m.proto in
           let parts = f.of_methods (method_ref_key m) (member_at s.methods i (method_ref_key m) at) in
           let class = first_place (text_key m.class) (proto_closure k).types s.types parts.types in
-          let name = first_place (text_key m.name) (proto_closure k).strings s.strings (others (alone m.class) (alone m.name ∷ (proto_closure k).strings) s.strings parts.strings) in
+          let name = first_place (text_key m.name) (proto_closure k).strings s.strings (others (text_key m.class) (text_key m.name ∷ (proto_closure k).strings) s.strings parts.strings) in
           let proto = first_place k [] s.protos parts.protos in
           (class.0 ∷ name.0 ∷ proto.0 ∷ [], record { class = class.0; name = name.0; proto = proto.0; row_is = refl; class_is = class.1; name_is = name.1; proto_is = proto.1 });
     }
@@ -72,11 +72,11 @@ closed_have_rows s f =
 -- ---- rows rise
 
 -- texts compare as their indices
-units_by_index : (table : List Key) (i j : ℕ) (t u : Units) → Rising table → IsAt table i (text_key t) → IsAt table j (text_key u) → units_cmp t u ≡ nat_cmp i j
+pub units_by_index : (table : List Key) (i j : ℕ) (t u : Units) → Rising table → IsAt table i (text_key t) → IsAt table j (text_key u) → units_cmp t u ≡ nat_cmp i j
 units_by_index table i j t u up at_i at_j =
     ordering_then-equal (units_cmp t u) ∙ keys_compare_as_places table i j (text_key t) (text_key u) up at_i at_j
 
-texts_by_index : (table : List Key) → Rising table → (xs ys : List ℕ) (ts us : List Units) → AreIndices table xs ts → AreIndices table ys us → key_cmp ts us ≡ slice_cmp nat_cmp xs ys
+pub texts_by_index : (table : List Key) → Rising table → (xs ys : List ℕ) (ts us : List Units) → AreIndices table xs ts → AreIndices table ys us → key_cmp ts us ≡ slice_cmp nat_cmp xs ys
 texts_by_index table up [] [] [] [] a b = refl
 texts_by_index table up [] (y ∷ ys) [] (u ∷ us) a b = refl
 texts_by_index table up (x ∷ xs) [] (t ∷ ts) [] a b = refl

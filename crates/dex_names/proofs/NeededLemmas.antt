@@ -7,7 +7,7 @@ use Rattle.dex_program.specs.Content.{Name, OfText, OfDesc, OfField, OfMethod}
 use Rattle.dex_program.specs.Key.{Key, key_cmp, text_key, field_ref_key, method_ref_key, proto_key}
 use Rattle.dex_program.specs.KeyLaws.{key_cmp-total, key_cmp-same}
 use Rattle.dex_names.specs.Rank.{Rising, is_member, IsSubset}
-use Rattle.dex_names.specs.Closure.{Five, nothing, alone, shorty_of_texts, join, with_name, with_names, closure_of, Holds, IsPart, IsClosed, AreRising, string_closure, type_closure, proto_closure, field_closure, method_closure}
+use Rattle.dex_names.specs.Closure.{Five, nothing, shorty_of_texts, join, with_name, with_names, closure_of, Holds, IsPart, IsClosed, AreRising, string_closure, type_closure, proto_closure, field_closure, method_closure}
 use Rattle.dex_program.specs.Mentions.{mentions}
 use Rattle.dex_names.specs.Needed.{needed, NeededIsLeast, LeastIsNeeded}
 use Rattle.dex_names.proofs.SubsetLemmas as sub
@@ -45,7 +45,7 @@ closed_type k =
     record { of_types = types_have_parts (type_closure k) (sub.IsSubset-refl (k ∷ [])); of_protos = λ j h. no_member j h; of_fields = λ j h. no_member j h; of_methods = λ j h. no_member j h }
 
 texts_of_proto : (k : Key) → IsSubset (proto_closure k).types (proto_closure k).strings
-texts_of_proto k = sub.IsSubset-tail (alone (shorty_of_texts k)) (map alone k) (map alone k) (sub.IsSubset-refl (map alone k))
+texts_of_proto k = sub.IsSubset-tail (text_key (shorty_of_texts k)) (map text_key k) (map text_key k) (sub.IsSubset-refl (map text_key k))
 
 -- a front of two lists
 subset_front : (x : Key) (ks js : List Key) → IsSubset ks js → IsSubset (x ∷ ks) (x ∷ js)
@@ -54,9 +54,9 @@ subset_front x ks js f = sub.IsSubset-cons x ks (x ∷ js) (sub.member_here x js
 closed_field : (class name ty : List _) → IsClosed (field_closure (class ∷ name ∷ ty ∷ []))
 closed_field class name ty =
     let k = class ∷ name ∷ ty ∷ [] in
-    let tys = alone ty ∷ [] in
+    let tys = text_key ty ∷ [] in
     record {
-      of_types = types_have_parts (field_closure k) (subset_front (alone class) tys (alone name ∷ tys) (sub.IsSubset-tail (alone name) tys tys (sub.IsSubset-refl tys)));
+      of_types = types_have_parts (field_closure k) (subset_front (text_key class) tys (text_key name ∷ tys) (sub.IsSubset-tail (text_key name) tys tys (sub.IsSubset-refl tys)));
       of_protos = λ j h. no_member j h;
       of_fields = λ j h. rw (one_member k j h) (IsPart-refl (field_closure k));
       of_methods = λ j h. no_member j h;
@@ -67,7 +67,7 @@ closed_method class name proto =
     let k = class ∷ name ∷ proto in
     let p = proto_closure proto in
     record {
-      of_types = types_have_parts (method_closure k) (subset_front (alone class) p.types (alone name ∷ p.strings) (sub.IsSubset-tail (alone name) p.types p.strings (texts_of_proto proto)));
+      of_types = types_have_parts (method_closure k) (subset_front (text_key class) p.types (text_key name ∷ p.strings) (sub.IsSubset-tail (text_key name) p.types p.strings (texts_of_proto proto)));
       of_protos = λ j h. rw (one_member proto j h) (proto_in_method class name proto);
       of_fields = λ j h. no_member j h;
       of_methods = λ j h. rw (one_member k j h) (IsPart-refl (method_closure k));

@@ -20,10 +20,6 @@ pub record Five : Type 0 where
 abbrev pub nothing : Five
 nothing = record { strings = []; types = []; protos = []; fields = []; methods = [] }
 
--- a text as the key of a string or of a type
-abbrev pub alone : List ℕ → Key
-alone text = text ∷ []
-
 -- the shorty of a return type and parameters, a letter for each
 abbrev pub shorty_of_texts : Key → List ℕ
 shorty_of_texts texts = map letter_of texts
@@ -39,7 +35,7 @@ type_closure k = record nothing { strings = k ∷ []; types = k ∷ [] }
 -- a shorty, and types with their descriptors
 abbrev pub proto_parts : List ℕ → Key → Five
 proto_parts shorty texts =
-    record { strings = alone shorty ∷ map alone texts; types = map alone texts; protos = []; fields = []; methods = [] }
+    record { strings = text_key shorty ∷ map text_key texts; types = map text_key texts; protos = []; fields = []; methods = [] }
 
 -- a proto, its shorty, its return type and its parameters (proto_id_item: shorty_idx, return_type_idx, parameters_off)
 abbrev pub proto_closure : Key → Five
@@ -48,13 +44,13 @@ proto_closure k = record (proto_parts (shorty_of_texts k) k) { protos = k ∷ []
 -- a field, its class, its name and its type (field_id_item: class_idx, name_idx, type_idx)
 abbrev pub field_closure : Key → Five
 field_closure (class ∷ name ∷ ty ∷ []) =
-    record { strings = alone class ∷ alone name ∷ alone ty ∷ []; types = alone class ∷ alone ty ∷ []; protos = []; fields = (class ∷ name ∷ ty ∷ []) ∷ []; methods = [] }
+    record { strings = text_key class ∷ text_key name ∷ text_key ty ∷ []; types = text_key class ∷ text_key ty ∷ []; protos = []; fields = (class ∷ name ∷ ty ∷ []) ∷ []; methods = [] }
 field_closure _ = nothing
 
 -- a method, its class, its name and its proto (method_id_item: class_idx, name_idx, proto_idx)
 abbrev pub method_closure : Key → Five
 method_closure (class ∷ name ∷ proto) =
-    record { strings = alone class ∷ alone name ∷ (proto_closure proto).strings; types = alone class ∷ (proto_closure proto).types; protos = proto ∷ []; fields = []; methods = (class ∷ name ∷ proto) ∷ [] }
+    record { strings = text_key class ∷ text_key name ∷ (proto_closure proto).strings; types = text_key class ∷ (proto_closure proto).types; protos = proto ∷ []; fields = []; methods = (class ∷ name ∷ proto) ∷ [] }
 method_closure _ = nothing
 
 -- a name of any kind, with its parts

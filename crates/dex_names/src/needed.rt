@@ -1,7 +1,7 @@
 //! The names that a program needs, of all five kinds, each with its parts ("Dalvik Executable format": the indices in
 //! type_id_item, proto_id_item, field_id_item and method_id_item).
 ghost use Rattle.std.specs.Prelude.{◌≡◌, OnOk, OnErr, IfOk, IsOkUnless, All, map};
-ghost use Rattle.dex_base.specs.Fault.{memory};
+ghost use Rattle.dex_bytes.specs.Fault.{memory};
 ghost use Rattle.dex_base.specs.Descriptor.{IsDescriptor};
 ghost use Rattle.dex_program.specs.Content.{OfText, OfDesc, OfField, OfMethod};
 ghost use Rattle.dex_program.specs.View.{str, desc, proto, field_ref, method_ref};

@@ -4,8 +4,8 @@ ghost use Rattle.dex_base.specs.Descriptor.{IsClass, IsArray};
 ghost use Rattle.dex_program.specs.View.{desc};
 ghost use Rattle.dex_program.specs.Kinds.{void};
 
-use dex_base::{is_array, is_class};
 use crate::names::Desc;
+use dex_base::{is_array, is_class};
 
 /// Whether a type is void, `V`, which no value has.
 pub fn is_void(ty: Desc<'_>) -> bool

@@ -1,7 +1,7 @@
 //! Names are placed in an arena, where they live as long as it does.
 
 ghost use Rattle.std.specs.Prelude.{◌≡◌, ◌<◌, IfOk, IsOkUnless, All, [], length, map, slice_index_or};
-ghost use Rattle.dex_base.specs.Fault.{memory};
+ghost use Rattle.dex_bytes.specs.Fault.{memory};
 ghost use Rattle.dex_program.specs.View.{str, desc, proto};
 
 use crate::names::{Desc, Proto, Str};

@@ -2,7 +2,7 @@
 
 ghost use Rattle.std.specs.Prelude.{◌≡◌, ◌↔◌, ◌<◌, ℕ, List, All, IfOk, IsOkUnless, length, map};
 ghost use Rattle.dex_base.specs.Descriptor.{IsDescriptor};
-ghost use Rattle.dex_base.specs.Fault.{memory};
+ghost use Rattle.dex_bytes.specs.Fault.{memory};
 ghost use Rattle.dex_program.specs.Shorty.{StandsFor, letter_of, shorty};
 ghost use Rattle.dex_program.specs.View.{str, desc};
 

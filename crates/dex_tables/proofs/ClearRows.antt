@@ -2,8 +2,8 @@
 use Rattle.std.proofs.Common.{◌≡◌, ◌≢◌, ℕ, ◌⊎◌, inl, inr, Bool, true, false, List, [], length, drop, ap, ◌∙◌, subst, arith, length-take, length-append, ◌∷◌}
 use Rattle.std.specs.Prelude.{MatchBool, ◌==◌}
 use Rattle.std.proofs.lemmas.Bool.{cases_lt}
-use Rattle.dex_base.specs.declared.fault.Fault.{Fault}
-use Rattle.dex_base.specs.Fault.{memory}
+use Rattle.dex_bytes.specs.declared.fault.Fault.{Fault}
+use Rattle.dex_bytes.specs.Fault.{memory}
 use Rattle.dex_base.specs.Descriptor.{IsDescriptor, IsClass, IsArray, IsMemberName}
 use Rattle.dex_base.specs.Mutf8.{SpellsText}
 use Rattle.dex_container.specs.Frame.{IsFramed}

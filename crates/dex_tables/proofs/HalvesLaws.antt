@@ -4,10 +4,10 @@ use Rattle.std.proofs.lemmas.Bool.{cases_lt}
 use Rattle.std.proofs.lemmas.List.{take_at, drop_at, get_or_past}
 use Rattle.std.proofs.Math.Seq.{take-add}
 use Rattle.std.specs.List.{AllByRecursion}
-use Rattle.dex_base.specs.Fields.{AreBytes, u16_at, u32_at, u16_bytes, u32_bytes}
-use Rattle.dex_base.specs.Words.{halves_bytes}
-use Rattle.dex_base.specs.Grammar.{Begins, NoneBegins, IsPrefixUnique}
-use Rattle.dex_base.proofs.FieldBounds.{u32_at-bytes, length-u32_bytes, u32_at-front, u32_at-fits}
+use Rattle.dex_bytes.specs.Fields.{AreBytes, u16_at, u32_at, u16_bytes, u32_bytes}
+use Rattle.dex_bytes.specs.Words.{halves_bytes}
+use Rattle.dex_bytes.specs.Grammar.{Begins, NoneBegins, IsPrefixUnique}
+use Rattle.dex_bytes.proofs.FieldBounds.{u32_at-bytes, length-u32_bytes, u32_at-front, u32_at-fits}
 use Rattle.dex_tables.specs.Halves.{halves}
 use Rattle.dex_container.specs.Frame.{IsFramed}
 use Rattle.std.specs.Prelude.{MatchBool, ◌==◌}

@@ -5,3 +5,4 @@ pub mod OrderLaws
 pub mod ShortyLaws
 pub mod ClearRows
 pub mod NameLaws
+pub mod Marks

@@ -31,7 +31,7 @@ method_one b framed i m n x y =
     (λ k. record { class = class k; name = name k; proto = proto k })
 
 -- a row that denotes one name is that row of the table in memory
-row_is : {V : Type 0} (S : List ℕ → ℕ → V → Type 0) (b : List ℕ) (k i : ℕ) (names : List V) (v : V) → ((w : V) → S b i w → w ≡ v) → AreRows S b k names → i < size_of b k → slice_get names i ≡ Some v
+pub row_is : {V : Type 0} (S : List ℕ → ℕ → V → Type 0) (b : List ℕ) (k i : ℕ) (names : List V) (v : V) → ((w : V) → S b i w → w ≡ v) → AreRows S b k names → i < size_of b k → slice_get names i ≡ Some v
 row_is S b k i names v one rows lt =
     let size = rows.count in
     let within : i < length names = omega (arith, size, lt) in

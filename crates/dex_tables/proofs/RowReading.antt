@@ -15,12 +15,12 @@ use Rattle.dex_tables.specs.RowFields.{string_place}
 use Rattle.dex_tables.specs.Sorted.{RowRises, IsBelow, StringIsBelow, RowsHold}
 use Rattle.dex_tables.specs.Stands.{StringStands}
 use Rattle.dex_tables.specs.TableFaults.{BreaksAt, IsFirstRow}
-use Rattle.dex_base.specs.declared.fault.Fault.{Fault}
+use Rattle.dex_bytes.specs.declared.fault.Fault.{Fault}
 use Rattle.std.specs.Result.{IsErrAnd}
 use Rattle.dex_container.proofs.Standing.{At-one, stands_at, stands_not, mod_one}
 use Rattle.dex_container.specs.Where.{At}
 use Rattle.dex_container.specs.declared.section.Section.{Section}
-use Rattle.dex_base.specs.Grammar.{Begins, NoneBegins}
+use Rattle.dex_bytes.specs.Grammar.{Begins, NoneBegins}
 use Rattle.dex_program.specs.View.{str}
 use Rattle.dex_program.specs.declared.names.Str.{Str}
 

@@ -1,8 +1,8 @@
 -- Which name a row of a table denotes (Dalvik Executable format, "string_id_item" to "method_id_item", "type_list").
 use Rattle.std.specs.Prelude.{◌≡◌, ◌≢◌, ℕ, ◌^◌, ◌<◌, ◌⊎◌, List, length, ◌++◌}
 use Rattle.std.specs.List.{AllZip, AllByRecursion}
-use Rattle.dex_base.specs.Fields.{u32_bytes}
-use Rattle.dex_base.specs.Words.{halves_bytes}
+use Rattle.dex_bytes.specs.Fields.{u32_bytes}
+use Rattle.dex_bytes.specs.Words.{halves_bytes}
 use Rattle.dex_base.specs.Mutf8.{SpellsText}
 use Rattle.dex_base.specs.Descriptor.{IsDescriptor, IsClass, IsArray, IsMemberName}
 use Rattle.dex_container.specs.Layout.{size_of}

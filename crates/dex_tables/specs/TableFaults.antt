@@ -2,7 +2,7 @@
 -- meaning for any file; it is asked only where header, map and checksums, the tables before, and the rows before hold.
 use Rattle.std.specs.Prelude.{◌≡◌, ◌≢◌, ℕ, ◌<◌, ◌≤◌, ◌⊎◌, List}
 use Rattle.std.specs.List.{AllByRecursion}
-use Rattle.dex_base.specs.declared.fault.Fault.{Fault}
+use Rattle.dex_bytes.specs.declared.fault.Fault.{Fault}
 use Rattle.dex_base.specs.Descriptor.{IsDescriptor, IsClass, IsArray, IsMemberName}
 use Rattle.dex_container.specs.Layout.{size_of}
 use Rattle.dex_container.specs.Frame.{IsFramed}

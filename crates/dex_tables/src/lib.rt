@@ -11,9 +11,11 @@ mod row_fields;
 
 // The tables, in the order in which they are read.
 mod field_ids;
+mod kinds;
 mod look_up;
 mod members;
 mod method_ids;
+mod names;
 mod proto_ids;
 mod string_ids;
 mod tables;
@@ -23,7 +25,5 @@ mod type_list;
 // What holds of the tables of a file.
 mod file_laws;
 
-pub use file_laws::{
-    names_of_a_file_are_its_rows, row_denotes_one_name, rows_that_hold_are_clear, type_list_is_one,
-};
-pub use tables::{NameKind, Tables};
+pub use file_laws::{names_of_a_file_are_its_rows, type_list_is_one};
+pub use tables::Tables;

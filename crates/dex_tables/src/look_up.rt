@@ -1,5 +1,5 @@
 // The name at an index of a table that is read.
-ghost use Rattle.std.specs.Prelude.{◌≤◌, IfSome, IfNone, map};
+ghost use Rattle.std.specs.Prelude.{◌≡◌, ◌≤◌, IfSome, IfNone, map, slice_get};
 ghost use Rattle.dex_container.specs.Layout.{size_of};
 ghost use Rattle.dex_program.specs.View.{str, desc, proto};
 ghost use Rattle.dex_tables.specs.Names.{AreRows};
@@ -16,6 +16,7 @@ pub(crate) fn string_at<'a>(
 ) -> Option<Str<'a>>
     requires { AreRows StringStands sections.now 0 (map str strings.now) }
     ensures some { IfSome result (λ s. StringStands sections.now index (str s)) }
+    ensures got { IfSome result (λ s. slice_get (map str strings.now) index ≡ Some (str s)) }
     ensures none { IfNone result (size_of sections.now 0 ≤ index) }
 {
     let _file = sections;

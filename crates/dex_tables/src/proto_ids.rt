@@ -1,6 +1,6 @@
 // The table proto_ids: each row has a shorty, a return type and a list of parameters ("proto_id_item").
 ghost use Rattle.std.specs.Prelude.{◌≡◌, ◌≢◌, ◌↔◌, ◌<◌, IfOk, IfErr, IfSome, IfNone, IsOkUnless, IsTrue, map};
-ghost use Rattle.dex_base.specs.Fault.{memory};
+ghost use Rattle.dex_bytes.specs.Fault.{memory};
 ghost use Rattle.dex_container.specs.Frame.{IsFramed};
 ghost use Rattle.dex_container.specs.Layout.{size_of};
 ghost use Rattle.dex_program.specs.View.{str, desc, proto};
@@ -11,16 +11,14 @@ ghost use Rattle.dex_tables.specs.Sorted.{RowRises, ProtoHolds, ProtosHold, Prot
 ghost use Rattle.dex_tables.specs.Stands.{StringStands, TypeStands, ProtoStands};
 ghost use Rattle.dex_tables.specs.TableFaults.{ProtoBreaks, ParametersAt, BreaksAt, IsFirstRow};
 
-use dex_program::is_void;
 use crate::look_up::{string_at, type_at};
 use crate::row_fields::{proto_parameters, proto_return, proto_row, proto_shorty};
-use dex_container::{Section, section_of};
-use crate::type_list::{TYPE_LIST, cmp_indexes, indexes_or_none, types_at};
+use crate::type_list::{cmp_indexes, indexes_or_none, types_at};
 use bumpalo::Bump;
 use bumpalo::collections::into_bump_slice;
-use dex_base::Fault;
-use dex_container::Sections;
-use dex_program::{Desc, Proto, Str};
+use dex_base::{Fault, fault};
+use dex_container::{Section, Sections, kind, section_of};
+use dex_program::{Desc, Proto, Str, is_void};
 use std::cmp::Ordering;
 
 /// The protos of all rows, each above the row before by the indices of return type and parameters. A proto holds its
@@ -37,8 +35,8 @@ pub(crate) fn read_protos<'a>(
     ensures hold { IfOk result (λ _. ProtosHold sections.now) }
     ensures err { IfErr result (λ e. e ≢ memory → IsFirstRow ProtoBreaks ProtoHolds sections.now 2 e) }
 {
-    let (count, _) = sections.table(3);
-    let lists = section_of(sections, TYPE_LIST);
+    let (count, _) = sections.table(kind::PROTO_ID_ITEM);
+    let lists = section_of(sections, kind::TYPE_LIST);
     let mut protos: Vec<Proto<'a>, &'a Bump> = Vec::with_capacity(arena, count as usize)?;
     for i in 0..count {
         let proto = next_proto(arena, sections, lists, strings, types, i)?;
@@ -67,10 +65,7 @@ fn next_proto<'a>(
 {
     let proto = read_proto(arena, sections, lists, strings, types, i)?;
     if !rises(sections, lists, i) {
-        return Err(Fault {
-            code: 29,
-            place: proto_row(sections, i),
-        });
+        return Err(Fault::at(fault::PROTO_ORDER, proto_row(sections, i)));
     }
     Ok(proto)
 }
@@ -94,29 +89,17 @@ fn read_proto<'a>(
 {
     let row = proto_row(sections, i);
     let Some(text) = string_at(sections, strings, proto_shorty(sections, i)) else {
-        return Err(Fault {
-            code: 26,
-            place: row,
-        });
+        return Err(Fault::at(fault::PROTO_INDEX, row));
     };
     let Some(ret) = type_at(sections, types, proto_return(sections, i)) else {
-        return Err(Fault {
-            code: 26,
-            place: row,
-        });
+        return Err(Fault::at(fault::PROTO_INDEX, row));
     };
     let off = proto_parameters(sections, i);
     let Some(params) = read_parameters(arena, sections, lists, types, off)? else {
-        return Err(Fault {
-            code: 28,
-            place: row,
-        });
+        return Err(Fault::at(fault::PARAMETER_LIST, row));
     };
     if !is_shorty(text, ret, params) {
-        return Err(Fault {
-            code: 27,
-            place: row,
-        });
+        return Err(Fault::at(fault::SHORTY, row));
     }
     Ok(Proto { ret, params })
 }

@@ -1,17 +1,36 @@
-// The fields of a row of each table ("string_id_item" to "method_id_item"), and where the row stands.
-ghost use Rattle.std.specs.Prelude.{◌≡◌, ◌-◌, ◌<◌, ◌⊎◌};
+//! The fields of a row of each table ("string_id_item" to "method_id_item"), and where the row stands.
+ghost use Rattle.std.specs.Prelude.{◌≡◌, ◌+◌, ◌<◌};
 ghost use Rattle.dex_container.specs.Layout.{size_of};
-ghost use Rattle.dex_tables.specs.RowFields.{row_place, string_place, type_string, proto_shorty, proto_return, proto_parameters, member_class, member_kind, member_name};
+ghost use Rattle.dex_tables.specs.RowFields.{row_place, string_place, type_string, proto_shorty, proto_return, proto_parameters, member_class, member_kind, member_name, number_of};
 
 use dex_base::{u16_at, u32_at};
-use dex_container::Sections;
+use dex_container::{Sections, kind};
+
+/// The two tables whose rows have a class, a name, and a type or proto.
+#[derive(Clone, Copy)]
+pub(crate) enum MemberTable {
+    Fields,
+    Methods,
+}
+
+impl MemberTable {
+    // Its kind in the map.
+    fn kind(self) -> u16
+        ensures { result ≡ number_of self + 1 }
+    {
+        match self {
+            MemberTable::Fields => kind::FIELD_ID_ITEM,
+            MemberTable::Methods => kind::METHOD_ID_ITEM,
+        }
+    }
+}
 
 /// Where row i of string_ids stands, in bytes.
 pub(crate) fn string_row(sections: &Sections<'_>, i: u32) -> u64
     requires { i < size_of sections.now 0 }
     ensures { result ≡ row_place sections.now 0 i }
 {
-    u64::from(sections.table(1).1) + 4 * u64::from(i)
+    u64::from(sections.table(kind::STRING_ID_ITEM).1) + 4 * u64::from(i)
 }
 
 /// Its string_data_off.
@@ -29,7 +48,7 @@ pub(crate) fn type_row(sections: &Sections<'_>, i: u32) -> u64
     requires { i < size_of sections.now 1 }
     ensures { result ≡ row_place sections.now 1 i }
 {
-    u64::from(sections.table(2).1) + 4 * u64::from(i)
+    u64::from(sections.table(kind::TYPE_ID_ITEM).1) + 4 * u64::from(i)
 }
 
 /// Its descriptor_idx.
@@ -47,7 +66,7 @@ pub(crate) fn proto_row(sections: &Sections<'_>, i: u32) -> u64
     requires { i < size_of sections.now 2 }
     ensures { result ≡ row_place sections.now 2 i }
 {
-    u64::from(sections.table(3).1) + 12 * u64::from(i)
+    u64::from(sections.table(kind::PROTO_ID_ITEM).1) + 12 * u64::from(i)
 }
 
 /// Its shorty_idx.
@@ -80,21 +99,19 @@ pub(crate) fn proto_parameters(sections: &Sections<'_>, i: u32) -> u32
     u32_at(sections.bytes(), place as usize + 8)
 }
 
-/// Where row i of field_ids (table 4, as the map numbers it) or method_ids (table 5) stands, in bytes.
-pub(crate) fn member_row(sections: &Sections<'_>, table: u16, i: u32) -> u64
-    requires table { (table ≡ 4) ⊎ (table ≡ 5) }
-    requires row { i < size_of sections.now (table - 1) }
-    ensures { result ≡ row_place sections.now (table - 1) i }
+/// Where row i of field_ids or method_ids stands, in bytes.
+pub(crate) fn member_row(sections: &Sections<'_>, table: MemberTable, i: u32) -> u64
+    requires { i < size_of sections.now (number_of table) }
+    ensures { result ≡ row_place sections.now (number_of table) i }
 {
-    u64::from(sections.table(table).1) + 8 * u64::from(i)
+    u64::from(sections.table(table.kind()).1) + 8 * u64::from(i)
 }
 
 /// Its class_idx.
 #[tactic(auto, unfolding(crate::specs::RowFields::member_class))]
-pub(crate) fn member_class(sections: &Sections<'_>, table: u16, i: u32) -> u16
-    requires table { (table ≡ 4) ⊎ (table ≡ 5) }
-    requires row { i < size_of sections.now (table - 1) }
-    ensures { result ≡ member_class sections.now (table - 1) i }
+pub(crate) fn member_class(sections: &Sections<'_>, table: MemberTable, i: u32) -> u16
+    requires { i < size_of sections.now (number_of table) }
+    ensures { result ≡ member_class sections.now (number_of table) i }
 {
     let place = member_row(sections, table, i);
     u16_at(sections.bytes(), place as usize)
@@ -102,10 +119,9 @@ pub(crate) fn member_class(sections: &Sections<'_>, table: u16, i: u32) -> u16
 
 /// Its type_idx or proto_idx.
 #[tactic(auto, unfolding(crate::specs::RowFields::member_kind))]
-pub(crate) fn member_kind(sections: &Sections<'_>, table: u16, i: u32) -> u16
-    requires table { (table ≡ 4) ⊎ (table ≡ 5) }
-    requires row { i < size_of sections.now (table - 1) }
-    ensures { result ≡ member_kind sections.now (table - 1) i }
+pub(crate) fn member_kind(sections: &Sections<'_>, table: MemberTable, i: u32) -> u16
+    requires { i < size_of sections.now (number_of table) }
+    ensures { result ≡ member_kind sections.now (number_of table) i }
 {
     let place = member_row(sections, table, i);
     u16_at(sections.bytes(), place as usize + 2)
@@ -113,10 +129,9 @@ pub(crate) fn member_kind(sections: &Sections<'_>, table: u16, i: u32) -> u16
 
 /// Its name_idx.
 #[tactic(auto, unfolding(crate::specs::RowFields::member_name))]
-pub(crate) fn member_name(sections: &Sections<'_>, table: u16, i: u32) -> u32
-    requires table { (table ≡ 4) ⊎ (table ≡ 5) }
-    requires row { i < size_of sections.now (table - 1) }
-    ensures { result ≡ member_name sections.now (table - 1) i }
+pub(crate) fn member_name(sections: &Sections<'_>, table: MemberTable, i: u32) -> u32
+    requires { i < size_of sections.now (number_of table) }
+    ensures { result ≡ member_name sections.now (number_of table) i }
 {
     let place = member_row(sections, table, i);
     u32_at(sections.bytes(), place as usize + 4)

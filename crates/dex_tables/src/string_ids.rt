@@ -1,6 +1,6 @@
 // The table string_ids: each row is the offset of a string_data_item ("string_id_item", "string_data_item").
 ghost use Rattle.std.specs.Prelude.{◌≡◌, ◌≢◌, ◌↔◌, ◌<◌, IfOk, IfErr, IsTrue, map};
-ghost use Rattle.dex_base.specs.Fault.{memory};
+ghost use Rattle.dex_bytes.specs.Fault.{memory};
 ghost use Rattle.dex_container.specs.Layout.{size_of};
 ghost use Rattle.dex_container.specs.Frame.{IsFramed};
 ghost use Rattle.dex_program.specs.View.{str};
@@ -12,17 +12,13 @@ ghost use Rattle.dex_tables.specs.Stands.{StringStands};
 ghost use Rattle.dex_tables.specs.TableFaults.{StringBreaks, BreaksAt, IsFirstRow};
 
 use crate::row_fields::{string_place, string_row};
-use dex_container::{Section, bytes_from, section_of};
 use bumpalo::Bump;
 use bumpalo::collections::into_bump_slice;
-use dex_base::{Fault, cmp_units, read_mutf8};
-use dex_container::Sections;
+use dex_base::{Fault, cmp_units, fault, read_mutf8};
+use dex_container::{Section, Sections, bytes_from, kind, section_of};
 use dex_program::Str;
 use std::alloc::Global;
 use std::cmp::Ordering;
-
-/// The kind of the section of strings.
-const STRING_DATA: u16 = 0x2002;
 
 /// The strings of all rows, each above the row before by its units.
 pub(crate) fn read_strings<'a>(
@@ -35,8 +31,8 @@ pub(crate) fn read_strings<'a>(
     ensures hold { IfOk result (λ _. StringsHold sections.now) }
     ensures err { IfErr result (λ e. e ≢ memory → IsFirstRow StringBreaks StringHolds sections.now 0 e) }
 {
-    let (count, _) = sections.table(1);
-    let texts = section_of(sections, STRING_DATA);
+    let (count, _) = sections.table(kind::STRING_ID_ITEM);
+    let texts = section_of(sections, kind::STRING_DATA_ITEM);
     let mut strings: Vec<Str<'a>, &'a Bump> = Vec::with_capacity(arena, count as usize)?;
     for i in 0..count {
         let string = next_string(alloc, arena, sections, texts, &strings, i)?;
@@ -64,10 +60,7 @@ fn next_string<'a>(
 {
     let string = read_string(alloc, arena, sections, texts, i)?;
     if !is_above_last(strings, string) {
-        return Err(Fault {
-            code: 22,
-            place: string_row(sections, i),
-        });
+        return Err(Fault::at(fault::STRING_ORDER, string_row(sections, i)));
     }
     Ok(string)
 }
@@ -87,18 +80,12 @@ fn read_string<'a>(
 {
     let place = string_place(sections, i);
     let row = string_row(sections, i);
-    let Some(rest) = bytes_from(sections, STRING_DATA, texts, place) else {
-        return Err(Fault {
-            code: 20,
-            place: row,
-        });
+    let Some(rest) = bytes_from(sections, kind::STRING_DATA_ITEM, texts, place) else {
+        return Err(Fault::at(fault::STRING_PLACE, row));
     };
     match read_mutf8(alloc, arena, rest)? {
         Some((units, _)) => Ok(Str { units }),
-        None => Err(Fault {
-            code: 21,
-            place: row,
-        }),
+        None => Err(Fault::at(fault::STRING_SPELLING, row)),
     }
 }
 

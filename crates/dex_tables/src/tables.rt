@@ -2,7 +2,7 @@
 ghost use Rattle.std.specs.Prelude.{◌≡◌, ◌≢◌, IfOk, IfErr, IfSome, IfNone, IsOkUnless, map, option_map, slice_get};
 ghost use Rattle.dex_program.specs.View as view;
 ghost use Rattle.dex_program.specs.Content as content;
-ghost use Rattle.dex_base.specs.Fault.{memory};
+ghost use Rattle.dex_bytes.specs.Fault.{memory};
 ghost use Rattle.dex_tables.specs.Names.{AreNamesOf, NameIsAt, IsOfKind};
 ghost use Rattle.dex_tables.specs.Sorted.{TablesHold};
 ghost use Rattle.dex_tables.specs.Stands.{TypesAt};
@@ -10,26 +10,18 @@ ghost use Rattle.dex_tables.specs.TableFaults.{IsTableFault};
 
 use crate::field_ids::read_fields;
 use crate::method_ids::read_methods;
+use crate::names::mark_names;
 use crate::proto_ids::read_protos;
-use dex_container::section_of;
 use crate::string_ids::read_strings;
 use crate::type_ids::read_types;
-use crate::type_list::{TYPE_LIST, types_at};
+use crate::type_list::types_at;
 use bumpalo::Bump;
 use dex_base::Fault;
-use dex_container::Sections;
+use dex_container::{Sections, kind, section_of};
+use dex_insn::IndexKind;
 use dex_program::{Desc, FieldRef, MethodRef, Name, Proto, Str};
 use std::alloc::Global;
 use std::marker::Model;
-
-/// The kinds of names that an index in an instruction or a value can stand for, each with a table of its own.
-#[derive(Clone, Copy, Debug, PartialEq, Eq)]
-pub enum NameKind {
-    String,
-    Type,
-    Field,
-    Method,
-}
 
 /// The names of the rows of string_ids, type_ids, proto_ids, field_ids and method_ids. It stands for these names.
 ///
@@ -77,8 +69,9 @@ impl<'a> Tables<'a> {
         let strings = read_strings(alloc, arena, sections)?;
         let types = read_types(arena, sections, strings)?;
         let protos = read_protos(arena, sections, strings, types)?;
-        let fields = read_fields(arena, sections, strings, types)?;
-        let methods = read_methods(arena, sections, strings, types, protos)?;
+        let names = mark_names(alloc, strings)?;
+        let fields = read_fields(arena, sections, strings, &names, types)?;
+        let methods = read_methods(arena, sections, strings, &names, types, protos)?;
         Ok(Tables {
             strings,
             types,
@@ -103,7 +96,7 @@ impl<'a> Tables<'a> {
         ensures none { IfOk result (λ r. IfNone r ((ts : _) → ¬ TypesAt sections.now off ts)) }
         ensures memory { IsOkUnless result memory }
     {
-        let lists = section_of(sections, TYPE_LIST);
+        let lists = section_of(sections, kind::TYPE_LIST);
         types_at(arena, sections, lists, self.types, off)
     }
 
@@ -143,16 +136,16 @@ impl<'a> Tables<'a> {
     }
 
     /// The name of a kind that an index stands for. None past the last row of that kind's table.
-    pub fn name(&self, kind: NameKind, index: u32) -> Option<Name<'a>>
+    pub fn name(&self, kind: IndexKind, index: u32) -> Option<Name<'a>>
         ensures kind { IfSome result (λ n. IsOfKind kind (view.name n)) }
         ensures some { IfSome result (λ n. NameIsAt self.now index (view.name n)) }
         ensures none { IfNone result ((n : content.Name) → IsOfKind kind n → ¬ NameIsAt self.now index n) }
     {
         match kind {
-            NameKind::String => Some(Name::Text(self.string(index)?)),
-            NameKind::Type => Some(Name::Desc(self.type_(index)?)),
-            NameKind::Field => Some(Name::Field(self.field(index)?)),
-            NameKind::Method => Some(Name::Method(self.method(index)?)),
+            IndexKind::String => Some(Name::Text(self.string(index)?)),
+            IndexKind::Type => Some(Name::Desc(self.type_(index)?)),
+            IndexKind::Field => Some(Name::Field(self.field(index)?)),
+            IndexKind::Method => Some(Name::Method(self.method(index)?)),
         }
     }
 }

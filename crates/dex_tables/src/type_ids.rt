@@ -1,6 +1,6 @@
 // The table type_ids: each row is the index of a string, a descriptor ("type_id_item").
 ghost use Rattle.std.specs.Prelude.{◌≡◌, ◌≢◌, ◌↔◌, ◌<◌, IfOk, IfErr, IsTrue, map};
-ghost use Rattle.dex_base.specs.Fault.{memory};
+ghost use Rattle.dex_bytes.specs.Fault.{memory};
 ghost use Rattle.dex_container.specs.Layout.{size_of};
 ghost use Rattle.dex_program.specs.View.{str, desc};
 ghost use Rattle.dex_tables.specs.Names.{AreRows};
@@ -12,8 +12,8 @@ use crate::look_up::string_at;
 use crate::row_fields::{type_row, type_string};
 use bumpalo::Bump;
 use bumpalo::collections::into_bump_slice;
-use dex_base::{Fault, is_descriptor};
-use dex_container::Sections;
+use dex_base::{Fault, fault, is_descriptor};
+use dex_container::{Sections, kind};
 use dex_program::{Desc, Str};
 
 /// The types of all rows, each above the row before by its string's index. A type holds its string's slice.
@@ -27,7 +27,7 @@ pub(crate) fn read_types<'a>(
     ensures hold { IfOk result (λ _. TypesHold sections.now) }
     ensures err { IfErr result (λ e. e ≢ memory → IsFirstRow TypeBreaks TypeHolds sections.now 1 e) }
 {
-    let (count, _) = sections.table(2);
+    let (count, _) = sections.table(kind::TYPE_ID_ITEM);
     let mut types: Vec<Desc<'a>, &'a Bump> = Vec::with_capacity(arena, count as usize)?;
     for i in 0..count {
         let ty = next_type(sections, strings, i)?;
@@ -46,10 +46,7 @@ fn next_type<'a>(sections: &Sections<'_>, strings: &[Str<'a>], i: u32) -> Result
 {
     let ty = read_type(sections, strings, i)?;
     if !rises(sections, i) {
-        return Err(Fault {
-            code: 25,
-            place: type_row(sections, i),
-        });
+        return Err(Fault::at(fault::TYPE_ORDER, type_row(sections, i)));
     }
     Ok(ty)
 }
@@ -63,16 +60,10 @@ fn read_type<'a>(sections: &Sections<'_>, strings: &[Str<'a>], i: u32) -> Result
 {
     let row = type_row(sections, i);
     let Some(text) = string_at(sections, strings, type_string(sections, i)) else {
-        return Err(Fault {
-            code: 23,
-            place: row,
-        });
+        return Err(Fault::at(fault::TYPE_INDEX, row));
     };
     if !is_descriptor(text.units) {
-        return Err(Fault {
-            code: 24,
-            place: row,
-        });
+        return Err(Fault::at(fault::TYPE_TEXT, row));
     }
     Ok(Desc { text })
 }

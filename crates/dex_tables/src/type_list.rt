@@ -2,8 +2,8 @@
 ghost use Rattle.std.specs.Prelude.{◌≡◌, ◌*◌, ◌+◌, ◌<◌, ℕ, List, IfOk, IfSome, IfNone, IsOkUnless, length, map};
 ghost use Rattle.std.specs.Cmp.Lexicographic.{slice_cmp};
 ghost use Rattle.std.specs.Ordering.{nat_cmp};
-ghost use Rattle.dex_base.specs.Fault.{memory};
-ghost use Rattle.dex_base.specs.Grammar.{Begins, NoneBegins};
+ghost use Rattle.dex_bytes.specs.Fault.{memory};
+ghost use Rattle.dex_bytes.specs.Grammar.{Begins, NoneBegins};
 ghost use Rattle.dex_container.specs.Frame.{IsFramed};
 ghost use Rattle.dex_program.specs.View.{desc};
 ghost use Rattle.dex_tables.specs.Halves.{halves};
@@ -13,16 +13,12 @@ ghost use Rattle.dex_tables.specs.Stands.{TypeStands, TypesAt, SpellsIndexes};
 ghost use Rattle.dex_container.specs.Where.{At, AtOrNone};
 
 use crate::look_up::type_at;
-use dex_container::{Section, bytes_from};
 use bumpalo::Bump;
 use bumpalo::collections::into_bump_slice;
 use dex_base::{Fault, u16_at, u32_at};
-use dex_container::Sections;
+use dex_container::{Section, Sections, bytes_from, kind};
 use dex_program::Desc;
 use std::cmp::Ordering;
-
-/// The kind of the section of type lists.
-pub(crate) const TYPE_LIST: u16 = 0x1001;
 
 // The indices of the type_list at the front of these bytes, two bytes each.
 fn spelled_indexes(bytes: &[u8]) -> Option<&[u8]>
@@ -47,7 +43,7 @@ fn indexes_at<'b>(sections: &Sections<'b>, lists: Section, off: u32) -> Option<&
     ensures even { IfSome result (λ bytes. length bytes.now ≡ 2 * length (halves bytes.now)) }
     ensures none { IfNone result ((indexes : List ℕ) → ¬ At SpellsIndexes sections.now 0x1001 4 off indexes) }
 {
-    let Some(rest) = bytes_from(sections, TYPE_LIST, lists, off) else {
+    let Some(rest) = bytes_from(sections, kind::TYPE_LIST, lists, off) else {
         return None;
     };
     if off % 4 != 0 {

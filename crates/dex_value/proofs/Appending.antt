@@ -2,9 +2,9 @@
 use Rattle.std.proofs.Common.{◌≡◌, ℕ, ◌+◌, ◌^◌, ◌<◌, ◌≤◌, List, [], ◌∷◌, ◌++◌, length, take, drop, get_or, map, refl, sym, ap, subst, ◌∙◌, append_assoc, arith, add-one, Result, Ok, Err, OnErr}
 use Rattle.std.proofs.Math.Seq.{drop-cons}
 use Rattle.std.proofs.lemmas.List.{length-append, length-map, map-append, take_more, take_all}
-use Rattle.dex_base.specs.Grammar.{Appends, Each}
-use Rattle.dex_base.specs.Leb128.{Spells, Shortest}
-use Rattle.dex_base.proofs.GrammarLaws.{Each-appends_none, Each-appends_more}
+use Rattle.dex_bytes.specs.Grammar.{Appends, Each}
+use Rattle.dex_bytes.specs.Leb128.{Spells, Shortest}
+use Rattle.dex_bytes.proofs.GrammarLaws.{Each-appends_none, Each-appends_more}
 use Rattle.dex_program.specs.Content.{Name, OfText, OfDesc, OfField, OfMethod, FieldRef, Value, Float, Enum, Array, Values, more_values, values}
 use Rattle.dex_program.specs.declared.value.Value as made
 use Rattle.dex_program.specs.View.{value}

@@ -2,10 +2,10 @@
 use Rattle.std.proofs.Common.{◌≡◌, ℕ, zero, suc, inl, ◌+◌, ◌*◌, ◌-◌, ◌/◌, ◌%◌, ◌<◌, ◌≤◌, List, [], ◌∷◌, ◌++◌, length, slice_index, lit<, map, take, drop, refl, sym, ap, subst, ◌∙◌, arith, append_assoc}
 use Rattle.std.proofs.lemmas.List.{take-append-drop, length-take-le, length-map, map-append}
 use Rattle.std.specs.List.{AllByRecursion}
-use Rattle.dex_base.specs.Grammar.{Begins, Takes, Each, Many}
-use Rattle.dex_base.specs.Leb128.{Spells}
-use Rattle.dex_base.specs.declared.fault.Fault.{Fault}
-use Rattle.dex_base.proofs.TakesLaws.{Takes-from_begins, Takes-each_push, Takes-counted}
+use Rattle.dex_bytes.specs.Grammar.{Begins, Takes, Each, Many}
+use Rattle.dex_bytes.specs.Leb128.{Spells}
+use Rattle.dex_bytes.specs.declared.fault.Fault.{Fault}
+use Rattle.dex_bytes.proofs.TakesLaws.{Takes-from_begins, Takes-each_push, Takes-counted}
 use Rattle.dex_program.specs.Content.{Name, Value, Array, values}
 use Rattle.dex_program.specs.declared.value.Value as made
 use Rattle.dex_program.specs.View.{value}

@@ -1,8 +1,8 @@
 -- What the private functions of reading say.
 use Rattle.std.specs.Prelude.{◌≡◌, ℕ, List}
 use Rattle.dex_program.specs.Content.{Name, OfField, Value, Byte, Short, Char, Int, Long, Float, Double, Named, Enum}
-use Rattle.dex_tables.specs.declared.tables.NameKind.{NameKind}
-use Rattle.dex_tables.specs.declared.tables.NameKind.TheVariants as kind
+use Rattle.dex_insn.specs.declared.opcode.IndexKind.{IndexKind}
+use Rattle.dex_insn.specs.declared.opcode.IndexKind.TheVariants as kind
 use Rattle.dex_value.specs.Spelling.{unsigned_of, signed_of, high_of, type_of}
 use Rattle.dex_value.specs.declared.types.NumberType.{NumberType}
 use Rattle.dex_value.specs.declared.types.NumberType.TheVariants as number
@@ -13,24 +13,24 @@ use Rattle.dex_value.specs.declared.types.SizedType.TheVariants as sized
 
 -- The type in the head of a number.
 abbrev pub number_code : NumberType → ℕ
-number_code number.Byte = 0
-number_code number.Short = 2
-number_code number.Char = 3
-number_code number.Int = 4
-number_code number.Long = 6
-number_code number.Float = 16
-number_code number.Double = 17
+number_code number.Byte = 0x00
+number_code number.Short = 0x02
+number_code number.Char = 0x03
+number_code number.Int = 0x04
+number_code number.Long = 0x06
+number_code number.Float = 0x10
+number_code number.Double = 0x11
 
 -- The type in the head of a name.
 abbrev pub name_code : NameType → ℕ
-name_code named.String = 23
-name_code named.Type = 24
-name_code named.Field = 25
-name_code named.Method = 26
-name_code named.Enum = 27
+name_code named.String = 0x17
+name_code named.Type = 0x18
+name_code named.Field = 0x19
+name_code named.Method = 0x1a
+name_code named.Enum = 0x1b
 
 -- The table of the names of a type.
-abbrev pub kind_of : NameType → NameKind
+abbrev pub kind_of : NameType → IndexKind
 kind_of named.String = kind.String
 kind_of named.Type = kind.Type
 kind_of named.Field = kind.Field
@@ -44,23 +44,23 @@ sized_code (sized.Name ty) = name_code ty
 
 -- Behind a head of this type these bytes are the value's number.
 abbrev pub IsNumber : ℕ → List ℕ → Value → Type 0
-IsNumber type low (Byte n) = (type ≡ 0) × (n ≡ signed_of low)
-IsNumber type low (Short n) = (type ≡ 2) × (n ≡ signed_of low)
-IsNumber type low (Char unit) = (type ≡ 3) × (unit ≡ unsigned_of low)
-IsNumber type low (Int n) = (type ≡ 4) × (n ≡ signed_of low)
-IsNumber type low (Long n) = (type ≡ 6) × (n ≡ signed_of low)
-IsNumber type low (Float bits) = (type ≡ 16) × (bits ≡ high_of 4 low)
-IsNumber type low (Double bits) = (type ≡ 17) × (bits ≡ high_of 8 low)
+IsNumber type low (Byte n) = (type ≡ 0x00) × (n ≡ signed_of low)
+IsNumber type low (Short n) = (type ≡ 0x02) × (n ≡ signed_of low)
+IsNumber type low (Char unit) = (type ≡ 0x03) × (unit ≡ unsigned_of low)
+IsNumber type low (Int n) = (type ≡ 0x04) × (n ≡ signed_of low)
+IsNumber type low (Long n) = (type ≡ 0x06) × (n ≡ signed_of low)
+IsNumber type low (Float bits) = (type ≡ 0x10) × (bits ≡ high_of 4 low)
+IsNumber type low (Double bits) = (type ≡ 0x11) × (bits ≡ high_of 8 low)
 IsNumber type low _ = ⊥
 
 -- The value is this name, in a value of this type.
 abbrev pub IsNamed : ℕ → Name → Value → Type 0
 IsNamed type which (Named other) = (type ≡ type_of which) × (other ≡ which)
-IsNamed type which (Enum constant) = (type ≡ 27) × (which ≡ OfField constant)
+IsNamed type which (Enum constant) = (type ≡ 0x1b) × (which ≡ OfField constant)
 IsNamed type which _ = ⊥
 
 -- Behind a head of this type these bytes stand for the value.
 abbrev pub ValueStands : (ℕ → Name → Type 0) → ℕ → List ℕ → Value → Type 0
 ValueStands N type low (Named which) = (type ≡ type_of which) × N (unsigned_of low) which
-ValueStands N type low (Enum constant) = (type ≡ 27) × N (unsigned_of low) (OfField constant)
+ValueStands N type low (Enum constant) = (type ≡ 0x1b) × N (unsigned_of low) (OfField constant)
 ValueStands N type low v = IsNumber type low v

@@ -2,8 +2,8 @@
 -- Page: "Dalvik Executable format", "encoded_value encoding", "Value formats" and "encoded_array format".
 use Rattle.std.specs.Prelude.{◌≡◌, ℕ, suc, ℤ, ◌+◌, ◌*◌, ◌-◌, ◌^◌, ◌<◌, ◌≤◌, List, [], ◌∷◌, ◌++◌, length, slice_index, true, false}
 use Rattle.byteorder.specs.Endian.{little_number, twos_complement}
-use Rattle.dex_base.specs.Grammar.{Counted}
-use Rattle.dex_base.specs.Leb128.{Spells}
+use Rattle.dex_bytes.specs.Grammar.{Counted}
+use Rattle.dex_bytes.specs.Leb128.{Spells}
 use Rattle.dex_program.specs.Content.{Name, OfText, OfDesc, OfField, OfMethod, Value, Byte, Short, Char, Int, Long, Float, Double, Named, Enum, Array, Null, Boolean, Values, no_values, more_values}
 
 -- ---- the bytes behind the head
@@ -34,10 +34,10 @@ pub record Sized (type widest : ℕ) (Means : List ℕ → Type 0) (all : List �
 
 -- The type of a value that is a name: VALUE_STRING, VALUE_TYPE, VALUE_FIELD, VALUE_METHOD.
 abbrev pub type_of : Name → ℕ
-type_of (OfText units) = 23
-type_of (OfDesc type) = 24
-type_of (OfField field) = 25
-type_of (OfMethod method) = 26
+type_of (OfText units) = 0x17
+type_of (OfDesc type) = 0x18
+type_of (OfField field) = 0x19
+type_of (OfMethod method) = 0x1a
 
 -- How many values.
 abbrev pub count_of : Values → ℕ
@@ -55,19 +55,19 @@ pub record Behind (n : ℕ) (Means : List ℕ → Type 0) (bytes : List ℕ) : T
 -- The bytes of one value, and those of values one behind the other, where `N` says which index stands for which name.
 abbrev mutual
   pub SpellsValue : (ℕ → Name → Type 0) → List ℕ → Value → Type 0
-  SpellsValue N bytes (Byte n) = Sized 0 1 (λ low. n ≡ signed_of low) bytes
-  SpellsValue N bytes (Short n) = Sized 2 2 (λ low. n ≡ signed_of low) bytes
-  SpellsValue N bytes (Char unit) = Sized 3 2 (λ low. unit ≡ unsigned_of low) bytes
-  SpellsValue N bytes (Int n) = Sized 4 4 (λ low. n ≡ signed_of low) bytes
-  SpellsValue N bytes (Long n) = Sized 6 8 (λ low. n ≡ signed_of low) bytes
-  SpellsValue N bytes (Float bits) = Sized 16 4 (λ high. bits ≡ high_of 4 high) bytes
-  SpellsValue N bytes (Double bits) = Sized 17 8 (λ high. bits ≡ high_of 8 high) bytes
+  SpellsValue N bytes (Byte n) = Sized 0x00 1 (λ low. n ≡ signed_of low) bytes
+  SpellsValue N bytes (Short n) = Sized 0x02 2 (λ low. n ≡ signed_of low) bytes
+  SpellsValue N bytes (Char unit) = Sized 0x03 2 (λ low. unit ≡ unsigned_of low) bytes
+  SpellsValue N bytes (Int n) = Sized 0x04 4 (λ low. n ≡ signed_of low) bytes
+  SpellsValue N bytes (Long n) = Sized 0x06 8 (λ low. n ≡ signed_of low) bytes
+  SpellsValue N bytes (Float bits) = Sized 0x10 4 (λ high. bits ≡ high_of 4 high) bytes
+  SpellsValue N bytes (Double bits) = Sized 0x11 8 (λ high. bits ≡ high_of 8 high) bytes
   SpellsValue N bytes (Named which) = Sized (type_of which) 4 (λ low. N (unsigned_of low) which) bytes
-  SpellsValue N bytes (Enum constant) = Sized 27 4 (λ low. N (unsigned_of low) (OfField constant)) bytes
-  SpellsValue N bytes (Array vs) = (text : List ℕ) × (bytes ≡ 28 ∷ text) × Behind (count_of vs) (λ back. SpellsValues N back vs) text
-  SpellsValue N bytes Null = bytes ≡ 30 ∷ []
-  SpellsValue N bytes (Boolean false) = bytes ≡ 31 ∷ []
-  SpellsValue N bytes (Boolean true) = bytes ≡ 63 ∷ []
+  SpellsValue N bytes (Enum constant) = Sized 0x1b 4 (λ low. N (unsigned_of low) (OfField constant)) bytes
+  SpellsValue N bytes (Array vs) = (text : List ℕ) × (bytes ≡ 0x1c ∷ text) × Behind (count_of vs) (λ back. SpellsValues N back vs) text
+  SpellsValue N bytes Null = bytes ≡ 0x1e ∷ []
+  SpellsValue N bytes (Boolean false) = bytes ≡ 0x1f ∷ []
+  SpellsValue N bytes (Boolean true) = bytes ≡ 0x3f ∷ []
 
   pub SpellsValues : (ℕ → Name → Type 0) → List ℕ → Values → Type 0
   SpellsValues N bytes no_values = bytes ≡ []

@@ -1,7 +1,7 @@
 //! Laws over the definitions, for the proofs of crates above. Those that take any naming stand in `proofs/`: `SpellsArray-weaker`
 //! carries a spelling over to a naming that the first implies.
 ghost use Rattle.std.specs.Prelude.{ℕ, List, length, ◌<◌, ◌≤◌};
-ghost use Rattle.dex_base.specs.Grammar.{IsPrefixUnique};
+ghost use Rattle.dex_bytes.specs.Grammar.{IsPrefixUnique};
 ghost use Rattle.dex_program.specs.Content.{Name, Value, values};
 ghost use Rattle.dex_tables.specs.Names.{Names, NameIsAt};
 ghost use Rattle.dex_names.specs.Closure.{Five, NameRanks};

@@ -1,7 +1,7 @@
 // Values in the order of their bytes.
 ghost use Rattle.std.specs.Prelude.{◌≡◌, ◌≢◌, ℕ, ◌≤◌, ◌-◌, ◌∷◌, List, length, map, IfOk, IfErr};
-ghost use Rattle.dex_base.specs.Fault.{memory};
-ghost use Rattle.dex_base.specs.Grammar.{Takes, Many};
+ghost use Rattle.dex_bytes.specs.Fault.{memory};
+ghost use Rattle.dex_bytes.specs.Grammar.{Takes, Many};
 ghost use Rattle.dex_program.specs.Content as content;
 ghost use Rattle.dex_program.specs.View.{value};
 ghost use Rattle.dex_tables.specs.Names.{NameIsAt};
@@ -15,15 +15,11 @@ use crate::names::named;
 use crate::numbers::number;
 use crate::types::{SizedType, sized_type, widest};
 use bumpalo::Bump;
-use dex_base::{Fault, read_uleb};
-use dex_container::Sections;
+use dex_base::{Fault, fault, read_uleb};
+use dex_container::{Sections, bytes_from, kind, section_of};
 use dex_program::Value;
-use dex_container::{bytes_from, section_of};
-use dex_tables::{Tables};
+use dex_tables::Tables;
 use std::alloc::Global;
-
-/// The kind of the section of encoded arrays (TYPE_ENCODED_ARRAY_ITEM).
-const ENCODED_ARRAYS: u16 = 0x2005;
 
 /// How deep an array value may lie.
 const DEPTH: u32 = 64;
@@ -43,30 +39,21 @@ impl Span {
     fn cut(self) -> Fault
         ensures { result ≡ values_fault self.off }
     {
-        Fault {
-            code: 48,
-            place: u64::from(self.off),
-        }
+        Fault::at(fault::VALUES, u64::from(self.off))
     }
 
     /// The value at the front of the bytes has a wrong type, argument or index.
     fn wrong_kind(self, bytes: &[u8]) -> Fault
         ensures { result ≡ kind_fault self.end bytes.now }
     {
-        Fault {
-            code: 50,
-            place: self.place_of(bytes),
-        }
+        Fault::at(fault::VALUE_KIND, self.place_of(bytes))
     }
 
     /// The value at the front of the bytes is an array that lies too deep.
     fn too_deep(self, bytes: &[u8]) -> Fault
         ensures { result ≡ depth_fault self.end bytes.now }
     {
-        Fault {
-            code: 51,
-            place: self.place_of(bytes),
-        }
+        Fault::at(fault::VALUE_DEPTH, self.place_of(bytes))
     }
 
     /// Where these bytes begin, which go to the section's end.
@@ -194,10 +181,7 @@ fn read_rest<'a>(
         return Err(span.cut());
     };
     if count as usize > most {
-        return Err(Fault {
-            code: 49,
-            place: u64::from(span.off),
-        });
+        return Err(Fault::at(fault::TOO_MANY_VALUES, u64::from(span.off)));
     }
     let (_, left) = bytes.split_at(length);
     let (values, _) = read_values(alloc, arena, tables, span, DEPTH, count, left)?;
@@ -227,12 +211,9 @@ pub fn read_array<'a>(
     ensures refused { IfErr result (λ e. e ≢ memory →
         (vs : List content.Value) → ¬ ArrayStands (NameIsAt tables.now) sections.now off most vs) }
 {
-    let section = section_of(sections, ENCODED_ARRAYS);
-    let Some(bytes) = bytes_from(sections, ENCODED_ARRAYS, section, off) else {
-        return Err(Fault {
-            code: 48,
-            place: u64::from(off),
-        });
+    let section = section_of(sections, kind::ENCODED_ARRAY_ITEM);
+    let Some(bytes) = bytes_from(sections, kind::ENCODED_ARRAY_ITEM, section, off) else {
+        return Err(Fault::at(fault::VALUES, u64::from(off)));
     };
     let span = Span {
         off,

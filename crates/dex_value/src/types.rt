@@ -3,7 +3,7 @@ ghost use Rattle.std.specs.Prelude.{◌≡◌, IfSome, IfNone};
 ghost use Rattle.dex_value.specs.Faults.{widest_of};
 ghost use Rattle.dex_value.specs.Reading.{sized_code, kind_of};
 
-use dex_tables::NameKind;
+use dex_insn::IndexKind;
 
 /// The types whose bytes are a number.
 #[derive(Clone, Copy)]
@@ -70,13 +70,13 @@ pub fn widest(ty: SizedType) -> usize
 }
 
 /// The table of the names of this type. An enum constant is a field.
-pub fn name_kind(ty: NameType) -> NameKind
+pub fn name_kind(ty: NameType) -> IndexKind
     ensures { result ≡ kind_of ty }
 {
     match ty {
-        NameType::String => NameKind::String,
-        NameType::Type => NameKind::Type,
-        NameType::Field | NameType::Enum => NameKind::Field,
-        NameType::Method => NameKind::Method,
+        NameType::String => IndexKind::String,
+        NameType::Type => IndexKind::Type,
+        NameType::Field | NameType::Enum => IndexKind::Field,
+        NameType::Method => IndexKind::Method,
     }
 }

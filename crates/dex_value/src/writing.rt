@@ -1,8 +1,8 @@
 // Values as bytes, in the fewest.
 ghost use Rattle.std.specs.Prelude.{◌≡◌, ℕ, ◌+◌, ◌*◌, ◌-◌, ◌^◌, ◌<◌, ◌≤◌, ◌∷◌, ◌++◌, List, length, map, OnOk, OnErr, IsOkUnless};
-ghost use Rattle.dex_base.specs.Fault.{memory};
-ghost use Rattle.dex_base.specs.Grammar.{Appends, Each};
-ghost use Rattle.dex_base.specs.Leb128.{Shortest};
+ghost use Rattle.dex_bytes.specs.Fault.{memory};
+ghost use Rattle.dex_bytes.specs.Grammar.{Appends, Each};
+ghost use Rattle.dex_bytes.specs.Leb128.{Shortest};
 ghost use Rattle.dex_program.specs.View as view;
 ghost use Rattle.dex_program.specs.View.{value};
 ghost use Rattle.dex_program.specs.Content as content;
@@ -17,8 +17,8 @@ ghost use Rattle.dex_value.specs.Writing.{SignedAs, UnsignedAs, HighAs, IndexAs,
 use crate::widths::{high_width, signed_width, unsigned_width};
 use byteorder::{ByteOrder, LittleEndian};
 use dex_base::{Fault, put_uleb};
-use dex_program::{Name, Value};
 use dex_names::Ranks;
+use dex_program::{Name, Value};
 
 /// Appends a head of this type and the bytes behind it.
 fn put_sized(out: &mut Vec<u8>, code: u8, low: &[u8]) -> Result<(), Fault>

@@ -1,6 +1,6 @@
 -- What a job answers to the bytes that it is given, and when it refuses them.
 use Rattle.std.specs.Prelude.{◌≡◌, ℕ, List, codes}
-use Rattle.dex_base.specs.declared.fault.Fault.{Fault}
+use Rattle.dex_bytes.specs.declared.fault.Fault.{Fault}
 use Rattle.dex_program.specs.Content.{Program}
 use Rattle.dex_file.specs.Means.{Means}
 use Rattle.dex_file.specs.Refused.{IsRefused}

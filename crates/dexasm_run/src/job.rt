@@ -1,6 +1,6 @@
 // The jobs, and the answer to each.
 ghost use Rattle.std.specs.Prelude.{◌≡◌, ◌≢◌, IfOk, IfErr};
-ghost use Rattle.dex_base.specs.Fault.{memory};
+ghost use Rattle.dex_bytes.specs.Fault.{memory};
 ghost use Rattle.dexasm_run.specs.Answers.{Answer, Refusal};
 
 use bumpalo::Bump;

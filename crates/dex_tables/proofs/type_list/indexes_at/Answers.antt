@@ -1,4 +1,4 @@
-use Rattle.dex_base.specs.Grammar.{NoneBegins}
+use Rattle.dex_bytes.specs.Grammar.{NoneBegins}
 use Rattle.dex_tables.specs.Stands.{SpellsIndexes}
 use Rattle.dex_container.proofs.Standing.{stands_at, stands_not}
 use Rattle.dex_tables.proofs.RowReading.{some_weaker, none_weaker}

@@ -1,5 +1,5 @@
 use Rattle.std.proofs.Common.{◌≡◌, ◌+◌, ◌*◌, length, map}
-use Rattle.dex_base.specs.Grammar.{Takes, Each}
+use Rattle.dex_bytes.specs.Grammar.{Takes, Each}
 use Rattle.dex_program.specs.View.{value}
 use Rattle.dex_tables.specs.Names.{NameIsAt}
 use Rattle.dex_value.specs.Standing.{Shallow}

@@ -1,6 +1,6 @@
-use Rattle.std.proofs.Common.{ap, inl, inr, drop, map}
-use Rattle.dex_base.specs.Leb128.{Spells}
-use Rattle.dex_base.proofs.TakesLaws.{Takes-from_begins}
+use Rattle.std.proofs.Common.{ap, ◌∙◌, inl, inr, drop, map}
+use Rattle.dex_bytes.specs.Leb128.{Spells}
+use Rattle.dex_bytes.proofs.TakesLaws.{Takes-from_begins}
 use Rattle.dex_program.specs.View.{value}
 use Rattle.dex_tables.specs.Names.{NameIsAt}
 use Rattle.dex_value.proofs.Taking.{takes_static, takes_deep}
@@ -10,7 +10,7 @@ pub returns-then-count-most-clause-err : goal.returns-then-count-most-clause-err
 returns-then-count-most-clause-err c = λ other.
     inr (inl (
       record { n = c.in-Some.count; behind = drop c.in-Some.length c.args.bytes.now; counted = Takes-from_begins Spells c.args.bytes.now c.in-Some.count c.in-Some.length c.in-Some.ensures.found; above = c.if-count-most.true },
-      ap (λ p. record { code = 49; place = p }) c.from.ensures,
+      c.at.ensures ∙ ap (λ p. record { code = 49; place = p }) c.from.ensures,
     ))
 
 pub returns-clause-ok : goal.returns-clause-ok

@@ -1,7 +1,7 @@
 use Rattle.std.proofs.Common.{ℕ, subst}
 use Rattle.std.proofs.lemmas.Result.{on_ok_weaker}
-use Rattle.dex_base.specs.Grammar.{Appends}
-use Rattle.dex_base.specs.Leb128.{Shortest}
+use Rattle.dex_bytes.specs.Grammar.{Appends}
+use Rattle.dex_bytes.specs.Leb128.{Shortest}
 use Rattle.dex_program.specs.View.{field_ref}
 use Rattle.dex_program.proofs.ValueViews.{value_float, value_enum}
 use Rattle.dex_names.specs.Closure.{NameRanks}

@@ -1,7 +1,8 @@
+use Rattle.dex_program.specs.Key.{text_key}
 use Rattle.std.proofs.Common.{◌≡◌, ◌∙◌, refl}
 use Rattle.dex_names.specs.Keys.{key_of_proto, key_of_method}
 use Rattle.dex_program.specs.View.{desc, str}
-use Rattle.dex_names.specs.Closure.{join, alone, type_closure, string_closure, proto_closure, method_closure}
+use Rattle.dex_names.specs.Closure.{join, type_closure, string_closure, proto_closure, method_closure}
 use Rattle.dex_names.proofs.FiveLemmas.{five_of, refused, wider, more_added, part_added, class_in_method, name_in_method, proto_in_method, front_in_method, parts_in_method, method_front, method_parts, method_there, closed-methods, IsPart-right}
 use Rattle.dex_names.specs.Closure.{with_name, with_proto}
 use Rattle.dex_names.proofs.needed.Needed.add_method.Goals as goal
@@ -12,7 +13,7 @@ returns-in_err-add_type-clause-partly c =
     let class = desc c.args.name.now.class in
     let name = str c.args.name.now.name in
     let proto = key_of_proto c.args.name.now.proto.now in
-    refused c.from_residual.result (wider c.args.self.now (type_closure (alone class)) (method_closure (key_of_method c.args.name.now)) c.add_type.new.self (class_in_method class name proto) c.in_err-add_type.ensures.partly)
+    refused c.from_residual.result (wider c.args.self.now (type_closure (text_key class)) (method_closure (key_of_method c.args.name.now)) c.add_type.new.self (class_in_method class name proto) c.in_err-add_type.ensures.partly)
 
 pub returns-in_err-add_string-clause-partly : goal.returns-in_err-add_string-clause-partly
 unfolding with_name with_proto
@@ -21,7 +22,7 @@ returns-in_err-add_string-clause-partly c =
     let name = str c.args.name.now.name in
     let proto = key_of_proto c.args.name.now.proto.now in
     refused c.from_residual-in_err-add_string.result
-    (more_added c.args.self.now (type_closure (alone class)) (string_closure (alone name)) (method_closure (key_of_method c.args.name.now)) c.add_string.new.self (class_in_method class name proto) (name_in_method class name proto) (rw c.in_ok-add_type.ensures.added at c.in_err-add_string.ensures.partly))
+    (more_added c.args.self.now (type_closure (text_key class)) (string_closure (text_key name)) (method_closure (key_of_method c.args.name.now)) c.add_string.new.self (class_in_method class name proto) (name_in_method class name proto) (rw c.in_ok-add_type.ensures.added at c.in_err-add_string.ensures.partly))
 
 pub returns-in_err-add_proto-clause-partly : goal.returns-in_err-add_proto-clause-partly
 unfolding with_name with_proto

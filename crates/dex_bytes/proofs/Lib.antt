@@ -1,0 +1,14 @@
+pub mod AdlerSums
+pub mod FieldBounds
+pub mod GrammarLaws
+pub mod LengthLaws
+pub mod Numbers
+pub mod OptionLaws
+pub mod PlacedLaws
+pub mod Sequences
+pub mod ShortestLaws
+pub mod Signed
+pub mod TakesLaws
+pub mod WeakerLaws
+pub mod WordsBytes
+pub mod Deciding

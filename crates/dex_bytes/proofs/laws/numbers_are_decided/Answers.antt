@@ -1,0 +1,5 @@
+use Rattle.dex_bytes.proofs.Deciding.{decide_uleb}
+use Rattle.dex_bytes.proofs.laws.numbers_are_decided.Goals as goal
+
+pub returns : goal.returns
+returns c = decide_uleb

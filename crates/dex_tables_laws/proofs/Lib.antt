@@ -1,0 +1,4 @@
+pub mod FileLemmas
+pub mod RowsDecided
+pub mod NoFault
+pub mod RowsBreak
