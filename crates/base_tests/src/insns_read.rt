@@ -1,7 +1,7 @@
 //! An instruction of each format, and each payload, from its units and back, by the layouts of the pages "Dalvik Executable
 //! instruction formats" and "Dalvik bytecode".
 
-ghost use Rattle.dex_base.specs.Fields.{AreBytes};
+ghost use Rattle.dex_bytes.specs.Fields.{AreBytes};
 
 use dex_base::Fault;
 use dex_insn::{RawInsn, put_insn, read_insn, size_of, what_stands_can_be_written};

@@ -6,92 +6,92 @@ use std::test::Fail;
 
 /// Runs of opcodes: the first, the format and index kind of all, and their mnemonics. Opcodes in no run are unused.
 #[rattlefmt::skip]
-static RUNS: [(u8, Format, IndexKind, &[&str]); 56] = [
-    (0x00, Format::F10x, IndexKind::NoIndex, &["nop"]),
-    (0x01, Format::F12x, IndexKind::NoIndex, &["move"]),
-    (0x04, Format::F12x, IndexKind::NoIndex, &["move-wide"]),
-    (0x07, Format::F12x, IndexKind::NoIndex, &["move-object"]),
-    (0x02, Format::F22x, IndexKind::NoIndex, &["move/from16"]),
-    (0x05, Format::F22x, IndexKind::NoIndex, &["move-wide/from16"]),
-    (0x08, Format::F22x, IndexKind::NoIndex, &["move-object/from16"]),
-    (0x03, Format::F32x, IndexKind::NoIndex, &["move/16"]),
-    (0x06, Format::F32x, IndexKind::NoIndex, &["move-wide/16"]),
-    (0x09, Format::F32x, IndexKind::NoIndex, &["move-object/16"]),
-    (0x0a, Format::F11x, IndexKind::NoIndex, &["move-result", "move-result-wide", "move-result-object", "move-exception"]),
-    (0x0e, Format::F10x, IndexKind::NoIndex, &["return-void"]),
-    (0x0f, Format::F11x, IndexKind::NoIndex, &["return", "return-wide", "return-object"]),
-    (0x12, Format::F11n, IndexKind::NoIndex, &["const/4"]),
-    (0x13, Format::F21s, IndexKind::NoIndex, &["const/16"]),
-    (0x16, Format::F21s, IndexKind::NoIndex, &["const-wide/16"]),
-    (0x14, Format::F31i, IndexKind::NoIndex, &["const"]),
-    (0x17, Format::F31i, IndexKind::NoIndex, &["const-wide/32"]),
-    (0x15, Format::F21h, IndexKind::NoIndex, &["const/high16"]),
-    (0x19, Format::F21h, IndexKind::NoIndex, &["const-wide/high16"]),
-    (0x18, Format::F51l, IndexKind::NoIndex, &["const-wide"]),
-    (0x1a, Format::F21c, IndexKind::Text, &["const-string"]),
-    (0x1b, Format::F31c, IndexKind::Text, &["const-string/jumbo"]),
-    (0x1c, Format::F21c, IndexKind::Type, &["const-class"]),
-    (0x1f, Format::F21c, IndexKind::Type, &["check-cast"]),
-    (0x22, Format::F21c, IndexKind::Type, &["new-instance"]),
-    (0x1d, Format::F11x, IndexKind::NoIndex, &["monitor-enter", "monitor-exit"]),
-    (0x27, Format::F11x, IndexKind::NoIndex, &["throw"]),
-    (0x20, Format::F22c, IndexKind::Type, &["instance-of"]),
-    (0x23, Format::F22c, IndexKind::Type, &["new-array"]),
-    (0x21, Format::F12x, IndexKind::NoIndex, &["array-length"]),
-    (0x24, Format::F35c, IndexKind::Type, &["filled-new-array"]),
-    (0x25, Format::F3rc, IndexKind::Type, &["filled-new-array/range"]),
-    (0x26, Format::F31t, IndexKind::NoIndex, &["fill-array-data"]),
-    (0x2b, Format::F31t, IndexKind::NoIndex, &["packed-switch", "sparse-switch"]),
-    (0x28, Format::F10t, IndexKind::NoIndex, &["goto"]),
-    (0x29, Format::F20t, IndexKind::NoIndex, &["goto/16"]),
-    (0x2a, Format::F30t, IndexKind::NoIndex, &["goto/32"]),
-    (0x2d, Format::F23x, IndexKind::NoIndex, &["cmpl-float", "cmpg-float", "cmpl-double", "cmpg-double", "cmp-long"]),
-    (0x32, Format::F22t, IndexKind::NoIndex, &["if-eq", "if-ne", "if-lt", "if-ge", "if-gt", "if-le"]),
-    (0x38, Format::F21t, IndexKind::NoIndex, &["if-eqz", "if-nez", "if-ltz", "if-gez", "if-gtz", "if-lez"]),
-    (0x44, Format::F23x, IndexKind::NoIndex, &[
+static RUNS: [(u8, Format, Option<IndexKind>, &[&str]); 56] = [
+    (0x00, Format::F10x, None, &["nop"]),
+    (0x01, Format::F12x, None, &["move"]),
+    (0x04, Format::F12x, None, &["move-wide"]),
+    (0x07, Format::F12x, None, &["move-object"]),
+    (0x02, Format::F22x, None, &["move/from16"]),
+    (0x05, Format::F22x, None, &["move-wide/from16"]),
+    (0x08, Format::F22x, None, &["move-object/from16"]),
+    (0x03, Format::F32x, None, &["move/16"]),
+    (0x06, Format::F32x, None, &["move-wide/16"]),
+    (0x09, Format::F32x, None, &["move-object/16"]),
+    (0x0a, Format::F11x, None, &["move-result", "move-result-wide", "move-result-object", "move-exception"]),
+    (0x0e, Format::F10x, None, &["return-void"]),
+    (0x0f, Format::F11x, None, &["return", "return-wide", "return-object"]),
+    (0x12, Format::F11n, None, &["const/4"]),
+    (0x13, Format::F21s, None, &["const/16"]),
+    (0x16, Format::F21s, None, &["const-wide/16"]),
+    (0x14, Format::F31i, None, &["const"]),
+    (0x17, Format::F31i, None, &["const-wide/32"]),
+    (0x15, Format::F21h, None, &["const/high16"]),
+    (0x19, Format::F21h, None, &["const-wide/high16"]),
+    (0x18, Format::F51l, None, &["const-wide"]),
+    (0x1a, Format::F21c, Some(IndexKind::String), &["const-string"]),
+    (0x1b, Format::F31c, Some(IndexKind::String), &["const-string/jumbo"]),
+    (0x1c, Format::F21c, Some(IndexKind::Type), &["const-class"]),
+    (0x1f, Format::F21c, Some(IndexKind::Type), &["check-cast"]),
+    (0x22, Format::F21c, Some(IndexKind::Type), &["new-instance"]),
+    (0x1d, Format::F11x, None, &["monitor-enter", "monitor-exit"]),
+    (0x27, Format::F11x, None, &["throw"]),
+    (0x20, Format::F22c, Some(IndexKind::Type), &["instance-of"]),
+    (0x23, Format::F22c, Some(IndexKind::Type), &["new-array"]),
+    (0x21, Format::F12x, None, &["array-length"]),
+    (0x24, Format::F35c, Some(IndexKind::Type), &["filled-new-array"]),
+    (0x25, Format::F3rc, Some(IndexKind::Type), &["filled-new-array/range"]),
+    (0x26, Format::F31t, None, &["fill-array-data"]),
+    (0x2b, Format::F31t, None, &["packed-switch", "sparse-switch"]),
+    (0x28, Format::F10t, None, &["goto"]),
+    (0x29, Format::F20t, None, &["goto/16"]),
+    (0x2a, Format::F30t, None, &["goto/32"]),
+    (0x2d, Format::F23x, None, &["cmpl-float", "cmpg-float", "cmpl-double", "cmpg-double", "cmp-long"]),
+    (0x32, Format::F22t, None, &["if-eq", "if-ne", "if-lt", "if-ge", "if-gt", "if-le"]),
+    (0x38, Format::F21t, None, &["if-eqz", "if-nez", "if-ltz", "if-gez", "if-gtz", "if-lez"]),
+    (0x44, Format::F23x, None, &[
         "aget", "aget-wide", "aget-object", "aget-boolean", "aget-byte", "aget-char", "aget-short", "aput", "aput-wide",
         "aput-object", "aput-boolean", "aput-byte", "aput-char", "aput-short"]),
-    (0x52, Format::F22c, IndexKind::Field, &[
+    (0x52, Format::F22c, Some(IndexKind::Field), &[
         "iget", "iget-wide", "iget-object", "iget-boolean", "iget-byte", "iget-char", "iget-short", "iput", "iput-wide",
         "iput-object", "iput-boolean", "iput-byte", "iput-char", "iput-short"]),
-    (0x60, Format::F21c, IndexKind::Field, &[
+    (0x60, Format::F21c, Some(IndexKind::Field), &[
         "sget", "sget-wide", "sget-object", "sget-boolean", "sget-byte", "sget-char", "sget-short", "sput", "sput-wide",
         "sput-object", "sput-boolean", "sput-byte", "sput-char", "sput-short"]),
-    (0x6e, Format::F35c, IndexKind::Method, &[
+    (0x6e, Format::F35c, Some(IndexKind::Method), &[
         "invoke-virtual", "invoke-super", "invoke-direct", "invoke-static", "invoke-interface"]),
-    (0x74, Format::F3rc, IndexKind::Method, &[
+    (0x74, Format::F3rc, Some(IndexKind::Method), &[
         "invoke-virtual/range", "invoke-super/range", "invoke-direct/range", "invoke-static/range", "invoke-interface/range"]),
-    (0x7b, Format::F12x, IndexKind::NoIndex, &["neg-int", "not-int", "neg-long", "not-long", "neg-float", "neg-double"]),
-    (0x81, Format::F12x, IndexKind::NoIndex, &[
+    (0x7b, Format::F12x, None, &["neg-int", "not-int", "neg-long", "not-long", "neg-float", "neg-double"]),
+    (0x81, Format::F12x, None, &[
         "int-to-long", "int-to-float", "int-to-double", "long-to-int", "long-to-float", "long-to-double"]),
-    (0x87, Format::F12x, IndexKind::NoIndex, &[
+    (0x87, Format::F12x, None, &[
         "float-to-int", "float-to-long", "float-to-double", "double-to-int", "double-to-long", "double-to-float"]),
-    (0x8d, Format::F12x, IndexKind::NoIndex, &["int-to-byte", "int-to-char", "int-to-short"]),
-    (0x90, Format::F23x, IndexKind::NoIndex, &[
+    (0x8d, Format::F12x, None, &["int-to-byte", "int-to-char", "int-to-short"]),
+    (0x90, Format::F23x, None, &[
         "add-int", "sub-int", "mul-int", "div-int", "rem-int", "and-int", "or-int", "xor-int", "shl-int", "shr-int", "ushr-int"]),
-    (0x9b, Format::F23x, IndexKind::NoIndex, &[
+    (0x9b, Format::F23x, None, &[
         "add-long", "sub-long", "mul-long", "div-long", "rem-long", "and-long", "or-long", "xor-long", "shl-long", "shr-long",
         "ushr-long"]),
-    (0xa6, Format::F23x, IndexKind::NoIndex, &[
+    (0xa6, Format::F23x, None, &[
         "add-float", "sub-float", "mul-float", "div-float", "rem-float", "add-double", "sub-double", "mul-double", "div-double",
         "rem-double"]),
-    (0xb0, Format::F12x, IndexKind::NoIndex, &[
+    (0xb0, Format::F12x, None, &[
         "add-int/2addr", "sub-int/2addr", "mul-int/2addr", "div-int/2addr", "rem-int/2addr", "and-int/2addr", "or-int/2addr",
         "xor-int/2addr", "shl-int/2addr", "shr-int/2addr", "ushr-int/2addr", "add-long/2addr", "sub-long/2addr",
         "mul-long/2addr", "div-long/2addr", "rem-long/2addr", "and-long/2addr", "or-long/2addr", "xor-long/2addr",
         "shl-long/2addr", "shr-long/2addr", "ushr-long/2addr", "add-float/2addr", "sub-float/2addr", "mul-float/2addr",
         "div-float/2addr", "rem-float/2addr", "add-double/2addr", "sub-double/2addr", "mul-double/2addr", "div-double/2addr",
         "rem-double/2addr"]),
-    (0xd0, Format::F22s, IndexKind::NoIndex, &[
+    (0xd0, Format::F22s, None, &[
         "add-int/lit16", "rsub-int", "mul-int/lit16", "div-int/lit16", "rem-int/lit16", "and-int/lit16", "or-int/lit16",
         "xor-int/lit16"]),
-    (0xd8, Format::F22b, IndexKind::NoIndex, &[
+    (0xd8, Format::F22b, None, &[
         "add-int/lit8", "rsub-int/lit8", "mul-int/lit8", "div-int/lit8", "rem-int/lit8", "and-int/lit8", "or-int/lit8",
         "xor-int/lit8", "shl-int/lit8", "shr-int/lit8", "ushr-int/lit8"]),
 ];
 
 // The row of the page for an opcode.
-fn row_of(op: u8) -> Option<(&'static str, Format, IndexKind)> {
+fn row_of(op: u8) -> Option<(&'static str, Format, Option<IndexKind>)> {
     for (first, format, index, mnemonics) in &RUNS {
         if op < *first {
             continue;
@@ -107,7 +107,7 @@ fn is_in_table(op: u8) -> bool {
     OPCODES[usize::from(op)].is_some()
 }
 
-fn is_used_so(op: u8, mnemonic: &str, format: Format, index: IndexKind) -> bool {
+fn is_used_so(op: u8, mnemonic: &str, format: Format, index: Option<IndexKind>) -> bool {
     is_in_table(op)
         && mnemonic_of(op) == mnemonic
         && format_of(op) == Some(format)
@@ -119,7 +119,7 @@ fn is_unused(op: u8) -> bool {
     !is_in_table(op)
         && mnemonic_of(op).is_empty()
         && format_of(op).is_none()
-        && index_kind_of(op) == IndexKind::NoIndex
+        && index_kind_of(op).is_none()
 }
 
 fn is_as_on_the_page(op: u8) -> bool {

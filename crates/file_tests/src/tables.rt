@@ -5,9 +5,10 @@ use crate::tables_shown::shown_tables;
 use bumpalo::Bump;
 use dex_base::Fault;
 use dex_container::open;
+use dex_insn::IndexKind;
 use dex_program::{Desc, Name};
 use dex_samples::{NOTHING, ONE_CLASS, Rows, file_of, none_wrong, put_name, put_types, shows};
-use dex_tables::{NameKind, Tables};
+use dex_tables::Tables;
 use std::alloc::Global;
 use std::test::Fail;
 
@@ -46,7 +47,7 @@ fn a_name_is_read_for_each_row(rt: HostRuntime) -> Result<(), Fail> {
 }
 
 // What is looked up, a kind, an index, and the name that stands there.
-type Named = (&'static str, NameKind, u32, Option<&'static str>);
+type Named = (&'static str, IndexKind, u32, Option<&'static str>);
 
 fn shown_name(alloc: Global, name: Name<'_>) -> Result<String, Fault> {
     let mut text = String::new(alloc);
@@ -99,18 +100,18 @@ fn first_named_otherwise(alloc: Global, cases: &[Named]) -> Result<Option<&'stat
 #[test]
 fn an_index_of_a_kind_stands_for_a_name(rt: HostRuntime) -> Result<(), Fail> {
     static CASES: [Named; 12] = [
-        ("string 2", NameKind::String, 2, Some("string LA;")),
-        ("string 11", NameKind::String, 11, None),
-        ("the greatest string", NameKind::String, 0xffffffff, None),
-        ("type 2", NameKind::Type, 2, Some("type LB;")),
-        ("type 5", NameKind::Type, 5, None),
-        ("the greatest type", NameKind::Type, 0xffffffff, None),
-        ("field 2", NameKind::Field, 2, Some("field LA;->b:LA;")),
-        ("field 4", NameKind::Field, 4, None),
-        ("the greatest field", NameKind::Field, 0xffffffff, None),
-        ("method 2", NameKind::Method, 2, Some("method LA;->a(I)V")),
-        ("method 4", NameKind::Method, 4, None),
-        ("the greatest method", NameKind::Method, 0xffffffff, None),
+        ("string 2", IndexKind::String, 2, Some("string LA;")),
+        ("string 11", IndexKind::String, 11, None),
+        ("the greatest string", IndexKind::String, 0xffffffff, None),
+        ("type 2", IndexKind::Type, 2, Some("type LB;")),
+        ("type 5", IndexKind::Type, 5, None),
+        ("the greatest type", IndexKind::Type, 0xffffffff, None),
+        ("field 2", IndexKind::Field, 2, Some("field LA;->b:LA;")),
+        ("field 4", IndexKind::Field, 4, None),
+        ("the greatest field", IndexKind::Field, 0xffffffff, None),
+        ("method 2", IndexKind::Method, 2, Some("method LA;->a(I)V")),
+        ("method 4", IndexKind::Method, 4, None),
+        ("the greatest method", IndexKind::Method, 0xffffffff, None),
     ];
     none_wrong(first_named_otherwise(rt.alloc(), &CASES))
 }
