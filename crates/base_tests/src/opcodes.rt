@@ -1,12 +1,17 @@
 //! The opcode table against the page "Dalvik bytecode", written out a second time.
 
-use dex_insn::{Format, IndexKind, OPCODES, format_of, index_kind_of, mnemonic_of, opcode_named};
-use dex_samples::none_wrong;
+use dex_insn::{
+    Format, IndexKind, OPCODES, Opcode, format_of, index_kind_of, mnemonic_of, opcode_named,
+};
+use dex_samples::{is_so, none_wrong};
 use std::test::Fail;
+
+// The first opcode, the format and index kind of all, their mnemonics.
+type Run = (u8, Format, Option<IndexKind>, &'static [&'static str]);
 
 /// Runs of opcodes: the first, the format and index kind of all, and their mnemonics. Opcodes in no run are unused.
 #[rattlefmt::skip]
-static RUNS: [(u8, Format, Option<IndexKind>, &[&str]); 56] = [
+static RUNS: [Run; 56] = [
     (0x00, Format::F10x, None, &["nop"]),
     (0x01, Format::F12x, None, &["move"]),
     (0x04, Format::F12x, None, &["move-wide"]),
@@ -91,8 +96,8 @@ static RUNS: [(u8, Format, Option<IndexKind>, &[&str]); 56] = [
 ];
 
 // The row of the page for an opcode.
-fn row_of(op: u8) -> Option<(&'static str, Format, Option<IndexKind>)> {
-    for (first, format, index, mnemonics) in &RUNS {
+fn row_of(runs: &[Run], op: u8) -> Option<(&'static str, Format, Option<IndexKind>)> {
+    for (first, format, index, mnemonics) in runs {
         if op < *first {
             continue;
         }
@@ -103,36 +108,28 @@ fn row_of(op: u8) -> Option<(&'static str, Format, Option<IndexKind>)> {
     None
 }
 
-fn is_in_table(op: u8) -> bool {
-    OPCODES[usize::from(op)].is_some()
-}
-
 fn is_used_so(op: u8, mnemonic: &str, format: Format, index: Option<IndexKind>) -> bool {
-    is_in_table(op)
-        && mnemonic_of(op) == mnemonic
+    mnemonic_of(op) == mnemonic
         && format_of(op) == Some(format)
         && index_kind_of(op) == index
         && opcode_named(mnemonic.as_bytes()) == Some(op)
 }
 
 fn is_unused(op: u8) -> bool {
-    !is_in_table(op)
-        && mnemonic_of(op).is_empty()
-        && format_of(op).is_none()
-        && index_kind_of(op).is_none()
+    mnemonic_of(op).is_empty() && format_of(op).is_none() && index_kind_of(op).is_none()
 }
 
-fn is_as_on_the_page(op: u8) -> bool {
-    match row_of(op) {
+fn is_as_on_the_page(runs: &[Run], op: u8) -> bool {
+    match row_of(runs, op) {
         Some((mnemonic, format, index)) => is_used_so(op, mnemonic, format, index),
         None => is_unused(op),
     }
 }
 
 // The mnemonic of the first opcode whose row is another.
-fn first_row_otherwise() -> Option<&'static str> {
+fn first_row_otherwise(runs: &[Run]) -> Option<&'static str> {
     for op in 0..=255_u8 {
-        if !is_as_on_the_page(op) {
+        if !is_as_on_the_page(runs, op) {
             return Some(mnemonic_of(op));
         }
     }
@@ -141,7 +138,22 @@ fn first_row_otherwise() -> Option<&'static str> {
 
 #[test]
 fn all_256_rows_are_those_of_the_page() -> Result<(), Fail> {
-    none_wrong(Ok(first_row_otherwise()))
+    none_wrong(Ok(first_row_otherwise(&RUNS)))
+}
+
+// Whether the table has a row for each opcode, and something in it where the opcode is used.
+fn has_used_opcodes(table: &[Option<Opcode<&str>>]) -> bool {
+    for (op, row) in (0..=255_u8).zip(table) {
+        if row.is_some() != format_of(op).is_some() {
+            return false;
+        }
+    }
+    table.len() == 256
+}
+
+#[test]
+fn the_table_has_the_opcodes_that_have_a_format() -> Result<(), Fail> {
+    is_so(Ok(has_used_opcodes(&OPCODES)))
 }
 
 fn first_opcode(cases: &[&'static str]) -> Option<&'static str> {
