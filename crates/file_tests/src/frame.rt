@@ -1,0 +1,242 @@
+//! Header, map and checksums: each rule has its fault, at its place.
+
+use dex_base::{Fault, adler32};
+use dex_container::{framed_without_fault, open};
+use dex_samples::{
+    NOTHING, ONE_CLASS, Rows, WITHOUT_CLASSES, closed, closed_with, file_of, is_so, none_wrong,
+    put_bytes, with_bytes,
+};
+use std::alloc::Global;
+use std::test::Fail;
+
+// What is changed, from which byte on, to which bytes, and the fault: 0 at 0 where there is none.
+type Changed = (&'static str, usize, &'static [u8], (u16, u64));
+
+// Whether this is the fault of the frame, 0 at 0 where there is none.
+fn is_opened_so(file: &[u8], want: (u16, u64)) -> bool {
+    let (code, place) = want;
+    match open(file) {
+        Ok(_) => code == 0,
+        Err(fault) => fault.code == code && fault.place == place,
+    }
+}
+
+fn is_changed_so(alloc: Global, file: &[u8], case: &Changed) -> Result<bool, Fault> {
+    let (_, at, bytes, want) = case;
+    let changed = closed_with(alloc, file, *at, bytes)?;
+    Ok(is_opened_so(&changed, *want))
+}
+
+fn first_changed_otherwise(
+    alloc: Global,
+    file: &[u8],
+    cases: &[Changed],
+) -> Result<Option<&'static str>, Fault> {
+    for case in cases {
+        if !is_changed_so(alloc, file, case)? {
+            return Ok(Some(case.0));
+        }
+    }
+    Ok(None)
+}
+
+#[test]
+fn each_rule_of_header_and_map_has_its_fault(rt: HostRuntime) -> Result<(), Fail> {
+    static CASES: [Changed; 21] = [
+        ("the magic's first byte", 0, &[0x65], (2, 0)),
+        ("the magic's last byte", 7, &[1], (2, 0)),
+        ("version 037", 6, &[0x37], (3, 4)),
+        ("file_size", 33, &[1], (4, 32)),
+        ("header_size", 36, &[0x71], (5, 36)),
+        ("the reversed endian tag", 40, &[0x12], (6, 40)),
+        ("link_size", 44, &[1], (7, 44)),
+        ("a table in the header", 56, &[1], (10, 56)),
+        ("65536 types", 66, &[1], (10, 64)),
+        ("a data section past the end", 104, &[0x1d], (10, 104)),
+        ("a data section of 24 bytes", 104, &[0x18], (12, 52)),
+        ("no data section", 104, &[0], (12, 52)),
+        ("a misaligned map", 52, &[0x71], (12, 52)),
+        (
+            "three entries, the third past the end",
+            0x70,
+            &[3],
+            (12, 52),
+        ),
+        ("one entry, the header's", 0x70, &[1], (14, 52)),
+        ("an unknown kind of entry", 0x74, &[7], (13, 116)),
+        ("a header entry of 2 items", 0x78, &[2], (13, 116)),
+        ("two map entries", 0x84, &[2], (13, 128)),
+        ("another place for the map", 0x88, &[0x74], (13, 128)),
+        ("an entry's unused half word", 0x76, &[7], (0, 0)),
+        ("link_off", 48, &[7], (0, 0)),
+    ];
+    none_wrong(first_changed_otherwise(rt.alloc(), &WITHOUT_CLASSES, &CASES))
+}
+
+#[test]
+fn each_rule_of_tables_and_sections_in_the_map_has_its_fault(rt: HostRuntime) -> Result<(), Fail> {
+    static CASES: [Changed; 12] = [
+        ("nothing", 0, &[], (0, 0)),
+        ("a misaligned table", 0x3c, &[0x72], (10, 56)),
+        ("an unknown kind of entry", 0x10c, &[7], (13, 268)),
+        (
+            "eight entries: the map's own is missing",
+            0xfc,
+            &[9],
+            (14, 52),
+        ),
+        (
+            "a table one row longer than its entry",
+            0x38,
+            &[5],
+            (13, 268),
+        ),
+        (
+            "an entry at its predecessor's place",
+            0x114,
+            &[0],
+            (13, 268),
+        ),
+        (
+            "a data section that ends before the map",
+            0x6c,
+            &[0xbc],
+            (12, 52),
+        ),
+        // one field row, over the string rows
+        (
+            "a table without an entry",
+            0x50,
+            &[1, 0, 0, 0, 0x70],
+            (14, 80),
+        ),
+        ("code items twice", 0x154, &[1], (13, 340)),
+        ("class data before the strings", 0x168, &[0xc1], (13, 352)),
+        (
+            "class rows that end behind the code's place",
+            0x150,
+            &[0x9c],
+            (13, 316),
+        ),
+        ("an entry of no item", 0x158, &[0], (13, 340)),
+    ];
+    none_wrong(first_changed_otherwise(rt.alloc(), &ONE_CLASS, &CASES))
+}
+
+// The map stands from 0x70 to 0x98, and its third entry, at 0x8c, says where the two last bytes of the data section are.
+fn first_end_otherwise(alloc: Global, cases: &[Changed]) -> Result<Option<&'static str>, Fault> {
+    let rows = Rows {
+        arrays: &[0, 0],
+        ..NOTHING
+    };
+    let file = file_of(alloc, &rows)?;
+    first_changed_otherwise(alloc, &file, cases)
+}
+
+#[test]
+fn an_entry_of_data_begins_behind_the_map_and_within_the_data(rt: HostRuntime) -> Result<(), Fail> {
+    static CASES: [Changed; 5] = [
+        ("inside the map", 0x94, &[0x97], (13, 128)),
+        ("right behind the map", 0x94, &[0x98], (0, 0)),
+        (
+            "one byte before the data section's end",
+            0x94,
+            &[0x99],
+            (0, 0),
+        ),
+        ("at the data section's end", 0x94, &[0x9a], (13, 140)),
+        ("at the map's own place", 0x94, &[0x70], (13, 128)),
+    ];
+    none_wrong(first_end_otherwise(rt.alloc(), &CASES))
+}
+
+// A file of zeros behind the header, which names one table from 112 on, and neither data nor a map.
+fn of_many_rows(alloc: Global, size_at: usize, rows: u32, length: usize) -> Result<Vec<u8>, Fault> {
+    let mut file = vec![in alloc; 0u8; length]?;
+    put_bytes(&mut file, 0, &WITHOUT_CLASSES[..52]);
+    put_bytes(
+        &mut file,
+        32,
+        &u32::try_from(length).unwrap_or(0).to_le_bytes(),
+    );
+    put_bytes(&mut file, size_at, &rows.to_le_bytes());
+    put_bytes(&mut file, size_at.saturating_add(4), &112u32.to_le_bytes());
+    Ok(closed(file))
+}
+
+// What the table has, the place of its size field, its rows, the file's length, the fault.
+type Many = (&'static str, usize, u32, usize, (u16, u64));
+
+fn is_told_so(alloc: Global, case: &Many) -> Result<bool, Fault> {
+    let (_, size_at, rows, length, want) = case;
+    let file = of_many_rows(alloc, *size_at, *rows, *length)?;
+    Ok(is_opened_so(&file, *want))
+}
+
+fn first_told_otherwise(alloc: Global, cases: &[Many]) -> Result<Option<&'static str>, Fault> {
+    for case in cases {
+        if !is_told_so(alloc, case)? {
+            return Ok(Some(case.0));
+        }
+    }
+    Ok(None)
+}
+
+#[test]
+fn types_and_prototypes_are_at_most_65535(rt: HostRuntime) -> Result<(), Fail> {
+    static CASES: [Many; 4] = [
+        ("65536 types", 64, 65536, 112 + 4 * 65536, (11, 64)),
+        (
+            "65535 types, and no map",
+            64,
+            65535,
+            112 + 4 * 65536,
+            (12, 52),
+        ),
+        ("65536 prototypes", 72, 65536, 112 + 12 * 65536, (11, 72)),
+        (
+            "65535 prototypes, and no map",
+            72,
+            65535,
+            112 + 12 * 65536,
+            (12, 52),
+        ),
+    ];
+    none_wrong(first_told_otherwise(rt.alloc(), &CASES))
+}
+
+// The file with another signature, and the checksum of that.
+fn with_a_wrong_signature(alloc: Global) -> Result<Vec<u8>, Fault> {
+    let mut file = with_bytes(alloc, &WITHOUT_CLASSES, 12, &[0x1e])?;
+    if file.len() >= 12 {
+        let sum = adler32(&file[12..]);
+        put_bytes(&mut file, 8, &sum.to_le_bytes());
+    }
+    Ok(file)
+}
+
+fn is_signature_told(alloc: Global) -> Result<bool, Fault> {
+    let file = with_a_wrong_signature(alloc)?;
+    Ok(is_opened_so(&file, (9, 12)))
+}
+
+#[test]
+fn a_wrong_signature_is_a_fault_of_its_own(rt: HostRuntime) -> Result<(), Fail> {
+    is_so(is_signature_told(rt.alloc()))
+}
+
+fn is_closed_again(alloc: Global) -> Result<bool, Fault> {
+    let file = closed_with(alloc, &ONE_CLASS, 8, &[0xaa; 24])?;
+    Ok(file.as_slice() == ONE_CLASS.as_slice())
+}
+
+#[test]
+fn closing_fills_in_both_sums_and_nothing_else(rt: HostRuntime) -> Result<(), Fail> {
+    is_so(is_closed_again(rt.alloc()))
+}
+
+#[test]
+fn a_framed_file_has_no_fault() -> Result<(), Fail> {
+    framed_without_fault(&ONE_CLASS);
+    is_so(Ok(is_opened_so(&ONE_CLASS, (0, 0))))
+}

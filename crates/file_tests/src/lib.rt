@@ -1,0 +1,40 @@
+//! Tests of files: their frame, their tables, their values, whole files, and runs over readers and writers.
+#![tactic(auto)]
+
+// dex_container
+#[cfg(test)]
+mod frame;
+#[cfg(test)]
+mod sections;
+
+// dex_tables
+#[cfg(test)]
+mod named_rows;
+#[cfg(test)]
+mod table_faults;
+#[cfg(test)]
+mod table_orders;
+#[cfg(test)]
+mod tables;
+#[cfg(test)]
+mod tables_shown;
+
+// dex_value
+#[cfg(test)]
+mod value_faults;
+#[cfg(test)]
+mod values;
+#[cfg(test)]
+mod values_put;
+#[cfg(test)]
+mod values_read;
+
+// dex_file
+#[cfg(test)]
+mod files;
+
+// dexasm_run
+#[cfg(test)]
+mod runs;
+#[cfg(test)]
+mod runs_failing;

@@ -1,0 +1,102 @@
+//! Values, and files with encoded arrays.
+
+use bumpalo::Bump;
+use dex_base::Fault;
+use dex_container::open;
+use dex_program::{Desc, FieldRef, MethodRef, Proto, Str, Value};
+use dex_samples::{NOTHING, Rows};
+use dex_tables::Tables;
+use dex_value::read_array;
+use std::alloc::Global;
+
+/// Where the arrays begin in a file that has nothing else: behind the header and a map of three entries.
+pub const ARRAYS_AT: u32 = 0x98;
+
+/// Where they begin in a file of `NAMES`: the rows end at 0xac, the texts at 0xbd, the map stands at 0xc0.
+pub const ARRAYS_BEHIND_NAMES_AT: u32 = 0x130;
+
+/// The strings `I`, `LA;`, `V`, `a` and `b`, the types `I`, `LA;` and `V`, the prototype `()V`, the field `LA;->a:I` and the
+/// method `LA;->b()V`.
+pub static NAMES: Rows<'static> = Rows {
+    strings: &[b"\x01I\0", b"\x03LA;\0", b"\x01V\0", b"\x01a\0", b"\x01b\0"],
+    types: &[0, 1, 2],
+    protos: &[(2, 2, None)],
+    fields: &[(1, 0, 3)],
+    methods: &[(1, 0, 4)],
+    ..NOTHING
+};
+
+/// The type `I`.
+pub const INT: Desc<'static> = Desc {
+    text: Str { units: &[0x49] },
+};
+
+/// The type `LA;`.
+pub const CLASS: Desc<'static> = Desc {
+    text: Str {
+        units: &[0x4c, 0x41, 0x3b],
+    },
+};
+
+/// The type `V`.
+pub const VOID: Desc<'static> = Desc {
+    text: Str { units: &[0x56] },
+};
+
+/// The string `a`.
+pub const A: Str<'static> = Str { units: &[0x61] };
+
+/// The string `b`.
+pub const B: Str<'static> = Str { units: &[0x62] };
+
+/// The field `LA;->a:I`.
+pub const FIELD: FieldRef<'static> = FieldRef {
+    class: CLASS,
+    name: A,
+    ty: INT,
+};
+
+const PROTO: Proto<'static> = Proto {
+    ret: VOID,
+    params: &[],
+};
+
+/// The method `LA;->b()V`.
+pub const METHOD: MethodRef<'static> = MethodRef {
+    class: CLASS,
+    name: B,
+    proto: &PROTO,
+};
+
+/// The values of the array at this place of a file, at most so many.
+pub fn read_in<'a>(
+    alloc: Global,
+    arena: &'a Bump,
+    file: &[u8],
+    off: u32,
+    most: usize,
+) -> Result<&'a [Value<'a>], Fault> {
+    let sections = open(file)?;
+    let tables = Tables::read(alloc, arena, &sections)?;
+    read_array(alloc, arena, &tables, &sections, off, most)
+}
+
+/// Whether two values, neither of which is an array, are one.
+pub fn is_same(a: &Value<'_>, b: &Value<'_>) -> bool {
+    match (a, b) {
+        (Value::Byte(x), Value::Byte(y)) => x == y,
+        (Value::Short(x), Value::Short(y)) => x == y,
+        (Value::Char(x), Value::Char(y)) => x == y,
+        (Value::Int(x), Value::Int(y)) => x == y,
+        (Value::Long(x), Value::Long(y)) => x == y,
+        (Value::Float(x), Value::Float(y)) => x == y,
+        (Value::Double(x), Value::Double(y)) => x == y,
+        (Value::Text(x), Value::Text(y)) => x == y,
+        (Value::Desc(x), Value::Desc(y)) => x == y,
+        (Value::Field(x), Value::Field(y)) | (Value::Enum(x), Value::Enum(y)) => x == y,
+        (Value::Method(x), Value::Method(y)) => x == y,
+        (Value::Null, Value::Null) => true,
+        (Value::Bool(x), Value::Bool(y)) => x == y,
+        _ => false,
+    }
+}

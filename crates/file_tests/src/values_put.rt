@@ -1,0 +1,264 @@
+//! Values to bytes, in the fewest.
+
+ghost use Rattle.std.specs.Prelude.{IsTrue, map};
+ghost use Rattle.dex_program.specs.Content as content;
+ghost use Rattle.dex_program.specs.View as view;
+ghost use Rattle.dex_program.specs.View.{value};
+ghost use Rattle.dex_program.specs.Mentions.{NamesHold, AllNamesHold};
+ghost use Rattle.dex_value.specs.Named.{IsRanked};
+ghost use Rattle.dex_value.specs.Counts.{CountsFit, AllCountsFit, ArrayFits};
+
+use crate::values::{CLASS, FIELD, INT, METHOD};
+use bumpalo::Bump;
+use dex_base::Fault;
+use dex_names::{Needed, Ranks};
+use dex_program::{Name, Str, Value};
+use dex_samples::{field, is_so, method, none_wrong};
+use dex_value::put_array;
+use std::alloc::Global;
+use std::test::Fail;
+
+fn has_rank(ranks: &Ranks<'_>, name: Name<'_>) -> bool
+    ensures { IsTrue result → IsRanked ranks.now (view.name name.entry) }
+{
+    match ranks.index_of(name) {
+        Some(_) => true,
+        None => false,
+    }
+}
+
+/// Whether the name of a value, if it has one, has a rank. False for arrays.
+fn is_ranked(ranks: &Ranks<'_>, one: &Value<'_>) -> bool
+    ensures named { IsTrue result → NamesHold (IsRanked ranks.now) (value one.now) }
+    ensures counts { IsTrue result → CountsFit (value one.now) }
+{
+    match one {
+        Value::Text(text) => has_rank(ranks, Name::Text(*text)),
+        Value::Desc(desc) => has_rank(ranks, Name::Desc(*desc)),
+        Value::Field(field) => has_rank(ranks, Name::Field(field)),
+        Value::Method(method) => has_rank(ranks, Name::Method(method)),
+        Value::Enum(constant) => has_rank(ranks, Name::Field(constant)),
+        Value::Array(_) => false,
+        _ => true,
+    }
+}
+
+// Whether the array of this value, whose name has a rank, is written in these bytes.
+fn is_put_so(alloc: Global, ranks: &Ranks<'_>, one: Value<'_>, want: &[u8]) -> Result<bool, Fault> {
+    if !is_ranked(ranks, &one) {
+        return Ok(false);
+    }
+    let mut out = Vec::new(alloc);
+    put_array(&mut out, ranks, &[one])?;
+    Ok(out.as_slice() == want)
+}
+
+// What the value is, the value, the array of it.
+type Put = (&'static str, Value<'static>, &'static [u8]);
+
+fn first_by_ranks_otherwise(
+    alloc: Global,
+    ranks: &Ranks<'_>,
+    cases: &[Put],
+) -> Result<Option<&'static str>, Fault> {
+    for (what, one, want) in cases {
+        if !is_put_so(alloc, ranks, *one, want)? {
+            return Ok(Some(*what));
+        }
+    }
+    Ok(None)
+}
+
+fn first_put_otherwise(alloc: Global, cases: &[Put]) -> Result<Option<&'static str>, Fault> {
+    let ranks = Needed::new(alloc).freeze()?;
+    first_by_ranks_otherwise(alloc, &ranks, cases)
+}
+
+#[rattlefmt::skip]
+#[test]
+fn a_value_takes_the_fewest_bytes(rt: HostRuntime) -> Result<(), Fail> {
+    static CASES: [Put; 24] = [
+        ("byte 0", Value::Byte(0), &[1, 0x00, 0x00]),
+        ("byte -128", Value::Byte(-128), &[1, 0x00, 0x80]),
+        ("short -32768", Value::Short(-32768), &[1, 0x22, 0x00, 0x80]),
+        ("short -129", Value::Short(-129), &[1, 0x22, 0x7f, 0xff]),
+        ("char 255", Value::Char(255), &[1, 0x03, 0xff]),
+        ("char 65535", Value::Char(65535), &[1, 0x23, 0xff, 0xff]),
+        ("int -1", Value::Int(-1), &[1, 0x04, 0xff]),
+        ("int 127", Value::Int(127), &[1, 0x04, 0x7f]),
+        ("int 128", Value::Int(128), &[1, 0x24, 0x80, 0x00]),
+        ("int -32769", Value::Int(-32769), &[1, 0x44, 0xff, 0x7f, 0xff]),
+        ("the greatest int", Value::Int(2147483647), &[1, 0x64, 0xff, 0xff, 0xff, 0x7f]),
+        ("long 0", Value::Long(0), &[1, 0x06, 0x00]),
+        ("the least long", Value::Long(-9223372036854775808), &[1, 0xe6, 0x00, 0x00, 0x00, 0x00, 0x00, 0x00, 0x00, 0x80]),
+        ("long 2 to the 39", Value::Long(1 << 39), &[1, 0xa6, 0x00, 0x00, 0x00, 0x00, 0x80, 0x00]),
+        ("float 1, its high-order bytes", Value::Float(0x3f800000), &[1, 0x30, 0x80, 0x3f]),
+        ("float 0", Value::Float(0), &[1, 0x10, 0x00]),
+        ("float -0", Value::Float(0x80000000), &[1, 0x10, 0x80]),
+        ("the bits 1 of a float", Value::Float(1), &[1, 0x70, 0x01, 0x00, 0x00, 0x00]),
+        ("double 1", Value::Double(0x3ff0000000000000), &[1, 0x31, 0xf0, 0x3f]),
+        ("the bits 1 of a double", Value::Double(1), &[1, 0xf1, 0x01, 0x00, 0x00, 0x00, 0x00, 0x00, 0x00, 0x00]),
+        ("double 0", Value::Double(0), &[1, 0x11, 0x00]),
+        ("null", Value::Null, &[1, 0x1e]),
+        ("false", Value::Bool(false), &[1, 0x1f]),
+        ("true", Value::Bool(true), &[1, 0x3f]),
+    ];
+    none_wrong(first_put_otherwise(rt.alloc(), &CASES))
+}
+
+// The field LA;->a:I and the method LA;->b()V: the strings I, LA;, V, a and b, the types I, LA; and V.
+fn add_members<'a>(needed: &mut Needed<'a>, arena: &'a Bump) -> Result<(), Fault> {
+    needed.add_field(field(arena, "LA;", "a", "I")?)?;
+    let b = method(arena, "LA;", "b", "V", &[])?;
+    needed.add_method(arena, b)
+}
+
+fn ranks_of_members<'a>(alloc: Global, arena: &'a Bump) -> Result<Ranks<'a>, Fault> {
+    let mut needed = Needed::new(alloc);
+    add_members(&mut needed, arena)?;
+    needed.freeze()
+}
+
+fn first_name_put_otherwise(
+    alloc: Global,
+    arena: &Bump,
+    cases: &[Put],
+) -> Result<Option<&'static str>, Fault> {
+    let ranks = ranks_of_members(alloc, arena)?;
+    first_by_ranks_otherwise(alloc, &ranks, cases)
+}
+
+#[test]
+fn a_name_is_written_by_its_kind_and_its_rank(rt: HostRuntime) -> Result<(), Fail> {
+    static CASES: [Put; 6] = [
+        ("the string a", Value::Text(crate::values::A), &[1, 0x17, 3]),
+        ("the type I", Value::Desc(INT), &[1, 0x18, 0]),
+        ("the type LA;", Value::Desc(CLASS), &[1, 0x18, 1]),
+        ("the field", Value::Field(&FIELD), &[1, 0x19, 0]),
+        ("the method", Value::Method(&METHOD), &[1, 0x1a, 0]),
+        ("the enum", Value::Enum(&FIELD), &[1, 0x1b, 0]),
+    ];
+    let arena = Bump::new(rt.alloc());
+    none_wrong(first_name_put_otherwise(rt.alloc(), &arena, &CASES))
+}
+
+// The strings of one unit each, from U+0000 on, so many.
+fn add_units<'a>(needed: &mut Needed<'a>, units: &'a [u16]) -> Result<(), Fault> {
+    for unit in units {
+        needed.add_string(Str {
+            units: std::slice::from_ref(unit),
+        })?;
+    }
+    Ok(())
+}
+
+fn ranks_of_units<'a>(alloc: Global, units: &'a [u16]) -> Result<Ranks<'a>, Fault> {
+    let mut needed = Needed::new(alloc);
+    add_units(&mut needed, units)?;
+    needed.freeze()
+}
+
+fn first_of_units_otherwise(
+    alloc: Global,
+    units: &[u16],
+    cases: &[Put],
+) -> Result<Option<&'static str>, Fault> {
+    let ranks = ranks_of_units(alloc, units)?;
+    first_by_ranks_otherwise(alloc, &ranks, cases)
+}
+
+fn first_of_257_otherwise(alloc: Global, cases: &[Put]) -> Result<Option<&'static str>, Fault> {
+    let mut units = Vec::new(alloc);
+    for unit in 0..257u16 {
+        units.push(unit)?;
+    }
+    first_of_units_otherwise(alloc, &units, cases)
+}
+
+#[test]
+fn a_string_is_written_by_its_rank(rt: HostRuntime) -> Result<(), Fail> {
+    static CASES: [Put; 3] = [
+        ("rank 0", Value::Text(Str { units: &[0] }), &[1, 0x17, 0x00]),
+        (
+            "rank 255",
+            Value::Text(Str { units: &[255] }),
+            &[1, 0x17, 0xff],
+        ),
+        (
+            "rank 256",
+            Value::Text(Str { units: &[256] }),
+            &[1, 0x37, 0x00, 0x01],
+        ),
+    ];
+    none_wrong(first_of_257_otherwise(rt.alloc(), &CASES))
+}
+
+/// Whether the names of all values have ranks. False where one is an array.
+fn are_ranked(ranks: &Ranks<'_>, all: &[Value<'_>]) -> bool
+    ensures named { IsTrue result → AllNamesHold (IsRanked ranks.now) (content.values (map value all.now)) }
+    ensures counts { IsTrue result → AllCountsFit (content.values (map value all.now)) }
+{
+    match all {
+        [] => true,
+        [one, rest @ ..] => is_ranked(ranks, one) && are_ranked(ranks, rest),
+    }
+}
+
+// Appends the array of these values, none of them an array, and then the array of the array of them.
+fn put_both(out: &mut Vec<u8>, ranks: &Ranks<'_>, all: &[Value<'_>]) -> Result<(), Fault> {
+    if all.len() <= 1000 && are_ranked(ranks, all) {
+        put_array(out, ranks, all)?;
+        put_array(out, ranks, &[Value::Array(all)])?;
+    }
+    Ok(())
+}
+
+// Whether these values are written so behind a byte ff, as an array and then as an array in an array.
+fn are_put_behind(alloc: Global, all: &[Value<'_>], want: &[u8]) -> Result<bool, Fault> {
+    let ranks = Needed::new(alloc).freeze()?;
+    let mut out = vec![in alloc; 0xffu8; 1]?;
+    put_both(&mut out, &ranks, all)?;
+    Ok(out.as_slice() == want)
+}
+
+#[test]
+fn no_value_is_written_behind_its_count(rt: HostRuntime) -> Result<(), Fail> {
+    static WANT: [u8; 5] = [0xff, 0x00, 0x01, 0x1c, 0x00];
+    is_so(are_put_behind(rt.alloc(), &[], &WANT))
+}
+
+#[test]
+fn null_and_true_are_written_behind_their_count(rt: HostRuntime) -> Result<(), Fail> {
+    static VALUES: [Value<'static>; 2] = [Value::Null, Value::Bool(true)];
+    static WANT: [u8; 9] = [0xff, 0x02, 0x1e, 0x3f, 0x01, 0x1c, 0x02, 0x1e, 0x3f];
+    is_so(are_put_behind(rt.alloc(), &VALUES, &WANT))
+}
+
+// So many times the int 300, and the bytes of its array, of an array of it, behind a byte ff.
+fn put_ints(
+    values: &mut Vec<Value<'static>>,
+    bytes: &mut Vec<u8>,
+    count: u16,
+) -> Result<(), Fault> {
+    for _ in 0..count {
+        values.push(Value::Int(300))?;
+        bytes.extend_from_slice(&[0x24, 0x2c, 0x01])?;
+    }
+    Ok(())
+}
+
+fn are_1000_ints_put(alloc: Global) -> Result<bool, Fault> {
+    let mut values = Vec::new(alloc);
+    let mut ints = Vec::new(alloc);
+    put_ints(&mut values, &mut ints, 1000)?;
+    let mut want = Vec::from_slice(alloc, &[0xff, 0xe8, 0x07])?;
+    want.extend_from_slice(&ints)?;
+    want.extend_from_slice(&[0x01, 0x1c, 0xe8, 0x07])?;
+    want.extend_from_slice(&ints)?;
+    are_put_behind(alloc, &values, &want)
+}
+
+#[test]
+fn a_thousand_values_are_written(rt: HostRuntime) -> Result<(), Fail> {
+    is_so(are_1000_ints_put(rt.alloc()))
+}
