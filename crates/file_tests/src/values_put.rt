@@ -1,12 +1,12 @@
 //! Values to bytes, in the fewest.
 
-ghost use Rattle.std.specs.Prelude.{IsTrue, map};
+ghost use Rattle.std.specs.Prelude.{◌≤◌, IsTrue, length, map};
 ghost use Rattle.dex_program.specs.Content as content;
 ghost use Rattle.dex_program.specs.View as view;
 ghost use Rattle.dex_program.specs.View.{value};
 ghost use Rattle.dex_program.specs.Mentions.{NamesHold, AllNamesHold};
 ghost use Rattle.dex_value.specs.Named.{IsRanked};
-ghost use Rattle.dex_value.specs.Counts.{CountsFit, AllCountsFit, ArrayFits};
+ghost use Rattle.dex_value.specs.Counts.{CountsFit, AllCountsFit};
 
 use crate::values::{CLASS, FIELD, INT, METHOD};
 use bumpalo::Bump;
@@ -204,11 +204,29 @@ fn are_ranked(ranks: &Ranks<'_>, all: &[Value<'_>]) -> bool
     }
 }
 
+// Appends the array of these values.
+fn put_flat(out: &mut Vec<u8>, ranks: &Ranks<'_>, all: &[Value<'_>]) -> Result<(), Fault>
+    requires named { AllNamesHold (IsRanked ranks.now) (content.values (map value all.now)) }
+    requires small { length all.now ≤ 1000 }
+    requires counts { AllCountsFit (content.values (map value all.now)) }
+{
+    put_array(out, ranks, all)
+}
+
+// Appends the array of one array of these values.
+fn put_inner(out: &mut Vec<u8>, ranks: &Ranks<'_>, inner: &[Value<'_>]) -> Result<(), Fault>
+    requires named { AllNamesHold (IsRanked ranks.now) (content.values (map value inner.now)) }
+    requires small { length inner.now ≤ 1000 }
+    requires counts { AllCountsFit (content.values (map value inner.now)) }
+{
+    put_array(out, ranks, &[Value::Array(inner)])
+}
+
 // Appends the array of these values, none of them an array, and then the array of the array of them.
 fn put_both(out: &mut Vec<u8>, ranks: &Ranks<'_>, all: &[Value<'_>]) -> Result<(), Fault> {
     if all.len() <= 1000 && are_ranked(ranks, all) {
-        put_array(out, ranks, all)?;
-        put_array(out, ranks, &[Value::Array(all)])?;
+        put_flat(out, ranks, all)?;
+        put_inner(out, ranks, all)?;
     }
     Ok(())
 }

@@ -109,9 +109,20 @@ fn a_name_is_read_by_its_index(rt: HostRuntime) -> Result<(), Fail> {
 // Texts of one unit each, U+0100 and those above it, four bytes each.
 fn put_texts(texts: &mut Vec<u8>, count: u16) -> Result<(), Fault> {
     for number in 0..count {
-        put_mutf8(texts, &[0x100 + number % 0x100 + number / 0x100 * 0x100])?;
+        put_mutf8(texts, &[0x100u16.saturating_add(number)])?;
     }
     Ok(())
+}
+
+// Whether string 256 is the value in a file of these strings.
+fn is_last_of_strings_read<'r>(alloc: Global, strings: &'r [&'r [u8]]) -> Result<bool, Fault> {
+    let rows = Rows {
+        strings,
+        arrays: &[1, 0x37, 0x00, 0x01],
+        ..NOTHING
+    };
+    let file = file_of(alloc, &rows)?;
+    is_one_at(alloc, &file, 2232, &Value::Text(Str { units: &[0x200] }))
 }
 
 fn is_last_of_texts_read(alloc: Global, texts: &[u8]) -> Result<bool, Fault> {
@@ -119,13 +130,7 @@ fn is_last_of_texts_read(alloc: Global, texts: &[u8]) -> Result<bool, Fault> {
     for text in texts.chunks_exact(4) {
         strings.push(text)?;
     }
-    let rows = Rows {
-        strings: &strings,
-        arrays: &[1, 0x37, 0x00, 0x01],
-        ..NOTHING
-    };
-    let file = file_of(alloc, &rows)?;
-    is_one_at(alloc, &file, 2232, &Value::Text(Str { units: &[0x200] }))
+    is_last_of_strings_read(alloc, &strings)
 }
 
 // The string rows end at 1140, the texts at 2168, the map at 2232.
