@@ -1,10 +1,9 @@
 //! Samples for tests: names from ASCII texts, files from rows and by edits, readers and writers that fail, and how a test
 //! is told. Only test crates stand on it.
 //!
-//! A test is one call, and what can fail is in plain functions, since each assertion is dear to prove:
+//! A function with the attribute `test` is one call, and what can fail is in plain functions, since each assertion is dear to prove:
 //!
 //! ```
-//! #[test]
 //! fn unsigned_numbers_are_read() -> Result<(), Fail> {
 //!     static CASES: [Read; 2] = [("0", &[0x00], Some((0, 1))), ("no bytes", &[], None)];
 //!     none_wrong(Ok(first_read_otherwise(&CASES)))
