@@ -72,11 +72,11 @@ closed_have_rows s f =
 -- ---- rows rise
 
 -- texts compare as their indices
-units_by_index : (table : List Key) (i j : ℕ) (t u : Units) → Rising table → IsAt table i (text_key t) → IsAt table j (text_key u) → units_cmp t u ≡ nat_cmp i j
+pub units_by_index : (table : List Key) (i j : ℕ) (t u : Units) → Rising table → IsAt table i (text_key t) → IsAt table j (text_key u) → units_cmp t u ≡ nat_cmp i j
 units_by_index table i j t u up at_i at_j =
     ordering_then-equal (units_cmp t u) ∙ keys_compare_as_places table i j (text_key t) (text_key u) up at_i at_j
 
-texts_by_index : (table : List Key) → Rising table → (xs ys : List ℕ) (ts us : List Units) → AreIndices table xs ts → AreIndices table ys us → key_cmp ts us ≡ slice_cmp nat_cmp xs ys
+pub texts_by_index : (table : List Key) → Rising table → (xs ys : List ℕ) (ts us : List Units) → AreIndices table xs ts → AreIndices table ys us → key_cmp ts us ≡ slice_cmp nat_cmp xs ys
 texts_by_index table up [] [] [] [] a b = refl
 texts_by_index table up [] (y ∷ ys) [] (u ∷ us) a b = refl
 texts_by_index table up (x ∷ xs) [] (t ∷ ts) [] a b = refl
