@@ -13,3 +13,4 @@ pub mod WeakerLaws
 pub mod WordsBytes
 pub mod Deciding
 pub mod OrderLaws
+pub mod ViaLaws

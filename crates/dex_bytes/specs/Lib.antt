@@ -6,3 +6,4 @@ pub mod Leb128
 pub mod Sequence
 pub mod Words
 pub mod Deciding
+pub mod Via

@@ -151,8 +151,15 @@ means_nothing b c =
     let f = fields_of b c in
     record {
       framed = record { header = header_of b c f.long; sums = c.sums; sections = sections_of b f; map = map_of b f };
-      no_rows = f.sizes;
-      no_classes = refl;
+      tables = record {
+        strings = λ i lt. absurd (omega (arith, lt, f.sizes 0 (lit< tt)));
+        types = λ i lt. absurd (omega (arith, lt, f.sizes 1 (lit< tt)));
+        protos = λ i lt. absurd (omega (arith, lt, f.sizes 2 (lit< tt)));
+        fields = λ i lt. absurd (omega (arith, lt, f.sizes 3 (lit< tt)));
+        methods = λ i lt. absurd (omega (arith, lt, f.sizes 4 (lit< tt)));
+      };
+      classes = record { count = sym (f.sizes 5 (lit< tt)); each = λ i c at. absurd cc };
+      order = λ i lt. absurd (omega (arith, lt, f.sizes 5 (lit< tt)));
     }
 
 -- the tables end where they begin

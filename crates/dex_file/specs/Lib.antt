@@ -1,3 +1,4 @@
 pub mod Means
 pub mod Packed
 pub mod Refused
+pub mod Broken

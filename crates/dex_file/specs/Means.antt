@@ -1,16 +1,17 @@
 -- Which program a file means (Dalvik Executable format).
-use Rattle.std.specs.Prelude.{◌≡◌, ℕ, ◌<◌, List, []}
+use Rattle.std.specs.Prelude.{◌≡◌, ℕ, ◌<◌, List}
 use Rattle.dex_container.specs.Layout.{size_of}
 use Rattle.dex_container.specs.Frame.{IsFramed}
-use Rattle.dex_program.specs.Content.{Program}
+use Rattle.dex_program.specs.Content.{Class, Program}
+use Rattle.dex_tables.specs.Names.{AreRows}
+use Rattle.dex_tables.specs.Sorted.{TablesHold}
+use Rattle.dex_class.specs.ClassRows.{InOrder}
+use Rattle.dex_class.specs.Classes.{SpellsClass}
 
--- none of the six tables has a row
-abbrev pub HasNoRows : List ℕ → Type 0
-HasNoRows b = (k : ℕ) → k < 6 → size_of b k ≡ 0
-
--- The file has header, map and checksums as the format asks, and its tables spell the program.
--- So far only the file without rows means something: the program without classes.
+-- The file has header, map and checksums as the format asks, every row of its tables denotes a name and the rows rise, and
+-- its class rows spell the classes of the program, in an order in which each stands behind what it stands on.
 pub record Means (b : List ℕ) (p : Program) : Type 0 where
   pub framed : IsFramed b
-  pub no_rows : HasNoRows b
-  pub no_classes : p ≡ []
+  pub tables : TablesHold b
+  pub classes : AreRows SpellsClass b 5 p
+  pub order : (i : ℕ) → i < size_of b 5 → InOrder b i

@@ -5,6 +5,6 @@ mod laws;
 mod reading;
 mod writing;
 
-pub use laws::{one_program, written_is_read};
+pub use laws::{meaning_is_clear, one_program, refusals_are_first, written_is_read};
 pub use reading::read;
 pub use writing::write;

@@ -6,3 +6,6 @@ pub mod Shorty
 pub mod Depth
 pub mod Kinds
 pub mod Mentions
+pub mod Operands
+pub mod Sizes
+pub mod Formed

@@ -20,6 +20,7 @@ mod names;
 
 // What has names in it: instructions and values.
 mod insn;
+mod payload;
 mod value;
 
 // What has instructions in it: bodies of methods.
@@ -45,6 +46,7 @@ pub use depth::is_within_depth;
 pub use insn::Insn;
 pub use kinds::{is_class_or_array, is_class_type, is_void};
 pub use names::{Desc, FieldRef, MethodRef, Name, Proto, Str};
+pub use payload::Payload;
 pub use place::{place_descs, place_proto, place_str};
 pub use shorty::{letter, shorty_laws, shorty_of};
 pub use value::Value;

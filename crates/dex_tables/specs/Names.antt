@@ -1,10 +1,8 @@
 -- The names of the five tables of a file, in the order of their rows.
-use Rattle.std.specs.Prelude.{◌≡◌, ⊤, ℕ, List, length, Some}
+use Rattle.std.specs.Prelude.{◌≡◌, ℕ, List, length, Some}
 use Rattle.std.specs.List.{slice_get}
 use Rattle.dex_container.specs.Layout.{size_of}
 use Rattle.dex_program.specs.Content.{Units, Proto, FieldRef, MethodRef, Name, OfText, OfDesc, OfField, OfMethod}
-use Rattle.dex_insn.specs.declared.opcode.IndexKind.{IndexKind}
-use Rattle.dex_insn.specs.declared.opcode.IndexKind.TheVariants as kind
 use Rattle.dex_tables.specs.Stands.{StringStands, TypeStands, ProtoStands, FieldStands, MethodStands}
 
 -- what tables in memory say
@@ -34,11 +32,3 @@ NameIsAt names i (OfText s) = slice_get names.strings i ≡ Some s
 NameIsAt names i (OfDesc t) = slice_get names.types i ≡ Some t
 NameIsAt names i (OfField f) = slice_get names.fields i ≡ Some f
 NameIsAt names i (OfMethod m) = slice_get names.methods i ≡ Some m
-
--- The name is of this kind.
-abbrev pub IsOfKind : IndexKind → Name → Type 0
-IsOfKind kind.String (OfText s) = ⊤
-IsOfKind kind.Type (OfDesc t) = ⊤
-IsOfKind kind.Field (OfField f) = ⊤
-IsOfKind kind.Method (OfMethod m) = ⊤
-IsOfKind _ _ = ⊥

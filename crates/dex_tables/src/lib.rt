@@ -27,3 +27,4 @@ mod file_laws;
 
 pub use file_laws::{names_of_a_file_are_its_rows, type_list_is_one};
 pub use tables::Tables;
+pub use type_list::indexes_or_none;

@@ -3,7 +3,8 @@ ghost use Rattle.std.specs.Prelude.{◌≡◌, ◌≢◌, IfOk, IfErr, IfSome, I
 ghost use Rattle.dex_program.specs.View as view;
 ghost use Rattle.dex_program.specs.Content as content;
 ghost use Rattle.dex_bytes.specs.Fault.{memory};
-ghost use Rattle.dex_tables.specs.Names.{AreNamesOf, NameIsAt, IsOfKind};
+ghost use Rattle.dex_program.specs.Kinds.{IsOfKind};
+ghost use Rattle.dex_tables.specs.Names.{AreNamesOf, NameIsAt};
 ghost use Rattle.dex_tables.specs.Sorted.{TablesHold};
 ghost use Rattle.dex_tables.specs.Stands.{TypesAt};
 ghost use Rattle.dex_tables.specs.TableFaults.{IsTableFault};

@@ -53,7 +53,7 @@ fn indexes_at<'b>(sections: &Sections<'b>, lists: Section, off: u32) -> Option<&
 }
 
 /// The indices of the type_list at an offset, where 0 stands for the empty list.
-pub(crate) fn indexes_or_none<'b>(
+pub fn indexes_or_none<'b>(
     sections: &Sections<'b>,
     lists: Section,
     off: u32,

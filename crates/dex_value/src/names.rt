@@ -3,7 +3,8 @@ ghost use Rattle.std.specs.Prelude.{◌≡◌, ℕ, ◌<◌, ◌≤◌, length, 
 ghost use Rattle.dex_program.specs.Content as content;
 ghost use Rattle.dex_program.specs.View as view;
 ghost use Rattle.dex_program.specs.View.{value};
-ghost use Rattle.dex_tables.specs.Names.{NameIsAt, IsOfKind};
+ghost use Rattle.dex_program.specs.Kinds.{IsOfKind};
+ghost use Rattle.dex_tables.specs.Names.{NameIsAt};
 ghost use Rattle.dex_value.specs.Spelling.{unsigned_of};
 ghost use Rattle.dex_value.specs.Faults.{IsOfType};
 ghost use Rattle.dex_value.specs.Reading.{name_code, kind_of, IsNamed, ValueStands};

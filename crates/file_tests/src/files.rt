@@ -56,11 +56,6 @@ fn the_file_of_140_bytes_is_read(rt: HostRuntime) -> Result<(), Fail> {
     is_so(Ok(is_read_so(rt.alloc(), &WITHOUT_CLASSES, (0, 0))))
 }
 
-#[test]
-fn a_file_with_tables_is_not_read_yet(rt: HostRuntime) -> Result<(), Fail> {
-    is_so(Ok(is_read_so(rt.alloc(), &ONE_CLASS, (200, 56))))
-}
-
 fn is_cut_so(alloc: Global, length: usize, want: (u16, u64)) -> bool {
     length <= 140 && is_read_so(alloc, &WITHOUT_CLASSES[..length], want)
 }

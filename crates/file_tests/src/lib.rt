@@ -31,6 +31,12 @@ mod values_read;
 
 // dex_file
 #[cfg(test)]
+mod class_faults;
+#[cfg(test)]
+mod class_read;
+#[cfg(test)]
+mod code_faults;
+#[cfg(test)]
 mod files;
 
 // dexasm_run

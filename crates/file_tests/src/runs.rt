@@ -2,8 +2,8 @@
 
 use dex_base::Fault;
 use dex_samples::{
-    NOTHING, ONE_CLASS, Rows, WITHOUT_CLASSES, file_of, is_so, none_wrong, reader, with_bytes,
-    writer,
+    NOTHING, ONE_CLASS, Rows, WITHOUT_CLASSES, closed_with, file_of, is_so, none_wrong, reader,
+    with_bytes, writer,
 };
 use dexasm_run::{Job, Line, RunFault, Sink, Source, Watched, line_text, run, status};
 use std::alloc::Global;
@@ -65,10 +65,15 @@ fn check_tells_a_changed_byte(rt: HostRuntime) -> Result<(), Fail> {
     is_so(is_change_told(rt.alloc()))
 }
 
+// The row of the one method is given to the class `Ljava/lang/Object;`.
+fn is_foreign_method_told(alloc: Global) -> Result<bool, Fault> {
+    let foreign = closed_with(alloc, &ONE_CLASS, 152, &[1])?;
+    Ok(is_refused_so(alloc, &foreign, 46, 160) && is_refused_so(alloc, &[], 1, 0))
+}
+
 #[test]
-fn check_tells_a_file_with_tables_and_no_file_at_all(rt: HostRuntime) -> Result<(), Fail> {
-    let alloc = rt.alloc();
-    is_so(Ok(is_refused_so(alloc, &ONE_CLASS, 200, 56) && is_refused_so(alloc, &[], 1, 0)))
+fn check_tells_a_file_that_breaks_a_rule_and_no_file_at_all(rt: HostRuntime) -> Result<(), Fail> {
+    is_so(is_foreign_method_told(rt.alloc()))
 }
 
 // A file of more than 200,000 bytes, of several pieces of 64 KiB each.

@@ -1,0 +1,9 @@
+pub mod PlaceLaws
+pub mod EntryLaws
+pub mod ClearLaws
+pub mod TakingLaws
+pub mod MemberLaws
+pub mod HeadLaws
+pub mod StaticsLaws
+pub mod MethodLaws
+pub mod OnceLaws

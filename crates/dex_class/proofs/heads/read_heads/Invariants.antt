@@ -1,0 +1,7 @@
+use Rattle.dex_tables.specs.Reading.{AreFirst}
+use Rattle.dex_class.specs.ClassFaults.{ClassHolds}
+use Rattle.dex_class.specs.Reading.{IsHead}
+use Rattle.dex_class.proofs.heads.read_heads.Given as goal
+
+abbrev pub invariant-loop-i : goal.invariant-loop-i
+invariant-loop-i l = AreFirst IsHead ClassHolds l.sections l.i l.heads.items

@@ -1,0 +1,11 @@
+use Rattle.dex_class.proofs.ClearLaws.{class_clear, values_clear, methods_clear}
+use Rattle.dex_class.proofs.laws.classes_are_clear.Goals as goal
+
+pub returns-clause-rows : goal.returns-clause-rows
+returns-clause-rows c = λ b framed i code holds. class_clear b framed i code holds
+
+pub returns-clause-values : goal.returns-clause-values
+returns-clause-values c = λ b framed i e holds. values_clear b framed i e holds
+
+pub returns-clause-code : goal.returns-clause-code
+returns-clause-code c = λ b framed i e holds. methods_clear b framed i e holds

@@ -1,0 +1,9 @@
+use Rattle.std.proofs.Common.{map}
+use Rattle.dex_program.specs.View.{class}
+use Rattle.dex_tables.specs.Reading.{AreFirst}
+use Rattle.dex_class.specs.Classes.{SpellsClass}
+use Rattle.dex_class.specs.ClassFaults.{MethodsHold}
+use Rattle.dex_class.proofs.methods.read_classes.Given as goal
+
+abbrev pub invariant-loop-i : goal.invariant-loop-i
+invariant-loop-i l = AreFirst SpellsClass MethodsHold l.sections l.i (map class l.classes.items)

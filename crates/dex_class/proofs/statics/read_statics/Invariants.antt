@@ -1,0 +1,7 @@
+use Rattle.dex_tables.specs.Reading.{AreFirst}
+use Rattle.dex_class.specs.ClassFaults.{ValuesHold}
+use Rattle.dex_class.specs.Reading.{AreStatics}
+use Rattle.dex_class.proofs.statics.read_statics.Given as goal
+
+abbrev pub invariant-loop-i : goal.invariant-loop-i
+invariant-loop-i l = AreFirst AreStatics ValuesHold l.sections l.i l.all.items

@@ -1,0 +1,6 @@
+pub mod ClassRows
+pub mod Places
+pub mod ClassData
+pub mod Classes
+pub mod ClassFaults
+pub mod Reading

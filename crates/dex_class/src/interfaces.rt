@@ -1,0 +1,79 @@
+// The interfaces of a class: fault 43.
+ghost use Rattle.std.specs.Prelude.{◌≡◌, ◌≢◌, ◌↔◌, ◌<◌, IfOk, IfSome, IfNone, IsTrue, IsOkUnless, length, map};
+ghost use Rattle.std.specs.List.{AllByRecursion};
+ghost use Rattle.dex_base.specs.Descriptor.{IsClass};
+ghost use Rattle.dex_bytes.specs.Fault.{memory};
+ghost use Rattle.dex_program.specs.View.{desc};
+ghost use Rattle.dex_tables.specs.Names.{AreNamesOf};
+ghost use Rattle.dex_class.specs.Classes.{AreDistinct, InterfacesAt};
+ghost use Rattle.dex_class.specs.Reading.{IsNotAmong};
+
+use bumpalo::Bump;
+use dex_base::{Fault, is_class};
+use dex_container::Sections;
+use dex_program::{Desc, desc_eq};
+use dex_tables::Tables;
+use std::alloc::Global;
+
+// Whether all of the types are class types.
+fn are_classes(types: &[Desc<'_>]) -> bool
+    ensures { IsTrue result ↔ AllByRecursion IsClass (map desc types.now) }
+{
+    for ty in types {
+        if !is_class(ty.text.units) {
+            return false;
+        }
+    }
+    true
+}
+
+// Whether none of the first n types is type n.
+fn is_new(types: &[Desc<'_>], n: usize) -> bool
+    requires { n < length types.now }
+    ensures { IsTrue result ↔ IsNotAmong (map desc types.now) n n }
+{
+    for i in 0..n {
+        if desc_eq(&types[i], &types[n]) {
+            return false;
+        }
+    }
+    true
+}
+
+// Whether no type stands twice.
+fn are_distinct(types: &[Desc<'_>]) -> bool
+    ensures { IsTrue result ↔ AreDistinct (map desc types.now) }
+{
+    for n in 0..types.len() {
+        if !is_new(types, n) {
+            return false;
+        }
+    }
+    true
+}
+
+/// The interfaces at an offset, in the arena. None where no list of distinct class types stands there.
+pub(crate) fn read_interfaces<'a>(
+    alloc: Global,
+    arena: &'a Bump,
+    sections: &Sections<'_>,
+    tables: &Tables<'a>,
+    off: u32,
+) -> Result<Option<&'a [Desc<'a>]>, Fault>
+    requires names { AreNamesOf sections.now tables.now }
+    ensures found { IfOk result (λ r. IfSome r (λ list. InterfacesAt sections.now off (map desc list.now))) }
+    ensures none { IfOk result (λ r. IfNone r ((ts : _) → ¬ InterfacesAt sections.now off ts)) }
+    ensures memory { IsOkUnless result memory }
+{
+    let _file = sections.bytes();
+    let Some(types) = tables.type_list(alloc, arena, sections, off)? else {
+        return Ok(None);
+    };
+    if !are_classes(types) {
+        return Ok(None);
+    }
+    if !are_distinct(types) {
+        return Ok(None);
+    }
+    Ok(Some(types))
+}

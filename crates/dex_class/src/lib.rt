@@ -1,0 +1,28 @@
+//! Classes of a file: what a row of class_defs spells, read in three passes over all rows: names and members, static values, code.
+//!
+//! ```
+//! let heads = read_heads(alloc, &arena, &scratch, &sections, &tables)?; // faults 40 to 47
+//! let statics = read_statics(alloc, &arena, &scratch, &sections, &tables, heads)?; // faults 48 to 51
+//! let classes = read_classes(alloc, &arena, &sections, &tables, heads, statics)?; // faults 60 to 72
+//! ```
+#![tactic(auto)]
+
+// A row of class_defs and what it refers to, in the order in which it is checked.
+mod class_data;
+mod class_row;
+mod interfaces;
+mod members;
+mod order;
+mod places;
+
+// The passes over all rows.
+mod heads;
+mod laws;
+mod methods;
+mod statics;
+
+pub use heads::{Head, read_heads};
+pub use laws::{class_is_one, classes_are_clear};
+pub use members::Bare;
+pub use methods::read_classes;
+pub use statics::{Statics, read_statics};

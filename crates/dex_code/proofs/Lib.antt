@@ -1,0 +1,10 @@
+pub mod HandlerLaws
+pub mod HandlerReading
+pub mod ListReading
+pub mod TriesOnce
+pub mod TryLaws
+pub mod ItemLaws
+pub mod FaultLaws
+pub mod StandLaws
+pub mod CarryLaws
+pub mod CodeLaws

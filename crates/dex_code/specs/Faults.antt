@@ -1,0 +1,64 @@
+-- What a refusal of a code item says: the rule that is broken at its place.
+-- Page: "Dalvik Executable format", "code_item", "try_item" and "encoded_catch_handler_list".
+use Rattle.std.specs.Prelude.{ℕ, ◌≡◌, ◌-◌, ◌+◌, ◌*◌, ◌%◌, ◌<◌, ◌≤◌, ◌⊎◌, List, ◌++◌, length, take, drop, Some}
+use Rattle.dex_bytes.specs.declared.fault.Fault.{Fault}
+use Rattle.dex_container.specs.Frame.{IsSection}
+use Rattle.dex_insn.specs.Raw.{Raw}
+use Rattle.dex_program.specs.Content.{Name}
+use Rattle.dex_container.specs.Where.{IsInSection}
+use Rattle.dex_code_insns.specs.Places.{IsFirst}
+use Rattle.dex_code_insns.specs.Walk.{Walks, starts}
+use Rattle.dex_code_insns.specs.InsnFaults.{InsnsBreak}
+use Rattle.dex_code.specs.Item.{size_of, tries_of, units_of, items_of, tries_begin, list_begin, try_handler, IsWhole}
+use Rattle.dex_code.specs.Handlers.{Handler, SpellsList, handler_at}
+use Rattle.dex_code.specs.Tries.{TryHolds}
+
+-- ---- tries; `base` is the place of the first try_item
+
+-- Handlers stand at the front of these bytes, and each of the n try_items has one of them.
+pub record HasHandlers (N : ℕ → Name → Type 0) (ss : List ℕ) (n : ℕ) (items rest : List ℕ) : Type 0 where
+  pub list : List ℕ
+  pub behind : List ℕ
+  pub joined : rest ≡ list ++ behind
+  pub handlers : List (ℕ × Handler)
+  pub spelled : SpellsList N ss list handlers
+  pub each : (i : ℕ) → i < n → (h : Handler) × (handler_at handlers (try_handler items i) ≡ Some h)
+
+-- the place of the list
+abbrev pub list_fault : ℕ → Fault
+list_fault place = record { code = 72; place = place }
+
+-- What is wrong with tries and handlers: the first try_item that breaks the rules (71), or the list (72).
+abbrev pub TriesBreak : (ℕ → Name → Type 0) → List ℕ → ℕ → ℕ → List ℕ → List ℕ → ℕ → Fault → Type 0
+TriesBreak N ss size n items rest base fault =
+    ((i : ℕ) × IsFirst (TryHolds ss size items) (TryHolds ss size items) n i × (fault ≡ record { code = 71; place = base + 8 * i }))
+    ⊎ ((0 < n) × (¬ HasHandlers N ss n items rest) × (fault ≡ list_fault (base + 8 * n)))
+
+-- ---- the item
+
+-- What is wrong with the item at `off` whose section has these bytes from it on: header, units, padding or try_items go past the
+-- section (60), it has no units (61), its instructions or its tries are wrong.
+abbrev pub ItemBreaks : (ℕ → Name → Type 0) → ℕ → List ℕ → Fault → Type 0
+ItemBreaks N off bytes fault =
+    ((¬ IsWhole bytes) × (fault ≡ record { code = 60; place = off }))
+    ⊎ (IsWhole bytes × (size_of bytes ≡ 0) × (fault ≡ record { code = 61; place = off }))
+    ⊎ InsnsBreak N (units_of bytes) (off + 16) fault
+    ⊎ ((raws : List Raw) × Walks (units_of bytes) raws
+    × TriesBreak N (starts raws) (size_of bytes) (tries_of bytes) (items_of bytes) (drop (list_begin bytes) bytes) (off + tries_begin bytes) fault)
+
+-- ---- the file
+
+-- These bytes are what the section of code items, which goes to `end`, has from this place on.
+pub record IsRest (b : List ℕ) (off end : ℕ) (bytes : List ℕ) : Type 0 where
+  pub begin : ℕ
+  pub section : IsSection b 0x2001 begin end
+  pub behind : begin ≤ off
+  pub before : off < end
+  pub same : bytes ≡ take (end - off) (drop off b)
+
+-- The place is misaligned or lies outside the section of code items (60), or what is there is wrong.
+abbrev pub CodeBreaks : (ℕ → Name → Type 0) → List ℕ → ℕ → Fault → Type 0
+CodeBreaks N b off fault =
+    ((¬ (off % 4 ≡ 0)) × (fault ≡ record { code = 60; place = off }))
+    ⊎ ((¬ IsInSection b 0x2001 off) × (fault ≡ record { code = 60; place = off }))
+    ⊎ ((end : ℕ) × (bytes : List ℕ) × IsRest b off end bytes × ItemBreaks N off bytes fault)

@@ -1,0 +1,9 @@
+pub mod Runs
+pub mod PlaceLaws
+pub mod PayloadLaws
+pub mod UseLaws
+pub mod TargetLaws
+pub mod RuleLaws
+pub mod ResolveLaws
+pub mod InsnsOnce
+pub mod InsnFaultLaws

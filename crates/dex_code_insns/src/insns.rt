@@ -1,0 +1,132 @@
+//! The instructions of a code, stage by stage.
+
+ghost use Rattle.std.specs.Prelude.{◌≡◌, ◌≢◌, ◌^◌, ◌<◌, ◌≤◌, ◌%◌, length, map, IfOk, IfErr, IsOkUnless, IsTrue};
+ghost use Rattle.dex_bytes.specs.Fault.{memory};
+ghost use Rattle.dex_program.specs.View.{insn};
+ghost use Rattle.dex_tables.specs.Names.{NameIsAt};
+ghost use Rattle.dex_insn.specs.Raw.{raw};
+ghost use Rattle.dex_code_insns.specs.Walk.{IsTable, raw_at};
+ghost use Rattle.dex_code_insns.specs.Places.{AllHold};
+ghost use Rattle.dex_code_insns.specs.Payloads.{AreUsers, UseHolds};
+ghost use Rattle.dex_code_insns.specs.Insns.{BranchHolds, TargetsHold, NameHolds, SpellsInsn, IsBase};
+ghost use Rattle.dex_code_insns.specs.InsnFaults.{InsnsBreak};
+ghost use Rattle.dex_code_insns.specs.Reading.{AreResolved, ReadInsns};
+
+use crate::payloads::{is_switch, payload_at};
+use crate::rules::{check_branches, check_names, check_targets, is_payload};
+use crate::symbols::resolve;
+use crate::targets::resolve_payload;
+use crate::uses::{Use, check_uses, users};
+use crate::walking::walk;
+use bumpalo::Bump;
+use bumpalo::collections::into_bump_slice;
+use dex_base::Fault;
+use dex_insn::RawInsn;
+use dex_program::Insn;
+use dex_tables::Tables;
+use std::alloc::Global;
+
+/// The instructions of a code, and the unit at which each begins.
+#[derive(Drop)]
+pub struct Insns<'a> {
+    pub insns: &'a [Insn<'a>],
+    pub starts: Vec<u32>,
+}
+
+/// From where the offsets in instruction `k` count.
+fn base_of(all: &[Use], insns: &[RawInsn<'_>], begins: &[u32], k: usize) -> u32
+    requires table { IsTable begins.now (map raw insns.now) }
+    requires users { AreUsers (map raw insns.now) (length insns.now) all.now }
+    requires uses { AllHold (UseHolds (map raw insns.now)) (length insns.now) }
+    requires inside { k < length insns.now }
+    ensures { IsBase (map raw insns.now) k result }
+{
+    if !is_switch(payload_at(insns, k)) {
+        return begins[k];
+    }
+    match all[k] {
+        Use::By(j) => begins[j as usize],
+        _ => begins[k],
+    }
+}
+
+/// Instruction `k`.
+fn resolve_at<'a>(
+    arena: &'a Bump,
+    tables: &Tables<'a>,
+    all: &[Use],
+    insns: &[RawInsn<'_>],
+    begins: &[u32],
+    k: usize,
+) -> Result<Insn<'a>, Fault>
+    requires table { IsTable begins.now (map raw insns.now) }
+    requires users { AreUsers (map raw insns.now) (length insns.now) all.now }
+    requires names { AllHold (NameHolds (NameIsAt tables.now) (map raw insns.now)) (length insns.now) }
+    requires branches { AllHold (BranchHolds (map raw insns.now)) (length insns.now) }
+    requires uses { AllHold (UseHolds (map raw insns.now)) (length insns.now) }
+    requires targets { AllHold (TargetsHold (map raw insns.now)) (length insns.now) }
+    requires inside { k < length insns.now }
+    ensures ok { IfOk result (λ i. SpellsInsn (NameIsAt tables.now) (map raw insns.now) k (insn i)) }
+    ensures err { IsOkUnless result memory }
+{
+    let one = &insns[k];
+    if is_payload(one) {
+        return resolve_payload(arena, tables, begins, base_of(all, insns, begins, k), one);
+    }
+    match resolve(tables, begins, begins[k], one) {
+        Some(found) => Ok(found),
+        None => unreachable!(),
+    }
+}
+
+/// All instructions.
+fn resolve_all<'a>(
+    arena: &'a Bump,
+    tables: &Tables<'a>,
+    all: &[Use],
+    insns: &[RawInsn<'_>],
+    begins: &[u32],
+) -> Result<&'a [Insn<'a>], Fault>
+    requires table { IsTable begins.now (map raw insns.now) }
+    requires users { AreUsers (map raw insns.now) (length insns.now) all.now }
+    requires names { AllHold (NameHolds (NameIsAt tables.now) (map raw insns.now)) (length insns.now) }
+    requires branches { AllHold (BranchHolds (map raw insns.now)) (length insns.now) }
+    requires uses { AllHold (UseHolds (map raw insns.now)) (length insns.now) }
+    requires targets { AllHold (TargetsHold (map raw insns.now)) (length insns.now) }
+    ensures ok { IfOk result (λ found. AreResolved (NameIsAt tables.now) (map raw insns.now) (map insn found.now)) }
+    ensures err { IsOkUnless result memory }
+{
+    let mut found = Vec::with_capacity(arena, insns.len())?;
+    for k in 0..insns.len() {
+        let one = resolve_at(arena, tables, all, insns, begins, k)?;
+        found.push(one)?;
+    }
+    Ok(into_bump_slice(found))
+}
+
+/// Reads the instructions of a code, whose first unit is at the place `base`.
+pub fn read_insns<'a>(
+    alloc: Global,
+    arena: &'a Bump,
+    tables: &Tables<'a>,
+    units: &[u8],
+    base: u64,
+) -> Result<Insns<'a>, Fault>
+    requires even { length units.now % 2 ≡ 0 }
+    requires short { length units.now ≤ 8589934590 }
+    requires base { base < 2 ^ 40 }
+    ensures ok { IfOk result (λ i. ReadInsns (NameIsAt tables.now) units.now i.starts.items (map insn i.insns.now)) }
+    ensures err { IfErr result (λ e. e ≢ memory → InsnsBreak (NameIsAt tables.now) units.now base e) }
+{
+    let walked = walk(alloc, units, base)?;
+    check_names(tables, &walked.insns, &walked.starts, base)?;
+    check_branches(&walked.insns, &walked.starts, base)?;
+    let all = users(alloc, &walked.insns, &walked.starts)?;
+    check_uses(&all, &walked.insns, &walked.starts, base)?;
+    check_targets(&all, &walked.insns, &walked.starts, base)?;
+    let insns = resolve_all(arena, tables, &all, &walked.insns, &walked.starts)?;
+    Ok(Insns {
+        insns,
+        starts: walked.starts,
+    })
+}

@@ -1,0 +1,30 @@
+//! The instructions of a code item: the units walked once, end to end, the rules of indices, branches, payloads and switches
+//! checked, and each instruction made symbolic, with names for indices and numbers of instructions for offsets.
+//!
+//! ```text
+//! let insns = read_insns(alloc, &arena, &tables, units, base)?; // 28 fe: goto -2 is `I10t { op: 0x28, to: .. }`
+//! let n = number_at(&insns.starts, 7); // the number of the instruction whose address is 7
+//! ```
+#![tactic(auto)]
+
+// From addresses to numbers of instructions.
+mod places;
+
+// The units, end to end.
+mod walking;
+
+// The rules, in the order in which they are checked.
+mod names;
+mod payloads;
+mod rules;
+mod uses;
+
+// From raw instructions to symbolic ones.
+mod symbols;
+mod targets;
+
+// All of it.
+mod insns;
+
+pub use insns::{Insns, read_insns};
+pub use places::{below, number_at};
