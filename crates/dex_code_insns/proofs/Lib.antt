@@ -7,3 +7,4 @@ pub mod RuleLaws
 pub mod ResolveLaws
 pub mod InsnsOnce
 pub mod InsnFaultLaws
+pub mod Saying

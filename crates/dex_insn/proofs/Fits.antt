@@ -11,15 +11,15 @@ use Rattle.dex_bytes.specs.Fields.{AreBytes}
 use Rattle.dex_insn.specs.Written.{IsRaw, AreRegisters}
 use Rattle.dex_insn.proofs.Unique.{slice-length}
 
-behind : (us : List ℕ) (p : ℕ) → AreBytes us → AreBytes (drop p us)
+pub behind : (us : List ℕ) (p : ℕ) → AreBytes us → AreBytes (drop p us)
 behind us p bytes i = rw (get_or-drop p us i 0) (bytes (p + i))
 
 -- a number is below 2 to its bits
-number-1 : (us : List ℕ) (k : ℕ) → AreBytes us → number us k 1 < 65536
+pub number-1 : (us : List ℕ) (k : ℕ) → AreBytes us → number us k 1 < 65536
 unfolding number
 number-1 us k bytes = let d = behind us (2 * k) bytes in omega (arith, d 0, d 1)
 
-number-2 : (us : List ℕ) (k : ℕ) → AreBytes us → number us k 2 < 4294967296
+pub number-2 : (us : List ℕ) (k : ℕ) → AreBytes us → number us k 2 < 4294967296
 unfolding number
 number-2 us k bytes = let d = behind us (2 * k) bytes in omega (arith, d 0, d 1, d 2, d 3)
 
@@ -37,7 +37,7 @@ signed-8 z n e h = rw e (grind (arith, ints, nat_tests))
 signed-16 : (z : ℤ) (n : ℕ) → z ≡ signed 16 n → n < 65536 → FitsSigned w16 z
 signed-16 z n e h = rw e (grind (arith, ints, nat_tests))
 
-signed-32 : (z : ℤ) (n : ℕ) → z ≡ signed 32 n → n < 4294967296 → FitsSigned w32 z
+pub signed-32 : (z : ℤ) (n : ℕ) → z ≡ signed 32 n → n < 4294967296 → FitsSigned w32 z
 signed-32 z n e h = rw e (grind (arith, ints, nat_tests))
 
 signed-64 : (z : ℤ) (n : ℕ) → z ≡ signed 64 n → n < 18446744073709551616 → FitsSigned w64 z

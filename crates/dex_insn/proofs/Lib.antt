@@ -10,3 +10,4 @@ pub mod Fits
 pub mod Laws
 pub mod Mnemonics
 pub mod Rows
+pub mod Decided

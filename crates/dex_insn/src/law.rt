@@ -1,6 +1,6 @@
 //! Laws of what stands at a unit. None has code: each says of the definitions what its contract says.
 
-ghost use Rattle.std.specs.Prelude.{ℕ, List, ◌≡◌, ◌≤◌, ◌<◌, ◌+◌, ◌*◌, ◌%◌, ◌++◌, length, true, false};
+ghost use Rattle.std.specs.Prelude.{ℕ, List, ◌≡◌, ◌≤◌, ◌<◌, ◌+◌, ◌*◌, ◌%◌, ◌++◌, ◌⊎◌, length, true, false};
 ghost use Rattle.dex_bytes.specs.declared.fault.Fault.{Fault};
 ghost use Rattle.dex_insn.specs.Raw.{Raw, units, is_payload};
 ghost use Rattle.dex_insn.specs.RawInsns.{SpellsInsn, InsnStands, IsPayload};
@@ -21,6 +21,11 @@ pub fn whole_where_one_stands()
 /// Where an instruction stands, no rule is broken.
 pub fn clear_where_one_stands()
     ensures { (bytes : List ℕ) (at : ℕ) (r : Raw) (fault : Fault) → InsnStands bytes at r → IsFaultAt bytes at fault → ⊥ }
+{}
+
+/// At a unit that is there an instruction stands, or a rule is broken.
+pub fn one_stands_or_none()
+    ensures { (bytes : List ℕ) (at : ℕ) → AreBytes bytes → 2 * at + 2 ≤ length bytes → ((r : Raw) × InsnStands bytes at r) ⊎ ((fault : Fault) × IsFaultAt bytes at fault) }
 {}
 
 /// What stands behind an instruction doesn't change its reading.

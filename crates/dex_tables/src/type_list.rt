@@ -53,11 +53,7 @@ fn indexes_at<'b>(sections: &Sections<'b>, lists: Section, off: u32) -> Option<&
 }
 
 /// The indices of the type_list at an offset, where 0 stands for the empty list.
-pub fn indexes_or_none<'b>(
-    sections: &Sections<'b>,
-    lists: Section,
-    off: u32,
-) -> Option<&'b [u8]>
+pub fn indexes_or_none<'b>(sections: &Sections<'b>, lists: Section, off: u32) -> Option<&'b [u8]>
     requires section { IsSectionOf sections.now 0x1001 lists }
     ensures some { IfSome result (λ bytes. AtOrNone SpellsIndexes sections.now 0x1001 4 off (halves bytes.now)) }
     ensures even { IfSome result (λ bytes. length bytes.now ≡ 2 * length (halves bytes.now)) }

@@ -7,6 +7,10 @@ mod frame;
 #[cfg(test)]
 mod sections;
 
+// dex_layout
+#[cfg(test)]
+mod laid;
+
 // dex_tables
 #[cfg(test)]
 mod named_rows;

@@ -18,3 +18,7 @@ mod shorties;
 mod needed;
 #[cfg(test)]
 mod ranks_shown;
+
+// dex_rules
+#[cfg(test)]
+mod rules;

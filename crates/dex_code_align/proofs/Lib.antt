@@ -1,0 +1,4 @@
+pub mod PadLaws
+pub mod MoveLaws
+pub mod AlignedFormed
+pub mod SameLaws

@@ -1,0 +1,17 @@
+use Rattle.std.proofs.Common.{◌≡◌, ◌≢◌, ◌<◌, ◌≤◌, ◌+◌, ◌*◌, ◌∙◌, ℕ, List, map, length, get_or, take, refl, arith, ap, sym, subst, rules, below_more, Option, Some, None, true, false, inl, inr}
+use Rattle.std.specs.Prelude.{IfSome, IsTrue}
+use Rattle.dex_program.specs.Content.{Name}
+use Rattle.dex_program.specs.Kinds.{IsOfKind}
+use Rattle.dex_names.specs.Closure.{NameRanks}
+use Rattle.dex_program.specs.View.{insn}
+use Rattle.dex_program.specs.View as view
+use Rattle.dex_code_put.specs.Fits.{short_name}
+use Rattle.dex_code_fits.proofs.names.name_fits.Goals as goal
+
+pub returns-else-not-is_of_kind : goal.returns-else-not-is_of_kind
+returns-else-not-is_of_kind c =
+    let s : Some (view.name c.in-Some.name) ≡ short_name (insn c.args.one.now) = search rules in
+    let kind : IsOfKind c.args.kind (view.name c.in-Some.name) = c.is_of_kind.ensures.0 (search rules) in
+    subst (λ (o : Option Name). (IsTrue c.is_short.result → IfSome o (λ which. IsOfKind c.args.kind which → (index : ℕ) → NameRanks c.args.ranks.now index which → index < 65536))
+    × (IfSome o (λ which. IsOfKind c.args.kind which → (index : ℕ) → NameRanks c.args.ranks.now index which → index < 65536) → IsTrue c.is_short.result)) s
+    (λ t k. c.is_short.ensures.0 t, λ h. c.is_short.ensures.1 (h kind))

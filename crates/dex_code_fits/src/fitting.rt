@@ -1,0 +1,87 @@
+//! Whether a code fits.
+
+ghost use Rattle.std.specs.Prelude.{◌≡◌, ◌≢◌, OnOk, IfErr};
+ghost use Rattle.std.specs.List.{AllByRecursion, flat_map};
+ghost use Rattle.dex_bytes.specs.Fault.{memory};
+ghost use Rattle.dex_program.specs.Formed.{IsFormed};
+ghost use Rattle.dex_program.specs.Mentions.{names_of_code, names_of_try};
+ghost use Rattle.dex_program.specs.View as view;
+ghost use Rattle.dex_names.specs.Closure.{NameRanks};
+ghost use Rattle.dex_code_fits.specs.Ranked.{HasIndex};
+ghost use Rattle.dex_code_put.specs.Fits.{FitsCode, IsUnfit, HasIndexBelow};
+
+use crate::names::names_fit;
+use crate::offsets::{are_even, offsets_fit};
+use crate::tries::{handlers_fit, is_short, tries_fit};
+use dex_base::{Fault, fault};
+use dex_code_put::{origins_of, starts_of};
+use dex_insn::IndexKind;
+use dex_names::Ranks;
+use dex_program::Code;
+use std::alloc::Global;
+
+/// Whether a code that is well formed fits the fields of a file. Of the rules that it breaks the fault names the first: 82 to 84 an
+/// index of a string, field or method that doesn't fit 16 bits, 85 an offset, 86 a payload at an odd address, 87 a try that covers
+/// too much, 88 too many tries, 89 a handler too far behind the list's begin. Its place is 0. Beside these only want of memory.
+pub fn fits(alloc: Global, ranks: &Ranks<'_>, code: &Code<'_>) -> Result<(), Fault>
+    requires formed { IsFormed (view.code code.now) }
+    requires ranked { AllByRecursion (HasIndex (NameRanks ranks.now)) (names_of_code (view.code code.now)) }
+    requires caught { AllByRecursion (HasIndexBelow (NameRanks ranks.now) 4294967296) (flat_map names_of_try (view.code code.now).tries) }
+    ensures ok { OnOk result (FitsCode (NameRanks ranks.now) (view.code code.now)) }
+    ensures err { IfErr result (λ e. e ≢ memory → IsUnfit (NameRanks ranks.now) (view.code code.now) e) }
+{
+    if !names_fit(ranks, IndexKind::String, code.insns) {
+        return Err(Fault {
+            code: fault::STRING_OUT_OF_REACH,
+            place: 0,
+        });
+    }
+    if !names_fit(ranks, IndexKind::Field, code.insns) {
+        return Err(Fault {
+            code: fault::FIELD_OUT_OF_REACH,
+            place: 0,
+        });
+    }
+    if !names_fit(ranks, IndexKind::Method, code.insns) {
+        return Err(Fault {
+            code: fault::METHOD_OUT_OF_REACH,
+            place: 0,
+        });
+    }
+    let all = starts_of(alloc, code.insns)?;
+    let origins = origins_of(alloc, code.insns)?;
+    if !offsets_fit(&all.starts, &origins, code.insns) {
+        return Err(Fault {
+            code: fault::BRANCH_OUT_OF_REACH,
+            place: 0,
+        });
+    }
+    if !are_even(&all.starts, code.insns) {
+        return Err(Fault {
+            code: fault::MISALIGNED,
+            place: 0,
+        });
+    }
+    if !tries_fit(&all.starts, code.tries) {
+        return Err(Fault {
+            code: fault::TRY_TOO_LONG,
+            place: 0,
+        });
+    }
+    if code.tries.len() > 65535 {
+        return Err(Fault {
+            code: fault::TOO_MANY_TRIES,
+            place: 0,
+        });
+    }
+    if !is_short(all.end, code.tries) {
+        return Ok(());
+    }
+    if !handlers_fit(alloc, ranks, &all.starts, code.tries)? {
+        return Err(Fault {
+            code: fault::HANDLER_TOO_FAR,
+            place: 0,
+        });
+    }
+    Ok(())
+}

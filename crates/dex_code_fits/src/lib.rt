@@ -1,0 +1,13 @@
+//! Whether a code fits a file's fields.
+//!
+//! ```text
+//! fits(alloc, &ranks, &code)?; // 82 to 89 where an index, an offset or a count is too large for its field
+//! ```
+#![tactic(auto)]
+
+mod fitting;
+mod names;
+mod offsets;
+mod tries;
+
+pub use fitting::fits;

@@ -1,0 +1,83 @@
+//! Whether the indices of names fit fields of 16 bits.
+
+ghost use Rattle.std.specs.Prelude.{◌≡◌, ◌<◌, ◌↔◌, ℕ, length, map, option_map, IsTrue};
+ghost use Rattle.std.specs.List.{AllByRecursion};
+ghost use Rattle.dex_program.specs.Formed.{insn_at};
+ghost use Rattle.dex_program.specs.Kinds.{IsOfKind};
+ghost use Rattle.dex_program.specs.Mentions.{names_of_insn};
+ghost use Rattle.dex_program.specs.View.{insn};
+ghost use Rattle.dex_program.specs.View as view;
+ghost use Rattle.dex_names.specs.Closure.{NameRanks};
+ghost use Rattle.dex_code_fits.specs.Ranked.{HasIndex};
+ghost use Rattle.dex_code_put.specs.Fits.{short_name, ShortFits};
+
+use dex_insn::IndexKind;
+use dex_names::Ranks;
+use dex_program::{Insn, Name};
+
+/// The name in an instruction whose index has a field of 16 bits.
+fn short_name<'a>(one: &Insn<'a>) -> Option<Name<'a>>
+    ensures { option_map view.name result ≡ short_name (insn one.now) }
+{
+    match *one {
+        Insn::I21c { name, .. }
+        | Insn::I22c { name, .. }
+        | Insn::I35c { name, .. }
+        | Insn::I3rc { name, .. } => Some(name),
+        _ => None,
+    }
+}
+
+/// Whether it is a name of this table.
+fn is_of_kind(kind: IndexKind, name: Name<'_>) -> bool
+    ensures { IsTrue result ↔ IsOfKind kind (view.name name.entry) }
+{
+    match (kind, name) {
+        (IndexKind::String, Name::Text(_)) => true,
+        (IndexKind::Type, Name::Desc(_)) => true,
+        (IndexKind::Field, Name::Field(_)) => true,
+        (IndexKind::Method, Name::Method(_)) => true,
+        _ => false,
+    }
+}
+
+/// Whether the index of a name fits 16 bits.
+fn is_short(ranks: &Ranks<'_>, name: Name<'_>) -> bool
+    requires ranked { HasIndex (NameRanks ranks.now) (view.name name) }
+    ensures { IsTrue result ↔ ((i : ℕ) → NameRanks ranks.now i (view.name name.entry) → i < 65536) }
+{
+    ranks.rise();
+    match ranks.index_of(name) {
+        Some(index) => index < 65536,
+        None => false,
+    }
+}
+
+/// Whether the index of the name in an instruction fits its field, if the name is of this kind.
+fn name_fits(ranks: &Ranks<'_>, kind: IndexKind, one: &Insn<'_>) -> bool
+    requires ranked { AllByRecursion (HasIndex (NameRanks ranks.now)) (names_of_insn (insn one.now)) }
+    ensures { IsTrue result ↔ ShortFits (NameRanks ranks.now) kind (insn one.now) }
+{
+    match short_name(one) {
+        None => true,
+        Some(name) => {
+            if !is_of_kind(kind, name) {
+                return true;
+            }
+            is_short(ranks, name)
+        }
+    }
+}
+
+/// Whether the indices of all names of this kind fit their fields.
+pub(crate) fn names_fit(ranks: &Ranks<'_>, kind: IndexKind, insns: &[Insn<'_>]) -> bool
+    requires ranked { (k : ℕ) → k < length insns.now → AllByRecursion (HasIndex (NameRanks ranks.now)) (names_of_insn (insn_at (map insn insns.now) k)) }
+    ensures { IsTrue result ↔ ((k : ℕ) → k < length insns.now → ShortFits (NameRanks ranks.now) kind (insn_at (map insn insns.now) k)) }
+{
+    for k in 0..insns.len() {
+        if !name_fits(ranks, kind, &insns[k]) {
+            return false;
+        }
+    }
+    true
+}

@@ -1,0 +1,4 @@
+pub mod WrittenLaws
+pub mod LoweredLaws
+pub mod PackedTries
+pub mod PackedLaws

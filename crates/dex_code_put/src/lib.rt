@@ -1,0 +1,29 @@
+//! Code items, written: whether a code fits a file's fields, where its instructions begin, and its bytes.
+//!
+//! ```text
+//! fits(alloc, &ranks, &code)?; // 82 to 89 where an index, an offset or a count is too large for its field
+//! let all = addresses(alloc, &code)?; // [0, 1, 3]: two instructions, of one and of two units
+//! put_code(&mut out, &ranks, &code)?; // appends the code item
+//! ```
+#![tactic(auto)]
+
+// Where the instructions begin.
+mod origins;
+mod sizes;
+
+// The instructions, from symbolic ones to units.
+mod insns;
+mod lowering;
+mod payloads;
+
+// Tries and handlers.
+mod handlers;
+mod items;
+
+// All of it.
+mod writing;
+
+pub use handlers::{Laid, lay_handlers};
+pub use origins::origins_of;
+pub use sizes::{Starts, addresses, starts_of, units_of};
+pub use writing::put_code;

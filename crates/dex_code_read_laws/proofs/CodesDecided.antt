@@ -1,0 +1,122 @@
+-- At a place of a file a code stands, or a fault does.
+use Rattle.std.proofs.Common.{◌≡◌, ◌≢◌, ℕ, zero, suc, ◌+◌, ◌-◌, ◌*◌, ◌/◌, ◌%◌, ◌^◌, ◌<◌, ◌≤◌, ◌⊎◌, inl, inr, Option, Some, None, List, [], ◌∷◌, ◌++◌, length, take, drop, refl, sym, ap, ◌∙◌, subst, arith}
+use Rattle.std.specs.Prelude.{slice_get, slice_range}
+use Rattle.std.proofs.lemmas.Bool.{cases_lt, cases_eq}
+use Rattle.dex_bytes.specs.Deciding.{Decided}
+use Rattle.dex_bytes.specs.Fields.{AreBytes}
+use Rattle.dex_bytes.specs.Grammar.{Takes}
+use Rattle.dex_bytes.specs.declared.fault.Fault.{Fault}
+use Rattle.dex_bytes.proofs.Deciding.{decide_like, decide_both, decide_le}
+use Rattle.dex_bytes.proofs.FieldBounds.{u32_at-fits}
+use Rattle.dex_container.specs.Frame.{IsFramed}
+use Rattle.dex_container.proofs.PlacesDecided.{HasSection, decide_in, found_at}
+use Rattle.dex_insn.specs.Raw.{Raw}
+use Rattle.dex_insn.proofs.Fits.{behind}
+use Rattle.dex_insn.specs.declared.opcode.IndexKind.TheVariants as kind
+use Rattle.dex_program.specs.Content.{Name, OfText, OfDesc, OfField, OfMethod, Insn, Code}
+use Rattle.dex_program.specs.Kinds.{IsOfKind}
+use Rattle.dex_tables.specs.Names.{Names, NameIsAt}
+use Rattle.dex_code_insns.specs.Walk.{starts}
+use Rattle.dex_code_insns.specs.Insns.{SpellsInsns}
+use Rattle.dex_code_insns.specs.Symbols.{IsFunctional}
+use Rattle.dex_code.specs.Item.{size_of, tries_of, registers_of, ins_of, outs_of, units_of, items_of, units_end, tries_begin, list_begin, IsWhole}
+use Rattle.dex_code.specs.Code.{SpellsCode, CodeStands}
+use Rattle.dex_code.specs.Faults.{ItemBreaks, CodeBreaks}
+use Rattle.dex_code.proofs.FaultLaws.{units-even}
+use Rattle.dex_code.proofs.ItemLaws.{takes-from_read}
+use Rattle.dex_code.proofs.StandLaws.{NameIsAt-functional}
+use Rattle.dex_code_read_laws.proofs.Bytes.{take-bytes}
+use Rattle.dex_code_read_laws.proofs.Deciding.{option-cases}
+use Rattle.dex_code_read_laws.proofs.RulesDecided.{AreNamesDecided}
+use Rattle.dex_code_read_laws.proofs.InsnsDecided.{insns-decided}
+use Rattle.dex_code_read_laws.proofs.TriesDecided.{tries-decided}
+
+-- ---- names
+
+-- among the names of the tables each index stands for a name, or for none
+pub names-decided : (names : Names) → AreNamesDecided (NameIsAt names)
+names-decided names kind.String i = elim (option-cases (slice_get names.strings i)) [
+  | inl none ↦ inr (λ x. nowhere x.0 x.1 x.2 none)
+  | inr s ↦ inl (OfText s.0, tt, s.1)
+]
+  where
+    nowhere : (which : Name) → IsOfKind kind.String which → NameIsAt names i which → slice_get names.strings i ≡ None → ⊥
+    nowhere (OfText s) k n e = absurd cc
+    nowhere _ k n e = absurd k
+names-decided names kind.Type i = elim (option-cases (slice_get names.types i)) [
+  | inl none ↦ inr (λ x. nowhere x.0 x.1 x.2 none)
+  | inr s ↦ inl (OfDesc s.0, tt, s.1)
+]
+  where
+    nowhere : (which : Name) → IsOfKind kind.Type which → NameIsAt names i which → slice_get names.types i ≡ None → ⊥
+    nowhere (OfDesc s) k n e = absurd cc
+    nowhere _ k n e = absurd k
+names-decided names kind.Field i = elim (option-cases (slice_get names.fields i)) [
+  | inl none ↦ inr (λ x. nowhere x.0 x.1 x.2 none)
+  | inr s ↦ inl (OfField s.0, tt, s.1)
+]
+  where
+    nowhere : (which : Name) → IsOfKind kind.Field which → NameIsAt names i which → slice_get names.fields i ≡ None → ⊥
+    nowhere (OfField s) k n e = absurd cc
+    nowhere _ k n e = absurd k
+names-decided names kind.Method i = elim (option-cases (slice_get names.methods i)) [
+  | inl none ↦ inr (λ x. nowhere x.0 x.1 x.2 none)
+  | inr s ↦ inl (OfMethod s.0, tt, s.1)
+]
+  where
+    nowhere : (which : Name) → IsOfKind kind.Method which → NameIsAt names i which → slice_get names.methods i ≡ None → ⊥
+    nowhere (OfMethod s) k n e = absurd cc
+    nowhere _ k n e = absurd k
+
+-- ---- the item
+
+decide-whole : (bytes : List ℕ) → Decided (IsWhole bytes)
+decide-whole bytes = decide_like (λ x. record { head = x.0; fixed = x.1 }) (λ (w : IsWhole bytes). (w.head, w.fixed)) (decide_both (decide_le 16 (length bytes)) (decide_le (list_begin bytes) (length bytes)))
+
+units-are : (bytes : List ℕ) → AreBytes bytes → AreBytes (units_of bytes)
+units-are bytes are = take-bytes (units_end bytes - 16) (drop 16 bytes) (behind bytes 16 are)
+
+module _ (N : ℕ → Name → Type 0) (names : AreNamesDecided N) (functional : IsFunctional N) (off : ℕ) (bytes : List ℕ) (are : AreBytes bytes) where
+  abbrev IsItemDecided : Type 0
+  IsItemDecided = ((c : Code) × (rest : List ℕ) × Takes (SpellsCode N) bytes c rest) ⊎ ((e : Fault) × ItemBreaks N off bytes e)
+
+  with-insns : IsWhole bytes → 0 < size_of bytes → (rs : List Raw) (is : List Insn) → SpellsInsns N (units_of bytes) rs is → IsItemDecided
+  with-insns whole some rs is s = elim (tries-decided N names functional (starts rs) (size_of bytes) (tries_of bytes) (items_of bytes) (drop (list_begin bytes) bytes) (off + tries_begin bytes)) [
+    | inr f ↦ inr (f.0, inr (inr (inr (rs, s.walk, f.1))))
+    | inl x ↦
+        let c : Code = record { registers = registers_of bytes; ins = ins_of bytes; outs = outs_of bytes; insns = is; tries = x.0 } in
+        inl (c, x.1.behind, takes-from_read N bytes x.1.behind c (record { whole = whole; some = some; registers = refl; ins = refl; outs = refl; raws = rs; insns = s; list = x.1.list; joined = x.1.joined; tries = x.1.tries }))
+  ]
+
+  item-decided : IsItemDecided
+  item-decided = elim (decide-whole bytes) [
+    | inr broken ↦ inr (record { code = 60; place = off }, inl (broken, refl))
+    | inl whole ↦ elim (cases_eq (size_of bytes) 0) [
+      | inl none ↦ inr (record { code = 61; place = off }, inr (inl (whole, none, refl)))
+      | inr some ↦
+          let u = units-even bytes whole in
+          let f = u32_at-fits bytes 12 are in
+          elim (insns-decided N names (units_of bytes) (off + 16) (units-are bytes are) (omega (arith, u)) (omega (arith, u, f))) [
+            | inr e ↦ inr (e.0, inr (inr (inl e.1)))
+            | inl x ↦ with-insns whole (omega (arith, some)) x.0 x.1 x.2
+          ]
+    ]
+  ]
+
+-- ---- the file
+
+pub code-decided : (b : List ℕ) → AreBytes b → IsFramed b → (names : Names) (off : ℕ) → ((c : Code) × CodeStands (NameIsAt names) b off c) ⊎ ((e : Fault) × CodeBreaks (NameIsAt names) b off e)
+code-decided b are framed names off = elim (cases_eq (off % 4) 0) [
+  | inr odd ↦ inr (record { code = 60; place = off }, inl (odd, refl))
+  | inl even ↦ elim (decide_in b framed 0x2001 off) [
+    | inr outside ↦ inr (record { code = 60; place = off }, inr (inl (outside, refl)))
+    | inl s ↦
+        let N = NameIsAt names in
+        let bytes = take (s.end - off) (drop off b) in
+        let low = s.behind in let high = s.before in
+        elim (item-decided N (names-decided names) (NameIsAt-functional names) off bytes (take-bytes (s.end - off) (drop off b) (behind b off are))) [
+          | inr e ↦ inr (e.0, inr (inr (s.end, bytes, record { begin = s.begin; section = s.section; behind = low; before = high; same = refl }, e.1)))
+          | inl x ↦ inl (x.0, found_at (SpellsCode N) b framed 0x2001 4 off (record { begin = s.begin; end = s.end; section = s.section }) low (omega (arith, high)) even x.0 x.1 x.2)
+        ]
+  ]
+]

@@ -1,0 +1,11 @@
+pub mod Bytes
+pub mod Deciding
+pub mod WalkDecided
+pub mod RulesDecided
+pub mod InsnsDecided
+pub mod HandlersDecided
+pub mod TriesDecided
+pub mod CodesDecided
+pub mod SaidLaws
+pub mod NamesHaveRows
+pub mod CodesFormed

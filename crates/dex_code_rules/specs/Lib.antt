@@ -1,0 +1,2 @@
+pub mod CodeRules
+pub mod Parts

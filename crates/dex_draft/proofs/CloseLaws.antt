@@ -1,0 +1,92 @@
+-- Values of the static fields.
+use Rattle.std.proofs.Common.{◌≡◌, ℕ, zero, suc, ◌+◌, ◌<◌, ◌≤◌, Bool, true, false, ltb, if◌then◌else◌, List, [], ◌∷◌, ◌++◌, length, get_or, drop, take, map, Option, Some, None, refl, sym, ap, ◌∙◌, arith, add-one, drop-cons, drop_of_length-le}
+use Rattle.std.proofs.lemmas.Bool.{lt-ltb}
+use Rattle.std.proofs.lemmas.List.{map-append, take_all, take_more, length-map}
+use Rattle.std.proofs.Common.{slice_get, slice_set, insert, remove}
+use Rattle.dex_program.specs.Content.{Method, Code}
+use Rattle.dex_program.specs.View.{member, method, value}
+use Rattle.dex_program.specs.declared.class.Method.{Method as InMethod}
+use Rattle.dex_lines.specs.Lines.{end_code}
+use Rattle.dex_draft.specs.declared.stage.Stage.TheVariants.{Members}
+use Rattle.dex_draft.specs.Needs.{earliest, first_late}
+use Rattle.dex_draft.specs.States.{State, Open, Body, with_code, with_code_at, with_tries, whole_code, placed}
+use Rattle.dex_program.specs.declared.class.Member.{Member as Field}
+use Rattle.dex_program.specs.declared.value.Value.{Value as Put}
+use Rattle.dex_draft.specs.Members.{Given, is_given, given_length, value_or_zero}
+use Rattle.dex_draft.specs.View.{given}
+use Rattle.dex_draft.specs.declared.draft.Given.{Given as Made}
+
+-- behind i fields, of which the last with a value ends at n
+abbrev pub ends_at : ℕ → ℕ → ℕ → ℕ
+ends_at n i more = if ltb 0 more then i + more else n
+
+split : (more : ℕ) (b : Bool) (i n : ℕ) → ends_at n i (if ltb 0 more then more + 1 else (if b then 1 else 0)) ≡ ends_at (if b then i + 1 else n) (i + 1) more
+split zero true i n = refl
+split zero false i n = refl
+split (suc more) b i n =
+    let t : ltb 0 (suc more) ≡ true = lt-ltb 0 (suc more) (omega arith) in
+    let u : ltb 0 (suc more + 1) ≡ true = lt-ltb 0 (suc more + 1) (omega arith) in
+    rw (t, u) (omega arith)
+
+pub given_more : (all : List Made) (i n : ℕ) (x : Made) → i < length all
+    → ends_at n i (given_length (map given (drop i all))) ≡ ends_at (if is_given (given (get_or all i x)) then i + 1 else n) (i + 1) (given_length (map given (drop (i + 1) all)))
+unfolding given_length
+given_more all i n x h =
+    let d : drop i all ≡ get_or all i x ∷ drop (i + 1) all = rw add-one (drop-cons all i x h) in
+    rw d (split (given_length (map given (drop (i + 1) all))) (is_given (given (get_or all i x))) i n)
+
+pub given_end : (all : List Made) (i n : ℕ) → length all ≤ i → ends_at n i (given_length (map given (drop i all))) ≡ n
+unfolding given_length
+given_end all i n h = rw (drop_of_length-le all {i = i} h) refl
+
+-- ---- what is placed
+
+pub fields_are : (all : List Made) → map member (map (λ (g : Made). g.field) all) ≡ map (λ g. g.field) (map given all)
+fields_are [] = refl
+fields_are (g ∷ all) = ap (λ t. member g.field ∷ t) (fields_are all)
+
+pub fields_placed : (all : List Made) (fields : List Field) (i : ℕ) → length all ≤ i → fields ≡ map (λ (g : Made). g.field) (take i all) → map member fields ≡ map (λ g. g.field) (map given all)
+fields_placed all fields i h e = ap (map member) (e ∙ ap (map (λ (g : Made). g.field)) (take_all i all h)) ∙ fields_are all
+
+given_at : (all : List Made) (i : ℕ) (x : Made) (d : Given) → i < length all → given (get_or all i x) ≡ get_or (map given all) i d
+given_at [] i x d h = absurd (omega arith)
+given_at (g ∷ all) zero x d h = refl
+given_at (g ∷ all) (suc i) x d h = given_at all i x d (omega arith)
+
+pub values_push : (all : List Made) (done : List Put) (v : Put) (i : ℕ) (x : Made) → i < length all → map value done ≡ map value_or_zero (take i (map given all)) → value v ≡ value_or_zero (given (get_or all i x))
+    → map value (done ++ v ∷ []) ≡ map value_or_zero (take (i + 1) (map given all))
+values_push all done v i x h e f =
+    let n : i < length (map given all) = (let l = length-map all given in omega arith) in
+    let t = take_more (map given all) i (given x) n in
+    map-append value done (v ∷ []) ∙ rw (e, f, given_at all i x (given x) h) (sym (ap (map value_or_zero) t ∙ map-append value_or_zero (take i (map given all)) (get_or (map given all) i (given x) ∷ [])))
+
+-- ---- code of a method
+
+pub with_code_more : (m : Method) (ms : List Method) (n : ℕ) (c : Code) → with_code (m ∷ ms) (suc n) c ≡ m ∷ with_code ms n c
+unfolding with_code
+with_code_more m ms n c =
+    elim (slice_get ms n) as (λ (o : Option Method). elim o [ None ↦ m ∷ ms | Some k ↦ m ∷ slice_set ms n (record k { code = Some c }) ] ≡ m ∷ elim o [ None ↦ ms | Some k ↦ slice_set ms n (record k { code = Some c }) ]) [ None ↦ refl | Some k ↦ refl ]
+
+pub with_code_first : (m : Method) (ms : List Method) (c : Code) → with_code (m ∷ ms) 0 c ≡ record m { code = Some c } ∷ ms
+unfolding with_code
+with_code_first m ms c = refl
+
+pub with_code_none : (n : ℕ) (c : Code) → with_code [] n c ≡ []
+unfolding with_code
+with_code_none n c = refl
+
+pub code_put : (ms mid new : List InMethod) (n : ℕ) (x y : InMethod) (c : Code) → n < length ms → x ≡ get_or ms n x → mid ≡ remove ms n → new ≡ insert mid n y → method y ≡ record (method x) { code = Some c } → map method new ≡ with_code (map method ms) n c
+code_put [] mid new n x y c h e f g k = absurd (omega arith)
+code_put (m ∷ ms) mid new zero x y c h e f g k = rw (g, f, k, e) (sym (with_code_first (method m) (map method ms) c))
+code_put (m ∷ ms) mid new (suc n) x y c h e f g k = rw (g, f) (ap (λ t. method m ∷ t) (code_put ms (remove ms n) (insert (remove ms n) n y) n x y c (omega arith) e refl refl k) ∙ sym (with_code_more (method m) (map method ms) n c))
+
+pub code_past : (ms : List InMethod) (n : ℕ) (c : Code) → length ms ≤ n → map method ms ≡ with_code (map method ms) n c
+code_past [] n c h = sym (with_code_none n c)
+code_past (m ∷ ms) zero c h = absurd (omega arith)
+code_past (m ∷ ms) (suc n) c h = ap (λ t. method m ∷ t) (code_past ms n c (omega arith)) ∙ sym (with_code_more (method m) (map method ms) n c)
+
+-- the code is whole
+pub code_ends : (s : State) (o : Open) (b : Body) (l : Option ℕ) → b ≡ with_tries s.stage s.body → o ≡ with_code_at s.current b.direct b.place (whole_code b) → l ≡ earliest s.late (first_late (length s.body.insns) s.body.needs)
+    → placed s end_code ≡ Some (record s { stage = Members; current = o; body = b; late = l })
+unfolding placed
+code_ends s o b l e f g = rw (f, g, e) refl

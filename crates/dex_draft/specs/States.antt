@@ -1,0 +1,198 @@
+-- A listing that is being read: what is whole so far, and what is open.
+use Rattle.std.specs.Prelude.{ℕ, ◌+◌, ◌&&◌, Bool, true, false, if◌then◌else◌, List, [], ◌∷◌, ◌++◌, length, map, Option, Some, None, option_map, slice_get, slice_set}
+use Rattle.dex_program.specs.Content.{Units, Descriptor, Insn, Catch, Try, Code, Member, Method, Class}
+use Rattle.dex_words.specs.Numbers.{is_number}
+use Rattle.dex_lines.specs.Lines.{Line, first_line, open_class, end_class, super_line, implements_line, source_line, static_line, instance_line, direct_line, virtual_line, open_code, end_code, insn_line, try_line, catch_line, catch_all_line}
+use Rattle.dex_shapes.specs.Shapes.{Shape}
+use Rattle.dex_slots.specs.Keys.{same}
+use Rattle.dex_draft.specs.declared.stage.Stage.{Stage}
+use Rattle.dex_draft.specs.declared.stage.Stage.TheVariants.{Start, Top, Heads, Members, Behind, Insns, Tries, Caught}
+use Rattle.dex_draft.specs.Places.{may_stand, is_insn, is_caught}
+use Rattle.dex_draft.specs.Needs.{Need, line_needs, with_need, first_late, earliest}
+use Rattle.dex_draft.specs.Members.{Given, KeysAreSorted, field_key, method_key, place_of, put_at, values_of}
+
+-- The class that is open; its members rise.
+pub record Open : Type 0 where
+  pub ty : Descriptor
+  pub flags : ℕ
+  pub superclass : Option Descriptor
+  pub interfaces : List Descriptor
+  pub source : Option Units
+  pub statics : List Given
+  pub instances : List Member
+  pub directs : List Method
+  pub virtuals : List Method
+
+-- Each list of its members is in its order.
+pub record IsSorted (c : Open) : Type 0 where
+  pub statics : KeysAreSorted (map (λ h. field_key c.ty h.field) c.statics)
+  pub instances : KeysAreSorted (map (field_key c.ty) c.instances)
+  pub directs : KeysAreSorted (map (method_key c.ty) c.directs)
+  pub virtuals : KeysAreSorted (map (method_key c.ty) c.virtuals)
+
+-- The code that is open: of which method, and what it has so far. The catches are those of the last try.
+pub record Body : Type 0 where
+  pub direct : Bool
+  pub place : ℕ
+  pub registers : ℕ
+  pub ins : ℕ
+  pub outs : ℕ
+  pub insns : List Insn
+  pub tries : List Try
+  pub from : ℕ
+  pub to : ℕ
+  pub catches : List Catch
+  pub needs : List Need
+
+-- What stands in a listing so far: the whole classes, the class and the code that are open, how many lines were read, and the
+-- lowest line with a target that is no instruction of its code.
+pub record State : Type 0 where
+  pub done : List Class
+  pub stage : Stage
+  pub current : Open
+  pub body : Body
+  pub lines : ℕ
+  pub late : Option ℕ
+
+abbrev pub opened : Descriptor → ℕ → Open
+opened d f = record { ty = d; flags = f; superclass = None; interfaces = []; source = None; statics = []; instances = []; directs = []; virtuals = [] }
+
+abbrev pub start : State
+start = record {
+  done = [];
+  stage = Start;
+  current = opened [] 0;
+  body = record { direct = false; place = 0; registers = 0; ins = 0; outs = 0; insns = []; tries = []; from = 0; to = 0; catches = []; needs = [] };
+  lines = 0;
+  late = None;
+}
+
+-- The class is whole.
+abbrev pub closed : Open → Class
+closed c = record {
+  ty = c.ty;
+  flags = c.flags;
+  superclass = c.superclass;
+  interfaces = c.interfaces;
+  source = c.source;
+  statics = map (λ g. g.field) c.statics;
+  values = values_of c.statics;
+  instances = c.instances;
+  directs = c.directs;
+  virtuals = c.virtuals;
+}
+
+-- The try that is open is whole.
+abbrev pub try_of : Body → Option ℕ → Try
+try_of b all = record { from = b.from; to = b.to; catches = b.catches; catch_all = all }
+
+abbrev pub all_tries : Stage → Body → List Try
+all_tries s b = if is_caught s then b.tries ++ try_of b None ∷ [] else b.tries
+
+abbrev pub whole_code : Body → Code
+whole_code b = record { registers = b.registers; ins = b.ins; outs = b.outs; insns = b.insns; tries = b.tries }
+
+abbrev pub with_tries : Stage → Body → Body
+with_tries s b = record b { tries = all_tries s b }
+
+abbrev pub owned : Body → Bool → ℕ → Body
+owned b direct n = record b { direct = direct; place = n }
+
+unfoldable pub with_code : List Method → ℕ → Code → List Method
+with_code ms n c = elim (slice_get ms n) [ None ↦ ms | Some m ↦ slice_set ms n (record m { code = Some c }) ]
+
+-- The method that the code belongs to has it.
+abbrev pub with_code_at : Open → Bool → ℕ → Code → Open
+with_code_at o direct n c = if direct then record o { directs = with_code o.directs n c } else record o { virtuals = with_code o.virtuals n c }
+
+unfoldable pub is_among : List Descriptor → Descriptor → Bool
+is_among [] d = false
+is_among (e ∷ es) d = if same e d then true else is_among es d
+
+-- A member in its place: none where it is given already.
+unfoldable pub with_static : Open → Given → Option Open
+with_static o g = option_map (λ n. record o { statics = put_at n g o.statics }) (place_of (map (λ h. field_key o.ty h.field) o.statics) (field_key o.ty g.field))
+
+unfoldable pub with_instance : Open → Member → Option Open
+with_instance o m = option_map (λ n. record o { instances = put_at n m o.instances }) (place_of (map (field_key o.ty) o.instances) (field_key o.ty m))
+
+-- A method in its place, and which place that is.
+unfoldable pub with_direct : Open → Method → Option (Open × ℕ)
+with_direct o m = option_map (λ n. (record o { directs = put_at n m o.directs }, n)) (place_of (map (method_key o.ty) o.directs) (method_key o.ty m))
+
+unfoldable pub with_virtual : Open → Method → Option (Open × ℕ)
+with_virtual o m = option_map (λ n. (record o { virtuals = put_at n m o.virtuals }, n)) (place_of (map (method_key o.ty) o.virtuals) (method_key o.ty m))
+
+unfoldable pub with_superclass : Open → Descriptor → Option Open
+with_superclass o d = elim o.superclass [ None ↦ Some (record o { superclass = Some d }) | Some e ↦ None ]
+
+unfoldable pub with_source : Open → Units → Option Open
+with_source o us = elim o.source [ None ↦ Some (record o { source = Some us }) | Some e ↦ None ]
+
+unfoldable pub with_interface : Open → Descriptor → Option Open
+with_interface o d = if is_among o.interfaces d then None else Some (record o { interfaces = o.interfaces ++ d ∷ [] })
+
+-- ---- the code
+
+abbrev pub begun : Body → ℕ → ℕ → ℕ → Body
+begun b r i o = record b { registers = r; ins = i; outs = o; insns = []; tries = []; catches = []; needs = [] }
+
+abbrev pub with_insn : Body → Insn → Body
+with_insn b i = record b { insns = b.insns ++ i ∷ [] }
+
+abbrev pub with_try : Stage → Body → ℕ → ℕ → Body
+with_try s b from to = record b { tries = all_tries s b; from = from; to = to; catches = [] }
+
+abbrev pub with_catch : Body → Descriptor → ℕ → Body
+with_catch b d k = record b { catches = b.catches ++ record { ty = d; at = k } ∷ [] }
+
+abbrev pub with_catch_all : Body → ℕ → Body
+with_catch_all b k = record b { tries = b.tries ++ try_of b (Some k) ∷ [] }
+
+-- ---- a line more
+
+abbrev pub in_class : State → Stage → Option Open → Option State
+in_class s stage o = option_map (λ c. record s { stage = stage; current = c }) o
+
+abbrev pub behind_method : State → Bool → Option (Open × ℕ) → Option State
+behind_method s direct o = option_map (λ c. record s { stage = Behind; current = c.0; body = owned s.body direct c.1 }) o
+
+abbrev pub in_body : State → Stage → Body → Option State
+in_body s stage b = Some (record s { stage = stage; body = b })
+
+-- One line more was read.
+abbrev pub counted : State → State
+counted s = record s { lines = s.lines + 1 }
+
+-- What the last line's targets need is noted.
+abbrev pub noted : State → Line → State
+noted s line = record s { body = record s.body { needs = with_need s.body.needs s.lines (line_needs line) } }
+
+-- What the line says is put in its place: none where the line gives again what may be given once.
+unfoldable pub placed : State → Line → Option State
+placed s first_line = Some (record s { stage = Top })
+placed s (open_class d f) = Some (record s { stage = Heads; current = opened d f })
+placed s end_class = Some (record s { done = s.done ++ closed s.current ∷ []; stage = Top })
+placed s (super_line d) = in_class s Heads (with_superclass s.current d)
+placed s (implements_line d) = in_class s Heads (with_interface s.current d)
+placed s (source_line us) = in_class s Heads (with_source s.current us)
+placed s (static_line m v) = in_class s Members (with_static s.current (record { field = m; value = v }))
+placed s (instance_line m) = in_class s Members (with_instance s.current m)
+placed s (direct_line m) = behind_method s true (with_direct s.current m)
+placed s (virtual_line m) = behind_method s false (with_virtual s.current m)
+placed s (open_code r i o) = in_body s Insns (begun s.body r i o)
+placed s end_code =
+    let b = with_tries s.stage s.body in
+    Some (record s { stage = Members; current = with_code_at s.current b.direct b.place (whole_code b); body = b; late = earliest s.late (first_late (length s.body.insns) s.body.needs) })
+placed s (insn_line i) = in_body s Insns (with_insn s.body i)
+placed s (try_line from to) = in_body s Caught (with_try s.stage s.body from to)
+placed s (catch_line d k) = in_body s Caught (with_catch s.body d k)
+placed s (catch_all_line k) = in_body s Tries (with_catch_all s.body k)
+
+-- The listing with one line more: none where the line gives again what may be given once.
+abbrev pub add : State → Line → Option State
+add s line = placed (noted s line) line
+
+-- A line of this shape may stand there; an instruction gives itself the next number.
+abbrev pub stands : State → Shape → Bool
+stands s sh = may_stand s.stage sh.kind && (if is_insn sh.kind then is_number sh.label (length s.body.insns) else true)

@@ -1,0 +1,545 @@
+//! A listing that is being read.
+
+ghost use Rattle.std.specs.Prelude.{◌≡◌, Option, Some, None, Bool, IfOk, IsOkUnless, MatchBool};
+ghost use Rattle.dex_bytes.specs.Fault.{memory};
+
+use crate::close::{place_class, set_code};
+use crate::members::{instance_place, is_among, method_place, static_place};
+use crate::needs::{Need, first_late, line_needs};
+use crate::stage::{Stage, is_caught, is_insn, may_stand};
+use bumpalo::Bump;
+use dex_base::Fault;
+use dex_lines::Line;
+use dex_program::{Catch, Class, Code, Desc, Insn, Member, Method, Str, Try, Value};
+use dex_shapes::Found;
+use dex_words::is_number;
+
+/// A static field, and its value where the text gives one.
+#[derive(Clone, Copy)]
+pub struct Given<'a> {
+    pub field: Member<'a>,
+    pub value: Option<Value<'a>>,
+}
+
+/// The class that is open.
+#[derive(Drop)]
+pub struct Open<'a> {
+    pub ty: Desc<'a>,
+    pub flags: u32,
+    pub superclass: Option<Desc<'a>>,
+    pub interfaces: Vec<Desc<'a>, &'a Bump>,
+    pub source: Option<Str<'a>>,
+    pub statics: Vec<Given<'a>, &'a Bump>,
+    pub instances: Vec<Member<'a>, &'a Bump>,
+    pub directs: Vec<Method<'a>, &'a Bump>,
+    pub virtuals: Vec<Method<'a>, &'a Bump>,
+}
+
+/// The code that is open.
+#[derive(Drop)]
+pub struct Body<'a> {
+    pub direct: bool,
+    pub place: usize,
+    pub registers: u16,
+    pub ins: u16,
+    pub outs: u16,
+    pub insns: Vec<Insn<'a>, &'a Bump>,
+    pub tries: Vec<Try<'a>, &'a Bump>,
+    pub from: u32,
+    pub to: u32,
+    pub catches: Vec<Catch<'a>, &'a Bump>,
+    pub needs: Vec<Need, &'a Bump>,
+}
+
+/// What is whole so far, and what is open.
+#[derive(Drop)]
+pub struct Draft<'a> {
+    pub done: Vec<Class<'a>, &'a Bump>,
+    pub stage: Stage,
+    pub current: Open<'a>,
+    pub body: Body<'a>,
+    pub lines: u64,
+    pub late: Option<u64>,
+}
+
+impl<'a> Open<'a> {
+    ghost use Rattle.dex_program.specs.View.{desc, str, member, method, value, class, code};
+    ghost use Rattle.dex_draft.specs.States.{IsSorted, opened, closed, with_superclass, with_source, with_interface, with_static, with_instance, with_direct, with_virtual, with_code_at, is_among};
+    ghost use Rattle.dex_draft.specs.View.{open_class};
+    ghost use Rattle.std.specs.Prelude.{option_map};
+
+    /// A class without anything.
+    #[tactic(auto, unfolding(crate::specs::View::open_class))]
+    fn begin(&mut self, ty: Desc<'a>, flags: u32)
+        ensures { open_class self.new ≡ opened (desc ty.entry) flags }
+    {
+        self.ty = ty;
+        self.flags = flags;
+        self.superclass = None;
+        self.interfaces.clear();
+        self.source = None;
+        self.statics.clear();
+        self.instances.clear();
+        self.directs.clear();
+        self.virtuals.clear();
+    }
+
+    #[tactic(auto, unfolding(crate::specs::View::open_class, crate::specs::States::with_superclass))]
+    fn put_superclass(&mut self, ty: Desc<'a>) -> bool
+        ensures { MatchBool result
+            (with_superclass (open_class self.old) (desc ty.entry) ≡ Some (open_class self.new))
+            (with_superclass (open_class self.old) (desc ty.entry) ≡ None) }
+    {
+        if self.superclass.is_some() {
+            return false;
+        }
+        self.superclass = Some(ty);
+        true
+    }
+
+    #[tactic(auto, unfolding(crate::specs::View::open_class, crate::specs::States::with_source))]
+    fn put_source(&mut self, text: Str<'a>) -> bool
+        ensures { MatchBool result
+            (with_source (open_class self.old) (str text.entry) ≡ Some (open_class self.new))
+            (with_source (open_class self.old) (str text.entry) ≡ None) }
+    {
+        if self.source.is_some() {
+            return false;
+        }
+        self.source = Some(text);
+        true
+    }
+
+    #[tactic(auto, unfolding(crate::specs::View::open_class, crate::specs::States::with_interface))]
+    fn put_interface(&mut self, ty: Desc<'a>) -> Result<bool, Fault>
+        ensures put { IfOk result (λ yes. MatchBool yes
+            (with_interface (open_class self.old) (desc ty.entry) ≡ Some (open_class self.new))
+            (with_interface (open_class self.old) (desc ty.entry) ≡ None)) }
+        ensures memory { IsOkUnless result memory }
+    {
+        if is_among(self.interfaces.as_slice(), ty) {
+            return Ok(false);
+        }
+        self.interfaces.push(ty)?;
+        Ok(true)
+    }
+
+    #[tactic(auto, unfolding(crate::specs::View::open_class, crate::specs::States::with_static))]
+    fn put_static(&mut self, field: Member<'a>, initial: Option<Value<'a>>) -> Result<bool, Fault>
+        requires { IsSorted (open_class self.old) }
+        ensures put { IfOk result (λ yes. MatchBool yes
+            (with_static (open_class self.old) (record { field = member field.entry; value = option_map value initial.entry }) ≡ Some (open_class self.new))
+            (with_static (open_class self.old) (record { field = member field.entry; value = option_map value initial.entry }) ≡ None)) }
+        ensures memory { IsOkUnless result memory }
+    {
+        let new = Given {
+            field,
+            value: initial,
+        };
+        let Some(place) = static_place(self.ty, self.statics.as_slice(), &new) else {
+            return Ok(false);
+        };
+        self.statics.insert(place, new)?;
+        Ok(true)
+    }
+
+    #[tactic(auto, unfolding(crate::specs::View::open_class, crate::specs::States::with_instance))]
+    fn put_instance(&mut self, field: Member<'a>) -> Result<bool, Fault>
+        requires { IsSorted (open_class self.old) }
+        ensures put { IfOk result (λ yes. MatchBool yes
+            (with_instance (open_class self.old) (member field.entry) ≡ Some (open_class self.new))
+            (with_instance (open_class self.old) (member field.entry) ≡ None)) }
+        ensures memory { IsOkUnless result memory }
+    {
+        let Some(place) = instance_place(self.ty, self.instances.as_slice(), &field) else {
+            return Ok(false);
+        };
+        self.instances.insert(place, field)?;
+        Ok(true)
+    }
+}
+
+impl<'a> Open<'a> {
+    ghost use Rattle.std.specs.Prelude.{IfSome, IfNone, OnOk};
+    ghost use Rattle.dex_program.specs.View.{method, code};
+    ghost use Rattle.dex_draft.specs.States.{IsSorted, with_direct, with_virtual, with_code_at};
+    ghost use Rattle.dex_draft.specs.View.{open_class};
+
+    #[tactic(auto, unfolding(crate::specs::View::open_class, crate::specs::States::with_direct))]
+    fn put_direct(&mut self, new: Method<'a>) -> Result<Option<usize>, Fault>
+        requires { IsSorted (open_class self.old) }
+        ensures put { IfOk result (λ r. IfSome r (λ n. with_direct (open_class self.old) (method new.entry) ≡ Some (open_class self.new, n))) }
+        ensures none { IfOk result (λ r. IfNone r (with_direct (open_class self.old) (method new.entry) ≡ None)) }
+        ensures memory { IsOkUnless result memory }
+    {
+        let Some(place) = method_place(self.ty, self.directs.as_slice(), &new) else {
+            return Ok(None);
+        };
+        self.directs.insert(place, new)?;
+        Ok(Some(place))
+    }
+
+    #[tactic(auto, unfolding(crate::specs::View::open_class, crate::specs::States::with_virtual))]
+    fn put_virtual(&mut self, new: Method<'a>) -> Result<Option<usize>, Fault>
+        requires { IsSorted (open_class self.old) }
+        ensures put { IfOk result (λ r. IfSome r (λ n. with_virtual (open_class self.old) (method new.entry) ≡ Some (open_class self.new, n))) }
+        ensures none { IfOk result (λ r. IfNone r (with_virtual (open_class self.old) (method new.entry) ≡ None)) }
+        ensures memory { IsOkUnless result memory }
+    {
+        let Some(place) = method_place(self.ty, self.virtuals.as_slice(), &new) else {
+            return Ok(None);
+        };
+        self.virtuals.insert(place, new)?;
+        Ok(Some(place))
+    }
+
+    /// The method at the place has the code.
+    #[tactic(auto, unfolding(crate::specs::View::open_class))]
+    fn put_code(&mut self, direct: bool, place: usize, whole: &'a Code<'a>) -> Result<(), Fault>
+        ensures put { OnOk result (open_class self.new ≡ with_code_at (open_class self.old) direct place (code whole.now)) }
+        ensures memory { IsOkUnless result memory }
+    {
+        if direct {
+            return set_code(&mut self.directs, place, whole);
+        }
+        set_code(&mut self.virtuals, place, whole)
+    }
+}
+
+impl<'a> Body<'a> {
+    ghost use Rattle.dex_program.specs.View.{code};
+    ghost use Rattle.dex_draft.specs.States.{all_tries, whole_code, owned};
+
+    /// Whose code it is.
+    #[tactic(auto, unfolding(crate::specs::View::open_body))]
+    fn set_owner(&mut self, direct: bool, place: usize)
+        ensures { open_body self.new ≡ owned (open_body self.old) direct place }
+    {
+        self.direct = direct;
+        self.place = place;
+    }
+
+    /// The last try is whole, if one is open.
+    #[tactic(auto, unfolding(crate::specs::View::open_body))]
+    fn end_tries(&mut self, alloc: &'a Bump, stage: Stage) -> Result<(), Fault>
+        ensures put { OnOk result (open_body self.new ≡ record (open_body self.old) { tries = all_tries stage (open_body self.old) }) }
+        ensures memory { IsOkUnless result memory }
+    {
+        if is_caught(stage) {
+            return self.end_try(alloc, None);
+        }
+        Ok(())
+    }
+
+    /// The code, when its tries are whole.
+    #[tactic(auto, unfolding(crate::specs::View::open_body))]
+    fn place_code(&self, alloc: &'a Bump) -> Result<Code<'a>, Fault>
+        ensures ok { IfOk result (λ c. code c ≡ whole_code (open_body self.now)) }
+        ensures memory { IsOkUnless result memory }
+    {
+        let insns = alloc.try_alloc_slice_copy(self.insns.as_slice())?;
+        let tries = alloc.try_alloc_slice_copy(self.tries.as_slice())?;
+        Ok(Code {
+            registers: self.registers,
+            ins: self.ins,
+            outs: self.outs,
+            insns,
+            tries,
+        })
+    }
+
+    ghost use Rattle.std.specs.Prelude.{OnOk};
+    ghost use Rattle.dex_draft.specs.Needs.{with_need};
+    ghost use Rattle.dex_program.specs.View.{desc, insn};
+    ghost use Rattle.dex_draft.specs.States.{with_insn, with_catch, with_catch_all, with_try, begun, try_of};
+    ghost use Rattle.std.specs.Prelude.{◌++◌, ◌∷◌, []};
+    ghost use Rattle.dex_draft.specs.View.{open_body};
+
+    #[tactic(auto, unfolding(crate::specs::View::open_body))]
+    fn put_insn(&mut self, new: Insn<'a>) -> Result<(), Fault>
+        ensures put { OnOk result (open_body self.new ≡ with_insn (open_body self.old) (insn new.entry)) }
+        ensures memory { IsOkUnless result memory }
+    {
+        self.insns.push(new)?;
+        Ok(())
+    }
+
+    /// A code without anything.
+    #[tactic(auto, unfolding(crate::specs::View::open_body))]
+    fn begin(&mut self, registers: u16, ins: u16, outs: u16)
+        ensures { open_body self.new ≡ begun (open_body self.old) registers ins outs }
+    {
+        self.registers = registers;
+        self.ins = ins;
+        self.outs = outs;
+        self.insns.clear();
+        self.tries.clear();
+        self.catches.clear();
+        self.needs.clear();
+    }
+
+    /// What a line needs is noted.
+    #[tactic(auto, unfolding(crate::specs::View::open_body))]
+    fn note(&mut self, line: u64, count: u64) -> Result<(), Fault>
+        ensures put { OnOk result (open_body self.new ≡ record (open_body self.old) { needs = with_need (open_body self.old).needs line count }) }
+        ensures memory { IsOkUnless result memory }
+    {
+        if count > 0 {
+            self.needs.push(Need { line, count })?;
+        }
+        Ok(())
+    }
+
+    /// The open try is whole.
+    #[tactic(auto, unfolding(crate::specs::View::open_body))]
+    fn end_try(&mut self, alloc: &'a Bump, all: Option<u32>) -> Result<(), Fault>
+        ensures put { OnOk result (open_body self.new ≡ record (open_body self.old) { tries = (open_body self.old).tries ++ try_of (open_body self.old) all ∷ [] }) }
+        ensures memory { IsOkUnless result memory }
+    {
+        let catches = alloc.try_alloc_slice_copy(self.catches.as_slice())?;
+        self.tries.push(Try {
+            from: self.from,
+            to: self.to,
+            catches,
+            catch_all: all,
+        })?;
+        Ok(())
+    }
+
+    /// The try before it is whole, if one is open.
+    #[tactic(auto, unfolding(crate::specs::View::open_body))]
+    fn put_try(&mut self, alloc: &'a Bump, stage: Stage, from: u32, to: u32) -> Result<(), Fault>
+        ensures put { OnOk result (open_body self.new ≡ with_try stage (open_body self.old) from to) }
+        ensures memory { IsOkUnless result memory }
+    {
+        if is_caught(stage) {
+            self.end_try(alloc, None)?;
+            self.from = from;
+            self.to = to;
+            self.catches.clear();
+            return Ok(());
+        }
+        self.from = from;
+        self.to = to;
+        self.catches.clear();
+        Ok(())
+    }
+
+    #[tactic(auto, unfolding(crate::specs::View::open_body))]
+    fn put_catch(&mut self, ty: Desc<'a>, at: u32) -> Result<(), Fault>
+        ensures put { OnOk result (open_body self.new ≡ with_catch (open_body self.old) (desc ty.entry) at) }
+        ensures memory { IsOkUnless result memory }
+    {
+        self.catches.push(Catch { ty, at })?;
+        Ok(())
+    }
+}
+
+impl<'a> Draft<'a> {
+    ghost use Rattle.std.specs.Prelude.{List};
+    ghost use Rattle.dex_words.specs.Words.{Word};
+    ghost use Rattle.dex_slots.specs.declared.slot.Slot.{Slot};
+    ghost use Rattle.dex_lines.specs.LineView.{line};
+    ghost use Rattle.dex_shapes.specs.ShapeView.{shape};
+    ghost use Rattle.std.specs.Prelude.{OnOk, ◌+◌, ◌<◌, ◌^◌, length};
+    ghost use Rattle.dex_draft.specs.Needs.{earliest, first_late};
+    ghost use Rattle.dex_draft.specs.States.{IsSorted, start, counted, noted, placed, add, stands};
+    ghost use Rattle.dex_draft.specs.View.{state, open_class, open_body};
+
+    /// Nothing was read.
+    #[tactic(auto, unfolding(crate::specs::View::state, crate::specs::View::open_class, crate::specs::View::open_body))]
+    pub fn new(bump: &'a Bump) -> Draft<'a>
+        ensures { state result ≡ start }
+    {
+        Draft {
+            done: Vec::new(bump),
+            stage: Stage::Start,
+            current: Open {
+                ty: Desc {
+                    text: Str { units: &[] },
+                },
+                flags: 0,
+                superclass: None,
+                interfaces: Vec::new(bump),
+                source: None,
+                statics: Vec::new(bump),
+                instances: Vec::new(bump),
+                directs: Vec::new(bump),
+                virtuals: Vec::new(bump),
+            },
+            body: Body {
+                direct: false,
+                place: 0,
+                registers: 0,
+                ins: 0,
+                outs: 0,
+                insns: Vec::new(bump),
+                tries: Vec::new(bump),
+                from: 0,
+                to: 0,
+                catches: Vec::new(bump),
+                needs: Vec::new(bump),
+            },
+            lines: 0,
+            late: None,
+        }
+    }
+
+    /// Whether a line of this shape may stand here.
+    #[tactic(auto, unfolding(crate::specs::View::state, crate::specs::View::open_body))]
+    pub fn stands(&self, found: Found<'_>) -> bool
+        ensures { (ss : List Slot) (ws : List Word) → result ≡ stands (state self.now) (shape found.entry ss ws) }
+    {
+        if !may_stand(self.stage, found.kind) {
+            return false;
+        }
+        if !is_insn(found.kind) {
+            return true;
+        }
+        is_number(found.label, self.body.insns.len() as u64)
+    }
+
+    /// One line more was read.
+    #[tactic(auto, unfolding(crate::specs::View::state))]
+    pub fn count_line(&mut self)
+        requires { self.old.lines + 1 < 2 ^ 64 }
+        ensures state { state self.new ≡ counted (state self.old) }
+        ensures lines { self.new.lines ≡ self.old.lines + 1 }
+    {
+        self.lines += 1;
+    }
+
+    /// What the targets of the last line need is noted.
+    #[tactic(auto, unfolding(crate::specs::View::state))]
+    fn note(&mut self, next: &Line<'a>) -> Result<(), Fault>
+        ensures noted { OnOk result (state self.new ≡ noted (state self.old) (line next.now)) }
+        ensures lines { self.new.lines ≡ self.old.lines }
+        ensures memory { IsOkUnless result memory }
+    {
+        self.body.note(self.lines, line_needs(next))
+    }
+
+    /// The lowest line with a target that is no instruction of its code, if the open code is whole now.
+    #[tactic(auto, unfolding(crate::specs::View::state, crate::specs::View::open_body))]
+    fn late_line(&self) -> Option<u64>
+        ensures { result ≡ earliest (state self.now).late (first_late (length (state self.now).body.insns) (state self.now).body.needs) }
+    {
+        if self.late.is_some() {
+            return self.late;
+        }
+        first_late(self.body.insns.len() as u64, self.body.needs.as_slice())
+    }
+
+    /// One line more; false where it gives again what may be given once.
+    #[tactic(auto, unfolding(crate::specs::View::state))]
+    pub fn add(&mut self, alloc: &'a Bump, next: Line<'a>) -> Result<bool, Fault>
+        requires { IsSorted (state self.old).current }
+        ensures added { IfOk result (λ yes. MatchBool yes
+            (add (state self.old) (line next.entry) ≡ Some (state self.new))
+            (add (state self.old) (line next.entry) ≡ None)) }
+        ensures lines { self.new.lines ≡ self.old.lines }
+        ensures memory { IsOkUnless result memory }
+    {
+        self.note(&next)?;
+        self.place(alloc, next)
+    }
+
+    /// What a line says is put in its place; false where it gives again what may be given once.
+    #[tactic(auto, unfolding(crate::specs::View::state, crate::specs::States::placed))]
+    fn place(&mut self, alloc: &'a Bump, next: Line<'a>) -> Result<bool, Fault>
+        requires { IsSorted (state self.old).current }
+        ensures added { IfOk result (λ yes. MatchBool yes
+            (placed (state self.old) (line next.entry) ≡ Some (state self.new))
+            (placed (state self.old) (line next.entry) ≡ None)) }
+        ensures lines { self.new.lines ≡ self.old.lines }
+        ensures memory { IsOkUnless result memory }
+    {
+        match next {
+            Line::First => {
+                self.stage = Stage::Top;
+                Ok(true)
+            }
+            Line::OpenClass(ty, flags) => {
+                self.current.begin(ty, flags);
+                self.stage = Stage::Heads;
+                Ok(true)
+            }
+            Line::EndClass => {
+                let whole = place_class(alloc, &self.current)?;
+                self.done.push(whole)?;
+                self.stage = Stage::Top;
+                Ok(true)
+            }
+            Line::Super(ty) => {
+                self.stage = Stage::Heads;
+                Ok(self.current.put_superclass(ty))
+            }
+            Line::Implements(ty) => {
+                self.stage = Stage::Heads;
+                self.current.put_interface(ty)
+            }
+            Line::Source(text) => {
+                self.stage = Stage::Heads;
+                Ok(self.current.put_source(text))
+            }
+            Line::Static(field, value) => {
+                self.stage = Stage::Members;
+                self.current.put_static(field, value)
+            }
+            Line::Instance(field) => {
+                self.stage = Stage::Members;
+                self.current.put_instance(field)
+            }
+            Line::OpenCode(registers, ins, outs) => {
+                self.body.begin(registers, ins, outs);
+                self.stage = Stage::Insns;
+                Ok(true)
+            }
+            Line::Try(from, to) => {
+                self.body.put_try(alloc, self.stage, from, to)?;
+                self.stage = Stage::Caught;
+                Ok(true)
+            }
+            Line::CatchAll(at) => {
+                self.body.end_try(alloc, Some(at))?;
+                self.stage = Stage::Tries;
+                Ok(true)
+            }
+            Line::Insn(insn) => {
+                self.body.put_insn(insn)?;
+                self.stage = Stage::Insns;
+                Ok(true)
+            }
+            Line::Catch(ty, at) => {
+                self.body.put_catch(ty, at)?;
+                self.stage = Stage::Caught;
+                Ok(true)
+            }
+            Line::Direct(method) => {
+                let Some(place) = self.current.put_direct(method)? else {
+                    return Ok(false);
+                };
+                self.body.set_owner(true, place);
+                self.stage = Stage::Behind;
+                Ok(true)
+            }
+            Line::Virtual(method) => {
+                let Some(place) = self.current.put_virtual(method)? else {
+                    return Ok(false);
+                };
+                self.body.set_owner(false, place);
+                self.stage = Stage::Behind;
+                Ok(true)
+            }
+            Line::EndCode => {
+                self.late = self.late_line();
+                self.body.end_tries(alloc, self.stage)?;
+                let whole = alloc.try_alloc(self.body.place_code(alloc)?)?;
+                self.current
+                    .put_code(self.body.direct, self.body.place, whole)?;
+                self.stage = Stage::Members;
+                Ok(true)
+            }
+        }
+    }
+}

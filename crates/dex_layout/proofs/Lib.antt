@@ -1,0 +1,9 @@
+pub mod TileLaws
+pub mod SectionLaws
+pub mod StandLaws
+pub mod Named
+pub mod MapLaws
+pub mod FrameLaws
+pub mod Halves
+pub mod MapBytes
+pub mod FinishLaws

@@ -1,0 +1,9 @@
+pub mod Tiles
+pub mod Sections
+pub mod Spans
+pub mod Plan
+pub mod Header
+pub mod Parts
+pub mod Entries
+pub mod Finished
+pub mod Laws

@@ -1,0 +1,30 @@
+//! The layout of a file that is written, whatever it says: items one behind the other with zeros where alignment asks
+//! for them, the map, the header, the rows of the tables.
+//!
+//! Who writes a file puts zeros in place of header and tables, the parts of the data section behind them, and keeps of
+//! each part how many items it has and where it stands:
+//!
+//! ```
+//! pad(&mut out)?; // the next item begins 4-aligned
+//! let plan = Plan { rows, lists, codes, strings, arrays, datas };
+//! finish(alloc, &mut out, &plan, &rows)?; // `rows` has the rows of the tables
+//! let sections = open(&out)?; // what is finished is framed
+//! ```
+#![tactic(auto)]
+
+// What a file holds, and where.
+mod plan;
+
+// Zeros, the map, the front.
+mod finishing;
+mod map_list;
+mod padding;
+mod ranges;
+
+// What holds of what is written.
+mod laws;
+
+pub use finishing::finish;
+pub use laws::{laid_items_stand, laid_items_stay, one_more_item_is_laid, written_is_framed};
+pub use padding::pad;
+pub use plan::{Part, Plan, Rows};

@@ -1,0 +1,125 @@
+//! Lines made of what their slots say.
+
+ghost use Rattle.std.specs.Prelude.{◌≡◌, ◌++◌, map, drop, IfOk, IsOkUnless};
+ghost use Rattle.dex_bytes.specs.Fault.{memory};
+ghost use Rattle.dex_insn.specs.Opcodes.{format_of};
+ghost use Rattle.dex_program.specs.View.{insn};
+ghost use Rattle.dex_slots.specs.View.{datum};
+ghost use Rattle.dex_slots.specs.Data.{int_of, word_of};
+ghost use Rattle.dex_lines.specs.Lines.{line_of, insn_of, alternate};
+ghost use Rattle.dex_lines.specs.LineView.{line};
+
+use crate::line::Line;
+use crate::make::{make_member, make_method, plain_insn};
+use crate::making::make_value;
+use bumpalo::Bump;
+use bumpalo::collections::into_bump_slice;
+use dex_base::Fault;
+use dex_insn::format_of;
+use dex_program::Insn;
+use dex_slots::{Datum, Kind, datum_at, elements_of, half_of, int_of, text_of, type_of, word_of};
+
+/// The words behind so many.
+fn behind<'b, 'a>(said: &'b [Datum<'a>], n: usize) -> &'b [Datum<'a>]
+    ensures { map datum result.now ≡ drop n (map datum said.now) }
+{
+    let (_, rest) = said.split_at(n.min(said.len()));
+    rest
+}
+
+/// The instruction of this opcode.
+fn make_insn<'a>(op: u8, said: &[Datum<'a>]) -> Insn<'a>
+    ensures { insn result ≡ insn_of (format_of op) op (map datum said.now) }
+{
+    match format_of(op) {
+        Some(format) => plain_insn(format, op, said),
+        None => Insn::I10x { op },
+    }
+}
+
+/// The numbers that all words say.
+fn words_of<'a>(alloc: &'a Bump, said: &[Datum<'_>]) -> Result<&'a [u32], Fault>
+    ensures ok { IfOk result (λ ns. ns.now ≡ map word_of (map datum said.now)) }
+    ensures memory { IsOkUnless result memory }
+{
+    let mut numbers = Vec::new(alloc);
+    for i in 0..said.len() {
+        numbers.push(word_of(said[i]))?;
+    }
+    Ok(into_bump_slice(numbers))
+}
+
+/// The numbers that every other word says.
+fn ints_between<'a>(alloc: &'a Bump, said: &[Datum<'_>]) -> Result<&'a [i32], Fault>
+    ensures ok { IfOk result (λ ns. ns.now ≡ map int_of (alternate (map datum said.now))) }
+    ensures memory { IsOkUnless result memory }
+{
+    let mut numbers = Vec::new(alloc);
+    let mut is_due = true;
+    for i in 0..said.len() {
+        if is_due {
+            numbers.push(int_of(said[i]))?;
+        }
+        is_due = !is_due;
+    }
+    Ok(into_bump_slice(numbers))
+}
+
+/// The numbers that every other word says.
+fn words_between<'a>(alloc: &'a Bump, said: &[Datum<'_>]) -> Result<&'a [u32], Fault>
+    ensures ok { IfOk result (λ ns. ns.now ≡ map word_of (alternate (map datum said.now))) }
+    ensures memory { IsOkUnless result memory }
+{
+    let mut numbers = Vec::new(alloc);
+    let mut is_due = true;
+    for i in 0..said.len() {
+        if is_due {
+            numbers.push(word_of(said[i]))?;
+        }
+        is_due = !is_due;
+    }
+    Ok(into_bump_slice(numbers))
+}
+
+/// The line of this kind whose slots say this.
+#[rattlefmt::skip]
+#[tactic(auto, unfolding(crate::specs::Lines::line_of))]
+pub fn make_line<'a>(bump: &'a Bump, kind: Kind, said: &[Datum<'a>]) -> Result<Line<'a>, Fault>
+    ensures ok { IfOk result (λ l. line l ≡ line_of kind (map datum said.now)) }
+    ensures memory { IsOkUnless result memory }
+{
+    let first = datum_at(said, 0);
+    let second = datum_at(said, 1);
+    match kind {
+        Kind::First => Ok(Line::First),
+        Kind::OpenClass => Ok(Line::OpenClass(type_of(first), word_of(second))),
+        Kind::EndClass => Ok(Line::EndClass),
+        Kind::Super => Ok(Line::Super(type_of(first))),
+        Kind::Implements => Ok(Line::Implements(type_of(first))),
+        Kind::Source => Ok(Line::Source(text_of(first))),
+        Kind::Static => Ok(Line::Static(make_member(said), None)),
+        Kind::Given => {
+            let initial = make_value(bump, behind(said, 4))?;
+            Ok(Line::Static(make_member(said), Some(initial)))
+        }
+        Kind::Instance => Ok(Line::Instance(make_member(said))),
+        Kind::Direct => Ok(Line::Direct(make_method(said))),
+        Kind::Virtual => Ok(Line::Virtual(make_method(said))),
+        Kind::OpenCode => Ok(Line::OpenCode(half_of(first), half_of(second), half_of(datum_at(said, 2)))),
+        Kind::EndCode => Ok(Line::EndCode),
+        Kind::Plain(op) => Ok(Line::Insn(make_insn(op, said))),
+        Kind::Packed => {
+            let targets = words_of(bump, behind(said, 1))?;
+            Ok(Line::Insn(Insn::Packed { first: int_of(first), targets }))
+        }
+        Kind::Sparse => {
+            let keys = ints_between(bump, said)?;
+            let targets = words_between(bump, behind(said, 1))?;
+            Ok(Line::Insn(Insn::Sparse { keys, targets }))
+        }
+        Kind::Elements => Ok(Line::Insn(Insn::Data { width: half_of(first), bytes: elements_of(second) })),
+        Kind::Try => Ok(Line::Try(word_of(first), word_of(second))),
+        Kind::Catch => Ok(Line::Catch(type_of(first), word_of(second))),
+        Kind::CatchAll => Ok(Line::CatchAll(word_of(first))),
+    }
+}

@@ -1,0 +1,4 @@
+pub mod LineLaws
+pub mod RefusedLaws
+pub mod ReadingLaws
+pub mod ExactLaws

@@ -1,0 +1,17 @@
+//! The names that a program needs, with their ranks: what its classes, values and bodies mention, and the parts of each.
+//!
+//! ```
+//! let arena = Bump::new(alloc); // holds the shorties
+//! let ranks = needed_names(alloc, &arena, &program)?;
+//! ```
+#![tactic(auto)]
+
+// The names in a body.
+mod bodies;
+// The names in values.
+mod values;
+
+// The names of classes, and of all.
+mod classes;
+
+pub use classes::needed_names;

@@ -1,0 +1,237 @@
+-- A printed instruction has its shape, and its slots say the instruction.
+use Rattle.std.proofs.Common.{◌≡◌, ℕ, ℤ, zero, suc, ◌-◌, ◌*◌, ◌<◌, ◌≤◌, ◌^◌, true, inl, inr, List, [], ◌∷◌, ◌++◌, length, map, take, drop, replicate, Option, Some, refl, sym, ap, ◌∙◌, arith}
+use Rattle.std.specs.Fmt.{decimal}
+use Rattle.std.proofs.lemmas.Fmt.{decimal_is_IsNumeral}
+use Rattle.std.proofs.lemmas.Bool.{eq-eqb}
+use Rattle.std.proofs.lemmas.List.{length-take}
+use Rattle.dex_insn.specs.declared.opcode.Format.{Format}
+use Rattle.dex_insn.specs.declared.opcode.Format.TheVariants as format
+use Rattle.dex_insn.specs.Opcodes.{format_of, index_kind_of}
+use Rattle.dex_insn.specs.Mnemonics.{mnemonic_of}
+use Rattle.dex_insn.proofs.Rows.{used_named}
+use Rattle.dex_program.specs.Content as content
+use Rattle.dex_program.specs.Content.{Insn, Name, OfText, OfDesc, OfField, OfMethod}
+use Rattle.dex_words.specs.Words.{Word, plain_word}
+use Rattle.dex_words.specs.Numbers.{SpellsNatural, is_number}
+use Rattle.dex_words.proofs.NaturalLaws.{spelled_natural, number_found}
+use Rattle.dex_slots.specs.declared.kind.Kind.TheVariants as kind
+use Rattle.dex_slots.specs.declared.key.Key.{Key}
+use Rattle.dex_slots.specs.declared.key.Key.TheVariants as key
+use Rattle.dex_slots.specs.declared.slot.Mark.TheVariants.{Nothing}
+use Rattle.dex_slots.specs.declared.slot.Slot.{Slot}
+use Rattle.dex_slots.specs.declared.slot.Slot.TheVariants as slot
+use Rattle.dex_slots.specs.Keys.{key_text, same, find_key, payload_keys}
+use Rattle.dex_slots.specs.Data.{Datum, named, byte_of, half_of, word_of, tiny_of, short_of, int_of, long_of, elements_of, name_of}
+use Rattle.dex_shapes.specs.Shapes.{Row, HasShape, BeginsWithInsn, IsInsnRow, payload_row, plain_slots, name_slot, before_close, pairs, target, register4, register8, register16}
+use Rattle.dex_shapes.proofs.ShapeLaws.{labelled_shape}
+use Rattle.dex_lines.specs.Lines.{insn_line, line_of, insn_of, alternate}
+use Rattle.dex_print.specs.Operands.{Operand, keyword, v4, to, name_operand, pair_operands, insn_operands}
+use Rattle.dex_print.specs.Printed.{insn_word}
+use Rattle.dex_print.specs.Reading.{slots_of, data_of, words_of, FitOperands, insn_kind, NameFits, OpcodeFits}
+use Rattle.dex_print.proofs.PrintedLaws.{printed_forms, words_join, slots_join}
+
+-- the row of an opcode, where its operands are these
+plain_row : (op : ℕ) (f : Format) (ws : List Word) (ss : List Slot) → format_of op ≡ Some f → ss ≡ plain_slots (Some f) (index_kind_of op) ws → IsInsnRow (mnemonic_of op) ws (kind.Plain op, ss)
+plain_row op f ws ss e g = inl (op, record { used = used_named op f e; is = refl }, ap (λ (x : List Slot). (kind.Plain op, x)) (g ∙ ap (λ (o : Option Format). plain_slots o (index_kind_of op) ws) (sym e)))
+
+-- ---- braces
+
+regs_before : (rs : List ℕ) (most : ℕ) (w : Word) → length rs ≤ most → before_close most (words_of (map v4 rs) ++ (plain_word (key_text key.Close) ∷ w ∷ [])) ≡ length rs
+unfolding before_close same key_text
+regs_before [] zero w h = refl
+regs_before [] (suc most) w h = refl
+regs_before (r ∷ rs) zero w h = absurd (omega arith)
+regs_before (r ∷ rs) (suc most) w h = let i = regs_before rs most w (omega arith) in omega (arith, i)
+
+regs_slots : (rs : List ℕ) → slots_of (map v4 rs) ≡ replicate (length rs) register4
+regs_slots [] = refl
+regs_slots (r ∷ rs) = ap (λ ss. register4 ∷ ss) (regs_slots rs)
+
+-- the operands in braces
+abbrev braces : List ℕ → Operand → List Operand
+braces rs o = keyword key.Open ∷ (map v4 rs ++ (keyword key.Close ∷ o ∷ []))
+
+brace_slots : (op : ℕ) (rs : List ℕ) (o : Operand) → length rs ≤ 5 → o.slot ≡ name_slot (index_kind_of op) → slots_of (braces rs o) ≡ plain_slots (Some format.F35c) (index_kind_of op) (words_of (braces rs o))
+brace_slots op rs o h e =
+    let w = words_join (map v4 rs) (keyword key.Close ∷ o ∷ []) in
+    let b : before_close 5 (words_of (map v4 rs ++ (keyword key.Close ∷ o ∷ []))) ≡ length rs = ap (before_close 5) w ∙ regs_before rs 5 _ h in
+    let s : slots_of (map v4 rs ++ (keyword key.Close ∷ o ∷ [])) ≡ replicate (length rs) register4 ++ (slot.Key key.Close ∷ name_slot (index_kind_of op) ∷ []) =
+    slots_join (map v4 rs) (keyword key.Close ∷ o ∷ []) ∙ ap (λ ss. ss ++ (slot.Key key.Close ∷ o.slot ∷ [])) (regs_slots rs) ∙ ap (λ x. replicate (length rs) register4 ++ (slot.Key key.Close ∷ x ∷ [])) e in
+    ap (λ ss. slot.Key key.Open ∷ ss) (s ∙ ap (λ n. replicate n register4 ++ (slot.Key key.Close ∷ name_slot (index_kind_of op) ∷ [])) (sym b))
+
+-- ---- targets and pairs
+
+targets_slots : (ts : List ℕ) → slots_of (map to ts) ≡ replicate (length (words_of (map to ts))) target
+targets_slots [] = refl
+targets_slots (t ∷ ts) = ap (λ ss. target ∷ ss) (targets_slots ts)
+
+targets_say : (ts : List ℕ) → map word_of (data_of (map to ts)) ≡ ts
+unfolding word_of
+targets_say [] = refl
+targets_say (t ∷ ts) = ap (λ ns. t ∷ ns) (targets_say ts)
+
+pairs_slots : (ks : List ℤ) (ts : List ℕ) → length ks ≡ length ts → slots_of (pair_operands ks ts) ≡ pairs (length ks)
+unfolding pairs
+pairs_slots [] [] e = refl
+pairs_slots [] (t ∷ ts) e = absurd (omega arith)
+pairs_slots (k ∷ ks) [] e = absurd (omega arith)
+pairs_slots (k ∷ ks) (t ∷ ts) e = ap (λ ss. slot.Int ∷ target ∷ ss) (pairs_slots ks ts (omega arith))
+
+pairs_length : (ks : List ℤ) (ts : List ℕ) → length ks ≡ length ts → length (words_of (pair_operands ks ts)) ≡ 2 * length ks
+pairs_length [] [] e = refl
+pairs_length [] (t ∷ ts) e = absurd (omega arith)
+pairs_length (k ∷ ks) [] e = absurd (omega arith)
+pairs_length (k ∷ ks) (t ∷ ts) e = let i = pairs_length ks ts (omega arith) in omega arith
+
+keys_say : (ks : List ℤ) (ts : List ℕ) → length ks ≡ length ts → map int_of (alternate (data_of (pair_operands ks ts))) ≡ ks
+unfolding alternate int_of
+keys_say [] [] e = refl
+keys_say [] (t ∷ ts) e = absurd (omega arith)
+keys_say (k ∷ ks) [] e = absurd (omega arith)
+keys_say (k ∷ ks) (t ∷ ts) e = ap (λ zs. k ∷ zs) (keys_say ks ts (omega arith))
+
+next_alternate : (d : Datum) (ds : List Datum) → alternate (d ∷ ds) ≡ d ∷ alternate (drop 1 ds)
+unfolding alternate
+next_alternate d [] = refl
+next_alternate d (x ∷ ds) = refl
+
+pair_targets_say : (ks : List ℤ) (ts : List ℕ) → length ks ≡ length ts → map word_of (alternate (drop 1 (data_of (pair_operands ks ts)))) ≡ ts
+unfolding alternate word_of
+pair_targets_say [] [] e = refl
+pair_targets_say [] (t ∷ ts) e = absurd (omega arith)
+pair_targets_say (k ∷ ks) [] e = absurd (omega arith)
+pair_targets_say (k ∷ ks) (t ∷ ts) e = ap (map word_of) (next_alternate _ (data_of (pair_operands ks ts))) ∙ ap (λ ns. t ∷ ns) (pair_targets_say ks ts (omega arith))
+
+-- the row of a payload
+key_row_of : (k : Key) (ws : List Word) (r : Row) → Some k ≡ find_key payload_keys (key_text k) → Some r ≡ payload_row k ws → IsInsnRow (key_text k) ws r
+key_row_of k ws r e f = inr (k, e, f)
+
+data_row : (width : ℕ) (bytes : List ℕ) → Some (kind.Elements, slots_of (insn_operands (content.Data width bytes))) ≡ payload_row key.Elements (words_of (insn_operands (content.Data width bytes)))
+unfolding payload_row
+data_row width [] = refl
+data_row width (b ∷ bytes) = refl
+
+named_slots : (op : ℕ) (which : Name) (front : List Slot) → NameFits op which → front ++ ((name_operand which).slot ∷ []) ≡ front ++ (name_slot (index_kind_of op) ∷ [])
+named_slots op which front e = ap (λ s. front ++ (s ∷ [])) e
+
+-- the row of an instruction
+pub insn_row : (i : Insn) → OpcodeFits i → IsInsnRow (insn_word i) (words_of (insn_operands i)) (insn_kind i, slots_of (insn_operands i))
+unfolding payload_row find_key same key_text
+insn_row (content.I10x op) h = plain_row op format.F10x _ _ h refl
+insn_row (content.I12x op a b) h = plain_row op format.F12x _ _ h refl
+insn_row (content.I11n op a b) h = plain_row op format.F11n _ _ h refl
+insn_row (content.I11x op a) h = plain_row op format.F11x _ _ h refl
+insn_row (content.I10t op k) h = plain_row op format.F10t _ _ h refl
+insn_row (content.I20t op k) h = plain_row op format.F20t _ _ h refl
+insn_row (content.I30t op k) h = plain_row op format.F30t _ _ h refl
+insn_row (content.I22x op a b) h = plain_row op format.F22x _ _ h refl
+insn_row (content.I21t op a k) h = plain_row op format.F21t _ _ h refl
+insn_row (content.I31t op a k) h = plain_row op format.F31t _ _ h refl
+insn_row (content.I21s op a b) h = plain_row op format.F21s _ _ h refl
+insn_row (content.I21h op a b) h = plain_row op format.F21h _ _ h refl
+insn_row (content.I23x op a b c) h = plain_row op format.F23x _ _ h refl
+insn_row (content.I22b op a b c) h = plain_row op format.F22b _ _ h refl
+insn_row (content.I22t op a b k) h = plain_row op format.F22t _ _ h refl
+insn_row (content.I22s op a b c) h = plain_row op format.F22s _ _ h refl
+insn_row (content.I32x op a b) h = plain_row op format.F32x _ _ h refl
+insn_row (content.I31i op a b) h = plain_row op format.F31i _ _ h refl
+insn_row (content.I51l op a b) h = plain_row op format.F51l _ _ h refl
+insn_row (content.I21c op a which) h = plain_row op format.F21c _ _ h.0 (named_slots op which (register8 ∷ []) h.1)
+insn_row (content.I31c op a which) h = plain_row op format.F31c _ _ h.0 (named_slots op which (register8 ∷ []) h.1)
+insn_row (content.I22c op a b which) h = plain_row op format.F22c _ _ h.0 (named_slots op which (register4 ∷ register4 ∷ []) h.1)
+insn_row (content.I3rc op n first which) h = plain_row op format.F3rc _ _ h.0 (named_slots op which (register16 ∷ slot.Byte Nothing 255 ∷ []) h.1)
+insn_row (content.I35c op n regs which) h =
+    let l : length (take n regs) ≤ 5 = (let a = length-take n regs in let b = h.2 in omega arith) in
+    plain_row op format.F35c _ _ h.0 (brace_slots op (take n regs) (name_operand which) l h.1)
+insn_row (content.Packed first targets) h = key_row_of key.Packed _ _ refl (ap (λ ss. Some (kind.Packed, slot.Int ∷ ss)) (targets_slots targets ∙ ap (λ n. replicate n target) (let z : length (words_of (map to targets)) ≡ suc (length (words_of (map to targets))) - 1 = omega arith in z)))
+insn_row (content.Sparse keys targets) h = key_row_of key.Sparse _ _ refl (ap (λ ss. Some (kind.Sparse, ss)) (pairs_slots keys targets h ∙ ap pairs (let z = pairs_length keys targets h in omega arith)))
+insn_row (content.Data width bytes) h = key_row_of key.Elements _ _ refl (data_row width bytes)
+
+-- ---- what the slots say
+
+plain_says : (op : ℕ) (f : Format) (ds : List Datum) (i : Insn) → format_of op ≡ Some f → insn_of (Some f) op ds ≡ i → line_of (kind.Plain op) ds ≡ insn_line i
+unfolding line_of
+plain_says op f ds i e g = ap (λ (o : Option Format). insn_line (insn_of o op ds)) e ∙ ap insn_line g
+
+name_says : (which : Name) → (name_operand which).says ≡ named which
+name_says (OfText us) = refl
+name_says (OfDesc d) = refl
+name_says (OfField f) = refl
+name_says (OfMethod m) = refl
+
+brace_says : (op n a b c d e : ℕ) (which : Name) → n ≤ 5 → drop n (a ∷ b ∷ c ∷ d ∷ e ∷ []) ≡ replicate (5 - n) 0 → insn_of (Some format.F35c) op (data_of (braces (take n (a ∷ b ∷ c ∷ d ∷ e ∷ [])) (name_operand which))) ≡ content.I35c op n (a ∷ b ∷ c ∷ d ∷ e ∷ []) which
+unfolding insn_of byte_of name_of
+brace_says op zero a b c d e which l h = let i : a ≡ 0 = cc in let j : b ≡ 0 = cc in let k : c ≡ 0 = cc in let m : d ≡ 0 = cc in let o : e ≡ 0 = cc in rw (i, j, k, m, o, name_says which) refl
+brace_says op (suc zero) a b c d e which l h = let j : b ≡ 0 = cc in let k : c ≡ 0 = cc in let m : d ≡ 0 = cc in let o : e ≡ 0 = cc in rw (j, k, m, o, name_says which) refl
+brace_says op (suc (suc zero)) a b c d e which l h = let k : c ≡ 0 = cc in let m : d ≡ 0 = cc in let o : e ≡ 0 = cc in rw (k, m, o, name_says which) refl
+brace_says op (suc (suc (suc zero))) a b c d e which l h = let m : d ≡ 0 = cc in let o : e ≡ 0 = cc in rw (m, o, name_says which) refl
+brace_says op (suc (suc (suc (suc zero)))) a b c d e which l h = let o : e ≡ 0 = cc in rw (o, name_says which) refl
+brace_says op (suc (suc (suc (suc (suc zero))))) a b c d e which l h = rw (name_says which) refl
+brace_says op (suc (suc (suc (suc (suc (suc n)))))) a b c d e which l h = absurd (omega arith)
+
+call_says : (op n : ℕ) (regs : List ℕ) (which : Name) → n ≤ 5 → length regs ≡ 5 → drop n regs ≡ replicate (5 - n) 0 → insn_of (Some format.F35c) op (data_of (braces (take n regs) (name_operand which))) ≡ content.I35c op n regs which
+call_says op n (a ∷ b ∷ c ∷ d ∷ e ∷ []) which l f h = brace_says op n a b c d e which l h
+call_says op n [] which l f h = absurd (omega arith)
+call_says op n (a ∷ []) which l f h = absurd (omega arith)
+call_says op n (a ∷ b ∷ []) which l f h = absurd (omega arith)
+call_says op n (a ∷ b ∷ c ∷ []) which l f h = absurd (omega arith)
+call_says op n (a ∷ b ∷ c ∷ d ∷ []) which l f h = absurd (omega arith)
+call_says op n (a ∷ b ∷ c ∷ d ∷ e ∷ x ∷ rs) which l f h = absurd (omega arith)
+
+data_says : (width : ℕ) (bytes : List ℕ) → line_of kind.Elements (data_of (insn_operands (content.Data width bytes))) ≡ insn_line (content.Data width bytes)
+unfolding line_of half_of elements_of
+data_says width [] = refl
+data_says width (b ∷ bytes) = refl
+
+packed_says : (first : ℤ) (targets : List ℕ) → line_of kind.Packed (data_of (insn_operands (content.Packed first targets))) ≡ insn_line (content.Packed first targets)
+unfolding line_of int_of
+packed_says first targets = ap (λ ts. insn_line (content.Packed first ts)) (targets_say targets)
+
+sparse_says : (keys : List ℤ) (targets : List ℕ) → length keys ≡ length targets → line_of kind.Sparse (data_of (insn_operands (content.Sparse keys targets))) ≡ insn_line (content.Sparse keys targets)
+unfolding line_of
+sparse_says keys targets e = ap (λ ks. insn_line (content.Sparse ks (map word_of (alternate (drop 1 (data_of (pair_operands keys targets))))))) (keys_say keys targets e) ∙ ap (λ ts. insn_line (content.Sparse keys ts)) (pair_targets_say keys targets e)
+
+pub insn_says : (i : Insn) → OpcodeFits i → line_of (insn_kind i) (data_of (insn_operands i)) ≡ insn_line i
+unfolding insn_of byte_of half_of word_of tiny_of short_of int_of long_of name_of
+insn_says (content.I10x op) h = plain_says op format.F10x _ _ h refl
+insn_says (content.I12x op a b) h = plain_says op format.F12x _ _ h refl
+insn_says (content.I11n op a b) h = plain_says op format.F11n _ _ h refl
+insn_says (content.I11x op a) h = plain_says op format.F11x _ _ h refl
+insn_says (content.I10t op k) h = plain_says op format.F10t _ _ h refl
+insn_says (content.I20t op k) h = plain_says op format.F20t _ _ h refl
+insn_says (content.I30t op k) h = plain_says op format.F30t _ _ h refl
+insn_says (content.I22x op a b) h = plain_says op format.F22x _ _ h refl
+insn_says (content.I21t op a k) h = plain_says op format.F21t _ _ h refl
+insn_says (content.I31t op a k) h = plain_says op format.F31t _ _ h refl
+insn_says (content.I21s op a b) h = plain_says op format.F21s _ _ h refl
+insn_says (content.I21h op a b) h = plain_says op format.F21h _ _ h refl
+insn_says (content.I23x op a b c) h = plain_says op format.F23x _ _ h refl
+insn_says (content.I22b op a b c) h = plain_says op format.F22b _ _ h refl
+insn_says (content.I22t op a b k) h = plain_says op format.F22t _ _ h refl
+insn_says (content.I22s op a b c) h = plain_says op format.F22s _ _ h refl
+insn_says (content.I32x op a b) h = plain_says op format.F32x _ _ h refl
+insn_says (content.I31i op a b) h = plain_says op format.F31i _ _ h refl
+insn_says (content.I51l op a b) h = plain_says op format.F51l _ _ h refl
+insn_says (content.I21c op a which) h = plain_says op format.F21c _ _ h.0 (rw (name_says which) refl)
+insn_says (content.I31c op a which) h = plain_says op format.F31c _ _ h.0 (rw (name_says which) refl)
+insn_says (content.I22c op a b which) h = plain_says op format.F22c _ _ h.0 (rw (name_says which) refl)
+insn_says (content.I3rc op n first which) h = plain_says op format.F3rc _ _ h.0 (rw (name_says which) refl)
+insn_says (content.I35c op n regs which) h = plain_says op format.F35c _ _ h.0 (call_says op n regs which h.2 h.3 h.4)
+insn_says (content.Packed first targets) h = packed_says first targets
+insn_says (content.Sparse keys targets) h = sparse_says keys targets h
+insn_says (content.Data width bytes) h = data_says width bytes
+
+-- ---- the number of an instruction
+
+natural_printed : (k : ℕ) → k < 2 ^ 64 → SpellsNatural (decimal k) k
+natural_printed k h = let d = decimal_is_IsNumeral k h in inl (d.0, sym d.1)
+
+pub number_printed : (k : ℕ) → k < 2 ^ 64 → is_number (decimal k) k ≡ true
+number_printed k h = sym (number_found (decimal k) k k (natural_printed k h)) ∙ eq-eqb k k refl
+
+pub insn_has_shape : (k : ℕ) (i : Insn) → k < 2 ^ 64 → OpcodeFits i → FitOperands (insn_operands i)
+    → HasShape (plain_word (decimal k ++ 58 ∷ []) ∷ plain_word (insn_word i) ∷ words_of (insn_operands i)) (record { kind = insn_kind i; label = decimal k; slots = slots_of (insn_operands i); words = words_of (insn_operands i) })
+insn_has_shape k i h f o =
+    let row : Row = (insn_kind i, slots_of (insn_operands i)) in
+    let b : BeginsWithInsn (plain_word (insn_word i) ∷ words_of (insn_operands i)) row = record { text = insn_word i; behind = words_of (insn_operands i); words = refl; has_row = insn_row i f; forms = printed_forms (insn_operands i) o } in
+    labelled_shape (plain_word (decimal k ++ 58 ∷ []) ∷ plain_word (insn_word i) ∷ words_of (insn_operands i)) (plain_word (insn_word i) ∷ words_of (insn_operands i)) (decimal k ++ 58 ∷ []) (decimal k) row refl refl (spelled_natural (decimal k) k (natural_printed k h)).0 b

@@ -1,0 +1,5 @@
+pub mod TextLaws
+pub mod PrintedLaws
+pub mod MadeLaws
+pub mod RowLaws
+pub mod InsnLaws

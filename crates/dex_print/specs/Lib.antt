@@ -1,0 +1,5 @@
+pub mod Operands
+pub mod Leaves
+pub mod Printed
+pub mod Canon
+pub mod Reading

@@ -1,0 +1,24 @@
+//! The rows of the tables string_ids to method_ids of a file that is written, from the ranks of the names.
+//!
+//! ```
+//! let ranks = needed.freeze()?;
+//! let rows = name_rows(alloc, &ranks, &texts, &lists)?; // the places of texts and of parameter lists in, bytes out
+//! ```
+#![tactic(auto)]
+
+// The indices of names that are held.
+mod index;
+
+// The rows of each table, and of all.
+mod field_ids;
+mod method_ids;
+mod proto_ids;
+mod tables;
+mod type_ids;
+
+// What holds of rows.
+mod laws;
+
+pub use index::{field_index, method_index, proto_index, shorty_index, string_index, type_index};
+pub use laws::rows_stand_at_their_indices;
+pub use tables::name_rows;

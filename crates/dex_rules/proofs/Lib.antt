@@ -1,0 +1,3 @@
+pub mod MemberLaws
+pub mod OrderLaws
+pub mod WalkLaws

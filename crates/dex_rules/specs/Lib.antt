@@ -1,0 +1,3 @@
+pub mod Valid
+pub mod Rules
+pub mod Parts

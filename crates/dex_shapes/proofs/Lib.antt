@@ -1,0 +1,3 @@
+pub mod ValueSlotLaws
+pub mod FormLaws
+pub mod ShapeLaws

@@ -1,0 +1,21 @@
+//! Shapes of the lines of a listing: what a line is, told by its first words, and a slot for each word behind them.
+//!
+//! A shape is a function of the words alone: neither what stands before the line nor what the words say in their slots
+//! changes it. The values of static fields may nest in any depth, and cost no stack.
+//!
+//! ```text
+//! read_shape(words of `try @0 @5`, &mut slots)?   // Found { kind: Kind::Try, lead: 1, .. }, and slots for two targets
+//! read_shape(words of `try @0`, &mut slots)?      // None
+//! ```
+#![tactic(auto)]
+
+mod due;
+mod forms;
+mod found;
+mod law;
+mod shape;
+mod values;
+
+pub use found::Found;
+pub use law::words_have_one_shape;
+pub use shape::read_shape;

@@ -1,0 +1,7 @@
+pub mod KeyLaws
+pub mod SpellLaws
+pub mod SpellsOneLaws
+pub mod NumberReadLaws
+pub mod NumberNoneLaws
+pub mod OperandLaws
+pub mod ShownLaws

@@ -1,0 +1,5 @@
+pub mod Keys
+pub mod Data
+pub mod View
+pub mod Slots
+pub mod Shown

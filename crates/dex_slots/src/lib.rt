@@ -1,0 +1,33 @@
+//! Slots of a line of a listing: what each word may stand for, what it says there, and how it is printed.
+//!
+//! A line is what it is (`Kind`) and a slot for each word behind its first ones. A word says one `Datum` in its slot, or
+//! nothing there; what is printed of a datum says that datum again.
+//!
+//! ```text
+//! read_operands(bump, &[Slot::Byte(Mark::Register, 15), Slot::Short], words, &mut data)?
+//! // None, and data is [Byte(3), Short(-1)], for the words `v3 -1`; Some(102), Number, for `v16 -1`
+//! ```
+#![tactic(auto)]
+
+mod datum;
+mod key;
+mod kind;
+mod law;
+mod numbers;
+mod put;
+mod read;
+mod slot;
+
+pub use datum::{
+    Datum, byte_of, datum_at, elements_of, half_of, int_of, long_of, name_of, proto_of, short_of,
+    text_of, tiny_of, type_of, word_of,
+};
+pub use key::{Key, is_same, is_same_text, key_text, lead_key, payload_key, value_key};
+pub use kind::Kind;
+pub use law::{printed_words_are_read_again, words_say_one_thing};
+pub use put::{
+    put_bits, put_decimal, put_elements, put_field, put_flags, put_key, put_method, put_name,
+    put_number, put_proto, put_register, put_signed, put_target, put_text,
+};
+pub use read::read_operands;
+pub use slot::{Mark, Slot};

@@ -1,0 +1,9 @@
+pub mod TakingLaws
+pub mod TextLaws
+pub mod WordLaws
+pub mod NumberLaws
+pub mod PrintLaws
+pub mod NaturalLaws
+pub mod NameLaws
+pub mod BitLaws
+pub mod WrittenLaws

@@ -1,0 +1,7 @@
+//! Tests of listings: texts in, programs and faults out, and back.
+#![tactic(auto)]
+
+#[cfg(test)]
+mod faults;
+#[cfg(test)]
+mod texts;

@@ -1,0 +1,63 @@
+//! Texts that are read and printed again.
+
+use bumpalo::Bump;
+use dex_base::Fault;
+use dex_listing::parse;
+use dex_print::print;
+use dex_samples::{none_wrong, shows};
+use std::alloc::Global;
+use std::test::Fail;
+
+/// What is printed of the program of a text.
+fn again(alloc: Global, text: &[u8]) -> Result<Vec<u8>, Fault> {
+    let arena = Bump::new(alloc);
+    let whole = parse(alloc, &arena, text)?;
+    print(alloc, &whole)
+}
+
+/// The first text that doesn't come back as itself.
+fn first_printed_otherwise(
+    alloc: Global,
+    texts: &[&'static str],
+) -> Result<Option<&'static str>, Fault> {
+    for text in texts {
+        if again(alloc, text.as_bytes())?.as_slice() != text.as_bytes() {
+            return Ok(Some(*text));
+        }
+    }
+    Ok(None)
+}
+
+/// What is printed of the program of a text, as a text.
+fn shown_again(alloc: Global, text: &str) -> Result<String, Fault> {
+    let bytes = again(alloc, text.as_bytes())?;
+    let mut shown = String::new(alloc);
+    for byte in bytes.as_slice() {
+        shown.push(*byte as char)?;
+    }
+    Ok(shown)
+}
+
+#[test]
+fn canonical_texts_come_back(rt: HostRuntime) -> Result<(), Fail> {
+    static TEXTS: [&str; 6] = [
+        "dex 035\n",
+        "dex 035\nclass LA; 0x1\nsuper Ljava/lang/Object;\ndirect m ()V 0x9\ncode 1 0 0\n0: return-void\nend code\nend class\n",
+        "dex 035\nclass LA; 0x0\nimplements LD;\nimplements LC;\nsource \"\\\"\\\\\\u00e9\\u000a\\ud800#\"\nend class\nclass LB; 0xffffffff\nend class\n",
+        "dex 035\nclass LA; 0x1\nstatic a Z 0x9 = false\nstatic b [I 0x9 = array { byte -1 short -2 char 65535 int 4 long -9223372036854775808 float 3f800000 double 3ff0000000000000 string \"s\" type [LA; field LA;->a:Z method LA;->m(I)V enum LA;->a:Z array { } null true false }\nstatic c I 0x9\ninstance d\\u00e9 LA; 0x2\ndirect <init> ()V 0x10001\nvirtual v (I[[JLA;)LA; 0x1\nend class\n",
+        "dex 035\nclass LA; 0x1\ndirect m ()V 0x9\ncode 65535 1 2\n0: move v0 v15\n1: const/4 v1 -8\n2: throw v255\n3: goto @4\n4: goto/16 @0\n5: move/from16 v1 v65535\n6: if-eqz v1 @0\n7: const/16 v1 -32768\n8: const/high16 v1 32767\n9: const-string v2 \"a b\"\n10: add-int v1 v2 v3\n11: add-int/lit8 v1 v2 -128\n12: if-eq v1 v2 @0\n13: add-int/lit16 v1 v2 -1\n14: iget v1 v2 LA;->f:I\n15: goto/32 @15\n16: move/16 v65535 v0\n17: const v1 -2147483648\n18: fill-array-data v1 @23\n19: const-string/jumbo v1 \"\"\n20: invoke-static { v0 v1 v2 v3 v15 } LA;->m(IJ)V\n21: invoke-static/range v65535 0 LA;->m()V\n22: const-wide v1 -9223372036854775808\n23: array-payload 4 00010203fffefdfc\n24: return-void\nend code\nend class\n",
+        "dex 035\nclass LA; 0x1\ndirect m ()V 0x9\ncode 1 0 0\n0: packed-switch v0 @3\n1: sparse-switch v0 @4\n2: return-void\n3: packed-switch-payload -1 @0 @2\n4: sparse-switch-payload -5 @0 7 @2\n5: array-payload 1\ntry @0 @1\ncatch LE; @2\ncatch LF; @1\ncatchall @0\ntry @1 @3\ncatchall @2\nend code\nvirtual n ()V 0x1\nend class\n",
+    ];
+    none_wrong(first_printed_otherwise(rt.alloc(), &TEXTS))
+}
+
+#[test]
+fn members_are_put_in_their_order(rt: HostRuntime) -> Result<(), Fail> {
+    shows(
+        shown_again(
+            rt.alloc(),
+            "# in any order\ndex 035\nclass  LA;   1\nsource \"a\"\nsuper LB;\nvirtual b ()V 1\nvirtual a ()V 1\n  static z I 0x9 = int 007\nstatic y J 0x9\nstatic x Z 0x9\nstatic zz I 0x0\ndirect c ()V 0x1\ncode 0 0 0\n0x0: return-void\nend code\nend class",
+        ),
+        "dex 035\nclass LA; 0x1\nsuper LB;\nsource \"a\"\nstatic x Z 0x9 = false\nstatic y J 0x9 = long 0\nstatic z I 0x9 = int 7\nstatic zz I 0x0\ndirect c ()V 0x1\ncode 0 0 0\n0: return-void\nend code\nvirtual a ()V 0x1\nvirtual b ()V 0x1\nend class\n",
+    )
+}

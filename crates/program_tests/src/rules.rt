@@ -1,0 +1,187 @@
+//! Programs that keep their rules, and programs that break one.
+
+use dex_base::fault;
+use dex_program::{
+    Catch, Class, Code, Desc, Insn, Member, Method, Name, Program, Proto, Str, Try, Value,
+};
+use dex_rules::well_formed;
+use dex_samples::none_wrong;
+use std::test::Fail;
+
+// Classes, the fault of the first that breaks a rule, 0 where all keep them, and that class's number.
+type Ruled = (&'static str, &'static [Class<'static>], u16, u64);
+
+fn is_ruled_so(case: &Ruled) -> bool {
+    let (_, classes, code, place) = case;
+    match well_formed(&Program { classes }) {
+        Ok(()) => *code == 0,
+        Err(fault) => fault.code == *code && fault.place == *place,
+    }
+}
+
+fn first_ruled_otherwise(cases: &[Ruled]) -> Option<&'static str> {
+    for case in cases {
+        if !is_ruled_so(case) {
+            return Some(case.0);
+        }
+    }
+    None
+}
+
+// `LA;`, `LB;`, `V`, `I`, `[I`, and names.
+const A: Desc<'static> = Desc {
+    text: Str {
+        units: &[0x4c, 0x41, 0x3b],
+    },
+};
+
+const B: Desc<'static> = Desc {
+    text: Str {
+        units: &[0x4c, 0x42, 0x3b],
+    },
+};
+
+const VOID: Desc<'static> = Desc {
+    text: Str { units: &[0x56] },
+};
+
+const INT: Desc<'static> = Desc {
+    text: Str { units: &[0x49] },
+};
+
+const INTS: Desc<'static> = Desc {
+    text: Str {
+        units: &[0x5b, 0x49],
+    },
+};
+
+const NO_TYPE: Desc<'static> = Desc {
+    text: Str {
+        units: &[0x4c, 0x3b],
+    },
+};
+
+const F: Str<'static> = Str { units: &[0x66] };
+
+const G: Str<'static> = Str { units: &[0x67] };
+
+const NO_NAME: Str<'static> = Str { units: &[0x20] };
+
+const EMPTY: Class<'static> = Class {
+    ty: A,
+    flags: 0,
+    superclass: None,
+    interfaces: &[],
+    source: None,
+    statics: &[],
+    values: &[],
+    instances: &[],
+    directs: &[],
+    virtuals: &[],
+};
+
+const SECOND: Class<'static> = Class { ty: B, ..EMPTY };
+
+const FIELD: Member<'static> = Member {
+    name: F,
+    ty: INT,
+    flags: 0,
+};
+
+const OTHER: Member<'static> = Member {
+    name: G,
+    ty: INT,
+    flags: 0,
+};
+
+const METHOD: Method<'static> = Method {
+    name: F,
+    proto: &Proto {
+        ret: VOID,
+        params: &[],
+    },
+    flags: 0,
+    code: None,
+};
+
+#[rattlefmt::skip]
+#[test]
+fn names_and_kinds_of_types_are_ruled() -> Result<(), Fail> {
+    static CASES: [Ruled; 8] = [
+        ("no class", &[], 0, 0),
+        ("a class with a field, a method and a superclass", &[Class { superclass: Some(B), statics: &[FIELD], directs: &[METHOD], ..EMPTY }], 0, 0),
+        ("a class that is an array", &[Class { ty: INTS, ..EMPTY }], fault::PROGRAM_NAME, 0),
+        ("a superclass that is no type", &[EMPTY, Class { superclass: Some(NO_TYPE), ..SECOND }], fault::PROGRAM_NAME, 1),
+        ("a field that is void", &[Class { instances: &[Member { ty: VOID, ..FIELD }], ..EMPTY }], fault::PROGRAM_NAME, 0),
+        ("a field without a name", &[Class { statics: &[Member { name: NO_NAME, ..FIELD }], ..EMPTY }], fault::PROGRAM_NAME, 0),
+        ("a parameter that is void", &[Class { virtuals: &[Method { proto: &Proto { ret: INT, params: &[VOID] }, ..METHOD }], ..EMPTY }], fault::PROGRAM_NAME, 0),
+        ("an array in a value that names no type", &[Class { statics: &[FIELD], values: &[Value::Array(&[Value::Null, Value::Desc(NO_TYPE)])], ..EMPTY }], fault::PROGRAM_NAME, 0),
+    ];
+    none_wrong(Ok(first_ruled_otherwise(&CASES)))
+}
+
+#[rattlefmt::skip]
+#[test]
+fn the_orders_of_members_and_classes_and_values_are_ruled() -> Result<(), Fail> {
+    static CASES: [Ruled; 9] = [
+        ("fields by name", &[Class { statics: &[FIELD, OTHER], ..EMPTY }], 0, 0),
+        ("fields that fall", &[Class { statics: &[OTHER, FIELD], ..EMPTY }], fault::PROGRAM_MEMBER_ORDER, 0),
+        ("a method given twice", &[Class { directs: &[METHOD, METHOD], ..EMPTY }], fault::PROGRAM_MEMBER_ORDER, 0),
+        ("a class behind its superclass", &[EMPTY, Class { superclass: Some(A), ..SECOND }], 0, 0),
+        ("a class before its superclass", &[Class { superclass: Some(B), ..EMPTY }, SECOND], fault::PROGRAM_CLASS_ORDER, 0),
+        ("a class that is its own interface", &[EMPTY, Class { interfaces: &[B], ..SECOND }], fault::PROGRAM_CLASS_ORDER, 1),
+        ("a class defined twice", &[EMPTY, EMPTY], fault::PROGRAM_CLASS_ORDER, 1),
+        ("an interface given twice", &[Class { interfaces: &[B, B], ..EMPTY }], fault::PROGRAM_CLASS_ORDER, 0),
+        ("a value and no static field", &[Class { values: &[Value::Null], instances: &[FIELD], ..EMPTY }], fault::PROGRAM_VALUES, 0),
+    ];
+    none_wrong(Ok(first_ruled_otherwise(&CASES)))
+}
+
+// A class with one method, whose code has these instructions and tries.
+const BODY: Code<'static> = Code {
+    registers: 1,
+    ins: 0,
+    outs: 0,
+    insns: &[Insn::I10x { op: 0x0e }],
+    tries: &[],
+};
+
+const COVER: Try<'static> = Try {
+    from: 0,
+    to: 1,
+    catches: &[Catch { ty: A, at: 0 }],
+    catch_all: None,
+};
+
+#[rattlefmt::skip]
+#[test]
+fn instructions_are_ruled() -> Result<(), Fail> {
+    static CASES: [Ruled; 9] = [
+        ("return-void", &[Class { directs: &[Method { code: Some(&BODY), ..METHOD }], ..EMPTY }], 0, 0),
+        ("no instruction", &[Class { directs: &[Method { code: Some(&Code { insns: &[], ..BODY }), ..METHOD }], ..EMPTY }], fault::PROGRAM_OPERAND, 0),
+        ("an opcode of another format", &[Class { virtuals: &[Method { code: Some(&Code { insns: &[Insn::I10x { op: 0x01 }], ..BODY }), ..METHOD }], ..EMPTY }], fault::PROGRAM_OPERAND, 0),
+        ("const-string of a type", &[Class { directs: &[Method { code: Some(&Code { insns: &[Insn::I21c { op: 0x1a, a: 0, name: Name::Desc(A) }], ..BODY }), ..METHOD }], ..EMPTY }], fault::PROGRAM_OPERAND, 0),
+        ("a register above 15", &[Class { directs: &[Method { code: Some(&Code { insns: &[Insn::I12x { op: 0x01, a: 16, b: 0 }], ..BODY }), ..METHOD }], ..EMPTY }], fault::PROGRAM_OPERAND, 0),
+        ("goto itself", &[Class { directs: &[Method { code: Some(&Code { insns: &[Insn::I10t { op: 0x28, to: 0 }], ..BODY }), ..METHOD }], ..EMPTY }], fault::PROGRAM_TARGET, 0),
+        ("goto/32 itself", &[Class { directs: &[Method { code: Some(&Code { insns: &[Insn::I30t { op: 0x2a, to: 0 }], ..BODY }), ..METHOD }], ..EMPTY }], 0, 0),
+        ("goto past the end", &[Class { directs: &[Method { code: Some(&Code { insns: &[Insn::I10t { op: 0x28, to: 1 }], ..BODY }), ..METHOD }], ..EMPTY }], fault::PROGRAM_OPERAND, 0),
+        ("goto a payload", &[Class { directs: &[Method { code: Some(&Code { insns: &[Insn::I10t { op: 0x28, to: 1 }, Insn::Data { width: 1, bytes: &[] }], ..BODY }), ..METHOD }], ..EMPTY }], fault::PROGRAM_TARGET, 0),
+    ];
+    none_wrong(Ok(first_ruled_otherwise(&CASES)))
+}
+
+#[rattlefmt::skip]
+#[test]
+fn payloads_and_tries_are_ruled() -> Result<(), Fail> {
+    static CASES: [Ruled; 8] = [
+        ("a switch and its payload", &[Class { directs: &[Method { code: Some(&Code { insns: &[Insn::I31t { op: 0x2b, a: 0, to: 1 }, Insn::Packed { first: 0, targets: &[0] }], ..BODY }), ..METHOD }], ..EMPTY }], 0, 0),
+        ("a switch's payload that nothing uses", &[Class { directs: &[Method { code: Some(&Code { insns: &[Insn::Packed { first: 0, targets: &[] }], ..BODY }), ..METHOD }], ..EMPTY }], fault::PROGRAM_PAYLOAD_USE, 0),
+        ("two switches with one payload", &[Class { directs: &[Method { code: Some(&Code { insns: &[Insn::I31t { op: 0x2b, a: 0, to: 2 }, Insn::I31t { op: 0x2b, a: 0, to: 2 }, Insn::Packed { first: 0, targets: &[] }], ..BODY }), ..METHOD }], ..EMPTY }], fault::PROGRAM_PAYLOAD_USE, 0),
+        ("a switch with a payload of another kind", &[Class { directs: &[Method { code: Some(&Code { insns: &[Insn::I31t { op: 0x2c, a: 0, to: 1 }, Insn::Data { width: 2, bytes: &[] }], ..BODY }), ..METHOD }], ..EMPTY }], fault::PROGRAM_PAYLOAD_USE, 0),
+        ("a try with a handler", &[Class { directs: &[Method { code: Some(&Code { tries: &[COVER], ..BODY }), ..METHOD }], ..EMPTY }], 0, 0),
+        ("a try that covers nothing", &[Class { directs: &[Method { code: Some(&Code { tries: &[Try { to: 0, ..COVER }], ..BODY }), ..METHOD }], ..EMPTY }], fault::PROGRAM_TRY, 0),
+        ("a try past the end", &[Class { directs: &[Method { code: Some(&Code { tries: &[Try { to: 2, ..COVER }], ..BODY }), ..METHOD }], ..EMPTY }], fault::PROGRAM_TRY, 0),
+        ("a try without a handler", &[Class { directs: &[Method { code: Some(&Code { tries: &[Try { catches: &[], ..COVER }], ..BODY }), ..METHOD }], ..EMPTY }], fault::PROGRAM_TRY, 0),
+    ];
+    none_wrong(Ok(first_ruled_otherwise(&CASES)))
+}
