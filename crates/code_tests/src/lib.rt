@@ -1,13 +1,11 @@
-//! Tests of code items.
+//! Tests of code items. The faults of code have theirs in file_tests.
 #![tactic(auto)]
 
 #[cfg(test)]
-mod faults;
-#[cfg(test)]
-mod fitting;
-#[cfg(test)]
 mod fixtures;
 #[cfg(test)]
-mod reading;
+mod insns;
 #[cfg(test)]
-mod writing;
+mod places;
+#[cfg(test)]
+mod tries;

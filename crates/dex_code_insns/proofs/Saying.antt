@@ -1,5 +1,5 @@
 -- What a raw instruction says, part by part: its branch, what it refers to, its targets.
-use Rattle.std.proofs.Common.{◌≡◌, ◌≢◌, ℕ, ℤ, pos, ◌+◌, ◌/◌, ◌<◌, ◌≤◌, List, [], ◌∷◌, length, refl, ap, sym, ◌∙◌, arith, zero, suc, subst, Option, Some, None, true, false}
+use Rattle.std.proofs.Common.{◌≡◌, ℕ, ℤ, ◌+◌, ◌/◌, ◌<◌, List, ◌∷◌, length, refl, ap, sym, ◌∙◌, arith, zero, suc, subst, Option, Some, None, false}
 use Rattle.std.specs.Prelude.{option_map, IfSome}
 use Rattle.std.specs.List.{AllByRecursion}
 use Rattle.dex_insn.specs.Fields.{int_at}
@@ -7,7 +7,7 @@ use Rattle.dex_insn.specs.Raw as raw
 use Rattle.dex_insn.specs.Raw.{Raw, is_payload}
 use Rattle.dex_program.specs.Content.{Name, Insn}
 use Rattle.dex_program.specs.Content as made
-use Rattle.dex_program.specs.Formed.{AreAlike, IsSwitch, wanted_by, insn_payload, insn_wants, insn_reach, insn_branch, insn_short_branch, insn_targets}
+use Rattle.dex_program.specs.Formed.{AreAlike, IsSwitch, insn_payload, insn_wants, insn_reach, insn_branch, insn_short_branch, insn_targets}
 use Rattle.dex_program.specs.declared.payload.Payload.{Payload}
 use Rattle.dex_program.specs.declared.payload.Payload.TheVariants as payload
 use Rattle.dex_code_insns.specs.Symbols.{resolved, places, both, ints, ints_from}

@@ -1,18 +1,18 @@
 -- What is written of well formed instructions keeps the rules of what is read.
-use Rattle.std.proofs.Common.{◌≡◌, ◌≢◌, ℕ, ℤ, pos, ◌+ℤ◌, ◌+◌, ◌<◌, ◌≤◌, List, length, get_or, refl, ap, sym, ◌∙◌, arith, subst, Option, Some, None, inl, inr, true, false}
+use Rattle.std.proofs.Common.{◌≡◌, ◌≢◌, ℕ, ℤ, pos, ◌<◌, List, length, get_or, refl, ap, sym, ◌∙◌, arith, subst, Option, Some, None, inl, inr}
 use Rattle.std.specs.Prelude.{IfSome}
 use Rattle.std.proofs.lemmas.Int.{ints}
 use Rattle.dex_insn.specs.Fields.{int_at}
-use Rattle.dex_insn.specs.Raw.{Raw, is_payload}
-use Rattle.dex_program.specs.Content.{Name, Insn, Code}
+use Rattle.dex_insn.specs.Raw.{Raw}
+use Rattle.dex_program.specs.Content.{Name, Insn}
 use Rattle.dex_program.specs.Sizes.{addresses_of}
 use Rattle.dex_program.specs.Formed.{insn_at, insn_payload, insn_wants, insn_reach, AreAlike, IsSwitch, Refers, IsTarget, TargetHolds, PayloadHolds}
 use Rattle.dex_program.specs.declared.payload.Payload.{Payload}
-use Rattle.dex_code_insns.specs.Places.{Rises, place}
-use Rattle.dex_code_insns.specs.Walk.{Walks, starts, raw_at, address}
+use Rattle.dex_code_insns.specs.Places.{place}
+use Rattle.dex_code_insns.specs.Walk.{starts, raw_at, address}
 use Rattle.dex_code_insns.specs.Symbols.{Says}
-use Rattle.dex_code_insns.specs.Payloads.{payload_of, wants, reach, Uses, UsedOnce, UseHolds}
-use Rattle.dex_code_insns.specs.Insns.{branch, short_branch, targets, Lands, BranchLands, BranchMoves, BranchHolds, TargetsHold, IsBase, SpellsInsn, SpellsInsns}
+use Rattle.dex_code_insns.specs.Payloads.{payload_of, wants, reach, Uses, UseHolds}
+use Rattle.dex_code_insns.specs.Insns.{branch, short_branch, targets, Lands, BranchLands, BranchMoves, TargetsHold, SpellsInsn, SpellsInsns}
 use Rattle.dex_code_insns.proofs.PlaceLaws.{place-to}
 use Rattle.dex_code_put.specs.Packs.{IsOrigin, AreLowered, joined}
 use Rattle.dex_code_put.proofs.FormLaws.{addresses-rise, length-addresses}

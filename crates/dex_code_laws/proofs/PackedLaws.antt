@@ -1,9 +1,8 @@
 -- What is written of a code is a code item of it.
-use Rattle.std.proofs.Common.{◌≡◌, ◌≢◌, ℕ, ◌+◌, ◌-◌, ◌*◌, ◌/◌, ◌%◌, ◌<◌, ◌≤◌, ◌++◌, List, [], ◌∷◌, length, get_or, drop, take, refl, ap, sym, ◌∙◌, arith, zero, suc, subst, Bool, true, false, length-append, append_assoc, append-nil, if◌then◌else◌, ◌==◌}
+use Rattle.std.proofs.Common.{◌≡◌, ℕ, ◌+◌, ◌-◌, ◌*◌, ◌%◌, ◌<◌, ◌≤◌, ◌++◌, List, [], ◌∷◌, length, drop, take, refl, ap, sym, ◌∙◌, arith, subst, Bool, true, false, length-append, append_assoc, if◌then◌else◌, ◌==◌}
 use Rattle.std.specs.Prelude.{slice_range}
 use Rattle.std.proofs.lemmas.Bool.Decides.{nat_tests}
 use Rattle.std.proofs.lemmas.List.{drop_at, take_at}
-use Rattle.byteorder.specs.Endian.{little_number, little_bytes}
 use Rattle.dex_bytes.specs.Fields.{u16_at, u32_at, u16_bytes, u32_bytes}
 use Rattle.dex_bytes.proofs.FieldBounds.{length-u32_bytes}
 use Rattle.dex_insn.specs.Raw.{Raw}
@@ -12,10 +11,10 @@ use Rattle.dex_program.specs.Formed.{IsFormed}
 use Rattle.dex_program.specs.Sizes.{addresses_of, length_of}
 use Rattle.dex_code_insns.specs.Walk.{starts}
 use Rattle.dex_code_insns.specs.Insns.{SpellsInsns}
-use Rattle.dex_code.specs.Item.{registers_of, ins_of, outs_of, tries_of, size_of, units_end, tries_begin, list_begin, units_of, items_of, IsWhole}
+use Rattle.dex_code.specs.Item.{registers_of, ins_of, outs_of, tries_of, size_of, units_end, tries_begin, list_begin, units_of, items_of}
 use Rattle.dex_code.specs.Tries.{SpellsTries}
 use Rattle.dex_code.specs.Code.{SpellsCode}
-use Rattle.dex_code_put.specs.Fits.{FitsCode, wide_code, catches_in}
+use Rattle.dex_code_put.specs.Fits.{FitsCode, wide_code}
 use Rattle.dex_code_put.specs.Packs.{PacksCode, head_bytes, padding, joined, items_bytes}
 use Rattle.dex_code_put.proofs.FormLaws.{address-low, length-addresses}
 use Rattle.dex_code_laws.proofs.WrittenLaws.{lowered-starts, lowered-length}

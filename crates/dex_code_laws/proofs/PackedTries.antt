@@ -1,25 +1,22 @@
 -- What is written of tries keeps the rules of what is read, and spells them.
-use Rattle.std.proofs.Common.{◌≡◌, ◌≢◌, ℕ, ◌+◌, ◌-◌, ◌*◌, ◌<◌, ◌≤◌, ◌++◌, List, [], ◌∷◌, length, get_or, drop, refl, ap, sym, ◌∙◌, arith, zero, suc, subst, Option, Some, None, inl, inr, length-append, append-nil, min, if◌then◌else◌, ◌==◌}
+use Rattle.std.proofs.Common.{◌≡◌, ◌≢◌, ℕ, ◌+◌, ◌-◌, ◌*◌, ◌<◌, ◌≤◌, ◌++◌, List, [], ◌∷◌, length, get_or, refl, ap, sym, ◌∙◌, arith, zero, suc, subst, Some, None, inl, inr, length-append}
 use Rattle.std.proofs.lemmas.Bool.{cases_lt}
 use Rattle.std.proofs.lemmas.Bool.Decides.{nat_tests}
 use Rattle.std.proofs.lemmas.List.{drop_at, get_or_past}
 use Rattle.std.proofs.Common.{ℤ}
-use Rattle.byteorder.specs.Endian.{little_number, little_bytes}
-use Rattle.dex_bytes.specs.Grammar.{Placed}
 use Rattle.dex_bytes.specs.Leb128.{Spells, SpellsSigned, Shortest}
 use Rattle.dex_bytes.specs.Fields.{u16_at, u32_at, u16_bytes, u32_bytes}
-use Rattle.dex_bytes.proofs.FieldBounds.{u32_at-front, u16_at-front, u32_at-append, u16_at-drop, u32_at-bytes, length-u32_bytes}
+use Rattle.dex_bytes.proofs.FieldBounds.{u32_at-append, u16_at-drop, length-u32_bytes}
 use Rattle.dex_bytes.proofs.PlacedLaws.{Placed-weaker}
 use Rattle.dex_bytes.proofs.WeakerLaws.{Implies, Shortest-weaker, Then-weaker, Pair-weaker, Many-weaker}
-use Rattle.dex_bytes.specs.Via.{Via}
-use Rattle.dex_program.specs.Content.{Name, OfDesc, Catch, Descriptor, Try, Insn}
-use Rattle.dex_program.specs.Formed.{try_at, insn_at, TryFormed}
+use Rattle.dex_program.specs.Content.{Name, Try, Insn}
+use Rattle.dex_program.specs.Formed.{try_at, TryFormed}
 use Rattle.dex_program.specs.Sizes.{addresses_of, length_of}
-use Rattle.dex_code_insns.specs.Places.{Rises, position, count_below}
+use Rattle.dex_code_insns.specs.Places.{position, count_below}
 use Rattle.dex_code_insns.proofs.PlaceLaws.{count-is}
 use Rattle.dex_code.specs.Item.{try_start, try_count, try_handler}
-use Rattle.dex_code.specs.Handlers.{Handler, PlaceBy, TypeBy, CatchBy, AllBy, PartsBy, HandlerBy, ListBy, SpellsHandlers, SpellsHandler, SpellsList, PacksHandlers, PacksList, catches_of, handler_at}
-use Rattle.dex_code.specs.Tries.{TryHolds, SpellsTry, SpellsTries, handler_of}
+use Rattle.dex_code.specs.Handlers.{Handler, PlaceBy, TypeBy, CatchBy, AllBy, PartsBy, SpellsHandlers, SpellsHandler, PacksHandlers, catches_of, handler_at}
+use Rattle.dex_code.specs.Tries.{TryHolds, SpellsTries}
 use Rattle.dex_code_put.specs.Fits.{TryFits}
 use Rattle.dex_code_put.specs.Packs.{PacksHandler, PacksHandlersOf, bound_of, covered, item_bytes, items_bytes}
 use Rattle.dex_code_put.proofs.HandlerPacks.{position-own}

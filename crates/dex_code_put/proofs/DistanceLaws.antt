@@ -1,5 +1,5 @@
 -- How far an instruction is from an address.
-use Rattle.std.proofs.Common.{◌≡◌, ◌≢◌, ℕ, ℤ, pos, ◌+ℤ◌, ◌-ℤ◌, ◌+◌, ◌<◌, ◌≤◌, List, length, get_or, refl, ap, sym, ◌∙◌, arith, Some, subst}
+use Rattle.std.proofs.Common.{◌≡◌, ℕ, ℤ, pos, ◌+ℤ◌, ◌-ℤ◌, ◌<◌, List, length, get_or, sym, arith, Some, subst}
 use Rattle.std.proofs.lemmas.Int.{ints}
 use Rattle.dex_code_insns.specs.Places.{Rises, place}
 use Rattle.dex_code_insns.proofs.PlaceLaws.{place-to}

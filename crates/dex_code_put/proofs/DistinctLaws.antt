@@ -1,5 +1,5 @@
 -- Distinct handlers, in the order of their first use.
-use Rattle.std.proofs.Common.{◌≡◌, ◌≢◌, ℕ, ◌+◌, ◌<◌, ◌≤◌, ◌++◌, List, [], ◌∷◌, length, get_or, refl, ap, sym, ◌∙◌, arith, zero, suc, subst, Option, Some, None, inl, inr, ◌⊎◌, length-append, append_assoc, append-nil, take, ◌*◌, ℤ}
+use Rattle.std.proofs.Common.{◌≡◌, ℕ, ◌+◌, ◌<◌, ◌≤◌, ◌++◌, List, [], ◌∷◌, length, get_or, refl, ap, sym, ◌∙◌, arith, zero, suc, subst, Option, Some, None, inl, inr, ◌⊎◌, length-append, append_assoc, append-nil, take, ◌*◌, ℤ}
 use Rattle.std.specs.Prelude.{slice_get}
 use Rattle.std.specs.List.{AllZip, AllByRecursion, flat_map}
 use Rattle.dex_bytes.specs.Leb128.{Spells, SpellsSigned, Shortest}

@@ -1,22 +1,18 @@
 -- What a code that is well formed and fits gives to each part of writing.
-use Rattle.std.proofs.Common.{◌≡◌, ◌≢◌, ℕ, ◌+◌, ◌*◌, ◌<◌, ◌≤◌, ◌++◌, List, [], ◌∷◌, map, length, get_or, refl, ap, sym, ◌∙◌, arith, zero, suc, subst, Option, Some, None, inl, inr, ◌⊎◌}
-use Rattle.std.specs.Prelude.{IfSome}
+use Rattle.std.proofs.Common.{◌≡◌, ℕ, ◌+◌, ◌<◌, ◌≤◌, ◌++◌, List, [], ◌∷◌, map, length, get_or, refl, ap, sym, ◌∙◌, arith, zero, suc, subst}
 use Rattle.std.specs.List.{AllByRecursion, flat_map}
-use Rattle.dex_insn.specs.Opcodes.{index_kind_of}
-use Rattle.dex_insn.specs.declared.opcode.IndexKind.{IndexKind}
 use Rattle.dex_insn.specs.declared.opcode.IndexKind.TheVariants as kind
 use Rattle.dex_program.specs.Content.{Name, OfText, OfDesc, OfField, OfMethod, Insn, Code, Try}
 use Rattle.dex_program.specs.Content as made
 use Rattle.dex_program.specs.View.{insn}
 use Rattle.dex_program.specs.declared.insn.Insn.{Insn as Held}
 use Rattle.std.proofs.lemmas.List.{length-map}
-use Rattle.dex_program.specs.Mentions.{names_of_insn, names_of_try, names_of_code}
-use Rattle.dex_program.specs.Operands.{IsOperand}
+use Rattle.dex_program.specs.Mentions.{names_of_insn, names_of_try}
 use Rattle.dex_program.specs.Kinds.{IsOfKind}
 use Rattle.dex_program.specs.Sizes.{starts_from, total, insn_units, addresses_of, length_of}
-use Rattle.dex_program.specs.Formed.{insn_at, IsFormed}
+use Rattle.dex_program.specs.Formed.{insn_at}
 use Rattle.dex_code_insns.specs.Places.{Rises}
-use Rattle.dex_code_put.specs.Fits.{short_name, ShortFits, HasIndexBelow, NameFits, FitsCode, CanBePut, wide_code, AllInsns}
+use Rattle.dex_code_put.specs.Fits.{ShortFits, HasIndexBelow, NameFits, FitsCode, CanBePut}
 use Rattle.dex_code_put.proofs.SizeLaws.{units-some}
 
 -- ---- addresses

@@ -1,11 +1,9 @@
 -- What is written of a handler is one list of bytes.
-use Rattle.std.proofs.Common.{◌≡◌, ◌≢◌, ℕ, ℤ, pos, negsuc, ◌+◌, ◌<◌, ◌≤◌, ◌++◌, List, [], ◌∷◌, map, length, refl, ap, sym, ◌∙◌, arith, zero, suc, subst, Option, Some, None}
-use Rattle.std.specs.List.{AllByRecursion}
-use Rattle.dex_bytes.specs.Grammar.{Each, Many}
+use Rattle.std.proofs.Common.{◌≡◌, ℕ, ℤ, pos, negsuc, ◌<◌, ◌++◌, List, [], ◌∷◌, length, refl, ap, sym, ◌∙◌, arith, zero, suc, subst, Option, Some, None}
+use Rattle.dex_bytes.specs.Grammar.{Each}
 use Rattle.dex_bytes.specs.Leb128.{Spells, SpellsSigned, Shortest}
 use Rattle.dex_bytes.proofs.ShortestLaws.{AllBytes, shortest_one, shortest_signed_one}
-use Rattle.dex_program.specs.Content.{Name, OfDesc, Catch, Descriptor}
-use Rattle.dex_code_insns.specs.Places.{position}
+use Rattle.dex_program.specs.Content.{Name, OfDesc, Catch}
 use Rattle.dex_code_insns.proofs.PlaceLaws.{position-there}
 use Rattle.dex_code.specs.Handlers.{Handler, HasAll, catches_of, AllBy}
 use Rattle.dex_code_put.specs.Packs.{PlaceAt, PacksCatch, PacksHandler}

@@ -1,14 +1,14 @@
 -- Handlers, appended piece by piece.
-use Rattle.std.proofs.Common.{◌≡◌, ◌≢◌, ℕ, ℤ, pos, negsuc, ◌+◌, ◌<◌, ◌≤◌, ◌++◌, List, [], ◌∷◌, map, length, get_or, refl, ap, sym, ◌∙◌, arith, zero, suc, subst, Option, Some, None, append_assoc, append-nil}
+use Rattle.std.proofs.Common.{◌≡◌, ◌≢◌, ℕ, ℤ, pos, ◌<◌, ◌≤◌, ◌++◌, List, [], ◌∷◌, length, get_or, refl, ap, sym, ◌∙◌, arith, zero, suc, subst, Option, Some, None, append_assoc, append-nil}
 use Rattle.std.specs.Prelude.{neg_ℤ, ◌-ℤ◌, IfSome, IfNone}
 use Rattle.std.proofs.lemmas.Int.{ints}
 use mir.Val.{to_z, of_z}
 use mir.Syntax.{w32}
-use Rattle.dex_bytes.specs.Grammar.{Appends, Then, Pair, Many, Each}
+use Rattle.dex_bytes.specs.Grammar.{Appends, Then, Many, Each}
 use Rattle.dex_bytes.specs.Via.{Via}
 use Rattle.dex_bytes.specs.Leb128.{Spells, SpellsSigned, Shortest}
 use Rattle.dex_bytes.proofs.GrammarLaws.{Each-push}
-use Rattle.dex_program.specs.Content.{Name, OfDesc, Catch, Descriptor}
+use Rattle.dex_program.specs.Content.{Name, OfDesc, Catch}
 use Rattle.dex_code_insns.specs.Places.{Rises, position}
 use Rattle.dex_code_insns.proofs.PlaceLaws.{position-is}
 use Rattle.dex_code.specs.Handlers.{Handler, HasAll, catches_of, TypeBy, AllBy, PartsBy}

@@ -1,8 +1,8 @@
 -- Numbers of 32 bits as bytes.
-use Rattle.std.proofs.Common.{◌≡◌, ℕ, ℤ, pos, ◌+◌, ◌*◌, ◌/◌, ◌<◌, ◌≤◌, ◌++◌, List, [], ◌∷◌, length, get_or, drop, take, refl, ap, sym, ◌∙◌, arith, zero, suc, append_assoc, append-nil, length-append, subst, Option, Some, None}
+use Rattle.std.proofs.Common.{◌≡◌, ℕ, ℤ, pos, ◌+◌, ◌*◌, ◌/◌, ◌<◌, ◌≤◌, ◌++◌, List, [], ◌∷◌, length, get_or, drop, refl, ap, sym, ◌∙◌, arith, zero, suc, append_assoc, append-nil, length-append, Option, Some, None}
 use Rattle.std.specs.Prelude.{FitsSigned}
 use Rattle.std.specs.Int.{cast_unsigned, w32}
-use Rattle.std.proofs.lemmas.List.{drop_more, take_more}
+use Rattle.std.proofs.lemmas.List.{drop_more}
 use Rattle.byteorder.specs.Endian.{little_number}
 use Rattle.dex_bytes.specs.Fields.{u32_at, u32_bytes}
 use Rattle.dex_bytes.proofs.FieldBounds.{u32_at-front, u32_at-append, u32_at-bytes, length-u32_bytes}

@@ -1,5 +1,5 @@
 -- The handlers of tries, laid out in one list.
-use Rattle.std.proofs.Common.{◌≡◌, ◌≢◌, ℕ, ◌+◌, ◌*◌, ◌<◌, ◌≤◌, ◌++◌, List, [], ◌∷◌, map, take, length, get_or, refl, ap, sym, ◌∙◌, arith, zero, suc, subst, Option, Some, None, inl, inr, length-append, append-nil, ◌==◌, if◌then◌else◌}
+use Rattle.std.proofs.Common.{◌≡◌, ◌≢◌, ℕ, ◌+◌, ◌*◌, ◌<◌, ◌≤◌, ◌++◌, List, [], ◌∷◌, take, length, get_or, refl, ap, sym, ◌∙◌, arith, zero, suc, subst, Option, Some, inl, inr, length-append, append-nil, ◌==◌, if◌then◌else◌}
 use Rattle.std.specs.Prelude.{slice_get}
 use Rattle.std.specs.List.{AllZip}
 use Rattle.std.proofs.lemmas.Bool.{cases_lt}
@@ -15,7 +15,7 @@ use Rattle.dex_code.specs.Handlers.{Handler, PacksHandlers, PacksList, handler_a
 use Rattle.dex_code.specs.Tries.{handler_of}
 use Rattle.dex_code_insns.proofs.ResolveLaws.{at-old, at-new}
 use Rattle.dex_code_put.specs.Fits.{catches_in}
-use Rattle.dex_code_put.specs.Packs.{PacksHandler, AreOffsets, AreInOrder, AreUsed, PacksHandlersOf}
+use Rattle.dex_code_put.specs.Packs.{PacksHandler, PacksHandlersOf}
 use Rattle.dex_code_put.specs.Writing.{IsDistinct, IsListed, joined_keys, places_of}
 use Rattle.dex_code_put.proofs.ListLaws.{take-whole}
 use Rattle.dex_code_put.proofs.ListedLaws.{bytes-few}

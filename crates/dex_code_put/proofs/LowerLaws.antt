@@ -1,19 +1,18 @@
 -- Payloads as raw instructions.
-use Rattle.std.proofs.Common.{◌≡◌, ◌≢◌, ℕ, ℤ, pos, ◌+◌, ◌*◌, ◌/◌, ◌%◌, ◌<◌, ◌≤◌, ◌<ℤ◌, ◌++◌, List, [], ◌∷◌, length, get_or, refl, ap, sym, ◌∙◌, arith, zero, suc, subst, Option, Some, None, inl, inr, ◌⊎◌}
-use Rattle.std.specs.Prelude.{option_map, slice_get, FitsSigned}
-use Rattle.std.specs.Int.{w32}
+use Rattle.std.proofs.Common.{◌≡◌, ℕ, ℤ, ◌+◌, ◌*◌, ◌/◌, ◌<◌, ◌≤◌, ◌++◌, List, length, refl, ap, sym, ◌∙◌, arith, zero, suc, subst, Option, Some, inl, inr}
+use Rattle.std.specs.Prelude.{option_map, slice_get}
 use Rattle.dex_insn.specs.Raw as raw
 use Rattle.dex_insn.specs.Raw.{Raw, units}
 use Rattle.dex_insn.specs.Fields.{int_at, KeysRise}
 use Rattle.dex_insn.specs.RawInsns.{IsElementWidth}
-use Rattle.dex_insn.specs.Written.{IsRaw, written}
+use Rattle.dex_insn.specs.Written.{written}
 use Rattle.dex_program.specs.Content.{Name, Insn}
 use Rattle.dex_program.specs.Content as made
-use Rattle.dex_program.specs.Operands.{IsOperand, AreRisingKeys}
+use Rattle.dex_program.specs.Operands.{IsOperand}
 use Rattle.dex_program.specs.Formed.{insn_payload}
 use Rattle.dex_program.specs.Sizes.{insn_units}
 use Rattle.dex_code_insns.specs.Places.{place}
-use Rattle.dex_code_insns.specs.Symbols.{resolved, places, ints, ints_from, Says}
+use Rattle.dex_code_insns.specs.Symbols.{resolved, places, ints, ints_from}
 use Rattle.dex_code_insns.specs.Payloads.{payload_of}
 use Rattle.dex_code_put.specs.Packs.{Lowers}
 use Rattle.dex_code_put.specs.Writing.{PutInsn}

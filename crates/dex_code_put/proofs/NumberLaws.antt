@@ -1,10 +1,8 @@
 -- Byte strings that are held once each.
-use Rattle.std.proofs.Common.{◌≡◌, ℕ, ◌<◌, ◌≤◌, ◌++◌, List, [], ◌∷◌, map, length, refl, ap, sym, ◌∙◌, arith, zero, suc, subst, Option, Some, None, inl, inr, ◌⊎◌, Bool, true, false, if◌then◌else◌, ◌||◌, Vec, Global}
+use Rattle.std.proofs.Common.{◌≡◌, ℕ, ◌++◌, List, [], ◌∷◌, map, length, refl, ap, sym, ◌∙◌, arith, zero, suc, Some, inl, inr, ◌⊎◌, Bool, true, false, if◌then◌else◌, ◌||◌, Vec, Global}
 use Rattle.std.specs.Prelude.{slice_get, option_map}
-use Rattle.std.specs.Cmp.Lexicographic.{pointwise}
 use Rattle.std.specs.List.{list_any, position_or_len}
 use Rattle.std.specs.Str.{bytes_eq}
-use Rattle.std.proofs.lemmas.Bool.{false_from_ne_true}
 use Rattle.std.proofs.lemmas.Slice.Eq.{bytes_eq-Decides}
 use Rattle.std.proofs.lemmas.Option.{slice_get-map}
 use Rattle.std.proofs.lemmas.List.{length-map, map-append}

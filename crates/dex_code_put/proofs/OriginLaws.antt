@@ -1,13 +1,11 @@
 -- From where the targets of an instruction count.
-use Rattle.std.proofs.Common.{◌≡◌, ◌≢◌, ℕ, ◌+◌, ◌<◌, ◌≤◌, List, [], ◌∷◌, map, length, get_or, set, refl, ap, sym, ◌∙◌, arith, zero, suc, Option, Some, None, subst, inl, inr, get_or-set_other, get_or-set_same, length-set, if◌then◌else◌, ◌==◌, ◌⊎◌, Bool, true, false}
+use Rattle.std.proofs.Common.{◌≡◌, ◌≢◌, ℕ, ◌+◌, ◌<◌, List, length, get_or, set, refl, ap, ◌∙◌, arith, Option, Some, None, subst, inl, inr, get_or-set_other, get_or-set_same, length-set, if◌then◌else◌, ◌==◌, ◌⊎◌, Bool, true, false}
 use Rattle.std.proofs.lemmas.Bool.{cases_lt}
-use Rattle.std.proofs.lemmas.Bool.Decides.{nat_tests}
 use Rattle.dex_program.specs.Content.{Insn}
 use Rattle.dex_program.specs.Content as made
-use Rattle.dex_program.specs.Formed.{insn_at, insn_payload, insn_wants, insn_reach, wanted_by, AreAlike, IsSwitch, Refers, PayloadHolds}
+use Rattle.dex_program.specs.Formed.{insn_at, insn_payload, insn_wants, insn_reach, AreAlike, IsSwitch, Refers, PayloadHolds}
 use Rattle.dex_program.specs.declared.payload.Payload.{Payload}
 use Rattle.dex_program.specs.declared.payload.Payload.TheVariants as payload
-use Rattle.dex_code_put.specs.Packs.{IsOrigin}
 use Rattle.dex_code_put.specs.Writing.{switched_by, AreOrigins, IsLastSwitch, AreSome}
 
 -- ---- what a switch refers to

@@ -1,5 +1,5 @@
 -- What is written, put together.
-use Rattle.std.proofs.Common.{◌≡◌, ℕ, ◌+◌, ◌<◌, ◌≤◌, ◌++◌, List, [], ◌∷◌, length, refl, ap, sym, ◌∙◌, append_assoc, subst}
+use Rattle.std.proofs.Common.{◌≡◌, ℕ, ◌++◌, List, [], length, ap, ◌∙◌, append_assoc, subst}
 use Rattle.dex_program.specs.Content.{Name, Code}
 use Rattle.dex_program.specs.Sizes.{addresses_of, length_of}
 use Rattle.dex_code_put.specs.Packs.{AreLowered, joined, padding, items_bytes, head_bytes, PutInsns, PacksHandlersOf, PacksCode}

@@ -1,5 +1,5 @@
 -- Instructions one behind the other.
-use Rattle.std.proofs.Common.{◌≡◌, ◌≢◌, ℕ, ◌+◌, ◌%◌, ◌<◌, ◌≤◌, ◌++◌, List, [], ◌∷◌, map, length, get_or, refl, ap, sym, ◌∙◌, arith, zero, suc, append_assoc, append-nil, subst, inl, inr, length-append, Option, Some, None, true}
+use Rattle.std.proofs.Common.{◌≡◌, ◌≢◌, ℕ, ◌+◌, ◌<◌, ◌++◌, List, [], ◌∷◌, length, get_or, refl, ap, sym, ◌∙◌, arith, append_assoc, append-nil, subst, inl, inr, length-append, None, true}
 use Rattle.std.proofs.lemmas.Bool.{cases_lt}
 use Rattle.dex_insn.specs.Raw as raw
 use Rattle.dex_insn.specs.Raw.{Raw, is_payload}
@@ -13,7 +13,7 @@ use Rattle.std.specs.List.{AllByRecursion}
 use Rattle.dex_code_insns.specs.Walk.{raw_at}
 use Rattle.dex_code_insns.specs.Payloads.{payload_of}
 use Rattle.dex_code_insns.proofs.ResolveLaws.{at-old, at-new}
-use Rattle.dex_code_put.specs.Packs.{joined, IsOrigin, Lowers, IsLowered, AreLowered, PutInsns}
+use Rattle.dex_code_put.specs.Packs.{joined, IsOrigin, Lowers, IsLowered, PutInsns}
 use Rattle.dex_code_put.specs.Fits.{IsEven, OffsetsFit, BranchFits, TargetsFit, distance_of}
 use Rattle.dex_code_put.specs.Writing.{PutInsn}
 

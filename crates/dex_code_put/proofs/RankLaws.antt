@@ -1,5 +1,5 @@
 -- Ranks are indices.
-use Rattle.std.proofs.Common.{◌≡◌, ◌≢◌, ℕ, ◌+◌, ◌<◌, ◌≤◌, List, refl, ap, sym, ◌∙◌, arith, subst}
+use Rattle.std.proofs.Common.{◌≡◌, ℕ, ◌<◌, List, ap, sym, ◌∙◌, arith}
 use Rattle.dex_insn.specs.declared.opcode.IndexKind.TheVariants as kind
 use Rattle.dex_code_insns.specs.Symbols.{IsFunctional}
 use Rattle.dex_program.specs.Content.{Units, FieldRef, MethodRef, Name, OfText, OfDesc, OfField, OfMethod}

@@ -1,5 +1,5 @@
 -- Addresses as sums.
-use Rattle.std.proofs.Common.{◌≡◌, ℕ, ◌+◌, ◌<◌, ◌≤◌, ◌/◌, ◌++◌, List, [], ◌∷◌, map, length, get_or, drop, refl, ap, sym, ◌∙◌, arith, zero, suc, append_assoc, append-nil, subst, lit≤}
+use Rattle.std.proofs.Common.{◌≡◌, ℕ, ◌+◌, ◌<◌, ◌≤◌, ◌++◌, List, [], ◌∷◌, map, length, get_or, drop, refl, ap, sym, ◌∙◌, arith, zero, suc, append_assoc, append-nil, subst}
 use Rattle.std.proofs.lemmas.List.{get_or-map}
 use Rattle.dex_program.specs.View.{insn}
 use Rattle.dex_program.specs.Content as content

@@ -1,7 +1,7 @@
 -- Codes that can be written: what of a code has to fit the widths of a file's fields.
 -- Pages: "Dalvik Executable instruction formats", the widths of BBBB, AA and AAAAAAAA; "Dalvik Executable format", "code_item"
 -- and "try_item".
-use Rattle.std.specs.Prelude.{ℕ, ℤ, pos, ◌-ℤ◌, ◌≡◌, ◌≢◌, ◌≤◌, ◌<◌, ◌+◌, ◌-◌, ◌*◌, ◌%◌, ◌^◌, List, length, slice_index, FitsSigned, Option, Some, None, IfSome, ⊤, ◌⊎◌}
+use Rattle.std.specs.Prelude.{ℕ, ℤ, pos, ◌-ℤ◌, ◌≡◌, ◌≢◌, ◌≤◌, ◌<◌, ◌+◌, ◌-◌, ◌*◌, ◌%◌, List, length, slice_index, FitsSigned, Option, Some, None, IfSome, ⊤, ◌⊎◌}
 use Rattle.std.specs.Int.{w8, w16, w32}
 use Rattle.std.specs.List.{AllByRecursion, flat_map}
 use Rattle.dex_bytes.specs.declared.fault.Fault.{Fault}

@@ -1,6 +1,6 @@
 -- What is written of a code, byte by byte.
 -- Page: "Dalvik Executable format", "code_item", "try_item", "encoded_catch_handler_list" and "encoded_catch_handler".
-use Rattle.std.specs.Prelude.{ℕ, ℤ, ◌≡◌, ◌+◌, ◌-◌, ◌*◌, ◌<◌, ◌≤◌, ◌%◌, ◌++◌, ◌==◌, if◌then◌else◌, List, [], ◌∷◌, length, map, min, slice_index, slice_get, Some, true, ◌⊎◌}
+use Rattle.std.specs.Prelude.{ℕ, ◌≡◌, ◌+◌, ◌-◌, ◌*◌, ◌<◌, ◌≤◌, ◌%◌, ◌++◌, ◌==◌, if◌then◌else◌, List, [], ◌∷◌, length, min, slice_index, slice_get, Some, true, ◌⊎◌}
 use Rattle.std.specs.List.{AllByRecursion, flat_map}
 use Rattle.dex_bytes.specs.Via.{Via}
 use Rattle.dex_bytes.specs.Leb128.{Spells, SpellsSigned, Shortest}

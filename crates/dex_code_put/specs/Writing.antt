@@ -1,12 +1,12 @@
 -- What the private functions of writing say.
-use Rattle.std.specs.Prelude.{ℕ, ◌≡◌, ◌+◌, ◌≤◌, ◌<◌, ◌++◌, ◌==◌, if◌then◌else◌, List, [], ◌∷◌, map, length, take, ◌*◌, slice_index, slice_get, Option, Some, None, ◌⊎◌}
+use Rattle.std.specs.Prelude.{ℕ, ◌≡◌, ◌+◌, ◌≤◌, ◌<◌, ◌++◌, ◌==◌, if◌then◌else◌, List, [], ◌∷◌, length, take, ◌*◌, slice_index, slice_get, Option, Some, None, ◌⊎◌}
 use Rattle.std.specs.List.{AllZip, AllByRecursion, flat_map}
 use Rattle.dex_bytes.specs.Leb128.{Spells, Shortest}
 use Rattle.dex_insn.specs.Raw.{Raw}
 use Rattle.dex_insn.specs.Written.{written}
 use Rattle.dex_program.specs.Content.{Name, Insn, Try}
 use Rattle.dex_program.specs.Content as made
-use Rattle.dex_program.specs.Formed.{insn_at, try_at, insn_wants, IsSwitch, Refers}
+use Rattle.dex_program.specs.Formed.{insn_at, try_at}
 use Rattle.dex_names.specs.Closure.{Five, NameRanks}
 use Rattle.dex_code.specs.Handlers.{Handler}
 use Rattle.dex_code.specs.Tries.{handler_of}

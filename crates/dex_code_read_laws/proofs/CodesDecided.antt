@@ -1,7 +1,7 @@
 -- At a place of a file a code stands, or a fault does.
-use Rattle.std.proofs.Common.{◌≡◌, ◌≢◌, ℕ, zero, suc, ◌+◌, ◌-◌, ◌*◌, ◌/◌, ◌%◌, ◌^◌, ◌<◌, ◌≤◌, ◌⊎◌, inl, inr, Option, Some, None, List, [], ◌∷◌, ◌++◌, length, take, drop, refl, sym, ap, ◌∙◌, subst, arith}
-use Rattle.std.specs.Prelude.{slice_get, slice_range}
-use Rattle.std.proofs.lemmas.Bool.{cases_lt, cases_eq}
+use Rattle.std.proofs.Common.{◌≡◌, ℕ, ◌+◌, ◌-◌, ◌%◌, ◌<◌, ◌⊎◌, inl, inr, None, List, length, take, drop, refl, arith}
+use Rattle.std.specs.Prelude.{slice_get}
+use Rattle.std.proofs.lemmas.Bool.{cases_eq}
 use Rattle.dex_bytes.specs.Deciding.{Decided}
 use Rattle.dex_bytes.specs.Fields.{AreBytes}
 use Rattle.dex_bytes.specs.Grammar.{Takes}
@@ -9,7 +9,7 @@ use Rattle.dex_bytes.specs.declared.fault.Fault.{Fault}
 use Rattle.dex_bytes.proofs.Deciding.{decide_like, decide_both, decide_le}
 use Rattle.dex_bytes.proofs.FieldBounds.{u32_at-fits}
 use Rattle.dex_container.specs.Frame.{IsFramed}
-use Rattle.dex_container.proofs.PlacesDecided.{HasSection, decide_in, found_at}
+use Rattle.dex_container.proofs.PlacesDecided.{decide_in, found_at}
 use Rattle.dex_insn.specs.Raw.{Raw}
 use Rattle.dex_insn.proofs.Fits.{behind}
 use Rattle.dex_insn.specs.declared.opcode.IndexKind.TheVariants as kind

@@ -1,8 +1,8 @@
 -- A code that stands in a file is well formed.
-use Rattle.std.proofs.Common.{◌≡◌, ◌≢◌, ℕ, ℤ, zero, suc, pos, negsuc, ◌+ℤ◌, ◌+◌, ◌-◌, ◌*◌, ◌/◌, ◌^◌, ◌<◌, ◌≤◌, inl, inr, Option, Some, None, List, [], ◌∷◌, length, take, drop, map, get_or, refl, sym, ap, ◌∙◌, subst, arith, length-take, length-drop, if◌then◌else◌, ◌==◌, true, false}
-use Rattle.std.specs.Prelude.{IfSome, IfNone, nat_lt}
+use Rattle.std.proofs.Common.{◌≡◌, ◌≢◌, ℕ, ℤ, zero, suc, pos, negsuc, ◌+ℤ◌, ◌+◌, ◌-◌, ◌*◌, ◌/◌, ◌<◌, ◌≤◌, inl, inr, Option, Some, None, List, [], ◌∷◌, length, drop, map, get_or, refl, sym, ap, ◌∙◌, subst, arith, length-take, length-drop, false}
+use Rattle.std.specs.Prelude.{IfSome, IfNone}
 use Rattle.std.specs.List.{AllByRecursion}
-use Rattle.std.proofs.lemmas.Bool.{cases_lt, cases_eq}
+use Rattle.std.proofs.lemmas.Bool.{cases_lt}
 use Rattle.std.proofs.lemmas.Bool.Decides.{nat_tests}
 use Rattle.std.proofs.lemmas.Int.{ints}
 use Rattle.std.proofs.lemmas.List.{length-map}
@@ -18,22 +18,21 @@ use Rattle.dex_insn.specs.RawInsns.{InsnStands}
 use Rattle.dex_insn.proofs.Fits.{behind, stands_fits}
 use Rattle.dex_insn.proofs.Laws.{stands-whole}
 use Rattle.dex_program.specs.Content.{Name, Catch, Insn, Try, Code}
-use Rattle.dex_program.specs.Content as made
-use Rattle.dex_program.specs.Formed.{AreAlike, IsSwitch, insn_at, try_at, insn_payload, insn_wants, insn_reach, insn_branch, insn_short_branch, insn_targets, Refers, IsTarget, TargetHolds, PayloadHolds, TryFormed, IsFormed}
+use Rattle.dex_program.specs.Formed.{AreAlike, IsSwitch, insn_at, try_at, insn_payload, insn_wants, insn_reach, insn_branch, insn_short_branch, insn_targets, Refers, IsTarget, PayloadHolds, TryFormed, IsFormed}
 use Rattle.dex_program.specs.Operands.{IsOperand}
 use Rattle.dex_program.specs.declared.payload.Payload.{Payload}
 use Rattle.dex_tables.specs.Stands.{NameStands}
-use Rattle.dex_code_insns.specs.Places.{place, position, count_below, Rises}
-use Rattle.dex_code_insns.specs.Walk.{Run, Walks, starts, raw_at, address}
+use Rattle.dex_code_insns.specs.Places.{place, count_below, Rises}
+use Rattle.dex_code_insns.specs.Walk.{Run, starts, raw_at, address}
 use Rattle.dex_code_insns.specs.Symbols.{name_in}
 use Rattle.dex_code_insns.specs.Payloads.{payload_of, wants, reach, Uses}
 use Rattle.dex_code_insns.specs.Insns.{branch, short_branch, targets, Lands, IsBase, SpellsInsns}
 use Rattle.dex_code_insns.proofs.PlaceLaws.{place-there, position-there}
 use Rattle.dex_code_insns.proofs.Runs.{run-at, length-starts, table-of}
 use Rattle.dex_code_insns.proofs.Saying.{wants-says, reach-says, wants-plain, switch-no_branch, switch-no_short, some-inj}
-use Rattle.dex_code.specs.Item.{size_of, tries_of, registers_of, units_of, items_of, list_begin, tries_begin, units_end, try_start, try_count}
-use Rattle.dex_code.specs.Handlers.{Handler, catches_of, HasAll, SpellsPlace, SpellsCatch, SpellsAll, SpellsHandler, SpellsHandlers, handler_at}
-use Rattle.dex_code.specs.Tries.{TryHolds, SpellsTry, SpellsTries, handler_of}
+use Rattle.dex_code.specs.Item.{size_of, tries_of, units_of, items_of, list_begin, units_end, try_start, try_count}
+use Rattle.dex_code.specs.Handlers.{Handler, catches_of, SpellsPlace, SpellsCatch, SpellsAll, SpellsHandler, SpellsHandlers, handler_at}
+use Rattle.dex_code.specs.Tries.{SpellsTries, handler_of}
 use Rattle.dex_code.specs.Code.{SpellsCode, CodeStands}
 use Rattle.dex_code.proofs.FaultLaws.{units-even}
 use Rattle.dex_code.proofs.ItemLaws.{begins_late}

@@ -1,8 +1,8 @@
 -- Whether handlers stand at the front of bytes is decided.
-use Rattle.std.proofs.Common.{◌≡◌, ℕ, ℤ, pos, negsuc, zero, suc, ◌+◌, ◌<◌, ◌≤◌, ◌⊎◌, inl, inr, Option, Some, None, List, [], ◌∷◌, ◌++◌, length, map, refl, sym, ap, ◌∙◌, subst, arith, append_assoc}
+use Rattle.std.proofs.Common.{◌≡◌, ℕ, ℤ, pos, negsuc, zero, suc, inl, inr, Option, Some, None, List, ◌++◌, length, map, refl, sym, ap, ◌∙◌, subst, append_assoc}
 use Rattle.std.proofs.lemmas.List.{length-map}
 use Rattle.dex_bytes.specs.Deciding.{Decided, DecidedFront}
-use Rattle.dex_bytes.specs.Grammar.{Takes, Each, Many, Then, Placed}
+use Rattle.dex_bytes.specs.Grammar.{Takes, Each, Many, Then}
 use Rattle.dex_bytes.specs.Leb128.{Spells, SpellsSigned}
 use Rattle.dex_bytes.proofs.Deciding.{DecidedEach, decide_uleb, decide_each, decide_like}
 use Rattle.dex_bytes.proofs.GrammarLaws.{Then-unique, Many-unique}
@@ -11,7 +11,7 @@ use Rattle.dex_bytes.proofs.PlacedLaws.{Placed-each, Placed-from_each}
 use Rattle.dex_bytes.proofs.Signed.{signed_unique}
 use Rattle.dex_bytes.proofs.TakesLaws.{Takes-unique}
 use Rattle.dex_insn.specs.declared.opcode.IndexKind.TheVariants as kind
-use Rattle.dex_program.specs.Content.{Name, OfDesc, Descriptor, Catch}
+use Rattle.dex_program.specs.Content.{Name, OfDesc, Descriptor}
 use Rattle.dex_program.specs.Kinds.{IsOfKind}
 use Rattle.dex_code_insns.specs.Places.{position}
 use Rattle.dex_code_insns.specs.Symbols.{IsFunctional}

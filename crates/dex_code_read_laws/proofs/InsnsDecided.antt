@@ -1,5 +1,5 @@
 -- Units spell the instructions of a code, or one of them breaks a rule.
-use Rattle.std.proofs.Common.{◌≡◌, ◌≢◌, ℕ, ℤ, zero, suc, ◌+◌, ◌*◌, ◌/◌, ◌<◌, ◌≤◌, ◌⊎◌, inl, inr, Option, Some, None, List, [], length, refl, sym, ap, ◌∙◌, subst, arith}
+use Rattle.std.proofs.Common.{◌≡◌, ◌≢◌, ℕ, ℤ, ◌+◌, ◌*◌, ◌/◌, ◌≤◌, ◌⊎◌, inl, inr, Option, Some, None, List, length, refl, ap}
 use Rattle.std.specs.Prelude.{IfSome, option_map}
 use Rattle.dex_bytes.specs.Fields.{AreBytes}
 use Rattle.dex_bytes.specs.declared.fault.Fault.{Fault}
@@ -7,16 +7,16 @@ use Rattle.dex_insn.specs.Raw as raw
 use Rattle.dex_insn.specs.Raw.{Raw}
 use Rattle.dex_program.specs.Content.{Name, Insn}
 use Rattle.dex_program.specs.Content as made
-use Rattle.dex_program.specs.Formed.{IsSwitch, insn_at}
+use Rattle.dex_program.specs.Formed.{IsSwitch}
 use Rattle.dex_code_insns.specs.Places.{AllHold, IsFirst, place}
 use Rattle.dex_code_insns.specs.Walk.{Walks, IsTable, starts, raw_at, address}
-use Rattle.dex_code_insns.specs.Symbols.{resolved, places, ints, Says, HasName, Names, name_in}
-use Rattle.dex_code_insns.specs.Payloads.{payload_of, wants, reach, UseHolds}
+use Rattle.dex_code_insns.specs.Symbols.{resolved, places, ints, Says, HasName}
+use Rattle.dex_code_insns.specs.Payloads.{payload_of, UseHolds}
 use Rattle.dex_code_insns.specs.Insns.{Reaches, Lands, branch, targets, BranchLands, BranchMoves, BranchHolds, TargetsHold, NameHolds, IsBase, SpellsInsn, SpellsInsns}
 use Rattle.dex_code_insns.specs.InsnFaults.{BreaksAt, InsnsBreak}
 use Rattle.dex_code_insns.proofs.ResolveLaws.{leads-all, reaches-all}
 use Rattle.dex_code_insns.proofs.Runs.{table-of}
-use Rattle.dex_code_read_laws.proofs.Deciding.{first-or-all, build, option-cases}
+use Rattle.dex_code_read_laws.proofs.Deciding.{first-or-all, build}
 use Rattle.dex_code_read_laws.proofs.WalkDecided.{walk-decided}
 use Rattle.dex_code_read_laws.proofs.RulesDecided.{AreNamesDecided, decide-name, decide-switch, decide-use, decide-branch-lands, decide-branch-moves, decide-branch, decide-targets}
 

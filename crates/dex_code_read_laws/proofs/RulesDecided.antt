@@ -1,6 +1,5 @@
 -- Whether an instruction of a code keeps a rule is decided.
-use Rattle.std.proofs.Common.{◌≡◌, ◌≢◌, ℕ, ℤ, pos, zero, suc, ◌+◌, ◌/◌, ◌<◌, ◌≤◌, ◌⊎◌, inl, inr, Bool, true, false, Option, Some, None, List, length, refl, sym, ap, ◌∙◌, subst, arith}
-use Rattle.std.specs.Prelude.{IfSome}
+use Rattle.std.proofs.Common.{◌≡◌, ◌≢◌, ℕ, ℤ, pos, ◌/◌, inl, inr, false, Option, Some, None, List, length, refl, sym, subst}
 use Rattle.dex_bytes.specs.Deciding.{Decided}
 use Rattle.dex_bytes.proofs.Deciding.{decide_like, decide_both, decide_lt, decide_eq, decide_below}
 use Rattle.dex_insn.specs.Raw as raw
@@ -16,7 +15,7 @@ use Rattle.dex_program.specs.declared.payload.Payload.{Payload}
 use Rattle.dex_program.specs.declared.payload.Payload.TheVariants as payload
 use Rattle.dex_code_insns.specs.Places.{AllHold, place}
 use Rattle.dex_code_insns.specs.Walk.{starts, raw_at, address}
-use Rattle.dex_code_insns.specs.Symbols.{IsNamed, SomeName, HasName}
+use Rattle.dex_code_insns.specs.Symbols.{SomeName, HasName}
 use Rattle.dex_code_insns.specs.Payloads.{payload_of, wants, reach, Uses, UsedOnce, UseHolds}
 use Rattle.dex_code_insns.specs.Insns.{branch, short_branch, targets, Lands, AllLand, BranchLands, BranchMoves, BranchHolds, TargetsHold}
 use Rattle.dex_code_read_laws.proofs.Deciding.{decide-all-below, decide-implied, option-cases, bool-cases, decide-some, decide-if-some, decide-moves}

@@ -1,10 +1,10 @@
 -- What the instruction that a raw one says is like: its names, its kind, its branch, its targets, its operands.
-use Rattle.std.proofs.Common.{◌≡◌, ◌≢◌, ℕ, ℤ, zero, suc, ◌+◌, ◌-◌, ◌*◌, ◌/◌, ◌%◌, ◌<◌, ◌≤◌, ◌<ℤ◌, Option, Some, None, List, [], ◌∷◌, length, take, drop, get_or, refl, sym, ap, ◌∙◌, subst, arith, length-take, length-drop}
+use Rattle.std.proofs.Common.{◌≡◌, ℕ, ℤ, zero, suc, ◌+◌, ◌-◌, ◌*◌, ◌/◌, ◌<◌, ◌≤◌, ◌<ℤ◌, Option, Some, None, List, [], ◌∷◌, length, drop, refl, sym, ap, ◌∙◌, subst, arith, length-take, length-drop}
 use Rattle.std.specs.Prelude.{IfSome, option_map, slice_get, slice_range, FitsSigned, ⊤}
 use Rattle.std.specs.Int.{w32}
 use Rattle.std.specs.List.{AllByRecursion}
 use Rattle.dex_bytes.specs.Fields.{AreBytes}
-use Rattle.dex_insn.specs.Fields.{number, signed, int_at, KeysRise}
+use Rattle.dex_insn.specs.Fields.{number, int_at, KeysRise}
 use Rattle.dex_insn.specs.Raw as raw
 use Rattle.dex_insn.specs.Raw.{Raw}
 use Rattle.dex_insn.specs.RawInsns.{SpellsInsn}
@@ -15,7 +15,7 @@ use Rattle.dex_program.specs.Content as made
 use Rattle.dex_program.specs.Formed.{insn_payload, insn_branch, insn_short_branch, insn_targets}
 use Rattle.dex_program.specs.Mentions.{names_of_insn}
 use Rattle.dex_program.specs.Operands.{IsOperand, AreRisingKeys}
-use Rattle.dex_code_insns.specs.Symbols.{resolved, places, both, ints, ints_from, Names}
+use Rattle.dex_code_insns.specs.Symbols.{resolved, places, ints, ints_from, Names}
 use Rattle.dex_code_insns.specs.Payloads.{payload_of}
 use Rattle.dex_code_insns.specs.Insns.{branch, short_branch, targets}
 use Rattle.dex_code_insns.proofs.Saying.{both-some}

@@ -1,16 +1,14 @@
 -- try_items and handlers spell tries, or one breaks a rule.
-use Rattle.std.proofs.Common.{◌≡◌, ◌≢◌, ℕ, zero, suc, ◌+◌, ◌*◌, ◌<◌, ◌≤◌, ◌⊎◌, inl, inr, Option, Some, None, List, [], ◌++◌, length, refl, sym, ap, ◌∙◌, subst, arith}
-use Rattle.std.proofs.lemmas.Bool.{cases_lt}
+use Rattle.std.proofs.Common.{◌≡◌, ℕ, zero, suc, ◌+◌, ◌*◌, ◌≤◌, ◌⊎◌, inl, inr, Some, None, List, [], refl, sym, ◌∙◌, subst, arith}
 use Rattle.dex_bytes.specs.Deciding.{Decided}
 use Rattle.dex_bytes.specs.declared.fault.Fault.{Fault}
 use Rattle.dex_bytes.proofs.Deciding.{decide_like, decide_both, decide_lt, decide_le}
 use Rattle.dex_program.specs.Content.{Name, Try}
-use Rattle.dex_program.specs.Formed.{try_at}
 use Rattle.dex_code_insns.specs.Places.{AllHold, position, count_below}
 use Rattle.dex_code_insns.specs.Symbols.{IsFunctional}
 use Rattle.dex_code.specs.Item.{try_start, try_count, try_handler}
-use Rattle.dex_code.specs.Handlers.{Handler, SpellsList, handler_at}
-use Rattle.dex_code.specs.Tries.{TryHolds, SpellsTry, SpellsTries, handler_of}
+use Rattle.dex_code.specs.Handlers.{Handler, handler_at}
+use Rattle.dex_code.specs.Tries.{TryHolds, SpellsTry}
 use Rattle.dex_code.specs.Faults.{HasHandlers, TriesBreak, list_fault}
 use Rattle.dex_code.specs.Reading.{ReadTries}
 use Rattle.dex_code.proofs.HandlerLaws.{SpellsList-unique}

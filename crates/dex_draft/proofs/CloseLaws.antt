@@ -7,8 +7,8 @@ use Rattle.dex_program.specs.Content.{Method, Code}
 use Rattle.dex_program.specs.View.{member, method, value}
 use Rattle.dex_program.specs.declared.class.Method.{Method as InMethod}
 use Rattle.dex_lines.specs.Lines.{end_code}
-use Rattle.dex_draft.specs.declared.stage.Stage.TheVariants.{Members}
-use Rattle.dex_draft.specs.Needs.{earliest, first_late}
+use Rattle.dex_lines.specs.declared.stage.Stage.TheVariants.{Members}
+use Rattle.dex_lines.specs.Needs.{earliest, first_late}
 use Rattle.dex_draft.specs.States.{State, Open, Body, with_code, with_code_at, with_tries, whole_code, placed}
 use Rattle.dex_program.specs.declared.class.Member.{Member as Field}
 use Rattle.dex_program.specs.declared.value.Value.{Value as Put}

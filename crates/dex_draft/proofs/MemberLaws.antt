@@ -7,7 +7,7 @@ use Rattle.std.specs.declared.cmp.Ordering.TheVariants as ordering
 use Rattle.dex_program.specs.Key.{Key, key_cmp}
 use Rattle.dex_draft.specs.Members.{place_of, put_at, field_key}
 use Rattle.dex_draft.specs.States.{State, placed, with_instance}
-use Rattle.dex_draft.specs.declared.stage.Stage.TheVariants.{Members}
+use Rattle.dex_lines.specs.declared.stage.Stage.TheVariants.{Members}
 use Rattle.dex_lines.specs.Lines.{instance_line}
 use Rattle.dex_program.specs.Content.{Member}
 

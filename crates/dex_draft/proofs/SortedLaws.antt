@@ -5,7 +5,7 @@ use Rattle.std.specs.declared.cmp.Ordering.TheVariants as ordering
 use Rattle.dex_program.specs.Content.{Units, Descriptor, Code, Member, Method}
 use Rattle.dex_program.specs.Key.{Key, key_cmp}
 use Rattle.dex_lines.specs.Lines.{Line, first_line, open_class, end_class, super_line, implements_line, source_line, static_line, instance_line, direct_line, virtual_line, open_code, end_code, insn_line, try_line, catch_line, catch_all_line}
-use Rattle.dex_draft.specs.declared.stage.Stage.{Stage}
+use Rattle.dex_lines.specs.declared.stage.Stage.{Stage}
 use Rattle.dex_draft.specs.Members.{Given, IsBelowAll, KeysAreSorted, place_of, behind_key, put_at, field_key, method_key}
 use Rattle.dex_draft.specs.States.{State, Open, IsSorted, start, noted, placed, add, in_class, behind_method, with_superclass, with_source, with_interface, with_static, with_instance, with_direct, with_virtual, with_code, with_code_at, is_among}
 use Rattle.dex_draft.proofs.OpenLaws.{map_put}

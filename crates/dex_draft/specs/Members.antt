@@ -1,10 +1,11 @@
 -- Members stand in any order in the text, and rise in the program.
+-- Page: docs/LISTING.md, "The lines", "Values".
 use Rattle.std.specs.List.{AllByRecursion}
 use Rattle.std.specs.Prelude.{◌≡◌, ℕ, ◌+◌, ◌==◌, nat_lt, Bool, true, false, pos, if◌then◌else◌, List, [], ◌∷◌, ◌++◌, take, drop, map, slice_index, Option, Some, None, option_map}
 use Rattle.std.specs.declared.cmp.Ordering.{Ordering}
 use Rattle.std.specs.declared.cmp.Ordering.TheVariants as ordering
 use Rattle.dex_program.specs.Key.{Key, key_cmp, field_ref_key, method_ref_key}
-use Rattle.dex_program.specs.Content.{Descriptor, Value, Member, Method, Class}
+use Rattle.dex_program.specs.Content.{Descriptor, Value, Member, Method}
 use Rattle.dex_program.specs.Content as content
 
 -- A static field, and its value where the text gives one.

@@ -1,14 +1,16 @@
 -- A listing that is being read: what is whole so far, and what is open.
+-- Page: docs/LISTING.md, "The lines", "Faults" (104).
 use Rattle.std.specs.Prelude.{ℕ, ◌+◌, ◌&&◌, Bool, true, false, if◌then◌else◌, List, [], ◌∷◌, ◌++◌, length, map, Option, Some, None, option_map, slice_get, slice_set}
+use Rattle.std.specs.List.{list_any}
 use Rattle.dex_program.specs.Content.{Units, Descriptor, Insn, Catch, Try, Code, Member, Method, Class}
 use Rattle.dex_words.specs.Numbers.{is_number}
 use Rattle.dex_lines.specs.Lines.{Line, first_line, open_class, end_class, super_line, implements_line, source_line, static_line, instance_line, direct_line, virtual_line, open_code, end_code, insn_line, try_line, catch_line, catch_all_line}
 use Rattle.dex_shapes.specs.Shapes.{Shape}
 use Rattle.dex_slots.specs.Keys.{same}
-use Rattle.dex_draft.specs.declared.stage.Stage.{Stage}
-use Rattle.dex_draft.specs.declared.stage.Stage.TheVariants.{Start, Top, Heads, Members, Behind, Insns, Tries, Caught}
-use Rattle.dex_draft.specs.Places.{may_stand, is_insn, is_caught}
-use Rattle.dex_draft.specs.Needs.{Need, line_needs, with_need, first_late, earliest}
+use Rattle.dex_lines.specs.declared.stage.Stage.{Stage}
+use Rattle.dex_lines.specs.declared.stage.Stage.TheVariants.{Start, Top, Heads, Members, Behind, Insns, Tries, Caught}
+use Rattle.dex_lines.specs.Places.{may_stand, is_insn, is_caught}
+use Rattle.dex_lines.specs.Needs.{Need, line_needs, with_need, first_late, earliest}
 use Rattle.dex_draft.specs.Members.{Given, KeysAreSorted, field_key, method_key, place_of, put_at, values_of}
 
 -- The class that is open; its members rise.
@@ -105,9 +107,9 @@ with_code ms n c = elim (slice_get ms n) [ None ↦ ms | Some m ↦ slice_set ms
 abbrev pub with_code_at : Open → Bool → ℕ → Code → Open
 with_code_at o direct n c = if direct then record o { directs = with_code o.directs n c } else record o { virtuals = with_code o.virtuals n c }
 
-unfoldable pub is_among : List Descriptor → Descriptor → Bool
-is_among [] d = false
-is_among (e ∷ es) d = if same e d then true else is_among es d
+-- The type is one of these.
+abbrev pub is_among : List Descriptor → Descriptor → Bool
+is_among es d = list_any (same d) es
 
 -- A member in its place: none where it is given already.
 unfoldable pub with_static : Open → Given → Option Open

@@ -1,7 +1,7 @@
 -- What stands in memory, as a state.
 use Rattle.std.specs.Prelude.{map, option_map}
 use Rattle.dex_program.specs.View.{desc, str, member, method, class, value, insn, try, catch}
-use Rattle.dex_draft.specs.NeedView.{need}
+use Rattle.dex_lines.specs.NeedView.{need}
 use Rattle.dex_draft.specs.Members as members
 use Rattle.dex_draft.specs.States as states
 use Rattle.dex_draft.specs.declared.draft.Given.{Given}
@@ -19,7 +19,7 @@ open_class c = record {
   ty = desc c.ty;
   flags = c.flags;
   superclass = option_map desc c.superclass;
-  interfaces = map desc c.interfaces.items;
+  interfaces = map desc c.interfaces.keys;
   source = option_map str c.source;
   statics = map given c.statics.items;
   instances = map member c.instances.items;

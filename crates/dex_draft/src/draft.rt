@@ -4,15 +4,16 @@ ghost use Rattle.std.specs.Prelude.{◌≡◌, Option, Some, None, Bool, IfOk, I
 ghost use Rattle.dex_bytes.specs.Fault.{memory};
 
 use crate::close::{place_class, set_code};
-use crate::members::{instance_place, is_among, method_place, static_place};
-use crate::needs::{Need, first_late, line_needs};
-use crate::stage::{Stage, is_caught, is_insn, may_stand};
+use crate::members::{instance_place, method_place, static_place};
 use bumpalo::Bump;
+use bumpalo::collections::into_bump_slice;
 use dex_base::Fault;
-use dex_lines::Line;
+use dex_lines::{Line, Need, Stage, first_late, is_caught, is_insn, line_needs, may_stand};
 use dex_program::{Catch, Class, Code, Desc, Insn, Member, Method, Str, Try, Value};
 use dex_shapes::Found;
 use dex_words::is_number;
+use indexmap::IndexSet;
+use std::alloc::Global;
 
 /// A static field, and its value where the text gives one.
 #[derive(Clone, Copy)]
@@ -21,13 +22,13 @@ pub struct Given<'a> {
     pub value: Option<Value<'a>>,
 }
 
-/// The class that is open.
+/// The class that is open. Its interfaces are a hashed set in the order of the text.
 #[derive(Drop)]
 pub struct Open<'a> {
     pub ty: Desc<'a>,
     pub flags: u32,
     pub superclass: Option<Desc<'a>>,
-    pub interfaces: Vec<Desc<'a>, &'a Bump>,
+    pub interfaces: IndexSet<Desc<'a>>,
     pub source: Option<Str<'a>>,
     pub statics: Vec<Given<'a>, &'a Bump>,
     pub instances: Vec<Member<'a>, &'a Bump>,
@@ -64,7 +65,7 @@ pub struct Draft<'a> {
 
 impl<'a> Open<'a> {
     ghost use Rattle.dex_program.specs.View.{desc, str, member, method, value, class, code};
-    ghost use Rattle.dex_draft.specs.States.{IsSorted, opened, closed, with_superclass, with_source, with_interface, with_static, with_instance, with_direct, with_virtual, with_code_at, is_among};
+    ghost use Rattle.dex_draft.specs.States.{IsSorted, opened, closed, with_superclass, with_source, with_interface, with_static, with_instance, with_direct, with_virtual, with_code_at};
     ghost use Rattle.dex_draft.specs.View.{open_class};
     ghost use Rattle.std.specs.Prelude.{option_map};
 
@@ -117,11 +118,7 @@ impl<'a> Open<'a> {
             (with_interface (open_class self.old) (desc ty.entry) ≡ None)) }
         ensures memory { IsOkUnless result memory }
     {
-        if is_among(self.interfaces.as_slice(), ty) {
-            return Ok(false);
-        }
-        self.interfaces.push(ty)?;
-        Ok(true)
+        Ok(self.interfaces.insert(ty)?)
     }
 
     #[tactic(auto, unfolding(crate::specs::View::open_class, crate::specs::States::with_static))]
@@ -249,7 +246,7 @@ impl<'a> Body<'a> {
     }
 
     ghost use Rattle.std.specs.Prelude.{OnOk};
-    ghost use Rattle.dex_draft.specs.Needs.{with_need};
+    ghost use Rattle.dex_lines.specs.Needs.{with_need};
     ghost use Rattle.dex_program.specs.View.{desc, insn};
     ghost use Rattle.dex_draft.specs.States.{with_insn, with_catch, with_catch_all, with_try, begun, try_of};
     ghost use Rattle.std.specs.Prelude.{◌++◌, ◌∷◌, []};
@@ -339,16 +336,19 @@ impl<'a> Draft<'a> {
     ghost use Rattle.std.specs.Prelude.{List};
     ghost use Rattle.dex_words.specs.Words.{Word};
     ghost use Rattle.dex_slots.specs.declared.slot.Slot.{Slot};
+    ghost use Rattle.std.specs.Prelude.{map};
+    ghost use Rattle.dex_program.specs.View.{method, class};
+    ghost use Rattle.dex_lines.specs.Lines as says;
     ghost use Rattle.dex_lines.specs.LineView.{line};
     ghost use Rattle.dex_shapes.specs.ShapeView.{shape};
     ghost use Rattle.std.specs.Prelude.{OnOk, ◌+◌, ◌<◌, ◌^◌, length};
-    ghost use Rattle.dex_draft.specs.Needs.{earliest, first_late};
+    ghost use Rattle.dex_lines.specs.Needs.{earliest, first_late};
     ghost use Rattle.dex_draft.specs.States.{IsSorted, start, counted, noted, placed, add, stands};
     ghost use Rattle.dex_draft.specs.View.{state, open_class, open_body};
 
     /// Nothing was read.
     #[tactic(auto, unfolding(crate::specs::View::state, crate::specs::View::open_class, crate::specs::View::open_body))]
-    pub fn new(bump: &'a Bump) -> Draft<'a>
+    pub fn new(alloc: Global, bump: &'a Bump) -> Draft<'a>
         ensures { state result ≡ start }
     {
         Draft {
@@ -360,7 +360,7 @@ impl<'a> Draft<'a> {
                 },
                 flags: 0,
                 superclass: None,
-                interfaces: Vec::new(bump),
+                interfaces: IndexSet::new(alloc),
                 source: None,
                 statics: Vec::new(bump),
                 instances: Vec::new(bump),
@@ -383,6 +383,22 @@ impl<'a> Draft<'a> {
             lines: 0,
             late: None,
         }
+    }
+
+    /// The classes that are whole.
+    #[tactic(auto, unfolding(crate::specs::View::state))]
+    pub fn into_classes(self) -> &'a [Class<'a>]
+        ensures { map class result.now ≡ (state self.entry).done }
+    {
+        let Draft {
+            done,
+            stage: _,
+            current: _,
+            body: _,
+            lines: _,
+            late: _,
+        } = self;
+        into_bump_slice(done)
     }
 
     /// Whether a line of this shape may stand here.
@@ -444,7 +460,73 @@ impl<'a> Draft<'a> {
         self.place(alloc, next)
     }
 
+    /// The class is whole.
+    #[tactic(auto, unfolding(crate::specs::View::state, crate::specs::States::placed))]
+    fn end_class(&mut self, alloc: &'a Bump) -> Result<(), Fault>
+        ensures put { OnOk result (placed (state self.old) says.end_class ≡ Some (state self.new)) }
+        ensures lines { self.new.lines ≡ self.old.lines }
+        ensures memory { IsOkUnless result memory }
+    {
+        let whole = place_class(alloc, &self.current)?;
+        self.done.push(whole)?;
+        self.stage = Stage::Top;
+        Ok(())
+    }
+
+    /// A direct method in its place; false where it is given already.
+    #[tactic(auto, unfolding(crate::specs::View::state, crate::specs::States::placed))]
+    fn put_direct(&mut self, new: Method<'a>) -> Result<bool, Fault>
+        requires { IsSorted (state self.old).current }
+        ensures put { IfOk result (λ yes. MatchBool yes
+            (placed (state self.old) (says.direct_line (method new.entry)) ≡ Some (state self.new))
+            (placed (state self.old) (says.direct_line (method new.entry)) ≡ None)) }
+        ensures lines { self.new.lines ≡ self.old.lines }
+        ensures memory { IsOkUnless result memory }
+    {
+        let Some(place) = self.current.put_direct(new)? else {
+            return Ok(false);
+        };
+        self.body.set_owner(true, place);
+        self.stage = Stage::Behind;
+        Ok(true)
+    }
+
+    /// A virtual method in its place; false where it is given already.
+    #[tactic(auto, unfolding(crate::specs::View::state, crate::specs::States::placed))]
+    fn put_virtual(&mut self, new: Method<'a>) -> Result<bool, Fault>
+        requires { IsSorted (state self.old).current }
+        ensures put { IfOk result (λ yes. MatchBool yes
+            (placed (state self.old) (says.virtual_line (method new.entry)) ≡ Some (state self.new))
+            (placed (state self.old) (says.virtual_line (method new.entry)) ≡ None)) }
+        ensures lines { self.new.lines ≡ self.old.lines }
+        ensures memory { IsOkUnless result memory }
+    {
+        let Some(place) = self.current.put_virtual(new)? else {
+            return Ok(false);
+        };
+        self.body.set_owner(false, place);
+        self.stage = Stage::Behind;
+        Ok(true)
+    }
+
+    /// The code is whole, and the method that it belongs to has it.
+    #[tactic(auto, unfolding(crate::specs::View::state))]
+    fn end_code(&mut self, alloc: &'a Bump) -> Result<(), Fault>
+        ensures put { OnOk result (placed (state self.old) says.end_code ≡ Some (state self.new)) }
+        ensures lines { self.new.lines ≡ self.old.lines }
+        ensures memory { IsOkUnless result memory }
+    {
+        self.late = self.late_line();
+        self.body.end_tries(alloc, self.stage)?;
+        let whole = alloc.try_alloc(self.body.place_code(alloc)?)?;
+        self.current
+            .put_code(self.body.direct, self.body.place, whole)?;
+        self.stage = Stage::Members;
+        Ok(())
+    }
+
     /// What a line says is put in its place; false where it gives again what may be given once.
+    #[rattlefmt::skip]
     #[tactic(auto, unfolding(crate::specs::View::state, crate::specs::States::placed))]
     fn place(&mut self, alloc: &'a Bump, next: Line<'a>) -> Result<bool, Fault>
         requires { IsSorted (state self.old).current }
@@ -455,91 +537,22 @@ impl<'a> Draft<'a> {
         ensures memory { IsOkUnless result memory }
     {
         match next {
-            Line::First => {
-                self.stage = Stage::Top;
-                Ok(true)
-            }
-            Line::OpenClass(ty, flags) => {
-                self.current.begin(ty, flags);
-                self.stage = Stage::Heads;
-                Ok(true)
-            }
-            Line::EndClass => {
-                let whole = place_class(alloc, &self.current)?;
-                self.done.push(whole)?;
-                self.stage = Stage::Top;
-                Ok(true)
-            }
-            Line::Super(ty) => {
-                self.stage = Stage::Heads;
-                Ok(self.current.put_superclass(ty))
-            }
-            Line::Implements(ty) => {
-                self.stage = Stage::Heads;
-                self.current.put_interface(ty)
-            }
-            Line::Source(text) => {
-                self.stage = Stage::Heads;
-                Ok(self.current.put_source(text))
-            }
-            Line::Static(field, value) => {
-                self.stage = Stage::Members;
-                self.current.put_static(field, value)
-            }
-            Line::Instance(field) => {
-                self.stage = Stage::Members;
-                self.current.put_instance(field)
-            }
-            Line::OpenCode(registers, ins, outs) => {
-                self.body.begin(registers, ins, outs);
-                self.stage = Stage::Insns;
-                Ok(true)
-            }
-            Line::Try(from, to) => {
-                self.body.put_try(alloc, self.stage, from, to)?;
-                self.stage = Stage::Caught;
-                Ok(true)
-            }
-            Line::CatchAll(at) => {
-                self.body.end_try(alloc, Some(at))?;
-                self.stage = Stage::Tries;
-                Ok(true)
-            }
-            Line::Insn(insn) => {
-                self.body.put_insn(insn)?;
-                self.stage = Stage::Insns;
-                Ok(true)
-            }
-            Line::Catch(ty, at) => {
-                self.body.put_catch(ty, at)?;
-                self.stage = Stage::Caught;
-                Ok(true)
-            }
-            Line::Direct(method) => {
-                let Some(place) = self.current.put_direct(method)? else {
-                    return Ok(false);
-                };
-                self.body.set_owner(true, place);
-                self.stage = Stage::Behind;
-                Ok(true)
-            }
-            Line::Virtual(method) => {
-                let Some(place) = self.current.put_virtual(method)? else {
-                    return Ok(false);
-                };
-                self.body.set_owner(false, place);
-                self.stage = Stage::Behind;
-                Ok(true)
-            }
-            Line::EndCode => {
-                self.late = self.late_line();
-                self.body.end_tries(alloc, self.stage)?;
-                let whole = alloc.try_alloc(self.body.place_code(alloc)?)?;
-                self.current
-                    .put_code(self.body.direct, self.body.place, whole)?;
-                self.stage = Stage::Members;
-                Ok(true)
-            }
+            Line::First => { self.stage = Stage::Top; Ok(true) }
+            Line::OpenClass(ty, flags) => { self.current.begin(ty, flags); self.stage = Stage::Heads; Ok(true) }
+            Line::EndClass => { self.end_class(alloc)?; Ok(true) }
+            Line::Super(ty) => { self.stage = Stage::Heads; Ok(self.current.put_superclass(ty)) }
+            Line::Implements(ty) => { self.stage = Stage::Heads; self.current.put_interface(ty) }
+            Line::Source(text) => { self.stage = Stage::Heads; Ok(self.current.put_source(text)) }
+            Line::Static(field, value) => { self.stage = Stage::Members; self.current.put_static(field, value) }
+            Line::Instance(field) => { self.stage = Stage::Members; self.current.put_instance(field) }
+            Line::Direct(method) => self.put_direct(method),
+            Line::Virtual(method) => self.put_virtual(method),
+            Line::OpenCode(registers, ins, outs) => { self.body.begin(registers, ins, outs); self.stage = Stage::Insns; Ok(true) }
+            Line::EndCode => { self.end_code(alloc)?; Ok(true) }
+            Line::Insn(insn) => { self.body.put_insn(insn)?; self.stage = Stage::Insns; Ok(true) }
+            Line::Try(from, to) => { self.body.put_try(alloc, self.stage, from, to)?; self.stage = Stage::Caught; Ok(true) }
+            Line::Catch(ty, at) => { self.body.put_catch(ty, at)?; self.stage = Stage::Caught; Ok(true) }
+            Line::CatchAll(at) => { self.body.end_try(alloc, Some(at))?; self.stage = Stage::Tries; Ok(true) }
         }
     }
 }

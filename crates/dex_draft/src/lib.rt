@@ -1,7 +1,7 @@
 //! A listing that is being read: what is whole so far, what is open, and which line may follow.
 //!
 //! ```text
-//! let mut draft = Draft::new(bump);
+//! let mut draft = Draft::new(alloc, bump);
 //! draft.stands(found)            // whether a line of this shape may stand here
 //! draft.add(bump, next)?         // false where the line gives again what may be given once
 //! ```
@@ -10,9 +10,5 @@
 mod close;
 mod draft;
 mod members;
-mod needs;
-mod stage;
 
 pub use draft::{Body, Draft, Given, Open};
-pub use needs::Need;
-pub use stage::Stage;

@@ -5,11 +5,9 @@ ghost use Rattle.dex_program.specs.View.{desc, member, method};
 ghost use Rattle.dex_program.specs.Key.{key_cmp};
 ghost use Rattle.dex_draft.specs.Members.{field_key, method_key, place_of, narrowed, KeysAreSorted};
 ghost use Rattle.dex_draft.specs.View.{given};
-ghost use Rattle.dex_draft.specs.States.{is_among};
 
 use crate::draft::Given;
 use dex_program::{Desc, FieldRef, Member, Method, MethodRef, field_ref_cmp, method_ref_cmp};
-use dex_slots::is_same_text;
 use std::cmp::Ordering;
 
 /// Between two places, the half in which one goes that compares so with the one in the middle.
@@ -116,17 +114,4 @@ pub fn method_place(class: Desc<'_>, all: &[Method<'_>], new: &Method<'_>) -> Op
         high = next_high;
     }
     Some(low)
-}
-
-/// Whether the type is one of these.
-#[tactic(auto, unfolding(crate::specs::States::is_among))]
-pub fn is_among(all: &[Desc<'_>], ty: Desc<'_>) -> bool
-    ensures { result ≡ is_among (map desc all.now) (desc ty.entry) }
-{
-    for one in all {
-        if is_same_text(one.text.units, ty.text.units) {
-            return true;
-        }
-    }
-    false
 }

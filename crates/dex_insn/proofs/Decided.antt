@@ -1,5 +1,5 @@
 -- At each unit of bytes that are two to a unit an instruction stands, or it breaks a rule.
-use Rattle.std.proofs.Common.{◌≡◌, ◌≢◌, ℕ, ℤ, zero, suc, ◌+◌, ◌-◌, ◌*◌, ◌/◌, ◌%◌, ◌^◌, ◌<◌, ◌≤◌, ◌⊎◌, inl, inr, Bool, true, false, Option, Some, None, List, length, drop, refl, sym, ap, ◌∙◌, subst, arith, length-drop, if◌then◌else◌, ◌==◌, ◌<ℤ◌}
+use Rattle.std.proofs.Common.{◌≡◌, ℕ, zero, suc, ◌+◌, ◌*◌, ◌%◌, ◌<◌, ◌≤◌, ◌⊎◌, inl, inr, Bool, true, false, Option, Some, None, List, length, drop, refl, ap, ◌∙◌, subst, arith, length-drop, if◌then◌else◌, ◌==◌, ◌<ℤ◌}
 use Rattle.std.specs.Prelude.{IsTrue, slice_range}
 use Rattle.std.proofs.lemmas.Bool.{cases_lt, cases_eq}
 use Rattle.std.proofs.lemmas.Int.{ints, by_lt_z}
@@ -7,7 +7,7 @@ use Rattle.dex_bytes.specs.Deciding.{Decided}
 use Rattle.dex_bytes.specs.Fields.{AreBytes}
 use Rattle.dex_bytes.specs.declared.fault.Fault.{Fault}
 use Rattle.dex_insn.specs.Fields.{number, field, signed, int_at, KeysRise}
-use Rattle.dex_insn.specs.Opcodes.{format_of, units_of}
+use Rattle.dex_insn.specs.Opcodes.{units_of}
 use Rattle.dex_insn.specs.Raw.{Raw, packed_units, sparse_units, data_units, I10x, I12x, I11n, I11x, I10t, I20t, I22x, I21t, I21s, I21h, I21c, I23x, I22b, I22t, I22s, I22c, I30t, I32x, I31i, I31t, I31c, I35c, I3rc, I51l, Packed, Sparse, Data}
 use Rattle.dex_insn.specs.RawInsns.{SpellsInsn, BeginsInsn, registers, IsPayload, IsElementWidth, InsnStands}
 use Rattle.dex_insn.specs.Flaws.{InsnBreaks, format_at, has_zero_byte, head_units, payload_units, code_of, IsFaultAt}
@@ -15,7 +15,7 @@ use Rattle.dex_insn.specs.declared.opcode.Format.{Format}
 use Rattle.dex_insn.specs.declared.opcode.Format.TheVariants.{F10x, F12x, F11n, F11x, F10t, F20t, F22x, F21t, F21s, F21h, F21c, F23x, F22b, F22t, F22s, F22c, F30t, F32x, F31i, F31t, F31c, F35c, F3rc, F51l}
 use Rattle.dex_insn.specs.declared.flaw.Flaw.{Flaw}
 use Rattle.dex_insn.proofs.Fits.{behind, number-1}
-use Rattle.dex_insn.specs.declared.flaw.Flaw.TheVariants.{Missing, Opcode, Cut, NonZero, RegisterCount, OddPayload, CutHead, Width, CutPayload, KeyOrder}
+use Rattle.dex_insn.specs.declared.flaw.Flaw.TheVariants.{Opcode, Cut, NonZero, RegisterCount, OddPayload, CutHead, Width, CutPayload, KeyOrder}
 
 -- ---- what is no payload
 

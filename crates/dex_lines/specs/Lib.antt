@@ -1,3 +1,6 @@
 pub mod Lines
 pub mod LineView
 pub mod MakingView
+pub mod Places
+pub mod Needs
+pub mod NeedView

@@ -1,10 +1,11 @@
 -- What a line says.
+-- Page: docs/LISTING.md, "The lines", "Values".
 use Rattle.std.specs.Prelude.{ℕ, min, ◌-◌, List, [], ◌∷◌, ◌++◌, length, take, drop, map, fold, Option, Some, None, true, false}
 use Rattle.dex_insn.specs.declared.opcode.Format.{Format}
 use Rattle.dex_insn.specs.declared.opcode.Format.TheVariants as format
 use Rattle.dex_insn.specs.Opcodes.{format_of}
 use Rattle.dex_program.specs.Content as content
-use Rattle.dex_program.specs.Content.{Units, Descriptor, Proto, Value, Insn, Member, Method}
+use Rattle.dex_program.specs.Content.{Units, Descriptor, Value, Insn, Member, Method}
 use Rattle.dex_slots.specs.declared.kind.Kind.{Kind}
 use Rattle.dex_slots.specs.declared.kind.Kind.TheVariants as kind
 use Rattle.dex_slots.specs.declared.key.Key.TheVariants as key

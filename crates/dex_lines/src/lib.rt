@@ -1,7 +1,10 @@
-//! Lines of a listing, made of what the words of their slots say.
+//! Lines of a listing, made of what the words of their slots say; which line may stand where, and how many instructions its
+//! targets ask for.
 //!
 //! ```text
 //! make_line(bump, Kind::Try, &[Datum::Word(0), Datum::Word(5)])?   // Line::Try(0, 5)
+//! may_stand(Stage::Top, Kind::Try)                                 // false: a try stands in code alone
+//! line_needs(&Line::Try(0, 5))                                     // 5
 //! ```
 #![tactic(auto)]
 
@@ -9,6 +12,10 @@ mod line;
 mod lines;
 mod make;
 mod making;
+mod needs;
+mod stage;
 
 pub use line::Line;
 pub use lines::make_line;
+pub use needs::{Need, first_late, line_needs};
+pub use stage::{Stage, is_caught, is_insn, may_stand};

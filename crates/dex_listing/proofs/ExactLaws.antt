@@ -1,6 +1,8 @@
 -- A text is one program, and none where a fault stands.
 use Rattle.std.proofs.Common.{◌≡◌, ℕ, Bool, true, false, inl, inr, List, [], ◌∷◌, ◌++◌, Some, None, sym, ap, subst, ◌∙◌}
-use Rattle.dex_program.specs.Content.{Program}
+use Rattle.dex_bytes.specs.declared.fault.Fault.{Fault}
+use Rattle.dex_program.specs.Content.{Class, Program}
+use Rattle.dex_rules.specs.Rules.{ClassHolds, RulesHold, ClassBreaks, RuleBreaks}
 use Rattle.dex_words.specs.Words.{Word, HasWords}
 use Rattle.dex_words.proofs.WordLaws.{words_one}
 use Rattle.dex_slots.specs.declared.slot.Slot.{Slot}
@@ -80,6 +82,34 @@ refused_takes one shape s t line code r p = elim p [
   | inr a ↦ refused_adds one shape (counted s) t line code r a.1
 ]
 
+-- a class that keeps its rules breaks none
+class_keeps : (p : Program) (i : ℕ) (c : Class) (e : Fault) → ClassBreaks p i c e → ClassHolds p i c → ⊥
+class_keeps p i c e b h = elim b [
+  | inl w ↦ w.0 h.names
+  | inr w1 ↦ elim w1.1 [
+    | inl w ↦ w.0 h.members
+    | inr w2 ↦ elim w2.1 [
+      | inl w ↦ w.0 h.order
+      | inr w3 ↦ elim w3.1 [
+        | inl w ↦ w.0 h.values
+        | inr w4 ↦ elim w4.1 [
+          | inl w ↦ w.0 h.operands
+          | inr w5 ↦ elim w5.1 [
+            | inl w ↦ w.0 h.targets
+            | inr w6 ↦ elim w6.1 [
+              | inl w ↦ w.0 h.payloads
+              | inr w ↦ w.1 h.tries
+            ]
+          ]
+        ]
+      ]
+    ]
+  ]
+]
+
+not_both_ways : (p : Program) (e : Fault) → RuleBreaks p e → RulesHold p → ⊥
+not_both_ways p e b h = class_keeps p b.number b.class e b.breaks (h b.number b.class b.there)
+
 -- behind the same lines
 reads_split : SpellsOne → ShapesOne → (before : List (List ℕ)) (l : List ℕ) (behind : List (List ℕ)) (s t u : State) → Reads s before t → Reads s (before ++ l ∷ behind) u → (v : State) × Takes t l v
 reads_split one shape [] l behind s t u p q = (q.0, subst (λ (x : State). Takes x l q.0) p q.1)
@@ -93,9 +123,13 @@ breaks_says one shape text p code place b a = elim b [
       let x = reads_split one shape w.before w.bad w.behind start w.state a.end w.accepted (subst (λ (ls : List (List ℕ)). Reads start ls a.end) w.joined a.read) in
       refused_takes one shape w.state x.0 w.bad code w.refused x.1
   | inr (inl w) ↦ w.2.inside (ap (λ (s : State). s.stage) (reads_one one shape (lines text) start w.2.state a.end w.2.accepted a.read) ∙ a.whole)
-  | inr (inr w) ↦
+  | inr (inr (inl w)) ↦
       let e = reads_one one shape (lines text) start w.1.state a.end w.1.accepted a.read in
       let f : Some place ≡ None = sym w.1.late ∙ ap (λ (s : State). s.late) e ∙ a.targets in cc
+  | inr (inr (inr w)) ↦
+      let e = reads_one one shape (lines text) start w.state a.end w.accepted a.read in
+      let q : w.state.done ≡ p = ap (λ (s : State). s.done) e ∙ a.classes in
+      not_both_ways p (record { code = code; place = place }) (subst (λ (x : Program). RuleBreaks x (record { code = code; place = place })) q w.breaks) a.formed
 ]
 
 -- ---- a word says one thing in a slot, and words have one shape

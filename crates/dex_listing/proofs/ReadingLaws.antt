@@ -1,14 +1,15 @@
 -- Lines one behind the other.
-use Rattle.std.proofs.Common.{◌≡◌, ℕ, ◌+◌, inl, inr, List, [], ◌∷◌, ◌++◌, length, map, Some, None, refl, sym, ap, subst, ◌∙◌, append_assoc}
+use Rattle.std.proofs.Common.{◌≡◌, ℕ, ◌+◌, inl, inr, List, [], ◌∷◌, ◌++◌, length, Some, None, refl, sym, ap, subst, ◌∙◌, append_assoc}
 use Rattle.std.proofs.lemmas.List.{append-nil}
-use Rattle.dex_program.specs.View.{class}
+use Rattle.dex_bytes.specs.declared.fault.Fault.{Fault}
+use Rattle.dex_rules.specs.Rules.{RulesHold, RuleBreaks}
 use Rattle.dex_program.specs.Content.{Program}
-use Rattle.dex_draft.specs.declared.stage.Stage.TheVariants.{Top}
+use Rattle.dex_lines.specs.declared.stage.Stage.TheVariants.{Top}
 use Rattle.dex_draft.specs.declared.draft.Draft.{Draft}
 use Rattle.dex_draft.specs.States.{State, start, counted, IsSorted}
 use Rattle.dex_lines.specs.Lines.{line_of}
 use Rattle.dex_draft.proofs.SortedLaws.{add_sorted, start_sorted}
-use Rattle.dex_listing.specs.Text.{lines, Takes, Reads, IsListing, IsRefused, ListingBreaks}
+use Rattle.dex_listing.specs.Text.{lines, Takes, Reads, IsListing, IsRefused, IsBadLine, ListingBreaks, IsFinished, IsUnfinished}
 use Rattle.dex_draft.specs.View.{state}
 
 pub Reads-push : (s t u : State) (ls : List (List ℕ)) (l : List ℕ) → Reads s ls t → Takes t l u → Reads s (ls ++ l ∷ []) u
@@ -19,8 +20,8 @@ pub lines_push : (all before behind rest : List (List ℕ)) (l : List ℕ) → a
 lines_push all before behind rest l e f = e ∙ ap (λ x. before ++ x) f ∙ sym (append_assoc before (l ∷ []) behind)
 
 pub bad_line : (text : List ℕ) (before behind rest : List (List ℕ)) (l : List ℕ) (s : State) (code place : ℕ) → lines text ≡ before ++ rest → rest ≡ l ∷ behind → place ≡ length before + 1 → Reads start before s → IsRefused (counted s) l code
-    → ListingBreaks text code place
-bad_line text before behind rest l s code place e f n r h = inl (record {
+    → IsBadLine (lines text) code place
+bad_line text before behind rest l s code place e f n r h = record {
   before = before;
   bad = l;
   behind = behind;
@@ -29,57 +30,41 @@ bad_line text before behind rest l s code place e f n r h = inl (record {
   state = s;
   accepted = r;
   refused = h;
-})
+}
 
-all_read : (text : List ℕ) (before rest : List (List ℕ)) → lines text ≡ before ++ rest → rest ≡ [] → lines text ≡ before
+pub all_read : (text : List ℕ) (before rest : List (List ℕ)) → lines text ≡ before ++ rest → rest ≡ [] → lines text ≡ before
 all_read text before rest e f = e ∙ ap (λ x. before ++ x) f ∙ append-nil before
 
-stage_of : (d : Draft) → (state d).stage ≡ d.stage
-unfolding state
-stage_of d = refl
+pub read_whole : (text : List ℕ) (before rest : List (List ℕ)) (s : State) → lines text ≡ before ++ rest → rest ≡ [] → Reads start before s → Reads start (lines text) s
+read_whole text before rest s e f r = subst (λ (ls : List (List ℕ)). Reads start ls s) (sym (all_read text before rest e f)) r
 
 pub lines_of : (d : Draft) → (state d).lines ≡ d.lines
 unfolding state
 lines_of d = refl
 
-late_of : (d : Draft) → (state d).late ≡ d.late
+-- ---- behind the last line
+
+pub finished : (d : Draft) → d.stage ≡ Top → d.late ≡ None → IsFinished (state d)
 unfolding state
-late_of d = refl
+finished d t l = (t, l)
 
-done_of : (d : Draft) → (state d).done ≡ map class d.done.items
+pub late_end : (d : Draft) (n : ℕ) → d.stage ≡ Top → d.late ≡ Some n → IsUnfinished (state d) 105 n
 unfolding state
-done_of d = refl
+late_end d n t l = inr (refl, t, l)
 
-pub whole_text : (text : List ℕ) (before rest : List (List ℕ)) (d : Draft) (p : Program) → lines text ≡ before ++ rest → rest ≡ [] → Reads start before (state d) → d.stage ≡ Top → d.late ≡ None → map class d.done.items ≡ p → IsListing text p
-whole_text text before rest d p e f r t l q = record {
-  end = state d;
-  read = subst (λ (ls : List (List ℕ)). Reads start ls (state d)) (sym (all_read text before rest e f)) r;
-  whole = stage_of d ∙ t;
-  targets = late_of d ∙ l;
-  classes = done_of d ∙ q;
-}
+pub open_end : (d : Draft) → (d.stage ≡ Top → ⊥) → IsUnfinished (state d) 106 d.lines
+unfolding state
+open_end d t = inl (refl, refl, t)
 
-pub late_text : (text : List ℕ) (before rest : List (List ℕ)) (d : Draft) (n : ℕ) → lines text ≡ before ++ rest → rest ≡ [] → Reads start before (state d) → d.stage ≡ Top → d.late ≡ Some n → ListingBreaks text 105 n
-late_text text before rest d n e f r t l = let w = all_read text before rest e f in inr (inr (
-  refl,
-  record {
-    state = state d;
-    accepted = subst (λ (ls : List (List ℕ)). Reads start ls (state d)) (sym w) r;
-    whole = stage_of d ∙ t;
-    late = late_of d ∙ l;
-  },
-))
+pub whole_text : (text : List ℕ) (s : State) (p : Program) → Reads start (lines text) s → IsFinished s → p ≡ s.done → RulesHold p → IsListing text p
+whole_text text s p r w e h = record { end = s; read = r; whole = w.0; targets = w.1; classes = sym e; formed = h }
 
-pub open_text : (text : List ℕ) (before rest : List (List ℕ)) (d : Draft) (n : ℕ) → lines text ≡ before ++ rest → rest ≡ [] → n ≡ length before → Reads start before (state d) → (d.stage ≡ Top → ⊥) → ListingBreaks text 106 n
-open_text text before rest d n e f m r t = let w = all_read text before rest e f in inr (inl (
-  refl,
-  m ∙ ap length (sym w),
-  record {
-    state = state d;
-    accepted = subst (λ (ls : List (List ℕ)). Reads start ls (state d)) (sym w) r;
-    inside = λ k. t (sym (stage_of d) ∙ k);
-  },
-))
+pub unfinished_text : (text : List ℕ) (s : State) (code place : ℕ) → Reads start (lines text) s → s.lines ≡ length (lines text) → IsUnfinished s code place → ListingBreaks text code place
+unfinished_text text s code place r n (inl u) = inr (inl (u.0, u.1 ∙ n, record { state = s; accepted = r; inside = u.2 }))
+unfinished_text text s code place r n (inr u) = inr (inr (inl (u.0, record { state = s; accepted = r; whole = u.1; late = u.2 })))
+
+pub unruly_text : (text : List ℕ) (s : State) (p : Program) (e : Fault) → Reads start (lines text) s → IsFinished s → p ≡ s.done → RuleBreaks p e → ListingBreaks text e.code e.place
+unruly_text text s p e r w q b = inr (inr (inr (record { state = s; accepted = r; whole = w.0; targets = w.1; breaks = subst (λ (x : Program). RuleBreaks x e) q b })))
 
 takes_sorted : (s t : State) (l : List ℕ) → IsSorted s.current → Takes s l t → IsSorted t.current
 takes_sorted s t l h k = elim k [

@@ -1,12 +1,14 @@
 -- Which program a text is, and why it is refused.
+-- Page: docs/LISTING.md, "Lines and words", "Faults".
 use Rattle.std.specs.Prelude.{◌≡◌, ◌≢◌, ℕ, ◌+◌, ◌==◌, Bool, true, false, if◌then◌else◌, ◌⊎◌, List, [], ◌∷◌, ◌++◌, length, Some, None}
 use Rattle.dex_program.specs.Content.{Program}
+use Rattle.dex_rules.specs.Rules.{RulesHold, RuleBreaks}
 use Rattle.dex_words.specs.Words.{Word, HasWords, after_spaces}
 use Rattle.dex_slots.specs.Data.{Datum}
 use Rattle.dex_slots.specs.Slots.{SpellsSlots, MisspellsSlots}
 use Rattle.dex_shapes.specs.Shapes.{Shape, HasShape}
 use Rattle.dex_lines.specs.Lines.{line_of}
-use Rattle.dex_draft.specs.declared.stage.Stage.TheVariants.{Top}
+use Rattle.dex_lines.specs.declared.stage.Stage.TheVariants.{Top}
 use Rattle.dex_draft.specs.States.{State, start, counted, add, stands}
 
 -- A byte in front of the first line.
@@ -51,13 +53,14 @@ Reads s [] t = s ≡ t
 Reads s (l ∷ ls) t = (u : State) × Takes s l u × Reads u ls t
 
 -- The text is a listing of this program: its lines, one behind the other, make the program's classes, no block is open at its
--- end, and each target is an instruction of its code.
+-- end, each target is an instruction of its code, and the program keeps its rules.
 pub record IsListing (text : List ℕ) (p : Program) : Type 0 where
   pub end : State
   pub read : Reads start (lines text) end
   pub whole : end.stage ≡ Top
   pub targets : end.late ≡ None
   pub classes : end.done ≡ p
+  pub formed : RulesHold p
 
 -- ---- faults
 
@@ -122,9 +125,29 @@ pub record IsLate (ls : List (List ℕ)) (place : ℕ) : Type 0 where
   pub whole : state.stage ≡ Top
   pub late : state.late ≡ Some place
 
--- The text has this fault at this line.
+-- 110 to 117: all lines are accepted, no block is open and each target is an instruction, but the program breaks a rule; the
+-- place is the number of the class that does.
+pub record IsIllFormed (ls : List (List ℕ)) (code place : ℕ) : Type 0 where
+  pub state : State
+  pub accepted : Reads start ls state
+  pub whole : state.stage ≡ Top
+  pub targets : state.late ≡ None
+  pub breaks : RuleBreaks state.done (record { code = code; place = place })
+
+-- The text has this fault at this line, or in this class.
 abbrev pub ListingBreaks : List ℕ → ℕ → ℕ → Type 0
 ListingBreaks text code place =
     IsBadLine (lines text) code place
     ⊎ ((code ≡ 106) × (place ≡ length (lines text)) × IsOpen (lines text))
     ⊎ ((code ≡ 105) × IsLate (lines text) place)
+    ⊎ IsIllFormed (lines text) code place
+
+-- ---- what a private helper says
+
+-- Behind all lines: no block is open, and each target is an instruction of its code.
+abbrev pub IsFinished : State → Type 0
+IsFinished s = (s.stage ≡ Top) × (s.late ≡ None)
+
+-- Or why not.
+abbrev pub IsUnfinished : State → ℕ → ℕ → Type 0
+IsUnfinished s code place = ((code ≡ 106) × (place ≡ s.lines) × (s.stage ≢ Top)) ⊎ ((code ≡ 105) × (s.stage ≡ Top) × (s.late ≡ Some place))

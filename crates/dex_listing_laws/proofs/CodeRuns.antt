@@ -3,13 +3,14 @@ use Rattle.std.proofs.Common.{◌≡◌, ℕ, ◌+◌, ◌<◌, ◌≤◌, ◌^�
 use Rattle.std.proofs.lemmas.Bool.{cases_lt, lt-ltb, le-ltb}
 use Rattle.std.proofs.lemmas.List.{append-nil, length-append}
 use Rattle.dex_program.specs.Content.{Insn, Class}
-use Rattle.dex_draft.specs.Needs.{Need, with_need, insn_needs}
+use Rattle.dex_lines.specs.Needs.{Need, with_need, insn_needs}
 use Rattle.dex_draft.specs.States.{State, Open, Body, placed}
 use Rattle.dex_print.specs.Operands.{insn_operands}
 use Rattle.dex_print.specs.Printed.{insn_text}
 use Rattle.dex_print.specs.Canon.{insns_text}
 use Rattle.dex_print.specs.Reading.{FitOperands, OpcodeFits}
-use Rattle.dex_listing_laws.specs.Runs.{RunsTo, InstructionsFit, NeedsFit, at_insns}
+use Rattle.dex_listing_laws.proofs.Runs.{RunsTo, NeedsFit, at_insns}
+use Rattle.dex_listing_laws.proofs.Printable.{InstructionsFit}
 use Rattle.dex_listing_laws.proofs.RunLaws.{runs_join}
 use Rattle.dex_listing_laws.proofs.InsnRuns.{insn_runs}
 

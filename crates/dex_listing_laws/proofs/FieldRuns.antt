@@ -1,34 +1,106 @@
--- Printed instance fields, one behind the other.
-use Rattle.std.proofs.Common.{◌≡◌, ℕ, ◌+◌, true, List, [], ◌∷◌, ◌++◌, Option, refl, sym, subst, append_assoc}
-use Rattle.std.specs.List.{flat_map}
-use Rattle.std.proofs.lemmas.List.{append-nil}
-use Rattle.dex_program.specs.Content.{Member, Class}
-use Rattle.dex_lines.specs.Lines.{instance_line}
-use Rattle.dex_draft.specs.declared.stage.Stage.{Stage}
-use Rattle.dex_draft.specs.declared.stage.Stage.TheVariants.{Members}
-use Rattle.dex_draft.specs.Places.{may_stand, is_in_class}
-use Rattle.dex_draft.specs.States.{Open, Body, counted, noted}
-use Rattle.dex_draft.proofs.MemberLaws.{instance_last}
-use Rattle.dex_print.specs.Printed.{keyed_text}
-use Rattle.dex_listing_laws.specs.Runs.{RunsTo, in_stage, InstancesFit}
-use Rattle.dex_listing_laws.proofs.RunLaws.{runs_join}
+-- Printed fields of a class, one behind the other.
+use Rattle.std.proofs.Common.{◌≡◌, ℕ, ◌+◌, ◌≤◌, true, List, [], ◌∷◌, ◌++◌, length, take, map, Option, Some, None, refl, ap, subst, ◌∙◌, arith}
+use Rattle.std.specs.List.{AllByRecursion, flat_map}
+use Rattle.std.proofs.lemmas.Bool.{lt-ltb}
+use Rattle.std.proofs.lemmas.List.{length-map}
+use Rattle.dex_program.specs.Content.{Value, Member, Class}
+use Rattle.dex_program.specs.Key.{Key}
+use Rattle.dex_lines.specs.Lines.{static_line, instance_line}
+use Rattle.dex_lines.specs.declared.stage.Stage.{Stage}
+use Rattle.dex_lines.specs.declared.stage.Stage.TheVariants.{Members}
+use Rattle.dex_lines.specs.Places.{may_stand, is_in_class}
+use Rattle.dex_draft.specs.Members.{Given, KeysAreSorted, field_key, given_length, value_or_zero, values_of}
+use Rattle.dex_draft.specs.States.{State, Open, Body, placed, counted, noted, with_static}
+use Rattle.dex_draft.proofs.MemberLaws.{AllBelow, place_last, put_last, instance_last}
+use Rattle.dex_print.specs.Printed.{line_operands, keyed_text}
+use Rattle.dex_print.specs.Canon.{statics_text}
+use Rattle.dex_print.specs.Reading.{FitOperands}
+use Rattle.dex_listing_laws.proofs.Runs.{RunsTo, in_stage}
+use Rattle.dex_listing_laws.proofs.Printable.{FieldFits, GivenFits, givens}
 use Rattle.dex_listing_laws.proofs.KeyedLaws.{keyed_runs}
-use Rattle.dex_listing_laws.proofs.CodeRuns.{nothing_runs}
+use Rattle.dex_listing_laws.proofs.InClass.{InClass, each_runs}
 
-more_instances : Open → List Member → Open
-more_instances o ms = record o { instances = o.instances ++ ms }
+-- ---- instance fields
 
-instance_step : (st : Stage) (done : List Class) (o : Open) (late : Option ℕ) (b : Body) (n : ℕ) (m : Member) (ms : List Member) → is_in_class st ≡ true → InstancesFit o (m ∷ ms) → RunsTo (in_stage st done o late b n) (keyed_text (instance_line m)) (in_stage Members done (more_instances o (m ∷ [])) late b (n + 1))
-unfolding may_stand more_instances
-instance_step st done o late b n m ms k f = keyed_runs (in_stage st done o late b n) (in_stage Members done (more_instances o (m ∷ [])) late b (n + 1)) (instance_line m) tt f.0 k (instance_last (noted (counted (in_stage st done o late b n)) (instance_line m)) m f.1)
+abbrev with_instances : Open → List Member → Open
+with_instances o ms = record o { instances = ms }
 
-pub instances_run : (ms : List Member) (st : Stage) (done : List Class) (o : Open) (late : Option ℕ) (b : Body) (n : ℕ) → is_in_class st ≡ true → InstancesFit o ms
-    → (x : Stage) × (l : ℕ) × RunsTo (in_stage st done o late b n) (flat_map (λ m. keyed_text (instance_line m)) ms) (in_stage x done (record o { instances = o.instances ++ ms }) late b l) × (is_in_class x ≡ true)
-unfolding more_instances
-instances_run [] st done o late b n k f = (st, n, subst (λ (ms : List Member). RunsTo (in_stage st done o late b n) [] (in_stage st done (record o { instances = ms }) late b n)) (sym (append-nil o.instances)) (nothing_runs (in_stage st done o late b n)), k)
-instances_run (m ∷ ms) st done o late b n k f =
-    let p = more_instances o (m ∷ []) in
-    let y = instances_run ms Members done p late b (n + 1) refl f.2 in
-    let s = in_stage st done o late b n in
-    let r = runs_join s (in_stage Members done p late b (n + 1)) (in_stage y.0 done (record p { instances = p.instances ++ ms }) late b y.1) (keyed_text (instance_line m)) (flat_map (λ i. keyed_text (instance_line i)) ms) (instance_step st done o late b n m ms k f) y.2 in
-    (y.0, y.1, subst (λ (all : List Member). RunsTo s (flat_map (λ i. keyed_text (instance_line i)) (m ∷ ms)) (in_stage y.0 done (record o { instances = all }) late b y.1)) (append_assoc o.instances (m ∷ []) ms) r, y.3)
+instance_step : (done : List Class) (o : Open) (st : Stage) (b : Body) (n : ℕ) (before : List Member) (m : Member) → is_in_class st ≡ true → FieldFits m → AllBelow (map (field_key o.ty) before) (field_key o.ty m)
+    → InClass done (in_stage st done (with_instances o before) None b n) (keyed_text (instance_line m)) (with_instances o (before ++ m ∷ []))
+unfolding may_stand
+instance_step done o st b n before m k f h =
+    let s = in_stage st done (with_instances o before) None b n in
+    let t = in_stage Members done (with_instances o (before ++ m ∷ [])) None b (n + 1) in
+    record { stage = Members; body = b; lines = n + 1; runs = keyed_runs s t (instance_line m) tt f k (instance_last (noted (counted s) (instance_line m)) m h); in_class = refl }
+
+pub instances_run : (done : List Class) (o : Open) (ms : List Member) (st : Stage) (b : Body) (n : ℕ) → is_in_class st ≡ true → AllByRecursion FieldFits ms → KeysAreSorted (map (field_key o.ty) ms)
+    → InClass done (in_stage st done (with_instances o []) None b n) (flat_map (λ m. keyed_text (instance_line m)) ms) (with_instances o ms)
+instances_run done o ms st b n k f s = each_runs done (λ (m : Member). keyed_text (instance_line m)) (with_instances o) FieldFits (field_key o.ty) (instance_step done o) ms [] st b n k f s
+
+-- ---- static fields
+
+abbrev with_statics : Open → List Given → Open
+with_statics o gs = record o { statics = gs }
+
+static_last : (s : State) (g : Given) → AllBelow (map (λ h. field_key s.current.ty h.field) s.current.statics) (field_key s.current.ty g.field)
+    → placed s (static_line g.field g.value) ≡ Some (record s { stage = Members; current = record s.current { statics = s.current.statics ++ g ∷ [] } })
+unfolding placed with_static
+static_last s g h = rw (place_last (map (λ h. field_key s.current.ty h.field) s.current.statics) (field_key s.current.ty g.field) h, length-map s.current.statics (λ (h : Given). field_key s.current.ty h.field), put_last g s.current.statics) refl
+
+given_runs : (s t : State) (m : Member) (v : Option Value) → FitOperands (line_operands (static_line m v)) → is_in_class s.stage ≡ true → placed (noted (counted s) (static_line m v)) (static_line m v) ≡ Some t → RunsTo s (keyed_text (static_line m v)) t
+unfolding may_stand
+given_runs s t m None f k a = keyed_runs s t (static_line m None) tt f k a
+given_runs s t m (Some v) f k a = keyed_runs s t (static_line m (Some v)) tt f k a
+
+static_step : (done : List Class) (o : Open) (st : Stage) (b : Body) (n : ℕ) (before : List Given) (g : Given) → is_in_class st ≡ true → GivenFits g → AllBelow (map (λ h. field_key o.ty h.field) before) (field_key o.ty g.field)
+    → InClass done (in_stage st done (with_statics o before) None b n) (keyed_text (static_line g.field g.value)) (with_statics o (before ++ g ∷ []))
+static_step done o st b n before g k f h =
+    let s = in_stage st done (with_statics o before) None b n in
+    let t = in_stage Members done (with_statics o (before ++ g ∷ [])) None b (n + 1) in
+    record { stage = Members; body = b; lines = n + 1; runs = given_runs s t g.field g.value f k (static_last (noted (counted s) (static_line g.field g.value)) g h); in_class = refl }
+
+-- the text of the fields, one by one
+statics_each : (ms : List Member) (vs : List Value) → flat_map (λ (g : Given). keyed_text (static_line g.field g.value)) (givens ms vs) ≡ statics_text ms vs
+statics_each [] vs = refl
+statics_each (m ∷ ms) [] = ap (λ t. keyed_text (static_line m None) ++ t) (statics_each ms [])
+statics_each (m ∷ ms) (v ∷ vs) = ap (λ t. keyed_text (static_line m (Some v)) ++ t) (statics_each ms vs)
+
+statics_keys : (k : Member → Key) (ms : List Member) (vs : List Value) → map k ms ≡ map (λ (g : Given). k g.field) (givens ms vs)
+statics_keys k [] vs = refl
+statics_keys k (m ∷ ms) [] = ap (λ t. k m ∷ t) (statics_keys k ms [])
+statics_keys k (m ∷ ms) (v ∷ vs) = ap (λ t. k m ∷ t) (statics_keys k ms vs)
+
+pub statics_run : (done : List Class) (o : Open) (ms : List Member) (vs : List Value) (st : Stage) (b : Body) (n : ℕ) → is_in_class st ≡ true → AllByRecursion GivenFits (givens ms vs) → KeysAreSorted (map (field_key o.ty) ms)
+    → InClass done (in_stage st done (with_statics o []) None b n) (statics_text ms vs) (with_statics o (givens ms vs))
+statics_run done o ms vs st b n k f s =
+    let r = each_runs done (λ (g : Given). keyed_text (static_line g.field g.value)) (with_statics o) GivenFits (λ (g : Given). field_key o.ty g.field) (static_step done o) (givens ms vs) [] st b n k f (subst KeysAreSorted (statics_keys (field_key o.ty) ms vs) s) in
+    subst (λ (text : List ℕ). InClass done (in_stage st done (with_statics o []) None b n) text (with_statics o (givens ms vs))) (statics_each ms vs) r
+
+-- ---- the fields of the class, and their values, are these
+
+pub fields_again : (ms : List Member) (vs : List Value) → map (λ (g : Given). g.field) (givens ms vs) ≡ ms
+fields_again [] vs = refl
+fields_again (m ∷ ms) [] = ap (λ t. m ∷ t) (fields_again ms [])
+fields_again (m ∷ ms) (v ∷ vs) = ap (λ t. m ∷ t) (fields_again ms vs)
+
+none_given : (ms : List Member) → given_length (givens ms []) ≡ 0
+unfolding given_length
+none_given [] = refl
+none_given (m ∷ ms) = rw (none_given ms) refl
+
+all_given : (ms : List Member) (vs : List Value) → length vs ≤ length ms → given_length (givens ms vs) ≡ length vs
+unfolding given_length
+all_given [] [] h = refl
+all_given [] (v ∷ vs) h = absurd (omega arith)
+all_given (m ∷ ms) [] h = none_given (m ∷ ms)
+all_given (m ∷ ms) (v ∷ []) h = rw (none_given ms) refl
+all_given (m ∷ ms) (v ∷ w ∷ vs) h = rw (all_given ms (w ∷ vs) (omega arith), lt-ltb 0 (length (w ∷ vs)) (omega arith)) (omega arith)
+
+values_taken : (ms : List Member) (vs : List Value) → length vs ≤ length ms → map value_or_zero (take (length vs) (givens ms vs)) ≡ vs
+values_taken [] [] h = refl
+values_taken [] (v ∷ vs) h = absurd (omega arith)
+values_taken (m ∷ ms) [] h = refl
+values_taken (m ∷ ms) (v ∷ vs) h = ap (λ t. v ∷ t) (values_taken ms vs (omega arith))
+
+pub values_again : (ms : List Member) (vs : List Value) → length vs ≤ length ms → values_of (givens ms vs) ≡ vs
+values_again ms vs h = ap (λ n. map value_or_zero (take n (givens ms vs))) (all_given ms vs h) ∙ values_taken ms vs h

@@ -24,8 +24,8 @@ use Rattle.dex_slots.specs.Data.{said}
 use Rattle.dex_slots.proofs.ShownLaws.{shown_written, number_written}
 use Rattle.dex_shapes.specs.Shapes.{Shape}
 use Rattle.dex_lines.specs.Lines.{insn_line}
-use Rattle.dex_draft.specs.declared.stage.Stage.{Stage}
-use Rattle.dex_draft.specs.Places.{may_stand, is_insn, is_insns}
+use Rattle.dex_lines.specs.declared.stage.Stage.{Stage}
+use Rattle.dex_lines.specs.Places.{may_stand, is_insn, is_insns}
 use Rattle.dex_draft.specs.States.{State, counted, add, stands}
 use Rattle.dex_listing.specs.Text.{is_skipped, Takes}
 use Rattle.dex_print.specs.Operands.{insn_operands}
@@ -33,7 +33,7 @@ use Rattle.dex_print.specs.Printed.{insn_word, insn_text}
 use Rattle.dex_print.specs.Reading.{slots_of, data_of, words_of, FitOperands, insn_kind, OpcodeFits}
 use Rattle.dex_print.proofs.PrintedLaws.{printed_spelled}
 use Rattle.dex_print.proofs.InsnLaws.{insn_has_shape, number_printed, insn_says}
-use Rattle.dex_listing_laws.specs.Runs.{RunsTo}
+use Rattle.dex_listing_laws.proofs.Runs.{RunsTo}
 use Rattle.dex_listing_laws.proofs.RunLaws.{line_runs, line_is, words_line, behind_spaces}
 use Rattle.dex_listing_laws.proofs.KeyedLaws.{words_written, text_is}
 

@@ -10,7 +10,7 @@ use Rattle.dex_slots.specs.Shown.{shown}
 use Rattle.dex_slots.proofs.ShownLaws.{shown_written}
 use Rattle.dex_shapes.specs.Shapes.{Shape}
 use Rattle.dex_lines.specs.Lines.{Line, first_line, open_class, end_class, super_line, implements_line, source_line, static_line, instance_line, direct_line, virtual_line, open_code, end_code, insn_line, try_line, catch_line, catch_all_line}
-use Rattle.dex_draft.specs.Places.{may_stand, is_insn}
+use Rattle.dex_lines.specs.Places.{may_stand, is_insn}
 use Rattle.dex_draft.specs.States.{State, counted, add, stands}
 use Rattle.dex_listing.specs.Text.{is_skipped, Takes}
 use Rattle.dex_print.specs.Operands.{Operand, operand_text}
@@ -18,7 +18,7 @@ use Rattle.dex_print.specs.Printed.{line_key, line_operands, keyed_text}
 use Rattle.dex_print.specs.Reading.{slots_of, data_of, words_of, FitOperands, line_kind, IsKeyedLine}
 use Rattle.dex_print.proofs.PrintedLaws.{printed_spelled}
 use Rattle.dex_print.proofs.RowLaws.{keyed_has_shape, keyed_says_line}
-use Rattle.dex_listing_laws.specs.Runs.{RunsTo}
+use Rattle.dex_listing_laws.proofs.Runs.{RunsTo}
 use Rattle.dex_listing_laws.proofs.RunLaws.{line_runs, line_is, words_line, behind_spaces}
 
 pub words_written : (os : List Operand) → FitOperands os → AllByRecursion IsWritable (words_of os)

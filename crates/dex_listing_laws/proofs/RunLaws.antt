@@ -4,13 +4,14 @@ use Rattle.std.proofs.lemmas.Bool.{ne_eqb, cases_eq, cases_lt, lt-ltb, le-ltb}
 use Rattle.std.proofs.lemmas.List.{append-nil}
 use Rattle.std.specs.List.{flat_map, AllByRecursion}
 use Rattle.dex_program.specs.Content.{Program}
+use Rattle.dex_rules.specs.Rules.{RulesHold}
 use Rattle.dex_words.specs.Texts.{glyph, escape_text, unit_text}
 use Rattle.dex_words.specs.Words.{Word, plain_word, text_in_quotes, IsGraphic, IsWritable, word_bytes, line_bytes}
 use Rattle.dex_base.proofs.NameUnits.{all_append}
-use Rattle.dex_draft.specs.declared.stage.Stage.TheVariants.{Top}
+use Rattle.dex_lines.specs.declared.stage.Stage.TheVariants.{Top}
 use Rattle.dex_draft.specs.States.{State, start}
 use Rattle.dex_listing.specs.Text.{lines, Takes, Reads, IsListing}
-use Rattle.dex_listing_laws.specs.Runs.{RunsTo}
+use Rattle.dex_listing_laws.proofs.Runs.{RunsTo}
 
 pub runs_join : (s t u : State) (a b : List ℕ) → RunsTo s a t → RunsTo t b u → RunsTo s (a ++ b) u
 runs_join s t u a b f g rest v r = subst (λ (x : List ℕ). Reads s (lines x) v) (sym (append_assoc a b rest)) (f (b ++ rest) v (g rest v r))
@@ -19,13 +20,14 @@ no_lines : lines [] ≡ []
 unfolding lines
 no_lines = refl
 
-pub runs_whole : (text : List ℕ) (p : Program) (t : State) → RunsTo start text t → t.stage ≡ Top → t.late ≡ None → t.done ≡ p → IsListing text p
-runs_whole text p t f top late done = record {
+pub runs_whole : (text : List ℕ) (p : Program) (t : State) → RunsTo start text t → t.stage ≡ Top → t.late ≡ None → t.done ≡ p → RulesHold p → IsListing text p
+runs_whole text p t f top late done rules = record {
   end = t;
   read = subst (λ (x : List ℕ). Reads start (lines x) t) (append-nil text) (f [] t (subst (λ (ls : List (List ℕ)). Reads t ls t) (sym no_lines) refl));
   whole = top;
   targets = late;
   classes = done;
+  formed = rules;
 }
 
 -- no line feed

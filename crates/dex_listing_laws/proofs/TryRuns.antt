@@ -4,15 +4,16 @@ use Rattle.std.specs.List.{AllByRecursion, flat_map}
 use Rattle.std.proofs.lemmas.List.{append-nil}
 use Rattle.dex_program.specs.Content.{Catch, Try, Class}
 use Rattle.dex_lines.specs.Lines.{catch_line, catch_all_line, try_line}
-use Rattle.dex_draft.specs.declared.stage.Stage.{Stage}
-use Rattle.dex_draft.specs.declared.stage.Stage.TheVariants.{Tries, Caught}
-use Rattle.dex_draft.specs.Places.{may_stand, is_in_code}
-use Rattle.dex_draft.specs.Needs.{Need, with_need}
+use Rattle.dex_lines.specs.declared.stage.Stage.{Stage}
+use Rattle.dex_lines.specs.declared.stage.Stage.TheVariants.{Tries, Caught}
+use Rattle.dex_lines.specs.Places.{may_stand, is_in_code}
+use Rattle.dex_lines.specs.Needs.{Need, with_need}
 use Rattle.dex_draft.specs.States.{State, Open, Body, placed, all_tries}
 use Rattle.dex_print.specs.Printed.{line_operands, keyed_text}
 use Rattle.dex_print.specs.Canon.{catches_text, catch_all_text, try_text}
 use Rattle.dex_print.specs.Reading.{FitOperands}
-use Rattle.dex_listing_laws.specs.Runs.{RunsTo, NeedsFit, in_stage, with_handlers, CatchFits, CatchAllFits, TryFits, Tried}
+use Rattle.dex_listing_laws.proofs.Runs.{RunsTo, NeedsFit, in_stage, with_handlers, Tried}
+use Rattle.dex_listing_laws.proofs.Printable.{CatchFits, CatchAllFits, TryFits}
 use Rattle.dex_listing_laws.proofs.RunLaws.{runs_join}
 use Rattle.dex_listing_laws.proofs.KeyedLaws.{keyed_runs}
 use Rattle.dex_listing_laws.proofs.CodeRuns.{nothing_runs, need_fits}

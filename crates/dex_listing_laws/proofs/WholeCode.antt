@@ -4,15 +4,16 @@ use Rattle.std.specs.List.{flat_map}
 use Rattle.std.proofs.lemmas.Bool.{le-ltb}
 use Rattle.dex_program.specs.Content.{Try, Code, Class}
 use Rattle.dex_lines.specs.Lines.{open_code, end_code}
-use Rattle.dex_draft.specs.declared.stage.Stage.{Stage}
-use Rattle.dex_draft.specs.declared.stage.Stage.TheVariants.{Insns, Members, Behind}
-use Rattle.dex_draft.specs.Places.{may_stand, is_in_code}
-use Rattle.dex_draft.specs.Needs.{Need, first_late}
+use Rattle.dex_lines.specs.declared.stage.Stage.{Stage}
+use Rattle.dex_lines.specs.declared.stage.Stage.TheVariants.{Insns, Members, Behind}
+use Rattle.dex_lines.specs.Places.{may_stand, is_in_code}
+use Rattle.dex_lines.specs.Needs.{Need, first_late}
 use Rattle.dex_draft.specs.States.{Open, Body, placed, all_tries, begun, with_tries, whole_code, with_code_at}
 use Rattle.dex_print.specs.Printed.{line_operands, keyed_text}
 use Rattle.dex_print.specs.Canon.{insns_text, try_text, code_text}
 use Rattle.dex_print.specs.Reading.{FitOperands}
-use Rattle.dex_listing_laws.specs.Runs.{RunsTo, NeedsFit, in_stage, with_handlers, CodeFits}
+use Rattle.dex_listing_laws.proofs.Runs.{RunsTo, NeedsFit, in_stage, with_handlers}
+use Rattle.dex_listing_laws.proofs.Printable.{CodeFits}
 use Rattle.dex_listing_laws.proofs.RunLaws.{runs_join}
 use Rattle.dex_listing_laws.proofs.KeyedLaws.{keyed_runs}
 use Rattle.dex_listing_laws.proofs.CodeRuns.{insns_run}

@@ -1,11 +1,9 @@
-//! Laws of printing and parsing together: what is printed of a line is read as that line.
+//! The law of printing and reading together: what is printed of a program is read again, as that program.
 //!
-//! A text of whole lines runs from a state to another, whatever follows it; texts that run one behind the other run as one.
+//! A text of whole lines leads from what was read so far to what is read then, whatever follows it; texts that lead one
+//! behind the other lead as one. So the lines of a code, of a class and of a program are taken one by one.
 #![tactic(auto)]
 
 mod law;
 
-pub use law::{
-    printed_code_blocks_run, printed_codes_run, printed_instances_run, printed_instructions_run,
-    printed_interfaces_run, printed_lines_run, printed_tries_run, texts_run_one_behind_the_other,
-};
+pub use law::what_is_printed_is_read_again;

@@ -1,4 +1,5 @@
 -- The canonical listing of a program: what is printed.
+-- Page: docs/LISTING.md, "The lines".
 use Rattle.std.specs.Prelude.{ℕ, ◌+◌, List, [], ◌∷◌, ◌++◌, Option, Some, None}
 use Rattle.std.specs.List.{flat_map}
 use Rattle.dex_program.specs.Content.{Units, Descriptor, Value, Insn, Catch, Try, Code, Member, Method, Class, Program}

@@ -1,4 +1,5 @@
 -- Operands: what stands on a line behind its first words, each word in its slot.
+-- Page: docs/LISTING.md, "The lines", "Values".
 use Rattle.std.specs.Prelude.{ℕ, ℤ, Bool, true, false, List, [], ◌∷◌, ◌++◌, take, map}
 use Rattle.std.specs.List.{flat_map}
 use Rattle.dex_program.specs.Content as content

@@ -1,4 +1,5 @@
 -- How a line is printed: its first words, and its operands.
+-- Page: docs/LISTING.md, "The lines".
 use Rattle.std.specs.Prelude.{ℕ, List, [], ◌∷◌, ◌++◌, Some, None}
 use Rattle.std.specs.Fmt.{decimal}
 use Rattle.dex_insn.specs.Mnemonics.{mnemonic_of}

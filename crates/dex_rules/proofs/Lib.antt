@@ -1,3 +1,4 @@
 pub mod MemberLaws
+pub mod NestedLaws
 pub mod OrderLaws
 pub mod WalkLaws

@@ -1,3 +1,5 @@
 pub mod Valid
 pub mod Rules
 pub mod Parts
+pub mod Nested
+pub mod Ranges

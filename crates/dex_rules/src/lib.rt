@@ -10,6 +10,7 @@
 mod bodies;
 mod members;
 mod names;
+mod nested;
 mod values;
 
 // The order of classes.

@@ -9,10 +9,11 @@ ghost use Rattle.dex_rules.specs.Valid.{IsValidName};
 ghost use Rattle.dex_rules.specs.Rules.{ValuesFit};
 
 use crate::names::{is_valid_field, is_valid_name};
+use crate::nested::names_are_valid_in;
 use dex_program::{Class, Name, Value, is_within_depth};
 
-/// Whether a file can have all names in the value.
-fn value_is_valid(root: &Value<'_>) -> bool
+/// Whether a file can have all names in the value, whose depth the stack bears.
+pub(crate) fn value_is_valid(root: &Value<'_>) -> bool
     ensures { IsTrue result ↔ NamesHold IsValidName (value root.now) }
 {
     match root {
@@ -38,7 +39,7 @@ pub(crate) fn values_are_valid(all: &[Value<'_>]) -> bool
     ensures { IsTrue result ↔ AllByRecursion (NamesHold IsValidName) (map value all.now) }
 {
     for each in all {
-        if !value_is_valid(each) {
+        if !names_are_valid_in(each) {
             return false;
         }
     }

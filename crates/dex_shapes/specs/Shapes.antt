@@ -1,4 +1,5 @@
 -- Which shapes a line can have: what it is, and which slots stand on it.
+-- Page: docs/LISTING.md, "The lines", "Values"; "Dalvik Executable instruction formats", "The formats".
 use Rattle.std.specs.Prelude.{◌≡◌, ℕ, zero, suc, ◌+◌, ◌-◌, ◌/◌, Bool, true, false, nat_le, if◌then◌else◌, ◌⊎◌, List, [], ◌∷◌, ◌++◌, length, drop, replicate, Option, Some, None, option_map}
 use Rattle.dex_insn.specs.declared.opcode.Format.{Format}
 use Rattle.dex_insn.specs.declared.opcode.Format.TheVariants as format

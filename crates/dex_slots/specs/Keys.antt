@@ -1,4 +1,5 @@
 -- The words that are always the same.
+-- Page: docs/LISTING.md, "The lines", "Values".
 use Rattle.std.specs.Prelude.{ℕ, Bool, true, false, ◌==◌, ◌&&◌, List, [], ◌∷◌, Option, Some, None, if◌then◌else◌, codes}
 use Rattle.dex_slots.specs.declared.key.Key.{Key}
 use Rattle.dex_slots.specs.declared.key.Key.TheVariants.{Dex, Class, End, Super, Implements, Source, Static, Instance, Direct, Virtual, Code, Try, Catch, CatchAll, Packed, Sparse, Elements, Version, Equals, Open, Close, Byte, Short, Char, Int, Long, Float, Double, Text, Desc, Field, Method, Enum, Array, Null, True, False}

@@ -1,4 +1,5 @@
 -- What a word says in a slot, and how it is printed.
+-- Page: docs/LISTING.md, "What a word can be", "Faults".
 use Rattle.std.specs.Prelude.{◌≡◌, ℕ, ◌≤◌, ◌⊎◌, ℤ, pos, negsuc, Bool, true, false, ◌&&◌, if◌then◌else◌, List, [], ◌∷◌, ◌++◌}
 use Rattle.dex_base.specs.Descriptor.{IsDescriptor, IsMemberName}
 use Rattle.dex_program.specs.Content.{FieldRef, MethodRef, Proto, OfText, OfDesc, OfField, OfMethod}

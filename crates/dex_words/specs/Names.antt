@@ -1,4 +1,5 @@
 -- Names in words: units that stand for themselves or are escaped, and the texts of fields, methods and prototypes.
+-- Page: docs/LISTING.md, "What a word can be"; "Dalvik Executable format", "String syntax".
 use Rattle.std.specs.Prelude.{◌≡◌, ◌≢◌, ℕ, ◌+◌, ◌*◌, ◌<◌, ◌≤◌, ◌==◌, if◌then◌else◌, ◌⊎◌, List, [], ◌∷◌, ◌++◌, length, slice_index}
 use Rattle.std.specs.List.{flat_map, AllByRecursion}
 use Rattle.dex_base.specs.Descriptor.{IsDescriptor, IsMemberName}

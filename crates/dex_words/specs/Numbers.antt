@@ -1,4 +1,5 @@
 -- Numbers as they are spelled: in decimal or hexadecimal digits of either case, with any number of leading zeros.
+-- Page: docs/LISTING.md, "What a word can be".
 use Rattle.std.specs.Prelude.{◌≡◌, ℕ, ◌<◌, ◌+◌, ◌*◌, ◌==◌, ◌&&◌, Bool, nat_lt, if◌then◌else◌, ℤ, pos, neg_ℤ, ◌⊎◌, List, [], ◌∷◌, length, drop, slice_index}
 use Rattle.std.specs.List.{list_all}
 use Rattle.std.specs.Char.{digit_value}

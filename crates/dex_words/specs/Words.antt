@@ -1,4 +1,5 @@
 -- The words of a line, and how they are written.
+-- Page: docs/LISTING.md, "Lines and words".
 use Rattle.std.specs.Prelude.{◌≡◌, ◌≢◌, ℕ, ◌<◌, ◌≤◌, ◌==◌, if◌then◌else◌, List, [], ◌∷◌, ◌++◌, length, slice_index}
 use Rattle.std.specs.List.{AllByRecursion}
 use Rattle.dex_words.specs.Taking.{Each}

@@ -1,4 +1,5 @@
 -- How numbers and names are written.
+-- Page: docs/LISTING.md, "What a word can be".
 use Rattle.std.specs.Prelude.{ℕ, zero, suc, ◌/◌, ◌%◌, ◌==◌, ◌||◌, ◌&&◌, nat_lt, if◌then◌else◌, List, [], ◌∷◌, ◌++◌}
 use Rattle.std.specs.List.{flat_map}
 use Rattle.dex_program.specs.Content.{Proto, FieldRef, MethodRef}

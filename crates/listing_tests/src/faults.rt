@@ -7,16 +7,21 @@ use dex_samples::none_wrong;
 use std::alloc::Global;
 use std::test::Fail;
 
-/// Whether the text is refused with this code at this line.
-fn is_refused(alloc: Global, text: &[u8], code: u16, line: u64) -> Result<bool, Fault> {
+/// Whether the text is refused with this code at this place; code 0 stands for a text that is read.
+fn is_refused(alloc: Global, text: &[u8], code: u16, place: u64) -> Result<bool, Fault> {
     let arena = Bump::new(alloc);
     match parse(alloc, &arena, text) {
         Ok(_) => Ok(code == 0),
-        Err(fault) => Ok(fault.code == code && fault.place == line),
+        Err(fault) => Ok(fault.code == code && fault.place == place),
     }
 }
 
-/// The first text that isn't refused so; code 0 stands for a text that is read.
+/// Where a text with one class is refused: at this line, and in the class where a rule of programs is broken.
+fn place_of(code: u16, line: u64) -> u64 {
+    if code < 110 { line } else { 0 }
+}
+
+/// The first text that isn't refused so.
 fn first_refused_otherwise(
     alloc: Global,
     cases: &[(&'static str, u16, u64)],
@@ -29,7 +34,8 @@ fn first_refused_otherwise(
     Ok(None)
 }
 
-/// Whether a line of a code block is refused with this code at its line, 6; the block has three instructions.
+/// Whether a line of a code block is refused with this code at its line, 6, or in its class; the block has three
+/// instructions.
 fn is_line_refused(alloc: Global, line: &str, code: u16) -> Result<bool, Fault> {
     let mut text = Vec::from_slice(
         alloc,
@@ -37,7 +43,7 @@ fn is_line_refused(alloc: Global, line: &str, code: u16) -> Result<bool, Fault> 
     )?;
     text.extend_from_slice(line.as_bytes())?;
     text.extend_from_slice(b"\n2: return-void\nend code\nend class\n")?;
-    is_refused(alloc, text.as_slice(), code, 6)
+    is_refused(alloc, text.as_slice(), code, place_of(code, 6))
 }
 
 /// The first line that isn't refused so.
@@ -53,12 +59,13 @@ fn first_line_refused_otherwise(
     Ok(None)
 }
 
-/// Whether a line among the members of a class is refused with this code at its line, 4; a static field is given before.
+/// Whether a line among the members of a class is refused with this code at its line, 4, or in its class; a static field is
+/// given before.
 fn is_member_refused(alloc: Global, line: &str, code: u16) -> Result<bool, Fault> {
     let mut text = Vec::from_slice(alloc, b"dex 035\nclass LA; 0x1\nstatic a I 0x9\n")?;
     text.extend_from_slice(line.as_bytes())?;
     text.extend_from_slice(b"\nend class\n")?;
-    is_refused(alloc, text.as_slice(), code, 4)
+    is_refused(alloc, text.as_slice(), code, place_of(code, 4))
 }
 
 /// The first line that isn't refused so.
@@ -70,6 +77,30 @@ fn first_member_refused_otherwise(
         if !is_member_refused(alloc, line, *code)? {
             return Ok(Some(*line));
         }
+    }
+    Ok(None)
+}
+
+/// Whether a value that is so many arrays, each in the next, is refused with this code.
+fn is_depth_refused(alloc: Global, depth: usize, code: u16) -> Result<bool, Fault> {
+    let mut text = Vec::from_slice(alloc, b"dex 035\nclass LA; 0x1\nstatic a [I 0x9 =")?;
+    for _ in 0..depth {
+        text.extend_from_slice(b" array {")?;
+    }
+    for _ in 0..depth {
+        text.extend_from_slice(b" }")?;
+    }
+    text.extend_from_slice(b"\nend class\n")?;
+    is_refused(alloc, text.as_slice(), code, 0)
+}
+
+/// The first depth that isn't refused so.
+fn first_depth_refused_otherwise(alloc: Global) -> Result<Option<&'static str>, Fault> {
+    if !is_depth_refused(alloc, 64, 0)? {
+        return Ok(Some("64 arrays"));
+    }
+    if !is_depth_refused(alloc, 65, 113)? {
+        return Ok(Some("65 arrays"));
     }
     Ok(None)
 }
@@ -131,7 +162,7 @@ fn texts_are_refused_at_their_lowest_line(rt: HostRuntime) -> Result<(), Fail> {
 
 #[test]
 fn lines_of_code_are_refused(rt: HostRuntime) -> Result<(), Fail> {
-    static CASES: [(&str, u16); 52] = [
+    static CASES: [(&str, u16); 57] = [
         ("1: nop", 0),
         ("0x1: nop", 0),
         ("01: nop", 0),
@@ -154,7 +185,9 @@ fn lines_of_code_are_refused(rt: HostRuntime) -> Result<(), Fail> {
         ("1: const/4 v0 -0x8", 0),
         ("1: const/16 v255 -32768", 0),
         ("1: const/16 v256 0", 102),
-        ("1: goto @1", 0),
+        ("1: goto @1", 115),
+        ("1: goto @0", 0),
+        ("1: goto/32 @1", 0),
         ("1: goto @3", 105),
         ("1: goto 1", 102),
         ("1: goto \"a\"", 100),
@@ -177,10 +210,13 @@ fn lines_of_code_are_refused(rt: HostRuntime) -> Result<(), Fail> {
         ("1: invoke-static { { } LB;->f()V", 102),
         ("1: invoke-static { } } LB;->f()V", 100),
         ("1: invoke-static/range v0 255 LB;->f()V", 0),
-        ("1: packed-switch-payload -1 @0 @2", 0),
+        ("1: packed-switch-payload -1 @0 @2", 116),
         ("1: packed-switch-payload -1 @0 @3", 105),
         ("1: sparse-switch-payload 1 @0 2", 100),
         ("1: array-payload 2 00ff", 0),
+        ("1: array-payload 3 00ffff", 114),
+        ("1: array-payload 2 00ffff", 114),
+        ("1: goto/16 @1", 115),
         ("1: array-payload 2 00f", 102),
         ("1: array-payload 2", 0),
         ("catch LE; @0", 103),
@@ -216,7 +252,7 @@ fn members_are_refused(rt: HostRuntime) -> Result<(), Fail> {
         ("static b I 0x9 = array { int }", 100),
         ("static b I 0x9 = array { int 1", 100),
         ("static b I 0x9 = null null", 100),
-        ("static b V 0x9", 0),
+        ("static b V 0x9", 110),
         ("static <init> I 0x9", 0),
         ("static <> I 0x9", 101),
         ("direct m ()V 0x9", 0),
@@ -225,4 +261,91 @@ fn members_are_refused(rt: HostRuntime) -> Result<(), Fail> {
         ("super LB;", 103),
     ];
     none_wrong(first_member_refused_otherwise(rt.alloc(), &CASES))
+}
+
+#[test]
+fn rules_are_asked_behind_all_lines(rt: HostRuntime) -> Result<(), Fail> {
+    static CASES: [(&str, u16, u64); 19] = [
+        ("dex 035\nclass I 0x1\nend class\n", 110, 0),
+        (
+            "dex 035\nclass LA; 0x1\nend class\nclass [LB; 0x1\nend class\n",
+            110,
+            1,
+        ),
+        ("dex 035\nclass LA; 0x1\nsuper [LB;\nend class\n", 110, 0),
+        (
+            "dex 035\nclass LA; 0x1\ndirect m (V)V 0x1\nend class\n",
+            110,
+            0,
+        ),
+        (
+            "dex 035\nclass LA; 0x1\nstatic f I 0x9 = field I->g:I\nend class\n",
+            110,
+            0,
+        ),
+        (
+            "dex 035\nclass LA; 0x1\nend class\nclass LA; 0x1\nend class\n",
+            112,
+            1,
+        ),
+        ("dex 035\nclass LA; 0x1\nsuper LA;\nend class\n", 112, 0),
+        (
+            "dex 035\nclass LA; 0x1\nsuper LB;\nend class\nclass LB; 0x1\nend class\n",
+            112,
+            0,
+        ),
+        (
+            "dex 035\nclass LB; 0x1\nend class\nclass LA; 0x1\nsuper LB;\nend class\n",
+            0,
+            0,
+        ),
+        (
+            "dex 035\nclass LA; 0x1\ndirect m ()V 0x1\ncode 0 0 0\nend code\nend class\n",
+            114,
+            0,
+        ),
+        (
+            "dex 035\nclass LA; 0x1\ndirect m ()V 0x1\ncode 1 0 0\n0: sparse-switch v0 @2\n1: return-void\n2: sparse-switch-payload 1 @1 1 @1\nend code\nend class\n",
+            114,
+            0,
+        ),
+        (
+            "dex 035\nclass LA; 0x1\ndirect m ()V 0x1\ncode 1 0 0\n0: packed-switch v0 @2\n1: return-void\n2: packed-switch-payload 1 @2\nend code\nend class\n",
+            115,
+            0,
+        ),
+        (
+            "dex 035\nclass LA; 0x1\ndirect m ()V 0x1\ncode 1 0 0\n0: packed-switch v0 @1\n1: return-void\nend code\nend class\n",
+            116,
+            0,
+        ),
+        (
+            "dex 035\nclass LA; 0x1\ndirect m ()V 0x1\ncode 1 0 0\n0: return-void\ntry @0 @0\ncatchall @0\nend code\nend class\n",
+            117,
+            0,
+        ),
+        (
+            "dex 035\nclass LA; 0x1\ndirect m ()V 0x1\ncode 1 0 0\n0: return-void\ntry @0 @1\nend code\nend class\n",
+            117,
+            0,
+        ),
+        (
+            "dex 035\nclass LA; 0x1\ndirect m ()V 0x1\ncode 1 0 0\n0: nop\n1: return-void\ntry @0 @2\ncatchall @0\ntry @1 @2\ncatchall @0\nend code\nend class\n",
+            117,
+            0,
+        ),
+        (
+            "dex 035\nclass LA; 0x1\ndirect m ()V 0x1\ncode 1 0 0\n0: goto @0\nend code\nend class\nclass LB; 0x1\nend class\nclass LB; 0x1\nend class\n",
+            115,
+            0,
+        ),
+        ("dex 035\nclass I 0x1\nend class\nbad\n", 100, 4),
+        ("dex 035\nclass I 0x1\n", 106, 2),
+    ];
+    none_wrong(first_refused_otherwise(rt.alloc(), &CASES))
+}
+
+#[test]
+fn values_are_nested_64_deep(rt: HostRuntime) -> Result<(), Fail> {
+    none_wrong(first_depth_refused_otherwise(rt.alloc()))
 }

@@ -1,9 +1,7 @@
-use Rattle.std.proofs.Common.{◌≡◌, ◌<◌, ◌≤◌, ◌∙◌, ◌++◌, ℕ, [], ◌∷◌, List, map, length, get_or, arith, ap, sym, subst}
+use Rattle.std.proofs.Common.{◌≡◌, ℕ, map, length, arith, subst}
 use Rattle.std.proofs.lemmas.List.{length-map}
-use Rattle.dex_bytes.specs.Grammar.{Appends}
 use Rattle.dex_program.specs.View.{try}
 use Rattle.dex_program.specs.Content.{Try}
-use Rattle.dex_program.specs.Formed.{try_at}
 use Rattle.dex_names.specs.Closure.{NameRanks}
 use Rattle.dex_code.specs.Tries.{handler_of}
 use Rattle.dex_code_put.specs.Fits.{HasIndexBelow}

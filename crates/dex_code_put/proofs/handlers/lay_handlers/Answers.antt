@@ -1,10 +1,9 @@
-use Rattle.std.proofs.Common.{◌≡◌, ◌<◌, ◌≤◌, ◌∙◌, ℕ, List, map, length, get_or, refl, arith, ap, sym, subst, rules}
+use Rattle.std.proofs.Common.{◌≡◌, ◌<◌, ◌∙◌, ℕ, List, map, length, get_or, arith, ap, sym, subst, rules}
 use Rattle.std.proofs.lemmas.List.{length-map}
 use Rattle.std.proofs.lemmas.Grind.{get_or_default_zero}
 use Rattle.dex_program.specs.View.{try}
 use Rattle.dex_bytes.proofs.ShortestLaws.{AllBytes}
 use Rattle.dex_names.specs.Closure.{NameRanks}
-use Rattle.dex_code_put.specs.Writing.{places_of}
 use Rattle.dex_code_put.proofs.ListedLaws.{seen}
 use Rattle.dex_code_put.proofs.LaidLaws.{SomeOffsets, laid, laid-none, listed-few, number-inside, offset-more, length-places}
 use Rattle.dex_code_put.proofs.handlers.lay_handlers.Goals as goal

@@ -1,4 +1,4 @@
-use Rattle.std.proofs.Common.{◌≡◌, ◌<◌, ◌≤◌, ◌+◌, ◌++◌, ◌∙◌, ℕ, List, map, length, drop, [], ◌∷◌, refl, arith, ap, sym, length-append}
+use Rattle.std.proofs.Common.{◌≡◌, ◌++◌, ◌∙◌, ℕ, List, length, [], ◌∷◌, refl, arith, ap, length-append}
 use Rattle.dex_bytes.specs.Leb128.{Spells, Shortest}
 use Rattle.dex_code_put.specs.Writing.{places_of}
 use Rattle.dex_code_put.proofs.HandlerPacks.{alone}

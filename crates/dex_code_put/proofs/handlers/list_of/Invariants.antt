@@ -1,4 +1,4 @@
-use Rattle.std.proofs.Common.{◌≡◌, ◌++◌, List, ℕ, map, drop, length}
+use Rattle.std.proofs.Common.{◌≡◌, ◌++◌, map, drop, length}
 use Rattle.dex_code_put.specs.Writing.{joined_keys, places_of}
 use Rattle.dex_code_put.proofs.handlers.list_of.Given as goal
 

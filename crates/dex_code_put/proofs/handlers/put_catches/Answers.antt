@@ -1,4 +1,4 @@
-use Rattle.std.proofs.Common.{◌≡◌, ◌<◌, ◌≤◌, ℕ, List, map, take, length, sym, subst, arith}
+use Rattle.std.proofs.Common.{◌<◌, List, map, take, length, sym, subst, arith}
 use Rattle.std.proofs.lemmas.List.{length-map}
 use Rattle.dex_bytes.specs.Grammar.{Appends, Each}
 use Rattle.dex_program.specs.Content.{Catch, OfDesc}

@@ -1,10 +1,9 @@
-use Rattle.std.proofs.Common.{◌≡◌, ◌<◌, ◌≢◌, ℕ, ℤ, [], List, map, length, sym, subst, pos, arith}
+use Rattle.std.proofs.Common.{◌<◌, ◌≢◌, ℕ, ℤ, [], map, length, sym, subst, pos}
 use Rattle.std.specs.Prelude.{neg_ℤ}
 use Rattle.std.proofs.lemmas.Result.{on_ok_weaker}
 use Rattle.std.proofs.lemmas.List.{length-map}
 use Rattle.dex_bytes.specs.Grammar.{Appends}
 use Rattle.dex_bytes.specs.Leb128.{SpellsSigned, Shortest}
-use Rattle.dex_program.specs.Content.{Catch}
 use Rattle.dex_program.specs.View.{catch, try}
 use Rattle.dex_names.specs.Closure.{NameRanks}
 use Rattle.dex_code.specs.Tries.{handler_of}

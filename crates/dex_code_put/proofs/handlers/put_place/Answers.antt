@@ -1,4 +1,4 @@
-use Rattle.std.specs.Prelude.{◌≡◌, ℕ, List, Some}
+use Rattle.std.specs.Prelude.{◌≡◌, Some}
 use Rattle.std.proofs.lemmas.Result.{on_ok_weaker}
 use Rattle.dex_bytes.specs.Leb128.{Spells, Shortest}
 use Rattle.dex_code_insns.specs.Places.{position}

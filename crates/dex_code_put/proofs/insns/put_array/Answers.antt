@@ -1,6 +1,6 @@
 use Rattle.std.proofs.lemmas.Result.{on_ok_weaker}
 use Rattle.dex_insn.specs.Raw as raw
-use Rattle.dex_names.specs.Closure.{NameRanks, Five, nothing}
+use Rattle.dex_names.specs.Closure.{NameRanks, nothing}
 use Rattle.dex_code_put.proofs.LowerLaws.{array-lowers, put-array}
 use Rattle.dex_code_put.proofs.insns.put_array.Goals as goal
 

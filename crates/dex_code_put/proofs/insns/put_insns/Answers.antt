@@ -1,4 +1,4 @@
-use Rattle.std.proofs.Common.{◌≡◌, ◌<◌, map, length, get_or, arith, refl, sym, subst}
+use Rattle.std.proofs.Common.{map, get_or, arith, refl, sym, subst}
 use Rattle.std.proofs.lemmas.List.{length-map}
 use Rattle.dex_program.specs.Content.{Insn}
 use Rattle.dex_program.specs.View.{insn}

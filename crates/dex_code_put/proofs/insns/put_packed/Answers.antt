@@ -1,4 +1,4 @@
-use Rattle.std.proofs.Common.{◌≡◌, ℕ, ℤ, List, length, sym, ap, ◌∙◌, ◌*◌, ◌++◌, ◌%◌, ◌/◌, ◌<◌, arith, rules}
+use Rattle.std.proofs.Common.{◌≡◌, ℕ, ℤ, List, length, ap, ◌∙◌, ◌*◌, ◌++◌, arith}
 use mir.Val.{SFits}
 use mir.Syntax.{w32}
 use Rattle.std.proofs.lemmas.Int.{to_z-of_z}
@@ -6,9 +6,8 @@ use Rattle.std.proofs.lemmas.Result.{on_ok_weaker}
 use Rattle.dex_insn.specs.Raw as raw
 use Rattle.dex_insn.specs.Written.{written}
 use Rattle.dex_names.specs.Closure.{NameRanks}
-use Rattle.dex_program.specs.Content as content
 use Rattle.dex_program.specs.Formed.{insn_targets}
-use Rattle.dex_code_put.proofs.LowerLaws.{packed-lowers, put-packed}
+use Rattle.dex_code_put.proofs.LowerLaws.{put-packed}
 use Rattle.dex_code_put.proofs.insns.put_packed.Goals as goal
 
 pub distances-requires-clause-fits : goal.distances-requires-clause-fits

@@ -1,12 +1,8 @@
-use Rattle.std.proofs.Common.{◌≡◌, ℕ, ℤ, List, length, sym, ap, ◌∙◌, ◌*◌, ◌++◌, ◌%◌, ◌/◌, ◌<◌, arith, rules, subst}
-use mir.Val.{SFits}
-use mir.Syntax.{w32}
-use Rattle.std.proofs.lemmas.Int.{to_z-of_z}
+use Rattle.std.proofs.Common.{◌≡◌, ℕ, ℤ, List, length, sym, ap, ◌∙◌, ◌*◌, subst}
 use Rattle.std.proofs.lemmas.Result.{on_ok_weaker}
 use Rattle.dex_insn.specs.Raw as raw
 use Rattle.dex_insn.specs.Written.{IsRaw}
 use Rattle.dex_names.specs.Closure.{NameRanks, nothing}
-use Rattle.dex_program.specs.Content as content
 use Rattle.dex_program.specs.Formed.{insn_targets}
 use Rattle.dex_code_put.proofs.LowerLaws.{sparse-lowers, put-sparse}
 use Rattle.dex_code_put.proofs.insns.put_sparse.Goals as goal

@@ -1,4 +1,4 @@
-use Rattle.std.proofs.Common.{◌≡◌, ◌<◌, ◌≤◌, map, length, arith}
+use Rattle.std.proofs.Common.{map, length, arith}
 use Rattle.std.proofs.lemmas.List.{length-map}
 use Rattle.dex_program.specs.View.{try}
 use Rattle.dex_code_put.proofs.ItemPieces.{some-at, within-at, turn-at, items-end}

@@ -1,4 +1,4 @@
-use Rattle.std.proofs.Common.{◌<◌, arith}
+use Rattle.std.proofs.Common.{arith}
 use Rattle.dex_program.specs.View.{name}
 use Rattle.dex_code_put.proofs.RankLaws.{below-limit}
 use Rattle.dex_code_put.proofs.lowering.rank.Goals as goal

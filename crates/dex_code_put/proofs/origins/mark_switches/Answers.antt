@@ -1,5 +1,4 @@
-use Rattle.std.proofs.Common.{◌≡◌, ◌<◌, ℕ, List, map, length, arith, sym, ◌∙◌, Some, None, ap, subst}
-use Rattle.std.proofs.lemmas.List.{length-map}
+use Rattle.std.proofs.Common.{◌≡◌, ℕ, map, length, arith, sym, ◌∙◌, Some, ap, subst}
 use Rattle.dex_program.specs.View.{insn}
 use Rattle.dex_program.specs.Formed.{insn_at}
 use Rattle.dex_code_put.specs.Writing.{switched_by, AreSome}

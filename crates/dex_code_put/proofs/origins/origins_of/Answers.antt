@@ -1,4 +1,4 @@
-use Rattle.std.proofs.Common.{◌≡◌, ◌<◌, ℕ, List, map, length, get_or, arith, sym, ◌∙◌, ◌++◌, ◌∷◌, [], ap, subst, inl, inr, length-append}
+use Rattle.std.proofs.Common.{◌≡◌, ℕ, List, map, length, get_or, arith, sym, ◌∙◌, ◌++◌, ◌∷◌, [], ap, subst, inl, inr, length-append}
 use Rattle.std.proofs.lemmas.Bool.{cases_lt}
 use Rattle.std.proofs.lemmas.List.{length-map, take_at}
 use Rattle.dex_program.specs.View.{insn}

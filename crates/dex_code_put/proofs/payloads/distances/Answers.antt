@@ -1,4 +1,4 @@
-use Rattle.std.proofs.Common.{◌≡◌, ℕ, ℤ, List, length, get_or, take, ◌∷◌, [], ◌++◌, Some, arith, ap, sym, ◌∙◌, ◌<◌, rules, pos}
+use Rattle.std.proofs.Common.{◌≡◌, ℕ, List, length, get_or, take, ◌∷◌, [], ◌++◌, Some, arith, ap, sym, ◌∙◌, ◌<◌, rules}
 use Rattle.std.specs.Prelude.{FitsSigned}
 use Rattle.std.specs.Int.{w32}
 use mir.Val.{SFits}

@@ -1,4 +1,4 @@
-use Rattle.std.proofs.Common.{◌≡◌, ℕ, ℤ, List, length, get_or, drop, ◌∷◌, [], ◌++◌, arith, ap, sym, ◌∙◌, ◌*◌, ◌<◌, rules, pos, refl, append-nil, length-append}
+use Rattle.std.proofs.Common.{◌≡◌, ℕ, ℤ, List, length, get_or, ◌++◌, arith, ap, sym, ◌∙◌, rules, pos, refl, append-nil, length-append}
 use mir.Val.{SFits}
 use Rattle.std.specs.Int.{cast_unsigned, w32}
 use Rattle.std.proofs.lemmas.Int.{to_z-of_z}

@@ -1,7 +1,7 @@
-use Rattle.std.proofs.Common.{◌≡◌, ◌<◌, ◌≤◌, ◌+◌, ℕ, arith, map, length, sym, ◌∙◌, ap}
+use Rattle.std.proofs.Common.{◌<◌, ◌≤◌, arith, map, length, ◌∙◌}
 use Rattle.std.proofs.lemmas.List.{length-map}
 use Rattle.dex_program.specs.View.{insn}
-use Rattle.dex_program.specs.Sizes.{insn_units, total}
+use Rattle.dex_program.specs.Sizes.{insn_units}
 use Rattle.dex_code_put.proofs.SizeLaws.{starts-turn, sum-turn, starts-end, sum-end, insn-at, size-at, units-small}
 use Rattle.dex_code_put.proofs.sizes.starts_of.Goals as goal
 

@@ -1,4 +1,4 @@
-use Rattle.std.proofs.Common.{◌≡◌, ◌<◌, ◌≤◌, ℕ, List, map, length, get_or, arith, ap, sym, ◌∙◌, ◌++◌, subst}
+use Rattle.std.proofs.Common.{◌≡◌, ◌<◌, ℕ, List, map, length, get_or, arith, ap, sym, ◌∙◌, ◌++◌, subst}
 use Rattle.std.proofs.lemmas.List.{length-map}
 use Rattle.dex_program.specs.View as view
 use Rattle.dex_program.specs.Formed.{TryFormed}

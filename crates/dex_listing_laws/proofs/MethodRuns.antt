@@ -1,0 +1,111 @@
+-- Printed methods of a class and their codes, one behind the other.
+use Rattle.std.proofs.Common.{◌≡◌, ℕ, ◌+◌, Bool, true, false, List, [], ◌∷◌, ◌++◌, length, map, Option, Some, None, refl, ap, subst, ◌∙◌}
+use Rattle.std.specs.List.{AllByRecursion, flat_map}
+use Rattle.std.proofs.lemmas.List.{length-map}
+use Rattle.dex_program.specs.Content.{Code, Method, Class}
+use Rattle.dex_lines.specs.Lines.{direct_line, virtual_line}
+use Rattle.dex_lines.specs.declared.stage.Stage.{Stage}
+use Rattle.dex_lines.specs.declared.stage.Stage.TheVariants.{Members, Behind}
+use Rattle.dex_lines.specs.Places.{may_stand, is_in_class}
+use Rattle.dex_draft.specs.Members.{KeysAreSorted, method_key}
+use Rattle.dex_draft.specs.States.{State, Open, Body, placed, counted, noted, owned, with_direct, with_virtual, with_code, with_code_at}
+use Rattle.dex_draft.proofs.MemberLaws.{AllBelow, place_last, put_last}
+use Rattle.dex_draft.proofs.CloseLaws.{with_code_more, with_code_first}
+use Rattle.dex_print.specs.Printed.{keyed_text}
+use Rattle.dex_print.specs.Canon.{body_text, direct_text, virtual_text}
+use Rattle.dex_listing_laws.proofs.Runs.{in_stage}
+use Rattle.dex_listing_laws.proofs.Printable.{BodyFits, MethodFits}
+use Rattle.dex_listing_laws.proofs.KeyedLaws.{keyed_runs}
+use Rattle.dex_listing_laws.proofs.CodeRuns.{nothing_runs}
+use Rattle.dex_listing_laws.proofs.WholeCode.{code_runs}
+use Rattle.dex_listing_laws.proofs.InClass.{InClass, in_then, each_runs}
+
+-- ---- the code of the method that was read last
+
+-- the method with this code, or without
+abbrev pub coded : Method → Option Code → Method
+coded m o = record m { code = o }
+
+code_last : (ms : List Method) (m : Method) (c : Code) → with_code (ms ++ m ∷ []) (length ms) c ≡ ms ++ coded m (Some c) ∷ []
+code_last [] m c = with_code_first m [] c
+code_last (l ∷ ms) m c = with_code_more l (ms ++ m ∷ []) (length ms) c ∙ ap (λ t. l ∷ t) (code_last ms m c)
+
+-- Where methods stand in the class, a code goes to the one at its place.
+abbrev PutsCode : (List Method → Open) → Bool → Type 0
+PutsCode with direct = (ms : List Method) (n : ℕ) (c : Code) → with_code_at (with ms) direct n c ≡ with (with_code ms n c)
+
+body_runs : (done : List Class) (with : List Method → Open) (direct : Bool) (b : Body) (n : ℕ) (before : List Method) (m : Method) (o : Option Code) → PutsCode with direct → BodyFits o
+    → InClass done (in_stage Behind done (with (before ++ coded m None ∷ [])) None (owned b direct (length before)) n) (body_text o) (with (before ++ coded m o ∷ []))
+body_runs done with direct b n before m None p f =
+    let d = owned b direct (length before) in
+    record { stage = Behind; body = d; lines = n; runs = nothing_runs (in_stage Behind done (with (before ++ coded m None ∷ [])) None d n); in_class = refl }
+body_runs done with direct b n before m (Some c) p f =
+    let d = owned b direct (length before) in
+    let o = with (before ++ coded m None ∷ []) in
+    let y = code_runs done o d n c f in
+    let e : with_code_at o direct (length before) c ≡ with (before ++ coded m (Some c) ∷ []) = p (before ++ coded m None ∷ []) (length before) c ∙ ap with (code_last before (coded m None) c) in
+    subst (λ (q : Open). InClass done (in_stage Behind done o None d n) (body_text (Some c)) q) e (record { stage = Members; body = y.1; lines = y.0; runs = y.2; in_class = refl })
+
+-- ---- direct methods
+
+abbrev with_directs : Open → List Method → Open
+with_directs o ms = record o { directs = ms }
+
+direct_last : (s : State) (m : Method) → AllBelow (map (method_key s.current.ty) s.current.directs) (method_key s.current.ty m)
+    → placed s (direct_line m) ≡ Some (record s { stage = Behind; current = record s.current { directs = s.current.directs ++ m ∷ [] }; body = owned s.body true (length s.current.directs) })
+unfolding placed with_direct
+direct_last s m h = rw (place_last (map (method_key s.current.ty) s.current.directs) (method_key s.current.ty m) h, length-map s.current.directs (method_key s.current.ty), put_last m s.current.directs) refl
+
+direct_line_runs : (done : List Class) (o : Open) (st : Stage) (b : Body) (n : ℕ) (before : List Method) (m : Method) → is_in_class st ≡ true → MethodFits m → AllBelow (map (method_key o.ty) before) (method_key o.ty m)
+    → InClass done (in_stage st done (with_directs o before) None b n) (keyed_text (direct_line m)) (with_directs o (before ++ coded m None ∷ []))
+unfolding may_stand
+direct_line_runs done o st b n before m k f h =
+    let s = in_stage st done (with_directs o before) None b n in
+    let d = owned b true (length before) in
+    let t = in_stage Behind done (with_directs o (before ++ coded m None ∷ [])) None d (n + 1) in
+    let l = direct_line (coded m None) in
+    record { stage = Behind; body = d; lines = n + 1; runs = keyed_runs s t l refl f.0 k (direct_last (noted (counted s) l) (coded m None) h); in_class = refl }
+
+direct_step : (done : List Class) (o : Open) (st : Stage) (b : Body) (n : ℕ) (before : List Method) (m : Method) → is_in_class st ≡ true → MethodFits m → AllBelow (map (method_key o.ty) before) (method_key o.ty m)
+    → InClass done (in_stage st done (with_directs o before) None b n) (direct_text m) (with_directs o (before ++ m ∷ []))
+unfolding direct_line_runs
+direct_step done o st b n before m k f h =
+    in_then done (in_stage st done (with_directs o before) None b n) (keyed_text (direct_line m)) (body_text m.code) (with_directs o (before ++ coded m None ∷ [])) (with_directs o (before ++ m ∷ []))
+    (direct_line_runs done o st b n before m k f h)
+    (body_runs done (with_directs o) true b (n + 1) before m m.code (λ ms i c. refl) f.1)
+
+pub directs_run : (done : List Class) (o : Open) (ms : List Method) (st : Stage) (b : Body) (n : ℕ) → is_in_class st ≡ true → AllByRecursion MethodFits ms → KeysAreSorted (map (method_key o.ty) ms)
+    → InClass done (in_stage st done (with_directs o []) None b n) (flat_map direct_text ms) (with_directs o ms)
+directs_run done o ms st b n k f s = each_runs done direct_text (with_directs o) MethodFits (method_key o.ty) (direct_step done o) ms [] st b n k f s
+
+-- ---- virtual methods
+
+abbrev with_virtuals : Open → List Method → Open
+with_virtuals o ms = record o { virtuals = ms }
+
+virtual_last : (s : State) (m : Method) → AllBelow (map (method_key s.current.ty) s.current.virtuals) (method_key s.current.ty m)
+    → placed s (virtual_line m) ≡ Some (record s { stage = Behind; current = record s.current { virtuals = s.current.virtuals ++ m ∷ [] }; body = owned s.body false (length s.current.virtuals) })
+unfolding placed with_virtual
+virtual_last s m h = rw (place_last (map (method_key s.current.ty) s.current.virtuals) (method_key s.current.ty m) h, length-map s.current.virtuals (method_key s.current.ty), put_last m s.current.virtuals) refl
+
+virtual_line_runs : (done : List Class) (o : Open) (st : Stage) (b : Body) (n : ℕ) (before : List Method) (m : Method) → is_in_class st ≡ true → MethodFits m → AllBelow (map (method_key o.ty) before) (method_key o.ty m)
+    → InClass done (in_stage st done (with_virtuals o before) None b n) (keyed_text (virtual_line m)) (with_virtuals o (before ++ coded m None ∷ []))
+unfolding may_stand
+virtual_line_runs done o st b n before m k f h =
+    let s = in_stage st done (with_virtuals o before) None b n in
+    let d = owned b false (length before) in
+    let t = in_stage Behind done (with_virtuals o (before ++ coded m None ∷ [])) None d (n + 1) in
+    let l = virtual_line (coded m None) in
+    record { stage = Behind; body = d; lines = n + 1; runs = keyed_runs s t l refl f.0 k (virtual_last (noted (counted s) l) (coded m None) h); in_class = refl }
+
+virtual_step : (done : List Class) (o : Open) (st : Stage) (b : Body) (n : ℕ) (before : List Method) (m : Method) → is_in_class st ≡ true → MethodFits m → AllBelow (map (method_key o.ty) before) (method_key o.ty m)
+    → InClass done (in_stage st done (with_virtuals o before) None b n) (virtual_text m) (with_virtuals o (before ++ m ∷ []))
+unfolding virtual_line_runs
+virtual_step done o st b n before m k f h =
+    in_then done (in_stage st done (with_virtuals o before) None b n) (keyed_text (virtual_line m)) (body_text m.code) (with_virtuals o (before ++ coded m None ∷ [])) (with_virtuals o (before ++ m ∷ []))
+    (virtual_line_runs done o st b n before m k f h)
+    (body_runs done (with_virtuals o) false b (n + 1) before m m.code (λ ms i c. refl) f.1)
+
+pub virtuals_run : (done : List Class) (o : Open) (ms : List Method) (st : Stage) (b : Body) (n : ℕ) → is_in_class st ≡ true → AllByRecursion MethodFits ms → KeysAreSorted (map (method_key o.ty) ms)
+    → InClass done (in_stage st done (with_virtuals o []) None b n) (flat_map virtual_text ms) (with_virtuals o ms)
+virtuals_run done o ms st b n k f s = each_runs done virtual_text (with_virtuals o) MethodFits (method_key o.ty) (virtual_step done o) ms [] st b n k f s

@@ -1,0 +1,5 @@
+use Rattle.std.proofs.Common.{◌≡◌, ◌<◌, ◌≤◌, ℕ, List, map, length, get_or, refl, arith, sym, subst, rules}
+use Rattle.dex_rules.proofs.nested.names_are_valid_in.Goals as goal
+
+pub loop-levels-preserved : goal.loop-levels-preserved
+loop-levels-preserved c = c.again-known.ensures _ c.loop-levels.invariant
