@@ -1,28 +1,23 @@
 -- What holds breaks no rule: class rows, static values, code.
-use Rattle.std.proofs.Common.{◌≡◌, ◌≢◌, ℕ, ◌+◌, ◌-◌, ◌<◌, ◌≤◌, ◌⊎◌, inl, inr, Bool, true, false, List, [], ◌∷◌, length, take, drop, map, Option, Some, None, refl, sym, ap, ◌∙◌, subst, arith, slice_get}
-use Rattle.std.specs.Prelude.{MatchBool, ◌==◌, MatchOption, slice_index}
+use Rattle.std.proofs.Common.{◌≡◌, ◌≢◌, ℕ, ◌+◌, ◌-◌, ◌<◌, ◌≤◌, inl, inr, Bool, true, false, List, [], length, take, drop, Option, Some, None, refl, sym, ap, ◌∙◌, subst, arith}
+use Rattle.std.specs.Prelude.{MatchBool, ◌==◌}
 use Rattle.std.proofs.lemmas.List.{length-map, take-take, take-append-drop}
-use Rattle.std.proofs.lemmas.Bool.{eqb-true}
-use Rattle.std.proofs.lemmas.Option.{slice_get_within}
 use Rattle.dex_bytes.specs.declared.fault.Fault.{Fault}
 use Rattle.dex_base.specs.Descriptor.{IsClass}
-use Rattle.dex_bytes.specs.Grammar.{Takes}
-use Rattle.dex_bytes.proofs.WeakerLaws.{Implies}
 use Rattle.dex_container.specs.Faults.{on}
 use Rattle.dex_container.specs.Frame.{IsFramed}
 use Rattle.dex_container.specs.Layout.{size_of}
 use Rattle.dex_container.proofs.Framed.{IsSection-one}
-use Rattle.dex_program.specs.Content.{Units, Name, Value, Code, Class, Member, Method}
-use Rattle.dex_tables.specs.Names.{Names, AreNamesOf, NameIsAt}
-use Rattle.dex_tables.specs.Sorted.{RowsHold, TablesHold}
+use Rattle.dex_program.specs.Content.{Units, Name, Value, Member, Method}
+use Rattle.dex_tables.specs.Names.{NameIsAt}
 use Rattle.dex_tables.specs.Stands.{StringStands, TypeStands, NameStands}
-use Rattle.dex_container.specs.Where.{slice, At}
+use Rattle.dex_container.specs.Where.{slice}
 use Rattle.dex_tables.proofs.TypeLists.{type_one}
 use Rattle.dex_tables.proofs.NameLaws.{field_one, method_one, stands_names}
 use Rattle.dex_value.specs.Spelling.{SpellsArray}
 use Rattle.dex_value.specs.Standing.{ArrayStands}
 use Rattle.dex_value.specs.Unique.{IsFunctional}
-use Rattle.dex_value.specs.Faults.{ArrayBreaks, IsRest, ArrayBreaksAt}
+use Rattle.dex_value.specs.Faults.{IsRest, ArrayBreaksAt}
 use Rattle.dex_value.proofs.Namings.{NameIsAt-functional}
 use Rattle.dex_value.proofs.Places.{outside_none}
 use Rattle.dex_value.proofs.Refusing.{array_none}
@@ -30,9 +25,9 @@ use Rattle.dex_value.proofs.Weaker.{SpellsArray-weaker}
 use Rattle.dex_code.proofs.CarryLaws.{code_weaker}
 use Rattle.dex_code.proofs.CodeLaws.{broken_none}
 use Rattle.dex_class.specs.ClassRows.{class_word, no_index, IndexOrNone}
-use Rattle.dex_class.specs.ClassData.{FieldEntry, MethodEntry, Entries, EntriesAt, steps, index_of, IsRun}
-use Rattle.dex_class.specs.Classes.{IsField, IsMethod, HeadIs, StaticsAt, CodeAt, SomeCodeStands}
-use Rattle.dex_class.specs.ClassFaults.{EntryBreaks, FieldOwner, MethodOwner, OneBreaks, ClassBreaks, ClassHolds, ValuesStand, ValuesHold, ValuesBreak, CodesHold, CodesBreak, MethodsHold, MethodsBreak}
+use Rattle.dex_class.specs.ClassData.{FieldEntry, MethodEntry, Entries, steps, index_of, IsRun}
+use Rattle.dex_class.specs.Classes.{IsField, IsMethod, SomeCodeStands}
+use Rattle.dex_class.specs.ClassFaults.{EntryBreaks, FieldOwner, MethodOwner, OneBreaks, ClassBreaks, ClassHolds, ValuesHold, ValuesBreak, CodesHold, CodesBreak, MethodsHold, MethodsBreak}
 use Rattle.dex_class.proofs.EntryLaws.{entries_one, entry_at, at_some}
 
 -- a fact of this number, or of another

@@ -1,12 +1,12 @@
 -- The entries of class data: one list at a place, and what a run of them says.
-use Rattle.std.proofs.Common.{◌≡◌, ◌≢◌, ℕ, zero, suc, ◌+◌, ◌<◌, ◌≤◌, Bool, true, false, List, [], ◌∷◌, ◌++◌, length, map, Option, Some, inl, inr, refl, sym, ap, ◌∙◌, subst, arith, slice_get, get_or}
+use Rattle.std.proofs.Common.{◌≡◌, ◌≢◌, ℕ, zero, suc, ◌+◌, ◌<◌, Bool, true, false, List, [], ◌∷◌, ◌++◌, length, Option, Some, inl, inr, refl, sym, ap, ◌∙◌, subst, arith, slice_get}
 use Rattle.std.specs.Prelude.{MatchBool, ◌==◌, slice_index}
-use Rattle.std.proofs.lemmas.List.{length-map, length_push}
+use Rattle.std.proofs.lemmas.List.{length_push}
 use Rattle.std.proofs.lemmas.Bool.{cases_lt, eqb-true}
 use Rattle.std.proofs.lemmas.Option.{slice_get_within}
-use Rattle.dex_bytes.specs.Grammar.{IsPrefixUnique, Then, Pair, Many, Seen}
+use Rattle.dex_bytes.specs.Grammar.{IsPrefixUnique, Pair, Many}
 use Rattle.dex_bytes.specs.Leb128.{Spells}
-use Rattle.dex_bytes.proofs.GrammarLaws.{Then-unique, Pair-unique, Many-unique, Seen-unique}
+use Rattle.dex_bytes.proofs.GrammarLaws.{Then-unique, Pair-unique, Many-unique}
 use Rattle.dex_bytes.proofs.Numbers.{spells_unique}
 use Rattle.dex_container.specs.Frame.{IsFramed}
 use Rattle.dex_container.specs.Where.{At}

@@ -1,5 +1,5 @@
 -- Class rows, their interfaces and their order.
-use Rattle.std.proofs.Common.{◌≡◌, ◌≢◌, ℕ, zero, suc, ◌+◌, ◌*◌, ◌/◌, ◌<◌, ◌≤◌, ◌⊎◌, inl, inr, Bool, true, false, List, [], ◌∷◌, ◌++◌, length, map, take, get_or, Option, Some, None, option_map, refl, sym, ap, ◌∙◌, subst, arith, slice_get}
+use Rattle.std.proofs.Common.{◌≡◌, ◌≢◌, ℕ, zero, suc, ◌+◌, ◌*◌, ◌/◌, ◌<◌, ◌≤◌, inl, inr, List, [], ◌∷◌, length, map, get_or, Option, Some, None, option_map, sym, ap, ◌∙◌, subst, arith, slice_get}
 use Rattle.std.specs.List.{AllByRecursion}
 use Rattle.std.proofs.lemmas.Bool.{cases_lt}
 use Rattle.std.proofs.lemmas.Option.{slice_get_within, slice_get-get_or, slice_get-map}
@@ -14,7 +14,7 @@ use Rattle.dex_tables.specs.Stands.{TypesAt}
 use Rattle.dex_tables.proofs.TypeLists.{types_one}
 use Rattle.dex_class.specs.Classes.{AreDistinct, InterfacesAt}
 use Rattle.dex_class.specs.Reading.{IsNotAmong}
-use Rattle.dex_class.specs.ClassRows.{class_word, no_index, IndexOrNone, NoneDefines, InterfaceIndexes}
+use Rattle.dex_class.specs.ClassRows.{class_word, NoneDefines, InterfaceIndexes}
 use Rattle.dex_tables.specs.Halves.{halves}
 use Rattle.dex_tables.proofs.HalvesLaws.{list_or_none_one}
 use Rattle.dex_class.proofs.EntryLaws.{entry_at}

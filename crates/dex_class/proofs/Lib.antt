@@ -7,3 +7,4 @@ pub mod HeadLaws
 pub mod StaticsLaws
 pub mod MethodLaws
 pub mod OnceLaws
+pub mod SeenLaws

@@ -1,12 +1,12 @@
 -- Entries in memory, read one by one by their indices.
-use Rattle.std.proofs.Common.{◌≡◌, ◌≢◌, ℕ, zero, suc, ◌+◌, ◌<◌, ◌≤◌, Bool, true, false, inl, inr, List, [], ◌∷◌, ◌++◌, length, map, take, get_or, Option, Some, option_map, refl, sym, ap, ◌∙◌, subst, arith, slice_get}
+use Rattle.std.proofs.Common.{◌≡◌, ◌≢◌, ℕ, zero, suc, ◌+◌, ◌<◌, ◌≤◌, Bool, true, false, inl, inr, List, [], ◌∷◌, length, map, take, get_or, Some, option_map, refl, sym, ap, ◌∙◌, subst, arith, slice_get}
 use Rattle.std.specs.Prelude.{MatchBool, ◌==◌, slice_index, sum}
 use Rattle.std.proofs.lemmas.Grind.{common_steps}
 use Rattle.std.proofs.lemmas.List.{length-map}
 use Rattle.std.proofs.lemmas.Option.{slice_get-get_or, slice_get-map, slice_get_within, same_Some}
 use Rattle.dex_bytes.specs.declared.fault.Fault.{Fault}
 use Rattle.dex_container.specs.Faults.{on}
-use Rattle.dex_program.specs.Content.{Units, FieldRef, MethodRef}
+use Rattle.dex_program.specs.Content.{Units, FieldRef}
 use Rattle.dex_tables.specs.Stands.{TypeStands, FieldStands, MethodStands}
 use Rattle.dex_class.specs.ClassData.{FieldEntry, MethodEntry, Entries, EntriesAt, steps, index_of, Runs, IsRun}
 use Rattle.std.proofs.lemmas.Bool.{cases_lt, eqb-true}

@@ -1,5 +1,5 @@
 -- Methods with their code, and the class that they complete.
-use Rattle.std.proofs.Common.{◌≡◌, ◌≢◌, ℕ, ◌+◌, ◌<◌, ◌≤◌, inl, inr, List, [], ◌∷◌, ◌++◌, length, map, Option, Some, None, option_map, refl, sym, ap, ◌∙◌, subst, arith, slice_get, get_or}
+use Rattle.std.proofs.Common.{◌≡◌, ◌≢◌, ℕ, ◌+◌, ◌<◌, inl, inr, List, [], ◌∷◌, ◌++◌, length, map, Option, Some, option_map, refl, sym, ap, ◌∙◌, subst, arith, slice_get, get_or}
 use Rattle.dex_class.proofs.StaticsLaws.{at_other}
 use Rattle.std.proofs.lemmas.Bool.{cases_lt}
 use Rattle.std.proofs.lemmas.List.{length-map, length_push}
@@ -18,7 +18,7 @@ use Rattle.dex_code.specs.Faults.{CodeBreaks}
 use Rattle.dex_tables.proofs.RowReading.{slice_get-push}
 use Rattle.dex_class.specs.ClassData.{MethodEntry, Entries, steps, index_of, IsRun}
 use Rattle.dex_class.specs.ClassRows.{class_word}
-use Rattle.dex_class.specs.Classes.{IsMethod, HeadIs, StaticsAt, CodeAt, CodesAre, SpellsClass}
+use Rattle.dex_class.specs.Classes.{IsMethod, StaticsAt, CodeAt, CodesAre, SpellsClass}
 use Rattle.dex_class.specs.ClassFaults.{ValuesStand, CodeHolds, CodesHold, CodesBreak, MethodsHold, MethodsBreak}
 use Rattle.dex_class.specs.Reading.{bare, head, HaveCodes, IsHead, IsDone, AreDone, CodeFails, BaresBreak}
 use Rattle.dex_class.specs.declared.members.Bare.{Bare}

@@ -1,24 +1,24 @@
 -- A row spells one class.
-use Rattle.std.proofs.Common.{◌≡◌, ◌≢◌, ℕ, ◌<◌, Bool, true, false, List, [], length, take, drop, Option, Some, None, refl, sym, ap, ◌∙◌, subst, arith, slice_get}
+use Rattle.std.proofs.Common.{◌≡◌, ℕ, Bool, true, false, List, [], length, Option, Some, None, refl, sym, ap, ◌∙◌, subst, arith}
 use Rattle.std.specs.Prelude.{MatchBool, ◌==◌}
 use Rattle.std.proofs.lemmas.Option.{slice_get_within}
 use Rattle.dex_container.specs.Frame.{IsFramed}
-use Rattle.dex_program.specs.Content.{Units, FieldRef, MethodRef, Name, OfText, OfDesc, OfField, OfMethod, Value, Code, Member, Method, Class, Program}
+use Rattle.dex_program.specs.Content.{Units, OfText, OfDesc, OfField, OfMethod, Value, Code, Member, Method, Class}
 use Rattle.dex_tables.specs.Stands.{StringStands, TypeStands, NameStands}
 use Rattle.dex_container.proofs.Standing.{At-one}
 use Rattle.dex_tables.proofs.RowReading.{string_one}
 use Rattle.dex_tables.proofs.TypeLists.{type_one, types_one}
 use Rattle.dex_tables.proofs.NameLaws.{field_one, method_one}
-use Rattle.dex_value.specs.Spelling.{SpellsArray, type_of}
+use Rattle.dex_value.specs.Spelling.{SpellsArray}
 use Rattle.dex_value.specs.Standing.{ArrayStands}
 use Rattle.dex_value.specs.Unique.{IsFunctional}
 use Rattle.dex_insn.specs.declared.opcode.IndexKind.TheVariants as kind
 use Rattle.dex_code_insns.specs.Symbols as code
 use Rattle.dex_value.proofs.FrontLaws.{SpellsArray-unique}
 use Rattle.dex_code.proofs.CodeLaws.{code_one}
-use Rattle.dex_class.specs.ClassRows.{class_word, no_index, IndexOrNone}
+use Rattle.dex_class.specs.ClassRows.{class_word, IndexOrNone}
 use Rattle.dex_class.specs.ClassData.{FieldEntry, MethodEntry, Entries, steps, index_of, IsRun}
-use Rattle.dex_class.specs.Classes.{IsField, IsMethod, StaticsAt, CodeAt, SomeCodeStands, CodesAre, HeadIs, SpellsClass}
+use Rattle.dex_class.specs.Classes.{IsField, IsMethod, StaticsAt, CodeAt, SomeCodeStands, CodesAre, SpellsClass}
 use Rattle.dex_class.proofs.EntryLaws.{entries_one, entry_at, list_same, run_one}
 
 -- an index stands for one name of a kind

@@ -1,5 +1,5 @@
 -- Static values of a row, by the names of the tables.
-use Rattle.std.proofs.Common.{◌≡◌, ◌≢◌, ℕ, ◌<◌, Bool, true, false, List, [], length, map, Some, refl, sym, ap, ◌∙◌, subst, arith, slice_get}
+use Rattle.std.proofs.Common.{◌≡◌, ◌≢◌, ℕ, ◌<◌, Bool, true, false, List, [], length, refl, sym, ap, ◌∙◌, subst}
 use Rattle.std.specs.Prelude.{MatchBool, ◌==◌}
 use Rattle.std.proofs.lemmas.Bool.{eqb-true, eq-eqb}
 use Rattle.std.proofs.lemmas.List.{length-map}
@@ -16,7 +16,6 @@ use Rattle.dex_tables.proofs.NameLaws.{names_stand}
 use Rattle.dex_value.specs.Standing.{ArrayStands}
 use Rattle.dex_value.specs.Faults.{ArrayBreaksAt}
 use Rattle.dex_class.specs.ClassRows.{class_word}
-use Rattle.dex_class.specs.Classes.{StaticsAt}
 use Rattle.dex_class.specs.ClassFaults.{ValuesStand, ValuesBreak, IsFirstClass, at_row}
 use Rattle.dex_class.specs.Reading.{IsHead}
 use Rattle.dex_class.specs.declared.heads.Head.{Head}

@@ -8,7 +8,7 @@ use Rattle.dex_container.specs.declared.section.Section.{Section}
 use Rattle.dex_container.specs.Where.{slice, At, IsInSection}
 use Rattle.dex_container.specs.Where.{IsSectionOf}
 use Rattle.dex_container.proofs.Standing.{at_place, stands_at, stands_not, mod_one}
-use Rattle.dex_bytes.specs.Grammar.{Begins, NoneBegins, Takes, IsPrefixUnique, Then, Pair, Each, Many}
+use Rattle.dex_bytes.specs.Grammar.{NoneBegins, Takes, IsPrefixUnique, Then, Pair, Each, Many}
 use Rattle.dex_bytes.specs.Leb128.{Spells}
 use Rattle.dex_bytes.proofs.GrammarLaws.{Then-none_first, Many-none, Many-unique}
 use Rattle.dex_bytes.proofs.TakesLaws.{Begins-from_takes, Takes-unique, Takes-then, Then-takes, NoneBegins-from_takes, Takes-each_none, Takes-each_push}

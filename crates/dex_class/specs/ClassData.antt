@@ -1,5 +1,5 @@
 -- What a class defines, as numbers (Dalvik Executable format, "class_data_item", "encoded_field", "encoded_method").
-use Rattle.std.specs.Prelude.{◌≡◌, ℕ, ◌+◌, ◌<◌, ◌≤◌, ◌==◌, List, [], length, map, take, sum, MatchBool, Some, slice_index}
+use Rattle.std.specs.Prelude.{◌≡◌, ℕ, ◌+◌, ◌<◌, ◌==◌, List, [], length, map, take, sum, MatchBool, Some, slice_index}
 use Rattle.std.specs.List.{slice_get}
 use Rattle.dex_bytes.specs.Grammar.{Then, Pair, Many}
 use Rattle.dex_bytes.specs.Leb128.{Spells}

@@ -1,6 +1,6 @@
 -- Which class a row of class_defs spells (Dalvik Executable format, "class_def_item", "class_data_item"), in the parts that
 -- are checked one after the other: the head, the static values, the code.
-use Rattle.std.specs.Prelude.{◌≡◌, ◌≢◌, ℕ, ◌==◌, List, [], length, Option, Some, None, MatchBool}
+use Rattle.std.specs.Prelude.{◌≡◌, ℕ, ◌==◌, List, [], length, Option, Some, None, MatchBool}
 use Rattle.std.specs.List.{AllByRecursion, slice_get}
 use Rattle.dex_base.specs.Descriptor.{IsClass}
 use Rattle.dex_program.specs.Content.{Units, Value, Code, Member, Method, Class}

@@ -1,11 +1,10 @@
 -- What the private functions of reading say.
-use Rattle.std.specs.Prelude.{◌≡◌, ◌≢◌, ℕ, ◌<◌, ◌≤◌, List, [], length, map, option_map, Option, Some, None}
+use Rattle.std.specs.Prelude.{◌≡◌, ◌≢◌, ℕ, ◌<◌, ◌≤◌, List, [], length, map, option_map, Some, None}
 use Rattle.std.specs.List.{slice_get}
 use Rattle.dex_bytes.specs.declared.fault.Fault.{Fault}
 use Rattle.dex_container.specs.Faults.{on}
 use Rattle.dex_program.specs.Content as content
 use Rattle.dex_program.specs.View.{str, desc, proto, member, value}
-use Rattle.dex_program.specs.declared.value.Value.{Value}
 use Rattle.dex_class.specs.declared.class_data.FieldEntry.{FieldEntry}
 use Rattle.dex_class.specs.declared.class_data.MethodEntry.{MethodEntry}
 use Rattle.dex_class.specs.declared.class_data.Counts.{Counts}

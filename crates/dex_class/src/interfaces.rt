@@ -13,7 +13,11 @@ use dex_base::{Fault, is_class};
 use dex_container::Sections;
 use dex_program::{Desc, desc_eq};
 use dex_tables::Tables;
+use indexmap::IndexSet;
 use std::alloc::Global;
+
+/// How many types are compared pair by pair, without memory.
+const FEW: usize = 8;
 
 // Whether all of the types are class types.
 fn are_classes(types: &[Desc<'_>]) -> bool
@@ -40,8 +44,8 @@ fn is_new(types: &[Desc<'_>], n: usize) -> bool
     true
 }
 
-// Whether no type stands twice.
-fn are_distinct(types: &[Desc<'_>]) -> bool
+// Whether none of a few types stands twice.
+fn are_few_distinct(types: &[Desc<'_>]) -> bool
     ensures { IsTrue result ↔ AreDistinct (map desc types.now) }
 {
     for n in 0..types.len() {
@@ -50,6 +54,31 @@ fn are_distinct(types: &[Desc<'_>]) -> bool
         }
     }
     true
+}
+
+// The same of many: time that grows with their number.
+fn are_many_distinct(alloc: Global, types: &[Desc<'_>]) -> Result<bool, Fault>
+    ensures ok { IfOk result (λ yes. IsTrue yes ↔ AreDistinct (map desc types.now)) }
+    ensures memory { IsOkUnless result memory }
+{
+    let mut seen = IndexSet::new(alloc);
+    for n in 0..types.len() {
+        if !seen.insert(types[n])? {
+            return Ok(false);
+        }
+    }
+    Ok(true)
+}
+
+// Whether no type stands twice.
+fn are_distinct(alloc: Global, types: &[Desc<'_>]) -> Result<bool, Fault>
+    ensures ok { IfOk result (λ yes. IsTrue yes ↔ AreDistinct (map desc types.now)) }
+    ensures memory { IsOkUnless result memory }
+{
+    if types.len() <= FEW {
+        return Ok(are_few_distinct(types));
+    }
+    are_many_distinct(alloc, types)
 }
 
 /// The interfaces at an offset, in the arena. None where no list of distinct class types stands there.
@@ -72,7 +101,7 @@ pub(crate) fn read_interfaces<'a>(
     if !are_classes(types) {
         return Ok(None);
     }
-    if !are_distinct(types) {
+    if !are_distinct(alloc, types)? {
         return Ok(None);
     }
     Ok(Some(types))

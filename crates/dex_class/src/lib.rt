@@ -13,6 +13,7 @@ mod class_row;
 mod interfaces;
 mod members;
 mod order;
+mod owners;
 mod places;
 
 // The passes over all rows.

@@ -14,12 +14,13 @@ ghost use Rattle.dex_class.specs.Reading as numbers;
 ghost use Rattle.dex_class.specs.Reading.{MembersStand, field_entry, method_entry, IsBare, IndexFails, EntriesFail};
 
 use crate::class_data::{Entries, FieldEntry, MethodEntry};
-use crate::class_row::class_place;
+use crate::class_row::{class_place, class_word};
+use crate::owners::{is_field_of, is_method_of};
 use bumpalo::Bump;
 use bumpalo::collections::into_bump_slice;
 use dex_base::{Fault, fault};
 use dex_container::{Sections, kind};
-use dex_program::{Desc, FieldRef, Member, MethodRef, desc_eq};
+use dex_program::{Desc, FieldRef, Member, MethodRef};
 use dex_tables::Tables;
 
 /// A method before its code is looked at.
@@ -43,11 +44,13 @@ pub(crate) struct Members<'a, 's> {
 fn field_at<'a>(
     sections: &Sections<'_>,
     tables: &Tables<'a>,
+    row: u32,
     class: Desc<'_>,
     place: u64,
     index: u64,
 ) -> Result<&'a FieldRef<'a>, Fault>
     requires names { AreNamesOf sections.now tables.now }
+    requires class { TypeStands sections.now row (desc class) }
     ensures stands { IfOk result (λ f. FieldStands sections.now index (field_ref f.now)) }
     ensures class { IfOk result (λ f. desc f.now.class ≡ desc class.entry) }
     ensures small { IfOk result (λ _. index < 2 ^ 32) }
@@ -66,7 +69,7 @@ fn field_at<'a>(
             place,
         });
     };
-    if !desc_eq(&field.class, &class) {
+    if !is_field_of(sections, index as u32, field, row, class) {
         return Err(Fault {
             code: fault::MEMBER_OWNER,
             place,
@@ -79,11 +82,13 @@ fn field_at<'a>(
 fn method_at<'a>(
     sections: &Sections<'_>,
     tables: &Tables<'a>,
+    row: u32,
     class: Desc<'_>,
     place: u64,
     index: u64,
 ) -> Result<&'a MethodRef<'a>, Fault>
     requires names { AreNamesOf sections.now tables.now }
+    requires class { TypeStands sections.now row (desc class) }
     ensures stands { IfOk result (λ m. MethodStands sections.now index (method_ref m.now)) }
     ensures class { IfOk result (λ m. desc m.now.class ≡ desc class.entry) }
     ensures small { IfOk result (λ _. index < 2 ^ 32) }
@@ -102,7 +107,7 @@ fn method_at<'a>(
             place,
         });
     };
-    if !desc_eq(&method.class, &class) {
+    if !is_method_of(sections, index as u32, method, row, class) {
         return Err(Fault {
             code: fault::MEMBER_OWNER,
             place,
@@ -116,11 +121,13 @@ pub(crate) fn read_fields<'a>(
     arena: &'a Bump,
     sections: &Sections<'_>,
     tables: &Tables<'a>,
+    row: u32,
     class: Desc<'_>,
     place: u64,
     entries: &[FieldEntry],
 ) -> Result<&'a [Member<'a>], Fault>
     requires names { AreNamesOf sections.now tables.now }
+    requires class { TypeStands sections.now row (desc class) }
     ensures ok { IfOk result (λ fields. IsRun (IsField sections.now (desc class.entry)) (map field_entry entries.now) (map member fields.now)) }
     ensures err { IfErr result (λ e. e ≢ memory →
         EntriesFail (FieldOwner sections.now) (size_of sections.now 3) (desc class.entry) (steps (map field_entry entries.now)) place e) }
@@ -129,7 +136,7 @@ pub(crate) fn read_fields<'a>(
     let mut index: u64 = 0;
     for entry in entries {
         index += u64::from(entry.step);
-        let field = field_at(sections, tables, class, place, index)?;
+        let field = field_at(sections, tables, row, class, place, index)?;
         if entry.step == 0 && fields.len() > 0 {
             return Err(Fault {
                 code: fault::MEMBER_ORDER,
@@ -150,11 +157,13 @@ pub(crate) fn read_bares<'a, 's>(
     scratch: &'s Bump,
     sections: &Sections<'_>,
     tables: &Tables<'a>,
+    row: u32,
     class: Desc<'_>,
     place: u64,
     entries: &[MethodEntry],
 ) -> Result<&'s [Bare<'a>], Fault>
     requires names { AreNamesOf sections.now tables.now }
+    requires class { TypeStands sections.now row (desc class) }
     ensures ok { IfOk result (λ bares. IsRun (IsBare sections.now (desc class.entry)) (map method_entry entries.now) bares.now) }
     ensures err { IfErr result (λ e. e ≢ memory →
         EntriesFail (MethodOwner sections.now) (size_of sections.now 4) (desc class.entry) (steps (map method_entry entries.now)) place e) }
@@ -163,7 +172,7 @@ pub(crate) fn read_bares<'a, 's>(
     let mut index: u64 = 0;
     for entry in entries {
         index += u64::from(entry.step);
-        let method = method_at(sections, tables, class, place, index)?;
+        let method = method_at(sections, tables, row, class, place, index)?;
         if entry.step == 0 && bares.len() > 0 {
             return Err(Fault {
                 code: fault::MEMBER_ORDER,
@@ -197,10 +206,35 @@ pub(crate) fn read_members<'a, 's>(
     ensures err { IfErr result (λ e. e ≢ memory → BreaksAt ClassBreaks sections.now 5 i e) }
 {
     let place = class_place(sections, i);
-    let statics = read_fields(arena, sections, tables, class, place, &entries.statics)?;
-    let instances = read_fields(arena, sections, tables, class, place, &entries.instances)?;
-    let directs = read_bares(scratch, sections, tables, class, place, &entries.directs)?;
-    let virtuals = read_bares(scratch, sections, tables, class, place, &entries.virtuals)?;
+    let row = class_word(sections, i, 0);
+    let statics = read_fields(arena, sections, tables, row, class, place, &entries.statics)?;
+    let instances = read_fields(
+        arena,
+        sections,
+        tables,
+        row,
+        class,
+        place,
+        &entries.instances,
+    )?;
+    let directs = read_bares(
+        scratch,
+        sections,
+        tables,
+        row,
+        class,
+        place,
+        &entries.directs,
+    )?;
+    let virtuals = read_bares(
+        scratch,
+        sections,
+        tables,
+        row,
+        class,
+        place,
+        &entries.virtuals,
+    )?;
     Ok(Members {
         statics,
         instances,

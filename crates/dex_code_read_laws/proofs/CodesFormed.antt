@@ -40,11 +40,11 @@ use Rattle.dex_code_read_laws.proofs.Bytes.{take-bytes}
 use Rattle.dex_code_read_laws.proofs.NamesHaveRows.{at-offset}
 use Rattle.dex_code_read_laws.proofs.SaidLaws.{said, kind-said, Leads, branch-said, short-said, AllLed, targets-said, raw-bytes, operand-said}
 
-if-weaker : {A : Type 0} (P Q : A → Type 0) (o : Option A) → ((x : A) → P x → Q x) → IfSome o P → IfSome o Q
+pub if-weaker : {A : Type 0} (P Q : A → Type 0) (o : Option A) → ((x : A) → P x → Q x) → IfSome o P → IfSome o Q
 if-weaker P Q None f h = tt
 if-weaker P Q (Some x) f h = f x h
 
-all-weaker : {A : Type 0} (P Q : A → Type 0) (xs : List A) → ((x : A) → P x → Q x) → AllByRecursion P xs → AllByRecursion Q xs
+pub all-weaker : {A : Type 0} (P Q : A → Type 0) (xs : List A) → ((x : A) → P x → Q x) → AllByRecursion P xs → AllByRecursion Q xs
 all-weaker P Q [] f h = tt
 all-weaker P Q (x ∷ xs) f h = (f x h.0, all-weaker P Q xs f h.1)
 
@@ -67,7 +67,7 @@ plain-none _ e = refl
 
 module _ (N : ℕ → Name → Type 0) (us : List ℕ) (rs : List Raw) (is : List Insn) (s : SpellsInsns N us rs is) where
   -- of an instruction
-  kind-at : (k : ℕ) → k < length rs → payload_of (raw_at rs k) ≡ insn_payload (insn_at is k)
+  pub kind-at : (k : ℕ) → k < length rs → payload_of (raw_at rs k) ≡ insn_payload (insn_at is k)
   kind-at k l = let x = s.each k l in said (λ i. payload_of (raw_at rs k) ≡ insn_payload i) _ (insn_at is k) (kind-said (place (starts rs) x.base) (name_in (insn_at is k)) (raw_at rs k)) x.says.symbol
 
   wants-at : (k : ℕ) → k < length rs → wants (raw_at rs k) ≡ insn_wants (insn_at is k)
@@ -133,7 +133,7 @@ module _ (N : ℕ → Name → Type 0) (us : List ℕ) (rs : List Raw) (is : Lis
       by base (inl b) = switch-no_short (raw_at rs k) (Moves k base) b.0
       by base (inr b) = if-weaker (λ z. z ≢ pos 0) (Moves k base) (short_branch (raw_at rs k)) (λ z h. (h, b.1)) (s.branches k l).moves
 
-  no-targets : (r : Raw) → (IsSwitch (payload_of r) → ⊥) → targets r ≡ []
+  pub no-targets : (r : Raw) → (IsSwitch (payload_of r) → ⊥) → targets r ≡ []
   unfolding payload_of targets
   no-targets (raw.Packed first offsets) h = absurd (h tt)
   no-targets (raw.Sparse keys offsets) h = absurd (h tt)
@@ -173,7 +173,7 @@ module _ (N : ℕ → Name → Type 0) (us : List ℕ) (rs : List Raw) (is : Lis
         leads = some-inj (insn_reach (insn_at is j)) k (sym (reach-at j (payload_of (raw_at rs k)) a u.kind) ∙ u.leads);
       }
 
-  uses-of : (j k : ℕ) → Refers is j k → Uses rs j k
+  pub uses-of : (j k : ℕ) → Refers is j k → Uses rs j k
   uses-of j k f =
       let c = s.count in let a = f.there in let b = f.payload in
       let i : j < length rs = omega (arith, a, c) in
@@ -213,7 +213,7 @@ module _ (N : ℕ → Name → Type 0) (us : List ℕ) (rs : List Raw) (is : Lis
 
 -- ---- tries
 
-count-most : (ss : List ℕ) (x n : ℕ) → ((k : ℕ) → n ≤ k → k < length ss → x ≤ get_or ss k 0) → count_below x ss ≤ n
+pub count-most : (ss : List ℕ) (x n : ℕ) → ((k : ℕ) → n ≤ k → k < length ss → x ≤ get_or ss k 0) → count_below x ss ≤ n
 unfolding count_below
 count-most [] x n h = omega arith
 count-most (s ∷ ss) x zero h =
@@ -234,7 +234,7 @@ count-least (s ∷ ss) x (suc n) l h =
     grind (arith, nat_tests)
 
 -- what begins at an address is not below it, and nothing behind it is
-not-below : (ss : List ℕ) (n k x : ℕ) → Rises ss → n ≤ k → k < length ss → x ≤ get_or ss n 0 → x ≤ get_or ss k 0
+pub not-below : (ss : List ℕ) (n k x : ℕ) → Rises ss → n ≤ k → k < length ss → x ≤ get_or ss n 0 → x ≤ get_or ss k 0
 not-below ss n k x r l m h = elim (cases_lt n k) [
   | inl a ↦ let q = r.each n k a m in omega (arith, q, h)
   | inr a ↦ let e : n ≡ k = omega (arith, l, a) in subst (λ (j : ℕ). x ≤ get_or ss j 0) e h
@@ -287,7 +287,7 @@ module _ (N : ℕ → Name → Type 0) (ss : List ℕ) where
   handlers-formed list (suc n) hs s off h e = at-offset (SpellsHandler N ss) (HandlerFormed (length ss)) handler-formed (length s.front) s.back hs s.each off h e
 
   module _ (rises : Rises ss) (size n : ℕ) (items list : List ℕ) (ts : List Try) (s : SpellsTries N ss size n items list ts) where
-    from-at : (i : ℕ) → i < n → ((try_at ts i).from < length ss) × (get_or ss (try_at ts i).from 0 ≡ try_start items i)
+    pub from-at : (i : ℕ) → i < n → ((try_at ts i).from < length ss) × (get_or ss (try_at ts i).from 0 ≡ try_start items i)
     from-at i l = position-there ss (try_start items i) (try_at ts i).from (s.each i l).from
 
     try-formed : (i : ℕ) → i < n → TryFormed (length ss) ts i
@@ -319,7 +319,7 @@ module _ (N : ℕ → Name → Type 0) (ss : List ℕ) where
 
 -- ---- a code
 
-u16-fits : (b : List ℕ) (p : ℕ) → AreBytes b → u16_at b p < 65536
+pub u16-fits : (b : List ℕ) (p : ℕ) → AreBytes b → u16_at b p < 65536
 unfolding u16_at
 u16-fits b p are = let d = behind b p are in omega (arith, d 0, d 1)
 

@@ -22,7 +22,7 @@ use Rattle.dex_code_insns.proofs.Saying.{both-some}
 use Rattle.dex_code_read_laws.proofs.Bytes.{take-bytes, all-bytes}
 
 -- what holds of each answer holds of that of a function of it
-mapped : {A B : Type 0} (P : B → Type 0) (f : A → B) (o : Option A) → ((x : A) → o ≡ Some x → P (f x)) → IfSome (option_map f o) P
+pub mapped : {A B : Type 0} (P : B → Type 0) (f : A → B) (o : Option A) → ((x : A) → o ≡ Some x → P (f x)) → IfSome (option_map f o) P
 mapped P f None h = tt
 mapped P f (Some x) h = h x refl
 
@@ -118,11 +118,11 @@ targets-said T w _ = tt
 
 -- ---- operands
 
-length-ints_from : (b : List ℕ) (i n : ℕ) → length (ints_from b i n) ≡ n
+pub length-ints_from : (b : List ℕ) (i n : ℕ) → length (ints_from b i n) ≡ n
 length-ints_from b i zero = refl
 length-ints_from b i (suc n) = ap suc (length-ints_from b (i + 1) n)
 
-length-places : (T : ℤ → Option ℕ) (zs : List ℤ) (tos : List ℕ) → places T zs ≡ Some tos → length tos ≡ length zs
+pub length-places : (T : ℤ → Option ℕ) (zs : List ℤ) (tos : List ℕ) → places T zs ≡ Some tos → length tos ≡ length zs
 length-places T [] tos e = let s : [] ≡ tos = cc in sym (ap length s)
 length-places T (z ∷ zs) tos e =
     let s = both-some (T z) (places T zs) tos e in
@@ -161,7 +161,7 @@ RawBytes (raw.Sparse keys offsets) = AreBytes keys
 RawBytes (raw.Data width bytes) = AreBytes bytes × (length bytes ≤ 4294967295)
 RawBytes _ = ⊤
 
-slice-bytes : (us : List ℕ) (a b : ℕ) → AreBytes us → AreBytes (slice_range us a b)
+pub slice-bytes : (us : List ℕ) (a b : ℕ) → AreBytes us → AreBytes (slice_range us a b)
 slice-bytes us a b are = take-bytes (b - a) (drop a us) (behind us a are)
 
 slice-short : (us : List ℕ) (a b : ℕ) → length (slice_range us a b) ≤ length us

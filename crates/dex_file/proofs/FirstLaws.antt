@@ -1,15 +1,13 @@
 -- A fault that is answered is broken at its place, and no fault of an earlier group stands.
-use Rattle.std.proofs.Common.{◌≡◌, ℕ, ◌<◌, ◌≤◌, ◌⊎◌, inl, inr, List, ap, arith}
+use Rattle.std.proofs.Common.{ℕ, inl, inr, List}
 use Rattle.dex_bytes.specs.declared.fault.Fault.{Fault}
-use Rattle.dex_container.specs.Layout.{size_of}
 use Rattle.dex_container.specs.Frame.{IsFramed}
 use Rattle.dex_container.specs.Faults.{FrameBreaks}
 use Rattle.dex_container.proofs.Framed.{framed_clear}
-use Rattle.dex_tables.specs.RowFields.{row_place}
 use Rattle.dex_tables.specs.Sorted.{TablesHold}
 use Rattle.dex_tables.specs.TableFaults.{IsStringFault, IsTypeFault, IsProtoFault, IsFieldFault, IsMethodFault, StringBreaks, TypeBreaks, ProtoBreaks, FieldBreaks, MethodBreaks}
 use Rattle.dex_tables.proofs.ClearRows.{string_clear, type_clear, proto_clear, field_clear, method_clear}
-use Rattle.dex_class.specs.ClassFaults.{ClassBreaks, ClassesHold, ValuesBreak, ValuesHold, MethodsBreak, IsClassFault, IsValueFault, IsCodeFault}
+use Rattle.dex_class.specs.ClassFaults.{IsClassFault, IsValueFault, IsCodeFault}
 use Rattle.dex_file.specs.Broken.{Broken, RowBroken, TableBroken, ClassBroken, ValueBroken, CodeBroken}
 use Rattle.dex_class.proofs.ClearLaws.{class_clear, values_clear, methods_clear}
 use Rattle.dex_program.specs.Content.{Program}

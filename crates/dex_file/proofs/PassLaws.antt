@@ -1,7 +1,6 @@
 -- The passes over the class rows, put together.
-use Rattle.std.proofs.Common.{◌≡◌, ◌≢◌, ℕ, ◌<◌, ◌⊎◌, inl, inr, List, length, Some, sym, ◌∙◌, arith, slice_get}
+use Rattle.std.proofs.Common.{◌≡◌, ℕ, ◌<◌, List, sym, ◌∙◌, arith}
 use Rattle.dex_bytes.specs.declared.fault.Fault.{Fault}
-use Rattle.std.proofs.lemmas.Option.{slice_get_within}
 use Rattle.dex_container.specs.Frame.{IsFramed}
 use Rattle.dex_container.specs.Layout.{size_of}
 use Rattle.dex_program.specs.Content.{Class, Program}

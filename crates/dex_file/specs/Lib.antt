@@ -1,4 +1,3 @@
 pub mod Means
-pub mod Packed
 pub mod Refused
 pub mod Broken

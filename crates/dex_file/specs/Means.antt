@@ -1,8 +1,8 @@
 -- Which program a file means (Dalvik Executable format).
-use Rattle.std.specs.Prelude.{◌≡◌, ℕ, ◌<◌, List}
+use Rattle.std.specs.Prelude.{ℕ, ◌<◌, List}
 use Rattle.dex_container.specs.Layout.{size_of}
 use Rattle.dex_container.specs.Frame.{IsFramed}
-use Rattle.dex_program.specs.Content.{Class, Program}
+use Rattle.dex_program.specs.Content.{Program}
 use Rattle.dex_tables.specs.Names.{AreRows}
 use Rattle.dex_tables.specs.Sorted.{TablesHold}
 use Rattle.dex_class.specs.ClassRows.{InOrder}

@@ -1,10 +1,12 @@
-//! Whole files: `read` answers the program of a file, and `write` the file of a program.
+//! Whole files, read: `read` answers the program that a file means.
+//!
+//! ```
+//! let program = read(alloc, &arena, &bytes)?; // 1 to 72, the first fault
+//! ```
 #![tactic(auto)]
 
 mod laws;
 mod reading;
-mod writing;
 
-pub use laws::{meaning_is_clear, one_program, refusals_are_first, written_is_read};
+pub use laws::{meaning_is_clear, one_program, refusals_are_first};
 pub use reading::read;
-pub use writing::write;

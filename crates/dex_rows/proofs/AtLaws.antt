@@ -13,7 +13,7 @@ use Rattle.dex_program.specs.Key.{Key, text_key, proto_key, field_ref_key, metho
 use Rattle.dex_rows.specs.Rows.{SpellsTable, SpellsProtos, SpellsTypeRow, SpellsProtoRow, SpellsFieldRow, SpellsMethodRow}
 
 -- pieces of one size: piece i begins i sizes behind the front
-each_at : {V : Type 0} (G : List ℕ → V → Type 0) (size : ℕ) → ((bytes : List ℕ) (v : V) → G bytes v → length bytes ≡ size)
+pub each_at : {V : Type 0} (G : List ℕ → V → Type 0) (size : ℕ) → ((bytes : List ℕ) (v : V) → G bytes v → length bytes ≡ size)
     → (bytes : List ℕ) (vs : List V) (i : ℕ) (v : V) → Each G bytes vs → slice_get vs i ≡ Some v → G (take size (drop (size * i) bytes)) v
 each_at G size fixed bytes [] i v rows e = absurd (cc e)
 each_at {V = V} G size fixed bytes (x ∷ vs) zero v rows e =

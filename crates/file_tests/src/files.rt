@@ -1,12 +1,8 @@
-//! The file of the program without classes, read and written.
-
-ghost use Rattle.std.specs.Prelude.{◌≡◌, []};
-ghost use Rattle.dex_program.specs.View.{program};
+//! The file of the program without classes, read, and files from rows.
 
 use bumpalo::Bump;
 use dex_base::Fault;
-use dex_file::{read, write, written_is_read};
-use dex_program::Program;
+use dex_file::read;
 use dex_samples::{
     NOTHING, ONE_CLASS, Rows, WITHOUT_CLASSES, closed_with, file_of, is_so, none_wrong, with_bytes,
 };
@@ -21,34 +17,6 @@ fn is_read_so(alloc: Global, file: &[u8], want: (u16, u64)) -> bool {
         Ok(program) => code == 0 && program.classes.is_empty(),
         Err(fault) => fault.code == code && fault.place == place,
     }
-}
-
-// The program without classes.
-fn nothing<'a>() -> Program<'a>
-    ensures { program result ≡ [] }
-{
-    Program { classes: &[] }
-}
-
-fn is_written_in_140_bytes(alloc: Global) -> Result<bool, Fault> {
-    let file = write(alloc, &nothing())?;
-    Ok(file.as_slice() == WITHOUT_CLASSES.as_slice())
-}
-
-#[test]
-fn the_program_without_classes_is_written_in_140_bytes(rt: HostRuntime) -> Result<(), Fail> {
-    is_so(is_written_in_140_bytes(rt.alloc()))
-}
-
-fn is_read_again(alloc: Global) -> Result<bool, Fault> {
-    let arena = Bump::new(alloc);
-    let again = written_is_read(alloc, &arena, &nothing())?;
-    Ok(again.classes.is_empty())
-}
-
-#[test]
-fn what_is_written_is_read_again(rt: HostRuntime) -> Result<(), Fail> {
-    is_so(is_read_again(rt.alloc()))
 }
 
 #[test]

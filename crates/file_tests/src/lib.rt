@@ -37,7 +37,11 @@ mod values_read;
 #[cfg(test)]
 mod class_faults;
 #[cfg(test)]
+mod class_orders;
+#[cfg(test)]
 mod class_read;
+#[cfg(test)]
+mod class_values;
 #[cfg(test)]
 mod code_faults;
 #[cfg(test)]

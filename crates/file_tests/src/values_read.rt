@@ -185,8 +185,8 @@ fn a_longer_count_than_need_be_is_read(rt: HostRuntime) -> Result<(), Fail> {
     is_so(is_empty(rt.alloc(), &[0x80, 0x00]))
 }
 
-// So many arrays in one another, the innermost empty, as the one value of an array.
-fn nested(alloc: Global, depth: u32) -> Result<Vec<u8>, Fault> {
+/// So many arrays in one another, the innermost empty, as the one value of an array.
+pub fn nested(alloc: Global, depth: u32) -> Result<Vec<u8>, Fault> {
     let mut array = Vec::new(alloc);
     for _ in 0..depth {
         array.extend_from_slice(&[0x01, 0x1c])?;

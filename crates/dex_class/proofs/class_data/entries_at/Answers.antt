@@ -1,5 +1,3 @@
-use Rattle.std.proofs.Common.{◌≡◌, ◌≢◌, Result, Ok, Err, Option, Some, None}
-use Rattle.std.specs.Prelude.{IfOk, IfSome, IfNone}
 use Rattle.std.proofs.lemmas.Result.{IfOk-weaker}
 use Rattle.dex_container.specs.Where.{IsSectionOf}
 use Rattle.dex_tables.proofs.RowReading.{some_weaker, none_weaker}

@@ -1,9 +1,7 @@
-use Rattle.std.proofs.Common.{◌≡◌, refl, sym, ap, inr, true≢false, Some, None, Option, option_map, subst}
+use Rattle.std.proofs.Common.{◌≡◌, refl, sym, inr, true≢false, Some, None, Option, subst}
 use Rattle.dex_base.specs.Descriptor.{IsClass}
 use Rattle.dex_program.specs.View.{desc}
 use Rattle.dex_program.specs.Content.{Units}
-use Rattle.dex_tables.specs.Stands.{TypeStands}
-use Rattle.dex_class.specs.ClassRows.{IndexOrNone, class_word, no_index}
 use Rattle.dex_class.proofs.class_row.read_row.Goals as goal
 use Rattle.dex_class.proofs.class_row.read_row.Goals.{in-Some-superclass+else-not-is_class_type-2, in-None}
 

@@ -1,7 +1,6 @@
 use Rattle.std.proofs.Common.{refl, map}
 use Rattle.dex_program.specs.View.{desc}
-use Rattle.dex_class.specs.Reading.{entries, head, bare, IsHead}
-use Rattle.dex_class.specs.Classes.{HeadIs}
+use Rattle.dex_class.specs.Reading.{entries}
 use Rattle.dex_class.proofs.MemberLaws.{head_stands, head_holds}
 use Rattle.dex_class.proofs.PlaceLaws.{types_have_rows}
 use Rattle.dex_class.proofs.heads.read_head.Goals as goal

@@ -1,7 +1,6 @@
-use Rattle.std.proofs.Common.{map, get_or, sym, true≢false, false, true, ◌≡◌}
+use Rattle.std.proofs.Common.{map, sym, true≢false}
 use Rattle.dex_base.specs.Descriptor.{IsClass}
 use Rattle.dex_program.specs.View.{desc}
-use Rattle.dex_program.specs.declared.names.Desc.{Desc}
 use Rattle.dex_class.proofs.HeadLaws.{all_at, type_there}
 use Rattle.dex_class.proofs.interfaces.are_classes.Goals as goal
 

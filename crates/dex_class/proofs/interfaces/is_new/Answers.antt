@@ -1,4 +1,4 @@
-use Rattle.std.proofs.Common.{map, get_or, refl, sym, true≢false, false, true, ◌≡◌, ◌<◌, length, arith}
+use Rattle.std.proofs.Common.{map, refl, sym, true≢false, ◌<◌, length, arith}
 use Rattle.dex_program.specs.View.{desc}
 use Rattle.dex_class.proofs.HeadLaws.{type_there, not_among_more, among}
 use Rattle.dex_class.proofs.interfaces.is_new.Goals as goal

@@ -1,8 +1,8 @@
-use Rattle.std.proofs.Common.{◌≡◌, ℕ, ◌+◌, ◌<◌, map, get_or, length, refl, sym, ◌∙◌, subst, arith}
-use Rattle.std.proofs.lemmas.List.{length-map, map-append}
+use Rattle.std.proofs.Common.{◌≡◌, ◌+◌, ◌<◌, map, get_or, length, refl, arith}
+use Rattle.std.proofs.lemmas.List.{length-map}
 use Rattle.dex_container.specs.Layout.{size_of}
 use Rattle.dex_tables.proofs.RowReading.{passed}
-use Rattle.dex_program.specs.View.{desc, method_ref}
+use Rattle.dex_program.specs.View.{desc}
 use Rattle.dex_class.specs.ClassFaults.{MethodOwner}
 use Rattle.dex_class.specs.Reading.{IsBare}
 use Rattle.dex_class.proofs.MemberLaws.{bare_stands}

@@ -1,4 +1,4 @@
-use Rattle.std.proofs.Common.{◌≡◌, ℕ, ◌+◌, ◌<◌, map, get_or, length, refl, sym, ◌∙◌, subst, arith}
+use Rattle.std.proofs.Common.{◌≡◌, ◌+◌, ◌<◌, map, get_or, length, arith}
 use Rattle.std.proofs.lemmas.List.{length-map, map-append}
 use Rattle.dex_container.specs.Layout.{size_of}
 use Rattle.dex_tables.proofs.RowReading.{passed}

@@ -1,4 +1,4 @@
-use Rattle.std.proofs.Common.{arith, map}
+use Rattle.std.proofs.Common.{arith}
 use Rattle.std.proofs.lemmas.List.{map-append}
 use Rattle.dex_program.specs.View.{class}
 use Rattle.dex_tables.proofs.RowReading.{passed, first_more}

@@ -1,7 +1,6 @@
 use Rattle.std.proofs.Common.{refl, map, get_or}
 use Rattle.std.proofs.lemmas.List.{map-append}
 use Rattle.dex_program.specs.View.{method}
-use Rattle.dex_class.specs.Reading.{bare}
 use Rattle.dex_class.proofs.MethodLaws.{no_bare, done_at}
 use Rattle.dex_class.proofs.methods.read_methods.Goals as goal
 

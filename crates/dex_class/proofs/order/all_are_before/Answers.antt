@@ -1,4 +1,4 @@
-use Rattle.std.proofs.Common.{ℕ, ◌≡◌, ◌<◌, refl, sym, ◌∙◌, true≢false, length, arith, subst}
+use Rattle.std.proofs.Common.{ℕ, ◌<◌, refl, sym, ◌∙◌, true≢false, length, subst}
 use Rattle.std.specs.Prelude.{slice_index}
 use borrow.Author.Count.{below_more}
 use Rattle.dex_container.specs.Layout.{size_of}

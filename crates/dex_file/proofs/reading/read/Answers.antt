@@ -1,11 +1,8 @@
-use Rattle.std.proofs.Common.{◌≡◌, sym, ap, subst, inl, inr, List, ℕ}
-use Rattle.dex_bytes.specs.declared.fault.Fault.{Fault}
+use Rattle.std.proofs.Common.{subst, inl, inr, List, ℕ}
 use Rattle.dex_tables.specs.TableFaults.{IsTableFault}
 use Rattle.dex_tables.proofs.RowReading.{passed}
 use Rattle.dex_tables.proofs.ClearRows.{only_memory}
 use Rattle.dex_class.specs.ClassFaults.{IsClassFault, IsValueFault, IsCodeFault}
-use Rattle.dex_file.specs.Refused.{IsRefused}
-use Rattle.dex_file.specs.Means.{Means}
 use Rattle.dex_file.proofs.PassLaws.{no_class_fault, no_value_fault, no_code_fault, means_these}
 use Rattle.dex_file.proofs.reading.read.Goals as goal
 

@@ -1,0 +1,12 @@
+use Rattle.std.proofs.Common.{map, drop, List, ◌++◌}
+use Rattle.std.specs.Prelude.{IfSome}
+use Rattle.std.specs.List.{AllByRecursion}
+use Rattle.dex_align.specs.Programs.{Pairwise, AlignedMethod}
+use Rattle.dex_program.specs.Content.{Method}
+use Rattle.dex_program.specs.Formed.{IsFormed}
+use Rattle.dex_program.specs.View.{method}
+use Rattle.dex_align.proofs.aligning.aligned_methods.Given as goal
+
+abbrev pub invariant-loop-one : goal.invariant-loop-one
+invariant-loop-one l = ((ns : List Method) → Pairwise AlignedMethod (map method (drop l.one-index l.all)) ns → Pairwise AlignedMethod (map method l.all) (map method l.methods.items ++ ns))
+    × AllByRecursion (λ (n : Method). IfSome n.code IsFormed) (map method l.methods.items)

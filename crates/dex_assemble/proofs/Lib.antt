@@ -1,0 +1,5 @@
+pub mod FitsLaws
+pub mod NamedLaws
+pub mod ReadyLaws
+pub mod DataLaws
+pub mod AssembledLaws

@@ -1,0 +1,11 @@
+//! Whole files, written: the file of a program that keeps the rules and the limits.
+//!
+//! ```
+//! let file = assemble(alloc, &program)?; // 80 to 90 where a limit is broken
+//! ```
+#![tactic(auto)]
+
+// The data, and all of it.
+mod assembling;
+
+pub use assembling::assemble;

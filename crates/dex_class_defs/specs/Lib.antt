@@ -1,0 +1,2 @@
+pub mod ClassDefs
+pub mod Held

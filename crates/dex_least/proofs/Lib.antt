@@ -1,0 +1,3 @@
+pub mod StandingFits
+pub mod RowsFrom
+pub mod VainLaws

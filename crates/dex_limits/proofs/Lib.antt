@@ -1,0 +1,5 @@
+pub mod SumLaws
+pub mod PartLaws
+pub mod BodyLaws
+pub mod LimitLaws
+pub mod RankLaws

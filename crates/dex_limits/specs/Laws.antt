@@ -1,0 +1,15 @@
+-- What holds of the limits.
+-- Page: "Dalvik Executable format", "header_item": file_size.
+use Rattle.std.specs.Prelude.{◌≡◌, ℕ}
+use Rattle.dex_names.specs.Closure.{Five}
+use Rattle.dex_program.specs.Content.{Program}
+use Rattle.dex_limits.specs.Limits.{Fits, LimitBreaks}
+use Rattle.dex_limits.specs.Wide.{wide_of, wide_parts}
+
+-- the sum over names and classes is the sum over the parts of the file
+abbrev pub WideIsByParts : Type 0
+WideIsByParts = (s : Five) (p : Program) → wide_of s p ≡ wide_parts s p
+
+-- a program that fits breaks no limit
+abbrev pub FitsBreaksNone : Type 0
+FitsBreaksNone = (p : Program) → Fits p → (n place : ℕ) → ¬ LimitBreaks p n place

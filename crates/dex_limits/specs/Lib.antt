@@ -1,0 +1,4 @@
+pub mod Wide
+pub mod Sum
+pub mod Limits
+pub mod Laws

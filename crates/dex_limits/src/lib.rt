@@ -1,0 +1,25 @@
+//! Whether a program can be written: the limits of a file's fields, and how many bytes its file takes at most.
+//!
+//! ```
+//! let ranks = needed_names(alloc, &arena, &program)?;
+//! check_limits(alloc, &ranks, &program)?; // 80 to 90 where a limit is broken
+//! ```
+#![tactic(auto)]
+
+// How many bytes a file takes at most.
+mod code_sizes;
+mod file_size;
+mod sums;
+mod text_sizes;
+mod value_sizes;
+
+// Which limit is broken.
+mod bodies;
+mod limits;
+
+// What holds of limits.
+mod laws;
+
+pub use file_size::is_too_big;
+pub use laws::{fits_breaks_none, wide_is_by_parts};
+pub use limits::check_limits;

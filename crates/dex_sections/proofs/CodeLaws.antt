@@ -1,0 +1,243 @@
+-- Bodies, one behind the other.
+use Rattle.std.proofs.Common.{◌≡◌, ℕ, zero, suc, ◌+◌, ◌%◌, ◌<◌, ◌≤◌, ◌==◌, if◌then◌else◌, Bool, true, false, List, [], ◌∷◌, ◌++◌, length, map, take, drop, get_or, refl, sym, ap, ◌∙◌, arith, subst, length-append, append_assoc, Option, Some, None}
+use Rattle.std.proofs.lemmas.List.{take_all, drop_all}
+use Rattle.std.specs.List.{AllByRecursion, flat_map}
+use Rattle.dex_bytes.proofs.FieldBounds.{length-u32_bytes}
+use Rattle.dex_bytes.specs.Fields.{u16_bytes, u32_bytes}
+use Rattle.dex_bytes.specs.Grammar.{Appends}
+use Rattle.dex_code_laws.proofs.PackedTries.{items-length, length-u16_bytes}
+use Rattle.dex_code_laws.proofs.WrittenLaws.{lowered-length}
+use Rattle.dex_code_put.specs.Fits.{wide_code}
+use Rattle.dex_code_put.specs.Packs.{PacksCode, head_bytes, padding, joined, items_bytes}
+use Rattle.dex_layout.specs.Sections.{AddsSome, Laying, wide_all}
+use Rattle.dex_layout.specs.Tiles.{zeros, gap}
+use Rattle.dex_layout.proofs.SectionLaws.{length-padded}
+use Rattle.dex_limits.specs.Wide.{bodies_in, bodies_of, wide_body}
+use Rattle.dex_limits.proofs.SumLaws.{wide_all_append}
+use Rattle.dex_names.specs.Closure.{Five, NameRanks}
+use Rattle.dex_program.specs.Content.{Name, Code, Class}
+use Rattle.dex_program.specs.Content as content
+use Rattle.dex_program.specs.Sizes.{addresses_of, length_of}
+use Rattle.dex_program.specs.View as view
+use Rattle.dex_program.specs.declared.class.Class as made
+use Rattle.dex_program.specs.declared.class.Method as made_method
+use Rattle.dex_sections.proofs.LayingLaws.{one_more}
+use Rattle.dex_sections.proofs.ListLaws.{gap_four}
+use Rattle.dex_sections.proofs.Steps.{map_more, map_map}
+use Rattle.dex_sections.proofs.RoomLaws.{map_drop}
+use Rattle.dex_sections.specs.Codes.{PacksBody, is_bodiless}
+use Rattle.dex_sections.specs.Placing.{items_with}
+
+-- ---- how long a body is
+
+length-head : (c : Code) (size : ℕ) → length (head_bytes c size) ≡ 16
+length-head c size =
+    let a = u16_bytes c.registers in let b = u16_bytes c.ins in let d = u16_bytes c.outs in let e = u16_bytes (length c.tries) in let f = u32_bytes 0 in let g = u32_bytes size in
+    omega (
+      arith,
+      length-append (a ++ b ++ d ++ e ++ f) g,
+      length-append (a ++ b ++ d ++ e) f,
+      length-append (a ++ b ++ d) e,
+      length-append (a ++ b) d,
+      length-append a b,
+      length-u16_bytes c.registers,
+      length-u16_bytes c.ins,
+      length-u16_bytes c.outs,
+      length-u16_bytes (length c.tries),
+      length-u32_bytes 0,
+      length-u32_bytes size,
+    )
+
+at_most : (x y : Bool) → length {A = ℕ} (if x then [] else (if y then [] else 0 ∷ 0 ∷ [])) ≤ 2
+at_most true y = omega arith
+at_most false true = omega arith
+at_most false false = omega arith
+
+few_padding : (s m : ℕ) → length (padding s m) ≤ 2
+few_padding s m = at_most (m == 0) (s % 2 == 0)
+
+-- with three zeros before it, it takes no more than its term of the sum
+pub packed_room : (N : ℕ → Name → Type 0) (c : Code) (bytes : List ℕ) → PacksCode N bytes c → (0 < length bytes) × (length bytes + 3 ≤ wide_code c)
+packed_room N c bytes p =
+    let h = head_bytes c (length_of c.insns) in
+    let i = items_bytes (length_of c.insns) (addresses_of c.insns) c.tries p.offsets in
+    let pad = padding (length_of c.insns) (length c.tries) in
+    let lh = length-head c (length_of c.insns) in
+    let lj = lowered-length N c.insns p.raws p.lowered in
+    let lp = few_padding (length_of c.insns) (length c.tries) in
+    let li = items-length (length_of c.insns) (addresses_of c.insns) c.tries p.offsets p.handlers.offsets.count in
+    let short = p.handlers.short in
+    let a = length-append h (joined p.raws ++ (pad ++ (i ++ p.list))) in
+    let b = length-append (joined p.raws) (pad ++ (i ++ p.list)) in
+    let d = length-append pad (i ++ p.list) in
+    let e = length-append i p.list in
+    let w = ap length p.is in
+    (omega arith, omega arith)
+
+-- ---- one body
+
+pub body_adds : (s : Five) (old mid new : List ℕ) (c : Code) (place : ℕ) → mid ≡ old ++ zeros (gap 4 (length old)) → place ≡ length mid → Appends (PacksCode (NameRanks s)) mid new c
+    → AddsSome is_bodiless (PacksBody (NameRanks s)) 4 old new (Some c) place
+body_adds s old mid new c place m p a = record {
+  there = p ∙ ap length m ∙ length-padded old (gap 4 (length old));
+  bytes = a.bytes;
+  whole = a.joined ∙ ap (λ (l : List ℕ). l ++ a.bytes) m;
+  some = (packed_room (NameRanks s) c a.bytes a.spelled).0;
+  spelled = a.spelled;
+}
+
+pub body_bound : (s : Five) (old mid new : List ℕ) (c : Code) → mid ≡ old ++ zeros (gap 4 (length old)) → Appends (PacksCode (NameRanks s)) mid new c → length new ≤ length old + wide_code c
+body_bound s old mid new c m a =
+    let r = (packed_room (NameRanks s) c a.bytes a.spelled).1 in
+    let e = ap length a.joined ∙ length-append mid a.bytes in
+    let f = ap length m ∙ length-padded old (gap 4 (length old)) in
+    let g = gap_four (length old) in
+    omega (arith, r, e, f, g)
+
+-- ---- the bodies of methods
+
+abbrev pub Bodies : Five → List ℕ → List ℕ → List (Option Code) → List (Option Code) → List (Option Code) → List ℕ → ℕ → Type 0
+Bodies s old out done rest all places count = Laying is_bodiless (PacksBody (NameRanks s)) 4 wide_body old out done rest all places count
+
+-- What the bodies of methods do to what was laid before them.
+pub record BodiesTo (s : Five) (before now : List ℕ) (bodies done rest : List (Option Code)) (places_before places_now : List ℕ) (items_before items_now : ℕ) : Type 0 where
+  pub lays : (old : List ℕ) (front back all : List (Option Code)) → 0 < length old → Bodies s old before front (bodies ++ back) all places_before items_before
+      → Bodies s old now (front ++ done) (rest ++ back) all places_now items_now
+  pub bound : length now + wide_all wide_body rest ≤ length before + wide_all wide_body bodies
+  pub few : items_now < length now
+
+bodies_more : (ms : List made_method.Method) (i : ℕ) (d : made_method.Method) → i < length ms
+    → bodies_in (map view.method (take (i + 1) ms)) ≡ bodies_in (map view.method (take i ms)) ++ (view.method (get_or ms i d)).code ∷ []
+bodies_more ms i d lt =
+    map_map (λ (m : content.Method). m.code) view.method (take (i + 1) ms) ∙ map_more (λ (m : made_method.Method). (view.method m).code) ms i d lt
+    ∙ ap (λ (l : List (Option Code)). l ++ (view.method (get_or ms i d)).code ∷ []) (sym (map_map (λ (m : content.Method). m.code) view.method (take i ms)))
+
+bodies_left : (ms : List made_method.Method) (i : ℕ) (d : made_method.Method) → i < length ms
+    → bodies_in (map view.method (drop i ms)) ≡ (view.method (get_or ms i d)).code ∷ bodies_in (map view.method (drop (i + 1) ms))
+bodies_left ms i d lt = ap (λ (l : List content.Method). bodies_in l) (map_drop view.method ms i d lt)
+
+pub bodies_start : (s : Five) (before : List ℕ) (bodies : List (Option Code)) (places : List ℕ) (items : ℕ) → items < length before → BodiesTo s before before bodies [] bodies places places items items
+bodies_start s before bodies places items few = record {
+  lays = λ old front back all some l. subst (λ (f : List (Option Code)). Bodies s old before f (bodies ++ back) all places items) (sym (nothing_more front)) l;
+  bound = omega arith;
+  few = few;
+}
+  where
+    nothing_more : (xs : List (Option Code)) → xs ++ [] ≡ xs
+    nothing_more [] = refl
+    nothing_more (x ∷ xs) = ap (λ (l : List (Option Code)). x ∷ l) (nothing_more xs)
+
+-- an item takes a byte at least
+pub few_next : (s : Five) (mid now : List ℕ) (v : Option Code) (place items : ℕ) → AddsSome is_bodiless (PacksBody (NameRanks s)) 4 mid now v place → items < length mid → items_with place items < length now
+few_next s mid now None place items a few = let n = ap length a.1 in rw a.0 (omega (arith, n, few))
+few_next s mid now (Some c) place items a few =
+    let e = ap length a.whole ∙ length-append (mid ++ zeros (gap 4 (length mid))) a.bytes in
+    let f = length-padded mid (gap 4 (length mid)) in
+    let some = a.some in
+    let most = at_most_one place items in
+    omega (arith, e, f, some, most, few)
+  where
+    at_most_one : (place items : ℕ) → items_with place items ≤ items + 1
+    at_most_one zero items = omega arith
+    at_most_one (suc place) items = omega arith
+
+-- one more method
+pub bodies_step : (s : Five) (before mid now : List ℕ) (bodies : List (Option Code)) (ms : List made_method.Method) (i : ℕ) (d : made_method.Method) (places_before places more : List ℕ) (items_before items count place : ℕ) → i < length ms
+    → BodiesTo s before mid bodies (bodies_in (map view.method (take i ms))) (bodies_in (map view.method (drop i ms))) places_before places items_before items
+    → AddsSome is_bodiless (PacksBody (NameRanks s)) 4 mid now (view.method (get_or ms i d)).code place → length now ≤ length mid + wide_body (view.method (get_or ms i d)).code
+    → more ≡ places ++ place ∷ [] → count ≡ items_with place items
+    → BodiesTo s before now bodies (bodies_in (map view.method (take (i + 1) ms))) (bodies_in (map view.method (drop (i + 1) ms))) places_before more items_before count
+bodies_step s before mid now bodies ms i d places_before places more items_before items count place lt b a small m n =
+    let v = (view.method (get_or ms i d)).code in
+    let left = bodies_left ms i d lt in
+    let right = bodies_more ms i d lt in
+    let w = ap (wide_all wide_body) left in
+    let bound = b.bound in
+    let few = few_next s mid now v place items a b.few in
+    record {
+      lays = λ old front back all some l.
+          let before_one = subst (λ (r : List (Option Code)). Bodies s old mid (front ++ bodies_in (map view.method (take i ms))) (r ++ back) all places items) left (b.lays old front back all some l) in
+          let after = one_more is_bodiless (PacksBody (NameRanks s)) 4 wide_body old mid now (front ++ bodies_in (map view.method (take i ms))) (bodies_in (map view.method (drop (i + 1) ms)) ++ back) all v places more place items count before_one some a small m n in
+          subst (λ (f : List (Option Code)). Bodies s old now f (bodies_in (map view.method (drop (i + 1) ms)) ++ back) all more count)
+          (append_assoc front (bodies_in (map view.method (take i ms))) (v ∷ []) ∙ ap (λ (l : List (Option Code)). front ++ l) (sym right)) after;
+      bound = omega (arith, w, bound, small);
+      few = omega (arith, n, few);
+    }
+
+-- all methods are done
+pub bodies_end : (s : Five) (before now : List ℕ) (ms : List made_method.Method) (i : ℕ) (places_before places : List ℕ) (items_before items : ℕ) → length ms ≤ i
+    → BodiesTo s before now (bodies_in (map view.method ms)) (bodies_in (map view.method (take i ms))) (bodies_in (map view.method (drop i ms))) places_before places items_before items
+    → (old : List ℕ) (front back all : List (Option Code)) → 0 < length old → Bodies s old before front (bodies_in (map view.method ms) ++ back) all places_before items_before
+    → Bodies s old now (front ++ bodies_in (map view.method ms)) back all places items
+bodies_end s before now ms i places_before places items_before items le b old front back all some l =
+    let done = ap (λ (xs : List made_method.Method). bodies_in (map view.method xs)) (take_all i ms le) in
+    let none = ap (λ (xs : List made_method.Method). bodies_in (map view.method xs)) (drop_all i ms le) in
+    subst (λ (d : List (Option Code)). Bodies s old now (front ++ d) back all places items) done
+    (subst (λ (r : List (Option Code)). Bodies s old now (front ++ bodies_in (map view.method (take i ms))) (r ++ back) all places items) none (b.lays old front back all some l))
+
+-- ---- the bodies of classes
+
+-- those of class i come first of the rest
+pub class_left : (cs : List made.Class) (i : ℕ) (d : made.Class) → i < length cs
+    → flat_map bodies_of (map view.class (drop i cs)) ≡ bodies_in (map view.method (get_or cs i d).directs.now) ++ (bodies_in (map view.method (get_or cs i d).virtuals.now) ++ flat_map bodies_of (map view.class (drop (i + 1) cs)))
+class_left cs i d lt =
+    ap (flat_map bodies_of) (map_drop view.class cs i d lt) ∙ append_assoc (bodies_in (map view.method (get_or cs i d).directs.now)) (bodies_in (map view.method (get_or cs i d).virtuals.now)) (flat_map bodies_of (map view.class (drop (i + 1) cs)))
+
+flat_one : (p : List Class) (c : Class) → flat_map bodies_of (p ++ c ∷ []) ≡ flat_map bodies_of p ++ bodies_of c
+flat_one [] c = one (bodies_of c)
+  where
+    one : (xs : List (Option Code)) → xs ++ [] ≡ xs
+    one [] = refl
+    one (x ∷ xs) = ap (λ (l : List (Option Code)). x ∷ l) (one xs)
+flat_one (x ∷ p) c = ap (λ (l : List (Option Code)). bodies_of x ++ l) (flat_one p c) ∙ sym (append_assoc (bodies_of x) (flat_map bodies_of p) (bodies_of c))
+
+pub class_done : (cs : List made.Class) (i : ℕ) (d : made.Class) → i < length cs
+    → flat_map bodies_of (map view.class (take (i + 1) cs)) ≡ (flat_map bodies_of (map view.class (take i cs)) ++ bodies_in (map view.method (get_or cs i d).directs.now)) ++ bodies_in (map view.method (get_or cs i d).virtuals.now)
+class_done cs i d lt =
+    ap (flat_map bodies_of) (map_more view.class cs i d lt) ∙ flat_one (map view.class (take i cs)) (view.class (get_or cs i d))
+    ∙ sym (append_assoc (flat_map bodies_of (map view.class (take i cs))) (bodies_in (map view.method (get_or cs i d).directs.now)) (bodies_in (map view.method (get_or cs i d).virtuals.now)))
+
+-- room for one of two lists of bodies
+pub room_first : (xs ys : List (Option Code)) → wide_all wide_body xs ≤ wide_all wide_body (xs ++ ys)
+room_first xs ys = let a = wide_all_append wide_body xs ys in omega (arith, a)
+
+-- the body of one of the methods
+pub body_at : (P : Option Code → Type 0) (ms : List made_method.Method) (i : ℕ) (d : made_method.Method) → i < length ms → AllByRecursion P (bodies_in (map view.method ms)) → P (view.method (get_or ms i d)).code
+body_at P [] i d lt h = absurd (omega (arith, lt))
+body_at P (m ∷ ms) zero d lt h = h.0
+body_at P (m ∷ ms) (suc i) d lt h = body_at P ms i d (omega (arith, lt)) h.1
+
+pub body_room : (ms : List made_method.Method) (i : ℕ) (d : made_method.Method) → i < length ms → wide_body (view.method (get_or ms i d)).code ≤ wide_all wide_body (bodies_in (map view.method (drop i ms)))
+body_room ms i d lt = let e = ap (wide_all wide_body) (bodies_left ms i d lt) in omega (arith, e)
+
+-- so there is room for it
+pub body_fits : (out old : List ℕ) (ms : List made_method.Method) (i : ℕ) (d : made_method.Method) (limit : ℕ) → i < length ms
+    → length out + wide_all wide_body (bodies_in (map view.method (drop i ms))) ≤ length old + wide_all wide_body (bodies_in (map view.method ms))
+    → length old + wide_all wide_body (bodies_in (map view.method ms)) < limit → length out + wide_body (view.method (get_or ms i d)).code < limit
+body_fits out old ms i d limit lt b room = let w = body_room ms i d lt in omega (arith, b, w, room)
+
+-- what is known of the bodies of methods that were put
+abbrev pub PutsBodies : Five → List ℕ → List ℕ → List made_method.Method → List ℕ → List ℕ → ℕ → ℕ → Type 0
+PutsBodies s mid now ms places_before places items_before items =
+    (old : List ℕ) (front back all : List (Option Code)) → 0 < length old → Bodies s old mid front (bodies_in (map view.method ms) ++ back) all places_before items_before
+    → Bodies s old now (front ++ bodies_in (map view.method ms)) back all places items
+
+-- the direct methods of one more class
+pub first_part : (s : Five) (cs : List made.Class) (i : ℕ) (d : made.Class) (old mid now places more : List ℕ) (items count : ℕ) → i < length cs → 0 < length old
+    → Bodies s old mid (flat_map bodies_of (map view.class (take i cs))) (flat_map bodies_of (map view.class (drop i cs))) (flat_map bodies_of (map view.class cs)) places items
+    → PutsBodies s mid now (get_or cs i d).directs.now places more items count
+    → Bodies s old now (flat_map bodies_of (map view.class (take i cs)) ++ bodies_in (map view.method (get_or cs i d).directs.now)) (bodies_in (map view.method (get_or cs i d).virtuals.now) ++ flat_map bodies_of (map view.class (drop (i + 1) cs))) (flat_map bodies_of (map view.class cs)) more count
+first_part s cs i d old mid now places more items count lt some l puts =
+    puts old (flat_map bodies_of (map view.class (take i cs))) (bodies_in (map view.method (get_or cs i d).virtuals.now) ++ flat_map bodies_of (map view.class (drop (i + 1) cs))) (flat_map bodies_of (map view.class cs)) some
+    (subst (λ (r : List (Option Code)). Bodies s old mid (flat_map bodies_of (map view.class (take i cs))) r (flat_map bodies_of (map view.class cs)) places items) (class_left cs i d lt) l)
+
+-- and its virtual ones
+pub both_parts : (s : Five) (cs : List made.Class) (i : ℕ) (d : made.Class) (old mid now last places more most : List ℕ) (items count all_count : ℕ) → i < length cs → 0 < length old
+    → Bodies s old mid (flat_map bodies_of (map view.class (take i cs))) (flat_map bodies_of (map view.class (drop i cs))) (flat_map bodies_of (map view.class cs)) places items
+    → PutsBodies s mid now (get_or cs i d).directs.now places more items count
+    → PutsBodies s now last (get_or cs i d).virtuals.now more most count all_count
+    → Bodies s old last (flat_map bodies_of (map view.class (take (i + 1) cs))) (flat_map bodies_of (map view.class (drop (i + 1) cs))) (flat_map bodies_of (map view.class cs)) most all_count
+both_parts s cs i d old mid now last places more most items count all_count lt some l puts again =
+    subst (λ (f : List (Option Code)). Bodies s old last f (flat_map bodies_of (map view.class (drop (i + 1) cs))) (flat_map bodies_of (map view.class cs)) most all_count) (sym (class_done cs i d lt))
+    (again old (flat_map bodies_of (map view.class (take i cs)) ++ bodies_in (map view.method (get_or cs i d).directs.now)) (flat_map bodies_of (map view.class (drop (i + 1) cs))) (flat_map bodies_of (map view.class cs)) some
+    (first_part s cs i d old mid now places more items count lt some l puts))

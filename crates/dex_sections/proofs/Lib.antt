@@ -1,0 +1,11 @@
+pub mod Steps
+pub mod RoomLaws
+pub mod ListLaws
+pub mod LayingLaws
+pub mod NumberLaws
+pub mod ArrayLaws
+pub mod CodeLaws
+pub mod RunLaws
+pub mod MemberRuns
+pub mod DataLaws
+pub mod SitedLaws

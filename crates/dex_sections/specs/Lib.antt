@@ -1,0 +1,6 @@
+pub mod Lists
+pub mod Placing
+pub mod Codes
+pub mod Data
+pub mod Growing
+pub mod Named

@@ -1,0 +1,116 @@
+// Type lists.
+// Page: "Dalvik Executable format", "type_list".
+ghost use Rattle.std.specs.Prelude.{◌≡◌, ℕ, ◌+◌, ◌<◌, ◌≤◌, ◌^◌, ◌++◌, [], IfOk, OnOk, IsOkUnless, length, map, slice_index_or};
+ghost use Rattle.std.specs.List.{AllByRecursion};
+ghost use Rattle.dex_bytes.specs.Fault.{memory};
+ghost use Rattle.dex_bytes.specs.Grammar.{Appends};
+ghost use Rattle.dex_program.specs.Key.{text_key};
+ghost use Rattle.dex_program.specs.View as view;
+ghost use Rattle.dex_names.specs.Indices.{HasPlace};
+ghost use Rattle.dex_names.specs.Needed.{needed};
+ghost use Rattle.dex_layout.specs.Sections.{is_empty_list, wide_all, AddsSome, Laid};
+ghost use Rattle.dex_sections.specs.Lists.{AddsIndices, SpellsRanks};
+ghost use Rattle.dex_limits.specs.Wide.{list_values, wide_list};
+
+use crate::placed::Placed;
+use dex_base::Fault;
+use dex_layout::pad;
+use dex_names::Ranks;
+use dex_program::{Desc, Program};
+use dex_rows::type_index;
+use std::alloc::Global;
+
+// Appends the indices of types.
+fn put_indices(out: &mut Vec<u8>, ranks: &Ranks<'_>, types: &[Desc<'_>]) -> Result<(), Fault>
+    requires held { AllByRecursion (λ t. HasPlace ranks.now.types (text_key t)) (map view.desc types.now) }
+    requires few { length ranks.now.types ≤ 65535 }
+    ensures ok { OnOk result (AddsIndices ranks.now out.old.items out.new.items (map view.desc types.now)) }
+    ensures memory { IsOkUnless result memory }
+{
+    for ty in types {
+        out.extend_from_slice(&type_index(ranks, *ty).to_le_bytes())?;
+    }
+    Ok(())
+}
+
+// Appends a type list.
+fn put_list(out: &mut Vec<u8>, ranks: &Ranks<'_>, types: &[Desc<'_>]) -> Result<(), Fault>
+    requires held { AllByRecursion (λ t. HasPlace ranks.now.types (text_key t)) (map view.desc types.now) }
+    requires few { length ranks.now.types ≤ 65535 }
+    requires short { length types.now < 2 ^ 32 }
+    ensures ok { OnOk result (Appends (SpellsRanks ranks.now) out.old.items out.new.items (map view.desc types.now)) }
+    ensures memory { IsOkUnless result memory }
+{
+    out.extend_from_slice(&(types.len() as u32).to_le_bytes())?;
+    put_indices(out, ranks, types)
+}
+
+// Appends the type list of these types, 4-aligned, and answers the byte at which it begins; for no type nothing is
+// appended, and the answer is 0.
+fn add_list(out: &mut Vec<u8>, ranks: &Ranks<'_>, types: &[Desc<'_>]) -> Result<u32, Fault>
+    requires held { AllByRecursion (λ t. HasPlace ranks.now.types (text_key t)) (map view.desc types.now) }
+    requires few { length ranks.now.types ≤ 65535 }
+    requires room { length out.old.items + wide_list (map view.desc types.now) < 2 ^ 32 }
+    ensures ok { IfOk result (AddsSome is_empty_list (SpellsRanks ranks.now) 4 out.old.items out.new.items (map view.desc types.now)) }
+    ensures bound { OnOk result (length out.new.items ≤ length out.old.items + wide_list (map view.desc types.now)) }
+    ensures memory { IsOkUnless result memory }
+{
+    if types.len() == 0 {
+        return Ok(0);
+    }
+    pad(out)?;
+    let place = out.len() as u32;
+    put_list(out, ranks, types)?;
+    Ok(place)
+}
+
+// Appends the list of this number: the parameters of each prototype, then the interfaces of each class.
+fn add_numbered(
+    out: &mut Vec<u8>,
+    ranks: &Ranks<'_>,
+    program: &Program<'_>,
+    number: usize,
+) -> Result<u32, Fault>
+    requires needed { ranks.now ≡ needed (view.program program.now) }
+    requires few { length ranks.now.types ≤ 65535 }
+    requires number { number < length (list_values ranks.now (view.program program.now)) }
+    requires room { length out.old.items + wide_list (slice_index_or (list_values ranks.now (view.program program.now)) number []) < 2 ^ 32 }
+    ensures ok { IfOk result (AddsSome is_empty_list (SpellsRanks ranks.now) 4 out.old.items out.new.items (slice_index_or (list_values ranks.now (view.program program.now)) number [])) }
+    ensures bound { OnOk result (length out.new.items ≤ length out.old.items + wide_list (slice_index_or (list_values ranks.now (view.program program.now)) number [])) }
+    ensures memory { IsOkUnless result memory }
+{
+    let protos = ranks.protos();
+    if number < protos.len() {
+        add_list(out, ranks, protos[number].params)
+    } else {
+        add_list(
+            out,
+            ranks,
+            program.classes[number - protos.len()].interfaces,
+        )
+    }
+}
+
+/// Appends the type lists, each 4-aligned: the parameters of each prototype, then the interfaces of each class, where there are any.
+///
+/// The only refusal is want of memory.
+pub fn put_lists(
+    alloc: Global,
+    out: &mut Vec<u8>,
+    ranks: &Ranks<'_>,
+    program: &Program<'_>,
+) -> Result<Placed, Fault>
+    requires needed { ranks.now ≡ needed (view.program program.now) }
+    requires front { 0 < length out.old.items }
+    requires few { length ranks.now.types ≤ 65535 }
+    requires room { length out.old.items + wide_all wide_list (list_values ranks.now (view.program program.now)) < 2 ^ 32 }
+    ensures ok { IfOk result (λ r. Laid is_empty_list (SpellsRanks ranks.now) 4 wide_list out.old.items out.new.items (list_values ranks.now (view.program program.now)) r.places.items r.items) }
+    ensures memory { IsOkUnless result memory }
+{
+    let mut placed = Placed::new(alloc);
+    for number in 0..ranks.protos().len() + program.classes.len() {
+        let place = add_numbered(out, ranks, program, number)?;
+        placed.add(place)?;
+    }
+    Ok(placed)
+}

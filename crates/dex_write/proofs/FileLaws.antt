@@ -1,0 +1,51 @@
+-- What is assembled is the file of its program.
+use Rattle.std.proofs.Common.{◌≡◌, ◌≢◌, ℕ, zero, suc, ◌≤◌, List, ap, arith, inr}
+use Rattle.dex_assemble.specs.Assembled.{Assembled}
+use Rattle.dex_bytes.specs.Fault.{memory}
+use Rattle.dex_bytes.specs.Fields.{AreBytes}
+use Rattle.dex_bytes.specs.declared.fault.Fault.{Fault}
+use Rattle.dex_file.specs.Means.{Means}
+use Rattle.dex_least.specs.AtLeast.{HoldsAtLeast}
+use Rattle.dex_least.proofs.RowsFrom.{holds_at_least}
+use Rattle.dex_least.proofs.VainLaws.{meant, without_file}
+use Rattle.dex_limits.specs.Limits.{Fits, IsLowestLimit}
+use Rattle.dex_limits.proofs.LimitLaws.{fits_breaks_none}
+use Rattle.dex_names.specs.Closure.{Five}
+use Rattle.dex_names.specs.Needed.{needed}
+use Rattle.dex_program.specs.Content.{Program}
+use Rattle.dex_rules.specs.Ranges.{WellFormed}
+use Rattle.dex_write.proofs.Classes.{means}
+use Rattle.dex_write.proofs.Files.{packed}
+use Rattle.dex_write.specs.Least.{HoldsExactly}
+use Rattle.dex_write.proofs.TableLaws.{holds_exactly}
+use Rattle.dex_write.specs.Written.{AreNoLonger, IsFileOf, IsStripRefused}
+
+no_longer : (b c : List ℕ) (s : Five) → HoldsExactly b s → HoldsAtLeast c s → AreNoLonger b c
+no_longer b c s e h zero l = omega (arith, e.strings, h.strings)
+no_longer b c s e h (suc zero) l = omega (arith, e.types, h.types)
+no_longer b c s e h (suc (suc zero)) l = omega (arith, e.protos, h.protos)
+no_longer b c s e h (suc (suc (suc zero))) l = omega (arith, e.fields, h.fields)
+no_longer b c s e h (suc (suc (suc (suc zero)))) l = omega (arith, e.methods, h.methods)
+no_longer b c s e h (suc (suc (suc (suc (suc k))))) l = absurd (omega arith)
+
+pub file_of : (b : List ℕ) (p : Program) → WellFormed p → Fits p → Assembled b (needed p) p → IsFileOf p b
+file_of b p well fits file =
+    let exactly = holds_exactly b p well file in
+    record {
+      means = means b p well fits file;
+      packed = packed b p file well fits;
+      tables = exactly;
+      least = λ c m. no_longer b c (needed p) exactly (holds_at_least c p m);
+    }
+
+-- a program that fits breaks no limit
+pub none_broken : (p : Program) (e : Fault) → Fits p → ¬ IsLowestLimit p e
+none_broken p e fits broken = fits_breaks_none p fits e.code e.place broken.breaks
+
+-- a program that is refused with 80 to 88 is meant by no file
+pub vain : (p : Program) (e : Fault) → (e ≢ memory → IsLowestLimit p e) → e.code ≤ 88 → (b : List ℕ) → AreBytes b → ¬ Means b p
+vain p e broken low = without_file p e (broken (λ is. let code : e.code ≡ 255 = ap (λ f. f.code) is in absurd (omega (arith, code, low)))) low
+
+-- what strip refuses of a program that was read
+pub late_limit : (b : List ℕ) (p : Program) → AreBytes b → Means b p → (e : Fault) → (e ≢ memory → IsLowestLimit p e) → e ≢ memory → IsStripRefused b e
+late_limit b p are m e broken ne = inr (record { program = p; meant = m; limit = broken ne; late = meant b p e are m (broken ne) })

@@ -1,0 +1,50 @@
+-- A part that is laid is a packed section.
+use Rattle.std.proofs.Common.{◌≡◌, ℕ, Bool, false, List, [], ◌∷◌, length, map, refl, sym, ap, ◌∙◌, subst}
+use Rattle.std.proofs.lemmas.List.{length-map}
+use Rattle.std.specs.List.{AllByRecursion}
+use Rattle.dex_layout.specs.declared.plan.Part.{Part}
+use Rattle.dex_layout.specs.Parts.{HasPart}
+use Rattle.dex_layout.specs.Tiles.{Done, Item, Lays, Tiles, distinct_places}
+use Rattle.dex_write.specs.Packed.{IsPackedSection, MapSays}
+use Rattle.dex_write.proofs.Items.{items_some}
+
+-- the same items, by what H reads in them
+record Reread {V W : Type 0} (H : List ℕ → W → Type 0) (align : ℕ) (b : List ℕ) (at end : ℕ) (items : List (ℕ × V)) : Type 0 where
+  again : List (ℕ × W)
+  tiled : Tiles H align b at end again
+  places : map (λ (x : ℕ × W). x.0) again ≡ map (λ (x : ℕ × V). x.0) items
+
+-- what H reads where G spells a value that has an item
+abbrev pub Reads : {V W : Type 0} → (V → Bool) → (List ℕ → V → Type 0) → (List ℕ → W → Type 0) → Type 0
+Reads {V} {W} none G H = (bytes : List ℕ) (v : V) → none v ≡ false → G bytes v → (w : W) × H bytes w
+
+reread : {V W : Type 0} (none : V → Bool) (G : List ℕ → V → Type 0) (H : List ℕ → W → Type 0) → Reads none G H
+    → {align : ℕ} {b : List ℕ} {at end : ℕ} {items : List (ℕ × V)} → Tiles G align b at end items → AllByRecursion (λ (x : ℕ × V). none x.1 ≡ false) items → Reread H align b at end items
+reread none G H f Done some = record { again = []; tiled = Done; places = refl }
+reread none G H f (Item {place = place} {v = v} next size spelled rest) some =
+    let w = f _ v some.0 spelled in
+    let r = reread none G H f rest some.1 in
+    record { again = (place, w.0) ∷ r.again; tiled = Item next size w.1 r.tiled; places = ap (λ (ps : List ℕ). place ∷ ps) r.places }
+
+same_length : {V W : Type 0} (xs : List (ℕ × V)) (ys : List (ℕ × W)) → map (λ (x : ℕ × V). x.0) xs ≡ map (λ (x : ℕ × W). x.0) ys → length xs ≡ length ys
+same_length {V = V} {W = W} xs ys e = sym (length-map xs (λ (x : ℕ × V). x.0)) ∙ ap length e ∙ length-map ys (λ (x : ℕ × W). x.0)
+
+-- what the map says of a part
+map_says : (b : List ℕ) (kind : ℕ) (part : Part) → HasPart b kind part → MapSays b kind part.begin part.items
+map_says b kind part has = record {
+  counted = has.counted;
+  named = λ some. let s = (has.stands some).section in (s.entry, s.in_map, s.named, sym s.begins);
+}
+
+pub packed_section : {V W : Type 0} (none : V → Bool) (G : List ℕ → V → Type 0) (H : List ℕ → W → Type 0) → Reads none G H
+    → (align : ℕ) (b : List ℕ) (kind : ℕ) (part : Part) (vs : List V) (places references : List ℕ) → HasPart b kind part
+    → Lays none G align part.begin part.end b vs places part.items → places ≡ references → IsPackedSection H align b kind part.begin part.end references
+packed_section none G H f align b kind part vs places references has l same =
+    let r = reread none G H f l.tiled (items_some none G align part.begin part.end b vs places part.items l) in
+    let n : part.items ≡ length r.again = l.counted ∙ sym (same_length r.again l.items r.places) in
+    record {
+      items = r.again;
+      tiled = r.tiled;
+      order = r.places ∙ l.order ∙ ap distinct_places same;
+      in_map = subst (MapSays b kind part.begin) n (map_says b kind part has);
+    }

@@ -1,0 +1,22 @@
+use Rattle.std.proofs.lemmas.Result.{IfErr-weaker, IfOk-weaker}
+use Rattle.std.proofs.Common.{inl, subst}
+use Rattle.dex_file.proofs.PassLaws.{program_one}
+use Rattle.dex_limits.specs.Limits.{Fits}
+use Rattle.dex_program.specs.View as view
+use Rattle.dex_tables.proofs.RowReading.{passed}
+use Rattle.dex_write.proofs.FileLaws.{late_limit}
+use Rattle.dex_write.proofs.writing.strip.Goals as goal
+
+pub returns-clause-ok : goal.returns-clause-ok
+returns-clause-ok c = IfOk-weaker c.write.result _ _ (λ file h. record { program = view.program c.in_ok-program.program; meant = c.in_ok-program.ensures.means; file = h }) c.write.ensures.file
+
+pub returns-clause-only : goal.returns-clause-only
+returns-clause-only c = λ p m fits.
+    let same = program_one c.args.bytes.now p (view.program c.in_ok-program.program) m c.in_ok-program.ensures.means in
+    c.write.ensures.only (subst Fits same fits)
+
+pub returns-clause-refused : goal.returns-clause-refused
+returns-clause-refused c = IfErr-weaker c.write.result _ _ (λ e h. late_limit c.args.bytes.now (view.program c.in_ok-program.program) c.are_bytes.ensures c.in_ok-program.ensures.means e h) c.write.ensures.refused
+
+pub returns-in_err-program-clause-refused : goal.returns-in_err-program-clause-refused
+returns-in_err-program-clause-refused c = passed _ _ _ c.from_residual.ensures.1 (λ ne. inl (c.in_err-program.ensures.refused ne))

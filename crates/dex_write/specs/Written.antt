@@ -1,0 +1,40 @@
+-- What is written of a program, and of a file.
+-- Page: "Dalvik Executable format", "File layout".
+use Rattle.std.specs.Prelude.{◌≡◌, ℕ, ◌<◌, ◌≤◌, ◌⊎◌, List}
+use Rattle.dex_bytes.specs.declared.fault.Fault.{Fault}
+use Rattle.dex_container.specs.Layout.{size_of}
+use Rattle.dex_file.specs.Means.{Means}
+use Rattle.dex_file.specs.Refused.{IsRefused}
+use Rattle.dex_limits.specs.Limits.{IsLowestLimit}
+use Rattle.dex_names.specs.Needed.{needed}
+use Rattle.dex_program.specs.Content.{Program}
+use Rattle.dex_write.specs.Packed.{Packed}
+use Rattle.dex_write.specs.Least.{HoldsExactly}
+
+-- None of the five tables of names is longer than the same table of the other file.
+abbrev pub AreNoLonger : List ℕ → List ℕ → Type 0
+AreNoLonger b c = (k : ℕ) → k < 5 → size_of b k ≤ size_of c k
+
+-- The file of a program: it means the program, has no slack, and its tables hold exactly the names that the program needs, so that
+-- those of no file of the program are shorter.
+pub record IsFileOf (p : Program) (b : List ℕ) : Type 0 where
+  pub means : Means b p
+  pub packed : Packed b
+  pub tables : HoldsExactly b (needed p)
+  pub least : (c : List ℕ) → Means c p → AreNoLonger b c
+
+-- The one file means a program, and the other is its file.
+pub record IsStripped (given made : List ℕ) : Type 0 where
+  pub program : Program
+  pub meant : Means given program
+  pub file : IsFileOf program made
+
+-- The file is refused as it is read, or means a program that breaks a limit: 89 or 90, since no file means one that breaks another.
+pub record BreaksLimit (given : List ℕ) (fault : Fault) : Type 0 where
+  pub program : Program
+  pub meant : Means given program
+  pub limit : IsLowestLimit program fault
+  pub late : (fault.code ≡ 89) ⊎ (fault.code ≡ 90)
+
+abbrev pub IsStripRefused : List ℕ → Fault → Type 0
+IsStripRefused given fault = IsRefused given fault ⊎ BreaksLimit given fault

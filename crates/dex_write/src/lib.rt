@@ -1,0 +1,18 @@
+//! Whole files, written: `write` answers the file of a program, and `strip` the file of what a file means.
+//!
+//! ```
+//! let file = write(alloc, &program)?; // 80 to 90 where a limit is broken
+//! let small = strip(alloc, &bytes)?;
+//! ```
+#![tactic(auto)]
+
+// What holds of each file that is assembled.
+mod laws;
+
+// From a program to its file, and from a file to one without slack.
+mod writing;
+
+pub use laws::{
+    assembled_classes_stand, assembled_is_packed, assembled_means, assembled_tables_hold,
+};
+pub use writing::{strip, write, written_is_read};
