@@ -3,10 +3,9 @@
 
 mod ends;
 mod error;
-mod job;
 mod running;
 
+pub use dexasm_jobs::Job;
 pub use ends::{Sink, Source, Watched};
 pub use error::{Line, RunFault, line_text, status};
-pub use job::Job;
 pub use running::run;

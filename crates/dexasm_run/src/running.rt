@@ -5,8 +5,8 @@ ghost use Rattle.dexasm_run.specs.Runs.{Answers, BeginsAnswer, MatchRun, Refuses
 
 use crate::ends::{Sink, Source};
 use crate::error::RunFault;
-use crate::job::{Job, answer};
 use dex_base::Fault;
+use dexasm_jobs::{Job, answer};
 use std::alloc::{AllocError, Global};
 
 /// How many bytes one `take` may give.

@@ -1,4 +1,4 @@
-//! Tests of files: their frame, their tables, their values, whole files, and runs over readers and writers.
+//! Tests of files: their frame, their tables, their values, whole files.
 #![tactic(auto)]
 
 // dex_container
@@ -46,9 +46,3 @@ mod class_values;
 mod code_faults;
 #[cfg(test)]
 mod files;
-
-// dexasm_run
-#[cfg(test)]
-mod runs;
-#[cfg(test)]
-mod runs_failing;

@@ -2,8 +2,8 @@
 
 use dex_base::Fault;
 use dex_samples::{
-    NOTHING, Rows, TestReader, TestWriter, WITHOUT_CLASSES, file_of, is_so, none_wrong, reader,
-    reader_failing_once, writer, writer_failing_once,
+    NOTHING, ONE_CLASS, Rows, TestReader, TestWriter, WITHOUT_CLASSES, file_of, is_so, none_wrong,
+    reader, reader_failing_once, writer, writer_failing_once,
 };
 use dexasm_run::{Job, RunFault, Sink, Source, Watched, run};
 use std::alloc::Global;
@@ -123,4 +123,51 @@ fn a_writer_that_fails_once_is_not_written_on(rt: HostRuntime) -> Result<(), Fai
 #[test]
 fn a_writer_that_takes_nothing_has_failed(rt: HostRuntime) -> Result<(), Fail> {
     is_so(Ok(is_output_told(rt.alloc(), writer(rt.alloc(), 0, 9), 0)))
+}
+
+// Whether a strip tells that the output failed, which holds the first bytes of the file, so many.
+fn is_strip_told(alloc: Global, taking: TestWriter, held: usize) -> bool {
+    let mut input = Watched::new(ONE_CLASS.as_slice());
+    let mut output = Watched::new(taking);
+    let done = run(alloc, Job::Strip, &mut input, &mut output);
+    let is_told = matches!(done, Err(RunFault::Output)) && Sink::failed(&output);
+    is_told && held <= 376 && output.into_inner().held.as_slice() == &ONE_CLASS[..held]
+}
+
+fn first_strip_told_otherwise(alloc: Global, cases: &[Failing]) -> Option<&'static str> {
+    for (what, bytes) in cases {
+        if !is_strip_told(alloc, writer(alloc, 7, *bytes), *bytes) {
+            return Some(*what);
+        }
+    }
+    None
+}
+
+#[test]
+fn a_writer_that_fails_holds_the_beginning_of_a_file(rt: HostRuntime) -> Result<(), Fail> {
+    static CASES: [Failing; 5] = [
+        ("at once", 0),
+        ("after a byte", 1),
+        ("within a piece", 10),
+        ("after 7 times 30 bytes", 210),
+        ("before the last byte", 375),
+    ];
+    none_wrong(Ok(first_strip_told_otherwise(rt.alloc(), &CASES)))
+}
+
+// A file that is cut is refused before the writer, which takes nothing, is asked.
+fn is_cut_told(alloc: Global) -> bool {
+    let mut input = Watched::new(&ONE_CLASS[..111]);
+    let mut output = Watched::new(writer(alloc, 9, 0));
+    let done = run(alloc, Job::Strip, &mut input, &mut output);
+    let is_told = match done {
+        Err(RunFault::Refused(fault)) => fault.code == 1 && fault.place == 111,
+        _ => false,
+    };
+    is_told && !Sink::failed(&output)
+}
+
+#[test]
+fn a_refusal_goes_before_a_failing_writer(rt: HostRuntime) -> Result<(), Fail> {
+    is_so(Ok(is_cut_told(rt.alloc())))
 }

@@ -1,0 +1,16 @@
+use Rattle.std.proofs.Common.{inl, inr}
+use Rattle.std.proofs.lemmas.Result.{IfErr-weaker, IfOk-weaker}
+use Rattle.dex_rules.proofs.OrderLaws.{passed}
+use Rattle.dexasm_jobs.proofs.answers.assemble.Goals as goal
+
+pub returns-in_err-program-clause-refused : goal.returns-in_err-program-clause-refused
+returns-in_err-program-clause-refused c = passed _ _ _ c.from_residual.ensures.1 (λ ne. inl (c.in_err-program.ensures.err ne))
+
+pub write-requires : goal.write-requires
+write-requires c = record { kept = record { ranges = c.programs_are_in_range.ensures; rules = c.in_ok-program.ensures.ok.formed } }
+
+pub returns-clause-answered : goal.returns-clause-answered
+returns-clause-answered c = IfOk-weaker c.write.result _ _ (λ made h. (_, c.in_ok-program.ensures.ok, h)) c.write.ensures.file
+
+pub returns-clause-refused : goal.returns-clause-refused
+returns-clause-refused c = IfErr-weaker c.write.result _ _ (λ e h ne. inr (_, c.in_ok-program.ensures.ok, h ne)) c.write.ensures.refused

@@ -1,0 +1,19 @@
+use Rattle.std.proofs.Common.{inl, inr}
+use Rattle.std.proofs.lemmas.Result.{IfErr-weaker, IfOk-weaker}
+use Rattle.dex_rules.proofs.OrderLaws.{passed}
+use Rattle.dexasm_jobs.proofs.answers.assemble_aligned.Goals as goal
+
+pub returns-in_err-program-clause-refused : goal.returns-in_err-program-clause-refused
+returns-in_err-program-clause-refused c = passed _ _ _ c.from_residual.ensures.1 (λ ne. inl (c.in_err-program.ensures.err ne))
+
+pub align_all-requires : goal.align_all-requires
+align_all-requires c = record { kept = record { ranges = c.programs_are_in_range.ensures; rules = c.in_ok-program.ensures.ok.formed } }
+
+pub returns-in_err-aligned-clause-refused : goal.returns-in_err-aligned-clause-refused
+returns-in_err-aligned-clause-refused c = passed _ _ _ c.from_residual-in_err-aligned.ensures.1 (λ ne. inr (_, c.in_ok-program.ensures.ok, inl (c.in_err-aligned.ensures.err ne)))
+
+pub returns-clause-answered : goal.returns-clause-answered
+returns-clause-answered c = IfOk-weaker c.write.result _ _ (λ made h. (_, c.in_ok-program.ensures.ok, (_, c.in_ok-aligned.ensures.ok, h))) c.write.ensures.file
+
+pub returns-clause-refused : goal.returns-clause-refused
+returns-clause-refused c = IfErr-weaker c.write.result _ _ (λ e h ne. inr (_, c.in_ok-program.ensures.ok, inr (_, c.in_ok-aligned.ensures.ok, h ne))) c.write.ensures.refused

@@ -1,0 +1,41 @@
+-- What a job answers to the bytes that it is given, and when it refuses them.
+-- Page: docs/PROMISES.md; "Dalvik Executable format" for files, docs/LISTING.md for listings.
+use Rattle.std.specs.Prelude.{◌≡◌, ℕ, true, false, ◌⊎◌, List, codes}
+use Rattle.dex_align.specs.Programs.{AlignedProgram, IsTooLong}
+use Rattle.dex_bytes.specs.declared.fault.Fault.{Fault}
+use Rattle.dex_file.specs.Means.{Means}
+use Rattle.dex_file.specs.Refused.{IsRefused}
+use Rattle.dex_limits.specs.Limits.{IsLowestLimit}
+use Rattle.dex_listing.specs.Text.{IsListing, ListingBreaks}
+use Rattle.dex_print.specs.Canon.{canon}
+use Rattle.dex_program.specs.Content.{Program}
+use Rattle.dex_write.specs.Written.{IsFileOf, IsStripped, IsStripRefused}
+use Rattle.dexasm_jobs.specs.declared.job.Job.{Job}
+use Rattle.dexasm_jobs.specs.declared.job.Job.TheVariants.{Check, List as Listing, Assemble, Strip}
+
+-- The bytes are the file of the program with each of its codes aligned.
+abbrev pub IsAlignedFileOf : Program → List ℕ → Type 0
+IsAlignedFileOf p made = (q : Program) × AlignedProgram p q × IsFileOf q made
+
+-- The job's answer to these bytes. Check: `ok` and a line feed, where they are a file. List: the listing of the file's program.
+-- Assemble: the file of the listed program, or with align of that program aligned. Strip: the file of the file's program.
+abbrev pub Answer : Job → List ℕ → List ℕ → Type 0
+Answer Check given made = (p : Program) × Means given p × (made ≡ codes "ok\n")
+Answer Listing given made = (p : Program) × Means given p × (made ≡ canon p)
+Answer (Assemble false) given made = (p : Program) × IsListing given p × IsFileOf p made
+Answer (Assemble true) given made = (p : Program) × IsListing given p × IsAlignedFileOf p made
+Answer Strip given made = IsStripped given made
+
+-- A code of the program would be too long when aligned, or the aligned program breaks a limit of the format.
+abbrev pub IsAlignedUnwritten : Program → Fault → Type 0
+IsAlignedUnwritten p fault = IsTooLong p fault ⊎ ((q : Program) × AlignedProgram p q × IsLowestLimit q fault)
+
+-- The job refuses these bytes with this fault: they are no file, or no listing, or their program can't be written.
+abbrev pub Refusal : Job → List ℕ → Fault → Type 0
+Refusal Check given fault = IsRefused given fault
+Refusal Listing given fault = IsRefused given fault
+Refusal (Assemble false) given fault =
+    ListingBreaks given fault.code fault.place ⊎ ((p : Program) × IsListing given p × IsLowestLimit p fault)
+Refusal (Assemble true) given fault =
+    ListingBreaks given fault.code fault.place ⊎ ((p : Program) × IsListing given p × IsAlignedUnwritten p fault)
+Refusal Strip given fault = IsStripRefused given fault

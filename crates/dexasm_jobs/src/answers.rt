@@ -1,0 +1,76 @@
+// The answer to each job.
+ghost use Rattle.std.specs.Prelude.{◌≢◌, IfOk, IfErr, false, true};
+ghost use Rattle.dex_bytes.specs.Fault.{memory};
+ghost use Rattle.dexasm_jobs.specs.Answers.{Answer, Refusal};
+
+use crate::job::Job;
+use bumpalo::Bump;
+use dex_align::align_all;
+use dex_base::Fault;
+use dex_file::read;
+use dex_listing::parse;
+use dex_print::print;
+use dex_ranges::programs_are_in_range;
+use dex_write::{strip, write};
+use std::alloc::Global;
+
+/// The whole answer to a job on these bytes, or the fault of the call that refused them.
+///
+/// Check and List refuse what `read` refuses, Strip what `read` or `write` does, Assemble what `parse`, `align_all` (with
+/// align) or `write` does; the fault is theirs, with its place: a byte of a file, a line of a listing, or a class of the
+/// program. 255 is want of memory.
+pub fn answer(alloc: Global, job: Job, given: &[u8]) -> Result<Vec<u8>, Fault>
+    ensures answered { IfOk result (λ made. Answer job given.now made.items) }
+    ensures refused { IfErr result (λ fault. fault ≢ memory → Refusal job given.now fault) }
+{
+    match job {
+        Job::Check => check(alloc, given),
+        Job::List => list(alloc, given),
+        Job::Assemble { align: false } => assemble(alloc, given),
+        Job::Assemble { align: true } => assemble_aligned(alloc, given),
+        Job::Strip => strip(alloc, given),
+    }
+}
+
+// `ok` and a line feed, where the bytes are a file.
+fn check(alloc: Global, given: &[u8]) -> Result<Vec<u8>, Fault>
+    ensures answered { IfOk result (λ made. Answer Job.Check given.now made.items) }
+    ensures refused { IfErr result (λ fault. fault ≢ memory → Refusal Job.Check given.now fault) }
+{
+    let arena = Bump::new(alloc);
+    read(alloc, &arena, given)?;
+    Ok(Vec::from_slice(alloc, b"ok\n")?)
+}
+
+// The listing of the file's program.
+fn list(alloc: Global, given: &[u8]) -> Result<Vec<u8>, Fault>
+    ensures answered { IfOk result (λ made. Answer Job.List given.now made.items) }
+    ensures refused { IfErr result (λ fault. fault ≢ memory → Refusal Job.List given.now fault) }
+{
+    let arena = Bump::new(alloc);
+    let program = read(alloc, &arena, given)?;
+    print(alloc, &program)
+}
+
+// The file of the listed program.
+fn assemble(alloc: Global, given: &[u8]) -> Result<Vec<u8>, Fault>
+    ensures answered { IfOk result (λ made. Answer (Job.Assemble false) given.now made.items) }
+    ensures refused { IfErr result (λ fault. fault ≢ memory → Refusal (Job.Assemble false) given.now fault) }
+{
+    let arena = Bump::new(alloc);
+    let program = parse(alloc, &arena, given)?;
+    programs_are_in_range(&program);
+    write(alloc, &program)
+}
+
+// The file of the listed program with each code aligned.
+fn assemble_aligned(alloc: Global, given: &[u8]) -> Result<Vec<u8>, Fault>
+    ensures answered { IfOk result (λ made. Answer (Job.Assemble true) given.now made.items) }
+    ensures refused { IfErr result (λ fault. fault ≢ memory → Refusal (Job.Assemble true) given.now fault) }
+{
+    let arena = Bump::new(alloc);
+    let program = parse(alloc, &arena, given)?;
+    programs_are_in_range(&program);
+    let aligned = align_all(alloc, &arena, &program)?;
+    write(alloc, &aligned)
+}

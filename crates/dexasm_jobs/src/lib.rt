@@ -1,0 +1,14 @@
+//! The jobs of the tool, and the whole answer to each.
+//!
+//! ```text
+//! answer(alloc, Job::Check, bytes)?                     // `ok` and a line feed, where the bytes are a file
+//! answer(alloc, Job::List, bytes)?                      // the listing of the file's program
+//! answer(alloc, Job::Assemble { align: false }, text)?  // the file of the listed program
+//! ```
+#![tactic(auto)]
+
+mod answers;
+mod job;
+
+pub use answers::answer;
+pub use job::Job;

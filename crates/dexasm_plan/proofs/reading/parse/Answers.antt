@@ -1,0 +1,18 @@
+use Rattle.std.proofs.Common.{ap, ◌∙◌}
+use Rattle.std.proofs.lemmas.Result.{IfErr-weaker, IfOk-weaker}
+use Rattle.clap.specs.Words.{App, is_simple, subcommand_of, takes}
+use Rattle.dexasm_plan.specs.Plans.{texts_of}
+use Rattle.dexasm_plan.proofs.Shapes.{is_simple_command, asks_subcommand}
+use Rattle.dexasm_plan.proofs.reading.parse.Goals as goal
+
+pub returns : goal.returns
+returns c =
+    let parse = c.try_get_matches_from in
+    let is = c.in_ok-command.ensures.shape in
+    record {
+      met = IfOk-weaker parse.result _ _ (λ m p.
+          (p.parsed (p.from.globals ∙ c.in_ok-command.ensures.local)).checked.subcommand
+          (p.from.needs_subcommand ∙ ap (λ (a : App). a.top.subcommand_required) is ∙ asks_subcommand)) parse.ensures.parsed;
+      rows = IfOk-weaker parse.result _ _ (λ m h. (h (ap is_simple is ∙ is_simple_command)).1 ∙ ap (λ (a : App). subcommand_of a (texts_of c.args.words.now)) is) parse.ensures.matches;
+      passes = IfErr-weaker parse.result _ _ (λ e h t. h (ap (λ (a : App). takes a (texts_of c.args.words.now)) is ∙ t)) parse.ensures.passes;
+    }

@@ -1,0 +1,81 @@
+// The command line, by clap's builder.
+ghost use Rattle.std.specs.Prelude.{◌≡◌, IfOk, false};
+ghost use Rattle.clap.specs.Words.{app_of, rule_of};
+ghost use Rattle.clap.specs.declared.builder.command.Command.TheViews.{out-Command};
+ghost use Rattle.dexasm_plan.specs.Commands.{align_rule, dexasm, file_rule, job_app, output_rule};
+
+use crate::texts;
+use clap::{Arg, ArgAction, Command};
+use std::alloc::{AllocError, Global};
+
+/// `dexasm` with its four subcommands.
+pub(crate) fn command<'w>(alloc: Global) -> Result<Command<'w>, AllocError>
+    ensures shape { IfOk result (λ c. app_of c ≡ dexasm) }
+    ensures local { IfOk result (λ c. (out-Command c).has_globals ≡ false) }
+{
+    let check = job_command(alloc, "check", texts::CHECK, texts::CHECK_MORE)?;
+    let list = job_command(alloc, "list", texts::LIST, texts::LIST_MORE)?;
+    let align = align_arg(alloc);
+    let assemble = job_command(alloc, "assemble", texts::ASSEMBLE, texts::ASSEMBLE_MORE)?.arg(
+        align,
+    )?;
+    let strip = job_command(alloc, "strip", texts::STRIP, texts::STRIP_MORE)?;
+    Command::new(alloc, "dexasm")
+        .about(texts::TOOL)
+        .after_help(texts::TOOL_MORE)
+        .subcommand_required(true)
+        .disable_help_subcommand(true)
+        .subcommand(check)?
+        .subcommand(list)?
+        .subcommand(assemble)?
+        .subcommand(strip)
+}
+
+// A subcommand with a file to read and a file to write.
+fn job_command<'w>(
+    alloc: Global,
+    name: &'w str,
+    about: &'w str,
+    more: &'w str,
+) -> Result<Command<'w>, AllocError>
+    ensures shape { IfOk result (λ c. app_of c ≡ job_app name.entry.now) }
+    ensures local { IfOk result (λ c. (out-Command c).has_globals ≡ false) }
+{
+    let file = file_arg(alloc);
+    let output = output_arg(alloc);
+    Command::new(alloc, name)
+        .about(about)
+        .after_help(more)
+        .arg(file)?
+        .arg(output)
+}
+
+// FILE.
+fn file_arg<'w>(alloc: Global) -> Arg<'w>
+    ensures rule { rule_of result ≡ file_rule }
+    ensures local { result.global ≡ false }
+{
+    Arg::new(alloc, "FILE").help(texts::FILE)
+}
+
+// --output OUT.
+fn output_arg<'w>(alloc: Global) -> Arg<'w>
+    ensures rule { rule_of result ≡ output_rule }
+    ensures local { result.global ≡ false }
+{
+    Arg::new(alloc, "output")
+        .long("output")
+        .value_name("OUT")
+        .help(texts::OUTPUT)
+}
+
+// --align.
+fn align_arg<'w>(alloc: Global) -> Arg<'w>
+    ensures rule { rule_of result ≡ align_rule }
+    ensures local { result.global ≡ false }
+{
+    Arg::new(alloc, "align")
+        .long("align")
+        .action(ArgAction::SetTrue)
+        .help(texts::ALIGN)
+}

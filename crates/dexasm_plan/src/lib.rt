@@ -1,0 +1,15 @@
+//! The words of a command line, as what they ask for.
+//!
+//! ```text
+//! plan(alloc, &["dexasm", "assemble", "a.txt", "--align", "--output", "a.dex"])?
+//! // Plan { job: Job::Assemble { align: true }, file: Some("a.txt"), output: Some("a.dex") }
+//! ```
+#![tactic(auto)]
+
+mod command;
+mod planned;
+mod reading;
+mod texts;
+
+pub use planned::Plan;
+pub use reading::{plan, usage_status};

@@ -1,0 +1,69 @@
+// The words of the help. The manual page docs/man/dexasm.1 is made of them too, by tools/man.
+
+/// The tool: what it does.
+pub(crate) const TOOL: &str =
+    "Checks, lists, assembles and strips .dex files (Dalvik Executable, version 035)";
+
+/// More on it.
+pub(crate) const TOOL_MORE: &str = "\
+A .dex file holds the classes of an Android program. Only version 035 is read and written.
+Without FILE standard input is read, without --output the answer goes to standard output.
+
+Exit status: 0 done, 1 the file or the listing is refused, 2 wrong words,
+3 reading or writing failed, 4 out of memory.
+
+Example: dexasm check classes.dex";
+
+/// The subcommand check: what it does.
+pub(crate) const CHECK: &str = "Says whether a .dex file keeps every rule of its format";
+
+/// More on it.
+pub(crate) const CHECK_MORE: &str = "\
+Reads the whole file: header, map and checksums, the tables of names, classes, static values
+and code. Prints ok, or tells the first rule that is broken and the byte where it is.
+The format is Dalvik Executable, version 035.
+
+Example: dexasm check classes.dex";
+
+/// The subcommand list: what it does.
+pub(crate) const LIST: &str = "Prints the program of a .dex file as a listing";
+
+/// More on it.
+pub(crate) const LIST_MORE: &str = "\
+A listing is plain text: a line for each class, member and instruction. It can be changed
+by hand, and 'dexasm assemble' makes a file of it again. A file that breaks a rule of its
+format (Dalvik Executable, version 035) is refused.
+
+Example: dexasm list classes.dex --output classes.txt";
+
+/// The subcommand assemble: what it does.
+pub(crate) const ASSEMBLE: &str = "Makes the .dex file of a listing";
+
+/// More on it.
+pub(crate) const ASSEMBLE_MORE: &str = "\
+Writes a file that means the listed program and holds nothing else (Dalvik Executable,
+version 035). Payloads, which are the tables of switches and the data of arrays, have to
+stand at even addresses: where one doesn't, the listing is refused; with --align a nop is
+put before it.
+
+Example: dexasm assemble classes.txt --output classes.dex";
+
+/// The subcommand strip: what it does.
+pub(crate) const STRIP: &str = "Writes a .dex file anew, with nothing to spare";
+
+/// More on it.
+pub(crate) const STRIP_MORE: &str = "\
+The program stays as it is. Names that it doesn't need, annotations and debug information
+(line numbers too) are dropped. The format is Dalvik Executable, version 035.
+
+Example: dexasm strip classes.dex --output small.dex";
+
+/// FILE.
+pub(crate) const FILE: &str = "The file to read, in place of standard input";
+
+/// --output OUT.
+pub(crate) const OUTPUT: &str =
+    "The file to write, in place of standard output: made or emptied only when the answer is whole";
+
+/// --align.
+pub(crate) const ALIGN: &str = "Put a nop before each payload at an odd address";

@@ -1,0 +1,44 @@
+//! What the jobs are given and answer, by name.
+
+use crate::files::{LATER_SUPERCLASS, SPARE_NAMES};
+use crate::listings::{
+    BARE_TRY, ESCAPED, EVEN_PAYLOAD, LATER_SUPERCLASS_LISTED, ODD_PAYLOAD, ONE_CLASS_LISTED,
+};
+use dex_samples::{ONE_CLASS, WITHOUT_CLASSES};
+
+/// Files, listings, and what a check answers.
+#[derive(Clone, Copy)]
+pub enum Given {
+    Nothing,
+    Okay,
+    File,
+    Listing,
+    EmptyFile,
+    EmptyListing,
+    SpareNames,
+    LaterSuperclass,
+    LaterSuperclassListing,
+    BareTry,
+    Escapes,
+    OddPayload,
+    EvenPayload,
+}
+
+/// The bytes of that name.
+pub fn bytes_of(given: Given) -> &'static [u8] {
+    match given {
+        Given::Nothing => &[],
+        Given::Okay => b"ok\n",
+        Given::File => &ONE_CLASS,
+        Given::Listing => ONE_CLASS_LISTED,
+        Given::EmptyFile => &WITHOUT_CLASSES,
+        Given::EmptyListing => b"dex 035\n",
+        Given::SpareNames => &SPARE_NAMES,
+        Given::LaterSuperclass => &LATER_SUPERCLASS,
+        Given::LaterSuperclassListing => LATER_SUPERCLASS_LISTED,
+        Given::BareTry => BARE_TRY,
+        Given::Escapes => ESCAPED,
+        Given::OddPayload => ODD_PAYLOAD,
+        Given::EvenPayload => EVEN_PAYLOAD,
+    }
+}

@@ -1,0 +1,21 @@
+//! Tests of the tool: what the words ask for, what a run of each job answers, and what is told of failures.
+#![tactic(auto)]
+
+#[cfg(test)]
+mod files;
+#[cfg(test)]
+mod given;
+#[cfg(test)]
+mod listings;
+
+// dexasm_plan
+#[cfg(test)]
+mod plans;
+
+// dexasm_run
+#[cfg(test)]
+mod jobs;
+#[cfg(test)]
+mod runs;
+#[cfg(test)]
+mod runs_failing;

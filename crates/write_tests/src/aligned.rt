@@ -1,0 +1,53 @@
+//! Payloads at odd addresses: refused as they are, and written once they are aligned.
+
+use crate::codes::begins_with;
+use crate::kept::{aligned_file_of, fault_of};
+use crate::many::{body, program};
+use bumpalo::Bump;
+use bumpalo::collections::into_bump_slice;
+use dex_base::Fault;
+use dex_program::{Insn, Program};
+use dex_samples::none_wrong;
+use std::alloc::Global;
+use std::test::Fail;
+
+// A packed-switch of three units and its payload right behind it.
+fn switch<'a>(arena: &'a Bump) -> Result<Program<'a>, Fault> {
+    let mut insns = Vec::new(arena);
+    insns.push(Insn::I31t {
+        op: 0x2b,
+        a: 0,
+        to: 1,
+    })?;
+    insns.push(Insn::Packed {
+        first: 0,
+        targets: &[0],
+    })?;
+    let code = body(arena, into_bump_slice(insns), &[])?;
+    program(arena, &[], &[], Some(code))
+}
+
+// The code item with a nop between the two: 2 registers, 10 units.
+static ITEM: [u8; 36] = [
+    2, 0, 0, 0, 0, 0, 0, 0, 0, 0, 0, 0, 10, 0, 0, 0, 0x2b, 0, 4, 0, 0, 0, 0, 0, 0, 1, 1, 0, 0, 0,
+    0, 0, 0, 0, 0, 0,
+];
+
+fn first_otherwise(alloc: Global) -> Result<Option<&'static str>, Fault> {
+    let arena = Bump::new(alloc);
+    let program = switch(&arena)?;
+    let (code, place) = fault_of(alloc, &program);
+    if code != 86 || place != 0 {
+        return Ok(Some("an odd address"));
+    }
+    let file = aligned_file_of(alloc, &arena, &program)?;
+    if !begins_with(&file, &ITEM) {
+        return Ok(Some("the item"));
+    }
+    Ok(None)
+}
+
+#[test]
+fn a_payload_at_an_odd_address_is_aligned(rt: HostRuntime) -> Result<(), Fail> {
+    none_wrong(first_otherwise(rt.alloc()))
+}

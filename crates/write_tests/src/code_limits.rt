@@ -1,0 +1,203 @@
+//! As far as branches reach, as much as tries cover, as many of them as an item can have, and one more.
+
+use crate::kept::fault_of;
+use crate::many::{alike, body, program};
+use crate::small::RETURN;
+use bumpalo::Bump;
+use bumpalo::collections::into_bump_slice;
+use dex_base::Fault;
+use dex_program::{Code, Insn, Program, Try};
+use dex_samples::{is_so, none_wrong};
+use std::alloc::Global;
+use std::test::Fail;
+
+// A body at a limit.
+#[derive(Clone, Copy)]
+enum Body {
+    // a goto over so many nops
+    Over(u32),
+    // a goto back over so many nops
+    Back(u32),
+    // a try over so many nops, with return-void behind them
+    Nops(u32),
+    // a try over so many nops and a const-wide
+    Wide(u32),
+    // so many tries, all with one handler
+    Tries(u32),
+    // so many tries, each with a handler of its own
+    Handlers(u32),
+}
+
+fn nops<'a>(
+    arena: &'a Bump,
+    before: Option<Insn<'a>>,
+    count: u32,
+    behind: Insn<'a>,
+) -> Result<&'a [Insn<'a>], Fault> {
+    let mut insns = Vec::new(arena);
+    match before {
+        Some(insn) => insns.push(insn)?,
+        None => {}
+    }
+    for _turn in 0..count {
+        insns.push(Insn::I10x { op: 0 })?;
+    }
+    insns.push(behind)?;
+    Ok(into_bump_slice(insns))
+}
+
+// A try over so many instructions, at whose begin exceptions are handled.
+fn one_try<'a>(
+    arena: &'a Bump,
+    insns: &'a [Insn<'a>],
+    covered: u32,
+) -> Result<&'a Code<'a>, Fault> {
+    let mut tries = Vec::new(arena);
+    tries.push(Try {
+        from: 0,
+        to: covered,
+        catches: &[],
+        catch_all: Some(0),
+    })?;
+    body(arena, insns, into_bump_slice(tries))
+}
+
+// So many tries of one nop each, whose handlers are one or all different.
+fn tried<'a>(arena: &'a Bump, count: u32, alike: bool) -> Result<&'a Code<'a>, Fault> {
+    let mut tries = Vec::new(arena);
+    for i in 0..count {
+        let at = if alike { 0 } else { i };
+        tries.push(Try {
+            from: i,
+            to: i.saturating_add(1),
+            catches: &[],
+            catch_all: Some(at),
+        })?;
+    }
+    body(
+        arena,
+        nops(arena, None, 65536, RETURN)?,
+        into_bump_slice(tries),
+    )
+}
+
+fn body_of<'a>(arena: &'a Bump, one: Body) -> Result<&'a Code<'a>, Fault> {
+    match one {
+        Body::Over(count) => {
+            let goto = Insn::I10t {
+                op: 0x28,
+                to: count.saturating_add(1),
+            };
+            body(arena, nops(arena, Some(goto), count, RETURN)?, &[])
+        }
+        Body::Back(count) => body(
+            arena,
+            nops(arena, None, count, Insn::I10t { op: 0x28, to: 0 })?,
+            &[],
+        ),
+        Body::Nops(count) => one_try(arena, nops(arena, None, count, RETURN)?, count),
+        Body::Wide(count) => {
+            let wide = Insn::I51l {
+                op: 0x18,
+                a: 0,
+                b: 0,
+            };
+            one_try(
+                arena,
+                nops(arena, None, count, wide)?,
+                count.saturating_add(1),
+            )
+        }
+        Body::Tries(count) => tried(arena, count, true),
+        Body::Handlers(count) => tried(arena, count, false),
+    }
+}
+
+fn made<'a>(arena: &'a Bump, one: Body) -> Result<Program<'a>, Fault> {
+    let code = body_of(arena, one)?;
+    program(arena, &[], &[], Some(code))
+}
+
+fn is_limited_so(alloc: Global, one: Body, want: (u16, u64)) -> Result<bool, Fault> {
+    let arena = Bump::new(alloc);
+    let program = made(&arena, one)?;
+    let (code, place) = fault_of(alloc, &program);
+    Ok(code == want.0 && place == want.1)
+}
+
+type Case = (&'static str, Body, (u16, u64));
+
+fn first_otherwise(alloc: Global, cases: &[Case]) -> Result<Option<&'static str>, Fault> {
+    for (what, one, want) in cases {
+        if !is_limited_so(alloc, *one, *want)? {
+            return Ok(Some(*what));
+        }
+    }
+    Ok(None)
+}
+
+#[test]
+fn a_goto_reaches_127_units_ahead_and_128_back(rt: HostRuntime) -> Result<(), Fail> {
+    static CASES: [Case; 4] = [
+        ("127 ahead", Body::Over(126), (0, 0)),
+        ("128 ahead", Body::Over(127), (85, 0)),
+        ("128 back", Body::Back(128), (0, 0)),
+        ("129 back", Body::Back(129), (85, 0)),
+    ];
+    none_wrong(first_otherwise(rt.alloc(), &CASES))
+}
+
+// A handler takes two bytes below address 128, three below 16384, then four, and the first stands at offset 3.
+#[test]
+fn tries_cover_and_are_at_most_65535(rt: HostRuntime) -> Result<(), Fail> {
+    static CASES: [Case; 7] = [
+        ("65535 units", Body::Nops(65535), (0, 0)),
+        ("65536 units", Body::Nops(65536), (87, 0)),
+        (
+            "the last of 65534 nops and a const-wide at 65534",
+            Body::Wide(65534),
+            (0, 0),
+        ),
+        ("65535 tries", Body::Tries(65535), (0, 0)),
+        ("65536 tries", Body::Tries(65536), (88, 0)),
+        ("the last handler at 65535", Body::Handlers(20512), (0, 0)),
+        ("the last handler at 65539", Body::Handlers(20513), (89, 0)),
+    ];
+    none_wrong(first_otherwise(rt.alloc(), &CASES))
+}
+
+// So many zeros.
+fn zeros<'a>(arena: &'a Bump, count: usize) -> Result<&'a [u8], Fault> {
+    let mut bytes = Vec::new(arena);
+    bytes.resize(count, 0u8)?;
+    Ok(into_bump_slice(bytes))
+}
+
+// 256 methods with one body in memory, whose array is of 2 ^ 24 bytes.
+fn arrays<'a>(arena: &'a Bump) -> Result<Program<'a>, Fault> {
+    let mut insns = Vec::new(arena);
+    insns.push(Insn::I31t {
+        op: 0x26,
+        a: 0,
+        to: 2,
+    })?;
+    insns.push(RETURN)?;
+    insns.push(Insn::Data {
+        width: 1,
+        bytes: zeros(arena, 16777216)?,
+    })?;
+    let code = body(arena, into_bump_slice(insns), &[])?;
+    program(arena, &[], alike(arena, 256, Some(code))?, None)
+}
+
+fn is_too_big(alloc: Global) -> Result<bool, Fault> {
+    let arena = Bump::new(alloc);
+    let program = arrays(&arena)?;
+    let (code, place) = fault_of(alloc, &program);
+    Ok(code == 90 && place == 0)
+}
+
+#[test]
+fn a_file_has_less_than_2_to_the_32_bytes(rt: HostRuntime) -> Result<(), Fail> {
+    is_so(is_too_big(rt.alloc()))
+}

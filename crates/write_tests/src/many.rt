@@ -1,0 +1,191 @@
+//! Names by number, and programs with many members.
+
+use crate::small::{A, VOID};
+use bumpalo::Bump;
+use bumpalo::collections::into_bump_slice;
+use dex_base::Fault;
+use dex_program::{
+    Class, Code, Desc, FieldRef, Insn, Member, Method, MethodRef, Name, Program, Proto, Str, Try,
+    place_str,
+};
+
+const INT: Desc<'static> = Desc {
+    text: Str { units: &[0x49] },
+};
+
+// `m`, the name of the method with a body.
+const M: Str<'static> = Str { units: &[0x6d] };
+
+// `()V`.
+fn to_void<'a>(arena: &'a Bump) -> Result<&'a Proto<'a>, Fault> {
+    Ok(arena.try_alloc(Proto {
+        ret: VOID,
+        params: &[],
+    })?)
+}
+
+// Two units that rise with the number, each of them one of a name.
+fn units_of(number: u32) -> [u16; 2] {
+    [
+        0x100 + (number / 4096 % 4096) as u16,
+        0x100 + (number % 4096) as u16,
+    ]
+}
+
+/// The name of this number: names rise with their numbers, and stand behind those of ASCII letters.
+pub fn name_of<'a>(arena: &'a Bump, number: u32) -> Result<Str<'a>, Fault> {
+    place_str(arena, &units_of(number))
+}
+
+// The class type of this number.
+fn type_of<'a>(arena: &'a Bump, number: u32) -> Result<Desc<'a>, Fault> {
+    let [first, second] = units_of(number);
+    Ok(Desc {
+        text: place_str(arena, &[0x4c, first, second, 0x3b])?,
+    })
+}
+
+/// So many fields of type `I`.
+pub fn ints<'a>(arena: &'a Bump, count: u32) -> Result<&'a [Member<'a>], Fault> {
+    let mut fields = Vec::new(arena);
+    for number in 0..count {
+        fields.push(Member {
+            name: name_of(arena, number)?,
+            ty: INT,
+            flags: 0,
+        })?;
+    }
+    Ok(into_bump_slice(fields))
+}
+
+/// So many fields, each of a class type of its own.
+pub fn objects<'a>(arena: &'a Bump, count: u32) -> Result<&'a [Member<'a>], Fault> {
+    let mut fields = Vec::new(arena);
+    for number in 0..count {
+        fields.push(Member {
+            name: name_of(arena, number)?,
+            ty: type_of(arena, number)?,
+            flags: 0,
+        })?;
+    }
+    Ok(into_bump_slice(fields))
+}
+
+/// So many methods `()V`, each with this body.
+pub fn alike<'a>(
+    arena: &'a Bump,
+    count: u32,
+    code: Option<&'a Code<'a>>,
+) -> Result<&'a [Method<'a>], Fault> {
+    let proto = to_void(arena)?;
+    let mut methods = Vec::new(arena);
+    for number in 0..count {
+        methods.push(Method {
+            name: name_of(arena, number)?,
+            proto,
+            flags: 9,
+            code,
+        })?;
+    }
+    Ok(into_bump_slice(methods))
+}
+
+// A prototype of its own for each number: two of 300 types.
+fn proto_of<'a>(arena: &'a Bump, number: u32) -> Result<&'a Proto<'a>, Fault> {
+    let mut params = Vec::new(arena);
+    params.push(type_of(arena, number / 300)?)?;
+    params.push(type_of(arena, number % 300)?)?;
+    Ok(arena.try_alloc(Proto {
+        ret: VOID,
+        params: into_bump_slice(params),
+    })?)
+}
+
+/// So many methods, each of a prototype of its own.
+pub fn unlike<'a>(arena: &'a Bump, count: u32) -> Result<&'a [Method<'a>], Fault> {
+    let mut methods = Vec::new(arena);
+    for number in 0..count {
+        let name = name_of(arena, number)?;
+        methods.push(Method {
+            name,
+            proto: proto_of(arena, number)?,
+            flags: 9,
+            code: None,
+        })?;
+    }
+    Ok(into_bump_slice(methods))
+}
+
+/// The field of this number in a class with `ints`.
+pub fn field_named<'a>(arena: &'a Bump, number: u32) -> Result<Name<'a>, Fault> {
+    Ok(Name::Field(arena.try_alloc(FieldRef {
+        class: A,
+        name: name_of(arena, number)?,
+        ty: INT,
+    })?))
+}
+
+/// The method of this number in a class with `alike`.
+pub fn method_named<'a>(arena: &'a Bump, number: u32) -> Result<Name<'a>, Fault> {
+    let name = name_of(arena, number)?;
+    let proto = to_void(arena)?;
+    Ok(Name::Method(arena.try_alloc(MethodRef {
+        class: A,
+        name,
+        proto,
+    })?))
+}
+
+/// A body of these instructions and tries.
+pub fn body<'a>(
+    arena: &'a Bump,
+    insns: &'a [Insn<'a>],
+    tries: &'a [Try<'a>],
+) -> Result<&'a Code<'a>, Fault> {
+    Ok(arena.try_alloc(Code {
+        registers: 2,
+        ins: 0,
+        outs: 0,
+        insns,
+        tries,
+    })?)
+}
+
+// The method `m()V` with this body, if there is one.
+fn with_body<'a>(arena: &'a Bump, code: Option<&'a Code<'a>>) -> Result<&'a [Method<'a>], Fault> {
+    let mut methods = Vec::new(arena);
+    if code.is_some() {
+        methods.push(Method {
+            name: M,
+            proto: to_void(arena)?,
+            flags: 9,
+            code,
+        })?;
+    }
+    Ok(into_bump_slice(methods))
+}
+
+/// The program of the class `LA;` with these members, and the method `m()V` with this body, if there is one.
+pub fn program<'a>(
+    arena: &'a Bump,
+    instances: &'a [Member<'a>],
+    virtuals: &'a [Method<'a>],
+    code: Option<&'a Code<'a>>,
+) -> Result<Program<'a>, Fault> {
+    let mut classes = Vec::new(arena);
+    classes.push(Class {
+        ty: A,
+        flags: 1,
+        superclass: None,
+        interfaces: &[],
+        source: None,
+        statics: &[],
+        values: &[],
+        instances,
+        directs: with_body(arena, code)?,
+        virtuals,
+    })?;
+    Ok(Program {
+        classes: into_bump_slice(classes),
+    })
+}

@@ -1,0 +1,79 @@
+//! The program of file S, with another body or with another method.
+
+use dex_program::{Class, Code, Desc, Insn, Method, Proto, Str};
+
+/// `LA;`.
+pub const A: Desc<'static> = Desc {
+    text: Str {
+        units: &[0x4c, 0x41, 0x3b],
+    },
+};
+
+const OBJECT: Desc<'static> = Desc {
+    text: Str {
+        units: &[
+            0x4c, 0x6a, 0x61, 0x76, 0x61, 0x2f, 0x6c, 0x61, 0x6e, 0x67, 0x2f, 0x4f, 0x62, 0x6a,
+            0x65, 0x63, 0x74, 0x3b,
+        ],
+    },
+};
+
+/// `V`.
+pub const VOID: Desc<'static> = Desc {
+    text: Str { units: &[0x56] },
+};
+
+/// Return-void.
+pub const RETURN: Insn<'static> = Insn::I10x { op: 0x0e };
+
+/// Return-void alone, in one register.
+pub const BODY: Code<'static> = Code {
+    registers: 1,
+    ins: 0,
+    outs: 0,
+    insns: &[RETURN],
+    tries: &[],
+};
+
+/// The method `m()V`, public and static.
+pub const METHOD: Method<'static> = Method {
+    name: Str { units: &[0x6d] },
+    proto: &Proto {
+        ret: VOID,
+        params: &[],
+    },
+    flags: 9,
+    code: Some(&BODY),
+};
+
+/// The class `LA;` without members.
+pub const EMPTY: Class<'static> = Class {
+    ty: A,
+    flags: 1,
+    superclass: Some(OBJECT),
+    interfaces: &[],
+    source: None,
+    statics: &[],
+    values: &[],
+    instances: &[],
+    directs: &[],
+    virtuals: &[],
+};
+
+/// The class of file S.
+pub const ONE: Class<'static> = Class {
+    directs: &[METHOD],
+    ..EMPTY
+};
+
+/// .. with a second direct method, `n()V`, of equal body.
+pub const TWO: Class<'static> = Class {
+    directs: &[
+        METHOD,
+        Method {
+            name: Str { units: &[0x6e] },
+            ..METHOD
+        },
+    ],
+    ..EMPTY
+};
