@@ -23,6 +23,7 @@ job_named name align = if bytes_eq name (codes "check") then Some Check
 abbrev pub is_set : Text → List Row → Bool
 is_set id rows = option_map_or (λ t. bytes_eq t (codes "true")) (first_of id rows) false
 
+-- the plan has the job of that name, with the flag, and the values of FILE and OUT
 pub record IsPlanOf (name : Text) (rows : List Row) (p : Plan) : Type 0 where
   pub job : job_named name (is_set (codes "align") rows) ≡ Some p.job
   pub file : option_map (λ s. s.now) p.file ≡ first_of (codes "FILE") rows
