@@ -13,47 +13,22 @@ use Rattle.dex_program.specs.Formed.{IsFormed}
 use Rattle.dex_rules.specs.Ranges.{NameInRange, ValueInRange, MemberInRange, CodeInRange, DefinedInRange, ClassInRange, WellFormed}
 use Rattle.dex_rules.specs.Rules.{NamesAreValid, KeysRise, MembersRise, AreDistinct, OrderHolds, ValuesFit, CodesHold, ClassHolds, member_key, method_key}
 use Rattle.dex_rules.specs.Valid.{IsValidName}
+use Rattle.dex_rules.proofs.FormedLaws.{class_formed}
 use Rattle.dex_rules.proofs.WalkLaws.{all-turned}
 
 -- ---- bodies that keep the rules are well formed, and the other way round
 
-formed_of : (c : Code) → OperandsHold c → TargetsHold c → PayloadsHold c → TriesHold c → CodeInRange c → IsFormed c
-formed_of c o t p r n = record {
-  some = o.some;
-  few = o.few;
-  operands = o.operands;
-  targets = t;
-  payloads = p;
-  tries = r;
-  registers = n.registers;
-  ins = n.ins;
-  outs = n.outs;
-}
-
-body_formed : (o : Option Code) → IfSome o OperandsHold → IfSome o TargetsHold → IfSome o PayloadsHold → IfSome o TriesHold → IfSome o CodeInRange → IfSome o IsFormed
-body_formed None a b c d e = tt
-body_formed (Some code) a b c d e = formed_of code a b c d e
-
 -- all bodies of methods
 abbrev Bodies : (Code → Type 0) → List Method → Type 0
 Bodies P ms = AllByRecursion (λ (m : Method). IfSome m.code P) ms
-
-methods_formed : (ms : List Method) → Bodies OperandsHold ms → Bodies TargetsHold ms → Bodies PayloadsHold ms → Bodies TriesHold ms → AllByRecursion DefinedInRange ms → Bodies IsFormed ms
-methods_formed [] a b c d e = tt
-methods_formed (m ∷ ms) a b c d e = (body_formed m.code a.0 b.0 c.0 d.0 e.0.code, methods_formed ms a.1 b.1 c.1 d.1 e.1)
-
-class_formed : (p : Program) (i : ℕ) (c : Class) → ClassHolds p i c → ClassInRange c → CodesHold IsFormed c
-class_formed p i c h r = record {
-  directs = methods_formed c.directs h.operands.directs h.targets.directs h.payloads.directs h.tries.directs r.directs;
-  virtuals = methods_formed c.virtuals h.operands.virtuals h.targets.virtuals h.payloads.virtuals h.tries.virtuals r.virtuals;
-}
 
 classes_formed : (p : List Class) → ((i : ℕ) (c : Class) → slice_get p i ≡ Some c → ClassInRange c → CodesHold IsFormed c) → AllByRecursion ClassInRange p → AllByRecursion (CodesHold IsFormed) p
 classes_formed [] h r = tt
 classes_formed (c ∷ cs) h r = (h 0 c refl r.0, classes_formed cs (λ i d e. h (suc i) d e) r.1)
 
 pub program_formed : (p : Program) → WellFormed p → AllByRecursion (CodesHold IsFormed) p
-program_formed p w = classes_formed p (λ i c e r. class_formed p i c (w.rules i c e) r) w.ranges
+program_formed p w =
+    classes_formed p (λ i c e r. let h = w.rules i c e in class_formed c h.operands h.targets h.payloads h.tries r) w.ranges
 
 some_turned : (P Q : Code → Type 0) → ((c : Code) → P c → Q c) → (o : Option Code) → IfSome o P → IfSome o Q
 some_turned P Q h None a = tt

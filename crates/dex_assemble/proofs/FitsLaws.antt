@@ -1,7 +1,9 @@
 -- What a program within the limits has room for.
-use Rattle.std.proofs.Common.{◌≡◌, ℕ, zero, suc, ◌+◌, ◌≤◌, List, [], ◌∷◌, ◌++◌, length, refl, subst, arith, Some}
+use Rattle.std.proofs.Common.{◌≡◌, ℕ, zero, suc, ◌+◌, ◌<◌, ◌≤◌, ◌∙◌, List, [], ◌∷◌, ◌++◌, length, refl, subst, ap, arith, Some}
 use Rattle.std.specs.List.{slice_get}
+use Rattle.dex_layout.specs.Plan.{tables_end}
 use Rattle.dex_layout.specs.Sections.{wide_all}
+use Rattle.dex_layout.specs.declared.plan.Rows.{Rows}
 use Rattle.dex_limits.specs.Limits.{Fits}
 use Rattle.dex_limits.specs.Wide.{array_values, bodies_of, body_values, list_values, text_values, wide_body, wide_data, wide_list, wide_rows, wide_text}
 use Rattle.dex_limits.proofs.PartLaws.{by_parts}
@@ -11,6 +13,7 @@ use Rattle.dex_names.specs.Needed.{needed}
 use Rattle.dex_program.specs.Content.{Class, Program}
 use Rattle.dex_sections.specs.Named.{FewNames}
 use Rattle.dex_value.specs.Wide.{wide_array}
+use Rattle.dex_assemble.specs.Assembled.{rows_of}
 
 -- the parts of the sum
 pub record Room (s : Five) (p : Program) : Type 0 where
@@ -56,6 +59,17 @@ few_of s p r = record {
   fields = omega (arith, r.rows_are, r.whole);
   methods = omega (arith, r.rows_are, r.whole);
 }
+
+-- Header and tables, which take n bytes, have room behind them for all parts of the data.
+pub record Behind (s : Five) (p : Program) (n : ℕ) : Type 0 where
+  pub some : 0 < n
+  pub small : n + wide_all wide_list (list_values s p) + wide_all wide_body (body_values p) + wide_all wide_text (text_values s) + wide_all wide_array (array_values p) + wide_all wide_data p ≤ 4294967295
+
+pub behind : (s : Five) (p : Program) (rows : Rows) (n : ℕ) → s ≡ needed p → Fits p → rows ≡ rows_of s p → n ≡ tables_end rows → Behind s p n
+behind s p rows n e f r m =
+    let w = room_of s p e f in
+    let t : n ≡ tables_end (rows_of s p) = m ∙ ap tables_end r in
+    record { some = omega (arith, t); small = omega (arith, t, w.rows_are, w.lists_are, w.codes_are, w.texts_are, w.arrays_are, w.datas_are, w.whole) }
 
 -- a part of a sum is no greater
 pub front_small : {V : Type 0} (w : V → ℕ) (xs ys : List V) (n : ℕ) → wide_all w (xs ++ ys) ≤ n → wide_all w xs ≤ n

@@ -7,6 +7,7 @@ use Rattle.std.specs.Option.{ForSome}
 use Rattle.dex_base.specs.Descriptor.{IsDescriptor}
 use Rattle.dex_insn.specs.declared.opcode.IndexKind.TheVariants as kind
 use Rattle.dex_code_put.specs.Fits.{HasIndexBelow, ShortFits, short_name}
+use Rattle.dex_limits.proofs.BodyLaws.{all_both}
 use Rattle.dex_limits.proofs.RankLaws.{back_all, front_all}
 use Rattle.dex_names.specs.Closure.{Five, HasShorty, NameRanks}
 use Rattle.dex_names.specs.Indices.{HasPlace}
@@ -22,14 +23,10 @@ use Rattle.dex_rules.specs.Valid.{IsValidName, IsValueType}
 use Rattle.dex_sections.specs.Named.{FewNames, HasName}
 use Rattle.dex_class_defs.specs.Held.{RowNamesHeld}
 
-pub both_all : {V : Type 0} (P : V → Type 0) (xs ys : List V) → AllByRecursion P xs → AllByRecursion P ys → AllByRecursion P (xs ++ ys)
-both_all P [] ys h k = k
-both_all P (x ∷ xs) ys h k = (h.0, both_all P xs ys h.1 k)
-
 -- what holds of all names in each class holds of all names in the program
 pub mentions_hold : (P : Name → Type 0) (p : Program) → ((i : ℕ) (c : Class) → slice_get p i ≡ Some c → AllByRecursion P (names_of_class c)) → AllByRecursion P (mentions p)
 mentions_hold P [] h = tt
-mentions_hold P (c ∷ p) h = both_all P (names_of_class c) (mentions p) (h 0 c refl) (mentions_hold P p (λ i d e. h (suc i) d e))
+mentions_hold P (c ∷ p) h = all_both P (names_of_class c) (mentions p) (h 0 c refl) (mentions_hold P p (λ i d e. h (suc i) d e))
 
 -- .. and the other way
 pub class_holds : (P : Name → Type 0) (p : Program) (i : ℕ) (c : Class) → slice_get p i ≡ Some c → AllByRecursion P (mentions p) → AllByRecursion P (names_of_class c)

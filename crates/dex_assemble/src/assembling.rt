@@ -50,8 +50,19 @@ fn assemble_in<'a, 'p: 'a>(
     ensures refused { IfErr result (λ e. e ≢ memory → IsLowestLimit (view.program program.now) e) }
 {
     let ranks = needed_names(alloc, arena, program)?;
-    check_limits(alloc, &ranks, program)?;
-    Ok(assemble_ranked(alloc, &ranks, program)?)
+    assemble_named(alloc, &ranks, program)
+}
+
+// With the names that it needs.
+fn assemble_named(alloc: Global, ranks: &Ranks<'_>, program: &Program<'_>) -> Result<Vec<u8>, Fault>
+    requires kept { WellFormed (view.program program.now) }
+    requires needed { ranks.now ≡ needed (view.program program.now) }
+    ensures assembled { IfOk result (λ file. Assembled file.items (needed (view.program program.now)) (view.program program.now)) }
+    ensures fits { OnOk result (Fits (view.program program.now)) }
+    ensures refused { IfErr result (λ e. e ≢ memory → IsLowestLimit (view.program program.now) e) }
+{
+    check_limits(alloc, ranks, program)?;
+    Ok(assemble_ranked(alloc, ranks, program)?)
 }
 
 // How many rows each table has.
@@ -92,6 +103,13 @@ pub struct Data {
     pub datas: Vec<u32>,
 }
 
+// A part that has so many items and lies from one byte to another.
+fn part(items: u32, begin: u32, end: u32) -> Part
+    ensures { result ≡ record { items = items; begin = begin; end = end } }
+{
+    Part { items, begin, end }
+}
+
 // Appends the parts of the data.
 fn put_data(
     alloc: Global,
@@ -122,31 +140,11 @@ fn put_data(
     Ok(Data {
         plan: Plan {
             rows: counts,
-            lists: Part {
-                items: lists.items,
-                begin: tables,
-                end: lists_end,
-            },
-            codes: Part {
-                items: codes.items,
-                begin: lists_end,
-                end: codes_end,
-            },
-            strings: Part {
-                items: texts.items,
-                begin: codes_end,
-                end: texts_end,
-            },
-            arrays: Part {
-                items: arrays.items,
-                begin: texts_end,
-                end: arrays_end,
-            },
-            datas: Part {
-                items: datas.items,
-                begin: arrays_end,
-                end: datas_end,
-            },
+            lists: part(lists.items, tables, lists_end),
+            codes: part(codes.items, lists_end, codes_end),
+            strings: part(texts.items, codes_end, texts_end),
+            arrays: part(arrays.items, texts_end, arrays_end),
+            datas: part(datas.items, arrays_end, datas_end),
         },
         lists: lists.places,
         codes: codes.places,

@@ -20,6 +20,7 @@ pub record Entries : Type 0 where
   pub directs : List MethodEntry
   pub virtuals : List MethodEntry
 
+-- No entries: a class without class data.
 abbrev pub no_entries : Entries
 no_entries = record { statics = []; instances = []; directs = []; virtuals = [] }
 
@@ -27,6 +28,7 @@ no_entries = record { statics = []; instances = []; directs = []; virtuals = [] 
 abbrev pub counts_of : Entries → ℕ × (ℕ × (ℕ × ℕ))
 counts_of e = (length e.statics, (length e.instances, (length e.directs, length e.virtuals)))
 
+-- The four lists, in their order.
 abbrev pub lists_of : Entries → List FieldEntry × (List FieldEntry × (List MethodEntry × List MethodEntry))
 lists_of e = (e.statics, (e.instances, (e.directs, e.virtuals)))
 
@@ -34,12 +36,15 @@ lists_of e = (e.statics, (e.instances, (e.directs, e.virtuals)))
 abbrev pub SpellsField : (List ℕ → ℕ → Type 0) → List ℕ → FieldEntry → Type 0
 SpellsField N = Pair N N
 
+-- A method's entry: difference, flags, code offset.
 abbrev pub SpellsMethod : (List ℕ → ℕ → Type 0) → List ℕ → MethodEntry → Type 0
 SpellsMethod N = Pair N (Pair N N)
 
+-- The four counts.
 abbrev pub SpellsCounts : (List ℕ → ℕ → Type 0) → List ℕ → ℕ × (ℕ × (ℕ × ℕ)) → Type 0
 SpellsCounts N = Pair N (Pair N (Pair N N))
 
+-- So many entries of each list.
 abbrev pub SpellsLists : (List ℕ → ℕ → Type 0) → ℕ × (ℕ × (ℕ × ℕ)) → List ℕ → List FieldEntry × (List FieldEntry × (List MethodEntry × List MethodEntry)) → Type 0
 SpellsLists N n = Pair (Many (SpellsField N) n.0) (Pair (Many (SpellsField N) n.1.0) (Pair (Many (SpellsMethod N) n.1.1.0) (Many (SpellsMethod N) n.1.1.1)))
 

@@ -55,6 +55,7 @@ pub record EntryRepeats (differences : List ℕ) : Type 0 where
   pub within : entry < length differences
   pub same : slice_index differences entry ≡ 0
 
+-- A list of entries breaks rule 45, 46 or 47.
 abbrev pub EntryBreaks : (ℕ → Units → Type 0) → ℕ → Units → ℕ → List ℕ → Type 0
 EntryBreaks IsOwner size class code differences =
     on code 45 (EntryIsOut size differences) (
@@ -66,6 +67,7 @@ EntryBreaks IsOwner size class code differences =
 abbrev pub FieldOwner : List ℕ → ℕ → Units → Type 0
 FieldOwner b j t = (f : FieldRef) × FieldStands b j f × (f.class ≡ t)
 
+-- The class of a row of method_ids.
 abbrev pub MethodOwner : List ℕ → ℕ → Units → Type 0
 MethodOwner b j t = (m : MethodRef) × MethodStands b j m × (m.class ≡ t)
 
@@ -114,6 +116,7 @@ pub record ValuesStand (b : List ℕ) (i : ℕ) (vs : List Value) : Type 0 where
   pub class_data : EntriesAt b (class_word b i 6) entries
   pub spelled : StaticsAt b (class_word b i 7) (length entries.statics) vs
 
+-- Row i has static values.
 abbrev pub ValuesHold : List ℕ → ℕ → Type 0
 ValuesHold b i = (vs : List Value) × ValuesStand b i vs
 
@@ -121,6 +124,7 @@ ValuesHold b i = (vs : List Value) × ValuesStand b i vs
 abbrev pub at_row : ℕ → Fault → Fault
 at_row place fault = if (fault.code == 48) || (fault.code == 49) then record { code = fault.code; place = place } else fault
 
+-- Row i names an array, and a fault stands in it.
 pub record ValuesBreak (b : List ℕ) (i : ℕ) (fault : Fault) : Type 0 where
   pub entries : Entries
   pub class_data : EntriesAt b (class_word b i 6) entries
@@ -137,6 +141,7 @@ pub record ValuesBreak (b : List ℕ) (i : ℕ) (fault : Fault) : Type 0 where
 abbrev pub CodeHolds : List ℕ → ℕ → Type 0
 CodeHolds b place = (code : Option Code) × CodeAt b place code
 
+-- The code of each of these methods stands.
 abbrev pub CodesHold : List ℕ → List MethodEntry → Type 0
 CodesHold b es = (k : ℕ) (e : MethodEntry) → slice_get es k ≡ Some e → CodeHolds b e.1.1
 

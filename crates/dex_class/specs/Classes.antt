@@ -63,6 +63,7 @@ pub record SomeCodeStands (b : List ℕ) (place : ℕ) (code : Option Code) : Ty
   pub is : code ≡ Some some
   pub stands : CodeStands (NameStands b) b place some
 
+-- No code at offset 0, else the code item that stands there.
 abbrev pub CodeAt : List ℕ → ℕ → Option Code → Type 0
 CodeAt b place code = MatchBool (place == 0) (code ≡ None) (SomeCodeStands b place code)
 

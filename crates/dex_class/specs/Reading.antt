@@ -24,12 +24,15 @@ use Rattle.dex_class.specs.ClassFaults.{EntryBreaks, ValuesStand, CodeHolds}
 abbrev pub field_entry : FieldEntry → numbers.FieldEntry
 field_entry e = (e.step, e.flags)
 
+-- A method's entry in memory.
 abbrev pub method_entry : MethodEntry → numbers.MethodEntry
 method_entry e = (e.step, (e.flags, e.code))
 
+-- Counts in memory.
 abbrev pub counts : Counts → ℕ × (ℕ × (ℕ × ℕ))
 counts c = (c.statics, (c.instances, (c.directs, c.virtuals)))
 
+-- The four lists in memory.
 abbrev pub entries : Entries → numbers.Entries
 entries e = record {
   statics = map field_entry e.statics.items;

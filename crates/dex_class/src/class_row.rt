@@ -60,6 +60,7 @@ fn type_at<'a>(sections: &Sections<'_>, tables: &Tables<'a>, index: u32) -> Opti
     ensures some { IfSome result (λ t. TypeStands sections.now index (desc t)) }
     ensures none { IfNone result (size_of sections.now 1 ≤ index) }
 {
+    // Only for the proof: what holds of each value of its type.
     let _file = sections;
     match tables.type_(index) {
         Some(ty) => Some(ty),
@@ -96,6 +97,7 @@ fn string_or_none<'a>(
     ensures some { IfSome result (λ s. IndexOrNone (StringStands sections.now) index (option_map str s)) }
     ensures none { IfNone result ((index ≢ no_index) × (size_of sections.now 0 ≤ index)) }
 {
+    // Only for the proof: what holds of each value of its type.
     let _file = sections;
     if index == NO_INDEX {
         return Some(None);
@@ -111,6 +113,16 @@ fn is_class_type(ty: Desc<'_>) -> bool
     ensures { IsTrue result ↔ IsClass (desc ty.entry) }
 {
     is_class(ty.text.units)
+}
+
+// Whether a superclass, where there is one, is a class type.
+fn is_class_or_none(superclass: Option<Desc<'_>>) -> bool
+    ensures { IsTrue result ↔ IfSome (option_map desc superclass.entry) IsClass }
+{
+    match superclass {
+        Some(ty) => is_class_type(ty),
+        None => true,
+    }
 }
 
 /// The names and flags of row i.
@@ -149,16 +161,11 @@ pub(crate) fn read_row<'a>(
             place,
         });
     }
-    match superclass {
-        Some(above) => {
-            if !is_class_type(above) {
-                return Err(Fault {
-                    code: fault::CLASS_KIND,
-                    place,
-                });
-            }
-        }
-        None => {}
+    if !is_class_or_none(superclass) {
+        return Err(Fault {
+            code: fault::CLASS_KIND,
+            place,
+        });
     }
     let flags = class_word(sections, i, 1);
     Ok(Row {

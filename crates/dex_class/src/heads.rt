@@ -53,6 +53,7 @@ fn read_head<'a, 's>(
     ensures holds { IfOk result (λ _. ClassHolds sections.now i) }
     ensures err { IfErr result (λ e. e ≢ memory → BreaksAt ClassBreaks sections.now 5 i e) }
 {
+    // Only for the proof: what holds of each value of its type.
     let _file = sections.bytes();
     let place = class_place(sections, i);
     let row = read_row(sections, tables, i)?;

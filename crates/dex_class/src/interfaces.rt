@@ -94,6 +94,7 @@ pub(crate) fn read_interfaces<'a>(
     ensures none { IfOk result (λ r. IfNone r ((ts : _) → ¬ InterfacesAt sections.now off ts)) }
     ensures memory { IsOkUnless result memory }
 {
+    // Only for the proof: what holds of each value of its type.
     let _file = sections.bytes();
     let Some(types) = tables.type_list(alloc, arena, sections, off)? else {
         return Ok(None);

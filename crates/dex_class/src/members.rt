@@ -15,13 +15,13 @@ ghost use Rattle.dex_class.specs.Reading.{MembersStand, field_entry, method_entr
 
 use crate::class_data::{Entries, FieldEntry, MethodEntry};
 use crate::class_row::{class_place, class_word};
-use crate::owners::{is_field_of, is_method_of};
+use crate::owners::is_member_of;
 use bumpalo::Bump;
 use bumpalo::collections::into_bump_slice;
 use dex_base::{Fault, fault};
 use dex_container::{Sections, kind};
 use dex_program::{Desc, FieldRef, Member, MethodRef};
-use dex_tables::Tables;
+use dex_tables::{MemberTable, Tables};
 
 /// A method before its code is looked at.
 #[derive(Clone, Copy)]
@@ -69,7 +69,8 @@ fn field_at<'a>(
             place,
         });
     };
-    if !is_field_of(sections, index as u32, field, row, class) {
+    let (table, of) = (MemberTable::Fields, &field.class);
+    if !is_member_of(sections, table, index as u32, of, row, class) {
         return Err(Fault {
             code: fault::MEMBER_OWNER,
             place,
@@ -107,7 +108,8 @@ fn method_at<'a>(
             place,
         });
     };
-    if !is_method_of(sections, index as u32, method, row, class) {
+    let (table, of) = (MemberTable::Methods, &method.class);
+    if !is_member_of(sections, table, index as u32, of, row, class) {
         return Err(Fault {
             code: fault::MEMBER_OWNER,
             place,

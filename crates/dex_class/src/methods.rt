@@ -83,6 +83,7 @@ fn read_class<'a>(
     ensures ok { IfOk result (λ c. SpellsClass sections.now i (view.class c)) }
     ensures err { IfErr result (λ e. e ≢ memory → MethodsBreak sections.now i e) }
 {
+    // Only for the proof: what holds of each value of its type.
     let _file = sections.bytes();
     let directs = read_methods(alloc, arena, sections, tables, head.directs)?;
     let virtuals = read_methods(alloc, arena, sections, tables, head.virtuals)?;
@@ -106,6 +107,7 @@ fn statics_at<'a>(sections: &Sections<'_>, statics: &[Statics<'a>], i: u32) -> S
     requires row { i < size_of sections.now 5 }
     ensures { AreStatics sections.now i result }
 {
+    // Only for the proof: what holds of each value of its type.
     let _file = sections;
     statics[i as usize]
 }

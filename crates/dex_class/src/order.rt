@@ -47,6 +47,7 @@ fn interfaces_are_before(sections: &Sections<'_>, places: &Places, i: u32) -> bo
     requires within { (indexes : List ℕ) → InterfaceIndexes sections.now i indexes → (k : ℕ) → k < length indexes → slice_index indexes k < size_of sections.now 1 }
     ensures { IsTrue result ↔ ((indexes : List ℕ) → InterfaceIndexes sections.now i indexes → (k : ℕ) → k < length indexes → NoneDefines sections.now i (size_of sections.now 5) (slice_index indexes k)) }
 {
+    // Only for the proof: what holds of each value of its type.
     let _file = sections.bytes();
     let lists = section_of(sections, kind::TYPE_LIST);
     match indexes_or_none(sections, lists, class_word(sections, i, 3)) {

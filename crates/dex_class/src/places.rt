@@ -93,6 +93,7 @@ pub(crate) fn is_first(sections: &Sections<'_>, places: &Places, i: u32, ty: u32
     requires within { ty < size_of sections.now 1 }
     ensures { IsTrue result ↔ NoneDefines sections.now 0 i ty }
 {
+    // Only for the proof: what holds of each value of its type.
     let _count = class_count(sections);
     at(&places.first, ty) == i + 1
 }
@@ -103,6 +104,7 @@ pub(crate) fn is_undefined(sections: &Sections<'_>, places: &Places, from: u32, 
     requires within { ty < size_of sections.now 1 }
     ensures { IsTrue result ↔ NoneDefines sections.now from (size_of sections.now 5) ty }
 {
+    // Only for the proof: what holds of each value of its type.
     let _file = sections;
     at(&places.last, ty) <= from
 }

@@ -73,6 +73,7 @@ pub(crate) fn head_at<'a, 's>(
     requires row { i < size_of sections.now 5 }
     ensures { IsHead sections.now i result }
 {
+    // Only for the proof: what holds of each value of its type.
     let _file = sections;
     heads[i as usize]
 }

@@ -12,6 +12,7 @@ use Rattle.dex_program.specs.Key.{text_key}
 abbrev pub TypeRanks : Five → ℕ → Descriptor → Type 0
 TypeRanks s i t = IsAt s.types i (text_key t)
 
+-- The index of a string.
 abbrev pub StringRanks : Five → ℕ → Units → Type 0
 StringRanks s i t = IsAt s.strings i (text_key t)
 
@@ -27,6 +28,7 @@ abbrev pub first_place : List ℕ → ℕ
 first_place [] = 0
 first_place (p ∷ ps) = p
 
+-- All places but the first.
 abbrev pub other_places : List ℕ → List ℕ
 other_places [] = []
 other_places (p ∷ ps) = ps

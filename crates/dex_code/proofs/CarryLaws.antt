@@ -9,12 +9,12 @@ use Rattle.dex_insn.specs.Raw.{Raw}
 use Rattle.dex_program.specs.Content.{Name, OfDesc, Insn, Try, Code}
 use Rattle.dex_code_insns.specs.Symbols.{Says, Names, name_in}
 use Rattle.dex_code_insns.specs.Insns.{SpellsInsns}
-use Rattle.dex_code.specs.Handlers.{Handler, SpellsPlace, SpellsType, SpellsCatch, SpellsAll, SpellsParts, SpellsHandler, SpellsList, SpellsHandlers, catches_of}
+use Rattle.dex_code.specs.Handlers.{Handler, PlaceBy, TypeBy, CatchBy, AllBy, PartsBy, HandlerBy, ListBy, SpellsHandlers, catches_of}
 use Rattle.dex_code.specs.Tries.{SpellsTries}
 use Rattle.dex_code.specs.Code.{SpellsCode, CodeStands}
 
 module _ (M N : ℕ → Name → Type 0) (f : (i : ℕ) (which : Name) → M i which → N i which) where
-  names-weaker : (r : Raw) (which : Name) → Names M r which → Names N r which
+  pub names-weaker : (r : Raw) (which : Name) → Names M r which → Names N r which
   names-weaker (raw.I21c op a i) w p = record { kind = p.kind; stands = f i w p.stands }
   names-weaker (raw.I22c op a b i) w p = record { kind = p.kind; stands = f i w p.stands }
   names-weaker (raw.I31c op a i) w p = record { kind = p.kind; stands = f i w p.stands }
@@ -22,7 +22,7 @@ module _ (M N : ℕ → Name → Type 0) (f : (i : ℕ) (which : Name) → M i w
   names-weaker (raw.I3rc op n first i) w p = record { kind = p.kind; stands = f i w p.stands }
   names-weaker _ w p = tt
 
-  says-weaker : (T : ℤ → Option ℕ) (r : Raw) (i : Insn) → Says M T r i → Says N T r i
+  pub says-weaker : (T : ℤ → Option ℕ) (r : Raw) (i : Insn) → Says M T r i → Says N T r i
   says-weaker T r i s = record { symbol = s.symbol; named = names-weaker r (name_in i) s.named }
 
   insns-weaker : (us : List ℕ) (rs : List Raw) (is : List Insn) → SpellsInsns M us rs is → SpellsInsns N us rs is
@@ -35,40 +35,42 @@ module _ (M N : ℕ → Name → Type 0) (f : (i : ℕ) (which : Name) → M i w
     each = λ k lt. let e = s.each k lt in record { base = e.base; counts = e.counts; says = says-weaker _ _ _ e.says };
   }
 
-  module _ (ss : List ℕ) where
-    type-weaker : Implies (SpellsType M ss) (SpellsType N ss)
+  -- the handlers, whichever spellings of numbers U and S they are spelled by
+  module _ (U : List ℕ → ℕ → Type 0) (S : List ℕ → ℤ → Type 0) (ss : List ℕ) where
+    type-weaker : Implies (TypeBy U S M ss) (TypeBy U S N ss)
     type-weaker bytes ty t = record { raw = t.raw; spelled = t.spelled; means = f t.raw (OfDesc ty) t.means }
 
-    catch-weaker : Implies (SpellsCatch M ss) (SpellsCatch N ss)
-    catch-weaker bytes c = Pair-weaker (SpellsType M ss) (SpellsType N ss) (SpellsPlace M ss) (SpellsPlace N ss) type-weaker (λ b v p. p) bytes (c.ty, c.at)
+    catch-weaker : Implies (CatchBy U S M ss) (CatchBy U S N ss)
+    catch-weaker bytes c = Pair-weaker (TypeBy U S M ss) (TypeBy U S N ss) (PlaceBy U S M ss) (PlaceBy U S N ss) type-weaker (λ b v p. p) bytes (c.ty, c.at)
 
-    all-weaker : (z : ℤ) → Implies (SpellsAll M ss z) (SpellsAll N ss z)
+    all-weaker : (z : ℤ) → Implies (AllBy U S M ss z) (AllBy U S N ss z)
     all-weaker z bytes None p = p
     all-weaker z bytes (Some n) p = p
 
-    parts-weaker : (z : ℤ) → Implies (SpellsParts M ss z) (SpellsParts N ss z)
-    parts-weaker z = Pair-weaker (Many (SpellsCatch M ss) (catches_of z)) (Many (SpellsCatch N ss) (catches_of z)) (SpellsAll M ss z) (SpellsAll N ss z)
-        (Many-weaker (SpellsCatch M ss) (SpellsCatch N ss) (catches_of z) catch-weaker) (all-weaker z)
+    parts-weaker : (z : ℤ) → Implies (PartsBy U S M ss z) (PartsBy U S N ss z)
+    parts-weaker z = Pair-weaker (Many (CatchBy U S M ss) (catches_of z)) (Many (CatchBy U S N ss) (catches_of z)) (AllBy U S M ss z) (AllBy U S N ss z)
+        (Many-weaker (CatchBy U S M ss) (CatchBy U S N ss) (catches_of z) catch-weaker) (all-weaker z)
 
-    handler-weaker : Implies (SpellsHandler M ss) (SpellsHandler N ss)
+    handler-weaker : Implies (HandlerBy U S M ss) (HandlerBy U S N ss)
     handler-weaker bytes h s = record {
       raw = s.raw;
-      spelled = Then-weaker SpellsSigned SpellsSigned (SpellsParts M ss) (SpellsParts N ss) (λ b v p. p) parts-weaker bytes s.raw s.spelled;
+      spelled = Then-weaker S S (PartsBy U S M ss) (PartsBy U S N ss) (λ b v p. p) parts-weaker bytes s.raw s.spelled;
       means = s.means;
     }
 
-    list-weaker : (bytes : List ℕ) (hs : List (ℕ × Handler)) → SpellsList M ss bytes hs → SpellsList N ss bytes hs
+    pub list-weaker : (bytes : List ℕ) (hs : List (ℕ × Handler)) → ListBy U S M ss bytes hs → ListBy U S N ss bytes hs
     list-weaker bytes hs s = record {
       front = s.front;
       back = s.back;
       joined = s.joined;
       count = s.count;
-      each = Placed-weaker (SpellsHandler M ss) (SpellsHandler N ss) handler-weaker _ s.back hs s.each;
+      each = Placed-weaker (HandlerBy U S M ss) (HandlerBy U S N ss) handler-weaker _ s.back hs s.each;
     }
 
+  module _ (ss : List ℕ) where
     handlers-weaker : (n : ℕ) (bytes : List ℕ) (hs : List (ℕ × Handler)) → SpellsHandlers M ss n bytes hs → SpellsHandlers N ss n bytes hs
     handlers-weaker zero bytes hs s = s
-    handlers-weaker (suc n) bytes hs s = list-weaker bytes hs s
+    handlers-weaker (suc n) bytes hs s = list-weaker Spells SpellsSigned ss bytes hs s
 
     tries-weaker : (size n : ℕ) (items list : List ℕ) (ts : List Try) → SpellsTries M ss size n items list ts → SpellsTries N ss size n items list ts
     tries-weaker size n items list ts s =

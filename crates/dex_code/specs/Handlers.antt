@@ -62,21 +62,27 @@ module _ (U : List ℕ → ℕ → Type 0) (S : List ℕ → ℤ → Type 0) (N 
 abbrev pub SpellsPlace : (ℕ → Name → Type 0) → List ℕ → List ℕ → ℕ → Type 0
 SpellsPlace = PlaceBy Spells SpellsSigned
 
+-- The type that a catch names.
 abbrev pub SpellsType : (ℕ → Name → Type 0) → List ℕ → List ℕ → Descriptor → Type 0
 SpellsType = TypeBy Spells SpellsSigned
 
+-- A type and where its handler begins.
 abbrev pub SpellsCatch : (ℕ → Name → Type 0) → List ℕ → List ℕ → Catch → Type 0
 SpellsCatch = CatchBy Spells SpellsSigned
 
+-- The catch-all, there exactly if the count isn't positive.
 abbrev pub SpellsAll : (ℕ → Name → Type 0) → List ℕ → ℤ → List ℕ → Option ℕ → Type 0
 SpellsAll = AllBy Spells SpellsSigned
 
+-- The catches of a handler, and its catch-all.
 abbrev pub SpellsParts : (ℕ → Name → Type 0) → List ℕ → ℤ → List ℕ → List Catch × Option ℕ → Type 0
 SpellsParts = PartsBy Spells SpellsSigned
 
+-- A handler: the count, then its parts.
 abbrev pub SpellsHandler : (ℕ → Name → Type 0) → List ℕ → List ℕ → Handler → Type 0
 SpellsHandler = HandlerBy Spells SpellsSigned
 
+-- The list of handlers, each with its offset.
 abbrev pub SpellsList : (ℕ → Name → Type 0) → List ℕ → List ℕ → List (ℕ × Handler) → Type 0
 SpellsList = ListBy Spells SpellsSigned
 

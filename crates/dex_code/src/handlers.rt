@@ -56,6 +56,7 @@ fn read_place<'b>(tables: &Tables<'_>, starts: &[u32], bytes: &'b [u8]) -> Optio
     ensures some { IfSome result (λ x. Takes (SpellsPlace (NameIsAt tables.now) starts.now) bytes.now x.0 x.1.now) }
     ensures none { IfNone result (NoneBegins (SpellsPlace (NameIsAt tables.now) starts.now) bytes.now) }
 {
+    // Only for the proof: what holds of each value of its type.
     let _tables = tables;
     let Some((address, rest)) = read_number(bytes) else {
         return None;
@@ -75,6 +76,7 @@ fn read_type<'a, 'b>(
     ensures some { IfSome result (λ x. Takes (SpellsType (NameIsAt tables.now) starts.now) bytes.now (desc x.0) x.1.now) }
     ensures none { IfNone result (NoneBegins (SpellsType (NameIsAt tables.now) starts.now) bytes.now) }
 {
+    // Only for the proof: what holds of each value of its type.
     let _starts = starts;
     let Some((index, rest)) = read_number(bytes) else {
         return None;

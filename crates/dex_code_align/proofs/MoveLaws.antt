@@ -20,18 +20,6 @@ pub map-more : {A B : Type 0} (f : A → B) (xs : List A) (k : ℕ) (d : A) (ys 
 map-more {A} {B} f xs k d ys new y l e g n =
     n ∙ (λ i. e i ++ g i ∷ []) ∙ sym (map-append f (take k xs) (get_or xs k d ∷ [])) ∙ ap (map f) (sym (take_more xs k d l))
 
-pub take-end : {A : Type 0} (xs : List A) (k : ℕ) → length xs ≤ k → take k xs ≡ xs
-take-end [] zero l = refl
-take-end [] (suc k) l = refl
-take-end (x ∷ xs) zero l = absurd (omega arith)
-take-end {A} (x ∷ xs) (suc k) l = ap (λ (ys : List A). x ∷ ys) (take-end xs k (omega arith))
-
-pub drop-end : {A : Type 0} (xs : List A) (k : ℕ) → length xs ≤ k → drop k xs ≡ []
-drop-end [] zero l = refl
-drop-end [] (suc k) l = refl
-drop-end (x ∷ xs) zero l = absurd (omega arith)
-drop-end (x ∷ xs) (suc k) l = drop-end xs k (omega arith)
-
 -- ---- functions that agree below a count move alike
 
 pub operand-more : (m n : ℕ) (i : Insn) → m ≤ n → IsOperand m i → IsOperand n i

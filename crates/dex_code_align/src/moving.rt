@@ -42,34 +42,30 @@ fn moved_insn<'a>(arena: &'a Bump, numbers: &[u32], one: &Insn<'a>) -> Result<In
     ensures memory { IsOkUnless result memory }
 {
     let found = match *one {
-        Insn::I10t { op, to } => Insn::I10t {
-            op,
-            to: moved(numbers, to),
-        },
-        Insn::I20t { op, to } => Insn::I20t {
-            op,
-            to: moved(numbers, to),
-        },
-        Insn::I21t { op, a, to } => Insn::I21t {
-            op,
-            a,
-            to: moved(numbers, to),
-        },
-        Insn::I22t { op, a, b, to } => Insn::I22t {
-            op,
-            a,
-            b,
-            to: moved(numbers, to),
-        },
-        Insn::I30t { op, to } => Insn::I30t {
-            op,
-            to: moved(numbers, to),
-        },
-        Insn::I31t { op, a, to } => Insn::I31t {
-            op,
-            a,
-            to: moved(numbers, to),
-        },
+        Insn::I10t { op, to } => {
+            let to = moved(numbers, to);
+            Insn::I10t { op, to }
+        }
+        Insn::I20t { op, to } => {
+            let to = moved(numbers, to);
+            Insn::I20t { op, to }
+        }
+        Insn::I21t { op, a, to } => {
+            let to = moved(numbers, to);
+            Insn::I21t { op, a, to }
+        }
+        Insn::I22t { op, a, b, to } => {
+            let to = moved(numbers, to);
+            Insn::I22t { op, a, b, to }
+        }
+        Insn::I30t { op, to } => {
+            let to = moved(numbers, to);
+            Insn::I30t { op, to }
+        }
+        Insn::I31t { op, a, to } => {
+            let to = moved(numbers, to);
+            Insn::I31t { op, a, to }
+        }
         Insn::Packed { first, targets } => {
             let targets = moved_targets(arena, numbers, targets)?;
             Insn::Packed { first, targets }

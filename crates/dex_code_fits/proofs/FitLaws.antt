@@ -19,7 +19,8 @@ use Rattle.dex_code_put.specs.Packs.{IsOrigin}
 use Rattle.dex_code_put.proofs.ListLaws.{all-at}
 use Rattle.dex_code_put.proofs.ItemPieces.{seen-at}
 use Rattle.dex_code_put.proofs.SizeLaws.{units-small}
-use Rattle.dex_code_put.proofs.FormLaws.{all-front, all-back, length-addresses, address-end}
+use Rattle.dex_code_put.proofs.FormLaws.{length-addresses, address-end, names-at, all-front, all-back}
+use Rattle.dex_code_put.proofs.PutLaws.{no-targets}
 
 -- ---- offsets
 
@@ -28,12 +29,6 @@ unfolding insn_targets
 targets-inside n (made.Packed first to) h = h.2
 targets-inside n (made.Sparse keys to) h = h.4
 targets-inside n _ h = tt
-
-no-targets : (i : Insn) → (IsSwitch (insn_payload i) → ⊥) → insn_targets i ≡ []
-unfolding insn_payload insn_targets
-no-targets (made.Packed first to) h = absurd (h tt)
-no-targets (made.Sparse keys to) h = absurd (h tt)
-no-targets _ h = refl
 
 plain-fit : (ss : List ℕ) (at : ℕ) (i : Insn) → (IsSwitch (insn_payload i) → ⊥) → TargetsFit ss at i
 plain-fit ss at i h = subst (λ (ts : List ℕ). AllByRecursion (λ to. FitsSigned w32 (distance_of ss at to)) ts) (sym (no-targets i h)) tt
@@ -47,10 +42,6 @@ offsets-from is ss k o (inl s) p b t = record {
       subst (λ (m : ℕ). TargetsFit ss (get_or ss m 0) (insn_at is k)) e t;
 }
 offsets-from is ss k o (inr s) p b t = record { branch = b; targets = λ j r. plain-fit ss (get_or ss j 0) (insn_at is k) s.0 }
-
-pub offsets-to : (is : List Insn) (ss : List ℕ) (k o : ℕ) → IsOrigin is k o → OffsetsFit is ss k → TargetsFit ss (get_or ss o 0) (insn_at is k)
-offsets-to is ss k o (inl s) f = f.targets o s.1
-offsets-to is ss k o (inr s) f = plain-fit ss (get_or ss o 0) (insn_at is k) s.0
 
 -- ---- catches
 
@@ -73,11 +64,6 @@ catches-least ts i l =
     omega arith
 
 -- ---- names
-
-names-at : (P : Name → Type 0) (is : List Insn) (k : ℕ) → AllByRecursion P (flat_map names_of_insn is) → k < length is → AllByRecursion P (names_of_insn (insn_at is k))
-names-at P [] k h l = absurd (omega arith)
-names-at P (i ∷ is) zero h l = all-front P (names_of_insn i) (flat_map names_of_insn is) h
-names-at P (i ∷ is) (suc k) h l = names-at P is k (all-back P (names_of_insn i) (flat_map names_of_insn is) h) (omega arith)
 
 pub insns-ranked : (P : Name → Type 0) (xs : List HeldInsn) (ts : List Try) → AllByRecursion P (flat_map names_of_insn (map insn xs) ++ flat_map names_of_try ts) → (k : ℕ) → k < length xs → AllByRecursion P (names_of_insn (insn_at (map insn xs) k))
 insns-ranked P xs ts h k l =

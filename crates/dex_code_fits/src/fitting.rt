@@ -1,6 +1,6 @@
 //! Whether a code fits.
 
-ghost use Rattle.std.specs.Prelude.{◌≡◌, ◌≢◌, OnOk, IfErr};
+ghost use Rattle.std.specs.Prelude.{◌≡◌, ◌≢◌, ◌≤◌, OnOk, IfErr, length};
 ghost use Rattle.std.specs.List.{AllByRecursion, flat_map};
 ghost use Rattle.dex_bytes.specs.Fault.{memory};
 ghost use Rattle.dex_program.specs.Formed.{IsFormed};
@@ -8,17 +8,53 @@ ghost use Rattle.dex_program.specs.Mentions.{names_of_code, names_of_try};
 ghost use Rattle.dex_program.specs.View as view;
 ghost use Rattle.dex_names.specs.Closure.{NameRanks};
 ghost use Rattle.dex_code_fits.specs.Ranked.{HasIndex};
-ghost use Rattle.dex_code_put.specs.Fits.{FitsCode, IsUnfit, HasIndexBelow};
+ghost use Rattle.dex_program.specs.Sizes.{addresses_of, length_of};
+ghost use Rattle.dex_code_put.specs.Fits.{AllTries, FitsCode, HandlersAreNear, HasIndexBelow, IsUnfit, TriesUnfit, TryFits, wide_code};
 
 use crate::names::names_fit;
 use crate::offsets::{are_even, offsets_fit};
 use crate::tries::{handlers_fit, is_short, tries_fit};
 use dex_base::{Fault, fault};
-use dex_code_put::{origins_of, starts_of};
+use dex_code_put::{Starts, origins_of, starts_of};
 use dex_insn::IndexKind;
 use dex_names::Ranks;
 use dex_program::Code;
 use std::alloc::Global;
+
+// Whether the tries fit: 87 to 89. Where the code is too long to be written anyway, its handlers aren't laid.
+fn check_tries(alloc: Global, ranks: &Ranks<'_>, all: &Starts, code: &Code<'_>) -> Result<(), Fault>
+    requires formed { IsFormed (view.code code.now) }
+    requires caught { AllByRecursion (HasIndexBelow (NameRanks ranks.now) 4294967296) (flat_map names_of_try (view.code code.now).tries) }
+    requires starts { all.now.starts.items ≡ addresses_of (view.code code.now).insns }
+    requires end { all.now.end ≡ length_of (view.code code.now).insns }
+    ensures tries { OnOk result (AllTries TryFits (view.code code.now)) }
+    ensures few { OnOk result (length (view.code code.now).tries ≤ 65535) }
+    ensures handlers { OnOk result (wide_code (view.code code.now) ≤ 4294967295 → HandlersAreNear (NameRanks ranks.now) (addresses_of (view.code code.now).insns) (view.code code.now).tries) }
+    ensures err { IfErr result (λ e. e ≢ memory → TriesUnfit (NameRanks ranks.now) (view.code code.now) e) }
+{
+    if !tries_fit(&all.starts, code.tries) {
+        return Err(Fault {
+            code: fault::TRY_TOO_LONG,
+            place: 0,
+        });
+    }
+    if code.tries.len() > 65535 {
+        return Err(Fault {
+            code: fault::TOO_MANY_TRIES,
+            place: 0,
+        });
+    }
+    if !is_short(all.end, code.tries) {
+        return Ok(());
+    }
+    if !handlers_fit(alloc, ranks, &all.starts, code.tries)? {
+        return Err(Fault {
+            code: fault::HANDLER_TOO_FAR,
+            place: 0,
+        });
+    }
+    Ok(())
+}
 
 /// Whether a code that is well formed fits the fields of a file. Of the rules that it breaks the fault names the first: 82 to 84 an
 /// index of a string, field or method that doesn't fit 16 bits, 85 an offset, 86 a payload at an odd address, 87 a try that covers
@@ -62,26 +98,6 @@ pub fn fits(alloc: Global, ranks: &Ranks<'_>, code: &Code<'_>) -> Result<(), Fau
             place: 0,
         });
     }
-    if !tries_fit(&all.starts, code.tries) {
-        return Err(Fault {
-            code: fault::TRY_TOO_LONG,
-            place: 0,
-        });
-    }
-    if code.tries.len() > 65535 {
-        return Err(Fault {
-            code: fault::TOO_MANY_TRIES,
-            place: 0,
-        });
-    }
-    if !is_short(all.end, code.tries) {
-        return Ok(());
-    }
-    if !handlers_fit(alloc, ranks, &all.starts, code.tries)? {
-        return Err(Fault {
-            code: fault::HANDLER_TOO_FAR,
-            place: 0,
-        });
-    }
+    check_tries(alloc, ranks, &all, code)?;
     Ok(())
 }

@@ -2,6 +2,7 @@
 
 ghost use Rattle.std.specs.Prelude.{◌≡◌, ◌<◌, ◌↔◌, ℕ, length, map, option_map, IsTrue};
 ghost use Rattle.std.specs.List.{AllByRecursion};
+ghost use Rattle.dex_program.specs.Content.{Name as Named};
 ghost use Rattle.dex_program.specs.Formed.{insn_at};
 ghost use Rattle.dex_program.specs.Kinds.{IsOfKind};
 ghost use Rattle.dex_program.specs.Mentions.{names_of_insn};
@@ -69,11 +70,26 @@ fn name_fits(ranks: &Ranks<'_>, kind: IndexKind, one: &Insn<'_>) -> bool
     }
 }
 
-/// Whether the indices of all names of this kind fit their fields.
+/// Whether so few names of this kind are ranked that each index fits 16 bits.
+fn are_few(ranks: &Ranks<'_>, kind: IndexKind) -> bool
+    ensures { IsTrue result → (which : Named) → IsOfKind kind which → (index : ℕ) → NameRanks ranks.now index which → index < 65536 }
+{
+    match kind {
+        IndexKind::String => ranks.strings().len() <= 65536,
+        IndexKind::Field => ranks.fields().len() <= 65536,
+        IndexKind::Method => ranks.methods().len() <= 65536,
+        _ => false,
+    }
+}
+
+/// Whether the indices of all names of this kind fit their fields. Where few names are ranked, none is looked up.
 pub(crate) fn names_fit(ranks: &Ranks<'_>, kind: IndexKind, insns: &[Insn<'_>]) -> bool
     requires ranked { (k : ℕ) → k < length insns.now → AllByRecursion (HasIndex (NameRanks ranks.now)) (names_of_insn (insn_at (map insn insns.now) k)) }
     ensures { IsTrue result ↔ ((k : ℕ) → k < length insns.now → ShortFits (NameRanks ranks.now) kind (insn_at (map insn insns.now) k)) }
 {
+    if are_few(ranks, kind) {
+        return true;
+    }
     for k in 0..insns.len() {
         if !name_fits(ranks, kind, &insns[k]) {
             return false;

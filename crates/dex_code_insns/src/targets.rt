@@ -81,6 +81,7 @@ pub(crate) fn resolve_payload<'a>(
     ensures ok { IfOk result (λ i. Says (NameIsAt tables.now) (place starts.now base) (raw one.now) (insn i)) }
     ensures err { IsOkUnless result memory }
 {
+    // Only for the proof: what holds of each value of its type.
     let _tables = tables;
     match *one {
         RawInsn::Packed { first, offsets } => match read_places(bump, starts, base, offsets)? {

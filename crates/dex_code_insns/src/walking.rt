@@ -16,6 +16,9 @@ pub struct Walked<'b> {
     pub starts: Vec<u32>,
 }
 
+// For how many instructions room is taken before the first is read.
+const MOST_AT_ONCE: usize = 256;
+
 /// Reads the units as instructions end to end. The first unit is at the place `base`.
 pub fn walk<'b>(alloc: Global, units: &'b [u8], base: u64) -> Result<Walked<'b>, Fault>
     requires even { length units.now % 2 ≡ 0 }
@@ -25,8 +28,10 @@ pub fn walk<'b>(alloc: Global, units: &'b [u8], base: u64) -> Result<Walked<'b>,
     ensures table { IfOk result (λ w. IsTable w.starts.items (map raw w.insns.items)) }
     ensures err { IfErr result (λ e. e ≢ memory → IsWalkFault units.now base e) }
 {
-    let mut insns = Vec::new(alloc);
-    let mut starts = Vec::new(alloc);
+    // Room at once for what most codes hold; a long payload asks for no more.
+    let room = (units.len() / 4).min(MOST_AT_ONCE);
+    let mut insns = Vec::with_capacity(alloc, room)?;
+    let mut starts = Vec::with_capacity(alloc, room)?;
     let end = units.len() as u64 / 2;
     let mut at: u64 = 0;
     while at < end {

@@ -23,7 +23,7 @@ use Rattle.dex_code_laws.proofs.PackedTries.{tries-spelled, items-length, length
 
 -- ---- the head
 
-length-head : (c : Code) (size : ℕ) → length (head_bytes c size) ≡ 16
+pub length-head : (c : Code) (size : ℕ) → length (head_bytes c size) ≡ 16
 length-head c size =
     let a = u16_bytes c.registers in let b = u16_bytes c.ins in let d = u16_bytes c.outs in let e = u16_bytes (length c.tries) in let f = u32_bytes 0 in let g = u32_bytes size in
     omega (

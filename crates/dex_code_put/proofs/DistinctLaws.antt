@@ -40,7 +40,7 @@ zip-more R [] (b ∷ ys) x y h r = absurd h
 zip-more R (a ∷ xs) [] x y h r = absurd h
 zip-more R (a ∷ xs) (b ∷ ys) x y h r = (h.0, zip-more R xs ys x y h.1 r)
 
-zip-length : {A B : Type 0} (R : A → B → Type 0) (xs : List A) (ys : List B) → AllZip R xs ys → length xs ≡ length ys
+pub zip-length : {A B : Type 0} (R : A → B → Type 0) (xs : List A) (ys : List B) → AllZip R xs ys → length xs ≡ length ys
 zip-length R [] [] h = refl
 zip-length R [] (y ∷ ys) h = absurd h
 zip-length R (x ∷ xs) [] h = absurd h
@@ -59,7 +59,7 @@ zip-right R (a ∷ xs) [] k y h e = absurd cc
 zip-right {A} {B} R (a ∷ xs) (b ∷ ys) zero y h e = let q : b ≡ y = cc in (a, refl, subst (λ (z : B). R a z) q h.0)
 zip-right R (a ∷ xs) (b ∷ ys) (suc k) y h e = zip-right R xs ys k y h.1 e
 
-all-get : {A : Type 0} (P : A → Type 0) (xs : List A) (k : ℕ) (x : A) → AllByRecursion P xs → slice_get xs k ≡ Some x → P x
+pub all-get : {A : Type 0} (P : A → Type 0) (xs : List A) (k : ℕ) (x : A) → AllByRecursion P xs → slice_get xs k ≡ Some x → P x
 all-get P [] k x h e = absurd cc
 all-get P (y ∷ xs) zero x h e = subst P (let q : y ≡ x = cc in q) h.0
 all-get P (y ∷ xs) (suc k) x h e = all-get P xs k x h.1 e

@@ -65,7 +65,7 @@ pub all-back : {A : Type 0} (P : A → Type 0) (xs ys : List A) → AllByRecursi
 all-back P [] ys h = h
 all-back P (x ∷ xs) ys h = all-back P xs ys h.1
 
-names-at : (P : Name → Type 0) (is : List Insn) (k : ℕ) → AllByRecursion P (flat_map names_of_insn is) → k < length is → AllByRecursion P (names_of_insn (insn_at is k))
+pub names-at : (P : Name → Type 0) (is : List Insn) (k : ℕ) → AllByRecursion P (flat_map names_of_insn is) → k < length is → AllByRecursion P (names_of_insn (insn_at is k))
 names-at P [] k h l = absurd (omega arith)
 names-at P (i ∷ is) zero h l = all-front P (names_of_insn i) (flat_map names_of_insn is) h
 names-at P (i ∷ is) (suc k) h l = names-at P is k (all-back P (names_of_insn i) (flat_map names_of_insn is) h) (omega arith)

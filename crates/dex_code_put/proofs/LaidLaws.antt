@@ -17,6 +17,7 @@ use Rattle.dex_code_insns.proofs.ResolveLaws.{at-old, at-new}
 use Rattle.dex_code_put.specs.Fits.{catches_in}
 use Rattle.dex_code_put.specs.Packs.{PacksHandler, PacksHandlersOf}
 use Rattle.dex_code_put.specs.Writing.{IsDistinct, IsListed, joined_keys, places_of}
+use Rattle.dex_code_put.proofs.DistinctLaws.{zip-length}
 use Rattle.dex_code_put.proofs.ListLaws.{take-whole}
 use Rattle.dex_code_put.proofs.ListedLaws.{bytes-few}
 
@@ -25,12 +26,6 @@ abbrev placed_of : ℕ → List (List ℕ) → List Handler → List (ℕ × Han
 placed_of at [] hs = []
 placed_of at (k ∷ ks) [] = []
 placed_of at (k ∷ ks) (h ∷ hs) = (at, h) ∷ placed_of (at + length k) ks hs
-
-zip-count : {A B : Type 0} (R : A → B → Type 0) (xs : List A) (ys : List B) → AllZip R xs ys → length xs ≡ length ys
-zip-count R [] [] h = refl
-zip-count R [] (y ∷ ys) h = absurd h
-zip-count R (x ∷ xs) [] h = absurd h
-zip-count R (x ∷ xs) (y ∷ ys) h = ap suc (zip-count R xs ys h.1)
 
 module _ (N : ℕ → Name → Type 0) (ss : List ℕ) where
   packs-some : (key : List ℕ) (h : Handler) → PacksHandler N ss key h → 0 < length key
@@ -80,7 +75,7 @@ module _ (N : ℕ → Name → Type 0) (ss : List ℕ) where
   handler-there at (k ∷ ks) (x ∷ hs) (suc n) h z e =
       let r = handler-there (at + length k) ks hs n h z.1 e in
       let v = slice_get_within hs n h e in
-      let low = places-low (at + length k) ks hs n z.1 (let m = zip-count (PacksHandler N ss) ks hs z.1 in omega arith) in
+      let low = places-low (at + length k) ks hs n z.1 (let m = zip-length (PacksHandler N ss) ks hs z.1 in omega arith) in
       let some = packs-some k x z.0 in
       first-other _ at (get_or (places_of (at + length k) ks) n 0) x (λ q. omega arith) ∙ r
 
@@ -134,7 +129,7 @@ module _ (N : ℕ → Name → Type 0) (ss : List ℕ) where
 
   -- each number is that of a handler
   pub number-inside : (ts : List Try) (keys : List (List ℕ)) (numbers : List ℕ) (n i : ℕ) → IsDistinct N ss ts n keys numbers → i < n → get_or numbers i 0 < length keys
-  number-inside ts keys numbers n i d l = let v = slice_get_within d.handlers (get_or numbers i 0) (handler_of (try_at ts i)) (d.each i l) in let c = zip-count (PacksHandler N ss) keys d.handlers d.spelled in omega arith
+  number-inside ts keys numbers n i d l = let v = slice_get_within d.handlers (get_or numbers i 0) (handler_of (try_at ts i)) (d.each i l) in let c = zip-length (PacksHandler N ss) keys d.handlers d.spelled in omega arith
 
 pub length-places : (at : ℕ) (ks : List (List ℕ)) → length (places_of at ks) ≡ length ks
 length-places at [] = refl

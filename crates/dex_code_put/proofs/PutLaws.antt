@@ -77,7 +77,7 @@ switch-branch ss at (made.Sparse keys to) s = tt
 switch-branch ss at (made.Data width bytes) s = tt
 switch-branch ss at _ s = absurd s
 
-no-targets : (i : Insn) → (IsSwitch (insn_payload i) → ⊥) → insn_targets i ≡ []
+pub no-targets : (i : Insn) → (IsSwitch (insn_payload i) → ⊥) → insn_targets i ≡ []
 unfolding insn_payload insn_targets
 no-targets (made.Packed first to) s = absurd (s tt)
 no-targets (made.Sparse keys to) s = absurd (s tt)

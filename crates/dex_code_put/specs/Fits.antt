@@ -130,8 +130,17 @@ pub record CanBePut (N : ℕ → Name → Type 0) (c : Code) : Type 0 where
 abbrev pub unfit : ℕ → Fault
 unfit number = record { code = number; place = 0 }
 
+-- The fault names the first of the rules that the tries break: 87 a try that covers too much, 88 too many, 89 a handler too far.
+abbrev pub TriesUnfit : (ℕ → Name → Type 0) → Code → Fault → Type 0
+TriesUnfit N c fault =
+    ((¬ AllTries TryFits c) × (fault ≡ unfit 87))
+    ⊎ (AllTries TryFits c × (
+    ((65535 < length c.tries) × (fault ≡ unfit 88))
+    ⊎ ((length c.tries ≤ 65535) × (wide_code c ≤ 4294967295) × (¬ HandlersAreNear N (addresses_of c.insns) c.tries) × (fault ≡ unfit 89))
+    ))
+
 -- The fault names the first of the rules that the code breaks: 82 to 84 a string, field or method whose index is too large for its
--- field, 85 an offset, 86 a payload at an odd address, 87 a try that covers too much, 88 too many tries, 89 a handler too far.
+-- field, 85 an offset, 86 a payload at an odd address, 87 to 89 those of the tries.
 abbrev pub IsUnfit : (ℕ → Name → Type 0) → Code → Fault → Type 0
 IsUnfit N c fault =
     ((¬ AllInsns (ShortFits N kind.String) c) × (fault ≡ unfit 82))
@@ -143,9 +152,5 @@ IsUnfit N c fault =
     ((¬ AllNumbers OffsetsFit c) × (fault ≡ unfit 85))
     ⊎ (AllNumbers OffsetsFit c × (
     ((¬ AllNumbers IsEven c) × (fault ≡ unfit 86))
-    ⊎ (AllNumbers IsEven c × (
-    ((¬ AllTries TryFits c) × (fault ≡ unfit 87))
-    ⊎ (AllTries TryFits c × (
-    ((65535 < length c.tries) × (fault ≡ unfit 88))
-    ⊎ ((length c.tries ≤ 65535) × (wide_code c ≤ 4294967295) × (¬ HandlersAreNear N (addresses_of c.insns) c.tries) × (fault ≡ unfit 89))
-    ))))))))))))
+    ⊎ (AllNumbers IsEven c × TriesUnfit N c fault)
+    ))))))))

@@ -61,12 +61,15 @@ pub record PutInsns (N : ℕ → Name → Type 0) (is : List Insn) (ss old new :
 abbrev pub PlaceAt : List ℕ → List ℕ → ℕ → Type 0
 PlaceAt ss = Via (Shortest Spells) (λ address n. position ss address ≡ Some n)
 
+-- Where a handler begins.
 abbrev pub PacksPlace : (ℕ → Name → Type 0) → List ℕ → List ℕ → ℕ → Type 0
 PacksPlace = PlaceBy (Shortest Spells) (Shortest SpellsSigned)
 
+-- A type and where its handler begins.
 abbrev pub PacksCatch : (ℕ → Name → Type 0) → List ℕ → List ℕ → Catch → Type 0
 PacksCatch = CatchBy (Shortest Spells) (Shortest SpellsSigned)
 
+-- A handler: the count, then its parts.
 abbrev pub PacksHandler : (ℕ → Name → Type 0) → List ℕ → List ℕ → Handler → Type 0
 PacksHandler = HandlerBy (Shortest Spells) (Shortest SpellsSigned)
 

@@ -109,6 +109,7 @@ fn put_handler(
 fn are_bytes(bytes: &[u8])
     ensures { AllByRecursion (λ byte. byte < 256) bytes.now }
 {
+    // Only for the proof: what holds of each value of its type.
     let _ = bytes.len();
 }
 

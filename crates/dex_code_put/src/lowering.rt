@@ -27,6 +27,7 @@ fn rank(ranks: &Ranks<'_>, name: Name<'_>, limit: u64) -> u32
     ensures short { result < limit }
 {
     ranks.rise();
+    // Only for the proof: what holds of each value of its type.
     let _limit = limit;
     match ranks.index_of(name) {
         Some(index) => index,

@@ -31,7 +31,7 @@ fn make_item(alloc: Global, ranks: &Ranks<'_>, code: &Code<'_>) -> Result<Vec<u8
     let size = all.end as u32;
     let origins = origins_of(alloc, code.insns)?;
     let laid = lay_handlers(alloc, ranks, &all.starts, code.tries)?;
-    let mut item = Vec::new(alloc);
+    let mut item = Vec::with_capacity(alloc, 16 + 2 * size as usize)?;
     put_head(&mut item, code, size)?;
     put_insns(&mut item, ranks, &all.starts, &origins, code.insns)?;
     put_padding(&mut item, size, code.tries.len())?;

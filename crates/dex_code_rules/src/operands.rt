@@ -16,30 +16,48 @@ ghost use Rattle.dex_code_rules.specs.Parts.{KeyIsBelow};
 use dex_insn::{Format, IndexKind, format_of, index_kind_of};
 use dex_program::{Code, Insn, Name};
 
-// What the types of operands say of them.
-fn is_u8(a: u8)
-    ensures { a < 256 }
-{}
+// Whether a field of an instruction holds its number: it does, by the number's type, which the first line of each brings into the proof.
+fn fits_u8(a: u8) -> bool
+    ensures { IsTrue result ↔ (a < 256) }
+{
+    let _byte = a;
+    true
+}
 
-fn is_u16(a: u16)
-    ensures { a < 65536 }
-{}
+fn fits_u16(a: u16) -> bool
+    ensures { IsTrue result ↔ (a < 65536) }
+{
+    let _half = a;
+    true
+}
 
-fn is_i8(b: i8)
-    ensures { FitsSigned w8 b }
-{}
+fn fits_i8(b: i8) -> bool
+    ensures { IsTrue result ↔ FitsSigned w8 b }
+{
+    let _byte = b;
+    true
+}
 
-fn is_i16(b: i16)
-    ensures { FitsSigned w16 b }
-{}
+fn fits_i16(b: i16) -> bool
+    ensures { IsTrue result ↔ FitsSigned w16 b }
+{
+    let _half = b;
+    true
+}
 
-fn is_i32(b: i32)
-    ensures { FitsSigned w32 b }
-{}
+fn fits_i32(b: i32) -> bool
+    ensures { IsTrue result ↔ FitsSigned w32 b }
+{
+    let _word = b;
+    true
+}
 
-fn is_i64(b: i64)
-    ensures { FitsSigned w64 b }
-{}
+fn fits_i64(b: i64) -> bool
+    ensures { IsTrue result ↔ FitsSigned w64 b }
+{
+    let _long = b;
+    true
+}
 
 /// Whether the opcode is of the format.
 fn is_of(op: u8, format: Format) -> bool
@@ -56,6 +74,13 @@ fn is_short(op: u8, format: Format, a: u8) -> bool
     ensures { IsTrue result ↔ ((format_of op ≡ Some format) × (a < 256)) }
 {
     is_of(op, format)
+}
+
+/// Whether the opcode is of the format, one with two fields of four bits.
+fn are_low(op: u8, format: Format, a: u8, b: u8) -> bool
+    ensures { IsTrue result ↔ ((format_of op ≡ Some format) × (a < 16) × (b < 16)) }
+{
+    is_of(op, format) && a < 16 && b < 16
 }
 
 /// Whether the name is of the kind that the opcode's index stands for.
@@ -122,13 +147,16 @@ fn keys_rise(keys: &[i32]) -> bool
     true
 }
 
-/// All keys are numbers of 32 bits.
-fn are_keys(keys: &[i32])
-    ensures { AllByRecursion (λ key. FitsSigned w32 key) keys.now }
+/// Whether all keys are numbers of 32 bits: they are, by their type.
+fn are_keys(keys: &[i32]) -> bool
+    ensures { IsTrue result ↔ AllByRecursion (λ key. FitsSigned w32 key) keys.now }
 {
     for key in keys {
-        is_i32(*key);
+        if !fits_i32(*key) {
+            return false;
+        }
     }
+    true
 }
 
 /// All of the data are bytes.
@@ -157,8 +185,7 @@ fn is_packed(count: usize, targets: &[u32]) -> bool
 fn is_sparse(count: usize, keys: &[i32], targets: &[u32]) -> bool
     ensures { IsTrue result ↔ ((length keys.now ≡ length targets.now) × (length targets.now ≤ 65535) × AllByRecursion (λ key. FitsSigned w32 key) keys.now × AreRisingKeys keys.now × AllByRecursion (λ to. to < count) targets.now) }
 {
-    are_keys(keys);
-    if keys.len() != targets.len() {
+    if !are_keys(keys) || keys.len() != targets.len() {
         return false;
     }
     if targets.len() > 65535 {
@@ -190,72 +217,34 @@ fn is_operand(count: usize, one: &Insn<'_>) -> bool
 {
     match *one {
         Insn::I10x { op } => is_of(op, Format::F10x),
-        Insn::I12x { op, a, b } => is_of(op, Format::F12x) && a < 16 && b < 16,
+        Insn::I12x { op, a, b } => are_low(op, Format::F12x, a, b),
         Insn::I11n { op, a, b } => is_of(op, Format::F11n) && a < 16 && b >= -8 && b < 8,
         Insn::I11x { op, a } => is_short(op, Format::F11x, a),
         Insn::I10t { op, to } => is_of(op, Format::F10t) && (to as usize) < count,
         Insn::I20t { op, to } => is_of(op, Format::F20t) && (to as usize) < count,
-        Insn::I22x { op, a, b } => {
-            is_u16(b);
-            is_short(op, Format::F22x, a)
-        }
+        Insn::I22x { op, a, b } => is_short(op, Format::F22x, a) && fits_u16(b),
         Insn::I21t { op, a, to } => is_short(op, Format::F21t, a) && (to as usize) < count,
-        Insn::I21s { op, a, b } => {
-            is_i16(b);
-            is_short(op, Format::F21s, a)
-        }
-        Insn::I21h { op, a, b } => {
-            is_i16(b);
-            is_short(op, Format::F21h, a)
-        }
+        Insn::I21s { op, a, b } => is_short(op, Format::F21s, a) && fits_i16(b),
+        Insn::I21h { op, a, b } => is_short(op, Format::F21h, a) && fits_i16(b),
         Insn::I21c { op, a, name } => is_short(op, Format::F21c, a) && is_named(op, name),
-        Insn::I23x { op, a, b, c } => {
-            is_u8(b);
-            is_u8(c);
-            is_short(op, Format::F23x, a)
-        }
-        Insn::I22b { op, a, b, c } => {
-            is_u8(b);
-            is_i8(c);
-            is_short(op, Format::F22b, a)
-        }
-        Insn::I22t { op, a, b, to } => {
-            is_of(op, Format::F22t) && a < 16 && b < 16 && (to as usize) < count
-        }
-        Insn::I22s { op, a, b, c } => {
-            is_i16(c);
-            is_of(op, Format::F22s) && a < 16 && b < 16
-        }
-        Insn::I22c { op, a, b, name } => {
-            is_of(op, Format::F22c) && a < 16 && b < 16 && is_named(op, name)
-        }
+        Insn::I23x { op, a, b, c } => is_short(op, Format::F23x, a) && fits_u8(b) && fits_u8(c),
+        Insn::I22b { op, a, b, c } => is_short(op, Format::F22b, a) && fits_u8(b) && fits_i8(c),
+        Insn::I22t { op, a, b, to } => are_low(op, Format::F22t, a, b) && (to as usize) < count,
+        Insn::I22s { op, a, b, c } => are_low(op, Format::F22s, a, b) && fits_i16(c),
+        Insn::I22c { op, a, b, name } => are_low(op, Format::F22c, a, b) && is_named(op, name),
         Insn::I30t { op, to } => is_of(op, Format::F30t) && (to as usize) < count,
-        Insn::I32x { op, a, b } => {
-            is_u16(a);
-            is_u16(b);
-            is_of(op, Format::F32x)
-        }
-        Insn::I31i { op, a, b } => {
-            is_i32(b);
-            is_short(op, Format::F31i, a)
-        }
+        Insn::I32x { op, a, b } => is_of(op, Format::F32x) && fits_u16(a) && fits_u16(b),
+        Insn::I31i { op, a, b } => is_short(op, Format::F31i, a) && fits_i32(b),
         Insn::I31t { op, a, to } => is_short(op, Format::F31t, a) && (to as usize) < count,
         Insn::I31c { op, a, name } => is_short(op, Format::F31c, a) && is_named(op, name),
         Insn::I35c { op, n, regs, name } => {
             is_of(op, Format::F35c) && are_registers(n, &regs) && is_named(op, name)
         }
         Insn::I3rc { op, n, first, name } => {
-            is_u16(first);
-            is_short(op, Format::F3rc, n) && is_named(op, name)
+            is_short(op, Format::F3rc, n) && fits_u16(first) && is_named(op, name)
         }
-        Insn::I51l { op, a, b } => {
-            is_i64(b);
-            is_short(op, Format::F51l, a)
-        }
-        Insn::Packed { first, targets } => {
-            is_i32(first);
-            is_packed(count, targets)
-        }
+        Insn::I51l { op, a, b } => is_short(op, Format::F51l, a) && fits_i64(b),
+        Insn::Packed { first, targets } => fits_i32(first) && is_packed(count, targets),
         Insn::Sparse { keys, targets } => is_sparse(count, keys, targets),
         Insn::Data { width, bytes } => is_data(width, bytes),
     }

@@ -16,6 +16,12 @@ pub fn framed_without_fault(bytes: &[u8])
     }
 }
 
+/// Framed bytes break no rule of header, map and checksums.
+#[tactic(auto, using(crate::proofs::Framed::framed_clear))]
+pub fn clear_where_framed()
+    ensures { (bytes : List ℕ) → IsFramed bytes → (code place : ℕ) → ¬ FrameBreaks bytes code place }
+{}
+
 /// A kind of data item has one section.
 pub fn section_is_one()
     ensures { (b : List ℕ) → IsFramed b → (kind begin end first last : ℕ) → IsSection b kind begin end → IsSection b kind first last → (begin ≡ first) × (end ≡ last) }

@@ -1,20 +1,17 @@
 -- Values of the static fields.
-use Rattle.std.proofs.Common.{◌≡◌, ℕ, zero, suc, ◌+◌, ◌<◌, ◌≤◌, Bool, true, false, ltb, if◌then◌else◌, List, [], ◌∷◌, ◌++◌, length, get_or, drop, take, map, Option, Some, None, refl, sym, ap, ◌∙◌, arith, add-one, drop-cons, drop_of_length-le}
+use Rattle.std.proofs.Common.{◌≡◌, ℕ, zero, suc, ◌+◌, ◌<◌, ◌≤◌, Bool, true, false, ltb, if◌then◌else◌, List, [], ◌∷◌, ◌++◌, length, get_or, drop, take, map, Option, Some, refl, sym, ap, ◌∙◌, arith, add-one, drop-cons, drop_of_length-le}
 use Rattle.std.proofs.lemmas.Bool.{lt-ltb}
 use Rattle.std.proofs.lemmas.List.{map-append, take_all, take_more, length-map}
-use Rattle.std.proofs.Common.{slice_get, slice_set, insert, remove}
-use Rattle.dex_program.specs.Content.{Method, Code}
-use Rattle.dex_program.specs.View.{member, method, value}
-use Rattle.dex_program.specs.declared.class.Method.{Method as InMethod}
+use Rattle.dex_program.specs.View.{member, value}
 use Rattle.dex_lines.specs.Lines.{end_code}
 use Rattle.dex_lines.specs.declared.stage.Stage.TheVariants.{Members}
 use Rattle.dex_lines.specs.Needs.{earliest, first_late}
-use Rattle.dex_draft.specs.States.{State, Open, Body, with_code, with_code_at, with_tries, whole_code, placed}
+use Rattle.dex_draft.specs.States.{State, Open, Body, with_code_at, with_tries, whole_code, placed}
 use Rattle.dex_program.specs.declared.class.Member.{Member as Field}
 use Rattle.dex_program.specs.declared.value.Value.{Value as Put}
 use Rattle.dex_draft.specs.Members.{Given, is_given, given_length, value_or_zero}
 use Rattle.dex_draft.specs.View.{given}
-use Rattle.dex_draft.specs.declared.draft.Given.{Given as Made}
+use Rattle.dex_draft.specs.declared.close.Given.{Given as Made}
 
 -- behind i fields, of which the last with a value ends at n
 abbrev pub ends_at : ℕ → ℕ → ℕ → ℕ
@@ -60,33 +57,8 @@ values_push all done v i x h e f =
     let t = take_more (map given all) i (given x) n in
     map-append value done (v ∷ []) ∙ rw (e, f, given_at all i x (given x) h) (sym (ap (map value_or_zero) t ∙ map-append value_or_zero (take i (map given all)) (get_or (map given all) i (given x) ∷ [])))
 
--- ---- code of a method
-
-pub with_code_more : (m : Method) (ms : List Method) (n : ℕ) (c : Code) → with_code (m ∷ ms) (suc n) c ≡ m ∷ with_code ms n c
-unfolding with_code
-with_code_more m ms n c =
-    elim (slice_get ms n) as (λ (o : Option Method). elim o [ None ↦ m ∷ ms | Some k ↦ m ∷ slice_set ms n (record k { code = Some c }) ] ≡ m ∷ elim o [ None ↦ ms | Some k ↦ slice_set ms n (record k { code = Some c }) ]) [ None ↦ refl | Some k ↦ refl ]
-
-pub with_code_first : (m : Method) (ms : List Method) (c : Code) → with_code (m ∷ ms) 0 c ≡ record m { code = Some c } ∷ ms
-unfolding with_code
-with_code_first m ms c = refl
-
-pub with_code_none : (n : ℕ) (c : Code) → with_code [] n c ≡ []
-unfolding with_code
-with_code_none n c = refl
-
-pub code_put : (ms mid new : List InMethod) (n : ℕ) (x y : InMethod) (c : Code) → n < length ms → x ≡ get_or ms n x → mid ≡ remove ms n → new ≡ insert mid n y → method y ≡ record (method x) { code = Some c } → map method new ≡ with_code (map method ms) n c
-code_put [] mid new n x y c h e f g k = absurd (omega arith)
-code_put (m ∷ ms) mid new zero x y c h e f g k = rw (g, f, k, e) (sym (with_code_first (method m) (map method ms) c))
-code_put (m ∷ ms) mid new (suc n) x y c h e f g k = rw (g, f) (ap (λ t. method m ∷ t) (code_put ms (remove ms n) (insert (remove ms n) n y) n x y c (omega arith) e refl refl k) ∙ sym (with_code_more (method m) (map method ms) n c))
-
-pub code_past : (ms : List InMethod) (n : ℕ) (c : Code) → length ms ≤ n → map method ms ≡ with_code (map method ms) n c
-code_past [] n c h = sym (with_code_none n c)
-code_past (m ∷ ms) zero c h = absurd (omega arith)
-code_past (m ∷ ms) (suc n) c h = ap (λ t. method m ∷ t) (code_past ms n c (omega arith)) ∙ sym (with_code_more (method m) (map method ms) n c)
-
 -- the code is whole
-pub code_ends : (s : State) (o : Open) (b : Body) (l : Option ℕ) → b ≡ with_tries s.stage s.body → o ≡ with_code_at s.current b.direct b.place (whole_code b) → l ≡ earliest s.late (first_late (length s.body.insns) s.body.needs)
+pub code_ends : (s : State) (o : Open) (b : Body) (l : Option ℕ) → b ≡ with_tries s.stage s.body → o ≡ with_code_at s.current b.direct b.method (whole_code b) → l ≡ earliest s.late (first_late (length s.body.insns) s.body.needs)
     → placed s end_code ≡ Some (record s { stage = Members; current = o; body = b; late = l })
 unfolding placed
 code_ends s o b l e f g = rw (f, g, e) refl

@@ -1,6 +1,3 @@
-pub mod PlaceLaws
-pub mod SearchLaws
-pub mod SortedLaws
-pub mod OpenLaws
 pub mod CloseLaws
-pub mod MemberLaws
+pub mod OpenLaws
+pub mod EntryLaws

@@ -1,53 +1,34 @@
 -- Members stand in any order in the text, and rise in the program.
 -- Page: docs/LISTING.md, "The lines", "Values".
-use Rattle.std.specs.List.{AllByRecursion}
-use Rattle.std.specs.Prelude.{◌≡◌, ℕ, ◌+◌, ◌==◌, nat_lt, Bool, true, false, pos, if◌then◌else◌, List, [], ◌∷◌, ◌++◌, take, drop, map, slice_index, Option, Some, None, option_map}
-use Rattle.std.specs.declared.cmp.Ordering.{Ordering}
-use Rattle.std.specs.declared.cmp.Ordering.TheVariants as ordering
-use Rattle.dex_program.specs.Key.{Key, key_cmp, field_ref_key, method_ref_key}
-use Rattle.dex_program.specs.Content.{Descriptor, Value, Member, Method}
+use Rattle.std.specs.Prelude.{ℕ, ◌+◌, ◌==◌, nat_lt, Bool, true, false, pos, if◌then◌else◌, List, [], ◌∷◌, take, map, slice_index, Option, Some, None}
+use Rattle.std.specs.List.{list_any}
+use Rattle.std.specs.Ordering.{is_eq, is_lt}
+use Rattle.dex_program.specs.Key.{Key, key_cmp}
+use Rattle.dex_program.specs.Content.{Descriptor, Value, Member}
 use Rattle.dex_program.specs.Content as content
+use Rattle.dex_rules.specs.Rules.{member_key}
 
 -- A static field, and its value where the text gives one.
 pub record Given : Type 0 where
   pub field : Member
   pub value : Option Value
 
--- The rows of members in the tables, whose order is theirs.
-abbrev pub field_key : Descriptor → Member → Key
-field_key class m = field_ref_key (record { class = class; name = m.name; ty = m.ty })
+-- It is told by its field.
+abbrev pub given_key : Given → Key
+given_key g = member_key g.field
 
-abbrev pub method_key : Descriptor → Method → Key
-method_key class m = method_ref_key (record { class = class; name = m.name; proto = m.proto })
+-- One of them has this key.
+abbrev pub is_held : {X : Type 0} → (X → Key) → Key → List X → Bool
+is_held key k ys = list_any (λ y. is_eq (key_cmp k (key y))) ys
 
-abbrev pub behind_key : Ordering → Option ℕ → Option ℕ
-behind_key ordering.Less place = option_map (λ n. n + 1) place
-behind_key ordering.Equal place = None
-behind_key ordering.Greater place = place
+-- Before the first that is above it.
+abbrev pub put_in : {X : Type 0} → (X → Key) → X → List X → List X
+put_in key x [] = x ∷ []
+put_in key x (y ∷ ys) = if is_lt (key_cmp (key x) (key y)) then x ∷ (y ∷ ys) else y ∷ put_in key x ys
 
--- How many of the keys are less: none where the key is one of them.
-unfoldable pub place_of : List Key → Key → Option ℕ
-place_of [] k = Some 0
-place_of (q ∷ qs) k = behind_key (key_cmp q k) (place_of qs k)
-
--- The key is below each of these.
-abbrev pub IsBelowAll : Key → List Key → Type 0
-IsBelowAll k ks = AllByRecursion (λ q. key_cmp k q ≡ ordering.Less) ks
-
--- Each key is below those behind it.
-abbrev pub KeysAreSorted : List Key → Type 0
-KeysAreSorted [] = Unit {0}
-KeysAreSorted (k ∷ ks) = IsBelowAll k ks × KeysAreSorted ks
-
--- Between two places, the half in which a key goes that compares so with the one in the middle: none where it is that one.
-abbrev pub narrowed : Ordering → ℕ → ℕ → ℕ → Option (ℕ × ℕ)
-narrowed ordering.Less low mid high = Some (mid + 1, high)
-narrowed ordering.Equal low mid high = None
-narrowed ordering.Greater low mid high = Some (low, mid)
-
--- At this place.
-abbrev pub put_at : {X : Type 0} → ℕ → X → List X → List X
-put_at n x xs = take n xs ++ (x ∷ drop n xs)
+-- In its place: none where one of its key is held.
+abbrev pub with_member : {X : Type 0} → (X → Key) → X → List X → Option (List X)
+with_member key x ys = if is_held key (key x) ys then None else Some (put_in key x ys)
 
 -- ---- values
 
@@ -64,9 +45,11 @@ zero_of ty =
     if slice_index ty 0 == 68 then content.Double 0 else
     content.Null)))))))
 
+-- Its value, or its type's zero.
 abbrev pub value_or_zero : Given → Value
 value_or_zero g = elim g.value [ None ↦ zero_of g.field.ty | Some v ↦ v ]
 
+-- The text gives it a value.
 abbrev pub is_given : Given → Bool
 is_given g = elim g.value [ None ↦ false | Some v ↦ true ]
 

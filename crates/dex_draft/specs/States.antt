@@ -1,8 +1,11 @@
 -- A listing that is being read: what is whole so far, and what is open.
 -- Page: docs/LISTING.md, "The lines", "Faults" (104).
-use Rattle.std.specs.Prelude.{ℕ, ◌+◌, ◌&&◌, Bool, true, false, if◌then◌else◌, List, [], ◌∷◌, ◌++◌, length, map, Option, Some, None, option_map, slice_get, slice_set}
+use Rattle.std.specs.Prelude.{ℕ, ◌+◌, ◌&&◌, Bool, true, false, if◌then◌else◌, List, [], ◌∷◌, ◌++◌, length, map, Option, Some, None, option_map}
 use Rattle.std.specs.List.{list_any}
+use Rattle.std.specs.Ordering.{is_eq}
 use Rattle.dex_program.specs.Content.{Units, Descriptor, Insn, Catch, Try, Code, Member, Method, Class}
+use Rattle.dex_program.specs.Key.{Key, key_cmp}
+use Rattle.dex_rules.specs.Rules.{member_key, method_key}
 use Rattle.dex_words.specs.Numbers.{is_number}
 use Rattle.dex_lines.specs.Lines.{Line, first_line, open_class, end_class, super_line, implements_line, source_line, static_line, instance_line, direct_line, virtual_line, open_code, end_code, insn_line, try_line, catch_line, catch_all_line}
 use Rattle.dex_shapes.specs.Shapes.{Shape}
@@ -11,7 +14,7 @@ use Rattle.dex_lines.specs.declared.stage.Stage.{Stage}
 use Rattle.dex_lines.specs.declared.stage.Stage.TheVariants.{Start, Top, Heads, Members, Behind, Insns, Tries, Caught}
 use Rattle.dex_lines.specs.Places.{may_stand, is_insn, is_caught}
 use Rattle.dex_lines.specs.Needs.{Need, line_needs, with_need, first_late, earliest}
-use Rattle.dex_draft.specs.Members.{Given, KeysAreSorted, field_key, method_key, place_of, put_at, values_of}
+use Rattle.dex_draft.specs.Members.{Given, given_key, with_member, values_of}
 
 -- The class that is open; its members rise.
 pub record Open : Type 0 where
@@ -25,17 +28,10 @@ pub record Open : Type 0 where
   pub directs : List Method
   pub virtuals : List Method
 
--- Each list of its members is in its order.
-pub record IsSorted (c : Open) : Type 0 where
-  pub statics : KeysAreSorted (map (λ h. field_key c.ty h.field) c.statics)
-  pub instances : KeysAreSorted (map (field_key c.ty) c.instances)
-  pub directs : KeysAreSorted (map (method_key c.ty) c.directs)
-  pub virtuals : KeysAreSorted (map (method_key c.ty) c.virtuals)
-
--- The code that is open: of which method, and what it has so far. The catches are those of the last try.
+-- The code that is open: the key of its method, and what it has so far. The catches are those of the last try.
 pub record Body : Type 0 where
   pub direct : Bool
-  pub place : ℕ
+  pub method : Key
   pub registers : ℕ
   pub ins : ℕ
   pub outs : ℕ
@@ -56,15 +52,17 @@ pub record State : Type 0 where
   pub lines : ℕ
   pub late : Option ℕ
 
+-- A class without anything.
 abbrev pub opened : Descriptor → ℕ → Open
 opened d f = record { ty = d; flags = f; superclass = None; interfaces = []; source = None; statics = []; instances = []; directs = []; virtuals = [] }
 
+-- Nothing was read.
 abbrev pub start : State
 start = record {
   done = [];
   stage = Start;
   current = opened [] 0;
-  body = record { direct = false; place = 0; registers = 0; ins = 0; outs = 0; insns = []; tries = []; from = 0; to = 0; catches = []; needs = [] };
+  body = record { direct = false; method = [] ∷ [] ∷ []; registers = 0; ins = 0; outs = 0; insns = []; tries = []; from = 0; to = 0; catches = []; needs = [] };
   lines = 0;
   late = None;
 }
@@ -88,77 +86,96 @@ closed c = record {
 abbrev pub try_of : Body → Option ℕ → Try
 try_of b all = record { from = b.from; to = b.to; catches = b.catches; catch_all = all }
 
+-- The tries that are whole, and the one that is open behind its catches.
 abbrev pub all_tries : Stage → Body → List Try
 all_tries s b = if is_caught s then b.tries ++ try_of b None ∷ [] else b.tries
 
+-- The code is whole.
 abbrev pub whole_code : Body → Code
 whole_code b = record { registers = b.registers; ins = b.ins; outs = b.outs; insns = b.insns; tries = b.tries }
 
+-- No try is open any more.
 abbrev pub with_tries : Stage → Body → Body
 with_tries s b = record b { tries = all_tries s b }
 
-abbrev pub owned : Body → Bool → ℕ → Body
-owned b direct n = record b { direct = direct; place = n }
+-- The code will be that of the method with this key, a direct or a virtual one.
+abbrev pub owned : Body → Bool → Key → Body
+owned b direct k = record b { direct = direct; method = k }
 
-unfoldable pub with_code : List Method → ℕ → Code → List Method
-with_code ms n c = elim (slice_get ms n) [ None ↦ ms | Some m ↦ slice_set ms n (record m { code = Some c }) ]
+-- The method with this key has the code.
+abbrev pub with_code : List Method → Key → Code → List Method
+with_code [] k c = []
+with_code (m ∷ ms) k c = if is_eq (key_cmp k (method_key m)) then record m { code = Some c } ∷ ms else m ∷ with_code ms k c
 
 -- The method that the code belongs to has it.
-abbrev pub with_code_at : Open → Bool → ℕ → Code → Open
-with_code_at o direct n c = if direct then record o { directs = with_code o.directs n c } else record o { virtuals = with_code o.virtuals n c }
+abbrev pub with_code_at : Open → Bool → Key → Code → Open
+with_code_at o direct k c = if direct then record o { directs = with_code o.directs k c } else record o { virtuals = with_code o.virtuals k c }
 
 -- The type is one of these.
 abbrev pub is_among : List Descriptor → Descriptor → Bool
 is_among es d = list_any (same d) es
 
--- A member in its place: none where it is given already.
+-- A static field in its place: none where it is given already.
 unfoldable pub with_static : Open → Given → Option Open
-with_static o g = option_map (λ n. record o { statics = put_at n g o.statics }) (place_of (map (λ h. field_key o.ty h.field) o.statics) (field_key o.ty g.field))
+with_static o g = option_map (λ gs. record o { statics = gs }) (with_member given_key g o.statics)
 
+-- An instance field in its place: none where it is given already.
 unfoldable pub with_instance : Open → Member → Option Open
-with_instance o m = option_map (λ n. record o { instances = put_at n m o.instances }) (place_of (map (field_key o.ty) o.instances) (field_key o.ty m))
+with_instance o m = option_map (λ ms. record o { instances = ms }) (with_member member_key m o.instances)
 
--- A method in its place, and which place that is.
-unfoldable pub with_direct : Open → Method → Option (Open × ℕ)
-with_direct o m = option_map (λ n. (record o { directs = put_at n m o.directs }, n)) (place_of (map (method_key o.ty) o.directs) (method_key o.ty m))
+-- A direct method in its place: none where it is given already.
+unfoldable pub with_direct : Open → Method → Option Open
+with_direct o m = option_map (λ ms. record o { directs = ms }) (with_member method_key m o.directs)
 
-unfoldable pub with_virtual : Open → Method → Option (Open × ℕ)
-with_virtual o m = option_map (λ n. (record o { virtuals = put_at n m o.virtuals }, n)) (place_of (map (method_key o.ty) o.virtuals) (method_key o.ty m))
+-- A virtual method in its place: none where it is given already.
+unfoldable pub with_virtual : Open → Method → Option Open
+with_virtual o m = option_map (λ ms. record o { virtuals = ms }) (with_member method_key m o.virtuals)
 
+-- The class has this superclass: none where one is given already.
 unfoldable pub with_superclass : Open → Descriptor → Option Open
 with_superclass o d = elim o.superclass [ None ↦ Some (record o { superclass = Some d }) | Some e ↦ None ]
 
+-- The class has this source file: none where one is given already.
 unfoldable pub with_source : Open → Units → Option Open
 with_source o us = elim o.source [ None ↦ Some (record o { source = Some us }) | Some e ↦ None ]
 
+-- One interface more, behind the others: none where it is given already.
 unfoldable pub with_interface : Open → Descriptor → Option Open
 with_interface o d = if is_among o.interfaces d then None else Some (record o { interfaces = o.interfaces ++ d ∷ [] })
 
 -- ---- the code
 
+-- A code without anything, of the same method.
 abbrev pub begun : Body → ℕ → ℕ → ℕ → Body
 begun b r i o = record b { registers = r; ins = i; outs = o; insns = []; tries = []; catches = []; needs = [] }
 
+-- One instruction more.
 abbrev pub with_insn : Body → Insn → Body
 with_insn b i = record b { insns = b.insns ++ i ∷ [] }
 
+-- A try is open; the one before it is whole.
 abbrev pub with_try : Stage → Body → ℕ → ℕ → Body
 with_try s b from to = record b { tries = all_tries s b; from = from; to = to; catches = [] }
 
+-- One catch more in the open try.
 abbrev pub with_catch : Body → Descriptor → ℕ → Body
 with_catch b d k = record b { catches = b.catches ++ record { ty = d; at = k } ∷ [] }
 
+-- The open try has a catch of everything, and is whole.
 abbrev pub with_catch_all : Body → ℕ → Body
 with_catch_all b k = record b { tries = b.tries ++ try_of b (Some k) ∷ [] }
 
 -- ---- a line more
 
+-- The open class is this one, if there is one, and the stage that of its lines.
 abbrev pub in_class : State → Stage → Option Open → Option State
 in_class s stage o = option_map (λ c. record s { stage = stage; current = c }) o
 
-abbrev pub behind_method : State → Bool → Option (Open × ℕ) → Option State
-behind_method s direct o = option_map (λ c. record s { stage = Behind; current = c.0; body = owned s.body direct c.1 }) o
+-- The same behind a method, whose code may follow.
+abbrev pub behind_method : State → Bool → Method → Option Open → Option State
+behind_method s direct m o = option_map (λ c. record s { stage = Behind; current = c; body = owned s.body direct (method_key m) }) o
 
+-- The open code is this one, and the stage that of its lines.
 abbrev pub in_body : State → Stage → Body → Option State
 in_body s stage b = Some (record s { stage = stage; body = b })
 
@@ -180,12 +197,12 @@ placed s (implements_line d) = in_class s Heads (with_interface s.current d)
 placed s (source_line us) = in_class s Heads (with_source s.current us)
 placed s (static_line m v) = in_class s Members (with_static s.current (record { field = m; value = v }))
 placed s (instance_line m) = in_class s Members (with_instance s.current m)
-placed s (direct_line m) = behind_method s true (with_direct s.current m)
-placed s (virtual_line m) = behind_method s false (with_virtual s.current m)
+placed s (direct_line m) = behind_method s true m (with_direct s.current m)
+placed s (virtual_line m) = behind_method s false m (with_virtual s.current m)
 placed s (open_code r i o) = in_body s Insns (begun s.body r i o)
 placed s end_code =
     let b = with_tries s.stage s.body in
-    Some (record s { stage = Members; current = with_code_at s.current b.direct b.place (whole_code b); body = b; late = earliest s.late (first_late (length s.body.insns) s.body.needs) })
+    Some (record s { stage = Members; current = with_code_at s.current b.direct b.method (whole_code b); body = b; late = earliest s.late (first_late (length s.body.insns) s.body.needs) })
 placed s (insn_line i) = in_body s Insns (with_insn s.body i)
 placed s (try_line from to) = in_body s Caught (with_try s.stage s.body from to)
 placed s (catch_line d k) = in_body s Caught (with_catch s.body d k)

@@ -1,17 +1,26 @@
 //! What is whole is placed in the arena.
 
-ghost use Rattle.std.specs.Prelude.{◌≡◌, ◌≤◌, length, map, take, IfOk, OnOk, IsOkUnless, Some};
+ghost use Rattle.std.specs.Prelude.{◌≡◌, ◌∷◌, ◌≤◌, length, map, take, IfOk, OnOk, IsOkUnless, Some};
 ghost use Rattle.dex_bytes.specs.Fault.{memory};
-ghost use Rattle.dex_program.specs.View.{desc, member, method, value, class, code};
+ghost use Rattle.dex_program.specs.Key.{proto_key};
+ghost use Rattle.dex_program.specs.View.{desc, str, proto, member, method, value, class, code};
 ghost use Rattle.dex_draft.specs.Members.{zero_of, value_or_zero, given_length, values_of};
 ghost use Rattle.dex_draft.specs.States.{closed, with_code};
-ghost use Rattle.dex_draft.specs.View.{given, open_class};
+ghost use Rattle.dex_draft.specs.View.{given, held_static, held_instance, held_method, open_class};
 
-use crate::draft::{Given, Open};
+use crate::draft::{Defined, FieldKey, MethodKey, Open, Static};
 use bumpalo::Bump;
 use bumpalo::collections::into_bump_slice;
 use dex_base::Fault;
-use dex_program::{Class, Code, Desc, Member, Method, Value};
+use dex_program::{Class, Code, Desc, Member, Method, Proto, Str, Value};
+use std::collections::BTreeMap;
+
+/// A static field, and its value where the text gives one.
+#[derive(Clone, Copy)]
+pub struct Given<'a> {
+    pub field: Member<'a>,
+    pub value: Option<Value<'a>>,
+}
 
 /// The zero of a type.
 #[rattlefmt::skip]
@@ -81,6 +90,68 @@ fn place_fields<'a>(alloc: &'a Bump, all: &[Given<'a>]) -> Result<&'a [Member<'a
     Ok(into_bump_slice(fields))
 }
 
+/// The static fields in their order.
+fn givens_of<'a>(
+    alloc: &'a Bump,
+    all: &BTreeMap<FieldKey<'a>, Static<'a>>,
+) -> Result<&'a [Given<'a>], Fault>
+    ensures ok { IfOk result (λ gs. map given gs.now ≡ map held_static all.now.entries) }
+    ensures memory { IsOkUnless result memory }
+{
+    let mut fields = Vec::new(alloc);
+    for (key, held) in all {
+        let field = Member {
+            name: key.0,
+            ty: key.1,
+            flags: held.flags,
+        };
+        fields.push(Given {
+            field,
+            value: held.value,
+        })?;
+    }
+    Ok(into_bump_slice(fields))
+}
+
+/// The instance fields in their order.
+fn instances_of<'a>(
+    alloc: &'a Bump,
+    all: &BTreeMap<FieldKey<'a>, u32>,
+) -> Result<&'a [Member<'a>], Fault>
+    ensures ok { IfOk result (λ ms. map member ms.now ≡ map held_instance all.now.entries) }
+    ensures memory { IsOkUnless result memory }
+{
+    let mut fields = Vec::new(alloc);
+    for (key, flags) in all {
+        fields.push(Member {
+            name: key.0,
+            ty: key.1,
+            flags: *flags,
+        })?;
+    }
+    Ok(into_bump_slice(fields))
+}
+
+/// The methods in their order.
+fn methods_of<'a>(
+    alloc: &'a Bump,
+    all: &BTreeMap<MethodKey<'a>, Defined<'a>>,
+) -> Result<&'a [Method<'a>], Fault>
+    ensures ok { IfOk result (λ ms. map method ms.now ≡ map held_method all.now.entries) }
+    ensures memory { IsOkUnless result memory }
+{
+    let mut methods = Vec::new(alloc);
+    for (key, held) in all {
+        methods.push(Method {
+            name: key.0,
+            proto: key.1,
+            flags: held.flags,
+            code: held.code,
+        })?;
+    }
+    Ok(into_bump_slice(methods))
+}
+
 /// The class that was open.
 #[tactic(auto, unfolding(crate::specs::View::open_class))]
 pub fn place_class<'a>(alloc: &'a Bump, whole: &Open<'a>) -> Result<Class<'a>, Fault>
@@ -88,11 +159,12 @@ pub fn place_class<'a>(alloc: &'a Bump, whole: &Open<'a>) -> Result<Class<'a>, F
     ensures memory { IsOkUnless result memory }
 {
     let interfaces = alloc.try_alloc_slice_copy(whole.interfaces.as_slice())?;
-    let statics = place_fields(alloc, whole.statics.as_slice())?;
-    let values = place_values(alloc, whole.statics.as_slice())?;
-    let instances = alloc.try_alloc_slice_copy(whole.instances.as_slice())?;
-    let directs = alloc.try_alloc_slice_copy(whole.directs.as_slice())?;
-    let virtuals = alloc.try_alloc_slice_copy(whole.virtuals.as_slice())?;
+    let givens = givens_of(alloc, &whole.statics)?;
+    let statics = place_fields(alloc, givens)?;
+    let values = place_values(alloc, givens)?;
+    let instances = instances_of(alloc, &whole.instances)?;
+    let directs = methods_of(alloc, &whole.directs)?;
+    let virtuals = methods_of(alloc, &whole.virtuals)?;
     Ok(Class {
         ty: whole.ty,
         flags: whole.flags,
@@ -107,31 +179,16 @@ pub fn place_class<'a>(alloc: &'a Bump, whole: &Open<'a>) -> Result<Class<'a>, F
     })
 }
 
-/// The method with the code.
-fn with_code<'a>(one: Method<'a>, whole: &'a Code<'a>) -> Method<'a>
-    ensures { method result ≡ record (method one.entry) { code = Some (code whole.now) } }
-{
-    Method {
-        name: one.name,
-        proto: one.proto,
-        flags: one.flags,
-        code: Some(whole),
-    }
-}
-
-/// The method at the place has the code. It stands last where methods come in their order.
+/// The method with this name and prototype has the code.
 pub fn set_code<'a>(
-    methods: &mut Vec<Method<'a>, &'a Bump>,
-    place: usize,
+    methods: &mut BTreeMap<MethodKey<'a>, Defined<'a>>,
+    name: Str<'a>,
+    prototype: &'a Proto<'a>,
     whole: &'a Code<'a>,
-) -> Result<(), Fault>
-    ensures put { OnOk result (map method methods.new.items ≡ with_code (map method methods.old.items) place (code whole.now)) }
-    ensures memory { IsOkUnless result memory }
+)
+    ensures { map held_method methods.new.entries ≡ with_code (map held_method methods.old.entries) (str name.entry ∷ proto_key (proto prototype.now)) (code whole.now) }
 {
-    if place >= methods.len() {
-        return Ok(());
+    if let Some(held) = methods.get_mut(&(name, prototype)) {
+        held.code = Some(whole);
     }
-    let one = methods.remove(place);
-    methods.insert(place, with_code(one, whole))?;
-    Ok(())
 }

@@ -4,25 +4,46 @@ ghost use Rattle.std.specs.Prelude.{◌≡◌, Option, Some, None, Bool, IfOk, I
 ghost use Rattle.dex_bytes.specs.Fault.{memory};
 
 use crate::close::{place_class, set_code};
-use crate::members::{instance_place, method_place, static_place};
 use bumpalo::Bump;
 use bumpalo::collections::into_bump_slice;
 use dex_base::Fault;
 use dex_lines::{Line, Need, Stage, first_late, is_caught, is_insn, line_needs, may_stand};
-use dex_program::{Catch, Class, Code, Desc, Insn, Member, Method, Str, Try, Value};
+use dex_program::{Catch, Class, Code, Desc, Insn, Member, Method, Proto, Str, Try, Value};
 use dex_shapes::Found;
 use dex_words::is_number;
 use indexmap::IndexSet;
 use std::alloc::Global;
+use std::collections::BTreeMap;
 
-/// A static field, and its value where the text gives one.
+/// A field's name and type, by which it is held.
+pub type FieldKey<'a> = (Str<'a>, Desc<'a>);
+
+/// A method's name and prototype, by which it is held.
+pub type MethodKey<'a> = (Str<'a>, &'a Proto<'a>);
+
+/// What is held of a static field beside its key.
 #[derive(Clone, Copy)]
-pub struct Given<'a> {
-    pub field: Member<'a>,
+pub struct Static<'a> {
+    pub flags: u32,
     pub value: Option<Value<'a>>,
 }
 
-/// The class that is open. Its interfaces are a hashed set in the order of the text.
+/// What is held of a method beside its key.
+#[derive(Clone, Copy)]
+pub struct Defined<'a> {
+    pub flags: u32,
+    pub code: Option<&'a Code<'a>>,
+}
+
+/// The prototype of no method.
+static NO_PROTO: Proto<'static> = Proto {
+    ret: Desc {
+        text: Str { units: &[] },
+    },
+    params: &[],
+};
+
+/// The class that is open. Its interfaces are a hashed set in the order of the text, its members stand in the order of their keys.
 #[derive(Drop)]
 pub struct Open<'a> {
     pub ty: Desc<'a>,
@@ -30,17 +51,18 @@ pub struct Open<'a> {
     pub superclass: Option<Desc<'a>>,
     pub interfaces: IndexSet<Desc<'a>>,
     pub source: Option<Str<'a>>,
-    pub statics: Vec<Given<'a>, &'a Bump>,
-    pub instances: Vec<Member<'a>, &'a Bump>,
-    pub directs: Vec<Method<'a>, &'a Bump>,
-    pub virtuals: Vec<Method<'a>, &'a Bump>,
+    pub statics: BTreeMap<FieldKey<'a>, Static<'a>>,
+    pub instances: BTreeMap<FieldKey<'a>, u32>,
+    pub directs: BTreeMap<MethodKey<'a>, Defined<'a>>,
+    pub virtuals: BTreeMap<MethodKey<'a>, Defined<'a>>,
 }
 
 /// The code that is open.
 #[derive(Drop)]
 pub struct Body<'a> {
     pub direct: bool,
-    pub place: usize,
+    pub name: Str<'a>,
+    pub proto: &'a Proto<'a>,
     pub registers: u16,
     pub ins: u16,
     pub outs: u16,
@@ -64,8 +86,10 @@ pub struct Draft<'a> {
 }
 
 impl<'a> Open<'a> {
-    ghost use Rattle.dex_program.specs.View.{desc, str, member, method, value, class, code};
-    ghost use Rattle.dex_draft.specs.States.{IsSorted, opened, closed, with_superclass, with_source, with_interface, with_static, with_instance, with_direct, with_virtual, with_code_at};
+    ghost use Rattle.dex_program.specs.View.{desc, str, proto, member, method, value, code};
+    ghost use Rattle.dex_draft.specs.States.{opened, with_superclass, with_source, with_interface, with_static, with_instance, with_direct, with_virtual, with_code_at};
+    ghost use Rattle.std.specs.Prelude.{◌∷◌};
+    ghost use Rattle.dex_program.specs.Key.{proto_key};
     ghost use Rattle.dex_draft.specs.View.{open_class};
     ghost use Rattle.std.specs.Prelude.{option_map};
 
@@ -123,83 +147,76 @@ impl<'a> Open<'a> {
 
     #[tactic(auto, unfolding(crate::specs::View::open_class, crate::specs::States::with_static))]
     fn put_static(&mut self, field: Member<'a>, initial: Option<Value<'a>>) -> Result<bool, Fault>
-        requires { IsSorted (open_class self.old) }
         ensures put { IfOk result (λ yes. MatchBool yes
             (with_static (open_class self.old) (record { field = member field.entry; value = option_map value initial.entry }) ≡ Some (open_class self.new))
             (with_static (open_class self.old) (record { field = member field.entry; value = option_map value initial.entry }) ≡ None)) }
         ensures memory { IsOkUnless result memory }
     {
-        let new = Given {
-            field,
+        let held = Static {
+            flags: field.flags,
             value: initial,
         };
-        let Some(place) = static_place(self.ty, self.statics.as_slice(), &new) else {
-            return Ok(false);
-        };
-        self.statics.insert(place, new)?;
-        Ok(true)
+        let old = self.statics.insert((field.name, field.ty), held)?;
+        Ok(old.is_none())
     }
 
     #[tactic(auto, unfolding(crate::specs::View::open_class, crate::specs::States::with_instance))]
     fn put_instance(&mut self, field: Member<'a>) -> Result<bool, Fault>
-        requires { IsSorted (open_class self.old) }
         ensures put { IfOk result (λ yes. MatchBool yes
             (with_instance (open_class self.old) (member field.entry) ≡ Some (open_class self.new))
             (with_instance (open_class self.old) (member field.entry) ≡ None)) }
         ensures memory { IsOkUnless result memory }
     {
-        let Some(place) = instance_place(self.ty, self.instances.as_slice(), &field) else {
-            return Ok(false);
-        };
-        self.instances.insert(place, field)?;
-        Ok(true)
+        let old = self.instances.insert((field.name, field.ty), field.flags)?;
+        Ok(old.is_none())
     }
-}
-
-impl<'a> Open<'a> {
-    ghost use Rattle.std.specs.Prelude.{IfSome, IfNone, OnOk};
-    ghost use Rattle.dex_program.specs.View.{method, code};
-    ghost use Rattle.dex_draft.specs.States.{IsSorted, with_direct, with_virtual, with_code_at};
-    ghost use Rattle.dex_draft.specs.View.{open_class};
 
     #[tactic(auto, unfolding(crate::specs::View::open_class, crate::specs::States::with_direct))]
-    fn put_direct(&mut self, new: Method<'a>) -> Result<Option<usize>, Fault>
-        requires { IsSorted (open_class self.old) }
-        ensures put { IfOk result (λ r. IfSome r (λ n. with_direct (open_class self.old) (method new.entry) ≡ Some (open_class self.new, n))) }
-        ensures none { IfOk result (λ r. IfNone r (with_direct (open_class self.old) (method new.entry) ≡ None)) }
+    fn put_direct(&mut self, new: Method<'a>) -> Result<bool, Fault>
+        ensures put { IfOk result (λ yes. MatchBool yes
+            (with_direct (open_class self.old) (method new.entry) ≡ Some (open_class self.new))
+            (with_direct (open_class self.old) (method new.entry) ≡ None)) }
         ensures memory { IsOkUnless result memory }
     {
-        let Some(place) = method_place(self.ty, self.directs.as_slice(), &new) else {
-            return Ok(None);
+        let held = Defined {
+            flags: new.flags,
+            code: new.code,
         };
-        self.directs.insert(place, new)?;
-        Ok(Some(place))
+        let old = self.directs.insert((new.name, new.proto), held)?;
+        Ok(old.is_none())
     }
 
     #[tactic(auto, unfolding(crate::specs::View::open_class, crate::specs::States::with_virtual))]
-    fn put_virtual(&mut self, new: Method<'a>) -> Result<Option<usize>, Fault>
-        requires { IsSorted (open_class self.old) }
-        ensures put { IfOk result (λ r. IfSome r (λ n. with_virtual (open_class self.old) (method new.entry) ≡ Some (open_class self.new, n))) }
-        ensures none { IfOk result (λ r. IfNone r (with_virtual (open_class self.old) (method new.entry) ≡ None)) }
+    fn put_virtual(&mut self, new: Method<'a>) -> Result<bool, Fault>
+        ensures put { IfOk result (λ yes. MatchBool yes
+            (with_virtual (open_class self.old) (method new.entry) ≡ Some (open_class self.new))
+            (with_virtual (open_class self.old) (method new.entry) ≡ None)) }
         ensures memory { IsOkUnless result memory }
     {
-        let Some(place) = method_place(self.ty, self.virtuals.as_slice(), &new) else {
-            return Ok(None);
+        let held = Defined {
+            flags: new.flags,
+            code: new.code,
         };
-        self.virtuals.insert(place, new)?;
-        Ok(Some(place))
+        let old = self.virtuals.insert((new.name, new.proto), held)?;
+        Ok(old.is_none())
     }
 
-    /// The method at the place has the code.
+    /// The method with this name and prototype has the code.
     #[tactic(auto, unfolding(crate::specs::View::open_class))]
-    fn put_code(&mut self, direct: bool, place: usize, whole: &'a Code<'a>) -> Result<(), Fault>
-        ensures put { OnOk result (open_class self.new ≡ with_code_at (open_class self.old) direct place (code whole.now)) }
-        ensures memory { IsOkUnless result memory }
+    fn put_code(
+        &mut self,
+        direct: bool,
+        name: Str<'a>,
+        prototype: &'a Proto<'a>,
+        whole: &'a Code<'a>,
+    )
+        ensures { open_class self.new ≡ with_code_at (open_class self.old) direct (str name.entry ∷ proto_key (proto prototype.now)) (code whole.now) }
     {
         if direct {
-            return set_code(&mut self.directs, place, whole);
+            set_code(&mut self.directs, name, prototype, whole);
+            return;
         }
-        set_code(&mut self.virtuals, place, whole)
+        set_code(&mut self.virtuals, name, prototype, whole);
     }
 }
 
@@ -209,11 +226,12 @@ impl<'a> Body<'a> {
 
     /// Whose code it is.
     #[tactic(auto, unfolding(crate::specs::View::open_body))]
-    fn set_owner(&mut self, direct: bool, place: usize)
-        ensures { open_body self.new ≡ owned (open_body self.old) direct place }
+    fn set_owner(&mut self, direct: bool, name: Str<'a>, prototype: &'a Proto<'a>)
+        ensures { open_body self.new ≡ owned (open_body self.old) direct (str name.entry ∷ proto_key (proto prototype.now)) }
     {
         self.direct = direct;
-        self.place = place;
+        self.name = name;
+        self.proto = prototype;
     }
 
     /// The last try is whole, if one is open.
@@ -247,7 +265,8 @@ impl<'a> Body<'a> {
 
     ghost use Rattle.std.specs.Prelude.{OnOk};
     ghost use Rattle.dex_lines.specs.Needs.{with_need};
-    ghost use Rattle.dex_program.specs.View.{desc, insn};
+    ghost use Rattle.dex_program.specs.Key.{proto_key};
+    ghost use Rattle.dex_program.specs.View.{desc, str, proto, insn};
     ghost use Rattle.dex_draft.specs.States.{with_insn, with_catch, with_catch_all, with_try, begun, try_of};
     ghost use Rattle.std.specs.Prelude.{◌++◌, ◌∷◌, []};
     ghost use Rattle.dex_draft.specs.View.{open_body};
@@ -343,7 +362,7 @@ impl<'a> Draft<'a> {
     ghost use Rattle.dex_shapes.specs.ShapeView.{shape};
     ghost use Rattle.std.specs.Prelude.{OnOk, ◌+◌, ◌<◌, ◌^◌, length};
     ghost use Rattle.dex_lines.specs.Needs.{earliest, first_late};
-    ghost use Rattle.dex_draft.specs.States.{IsSorted, start, counted, noted, placed, add, stands};
+    ghost use Rattle.dex_draft.specs.States.{start, counted, noted, placed, add, stands};
     ghost use Rattle.dex_draft.specs.View.{state, open_class, open_body};
 
     /// Nothing was read.
@@ -362,14 +381,15 @@ impl<'a> Draft<'a> {
                 superclass: None,
                 interfaces: IndexSet::new(alloc),
                 source: None,
-                statics: Vec::new(bump),
-                instances: Vec::new(bump),
-                directs: Vec::new(bump),
-                virtuals: Vec::new(bump),
+                statics: BTreeMap::new(alloc),
+                instances: BTreeMap::new(alloc),
+                directs: BTreeMap::new(alloc),
+                virtuals: BTreeMap::new(alloc),
             },
             body: Body {
                 direct: false,
-                place: 0,
+                name: Str { units: &[] },
+                proto: &NO_PROTO,
                 registers: 0,
                 ins: 0,
                 outs: 0,
@@ -449,7 +469,6 @@ impl<'a> Draft<'a> {
     /// One line more; false where it gives again what may be given once.
     #[tactic(auto, unfolding(crate::specs::View::state))]
     pub fn add(&mut self, alloc: &'a Bump, next: Line<'a>) -> Result<bool, Fault>
-        requires { IsSorted (state self.old).current }
         ensures added { IfOk result (λ yes. MatchBool yes
             (add (state self.old) (line next.entry) ≡ Some (state self.new))
             (add (state self.old) (line next.entry) ≡ None)) }
@@ -476,17 +495,16 @@ impl<'a> Draft<'a> {
     /// A direct method in its place; false where it is given already.
     #[tactic(auto, unfolding(crate::specs::View::state, crate::specs::States::placed))]
     fn put_direct(&mut self, new: Method<'a>) -> Result<bool, Fault>
-        requires { IsSorted (state self.old).current }
         ensures put { IfOk result (λ yes. MatchBool yes
             (placed (state self.old) (says.direct_line (method new.entry)) ≡ Some (state self.new))
             (placed (state self.old) (says.direct_line (method new.entry)) ≡ None)) }
         ensures lines { self.new.lines ≡ self.old.lines }
         ensures memory { IsOkUnless result memory }
     {
-        let Some(place) = self.current.put_direct(new)? else {
+        if !self.current.put_direct(new)? {
             return Ok(false);
-        };
-        self.body.set_owner(true, place);
+        }
+        self.body.set_owner(true, new.name, new.proto);
         self.stage = Stage::Behind;
         Ok(true)
     }
@@ -494,17 +512,16 @@ impl<'a> Draft<'a> {
     /// A virtual method in its place; false where it is given already.
     #[tactic(auto, unfolding(crate::specs::View::state, crate::specs::States::placed))]
     fn put_virtual(&mut self, new: Method<'a>) -> Result<bool, Fault>
-        requires { IsSorted (state self.old).current }
         ensures put { IfOk result (λ yes. MatchBool yes
             (placed (state self.old) (says.virtual_line (method new.entry)) ≡ Some (state self.new))
             (placed (state self.old) (says.virtual_line (method new.entry)) ≡ None)) }
         ensures lines { self.new.lines ≡ self.old.lines }
         ensures memory { IsOkUnless result memory }
     {
-        let Some(place) = self.current.put_virtual(new)? else {
+        if !self.current.put_virtual(new)? {
             return Ok(false);
-        };
-        self.body.set_owner(false, place);
+        }
+        self.body.set_owner(false, new.name, new.proto);
         self.stage = Stage::Behind;
         Ok(true)
     }
@@ -520,7 +537,7 @@ impl<'a> Draft<'a> {
         self.body.end_tries(alloc, self.stage)?;
         let whole = alloc.try_alloc(self.body.place_code(alloc)?)?;
         self.current
-            .put_code(self.body.direct, self.body.place, whole)?;
+            .put_code(self.body.direct, self.body.name, self.body.proto, whole);
         self.stage = Stage::Members;
         Ok(())
     }
@@ -529,7 +546,6 @@ impl<'a> Draft<'a> {
     #[rattlefmt::skip]
     #[tactic(auto, unfolding(crate::specs::View::state, crate::specs::States::placed))]
     fn place(&mut self, alloc: &'a Bump, next: Line<'a>) -> Result<bool, Fault>
-        requires { IsSorted (state self.old).current }
         ensures added { IfOk result (λ yes. MatchBool yes
             (placed (state self.old) (line next.entry) ≡ Some (state self.new))
             (placed (state self.old) (line next.entry) ≡ None)) }

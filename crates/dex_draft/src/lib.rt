@@ -9,6 +9,6 @@
 
 mod close;
 mod draft;
-mod members;
 
-pub use draft::{Body, Draft, Given, Open};
+pub use close::Given;
+pub use draft::{Body, Defined, Draft, FieldKey, MethodKey, Open, Static};

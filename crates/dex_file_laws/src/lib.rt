@@ -43,6 +43,7 @@ pub fn framed_files_are_decided()
 fn are_bytes(bytes: &[u8])
     ensures { AreBytes bytes.now }
 {
+    // Only for the proof: what holds of each value of its type.
     let _bytes = bytes;
 }
 

@@ -40,6 +40,12 @@ pub fn payloads_by_identifier()
     ensures plain { (us : List ℕ) (r : Raw) → SpellsInsn us r → is_payload r ≡ false → ¬ IsPayload us }
 {}
 
+/// Written, an instruction takes two bytes a unit.
+#[tactic(auto, using(crate::proofs::Spelled::length_written))]
+pub fn two_bytes_a_unit()
+    ensures { (r : Raw) → IsRaw r → length (written r) ≡ 2 * units r }
+{}
+
 /// What is written stands where it was written, a payload where that is an even unit.
 pub fn written_stands()
     ensures { (before behind : List ℕ) (at : ℕ) (r : Raw) → IsRaw r → length before ≡ 2 * at → (is_payload r ≡ true → at % 2 ≡ 0)

@@ -17,7 +17,7 @@ use Rattle.dex_program.specs.View as view
 use Rattle.dex_program.specs.declared.class.Class.{Class}
 use Rattle.dex_program.specs.declared.class.Method.{Method}
 use Rattle.dex_limits.specs.Limits.{IsLeast, IsLowestOf, codes_in, lower, earlier}
-use Rattle.dex_limits.proofs.BodyLaws.{both_least, class_more}
+use Rattle.dex_limits.proofs.BodyLaws.{both_least, class_more, all_both}
 use Rattle.dex_limits.proofs.SumLaws.{map_more}
 
 pub front_all : {V : Type 0} (P : V → Type 0) (xs ys : List V) → AllByRecursion P (xs ++ ys) → AllByRecursion P xs
@@ -30,10 +30,6 @@ back_all P (x ∷ xs) ys h = back_all P xs ys h.1
 
 -- ---- the names in a body
 
-both_all : {V : Type 0} (P : V → Type 0) (xs ys : List V) → AllByRecursion P xs → AllByRecursion P ys → AllByRecursion P (xs ++ ys)
-both_all P [] ys h k = k
-both_all P (x ∷ xs) ys h k = (h.0, both_all P xs ys h.1 k)
-
 catches_below : (s : Five) (cs : List Catch) → length s.types ≤ 65535 → AllByRecursion (HasIndex (NameRanks s)) (map (λ (c : Catch). OfDesc c.ty) cs) → AllByRecursion (HasIndexBelow (NameRanks s) 4294967296) (map (λ (c : Catch). OfDesc c.ty) cs)
 catches_below s [] few h = tt
 catches_below s (c ∷ cs) few h = let lt = slice_get_within s.types h.0.0 (text_key c.ty) h.0.1 in ((h.0.0, omega (arith, lt, few), h.0.1), catches_below s cs few h.1)
@@ -41,7 +37,7 @@ catches_below s (c ∷ cs) few h = let lt = slice_get_within s.types h.0.0 (text
 tries_below : (s : Five) (ts : List Try) → length s.types ≤ 65535 → AllByRecursion (HasIndex (NameRanks s)) (flat_map names_of_try ts) → AllByRecursion (HasIndexBelow (NameRanks s) 4294967296) (flat_map names_of_try ts)
 tries_below s [] few h = tt
 tries_below s (t ∷ ts) few h =
-    both_all (HasIndexBelow (NameRanks s) 4294967296) (names_of_try t) (flat_map names_of_try ts)
+    all_both (HasIndexBelow (NameRanks s) 4294967296) (names_of_try t) (flat_map names_of_try ts)
     (catches_below s t.catches few (front_all (HasIndex (NameRanks s)) (names_of_try t) (flat_map names_of_try ts) h))
     (tries_below s ts few (back_all (HasIndex (NameRanks s)) (names_of_try t) (flat_map names_of_try ts) h))
 

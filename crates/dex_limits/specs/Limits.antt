@@ -20,9 +20,11 @@ use Rattle.dex_limits.specs.Wide.{wide}
 abbrev pub code_of : Method → List Code
 code_of m = option_to_list m.code
 
+-- The bodies of these methods that have one.
 abbrev pub codes_in : List Method → List Code
 codes_in ms = flat_map code_of ms
 
+-- The bodies of a class: direct methods, then virtual ones.
 abbrev pub codes_of : Class → List Code
 codes_of c = codes_in c.directs ++ codes_in c.virtuals
 

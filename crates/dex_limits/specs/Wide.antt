@@ -52,6 +52,7 @@ wide_proto k = 12 + wide_list (params_of k)
 abbrev pub bodies_in : List Method → List (Option Code)
 bodies_in ms = map (λ m. m.code) ms
 
+-- The bodies of a class: direct methods, then virtual ones.
 abbrev pub bodies_of : Class → List (Option Code)
 bodies_of c = bodies_in c.directs ++ bodies_in c.virtuals
 

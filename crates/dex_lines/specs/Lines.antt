@@ -50,6 +50,7 @@ pub record Making : Type 0 where
   pub values : List Value
   pub begins : List ℕ
 
+-- One value more.
 abbrev pub with_value : Making → Value → Making
 with_value m v = record m { values = m.values ++ v ∷ [] }
 
@@ -57,6 +58,7 @@ with_value m v = record m { values = m.values ++ v ∷ [] }
 abbrev pub close_array : Making → ℕ → List ℕ → Making
 close_array m begin others = record { values = take begin m.values ++ content.Array (content.values (drop begin m.values)) ∷ []; begins = others }
 
+-- One word more: a bracket opens or closes an array, a value joins the others.
 abbrev pub with_word : Making → Datum → Making
 with_word m (said key.Open) = record m { begins = length m.values ∷ m.begins }
 with_word m (said key.Close) = elim m.begins [ [] ↦ m | begin ∷ others ↦ close_array m begin others ]
@@ -77,6 +79,7 @@ with_word m (named n) = with_value m (content.Named n)
 with_word m (constant f) = with_value m (content.Enum f)
 with_word m (prototype p) = m
 
+-- The first of the values.
 abbrev pub first_value : List Value → Value
 first_value [] = content.Null
 first_value (v ∷ vs) = v
@@ -87,6 +90,7 @@ value_of ds = first_value (fold with_word (record { values = []; begins = [] }) 
 
 -- ---- lines
 
+-- What a line says.
 pub data Line : Type 0 where
   first_line : Line
   open_class : (ty : Descriptor) (flags : ℕ) → Line
@@ -105,9 +109,11 @@ pub data Line : Type 0 where
   catch_line : Descriptor → ℕ → Line
   catch_all_line : ℕ → Line
 
+-- The field that the words say: name, type, flags.
 abbrev pub member_of : List Datum → Member
 member_of ds = record { name = text_of (at ds 0); ty = type_of (at ds 1); flags = word_of (at ds 2) }
 
+-- The method that the words say, its code still open: name, prototype, flags.
 abbrev pub method_of : List Datum → Method
 method_of ds = record { name = text_of (at ds 0); proto = proto_of (at ds 1); flags = word_of (at ds 2); code = None }
 

@@ -6,14 +6,17 @@ use Rattle.dex_slots.specs.declared.kind.Kind.TheVariants as kind
 use Rattle.dex_lines.specs.declared.stage.Stage.{Stage}
 use Rattle.dex_lines.specs.declared.stage.Stage.TheVariants.{Start, Top, Heads, Members, Behind, Insns, Tries, Caught}
 
+-- Before the first line.
 abbrev pub is_start : Stage → Bool
 is_start Start = true
 is_start _ = false
 
+-- Outside all classes.
 abbrev pub is_top : Stage → Bool
 is_top Top = true
 is_top _ = false
 
+-- A superclass, an interface or a source file may stand there.
 abbrev pub is_heads : Stage → Bool
 is_heads Heads = true
 is_heads _ = false
@@ -25,10 +28,12 @@ is_in_class Members = true
 is_in_class Behind = true
 is_in_class _ = false
 
+-- A code may stand there: the line before is a method.
 abbrev pub is_behind : Stage → Bool
 is_behind Behind = true
 is_behind _ = false
 
+-- An instruction may stand there.
 abbrev pub is_insns : Stage → Bool
 is_insns Insns = true
 is_insns _ = false
@@ -40,10 +45,12 @@ is_in_code Tries = true
 is_in_code Caught = true
 is_in_code _ = false
 
+-- A catch may stand there: a try is open.
 abbrev pub is_caught : Stage → Bool
 is_caught Caught = true
 is_caught _ = false
 
+-- A line is an instruction.
 abbrev pub is_insn : Kind → Bool
 is_insn (kind.Plain op) = true
 is_insn kind.Packed = true

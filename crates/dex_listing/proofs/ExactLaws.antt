@@ -129,7 +129,7 @@ breaks_says one shape text p code place b a = elim b [
   | inr (inr (inr w)) ↦
       let e = reads_one one shape (lines text) start w.state a.end w.accepted a.read in
       let q : w.state.done ≡ p = ap (λ (s : State). s.done) e ∙ a.classes in
-      not_both_ways p (record { code = code; place = place }) (subst (λ (x : Program). RuleBreaks x (record { code = code; place = place })) q w.breaks) a.formed
+      not_both_ways p (record { code = code; place = place }) (subst (λ (x : Program). RuleBreaks x (record { code = code; place = place })) q w.breaks) a.formed.rules
 ]
 
 -- ---- a word says one thing in a slot, and words have one shape

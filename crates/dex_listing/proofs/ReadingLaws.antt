@@ -2,13 +2,12 @@
 use Rattle.std.proofs.Common.{◌≡◌, ℕ, ◌+◌, inl, inr, List, [], ◌∷◌, ◌++◌, length, Some, None, refl, sym, ap, subst, ◌∙◌, append_assoc}
 use Rattle.std.proofs.lemmas.List.{append-nil}
 use Rattle.dex_bytes.specs.declared.fault.Fault.{Fault}
+use Rattle.dex_rules.specs.Ranges.{InRange}
 use Rattle.dex_rules.specs.Rules.{RulesHold, RuleBreaks}
 use Rattle.dex_program.specs.Content.{Program}
 use Rattle.dex_lines.specs.declared.stage.Stage.TheVariants.{Top}
 use Rattle.dex_draft.specs.declared.draft.Draft.{Draft}
-use Rattle.dex_draft.specs.States.{State, start, counted, IsSorted}
-use Rattle.dex_lines.specs.Lines.{line_of}
-use Rattle.dex_draft.proofs.SortedLaws.{add_sorted, start_sorted}
+use Rattle.dex_draft.specs.States.{State, start, counted}
 use Rattle.dex_listing.specs.Text.{lines, Takes, Reads, IsListing, IsRefused, IsBadLine, ListingBreaks, IsFinished, IsUnfinished}
 use Rattle.dex_draft.specs.View.{state}
 
@@ -56,8 +55,8 @@ pub open_end : (d : Draft) → (d.stage ≡ Top → ⊥) → IsUnfinished (state
 unfolding state
 open_end d t = inl (refl, refl, t)
 
-pub whole_text : (text : List ℕ) (s : State) (p : Program) → Reads start (lines text) s → IsFinished s → p ≡ s.done → RulesHold p → IsListing text p
-whole_text text s p r w e h = record { end = s; read = r; whole = w.0; targets = w.1; classes = sym e; formed = h }
+pub whole_text : (text : List ℕ) (s : State) (p : Program) → Reads start (lines text) s → IsFinished s → p ≡ s.done → InRange p → RulesHold p → IsListing text p
+whole_text text s p r w e i h = record { end = s; read = r; whole = w.0; targets = w.1; classes = sym e; formed = record { ranges = i; rules = h } }
 
 pub unfinished_text : (text : List ℕ) (s : State) (code place : ℕ) → Reads start (lines text) s → s.lines ≡ length (lines text) → IsUnfinished s code place → ListingBreaks text code place
 unfinished_text text s code place r n (inl u) = inr (inl (u.0, u.1 ∙ n, record { state = s; accepted = r; inside = u.2 }))
@@ -65,17 +64,3 @@ unfinished_text text s code place r n (inr u) = inr (inr (inl (u.0, record { sta
 
 pub unruly_text : (text : List ℕ) (s : State) (p : Program) (e : Fault) → Reads start (lines text) s → IsFinished s → p ≡ s.done → RuleBreaks p e → ListingBreaks text e.code e.place
 unruly_text text s p e r w q b = inr (inr (inr (record { state = s; accepted = r; whole = w.0; targets = w.1; breaks = subst (λ (x : Program). RuleBreaks x e) q b })))
-
-takes_sorted : (s t : State) (l : List ℕ) → IsSorted s.current → Takes s l t → IsSorted t.current
-takes_sorted s t l h k = elim k [
-  | inl a ↦ rw a.1 h
-  | inr a ↦ add_sorted (counted s) t (line_of a.1.shape.kind a.1.says) h a.1.added
-]
-
--- behind lines that are read the members of the open class are in their order
-pub reads_sorted : (ls : List (List ℕ)) (s t : State) → IsSorted s.current → Reads s ls t → IsSorted t.current
-reads_sorted [] s t h r = subst (λ (x : State). IsSorted x.current) r h
-reads_sorted (l ∷ ls) s t h r = reads_sorted ls r.0 t (takes_sorted s r.0 l h r.1) r.2
-
-pub read_sorted : (ls : List (List ℕ)) (t : State) → Reads start ls t → IsSorted t.current
-read_sorted ls t r = reads_sorted ls start t start_sorted r

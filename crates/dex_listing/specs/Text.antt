@@ -2,7 +2,8 @@
 -- Page: docs/LISTING.md, "Lines and words", "Faults".
 use Rattle.std.specs.Prelude.{◌≡◌, ◌≢◌, ℕ, ◌+◌, ◌==◌, Bool, true, false, if◌then◌else◌, ◌⊎◌, List, [], ◌∷◌, ◌++◌, length, Some, None}
 use Rattle.dex_program.specs.Content.{Program}
-use Rattle.dex_rules.specs.Rules.{RulesHold, RuleBreaks}
+use Rattle.dex_rules.specs.Ranges.{WellFormed}
+use Rattle.dex_rules.specs.Rules.{RuleBreaks}
 use Rattle.dex_words.specs.Words.{Word, HasWords, after_spaces}
 use Rattle.dex_slots.specs.Data.{Datum}
 use Rattle.dex_slots.specs.Slots.{SpellsSlots, MisspellsSlots}
@@ -53,14 +54,14 @@ Reads s [] t = s ≡ t
 Reads s (l ∷ ls) t = (u : State) × Takes s l u × Reads u ls t
 
 -- The text is a listing of this program: its lines, one behind the other, make the program's classes, no block is open at its
--- end, each target is an instruction of its code, and the program keeps its rules.
+-- end, each target is an instruction of its code, and the program is well formed.
 pub record IsListing (text : List ℕ) (p : Program) : Type 0 where
   pub end : State
   pub read : Reads start (lines text) end
   pub whole : end.stage ≡ Top
   pub targets : end.late ≡ None
   pub classes : end.done ≡ p
-  pub formed : RulesHold p
+  pub formed : WellFormed p
 
 -- ---- faults
 

@@ -3,7 +3,7 @@
 ghost use Rattle.std.specs.Prelude.{◌≡◌, ◌≢◌, false, ◌+◌, ◌<◌, ◌^◌, length, IfOk, IfErr, IfSome, IfNone, OnOk, IsOkUnless};
 ghost use Rattle.dex_bytes.specs.Fault.{memory};
 ghost use Rattle.dex_program.specs.View.{program};
-ghost use Rattle.dex_draft.specs.States.{start, counted, IsSorted};
+ghost use Rattle.dex_draft.specs.States.{start, counted};
 ghost use Rattle.dex_draft.specs.View.{state};
 ghost use Rattle.dex_listing.specs.Text.{lines, is_skipped, Adds, Takes, Reads, IsListing, IsRefused, IsBadLine, ListingBreaks, IsFinished, IsUnfinished};
 
@@ -13,6 +13,7 @@ use dex_base::{Fault, fault};
 use dex_draft::Draft;
 use dex_lines::{Stage, make_line};
 use dex_program::Program;
+use dex_ranges::programs_are_in_range;
 use dex_rules::well_formed;
 use dex_shapes::read_shape;
 use dex_slots::{Datum, Slot, read_operands};
@@ -28,8 +29,7 @@ fn add_line<'a, 'b>(
     draft: &mut Draft<'a>,
     line: &'b [u8],
 ) -> Result<Option<u16>, Fault>
-    requires not_skipped { is_skipped line.now ≡ false }
-    requires sorted { IsSorted (state draft.old).current }
+    requires { is_skipped line.now ≡ false }
     ensures taken { IfOk result (λ r. IfNone r (Adds (state draft.old) line.now (state draft.new))) }
     ensures refused { IfOk result (λ r. IfSome r (λ code. IsRefused (state draft.old) line.now code)) }
     ensures lines { IfOk result (λ r. draft.new.lines ≡ draft.old.lines) }
@@ -64,8 +64,7 @@ fn read_line<'a, 'b>(
     draft: &mut Draft<'a>,
     line: &'b [u8],
 ) -> Result<Option<u16>, Fault>
-    requires few { draft.old.lines + 1 < 2 ^ 64 }
-    requires sorted { IsSorted (state draft.old).current }
+    requires { draft.old.lines + 1 < 2 ^ 64 }
     ensures taken { IfOk result (λ r. IfNone r (Takes (state draft.old) line.now (state draft.new))) }
     ensures refused { IfOk result (λ r. IfSome r (λ code. IsRefused (counted (state draft.old)) line.now code)) }
     ensures lines { IfOk result (λ r. draft.new.lines ≡ draft.old.lines + 1) }
@@ -121,7 +120,7 @@ fn check_end(draft: &Draft<'_>) -> Result<(), Fault>
     }
 }
 
-/// The program of a listing. It keeps the rules of every file's program.
+/// The program of a listing. It is well formed: it keeps the rules of every file's program, and each number fits its type.
 ///
 /// The names, slices and values of the program lie in the arena. The lowest line with a fault of 100 to 104 is refused, or
 /// else a text that ends inside a block (106); where there is none, the lowest line with a target that is no instruction of
@@ -137,5 +136,6 @@ pub fn parse<'a>(alloc: Global, arena: &'a Bump, text: &[u8]) -> Result<Program<
         classes: draft.into_classes(),
     };
     well_formed(&whole)?;
+    programs_are_in_range(&whole);
     Ok(whole)
 }

@@ -6,7 +6,7 @@ use Rattle.dex_program.specs.Content.{Units, Descriptor, Name, OfText, OfDesc, O
 use Rattle.dex_program.specs.Mentions.{if_any, names_of_value, names_of_values, names_of_code, field_of_class, names_of_method, names_of_class}
 use Rattle.dex_rules.specs.Valid.{IsValidName}
 use Rattle.dex_code_rules.specs.CodeRules.{OperandsHold, TriesHold}
-use Rattle.dex_rules.specs.Rules.{ClassHolds}
+use Rattle.dex_rules.specs.Rules.{ClassHolds, member_key, method_key}
 use Rattle.dex_rules.specs.Ranges.{NameInRange, ValueInRange, ValuesInRange, CodeInRange, MemberInRange, DefinedInRange, ClassInRange, WellFormed}
 use Rattle.dex_slots.specs.declared.key.Key.TheVariants as key
 use Rattle.dex_print.specs.Operands.{keyword, value_operands, values_operands}
@@ -16,7 +16,7 @@ use Rattle.dex_listing_laws.proofs.Printable.{FieldFits, GivenFits, givens, Body
 use Rattle.dex_listing_laws.proofs.NameFits.{IsNamed, proto_fits, name_fits}
 use Rattle.dex_listing_laws.proofs.InsnFits.{operands_append, signed8, signed16, signed32, signed64}
 use Rattle.dex_listing_laws.proofs.CodeRules.{all_front, all_behind, code_fits}
-use Rattle.dex_listing_laws.proofs.OrderRules.{fields_sorted, methods_sorted}
+use Rattle.dex_listing_laws.proofs.OrderRules.{keys_sorted}
 
 names_of : (ns : List Name) → AllByRecursion IsValidName ns → AllByRecursion NameInRange ns → AllByRecursion IsNamed ns
 names_of [] v r = tt
@@ -161,13 +161,13 @@ class_fits p i c h r =
       source = source_fits c.source m.source;
       statics = givens_fit c.ty c.statics c.values r.statics r.values m.statics m.values;
       values = h.values.few;
-      statics_rise = fields_sorted c.ty c.statics h.members.statics;
+      statics_rise = keys_sorted (map member_key c.statics) h.members.statics;
       instances = fields_fit c.ty c.instances r.instances m.instances;
-      instances_rise = fields_sorted c.ty c.instances h.members.instances;
+      instances_rise = keys_sorted (map member_key c.instances) h.members.instances;
       directs = methods_fit c.ty c.directs h.operands.directs h.tries.directs r.directs m.directs;
-      directs_rise = methods_sorted c.ty c.directs h.members.directs;
+      directs_rise = keys_sorted (map method_key c.directs) h.members.directs;
       virtuals = methods_fit c.ty c.virtuals h.operands.virtuals h.tries.virtuals r.virtuals m.virtuals;
-      virtuals_rise = methods_sorted c.ty c.virtuals h.members.virtuals;
+      virtuals_rise = keys_sorted (map method_key c.virtuals) h.members.virtuals;
     }
 
 -- class by class

@@ -100,4 +100,4 @@ printed_again p h =
     let x = classes_run p [] start.current start.body 1 (printable p h) in
     let t = in_stage Top p x.current None x.body x.lines in
     let r = runs_join start (in_stage Top [] start.current None start.body 1) t (keyed_text first_line) (flat_map class_text p) first_runs x.runs in
-    runs_whole (canon p) p t r refl refl refl h.rules
+    runs_whole (canon p) p t r refl refl refl h

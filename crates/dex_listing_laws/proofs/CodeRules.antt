@@ -1,5 +1,5 @@
 -- A code that keeps the rules is written.
-use Rattle.std.proofs.Common.{ℕ, zero, suc, ◌+◌, ◌<◌, ◌≤◌, List, [], ◌∷◌, ◌++◌, length, map, Option, Some, None, IfSome, arith}
+use Rattle.std.proofs.Common.{ℕ, zero, suc, ◌<◌, ◌≤◌, List, [], ◌∷◌, ◌++◌, length, map, Option, Some, None, IfSome, arith}
 use Rattle.std.specs.List.{AllByRecursion, flat_map}
 use Rattle.dex_program.specs.Content.{OfDesc, Insn, Catch, Try, Code}
 use Rattle.dex_program.specs.Formed.{insn_at, try_at, TryFormed}

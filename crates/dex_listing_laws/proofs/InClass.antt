@@ -1,15 +1,17 @@
 -- Texts that run into a class that is open.
-use Rattle.std.proofs.Common.{◌≡◌, ℕ, true, List, [], ◌∷◌, ◌++◌, map, None, sym, subst, append_assoc}
+use Rattle.std.proofs.Common.{◌≡◌, ℕ, true, false, Some, refl, ap, ◌∙◌, List, [], ◌∷◌, ◌++◌, map, None, sym, subst, append_assoc}
 use Rattle.std.proofs.lemmas.List.{append-nil, map-append}
 use Rattle.std.specs.List.{AllByRecursion, flat_map}
 use Rattle.std.specs.declared.cmp.Ordering.TheVariants as ordering
 use Rattle.dex_program.specs.Content.{Class}
+use Rattle.std.specs.Ordering.{is_eq, ordering_reverse}
 use Rattle.dex_program.specs.Key.{Key, key_cmp}
+use Rattle.dex_program.specs.KeyLaws.{key_cmp-total}
 use Rattle.dex_lines.specs.declared.stage.Stage.{Stage}
 use Rattle.dex_lines.specs.Places.{is_in_class}
-use Rattle.dex_draft.specs.Members.{IsBelowAll, KeysAreSorted}
+use Rattle.dex_draft.specs.Members.{is_held, put_in, with_member}
 use Rattle.dex_draft.specs.States.{State, Open, Body}
-use Rattle.dex_draft.proofs.MemberLaws.{AllBelow}
+use Rattle.dex_listing_laws.proofs.Printable.{IsBelowAll, KeysAreSorted, AllBelow}
 use Rattle.dex_listing_laws.proofs.Runs.{RunsTo, in_stage}
 use Rattle.dex_listing_laws.proofs.RunLaws.{runs_join}
 use Rattle.dex_listing_laws.proofs.CodeRuns.{nothing_runs}
@@ -45,6 +47,24 @@ sorted_front (q ∷ qs) k rest h = (below_last q qs k rest h.0, sorted_front qs 
 -- what stands in front is below
 pub front_below : {X : Type 0} (key : X → Key) (before : List X) (x : X) (rest : List X) → KeysAreSorted (map key (before ++ (x ∷ rest))) → AllBelow (map key before) (key x)
 front_below key before x rest h = sorted_front (map key before) (key x) (map key rest) (subst KeysAreSorted (map-append key before (x ∷ rest)) h)
+
+above : (q k : Key) → key_cmp q k ≡ ordering.Less → key_cmp k q ≡ ordering.Greater
+above q k e = key_cmp-total.antisymm k q ∙ ap ordering_reverse e
+
+not_held : {X : Type 0} (key : X → Key) (k : Key) (ys : List X) → AllBelow (map key ys) k → is_held key k ys ≡ false
+not_held key k [] h = refl
+not_held key k (y ∷ ys) h = rw (above (key y) k h.0) (not_held key k ys h.1)
+
+last_in : {X : Type 0} (key : X → Key) (x : X) (ys : List X) → AllBelow (map key ys) (key x) → put_in key x ys ≡ ys ++ x ∷ []
+last_in key x [] h = refl
+last_in key x (y ∷ ys) h = rw (above (key y) (key x) h.0) (ap (λ t. y ∷ t) (last_in key x ys h.1))
+
+-- what is above all goes last
+pub with_last : {X : Type 0} (key : X → Key) (x : X) (ys : List X) → AllBelow (map key ys) (key x) → with_member key x ys ≡ Some (ys ++ x ∷ [])
+with_last key x ys h = rw (not_held key (key x) ys h, last_in key x ys h) refl
+
+pub code_skips : (q k : Key) → key_cmp q k ≡ ordering.Less → is_eq (key_cmp k q) ≡ false
+code_skips q k e = ap is_eq (above q k e)
 
 -- Members of one list, one behind the other, where each goes last.
 pub each_runs : {X : Type 0} (done : List Class) (text : X → List ℕ) (with : List X → Open) (Fits : X → Type 0) (key : X → Key)

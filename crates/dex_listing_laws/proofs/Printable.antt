@@ -1,14 +1,31 @@
 -- Programs that can be printed and read again: each word can be written in its slot, and what is read in an order stands in it.
-use Rattle.std.specs.Prelude.{ℕ, ◌+◌, ◌<◌, ◌≤◌, ◌^◌, max, List, [], ◌∷◌, length, map, Option, Some, None}
+use Rattle.std.specs.Prelude.{◌≡◌, ℕ, ◌+◌, ◌<◌, ◌≤◌, ◌^◌, max, List, [], ◌∷◌, length, map, Option, Some, None}
 use Rattle.std.specs.List.{AllByRecursion}
 use Rattle.dex_program.specs.Content.{Units, Descriptor, Value, Insn, Catch, Try, Code, Member, Method, Class, Program}
-use Rattle.dex_rules.specs.Rules.{AreDistinct}
+use Rattle.std.specs.declared.cmp.Ordering.TheVariants as ordering
+use Rattle.dex_program.specs.Key.{Key, key_cmp}
+use Rattle.dex_rules.specs.Rules.{AreDistinct, member_key, method_key}
 use Rattle.dex_lines.specs.Lines.{open_class, super_line, implements_line, source_line, static_line, instance_line, direct_line, open_code, try_line, catch_line, catch_all_line}
 use Rattle.dex_lines.specs.Needs.{insn_needs}
-use Rattle.dex_draft.specs.Members.{Given, KeysAreSorted, field_key, method_key}
+use Rattle.dex_draft.specs.Members.{Given}
 use Rattle.dex_print.specs.Printed.{line_operands}
 use Rattle.dex_print.specs.Operands.{insn_operands}
 use Rattle.dex_print.specs.Reading.{FitOperands, OpcodeFits}
+
+-- ---- orders of keys
+
+-- The key is below each of these.
+abbrev pub IsBelowAll : Key → List Key → Type 0
+IsBelowAll k ks = AllByRecursion (λ q. key_cmp k q ≡ ordering.Less) ks
+
+-- Each key is below those behind it.
+abbrev pub KeysAreSorted : List Key → Type 0
+KeysAreSorted [] = Unit {0}
+KeysAreSorted (k ∷ ks) = IsBelowAll k ks × KeysAreSorted ks
+
+-- All of the keys are below this one.
+abbrev pub AllBelow : List Key → Key → Type 0
+AllBelow ks k = AllByRecursion (λ q. key_cmp q k ≡ ordering.Less) ks
 
 -- ---- codes
 
@@ -76,13 +93,13 @@ pub record ClassFits (c : Class) : Type 0 where
   pub source : SourceFits c.source
   pub statics : AllByRecursion GivenFits (givens c.statics c.values)
   pub values : length c.values ≤ length c.statics
-  pub statics_rise : KeysAreSorted (map (field_key c.ty) c.statics)
+  pub statics_rise : KeysAreSorted (map member_key c.statics)
   pub instances : AllByRecursion FieldFits c.instances
-  pub instances_rise : KeysAreSorted (map (field_key c.ty) c.instances)
+  pub instances_rise : KeysAreSorted (map member_key c.instances)
   pub directs : AllByRecursion MethodFits c.directs
-  pub directs_rise : KeysAreSorted (map (method_key c.ty) c.directs)
+  pub directs_rise : KeysAreSorted (map method_key c.directs)
   pub virtuals : AllByRecursion MethodFits c.virtuals
-  pub virtuals_rise : KeysAreSorted (map (method_key c.ty) c.virtuals)
+  pub virtuals_rise : KeysAreSorted (map method_key c.virtuals)
 
 -- A program.
 abbrev pub IsPrintable : Program → Type 0

@@ -4,7 +4,7 @@ use Rattle.std.proofs.lemmas.Bool.{ne_eqb, cases_eq, cases_lt, lt-ltb, le-ltb}
 use Rattle.std.proofs.lemmas.List.{append-nil}
 use Rattle.std.specs.List.{flat_map, AllByRecursion}
 use Rattle.dex_program.specs.Content.{Program}
-use Rattle.dex_rules.specs.Rules.{RulesHold}
+use Rattle.dex_rules.specs.Ranges.{WellFormed}
 use Rattle.dex_words.specs.Texts.{glyph, escape_text, unit_text}
 use Rattle.dex_words.specs.Words.{Word, plain_word, text_in_quotes, IsGraphic, IsWritable, word_bytes, line_bytes}
 use Rattle.dex_base.proofs.NameUnits.{all_append}
@@ -20,14 +20,14 @@ no_lines : lines [] ≡ []
 unfolding lines
 no_lines = refl
 
-pub runs_whole : (text : List ℕ) (p : Program) (t : State) → RunsTo start text t → t.stage ≡ Top → t.late ≡ None → t.done ≡ p → RulesHold p → IsListing text p
-runs_whole text p t f top late done rules = record {
+pub runs_whole : (text : List ℕ) (p : Program) (t : State) → RunsTo start text t → t.stage ≡ Top → t.late ≡ None → t.done ≡ p → WellFormed p → IsListing text p
+runs_whole text p t f top late done formed = record {
   end = t;
   read = subst (λ (x : List ℕ). Reads start (lines x) t) (append-nil text) (f [] t (subst (λ (ls : List (List ℕ)). Reads t ls t) (sym no_lines) refl));
   whole = top;
   targets = late;
   classes = done;
-  formed = rules;
+  formed = formed;
 }
 
 -- no line feed

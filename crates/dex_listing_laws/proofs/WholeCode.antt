@@ -30,18 +30,18 @@ begin_code done o late b n r i u f = keyed_runs (in_stage Behind done o late b n
 
 -- the code's end, as it is computed
 close_code : (st : Stage) (done : List Class) (o : Open) (b : Body) (n : ℕ) → is_in_code st ≡ true
-    → RunsTo (in_stage st done o None b n) (keyed_text end_code) (in_stage Members done (with_code_at o b.direct b.place (whole_code (with_tries st b))) (first_late (length b.insns) b.needs) (with_tries st b) (n + 1))
+    → RunsTo (in_stage st done o None b n) (keyed_text end_code) (in_stage Members done (with_code_at o b.direct b.method (whole_code (with_tries st b))) (first_late (length b.insns) b.needs) (with_tries st b) (n + 1))
 unfolding placed may_stand
-close_code st done o b n k = keyed_runs (in_stage st done o None b n) (in_stage Members done (with_code_at o b.direct b.place (whole_code (with_tries st b))) (first_late (length b.insns) b.needs) (with_tries st b) (n + 1)) end_code tt (refl, tt) k refl
+close_code st done o b n k = keyed_runs (in_stage st done o None b n) (in_stage Members done (with_code_at o b.direct b.method (whole_code (with_tries st b))) (first_late (length b.insns) b.needs) (with_tries st b) (n + 1)) end_code tt (refl, tt) k refl
 
 end_runs : (st : Stage) (done : List Class) (o : Open) (b : Body) (n : ℕ) (ts : List Try) → is_in_code st ≡ true → all_tries st b ≡ ts → NeedsFit (length b.insns) b.needs
-    → RunsTo (in_stage st done o None b n) (keyed_text end_code) (in_stage Members done (with_code_at o b.direct b.place (record { registers = b.registers; ins = b.ins; outs = b.outs; insns = b.insns; tries = ts })) None (with_tries st b) (n + 1))
+    → RunsTo (in_stage st done o None b n) (keyed_text end_code) (in_stage Members done (with_code_at o b.direct b.method (record { registers = b.registers; ins = b.ins; outs = b.outs; insns = b.insns; tries = ts })) None (with_tries st b) (n + 1))
 end_runs st done o b n ts k e a =
     let s = in_stage st done o None b n in
-    let x = subst (λ (late : Option ℕ). RunsTo s (keyed_text end_code) (in_stage Members done (with_code_at o b.direct b.place (whole_code (with_tries st b))) late (with_tries st b) (n + 1))) (none_late (length b.insns) b.needs a) (close_code st done o b n k) in
-    subst (λ (us : List Try). RunsTo s (keyed_text end_code) (in_stage Members done (with_code_at o b.direct b.place (record { registers = b.registers; ins = b.ins; outs = b.outs; insns = b.insns; tries = us })) None (with_tries st b) (n + 1))) e x
+    let x = subst (λ (late : Option ℕ). RunsTo s (keyed_text end_code) (in_stage Members done (with_code_at o b.direct b.method (whole_code (with_tries st b))) late (with_tries st b) (n + 1))) (none_late (length b.insns) b.needs a) (close_code st done o b n k) in
+    subst (λ (us : List Try). RunsTo s (keyed_text end_code) (in_stage Members done (with_code_at o b.direct b.method (record { registers = b.registers; ins = b.ins; outs = b.outs; insns = b.insns; tries = us })) None (with_tries st b) (n + 1))) e x
 
-pub code_runs : (done : List Class) (o : Open) (b : Body) (n : ℕ) (c : Code) → CodeFits c → (m : ℕ) × (e : Body) × RunsTo (in_stage Behind done o None b n) (code_text c) (in_stage Members done (with_code_at o b.direct b.place c) None e m)
+pub code_runs : (done : List Class) (o : Open) (b : Body) (n : ℕ) (c : Code) → CodeFits c → (m : ℕ) × (e : Body) × RunsTo (in_stage Behind done o None b n) (code_text c) (in_stage Members done (with_code_at o b.direct b.method c) None e m)
 code_runs done o b n c f =
     let l = length c.insns in
     let b0 = begun b c.registers c.ins c.outs in
@@ -55,7 +55,7 @@ code_runs done o b n c f =
     let s1 = in_stage Insns done o None b0 (n + 1) in
     let s2 = in_stage Insns done o None b1 y.0 in
     let s3 = in_stage x.stage done o None b2 x.lines in
-    let t = in_stage Members done (with_code_at o b.direct b.place c) None (with_tries x.stage b2) (x.lines + 1) in
+    let t = in_stage Members done (with_code_at o b.direct b.method c) None (with_tries x.stage b2) (x.lines + 1) in
     let r3 = runs_join s2 s3 t (flat_map try_text c.tries) (keyed_text end_code) x.runs z in
     let r2 = runs_join s1 s2 t (insns_text 0 c.insns) (flat_map try_text c.tries ++ keyed_text end_code) y.2 r3 in
     let r1 = runs_join s0 s1 t (keyed_text (open_code c.registers c.ins c.outs)) (insns_text 0 c.insns ++ (flat_map try_text c.tries ++ keyed_text end_code)) (begin_code done o None b n c.registers c.ins c.outs f.0) r2 in

@@ -45,6 +45,7 @@ impl<N: Row> Held<N> {
     pub(crate) fn rises(&self)
         ensures { Rising self.now }
     {
+        // Only for the proof: what holds of each value of its type.
         let _ = &self.items;
     }
 
@@ -57,12 +58,12 @@ impl<N: Row> Held<N> {
         Ok(())
     }
 
-    /// The names with their ranks: each kind is sorted once.
-    pub(crate) fn ranked(&self, alloc: Global) -> Result<Ranked<N>, AllocError>
-        ensures same { IfOk result (λ r. r ≡ self.now) }
+    /// The names with their ranks: each kind is sorted once, where it stands.
+    pub(crate) fn ranked(self) -> Result<Ranked<N>, AllocError>
+        ensures same { IfOk result (λ r. r ≡ self) }
     {
-        let mut items = Vec::from_slice(alloc, self.items.as_slice())?;
-        items.sort()?;
+        let Held { mut items } = self;
+        items.sort_unstable()?;
         Ok(Ranked { items })
     }
 }
@@ -70,7 +71,7 @@ impl<N: Row> Held<N> {
 /// A set of names that stays, each with its rank, in the order of these. It stands for the rising list of their keys.
 #[derive(Drop)]
 pub(crate) struct Ranked<N: Row> {
-    items: Vec<N>,
+    items: IndexSet<N>,
 }
 
 impl<N: Row> Model for Ranked<N> {
@@ -80,9 +81,9 @@ impl<N: Row> Model for Ranked<N> {
 
     ghost Value = { List Key };
 
-    ghost view = { λ h. map N.key h.items.items };
+    ghost view = { λ h. map N.key h.items.keys };
 
-    ghost invariant = { λ h. Rising (map N.key h.items.items) };
+    ghost invariant = { λ h. Rising (map N.key h.items.keys) };
 }
 
 impl<N: Row> Ranked<N> {
@@ -92,9 +93,9 @@ impl<N: Row> Ranked<N> {
         ensures some { IfSome result (λ i. IsAt self.now i (N.key name)) }
         ensures none { IfNone result ((i : ℕ) → i < 2 ^ 32 → ¬ IsAt self.now i (N.key name)) }
     {
-        match self.items.binary_search(&name) {
-            Ok(at) => u32::try_from(at).ok(),
-            Err(_) => None,
+        match self.items.get_index_of(&name) {
+            Some(at) => u32::try_from(at).ok(),
+            None => None,
         }
     }
 
@@ -109,6 +110,7 @@ impl<N: Row> Ranked<N> {
     pub(crate) fn rises(&self)
         ensures { Rising self.now }
     {
+        // Only for the proof: what holds of each value of its type.
         let _ = &self.items;
     }
 
@@ -116,6 +118,6 @@ impl<N: Row> Ranked<N> {
     pub(crate) fn name_at(&self, rank: u32) -> Option<N>
         ensures { option_map N.key result ≡ slice_get self.now rank }
     {
-        self.items.get(rank as usize).copied()
+        self.items.get_index(rank as usize).copied()
     }
 }

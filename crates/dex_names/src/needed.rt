@@ -8,12 +8,12 @@ ghost use Rattle.dex_program.specs.View.{str, desc, proto, field_ref, method_ref
 ghost use Rattle.dex_program.specs.View as view;
 ghost use Rattle.dex_names.specs.Closure.{nothing, with_name, with_proto, with_parts, with_proto_parts, AddsPart, AreRising, IsClosed, HasShorty};
 
-use crate::held::Held;
+use crate::held::{Held, Ranked};
 use crate::ranks::Ranks;
 use bumpalo::Bump;
 use dex_base::Fault;
 use dex_program::{Desc, FieldRef, MethodRef, Name, Proto, Str, shorty_of};
-use std::alloc::Global;
+use std::alloc::{AllocError, Global};
 use std::marker::Model;
 
 /// The names that are needed so far: a set of each of the five kinds, with each name its parts. It stands for the five
@@ -61,6 +61,7 @@ impl<'a> Needed<'a> {
     pub fn holds_parts(&self)
         ensures { IsClosed self.now }
     {
+        // Only for the proof: what holds of each value of its type.
         let _ = &self.strings;
     }
 
@@ -177,19 +178,42 @@ impl<'a> Needed<'a> {
         ensures same { IfOk result (λ r. r ≡ self.entry) }
         ensures memory { IsOkUnless result memory }
     {
-        self.ranks()
-    }
-
-    // The names that are held, with their ranks.
-    fn ranks(&self) -> Result<Ranks<'a>, Fault>
-        ensures same { IfOk result (λ r. r ≡ self.now) }
-        ensures memory { IsOkUnless result memory }
-    {
-        let strings = self.strings.ranked(self.alloc)?;
-        let types = self.types.ranked(self.alloc)?;
-        let protos = self.protos.ranked(self.alloc)?;
-        let fields = self.fields.ranked(self.alloc)?;
-        let methods = self.methods.ranked(self.alloc)?;
+        let Needed {
+            alloc: _,
+            strings,
+            types,
+            protos,
+            fields,
+            methods,
+        } = self;
+        let (strings, types, protos) = ranked_types(strings, types, protos)?;
+        let (fields, methods) = ranked_members(fields, methods)?;
         Ok(Ranks::new(strings, types, protos, fields, methods))
     }
+}
+
+// Three kinds with their ranks.
+fn ranked_types<'a>(
+    strings: Held<Str<'a>>,
+    types: Held<Desc<'a>>,
+    protos: Held<Proto<'a>>,
+) -> Result<(Ranked<Str<'a>>, Ranked<Desc<'a>>, Ranked<Proto<'a>>), AllocError>
+    ensures { IfOk result (λ r. (r.0 ≡ strings.entry) × (r.1 ≡ types.entry) × (r.2 ≡ protos.entry)) }
+{
+    let strings = strings.ranked()?;
+    let types = types.ranked()?;
+    let protos = protos.ranked()?;
+    Ok((strings, types, protos))
+}
+
+// Two kinds with their ranks.
+fn ranked_members<'a>(
+    fields: Held<FieldRef<'a>>,
+    methods: Held<MethodRef<'a>>,
+) -> Result<(Ranked<FieldRef<'a>>, Ranked<MethodRef<'a>>), AllocError>
+    ensures { IfOk result (λ r. (r.0 ≡ fields.entry) × (r.1 ≡ methods.entry)) }
+{
+    let fields = fields.ranked()?;
+    let methods = methods.ranked()?;
+    Ok((fields, methods))
 }

@@ -37,6 +37,7 @@ body_text (Some c) = code_text c
 abbrev pub direct_text : Method → List ℕ
 direct_text m = keyed_text (direct_line m) ++ body_text m.code
 
+-- A virtual method and its code.
 abbrev pub virtual_text : Method → List ℕ
 virtual_text m = keyed_text (virtual_line m) ++ body_text m.code
 

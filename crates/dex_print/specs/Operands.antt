@@ -23,6 +23,7 @@ pub record Operand : Type 0 where
 abbrev pub operand_text : List Operand → List ℕ
 operand_text os = flat_map (λ o. 32 ∷ word_bytes (shown o.slot o.says)) os
 
+-- What a slot says.
 abbrev pub operand : Slot → Datum → Operand
 operand s d = record { slot = s; says = d }
 
@@ -34,12 +35,15 @@ keyword k = operand (slot.Key k) (said k)
 abbrev pub v4 : ℕ → Operand
 v4 n = operand register4 (byte n)
 
+-- A register of eight bits.
 abbrev pub v8 : ℕ → Operand
 v8 n = operand register8 (byte n)
 
+-- A register of sixteen bits.
 abbrev pub v16 : ℕ → Operand
 v16 n = operand register16 (half n)
 
+-- A target.
 abbrev pub to : ℕ → Operand
 to n = operand target (word n)
 
@@ -98,6 +102,7 @@ named_operands (OfDesc d) = keyword key.Desc ∷ name_operand (OfDesc d) ∷ []
 named_operands (OfField f) = keyword key.Field ∷ name_operand (OfField f) ∷ []
 named_operands (OfMethod m) = keyword key.Method ∷ name_operand (OfMethod m) ∷ []
 
+-- The keyword of a Boolean value.
 abbrev pub truth_key : Bool → Key
 truth_key true = key.True
 truth_key false = key.False

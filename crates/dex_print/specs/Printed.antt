@@ -48,9 +48,11 @@ insn_word (content.Data width bytes) = key_text key.Elements
 abbrev pub member_operands : Member → List Operand
 member_operands m = operand slot.Member (named (OfText m.name)) ∷ operand slot.Desc (named (OfDesc m.ty)) ∷ operand slot.Flags (word m.flags) ∷ []
 
+-- A method: its name, its prototype, its flags.
 abbrev pub method_operands : Method → List Operand
 method_operands m = operand slot.Member (named (OfText m.name)) ∷ operand slot.Proto (prototype m.proto) ∷ operand slot.Flags (word m.flags) ∷ []
 
+-- A type.
 abbrev pub type_operand : Descriptor → Operand
 type_operand d = operand slot.Desc (named (OfDesc d))
 
@@ -73,6 +75,7 @@ line_key (try_line f t) = key.Try
 line_key (catch_line d k) = key.Catch
 line_key (catch_all_line k) = key.CatchAll
 
+-- What stands behind a line's keyword.
 abbrev pub line_operands : Line → List Operand
 line_operands first_line = keyword key.Version ∷ []
 line_operands (open_class d f) = type_operand d ∷ operand slot.Flags (word f) ∷ []

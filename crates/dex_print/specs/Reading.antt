@@ -19,9 +19,11 @@ use Rattle.dex_print.specs.Operands.{Operand, name_operand}
 abbrev pub slots_of : List Operand → List Slot
 slots_of os = map (λ (o : Operand). o.slot) os
 
+-- What operands say.
 abbrev pub data_of : List Operand → List Datum
 data_of os = map (λ (o : Operand). o.says) os
 
+-- The words of operands.
 abbrev pub words_of : List Operand → List Word
 words_of os = map (λ (o : Operand). shown o.slot o.says) os
 

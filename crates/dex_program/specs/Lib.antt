@@ -9,3 +9,4 @@ pub mod Mentions
 pub mod Operands
 pub mod Sizes
 pub mod Formed
+pub mod Hashing

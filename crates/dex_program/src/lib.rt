@@ -3,7 +3,7 @@
 //!
 //! All types are `Copy`. Their slices and references lie in the caller's arena, which a program can't outlive. What a program
 //! says, apart from where it lies, is its content (`specs/Content.antt`), and two programs are equal where their contents
-//! (`specs/View.antt`) are. Names are compared, ordered and hashed so by their derives.
+//! (`specs/View.antt`) are. So names are compared, ordered and hashed.
 //!
 //! ```text
 //! let arena = Bump::new(alloc);
@@ -15,7 +15,8 @@
 //! Pages of the Android Open Source Project: "Dalvik Executable format", "Dalvik Executable instruction formats".
 #![tactic(auto)]
 
-// Names.
+// Names, and how they are hashed.
+mod hashing;
 mod names;
 
 // What has names in it: instructions and values.

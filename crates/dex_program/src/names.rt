@@ -2,9 +2,10 @@
 //! proto_id_item, field_id_item, method_id_item).
 //!
 //! The derives compare and hash through the references, so by content, in the order of the fields, which is that of the table.
+//! A string is hashed four units at a time (`hashing.rt`).
 
 /// A string, by its UTF-16 units.
-#[derive(Clone, Copy, PartialEq, Eq, PartialOrd, Ord, Hash)]
+#[derive(Clone, Copy, PartialEq, Eq, PartialOrd, Ord)]
 pub struct Str<'a> {
     pub units: &'a [u16],
 }

@@ -1,3 +1,4 @@
+pub mod FormedLaws
 pub mod MemberLaws
 pub mod NestedLaws
 pub mod OrderLaws

@@ -111,6 +111,17 @@ RulesHold p = (i : ℕ) (c : Class) → slice_get p i ≡ Some c → ClassHolds 
 abbrev pub broken : ℕ → ℕ → Fault
 broken number i = record { code = number; place = i }
 
+-- The fault is that of the first rule of code that class i breaks.
+abbrev pub CodesBreak : ℕ → Class → Fault → Type 0
+CodesBreak i c fault =
+    ((¬ CodesHold OperandsHold c) × (fault ≡ broken 114 i))
+    ⊎ (CodesHold OperandsHold c × (
+    ((¬ CodesHold TargetsHold c) × (fault ≡ broken 115 i))
+    ⊎ (CodesHold TargetsHold c × (
+    ((¬ CodesHold PayloadsHold c) × (fault ≡ broken 116 i))
+    ⊎ (CodesHold PayloadsHold c × (¬ CodesHold TriesHold c) × (fault ≡ broken 117 i))
+    ))))
+
 -- The fault is that of the first rule that class i breaks.
 abbrev pub ClassBreaks : Program → ℕ → Class → Fault → Type 0
 ClassBreaks p i c fault =
@@ -121,14 +132,8 @@ ClassBreaks p i c fault =
     ((¬ OrderHolds p i c) × (fault ≡ broken 112 i))
     ⊎ (OrderHolds p i c × (
     ((¬ ValuesFit c) × (fault ≡ broken 113 i))
-    ⊎ (ValuesFit c × (
-    ((¬ CodesHold OperandsHold c) × (fault ≡ broken 114 i))
-    ⊎ (CodesHold OperandsHold c × (
-    ((¬ CodesHold TargetsHold c) × (fault ≡ broken 115 i))
-    ⊎ (CodesHold TargetsHold c × (
-    ((¬ CodesHold PayloadsHold c) × (fault ≡ broken 116 i))
-    ⊎ (CodesHold PayloadsHold c × (¬ CodesHold TriesHold c) × (fault ≡ broken 117 i))
-    ))))))))))))
+    ⊎ (ValuesFit c × CodesBreak i c fault)
+    ))))))
 
 -- It is that of the first class that breaks a rule.
 pub record RuleBreaks (p : Program) (e : Fault) : Type 0 where

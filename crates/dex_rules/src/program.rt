@@ -1,8 +1,9 @@
 //! Whether a program keeps its rules.
 
 ghost use Rattle.std.specs.Prelude.{◌<◌, length, map, OnOk, IfErr};
+ghost use Rattle.dex_code_rules.specs.CodeRules.{OperandsHold, PayloadsHold, TargetsHold, TriesHold};
 ghost use Rattle.dex_program.specs.View.{class, program};
-ghost use Rattle.dex_rules.specs.Rules.{ClassHolds, ClassBreaks, RulesHold, RuleBreaks};
+ghost use Rattle.dex_rules.specs.Rules.{ClassBreaks, ClassHolds, CodesBreak, CodesHold, RuleBreaks, RulesHold};
 
 use crate::codes::codes_hold;
 use crate::members::{members_rise, names_are_valid};
@@ -11,6 +12,41 @@ use crate::values::values_fit;
 use dex_base::{Fault, fault};
 use dex_code_rules::CodeRule;
 use dex_program::{Class, Program};
+
+/// Whether the code of class `place` keeps all rules.
+fn check_codes(place: u64, one: &Class<'_>) -> Result<(), Fault>
+    ensures operands { OnOk result (CodesHold OperandsHold (class one.now)) }
+    ensures targets { OnOk result (CodesHold TargetsHold (class one.now)) }
+    ensures payloads { OnOk result (CodesHold PayloadsHold (class one.now)) }
+    ensures tries { OnOk result (CodesHold TriesHold (class one.now)) }
+    ensures err { IfErr result (CodesBreak place (class one.now)) }
+{
+    if !codes_hold(CodeRule::Operand, one) {
+        return Err(Fault {
+            code: fault::PROGRAM_OPERAND,
+            place,
+        });
+    }
+    if !codes_hold(CodeRule::Target, one) {
+        return Err(Fault {
+            code: fault::PROGRAM_TARGET,
+            place,
+        });
+    }
+    if !codes_hold(CodeRule::PayloadUse, one) {
+        return Err(Fault {
+            code: fault::PROGRAM_PAYLOAD_USE,
+            place,
+        });
+    }
+    if !codes_hold(CodeRule::Try, one) {
+        return Err(Fault {
+            code: fault::PROGRAM_TRY,
+            place,
+        });
+    }
+    Ok(())
+}
 
 /// Whether class `i` keeps all rules.
 fn check_class(classes: &[Class<'_>], i: usize, one: &Class<'_>) -> Result<(), Fault>
@@ -43,31 +79,7 @@ fn check_class(classes: &[Class<'_>], i: usize, one: &Class<'_>) -> Result<(), F
             place,
         });
     }
-    if !codes_hold(CodeRule::Operand, one) {
-        return Err(Fault {
-            code: fault::PROGRAM_OPERAND,
-            place,
-        });
-    }
-    if !codes_hold(CodeRule::Target, one) {
-        return Err(Fault {
-            code: fault::PROGRAM_TARGET,
-            place,
-        });
-    }
-    if !codes_hold(CodeRule::PayloadUse, one) {
-        return Err(Fault {
-            code: fault::PROGRAM_PAYLOAD_USE,
-            place,
-        });
-    }
-    if !codes_hold(CodeRule::Try, one) {
-        return Err(Fault {
-            code: fault::PROGRAM_TRY,
-            place,
-        });
-    }
-    Ok(())
+    check_codes(place, one)
 }
 
 /// Whether a program keeps the rules that every file's program keeps. Of the first class that breaks one the fault names the first

@@ -7,6 +7,7 @@ use Rattle.dex_bytes.specs.Fields.{u16_bytes, u32_bytes}
 use Rattle.dex_bytes.specs.Grammar.{Appends}
 use Rattle.dex_code_laws.proofs.PackedTries.{items-length, length-u16_bytes}
 use Rattle.dex_code_laws.proofs.WrittenLaws.{lowered-length}
+use Rattle.dex_code_laws.proofs.PackedLaws.{length-head}
 use Rattle.dex_code_put.specs.Fits.{wide_code}
 use Rattle.dex_code_put.specs.Packs.{PacksCode, head_bytes, padding, joined, items_bytes}
 use Rattle.dex_layout.specs.Sections.{AddsSome, Laying, wide_all}
@@ -29,24 +30,6 @@ use Rattle.dex_sections.specs.Codes.{PacksBody, is_bodiless}
 use Rattle.dex_sections.specs.Placing.{items_with}
 
 -- ---- how long a body is
-
-length-head : (c : Code) (size : ℕ) → length (head_bytes c size) ≡ 16
-length-head c size =
-    let a = u16_bytes c.registers in let b = u16_bytes c.ins in let d = u16_bytes c.outs in let e = u16_bytes (length c.tries) in let f = u32_bytes 0 in let g = u32_bytes size in
-    omega (
-      arith,
-      length-append (a ++ b ++ d ++ e ++ f) g,
-      length-append (a ++ b ++ d ++ e) f,
-      length-append (a ++ b ++ d) e,
-      length-append (a ++ b) d,
-      length-append a b,
-      length-u16_bytes c.registers,
-      length-u16_bytes c.ins,
-      length-u16_bytes c.outs,
-      length-u16_bytes (length c.tries),
-      length-u32_bytes 0,
-      length-u32_bytes size,
-    )
 
 at_most : (x y : Bool) → length {A = ℕ} (if x then [] else (if y then [] else 0 ∷ 0 ∷ [])) ≤ 2
 at_most true y = omega arith

@@ -23,15 +23,19 @@ use Rattle.dex_slots.specs.Slots.{have_forms}
 
 -- ---- instructions
 
+-- A register of four bits.
 abbrev pub register4 : Slot
 register4 = slot.Byte Register 15
 
+-- A register of eight bits.
 abbrev pub register8 : Slot
 register8 = slot.Byte Register 255
 
+-- A register of sixteen bits.
 abbrev pub register16 : Slot
 register16 = slot.Half Register 65535
 
+-- A target: an instruction's number.
 abbrev pub target : Slot
 target = slot.Word Target 4294967295
 
@@ -42,6 +46,7 @@ name_slot (Some index.Field) = slot.Field
 name_slot (Some index.Method) = slot.Method
 name_slot _ = slot.Desc
 
+-- The word is this keyword.
 abbrev pub is_key : Key → Word → Bool
 is_key k (plain_word w) = same (key_text k) w
 is_key k (text_in_quotes us) = false
@@ -79,6 +84,7 @@ format_slots format.F35c i ws = slot.Key key.Open ∷ (replicate (before_close 5
 format_slots format.F3rc i ws = register16 ∷ slot.Byte Nothing 255 ∷ name_slot i ∷ []
 format_slots format.F51l i ws = register8 ∷ slot.Long ∷ []
 
+-- The operands of an opcode; none where it isn't used.
 abbrev pub plain_slots : Option Format → Option IndexKind → List Word → List Slot
 plain_slots None i ws = []
 plain_slots (Some f) i ws = format_slots f i ws
@@ -123,10 +129,12 @@ abbrev pub due_behind_close : ℕ → Due
 due_behind_close zero = due.Refused
 due_behind_close (suc n) = due_after n
 
+-- Behind a keyword of values, if it is one.
 abbrev pub due_behind_key : ℕ → Option Key → Due
 due_behind_key n None = due.Refused
 due_behind_key n (Some k) = due_behind n k
 
+-- The slot of a keyword; a text where it is none, which no plain word is.
 abbrev pub key_slot : Option Key → Slot
 key_slot None = slot.Text
 key_slot (Some k) = slot.Key k
@@ -137,11 +145,13 @@ slot_at (due.Word s n) w = s
 slot_at (due.Value n) (plain_word w) = if same (key_text key.Close) w then slot.Key key.Close else key_slot (find_key value_keys w)
 slot_at _ w = slot.Text
 
+-- What is due behind a word.
 unfoldable pub due_behind_word : Due → Word → Due
 due_behind_word (due.Word s n) w = due_after n
 due_behind_word (due.Value n) (plain_word w) = if same (key_text key.Close) w then due_behind_close n else due_behind_key n (find_key value_keys w)
 due_behind_word _ w = due.Refused
 
+-- Nothing is due: the value is whole.
 abbrev pub is_whole : Due → Bool
 is_whole due.Nothing = true
 is_whole _ = false
@@ -164,15 +174,19 @@ pub record Shape : Type 0 where
 abbrev pub Row : Type 0
 Row = Kind × List Slot
 
+-- Access flags.
 abbrev pub flags : Slot
 flags = slot.Flags
 
+-- A number of 16 bits: a count of registers, or a width.
 abbrev pub size : Slot
 size = slot.Half Nothing 65535
 
+-- A field: its name, its type, its flags.
 abbrev pub field_slots : List Slot
 field_slots = slot.Member ∷ slot.Desc ∷ flags ∷ []
 
+-- A method: its name, its prototype, its flags.
 abbrev pub method_slots : List Slot
 method_slots = slot.Member ∷ slot.Proto ∷ flags ∷ []
 
@@ -181,6 +195,7 @@ abbrev pub given_row : Option (List Slot) → Option Row
 given_row None = None
 given_row (Some ss) = Some (kind.Given, slot.Member ∷ slot.Desc ∷ flags ∷ slot.Key key.Equals ∷ ss)
 
+-- The first of the words is this keyword.
 abbrev pub is_first_key : Key → List Word → Bool
 is_first_key k [] = false
 is_first_key k (w ∷ ws) = is_key k w

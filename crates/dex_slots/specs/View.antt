@@ -4,6 +4,7 @@ use Rattle.dex_slots.specs.Data as says
 use Rattle.dex_slots.specs.declared.datum.Datum.{Datum}
 use Rattle.dex_slots.specs.declared.datum.Datum.TheVariants as made
 
+-- What a word says, in memory.
 abbrev pub datum : Datum → says.Datum
 datum (made.Byte n) = says.byte n
 datum (made.Half n) = says.half n

@@ -26,5 +26,6 @@ mod type_list;
 mod file_laws;
 
 pub use file_laws::{names_of_a_file_are_its_rows, type_list_is_one};
+pub use row_fields::{MemberTable, member_class};
 pub use tables::Tables;
 pub use type_list::indexes_or_none;

@@ -19,6 +19,7 @@ pub(crate) fn string_at<'a>(
     ensures got { IfSome result (λ s. slice_get (map str strings.now) index ≡ Some (str s)) }
     ensures none { IfNone result (size_of sections.now 0 ≤ index) }
 {
+    // Only for the proof: what holds of each value of its type.
     let _file = sections;
     strings.get(index as usize).copied()
 }
@@ -33,6 +34,7 @@ pub(crate) fn type_at<'a>(
     ensures some { IfSome result (λ t. TypeStands sections.now index (desc t)) }
     ensures none { IfNone result (size_of sections.now 1 ≤ index) }
 {
+    // Only for the proof: what holds of each value of its type.
     let _file = sections;
     types.get(index as usize).copied()
 }
@@ -47,6 +49,7 @@ pub(crate) fn proto_at<'a>(
     ensures some { IfSome result (λ p. ProtoStands sections.now index (proto p.now)) }
     ensures none { IfNone result (size_of sections.now 2 ≤ index) }
 {
+    // Only for the proof: what holds of each value of its type.
     let _file = sections;
     let place = index as usize;
     if place < protos.len() {

@@ -8,7 +8,7 @@ use dex_container::{Sections, kind};
 
 /// The two tables whose rows have a class, a name, and a type or proto.
 #[derive(Clone, Copy)]
-pub(crate) enum MemberTable {
+pub enum MemberTable {
     Fields,
     Methods,
 }
@@ -107,9 +107,9 @@ pub(crate) fn member_row(sections: &Sections<'_>, table: MemberTable, i: u32) ->
     u64::from(sections.table(table.kind()).1) + 8 * u64::from(i)
 }
 
-/// Its class_idx.
+/// The class_idx of a row of field_ids or method_ids: which row of type_ids has its class.
 #[tactic(auto, unfolding(crate::specs::RowFields::member_class))]
-pub(crate) fn member_class(sections: &Sections<'_>, table: MemberTable, i: u32) -> u16
+pub fn member_class(sections: &Sections<'_>, table: MemberTable, i: u32) -> u16
     requires { i < size_of sections.now (number_of table) }
     ensures { result ≡ member_class sections.now (number_of table) i }
 {

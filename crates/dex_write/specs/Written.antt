@@ -36,5 +36,6 @@ pub record BreaksLimit (given : List ℕ) (fault : Fault) : Type 0 where
   pub limit : IsLowestLimit program fault
   pub late : (fault.code ≡ 89) ⊎ (fault.code ≡ 90)
 
+-- A fault of reading, or a limit that the program read breaks.
 abbrev pub IsStripRefused : List ℕ → Fault → Type 0
 IsStripRefused given fault = IsRefused given fault ⊎ BreaksLimit given fault

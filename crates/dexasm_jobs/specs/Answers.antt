@@ -10,8 +10,8 @@ use Rattle.dex_listing.specs.Text.{IsListing, ListingBreaks}
 use Rattle.dex_print.specs.Canon.{canon}
 use Rattle.dex_program.specs.Content.{Program}
 use Rattle.dex_write.specs.Written.{IsFileOf, IsStripped, IsStripRefused}
-use Rattle.dexasm_jobs.specs.declared.job.Job.{Job}
-use Rattle.dexasm_jobs.specs.declared.job.Job.TheVariants.{Check, List as Listing, Assemble, Strip}
+use Rattle.dexasm_job.specs.declared.job.Job.{Job}
+use Rattle.dexasm_job.specs.declared.job.Job.TheVariants.{Check, List as Listing, Assemble, Strip}
 
 -- The bytes are the file of the program with each of its codes aligned.
 abbrev pub IsAlignedFileOf : Program → List ℕ → Type 0

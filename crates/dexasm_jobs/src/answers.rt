@@ -3,15 +3,14 @@ ghost use Rattle.std.specs.Prelude.{◌≢◌, IfOk, IfErr, false, true};
 ghost use Rattle.dex_bytes.specs.Fault.{memory};
 ghost use Rattle.dexasm_jobs.specs.Answers.{Answer, Refusal};
 
-use crate::job::Job;
 use bumpalo::Bump;
 use dex_align::align_all;
 use dex_base::Fault;
 use dex_file::read;
 use dex_listing::parse;
 use dex_print::print;
-use dex_ranges::programs_are_in_range;
 use dex_write::{strip, write};
+use dexasm_job::Job;
 use std::alloc::Global;
 
 /// The whole answer to a job on these bytes, or the fault of the call that refused them.
@@ -59,7 +58,6 @@ fn assemble(alloc: Global, given: &[u8]) -> Result<Vec<u8>, Fault>
 {
     let arena = Bump::new(alloc);
     let program = parse(alloc, &arena, given)?;
-    programs_are_in_range(&program);
     write(alloc, &program)
 }
 
@@ -70,7 +68,6 @@ fn assemble_aligned(alloc: Global, given: &[u8]) -> Result<Vec<u8>, Fault>
 {
     let arena = Bump::new(alloc);
     let program = parse(alloc, &arena, given)?;
-    programs_are_in_range(&program);
     let aligned = align_all(alloc, &arena, &program)?;
     write(alloc, &aligned)
 }

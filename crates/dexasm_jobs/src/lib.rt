@@ -8,7 +8,5 @@
 #![tactic(auto)]
 
 mod answers;
-mod job;
 
 pub use answers::answer;
-pub use job::Job;

@@ -1,5 +1,5 @@
 // What is to be done.
-use dexasm_jobs::Job;
+use dexasm_job::Job;
 
 /// A job, the file that it reads and the file that it writes: none stands for standard input and standard output.
 #[derive(Clone, Copy, Debug)]

@@ -2,7 +2,7 @@
 use Rattle.std.specs.Prelude.{◌≡◌, ℕ, Bool, true, ◌≤◌, List, Option, ⊤, Result, Ok, Err, take, length, Vec}
 use Rattle.std.specs.Global.{Global}
 use Rattle.std.specs.Io.KnownBytes.{Appends, Consumes, IsAtEnd}
-use Rattle.dexasm_jobs.specs.declared.job.Job.{Job}
+use Rattle.dexasm_job.specs.declared.job.Job.{Job}
 use Rattle.dex_bytes.specs.declared.fault.Fault.{Fault}
 use Rattle.dexasm_jobs.specs.Answers.{Answer, Refusal}
 use Rattle.dexasm_run.specs.declared.error.RunFault.{RunFault}

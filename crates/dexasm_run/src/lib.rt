@@ -5,7 +5,7 @@ mod ends;
 mod error;
 mod running;
 
-pub use dexasm_jobs::Job;
+pub use dexasm_job::Job;
 pub use ends::{Sink, Source, Watched};
 pub use error::{Line, RunFault, line_text, status};
 pub use running::run;

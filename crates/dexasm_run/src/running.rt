@@ -6,7 +6,8 @@ ghost use Rattle.dexasm_run.specs.Runs.{Answers, BeginsAnswer, MatchRun, Refuses
 use crate::ends::{Sink, Source};
 use crate::error::RunFault;
 use dex_base::Fault;
-use dexasm_jobs::{Job, answer};
+use dexasm_job::Job;
+use dexasm_jobs::answer;
 use std::alloc::{AllocError, Global};
 
 /// How many bytes one `take` may give.

@@ -4,7 +4,8 @@ use Rattle.dex_program.specs.Content.{Insn}
 use Rattle.dex_code_put.specs.Fits.{BranchFits, TargetsFit}
 use Rattle.std.proofs.lemmas.List.{length-map}
 use Rattle.dex_code_put.proofs.SizeLaws.{insn-at}
-use Rattle.dex_code_fits.proofs.FitLaws.{offsets-from, offsets-to}
+use Rattle.dex_code_put.proofs.PutLaws.{origin-targets}
+use Rattle.dex_code_fits.proofs.FitLaws.{offsets-from}
 use Rattle.dex_code_fits.proofs.offsets.insn_fits.Goals as goal
 
 pub returns : goal.returns
@@ -19,5 +20,5 @@ returns c =
       λ t. offsets-from (map insn c.args.insns.now) c.args.starts.now c.args.k (get_or c.args.origins.now c.args.k 0) (c.requires.origins.each c.args.k m) c.requires.payload true_branch
           (subst (λ (i : Insn). TargetsFit c.args.starts.now (get_or c.args.starts.now (get_or c.args.origins.now c.args.k 0) 0) i) e (c.targets_fit.ensures.0 t)),
       λ h. c.targets_fit.ensures.1 (subst (λ (i : Insn). TargetsFit c.args.starts.now (get_or c.args.starts.now (get_or c.args.origins.now c.args.k 0) 0) i) (sym e)
-          (offsets-to (map insn c.args.insns.now) c.args.starts.now c.args.k (get_or c.args.origins.now c.args.k 0) (c.requires.origins.each c.args.k m) h)),
+          (origin-targets (map insn c.args.insns.now) c.args.starts.now c.args.k (get_or c.args.origins.now c.args.k 0) (c.requires.origins.each c.args.k m) h)),
     )

@@ -98,10 +98,10 @@ returns-clause-ok c =
     let w = c.requires.ranked.short in
     let size : c.in_ok-all.all.end ≡ length_of (map view.insn c.args.code.now.insns.now) = c.in_ok-all.ensures.end in
     packed N (view.code c.args.code.now) c.in_ok-all.all.starts.items
-    c.new-item.result.items c.put_head.new.out.items c.put_insns.new.out.items c.put_padding.new.out.items c.put_items.new.out.items _
+    c.in_ok-item.item.items c.put_head.new.out.items c.put_insns.new.out.items c.put_padding.new.out.items c.put_items.new.out.items _
     laid.bytes.items laid.offsets.items c.in_ok-all.all.end (length c.args.code.now.tries.now)
     c.in_ok-all.ensures.ok size (sym (length-map c.args.code.now.tries.now view.try))
-    c.new-item.ensures.items c.in_ok-put_head.ensures.ok
+    c.in_ok-item.ensures.items c.in_ok-put_head.ensures.ok
     (subst (λ (z : List ℕ). PutInsns N (map view.insn c.args.code.now.insns.now) z c.put_head.new.out.items c.put_insns.new.out.items) c.deref-2.ensures.value c.in_ok-put_insns.ensures.ok)
     c.in_ok-put_padding.ensures.ok
     (rw (c.deref-4.ensures.value, c.deref-5.ensures.value) at c.in_ok-put_items.ensures.ok)

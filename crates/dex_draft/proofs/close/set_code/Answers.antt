@@ -1,12 +1,14 @@
-use Rattle.std.proofs.Common.{arith}
-use Rattle.dex_program.specs.View.{code}
-use Rattle.dex_draft.proofs.CloseLaws.{code_put, code_past}
+use Rattle.std.proofs.Common.{Some, map, refl, sym, ap, ◌∙◌}
+use Rattle.dex_draft.specs.View.{held_method}
+use Rattle.dex_draft.proofs.EntryLaws.{method_coded, method_uncoded}
 use Rattle.dex_draft.proofs.close.set_code.Goals as goal
 
-pub returns-then-place-len-clause-put : goal.returns-then-place-len-clause-put
-returns-then-place-len-clause-put c = code_past c.args.methods.now.items c.args.place (code c.args.whole.now) (omega (arith, c.args.methods.now.ok.0, c.len.ensures, c.if-place-len.true))
+pub returns-in-Some : goal.returns-in-Some
+returns-in-Some c =
+    let held = c.in-Some.held.now in
+    ap (map held_method) (c.get_mut.follows.holds (record held { code = Some c.args.whole })).0
+    ∙ method_coded (c.args.name, c.args.prototype) c.args.methods.now.entries held (record held { code = Some c.args.whole }) c.args.whole (sym c.in-Some.ensures.value) refl
 
-pub returns-clause-put : goal.returns-clause-put
-returns-clause-put c =
-    code_put c.args.methods.now.items c.remove-one.new.self.items c.insert.new.self.items c.args.place c.remove-one.result c.with_code.result (code c.args.whole.now) (omega (arith, c.args.methods.now.ok.0, c.len.ensures, c.if-place-len.false))
-    c.remove-one.ensures.value c.remove-one.ensures.items c.in_ok-insert.ensures.items c.with_code.ensures
+pub returns-in_default : goal.returns-in_default
+returns-in_default c =
+    rw c.get_mut.follows.holds-at-none (method_uncoded (c.args.name, c.args.prototype) c.args.methods.now.entries _ (sym c.in_default.ensures.value))

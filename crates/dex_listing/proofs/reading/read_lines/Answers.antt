@@ -2,11 +2,8 @@ use Rattle.std.proofs.Common.{◌≡◌, ◌∙◌, refl, sym, ap, arith, length
 use Rattle.std.proofs.lemmas.List.{length_push}
 use Rattle.dex_draft.specs.States.{State, start}
 use Rattle.dex_draft.specs.View.{state}
-use Rattle.dex_listing.proofs.ReadingLaws.{read_sorted, Reads-push, lines_push, lines_of, all_read, read_whole}
+use Rattle.dex_listing.proofs.ReadingLaws.{Reads-push, lines_push, lines_of, all_read, read_whole}
 use Rattle.dex_listing.proofs.reading.read_lines.Goals as goal
-
-pub read_line-requires-clause-sorted : goal.read_line-requires-clause-sorted
-read_line-requires-clause-sorted c = let i = c.loop-line.invariant in read_sorted i.0 (state c.loop-line.draft) i.3
 
 pub loop-line-preserved : goal.loop-line-preserved
 loop-line-preserved c = let i = c.loop-line.invariant in let n = length_push i.0 c.in-Some.line.now in (

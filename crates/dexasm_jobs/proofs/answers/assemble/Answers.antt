@@ -7,7 +7,7 @@ pub returns-in_err-program-clause-refused : goal.returns-in_err-program-clause-r
 returns-in_err-program-clause-refused c = passed _ _ _ c.from_residual.ensures.1 (λ ne. inl (c.in_err-program.ensures.err ne))
 
 pub write-requires : goal.write-requires
-write-requires c = record { kept = record { ranges = c.programs_are_in_range.ensures; rules = c.in_ok-program.ensures.ok.formed } }
+write-requires c = record { kept = c.in_ok-program.ensures.ok.formed }
 
 pub returns-clause-answered : goal.returns-clause-answered
 returns-clause-answered c = IfOk-weaker c.write.result _ _ (λ made h. (_, c.in_ok-program.ensures.ok, h)) c.write.ensures.file

@@ -1,16 +1,10 @@
-use Rattle.std.proofs.Common.{◌∙◌, ap, map}
-use Rattle.dex_program.specs.View.{method}
+use Rattle.std.proofs.Common.{refl, ◌∙◌, sym, ap, is_some}
 use Rattle.dex_draft.specs.View.{open_class}
-use Rattle.dex_draft.proofs.OpenLaws.{map_put, direct_put}
+use Rattle.dex_draft.proofs.EntryLaws.{direct_put}
 use Rattle.dex_draft.proofs.draft.Open.put_direct.Goals as goal
 
 pub returns-clause-put : goal.returns-clause-put
 unfolding open_class
-returns-clause-put c = let e = rw c.in-Some.is at c.method_place.ensures.place in
-    direct_put (open_class c.args.self.now) (method c.args.new) c.in-Some.place _
-    (rw c.as_slice.ensures.value at e)
-    (ap (map method) c.in_ok-insert.ensures.items ∙ map_put method c.in-Some.place c.args.new c.args.self.now.directs.items)
-
-pub method_place-requires : goal.method_place-requires
-unfolding open_class
-method_place-requires c = rw c.as_slice.ensures.value c.requires.directs
+returns-clause-put c =
+    direct_put (open_class c.args.self.now) c.args.self.now.directs.entries c.insert.new.self.entries (c.args.new.name, c.args.new.proto) (record { flags = c.args.new.flags; code = c.args.new.code }) refl c.in_ok-old.ensures.entries c.is_none.result
+    (ap is_some (sym c.in_ok-old.ensures.old) ∙ c.is_none.ensures)

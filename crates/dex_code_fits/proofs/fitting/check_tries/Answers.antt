@@ -1,0 +1,59 @@
+use Rattle.std.proofs.Common.{◌≡◌, ◌<◌, ◌≤◌, ◌∙◌, ℕ, List, map, length, get_or, arith, sym, subst, rules, inr, refl}
+use Rattle.std.proofs.lemmas.List.{length-map}
+use Rattle.dex_program.specs.View.{insn, try}
+use Rattle.dex_program.specs.Sizes.{addresses_of}
+use Rattle.dex_names.specs.Closure.{NameRanks}
+use Rattle.dex_code_put.specs.Fits.{TryFits, HandlersAreNear}
+use Rattle.dex_code_put.proofs.FormLaws.{good}
+use Rattle.dex_code_fits.proofs.FitLaws.{by-count, tries-there, addresses-small}
+use Rattle.dex_code_fits.proofs.fitting.check_tries.Goals as goal
+
+pub tries_fit-requires-clause-low : goal.tries_fit-requires-clause-low
+tries_fit-requires-clause-low c =
+    subst (λ (ss : List ℕ). (k : ℕ) → k < length ss → get_or ss k 0 ≤ 9223372036854775808) (sym (c.deref.ensures.value ∙ c.requires.starts))
+    (addresses-small (map insn c.args.code.now.insns.now) c.requires.formed.few c.requires.formed.operands)
+
+pub tries_fit-requires-clause-formed : goal.tries_fit-requires-clause-formed
+tries_fit-requires-clause-formed c = tries-there c.args.code.now.insns.now c.args.code.now.tries.now c.deref.result.now (c.deref.ensures.value ∙ c.requires.starts) c.requires.formed.tries
+
+pub handlers_fit-requires-clause-rises : goal.handlers_fit-requires-clause-rises
+handlers_fit-requires-clause-rises c =
+    let e = c.requires.end in
+    let w = c.is_short.ensures.0 (search rules) in
+    (good c.args.code.now.insns.now c.deref-2.result.now (c.deref-2.ensures.value ∙ c.requires.starts) (omega arith)).rises
+
+pub handlers_fit-requires-clause-low : goal.handlers_fit-requires-clause-low
+handlers_fit-requires-clause-low c =
+    let e = c.requires.end in
+    let w = c.is_short.ensures.0 (search rules) in
+    (good c.args.code.now.insns.now c.deref-2.result.now (c.deref-2.ensures.value ∙ c.requires.starts) (omega arith)).low
+
+pub handlers_fit-requires-clause-formed : goal.handlers_fit-requires-clause-formed
+handlers_fit-requires-clause-formed c = tries-there c.args.code.now.insns.now c.args.code.now.tries.now c.deref-2.result.now (c.deref-2.ensures.value ∙ c.requires.starts) c.requires.formed.tries
+
+pub handlers_fit-requires-clause-ranked : goal.handlers_fit-requires-clause-ranked
+handlers_fit-requires-clause-ranked c = c.requires.caught
+
+pub returns-then-not-branch-clause-err : goal.returns-then-not-branch-clause-err
+returns-then-not-branch-clause-err c = λ ne.
+    let m = sym (length-map c.args.code.now.tries.now try) in
+    let tries = by-count (length c.args.code.now.tries.now) (length (map try c.args.code.now.tries.now)) (λ i. TryFits (addresses_of (map insn c.args.code.now.insns.now)) (map try c.args.code.now.tries.now) i) m
+    (subst (λ (ss : List ℕ). (i : ℕ) → i < length c.args.code.now.tries.now → TryFits ss (map try c.args.code.now.tries.now) i) (c.deref.ensures.value ∙ c.requires.starts) (c.tries_fit.ensures.0 (search rules))) in
+    let few : length c.args.code.now.tries.now ≤ 65535 = search rules in
+    let e = c.requires.end in
+    let w = c.is_short.ensures.0 (search rules) in
+    let same = c.deref-2.ensures.value ∙ c.requires.starts in
+    inr (
+      tries,
+      inr (
+        omega arith,
+        omega arith,
+        (λ h. let t = c.in_ok-handlers_fit.ensures.ok.1 (subst (λ (ss : List ℕ). HandlersAreNear (NameRanks c.args.ranks.now) ss (map try c.args.code.now.tries.now)) (sym same) h) in search rules),
+        refl,
+      ),
+    )
+
+pub returns-clause-handlers : goal.returns-clause-handlers
+returns-clause-handlers c = λ short.
+    let same = c.deref-2.ensures.value ∙ c.requires.starts in
+    subst (λ (ss : List ℕ). HandlersAreNear (NameRanks c.args.ranks.now) ss (map try c.args.code.now.tries.now)) same (c.in_ok-handlers_fit.ensures.ok.0 (search rules))
