@@ -14,7 +14,7 @@ use dex_draft::Draft;
 use dex_lines::{Stage, make_line};
 use dex_program::Program;
 use dex_ranges::programs_are_in_range;
-use dex_rules::well_formed;
+use dex_rules::well_formed_in;
 use dex_shapes::read_shape;
 use dex_slots::{Datum, Slot, read_operands};
 use dex_words::{Word, read_words};
@@ -135,7 +135,7 @@ pub fn parse<'a>(alloc: Global, arena: &'a Bump, text: &[u8]) -> Result<Program<
     let whole = Program {
         classes: draft.into_classes(),
     };
-    well_formed(&whole)?;
+    well_formed_in(alloc, &whole)?;
     programs_are_in_range(&whole);
     Ok(whole)
 }

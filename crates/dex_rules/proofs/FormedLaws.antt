@@ -1,12 +1,12 @@
 -- Bodies that keep the rules, and whose numbers are in range, are well formed.
-use Rattle.std.proofs.Common.{◌<◌, List, [], ◌∷◌, length, Option, None, Some}
+use Rattle.std.proofs.Common.{List, [], ◌∷◌, Option, None, Some}
 use Rattle.std.specs.Prelude.{IfSome}
 use Rattle.std.specs.List.{AllByRecursion}
 use Rattle.dex_code_rules.specs.CodeRules.{OperandsHold, TargetsHold, PayloadsHold, TriesHold}
-use Rattle.dex_program.specs.Content.{Code, Method, Class, Program}
+use Rattle.dex_program.specs.Content.{Code, Method, Class}
 use Rattle.dex_program.specs.Formed.{IsFormed}
 use Rattle.dex_rules.specs.Ranges.{CodeInRange, DefinedInRange, ClassInRange}
-use Rattle.dex_rules.specs.Rules.{CodesHold, ClassHolds}
+use Rattle.dex_rules.specs.Rules.{CodesHold}
 
 formed_of : (c : Code) → OperandsHold c → TargetsHold c → PayloadsHold c → TriesHold c → CodeInRange c → IsFormed c
 formed_of c o t p r n = record {

@@ -1,5 +1,6 @@
 pub mod FormedLaws
 pub mod MemberLaws
 pub mod NestedLaws
+pub mod NumberLaws
 pub mod OrderLaws
 pub mod WalkLaws

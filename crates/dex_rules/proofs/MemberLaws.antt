@@ -1,11 +1,10 @@
 -- Keys by their numbers, and the names of a class part by part.
-use Rattle.std.proofs.Common.{◌≡◌, ℕ, ℤ, pos, ◌+◌, ◌<◌, ◌++◌, List, [], ◌∷◌, map, length, get_or, subst, sym, ◌∙◌, arith, Option, Some, None, inl}
-use Rattle.std.specs.Prelude.{◌<ℤ◌, IfSome, ◌↔◌}
+use Rattle.std.proofs.Common.{◌≡◌, ℕ, ◌+◌, ◌<◌, ◌++◌, List, [], ◌∷◌, map, length, get_or, sym, ◌∙◌, arith, Option, Some, None, inl}
+use Rattle.std.specs.Prelude.{IfSome, ◌↔◌}
 use Rattle.std.specs.List.{AllByRecursion, flat_map}
 use Rattle.std.specs.declared.cmp.Ordering.{Ordering}
 use Rattle.std.specs.declared.cmp.Ordering.TheVariants.{Less}
 use Rattle.std.proofs.lemmas.List.{get_or-map, length-map}
-use Rattle.std.proofs.lemmas.Option.{slice_get_within, get_or_from_slice_get, slice_get-get_or}
 use Rattle.dex_base.specs.Descriptor.{IsClass, IsDescriptor}
 use Rattle.dex_base.proofs.DescriptorLaws.{class_is_descriptor}
 use Rattle.dex_program.specs.Content.{Descriptor, Units, Name, OfText, OfDesc, Value, Values, Named, Enum, Array, no_values, more_values, Code, Member, Method, Class}

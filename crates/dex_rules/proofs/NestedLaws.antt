@@ -1,5 +1,5 @@
 -- What is left of the names in a value.
-use Rattle.std.proofs.Common.{◌≡◌, ℕ, ◌+◌, ◌<◌, ◌≤◌, List, [], ◌∷◌, map, max, length, get_or, drop, arith, add-one, refl, ap, sym, subst, zero, suc}
+use Rattle.std.proofs.Common.{◌≡◌, ℕ, ◌+◌, ◌<◌, ◌≤◌, List, [], ◌∷◌, map, length, get_or, drop, arith, add-one, refl, sym, subst, zero, suc}
 use Rattle.std.specs.Prelude.{◌↔◌}
 use Rattle.std.proofs.Math.Seq.{drop-cons}
 use Rattle.dex_program.specs.Content as content

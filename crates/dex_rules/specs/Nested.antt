@@ -1,6 +1,6 @@
 -- What the private functions say of the names in a value, part by part.
-use Rattle.std.specs.Prelude.{◌≡◌, ℕ, ◌<◌, ◌≤◌, ◌↔◌, List, map}
-use Rattle.dex_program.specs.Content.{Value, Values, values}
+use Rattle.std.specs.Prelude.{◌≡◌, ℕ, ◌<◌, ◌≤◌, ◌↔◌, List}
+use Rattle.dex_program.specs.Content.{Value, Values}
 use Rattle.dex_program.specs.Depth.{depth, greatest_depth}
 use Rattle.dex_program.specs.Mentions.{NamesHold, AllNamesHold}
 use Rattle.dex_program.specs.View.{value}

@@ -1,7 +1,7 @@
 -- Programs whose numbers and units lie in the ranges of their types, as those of every program in memory do, and programs that are
 -- well formed.
 -- Page: "Dalvik Executable format": the types ubyte to uint of the items' fields, and "string_data_item", whose units are of 16 bits.
-use Rattle.std.specs.Prelude.{ℕ, ◌<◌, ⊤, List, IfSome, FitsSigned}
+use Rattle.std.specs.Prelude.{◌<◌, ⊤, IfSome, FitsSigned}
 use Rattle.std.specs.Int.{w8, w16, w32, w64}
 use Rattle.std.specs.List.{AllByRecursion}
 use Rattle.dex_program.specs.Content.{Units, Proto, FieldRef, MethodRef, Name, OfText, OfDesc, OfField, OfMethod, Value, Values, no_values, more_values, Code, Member, Method, Class, Program}

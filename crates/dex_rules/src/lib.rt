@@ -3,6 +3,7 @@
 //!
 //! ```text
 //! well_formed(&program)?; // 110 to 117, with the number of the first class that breaks a rule
+//! well_formed_in(alloc, &program)?; // the same, in time that grows with the program
 //! ```
 #![tactic(auto)]
 
@@ -14,10 +15,11 @@ mod nested;
 mod values;
 
 // The order of classes.
+mod numbers;
 mod order;
 
 // Bodies, and all of it.
 mod codes;
 mod program;
 
-pub use program::well_formed;
+pub use program::{well_formed, well_formed_in};

@@ -78,7 +78,7 @@ fn is_new(types: &[Desc<'_>], k: usize) -> bool
 }
 
 /// Whether no type stands twice.
-fn are_distinct(types: &[Desc<'_>]) -> bool
+pub(crate) fn are_distinct(types: &[Desc<'_>]) -> bool
     ensures { IsTrue result ↔ AreDistinct (map desc types.now) }
 {
     for k in 0..types.len() {

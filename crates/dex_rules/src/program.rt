@@ -1,17 +1,22 @@
 //! Whether a program keeps its rules.
 
-ghost use Rattle.std.specs.Prelude.{◌<◌, length, map, OnOk, IfErr};
+ghost use Rattle.std.specs.Prelude.{◌≡◌, ◌≢◌, ◌↔◌, length, map, IsTrue, IfOk, OnOk, IfErr, IsOkUnless};
+ghost use Rattle.dex_bytes.specs.Fault.{memory};
 ghost use Rattle.dex_code_rules.specs.CodeRules.{OperandsHold, PayloadsHold, TargetsHold, TriesHold};
-ghost use Rattle.dex_program.specs.View.{class, program};
-ghost use Rattle.dex_rules.specs.Rules.{ClassBreaks, ClassHolds, CodesBreak, CodesHold, RuleBreaks, RulesHold};
+ghost use Rattle.dex_program.specs.Content as content;
+ghost use Rattle.dex_program.specs.View.{class, desc, program};
+ghost use Rattle.dex_rules.specs.Numbers.{AreNumbers, types};
+ghost use Rattle.dex_rules.specs.Rules.{ClassBreaks, ClassHolds, CodesBreak, CodesHold, OrderHolds, RuleBreaks, RulesHold};
 
 use crate::codes::codes_hold;
 use crate::members::{members_rise, names_are_valid};
+use crate::numbers::{Numbers, numbers_of, order_holds_in};
 use crate::order::order_holds;
 use crate::values::values_fit;
 use dex_base::{Fault, fault};
 use dex_code_rules::CodeRule;
-use dex_program::{Class, Program};
+use dex_program::{Class, Desc, Program};
+use std::alloc::Global;
 
 /// Whether the code of class `place` keeps all rules.
 fn check_codes(place: u64, one: &Class<'_>) -> Result<(), Fault>
@@ -48,11 +53,10 @@ fn check_codes(place: u64, one: &Class<'_>) -> Result<(), Fault>
     Ok(())
 }
 
-/// Whether class `i` keeps all rules.
-fn check_class(classes: &[Class<'_>], i: usize, one: &Class<'_>) -> Result<(), Fault>
-    requires inside { i < length classes.now }
-    ensures ok { OnOk result (ClassHolds (map class classes.now) i (class one.now)) }
-    ensures err { IfErr result (ClassBreaks (map class classes.now) i (class one.now)) }
+/// Whether class `i` of a program keeps all rules, if it is known whether it is in order.
+fn check_class(i: usize, one: &Class<'_>, is_in_order: bool) -> Result<(), Fault>
+    ensures ok { (p : content.Program) → IsTrue is_in_order ↔ OrderHolds p i (class one.now) → OnOk result (ClassHolds p i (class one.now)) }
+    ensures err { (p : content.Program) → IsTrue is_in_order ↔ OrderHolds p i (class one.now) → IfErr result (ClassBreaks p i (class one.now)) }
 {
     let place = i as u64;
     if !names_are_valid(one) {
@@ -67,7 +71,7 @@ fn check_class(classes: &[Class<'_>], i: usize, one: &Class<'_>) -> Result<(), F
             place,
         });
     }
-    if !order_holds(classes, i, one) {
+    if !is_in_order {
         return Err(Fault {
             code: fault::PROGRAM_CLASS_ORDER,
             place,
@@ -97,7 +101,45 @@ pub fn well_formed(all: &Program<'_>) -> Result<(), Fault>
 {
     for i in 0..all.classes.len() {
         let one = &all.classes[i];
-        check_class(all.classes, i, one)?;
+        let is_in_order = order_holds(all.classes, i, one);
+        check_class(i, one, is_in_order)?;
     }
     Ok(())
+}
+
+/// The types that classes define.
+fn types_of<'a>(alloc: Global, classes: &[Class<'a>]) -> Result<Vec<Desc<'a>>, Fault>
+    ensures ok { IfOk result (λ list. map desc list.items ≡ types (map class classes.now)) }
+    ensures memory { IsOkUnless result memory }
+{
+    let mut list = Vec::with_capacity(alloc, classes.len())?;
+    for one in classes {
+        list.push(one.ty)?;
+    }
+    Ok(list)
+}
+
+/// Whether all classes keep all rules.
+fn check_classes(alloc: Global, numbers: &Numbers<'_>, classes: &[Class<'_>]) -> Result<(), Fault>
+    requires numbers { AreNumbers (types (map class classes.now)) (length (map class classes.now)) numbers.now }
+    ensures ok { OnOk result (RulesHold (map class classes.now)) }
+    ensures err { IfErr result (λ e. e ≢ memory → RuleBreaks (map class classes.now) e) }
+{
+    for i in 0..classes.len() {
+        let one = &classes[i];
+        let is_in_order = order_holds_in(alloc, numbers, i, one)?;
+        check_class(i, one, is_in_order)?;
+    }
+    Ok(())
+}
+
+/// Whether a program keeps the rules that every file's program keeps, as `well_formed` says it. Types are looked up by hash, so
+/// that n classes take time that grows with n; want of memory is a refusal (255).
+pub fn well_formed_in(alloc: Global, all: &Program<'_>) -> Result<(), Fault>
+    ensures ok { OnOk result (RulesHold (program all.now)) }
+    ensures err { IfErr result (λ e. e ≢ memory → RuleBreaks (program all.now) e) }
+{
+    let list = types_of(alloc, all.classes)?;
+    let numbers = numbers_of(alloc, list.as_slice())?;
+    check_classes(alloc, &numbers, all.classes)
 }

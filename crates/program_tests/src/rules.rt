@@ -1,27 +1,35 @@
 //! Programs that keep their rules, and programs that break one.
 
-use dex_base::fault;
+use dex_base::{Fault, fault};
 use dex_program::{
     Catch, Class, Code, Desc, Insn, Member, Method, Name, Program, Proto, Str, Try, Value,
 };
-use dex_rules::well_formed;
+use dex_rules::{well_formed, well_formed_in};
 use dex_samples::none_wrong;
+use std::alloc::Global;
 use std::test::Fail;
 
 // Classes, the fault of the first that breaks a rule, 0 where all keep them, and that class's number.
 type Ruled = (&'static str, &'static [Class<'static>], u16, u64);
 
-fn is_ruled_so(case: &Ruled) -> bool {
-    let (_, classes, code, place) = case;
-    match well_formed(&Program { classes }) {
-        Ok(()) => *code == 0,
-        Err(fault) => fault.code == *code && fault.place == *place,
+fn answers_so(answer: Result<(), Fault>, code: u16, place: u64) -> bool {
+    match answer {
+        Ok(()) => code == 0,
+        Err(fault) => fault.code == code && fault.place == place,
     }
 }
 
-fn first_ruled_otherwise(cases: &[Ruled]) -> Option<&'static str> {
+// Without memory and by hash.
+fn is_ruled_so(alloc: Global, case: &Ruled) -> bool {
+    let (_, classes, code, place) = case;
+    let program = Program { classes };
+    answers_so(well_formed(&program), *code, *place)
+        && answers_so(well_formed_in(alloc, &program), *code, *place)
+}
+
+fn first_ruled_otherwise(alloc: Global, cases: &[Ruled]) -> Option<&'static str> {
     for case in cases {
-        if !is_ruled_so(case) {
+        if !is_ruled_so(alloc, case) {
             return Some(case.0);
         }
     }
@@ -67,6 +75,35 @@ const G: Str<'static> = Str { units: &[0x67] };
 
 const NO_NAME: Str<'static> = Str { units: &[0x20] };
 
+// `LB;` to `LJ;`
+#[rattlefmt::skip]
+const NINE: [Desc<'static>; 9] = [
+    B,
+    Desc { text: Str { units: &[0x4c, 0x43, 0x3b] } },
+    Desc { text: Str { units: &[0x4c, 0x44, 0x3b] } },
+    Desc { text: Str { units: &[0x4c, 0x45, 0x3b] } },
+    Desc { text: Str { units: &[0x4c, 0x46, 0x3b] } },
+    Desc { text: Str { units: &[0x4c, 0x47, 0x3b] } },
+    Desc { text: Str { units: &[0x4c, 0x48, 0x3b] } },
+    Desc { text: Str { units: &[0x4c, 0x49, 0x3b] } },
+    Desc { text: Str { units: &[0x4c, 0x4a, 0x3b] } },
+];
+
+// the same and `LB;` again
+#[rattlefmt::skip]
+const TEN: [Desc<'static>; 10] = [
+    B,
+    Desc { text: Str { units: &[0x4c, 0x43, 0x3b] } },
+    Desc { text: Str { units: &[0x4c, 0x44, 0x3b] } },
+    Desc { text: Str { units: &[0x4c, 0x45, 0x3b] } },
+    Desc { text: Str { units: &[0x4c, 0x46, 0x3b] } },
+    Desc { text: Str { units: &[0x4c, 0x47, 0x3b] } },
+    Desc { text: Str { units: &[0x4c, 0x48, 0x3b] } },
+    Desc { text: Str { units: &[0x4c, 0x49, 0x3b] } },
+    Desc { text: Str { units: &[0x4c, 0x4a, 0x3b] } },
+    B,
+];
+
 const EMPTY: Class<'static> = Class {
     ty: A,
     flags: 0,
@@ -106,7 +143,7 @@ const METHOD: Method<'static> = Method {
 
 #[rattlefmt::skip]
 #[test]
-fn names_and_kinds_of_types_are_ruled() -> Result<(), Fail> {
+fn names_and_kinds_of_types_are_ruled(rt: HostRuntime) -> Result<(), Fail> {
     static CASES: [Ruled; 8] = [
         ("no class", &[], 0, 0),
         ("a class with a field, a method and a superclass", &[Class { superclass: Some(B), statics: &[FIELD], directs: &[METHOD], ..EMPTY }], 0, 0),
@@ -117,13 +154,13 @@ fn names_and_kinds_of_types_are_ruled() -> Result<(), Fail> {
         ("a parameter that is void", &[Class { virtuals: &[Method { proto: &Proto { ret: INT, params: &[VOID] }, ..METHOD }], ..EMPTY }], fault::PROGRAM_NAME, 0),
         ("an array in a value that names no type", &[Class { statics: &[FIELD], values: &[Value::Array(&[Value::Null, Value::Desc(NO_TYPE)])], ..EMPTY }], fault::PROGRAM_NAME, 0),
     ];
-    none_wrong(Ok(first_ruled_otherwise(&CASES)))
+    none_wrong(Ok(first_ruled_otherwise(rt.alloc(), &CASES)))
 }
 
 #[rattlefmt::skip]
 #[test]
-fn the_orders_of_members_and_classes_and_values_are_ruled() -> Result<(), Fail> {
-    static CASES: [Ruled; 9] = [
+fn the_orders_of_members_and_classes_and_values_are_ruled(rt: HostRuntime) -> Result<(), Fail> {
+    static CASES: [Ruled; 12] = [
         ("fields by name", &[Class { statics: &[FIELD, OTHER], ..EMPTY }], 0, 0),
         ("fields that fall", &[Class { statics: &[OTHER, FIELD], ..EMPTY }], fault::PROGRAM_MEMBER_ORDER, 0),
         ("a method given twice", &[Class { directs: &[METHOD, METHOD], ..EMPTY }], fault::PROGRAM_MEMBER_ORDER, 0),
@@ -131,10 +168,13 @@ fn the_orders_of_members_and_classes_and_values_are_ruled() -> Result<(), Fail> 
         ("a class before its superclass", &[Class { superclass: Some(B), ..EMPTY }, SECOND], fault::PROGRAM_CLASS_ORDER, 0),
         ("a class that is its own interface", &[EMPTY, Class { interfaces: &[B], ..SECOND }], fault::PROGRAM_CLASS_ORDER, 1),
         ("a class defined twice", &[EMPTY, EMPTY], fault::PROGRAM_CLASS_ORDER, 1),
+        ("a class before its superclass that is defined twice", &[EMPTY, Class { superclass: Some(A), ..SECOND }, EMPTY], fault::PROGRAM_CLASS_ORDER, 1),
+        ("nine interfaces", &[Class { interfaces: &NINE, ..EMPTY }], 0, 0),
+        ("nine interfaces and the first again", &[SECOND, Class { interfaces: &TEN, ..EMPTY }], fault::PROGRAM_CLASS_ORDER, 1),
         ("an interface given twice", &[Class { interfaces: &[B, B], ..EMPTY }], fault::PROGRAM_CLASS_ORDER, 0),
         ("a value and no static field", &[Class { values: &[Value::Null], instances: &[FIELD], ..EMPTY }], fault::PROGRAM_VALUES, 0),
     ];
-    none_wrong(Ok(first_ruled_otherwise(&CASES)))
+    none_wrong(Ok(first_ruled_otherwise(rt.alloc(), &CASES)))
 }
 
 // A class with one method, whose code has these instructions and tries.
@@ -155,7 +195,7 @@ const COVER: Try<'static> = Try {
 
 #[rattlefmt::skip]
 #[test]
-fn instructions_are_ruled() -> Result<(), Fail> {
+fn instructions_are_ruled(rt: HostRuntime) -> Result<(), Fail> {
     static CASES: [Ruled; 9] = [
         ("return-void", &[Class { directs: &[Method { code: Some(&BODY), ..METHOD }], ..EMPTY }], 0, 0),
         ("no instruction", &[Class { directs: &[Method { code: Some(&Code { insns: &[], ..BODY }), ..METHOD }], ..EMPTY }], fault::PROGRAM_OPERAND, 0),
@@ -167,12 +207,12 @@ fn instructions_are_ruled() -> Result<(), Fail> {
         ("goto past the end", &[Class { directs: &[Method { code: Some(&Code { insns: &[Insn::I10t { op: 0x28, to: 1 }], ..BODY }), ..METHOD }], ..EMPTY }], fault::PROGRAM_OPERAND, 0),
         ("goto a payload", &[Class { directs: &[Method { code: Some(&Code { insns: &[Insn::I10t { op: 0x28, to: 1 }, Insn::Data { width: 1, bytes: &[] }], ..BODY }), ..METHOD }], ..EMPTY }], fault::PROGRAM_TARGET, 0),
     ];
-    none_wrong(Ok(first_ruled_otherwise(&CASES)))
+    none_wrong(Ok(first_ruled_otherwise(rt.alloc(), &CASES)))
 }
 
 #[rattlefmt::skip]
 #[test]
-fn payloads_and_tries_are_ruled() -> Result<(), Fail> {
+fn payloads_and_tries_are_ruled(rt: HostRuntime) -> Result<(), Fail> {
     static CASES: [Ruled; 8] = [
         ("a switch and its payload", &[Class { directs: &[Method { code: Some(&Code { insns: &[Insn::I31t { op: 0x2b, a: 0, to: 1 }, Insn::Packed { first: 0, targets: &[0] }], ..BODY }), ..METHOD }], ..EMPTY }], 0, 0),
         ("a switch's payload that nothing uses", &[Class { directs: &[Method { code: Some(&Code { insns: &[Insn::Packed { first: 0, targets: &[] }], ..BODY }), ..METHOD }], ..EMPTY }], fault::PROGRAM_PAYLOAD_USE, 0),
@@ -183,5 +223,5 @@ fn payloads_and_tries_are_ruled() -> Result<(), Fail> {
         ("a try past the end", &[Class { directs: &[Method { code: Some(&Code { tries: &[Try { to: 2, ..COVER }], ..BODY }), ..METHOD }], ..EMPTY }], fault::PROGRAM_TRY, 0),
         ("a try without a handler", &[Class { directs: &[Method { code: Some(&Code { tries: &[Try { catches: &[], ..COVER }], ..BODY }), ..METHOD }], ..EMPTY }], fault::PROGRAM_TRY, 0),
     ];
-    none_wrong(Ok(first_ruled_otherwise(&CASES)))
+    none_wrong(Ok(first_ruled_otherwise(rt.alloc(), &CASES)))
 }

@@ -8,9 +8,9 @@ pub returns-in_err-check_end-clause-err : goal.returns-in_err-check_end-clause-e
 returns-in_err-check_end-clause-err c =
     passed _ _ _ c.from_residual-in_err-check_end.ensures.1 (λ ne. unfinished_text _ (state c.in_ok-draft.draft) _ _ c.in_ok-draft.ensures.ok (lines_of c.in_ok-draft.draft ∙ c.in_ok-draft.ensures.number) c.in_err-check_end.ensures.err)
 
-pub returns-in_err-well_formed-clause-err : goal.returns-in_err-well_formed-clause-err
-returns-in_err-well_formed-clause-err c =
-    passed _ _ _ c.from_residual-in_err-well_formed.ensures.1 (λ ne. unruly_text _ (state c.in_ok-draft.draft) _ _ c.in_ok-draft.ensures.ok c.in_ok-check_end.ensures.ok c.into_classes.ensures c.in_err-well_formed.ensures.err)
+pub returns-in_err-well_formed_in-clause-err : goal.returns-in_err-well_formed_in-clause-err
+returns-in_err-well_formed_in-clause-err c =
+    passed _ _ _ c.from_residual-in_err-well_formed_in.ensures.1 (λ ne. unruly_text _ (state c.in_ok-draft.draft) _ _ c.in_ok-draft.ensures.ok c.in_ok-check_end.ensures.ok c.into_classes.ensures (c.in_err-well_formed_in.ensures.err ne))
 
 pub returns-clause-ok : goal.returns-clause-ok
-returns-clause-ok c = whole_text _ (state c.in_ok-draft.draft) _ c.in_ok-draft.ensures.ok c.in_ok-check_end.ensures.ok c.into_classes.ensures c.programs_are_in_range.ensures c.in_ok-well_formed.ensures.ok
+returns-clause-ok c = whole_text _ (state c.in_ok-draft.draft) _ c.in_ok-draft.ensures.ok c.in_ok-check_end.ensures.ok c.into_classes.ensures c.programs_are_in_range.ensures c.in_ok-well_formed_in.ensures.ok

@@ -1,6 +1,6 @@
-use Rattle.std.proofs.Common.{◌≡◌, ◌<◌, ◌≤◌, ℕ, List, map, length, get_or, refl, arith, sym, subst, rules}
+use Rattle.std.proofs.Common.{subst}
 use Rattle.dex_program.specs.View.{value}
-use Rattle.dex_rules.specs.Nested.{IsWalked, IsLook, IsSoFar}
+use Rattle.dex_rules.specs.Nested.{IsWalked, IsLook}
 use Rattle.dex_rules.specs.declared.nested.Look.{Look}
 use Rattle.dex_program.specs.declared.value.Value.{Value as Held}
 use Rattle.dex_rules.proofs.NestedLaws.{look-deeper, look-whole}

@@ -1,6 +1,5 @@
 use Rattle.std.proofs.Common.{◌+◌, ◌*◌}
 use Rattle.dex_program.specs.View.{value}
-use Rattle.dex_program.specs.Depth.{depth}
 use Rattle.dex_rules.specs.Nested.{IsLook, IsSoFar}
 use Rattle.dex_rules.proofs.NestedLaws.{rest_of}
 use Rattle.dex_rules.proofs.nested.+walk.Given as goal

@@ -1,6 +1,6 @@
-use Rattle.std.proofs.Common.{◌≡◌, ◌<◌, ◌≤◌, ℕ, List, map, length, get_or, refl, arith, sym, subst, rules}
+use Rattle.std.proofs.Common.{subst}
 use Rattle.dex_program.specs.View.{value}
-use Rattle.dex_rules.specs.Nested.{IsWalked, IsLook, IsSoFar}
+use Rattle.dex_rules.specs.Nested.{IsWalked}
 use Rattle.dex_rules.specs.declared.nested.Walked.{Walked}
 use Rattle.dex_rules.proofs.NestedLaws.{walked-deeper}
 use Rattle.dex_rules.proofs.nested.again.Goals as goal

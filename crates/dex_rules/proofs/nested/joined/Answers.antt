@@ -1,6 +1,6 @@
-use Rattle.std.proofs.Common.{◌≡◌, ◌<◌, ◌≤◌, ℕ, List, map, length, get_or, refl, arith, sym, subst, rules}
+use Rattle.std.proofs.Common.{get_or, subst}
 use Rattle.dex_program.specs.View.{value}
-use Rattle.dex_rules.specs.Nested.{IsWalked, IsLook, IsSoFar}
+use Rattle.dex_rules.specs.Nested.{IsWalked, IsSoFar}
 use Rattle.dex_rules.specs.declared.nested.Walked.{Walked}
 use Rattle.dex_rules.specs.declared.nested.Look.{Look}
 use Rattle.dex_rules.proofs.NestedLaws.{good-at, one-left}

@@ -1,4 +1,3 @@
-use Rattle.std.proofs.Common.{◌≡◌, ◌<◌, ◌≤◌, ℕ, List, map, length, get_or, refl, arith, sym, subst, rules}
 use Rattle.dex_rules.proofs.nested.names_are_valid_in.Goals as goal
 
 pub loop-levels-preserved : goal.loop-levels-preserved
