@@ -1,4 +1,4 @@
-//! The program of crates/bench_code in plain Rust: the code items of a file of version 035 with all their rules, and the same sum.
+//! The work of crates/bench/src/code.rt in plain Rust: the code items of a file of version 035 with all their rules, and the same sum.
 //! Header, checksums and tables aren't looked at, since one reading of them isn't counted; the tables' sizes are. All code items of a
 //! reading are held until its end, as those of a program are.
 use std::collections::HashMap;

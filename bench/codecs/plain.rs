@@ -1,4 +1,4 @@
-//! The work of crates/bench_codecs in plain Rust, with the same output: `plain WORK ROUNDS`.
+//! The work of crates/bench/src/codecs.rt in plain Rust, with the same output: `plain WORK ROUNDS`.
 
 use std::env;
 

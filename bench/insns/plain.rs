@@ -1,4 +1,4 @@
-//! The program of crates/bench_insns in plain Rust: the same words, the same code, the same line.
+//! The work of crates/bench/src/insns.rt in plain Rust: the same words, the same code, the same line.
 
 include!("decode.rs");
 

@@ -1,4 +1,4 @@
-//! The work of bench_listing in plain Rust: a listing of the same lines is cut into words, read into classes, checked for
+//! The work of crates/bench/src/listing.rt in plain Rust: a listing of the same lines is cut into words, read into classes, checked for
 //! members and interfaces given twice, and printed again. Names are kept as UTF-16 units, as there.
 use std::collections::HashMap;
 

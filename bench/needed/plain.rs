@@ -1,4 +1,4 @@
-//! The program of crates/bench_names in plain Rust: the same words, the same names, the same line. A set in the order of first need is
+//! The work of crates/bench/src/needed.rt in plain Rust: the same words, the same names, the same line. A set in the order of first need is
 //! a `Vec` of names and a `HashMap` from a name to its place, by the standard hasher, as in the crate `indexmap`.
 use std::collections::HashMap;
 use std::hash::Hash;

@@ -1,4 +1,4 @@
-//! The program of crates/bench_tables in plain Rust: the five tables of a file of version 035 with all their rules, and the same sum.
+//! The work of crates/bench/src/tables.rt in plain Rust: the five tables of a file of version 035 with all their rules, and the same sum.
 use std::io::Read;
 
 fn u16_at(b: &[u8], p: usize) -> usize {

@@ -12,10 +12,79 @@ use std::test::Fail;
 // What the instruction is, its units, the instruction.
 type Both = (&'static str, &'static [u8], RawInsn<'static>);
 
+// An instruction as its form, its operands in the order of the page, and the slices that a payload holds.
+#[derive(Clone, Copy)]
+struct Shown<'a> {
+    form: &'static str,
+    operands: [i64; 8],
+    slices: [&'a [u8]; 2],
+}
+
+fn plain(form: &'static str, operands: [i64; 4]) -> Shown<'static> {
+    let [op, first, second, third] = operands;
+    Shown {
+        form,
+        operands: [op, first, second, third, 0, 0, 0, 0],
+        slices: [&[], &[]],
+    }
+}
+
+fn payload<'a>(form: &'static str, number: i64, one: &'a [u8], other: &'a [u8]) -> Shown<'a> {
+    Shown {
+        form,
+        operands: [number, 0, 0, 0, 0, 0, 0, 0],
+        slices: [one, other],
+    }
+}
+
+#[rattlefmt::skip]
+fn operands_of<'a>(insn: RawInsn<'a>) -> Shown<'a> {
+    match insn {
+        RawInsn::I10x { op } => plain("10x", [i64::from(op), 0, 0, 0]),
+        RawInsn::I12x { op, a, b } => plain("12x", [i64::from(op), i64::from(a), i64::from(b), 0]),
+        RawInsn::I11n { op, a, b } => plain("11n", [i64::from(op), i64::from(a), i64::from(b), 0]),
+        RawInsn::I11x { op, a } => plain("11x", [i64::from(op), i64::from(a), 0, 0]),
+        RawInsn::I10t { op, offset } => plain("10t", [i64::from(op), i64::from(offset), 0, 0]),
+        RawInsn::I20t { op, offset } => plain("20t", [i64::from(op), i64::from(offset), 0, 0]),
+        RawInsn::I22x { op, a, b } => plain("22x", [i64::from(op), i64::from(a), i64::from(b), 0]),
+        RawInsn::I21t { op, a, offset } => plain("21t", [i64::from(op), i64::from(a), i64::from(offset), 0]),
+        RawInsn::I21s { op, a, b } => plain("21s", [i64::from(op), i64::from(a), i64::from(b), 0]),
+        RawInsn::I21h { op, a, b } => plain("21h", [i64::from(op), i64::from(a), i64::from(b), 0]),
+        RawInsn::I21c { op, a, index } => plain("21c", [i64::from(op), i64::from(a), i64::from(index), 0]),
+        RawInsn::I23x { op, a, b, c } => plain("23x", [i64::from(op), i64::from(a), i64::from(b), i64::from(c)]),
+        RawInsn::I22b { op, a, b, c } => plain("22b", [i64::from(op), i64::from(a), i64::from(b), i64::from(c)]),
+        RawInsn::I22t { op, a, b, offset } => plain("22t", [i64::from(op), i64::from(a), i64::from(b), i64::from(offset)]),
+        RawInsn::I22s { op, a, b, c } => plain("22s", [i64::from(op), i64::from(a), i64::from(b), i64::from(c)]),
+        RawInsn::I22c { op, a, b, index } => plain("22c", [i64::from(op), i64::from(a), i64::from(b), i64::from(index)]),
+        RawInsn::I30t { op, offset } => plain("30t", [i64::from(op), i64::from(offset), 0, 0]),
+        RawInsn::I32x { op, a, b } => plain("32x", [i64::from(op), i64::from(a), i64::from(b), 0]),
+        RawInsn::I31i { op, a, b } => plain("31i", [i64::from(op), i64::from(a), i64::from(b), 0]),
+        RawInsn::I31t { op, a, offset } => plain("31t", [i64::from(op), i64::from(a), i64::from(offset), 0]),
+        RawInsn::I31c { op, a, index } => plain("31c", [i64::from(op), i64::from(a), i64::from(index), 0]),
+        RawInsn::I35c { op, n, regs, index } => Shown {
+            form: "35c",
+            operands: [i64::from(op), i64::from(n), i64::from(index), i64::from(regs[0]), i64::from(regs[1]), i64::from(regs[2]), i64::from(regs[3]), i64::from(regs[4])],
+            slices: [&[], &[]],
+        },
+        RawInsn::I3rc { op, n, first, index } => plain("3rc", [i64::from(op), i64::from(n), i64::from(first), i64::from(index)]),
+        RawInsn::I51l { op, a, b } => plain("51l", [i64::from(op), i64::from(a), b, 0]),
+        RawInsn::Packed { first, offsets } => payload("packed", i64::from(first), offsets, &[]),
+        RawInsn::Sparse { keys, offsets } => payload("sparse", 0, offsets, keys),
+        RawInsn::Data { width, bytes } => payload("data", i64::from(width), bytes, &[]),
+    }
+}
+
+fn is_shown_so(insn: Shown<'_>, want: Shown<'_>) -> bool {
+    insn.form == want.form
+        && insn.operands == want.operands
+        && insn.slices[0] == want.slices[0]
+        && insn.slices[1] == want.slices[1]
+}
+
 // Whether the instruction stands at a unit, and has so many units.
 fn is_read_so(code: &[u8], at: u32, want: &RawInsn<'_>, units: u64) -> bool {
     match read_insn(code, at) {
-        Ok(insn) => insn == *want && size_of(&insn) == units,
+        Ok(insn) => is_shown_so(operands_of(insn), operands_of(*want)) && size_of(&insn) == units,
         Err(_) => false,
     }
 }

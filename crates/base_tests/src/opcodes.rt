@@ -1,9 +1,7 @@
 //! The opcode table against the page "Dalvik bytecode", written out a second time.
 
-use dex_insn::{
-    Format, IndexKind, OPCODES, Opcode, format_of, index_kind_of, mnemonic_of, opcode_named,
-};
-use dex_samples::{is_so, none_wrong};
+use dex_insn::{Format, IndexKind, format_of, index_kind_of, mnemonic_of, opcode_named};
+use dex_samples::none_wrong;
 use std::test::Fail;
 
 // The first opcode, the format and index kind of all, their mnemonics.
@@ -139,21 +137,6 @@ fn first_row_otherwise(runs: &[Run]) -> Option<&'static str> {
 #[test]
 fn all_256_rows_are_those_of_the_page() -> Result<(), Fail> {
     none_wrong(Ok(first_row_otherwise(&RUNS)))
-}
-
-// Whether the table has a row for each opcode, and something in it where the opcode is used.
-fn has_used_opcodes(table: &[Option<Opcode<&str>>]) -> bool {
-    for (op, row) in (0..=255_u8).zip(table) {
-        if row.is_some() != format_of(op).is_some() {
-            return false;
-        }
-    }
-    table.len() == 256
-}
-
-#[test]
-fn the_table_has_the_opcodes_that_have_a_format() -> Result<(), Fail> {
-    is_so(Ok(has_used_opcodes(&OPCODES)))
 }
 
 fn first_opcode(cases: &[&'static str]) -> Option<&'static str> {

@@ -7,7 +7,7 @@ ghost use Rattle.std.specs.Prelude.{◌≡◌};
 ///
 /// The digits are the number of 16-bit units and the greatest number of registers, the letter says what else it holds.
 #[rattlefmt::skip]
-#[derive(Clone, Copy, PartialEq, Eq, Debug)]
+#[derive(Clone, Copy, PartialEq, Eq)]
 pub enum Format {
     F10x, F12x, F11n, F11x, F10t,
     F20t, F22x, F21t, F21s, F21h, F21c, F23x, F22b, F22t, F22s, F22c,
@@ -38,7 +38,7 @@ impl Format {
 }
 
 /// A table of names of the file, in which the index in an instruction or a value is a row.
-#[derive(Clone, Copy, PartialEq, Eq, Debug)]
+#[derive(Clone, Copy, PartialEq, Eq)]
 pub enum IndexKind {
     /// `string_ids`
     String,

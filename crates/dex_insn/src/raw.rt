@@ -8,7 +8,7 @@
 /// `n` registers from `first` on. The slices are bytes of the units: keys and offsets of four bytes, the low byte first,
 /// and the elements of an array of `width` bytes each.
 #[rattlefmt::skip]
-#[derive(Clone, Copy, PartialEq, Eq, Debug)]
+#[derive(Clone, Copy)]
 pub enum RawInsn<'a> {
     I10x { op: u8 },
     I12x { op: u8, a: u8, b: u8 },

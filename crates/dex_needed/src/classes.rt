@@ -154,6 +154,19 @@ pub fn needed_names<'a, 'p: 'a>(
     ensures ok { IfOk result (λ r. r ≡ needed (view.program program.now)) }
     ensures memory { IsOkUnless result memory }
 {
+    gathered(alloc, arena, program)
+}
+
+// The names of each class, gathered and frozen.
+fn gathered<'a, 'p: 'a>(
+    alloc: Global,
+    arena: &'a Bump,
+    program: &Program<'p>,
+) -> Result<Ranks<'a>, Fault>
+    requires { AllByRecursion HasShorty (mentions (view.program program.now)) }
+    ensures ok { IfOk result (λ r. r ≡ needed (view.program program.now)) }
+    ensures memory { IsOkUnless result memory }
+{
     let mut names = Needed::new(alloc);
     for class in program.classes {
         add_class(&mut names, arena, class)?;

@@ -67,19 +67,7 @@ impl<'a> Tables<'a> {
         ensures only { TablesHold sections.now → IfErr result (λ e. e ≡ memory) }
         ensures refused { IfErr result (λ e. e ≢ memory → IsTableFault sections.now e) }
     {
-        let strings = read_strings(alloc, arena, sections)?;
-        let types = read_types(arena, sections, strings)?;
-        let protos = read_protos(arena, sections, strings, types)?;
-        let names = mark_names(alloc, strings)?;
-        let fields = read_fields(arena, sections, strings, &names, types)?;
-        let methods = read_methods(arena, sections, strings, &names, types, protos)?;
-        Ok(Tables {
-            strings,
-            types,
-            protos,
-            fields,
-            methods,
-        })
+        read_tables(alloc, arena, sections)
     }
 
     /// The types of the list at an offset of this file: the empty list for 0, else the list that stands there (a
@@ -149,4 +137,30 @@ impl<'a> Tables<'a> {
             IndexKind::Method => Some(Name::Method(self.method(index)?)),
         }
     }
+}
+
+// The tables, read in their order.
+fn read_tables<'a>(
+    alloc: Global,
+    arena: &'a Bump,
+    sections: &Sections<'_>,
+) -> Result<Tables<'a>, Fault>
+    ensures names { IfOk result (AreNamesOf sections.now) }
+    ensures hold { IfOk result (λ _. TablesHold sections.now) }
+    ensures only { TablesHold sections.now → IfErr result (λ e. e ≡ memory) }
+    ensures refused { IfErr result (λ e. e ≢ memory → IsTableFault sections.now e) }
+{
+    let strings = read_strings(alloc, arena, sections)?;
+    let types = read_types(arena, sections, strings)?;
+    let protos = read_protos(arena, sections, strings, types)?;
+    let names = mark_names(alloc, strings)?;
+    let fields = read_fields(arena, sections, strings, &names, types)?;
+    let methods = read_methods(arena, sections, strings, &names, types, protos)?;
+    Ok(Tables {
+        strings,
+        types,
+        protos,
+        fields,
+        methods,
+    })
 }

@@ -1,0 +1,52 @@
+//! The work that `bench/*/run` time beside plain Rust: `bench NAME WORD ..`, where NAME is `codecs`, `insns`, `needed`, `tables`, `code` or
+//! `listing`, and the words are those of the file of that name. `bench all` does each once, on little; `tables` and `code` read the file
+//! on standard input.
+#![tactic(auto)]
+
+mod code;
+mod codecs;
+mod insns;
+mod listing;
+mod needed;
+mod tables;
+mod words;
+
+use std::alloc::Global;
+use std::io::Read;
+use std::{env, io};
+
+fn main(rt: HostRuntime) -> io::Result<()> {
+    let given: Vec<String> = env::args(&rt)?.collect(rt.alloc())?;
+    let mut words = Vec::new(rt.alloc());
+    for word in given.iter().skip(2) {
+        words.push(word.as_str())?;
+    }
+    let name = match given.get(1) {
+        Some(name) => name.as_str(),
+        None => "",
+    };
+    let mut bytes = Vec::new(rt.alloc());
+    if matches!(name, "all" | "tables" | "code") {
+        rt.stdin().read_to_end(&mut bytes)?;
+    }
+    match name {
+        "codecs" => codecs::run(&rt, &words),
+        "insns" => insns::run(&rt, &words),
+        "needed" => needed::run(&rt, &words),
+        "tables" => tables::run(&rt, &words, &bytes),
+        "code" => code::run(&rt, &words, &bytes),
+        "listing" => listing::run(&rt, &words),
+        "all" => run_all(&rt, &bytes),
+        _ => println!(&rt; "bench codecs|insns|needed|tables|code|listing|all WORD .."),
+    }
+}
+
+/// Does each once, on little.
+fn run_all(rt: &(impl Print + Alloc<A = Global>), bytes: &[u8]) -> io::Result<()> {
+    codecs::run(rt, &["all", "2"])?;
+    insns::run(rt, &["1", "2"])?;
+    needed::run(rt, &["method", "200", "mentions"])?;
+    tables::run(rt, &["1"], bytes)?;
+    code::run(rt, &["1"], bytes)?;
+    listing::run(rt, &["all", "1"])
+}
