@@ -12,12 +12,14 @@ use std::test::Fail;
 // What the instruction is, its units, the instruction.
 type Both = (&'static str, &'static [u8], RawInsn<'static>);
 
-// An instruction as its form, its operands in the order of the page, and the slices that a payload holds.
+// An instruction as its form, its operands in the order of the page, and the slices of a payload: a switch's offsets or an array's
+// elements, and a sparse switch's keys.
 #[derive(Clone, Copy)]
 struct Shown<'a> {
     form: &'static str,
     operands: [i64; 8],
-    slices: [&'a [u8]; 2],
+    bytes: &'a [u8],
+    keys: &'a [u8],
 }
 
 fn plain(form: &'static str, operands: [i64; 4]) -> Shown<'static> {
@@ -25,15 +27,17 @@ fn plain(form: &'static str, operands: [i64; 4]) -> Shown<'static> {
     Shown {
         form,
         operands: [op, first, second, third, 0, 0, 0, 0],
-        slices: [&[], &[]],
+        bytes: &[],
+        keys: &[],
     }
 }
 
-fn payload<'a>(form: &'static str, number: i64, one: &'a [u8], other: &'a [u8]) -> Shown<'a> {
+fn payload<'a>(form: &'static str, number: i64, bytes: &'a [u8], keys: &'a [u8]) -> Shown<'a> {
     Shown {
         form,
         operands: [number, 0, 0, 0, 0, 0, 0, 0],
-        slices: [one, other],
+        bytes,
+        keys,
     }
 }
 
@@ -64,7 +68,8 @@ fn operands_of<'a>(insn: RawInsn<'a>) -> Shown<'a> {
         RawInsn::I35c { op, n, regs, index } => Shown {
             form: "35c",
             operands: [i64::from(op), i64::from(n), i64::from(index), i64::from(regs[0]), i64::from(regs[1]), i64::from(regs[2]), i64::from(regs[3]), i64::from(regs[4])],
-            slices: [&[], &[]],
+            bytes: &[],
+            keys: &[],
         },
         RawInsn::I3rc { op, n, first, index } => plain("3rc", [i64::from(op), i64::from(n), i64::from(first), i64::from(index)]),
         RawInsn::I51l { op, a, b } => plain("51l", [i64::from(op), i64::from(a), b, 0]),
@@ -75,10 +80,11 @@ fn operands_of<'a>(insn: RawInsn<'a>) -> Shown<'a> {
 }
 
 fn is_shown_so(insn: Shown<'_>, want: Shown<'_>) -> bool {
+    let (operands, wanted) = (insn.operands, want.operands);
     insn.form == want.form
-        && insn.operands == want.operands
-        && insn.slices[0] == want.slices[0]
-        && insn.slices[1] == want.slices[1]
+        && operands == wanted
+        && insn.bytes == want.bytes
+        && insn.keys == want.keys
 }
 
 // Whether the instruction stands at a unit, and has so many units.
