@@ -12,8 +12,8 @@ use std::test::Fail;
 // What the instruction is, its units, the instruction.
 type Both = (&'static str, &'static [u8], RawInsn<'static>);
 
-// An instruction as its form, its operands in the order of the page, and the slices of a payload: a switch's offsets or an array's
-// elements, and a sparse switch's keys.
+// An instruction as its form, its operands in the order of the page, and the slices of a payload: a switch's offsets or
+// an array's elements, and a sparse switch's keys.
 #[derive(Clone, Copy)]
 struct Shown<'a> {
     form: &'static str,
@@ -57,9 +57,13 @@ fn operands_of<'a>(insn: RawInsn<'a>) -> Shown<'a> {
         RawInsn::I21c { op, a, index } => plain("21c", [i64::from(op), i64::from(a), i64::from(index), 0]),
         RawInsn::I23x { op, a, b, c } => plain("23x", [i64::from(op), i64::from(a), i64::from(b), i64::from(c)]),
         RawInsn::I22b { op, a, b, c } => plain("22b", [i64::from(op), i64::from(a), i64::from(b), i64::from(c)]),
-        RawInsn::I22t { op, a, b, offset } => plain("22t", [i64::from(op), i64::from(a), i64::from(b), i64::from(offset)]),
+        RawInsn::I22t { op, a, b, offset } => {
+            plain("22t", [i64::from(op), i64::from(a), i64::from(b), i64::from(offset)])
+        }
         RawInsn::I22s { op, a, b, c } => plain("22s", [i64::from(op), i64::from(a), i64::from(b), i64::from(c)]),
-        RawInsn::I22c { op, a, b, index } => plain("22c", [i64::from(op), i64::from(a), i64::from(b), i64::from(index)]),
+        RawInsn::I22c { op, a, b, index } => {
+            plain("22c", [i64::from(op), i64::from(a), i64::from(b), i64::from(index)])
+        }
         RawInsn::I30t { op, offset } => plain("30t", [i64::from(op), i64::from(offset), 0, 0]),
         RawInsn::I32x { op, a, b } => plain("32x", [i64::from(op), i64::from(a), i64::from(b), 0]),
         RawInsn::I31i { op, a, b } => plain("31i", [i64::from(op), i64::from(a), i64::from(b), 0]),
@@ -67,11 +71,16 @@ fn operands_of<'a>(insn: RawInsn<'a>) -> Shown<'a> {
         RawInsn::I31c { op, a, index } => plain("31c", [i64::from(op), i64::from(a), i64::from(index), 0]),
         RawInsn::I35c { op, n, regs, index } => Shown {
             form: "35c",
-            operands: [i64::from(op), i64::from(n), i64::from(index), i64::from(regs[0]), i64::from(regs[1]), i64::from(regs[2]), i64::from(regs[3]), i64::from(regs[4])],
+            operands: [
+                i64::from(op), i64::from(n), i64::from(index), i64::from(regs[0]), i64::from(regs[1]),
+                i64::from(regs[2]), i64::from(regs[3]), i64::from(regs[4]),
+            ],
             bytes: &[],
             keys: &[],
         },
-        RawInsn::I3rc { op, n, first, index } => plain("3rc", [i64::from(op), i64::from(n), i64::from(first), i64::from(index)]),
+        RawInsn::I3rc { op, n, first, index } => {
+            plain("3rc", [i64::from(op), i64::from(n), i64::from(first), i64::from(index)])
+        }
         RawInsn::I51l { op, a, b } => plain("51l", [i64::from(op), i64::from(a), b, 0]),
         RawInsn::Packed { first, offsets } => payload("packed", i64::from(first), offsets, &[]),
         RawInsn::Sparse { keys, offsets } => payload("sparse", 0, offsets, keys),
