@@ -1,5 +1,5 @@
-//! Reads each code item of a file, each of which takes 256 bytes: `code TIMES` does so that many times, and prints the sum of what they
-//! say. bench/code/run times it beside bench/code/plain.rs.
+//! Reads each code item of a file, each of which takes 256 bytes: `code TIMES` does so that many times, and prints the
+//! sum of what they say. bench/code/run times it beside bench/code/plain.rs.
 
 use crate::words::number;
 use bumpalo::Bump;

@@ -1,5 +1,6 @@
-//! Walks generated code: reads each instruction, and goes on by its size. `insns MEGABYTES WALKS` prints the sum over all walks of what the
-//! operands add up to, and the number of instructions. bench/insns/run times it beside bench/insns/plain.rs.
+//! Walks generated code: reads each instruction, and goes on by its size. `insns MEGABYTES WALKS` prints the sum over all
+//! walks of what the operands add up to, and the number of instructions. bench/insns/run times it beside
+//! bench/insns/plain.rs.
 
 ghost use Rattle.std.specs.Prelude.{◌≤◌};
 

@@ -1,5 +1,5 @@
-//! Reads the five tables of a file: `tables TIMES` does so that many times, and prints how many units the names of its strings, fields and
-//! methods have. bench/tables/run times it beside bench/tables/plain.rs.
+//! Reads the five tables of a file: `tables TIMES` does so that many times, and prints how many units the names of its
+//! strings, fields and methods have. bench/tables/run times it beside bench/tables/plain.rs.
 
 use crate::words::number;
 use bumpalo::Bump;
