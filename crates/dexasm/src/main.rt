@@ -7,12 +7,14 @@
 
 ghost use Rattle.std.specs.Prelude.{◌≡◌, false};
 
+mod out;
+
 use clap::Error;
 use clap::error::ErrorKind;
 use dexasm_plan::{Plan, plan, usage_status};
 use dexasm_run::{RunFault, Source, Watched, run, status};
+use out::{finish, write_out};
 use std::fs::File;
-use std::io::Write;
 use std::process::ExitCode;
 use std::{env, io};
 
@@ -56,14 +58,18 @@ fn no_words(rt: &HostRuntime, error: &io::Error) -> u8 {
     2
 }
 
-// Wrong words, or words that ask for help: help goes to standard output, all else to standard error.
+// Wrong words, or words that ask for help or for the version, which go to standard output; all else goes to standard error.
 fn misused(rt: &HostRuntime, error: &Error) -> u8 {
-    if error.kind() == ErrorKind::OutOfMemory {
+    let kind = error.kind();
+    if kind == ErrorKind::OutOfMemory {
         return failed(rt, &RunFault::Memory);
     }
+    let is_answer = kind == ErrorKind::DisplayHelp || kind == ErrorKind::DisplayVersion;
     match error.print(rt) {
-        Ok(()) => usage_status(error),
-        Err(_) => failed(rt, &RunFault::Output),
+        Ok(()) if is_answer => 0,
+        Err(_) if is_answer => failed(rt, &RunFault::Output),
+        // Wrong words stay wrong words where nobody can read what is wrong with them.
+        _ => usage_status(error),
     }
 }
 
@@ -84,7 +90,7 @@ fn carry_out(rt: &HostRuntime, planned: Plan<'_>) -> Result<(), RunFault> {
     }
 }
 
-// With OUT the answer is made in memory, and OUT only when it is whole: so OUT may be FILE, and stays as it is after a failure.
+// With OUT the answer is made in memory, and OUT only when it is whole: so OUT may be FILE, and stays as it was after a failure.
 fn read_from<R: Source>(rt: &HostRuntime, planned: Plan<'_>, input: &mut R) -> Result<(), RunFault>
     requires works { R.failed input.old ≡ false }
     requires goes_on { R.ended input.old ≡ false }
@@ -98,7 +104,7 @@ fn read_from<R: Source>(rt: &HostRuntime, planned: Plan<'_>, input: &mut R) -> R
         Some(path) => {
             let mut output = Watched::new(Vec::new(rt.alloc()));
             in_memory(run(rt.alloc(), planned.job, input, &mut output))?;
-            write_file(rt, path, output.into_inner().as_slice())
+            write_out(rt, path, output.into_inner().as_slice())
         }
     }
 }
@@ -109,20 +115,4 @@ fn in_memory(done: Result<(), RunFault>) -> Result<(), RunFault> {
         Err(RunFault::Output) => Err(RunFault::Memory),
         done => done,
     }
-}
-
-// The file at this path, made or emptied, with these bytes.
-fn write_file(rt: &HostRuntime, path: &str, made: &[u8]) -> Result<(), RunFault> {
-    match File::create(rt, path) {
-        Ok(mut file) => match file.write_all(made) {
-            Ok(()) => finish(file),
-            Err(_) => Err(RunFault::Output),
-        },
-        Err(_) => Err(RunFault::Output),
-    }
-}
-
-// Flushes what may be held back.
-fn finish<W: Write + Drop>(mut output: W) -> Result<(), RunFault> {
-    output.flush().map_err(|_| RunFault::Output)
 }

@@ -10,7 +10,7 @@ use Rattle.clap.specs.declared.parser.matches.SubCommand.{SubCommand}
 use Rattle.std.specs.Prelude.{⊤, find, option_map}
 use Rattle.clap.specs.Simple.{Shape, App, entered, is_simple, label_of, built, names_of, rows_at, argument_words}
 use Rattle.clap.specs.Walk.{answers_to, Text, Row, stop_after}
-use Rattle.clap.specs.Words.{subcommand_of}
+use Rattle.clap.specs.Words.{subcommand_of, is_simple_and_free}
 use Rattle.clap.proofs.OnLiterals.{clap_on_literals}
 use Rattle.dexasm_plan.specs.Commands.{dexasm}
 use Rattle.dexasm_plan.specs.Plans.{job_named}
@@ -18,6 +18,10 @@ use Rattle.dexasm_plan.specs.Plans.{job_named}
 pub is_simple_command : is_simple dexasm ≡ true
 unfolding dexasm clap_on_literals
 is_simple_command = refl
+
+pub is_free_command : is_simple_and_free dexasm ≡ true
+unfolding dexasm clap_on_literals
+is_free_command = refl
 
 pub asks_subcommand : dexasm.top.subcommand_required ≡ true
 unfolding dexasm

@@ -21,6 +21,8 @@ pub(crate) fn command<'w>(alloc: Global) -> Result<Command<'w>, AllocError>
     )?;
     let strip = job_command(alloc, "strip", texts::STRIP, texts::STRIP_MORE)?;
     Command::new(alloc, "dexasm")
+        .version(texts::VERSION)
+        .before_help(texts::HEAD)
         .about(texts::TOOL)
         .after_help(texts::TOOL_MORE)
         .subcommand_required(true)

@@ -2,7 +2,7 @@
 ghost use Rattle.std.specs.Prelude.{◌≡◌, ◌≢◌, IfOk, IfErr, codes, false, true};
 ghost use Rattle.std.specs.Option.{option_map_or};
 ghost use Rattle.std.specs.Str.{bytes_eq};
-ghost use Rattle.clap.specs.Words.{first_value, found_of, has_subcommand, kind_of, subcommand_of, subcommand_rows_of, takes};
+ghost use Rattle.clap.specs.Words.{FailsBy, fault_of, first_value, found_of, has_subcommand, kind_of, subcommand_of, subcommand_rows_of, takes};
 ghost use Rattle.dexasm_plan.specs.Commands.{dexasm};
 ghost use Rattle.dexasm_plan.specs.Plans.{Plans, job_named, texts_of};
 
@@ -18,6 +18,7 @@ pub fn plan<'w>(alloc: Global, words: &'w [&'w str]) -> Result<Plan<'w>, Error>
     ensures ok { IfOk result (Plans (subcommand_of dexasm (texts_of words.entry.now))) }
     ensures passes { IfErr result (λ e.
         takes dexasm (texts_of words.entry.now) ≡ true → kind_of e ≡ ErrorKind.OutOfMemory) }
+    ensures kinds { FailsBy (fault_of dexasm (texts_of words.entry.now)) result }
 {
     let matches = match parse(alloc, words) {
         Ok(matches) => matches,
@@ -42,6 +43,7 @@ fn parse<'w>(alloc: Global, words: &'w [&'w str]) -> Result<ArgMatches<'w>, Erro
     ensures rows { IfOk result (λ m. subcommand_rows_of m ≡ subcommand_of dexasm (texts_of words.entry.now)) }
     ensures passes { IfErr result (λ e.
         takes dexasm (texts_of words.entry.now) ≡ true → kind_of e ≡ ErrorKind.OutOfMemory) }
+    ensures kinds { FailsBy (fault_of dexasm (texts_of words.entry.now)) result }
 {
     command(alloc)?.try_get_matches_from(words)
 }

@@ -1,5 +1,11 @@
 // The words of the help. The manual page docs/man/dexasm.1 is made of them too, by tools/man.
 
+/// The version of the tool, its crates and its manual pages; CHANGELOG.md has a section for it.
+pub(crate) const VERSION: &str = "0.3.0";
+
+/// What the help begins with: what `--version` prints.
+pub(crate) const HEAD: &str = "dexasm 0.3.0";
+
 /// The tool: what it does.
 pub(crate) const TOOL: &str =
     "Checks, lists, assembles and strips .dex files (Dalvik Executable, version 035)";
@@ -9,7 +15,7 @@ pub(crate) const TOOL_MORE: &str = "\
 A .dex file holds the classes of an Android program. Only version 035 is read and written.
 Without FILE standard input is read, without --output the answer goes to standard output.
 
-Exit status: 0 done, 1 the file or the listing is refused, 2 wrong words,
+Exit status: 0 done, 1 the file or the listing is refused, 2 a bad command line,
 3 reading or writing failed, 4 out of memory.
 
 Example: dexasm check classes.dex";

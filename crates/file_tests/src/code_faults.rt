@@ -75,7 +75,7 @@ fn first_otherwise(alloc: Global, cases: &[Case]) -> Result<Option<&'static str>
     Ok(None)
 }
 
-static CASES: [Case; 46] = [
+static CASES: [Case; 50] = [
     ("no units", 0, &[], &[], (61, 0)),
     (
         "an opcode that is unused",
@@ -373,6 +373,39 @@ static CASES: [Case; 46] = [
         &[0x0e, 0, 0x0e, 0],
         &[0, 0, 0, 0, 1, 0, 1],
         (60, 0),
+    ),
+    (
+        "try_items that are cut go before an opcode that is unused",
+        1,
+        &[0x3e, 0, 0x0e, 0],
+        &[0, 0, 0, 0, 1, 0, 1],
+        (60, 0),
+    ),
+    (
+        "no units go before a try that covers what isn't there",
+        1,
+        &[],
+        &[0, 0, 0, 0, 1, 0, 1, 0, 1, 0, 0],
+        (61, 0),
+    ),
+    (
+        "the use of a payload goes before where it leads",
+        0,
+        &[
+            0x2b, 0, 6, 0, 0, 0, 0x2b, 0, 0xff, 0xff, 0xff, 0xff, 0, 1, 1, 0, 0, 0, 0, 0, 1, 0, 0,
+            0,
+        ],
+        &[],
+        (70, 22),
+    ),
+    (
+        "where a switch leads goes before tries",
+        1,
+        &[
+            0x2b, 0, 4, 0, 0, 0, 0, 0, 0, 1, 1, 0, 0, 0, 0, 0, 1, 0, 0, 0,
+        ],
+        &[1, 0, 0, 0, 1, 0, 1, 0, 1, 0, 0],
+        (68, 24),
     ),
 ];
 

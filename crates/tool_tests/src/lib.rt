@@ -14,6 +14,8 @@ mod plans;
 
 // dexasm_run
 #[cfg(test)]
+mod ends;
+#[cfg(test)]
 mod jobs;
 #[cfg(test)]
 mod runs;

@@ -6,13 +6,13 @@ use Rattle.dexasm_plan.specs.Commands.{align_rule, dexasm, job_app, top_app}
 use Rattle.dexasm_plan.proofs.command.command.Goals as goal
 
 abbrev as_top : App → App
-as_top a = record a { top = record a.top { subcommand_required = true; disable_help_subcommand = true } }
+as_top a = record a { top = record a.top { subcommand_required = true; disable_help_subcommand = true; has_version = true } }
 
 pub returns : goal.returns
 unfolding dexasm
 returns c =
     let top : app_of c.disable_help_subcommand.result ≡ top_app =
-    rw (c.disable_help_subcommand.ensures, c.subcommand_required.ensures, c.after_help.ensures, c.about.ensures) (ap as_top c.new.ensures.app) in
+    rw (c.disable_help_subcommand.ensures, c.subcommand_required.ensures, c.after_help.ensures, c.about.ensures, c.before_help.ensures, c.version.ensures) (ap as_top c.new.ensures.app) in
     let check : app_of c.in_ok-check.check ≡ job_app (codes "check") = c.in_ok-check.ensures.shape in
     let list : app_of c.in_ok-list.list ≡ job_app (codes "list") = c.in_ok-list.ensures.shape in
     let plain : app_of c.in_ok-job_command.field-0 ≡ job_app (codes "assemble") = c.in_ok-job_command.ensures.shape in
@@ -25,7 +25,7 @@ returns c =
     let two = c.in_ok-subcommand-2.ensures.shape c.in_ok-list.ensures.local ∙ ap₂ with_subcommand one (ap (λ (a : App). a.top) list) in
     let three = c.in_ok-subcommand-3.ensures.shape local ∙ ap₂ with_subcommand two (ap (λ (a : App). a.top) assemble) in
     let top_local : (out-Command c.disable_help_subcommand.result).has_globals ≡ false =
-    rw (c.disable_help_subcommand.ensures, c.subcommand_required.ensures, c.after_help.ensures, c.about.ensures) c.new.ensures.local in
+    rw (c.disable_help_subcommand.ensures, c.subcommand_required.ensures, c.after_help.ensures, c.about.ensures, c.before_help.ensures, c.version.ensures) c.new.ensures.local in
     let local_1 = c.in_ok-subcommand.ensures.globals ∙ ap₂ (λ x y. x || y) top_local c.in_ok-check.ensures.local in
     let local_2 = c.in_ok-subcommand-2.ensures.globals ∙ ap₂ (λ x y. x || y) local_1 c.in_ok-list.ensures.local in
     let local_3 : (out-Command c.in_ok-subcommand-3.field-0).has_globals ≡ false =

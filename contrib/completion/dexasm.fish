@@ -1,0 +1,12 @@
+# Completion of dexasm for fish, written by tools/man: put it into ~/.config/fish/completions.
+complete -c dexasm -n __fish_use_subcommand -f -a check -d 'Says whether a .dex file keeps every rule of its format'
+complete -c dexasm -n __fish_use_subcommand -f -a list -d 'Prints the program of a .dex file as a listing'
+complete -c dexasm -n __fish_use_subcommand -f -a assemble -d 'Makes the .dex file of a listing'
+complete -c dexasm -n __fish_use_subcommand -f -a strip -d 'Writes a .dex file anew, with nothing to spare'
+complete -c dexasm -n __fish_use_subcommand -f -s V -l version -d 'Print version'
+complete -c dexasm -s h -l help -d 'Print help'
+complete -c dexasm -n '__fish_seen_subcommand_from check' -r -F -l output -d 'The file to write, in place of standard output: made or emptied only when the answer is whole'
+complete -c dexasm -n '__fish_seen_subcommand_from list' -r -F -l output -d 'The file to write, in place of standard output: made or emptied only when the answer is whole'
+complete -c dexasm -n '__fish_seen_subcommand_from assemble' -r -F -l output -d 'The file to write, in place of standard output: made or emptied only when the answer is whole'
+complete -c dexasm -n '__fish_seen_subcommand_from assemble' -f -l align -d 'Put a nop before each payload at an odd address'
+complete -c dexasm -n '__fish_seen_subcommand_from strip' -r -F -l output -d 'The file to write, in place of standard output: made or emptied only when the answer is whole'
