@@ -1,9 +1,8 @@
 //! An instruction of each format, and each payload, from its units and back, by the layouts of the pages "Dalvik Executable
 //! instruction formats" and "Dalvik bytecode".
 
-ghost use Rattle.dex_bytes.specs.Fields.{AreBytes};
-
 use dex_base::Fault;
+use dex_bytes::are_bytes;
 use dex_insn::{RawInsn, put_insn, read_insn, size_of, what_stands_can_be_written};
 use dex_samples::{is_so, none_wrong};
 use std::alloc::Global;
@@ -111,15 +110,6 @@ fn first_read_otherwise(cases: &[Both]) -> Option<&'static str> {
         }
     }
     None
-}
-
-// Each number of a slice of bytes is a byte.
-fn are_bytes(bytes: &[u8])
-    ensures { AreBytes bytes.now }
-{
-    for byte in bytes {
-        let _value = *byte;
-    }
 }
 
 // Whether the instruction that stands at the front of the units is written in these units, behind what was there.

@@ -10,11 +10,12 @@ use Rattle.dex_code_rules.specs.CodeRules.{OperandsHold, TargetsHold, PayloadsHo
 use Rattle.dex_program.specs.Content.{Descriptor, Code, Method, Class, Program}
 use Rattle.dex_program.specs.Depth.{depth}
 use Rattle.dex_program.specs.Formed.{IsFormed}
-use Rattle.dex_rules.specs.Ranges.{NameInRange, ValueInRange, MemberInRange, CodeInRange, DefinedInRange, ClassInRange, WellFormed}
+use Rattle.dex_ranges.specs.Ranges.{NameInRange, ValueInRange, MemberInRange, CodeInRange, DefinedInRange, ClassInRange}
+use Rattle.dex_rules.specs.WellFormed.{WellFormed}
 use Rattle.dex_rules.specs.Rules.{NamesAreValid, KeysRise, MembersRise, AreDistinct, OrderHolds, ValuesFit, CodesHold, ClassHolds, member_key, method_key}
 use Rattle.dex_rules.specs.Valid.{IsValidName}
 use Rattle.dex_rules.proofs.FormedLaws.{class_formed}
-use Rattle.dex_rules.proofs.WalkLaws.{all-turned}
+use Rattle.dex_ranges.proofs.AllLaws.{all-turned}
 
 -- ---- bodies that keep the rules are well formed, and the other way round
 

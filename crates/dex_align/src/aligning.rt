@@ -8,7 +8,7 @@ ghost use Rattle.dex_code_align.specs.Aligning.{too_many};
 ghost use Rattle.dex_program.specs.Content as content;
 ghost use Rattle.dex_program.specs.Formed.{IsFormed};
 ghost use Rattle.dex_program.specs.View as view;
-ghost use Rattle.dex_rules.specs.Ranges.{WellFormed};
+ghost use Rattle.dex_rules.specs.WellFormed.{WellFormed};
 ghost use Rattle.dex_rules.specs.Rules.{CodesHold};
 
 use bumpalo::Bump;

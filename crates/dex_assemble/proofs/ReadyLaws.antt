@@ -16,7 +16,8 @@ use Rattle.dex_needed.proofs.ClassNames.{directs_kept, virtuals_kept}
 use Rattle.dex_program.specs.Content.{Class, Code, Descriptor, Method, Program}
 use Rattle.dex_program.specs.Formed.{IsFormed}
 use Rattle.dex_program.specs.Mentions.{if_any, names_of_code, names_of_method}
-use Rattle.dex_rules.specs.Ranges.{ClassInRange, WellFormed}
+use Rattle.dex_ranges.specs.Ranges.{ClassInRange}
+use Rattle.dex_rules.specs.WellFormed.{WellFormed}
 use Rattle.dex_rules.proofs.FormedLaws.{class_formed}
 use Rattle.dex_sections.specs.Named.{BodyCanBePut, FewNames, HasName}
 use Rattle.dex_assemble.proofs.FitsLaws.{Room, back_small, class_small, few_of, front_small}

@@ -8,7 +8,7 @@ ghost use Rattle.dex_limits.specs.Limits.{Fits, IsLowestLimit};
 ghost use Rattle.dex_limits.specs.Wide.{wide_rows};
 ghost use Rattle.dex_names.specs.Needed.{needed};
 ghost use Rattle.dex_program.specs.View as view;
-ghost use Rattle.dex_rules.specs.Ranges.{WellFormed};
+ghost use Rattle.dex_rules.specs.WellFormed.{WellFormed};
 ghost use Rattle.dex_assemble.specs.Assembled.{Assembled, DataIsLaid, SpellsTables, rows_of};
 ghost use Rattle.dex_assemble.specs.Making.{places_of};
 

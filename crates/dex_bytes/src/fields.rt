@@ -1,8 +1,13 @@
 // Numbers at a place in bytes, the low byte first, as all fixed numbers of a .dex file.
 ghost use Rattle.std.specs.Prelude.{◌≡◌, ◌+◌, ◌≤◌, ◌++◌, length, take, drop};
-ghost use Rattle.dex_bytes.specs.Fields.{u16_at, u32_at, u32_bytes};
+ghost use Rattle.dex_bytes.specs.Fields.{AreBytes, u16_at, u32_at, u32_bytes};
 
 use byteorder::{ByteOrder, LittleEndian};
+
+/// What the type of a slice of bytes says of its items, for proofs: each is below 256. Does nothing.
+pub fn are_bytes(bytes: &[u8])
+    ensures { AreBytes bytes.now }
+{}
 
 /// The number of the two bytes at a place, a byte offset.
 #[tactic(auto, unfolding(crate::specs::Fields::u16_at))]

@@ -27,7 +27,7 @@ mod laws;
 pub use adler::adler32;
 pub use fault::Fault;
 pub use fault_names::fault_name;
-pub use fields::{put_u32_at, u16_at, u32_at};
+pub use fields::{are_bytes, put_u32_at, u16_at, u32_at};
 pub use laws::{
     counted_list_is_prefix_unique, number_at_the_front_is_one, numbers_are_decided,
     pair_is_prefix_unique, places_of_numbers_are_decided, shortest_spelling_is_one,

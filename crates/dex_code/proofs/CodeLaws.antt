@@ -31,6 +31,6 @@ front_of N b framed off end bytes r c a =
 pub broken_none : (N : ℕ → Name → Type 0) (b : List ℕ) → IsFramed b → (off : ℕ) (e : Fault) (c : Code) → CodeBreaks N b off e → CodeStands N b off c → ⊥
 broken_none N b framed off e c (inl misaligned) a = misaligned.0 a.aligned
 broken_none N b framed off e c (inr (inl outside)) a = outside_none N b off c outside.0 a
-broken_none N b framed off e c (inr (inr (end, bytes, r, item))) a =
+broken_none N b framed off e c (inr (inr (even, end, bytes, r, item))) a =
     let t = front_of N b framed off end bytes r c a in
     item-clear N off bytes t.0 c e (read-from_takes N bytes t.0 c t.1) item

@@ -66,6 +66,6 @@ module _ (N : ℕ → Name → Type 0) (b rest : List ℕ) (s : Section) (off : 
       let t = at_takes c a in
       item-clear N off rest t.0 c fault (read-from_takes N rest t.0 c t.1) u
 
-  pub broken : (fault : Fault) → s.begin ≤ off → off < s.end → ItemBreaks N off rest fault → CodeBreaks N b off fault
-  broken fault low high u =
-      inr (inr (s.end, rest, record { begin = s.begin; section = is.some (omega (arith, low, high)); behind = low; before = high; same = same }, u))
+  pub broken : (fault : Fault) → s.begin ≤ off → off < s.end → off % 4 ≡ 0 → ItemBreaks N off rest fault → CodeBreaks N b off fault
+  broken fault low high even u =
+      inr (inr (even, s.end, rest, record { begin = s.begin; section = is.some (omega (arith, low, high)); behind = low; before = high; same = same }, u))

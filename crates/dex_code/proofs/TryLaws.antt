@@ -86,13 +86,14 @@ some-tries N ss size (suc n) items rest offsets hs ts nz hold l t = record {
   };
 }
 
-pub no-list : (N : ℕ → Name → Type 0) (ss : List ℕ) (size n : ℕ) (items rest : List ℕ) (base : ℕ) (fault : Fault) → n ≢ 0 → fault ≡ list_fault (base + 8 * n) → NoneBegins (SpellsList N ss) rest → TriesBreak N ss size n items rest base fault
-no-list N ss size n items rest base fault nz e none = inr (omega arith, (λ h. none h.list h.behind h.handlers h.joined h.spelled), e)
+pub no-list : (N : ℕ → Name → Type 0) (ss : List ℕ) (size n : ℕ) (items rest : List ℕ) (base : ℕ) (fault : Fault) → n ≢ 0 → AllHold (TryHolds ss size items) n → fault ≡ list_fault (base + 8 * n) → NoneBegins (SpellsList N ss) rest → TriesBreak N ss size n items rest base fault
+no-list N ss size n items rest base fault nz hold e none = inr (omega arith, hold, (λ h. none h.list h.behind h.handlers h.joined h.spelled), e)
 
-pub no-handler : (N : ℕ → Name → Type 0) (ss : List ℕ) (size n : ℕ) (items rest offsets : List ℕ) (hs : List Handler) (base : ℕ) (fault : Fault) → IsFunctional N → n ≢ 0 → fault ≡ list_fault (base + 8 * n)
+pub no-handler : (N : ℕ → Name → Type 0) (ss : List ℕ) (size n : ℕ) (items rest offsets : List ℕ) (hs : List Handler) (base : ℕ) (fault : Fault) → IsFunctional N → n ≢ 0 → AllHold (TryHolds ss size items) n → fault ≡ list_fault (base + 8 * n)
     → ReadList N ss rest offsets hs → NoHandler items offsets n → TriesBreak N ss size n items rest base fault
-no-handler N ss size n items rest offsets hs base fault f nz e l none = inr (
+no-handler N ss size n items rest offsets hs base fault f nz hold e l none = inr (
   omega arith,
+  hold,
   (λ h.
       let same = (SpellsList-unique N ss f l.list h.list l.behind h.behind l.placed h.handlers l.spelled h.spelled (sym l.joined ∙ h.joined)).1 in
       let one = h.each none.0 none.1 in

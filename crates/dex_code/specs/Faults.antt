@@ -6,9 +6,9 @@ use Rattle.dex_container.specs.Frame.{IsSection}
 use Rattle.dex_insn.specs.Raw.{Raw}
 use Rattle.dex_program.specs.Content.{Name}
 use Rattle.dex_container.specs.Where.{IsInSection}
-use Rattle.dex_code_insns.specs.Places.{IsFirst}
+use Rattle.dex_code_insns.specs.Places.{IsFirst, AllHold}
 use Rattle.dex_code_insns.specs.Walk.{Walks, starts}
-use Rattle.dex_code_insns.specs.InsnFaults.{InsnsBreak}
+use Rattle.dex_code_insns.specs.InsnFaults.{RulesHold, InsnsBreak}
 use Rattle.dex_code.specs.Item.{size_of, tries_of, units_of, items_of, tries_begin, list_begin, try_handler, IsWhole}
 use Rattle.dex_code.specs.Handlers.{Handler, SpellsList, handler_at}
 use Rattle.dex_code.specs.Tries.{TryHolds}
@@ -28,22 +28,23 @@ pub record HasHandlers (N : ℕ → Name → Type 0) (ss : List ℕ) (n : ℕ) (
 abbrev pub list_fault : ℕ → Fault
 list_fault place = record { code = 72; place = place }
 
--- What is wrong with tries and handlers: the first try_item that breaks the rules (71), or the list (72).
+-- What is wrong with tries and handlers: the first try_item that breaks the rules (71), or, where none does, the list (72).
 abbrev pub TriesBreak : (ℕ → Name → Type 0) → List ℕ → ℕ → ℕ → List ℕ → List ℕ → ℕ → Fault → Type 0
 TriesBreak N ss size n items rest base fault =
     ((i : ℕ) × IsFirst (TryHolds ss size items) (TryHolds ss size items) n i × (fault ≡ record { code = 71; place = base + 8 * i }))
-    ⊎ ((0 < n) × (¬ HasHandlers N ss n items rest) × (fault ≡ list_fault (base + 8 * n)))
+    ⊎ ((0 < n) × AllHold (TryHolds ss size items) n × (¬ HasHandlers N ss n items rest) × (fault ≡ list_fault (base + 8 * n)))
 
 -- ---- the item
 
 -- What is wrong with the item at `off` whose section has these bytes from it on: header, units, padding or try_items go past the
--- section (60), it has no units (61), its instructions or its tries are wrong.
+-- section (60), it has no units (61), its instructions are wrong, or its tries are. Each is asked only of an item with nothing of
+-- what stands before it here.
 abbrev pub ItemBreaks : (ℕ → Name → Type 0) → ℕ → List ℕ → Fault → Type 0
 ItemBreaks N off bytes fault =
     ((¬ IsWhole bytes) × (fault ≡ record { code = 60; place = off }))
     ⊎ (IsWhole bytes × (size_of bytes ≡ 0) × (fault ≡ record { code = 61; place = off }))
-    ⊎ InsnsBreak N (units_of bytes) (off + 16) fault
-    ⊎ ((raws : List Raw) × Walks (units_of bytes) raws
+    ⊎ (IsWhole bytes × (0 < size_of bytes) × InsnsBreak N (units_of bytes) (off + 16) fault)
+    ⊎ (IsWhole bytes × (0 < size_of bytes) × (raws : List Raw) × Walks (units_of bytes) raws × RulesHold N raws
     × TriesBreak N (starts raws) (size_of bytes) (tries_of bytes) (items_of bytes) (drop (list_begin bytes) bytes) (off + tries_begin bytes) fault)
 
 -- ---- the file
@@ -56,9 +57,9 @@ pub record IsRest (b : List ℕ) (off end : ℕ) (bytes : List ℕ) : Type 0 whe
   pub before : off < end
   pub same : bytes ≡ take (end - off) (drop off b)
 
--- The place is misaligned or lies outside the section of code items (60), or what is there is wrong.
+-- The place is misaligned or lies outside the section of code items (60), or it is neither and what is there is wrong.
 abbrev pub CodeBreaks : (ℕ → Name → Type 0) → List ℕ → ℕ → Fault → Type 0
 CodeBreaks N b off fault =
     ((¬ (off % 4 ≡ 0)) × (fault ≡ record { code = 60; place = off }))
     ⊎ ((¬ IsInSection b 0x2001 off) × (fault ≡ record { code = 60; place = off }))
-    ⊎ ((end : ℕ) × (bytes : List ℕ) × IsRest b off end bytes × ItemBreaks N off bytes fault)
+    ⊎ ((off % 4 ≡ 0) × (end : ℕ) × (bytes : List ℕ) × IsRest b off end bytes × ItemBreaks N off bytes fault)

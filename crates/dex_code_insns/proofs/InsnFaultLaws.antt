@@ -1,5 +1,5 @@
 -- Where units spell instructions, no rule is broken.
-use Rattle.std.proofs.Common.{◌≡◌, ℕ, ◌*◌, ◌/◌, ◌<◌, List, length, ap, sym, subst, arith, inl, inr}
+use Rattle.std.proofs.Common.{◌≡◌, ℕ, ◌*◌, ◌/◌, List, length, subst, inl, inr}
 use Rattle.dex_bytes.specs.declared.fault.Fault.{Fault}
 use Rattle.dex_insn.specs.Raw as raw
 use Rattle.dex_insn.specs.Raw.{Raw}
@@ -8,7 +8,7 @@ use Rattle.dex_code_insns.specs.Walk.{Walks, raw_at}
 use Rattle.dex_code_insns.specs.Symbols.{Names, HasName}
 use Rattle.dex_code_insns.specs.Payloads.{UseHolds}
 use Rattle.dex_code_insns.specs.Insns.{SpellsInsns, NameHolds, BranchLands, BranchMoves, BranchHolds, TargetsHold}
-use Rattle.dex_code_insns.specs.InsnFaults.{BreaksAt, InsnsBreak}
+use Rattle.dex_code_insns.specs.InsnFaults.{BreaksIn, AllKeep, RulesHold, RulesBreak, InsnsBreak}
 use Rattle.dex_code_insns.proofs.Runs.{no-walk-fault}
 use Rattle.dex_code_insns.proofs.InsnsOnce.{walks-one}
 
@@ -20,18 +20,23 @@ has-name N (raw.I35c op m regs n) w h = (w, h)
 has-name N (raw.I3rc op m first n) w h = (w, h)
 has-name N _ w h = tt
 
+-- where instructions are spelled, all of them keep the rules
+pub rules-hold : (N : ℕ → Name → Type 0) (us : List ℕ) (rs : List Raw) (is : List Insn) → SpellsInsns N us rs is → RulesHold N rs
+rules-hold N us rs is s = record { names = λ k l. has-name N (raw_at rs k) _ (s.each k l).says.named; branches = s.branches; uses = s.uses; targets = s.targets }
+
 -- a rule that all keep is broken nowhere
-none-breaks : (us : List ℕ) (base number : ℕ) (P Q : List Raw → ℕ → Type 0) (fault : Fault) (rs : List Raw) → Walks us rs → ((k : ℕ) → k < length rs → Q rs k) → BreaksAt us base number P Q fault → ⊥
-none-breaks us base number P Q fault rs w all b =
-    let e = walks-one us b.raws rs b.walk w in
-    let l = ap length e in
-    let i = b.breaks.breaks.inside in
-    b.breaks.breaks.broken (subst (λ (z : List Raw). Q z b.breaks.first) (sym e) (all b.breaks.first (omega arith)))
+none-breaks : (rs : List Raw) (base number : ℕ) (P Q : List Raw → ℕ → Type 0) (fault : Fault) → AllKeep Q rs → BreaksIn rs base number P Q fault → ⊥
+none-breaks rs base number P Q fault all b = b.breaks.broken (all b.first b.breaks.inside)
+
+rules-clear : (N : ℕ → Name → Type 0) (rs : List Raw) (base : ℕ) (fault : Fault) → RulesHold N rs → RulesBreak N rs base fault → ⊥
+rules-clear N rs base fault h (inl b) = none-breaks rs base 65 (NameHolds N) (NameHolds N) fault h.names b
+rules-clear N rs base fault h (inr (inl b)) = none-breaks rs base 68 BranchHolds BranchLands fault (λ k l. (h.branches k l).lands) b.1
+rules-clear N rs base fault h (inr (inr (inl b))) = none-breaks rs base 69 BranchHolds BranchMoves fault (λ k l. (h.branches k l).moves) b.1
+rules-clear N rs base fault h (inr (inr (inr (inl b)))) = none-breaks rs base 70 UseHolds UseHolds fault h.uses b.2
+rules-clear N rs base fault h (inr (inr (inr (inr b)))) = none-breaks rs base 68 TargetsHold TargetsHold fault h.targets b.3
 
 pub insns-clear : (N : ℕ → Name → Type 0) (us : List ℕ) (rs : List Raw) (is : List Insn) (base : ℕ) (fault : Fault) → length us ≡ 2 * (length us / 2) → SpellsInsns N us rs is → InsnsBreak N us base fault → ⊥
 insns-clear N us rs is base fault even s (inl f) = no-walk-fault us rs base fault even s.walk f
-insns-clear N us rs is base fault even s (inr (inl b)) = none-breaks us base 65 (NameHolds N) (NameHolds N) fault rs s.walk (λ k l. has-name N (raw_at rs k) _ (s.each k l).says.named) b
-insns-clear N us rs is base fault even s (inr (inr (inl b))) = none-breaks us base 68 BranchHolds BranchLands fault rs s.walk (λ k l. (s.branches k l).lands) b
-insns-clear N us rs is base fault even s (inr (inr (inr (inl b)))) = none-breaks us base 69 BranchHolds BranchMoves fault rs s.walk (λ k l. (s.branches k l).moves) b
-insns-clear N us rs is base fault even s (inr (inr (inr (inr (inl b))))) = none-breaks us base 70 UseHolds UseHolds fault rs s.walk s.uses b
-insns-clear N us rs is base fault even s (inr (inr (inr (inr (inr b))))) = none-breaks us base 68 TargetsHold TargetsHold fault rs s.walk s.targets b
+insns-clear N us rs is base fault even s (inr b) =
+    let e = walks-one us rs b.0 s.walk b.1 in
+    rules-clear N b.0 base fault (subst (λ (z : List Raw). RulesHold N z) e (rules-hold N us rs is s)) b.2

@@ -25,6 +25,10 @@ breaks-in xs begins base number k at P Q fault t l bad before e f = record {
   is = f ∙ ap (λ (a : ℕ). record { code = number; place = base + 2 * a }) (e ∙ ap (λ (bs : List ℕ). get_or bs k 0) t.is);
 }
 
+-- of raw instructions in memory there are as many as of those that they are
+pub all-raw : (P : ℕ → Type 0) (xs : List RawInsn) → AllHold P (length xs) → AllHold P (length (map raw xs))
+all-raw P xs all = subst (λ (n : ℕ). AllHold P n) (sym (length-map xs raw)) all
+
 pub lands-inside : (begins : List ℕ) (xs : List RawInsn) (at n : ℕ) (z : ℤ) → IsTable begins (map raw xs) → Some n ≡ place begins at z → n < length xs
 lands-inside begins xs at n z t e = let p = (place-there begins at z n (sym e)).0 in let c = t.count in omega (arith, length-map xs raw)
 

@@ -4,7 +4,7 @@ use Rattle.std.specs.Prelude.{ℕ, ◌≡◌, ◌+◌, ◌*◌, ◌⊎◌, List,
 use Rattle.dex_bytes.specs.declared.fault.Fault.{Fault}
 use Rattle.dex_insn.specs.Raw.{Raw}
 use Rattle.dex_program.specs.Content.{Name}
-use Rattle.dex_code_insns.specs.Places.{IsFirst}
+use Rattle.dex_code_insns.specs.Places.{IsFirst, AllHold}
 use Rattle.dex_code_insns.specs.Walk.{Walks, IsWalkFault, address}
 use Rattle.dex_code_insns.specs.Payloads.{UseHolds}
 use Rattle.dex_code_insns.specs.Insns.{BranchLands, BranchMoves, BranchHolds, TargetsHold, NameHolds}
@@ -15,19 +15,27 @@ pub record BreaksIn (rs : List Raw) (base number : ℕ) (P Q : List Raw → ℕ 
   pub breaks : IsFirst (P rs) (Q rs) (length rs) first
   pub is : fault ≡ record { code = number; place = base + 2 * address rs first }
 
--- The same of the instructions that the units are.
-pub record BreaksAt (us : List ℕ) (base number : ℕ) (P Q : List Raw → ℕ → Type 0) (fault : Fault) : Type 0 where
-  pub raws : List Raw
-  pub walk : Walks us raws
-  pub breaks : BreaksIn raws base number P Q fault
+-- all instructions keep the rule
+abbrev pub AllKeep : (List Raw → ℕ → Type 0) → List Raw → Type 0
+AllKeep P rs = AllHold (P rs) (length rs)
 
--- What is wrong with the units: an instruction itself (62, 63, 64, 66, 67), an index (65), where a branch leads (68) or that it
--- leads nowhere else (69), the use of payloads (70), where a switch's payload leads (68).
+-- The instructions keep the rules of indices, branches, payloads and switches.
+pub record RulesHold (N : ℕ → Name → Type 0) (rs : List Raw) : Type 0 where
+  pub names : AllKeep (NameHolds N) rs
+  pub branches : AllKeep BranchHolds rs
+  pub uses : AllKeep UseHolds rs
+  pub targets : AllKeep TargetsHold rs
+
+-- The first of these rules that an instruction breaks, where all of them keep the rules before it: an index (65), where a branch
+-- leads (68) or that it leads nowhere else (69), the use of payloads (70), where a switch's payload leads (68).
+abbrev pub RulesBreak : (ℕ → Name → Type 0) → List Raw → ℕ → Fault → Type 0
+RulesBreak N rs base fault =
+    BreaksIn rs base 65 (NameHolds N) (NameHolds N) fault
+    ⊎ (AllKeep (NameHolds N) rs × BreaksIn rs base 68 BranchHolds BranchLands fault)
+    ⊎ (AllKeep (NameHolds N) rs × BreaksIn rs base 69 BranchHolds BranchMoves fault)
+    ⊎ (AllKeep (NameHolds N) rs × AllKeep BranchHolds rs × BreaksIn rs base 70 UseHolds UseHolds fault)
+    ⊎ (AllKeep (NameHolds N) rs × AllKeep BranchHolds rs × AllKeep UseHolds rs × BreaksIn rs base 68 TargetsHold TargetsHold fault)
+
+-- What is wrong with the units: behind some instructions stands none (62, 63, 64, 66, 67), or those that they are break a rule.
 abbrev pub InsnsBreak : (ℕ → Name → Type 0) → List ℕ → ℕ → Fault → Type 0
-InsnsBreak N us base fault =
-    IsWalkFault us base fault
-    ⊎ BreaksAt us base 65 (NameHolds N) (NameHolds N) fault
-    ⊎ BreaksAt us base 68 BranchHolds BranchLands fault
-    ⊎ BreaksAt us base 69 BranchHolds BranchMoves fault
-    ⊎ BreaksAt us base 70 UseHolds UseHolds fault
-    ⊎ BreaksAt us base 68 TargetsHold TargetsHold fault
+InsnsBreak N us base fault = IsWalkFault us base fault ⊎ ((rs : List Raw) × Walks us rs × RulesBreak N rs base fault)

@@ -9,7 +9,7 @@ ghost use Rattle.dex_code_insns.specs.Walk.{IsTable, raw_at};
 ghost use Rattle.dex_code_insns.specs.Places.{AllHold};
 ghost use Rattle.dex_code_insns.specs.Payloads.{AreUsers, UseHolds};
 ghost use Rattle.dex_code_insns.specs.Insns.{BranchHolds, TargetsHold, NameHolds, SpellsInsn, IsBase};
-ghost use Rattle.dex_code_insns.specs.InsnFaults.{InsnsBreak};
+ghost use Rattle.dex_code_insns.specs.InsnFaults.{RulesHold, RulesBreak, InsnsBreak};
 ghost use Rattle.dex_code_insns.specs.Reading.{AreResolved, ReadInsns};
 
 use crate::payloads::{is_switch, payload_at};
@@ -31,6 +31,28 @@ use std::alloc::Global;
 pub struct Insns<'a> {
     pub insns: &'a [Insn<'a>],
     pub starts: Vec<u32>,
+}
+
+/// Checks the rules of indices, branches, payloads and switches, in this order: the users of each payload.
+fn check_rules(
+    alloc: Global,
+    tables: &Tables<'_>,
+    insns: &[RawInsn<'_>],
+    begins: &[u32],
+    base: u64,
+) -> Result<Vec<Use>, Fault>
+    requires table { IsTable begins.now (map raw insns.now) }
+    requires base { base < 2 ^ 40 }
+    ensures ok { IfOk result (λ all. RulesHold (NameIsAt tables.now) (map raw insns.now)) }
+    ensures users { IfOk result (λ all. AreUsers (map raw insns.now) (length insns.now) all.items) }
+    ensures err { IfErr result (λ e. e ≢ memory → RulesBreak (NameIsAt tables.now) (map raw insns.now) base e) }
+{
+    check_names(tables, insns, begins, base)?;
+    check_branches(insns, begins, base)?;
+    let all = users(alloc, insns, begins)?;
+    check_uses(&all, insns, begins, base)?;
+    check_targets(&all, insns, begins, base)?;
+    Ok(all)
 }
 
 /// From where the offsets in instruction `k` count.
@@ -119,11 +141,7 @@ pub fn read_insns<'a>(
     ensures err { IfErr result (λ e. e ≢ memory → InsnsBreak (NameIsAt tables.now) units.now base e) }
 {
     let walked = walk(alloc, units, base)?;
-    check_names(tables, &walked.insns, &walked.starts, base)?;
-    check_branches(&walked.insns, &walked.starts, base)?;
-    let all = users(alloc, &walked.insns, &walked.starts)?;
-    check_uses(&all, &walked.insns, &walked.starts, base)?;
-    check_targets(&all, &walked.insns, &walked.starts, base)?;
+    let all = check_rules(alloc, tables, &walked.insns, &walked.starts, base)?;
     let insns = resolve_all(arena, tables, &all, &walked.insns, &walked.starts)?;
     Ok(Insns {
         insns,

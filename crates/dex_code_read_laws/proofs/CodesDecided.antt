@@ -19,6 +19,7 @@ use Rattle.dex_tables.specs.Names.{Names, NameIsAt}
 use Rattle.dex_code_insns.specs.Walk.{starts}
 use Rattle.dex_code_insns.specs.Insns.{SpellsInsns}
 use Rattle.dex_code_insns.specs.Symbols.{IsFunctional}
+use Rattle.dex_code_insns.proofs.InsnFaultLaws.{rules-hold}
 use Rattle.dex_code.specs.Item.{size_of, tries_of, registers_of, ins_of, outs_of, units_of, items_of, units_end, tries_begin, list_begin, IsWhole}
 use Rattle.dex_code.specs.Code.{SpellsCode, CodeStands}
 use Rattle.dex_code.specs.Faults.{ItemBreaks, CodeBreaks}
@@ -82,7 +83,7 @@ module _ (N : ℕ → Name → Type 0) (names : AreNamesDecided N) (functional :
 
   with-insns : IsWhole bytes → 0 < size_of bytes → (rs : List Raw) (is : List Insn) → SpellsInsns N (units_of bytes) rs is → IsItemDecided
   with-insns whole some rs is s = elim (tries-decided N names functional (starts rs) (size_of bytes) (tries_of bytes) (items_of bytes) (drop (list_begin bytes) bytes) (off + tries_begin bytes)) [
-    | inr f ↦ inr (f.0, inr (inr (inr (rs, s.walk, f.1))))
+    | inr f ↦ inr (f.0, inr (inr (inr (whole, some, rs, s.walk, rules-hold N (units_of bytes) rs is s, f.1))))
     | inl x ↦
         let c : Code = record { registers = registers_of bytes; ins = ins_of bytes; outs = outs_of bytes; insns = is; tries = x.0 } in
         inl (c, x.1.behind, takes-from_read N bytes x.1.behind c (record { whole = whole; some = some; registers = refl; ins = refl; outs = refl; raws = rs; insns = s; list = x.1.list; joined = x.1.joined; tries = x.1.tries }))
@@ -97,7 +98,7 @@ module _ (N : ℕ → Name → Type 0) (names : AreNamesDecided N) (functional :
           let u = units-even bytes whole in
           let f = u32_at-fits bytes 12 are in
           elim (insns-decided N names (units_of bytes) (off + 16) (units-are bytes are) (omega (arith, u)) (omega (arith, u, f))) [
-            | inr e ↦ inr (e.0, inr (inr (inl e.1)))
+            | inr e ↦ inr (e.0, inr (inr (inl (whole, omega (arith, some), e.1))))
             | inl x ↦ with-insns whole (omega (arith, some)) x.0 x.1 x.2
           ]
     ]
@@ -115,7 +116,7 @@ code-decided b are framed names off = elim (cases_eq (off % 4) 0) [
         let bytes = take (s.end - off) (drop off b) in
         let low = s.behind in let high = s.before in
         elim (item-decided N (names-decided names) (NameIsAt-functional names) off bytes (take-bytes (s.end - off) (drop off b) (behind b off are))) [
-          | inr e ↦ inr (e.0, inr (inr (s.end, bytes, record { begin = s.begin; section = s.section; behind = low; before = high; same = refl }, e.1)))
+          | inr e ↦ inr (e.0, inr (inr (even, s.end, bytes, record { begin = s.begin; section = s.section; behind = low; before = high; same = refl }, e.1)))
           | inl x ↦ inl (x.0, found_at (SpellsCode N) b framed 0x2001 4 off (record { begin = s.begin; end = s.end; section = s.section }) low (omega (arith, high)) even x.0 x.1 x.2)
         ]
   ]

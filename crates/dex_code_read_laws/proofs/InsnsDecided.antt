@@ -8,12 +8,12 @@ use Rattle.dex_insn.specs.Raw.{Raw}
 use Rattle.dex_program.specs.Content.{Name, Insn}
 use Rattle.dex_program.specs.Content as made
 use Rattle.dex_program.specs.Formed.{IsSwitch}
-use Rattle.dex_code_insns.specs.Places.{AllHold, IsFirst, place}
+use Rattle.dex_code_insns.specs.Places.{IsFirst, place}
 use Rattle.dex_code_insns.specs.Walk.{Walks, IsTable, starts, raw_at, address}
 use Rattle.dex_code_insns.specs.Symbols.{resolved, places, ints, Says, HasName}
 use Rattle.dex_code_insns.specs.Payloads.{payload_of, UseHolds}
 use Rattle.dex_code_insns.specs.Insns.{Reaches, Lands, branch, targets, BranchLands, BranchMoves, BranchHolds, TargetsHold, NameHolds, IsBase, SpellsInsn, SpellsInsns}
-use Rattle.dex_code_insns.specs.InsnFaults.{BreaksAt, InsnsBreak}
+use Rattle.dex_code_insns.specs.InsnFaults.{BreaksIn, AllKeep, RulesHold, RulesBreak, InsnsBreak}
 use Rattle.dex_code_insns.proofs.ResolveLaws.{leads-all, reaches-all}
 use Rattle.dex_code_insns.proofs.Runs.{table-of}
 use Rattle.dex_code_read_laws.proofs.Deciding.{first-or-all, build}
@@ -91,37 +91,44 @@ module _ (N : ℕ → Name → Type 0) (names : AreNamesDecided N) (us : List �
   InsnsAreDecided = ((rs : List Raw) × (is : List Insn) × SpellsInsns N us rs is) ⊎ ((e : Fault) × InsnsBreak N us base e)
 
   -- the first that breaks a rule
-  broken-at : (number : ℕ) (P Q : List Raw → ℕ → Type 0) (rs : List Raw) (k : ℕ) → Walks us rs → IsFirst (P rs) (Q rs) (length rs) k → (e : Fault) × BreaksAt us base number P Q e
-  broken-at number P Q rs k w f = (record { code = number; place = base + 2 * address rs k }, record { raws = rs; walk = w; breaks = record { first = k; breaks = f; is = refl } })
+  broken-at : (number : ℕ) (P Q : List Raw → ℕ → Type 0) (rs : List Raw) (k : ℕ) → IsFirst (P rs) (Q rs) (length rs) k → (e : Fault) × BreaksIn rs base number P Q e
+  broken-at number P Q rs k f = (record { code = number; place = base + 2 * address rs k }, record { first = k; breaks = f; is = refl })
 
-  branch-broken : (rs : List Raw) (k : ℕ) → Walks us rs → IsFirst (BranchHolds rs) (BranchHolds rs) (length rs) k → (e : Fault) × InsnsBreak N us base e
-  branch-broken rs k w f = elim (decide-branch-lands rs k) [
-    | inr nay ↦ let x = broken-at 68 BranchHolds BranchLands rs k w (record { inside = f.inside; broken = nay; before = f.before }) in (x.0, inr (inr (inl x.1)))
+  branch-broken : (rs : List Raw) (k : ℕ) → AllKeep (NameHolds N) rs → IsFirst (BranchHolds rs) (BranchHolds rs) (length rs) k → (e : Fault) × RulesBreak N rs base e
+  branch-broken rs k named f = elim (decide-branch-lands rs k) [
+    | inr nay ↦ let x = broken-at 68 BranchHolds BranchLands rs k (record { inside = f.inside; broken = nay; before = f.before }) in (x.0, inr (inl (named, x.1)))
     | inl lands ↦ elim (decide-branch-moves rs k) [
-      | inr nay ↦ let x = broken-at 69 BranchHolds BranchMoves rs k w (record { inside = f.inside; broken = nay; before = f.before }) in (x.0, inr (inr (inr (inl x.1))))
+      | inr nay ↦ let x = broken-at 69 BranchHolds BranchMoves rs k (record { inside = f.inside; broken = nay; before = f.before }) in (x.0, inr (inr (inl (named, x.1))))
       | inl moves ↦ absurd (f.broken (record { lands = lands; moves = moves }))
     ]
   ]
 
-  insns-of : (rs : List Raw) → Walks us rs → length us ≤ 8589934590 → AllHold (BranchHolds rs) (length rs) → AllHold (UseHolds rs) (length rs) → AllHold (TargetsHold rs) (length rs) → AllHold (NameHolds N rs) (length rs) → InsnsAreDecided
-  insns-of rs w short branches uses all named =
+  insns-of : (rs : List Raw) → Walks us rs → length us ≤ 8589934590 → RulesHold N rs → InsnsAreDecided
+  insns-of rs w short h =
       let table = table-of us (starts rs) rs short w.run refl in
-      let x = build (made.I10x 0) (SpellsInsn N rs) (length rs) (λ k l. insn-spelled N rs k table (uses k l) (branches k l) (all k l) (named k l)) in
-      inl (rs, x.0, record { walk = w; branches = branches; uses = uses; targets = all; count = x.1; each = x.2 })
+      let x = build (made.I10x 0) (SpellsInsn N rs) (length rs) (λ k l. insn-spelled N rs k table (h.uses k l) (h.branches k l) (h.targets k l) (h.names k l)) in
+      inl (rs, x.0, record { walk = w; branches = h.branches; uses = h.uses; targets = h.targets; count = x.1; each = x.2 })
 
-  walked-decided : (rs : List Raw) → Walks us rs → length us ≤ 8589934590 → InsnsAreDecided
-  walked-decided rs w short = elim (first-or-all (NameHolds N rs) (λ k. decide-name N names (raw_at rs k)) (length rs)) [
-    | inr f ↦ let x = broken-at 65 (NameHolds N) (NameHolds N) rs f.0 w f.1 in inr (x.0, inr (inl x.1))
+  -- all rules hold, or the first that doesn't is broken
+  rules-decided : (rs : List Raw) → RulesHold N rs ⊎ ((e : Fault) × RulesBreak N rs base e)
+  rules-decided rs = elim (first-or-all (NameHolds N rs) (λ k. decide-name N names (raw_at rs k)) (length rs)) [
+    | inr f ↦ let x = broken-at 65 (NameHolds N) (NameHolds N) rs f.0 f.1 in inr (x.0, inl x.1)
     | inl named ↦ elim (first-or-all (BranchHolds rs) (decide-branch rs) (length rs)) [
-      | inr f ↦ inr (branch-broken rs f.0 w f.1)
+      | inr f ↦ inr (branch-broken rs f.0 named f.1)
       | inl branches ↦ elim (first-or-all (UseHolds rs) (decide-use rs) (length rs)) [
-        | inr f ↦ let x = broken-at 70 UseHolds UseHolds rs f.0 w f.1 in inr (x.0, inr (inr (inr (inr (inl x.1)))))
+        | inr f ↦ let x = broken-at 70 UseHolds UseHolds rs f.0 f.1 in inr (x.0, inr (inr (inr (inl (named, branches, x.1)))))
         | inl uses ↦ elim (first-or-all (TargetsHold rs) (decide-targets rs) (length rs)) [
-          | inr f ↦ let x = broken-at 68 TargetsHold TargetsHold rs f.0 w f.1 in inr (x.0, inr (inr (inr (inr (inr x.1)))))
-          | inl all ↦ insns-of rs w short branches uses all named
+          | inr f ↦ let x = broken-at 68 TargetsHold TargetsHold rs f.0 f.1 in inr (x.0, inr (inr (inr (inr (named, branches, uses, x.1)))))
+          | inl all ↦ inl (record { names = named; branches = branches; uses = uses; targets = all })
         ]
       ]
     ]
+  ]
+
+  walked-decided : (rs : List Raw) → Walks us rs → length us ≤ 8589934590 → InsnsAreDecided
+  walked-decided rs w short = elim (rules-decided rs) [
+    | inr f ↦ inr (f.0, inr (rs, w, f.1))
+    | inl h ↦ insns-of rs w short h
   ]
 
   pub insns-decided : AreBytes us → length us ≡ 2 * (length us / 2) → length us ≤ 8589934590 → InsnsAreDecided

@@ -65,7 +65,7 @@ module _ (N : ℕ → Name → Type 0) (names : AreNamesDecided N) (functional :
   tries-decided size (suc m) items rest base = elim (first-or-all (TryHolds ss size items) (decide-try ss size items) (suc m)) [
     | inr f ↦ inr (record { code = 71; place = base + 8 * f.0 }, inl (f.0, f.1, refl))
     | inl hold ↦ elim (decide-handlers (suc m) items rest) [
-      | inr none ↦ inr (list_fault (base + 8 * suc m), inr (omega arith, none, refl))
+      | inr none ↦ inr (list_fault (base + 8 * suc m), inr (omega arith, hold, none, refl))
       | inl h ↦ inl (tries-of size m items rest hold h)
     ]
   ]

@@ -15,7 +15,8 @@ use Rattle.dex_program.specs.Content.{Units, Proto, Name, OfText, OfDesc, OfFiel
 use Rattle.dex_program.specs.Content as made
 use Rattle.dex_program.specs.Formed.{IsFormed}
 use Rattle.dex_program.specs.Mentions.{names_of_class}
-use Rattle.dex_rules.specs.Ranges.{AreUnits, ProtoInRange, NameInRange, ValueInRange, ValuesInRange, CodeInRange, MemberInRange, DefinedInRange, ClassInRange, WellFormed}
+use Rattle.dex_ranges.specs.Ranges.{AreUnits, ProtoInRange, NameInRange, ValueInRange, ValuesInRange, CodeInRange, MemberInRange, DefinedInRange, ClassInRange}
+use Rattle.dex_rules.specs.WellFormed.{WellFormed}
 use Rattle.dex_tables.specs.Stands.{StringStands, TypeStands, ProtoStands, NameStands}
 use Rattle.dex_tables.proofs.TypeLists.{indexes_of}
 use Rattle.dex_tables_laws.specs.FileNames.{HasRow}

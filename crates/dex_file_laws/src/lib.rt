@@ -10,7 +10,7 @@ ghost use Rattle.dex_bytes.specs.Fields.{AreBytes};
 ghost use Rattle.dex_bytes.specs.declared.fault.Fault.{Fault};
 ghost use Rattle.dex_container.specs.Frame.{IsFramed};
 ghost use Rattle.dex_program.specs.Content.{Program};
-ghost use Rattle.dex_rules.specs.Ranges.{WellFormed};
+ghost use Rattle.dex_rules.specs.WellFormed.{WellFormed};
 ghost use Rattle.dex_tables.specs.Sorted.{TablesHold};
 ghost use Rattle.dex_tables_laws.specs.FileNames.{IsMentionedIn};
 ghost use Rattle.dex_container.specs.Layout.{size_of};
@@ -19,6 +19,7 @@ ghost use Rattle.dex_file.specs.Broken.{Broken};
 ghost use Rattle.dex_file.specs.Means.{Means};
 ghost use Rattle.dex_file_laws.specs.FileDeciding.{MeansOrRefused};
 
+use dex_bytes::are_bytes;
 use dex_container::open;
 
 /// Where the tables hold, the class rows hold, or one of the faults 40 to 47 stands.
@@ -38,14 +39,6 @@ pub fn rows_are_decided()
 pub fn framed_files_are_decided()
     ensures { (b : List ℕ) → AreBytes b → IsFramed b → MeansOrRefused b }
 {}
-
-// What stands in bytes is below 256.
-fn are_bytes(bytes: &[u8])
-    ensures { AreBytes bytes.now }
-{
-    // Only for the proof: what holds of each value of its type.
-    let _bytes = bytes;
-}
 
 /// Any bytes mean a program, or a fault refuses them; no fault of reading stands exactly if a program is meant.
 pub fn meaning_is_decided(bytes: &[u8])

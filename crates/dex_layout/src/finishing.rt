@@ -10,8 +10,8 @@ ghost use Rattle.dex_layout.specs.Finished.{Finishes, IsFronted};
 use crate::map_list::{entries_of, map_behind};
 use crate::padding::gap_behind;
 use crate::plan::{Plan, Rows};
-use crate::ranges::{are_bytes, are_words};
-use dex_bytes::{Fault, put_u32_at};
+use crate::ranges::are_words;
+use dex_bytes::{Fault, are_bytes, put_u32_at};
 use dex_container::close;
 use std::alloc::Global;
 

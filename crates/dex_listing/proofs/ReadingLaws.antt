@@ -2,8 +2,8 @@
 use Rattle.std.proofs.Common.{◌≡◌, ℕ, ◌+◌, inl, inr, List, [], ◌∷◌, ◌++◌, length, Some, None, refl, sym, ap, subst, ◌∙◌, append_assoc}
 use Rattle.std.proofs.lemmas.List.{append-nil}
 use Rattle.dex_bytes.specs.declared.fault.Fault.{Fault}
-use Rattle.dex_rules.specs.Ranges.{InRange}
-use Rattle.dex_rules.specs.Rules.{RulesHold, RuleBreaks}
+use Rattle.dex_rules.specs.Rules.{RuleBreaks}
+use Rattle.dex_rules.specs.WellFormed.{WellFormed}
 use Rattle.dex_program.specs.Content.{Program}
 use Rattle.dex_lines.specs.declared.stage.Stage.TheVariants.{Top}
 use Rattle.dex_draft.specs.declared.draft.Draft.{Draft}
@@ -55,8 +55,8 @@ pub open_end : (d : Draft) → (d.stage ≡ Top → ⊥) → IsUnfinished (state
 unfolding state
 open_end d t = inl (refl, refl, t)
 
-pub whole_text : (text : List ℕ) (s : State) (p : Program) → Reads start (lines text) s → IsFinished s → p ≡ s.done → InRange p → RulesHold p → IsListing text p
-whole_text text s p r w e i h = record { end = s; read = r; whole = w.0; targets = w.1; classes = sym e; formed = record { ranges = i; rules = h } }
+pub whole_text : (text : List ℕ) (s : State) (p : Program) → Reads start (lines text) s → IsFinished s → p ≡ s.done → WellFormed p → IsListing text p
+whole_text text s p r w e f = record { end = s; read = r; whole = w.0; targets = w.1; classes = sym e; formed = f }
 
 pub unfinished_text : (text : List ℕ) (s : State) (code place : ℕ) → Reads start (lines text) s → s.lines ≡ length (lines text) → IsUnfinished s code place → ListingBreaks text code place
 unfinished_text text s code place r n (inl u) = inr (inl (u.0, u.1 ∙ n, record { state = s; accepted = r; inside = u.2 }))

@@ -2,7 +2,7 @@
 -- Page: docs/LISTING.md, "Lines and words", "Faults".
 use Rattle.std.specs.Prelude.{◌≡◌, ◌≢◌, ℕ, ◌+◌, ◌==◌, Bool, true, false, if◌then◌else◌, ◌⊎◌, List, [], ◌∷◌, ◌++◌, length, Some, None}
 use Rattle.dex_program.specs.Content.{Program}
-use Rattle.dex_rules.specs.Ranges.{WellFormed}
+use Rattle.dex_rules.specs.WellFormed.{WellFormed}
 use Rattle.dex_rules.specs.Rules.{RuleBreaks}
 use Rattle.dex_words.specs.Words.{Word, HasWords, after_spaces}
 use Rattle.dex_slots.specs.Data.{Datum}

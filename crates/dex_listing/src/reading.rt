@@ -13,7 +13,6 @@ use dex_base::{Fault, fault};
 use dex_draft::Draft;
 use dex_lines::{Stage, make_line};
 use dex_program::Program;
-use dex_ranges::programs_are_in_range;
 use dex_rules::well_formed_in;
 use dex_shapes::read_shape;
 use dex_slots::{Datum, Slot, read_operands};
@@ -136,6 +135,5 @@ pub fn parse<'a>(alloc: Global, arena: &'a Bump, text: &[u8]) -> Result<Program<
         classes: draft.into_classes(),
     };
     well_formed_in(alloc, &whole)?;
-    programs_are_in_range(&whole);
     Ok(whole)
 }

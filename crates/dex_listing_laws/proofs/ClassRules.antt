@@ -7,7 +7,8 @@ use Rattle.dex_program.specs.Mentions.{if_any, names_of_value, names_of_values, 
 use Rattle.dex_rules.specs.Valid.{IsValidName}
 use Rattle.dex_code_rules.specs.CodeRules.{OperandsHold, TriesHold}
 use Rattle.dex_rules.specs.Rules.{ClassHolds, member_key, method_key}
-use Rattle.dex_rules.specs.Ranges.{NameInRange, ValueInRange, ValuesInRange, CodeInRange, MemberInRange, DefinedInRange, ClassInRange, WellFormed}
+use Rattle.dex_ranges.specs.Ranges.{NameInRange, ValueInRange, ValuesInRange, CodeInRange, MemberInRange, DefinedInRange, ClassInRange}
+use Rattle.dex_rules.specs.WellFormed.{WellFormed}
 use Rattle.dex_slots.specs.declared.key.Key.TheVariants as key
 use Rattle.dex_print.specs.Operands.{keyword, value_operands, values_operands}
 use Rattle.dex_print.specs.Printed.{member_operands}

@@ -3,7 +3,7 @@ use Rattle.std.proofs.Common.{◌≡◌, ℕ, ◌+◌, List, [], ◌∷◌, ◌+
 use Rattle.std.specs.List.{flat_map}
 use Rattle.std.proofs.lemmas.List.{append-nil}
 use Rattle.dex_program.specs.Content.{Class, Program}
-use Rattle.dex_rules.specs.Ranges.{WellFormed}
+use Rattle.dex_rules.specs.WellFormed.{WellFormed}
 use Rattle.dex_lines.specs.Lines.{first_line, end_class, instance_line}
 use Rattle.dex_lines.specs.declared.stage.Stage.TheVariants.{Top, Heads}
 use Rattle.dex_lines.specs.Places.{may_stand}

@@ -6,7 +6,7 @@ use Rattle.dex_program.specs.Formed.{insn_at, try_at, TryFormed}
 use Rattle.dex_program.specs.Mentions.{names_of_insn, names_of_try, names_of_code}
 use Rattle.dex_program.specs.Operands.{IsOperand}
 use Rattle.dex_code_rules.specs.CodeRules.{OperandsHold, TriesHold}
-use Rattle.dex_rules.specs.Ranges.{CodeInRange}
+use Rattle.dex_ranges.specs.Ranges.{CodeInRange}
 use Rattle.dex_listing_laws.proofs.Printable.{InstructionsFit, CatchFits, CatchAllFits, TryFits, CodeFits}
 use Rattle.dex_listing_laws.proofs.NameFits.{IsNamed, name_fits}
 use Rattle.dex_listing_laws.proofs.InsnFits.{target_fits, insn_fits}

@@ -16,3 +16,7 @@ pub mod FieldRuns
 pub mod MethodRuns
 pub mod HeadRuns
 pub mod ClassRuns
+pub mod WordRuns
+pub mod SpelledValues
+pub mod ReadValues
+pub mod GivenLines

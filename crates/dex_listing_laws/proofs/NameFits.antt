@@ -5,7 +5,7 @@ use Rattle.dex_base.specs.Descriptor.{IsClass, IsArray, IsDescriptor}
 use Rattle.dex_base.proofs.NameUnits.{all_append}
 use Rattle.dex_program.specs.Content.{Descriptor, Proto, Name, OfText, OfDesc, OfField, OfMethod}
 use Rattle.dex_rules.specs.Valid.{IsValueType, IsValidProto, IsValidName}
-use Rattle.dex_rules.specs.Ranges.{ProtoInRange, NameInRange}
+use Rattle.dex_ranges.specs.Ranges.{ProtoInRange, NameInRange}
 use Rattle.dex_words.specs.Written.{proto_units}
 use Rattle.dex_slots.specs.Shown.{AreUnits, IsProto, FitsSlot}
 use Rattle.dex_print.specs.Operands.{name_operand}

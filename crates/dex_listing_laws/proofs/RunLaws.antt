@@ -4,7 +4,7 @@ use Rattle.std.proofs.lemmas.Bool.{ne_eqb, cases_eq, cases_lt, lt-ltb, le-ltb}
 use Rattle.std.proofs.lemmas.List.{append-nil}
 use Rattle.std.specs.List.{flat_map, AllByRecursion}
 use Rattle.dex_program.specs.Content.{Program}
-use Rattle.dex_rules.specs.Ranges.{WellFormed}
+use Rattle.dex_rules.specs.WellFormed.{WellFormed}
 use Rattle.dex_words.specs.Texts.{glyph, escape_text, unit_text}
 use Rattle.dex_words.specs.Words.{Word, plain_word, text_in_quotes, IsGraphic, IsWritable, word_bytes, line_bytes}
 use Rattle.dex_base.proofs.NameUnits.{all_append}

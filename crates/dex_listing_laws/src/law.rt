@@ -2,7 +2,7 @@
 
 ghost use Rattle.std.specs.Prelude.{◌≡◌, ℕ};
 ghost use Rattle.dex_program.specs.Content.{Program};
-ghost use Rattle.dex_rules.specs.Ranges.{WellFormed};
+ghost use Rattle.dex_rules.specs.WellFormed.{WellFormed};
 ghost use Rattle.dex_listing.specs.Text.{IsListing, ListingBreaks};
 ghost use Rattle.dex_print.specs.Canon.{canon};
 

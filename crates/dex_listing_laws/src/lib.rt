@@ -1,9 +1,11 @@
-//! The law of printing and reading together: what is printed of a program is read again, as that program.
+//! The laws of listings: what is printed of a program is read again, as that program; which words are read as a value.
 //!
 //! A text of whole lines leads from what was read so far to what is read then, whatever follows it; texts that lead one
 //! behind the other lead as one. So the lines of a code, of a class and of a program are taken one by one.
 #![tactic(auto)]
 
 mod law;
+mod values;
 
 pub use law::what_is_printed_is_read_again;
+pub use values::values_are_spelled;

@@ -27,7 +27,7 @@ drop_front : (xs ys : List Value) → drop (length xs) (xs ++ ys) ≡ ys
 drop_front [] ys = refl
 drop_front (x ∷ xs) ys = drop_front xs ys
 
-data_join : (os ps : List Operand) → data_of (os ++ ps) ≡ data_of os ++ data_of ps
+pub data_join : (os ps : List Operand) → data_of (os ++ ps) ≡ data_of os ++ data_of ps
 data_join [] ps = refl
 data_join (o ∷ os) ps = ap (λ ds. o.says ∷ ds) (data_join os ps)
 

@@ -34,7 +34,7 @@ lead_of (try_line f t) h = refl
 lead_of (catch_line d k) h = refl
 lead_of (catch_all_line k) h = refl
 
-past_three : (ws : List Word) (a b c d : Word) → nat_le (length (a ∷ b ∷ c ∷ d ∷ ws)) 3 ≡ false
+pub past_three : (ws : List Word) (a b c d : Word) → nat_le (length (a ∷ b ∷ c ∷ d ∷ ws)) 3 ≡ false
 past_three ws a b c d = lt-leb (length (a ∷ b ∷ c ∷ d ∷ ws)) 3 (omega arith)
 
 row_of : (l : Line) → IsKeyedLine l → Some (line_kind l, slots_of (line_operands l)) ≡ key_row (line_key l) (words_of (line_operands l))

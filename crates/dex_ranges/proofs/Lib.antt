@@ -1,1 +1,2 @@
-pub mod PartRanges
+pub mod AllLaws
+mod PartRanges

@@ -4,8 +4,8 @@ use Rattle.std.specs.Prelude.{IfSome}
 use Rattle.std.specs.List.{AllByRecursion, flat_map}
 use Rattle.dex_program.specs.Content.{Units, OfText, OfDesc, Value, Values, Named, Enum, Array, no_values, more_values, Try, Code, Class}
 use Rattle.dex_program.specs.Mentions.{if_any, names_of_value, names_of_values, names_of_insn, names_of_try, names_of_code, field_of_class, names_of_method, NamesHold, AllNamesHold}
-use Rattle.dex_rules.specs.Ranges.{AreUnits, NameInRange, ValueInRange, MemberInRange, DefinedInRange, ClassInRange}
-use Rattle.dex_rules.proofs.WalkLaws.{all-both, all-joined, all-make, all-turned}
+use Rattle.dex_ranges.specs.Ranges.{AreUnits, NameInRange, ValueInRange, MemberInRange, DefinedInRange, ClassInRange}
+use Rattle.dex_ranges.proofs.AllLaws.{all-both, all-joined, all-make, all-turned}
 
 mutual
   value-names : (v : Value) → NamesHold NameInRange v → AllByRecursion NameInRange (names_of_value v)

@@ -4,7 +4,7 @@ ghost use Rattle.std.specs.Prelude.{◌<◌, map, option_map, IfSome};
 ghost use Rattle.std.specs.List.{AllByRecursion, flat_map};
 ghost use Rattle.dex_program.specs.Mentions.{if_any, names_of_insn, names_of_try, names_of_code};
 ghost use Rattle.dex_program.specs.View as view;
-ghost use Rattle.dex_rules.specs.Ranges.{AreUnits, NameInRange, CodeInRange};
+ghost use Rattle.dex_ranges.specs.Ranges.{AreUnits, NameInRange, CodeInRange};
 
 use crate::names::{in_desc, in_name};
 use crate::values::is_u16;

@@ -1,17 +1,17 @@
-// The numbers and names of classes, and of programs.
+// The numbers and names of classes.
 // Page: "Dalvik Executable format", "class_def_item" and "class_data_item".
-ghost use Rattle.std.specs.Prelude.{◌<◌, map, option_map, IfSome};
+ghost use Rattle.std.specs.Prelude.{◌<◌, ◌≤◌, map, option_map, IfSome};
 ghost use Rattle.std.specs.List.{AllByRecursion};
 ghost use Rattle.dex_program.specs.Content.{Units};
 ghost use Rattle.dex_program.specs.Mentions.{field_of_class, names_of_method};
 ghost use Rattle.dex_program.specs.View as view;
-ghost use Rattle.dex_rules.specs.Ranges.{AreUnits, NameInRange, MemberInRange, DefinedInRange, ClassInRange, InRange};
-ghost use Rattle.dex_rules.specs.Rules.{RulesHold};
+ghost use Rattle.dex_program.specs.Depth.{depth};
+ghost use Rattle.dex_ranges.specs.Ranges.{AreUnits, NameInRange, MemberInRange, DefinedInRange, ClassInRange};
 
 use crate::bodies::in_body;
 use crate::names::{in_desc, in_descs, in_proto, in_str};
 use crate::values::{in_values, is_u32};
-use dex_program::{Class, Desc, Member, Method, Program, Str};
+use dex_program::{Class, Desc, Member, Method, Str};
 
 // A field's flags, and its name where its class is one.
 fn in_member(one: &Member<'_>)
@@ -74,8 +74,10 @@ fn in_source(text: Option<Str<'_>>)
     }
 }
 
-// All numbers and names in a class.
-fn in_class(one: &Class<'_>)
+/// The numbers and units of a class in memory lie in the ranges of their types. Asked only where no value is deeper than
+/// 64, since the stack has to bear how deep they are.
+pub fn class_is_in_range(one: &Class<'_>)
+    requires shallow { AllByRecursion (λ v. depth v ≤ 64) (view.class one.now).values }
     ensures { ClassInRange (view.class one.now) }
 {
     is_u32(one.flags);
@@ -88,15 +90,4 @@ fn in_class(one: &Class<'_>)
     in_members(one.instances);
     in_methods(one.directs);
     in_methods(one.virtuals);
-}
-
-/// The numbers and units of a program in memory lie in the ranges of their types. Asked only of one that keeps the rules of programs, since
-/// the stack has to bear how deep its values are.
-pub fn programs_are_in_range(program: &Program<'_>)
-    requires kept { RulesHold (view.program program.now) }
-    ensures { InRange (view.program program.now) }
-{
-    for each in program.classes {
-        in_class(each);
-    }
 }

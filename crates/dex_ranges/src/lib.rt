@@ -1,9 +1,8 @@
-//! That the numbers and units of a program in memory lie in the ranges of their types, for the proofs of crates above: the functions do
-//! nothing, and their contracts are what the types say.
+//! That the numbers and units of a class in memory lie in the ranges of their types, for the proofs of crates above: the
+//! functions do nothing, and their contracts are what the types say.
 //!
-//! ```
-//! well_formed(&program)?;
-//! programs_are_in_range(&program); // so it is well formed, as `write` asks
+//! ```text
+//! class_is_in_range(&class); // its flags are below 2 ^ 32, each unit of its names below 2 ^ 16 ..
 //! ```
 #![tactic(auto)]
 
@@ -14,7 +13,7 @@ mod names;
 // Values of static fields.
 mod values;
 
-// Classes and programs.
+// Classes.
 mod classes;
 
-pub use classes::programs_are_in_range;
+pub use classes::class_is_in_range;

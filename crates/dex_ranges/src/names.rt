@@ -4,7 +4,7 @@ ghost use Rattle.std.specs.Prelude.{◌<◌, map};
 ghost use Rattle.std.specs.List.{AllByRecursion};
 ghost use Rattle.dex_program.specs.Content.{OfDesc};
 ghost use Rattle.dex_program.specs.View as view;
-ghost use Rattle.dex_rules.specs.Ranges.{AreUnits, ProtoInRange, FieldInRange, MethodInRange, NameInRange};
+ghost use Rattle.dex_ranges.specs.Ranges.{AreUnits, ProtoInRange, FieldInRange, MethodInRange, NameInRange};
 
 use dex_program::{Desc, FieldRef, MethodRef, Name, Proto, Str};
 

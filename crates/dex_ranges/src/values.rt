@@ -5,7 +5,7 @@ ghost use Rattle.std.specs.Int.{w8, w16, w32, w64};
 ghost use Rattle.std.specs.List.{AllByRecursion};
 ghost use Rattle.dex_program.specs.Mentions.{NamesHold};
 ghost use Rattle.dex_program.specs.View as view;
-ghost use Rattle.dex_rules.specs.Ranges.{NameInRange, ValueInRange};
+ghost use Rattle.dex_ranges.specs.Ranges.{NameInRange, ValueInRange};
 
 use crate::names::{in_desc, in_field, in_method, in_str};
 use dex_program::Value;

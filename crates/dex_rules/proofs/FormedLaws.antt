@@ -5,7 +5,7 @@ use Rattle.std.specs.List.{AllByRecursion}
 use Rattle.dex_code_rules.specs.CodeRules.{OperandsHold, TargetsHold, PayloadsHold, TriesHold}
 use Rattle.dex_program.specs.Content.{Code, Method, Class}
 use Rattle.dex_program.specs.Formed.{IsFormed}
-use Rattle.dex_rules.specs.Ranges.{CodeInRange, DefinedInRange, ClassInRange}
+use Rattle.dex_ranges.specs.Ranges.{CodeInRange, DefinedInRange, ClassInRange}
 use Rattle.dex_rules.specs.Rules.{CodesHold}
 
 formed_of : (c : Code) → OperandsHold c → TargetsHold c → PayloadsHold c → TriesHold c → CodeInRange c → IsFormed c

@@ -13,7 +13,7 @@ use Rattle.dex_program.specs.Mentions.{if_any, names_of_value, names_of_values, 
 use Rattle.dex_rules.specs.Valid.{IsValidName}
 use Rattle.dex_rules.specs.Rules.{IsBelowNext, NamesAreValid}
 use Rattle.dex_rules.specs.Parts.{FieldIsValid, MethodIsValid}
-use Rattle.dex_rules.proofs.WalkLaws.{all-front, all-back, all-both, all-lists, all-joined, all-made, all-make, all-turned}
+use Rattle.dex_ranges.proofs.AllLaws.{all-front, all-back, all-both, all-lists, all-joined, all-made, all-make, all-turned}
 
 -- ---- keys
 

@@ -11,7 +11,10 @@ use Rattle.dex_program.specs.Content as content
 use Rattle.dex_program.specs.View.{class, desc}
 use Rattle.dex_program.specs.declared.class.Class.{Class}
 use Rattle.dex_program.specs.declared.names.Desc.{Desc}
+use Rattle.dex_ranges.proofs.AllLaws.{all-placed}
+use Rattle.dex_ranges.specs.Ranges.{ClassInRange}
 use Rattle.dex_rules.specs.Rules.{ClassHolds, ClassBreaks, RuleBreaks}
+use Rattle.dex_rules.specs.WellFormed.{WellFormed}
 
 -- what stands in two Somes that are one
 pub some-same : {A : Type 0} {x y : A} → Some x ≡ Some y → x ≡ y
@@ -42,18 +45,21 @@ pub passed : {T E : Type 0} (r : Result T E) (e : E) (P : E → Type 0) → IsEr
 passed (Ok v) e P h p = absurd h
 passed (Err x) e P h p = subst P (sym h) p
 
--- classes before number i keep the rules
+-- classes before number i keep the rules, and are in range
 abbrev Kept : List content.Class → ℕ → Type 0
-Kept p n = (i : ℕ) (c : content.Class) → i < n → slice_get p i ≡ Some c → ClassHolds p i c
+Kept p n = (i : ℕ) (c : content.Class) → i < n → slice_get p i ≡ Some c → ClassHolds p i c × ClassInRange c
 
 pub first-broken : (xs : List Class) (i : ℕ) (d : Class) (e : Fault) → i < length xs → Kept (map class xs) i → ClassBreaks (map class xs) i (class (get_or xs i d)) e → RuleBreaks (map class xs) e
-first-broken xs i d e l h b = record { number = i; class = class (get_or xs i d); there = class-at xs i d l; breaks = b; earlier = h }
+first-broken xs i d e l h b = record { number = i; class = class (get_or xs i d); there = class-at xs i d l; breaks = b; earlier = λ j c m g. (h j c m g).0 }
 
-pub one-more : (xs : List Class) (i : ℕ) (d : Class) → i < length xs → Kept (map class xs) i → ClassHolds (map class xs) i (class (get_or xs i d)) → Kept (map class xs) (i + 1)
-one-more xs i d l h k = λ j c m g.
-    below_more (λ (n : ℕ). (c : content.Class) → slice_get (map class xs) n ≡ Some c → ClassHolds (map class xs) n c) i
+pub one-more : (xs : List Class) (i : ℕ) (d : Class) → i < length xs → Kept (map class xs) i → ClassHolds (map class xs) i (class (get_or xs i d)) → ClassInRange (class (get_or xs i d)) → Kept (map class xs) (i + 1)
+one-more xs i d l h k r = λ j c m g.
+    below_more (λ (n : ℕ). (c : content.Class) → slice_get (map class xs) n ≡ Some c → ClassHolds (map class xs) n c × ClassInRange c) i
     (λ n b e f. h n e b f)
-    (λ e f. subst (λ (x : content.Class). ClassHolds (map class xs) i x) (some-same (sym (class-at xs i d l) ∙ f)) k) j m c g
+    (λ e f. subst (λ (x : content.Class). ClassHolds (map class xs) i x × ClassInRange x) (some-same (sym (class-at xs i d l) ∙ f)) (k, r)) j m c g
 
-pub all-kept : (xs : List Class) (n : ℕ) → length xs ≤ n → Kept (map class xs) n → (i : ℕ) (c : content.Class) → slice_get (map class xs) i ≡ Some c → ClassHolds (map class xs) i c
-all-kept xs n l h i c g = let w = slice_get_within (map class xs) i c g in let m = length-map xs class in h i c (omega arith) g
+pub all-kept : (xs : List Class) (n : ℕ) → length xs ≤ n → Kept (map class xs) n → WellFormed (map class xs)
+all-kept xs n l h =
+    let each = λ (i : ℕ) (c : content.Class) (g : slice_get (map class xs) i ≡ Some c).
+    let w = slice_get_within (map class xs) i c g in let m = length-map xs class in h i c (omega arith) g
+    in record { ranges = all-placed ClassInRange (map class xs) (λ i c g. (each i c g).1); rules = λ i c g. (each i c g).0 }

@@ -3,4 +3,4 @@ pub mod Rules
 pub mod Numbers
 pub mod Parts
 pub mod Nested
-pub mod Ranges
+pub mod WellFormed

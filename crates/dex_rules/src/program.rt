@@ -6,7 +6,9 @@ ghost use Rattle.dex_code_rules.specs.CodeRules.{OperandsHold, PayloadsHold, Tar
 ghost use Rattle.dex_program.specs.Content as content;
 ghost use Rattle.dex_program.specs.View.{class, desc, program};
 ghost use Rattle.dex_rules.specs.Numbers.{AreNumbers, types};
-ghost use Rattle.dex_rules.specs.Rules.{ClassBreaks, ClassHolds, CodesBreak, CodesHold, OrderHolds, RuleBreaks, RulesHold};
+ghost use Rattle.dex_ranges.specs.Ranges.{ClassInRange};
+ghost use Rattle.dex_rules.specs.Rules.{ClassBreaks, ClassHolds, CodesBreak, CodesHold, OrderHolds, RuleBreaks};
+ghost use Rattle.dex_rules.specs.WellFormed.{WellFormed};
 
 use crate::codes::codes_hold;
 use crate::members::{members_rise, names_are_valid};
@@ -16,6 +18,7 @@ use crate::values::values_fit;
 use dex_base::{Fault, fault};
 use dex_code_rules::CodeRule;
 use dex_program::{Class, Desc, Program};
+use dex_ranges::class_is_in_range;
 use std::alloc::Global;
 
 /// Whether the code of class `place` keeps all rules.
@@ -53,9 +56,10 @@ fn check_codes(place: u64, one: &Class<'_>) -> Result<(), Fault>
     Ok(())
 }
 
-/// Whether class `i` of a program keeps all rules, if it is known whether it is in order.
+/// Whether class `i` of a program keeps all rules, if it is known whether it is in order; then its numbers are in range.
 fn check_class(i: usize, one: &Class<'_>, is_in_order: bool) -> Result<(), Fault>
     ensures ok { (p : content.Program) → IsTrue is_in_order ↔ OrderHolds p i (class one.now) → OnOk result (ClassHolds p i (class one.now)) }
+    ensures ranges { OnOk result (ClassInRange (class one.now)) }
     ensures err { (p : content.Program) → IsTrue is_in_order ↔ OrderHolds p i (class one.now) → IfErr result (ClassBreaks p i (class one.now)) }
 {
     let place = i as u64;
@@ -83,11 +87,14 @@ fn check_class(i: usize, one: &Class<'_>, is_in_order: bool) -> Result<(), Fault
             place,
         });
     }
-    check_codes(place, one)
+    check_codes(place, one)?;
+    class_is_in_range(one);
+    Ok(())
 }
 
-/// Whether a program keeps the rules that every file's program keeps. Of the first class that breaks one the fault names the first
-/// rule that it breaks; its place is the class's number, from 0.
+/// Whether a program is well formed, as `write` asks for one: it keeps the rules that every file's program keeps, and its
+/// numbers and units lie in the ranges of their types, as those of every program in memory do. Of the first class that
+/// breaks a rule the fault names the first rule that it breaks; its place is the class's number, from 0.
 ///
 /// 110 a name that no file can have; 111 members that don't rise; 112 a class that is defined twice or stands on itself or a later
 /// one, or an interface given twice; 113 more values than static fields, or one deeper than 64; 114 an instruction whose operands
@@ -96,7 +103,7 @@ fn check_class(i: usize, one: &Class<'_>, is_in_order: bool) -> Result<(), Fault
 /// Takes no memory. So each class's type is looked for among all classes, and the user of a switch's payload among all
 /// instructions of its code.
 pub fn well_formed(all: &Program<'_>) -> Result<(), Fault>
-    ensures ok { OnOk result (RulesHold (program all.now)) }
+    ensures formed { OnOk result (WellFormed (program all.now)) }
     ensures err { IfErr result (RuleBreaks (program all.now)) }
 {
     for i in 0..all.classes.len() {
@@ -122,7 +129,7 @@ fn types_of<'a>(alloc: Global, classes: &[Class<'a>]) -> Result<Vec<Desc<'a>>, F
 /// Whether all classes keep all rules.
 fn check_classes(alloc: Global, numbers: &Numbers<'_>, classes: &[Class<'_>]) -> Result<(), Fault>
     requires numbers { AreNumbers (types (map class classes.now)) (length (map class classes.now)) numbers.now }
-    ensures ok { OnOk result (RulesHold (map class classes.now)) }
+    ensures formed { OnOk result (WellFormed (map class classes.now)) }
     ensures err { IfErr result (λ e. e ≢ memory → RuleBreaks (map class classes.now) e) }
 {
     for i in 0..classes.len() {
@@ -133,10 +140,10 @@ fn check_classes(alloc: Global, numbers: &Numbers<'_>, classes: &[Class<'_>]) ->
     Ok(())
 }
 
-/// Whether a program keeps the rules that every file's program keeps, as `well_formed` says it. Types are looked up by hash, so
+/// Whether a program is well formed, as `well_formed` says it. Types are looked up by hash, so
 /// that n classes take time that grows with n; want of memory is a refusal (255).
 pub fn well_formed_in(alloc: Global, all: &Program<'_>) -> Result<(), Fault>
-    ensures ok { OnOk result (RulesHold (program all.now)) }
+    ensures formed { OnOk result (WellFormed (program all.now)) }
     ensures err { IfErr result (λ e. e ≢ memory → RuleBreaks (program all.now) e) }
 {
     let list = types_of(alloc, all.classes)?;

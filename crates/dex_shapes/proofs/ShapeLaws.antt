@@ -21,12 +21,12 @@ use Rattle.dex_slots.specs.Keys.{key_text, same, find_key, lead_keys, payload_ke
 use Rattle.dex_slots.specs.Slots.{has_form, have_forms}
 use Rattle.dex_shapes.specs.Shapes.{Shape, Row, BeginsWithKey, BeginsWithInsn, IsPlainRow, IsInsnRow, HasShape, key_row, payload_row, onto_row, pairs, target}
 
-both : (a b : Bool) → (a && b) ≡ true → (a ≡ true) × (b ≡ true)
+pub both : (a b : Bool) → (a && b) ≡ true → (a ≡ true) × (b ≡ true)
 both true true e = (refl, refl)
 both true false e = absurd cc
 both false b e = absurd cc
 
-same_eq : (xs ys : List ℕ) → same xs ys ≡ true → xs ≡ ys
+pub same_eq : (xs ys : List ℕ) → same xs ys ≡ true → xs ≡ ys
 unfolding same
 same_eq [] [] e = refl
 same_eq [] (y ∷ ys) e = absurd cc
@@ -56,7 +56,7 @@ free_of false e = refl
 same_free : (a text : List ℕ) → same a text ≡ true → free (ends a) ≡ true → ends text ≡ false
 same_free a text e f = subst (λ (t : List ℕ). ends t ≡ false) (same_eq a text e) (free_of (ends a) f)
 
-chosen : (b : Bool) (j : Key) (more : Option Key) (k : Key) → Some k ≡ (if b then Some j else more) → ((b ≡ true) × (k ≡ j)) ⊎ ((b ≡ false) × (Some k ≡ more))
+pub chosen : (b : Bool) (j : Key) (more : Option Key) (k : Key) → Some k ≡ (if b then Some j else more) → ((b ≡ true) × (k ≡ j)) ⊎ ((b ≡ false) × (Some k ≡ more))
 chosen true j more k e = inl (refl, cc)
 chosen false j more k e = inr (refl, e)
 
@@ -74,7 +74,7 @@ leads_free : list_all (λ k. free (ends (key_text k))) lead_keys ≡ true
 unfolding key_text
 leads_free = refl
 
-no_colon : (text label : List ℕ) (k : Key) → Some k ≡ find_key lead_keys text → text ≡ label ++ 58 ∷ [] → ⊥
+pub no_colon : (text label : List ℕ) (k : Key) → Some k ≡ find_key lead_keys text → text ≡ label ++ 58 ∷ [] → ⊥
 no_colon text label k e f = let a = found_free lead_keys text k leads_free e in let b : ends text ≡ true = rw f (ends_label label) in absurd (let c : true ≡ false = sym b ∙ a in cc)
 
 -- ---- a mnemonic is no word of a payload

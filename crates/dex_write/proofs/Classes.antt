@@ -23,7 +23,7 @@ use Rattle.dex_limits.specs.Wide.{array_values, bodies_in, bodies_of, body_value
 use Rattle.dex_names.specs.Closure.{NameRanks}
 use Rattle.dex_names.specs.Needed.{needed}
 use Rattle.dex_program.specs.Content.{Class, Name, Program}
-use Rattle.dex_rules.specs.Ranges.{WellFormed}
+use Rattle.dex_rules.specs.WellFormed.{WellFormed}
 use Rattle.dex_sections.specs.Codes.{is_bodiless}
 use Rattle.dex_sections.specs.Data.{code_offs, has_no_members, method_count, sited}
 use Rattle.dex_sections.specs.Named.{BodyCanBePut}

@@ -13,7 +13,7 @@ use Rattle.dex_limits.proofs.LimitLaws.{fits_breaks_none}
 use Rattle.dex_names.specs.Closure.{Five}
 use Rattle.dex_names.specs.Needed.{needed}
 use Rattle.dex_program.specs.Content.{Program}
-use Rattle.dex_rules.specs.Ranges.{WellFormed}
+use Rattle.dex_rules.specs.WellFormed.{WellFormed}
 use Rattle.dex_write.proofs.Classes.{means}
 use Rattle.dex_write.proofs.Files.{packed}
 use Rattle.dex_write.specs.Least.{HoldsExactly}

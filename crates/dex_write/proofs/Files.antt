@@ -26,7 +26,7 @@ use Rattle.dex_names.specs.Needed.{needed}
 use Rattle.dex_names.specs.Rank.{IsAt}
 use Rattle.dex_program.specs.Content.{Class, Program, Proto}
 use Rattle.dex_program.specs.Key.{proto_key}
-use Rattle.dex_rules.specs.Ranges.{WellFormed}
+use Rattle.dex_rules.specs.WellFormed.{WellFormed}
 use Rattle.dex_sections.specs.Codes.{PacksBody, is_bodiless}
 use Rattle.dex_sections.specs.Data.{PacksData, has_no_members, method_count, sited}
 use Rattle.dex_sections.specs.Lists.{SpellsRanks}

@@ -22,7 +22,7 @@ use Rattle.dex_program.specs.Content.{Class, Descriptor, FieldRef, MethodRef, Na
 use Rattle.dex_program.specs.Key.{field_ref_key, method_ref_key, proto_key, text_key}
 use Rattle.dex_program.specs.Kinds.{void}
 use Rattle.dex_program.specs.Shorty.{shorty}
-use Rattle.dex_rules.specs.Ranges.{WellFormed}
+use Rattle.dex_rules.specs.WellFormed.{WellFormed}
 use Rattle.dex_rules.specs.Valid.{IsValidField, IsValidMethod, IsValidName, IsValidProto, IsValueType}
 use Rattle.dex_sections.specs.Lists.{SpellsRanks}
 use Rattle.dex_tables.specs.RowFields.{member_class, member_kind, member_name, proto_return, proto_shorty, type_string}

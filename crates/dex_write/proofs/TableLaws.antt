@@ -18,7 +18,7 @@ use Rattle.dex_names.proofs.RowLemmas.{keys_compare_as_places}
 use Rattle.dex_program.specs.Content.{Descriptor, FieldRef, MethodRef, Name, OfDesc, OfField, OfMethod, OfText, Program, Proto, Units}
 use Rattle.dex_program.specs.Key.{field_ref_key, method_ref_key, proto_key, text_key}
 use Rattle.dex_program.specs.KeyLaws.{ordering_then-equal}
-use Rattle.dex_rules.specs.Ranges.{WellFormed}
+use Rattle.dex_rules.specs.WellFormed.{WellFormed}
 use Rattle.dex_sections.specs.Lists.{SpellsRanks}
 use Rattle.dex_tables.specs.RowFields.{member_class, member_key, member_kind, member_name, proto_parameters, proto_return, type_string}
 use Rattle.dex_tables.specs.Sorted.{ProtoIsBelow, StringIsBelow, TablesHold, TypeIsBelow}

@@ -10,7 +10,7 @@ ghost use Rattle.dex_file.specs.Means.{Means};
 ghost use Rattle.dex_limits.specs.Limits.{Fits};
 ghost use Rattle.dex_names.specs.Needed.{needed};
 ghost use Rattle.dex_program.specs.Content.{Program};
-ghost use Rattle.dex_rules.specs.Ranges.{WellFormed};
+ghost use Rattle.dex_rules.specs.WellFormed.{WellFormed};
 ghost use Rattle.dex_tables.specs.Names.{AreRows};
 ghost use Rattle.dex_tables.specs.Sorted.{TablesHold};
 ghost use Rattle.dex_write.specs.Least.{HoldsExactly};

@@ -7,12 +7,13 @@ ghost use Rattle.dex_file.specs.Means.{Means};
 ghost use Rattle.dex_file.specs.Refused.{IsRefused};
 ghost use Rattle.dex_limits.specs.Limits.{Fits, IsLowestLimit};
 ghost use Rattle.dex_program.specs.View as view;
-ghost use Rattle.dex_rules.specs.Ranges.{WellFormed};
+ghost use Rattle.dex_rules.specs.WellFormed.{WellFormed};
 ghost use Rattle.dex_write.specs.Written.{IsFileOf, IsStripped, IsStripRefused};
 
 use bumpalo::Bump;
 use dex_assemble::assemble;
 use dex_base::Fault;
+use dex_bytes::are_bytes;
 use dex_file::read;
 use dex_program::Program;
 use std::alloc::Global;
@@ -33,11 +34,6 @@ pub fn write(alloc: Global, program: &Program<'_>) -> Result<Vec<u8>, Fault>
 {
     Ok(assemble(alloc, program)?)
 }
-
-// What the type of a slice says of its items.
-fn are_bytes(bytes: &[u8])
-    ensures { AreBytes bytes.now }
-{}
 
 // The program of a file, which is well formed.
 fn read_formed<'a>(alloc: Global, arena: &'a Bump, bytes: &[u8]) -> Result<Program<'a>, Fault>

@@ -105,6 +105,52 @@ fn first_depth_refused_otherwise(alloc: Global) -> Result<Option<&'static str>, 
     Ok(None)
 }
 
+/// A listing of one class with one method, line by line.
+static LINES: [&str; 8] = [
+    "dex 035",
+    "class LA; 0x1",
+    "super Ljava/lang/Object;",
+    "direct m ()V 0x9",
+    "code 1 0 0",
+    "0: return-void",
+    "end code",
+    "end class",
+];
+
+/// A line of that listing given otherwise, or taken away where nothing is given, and the fault and its place.
+type Change = (usize, &'static str, u16, u64);
+
+/// Whether the listing with another line in place of this one is refused with this code at this place.
+fn is_change_refused(alloc: Global, one: &Change) -> Result<bool, Fault> {
+    let (number, line, code, place) = *one;
+    let mut text = Vec::new(alloc);
+    for (i, kept) in LINES.iter().enumerate() {
+        let put = if i.saturating_add(1) == number {
+            line
+        } else {
+            *kept
+        };
+        text.extend_from_slice(put.as_bytes())?;
+        if !put.is_empty() {
+            text.push(b'\n')?;
+        }
+    }
+    is_refused(alloc, text.as_slice(), code, place)
+}
+
+/// The first change that isn't refused so.
+fn first_change_refused_otherwise(
+    alloc: Global,
+    cases: &[Change],
+) -> Result<Option<&'static str>, Fault> {
+    for one in cases {
+        if !is_change_refused(alloc, one)? {
+            return Ok(Some(one.1));
+        }
+    }
+    Ok(None)
+}
+
 #[test]
 fn texts_are_refused_at_their_lowest_line(rt: HostRuntime) -> Result<(), Fail> {
     static CASES: [(&str, u16, u64); 24] = [
@@ -348,4 +394,34 @@ fn rules_are_asked_behind_all_lines(rt: HostRuntime) -> Result<(), Fail> {
 #[test]
 fn values_are_nested_64_deep(rt: HostRuntime) -> Result<(), Fail> {
     none_wrong(first_depth_refused_otherwise(rt.alloc()))
+}
+
+#[test]
+fn a_listing_with_one_line_changed(rt: HostRuntime) -> Result<(), Fail> {
+    static CASES: [Change; 17] = [
+        (6, "0: return-void", 0, 0),
+        (6, "1: return-void", 103, 6),
+        (6, "0: return-void v0", 100, 6),
+        (6, "0: goto @1", 105, 6),
+        (6, "0: goto @0", 115, 0),
+        (6, "0: goto @4294967296", 102, 6),
+        (4, "direct m ()Q 0x9", 101, 4),
+        (4, "direct m (V)V 0x9", 110, 0),
+        (5, "code 65536 0 0", 102, 5),
+        (
+            3,
+            "super Ljava/lang/Object;\nsuper Ljava/lang/Object;",
+            104,
+            4,
+        ),
+        (8, "", 106, 7),
+        (1, "", 103, 1),
+        // Two faults in one line, and in one class.
+        (6, "super Q", 103, 6),
+        (4, "direct m ()Q 4294967296", 101, 4),
+        (6, "0: const-class v256 Q", 102, 6),
+        (4, "static a I 0x9\nstatic a I 4294967296", 102, 5),
+        (3, "super LA;\ndirect n (V)V 0x9", 110, 0),
+    ];
+    none_wrong(first_change_refused_otherwise(rt.alloc(), &CASES))
 }

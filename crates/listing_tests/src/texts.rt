@@ -4,7 +4,8 @@ use bumpalo::Bump;
 use dex_base::Fault;
 use dex_listing::parse;
 use dex_print::print;
-use dex_samples::{none_wrong, shows};
+use dex_program::{Class, Desc, Member, Program, Str, Value};
+use dex_samples::{is_so, none_wrong, shows};
 use std::alloc::Global;
 use std::test::Fail;
 
@@ -60,4 +61,82 @@ fn members_are_put_in_their_order(rt: HostRuntime) -> Result<(), Fail> {
         ),
         "dex 035\nclass LA; 0x1\nsuper LB;\nsource \"a\"\nstatic x Z 0x9 = false\nstatic y J 0x9 = long 0\nstatic z I 0x9 = int 7\nstatic zz I 0x0\ndirect c ()V 0x1\ncode 0 0 0\n0: return-void\nend code\nvirtual a ()V 0x1\nvirtual b ()V 0x1\nend class\n",
     )
+}
+
+#[test]
+fn a_field_without_a_value_before_one_with_a_value_has_its_zero(
+    rt: HostRuntime,
+) -> Result<(), Fail> {
+    shows(
+        shown_again(
+            rt.alloc(),
+            "dex 035\nclass LA; 0x1\nstatic b I 0x9 = int 7\nstatic a I 0x9\nend class\n",
+        ),
+        "dex 035\nclass LA; 0x1\nstatic a I 0x9 = int 0\nstatic b I 0x9 = int 7\nend class\n",
+    )
+}
+
+/// A quote, a backslash, an e with an acute accent and a line feed.
+static UNITS: [u16; 4] = [0x22, 0x5c, 0xe9, 0x0a];
+
+/// A class with a string of these units.
+static WITH_UNITS: &str =
+    "dex 035\nclass LA; 0x1\nstatic s I 0x9 = string \"\\\"\\\\\\u00e9\\u000a\"\nend class\n";
+
+/// A class whose one field has the units as its value.
+const NAMED: Class<'static> = Class {
+    ty: Desc {
+        text: Str {
+            units: &[0x4c, 0x41, 0x3b],
+        },
+    },
+    flags: 1,
+    superclass: None,
+    interfaces: &[],
+    source: None,
+    statics: &[Member {
+        name: Str { units: &[0x73] },
+        ty: Desc {
+            text: Str { units: &[0x49] },
+        },
+        flags: 9,
+    }],
+    values: &[Value::Text(Str {
+        units: &[0x22, 0x5c, 0xe9, 0x0a],
+    })],
+    instances: &[],
+    directs: &[],
+    virtuals: &[],
+};
+
+static CLASSES: [Class<'static>; 1] = [NAMED];
+
+/// Whether the program of that class is printed so.
+fn are_units_printed(alloc: Global) -> Result<bool, Fault> {
+    let bytes = print(alloc, &Program { classes: &CLASSES })?;
+    Ok(bytes.as_slice() == WITH_UNITS.as_bytes())
+}
+
+/// Whether the units are read from that text.
+fn are_units_read(alloc: Global) -> Result<bool, Fault> {
+    let arena = Bump::new(alloc);
+    let program = parse(alloc, &arena, WITH_UNITS.as_bytes())?;
+    for class in program.classes {
+        for value in class.values {
+            if let Value::Text(text) = value {
+                return Ok(text.units == UNITS.as_slice());
+            }
+        }
+    }
+    Ok(false)
+}
+
+#[test]
+fn escaped_units_are_printed(rt: HostRuntime) -> Result<(), Fail> {
+    is_so(are_units_printed(rt.alloc()))
+}
+
+#[test]
+fn escaped_units_are_read(rt: HostRuntime) -> Result<(), Fail> {
+    is_so(are_units_read(rt.alloc()))
 }

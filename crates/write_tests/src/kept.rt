@@ -4,7 +4,6 @@ use bumpalo::Bump;
 use dex_align::align_all;
 use dex_base::Fault;
 use dex_program::Program;
-use dex_ranges::programs_are_in_range;
 use dex_rules::well_formed;
 use dex_write::write;
 use std::alloc::Global;
@@ -12,7 +11,6 @@ use std::alloc::Global;
 /// The file of a program. Refused as `well_formed` or `write` refuses it.
 pub fn file_of(alloc: Global, program: &Program<'_>) -> Result<Vec<u8>, Fault> {
     well_formed(program)?;
-    programs_are_in_range(program);
     write(alloc, program)
 }
 
@@ -23,7 +21,6 @@ pub fn aligned_file_of<'a>(
     program: &Program<'a>,
 ) -> Result<Vec<u8>, Fault> {
     well_formed(program)?;
-    programs_are_in_range(program);
     let aligned = align_all(alloc, arena, program)?;
     write(alloc, &aligned)
 }

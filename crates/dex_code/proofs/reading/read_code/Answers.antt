@@ -27,10 +27,11 @@ returns-clause-only c =
 
 pub returns-clause-broken : goal.returns-clause-broken
 returns-clause-broken c =
+    let even : c.args.off % 4 ≡ 0 = omega (arith, c.if-off-ne0.false) in
     let is : IsSectionOf c.args.sections.now 8193 c.section_of-section.result = assumption c.section_of-section.ensures in
     IfErr-weaker c.read_item.result _ _
     (λ e breaks other. broken (NameIsAt c.args.tables.now) c.args.sections.now c.in-Some.bytes.now c.section_of-section.result c.args.off is c.in-Some.ensures.value e
-    c.in-Some.ensures.low c.in-Some.ensures.high (breaks other))
+    c.in-Some.ensures.low c.in-Some.ensures.high even (breaks other))
     c.read_item.ensures.err
 
 pub returns-clause-refused : goal.returns-clause-refused

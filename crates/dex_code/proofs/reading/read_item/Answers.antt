@@ -18,7 +18,7 @@ read_insns-requires-clause-even c =
 
 pub returns-in_err-insns-clause-err : goal.returns-in_err-insns-clause-err
 returns-in_err-insns-clause-err c =
-    passed _ _ _ c.from_residual.ensures.1 (λ ne. insns-break (NameIsAt c.args.tables.now) c.args.off c.from-2.result c.args.bytes.now c.in-Some.item.units.now _ c.in-Some.ensures.some.units c.from-2.ensures (c.in_err-insns.ensures.err ne))
+    passed _ _ _ c.from_residual.ensures.1 (λ ne. insns-break (NameIsAt c.args.tables.now) c.args.off c.from-2.result c.args.bytes.now c.in-Some.item.units.now _ c.in-Some.ensures.some.whole (let e = c.in-Some.ensures.some.size in let n = c.if-item-eq0.false in omega arith) c.in-Some.ensures.some.units c.from-2.ensures (c.in_err-insns.ensures.err ne))
 
 pub read_tries-requires-clause-base : goal.read_tries-requires-clause-base
 read_tries-requires-clause-base c = let l = c.in-Some.ensures.low in let f = c.from-3.ensures in let r = c.ranges.off.fits in omega arith
@@ -34,7 +34,7 @@ pub returns-in_err-tries-clause-err : goal.returns-in_err-tries-clause-err
 returns-in_err-tries-clause-err c =
     let i = c.in-Some.item in
     passed _ _ _ c.from_residual-in_err-tries.ensures.1 (λ ne.
-    tries-break (NameIsAt c.args.tables.now) c.args.off c.from-3.result c.args.bytes.now c.in_ok-insns.insns.starts.items i _ _ c.in-Some.ensures.some c.from-3.ensures c.in_ok-insns.ensures.ok
+    tries-break (NameIsAt c.args.tables.now) c.args.off c.from-3.result c.args.bytes.now c.in_ok-insns.insns.starts.items i _ _ c.in-Some.ensures.some (let e = c.in-Some.ensures.some.size in let n = c.if-item-eq0.false in omega arith) c.from-3.ensures c.in_ok-insns.ensures.ok
     (subst (λ (z : List ℕ). TriesBreak (NameIsAt c.args.tables.now) z i.size i.tries i.items.now i.list.now (c.from-3.result + i.items_at) c.in_err-tries.field-0.0) c.deref.ensures.value (c.in_err-tries.ensures.err ne)))
 
 pub returns-clause-ok : goal.returns-clause-ok

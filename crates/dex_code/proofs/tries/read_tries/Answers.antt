@@ -22,7 +22,7 @@ returns-in_err-all-clause-err c =
     let place : c.args.base + 8 * c.from.result ≡ c.args.base + 8 * i.tries = ap (λ (n : ℕ). c.args.base + 8 * n) c.from.ensures in
     passed _ _ _ c.from_residual-in_err-all.ensures.1 (λ ne.
     no-list (NameIsAt c.args.tables.now) c.args.starts.now i.size i.tries i.items.now i.list.now c.args.base c.in_err-all.field-0.0 c.if-item-eq0.false
-    (c.in_err-all.ensures.code ne ∙ ap list_fault place) (c.in_err-all.ensures.err ne))
+    c.in_ok-check_tries.ensures.ok (c.in_err-all.ensures.code ne ∙ ap list_fault place) (c.in_err-all.ensures.err ne))
 
 pub returns-clause-err : goal.returns-clause-err
 returns-clause-err c =
@@ -30,7 +30,7 @@ returns-clause-err c =
     let place : c.args.base + 8 * c.from.result ≡ c.args.base + 8 * i.tries = ap (λ (n : ℕ). c.args.base + 8 * n) c.from.ensures in
     err-both _ _ _ c.take_tries.result (λ e p q ne.
     no-handler (NameIsAt c.args.tables.now) c.args.starts.now i.size i.tries i.items.now i.list.now c.in_ok-all.all.offsets.items (map handler c.in_ok-all.all.handlers.items) c.args.base e
-    (NameIsAt-functional c.args.tables.now) c.if-item-eq0.false (p ne ∙ ap list_fault place) c.in_ok-all.ensures.ok (q ne))
+    (NameIsAt-functional c.args.tables.now) c.if-item-eq0.false c.in_ok-check_tries.ensures.ok (p ne ∙ ap list_fault place) c.in_ok-all.ensures.ok (q ne))
     c.take_tries.ensures.code c.take_tries.ensures.err
 
 pub take_tries-requires-clause-begins : goal.take_tries-requires-clause-begins

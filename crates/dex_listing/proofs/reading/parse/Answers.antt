@@ -13,4 +13,4 @@ returns-in_err-well_formed_in-clause-err c =
     passed _ _ _ c.from_residual-in_err-well_formed_in.ensures.1 (λ ne. unruly_text _ (state c.in_ok-draft.draft) _ _ c.in_ok-draft.ensures.ok c.in_ok-check_end.ensures.ok c.into_classes.ensures (c.in_err-well_formed_in.ensures.err ne))
 
 pub returns-clause-ok : goal.returns-clause-ok
-returns-clause-ok c = whole_text _ (state c.in_ok-draft.draft) _ c.in_ok-draft.ensures.ok c.in_ok-check_end.ensures.ok c.into_classes.ensures c.programs_are_in_range.ensures c.in_ok-well_formed_in.ensures.ok
+returns-clause-ok c = whole_text _ (state c.in_ok-draft.draft) _ c.in_ok-draft.ensures.ok c.in_ok-check_end.ensures.ok c.into_classes.ensures c.in_ok-well_formed_in.ensures.formed

@@ -1,7 +1,7 @@
 use Rattle.std.proofs.Common.{map, drop}
 use Rattle.std.specs.List.{AllByRecursion}
 use Rattle.dex_program.specs.View.{catch}
-use Rattle.dex_rules.specs.Ranges.{AreUnits}
+use Rattle.dex_ranges.specs.Ranges.{AreUnits}
 use Rattle.dex_ranges.proofs.bodies.in_catches.Given as goal
 
 abbrev pub invariant-loop-each : goal.invariant-loop-each

@@ -2,7 +2,7 @@ use Rattle.std.proofs.Common.{map, drop}
 use Rattle.std.specs.List.{AllByRecursion}
 use Rattle.dex_program.specs.Mentions.{names_of_insn}
 use Rattle.dex_program.specs.View.{insn}
-use Rattle.dex_rules.specs.Ranges.{NameInRange}
+use Rattle.dex_ranges.specs.Ranges.{NameInRange}
 use Rattle.dex_ranges.proofs.bodies.in_insns.Given as goal
 
 abbrev pub invariant-loop-each : goal.invariant-loop-each

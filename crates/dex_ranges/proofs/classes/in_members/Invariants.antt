@@ -3,7 +3,7 @@ use Rattle.std.specs.List.{AllByRecursion}
 use Rattle.dex_program.specs.Content.{Units}
 use Rattle.dex_program.specs.Mentions.{field_of_class}
 use Rattle.dex_program.specs.View.{member}
-use Rattle.dex_rules.specs.Ranges.{AreUnits, NameInRange, MemberInRange}
+use Rattle.dex_ranges.specs.Ranges.{AreUnits, NameInRange, MemberInRange}
 use Rattle.dex_ranges.proofs.classes.in_members.Given as goal
 
 abbrev pub invariant-loop-each : goal.invariant-loop-each

@@ -3,7 +3,7 @@ use Rattle.std.specs.List.{AllByRecursion}
 use Rattle.dex_program.specs.Content.{Units}
 use Rattle.dex_program.specs.Mentions.{names_of_method}
 use Rattle.dex_program.specs.View.{method}
-use Rattle.dex_rules.specs.Ranges.{AreUnits, NameInRange, DefinedInRange}
+use Rattle.dex_ranges.specs.Ranges.{AreUnits, NameInRange, DefinedInRange}
 use Rattle.dex_ranges.proofs.classes.in_methods.Given as goal
 
 abbrev pub invariant-loop-each : goal.invariant-loop-each

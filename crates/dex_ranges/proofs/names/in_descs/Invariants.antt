@@ -1,7 +1,7 @@
 use Rattle.std.proofs.Common.{map, drop}
 use Rattle.std.specs.List.{AllByRecursion}
 use Rattle.dex_program.specs.View.{desc}
-use Rattle.dex_rules.specs.Ranges.{AreUnits}
+use Rattle.dex_ranges.specs.Ranges.{AreUnits}
 use Rattle.dex_ranges.proofs.names.in_descs.Given as goal
 
 abbrev pub invariant-loop-ty : goal.invariant-loop-ty

@@ -2,7 +2,7 @@ use Rattle.std.proofs.Common.{map, drop}
 use Rattle.std.specs.List.{AllByRecursion}
 use Rattle.dex_program.specs.View.{value}
 use Rattle.dex_program.specs.Mentions.{NamesHold}
-use Rattle.dex_rules.specs.Ranges.{NameInRange, ValueInRange}
+use Rattle.dex_ranges.specs.Ranges.{NameInRange, ValueInRange}
 use Rattle.dex_ranges.proofs.values.in_values.Given as goal
 
 abbrev pub invariant-loop-each : goal.invariant-loop-each

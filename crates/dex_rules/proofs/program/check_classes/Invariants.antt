@@ -2,8 +2,9 @@ use Rattle.std.proofs.Common.{ℕ, ◌<◌, ◌≡◌, map, Some}
 use Rattle.std.specs.List.{slice_get}
 use Rattle.dex_program.specs.Content as content
 use Rattle.dex_program.specs.View.{class}
+use Rattle.dex_ranges.specs.Ranges.{ClassInRange}
 use Rattle.dex_rules.specs.Rules.{ClassHolds}
 use Rattle.dex_rules.proofs.program.check_classes.Given as goal
 
 abbrev pub invariant-loop-i : goal.invariant-loop-i
-invariant-loop-i l = (i : ℕ) (c : content.Class) → i < l.i → slice_get (map class l.classes) i ≡ Some c → ClassHolds (map class l.classes) i c
+invariant-loop-i l = (i : ℕ) (c : content.Class) → i < l.i → slice_get (map class l.classes) i ≡ Some c → ClassHolds (map class l.classes) i c × ClassInRange c

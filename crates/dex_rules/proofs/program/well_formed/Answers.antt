@@ -8,7 +8,7 @@ returns-in_err-check_class-clause-err c =
     passed _ _ _ c.from_residual.ensures.1 (first-broken c.args.all.now.classes.now c.loop-i.i _ _ c.loop-i-test.true c.loop-i.invariant (c.in_err-check_class.ensures.err (map class c.args.all.now.classes.now) c.order_holds-is_in_order.ensures))
 
 pub loop-i-preserved : goal.loop-i-preserved
-loop-i-preserved c = one-more c.args.all.now.classes.now c.loop-i.i _ c.loop-i-test.true c.loop-i.invariant (c.in_ok-check_class.ensures.ok (map class c.args.all.now.classes.now) c.order_holds-is_in_order.ensures)
+loop-i-preserved c = one-more c.args.all.now.classes.now c.loop-i.i _ c.loop-i-test.true c.loop-i.invariant (c.in_ok-check_class.ensures.ok (map class c.args.all.now.classes.now) c.order_holds-is_in_order.ensures) c.in_ok-check_class.ensures.ranges
 
-pub returns-clause-ok : goal.returns-clause-ok
-returns-clause-ok c = all-kept c.args.all.now.classes.now c.loop-i.i c.loop-i-test.false c.loop-i.invariant
+pub returns-clause-formed : goal.returns-clause-formed
+returns-clause-formed c = all-kept c.args.all.now.classes.now c.loop-i.i c.loop-i-test.false c.loop-i.invariant

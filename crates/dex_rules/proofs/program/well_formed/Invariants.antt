@@ -2,8 +2,9 @@ use Rattle.std.proofs.Common.{ℕ, ◌<◌, ◌≡◌, map, Some}
 use Rattle.std.specs.List.{slice_get}
 use Rattle.dex_program.specs.Content as content
 use Rattle.dex_program.specs.View.{class}
+use Rattle.dex_ranges.specs.Ranges.{ClassInRange}
 use Rattle.dex_rules.specs.Rules.{ClassHolds}
 use Rattle.dex_rules.proofs.program.well_formed.Given as goal
 
 abbrev pub invariant-loop-i : goal.invariant-loop-i
-invariant-loop-i l = (i : ℕ) (c : content.Class) → i < l.i → slice_get (map class l.all.classes.now) i ≡ Some c → ClassHolds (map class l.all.classes.now) i c
+invariant-loop-i l = (i : ℕ) (c : content.Class) → i < l.i → slice_get (map class l.all.classes.now) i ≡ Some c → ClassHolds (map class l.all.classes.now) i c × ClassInRange c

@@ -1,5 +1,4 @@
--- Programs whose numbers and units lie in the ranges of their types, as those of every program in memory do, and programs that are
--- well formed.
+-- Programs whose numbers and units lie in the ranges of their types, as those of every program in memory do.
 -- Page: "Dalvik Executable format": the types ubyte to uint of the items' fields, and "string_data_item", whose units are of 16 bits.
 use Rattle.std.specs.Prelude.{◌<◌, ⊤, IfSome, FitsSigned}
 use Rattle.std.specs.Int.{w8, w16, w32, w64}
@@ -7,7 +6,6 @@ use Rattle.std.specs.List.{AllByRecursion}
 use Rattle.dex_program.specs.Content.{Units, Proto, FieldRef, MethodRef, Name, OfText, OfDesc, OfField, OfMethod, Value, Values, no_values, more_values, Code, Member, Method, Class, Program}
 use Rattle.dex_program.specs.Content as made
 use Rattle.dex_program.specs.Mentions.{names_of_class}
-use Rattle.dex_rules.specs.Rules.{RulesHold}
 
 -- UTF-16 units are numbers of 16 bits.
 abbrev pub AreUnits : Units → Type 0
@@ -82,8 +80,3 @@ pub record ClassInRange (c : Class) : Type 0 where
 -- All in a program.
 abbrev pub InRange : Program → Type 0
 InRange p = AllByRecursion ClassInRange p
-
--- A program is well formed: its numbers and units lie in the ranges of their types, and each class keeps the rules.
-pub record WellFormed (p : Program) : Type 0 where
-  pub ranges : InRange p
-  pub rules : RulesHold p

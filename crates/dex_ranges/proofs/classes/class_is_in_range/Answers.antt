@@ -1,7 +1,7 @@
 use Rattle.std.proofs.Common.{rules}
 use Rattle.dex_program.specs.View.{class}
 use Rattle.dex_ranges.proofs.PartRanges.{class-whole}
-use Rattle.dex_ranges.proofs.classes.in_class.Goals as goal
+use Rattle.dex_ranges.proofs.classes.class_is_in_range.Goals as goal
 
 pub returns : goal.returns
 returns c = class-whole (class c.args.one.now) (record {
