@@ -5,37 +5,53 @@ use dex_samples::{is_so, none_wrong};
 use std::alloc::AllocError;
 use std::test::Fail;
 
-fn first_named_otherwise(cases: &[(u16, &'static str)]) -> Option<&'static str> {
-    for (code, want) in cases {
-        if fault_name(*code) != *want {
-            return Some(*want);
+// The faults and their names.
+#[rattlefmt::skip]
+static NAMES: [(u16, &str); 85] = [
+    (1, "TooShort"), (2, "Magic"), (3, "Version"), (4, "FileSize"), (5, "HeaderSize"), (6, "Endian"), (7, "Linked"),
+    (8, "Checksum"), (9, "Signature"), (10, "SectionRange"), (11, "TooManyRows"), (12, "MapPlace"), (13, "MapEntry"),
+    (14, "MapMissing"), (20, "StringPlace"), (21, "StringSpelling"), (22, "StringOrder"), (23, "TypeIndex"),
+    (24, "TypeText"), (25, "TypeOrder"), (26, "ProtoIndex"), (27, "Shorty"), (28, "ParameterList"),
+    (29, "ProtoOrder"), (30, "FieldIndex"), (31, "FieldKind"), (32, "FieldOrder"), (33, "MethodIndex"),
+    (34, "MethodKind"), (35, "MethodOrder"), (40, "ClassIndex"), (41, "ClassKind"), (42, "ClassOrder"),
+    (43, "InterfaceList"), (44, "ClassData"), (45, "MemberIndex"), (46, "MemberOwner"), (47, "MemberOrder"),
+    (48, "Values"), (49, "TooManyValues"), (50, "ValueKind"), (51, "ValueDepth"), (60, "CodePlace"),
+    (61, "EmptyCode"), (62, "Opcode"), (63, "Cut"), (64, "NonZero"), (65, "OperandIndex"), (66, "RegisterCount"),
+    (67, "Payload"), (68, "BranchTarget"), (69, "BranchZero"), (70, "PayloadUse"), (71, "Try"), (72, "Handler"),
+    (73, "Register"), (80, "TooManyTypes"), (81, "TooManyProtos"), (82, "StringOutOfReach"), (83, "FieldOutOfReach"),
+    (84, "MethodOutOfReach"), (85, "BranchOutOfReach"), (86, "Misaligned"), (87, "TryTooLong"), (88, "TooManyTries"),
+    (89, "HandlerTooFar"), (90, "TooBig"), (100, "Word"), (101, "Name"), (102, "Number"), (103, "Order"),
+    (104, "Twice"), (105, "Target"), (106, "NotEnded"), (110, "Name"), (111, "MemberOrder"), (112, "ClassOrder"),
+    (113, "Values"), (114, "Operand"), (115, "Target"), (116, "PayloadUse"), (117, "Try"), (118, "Register"),
+    (200, "NotYet"), (255, "Memory"),
+];
+
+fn wanted_name(code: u16) -> &'static str {
+    for (named, name) in &NAMES {
+        if *named == code {
+            return *name;
+        }
+    }
+    "Unknown"
+}
+
+fn first_named_otherwise(end: u16) -> Option<&'static str> {
+    for code in 0..end {
+        if fault_name(code) != wanted_name(code) {
+            return Some(wanted_name(code));
         }
     }
     None
 }
 
 #[test]
-fn faults_have_their_names() -> Result<(), Fail> {
-    static CASES: [(u16, &str); 17] = [
-        (1, "TooShort"),
-        (14, "MapMissing"),
-        (27, "Shorty"),
-        (28, "ParameterList"),
-        (42, "ClassOrder"),
-        (51, "ValueDepth"),
-        (60, "CodePlace"),
-        (72, "Handler"),
-        (90, "TooBig"),
-        (106, "NotEnded"),
-        (110, "Name"),
-        (117, "Try"),
-        (200, "NotYet"),
-        (255, "Memory"),
-        (0, "Unknown"),
-        (15, "Unknown"),
-        (65535, "Unknown"),
-    ];
-    none_wrong(Ok(first_named_otherwise(&CASES)))
+fn each_number_below_301_has_its_name_or_none() -> Result<(), Fail> {
+    none_wrong(Ok(first_named_otherwise(301)))
+}
+
+#[test]
+fn the_greatest_number_has_no_name() -> Result<(), Fail> {
+    is_so(Ok(fault_name(65535) == "Unknown"))
 }
 
 #[test]

@@ -10,16 +10,17 @@ use dex_tables::Tables;
 use std::alloc::Global;
 
 /// Where the code item begins.
-pub const CODE_AT: u32 = 172;
+pub const CODE_AT: u32 = 180;
 
-/// The strings `I`, `LA;`, `V`, `a` and `b`, the types `I`, `LA;` and `V`, the prototype `()V`, the field `LA;->a:I` and the
-/// method `LA;->b()V`. The data section begins at 172, with the code.
+/// The strings `I`, `LA;`, `V`, `Z`, `a` and `b`, the types `I`, `LA;`, `V` and `Z`, the prototype `()V`, the field `LA;->a:I` and the
+/// method `LA;->b()V`. The data section begins at 180, with the code.
+#[rattlefmt::skip]
 static CODED: Rows<'static> = Rows {
-    strings: &[b"\x01I\0", b"\x03LA;\0", b"\x01V\0", b"\x01a\0", b"\x01b\0"],
-    types: &[0, 1, 2],
+    strings: &[b"\x01I\0", b"\x03LA;\0", b"\x01V\0", b"\x01Z\0", b"\x01a\0", b"\x01b\0"],
+    types: &[0, 1, 2, 3],
     protos: &[(2, 2, None)],
-    fields: &[(1, 0, 3)],
-    methods: &[(1, 0, 4)],
+    fields: &[(1, 0, 4)],
+    methods: &[(1, 0, 5)],
     ..NOTHING
 };
 

@@ -26,39 +26,29 @@ fn first_otherwise(alloc: Global, cases: &[Case]) -> Option<&'static str> {
     None
 }
 
+#[rattlefmt::skip]
 #[test]
 fn an_item_stands_aligned_in_its_section(rt: HostRuntime) -> Result<(), Fail> {
     static CASES: [Case; 5] = [
-        (
-            "it is there",
-            &[1, 0, 0, 0, 0, 0, 0, 0, 0, 0, 0, 0, 1, 0, 0, 0, 0x0e, 0],
-            CODE_AT,
-            (0, 0),
-        ),
-        (
-            "it is misaligned",
-            &[1, 0, 0, 0, 0, 0, 0, 0, 0, 0, 0, 0, 1, 0, 0, 0, 0x0e, 0],
-            174,
-            (60, 174),
-        ),
-        (
-            "it is outside",
-            &[1, 0, 0, 0, 0, 0, 0, 0, 0, 0, 0, 0, 1, 0, 0, 0, 0x0e, 0],
-            0,
-            (60, 0),
-        ),
-        (
-            "its units are cut",
-            &[1, 0, 0, 0, 0, 0, 0, 0, 0, 0, 0, 0, 1, 0, 0, 0, 0x0e],
-            CODE_AT,
-            (60, 172),
-        ),
-        (
-            "its head is cut",
-            &[1, 0, 0, 0, 0, 0, 0, 0, 0, 0, 0, 0, 1, 0, 0],
-            CODE_AT,
-            (60, 172),
-        ),
+        ("it is there", &[1, 0, 0, 0, 0, 0, 0, 0, 0, 0, 0, 0, 1, 0, 0, 0, 0x0e, 0], CODE_AT, (0, 0)),
+        ("it is misaligned", &[1, 0, 0, 0, 0, 0, 0, 0, 0, 0, 0, 0, 1, 0, 0, 0, 0x0e, 0], 182, (60, 182)),
+        ("it is outside", &[1, 0, 0, 0, 0, 0, 0, 0, 0, 0, 0, 0, 1, 0, 0, 0, 0x0e, 0], 0, (60, 0)),
+        ("its units are cut", &[1, 0, 0, 0, 0, 0, 0, 0, 0, 0, 0, 0, 1, 0, 0, 0, 0x0e], CODE_AT, (60, 180)),
+        ("its head is cut", &[1, 0, 0, 0, 0, 0, 0, 0, 0, 0, 0, 0, 1, 0, 0], CODE_AT, (60, 180)),
+    ];
+    none_wrong(Ok(first_otherwise(rt.alloc(), &CASES)))
+}
+
+// A loop of 5 units with one try, which begins 28 bytes behind the item, and a list of handlers 36 bytes behind it.
+#[rattlefmt::skip]
+#[test]
+fn a_try_that_is_wrong_is_told_at_its_place(rt: HostRuntime) -> Result<(), Fail> {
+    static CASES: [Case; 5] = [
+        ("all is well", &[1, 0, 0, 0, 0, 0, 1, 0, 0, 0, 0, 0, 5, 0, 0, 0, 0x12, 0, 0x38, 0, 3, 0, 0x28, 0xfe, 0x0e, 0, 0, 0, 1, 0, 0, 0, 3, 0, 1, 0, 1, 0, 4], CODE_AT, (0, 0)),
+        ("a count of 0", &[1, 0, 0, 0, 0, 0, 1, 0, 0, 0, 0, 0, 5, 0, 0, 0, 0x12, 0, 0x38, 0, 3, 0, 0x28, 0xfe, 0x0e, 0, 0, 0, 1, 0, 0, 0, 0, 0, 1, 0, 1, 0, 4], CODE_AT, (71, 208)),
+        ("a count of 5", &[1, 0, 0, 0, 0, 0, 1, 0, 0, 0, 0, 0, 5, 0, 0, 0, 0x12, 0, 0x38, 0, 3, 0, 0x28, 0xfe, 0x0e, 0, 0, 0, 1, 0, 0, 0, 5, 0, 1, 0, 1, 0, 4], CODE_AT, (71, 208)),
+        ("handler_off 0", &[1, 0, 0, 0, 0, 0, 1, 0, 0, 0, 0, 0, 5, 0, 0, 0, 0x12, 0, 0x38, 0, 3, 0, 0x28, 0xfe, 0x0e, 0, 0, 0, 1, 0, 0, 0, 3, 0, 0, 0, 1, 0, 4], CODE_AT, (72, 216)),
+        ("a catch-all inside if-eqz", &[1, 0, 0, 0, 0, 0, 1, 0, 0, 0, 0, 0, 5, 0, 0, 0, 0x12, 0, 0x38, 0, 3, 0, 0x28, 0xfe, 0x0e, 0, 0, 0, 1, 0, 0, 0, 3, 0, 1, 0, 1, 0, 2], CODE_AT, (72, 216)),
     ];
     none_wrong(Ok(first_otherwise(rt.alloc(), &CASES)))
 }

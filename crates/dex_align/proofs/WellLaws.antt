@@ -6,6 +6,7 @@ use Rattle.dex_align.specs.Programs.{Pairwise, AlignedMethod, AlignedClass, Alig
 use Rattle.dex_align.proofs.NameLaws.{class_names}
 use Rattle.dex_align.proofs.PairLaws.{paired_maps, paired_all, partner_of}
 use Rattle.dex_base.specs.Descriptor.{IsClass}
+use Rattle.dex_code_rules.proofs.OperandLaws.{formed_operands}
 use Rattle.dex_code_rules.specs.CodeRules.{OperandsHold, TargetsHold, PayloadsHold, TriesHold}
 use Rattle.dex_program.specs.Content.{Descriptor, Code, Method, Class, Program}
 use Rattle.dex_program.specs.Depth.{depth}
@@ -115,7 +116,7 @@ class_rules p q e i c d a h f = record {
   members = same_order c d a h.members;
   order = same_place p q e i c d a h.order;
   values = same_values c d a h.values;
-  operands = codes_turned OperandsHold (λ k g. record { some = g.some; few = g.few; operands = g.operands }) d f;
+  operands = codes_turned OperandsHold (λ k g. formed_operands k g) d f;
   targets = codes_turned TargetsHold (λ k g. g.targets) d f;
   payloads = codes_turned PayloadsHold (λ k g. g.payloads) d f;
   tries = codes_turned TriesHold (λ k g. g.tries) d f;

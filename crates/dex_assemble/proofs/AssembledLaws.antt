@@ -1,5 +1,5 @@
 -- A finished file is assembled.
-use Rattle.std.proofs.Common.{◌≡◌, ℕ, ◌+◌, ◌*◌, List, [], ◌∷◌, ◌++◌, length, map, drop, sym, ap, ◌∙◌, arith, subst, length-append}
+use Rattle.std.proofs.Common.{◌≡◌, ℕ, ◌+◌, ◌*◌, ◌≤◌, List, [], ◌∷◌, ◌++◌, length, map, drop, sym, ap, ◌∙◌, arith, subst, length-append}
 use Rattle.std.proofs.lemmas.List.{length-map}
 use Rattle.dex_bytes.specs.Fields.{u16_bytes, u32_bytes}
 use Rattle.dex_bytes.specs.Grammar.{Each}
@@ -108,8 +108,8 @@ row_count s p at rows t =
 -- ---- the file
 
 pub assembled : (out b : List ℕ) (s : Five) (p : Program) (plan : Plan) (at : Places) (rows : List ℕ)
-    → DataIsLaid out s p plan at → SpellsTables s p at rows → Finishes out b plan rows → Assembled b s p
-assembled out b s p plan at rows d t f = record {
+    → DataIsLaid out s p plan at → SpellsTables s p at rows → Finishes out b plan rows → length b ≤ length out + 163 → Assembled b s p
+assembled out b s p plan at rows d t f short = record {
   plan = plan;
   map = f.map;
   at = at;
@@ -121,4 +121,5 @@ assembled out b s p plan at rows d t f = record {
   rows_are = f.rows_are;
   tables = t;
   bytes = f.bytes;
+  short = let n = d.bound in omega (arith, n, short);
 }

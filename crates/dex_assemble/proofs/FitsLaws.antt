@@ -5,7 +5,7 @@ use Rattle.dex_layout.specs.Plan.{tables_end}
 use Rattle.dex_layout.specs.Sections.{wide_all}
 use Rattle.dex_layout.specs.declared.plan.Rows.{Rows}
 use Rattle.dex_limits.specs.Limits.{Fits}
-use Rattle.dex_limits.specs.Wide.{array_values, bodies_of, body_values, list_values, text_values, wide_body, wide_data, wide_list, wide_rows, wide_text}
+use Rattle.dex_limits.specs.Wide.{array_values, bodies_of, body_values, list_values, text_values, wide_body, wide_data, wide_list, wide_of, wide_rows, wide_text}
 use Rattle.dex_limits.proofs.PartLaws.{by_parts}
 use Rattle.dex_limits.proofs.SumLaws.{wide_all_append}
 use Rattle.dex_names.specs.Closure.{Five}
@@ -29,6 +29,7 @@ pub record Room (s : Five) (p : Program) : Type 0 where
   pub texts_are : texts ≡ wide_all wide_text (text_values s)
   pub arrays_are : arrays ≡ wide_all wide_array (array_values p)
   pub datas_are : datas ≡ wide_all wide_data p
+  pub sum : wide_of s p ≡ rows + lists + codes + texts + arrays + datas + 163
   pub whole : rows + lists + codes + texts + arrays + datas + 163 ≤ 4294967295
   pub few_types : length s.types ≤ 65535
   pub few_protos : length s.protos ≤ 65535
@@ -47,6 +48,7 @@ room_of s p e f = rw e (record {
   texts_are = refl;
   arrays_are = refl;
   datas_are = refl;
+  sum = by_parts (needed p) p;
   whole = let w = f.small in let b = by_parts (needed p) p in omega (arith, w, b);
   few_types = f.few_types;
   few_protos = f.few_protos;
@@ -60,10 +62,10 @@ few_of s p r = record {
   methods = omega (arith, r.rows_are, r.whole);
 }
 
--- Header and tables, which take n bytes, have room behind them for all parts of the data.
+-- Header and tables, which take n bytes, have room behind them for all parts of the data and the map.
 pub record Behind (s : Five) (p : Program) (n : ℕ) : Type 0 where
   pub some : 0 < n
-  pub small : n + wide_all wide_list (list_values s p) + wide_all wide_body (body_values p) + wide_all wide_text (text_values s) + wide_all wide_array (array_values p) + wide_all wide_data p ≤ 4294967295
+  pub small : n + wide_all wide_list (list_values s p) + wide_all wide_body (body_values p) + wide_all wide_text (text_values s) + wide_all wide_array (array_values p) + wide_all wide_data p + 163 ≤ 4294967295
 
 pub behind : (s : Five) (p : Program) (rows : Rows) (n : ℕ) → s ≡ needed p → Fits p → rows ≡ rows_of s p → n ≡ tables_end rows → Behind s p n
 behind s p rows n e f r m =

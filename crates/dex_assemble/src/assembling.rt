@@ -3,7 +3,7 @@
 ghost use Rattle.std.specs.Prelude.{◌≡◌, ◌≢◌, ℕ, ◌+◌, ◌<◌, ◌≤◌, ◌^◌, IfOk, IfErr, OnOk, IsOkUnless, length};
 ghost use Rattle.dex_bytes.specs.Fault.{memory};
 ghost use Rattle.dex_layout.specs.Plan.{tables_end};
-ghost use Rattle.dex_layout.specs.Tiles.{zeros};
+ghost use Rattle.dex_layout.specs.Tiles.{gap, zeros};
 ghost use Rattle.dex_limits.specs.Limits.{Fits, IsLowestLimit};
 ghost use Rattle.dex_limits.specs.Wide.{wide_rows};
 ghost use Rattle.dex_names.specs.Needed.{needed};
@@ -15,7 +15,7 @@ ghost use Rattle.dex_assemble.specs.Making.{places_of};
 use bumpalo::Bump;
 use dex_base::Fault;
 use dex_class_defs::put_classes;
-use dex_layout::{Part, Plan, Rows, finish};
+use dex_layout::{Part, Plan, Rows, finish, gap_behind};
 use dex_limits::check_limits;
 use dex_names::Ranks;
 use dex_needed::needed_names;
@@ -25,7 +25,7 @@ use dex_sections::{put_arrays, put_codes, put_datas, put_lists, put_strings};
 use std::alloc::Global;
 
 /// The file of a program that is well formed, laid out as `Assembled` says: tables of exactly the needed names, type lists, code items,
-/// texts, static values, class data, map. Each use of a list, an array or a body has an item of its own.
+/// texts, static values, class data, map. Equal lists, bodies and arrays stand once.
 ///
 /// Refused are programs that break a limit of the format, by the lowest of 80 to 90 that stands, at its place. 255 is want of memory.
 pub fn assemble(alloc: Global, program: &Program<'_>) -> Result<Vec<u8>, Fault>
@@ -110,6 +110,15 @@ fn part(items: u32, begin: u32, end: u32) -> Part
     Part { items, begin, end }
 }
 
+// The part of so many code items, which stand behind the type lists: it begins at the first of them, behind the bytes that align it.
+fn codes_part(items: u32, lists_end: u32, end: u32) -> Part
+    requires { lists_end + 3 < 2 ^ 32 }
+    ensures { result ≡ record { items = items; begin = lists_end + gap 4 lists_end; end = end } }
+{
+    let padding = gap_behind(lists_end as usize) as u32;
+    part(items, lists_end + padding, end)
+}
+
 // Appends the parts of the data.
 fn put_data(
     alloc: Global,
@@ -141,7 +150,7 @@ fn put_data(
         plan: Plan {
             rows: counts,
             lists: part(lists.items, tables, lists_end),
-            codes: part(codes.items, lists_end, codes_end),
+            codes: codes_part(codes.items, lists_end, codes_end),
             strings: part(texts.items, codes_end, texts_end),
             arrays: part(arrays.items, texts_end, arrays_end),
             datas: part(datas.items, arrays_end, datas_end),

@@ -8,3 +8,4 @@ pub mod StaticsLaws
 pub mod MethodLaws
 pub mod OnceLaws
 pub mod SeenLaws
+pub mod KeptLaws

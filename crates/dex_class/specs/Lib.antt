@@ -4,3 +4,4 @@ pub mod ClassData
 pub mod Classes
 pub mod ClassFaults
 pub mod Reading
+pub mod Kept

@@ -1,16 +1,19 @@
 // The first pass over class_defs: all of each class but its static values and its code, faults 40 to 47.
-ghost use Rattle.std.specs.Prelude.{◌≢◌, ◌<◌, IfOk, IfErr};
+ghost use Rattle.std.specs.Prelude.{◌≢◌, ◌<◌, IfOk, IfErr, OnOk, map};
 ghost use Rattle.dex_container.specs.Layout.{size_of};
 ghost use Rattle.dex_bytes.specs.Fault.{memory};
+ghost use Rattle.dex_program.specs.View.{desc};
 ghost use Rattle.dex_tables.specs.Names.{AreNamesOf, AreRows};
 ghost use Rattle.dex_tables.specs.TableFaults.{BreaksAt, IsFirstRow};
 ghost use Rattle.dex_class.specs.ClassFaults.{ClassBreaks, ClassHolds, ClassesHold};
+ghost use Rattle.dex_class.specs.Classes.{InterfacesAt};
+ghost use Rattle.dex_class.specs.Kept.{AreKept};
 ghost use Rattle.dex_class.specs.Places.{ArePlaces};
 ghost use Rattle.dex_class.specs.Reading.{IsHead};
 
 use crate::class_data::entries_at;
 use crate::class_row::{class_count, class_place, class_word, read_row};
-use crate::interfaces::read_interfaces;
+use crate::interfaces::interfaces_at;
 use crate::members::{Bare, read_members};
 use crate::order::is_in_order;
 use crate::places::{Places, read_places};
@@ -20,6 +23,7 @@ use dex_base::{Fault, fault};
 use dex_container::Sections;
 use dex_program::{Desc, Member, Str};
 use dex_tables::Tables;
+use indexmap::IndexMap;
 use std::alloc::Global;
 
 /// A class before its static values and its code are looked at.
@@ -44,13 +48,16 @@ fn read_head<'a, 's>(
     sections: &Sections<'_>,
     tables: &Tables<'a>,
     places: &Places,
+    kept: &mut IndexMap<u32, &'a [Desc<'a>]>,
     i: u32,
 ) -> Result<Head<'a, 's>, Fault>
     requires names { AreNamesOf sections.now tables.now }
     requires places { ArePlaces sections.now (size_of sections.now 5) places.now.first.items places.now.last.items }
+    requires kept { AreKept (λ off list. InterfacesAt sections.now off (map desc list.now)) kept.old }
     requires row { i < size_of sections.now 5 }
     ensures ok { IfOk result (λ h. IsHead sections.now i h) }
     ensures holds { IfOk result (λ _. ClassHolds sections.now i) }
+    ensures kept { OnOk result (AreKept (λ off list. InterfacesAt sections.now off (map desc list.now)) kept.new) }
     ensures err { IfErr result (λ e. e ≢ memory → BreaksAt ClassBreaks sections.now 5 i e) }
 {
     // Only for the proof: what holds of each value of its type.
@@ -58,7 +65,7 @@ fn read_head<'a, 's>(
     let place = class_place(sections, i);
     let row = read_row(sections, tables, i)?;
     let list = class_word(sections, i, 3);
-    let Some(interfaces) = read_interfaces(alloc, arena, sections, tables, list)? else {
+    let Some(interfaces) = interfaces_at(alloc, arena, sections, tables, kept, list)? else {
         return Err(Fault {
             code: fault::INTERFACE_LIST,
             place,
@@ -105,9 +112,12 @@ pub fn read_heads<'a, 's>(
 {
     let count = class_count(sections);
     let places = read_places(alloc, sections)?;
+    let mut kept = IndexMap::new(alloc);
     let mut heads: Vec<Head<'a, 's>, &'s Bump> = Vec::with_capacity(scratch, count as usize)?;
     for i in 0..count {
-        let head = read_head(alloc, arena, scratch, sections, tables, &places, i)?;
+        let head = read_head(
+            alloc, arena, scratch, sections, tables, &places, &mut kept, i,
+        )?;
         heads.push(head)?;
     }
     Ok(into_bump_slice(heads))

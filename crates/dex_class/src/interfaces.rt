@@ -1,11 +1,12 @@
 // The interfaces of a class: fault 43.
-ghost use Rattle.std.specs.Prelude.{◌≡◌, ◌≢◌, ◌↔◌, ◌<◌, IfOk, IfSome, IfNone, IsTrue, IsOkUnless, length, map};
+ghost use Rattle.std.specs.Prelude.{◌≡◌, ◌≢◌, ◌↔◌, ◌<◌, IfOk, IfSome, IfNone, IsTrue, IsOkUnless, OnOk, length, map};
 ghost use Rattle.std.specs.List.{AllByRecursion};
 ghost use Rattle.dex_base.specs.Descriptor.{IsClass};
 ghost use Rattle.dex_bytes.specs.Fault.{memory};
 ghost use Rattle.dex_program.specs.View.{desc};
 ghost use Rattle.dex_tables.specs.Names.{AreNamesOf};
 ghost use Rattle.dex_class.specs.Classes.{AreDistinct, InterfacesAt};
+ghost use Rattle.dex_class.specs.Kept.{AreKept};
 ghost use Rattle.dex_class.specs.Reading.{IsNotAmong};
 
 use bumpalo::Bump;
@@ -13,7 +14,7 @@ use dex_base::{Fault, is_class};
 use dex_container::Sections;
 use dex_program::{Desc, desc_eq};
 use dex_tables::Tables;
-use indexmap::IndexSet;
+use indexmap::{IndexMap, IndexSet};
 use std::alloc::Global;
 
 /// How many types are compared pair by pair, without memory.
@@ -81,8 +82,8 @@ fn are_distinct(alloc: Global, types: &[Desc<'_>]) -> Result<bool, Fault>
     are_many_distinct(alloc, types)
 }
 
-/// The interfaces at an offset, in the arena. None where no list of distinct class types stands there.
-pub(crate) fn read_interfaces<'a>(
+// The interfaces at an offset, in the arena. None where no list of distinct class types stands there.
+fn read_interfaces<'a>(
     alloc: Global,
     arena: &'a Bump,
     sections: &Sections<'_>,
@@ -106,4 +107,31 @@ pub(crate) fn read_interfaces<'a>(
         return Ok(None);
     }
     Ok(Some(types))
+}
+
+/// The interfaces at an offset: the list that is kept of it, or the one that is read now, and kept. None where no list of distinct
+/// class types stands there.
+pub(crate) fn interfaces_at<'a>(
+    alloc: Global,
+    arena: &'a Bump,
+    sections: &Sections<'_>,
+    tables: &Tables<'a>,
+    kept: &mut IndexMap<u32, &'a [Desc<'a>]>,
+    off: u32,
+) -> Result<Option<&'a [Desc<'a>]>, Fault>
+    requires names { AreNamesOf sections.now tables.now }
+    requires kept { AreKept (λ off list. InterfacesAt sections.now off (map desc list.now)) kept.old }
+    ensures found { IfOk result (λ r. IfSome r (λ list. InterfacesAt sections.now off (map desc list.now))) }
+    ensures none { IfOk result (λ r. IfNone r ((ts : _) → ¬ InterfacesAt sections.now off ts)) }
+    ensures kept { OnOk result (AreKept (λ off list. InterfacesAt sections.now off (map desc list.now)) kept.new) }
+    ensures memory { IsOkUnless result memory }
+{
+    if let Some(list) = kept.get(&off) {
+        return Ok(Some(*list));
+    }
+    let Some(list) = read_interfaces(alloc, arena, sections, tables, off)? else {
+        return Ok(None);
+    };
+    kept.insert(off, list)?;
+    Ok(Some(list))
 }

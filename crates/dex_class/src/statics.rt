@@ -1,10 +1,14 @@
 // The second pass over class_defs: static values, faults 48 to 51.
-ghost use Rattle.std.specs.Prelude.{◌≡◌, ◌≢◌, ◌<◌, IfOk, IfErr};
+ghost use Rattle.std.specs.Prelude.{◌≡◌, ◌≢◌, ◌<◌, IfOk, IfErr, OnOk, map};
 ghost use Rattle.dex_bytes.specs.Fault.{memory};
 ghost use Rattle.dex_container.specs.Layout.{size_of};
-ghost use Rattle.dex_tables.specs.Names.{AreNamesOf, AreRows};
+ghost use Rattle.dex_program.specs.View.{value};
+ghost use Rattle.dex_tables.specs.Names.{AreNamesOf, AreRows, NameIsAt};
 ghost use Rattle.dex_tables.specs.Sorted.{RowsHold};
 ghost use Rattle.dex_class.specs.ClassFaults.{at_row, ValuesBreak, ValuesHold, IsFirstClass};
+ghost use Rattle.dex_value.specs.Faults.{ArrayBreaksAt};
+ghost use Rattle.dex_value.specs.Standing.{ArrayStands};
+ghost use Rattle.dex_class.specs.Kept.{AreKept, StandsOnce};
 ghost use Rattle.dex_class.specs.Reading.{IsHead, AreStatics};
 
 use crate::class_row::{class_count, class_place, class_word};
@@ -16,12 +20,40 @@ use dex_container::Sections;
 use dex_program::Value;
 use dex_tables::Tables;
 use dex_value::read_array;
+use indexmap::IndexMap;
 use std::alloc::Global;
 
 /// The static values of a class.
 #[derive(Clone, Copy)]
 pub struct Statics<'a> {
     pub values: &'a [Value<'a>],
+}
+
+// The values at an offset, at most so many: those that are kept of it, or those that are read now, and kept.
+fn array_at<'a>(
+    alloc: Global,
+    arena: &'a Bump,
+    sections: &Sections<'_>,
+    tables: &Tables<'a>,
+    kept: &mut IndexMap<u32, &'a [Value<'a>]>,
+    off: u32,
+    most: usize,
+) -> Result<&'a [Value<'a>], Fault>
+    requires kept { AreKept (λ off values. StandsOnce (NameIsAt tables.now) sections.now off (map value values.now)) kept.old }
+    ensures ok { IfOk result (λ values. ArrayStands (NameIsAt tables.now) sections.now off most (map value values.now)) }
+    ensures kept { OnOk result (AreKept (λ off values. StandsOnce (NameIsAt tables.now) sections.now off (map value values.now)) kept.new) }
+    ensures broken { IfErr result (λ e. e ≢ memory → ArrayBreaksAt (NameIsAt tables.now) sections.now off most e) }
+{
+    if let Some(found) = kept.get(&off) {
+        let values: &'a [Value<'a>] = *found;
+        if values.len() > most {
+            return Err(Fault::at(fault::TOO_MANY_VALUES, u64::from(off)));
+        }
+        return Ok(values);
+    }
+    let values = read_array(alloc, arena, tables, sections, off, most)?;
+    kept.insert(off, values)?;
+    Ok(values)
 }
 
 // A fault of a row's array stands at the row, one of a value at the value.
@@ -44,20 +76,31 @@ fn row_statics<'a>(
     arena: &'a Bump,
     sections: &Sections<'_>,
     tables: &Tables<'a>,
+    kept: &mut IndexMap<u32, &'a [Value<'a>]>,
     i: u32,
     head: Head<'a, '_>,
 ) -> Result<Statics<'a>, Fault>
     requires names { AreNamesOf sections.now tables.now }
     requires row { i < size_of sections.now 5 }
+    requires kept { AreKept (λ off values. StandsOnce (NameIsAt tables.now) sections.now off (map value values.now)) kept.old }
     requires head { IsHead sections.now i head }
     ensures ok { IfOk result (λ s. AreStatics sections.now i s) }
+    ensures kept { OnOk result (AreKept (λ off values. StandsOnce (NameIsAt tables.now) sections.now off (map value values.now)) kept.new) }
     ensures err { IfErr result (λ e. e ≢ memory → ValuesBreak sections.now i e) }
 {
     let off = class_word(sections, i, 7);
     if off == 0 {
         return Ok(Statics { values: &[] });
     }
-    match read_array(alloc, arena, tables, sections, off, head.statics.len()) {
+    match array_at(
+        alloc,
+        arena,
+        sections,
+        tables,
+        kept,
+        off,
+        head.statics.len(),
+    ) {
         Ok(values) => Ok(Statics { values }),
         Err(fault) => Err(at_row(class_place(sections, i), fault)),
     }
@@ -94,10 +137,11 @@ pub fn read_statics<'a, 's>(
     ensures err { IfErr result (λ e. e ≢ memory → IsFirstClass ValuesBreak ValuesHold sections.now e) }
 {
     let count = class_count(sections);
+    let mut kept = IndexMap::new(alloc);
     let mut all: Vec<Statics<'a>, &'s Bump> = Vec::with_capacity(scratch, count as usize)?;
     for i in 0..count {
         let head = head_at(sections, heads, i);
-        let statics = row_statics(alloc, arena, sections, tables, i, head)?;
+        let statics = row_statics(alloc, arena, sections, tables, &mut kept, i, head)?;
         all.push(statics)?;
     }
     Ok(into_bump_slice(all))

@@ -1,6 +1,6 @@
 -- A code that is spelled by one naming is spelled by each naming that it implies.
-use Rattle.std.proofs.Common.{◌≡◌, ℕ, ℤ, zero, suc, ◌<◌, List, Option, Some, None}
-use Rattle.dex_bytes.specs.Grammar.{Then, Pair, Many}
+use Rattle.std.proofs.Common.{ℕ, ℤ, zero, suc, List, Option, Some, None}
+use Rattle.dex_bytes.specs.Grammar.{Many}
 use Rattle.dex_bytes.specs.Leb128.{Spells, SpellsSigned}
 use Rattle.dex_bytes.proofs.WeakerLaws.{Implies, Then-weaker, Pair-weaker, Many-weaker}
 use Rattle.dex_bytes.proofs.PlacedLaws.{Placed-weaker}

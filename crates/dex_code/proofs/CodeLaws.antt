@@ -1,5 +1,5 @@
 -- What stands at an offset, as the crates above cite it: one code, by each naming that is implied, and no code where a fault is.
-use Rattle.std.proofs.Common.{◌≡◌, ℕ, ◌-◌, ◌<◌, ◌≤◌, List, take, drop, sym, subst, ◌∙◌, arith, inl, inr}
+use Rattle.std.proofs.Common.{◌≡◌, ℕ, ◌-◌, ◌≤◌, List, take, drop, sym, subst, ◌∙◌, arith, inl, inr}
 use Rattle.std.proofs.lemmas.List.{take-take, take-append-drop}
 use Rattle.dex_bytes.specs.Grammar.{Takes}
 use Rattle.dex_bytes.specs.declared.fault.Fault.{Fault}

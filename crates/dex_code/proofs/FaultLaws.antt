@@ -1,8 +1,6 @@
 -- Where a code is spelled, no rule is broken.
-use Rattle.std.proofs.Common.{◌≡◌, ◌≢◌, ℕ, ◌+◌, ◌-◌, ◌<◌, ◌≤◌, ◌*◌, ◌/◌, ◌%◌, ◌++◌, List, [], ◌∷◌, length, drop, refl, ap, sym, ◌∙◌, subst, arith, zero, suc, inl, inr, Some}
-use Rattle.std.specs.Prelude.{slice_range}
+use Rattle.std.proofs.Common.{◌≡◌, ℕ, ◌+◌, ◌-◌, ◌<◌, ◌*◌, ◌++◌, List, length, drop, refl, sym, ◌∙◌, subst, arith, zero, suc, inl, inr}
 use Rattle.dex_bytes.specs.declared.fault.Fault.{Fault}
-use Rattle.dex_insn.specs.Raw as raw
 use Rattle.dex_insn.specs.Raw.{Raw}
 use Rattle.dex_insn.proofs.Unique.{slice-length}
 use Rattle.dex_program.specs.Content.{Name, Code, Insn, Try}
@@ -11,9 +9,8 @@ use Rattle.dex_code_insns.specs.InsnFaults.{InsnsBreak}
 use Rattle.dex_code_insns.specs.Reading.{ReadInsns}
 use Rattle.dex_code_insns.proofs.InsnsOnce.{walks-one}
 use Rattle.dex_code_insns.proofs.InsnFaultLaws.{insns-clear, rules-hold}
-use Rattle.dex_code.specs.Item.{tries_of, size_of, units_end, tries_begin, list_begin, units_of, items_of, IsWhole, try_handler}
-use Rattle.dex_code.specs.Handlers.{Handler, SpellsHandlers, SpellsList, handler_at}
-use Rattle.dex_code.specs.Tries.{SpellsTries, SpellsTry, TryHolds, handler_of}
+use Rattle.dex_code.specs.Item.{tries_of, size_of, units_end, tries_begin, list_begin, units_of, items_of, IsWhole}
+use Rattle.dex_code.specs.Tries.{SpellsTries, handler_of}
 use Rattle.dex_program.specs.Formed.{try_at}
 use Rattle.dex_code.specs.Faults.{HasHandlers, TriesBreak, ItemBreaks}
 use Rattle.dex_code.specs.Reading.{ReadCode, IsItem}

@@ -1,6 +1,6 @@
 -- Handlers are spelled in one way: no spelling of one begins another, and it spells one.
-use Rattle.std.proofs.Common.{◌≡◌, ℕ, ℤ, ◌+◌, ◌<◌, ◌≤◌, ◌++◌, List, [], ◌∷◌, length, refl, ap, sym, ◌∙◌, arith, zero, suc, append_assoc, subst, Option, Some, None}
-use Rattle.dex_bytes.specs.Grammar.{IsPrefixUnique, Then, Pair, Many, Placed}
+use Rattle.std.proofs.Common.{◌≡◌, ℕ, ℤ, ◌++◌, List, length, refl, ap, sym, ◌∙◌, subst, Option, Some, None}
+use Rattle.dex_bytes.specs.Grammar.{IsPrefixUnique, Then, Many, Placed}
 use Rattle.dex_bytes.proofs.GrammarLaws.{Then-unique, Pair-unique, Many-unique, regrouped, rest_same}
 use Rattle.dex_bytes.proofs.ViaLaws.{Via-unique}
 use Rattle.dex_bytes.proofs.PlacedLaws.{Placed-unique}

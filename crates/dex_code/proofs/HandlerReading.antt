@@ -1,20 +1,20 @@
 -- Handlers at the front of bytes.
-use Rattle.std.proofs.Common.{◌≡◌, ◌≢◌, ℕ, ℤ, pos, negsuc, ◌+◌, ◌<◌, ◌≤◌, ◌++◌, List, [], ◌∷◌, length, drop, map, refl, ap, sym, ◌∙◌, arith, zero, suc, subst, Option, Some, None, ◌<ℤ◌}
+use Rattle.std.proofs.Common.{◌≡◌, ℕ, ℤ, pos, negsuc, ◌<◌, ◌++◌, List, [], ◌∷◌, length, map, refl, ap, sym, ◌∙◌, arith, zero, suc, subst, Some, None, ◌<ℤ◌}
 use Rattle.std.proofs.lemmas.Int.{ints}
 use Rattle.std.proofs.lemmas.List.{map-append}
 use Rattle.dex_program.specs.View.{catch}
 use Rattle.dex_program.specs.declared.code.Catch.{Catch as Held}
-use Rattle.dex_bytes.specs.Grammar.{IsPrefixUnique, Begins, Takes, NoneBegins, Then, Pair, Many, Each}
+use Rattle.dex_bytes.specs.Grammar.{Takes, NoneBegins, Then, Pair, Many, Each}
 use Rattle.dex_bytes.specs.Leb128.{Spells, SpellsSigned}
-use Rattle.dex_bytes.proofs.TakesLaws.{Takes-from_begins, Begins-from_takes, Takes-unique, Takes-then, Takes-each_push}
+use Rattle.dex_bytes.proofs.TakesLaws.{Begins-from_takes, Takes-then, Takes-each_push}
 use Rattle.dex_bytes.proofs.ViaLaws.{via-none, second-none}
-use Rattle.dex_bytes.proofs.GrammarLaws.{Then-none_first, Then-none_second, Many-none, Many-unique}
+use Rattle.dex_bytes.proofs.GrammarLaws.{Then-none_first, Many-none, Many-unique}
 use Rattle.dex_bytes.proofs.Numbers.{spells_unique}
 use Rattle.dex_bytes.proofs.Signed.{signed_unique}
-use Rattle.dex_program.specs.Content.{Catch, Name, OfDesc, Descriptor}
+use Rattle.dex_program.specs.Content.{Catch, Name}
 use Rattle.dex_code_insns.specs.Symbols.{IsFunctional}
 use Rattle.dex_code.specs.Handlers.{Handler, catches_of, HasAll, SpellsPlace, SpellsType, SpellsCatch, SpellsAll, SpellsParts, SpellsHandler}
-use Rattle.dex_code.proofs.HandlerLaws.{type-unique, place-unique, catch-unique}
+use Rattle.dex_code.proofs.HandlerLaws.{catch-unique}
 
 -- ---- catches
 

@@ -1,18 +1,16 @@
 -- The item at the front of bytes, and what follows it.
-use Rattle.std.proofs.Common.{◌≡◌, ◌≢◌, ℕ, ◌+◌, ◌<◌, ◌≤◌, ◌*◌, ◌/◌, ◌%◌, ◌++◌, List, [], ◌∷◌, length, take, drop, refl, ap, sym, ◌∙◌, subst, arith, zero, suc, append_assoc, length-append, length-take, length-drop, if◌then◌else◌, ◌==◌, inl, inr}
+use Rattle.std.proofs.Common.{◌≡◌, ◌≢◌, ℕ, ◌+◌, ◌≤◌, ◌*◌, ◌%◌, ◌++◌, List, length, take, drop, ap, sym, ◌∙◌, subst, arith, append_assoc, length-append, length-take, if◌then◌else◌, ◌==◌}
 use Rattle.std.specs.Prelude.{slice_range}
-use Rattle.std.proofs.lemmas.List.{take-append-drop, drop_at, drop-append-le, append_cancel_right}
-use Rattle.dex_bytes.specs.Fields.{u16_at, u32_at}
+use Rattle.std.proofs.lemmas.List.{take-append-drop, drop-append-le, append_cancel_right}
 use Rattle.dex_bytes.specs.Grammar.{IsPrefixUnique, Takes}
 use Rattle.dex_bytes.proofs.FieldBounds.{u16_at-front, u32_at-front}
-use Rattle.dex_bytes.specs.declared.fault.Fault.{Fault}
 use Rattle.dex_insn.specs.Raw.{Raw}
 use Rattle.dex_insn.proofs.More.{slice-append}
 use Rattle.dex_program.specs.Content.{Name, Code, Insn, Try}
-use Rattle.dex_code_insns.specs.Walk.{starts, Walks}
+use Rattle.dex_code_insns.specs.Walk.{starts}
 use Rattle.dex_code_insns.specs.Symbols.{IsFunctional}
 use Rattle.dex_code_insns.specs.Reading.{ReadInsns}
-use Rattle.dex_code.specs.Item.{registers_of, ins_of, outs_of, tries_of, size_of, units_end, tries_begin, list_begin, units_of, items_of, IsWhole}
+use Rattle.dex_code.specs.Item.{tries_of, size_of, units_end, tries_begin, list_begin, units_of, items_of}
 use Rattle.dex_code_insns.specs.Insns.{SpellsInsns}
 use Rattle.dex_code.specs.Tries.{SpellsTries}
 use Rattle.dex_code.specs.Code.{SpellsCode}

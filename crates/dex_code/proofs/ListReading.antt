@@ -1,7 +1,7 @@
 -- The list of handlers, one by one.
-use Rattle.std.proofs.Common.{◌≡◌, ◌≢◌, ℕ, ◌+◌, ◌-◌, ◌<◌, ◌≤◌, ◌++◌, List, [], ◌∷◌, length, map, get_or, refl, ap, sym, ◌∙◌, arith, zero, suc, subst, append_assoc, length-append}
-use Rattle.std.proofs.lemmas.List.{map-append, length-map, append-nil}
-use Rattle.dex_bytes.specs.Grammar.{Takes, NoneBegins, Placed, Each}
+use Rattle.std.proofs.Common.{◌≡◌, ℕ, ◌+◌, ◌-◌, ◌<◌, ◌≤◌, ◌++◌, List, [], ◌∷◌, length, map, get_or, refl, ap, sym, ◌∙◌, arith, zero, suc, subst, append_assoc, length-append}
+use Rattle.std.proofs.lemmas.List.{map-append, length-map}
+use Rattle.dex_bytes.specs.Grammar.{Takes, NoneBegins, Placed}
 use Rattle.dex_bytes.specs.Leb128.{Spells}
 use Rattle.dex_bytes.proofs.TakesLaws.{Takes-unique, Takes-length}
 use Rattle.dex_bytes.proofs.GrammarLaws.{Each-next}

@@ -1,18 +1,17 @@
 -- What stands at a place of the section is what its bytes from there on begin with.
-use Rattle.std.proofs.Common.{◌≡◌, ◌≢◌, ℕ, ◌+◌, ◌-◌, ◌%◌, ◌<◌, ◌≤◌, List, length, take, drop, sym, subst, ap, ◌∙◌, arith, length-take, inl, inr, Option, Some}
+use Rattle.std.proofs.Common.{◌≡◌, ℕ, ◌-◌, ◌%◌, ◌<◌, ◌≤◌, List, length, take, drop, sym, subst, ap, ◌∙◌, arith, length-take, inr, Option, Some}
 use Rattle.std.proofs.lemmas.List.{take-take, take-append-drop}
 use Rattle.dex_bytes.specs.Grammar.{Takes}
 use Rattle.dex_bytes.specs.declared.fault.Fault.{Fault}
 use Rattle.dex_bytes.proofs.TakesLaws.{Begins-from_takes, Takes-unique}
 use Rattle.dex_container.specs.declared.section.Section.{Section}
-use Rattle.dex_container.specs.Where.{slice, At, IsInSection}
+use Rattle.dex_container.specs.Where.{slice, IsInSection}
 use Rattle.dex_container.specs.Where.{IsSectionOf}
 use Rattle.dex_tables.specs.Names.{Names, NameIsAt}
 use Rattle.dex_container.proofs.Standing.{stands_at, at_place}
 use Rattle.dex_program.specs.Content.{Name, Code, OfText, OfDesc, OfField, OfMethod}
 use Rattle.dex_insn.specs.declared.opcode.IndexKind.TheVariants as kind
 use Rattle.dex_code_insns.specs.Symbols.{IsFunctional}
-use Rattle.dex_program.specs.Kinds.{IsOfKind}
 use Rattle.dex_code.specs.Code.{SpellsCode, CodeStands}
 use Rattle.dex_code.specs.Faults.{ItemBreaks, CodeBreaks}
 use Rattle.dex_code.proofs.ItemLaws.{SpellsCode-unique, read-from_takes}

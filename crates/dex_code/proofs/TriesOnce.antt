@@ -1,5 +1,5 @@
 -- Units and try_items spell one code at most.
-use Rattle.std.proofs.Common.{◌≡◌, ℕ, ◌++◌, List, [], length, sym, ◌∙◌, arith, zero, suc, None, subst}
+use Rattle.std.proofs.Common.{◌≡◌, ℕ, ◌++◌, List, [], sym, ◌∙◌, arith, zero, suc, None, subst}
 use Rattle.dex_program.specs.Content.{Name, Try}
 use Rattle.dex_program.specs.Formed.{try_at}
 use Rattle.dex_code_insns.specs.Symbols.{IsFunctional}

@@ -1,7 +1,6 @@
 -- Tries, from try_items and handlers.
-use Rattle.std.proofs.Common.{◌≡◌, ◌≢◌, ℕ, ◌+◌, ◌*◌, ◌<◌, ◌≤◌, ◌++◌, List, [], ◌∷◌, length, map, get_or, refl, ap, sym, ◌∙◌, arith, zero, suc, subst, Option, Some, None, inl, inr, if◌then◌else◌, ◌==◌, Bool, true, false, add-one, length-append}
+use Rattle.std.proofs.Common.{◌≡◌, ◌≢◌, ℕ, ◌+◌, ◌*◌, ◌<◌, ◌++◌, List, [], ◌∷◌, length, map, get_or, refl, ap, sym, ◌∙◌, arith, zero, suc, subst, Option, Some, None, inl, inr, if◌then◌else◌, ◌==◌, Bool, true, false, length-append}
 use Rattle.std.specs.Prelude.{option_map, slice_get, Result, Ok, Err, IfErr}
-use Rattle.std.proofs.lemmas.Bool.Decides.{nat_tests}
 use Rattle.dex_bytes.specs.declared.fault.Fault.{Fault}
 use Rattle.dex_bytes.specs.Grammar.{NoneBegins}
 use Rattle.dex_program.specs.Content.{Name, Try}
@@ -9,9 +8,9 @@ use Rattle.dex_code_insns.specs.Symbols.{IsFunctional}
 use Rattle.dex_code_insns.specs.Places.{position, AllHold}
 use Rattle.dex_code.specs.Item.{try_handler}
 use Rattle.dex_code.specs.Handlers.{Handler, SpellsList, handler_at}
-use Rattle.dex_code.specs.Tries.{TryHolds, SpellsTries, handler_of}
+use Rattle.dex_code.specs.Tries.{TryHolds, handler_of}
 use Rattle.dex_program.specs.Formed.{try_at}
-use Rattle.dex_code.specs.Faults.{HasHandlers, TriesBreak, list_fault}
+use Rattle.dex_code.specs.Faults.{TriesBreak, list_fault}
 use Rattle.dex_code.specs.Reading.{ReadTries, ReadList, TakesTry, TakesTries, NoHandler}
 use Rattle.dex_code_insns.proofs.PlaceLaws.{map-suc}
 use Rattle.dex_code.proofs.HandlerLaws.{SpellsList-unique}

@@ -1,6 +1,6 @@
 -- What a refusal of a code item says: the rule that is broken at its place.
 -- Page: "Dalvik Executable format", "code_item", "try_item" and "encoded_catch_handler_list".
-use Rattle.std.specs.Prelude.{ℕ, ◌≡◌, ◌-◌, ◌+◌, ◌*◌, ◌%◌, ◌<◌, ◌≤◌, ◌⊎◌, List, ◌++◌, length, take, drop, Some}
+use Rattle.std.specs.Prelude.{ℕ, ◌≡◌, ◌-◌, ◌+◌, ◌*◌, ◌%◌, ◌<◌, ◌≤◌, ◌⊎◌, List, ◌++◌, take, drop, Some}
 use Rattle.dex_bytes.specs.declared.fault.Fault.{Fault}
 use Rattle.dex_container.specs.Frame.{IsSection}
 use Rattle.dex_insn.specs.Raw.{Raw}

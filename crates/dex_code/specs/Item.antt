@@ -1,6 +1,6 @@
 -- The fixed parts of a code_item, as fields of the bytes from its first one on. What stands behind the item isn't looked at.
 -- Page: "Dalvik Executable format", "code_item" and "try_item".
-use Rattle.std.specs.Prelude.{ℕ, ◌≡◌, ◌+◌, ◌*◌, ◌%◌, ◌<◌, ◌≤◌, List, length, drop, slice_range, ◌==◌, if◌then◌else◌}
+use Rattle.std.specs.Prelude.{ℕ, ◌+◌, ◌*◌, ◌%◌, ◌≤◌, List, length, slice_range, ◌==◌, if◌then◌else◌}
 use Rattle.dex_bytes.specs.Fields.{u16_at, u32_at}
 
 -- registers_size

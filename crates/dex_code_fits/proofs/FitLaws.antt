@@ -1,5 +1,5 @@
 -- The parts of a code that fits.
-use Rattle.std.proofs.Common.{◌≡◌, ◌≢◌, ℕ, ◌+◌, ◌*◌, ◌%◌, ◌<◌, ◌≤◌, ◌++◌, List, [], ◌∷◌, map, take, length, get_or, refl, ap, sym, ◌∙◌, arith, zero, suc, subst, Option, Some, None, inl, inr, length-append}
+use Rattle.std.proofs.Common.{◌≡◌, ℕ, ◌+◌, ◌*◌, ◌<◌, ◌≤◌, ◌++◌, List, [], ◌∷◌, map, take, length, get_or, ap, sym, ◌∙◌, arith, zero, suc, subst, None, inl, inr, length-append}
 use Rattle.std.specs.Prelude.{FitsSigned}
 use Rattle.std.specs.Int.{w32}
 use Rattle.std.specs.List.{AllByRecursion, flat_map}
@@ -10,16 +10,15 @@ use Rattle.dex_program.specs.Content as made
 use Rattle.dex_program.specs.View.{try, catch, insn}
 use Rattle.dex_program.specs.declared.code.Try.{Try as Held}
 use Rattle.dex_program.specs.declared.insn.Insn.{Insn as HeldInsn}
-use Rattle.dex_program.specs.Mentions.{names_of_insn, names_of_try, names_of_code}
-use Rattle.dex_program.specs.Formed.{insn_at, try_at, insn_payload, insn_targets, IsSwitch, Refers, PayloadHolds, TryFormed}
+use Rattle.dex_program.specs.Mentions.{names_of_insn, names_of_try}
+use Rattle.dex_program.specs.Formed.{insn_at, try_at, insn_payload, insn_targets, IsSwitch, PayloadHolds, TryFormed}
 use Rattle.dex_program.specs.Operands.{IsOperand}
-use Rattle.dex_program.specs.Sizes.{insn_units, starts_from, addresses_of, length_of}
-use Rattle.dex_code_put.specs.Fits.{distance_of, BranchFits, TargetsFit, OffsetsFit, HasIndexBelow, catches_in}
+use Rattle.dex_program.specs.Sizes.{insn_units, starts_from, addresses_of}
+use Rattle.dex_code_put.specs.Fits.{distance_of, BranchFits, TargetsFit, OffsetsFit, catches_in}
 use Rattle.dex_code_put.specs.Packs.{IsOrigin}
-use Rattle.dex_code_put.proofs.ListLaws.{all-at}
 use Rattle.dex_code_put.proofs.ItemPieces.{seen-at}
 use Rattle.dex_code_put.proofs.SizeLaws.{units-small}
-use Rattle.dex_code_put.proofs.FormLaws.{length-addresses, address-end, names-at, all-front, all-back}
+use Rattle.dex_code_put.proofs.FormLaws.{length-addresses, names-at, all-front, all-back}
 use Rattle.dex_code_put.proofs.PutLaws.{no-targets}
 
 -- ---- offsets

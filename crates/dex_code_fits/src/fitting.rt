@@ -1,6 +1,6 @@
 //! Whether a code fits.
 
-ghost use Rattle.std.specs.Prelude.{◌≡◌, ◌≢◌, ◌≤◌, OnOk, IfErr, length};
+ghost use Rattle.std.specs.Prelude.{◌≡◌, ◌≢◌, OnOk, IfErr};
 ghost use Rattle.std.specs.List.{AllByRecursion, flat_map};
 ghost use Rattle.dex_bytes.specs.Fault.{memory};
 ghost use Rattle.dex_program.specs.Formed.{IsFormed};
@@ -9,7 +9,8 @@ ghost use Rattle.dex_program.specs.View as view;
 ghost use Rattle.dex_names.specs.Closure.{NameRanks};
 ghost use Rattle.dex_code_fits.specs.Ranked.{HasIndex};
 ghost use Rattle.dex_program.specs.Sizes.{addresses_of, length_of};
-ghost use Rattle.dex_code_put.specs.Fits.{AllTries, FitsCode, HandlersAreNear, HasIndexBelow, IsUnfit, TriesUnfit, TryFits, wide_code};
+ghost use Rattle.dex_code_put.specs.Fits.{AllInsns, AllNumbers, FitsCode, HasIndexBelow, IsEven, IsUnfit, OffsetsFit, ShortFits};
+ghost use Rattle.dex_insn.specs.declared.opcode.IndexKind.TheVariants as kind;
 
 use crate::names::names_fit;
 use crate::offsets::{are_even, offsets_fit};
@@ -21,16 +22,19 @@ use dex_names::Ranks;
 use dex_program::Code;
 use std::alloc::Global;
 
-// Whether the tries fit: 87 to 89. Where the code is too long to be written anyway, its handlers aren't laid.
+// Whether a code whose instructions fit does: its tries, 87 to 89. Where it is too long to be written anyway, its handlers aren't laid.
 fn check_tries(alloc: Global, ranks: &Ranks<'_>, all: &Starts, code: &Code<'_>) -> Result<(), Fault>
     requires formed { IsFormed (view.code code.now) }
     requires caught { AllByRecursion (HasIndexBelow (NameRanks ranks.now) 4294967296) (flat_map names_of_try (view.code code.now).tries) }
     requires starts { all.now.starts.items ≡ addresses_of (view.code code.now).insns }
     requires end { all.now.end ≡ length_of (view.code code.now).insns }
-    ensures tries { OnOk result (AllTries TryFits (view.code code.now)) }
-    ensures few { OnOk result (length (view.code code.now).tries ≤ 65535) }
-    ensures handlers { OnOk result (wide_code (view.code code.now) ≤ 4294967295 → HandlersAreNear (NameRanks ranks.now) (addresses_of (view.code code.now).insns) (view.code code.now).tries) }
-    ensures err { IfErr result (λ e. e ≢ memory → TriesUnfit (NameRanks ranks.now) (view.code code.now) e) }
+    requires strings { AllInsns (ShortFits (NameRanks ranks.now) kind.String) (view.code code.now) }
+    requires fields { AllInsns (ShortFits (NameRanks ranks.now) kind.Field) (view.code code.now) }
+    requires methods { AllInsns (ShortFits (NameRanks ranks.now) kind.Method) (view.code code.now) }
+    requires offsets { AllNumbers OffsetsFit (view.code code.now) }
+    requires even { AllNumbers IsEven (view.code code.now) }
+    ensures ok { OnOk result (FitsCode (NameRanks ranks.now) (view.code code.now)) }
+    ensures err { IfErr result (λ e. e ≢ memory → IsUnfit (NameRanks ranks.now) (view.code code.now) e) }
 {
     if !tries_fit(&all.starts, code.tries) {
         return Err(Fault {
@@ -56,7 +60,7 @@ fn check_tries(alloc: Global, ranks: &Ranks<'_>, all: &Starts, code: &Code<'_>) 
     Ok(())
 }
 
-/// Whether a code that is well formed fits the fields of a file. Of the rules that it breaks the fault names the first: 82 to 84 an
+/// Whether a code that is well formed fits the fields of a file. Of the limits that it breaks the fault names the lowest: 82 to 84 an
 /// index of a string, field or method that doesn't fit 16 bits, 85 an offset, 86 a payload at an odd address, 87 a try that covers
 /// too much, 88 too many tries, 89 a handler too far behind the list's begin. Its place is 0. Beside these only want of memory.
 pub fn fits(alloc: Global, ranks: &Ranks<'_>, code: &Code<'_>) -> Result<(), Fault>

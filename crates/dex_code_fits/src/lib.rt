@@ -6,8 +6,10 @@
 #![tactic(auto)]
 
 mod fitting;
+mod laws;
 mod names;
 mod offsets;
 mod tries;
 
 pub use fitting::fits;
+pub use laws::code_limits_are_decided;

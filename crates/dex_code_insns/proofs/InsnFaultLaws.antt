@@ -4,7 +4,7 @@ use Rattle.dex_bytes.specs.declared.fault.Fault.{Fault}
 use Rattle.dex_insn.specs.Raw as raw
 use Rattle.dex_insn.specs.Raw.{Raw}
 use Rattle.dex_program.specs.Content.{Name, Insn}
-use Rattle.dex_code_insns.specs.Walk.{Walks, raw_at}
+use Rattle.dex_code_insns.specs.Walk.{raw_at}
 use Rattle.dex_code_insns.specs.Symbols.{Names, HasName}
 use Rattle.dex_code_insns.specs.Payloads.{UseHolds}
 use Rattle.dex_code_insns.specs.Insns.{SpellsInsns, NameHolds, BranchLands, BranchMoves, BranchHolds, TargetsHold}

@@ -1,5 +1,5 @@
 -- Units spell one list of instructions at most.
-use Rattle.std.proofs.Common.{◌≡◌, ◌≢◌, ℕ, ℤ, ◌+◌, ◌<◌, ◌≤◌, ◌*◌, ◌/◌, ◌++◌, List, [], ◌∷◌, map, length, get_or, refl, ap, sym, ◌∙◌, arith, zero, suc, Option, Some, None, subst, inl, inr}
+use Rattle.std.proofs.Common.{◌≡◌, ℕ, ℤ, ◌<◌, ◌/◌, List, [], ◌∷◌, length, get_or, refl, ap, sym, ◌∙◌, arith, zero, suc, Option, Some, None, subst, inl, inr}
 use Rattle.dex_insn.specs.Raw as raw
 use Rattle.dex_insn.specs.Raw.{Raw}
 use Rattle.dex_insn.specs.Opcodes.{index_kind_of}
@@ -8,8 +8,8 @@ use Rattle.dex_program.specs.Content as made
 use Rattle.dex_insn.specs.declared.opcode.IndexKind.{IndexKind}
 use Rattle.dex_program.specs.Operands.{IsOfIndexKind}
 use Rattle.dex_code_insns.specs.Walk.{Walks, starts, raw_at, address}
-use Rattle.dex_code_insns.specs.Places.{place, position}
-use Rattle.dex_code_insns.specs.Symbols.{resolved, Says, Names, IsNamed, name_in, IsFunctional}
+use Rattle.dex_code_insns.specs.Places.{place}
+use Rattle.dex_code_insns.specs.Symbols.{resolved, Says, IsNamed, name_in, IsFunctional}
 use Rattle.dex_code_insns.specs.Payloads.{UseHolds}
 use Rattle.dex_code_insns.specs.Insns.{IsBase, SpellsInsn, SpellsInsns}
 use Rattle.dex_code_insns.proofs.Runs.{run-once}

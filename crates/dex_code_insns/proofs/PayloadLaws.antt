@@ -1,11 +1,10 @@
 -- Payloads and their users.
-use Rattle.std.proofs.Common.{◌≡◌, ◌≢◌, ℕ, ℤ, pos, ◌+ℤ◌, ◌+◌, ◌<◌, ◌≤◌, List, [], ◌∷◌, map, length, get_or, refl, ap, sym, ◌∙◌, arith, zero, suc, Option, Some, None, subst}
-use Rattle.dex_insn.specs.Raw as pure
+use Rattle.std.proofs.Common.{◌≡◌, ℕ, ℤ, ◌<◌, List, [], ◌∷◌, map, length, get_or, refl, sym, arith, zero, suc, Option, Some, None}
 use Rattle.dex_insn.specs.Raw.{Raw, raw}
 use Rattle.dex_insn.specs.declared.raw.RawInsn.{RawInsn}
 use Rattle.dex_insn.specs.declared.raw.RawInsn.TheVariants as made
 use Rattle.dex_code_insns.specs.Walk.{starts, IsTable, raw_at, address}
-use Rattle.dex_code_insns.specs.Places.{Rises, place}
+use Rattle.dex_code_insns.specs.Places.{place}
 use Rattle.dex_code_insns.specs.Payloads.{payload_of, wants, reach, Uses}
 use Rattle.dex_program.specs.Formed.{AreAlike}
 use Rattle.dex_program.specs.declared.payload.Payload.{Payload}

@@ -1,11 +1,11 @@
 -- Offsets of instructions that keep the rules lead to instructions.
-use Rattle.std.proofs.Common.{◌≡◌, ◌≢◌, ℕ, ℤ, ◌+◌, ◌/◌, ◌<◌, ◌≤◌, List, [], ◌∷◌, map, length, get_or, refl, ap, sym, ◌∙◌, arith, zero, suc, Option, Some, None, subst, inl, inr, true, false, Bool, ◌==◌, if◌then◌else◌, ◌++◌, length-append}
+use Rattle.std.proofs.Common.{◌≡◌, ◌≢◌, ℕ, ℤ, ◌+◌, ◌/◌, ◌<◌, ◌≤◌, List, [], ◌∷◌, map, length, get_or, refl, ap, sym, ◌∙◌, arith, zero, suc, Option, Some, None, subst, inl, inr, false, ◌++◌, length-append}
 use Rattle.std.proofs.lemmas.Bool.{cases_lt}
 use Rattle.dex_program.specs.Content as content
 use Rattle.dex_program.specs.View.{insn}
 use Rattle.dex_program.specs.declared.insn.Insn.{Insn as Held}
 use Rattle.std.specs.Prelude.{IfSome}
-use Rattle.std.proofs.lemmas.List.{length-map, map-append}
+use Rattle.std.proofs.lemmas.List.{map-append}
 use Rattle.dex_insn.specs.Fields.{int_at}
 use Rattle.dex_insn.specs.Raw as raw
 use Rattle.dex_insn.specs.Raw.{Raw, is_payload}
@@ -19,11 +19,10 @@ use Rattle.dex_program.specs.Content.{Name, Insn}
 use Rattle.dex_code_insns.specs.Places.{place}
 use Rattle.dex_code_insns.specs.Walk.{IsTable, raw_at, address, starts}
 use Rattle.dex_code_insns.specs.Symbols.{places, both, ints, ints_from, Says}
-use Rattle.dex_code_insns.specs.Payloads.{payload_of, wants, reach, IsUse, Uses, UseHolds}
+use Rattle.dex_code_insns.specs.Payloads.{payload_of, wants, reach, IsUse, UseHolds}
 use Rattle.dex_program.specs.Formed.{AreAlike, IsSwitch}
-use Rattle.dex_code_insns.specs.Insns.{branch, Reaches, Lands, AllLand, TargetsHold, BranchHolds, BranchLands, IsBase, SpellsInsn, targets}
+use Rattle.dex_code_insns.specs.Insns.{branch, Reaches, Lands, AllLand, TargetsHold, BranchHolds, IsBase, SpellsInsn, targets}
 use Rattle.dex_code_insns.specs.Reading.{AreResolved}
-use Rattle.dex_code_insns.proofs.UseLaws.{once-not}
 use Rattle.dex_code_insns.proofs.PayloadLaws.{at_raw}
 
 some_none : {A : Type 0} (o : Option A) (x : A) → o ≡ Some x → o ≡ None → ⊥

@@ -1,15 +1,15 @@
 -- Where branches and targets lead.
-use Rattle.std.proofs.Common.{◌≡◌, ◌≢◌, ℕ, ℤ, pos, ◌+◌, ◌*◌, ◌<◌, ◌≤◌, List, map, length, get_or, refl, ap, sym, ◌∙◌, arith, Option, Some, None, subst}
-use Rattle.std.specs.Prelude.{IsTrue, Bool, true, false, ◌↔◌}
+use Rattle.std.proofs.Common.{◌≡◌, ◌≢◌, ℕ, ℤ, pos, ◌+◌, ◌*◌, ◌<◌, List, map, length, get_or, ap, sym, ◌∙◌, arith, Some, None, subst}
+use Rattle.std.specs.Prelude.{true, false, ◌↔◌}
 use Rattle.std.proofs.lemmas.List.{length-map}
 use Rattle.dex_bytes.specs.declared.fault.Fault.{Fault}
 use Rattle.dex_insn.specs.Raw.{Raw, raw, is_payload}
 use Rattle.dex_insn.specs.declared.raw.RawInsn.{RawInsn}
 use Rattle.dex_insn.specs.declared.raw.RawInsn.TheVariants as made
-use Rattle.dex_code_insns.specs.Places.{IsFirst, AllHold, place}
-use Rattle.dex_code_insns.specs.Walk.{IsTable, raw_at, address, starts}
+use Rattle.dex_code_insns.specs.Places.{AllHold, place}
+use Rattle.dex_code_insns.specs.Walk.{IsTable, raw_at, address}
 use Rattle.dex_code_insns.specs.Insns.{branch, short_branch, Lands, BranchLands, BranchMoves, AllLand, TargetsHold, targets}
-use Rattle.dex_code_insns.specs.Payloads.{IsUse, payload_of, Uses}
+use Rattle.dex_code_insns.specs.Payloads.{IsUse, payload_of}
 use Rattle.dex_program.specs.Formed.{IsSwitch}
 use Rattle.dex_code_insns.specs.declared.uses.Use.TheVariants as users
 use Rattle.dex_code_insns.specs.InsnFaults.{BreaksIn}

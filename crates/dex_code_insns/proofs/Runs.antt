@@ -1,5 +1,5 @@
 -- Instructions end to end.
-use Rattle.std.proofs.Common.{◌≡◌, ℕ, ◌+◌, ◌*◌, ◌/◌, ◌<◌, ◌≤◌, ◌++◌, List, [], ◌∷◌, length, map, get_or, append_assoc, refl, ap, sym, ◌∙◌, subst, arith, zero, suc}
+use Rattle.std.proofs.Common.{◌≡◌, ℕ, ◌+◌, ◌*◌, ◌/◌, ◌<◌, ◌≤◌, ◌++◌, List, [], ◌∷◌, length, map, get_or, refl, ap, sym, ◌∙◌, subst, arith, zero, suc}
 use Rattle.dex_insn.specs.Raw.{Raw, units}
 use Rattle.dex_insn.specs.RawInsns.{InsnStands}
 use Rattle.dex_bytes.specs.declared.fault.Fault.{Fault}
@@ -9,7 +9,6 @@ use Rattle.dex_insn.proofs.Laws.{stands-whole, one-stands, stands-clear}
 use Rattle.dex_code_insns.specs.Walk.{Run, Walks, starts, IsWalkFault, IsTable}
 use Rattle.dex_program.specs.Sizes.{starts_from}
 use Rattle.std.proofs.lemmas.List.{length-map}
-use Rattle.dex_code_insns.specs.Places.{Rises}
 
 -- one more
 pub run-more : (us : List ℕ) (a : ℕ) (rs : List Raw) (e : ℕ) (r : Raw) → Run us a rs e → InsnStands us e r → Run us a (rs ++ r ∷ []) (e + units r)

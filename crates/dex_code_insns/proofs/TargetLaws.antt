@@ -1,5 +1,5 @@
 -- Offsets one by one.
-use Rattle.std.proofs.Common.{◌≡◌, ℕ, ℤ, ◌+◌, ◌-◌, ◌/◌, ◌<◌, ◌++◌, List, [], ◌∷◌, length, refl, ap, sym, ◌∙◌, arith, zero, suc, append_assoc, subst, Option, Some, None}
+use Rattle.std.proofs.Common.{◌≡◌, ℕ, ℤ, ◌+◌, ◌-◌, ◌/◌, ◌<◌, ◌++◌, List, [], ◌∷◌, length, refl, ap, sym, ◌∙◌, arith, suc, append_assoc, subst, Option, Some, None}
 use Rattle.std.specs.Prelude.{option_map}
 use Rattle.dex_insn.specs.Fields.{int_at}
 use Rattle.dex_code_insns.specs.Symbols.{places, both, ints, ints_from}

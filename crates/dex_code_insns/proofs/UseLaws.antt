@@ -1,7 +1,7 @@
 -- What is known of users.
-use Rattle.std.proofs.Common.{◌≡◌, ◌≢◌, ℕ, ◌+◌, ◌<◌, ◌≤◌, List, [], ◌∷◌, map, length, get_or, refl, ap, sym, ◌∙◌, arith, zero, suc, Option, Some, None, subst, inl, inr, get_or-set_other, get_or-set_same, length-set, set}
+use Rattle.std.proofs.Common.{◌≡◌, ◌≢◌, ℕ, ◌+◌, ◌<◌, List, length, get_or, refl, ◌∙◌, arith, subst, inl, inr, get_or-set_other, get_or-set_same, length-set, set}
 use Rattle.std.proofs.lemmas.Bool.{cases_lt}
-use Rattle.std.specs.Prelude.{IsTrue, Bool, true, false, ◌↔◌}
+use Rattle.std.specs.Prelude.{Bool, true, false}
 use Rattle.dex_insn.specs.Raw.{Raw}
 use Rattle.dex_code_insns.specs.Payloads.{Uses, IsUse, AreUsers, with_user, UsedOnce}
 use Rattle.dex_code_insns.specs.declared.uses.Use.{Use}

@@ -1,7 +1,7 @@
 -- Which units spell which instructions of a code, and the rules of branches and switches.
 -- Pages: "Dalvik bytecode": goto, packed-switch, sparse-switch and the notes on branch offsets; "Dalvik Executable instruction
 -- formats".
-use Rattle.std.specs.Prelude.{ℕ, ℤ, pos, ◌≡◌, ◌≢◌, ◌<◌, List, [], length, slice_index_or, ◌/◌, Option, Some, None, IfSome, ◌⊎◌, ⊤, false}
+use Rattle.std.specs.Prelude.{ℕ, ℤ, pos, ◌≡◌, ◌≢◌, ◌<◌, List, [], length, ◌/◌, Option, Some, None, IfSome, ◌⊎◌, ⊤, false}
 use Rattle.dex_insn.specs.Raw as raw
 use Rattle.dex_insn.specs.Raw.{Raw, is_payload}
 use Rattle.dex_insn.specs.Fields.{int_at}

@@ -1,5 +1,6 @@
 -- What is written, put together.
-use Rattle.std.proofs.Common.{◌≡◌, ℕ, ◌++◌, List, [], length, ap, ◌∙◌, append_assoc, subst}
+use Rattle.std.proofs.Common.{◌≡◌, ℕ, ◌<◌, ◌++◌, List, [], length, ap, ◌∙◌, append_assoc, subst}
+use Rattle.std.specs.List.{AllByRecursion}
 use Rattle.dex_program.specs.Content.{Name, Code}
 use Rattle.dex_program.specs.Sizes.{addresses_of, length_of}
 use Rattle.dex_code_put.specs.Packs.{AreLowered, joined, padding, items_bytes, head_bytes, PutInsns, PacksHandlersOf, PacksCode}
@@ -9,8 +10,8 @@ regroup h j p t l = append_assoc ((h ++ j) ++ p) t l ∙ append_assoc (h ++ j) p
 
 pub packed : (N : ℕ → Name → Type 0) (c : Code) (ss i0 i1 i2 i3 i4 i5 list offs : List ℕ) (size n : ℕ) → ss ≡ addresses_of c.insns → size ≡ length_of c.insns → n ≡ length c.tries
     → i0 ≡ [] → i1 ≡ i0 ++ head_bytes c size → PutInsns N c.insns ss i1 i2 → i3 ≡ i2 ++ padding size n → i4 ≡ i3 ++ items_bytes size ss c.tries offs → i5 ≡ i4 ++ list
-    → PacksHandlersOf N ss c.tries list offs → PacksCode N i5 c
-packed N c ss i0 i1 i2 i3 i4 i5 list offs size n es ez en e0 e1 p e3 e4 e5 hs =
+    → PacksHandlersOf N ss c.tries list offs → length c.tries < 65536 → AllByRecursion (λ off. off < 65536) offs → length_of c.insns < 4294967296 → PacksCode N i5 c
+packed N c ss i0 i1 i2 i3 i4 i5 list offs size n es ez en e0 e1 p e3 e4 e5 hs few near short =
     let size' = length_of c.insns in
     let ss' = addresses_of c.insns in
     let a1 : i1 ≡ head_bytes c size' = e1 ∙ ap (λ (z : List ℕ). z ++ head_bytes c size) e0 ∙ ap (head_bytes c) ez in
@@ -26,5 +27,8 @@ packed N c ss i0 i1 i2 i3 i4 i5 list offs size n es ez en e0 e1 p e3 e4 e5 hs =
       list = list;
       offsets = offs;
       handlers = subst (λ (z : List ℕ). PacksHandlersOf N z c.tries list offs) es hs;
+      few = few;
+      near = near;
+      short = short;
       is = e5 ∙ ap (λ (z : List ℕ). z ++ list) a4 ∙ regroup (head_bytes c size') (joined p.raws) (padding size' (length c.tries)) (items_bytes size' ss' c.tries offs) list;
     }

@@ -1,10 +1,11 @@
 -- Codes that can be written: what of a code has to fit the widths of a file's fields.
 -- Pages: "Dalvik Executable instruction formats", the widths of BBBB, AA and AAAAAAAA; "Dalvik Executable format", "code_item"
 -- and "try_item".
-use Rattle.std.specs.Prelude.{ℕ, ℤ, pos, ◌-ℤ◌, ◌≡◌, ◌≢◌, ◌≤◌, ◌<◌, ◌+◌, ◌-◌, ◌*◌, ◌%◌, List, length, slice_index, FitsSigned, Option, Some, None, IfSome, ⊤, ◌⊎◌}
+use Rattle.std.specs.Prelude.{ℕ, ℤ, pos, ◌-ℤ◌, ◌≡◌, ◌≢◌, ◌≤◌, ◌<◌, ◌+◌, ◌-◌, ◌*◌, ◌%◌, List, length, slice_index, FitsSigned, Option, Some, None, IfSome, ⊤}
 use Rattle.std.specs.Int.{w8, w16, w32}
 use Rattle.std.specs.List.{AllByRecursion, flat_map}
 use Rattle.dex_bytes.specs.declared.fault.Fault.{Fault}
+use Rattle.dex_container.specs.Faults.{on}
 use Rattle.dex_insn.specs.declared.opcode.IndexKind.{IndexKind}
 use Rattle.dex_insn.specs.declared.opcode.IndexKind.TheVariants as kind
 use Rattle.dex_program.specs.Content.{Name, OfDesc, Insn, Code, Try, Catch}
@@ -124,33 +125,24 @@ pub record CanBePut (N : ℕ → Name → Type 0) (c : Code) : Type 0 where
   pub types : AllInsns (ShortFits N kind.Type) c
   pub short : wide_code c ≤ 4294967295
 
--- ---- the first rule that is broken
+-- ---- the limits that a code breaks
 
--- the fault of this number, which has no place of its own
-abbrev pub unfit : ℕ → Fault
-unfit number = record { code = number; place = 0 }
+-- The code breaks the limit of this number: 82 StringOutOfReach, 83 FieldOutOfReach, 84 MethodOutOfReach (an index in a field of 16
+-- bits), 85 BranchOutOfReach, 86 Misaligned, 87 TryTooLong, 88 TooManyTries, 89 HandlerTooFar, if the code is not too big itself.
+abbrev pub CodeBreaks : (ℕ → Name → Type 0) → ℕ → Code → Type 0
+CodeBreaks N number c =
+    on number 82 (¬ AllInsns (ShortFits N kind.String) c) (
+    on number 83 (¬ AllInsns (ShortFits N kind.Field) c) (
+    on number 84 (¬ AllInsns (ShortFits N kind.Method) c) (
+    on number 85 (¬ AllNumbers OffsetsFit c) (
+    on number 86 (¬ AllNumbers IsEven c) (
+    on number 87 (¬ AllTries TryFits c) (
+    on number 88 (65535 < length c.tries) (
+    on number 89 ((wide_code c ≤ 4294967295) × (¬ HandlersAreNear N (addresses_of c.insns) c.tries))
+    ⊥)))))))
 
--- The fault names the first of the rules that the tries break: 87 a try that covers too much, 88 too many, 89 a handler too far.
-abbrev pub TriesUnfit : (ℕ → Name → Type 0) → Code → Fault → Type 0
-TriesUnfit N c fault =
-    ((¬ AllTries TryFits c) × (fault ≡ unfit 87))
-    ⊎ (AllTries TryFits c × (
-    ((65535 < length c.tries) × (fault ≡ unfit 88))
-    ⊎ ((length c.tries ≤ 65535) × (wide_code c ≤ 4294967295) × (¬ HandlersAreNear N (addresses_of c.insns) c.tries) × (fault ≡ unfit 89))
-    ))
-
--- The fault names the first of the rules that the code breaks: 82 to 84 a string, field or method whose index is too large for its
--- field, 85 an offset, 86 a payload at an odd address, 87 to 89 those of the tries.
-abbrev pub IsUnfit : (ℕ → Name → Type 0) → Code → Fault → Type 0
-IsUnfit N c fault =
-    ((¬ AllInsns (ShortFits N kind.String) c) × (fault ≡ unfit 82))
-    ⊎ (AllInsns (ShortFits N kind.String) c × (
-    ((¬ AllInsns (ShortFits N kind.Field) c) × (fault ≡ unfit 83))
-    ⊎ (AllInsns (ShortFits N kind.Field) c × (
-    ((¬ AllInsns (ShortFits N kind.Method) c) × (fault ≡ unfit 84))
-    ⊎ (AllInsns (ShortFits N kind.Method) c × (
-    ((¬ AllNumbers OffsetsFit c) × (fault ≡ unfit 85))
-    ⊎ (AllNumbers OffsetsFit c × (
-    ((¬ AllNumbers IsEven c) × (fault ≡ unfit 86))
-    ⊎ (AllNumbers IsEven c × TriesUnfit N c fault)
-    ))))))))
+-- The fault names the lowest limit that the code breaks; it has no place of its own.
+pub record IsUnfit (N : ℕ → Name → Type 0) (c : Code) (fault : Fault) : Type 0 where
+  pub breaks : CodeBreaks N fault.code c
+  pub lowest : (number : ℕ) → CodeBreaks N number c → fault.code ≤ number
+  pub place : fault.place ≡ 0

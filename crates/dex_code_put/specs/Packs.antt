@@ -130,12 +130,15 @@ abbrev pub head_bytes : Code → ℕ → List ℕ
 head_bytes c size =
     u16_bytes c.registers ++ u16_bytes c.ins ++ u16_bytes c.outs ++ u16_bytes (length c.tries) ++ u32_bytes 0 ++ u32_bytes size
 
--- The bytes are those that are written of the code.
+-- The bytes are those that are written of the code, whose counts of tries and units fit their fields, as each handler_off does.
 pub record PacksCode (N : ℕ → Name → Type 0) (bytes : List ℕ) (c : Code) : Type 0 where
   pub raws : List Raw
   pub lowered : AreLowered N c.insns (addresses_of c.insns) raws
   pub list : List ℕ
   pub offsets : List ℕ
   pub handlers : PacksHandlersOf N (addresses_of c.insns) c.tries list offsets
+  pub few : length c.tries < 65536
+  pub near : AllByRecursion (λ off. off < 65536) offsets
+  pub short : length_of c.insns < 4294967296
   pub is : bytes ≡ head_bytes c (length_of c.insns) ++ (joined raws ++ (padding (length_of c.insns) (length c.tries)
       ++ (items_bytes (length_of c.insns) (addresses_of c.insns) c.tries offsets ++ list)))

@@ -26,4 +26,4 @@ mod writing;
 pub use handlers::{Laid, lay_handlers};
 pub use origins::origins_of;
 pub use sizes::{Starts, addresses, starts_of, units_of};
-pub use writing::put_code;
+pub use writing::{make_item, put_code};

@@ -19,8 +19,8 @@ use dex_names::Ranks;
 use dex_program::Code;
 use std::alloc::Global;
 
-/// The bytes of the code item of a code.
-fn make_item(alloc: Global, ranks: &Ranks<'_>, code: &Code<'_>) -> Result<Vec<u8>, Fault>
+/// The bytes of the code item of a code, as [`put_code`] appends them. The only refusal is want of memory.
+pub fn make_item(alloc: Global, ranks: &Ranks<'_>, code: &Code<'_>) -> Result<Vec<u8>, Fault>
     requires formed { IsFormed (view.code code.now) }
     requires fits { FitsCode (NameRanks ranks.now) (view.code code.now) }
     requires ranked { CanBePut (NameRanks ranks.now) (view.code code.now) }

@@ -9,3 +9,4 @@ pub mod CodesDecided
 pub mod SaidLaws
 pub mod NamesHaveRows
 pub mod CodesFormed
+pub mod Carrying

@@ -5,15 +5,23 @@
 //! ```
 #![tactic(auto)]
 
-ghost use Rattle.std.specs.Prelude.{ℕ, List};
+ghost use Rattle.std.specs.Prelude.{◌↔◌, ℕ, List};
 ghost use Rattle.dex_bytes.specs.Fields.{AreBytes};
+ghost use Rattle.dex_bytes.specs.declared.fault.Fault.{Fault};
 ghost use Rattle.dex_container.specs.Frame.{IsFramed};
 ghost use Rattle.dex_program.specs.Content.{Code};
 ghost use Rattle.dex_program.specs.Formed.{IsFormed};
-ghost use Rattle.dex_tables.specs.Names.{Names, NameIsAt};
+ghost use Rattle.dex_tables.specs.Names.{Names, AreNamesOf, NameIsAt};
 ghost use Rattle.dex_tables.specs.Stands.{NameStands};
 ghost use Rattle.dex_code.specs.Code.{CodeStands};
+ghost use Rattle.dex_code.specs.Faults.{CodeBreaks};
 ghost use Rattle.dex_code_read_laws.specs.FileCodes.{CodeIsDecided, CodesHaveRows};
+
+/// With the tables of a file, a code or a fault stands by their names exactly if it does by the file's.
+pub fn codes_carry_over()
+    ensures stands { (b : List ℕ) (names : Names) → IsFramed b → AreNamesOf b names → (off : ℕ) (c : Code) → CodeStands (NameIsAt names) b off c ↔ CodeStands (NameStands b) b off c }
+    ensures breaks { (b : List ℕ) (names : Names) → IsFramed b → AreNamesOf b names → (off : ℕ) (e : Fault) → CodeBreaks (NameIsAt names) b off e ↔ CodeBreaks (NameStands b) b off e }
+{}
 
 /// At each place of a file a code stands, or one of the faults 60 to 72 does.
 pub fn codes_are_decided()

@@ -2,17 +2,21 @@
 -- Pages: "Dalvik Executable instruction formats", "The formats"; "Dalvik bytecode": goto, packed-switch, sparse-switch,
 -- fill-array-data; "Dalvik Executable format": code_item, try_item, encoded_catch_handler.
 use Rattle.std.specs.Prelude.{ℕ, ◌<◌, ◌≤◌, length}
-use Rattle.dex_program.specs.Content.{Code}
+use Rattle.dex_program.specs.Content.{Insn, Code}
 use Rattle.dex_program.specs.Formed.{insn_at, TargetHolds, PayloadHolds, TryFormed}
 use Rattle.dex_program.specs.Operands.{IsOperand}
 use Rattle.dex_code_rules.specs.declared.rule.CodeRule.{CodeRule}
 use Rattle.dex_code_rules.specs.declared.rule.CodeRule.TheVariants as rule
 
+-- Each operand fits its field. A target is any number of 32 bits here: whether it is that of an instruction is ruled apart.
+abbrev pub FitsFields : Insn → Type 0
+FitsFields i = IsOperand 4294967296 i
+
 -- Some instructions, no more than 2147483647, each with operands that its format has.
 pub record OperandsHold (c : Code) : Type 0 where
   pub some : 0 < length c.insns
   pub few : length c.insns ≤ 2147483647
-  pub operands : (k : ℕ) → k < length c.insns → IsOperand (length c.insns) (insn_at c.insns k)
+  pub operands : (k : ℕ) → k < length c.insns → FitsFields (insn_at c.insns k)
 
 -- Branches and switches lead to instructions.
 abbrev pub TargetsHold : Code → Type 0

@@ -7,10 +7,10 @@ ghost use Rattle.dex_insn.specs.Written.{AreRegisters};
 ghost use Rattle.dex_insn.specs.RawInsns.{IsElementWidth};
 ghost use Rattle.dex_insn.specs.Opcodes.{format_of, index_kind_of};
 ghost use Rattle.dex_program.specs.Formed.{insn_at};
-ghost use Rattle.dex_program.specs.Operands.{IsOperand, IsOfIndexKind, AreRisingKeys};
+ghost use Rattle.dex_program.specs.Operands.{IsOfIndexKind, AreRisingKeys};
 ghost use Rattle.dex_program.specs.View.{insn, code};
 ghost use Rattle.dex_program.specs.View as view;
-ghost use Rattle.dex_code_rules.specs.CodeRules.{OperandsHold};
+ghost use Rattle.dex_code_rules.specs.CodeRules.{FitsFields, OperandsHold};
 ghost use Rattle.dex_code_rules.specs.Parts.{KeyIsBelow};
 
 use dex_insn::{Format, IndexKind, format_of, index_kind_of};
@@ -28,6 +28,13 @@ fn fits_u16(a: u16) -> bool
     ensures { IsTrue result ↔ (a < 65536) }
 {
     let _half = a;
+    true
+}
+
+fn fits_u32(a: u32) -> bool
+    ensures { IsTrue result ↔ (a < 4294967296) }
+{
+    let _word = a;
     true
 }
 
@@ -115,18 +122,6 @@ fn are_registers(n: u8, regs: &[u8; 5]) -> bool
     true
 }
 
-/// Whether all targets are numbers of instructions.
-fn are_inside(count: usize, targets: &[u32]) -> bool
-    ensures { IsTrue result ↔ AllByRecursion (λ to. to < count) targets.now }
-{
-    for to in targets {
-        if *to as usize >= count {
-            return false;
-        }
-    }
-    true
-}
-
 /// Whether key `k` is below the next one.
 fn is_below(keys: &[i32], k: usize) -> bool
     requires inside { k + 1 < length keys.now }
@@ -159,6 +154,11 @@ fn are_keys(keys: &[i32]) -> bool
     true
 }
 
+/// All of the targets are numbers of 32 bits.
+fn are_words(targets: &[u32])
+    ensures { AllByRecursion (λ to. to < 4294967296) targets.now }
+{}
+
 /// All of the data are bytes.
 fn are_bytes(bytes: &[u8])
     ensures { AllByRecursion (λ byte. byte < 256) bytes.now }
@@ -171,30 +171,25 @@ fn is_element_width(width: u16) -> bool
     width == 1 || width == 2 || width == 4 || width == 8
 }
 
-/// Whether a payload keeps its rules; other instructions have none of these.
-fn is_packed(count: usize, targets: &[u32]) -> bool
-    ensures { IsTrue result ↔ ((length targets.now ≤ 65535) × AllByRecursion (λ to. to < count) targets.now) }
+/// Whether a switch has no more targets than its payload can count.
+fn are_few(targets: &[u32]) -> bool
+    ensures { IsTrue result ↔ ((length targets.now ≤ 65535) × AllByRecursion (λ to. to < 4294967296) targets.now) }
 {
-    if targets.len() > 65535 {
-        return false;
-    }
-    are_inside(count, targets)
+    are_words(targets);
+    targets.len() <= 65535
 }
 
 /// Whether keys and targets are those of a sparse switch.
-fn is_sparse(count: usize, keys: &[i32], targets: &[u32]) -> bool
-    ensures { IsTrue result ↔ ((length keys.now ≡ length targets.now) × (length targets.now ≤ 65535) × AllByRecursion (λ key. FitsSigned w32 key) keys.now × AreRisingKeys keys.now × AllByRecursion (λ to. to < count) targets.now) }
+fn is_sparse(keys: &[i32], targets: &[u32]) -> bool
+    ensures { IsTrue result ↔ ((length keys.now ≡ length targets.now) × (length targets.now ≤ 65535) × AllByRecursion (λ key. FitsSigned w32 key) keys.now × AreRisingKeys keys.now × AllByRecursion (λ to. to < 4294967296) targets.now) }
 {
     if !are_keys(keys) || keys.len() != targets.len() {
         return false;
     }
-    if targets.len() > 65535 {
+    if !are_few(targets) {
         return false;
     }
-    if !keys_rise(keys) {
-        return false;
-    }
-    are_inside(count, targets)
+    keys_rise(keys)
 }
 
 /// Whether the bytes are elements of this width.
@@ -211,31 +206,31 @@ fn is_data(width: u16, bytes: &[u8]) -> bool
     bytes.len() <= 4294967295
 }
 
-/// Whether each operand of the instruction fits its format, in a code of `count` instructions.
-fn is_operand(count: usize, one: &Insn<'_>) -> bool
-    ensures { IsTrue result ↔ IsOperand count (insn one.now) }
+/// Whether each operand of the instruction fits its format, wherever it leads.
+fn fits_fields(one: &Insn<'_>) -> bool
+    ensures { IsTrue result ↔ FitsFields (insn one.now) }
 {
     match *one {
         Insn::I10x { op } => is_of(op, Format::F10x),
         Insn::I12x { op, a, b } => are_low(op, Format::F12x, a, b),
         Insn::I11n { op, a, b } => is_of(op, Format::F11n) && a < 16 && b >= -8 && b < 8,
         Insn::I11x { op, a } => is_short(op, Format::F11x, a),
-        Insn::I10t { op, to } => is_of(op, Format::F10t) && (to as usize) < count,
-        Insn::I20t { op, to } => is_of(op, Format::F20t) && (to as usize) < count,
+        Insn::I10t { op, to } => is_of(op, Format::F10t) && fits_u32(to),
+        Insn::I20t { op, to } => is_of(op, Format::F20t) && fits_u32(to),
         Insn::I22x { op, a, b } => is_short(op, Format::F22x, a) && fits_u16(b),
-        Insn::I21t { op, a, to } => is_short(op, Format::F21t, a) && (to as usize) < count,
+        Insn::I21t { op, a, to } => is_short(op, Format::F21t, a) && fits_u32(to),
         Insn::I21s { op, a, b } => is_short(op, Format::F21s, a) && fits_i16(b),
         Insn::I21h { op, a, b } => is_short(op, Format::F21h, a) && fits_i16(b),
         Insn::I21c { op, a, name } => is_short(op, Format::F21c, a) && is_named(op, name),
         Insn::I23x { op, a, b, c } => is_short(op, Format::F23x, a) && fits_u8(b) && fits_u8(c),
         Insn::I22b { op, a, b, c } => is_short(op, Format::F22b, a) && fits_u8(b) && fits_i8(c),
-        Insn::I22t { op, a, b, to } => are_low(op, Format::F22t, a, b) && (to as usize) < count,
+        Insn::I22t { op, a, b, to } => are_low(op, Format::F22t, a, b) && fits_u32(to),
         Insn::I22s { op, a, b, c } => are_low(op, Format::F22s, a, b) && fits_i16(c),
         Insn::I22c { op, a, b, name } => are_low(op, Format::F22c, a, b) && is_named(op, name),
-        Insn::I30t { op, to } => is_of(op, Format::F30t) && (to as usize) < count,
+        Insn::I30t { op, to } => is_of(op, Format::F30t) && fits_u32(to),
         Insn::I32x { op, a, b } => is_of(op, Format::F32x) && fits_u16(a) && fits_u16(b),
         Insn::I31i { op, a, b } => is_short(op, Format::F31i, a) && fits_i32(b),
-        Insn::I31t { op, a, to } => is_short(op, Format::F31t, a) && (to as usize) < count,
+        Insn::I31t { op, a, to } => is_short(op, Format::F31t, a) && fits_u32(to),
         Insn::I31c { op, a, name } => is_short(op, Format::F31c, a) && is_named(op, name),
         Insn::I35c { op, n, regs, name } => {
             is_of(op, Format::F35c) && are_registers(n, &regs) && is_named(op, name)
@@ -244,8 +239,8 @@ fn is_operand(count: usize, one: &Insn<'_>) -> bool
             is_short(op, Format::F3rc, n) && fits_u16(first) && is_named(op, name)
         }
         Insn::I51l { op, a, b } => is_short(op, Format::F51l, a) && fits_i64(b),
-        Insn::Packed { first, targets } => fits_i32(first) && is_packed(count, targets),
-        Insn::Sparse { keys, targets } => is_sparse(count, keys, targets),
+        Insn::Packed { first, targets } => fits_i32(first) && are_few(targets),
+        Insn::Sparse { keys, targets } => is_sparse(keys, targets),
         Insn::Data { width, bytes } => is_data(width, bytes),
     }
 }
@@ -253,10 +248,10 @@ fn is_operand(count: usize, one: &Insn<'_>) -> bool
 /// Whether each operand of instruction `k` fits its format.
 fn operand_holds(insns: &[Insn<'_>], k: usize) -> bool
     requires inside { k < length insns.now }
-    ensures { IsTrue result ↔ IsOperand (length insns.now) (insn_at (map insn insns.now) k) }
+    ensures { IsTrue result ↔ FitsFields (insn_at (map insn insns.now) k) }
 {
     let one = &insns[k];
-    is_operand(insns.len(), one)
+    fits_fields(one)
 }
 
 /// Whether a code has instructions, not too many, each with operands that its format has.

@@ -36,6 +36,7 @@ use Rattle.dex_file.specs.Means.{Means}
 use Rattle.dex_class.proofs.EntryLaws.{entry_at}
 use Rattle.dex_rules.specs.Valid.{IsValueType, IsValidProto, IsValidName}
 use Rattle.dex_rules.specs.Rules.{KeysRise, member_key, method_key, IsOfType, NoneFrom, AreDistinct, OrderHolds, CodesHold, RulesHold}
+use Rattle.dex_code_rules.proofs.OperandLaws.{formed_operands}
 use Rattle.dex_code_rules.specs.CodeRules.{OperandsHold, TargetsHold, PayloadsHold, TriesHold}
 use Rattle.dex_code_read_laws.proofs.CodesFormed.{standing-formed}
 use Rattle.dex_code_read_laws.proofs.NamesHaveRows as codes
@@ -282,7 +283,7 @@ rules_hold b are p m i c at =
       };
       order = class_order b p m i c at;
       values = record { few = (let f = fit.0 in let n = ms.statics.count in omega (arith, f, n)); deep = fit.1 };
-      operands = class_codes b are m.framed i c s OperandsHold (λ d f. record { some = f.some; few = f.few; operands = f.operands });
+      operands = class_codes b are m.framed i c s OperandsHold (λ d f. formed_operands d f);
       targets = class_codes b are m.framed i c s TargetsHold (λ d f. f.targets);
       payloads = class_codes b are m.framed i c s PayloadsHold (λ d f. f.payloads);
       tries = class_codes b are m.framed i c s TriesHold (λ d f. f.tries);

@@ -1,6 +1,7 @@
 -- What is known of a finished file.
 use Rattle.std.proofs.Common.{◌≡◌, ℕ, zero, suc, ◌+◌, ◌-◌, ◌*◌, ◌^◌, ◌<◌, ◌≤◌, List, [], ◌∷◌, ◌++◌, length, map, take, drop, get_or, refl, sym, ap, ◌∙◌, subst, arith, append_assoc, length-append, length-drop, length-take, lit<}
 use Rattle.std.proofs.lemmas.List.{drop-drop, drop_at, take_at, drop-append-le, take-append-le, take_all}
+use Rattle.std.proofs.lemmas.List.Sums.{count_by-le-length, length-filter}
 use Rattle.std.specs.List.{filter, flat_map, AllByRecursion}
 use Rattle.dex_bytes.specs.Fields.{AreBytes, u16_at, u32_at, u32_bytes}
 use Rattle.dex_bytes.specs.Words.{words_bytes}
@@ -260,3 +261,13 @@ row_u16 b rows k e h =
     let n = ap length e ∙ refl in
     let l = length-take (length rows) (drop 112 b) in
     sym (u16_at-drop b 112 k) ∙ sym (u16_at-take (drop 112 b) (length rows) k h (omega (arith, n, l))) ∙ ap (λ l. u16_at l k) e
+
+-- zeros and a map take at most 163 bytes: three, four, and twelve for each of 13 entries
+pub finished_short : (old new : List ℕ) (p : Plan) (rows : List ℕ) → Finishes old new p rows → length new ≤ length old + 163
+finished_short old new p rows f =
+    let spans = spans_of p f.map (length new) in
+    let few = length-filter has_items spans in
+    let all = count_by-le-length has_items spans in
+    let ends = f.written.ends in
+    let next = f.next.there in
+    omega (arith, few, all, ends, next)

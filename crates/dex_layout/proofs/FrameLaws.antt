@@ -6,7 +6,7 @@ use Rattle.dex_container.specs.Frame.{HeaderHolds, SectionHolds, SectionsHold, M
 use Rattle.dex_layout.specs.declared.plan.Part.{Part}
 use Rattle.dex_layout.specs.declared.plan.Plan.{Plan}
 use Rattle.dex_layout.specs.Spans.{Span, has_items, no_span, MapNames}
-use Rattle.dex_layout.specs.Parts.{SectionReaches, HasPart}
+use Rattle.dex_layout.specs.Parts.{SectionReaches, HasPart, IsWrittenKind}
 use Rattle.dex_layout.specs.Header.{HasHeader}
 use Rattle.dex_layout.specs.Plan.{type_ids_begin, proto_ids_begin, field_ids_begin, method_ids_begin, class_defs_begin, tables_end, table_offset, part_span, spans_of, Follows, IsPlanned, IsWritten}
 use Rattle.dex_layout.proofs.Named.{Follow, IsNamed, rank}
@@ -376,3 +376,13 @@ module _ (b : List ℕ) (p : Plan) (place : ℕ) (w : IsWritten b p place) where
   pub datas_part : HasPart b 0x2000 p.datas
   unfolding spans
   datas_part = record { counted = λ i h. (counts_at i h).4; stands = λ some. section_of (part_span 0x2000 p.datas) (inr (inr (inr (inr (inr (inr (inr (inr (inr (inr (inr (inl refl)))))))))))) some (omega arith) }
+
+  written_kinds : AllByRecursion (λ (s : Span). 0 < s.items → IsWrittenKind s.kind) spans
+  unfolding spans
+  written_kinds = ((λ _. inl (omega arith)), ((λ _. inl (omega arith)), ((λ _. inl (omega arith)), ((λ _. inl (omega arith)), ((λ _. inl (omega arith)), ((λ _. inl (omega arith)), ((λ _. inl (omega arith)), ((λ _. inr (inr (inl refl))), ((λ _. inr (inr (inr (inr (inl refl))))), ((λ _. inr (inr (inr (inr (inr (inl refl)))))), ((λ _. inr (inr (inr (inr (inr (inr (refl))))))), ((λ _. inr (inr (inr (inl refl)))), ((λ _. inr (inl refl)), tt)))))))))))))
+
+  pub kinds_known : (i : ℕ) → i < entry_count b → IsWrittenKind (kind_at b i)
+  kinds_known i h =
+      let c = map_is'.count in
+      let l : i < length (filter has_items spans) = omega (arith, c, h) in
+      subst IsWrittenKind (sym (map_is'.kinds i l)) (all_at (λ (s : Span). IsWrittenKind s.kind) (filter has_items spans) i (all_kept (λ (s : Span). IsWrittenKind s.kind) spans written_kinds) l)

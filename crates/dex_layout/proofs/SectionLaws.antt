@@ -1,15 +1,15 @@
 -- A section, item by item.
-use Rattle.std.proofs.Common.{◌≡◌, ℕ, suc, ◌+◌, ◌<◌, ◌≤◌, List, [], ◌∷◌, ◌++◌, length, refl, sym, ap, ◌∙◌, arith, append_assoc, append-nil, length-append, Bool, true, false}
-use Rattle.std.specs.List.{AllZip}
+use Rattle.std.proofs.Common.{◌≡◌, ℕ, suc, ◌+◌, ◌<◌, ◌≤◌, List, [], ◌∷◌, ◌++◌, length, refl, sym, ap, ◌∙◌, arith, append_assoc, append-nil, length-append, Bool, true, false, Some}
+use Rattle.std.specs.List.{slice_get, AllZip}
 use Rattle.std.specs.Prelude.{MatchBool}
 use Rattle.dex_layout.specs.Tiles.{zeros, gap}
 use Rattle.dex_layout.specs.Sections.{Adds, AddsSome, Laying, wide_of, IsItself, is_empty_list, count_with}
-use Rattle.dex_layout.proofs.TileLaws.{Lays-start, Lays-none, Lays-item, length-zeros}
+use Rattle.dex_layout.proofs.TileLaws.{Lays-start, Lays-none, Lays-item, Lays-again, length-zeros}
 
 pub Laying-start : {V : Type 0} (none : V → Bool) (G : List ℕ → V → Type 0) (align : ℕ) (wide : V → ℕ) (old : List ℕ) (all : List V) → Laying none G align wide old old [] all all [] 0
 Laying-start none G align wide old all = record { lays = Lays-start none G align old; grown = ([], sym (append-nil old)); bound = omega arith }
 
-Laying-none : {V : Type 0} (none : V → Bool) (G : List ℕ → V → Type 0) (align : ℕ) (wide : V → ℕ) (old out new : List ℕ) (done rest all : List V) (v : V) (places : List ℕ) (place count : ℕ)
+pub Laying-none : {V : Type 0} (none : V → Bool) (G : List ℕ → V → Type 0) (align : ℕ) (wide : V → ℕ) (old out new : List ℕ) (done rest all : List V) (v : V) (places : List ℕ) (place count : ℕ)
     → Laying none G align wide old out done (v ∷ rest) all places count → none v ≡ true → (place ≡ 0) × (new ≡ out) → Laying none G align wide old new (done ++ v ∷ []) rest all (places ++ place ∷ []) count
 Laying-none {V = V} none G align wide old out new done rest all v places place count l e a =
     let b = l.bound in
@@ -20,7 +20,7 @@ Laying-none {V = V} none G align wide old out new done rest all v places place c
       bound = omega (arith, b);
     })
 
-Laying-item : {V : Type 0} (none : V → Bool) (G : List ℕ → V → Type 0) (align : ℕ) (wide : V → ℕ) (old out new : List ℕ) (done rest all : List V) (v : V) (places : List ℕ) (place count : ℕ)
+pub Laying-item : {V : Type 0} (none : V → Bool) (G : List ℕ → V → Type 0) (align : ℕ) (wide : V → ℕ) (old out new : List ℕ) (done rest all : List V) (v : V) (places : List ℕ) (place count : ℕ)
     → Laying none G align wide old out done (v ∷ rest) all places count → 0 < length old → none v ≡ false → Adds G align out new v place → length new ≤ length out + wide v
     → Laying none G align wide old new (done ++ v ∷ []) rest all (places ++ place ∷ []) (count + 1)
 Laying-item {V = V} none G align wide old out new done rest all v places place count l front e a small =
@@ -41,6 +41,18 @@ Laying-more {V = V} none G align wide old out new done rest all v places place c
       | true ↦ λ e a c. rw c (Laying-none none G align wide old out new done rest all v places place count l e a)
       | false ↦ λ e a c. rw c (Laying-item none G align wide old out new done rest all v places place count l front e a small)
     ] refl a c
+
+-- a value that was laid before is laid again by the place that it had
+pub Laying-again : {V : Type 0} (none : V → Bool) (G : List ℕ → V → Type 0) (align : ℕ) (wide : V → ℕ) (old out : List ℕ) (done rest all : List V) (v : V) (places : List ℕ) (place count turn : ℕ)
+    → Laying none G align wide old out done (v ∷ rest) all places count → none v ≡ false → slice_get done turn ≡ Some v → slice_get places turn ≡ Some place
+    → Laying none G align wide old out (done ++ v ∷ []) rest all (places ++ place ∷ []) count
+Laying-again none G align wide old out done rest all v places place count turn l e there at =
+    let b = l.bound in
+    record {
+      lays = Lays-again none G align (length old) out done v places place count turn l.lays e there at;
+      grown = l.grown;
+      bound = omega (arith, b);
+    }
 
 pub Zip-length : {A B : Type 0} (R : A → B → Type 0) (xs : List A) (ys : List B) → AllZip R xs ys → length xs ≡ length ys
 Zip-length R [] [] h = refl

@@ -1,8 +1,9 @@
 -- Laws of items that stand one behind the other.
-use Rattle.std.proofs.Common.{◌≡◌, ℕ, ◌+◌, ◌<◌, ◌≤◌, Bool, true, false, eqb, List, [], ◌∷◌, ◌++◌, length, take, drop, map, refl, sym, ap, ◌∙◌, subst, arith, append_assoc, append-nil, length-append, inl, inr}
+use Rattle.std.proofs.Common.{◌≡◌, ℕ, zero, suc, ◌+◌, ◌<◌, ◌≤◌, Bool, true, false, eqb, Some, List, [], ◌∷◌, ◌++◌, length, take, drop, map, refl, sym, ap, ◌∙◌, subst, arith, append_assoc, append-nil, length-append, inl, inr}
 use Rattle.std.proofs.lemmas.List.{take_at, drop_at, take-append-le, drop-append-le, length-drop, map-append, length-replicate, replicate_more}
 use Rattle.std.proofs.lemmas.List.Sums.{fold_push}
-use Rattle.std.specs.List.{list_any, AllZip}
+use Rattle.std.proofs.lemmas.Bool.{eq-eqb}
+use Rattle.std.specs.List.{list_any, slice_get, AllZip}
 use Rattle.std.specs.Prelude.{MatchBool, ⊤, ◌||◌}
 use Rattle.dex_container.specs.Where.{slice}
 use Rattle.dex_layout.specs.Tiles.{Agree, zeros, gap, IsNext, Tiles, Done, Item, add_place, distinct_places, Among, Refers, Lays}
@@ -203,6 +204,30 @@ Lays-shared none G align begin b vs v places place count l e some a known = reco
   order = l.order ∙ sym (add_place-known (distinct_places places) place known) ∙ sym (distinct_places-push places place);
   counted = l.counted;
 }
+
+-- the place of an item is known
+among_known : {V : Type 0} (items : List (ℕ × V)) (place : ℕ) (v : V) → Among items place v → list_any (λ q. eqb q place) (map (λ (x : ℕ × V). x.0) items) ≡ true
+among_known [] place v a = absurd a
+among_known (x ∷ xs) place v (inl e) = rw (eq-eqb x.0 place e.0) refl
+among_known {V = V} (x ∷ xs) place v (inr a) = ap (λ t. eqb x.0 place || t) (among_known xs place v a) ∙ or_true (eqb x.0 place)
+
+refers_some : {V : Type 0} (none : V → Bool) (items : List (ℕ × V)) (place : ℕ) (v : V) → none v ≡ false → Refers none items place v → (0 < place) × Among items place v
+refers_some none items place v e r = rw e at r
+
+zip_there : {A B : Type 0} (R : A → B → Type 0) (xs : List A) (ys : List B) (k : ℕ) (x : A) (y : B) → AllZip R xs ys → slice_get xs k ≡ Some x → slice_get ys k ≡ Some y → R x y
+zip_there R [] ys k x y h a b = absurd cc
+zip_there R (u ∷ us) [] k x y h a b = absurd cc
+zip_there {A} {B} R (u ∷ us) (w ∷ ws) zero x y h a b = let e : u ≡ x = cc in let f : w ≡ y = cc in subst (λ (z : B). R x z) f (subst (λ (z : A). R z w) e h.0)
+zip_there R (u ∷ us) (w ∷ ws) (suc k) x y h a b = zip_there R us ws k x y h.1 a b
+
+-- a value that was laid before has the item of that use
+pub Lays-again : {V : Type 0} (none : V → Bool) (G : List ℕ → V → Type 0) (align begin : ℕ) (b : List ℕ) (vs : List V) (v : V) (places : List ℕ) (place count turn : ℕ)
+    → Lays none G align begin (length b) b vs places count → none v ≡ false → slice_get vs turn ≡ Some v → slice_get places turn ≡ Some place
+    → Lays none G align begin (length b) b (vs ++ v ∷ []) (places ++ place ∷ []) count
+Lays-again {V = V} none G align begin b vs v places place count turn l e there at =
+    let r = refers_some none l.items place v e (zip_there (Refers none l.items) places vs turn place v l.each at there) in
+    Lays-shared none G align begin b vs v places place count l e r.0 r.1
+    (ap (list_any (λ q. eqb q place)) (sym l.order) ∙ among_known l.items place v r.1)
 
 -- what is laid stays laid where the bytes are the same
 pub Lays-agree : {V : Type 0} (none : V → Bool) (G : List ℕ → V → Type 0) (align begin end : ℕ) (b c : List ℕ) (from : ℕ) (vs : List V) (places : List ℕ) (count : ℕ)

@@ -121,6 +121,7 @@ pub fn finish(alloc: Global, out: &mut Vec<u8>, plan: &Plan, rows: &[u8]) -> Res
     requires room { length out.old.items + 163 < 2 ^ 32 }
     ensures ok { OnOk result (Finishes out.old.items out.new.items plan.now rows.now) }
     ensures framed { OnOk result (IsFramed out.new.items) }
+    ensures short { OnOk result (length out.new.items ≤ length out.old.items + 163) }
     ensures err { OnErr result (out.new.items ≡ out.old.items) }
     ensures memory { IsOkUnless result memory }
 {

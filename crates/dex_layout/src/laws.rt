@@ -1,15 +1,16 @@
 // Laws of the definitions, each the contract of a function that does nothing else.
 
-ghost use Rattle.std.specs.Prelude.{ℕ, List};
+ghost use Rattle.std.specs.Prelude.{ℕ, ◌<◌, List};
 ghost use Rattle.dex_container.specs.Frame.{IsFramed};
+ghost use Rattle.dex_container.specs.Layout.{entry_count, kind_at};
 ghost use Rattle.dex_layout.specs.declared.plan.Plan.{Plan};
 ghost use Rattle.dex_layout.specs.Header.{HasHeader};
 ghost use Rattle.dex_layout.specs.Laws.{LaidItemsStay, LaidItemsStand, OneMoreItemIsLaid};
-ghost use Rattle.dex_layout.specs.Parts.{HasPart};
+ghost use Rattle.dex_layout.specs.Parts.{HasPart, IsWrittenKind};
 ghost use Rattle.dex_layout.specs.Plan.{IsWritten};
 
-/// What is written by a plan is framed, the header has the plan's fields, and each part stands in the section of its
-/// kind.
+/// What is written by a plan is framed, the header has the plan's fields, each part stands in the section of its kind, and the map
+/// lists no other kinds than those that a written file has.
 pub fn written_is_framed()
     ensures framed { (b : List ℕ) (p : Plan) (map : ℕ) → IsWritten b p map → IsFramed b }
     ensures header { (b : List ℕ) (p : Plan) (map : ℕ) → IsWritten b p map → HasHeader b p.rows map }
@@ -18,6 +19,7 @@ pub fn written_is_framed()
     ensures strings { (b : List ℕ) (p : Plan) (map : ℕ) → IsWritten b p map → HasPart b 0x2002 p.strings }
     ensures arrays { (b : List ℕ) (p : Plan) (map : ℕ) → IsWritten b p map → HasPart b 0x2005 p.arrays }
     ensures datas { (b : List ℕ) (p : Plan) (map : ℕ) → IsWritten b p map → HasPart b 0x2000 p.datas }
+    ensures kinds { (b : List ℕ) (p : Plan) (map : ℕ) → IsWritten b p map → (i : ℕ) → i < entry_count b → IsWrittenKind (kind_at b i) }
 {}
 
 /// Items that are laid one behind the other are laid so in any bytes that agree with theirs.

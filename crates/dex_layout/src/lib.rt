@@ -26,5 +26,5 @@ mod laws;
 
 pub use finishing::finish;
 pub use laws::{laid_items_stand, laid_items_stay, one_more_item_is_laid, written_is_framed};
-pub use padding::pad;
+pub use padding::{gap_behind, pad};
 pub use plan::{Part, Plan, Rows};

@@ -7,10 +7,11 @@ use Rattle.dex_bytes.specs.Fields.{AreBytes}
 use Rattle.dex_bytes.specs.declared.fault.Fault.{Fault}
 use Rattle.dex_class.specs.ClassData.{IsRun, MethodEntry}
 use Rattle.dex_class.specs.Classes.{CodeAt, CodesAre, IsMethod, SomeCodeStands, SpellsClass}
+use Rattle.dex_code_fits.proofs.BreakLaws.{on_split}
+use Rattle.dex_code_put.specs.Fits.{CodeBreaks}
 use Rattle.dex_container.specs.Frame.{IsFramed}
 use Rattle.dex_insn.specs.declared.opcode.IndexKind.TheVariants as kind
-use Rattle.dex_limits.specs.Limits.{ClassBreaks, CodeBreaks, IsLowestLimit, LimitBreaks, code_of, codes_in, codes_of}
-use Rattle.dex_limits.proofs.BodyLaws.{on_split}
+use Rattle.dex_limits.specs.Limits.{ClassBreaks, IsLowestLimit, LimitBreaks, code_of, codes_in, codes_of}
 use Rattle.dex_names.specs.Closure.{Five, NameRanks}
 use Rattle.dex_names.specs.Needed.{needed}
 use Rattle.dex_program.specs.Content.{Class, Code, Method, Name, Program, Units}

@@ -1,131 +1,16 @@
 -- The lowest limit that bodies break.
-use Rattle.std.proofs.Common.{◌≡◌, ◌≢◌, Bool, true, false, ℕ, zero, suc, ◌<◌, ◌≤◌, ◌⊎◌, inl, inr, ⊎_elim, List, [], ◌∷◌, ◌++◌, length, min, eqb, refl, sym, ap, subst, arith, Option, Some, None}
-use Rattle.std.proofs.lemmas.Bool.{cases_lt, eqb-true, eqb-false, leb-true, leb-false}
+use Rattle.std.proofs.Common.{◌≡◌, ◌≢◌, Bool, true, false, ℕ, zero, suc, ◌<◌, ◌≤◌, ◌⊎◌, inl, inr, ⊎_elim, List, [], ◌∷◌, ◌++◌, length, min, refl, sym, ap, subst, arith, Option, Some, None}
+use Rattle.std.proofs.lemmas.Bool.{cases_lt, leb-true, leb-false}
 use Rattle.std.proofs.lemmas.Option.{slice_get_within}
-use Rattle.std.specs.Prelude.{MatchBool, nat_le, if◌then◌else◌}
+use Rattle.std.specs.Prelude.{nat_le, if◌then◌else◌}
 use Rattle.std.specs.List.{AllByRecursion, slice_get}
 use Rattle.dex_bytes.specs.declared.fault.Fault.{Fault}
-use Rattle.dex_container.specs.Faults.{on}
-use Rattle.dex_insn.specs.declared.opcode.IndexKind.TheVariants as kind
-use Rattle.dex_code_put.specs.Fits.{AllInsns, AllNumbers, AllTries, ShortFits, OffsetsFit, IsEven, TryFits, HandlersAreNear, FitsCode, IsUnfit, unfit, wide_code}
+use Rattle.dex_code_put.specs.Fits.{CodeBreaks, FitsCode, IsUnfit}
+use Rattle.dex_code_fits.proofs.BreakLaws.{breaks_range, fits_clear}
 use Rattle.dex_program.specs.Content.{Name, Code, Class, Program}
-use Rattle.dex_program.specs.Sizes.{addresses_of}
-use Rattle.dex_limits.specs.Limits.{CodeBreaks, SomeBreaks, ClassBreaks, IsFirstClass, IsLeast, IsLowestOf, lower, earlier, codes_of}
-
--- ---- by the number
-
-pub on_split : (code number : ℕ) (P Q : Type 0) → on code number P Q → ((code ≡ number) × P) ⊎ ((code ≢ number) × Q)
-on_split code number P Q h = elim (eqb code number) as (λ (t : Bool). eqb code number ≡ t → MatchBool t P Q → ((code ≡ number) × P) ⊎ ((code ≢ number) × Q)) [
-  | true ↦ λ e x. inl (eqb-true code number e, x)
-  | false ↦ λ e x. inr (eqb-false code number e, x)
-] refl h
-
-pub on_other : (code number : ℕ) (P Q : Type 0) → code ≢ number → Q → on code number P Q
-on_other code number P Q n q = elim (eqb code number) as (λ (t : Bool). eqb code number ≡ t → MatchBool t P Q) [
-  | true ↦ λ e. absurd (n (eqb-true code number e))
-  | false ↦ λ e. q
-] refl
+use Rattle.dex_limits.specs.Limits.{SomeBreaks, ClassBreaks, IsFirstClass, IsLeast, IsLowestOf, lower, earlier, codes_of}
 
 -- ---- one body
-
--- The body breaks no limit below this number.
-record Below (N : ℕ → Name → Type 0) (c : Code) (k : ℕ) : Type 0 where
-  pub strings : 82 < k → AllInsns (ShortFits N kind.String) c
-  pub fields : 83 < k → AllInsns (ShortFits N kind.Field) c
-  pub methods : 84 < k → AllInsns (ShortFits N kind.Method) c
-  pub offsets : 85 < k → AllNumbers OffsetsFit c
-  pub even : 86 < k → AllNumbers IsEven c
-  pub tries : 87 < k → AllTries TryFits c
-  pub few : 88 < k → length c.tries ≤ 65535
-  pub handlers : 89 < k → wide_code c ≤ 4294967295 → HandlersAreNear N (addresses_of c.insns) c.tries
-
--- a limit that is broken isn't below
-one_below : (A : Type 0) (k n m : ℕ) → (n < k → A) → m ≡ n → (¬ A) → k ≤ m
-one_below A k n m f e not = ⊎_elim (λ (lt : n < k). absurd (not (f lt))) (λ (le : k ≤ n). omega (arith, le, e)) (cases_lt n k)
-
--- what is known of a limit that is broken
-record Range (N : ℕ → Name → Type 0) (c : Code) (m : ℕ) : Type 0 where
-  pub low : 82 ≤ m
-  pub high : m ≤ 89
-  pub least : (k : ℕ) → Below N c k → k ≤ m
-
-not_few : (n : ℕ) → 65535 < n → ¬ (n ≤ 65535)
-not_few n h f = omega (arith, h, f)
-
-range : (N : ℕ → Name → Type 0) (c : Code) (m : ℕ) → CodeBreaks N m c → Range N c m
-range N c m h = elim (on_split m 82 _ _ h) [
-  | inl x ↦ (let e = x.0 in record { low = omega (arith, e); high = omega (arith, e); least = λ k b. one_below _ k 82 m b.strings e x.1 })
-  | inr x ↦ elim (on_split m 83 _ _ x.1) [
-    | inl x ↦ (let e = x.0 in record { low = omega (arith, e); high = omega (arith, e); least = λ k b. one_below _ k 83 m b.fields e x.1 })
-    | inr x ↦ elim (on_split m 84 _ _ x.1) [
-      | inl x ↦ (let e = x.0 in record { low = omega (arith, e); high = omega (arith, e); least = λ k b. one_below _ k 84 m b.methods e x.1 })
-      | inr x ↦ elim (on_split m 85 _ _ x.1) [
-        | inl x ↦ (let e = x.0 in record { low = omega (arith, e); high = omega (arith, e); least = λ k b. one_below _ k 85 m b.offsets e x.1 })
-        | inr x ↦ elim (on_split m 86 _ _ x.1) [
-          | inl x ↦ (let e = x.0 in record { low = omega (arith, e); high = omega (arith, e); least = λ k b. one_below _ k 86 m b.even e x.1 })
-          | inr x ↦ elim (on_split m 87 _ _ x.1) [
-            | inl x ↦ (let e = x.0 in record { low = omega (arith, e); high = omega (arith, e); least = λ k b. one_below _ k 87 m b.tries e x.1 })
-            | inr x ↦ elim (on_split m 88 _ _ x.1) [
-              | inl x ↦ (let e = x.0 in record { low = omega (arith, e); high = omega (arith, e); least = λ k b. one_below _ k 88 m b.few e (not_few _ x.1) })
-              | inr x ↦ elim (on_split m 89 _ _ x.1) [
-                | inl x ↦ (let e = x.0 in record { low = omega (arith, e); high = omega (arith, e); least = λ k b. one_below _ k 89 m (λ lt. b.handlers lt x.1.0) e x.1.1 })
-                | inr x ↦ absurd x.1
-              ]
-            ]
-          ]
-        ]
-      ]
-    ]
-  ]
-]
-
-pub breaks_range : (N : ℕ → Name → Type 0) (c : Code) (m : ℕ) → CodeBreaks N m c → (82 ≤ m) × (m ≤ 89)
-breaks_range N c m h = let r = range N c m h in (r.low, r.high)
-
-pub fits_clear : (N : ℕ → Name → Type 0) (c : Code) (m : ℕ) → FitsCode N c → ¬ CodeBreaks N m c
-fits_clear N c m f h =
-    let r = range N c m h in
-    let high = r.high in
-    let most = r.least 90 (record { strings = λ _. f.strings; fields = λ _. f.fields; methods = λ _. f.methods; offsets = λ _. f.offsets; even = λ _. f.even; tries = λ _. f.tries; few = λ _. f.few; handlers = λ _. f.handlers }) in
-    omega (arith, high, most)
-
--- The body breaks this limit, and none below.
-record First (N : ℕ → Name → Type 0) (c : Code) (k : ℕ) : Type 0 where
-  pub breaks : CodeBreaks N k c
-  pub least : (m : ℕ) → CodeBreaks N m c → k ≤ m
-
-first_at : (N : ℕ → Name → Type 0) (c : Code) (k : ℕ) → CodeBreaks N k c → Below N c k → First N c k
-first_at N c k h b = record { breaks = h; least = λ m x. (range N c m x).least k b }
-
-too_low : (A : Type 0) (k n : ℕ) → k ≤ n → n < k → A
-too_low A k n h lt = absurd (omega (arith, h, lt))
-
-first_of_unfit : (N : ℕ → Name → Type 0) (c : Code) (f : Fault) → IsUnfit N c f → First N c f.code
-first_of_unfit N c f h = elim h [
-  | inl x ↦ at 82 x.1 (first_at N c 82 x.0 (record { strings = λ lt. absurd (omega (arith, lt)); fields = λ lt. absurd (omega (arith, lt)); methods = λ lt. absurd (omega (arith, lt)); offsets = λ lt. absurd (omega (arith, lt)); even = λ lt. absurd (omega (arith, lt)); tries = λ lt. absurd (omega (arith, lt)); few = λ lt. absurd (omega (arith, lt)); handlers = λ lt. absurd (omega (arith, lt)) }))
-  | inr a ↦ elim a.1 [
-    | inl x ↦ at 83 x.1 (first_at N c 83 x.0 (record { strings = λ _. a.0; fields = λ lt. absurd (omega (arith, lt)); methods = λ lt. absurd (omega (arith, lt)); offsets = λ lt. absurd (omega (arith, lt)); even = λ lt. absurd (omega (arith, lt)); tries = λ lt. absurd (omega (arith, lt)); few = λ lt. absurd (omega (arith, lt)); handlers = λ lt. absurd (omega (arith, lt)) }))
-    | inr b ↦ elim b.1 [
-      | inl x ↦ at 84 x.1 (first_at N c 84 x.0 (record { strings = λ _. a.0; fields = λ _. b.0; methods = λ lt. absurd (omega (arith, lt)); offsets = λ lt. absurd (omega (arith, lt)); even = λ lt. absurd (omega (arith, lt)); tries = λ lt. absurd (omega (arith, lt)); few = λ lt. absurd (omega (arith, lt)); handlers = λ lt. absurd (omega (arith, lt)) }))
-      | inr d ↦ elim d.1 [
-        | inl x ↦ at 85 x.1 (first_at N c 85 x.0 (record { strings = λ _. a.0; fields = λ _. b.0; methods = λ _. d.0; offsets = λ lt. absurd (omega (arith, lt)); even = λ lt. absurd (omega (arith, lt)); tries = λ lt. absurd (omega (arith, lt)); few = λ lt. absurd (omega (arith, lt)); handlers = λ lt. absurd (omega (arith, lt)) }))
-        | inr e ↦ elim e.1 [
-          | inl x ↦ at 86 x.1 (first_at N c 86 x.0 (record { strings = λ _. a.0; fields = λ _. b.0; methods = λ _. d.0; offsets = λ _. e.0; even = λ lt. absurd (omega (arith, lt)); tries = λ lt. absurd (omega (arith, lt)); few = λ lt. absurd (omega (arith, lt)); handlers = λ lt. absurd (omega (arith, lt)) }))
-          | inr g ↦ elim g.1 [
-            | inl x ↦ at 87 x.1 (first_at N c 87 x.0 (record { strings = λ _. a.0; fields = λ _. b.0; methods = λ _. d.0; offsets = λ _. e.0; even = λ _. g.0; tries = λ lt. absurd (omega (arith, lt)); few = λ lt. absurd (omega (arith, lt)); handlers = λ lt. absurd (omega (arith, lt)) }))
-            | inr i ↦ elim i.1 [
-              | inl x ↦ at 88 x.1 (first_at N c 88 x.0 (record { strings = λ _. a.0; fields = λ _. b.0; methods = λ _. d.0; offsets = λ _. e.0; even = λ _. g.0; tries = λ _. i.0; few = λ lt. absurd (omega (arith, lt)); handlers = λ lt. absurd (omega (arith, lt)) }))
-              | inr j ↦ at 89 j.3 (first_at N c 89 (j.1, j.2) (record { strings = λ _. a.0; fields = λ _. b.0; methods = λ _. d.0; offsets = λ _. e.0; even = λ _. g.0; tries = λ _. i.0; few = λ _. j.0; handlers = λ lt. absurd (omega (arith, lt)) }))
-            ]
-          ]
-        ]
-      ]
-    ]
-  ]
-]
-  where
-    at : (k : ℕ) → f ≡ unfit k → First N c k → First N c f.code
-    at k e g = subst (First N c) (sym (ap (λ (x : Fault). x.code) e)) g
 
 one_there : {V : Type 0} (v w : V) (i : ℕ) → slice_get (v ∷ []) i ≡ Some w → v ≡ w
 one_there v w zero e = cc
@@ -139,16 +24,14 @@ one_fits N c f = record {
 }
 
 pub one_breaks : (N : ℕ → Name → Type 0) (c : Code) (f : Fault) → IsUnfit N c f → IsLeast N (c ∷ []) (Some f.code)
-one_breaks N c f h =
-    let g = first_of_unfit N c f h in
-    record {
-      none = tt;
-      some = record { index = 0; code = c; there = refl; breaks = g.breaks };
-      least = λ m s. (f.code, refl, g.least m (subst (CodeBreaks N m) (sym (one_there c s.code s.index s.there)) s.breaks));
-    }
+one_breaks N c f h = record {
+  none = tt;
+  some = record { index = 0; code = c; there = refl; breaks = h.breaks };
+  least = λ m s. (f.code, refl, h.lowest m (subst (CodeBreaks N m) (sym (one_there c s.code s.index s.there)) s.breaks));
+}
 
 pub unfit_is_no_memory : (N : ℕ → Name → Type 0) (c : Code) (f : Fault) → IsUnfit N c f → f.code ≢ 255
-unfit_is_no_memory N c f h e = let r = breaks_range N c f.code (first_of_unfit N c f h).breaks in let high = r.1 in omega (arith, high, e)
+unfit_is_no_memory N c f h e = let high = (breaks_range N c f.code h.breaks).1 in omega (arith, high, e)
 
 -- ---- bodies, one behind the other
 

@@ -4,13 +4,13 @@ use Rattle.std.proofs.lemmas.Bool.{cases_lt, eqb-true, eqb-false}
 use Rattle.std.specs.Prelude.{if◌then◌else◌, IsTrue}
 use Rattle.std.specs.List.{AllByRecursion, slice_get}
 use Rattle.dex_bytes.specs.declared.fault.Fault.{Fault}
+use Rattle.dex_code_fits.proofs.BreakLaws.{breaks_range, clear_fits, fits_clear, on_other, on_split}
 use Rattle.dex_code_put.specs.Fits.{FitsCode}
 use Rattle.dex_names.specs.Closure.{NameRanks}
 use Rattle.dex_names.specs.Needed.{needed}
 use Rattle.dex_program.specs.Content.{Name, Code, Program}
 use Rattle.dex_limits.specs.Limits.{ClassBreaks, IsFirstClass, IsLowestOf, IsLowestLimit, LimitBreaks, Fits, codes_of, or_too_big}
 use Rattle.dex_limits.specs.Wide.{wide}
-use Rattle.dex_limits.proofs.BodyLaws.{on_split, on_other, breaks_range, fits_clear}
 
 abbrev N : Program → ℕ → Name → Type 0
 N p = NameRanks (needed p)
@@ -142,6 +142,43 @@ fits_none p f n place (Body d g) = no_class_breaks p f n place g.here
 
 pub fits_breaks_none : (p : Program) → Fits p → (n place : ℕ) → ¬ LimitBreaks p n place
 fits_breaks_none p f n place b = fits_none p f n place (cases p n place b)
+
+-- ---- a program that breaks no limit
+
+-- none of the numbers below k has it, where none is the first that has it
+none_below : (P : ℕ → Type 0) → ((i : ℕ) → P i → ((j : ℕ) → P j → i ≤ j) → ⊥) → (k i : ℕ) → i < k → ¬ P i
+none_below P f zero i lt h = absurd (omega (arith, lt))
+none_below P f (suc k) i lt h = f i h (λ j g. ⊎_elim (λ (less : j < i). absurd (none_below P f k j (omega (arith, less, lt)) g)) (λ (le : i ≤ j). le) (cases_lt j i))
+
+all_there : {V : Type 0} (P : V → Type 0) (vs : List V) → ((i : ℕ) (v : V) → slice_get vs i ≡ Some v → P v) → AllByRecursion P vs
+all_there P [] f = tt
+all_there P (v ∷ vs) f = (f 0 v refl, all_there P vs (λ i w e. f (suc i) w e))
+
+-- what isn't above a number is at most that
+at_most : (n m : ℕ) → (¬ (m < n)) → n ≤ m
+at_most n m not = ⊎_elim (λ (lt : m < n). absurd (not lt)) (λ (le : n ≤ m). le) (cases_lt m n)
+
+module _ (p : Program) (clear : (n place : ℕ) → ¬ LimitBreaks p n place) where
+  not_big : wide p ≤ 4294967295
+  not_big = at_most (wide p) 4294967295 (λ big. clear 90 0 (big, refl))
+
+  not_first : (n i : ℕ) → ¬ IsFirstClass (N p) n p i
+  not_first n i f = elim (eqb n 89) as (λ (t : Bool). eqb n 89 ≡ t → ⊥) [
+    | true ↦ λ e. clear 89 i (not_big, subst (λ (k : ℕ). IsFirstClass (N p) k p i) (eqb-true n 89 e) f)
+    | false ↦ λ e. clear n i (body_breaks p n i (eqb-false n 89 e) f)
+  ] refl
+
+  not_class : (n i : ℕ) → ¬ ClassBreaks (N p) n p i
+  not_class n i = none_below (ClassBreaks (N p) n p) (λ j h first. not_first n j (record { here = h; first = first })) (suc i) i (omega arith)
+
+  pub none_broken_fits : Fits p
+  none_broken_fits = record {
+    few_types = at_most (length (needed p).types) 65535 (λ many. clear 80 (length (needed p).types) (many, refl));
+    few_protos = at_most (length (needed p).protos) 65535 (λ many. clear 81 (length (needed p).protos) (many, refl));
+    bodies = λ i c at. all_there (FitsCode (N p)) (codes_of c) (λ k code there.
+        clear_fits (N p) code (λ n breaks. not_class n i (record { class = c; there = at; body = record { index = k; code = code; there = there; breaks = breaks } })));
+    small = not_big;
+  }
 
 -- what a test says that is false
 pub small_of : (b : Bool) (n : ℕ) → b ≡ false → (4294967295 < n → IsTrue b) → n ≤ 4294967295

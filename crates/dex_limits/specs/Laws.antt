@@ -1,6 +1,6 @@
 -- What holds of the limits.
 -- Page: "Dalvik Executable format", "header_item": file_size.
-use Rattle.std.specs.Prelude.{◌≡◌, ℕ}
+use Rattle.std.specs.Prelude.{◌≡◌, ◌↔◌, ℕ}
 use Rattle.dex_names.specs.Closure.{Five}
 use Rattle.dex_program.specs.Content.{Program}
 use Rattle.dex_limits.specs.Limits.{Fits, LimitBreaks}
@@ -10,6 +10,6 @@ use Rattle.dex_limits.specs.Wide.{wide_of, wide_parts}
 abbrev pub WideIsByParts : Type 0
 WideIsByParts = (s : Five) (p : Program) → wide_of s p ≡ wide_parts s p
 
--- a program that fits breaks no limit
-abbrev pub FitsBreaksNone : Type 0
-FitsBreaksNone = (p : Program) → Fits p → (n place : ℕ) → ¬ LimitBreaks p n place
+-- a program fits exactly if it breaks no limit
+abbrev pub LimitsAreDecided : Type 0
+LimitsAreDecided = (p : Program) → (Fits p ↔ ((number place : ℕ) → ¬ LimitBreaks p number place))

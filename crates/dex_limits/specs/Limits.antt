@@ -5,15 +5,13 @@ use Rattle.std.specs.List.{AllByRecursion, flat_map, slice_get}
 use Rattle.std.specs.Option.{option_to_list}
 use Rattle.dex_bytes.specs.declared.fault.Fault.{Fault}
 use Rattle.dex_container.specs.Faults.{on}
-use Rattle.dex_insn.specs.declared.opcode.IndexKind.TheVariants as kind
 use Rattle.dex_code_fits.specs.Ranked.{HasIndex}
-use Rattle.dex_code_put.specs.Fits.{AllInsns, AllNumbers, AllTries, ShortFits, OffsetsFit, IsEven, TryFits, HandlersAreNear, FitsCode, wide_code}
+use Rattle.dex_code_put.specs.Fits.{CodeBreaks, FitsCode}
 use Rattle.dex_names.specs.Closure.{Five, NameRanks}
 use Rattle.dex_names.specs.Needed.{needed}
 use Rattle.dex_program.specs.Content.{Name, Code, Method, Class, Program}
 use Rattle.dex_program.specs.Formed.{IsFormed}
 use Rattle.dex_program.specs.Mentions.{names_of_code}
-use Rattle.dex_program.specs.Sizes.{addresses_of}
 use Rattle.dex_limits.specs.Wide.{wide}
 
 -- the bodies of methods that have one, and those of a class
@@ -28,21 +26,7 @@ codes_in ms = flat_map code_of ms
 abbrev pub codes_of : Class → List Code
 codes_of c = codes_in c.directs ++ codes_in c.virtuals
 
--- A body breaks the limit of this number: 82 StringOutOfReach, 83 FieldOutOfReach, 84 MethodOutOfReach (an index in a field of 16
--- bits), 85 BranchOutOfReach, 86 Misaligned, 87 TryTooLong, 88 TooManyTries, 89 HandlerTooFar, if the code is not too big itself.
-abbrev pub CodeBreaks : (ℕ → Name → Type 0) → ℕ → Code → Type 0
-CodeBreaks N number c =
-    on number 82 (¬ AllInsns (ShortFits N kind.String) c) (
-    on number 83 (¬ AllInsns (ShortFits N kind.Field) c) (
-    on number 84 (¬ AllInsns (ShortFits N kind.Method) c) (
-    on number 85 (¬ AllNumbers OffsetsFit c) (
-    on number 86 (¬ AllNumbers IsEven c) (
-    on number 87 (¬ AllTries TryFits c) (
-    on number 88 (65535 < length c.tries) (
-    on number 89 ((wide_code c ≤ 4294967295) × (¬ HandlersAreNear N (addresses_of c.insns) c.tries))
-    ⊥)))))))
-
--- One of the bodies breaks it.
+-- One of the bodies breaks the limit of this number.
 pub record SomeBreaks (N : ℕ → Name → Type 0) (number : ℕ) (cs : List Code) : Type 0 where
   pub index : ℕ
   pub code : Code

@@ -5,9 +5,10 @@ use Rattle.dex_program.specs.Content as content
 use Rattle.dex_program.specs.Content.{Units, Descriptor, Name, OfText, OfDesc, OfField, OfMethod, Value, Values, no_values, more_values, Code, Member, Method, Class, Program}
 use Rattle.dex_program.specs.Mentions.{if_any, names_of_value, names_of_values, names_of_code, field_of_class, names_of_method, names_of_class}
 use Rattle.dex_rules.specs.Valid.{IsValidName}
-use Rattle.dex_code_rules.specs.CodeRules.{OperandsHold, TriesHold}
+use Rattle.dex_program.specs.Formed.{IsFormed}
+use Rattle.dex_rules.proofs.FormedLaws.{class_formed}
 use Rattle.dex_rules.specs.Rules.{ClassHolds, member_key, method_key}
-use Rattle.dex_ranges.specs.Ranges.{NameInRange, ValueInRange, ValuesInRange, CodeInRange, MemberInRange, DefinedInRange, ClassInRange}
+use Rattle.dex_ranges.specs.Ranges.{NameInRange, ValueInRange, ValuesInRange, MemberInRange, DefinedInRange, ClassInRange}
 use Rattle.dex_rules.specs.WellFormed.{WellFormed}
 use Rattle.dex_slots.specs.declared.key.Key.TheVariants as key
 use Rattle.dex_print.specs.Operands.{keyword, value_operands, values_operands}
@@ -71,22 +72,21 @@ givens_fit class (m ∷ ms) (v ∷ vs) r s w n =
     let b = all_behind IsNamed (names_of_value v) (flat_map names_of_value vs) n in
     (operands_append (member_operands m) (keyword key.Equals ∷ value_operands v) (field_fits class m r.0 w.0) (refl, value_fits v s.0 a), givens_fit class ms vs r.1 s.1 w.1 b)
 
-body_fits : (o : Option Code) → IfSome o OperandsHold → IfSome o TriesHold → IfSome o CodeInRange → AllByRecursion IsNamed (if_any names_of_code o) → BodyFits o
-body_fits None h t r w = tt
-body_fits (Some c) h t r w = code_fits c h t r w
+body_fits : (o : Option Code) → IfSome o IsFormed → AllByRecursion IsNamed (if_any names_of_code o) → BodyFits o
+body_fits None f w = tt
+body_fits (Some c) f w = code_fits c f w
 
-method_fits : (class : Descriptor) (m : Method) → IfSome m.code OperandsHold → IfSome m.code TriesHold → DefinedInRange m → AllByRecursion IsNamed (names_of_method class m) → MethodFits m
-method_fits class m h t r w =
+method_fits : (class : Descriptor) (m : Method) → IfSome m.code IsFormed → DefinedInRange m → AllByRecursion IsNamed (names_of_method class m) → MethodFits m
+method_fits class m f r w =
     let n = w.0 in
-    (((n.0.name, n.1.name), (proto_fits m.proto n.0.proto n.1.proto, (r.flags, tt))), body_fits m.code h t r.code w.1)
+    (((n.0.name, n.1.name), (proto_fits m.proto n.0.proto n.1.proto, (r.flags, tt))), body_fits m.code f w.1)
 
-methods_fit : (class : Descriptor) (ms : List Method) → AllByRecursion (λ m. IfSome m.code OperandsHold) ms → AllByRecursion (λ m. IfSome m.code TriesHold) ms → AllByRecursion DefinedInRange ms → AllByRecursion IsNamed (flat_map (names_of_method class) ms)
-    → AllByRecursion MethodFits ms
-methods_fit class [] h t r w = tt
-methods_fit class (m ∷ ms) h t r w =
+methods_fit : (class : Descriptor) (ms : List Method) → AllByRecursion (λ m. IfSome m.code IsFormed) ms → AllByRecursion DefinedInRange ms → AllByRecursion IsNamed (flat_map (names_of_method class) ms) → AllByRecursion MethodFits ms
+methods_fit class [] f r w = tt
+methods_fit class (m ∷ ms) f r w =
     let a = all_front IsNamed (names_of_method class m) (flat_map (names_of_method class) ms) w in
     let b = all_behind IsNamed (names_of_method class m) (flat_map (names_of_method class) ms) w in
-    (method_fits class m h.0 t.0 r.0 a, methods_fit class ms h.1 t.1 r.1 b)
+    (method_fits class m f.0 r.0 a, methods_fit class ms f.1 r.1 b)
 
 -- ---- heads
 
@@ -154,6 +154,7 @@ mentioned c w =
 class_fits : (p : Program) (i : ℕ) (c : Class) → ClassHolds p i c → ClassInRange c → ClassFits c
 class_fits p i c h r =
     let m = mentioned c (names_of (names_of_class c) h.names.all r.names) in
+    let formed = class_formed c h.operands h.targets h.payloads h.tries r in
     record {
       head = (name_fits (OfDesc c.ty) m.class, (r.flags, tt));
       above = super_fits c.superclass m.superclass;
@@ -165,9 +166,9 @@ class_fits p i c h r =
       statics_rise = keys_sorted (map member_key c.statics) h.members.statics;
       instances = fields_fit c.ty c.instances r.instances m.instances;
       instances_rise = keys_sorted (map member_key c.instances) h.members.instances;
-      directs = methods_fit c.ty c.directs h.operands.directs h.tries.directs r.directs m.directs;
+      directs = methods_fit c.ty c.directs formed.directs r.directs m.directs;
       directs_rise = keys_sorted (map method_key c.directs) h.members.directs;
-      virtuals = methods_fit c.ty c.virtuals h.operands.virtuals h.tries.virtuals r.virtuals m.virtuals;
+      virtuals = methods_fit c.ty c.virtuals formed.virtuals r.virtuals m.virtuals;
       virtuals_rise = keys_sorted (map method_key c.virtuals) h.members.virtuals;
     }
 

@@ -1,12 +1,10 @@
--- A code that keeps the rules is written.
+-- A well-formed code is written.
 use Rattle.std.proofs.Common.{ℕ, zero, suc, ◌<◌, ◌≤◌, List, [], ◌∷◌, ◌++◌, length, map, Option, Some, None, IfSome, arith}
 use Rattle.std.specs.List.{AllByRecursion, flat_map}
 use Rattle.dex_program.specs.Content.{OfDesc, Insn, Catch, Try, Code}
-use Rattle.dex_program.specs.Formed.{insn_at, try_at, TryFormed}
+use Rattle.dex_program.specs.Formed.{insn_at, try_at, TryFormed, IsFormed}
 use Rattle.dex_program.specs.Mentions.{names_of_insn, names_of_try, names_of_code}
 use Rattle.dex_program.specs.Operands.{IsOperand}
-use Rattle.dex_code_rules.specs.CodeRules.{OperandsHold, TriesHold}
-use Rattle.dex_ranges.specs.Ranges.{CodeInRange}
 use Rattle.dex_listing_laws.proofs.Printable.{InstructionsFit, CatchFits, CatchAllFits, TryFits, CodeFits}
 use Rattle.dex_listing_laws.proofs.NameFits.{IsNamed, name_fits}
 use Rattle.dex_listing_laws.proofs.InsnFits.{target_fits, insn_fits}
@@ -55,14 +53,14 @@ names_at [] i w = tt
 names_at (t ∷ ts) zero w = all_front IsNamed (names_of_try t) (flat_map names_of_try ts) w
 names_at (t ∷ ts) (suc i) w = names_at ts i (all_behind IsNamed (names_of_try t) (flat_map names_of_try ts) w)
 
-pub code_fits : (c : Code) → OperandsHold c → TriesHold c → CodeInRange c → AllByRecursion IsNamed (names_of_code c) → CodeFits c
-code_fits c o t r w =
-    let few = o.few in
+pub code_fits : (c : Code) → IsFormed c → AllByRecursion IsNamed (names_of_code c) → CodeFits c
+code_fits c f w =
+    let few = f.few in
     let names = flat_map names_of_insn c.insns in
     let caught = flat_map names_of_try c.tries in
-    let a = r.registers in let b = r.ins in let d = r.outs in (
+    let a = f.registers in let b = f.ins in let d = f.outs in (
       ((omega arith, omega arith), ((omega arith, omega arith), ((omega arith, omega arith), tt))),
       omega arith,
-      insns_fit (length c.insns) c.insns few o.operands (all_front IsNamed names caught w),
-      each_fits (length c.insns) c.tries (λ i a. try_fits (length c.insns) c.tries i few (t i a) (names_at c.tries i (all_behind IsNamed names caught w))),
+      insns_fit (length c.insns) c.insns few f.operands (all_front IsNamed names caught w),
+      each_fits (length c.insns) c.tries (λ i a. try_fits (length c.insns) c.tries i few (f.tries i a) (names_at c.tries i (all_behind IsNamed names caught w))),
     )

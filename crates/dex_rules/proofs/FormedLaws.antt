@@ -2,6 +2,7 @@
 use Rattle.std.proofs.Common.{List, [], ◌∷◌, Option, None, Some}
 use Rattle.std.specs.Prelude.{IfSome}
 use Rattle.std.specs.List.{AllByRecursion}
+use Rattle.dex_code_rules.proofs.OperandLaws.{operands_of}
 use Rattle.dex_code_rules.specs.CodeRules.{OperandsHold, TargetsHold, PayloadsHold, TriesHold}
 use Rattle.dex_program.specs.Content.{Code, Method, Class}
 use Rattle.dex_program.specs.Formed.{IsFormed}
@@ -12,7 +13,7 @@ formed_of : (c : Code) → OperandsHold c → TargetsHold c → PayloadsHold c �
 formed_of c o t p r n = record {
   some = o.some;
   few = o.few;
-  operands = o.operands;
+  operands = operands_of c o t p;
   targets = t;
   payloads = p;
   tries = r;

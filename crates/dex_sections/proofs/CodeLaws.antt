@@ -2,17 +2,19 @@
 use Rattle.std.proofs.Common.{◌≡◌, ℕ, zero, suc, ◌+◌, ◌%◌, ◌<◌, ◌≤◌, ◌==◌, if◌then◌else◌, Bool, true, false, List, [], ◌∷◌, ◌++◌, length, map, take, drop, get_or, refl, sym, ap, ◌∙◌, arith, subst, length-append, append_assoc, Option, Some, None}
 use Rattle.std.proofs.lemmas.List.{take_all, drop_all}
 use Rattle.std.specs.List.{AllByRecursion, flat_map}
-use Rattle.dex_bytes.proofs.FieldBounds.{length-u32_bytes}
-use Rattle.dex_bytes.specs.Fields.{u16_bytes, u32_bytes}
-use Rattle.dex_bytes.specs.Grammar.{Appends}
-use Rattle.dex_code_laws.proofs.PackedTries.{items-length, length-u16_bytes}
+use Rattle.dex_code_laws.proofs.PackedTries.{items-length}
 use Rattle.dex_code_laws.proofs.WrittenLaws.{lowered-length}
 use Rattle.dex_code_laws.proofs.PackedLaws.{length-head}
 use Rattle.dex_code_put.specs.Fits.{wide_code}
 use Rattle.dex_code_put.specs.Packs.{PacksCode, head_bytes, padding, joined, items_bytes}
-use Rattle.dex_layout.specs.Sections.{AddsSome, Laying, wide_all}
-use Rattle.dex_layout.specs.Tiles.{zeros, gap}
-use Rattle.dex_layout.proofs.SectionLaws.{length-padded}
+use Rattle.dex_layout.specs.Sections.{wide_all}
+use Rattle.dex_layout.specs.Tiles.{gap}
+use Rattle.dex_shared.specs.Once.{Entry, PutsOnce}
+use Rattle.dex_shared.specs.Sharing.{Sharing, UsesItem}
+use Rattle.dex_shared.proofs.SharingLaws.{sharing_more, sharing_bound}
+use Rattle.dex_code.proofs.ItemLaws.{SpellsCode-unique}
+use Rattle.dex_code_put.proofs.RankLaws.{ranks-functional}
+use Rattle.dex_code_laws.proofs.PackedLaws.{packed-spells}
 use Rattle.dex_limits.specs.Wide.{bodies_in, bodies_of, wide_body}
 use Rattle.dex_limits.proofs.SumLaws.{wide_all_append}
 use Rattle.dex_names.specs.Closure.{Five, NameRanks}
@@ -22,12 +24,11 @@ use Rattle.dex_program.specs.Sizes.{addresses_of, length_of}
 use Rattle.dex_program.specs.View as view
 use Rattle.dex_program.specs.declared.class.Class as made
 use Rattle.dex_program.specs.declared.class.Method as made_method
-use Rattle.dex_sections.proofs.LayingLaws.{one_more}
 use Rattle.dex_sections.proofs.ListLaws.{gap_four}
 use Rattle.dex_sections.proofs.Steps.{map_more, map_map}
 use Rattle.dex_sections.proofs.RoomLaws.{map_drop}
-use Rattle.dex_sections.specs.Codes.{PacksBody, is_bodiless}
-use Rattle.dex_sections.specs.Placing.{items_with}
+use Rattle.dex_sections.specs.Codes.{PacksBody, WritesBody, is_bodiless}
+use Rattle.dex_sections.specs.Named.{CanPut}
 
 -- ---- how long a body is
 
@@ -59,35 +60,37 @@ packed_room N c bytes p =
 
 -- ---- one body
 
-pub body_adds : (s : Five) (old mid new : List ℕ) (c : Code) (place : ℕ) → mid ≡ old ++ zeros (gap 4 (length old)) → place ≡ length mid → Appends (PacksCode (NameRanks s)) mid new c
-    → AddsSome is_bodiless (PacksBody (NameRanks s)) 4 old new (Some c) place
-body_adds s old mid new c place m p a = record {
-  there = p ∙ ap length m ∙ length-padded old (gap 4 (length old));
-  bytes = a.bytes;
-  whole = a.joined ∙ ap (λ (l : List ℕ). l ++ a.bytes) m;
-  some = (packed_room (NameRanks s) c a.bytes a.spelled).0;
-  spelled = a.spelled;
-}
+pub bodies_packs : (s : Five) (bytes : List ℕ) (v : Option Code) → WritesBody s bytes v → PacksBody (NameRanks s) bytes v
+bodies_packs s bytes None p = absurd p
+bodies_packs s bytes (Some c) p = p.0
 
-pub body_bound : (s : Five) (old mid new : List ℕ) (c : Code) → mid ≡ old ++ zeros (gap 4 (length old)) → Appends (PacksCode (NameRanks s)) mid new c → length new ≤ length old + wide_code c
-body_bound s old mid new c m a =
-    let r = (packed_room (NameRanks s) c a.bytes a.spelled).1 in
-    let e = ap length a.joined ∙ length-append mid a.bytes in
-    let f = ap length m ∙ length-padded old (gap 4 (length old)) in
-    let g = gap_four (length old) in
-    omega (arith, r, e, f, g)
+-- the bytes of a body have one value
+pub bodies_one : (s : Five) (bytes : List ℕ) (u v : Option Code) → WritesBody s bytes u → WritesBody s bytes v → u ≡ v
+bodies_one s bytes None v p q = absurd p
+bodies_one s bytes (Some c) None p q = absurd q
+bodies_one s bytes (Some c) (Some d) p q = ap (λ (x : Code). Some x) (SpellsCode-unique (NameRanks s) (ranks-functional s) bytes bytes [] [] c d p.1 q.1 refl).1
+
+pub bodies_most : (s : Five) (v : Option Code) → is_bodiless v ≡ false → (bytes : List ℕ) (at : ℕ) → WritesBody s bytes v → gap 4 at + length bytes ≤ wide_body v
+bodies_most s None e bytes at p = absurd p
+bodies_most s (Some c) e bytes at p =
+    let r = (packed_room (NameRanks s) c bytes p.0).1 in
+    let g = gap_four at in
+    omega (arith, r, g)
+
+pub body_used : (s : Five) (kept more : List Entry) (old new : List ℕ) (c : Code) (bytes : List ℕ) (place : ℕ) → CanPut s c → PacksCode (NameRanks s) bytes c → PutsOnce 4 kept more old new bytes place
+    → UsesItem is_bodiless (WritesBody s) 4 kept more old new (Some c) place
+body_used s kept more old new c bytes place can p u = (bytes, (p, packed-spells (NameRanks s) c can.formed can.fits can.ranked.short bytes p), u)
 
 -- ---- the bodies of methods
 
-abbrev pub Bodies : Five → List ℕ → List ℕ → List (Option Code) → List (Option Code) → List (Option Code) → List ℕ → ℕ → Type 0
-Bodies s old out done rest all places count = Laying is_bodiless (PacksBody (NameRanks s)) 4 wide_body old out done rest all places count
+abbrev pub Bodies : Five → List ℕ → List ℕ → List (Option Code) → List (Option Code) → List (Option Code) → List ℕ → List Entry → Type 0
+Bodies s old out done rest all places kept = Sharing is_bodiless (PacksBody (NameRanks s)) (WritesBody s) 4 wide_body old out done rest all places kept
 
 -- What the bodies of methods do to what was laid before them.
-pub record BodiesTo (s : Five) (before now : List ℕ) (bodies done rest : List (Option Code)) (places_before places_now : List ℕ) (items_before items_now : ℕ) : Type 0 where
+pub record BodiesTo (s : Five) (before now : List ℕ) (bodies done rest : List (Option Code)) (places_before places_now : List ℕ) (items_before items_now : List Entry) : Type 0 where
   pub lays : (old : List ℕ) (front back all : List (Option Code)) → 0 < length old → Bodies s old before front (bodies ++ back) all places_before items_before
       → Bodies s old now (front ++ done) (rest ++ back) all places_now items_now
   pub bound : length now + wide_all wide_body rest ≤ length before + wide_all wide_body bodies
-  pub few : items_now < length now
 
 bodies_more : (ms : List made_method.Method) (i : ℕ) (d : made_method.Method) → i < length ms
     → bodies_in (map view.method (take (i + 1) ms)) ≡ bodies_in (map view.method (take i ms)) ++ (view.method (get_or ms i d)).code ∷ []
@@ -99,56 +102,39 @@ bodies_left : (ms : List made_method.Method) (i : ℕ) (d : made_method.Method) 
     → bodies_in (map view.method (drop i ms)) ≡ (view.method (get_or ms i d)).code ∷ bodies_in (map view.method (drop (i + 1) ms))
 bodies_left ms i d lt = ap (λ (l : List content.Method). bodies_in l) (map_drop view.method ms i d lt)
 
-pub bodies_start : (s : Five) (before : List ℕ) (bodies : List (Option Code)) (places : List ℕ) (items : ℕ) → items < length before → BodiesTo s before before bodies [] bodies places places items items
-bodies_start s before bodies places items few = record {
+pub bodies_start : (s : Five) (before : List ℕ) (bodies : List (Option Code)) (places : List ℕ) (items : List Entry) → BodiesTo s before before bodies [] bodies places places items items
+bodies_start s before bodies places items = record {
   lays = λ old front back all some l. subst (λ (f : List (Option Code)). Bodies s old before f (bodies ++ back) all places items) (sym (nothing_more front)) l;
   bound = omega arith;
-  few = few;
 }
   where
     nothing_more : (xs : List (Option Code)) → xs ++ [] ≡ xs
     nothing_more [] = refl
     nothing_more (x ∷ xs) = ap (λ (l : List (Option Code)). x ∷ l) (nothing_more xs)
 
--- an item takes a byte at least
-pub few_next : (s : Five) (mid now : List ℕ) (v : Option Code) (place items : ℕ) → AddsSome is_bodiless (PacksBody (NameRanks s)) 4 mid now v place → items < length mid → items_with place items < length now
-few_next s mid now None place items a few = let n = ap length a.1 in rw a.0 (omega (arith, n, few))
-few_next s mid now (Some c) place items a few =
-    let e = ap length a.whole ∙ length-append (mid ++ zeros (gap 4 (length mid))) a.bytes in
-    let f = length-padded mid (gap 4 (length mid)) in
-    let some = a.some in
-    let most = at_most_one place items in
-    omega (arith, e, f, some, most, few)
-  where
-    at_most_one : (place items : ℕ) → items_with place items ≤ items + 1
-    at_most_one zero items = omega arith
-    at_most_one (suc place) items = omega arith
-
 -- one more method
-pub bodies_step : (s : Five) (before mid now : List ℕ) (bodies : List (Option Code)) (ms : List made_method.Method) (i : ℕ) (d : made_method.Method) (places_before places more : List ℕ) (items_before items count place : ℕ) → i < length ms
+pub bodies_step : (s : Five) (before mid now : List ℕ) (bodies : List (Option Code)) (ms : List made_method.Method) (i : ℕ) (d : made_method.Method) (places_before places more : List ℕ) (items_before items kept : List Entry) (place : ℕ) → i < length ms
     → BodiesTo s before mid bodies (bodies_in (map view.method (take i ms))) (bodies_in (map view.method (drop i ms))) places_before places items_before items
-    → AddsSome is_bodiless (PacksBody (NameRanks s)) 4 mid now (view.method (get_or ms i d)).code place → length now ≤ length mid + wide_body (view.method (get_or ms i d)).code
-    → more ≡ places ++ place ∷ [] → count ≡ items_with place items
-    → BodiesTo s before now bodies (bodies_in (map view.method (take (i + 1) ms))) (bodies_in (map view.method (drop (i + 1) ms))) places_before more items_before count
-bodies_step s before mid now bodies ms i d places_before places more items_before items count place lt b a small m n =
+    → UsesItem is_bodiless (WritesBody s) 4 items kept mid now (view.method (get_or ms i d)).code place → more ≡ places ++ place ∷ []
+    → BodiesTo s before now bodies (bodies_in (map view.method (take (i + 1) ms))) (bodies_in (map view.method (drop (i + 1) ms))) places_before more items_before kept
+bodies_step s before mid now bodies ms i d places_before places more items_before items kept place lt b a m =
     let v = (view.method (get_or ms i d)).code in
     let left = bodies_left ms i d lt in
     let right = bodies_more ms i d lt in
     let w = ap (wide_all wide_body) left in
     let bound = b.bound in
-    let few = few_next s mid now v place items a b.few in
+    let small = sharing_bound is_bodiless (PacksBody (NameRanks s)) (WritesBody s) 4 wide_body mid now v place items kept (bodies_most s v) a in
     record {
       lays = λ old front back all some l.
           let before_one = subst (λ (r : List (Option Code)). Bodies s old mid (front ++ bodies_in (map view.method (take i ms))) (r ++ back) all places items) left (b.lays old front back all some l) in
-          let after = one_more is_bodiless (PacksBody (NameRanks s)) 4 wide_body old mid now (front ++ bodies_in (map view.method (take i ms))) (bodies_in (map view.method (drop (i + 1) ms)) ++ back) all v places more place items count before_one some a small m n in
-          subst (λ (f : List (Option Code)). Bodies s old now f (bodies_in (map view.method (drop (i + 1) ms)) ++ back) all more count)
-          (append_assoc front (bodies_in (map view.method (take i ms))) (v ∷ []) ∙ ap (λ (l : List (Option Code)). front ++ l) (sym right)) after;
+          let after = sharing_more is_bodiless (PacksBody (NameRanks s)) (WritesBody s) 4 wide_body old mid now (front ++ bodies_in (map view.method (take i ms))) (bodies_in (map view.method (drop (i + 1) ms)) ++ back) all v places place items kept (bodies_packs s) (bodies_one s) before_one some a small in
+          rw m (subst (λ (f : List (Option Code)). Bodies s old now f (bodies_in (map view.method (drop (i + 1) ms)) ++ back) all (places ++ place ∷ []) kept)
+          (append_assoc front (bodies_in (map view.method (take i ms))) (v ∷ []) ∙ ap (λ (l : List (Option Code)). front ++ l) (sym right)) after);
       bound = omega (arith, w, bound, small);
-      few = omega (arith, n, few);
     }
 
 -- all methods are done
-pub bodies_end : (s : Five) (before now : List ℕ) (ms : List made_method.Method) (i : ℕ) (places_before places : List ℕ) (items_before items : ℕ) → length ms ≤ i
+pub bodies_end : (s : Five) (before now : List ℕ) (ms : List made_method.Method) (i : ℕ) (places_before places : List ℕ) (items_before items : List Entry) → length ms ≤ i
     → BodiesTo s before now (bodies_in (map view.method ms)) (bodies_in (map view.method (take i ms))) (bodies_in (map view.method (drop i ms))) places_before places items_before items
     → (old : List ℕ) (front back all : List (Option Code)) → 0 < length old → Bodies s old before front (bodies_in (map view.method ms) ++ back) all places_before items_before
     → Bodies s old now (front ++ bodies_in (map view.method ms)) back all places items
@@ -200,13 +186,13 @@ pub body_fits : (out old : List ℕ) (ms : List made_method.Method) (i : ℕ) (d
 body_fits out old ms i d limit lt b room = let w = body_room ms i d lt in omega (arith, b, w, room)
 
 -- what is known of the bodies of methods that were put
-abbrev pub PutsBodies : Five → List ℕ → List ℕ → List made_method.Method → List ℕ → List ℕ → ℕ → ℕ → Type 0
+abbrev pub PutsBodies : Five → List ℕ → List ℕ → List made_method.Method → List ℕ → List ℕ → List Entry → List Entry → Type 0
 PutsBodies s mid now ms places_before places items_before items =
     (old : List ℕ) (front back all : List (Option Code)) → 0 < length old → Bodies s old mid front (bodies_in (map view.method ms) ++ back) all places_before items_before
     → Bodies s old now (front ++ bodies_in (map view.method ms)) back all places items
 
 -- the direct methods of one more class
-pub first_part : (s : Five) (cs : List made.Class) (i : ℕ) (d : made.Class) (old mid now places more : List ℕ) (items count : ℕ) → i < length cs → 0 < length old
+pub first_part : (s : Five) (cs : List made.Class) (i : ℕ) (d : made.Class) (old mid now places more : List ℕ) (items count : List Entry) → i < length cs → 0 < length old
     → Bodies s old mid (flat_map bodies_of (map view.class (take i cs))) (flat_map bodies_of (map view.class (drop i cs))) (flat_map bodies_of (map view.class cs)) places items
     → PutsBodies s mid now (get_or cs i d).directs.now places more items count
     → Bodies s old now (flat_map bodies_of (map view.class (take i cs)) ++ bodies_in (map view.method (get_or cs i d).directs.now)) (bodies_in (map view.method (get_or cs i d).virtuals.now) ++ flat_map bodies_of (map view.class (drop (i + 1) cs))) (flat_map bodies_of (map view.class cs)) more count
@@ -215,7 +201,7 @@ first_part s cs i d old mid now places more items count lt some l puts =
     (subst (λ (r : List (Option Code)). Bodies s old mid (flat_map bodies_of (map view.class (take i cs))) r (flat_map bodies_of (map view.class cs)) places items) (class_left cs i d lt) l)
 
 -- and its virtual ones
-pub both_parts : (s : Five) (cs : List made.Class) (i : ℕ) (d : made.Class) (old mid now last places more most : List ℕ) (items count all_count : ℕ) → i < length cs → 0 < length old
+pub both_parts : (s : Five) (cs : List made.Class) (i : ℕ) (d : made.Class) (old mid now last places more most : List ℕ) (items count all_count : List Entry) → i < length cs → 0 < length old
     → Bodies s old mid (flat_map bodies_of (map view.class (take i cs))) (flat_map bodies_of (map view.class (drop i cs))) (flat_map bodies_of (map view.class cs)) places items
     → PutsBodies s mid now (get_or cs i d).directs.now places more items count
     → PutsBodies s now last (get_or cs i d).virtuals.now more most count all_count

@@ -5,6 +5,10 @@ use Rattle.std.specs.Prelude.{MatchBool}
 use Rattle.dex_layout.specs.Tiles.{Tiles, Done, Item}
 use Rattle.dex_layout.specs.Sections.{Adds, AddsSome, Laying, Laid, wide_all, count_with}
 use Rattle.dex_layout.proofs.SectionLaws.{Laying-more}
+use Rattle.dex_layout.specs.Tiles.{gap}
+use Rattle.dex_shared.specs.Once.{Entry}
+use Rattle.dex_shared.specs.Sharing.{Sharing, UsesItem}
+use Rattle.dex_shared.proofs.SharingLaws.{sharing_more, sharing_bound}
 use Rattle.dex_sections.specs.Placing.{items_with}
 use Rattle.dex_sections.proofs.Steps.{map_more}
 use Rattle.dex_sections.proofs.RoomLaws.{map_drop}
@@ -78,3 +82,20 @@ pub laid_of : {A V : Type 0} (g : A → V) (none : V → Bool) (G : List ℕ →
 laid_of {V = V} g none G align wide old out xs i places count le l =
     subst (λ (done : List V). Laying none G align wide old out done [] (map g xs) places count) (ap (map g) (take_all i xs le))
     (subst (λ (rest : List V). Laying none G align wide old out (map g (take i xs)) rest (map g xs) places count) (ap (map g) (drop_all i xs le)) l)
+
+-- ---- parts of which each item is written once
+
+-- one more value, of an element
+pub shared_of : {A V : Type 0} (g : A → V) (none : V → Bool) (G K : List ℕ → V → Type 0) (align : ℕ) (wide : V → ℕ) (old out new : List ℕ) (xs : List A) (i : ℕ) (d : A) (places more_places : List ℕ) (place : ℕ) (kept more : List Entry)
+    → ((bytes : List ℕ) (u : V) → K bytes u → G bytes u) → ((bytes : List ℕ) (u w : V) → K bytes u → K bytes w → u ≡ w)
+    → (none (g (get_or xs i d)) ≡ false → (bytes : List ℕ) (at : ℕ) → K bytes (g (get_or xs i d)) → gap align at + length bytes ≤ wide (g (get_or xs i d)))
+    → i < length xs → Sharing none G K align wide old out (map g (take i xs)) (map g (drop i xs)) (map g xs) places kept → 0 < length old → UsesItem none K align kept more out new (g (get_or xs i d)) place → more_places ≡ places ++ place ∷ []
+    → Sharing none G K align wide old new (map g (take (i + 1) xs)) (map g (drop (i + 1) xs)) (map g xs) more_places more
+shared_of {V = V} g none G K align wide old out new xs i d places more_places place kept more packs one most lt s front a n =
+    let v = g (get_or xs i d) in
+    let before = subst (λ (rest : List V). Sharing none G K align wide old out (map g (take i xs)) rest (map g xs) places kept) (map_drop g xs i d lt) s in
+    let after = sharing_more none G K align wide old out new (map g (take i xs)) (map g (drop (i + 1) xs)) (map g xs) v places place kept more packs one before front a (sharing_bound none G K align wide out new v place kept more most a) in
+    rw n (subst (λ (done : List V). Sharing none G K align wide old new done (map g (drop (i + 1) xs)) (map g xs) (places ++ place ∷ []) more) (sym (map_more g xs i d lt)) after)
+
+pub shared_all : {A V : Type 0} (g : A → V) (none : V → Bool) (G K : List ℕ → V → Type 0) (align : ℕ) (wide : V → ℕ) (old out : List ℕ) (xs : List A) (i : ℕ) (places : List ℕ) (kept : List Entry) (count : ℕ) → length xs ≤ i → Sharing none G K align wide old out (map g (take i xs)) (map g (drop i xs)) (map g xs) places kept → count ≡ length kept → Laid none G align wide old out (map g xs) places count
+shared_all g none G K align wide old out xs i places kept count le s n = rw n (laid_of g none G align wide old out xs i places (length kept) le s.laying)

@@ -1,5 +1,5 @@
 -- Type lists by rank.
-use Rattle.std.proofs.Common.{◌≡◌, ℕ, ◌+◌, ◌*◌, ◌^◌, ◌<◌, ◌≤◌, List, [], ◌∷◌, ◌++◌, length, map, take, get_or, refl, sym, ap, ◌∙◌, arith, subst, length-append, append-nil, append_assoc}
+use Rattle.std.proofs.Common.{◌≡◌, ℕ, ◌+◌, ◌*◌, ◌^◌, ◌<◌, ◌≤◌, List, [], ◌∷◌, ◌++◌, length, map, take, get_or, refl, sym, ap, ◌∙◌, arith, subst, true≢false, false, length-append, append-nil, append_assoc}
 use Rattle.std.proofs.lemmas.List.{length-map}
 use Rattle.std.specs.List.{AllByRecursion}
 use Rattle.dex_bytes.specs.Fields.{u16_bytes, u32_bytes}
@@ -13,9 +13,14 @@ use Rattle.dex_program.specs.declared.names.Desc.{Desc}
 use Rattle.dex_names.specs.Closure.{Five}
 use Rattle.dex_names.specs.Rank.{IsAt}
 use Rattle.dex_tables.proofs.HalvesLaws.{length-halves_bytes}
-use Rattle.dex_layout.specs.Tiles.{zeros, gap}
-use Rattle.dex_layout.specs.Sections.{is_empty_list, AddsSome}
-use Rattle.dex_layout.proofs.SectionLaws.{Zip-length, adds_some, not_none, length-padded}
+use Rattle.dex_layout.specs.Tiles.{gap}
+use Rattle.dex_layout.specs.Sections.{is_empty_list}
+use Rattle.dex_layout.proofs.SectionLaws.{Zip-length, not_none}
+use Rattle.dex_shared.specs.Once.{Entry, PutsOnce}
+use Rattle.dex_shared.specs.Sharing.{UsesItem}
+use Rattle.dex_names.specs.Indices.{AreIndices}
+use Rattle.dex_program.specs.Key.{Key}
+use Rattle.dex_tables.proofs.HalvesLaws.{indexes_unique}
 use Rattle.dex_layout.proofs.TileLaws.{Zip-push}
 use Rattle.dex_sections.specs.Lists.{AddsIndices}
 use Rattle.dex_sections.specs.Lists.{SpellsRanks}
@@ -66,13 +71,6 @@ list_length s bytes ts p =
     let h = length-halves_bytes p.indexes in
     omega (arith, n, e, f, h)
 
-pub list_adds : (s : Five) (old mid new : List ℕ) (xs : List Desc) (place : ℕ) → 0 < length xs → mid ≡ old ++ zeros (gap 4 (length old)) → place ≡ length mid → Appends (SpellsRanks s) mid new (map view.desc xs) → AddsSome is_empty_list (SpellsRanks s) 4 old new (map view.desc xs) place
-list_adds s old mid new xs place some m p a =
-    let n = length-map xs view.desc in
-    let l = list_length s a.bytes (map view.desc xs) a.spelled in
-    adds_some is_empty_list (SpellsRanks s) 4 old new (map view.desc xs) place (not_none (map view.desc xs) (omega (arith, n, some)))
-    (record { there = p ∙ ap length m ∙ length-padded old (gap 4 (length old)); bytes = a.bytes; whole = a.joined ∙ ap (λ (l : List ℕ). l ++ a.bytes) m; some = omega (arith, l); spelled = a.spelled })
-
 wide_some : (ts : List Units) → 0 < length ts → wide_list ts ≡ 7 + 2 * length ts
 wide_some [] h = absurd (omega (arith, h))
 wide_some (t ∷ ts) h = refl
@@ -80,15 +78,53 @@ wide_some (t ∷ ts) h = refl
 pub gap_four : (n : ℕ) → gap 4 n ≤ 3
 gap_four n = omega arith
 
-pub list_bound : (s : Five) (old mid new : List ℕ) (xs : List Desc) → 0 < length xs → mid ≡ old ++ zeros (gap 4 (length old)) → Appends (SpellsRanks s) mid new (map view.desc xs) → length new ≤ length old + wide_list (map view.desc xs)
-list_bound s old mid new xs some m a =
-    let n = length-map xs view.desc in
-    let l = list_length s a.bytes (map view.desc xs) a.spelled in
-    let e = ap length a.joined ∙ length-append mid a.bytes in
-    let f = ap length m ∙ length-padded old (gap 4 (length old)) in
-    let g = gap_four (length old) in
-    let w = wide_some (map view.desc xs) (omega (arith, n, some)) in
-    omega (arith, l, e, f, g, w)
-
 pub list_room : (xs : List Desc) → 0 < length xs → wide_list (map view.desc xs) ≡ 7 + 2 * length xs
 list_room xs some = let n = length-map xs view.desc in let w = wide_some (map view.desc xs) (omega (arith, n, some)) in omega (arith, n, w)
+
+-- ---- a list that is written once
+
+-- what is appended to nothing is all of it
+pub all_of_it : {V : Type 0} (G : List ℕ → V → Type 0) (old new : List ℕ) (v : V) → old ≡ [] → Appends G old new v → G new v
+all_of_it {V} G old new v e a = subst (λ (l : List ℕ). G l v) (sym (a.joined ∙ ap (λ (l : List ℕ). l ++ a.bytes) e)) a.spelled
+
+pub list_some : (s : Five) (bytes : List ℕ) (ts : List Descriptor) → SpellsRanks s bytes ts → 0 < length bytes
+list_some s bytes ts p = let l = list_length s bytes ts p in omega (arith, l)
+
+pub list_used : (s : Five) (kept more : List Entry) (old new : List ℕ) (xs : List Desc) (bytes : List ℕ) (place : ℕ) → 0 < length xs → SpellsRanks s bytes (map view.desc xs) → PutsOnce 4 kept more old new bytes place
+    → UsesItem is_empty_list (SpellsRanks s) 4 kept more old new (map view.desc xs) place
+list_used s kept more old new xs bytes place some p u =
+    let n = length-map xs view.desc in
+    rw (not_none (map view.desc xs) (omega (arith, n, some))) (bytes, p, u)
+
+pub list_packs : (s : Five) (bytes : List ℕ) (ts : List Descriptor) → SpellsRanks s bytes ts → SpellsRanks s bytes ts
+list_packs s bytes ts p = p
+
+pub list_most : (s : Five) (ts : List Descriptor) → is_empty_list ts ≡ false → (bytes : List ℕ) (at : ℕ) → SpellsRanks s bytes ts → gap 4 at + length bytes ≤ wide_list ts
+list_most s [] e bytes at p = absurd (true≢false e)
+list_most s (t ∷ ts) e bytes at p =
+    let l = list_length s bytes (t ∷ ts) p in
+    let g = gap_four at in
+    omega (arith, l, g)
+
+text_one : (t u : Units) → text_key t ≡ text_key u → t ≡ u
+text_one t u e = cc e
+
+key_one : (ks : List Key) (i : ℕ) (k l : Key) → IsAt ks i k → IsAt ks i l → k ≡ l
+key_one ks i k l p q = cc
+
+named_one : (s : Five) (is : List ℕ) (ts us : List Units) → AreIndices s.types is ts → AreIndices s.types is us → ts ≡ us
+named_one s [] [] [] p q = refl
+named_one s [] [] (u ∷ us) p q = absurd q
+named_one s [] (t ∷ ts) us p q = absurd p
+named_one s (i ∷ is) [] us p q = absurd p
+named_one s (i ∷ is) (t ∷ ts) [] p q = absurd q
+named_one s (i ∷ is) (t ∷ ts) (u ∷ us) p q =
+    let a = text_one t u (key_one s.types i (text_key t) (text_key u) p.0 q.0) in
+    let b = named_one s is ts us p.1 q.1 in
+    λ j. a j ∷ b j
+
+-- the bytes of a list have one value
+pub list_one : (s : Five) (bytes : List ℕ) (ts us : List Descriptor) → SpellsRanks s bytes ts → SpellsRanks s bytes us → ts ≡ us
+list_one s bytes ts us p q =
+    let e = (indexes_unique bytes bytes [] [] p.indexes q.indexes p.spelled q.spelled refl).1 in
+    named_one s p.indexes ts us p.named (subst (λ (is : List ℕ). AreIndices s.types is us) (sym e) q.named)

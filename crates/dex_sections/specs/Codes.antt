@@ -2,6 +2,8 @@
 -- Page: "Dalvik Executable format", "encoded_method": code_off, 0 for a method without a body; "code_item".
 use Rattle.std.specs.Prelude.{ℕ, Bool, true, false, List, Option, Some, None}
 use Rattle.dex_code_put.specs.Packs.{PacksCode}
+use Rattle.dex_code.specs.Code.{SpellsCode}
+use Rattle.dex_names.specs.Closure.{Five, NameRanks}
 use Rattle.dex_program.specs.Content.{Name, Code}
 
 -- there is no body
@@ -13,3 +15,8 @@ is_bodiless (Some c) = false
 abbrev pub PacksBody : (ℕ → Name → Type 0) → List ℕ → Option Code → Type 0
 PacksBody N bytes None = ⊥
 PacksBody N bytes (Some c) = PacksCode N bytes c
+
+-- .. and they spell it, so that other bodies have other bytes.
+abbrev pub WritesBody : Five → List ℕ → Option Code → Type 0
+WritesBody s bytes None = ⊥
+WritesBody s bytes (Some c) = PacksCode (NameRanks s) bytes c × SpellsCode (NameRanks s) bytes c

@@ -3,7 +3,7 @@
 ghost use Rattle.std.specs.Prelude.{◌≡◌, ◌+◌, ◌<◌, ◌≤◌, ◌^◌, IfOk, OnOk, IsOkUnless, length, map};
 ghost use Rattle.dex_bytes.specs.Fault.{memory};
 ghost use Rattle.dex_bytes.specs.Leb128.{Shortest};
-ghost use Rattle.dex_layout.specs.Sections.{is_empty_list, wide_all, AddsSome, Laid};
+ghost use Rattle.dex_layout.specs.Sections.{is_empty_list, wide_all, Laid};
 ghost use Rattle.dex_limits.specs.Wide.{array_values};
 ghost use Rattle.dex_names.specs.Closure.{NameRanks};
 ghost use Rattle.dex_names.specs.Needed.{needed};
@@ -11,6 +11,7 @@ ghost use Rattle.dex_program.specs.Content as content;
 ghost use Rattle.dex_program.specs.Mentions.{AllNamesHold};
 ghost use Rattle.dex_program.specs.View as view;
 ghost use Rattle.dex_sections.specs.Named.{FewNames};
+ghost use Rattle.dex_shared.specs.Sharing.{UsesItem};
 ghost use Rattle.dex_value.specs.Named.{IsRanked};
 ghost use Rattle.dex_value.specs.Spelling.{SpellsArray};
 ghost use Rattle.dex_value.specs.Wide.{wide_array};
@@ -19,26 +20,32 @@ use crate::placed::Placed;
 use dex_base::Fault;
 use dex_names::Ranks;
 use dex_program::{Program, Value};
+use dex_shared::Items;
 use dex_value::put_array;
 use std::alloc::Global;
 
-// Appends static values, if there are any, and answers the byte at which they begin, or 0.
-fn add_array(out: &mut Vec<u8>, ranks: &Ranks<'_>, values: &[Value<'_>]) -> Result<u32, Fault>
+// The byte at which static values stand, to which they are appended unless equal ones stand already; 0 where there are none.
+fn add_array(
+    alloc: Global,
+    out: &mut Vec<u8>,
+    items: &mut Items,
+    ranks: &Ranks<'_>,
+    values: &[Value<'_>],
+) -> Result<u32, Fault>
     requires named { AllNamesHold (IsRanked ranks.now) (content.values (map view.value values.now)) }
     requires room { length out.old.items + wide_array (map view.value values.now) < 2 ^ 32 }
-    ensures ok { IfOk result (AddsSome is_empty_list (Shortest (SpellsArray (NameRanks ranks.now))) 1 out.old.items out.new.items (map view.value values.now)) }
-    ensures bound { OnOk result (length out.new.items ≤ length out.old.items + wide_array (map view.value values.now)) }
+    ensures ok { IfOk result (UsesItem is_empty_list (Shortest (SpellsArray (NameRanks ranks.now))) 1 items.old items.new out.old.items out.new.items (map view.value values.now)) }
     ensures memory { IsOkUnless result memory }
 {
     if values.len() == 0 {
         return Ok(0);
     }
-    let place = out.len() as u32;
-    put_array(out, ranks, values)?;
-    Ok(place)
+    let mut bytes = Vec::new(alloc);
+    put_array(&mut bytes, ranks, values)?;
+    Ok(items.put(out, bytes)?)
 }
 
-/// Appends the static values of each class that has some.
+/// Appends the static values of each class that has some. Equal ones stand once.
 ///
 /// The only refusal is want of memory.
 pub fn put_arrays(
@@ -54,10 +61,14 @@ pub fn put_arrays(
     ensures ok { IfOk result (λ r. Laid is_empty_list (Shortest (SpellsArray (NameRanks ranks.now))) 1 wide_array out.old.items out.new.items (array_values (view.program program.now)) r.places.items r.items) }
     ensures memory { IsOkUnless result memory }
 {
-    let mut placed = Placed::new(alloc);
+    let mut items = Items::new(alloc);
+    let mut places = Vec::new(alloc);
     for class in program.classes {
-        let place = add_array(out, ranks, class.values)?;
-        placed.add(place)?;
+        let place = add_array(alloc, out, &mut items, ranks, class.values)?;
+        places.push(place)?;
     }
-    Ok(placed)
+    Ok(Placed {
+        places,
+        items: items.count(),
+    })
 }

@@ -8,16 +8,17 @@ ghost use Rattle.dex_program.specs.Key.{text_key};
 ghost use Rattle.dex_program.specs.View as view;
 ghost use Rattle.dex_names.specs.Indices.{HasPlace};
 ghost use Rattle.dex_names.specs.Needed.{needed};
-ghost use Rattle.dex_layout.specs.Sections.{is_empty_list, wide_all, AddsSome, Laid};
+ghost use Rattle.dex_layout.specs.Sections.{is_empty_list, wide_all, Laid};
 ghost use Rattle.dex_sections.specs.Lists.{AddsIndices, SpellsRanks};
 ghost use Rattle.dex_limits.specs.Wide.{list_values, wide_list};
+ghost use Rattle.dex_shared.specs.Sharing.{UsesItem};
 
 use crate::placed::Placed;
 use dex_base::Fault;
-use dex_layout::pad;
 use dex_names::Ranks;
 use dex_program::{Desc, Program};
 use dex_rows::type_index;
+use dex_shared::Items;
 use std::alloc::Global;
 
 // Appends the indices of types.
@@ -45,28 +46,46 @@ fn put_list(out: &mut Vec<u8>, ranks: &Ranks<'_>, types: &[Desc<'_>]) -> Result<
     put_indices(out, ranks, types)
 }
 
-// Appends the type list of these types, 4-aligned, and answers the byte at which it begins; for no type nothing is
-// appended, and the answer is 0.
-fn add_list(out: &mut Vec<u8>, ranks: &Ranks<'_>, types: &[Desc<'_>]) -> Result<u32, Fault>
+// The type list of these types.
+fn list_bytes(alloc: Global, ranks: &Ranks<'_>, types: &[Desc<'_>]) -> Result<Vec<u8>, Fault>
+    requires held { AllByRecursion (λ t. HasPlace ranks.now.types (text_key t)) (map view.desc types.now) }
+    requires few { length ranks.now.types ≤ 65535 }
+    requires short { length types.now < 2 ^ 32 }
+    ensures ok { IfOk result (λ bytes. SpellsRanks ranks.now bytes.items (map view.desc types.now)) }
+    ensures memory { IsOkUnless result memory }
+{
+    let mut bytes = Vec::new(alloc);
+    put_list(&mut bytes, ranks, types)?;
+    Ok(bytes)
+}
+
+// The byte at which the type list of these types stands, 4-aligned, to which it is appended unless an equal one stands already; for no
+// type the answer is 0.
+fn add_list(
+    alloc: Global,
+    out: &mut Vec<u8>,
+    items: &mut Items,
+    ranks: &Ranks<'_>,
+    types: &[Desc<'_>],
+) -> Result<u32, Fault>
     requires held { AllByRecursion (λ t. HasPlace ranks.now.types (text_key t)) (map view.desc types.now) }
     requires few { length ranks.now.types ≤ 65535 }
     requires room { length out.old.items + wide_list (map view.desc types.now) < 2 ^ 32 }
-    ensures ok { IfOk result (AddsSome is_empty_list (SpellsRanks ranks.now) 4 out.old.items out.new.items (map view.desc types.now)) }
-    ensures bound { OnOk result (length out.new.items ≤ length out.old.items + wide_list (map view.desc types.now)) }
+    ensures ok { IfOk result (UsesItem is_empty_list (SpellsRanks ranks.now) 4 items.old items.new out.old.items out.new.items (map view.desc types.now)) }
     ensures memory { IsOkUnless result memory }
 {
     if types.len() == 0 {
         return Ok(0);
     }
-    pad(out)?;
-    let place = out.len() as u32;
-    put_list(out, ranks, types)?;
-    Ok(place)
+    let bytes = list_bytes(alloc, ranks, types)?;
+    Ok(items.put_aligned(out, bytes)?)
 }
 
-// Appends the list of this number: the parameters of each prototype, then the interfaces of each class.
+// The same of the list of this number: the parameters of each prototype, then the interfaces of each class.
 fn add_numbered(
+    alloc: Global,
     out: &mut Vec<u8>,
+    items: &mut Items,
     ranks: &Ranks<'_>,
     program: &Program<'_>,
     number: usize,
@@ -75,16 +94,17 @@ fn add_numbered(
     requires few { length ranks.now.types ≤ 65535 }
     requires number { number < length (list_values ranks.now (view.program program.now)) }
     requires room { length out.old.items + wide_list (slice_index_or (list_values ranks.now (view.program program.now)) number []) < 2 ^ 32 }
-    ensures ok { IfOk result (AddsSome is_empty_list (SpellsRanks ranks.now) 4 out.old.items out.new.items (slice_index_or (list_values ranks.now (view.program program.now)) number [])) }
-    ensures bound { OnOk result (length out.new.items ≤ length out.old.items + wide_list (slice_index_or (list_values ranks.now (view.program program.now)) number [])) }
+    ensures ok { IfOk result (UsesItem is_empty_list (SpellsRanks ranks.now) 4 items.old items.new out.old.items out.new.items (slice_index_or (list_values ranks.now (view.program program.now)) number [])) }
     ensures memory { IsOkUnless result memory }
 {
     let protos = ranks.protos();
     if number < protos.len() {
-        add_list(out, ranks, protos[number].params)
+        add_list(alloc, out, items, ranks, protos[number].params)
     } else {
         add_list(
+            alloc,
             out,
+            items,
             ranks,
             program.classes[number - protos.len()].interfaces,
         )
@@ -92,6 +112,7 @@ fn add_numbered(
 }
 
 /// Appends the type lists, each 4-aligned: the parameters of each prototype, then the interfaces of each class, where there are any.
+/// Equal lists stand once.
 ///
 /// The only refusal is want of memory.
 pub fn put_lists(
@@ -107,10 +128,14 @@ pub fn put_lists(
     ensures ok { IfOk result (λ r. Laid is_empty_list (SpellsRanks ranks.now) 4 wide_list out.old.items out.new.items (list_values ranks.now (view.program program.now)) r.places.items r.items) }
     ensures memory { IsOkUnless result memory }
 {
-    let mut placed = Placed::new(alloc);
+    let mut items = Items::new(alloc);
+    let mut places = Vec::new(alloc);
     for number in 0..ranks.protos().len() + program.classes.len() {
-        let place = add_numbered(out, ranks, program, number)?;
-        placed.add(place)?;
+        let place = add_numbered(alloc, out, &mut items, ranks, program, number)?;
+        places.push(place)?;
     }
-    Ok(placed)
+    Ok(Placed {
+        places,
+        items: items.count(),
+    })
 }

@@ -5,3 +5,4 @@ pub mod ShortyLaws
 pub mod ClearRows
 pub mod NameLaws
 pub mod Marks
+pub mod KeptLaws

@@ -5,3 +5,4 @@ pub mod Stands
 pub mod TableFaults
 pub mod Reading
 pub mod Halves
+pub mod Kept

@@ -1,10 +1,11 @@
 // The table proto_ids: each row has a shorty, a return type and a list of parameters ("proto_id_item").
-ghost use Rattle.std.specs.Prelude.{◌≡◌, ◌≢◌, ◌↔◌, ◌<◌, IfOk, IfErr, IfSome, IfNone, IsOkUnless, IsTrue, map};
+ghost use Rattle.std.specs.Prelude.{◌≡◌, ◌≢◌, ◌↔◌, ◌<◌, IfOk, IfErr, IfSome, IfNone, IsOkUnless, IsTrue, OnOk, map};
 ghost use Rattle.dex_bytes.specs.Fault.{memory};
 ghost use Rattle.dex_container.specs.Frame.{IsFramed};
 ghost use Rattle.dex_container.specs.Layout.{size_of};
 ghost use Rattle.dex_program.specs.View.{str, desc, proto};
 ghost use Rattle.dex_program.specs.Shorty.{shorty};
+ghost use Rattle.dex_tables.specs.Kept.{AreKept};
 ghost use Rattle.dex_tables.specs.Names.{AreRows};
 ghost use Rattle.dex_container.specs.Where.{IsSectionOf};
 ghost use Rattle.dex_tables.specs.Sorted.{RowRises, ProtoHolds, ProtosHold, ProtoIsBelow, ProtoIndexes};
@@ -19,11 +20,14 @@ use bumpalo::collections::into_bump_slice;
 use dex_base::{Fault, fault};
 use dex_container::{Section, Sections, kind, section_of};
 use dex_program::{Desc, Proto, Str, is_void, letter};
+use indexmap::IndexMap;
+use std::alloc::Global;
 use std::cmp::Ordering;
 
 /// The protos of all rows, each above the row before by the indices of return type and parameters. A proto holds its
 /// types' slices.
 pub(crate) fn read_protos<'a>(
+    alloc: Global,
     arena: &'a Bump,
     sections: &Sections<'_>,
     strings: &[Str<'a>],
@@ -37,9 +41,10 @@ pub(crate) fn read_protos<'a>(
 {
     let (count, _) = sections.table(kind::PROTO_ID_ITEM);
     let lists = section_of(sections, kind::TYPE_LIST);
+    let mut kept = IndexMap::new(alloc);
     let mut protos: Vec<Proto<'a>, &'a Bump> = Vec::with_capacity(arena, count as usize)?;
     for i in 0..count {
-        let proto = next_proto(arena, sections, lists, strings, types, i)?;
+        let proto = next_proto(arena, sections, lists, strings, types, &mut kept, i)?;
         protos.push(proto)?;
     }
     Ok(into_bump_slice(protos))
@@ -52,18 +57,21 @@ fn next_proto<'a>(
     lists: Section,
     strings: &[Str<'a>],
     types: &[Desc<'a>],
+    kept: &mut IndexMap<u32, &'a [Desc<'a>]>,
     i: u32,
 ) -> Result<Proto<'a>, Fault>
     requires framed { IsFramed sections.now }
     requires section { IsSectionOf sections.now 0x1001 lists }
     requires strings { AreRows StringStands sections.now 0 (map str strings.now) }
     requires types { AreRows TypeStands sections.now 1 (map desc types.now) }
+    requires kept { AreKept (λ off params. ParametersAt sections.now off (map desc params.now)) kept.old }
     requires row { i < size_of sections.now 2 }
     ensures ok { IfOk result (λ p. ProtoStands sections.now i (proto p)) }
+    ensures kept { OnOk result (AreKept (λ off params. ParametersAt sections.now off (map desc params.now)) kept.new) }
     ensures holds { IfOk result (λ _. ProtoHolds sections.now i) }
     ensures err { IfErr result (λ e. e ≢ memory → BreaksAt ProtoBreaks sections.now 2 i e) }
 {
-    let proto = read_proto(arena, sections, lists, strings, types, i)?;
+    let proto = read_proto(arena, sections, lists, strings, types, kept, i)?;
     if !rises(sections, lists, i) {
         return Err(Fault::at(fault::PROTO_ORDER, proto_row(sections, i)));
     }
@@ -77,14 +85,17 @@ fn read_proto<'a>(
     lists: Section,
     strings: &[Str<'a>],
     types: &[Desc<'a>],
+    kept: &mut IndexMap<u32, &'a [Desc<'a>]>,
     i: u32,
 ) -> Result<Proto<'a>, Fault>
     requires framed { IsFramed sections.now }
     requires section { IsSectionOf sections.now 0x1001 lists }
     requires strings { AreRows StringStands sections.now 0 (map str strings.now) }
     requires types { AreRows TypeStands sections.now 1 (map desc types.now) }
+    requires kept { AreKept (λ off params. ParametersAt sections.now off (map desc params.now)) kept.old }
     requires row { i < size_of sections.now 2 }
     ensures ok { IfOk result (λ p. ProtoStands sections.now i (proto p)) }
+    ensures kept { OnOk result (AreKept (λ off params. ParametersAt sections.now off (map desc params.now)) kept.new) }
     ensures err { IfErr result (λ e. e ≢ memory → BreaksAt ProtoBreaks sections.now 2 i e) }
 {
     let row = proto_row(sections, i);
@@ -95,7 +106,7 @@ fn read_proto<'a>(
         return Err(Fault::at(fault::PROTO_INDEX, row));
     };
     let off = proto_parameters(sections, i);
-    let Some(params) = read_parameters(arena, sections, lists, types, off)? else {
+    let Some(params) = parameters_at(arena, sections, lists, types, kept, off)? else {
         return Err(Fault::at(fault::PARAMETER_LIST, row));
     };
     if !is_shorty(text, ret, params) {
@@ -127,6 +138,34 @@ fn read_parameters<'a>(
             return Ok(None);
         }
     }
+    Ok(Some(params))
+}
+
+// The same: the list that is kept of the offset, or the one that is read now, and kept.
+fn parameters_at<'a>(
+    arena: &'a Bump,
+    sections: &Sections<'_>,
+    lists: Section,
+    types: &[Desc<'a>],
+    kept: &mut IndexMap<u32, &'a [Desc<'a>]>,
+    off: u32,
+) -> Result<Option<&'a [Desc<'a>]>, Fault>
+    requires framed { IsFramed sections.now }
+    requires section { IsSectionOf sections.now 0x1001 lists }
+    requires types { AreRows TypeStands sections.now 1 (map desc types.now) }
+    requires kept { AreKept (λ off params. ParametersAt sections.now off (map desc params.now)) kept.old }
+    ensures found { IfOk result (λ r. IfSome r (λ params. ParametersAt sections.now off (map desc params.now))) }
+    ensures none { IfOk result (λ r. IfNone r ((ts : _) → ¬ ParametersAt sections.now off ts)) }
+    ensures kept { OnOk result (AreKept (λ off params. ParametersAt sections.now off (map desc params.now)) kept.new) }
+    ensures memory { IsOkUnless result memory }
+{
+    if let Some(params) = kept.get(&off) {
+        return Ok(Some(*params));
+    }
+    let Some(params) = read_parameters(arena, sections, lists, types, off)? else {
+        return Ok(None);
+    };
+    kept.insert(off, params)?;
     Ok(Some(params))
 }
 

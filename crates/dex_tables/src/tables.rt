@@ -152,7 +152,7 @@ fn read_tables<'a>(
 {
     let strings = read_strings(alloc, arena, sections)?;
     let types = read_types(arena, sections, strings)?;
-    let protos = read_protos(arena, sections, strings, types)?;
+    let protos = read_protos(alloc, arena, sections, strings, types)?;
     let names = mark_names(alloc, strings)?;
     let fields = read_fields(arena, sections, strings, &names, types)?;
     let methods = read_methods(arena, sections, strings, &names, types, protos)?;

@@ -1,20 +1,16 @@
 -- Whether something stands at a place of a file is decided.
-use Rattle.std.proofs.Common.{◌≡◌, ◌≢◌, ℕ, ◌-◌, ◌^◌, ◌%◌, ◌<◌, ◌≤◌, inl, inr, Bool, true, false, List, [], ◌∷◌, ◌++◌, length, take, drop, refl, sym, ◌∙◌, subst, arith, length-take}
+use Rattle.std.proofs.Common.{◌≡◌, ◌≢◌, ℕ, ◌^◌, ◌<◌, ◌≤◌, inl, inr, Bool, true, false, List, [], ◌∷◌, ◌++◌, length, drop, refl, subst, arith}
 use Rattle.std.specs.Prelude.{MatchBool, ◌==◌}
-use Rattle.std.proofs.lemmas.List.{take-append-drop, take-take}
-use Rattle.std.proofs.lemmas.Bool.{cases_lt, cases_eq}
+use Rattle.std.proofs.lemmas.Bool.{cases_lt}
 use Rattle.std.specs.List.{AllByRecursion, AllZip}
 use Rattle.dex_bytes.specs.Fields.{u32_bytes}
 use Rattle.dex_bytes.specs.Words.{halves_bytes}
-use Rattle.dex_bytes.specs.Grammar.{Takes}
 use Rattle.dex_base.specs.Mutf8.{SpellsText}
-use Rattle.dex_bytes.proofs.TakesLaws.{Takes-length}
-use Rattle.dex_container.specs.Frame.{IsFramed, IsSection, end_at}
-use Rattle.dex_container.specs.Layout.{size_of, entry_count, kind_at, place_at}
-use Rattle.dex_container.proofs.Framed.{IsSection-one}
+use Rattle.dex_container.specs.Frame.{IsFramed}
+use Rattle.dex_container.specs.Layout.{size_of}
 use Rattle.dex_program.specs.Content.{Units}
 use Rattle.dex_tables.specs.Halves.{halves}
-use Rattle.dex_container.specs.Where.{slice, At, AtOrNone, IsInSection}
+use Rattle.dex_container.specs.Where.{At, AtOrNone}
 use Rattle.dex_tables.specs.RowFields.{string_place}
 use Rattle.dex_tables.specs.Sorted.{TypesHold}
 use Rattle.dex_program.specs.Kinds.{void}
@@ -23,9 +19,9 @@ use Rattle.dex_tables.specs.TableFaults.{ParametersAt}
 use Rattle.dex_tables.proofs.HalvesLaws.{spelled_numbers, list_or_none_one}
 use Rattle.dex_tables.proofs.TypeLists.{indexes_of, types_of, types_one}
 use Rattle.dex_bytes.specs.Deciding.{Decided, DecidedFront}
-use Rattle.dex_bytes.proofs.Deciding.{decide_like, decide_both, decide_lt, decide_le, decide_list, decide_all, decide_by}
+use Rattle.dex_bytes.proofs.Deciding.{decide_like, decide_both, decide_lt, decide_list, decide_all, decide_by}
 use Rattle.dex_base.proofs.TextsDecided.{decide_text}
-use Rattle.dex_container.proofs.PlacesDecided.{decide_in, decide_at}
+use Rattle.dex_container.proofs.PlacesDecided.{decide_at}
 
 -- ---- rows
 

@@ -1,5 +1,5 @@
 -- Bodies that are laid stand at their places.
-use Rattle.std.proofs.Common.{◌≡◌, ℕ, zero, suc, List, [], ◌∷◌, refl, subst, arith, Option, Some, None}
+use Rattle.std.proofs.Common.{◌≡◌, ℕ, zero, suc, ◌+◌, List, [], ◌∷◌, refl, subst, arith, Option, Some, None}
 use Rattle.std.specs.List.{AllZip}
 use Rattle.dex_class.specs.ClassData.{MethodEntry}
 use Rattle.dex_class.specs.Classes.{CodeAt, CodesAre, SomeCodeStands}
@@ -9,7 +9,7 @@ use Rattle.dex_code.proofs.CarryLaws.{SpellsCode-weaker}
 use Rattle.dex_code_laws.proofs.PackedLaws.{packed-spells}
 use Rattle.dex_layout.specs.declared.plan.Part.{Part}
 use Rattle.dex_layout.specs.Parts.{HasPart}
-use Rattle.dex_layout.specs.Tiles.{Among, Lays, Refers}
+use Rattle.dex_layout.specs.Tiles.{Among, Lays, Refers, gap}
 use Rattle.dex_layout.proofs.StandLaws.{at_item, even_four}
 use Rattle.dex_limits.specs.Wide.{bodies_in}
 use Rattle.dex_names.specs.Closure.{Five, NameRanks}
@@ -28,11 +28,11 @@ body_spelled : (s : Five) (M : ℕ → Name → Type 0) → ((i : ℕ) (which : 
 body_spelled s M f None k bytes p = p
 body_spelled s M f (Some c) k bytes p = SpellsCode-weaker (NameRanks s) M f bytes c (packed-spells (NameRanks s) c k.formed k.fits k.ranked.short bytes p)
 
-module _ (b : List ℕ) (s : Five) (stand : (i : ℕ) (which : Name) → NameRanks s i which → NameStands b i which) (part : Part) (vs : List (Option Code)) (places : List ℕ)
-    (has : HasPart b 0x2001 part) (l : Lays is_bodiless (PacksBody (NameRanks s)) 4 part.begin part.end b vs places part.items) where
+module _ (b : List ℕ) (s : Five) (stand : (i : ℕ) (which : Name) → NameRanks s i which → NameStands b i which) (part : Part) (begin : ℕ) (first : part.begin ≡ begin + gap 4 begin) (vs : List (Option Code)) (places : List ℕ)
+    (has : HasPart b 0x2001 part) (l : Lays is_bodiless (PacksBody (NameRanks s)) 4 begin part.end b vs places part.items) where
   code_stands : (place : ℕ) (c : Code) → BodyCanBePut s (Some c) → Among l.items place (Some c) → CodeStands (NameStands b) b place c
   code_stands place c k among =
-      let a = at_item is_bodiless (PacksBody (NameRanks s)) (SpellsBody (NameStands b)) 4 b 0x2001 part.begin part.begin part.end vs places part.items place (Some c) l has.stands (omega arith) even_four
+      let a = at_item is_bodiless (PacksBody (NameRanks s)) (SpellsBody (NameStands b)) 4 b 0x2001 part.begin begin part.end vs places part.items place (Some c) l has.stands (omega (arith, first)) even_four
       (body_spelled s (NameStands b) stand (Some c) k) among in
       record { begin = a.begin; end = a.end; section = a.section; behind = a.behind; aligned = a.aligned; size = a.size; within = a.within; spelled = a.spelled }
 

@@ -67,7 +67,7 @@ module _ (b : List ℕ) (p : Program) (a : Assembled b (needed p) p) (w : WellFo
   bodies_stand : (i : ℕ) (c : Class) → slice_get p i ≡ Some c → AllZip (CodeAt b) (own i c) (bodies_of c)
   bodies_stand i c at =
       zip_kept (Refers is_bodiless a.lies.codes.items) (CodeAt b) (BodyCanBePut (needed p))
-      (λ place o k. body_at b (needed p) stand a.plan.codes (body_values p) a.at.codes (codes_part b a.plan a.map a.written) a.lies.codes place o k)
+      (λ place o k. body_at b (needed p) stand a.plan.codes a.plan.lists.end a.lies.codes_begin (body_values p) a.at.codes (codes_part b a.plan a.map a.written) a.lies.codes place o k)
       (own i c) (bodies_of c) (class_can (needed p) p i c refl w fits (room_of (needed p) p refl fits) at) (refer_to_bodies i c at)
 
   pub data_stands : (i : ℕ) (c : Class) → slice_get p i ≡ Some c → DataStands b (get_or a.at.datas i 0) (own_sited c (rest_after p a.at.codes i))

@@ -85,5 +85,8 @@ module _ (M N : ℕ → Name → Type 0) (f : (i : ℕ) (which : Name) → M i w
     list = p.list;
     offsets = p.offsets;
     handlers = handlers-of-weaker _ _ p.list p.offsets p.handlers;
+    few = p.few;
+    near = p.near;
+    short = p.short;
     is = p.is;
   }

@@ -1,5 +1,6 @@
 -- What is assembled is the file of its program.
 use Rattle.std.proofs.Common.{◌≡◌, ◌≢◌, ℕ, zero, suc, ◌≤◌, List, ap, arith, inr}
+use Rattle.std.specs.Prelude.{Err, IfOk, Ok, OnOk, Result}
 use Rattle.dex_assemble.specs.Assembled.{Assembled}
 use Rattle.dex_bytes.specs.Fault.{memory}
 use Rattle.dex_bytes.specs.Fields.{AreBytes}
@@ -18,7 +19,7 @@ use Rattle.dex_write.proofs.Classes.{means}
 use Rattle.dex_write.proofs.Files.{packed}
 use Rattle.dex_write.specs.Least.{HoldsExactly}
 use Rattle.dex_write.proofs.TableLaws.{holds_exactly}
-use Rattle.dex_write.specs.Written.{AreNoLonger, IsFileOf, IsStripRefused}
+use Rattle.dex_write.specs.Written.{AreNoLonger, IsFileOf, IsStripRefused, IsStripped}
 
 no_longer : (b c : List ℕ) (s : Five) → HoldsExactly b s → HoldsAtLeast c s → AreNoLonger b c
 no_longer b c s e h zero l = omega (arith, e.strings, h.strings)
@@ -35,8 +36,19 @@ file_of b p well fits file =
       means = means b p well fits file;
       packed = packed b p file well fits;
       tables = exactly;
-      least = λ c m. no_longer b c (needed p) exactly (holds_at_least c p m);
+      least = λ c m. holds_at_least c p m;
+      no_longer = λ c m. no_longer b c (needed p) exactly (holds_at_least c p m);
+      short = file.short;
     }
+
+-- a value that is so where a fact holds
+pub with_fact : {A E : Type 0} (r : Result A E) (P : A → Type 0) (fact : Type 0) → OnOk r fact → IfOk r P → IfOk r (λ x. fact × P x)
+with_fact (Ok x) P fact f h = (f, h)
+with_fact (Err e) P fact f h = tt
+
+-- the file of what a file means
+pub stripped : (given made : List ℕ) (p : Program) → Means given p → Fits p → IsFileOf p made → IsStripped given made
+stripped given made p meant fits file = record { program = p; meant = meant; fits = fits; file = file; no_longer = file.no_longer given meant }
 
 -- a program that fits breaks no limit
 pub none_broken : (p : Program) (e : Fault) → Fits p → ¬ IsLowestLimit p e

@@ -17,7 +17,7 @@ use Rattle.dex_layout.specs.Header.{HasHeader}
 use Rattle.dex_layout.specs.Plan.{class_defs_begin, field_ids_begin, method_ids_begin, proto_ids_begin, table_offset, type_ids_begin}
 use Rattle.dex_layout.specs.Sections.{is_empty_list, never}
 use Rattle.dex_layout.specs.Tiles.{IsNext, Refers}
-use Rattle.dex_layout.proofs.FrameLaws.{arrays_part, codes_part, data_end_is, datas_part, header_of, lists_part, strings_part}
+use Rattle.dex_layout.proofs.FrameLaws.{arrays_part, codes_part, data_end_is, datas_part, header_of, kinds_known, lists_part, strings_part}
 use Rattle.dex_layout.proofs.SectionLaws.{Zip-length}
 use Rattle.dex_limits.specs.Limits.{Fits}
 use Rattle.dex_limits.specs.Wide.{array_values, bodies_of, body_values, list_values, text_values}
@@ -39,7 +39,7 @@ use Rattle.dex_write.proofs.Datas.{DataStands}
 use Rattle.dex_write.proofs.Lists.{own_sited}
 use Rattle.dex_write.specs.Least.{HoldsExactly}
 use Rattle.dex_write.proofs.NameLaws.{valid_of}
-use Rattle.dex_write.proofs.RowLaws.{class_count, proto_count, proto_row, string_count, string_row}
+use Rattle.dex_write.proofs.RowLaws.{class_count, is_framed, proto_count, proto_row, string_count, string_row}
 use Rattle.dex_write.proofs.TableLaws.{holds_exactly}
 use Rattle.dex_write.proofs.ValidNames.{IsProtoKey, member_is}
 use Rattle.dex_write.specs.Packed.{DataIsPacked, IsPackedSection, Packed, SomeMembers, SomeTypes, SomeValues, TablesArePacked, UnusedIsZero, array_places, code_places, data_places, list_places, table_end, text_places}
@@ -185,17 +185,16 @@ module _ (b : List ℕ) (p : Program) (a : Assembled b (needed p) p) (w : WellFo
       let m = header.map_off in
       record {
         lists = subst (λ (k : ℕ). IsPackedSection SomeTypes 4 b 0x1001 k a.plan.lists.end (list_places b)) at_lists
-            (packed_section is_empty_list (SpellsRanks (needed p)) SomeTypes (types_read (needed p)) 4 b 0x1001 a.plan.lists (list_values (needed p) p) a.at.lists (list_places b) (lists_part b a.plan a.map a.written) a.lies.lists lists_are);
-        codes = subst (λ (k : ℕ). IsPackedSection (PacksCode (NameStands b)) 4 b 0x2001 k a.plan.codes.end (flat_map code_places data_of.entries)) a.lies.codes_begin
-            (packed_section is_bodiless (PacksBody (NameRanks (needed p))) (PacksCode (NameStands b)) (codes_read b (needed p) exact.each exact.only) 4 b 0x2001 a.plan.codes (body_values p) a.at.codes (flat_map code_places data_of.entries)
-            (codes_part b a.plan a.map a.written) a.lies.codes data_of.places);
+            (packed_section is_empty_list (SpellsRanks (needed p)) SomeTypes (types_read (needed p)) 4 b 0x1001 a.plan.lists a.plan.lists.begin (list_values (needed p) p) a.at.lists (list_places b) (lists_part b a.plan a.map a.written) (let e = a.lies.lists_begin in omega (arith, e)) a.lies.lists lists_are);
+        codes = packed_section is_bodiless (PacksBody (NameRanks (needed p))) (PacksCode (NameStands b)) (codes_read b (needed p) exact.each exact.only) 4 b 0x2001 a.plan.codes a.plan.lists.end (body_values p) a.at.codes
+            (flat_map code_places data_of.entries) (codes_part b a.plan a.map a.written) a.lies.codes_begin a.lies.codes data_of.places;
         texts = subst (λ (k : ℕ). IsPackedSection PacksText 1 b 0x2002 k a.plan.strings.end (text_places b)) a.lies.strings_begin
-            (packed_section never PacksText PacksText (λ bytes v some t. (v, t)) 1 b 0x2002 a.plan.strings (text_values (needed p)) a.at.texts (text_places b) (strings_part b a.plan a.map a.written) a.lies.strings texts_are);
+            (packed_section never PacksText PacksText (λ bytes v some t. (v, t)) 1 b 0x2002 a.plan.strings a.plan.strings.begin (text_values (needed p)) a.at.texts (text_places b) (strings_part b a.plan a.map a.written) (omega arith) a.lies.strings texts_are);
         arrays = subst (λ (k : ℕ). IsPackedSection (SomeValues b) 1 b 0x2005 k a.plan.arrays.end (array_places b)) a.lies.arrays_begin
-            (packed_section is_empty_list (Shortest (SpellsArray (NameRanks (needed p)))) (SomeValues b) (values_read b (needed p) exact.each exact.only) 1 b 0x2005 a.plan.arrays (array_values p) a.at.arrays (array_places b)
-            (arrays_part b a.plan a.map a.written) a.lies.arrays arrays_are);
+            (packed_section is_empty_list (Shortest (SpellsArray (NameRanks (needed p)))) (SomeValues b) (values_read b (needed p) exact.each exact.only) 1 b 0x2005 a.plan.arrays a.plan.arrays.begin (array_values p) a.at.arrays (array_places b)
+            (arrays_part b a.plan a.map a.written) (omega arith) a.lies.arrays arrays_are);
         datas = subst (λ (k : ℕ). IsPackedSection SomeMembers 1 b 0x2000 k a.plan.datas.end (data_places b)) a.lies.datas_begin
-            (packed_section has_no_members (PacksData (NameRanks (needed p))) SomeMembers (members_read (needed p)) 1 b 0x2000 a.plan.datas (sited p a.at.codes) a.at.datas (data_places b) (datas_part b a.plan a.map a.written) a.lies.datas datas_are);
+            (packed_section has_no_members (PacksData (NameRanks (needed p))) SomeMembers (members_read (needed p)) 1 b 0x2000 a.plan.datas a.plan.datas.begin (sited p a.at.codes) a.at.datas (data_places b) (datas_part b a.plan a.map a.written) (omega arith) a.lies.datas datas_are);
         map = subst (λ (k : ℕ). IsNext 4 b a.plan.datas.end k) (sym m) a.next;
         map_last = let e = a.written.ends in let c = a.written.named.count in omega (arith, e, c, m);
       }
@@ -214,5 +213,6 @@ module _ (b : List ℕ) (p : Program) (a : Assembled b (needed p) p) (w : WellFo
     entries_are = record { count = let n = class_count b (needed p) p a in let m = data_of.many in omega (arith, n, m); each = data_of.each };
     ends = record { lists = a.plan.lists.end; codes = a.plan.codes.end; texts = a.plan.strings.end; arrays = a.plan.arrays.end; datas = a.plan.datas.end };
     data_section = data_section;
+    map = record { kinds = kinds_known b a.plan a.map a.written; some = λ i lt. ((is_framed b (needed p) p a).map.each i lt).some };
     unused = unused;
   }

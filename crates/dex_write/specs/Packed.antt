@@ -1,6 +1,6 @@
 -- Files without slack, as they are written.
 -- Page: "Dalvik Executable format", "File layout", "header_item", "map_list" and the alignment of each item.
-use Rattle.std.specs.Prelude.{◌≡◌, ℕ, zero, suc, ◌+◌, ◌*◌, ◌<◌, ◌==◌, if◌then◌else◌, List, [], ◌∷◌, ◌++◌, length, map}
+use Rattle.std.specs.Prelude.{◌≡◌, ℕ, zero, suc, ◌+◌, ◌*◌, ◌<◌, ◌==◌, if◌then◌else◌, List, [], ◌∷◌, ◌++◌, length, map, slice_index}
 use Rattle.std.specs.List.{flat_map}
 use Rattle.dex_base.specs.Mutf8.{PacksText}
 use Rattle.dex_bytes.specs.Fields.{u16_at, u32_at}
@@ -9,6 +9,7 @@ use Rattle.dex_class.specs.ClassData.{Entries, EntriesAt, SpellsEntries}
 use Rattle.dex_class.specs.ClassRows.{class_word}
 use Rattle.dex_code_put.specs.Packs.{PacksCode}
 use Rattle.dex_container.specs.Layout.{size_of, offset_of, row_bytes, map_place, map_end, entry_count, entry_place, kind_at, items_at, place_at, data_begin, data_end}
+use Rattle.dex_layout.specs.Parts.{IsWrittenKind}
 use Rattle.dex_layout.specs.Tiles.{Tiles, IsNext, distinct_places}
 use Rattle.dex_program.specs.Content.{Value}
 use Rattle.dex_sections.specs.Data.{code_offs}
@@ -19,10 +20,11 @@ use Rattle.dex_value.specs.Spelling.{SpellsArray}
 
 -- ---- sections
 
--- The map says of a kind that there are so many items of it, and where there are some, that they begin here.
-pub record MapSays (b : List ℕ) (kind begin count : ℕ) : Type 0 where
-  pub counted : (i : ℕ) → i < entry_count b → kind_at b i ≡ kind → items_at b i ≡ count
-  pub named : 0 < count → (i : ℕ) × (i < entry_count b) × (kind_at b i ≡ kind) × (place_at b i ≡ begin)
+-- The map says of a kind whose items stand at these places how many they are, and where there are some, that they begin at the first
+-- ("offset from the start of the file to the items in question").
+pub record MapSays (b : List ℕ) (kind : ℕ) (places : List ℕ) : Type 0 where
+  pub counted : (i : ℕ) → i < entry_count b → kind_at b i ≡ kind → items_at b i ≡ length places
+  pub named : 0 < length places → (i : ℕ) × (i < entry_count b) × (kind_at b i ≡ kind) × (place_at b i ≡ slice_index places 0)
 
 -- From `begin` to `end` stand the items that these references name, in the order of their first references, with zeros
 -- where alignment asks for them, and nothing else.
@@ -31,7 +33,7 @@ pub record IsPackedSection {V : Type 0} (G : List ℕ → V → Type 0) (align :
   pub items : List (ℕ × V)
   pub tiled : Tiles G align b begin end items
   pub order : map (λ (x : ℕ × V). x.0) items ≡ distinct_places references
-  pub in_map : MapSays b kind begin (length items)
+  pub in_map : MapSays b kind (map (λ (x : ℕ × V). x.0) items)
 
 -- ---- items, of which none is empty
 
@@ -118,12 +120,18 @@ pub record UnusedIsZero (b : List ℕ) : Type 0 where
   pub annotations : (i : ℕ) → i < size_of b 5 → class_word b i 5 ≡ 0
   pub map : (i : ℕ) → i < entry_count b → u16_at b (entry_place b i + 2) ≡ 0
 
+-- The map lists the kinds that a written file has and no others, and each only if it has items.
+pub record MapIsPacked (b : List ℕ) : Type 0 where
+  pub kinds : (i : ℕ) → i < entry_count b → IsWrittenKind (kind_at b i)
+  pub some : (i : ℕ) → i < entry_count b → 0 < items_at b i
+
 -- A file without slack: tables and sections stand end to end, each item is referred to and in its place, numbers take
--- the fewest bytes, and what no reader looks at is 0.
+-- the fewest bytes, the map lists what there is, and what no reader looks at is 0.
 pub record Packed (b : List ℕ) : Type 0 where
   pub tables : TablesArePacked b
   pub entries : List Entries
   pub entries_are : AreRows ClassDataIs b 5 entries
   pub ends : DataEnds
   pub data_section : DataIsPacked b ends entries
+  pub map : MapIsPacked b
   pub unused : UnusedIsZero b

@@ -1,11 +1,13 @@
 -- What is written of a program, and of a file.
 -- Page: "Dalvik Executable format", "File layout".
-use Rattle.std.specs.Prelude.{◌≡◌, ℕ, ◌<◌, ◌≤◌, ◌⊎◌, List}
+use Rattle.std.specs.Prelude.{◌≡◌, ℕ, ◌<◌, ◌≤◌, ◌⊎◌, List, length}
 use Rattle.dex_bytes.specs.declared.fault.Fault.{Fault}
 use Rattle.dex_container.specs.Layout.{size_of}
 use Rattle.dex_file.specs.Means.{Means}
 use Rattle.dex_file.specs.Refused.{IsRefused}
-use Rattle.dex_limits.specs.Limits.{IsLowestLimit}
+use Rattle.dex_least.specs.AtLeast.{HoldsAtLeast}
+use Rattle.dex_limits.specs.Limits.{Fits, IsLowestLimit}
+use Rattle.dex_limits.specs.Wide.{wide}
 use Rattle.dex_names.specs.Needed.{needed}
 use Rattle.dex_program.specs.Content.{Program}
 use Rattle.dex_write.specs.Packed.{Packed}
@@ -15,19 +17,23 @@ use Rattle.dex_write.specs.Least.{HoldsExactly}
 abbrev pub AreNoLonger : List ℕ → List ℕ → Type 0
 AreNoLonger b c = (k : ℕ) → k < 5 → size_of b k ≤ size_of c k
 
--- The file of a program: it means the program, has no slack, and its tables hold exactly the names that the program needs, so that
--- those of no file of the program are shorter.
+-- The file of a program: it means the program, has no slack, and its tables hold exactly the names that the program needs. Every file
+-- of the program holds these names, so that its tables are no shorter. The file is no longer than the plain sum.
 pub record IsFileOf (p : Program) (b : List ℕ) : Type 0 where
   pub means : Means b p
   pub packed : Packed b
   pub tables : HoldsExactly b (needed p)
-  pub least : (c : List ℕ) → Means c p → AreNoLonger b c
+  pub least : (c : List ℕ) → Means c p → HoldsAtLeast c (needed p)
+  pub no_longer : (c : List ℕ) → Means c p → AreNoLonger b c
+  pub short : length b ≤ wide p
 
--- The one file means a program, and the other is its file.
+-- The one file means a program that fits, and the other is its file, with tables no longer than those of the first.
 pub record IsStripped (given made : List ℕ) : Type 0 where
   pub program : Program
   pub meant : Means given program
+  pub fits : Fits program
   pub file : IsFileOf program made
+  pub no_longer : AreNoLonger made given
 
 -- The file is refused as it is read, or means a program that breaks a limit: 89 or 90, since no file means one that breaks another.
 pub record BreaksLimit (given : List ℕ) (fault : Fault) : Type 0 where

@@ -36,7 +36,7 @@ fn an_array_is_one_deeper_than_the_deepest_in_it() -> Result<(), Fail> {
 }
 
 // The value in so many arrays.
-fn nested<'a>(arena: &'a Bump, value: Value<'a>, arrays: u32) -> Result<Value<'a>, Fault> {
+pub fn nested<'a>(arena: &'a Bump, value: Value<'a>, arrays: u32) -> Result<Value<'a>, Fault> {
     let mut value = value;
     for _ in 0..arrays {
         value = Value::Array(arena.try_alloc_slice_copy(&[value])?);

@@ -1,11 +1,14 @@
 //! Programs that keep their rules, and programs that break one.
 
+use crate::depths::nested;
+use bumpalo::Bump;
+use bumpalo::collections::into_bump_slice;
 use dex_base::{Fault, fault};
 use dex_program::{
     Catch, Class, Code, Desc, Insn, Member, Method, Name, Program, Proto, Str, Try, Value,
 };
 use dex_rules::{well_formed, well_formed_in};
-use dex_samples::none_wrong;
+use dex_samples::{is_so, none_wrong};
 use std::alloc::Global;
 use std::test::Fail;
 
@@ -177,6 +180,50 @@ fn the_orders_of_members_and_classes_and_values_are_ruled(rt: HostRuntime) -> Re
     none_wrong(Ok(first_ruled_otherwise(rt.alloc(), &CASES)))
 }
 
+// The class `LA;` with these static fields and values alone.
+fn class_with<'a>(statics: &'a [Member<'a>], values: &'a [Value<'a>]) -> Class<'a> {
+    Class {
+        ty: A,
+        flags: 0,
+        superclass: None,
+        interfaces: &[],
+        source: None,
+        statics,
+        values,
+        instances: &[],
+        directs: &[],
+        virtuals: &[],
+    }
+}
+
+// The number that answers a class whose static field has a value of so many arrays, one in the other: 0 where it is well formed.
+fn answer_of_nested(arena: &Bump, arrays: u32) -> Result<u16, Fault> {
+    let value = nested(arena, Value::Null, arrays)?;
+    let mut values = Vec::new(arena);
+    values.push(value)?;
+    let mut statics = Vec::new(arena);
+    statics.push(FIELD)?;
+    let mut classes = Vec::new(arena);
+    classes.push(class_with(into_bump_slice(statics), into_bump_slice(values)))?;
+    let classes = into_bump_slice(classes);
+    match well_formed(&Program { classes }) {
+        Ok(()) => Ok(0),
+        Err(fault) => Ok(fault.code),
+    }
+}
+
+fn are_64_arrays_the_most(arena: &Bump) -> Result<bool, Fault> {
+    let most = answer_of_nested(arena, 64)?;
+    let one_more = answer_of_nested(arena, 65)?;
+    Ok(most == 0 && one_more == fault::PROGRAM_VALUES)
+}
+
+#[test]
+fn a_value_of_64_arrays_is_ruled_otherwise_than_one_of_65(rt: HostRuntime) -> Result<(), Fail> {
+    let arena = Bump::new(rt.alloc());
+    is_so(are_64_arrays_the_most(&arena))
+}
+
 // A class with one method, whose code has these instructions and tries.
 const BODY: Code<'static> = Code {
     registers: 1,
@@ -196,7 +243,7 @@ const COVER: Try<'static> = Try {
 #[rattlefmt::skip]
 #[test]
 fn instructions_are_ruled(rt: HostRuntime) -> Result<(), Fail> {
-    static CASES: [Ruled; 9] = [
+    static CASES: [Ruled; 12] = [
         ("return-void", &[Class { directs: &[Method { code: Some(&BODY), ..METHOD }], ..EMPTY }], 0, 0),
         ("no instruction", &[Class { directs: &[Method { code: Some(&Code { insns: &[], ..BODY }), ..METHOD }], ..EMPTY }], fault::PROGRAM_OPERAND, 0),
         ("an opcode of another format", &[Class { virtuals: &[Method { code: Some(&Code { insns: &[Insn::I10x { op: 0x01 }], ..BODY }), ..METHOD }], ..EMPTY }], fault::PROGRAM_OPERAND, 0),
@@ -204,7 +251,10 @@ fn instructions_are_ruled(rt: HostRuntime) -> Result<(), Fail> {
         ("a register above 15", &[Class { directs: &[Method { code: Some(&Code { insns: &[Insn::I12x { op: 0x01, a: 16, b: 0 }], ..BODY }), ..METHOD }], ..EMPTY }], fault::PROGRAM_OPERAND, 0),
         ("goto itself", &[Class { directs: &[Method { code: Some(&Code { insns: &[Insn::I10t { op: 0x28, to: 0 }], ..BODY }), ..METHOD }], ..EMPTY }], fault::PROGRAM_TARGET, 0),
         ("goto/32 itself", &[Class { directs: &[Method { code: Some(&Code { insns: &[Insn::I30t { op: 0x2a, to: 0 }], ..BODY }), ..METHOD }], ..EMPTY }], 0, 0),
-        ("goto past the end", &[Class { directs: &[Method { code: Some(&Code { insns: &[Insn::I10t { op: 0x28, to: 1 }], ..BODY }), ..METHOD }], ..EMPTY }], fault::PROGRAM_OPERAND, 0),
+        ("goto past the end", &[Class { directs: &[Method { code: Some(&Code { insns: &[Insn::I10t { op: 0x28, to: 1 }], ..BODY }), ..METHOD }], ..EMPTY }], fault::PROGRAM_TARGET, 0),
+        ("goto/32 past the end", &[Class { directs: &[Method { code: Some(&Code { insns: &[Insn::I30t { op: 0x2a, to: 4294967295 }], ..BODY }), ..METHOD }], ..EMPTY }], fault::PROGRAM_TARGET, 0),
+        ("if-eqz past the end", &[Class { directs: &[Method { code: Some(&Code { insns: &[Insn::I21t { op: 0x38, a: 0, to: 1 }], ..BODY }), ..METHOD }], ..EMPTY }], fault::PROGRAM_TARGET, 0),
+        ("if-eq past the end", &[Class { directs: &[Method { code: Some(&Code { insns: &[Insn::I22t { op: 0x32, a: 0, b: 0, to: 1 }], ..BODY }), ..METHOD }], ..EMPTY }], fault::PROGRAM_TARGET, 0),
         ("goto a payload", &[Class { directs: &[Method { code: Some(&Code { insns: &[Insn::I10t { op: 0x28, to: 1 }, Insn::Data { width: 1, bytes: &[] }], ..BODY }), ..METHOD }], ..EMPTY }], fault::PROGRAM_TARGET, 0),
     ];
     none_wrong(Ok(first_ruled_otherwise(rt.alloc(), &CASES)))
@@ -213,14 +263,20 @@ fn instructions_are_ruled(rt: HostRuntime) -> Result<(), Fail> {
 #[rattlefmt::skip]
 #[test]
 fn payloads_and_tries_are_ruled(rt: HostRuntime) -> Result<(), Fail> {
-    static CASES: [Ruled; 8] = [
+    static CASES: [Ruled; 14] = [
         ("a switch and its payload", &[Class { directs: &[Method { code: Some(&Code { insns: &[Insn::I31t { op: 0x2b, a: 0, to: 1 }, Insn::Packed { first: 0, targets: &[0] }], ..BODY }), ..METHOD }], ..EMPTY }], 0, 0),
         ("a switch's payload that nothing uses", &[Class { directs: &[Method { code: Some(&Code { insns: &[Insn::Packed { first: 0, targets: &[] }], ..BODY }), ..METHOD }], ..EMPTY }], fault::PROGRAM_PAYLOAD_USE, 0),
         ("two switches with one payload", &[Class { directs: &[Method { code: Some(&Code { insns: &[Insn::I31t { op: 0x2b, a: 0, to: 2 }, Insn::I31t { op: 0x2b, a: 0, to: 2 }, Insn::Packed { first: 0, targets: &[] }], ..BODY }), ..METHOD }], ..EMPTY }], fault::PROGRAM_PAYLOAD_USE, 0),
         ("a switch with a payload of another kind", &[Class { directs: &[Method { code: Some(&Code { insns: &[Insn::I31t { op: 0x2c, a: 0, to: 1 }, Insn::Data { width: 2, bytes: &[] }], ..BODY }), ..METHOD }], ..EMPTY }], fault::PROGRAM_PAYLOAD_USE, 0),
+        ("a switch to a place past the end", &[Class { directs: &[Method { code: Some(&Code { insns: &[Insn::I31t { op: 0x2b, a: 0, to: 1 }, Insn::Packed { first: 0, targets: &[2] }], ..BODY }), ..METHOD }], ..EMPTY }], fault::PROGRAM_TARGET, 0),
+        ("a switch by keys to a place past the end", &[Class { directs: &[Method { code: Some(&Code { insns: &[Insn::I31t { op: 0x2c, a: 0, to: 1 }, Insn::Sparse { keys: &[7], targets: &[2] }], ..BODY }), ..METHOD }], ..EMPTY }], fault::PROGRAM_TARGET, 0),
+        ("a switch whose payload is past the end", &[Class { directs: &[Method { code: Some(&Code { insns: &[Insn::I31t { op: 0x2b, a: 0, to: 1 }], ..BODY }), ..METHOD }], ..EMPTY }], fault::PROGRAM_PAYLOAD_USE, 0),
+        ("fill-array-data past the end", &[Class { directs: &[Method { code: Some(&Code { insns: &[Insn::I31t { op: 0x26, a: 0, to: 4294967295 }], ..BODY }), ..METHOD }], ..EMPTY }], fault::PROGRAM_PAYLOAD_USE, 0),
         ("a try with a handler", &[Class { directs: &[Method { code: Some(&Code { tries: &[COVER], ..BODY }), ..METHOD }], ..EMPTY }], 0, 0),
         ("a try that covers nothing", &[Class { directs: &[Method { code: Some(&Code { tries: &[Try { to: 0, ..COVER }], ..BODY }), ..METHOD }], ..EMPTY }], fault::PROGRAM_TRY, 0),
         ("a try past the end", &[Class { directs: &[Method { code: Some(&Code { tries: &[Try { to: 2, ..COVER }], ..BODY }), ..METHOD }], ..EMPTY }], fault::PROGRAM_TRY, 0),
+        ("a handler that is no instruction", &[Class { directs: &[Method { code: Some(&Code { tries: &[Try { catches: &[Catch { ty: A, at: 1 }], ..COVER }], ..BODY }), ..METHOD }], ..EMPTY }], fault::PROGRAM_TRY, 0),
+        ("a handler of all that is no instruction", &[Class { directs: &[Method { code: Some(&Code { tries: &[Try { catch_all: Some(1), ..COVER }], ..BODY }), ..METHOD }], ..EMPTY }], fault::PROGRAM_TRY, 0),
         ("a try without a handler", &[Class { directs: &[Method { code: Some(&Code { tries: &[Try { catches: &[], ..COVER }], ..BODY }), ..METHOD }], ..EMPTY }], fault::PROGRAM_TRY, 0),
     ];
     none_wrong(Ok(first_ruled_otherwise(rt.alloc(), &CASES)))

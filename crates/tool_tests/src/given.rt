@@ -4,6 +4,7 @@ use crate::files::{LATER_SUPERCLASS, SPARE_NAMES};
 use crate::listings::{
     BARE_TRY, ESCAPED, EVEN_PAYLOAD, LATER_SUPERCLASS_LISTED, ODD_PAYLOAD, ONE_CLASS_LISTED,
 };
+use crate::rich::{RICH, RICH_LISTED};
 use dex_samples::{ONE_CLASS, WITHOUT_CLASSES};
 
 /// Files, listings, and what a check answers.
@@ -22,6 +23,8 @@ pub enum Given {
     Escapes,
     OddPayload,
     EvenPayload,
+    Rich,
+    RichListing,
 }
 
 /// The bytes of that name.
@@ -40,5 +43,7 @@ pub fn bytes_of(given: Given) -> &'static [u8] {
         Given::Escapes => ESCAPED,
         Given::OddPayload => ODD_PAYLOAD,
         Given::EvenPayload => EVEN_PAYLOAD,
+        Given::Rich => &RICH,
+        Given::RichListing => RICH_LISTED,
     }
 }

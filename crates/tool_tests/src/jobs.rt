@@ -80,6 +80,19 @@ fn each_job_gives_its_answer(rt: HostRuntime) -> Result<(), Fail> {
     none_wrong(Ok(first_answered_otherwise(rt.alloc(), &CASES)))
 }
 
+#[rattlefmt::skip]
+#[test]
+fn a_program_with_something_of_everything_is_read_and_written(rt: HostRuntime) -> Result<(), Fail> {
+    static CASES: [Answered; 5] = [
+        ("it is checked", Job::Check, Given::Rich, Given::Okay),
+        ("it is listed", Job::List, Given::Rich, Given::RichListing),
+        ("it is assembled", ASSEMBLE, Given::RichListing, Given::Rich),
+        ("it is assembled with its payload where it is", ALIGN, Given::RichListing, Given::Rich),
+        ("it is stripped", Job::Strip, Given::Rich, Given::Rich),
+    ];
+    none_wrong(Ok(first_answered_otherwise(rt.alloc(), &CASES)))
+}
+
 // What it is called, the job, what is given, the fault.
 type Refused = (&'static str, Job, Given, u16, u64);
 

@@ -18,6 +18,8 @@ mod ends;
 #[cfg(test)]
 mod jobs;
 #[cfg(test)]
+mod rich;
+#[cfg(test)]
 mod runs;
 #[cfg(test)]
 mod runs_failing;

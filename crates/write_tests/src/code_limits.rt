@@ -1,7 +1,8 @@
 //! As far as branches reach, as much as tries cover, as many of them as an item can have, and one more.
 
-use crate::kept::fault_of;
-use crate::many::{alike, body, program};
+use crate::codes::stands_behind;
+use crate::kept::{fault_of, file_of};
+use crate::many::{alike, body, program, two_classes};
 use crate::small::RETURN;
 use bumpalo::Bump;
 use bumpalo::collections::into_bump_slice;
@@ -18,6 +19,10 @@ enum Body {
     Over(u32),
     // a goto back over so many nops
     Back(u32),
+    // an if-eqz over so many nops
+    If(u32),
+    // a switch whose payload is at an odd address
+    Odd,
     // a try over so many nops, with return-void behind them
     Nops(u32),
     // a try over so many nops and a const-wide
@@ -27,6 +32,19 @@ enum Body {
     // so many tries, each with a handler of its own
     Handlers(u32),
 }
+
+// The switch takes three units.
+static ODD: [Insn<'static>; 2] = [
+    Insn::I31t {
+        op: 0x2b,
+        a: 0,
+        to: 1,
+    },
+    Insn::Packed {
+        first: 0,
+        targets: &[0],
+    },
+];
 
 fn nops<'a>(
     arena: &'a Bump,
@@ -95,6 +113,15 @@ fn body_of<'a>(arena: &'a Bump, one: Body) -> Result<&'a Code<'a>, Fault> {
             nops(arena, None, count, Insn::I10t { op: 0x28, to: 0 })?,
             &[],
         ),
+        Body::If(count) => {
+            let test = Insn::I21t {
+                op: 0x38,
+                a: 0,
+                to: count.saturating_add(1),
+            };
+            body(arena, nops(arena, Some(test), count, RETURN)?, &[])
+        }
+        Body::Odd => body(arena, &ODD, &[]),
         Body::Nops(count) => one_try(arena, nops(arena, None, count, RETURN)?, count),
         Body::Wide(count) => {
             let wide = Insn::I51l {
@@ -145,6 +172,84 @@ fn a_goto_reaches_127_units_ahead_and_128_back(rt: HostRuntime) -> Result<(), Fa
         ("129 back", Body::Back(129), (85, 0)),
     ];
     none_wrong(first_otherwise(rt.alloc(), &CASES))
+}
+
+#[test]
+fn an_if_reaches_32767_units_ahead(rt: HostRuntime) -> Result<(), Fail> {
+    static CASES: [Case; 2] = [
+        ("32767 ahead", Body::If(32765), (0, 0)),
+        ("32768 ahead", Body::If(32766), (85, 0)),
+    ];
+    none_wrong(first_otherwise(rt.alloc(), &CASES))
+}
+
+// What it is, a body, and bytes that stand so far behind the begin of the file's data, where its item begins.
+type Written = (&'static str, Body, usize, &'static [u8]);
+
+fn is_written_so(alloc: Global, one: Body, behind: usize, bytes: &[u8]) -> Result<bool, Fault> {
+    let arena = Bump::new(alloc);
+    let program = made(&arena, one)?;
+    let file = file_of(alloc, &program)?;
+    Ok(stands_behind(&file, behind, bytes))
+}
+
+fn first_written_otherwise(
+    alloc: Global,
+    cases: &[Written],
+) -> Result<Option<&'static str>, Fault> {
+    for (what, one, behind, bytes) in cases {
+        if !is_written_so(alloc, *one, *behind, bytes)? {
+            return Ok(Some(*what));
+        }
+    }
+    Ok(None)
+}
+
+// The units stand 16 bytes behind the item; the count of the one try 4 bytes behind the units, two more where they are odd.
+#[rattlefmt::skip]
+#[test]
+fn the_greatest_offsets_and_counts_are_written(rt: HostRuntime) -> Result<(), Fail> {
+    static CASES: [Written; 4] = [
+        ("127 ahead", Body::Over(126), 16, &[0x28, 0x7f]),
+        ("128 back", Body::Back(128), 272, &[0x28, 0x80]),
+        ("a try of 65535 nops", Body::Nops(65535), 131092, &[0xff, 0xff]),
+        ("a try of 65539 units, the last of them a const-wide", Body::Wide(65534), 131100, &[0xff, 0xff]),
+    ];
+    none_wrong(first_written_otherwise(rt.alloc(), &CASES))
+}
+
+// What it is, the bodies of two classes, and the fault.
+type Two = (&'static str, Body, Body, (u16, u64));
+
+fn is_of_two(alloc: Global, first: Body, second: Body, want: (u16, u64)) -> Result<bool, Fault> {
+    let arena = Bump::new(alloc);
+    let one = body_of(&arena, first)?;
+    let other = body_of(&arena, second)?;
+    let program = two_classes(&arena, one, other)?;
+    let (code, place) = fault_of(alloc, &program);
+    Ok(code == want.0 && place == want.1)
+}
+
+fn first_of_two_otherwise(alloc: Global, cases: &[Two]) -> Result<Option<&'static str>, Fault> {
+    for (what, first, second, want) in cases {
+        if !is_of_two(alloc, *first, *second, *want)? {
+            return Ok(Some(*what));
+        }
+    }
+    Ok(None)
+}
+
+#[rattlefmt::skip]
+#[test]
+fn the_lowest_limit_is_told_of_the_first_class_that_breaks_it(rt: HostRuntime) -> Result<(), Fail> {
+    static CASES: [Two; 5] = [
+        ("none", Body::Nops(1), Body::Nops(2), (0, 0)),
+        ("one of the second class", Body::Nops(1), Body::Over(127), (85, 1)),
+        ("the same of both", Body::Over(127), Body::Over(128), (85, 0)),
+        ("a lower one of the second class", Body::Odd, Body::Over(127), (85, 1)),
+        ("a higher one of the second class", Body::Over(127), Body::Odd, (85, 0)),
+    ];
+    none_wrong(first_of_two_otherwise(rt.alloc(), &CASES))
 }
 
 // A handler takes two bytes below address 128, three below 16384, then four, and the first stands at offset 3.

@@ -19,8 +19,8 @@ static CODED: Rows<'static> = Rows {
     ..NOTHING
 };
 
-// A length in four bytes.
-fn length(len: usize) -> u32 {
+/// A length in four bytes.
+pub fn length(len: usize) -> u32 {
     match u32::try_from(len) {
         Ok(length) => length,
         Err(_) => u32::MAX,
@@ -67,15 +67,22 @@ fn left_of(alloc: Global, item: &[u8]) -> Result<Vec<u8>, Fault> {
     )
 }
 
-/// Whether the file's data begins with the item.
-pub fn begins_with(file: &[u8], item: &[u8]) -> bool {
+/// Whether these bytes stand so far behind the begin of the file's data.
+pub fn stands_behind(file: &[u8], behind: usize, bytes: &[u8]) -> bool {
     if file.len() < 112 {
         return false;
     }
-    let begin = u32_at(file, 108) as usize;
-    begin <= file.len()
-        && item.len() <= file.len() - begin
-        && &file[begin..begin + item.len()] == item
+    let data = u32_at(file, 108) as usize;
+    if data > file.len() || behind > file.len() - data {
+        return false;
+    }
+    let begin = data + behind;
+    bytes.len() <= file.len() - begin && &file[begin..begin + bytes.len()] == bytes
+}
+
+/// Whether the file's data begins with the item.
+pub fn begins_with(file: &[u8], item: &[u8]) -> bool {
+    stands_behind(file, 0, item)
 }
 
 fn first_otherwise(alloc: Global, cases: &[Case]) -> Result<Option<&'static str>, Fault> {

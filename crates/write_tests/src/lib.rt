@@ -17,6 +17,8 @@ mod many;
 #[cfg(test)]
 mod name_limits;
 #[cfg(test)]
+mod shared;
+#[cfg(test)]
 mod small;
 #[cfg(test)]
 mod stripped;

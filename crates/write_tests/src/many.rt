@@ -13,6 +13,12 @@ const INT: Desc<'static> = Desc {
     text: Str { units: &[0x49] },
 };
 
+const B: Desc<'static> = Desc {
+    text: Str {
+        units: &[0x4c, 0x42, 0x3b],
+    },
+};
+
 // `m`, the name of the method with a body.
 const M: Str<'static> = Str { units: &[0x6d] };
 
@@ -185,6 +191,38 @@ pub fn program<'a>(
         directs: with_body(arena, code)?,
         virtuals,
     })?;
+    Ok(Program {
+        classes: into_bump_slice(classes),
+    })
+}
+
+// The class of this type with these direct methods alone.
+fn with_methods<'a>(ty: Desc<'a>, directs: &'a [Method<'a>]) -> Class<'a> {
+    Class {
+        ty,
+        flags: 1,
+        superclass: None,
+        interfaces: &[],
+        source: None,
+        statics: &[],
+        values: &[],
+        instances: &[],
+        directs,
+        virtuals: &[],
+    }
+}
+
+/// The program of the classes `LA;` and `LB;`, each with the method `m()V`, with these bodies.
+pub fn two_classes<'a>(
+    arena: &'a Bump,
+    first: &'a Code<'a>,
+    second: &'a Code<'a>,
+) -> Result<Program<'a>, Fault> {
+    let one = with_body(arena, Some(first))?;
+    let other = with_body(arena, Some(second))?;
+    let mut classes = Vec::new(arena);
+    classes.push(with_methods(A, one))?;
+    classes.push(with_methods(B, other))?;
     Ok(Program {
         classes: into_bump_slice(classes),
     })

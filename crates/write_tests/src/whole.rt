@@ -1,11 +1,11 @@
 //! Whole files: of programs built by hand, and of files without slack.
 
 use crate::kept::file_of;
-use crate::small::{ONE, TWO};
+use crate::small::{BODY, EMPTY, METHOD, ONE, TWO, VOID};
 use bumpalo::Bump;
 use dex_base::{Fault, u32_at};
 use dex_file::read;
-use dex_program::{Class, Program};
+use dex_program::{Class, Code, Desc, Method, Program, Proto, Str};
 use dex_samples::{ONE_CLASS, WITHOUT_CLASSES, is_so, none_wrong};
 use dex_write::strip;
 use std::alloc::Global;
@@ -14,8 +14,6 @@ use std::test::Fail;
 static NONE: [Class<'static>; 0] = [];
 
 static ONE_ALONE: [Class<'static>; 1] = [ONE];
-
-static TWO_ALONE: [Class<'static>; 1] = [TWO];
 
 fn is_written_as(alloc: Global, program: &Program<'_>, want: &[u8]) -> Result<bool, Fault> {
     Ok(file_of(alloc, program)?.as_slice() == want)
@@ -37,29 +35,47 @@ fn a_class_built_by_hand_is_written_in_376_bytes(rt: HostRuntime) -> Result<(), 
     ))
 }
 
-// The class data of two methods of equal body, which have code items at 204 and 224.
-static TWO_CODES: [u8; 12] = [
-    0x00, 0x00, 0x02, 0x00, 0x00, 0x09, 0xcc, 0x01, 0x01, 0x09, 0xe0, 0x01,
-];
+/// The class `LA;` with the method `m(I)V`.
+static WITH_PARAMETER: [Class<'static>; 1] = [Class {
+    directs: &[Method {
+        proto: &Proto {
+            ret: VOID,
+            params: &[Desc {
+                text: Str { units: &[0x49] },
+            }],
+        },
+        code: Some(&Code { ins: 1, ..BODY }),
+        ..METHOD
+    }],
+    ..EMPTY
+}];
 
-// Each use of a body has an item of its own, 4-aligned.
-fn are_two_items(alloc: Global, program: &Program<'_>) -> Result<bool, Fault> {
+// Its class data, whose method has its code item at 212.
+static CODE_AT_212: [u8; 8] = [0x00, 0x00, 0x01, 0x00, 0x00, 0x09, 0xd4, 0x01];
+
+// The list of the one parameter stands from 204 to 210, behind it two zeros and the code item. The map stands at 276: its seventh
+// entry names the list, its eighth, from 364 to 376, the code item.
+fn is_named_where_it_stands(alloc: Global, program: &Program<'_>) -> Result<bool, Fault> {
     let file = file_of(alloc, program)?;
     Ok(
         file.len() == 412
-            && u32_at(&file, 52) == 288
-            && &file[204..222] == &ONE_CLASS[192..210]
-            && &file[224..242] == &ONE_CLASS[192..210]
-            && &file[276..288] == TWO_CODES.as_slice(),
+            && u32_at(&file, 52) == 276
+            && u32_at(&file, 360) == 204
+            && u32_at(&file, 364) == 0x2001
+            && u32_at(&file, 368) == 1
+            && u32_at(&file, 372) == 212
+            && &file[268..276] == CODE_AT_212.as_slice(),
     )
 }
 
 #[test]
-fn bodies_of_equal_content_have_an_item_each(rt: HostRuntime) -> Result<(), Fail> {
-    is_so(are_two_items(
+fn the_map_names_the_first_code_item_and_not_the_zeros_before_it(
+    rt: HostRuntime,
+) -> Result<(), Fail> {
+    is_so(is_named_where_it_stands(
         rt.alloc(),
         &Program {
-            classes: &TWO_ALONE,
+            classes: &WITH_PARAMETER,
         },
     ))
 }

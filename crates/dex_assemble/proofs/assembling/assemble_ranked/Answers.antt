@@ -45,11 +45,11 @@ finish-requires c =
       planned = laid.planned;
       end = laid.end;
       rows = ap (λ (xs : List ℕ). 112 + length xs) c.deref.ensures.value ∙ n ∙ sym (ap tables_end laid.counts);
-      room = laid.room;
+      room = let r = room_of s p c.requires.needed c.requires.fits in omega (arith, laid.bound, r.sum, r.whole);
     }
 
 pub returns-clause-assembled : goal.returns-clause-assembled
 returns-clause-assembled c =
     let d = c.in_ok-data.data in
     let f = rw c.deref.ensures.value at c.in_ok-finish.ensures.ok in
-    assembled c.put_data.new.out.items c.finish.new.out.items c.args.ranks.now (view.program c.args.program.now) d.plan (places_of d) c.in_ok-rows.rows.items c.in_ok-data.ensures.ok c.in_ok-rows.ensures.ok f
+    assembled c.put_data.new.out.items c.finish.new.out.items c.args.ranks.now (view.program c.args.program.now) d.plan (places_of d) c.in_ok-rows.rows.items c.in_ok-data.ensures.ok c.in_ok-rows.ensures.ok f c.in_ok-finish.ensures.short

@@ -1,7 +1,6 @@
-use Rattle.std.proofs.Common.{◌≡◌, ◌≢◌, ℕ, List, refl, subst, inr, true≢false, sym, Option, None, Some}
-use Rattle.std.specs.Prelude.{IfSome, option_map}
+use Rattle.std.proofs.Common.{◌≢◌, ℕ, List, refl, subst, inr, true≢false, sym, Option, None, Some}
+use Rattle.std.specs.Prelude.{IfSome}
 use Rattle.dex_base.specs.Descriptor.{IsClass}
-use Rattle.dex_program.specs.View.{desc}
 use Rattle.dex_program.specs.Content.{Units}
 use Rattle.dex_tables.specs.Stands.{TypeStands}
 use Rattle.dex_class.specs.ClassFaults.{IsNoClass}

@@ -1,5 +1,4 @@
-use Rattle.std.proofs.Common.{◌≡◌}
-use Rattle.dex_program.specs.View.{desc, catch}
+use Rattle.dex_program.specs.View.{desc}
 use Rattle.dex_tables.specs.Names.{NameIsAt}
 use Rattle.dex_bytes.proofs.GrammarLaws.{Then-none_first}
 use Rattle.dex_bytes.proofs.Numbers.{spells_unique}

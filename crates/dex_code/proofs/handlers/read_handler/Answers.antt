@@ -1,8 +1,7 @@
-use Rattle.std.proofs.Common.{◌≡◌, ◌<ℤ◌, ◌≢◌, pos, ℕ, ℤ, map, arith, subst, sym, rules, Some, None, List}
+use Rattle.std.proofs.Common.{◌≡◌, ◌<ℤ◌, pos, ℕ, map, arith, subst, rules}
 use Rattle.std.proofs.lemmas.Int.{ints, to_z-of_z}
 use mir.Val.{SFits}
 use mir.Syntax.{w32}
-use Rattle.dex_program.specs.Content as content
 use Rattle.dex_program.specs.View.{catch}
 use Rattle.dex_tables.specs.Names.{NameIsAt}
 use Rattle.dex_tables.proofs.RowReading.{passed}

@@ -1,4 +1,3 @@
-use Rattle.std.proofs.Common.{◌≡◌, ◌∙◌, sym, ap, ℕ, Some}
 use Rattle.dex_bytes.specs.Leb128.{Spells}
 use Rattle.dex_bytes.proofs.Numbers.{spells_unique}
 use Rattle.dex_program.specs.Content.{OfDesc}

@@ -1,5 +1,4 @@
-use Rattle.std.proofs.Common.{◌≡◌, ◌≢◌, ◌∙◌, ◌*◌, ◌/◌, ◌+◌, sym, subst, ap, ℕ, List, length, map, arith, length-drop}
-use Rattle.dex_program.specs.Content.{Try}
+use Rattle.std.proofs.Common.{◌≡◌, ◌∙◌, ◌*◌, ◌+◌, subst, ap, ℕ, List, length, map, arith, length-drop}
 use Rattle.dex_program.specs.View.{insn, try}
 use Rattle.dex_tables.specs.Names.{NameIsAt}
 use Rattle.dex_tables.proofs.RowReading.{passed}

@@ -1,4 +1,4 @@
-use Rattle.std.proofs.Common.{◌≡◌, ◌≤◌, ◌-◌, length, map, refl, arith, subst, ℕ}
+use Rattle.std.proofs.Common.{◌≡◌, ◌-◌, length, map, refl, arith, subst, ℕ}
 use Rattle.dex_bytes.specs.Leb128.{Spells}
 use Rattle.dex_bytes.proofs.TakesLaws.{Takes-length}
 use Rattle.dex_tables.specs.Names.{NameIsAt}
@@ -7,7 +7,7 @@ use Rattle.dex_code.specs.Handlers.{SpellsHandler}
 use Rattle.dex_code.specs.HandlerViews.{handler}
 use Rattle.dex_code.specs.Reading.{ReadSome}
 use Rattle.dex_code.proofs.StandLaws.{NameIsAt-functional}
-use Rattle.dex_code.proofs.ListReading.{some-none, some-more, some-all, list-none, list-none-count, offsets-rise}
+use Rattle.dex_code.proofs.ListReading.{some-none, some-more, some-all, list-none, offsets-rise}
 use Rattle.dex_code.proofs.tries.read_list.Goals as goal
 
 pub loop-turn-init : goal.loop-turn-init

@@ -1,12 +1,12 @@
-use Rattle.std.proofs.Common.{◌≡◌, ◌≢◌, ◌∙◌, ap, sym, subst, inl, map, ◌+◌, ◌*◌, ℕ}
-use Rattle.std.proofs.lemmas.Result.{IfErr-weaker, IfOk-weaker}
+use Rattle.std.proofs.Common.{◌≡◌, ◌∙◌, ap, map, ◌+◌, ◌*◌, ℕ}
+use Rattle.std.proofs.lemmas.Result.{IfOk-weaker}
 use Rattle.dex_program.specs.View.{try}
 use Rattle.dex_tables.specs.Names.{NameIsAt}
 use Rattle.dex_tables.proofs.RowReading.{passed}
 use Rattle.dex_code.specs.HandlerViews.{handler}
 use Rattle.dex_code.specs.Faults.{list_fault}
 use Rattle.dex_code.proofs.StandLaws.{NameIsAt-functional}
-use Rattle.dex_code.proofs.TryLaws.{no-tries, some-tries, no-list, no-handler, err-both}
+use Rattle.dex_code.proofs.TryLaws.{some-tries, no-list, no-handler, err-both}
 use Rattle.dex_code.proofs.tries.read_tries.Goals as goal
 
 pub returns-clause-ok : goal.returns-clause-ok

@@ -3,7 +3,7 @@ use Rattle.dex_program.specs.View.{try}
 use Rattle.dex_program.specs.declared.code.Try.{Try as Held}
 use Rattle.dex_code.specs.HandlerViews.{handler}
 use Rattle.dex_code.specs.Reading.{TakesTry, TakesTries}
-use Rattle.dex_code.proofs.TryLaws.{SomeTaken, taken-none, taken-more, taken-all}
+use Rattle.dex_code.proofs.TryLaws.{taken-none, taken-more, taken-all}
 use Rattle.dex_code.proofs.tries.take_tries.Goals as goal
 
 pub loop-i-init : goal.loop-i-init

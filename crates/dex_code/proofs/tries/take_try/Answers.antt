@@ -1,5 +1,5 @@
-use Rattle.std.proofs.Common.{◌≡◌, Some, arith, sym}
-use Rattle.dex_code.specs.Item.{try_start, try_handler}
+use Rattle.std.proofs.Common.{◌≡◌, Some, arith}
+use Rattle.dex_code.specs.Item.{try_handler}
 use Rattle.dex_code_insns.specs.Places.{position}
 use Rattle.dex_code_insns.proofs.PlaceLaws.{position-there}
 use Rattle.dex_code.proofs.TryLaws.{held-at}

@@ -1,4 +1,4 @@
-use Rattle.std.proofs.Common.{◌≡◌, ◌≢◌, ◌<◌, ◌≤◌, ◌+◌, ◌*◌, ◌∙◌, ℕ, List, map, length, get_or, take, refl, arith, ap, sym, subst, rules, below_more, Option, Some, None, true, false}
+use Rattle.std.proofs.Common.{◌<◌, arith, rules}
 use Rattle.dex_program.specs.View.{name}
 use Rattle.dex_code_put.proofs.RankLaws.{rank-one}
 use Rattle.dex_code_fits.proofs.names.is_short.Goals as goal

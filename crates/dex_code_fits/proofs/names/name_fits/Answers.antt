@@ -1,4 +1,4 @@
-use Rattle.std.proofs.Common.{◌≡◌, ◌≢◌, ◌<◌, ◌≤◌, ◌+◌, ◌*◌, ◌∙◌, ℕ, List, map, length, get_or, take, refl, arith, ap, sym, subst, rules, below_more, Option, Some, None, true, false, inl, inr}
+use Rattle.std.proofs.Common.{◌≡◌, ◌<◌, ℕ, subst, rules, Option, Some}
 use Rattle.std.specs.Prelude.{IfSome, IsTrue}
 use Rattle.dex_program.specs.Content.{Name}
 use Rattle.dex_program.specs.Kinds.{IsOfKind}

@@ -1,5 +1,4 @@
-use Rattle.std.proofs.Common.{◌≡◌, ◌≢◌, ◌<◌, ◌≤◌, ◌+◌, ◌*◌, ◌∙◌, ℕ, List, map, length, get_or, take, refl, arith, ap, sym, subst, rules, below_more, Option, Some, None, true, false}
-use Rattle.dex_program.specs.View.{insn}
+use Rattle.std.proofs.Common.{sym, subst, rules, below_more}
 use Rattle.dex_program.specs.Content.{Insn}
 use Rattle.std.specs.List.{AllByRecursion}
 use Rattle.dex_program.specs.Mentions.{names_of_insn}

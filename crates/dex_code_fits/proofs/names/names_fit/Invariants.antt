@@ -1,4 +1,4 @@
-use Rattle.std.proofs.Common.{ℕ, ◌<◌, ◌≤◌, ◌≡◌, ◌+◌, ◌*◌, ◌^◌, map, length, take, get_or}
+use Rattle.std.proofs.Common.{ℕ, ◌<◌, map}
 use Rattle.dex_program.specs.View.{insn}
 use Rattle.dex_program.specs.Formed.{insn_at}
 use Rattle.dex_names.specs.Closure.{NameRanks}

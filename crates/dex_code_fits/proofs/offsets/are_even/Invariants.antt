@@ -1,4 +1,4 @@
-use Rattle.std.proofs.Common.{ℕ, ◌<◌, ◌≤◌, ◌≡◌, ◌+◌, ◌*◌, ◌^◌, map, length, take, get_or}
+use Rattle.std.proofs.Common.{ℕ, ◌<◌, map}
 use Rattle.dex_program.specs.View.{insn}
 use Rattle.dex_code_put.specs.Fits.{IsEven}
 use Rattle.dex_code_fits.proofs.offsets.are_even.Given as goal

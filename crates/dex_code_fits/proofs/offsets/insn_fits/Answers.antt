@@ -1,4 +1,4 @@
-use Rattle.std.proofs.Common.{◌≡◌, ◌≢◌, ◌<◌, ◌≤◌, ◌+◌, ◌*◌, ◌∙◌, ℕ, List, map, length, get_or, take, refl, arith, ap, sym, subst, rules, below_more, Option, Some, None, true, false, inl, inr}
+use Rattle.std.proofs.Common.{◌<◌, map, length, get_or, arith, sym, subst, rules}
 use Rattle.dex_program.specs.View.{insn}
 use Rattle.dex_program.specs.Content.{Insn}
 use Rattle.dex_code_put.specs.Fits.{BranchFits, TargetsFit}

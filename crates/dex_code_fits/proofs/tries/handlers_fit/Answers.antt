@@ -1,4 +1,4 @@
-use Rattle.std.proofs.Common.{◌≡◌, ◌≢◌, ◌<◌, ◌≤◌, ◌+◌, ◌*◌, ◌∙◌, ℕ, List, map, length, get_or, take, refl, arith, ap, sym, subst, rules, below_more, Option, Some, None, true, false}
+use Rattle.std.proofs.Common.{◌≡◌, ◌<◌, ◌∙◌, ℕ, List, map, length, get_or, sym, subst}
 use Rattle.dex_names.specs.Closure.{NameRanks}
 use Rattle.dex_program.specs.View.{try}
 use Rattle.dex_code_put.proofs.HandlerOnce.{ranks-injective}

@@ -1,4 +1,4 @@
-use Rattle.std.proofs.Common.{◌≡◌, ◌≢◌, ◌<◌, ◌≤◌, ◌+◌, ◌*◌, ◌∙◌, ℕ, List, map, length, get_or, take, refl, arith, ap, sym, subst, rules, below_more, Option, Some, None, true, false, inl, inr}
+use Rattle.std.proofs.Common.{◌<◌, ◌≤◌, map, arith, rules}
 use Rattle.dex_program.specs.View.{try}
 use Rattle.std.proofs.lemmas.List.{length-map}
 use Rattle.dex_code_fits.proofs.FitLaws.{catches-more, catches-least}

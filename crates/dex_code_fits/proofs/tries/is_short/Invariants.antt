@@ -1,4 +1,4 @@
-use Rattle.std.proofs.Common.{ℕ, ◌<◌, ◌≤◌, ◌≡◌, ◌+◌, ◌*◌, ◌^◌, map, length, take, get_or}
+use Rattle.std.proofs.Common.{◌≤◌, ◌≡◌, ◌+◌, ◌*◌, map, length, take}
 use Rattle.dex_program.specs.View.{try}
 use Rattle.dex_code_put.specs.Fits.{catches_in}
 use Rattle.dex_code_fits.proofs.tries.is_short.Given as goal

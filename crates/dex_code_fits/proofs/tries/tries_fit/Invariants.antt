@@ -1,4 +1,4 @@
-use Rattle.std.proofs.Common.{ℕ, ◌<◌, ◌≤◌, ◌≡◌, ◌+◌, ◌*◌, ◌^◌, map, length, take, get_or}
+use Rattle.std.proofs.Common.{ℕ, ◌<◌, map}
 use Rattle.dex_program.specs.View.{try}
 use Rattle.dex_code_put.specs.Fits.{TryFits}
 use Rattle.dex_code_fits.proofs.tries.tries_fit.Given as goal

@@ -1,7 +1,7 @@
-use Rattle.std.proofs.Common.{◌≡◌, ◌<◌, ◌∙◌, ℕ, List, Option, ap, sym, subst, map, length, get_or, arith, rules, inr}
+use Rattle.std.proofs.Common.{ℕ, List, Option, ap, sym, subst, map, length, get_or, arith, rules, inr}
 use Rattle.std.proofs.lemmas.List.{length-map}
 use Rattle.dex_insn.specs.Raw.{raw}
-use Rattle.dex_code_insns.specs.Walk.{raw_at, address}
+use Rattle.dex_code_insns.specs.Walk.{raw_at}
 use Rattle.dex_code_insns.specs.Payloads.{IsUse, payload_of}
 use Rattle.dex_program.specs.Formed.{IsSwitch}
 use Rattle.dex_program.specs.declared.payload.Payload.{Payload}

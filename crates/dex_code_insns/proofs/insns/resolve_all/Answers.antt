@@ -1,11 +1,11 @@
-use Rattle.std.proofs.Common.{◌≡◌, ◌∙◌, ℕ, List, sym, ap, subst, map, length, refl, arith}
+use Rattle.std.proofs.Common.{◌≡◌, List, sym, subst, map, length, arith}
 use Rattle.std.proofs.lemmas.List.{length-map}
 use Rattle.dex_insn.specs.Raw.{raw}
 use Rattle.dex_program.specs.View.{insn}
 use Rattle.dex_program.specs.declared.insn.Insn.{Insn as Held}
 use Rattle.dex_tables.specs.Names.{NameIsAt}
 use Rattle.dex_code_insns.specs.Reading.{AreResolved}
-use Rattle.dex_code_insns.proofs.ResolveLaws.{SomeResolved, resolved-more, resolved-all, resolved-none}
+use Rattle.dex_code_insns.proofs.ResolveLaws.{resolved-more, resolved-all, resolved-none}
 use Rattle.dex_code_insns.proofs.insns.resolve_all.Goals as goal
 
 pub loop-k-init : goal.loop-k-init

@@ -1,12 +1,12 @@
-use Rattle.std.proofs.Common.{◌≡◌, ◌≢◌, ◌∙◌, ℕ, ℤ, List, None, ap, sym, subst, map, get_or, false}
+use Rattle.std.proofs.Common.{◌≡◌, ◌≢◌, ◌∙◌, ℕ, List, None, ap, sym, subst, map, get_or, false}
 use Rattle.std.proofs.lemmas.Result.{IfOk-weaker}
 use Rattle.dex_insn.specs.Raw.{Raw, raw, is_payload}
 use Rattle.dex_program.specs.View.{insn}
 use Rattle.dex_tables.specs.Names.{NameIsAt}
 use Rattle.dex_code_insns.specs.Places.{place}
-use Rattle.dex_code_insns.specs.Symbols.{places, ints, Says, HasName}
+use Rattle.dex_code_insns.specs.Symbols.{places, ints, HasName}
 use Rattle.dex_code_insns.specs.Insns.{targets, IsBase}
-use Rattle.dex_code_insns.specs.Walk.{raw_at, address}
+use Rattle.dex_code_insns.specs.Walk.{raw_at}
 use Rattle.dex_code_insns.proofs.PayloadLaws.{at_raw}
 use Rattle.dex_code_insns.proofs.ResolveLaws.{leads-all, plain-base, reaches-at, spells-at}
 use Rattle.dex_code_insns.proofs.insns.resolve_at.Goals as goal

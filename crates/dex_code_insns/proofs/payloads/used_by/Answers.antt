@@ -1,12 +1,9 @@
-use Rattle.std.proofs.Common.{arith, ◌<◌, ◌≡◌, length, map, ap, sym, ◌∙◌, rules}
+use Rattle.std.proofs.Common.{arith, sym, rules}
 use Rattle.std.proofs.lemmas.List.{length-map}
 use Rattle.std.proofs.lemmas.Int.{to_z-of_z}
 use mir.Val.{SFits}
 use mir.Syntax.{w32}
 use Rattle.dex_insn.specs.Raw.{raw}
-use Rattle.dex_code_insns.specs.Payloads.{payload_of, wants, reach, Uses}
-use Rattle.dex_program.specs.Formed.{AreAlike}
-use Rattle.dex_code_insns.specs.Walk.{raw_at, address}
 use Rattle.dex_code_insns.proofs.PlaceLaws.{place-there}
 use Rattle.dex_code_insns.proofs.PayloadLaws.{at_raw, uses-found, uses-none, uses-other, uses-no_kind}
 use Rattle.dex_code_insns.proofs.payloads.used_by.Goals as goal

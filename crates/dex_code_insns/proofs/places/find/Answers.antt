@@ -1,4 +1,4 @@
-use Rattle.std.proofs.Common.{◌≡◌, ◌∙◌, ap, sym, rules}
+use Rattle.std.proofs.Common.{◌∙◌, sym}
 use Rattle.std.proofs.lemmas.Int.{to_z-of_z}
 use Rattle.dex_code_insns.proofs.PlaceLaws.{place-neg, place-pos}
 use Rattle.dex_code_insns.proofs.places.find.Goals as goal

@@ -1,4 +1,4 @@
-use Rattle.std.proofs.Common.{◌≡◌, ◌≢◌, ◌∙◌, ap, sym, arith}
+use Rattle.std.proofs.Common.{◌∙◌, sym, arith}
 use Rattle.dex_code_insns.proofs.PlaceLaws.{split-none, split-other, split-some}
 use Rattle.dex_code_insns.proofs.places.number_at.Goals as goal
 

@@ -1,4 +1,4 @@
-use Rattle.std.proofs.Common.{◌≡◌, ℕ, ◌<◌, ◌-◌, ◌≤◌, length, get_or}
+use Rattle.std.proofs.Common.{ℕ, ◌<◌, ◌-◌, ◌≤◌, length, get_or}
 use Rattle.dex_code_insns.proofs.places.split.Given as goal
 
 abbrev pub invariant-loop-low : goal.invariant-loop-low

@@ -1,9 +1,7 @@
-use Rattle.std.proofs.Common.{◌≡◌, rules, arith}
-use Rattle.std.proofs.lemmas.List.{length-map}
+use Rattle.std.proofs.Common.{rules}
 use Rattle.std.proofs.lemmas.Int.{to_z-of_z}
 use mir.Val.{SFits}
 use mir.Syntax.{w32}
-use Rattle.dex_insn.specs.Raw.{raw}
 use Rattle.dex_code_insns.proofs.RuleLaws.{lands-at, lands-no_branch}
 use Rattle.dex_code_insns.proofs.rules.branch_lands.Goals as goal
 

@@ -1,6 +1,5 @@
-use Rattle.std.proofs.Common.{◌≡◌, rules, arith, of_z}
-use Rattle.std.proofs.lemmas.Int.{to_z-of_z, ints}
-use Rattle.std.proofs.lemmas.Bool.Decides.{nat_tests}
+use Rattle.std.proofs.Common.{rules}
+use Rattle.std.proofs.lemmas.Int.{to_z-of_z}
 use mir.Val.{SFits}
 use mir.Syntax.{w32}
 use Rattle.dex_code_insns.proofs.RuleLaws.{moves-at, moves-no_branch}

@@ -1,4 +1,4 @@
-use Rattle.std.proofs.Common.{◌≡◌, ◌∙◌, sym, rules, true, false}
+use Rattle.std.proofs.Common.{◌∙◌, sym, rules}
 use Rattle.std.proofs.lemmas.Int.{to_z-of_z}
 use Rattle.dex_code_insns.proofs.RuleLaws.{lands-inside, lands-some, lands-payload, lands-none}
 use Rattle.dex_code_insns.proofs.rules.lands.Goals as goal

@@ -1,4 +1,4 @@
-use Rattle.std.proofs.Common.{◌≡◌, ◌<◌, ◌∙◌, ℕ, List, Option, ap, sym, subst, map, length, get_or, arith, rules}
+use Rattle.std.proofs.Common.{◌≡◌, ◌∙◌, ℕ, List, Option, ap, sym, subst, map, length, get_or, arith, rules}
 use Rattle.std.proofs.lemmas.List.{length-map}
 use Rattle.dex_insn.specs.Raw.{raw}
 use Rattle.std.specs.Prelude.{IsTrue, ◌↔◌}

@@ -1,7 +1,3 @@
-use Rattle.std.proofs.Common.{map, rules, subst, sym, ◌+◌, ◌∙◌, ap, get_or, set, List}
-use Rattle.dex_insn.specs.Raw.{raw}
-use Rattle.dex_code_insns.specs.Payloads.{AreUsers, with_user}
-use Rattle.dex_code_insns.specs.declared.uses.Use.{Use}
 use Rattle.dex_code_insns.proofs.UseLaws.{users-none, users-some}
 use Rattle.dex_code_insns.proofs.uses.mark.Goals as goal
 use Rattle.dex_code_insns.proofs.uses.mark.Goals.{in-None, in-Some}

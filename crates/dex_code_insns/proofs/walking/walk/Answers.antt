@@ -1,6 +1,6 @@
-use Rattle.std.proofs.Common.{◌*◌, ◌+◌, ◌<◌, ◌≤◌, length, map, arith, sym, ap, ◌∙◌, ◌++◌, [], ◌∷◌, ◌/◌, ◌≡◌, subst, ℕ}
-use Rattle.dex_insn.specs.Raw.{raw, units}
-use Rattle.dex_code_insns.specs.Walk.{Run, starts}
+use Rattle.std.proofs.Common.{length, map, arith, ◌/◌, ◌≡◌, subst, ℕ}
+use Rattle.dex_insn.specs.Raw.{raw}
+use Rattle.dex_code_insns.specs.Walk.{Run}
 use Rattle.dex_code_insns.proofs.Runs.{run-turn, starts-turn, there, table-of}
 use Rattle.dex_code_insns.proofs.walking.walk.Goals as goal
 

@@ -8,6 +8,7 @@ use Rattle.dex_code_put.specs.Fits.{OffsetsFit, IsEven}
 use Rattle.dex_code_put.specs.Packs.{PacksHandlersOf, PutInsns}
 use Rattle.dex_code_put.specs.Writing.{AreOrigins}
 use Rattle.dex_code_put.proofs.FormLaws.{good, names-fit, caught-ranked}
+use Rattle.dex_code_put.proofs.ListLaws.{all-from}
 use Rattle.dex_code_put.proofs.PackLaws.{packed}
 use Rattle.dex_code_put.proofs.writing.make_item.Goals as goal
 
@@ -96,6 +97,9 @@ returns-clause-ok c =
     let laid = c.in_ok-laid.laid in
     let ts = map view.try c.args.code.now.tries.now in
     let w = c.requires.ranked.short in
+    let hs : PacksHandlersOf N (addresses_of (map view.insn c.args.code.now.insns.now)) ts laid.bytes.items laid.offsets.items =
+    subst (λ (z : List ℕ). PacksHandlersOf N z ts laid.bytes.items laid.offsets.items) (c.deref.ensures.value ∙ c.in_ok-all.ensures.ok) c.in_ok-laid.ensures.ok in
+    let few = c.requires.fits.few in
     let size : c.in_ok-all.all.end ≡ length_of (map view.insn c.args.code.now.insns.now) = c.in_ok-all.ensures.end in
     packed N (view.code c.args.code.now) c.in_ok-all.all.starts.items
     c.in_ok-item.item.items c.put_head.new.out.items c.put_insns.new.out.items c.put_padding.new.out.items c.put_items.new.out.items _
@@ -107,3 +111,4 @@ returns-clause-ok c =
     (rw (c.deref-4.ensures.value, c.deref-5.ensures.value) at c.in_ok-put_items.ensures.ok)
     (c.in_ok-extend_from_slice.ensures.items ∙ ap (λ (z : List ℕ). c.put_items.new.out.items ++ z) c.deref-6.ensures.value)
     (subst (λ (z : List ℕ). PacksHandlersOf N z ts laid.bytes.items laid.offsets.items) c.deref.ensures.value c.in_ok-laid.ensures.ok)
+    (omega arith) (all-from (λ (off : ℕ). off < 65536) laid.offsets.items 0 (c.requires.fits.handlers w laid.bytes.items laid.offsets.items hs)) (omega arith)

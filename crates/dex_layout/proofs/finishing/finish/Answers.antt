@@ -6,7 +6,7 @@ use Rattle.dex_layout.specs.Plan.{header_words, tables_end, spans_of}
 use Rattle.dex_layout.specs.Entries.{list_words, entry_of}
 use Rattle.dex_layout.proofs.SectionLaws.{length-padded}
 use Rattle.dex_layout.proofs.FrameLaws.{framed, planned_low}
-use Rattle.dex_layout.proofs.FinishLaws.{tail_short, finished, length-finished, written_back}
+use Rattle.dex_layout.proofs.FinishLaws.{tail_short, finished, finished_short, length-finished, written_back}
 use Rattle.dex_layout.proofs.finishing.finish.Goals as goal
 
 pub overflow_cast-total : goal.overflow_cast-total
@@ -47,3 +47,6 @@ returns-clause-ok c =
 
 pub returns-clause-framed : goal.returns-clause-framed
 returns-clause-framed c = let f = returns-clause-ok c in framed _ c.args.plan.now f.map f.written
+
+pub returns-clause-short : goal.returns-clause-short
+returns-clause-short c = finished_short c.args.out.now.items _ c.args.plan.now c.args.rows.now (returns-clause-ok c)

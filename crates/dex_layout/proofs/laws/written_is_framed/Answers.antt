@@ -1,4 +1,4 @@
-use Rattle.dex_layout.proofs.FrameLaws.{framed, header_of, lists_part, codes_part, strings_part, arrays_part, datas_part}
+use Rattle.dex_layout.proofs.FrameLaws.{framed, header_of, lists_part, codes_part, strings_part, arrays_part, datas_part, kinds_known}
 use Rattle.dex_layout.proofs.laws.written_is_framed.Goals as goal
 
 pub returns-clause-framed : goal.returns-clause-framed
@@ -21,3 +21,6 @@ returns-clause-arrays c = arrays_part
 
 pub returns-clause-datas : goal.returns-clause-datas
 returns-clause-datas c = datas_part
+
+pub returns-clause-kinds : goal.returns-clause-kinds
+returns-clause-kinds c = kinds_known

@@ -1,7 +1,8 @@
 use Rattle.std.proofs.Common.{map, take, drop}
 use Rattle.dex_program.specs.View as view
 use Rattle.dex_program.specs.declared.class.Class.{Class}
-use Rattle.dex_layout.specs.Sections.{is_empty_list, Laying}
+use Rattle.dex_layout.specs.Sections.{is_empty_list}
+use Rattle.dex_shared.specs.Sharing.{Sharing}
 use Rattle.dex_bytes.specs.Leb128.{Shortest}
 use Rattle.dex_names.specs.Closure.{NameRanks}
 use Rattle.dex_value.specs.Spelling.{SpellsArray}
@@ -9,4 +10,4 @@ use Rattle.dex_value.specs.Wide.{wide_array}
 use Rattle.dex_sections.proofs.arrays.put_arrays.Given as goal
 
 abbrev pub invariant-loop-class : goal.invariant-loop-class
-invariant-loop-class l = Laying is_empty_list (Shortest (SpellsArray (NameRanks l.ranks))) 1 wide_array l.fn.out.items l.out.items (map (λ (x : Class). map view.value x.values.now) (take l.class-index l.class-items)) (map (λ (x : Class). map view.value x.values.now) (drop l.class-index l.class-items)) (map (λ (x : Class). map view.value x.values.now) l.class-items) l.placed.places.items l.placed.items
+invariant-loop-class l = Sharing is_empty_list (Shortest (SpellsArray (NameRanks l.ranks))) (Shortest (SpellsArray (NameRanks l.ranks))) 1 wide_array l.fn.out.items l.out.items (map (λ (x : Class). map view.value x.values.now) (take l.class-index l.class-items)) (map (λ (x : Class). map view.value x.values.now) (drop l.class-index l.class-items)) (map (λ (x : Class). map view.value x.values.now) l.class-items) l.places.items l.items

@@ -7,4 +7,4 @@ use Rattle.dex_sections.proofs.codes.put_bodies.Given as goal
 abbrev pub invariant-loop-method : goal.invariant-loop-method
 invariant-loop-method l =
     BodiesTo l.ranks l.fn.out.items l.out.items (bodies_in (map view.method l.methods)) (bodies_in (map view.method (take l.method-index l.methods))) (bodies_in (map view.method (drop l.method-index l.methods)))
-    l.fn.placed.places.items l.placed.places.items l.fn.placed.items l.placed.items
+    l.fn.places.items l.places.items l.fn.items l.items

@@ -7,4 +7,4 @@ use Rattle.dex_sections.proofs.codes.put_codes.Given as goal
 
 abbrev pub invariant-loop-class : goal.invariant-loop-class
 invariant-loop-class l =
-    Bodies l.ranks l.fn.out.items l.out.items (flat_map bodies_of (map view.class (take l.class-index l.class-items))) (flat_map bodies_of (map view.class (drop l.class-index l.class-items))) (body_values (map view.class l.class-items)) l.placed.places.items l.placed.items
+    Bodies l.ranks l.fn.out.items l.out.items (flat_map bodies_of (map view.class (take l.class-index l.class-items))) (flat_map bodies_of (map view.class (drop l.class-index l.class-items))) (body_values (map view.class l.class-items)) l.places.items l.items

@@ -1,8 +1,9 @@
 use Rattle.std.proofs.Common.{◌+◌, ◌-◌, ◌<◌, ◌≤◌, length, ap, sym, arith, refl, subst, List, ℕ}
 use Rattle.dex_program.specs.View as view
 use Rattle.dex_sections.proofs.NumberLaws.{params_held, list_first, list_second, interfaces_held, list_count, no_proto, no_class}
-use Rattle.std.specs.Prelude.{IfOk, OnOk}
-use Rattle.dex_layout.specs.Sections.{is_empty_list, AddsSome}
+use Rattle.std.specs.Prelude.{IfOk}
+use Rattle.dex_layout.specs.Sections.{is_empty_list}
+use Rattle.dex_shared.specs.Sharing.{UsesItem}
 use Rattle.dex_sections.specs.Lists.{SpellsRanks}
 use Rattle.dex_limits.specs.Wide.{wide_list}
 use Rattle.dex_sections.proofs.type_lists.add_numbered.Goals as goal
@@ -33,16 +34,7 @@ returns-then-number-protos-clause-ok c =
     let s = c.args.ranks.now in
     let lt : c.args.number < length qs = omega arith in
     let e = list_first s qs cs c.args.number no_proto c.protos-protos.ensures lt in
-    subst (λ (ts : List (List ℕ)). IfOk c.add_list.result (AddsSome is_empty_list (SpellsRanks s) 4 c.args.out.now.items c.add_list.new.out.items ts)) (sym e) c.add_list.ensures.ok
-
-pub returns-then-number-protos-clause-bound : goal.returns-then-number-protos-clause-bound
-returns-then-number-protos-clause-bound c =
-    let qs = c.protos-protos.result.now in
-    let cs = c.args.program.now.classes.now in
-    let s = c.args.ranks.now in
-    let lt : c.args.number < length qs = omega arith in
-    let e = list_first s qs cs c.args.number no_proto c.protos-protos.ensures lt in
-    subst (λ (ts : List (List ℕ)). OnOk c.add_list.result (length c.add_list.new.out.items ≤ length c.args.out.now.items + wide_list ts)) (sym e) c.add_list.ensures.bound
+    subst (λ (ts : List (List ℕ)). IfOk c.add_list.result (UsesItem is_empty_list (SpellsRanks s) 4 c.args.items.now c.add_list.new.items c.args.out.now.items c.add_list.new.out.items ts)) (sym e) c.add_list.ensures.ok
 
 pub add_list-requires-else-number-protos-clause-held : goal.add_list-requires-else-number-protos-clause-held
 add_list-requires-else-number-protos-clause-held c =
@@ -76,15 +68,4 @@ returns-else-number-protos-clause-ok c =
     let le : length qs ≤ c.args.number = omega arith in
     let lt : c.args.number < length qs + length cs = omega (arith, n, c.requires.number) in
     let e = list_second s qs cs c.args.number no_class c.protos-protos.ensures le lt in
-    subst (λ (ts : List (List ℕ)). IfOk c.add_list-else-number-protos.result (AddsSome is_empty_list (SpellsRanks s) 4 c.args.out.now.items c.add_list-else-number-protos.new.out.items ts)) (sym e) c.add_list-else-number-protos.ensures.ok
-
-pub returns-else-number-protos-clause-bound : goal.returns-else-number-protos-clause-bound
-returns-else-number-protos-clause-bound c =
-    let qs = c.protos-protos.result.now in
-    let cs = c.args.program.now.classes.now in
-    let s = c.args.ranks.now in
-    let n = list_count s qs cs c.protos-protos.ensures in
-    let le : length qs ≤ c.args.number = omega arith in
-    let lt : c.args.number < length qs + length cs = omega (arith, n, c.requires.number) in
-    let e = list_second s qs cs c.args.number no_class c.protos-protos.ensures le lt in
-    subst (λ (ts : List (List ℕ)). OnOk c.add_list-else-number-protos.result (length c.add_list-else-number-protos.new.out.items ≤ length c.args.out.now.items + wide_list ts)) (sym e) c.add_list-else-number-protos.ensures.bound
+    subst (λ (ts : List (List ℕ)). IfOk c.add_list-else-number-protos.result (UsesItem is_empty_list (SpellsRanks s) 4 c.args.items.now c.add_list-else-number-protos.new.items c.args.out.now.items c.add_list-else-number-protos.new.out.items ts)) (sym e) c.add_list-else-number-protos.ensures.ok

@@ -1,10 +1,12 @@
 use Rattle.std.proofs.Common.{take, drop}
 use Rattle.dex_program.specs.View as view
-use Rattle.dex_layout.specs.Sections.{is_empty_list, Laying}
+use Rattle.dex_layout.specs.Sections.{is_empty_list}
 use Rattle.dex_sections.specs.Lists.{SpellsRanks}
 use Rattle.dex_limits.specs.Wide.{wide_list, list_values}
+use Rattle.dex_shared.specs.Sharing.{Sharing}
 use Rattle.dex_sections.proofs.type_lists.put_lists.Given as goal
 
 abbrev pub invariant-loop-number : goal.invariant-loop-number
 invariant-loop-number l =
-    Laying is_empty_list (SpellsRanks l.ranks) 4 wide_list l.fn.out.items l.out.items (take l.number (list_values l.ranks (view.program l.program))) (drop l.number (list_values l.ranks (view.program l.program))) (list_values l.ranks (view.program l.program)) l.placed.places.items l.placed.items
+    Sharing is_empty_list (SpellsRanks l.ranks) (SpellsRanks l.ranks) 4 wide_list l.fn.out.items l.out.items (take l.number (list_values l.ranks (view.program l.program))) (drop l.number (list_values l.ranks (view.program l.program)))
+    (list_values l.ranks (view.program l.program)) l.places.items l.items

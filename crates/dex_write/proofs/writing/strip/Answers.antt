@@ -4,11 +4,15 @@ use Rattle.dex_file.proofs.PassLaws.{program_one}
 use Rattle.dex_limits.specs.Limits.{Fits}
 use Rattle.dex_program.specs.View as view
 use Rattle.dex_tables.proofs.RowReading.{passed}
-use Rattle.dex_write.proofs.FileLaws.{late_limit}
+use Rattle.dex_write.proofs.FileLaws.{late_limit, stripped, with_fact}
+use Rattle.dex_write.specs.Written.{IsFileOf}
 use Rattle.dex_write.proofs.writing.strip.Goals as goal
 
 pub returns-clause-ok : goal.returns-clause-ok
-returns-clause-ok c = IfOk-weaker c.write.result _ _ (λ file h. record { program = view.program c.in_ok-program.program; meant = c.in_ok-program.ensures.means; file = h }) c.write.ensures.file
+returns-clause-ok c =
+    let p = view.program c.in_ok-program.program in
+    IfOk-weaker c.write.result _ _ (λ file h. stripped c.args.bytes.now file.items p c.in_ok-program.ensures.means h.0 h.1)
+    (with_fact c.write.result (λ file. IsFileOf p file.items) (Fits p) c.write.ensures.fits c.write.ensures.file)
 
 pub returns-clause-only : goal.returns-clause-only
 returns-clause-only c = λ p m fits.

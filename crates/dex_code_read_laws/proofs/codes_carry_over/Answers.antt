@@ -1,0 +1,8 @@
+use Rattle.dex_code_read_laws.proofs.Carrying as law
+use Rattle.dex_code_read_laws.proofs.codes_carry_over.Goals as goal
+
+pub returns-clause-stands : goal.returns-clause-stands
+returns-clause-stands c = law.code_stands
+
+pub returns-clause-breaks : goal.returns-clause-breaks
+returns-clause-breaks c = law.code_breaks
