@@ -9,7 +9,9 @@ syn match dexasmBlock /^\s*\%(class\|code\|end\s\+class\|end\s\+code\)\>/
 syn match dexasmMember /^\s*\%(super\|implements\|source\|static\|instance\|direct\|virtual\|try\|catch\|catchall\)\>/
 syn match dexasmOpcode /^\s*\d\+:\s\+[a-z][a-z0-9/-]*/ contains=dexasmPlace
 syn match dexasmPlace /^\s*\d\+:/ contained
-syn match dexasmTarget /\s\@1<=@\d\+/
+syn match dexasmPlace /^\s*:\w\+\s*$/
+syn match dexasmOpcode /^\s*\%(nop\|move\|return\|const\|monitor\|check-cast\|instance-of\|array-\|new-\|filled-new\|fill-array\|throw\|goto\|packed-switch\|sparse-switch\|cmp\|if-\|aget\|aput\|iget\|iput\|sget\|sput\|invoke-\|neg-\|not-\|int-to\|long-to\|float-to\|double-to\|add-\|sub-\|mul-\|div-\|rem-\|and-\|or-\|xor-\|shl-\|shr-\|ushr-\|rsub-\)[a-z0-9/-]*/
+syn match dexasmTarget /\s\@1<=\%(@\d\+\|:\w\+\)/
 syn match dexasmRegister /\s\@1<=v\d\+/
 syn match dexasmNumber /\s\@1<=-\?\%(0x\x\+\|\d\+\)\ze\%(\s\|$\)/
 syn match dexasmType /\s\@1<=\[*\%(L[^ ;]*;\|[ZBSCIJFDV]\)\ze\%(\s\|$\|->\)/

@@ -5,7 +5,7 @@ use crate::words::{number, word};
 use bumpalo::Bump;
 use dex_base::Fault;
 use dex_listing::parse;
-use dex_print::print;
+use dex_print::print_1;
 use dex_program::Program;
 use std::alloc::{AllocError, Global};
 use std::io;
@@ -78,7 +78,7 @@ fn printed(alloc: Global, text: &[u8], rounds: u32) -> Result<u64, Fault> {
     let whole = parse(alloc, &arena, text)?;
     let mut sum: u64 = 0;
     for _ in 0..rounds {
-        sum = sum.wrapping_add(print(alloc, &whole)?.len() as u64);
+        sum = sum.wrapping_add(print_1(alloc, &whole)?.len() as u64);
     }
     Ok(sum)
 }

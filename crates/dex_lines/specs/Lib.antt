@@ -4,3 +4,4 @@ pub mod MakingView
 pub mod Places
 pub mod Needs
 pub mod NeedView
+pub mod Forms

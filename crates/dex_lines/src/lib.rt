@@ -8,6 +8,7 @@
 //! ```
 #![tactic(auto)]
 
+mod form;
 mod line;
 mod lines;
 mod make;
@@ -15,7 +16,8 @@ mod making;
 mod needs;
 mod stage;
 
+pub use form::{Form, is_two};
 pub use line::Line;
 pub use lines::make_line;
 pub use needs::{Need, first_late, line_needs};
-pub use stage::{Stage, is_caught, is_insn, may_stand};
+pub use stage::{Stage, is_caught, is_insn, is_insns, is_start, may_stand};

@@ -1,86 +1,128 @@
 -- A text is one program, and none where a fault stands.
-use Rattle.std.proofs.Common.{◌≡◌, ℕ, Bool, true, false, inl, inr, List, [], ◌∷◌, ◌++◌, Some, None, sym, ap, subst, ◌∙◌}
+use Rattle.std.proofs.Common.{◌≡◌, ◌⊎◌, ℕ, Bool, true, false, inl, inr, List, [], ◌∷◌, ◌++◌, Some, None, sym, ap, subst, ◌∙◌}
+use Rattle.std.proofs.lemmas.List.{append-nil}
 use Rattle.dex_bytes.specs.declared.fault.Fault.{Fault}
 use Rattle.dex_program.specs.Content.{Class, Program}
 use Rattle.dex_rules.specs.Rules.{ClassHolds, RulesHold, ClassBreaks, RuleBreaks}
-use Rattle.dex_words.specs.Words.{Word, HasWords}
+use Rattle.dex_words.specs.Words.{Word}
 use Rattle.dex_words.proofs.WordLaws.{words_one}
 use Rattle.dex_slots.specs.declared.slot.Slot.{Slot}
 use Rattle.dex_slots.specs.Data.{Datum}
-use Rattle.dex_slots.specs.Slots.{SpellsSlot, SpellsSlots, MisspellsSlots}
-use Rattle.dex_shapes.specs.Shapes.{Shape, HasShape}
+use Rattle.dex_shapes.specs.Shapes.{Shape}
+use Rattle.dex_labels.specs.Lines.{lines, is_skipped}
+use Rattle.dex_labels.specs.Labels.{Label}
+use Rattle.dex_labels.proofs.SpellLaws.{here_one, here_bad}
+use Rattle.dex_lines.specs.declared.form.Form.{Form}
+use Rattle.dex_lines.specs.declared.form.Form.TheVariants.{One, Two}
+use Rattle.dex_listing.specs.Forms.{Shapes, may_be, Spells, Misspells}
+use Rattle.dex_listing.specs.declared.aside.Aside.TheVariants.{Nothing, Refused, First, Mark}
 use Rattle.dex_lines.specs.Lines.{line_of}
 use Rattle.dex_slots.proofs.SpellLaws.{all_one, none_bad}
-use Rattle.dex_draft.specs.States.{State, start, counted, add, stands}
-use Rattle.dex_listing.specs.Text.{lines, is_skipped, Adds, Takes, Reads, IsListing, IsRefused, ListingBreaks}
+use Rattle.dex_draft.specs.States.{add}
+use Rattle.dex_listing.specs.Text.{Reading, begin, tallied, aside, in_second, Says, Adds, IsUnsaid, AreRefused, Takes, Reads, IsListing, IsRefused, ListingBreaks}
 use Rattle.dex_slots.proofs.SpellsOneLaws.{spells_one}
-use Rattle.dex_shapes.proofs.ShapeLaws.{shapes_one}
-
-abbrev SpellsOne : Type 0
-SpellsOne = (s : Slot) (w : Word) (d e : Datum) → SpellsSlot s w d → SpellsSlot s w e → d ≡ e
-
-abbrev ShapesOne : Type 0
-ShapesOne = (ws : List Word) (s t : Shape) → HasShape ws s → HasShape ws t → s ≡ t
+use Rattle.dex_shapes.proofs.ShapeLaws.{shapes_one, bare_one}
 
 not_both : (b : Bool) → b ≡ true → b ≡ false → ⊥
 not_both b e f = let g = sym e ∙ f in cc
 
--- the words and the shape of a line are one
-record Same (ws vs : List Word) (s t : Shape) : Type 0 where
-  words : ws ≡ vs
-  shapes : s ≡ t
+-- ---- by the form
 
-same_line : ShapesOne → (line : List ℕ) (ws vs : List Word) (s t : Shape) → HasWords line ws → HasShape ws s → HasWords line vs → HasShape vs t → Same ws vs s t
-same_line one line ws vs s t h g k m = let e = words_one line ws vs h k in record { words = e; shapes = one vs s t (subst (λ (x : List Word). HasShape x s) e g) m }
+shape_one : (f : Form) (ws : List Word) (s t : Shape) → Shapes f ws s → Shapes f ws t → s ≡ t
+shape_one One ws s t p q = shapes_one ws s t p q
+shape_one Two ws s t p q = bare_one ws s t p q
 
-at_shape : (s t : Shape) (ds es : List Datum) → SpellsOne → s ≡ t → SpellsSlots s.slots s.words ds → SpellsSlots t.slots t.words es → ds ≡ es
-at_shape s t ds es one e p q = all_one one t.slots t.words ds es (subst (λ (x : Shape). SpellsSlots x.slots x.words ds) e p) q
+says_one : (f : Form) (es : List Label) (ss : List Slot) (ws : List Word) (ds gs : List Datum) → Spells f es ss ws ds → Spells f es ss ws gs → ds ≡ gs
+says_one One es ss ws ds gs p q = all_one spells_one ss ws ds gs p q
+says_one Two es ss ws ds gs p q = here_one es ss ws ds gs p q
 
-adds_one : SpellsOne → ShapesOne → (s t u : State) (line : List ℕ) → Adds s line t → Adds s line u → t ≡ u
-adds_one one shape s t u line a b =
-    let e = (same_line shape line a.words b.words a.shape b.shape a.has_words a.has_shape b.has_words b.has_shape).shapes in
-    let d = at_shape a.shape b.shape a.says b.says one e a.spelled b.spelled in
-    let l : line_of a.shape.kind a.says ≡ line_of b.shape.kind b.says = (let k = ap (λ (x : Shape). x.kind) e in cc) in
-    let x : Some t ≡ Some u = sym a.added ∙ ap (add s) l ∙ b.added in cc
+says_none : (f : Form) (es : List Label) (ss : List Slot) (ws : List Word) (ds : List Datum) (code : ℕ) → Spells f es ss ws ds → Misspells f es ss ws code → ⊥
+says_none One es ss ws ds code p q = none_bad ss ws ds code p q
+says_none Two es ss ws ds code p q = here_bad es ss ws ds code p q
 
-takes_one : SpellsOne → ShapesOne → (s t u : State) (line : List ℕ) → Takes s line t → Takes s line u → t ≡ u
-takes_one one shape s t u line p q = elim p [
-  | inl a ↦ elim q [ inl b ↦ a.1 ∙ sym b.1 | inr b ↦ absurd (not_both (is_skipped line) a.0 b.0) ]
-  | inr a ↦ elim q [ inl b ↦ absurd (not_both (is_skipped line) b.0 a.0) | inr b ↦ adds_one one shape (counted s) t u line a.1 b.1 ]
-]
+at_shape : (f : Form) (es : List Label) (s t : Shape) (ds gs : List Datum) → s ≡ t → Spells f es s.slots s.words ds → Spells f es t.slots t.words gs → ds ≡ gs
+at_shape f es s t ds gs e p q = says_one f es t.slots t.words ds gs (subst (λ (x : Shape). Spells f es x.slots x.words ds) e p) q
 
-reads_one : SpellsOne → ShapesOne → (ls : List (List ℕ)) (s t u : State) → Reads s ls t → Reads s ls u → t ≡ u
-reads_one one shape [] s t u p q = sym p ∙ q
-reads_one one shape (l ∷ ls) s t u p q =
-    let e = takes_one one shape s p.0 q.0 l p.1 q.1 in
-    reads_one one shape ls q.0 t u (subst (λ (x : State). Reads x ls t) e p.2) q.2
+-- ---- a line makes one thing
 
-pub says_one : SpellsOne → ShapesOne → (text : List ℕ) (p q : Program) → IsListing text p → IsListing text q → p ≡ q
-says_one one shape text p q a b = sym a.classes ∙ ap (λ (s : State). s.done) (reads_one one shape (lines text) start a.end b.end a.read b.read) ∙ b.classes
+line_is_one : (r : Reading) (ls : List (List ℕ)) (ws : List Word) (t u : Reading) → Says r ls ws t → Says r ls ws u → t ≡ u
+line_is_one r ls ws t u a b =
+    let e = shape_one r.form ws a.shape b.shape a.has_shape b.has_shape in
+    let d = at_shape r.form r.labels a.shape b.shape a.says b.says e a.spelled b.spelled in
+    let k = ap (λ (x : Shape). x.kind) e in
+    let l : line_of a.shape.kind a.says ≡ line_of b.shape.kind b.says = cc in
+    let x : Some a.next ≡ Some b.next = sym a.added ∙ ap (add r.base) l ∙ b.added in
+    let n : a.next ≡ b.next = cc in
+    a.is ∙ rw (k, n) (sym b.is)
+
+abbrev Makes : Reading → List (List ℕ) → List Word → Reading → Type 0
+Makes r ls ws t = ((aside r ws ≡ First) × (t ≡ in_second r)) ⊎ ((aside r ws ≡ Mark) × (t ≡ r)) ⊎ ((aside r ws ≡ Nothing) × Says r ls ws t)
+
+makes_one : (r : Reading) (ls : List (List ℕ)) (ws : List Word) (t u : Reading) → Makes r ls ws t → Makes r ls ws u → t ≡ u
+makes_one r ls ws t u (inl a) (inl b) = a.1 ∙ sym b.1
+makes_one r ls ws t u (inl a) (inr (inl b)) = let x : First ≡ Mark = sym a.0 ∙ b.0 in absurd cc
+makes_one r ls ws t u (inl a) (inr (inr b)) = let x : First ≡ Nothing = sym a.0 ∙ b.0 in absurd cc
+makes_one r ls ws t u (inr (inl a)) (inl b) = let x : Mark ≡ First = sym a.0 ∙ b.0 in absurd cc
+makes_one r ls ws t u (inr (inl a)) (inr (inl b)) = a.1 ∙ sym b.1
+makes_one r ls ws t u (inr (inl a)) (inr (inr b)) = let x : Mark ≡ Nothing = sym a.0 ∙ b.0 in absurd cc
+makes_one r ls ws t u (inr (inr a)) (inl b) = let x : Nothing ≡ First = sym a.0 ∙ b.0 in absurd cc
+makes_one r ls ws t u (inr (inr a)) (inr (inl b)) = let x : Nothing ≡ Mark = sym a.0 ∙ b.0 in absurd cc
+makes_one r ls ws t u (inr (inr a)) (inr (inr b)) = line_is_one r ls ws t u a.1 b.1
+
+adds_one : (r : Reading) (ls : List (List ℕ)) (line : List ℕ) (t u : Reading) → Adds r ls line t → Adds r ls line u → t ≡ u
+adds_one r ls line t u a b =
+    let e = words_one line a.words b.words a.has_words b.has_words in
+    makes_one r ls b.words t u (subst (λ (ws : List Word). Makes r ls ws t) e a.makes) b.makes
+
+takes_one : (r : Reading) (ls : List (List ℕ)) (line : List ℕ) (t u : Reading) → Takes r ls line t → Takes r ls line u → t ≡ u
+takes_one r ls line t u (inl a) (inl b) = a.1 ∙ sym b.1
+takes_one r ls line t u (inl a) (inr b) = absurd (not_both (is_skipped line) a.0 b.0)
+takes_one r ls line t u (inr a) (inl b) = absurd (not_both (is_skipped line) b.0 a.0)
+takes_one r ls line t u (inr a) (inr b) = adds_one (tallied r) ls line t u a.1 b.1
+
+reads_one : (ls rest : List (List ℕ)) (r t u : Reading) → Reads r ls rest t → Reads r ls rest u → t ≡ u
+reads_one [] rest r t u p q = sym p ∙ q
+reads_one (l ∷ ls) rest r t u p q =
+    let e = takes_one r (ls ++ rest) l p.0 q.0 p.1 q.1 in
+    reads_one ls rest q.0 t u (subst (λ (x : Reading). Reads x ls rest t) e p.2) q.2
+
+pub listing_one : (text : List ℕ) (p q : Program) → IsListing text p → IsListing text q → p ≡ q
+listing_one text p q a b = sym a.classes ∙ ap (λ (r : Reading). r.base.done) (reads_one (lines text) [] begin a.end b.end a.read b.read) ∙ b.classes
 
 -- ---- a line that is refused isn't taken
 
-refused_adds : SpellsOne → ShapesOne → (s t : State) (line : List ℕ) (code : ℕ) → IsRefused s line code → Adds s line t → ⊥
-refused_adds one shape s t line code r a = elim r.why [
-  | inl w ↦ w.1 a.words a.shape a.has_words a.has_shape
-  | inr (inl w) ↦
-      let m = w.1 in let e = (same_line shape line m.words a.words m.shape a.shape m.has_words m.has_shape a.has_words a.has_shape).shapes in
-      not_both (stands s a.shape) a.may_stand (sym (ap (stands s) e) ∙ m.refused)
-  | inr (inr (inl m)) ↦
-      let e = (same_line shape line m.words a.words m.shape a.shape m.has_words m.has_shape a.has_words a.has_shape).shapes in
-      none_bad a.shape.slots a.shape.words a.says code a.spelled (subst (λ (x : Shape). MisspellsSlots x.slots x.words code) e m.bad)
-  | inr (inr (inr w)) ↦
-      let m = w.1 in let e = (same_line shape line m.words a.words m.shape a.shape m.has_words m.has_shape a.has_words a.has_shape).shapes in
-      let d = at_shape m.shape a.shape m.says a.says one e m.spelled a.spelled in
-      let l : line_of m.shape.kind m.says ≡ line_of a.shape.kind a.says = (let k = ap (λ (x : Shape). x.kind) e in cc) in
-      let x : None ≡ Some t = sym m.refused ∙ ap (add s) l ∙ a.added in cc
+refused_says : (r : Reading) (ls : List (List ℕ)) (ws : List Word) (t : Reading) (code : ℕ) → IsUnsaid r ws code → Says r ls ws t → ⊥
+refused_says r ls ws t code (inl w) a = w.1 a.shape a.has_shape
+refused_says r ls ws t code (inr (inl w)) a =
+    let m = w.1 in let e = shape_one r.form ws m.shape a.shape m.has_shape a.has_shape in
+    not_both (may_be r.form r.base a.shape) a.may_stand (sym (ap (may_be r.form r.base) e) ∙ m.refused)
+refused_says r ls ws t code (inr (inr (inl m))) a =
+    let e = shape_one r.form ws m.shape a.shape m.has_shape a.has_shape in
+    says_none r.form r.labels a.shape.slots a.shape.words a.says code a.spelled (subst (λ (x : Shape). Misspells r.form r.labels x.slots x.words code) e m.bad)
+refused_says r ls ws t code (inr (inr (inr w))) a =
+    let m = w.1 in let e = shape_one r.form ws m.shape a.shape m.has_shape a.has_shape in
+    let d = at_shape r.form r.labels m.shape a.shape m.says a.says e m.spelled a.spelled in
+    let k = ap (λ (x : Shape). x.kind) e in
+    let l : line_of m.shape.kind m.says ≡ line_of a.shape.kind a.says = cc in
+    let x : None ≡ Some a.next = sym m.refused ∙ ap (add r.base) l ∙ a.added in cc
+
+refused_makes : (r : Reading) (ls : List (List ℕ)) (ws : List Word) (t : Reading) (code : ℕ) → AreRefused r ws code → Makes r ls ws t → ⊥
+refused_makes r ls ws t code (inl w) (inl a) = let x : Refused code ≡ First = sym w ∙ a.0 in cc
+refused_makes r ls ws t code (inl w) (inr (inl a)) = let x : Refused code ≡ Mark = sym w ∙ a.0 in cc
+refused_makes r ls ws t code (inl w) (inr (inr a)) = let x : Refused code ≡ Nothing = sym w ∙ a.0 in cc
+refused_makes r ls ws t code (inr w) (inl a) = let x : Nothing ≡ First = sym w.0 ∙ a.0 in cc
+refused_makes r ls ws t code (inr w) (inr (inl a)) = let x : Nothing ≡ Mark = sym w.0 ∙ a.0 in cc
+refused_makes r ls ws t code (inr w) (inr (inr a)) = refused_says r ls ws t code w.1 a.1
+
+refused_adds : (r : Reading) (ls : List (List ℕ)) (line : List ℕ) (t : Reading) (code : ℕ) → IsRefused r line code → Adds r ls line t → ⊥
+refused_adds r ls line t code w a = elim w.why [
+  | inl x ↦ x.1 a.words a.has_words
+  | inr x ↦ refused_makes r ls a.words t code (subst (λ (ws : List Word). AreRefused r ws code) (words_one line x.0 a.words x.1 a.has_words) x.2) a.makes
 ]
 
-refused_takes : SpellsOne → ShapesOne → (s t : State) (line : List ℕ) (code : ℕ) → IsRefused (counted s) line code → Takes s line t → ⊥
-refused_takes one shape s t line code r p = elim p [
-  | inl a ↦ not_both (is_skipped line) a.0 r.not_skipped
-  | inr a ↦ refused_adds one shape (counted s) t line code r a.1
-]
+refused_takes : (r : Reading) (ls : List (List ℕ)) (line : List ℕ) (t : Reading) (code : ℕ) → IsRefused (tallied r) line code → Takes r ls line t → ⊥
+refused_takes r ls line t code w (inl a) = not_both (is_skipped line) a.0 w.not_skipped
+refused_takes r ls line t code w (inr a) = refused_adds (tallied r) ls line t code w a.1
 
 -- a class that keeps its rules breaks none
 class_keeps : (p : Program) (i : ℕ) (c : Class) (e : Fault) → ClassBreaks p i c e → ClassHolds p i c → ⊥
@@ -111,31 +153,24 @@ not_both_ways : (p : Program) (e : Fault) → RuleBreaks p e → RulesHold p →
 not_both_ways p e b h = class_keeps p b.number b.class e b.breaks (h b.number b.class b.there)
 
 -- behind the same lines
-reads_split : SpellsOne → ShapesOne → (before : List (List ℕ)) (l : List ℕ) (behind : List (List ℕ)) (s t u : State) → Reads s before t → Reads s (before ++ l ∷ behind) u → (v : State) × Takes t l v
-reads_split one shape [] l behind s t u p q = (q.0, subst (λ (x : State). Takes x l q.0) p q.1)
-reads_split one shape (b ∷ before) l behind s t u p q =
-    let e = takes_one one shape s p.0 q.0 b p.1 q.1 in
-    reads_split one shape before l behind q.0 t u (subst (λ (x : State). Reads x before t) e p.2) q.2
-
-pub breaks_says : SpellsOne → ShapesOne → (text : List ℕ) (p : Program) (code place : ℕ) → ListingBreaks text code place → IsListing text p → ⊥
-breaks_says one shape text p code place b a = elim b [
-  | inl w ↦
-      let x = reads_split one shape w.before w.bad w.behind start w.state a.end w.accepted (subst (λ (ls : List (List ℕ)). Reads start ls a.end) w.joined a.read) in
-      refused_takes one shape w.state x.0 w.bad code w.refused x.1
-  | inr (inl w) ↦ w.2.inside (ap (λ (s : State). s.stage) (reads_one one shape (lines text) start w.2.state a.end w.2.accepted a.read) ∙ a.whole)
-  | inr (inr (inl w)) ↦
-      let e = reads_one one shape (lines text) start w.1.state a.end w.1.accepted a.read in
-      let f : Some place ≡ None = sym w.1.late ∙ ap (λ (s : State). s.late) e ∙ a.targets in cc
-  | inr (inr (inr w)) ↦
-      let e = reads_one one shape (lines text) start w.state a.end w.accepted a.read in
-      let q : w.state.done ≡ p = ap (λ (s : State). s.done) e ∙ a.classes in
-      not_both_ways p (record { code = code; place = place }) (subst (λ (x : Program). RuleBreaks x (record { code = code; place = place })) q w.breaks) a.formed.rules
-]
-
--- ---- a word says one thing in a slot, and words have one shape
-
-pub listing_one : (text : List ℕ) (p q : Program) → IsListing text p → IsListing text q → p ≡ q
-listing_one = says_one spells_one shapes_one
+reads_split : (before : List (List ℕ)) (l : List ℕ) (behind : List (List ℕ)) (r t u : Reading) → Reads r before (l ∷ behind) t → Reads r (before ++ l ∷ behind) [] u → (v : Reading) × Takes t behind l v
+reads_split [] l behind r t u p q = (q.0, subst (λ (x : Reading). Takes x behind l q.0) p (subst (λ (ls : List (List ℕ)). Takes r ls l q.0) (append-nil behind) q.1))
+reads_split (b ∷ before) l behind r t u p q =
+    let n : (before ++ l ∷ behind) ++ [] ≡ before ++ l ∷ behind = append-nil (before ++ l ∷ behind) in
+    let e = takes_one r (before ++ l ∷ behind) b p.0 q.0 p.1 (subst (λ (ls : List (List ℕ)). Takes r ls b q.0) n q.1) in
+    reads_split before l behind q.0 t u (subst (λ (x : Reading). Reads x before (l ∷ behind) t) e p.2) q.2
 
 pub listing_none : (text : List ℕ) (p : Program) (code place : ℕ) → ListingBreaks text code place → IsListing text p → ⊥
-listing_none = breaks_says spells_one shapes_one
+listing_none text p code place b a = elim b [
+  | inl w ↦
+      let x = reads_split w.before w.bad w.behind begin w.state a.end w.accepted (subst (λ (ls : List (List ℕ)). Reads begin ls [] a.end) w.joined a.read) in
+      refused_takes w.state w.behind w.bad x.0 code w.refused x.1
+  | inr (inl w) ↦ w.2.inside (ap (λ (r : Reading). r.base.stage) (reads_one (lines text) [] begin w.2.state a.end w.2.accepted a.read) ∙ a.whole)
+  | inr (inr (inl w)) ↦
+      let e = reads_one (lines text) [] begin w.1.state a.end w.1.accepted a.read in
+      let f : Some place ≡ None = sym w.1.late ∙ ap (λ (r : Reading). r.base.late) e ∙ a.targets in cc
+  | inr (inr (inr w)) ↦
+      let e = reads_one (lines text) [] begin w.state a.end w.accepted a.read in
+      let q : w.state.base.done ≡ p = ap (λ (r : Reading). r.base.done) e ∙ a.classes in
+      not_both_ways p (record { code = code; place = place }) (subst (λ (x : Program). RuleBreaks x (record { code = code; place = place })) q w.breaks) a.formed.rules
+]

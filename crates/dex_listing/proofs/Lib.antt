@@ -1,4 +1,4 @@
-pub mod LineLaws
 pub mod RefusedLaws
 pub mod ReadingLaws
+pub mod AsideLaws
 pub mod ExactLaws

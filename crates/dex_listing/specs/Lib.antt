@@ -1,1 +1,3 @@
+pub mod Forms
 pub mod Text
+pub mod View

@@ -1,102 +1,382 @@
 //! Reading a listing, line by line.
 
-ghost use Rattle.std.specs.Prelude.{◌≡◌, ◌≢◌, false, ◌+◌, ◌<◌, ◌^◌, length, IfOk, IfErr, IfSome, IfNone, OnOk, IsOkUnless};
+ghost use Rattle.std.specs.Prelude.{◌≡◌, ◌≢◌, false, ◌+◌, ◌<◌, ◌^◌, [], map, length, IfOk, IfErr, IfSome, IfNone, OnOk, IsOkUnless};
 ghost use Rattle.dex_bytes.specs.Fault.{memory};
 ghost use Rattle.dex_program.specs.View.{program};
-ghost use Rattle.dex_draft.specs.States.{start, counted};
+ghost use Rattle.dex_words.specs.View.{word};
+ghost use Rattle.dex_slots.specs.View.{datum};
+ghost use Rattle.dex_shapes.specs.Shapes.{Shape};
+ghost use Rattle.dex_shapes.specs.ShapeView.{shape};
 ghost use Rattle.dex_draft.specs.View.{state};
-ghost use Rattle.dex_listing.specs.Text.{lines, is_skipped, Adds, Takes, Reads, IsListing, IsRefused, IsBadLine, ListingBreaks, IsFinished, IsUnfinished};
+ghost use Rattle.dex_labels.specs.View.{label};
+ghost use Rattle.dex_labels.specs.Lines.{lines, is_skipped};
+ghost use Rattle.dex_listing.specs.Forms.{Shapes, may_be, Spells, Misspells};
+ghost use Rattle.dex_listing.specs.Text as spec;
+ghost use Rattle.dex_listing.specs.Text.{begin, tallied, is_plain, is_second, begins_mark, labels_behind, Says, IsUnsaid, Adds, Takes, Reads, IsListing, IsRefused, IsBadLine, ListingBreaks, IsFinished, IsUnfinished};
+ghost use Rattle.dex_listing.specs.View.{reading};
 
-use crate::pieces::{is_skipped, split_line};
+use crate::aside::Aside;
 use bumpalo::Bump;
 use dex_base::{Fault, fault};
 use dex_draft::Draft;
-use dex_lines::{Stage, make_line};
+use dex_labels::{
+    Place, is_label, is_mark, is_skipped, look_ahead, place_of, read_all, split_line,
+};
+use dex_lines::{Form, Stage, is_insns, is_start, is_two, make_line, may_stand};
 use dex_program::Program;
 use dex_rules::well_formed_in;
-use dex_shapes::read_shape;
-use dex_slots::{Datum, Slot, read_operands};
+use dex_shapes::{Found, read_bare_shape, read_shape};
+use dex_slots::{Datum, Kind, Slot, is_same, read_operands};
 use dex_words::{Word, read_words};
+use indexmap::IndexMap;
 use std::alloc::Global;
 
-/// Adds a line that isn't skipped to the draft; else why it is refused: 100 to 104.
+/// A listing that is being read: its form, the labels of the open code, and what its lines make.
+#[derive(Drop)]
+pub struct Reading<'a, 't> {
+    pub form: Form,
+    pub labels: IndexMap<&'t [u8], Place>,
+    pub draft: Draft<'a>,
+}
+
+/// Whether the word is this one.
+fn is_plain(text: &[u8], one: Word<'_, '_>) -> bool
+    ensures { result ≡ is_plain text.now (word one.entry) }
+{
+    match one {
+        Word::Plain(w) => is_same(text, w),
+        Word::Text(_) => false,
+    }
+}
+
+/// Whether the words are the first line of the second form.
+fn is_second(words: &[Word<'_, '_>]) -> bool
+    ensures { result ≡ is_second (map word words.now) }
+{
+    let Some((first, words)) = words.split_first() else {
+        return false;
+    };
+    let Some((second, words)) = words.split_first() else {
+        return false;
+    };
+    let Some((third, words)) = words.split_first() else {
+        return false;
+    };
+    let Some((fourth, words)) = words.split_first() else {
+        return false;
+    };
+    if words.len() > 0
+        || !is_plain("dex".as_bytes(), *first)
+        || !is_plain("035".as_bytes(), *second)
+    {
+        return false;
+    }
+    is_plain("listing".as_bytes(), *third) && is_plain("2".as_bytes(), *fourth)
+}
+
+/// Whether the first word begins with `:`.
+fn begins_mark(words: &[Word<'_, '_>]) -> bool
+    ensures { result ≡ begins_mark (map word words.now) }
+{
+    match words.split_first() {
+        Some((Word::Plain(text), _)) => is_mark(text),
+        _ => false,
+    }
+}
+
+impl<'a, 't> Reading<'a, 't> {
+    ghost use Rattle.std.specs.Prelude.{List};
+    ghost use Rattle.dex_slots.specs.declared.slot.Slot.{Slot};
+    ghost use Rattle.dex_words.specs.Words as words;
+    ghost use Rattle.dex_shapes.specs.ShapeView.{shape};
+    ghost use Rattle.dex_listing.specs.Text.{label_aside, mark_aside, aside, in_second};
+
+    /// What the line of a label is.
+    #[tactic(auto, unfolding(crate::specs::View::reading))]
+    fn label_aside(&self, name: &[u8]) -> Aside
+        ensures { result ≡ label_aside (reading self.now) name.now }
+    {
+        if !is_label(name) {
+            return Aside::Refused(fault::LINE_NAME);
+        }
+        match place_of(&self.labels, name) {
+            Some(place) => {
+                if place.line == self.draft.lines {
+                    return Aside::Mark;
+                }
+                Aside::Refused(fault::LINE_TWICE)
+            }
+            None => Aside::Mark,
+        }
+    }
+
+    /// What a line is that begins with a label.
+    #[tactic(auto, unfolding(crate::specs::View::reading))]
+    fn mark_aside(&self, words: &[Word<'_, '_>]) -> Aside
+        ensures { result ≡ mark_aside (reading self.now) (map word words.now) }
+    {
+        let Some((Word::Plain(name), rest)) = words.split_first() else {
+            return Aside::Refused(fault::LINE_WORD);
+        };
+        if rest.len() > 0 {
+            return Aside::Refused(fault::LINE_WORD);
+        }
+        if !is_insns(self.draft.stage) {
+            return Aside::Refused(fault::LINE_ORDER);
+        }
+        self.label_aside(name)
+    }
+
+    /// What a line of these words is if it says nothing of the program.
+    #[tactic(auto, unfolding(crate::specs::View::reading, crate::specs::Text::aside))]
+    fn aside(&self, words: &[Word<'_, '_>]) -> Aside
+        ensures { result ≡ aside (reading self.now) (map word words.now) }
+    {
+        if is_second(words) {
+            if is_start(self.draft.stage) {
+                return Aside::First;
+            }
+            if is_two(self.form) {
+                return Aside::Refused(fault::LINE_ORDER);
+            }
+            return Aside::Nothing;
+        }
+        if !is_two(self.form) {
+            return Aside::Nothing;
+        }
+        if begins_mark(words) {
+            return self.mark_aside(words);
+        }
+        Aside::Nothing
+    }
+
+    /// The listing is of the second form.
+    #[tactic(auto, unfolding(crate::specs::View::reading))]
+    fn begin_second(&mut self)
+        ensures second { reading self.new ≡ in_second (reading self.old) }
+        ensures lines { self.new.draft.lines ≡ self.old.draft.lines }
+    {
+        self.form = Form::Two;
+        self.labels.clear();
+        self.draft.stage = Stage::Top;
+    }
+
+    /// Whether a line of this shape may stand here.
+    #[tactic(auto, unfolding(crate::specs::View::reading))]
+    fn may_be(&self, found: Found<'_>) -> bool
+        ensures { (ss : List Slot) (ws : List words.Word) → result ≡ may_be self.now.form (state self.now.draft) (shape found.entry ss ws) }
+    {
+        match self.form {
+            Form::One => self.draft.stands(found),
+            Form::Two => may_stand(self.draft.stage, found.kind),
+        }
+    }
+
+    /// The labels ahead of a line of this kind.
+    #[tactic(auto, unfolding(crate::specs::View::reading))]
+    fn look(&mut self, kind: Kind, behind: &'t [u8]) -> Result<(), Fault>
+        requires { self.old.draft.lines + 1 + length behind.now < 2 ^ 64 }
+        ensures looked { OnOk result (reading self.new ≡ record (reading self.old) { labels = labels_behind self.old.form kind (self.old.draft.lines + 1) (lines behind.now) (reading self.old).labels }) }
+        ensures lines { self.new.draft.lines ≡ self.old.draft.lines }
+        ensures memory { IsOkUnless result memory }
+    {
+        match (self.form, kind) {
+            (Form::Two, Kind::OpenCode) => look_ahead(
+                &mut self.labels,
+                behind,
+                self.draft.lines + 1,
+            ),
+            (Form::Two, Kind::EndCode) => {
+                self.labels.clear();
+                Ok(())
+            }
+            _ => Ok(()),
+        }
+    }
+}
+
+/// The shape of a line of these words.
+fn read_form<'a, 'b>(
+    form: Form,
+    words: &[Word<'a, 'b>],
+    slots: &mut Vec<Slot, &'a Bump>,
+) -> Result<Option<Found<'b>>, Fault>
+    ensures found { IfOk result (λ r. IfSome r (λ f. Shapes form (map word words.now) (shape f slots.new.items (map word words.now)))) }
+    ensures lengths { IfOk result (λ r. IfSome r (λ f. f.lead + length slots.new.items ≡ length words.now)) }
+    ensures none { IfOk result (λ r. IfNone r ((s : Shape) → Shapes form (map word words.now) s → ⊥)) }
+    ensures memory { IsOkUnless result memory }
+{
+    match form {
+        Form::One => read_shape(words, slots),
+        Form::Two => read_bare_shape(words, slots),
+    }
+}
+
+/// What these words say in these slots; else the fault of the first that says nothing there.
+fn read_says<'a, 'b>(
+    arena: &'a Bump,
+    form: Form,
+    labels: &IndexMap<&[u8], Place>,
+    slots: &[Slot],
+    words: &[Word<'a, 'b>],
+    says: &mut Vec<Datum<'a>, &'a Bump>,
+) -> Result<Option<u16>, Fault>
+    requires { length slots.now ≡ length words.now }
+    ensures all { IfOk result (λ r. IfNone r (Spells form (map label labels.now.entries) slots.now (map word words.now) (map datum says.new.items))) }
+    ensures bad { IfOk result (λ r. IfSome r (λ code. Misspells form (map label labels.now.entries) slots.now (map word words.now) code)) }
+    ensures memory { IsOkUnless result memory }
+{
+    match form {
+        Form::One => read_operands(arena, slots, words, says),
+        Form::Two => read_all(arena, labels, slots, words, says),
+    }
+}
+
+/// Adds a line that says something of the program; else why it is refused: 100 to 104.
+fn add_says<'a, 'b>(
+    arena: &'a Bump,
+    words: &[Word<'a, 'b>],
+    slots: &mut Vec<Slot, &'a Bump>,
+    says: &mut Vec<Datum<'a>, &'a Bump>,
+    listing: &mut Reading<'a, 'b>,
+    behind: &'b [u8],
+) -> Result<Option<u16>, Fault>
+    requires { listing.old.draft.lines + 1 + length behind.now < 2 ^ 64 }
+    ensures taken { IfOk result (λ r. IfNone r (Says (reading listing.old) (lines behind.now) (map word words.now) (reading listing.new))) }
+    ensures refused { IfOk result (λ r. IfSome r (λ code. IsUnsaid (reading listing.old) (map word words.now) code)) }
+    ensures lines { IfOk result (λ r. listing.new.draft.lines ≡ listing.old.draft.lines) }
+    ensures memory { IsOkUnless result memory }
+{
+    let Some(found) = read_form(listing.form, words, slots)? else {
+        return Ok(Some(fault::LINE_WORD));
+    };
+    if !listing.may_be(found) {
+        return Ok(Some(fault::LINE_ORDER));
+    }
+    let (_, operands) = words.split_at(found.lead);
+    if let Some(code) = read_says(
+        arena,
+        listing.form,
+        &listing.labels,
+        slots.as_slice(),
+        operands,
+        says,
+    )? {
+        return Ok(Some(code));
+    }
+    let next = make_line(arena, found.kind, says.as_slice())?;
+    if !listing.draft.add(arena, next)? {
+        return Ok(Some(fault::LINE_TWICE));
+    }
+    listing.look(found.kind, behind)?;
+    Ok(None)
+}
+
+/// Adds a line that isn't skipped; else why it is refused: 100 to 104.
 fn add_line<'a, 'b>(
     arena: &'a Bump,
     words: &mut Vec<Word<'a, 'b>, &'a Bump>,
     slots: &mut Vec<Slot, &'a Bump>,
     says: &mut Vec<Datum<'a>, &'a Bump>,
-    draft: &mut Draft<'a>,
+    listing: &mut Reading<'a, 'b>,
     line: &'b [u8],
+    behind: &'b [u8],
 ) -> Result<Option<u16>, Fault>
-    requires { is_skipped line.now ≡ false }
-    ensures taken { IfOk result (λ r. IfNone r (Adds (state draft.old) line.now (state draft.new))) }
-    ensures refused { IfOk result (λ r. IfSome r (λ code. IsRefused (state draft.old) line.now code)) }
-    ensures lines { IfOk result (λ r. draft.new.lines ≡ draft.old.lines) }
+    requires says { is_skipped line.now ≡ false }
+    requires short { listing.old.draft.lines + 1 + length behind.now < 2 ^ 64 }
+    ensures taken { IfOk result (λ r. IfNone r (Adds (reading listing.old) (lines behind.now) line.now (reading listing.new))) }
+    ensures refused { IfOk result (λ r. IfSome r (λ code. IsRefused (reading listing.old) line.now code)) }
+    ensures lines { IfOk result (λ r. listing.new.draft.lines ≡ listing.old.draft.lines) }
     ensures memory { IsOkUnless result memory }
 {
     if !read_words(arena, line, words)? {
         return Ok(Some(fault::LINE_WORD));
     }
-    let Some(found) = read_shape(words.as_slice(), slots)? else {
-        return Ok(Some(fault::LINE_WORD));
-    };
-    if !draft.stands(found) {
-        return Ok(Some(fault::LINE_ORDER));
+    match listing.aside(words.as_slice()) {
+        Aside::Nothing => add_says(arena, words.as_slice(), slots, says, listing, behind),
+        Aside::Refused(code) => Ok(Some(code)),
+        Aside::First => {
+            listing.begin_second();
+            Ok(None)
+        }
+        Aside::Mark => Ok(None),
     }
-    let (_, operands) = words.as_slice().split_at(found.lead);
-    if let Some(code) = read_operands(arena, slots.as_slice(), operands, says)? {
-        return Ok(Some(code));
-    }
-    let next = make_line(arena, found.kind, says.as_slice())?;
-    if !draft.add(arena, next)? {
-        return Ok(Some(fault::LINE_TWICE));
-    }
-    Ok(None)
 }
 
-/// Reads a line into the draft; else why it is refused: 100 to 104.
+/// One line more was read.
+#[tactic(auto, unfolding(crate::specs::View::reading))]
+fn tally(listing: &mut Reading<'_, '_>)
+    requires { listing.old.draft.lines + 1 < 2 ^ 64 }
+    ensures state { reading listing.new ≡ tallied (reading listing.old) }
+    ensures lines { listing.new.draft.lines ≡ listing.old.draft.lines + 1 }
+{
+    listing.draft.count_line();
+}
+
+/// Reads a line; else why it is refused: 100 to 104.
 fn read_line<'a, 'b>(
     arena: &'a Bump,
     words: &mut Vec<Word<'a, 'b>, &'a Bump>,
     slots: &mut Vec<Slot, &'a Bump>,
     says: &mut Vec<Datum<'a>, &'a Bump>,
-    draft: &mut Draft<'a>,
+    listing: &mut Reading<'a, 'b>,
     line: &'b [u8],
+    behind: &'b [u8],
 ) -> Result<Option<u16>, Fault>
-    requires { draft.old.lines + 1 < 2 ^ 64 }
-    ensures taken { IfOk result (λ r. IfNone r (Takes (state draft.old) line.now (state draft.new))) }
-    ensures refused { IfOk result (λ r. IfSome r (λ code. IsRefused (counted (state draft.old)) line.now code)) }
-    ensures lines { IfOk result (λ r. draft.new.lines ≡ draft.old.lines + 1) }
+    requires { listing.old.draft.lines + 2 + length behind.now < 2 ^ 64 }
+    ensures taken { IfOk result (λ r. IfNone r (Takes (reading listing.old) (lines behind.now) line.now (reading listing.new))) }
+    ensures refused { IfOk result (λ r. IfSome r (λ code. IsRefused (tallied (reading listing.old)) line.now code)) }
+    ensures lines { IfOk result (λ r. listing.new.draft.lines ≡ listing.old.draft.lines + 1) }
     ensures memory { IsOkUnless result memory }
 {
-    draft.count_line();
+    tally(listing);
     if is_skipped(line) {
         return Ok(None);
     }
-    add_line(arena, words, slots, says, draft, line)
+    add_line(arena, words, slots, says, listing, line, behind)
+}
+
+/// Nothing was read.
+#[tactic(auto, unfolding(crate::specs::View::reading))]
+fn begin<'a, 't>(alloc: Global, arena: &'a Bump) -> Reading<'a, 't>
+    ensures { reading result ≡ begin }
+{
+    Reading {
+        form: Form::One,
+        labels: IndexMap::new(alloc),
+        draft: Draft::new(alloc, arena),
+    }
 }
 
 /// Reads all lines of a text; else the lowest that is refused: 100 to 104.
 fn read_lines<'a>(alloc: Global, arena: &'a Bump, text: &[u8]) -> Result<Draft<'a>, Fault>
-    ensures ok { IfOk result (λ d. Reads start (lines text.now) (state d)) }
+    ensures ok { IfOk result (λ d. (r : spec.Reading) × Reads begin (lines text.now) [] r × (r.base ≡ state d)) }
     ensures number { IfOk result (λ d. d.lines ≡ length (lines text.now)) }
     ensures err { IfErr result (λ e. e ≢ memory → IsBadLine (lines text.now) e.code e.place) }
 {
     let mut words = Vec::new(arena);
     let mut slots = Vec::new(arena);
     let mut says = Vec::new(arena);
-    let mut draft = Draft::new(alloc, arena);
+    let mut listing = begin(alloc, arena);
     let mut rest = text;
     while let Some((line, behind)) = split_line(rest) {
-        if let Some(code) = read_line(arena, &mut words, &mut slots, &mut says, &mut draft, line)? {
+        if let Some(code) = read_line(
+            arena,
+            &mut words,
+            &mut slots,
+            &mut says,
+            &mut listing,
+            line,
+            behind,
+        )? {
             return Err(Fault {
                 code,
-                place: draft.lines,
+                place: listing.draft.lines,
             });
         }
         rest = behind;
     }
-    Ok(draft)
+    Ok(listing.draft)
 }
 
 /// Whether a listing may end behind these lines; else 106 where a block is open, 105 where a target is no instruction of its code.

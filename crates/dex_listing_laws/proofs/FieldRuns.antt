@@ -14,7 +14,8 @@ use Rattle.dex_draft.specs.States.{State, Open, Body, placed, counted, noted, wi
 use Rattle.dex_print.specs.Printed.{line_operands, keyed_text}
 use Rattle.dex_print.specs.Canon.{statics_text}
 use Rattle.dex_print.specs.Reading.{FitOperands}
-use Rattle.dex_listing_laws.proofs.Runs.{RunsTo, in_stage}
+use Rattle.dex_lines.specs.declared.form.Form.{Form}
+use Rattle.dex_listing_laws.proofs.Runs.{bare, RunsTo, in_stage}
 use Rattle.dex_listing_laws.proofs.Printable.{KeysAreSorted, AllBelow, FieldFits, GivenFits, givens}
 use Rattle.dex_listing_laws.proofs.KeyedLaws.{keyed_runs}
 use Rattle.dex_listing_laws.proofs.InClass.{InClass, with_last, each_runs}
@@ -29,17 +30,17 @@ instance_goes_last : (s : State) (m : Member) → AllBelow (map member_key s.cur
 unfolding placed with_instance
 instance_goes_last s m h = rw (with_last member_key m s.current.instances h) refl
 
-instance_step : (done : List Class) (o : Open) (st : Stage) (b : Body) (n : ℕ) (before : List Member) (m : Member) → is_in_class st ≡ true → FieldFits m → AllBelow (map member_key before) (member_key m)
-    → InClass done (in_stage st done (with_instances o before) None b n) (keyed_text (instance_line m)) (with_instances o (before ++ m ∷ []))
+instance_step : (form : Form) (done : List Class) (o : Open) (st : Stage) (b : Body) (n : ℕ) (before : List Member) (m : Member) → is_in_class st ≡ true → FieldFits m → AllBelow (map member_key before) (member_key m)
+    → InClass form done (in_stage st done (with_instances o before) None b n) (keyed_text (instance_line m)) (with_instances o (before ++ m ∷ []))
 unfolding may_stand
-instance_step done o st b n before m k f h =
+instance_step form done o st b n before m k f h =
     let s = in_stage st done (with_instances o before) None b n in
     let t = in_stage Members done (with_instances o (before ++ m ∷ [])) None b (n + 1) in
-    record { stage = Members; body = b; lines = n + 1; runs = keyed_runs s t (instance_line m) tt f k (instance_goes_last (noted (counted s) (instance_line m)) m h); in_class = refl }
+    record { stage = Members; body = b; lines = n + 1; runs = keyed_runs form s t (instance_line m) tt tt f k (instance_goes_last (noted (counted s) (instance_line m)) m h); in_class = refl }
 
-pub instances_run : (done : List Class) (o : Open) (ms : List Member) (st : Stage) (b : Body) (n : ℕ) → is_in_class st ≡ true → AllByRecursion FieldFits ms → KeysAreSorted (map member_key ms)
-    → InClass done (in_stage st done (with_instances o []) None b n) (flat_map (λ m. keyed_text (instance_line m)) ms) (with_instances o ms)
-instances_run done o ms st b n k f s = each_runs done (λ (m : Member). keyed_text (instance_line m)) (with_instances o) FieldFits member_key (instance_step done o) ms [] st b n k f s
+pub instances_run : (form : Form) (done : List Class) (o : Open) (ms : List Member) (st : Stage) (b : Body) (n : ℕ) → is_in_class st ≡ true → AllByRecursion FieldFits ms → KeysAreSorted (map member_key ms)
+    → InClass form done (in_stage st done (with_instances o []) None b n) (flat_map (λ m. keyed_text (instance_line m)) ms) (with_instances o ms)
+instances_run form done o ms st b n k f s = each_runs form done (λ (m : Member). keyed_text (instance_line m)) (with_instances o) FieldFits member_key (instance_step form done o) ms [] st b n k f s
 
 -- ---- static fields
 
@@ -51,17 +52,17 @@ static_goes_last : (s : State) (g : Given) → AllBelow (map given_key s.current
 unfolding placed with_static
 static_goes_last s g h = rw (with_last given_key g s.current.statics h) refl
 
-given_runs : (s t : State) (m : Member) (v : Option Value) → FitOperands (line_operands (static_line m v)) → is_in_class s.stage ≡ true → placed (noted (counted s) (static_line m v)) (static_line m v) ≡ Some t → RunsTo s (keyed_text (static_line m v)) t
+given_runs : (form : Form) (s t : State) (m : Member) (v : Option Value) → FitOperands (line_operands (static_line m v)) → is_in_class s.stage ≡ true → placed (noted (counted s) (static_line m v)) (static_line m v) ≡ Some t → RunsTo (bare form) s (keyed_text (static_line m v)) t
 unfolding may_stand
-given_runs s t m None f k a = keyed_runs s t (static_line m None) tt f k a
-given_runs s t m (Some v) f k a = keyed_runs s t (static_line m (Some v)) tt f k a
+given_runs form s t m None f k a = keyed_runs form s t (static_line m None) tt tt f k a
+given_runs form s t m (Some v) f k a = keyed_runs form s t (static_line m (Some v)) tt tt f k a
 
-static_step : (done : List Class) (o : Open) (st : Stage) (b : Body) (n : ℕ) (before : List Given) (g : Given) → is_in_class st ≡ true → GivenFits g → AllBelow (map given_key before) (given_key g)
-    → InClass done (in_stage st done (with_statics o before) None b n) (keyed_text (static_line g.field g.value)) (with_statics o (before ++ g ∷ []))
-static_step done o st b n before g k f h =
+static_step : (form : Form) (done : List Class) (o : Open) (st : Stage) (b : Body) (n : ℕ) (before : List Given) (g : Given) → is_in_class st ≡ true → GivenFits g → AllBelow (map given_key before) (given_key g)
+    → InClass form done (in_stage st done (with_statics o before) None b n) (keyed_text (static_line g.field g.value)) (with_statics o (before ++ g ∷ []))
+static_step form done o st b n before g k f h =
     let s = in_stage st done (with_statics o before) None b n in
     let t = in_stage Members done (with_statics o (before ++ g ∷ [])) None b (n + 1) in
-    record { stage = Members; body = b; lines = n + 1; runs = given_runs s t g.field g.value f k (static_goes_last (noted (counted s) (static_line g.field g.value)) g h); in_class = refl }
+    record { stage = Members; body = b; lines = n + 1; runs = given_runs form s t g.field g.value f k (static_goes_last (noted (counted s) (static_line g.field g.value)) g h); in_class = refl }
 
 -- the text of the fields, one by one
 statics_each : (ms : List Member) (vs : List Value) → flat_map (λ (g : Given). keyed_text (static_line g.field g.value)) (givens ms vs) ≡ statics_text ms vs
@@ -74,11 +75,11 @@ statics_keys k [] vs = refl
 statics_keys k (m ∷ ms) [] = ap (λ t. k m ∷ t) (statics_keys k ms [])
 statics_keys k (m ∷ ms) (v ∷ vs) = ap (λ t. k m ∷ t) (statics_keys k ms vs)
 
-pub statics_run : (done : List Class) (o : Open) (ms : List Member) (vs : List Value) (st : Stage) (b : Body) (n : ℕ) → is_in_class st ≡ true → AllByRecursion GivenFits (givens ms vs) → KeysAreSorted (map member_key ms)
-    → InClass done (in_stage st done (with_statics o []) None b n) (statics_text ms vs) (with_statics o (givens ms vs))
-statics_run done o ms vs st b n k f s =
-    let r = each_runs done (λ (g : Given). keyed_text (static_line g.field g.value)) (with_statics o) GivenFits given_key (static_step done o) (givens ms vs) [] st b n k f (subst KeysAreSorted (statics_keys member_key ms vs) s) in
-    subst (λ (text : List ℕ). InClass done (in_stage st done (with_statics o []) None b n) text (with_statics o (givens ms vs))) (statics_each ms vs) r
+pub statics_run : (form : Form) (done : List Class) (o : Open) (ms : List Member) (vs : List Value) (st : Stage) (b : Body) (n : ℕ) → is_in_class st ≡ true → AllByRecursion GivenFits (givens ms vs) → KeysAreSorted (map member_key ms)
+    → InClass form done (in_stage st done (with_statics o []) None b n) (statics_text ms vs) (with_statics o (givens ms vs))
+statics_run form done o ms vs st b n k f s =
+    let r = each_runs form done (λ (g : Given). keyed_text (static_line g.field g.value)) (with_statics o) GivenFits given_key (static_step form done o) (givens ms vs) [] st b n k f (subst KeysAreSorted (statics_keys member_key ms vs) s) in
+    subst (λ (text : List ℕ). InClass form done (in_stage st done (with_statics o []) None b n) text (with_statics o (givens ms vs))) (statics_each ms vs) r
 
 -- ---- the fields of the class, and their values, are these
 

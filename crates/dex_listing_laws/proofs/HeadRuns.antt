@@ -2,7 +2,6 @@
 use Rattle.std.proofs.Common.{◌≡◌, ℕ, zero, suc, ◌+◌, ◌<◌, ◌⊎◌, inl, inr, Bool, true, false, List, [], ◌∷◌, ◌++◌, length, Option, Some, None, refl, sym, ap, subst, ◌∙◌, append_assoc, arith}
 use Rattle.std.specs.List.{AllByRecursion, flat_map, slice_get}
 use Rattle.std.proofs.lemmas.List.{append-nil, length-append}
-use Rattle.std.proofs.lemmas.Bool.{cases_eq, eq-eqb, ne_eqb}
 use Rattle.dex_program.specs.Content.{Units, Descriptor, Class}
 use Rattle.dex_rules.specs.Rules.{AreDistinct}
 use Rattle.dex_lines.specs.Lines.{open_class, super_line, implements_line, source_line}
@@ -13,42 +12,34 @@ use Rattle.dex_draft.specs.States.{Open, Body, placed, with_superclass, with_int
 use Rattle.dex_print.specs.Printed.{line_operands, keyed_text}
 use Rattle.dex_print.specs.Canon.{super_text, source_text, heads_text}
 use Rattle.dex_print.specs.Reading.{FitOperands}
-use Rattle.dex_listing_laws.proofs.Runs.{RunsTo, in_stage}
+use Rattle.dex_lines.specs.declared.form.Form.{Form}
+use Rattle.dex_listing_laws.proofs.Runs.{bare, RunsTo, in_stage}
 use Rattle.dex_listing_laws.proofs.Printable.{SuperFits, SourceFits, InterfaceFits, ClassFits}
 use Rattle.dex_listing_laws.proofs.RunLaws.{runs_join}
 use Rattle.dex_listing_laws.proofs.KeyedLaws.{keyed_runs}
+use Rattle.dex_listing_laws.proofs.FormWords.{same_true}
 use Rattle.dex_listing_laws.proofs.CodeRuns.{nothing_runs}
 
 -- A class that has its heads so far, and no members.
 abbrev pub headed : Class → Option Descriptor → List Descriptor → Option Units → Open
 headed c super interfaces source = record (opened c.ty c.flags) { superclass = super; interfaces = interfaces; source = source }
 
-class_runs : (done : List Class) (o : Open) (b : Body) (n : ℕ) (c : Class) → FitOperands (line_operands (open_class c.ty c.flags)) → RunsTo (in_stage Top done o None b n) (keyed_text (open_class c.ty c.flags)) (in_stage Heads done (headed c None [] None) None b (n + 1))
+class_runs : (form : Form) (done : List Class) (o : Open) (b : Body) (n : ℕ) (c : Class) → FitOperands (line_operands (open_class c.ty c.flags)) → RunsTo (bare form) (in_stage Top done o None b n) (keyed_text (open_class c.ty c.flags)) (in_stage Heads done (headed c None [] None) None b (n + 1))
 unfolding placed may_stand
-class_runs done o b n c f = keyed_runs (in_stage Top done o None b n) (in_stage Heads done (headed c None [] None) None b (n + 1)) (open_class c.ty c.flags) tt f refl refl
+class_runs form done o b n c f = keyed_runs form (in_stage Top done o None b n) (in_stage Heads done (headed c None [] None) None b (n + 1)) (open_class c.ty c.flags) tt tt f refl refl
 
-super_runs : (done : List Class) (b : Body) (n : ℕ) (c : Class) (d : Option Descriptor) → SuperFits d → (l : ℕ) × RunsTo (in_stage Heads done (headed c None [] None) None b n) (super_text d) (in_stage Heads done (headed c d [] None) None b l)
+super_runs : (form : Form) (done : List Class) (b : Body) (n : ℕ) (c : Class) (d : Option Descriptor) → SuperFits d → (l : ℕ) × RunsTo (bare form) (in_stage Heads done (headed c None [] None) None b n) (super_text d) (in_stage Heads done (headed c d [] None) None b l)
 unfolding placed may_stand with_superclass
-super_runs done b n c None f = (n, nothing_runs (in_stage Heads done (headed c None [] None) None b n))
-super_runs done b n c (Some d) f = (n + 1, keyed_runs (in_stage Heads done (headed c None [] None) None b n) (in_stage Heads done (headed c (Some d) [] None) None b (n + 1)) (super_line d) tt f refl refl)
+super_runs form done b n c None f = (n, nothing_runs (bare form) (in_stage Heads done (headed c None [] None) None b n))
+super_runs form done b n c (Some d) f = (n + 1, keyed_runs form (in_stage Heads done (headed c None [] None) None b n) (in_stage Heads done (headed c (Some d) [] None) None b (n + 1)) (super_line d) tt tt f refl refl)
 
-source_runs : (done : List Class) (b : Body) (n : ℕ) (c : Class) (d : Option Descriptor) (is : List Descriptor) (u : Option Units) → SourceFits u
-    → (l : ℕ) × RunsTo (in_stage Heads done (headed c d is None) None b n) (source_text u) (in_stage Heads done (headed c d is u) None b l)
+source_runs : (form : Form) (done : List Class) (b : Body) (n : ℕ) (c : Class) (d : Option Descriptor) (is : List Descriptor) (u : Option Units) → SourceFits u
+    → (l : ℕ) × RunsTo (bare form) (in_stage Heads done (headed c d is None) None b n) (source_text u) (in_stage Heads done (headed c d is u) None b l)
 unfolding placed may_stand with_source
-source_runs done b n c d is None f = (n, nothing_runs (in_stage Heads done (headed c d is None) None b n))
-source_runs done b n c d is (Some u) f = (n + 1, keyed_runs (in_stage Heads done (headed c d is None) None b n) (in_stage Heads done (headed c d is (Some u)) None b (n + 1)) (source_line u) tt f refl refl)
+source_runs form done b n c d is None f = (n, nothing_runs (bare form) (in_stage Heads done (headed c d is None) None b n))
+source_runs form done b n c d is (Some u) f = (n + 1, keyed_runs form (in_stage Heads done (headed c d is None) None b n) (in_stage Heads done (headed c d is (Some u)) None b (n + 1)) (source_line u) tt tt f refl refl)
 
 -- ---- interfaces
-
-same_true : (xs ys : List ℕ) → same xs ys ≡ true → xs ≡ ys
-unfolding same
-same_true [] [] h = refl
-same_true [] (y ∷ ys) h = absurd cc
-same_true (x ∷ xs) [] h = absurd cc
-same_true (x ∷ xs) (y ∷ ys) h = elim (cases_eq x y) [
-  | inl e ↦ let k : same xs ys ≡ true = rw (eq-eqb x y e) at h in cc (e, same_true xs ys k)
-  | inr n ↦ let k : false ≡ true = rw (ne_eqb x y n) at h in absurd cc
-]
 
 any_more : (d e : Descriptor) (es : List Descriptor) (b : Bool) → same d e ≡ b → is_among (e ∷ es) d ≡ true → (b ≡ true) ⊎ (is_among es d ≡ true)
 any_more d e es true s h = inl refl
@@ -83,34 +74,34 @@ interface_added : (done : List Class) (b : Body) (n : ℕ) (c : Class) (u : Opti
 unfolding placed with_interface
 interface_added done b n c u before d h = rw h refl
 
-interface_step : (done : List Class) (b : Body) (n : ℕ) (c : Class) (u : Option Descriptor) (before : List Descriptor) (d : Descriptor) → InterfaceFits d → is_among before d ≡ false
-    → RunsTo (in_stage Heads done (headed c u before None) None b n) (keyed_text (implements_line d)) (in_stage Heads done (headed c u (before ++ d ∷ []) None) None b (n + 1))
+interface_step : (form : Form) (done : List Class) (b : Body) (n : ℕ) (c : Class) (u : Option Descriptor) (before : List Descriptor) (d : Descriptor) → InterfaceFits d → is_among before d ≡ false
+    → RunsTo (bare form) (in_stage Heads done (headed c u before None) None b n) (keyed_text (implements_line d)) (in_stage Heads done (headed c u (before ++ d ∷ []) None) None b (n + 1))
 unfolding may_stand
-interface_step done b n c u before d f h = keyed_runs (in_stage Heads done (headed c u before None) None b n) (in_stage Heads done (headed c u (before ++ d ∷ []) None) None b (n + 1)) (implements_line d) tt f refl (interface_added done b n c u before d h)
+interface_step form done b n c u before d f h = keyed_runs form (in_stage Heads done (headed c u before None) None b n) (in_stage Heads done (headed c u (before ++ d ∷ []) None) None b (n + 1)) (implements_line d) tt tt f refl (interface_added done b n c u before d h)
 
-interfaces_run : (done : List Class) (b : Body) (c : Class) (u : Option Descriptor) (ds before : List Descriptor) (n : ℕ) → AllByRecursion InterfaceFits ds → AreDistinct (before ++ ds)
-    → (l : ℕ) × RunsTo (in_stage Heads done (headed c u before None) None b n) (flat_map (λ d. keyed_text (implements_line d)) ds) (in_stage Heads done (headed c u (before ++ ds) None) None b l)
-interfaces_run done b c u [] before n f h =
+interfaces_run : (form : Form) (done : List Class) (b : Body) (c : Class) (u : Option Descriptor) (ds before : List Descriptor) (n : ℕ) → AllByRecursion InterfaceFits ds → AreDistinct (before ++ ds)
+    → (l : ℕ) × RunsTo (bare form) (in_stage Heads done (headed c u before None) None b n) (flat_map (λ d. keyed_text (implements_line d)) ds) (in_stage Heads done (headed c u (before ++ ds) None) None b l)
+interfaces_run form done b c u [] before n f h =
     let s = in_stage Heads done (headed c u before None) None b n in
-    (n, subst (λ (is : List Descriptor). RunsTo s [] (in_stage Heads done (headed c u is None) None b n)) (sym (append-nil before)) (nothing_runs s))
-interfaces_run done b c u (d ∷ ds) before n f h =
+    (n, subst (λ (is : List Descriptor). RunsTo (bare form) s [] (in_stage Heads done (headed c u is None) None b n)) (sym (append-nil before)) (nothing_runs (bare form) s))
+interfaces_run form done b c u (d ∷ ds) before n f h =
     let e : (before ++ d ∷ []) ++ ds ≡ before ++ (d ∷ ds) = append_assoc before (d ∷ []) ds in
-    let y = interfaces_run done b c u ds (before ++ d ∷ []) (n + 1) f.1 (subst AreDistinct (sym e) h) in
+    let y = interfaces_run form done b c u ds (before ++ d ∷ []) (n + 1) f.1 (subst AreDistinct (sym e) h) in
     let s = in_stage Heads done (headed c u before None) None b n in
     let t = in_stage Heads done (headed c u (before ++ d ∷ []) None) None b (n + 1) in
-    let x = interface_step done b n c u before d f.0 (not_before before d ds (is_among before d) refl h) in
-    let r = runs_join s t (in_stage Heads done (headed c u ((before ++ d ∷ []) ++ ds) None) None b y.0) (keyed_text (implements_line d)) (flat_map (λ i. keyed_text (implements_line i)) ds) x y.1 in
-    (y.0, subst (λ (is : List Descriptor). RunsTo s (flat_map (λ i. keyed_text (implements_line i)) (d ∷ ds)) (in_stage Heads done (headed c u is None) None b y.0)) e r)
+    let x = interface_step form done b n c u before d f.0 (not_before before d ds (is_among before d) refl h) in
+    let r = runs_join (bare form) s t (in_stage Heads done (headed c u ((before ++ d ∷ []) ++ ds) None) None b y.0) (keyed_text (implements_line d)) (flat_map (λ i. keyed_text (implements_line i)) ds) x y.1 in
+    (y.0, subst (λ (is : List Descriptor). RunsTo (bare form) s (flat_map (λ i. keyed_text (implements_line i)) (d ∷ ds)) (in_stage Heads done (headed c u is None) None b y.0)) e r)
 
 -- ---- all of them
 
-pub heads_run : (done : List Class) (o : Open) (b : Body) (n : ℕ) (c : Class) → ClassFits c
-    → (l : ℕ) × RunsTo (in_stage Top done o None b n) (heads_text c) (in_stage Heads done (headed c c.superclass c.interfaces c.source) None b l)
-heads_run done o b n c f =
-    let x = class_runs done o b n c f.head in
-    let y = super_runs done b (n + 1) c c.superclass f.above in
-    let z = interfaces_run done b c c.superclass c.interfaces [] y.0 f.interfaces f.distinct in
-    let w = source_runs done b z.0 c c.superclass c.interfaces c.source f.source in
+pub heads_run : (form : Form) (done : List Class) (o : Open) (b : Body) (n : ℕ) (c : Class) → ClassFits c
+    → (l : ℕ) × RunsTo (bare form) (in_stage Top done o None b n) (heads_text c) (in_stage Heads done (headed c c.superclass c.interfaces c.source) None b l)
+heads_run form done o b n c f =
+    let x = class_runs form done o b n c f.head in
+    let y = super_runs form done b (n + 1) c c.superclass f.above in
+    let z = interfaces_run form done b c c.superclass c.interfaces [] y.0 f.interfaces f.distinct in
+    let w = source_runs form done b z.0 c c.superclass c.interfaces c.source f.source in
     let s0 = in_stage Top done o None b n in
     let s1 = in_stage Heads done (headed c None [] None) None b (n + 1) in
     let s2 = in_stage Heads done (headed c c.superclass [] None) None b y.0 in
@@ -118,6 +109,6 @@ heads_run done o b n c f =
     let s4 = in_stage Heads done (headed c c.superclass c.interfaces c.source) None b w.0 in
     let is = flat_map (λ d. keyed_text (implements_line d)) c.interfaces in (
       w.0,
-      runs_join s0 s1 s4 (keyed_text (open_class c.ty c.flags)) (super_text c.superclass ++ (is ++ source_text c.source)) x
-          (runs_join s1 s2 s4 (super_text c.superclass) (is ++ source_text c.source) y.1 (runs_join s2 s3 s4 is (source_text c.source) z.1 w.1)),
+      runs_join (bare form) s0 s1 s4 (keyed_text (open_class c.ty c.flags)) (super_text c.superclass ++ (is ++ source_text c.source)) x
+          (runs_join (bare form) s1 s2 s4 (super_text c.superclass) (is ++ source_text c.source) y.1 (runs_join (bare form) s2 s3 s4 is (source_text c.source) z.1 w.1)),
     )

@@ -6,8 +6,11 @@ pub mod OrderRules
 pub mod ClassRules
 pub mod Runs
 pub mod RunLaws
+pub mod FormWords
 pub mod KeyedLaws
 pub mod InsnRuns
+pub mod Ahead
+pub mod Targets
 pub mod CodeRuns
 pub mod TryRuns
 pub mod WholeCode

@@ -1,4 +1,5 @@
 -- Printed methods of a class and their codes, one behind the other.
+use Rattle.dex_lines.specs.declared.form.Form.{Form}
 use Rattle.std.proofs.Common.{◌≡◌, ℕ, ◌+◌, Bool, true, false, List, [], ◌∷◌, ◌++◌, map, Option, Some, None, refl, ap, subst, ◌∙◌}
 use Rattle.std.specs.List.{AllByRecursion, flat_map}
 use Rattle.std.specs.Ordering.{is_eq, ordering_reverse}
@@ -15,7 +16,7 @@ use Rattle.dex_lines.specs.Places.{may_stand, is_in_class}
 use Rattle.dex_draft.specs.States.{State, Open, Body, placed, counted, noted, owned, with_direct, with_virtual, with_code, with_code_at}
 use Rattle.dex_print.specs.Printed.{keyed_text}
 use Rattle.dex_print.specs.Canon.{body_text, direct_text, virtual_text}
-use Rattle.dex_listing_laws.proofs.Runs.{in_stage}
+use Rattle.dex_listing_laws.proofs.Runs.{bare, in_stage}
 use Rattle.dex_listing_laws.proofs.Printable.{KeysAreSorted, AllBelow, BodyFits, MethodFits}
 use Rattle.dex_listing_laws.proofs.KeyedLaws.{keyed_runs}
 use Rattle.dex_listing_laws.proofs.CodeRuns.{nothing_runs}
@@ -41,17 +42,17 @@ code_last (l ∷ ms) m c h = rw (code_skips (method_key l) (method_key m) h.0) (
 abbrev PutsCode : (List Method → Open) → Bool → Type 0
 PutsCode with direct = (ms : List Method) (k : Key) (c : Code) → with_code_at (with ms) direct k c ≡ with (with_code ms k c)
 
-body_runs : (done : List Class) (with : List Method → Open) (direct : Bool) (b : Body) (n : ℕ) (before : List Method) (m : Method) (o : Option Code) → PutsCode with direct → AllBelow (map method_key before) (method_key m) → BodyFits o
-    → InClass done (in_stage Behind done (with (before ++ coded m None ∷ [])) None (owned b direct (method_key m)) n) (body_text o) (with (before ++ coded m o ∷ []))
-body_runs done with direct b n before m None p h f =
+body_runs : (form : Form) (done : List Class) (with : List Method → Open) (direct : Bool) (b : Body) (n : ℕ) (before : List Method) (m : Method) (o : Option Code) → PutsCode with direct → AllBelow (map method_key before) (method_key m) → BodyFits o
+    → InClass form done (in_stage Behind done (with (before ++ coded m None ∷ [])) None (owned b direct (method_key m)) n) ((body_text form) o) (with (before ++ coded m o ∷ []))
+body_runs form done with direct b n before m None p h f =
     let d = owned b direct (method_key m) in
-    record { stage = Behind; body = d; lines = n; runs = nothing_runs (in_stage Behind done (with (before ++ coded m None ∷ [])) None d n); in_class = refl }
-body_runs done with direct b n before m (Some c) p h f =
+    record { stage = Behind; body = d; lines = n; runs = nothing_runs (bare form) (in_stage Behind done (with (before ++ coded m None ∷ [])) None d n); in_class = refl }
+body_runs form done with direct b n before m (Some c) p h f =
     let d = owned b direct (method_key m) in
     let o = with (before ++ coded m None ∷ []) in
-    let y = code_runs done o d n c f in
+    let y = code_runs form done o d n c f in
     let e : with_code_at o direct (method_key m) c ≡ with (before ++ coded m (Some c) ∷ []) = p (before ++ coded m None ∷ []) (method_key m) c ∙ ap with (code_last before m c h) in
-    subst (λ (q : Open). InClass done (in_stage Behind done o None d n) (body_text (Some c)) q) e (record { stage = Members; body = y.1; lines = y.0; runs = y.2; in_class = refl })
+    subst (λ (q : Open). InClass form done (in_stage Behind done o None d n) ((body_text form) (Some c)) q) e (record { stage = Members; body = y.1; lines = y.0; runs = y.2; in_class = refl })
 
 -- ---- direct methods
 
@@ -63,27 +64,27 @@ direct_goes_last : (s : State) (m : Method) → AllBelow (map method_key s.curre
 unfolding placed with_direct
 direct_goes_last s m h = rw (with_last method_key m s.current.directs h) refl
 
-direct_line_runs : (done : List Class) (o : Open) (st : Stage) (b : Body) (n : ℕ) (before : List Method) (m : Method) → is_in_class st ≡ true → MethodFits m → AllBelow (map method_key before) (method_key m)
-    → InClass done (in_stage st done (with_directs o before) None b n) (keyed_text (direct_line m)) (with_directs o (before ++ coded m None ∷ []))
+direct_line_runs : (form : Form) (done : List Class) (o : Open) (st : Stage) (b : Body) (n : ℕ) (before : List Method) (m : Method) → is_in_class st ≡ true → MethodFits m → AllBelow (map method_key before) (method_key m)
+    → InClass form done (in_stage st done (with_directs o before) None b n) (keyed_text (direct_line m)) (with_directs o (before ++ coded m None ∷ []))
 unfolding may_stand
-direct_line_runs done o st b n before m k f h =
+direct_line_runs form done o st b n before m k f h =
     let s = in_stage st done (with_directs o before) None b n in
     let d = owned b true (method_key m) in
     let t = in_stage Behind done (with_directs o (before ++ coded m None ∷ [])) None d (n + 1) in
     let l = direct_line (coded m None) in
-    record { stage = Behind; body = d; lines = n + 1; runs = keyed_runs s t l refl f.0 k (direct_goes_last (noted (counted s) l) (coded m None) h); in_class = refl }
+    record { stage = Behind; body = d; lines = n + 1; runs = keyed_runs form s t l tt refl f.0 k (direct_goes_last (noted (counted s) l) (coded m None) h); in_class = refl }
 
-direct_step : (done : List Class) (o : Open) (st : Stage) (b : Body) (n : ℕ) (before : List Method) (m : Method) → is_in_class st ≡ true → MethodFits m → AllBelow (map method_key before) (method_key m)
-    → InClass done (in_stage st done (with_directs o before) None b n) (direct_text m) (with_directs o (before ++ m ∷ []))
+direct_step : (form : Form) (done : List Class) (o : Open) (st : Stage) (b : Body) (n : ℕ) (before : List Method) (m : Method) → is_in_class st ≡ true → MethodFits m → AllBelow (map method_key before) (method_key m)
+    → InClass form done (in_stage st done (with_directs o before) None b n) ((direct_text form) m) (with_directs o (before ++ m ∷ []))
 unfolding direct_line_runs
-direct_step done o st b n before m k f h =
-    in_then done (in_stage st done (with_directs o before) None b n) (keyed_text (direct_line m)) (body_text m.code) (with_directs o (before ++ coded m None ∷ [])) (with_directs o (before ++ m ∷ []))
-    (direct_line_runs done o st b n before m k f h)
-    (body_runs done (with_directs o) true b (n + 1) before m m.code (λ ms k c. refl) h f.1)
+direct_step form done o st b n before m k f h =
+    in_then form done (in_stage st done (with_directs o before) None b n) (keyed_text (direct_line m)) ((body_text form) m.code) (with_directs o (before ++ coded m None ∷ [])) (with_directs o (before ++ m ∷ []))
+    (direct_line_runs form done o st b n before m k f h)
+    (body_runs form done (with_directs o) true b (n + 1) before m m.code (λ ms k c. refl) h f.1)
 
-pub directs_run : (done : List Class) (o : Open) (ms : List Method) (st : Stage) (b : Body) (n : ℕ) → is_in_class st ≡ true → AllByRecursion MethodFits ms → KeysAreSorted (map method_key ms)
-    → InClass done (in_stage st done (with_directs o []) None b n) (flat_map direct_text ms) (with_directs o ms)
-directs_run done o ms st b n k f s = each_runs done direct_text (with_directs o) MethodFits method_key (direct_step done o) ms [] st b n k f s
+pub directs_run : (form : Form) (done : List Class) (o : Open) (ms : List Method) (st : Stage) (b : Body) (n : ℕ) → is_in_class st ≡ true → AllByRecursion MethodFits ms → KeysAreSorted (map method_key ms)
+    → InClass form done (in_stage st done (with_directs o []) None b n) (flat_map (direct_text form) ms) (with_directs o ms)
+directs_run form done o ms st b n k f s = each_runs form done (direct_text form) (with_directs o) MethodFits method_key (direct_step form done o) ms [] st b n k f s
 
 -- ---- virtual methods
 
@@ -95,24 +96,24 @@ virtual_goes_last : (s : State) (m : Method) → AllBelow (map method_key s.curr
 unfolding placed with_virtual
 virtual_goes_last s m h = rw (with_last method_key m s.current.virtuals h) refl
 
-virtual_line_runs : (done : List Class) (o : Open) (st : Stage) (b : Body) (n : ℕ) (before : List Method) (m : Method) → is_in_class st ≡ true → MethodFits m → AllBelow (map method_key before) (method_key m)
-    → InClass done (in_stage st done (with_virtuals o before) None b n) (keyed_text (virtual_line m)) (with_virtuals o (before ++ coded m None ∷ []))
+virtual_line_runs : (form : Form) (done : List Class) (o : Open) (st : Stage) (b : Body) (n : ℕ) (before : List Method) (m : Method) → is_in_class st ≡ true → MethodFits m → AllBelow (map method_key before) (method_key m)
+    → InClass form done (in_stage st done (with_virtuals o before) None b n) (keyed_text (virtual_line m)) (with_virtuals o (before ++ coded m None ∷ []))
 unfolding may_stand
-virtual_line_runs done o st b n before m k f h =
+virtual_line_runs form done o st b n before m k f h =
     let s = in_stage st done (with_virtuals o before) None b n in
     let d = owned b false (method_key m) in
     let t = in_stage Behind done (with_virtuals o (before ++ coded m None ∷ [])) None d (n + 1) in
     let l = virtual_line (coded m None) in
-    record { stage = Behind; body = d; lines = n + 1; runs = keyed_runs s t l refl f.0 k (virtual_goes_last (noted (counted s) l) (coded m None) h); in_class = refl }
+    record { stage = Behind; body = d; lines = n + 1; runs = keyed_runs form s t l tt refl f.0 k (virtual_goes_last (noted (counted s) l) (coded m None) h); in_class = refl }
 
-virtual_step : (done : List Class) (o : Open) (st : Stage) (b : Body) (n : ℕ) (before : List Method) (m : Method) → is_in_class st ≡ true → MethodFits m → AllBelow (map method_key before) (method_key m)
-    → InClass done (in_stage st done (with_virtuals o before) None b n) (virtual_text m) (with_virtuals o (before ++ m ∷ []))
+virtual_step : (form : Form) (done : List Class) (o : Open) (st : Stage) (b : Body) (n : ℕ) (before : List Method) (m : Method) → is_in_class st ≡ true → MethodFits m → AllBelow (map method_key before) (method_key m)
+    → InClass form done (in_stage st done (with_virtuals o before) None b n) ((virtual_text form) m) (with_virtuals o (before ++ m ∷ []))
 unfolding virtual_line_runs
-virtual_step done o st b n before m k f h =
-    in_then done (in_stage st done (with_virtuals o before) None b n) (keyed_text (virtual_line m)) (body_text m.code) (with_virtuals o (before ++ coded m None ∷ [])) (with_virtuals o (before ++ m ∷ []))
-    (virtual_line_runs done o st b n before m k f h)
-    (body_runs done (with_virtuals o) false b (n + 1) before m m.code (λ ms k c. refl) h f.1)
+virtual_step form done o st b n before m k f h =
+    in_then form done (in_stage st done (with_virtuals o before) None b n) (keyed_text (virtual_line m)) ((body_text form) m.code) (with_virtuals o (before ++ coded m None ∷ [])) (with_virtuals o (before ++ m ∷ []))
+    (virtual_line_runs form done o st b n before m k f h)
+    (body_runs form done (with_virtuals o) false b (n + 1) before m m.code (λ ms k c. refl) h f.1)
 
-pub virtuals_run : (done : List Class) (o : Open) (ms : List Method) (st : Stage) (b : Body) (n : ℕ) → is_in_class st ≡ true → AllByRecursion MethodFits ms → KeysAreSorted (map method_key ms)
-    → InClass done (in_stage st done (with_virtuals o []) None b n) (flat_map virtual_text ms) (with_virtuals o ms)
-virtuals_run done o ms st b n k f s = each_runs done virtual_text (with_virtuals o) MethodFits method_key (virtual_step done o) ms [] st b n k f s
+pub virtuals_run : (form : Form) (done : List Class) (o : Open) (ms : List Method) (st : Stage) (b : Body) (n : ℕ) → is_in_class st ≡ true → AllByRecursion MethodFits ms → KeysAreSorted (map method_key ms)
+    → InClass form done (in_stage st done (with_virtuals o []) None b n) (flat_map (virtual_text form) ms) (with_virtuals o ms)
+virtuals_run form done o ms st b n k f s = each_runs form done (virtual_text form) (with_virtuals o) MethodFits method_key (virtual_step form done o) ms [] st b n k f s

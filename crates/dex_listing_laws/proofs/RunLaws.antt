@@ -10,20 +10,25 @@ use Rattle.dex_words.specs.Words.{Word, plain_word, text_in_quotes, IsGraphic, I
 use Rattle.dex_base.proofs.NameUnits.{all_append}
 use Rattle.dex_lines.specs.declared.stage.Stage.TheVariants.{Top}
 use Rattle.dex_draft.specs.States.{State, start}
-use Rattle.dex_listing.specs.Text.{lines, Takes, Reads, IsListing}
-use Rattle.dex_listing_laws.proofs.Runs.{RunsTo}
+use Rattle.dex_labels.specs.Lines.{lines}
+use Rattle.dex_listing.specs.Text.{Reading, Takes, Reads, IsListing}
+use Rattle.dex_lines.specs.declared.form.Form.TheVariants.{One}
+use Rattle.dex_listing_laws.proofs.Runs.{Frame, bare, at, RunsInto, RunsTo}
 
-pub runs_join : (s t u : State) (a b : List ℕ) → RunsTo s a t → RunsTo t b u → RunsTo s (a ++ b) u
-runs_join s t u a b f g rest v r = subst (λ (x : List ℕ). Reads s (lines x) v) (sym (append_assoc a b rest)) (f (b ++ rest) v (g rest v r))
+pub runs_joined : (f g h : Frame) (s t u : State) (a b : List ℕ) → RunsInto f s a g t → RunsInto g t b h u → RunsInto f s (a ++ b) h u
+runs_joined f g h s t u a b x y rest v r = subst (λ (t : List ℕ). Reads (at f s) (lines t) [] v) (sym (append_assoc a b rest)) (x (b ++ rest) v (y rest v r))
+
+pub runs_join : (f : Frame) (s t u : State) (a b : List ℕ) → RunsTo f s a t → RunsTo f t b u → RunsTo f s (a ++ b) u
+runs_join f s t u a b x y = runs_joined f f f s t u a b x y
 
 no_lines : lines [] ≡ []
 unfolding lines
 no_lines = refl
 
-pub runs_whole : (text : List ℕ) (p : Program) (t : State) → RunsTo start text t → t.stage ≡ Top → t.late ≡ None → t.done ≡ p → WellFormed p → IsListing text p
-runs_whole text p t f top late done formed = record {
-  end = t;
-  read = subst (λ (x : List ℕ). Reads start (lines x) t) (append-nil text) (f [] t (subst (λ (ls : List (List ℕ)). Reads t ls t) (sym no_lines) refl));
+pub runs_whole : (g : Frame) (text : List ℕ) (p : Program) (t : State) → RunsInto (bare One) start text g t → t.stage ≡ Top → t.late ≡ None → t.done ≡ p → WellFormed p → IsListing text p
+runs_whole g text p t x top late done formed = record {
+  end = at g t;
+  read = subst (λ (b : List ℕ). Reads (at (bare One) start) (lines b) [] (at g t)) (append-nil text) (x [] (at g t) (subst (λ (ls : List (List ℕ)). Reads (at g t) ls [] (at g t)) (sym no_lines) refl));
   whole = top;
   targets = late;
   classes = done;
@@ -34,20 +39,26 @@ runs_whole text p t f top late done formed = record {
 abbrev pub IsLine : List ℕ → Type 0
 IsLine l = AllByRecursion (λ c. c ≢ 10) l
 
-line_first : (l rest : List ℕ) → IsLine l → lines (l ++ (10 ∷ rest)) ≡ l ∷ lines rest
+pub line_first : (l rest : List ℕ) → IsLine l → lines (l ++ (10 ∷ rest)) ≡ l ∷ lines rest
 unfolding lines
 line_first [] rest h = refl
 line_first (c ∷ cs) rest h = rw (ne_eqb c 10 h.0, line_first cs rest h.1) refl
 
--- a line and its feed
-pub line_runs : (s t : State) (l : List ℕ) → IsLine l → Takes s l t → RunsTo s (l ++ 10 ∷ []) t
-line_runs s t l h k rest u r =
+-- a line and its feed, and the text behind it
+pub line_is_first : (l text rest : List ℕ) → IsLine l → lines (((l ++ 10 ∷ []) ++ text) ++ rest) ≡ l ∷ lines (text ++ rest)
+line_is_first l text rest h = ap lines (append_assoc (l ++ 10 ∷ []) text rest ∙ append_assoc l (10 ∷ []) (text ++ rest)) ∙ line_first l (text ++ rest) h
+
+pub line_reads : (s t : Reading) (l text rest : List ℕ) (u : Reading) → IsLine l → Takes s (lines (text ++ rest) ++ []) l t → Reads t (lines (text ++ rest)) [] u → Reads s (lines (((l ++ 10 ∷ []) ++ text) ++ rest)) [] u
+line_reads s t l text rest u h k r = subst (λ (ls : List (List ℕ)). Reads s ls [] u) (sym (line_is_first l text rest h)) (t, k, r)
+
+pub line_runs : (f g : Frame) (s t : State) (l : List ℕ) → IsLine l → ((ls : List (List ℕ)) → Takes (at f s) ls l (at g t)) → RunsInto f s (l ++ 10 ∷ []) g t
+line_runs f g s t l h k rest u r =
     let e : lines ((l ++ 10 ∷ []) ++ rest) ≡ l ∷ lines rest = ap lines (append_assoc l (10 ∷ []) rest) ∙ line_first l rest h in
-    subst (λ (ls : List (List ℕ)). Reads s ls u) (sym e) (t, k, r)
+    subst (λ (ls : List (List ℕ)). Reads (at f s) ls [] u) (sym e) (at g t, k (lines rest ++ []), r)
 
 -- ---- written words have no line feed
 
-graphic_line : (w : List ℕ) → AllByRecursion IsGraphic w → IsLine w
+pub graphic_line : (w : List ℕ) → AllByRecursion IsGraphic w → IsLine w
 graphic_line [] h = tt
 graphic_line (c ∷ w) h = ((λ e. let g = h.0.0 in omega arith), graphic_line w h.1)
 

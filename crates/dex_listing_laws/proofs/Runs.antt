@@ -1,5 +1,5 @@
 -- Whole lines in front of a text.
-use Rattle.std.proofs.Common.{◌≡◌, ℕ, ◌≤◌, true, List, ◌++◌, Option}
+use Rattle.std.proofs.Common.{◌≡◌, ℕ, ◌≤◌, true, List, [], ◌++◌, Option}
 use Rattle.std.specs.List.{AllByRecursion}
 use Rattle.dex_program.specs.Content.{Catch, Try, Class}
 use Rattle.dex_lines.specs.declared.stage.Stage.{Stage}
@@ -7,11 +7,35 @@ use Rattle.dex_lines.specs.declared.stage.Stage.TheVariants.{Insns}
 use Rattle.dex_lines.specs.Places.{is_in_code}
 use Rattle.dex_lines.specs.Needs.{Need}
 use Rattle.dex_draft.specs.States.{State, Open, Body, all_tries}
-use Rattle.dex_listing.specs.Text.{lines, Reads}
+use Rattle.dex_labels.specs.Lines.{lines}
+use Rattle.dex_lines.specs.declared.form.Form.{Form}
+use Rattle.dex_labels.specs.Labels.{Label}
+use Rattle.dex_listing.specs.Text.{Reading, Reads}
 
--- Read from state s, the text leads to state t, whatever follows it.
-abbrev pub RunsTo : State → List ℕ → State → Type 0
-RunsTo s text t = (rest : List ℕ) (u : State) → Reads t (lines rest) u → Reads s (lines (text ++ rest)) u
+-- What holds beside the state: the form of the listing, and the labels of the open code.
+pub record Frame : Type 0 where
+  pub form : Form
+  pub labels : List Label
+
+-- Outside of codes there are no labels.
+abbrev pub bare : Form → Frame
+bare form = record { form = form; labels = [] }
+
+-- In a form, with these labels.
+abbrev pub frame : Form → List Label → Frame
+frame form es = record { form = form; labels = es }
+
+-- A listing that was read to this state.
+abbrev pub at : Frame → State → Reading
+at f s = record { form = f.form; labels = f.labels; base = s }
+
+-- Read from state s in one frame, the text leads to state t in another, whatever follows it.
+abbrev pub RunsInto : Frame → State → List ℕ → Frame → State → Type 0
+RunsInto f s text g t = (rest : List ℕ) (u : Reading) → Reads (at g t) (lines rest) [] u → Reads (at f s) (lines (text ++ rest)) [] u
+
+-- In the same frame.
+abbrev pub RunsTo : Frame → State → List ℕ → State → Type 0
+RunsTo f s text t = RunsInto f s text f t
 
 -- No line needs more instructions than the count.
 abbrev pub NeedsFit : ℕ → List Need → Type 0
@@ -30,7 +54,7 @@ abbrev pub with_handlers : Body → List Try → ℕ → ℕ → List Catch → 
 with_handlers b ts from to xs needs = record b { tries = ts; from = from; to = to; catches = xs; needs = needs }
 
 -- From state s, the text leads into the same code with these tries.
-pub record Tried (c : ℕ) (done : List Class) (o : Open) (late : Option ℕ) (b : Body) (s : State) (text : List ℕ) (ts : List Try) : Type 0 where
+pub record Tried (f : Frame) (c : ℕ) (done : List Class) (o : Open) (late : Option ℕ) (b : Body) (s : State) (text : List ℕ) (ts : List Try) : Type 0 where
   pub stage : Stage
   pub tries : List Try
   pub from : ℕ
@@ -38,7 +62,7 @@ pub record Tried (c : ℕ) (done : List Class) (o : Open) (late : Option ℕ) (b
   pub catches : List Catch
   pub needs : List Need
   pub lines : ℕ
-  pub runs : RunsTo s text (in_stage stage done o late (with_handlers b tries from to catches needs) lines)
+  pub runs : RunsTo f s text (in_stage stage done o late (with_handlers b tries from to catches needs) lines)
   pub in_code : is_in_code stage ≡ true
   pub has : all_tries stage (with_handlers b tries from to catches needs) ≡ ts
   pub fit : NeedsFit c needs

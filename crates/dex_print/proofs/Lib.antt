@@ -3,3 +3,4 @@ pub mod PrintedLaws
 pub mod MadeLaws
 pub mod RowLaws
 pub mod InsnLaws
+pub mod MarkLaws

@@ -9,13 +9,17 @@ use Rattle.dex_slots.specs.declared.key.Key.TheVariants as key
 use Rattle.dex_slots.specs.declared.slot.Slot.{Slot}
 use Rattle.dex_slots.specs.declared.slot.Slot.TheVariants as slot
 use Rattle.dex_slots.specs.Keys.{key_text, same, find_key, value_keys}
-use Rattle.dex_slots.specs.Slots.{SpellsSlots, have_forms}
-use Rattle.dex_slots.specs.Shown.{shown, shown_all, FitSlots}
-use Rattle.dex_slots.proofs.ShownLaws.{shown_forms, shown_spelled}
+use Rattle.dex_slots.specs.declared.slot.Mark.TheVariants.{Target}
+use Rattle.dex_slots.specs.Data.{Datum, word}
+use Rattle.dex_slots.specs.Slots.{SpellsSlots, has_form, have_forms}
+use Rattle.dex_slots.specs.Shown.{shown, shown_all, FitsSlot, FitSlots}
+use Rattle.dex_slots.proofs.ShownLaws.{shown_form, shown_forms, shown_spelled}
+use Rattle.dex_lines.specs.declared.form.Form.{Form}
+use Rattle.dex_lines.specs.declared.form.Form.TheVariants.{One, Two}
 use Rattle.dex_shapes.specs.declared.due.Due.TheVariants as due
 use Rattle.dex_shapes.specs.Shapes.{value_slots, slot_at, due_behind_word, due_after, due_behind}
-use Rattle.dex_print.specs.Reading.{slots_of, data_of, words_of, FitOperands}
-use Rattle.dex_print.specs.Operands.{Operand, keyword, named_operands, truth_key, value_operands, values_operands}
+use Rattle.dex_print.specs.Reading.{slots_of, data_of, words_of, words_in, FitOperands}
+use Rattle.dex_print.specs.Operands.{Operand, shown_in, target_word, keyword, named_operands, truth_key, value_operands, values_operands}
 
 -- ---- operands as slots, data and words
 
@@ -32,6 +36,62 @@ printed_forms os h = subst (λ (ws : List Word). have_forms (slots_of os) ws ≡
 
 pub printed_spelled : (os : List Operand) → FitOperands os → SpellsSlots (slots_of os) (words_of os) (data_of os)
 printed_spelled os h = subst (λ (ws : List Word). SpellsSlots (slots_of os) ws (data_of os)) (words_all os) (shown_spelled (slots_of os) (data_of os) (fits_all os h))
+
+pub words_join : (os ps : List Operand) → words_of (os ++ ps) ≡ words_of os ++ words_of ps
+words_join [] ps = refl
+words_join (o ∷ os) ps = ap (λ ws. shown o.slot o.says ∷ ws) (words_join os ps)
+
+-- ---- the same in a form
+
+target_form : (form : Form) (most n : ℕ) → has_form (slot.Word Target most) (target_word form n) ≡ true
+target_form One most n = refl
+target_form Two most n = refl
+
+form_in : (form : Form) (s : Slot) (d : Datum) → FitsSlot s d → has_form s (shown_in form s d) ≡ true
+form_in form (slot.Word Target most) (word n) h = target_form form most n
+form_in form s d h = shown_form s d h
+
+pub forms_in : (form : Form) (os : List Operand) → FitOperands os → have_forms (slots_of os) (words_in form os) ≡ true
+unfolding have_forms
+forms_in form [] h = refl
+forms_in form (o ∷ os) h = rw (form_in form o.slot o.says h.0) (forms_in form os h.1)
+
+pub join_in : (form : Form) (os ps : List Operand) → words_in form (os ++ ps) ≡ words_in form os ++ words_in form ps
+join_in form [] ps = refl
+join_in form (o ∷ os) ps = ap (λ ws. shown_in form o.slot o.says ∷ ws) (join_in form os ps)
+
+named_words : (form : Form) (which : Name) → words_in form (named_operands which) ≡ words_of (named_operands which)
+named_words form (OfText us) = refl
+named_words form (OfDesc d) = refl
+named_words form (OfField f) = refl
+named_words form (OfMethod m) = refl
+
+-- no target stands in a value
+mutual
+  pub value_words : (form : Form) (v : Value) → words_in form (value_operands v) ≡ words_of (value_operands v)
+  value_words form (content.Byte z) = refl
+  value_words form (content.Short z) = refl
+  value_words form (content.Char n) = refl
+  value_words form (content.Int z) = refl
+  value_words form (content.Long z) = refl
+  value_words form (content.Float n) = refl
+  value_words form (content.Double n) = refl
+  value_words form (content.Named which) = named_words form which
+  value_words form (content.Enum f) = refl
+  value_words form (content.Array vs) =
+      let c = keyword key.Close ∷ [] in
+      let e : words_in form (values_operands vs ++ c) ≡ words_of (values_operands vs ++ c) = join_in form (values_operands vs) c ∙ ap (λ ws. ws ++ words_of c) (values_words form vs) ∙ sym (words_join (values_operands vs) c) in
+      ap (λ ws. plain_word (key_text key.Array) ∷ plain_word (key_text key.Open) ∷ ws) e
+  value_words form content.Null = refl
+  value_words form (content.Boolean b) = refl
+
+  values_words : (form : Form) (vs : Values) → words_in form (values_operands vs) ≡ words_of (values_operands vs)
+  values_words form no_values = refl
+  values_words form (more_values v vs) =
+      join_in form (value_operands v) (values_operands vs)
+      ∙ ap (λ ws. ws ++ words_in form (values_operands vs)) (value_words form v)
+      ∙ ap (λ ws. words_of (value_operands v) ++ ws) (values_words form vs)
+      ∙ sym (words_join (value_operands v) (values_operands vs))
 
 -- ---- the slots of a value
 
@@ -76,10 +136,6 @@ close_then n rest = refl
 open_then : (n : ℕ) (rest : List Word) → value_slots (due.Value n) (plain_word (key_text key.Array) ∷ plain_word (key_text key.Open) ∷ rest) ≡ behind_slots (slot.Key key.Array ∷ slot.Key key.Open ∷ []) (value_slots (due.Value (suc n)) rest)
 unfolding value_slots slot_at due_behind_word same key_text find_key
 open_then n rest = rw (add-one n) (behind_two (slot.Key key.Array) (slot.Key key.Open) (value_slots (due.Value (suc n)) rest))
-
-pub words_join : (os ps : List Operand) → words_of (os ++ ps) ≡ words_of os ++ words_of ps
-words_join [] ps = refl
-words_join (o ∷ os) ps = ap (λ ws. shown o.slot o.says ∷ ws) (words_join os ps)
 
 pub slots_join : (os ps : List Operand) → slots_of (os ++ ps) ≡ slots_of os ++ slots_of ps
 slots_join [] ps = refl

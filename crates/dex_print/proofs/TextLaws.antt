@@ -1,11 +1,12 @@
 -- Texts that grow by a piece.
-use Rattle.std.proofs.Common.{◌≡◌, ℕ, ℤ, zero, suc, min, ◌+◌, ◌<◌, ◌≤◌, inl, inr, List, [], ◌∷◌, ◌++◌, length, get_or, take, map, Some, None, slice_get, refl, sym, ap, ◌∙◌, append_assoc, arith}
+use Rattle.std.proofs.Common.{◌≡◌, ℕ, ℤ, zero, suc, min, ◌+◌, ◌<◌, ◌≤◌, inl, inr, List, [], ◌∷◌, ◌++◌, length, get_or, take, map, Some, None, slice_get, refl, sym, ap, ◌∙◌, append_assoc, arith, Result, Ok, Err}
 use Rattle.std.proofs.lemmas.Bool.{cases_lt}
 use Rattle.std.proofs.lemmas.List.{append-nil, map-append, take_all, take_more, length-map, length-take}
 use Rattle.std.proofs.lemmas.Grind.{flat_map-append}
-use Rattle.std.specs.Fmt.{decimal, signed_decimal}
+use Rattle.std.specs.Result.{OnOk}
+use Rattle.std.specs.Fmt.{signed_decimal}
 use Rattle.dex_program.specs.Content as content
-use Rattle.dex_program.specs.Content.{Value, Insn, Member}
+use Rattle.dex_program.specs.Content.{Name, OfText, OfDesc, OfField, OfMethod, Value, Insn, Member}
 use Rattle.dex_program.specs.View.{value, insn, member}
 use Rattle.dex_program.specs.declared.value.Value.{Value as InValue}
 use Rattle.dex_program.specs.declared.insn.Insn.{Insn as InInsn}
@@ -13,21 +14,50 @@ use Rattle.dex_program.specs.declared.class.Member.{Member as InMember}
 use Rattle.dex_words.specs.Words.{word_bytes}
 use Rattle.dex_slots.specs.declared.slot.Slot.TheVariants as slot
 use Rattle.dex_slots.specs.declared.key.Key.TheVariants as key
-use Rattle.dex_slots.specs.Data.{int}
+use Rattle.dex_slots.specs.Data.{byte, int, said}
 use Rattle.dex_slots.specs.Shown.{shown}
+use Rattle.dex_shapes.specs.Shapes.{register4}
 use Rattle.dex_lines.specs.Lines.{static_line}
-use Rattle.dex_print.specs.Operands.{Operand, operand, operand_text, keyword, to, pair_operands, value_operands, values_operands}
+use Rattle.dex_lines.specs.declared.form.Form.{Form}
+use Rattle.dex_print.specs.Operands.{Operand, operand, operand_text, operand_text_in, shown_in, keyword, v4, name_operand, to, pair_operands, value_operands, values_operands}
 use Rattle.dex_print.specs.Printed.{keyed_text, insn_text}
-use Rattle.dex_print.specs.Canon.{insns_text, statics_text}
+use Rattle.dex_print.specs.Canon.{mark_text, insns_text, statics_text}
+
+-- what follows from a clause of an answer
+pub followed : {T E P Q : Type 0} (r : Result T E) → (P → Q) → OnOk r P → OnOk r Q
+followed (Ok v) f h = f h
+followed (Err e) f h = h
 
 pub text_append : (os ps : List Operand) → operand_text (os ++ ps) ≡ operand_text os ++ operand_text ps
 text_append os ps = flat_map-append (λ (o : Operand). 32 ∷ word_bytes (shown o.slot o.says)) os ps
+
+pub text_append_in : (form : Form) (os ps : List Operand) → operand_text_in form (os ++ ps) ≡ operand_text_in form os ++ operand_text_in form ps
+text_append_in form os ps = flat_map-append (λ (o : Operand). 32 ∷ word_bytes (shown_in form o.slot o.says)) os ps
 
 pub take_least : {X : Type 0} (n : ℕ) (xs : List X) → take (min n (length xs)) xs ≡ take n xs
 take_least n xs = elim (cases_lt n (length xs)) [
   | inl h ↦ let e : min n (length xs) ≡ n = omega arith in rw e refl
   | inr h ↦ let e : min n (length xs) ≡ length xs = omega arith in rw (e, take_all (length xs) xs (omega arith)) (sym (take_all n xs h))
 ]
+
+-- ---- operands without targets, which both forms show alike
+
+registers_text : (form : Form) (rs : List ℕ) → operand_text_in form (map v4 rs) ≡ operand_text (map v4 rs)
+registers_text form [] = refl
+registers_text form (r ∷ rs) = ap (λ t. (32 ∷ word_bytes (shown register4 (byte r))) ++ t) (registers_text form rs)
+
+close_text : (form : Form) (which : Name) → operand_text_in form (keyword key.Close ∷ name_operand which ∷ []) ≡ operand_text (keyword key.Close ∷ name_operand which ∷ [])
+close_text form (OfText us) = refl
+close_text form (OfDesc d) = refl
+close_text form (OfField f) = refl
+close_text form (OfMethod m) = refl
+
+pub call_text : (form : Form) (rs : List ℕ) (which : Name) → operand_text_in form (keyword key.Open ∷ (map v4 rs ++ (keyword key.Close ∷ name_operand which ∷ []))) ≡ operand_text (keyword key.Open ∷ (map v4 rs ++ (keyword key.Close ∷ name_operand which ∷ [])))
+call_text form rs which =
+    let a = map v4 rs in
+    let b = keyword key.Close ∷ name_operand which ∷ [] in
+    ap (λ t. (32 ∷ word_bytes (shown (slot.Key key.Open) (said key.Open))) ++ t)
+    (text_append_in form a b ∙ ap (λ t. t ++ operand_text_in form b) (registers_text form rs) ∙ ap (λ t. operand_text a ++ t) (close_text form which) ∙ sym (text_append a b))
 
 -- ---- pairs
 
@@ -37,16 +67,16 @@ pairs_more (a ∷ ks) [] i k t h l = absurd (omega arith)
 pairs_more (a ∷ ks) (b ∷ ts) zero k t h l = refl
 pairs_more (a ∷ ks) (b ∷ ts) (suc i) k t h l = ap (λ os. operand slot.Int (int a) ∷ to b ∷ os) (pairs_more ks ts i k t (omega arith) (omega arith))
 
-pub pair_text : (old before mid new : List ℕ) (ks : List ℤ) (ts : List ℕ) (i : ℕ) (k : ℤ) (t : ℕ) → i < length ks → i < length ts → before ≡ old ++ operand_text (pair_operands (take i ks) (take i ts))
-    → mid ≡ before ++ (32 ∷ signed_decimal (get_or ks i k)) → new ≡ mid ++ (32 ∷ 64 ∷ decimal (get_or ts i t)) → new ≡ old ++ operand_text (pair_operands (take (i + 1) ks) (take (i + 1) ts))
-pair_text old before mid new ks ts i k t h l e f g =
+pub pair_text : (form : Form) (old before mid new : List ℕ) (ks : List ℤ) (ts : List ℕ) (i : ℕ) (k : ℤ) (t : ℕ) → i < length ks → i < length ts → before ≡ old ++ operand_text_in form (pair_operands (take i ks) (take i ts))
+    → mid ≡ before ++ (32 ∷ signed_decimal (get_or ks i k)) → new ≡ mid ++ operand_text_in form (to (get_or ts i t) ∷ []) → new ≡ old ++ operand_text_in form (pair_operands (take (i + 1) ks) (take (i + 1) ts))
+pair_text form old before mid new ks ts i k t h l e f g =
     let n : i + 1 ≡ suc i = omega arith in
     let os = pair_operands (take i ks) (take i ts) in
-    let m = operand_text os in
+    let m = operand_text_in form os in
     let x = 32 ∷ signed_decimal (get_or ks i k) in
-    let y = 32 ∷ 64 ∷ decimal (get_or ts i t) in
-    rw (n, pairs_more ks ts i k t h l, text_append os (operand slot.Int (int (get_or ks i k)) ∷ to (get_or ts i t) ∷ []), g, f, e)
-    (append_assoc (old ++ m) x y ∙ append_assoc old m (x ++ y) ∙ ap (λ z. old ++ (m ++ (x ++ z))) (sym (append-nil y)))
+    let y = operand_text_in form (to (get_or ts i t) ∷ []) in
+    rw (n, pairs_more ks ts i k t h l, text_append_in form os (operand slot.Int (int (get_or ks i k)) ∷ to (get_or ts i t) ∷ []), g, f, e)
+    (append_assoc (old ++ m) x y ∙ append_assoc old m (x ++ y))
 
 pub pairs_whole : (ks : List ℤ) (ts : List ℕ) (i : ℕ) → min (length ks) (length ts) ≤ i → pair_operands (take i ks) (take i ts) ≡ pair_operands ks ts
 pairs_whole [] ts zero h = refl
@@ -80,20 +110,44 @@ array_text old before new vs i h e f =
 
 -- ---- instructions
 
-insns_join : (k : ℕ) (is : List Insn) (i : Insn) → insns_text k (is ++ i ∷ []) ≡ insns_text k is ++ insn_text (k + length is) i
-insns_join k [] i = let n : k + 0 ≡ k = omega arith in rw n (append-nil (insn_text k i))
-insns_join k (j ∷ is) i =
-    let n : k + 1 + length is ≡ k + suc (length is) = omega arith in
-    ap (λ t. insn_text k j ++ t) (insns_join (k + 1) is i) ∙ rw n (sym (append_assoc (insn_text k j) (insns_text (k + 1) is) (insn_text (k + suc (length is)) i)))
+-- instructions and the labels before them
+abbrev pub insns_front : Form → List ℕ → ℕ → List Insn → List ℕ
+insns_front form ns k [] = []
+insns_front form ns k (i ∷ is) = mark_text form ns k ++ (insn_text form k i ++ insns_front form ns (k + 1) is)
 
-pub insn_more : (old before new : List ℕ) (is : List InInsn) (i : ℕ) (x : InInsn) → i < length is → before ≡ old ++ insns_text 0 (map insn (take i is)) → new ≡ before ++ insn_text i (insn (get_or is i x)) → new ≡ old ++ insns_text 0 (map insn (take (i + 1) is))
-insn_more old before new is i x h e f =
+front_join : (form : Form) (ns : List ℕ) (k : ℕ) (is : List Insn) (i : Insn) → insns_front form ns k (is ++ i ∷ []) ≡ insns_front form ns k is ++ (mark_text form ns (k + length is) ++ insn_text form (k + length is) i)
+front_join form ns k [] i = let n : k + 0 ≡ k = omega arith in rw n (ap (λ t. mark_text form ns k ++ t) (append-nil (insn_text form k i)))
+front_join form ns k (j ∷ is) i =
+    let n : k + 1 + length is ≡ k + suc (length is) = omega arith in
+    let m = mark_text form ns k in let x = insn_text form k j in let f = insns_front form ns (k + 1) is in
+    let z = mark_text form ns (k + suc (length is)) ++ insn_text form (k + suc (length is)) i in
+    ap (λ t. m ++ (x ++ t)) (front_join form ns (k + 1) is i) ∙ rw n (sym (append_assoc m (x ++ f) z ∙ ap (λ t. m ++ t) (append_assoc x f z)))
+
+pub front_whole : (form : Form) (ns : List ℕ) (k : ℕ) (is : List Insn) → insns_text form ns k is ≡ insns_front form ns k is ++ mark_text form ns (k + length is)
+front_whole form ns k [] = let n : k + 0 ≡ k = omega arith in rw n refl
+front_whole form ns k (j ∷ is) =
+    let n : k + 1 + length is ≡ k + suc (length is) = omega arith in
+    let m = mark_text form ns k in let x = insn_text form k j in let f = insns_front form ns (k + 1) is in
+    let z = mark_text form ns (k + suc (length is)) in
+    ap (λ t. m ++ (x ++ t)) (front_whole form ns (k + 1) is) ∙ rw n (sym (append_assoc m (x ++ f) z ∙ ap (λ t. m ++ t) (append_assoc x f z)))
+
+pub insn_more : (form : Form) (ns old before mid new : List ℕ) (is : List InInsn) (i : ℕ) (x : InInsn) → i < length is → before ≡ old ++ insns_front form ns 0 (map insn (take i is)) → mid ≡ before ++ mark_text form ns i → new ≡ mid ++ insn_text form i (insn (get_or is i x))
+    → new ≡ old ++ insns_front form ns 0 (map insn (take (i + 1) is))
+insn_more form ns old before mid new is i x h e g f =
     let n : map insn (take (i + 1) is) ≡ map insn (take i is) ++ insn (get_or is i x) ∷ [] = ap (map insn) (take_more is i x h) ∙ map-append insn (take i is) (get_or is i x ∷ []) in
     let l : length (map insn (take i is)) ≡ i = (let a = length-map (take i is) insn in let b = length-take i is in omega arith) in
-    let j = insns_join 0 (map insn (take i is)) (insn (get_or is i x)) in
     let z : 0 + length (map insn (take i is)) ≡ i = omega arith in
-    f ∙ ap (λ t. t ++ insn_text i (insn (get_or is i x))) e ∙ append_assoc old (insns_text 0 (map insn (take i is))) (insn_text i (insn (get_or is i x)))
-    ∙ ap (λ t. old ++ t) (sym (ap (insns_text 0) n ∙ j ∙ ap (λ k. insns_text 0 (map insn (take i is)) ++ insn_text k (insn (get_or is i x))) z))
+    let m = mark_text form ns i in let t = insn_text form i (insn (get_or is i x)) in let p = insns_front form ns 0 (map insn (take i is)) in
+    f ∙ ap (λ y. y ++ t) (g ∙ ap (λ y. y ++ m) e) ∙ append_assoc (old ++ p) m t ∙ append_assoc old p (m ++ t)
+    ∙ ap (λ y. old ++ y) (sym (ap (insns_front form ns 0) n ∙ front_join form ns 0 (map insn (take i is)) (insn (get_or is i x)) ∙ ap (λ k. p ++ (mark_text form ns k ++ insn_text form k (insn (get_or is i x)))) z))
+
+pub insns_end : (form : Form) (ns old before new : List ℕ) (is : List InInsn) (i : ℕ) → length is ≤ i → before ≡ old ++ insns_front form ns 0 (map insn (take i is)) → new ≡ before ++ mark_text form ns (length is) → new ≡ old ++ insns_text form ns 0 (map insn is)
+insns_end form ns old before new is i h e f =
+    let n = take_all i is h in
+    let l : 0 + length (map insn is) ≡ length is = (let a = length-map is insn in omega arith) in
+    let p = insns_front form ns 0 (map insn is) in let m = mark_text form ns (length is) in
+    f ∙ ap (λ y. y ++ m) (e ∙ ap (λ (x : List InInsn). old ++ insns_front form ns 0 (map insn x)) n) ∙ append_assoc old p m
+    ∙ ap (λ y. old ++ y) (sym (front_whole form ns 0 (map insn is) ∙ ap (λ k. p ++ mark_text form ns k) l))
 
 -- ---- static fields
 

@@ -3,3 +3,4 @@ pub mod Leaves
 pub mod Printed
 pub mod Canon
 pub mod Reading
+pub mod Marks

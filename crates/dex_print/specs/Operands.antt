@@ -4,14 +4,17 @@ use Rattle.std.specs.Prelude.{ℕ, ℤ, Bool, true, false, List, [], ◌∷◌, 
 use Rattle.std.specs.List.{flat_map}
 use Rattle.dex_program.specs.Content as content
 use Rattle.dex_program.specs.Content.{Name, OfText, OfDesc, OfField, OfMethod, Value, Values, no_values, more_values, Insn}
-use Rattle.dex_words.specs.Words.{word_bytes}
+use Rattle.std.specs.Fmt.{decimal}
+use Rattle.dex_words.specs.Words.{Word, plain_word, word_bytes}
 use Rattle.dex_slots.specs.declared.key.Key.{Key}
 use Rattle.dex_slots.specs.declared.key.Key.TheVariants as key
-use Rattle.dex_slots.specs.declared.slot.Mark.TheVariants.{Nothing}
+use Rattle.dex_slots.specs.declared.slot.Mark.TheVariants.{Nothing, Target}
 use Rattle.dex_slots.specs.declared.slot.Slot.{Slot}
 use Rattle.dex_slots.specs.declared.slot.Slot.TheVariants as slot
 use Rattle.dex_slots.specs.Data.{Datum, byte, half, word, wide, tiny, short, int, long, elements, named, constant, said}
 use Rattle.dex_slots.specs.Shown.{shown}
+use Rattle.dex_lines.specs.declared.form.Form.{Form}
+use Rattle.dex_lines.specs.declared.form.Form.TheVariants.{One, Two}
 use Rattle.dex_shapes.specs.Shapes.{register4, register8, register16, target, size}
 
 -- A slot, and what its word says.
@@ -19,9 +22,27 @@ pub record Operand : Type 0 where
   pub slot : Slot
   pub says : Datum
 
+-- The name of instruction k's label.
+abbrev pub label_name : ℕ → List ℕ
+label_name k = 58 ∷ 76 ∷ decimal k
+
+-- A target: `@k`, or the label `:Lk`.
+abbrev pub target_word : Form → ℕ → Word
+target_word One k = plain_word (64 ∷ decimal k)
+target_word Two k = plain_word (label_name k)
+
+-- A datum as it is printed in its slot: targets by the form, all else in one way.
+abbrev pub shown_in : Form → Slot → Datum → Word
+shown_in form (slot.Word Target most) (word n) = target_word form n
+shown_in form s d = shown s d
+
 -- The words of operands, each behind one space.
 abbrev pub operand_text : List Operand → List ℕ
 operand_text os = flat_map (λ o. 32 ∷ word_bytes (shown o.slot o.says)) os
+
+-- The same of operands with targets.
+abbrev pub operand_text_in : Form → List Operand → List ℕ
+operand_text_in form os = flat_map (λ o. 32 ∷ word_bytes (shown_in form o.slot o.says)) os
 
 -- What a slot says.
 abbrev pub operand : Slot → Datum → Operand

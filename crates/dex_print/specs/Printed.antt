@@ -12,7 +12,9 @@ use Rattle.dex_slots.specs.Keys.{key_text}
 use Rattle.dex_slots.specs.Data.{word, half, named, prototype}
 use Rattle.dex_shapes.specs.Shapes.{size}
 use Rattle.dex_lines.specs.Lines.{Line, first_line, open_class, end_class, super_line, implements_line, source_line, static_line, instance_line, direct_line, virtual_line, open_code, end_code, insn_line, try_line, catch_line, catch_all_line}
-use Rattle.dex_print.specs.Operands.{Operand, operand, keyword, to, operand_text, insn_operands, value_operands}
+use Rattle.dex_lines.specs.declared.form.Form.{Form}
+use Rattle.dex_lines.specs.declared.form.Form.TheVariants.{One, Two}
+use Rattle.dex_print.specs.Operands.{Operand, operand, keyword, to, label_name, operand_text, operand_text_in, insn_operands, value_operands}
 
 -- The opcode of an instruction; a payload has the word of its kind in place of a mnemonic.
 abbrev pub insn_word : Insn → List ℕ
@@ -99,6 +101,19 @@ line_operands (catch_all_line k) = to k ∷ []
 abbrev pub keyed_text : Line → List ℕ
 keyed_text line = key_text (line_key line) ++ (operand_text (line_operands line) ++ 10 ∷ [])
 
+-- The same of a line with targets.
+abbrev pub keyed_text_in : Form → Line → List ℕ
+keyed_text_in form line = key_text (line_key line) ++ (operand_text_in form (line_operands line) ++ 10 ∷ [])
+
+-- Behind the number that instruction k gives itself, which is in the first form alone.
+abbrev pub numbered : Form → ℕ → List ℕ → List ℕ
+numbered One k text = decimal k ++ (58 ∷ 32 ∷ text)
+numbered Two k text = text
+
 -- Instruction k, and its line feed.
-abbrev pub insn_text : ℕ → Insn → List ℕ
-insn_text k i = decimal k ++ (58 ∷ 32 ∷ (insn_word i ++ (operand_text (insn_operands i) ++ 10 ∷ [])))
+abbrev pub insn_text : Form → ℕ → Insn → List ℕ
+insn_text form k i = numbered form k (insn_word i ++ (operand_text_in form (insn_operands i) ++ 10 ∷ []))
+
+-- The line of instruction k's label.
+abbrev pub label_text : ℕ → List ℕ
+label_text k = label_name k ++ 10 ∷ []

@@ -13,7 +13,8 @@ use Rattle.dex_slots.specs.declared.slot.Slot.{Slot}
 use Rattle.dex_slots.specs.Data.{Datum}
 use Rattle.dex_slots.specs.Shown.{shown, FitsSlot}
 use Rattle.dex_lines.specs.Lines.{Line, first_line, open_class, end_class, super_line, implements_line, source_line, static_line, instance_line, direct_line, virtual_line, open_code, end_code, insn_line, try_line, catch_line, catch_all_line}
-use Rattle.dex_print.specs.Operands.{Operand, name_operand}
+use Rattle.dex_lines.specs.declared.form.Form.{Form}
+use Rattle.dex_print.specs.Operands.{Operand, name_operand, shown_in}
 
 -- The slots of operands, what they say, and their words.
 abbrev pub slots_of : List Operand → List Slot
@@ -26,6 +27,10 @@ data_of os = map (λ (o : Operand). o.says) os
 -- The words of operands.
 abbrev pub words_of : List Operand → List Word
 words_of os = map (λ (o : Operand). shown o.slot o.says) os
+
+-- The same in a form: targets by the form.
+abbrev pub words_in : Form → List Operand → List Word
+words_in form os = map (λ (o : Operand). shown_in form o.slot o.says) os
 
 -- Each can be printed in its slot.
 abbrev pub FitOperands : List Operand → Type 0

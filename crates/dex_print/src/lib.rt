@@ -1,17 +1,19 @@
 //! Printing of listings: the canonical text of a program.
 //!
 //! ```text
-//! print(alloc, &program)?   // `dex 035`, a line feed, then a block for each class
+//! print(alloc, &program)?   // `dex 035 listing 2`, a line feed, then a block for each class; targets are labels
+//! print_1(alloc, &program)? // `dex 035`, the same with a number before each instruction
 //! ```
 #![tactic(auto)]
 
 mod blocks;
 mod law;
 mod lines;
+mod marks;
 mod operands;
 mod values;
 
-pub use blocks::print;
+pub use blocks::{print, print_1};
 pub use law::{
     printed_instructions_are_read_again, printed_lines_are_read_again,
     printed_values_are_read_again,

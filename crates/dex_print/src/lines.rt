@@ -1,22 +1,22 @@
 //! Single lines, each with its line feed.
 
-ghost use Rattle.std.specs.Prelude.{◌≡◌, ◌++◌, ◌∷◌, [], OnOk, IsOkUnless, Some};
+ghost use Rattle.std.specs.Prelude.{◌≡◌, ℕ, List, ◌++◌, ◌∷◌, [], OnOk, IsOkUnless, Some};
 ghost use Rattle.dex_bytes.specs.Fault.{memory};
 ghost use Rattle.dex_program.specs.View.{desc, str, member, method, value, insn};
 ghost use Rattle.dex_slots.specs.Keys.{key_text};
 ghost use Rattle.dex_slots.specs.declared.key.Key.TheVariants as Key;
 ghost use Rattle.dex_lines.specs.Lines as says;
 ghost use Rattle.dex_print.specs.Operands.{operand_text, keyword, to};
-ghost use Rattle.dex_print.specs.Printed.{type_operand, member_operands, method_operands, keyed_text, insn_word, insn_text};
+ghost use Rattle.dex_print.specs.Printed.{type_operand, member_operands, method_operands, keyed_text, keyed_text_in, insn_word, numbered, insn_text, label_text};
 
-use crate::operands::put_operands;
+use crate::operands::{put_operands, put_target};
 use crate::values::put_value;
 use dex_base::Fault;
 use dex_insn::mnemonic_of;
+use dex_lines::Form;
 use dex_program::{Desc, Insn, Member, Method, Str, Value};
 use dex_slots::{
-    Key, key_text, put_decimal, put_flags, put_key, put_name, put_number, put_proto, put_target,
-    put_text,
+    Key, key_text, put_decimal, put_flags, put_key, put_name, put_number, put_proto, put_text,
 };
 
 /// Appends the first word of a line.
@@ -139,34 +139,34 @@ pub fn put_code_line(out: &mut Vec<u8>, registers: u16, ins: u16, outs: u16) -> 
 }
 
 /// Appends the first line of a try.
-pub fn put_try_line(out: &mut Vec<u8>, from: u32, to: u32) -> Result<(), Fault>
-    ensures ok { OnOk result (out.new.items ≡ out.old.items ++ keyed_text (says.try_line from to)) }
+pub fn put_try_line(out: &mut Vec<u8>, form: Form, from: u32, to: u32) -> Result<(), Fault>
+    ensures ok { OnOk result (out.new.items ≡ out.old.items ++ keyed_text_in form (says.try_line from to)) }
     ensures memory { IsOkUnless result memory }
 {
     put_first(out, Key::Try)?;
-    put_target(out, from)?;
-    put_target(out, to)?;
+    put_target(out, form, from)?;
+    put_target(out, form, to)?;
     put_feed(out)
 }
 
 /// Appends the line of a catch.
-pub fn put_catch_line(out: &mut Vec<u8>, ty: Desc<'_>, at: u32) -> Result<(), Fault>
-    ensures ok { OnOk result (out.new.items ≡ out.old.items ++ keyed_text (says.catch_line (desc ty.entry) at)) }
+pub fn put_catch_line(out: &mut Vec<u8>, form: Form, ty: Desc<'_>, at: u32) -> Result<(), Fault>
+    ensures ok { OnOk result (out.new.items ≡ out.old.items ++ keyed_text_in form (says.catch_line (desc ty.entry) at)) }
     ensures memory { IsOkUnless result memory }
 {
     put_first(out, Key::Catch)?;
     put_name(out, ty.text.units)?;
-    put_target(out, at)?;
+    put_target(out, form, at)?;
     put_feed(out)
 }
 
 /// Appends the line of a catch-all.
-pub fn put_catch_all_line(out: &mut Vec<u8>, at: u32) -> Result<(), Fault>
-    ensures ok { OnOk result (out.new.items ≡ out.old.items ++ keyed_text (says.catch_all_line at)) }
+pub fn put_catch_all_line(out: &mut Vec<u8>, form: Form, at: u32) -> Result<(), Fault>
+    ensures ok { OnOk result (out.new.items ≡ out.old.items ++ keyed_text_in form (says.catch_all_line at)) }
     ensures memory { IsOkUnless result memory }
 {
     put_first(out, Key::CatchAll)?;
-    put_target(out, at)?;
+    put_target(out, form, at)?;
     put_feed(out)
 }
 
@@ -206,14 +206,38 @@ fn insn_word(one: &Insn<'_>) -> &'static str
     }
 }
 
-/// Appends instruction k.
-pub fn put_insn_line(out: &mut Vec<u8>, k: u64, one: &Insn<'_>) -> Result<(), Fault>
-    ensures ok { OnOk result (out.new.items ≡ out.old.items ++ insn_text k (insn one.now)) }
+/// Appends the number that instruction k gives itself.
+fn put_numbered(out: &mut Vec<u8>, form: Form, k: u64) -> Result<(), Fault>
+    ensures ok { OnOk result ((text : List ℕ) → out.new.items ++ text ≡ out.old.items ++ numbered form k text) }
     ensures memory { IsOkUnless result memory }
 {
+    match form {
+        Form::One => {
+            put_decimal(out, k)?;
+            out.extend_from_slice(b": ")?;
+            Ok(())
+        }
+        Form::Two => Ok(()),
+    }
+}
+
+/// Appends the line of instruction k's label.
+pub fn put_label_line(out: &mut Vec<u8>, k: u64) -> Result<(), Fault>
+    ensures ok { OnOk result (out.new.items ≡ out.old.items ++ label_text k) }
+    ensures memory { IsOkUnless result memory }
+{
+    out.extend_from_slice(b":L")?;
     put_decimal(out, k)?;
-    out.extend_from_slice(b": ")?;
+    put_feed(out)
+}
+
+/// Appends instruction k.
+pub fn put_insn_line(out: &mut Vec<u8>, form: Form, k: u64, one: &Insn<'_>) -> Result<(), Fault>
+    ensures ok { OnOk result (out.new.items ≡ out.old.items ++ insn_text form k (insn one.now)) }
+    ensures memory { IsOkUnless result memory }
+{
+    put_numbered(out, form, k)?;
     out.extend_from_slice(insn_word(one).as_bytes())?;
-    put_operands(out, one)?;
+    put_operands(out, form, one)?;
     put_feed(out)
 }

@@ -4,13 +4,14 @@ ghost use Rattle.std.specs.Prelude.{◌≡◌, ◌++◌, ◌∷◌, [], map, tak
 ghost use Rattle.dex_bytes.specs.Fault.{memory};
 ghost use Rattle.dex_program.specs.View.{name, insn};
 ghost use Rattle.dex_slots.specs.declared.key.Key.TheVariants as Key;
-ghost use Rattle.dex_print.specs.Operands.{operand_text, keyword, v4, to, name_operand, pair_operands, element_operands, insn_operands};
+ghost use Rattle.dex_print.specs.Operands.{operand_text, operand_text_in, keyword, v4, to, name_operand, pair_operands, element_operands, insn_operands};
 
 use dex_base::Fault;
+use dex_lines::Form;
 use dex_program::{Insn, Name};
 use dex_slots::{
-    Key, put_elements, put_field, put_key, put_method, put_name, put_number, put_register,
-    put_signed, put_target, put_text,
+    Key, put_decimal, put_elements, put_field, put_key, put_method, put_name, put_number,
+    put_register, put_signed, put_text,
 };
 
 /// Appends a name in the form of its kind.
@@ -37,26 +38,38 @@ fn put_registers(out: &mut Vec<u8>, regs: &[u8]) -> Result<(), Fault>
     Ok(())
 }
 
+/// Appends a space and a target: its number, or its label.
+pub fn put_target(out: &mut Vec<u8>, form: Form, n: u32) -> Result<(), Fault>
+    ensures ok { OnOk result (out.new.items ≡ out.old.items ++ operand_text_in form (to n ∷ [])) }
+    ensures memory { IsOkUnless result memory }
+{
+    match form {
+        Form::One => out.extend_from_slice(b" @")?,
+        Form::Two => out.extend_from_slice(b" :L")?,
+    }
+    put_decimal(out, n as u64)
+}
+
 /// Appends targets.
-fn put_targets(out: &mut Vec<u8>, targets: &[u32]) -> Result<(), Fault>
-    ensures ok { OnOk result (out.new.items ≡ out.old.items ++ operand_text (map to targets.now)) }
+fn put_targets(out: &mut Vec<u8>, form: Form, targets: &[u32]) -> Result<(), Fault>
+    ensures ok { OnOk result (out.new.items ≡ out.old.items ++ operand_text_in form (map to targets.now)) }
     ensures memory { IsOkUnless result memory }
 {
     for target in targets {
-        put_target(out, *target)?;
+        put_target(out, form, *target)?;
     }
     Ok(())
 }
 
 /// Appends keys, each with its target.
-fn put_pairs(out: &mut Vec<u8>, keys: &[i32], targets: &[u32]) -> Result<(), Fault>
-    ensures ok { OnOk result (out.new.items ≡ out.old.items ++ operand_text (pair_operands keys.now targets.now)) }
+fn put_pairs(out: &mut Vec<u8>, form: Form, keys: &[i32], targets: &[u32]) -> Result<(), Fault>
+    ensures ok { OnOk result (out.new.items ≡ out.old.items ++ operand_text_in form (pair_operands keys.now targets.now)) }
     ensures memory { IsOkUnless result memory }
 {
     let count = keys.len().min(targets.len());
     for i in 0..count {
         put_signed(out, keys[i] as i64)?;
-        put_target(out, targets[i])?;
+        put_target(out, form, targets[i])?;
     }
     Ok(())
 }
@@ -104,8 +117,8 @@ fn put_two(out: &mut Vec<u8>, a: u16, b: u16) -> Result<(), Fault>
 
 /// Appends the operands of an instruction, in the order of its format.
 #[rattlefmt::skip]
-pub fn put_operands(out: &mut Vec<u8>, one: &Insn<'_>) -> Result<(), Fault>
-    ensures ok { OnOk result (out.new.items ≡ out.old.items ++ operand_text (insn_operands (insn one.now))) }
+pub fn put_operands(out: &mut Vec<u8>, form: Form, one: &Insn<'_>) -> Result<(), Fault>
+    ensures ok { OnOk result (out.new.items ≡ out.old.items ++ operand_text_in form (insn_operands (insn one.now))) }
     ensures memory { IsOkUnless result memory }
 {
     match *one {
@@ -113,19 +126,19 @@ pub fn put_operands(out: &mut Vec<u8>, one: &Insn<'_>) -> Result<(), Fault>
         Insn::I12x { op: _, a, b } => put_two(out, a as u16, b as u16),
         Insn::I11n { op: _, a, b } => { put_register(out, a as u16)?; put_signed(out, b as i64) }
         Insn::I11x { op: _, a } => put_register(out, a as u16),
-        Insn::I10t { op: _, to } => put_target(out, to),
-        Insn::I20t { op: _, to } => put_target(out, to),
-        Insn::I30t { op: _, to } => put_target(out, to),
+        Insn::I10t { op: _, to } => put_target(out, form, to),
+        Insn::I20t { op: _, to } => put_target(out, form, to),
+        Insn::I30t { op: _, to } => put_target(out, form, to),
         Insn::I22x { op: _, a, b } => put_two(out, a as u16, b),
-        Insn::I21t { op: _, a, to } => { put_register(out, a as u16)?; put_target(out, to) }
-        Insn::I31t { op: _, a, to } => { put_register(out, a as u16)?; put_target(out, to) }
+        Insn::I21t { op: _, a, to } => { put_register(out, a as u16)?; put_target(out, form, to) }
+        Insn::I31t { op: _, a, to } => { put_register(out, a as u16)?; put_target(out, form, to) }
         Insn::I21s { op: _, a, b } => { put_register(out, a as u16)?; put_signed(out, b as i64) }
         Insn::I21h { op: _, a, b } => { put_register(out, a as u16)?; put_signed(out, b as i64) }
         Insn::I21c { op: _, a, name } => { put_register(out, a as u16)?; put_named(out, name) }
         Insn::I31c { op: _, a, name } => { put_register(out, a as u16)?; put_named(out, name) }
         Insn::I23x { op: _, a, b, c } => { put_two(out, a as u16, b as u16)?; put_register(out, c as u16) }
         Insn::I22b { op: _, a, b, c } => { put_two(out, a as u16, b as u16)?; put_signed(out, c as i64) }
-        Insn::I22t { op: _, a, b, to } => { put_two(out, a as u16, b as u16)?; put_target(out, to) }
+        Insn::I22t { op: _, a, b, to } => { put_two(out, a as u16, b as u16)?; put_target(out, form, to) }
         Insn::I22s { op: _, a, b, c } => { put_two(out, a as u16, b as u16)?; put_signed(out, c as i64) }
         Insn::I22c { op: _, a, b, name } => { put_two(out, a as u16, b as u16)?; put_named(out, name) }
         Insn::I32x { op: _, a, b } => put_two(out, a, b),
@@ -137,8 +150,8 @@ pub fn put_operands(out: &mut Vec<u8>, one: &Insn<'_>) -> Result<(), Fault>
             put_number(out, n as u64)?;
             put_named(out, name)
         }
-        Insn::Packed { first, targets } => { put_signed(out, first as i64)?; put_targets(out, targets) }
-        Insn::Sparse { keys, targets } => put_pairs(out, keys, targets),
+        Insn::Packed { first, targets } => { put_signed(out, first as i64)?; put_targets(out, form, targets) }
+        Insn::Sparse { keys, targets } => put_pairs(out, form, keys, targets),
         Insn::Data { width, bytes } => { put_number(out, width as u64)?; put_bytes(out, bytes) }
     }
 }

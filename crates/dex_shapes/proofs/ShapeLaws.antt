@@ -19,7 +19,7 @@ use Rattle.dex_slots.specs.declared.slot.Slot.{Slot}
 use Rattle.dex_slots.specs.declared.slot.Slot.TheVariants as slot
 use Rattle.dex_slots.specs.Keys.{key_text, same, find_key, lead_keys, payload_keys}
 use Rattle.dex_slots.specs.Slots.{has_form, have_forms}
-use Rattle.dex_shapes.specs.Shapes.{Shape, Row, BeginsWithKey, BeginsWithInsn, IsPlainRow, IsInsnRow, HasShape, key_row, payload_row, onto_row, pairs, target}
+use Rattle.dex_shapes.specs.Shapes.{Shape, Row, BeginsWithKey, BeginsWithInsn, IsPlainRow, IsInsnRow, HasShape, HasBareShape, key_row, payload_row, onto_row, pairs, target}
 
 pub both : (a b : Bool) → (a && b) ≡ true → (a ≡ true) × (b ≡ true)
 both true true e = (refl, refl)
@@ -339,3 +339,82 @@ insn_lengths words behind x k ss e b =
     let m = length-map behind word in
     let n = ap length b.words in
     rw e (omega arith)
+
+-- ---- without numbers
+
+-- a keyword is none where there is none
+pub no_key_row : (text : List ℕ) (ws : List Word) (row : Row) → None ≡ find_key lead_keys text → BeginsWithKey text ws row → ⊥
+no_key_row text ws row e b = leadless text ws e row b
+
+pub bare_one : (ws : List Word) (s t : Shape) → HasBareShape ws s → HasBareShape ws t → s ≡ t
+bare_one ws s t p q = elim p [
+  | inl a ↦ elim q [
+    | inl b ↦
+        let i = a.words in let j = b.words in
+        let n : a.behind ≡ b.behind = cc in
+        let r = insn_one ws a.row b.row a.insn b.insn in
+        a.is ∙ rw (n, r) (sym b.is)
+    | inr b ↦
+        let i = a.words in let j = b.words in
+        let m : b.text ≡ a.text = cc in
+        absurd (no_key_row a.text b.behind b.row a.no_lead (subst (λ (u : List ℕ). BeginsWithKey u b.behind b.row) m b.keyed))
+  ]
+  | inr a ↦ elim q [
+    | inl b ↦
+        let i = a.words in let j = b.words in
+        let m : a.text ≡ b.text = cc in
+        absurd (no_key_row b.text a.behind a.row b.no_lead (subst (λ (u : List ℕ). BeginsWithKey u a.behind a.row) m a.keyed))
+    | inr b ↦
+        let i = a.words in let j = b.words in
+        let m : a.text ≡ b.text = cc in let n : a.behind ≡ b.behind = cc in
+        let u = keyed_one b.text b.behind a.row b.row (subst (λ (t : List ℕ). BeginsWithKey t b.behind a.row) m (subst (λ (v : List Word). BeginsWithKey a.text v a.row) n a.keyed)) b.keyed in
+        a.is ∙ rw (n, u) (sym b.is)
+  ]
+]
+
+pub bare_none : (ws : List Word) → ws ≡ [] → (s : Shape) → HasBareShape ws s → ⊥
+bare_none ws e s h = elim h [
+  | inl a ↦ let w = a.words in cc
+  | inr a ↦ let w = a.words in cc
+]
+
+pub bare_quoted : (ws behind : List Word) (us : List ℕ) → ws ≡ text_in_quotes us ∷ behind → (s : Shape) → HasBareShape ws s → ⊥
+bare_quoted ws behind us e s h = elim h [
+  | inl a ↦ let w = a.words in cc
+  | inr a ↦ let w = a.words in cc
+]
+
+-- behind a keyword
+pub bare_keyed_only : (ws behind : List Word) (text : List ℕ) (k : Key) → ws ≡ plain_word text ∷ behind → Some k ≡ find_key lead_keys text → ((row : Row) → BeginsWithKey text behind row → ⊥) → (s : Shape) → HasBareShape ws s → ⊥
+bare_keyed_only ws behind text k e f refuse s h = elim h [
+  | inl a ↦
+      let w = a.words in let i : a.text ≡ text = cc in
+      let g : None ≡ find_key lead_keys text = subst (λ (u : List ℕ). None ≡ find_key lead_keys u) i a.no_lead in
+      let x = f ∙ sym g in cc
+  | inr a ↦
+      let w = a.words in
+      let i : a.text ≡ text = cc in let j : a.behind ≡ behind = cc in
+      refuse a.row (subst (λ (t : List ℕ). BeginsWithKey t behind a.row) i (subst (λ (v : List Word). BeginsWithKey a.text v a.row) j a.keyed))
+]
+
+-- behind any other word
+pub bare_only : (ws behind : List Word) (text : List ℕ) → ws ≡ plain_word text ∷ behind → None ≡ find_key lead_keys text → ((row : Row) → BeginsWithInsn ws row → ⊥) → (s : Shape) → HasBareShape ws s → ⊥
+bare_only ws behind text e f refuse s h = elim h [
+  | inl a ↦ refuse a.row a.insn
+  | inr a ↦
+      let w = a.words in let i : a.text ≡ text = cc in
+      no_key_row text a.behind a.row f (subst (λ (u : List ℕ). BeginsWithKey u a.behind a.row) i a.keyed)
+]
+
+pub bare_keyed_shape : (ws behind : List Word) (text : List ℕ) (row : Row) → ws ≡ plain_word text ∷ behind → BeginsWithKey text behind row → HasBareShape ws (record { kind = row.0; label = []; slots = row.1; words = drop 1 ws })
+bare_keyed_shape ws behind text row e b = rw e (inr (record { text = text; behind = behind; words = refl; row = row; keyed = b; is = refl }))
+
+pub bare_shape : (ws behind : List Word) (text : List ℕ) (row : Row) → ws ≡ plain_word text ∷ behind → None ≡ find_key lead_keys text → BeginsWithInsn ws row → HasBareShape ws (record { kind = row.0; label = []; slots = row.1; words = drop 1 ws })
+bare_shape ws behind text row e f b = inl (record { text = text; behind = behind; words = e; no_lead = f; row = row; insn = b; is = rw e refl })
+
+pub bare_lengths : (words : List Made) (k : Kind) (ss : List Slot) → BeginsWithInsn (map word words) (k, ss) → 1 + length ss ≡ length words
+bare_lengths words k ss b =
+    let l = forms_length ss b.behind b.forms in
+    let m = length-map words word in
+    let n = ap length b.words in
+    omega arith

@@ -271,6 +271,20 @@ pub record IsKeyed (ws : List Word) (s : Shape) : Type 0 where
 abbrev pub HasShape : List Word → Shape → Type 0
 HasShape ws s = IsLabelled ws s ⊎ IsKeyed ws s
 
+-- An instruction without a number: its first word is no keyword of a line.
+pub record IsBare (ws : List Word) (s : Shape) : Type 0 where
+  pub text : List ℕ
+  pub behind : List Word
+  pub words : ws ≡ plain_word text ∷ behind
+  pub no_lead : None ≡ find_key lead_keys text
+  pub row : Row
+  pub insn : BeginsWithInsn ws row
+  pub is : s ≡ record { kind = row.0; label = []; slots = row.1; words = behind }
+
+-- The words have this shape where instructions don't give themselves numbers.
+abbrev pub HasBareShape : List Word → Shape → Type 0
+HasBareShape ws s = IsBare ws s ⊎ IsKeyed ws s
+
 -- What a private helper says: behind slots that are there already.
 abbrev pub onto_row : List Slot → Option Row → Option Row
 onto_row done None = None

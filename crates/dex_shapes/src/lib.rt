@@ -17,5 +17,5 @@ mod shape;
 mod values;
 
 pub use found::Found;
-pub use law::words_have_one_shape;
-pub use shape::read_shape;
+pub use law::{words_have_one_bare_shape, words_have_one_shape};
+pub use shape::{read_bare_shape, read_shape};

@@ -5,7 +5,7 @@ ghost use Rattle.dex_bytes.specs.Fault.{memory};
 ghost use Rattle.dex_insn.specs.Opcodes.{format_of, index_kind_of};
 ghost use Rattle.dex_insn.specs.Mnemonics.{IsNamed};
 ghost use Rattle.dex_words.specs.View.{word};
-ghost use Rattle.dex_shapes.specs.Shapes.{Shape, Row, HasShape, BeginsWithKey, BeginsWithInsn, IsPlainRow, IsInsnRow, plain_slots, key_row, payload_row, onto_row, is_first_key, pairs, target};
+ghost use Rattle.dex_shapes.specs.Shapes.{Shape, Row, HasShape, HasBareShape, BeginsWithKey, BeginsWithInsn, IsPlainRow, IsInsnRow, plain_slots, key_row, payload_row, onto_row, is_first_key, pairs, target};
 ghost use Rattle.dex_shapes.specs.ShapeView.{shape};
 ghost use Rattle.dex_slots.specs.declared.key.Key.TheVariants as Key;
 ghost use Rattle.dex_slots.specs.declared.slot.Slot.{Slot};
@@ -301,5 +301,43 @@ pub fn read_shape<'a, 'b>(
         kind,
         label,
         lead: 2,
+    }))
+}
+
+/// The shape of a line of these words where instructions don't give themselves numbers; its slots are put in place of those
+/// that are there.
+pub fn read_bare_shape<'a, 'b>(
+    words: &[Word<'a, 'b>],
+    slots: &mut Vec<Slot, &'a Bump>,
+) -> Result<Option<Found<'b>>, Fault>
+    ensures found { IfOk result (λ r. IfSome r (λ f. HasBareShape (map word words.now) (shape f slots.new.items (map word words.now)))) }
+    ensures lengths { IfOk result (λ r. IfSome r (λ f. f.lead + length slots.new.items ≡ length words.now)) }
+    ensures none { IfOk result (λ r. IfNone r ((s : Shape) → HasBareShape (map word words.now) s → ⊥)) }
+    ensures memory { IsOkUnless result memory }
+{
+    slots.clear();
+    let Some((first, behind)) = words.split_first() else {
+        return Ok(None);
+    };
+    let Word::Plain(text) = *first else {
+        return Ok(None);
+    };
+    let Some(_key) = lead_key(text) else {
+        let Some(kind) = read_labelled(words, slots)? else {
+            return Ok(None);
+        };
+        return Ok(Some(Found {
+            kind,
+            label: &[],
+            lead: 1,
+        }));
+    };
+    let Some(kind) = read_keyed(text, behind, slots)? else {
+        return Ok(None);
+    };
+    Ok(Some(Found {
+        kind,
+        label: &[],
+        lead: 1,
     }))
 }

@@ -29,5 +29,5 @@ pub use put::{
     put_bits, put_decimal, put_elements, put_field, put_flags, put_key, put_method, put_name,
     put_number, put_proto, put_register, put_signed, put_target, put_text,
 };
-pub use read::read_operands;
+pub use read::{fault_of, read_datum, read_operands};
 pub use slot::{Mark, Slot};

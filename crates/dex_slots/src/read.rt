@@ -201,7 +201,7 @@ fn read_quoted<'a>(slot: Slot, units: &'a [u16]) -> Option<Datum<'a>>
 }
 
 /// What the word says in the slot.
-fn read_datum<'a, 'b>(
+pub fn read_datum<'a, 'b>(
     bump: &'a Bump,
     slot: Slot,
     one: Word<'a, 'b>,
@@ -217,7 +217,7 @@ fn read_datum<'a, 'b>(
 }
 
 /// The fault of a word that says nothing in the slot.
-fn fault_of(slot: Slot) -> u16
+pub fn fault_of(slot: Slot) -> u16
     ensures { result ≡ fault_of slot }
 {
     if is_name_slot(slot) {

@@ -36,9 +36,10 @@ pub(crate) const LIST: &str = "Prints the program of a .dex file as a listing";
 
 /// More on it.
 pub(crate) const LIST_MORE: &str = "\
-A listing is plain text: a line for each class, member and instruction. It can be changed
-by hand, and 'dexasm assemble' makes a file of it again. A file that breaks a rule of its
-format (Dalvik Executable, version 035) is refused.
+A listing is plain text: a line for each class, member and instruction, and labels where
+branches lead (its first line is 'dex 035 listing 2'). It can be changed by hand, and
+'dexasm assemble' makes a file of it again. A file that breaks a rule of its format (Dalvik
+Executable, version 035) is refused.
 
 Example: dexasm list classes.dex --output classes.txt";
 

@@ -1,9 +1,9 @@
-//! Texts that are read and printed again.
+//! Texts of the first form that are read and printed again.
 
 use bumpalo::Bump;
 use dex_base::Fault;
 use dex_listing::parse;
-use dex_print::print;
+use dex_print::print_1;
 use dex_program::{Class, Desc, Member, Program, Str, Value};
 use dex_samples::{is_so, none_wrong, shows};
 use std::alloc::Global;
@@ -13,7 +13,7 @@ use std::test::Fail;
 fn again(alloc: Global, text: &[u8]) -> Result<Vec<u8>, Fault> {
     let arena = Bump::new(alloc);
     let whole = parse(alloc, &arena, text)?;
-    print(alloc, &whole)
+    print_1(alloc, &whole)
 }
 
 /// The first text that doesn't come back as itself.
@@ -113,7 +113,7 @@ static CLASSES: [Class<'static>; 1] = [NAMED];
 
 /// Whether the program of that class is printed so.
 fn are_units_printed(alloc: Global) -> Result<bool, Fault> {
-    let bytes = print(alloc, &Program { classes: &CLASSES })?;
+    let bytes = print_1(alloc, &Program { classes: &CLASSES })?;
     Ok(bytes.as_slice() == WITH_UNITS.as_bytes())
 }
 

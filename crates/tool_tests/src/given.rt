@@ -35,7 +35,7 @@ pub fn bytes_of(given: Given) -> &'static [u8] {
         Given::File => &ONE_CLASS,
         Given::Listing => ONE_CLASS_LISTED,
         Given::EmptyFile => &WITHOUT_CLASSES,
-        Given::EmptyListing => b"dex 035\n",
+        Given::EmptyListing => b"dex 035 listing 2\n",
         Given::SpareNames => &SPARE_NAMES,
         Given::LaterSuperclass => &LATER_SUPERCLASS,
         Given::LaterSuperclassListing => LATER_SUPERCLASS_LISTED,

@@ -2,19 +2,19 @@
 
 /// The listing of the file ONE_CLASS.
 pub static ONE_CLASS_LISTED: &[u8] = b"\
-dex 035
+dex 035 listing 2
 class LA; 0x1
 super Ljava/lang/Object;
 direct m ()V 0x9
 code 1 0 0
-0: return-void
+return-void
 end code
 end class
 ";
 
 /// A class whose superclass is a later one.
 pub static LATER_SUPERCLASS_LISTED: &[u8] = b"\
-dex 035
+dex 035 listing 2
 class LA; 0x1
 super LB;
 end class

@@ -95,7 +95,7 @@ pub static RICH: [u8; 1340] = [
 
 /// Its listing.
 pub static RICH_LISTED: &[u8] = b"\
-dex 035
+dex 035 listing 2
 class LA; 0x1
 super Ljava/lang/Object;
 implements LI;
@@ -119,32 +119,41 @@ static z I 0x9
 instance p [I 0x2
 direct <init> ()V 0x10001
 code 1 1 1
-0: invoke-direct { v0 } Ljava/lang/Object;-><init>()V
-1: return-void
+invoke-direct { v0 } Ljava/lang/Object;-><init>()V
+return-void
 end code
 direct call (I[J)V 0x9
 code 4 2 0
-0: packed-switch v2 @5
-1: const/4 v0 7
-2: if-eqz v2 @4
-3: goto @1
-4: return-void
-5: packed-switch-payload -1 @1 @4
-try @0 @2
-catch Ljava/lang/Exception; @3
-catchall @4
-try @2 @3
-catchall @4
+:L0
+packed-switch v2 :L5
+:L1
+const/4 v0 7
+:L2
+if-eqz v2 :L4
+:L3
+goto :L1
+:L4
+return-void
+:L5
+packed-switch-payload -1 :L1 :L4
+try :L0 :L2
+catch Ljava/lang/Exception; :L3
+catchall :L4
+try :L2 :L3
+catchall :L4
 end code
 virtual run ()V 0x1
 code 3 1 2
-0: const-string v0 \"caf\\u00e9 \\\"x\\\"\"
-1: sget v1 LA;->i:I
-2: const/4 v2 -8
-3: invoke-static/range v1 2 LA;->call(I[J)V
-4: return-void
-try @0 @5
-catch LI; @4
+:L0
+const-string v0 \"caf\\u00e9 \\\"x\\\"\"
+sget v1 LA;->i:I
+const/4 v2 -8
+invoke-static/range v1 2 LA;->call(I[J)V
+:L4
+return-void
+:L5
+try :L0 :L5
+catch LI; :L4
 end code
 end class
 class LB; 0x11

@@ -1,11 +1,11 @@
 use Rattle.dex_listing.proofs.ExactLaws.{listing_one, listing_none}
-use Rattle.dex_print.specs.Canon.{canon}
+use Rattle.dex_print.specs.Canon.{text_in}
 use Rattle.dex_listing_laws.proofs.ClassRuns.{printed_again}
 use Rattle.dex_listing_laws.proofs.law.what_is_printed_is_read_again.Goals as goal
 
 pub returns : goal.returns
 returns c = record {
   read = printed_again;
-  alone = λ p q h l. listing_one (canon p) p q (printed_again p h) l;
-  accepted = λ p code place h b. listing_none (canon p) p code place b (printed_again p h);
+  alone = λ form p q h l. listing_one (text_in form p) p q (printed_again form p h) l;
+  accepted = λ form p code place h b. listing_none (text_in form p) p code place b (printed_again form p h);
 }

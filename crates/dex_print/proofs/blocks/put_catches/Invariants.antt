@@ -4,4 +4,4 @@ use Rattle.dex_print.specs.Canon.{catches_text}
 use Rattle.dex_print.proofs.blocks.put_catches.Given as goal
 
 abbrev pub invariant-loop-one : goal.invariant-loop-one
-invariant-loop-one l = l.out.items ≡ l.fn.out.items ++ catches_text (map catch (take l.one-index l.catches))
+invariant-loop-one l = l.out.items ≡ l.fn.out.items ++ catches_text l.form (map catch (take l.one-index l.catches))

@@ -5,4 +5,4 @@ use Rattle.dex_print.specs.Canon.{try_text}
 use Rattle.dex_print.proofs.blocks.put_tries.Given as goal
 
 abbrev pub invariant-loop-one : goal.invariant-loop-one
-invariant-loop-one l = l.out.items ≡ l.fn.out.items ++ flat_map try_text (map try (take l.one-index l.tries))
+invariant-loop-one l = l.out.items ≡ l.fn.out.items ++ flat_map (try_text l.form) (map try (take l.one-index l.tries))

@@ -5,4 +5,4 @@ use Rattle.dex_print.specs.Canon.{virtual_text}
 use Rattle.dex_print.proofs.blocks.put_virtuals.Given as goal
 
 abbrev pub invariant-loop-one : goal.invariant-loop-one
-invariant-loop-one l = l.out.items ≡ l.fn.out.items ++ flat_map virtual_text (map method (take l.one-index l.methods))
+invariant-loop-one l = l.out.items ≡ l.fn.out.items ++ flat_map (virtual_text l.form) (map method (take l.one-index l.methods))

@@ -1,0 +1,4 @@
+pub mod LineLaws
+pub mod AheadLaws
+pub mod SpellLaws
+pub mod LookLaws

@@ -1,0 +1,40 @@
+use Rattle.std.proofs.Common.{◌∙◌, sym, ap, arith, map, refl}
+use Rattle.dex_labels.specs.Labels.{labels_ahead, is_mark, is_stop}
+use Rattle.dex_labels.specs.View.{label}
+use Rattle.dex_labels.proofs.AheadLaws.{ahead_none, ahead_skips, ahead_stops, ahead_marks, ahead_counts}
+use Rattle.dex_labels.proofs.labels.look_ahead.Goals as goal
+use Rattle.dex_labels.proofs.labels.look_ahead.Goals.{then-not-is_skipped+else-is_stop+then-is_mark+in_ok-put_label, then-not-is_skipped+else-is_stop+else-is_mark, else-not-is_skipped}
+
+pub returns-then-is_stop-clause-ahead : goal.returns-then-is_stop-clause-ahead
+returns-then-is_stop-clause-ahead c =
+    sym (c.loop-next.invariant.ahead ∙ ap (labels_ahead (map label c.loop-next.labels.entries) c.loop-next.line c.loop-next.number) c.in-Some.ensures.found
+    ∙ ahead_stops _ _ _ _ _ (sym c.is_skipped.ensures ∙ c.if-not-is_skipped.true) (ap is_stop (sym c.first_word-word.ensures) ∙ sym c.is_stop.ensures ∙ c.if-is_stop.true))
+
+pub loop-next-preserved : goal.loop-next-preserved
+loop-next-preserved c =
+    let i = c.loop-next.invariant in
+    let a = i.ahead ∙ ap (labels_ahead (map label c.loop-next.labels.entries) c.loop-next.line c.loop-next.number) c.in-Some.ensures.found in
+    let s = c.in-Some.ensures.shorter in
+    elim c.if-not-is_skipped.branch [
+      | then-not-is_skipped+else-is_stop+then-is_mark+in_ok-put_label w ↦ record {
+        ahead = a ∙ ahead_marks _ _ _ _ _ (sym c.is_skipped.ensures ∙ w.if-not-is_skipped.true) (ap is_stop (sym c.first_word-word.ensures) ∙ sym w.is_stop.ensures ∙ w.if-is_stop.false) (ap is_mark (sym c.first_word-word.ensures) ∙ sym w.is_mark.ensures ∙ w.if-is_mark.true)
+            ∙ rw (w.labels-is, w.number-is, w.in_ok-put_label.ensures.put, c.first_word-word.ensures) refl;
+        line = omega (arith, i.line, s);
+        number = rw w.number-is (omega (arith, i.number, s));
+      }
+      | then-not-is_skipped+else-is_stop+else-is_mark w ↦ record {
+        ahead = a ∙ ahead_counts _ _ _ _ _ (sym c.is_skipped.ensures ∙ w.if-not-is_skipped.true) (ap is_stop (sym c.first_word-word.ensures) ∙ sym w.is_stop.ensures ∙ w.if-is_stop.false) (ap is_mark (sym c.first_word-word.ensures) ∙ sym w.is_mark.ensures ∙ w.if-is_mark.false)
+            ∙ rw (w.labels-is, w.number-is) refl;
+        line = omega (arith, i.line, s);
+        number = rw w.number-is (omega (arith, i.number, s));
+      }
+      | else-not-is_skipped w ↦ record {
+        ahead = a ∙ ahead_skips _ _ _ _ _ (sym c.is_skipped.ensures ∙ w.if-not-is_skipped.false) ∙ rw (w.labels-is, w.number-is) refl;
+        line = omega (arith, i.line, s);
+        number = rw w.number-is (omega (arith, i.number, s));
+      }
+    ]
+
+pub returns-clause-ahead : goal.returns-clause-ahead
+returns-clause-ahead c =
+    sym (c.loop-next.invariant.ahead ∙ ap (labels_ahead (map label c.loop-next.labels.entries) c.loop-next.line c.loop-next.number) c.in_default.ensures.none ∙ ahead_none _ _ _)

@@ -1,0 +1,248 @@
+//! Labels: how they are spelled, what they mark, and what words say where they stand.
+
+ghost use Rattle.std.specs.Prelude.{◌≡◌, ◌<◌, ◌≤◌, ◌+◌, ◌^◌, [], List, map, length, IfOk, IfSome, IfNone, OnOk, IsOkUnless, option_map};
+ghost use Rattle.dex_bytes.specs.Fault.{memory};
+ghost use Rattle.dex_words.specs.Words.{after_spaces, up_to_space};
+ghost use Rattle.dex_words.specs.View.{word};
+ghost use Rattle.dex_slots.specs.Data.{Datum as Said};
+ghost use Rattle.dex_slots.specs.View.{datum};
+ghost use Rattle.dex_labels.specs.Lines.{lines};
+ghost use Rattle.dex_labels.specs.Labels as says;
+ghost use Rattle.dex_labels.specs.Labels.{SpellsHere, SpellsAll, MisspellsAll};
+ghost use Rattle.dex_labels.specs.View.{label, place_in};
+
+use crate::pieces::{is_skipped, split_line};
+use bumpalo::Bump;
+use dex_base::{Fault, fault};
+use dex_slots::{Datum, Key, Mark, Slot, fault_of, is_same, key_text, read_datum};
+use dex_words::Word;
+use indexmap::IndexMap;
+
+/// The line that a label stands on, and the number of the instruction that it marks.
+#[derive(Clone, Copy)]
+pub struct Place {
+    pub line: u64,
+    pub number: u64,
+}
+
+/// Whether a byte can stand in a label.
+fn is_name_byte(c: u8) -> bool
+    ensures { result ≡ says.is_name_byte c }
+{
+    (48 <= c && c <= 57) || (65 <= c && c <= 90) || (97 <= c && c <= 122) || c == 95
+}
+
+/// Whether all bytes can.
+fn are_name_bytes(name: &[u8]) -> bool
+    ensures { result ≡ says.are_name_bytes name.now }
+{
+    for c in name {
+        if !is_name_byte(*c) {
+            return false;
+        }
+    }
+    true
+}
+
+/// Whether it begins with `:`.
+pub fn is_mark(word: &[u8]) -> bool
+    ensures { result ≡ says.is_mark word.now }
+{
+    match word.split_first() {
+        Some((first, _)) => *first == 58,
+        None => false,
+    }
+}
+
+/// Whether it is `:` and 1 to 32 letters, digits or `_`.
+pub fn is_label(word: &[u8]) -> bool
+    ensures { result ≡ says.is_label word.now }
+{
+    let Some((first, name)) = word.split_first() else {
+        return false;
+    };
+    *first == 58 && 0 < name.len() && name.len() <= 32 && are_name_bytes(name)
+}
+
+/// The text without the spaces at its front.
+fn after_spaces(text: &[u8]) -> &[u8]
+    ensures { result.now ≡ after_spaces text.now }
+{
+    let mut rest = text;
+    while let Some((first, behind)) = rest.split_first() {
+        if *first != 32 {
+            return rest;
+        }
+        rest = behind;
+    }
+    rest
+}
+
+/// What stands before the first space.
+fn up_to_space(text: &[u8]) -> &[u8]
+    ensures { result.now ≡ up_to_space text.now }
+{
+    for end in 0..text.len() {
+        if text[end] == 32 {
+            let (front, _) = text.split_at(end);
+            return front;
+        }
+    }
+    text
+}
+
+/// The first word of a line.
+fn first_word(line: &[u8]) -> &[u8]
+    ensures { result.now ≡ says.first_word line.now }
+{
+    up_to_space(after_spaces(line))
+}
+
+/// Whether the instructions end at a line of this first word.
+fn is_stop(word: &[u8]) -> bool
+    ensures { result ≡ says.is_stop word.now }
+{
+    is_same(key_text(Key::Try).as_bytes(), word) || is_same(key_text(Key::End).as_bytes(), word)
+}
+
+/// One label more, unless one of its name is there.
+fn put_label<'t>(
+    labels: &mut IndexMap<&'t [u8], Place>,
+    name: &'t [u8],
+    place: Place,
+) -> Result<(), Fault>
+    ensures put { OnOk result (map label labels.new.entries ≡ says.with_label (map label labels.old.entries) (record { name = name.now; line = place.line; number = place.number })) }
+    ensures memory { IsOkUnless result memory }
+{
+    if labels.get(name).is_some() {
+        return Ok(());
+    }
+    labels.insert(name, place)?;
+    Ok(())
+}
+
+/// Puts the labels of the code whose first line begins the text, which is the line of this number, in place of those that
+/// are there.
+pub fn look_ahead<'t>(
+    labels: &mut IndexMap<&'t [u8], Place>,
+    text: &'t [u8],
+    first: u64,
+) -> Result<(), Fault>
+    requires { first + length text.now < 2 ^ 64 }
+    ensures ahead { OnOk result (map label labels.new.entries ≡ says.labels_ahead [] first 0 (lines text.now)) }
+    ensures memory { IsOkUnless result memory }
+{
+    labels.clear();
+    let mut line = first;
+    let mut number = 0u64;
+    let mut rest = text;
+    while let Some((next, behind)) = split_line(rest) {
+        let word = first_word(next);
+        if !is_skipped(next) {
+            if is_stop(word) {
+                return Ok(());
+            }
+            if is_mark(word) {
+                put_label(labels, word, Place { line, number })?;
+            } else {
+                number += 1;
+            }
+        }
+        line += 1;
+        rest = behind;
+    }
+    Ok(())
+}
+
+/// The label of this name.
+pub fn place_of(labels: &IndexMap<&[u8], Place>, name: &[u8]) -> Option<Place>
+    ensures { result ≡ place_in (says.lookup name.now (map label labels.now.entries)) }
+{
+    match labels.get(name) {
+        Some(place) => Some(*place),
+        None => None,
+    }
+}
+
+/// The instruction that the label of this name marks.
+fn marked(labels: &IndexMap<&[u8], Place>, name: &[u8]) -> u32
+    ensures { result ≡ says.marked_by (says.lookup name.now (map label labels.now.entries)) }
+{
+    match place_of(labels, name) {
+        Some(place) => place.number.min(4294967295) as u32,
+        None => 4294967295,
+    }
+}
+
+/// Whether a target stands in the slot.
+fn is_target(slot: Slot) -> bool
+    ensures { result ≡ says.is_target slot }
+{
+    matches!(slot, Slot::Word(Mark::Target, _))
+}
+
+/// What a word says where a target stands.
+fn read_label<'a>(labels: &IndexMap<&[u8], Place>, one: Word<'a, '_>) -> Option<Datum<'a>>
+    ensures found { IfSome result (λ d. says.SpellsLabel (map label labels.now.entries) (word one.entry) (datum d)) }
+    ensures none { IfNone result ((d : Said) → says.SpellsLabel (map label labels.now.entries) (word one.entry) d → ⊥) }
+{
+    match one {
+        Word::Plain(text) => {
+            if is_label(text) {
+                return Some(Datum::Word(marked(labels, text)));
+            }
+            None
+        }
+        Word::Text(_) => None,
+    }
+}
+
+/// What a word says in a slot of the second form.
+fn read_here<'a>(
+    bump: &'a Bump,
+    labels: &IndexMap<&[u8], Place>,
+    slot: Slot,
+    one: Word<'a, '_>,
+) -> Result<Option<Datum<'a>>, Fault>
+    ensures found { IfOk result (λ r. IfSome r (λ d. SpellsHere (map label labels.now.entries) slot (word one.entry) (datum d))) }
+    ensures none { IfOk result (λ r. IfNone r ((d : Said) → SpellsHere (map label labels.now.entries) slot (word one.entry) d → ⊥)) }
+    ensures memory { IsOkUnless result memory }
+{
+    if is_target(slot) {
+        return Ok(read_label(labels, one));
+    }
+    read_datum(bump, slot, one)
+}
+
+/// The fault of a word that says nothing there.
+fn fault_here(slot: Slot) -> u16
+    ensures { result ≡ says.fault_here slot }
+{
+    if is_target(slot) {
+        return fault::LINE_NAME;
+    }
+    fault_of(slot)
+}
+
+/// What these words say in these slots of the second form; else the fault of the first that says nothing there.
+pub fn read_all<'a, 'b>(
+    bump: &'a Bump,
+    labels: &IndexMap<&[u8], Place>,
+    slots: &[Slot],
+    words: &[Word<'a, 'b>],
+    says: &mut Vec<Datum<'a>, &'a Bump>,
+) -> Result<Option<u16>, Fault>
+    requires { length slots.now ≡ length words.now }
+    ensures all { IfOk result (λ r. IfNone r (SpellsAll (map label labels.now.entries) slots.now (map word words.now) (map datum says.new.items))) }
+    ensures bad { IfOk result (λ r. IfSome r (λ code. MisspellsAll (map label labels.now.entries) slots.now (map word words.now) code)) }
+    ensures memory { IsOkUnless result memory }
+{
+    says.clear();
+    for i in 0..slots.len() {
+        let Some(said) = read_here(bump, labels, slots[i], words[i])? else {
+            return Ok(Some(fault_here(slots[i])));
+        };
+        says.push(said)?;
+    }
+    Ok(None)
+}

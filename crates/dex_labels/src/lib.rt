@@ -1,0 +1,14 @@
+//! Labels of a listing: how they are spelled, which instructions the label lines ahead mark, and what words say where labels
+//! stand in place of numbers.
+//!
+//! ```text
+//! is_label(b":L12")                        // true
+//! look_ahead(&mut labels, behind, 6)?      // the labels of the code whose first line is the sixth
+//! ```
+#![tactic(auto)]
+
+mod labels;
+mod pieces;
+
+pub use labels::{Place, is_label, is_mark, look_ahead, place_of, read_all};
+pub use pieces::{is_skipped, split_line};
