@@ -50,8 +50,8 @@ fn told(one: &Insn<'_>) -> u64 {
     }
 }
 
-// Instructions as numbers of five digits, one behind the other.
-fn all_told(code: &Code<'_>) -> u64 {
+/// Instructions as numbers of five digits, one behind the other.
+pub fn all_told(code: &Code<'_>) -> u64 {
     let mut sum = 0u64;
     for one in code.insns {
         sum = then(sum, 100_000, told(one));

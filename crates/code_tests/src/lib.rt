@@ -8,4 +8,6 @@ mod insns;
 #[cfg(test)]
 mod places;
 #[cfg(test)]
+mod puts;
+#[cfg(test)]
 mod tries;

@@ -1,9 +1,9 @@
 //! The faults of class rows, static values and code: the file of one class with some bytes changed, and files of rows.
 
 use bumpalo::Bump;
-use dex_base::Fault;
+use dex_base::{Fault, fault};
 use dex_file::read;
-use dex_samples::{ONE_CLASS, Rows, closed_with, file_of, none_wrong};
+use dex_samples::{NOTHING, ONE_CLASS, Rows, closed_with, file_of, is_so, none_wrong};
 use std::alloc::Global;
 use std::test::Fail;
 
@@ -43,7 +43,7 @@ fn first_change_otherwise(alloc: Global, cases: &[Case]) -> Result<Option<&'stat
 // The class row stands at 160: class, flags, superclass, interfaces, source file, annotations, class data, static values.
 #[test]
 fn each_rule_of_a_class_row_has_its_fault(rt: HostRuntime) -> Result<(), Fail> {
-    static CASES: [Case; 13] = [
+    static CASES: [Case; 15] = [
         ("nothing is changed", 160, &[0], (0, 0)),
         ("a class that is no row", 160, &[3], (40, 160)),
         ("a superclass that is no row", 168, &[3], (40, 160)),
@@ -55,6 +55,18 @@ fn each_rule_of_a_class_row_has_its_fault(rt: HostRuntime) -> Result<(), Fail> {
         ),
         ("a class that is void", 160, &[2], (41, 160)),
         ("a superclass that is void", 168, &[2], (41, 160)),
+        (
+            "a superclass that is no row goes before a class that is void",
+            160,
+            &[2, 0, 0, 0, 1, 0, 0, 0, 3],
+            (40, 160),
+        ),
+        (
+            "a superclass that is void goes before interfaces where no list stands",
+            168,
+            &[2, 0, 0, 0, 192],
+            (41, 160),
+        ),
         ("interfaces where no list stands", 172, &[192], (43, 160)),
         (
             "interfaces go before the order",
@@ -81,8 +93,14 @@ fn each_rule_of_a_class_row_has_its_fault(rt: HostRuntime) -> Result<(), Fail> {
 // The class data stands at 241: no fields, one direct method, its entry `00 09 c0 01`; the row of the method at 152.
 #[test]
 fn each_rule_of_class_data_has_its_fault(rt: HostRuntime) -> Result<(), Fail> {
-    static CASES: [Case; 6] = [
+    static CASES: [Case; 7] = [
         ("a method that is no row", 245, &[1], (45, 160)),
+        (
+            "a later number that is cut goes before a method that is no row",
+            243,
+            &[2, 0, 1, 9, 0, 1, 9, 0x80, 0x80],
+            (44, 160),
+        ),
         ("a method of another class", 152, &[1], (46, 160)),
         (
             "a method given twice",
@@ -105,6 +123,102 @@ fn each_rule_of_class_data_has_its_fault(rt: HostRuntime) -> Result<(), Fail> {
         ),
     ];
     none_wrong(first_change_otherwise(rt.alloc(), &CASES))
+}
+
+// A field `a` and a method `a()V` of `LA;`, whose class row stands at 192 and its class data at 243, and of `LB;`: the
+// rows 0 and 1 of fields and of methods.
+static TWO_OF_EACH: Rows<'static> = Rows {
+    strings: &[
+        b"\x01I\0",
+        b"\x03LA;\0",
+        b"\x03LB;\0",
+        b"\x01V\0",
+        b"\x01a\0",
+    ],
+    types: &[0, 1, 2, 3],
+    protos: &[(3, 3, None)],
+    fields: &[(1, 0, 4), (2, 0, 4)],
+    methods: &[(1, 0, 4), (2, 0, 4)],
+    classes: &[[1, 1, 0xffffffff, 0, 0xffffffff, 0, 243, 0]],
+    ..NOTHING
+};
+
+/// What it is, the class data, and the fault.
+pub type ClassData = (&'static str, &'static [u8], (u16, u64));
+
+/// The first case whose file answers another fault: that of these rows with other class data.
+pub fn first_class_data_otherwise(
+    alloc: Global,
+    rows: &Rows<'_>,
+    cases: &[ClassData],
+) -> Result<Option<&'static str>, Fault> {
+    for (what, class_data, want) in cases {
+        let changed = Rows {
+            class_data,
+            ..*rows
+        };
+        if fault_of_rows(alloc, &changed)? != *want {
+            return Ok(Some(*what));
+        }
+    }
+    Ok(None)
+}
+
+// Four counts, then what an entry's index is above the one before, flags, and of a method the place of its code.
+#[rattlefmt::skip]
+#[test]
+fn entries_are_looked_at_one_by_one(rt: HostRuntime) -> Result<(), Fail> {
+    static CASES: [ClassData; 9] = [
+        ("a field and a method", &[1, 0, 1, 0, 0, 9, 0, 9, 0], (0, 0)),
+        ("a static field that is no row", &[1, 0, 0, 0, 2, 9], (fault::MEMBER_INDEX, 192)),
+        ("an instance field that is no row", &[0, 1, 0, 0, 2, 9], (fault::MEMBER_INDEX, 192)),
+        ("a field of another class", &[1, 0, 0, 0, 1, 9], (fault::MEMBER_OWNER, 192)),
+        ("a field given twice", &[2, 0, 0, 0, 0, 9, 0, 9], (fault::MEMBER_ORDER, 192)),
+        ("a field of another class, and one that is no row", &[2, 0, 0, 0, 1, 9, 1, 9], (fault::MEMBER_OWNER, 192)),
+        (
+            "a method of another class, and one that is no row", &[0, 0, 2, 0, 1, 9, 0, 1, 9, 0],
+            (fault::MEMBER_OWNER, 192),
+        ),
+        (
+            "a method given twice, and one that is no row", &[0, 0, 3, 0, 0, 9, 0, 0, 9, 0, 2, 9, 0],
+            (fault::MEMBER_ORDER, 192),
+        ),
+        (
+            "a static field of another class, an instance field that is no row", &[1, 1, 0, 0, 1, 9, 2, 9],
+            (fault::MEMBER_OWNER, 192),
+        ),
+    ];
+    none_wrong(first_class_data_otherwise(rt.alloc(), &TWO_OF_EACH, &CASES))
+}
+
+// Two methods of one body, of which the second is 4294967295 rows behind the first. The class row stands at 172.
+static FAR_APART: Rows<'static> = Rows {
+    strings: &[
+        b"\x03LA;\0",
+        b"\x12Ljava/lang/Object;\0",
+        b"\x01V\0",
+        b"\x01m\0",
+        b"\x01n\0",
+    ],
+    types: &[0, 1, 2],
+    protos: &[(2, 2, None)],
+    methods: &[(0, 0, 3), (0, 0, 4)],
+    classes: &[[0, 1, 1, 0, 0xffffffff, 0, 256, 0]],
+    codes: &[1, 0, 0, 0, 0, 0, 0, 0, 0, 0, 0, 0, 1, 0, 0, 0, 0x0e, 0],
+    class_data: &[
+        0, 0, 2, 0, 1, 9, 0xcc, 1, 0xff, 0xff, 0xff, 0xff, 0x0f, 9, 0xcc, 1,
+    ],
+    ..NOTHING
+};
+
+fn is_far_row_told(alloc: Global) -> Result<bool, Fault> {
+    let file = file_of(alloc, &FAR_APART)?;
+    Ok(file.len() == 396 && fault_of(alloc, &file) == (fault::MEMBER_INDEX, 172))
+}
+
+#[test]
+fn indices_are_sums_without_a_bound(rt: HostRuntime) -> Result<(), Fail> {
+    is_so(is_far_row_told(rt.alloc()))
 }
 
 #[test]

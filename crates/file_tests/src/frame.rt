@@ -235,6 +235,69 @@ fn closing_fills_in_both_sums_and_nothing_else(rt: HostRuntime) -> Result<(), Fa
     is_so(is_closed_again(rt.alloc()))
 }
 
+// What the bytes from 32 on are, a text, how often they repeat it, and their SHA-1.
+type Signed = (&'static str, &'static [u8], u32, &'static [u8]);
+
+// 32 bytes and the repeated text, closed.
+fn signed(alloc: Global, text: &[u8], times: u32) -> Result<Vec<u8>, Fault> {
+    let mut file = vec![in alloc; 0u8; 32]?;
+    for _ in 0..times {
+        file.extend_from_slice(text)?;
+    }
+    Ok(closed(file))
+}
+
+fn is_signed_so(alloc: Global, case: &Signed) -> Result<bool, Fault> {
+    let (_, text, times, want) = case;
+    let file = signed(alloc, text, *times)?;
+    Ok(file.len() >= 32 && &file[12..32] == *want)
+}
+
+fn first_signed_otherwise(alloc: Global, cases: &[Signed]) -> Result<Option<&'static str>, Fault> {
+    for case in cases {
+        if !is_signed_so(alloc, case)? {
+            return Ok(Some(case.0));
+        }
+    }
+    Ok(None)
+}
+
+// The first two are NIST's examples for FIPS 180-4, whose other ones are shorter than any file. The others here, computed
+// by OpenSSL, are 9, 8, 1 and 0 bytes short of two blocks: with padding the first fills them, the others take three.
+#[rattlefmt::skip]
+#[test]
+fn signatures_are_the_digests_of_known_texts(rt: HostRuntime) -> Result<(), Fail> {
+    static CASES: [Signed; 6] = [
+        (
+            "896 bits",
+            b"abcdefghbcdefghicdefghijdefghijkefghijklfghijklmghijklmnhijklmnoijklmnopjklmnopqklmnopqrlmnopqrsmnopqrstnopqrstu",
+            1,
+            b"\xa4\x9b\x24\x46\xa0\x2c\x64\x5b\xf4\x19\xf9\x95\xb6\x70\x91\x25\x3a\x04\xa2\x59",
+        ),
+        (
+            "1000000 a", b"aaaaaaaaaa", 100000,
+            b"\x34\xaa\x97\x3c\xd4\xc4\xda\xa4\xf6\x1e\xeb\x2b\xdb\xad\x27\x31\x65\x34\x01\x6f",
+        ),
+        (
+            "119 a", b"a", 119,
+            b"\xee\x97\x10\x65\xaa\xa0\x17\xe0\x63\x2a\x8c\xa6\xc7\x7b\xb3\xbf\x8b\x1d\xfc\x56",
+        ),
+        (
+            "120 a", b"a", 120,
+            b"\xf3\x4c\x14\x88\x38\x53\x46\xa5\x57\x09\xba\x05\x6d\xdd\x08\x28\x0d\xd4\xc6\xd6",
+        ),
+        (
+            "127 a", b"a", 127,
+            b"\x89\xd9\x5f\xa3\x2e\xd4\x4a\x7c\x61\x0b\x7e\xe3\x85\x17\xdd\xf5\x7e\x0b\xb9\x75",
+        ),
+        (
+            "128 a", b"a", 128,
+            b"\xad\x5b\x3f\xdb\xcb\x52\x67\x78\xc2\x83\x9d\x2f\x15\x1e\xa7\x53\x99\x5e\x26\xa0",
+        ),
+    ];
+    none_wrong(first_signed_otherwise(rt.alloc(), &CASES))
+}
+
 #[test]
 fn a_framed_file_has_no_fault() -> Result<(), Fail> {
     framed_without_fault(&ONE_CLASS);

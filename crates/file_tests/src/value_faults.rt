@@ -2,7 +2,7 @@
 
 use crate::values::{ARRAYS_AT, ARRAYS_BEHIND_NAMES_AT, NAMES, read_in};
 use bumpalo::Bump;
-use dex_base::Fault;
+use dex_base::{Fault, fault};
 use dex_samples::{NOTHING, Rows, file_of, none_wrong};
 use std::alloc::Global;
 use std::test::Fail;
@@ -76,6 +76,71 @@ fn wrong_bytes_are_refused(rt: HostRuntime) -> Result<(), Fail> {
         ("the first value of an array that is cut", &[0x01, 0x1c, 0x05, 0x1e, 0x15], 1, 50, 4),
     ];
     none_wrong(first_refused_otherwise(rt.alloc(), &CASES))
+}
+
+// 64 arrays, one in the other, and what the innermost one has.
+fn in_64_arrays(alloc: Global, inner: &[u8]) -> Result<Vec<u8>, Fault> {
+    let mut arrays = Vec::new(alloc);
+    for _ in 0..64 {
+        arrays.extend_from_slice(&[0x01, 0x1c])?;
+    }
+    arrays.extend_from_slice(inner)?;
+    Ok(arrays)
+}
+
+// What the innermost array has, the fault's number, and its place behind the array's.
+type Deep = (&'static str, &'static [u8], u16, u32);
+
+fn is_deep_refused_so(alloc: Global, case: &Deep) -> Result<bool, Fault> {
+    let (_, inner, code, behind) = case;
+    let arrays = in_64_arrays(alloc, inner)?;
+    let rows = Rows {
+        arrays: &arrays,
+        ..NOTHING
+    };
+    let file = file_of(alloc, &rows)?;
+    let want = Fault {
+        code: *code,
+        place: u64::from(ARRAYS_AT) + u64::from(*behind),
+    };
+    Ok(is_refused_at(alloc, &file, ARRAYS_AT, 1, want))
+}
+
+fn first_deep_otherwise(alloc: Global, cases: &[Deep]) -> Result<Option<&'static str>, Fault> {
+    for case in cases {
+        if !is_deep_refused_so(alloc, case)? {
+            return Ok(Some(case.0));
+        }
+    }
+    Ok(None)
+}
+
+// In one value the head goes before the depth, and the depth before the bytes.
+#[test]
+fn in_64_arrays_each_value_has_its_first_fault(rt: HostRuntime) -> Result<(), Fail> {
+    static CASES: [Deep; 5] = [
+        ("no value", &[0x01], fault::VALUES, 0),
+        ("an array", &[0x01, 0x1c, 0x00], fault::VALUE_DEPTH, 129),
+        (
+            "an array with an argument",
+            &[0x01, 0x3c, 0x00],
+            fault::VALUE_KIND,
+            129,
+        ),
+        (
+            "an array that is cut",
+            &[0x01, 0x1c],
+            fault::VALUE_DEPTH,
+            129,
+        ),
+        (
+            "null, and an array that is cut",
+            &[0x02, 0x1e, 0x1c],
+            fault::VALUE_DEPTH,
+            130,
+        ),
+    ];
+    none_wrong(first_deep_otherwise(rt.alloc(), &CASES))
 }
 
 fn is_index_refused(alloc: Global, arrays: &[u8]) -> Result<bool, Fault> {

@@ -163,7 +163,7 @@ fn names_and_kinds_of_types_are_ruled(rt: HostRuntime) -> Result<(), Fail> {
 #[rattlefmt::skip]
 #[test]
 fn the_orders_of_members_and_classes_and_values_are_ruled(rt: HostRuntime) -> Result<(), Fail> {
-    static CASES: [Ruled; 12] = [
+    static CASES: [Ruled; 14] = [
         ("fields by name", &[Class { statics: &[FIELD, OTHER], ..EMPTY }], 0, 0),
         ("fields that fall", &[Class { statics: &[OTHER, FIELD], ..EMPTY }], fault::PROGRAM_MEMBER_ORDER, 0),
         ("a method given twice", &[Class { directs: &[METHOD, METHOD], ..EMPTY }], fault::PROGRAM_MEMBER_ORDER, 0),
@@ -175,6 +175,8 @@ fn the_orders_of_members_and_classes_and_values_are_ruled(rt: HostRuntime) -> Re
         ("nine interfaces", &[Class { interfaces: &NINE, ..EMPTY }], 0, 0),
         ("nine interfaces and the first again", &[SECOND, Class { interfaces: &TEN, ..EMPTY }], fault::PROGRAM_CLASS_ORDER, 1),
         ("an interface given twice", &[Class { interfaces: &[B, B], ..EMPTY }], fault::PROGRAM_CLASS_ORDER, 0),
+        ("a field without a name, in a class that is its own superclass", &[Class { superclass: Some(A), statics: &[Member { name: NO_NAME, ..FIELD }], ..EMPTY }], fault::PROGRAM_NAME, 0),
+        ("a class that is its own superclass, before one with a field without a name", &[Class { superclass: Some(A), ..EMPTY }, Class { statics: &[Member { name: NO_NAME, ..FIELD }], ..SECOND }], fault::PROGRAM_CLASS_ORDER, 0),
         ("a value and no static field", &[Class { values: &[Value::Null], instances: &[FIELD], ..EMPTY }], fault::PROGRAM_VALUES, 0),
     ];
     none_wrong(Ok(first_ruled_otherwise(rt.alloc(), &CASES)))

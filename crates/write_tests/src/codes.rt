@@ -95,7 +95,7 @@ fn first_otherwise(alloc: Global, cases: &[Case]) -> Result<Option<&'static str>
     Ok(None)
 }
 
-// The field and all strings are named in each of these.
+// Where a code has indices, all rows before theirs are needed, so that each index stays what it is.
 #[rattlefmt::skip]
 #[test]
 fn items_are_written_as_they_were(rt: HostRuntime) -> Result<(), Fail> {

@@ -1,0 +1,166 @@
+//! Codes by hand: where their instructions begin, whether they fit, their bytes, and what is aligned.
+
+ghost use Rattle.std.specs.Prelude.{◌≡◌, ◌≤◌, ◌<◌, [], IsTrue};
+ghost use Rattle.std.specs.List.{flat_map};
+ghost use Rattle.dex_code_put.specs.Fits.{wide_code};
+ghost use Rattle.dex_program.specs.Formed.{IsFormed};
+ghost use Rattle.dex_program.specs.Mentions.{names_of_insn, names_of_try};
+ghost use Rattle.dex_program.specs.View as view;
+
+use crate::insns::all_told;
+use bumpalo::Bump;
+use dex_base::{Fault, fault};
+use dex_code_align::align;
+use dex_code_fits::fits;
+use dex_code_put::{addresses, put_code};
+use dex_code_rules::{CodeRule, code_holds};
+use dex_names::Needed;
+use dex_program::{Code, Insn, Try};
+use dex_samples::none_wrong;
+use std::alloc::Global;
+use std::test::Fail;
+
+// const/4, if-eqz over the goto, a goto back to it, return-void, and a try of the two in between.
+static LOOP: Code<'static> = Code {
+    registers: 1,
+    ins: 0,
+    outs: 0,
+    insns: &[
+        Insn::I11n {
+            op: 0x12,
+            a: 0,
+            b: 0,
+        },
+        Insn::I21t {
+            op: 0x38,
+            a: 0,
+            to: 3,
+        },
+        Insn::I10t { op: 0x28, to: 1 },
+        Insn::I10x { op: 0x0e },
+    ],
+    tries: &[Try {
+        from: 1,
+        to: 3,
+        catches: &[],
+        catch_all: Some(3),
+    }],
+};
+
+// Its code item.
+static ITEM: [u8; 39] = [
+    1, 0, 0, 0, 0, 0, 1, 0, 0, 0, 0, 0, 5, 0, 0, 0, 0x12, 0, 0x38, 0, 3, 0, 0x28, 0xfe, 0x0e, 0, 0,
+    0, 1, 0, 0, 0, 3, 0, 1, 0, 1, 0, 4,
+];
+
+// A switch of three units, and its payload right behind it.
+static ODD: Code<'static> = Code {
+    registers: 1,
+    ins: 0,
+    outs: 0,
+    insns: &[
+        Insn::I31t {
+            op: 0x2b,
+            a: 0,
+            to: 1,
+        },
+        Insn::Packed {
+            first: 0,
+            targets: &[0],
+        },
+    ],
+    tries: &[],
+};
+
+// A number of 16 bits.
+fn is_u16(_number: u16)
+    ensures { _number < 65536 }
+{}
+
+// Whether the code keeps the rules of a program's.
+fn is_formed(code: &Code<'_>) -> bool
+    ensures { IsTrue result → IsFormed (view.code code.now) }
+{
+    is_u16(code.registers);
+    is_u16(code.ins);
+    is_u16(code.outs);
+    if !code_holds(CodeRule::Operand, code) {
+        return false;
+    }
+    if !code_holds(CodeRule::Target, code) {
+        return false;
+    }
+    if !code_holds(CodeRule::PayloadUse, code) {
+        return false;
+    }
+    code_holds(CodeRule::Try, code)
+}
+
+// Whether the instructions begin at these addresses, and end at the last one.
+fn begins_at(alloc: Global, code: &Code<'_>, want: &[u64]) -> Result<bool, Fault> {
+    if !is_formed(code) {
+        return Ok(false);
+    }
+    let all = addresses(alloc, code)?;
+    Ok(all.as_slice() == want)
+}
+
+// The item of a code without names, if it keeps the rules. Refused as `fits` refuses it.
+fn item_of(alloc: Global, code: &Code<'_>) -> Result<Vec<u8>, Fault>
+    requires insns { flat_map names_of_insn (view.code code.now).insns ≡ [] }
+    requires tries { flat_map names_of_try (view.code code.now).tries ≡ [] }
+    requires short { wide_code (view.code code.now) ≤ 4294967295 }
+{
+    let ranks = Needed::new(alloc).freeze()?;
+    let mut item = Vec::new(alloc);
+    if is_formed(code) {
+        fits(alloc, &ranks, code)?;
+        put_code(&mut item, &ranks, code)?;
+    }
+    Ok(item)
+}
+
+#[tactic(auto, unfolding(dex_program::specs::Sizes::insn_units, dex_program::specs::Sizes::total))]
+fn is_put_so(alloc: Global) -> Result<bool, Fault> {
+    let item = item_of(alloc, &LOOP)?;
+    Ok(item.as_slice() == ITEM.as_slice())
+}
+
+#[tactic(auto, unfolding(dex_program::specs::Sizes::insn_units, dex_program::specs::Sizes::total))]
+fn is_odd_one_refused(alloc: Global) -> bool {
+    match item_of(alloc, &ODD) {
+        Ok(_) => false,
+        Err(refusal) => refusal.code == fault::MISALIGNED && refusal.place == 0,
+    }
+}
+
+// The switch, a nop and the payload, whose target is the switch: three, one and six units.
+fn is_aligned_so(alloc: Global) -> Result<bool, Fault> {
+    let arena = Bump::new(alloc);
+    if !is_formed(&ODD) {
+        return Ok(false);
+    }
+    let code = align(alloc, &arena, &ODD)?;
+    Ok(all_told(&code) == 443021000050001 && begins_at(alloc, &code, &[0, 3, 4, 10])?)
+}
+
+fn first_wrong(alloc: Global) -> Result<Option<&'static str>, Fault> {
+    if !begins_at(alloc, &LOOP, &[0, 1, 3, 4, 5])? {
+        return Ok(Some("the addresses of a loop"));
+    }
+    if !is_put_so(alloc)? {
+        return Ok(Some("the item of a loop"));
+    }
+    if !is_odd_one_refused(alloc) {
+        return Ok(Some("a payload at an odd address"));
+    }
+    if !is_aligned_so(alloc)? {
+        return Ok(Some("the same, aligned"));
+    }
+    Ok(None)
+}
+
+#[test]
+fn codes_by_hand_are_put_and_aligned(rt: HostRuntime) -> Result<(), Fail> {
+    none_wrong(first_wrong(rt.alloc()))
+}
