@@ -120,7 +120,7 @@ fn first_refused_otherwise(alloc: Global, cases: &[Refused]) -> Option<&'static 
 fn each_job_tells_the_fault_of_its_call(rt: HostRuntime) -> Result<(), Fail> {
     static CASES: [Refused; 9] = [
         ("no bytes are no file", Job::List, Given::Nothing, 1, 0),
-        ("a listing isn't a file", Job::Strip, Given::Listing, 1, 109),
+        ("a listing isn't a file", Job::Strip, Given::Listing, 2, 0),
         ("a file isn't a listing", ASSEMBLE, Given::File, 100, 1),
         ("no bytes are no listing", ASSEMBLE, Given::Nothing, 106, 0),
         (

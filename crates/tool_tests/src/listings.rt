@@ -1,4 +1,4 @@
-//! Listings, as they are printed.
+//! Listings, as they are printed; those that aren't printed are of the first form.
 
 /// The listing of the file ONE_CLASS.
 pub static ONE_CLASS_LISTED: &[u8] = b"\
@@ -36,7 +36,7 @@ end class
 
 /// A string of a quote, a backslash, a unit above ASCII and a line feed.
 pub static ESCAPED: &[u8] = b"\
-dex 035
+dex 035 listing 2
 class LA; 0x1
 static s Ljava/lang/String; 0x9 = string \"\\\"\\\\\\u00e9\\u000a\"
 end class
@@ -56,13 +56,15 @@ end class
 
 /// The same program with its payload behind a nop.
 pub static EVEN_PAYLOAD: &[u8] = b"\
-dex 035
+dex 035 listing 2
 class LA; 0x1
 direct m ()V 0x9
 code 1 0 0
-0: packed-switch v0 @2
-1: nop
-2: packed-switch-payload 0 @0
+:L0
+packed-switch v0 :L2
+nop
+:L2
+packed-switch-payload 0 :L0
 end code
 end class
 ";
