@@ -72,6 +72,14 @@ class File:
         key = lambda m: (self.type_at[m[0]], self.string_at[m[1]], self.proto_at[m[2]])
         self.method_at = {m: i for i, m in enumerate(sorted(self.methods, key=key))}
 
+    def texts(self, begin):
+        """The string_data_items from the place `begin` on, and where each begins."""
+        data, places = bytearray(), []
+        for s in self.string_at:
+            places.append(begin + len(data))
+            data.extend(uleb(len(s)) + s.encode("ascii") + b"\0")
+        return data, places
+
     def write(self, path):
         rows = [(1, 4, len(self.string_at)), (2, 4, len(self.type_at)), (3, 12, len(self.proto_at)), (4, 8, len(self.field_at)),
                 (5, 8, len(self.method_at)), (6, 32, len(self.classes))]
@@ -106,10 +114,8 @@ class File:
             code_at[method] = begin + len(data)
             data.extend(body(self))
         section(0x2002, len(self.string_at))
-        text_at = []
-        for s in self.string_at:
-            text_at.append(begin + len(data))
-            data.extend(uleb(len(s)) + s.encode("ascii") + b"\0")
+        texts, text_at = self.texts(begin + len(data))
+        data.extend(texts)
         section(0x2000, len(self.classes))
         class_at = []
         for c in self.classes:
@@ -240,7 +246,8 @@ def members(count):
     return file
 
 
-shape, count, out = sys.argv[1:]
-file = {"apps": apps, "falling": falling, "members": members}[shape](int(count))
-file.index()
-file.write(out)
+if __name__ == "__main__":
+    shape, count, out = sys.argv[1:]
+    file = {"apps": apps, "falling": falling, "members": members}[shape](int(count))
+    file.index()
+    file.write(out)

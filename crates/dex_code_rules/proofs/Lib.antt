@@ -1,3 +1,4 @@
 pub mod RiseLaws
 pub mod TryLaws
 pub mod OperandLaws
+pub mod UseLaws

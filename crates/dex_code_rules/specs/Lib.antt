@@ -1,2 +1,3 @@
 pub mod CodeRules
 pub mod Parts
+pub mod Uses

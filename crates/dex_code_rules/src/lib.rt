@@ -2,6 +2,7 @@
 //!
 //! ```text
 //! code_holds(CodeRule::Target, code) // whether all branches and switches lead to instructions
+//! payloads_hold_in(alloc, code)? // the rule of payloads, in time that grows with the code
 //! ```
 #![tactic(auto)]
 
@@ -11,4 +12,5 @@ mod rule;
 mod targets;
 mod tries;
 
+pub use payloads::payloads_hold_in;
 pub use rule::{CodeRule, code_holds};

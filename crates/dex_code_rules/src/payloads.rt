@@ -1,13 +1,15 @@
 //! Payloads, and the instructions that refer to them.
 
-ghost use Rattle.std.specs.Prelude.{◌≡◌, ◌↔◌, ◌<◌, ◌≤◌, ℕ, length, map, IsTrue, IfSome, IfNone};
+ghost use Rattle.std.specs.Prelude.{◌≡◌, ◌↔◌, ◌<◌, ◌≤◌, ℕ, length, map, IsTrue, IfOk, IfSome, IfNone};
 ghost use Rattle.dex_program.specs.Formed.{insn_at, insn_payload, insn_wants, insn_reach, AreAlike, IsSwitch, Refers, PayloadHolds};
 ghost use Rattle.dex_program.specs.View.{insn, code};
 ghost use Rattle.dex_code_rules.specs.CodeRules.{PayloadsHold};
 ghost use Rattle.dex_code_rules.specs.Parts.{IsUsedOnce};
+ghost use Rattle.dex_code_rules.specs.Uses.{AreUses, used_again};
 
 use crate::targets::payload_of;
 use dex_program::{Code, Insn, Payload};
+use std::alloc::{AllocError, Global};
 
 /// Which payload an instruction refers to.
 #[tactic(auto, unfolding(dex_program::specs::Formed::insn_wants))]
@@ -133,4 +135,94 @@ pub(crate) fn payloads_hold(one: &Code<'_>) -> bool
         }
     }
     true
+}
+
+/// How many instructions refer to a payload.
+#[derive(Clone, Copy)]
+enum Use {
+    Unused,
+    Once,
+    Shared,
+}
+
+/// With one instruction more that refers to it.
+fn used_again(so_far: Use) -> Use
+    ensures { result ≡ used_again so_far }
+{
+    match so_far {
+        Use::Unused => Use::Once,
+        _ => Use::Shared,
+    }
+}
+
+/// Where instruction `j` refers to.
+fn reach_at(insns: &[Insn<'_>], j: usize) -> u32
+    requires inside { j < length insns.now }
+    ensures { result ≡ insn_reach (insn_at (map insn insns.now) j) }
+{
+    let one = &insns[j];
+    reach_of(one)
+}
+
+/// Notes each instruction that refers to a payload of its kind.
+fn mark_users(all: &mut [Use], insns: &[Insn<'_>])
+    requires unused { AreUses (map insn insns.now) 0 all.old }
+    ensures { AreUses (map insn insns.now) (length insns.now) all.new }
+{
+    for j in 0..insns.len() {
+        let k = reach_at(insns, j) as usize;
+        if refers(insns, j, k) {
+            all[k] = used_again(all[k]);
+        }
+    }
+}
+
+/// How many instructions refer to each.
+fn uses_of(alloc: Global, insns: &[Insn<'_>]) -> Result<Vec<Use>, AllocError>
+    ensures { IfOk result (λ all. AreUses (map insn insns.now) (length insns.now) all.items) }
+{
+    let mut all = vec![in alloc; Use::Unused; insns.len()]?;
+    mark_users(&mut all, insns);
+    Ok(all)
+}
+
+/// Whether exactly one instruction refers to payload `k`, where it is known how many refer to each.
+fn is_once(uses: &[Use], insns: &[Insn<'_>], k: usize) -> bool
+    requires uses { AreUses (map insn insns.now) (length insns.now) uses.now }
+    requires inside { k < length insns.now }
+    ensures { IsTrue result ↔ IsUsedOnce (map insn insns.now) k }
+{
+    match uses[k] {
+        Use::Once => true,
+        _ => false,
+    }
+}
+
+/// Whether the payload that instruction `k` is or refers to is used as it has to be, where this is known.
+fn payload_holds_by(uses: &[Use], insns: &[Insn<'_>], k: usize) -> bool
+    requires uses { AreUses (map insn insns.now) (length insns.now) uses.now }
+    requires inside { k < length insns.now }
+    ensures { IsTrue result ↔ PayloadHolds (map insn insns.now) k }
+{
+    if !reach_holds(insns, k) {
+        return false;
+    }
+    if !is_switch(payload_of(&insns[k])) {
+        return true;
+    }
+    is_once(uses, insns, k)
+}
+
+/// Whether all payloads are, as `code_holds` of `PayloadUse` says it, in time that grows with the code: it takes a byte an
+/// instruction.
+pub fn payloads_hold_in(alloc: Global, one: &Code<'_>) -> Result<bool, AllocError>
+    ensures { IfOk result (λ hold. IsTrue hold ↔ PayloadsHold (code one.now)) }
+{
+    let uses = uses_of(alloc, one.insns)?;
+    for k in 0..one.insns.len() {
+        if !payload_holds_by(&uses, one.insns, k) {
+            return Ok(false);
+        }
+    }
+    Ok(true)
 }

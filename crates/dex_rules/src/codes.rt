@@ -1,13 +1,14 @@
 //! The rules of bodies, over all bodies of a class.
 
-ghost use Rattle.std.specs.Prelude.{◌↔◌, map, IsTrue, IfSome};
+ghost use Rattle.std.specs.Prelude.{◌↔◌, map, IfOk, IsTrue, IfSome};
 ghost use Rattle.std.specs.List.{AllByRecursion};
 ghost use Rattle.dex_program.specs.View.{method, class};
 ghost use Rattle.dex_rules.specs.Rules.{CodesHold};
-ghost use Rattle.dex_code_rules.specs.CodeRules.{Keeps};
+ghost use Rattle.dex_code_rules.specs.CodeRules.{Keeps, PayloadsHold};
 
-use dex_code_rules::{CodeRule, code_holds};
+use dex_code_rules::{CodeRule, code_holds, payloads_hold_in};
 use dex_program::{Class, Method};
+use std::alloc::{AllocError, Global};
 
 /// Whether the method's body does, if it has one.
 fn method_holds(rule: CodeRule, one: &Method<'_>) -> bool
@@ -39,4 +40,36 @@ pub(crate) fn codes_hold(rule: CodeRule, one: &Class<'_>) -> bool
         return false;
     }
     methods_hold(rule, one.virtuals)
+}
+
+/// Whether the payloads in the method's body are used as they have to be, if it has one.
+fn method_uses_hold(alloc: Global, one: &Method<'_>) -> Result<bool, AllocError>
+    ensures { IfOk result (λ hold. IsTrue hold ↔ IfSome (method one.now).code PayloadsHold) }
+{
+    match one.code {
+        Some(body) => payloads_hold_in(alloc, body),
+        None => Ok(true),
+    }
+}
+
+/// Whether those in the bodies of all of the methods are.
+fn methods_uses_hold(alloc: Global, all: &[Method<'_>]) -> Result<bool, AllocError>
+    ensures { IfOk result (λ hold. IsTrue hold ↔ AllByRecursion (λ m. IfSome m.code PayloadsHold) (map method all.now)) }
+{
+    for each in all {
+        if !method_uses_hold(alloc, each)? {
+            return Ok(false);
+        }
+    }
+    Ok(true)
+}
+
+/// Whether those in all bodies in the class are, as `codes_hold` of `PayloadUse` says it.
+pub(crate) fn payload_uses_hold(alloc: Global, one: &Class<'_>) -> Result<bool, AllocError>
+    ensures { IfOk result (λ hold. IsTrue hold ↔ CodesHold PayloadsHold (class one.now)) }
+{
+    if !methods_uses_hold(alloc, one.directs)? {
+        return Ok(false);
+    }
+    methods_uses_hold(alloc, one.virtuals)
 }

@@ -10,7 +10,7 @@ ghost use Rattle.dex_ranges.specs.Ranges.{ClassInRange};
 ghost use Rattle.dex_rules.specs.Rules.{ClassBreaks, ClassHolds, CodesBreak, CodesHold, OrderHolds, RuleBreaks};
 ghost use Rattle.dex_rules.specs.WellFormed.{WellFormed};
 
-use crate::codes::codes_hold;
+use crate::codes::{codes_hold, payload_uses_hold};
 use crate::members::{members_rise, names_are_valid};
 use crate::numbers::{Numbers, numbers_of, order_holds_in};
 use crate::order::order_holds;
@@ -21,8 +21,9 @@ use dex_program::{Class, Desc, Program};
 use dex_ranges::class_is_in_range;
 use std::alloc::Global;
 
-/// Whether the code of class `place` keeps all rules.
-fn check_codes(place: u64, one: &Class<'_>) -> Result<(), Fault>
+/// Whether the code of class `place` keeps all rules, if it is known whether its payloads are used as they have to be.
+fn check_codes(place: u64, one: &Class<'_>, uses_hold: bool) -> Result<(), Fault>
+    requires uses { IsTrue uses_hold ↔ CodesHold PayloadsHold (class one.now) }
     ensures operands { OnOk result (CodesHold OperandsHold (class one.now)) }
     ensures targets { OnOk result (CodesHold TargetsHold (class one.now)) }
     ensures payloads { OnOk result (CodesHold PayloadsHold (class one.now)) }
@@ -41,7 +42,7 @@ fn check_codes(place: u64, one: &Class<'_>) -> Result<(), Fault>
             place,
         });
     }
-    if !codes_hold(CodeRule::PayloadUse, one) {
+    if !uses_hold {
         return Err(Fault {
             code: fault::PROGRAM_PAYLOAD_USE,
             place,
@@ -56,8 +57,10 @@ fn check_codes(place: u64, one: &Class<'_>) -> Result<(), Fault>
     Ok(())
 }
 
-/// Whether class `i` of a program keeps all rules, if it is known whether it is in order; then its numbers are in range.
-fn check_class(i: usize, one: &Class<'_>, is_in_order: bool) -> Result<(), Fault>
+/// Whether class `i` of a program keeps all rules, if it is known whether it is in order and its payloads are used as they have to
+/// be; then its numbers are in range.
+fn check_class(i: usize, one: &Class<'_>, is_in_order: bool, uses_hold: bool) -> Result<(), Fault>
+    requires uses { IsTrue uses_hold ↔ CodesHold PayloadsHold (class one.now) }
     ensures ok { (p : content.Program) → IsTrue is_in_order ↔ OrderHolds p i (class one.now) → OnOk result (ClassHolds p i (class one.now)) }
     ensures ranges { OnOk result (ClassInRange (class one.now)) }
     ensures err { (p : content.Program) → IsTrue is_in_order ↔ OrderHolds p i (class one.now) → IfErr result (ClassBreaks p i (class one.now)) }
@@ -87,7 +90,7 @@ fn check_class(i: usize, one: &Class<'_>, is_in_order: bool) -> Result<(), Fault
             place,
         });
     }
-    check_codes(place, one)?;
+    check_codes(place, one, uses_hold)?;
     class_is_in_range(one);
     Ok(())
 }
@@ -109,7 +112,8 @@ pub fn well_formed(all: &Program<'_>) -> Result<(), Fault>
     for i in 0..all.classes.len() {
         let one = &all.classes[i];
         let is_in_order = order_holds(all.classes, i, one);
-        check_class(i, one, is_in_order)?;
+        let uses_hold = codes_hold(CodeRule::PayloadUse, one);
+        check_class(i, one, is_in_order, uses_hold)?;
     }
     Ok(())
 }
@@ -135,13 +139,14 @@ fn check_classes(alloc: Global, numbers: &Numbers<'_>, classes: &[Class<'_>]) ->
     for i in 0..classes.len() {
         let one = &classes[i];
         let is_in_order = order_holds_in(alloc, numbers, i, one)?;
-        check_class(i, one, is_in_order)?;
+        let uses_hold = payload_uses_hold(alloc, one)?;
+        check_class(i, one, is_in_order, uses_hold)?;
     }
     Ok(())
 }
 
-/// Whether a program is well formed, as `well_formed` says it. Types are looked up by hash, so
-/// that n classes take time that grows with n; want of memory is a refusal (255).
+/// Whether a program is well formed, as `well_formed` says it. Types are looked up by hash and the users of payloads are noted in
+/// one walk, so that n classes or n switches take time that grows with n; want of memory is a refusal (255).
 pub fn well_formed_in(alloc: Global, all: &Program<'_>) -> Result<(), Fault>
     ensures formed { OnOk result (WellFormed (program all.now)) }
     ensures err { IfErr result (λ e. e ≢ memory → RuleBreaks (program all.now) e) }

@@ -1,0 +1,204 @@
+#!/usr/bin/env python3
+"""Makes input that is meant to be slow: shapes.py SHAPE N OUT writes a listing or a .dex file of version 035.
+
+Each function below is a shape, and its first line says what it is. The same N gives the same input. `run` times them.
+"""
+import os, struct, sys
+
+sys.path.insert(0, os.path.join(os.path.dirname(os.path.abspath(__file__)), "..", "read"))
+from make import File, new_class, sleb, uleb
+
+
+# ---- files
+
+def code(units, outs=0, tries=b"", count=0, registers=1):
+    """A code_item; `tries` are its try_items and handlers."""
+    item = struct.pack("<HHHHII", registers, 0, outs, count, 0, len(units)) + struct.pack(f"<{len(units)}H", *units)
+    return item + (b"\0\0" if count and len(units) % 2 else b"") + tries
+
+
+def file_of_body(file, body):
+    """The file of one class LA; with one direct method whose body is made once all indices are known."""
+    c = new_class(file.type("LA;"), None)
+    c["directs"] = [(file.method("LA;", "m", file.proto("V")), 9, body)]
+    file.classes.append(c)
+    return file
+
+
+def calls(n):
+    """n / 4 calls of methods of a class whose name has n units"""
+    file, owner = File(), "L" + "a" * n + ";"
+    called = [file.method(owner, f"m{i:06}", file.proto("V")) for i in range(n // 4)]
+    body = lambda file: code([u for m in called for u in (0x0071, file.method_at[m], 0)] + [0x0E])
+    return file_of_body(file, body)
+
+
+def handlers(n):
+    """n tries with one handler of n / 4 catches"""
+    file = File()
+    caught = file.type("LE;")
+
+    def body(file):
+        tries = b"".join(struct.pack("<IHH", i, 1, 1) for i in range(n))
+        one = (uleb(file.type_at[caught]) + uleb(0)) * (n // 4)
+        return code([0] * n + [0x0E], tries=tries + uleb(1) + sleb(n // 4) + one, count=n)
+
+    return file_of_body(file, body)
+
+
+def prototypes(n):
+    """n prototypes with one list of n parameters"""
+    file = File()
+    types = tuple(file.type(f"LT{i:05};") for i in range(n))
+    c = new_class(file.type("LA;"), None)
+    c["virtuals"] = [(file.method("LA;", "m", file.proto(t, *types)), 0x401, None) for t in types]
+    file.classes.append(c)
+    return file
+
+
+class Overlapping(File):
+    """A file whose long texts lie in one run of bytes, each behind its own count of units, which is part of the texts before it."""
+
+    def lay(self, n):
+        """The run, from its end on: a count of r units may stand where its bytes are characters too."""
+        parts, size, units, begins, text = [b"\0"], 1, 0, [], ""
+        while units < n:
+            low, middle, high = units % 128, units // 128 % 128, units // 16384
+            if low < 64 and 0 < middle and high == 0:
+                bytes_, chars, count = bytes((0xC2, 0x80 + low, middle)), chr(0x80 + low) + chr(middle), 2
+            elif low < 64 and middle < 64 and 0 < high:
+                bytes_, chars, count = bytes((0xE1, 0x80 + low, 0x80 + middle, high)), chr(0x1000 + 64 * low + middle) + chr(high), 3
+            else:
+                parts.append(b"a")
+                text, size, units = "a" + text, size + 1, units + 1
+                continue
+            begins.append((self.text(text), size + count))
+            parts.append(bytes_)
+            text, size, units = chars + text, size + len(bytes_), units + 2
+        self.run, self.from_end = b"".join(reversed(parts)), dict(begins)
+        return [text for text, _ in begins]
+
+    def texts(self, begin):
+        data, places = bytearray(self.run), []
+        for s in self.string_at:
+            if s in self.from_end:
+                places.append(begin + len(self.run) - self.from_end[s])
+            else:
+                places.append(begin + len(data))
+                data.extend(uleb(len(s)) + s.encode("ascii") + b"\0")
+        return data, places
+
+
+def overlapping(n):
+    """n / 4 texts that overlap in one run of n units"""
+    file = Overlapping()
+    texts = file.lay(n)
+    return file_of_body(file, lambda file: code([u for t in texts for u in (0x001A, file.string_at[t])] + [0x0E]))
+
+
+# ---- listings
+
+def listing_of_body(lines, registers=1):
+    return "\n".join(["dex 035", "class LA; 0x1", "direct m ()V 0x9", f"code {registers} 0 0", *lines, "end code", "end class", ""])
+
+
+def payloads(n):
+    """n packed-switches in one body, their payloads in turned order"""
+    lines = [f"{k}: packed-switch v0 @{2 * n + 1 - k}" for k in range(n)] + [f"{n}: return-void", f"{n + 1}: nop"]
+    return listing_of_body(lines + [f"{n + 2 + k}: packed-switch-payload 0 @0" for k in range(n)])
+
+
+def members(n):
+    """n / 4 fields of a class whose name has n units"""
+    return "\n".join(["dex 035", "class L" + "a" * n + "; 0x1", *(f"static f{i:06} I 0x9" for i in range(n // 4)), "end class", ""])
+
+
+def collisions(n):
+    """n texts with one hash"""
+    low64, multiplier = (1 << 64) - 1, 0x9E3779B97F4A7C15
+
+    def mixed(state, word):
+        product = (state ^ word) * (multiplier ^ 16)
+        return product & low64 ^ product >> 64
+
+    begin, lines = mixed(0x243F6A8885A308D3, 8), []
+    for k in range(n):
+        words = (k + 1, mixed(begin, k + 1))  # the second word makes the state 0 before it is mixed
+        text = "".join(f"\\u{word >> shift & 0xFFFF:04x}" for word in words for shift in (0, 16, 32, 48))
+        lines.append(f'{k}: const-string/jumbo v0 "{text}"')
+    return listing_of_body(lines + [f"{n}: return-void"])
+
+
+def nulls(n):
+    """an array of n values of one byte"""
+    return "\n".join(["dex 035", "class LA; 0x1", "static f [I 0x9 = array { " + "null " * n + "}", "end class", ""])
+
+
+def nops(n):
+    """n nops in one body"""
+    return listing_of_body([f"{k}: nop" for k in range(n)] + [f"{n}: return-void"])
+
+
+def deep(n):
+    """n arrays, each in the one before it: refused"""
+    return "\n".join(["dex 035", "class LA; 0x1", "static f [I 0x9 = " + "array { " * n + "} " * n, "end class", ""])
+
+
+def braces(n):
+    """n opening braces in a call: refused"""
+    return listing_of_body(["0: invoke-static " + "{ " * n + "LA;->m()V"])
+
+
+def blanks(n):
+    """n empty lines"""
+    return "dex 035\n" + "\n" * n
+
+
+def comments(n):
+    """n lines of a comment"""
+    return "dex 035\n" + "# nothing\n" * n
+
+
+def tries(n):
+    """n tries with one handler"""
+    lines = [f"{k}: nop" for k in range(n)] + [f"{n}: return-void"]
+    return listing_of_body(lines + [line for k in range(n) for line in (f"try @{k} @{k + 1}", "catchall @0")])
+
+
+def targets(n):
+    """a switch with n targets"""
+    return listing_of_body(["0: packed-switch v0 @2", "1: return-void", "2: packed-switch-payload 0" + " @1" * n])
+
+
+def interfaces(n):
+    """n interfaces of one class, in falling order"""
+    return "\n".join(["dex 035", "class LA; 0x1", *(f"implements LI{i:06};" for i in reversed(range(n))), "end class", ""])
+
+
+def chain(n):
+    """n classes, each the superclass of the next one, in falling order of their types"""
+    lines, above = ["dex 035"], "Ljava/lang/Object;"
+    for i in reversed(range(n)):
+        lines += [f"class LC{i:06}; 0x1", f"super {above}", "end class"]
+        above = f"LC{i:06};"
+    return "\n".join(lines + [""])
+
+
+# ---- what `run` times: the shapes, each with N
+
+SHAPES = [
+    (payloads, 20000), (members, 32000), (calls, 32000), (handlers, 2000), (collisions, 10000), (prototypes, 500), (overlapping, 8000),
+    (nulls, 2000000), (nops, 500000), (deep, 500000), (braces, 500000), (blanks, 1000000), (comments, 500000), (tries, 32767),
+    (targets, 32767), (interfaces, 32000), (chain, 30000),
+]
+
+
+if __name__ == "__main__":
+    name, n, path = sys.argv[1:]
+    made = {shape.__name__: shape for shape, _ in SHAPES}[name](int(n))
+    if isinstance(made, str):
+        with open(path, "w") as out:
+            out.write(made)
+    else:
+        made.index()
+        made.write(path)
