@@ -94,7 +94,7 @@ def item(draw):
     count = 112 if tries else 120
     units, starts = units_of(draw, count)
     assert len(units) == count, len(units)
-    out = struct.pack("<HHHHII", 16, 1, 2, tries, 0, count) + struct.pack(f"<{count}H", *units)
+    out = struct.pack("<HHHHII", 256, 1, 2, tries, 0, count) + struct.pack(f"<{count}H", *units)
     if tries:
         begin = draw.choice(starts)
         out += struct.pack("<IHH", begin, draw.randrange(1, count - begin + 1), 1)

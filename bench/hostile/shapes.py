@@ -170,6 +170,14 @@ def targets(n):
     return listing_of_body(["0: packed-switch v0 @2", "1: return-void", "2: packed-switch-payload 0" + " @1" * n])
 
 
+def labels(n):
+    """a code of n labels, and n / 2 codes of one label behind it"""
+    many = [line for k in range(n) for line in (f":L{k}", "nop")]
+    few = [line for k in range(n // 2) for line in (f"direct m{k} ()V 0x9", "code 1 0 0", ":a", "goto/32 :a", "end code")]
+    head = ["dex 035 listing 2", "class LA; 0x1", "direct a ()V 0x9", "code 1 0 0"]
+    return "\n".join([*head, *many, "return-void", "end code", *few, "end class", ""])
+
+
 def interfaces(n):
     """n interfaces of one class, in falling order"""
     return "\n".join(["dex 035", "class LA; 0x1", *(f"implements LI{i:06};" for i in reversed(range(n))), "end class", ""])
@@ -189,7 +197,7 @@ def chain(n):
 SHAPES = [
     (payloads, 20000), (members, 32000), (calls, 32000), (handlers, 2000), (collisions, 10000), (prototypes, 500), (overlapping, 8000),
     (nulls, 2000000), (nops, 500000), (deep, 500000), (braces, 500000), (blanks, 1000000), (comments, 500000), (tries, 32767),
-    (targets, 32767), (interfaces, 32000), (chain, 30000),
+    (targets, 32767), (interfaces, 32000), (labels, 40000), (chain, 30000),
 ]
 
 

@@ -24,3 +24,5 @@ mod insns_read;
 mod insns_refused;
 #[cfg(test)]
 mod opcodes;
+#[cfg(test)]
+mod registers;

@@ -8,12 +8,12 @@ use Rattle.dex_code_rules.specs.CodeRules.{OperandsHold, TargetsHold, PayloadsHo
 use Rattle.dex_insn.specs.declared.opcode.IndexKind.TheVariants as kind
 use Rattle.dex_names.specs.Closure.{NameRanks, nothing}
 use Rattle.dex_program.specs.Content.{Name, OfText, OfDesc, OfField, OfMethod, Code}
-use Rattle.dex_program.specs.Formed.{IsFormed, insn_at}
+use Rattle.dex_program.specs.Formed.{IsFormed, RegistersHold, insn_at}
 use Rattle.dex_program.specs.Kinds.{IsOfKind}
 use Rattle.dex_program.specs.Mentions.{names_of_insn, names_of_try}
 
-pub formed_of : (c : Code) → OperandsHold c → TargetsHold c → PayloadsHold c → TriesHold c → c.registers < 65536 → c.ins < 65536 → c.outs < 65536 → IsFormed c
-formed_of c o t p r registers ins outs = record {
+pub formed_of : (c : Code) → OperandsHold c → TargetsHold c → PayloadsHold c → TriesHold c → RegistersHold c → c.registers < 65536 → c.ins < 65536 → c.outs < 65536 → IsFormed c
+formed_of c o t p r g registers ins outs = record {
   some = o.some;
   few = o.few;
   operands = operands_of c o t p;
@@ -23,6 +23,7 @@ formed_of c o t p r registers ins outs = record {
   registers = registers;
   ins = ins;
   outs = outs;
+  named = g;
 }
 
 none_ranks : (o : Option Name) → IfSome o (λ n. IsOfKind kind.Type n → (i : ℕ) → NameRanks nothing i n → i < 65536)

@@ -1,11 +1,11 @@
 //! Files of one code item, and what is read of them.
 
 use bumpalo::Bump;
-use dex_base::{Fault, push_words};
+use dex_base::Fault;
 use dex_code::read_code;
 use dex_container::open;
 use dex_program::Code;
-use dex_samples::{NOTHING, Rows, file_of};
+use dex_samples::{NOTHING, Rows, file_of, item_of};
 use dex_tables::Tables;
 use std::alloc::Global;
 
@@ -43,11 +43,7 @@ pub fn read_at<'a>(
     read_code(alloc, arena, &tables, &sections, off)
 }
 
-fn length(len: usize) -> u32 {
-    u32::try_from(len).unwrap_or(u32::MAX)
-}
-
-/// The code of an item of 1 register, no ins, no outs: so many tries, these units, and what stands behind them.
+/// The code of an item of 256 registers, no ins, no outs: so many tries, these units, and what stands behind them.
 pub fn read_units<'a>(
     alloc: Global,
     arena: &'a Bump,
@@ -55,10 +51,6 @@ pub fn read_units<'a>(
     units: &[u8],
     behind: &[u8],
 ) -> Result<Code<'a>, Fault> {
-    let mut item = Vec::new(alloc);
-    item.extend_from_slice(&[1, 0, 0, 0, 0, 0, tries, 0])?;
-    push_words(&mut item, &[0, length(units.len() / 2)])?;
-    item.extend_from_slice(units)?;
-    item.extend_from_slice(behind)?;
+    let item = item_of(alloc, 256, tries, units, behind)?;
     read_at(alloc, arena, &item, CODE_AT)
 }

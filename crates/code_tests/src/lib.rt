@@ -10,4 +10,6 @@ mod places;
 #[cfg(test)]
 mod puts;
 #[cfg(test)]
+mod registers;
+#[cfg(test)]
 mod tries;

@@ -72,6 +72,28 @@ static ODD: Code<'static> = Code {
     tries: &[],
 };
 
+// Five units.
+const WIDE: Insn<'static> = Insn::I51l {
+    op: 0x18,
+    a: 0,
+    b: 0,
+};
+
+// A goto of one unit over 130 units.
+#[rattlefmt::skip]
+static FAR: Code<'static> = Code {
+    registers: 1,
+    ins: 0,
+    outs: 0,
+    insns: &[
+        Insn::I10t { op: 0x28, to: 27 },
+        WIDE, WIDE, WIDE, WIDE, WIDE, WIDE, WIDE, WIDE, WIDE, WIDE, WIDE, WIDE, WIDE,
+        WIDE, WIDE, WIDE, WIDE, WIDE, WIDE, WIDE, WIDE, WIDE, WIDE, WIDE, WIDE, WIDE,
+        Insn::I10x { op: 0x0e },
+    ],
+    tries: &[],
+};
+
 // A number of 16 bits.
 fn is_u16(_number: u16)
     ensures { _number < 65536 }
@@ -93,7 +115,10 @@ fn is_formed(code: &Code<'_>) -> bool
     if !code_holds(CodeRule::PayloadUse, code) {
         return false;
     }
-    code_holds(CodeRule::Try, code)
+    if !code_holds(CodeRule::Try, code) {
+        return false;
+    }
+    code_holds(CodeRule::Register, code)
 }
 
 // Whether the instructions begin at these addresses, and end at the last one.
@@ -126,12 +151,22 @@ fn is_put_so(alloc: Global) -> Result<bool, Fault> {
     Ok(item.as_slice() == ITEM.as_slice())
 }
 
+// Whether a code is refused with this fault, at instruction 0.
+fn is_refused_so(put: Result<Vec<u8>, Fault>, want: u16) -> bool {
+    match put {
+        Ok(_) => false,
+        Err(refusal) => refusal.code == want && refusal.place == 0,
+    }
+}
+
 #[tactic(auto, unfolding(dex_program::specs::Sizes::insn_units, dex_program::specs::Sizes::total))]
 fn is_odd_one_refused(alloc: Global) -> bool {
-    match item_of(alloc, &ODD) {
-        Ok(_) => false,
-        Err(refusal) => refusal.code == fault::MISALIGNED && refusal.place == 0,
-    }
+    is_refused_so(item_of(alloc, &ODD), fault::MISALIGNED)
+}
+
+#[tactic(auto, unfolding(dex_program::specs::Sizes::insn_units, dex_program::specs::Sizes::total))]
+fn is_far_one_refused(alloc: Global) -> bool {
+    is_refused_so(item_of(alloc, &FAR), fault::BRANCH_OUT_OF_REACH)
 }
 
 // The switch, a nop and the payload, whose target is the switch: three, one and six units.
@@ -153,6 +188,9 @@ fn first_wrong(alloc: Global) -> Result<Option<&'static str>, Fault> {
     }
     if !is_odd_one_refused(alloc) {
         return Ok(Some("a payload at an odd address"));
+    }
+    if !is_far_one_refused(alloc) {
+        return Ok(Some("a goto over 130 units"));
     }
     if !is_aligned_so(alloc)? {
         return Ok(Some("the same, aligned"));

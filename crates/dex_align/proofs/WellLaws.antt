@@ -10,7 +10,7 @@ use Rattle.dex_code_rules.proofs.OperandLaws.{formed_operands}
 use Rattle.dex_code_rules.specs.CodeRules.{OperandsHold, TargetsHold, PayloadsHold, TriesHold}
 use Rattle.dex_program.specs.Content.{Descriptor, Code, Method, Class, Program}
 use Rattle.dex_program.specs.Depth.{depth}
-use Rattle.dex_program.specs.Formed.{IsFormed}
+use Rattle.dex_program.specs.Formed.{IsFormed, RegistersHold}
 use Rattle.dex_ranges.specs.Ranges.{NameInRange, ValueInRange, MemberInRange, CodeInRange, DefinedInRange, ClassInRange}
 use Rattle.dex_rules.specs.WellFormed.{WellFormed}
 use Rattle.dex_rules.specs.Rules.{NamesAreValid, KeysRise, MembersRise, AreDistinct, OrderHolds, ValuesFit, CodesHold, ClassHolds, member_key, method_key}
@@ -30,7 +30,7 @@ classes_formed (c ∷ cs) h r = (h 0 c refl r.0, classes_formed cs (λ i d e. h 
 
 pub program_formed : (p : Program) → WellFormed p → AllByRecursion (CodesHold IsFormed) p
 program_formed p w =
-    classes_formed p (λ i c e r. let h = w.rules i c e in class_formed c h.operands h.targets h.payloads h.tries r) w.ranges
+    classes_formed p (λ i c e r. let h = w.rules i c e in class_formed c h.operands h.targets h.payloads h.tries h.registers r) w.ranges
 
 some_turned : (P Q : Code → Type 0) → ((c : Code) → P c → Q c) → (o : Option Code) → IfSome o P → IfSome o Q
 some_turned P Q h None a = tt
@@ -120,6 +120,7 @@ class_rules p q e i c d a h f = record {
   targets = codes_turned TargetsHold (λ k g. g.targets) d f;
   payloads = codes_turned PayloadsHold (λ k g. g.payloads) d f;
   tries = codes_turned TriesHold (λ k g. g.tries) d f;
+  registers = codes_turned RegistersHold (λ k g. g.named) d f;
 }
 
 item_of : {A : Type 0} (P : A → Type 0) (xs : List A) (i : ℕ) (x : A) → slice_get xs i ≡ Some x → AllByRecursion P xs → P x

@@ -52,7 +52,7 @@ class_keeps : (s : Five) (p : Program) (i : ℕ) (c : Class) → s ≡ needed p 
 class_keeps s p i c e w at =
     let named = class_ranked s p i c e at in
     let k = w.rules i c at in
-    let formed = class_formed c k.operands k.targets k.payloads k.tries (all-get ClassInRange p i c w.ranges at) in
+    let formed = class_formed c k.operands k.targets k.payloads k.tries k.registers (all-get ClassInRange p i c w.ranges at) in
     record {
       directs = methods_keep s c.ty c.directs formed.directs (directs_kept (HasName s) c named);
       virtuals = methods_keep s c.ty c.virtuals formed.virtuals (virtuals_kept (HasName s) c named);

@@ -22,12 +22,13 @@ use Rattle.dex_value.proofs.Namings.{NameIsAt-functional}
 use Rattle.dex_value.proofs.Places.{outside_none}
 use Rattle.dex_value.proofs.Refusing.{array_none}
 use Rattle.dex_value.proofs.Weaker.{SpellsArray-weaker}
-use Rattle.dex_code.proofs.CarryLaws.{code_weaker}
-use Rattle.dex_code.proofs.CodeLaws.{broken_none}
+use Rattle.dex_code.proofs.CarryLaws.{body_weaker, code_weaker}
+use Rattle.dex_code.proofs.CodeLaws.{broken_none, past_none}
+use Rattle.dex_code.proofs.StandLaws.{NameIsAt-functional as code_names}
 use Rattle.dex_class.specs.ClassRows.{class_word, no_index, IndexOrNone}
 use Rattle.dex_class.specs.ClassData.{FieldEntry, MethodEntry, Entries, steps, index_of, IsRun}
 use Rattle.dex_class.specs.Classes.{IsField, IsMethod, SomeCodeStands}
-use Rattle.dex_class.specs.ClassFaults.{EntryBreaks, FieldOwner, MethodOwner, OneBreaks, ClassBreaks, ClassHolds, ValuesHold, ValuesBreak, CodesHold, CodesBreak, MethodsHold, MethodsBreak}
+use Rattle.dex_class.specs.ClassFaults.{EntryBreaks, FieldOwner, MethodOwner, OneBreaks, ClassBreaks, ClassHolds, ValuesHold, ValuesBreak, SomeBodyStands, BodyHolds, BodyFails, CodeHolds, RegistersFail, CodesHold, CodesBreak, MethodsHold, MethodsBreak, BodiesHold, BodiesBreak, RegistersHold, RegistersBreak}
 use Rattle.dex_class.proofs.EntryLaws.{entries_one, entry_at, at_some}
 
 -- a fact of this number, or of another
@@ -136,20 +137,36 @@ module _ (b : List ℕ) (framed : IsFramed b) where
       breaks_none (NameIsAt m.names) (NameIsAt-functional m.names) b framed (class_word b i 7) (length m.entries.statics) m.own h.0 m.breaks
       (array_weaker (NameStands b) (NameIsAt m.names) (λ k n. stands_names b m.names k n framed m.of_file) b (class_word b i 7) (length m.entries.statics) h.0 here)
 
-  codes_clear : (es : List MethodEntry) (e : Fault) → CodesHold b es → CodesBreak b es e → ⊥
-  codes_clear es e h m =
-      let code = h m.entry m.numbers m.there in
-      let place = m.numbers.1.1 in
-      let s = at_some place (code.0 ≡ None) (SomeCodeStands b place code.0) m.some code.1 in
+  -- what holds at an offset has no fault there
+  body_clear : (place : ℕ) (e : Fault) → BodyHolds b place → BodyFails b place e → ⊥
+  body_clear place e h m =
+      let s = at_some place (h.0 ≡ None) (SomeBodyStands b place h.0) m.some h.1 in
       broken_none (NameIsAt m.names) b framed place e s.some m.breaks
+      (body_weaker (NameStands b) (NameIsAt m.names) (λ k n. stands_names b m.names k n framed m.of_file) b place s.some s.stands)
+
+  registers_clear : (place : ℕ) (e : Fault) → CodeHolds b place → RegistersFail b place e → ⊥
+  registers_clear place e h m =
+      let s = at_some place (h.0 ≡ None) (SomeCodeStands b place h.0) m.some h.1 in
+      past_none (NameIsAt m.names) (code_names m.names) b framed place e s.some m.breaks
       (code_weaker (NameStands b) (NameIsAt m.names) (λ k n. stands_names b m.names k n framed m.of_file) b place s.some s.stands)
 
-  pub methods_clear : (i : ℕ) (e : Fault) → MethodsHold b i → MethodsBreak b i e → ⊥
-  methods_clear i e h m =
-      let same = entries_one b framed (class_word b i 6) h.entries m.entries h.class_data m.class_data in
-      let directs = subst (λ (x : Entries). CodesHold b x.directs) same h.directs in
-      let virtuals = subst (λ (x : Entries). CodesHold b x.virtuals) same h.virtuals in
-      elim m.breaks [
-        | inl p ↦ codes_clear m.entries.directs e directs p
-        | inr p ↦ codes_clear m.entries.virtuals e virtuals p.1
-      ]
+  -- and so of both passes
+  module _ (Holds : List ℕ → ℕ → Type 0) (Fails : List ℕ → ℕ → Fault → Type 0) (clear : (place : ℕ) (e : Fault) → Holds b place → Fails b place e → ⊥) where
+    codes_clear : (es : List MethodEntry) (e : Fault) → CodesHold Holds b es → CodesBreak Holds Fails b es e → ⊥
+    codes_clear es e h m = clear m.numbers.1.1 e (h m.entry m.numbers m.there) m.fails
+
+    both_clear : (i : ℕ) (e : Fault) → MethodsHold Holds b i → MethodsBreak Holds Fails b i e → ⊥
+    both_clear i e h m =
+        let same = entries_one b framed (class_word b i 6) h.entries m.entries h.class_data m.class_data in
+        let directs = subst (λ (x : Entries). CodesHold Holds b x.directs) same h.directs in
+        let virtuals = subst (λ (x : Entries). CodesHold Holds b x.virtuals) same h.virtuals in
+        elim m.breaks [
+          | inl p ↦ codes_clear m.entries.directs e directs p
+          | inr p ↦ codes_clear m.entries.virtuals e virtuals p.1
+        ]
+
+  pub bodies_clear : (i : ℕ) (e : Fault) → BodiesHold b i → BodiesBreak b i e → ⊥
+  bodies_clear = both_clear BodyHolds BodyFails body_clear
+
+  pub methods_clear : (i : ℕ) (e : Fault) → RegistersHold b i → RegistersBreak b i e → ⊥
+  methods_clear = both_clear CodeHolds RegistersFail registers_clear

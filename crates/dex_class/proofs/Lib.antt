@@ -9,3 +9,4 @@ pub mod MethodLaws
 pub mod OnceLaws
 pub mod SeenLaws
 pub mod KeptLaws
+pub mod MeantLaws

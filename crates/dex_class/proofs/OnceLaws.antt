@@ -30,7 +30,7 @@ stands_functional b framed i (OfMethod m) (OfMethod n) e p q = ap OfMethod (meth
 stands_functional b framed i _ _ e p q = absurd (omega arith)
 
 -- and so it does of the kind that an opcode names
-one_of_kind : (b : List ℕ) → IsFramed b → code.IsFunctional (NameStands b)
+pub one_of_kind : (b : List ℕ) → IsFramed b → code.IsFunctional (NameStands b)
 one_of_kind b framed kind.String i (OfText m) (OfText n) k l p q = ap OfText (string_one b i m n framed p q)
 one_of_kind b framed kind.Type i (OfDesc m) (OfDesc n) k l p q = ap OfDesc (type_one b i m n framed p q)
 one_of_kind b framed kind.Field i (OfField m) (OfField n) k l p q = ap OfField (field_one b framed i m n p q)

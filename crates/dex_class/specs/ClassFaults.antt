@@ -1,6 +1,6 @@
--- The faults of class rows (40 to 47), static values (48 to 51) and code (60 to 72). Each is stated so that it has a meaning
--- for any file; it is asked only where the groups before, and the rows before, hold.
-use Rattle.std.specs.Prelude.{◌≡◌, ◌≢◌, ℕ, ◌<◌, ◌≤◌, ◌⊎◌, ◌==◌, ◌||◌, if◌then◌else◌, List, length, Option, Some, slice_index}
+-- The faults of class rows (40 to 47), static values (48 to 51), code (60 to 72) and its registers (73). Each is stated so that
+-- it has a meaning for any file; it is asked only where the groups before, and the rows before, hold.
+use Rattle.std.specs.Prelude.{◌≡◌, ◌≢◌, ℕ, ◌<◌, ◌≤◌, ◌⊎◌, ◌==◌, ◌||◌, if◌then◌else◌, MatchBool, None, List, length, Option, Some, slice_index}
 use Rattle.std.specs.List.{slice_get}
 use Rattle.dex_bytes.specs.declared.fault.Fault.{Fault}
 use Rattle.dex_base.specs.Descriptor.{IsClass}
@@ -11,10 +11,11 @@ use Rattle.dex_program.specs.Content.{Units, FieldRef, MethodRef, Value, Code, C
 use Rattle.dex_tables.specs.RowFields.{row_place}
 use Rattle.dex_tables.specs.Names.{Names, AreNamesOf, NameIsAt}
 use Rattle.dex_tables.specs.Sorted.{RowsHold, TablesHold}
-use Rattle.dex_tables.specs.Stands.{TypeStands, FieldStands, MethodStands}
+use Rattle.dex_tables.specs.Stands.{TypeStands, FieldStands, MethodStands, NameStands}
 use Rattle.dex_tables.specs.TableFaults.{IsFirstRow}
 use Rattle.dex_value.specs.Faults.{ArrayBreaksAt}
-use Rattle.dex_code.specs.Faults.{CodeBreaks}
+use Rattle.dex_code.specs.Code.{BodyStands}
+use Rattle.dex_code.specs.Faults.{CodeBreaks, CodeOverruns}
 use Rattle.dex_class.specs.ClassRows.{class_word, no_index, InOrder}
 use Rattle.dex_class.specs.ClassData.{MethodEntry, Entries, EntriesAt, steps, index_of}
 use Rattle.dex_class.specs.Classes.{InterfacesAt, HeadIs, StaticsAt, CodeAt}
@@ -135,39 +136,81 @@ pub record ValuesBreak (b : List ℕ) (i : ℕ) (fault : Fault) : Type 0 where
   pub breaks : ArrayBreaksAt (NameIsAt names) b (class_word b i 7) (length entries.statics) own
   pub moved : fault ≡ at_row (row_place b 5 i) own
 
--- ---- code
+-- ---- code, in two passes: bodies, whichever registers they name (60 to 72), then registers (73)
+
+-- The body at an offset.
+pub record SomeBodyStands (b : List ℕ) (place : ℕ) (code : Option Code) : Type 0 where
+  pub some : Code
+  pub is : code ≡ Some some
+  pub stands : BodyStands (NameStands b) b place some
+
+-- None at 0.
+abbrev pub BodyAt : List ℕ → ℕ → Option Code → Type 0
+BodyAt b place code = MatchBool (place == 0) (code ≡ None) (SomeBodyStands b place code)
+
+-- The body at an offset, if any, stands.
+abbrev pub BodyHolds : List ℕ → ℕ → Type 0
+BodyHolds b place = (code : Option Code) × BodyAt b place code
 
 -- The code at an offset, if any, stands.
 abbrev pub CodeHolds : List ℕ → ℕ → Type 0
 CodeHolds b place = (code : Option Code) × CodeAt b place code
 
--- The code of each of these methods stands.
-abbrev pub CodesHold : List ℕ → List MethodEntry → Type 0
-CodesHold b es = (k : ℕ) (e : MethodEntry) → slice_get es k ≡ Some e → CodeHolds b e.1.1
+-- What a code at an offset breaks, one of 60 to 72.
+pub record BodyFails (b : List ℕ) (place : ℕ) (fault : Fault) : Type 0 where
+  pub some : place ≢ 0
+  pub names : Names
+  pub of_file : AreNamesOf b names
+  pub breaks : CodeBreaks (NameIsAt names) b place fault
 
--- The first code of a list that doesn't stand, and its fault (60 to 72).
-pub record CodesBreak (b : List ℕ) (es : List MethodEntry) (fault : Fault) : Type 0 where
+-- What is wrong with the registers of the code at an offset, 73.
+pub record RegistersFail (b : List ℕ) (place : ℕ) (fault : Fault) : Type 0 where
+  pub some : place ≢ 0
+  pub names : Names
+  pub of_file : AreNamesOf b names
+  pub breaks : CodeOverruns (NameIsAt names) b place fault
+
+-- Holds and Fails are what a pass asks at an offset.
+-- Each of these methods holds.
+abbrev pub CodesHold : (List ℕ → ℕ → Type 0) → List ℕ → List MethodEntry → Type 0
+CodesHold Holds b es = (k : ℕ) (e : MethodEntry) → slice_get es k ≡ Some e → Holds b e.1.1
+
+-- The first of a list that doesn't, and its fault.
+pub record CodesBreak (Holds : List ℕ → ℕ → Type 0) (Fails : List ℕ → ℕ → Fault → Type 0) (b : List ℕ) (es : List MethodEntry) (fault : Fault) : Type 0 where
   pub entry : ℕ
   pub numbers : MethodEntry
   pub there : slice_get es entry ≡ Some numbers
-  pub some : numbers.1.1 ≢ 0
-  pub names : Names
-  pub of_file : AreNamesOf b names
-  pub breaks : CodeBreaks (NameIsAt names) b numbers.1.1 fault
-  pub before : (k : ℕ) (e : MethodEntry) → k < entry → slice_get es k ≡ Some e → CodeHolds b e.1.1
+  pub fails : Fails b numbers.1.1 fault
+  pub before : (k : ℕ) (e : MethodEntry) → k < entry → slice_get es k ≡ Some e → Holds b e.1.1
 
--- All code of row i stands.
-pub record MethodsHold (b : List ℕ) (i : ℕ) : Type 0 where
+-- All code of row i holds.
+pub record MethodsHold (Holds : List ℕ → ℕ → Type 0) (b : List ℕ) (i : ℕ) : Type 0 where
   pub entries : Entries
   pub class_data : EntriesAt b (class_word b i 6) entries
-  pub directs : CodesHold b entries.directs
-  pub virtuals : CodesHold b entries.virtuals
+  pub directs : CodesHold Holds b entries.directs
+  pub virtuals : CodesHold Holds b entries.virtuals
 
--- The first code of row i that doesn't stand: direct methods, then virtual ones.
-pub record MethodsBreak (b : List ℕ) (i : ℕ) (fault : Fault) : Type 0 where
+-- The first code of row i that doesn't: direct methods, then virtual ones.
+pub record MethodsBreak (Holds : List ℕ → ℕ → Type 0) (Fails : List ℕ → ℕ → Fault → Type 0) (b : List ℕ) (i : ℕ) (fault : Fault) : Type 0 where
   pub entries : Entries
   pub class_data : EntriesAt b (class_word b i 6) entries
-  pub breaks : CodesBreak b entries.directs fault ⊎ (CodesHold b entries.directs × CodesBreak b entries.virtuals fault)
+  pub breaks : CodesBreak Holds Fails b entries.directs fault ⊎ (CodesHold Holds b entries.directs × CodesBreak Holds Fails b entries.virtuals fault)
+
+-- The two passes.
+abbrev pub BodiesHold : List ℕ → ℕ → Type 0
+BodiesHold = MethodsHold BodyHolds
+
+-- A body of row i breaks a rule (60 to 72).
+abbrev pub BodiesBreak : List ℕ → ℕ → Fault → Type 0
+BodiesBreak = MethodsBreak BodyHolds BodyFails
+
+-- The code of row i stands, registers and all.
+abbrev pub RegistersHold : List ℕ → ℕ → Type 0
+RegistersHold = MethodsHold CodeHolds
+
+-- The registers of a code of row i don't (73).
+abbrev pub RegistersBreak : List ℕ → ℕ → Fault → Type 0
+RegistersBreak = MethodsBreak CodeHolds RegistersFail
 
 -- ---- in the order of the groups
 
@@ -197,4 +240,13 @@ pub record IsCodeFault (b : List ℕ) (fault : Fault) : Type 0 where
   pub tables : TablesHold b
   pub classes : ClassesHold b
   pub values : RowsHold ValuesHold b (size_of b 5)
-  pub first : IsFirstClass MethodsBreak MethodsHold b fault
+  pub first : IsFirstClass BodiesBreak BodiesHold b fault
+
+-- The first of the registers, where all code holds too.
+pub record IsRegisterFault (b : List ℕ) (fault : Fault) : Type 0 where
+  pub framed : IsFramed b
+  pub tables : TablesHold b
+  pub classes : ClassesHold b
+  pub values : RowsHold ValuesHold b (size_of b 5)
+  pub bodies : RowsHold BodiesHold b (size_of b 5)
+  pub first : IsFirstClass RegistersBreak RegistersHold b fault

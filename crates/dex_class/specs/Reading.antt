@@ -1,10 +1,10 @@
 -- What the private functions of reading say.
-use Rattle.std.specs.Prelude.{◌≡◌, ◌≢◌, ℕ, ◌<◌, ◌≤◌, List, [], length, map, option_map, Some, None}
+use Rattle.std.specs.Prelude.{◌≡◌, ◌≢◌, ℕ, ◌<◌, ◌≤◌, List, [], length, map, option_map, Option, Some, None, IfSome, IfNone}
 use Rattle.std.specs.List.{slice_get}
 use Rattle.dex_bytes.specs.declared.fault.Fault.{Fault}
 use Rattle.dex_container.specs.Faults.{on}
 use Rattle.dex_program.specs.Content as content
-use Rattle.dex_program.specs.View.{str, desc, proto, member, value}
+use Rattle.dex_program.specs.View.{str, desc, proto, member, value, code}
 use Rattle.dex_class.specs.declared.class_data.FieldEntry.{FieldEntry}
 use Rattle.dex_class.specs.declared.class_data.MethodEntry.{MethodEntry}
 use Rattle.dex_class.specs.declared.class_data.Counts.{Counts}
@@ -12,13 +12,14 @@ use Rattle.dex_class.specs.declared.class_data.Entries.{Entries}
 use Rattle.dex_class.specs.declared.members.Bare.{Bare}
 use Rattle.dex_class.specs.declared.heads.Head.{Head}
 use Rattle.dex_class.specs.declared.members.Members.{Members}
+use Rattle.dex_class.specs.declared.methods.Found.{Found}
 use Rattle.dex_class.specs.ClassData.{IsRun}
 use Rattle.dex_class.specs.declared.statics.Statics.{Statics}
 use Rattle.dex_class.specs.ClassData as numbers
-use Rattle.dex_class.specs.Classes.{IsField, IsMethod, HeadIs, CodeAt}
-use Rattle.dex_tables.specs.Names.{Names, AreNamesOf, NameIsAt}
-use Rattle.dex_code.specs.Faults.{CodeBreaks}
-use Rattle.dex_class.specs.ClassFaults.{EntryBreaks, ValuesStand, CodeHolds}
+use Rattle.dex_class.specs.ClassRows.{class_word}
+use Rattle.dex_class.specs.Classes.{IsField, IsMethod, HeadIs, StaticsAt}
+use Rattle.dex_class.specs.ClassFaults.{EntryBreaks, ValuesStand, BodyAt, BodyHolds, CodeHolds, RegistersFail, RegistersHold, RegistersBreak, IsFirstClass}
+use Rattle.dex_tables.specs.Sorted.{RowsHold}
 
 -- what entries in memory say
 abbrev pub field_entry : FieldEntry → numbers.FieldEntry
@@ -105,30 +106,61 @@ IsNotAmong ts m n = (j : ℕ) (t : content.Units) → j < m → slice_get ts j �
 
 -- ---- methods with their code
 
--- A fault of the code at an offset.
-pub record CodeFails (b : List ℕ) (place : ℕ) (fault : Fault) : Type 0 where
-  pub some : place ≢ 0
-  pub names : Names
-  pub of_file : AreNamesOf b names
-  pub breaks : CodeBreaks (NameIsAt names) b place fault
+-- This is the body at an offset, and the code stands or this is the fault of its registers.
+pub record IsFound (b : List ℕ) (off : ℕ) (x : Found) : Type 0 where
+  pub body : BodyAt b off (option_map (λ c. code c.now) x.code)
+  pub hold : IfNone x.past (CodeHolds b off)
+  pub past : IfSome x.past (RegistersFail b off)
 
--- This is the method, with its code.
+-- The body at an offset stands, and the code does or this is the fault of its registers.
+pub record IsChecked (b : List ℕ) (off : ℕ) (found : Option Fault) : Type 0 where
+  pub body : BodyHolds b off
+  pub hold : IfNone found (CodeHolds b off)
+  pub past : IfSome found (RegistersFail b off)
+
+-- This is the method, with its body.
 pub record IsDone (b : List ℕ) (m : Bare) (v : content.Method) : Type 0 where
   pub name : (bare m).name ≡ v.name
   pub proto : (bare m).proto ≡ v.proto
   pub flags : (bare m).flags ≡ v.flags
-  pub code : CodeAt b m.code v.code
+  pub code : BodyAt b m.code v.code
 
--- These are the first n methods, with their code.
+-- Of the first n methods all hold.
+abbrev pub BaresHold : (List ℕ → ℕ → Type 0) → List ℕ → List Bare → ℕ → Type 0
+BaresHold Holds b ms n = (k : ℕ) (m : Bare) → k < n → slice_get ms k ≡ Some m → Holds b m.code
+
+-- These are the first n methods, with their bodies.
 pub record AreDone (b : List ℕ) (ms : List Bare) (n : ℕ) (vs : List content.Method) : Type 0 where
   pub count : length vs ≡ n
   pub each : (k : ℕ) (m : Bare) (v : content.Method) → slice_get ms k ≡ Some m → slice_get vs k ≡ Some v → IsDone b m v
-  pub hold : (k : ℕ) (m : Bare) → k < n → slice_get ms k ≡ Some m → CodeHolds b m.code
+  pub hold : BaresHold BodyHolds b ms n
 
--- The first of the methods whose code doesn't stand, and its fault.
-pub record BaresBreak (b : List ℕ) (ms : List Bare) (fault : Fault) : Type 0 where
+-- The first of the methods that doesn't hold, and its fault.
+pub record BaresBreak (Holds : List ℕ → ℕ → Type 0) (Fails : List ℕ → ℕ → Fault → Type 0) (b : List ℕ) (ms : List Bare) (fault : Fault) : Type 0 where
   pub entry : ℕ
   pub one : Bare
   pub there : slice_get ms entry ≡ Some one
-  pub fails : CodeFails b one.code fault
-  pub before : (k : ℕ) (m : Bare) → k < entry → slice_get ms k ≡ Some m → CodeHolds b m.code
+  pub fails : Fails b one.code fault
+  pub before : (k : ℕ) (m : Bare) → k < entry → slice_get ms k ≡ Some m → Holds b m.code
+
+-- Each of the methods has the body of its entry.
+abbrev pub BodiesAre : List ℕ → List numbers.MethodEntry → List content.Method → Type 0
+BodiesAre b es ms = (k : ℕ) (e : numbers.MethodEntry) (m : content.Method) → slice_get es k ≡ Some e → slice_get ms k ≡ Some m → BodyAt b e.1.1 m.code
+
+-- Row i spells the class, whichever registers its code names.
+pub record SpellsBodies (b : List ℕ) (i : ℕ) (c : content.Class) : Type 0 where
+  pub entries : numbers.Entries
+  pub head : HeadIs b i entries c
+  pub values : StaticsAt b (class_word b i 7) (length entries.statics) c.values
+  pub directs : BodiesAre b entries.directs c.directs
+  pub virtuals : BodiesAre b entries.virtuals c.virtuals
+
+-- Of the first n of the methods all hold, or this is the first fault.
+pub record BaresUpTo (Holds : List ℕ → ℕ → Type 0) (Fails : List ℕ → ℕ → Fault → Type 0) (b : List ℕ) (ms : List Bare) (n : ℕ) (past : Option Fault) : Type 0 where
+  pub none : IfNone past (BaresHold Holds b ms n)
+  pub some : IfSome past (BaresBreak Holds Fails b ms)
+
+-- The registers of all code of the first n rows hold, or this is the first fault.
+pub record RowsUpTo (b : List ℕ) (n : ℕ) (past : Option Fault) : Type 0 where
+  pub none : IfNone past (RowsHold RegistersHold b n)
+  pub some : IfSome past (IsFirstClass RegistersBreak RegistersHold b)

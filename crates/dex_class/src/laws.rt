@@ -2,7 +2,7 @@
 
 ghost use Rattle.std.specs.Prelude.{◌≡◌, ℕ, List};
 ghost use Rattle.dex_bytes.specs.declared.fault.Fault.{Fault};
-ghost use Rattle.dex_class.specs.ClassFaults.{ClassBreaks, ClassHolds, ValuesBreak, ValuesHold, MethodsBreak, MethodsHold};
+ghost use Rattle.dex_class.specs.ClassFaults.{ClassBreaks, ClassHolds, ValuesBreak, ValuesHold, BodiesBreak, BodiesHold, RegistersBreak, RegistersHold};
 ghost use Rattle.dex_class.specs.Classes.{SpellsClass};
 ghost use Rattle.dex_container.specs.Frame.{IsFramed};
 ghost use Rattle.dex_program.specs.Content.{Class};
@@ -16,5 +16,6 @@ pub fn class_is_one()
 pub fn classes_are_clear()
     ensures rows { (b : List ℕ) → IsFramed b → (i code : ℕ) → ClassHolds b i → ¬ ClassBreaks b code i }
     ensures values { (b : List ℕ) → IsFramed b → (i : ℕ) (e : Fault) → ValuesHold b i → ¬ ValuesBreak b i e }
-    ensures code { (b : List ℕ) → IsFramed b → (i : ℕ) (e : Fault) → MethodsHold b i → ¬ MethodsBreak b i e }
+    ensures code { (b : List ℕ) → IsFramed b → (i : ℕ) (e : Fault) → BodiesHold b i → ¬ BodiesBreak b i e }
+    ensures registers { (b : List ℕ) → IsFramed b → (i : ℕ) (e : Fault) → RegistersHold b i → ¬ RegistersBreak b i e }
 {}

@@ -1,14 +1,15 @@
-// The third pass over class_defs: the code of methods, faults 60 to 72, which completes the classes.
-ghost use Rattle.std.specs.Prelude.{◌≢◌, ◌<◌, IfOk, IfErr, OnOk, Some, length, map, option_map};
+// The third pass over class_defs: the code of methods, faults 60 to 72, which completes the classes. The first fault of
+// registers (73) is kept, and answered where there is no other.
+ghost use Rattle.std.specs.Prelude.{◌≢◌, ◌<◌, ◌≡◌, ◌⊎◌, IfOk, IfErr, IfSome, IfNone, OnOk, Some, length, map, option_map};
 ghost use Rattle.dex_bytes.specs.Fault.{memory};
 ghost use Rattle.dex_container.specs.Layout.{size_of};
 ghost use Rattle.dex_program.specs.View as view;
 ghost use Rattle.dex_tables.specs.Names.{AreNamesOf, AreRows};
 ghost use Rattle.dex_tables.specs.Sorted.{RowsHold};
-ghost use Rattle.dex_class.specs.Classes.{CodeAt, SpellsClass};
-ghost use Rattle.dex_class.specs.ClassFaults.{MethodsBreak, MethodsHold, IsFirstClass};
+ghost use Rattle.dex_class.specs.Classes.{SpellsClass};
+ghost use Rattle.dex_class.specs.ClassFaults.{BodyAt, BodyHolds, BodyFails, CodeHolds, RegistersFail, BodiesHold, BodiesBreak, RegistersHold, RegistersBreak, IsFirstClass};
 ghost use Rattle.dex_class.specs.Kept.{AreKept};
-ghost use Rattle.dex_class.specs.Reading.{IsHead, AreStatics, CodeFails, AreDone, BaresBreak};
+ghost use Rattle.dex_class.specs.Reading.{IsHead, AreStatics, AreDone, BaresBreak, BaresUpTo, IsFound, SpellsBodies};
 
 use crate::class_row::class_count;
 use crate::heads::Head;
@@ -17,31 +18,71 @@ use crate::statics::{Statics, head_at};
 use bumpalo::Bump;
 use bumpalo::collections::into_bump_slice;
 use dex_base::Fault;
-use dex_code::read_code;
+use dex_code::read_body;
 use dex_container::Sections;
 use dex_program::{Class, Code, Method};
 use dex_tables::Tables;
 use indexmap::IndexMap;
 use std::alloc::Global;
 
+// The code at an offset, and what is wrong with its registers, if anything is.
+#[derive(Clone, Copy)]
+pub(crate) struct Found<'a> {
+    pub(crate) code: Option<&'a Code<'a>>,
+    pub(crate) past: Option<Fault>,
+}
+
+// The methods of a list, and the first fault of their registers.
+#[derive(Clone, Copy)]
+struct Methods<'a> {
+    list: &'a [Method<'a>],
+    past: Option<Fault>,
+}
+
+// The class of a row, and the first fault of its registers.
+#[derive(Clone, Copy)]
+struct FoundClass<'a> {
+    class: Class<'a>,
+    past: Option<Fault>,
+}
+
+// The first of two faults.
+pub(crate) fn first_of(first: Option<Fault>, next: Option<Fault>) -> Option<Fault>
+    ensures first { IfSome first (λ e. result ≡ Some e) }
+    ensures next { IfNone first (result ≡ next) }
+{
+    match first {
+        Some(fault) => Some(fault),
+        None => next,
+    }
+}
+
 // The code at an offset, none at 0.
-fn read_code_at<'a>(
+pub(crate) fn read_code_at<'a>(
     alloc: Global,
     arena: &'a Bump,
     sections: &Sections<'_>,
     tables: &Tables<'a>,
     off: u32,
-) -> Result<Option<&'a Code<'a>>, Fault>
+) -> Result<Found<'a>, Fault>
     requires names { AreNamesOf sections.now tables.now }
-    ensures ok { IfOk result (λ code. CodeAt sections.now off (option_map (λ c. view.code c.now) code)) }
-    ensures err { IfErr result (λ e. e ≢ memory → CodeFails sections.now off e) }
+    ensures ok { IfOk result (λ x. BodyAt sections.now off (option_map (λ c. view.code c.now) x.code)) }
+    ensures hold { IfOk result (λ x. IfNone x.past (CodeHolds sections.now off)) }
+    ensures past { IfOk result (λ x. IfSome x.past (RegistersFail sections.now off)) }
+    ensures err { IfErr result (λ e. e ≢ memory → BodyFails sections.now off e) }
 {
     if off == 0 {
-        return Ok(None);
+        return Ok(Found {
+            code: None,
+            past: None,
+        });
     }
-    let code = read_code(alloc, arena, tables, sections, off)?;
-    let placed: &'a Code<'a> = arena.try_alloc(code)?;
-    Ok(Some(placed))
+    let body = read_body(alloc, arena, tables, sections, off)?;
+    let placed: &'a Code<'a> = arena.try_alloc(body.code)?;
+    Ok(Found {
+        code: Some(placed),
+        past: body.past,
+    })
 }
 
 // The same: what is kept of the offset, or what is read now, and kept.
@@ -50,23 +91,21 @@ fn code_at<'a>(
     arena: &'a Bump,
     sections: &Sections<'_>,
     tables: &Tables<'a>,
-    kept: &mut IndexMap<u32, &'a Code<'a>>,
+    kept: &mut IndexMap<u32, Found<'a>>,
     off: u32,
-) -> Result<Option<&'a Code<'a>>, Fault>
+) -> Result<Found<'a>, Fault>
     requires names { AreNamesOf sections.now tables.now }
-    requires kept { AreKept (λ off code. CodeAt sections.now off (Some (view.code code.now))) kept.old }
-    ensures ok { IfOk result (λ code. CodeAt sections.now off (option_map (λ c. view.code c.now) code)) }
-    ensures kept { OnOk result (AreKept (λ off code. CodeAt sections.now off (Some (view.code code.now))) kept.new) }
-    ensures err { IfErr result (λ e. e ≢ memory → CodeFails sections.now off e) }
+    requires kept { AreKept (IsFound sections.now) kept.old }
+    ensures ok { IfOk result (IsFound sections.now off) }
+    ensures kept { OnOk result (AreKept (IsFound sections.now) kept.new) }
+    ensures err { IfErr result (λ e. e ≢ memory → BodyFails sections.now off e) }
 {
-    if let Some(code) = kept.get(&off) {
-        return Ok(Some(*code));
+    if let Some(found) = kept.get(&off) {
+        return Ok(*found);
     }
-    let Some(code) = read_code_at(alloc, arena, sections, tables, off)? else {
-        return Ok(None);
-    };
-    kept.insert(off, code)?;
-    Ok(Some(code))
+    let found = read_code_at(alloc, arena, sections, tables, off)?;
+    kept.insert(off, found)?;
+    Ok(found)
 }
 
 // The methods of a list, each with its code.
@@ -75,26 +114,32 @@ fn read_methods<'a>(
     arena: &'a Bump,
     sections: &Sections<'_>,
     tables: &Tables<'a>,
-    kept: &mut IndexMap<u32, &'a Code<'a>>,
+    kept: &mut IndexMap<u32, Found<'a>>,
     bares: &[Bare<'a>],
-) -> Result<&'a [Method<'a>], Fault>
+) -> Result<Methods<'a>, Fault>
     requires names { AreNamesOf sections.now tables.now }
-    requires kept { AreKept (λ off code. CodeAt sections.now off (Some (view.code code.now))) kept.old }
-    ensures ok { IfOk result (λ ms. AreDone sections.now bares.now (length bares.now) (map view.method ms.now)) }
-    ensures kept { OnOk result (AreKept (λ off code. CodeAt sections.now off (Some (view.code code.now))) kept.new) }
-    ensures err { IfErr result (λ e. e ≢ memory → BaresBreak sections.now bares.now e) }
+    requires kept { AreKept (IsFound sections.now) kept.old }
+    ensures ok { IfOk result (λ x. AreDone sections.now bares.now (length bares.now) (map view.method x.list.now)) }
+    ensures past { IfOk result (λ x. BaresUpTo CodeHolds RegistersFail sections.now bares.now (length bares.now) x.past) }
+    ensures kept { OnOk result (AreKept (IsFound sections.now) kept.new) }
+    ensures err { IfErr result (λ e. e ≢ memory → BaresBreak BodyHolds BodyFails sections.now bares.now e) }
 {
     let mut methods: Vec<Method<'a>, &'a Bump> = Vec::with_capacity(arena, bares.len())?;
+    let mut past = None;
     for bare in bares {
-        let code = code_at(alloc, arena, sections, tables, kept, bare.code)?;
+        let found = code_at(alloc, arena, sections, tables, kept, bare.code)?;
+        past = first_of(past, found.past);
         methods.push(Method {
             name: bare.method.name,
             proto: bare.method.proto,
             flags: bare.flags,
-            code,
+            code: found.code,
         })?;
     }
-    Ok(into_bump_slice(methods))
+    Ok(Methods {
+        list: into_bump_slice(methods),
+        past,
+    })
 }
 
 // The class of row i.
@@ -103,34 +148,39 @@ fn read_class<'a>(
     arena: &'a Bump,
     sections: &Sections<'_>,
     tables: &Tables<'a>,
-    kept: &mut IndexMap<u32, &'a Code<'a>>,
+    kept: &mut IndexMap<u32, Found<'a>>,
     i: u32,
     head: Head<'a, '_>,
     statics: Statics<'a>,
-) -> Result<Class<'a>, Fault>
+) -> Result<FoundClass<'a>, Fault>
     requires names { AreNamesOf sections.now tables.now }
-    requires kept { AreKept (λ off code. CodeAt sections.now off (Some (view.code code.now))) kept.old }
+    requires kept { AreKept (IsFound sections.now) kept.old }
     requires head { IsHead sections.now i head }
     requires statics { AreStatics sections.now i statics }
-    ensures ok { IfOk result (λ c. SpellsClass sections.now i (view.class c)) }
-    ensures kept { OnOk result (AreKept (λ off code. CodeAt sections.now off (Some (view.code code.now))) kept.new) }
-    ensures err { IfErr result (λ e. e ≢ memory → MethodsBreak sections.now i e) }
+    ensures ok { IfOk result (λ x. SpellsBodies sections.now i (view.class x.class)) }
+    ensures hold { IfOk result (λ x. IfNone x.past (RegistersHold sections.now i)) }
+    ensures past { IfOk result (λ x. IfSome x.past (RegistersBreak sections.now i)) }
+    ensures kept { OnOk result (AreKept (IsFound sections.now) kept.new) }
+    ensures err { IfErr result (λ e. e ≢ memory → BodiesBreak sections.now i e) }
 {
     // Only for the proof: what holds of each value of its type.
     let _file = sections.bytes();
     let directs = read_methods(alloc, arena, sections, tables, kept, head.directs)?;
     let virtuals = read_methods(alloc, arena, sections, tables, kept, head.virtuals)?;
-    Ok(Class {
-        ty: head.ty,
-        flags: head.flags,
-        superclass: head.superclass,
-        interfaces: head.interfaces,
-        source: head.source,
-        statics: head.statics,
-        values: statics.values,
-        instances: head.instances,
-        directs,
-        virtuals,
+    Ok(FoundClass {
+        class: Class {
+            ty: head.ty,
+            flags: head.flags,
+            superclass: head.superclass,
+            interfaces: head.interfaces,
+            source: head.source,
+            statics: head.statics,
+            values: statics.values,
+            instances: head.instances,
+            directs: directs.list,
+            virtuals: virtuals.list,
+        },
+        past: first_of(directs.past, virtuals.past),
     })
 }
 
@@ -145,7 +195,7 @@ fn statics_at<'a>(sections: &Sections<'_>, statics: &[Statics<'a>], i: u32) -> S
     statics[i as usize]
 }
 
-/// The classes of all rows.
+/// The classes of all rows: 60 to 72, the first fault of code, or else 73, the first of registers.
 pub fn read_classes<'a>(
     alloc: Global,
     arena: &'a Bump,
@@ -158,17 +208,25 @@ pub fn read_classes<'a>(
     requires heads { AreRows IsHead sections.now 5 heads.now }
     requires statics { AreRows AreStatics sections.now 5 statics.now }
     ensures rows { IfOk result (λ classes. AreRows SpellsClass sections.now 5 (map view.class classes.now)) }
-    ensures hold { IfOk result (λ _. RowsHold MethodsHold sections.now (size_of sections.now 5)) }
-    ensures err { IfErr result (λ e. e ≢ memory → IsFirstClass MethodsBreak MethodsHold sections.now e) }
+    ensures hold { IfOk result (λ _. RowsHold RegistersHold sections.now (size_of sections.now 5)) }
+    ensures err { IfErr result (λ e. e ≢ memory → IsFirstClass BodiesBreak BodiesHold sections.now e
+        ⊎ (RowsHold BodiesHold sections.now (size_of sections.now 5) × IsFirstClass RegistersBreak RegistersHold sections.now e)) }
 {
+    // Only for the proof: what holds of each value of its type.
+    let _file = sections.bytes();
     let count = class_count(sections);
     let mut kept = IndexMap::new(alloc);
     let mut classes: Vec<Class<'a>, &'a Bump> = Vec::with_capacity(arena, count as usize)?;
+    let mut past = None;
     for i in 0..count {
         let head = head_at(sections, heads, i);
         let values = statics_at(sections, statics, i);
-        let class = read_class(alloc, arena, sections, tables, &mut kept, i, head, values)?;
-        classes.push(class)?;
+        let found = read_class(alloc, arena, sections, tables, &mut kept, i, head, values)?;
+        past = first_of(past, found.past);
+        classes.push(found.class)?;
     }
-    Ok(into_bump_slice(classes))
+    match past {
+        Some(fault) => Err(fault),
+        None => Ok(into_bump_slice(classes)),
+    }
 }

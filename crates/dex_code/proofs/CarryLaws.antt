@@ -11,7 +11,8 @@ use Rattle.dex_code_insns.specs.Symbols.{Says, Names, name_in}
 use Rattle.dex_code_insns.specs.Insns.{SpellsInsns}
 use Rattle.dex_code.specs.Handlers.{Handler, PlaceBy, TypeBy, CatchBy, AllBy, PartsBy, HandlerBy, ListBy, SpellsHandlers, catches_of}
 use Rattle.dex_code.specs.Tries.{SpellsTries}
-use Rattle.dex_code.specs.Code.{SpellsCode, CodeStands}
+use Rattle.dex_code.specs.Code.{SpellsBody, BodyStands, SpellsCode, CodeStands}
+use Rattle.dex_code.proofs.StandLaws.{code_body, body_code}
 
 module _ (M N : ℕ → Name → Type 0) (f : (i : ℕ) (which : Name) → M i which → N i which) where
   pub names-weaker : (r : Raw) (which : Name) → Names M r which → Names N r which
@@ -76,8 +77,8 @@ module _ (M N : ℕ → Name → Type 0) (f : (i : ℕ) (which : Name) → M i w
     tries-weaker size n items list ts s =
         record { count = s.count; hold = s.hold; handlers = s.handlers; spelled = handlers-weaker n list s.handlers s.spelled; each = s.each }
 
-  pub SpellsCode-weaker : Implies (SpellsCode M) (SpellsCode N)
-  SpellsCode-weaker bytes c s = record {
+  pub SpellsBody-weaker : Implies (SpellsBody M) (SpellsBody N)
+  SpellsBody-weaker bytes c s = record {
     whole = s.whole;
     some = s.some;
     registers = s.registers;
@@ -88,6 +89,12 @@ module _ (M N : ℕ → Name → Type 0) (f : (i : ℕ) (which : Name) → M i w
     tries = tries-weaker _ _ _ _ _ c.tries s.tries;
   }
 
+  pub body_weaker : (b : List ℕ) (off : ℕ) (c : Code) → BodyStands M b off c → BodyStands N b off c
+  body_weaker b off c a =
+      record { begin = a.begin; end = a.end; section = a.section; behind = a.behind; aligned = a.aligned; size = a.size; within = a.within; spelled = SpellsBody-weaker _ c a.spelled }
+
+  pub SpellsCode-weaker : Implies (SpellsCode M) (SpellsCode N)
+  SpellsCode-weaker bytes c s = record { body = SpellsBody-weaker bytes c s.body; named = s.named }
+
   pub code_weaker : (b : List ℕ) (off : ℕ) (c : Code) → CodeStands M b off c → CodeStands N b off c
-  code_weaker b off c a =
-      record { begin = a.begin; end = a.end; section = a.section; behind = a.behind; aligned = a.aligned; size = a.size; within = a.within; spelled = SpellsCode-weaker _ c a.spelled }
+  code_weaker b off c a = body_code N b off c a.spelled.named (body_weaker b off c (code_body M b off c a))

@@ -13,7 +13,7 @@ use Rattle.dex_code_insns.specs.Reading.{ReadInsns}
 use Rattle.dex_code.specs.Item.{tries_of, size_of, units_end, tries_begin, list_begin, units_of, items_of}
 use Rattle.dex_code_insns.specs.Insns.{SpellsInsns}
 use Rattle.dex_code.specs.Tries.{SpellsTries}
-use Rattle.dex_code.specs.Code.{SpellsCode}
+use Rattle.dex_code.specs.Code.{SpellsBody}
 use Rattle.dex_code.specs.Reading.{ReadCode, ReadTries, IsItem}
 use Rattle.dex_code.specs.declared.item.Item.{Item}
 use Rattle.dex_code_insns.proofs.InsnsOnce.{walks-one, insns-one}
@@ -54,7 +54,7 @@ module _ (f b : List ℕ) (head : 16 ≤ length f) where
       (λ i. slice_range (f ++ b) (s i) (t i)) ∙ slice-append f b (tries_begin f) (list_begin f) (omega arith) l
 
 -- the item at the front, seen from all of the bytes
-pub read-from_front : (N : ℕ → Name → Type 0) (f rest : List ℕ) (c : Code) → SpellsCode N f c → ReadCode N (f ++ rest) rest c
+pub read-from_front : (N : ℕ → Name → Type 0) (f rest : List ℕ) (c : Code) → SpellsBody N f c → ReadCode N (f ++ rest) rest c
 read-from_front N f rest c s =
     let h = s.whole.head in let l = s.whole.fixed in
     let size = size-front f rest h in
@@ -78,11 +78,11 @@ read-from_front N f rest c s =
           (subst (λ (z : List ℕ). SpellsTries N (starts s.raws) (size_of f) (tries_of f) z (drop (list_begin f) f) c.tries) (sym it) s.tries));
     }
 
-pub read-from_takes : (N : ℕ → Name → Type 0) (bytes rest : List ℕ) (c : Code) → Takes (SpellsCode N) bytes c rest → ReadCode N bytes rest c
+pub read-from_takes : (N : ℕ → Name → Type 0) (bytes rest : List ℕ) (c : Code) → Takes (SpellsBody N) bytes c rest → ReadCode N bytes rest c
 read-from_takes N bytes rest c t = subst (λ (b : List ℕ). ReadCode N b rest c) (sym t.whole) (read-from_front N t.front rest c t.spelled)
 
 -- and from all of the bytes the item at the front
-read-to_front : (N : ℕ → Name → Type 0) (f rest : List ℕ) (c : Code) → 16 ≤ length f → list_begin f ≤ length f → ReadCode N (f ++ rest) rest c → SpellsCode N f c
+read-to_front : (N : ℕ → Name → Type 0) (f rest : List ℕ) (c : Code) → 16 ≤ length f → list_begin f ≤ length f → ReadCode N (f ++ rest) rest c → SpellsBody N f c
 read-to_front N f rest c h l r =
     let d : drop (list_begin f) f ≡ r.list =
     append_cancel_right (drop (list_begin f) f) r.list rest
@@ -106,7 +106,7 @@ read-to_front N f rest c h l r =
           (subst (λ (z : ℕ). SpellsTries N (starts r.raws) z (tries_of (f ++ rest)) (items_of (f ++ rest)) r.list c.tries) size r.tries)));
     }
 
-pub takes-from_read : (N : ℕ → Name → Type 0) (bytes rest : List ℕ) (c : Code) → ReadCode N bytes rest c → Takes (SpellsCode N) bytes c rest
+pub takes-from_read : (N : ℕ → Name → Type 0) (bytes rest : List ℕ) (c : Code) → ReadCode N bytes rest c → Takes (SpellsBody N) bytes c rest
 takes-from_read N bytes rest c r =
     let k = list_begin bytes in
     let f = take k bytes ++ r.list in
@@ -126,7 +126,7 @@ abbrev pub code_with : Item → List Insn → List Try → Code
 code_with i is ts = record { registers = i.registers; ins = i.ins; outs = i.outs; insns = is; tries = ts }
 
 pub item-read : (N : ℕ → Name → Type 0) (bytes begins : List ℕ) (i : Item) (is : List Insn) (ts : List Try) → IsItem bytes i → i.size ≢ 0
-    → ReadInsns N i.units.now begins is → ReadTries N begins i.size i.tries i.items.now i.list.now ts → (rest : List ℕ) × Takes (SpellsCode N) bytes (code_with i is ts) rest
+    → ReadInsns N i.units.now begins is → ReadTries N begins i.size i.tries i.items.now i.list.now ts → (rest : List ℕ) × Takes (SpellsBody N) bytes (code_with i is ts) rest
 item-read N bytes begins i is ts p nz a b =
     let size = p.size in (
       b.behind,
@@ -161,8 +161,8 @@ read-one N bytes r s c d f p q =
     ((λ k. record { registers = a k; ins = b k; outs = o k; insns = i k; tries = both.1 k }), rest_same p.list q.list r s both.0 j)
 
 -- no code item begins another one, and it spells one code
-pub SpellsCode-unique : (N : ℕ → Name → Type 0) → IsFunctional N → IsPrefixUnique (SpellsCode N)
-SpellsCode-unique N f a b x y c d p q e =
+pub SpellsBody-unique : (N : ℕ → Name → Type 0) → IsFunctional N → IsPrefixUnique (SpellsBody N)
+SpellsBody-unique N f a b x y c d p q e =
     let u = read-from_front N a x c p in
     let v = subst (λ (l : List ℕ). ReadCode N l y d) (sym e) (read-from_front N b y d q) in
     let r = read-one N (a ++ x) x y c d f u v in

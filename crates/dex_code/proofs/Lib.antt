@@ -8,3 +8,4 @@ pub mod FaultLaws
 pub mod StandLaws
 pub mod CarryLaws
 pub mod CodeLaws
+pub mod PastLaws

@@ -12,9 +12,10 @@ use Rattle.dex_container.proofs.Standing.{stands_at, at_place}
 use Rattle.dex_program.specs.Content.{Name, Code, OfText, OfDesc, OfField, OfMethod}
 use Rattle.dex_insn.specs.declared.opcode.IndexKind.TheVariants as kind
 use Rattle.dex_code_insns.specs.Symbols.{IsFunctional}
-use Rattle.dex_code.specs.Code.{SpellsCode, CodeStands}
+use Rattle.dex_program.specs.Formed.{RegistersHold}
+use Rattle.dex_code.specs.Code.{SpellsBody, BodyStands, CodeStands}
 use Rattle.dex_code.specs.Faults.{ItemBreaks, CodeBreaks}
-use Rattle.dex_code.proofs.ItemLaws.{SpellsCode-unique, read-from_takes}
+use Rattle.dex_code.proofs.ItemLaws.{SpellsBody-unique, read-from_takes}
 use Rattle.dex_code.proofs.FaultLaws.{item-clear}
 
 some_same : {V : Type 0} (o : Option V) (a b : V) → o ≡ Some a → o ≡ Some b → a ≡ b
@@ -31,36 +32,45 @@ NameIsAt-functional names kind.Field i (OfField m) _ a b p q = absurd b
 NameIsAt-functional names kind.Method i (OfMethod m) _ a b p q = absurd b
 NameIsAt-functional names _ i _ _ a b p q = absurd a
 
-at_some : (N : ℕ → Name → Type 0) (b : List ℕ) (off : ℕ) (c : Code) (a : CodeStands N b off c) → 0 < a.size
+-- a code that stands is one whose registers hold
+pub code_body : (N : ℕ → Name → Type 0) (b : List ℕ) (off : ℕ) (c : Code) → CodeStands N b off c → BodyStands N b off c
+code_body N b off c a =
+    record { begin = a.begin; end = a.end; section = a.section; behind = a.behind; aligned = a.aligned; size = a.size; within = a.within; spelled = a.spelled.body }
+
+pub body_code : (N : ℕ → Name → Type 0) (b : List ℕ) (off : ℕ) (c : Code) → RegistersHold c → BodyStands N b off c → CodeStands N b off c
+body_code N b off c h a =
+    record { begin = a.begin; end = a.end; section = a.section; behind = a.behind; aligned = a.aligned; size = a.size; within = a.within; spelled = record { body = a.spelled; named = h } }
+
+at_some : (N : ℕ → Name → Type 0) (b : List ℕ) (off : ℕ) (c : Code) (a : BodyStands N b off c) → 0 < a.size
 unfolding slice
 at_some N b off c a =
     let l = a.spelled.whole.head in
     omega (arith, l, length-take a.size (drop off b))
 
 -- nothing stands outside the section, nor misaligned
-pub outside_none : (N : ℕ → Name → Type 0) (b : List ℕ) (off : ℕ) (c : Code) → (IsInSection b 0x2001 off → ⊥) → CodeStands N b off c → ⊥
-outside_none N b off c out a = out (at_place (SpellsCode N) b 0x2001 4 off c a (at_some N b off c a))
+pub outside_none : (N : ℕ → Name → Type 0) (b : List ℕ) (off : ℕ) (c : Code) → (IsInSection b 0x2001 off → ⊥) → BodyStands N b off c → ⊥
+outside_none N b off c out a = out (at_place (SpellsBody N) b 0x2001 4 off c a (at_some N b off c a))
 
 module _ (N : ℕ → Name → Type 0) (b rest : List ℕ) (s : Section) (off : ℕ) (is : IsSectionOf b 0x2001 s) (same : rest ≡ take (s.end - off) (drop off b)) where
-  pub code_stands : (c : Code) → s.begin ≤ off → off < s.end → off % 4 ≡ 0 → ((after : List ℕ) × Takes (SpellsCode N) rest c after) → CodeStands N b off c
+  pub code_stands : (c : Code) → s.begin ≤ off → off < s.end → off % 4 ≡ 0 → ((after : List ℕ) × Takes (SpellsBody N) rest c after) → BodyStands N b off c
   code_stands c low high even t =
-      stands_at (SpellsCode N) b rest 0x2001 4 s off is same c (length t.1.front) low high even (Begins-from_takes (SpellsCode N) rest c t.0 t.1).0
+      stands_at (SpellsBody N) b rest 0x2001 4 s off is same c (length t.1.front) low high even (Begins-from_takes (SpellsBody N) rest c t.0 t.1).0
 
-  at_takes : (c : Code) → CodeStands N b off c → (after : List ℕ) × Takes (SpellsCode N) rest c after
+  at_takes : (c : Code) → BodyStands N b off c → (after : List ℕ) × Takes (SpellsBody N) rest c after
   unfolding slice
   at_takes c a =
       let e = (is.only a.begin a.end a.section).1 in
       let w = a.within in
       let i : a.size ≤ s.end - off = omega (arith, e, w) in
       let front : take a.size rest ≡ take a.size (drop off b) = (λ j. take a.size (same j)) ∙ take-take a.size (s.end - off) (drop off b) i in
-      (drop a.size rest, record { front = take a.size rest; whole = sym (take-append-drop a.size rest); spelled = subst (λ (l : List ℕ). SpellsCode N l c) (sym front) a.spelled })
+      (drop a.size rest, record { front = take a.size rest; whole = sym (take-append-drop a.size rest); spelled = subst (λ (l : List ℕ). SpellsBody N l c) (sym front) a.spelled })
 
-  pub code_only : IsFunctional N → (c d : Code) → ((after : List ℕ) × Takes (SpellsCode N) rest c after) → CodeStands N b off d → d ≡ c
+  pub code_only : IsFunctional N → (c d : Code) → ((after : List ℕ) × Takes (SpellsBody N) rest c after) → BodyStands N b off d → d ≡ c
   code_only one c d t a =
       let u = at_takes d a in
-      (Takes-unique (SpellsCode N) rest d c u.0 t.0 (SpellsCode-unique N one) u.1 t.1).0
+      (Takes-unique (SpellsBody N) rest d c u.0 t.0 (SpellsBody-unique N one) u.1 t.1).0
 
-  pub broken_none : (fault : Fault) → ItemBreaks N off rest fault → (c : Code) → CodeStands N b off c → ⊥
+  pub broken_none : (fault : Fault) → ItemBreaks N off rest fault → (c : Code) → BodyStands N b off c → ⊥
   broken_none fault u c a =
       let t = at_takes c a in
       item-clear N off rest t.0 c fault (read-from_takes N rest t.0 c t.1) u

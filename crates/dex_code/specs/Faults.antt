@@ -4,11 +4,13 @@ use Rattle.std.specs.Prelude.{ℕ, ◌≡◌, ◌-◌, ◌+◌, ◌*◌, ◌%◌
 use Rattle.dex_bytes.specs.declared.fault.Fault.{Fault}
 use Rattle.dex_container.specs.Frame.{IsSection}
 use Rattle.dex_insn.specs.Raw.{Raw}
-use Rattle.dex_program.specs.Content.{Name}
+use Rattle.dex_program.specs.Content.{Name, Code}
 use Rattle.dex_container.specs.Where.{IsInSection}
 use Rattle.dex_code_insns.specs.Places.{IsFirst, AllHold}
 use Rattle.dex_code_insns.specs.Walk.{Walks, starts}
 use Rattle.dex_code_insns.specs.InsnFaults.{RulesHold, InsnsBreak}
+use Rattle.dex_code_insns.specs.Registers.{IsPast}
+use Rattle.dex_code.specs.Code.{BodyStands}
 use Rattle.dex_code.specs.Item.{size_of, tries_of, units_of, items_of, tries_begin, list_begin, try_handler, IsWhole}
 use Rattle.dex_code.specs.Handlers.{Handler, SpellsList, handler_at}
 use Rattle.dex_code.specs.Tries.{TryHolds}
@@ -63,3 +65,18 @@ CodeBreaks N b off fault =
     ((¬ (off % 4 ≡ 0)) × (fault ≡ record { code = 60; place = off }))
     ⊎ ((¬ IsInSection b 0x2001 off) × (fault ≡ record { code = 60; place = off }))
     ⊎ ((off % 4 ≡ 0) × (end : ℕ) × (bytes : List ℕ) × IsRest b off end bytes × ItemBreaks N off bytes fault)
+
+-- ---- registers, which are looked at last
+
+-- What is wrong with the registers of the code whose item is at `off` (73): its ins are more (the place is the item), or the
+-- first instruction that names one past them (the place is the instruction).
+abbrev pub RegistersBreak : ℕ → Code → Fault → Type 0
+RegistersBreak off c fault =
+    ((c.registers < c.ins) × (fault ≡ record { code = 73; place = off }))
+    ⊎ ((c.ins ≤ c.registers) × (at : ℕ) × IsPast c.registers c.insns at × (fault ≡ record { code = 73; place = off + 16 + 2 * at }))
+
+-- A code stands at this place but for its registers.
+pub record CodeOverruns (N : ℕ → Name → Type 0) (b : List ℕ) (off : ℕ) (fault : Fault) : Type 0 where
+  pub code : Code
+  pub body : BodyStands N b off code
+  pub breaks : RegistersBreak off code fault

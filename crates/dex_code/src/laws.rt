@@ -3,8 +3,8 @@
 ghost use Rattle.std.specs.Prelude.{◌≡◌, ℕ, List};
 ghost use Rattle.dex_bytes.specs.Grammar.{IsPrefixUnique};
 ghost use Rattle.dex_bytes.specs.declared.fault.Fault.{Fault};
-ghost use Rattle.dex_code.specs.Code.{SpellsCode, CodeStands};
-ghost use Rattle.dex_code.specs.Faults.{CodeBreaks};
+ghost use Rattle.dex_code.specs.Code.{SpellsCode, BodyStands, CodeStands};
+ghost use Rattle.dex_code.specs.Faults.{CodeBreaks, CodeOverruns};
 ghost use Rattle.dex_container.specs.Frame.{IsFramed};
 ghost use Rattle.dex_program.specs.Content.{Name, Code};
 ghost use Rattle.dex_tables.specs.Names.{Names, NameIsAt};
@@ -24,7 +24,8 @@ pub fn code_carries_over()
     ensures { (m n : Names) → ((i : ℕ) (which : Name) → NameIsAt m i which → NameIsAt n i which) → (b : List ℕ) (off : ℕ) (c : Code) → CodeStands (NameIsAt m) b off c → CodeStands (NameIsAt n) b off c }
 {}
 
-/// Where a fault stands, no code does.
+/// Where a fault stands (60 to 72), no code does, whichever registers it names; where 73 stands, none whose registers are its own.
 pub fn broken_code_is_none()
-    ensures { (names : Names) (b : List ℕ) → IsFramed b → (off : ℕ) (e : Fault) (c : Code) → CodeBreaks (NameIsAt names) b off e → ¬ CodeStands (NameIsAt names) b off c }
+    ensures body { (names : Names) (b : List ℕ) → IsFramed b → (off : ℕ) (e : Fault) (c : Code) → CodeBreaks (NameIsAt names) b off e → ¬ BodyStands (NameIsAt names) b off c }
+    ensures code { (names : Names) (b : List ℕ) → IsFramed b → (off : ℕ) (e : Fault) (c : Code) → CodeOverruns (NameIsAt names) b off e → ¬ CodeStands (NameIsAt names) b off c }
 {}

@@ -21,4 +21,4 @@ mod reading;
 mod laws;
 
 pub use laws::{broken_code_is_none, code_carries_over, code_is_one, code_is_prefix_unique};
-pub use reading::read_code;
+pub use reading::{Body, read_body, read_code};

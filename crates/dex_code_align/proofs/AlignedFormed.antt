@@ -10,7 +10,7 @@ use Rattle.dex_program.specs.Content as made
 use Rattle.dex_program.specs.declared.payload.Payload.{Payload}
 use Rattle.dex_program.specs.declared.payload.Payload.TheVariants as payload
 use Rattle.dex_program.specs.Operands.{IsOperand}
-use Rattle.dex_program.specs.Formed.{insn_at, try_at, insn_payload, insn_wants, insn_reach, insn_branch, insn_short_branch, insn_targets, AreAlike, IsSwitch, Refers, IsTarget, TargetHolds, PayloadHolds, TryFormed, IsFormed}
+use Rattle.dex_program.specs.Formed.{insn_at, try_at, insn_payload, insn_wants, insn_reach, insn_branch, insn_short_branch, insn_targets, insn_registers, AreAmong, AreAlike, IsSwitch, Refers, IsTarget, TargetHolds, PayloadHolds, TryFormed, IsFormed}
 use Rattle.dex_code_align.specs.Aligned.{with_nops, PadsPayloads, nops_to, moved, moved_insn, moved_catch, moved_try, padded, Aligned}
 use Rattle.dex_code_align.proofs.PadLaws.{length-with_nops, pads-count}
 
@@ -124,6 +124,18 @@ module _ (f : ℕ → ℕ) where
   targets-same (made.Sparse keys to) = refl
   targets-same _ = refl
 
+  registers-same : (i : Insn) → insn_registers (moved_insn f i) ≡ insn_registers i
+  unfolding insn_registers
+  registers-same (made.I10t op to) = refl
+  registers-same (made.I20t op to) = refl
+  registers-same (made.I21t op a to) = refl
+  registers-same (made.I22t op a b to) = refl
+  registers-same (made.I30t op to) = refl
+  registers-same (made.I31t op a to) = refl
+  registers-same (made.Packed first to) = refl
+  registers-same (made.Sparse keys to) = refl
+  registers-same _ = refl
+
   -- only what refers to a payload has a reach
   reach-same : (i : Insn) → AreAlike (insn_wants i) (insn_wants i) → insn_reach (moved_insn f i) ≡ f (insn_reach i)
   unfolding insn_wants insn_reach
@@ -223,6 +235,14 @@ module _ (c : Code) (ps : List Bool) (good : PadsPayloads ps c.insns) (formed : 
         | inr a ↦ subst (λ (i : Insn). P k i) (sym (at-new k (omega arith) ∙ ap (moved_insn (moved ps)) a.3))
             (subst (λ (n : ℕ). P n (moved_insn (moved ps) (insn_at c.insns a.0))) a.2 (rest a.0 a.1))
       ]
+
+  nop-among : AreAmong c.registers (made.I10x 0)
+  unfolding insn_registers
+  nop-among = tt
+
+  among : (k : ℕ) → k < length (map (moved_insn (moved ps)) (with_nops ps c.insns)) → AreAmong c.registers (insn_at (map (moved_insn (moved ps)) (with_nops ps c.insns)) k)
+  among = each-new (λ k i. AreAmong c.registers i) (λ k. nop-among)
+      (λ j l. subst (λ (vs : List ℕ). AllByRecursion (λ v. v < c.registers) vs) (sym (registers-same (moved ps) (insn_at c.insns j))) (formed.named.each j l))
 
   operands : (k : ℕ) → k < length (map (moved_insn (moved ps)) (with_nops ps c.insns)) → IsOperand (length (map (moved_insn (moved ps)) (with_nops ps c.insns))) (insn_at (map (moved_insn (moved ps)) (with_nops ps c.insns)) k)
   operands = each-new (λ k i. IsOperand (length (map (moved_insn (moved ps)) (with_nops ps c.insns))) i) (λ k. nop-operand (length (map (moved_insn (moved ps)) (with_nops ps c.insns))))
@@ -357,6 +377,7 @@ module _ (c : Code) (ps : List Bool) (good : PadsPayloads ps c.insns) (formed : 
         registers = formed.registers;
         ins = formed.ins;
         outs = formed.outs;
+        named = record { ins = formed.named.ins; each = among };
       }
 
 pub aligned-formed : (c d : Code) → IsFormed c → Aligned c d → length d.insns ≤ 2147483647 → IsFormed d

@@ -8,3 +8,5 @@ pub mod ResolveLaws
 pub mod InsnsOnce
 pub mod InsnFaultLaws
 pub mod Saying
+pub mod SaidRegisters
+pub mod PlainLaws

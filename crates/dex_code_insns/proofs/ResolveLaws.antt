@@ -106,10 +106,10 @@ spells-at N xs begins k base i t b s = record {
 
 -- ---- one by one
 
--- the first n are resolved
-pub record SomeResolved (N : ℕ → Name → Type 0) (rs : List Raw) (is : List Insn) (n : ℕ) : Type 0 where
+-- P holds of each of the first n
+pub record SomeResolved (P : ℕ → Insn → Type 0) (is : List Insn) (n : ℕ) : Type 0 where
   pub count : length is ≡ n
-  pub each : (j : ℕ) → j < n → SpellsInsn N rs j (get_or is j (content.I10x 0))
+  pub each : (j : ℕ) → j < n → P j (get_or is j (content.I10x 0))
 
 pub at-old : {A : Type 0} (is : List A) (i d : A) (j : ℕ) → j < length is → get_or (is ++ i ∷ []) j d ≡ get_or is j d
 at-old [] i d j l = absurd (omega arith)
@@ -120,24 +120,24 @@ pub at-new : {A : Type 0} (is : List A) (i d : A) → get_or (is ++ i ∷ []) (l
 at-new [] i d = refl
 at-new (x ∷ xs) i d = at-new xs i d
 
-pub resolved-more : (N : ℕ → Name → Type 0) (rs : List Raw) (k : ℕ) (xs new : List Held) (x : Held) → SomeResolved N rs (map insn xs) k → SpellsInsn N rs k (insn x) → new ≡ xs ++ x ∷ [] → SomeResolved N rs (map insn new) (k + 1)
-resolved-more N rs k xs new x s h e =
+pub resolved-more : (P : ℕ → Insn → Type 0) (k : ℕ) (xs new : List Held) (x : Held) → SomeResolved P (map insn xs) k → P k (insn x) → new ≡ xs ++ x ∷ [] → SomeResolved P (map insn new) (k + 1)
+resolved-more P k xs new x s h e =
     let is = map insn xs in
     let m : map insn new ≡ is ++ insn x ∷ [] = ap (map insn) e ∙ map-append insn xs (x ∷ []) in
     let n = s.count in
-    subst (λ (l : List Insn). SomeResolved N rs l (k + 1)) (sym m) (record {
+    subst (λ (l : List Insn). SomeResolved P l (k + 1)) (sym m) (record {
       count = omega (arith, length-append is (insn x ∷ []));
       each = λ j l. elim (cases_lt j k) [
-        | inl a ↦ subst (λ (i : Insn). SpellsInsn N rs j i) (sym (at-old is (insn x) (content.I10x 0) j (omega arith))) (s.each j a)
+        | inl a ↦ subst (λ (i : Insn). P j i) (sym (at-old is (insn x) (content.I10x 0) j (omega arith))) (s.each j a)
         | inr a ↦
             let f : k ≡ j = omega arith in
             let g : get_or (is ++ insn x ∷ []) k (content.I10x 0) ≡ insn x = subst (λ (q : ℕ). get_or (is ++ insn x ∷ []) q (content.I10x 0) ≡ insn x) n (at-new is (insn x) (content.I10x 0)) in
-            subst (λ (q : ℕ). SpellsInsn N rs q (get_or (is ++ insn x ∷ []) q (content.I10x 0))) f (subst (λ (i : Insn). SpellsInsn N rs k i) (sym g) h)
+            subst (λ (q : ℕ). P q (get_or (is ++ insn x ∷ []) q (content.I10x 0))) f (subst (λ (i : Insn). P k i) (sym g) h)
       ];
     })
 
-pub resolved-none : (N : ℕ → Name → Type 0) (rs : List Raw) (xs : List Held) → xs ≡ [] → SomeResolved N rs (map insn xs) 0
-resolved-none N rs xs e = record { count = ap (λ (l : List Held). length (map insn l)) e; each = λ j l. absurd (omega arith) }
+pub resolved-none : (P : ℕ → Insn → Type 0) (xs : List Held) → xs ≡ [] → SomeResolved P (map insn xs) 0
+resolved-none P xs e = record { count = ap (λ (l : List Held). length (map insn l)) e; each = λ j l. absurd (omega arith) }
 
-pub resolved-all : (N : ℕ → Name → Type 0) (rs : List Raw) (is : List Insn) (k : ℕ) → k ≡ length rs → SomeResolved N rs is k → AreResolved N rs is
+pub resolved-all : (N : ℕ → Name → Type 0) (rs : List Raw) (is : List Insn) (k : ℕ) → k ≡ length rs → SomeResolved (SpellsInsn N rs) is k → AreResolved N rs is
 resolved-all N rs is k e s = record { count = s.count ∙ e; each = λ j l. s.each j (omega arith) }

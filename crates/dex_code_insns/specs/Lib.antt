@@ -4,4 +4,5 @@ pub mod Symbols
 pub mod Payloads
 pub mod Insns
 pub mod InsnFaults
+pub mod Registers
 pub mod Reading

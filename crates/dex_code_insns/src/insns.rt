@@ -1,6 +1,6 @@
 //! The instructions of a code, stage by stage.
 
-ghost use Rattle.std.specs.Prelude.{◌≡◌, ◌≢◌, ◌^◌, ◌<◌, ◌≤◌, ◌%◌, length, map, IfOk, IfErr, IsOkUnless, IsTrue};
+ghost use Rattle.std.specs.Prelude.{◌≡◌, ◌≢◌, ◌^◌, ◌<◌, ◌≤◌, ◌%◌, length, map, IfOk, IfErr, IfNone, IfSome, IsOkUnless, IsTrue};
 ghost use Rattle.dex_bytes.specs.Fault.{memory};
 ghost use Rattle.dex_program.specs.View.{insn};
 ghost use Rattle.dex_tables.specs.Names.{NameIsAt};
@@ -10,9 +10,12 @@ ghost use Rattle.dex_code_insns.specs.Places.{AllHold};
 ghost use Rattle.dex_code_insns.specs.Payloads.{AreUsers, UseHolds};
 ghost use Rattle.dex_code_insns.specs.Insns.{BranchHolds, TargetsHold, NameHolds, SpellsInsn, IsBase};
 ghost use Rattle.dex_code_insns.specs.InsnFaults.{RulesHold, RulesBreak, InsnsBreak};
-ghost use Rattle.dex_code_insns.specs.Reading.{AreResolved, ReadInsns};
+ghost use Rattle.dex_code_insns.specs.Registers.{AmongAt, IsPast};
+ghost use Rattle.dex_code_insns.specs.Reading.{AreResolved, AreSpelled, ReadInsns};
 
 use crate::payloads::{is_switch, payload_at};
+use crate::plain::{are_plain, resolve_plain};
+use crate::registers::past_registers;
 use crate::rules::{check_branches, check_names, check_targets, is_payload};
 use crate::symbols::resolve;
 use crate::targets::resolve_payload;
@@ -31,6 +34,8 @@ use std::alloc::Global;
 pub struct Insns<'a> {
     pub insns: &'a [Insn<'a>],
     pub starts: Vec<u32>,
+    /// The unit at which the first instruction begins that names a register past those of the code.
+    pub past: Option<u32>,
 }
 
 /// Checks the rules of indices, branches, payloads and switches, in this order: the users of each payload.
@@ -126,25 +131,54 @@ fn resolve_all<'a>(
     Ok(into_bump_slice(found))
 }
 
-/// Reads the instructions of a code, whose first unit is at the place `base`.
+/// All instructions of a code, in one pass where there are no payloads; where that comes to nothing, the passes of the rules say
+/// which one is broken.
+fn resolve_walked<'a>(
+    alloc: Global,
+    arena: &'a Bump,
+    tables: &Tables<'a>,
+    insns: &[RawInsn<'_>],
+    begins: &[u32],
+    base: u64,
+) -> Result<&'a [Insn<'a>], Fault>
+    requires table { IsTable begins.now (map raw insns.now) }
+    requires base { base < 2 ^ 40 }
+    ensures ok { IfOk result (λ found. AreSpelled (NameIsAt tables.now) (map raw insns.now) (map insn found.now)) }
+    ensures err { IfErr result (λ e. e ≢ memory → RulesBreak (NameIsAt tables.now) (map raw insns.now) base e) }
+{
+    if are_plain(insns) {
+        if let Some(found) = resolve_plain(arena, tables, insns, begins)? {
+            return Ok(found);
+        }
+    }
+    let all = check_rules(alloc, tables, insns, begins, base)?;
+    let resolved = resolve_all(arena, tables, &all, insns, begins)?;
+    Ok(resolved)
+}
+
+/// Reads the instructions of a code of so many registers, whose first unit is at the place `base`.
 pub fn read_insns<'a>(
     alloc: Global,
     arena: &'a Bump,
     tables: &Tables<'a>,
     units: &[u8],
     base: u64,
+    registers: u16,
 ) -> Result<Insns<'a>, Fault>
     requires even { length units.now % 2 ≡ 0 }
     requires short { length units.now ≤ 8589934590 }
     requires base { base < 2 ^ 40 }
     ensures ok { IfOk result (λ i. ReadInsns (NameIsAt tables.now) units.now i.starts.items (map insn i.insns.now)) }
+    ensures among { IfOk result (λ i. IfNone i.past (AllHold (AmongAt registers (map insn i.insns.now)) (length (map insn i.insns.now)))) }
+    ensures past { IfOk result (λ i. IfSome i.past (IsPast registers (map insn i.insns.now))) }
     ensures err { IfErr result (λ e. e ≢ memory → InsnsBreak (NameIsAt tables.now) units.now base e) }
 {
     let walked = walk(alloc, units, base)?;
-    let all = check_rules(alloc, tables, &walked.insns, &walked.starts, base)?;
-    let insns = resolve_all(arena, tables, &all, &walked.insns, &walked.starts)?;
+    let insns = resolve_walked(alloc, arena, tables, &walked.insns, &walked.starts, base)?;
+    let past = past_registers(&walked.insns, &walked.starts, registers);
     Ok(Insns {
         insns,
         starts: walked.starts,
+        past,
     })
 }

@@ -2,7 +2,7 @@
 //! checked, and each instruction made symbolic, with names for indices and numbers of instructions for offsets.
 //!
 //! ```text
-//! let insns = read_insns(alloc, &arena, &tables, units, base)?; // 28 fe: goto -2 is `I10t { op: 0x28, to: .. }`
+//! let insns = read_insns(alloc, &arena, &tables, units, base, registers)?; // 28 fe: goto -2 is `I10t { op: 0x28, to: .. }`
 //! let n = number_at(&insns.starts, 7); // the number of the instruction whose address is 7
 //! ```
 #![tactic(auto)]
@@ -16,10 +16,12 @@ mod walking;
 // The rules, in the order in which they are checked.
 mod names;
 mod payloads;
+mod registers;
 mod rules;
 mod uses;
 
 // From raw instructions to symbolic ones.
+mod plain;
 mod symbols;
 mod targets;
 

@@ -95,7 +95,7 @@ fn moves(offset: i32) -> bool
 }
 
 /// Whether a branch leads to another instruction, where it has to.
-fn branch_moves(insns: &[RawInsn<'_>], k: usize) -> bool
+pub(crate) fn branch_moves(insns: &[RawInsn<'_>], k: usize) -> bool
     requires inside { k < length insns.now }
     ensures { IsTrue result ↔ BranchMoves (map raw insns.now) k }
 {

@@ -122,14 +122,17 @@ module _ (N : ℕ → Name → Type 0) (c : Code) (formed : IsFormed c) (fits : 
   packed-at raws list offs whole size h p e some s i t =
       let z = h.size_is in
       record {
-        whole = record { head = p.head; fixed = p.fixed };
-        some = omega arith;
-        registers = sym h.registers;
-        ins = sym h.ins;
-        outs = sym h.outs;
-        raws = raws;
-        insns = subst (λ (us : List ℕ). SpellsInsns N us raws c.insns) (sym p.units_is) i;
-        tries = moved-tries (sym s) (sym (z ∙ e)) (sym h.tries) (sym (p.items_is ∙ ap (λ (k : ℕ). items_bytes k (addresses_of c.insns) c.tries offs) e)) (sym p.list_is) t;
+        body = record {
+          whole = record { head = p.head; fixed = p.fixed };
+          some = omega arith;
+          registers = sym h.registers;
+          ins = sym h.ins;
+          outs = sym h.outs;
+          raws = raws;
+          insns = subst (λ (us : List ℕ). SpellsInsns N us raws c.insns) (sym p.units_is) i;
+          tries = moved-tries (sym s) (sym (z ∙ e)) (sym h.tries) (sym (p.items_is ∙ ap (λ (k : ℕ). items_bytes k (addresses_of c.insns) c.tries offs) e)) (sym p.list_is) t;
+        };
+        named = formed.named;
       }
 
   pub packed-spells : (bytes : List ℕ) → PacksCode N bytes c → SpellsCode N bytes c

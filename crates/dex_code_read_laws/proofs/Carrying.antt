@@ -14,8 +14,8 @@ use Rattle.dex_code_insns.specs.Insns.{NameHolds}
 use Rattle.dex_code_insns.specs.Symbols.{SomeName, HasName}
 use Rattle.dex_code_insns.specs.Walk.{raw_at}
 use Rattle.dex_code.specs.Code.{CodeStands}
-use Rattle.dex_code.specs.Faults.{HasHandlers, TriesBreak, ItemBreaks, CodeBreaks}
-use Rattle.dex_code.proofs.CarryLaws.{code_weaker, list-weaker}
+use Rattle.dex_code.specs.Faults.{HasHandlers, TriesBreak, ItemBreaks, CodeBreaks, CodeOverruns}
+use Rattle.dex_code.proofs.CarryLaws.{body_weaker, code_weaker, list-weaker}
 
 module _ (N M : ℕ → Name → Type 0) (f : (i : ℕ) (which : Name) → N i which → M i which) where
   some_weaker : (op i : ℕ) → SomeName N op i → SomeName M op i
@@ -94,3 +94,9 @@ module _ (b : List ℕ) (names : Names) (framed : IsFramed b) (are : AreNamesOf 
 
   pub code_breaks : (off : ℕ) (e : Fault) → (CodeBreaks (NameIsAt names) b off e → CodeBreaks (NameStands b) b off e) × (CodeBreaks (NameStands b) b off e → CodeBreaks (NameIsAt names) b off e)
   code_breaks off e = (breaks_carried (NameIsAt names) (NameStands b) there back b off e, breaks_carried (NameStands b) (NameIsAt names) back there b off e)
+
+  pub code_overruns : (off : ℕ) (e : Fault) → (CodeOverruns (NameIsAt names) b off e → CodeOverruns (NameStands b) b off e) × (CodeOverruns (NameStands b) b off e → CodeOverruns (NameIsAt names) b off e)
+  code_overruns off e = (
+    λ u. record { code = u.code; body = body_weaker (NameIsAt names) (NameStands b) there b off u.code u.body; breaks = u.breaks },
+    λ u. record { code = u.code; body = body_weaker (NameStands b) (NameIsAt names) back b off u.code u.body; breaks = u.breaks },
+  )

@@ -1,7 +1,8 @@
 -- At a place of a file a code stands, or a fault does.
-use Rattle.std.proofs.Common.{◌≡◌, ℕ, ◌+◌, ◌-◌, ◌%◌, ◌<◌, ◌⊎◌, inl, inr, None, List, length, take, drop, refl, arith}
+use Rattle.std.proofs.Common.{◌≡◌, ℕ, zero, suc, ◌+◌, ◌*◌, ◌≤◌, ◌-◌, ◌%◌, ◌<◌, ◌⊎◌, inl, inr, None, List, [], ◌∷◌, length, take, drop, get_or, refl, subst, arith}
 use Rattle.std.specs.Prelude.{slice_get}
-use Rattle.std.proofs.lemmas.Bool.{cases_eq}
+use Rattle.std.specs.List.{AllByRecursion}
+use Rattle.std.proofs.lemmas.Bool.{cases_eq, cases_lt}
 use Rattle.dex_bytes.specs.Deciding.{Decided}
 use Rattle.dex_bytes.specs.Fields.{AreBytes}
 use Rattle.dex_bytes.specs.Grammar.{Takes}
@@ -21,8 +22,13 @@ use Rattle.dex_code_insns.specs.Insns.{SpellsInsns}
 use Rattle.dex_code_insns.specs.Symbols.{IsFunctional}
 use Rattle.dex_code_insns.proofs.InsnFaultLaws.{rules-hold}
 use Rattle.dex_code.specs.Item.{size_of, tries_of, registers_of, ins_of, outs_of, units_of, items_of, units_end, tries_begin, list_begin, IsWhole}
-use Rattle.dex_code.specs.Code.{SpellsCode, CodeStands}
-use Rattle.dex_code.specs.Faults.{ItemBreaks, CodeBreaks}
+use Rattle.dex_code.specs.Code.{SpellsBody, BodyStands, CodeStands}
+use Rattle.dex_code.specs.Faults.{ItemBreaks, CodeBreaks, RegistersBreak, CodeOverruns}
+use Rattle.dex_program.specs.Formed.{RegistersHold, insn_at, insn_registers}
+use Rattle.dex_program.specs.Sizes.{addresses_of}
+use Rattle.dex_code_insns.specs.Places.{AllHold, IsFirst}
+use Rattle.dex_code_insns.specs.Registers.{AmongAt}
+use Rattle.dex_code.proofs.StandLaws.{body_code}
 use Rattle.dex_code.proofs.FaultLaws.{units-even}
 use Rattle.dex_code.proofs.ItemLaws.{takes-from_read}
 use Rattle.dex_code.proofs.StandLaws.{NameIsAt-functional}
@@ -79,7 +85,7 @@ units-are bytes are = take-bytes (units_end bytes - 16) (drop 16 bytes) (behind 
 
 module _ (N : ℕ → Name → Type 0) (names : AreNamesDecided N) (functional : IsFunctional N) (off : ℕ) (bytes : List ℕ) (are : AreBytes bytes) where
   abbrev IsItemDecided : Type 0
-  IsItemDecided = ((c : Code) × (rest : List ℕ) × Takes (SpellsCode N) bytes c rest) ⊎ ((e : Fault) × ItemBreaks N off bytes e)
+  IsItemDecided = ((c : Code) × (rest : List ℕ) × Takes (SpellsBody N) bytes c rest) ⊎ ((e : Fault) × ItemBreaks N off bytes e)
 
   with-insns : IsWhole bytes → 0 < size_of bytes → (rs : List Raw) (is : List Insn) → SpellsInsns N (units_of bytes) rs is → IsItemDecided
   with-insns whole some rs is s = elim (tries-decided N names functional (starts rs) (size_of bytes) (tries_of bytes) (items_of bytes) (drop (list_begin bytes) bytes) (off + tries_begin bytes)) [
@@ -106,8 +112,8 @@ module _ (N : ℕ → Name → Type 0) (names : AreNamesDecided N) (functional :
 
 -- ---- the file
 
-pub code-decided : (b : List ℕ) → AreBytes b → IsFramed b → (names : Names) (off : ℕ) → ((c : Code) × CodeStands (NameIsAt names) b off c) ⊎ ((e : Fault) × CodeBreaks (NameIsAt names) b off e)
-code-decided b are framed names off = elim (cases_eq (off % 4) 0) [
+pub body-decided : (b : List ℕ) → AreBytes b → IsFramed b → (names : Names) (off : ℕ) → ((c : Code) × BodyStands (NameIsAt names) b off c) ⊎ ((e : Fault) × CodeBreaks (NameIsAt names) b off e)
+body-decided b are framed names off = elim (cases_eq (off % 4) 0) [
   | inr odd ↦ inr (record { code = 60; place = off }, inl (odd, refl))
   | inl even ↦ elim (decide_in b framed 0x2001 off) [
     | inr outside ↦ inr (record { code = 60; place = off }, inr (inl (outside, refl)))
@@ -117,7 +123,53 @@ code-decided b are framed names off = elim (cases_eq (off % 4) 0) [
         let low = s.behind in let high = s.before in
         elim (item-decided N (names-decided names) (NameIsAt-functional names) off bytes (take-bytes (s.end - off) (drop off b) (behind b off are))) [
           | inr e ↦ inr (e.0, inr (inr (even, s.end, bytes, record { begin = s.begin; section = s.section; behind = low; before = high; same = refl }, e.1)))
-          | inl x ↦ inl (x.0, found_at (SpellsCode N) b framed 0x2001 4 off (record { begin = s.begin; end = s.end; section = s.section }) low (omega (arith, high)) even x.0 x.1 x.2)
+          | inl x ↦ inl (x.0, found_at (SpellsBody N) b framed 0x2001 4 off (record { begin = s.begin; end = s.end; section = s.section }) low (omega (arith, high)) even x.0 x.1 x.2)
         ]
+  ]
+]
+
+-- ---- registers
+
+numbers-decided : (count : ℕ) (vs : List ℕ) → Decided (AllByRecursion (λ v. v < count) vs)
+numbers-decided count [] = inl tt
+numbers-decided count (v ∷ vs) = elim (cases_lt v count) [
+  | inl here ↦ elim (numbers-decided count vs) [
+    | inl rest ↦ inl (here, rest)
+    | inr not ↦ inr (λ h. not h.1)
+  ]
+  | inr not ↦ inr (λ h. let l = h.0 in omega (arith, l, not))
+]
+
+-- the first n instructions name registers of the code, or there is a first that doesn't
+first-decided : (c : Code) (n : ℕ) → n ≤ length c.insns → AllHold (AmongAt c.registers c.insns) n ⊎ ((k : ℕ) × IsFirst (AmongAt c.registers c.insns) (AmongAt c.registers c.insns) (length c.insns) k)
+first-decided c zero le = inl (λ k l. absurd (omega (arith, l)))
+first-decided c (suc n) le = elim (first-decided c n (omega (arith, le))) [
+  | inl before ↦ elim (numbers-decided c.registers (insn_registers (insn_at c.insns n))) [
+    | inl here ↦ inl (λ k l. elim (cases_lt k n) [
+      | inl less ↦ before k less
+      | inr ge ↦ let e : n ≡ k = omega (arith, ge, l) in subst (λ (j : ℕ). AmongAt c.registers c.insns j) e here
+    ])
+    | inr not ↦ inr (n, record { inside = omega (arith, le); broken = not; before = before })
+  ]
+  | inr first ↦ inr first
+]
+
+pub registers-decided : (off : ℕ) (c : Code) → RegistersHold c ⊎ ((e : Fault) × RegistersBreak off c e)
+registers-decided off c = elim (cases_lt c.registers c.ins) [
+  | inl many ↦ inr (record { code = 73; place = off }, inl (many, refl))
+  | inr few ↦ elim (first-decided c (length c.insns) (omega arith)) [
+    | inl all ↦ inl (record { ins = few; each = all })
+    | inr f ↦
+        let at = get_or (addresses_of c.insns) f.0 0 in
+        inr (record { code = 73; place = off + 16 + 2 * at }, inr (few, at, record { first = f.0; breaks = f.1; is_at = refl }, refl))
+  ]
+]
+
+pub code-decided : (b : List ℕ) → AreBytes b → IsFramed b → (names : Names) (off : ℕ) → ((c : Code) × CodeStands (NameIsAt names) b off c) ⊎ (((e : Fault) × CodeBreaks (NameIsAt names) b off e) ⊎ ((e : Fault) × CodeOverruns (NameIsAt names) b off e))
+code-decided b are framed names off = elim (body-decided b are framed names off) [
+  | inr f ↦ inr (inl f)
+  | inl x ↦ elim (registers-decided off x.0) [
+    | inl h ↦ inl (x.0, body_code (NameIsAt names) b off x.0 h x.1)
+    | inr f ↦ inr (inr (f.0, record { code = x.0; body = x.1; breaks = f.1 }))
   ]
 ]

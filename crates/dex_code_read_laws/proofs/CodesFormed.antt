@@ -18,7 +18,7 @@ use Rattle.dex_insn.specs.RawInsns.{InsnStands}
 use Rattle.dex_insn.proofs.Fits.{behind, stands_fits}
 use Rattle.dex_insn.proofs.Laws.{stands-whole}
 use Rattle.dex_program.specs.Content.{Name, Catch, Insn, Try, Code}
-use Rattle.dex_program.specs.Formed.{AreAlike, IsSwitch, insn_at, try_at, insn_payload, insn_wants, insn_reach, insn_branch, insn_short_branch, insn_targets, Refers, IsTarget, PayloadHolds, TryFormed, IsFormed}
+use Rattle.dex_program.specs.Formed.{AreAlike, IsSwitch, insn_at, try_at, insn_payload, insn_wants, insn_reach, insn_branch, insn_short_branch, insn_targets, Refers, IsTarget, PayloadHolds, TryFormed, RegistersHold, IsFormed}
 use Rattle.dex_program.specs.Operands.{IsOperand}
 use Rattle.dex_program.specs.declared.payload.Payload.{Payload}
 use Rattle.dex_tables.specs.Stands.{NameStands}
@@ -29,16 +29,17 @@ use Rattle.dex_code_insns.specs.Payloads.{payload_of, wants, reach, Uses}
 use Rattle.dex_code_insns.specs.Insns.{branch, short_branch, targets, Lands, IsBase, SpellsInsns}
 use Rattle.dex_code_insns.proofs.PlaceLaws.{place-there, position-there}
 use Rattle.dex_code_insns.proofs.Runs.{run-at, length-starts, table-of}
+use Rattle.dex_code_insns.proofs.SaidRegisters.{said}
 use Rattle.dex_code_insns.proofs.Saying.{wants-says, reach-says, wants-plain, switch-no_branch, switch-no_short, some-inj}
 use Rattle.dex_code.specs.Item.{size_of, tries_of, units_of, items_of, list_begin, units_end, try_start, try_count}
 use Rattle.dex_code.specs.Handlers.{Handler, catches_of, SpellsPlace, SpellsCatch, SpellsAll, SpellsHandler, SpellsHandlers, handler_at}
 use Rattle.dex_code.specs.Tries.{SpellsTries, handler_of}
-use Rattle.dex_code.specs.Code.{SpellsCode, CodeStands}
+use Rattle.dex_code.specs.Code.{SpellsBody, CodeStands}
 use Rattle.dex_code.proofs.FaultLaws.{units-even}
 use Rattle.dex_code.proofs.ItemLaws.{begins_late}
 use Rattle.dex_code_read_laws.proofs.Bytes.{take-bytes}
 use Rattle.dex_code_read_laws.proofs.NamesHaveRows.{at-offset}
-use Rattle.dex_code_read_laws.proofs.SaidLaws.{said, kind-said, Leads, branch-said, short-said, AllLed, targets-said, raw-bytes, operand-said}
+use Rattle.dex_code_read_laws.proofs.SaidLaws.{kind-said, Leads, branch-said, short-said, AllLed, targets-said, raw-bytes, operand-said}
 
 pub if-weaker : {A : Type 0} (P Q : A → Type 0) (o : Option A) → ((x : A) → P x → Q x) → IfSome o P → IfSome o Q
 if-weaker P Q None f h = tt
@@ -323,8 +324,8 @@ pub u16-fits : (b : List ℕ) (p : ℕ) → AreBytes b → u16_at b p < 65536
 unfolding u16_at
 u16-fits b p are = let d = behind b p are in omega (arith, d 0, d 1)
 
-pub spelled-formed : (N : ℕ → Name → Type 0) (bytes : List ℕ) (c : Code) → AreBytes bytes → length bytes ≤ 4294967295 → SpellsCode N bytes c → IsFormed c
-spelled-formed N bytes c are short s =
+pub spelled-formed : (N : ℕ → Name → Type 0) (bytes : List ℕ) (c : Code) → AreBytes bytes → length bytes ≤ 4294967295 → SpellsBody N bytes c → RegistersHold c → IsFormed c
+spelled-formed N bytes c are short s named =
     let us = units_of bytes in
     let even = units-even bytes s.whole in
     let late = begins_late bytes in let fixed = s.whole.fixed in
@@ -354,6 +355,7 @@ spelled-formed N bytes c are short s =
       registers = subst (λ (n : ℕ). n < 65536) (sym s.registers) (u16-fits bytes 0 are);
       ins = subst (λ (n : ℕ). n < 65536) (sym s.ins) (u16-fits bytes 2 are);
       outs = subst (λ (n : ℕ). n < 65536) (sym s.outs) (u16-fits bytes 4 are);
+      named = named;
     }
 
 pub standing-formed : (b : List ℕ) → AreBytes b → IsFramed b → (off : ℕ) (c : Code) → CodeStands (NameStands b) b off c → IsFormed c
@@ -362,4 +364,4 @@ standing-formed b are framed off c a =
     let whole = framed.header.file_size in
     let fits = u32_at-fits b 32 are in
     spelled-formed (NameStands b) (slice b off a.size) c (take-bytes a.size (drop off b) (behind b off are))
-    (omega (arith, whole, fits, length-take a.size (drop off b), length-drop off b)) a.spelled
+    (omega (arith, whole, fits, length-take a.size (drop off b), length-drop off b)) a.spelled.body a.spelled.named

@@ -13,10 +13,11 @@ use Rattle.dex_code_insns.specs.Walk.{starts, raw_at}
 use Rattle.dex_code_insns.specs.Places.{place}
 use Rattle.dex_code_insns.specs.Symbols.{name_in}
 use Rattle.dex_code_insns.specs.Insns.{SpellsInsns}
+use Rattle.dex_code_insns.proofs.SaidRegisters.{said}
 use Rattle.dex_code.specs.Handlers.{Handler, SpellsCatch, SpellsHandler, SpellsHandlers, handler_at}
 use Rattle.dex_code.specs.Tries.{SpellsTries, handler_of}
-use Rattle.dex_code.specs.Code.{SpellsCode, CodeStands}
-use Rattle.dex_code_read_laws.proofs.SaidLaws.{said, names-said}
+use Rattle.dex_code.specs.Code.{SpellsBody, CodeStands}
+use Rattle.dex_code_read_laws.proofs.SaidLaws.{names-said}
 
 all-append : {A : Type 0} (P : A → Type 0) (xs ys : List A) → AllByRecursion P xs → AllByRecursion P ys → AllByRecursion P (xs ++ ys)
 all-append P [] ys p q = q
@@ -79,8 +80,8 @@ module _ (N : ℕ → Name → Type 0) where
       let x = s.each k (omega (arith, l, c)) in
       all-map HasIndex (λ (c : Catch). OfDesc c.ty) (try_at ts k).catches (handlers-have ss list n s.handlers s.spelled _ (handler_of (try_at ts k)) x.handler))
 
-  code-has : (bytes : List ℕ) (c : Code) → SpellsCode N bytes c → AllByRecursion HasIndex (names_of_code c)
+  code-has : (bytes : List ℕ) (c : Code) → SpellsBody N bytes c → AllByRecursion HasIndex (names_of_code c)
   code-has bytes c s = all-append HasIndex (flat_map names_of_insn c.insns) (flat_map names_of_try c.tries) (insns-have _ s.raws c.insns s.insns) (tries-have _ _ _ _ _ c.tries s.tries)
 
 pub names-have-rows : (b : List ℕ) (off : ℕ) (c : Code) → CodeStands (NameStands b) b off c → AllByRecursion (HasRow b) (names_of_code c)
-names-have-rows b off c a = code-has (NameStands b) _ c a.spelled
+names-have-rows b off c a = code-has (NameStands b) _ c a.spelled.body

@@ -1,6 +1,6 @@
 -- What the instruction that a raw one says is like: its names, its kind, its branch, its targets, its operands.
-use Rattle.std.proofs.Common.{◌≡◌, ℕ, ℤ, zero, suc, ◌+◌, ◌-◌, ◌*◌, ◌/◌, ◌<◌, ◌≤◌, ◌<ℤ◌, Option, Some, None, List, [], ◌∷◌, length, drop, refl, sym, ap, ◌∙◌, subst, arith, length-take, length-drop}
-use Rattle.std.specs.Prelude.{IfSome, option_map, slice_get, slice_range, FitsSigned, ⊤}
+use Rattle.std.proofs.Common.{◌≡◌, ℕ, ℤ, zero, suc, ◌+◌, ◌-◌, ◌*◌, ◌/◌, ◌<◌, ◌≤◌, ◌<ℤ◌, Option, Some, List, [], ◌∷◌, length, drop, refl, sym, ap, ◌∙◌, subst, arith, length-take, length-drop}
+use Rattle.std.specs.Prelude.{IfSome, slice_get, slice_range, FitsSigned, ⊤}
 use Rattle.std.specs.Int.{w32}
 use Rattle.std.specs.List.{AllByRecursion}
 use Rattle.dex_bytes.specs.Fields.{AreBytes}
@@ -19,15 +19,8 @@ use Rattle.dex_code_insns.specs.Symbols.{resolved, places, ints, ints_from, Name
 use Rattle.dex_code_insns.specs.Payloads.{payload_of}
 use Rattle.dex_code_insns.specs.Insns.{branch, short_branch, targets}
 use Rattle.dex_code_insns.proofs.Saying.{both-some}
+use Rattle.dex_code_insns.proofs.SaidRegisters.{mapped, length-ints_from, length-places}
 use Rattle.dex_code_read_laws.proofs.Bytes.{take-bytes, all-bytes}
-
--- what holds of each answer holds of that of a function of it
-pub mapped : {A B : Type 0} (P : B → Type 0) (f : A → B) (o : Option A) → ((x : A) → o ≡ Some x → P (f x)) → IfSome (option_map f o) P
-mapped P f None h = tt
-mapped P f (Some x) h = h x refl
-
-pub said : {A : Type 0} (P : A → Type 0) (o : Option A) (x : A) → IfSome o P → o ≡ Some x → P x
-said {A} P o x h e = subst (λ (y : Option A). IfSome y P) e h
 
 -- ---- names
 
@@ -117,16 +110,6 @@ targets-said T w (raw.Sparse keys offsets) = mapped (λ i. AllLed T offsets (len
 targets-said T w _ = tt
 
 -- ---- operands
-
-pub length-ints_from : (b : List ℕ) (i n : ℕ) → length (ints_from b i n) ≡ n
-length-ints_from b i zero = refl
-length-ints_from b i (suc n) = ap suc (length-ints_from b (i + 1) n)
-
-pub length-places : (T : ℤ → Option ℕ) (zs : List ℤ) (tos : List ℕ) → places T zs ≡ Some tos → length tos ≡ length zs
-length-places T [] tos e = let s : [] ≡ tos = cc in sym (ap length s)
-length-places T (z ∷ zs) tos e =
-    let s = both-some (T z) (places T zs) tos e in
-    ap length s.4 ∙ ap suc (length-places T zs s.1 s.3)
 
 places-below : (T : ℤ → Option ℕ) (count : ℕ) → ((z : ℤ) (n : ℕ) → T z ≡ Some n → n < count) → (zs : List ℤ) (tos : List ℕ) → places T zs ≡ Some tos → AllByRecursion (λ to. to < count) tos
 places-below T count h [] tos e = let s : [] ≡ tos = cc in subst (AllByRecursion (λ to. to < count)) s tt

@@ -9,11 +9,11 @@ use Rattle.dex_tables.specs.Names.{Names, NameIsAt}
 use Rattle.dex_tables.specs.Stands.{NameStands}
 use Rattle.dex_tables_laws.specs.FileNames.{HasRow}
 use Rattle.dex_code.specs.Code.{CodeStands}
-use Rattle.dex_code.specs.Faults.{CodeBreaks}
+use Rattle.dex_code.specs.Faults.{CodeBreaks, CodeOverruns}
 
 -- With these names a code stands at this place, or a fault does.
 abbrev pub CodeIsDecided : Names → List ℕ → ℕ → Type 0
-CodeIsDecided names b off = ((c : Code) × CodeStands (NameIsAt names) b off c) ⊎ ((e : Fault) × CodeBreaks (NameIsAt names) b off e)
+CodeIsDecided names b off = ((c : Code) × CodeStands (NameIsAt names) b off c) ⊎ (((e : Fault) × CodeBreaks (NameIsAt names) b off e) ⊎ ((e : Fault) × CodeOverruns (NameIsAt names) b off e))
 
 -- What the code of a file names has rows.
 abbrev pub CodesHaveRows : List ℕ → Type 0

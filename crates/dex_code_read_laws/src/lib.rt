@@ -1,7 +1,7 @@
 //! Laws of the code items of a file, for the proofs of crates above: functions that do nothing, whose contracts are the laws.
 //!
 //! ```text
-//! codes_are_decided(); // at each place of a file a code stands, or one of the faults 60 to 72 does
+//! codes_are_decided(); // at each place of a file a code stands, or one of the faults 60 to 73 does
 //! ```
 #![tactic(auto)]
 
@@ -14,16 +14,17 @@ ghost use Rattle.dex_program.specs.Formed.{IsFormed};
 ghost use Rattle.dex_tables.specs.Names.{Names, AreNamesOf, NameIsAt};
 ghost use Rattle.dex_tables.specs.Stands.{NameStands};
 ghost use Rattle.dex_code.specs.Code.{CodeStands};
-ghost use Rattle.dex_code.specs.Faults.{CodeBreaks};
+ghost use Rattle.dex_code.specs.Faults.{CodeBreaks, CodeOverruns};
 ghost use Rattle.dex_code_read_laws.specs.FileCodes.{CodeIsDecided, CodesHaveRows};
 
 /// With the tables of a file, a code or a fault stands by their names exactly if it does by the file's.
 pub fn codes_carry_over()
     ensures stands { (b : List ℕ) (names : Names) → IsFramed b → AreNamesOf b names → (off : ℕ) (c : Code) → CodeStands (NameIsAt names) b off c ↔ CodeStands (NameStands b) b off c }
     ensures breaks { (b : List ℕ) (names : Names) → IsFramed b → AreNamesOf b names → (off : ℕ) (e : Fault) → CodeBreaks (NameIsAt names) b off e ↔ CodeBreaks (NameStands b) b off e }
+    ensures overruns { (b : List ℕ) (names : Names) → IsFramed b → AreNamesOf b names → (off : ℕ) (e : Fault) → CodeOverruns (NameIsAt names) b off e ↔ CodeOverruns (NameStands b) b off e }
 {}
 
-/// At each place of a file a code stands, or one of the faults 60 to 72 does.
+/// At each place of a file a code stands, or one of the faults 60 to 73 does.
 pub fn codes_are_decided()
     ensures { (b : List ℕ) → AreBytes b → IsFramed b → (names : Names) (off : ℕ) → CodeIsDecided names b off }
 {}

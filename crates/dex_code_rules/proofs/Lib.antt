@@ -2,3 +2,4 @@ pub mod RiseLaws
 pub mod TryLaws
 pub mod OperandLaws
 pub mod UseLaws
+pub mod RunLaws

@@ -1,9 +1,9 @@
--- The rules that the code of a program keeps, in the order of their faults: 114 to 117.
+-- The rules that the code of a program keeps, in the order of their faults: 114 to 118.
 -- Pages: "Dalvik Executable instruction formats", "The formats"; "Dalvik bytecode": goto, packed-switch, sparse-switch,
 -- fill-array-data; "Dalvik Executable format": code_item, try_item, encoded_catch_handler.
 use Rattle.std.specs.Prelude.{ℕ, ◌<◌, ◌≤◌, length}
 use Rattle.dex_program.specs.Content.{Insn, Code}
-use Rattle.dex_program.specs.Formed.{insn_at, TargetHolds, PayloadHolds, TryFormed}
+use Rattle.dex_program.specs.Formed.{insn_at, TargetHolds, PayloadHolds, TryFormed, RegistersHold}
 use Rattle.dex_program.specs.Operands.{IsOperand}
 use Rattle.dex_code_rules.specs.declared.rule.CodeRule.{CodeRule}
 use Rattle.dex_code_rules.specs.declared.rule.CodeRule.TheVariants as rule
@@ -36,3 +36,4 @@ Keeps rule.Operand c = OperandsHold c
 Keeps rule.Target c = TargetsHold c
 Keeps rule.PayloadUse c = PayloadsHold c
 Keeps rule.Try c = TriesHold c
+Keeps rule.Register c = RegistersHold c

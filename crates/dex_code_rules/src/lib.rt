@@ -8,6 +8,7 @@
 
 mod operands;
 mod payloads;
+mod registers;
 mod rule;
 mod targets;
 mod tries;

@@ -6,6 +6,7 @@ ghost use Rattle.dex_code_rules.specs.CodeRules.{Keeps};
 
 use crate::operands::operands_hold;
 use crate::payloads::payloads_hold;
+use crate::registers::registers_hold;
 use crate::targets::targets_hold;
 use crate::tries::tries_hold;
 use dex_program::Code;
@@ -21,6 +22,8 @@ pub enum CodeRule {
     PayloadUse,
     /// 117: tries cover instructions, one behind the other, and have handlers that are instructions.
     Try,
+    /// 118: ins are registers of the code, and so is every register that an instruction names.
+    Register,
 }
 
 /// Whether the code keeps the rule. Takes no memory; `PayloadUse` looks through all instructions for each switch's payload.
@@ -32,5 +35,6 @@ pub fn code_holds(rule: CodeRule, one: &Code<'_>) -> bool
         CodeRule::Target => targets_hold(one),
         CodeRule::PayloadUse => payloads_hold(one),
         CodeRule::Try => tries_hold(one),
+        CodeRule::Register => registers_hold(one),
     }
 }

@@ -7,12 +7,12 @@ use Rattle.dex_container.proofs.Framed.{framed_clear}
 use Rattle.dex_tables.specs.Sorted.{TablesHold}
 use Rattle.dex_tables.specs.TableFaults.{IsStringFault, IsTypeFault, IsProtoFault, IsFieldFault, IsMethodFault, StringBreaks, TypeBreaks, ProtoBreaks, FieldBreaks, MethodBreaks}
 use Rattle.dex_tables.proofs.ClearRows.{string_clear, type_clear, proto_clear, field_clear, method_clear}
-use Rattle.dex_class.specs.ClassFaults.{IsClassFault, IsValueFault, IsCodeFault}
-use Rattle.dex_file.specs.Broken.{Broken, RowBroken, TableBroken, ClassBroken, ValueBroken, CodeBroken}
-use Rattle.dex_class.proofs.ClearLaws.{class_clear, values_clear, methods_clear}
+use Rattle.dex_class.specs.ClassFaults.{IsClassFault, IsValueFault, IsCodeFault, IsRegisterFault}
+use Rattle.dex_file.specs.Broken.{Broken, RowBroken, TableBroken, ClassBroken, ValueBroken, CodeBroken, RegisterBroken}
+use Rattle.dex_class.proofs.ClearLaws.{class_clear, values_clear, bodies_clear, methods_clear}
 use Rattle.dex_program.specs.Content.{Program}
 use Rattle.dex_file.specs.Means.{Means}
-use Rattle.dex_file.proofs.PassLaws.{means_classes, means_values, means_methods}
+use Rattle.dex_file.proofs.PassLaws.{means_classes, means_values, means_bodies, means_methods}
 
 tables_clear : (b : List ℕ) → IsFramed b → TablesHold b → (f : Fault) → TableBroken b f → ⊥
 tables_clear b framed hold f (inl p) = string_clear b p.0 f.code (hold.strings p.0 p.1) p.2.breaks
@@ -45,13 +45,27 @@ module _ (b : List ℕ) (e : Fault) where
     ),
   )
 
+  -- of the registers
+  pub register_first : IsRegisterFault b e → RegisterBroken b e × ((f : Fault) → (FrameBreaks b f.code f.place → ⊥) × (TableBroken b f → ⊥) × (ClassBroken b f → ⊥) × (ValueBroken b f → ⊥) × (CodeBroken b f → ⊥))
+  register_first x = (
+    (x.first.row, x.first.within, x.first.broken),
+    λ f. (
+      framed_clear b x.framed f.code f.place,
+      tables_clear b x.framed x.tables f,
+      (λ p. class_clear b x.framed p.0 f.code (x.classes p.0 p.1) p.2.breaks),
+      (λ p. values_clear b x.framed p.0 f (x.values p.0 p.1) p.2),
+      λ p. bodies_clear b x.framed p.0 f (x.bodies p.0 p.1) p.2,
+    ),
+  )
+
 -- a file that means a program has no fault
 pub means_clear : (b : List ℕ) (p : Program) → Means b p → (f : Fault) → Broken b f → ⊥
 means_clear b p m f (inl x) = framed_clear b m.framed f.code f.place x
 means_clear b p m f (inr (inl x)) = tables_clear b m.framed m.tables f x
 means_clear b p m f (inr (inr (inl x))) = class_clear b m.framed x.0 f.code (means_classes b p m x.0 x.1) x.2.breaks
 means_clear b p m f (inr (inr (inr (inl x)))) = values_clear b m.framed x.0 f (means_values b p m x.0 x.1) x.2
-means_clear b p m f (inr (inr (inr (inr x)))) = methods_clear b m.framed x.0 f (means_methods b p m x.0 x.1) x.2
+means_clear b p m f (inr (inr (inr (inr (inl x))))) = bodies_clear b m.framed x.0 f (means_bodies b p m x.0 x.1) x.2
+means_clear b p m f (inr (inr (inr (inr (inr x))))) = methods_clear b m.framed x.0 f (means_methods b p m x.0 x.1) x.2
 
 -- the same among the tables
 module _ (b : List ℕ) (e : Fault) where

@@ -1,5 +1,5 @@
 -- The passes over the class rows, put together.
-use Rattle.std.proofs.Common.{◌≡◌, ℕ, ◌<◌, List, sym, ◌∙◌, arith}
+use Rattle.std.proofs.Common.{◌≡◌, ℕ, ◌<◌, ◌⊎◌, inl, inr, List, sym, ◌∙◌, arith}
 use Rattle.dex_bytes.specs.declared.fault.Fault.{Fault}
 use Rattle.dex_container.specs.Frame.{IsFramed}
 use Rattle.dex_container.specs.Layout.{size_of}
@@ -7,14 +7,15 @@ use Rattle.dex_program.specs.Content.{Class, Program}
 use Rattle.dex_tables.specs.Names.{AreRows}
 use Rattle.dex_tables.specs.Sorted.{RowsHold, TablesHold}
 use Rattle.dex_tables.specs.TableFaults.{IsFirstRow}
-use Rattle.dex_class.specs.ClassFaults.{ClassBreaks, ClassHolds, ClassesHold, ValuesBreak, ValuesHold, MethodsBreak, MethodsHold, IsFirstClass}
+use Rattle.dex_class.specs.ClassFaults.{ClassBreaks, ClassHolds, ClassesHold, ValuesBreak, ValuesHold, BodiesBreak, BodiesHold, RegistersBreak, RegistersHold, IsFirstClass, IsCodeFault, IsRegisterFault}
 use Rattle.dex_class.specs.Classes.{SpellsClass}
 use Rattle.dex_class.specs.ClassRows.{InOrder}
 use Rattle.dex_file.specs.Means.{Means}
 use Rattle.dex_class.proofs.EntryLaws.{entry_at, list_same}
 use Rattle.dex_class.proofs.OnceLaws.{class_one}
-use Rattle.dex_class.proofs.MethodLaws.{methods_hold}
-use Rattle.dex_class.proofs.ClearLaws.{class_clear, values_clear, methods_clear}
+use Rattle.dex_class.proofs.MeantLaws.{build, class_meant}
+use Rattle.dex_class.proofs.MethodLaws.{methods_hold, registers_bodies}
+use Rattle.dex_class.proofs.ClearLaws.{class_clear, values_clear, bodies_clear, methods_clear}
 
 -- a class that a row spells keeps the rules of all three passes
 class_holds : (b : List ℕ) (i : ℕ) (c : Class) → SpellsClass b i c → InOrder b i → ClassHolds b i
@@ -36,8 +37,11 @@ module _ (b : List ℕ) (p : Program) (m : Means b p) where
   pub means_values : RowsHold ValuesHold b (size_of b 5)
   means_values = each (ValuesHold b) (λ i c lt s. values_hold b i c s)
 
-  pub means_methods : RowsHold MethodsHold b (size_of b 5)
-  means_methods = each (MethodsHold b) (λ i c lt s. methods_hold b i c s)
+  pub means_methods : RowsHold RegistersHold b (size_of b 5)
+  means_methods = each (RegistersHold b) (λ i c lt s. methods_hold b i c s)
+
+  pub means_bodies : RowsHold BodiesHold b (size_of b 5)
+  means_bodies i lt = registers_bodies b i (means_methods i lt)
 
 -- no first fault where all rows hold
 pub no_first_class : (Breaks : List ℕ → ℕ → Fault → Type 0) (Holds : List ℕ → ℕ → Type 0) (b : List ℕ) (e : Fault) → ((i : ℕ) → Holds b i → Breaks b i e → ⊥) → RowsHold Holds b (size_of b 5) → IsFirstClass Breaks Holds b e → ⊥
@@ -49,12 +53,31 @@ no_class_fault b p e m first = class_clear b m.framed first.row e.code (means_cl
 pub no_value_fault : (b : List ℕ) (p : Program) (e : Fault) → Means b p → IsFirstClass ValuesBreak ValuesHold b e → ⊥
 no_value_fault b p e m first = no_first_class ValuesBreak ValuesHold b e (λ i. values_clear b m.framed i e) (means_values b p m) first
 
-pub no_code_fault : (b : List ℕ) (p : Program) (e : Fault) → Means b p → IsFirstClass MethodsBreak MethodsHold b e → ⊥
-no_code_fault b p e m first = no_first_class MethodsBreak MethodsHold b e (λ i. methods_clear b m.framed i e) (means_methods b p m) first
+pub no_code_fault : (b : List ℕ) (p : Program) (e : Fault) → Means b p → IsFirstClass BodiesBreak BodiesHold b e → ⊥
+no_code_fault b p e m first = no_first_class BodiesBreak BodiesHold b e (λ i. bodies_clear b m.framed i e) (means_bodies b p m) first
+
+pub no_register_fault : (b : List ℕ) (p : Program) (e : Fault) → Means b p → IsFirstClass RegistersBreak RegistersHold b e → ⊥
+no_register_fault b p e m first = no_first_class RegistersBreak RegistersHold b e (λ i. methods_clear b m.framed i e) (means_methods b p m) first
+
+-- the third pass refuses nothing where a program is meant
+pub no_last_fault : (b : List ℕ) (p : Program) (e : Fault) → Means b p → IsFirstClass BodiesBreak BodiesHold b e ⊎ (RowsHold BodiesHold b (size_of b 5) × IsFirstClass RegistersBreak RegistersHold b e) → ⊥
+no_last_fault b p e m (inl f) = no_code_fault b p e m f
+no_last_fault b p e m (inr f) = no_register_fault b p e m f.1
+
+-- where the passes before it refuse nothing, it refuses by one of its groups
+pub last_refused : (b : List ℕ) (e : Fault) → IsFramed b → TablesHold b → ClassesHold b → RowsHold ValuesHold b (size_of b 5) → IsFirstClass BodiesBreak BodiesHold b e ⊎ (RowsHold BodiesHold b (size_of b 5) × IsFirstClass RegistersBreak RegistersHold b e) → IsCodeFault b e ⊎ IsRegisterFault b e
+last_refused b e framed tables classes values (inl f) = inl (record { framed = framed; tables = tables; classes = classes; values = values; first = f })
+last_refused b e framed tables classes values (inr f) = inr (record { framed = framed; tables = tables; classes = classes; values = values; bodies = f.0; first = f.1 })
 
 -- the program of classes that the rows spell
 pub means_these : (b : List ℕ) (p : Program) → IsFramed b → TablesHold b → ClassesHold b → AreRows SpellsClass b 5 p → Means b p
 means_these b p framed tables hold rows = record { framed = framed; tables = tables; classes = rows; order = λ i lt. (hold i lt).order }
+
+-- where all rows keep the rules of all passes, the file means some program
+pub program_meant : (b : List ℕ) → IsFramed b → TablesHold b → ClassesHold b → RowsHold ValuesHold b (size_of b 5) → RowsHold RegistersHold b (size_of b 5) → (p : Program) × Means b p
+program_meant b framed tables classes values codes =
+    let built = build (SpellsClass b) (size_of b 5) (λ i lt. class_meant b framed i (classes i lt) (values i lt) (codes i lt)) in
+    (built.0, record { framed = framed; tables = tables; classes = record { count = built.1; each = built.2 }; order = λ i lt. (classes i lt).order })
 
 -- a file means one program
 pub program_one : (b : List ℕ) (p q : Program) → Means b p → Means b q → p ≡ q

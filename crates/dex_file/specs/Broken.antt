@@ -4,7 +4,7 @@ use Rattle.dex_bytes.specs.declared.fault.Fault.{Fault}
 use Rattle.dex_container.specs.Layout.{size_of}
 use Rattle.dex_container.specs.Faults.{FrameBreaks}
 use Rattle.dex_tables.specs.TableFaults.{StringBreaks, TypeBreaks, ProtoBreaks, FieldBreaks, MethodBreaks, BreaksAt}
-use Rattle.dex_class.specs.ClassFaults.{ClassBreaks, ValuesBreak, MethodsBreak}
+use Rattle.dex_class.specs.ClassFaults.{ClassBreaks, ValuesBreak, BodiesBreak, RegistersBreak}
 
 -- in some row of a table
 abbrev pub RowBroken : (List ℕ → ℕ → ℕ → Type 0) → List ℕ → ℕ → Fault → Type 0
@@ -25,9 +25,13 @@ ValueBroken b fault = (i : ℕ) × (i < size_of b 5) × ValuesBreak b i fault
 
 -- group I
 abbrev pub CodeBroken : List ℕ → Fault → Type 0
-CodeBroken b fault = (i : ℕ) × (i < size_of b 5) × MethodsBreak b i fault
+CodeBroken b fault = (i : ℕ) × (i < size_of b 5) × BodiesBreak b i fault
+
+-- group J
+abbrev pub RegisterBroken : List ℕ → Fault → Type 0
+RegisterBroken b fault = (i : ℕ) × (i < size_of b 5) × RegistersBreak b i fault
 
 -- A fault of reading stands: in header, map and checksums (1 to 14), a table (20 to 35), a class row (40 to 47), static
--- values (48 to 51) or code (60 to 72).
+-- values (48 to 51), code (60 to 72) or its registers (73).
 abbrev pub Broken : List ℕ → Fault → Type 0
-Broken b fault = FrameBreaks b fault.code fault.place ⊎ TableBroken b fault ⊎ ClassBroken b fault ⊎ ValueBroken b fault ⊎ CodeBroken b fault
+Broken b fault = FrameBreaks b fault.code fault.place ⊎ TableBroken b fault ⊎ ClassBroken b fault ⊎ ValueBroken b fault ⊎ CodeBroken b fault ⊎ RegisterBroken b fault

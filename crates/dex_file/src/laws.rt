@@ -1,9 +1,9 @@
 // Laws of reading, each the contract of a function that does nothing.
 ghost use Rattle.std.specs.Prelude.{◌≡◌, ℕ, List};
 ghost use Rattle.dex_bytes.specs.declared.fault.Fault.{Fault};
-ghost use Rattle.dex_class.specs.ClassFaults.{IsClassFault, IsValueFault, IsCodeFault};
+ghost use Rattle.dex_class.specs.ClassFaults.{IsClassFault, IsValueFault, IsCodeFault, IsRegisterFault};
 ghost use Rattle.dex_container.specs.Faults.{FrameBreaks};
-ghost use Rattle.dex_file.specs.Broken.{RowBroken, TableBroken, ClassBroken, ValueBroken, CodeBroken, Broken};
+ghost use Rattle.dex_file.specs.Broken.{RowBroken, TableBroken, ClassBroken, ValueBroken, CodeBroken, RegisterBroken, Broken};
 ghost use Rattle.dex_file.specs.Means.{Means};
 ghost use Rattle.dex_tables.specs.TableFaults.{StringBreaks, TypeBreaks, ProtoBreaks, FieldBreaks, MethodBreaks, IsStringFault, IsTypeFault, IsProtoFault, IsFieldFault, IsMethodFault};
 
@@ -27,4 +27,5 @@ pub fn refusals_are_first()
     ensures class { (b : List ℕ) (e : Fault) → IsClassFault b e → ClassBroken b e × ((f : Fault) → (¬ FrameBreaks b f.code f.place) × (¬ TableBroken b f)) }
     ensures value { (b : List ℕ) (e : Fault) → IsValueFault b e → ValueBroken b e × ((f : Fault) → (¬ FrameBreaks b f.code f.place) × (¬ TableBroken b f) × (¬ ClassBroken b f)) }
     ensures code { (b : List ℕ) (e : Fault) → IsCodeFault b e → CodeBroken b e × ((f : Fault) → (¬ FrameBreaks b f.code f.place) × (¬ TableBroken b f) × (¬ ClassBroken b f) × (¬ ValueBroken b f)) }
+    ensures register { (b : List ℕ) (e : Fault) → IsRegisterFault b e → RegisterBroken b e × ((f : Fault) → (¬ FrameBreaks b f.code f.place) × (¬ TableBroken b f) × (¬ ClassBroken b f) × (¬ ValueBroken b f) × (¬ CodeBroken b f)) }
 {}

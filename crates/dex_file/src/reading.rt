@@ -16,8 +16,8 @@ use std::alloc::Global;
 /// The program that a file means (Dalvik Executable format, version 035). Its parts lie in the arena; nothing of `bytes` is kept.
 ///
 /// A refusal is the first fault, group by group: header, map and checksums (1 to 14), the five tables of names (20 to 35),
-/// class rows (40 to 47), static values (48 to 51), code (60 to 72); in each group at the first row that breaks a rule. Places
-/// are byte offsets. 255 is want of memory.
+/// class rows (40 to 47), static values (48 to 51), code (60 to 72), its registers (73); in each group at the first
+/// row that breaks a rule. Places are byte offsets. 255 is want of memory.
 pub fn read<'a>(alloc: Global, arena: &'a Bump, bytes: &[u8]) -> Result<Program<'a>, Fault>
     ensures means { IfOk result (λ p. Means bytes.now (view.program p)) }
     ensures only { (p : _) → Means bytes.now p → IfErr result (λ e. e ≡ memory) }

@@ -11,25 +11,27 @@ use Rattle.dex_tables.specs.Names.{Names, AreNamesOf, NameIsAt}
 use Rattle.dex_tables.specs.RowFields.{row_place}
 use Rattle.dex_tables.specs.Sorted.{RowsHold, TablesHold}
 use Rattle.dex_tables.specs.Stands.{NameStands}
-use Rattle.dex_tables.proofs.NameLaws.{names_stand}
+use Rattle.dex_tables.proofs.NameLaws.{names_stand, stands_names}
 use Rattle.dex_tables_laws.proofs.FileLemmas.{tables_have_names}
 use Rattle.dex_tables_laws.proofs.RowsBreak.{tables_are_decided}
 use Rattle.dex_bytes.specs.Fields.{AreBytes}
 use Rattle.dex_value_laws.proofs.ArraysDecided.{arrays_are_decided}
 use Rattle.dex_value_laws.proofs.Carrying.{file_breaks}
-use Rattle.dex_code.specs.Code.{CodeStands}
+use Rattle.dex_code.specs.Code.{BodyStands}
 use Rattle.dex_code.specs.Faults.{CodeBreaks}
-use Rattle.dex_code.proofs.CarryLaws.{code_weaker}
+use Rattle.dex_code.proofs.CarryLaws.{body_weaker}
+use Rattle.dex_code.proofs.StandLaws.{body_code}
 use Rattle.dex_file.specs.Broken.{Broken}
 use Rattle.dex_class.specs.ClassRows.{class_word}
-use Rattle.dex_class.specs.ClassData.{MethodEntry, Entries, steps, index_of, IsRun}
+use Rattle.dex_class.specs.ClassData.{MethodEntry, Entries, EntriesAt, steps, index_of, IsRun}
 use Rattle.dex_class.specs.Classes.{IsMethod, StaticsAt, CodeAt, CodesAre, SpellsClass}
-use Rattle.dex_class.specs.ClassFaults.{ClassHolds, ClassesHold, ValuesHold, ValuesBreak, at_row, CodeHolds, CodesHold, CodesBreak, MethodsHold, MethodsBreak, IsFirstClass}
+use Rattle.dex_class.specs.ClassFaults.{ClassHolds, ClassesHold, ValuesHold, ValuesBreak, at_row, SomeBodyStands, BodyHolds, BodyFails, CodeHolds, RegistersFail, CodesHold, CodesBreak, MethodsHold, MethodsBreak, BodiesHold, BodiesBreak, RegistersHold, RegistersBreak, IsFirstClass}
 use Rattle.dex_file.specs.Means.{Means}
 use Rattle.dex_file.specs.Refused.{IsRefused}
-use Rattle.dex_class.proofs.EntryLaws.{entry_at, entries_one}
-use Rattle.dex_file.proofs.FirstLaws.{string_first, type_first, proto_first, field_first, method_first, class_first, value_first, code_first, means_clear}
-use Rattle.dex_code_read_laws.proofs.CodesDecided.{code-decided}
+use Rattle.dex_class.proofs.EntryLaws.{entry_at, entries_one, at_some}
+use Rattle.dex_file.proofs.PassLaws.{program_meant}
+use Rattle.dex_file.proofs.FirstLaws.{string_first, type_first, proto_first, field_first, method_first, class_first, value_first, code_first, register_first, means_clear}
+use Rattle.dex_code_read_laws.proofs.CodesDecided.{body-decided, registers-decided}
 use Rattle.dex_file_laws.specs.FileDeciding.{MeansOrRefused}
 use Rattle.dex_file_laws.proofs.ClassesDecided.{classes_are_decided}
 
@@ -85,120 +87,88 @@ module _ (b : List ℕ) (are : AreBytes b) (framed : IsFramed b) (tables : Table
     ]
   ]
 
--- ---- code
+-- ---- code, in its two passes
 
-module _ (b : List ℕ) (names : Names) (of_file : AreNamesOf b names) (codes : (off : ℕ) → ((c : Code) × CodeStands (NameIsAt names) b off c) ⊎ ((e : Fault) × CodeBreaks (NameIsAt names) b off e)) where
-  code_here : (place : ℕ) → CodeHolds b place ⊎ ((place ≢ 0) × ((f : Fault) × CodeBreaks (NameIsAt names) b place f))
-  code_here place = elim (cases_eq place 0) [
-    | inl none ↦ inl (None, at_none place _ _ none refl)
-    | inr some ↦ elim (codes place) [
-      | inl c ↦ inl (Some c.0, at_not place _ _ some (record { some = c.0; is = refl; stands = code_weaker (NameIsAt names) (NameStands b) (λ k n. names_stand b names k n of_file) b place c.0 c.1 }))
-      | inr u ↦ inr (some, u)
-    ]
-  ]
-
+-- what is decided at each offset is decided of each list and each row
+module _ (b : List ℕ) (Holds : List ℕ → ℕ → Type 0) (Fails : List ℕ → ℕ → Fault → Type 0) where
   abbrev HoldUpTo : List MethodEntry → ℕ → Type 0
-  HoldUpTo es n = (k : ℕ) (e : MethodEntry) → k < n → slice_get es k ≡ Some e → CodeHolds b e.1.1
+  HoldUpTo es n = (k : ℕ) (e : MethodEntry) → k < n → slice_get es k ≡ Some e → Holds b e.1.1
 
-  last_holds : (es : List MethodEntry) (n : ℕ) (e : MethodEntry) → slice_get es n ≡ Some e → CodeHolds b e.1.1 → HoldUpTo es n → HoldUpTo es (suc n)
+  last_holds : (es : List MethodEntry) (n : ℕ) (e : MethodEntry) → slice_get es n ≡ Some e → Holds b e.1.1 → HoldUpTo es n → HoldUpTo es (suc n)
   last_holds es n e at here before k d lt there = elim (cases_lt k n) [
     | inl less ↦ before k d less there
     | inr ge ↦
         let same : n ≡ k = omega (arith, ge, lt) in
         let both : ◌≡◌ {A = Option MethodEntry} (Some e) (Some d) = sym at ∙ ap (slice_get es) same ∙ there in
         let is : e ≡ d = cc in
-        subst (λ (x : MethodEntry). CodeHolds b x.1.1) is here
+        subst (λ (x : MethodEntry). Holds b x.1.1) is here
   ]
 
-  codes_up_to : (es : List MethodEntry) (n : ℕ) → n ≤ length es → HoldUpTo es n ⊎ ((f : Fault) × CodesBreak b es f)
-  codes_up_to es zero le = inl (λ k e lt. absurd (omega (arith, lt)))
-  codes_up_to es (suc n) le = elim (codes_up_to es n (omega (arith, le))) [
+  -- the first n of the methods, where it is decided at the offset of each
+  codes_up_to : (es : List MethodEntry) → ((k : ℕ) (e : MethodEntry) → slice_get es k ≡ Some e → Holds b e.1.1 ⊎ ((f : Fault) × Fails b e.1.1 f)) → (n : ℕ) → n ≤ length es → HoldUpTo es n ⊎ ((f : Fault) × CodesBreak Holds Fails b es f)
+  codes_up_to es here zero le = inl (λ k e lt. absurd (omega (arith, lt)))
+  codes_up_to es here (suc n) le = elim (codes_up_to es here n (omega (arith, le))) [
     | inl before ↦
         let at = entry_at es n (omega (arith, le)) in
-        elim (code_here at.0.1.1) [
+        elim (here n at.0 at.1) [
           | inl c ↦ inl (last_holds es n at.0 at.1 c before)
-          | inr u ↦ inr (u.1.0, record { entry = n; numbers = at.0; there = at.1; some = u.0; names = names; of_file = of_file; breaks = u.1.1; before = before })
+          | inr u ↦ inr (u.0, record { entry = n; numbers = at.0; there = at.1; fails = u.1; before = before })
         ]
     | inr f ↦ inr f
   ]
 
-  codes_row : (es : List MethodEntry) → CodesHold b es ⊎ ((f : Fault) × CodesBreak b es f)
-  codes_row es = elim (codes_up_to es (length es) (omega arith)) [
+  codes_row : (es : List MethodEntry) → ((k : ℕ) (e : MethodEntry) → slice_get es k ≡ Some e → Holds b e.1.1 ⊎ ((f : Fault) × Fails b e.1.1 f)) → CodesHold Holds b es ⊎ ((f : Fault) × CodesBreak Holds Fails b es f)
+  codes_row es here = elim (codes_up_to es here (length es) (omega arith)) [
     | inl all ↦ inl (λ k e at. all k e (slice_get_within es k e at) at)
     | inr f ↦ inr f
   ]
 
-  method_row : (i : ℕ) → ClassHolds b i → MethodsHold b i ⊎ ((f : Fault) × MethodsBreak b i f)
-  method_row i h = elim (codes_row h.entries.directs) [
-    | inl directs ↦ elim (codes_row h.entries.virtuals) [
-      | inl virtuals ↦ inl (record { entries = h.entries; class_data = h.head.class_data; directs = directs; virtuals = virtuals })
-      | inr f ↦ inr (f.0, record { entries = h.entries; class_data = h.head.class_data; breaks = inr (directs, f.1) })
+  method_row : (i : ℕ) (entries : Entries) → EntriesAt b (class_word b i 6) entries → ((k : ℕ) (e : MethodEntry) → slice_get entries.directs k ≡ Some e → Holds b e.1.1 ⊎ ((f : Fault) × Fails b e.1.1 f))
+      → ((k : ℕ) (e : MethodEntry) → slice_get entries.virtuals k ≡ Some e → Holds b e.1.1 ⊎ ((f : Fault) × Fails b e.1.1 f)) → MethodsHold Holds b i ⊎ ((f : Fault) × MethodsBreak Holds Fails b i f)
+  method_row i entries class_data d v = elim (codes_row entries.directs d) [
+    | inl directs ↦ elim (codes_row entries.virtuals v) [
+      | inl virtuals ↦ inl (record { entries = entries; class_data = class_data; directs = directs; virtuals = virtuals })
+      | inr f ↦ inr (f.0, record { entries = entries; class_data = class_data; breaks = inr (directs, f.1) })
     ]
-    | inr f ↦ inr (f.0, record { entries = h.entries; class_data = h.head.class_data; breaks = inl f.1 })
+    | inr f ↦ inr (f.0, record { entries = entries; class_data = class_data; breaks = inl f.1 })
   ]
 
-pub codes_decided : (b : List ℕ) → AreBytes b → IsFramed b → TablesHold b → (i : ℕ) → ClassHolds b i → MethodsHold b i ⊎ ((f : Fault) × MethodsBreak b i f)
-codes_decided b are framed tables i h = let found = tables_have_names b tables in method_row b found.0 found.1 (code-decided b are framed found.0) i h
+module _ (b : List ℕ) (names : Names) (of_file : AreNamesOf b names) where
+  module _ (bodies : (off : ℕ) → ((c : Code) × BodyStands (NameIsAt names) b off c) ⊎ ((e : Fault) × CodeBreaks (NameIsAt names) b off e)) where
+    body_here : (place : ℕ) → BodyHolds b place ⊎ ((f : Fault) × BodyFails b place f)
+    body_here place = elim (cases_eq place 0) [
+      | inl none ↦ inl (None, at_none place _ _ none refl)
+      | inr some ↦ elim (bodies place) [
+        | inl c ↦ inl (Some c.0, at_not place _ _ some (record { some = c.0; is = refl; stands = body_weaker (NameIsAt names) (NameStands b) (λ k n. names_stand b names k n of_file) b place c.0 c.1 }))
+        | inr u ↦ inr (u.0, record { some = some; names = names; of_file = of_file; breaks = u.1 })
+      ]
+    ]
 
--- ---- the program
+  -- a body that stands is a code, or its registers break the rule
+  registers_here : IsFramed b → (place : ℕ) → BodyHolds b place → CodeHolds b place ⊎ ((f : Fault) × RegistersFail b place f)
+  registers_here framed place h = elim (cases_eq place 0) [
+    | inl none ↦ inl (None, at_none place _ _ none refl)
+    | inr some ↦
+        let s = at_some place (h.0 ≡ None) (SomeBodyStands b place h.0) some h.1 in
+        elim (registers-decided place s.some) [
+          | inl named ↦ inl (Some s.some, at_not place _ _ some (record { some = s.some; is = refl; stands = body_code (NameStands b) b place s.some named s.stands }))
+          | inr u ↦ inr (
+            u.0,
+            record { some = some; names = names; of_file = of_file; breaks = record { code = s.some; body = body_weaker (NameStands b) (NameIsAt names) (λ k n. stands_names b names k n framed of_file) b place s.some s.stands; breaks = u.1 } },
+          )
+        ]
+  ]
 
--- a list of n values, each with what it must have
-build : {V : Type 0} (P : ℕ → V → Type 0) (n : ℕ) → ((k : ℕ) → k < n → (v : V) × P k v) → (vs : List V) × (length vs ≡ n) × ((k : ℕ) (v : V) → slice_get vs k ≡ Some v → P k v)
-build {V} P zero f = ([], refl, λ k v at. absurd cc)
-build {V} P (suc n) f =
-    let first = f 0 (omega arith) in
-    let rest = build (λ k. P (suc k)) n (λ k lt. f (suc k) (omega (arith, lt))) in
-    (first.0 ∷ rest.0, ap suc rest.1, each first.0 first.1 rest.0 rest.2)
-  where
-    each : (v : V) → P 0 v → (vs : List V) → ((k : ℕ) (w : V) → slice_get vs k ≡ Some w → P (suc k) w) → (k : ℕ) (w : V) → slice_get (v ∷ vs) k ≡ Some w → P k w
-    each v p vs q zero w at = let is : v ≡ w = cc in subst (P 0) is p
-    each v p vs q (suc k) w at = q k w at
+pub bodies_decided : (b : List ℕ) → AreBytes b → IsFramed b → TablesHold b → (i : ℕ) → ClassHolds b i → BodiesHold b i ⊎ ((f : Fault) × BodiesBreak b i f)
+bodies_decided b are framed tables i h =
+    let found = tables_have_names b tables in
+    let here = body_here b found.0 found.1 (body-decided b are framed found.0) in
+    method_row b BodyHolds BodyFails i h.entries h.head.class_data (λ k e at. here e.1.1) (λ k e at. here e.1.1)
 
-module _ (b : List ℕ) (framed : IsFramed b) where
-  abbrev IsWhole : Units → List MethodEntry → ℕ → Method → Type 0
-  IsWhole class es k v = (e : MethodEntry) → slice_get es k ≡ Some e → IsMethod b class (index_of (steps es) k) e v × CodeAt b e.1.1 v.code
-
-  with_codes : (class : Units) (es : List MethodEntry) (ms : List Method) → IsRun (IsMethod b class) es ms → CodesHold b es → (vs : List Method) × IsRun (IsMethod b class) es vs × CodesAre b es vs
-  with_codes class es ms run hold =
-      let built = build (IsWhole class es) (length es) one in
-      (built.0, record { count = built.1; each = (λ k e v at_e at_v. (built.2 k v at_v e at_e).0); rises = run.rises }, λ k e v at_e at_v. (built.2 k v at_v e at_e).1)
-    where
-      whole : (k : ℕ) (e : MethodEntry) (m : Method) (code : Option Code) → slice_get es k ≡ Some e → IsMethod b class (index_of (steps es) k) e m → CodeAt b e.1.1 code → IsWhole class es k (record { name = m.name; proto = m.proto; flags = m.flags; code = code })
-      whole k e m code at is stands d there =
-          let both : ◌≡◌ {A = Option MethodEntry} (Some e) (Some d) = sym at ∙ there in
-          let same : e ≡ d = cc in
-          subst (λ (x : MethodEntry). IsMethod b class (index_of (steps es) k) x (record { name = m.name; proto = m.proto; flags = m.flags; code = code }) × CodeAt b x.1.1 code) same
-          (record { method = is.method; flags = is.flags }, stands)
-
-      one : (k : ℕ) → k < length es → (v : Method) × IsWhole class es k v
-      one k lt =
-          let e = entry_at es k lt in
-          let m = entry_at ms k (let n = run.count in omega (arith, n, lt)) in
-          let c = hold k e.0 e.1 in
-          (record { name = m.0.name; proto = m.0.proto; flags = m.0.flags; code = c.0 }, whole k e.0 m.0 c.0 e.1 (run.each k e.0 m.0 e.1 m.1) c.1)
-
-  class_meant : (i : ℕ) → ClassHolds b i → ValuesHold b i → MethodsHold b i → (c : Class) × SpellsClass b i c
-  class_meant i h v m =
-      let same = entries_one b framed (class_word b i 6) v.1.entries h.entries v.1.class_data h.head.class_data in
-      let other = entries_one b framed (class_word b i 6) m.entries h.entries m.class_data h.head.class_data in
-      let ms = h.head.members in
-      let c = h.class in
-      let directs = with_codes c.ty h.entries.directs c.directs ms.directs (subst (λ (x : Entries). CodesHold b x.directs) other m.directs) in
-      let virtuals = with_codes c.ty h.entries.virtuals c.virtuals ms.virtuals (subst (λ (x : Entries). CodesHold b x.virtuals) other m.virtuals) in (
-        record { ty = c.ty; flags = c.flags; superclass = c.superclass; interfaces = c.interfaces; source = c.source; statics = c.statics; values = v.0; instances = c.instances; directs = directs.0; virtuals = virtuals.0 },
-        record {
-          entries = h.entries;
-          head = record { row = h.head.row; interfaces = h.head.interfaces; class_data = h.head.class_data; members = record { statics = ms.statics; instances = ms.instances; directs = directs.1; virtuals = virtuals.1 } };
-          values = subst (λ (x : Entries). StaticsAt b (class_word b i 7) (length x.statics) v.0) same v.1.spelled;
-          directs = directs.2;
-          virtuals = virtuals.2;
-        },
-      )
-
-  program_meant : TablesHold b → ClassesHold b → RowsHold ValuesHold b (size_of b 5) → RowsHold MethodsHold b (size_of b 5) → (p : Program) × Means b p
-  program_meant tables classes values methods =
-      let built = build (SpellsClass b) (size_of b 5) (λ i lt. class_meant i (classes i lt) (values i lt) (methods i lt)) in
-      (built.0, record { framed = framed; tables = tables; classes = record { count = built.1; each = built.2 }; order = λ i lt. (classes i lt).order })
+pub registers_decided : (b : List ℕ) → IsFramed b → TablesHold b → (i : ℕ) → BodiesHold b i → RegistersHold b i ⊎ ((f : Fault) × RegistersBreak b i f)
+registers_decided b framed tables i h =
+    let found = tables_have_names b tables in
+    method_row b CodeHolds RegistersFail i h.entries h.class_data (λ k e at. registers_here b found.0 found.1 framed e.1.1 (h.directs k e at)) (λ k e at. registers_here b found.0 found.1 framed e.1.1 (h.virtuals k e at))
 
 -- ---- the file
 
@@ -210,9 +180,12 @@ framed_is_decided b are framed = elim (tables_are_decided b framed) [
     | inl classes ↦ elim (first_class_break ValuesBreak ValuesHold b (λ i lt. value_row b are framed tables i (classes i lt)) (size_of b 5) (omega arith)) [
       | inr f ↦ inr (f.0, inr (inr (inr (inl (record { framed = framed; tables = tables; classes = classes; first = f.1 })))))
       | inl values ↦
-          elim (first_class_break MethodsBreak MethodsHold b (λ i lt. codes_decided b are framed tables i (classes i lt)) (size_of b 5) (omega arith)) [
-            | inr f ↦ inr (f.0, inr (inr (inr (inr (record { framed = framed; tables = tables; classes = classes; values = values; first = f.1 })))))
-            | inl methods ↦ inl (program_meant b framed tables classes values methods)
+          elim (first_class_break BodiesBreak BodiesHold b (λ i lt. bodies_decided b are framed tables i (classes i lt)) (size_of b 5) (omega arith)) [
+            | inr f ↦ inr (f.0, inr (inr (inr (inr (inl (record { framed = framed; tables = tables; classes = classes; values = values; first = f.1 }))))))
+            | inl bodies ↦ elim (first_class_break RegistersBreak RegistersHold b (λ i lt. registers_decided b framed tables i (bodies i lt)) (size_of b 5) (omega arith)) [
+              | inr f ↦ inr (f.0, inr (inr (inr (inr (inr (record { framed = framed; tables = tables; classes = classes; values = values; bodies = bodies; first = f.1 }))))))
+              | inl methods ↦ inl (program_meant b framed tables classes values methods)
+            ]
           ]
     ]
   ]
@@ -233,7 +206,8 @@ refused_broken b e (inr (inl t)) = inr (inl (elim t [
 ]))
 refused_broken b e (inr (inr (inl f))) = inr (inr (inl (class_first b e f).0))
 refused_broken b e (inr (inr (inr (inl f)))) = inr (inr (inr (inl (value_first b e f).0)))
-refused_broken b e (inr (inr (inr (inr f)))) = inr (inr (inr (inr (code_first b e f).0)))
+refused_broken b e (inr (inr (inr (inr (inl f))))) = inr (inr (inr (inr (inl (code_first b e f).0))))
+refused_broken b e (inr (inr (inr (inr (inr f))))) = inr (inr (inr (inr (inr (register_first b e f).0))))
 
 -- where no fault stands, a program is meant
 pub meant_without_fault : (b : List ℕ) → MeansOrRefused b → ((f : Fault) → Broken b f → ⊥) → (p : Program) × Means b p

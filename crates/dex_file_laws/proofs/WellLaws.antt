@@ -21,7 +21,7 @@ use Rattle.dex_program.specs.Mentions.{if_any, names_of_value, names_of_code, fi
 use Rattle.dex_tables.specs.Sorted.{TablesHold}
 use Rattle.dex_tables.specs.Stands.{StringStands, TypeStands, ProtoStands, NameStands}
 use Rattle.dex_program.specs.Kinds.{void}
-use Rattle.dex_program.specs.Formed.{IsFormed}
+use Rattle.dex_program.specs.Formed.{IsFormed, RegistersHold}
 use Rattle.dex_bytes.specs.Fields.{AreBytes}
 use Rattle.dex_tables.proofs.TypeLists.{indexes_of}
 use Rattle.dex_tables_laws.specs.FileNames.{HasRow, IsMentionedIn}
@@ -287,4 +287,5 @@ rules_hold b are p m i c at =
       targets = class_codes b are m.framed i c s TargetsHold (λ d f. f.targets);
       payloads = class_codes b are m.framed i c s PayloadsHold (λ d f. f.payloads);
       tries = class_codes b are m.framed i c s TriesHold (λ d f. f.tries);
+      registers = class_codes b are m.framed i c s RegistersHold (λ d f. f.named);
     }

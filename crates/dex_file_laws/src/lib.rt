@@ -14,7 +14,7 @@ ghost use Rattle.dex_rules.specs.WellFormed.{WellFormed};
 ghost use Rattle.dex_tables.specs.Sorted.{TablesHold};
 ghost use Rattle.dex_tables_laws.specs.FileNames.{IsMentionedIn};
 ghost use Rattle.dex_container.specs.Layout.{size_of};
-ghost use Rattle.dex_class.specs.ClassFaults.{ClassHolds, ClassBreaks, ClassesHold, IsClassFault, ValuesHold, ValuesBreak, MethodsHold, MethodsBreak};
+ghost use Rattle.dex_class.specs.ClassFaults.{ClassHolds, ClassBreaks, ClassesHold, IsClassFault, ValuesHold, ValuesBreak, BodiesHold, BodiesBreak, RegistersHold, RegistersBreak};
 ghost use Rattle.dex_file.specs.Broken.{Broken};
 ghost use Rattle.dex_file.specs.Means.{Means};
 ghost use Rattle.dex_file_laws.specs.FileDeciding.{MeansOrRefused};
@@ -28,14 +28,15 @@ pub fn classes_are_decided()
 {}
 
 /// A row of class_defs keeps the rules of each pass of reading, or a fault of that pass stands: names and members (40 to 47), static
-/// values (48 to 51), code (60 to 72).
+/// values (48 to 51), code (60 to 72), and where its code does, its registers (73).
 pub fn rows_are_decided()
     ensures class { (b : List ℕ) → IsFramed b → TablesHold b → (i : ℕ) → i < size_of b 5 → ClassHolds b i ⊎ ((code : ℕ) × ClassBreaks b code i) }
     ensures values { (b : List ℕ) → AreBytes b → IsFramed b → TablesHold b → (i : ℕ) → ClassHolds b i → ValuesHold b i ⊎ ((e : Fault) × ValuesBreak b i e) }
-    ensures code { (b : List ℕ) → AreBytes b → IsFramed b → TablesHold b → (i : ℕ) → ClassHolds b i → MethodsHold b i ⊎ ((e : Fault) × MethodsBreak b i e) }
+    ensures code { (b : List ℕ) → AreBytes b → IsFramed b → TablesHold b → (i : ℕ) → ClassHolds b i → BodiesHold b i ⊎ ((e : Fault) × BodiesBreak b i e) }
+    ensures registers { (b : List ℕ) → IsFramed b → TablesHold b → (i : ℕ) → BodiesHold b i → RegistersHold b i ⊎ ((e : Fault) × RegistersBreak b i e) }
 {}
 
-/// A file whose header, map and checksums hold means a program, or one of the faults 20 to 72 refuses it.
+/// A file whose header, map and checksums hold means a program, or one of the faults 20 to 73 refuses it.
 pub fn framed_files_are_decided()
     ensures { (b : List ℕ) → AreBytes b → IsFramed b → MeansOrRefused b }
 {}
@@ -59,7 +60,7 @@ pub fn meanings_have_rows()
 {}
 
 /// What a file means is well formed: its numbers and units lie in the ranges of their types, and it keeps the rules of programs, 110
-/// to 117.
+/// to 118.
 pub fn meanings_are_well_formed()
     ensures { (b : List ℕ) → AreBytes b → (p : Program) → Means b p → WellFormed p }
 {}

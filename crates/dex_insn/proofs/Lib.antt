@@ -10,4 +10,5 @@ pub mod Fits
 pub mod Laws
 pub mod Mnemonics
 pub mod Rows
+pub mod RegisterRuns
 pub mod Decided

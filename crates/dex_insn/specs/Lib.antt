@@ -4,5 +4,6 @@ pub mod Mnemonics
 pub mod Named
 pub mod Raw
 pub mod RawInsns
+pub mod Registers
 pub mod Flaws
 pub mod Written

@@ -21,6 +21,7 @@ mod flaw;
 mod payload;
 mod plain;
 mod read;
+mod registers;
 mod size;
 mod units;
 
@@ -44,6 +45,7 @@ pub use opcodes::OPCODES;
 pub use put::put_insn;
 pub use raw::RawInsn;
 pub use read::read_insn;
+pub use registers::top_register;
 pub use size::size_of;
 pub use table_law::{
     indices_have_a_kind, mnemonics_are_plain, mnemonics_differ, used_opcodes_are_named,

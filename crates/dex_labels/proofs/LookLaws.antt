@@ -1,5 +1,7 @@
 -- The labels of a map.
 use Rattle.std.proofs.Common.{◌≡◌, ℕ, Bool, true, false, cond, ◌⊎◌, inl, inr, List, [], ◌∷◌, ◌++◌, map, if◌then◌else◌, Option, Some, None, option_copied, is_some, refl, sym, ap, ◌∙◌}
+use Rattle.std.proofs.lemmas.Bool.{and_parts, eqb-true}
+use lib.Dec.{eqb}
 use Rattle.std.specs.Borrow.{Bor}
 use Rattle.std.specs.Map.{lookup as found_in}
 use Rattle.indexmap.specs.IndexMap.{insert_entry}
@@ -20,18 +22,23 @@ pub found_place : (name : List ℕ) (test : Bor (List ℕ) → Bool) → ((k : B
 found_place name test t [] = refl
 found_place name test t (e ∷ es) = rw (t e.0) (chosen (same name e.0.now) e.0 e.1 (found_in test es) (lookup name (map label es)) (found_place name test t es))
 
--- ---- one label more
+same_true : (xs ys : List ℕ) → same xs ys ≡ true → xs ≡ ys
+unfolding same
+same_true [] [] e = refl
+same_true [] (y ∷ ys) e = absurd cc
+same_true (x ∷ xs) [] e = absurd cc
+same_true (x ∷ xs) (y ∷ ys) e = let p = and_parts (eqb x y) (same xs ys) e in let a = eqb-true x y p.0 in let b = same_true xs ys p.1 in cc
 
-pub copied : (o : Option (Bor Place)) → is_some (option_copied o) ≡ is_some o
-copied None = refl
-copied (Some p) = refl
+-- the label of an entry, by the entry's name
+pub found_there : (same_key : Bor (List ℕ) → Bor (List ℕ) → Bool) → ((j k : Bor (List ℕ)) → same_key j k ≡ same j.now k.now) → (k : Bor (List ℕ)) (name : List ℕ) (p : Place) (es : List (Bor (List ℕ) × Place)) → found_in (same_key k) es ≡ Some p → same k.now name ≡ true
+    → Some p ≡ place_in (lookup name (map label es))
+found_there same_key t k name p es e s = sym e ∙ found_place k.now (same_key k) (t k) es ∙ ap (λ (n : List ℕ). place_in (lookup n (map label es))) (same_true k.now name s)
+
+-- ---- one label more
 
 known : (o : Option Place) (q : Option Label) → o ≡ place_in q → is_some o ≡ is_some q
 known o None e = ap is_some e
 known o (Some l) e = ap is_some e
-
-pub kept : (name : List ℕ) (o : Option Place) (es : List (Bor (List ℕ) × Place)) (l : Label) → l.name ≡ name → o ≡ place_in (lookup name (map label es)) → is_some o ≡ true → map label es ≡ with_label (map label es) l
-kept name o es l n e s = let k : is_some (lookup l.name (map label es)) ≡ true = ap (λ (x : List ℕ). is_some (lookup x (map label es))) n ∙ sym (known o (lookup name (map label es)) e) ∙ s in rw k refl
 
 -- what isn't there goes last
 goes_last : (same_key : Bor (List ℕ) → Bor (List ℕ) → Bool) → ((j k : Bor (List ℕ)) → same_key j k ≡ same j.now k.now) → (k : Bor (List ℕ)) (p : Place) (es : List (Bor (List ℕ) × Place)) → is_some (lookup k.now (map label es)) ≡ false
@@ -42,8 +49,23 @@ goes_last same_key t k p (e ∷ es) s = elim (cases_bool (same k.now e.0.now)) [
   | inr n ↦ rw (t k e.0, n) (ap (λ x. label e ∷ x) (goes_last same_key t k p es (rw n at s)))
 ]
 
-pub put : (same_key : Bor (List ℕ) → Bor (List ℕ) → Bool) → ((j k : Bor (List ℕ)) → same_key j k ≡ same j.now k.now) → (k : Bor (List ℕ)) (p : Place) (o : Option Place) (es new : List (Bor (List ℕ) × Place)) → o ≡ place_in (lookup k.now (map label es)) → is_some o ≡ false
+pub put : (same_key : Bor (List ℕ) → Bor (List ℕ) → Bool) → ((j k : Bor (List ℕ)) → same_key j k ≡ same j.now k.now) → (k : Bor (List ℕ)) (p : Place) (es new : List (Bor (List ℕ) × Place)) → None ≡ found_in (same_key k) es
     → new ≡ insert_entry same_key es k p → map label new ≡ with_label (map label es) (label (k, p))
-put same_key t k p o es new e s n =
-    let f : is_some (lookup k.now (map label es)) ≡ false = sym (known o (lookup k.now (map label es)) e) ∙ s in
+put same_key t k p es new e n =
+    let f : is_some (lookup k.now (map label es)) ≡ false = sym (known None (lookup k.now (map label es)) (e ∙ found_place k.now (same_key k) (t k) es)) in
     ap (map label) n ∙ goes_last same_key t k p es f ∙ rw f refl
+
+-- what is there stays, where it is put back
+put_back : (same_key : Bor (List ℕ) → Bor (List ℕ) → Bool) (k : Bor (List ℕ)) (p first : Place) (es : List (Bor (List ℕ) × Place)) → Some first ≡ found_in (same_key k) es
+    → insert_entry same_key (insert_entry same_key es k p) k first ≡ es
+put_back same_key k p first [] e = absurd cc
+put_back same_key k p first (x ∷ es) e = elim (cases_bool (same_key k x.0)) [
+  | inl y ↦ let f : Some first ≡ Some x.1 = rw y at e in let g : first ≡ x.1 = cc in rw (y, y, g) refl
+  | inr n ↦ rw (n, n) (ap (λ ys. x ∷ ys) (put_back same_key k p first es (rw n at e)))
+]
+
+pub kept : (same_key : Bor (List ℕ) → Bor (List ℕ) → Bool) → ((j k : Bor (List ℕ)) → same_key j k ≡ same j.now k.now) → (k : Bor (List ℕ)) (p first : Place) (es new back : List (Bor (List ℕ) × Place)) → Some first ≡ found_in (same_key k) es
+    → new ≡ insert_entry same_key es k p → back ≡ insert_entry same_key new k first → map label back ≡ with_label (map label es) (label (k, p))
+kept same_key t k p first es new back e n b =
+    let f : is_some (lookup k.now (map label es)) ≡ true = sym (known (Some first) (lookup k.now (map label es)) (e ∙ found_place k.now (same_key k) (t k) es)) in
+    rw f (ap (map label) (b ∙ rw n (put_back same_key k p first es e)))

@@ -1,17 +1,17 @@
 //! Labels: how they are spelled, what they mark, and what words say where they stand.
 
-ghost use Rattle.std.specs.Prelude.{◌≡◌, ◌<◌, ◌≤◌, ◌+◌, ◌^◌, [], List, map, length, IfOk, IfSome, IfNone, OnOk, IsOkUnless, option_map};
+ghost use Rattle.std.specs.Prelude.{◌≡◌, ◌<◌, ◌≤◌, ◌+◌, ◌^◌, [], List, Some, map, length, IfOk, IfSome, IfNone, OnOk, IsOkUnless, option_map};
 ghost use Rattle.dex_bytes.specs.Fault.{memory};
 ghost use Rattle.dex_words.specs.Words.{after_spaces, up_to_space};
 ghost use Rattle.dex_words.specs.View.{word};
 ghost use Rattle.dex_slots.specs.Data.{Datum as Said};
 ghost use Rattle.dex_slots.specs.View.{datum};
-ghost use Rattle.dex_labels.specs.Lines.{lines};
+ghost use Rattle.dex_labels.specs.Lines.{lines, is_comment};
 ghost use Rattle.dex_labels.specs.Labels as says;
 ghost use Rattle.dex_labels.specs.Labels.{SpellsHere, SpellsAll, MisspellsAll};
 ghost use Rattle.dex_labels.specs.View.{label, place_in};
 
-use crate::pieces::{is_skipped, split_line};
+use crate::pieces::split_line;
 use bumpalo::Bump;
 use dex_base::{Fault, fault};
 use dex_slots::{Datum, Key, Mark, Slot, fault_of, is_same, key_text, read_datum};
@@ -91,17 +91,28 @@ fn up_to_space(text: &[u8]) -> &[u8]
     text
 }
 
-/// The first word of a line.
-fn first_word(line: &[u8]) -> &[u8]
-    ensures { result.now ≡ says.first_word line.now }
+/// Whether a line says nothing whose spaces at the front are left out.
+fn is_comment(words: &[u8]) -> bool
+    ensures { result ≡ is_comment words.now }
 {
-    up_to_space(after_spaces(line))
+    match words.split_first() {
+        Some((first, _)) => *first == 35,
+        None => true,
+    }
 }
 
-/// Whether the instructions end at a line of this first word.
-fn is_stop(word: &[u8]) -> bool
-    ensures { result ≡ says.is_stop word.now }
+/// Whether the instructions end at a line of these words.
+fn is_stop(words: &[u8]) -> bool
+    ensures { result ≡ says.is_stop (up_to_space words.now) }
 {
+    // Both words begin otherwise than most mnemonics.
+    let Some((first, _)) = words.split_first() else {
+        return false;
+    };
+    if *first != 116 && *first != 101 {
+        return false;
+    }
+    let word = up_to_space(words);
     is_same(key_text(Key::Try).as_bytes(), word) || is_same(key_text(Key::End).as_bytes(), word)
 }
 
@@ -114,10 +125,10 @@ fn put_label<'t>(
     ensures put { OnOk result (map label labels.new.entries ≡ says.with_label (map label labels.old.entries) (record { name = name.now; line = place.line; number = place.number })) }
     ensures memory { IsOkUnless result memory }
 {
-    if labels.get(name).is_some() {
-        return Ok(());
+    // So a name is hashed once: what a second label of its name puts there is taken back.
+    if let Some(first) = labels.insert(name, place)? {
+        labels.insert(name, first)?;
     }
-    labels.insert(name, place)?;
     Ok(())
 }
 
@@ -132,18 +143,18 @@ pub fn look_ahead<'t>(
     ensures ahead { OnOk result (map label labels.new.entries ≡ says.labels_ahead [] first 0 (lines text.now)) }
     ensures memory { IsOkUnless result memory }
 {
-    labels.clear();
+    labels.truncate(0);
     let mut line = first;
     let mut number = 0u64;
     let mut rest = text;
     while let Some((next, behind)) = split_line(rest) {
-        let word = first_word(next);
-        if !is_skipped(next) {
-            if is_stop(word) {
+        let words = after_spaces(next);
+        if !is_comment(words) {
+            if is_stop(words) {
                 return Ok(());
             }
-            if is_mark(word) {
-                put_label(labels, word, Place { line, number })?;
+            if is_mark(words) {
+                put_label(labels, up_to_space(words), Place { line, number })?;
             } else {
                 number += 1;
             }
@@ -154,10 +165,24 @@ pub fn look_ahead<'t>(
     Ok(())
 }
 
-/// The label of this name.
-pub fn place_of(labels: &IndexMap<&[u8], Place>, name: &[u8]) -> Option<Place>
+/// The label at this index, where it has this name.
+fn place_at(labels: &IndexMap<&[u8], Place>, index: usize, name: &[u8]) -> Option<Place>
+    ensures { IfSome result (λ place. Some place ≡ place_in (says.lookup name.now (map label labels.now.entries))) }
+{
+    let (there, place) = labels.get_index(index)?;
+    if is_same(there, name) {
+        return Some(*place);
+    }
+    None
+}
+
+/// The label of this name. The one at the index `near` is found without hashing the name.
+pub fn place_of(labels: &IndexMap<&[u8], Place>, near: usize, name: &[u8]) -> Option<Place>
     ensures { result ≡ place_in (says.lookup name.now (map label labels.now.entries)) }
 {
+    if let Some(place) = place_at(labels, near, name) {
+        return Some(place);
+    }
     match labels.get(name) {
         Some(place) => Some(*place),
         None => None,
@@ -165,10 +190,10 @@ pub fn place_of(labels: &IndexMap<&[u8], Place>, name: &[u8]) -> Option<Place>
 }
 
 /// The instruction that the label of this name marks.
-fn marked(labels: &IndexMap<&[u8], Place>, name: &[u8]) -> u32
+fn marked(labels: &IndexMap<&[u8], Place>, near: usize, name: &[u8]) -> u32
     ensures { result ≡ says.marked_by (says.lookup name.now (map label labels.now.entries)) }
 {
-    match place_of(labels, name) {
+    match place_of(labels, near, name) {
         Some(place) => place.number.min(4294967295) as u32,
         None => 4294967295,
     }
@@ -182,14 +207,18 @@ fn is_target(slot: Slot) -> bool
 }
 
 /// What a word says where a target stands.
-fn read_label<'a>(labels: &IndexMap<&[u8], Place>, one: Word<'a, '_>) -> Option<Datum<'a>>
+fn read_label<'a>(
+    labels: &IndexMap<&[u8], Place>,
+    near: usize,
+    one: Word<'a, '_>,
+) -> Option<Datum<'a>>
     ensures found { IfSome result (λ d. says.SpellsLabel (map label labels.now.entries) (word one.entry) (datum d)) }
     ensures none { IfNone result ((d : Said) → says.SpellsLabel (map label labels.now.entries) (word one.entry) d → ⊥) }
 {
     match one {
         Word::Plain(text) => {
             if is_label(text) {
-                return Some(Datum::Word(marked(labels, text)));
+                return Some(Datum::Word(marked(labels, near, text)));
             }
             None
         }
@@ -201,6 +230,7 @@ fn read_label<'a>(labels: &IndexMap<&[u8], Place>, one: Word<'a, '_>) -> Option<
 fn read_here<'a>(
     bump: &'a Bump,
     labels: &IndexMap<&[u8], Place>,
+    near: usize,
     slot: Slot,
     one: Word<'a, '_>,
 ) -> Result<Option<Datum<'a>>, Fault>
@@ -209,7 +239,7 @@ fn read_here<'a>(
     ensures memory { IsOkUnless result memory }
 {
     if is_target(slot) {
-        return Ok(read_label(labels, one));
+        return Ok(read_label(labels, near, one));
     }
     read_datum(bump, slot, one)
 }
@@ -224,10 +254,12 @@ fn fault_here(slot: Slot) -> u16
     fault_of(slot)
 }
 
-/// What these words say in these slots of the second form; else the fault of the first that says nothing there.
+/// What these words say in these slots of the second form; else the fault of the first that says nothing there. The label
+/// at the index `near` is found without hashing its name.
 pub fn read_all<'a, 'b>(
     bump: &'a Bump,
     labels: &IndexMap<&[u8], Place>,
+    near: usize,
     slots: &[Slot],
     words: &[Word<'a, 'b>],
     says: &mut Vec<Datum<'a>, &'a Bump>,
@@ -239,7 +271,7 @@ pub fn read_all<'a, 'b>(
 {
     says.clear();
     for i in 0..slots.len() {
-        let Some(said) = read_here(bump, labels, slots[i], words[i])? else {
+        let Some(said) = read_here(bump, labels, near, slots[i], words[i])? else {
             return Ok(Some(fault_here(slots[i])));
         };
         says.push(said)?;

@@ -1,5 +1,5 @@
 -- A code that stands in a file fits the fields of every file in which no name stands further behind.
-use Rattle.std.proofs.Common.{◌≡◌, ◌≢◌, ℕ, ℤ, zero, suc, ◌+◌, ◌-◌, ◌*◌, ◌/◌, ◌<◌, ◌≤◌, inl, inr, Option, Some, None, true, List, [], ◌∷◌, length, drop, map, get_or, refl, sym, ap, ◌∙◌, subst, arith, length-drop, length-take}
+use Rattle.std.proofs.Common.{◌≡◌, ◌≢◌, ℕ, ℤ, zero, suc, ◌+◌, ◌-◌, ◌*◌, ◌/◌, ◌<◌, ◌≤◌, inl, inr, Option, Some, None, true, List, length, drop, get_or, refl, sym, ap, ◌∙◌, subst, arith, length-drop, length-take}
 use Rattle.std.specs.Prelude.{IfSome, FitsSigned}
 use Rattle.std.specs.Int.{w8, w16, w32}
 use Rattle.std.proofs.lemmas.Bool.{cases_lt}
@@ -20,50 +20,27 @@ use Rattle.dex_program.specs.Content.{Name, Insn, Try, Code}
 use Rattle.dex_program.specs.Content as made
 use Rattle.dex_program.specs.Formed.{IsSwitch, insn_at, try_at, insn_payload, insn_targets, Refers}
 use Rattle.dex_program.specs.Kinds.{IsOfKind}
-use Rattle.dex_program.specs.Sizes.{insn_units, addresses_of, starts_from}
+use Rattle.dex_program.specs.Sizes.{addresses_of}
 use Rattle.dex_tables.specs.Stands.{NameStands}
 use Rattle.dex_code_insns.specs.Places.{place, count_below, Rises}
 use Rattle.dex_code_insns.specs.Walk.{starts, raw_at, address}
-use Rattle.dex_code_insns.specs.Symbols.{resolved, places, ints, ints_from, Names, name_in}
+use Rattle.dex_code_insns.specs.Symbols.{resolved, places, ints, Names, name_in}
 use Rattle.dex_code_insns.specs.Payloads.{payload_of}
 use Rattle.dex_code_insns.specs.Insns.{targets, IsBase, SpellsInsns}
 use Rattle.dex_code_insns.proofs.PlaceLaws.{place-there}
 use Rattle.dex_code_insns.proofs.Runs.{run-at, table-of}
+use Rattle.dex_code_insns.proofs.SaidRegisters.{mapped, said, addresses-same}
 use Rattle.dex_code.specs.Item.{size_of, tries_of, units_of, items_of, units_end, tries_begin, list_begin, try_start, try_count}
 use Rattle.dex_code.specs.Tries.{SpellsTries}
-use Rattle.dex_code.specs.Code.{SpellsCode, CodeStands}
+use Rattle.dex_code.specs.Code.{SpellsBody, CodeStands}
 use Rattle.dex_code.proofs.FaultLaws.{units-even}
 use Rattle.dex_code.proofs.ItemLaws.{begins_late}
 use Rattle.dex_code_put.specs.Fits.{short_name, ShortFits, distance_of, BranchFits, TargetsFit, OffsetsFit, IsEven, TryFits}
 use Rattle.dex_least.specs.AtLeast.{AreNoFurther, CodesFit, FitsFields}
 use Rattle.dex_names.specs.Closure.{Five, NameRanks}
 use Rattle.dex_code_read_laws.proofs.Bytes.{take-bytes}
-use Rattle.dex_code_read_laws.proofs.SaidLaws.{mapped, said, AllLed, targets-said, length-places, length-ints_from, slice-bytes}
+use Rattle.dex_code_read_laws.proofs.SaidLaws.{AllLed, targets-said, slice-bytes}
 use Rattle.dex_code_read_laws.proofs.CodesFormed.{if-weaker, all-weaker, kind-at, uses-of, no-targets, count-most, not-below, from-at, u16-fits}
-
--- ---- units
-
-units-said : (T : ℤ → Option ℕ) (w : Name) (r : Raw) → IfSome (resolved T w r) (λ i. units r ≡ insn_units i)
-unfolding resolved units insn_units ints
-units-said T w (raw.I10t op z) = mapped (λ i. 1 ≡ insn_units i) (λ to. made.I10t op to) (T z) (λ to e. refl)
-units-said T w (raw.I20t op z) = mapped (λ i. 2 ≡ insn_units i) (λ to. made.I20t op to) (T z) (λ to e. refl)
-units-said T w (raw.I21t op a z) = mapped (λ i. 2 ≡ insn_units i) (λ to. made.I21t op a to) (T z) (λ to e. refl)
-units-said T w (raw.I22t op a b z) = mapped (λ i. 2 ≡ insn_units i) (λ to. made.I22t op a b to) (T z) (λ to e. refl)
-units-said T w (raw.I30t op z) = mapped (λ i. 3 ≡ insn_units i) (λ to. made.I30t op to) (T z) (λ to e. refl)
-units-said T w (raw.I31t op a z) = mapped (λ i. 3 ≡ insn_units i) (λ to. made.I31t op a to) (T z) (λ to e. refl)
-units-said T w (raw.Packed first offsets) = mapped (λ i. 4 + 2 * (length offsets / 4) ≡ insn_units i) (λ to. made.Packed first to) (places T (ints_from offsets 0 (length offsets / 4)))
-    (λ to e. let m = length-places T (ints_from offsets 0 (length offsets / 4)) to e in let k = length-ints_from offsets 0 (length offsets / 4) in omega (arith, m, k))
-units-said T w (raw.Sparse keys offsets) = mapped (λ i. 2 + 4 * (length keys / 4) ≡ insn_units i) (λ to. made.Sparse (ints_from keys 0 (length keys / 4)) to) (places T (ints_from offsets 0 (length offsets / 4)))
-    (λ to e. let k = length-ints_from keys 0 (length keys / 4) in omega (arith, k))
-units-said T w _ = refl
-
-starts-same : (at : ℕ) (is : List Insn) (rs : List Raw) → length is ≡ length rs → ((k : ℕ) → k < length rs → units (get_or rs k (raw.I10x 0)) ≡ insn_units (get_or is k (made.I10x 0))) → starts_from at (map units rs) ≡ starts_from at (map insn_units is)
-starts-same at [] [] e h = refl
-starts-same at (i ∷ is) [] e h = absurd (omega (arith, e))
-starts-same at [] (r ∷ rs) e h = absurd (omega (arith, e))
-starts-same at (i ∷ is) (r ∷ rs) e h =
-    let s = h zero (omega arith) in
-    ap (λ (x : ℕ). at ∷ starts_from (at + x) (map units rs)) s ∙ ap (λ (l : List ℕ). at ∷ l) (starts-same (at + insn_units i) is rs (omega (arith, e)) (λ k l. h (suc k) (omega (arith, l))))
 
 -- ---- indices
 
@@ -119,10 +96,6 @@ module _ (M : ℕ → Name → Type 0) (us : List ℕ) (rs : List Raw) (is : Lis
 
   raw-fits : (k : ℕ) → k < length rs → IsRaw (raw_at rs k)
   raw-fits k l = stands_fits us (address rs k) (raw_at rs k) are (stands-at k l)
-
-  addresses-same : starts rs ≡ addresses_of is
-  unfolding raw_at
-  addresses-same = starts-same 0 is rs s.count (λ k l. let x = s.each k l in said (λ i. units (raw_at rs k) ≡ insn_units i) _ (insn_at is k) (units-said (place (starts rs) x.base) (name_in (insn_at is k)) (raw_at rs k)) x.says.symbol)
 
   short-at : (N : ℕ → Name → Type 0) → ((which : Name) (j n : ℕ) → M j which → N n which → n ≤ j) → (kind : IndexKind) (k : ℕ) → k < length rs → ShortFits N kind (insn_at is k)
   short-at N low kind k l =
@@ -204,7 +177,7 @@ try-fits M ss rises size n items list ts are s i l =
 
 -- ---- a code
 
-module _ (M N : ℕ → Name → Type 0) (low : (which : Name) (i j : ℕ) → M i which → N j which → j ≤ i) (bytes : List ℕ) (c : Code) (are : AreBytes bytes) (short : length bytes ≤ 4294967295) (s : SpellsCode M bytes c) where
+module _ (M N : ℕ → Name → Type 0) (low : (which : Name) (i j : ℕ) → M i which → N j which → j ≤ i) (bytes : List ℕ) (c : Code) (are : AreBytes bytes) (short : length bytes ≤ 4294967295) (s : SpellsBody M bytes c) where
   units-are : AreBytes (units_of bytes)
   units-are = take-bytes (units_end bytes - 16) (drop 16 bytes) (behind bytes 16 are)
 
@@ -217,7 +190,7 @@ module _ (M N : ℕ → Name → Type 0) (low : (which : Name) (i j : ℕ) → M
       (table-of (units_of bytes) (starts s.raws) s.raws (omega (arith, even, late, fixed, short)) s.insns.walk.run refl).rises
 
   same : starts s.raws ≡ addresses_of c.insns
-  same = addresses-same M (units_of bytes) s.raws c.insns s.insns units-are
+  same = addresses-same M (units_of bytes) s.raws c.insns s.insns
 
   inside : (k : ℕ) → k < length c.insns → k < length s.raws
   inside k l = let n = s.insns.count in omega (arith, l, n)
@@ -253,7 +226,7 @@ module _ (b : List ℕ) (are : AreBytes b) (framed : IsFramed b) (off : ℕ) (c 
   slice-are = take-bytes a.size (drop off b) (behind b off are)
 
   pub standing-fits : (s : Five) → AreNoFurther s b → FitsFields (NameRanks s) c
-  standing-fits s low = spelled-fits (NameStands b) (NameRanks s) low (slice b off a.size) c slice-are slice-short a.spelled
+  standing-fits s low = spelled-fits (NameStands b) (NameRanks s) low (slice b off a.size) c slice-are slice-short a.spelled.body
 
 pub codes-fit : CodesFit
 codes-fit b s off c are framed stands low = standing-fits b are framed off c stands s low

@@ -140,7 +140,10 @@ class_keeps p i c e b h = elim b [
             | inl w ↦ w.0 h.targets
             | inr w6 ↦ elim w6.1 [
               | inl w ↦ w.0 h.payloads
-              | inr w ↦ w.1 h.tries
+              | inr w7 ↦ elim w7.1 [
+                | inl w ↦ w.0 h.tries
+                | inr w ↦ w.1 h.registers
+              ]
             ]
           ]
         ]

@@ -187,7 +187,7 @@ pub record IsLate (ls : List (List ℕ)) (place : ℕ) : Type 0 where
   pub whole : state.base.stage ≡ Top
   pub late : state.base.late ≡ Some place
 
--- 110 to 117: all lines are accepted, no block is open and each target is an instruction, but the program breaks a rule; the
+-- 110 to 118: all lines are accepted, no block is open and each target is an instruction, but the program breaks a rule; the
 -- place is the number of the class that does.
 pub record IsIllFormed (ls : List (List ℕ)) (code place : ℕ) : Type 0 where
   pub state : Reading

@@ -31,11 +31,13 @@ use dex_words::{Word, read_words};
 use indexmap::IndexMap;
 use std::alloc::Global;
 
-/// A listing that is being read: its form, the labels of the open code, and what its lines make.
+/// A listing that is being read: its form, the labels of the open code, how many of their lines were read, and what its
+/// lines make.
 #[derive(Drop)]
 pub struct Reading<'a, 't> {
     pub form: Form,
     pub labels: IndexMap<&'t [u8], Place>,
+    pub passed: usize,
     pub draft: Draft<'a>,
 }
 
@@ -99,7 +101,7 @@ impl<'a, 't> Reading<'a, 't> {
         if !is_label(name) {
             return Aside::Refused(fault::LINE_NAME);
         }
-        match place_of(&self.labels, name) {
+        match place_of(&self.labels, self.passed, name) {
             Some(place) => {
                 if place.line == self.draft.lines {
                     return Aside::Mark;
@@ -161,6 +163,15 @@ impl<'a, 't> Reading<'a, 't> {
         self.draft.stage = Stage::Top;
     }
 
+    /// The line of a label was read. The number of such lines is the index of the next label ahead, which is looked at first.
+    #[tactic(auto, unfolding(crate::specs::View::reading))]
+    fn pass_label(&mut self)
+        ensures same { reading self.new ≡ reading self.old }
+        ensures lines { self.new.draft.lines ≡ self.old.draft.lines }
+    {
+        self.passed = self.passed.saturating_add(1);
+    }
+
     /// Whether a line of this shape may stand here.
     #[tactic(auto, unfolding(crate::specs::View::reading))]
     fn may_be(&self, found: Found<'_>) -> bool
@@ -181,13 +192,12 @@ impl<'a, 't> Reading<'a, 't> {
         ensures memory { IsOkUnless result memory }
     {
         match (self.form, kind) {
-            (Form::Two, Kind::OpenCode) => look_ahead(
-                &mut self.labels,
-                behind,
-                self.draft.lines + 1,
-            ),
+            (Form::Two, Kind::OpenCode) => {
+                self.passed = 0;
+                look_ahead(&mut self.labels, behind, self.draft.lines + 1)
+            }
             (Form::Two, Kind::EndCode) => {
-                self.labels.clear();
+                self.labels.truncate(0);
                 Ok(())
             }
             _ => Ok(()),
@@ -217,6 +227,7 @@ fn read_says<'a, 'b>(
     arena: &'a Bump,
     form: Form,
     labels: &IndexMap<&[u8], Place>,
+    near: usize,
     slots: &[Slot],
     words: &[Word<'a, 'b>],
     says: &mut Vec<Datum<'a>, &'a Bump>,
@@ -228,7 +239,7 @@ fn read_says<'a, 'b>(
 {
     match form {
         Form::One => read_operands(arena, slots, words, says),
-        Form::Two => read_all(arena, labels, slots, words, says),
+        Form::Two => read_all(arena, labels, near, slots, words, says),
     }
 }
 
@@ -258,6 +269,7 @@ fn add_says<'a, 'b>(
         arena,
         listing.form,
         &listing.labels,
+        listing.passed,
         slots.as_slice(),
         operands,
         says,
@@ -299,7 +311,10 @@ fn add_line<'a, 'b>(
             listing.begin_second();
             Ok(None)
         }
-        Aside::Mark => Ok(None),
+        Aside::Mark => {
+            listing.pass_label();
+            Ok(None)
+        }
     }
 }
 
@@ -344,6 +359,7 @@ fn begin<'a, 't>(alloc: Global, arena: &'a Bump) -> Reading<'a, 't>
     Reading {
         form: Form::One,
         labels: IndexMap::new(alloc),
+        passed: 0,
         draft: Draft::new(alloc, arena),
     }
 }
@@ -403,8 +419,8 @@ fn check_end(draft: &Draft<'_>) -> Result<(), Fault>
 ///
 /// The names, slices and values of the program lie in the arena. The lowest line with a fault of 100 to 104 is refused, or
 /// else a text that ends inside a block (106); where there is none, the lowest line with a target that is no instruction of
-/// its code (105); and then the first class that breaks a rule (110 to 117). A fault's place is a line's number, from 1, and
-/// of 110 to 117 the class's, from 0.
+/// its code (105); and then the first class that breaks a rule (110 to 118). A fault's place is a line's number, from 1, and
+/// of 110 to 118 the class's, from 0.
 pub fn parse<'a>(alloc: Global, arena: &'a Bump, text: &[u8]) -> Result<Program<'a>, Fault>
     ensures ok { IfOk result (λ p. IsListing text.now (program p)) }
     ensures err { IfErr result (λ e. e ≢ memory → ListingBreaks text.now e.code e.place) }

@@ -10,6 +10,7 @@ use Rattle.dex_program.specs.Content.{Insn}
 use Rattle.dex_words.specs.Words.{Word, plain_word, after_spaces, up_to_space, IsGraphic, IsWritable, line_bytes}
 use Rattle.dex_slots.specs.Keys.{key_text, same}
 use Rattle.dex_slots.proofs.ShownLaws.{same_refl}
+use Rattle.dex_shapes.proofs.ShapeLaws.{same_eq}
 use Rattle.dex_lines.specs.declared.form.Form.TheVariants.{Two}
 use Rattle.dex_labels.specs.Lines.{lines}
 use Rattle.dex_labels.specs.Labels.{Label, lookup, with_label, first_word, is_stop, is_mark, labels_ahead}
@@ -20,7 +21,7 @@ use Rattle.dex_print.specs.Canon.{is_named, mark_text, insns_text}
 use Rattle.dex_print.specs.Reading.{words_in, FitOperands, OpcodeFits}
 use Rattle.dex_listing_laws.proofs.Printable.{InstructionsFit}
 use Rattle.dex_listing_laws.proofs.RunLaws.{IsLine, line_first, line_is, graphic_line, behind_spaces}
-use Rattle.dex_listing_laws.proofs.FormWords.{same_true, label_written}
+use Rattle.dex_listing_laws.proofs.FormWords.{label_written}
 use Rattle.dex_listing_laws.proofs.InsnRuns.{insn_words, insn_is, insn_is_other, insn_line_is, insn_written, insn_shown}
 
 -- ---- the labels that are printed
@@ -60,7 +61,7 @@ by_truth true h = absurd (h refl)
 by_truth false h = refl
 
 names_differ : (j k : ℕ) → j < 2 ^ 64 → k < 2 ^ 64 → j ≢ k → same (label_name j) (label_name k) ≡ false
-names_differ j k h g n = by_truth (same (label_name j) (label_name k)) (λ e. n (names_same j k h g (same_true (label_name j) (label_name k) e)))
+names_differ j k h g n = by_truth (same (label_name j) (label_name k)) (λ e. n (names_same j k h g (same_eq (label_name j) (label_name k) e)))
 
 pub cases_bool : (b : Bool) → (b ≡ true) ⊎ (b ≡ false)
 cases_bool true = inl refl

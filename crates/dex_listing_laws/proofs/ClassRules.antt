@@ -154,7 +154,7 @@ mentioned c w =
 class_fits : (p : Program) (i : ℕ) (c : Class) → ClassHolds p i c → ClassInRange c → ClassFits c
 class_fits p i c h r =
     let m = mentioned c (names_of (names_of_class c) h.names.all r.names) in
-    let formed = class_formed c h.operands h.targets h.payloads h.tries r in
+    let formed = class_formed c h.operands h.targets h.payloads h.tries h.registers r in
     record {
       head = (name_fits (OfDesc c.ty) m.class, (r.flags, tt));
       above = super_fits c.superclass m.superclass;

@@ -5,7 +5,7 @@ use Rattle.std.specs.Fmt.{decimal}
 use Rattle.std.specs.Char.{digit_value}
 use Rattle.std.specs.Str.Parse.{AllDigits}
 use Rattle.std.proofs.lemmas.Fmt.{decimal_is_IsNumeral, length-decimal-le}
-use Rattle.std.proofs.lemmas.Bool.{le-leb, lt-ltb, cases_eq, eq-eqb, ne_eqb}
+use Rattle.std.proofs.lemmas.Bool.{le-leb, lt-ltb}
 use Rattle.dex_words.specs.Words.{plain_word, IsWritable, word_bytes}
 use Rattle.dex_slots.specs.declared.slot.Mark.TheVariants as mark
 use Rattle.dex_slots.specs.declared.slot.Mark.TheVariants.{Target}
@@ -25,16 +25,6 @@ use Rattle.dex_print.proofs.PrintedLaws.{printed_spelled}
 use Rattle.dex_listing_laws.proofs.RunLaws.{behind_spaces}
 
 -- ---- a target's label is a label
-
-pub same_true : (xs ys : List ℕ) → same xs ys ≡ true → xs ≡ ys
-unfolding same
-same_true [] [] h = refl
-same_true [] (y ∷ ys) h = absurd cc
-same_true (x ∷ xs) [] h = absurd cc
-same_true (x ∷ xs) (y ∷ ys) h = elim (cases_eq x y) [
-  | inl e ↦ let k : same xs ys ≡ true = rw (eq-eqb x y e) at h in cc (e, same_true xs ys k)
-  | inr n ↦ let k : false ≡ true = rw (ne_eqb x y n) at h in absurd cc
-]
 
 pub label_written : (n : ℕ) → n < 2 ^ 64 → IsWritable (plain_word (label_name n))
 label_written n h = (omega arith, (λ q. omega arith), ((omega arith, omega arith), ((omega arith, omega arith), (number_written mark.Nothing n h).2)))

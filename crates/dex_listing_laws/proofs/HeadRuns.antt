@@ -17,7 +17,7 @@ use Rattle.dex_listing_laws.proofs.Runs.{bare, RunsTo, in_stage}
 use Rattle.dex_listing_laws.proofs.Printable.{SuperFits, SourceFits, InterfaceFits, ClassFits}
 use Rattle.dex_listing_laws.proofs.RunLaws.{runs_join}
 use Rattle.dex_listing_laws.proofs.KeyedLaws.{keyed_runs}
-use Rattle.dex_listing_laws.proofs.FormWords.{same_true}
+use Rattle.dex_shapes.proofs.ShapeLaws.{same_eq}
 use Rattle.dex_listing_laws.proofs.CodeRuns.{nothing_runs}
 
 -- A class that has its heads so far, and no members.
@@ -49,7 +49,7 @@ any_more d e es false s h = inr (rw s at h)
 among_at : (es : List Descriptor) (d : Descriptor) → is_among es d ≡ true → (j : ℕ) × (j < length es) × (slice_get es j ≡ Some d)
 among_at [] d h = absurd cc
 among_at (e ∷ es) d h = elim (any_more d e es (same d e) refl h) [
-  | inl s ↦ (0, omega arith, ap Some (sym (same_true d e s)))
+  | inl s ↦ (0, omega arith, ap Some (sym (same_eq d e s)))
   | inr s ↦ let y = among_at es d s in (suc y.0, omega (arith, y.1), y.2)
 ]
 

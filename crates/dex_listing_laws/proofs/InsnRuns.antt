@@ -43,7 +43,7 @@ use Rattle.dex_print.proofs.InsnLaws.{insn_has_shape, insn_has_bare_shape, numbe
 use Rattle.dex_listing_laws.proofs.Runs.{RunsTo, frame, at}
 use Rattle.dex_listing_laws.proofs.RunLaws.{IsLine, line_runs, line_is, words_line, behind_spaces}
 use Rattle.dex_listing_laws.proofs.FormWords.{words_written, text_is_in, TargetsAreMarked, spelled_in}
-use Rattle.dex_listing_laws.proofs.KeyedLaws.{no_aside}
+use Rattle.dex_listing_laws.proofs.KeyedLaws.{not_aside, no_aside}
 
 -- ---- its words are written
 
@@ -310,10 +310,6 @@ not_start Behind a = absurd cc
 not_start Insns a = refl
 not_start Tries a = absurd cc
 not_start Caught a = absurd cc
-
-not_aside : (b : Bool) (x : Aside) → (if b && false then x else aside.Nothing) ≡ aside.Nothing
-not_aside true x = refl
-not_aside false x = refl
 
 plain_aside : (es : List Label) (s : State) (ws : List Word) → is_start s.stage ≡ false → aside (at (frame One es) s) ws ≡ aside.Nothing
 unfolding aside

@@ -40,7 +40,7 @@ use Rattle.dex_listing_laws.proofs.FormWords.{words_written, text_is_in, text_is
 abbrev pub keyed_words : Form → Line → List Word
 keyed_words form l = plain_word (key_text (line_key l)) ∷ words_in form (line_operands l)
 
-not_aside : (b : Bool) (x : Aside) → (if b && false then x else Nothing) ≡ Nothing
+pub not_aside : (b : Bool) (x : Aside) → (if b && false then x else Nothing) ≡ Nothing
 not_aside true x = refl
 not_aside false x = refl
 

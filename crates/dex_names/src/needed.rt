@@ -93,6 +93,10 @@ impl<'a> Needed<'a> {
         ensures partly { OnErr result (AddsPart self.old self.new (with_parts self.old (OfDesc (desc name.entry)))) }
         ensures memory { IsOkUnless result memory }
     {
+        if self.types.holds(&name) {
+            self.rise();
+            return Ok(());
+        }
         self.strings.add(name.text)?;
         self.types.add(name)?;
         Ok(())

@@ -1,8 +1,8 @@
 -- Codes that are well formed: the rules of branches, switches, payloads and tries, by the numbers of instructions.
 -- Pages: "Dalvik bytecode": goto, packed-switch, sparse-switch, fill-array-data; "Dalvik Executable format": code_item, try_item,
 -- encoded_catch_handler.
-use Rattle.std.specs.Prelude.{ℕ, ◌≡◌, ◌≢◌, ◌≤◌, ◌<◌, ◌+◌, ◌==◌, if◌then◌else◌, List, [], length, Option, Some, None, IfSome, IfNone, slice_index_or, ⊤}
-use Rattle.std.specs.List.{AllByRecursion}
+use Rattle.std.specs.Prelude.{ℕ, ◌≡◌, ◌≢◌, ◌≤◌, ◌<◌, ◌+◌, ◌==◌, if◌then◌else◌, List, [], ◌∷◌, take, length, Option, Some, None, IfSome, IfNone, slice_index_or, ⊤}
+use Rattle.std.specs.List.{AllByRecursion, range_with_len}
 use Rattle.dex_program.specs.Content.{Insn, Code, Try, Catch}
 use Rattle.dex_program.specs.Content as made
 use Rattle.dex_program.specs.Operands.{IsOperand}
@@ -112,6 +112,46 @@ pub record TryFormed (count : ℕ) (ts : List Try) (i : ℕ) : Type 0 where
   pub last : IfSome (try_at ts i).catch_all (λ k. k < count)
   pub handled : IfNone (try_at ts i).catch_all ((try_at ts i).catches ≢ [])
 
+-- ---- the rule of registers
+
+-- the registers that an instruction names, format by format: of 35c the first n of the five, of 3rc n from the first on; other
+-- formats and payloads name none, and the second half of a wide pair isn't named
+unfoldable pub insn_registers : Insn → List ℕ
+insn_registers (made.I12x op a b) = a ∷ b ∷ []
+insn_registers (made.I11n op a b) = a ∷ []
+insn_registers (made.I11x op a) = a ∷ []
+insn_registers (made.I22x op a b) = a ∷ b ∷ []
+insn_registers (made.I21t op a to) = a ∷ []
+insn_registers (made.I21s op a b) = a ∷ []
+insn_registers (made.I21h op a b) = a ∷ []
+insn_registers (made.I21c op a which) = a ∷ []
+insn_registers (made.I23x op a b c) = a ∷ b ∷ c ∷ []
+insn_registers (made.I22b op a b c) = a ∷ b ∷ []
+insn_registers (made.I22t op a b to) = a ∷ b ∷ []
+insn_registers (made.I22s op a b c) = a ∷ b ∷ []
+insn_registers (made.I22c op a b which) = a ∷ b ∷ []
+insn_registers (made.I32x op a b) = a ∷ b ∷ []
+insn_registers (made.I31i op a b) = a ∷ []
+insn_registers (made.I31t op a to) = a ∷ []
+insn_registers (made.I31c op a which) = a ∷ []
+insn_registers (made.I35c op n regs which) = take n regs
+insn_registers (made.I3rc op n first which) = range_with_len first n
+insn_registers (made.I51l op a b) = a ∷ []
+insn_registers _ = []
+
+-- The registers that an instruction names are among the first `count`.
+abbrev pub AreAmong : ℕ → Insn → Type 0
+AreAmong count i = AllByRecursion (λ v. v < count) (insn_registers i)
+
+-- Instruction k names registers of the code.
+abbrev pub RegisterHolds : Code → ℕ → Type 0
+RegisterHolds c k = AreAmong c.registers (insn_at c.insns k)
+
+-- The ins are registers of the code, and so is every register that an instruction names.
+pub record RegistersHold (c : Code) : Type 0 where
+  pub ins : c.ins ≤ c.registers
+  pub each : (k : ℕ) → k < length c.insns → RegisterHolds c k
+
 -- ---- a code
 
 -- The code keeps these rules, its instructions and its tries one by one, and its counts are numbers of 16 bits.
@@ -125,3 +165,4 @@ pub record IsFormed (c : Code) : Type 0 where
   pub registers : c.registers < 65536
   pub ins : c.ins < 65536
   pub outs : c.outs < 65536
+  pub named : RegistersHold c

@@ -7,6 +7,7 @@ use Rattle.dex_base.specs.Descriptor.{IsClass}
 use Rattle.dex_bytes.specs.declared.fault.Fault.{Fault}
 use Rattle.dex_program.specs.Content.{Descriptor, Code, Member, Method, Class, Program}
 use Rattle.dex_program.specs.Depth.{depth}
+use Rattle.dex_program.specs.Formed.{RegistersHold}
 use Rattle.dex_program.specs.Key.{Key, key_cmp, proto_key}
 use Rattle.dex_program.specs.Mentions.{names_of_class}
 use Rattle.dex_code_rules.specs.CodeRules.{OperandsHold, TargetsHold, PayloadsHold, TriesHold}
@@ -83,7 +84,7 @@ pub record ValuesFit (c : Class) : Type 0 where
   pub few : length c.values ≤ length c.statics
   pub deep : AllByRecursion (λ v. depth v ≤ 64) c.values
 
--- ---- code (114 to 117)
+-- ---- code (114 to 118)
 
 -- Each body in the class keeps the rule.
 pub record CodesHold (Holds : Code → Type 0) (c : Class) : Type 0 where
@@ -102,6 +103,7 @@ pub record ClassHolds (p : Program) (i : ℕ) (c : Class) : Type 0 where
   pub targets : CodesHold TargetsHold c
   pub payloads : CodesHold PayloadsHold c
   pub tries : CodesHold TriesHold c
+  pub registers : CodesHold RegistersHold c
 
 -- All classes do.
 abbrev pub RulesHold : Program → Type 0
@@ -119,8 +121,10 @@ CodesBreak i c fault =
     ((¬ CodesHold TargetsHold c) × (fault ≡ broken 115 i))
     ⊎ (CodesHold TargetsHold c × (
     ((¬ CodesHold PayloadsHold c) × (fault ≡ broken 116 i))
-    ⊎ (CodesHold PayloadsHold c × (¬ CodesHold TriesHold c) × (fault ≡ broken 117 i))
-    ))))
+    ⊎ (CodesHold PayloadsHold c × (
+    ((¬ CodesHold TriesHold c) × (fault ≡ broken 117 i))
+    ⊎ (CodesHold TriesHold c × (¬ CodesHold RegistersHold c) × (fault ≡ broken 118 i))
+    ))))))
 
 -- The fault is that of the first rule that class i breaks.
 abbrev pub ClassBreaks : Program → ℕ → Class → Fault → Type 0

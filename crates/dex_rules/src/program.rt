@@ -4,6 +4,7 @@ ghost use Rattle.std.specs.Prelude.{◌≡◌, ◌≢◌, ◌↔◌, length, map
 ghost use Rattle.dex_bytes.specs.Fault.{memory};
 ghost use Rattle.dex_code_rules.specs.CodeRules.{OperandsHold, PayloadsHold, TargetsHold, TriesHold};
 ghost use Rattle.dex_program.specs.Content as content;
+ghost use Rattle.dex_program.specs.Formed.{RegistersHold};
 ghost use Rattle.dex_program.specs.View.{class, desc, program};
 ghost use Rattle.dex_rules.specs.Numbers.{AreNumbers, types};
 ghost use Rattle.dex_ranges.specs.Ranges.{ClassInRange};
@@ -28,6 +29,7 @@ fn check_codes(place: u64, one: &Class<'_>, uses_hold: bool) -> Result<(), Fault
     ensures targets { OnOk result (CodesHold TargetsHold (class one.now)) }
     ensures payloads { OnOk result (CodesHold PayloadsHold (class one.now)) }
     ensures tries { OnOk result (CodesHold TriesHold (class one.now)) }
+    ensures registers { OnOk result (CodesHold RegistersHold (class one.now)) }
     ensures err { IfErr result (CodesBreak place (class one.now)) }
 {
     if !codes_hold(CodeRule::Operand, one) {
@@ -51,6 +53,12 @@ fn check_codes(place: u64, one: &Class<'_>, uses_hold: bool) -> Result<(), Fault
     if !codes_hold(CodeRule::Try, one) {
         return Err(Fault {
             code: fault::PROGRAM_TRY,
+            place,
+        });
+    }
+    if !codes_hold(CodeRule::Register, one) {
+        return Err(Fault {
+            code: fault::PROGRAM_REGISTER,
             place,
         });
     }
@@ -101,7 +109,8 @@ fn check_class(i: usize, one: &Class<'_>, is_in_order: bool, uses_hold: bool) ->
 ///
 /// 110 a name that no file can have; 111 members that don't rise; 112 a class that is defined twice or stands on itself or a later
 /// one, or an interface given twice; 113 more values than static fields, or one deeper than 64; 114 an instruction whose operands
-/// its format doesn't have, 115 a target that is no instruction, 116 a payload that isn't used as it has to be, 117 a try.
+/// its format doesn't have, 115 a target that is no instruction, 116 a payload that isn't used as it has to be, 117 a try,
+/// 118 a register that the code doesn't have.
 ///
 /// Takes no memory. So each class's type is looked for among all classes, and the user of a switch's payload among all
 /// instructions of its code.

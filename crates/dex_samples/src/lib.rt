@@ -19,7 +19,8 @@ mod arena;
 mod names;
 mod shown;
 
-// Files: whole, by edits, from rows.
+// Files: whole, by edits, from rows, of one code item.
+mod codes;
 mod edits;
 mod files;
 mod layout;
@@ -30,7 +31,8 @@ mod written;
 mod ends;
 
 pub use arena::first_unit;
-pub use edits::{closed, closed_with, put_bytes, with_bytes};
+pub use codes::{CODED, file_of_item, item_of, length};
+pub use edits::{MISPLACED, closed, closed_with, put_bytes, with_bytes};
 pub use ends::{TestReader, TestWriter, reader, reader_failing_once, writer, writer_failing_once};
 pub use files::{ONE_CLASS, WITHOUT_CLASSES};
 pub use names::{MISSPELLED, field, method, proto, text, ty};

@@ -12,7 +12,7 @@ use Rattle.dex_layout.specs.Tiles.{gap}
 use Rattle.dex_shared.specs.Once.{Entry, PutsOnce}
 use Rattle.dex_shared.specs.Sharing.{Sharing, UsesItem}
 use Rattle.dex_shared.proofs.SharingLaws.{sharing_more, sharing_bound}
-use Rattle.dex_code.proofs.ItemLaws.{SpellsCode-unique}
+use Rattle.dex_code.proofs.CodeLaws.{SpellsCode-unique}
 use Rattle.dex_code_put.proofs.RankLaws.{ranks-functional}
 use Rattle.dex_code_laws.proofs.PackedLaws.{packed-spells}
 use Rattle.dex_limits.specs.Wide.{bodies_in, bodies_of, wide_body}

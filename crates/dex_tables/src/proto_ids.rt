@@ -1,10 +1,13 @@
 // The table proto_ids: each row has a shorty, a return type and a list of parameters ("proto_id_item").
-ghost use Rattle.std.specs.Prelude.{◌≡◌, ◌≢◌, ◌↔◌, ◌<◌, IfOk, IfErr, IfSome, IfNone, IsOkUnless, IsTrue, OnOk, map};
+ghost use Rattle.std.specs.Prelude.{◌≡◌, ◌≢◌, ◌↔◌, ◌<◌, ◌*◌, ◌∷◌, IfOk, IfErr, IfSome, IfNone, IsOkUnless, IsTrue, OnOk, length, map};
+ghost use Rattle.std.specs.Cmp.Lexicographic.{slice_cmp};
+ghost use Rattle.std.specs.Ordering.{nat_cmp};
 ghost use Rattle.dex_bytes.specs.Fault.{memory};
 ghost use Rattle.dex_container.specs.Frame.{IsFramed};
 ghost use Rattle.dex_container.specs.Layout.{size_of};
 ghost use Rattle.dex_program.specs.View.{str, desc, proto};
 ghost use Rattle.dex_program.specs.Shorty.{shorty};
+ghost use Rattle.dex_tables.specs.Halves.{halves};
 ghost use Rattle.dex_tables.specs.Kept.{AreKept};
 ghost use Rattle.dex_tables.specs.Names.{AreRows};
 ghost use Rattle.dex_container.specs.Where.{IsSectionOf};
@@ -201,6 +204,18 @@ fn rises(sections: &Sections<'_>, lists: Section, i: u32) -> bool
     i == 0 || is_below(sections, lists, i - 1, i)
 }
 
+// The order of two rows: by return type, and only where that is the same by parameters.
+fn cmp_keys(first: u32, second: u32, a: &[u8], b: &[u8]) -> Ordering
+    requires a { length a.now ≡ 2 * length (halves a.now) }
+    requires b { length b.now ≡ 2 * length (halves b.now) }
+    ensures { result ≡ slice_cmp nat_cmp (first ∷ halves a.now) (second ∷ halves b.now) }
+{
+    match first.cmp(&second) {
+        Ordering::Equal => cmp_indexes(a, b),
+        unequal => unequal,
+    }
+}
+
 // Whether row i is below row j.
 fn is_below(sections: &Sections<'_>, lists: Section, i: u32, j: u32) -> bool
     requires framed { IsFramed sections.now }
@@ -216,5 +231,5 @@ fn is_below(sections: &Sections<'_>, lists: Section, i: u32, j: u32) -> bool
     let Some(b) = indexes_or_none(sections, lists, proto_parameters(sections, j)) else {
         return true;
     };
-    matches!(first.cmp(&second).then(cmp_indexes(a, b)), Ordering::Less)
+    matches!(cmp_keys(first, second, a, b), Ordering::Less)
 }

@@ -48,7 +48,7 @@ fn read_formed<'a>(alloc: Global, arena: &'a Bump, bytes: &[u8]) -> Result<Progr
 
 /// The file of what a file means: without names that nothing needs, debugging information, annotations and slack.
 ///
-/// Its five tables of names are no longer than those of the file that came in. Refused are bytes that `read` refuses (1 to 72), and
+/// Its five tables of names are no longer than those of the file that came in. Refused are bytes that `read` refuses (1 to 73), and
 /// programs whose handlers are too far in the order of first use (89) or that are too big (90), as `write` refuses them.
 pub fn strip(alloc: Global, bytes: &[u8]) -> Result<Vec<u8>, Fault>
     ensures ok { IfOk result (λ file. IsStripped bytes.now file.items) }

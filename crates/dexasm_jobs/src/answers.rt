@@ -6,7 +6,7 @@ ghost use Rattle.dexasm_jobs.specs.Answers.{Answer, Refusal};
 use bumpalo::Bump;
 use dex_align::align_all;
 use dex_base::Fault;
-use dex_file::read;
+use dex_file::{check, read};
 use dex_listing::parse;
 use dex_print::print;
 use dex_write::{strip, write};
@@ -23,7 +23,7 @@ pub fn answer(alloc: Global, job: Job, given: &[u8]) -> Result<Vec<u8>, Fault>
     ensures refused { IfErr result (λ fault. fault ≢ memory → Refusal job given.now fault) }
 {
     match job {
-        Job::Check => check(alloc, given),
+        Job::Check => checked(alloc, given),
         Job::List => list(alloc, given),
         Job::Assemble { align: false } => assemble(alloc, given),
         Job::Assemble { align: true } => assemble_aligned(alloc, given),
@@ -32,12 +32,11 @@ pub fn answer(alloc: Global, job: Job, given: &[u8]) -> Result<Vec<u8>, Fault>
 }
 
 // `ok` and a line feed, where the bytes are a file.
-fn check(alloc: Global, given: &[u8]) -> Result<Vec<u8>, Fault>
+fn checked(alloc: Global, given: &[u8]) -> Result<Vec<u8>, Fault>
     ensures answered { IfOk result (λ made. Answer Job.Check given.now made.items) }
     ensures refused { IfErr result (λ fault. fault ≢ memory → Refusal Job.Check given.now fault) }
 {
-    let arena = Bump::new(alloc);
-    read(alloc, &arena, given)?;
+    check(alloc, given)?;
     Ok(Vec::from_slice(alloc, b"ok\n")?)
 }
 

@@ -2,7 +2,7 @@
 
 use bumpalo::Bump;
 use dex_base::{Fault, fault};
-use dex_file::read;
+use dex_file::{check, read};
 use dex_samples::{NOTHING, ONE_CLASS, Rows, closed_with, file_of, is_so, none_wrong};
 use std::alloc::Global;
 use std::test::Fail;
@@ -10,12 +10,28 @@ use std::test::Fail;
 /// A name for the case, where bytes are changed, to which, and the fault.
 type Case = (&'static str, usize, &'static [u8], (u16, u64));
 
-/// The fault of a file, 0 at 0 where it is read.
-pub fn fault_of(alloc: Global, file: &[u8]) -> (u16, u64) {
+fn fault_of_read(alloc: Global, file: &[u8]) -> (u16, u64) {
     let arena = Bump::new(alloc);
     match read(alloc, &arena, file) {
         Ok(_) => (0, 0),
         Err(fault) => (fault.code, fault.place),
+    }
+}
+
+fn fault_of_check(alloc: Global, file: &[u8]) -> (u16, u64) {
+    match check(alloc, file) {
+        Ok(()) => (0, 0),
+        Err(fault) => (fault.code, fault.place),
+    }
+}
+
+/// The fault of a file, 0 at 0 where it is read; 256 at 0 where `check` answers otherwise than `read`.
+pub fn fault_of(alloc: Global, file: &[u8]) -> (u16, u64) {
+    let answer = fault_of_read(alloc, file);
+    if fault_of_check(alloc, file) == answer {
+        answer
+    } else {
+        (256, 0)
     }
 }
 
@@ -41,86 +57,46 @@ fn first_change_otherwise(alloc: Global, cases: &[Case]) -> Result<Option<&'stat
 }
 
 // The class row stands at 160: class, flags, superclass, interfaces, source file, annotations, class data, static values.
+#[rattlefmt::skip]
 #[test]
 fn each_rule_of_a_class_row_has_its_fault(rt: HostRuntime) -> Result<(), Fail> {
-    static CASES: [Case; 15] = [
+    static CASES: [Case; 16] = [
         ("nothing is changed", 160, &[0], (0, 0)),
-        ("a class that is no row", 160, &[3], (40, 160)),
-        ("a superclass that is no row", 168, &[3], (40, 160)),
-        (
-            "a source file that is no row",
-            176,
-            &[4, 0, 0, 0],
-            (40, 160),
-        ),
-        ("a class that is void", 160, &[2], (41, 160)),
-        ("a superclass that is void", 168, &[2], (41, 160)),
-        (
-            "a superclass that is no row goes before a class that is void",
-            160,
-            &[2, 0, 0, 0, 1, 0, 0, 0, 3],
-            (40, 160),
-        ),
-        (
-            "a superclass that is void goes before interfaces where no list stands",
-            168,
-            &[2, 0, 0, 0, 192],
-            (41, 160),
-        ),
-        ("interfaces where no list stands", 172, &[192], (43, 160)),
-        (
-            "interfaces go before the order",
-            168,
-            &[0, 0, 0, 0, 192],
-            (43, 160),
-        ),
-        ("its own superclass", 168, &[0], (42, 160)),
-        (
-            "the order goes before class data",
-            168,
-            &[
-                0, 0, 0, 0, 0, 0, 0, 0, 0xff, 0xff, 0xff, 0xff, 0, 0, 0, 0, 0xf0,
-            ],
-            (42, 160),
-        ),
-        ("class data before its section", 184, &[0xf0], (44, 160)),
-        ("class data that is cut", 243, &[9], (44, 160)),
+        ("a type as before", 0x84, &[0], (fault::TYPE_ORDER, 132)),
+        ("a class that is no row", 160, &[3], (fault::CLASS_INDEX, 160)),
+        ("a superclass that is no row", 168, &[3], (fault::CLASS_INDEX, 160)),
+        ("a source file that is no row", 176, &[4, 0, 0, 0], (fault::CLASS_INDEX, 160)),
+        ("a class that is void", 160, &[2], (fault::CLASS_KIND, 160)),
+        ("a superclass that is void", 168, &[2], (fault::CLASS_KIND, 160)),
+        ("a superclass that is no row goes before a class that is void",
+         160, &[2, 0, 0, 0, 1, 0, 0, 0, 3], (fault::CLASS_INDEX, 160)),
+        ("a superclass that is void goes before interfaces where no list stands",
+         168, &[2, 0, 0, 0, 192], (fault::CLASS_KIND, 160)),
+        ("interfaces where no list stands", 172, &[192], (fault::INTERFACE_LIST, 160)),
+        ("interfaces go before the order", 168, &[0, 0, 0, 0, 192], (fault::INTERFACE_LIST, 160)),
+        ("its own superclass", 168, &[0], (fault::CLASS_ORDER, 160)),
+        ("the order goes before class data",
+         168, &[0, 0, 0, 0, 0, 0, 0, 0, 0xff, 0xff, 0xff, 0xff, 0, 0, 0, 0, 0xf0], (fault::CLASS_ORDER, 160)),
+        ("class data before its section", 184, &[0xf0], (fault::CLASS_DATA, 160)),
+        ("class data that is cut", 243, &[9], (fault::CLASS_DATA, 160)),
         ("no superclass", 168, &[0xff, 0xff, 0xff, 0xff], (0, 0)),
     ];
     none_wrong(first_change_otherwise(rt.alloc(), &CASES))
 }
 
 // The class data stands at 241: no fields, one direct method, its entry `00 09 c0 01`; the row of the method at 152.
+#[rattlefmt::skip]
 #[test]
 fn each_rule_of_class_data_has_its_fault(rt: HostRuntime) -> Result<(), Fail> {
     static CASES: [Case; 7] = [
-        ("a method that is no row", 245, &[1], (45, 160)),
-        (
-            "a later number that is cut goes before a method that is no row",
-            243,
-            &[2, 0, 1, 9, 0, 1, 9, 0x80, 0x80],
-            (44, 160),
-        ),
-        ("a method of another class", 152, &[1], (46, 160)),
-        (
-            "a method given twice",
-            243,
-            &[2, 0, 0, 9, 0xc0, 1, 0, 9, 0],
-            (47, 160),
-        ),
-        ("the rows go before the code", 245, &[1, 9, 0xc1], (45, 160)),
-        (
-            "a number of five bytes",
-            247,
-            &[0xc0, 0x81, 0x80, 0x80, 0],
-            (0, 0),
-        ),
-        (
-            "static values where no array stands",
-            188,
-            &[0xf4],
-            (48, 160),
-        ),
+        ("a method that is no row", 245, &[1], (fault::MEMBER_INDEX, 160)),
+        ("a later number that is cut goes before a method that is no row",
+         243, &[2, 0, 1, 9, 0, 1, 9, 0x80, 0x80], (fault::CLASS_DATA, 160)),
+        ("a method of another class", 152, &[1], (fault::MEMBER_OWNER, 160)),
+        ("a method given twice", 243, &[2, 0, 0, 9, 0xc0, 1, 0, 9, 0], (fault::MEMBER_ORDER, 160)),
+        ("the rows go before the code", 245, &[1, 9, 0xc1], (fault::MEMBER_INDEX, 160)),
+        ("a number of five bytes", 247, &[0xc0, 0x81, 0x80, 0x80, 0], (0, 0)),
+        ("static values where no array stands", 188, &[0xf4], (fault::VALUES, 160)),
     ];
     none_wrong(first_change_otherwise(rt.alloc(), &CASES))
 }
@@ -221,15 +197,19 @@ fn indices_are_sums_without_a_bound(rt: HostRuntime) -> Result<(), Fail> {
     is_so(is_far_row_told(rt.alloc()))
 }
 
+#[rattlefmt::skip]
 #[test]
 fn a_code_item_in_a_file_has_its_fault(rt: HostRuntime) -> Result<(), Fail> {
-    static CASES: [Case; 6] = [
-        ("an opcode that is unused", 208, &[0x3e], (62, 208)),
-        ("a high byte where none is", 209, &[1], (64, 208)),
-        ("no units", 204, &[0], (61, 192)),
-        ("an odd place", 247, &[0xc1], (60, 193)),
+    static CASES: [Case; 9] = [
+        ("ins past the registers", 194, &[2], (fault::REGISTER, 192)),
+        ("the last register", 208, &[0x0f, 0], (0, 0)),
+        ("a register past it", 208, &[0x0f, 1], (fault::REGISTER, 208)),
+        ("an opcode that is unused", 208, &[0x3e], (fault::OPCODE, 208)),
+        ("a high byte where none is", 209, &[1], (fault::NON_ZERO, 208)),
+        ("no units", 204, &[0], (fault::EMPTY_CODE, 192)),
+        ("an odd place", 247, &[0xc1], (fault::CODE_PLACE, 193)),
         ("a method without code", 247, &[0x80, 0], (0, 0)),
-        ("a cut instruction", 208, &[0x13], (63, 208)),
+        ("a cut instruction", 208, &[0x13], (fault::CUT, 208)),
     ];
     none_wrong(first_change_otherwise(rt.alloc(), &CASES))
 }

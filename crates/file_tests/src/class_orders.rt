@@ -2,7 +2,7 @@
 
 use crate::class_faults::fault_of_rows;
 use bumpalo::Bump;
-use dex_base::Fault;
+use dex_base::{Fault, fault};
 use dex_file::read;
 use dex_samples::{NOTHING, Rows, file_of, is_so, none_wrong};
 use std::alloc::Global;
@@ -37,28 +37,24 @@ fn first_order_otherwise(alloc: Global, cases: &[Case]) -> Result<Option<&'stati
     Ok(None)
 }
 
+#[rattlefmt::skip]
 #[test]
 fn a_class_stands_behind_what_it_stands_on(rt: HostRuntime) -> Result<(), Fail> {
     static CASES: [Case; 8] = [
         ("no superclass", [NONE, 0], [NONE, 0], (0, 0)),
         ("the class before", [NONE, 0], [0, 0], (0, 0)),
-        ("the class behind", [1, 0], [NONE, 0], (42, 128)),
-        ("itself", [NONE, 0], [1, 0], (42, 160)),
+        ("the class behind", [1, 0], [NONE, 0], (fault::CLASS_ORDER, 128)),
+        ("itself", [NONE, 0], [1, 0], (fault::CLASS_ORDER, 160)),
         ("an interface before", [NONE, 0], [NONE, 192], (0, 0)),
-        ("itself as an interface", [NONE, 192], [NONE, 0], (42, 128)),
-        ("an interface twice", [NONE, 200], [NONE, 0], (43, 128)),
-        (
-            "the list goes before the order",
-            [1, 200],
-            [NONE, 0],
-            (43, 128),
-        ),
+        ("itself as an interface", [NONE, 192], [NONE, 0], (fault::CLASS_ORDER, 128)),
+        ("an interface twice", [NONE, 200], [NONE, 0], (fault::INTERFACE_LIST, 128)),
+        ("the list goes before the order", [1, 200], [NONE, 0], (fault::INTERFACE_LIST, 128)),
     ];
     none_wrong(first_order_otherwise(rt.alloc(), &CASES))
 }
 
 fn is_second_row_refused(alloc: Global) -> Result<bool, Fault> {
-    Ok(fault_of_two(alloc, [NONE, 0], [NONE, 0], 0)? == (42, 160))
+    Ok(fault_of_two(alloc, [NONE, 0], [NONE, 0], 0)? == (fault::CLASS_ORDER, 160))
 }
 
 #[test]

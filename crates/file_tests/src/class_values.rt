@@ -2,7 +2,7 @@
 
 use crate::class_faults::{fault_of, fault_of_rows};
 use crate::values_read::nested;
-use dex_base::Fault;
+use dex_base::{Fault, fault};
 use dex_samples::{NOTHING, Rows, file_of, none_wrong};
 use std::alloc::Global;
 use std::test::Fail;
@@ -37,35 +37,20 @@ fn first_array_otherwise(alloc: Global, cases: &[Case]) -> Result<Option<&'stati
     Ok(None)
 }
 
+#[rattlefmt::skip]
 #[test]
 fn each_rule_of_static_values_has_its_fault(rt: HostRuntime) -> Result<(), Fail> {
     static CASES: [Case; 11] = [
         ("an int", &[1, 0x04, 5], (0, 0)),
         ("no value", &[0], (0, 0)),
-        ("a count that isn't spelled to its end", &[0x80], (48, 140)),
-        ("a value past the section", &[1, 0x04], (48, 140)),
-        (
-            "two values for one field",
-            &[2, 0x04, 5, 0x04, 6],
-            (49, 140),
-        ),
-        (
-            "the count goes before the values",
-            &[2, 0x15, 5, 0x04, 6],
-            (49, 140),
-        ),
-        ("a type of value that there isn't", &[1, 0x15, 0], (50, 305)),
-        (
-            "five bytes for an int",
-            &[1, 0x84, 0, 0, 0, 0, 0],
-            (50, 305),
-        ),
-        ("a string that is no row", &[1, 0x17, 3], (50, 305)),
-        (
-            "an array in which a value is wrong",
-            &[1, 0x1c, 1, 0x15],
-            (50, 307),
-        ),
+        ("a count that isn't spelled to its end", &[0x80], (fault::VALUES, 140)),
+        ("a value past the section", &[1, 0x04], (fault::VALUES, 140)),
+        ("two values for one field", &[2, 0x04, 5, 0x04, 6], (fault::TOO_MANY_VALUES, 140)),
+        ("the count goes before the values", &[2, 0x15, 5, 0x04, 6], (fault::TOO_MANY_VALUES, 140)),
+        ("a type of value that there isn't", &[1, 0x15, 0], (fault::VALUE_KIND, 305)),
+        ("five bytes for an int", &[1, 0x84, 0, 0, 0, 0, 0], (fault::VALUE_KIND, 305)),
+        ("a string that is no row", &[1, 0x17, 3], (fault::VALUE_KIND, 305)),
+        ("an array in which a value is wrong", &[1, 0x1c, 1, 0x15], (fault::VALUE_KIND, 307)),
         ("a field of the table", &[1, 0x19, 0], (0, 0)),
     ];
     none_wrong(first_array_otherwise(rt.alloc(), &CASES))
@@ -82,7 +67,7 @@ fn first_depth_otherwise(alloc: Global) -> Result<Option<&'static str>, Fault> {
         return Ok(Some("64 arrays"));
     }
     // the head of the 65th
-    if fault_of_nested(alloc, 65)? != (51, 433) {
+    if fault_of_nested(alloc, 65)? != (fault::VALUE_DEPTH, 433) {
         return Ok(Some("65 arrays"));
     }
     Ok(None)
@@ -123,7 +108,7 @@ fn first_spare_otherwise(alloc: Global) -> Result<Option<&'static str>, Fault> {
     if fault_with_count(alloc, 6)? != (0, 0) {
         return Ok(Some("a string that nothing uses"));
     }
-    if fault_with_count(alloc, 7)? != (21, 128) {
+    if fault_with_count(alloc, 7)? != (fault::STRING_SPELLING, 128) {
         return Ok(Some("a count of seven units before six"));
     }
     Ok(None)

@@ -1,60 +1,14 @@
 //! The faults of code: a file for each, of a class whose one method has a code item that breaks one rule.
 
-use crate::class_faults::{ClassData, fault_of_rows, first_class_data_otherwise};
-use dex_base::{Fault, fault, push_words};
-use dex_samples::{NOTHING, Rows, none_wrong};
+use crate::class_faults::{ClassData, fault_of, first_class_data_otherwise};
+use dex_base::{Fault, fault};
+use dex_samples::{CODED, NOTHING, Rows, file_of_item, item_of, none_wrong};
 use std::alloc::Global;
 use std::test::Fail;
-
-/// The strings `I`, `LA;`, `V`, `a` and `b`, the types `I`, `LA;` and `V`, the prototype `()V`, the field `LA;->a:I` and the
-/// method `LA;->b()V`. With a class row the data section begins at 204, with the code.
-static CODED: Rows<'static> = Rows {
-    strings: &[b"\x01I\0", b"\x03LA;\0", b"\x01V\0", b"\x01a\0", b"\x01b\0"],
-    types: &[0, 1, 2],
-    protos: &[(2, 2, None)],
-    fields: &[(1, 0, 3)],
-    methods: &[(1, 0, 4)],
-    // one direct method, the first row, flags 9, code at 204
-    class_data: &[0, 0, 1, 0, 0, 9, 0xcc, 1],
-    ..NOTHING
-};
 
 /// What it is, the tries, the units, what stands behind them, the fault, and its place: the item begins at 204, the
 /// units at 220.
 type Case = (&'static str, u8, &'static [u8], &'static [u8], (u16, u64));
-
-// A length in four bytes.
-fn length(len: usize) -> u32 {
-    match u32::try_from(len) {
-        Ok(length) => length,
-        Err(_) => u32::MAX,
-    }
-}
-
-// An item of 1 register, no ins, no outs: so many tries, these units, and what stands behind them.
-fn item_of(alloc: Global, tries: u8, units: &[u8], behind: &[u8]) -> Result<Vec<u8>, Fault> {
-    let mut item = Vec::new(alloc);
-    item.extend_from_slice(&[1, 0, 0, 0, 0, 0, tries, 0])?;
-    push_words(&mut item, &[0, length(units.len() / 2)])?;
-    item.extend_from_slice(units)?;
-    item.extend_from_slice(behind)?;
-    Ok(item)
-}
-
-// The fault of the file of an item.
-fn fault_of_item(alloc: Global, item: &[u8]) -> Result<(u16, u64), Fault> {
-    // behind the item stand 17 bytes of strings
-    let class_data = length(item.len()).saturating_add(221);
-    let class = [1, 1, 0xffffffff, 0, 0xffffffff, 0, class_data, 0];
-    fault_of_rows(
-        alloc,
-        &Rows {
-            classes: &[class],
-            codes: item,
-            ..CODED
-        },
-    )
-}
 
 fn fault_of_units(
     alloc: Global,
@@ -62,8 +16,8 @@ fn fault_of_units(
     units: &[u8],
     behind: &[u8],
 ) -> Result<(u16, u64), Fault> {
-    let item = item_of(alloc, tries, units, behind)?;
-    fault_of_item(alloc, &item)
+    let item = item_of(alloc, 256, tries, units, behind)?;
+    Ok(fault_of(alloc, &file_of_item(alloc, &item)?))
 }
 
 fn first_otherwise(alloc: Global, cases: &[Case]) -> Result<Option<&'static str>, Fault> {

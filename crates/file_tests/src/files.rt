@@ -1,5 +1,6 @@
 //! The file of the program without classes, read, and files from rows.
 
+use crate::class_faults::fault_of;
 use bumpalo::Bump;
 use dex_base::{Fault, fault};
 use dex_file::read;
@@ -9,14 +10,18 @@ use dex_samples::{
 use std::alloc::Global;
 use std::test::Fail;
 
-// Whether this is the fault of reading, 0 at 0 where the program without classes is read.
-fn is_read_so(alloc: Global, file: &[u8], want: (u16, u64)) -> bool {
-    let (code, place) = want;
+// Whether a program without classes is read, if any is.
+fn has_no_classes(alloc: Global, file: &[u8]) -> bool {
     let arena = Bump::new(alloc);
     match read(alloc, &arena, file) {
-        Ok(program) => code == 0 && program.classes.is_empty(),
-        Err(fault) => fault.code == code && fault.place == place,
+        Ok(program) => program.classes.is_empty(),
+        Err(_) => true,
     }
+}
+
+// Whether this is the fault of reading, 0 at 0 where the program without classes is read.
+fn is_read_so(alloc: Global, file: &[u8], want: (u16, u64)) -> bool {
+    has_no_classes(alloc, file) && fault_of(alloc, file) == want
 }
 
 #[test]
@@ -32,16 +37,16 @@ fn is_cut_so(alloc: Global, length: usize, want: (u16, u64)) -> bool {
 fn cut_files_are_refused(rt: HostRuntime) -> Result<(), Fail> {
     let alloc = rt.alloc();
     is_so(Ok(
-        is_cut_so(alloc, 139, (4, 32))
-            && is_cut_so(alloc, 111, (1, 111))
-            && is_cut_so(alloc, 0, (1, 0)),
+        is_cut_so(alloc, 139, (fault::FILE_SIZE, 32))
+            && is_cut_so(alloc, 111, (fault::TOO_SHORT, 111))
+            && is_cut_so(alloc, 0, (fault::TOO_SHORT, 0)),
     ))
 }
 
 fn is_longer_told(alloc: Global) -> Result<bool, Fault> {
     let mut longer = Vec::from_slice(alloc, &WITHOUT_CLASSES)?;
     longer.push(0)?;
-    Ok(is_read_so(alloc, &longer, (4, 32)))
+    Ok(is_read_so(alloc, &longer, (fault::FILE_SIZE, 32)))
 }
 
 #[test]
@@ -51,7 +56,7 @@ fn a_longer_file_is_refused(rt: HostRuntime) -> Result<(), Fail> {
 
 fn is_change_told(alloc: Global) -> Result<bool, Fault> {
     let changed = with_bytes(alloc, &WITHOUT_CLASSES, 139, &[1])?;
-    Ok(is_read_so(alloc, &changed, (8, 8)))
+    Ok(is_read_so(alloc, &changed, (fault::CHECKSUM, 8)))
 }
 
 #[test]

@@ -1,6 +1,6 @@
 //! Header, map and checksums: each rule has its fault, at its place.
 
-use dex_base::{Fault, adler32};
+use dex_base::{Fault, adler32, fault};
 use dex_container::{framed_without_fault, open};
 use dex_samples::{
     NOTHING, ONE_CLASS, Rows, WITHOUT_CLASSES, closed, closed_with, file_of, is_so, none_wrong,
@@ -40,85 +40,52 @@ fn first_changed_otherwise(
     Ok(None)
 }
 
+#[rattlefmt::skip]
 #[test]
 fn each_rule_of_header_and_map_has_its_fault(rt: HostRuntime) -> Result<(), Fail> {
     static CASES: [Changed; 21] = [
-        ("the magic's first byte", 0, &[0x65], (2, 0)),
-        ("the magic's last byte", 7, &[1], (2, 0)),
-        ("version 037", 6, &[0x37], (3, 4)),
-        ("file_size", 33, &[1], (4, 32)),
-        ("header_size", 36, &[0x71], (5, 36)),
-        ("the reversed endian tag", 40, &[0x12], (6, 40)),
-        ("link_size", 44, &[1], (7, 44)),
-        ("a table in the header", 56, &[1], (10, 56)),
-        ("65536 types", 66, &[1], (10, 64)),
-        ("a data section past the end", 104, &[0x1d], (10, 104)),
-        ("a data section of 24 bytes", 104, &[0x18], (12, 52)),
-        ("no data section", 104, &[0], (12, 52)),
-        ("a misaligned map", 52, &[0x71], (12, 52)),
-        (
-            "three entries, the third past the end",
-            0x70,
-            &[3],
-            (12, 52),
-        ),
-        ("one entry, the header's", 0x70, &[1], (14, 52)),
-        ("an unknown kind of entry", 0x74, &[7], (13, 116)),
-        ("a header entry of 2 items", 0x78, &[2], (13, 116)),
-        ("two map entries", 0x84, &[2], (13, 128)),
-        ("another place for the map", 0x88, &[0x74], (13, 128)),
+        ("the magic's first byte", 0, &[0x65], (fault::MAGIC, 0)),
+        ("the magic's last byte", 7, &[1], (fault::MAGIC, 0)),
+        ("version 037", 6, &[0x37], (fault::VERSION, 4)),
+        ("file_size", 33, &[1], (fault::FILE_SIZE, 32)),
+        ("header_size", 36, &[0x71], (fault::HEADER_SIZE, 36)),
+        ("the reversed endian tag", 40, &[0x12], (fault::ENDIAN, 40)),
+        ("link_size", 44, &[1], (fault::LINKED, 44)),
+        ("a table in the header", 56, &[1], (fault::SECTION_RANGE, 56)),
+        ("65536 types", 66, &[1], (fault::SECTION_RANGE, 64)),
+        ("a data section past the end", 104, &[0x1d], (fault::SECTION_RANGE, 104)),
+        ("a data section of 24 bytes", 104, &[0x18], (fault::MAP_PLACE, 52)),
+        ("no data section", 104, &[0], (fault::MAP_PLACE, 52)),
+        ("a misaligned map", 52, &[0x71], (fault::MAP_PLACE, 52)),
+        ("three entries, the third past the end", 0x70, &[3], (fault::MAP_PLACE, 52)),
+        ("one entry, the header's", 0x70, &[1], (fault::MAP_MISSING, 52)),
+        ("an unknown kind of entry", 0x74, &[7], (fault::MAP_ENTRY, 116)),
+        ("a header entry of 2 items", 0x78, &[2], (fault::MAP_ENTRY, 116)),
+        ("two map entries", 0x84, &[2], (fault::MAP_ENTRY, 128)),
+        ("another place for the map", 0x88, &[0x74], (fault::MAP_ENTRY, 128)),
         ("an entry's unused half word", 0x76, &[7], (0, 0)),
         ("link_off", 48, &[7], (0, 0)),
     ];
     none_wrong(first_changed_otherwise(rt.alloc(), &WITHOUT_CLASSES, &CASES))
 }
 
+#[rattlefmt::skip]
 #[test]
 fn each_rule_of_tables_and_sections_in_the_map_has_its_fault(rt: HostRuntime) -> Result<(), Fail> {
     static CASES: [Changed; 12] = [
         ("nothing", 0, &[], (0, 0)),
-        ("a misaligned table", 0x3c, &[0x72], (10, 56)),
-        ("an unknown kind of entry", 0x10c, &[7], (13, 268)),
-        (
-            "eight entries: the map's own is missing",
-            0xfc,
-            &[9],
-            (14, 52),
-        ),
-        (
-            "a table one row longer than its entry",
-            0x38,
-            &[5],
-            (13, 268),
-        ),
-        (
-            "an entry at its predecessor's place",
-            0x114,
-            &[0],
-            (13, 268),
-        ),
-        (
-            "a data section that ends before the map",
-            0x6c,
-            &[0xbc],
-            (12, 52),
-        ),
+        ("a misaligned table", 0x3c, &[0x72], (fault::SECTION_RANGE, 56)),
+        ("an unknown kind of entry", 0x10c, &[7], (fault::MAP_ENTRY, 268)),
+        ("eight entries: the map's own is missing", 0xfc, &[9], (fault::MAP_MISSING, 52)),
+        ("a table one row longer than its entry", 0x38, &[5], (fault::MAP_ENTRY, 268)),
+        ("an entry at its predecessor's place", 0x114, &[0], (fault::MAP_ENTRY, 268)),
+        ("a data section that ends before the map", 0x6c, &[0xbc], (fault::MAP_PLACE, 52)),
         // one field row, over the string rows
-        (
-            "a table without an entry",
-            0x50,
-            &[1, 0, 0, 0, 0x70],
-            (14, 80),
-        ),
-        ("code items twice", 0x154, &[1], (13, 340)),
-        ("class data before the strings", 0x168, &[0xc1], (13, 352)),
-        (
-            "class rows that end behind the code's place",
-            0x150,
-            &[0x9c],
-            (13, 316),
-        ),
-        ("an entry of no item", 0x158, &[0], (13, 340)),
+        ("a table without an entry", 0x50, &[1, 0, 0, 0, 0x70], (fault::MAP_MISSING, 80)),
+        ("code items twice", 0x154, &[1], (fault::MAP_ENTRY, 340)),
+        ("class data before the strings", 0x168, &[0xc1], (fault::MAP_ENTRY, 352)),
+        ("class rows that end behind the code's place", 0x150, &[0x9c], (fault::MAP_ENTRY, 316)),
+        ("an entry of no item", 0x158, &[0], (fault::MAP_ENTRY, 340)),
     ];
     none_wrong(first_changed_otherwise(rt.alloc(), &ONE_CLASS, &CASES))
 }
@@ -133,19 +100,15 @@ fn first_end_otherwise(alloc: Global, cases: &[Changed]) -> Result<Option<&'stat
     first_changed_otherwise(alloc, &file, cases)
 }
 
+#[rattlefmt::skip]
 #[test]
 fn an_entry_of_data_begins_behind_the_map_and_within_the_data(rt: HostRuntime) -> Result<(), Fail> {
     static CASES: [Changed; 5] = [
-        ("inside the map", 0x94, &[0x97], (13, 128)),
+        ("inside the map", 0x94, &[0x97], (fault::MAP_ENTRY, 128)),
         ("right behind the map", 0x94, &[0x98], (0, 0)),
-        (
-            "one byte before the data section's end",
-            0x94,
-            &[0x99],
-            (0, 0),
-        ),
-        ("at the data section's end", 0x94, &[0x9a], (13, 140)),
-        ("at the map's own place", 0x94, &[0x70], (13, 128)),
+        ("one byte before the data section's end", 0x94, &[0x99], (0, 0)),
+        ("at the data section's end", 0x94, &[0x9a], (fault::MAP_ENTRY, 140)),
+        ("at the map's own place", 0x94, &[0x70], (fault::MAP_ENTRY, 128)),
     ];
     none_wrong(first_end_otherwise(rt.alloc(), &CASES))
 }
@@ -182,25 +145,14 @@ fn first_told_otherwise(alloc: Global, cases: &[Many]) -> Result<Option<&'static
     Ok(None)
 }
 
+#[rattlefmt::skip]
 #[test]
 fn types_and_prototypes_are_at_most_65535(rt: HostRuntime) -> Result<(), Fail> {
     static CASES: [Many; 4] = [
-        ("65536 types", 64, 65536, 112 + 4 * 65536, (11, 64)),
-        (
-            "65535 types, and no map",
-            64,
-            65535,
-            112 + 4 * 65536,
-            (12, 52),
-        ),
-        ("65536 prototypes", 72, 65536, 112 + 12 * 65536, (11, 72)),
-        (
-            "65535 prototypes, and no map",
-            72,
-            65535,
-            112 + 12 * 65536,
-            (12, 52),
-        ),
+        ("65536 types", 64, 65536, 112 + 4 * 65536, (fault::TOO_MANY_ROWS, 64)),
+        ("65535 types, and no map", 64, 65535, 112 + 4 * 65536, (fault::MAP_PLACE, 52)),
+        ("65536 prototypes", 72, 65536, 112 + 12 * 65536, (fault::TOO_MANY_ROWS, 72)),
+        ("65535 prototypes, and no map", 72, 65535, 112 + 12 * 65536, (fault::MAP_PLACE, 52)),
     ];
     none_wrong(first_told_otherwise(rt.alloc(), &CASES))
 }
@@ -217,7 +169,7 @@ fn with_a_wrong_signature(alloc: Global) -> Result<Vec<u8>, Fault> {
 
 fn is_signature_told(alloc: Global) -> Result<bool, Fault> {
     let file = with_a_wrong_signature(alloc)?;
-    Ok(is_opened_so(&file, (9, 12)))
+    Ok(is_opened_so(&file, (fault::SIGNATURE, 12)))
 }
 
 #[test]

@@ -1,7 +1,7 @@
 //! The orders of the tables' rows, by files of few rows.
 
 use crate::table_faults::fault_of_rows;
-use dex_base::Fault;
+use dex_base::{Fault, fault};
 use dex_samples::{NOTHING, Rows, is_so, none_wrong};
 use std::alloc::Global;
 use std::test::Fail;
@@ -21,6 +21,7 @@ fn first_strings_otherwise(alloc: Global, cases: &[Sorted]) -> Result<Option<&'s
 }
 
 // The second string row stands at 116. U+10000 is the units D800 DC00, and U+0000 is spelled c0 80.
+#[rattlefmt::skip]
 #[test]
 fn strings_are_sorted_by_their_units(rt: HostRuntime) -> Result<(), Fail> {
     const PAIR: &[u8] = b"\x02\xed\xa0\x80\xed\xb0\x80\0";
@@ -30,12 +31,12 @@ fn strings_are_sorted_by_their_units(rt: HostRuntime) -> Result<(), Fail> {
     const LETTER: &[u8] = b"\x01a\0";
     static CASES: [Sorted; 7] = [
         ("U+10000, U+FFEF", [PAIR, HIGH], (0, 0)),
-        ("U+FFEF, U+10000", [HIGH, PAIR], (22, 116)),
+        ("U+FFEF, U+10000", [HIGH, PAIR], (fault::STRING_ORDER, 116)),
         ("U+D800, U+10000", [LONE, PAIR], (0, 0)),
         ("U+0000, `a`", [NUL, LETTER], (0, 0)),
-        ("`a`, U+0000", [LETTER, NUL], (22, 116)),
+        ("`a`, U+0000", [LETTER, NUL], (fault::STRING_ORDER, 116)),
         ("the empty string, U+0000", [b"\0\0", NUL], (0, 0)),
-        ("`a`, its size longer", [LETTER, b"\x81\0a\0"], (22, 116)),
+        ("`a`, its size longer", [LETTER, b"\x81\0a\0"], (fault::STRING_ORDER, 116)),
     ];
     none_wrong(first_strings_otherwise(rt.alloc(), &CASES))
 }
@@ -64,6 +65,7 @@ fn first_protos_otherwise(alloc: Global, cases: &[Protos]) -> Result<Option<&'st
 }
 
 // Four string rows stand at 112, two type rows at 128 and the proto rows at 136 and 148.
+#[rattlefmt::skip]
 #[test]
 fn protos_are_sorted_by_return_type_and_parameters(rt: HostRuntime) -> Result<(), Fail> {
     const NONE_INT: ProtoRow = (0, 0, None);
@@ -73,14 +75,14 @@ fn protos_are_sorted_by_return_type_and_parameters(rt: HostRuntime) -> Result<()
     const EMPTY: ProtoRow = (2, 1, Some(1));
     static CASES: [Protos; 9] = [
         ("()I, ()V", [NONE_INT, NONE], (0, 0)),
-        ("()V, ()I", [NONE, NONE_INT], (29, 148)),
+        ("()V, ()I", [NONE, NONE_INT], (fault::PROTO_ORDER, 148)),
         ("(I)I, ()V", [INT_INT, NONE], (0, 0)),
-        ("()V, (I)I", [NONE, INT_INT], (29, 148)),
+        ("()V, (I)I", [NONE, INT_INT], (fault::PROTO_ORDER, 148)),
         ("()V, (I)V", [NONE, INT], (0, 0)),
-        ("(I)V, ()V", [INT, NONE], (29, 148)),
+        ("(I)V, ()V", [INT, NONE], (fault::PROTO_ORDER, 148)),
         ("()V of an empty list, (I)V", [EMPTY, INT], (0, 0)),
-        ("()V, ()V", [NONE, NONE], (29, 148)),
-        ("()V, ()V of an empty list", [NONE, EMPTY], (29, 148)),
+        ("()V, ()V", [NONE, NONE], (fault::PROTO_ORDER, 148)),
+        ("()V, ()V of an empty list", [NONE, EMPTY], (fault::PROTO_ORDER, 148)),
     ];
     none_wrong(first_protos_otherwise(rt.alloc(), &CASES))
 }

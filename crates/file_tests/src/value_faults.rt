@@ -46,34 +46,34 @@ fn first_refused_otherwise(
 #[test]
 fn wrong_bytes_are_refused(rt: HostRuntime) -> Result<(), Fail> {
     static CASES: [Refused; 27] = [
-        ("a count without an end", &[0x80], 1, 48, 0),
-        ("a count of six bytes", &[0x80, 0x80, 0x80, 0x80, 0x80, 0x00], 1, 48, 0),
-        ("no value for the count", &[0x01], 1, 48, 0),
-        ("no second byte", &[0x01, 0x04], 1, 48, 0),
-        ("one byte of two", &[0x01, 0x24, 0x80], 1, 48, 0),
-        ("no count in an inner array", &[0x01, 0x1c], 1, 48, 0),
-        ("no value in an inner array", &[0x01, 0x1c, 0x01], 1, 48, 0),
-        ("a count that the section can't hold", &[0xff, 0xff, 0xff, 0xff, 0x0f, 0x1e], 4294967295, 48, 0),
-        ("a count above what is wanted", &[0x02, 0x1e, 0x1e], 1, 49, 0),
-        ("the same before any value is looked at", &[0x02, 0x15], 1, 49, 0),
-        ("a type that none has", &[0x01, 0x05, 0x00], 1, 50, 1),
-        ("a method type", &[0x01, 0x15, 0x00], 1, 50, 1),
-        ("a method handle", &[0x01, 0x16, 0x00], 1, 50, 1),
-        ("an annotation", &[0x01, 0x1d], 1, 50, 1),
-        ("a short of three bytes", &[0x01, 0x42, 0x00, 0x00, 0x00], 1, 50, 1),
-        ("a byte of two bytes", &[0x01, 0x20, 0x00, 0x00], 1, 50, 1),
-        ("a boolean of argument 2", &[0x01, 0x5f], 1, 50, 1),
-        ("a null with an argument", &[0x01, 0x3e], 1, 50, 1),
-        ("an array with an argument", &[0x01, 0x3c, 0x00], 1, 50, 1),
-        ("an int of five bytes", &[0x01, 0x84, 0, 0, 0, 0, 0], 1, 50, 1),
-        ("a string without a row", &[0x01, 0x17, 0x00], 1, 50, 1),
-        ("a type without a row", &[0x01, 0x18, 0x00], 1, 50, 1),
-        ("a field without a row", &[0x01, 0x19, 0x00], 1, 50, 1),
-        ("a method without a row", &[0x01, 0x1a, 0x00], 1, 50, 1),
-        ("an enum without a row", &[0x01, 0x1b, 0x00], 1, 50, 1),
+        ("a count without an end", &[0x80], 1, fault::VALUES, 0),
+        ("a count of six bytes", &[0x80, 0x80, 0x80, 0x80, 0x80, 0x00], 1, fault::VALUES, 0),
+        ("no value for the count", &[0x01], 1, fault::VALUES, 0),
+        ("no second byte", &[0x01, 0x04], 1, fault::VALUES, 0),
+        ("one byte of two", &[0x01, 0x24, 0x80], 1, fault::VALUES, 0),
+        ("no count in an inner array", &[0x01, 0x1c], 1, fault::VALUES, 0),
+        ("no value in an inner array", &[0x01, 0x1c, 0x01], 1, fault::VALUES, 0),
+        ("a count that the section can't hold", &[0xff, 0xff, 0xff, 0xff, 0x0f, 0x1e], 4294967295, fault::VALUES, 0),
+        ("a count above what is wanted", &[0x02, 0x1e, 0x1e], 1, fault::TOO_MANY_VALUES, 0),
+        ("the same before any value is looked at", &[0x02, 0x15], 1, fault::TOO_MANY_VALUES, 0),
+        ("a type that none has", &[0x01, 0x05, 0x00], 1, fault::VALUE_KIND, 1),
+        ("a method type", &[0x01, 0x15, 0x00], 1, fault::VALUE_KIND, 1),
+        ("a method handle", &[0x01, 0x16, 0x00], 1, fault::VALUE_KIND, 1),
+        ("an annotation", &[0x01, 0x1d], 1, fault::VALUE_KIND, 1),
+        ("a short of three bytes", &[0x01, 0x42, 0x00, 0x00, 0x00], 1, fault::VALUE_KIND, 1),
+        ("a byte of two bytes", &[0x01, 0x20, 0x00, 0x00], 1, fault::VALUE_KIND, 1),
+        ("a boolean of argument 2", &[0x01, 0x5f], 1, fault::VALUE_KIND, 1),
+        ("a null with an argument", &[0x01, 0x3e], 1, fault::VALUE_KIND, 1),
+        ("an array with an argument", &[0x01, 0x3c, 0x00], 1, fault::VALUE_KIND, 1),
+        ("an int of five bytes", &[0x01, 0x84, 0, 0, 0, 0, 0], 1, fault::VALUE_KIND, 1),
+        ("a string without a row", &[0x01, 0x17, 0x00], 1, fault::VALUE_KIND, 1),
+        ("a type without a row", &[0x01, 0x18, 0x00], 1, fault::VALUE_KIND, 1),
+        ("a field without a row", &[0x01, 0x19, 0x00], 1, fault::VALUE_KIND, 1),
+        ("a method without a row", &[0x01, 0x1a, 0x00], 1, fault::VALUE_KIND, 1),
+        ("an enum without a row", &[0x01, 0x1b, 0x00], 1, fault::VALUE_KIND, 1),
         // a string's bytes are looked at before its index, and a wrong value before the end of the array
-        ("a string that is cut", &[0x01, 0x37, 0x00], 1, 48, 0),
-        ("the first value of an array that is cut", &[0x01, 0x1c, 0x05, 0x1e, 0x15], 1, 50, 4),
+        ("a string that is cut", &[0x01, 0x37, 0x00], 1, fault::VALUES, 0),
+        ("the first value of an array that is cut", &[0x01, 0x1c, 0x05, 0x1e, 0x15], 1, fault::VALUE_KIND, 4),
     ];
     none_wrong(first_refused_otherwise(rt.alloc(), &CASES))
 }
@@ -147,7 +147,7 @@ fn is_index_refused(alloc: Global, arrays: &[u8]) -> Result<bool, Fault> {
     let rows = Rows { arrays, ..NAMES };
     let file = file_of(alloc, &rows)?;
     let want = Fault {
-        code: 50,
+        code: fault::VALUE_KIND,
         place: u64::from(ARRAYS_BEHIND_NAMES_AT) + 1,
     };
     Ok(is_refused_at(alloc, &file, ARRAYS_BEHIND_NAMES_AT, 5, want))
@@ -184,7 +184,7 @@ fn is_place_refused(alloc: Global, off: u32) -> Result<bool, Fault> {
     };
     let file = file_of(alloc, &rows)?;
     let want = Fault {
-        code: 48,
+        code: fault::VALUES,
         place: u64::from(off),
     };
     Ok(is_refused_at(alloc, &file, off, 1, want))

@@ -1,7 +1,7 @@
 //! Listings of the second form: what their texts say, what is printed, and what is refused where.
 
 use bumpalo::Bump;
-use dex_base::Fault;
+use dex_base::{Fault, fault};
 use dex_listing::parse;
 use dex_print::{print, print_1};
 use dex_samples::none_wrong;
@@ -128,71 +128,61 @@ fn labels_of_any_name_and_number_are_read(rt: HostRuntime) -> Result<(), Fail> {
     none_wrong(first_printed_otherwise(rt.alloc(), &PAIRS))
 }
 
+#[rattlefmt::skip]
 #[test]
 fn lines_of_a_code_are_refused(rt: HostRuntime) -> Result<(), Fail> {
     static CASES: [Case; 31] = [
         ("return-void", 0, 0),
-        ("goto :x", 105, 6),
-        ("goto @0", 101, 6),
-        ("0: return-void", 100, 6),
-        (":a b", 100, 6),
-        (":a\n:a\nreturn-void", 104, 7),
-        (":a\nreturn-void\n:a", 104, 8),
+        ("goto :x", fault::LINE_TARGET, 6),
+        ("goto @0", fault::LINE_NAME, 6),
+        ("0: return-void", fault::LINE_WORD, 6),
+        (":a b", fault::LINE_WORD, 6),
+        (":a\n:a\nreturn-void", fault::LINE_TWICE, 7),
+        (":a\nreturn-void\n:a", fault::LINE_TWICE, 8),
         ("return-void\n:a", 0, 0),
         (":a\nreturn-void", 0, 0),
-        (":\nreturn-void", 101, 6),
-        (":a-b\nreturn-void", 101, 6),
-        (":abcdefghijklmnopqrstuvwxyz0123456\nreturn-void", 101, 6),
-        ("@0\nreturn-void", 100, 6),
-        ("goto :a-b\n:a", 101, 6),
-        ("goto \"a\"", 100, 6),
-        ("goto v0", 101, 6),
-        ("goto 1\n:a", 101, 6),
-        ("return-void\ngoto :a\n:a", 105, 7),
-        ("return-void\nreturn-void :a\n:a", 100, 7),
-        ("return-void\ntry :a :a\n:a", 103, 8),
-        ("return-void\n:a\ntry :a :a\ncatchall :a", 105, 8),
-        (":s\nreturn-void\n:a\ntry :s :a\ncatchall :a", 105, 10),
+        (":\nreturn-void", fault::LINE_NAME, 6),
+        (":a-b\nreturn-void", fault::LINE_NAME, 6),
+        (":abcdefghijklmnopqrstuvwxyz0123456\nreturn-void", fault::LINE_NAME, 6),
+        ("@0\nreturn-void", fault::LINE_WORD, 6),
+        ("goto :a-b\n:a", fault::LINE_NAME, 6),
+        ("goto \"a\"", fault::LINE_WORD, 6),
+        ("goto v0", fault::LINE_NAME, 6),
+        ("goto 1\n:a", fault::LINE_NAME, 6),
+        ("return-void\ngoto :a\n:a", fault::LINE_TARGET, 7),
+        ("return-void\nreturn-void :a\n:a", fault::LINE_WORD, 7),
+        ("return-void\ntry :a :a\n:a", fault::LINE_ORDER, 8),
+        ("return-void\n:a\ntry :a :a\ncatchall :a", fault::LINE_TARGET, 8),
+        (":s\nreturn-void\n:a\ntry :s :a\ncatchall :a", fault::LINE_TARGET, 10),
         (":s\nreturn-void\n:a\ntry :s :a\ncatchall :s", 0, 0),
-        (":s\nreturn-void\ntry :s :b\ncatchall :s", 105, 8),
-        (":s\nreturn-void\ntry :s :@1\ncatchall :s", 101, 8),
-        ("goto :a\nconst/4 v16 0\n:a\nreturn-void", 102, 7),
-        (
-            "goto :a\nend code\ndirect n ()V 0x9\ncode 1 0 0\n:a\nreturn-void",
-            105,
-            6,
-        ),
-        ("try :a :a", 105, 6),
-        ("nop\ndex 035", 103, 7),
-        ("nop\ndex 035 listing 2", 103, 7),
+        (":s\nreturn-void\ntry :s :b\ncatchall :s", fault::LINE_TARGET, 8),
+        (":s\nreturn-void\ntry :s :@1\ncatchall :s", fault::LINE_NAME, 8),
+        ("goto :a\nconst/4 v16 0\n:a\nreturn-void", fault::LINE_NUMBER, 7),
+        ("goto :a\nend code\ndirect n ()V 0x9\ncode 1 0 0\n:a\nreturn-void", fault::LINE_TARGET, 6),
+        ("try :a :a", fault::LINE_TARGET, 6),
+        ("nop\ndex 035", fault::LINE_ORDER, 7),
+        ("nop\ndex 035 listing 2", fault::LINE_ORDER, 7),
         ("goto/32 :a\n  # :a\n:a\nreturn-void", 0, 0),
     ];
     none_wrong(first_lines_refused_otherwise(rt.alloc(), &CASES))
 }
 
+#[rattlefmt::skip]
 #[test]
 fn the_first_line_tells_the_form(rt: HostRuntime) -> Result<(), Fail> {
     static CASES: [Case; 12] = [
         ("dex 035 listing 2", 0, 0),
         ("\n# first\ndex 035  listing 2\n", 0, 0),
-        ("dex 035 listing 1\n", 100, 1),
-        ("dex 035 listing 3\n", 100, 1),
-        ("dex 035 listing\n", 100, 1),
-        ("dex 036 listing 2\n", 100, 1),
-        ("dex 035 listing 2\ndex 035 listing 2\n", 103, 2),
-        ("dex 035 listing 2\ndex 035\n", 103, 2),
-        (
-            "dex 035 listing 2\nclass LA; 0x1\ndirect m ()V 0x9\n:a\ncode 1 0 0\n",
-            103,
-            4,
-        ),
-        ("dex 035 listing 2\n:a\n", 103, 2),
-        ("dex 035 listing 2\n:@\n", 103, 2),
-        (
-            "dex 035 listing 2\nclass LA; 0x1\ndirect m ()V 0x9\ncode 1 0 0\n:a\n",
-            106,
-            5,
-        ),
+        ("dex 035 listing 1\n", fault::LINE_WORD, 1),
+        ("dex 035 listing 3\n", fault::LINE_WORD, 1),
+        ("dex 035 listing\n", fault::LINE_WORD, 1),
+        ("dex 036 listing 2\n", fault::LINE_WORD, 1),
+        ("dex 035 listing 2\ndex 035 listing 2\n", fault::LINE_ORDER, 2),
+        ("dex 035 listing 2\ndex 035\n", fault::LINE_ORDER, 2),
+        ("dex 035 listing 2\nclass LA; 0x1\ndirect m ()V 0x9\n:a\ncode 1 0 0\n", fault::LINE_ORDER, 4),
+        ("dex 035 listing 2\n:a\n", fault::LINE_ORDER, 2),
+        ("dex 035 listing 2\n:@\n", fault::LINE_ORDER, 2),
+        ("dex 035 listing 2\nclass LA; 0x1\ndirect m ()V 0x9\ncode 1 0 0\n:a\n", fault::LINE_NOT_ENDED, 5),
     ];
     none_wrong(first_text_refused_otherwise(rt.alloc(), &CASES))
 }

@@ -245,7 +245,7 @@ const COVER: Try<'static> = Try {
 #[rattlefmt::skip]
 #[test]
 fn instructions_are_ruled(rt: HostRuntime) -> Result<(), Fail> {
-    static CASES: [Ruled; 12] = [
+    static CASES: [Ruled; 15] = [
         ("return-void", &[Class { directs: &[Method { code: Some(&BODY), ..METHOD }], ..EMPTY }], 0, 0),
         ("no instruction", &[Class { directs: &[Method { code: Some(&Code { insns: &[], ..BODY }), ..METHOD }], ..EMPTY }], fault::PROGRAM_OPERAND, 0),
         ("an opcode of another format", &[Class { virtuals: &[Method { code: Some(&Code { insns: &[Insn::I10x { op: 0x01 }], ..BODY }), ..METHOD }], ..EMPTY }], fault::PROGRAM_OPERAND, 0),
@@ -258,6 +258,9 @@ fn instructions_are_ruled(rt: HostRuntime) -> Result<(), Fail> {
         ("if-eqz past the end", &[Class { directs: &[Method { code: Some(&Code { insns: &[Insn::I21t { op: 0x38, a: 0, to: 1 }], ..BODY }), ..METHOD }], ..EMPTY }], fault::PROGRAM_TARGET, 0),
         ("if-eq past the end", &[Class { directs: &[Method { code: Some(&Code { insns: &[Insn::I22t { op: 0x32, a: 0, b: 0, to: 1 }], ..BODY }), ..METHOD }], ..EMPTY }], fault::PROGRAM_TARGET, 0),
         ("goto a payload", &[Class { directs: &[Method { code: Some(&Code { insns: &[Insn::I10t { op: 0x28, to: 1 }, Insn::Data { width: 1, bytes: &[] }], ..BODY }), ..METHOD }], ..EMPTY }], fault::PROGRAM_TARGET, 0),
+        ("the last register", &[Class { directs: &[Method { code: Some(&Code { insns: &[Insn::I11x { op: 0x0f, a: 0 }], ..BODY }), ..METHOD }], ..EMPTY }], 0, 0),
+        ("a register past it", &[Class { directs: &[Method { code: Some(&Code { insns: &[Insn::I11x { op: 0x0f, a: 1 }], ..BODY }), ..METHOD }], ..EMPTY }], fault::PROGRAM_REGISTER, 0),
+        ("ins past the registers", &[Class { directs: &[Method { code: Some(&Code { ins: 2, ..BODY }), ..METHOD }], ..EMPTY }], fault::PROGRAM_REGISTER, 0),
     ];
     none_wrong(Ok(first_ruled_otherwise(rt.alloc(), &CASES)))
 }

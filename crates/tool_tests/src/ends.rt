@@ -1,6 +1,6 @@
 //! A run of `strip` on the file of one class, over ends that fail after each number of bytes.
 
-use dex_base::Fault;
+use dex_base::{Fault, fault};
 use dex_samples::{ONE_CLASS, TestReader, TestWriter, none_wrong, reader, writer};
 use dexasm_run::{Job, RunFault, Watched, run};
 use std::alloc::Global;
@@ -73,7 +73,7 @@ fn is_refused_before(alloc: Global) -> bool {
         && matches!(
             done,
             Err(RunFault::Refused(Fault {
-                code: 1,
+                code: fault::TOO_SHORT,
                 place: 111
             }))
         )

@@ -2,7 +2,7 @@
 
 use crate::files::SPARE_NAMES;
 use crate::given::{Given, bytes_of};
-use dex_base::Fault;
+use dex_base::{Fault, fault};
 use dex_samples::{closed_with, is_so, none_wrong};
 use dexasm_run::{Job, RunFault, Watched, run};
 use std::alloc::Global;
@@ -116,42 +116,19 @@ fn first_refused_otherwise(alloc: Global, cases: &[Refused]) -> Option<&'static 
     None
 }
 
+#[rattlefmt::skip]
 #[test]
 fn each_job_tells_the_fault_of_its_call(rt: HostRuntime) -> Result<(), Fail> {
     static CASES: [Refused; 9] = [
-        ("no bytes are no file", Job::List, Given::Nothing, 1, 0),
-        ("a listing isn't a file", Job::Strip, Given::Listing, 2, 0),
-        ("a file isn't a listing", ASSEMBLE, Given::File, 100, 1),
-        ("no bytes are no listing", ASSEMBLE, Given::Nothing, 106, 0),
-        (
-            "a later superclass in a file",
-            Job::Check,
-            Given::LaterSuperclass,
-            42,
-            128,
-        ),
-        (
-            "a later superclass",
-            ASSEMBLE,
-            Given::LaterSuperclassListing,
-            112,
-            0,
-        ),
-        ("a try without handlers", ASSEMBLE, Given::BareTry, 117, 0),
-        (
-            "a try without handlers, aligned",
-            ALIGN,
-            Given::BareTry,
-            117,
-            0,
-        ),
-        (
-            "a payload at an odd address",
-            ASSEMBLE,
-            Given::OddPayload,
-            86,
-            0,
-        ),
+        ("no bytes are no file", Job::List, Given::Nothing, fault::TOO_SHORT, 0),
+        ("a listing isn't a file", Job::Strip, Given::Listing, fault::MAGIC, 0),
+        ("a file isn't a listing", ASSEMBLE, Given::File, fault::LINE_WORD, 1),
+        ("no bytes are no listing", ASSEMBLE, Given::Nothing, fault::LINE_NOT_ENDED, 0),
+        ("a later superclass in a file", Job::Check, Given::LaterSuperclass, fault::CLASS_ORDER, 128),
+        ("a later superclass", ASSEMBLE, Given::LaterSuperclassListing, fault::PROGRAM_CLASS_ORDER, 0),
+        ("a try without handlers", ASSEMBLE, Given::BareTry, fault::PROGRAM_TRY, 0),
+        ("a try without handlers, aligned", ALIGN, Given::BareTry, fault::PROGRAM_TRY, 0),
+        ("a payload at an odd address", ASSEMBLE, Given::OddPayload, fault::MISALIGNED, 0),
     ];
     none_wrong(Ok(first_refused_otherwise(rt.alloc(), &CASES)))
 }

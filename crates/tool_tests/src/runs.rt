@@ -1,6 +1,6 @@
 //! Runs of a job to their end: answers, refusals, and what is told of them.
 
-use dex_base::Fault;
+use dex_base::{Fault, fault};
 use dex_samples::{
     NOTHING, ONE_CLASS, Rows, WITHOUT_CLASSES, closed_with, file_of, is_so, none_wrong, reader,
     with_bytes, writer,
@@ -174,7 +174,7 @@ fn each_failure_has_its_line_and_its_status(rt: HostRuntime) -> Result<(), Fail>
     static CASES: [Told; 4] = [
         (
             RunFault::Refused(Fault {
-                code: 42,
+                code: fault::CLASS_ORDER,
                 place: 160,
             }),
             "dexasm: refused 42 ClassOrder at 160",

@@ -6,7 +6,7 @@ use crate::many::{alike, body, program, two_classes};
 use crate::small::RETURN;
 use bumpalo::Bump;
 use bumpalo::collections::into_bump_slice;
-use dex_base::Fault;
+use dex_base::{Fault, fault};
 use dex_program::{Code, Insn, Program, Try};
 use dex_samples::{is_so, none_wrong};
 use std::alloc::Global;
@@ -163,22 +163,24 @@ fn first_otherwise(alloc: Global, cases: &[Case]) -> Result<Option<&'static str>
     Ok(None)
 }
 
+#[rattlefmt::skip]
 #[test]
 fn a_goto_reaches_127_units_ahead_and_128_back(rt: HostRuntime) -> Result<(), Fail> {
     static CASES: [Case; 4] = [
         ("127 ahead", Body::Over(126), (0, 0)),
-        ("128 ahead", Body::Over(127), (85, 0)),
+        ("128 ahead", Body::Over(127), (fault::BRANCH_OUT_OF_REACH, 0)),
         ("128 back", Body::Back(128), (0, 0)),
-        ("129 back", Body::Back(129), (85, 0)),
+        ("129 back", Body::Back(129), (fault::BRANCH_OUT_OF_REACH, 0)),
     ];
     none_wrong(first_otherwise(rt.alloc(), &CASES))
 }
 
+#[rattlefmt::skip]
 #[test]
 fn an_if_reaches_32767_units_ahead(rt: HostRuntime) -> Result<(), Fail> {
     static CASES: [Case; 2] = [
         ("32767 ahead", Body::If(32765), (0, 0)),
-        ("32768 ahead", Body::If(32766), (85, 0)),
+        ("32768 ahead", Body::If(32766), (fault::BRANCH_OUT_OF_REACH, 0)),
     ];
     none_wrong(first_otherwise(rt.alloc(), &CASES))
 }
@@ -244,29 +246,26 @@ fn first_of_two_otherwise(alloc: Global, cases: &[Two]) -> Result<Option<&'stati
 fn the_lowest_limit_is_told_of_the_first_class_that_breaks_it(rt: HostRuntime) -> Result<(), Fail> {
     static CASES: [Two; 5] = [
         ("none", Body::Nops(1), Body::Nops(2), (0, 0)),
-        ("one of the second class", Body::Nops(1), Body::Over(127), (85, 1)),
-        ("the same of both", Body::Over(127), Body::Over(128), (85, 0)),
-        ("a lower one of the second class", Body::Odd, Body::Over(127), (85, 1)),
-        ("a higher one of the second class", Body::Over(127), Body::Odd, (85, 0)),
+        ("one of the second class", Body::Nops(1), Body::Over(127), (fault::BRANCH_OUT_OF_REACH, 1)),
+        ("the same of both", Body::Over(127), Body::Over(128), (fault::BRANCH_OUT_OF_REACH, 0)),
+        ("a lower one of the second class", Body::Odd, Body::Over(127), (fault::BRANCH_OUT_OF_REACH, 1)),
+        ("a higher one of the second class", Body::Over(127), Body::Odd, (fault::BRANCH_OUT_OF_REACH, 0)),
     ];
     none_wrong(first_of_two_otherwise(rt.alloc(), &CASES))
 }
 
 // A handler takes two bytes below address 128, three below 16384, then four, and the first stands at offset 3.
+#[rattlefmt::skip]
 #[test]
 fn tries_cover_and_are_at_most_65535(rt: HostRuntime) -> Result<(), Fail> {
     static CASES: [Case; 7] = [
         ("65535 units", Body::Nops(65535), (0, 0)),
-        ("65536 units", Body::Nops(65536), (87, 0)),
-        (
-            "the last of 65534 nops and a const-wide at 65534",
-            Body::Wide(65534),
-            (0, 0),
-        ),
+        ("65536 units", Body::Nops(65536), (fault::TRY_TOO_LONG, 0)),
+        ("the last of 65534 nops and a const-wide at 65534", Body::Wide(65534), (0, 0)),
         ("65535 tries", Body::Tries(65535), (0, 0)),
-        ("65536 tries", Body::Tries(65536), (88, 0)),
+        ("65536 tries", Body::Tries(65536), (fault::TOO_MANY_TRIES, 0)),
         ("the last handler at 65535", Body::Handlers(20512), (0, 0)),
-        ("the last handler at 65539", Body::Handlers(20513), (89, 0)),
+        ("the last handler at 65539", Body::Handlers(20513), (fault::HANDLER_TOO_FAR, 0)),
     ];
     none_wrong(first_otherwise(rt.alloc(), &CASES))
 }

@@ -1,31 +1,10 @@
 //! Code items: what is left of each when its file is stripped.
 
-use dex_base::{Fault, push_words, u32_at};
-use dex_samples::{NOTHING, Rows, file_of, none_wrong};
+use dex_base::{Fault, u32_at};
+use dex_samples::{file_of_item, item_of, none_wrong};
 use dex_write::strip;
 use std::alloc::Global;
 use std::test::Fail;
-
-/// The strings `I`, `LA;`, `V`, `a` and `b`, the types `I`, `LA;` and `V`, the prototype `()V`, the field `LA;->a:I` and the
-/// method `LA;->b()V`. With a class row the data section begins at 204, with the code.
-static CODED: Rows<'static> = Rows {
-    strings: &[b"\x01I\0", b"\x03LA;\0", b"\x01V\0", b"\x01a\0", b"\x01b\0"],
-    types: &[0, 1, 2],
-    protos: &[(2, 2, None)],
-    fields: &[(1, 0, 3)],
-    methods: &[(1, 0, 4)],
-    // one direct method, the first row, flags 9, code at 204
-    class_data: &[0, 0, 1, 0, 0, 9, 0xcc, 1],
-    ..NOTHING
-};
-
-/// A length in four bytes.
-pub fn length(len: usize) -> u32 {
-    match u32::try_from(len) {
-        Ok(length) => length,
-        Err(_) => u32::MAX,
-    }
-}
 
 /// What it is, the tries, the units, what stands behind them, and what is written behind them.
 type Case = (
@@ -36,35 +15,9 @@ type Case = (
     &'static [u8],
 );
 
-// An item of 2 registers, no ins, no outs: so many tries, these units, and what stands behind them.
-fn item_of(alloc: Global, tries: u8, units: &[u8], behind: &[u8]) -> Result<Vec<u8>, Fault> {
-    let mut item = Vec::new(alloc);
-    item.extend_from_slice(&[2, 0, 0, 0, 0, 0, tries, 0])?;
-    push_words(&mut item, &[0, length(units.len() / 2)])?;
-    item.extend_from_slice(units)?;
-    item.extend_from_slice(behind)?;
-    Ok(item)
-}
-
-// What is left of the file of these rows.
-fn left_of_rows(alloc: Global, rows: &Rows<'_>) -> Result<Vec<u8>, Fault> {
-    let file = file_of(alloc, rows)?;
-    strip(alloc, &file)
-}
-
 // What is left of the file whose one code item this is.
 fn left_of(alloc: Global, item: &[u8]) -> Result<Vec<u8>, Fault> {
-    // behind the item stand 17 bytes of strings
-    let class_data = length(item.len()).saturating_add(221);
-    let class = [1, 1, 0xffffffff, 0, 0xffffffff, 0, class_data, 0];
-    left_of_rows(
-        alloc,
-        &Rows {
-            classes: &[class],
-            codes: item,
-            ..CODED
-        },
-    )
+    strip(alloc, &file_of_item(alloc, item)?)
 }
 
 /// Whether these bytes stand so far behind the begin of the file's data.
@@ -87,8 +40,8 @@ pub fn begins_with(file: &[u8], item: &[u8]) -> bool {
 
 fn first_otherwise(alloc: Global, cases: &[Case]) -> Result<Option<&'static str>, Fault> {
     for (what, tries, units, behind, want) in cases {
-        let left = left_of(alloc, &item_of(alloc, *tries, units, behind)?)?;
-        if !begins_with(&left, &item_of(alloc, *tries, units, want)?) {
+        let left = left_of(alloc, &item_of(alloc, 2, *tries, units, behind)?)?;
+        if !begins_with(&left, &item_of(alloc, 2, *tries, units, want)?) {
             return Ok(Some(*what));
         }
     }

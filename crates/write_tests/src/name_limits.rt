@@ -5,7 +5,7 @@ use crate::many::{alike, body, field_named, ints, method_named, objects, program
 use crate::small::RETURN;
 use bumpalo::Bump;
 use bumpalo::collections::into_bump_slice;
-use dex_base::Fault;
+use dex_base::{Fault, fault};
 use dex_program::{Insn, Name, Program, Str};
 use dex_samples::none_wrong;
 use std::alloc::Global;
@@ -126,11 +126,12 @@ fn first_otherwise(alloc: Global, cases: &[Case]) -> Result<Option<&'static str>
     Ok(None)
 }
 
+#[rattlefmt::skip]
 #[test]
 fn there_are_at_most_65535_types(rt: HostRuntime) -> Result<(), Fail> {
     static CASES: [Case; 2] = [
         ("65535 types", Many::Types(65534), (0, 0)),
-        ("65536 types", Many::Types(65535), (80, 65536)),
+        ("65536 types", Many::Types(65535), (fault::TOO_MANY_TYPES, 65536)),
     ];
     none_wrong(first_otherwise(rt.alloc(), &CASES))
 }
@@ -143,52 +144,43 @@ fn there_are_65535_prototypes(rt: HostRuntime) -> Result<(), Fail> {
 
 #[test]
 fn there_are_no_65536_prototypes(rt: HostRuntime) -> Result<(), Fail> {
-    static CASES: [Case; 1] = [("65536 prototypes", Many::Protos(65536), (81, 65536))];
+    static CASES: [Case; 1] = [(
+        "65536 prototypes",
+        Many::Protos(65536),
+        (fault::TOO_MANY_PROTOS, 65536),
+    )];
     none_wrong(first_otherwise(rt.alloc(), &CASES))
 }
 
 // The other strings are the class's type, `I`, `V`, `m` and the text itself, which is last.
+#[rattlefmt::skip]
 #[test]
 fn a_string_is_named_in_16_bits_or_by_jumbo(rt: HostRuntime) -> Result<(), Fail> {
     static CASES: [Case; 3] = [
         ("the string of index 65535", Many::Text(65531), (0, 0)),
-        ("of index 65536", Many::Text(65532), (82, 0)),
+        ("of index 65536", Many::Text(65532), (fault::STRING_OUT_OF_REACH, 0)),
         ("of index 65536, by jumbo", Many::Jumbo(65532), (0, 0)),
     ];
     none_wrong(first_otherwise(rt.alloc(), &CASES))
 }
 
+#[rattlefmt::skip]
 #[test]
 fn a_field_is_named_in_16_bits(rt: HostRuntime) -> Result<(), Fail> {
     static CASES: [Case; 3] = [
         ("65537 fields, none in code", Many::Fields(65537), (0, 0)),
-        (
-            "the field of index 65535 in code",
-            Many::Field(65535),
-            (0, 0),
-        ),
-        (
-            "the field of index 65536 in code",
-            Many::Field(65536),
-            (83, 0),
-        ),
+        ("the field of index 65535 in code", Many::Field(65535), (0, 0)),
+        ("the field of index 65536 in code", Many::Field(65536), (fault::FIELD_OUT_OF_REACH, 0)),
     ];
     none_wrong(first_otherwise(rt.alloc(), &CASES))
 }
 
+#[rattlefmt::skip]
 #[test]
 fn a_method_is_named_in_16_bits(rt: HostRuntime) -> Result<(), Fail> {
     static CASES: [Case; 2] = [
-        (
-            "the method of index 65535 in code",
-            Many::Method(65534),
-            (0, 0),
-        ),
-        (
-            "the method of index 65536 in code",
-            Many::Method(65535),
-            (84, 0),
-        ),
+        ("the method of index 65535 in code", Many::Method(65534), (0, 0)),
+        ("the method of index 65536 in code", Many::Method(65535), (fault::METHOD_OUT_OF_REACH, 0)),
     ];
     none_wrong(first_otherwise(rt.alloc(), &CASES))
 }

@@ -1,13 +1,14 @@
 //! Items that are written once, and items of a file that are read once.
 
-use crate::codes::length;
 use crate::kept::file_of;
 use crate::small::{BODY, EMPTY, METHOD, TWO, VOID};
 use bumpalo::Bump;
-use dex_base::{Fault, u32_at};
+use dex_base::{Fault, fault, u32_at};
 use dex_file::read;
 use dex_program::{Class, Desc, Member, Method, Program, Proto, Str, Value};
-use dex_samples::{NOTHING, ONE_CLASS, Rows, closed_with, file_of as rows_file, is_so, none_wrong};
+use dex_samples::{
+    NOTHING, ONE_CLASS, Rows, closed_with, file_of as rows_file, is_so, length, none_wrong,
+};
 use dex_write::strip;
 use std::alloc::Global;
 use std::test::Fail;
@@ -65,9 +66,14 @@ const TWO_ITEMS: Rows<'static> = Rows {
     ..NOTHING
 };
 
-fn is_left_shared(alloc: Global) -> Result<Option<&'static str>, Fault> {
+// Its map, at 288, counts both.
+fn two_items(alloc: Global) -> Result<Vec<u8>, Fault> {
     let file = rows_file(alloc, &TWO_ITEMS)?;
-    let two = closed_with(alloc, &file, 288 + 8 + 12 * 6, &[2, 0, 0, 0])?;
+    closed_with(alloc, &file, 288 + 8 + 12 * 6, &[2, 0, 0, 0])
+}
+
+fn is_left_shared(alloc: Global) -> Result<Option<&'static str>, Fault> {
+    let two = two_items(alloc)?;
     if two.len() != 412 {
         return Ok(Some("412 bytes"));
     }
@@ -86,6 +92,27 @@ fn is_left_shared(alloc: Global) -> Result<Option<&'static str>, Fault> {
 #[test]
 fn a_file_with_equal_bodies_is_left_with_one(rt: HostRuntime) -> Result<(), Fail> {
     none_wrong(is_left_shared(rt.alloc()))
+}
+
+// Ins past the registers of the first body, and also a misplaced second one, which is an earlier group's fault; then the first body
+// for both methods.
+fn registers_come_last(alloc: Global) -> Result<Option<&'static str>, Fault> {
+    let past = closed_with(alloc, &two_items(alloc)?, 0xce, &[2])?;
+    if fault_of(alloc, &past) != (fault::REGISTER, 204) {
+        return Ok(Some("registers alone"));
+    }
+    if fault_of(alloc, &closed_with(alloc, &past, 0x11e, &[0xe1])?) != (fault::CODE_PLACE, 225) {
+        return Ok(Some("and a misplaced body"));
+    }
+    if fault_of(alloc, &closed_with(alloc, &past, 0x11e, &[0xcc])?) != (fault::REGISTER, 204) {
+        return Ok(Some("one body twice"));
+    }
+    Ok(None)
+}
+
+#[test]
+fn registers_are_looked_at_last(rt: HostRuntime) -> Result<(), Fail> {
+    none_wrong(registers_come_last(rt.alloc()))
 }
 
 // Two classes, of two static fields and of one, with one array of two values.
@@ -129,7 +156,7 @@ fn fault_of(alloc: Global, file: &[u8]) -> (u16, u64) {
 fn an_array_is_too_long_for_a_later_class(rt: HostRuntime) -> Result<(), Fail> {
     let alloc = rt.alloc();
     is_so(match with_array(alloc, &ONE_ARRAY) {
-        Ok(file) => Ok(fault_of(alloc, &file) == (49, 200)),
+        Ok(file) => Ok(fault_of(alloc, &file) == (fault::TOO_MANY_VALUES, 200)),
         Err(fault) => Err(fault),
     })
 }
@@ -149,7 +176,7 @@ const ONE_LIST: Rows<'static> = Rows {
 fn parameters_are_no_interfaces(rt: HostRuntime) -> Result<(), Fail> {
     let alloc = rt.alloc();
     is_so(match rows_file(alloc, &ONE_LIST) {
-        Ok(file) => Ok(fault_of(alloc, &file) == (43, 152)),
+        Ok(file) => Ok(fault_of(alloc, &file) == (fault::INTERFACE_LIST, 152)),
         Err(fault) => Err(fault),
     })
 }

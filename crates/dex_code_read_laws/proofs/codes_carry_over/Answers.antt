@@ -6,3 +6,6 @@ returns-clause-stands c = law.code_stands
 
 pub returns-clause-breaks : goal.returns-clause-breaks
 returns-clause-breaks c = law.code_breaks
+
+pub returns-clause-overruns : goal.returns-clause-overruns
+returns-clause-overruns c = law.code_overruns

@@ -9,4 +9,7 @@ pub returns-clause-values : goal.returns-clause-values
 returns-clause-values c = file.value_row
 
 pub returns-clause-code : goal.returns-clause-code
-returns-clause-code c = file.codes_decided
+returns-clause-code c = file.bodies_decided
+
+pub returns-clause-registers : goal.returns-clause-registers
+returns-clause-registers c = file.registers_decided

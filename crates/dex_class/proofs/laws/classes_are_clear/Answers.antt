@@ -1,4 +1,4 @@
-use Rattle.dex_class.proofs.ClearLaws.{class_clear, values_clear, methods_clear}
+use Rattle.dex_class.proofs.ClearLaws.{class_clear, values_clear, bodies_clear, methods_clear}
 use Rattle.dex_class.proofs.laws.classes_are_clear.Goals as goal
 
 pub returns-clause-rows : goal.returns-clause-rows
@@ -8,4 +8,7 @@ pub returns-clause-values : goal.returns-clause-values
 returns-clause-values c = λ b framed i e holds. values_clear b framed i e holds
 
 pub returns-clause-code : goal.returns-clause-code
-returns-clause-code c = λ b framed i e holds. methods_clear b framed i e holds
+returns-clause-code c = λ b framed i e holds. bodies_clear b framed i e holds
+
+pub returns-clause-registers : goal.returns-clause-registers
+returns-clause-registers c = λ b framed i e holds. methods_clear b framed i e holds

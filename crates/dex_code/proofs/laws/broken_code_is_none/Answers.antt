@@ -1,6 +1,10 @@
 use Rattle.dex_tables.specs.Names.{NameIsAt}
-use Rattle.dex_code.proofs.CodeLaws.{broken_none}
+use Rattle.dex_code.proofs.StandLaws.{NameIsAt-functional}
+use Rattle.dex_code.proofs.CodeLaws.{broken_none, past_none}
 use Rattle.dex_code.proofs.laws.broken_code_is_none.Goals as goal
 
-pub returns : goal.returns
-returns c = λ names. broken_none (NameIsAt names)
+pub returns-clause-body : goal.returns-clause-body
+returns-clause-body c = λ names. broken_none (NameIsAt names)
+
+pub returns-clause-code : goal.returns-clause-code
+returns-clause-code c = λ names b framed off e d. past_none (NameIsAt names) (NameIsAt-functional names) b framed off e d

@@ -1,42 +1,33 @@
-use Rattle.std.proofs.Common.{◌≡◌, ◌%◌, arith}
-use Rattle.std.proofs.lemmas.Result.{IfErr-weaker, IfOk-weaker}
+use Rattle.std.proofs.Common.{inl, inr, subst, Option}
+use Rattle.std.specs.Prelude.{IfNone, IfSome}
+use Rattle.dex_bytes.specs.declared.fault.Fault.{Fault}
+use Rattle.dex_code.specs.Faults.{RegistersBreak}
+use Rattle.dex_tables.proofs.RowReading.{passed}
+use Rattle.dex_program.specs.Formed.{RegistersHold}
 use Rattle.dex_program.specs.View.{code}
 use Rattle.dex_tables.specs.Names.{NameIsAt}
-use Rattle.dex_container.specs.Where.{IsSectionOf}
-use Rattle.dex_code.proofs.StandLaws.{NameIsAt-functional, outside_none, code_stands, code_only, broken_none, broken}
+use Rattle.dex_code.proofs.CodeLaws.{registers_clear}
+use Rattle.dex_code.proofs.StandLaws.{code_body, body_code}
 use Rattle.dex_code.proofs.reading.read_code.Goals as goal
 
-pub returns-in_default-clause-refused : goal.returns-in_default-clause-refused
-returns-in_default-clause-refused c = λ other d a. outside_none (NameIsAt c.args.tables.now) c.args.sections.now c.args.off d c.in_default.ensures.none a
+pub returns-in-None-clause-ok : goal.returns-in-None-clause-ok
+returns-in-None-clause-ok c =
+    body_code (NameIsAt c.args.tables.now) c.args.sections.now c.args.off (code c.in_ok-body.body.code) (subst (λ (o : Option Fault). IfNone o (RegistersHold (code c.in_ok-body.body.code))) c.in-None.is c.in_ok-body.ensures.named) c.in_ok-body.ensures.ok
 
-pub returns-clause-ok : goal.returns-clause-ok
-returns-clause-ok c =
-    let is : IsSectionOf c.args.sections.now 8193 c.section_of-section.result = assumption c.section_of-section.ensures in
-    let even : c.args.off % 4 ≡ 0 = omega (arith, c.if-off-ne0.false) in
-    IfOk-weaker c.read_item.result _ _
-    (λ x t. code_stands (NameIsAt c.args.tables.now) c.args.sections.now c.in-Some.bytes.now c.section_of-section.result c.args.off is c.in-Some.ensures.value (code x)
-    c.in-Some.ensures.low c.in-Some.ensures.high even t)
-    c.read_item.ensures.ok
+pub returns-in-None-clause-only : goal.returns-in-None-clause-only
+returns-in-None-clause-only c = λ d a. c.in_ok-body.ensures.only d (code_body (NameIsAt c.args.tables.now) c.args.sections.now c.args.off d a)
 
-pub returns-clause-only : goal.returns-clause-only
-returns-clause-only c =
-    let is : IsSectionOf c.args.sections.now 8193 c.section_of-section.result = assumption c.section_of-section.ensures in
-    IfOk-weaker c.read_item.result _ _
-    (λ x t d a. code_only (NameIsAt c.args.tables.now) c.args.sections.now c.in-Some.bytes.now c.section_of-section.result c.args.off is c.in-Some.ensures.value (NameIsAt-functional c.args.tables.now) (code x) d t a)
-    c.read_item.ensures.ok
+pub returns-in-Some-clause-broken : goal.returns-in-Some-clause-broken
+returns-in-Some-clause-broken c = λ ne. inr (record { code = code c.in_ok-body.body.code; body = c.in_ok-body.ensures.ok; breaks = subst (λ (o : Option Fault). IfSome o (RegistersBreak c.args.off (code c.in_ok-body.body.code))) c.in-Some.is c.in_ok-body.ensures.past })
 
-pub returns-clause-broken : goal.returns-clause-broken
-returns-clause-broken c =
-    let even : c.args.off % 4 ≡ 0 = omega (arith, c.if-off-ne0.false) in
-    let is : IsSectionOf c.args.sections.now 8193 c.section_of-section.result = assumption c.section_of-section.ensures in
-    IfErr-weaker c.read_item.result _ _
-    (λ e breaks other. broken (NameIsAt c.args.tables.now) c.args.sections.now c.in-Some.bytes.now c.section_of-section.result c.args.off is c.in-Some.ensures.value e
-    c.in-Some.ensures.low c.in-Some.ensures.high even (breaks other))
-    c.read_item.ensures.err
+pub returns-in-Some-clause-refused : goal.returns-in-Some-clause-refused
+returns-in-Some-clause-refused c = λ ne d a.
+    let same = c.in_ok-body.ensures.only d (code_body (NameIsAt c.args.tables.now) c.args.sections.now c.args.off d a) in
+    registers_clear c.args.off (code c.in_ok-body.body.code) c.in-Some.fault (subst RegistersHold same a.spelled.named) (subst (λ (o : Option Fault). IfSome o (RegistersBreak c.args.off (code c.in_ok-body.body.code))) c.in-Some.is c.in_ok-body.ensures.past)
 
-pub returns-clause-refused : goal.returns-clause-refused
-returns-clause-refused c =
-    let is : IsSectionOf c.args.sections.now 8193 c.section_of-section.result = assumption c.section_of-section.ensures in
-    IfErr-weaker c.read_item.result _ _
-    (λ e breaks other d a. broken_none (NameIsAt c.args.tables.now) c.args.sections.now c.in-Some.bytes.now c.section_of-section.result c.args.off is c.in-Some.ensures.value e (breaks other) d a)
-    c.read_item.ensures.err
+pub returns-in_err-body-clause-broken : goal.returns-in_err-body-clause-broken
+returns-in_err-body-clause-broken c = passed _ _ _ c.from_residual.ensures.1 (λ ne. inl (c.in_err-body.ensures.broken ne))
+
+pub returns-in_err-body-clause-refused : goal.returns-in_err-body-clause-refused
+returns-in_err-body-clause-refused c =
+    passed _ _ _ c.from_residual.ensures.1 (λ ne d a. c.in_err-body.ensures.refused ne d (code_body (NameIsAt c.args.tables.now) c.args.sections.now c.args.off d a))

@@ -5,7 +5,8 @@ use Rattle.dex_tables.proofs.RowReading.{passed}
 use Rattle.dex_code.specs.Item.{size_of, list_begin}
 use Rattle.dex_code.specs.Reading.{ReadTries}
 use Rattle.dex_code.specs.Faults.{TriesBreak}
-use Rattle.dex_code.proofs.ItemLaws.{item-read}
+use Rattle.dex_code.proofs.ItemLaws.{item-read, code_with}
+use Rattle.dex_code.proofs.PastLaws.{named_of, past_of}
 use Rattle.dex_code.proofs.FaultLaws.{insns-break, tries-break, units-even}
 use Rattle.dex_code.proofs.reading.read_item.Goals as goal
 
@@ -43,3 +44,11 @@ returns-clause-ok c =
     let ts = map try c.in_ok-tries.tries.now in
     item-read N c.args.bytes.now c.in_ok-insns.insns.starts.items i (map insn c.in_ok-insns.insns.insns.now) ts c.in-Some.ensures.some c.if-item-eq0.false c.in_ok-insns.ensures.ok
     (subst (λ (z : List ℕ). ReadTries N z i.size i.tries i.items.now i.list.now ts) c.deref.ensures.value c.in_ok-tries.ensures.ok)
+
+pub returns-clause-named : goal.returns-clause-named
+returns-clause-named c =
+    named_of (code_with c.in-Some.item (map insn c.in_ok-insns.insns.insns.now) (map try c.in_ok-tries.tries.now)) c.register_fault.result c.in_ok-insns.insns.past c.register_fault.ensures.none c.in_ok-insns.ensures.among
+
+pub returns-clause-past : goal.returns-clause-past
+returns-clause-past c =
+    past_of c.args.off (code_with c.in-Some.item (map insn c.in_ok-insns.insns.insns.now) (map try c.in_ok-tries.tries.now)) c.register_fault.result c.in_ok-insns.insns.past c.register_fault.ensures.some c.in_ok-insns.ensures.past

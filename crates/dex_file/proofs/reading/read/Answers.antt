@@ -1,9 +1,9 @@
-use Rattle.std.proofs.Common.{subst, inl, inr, List, ℕ}
+use Rattle.std.proofs.Common.{subst, inl, inr, ◌⊎◌, List, ℕ}
 use Rattle.dex_tables.specs.TableFaults.{IsTableFault}
 use Rattle.dex_tables.proofs.RowReading.{passed}
 use Rattle.dex_tables.proofs.ClearRows.{only_memory}
-use Rattle.dex_class.specs.ClassFaults.{IsClassFault, IsValueFault, IsCodeFault}
-use Rattle.dex_file.proofs.PassLaws.{no_class_fault, no_value_fault, no_code_fault, means_these}
+use Rattle.dex_class.specs.ClassFaults.{IsClassFault, IsValueFault, IsCodeFault, IsRegisterFault}
+use Rattle.dex_file.proofs.PassLaws.{no_class_fault, no_value_fault, no_last_fault, last_refused, means_these}
 use Rattle.dex_file.proofs.reading.read.Goals as goal
 
 pub returns-in_err-tables-clause-refused : goal.returns-in_err-tables-clause-refused
@@ -26,8 +26,8 @@ returns-in_err-statics-clause-refused c =
 pub returns-in_err-classes-clause-refused : goal.returns-in_err-classes-clause-refused
 returns-in_err-classes-clause-refused c =
     let same = c.in_ok-sections.ensures.framed.0 in
-    passed _ _ _ c.from_residual-in_err-classes.ensures.1 (λ ne. inr (inr (inr (inr (subst (λ (b : List ℕ). IsCodeFault b c.in_err-classes.field-0.0) same
-    (record { framed = rw same c.in_ok-sections.ensures.framed.1; tables = c.in_ok-tables.ensures.hold; classes = c.in_ok-heads.ensures.hold; values = c.in_ok-statics.ensures.hold; first = c.in_err-classes.ensures.err ne }))))))
+    passed _ _ _ c.from_residual-in_err-classes.ensures.1 (λ ne. inr (inr (inr (inr (subst (λ (b : List ℕ). IsCodeFault b c.in_err-classes.field-0.0 ⊎ IsRegisterFault b c.in_err-classes.field-0.0) same
+    (last_refused _ _ (rw same c.in_ok-sections.ensures.framed.1) c.in_ok-tables.ensures.hold c.in_ok-heads.ensures.hold c.in_ok-statics.ensures.hold (c.in_err-classes.ensures.err ne)))))))
 
 pub returns-in_err-heads-clause-only : goal.returns-in_err-heads-clause-only
 returns-in_err-heads-clause-only c =
@@ -42,7 +42,7 @@ returns-in_err-statics-clause-only c =
 pub returns-in_err-classes-clause-only : goal.returns-in_err-classes-clause-only
 returns-in_err-classes-clause-only c =
     let same = c.in_ok-sections.ensures.framed.0 in
-    λ p m. passed _ _ _ c.from_residual-in_err-classes.ensures.1 (only_memory _ (λ ne. no_code_fault _ p _ (rw same m) (c.in_err-classes.ensures.err ne)))
+    λ p m. passed _ _ _ c.from_residual-in_err-classes.ensures.1 (only_memory _ (λ ne. no_last_fault _ p _ (rw same m) (c.in_err-classes.ensures.err ne)))
 
 pub returns-clause-means : goal.returns-clause-means
 returns-clause-means c =

@@ -1,6 +1,5 @@
 use Rattle.std.proofs.Common.{◌≡◌, refl, sym, ap, subst, ◌∙◌, true≢false, nat_cmp, ◌∷◌}
 use Rattle.std.specs.Cmp.Lexicographic.{slice_cmp}
-use Rattle.std.specs.Ordering.{ordering_then}
 use Rattle.dex_tables.specs.Halves.{halves}
 use Rattle.dex_tables.specs.RowFields.{proto_return}
 use Rattle.dex_tables.specs.Stands.{SpellsIndexes}
@@ -15,9 +14,8 @@ returns-in-Less c =
     let ys = halves c.in-Some-indexes_or_none.b.now in
     let at_i = subst (λ n. AtOrNone SpellsIndexes b 0x1001 4 n xs) c.proto_parameters.ensures c.in-Some.ensures.some in
     let at_j = subst (λ n. AtOrNone SpellsIndexes b 0x1001 4 n ys) c.proto_parameters-2.ensures c.in-Some-indexes_or_none.ensures.some in
-    let order : c.then.result ≡ slice_cmp nat_cmp (proto_return b c.args.i ∷ xs) (proto_return b c.args.j ∷ ys) =
-    c.then.ensures ∙ ap (λ o. ordering_then o c.cmp_indexes.result) (c.cmp.ensures ∙ ap (λ n. nat_cmp n c.proto_return-second.result) c.proto_return-first.ensures ∙ ap (nat_cmp (proto_return b c.args.i)) c.proto_return-second.ensures)
-    ∙ ap (ordering_then (nat_cmp (proto_return b c.args.i) (proto_return b c.args.j))) c.cmp_indexes.ensures in
+    let order : c.cmp_keys.result ≡ slice_cmp nat_cmp (proto_return b c.args.i ∷ xs) (proto_return b c.args.j ∷ ys) =
+    c.cmp_keys.ensures ∙ ap (λ n. slice_cmp nat_cmp (n ∷ xs) (c.proto_return-second.result ∷ ys)) c.proto_return-first.ensures ∙ ap (λ n. slice_cmp nat_cmp (proto_return b c.args.i ∷ xs) (n ∷ ys)) c.proto_return-second.ensures in
     (λ _. protos_below b c.requires.framed c.args.i c.args.j xs ys at_i at_j (sym order ∙ c.in-Less.is), λ _. refl)
 
 pub returns-in_default-matches : goal.returns-in_default-matches
@@ -27,7 +25,6 @@ returns-in_default-matches c =
     let ys = halves c.in-Some-indexes_or_none.b.now in
     let at_i = subst (λ n. AtOrNone SpellsIndexes b 0x1001 4 n xs) c.proto_parameters.ensures c.in-Some.ensures.some in
     let at_j = subst (λ n. AtOrNone SpellsIndexes b 0x1001 4 n ys) c.proto_parameters-2.ensures c.in-Some-indexes_or_none.ensures.some in
-    let order : c.then.result ≡ slice_cmp nat_cmp (proto_return b c.args.i ∷ xs) (proto_return b c.args.j ∷ ys) =
-    c.then.ensures ∙ ap (λ o. ordering_then o c.cmp_indexes.result) (c.cmp.ensures ∙ ap (λ n. nat_cmp n c.proto_return-second.result) c.proto_return-first.ensures ∙ ap (nat_cmp (proto_return b c.args.i)) c.proto_return-second.ensures)
-    ∙ ap (ordering_then (nat_cmp (proto_return b c.args.i) (proto_return b c.args.j))) c.cmp_indexes.ensures in
+    let order : c.cmp_keys.result ≡ slice_cmp nat_cmp (proto_return b c.args.i ∷ xs) (proto_return b c.args.j ∷ ys) =
+    c.cmp_keys.ensures ∙ ap (λ n. slice_cmp nat_cmp (n ∷ xs) (c.proto_return-second.result ∷ ys)) c.proto_return-first.ensures ∙ ap (λ n. slice_cmp nat_cmp (proto_return b c.args.i ∷ xs) (n ∷ ys)) c.proto_return-second.ensures in
     (λ f. absurd (true≢false (sym f)), λ below. absurd (c.in_default-matches.not-Less (order ∙ below_protos b c.requires.framed c.args.i c.args.j xs ys at_i at_j below)))

@@ -1,0 +1,11 @@
+use Rattle.dex_class.specs.ClassFaults.{BodyHolds, CodeHolds, RegistersFail}
+use Rattle.dex_class.specs.Kept.{AreKept}
+use Rattle.dex_class.specs.Reading.{BaresHold, BaresUpTo, IsChecked}
+use Rattle.dex_class.proofs.checking.check_methods.Given as goal
+
+abbrev pub invariant-loop-bare : goal.invariant-loop-bare
+invariant-loop-bare l = record {
+  hold : BaresHold BodyHolds l.sections l.bares l.bare-index;
+  past : BaresUpTo CodeHolds RegistersFail l.sections l.bares l.bare-index l.past;
+  kept : AreKept (IsChecked l.sections) l.kept;
+}

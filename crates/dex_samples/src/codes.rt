@@ -1,0 +1,58 @@
+//! Files of one code item.
+
+use crate::rows::{NOTHING, Rows};
+use crate::written::file_of;
+use dex_base::{Fault, push_words};
+use std::alloc::Global;
+
+/// The strings `I`, `LA;`, `V`, `a` and `b`, the types `I`, `LA;` and `V`, the prototype `()V`, the field `LA;->a:I` and the
+/// method `LA;->b()V`. With a class row the data section begins at 204, with the code.
+pub static CODED: Rows<'static> = Rows {
+    strings: &[b"\x01I\0", b"\x03LA;\0", b"\x01V\0", b"\x01a\0", b"\x01b\0"],
+    types: &[0, 1, 2],
+    protos: &[(2, 2, None)],
+    fields: &[(1, 0, 3)],
+    methods: &[(1, 0, 4)],
+    // one direct method, the first row, flags 9, code at 204
+    class_data: &[0, 0, 1, 0, 0, 9, 0xcc, 1],
+    ..NOTHING
+};
+
+/// A length in four bytes.
+pub fn length(len: usize) -> u32 {
+    match u32::try_from(len) {
+        Ok(length) => length,
+        Err(_) => u32::MAX,
+    }
+}
+
+/// A code item of so many registers, no ins and no outs: so many tries, these units, and what stands behind them.
+pub fn item_of(
+    alloc: Global,
+    registers: u16,
+    tries: u8,
+    units: &[u8],
+    behind: &[u8],
+) -> Result<Vec<u8>, Fault> {
+    let mut item = Vec::from_slice(alloc, &registers.to_le_bytes())?;
+    item.extend_from_slice(&[0, 0, 0, 0, tries, 0])?;
+    push_words(&mut item, &[0, length(units.len() / 2)])?;
+    item.extend_from_slice(units)?;
+    item.extend_from_slice(behind)?;
+    Ok(item)
+}
+
+/// The file of a class whose one method has this code item.
+pub fn file_of_item(alloc: Global, item: &[u8]) -> Result<Vec<u8>, Fault> {
+    // behind the item stand 17 bytes of strings
+    let class_data = length(item.len()).saturating_add(221);
+    let class = [1, 1, 0xffffffff, 0, 0xffffffff, 0, class_data, 0];
+    file_of(
+        alloc,
+        &Rows {
+            classes: &[class],
+            codes: item,
+            ..CODED
+        },
+    )
+}
