@@ -1,8 +1,9 @@
 //! Codes by hand: where their instructions begin, whether they fit, their bytes, and what is aligned.
 
-ghost use Rattle.std.specs.Prelude.{◌≡◌, ◌≤◌, ◌<◌, [], IsTrue};
+ghost use Rattle.std.specs.Prelude.{◌≡◌, ◌≤◌, ◌<◌, [], IfOk, IsTrue};
 ghost use Rattle.std.specs.List.{flat_map};
 ghost use Rattle.dex_code_put.specs.Fits.{wide_code};
+ghost use Rattle.dex_names.specs.Closure.{nothing};
 ghost use Rattle.dex_program.specs.Formed.{IsFormed};
 ghost use Rattle.dex_program.specs.Mentions.{names_of_insn, names_of_try};
 ghost use Rattle.dex_program.specs.View as view;
@@ -14,7 +15,7 @@ use dex_code_align::align;
 use dex_code_fits::fits;
 use dex_code_put::{addresses, put_code};
 use dex_code_rules::{CodeRule, code_holds};
-use dex_names::Needed;
+use dex_names::{Needed, Ranks};
 use dex_program::{Code, Insn, Try};
 use dex_samples::none_wrong;
 use std::alloc::Global;
@@ -130,19 +131,35 @@ fn begins_at(alloc: Global, code: &Code<'_>, want: &[u64]) -> Result<bool, Fault
     Ok(all.as_slice() == want)
 }
 
+// Alone owns ranks, since that is dear to prove.
+fn no_ranks<'a>(alloc: Global) -> Result<Ranks<'a>, Fault>
+    ensures { IfOk result (λ r. r ≡ nothing) }
+{
+    Needed::new(alloc).freeze()
+}
+
 // The item of a code without names, if it keeps the rules. Refused as `fits` refuses it.
+fn put_nameless(alloc: Global, ranks: &Ranks<'_>, code: &Code<'_>) -> Result<Vec<u8>, Fault>
+    requires ranks { ranks.now ≡ nothing }
+    requires insns { flat_map names_of_insn (view.code code.now).insns ≡ [] }
+    requires tries { flat_map names_of_try (view.code code.now).tries ≡ [] }
+    requires short { wide_code (view.code code.now) ≤ 4294967295 }
+{
+    let mut item = Vec::new(alloc);
+    if is_formed(code) {
+        fits(alloc, ranks, code)?;
+        put_code(&mut item, ranks, code)?;
+    }
+    Ok(item)
+}
+
 fn item_of(alloc: Global, code: &Code<'_>) -> Result<Vec<u8>, Fault>
     requires insns { flat_map names_of_insn (view.code code.now).insns ≡ [] }
     requires tries { flat_map names_of_try (view.code code.now).tries ≡ [] }
     requires short { wide_code (view.code code.now) ≤ 4294967295 }
 {
-    let ranks = Needed::new(alloc).freeze()?;
-    let mut item = Vec::new(alloc);
-    if is_formed(code) {
-        fits(alloc, &ranks, code)?;
-        put_code(&mut item, &ranks, code)?;
-    }
-    Ok(item)
+    let ranks = no_ranks(alloc)?;
+    put_nameless(alloc, &ranks, code)
 }
 
 #[tactic(auto, unfolding(dex_program::specs::Sizes::insn_units, dex_program::specs::Sizes::total))]

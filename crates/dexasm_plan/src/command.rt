@@ -1,8 +1,8 @@
 // The command line, by clap's builder.
-ghost use Rattle.std.specs.Prelude.{◌≡◌, IfOk, false};
-ghost use Rattle.clap.specs.Words.{app_of, rule_of};
+ghost use Rattle.std.specs.Prelude.{◌≡◌, IfOk, codes, false};
+ghost use Rattle.clap.specs.Words.{app_of, rule_of, with_rule, with_subcommand};
 ghost use Rattle.clap.specs.declared.builder.command.Command.TheViews.{out-Command};
-ghost use Rattle.dexasm_plan.specs.Commands.{align_rule, dexasm, file_rule, job_app, output_rule};
+ghost use Rattle.dexasm_plan.specs.Commands.{align_rule, dexasm, file_rule, job_app, output_rule, top_app};
 
 use crate::texts;
 use clap::{Arg, ArgAction, Command};
@@ -13,13 +13,17 @@ pub(crate) fn command<'w>(alloc: Global) -> Result<Command<'w>, AllocError>
     ensures shape { IfOk result (λ c. app_of c ≡ dexasm) }
     ensures local { IfOk result (λ c. (out-Command c).has_globals ≡ false) }
 {
-    let check = job_command(alloc, "check", texts::CHECK, texts::CHECK_MORE)?;
-    let list = job_command(alloc, "list", texts::LIST, texts::LIST_MORE)?;
-    let align = align_arg(alloc);
-    let assemble = job_command(alloc, "assemble", texts::ASSEMBLE, texts::ASSEMBLE_MORE)?.arg(
-        align,
-    )?;
-    let strip = job_command(alloc, "strip", texts::STRIP, texts::STRIP_MORE)?;
+    let whole = with_job(alloc, tool(alloc), "check", texts::CHECK, texts::CHECK_MORE)?;
+    let whole = with_job(alloc, whole, "list", texts::LIST, texts::LIST_MORE)?;
+    let whole = with_assemble(alloc, whole)?;
+    with_job(alloc, whole, "strip", texts::STRIP, texts::STRIP_MORE)
+}
+
+// `dexasm` without a subcommand.
+fn tool<'w>(alloc: Global) -> Command<'w>
+    ensures shape { app_of result ≡ top_app }
+    ensures local { (out-Command result).has_globals ≡ false }
+{
     Command::new(alloc, "dexasm")
         .version(texts::VERSION)
         .before_help(texts::HEAD)
@@ -27,10 +31,30 @@ pub(crate) fn command<'w>(alloc: Global) -> Result<Command<'w>, AllocError>
         .after_help(texts::TOOL_MORE)
         .subcommand_required(true)
         .disable_help_subcommand(true)
-        .subcommand(check)?
-        .subcommand(list)?
-        .subcommand(assemble)?
-        .subcommand(strip)
+}
+
+// The command with a job's subcommand behind its others.
+fn with_job<'w>(
+    alloc: Global,
+    whole: Command<'w>,
+    name: &'w str,
+    about: &'w str,
+    more: &'w str,
+) -> Result<Command<'w>, AllocError>
+    ensures shape { IfOk result (λ c. app_of c ≡ with_subcommand (app_of whole.entry) (job_app name.entry.now).top) }
+    ensures local { (out-Command whole.entry).has_globals ≡ false → IfOk result (λ c. (out-Command c).has_globals ≡ false) }
+{
+    whole.subcommand(job_command(alloc, name, about, more)?)
+}
+
+// The command with `assemble` behind its others.
+fn with_assemble<'w>(alloc: Global, whole: Command<'w>) -> Result<Command<'w>, AllocError>
+    ensures shape { IfOk result (λ c. app_of c ≡ with_subcommand (app_of whole.entry) (with_rule (job_app (codes "assemble")) align_rule).top) }
+    ensures local { (out-Command whole.entry).has_globals ≡ false → IfOk result (λ c. (out-Command c).has_globals ≡ false) }
+{
+    let align = align_arg(alloc);
+    let assemble = job_command(alloc, "assemble", texts::ASSEMBLE, texts::ASSEMBLE_MORE)?;
+    whole.subcommand(assemble.arg(align)?)
 }
 
 // A subcommand with a file to read and a file to write.

@@ -13,7 +13,7 @@ use bumpalo::Bump;
 use dex_base::Fault;
 use dex_names::{Needed, Ranks};
 use dex_program::{Name, Str, Value};
-use dex_samples::{field, is_so, method, none_wrong};
+use dex_samples::{field, method, none_wrong};
 use dex_value::put_array;
 use std::alloc::Global;
 use std::test::Fail;
@@ -69,9 +69,79 @@ fn first_by_ranks_otherwise(
     Ok(None)
 }
 
-fn first_put_otherwise(alloc: Global, cases: &[Put]) -> Result<Option<&'static str>, Fault> {
-    let ranks = Needed::new(alloc).freeze()?;
-    first_by_ranks_otherwise(alloc, &ranks, cases)
+// The names that have ranks.
+#[derive(Clone, Copy)]
+enum Added<'a> {
+    None,
+    // the field LA;->a:I and the method LA;->b()V: the strings I, LA;, V, a and b, the types I, LA; and V
+    Members(&'a Bump),
+    // a string of each of these units
+    Units(&'a [u16]),
+}
+
+fn add_members<'a>(needed: &mut Needed<'a>, arena: &'a Bump) -> Result<(), Fault> {
+    needed.add_field(field(arena, "LA;", "a", "I")?)?;
+    let b = method(arena, "LA;", "b", "V", &[])?;
+    needed.add_method(arena, b)
+}
+
+fn add_units<'a>(needed: &mut Needed<'a>, units: &'a [u16]) -> Result<(), Fault> {
+    for unit in units {
+        needed.add_string(Str {
+            units: std::slice::from_ref(unit),
+        })?;
+    }
+    Ok(())
+}
+
+fn add<'a>(needed: &mut Needed<'a>, added: Added<'a>) -> Result<(), Fault> {
+    match added {
+        Added::None => Ok(()),
+        Added::Members(arena) => add_members(needed, arena),
+        Added::Units(units) => add_units(needed, units),
+    }
+}
+
+// Alone owns what is needed, since that is dear to prove.
+fn ranks_of<'a>(alloc: Global, added: Added<'a>) -> Result<Ranks<'a>, Fault> {
+    let mut needed = Needed::new(alloc);
+    add(&mut needed, added)?;
+    needed.freeze()
+}
+
+// What is asked of the ranks.
+#[derive(Clone, Copy)]
+enum Asked<'a> {
+    // each of these is written so
+    Each(&'a [Put]),
+    // these values are written so behind a byte ff, as an array and then as an array in an array
+    Behind(&'a [Value<'a>], &'a [u8]),
+}
+
+fn first_answered_otherwise(
+    alloc: Global,
+    ranks: &Ranks<'_>,
+    asked: Asked<'_>,
+) -> Result<Option<&'static str>, Fault> {
+    match asked {
+        Asked::Each(cases) => first_by_ranks_otherwise(alloc, ranks, cases),
+        Asked::Behind(all, want) => {
+            if are_put_behind(alloc, ranks, all, want)? {
+                return Ok(None);
+            }
+            Ok(Some("an array and the array of it"))
+        }
+    }
+}
+
+// Alone owns ranks.
+fn first_put_otherwise<'a>(
+    alloc: Global,
+    added: Added<'a>,
+    asked: Asked<'_>,
+) -> Result<Option<&'static str>, Fault> {
+    let ranks = ranks_of(alloc, added)?;
+    first_answered_otherwise(alloc, &ranks, asked)
 }
 
 #[rattlefmt::skip]
@@ -103,29 +173,7 @@ fn a_value_takes_the_fewest_bytes(rt: HostRuntime) -> Result<(), Fail> {
         ("false", Value::Bool(false), &[1, 0x1f]),
         ("true", Value::Bool(true), &[1, 0x3f]),
     ];
-    none_wrong(first_put_otherwise(rt.alloc(), &CASES))
-}
-
-// The field LA;->a:I and the method LA;->b()V: the strings I, LA;, V, a and b, the types I, LA; and V.
-fn add_members<'a>(needed: &mut Needed<'a>, arena: &'a Bump) -> Result<(), Fault> {
-    needed.add_field(field(arena, "LA;", "a", "I")?)?;
-    let b = method(arena, "LA;", "b", "V", &[])?;
-    needed.add_method(arena, b)
-}
-
-fn ranks_of_members<'a>(alloc: Global, arena: &'a Bump) -> Result<Ranks<'a>, Fault> {
-    let mut needed = Needed::new(alloc);
-    add_members(&mut needed, arena)?;
-    needed.freeze()
-}
-
-fn first_name_put_otherwise(
-    alloc: Global,
-    arena: &Bump,
-    cases: &[Put],
-) -> Result<Option<&'static str>, Fault> {
-    let ranks = ranks_of_members(alloc, arena)?;
-    first_by_ranks_otherwise(alloc, &ranks, cases)
+    none_wrong(first_put_otherwise(rt.alloc(), Added::None, Asked::Each(&CASES)))
 }
 
 #[test]
@@ -139,40 +187,17 @@ fn a_name_is_written_by_its_kind_and_its_rank(rt: HostRuntime) -> Result<(), Fai
         ("the enum", Value::Enum(&FIELD), &[1, 0x1b, 0]),
     ];
     let arena = Bump::new(rt.alloc());
-    none_wrong(first_name_put_otherwise(rt.alloc(), &arena, &CASES))
+    let (added, asked) = (Added::Members(&arena), Asked::Each(&CASES));
+    none_wrong(first_put_otherwise(rt.alloc(), added, asked))
 }
 
-// The strings of one unit each, from U+0000 on, so many.
-fn add_units<'a>(needed: &mut Needed<'a>, units: &'a [u16]) -> Result<(), Fault> {
-    for unit in units {
-        needed.add_string(Str {
-            units: std::slice::from_ref(unit),
-        })?;
-    }
-    Ok(())
-}
-
-fn ranks_of_units<'a>(alloc: Global, units: &'a [u16]) -> Result<Ranks<'a>, Fault> {
-    let mut needed = Needed::new(alloc);
-    add_units(&mut needed, units)?;
-    needed.freeze()
-}
-
-fn first_of_units_otherwise(
-    alloc: Global,
-    units: &[u16],
-    cases: &[Put],
-) -> Result<Option<&'static str>, Fault> {
-    let ranks = ranks_of_units(alloc, units)?;
-    first_by_ranks_otherwise(alloc, &ranks, cases)
-}
-
+// With the strings of one unit each, from U+0000 on, so many.
 fn first_of_257_otherwise(alloc: Global, cases: &[Put]) -> Result<Option<&'static str>, Fault> {
     let mut units = Vec::new(alloc);
     for unit in 0..257u16 {
         units.push(unit)?;
     }
-    first_of_units_otherwise(alloc, &units, cases)
+    first_put_otherwise(alloc, Added::Units(&units), Asked::Each(cases))
 }
 
 #[test]
@@ -231,25 +256,36 @@ fn put_both(out: &mut Vec<u8>, ranks: &Ranks<'_>, all: &[Value<'_>]) -> Result<(
     Ok(())
 }
 
-// Whether these values are written so behind a byte ff, as an array and then as an array in an array.
-fn are_put_behind(alloc: Global, all: &[Value<'_>], want: &[u8]) -> Result<bool, Fault> {
-    let ranks = Needed::new(alloc).freeze()?;
+fn are_put_behind(
+    alloc: Global,
+    ranks: &Ranks<'_>,
+    all: &[Value<'_>],
+    want: &[u8],
+) -> Result<bool, Fault> {
     let mut out = vec![in alloc; 0xffu8; 1]?;
-    put_both(&mut out, &ranks, all)?;
+    put_both(&mut out, ranks, all)?;
     Ok(out.as_slice() == want)
+}
+
+fn first_behind_otherwise(
+    alloc: Global,
+    all: &[Value<'_>],
+    want: &[u8],
+) -> Result<Option<&'static str>, Fault> {
+    first_put_otherwise(alloc, Added::None, Asked::Behind(all, want))
 }
 
 #[test]
 fn no_value_is_written_behind_its_count(rt: HostRuntime) -> Result<(), Fail> {
     static WANT: [u8; 5] = [0xff, 0x00, 0x01, 0x1c, 0x00];
-    is_so(are_put_behind(rt.alloc(), &[], &WANT))
+    none_wrong(first_behind_otherwise(rt.alloc(), &[], &WANT))
 }
 
 #[test]
 fn null_and_true_are_written_behind_their_count(rt: HostRuntime) -> Result<(), Fail> {
     static VALUES: [Value<'static>; 2] = [Value::Null, Value::Bool(true)];
     static WANT: [u8; 9] = [0xff, 0x02, 0x1e, 0x3f, 0x01, 0x1c, 0x02, 0x1e, 0x3f];
-    is_so(are_put_behind(rt.alloc(), &VALUES, &WANT))
+    none_wrong(first_behind_otherwise(rt.alloc(), &VALUES, &WANT))
 }
 
 // So many times the int 300, and the bytes of its array, of an array of it, behind a byte ff.
@@ -265,7 +301,7 @@ fn put_ints(
     Ok(())
 }
 
-fn are_1000_ints_put(alloc: Global) -> Result<bool, Fault> {
+fn first_of_1000_otherwise(alloc: Global) -> Result<Option<&'static str>, Fault> {
     let mut values = Vec::new(alloc);
     let mut ints = Vec::new(alloc);
     put_ints(&mut values, &mut ints, 1000)?;
@@ -273,10 +309,10 @@ fn are_1000_ints_put(alloc: Global) -> Result<bool, Fault> {
     want.extend_from_slice(&ints)?;
     want.extend_from_slice(&[0x01, 0x1c, 0xe8, 0x07])?;
     want.extend_from_slice(&ints)?;
-    are_put_behind(alloc, &values, &want)
+    first_behind_otherwise(alloc, &values, &want)
 }
 
 #[test]
 fn a_thousand_values_are_written(rt: HostRuntime) -> Result<(), Fail> {
-    is_so(are_1000_ints_put(rt.alloc()))
+    none_wrong(first_of_1000_otherwise(rt.alloc()))
 }

@@ -23,17 +23,16 @@ fn answers_so(answer: Result<(), Fault>, code: u16, place: u64) -> bool {
 }
 
 // Without memory and by hash.
-fn is_ruled_so(alloc: Global, case: &Ruled) -> bool {
-    let (_, classes, code, place) = case;
+fn is_ruled_so<'a>(alloc: Global, classes: &'a [Class<'a>], code: u16, place: u64) -> bool {
     let program = Program { classes };
-    answers_so(well_formed(&program), *code, *place)
-        && answers_so(well_formed_in(alloc, &program), *code, *place)
+    answers_so(well_formed(&program), code, place)
+        && answers_so(well_formed_in(alloc, &program), code, place)
 }
 
 fn first_ruled_otherwise(alloc: Global, cases: &[Ruled]) -> Option<&'static str> {
-    for case in cases {
-        if !is_ruled_so(alloc, case) {
-            return Some(case.0);
+    for (what, classes, code, place) in cases {
+        if !is_ruled_so(alloc, classes, *code, *place) {
+            return Some(*what);
         }
     }
     None
@@ -147,7 +146,7 @@ const METHOD: Method<'static> = Method {
 #[rattlefmt::skip]
 #[test]
 fn names_and_kinds_of_types_are_ruled(rt: HostRuntime) -> Result<(), Fail> {
-    static CASES: [Ruled; 8] = [
+    static CASES: [Ruled; 9] = [
         ("no class", &[], 0, 0),
         ("a class with a field, a method and a superclass", &[Class { superclass: Some(B), statics: &[FIELD], directs: &[METHOD], ..EMPTY }], 0, 0),
         ("a class that is an array", &[Class { ty: INTS, ..EMPTY }], fault::PROGRAM_NAME, 0),
@@ -155,6 +154,7 @@ fn names_and_kinds_of_types_are_ruled(rt: HostRuntime) -> Result<(), Fail> {
         ("a field that is void", &[Class { instances: &[Member { ty: VOID, ..FIELD }], ..EMPTY }], fault::PROGRAM_NAME, 0),
         ("a field without a name", &[Class { statics: &[Member { name: NO_NAME, ..FIELD }], ..EMPTY }], fault::PROGRAM_NAME, 0),
         ("a parameter that is void", &[Class { virtuals: &[Method { proto: &Proto { ret: INT, params: &[VOID] }, ..METHOD }], ..EMPTY }], fault::PROGRAM_NAME, 0),
+        ("a virtual method with an opcode of another format", &[Class { virtuals: &[Method { code: Some(&Code { insns: &[Insn::I10x { op: 0x01 }], ..BODY }), ..METHOD }], ..EMPTY }], fault::PROGRAM_OPERAND, 0),
         ("an array in a value that names no type", &[Class { statics: &[FIELD], values: &[Value::Array(&[Value::Null, Value::Desc(NO_TYPE)])], ..EMPTY }], fault::PROGRAM_NAME, 0),
     ];
     none_wrong(Ok(first_ruled_otherwise(rt.alloc(), &CASES)))
@@ -242,47 +242,84 @@ const COVER: Try<'static> = Try {
     catch_all: None,
 };
 
+// A body, and the fault of a class whose one method has it.
+type RuledBody = (&'static str, &'static Code<'static>, u16);
+
+fn method_with<'a>(code: &'a Code<'a>) -> Method<'a> {
+    Method {
+        code: Some(code),
+        ..METHOD
+    }
+}
+
+fn class_of<'a>(directs: &'a [Method<'a>]) -> Class<'a> {
+    Class { directs, ..EMPTY }
+}
+
+fn classes_of<'a>(arena: &'a Bump, code: &'a Code<'a>) -> Result<&'a [Class<'a>], Fault> {
+    let mut directs = Vec::new(arena);
+    directs.push(method_with(code))?;
+    let mut classes = Vec::new(arena);
+    classes.push(class_of(into_bump_slice(directs)))?;
+    Ok(into_bump_slice(classes))
+}
+
+fn first_body_ruled_otherwise(
+    alloc: Global,
+    arena: &Bump,
+    cases: &[RuledBody],
+) -> Result<Option<&'static str>, Fault> {
+    for (what, code, fault) in cases {
+        let classes = classes_of(arena, code)?;
+        if !is_ruled_so(alloc, classes, *fault, 0) {
+            return Ok(Some(*what));
+        }
+    }
+    Ok(None)
+}
+
 #[rattlefmt::skip]
 #[test]
 fn instructions_are_ruled(rt: HostRuntime) -> Result<(), Fail> {
-    static CASES: [Ruled; 15] = [
-        ("return-void", &[Class { directs: &[Method { code: Some(&BODY), ..METHOD }], ..EMPTY }], 0, 0),
-        ("no instruction", &[Class { directs: &[Method { code: Some(&Code { insns: &[], ..BODY }), ..METHOD }], ..EMPTY }], fault::PROGRAM_OPERAND, 0),
-        ("an opcode of another format", &[Class { virtuals: &[Method { code: Some(&Code { insns: &[Insn::I10x { op: 0x01 }], ..BODY }), ..METHOD }], ..EMPTY }], fault::PROGRAM_OPERAND, 0),
-        ("const-string of a type", &[Class { directs: &[Method { code: Some(&Code { insns: &[Insn::I21c { op: 0x1a, a: 0, name: Name::Desc(A) }], ..BODY }), ..METHOD }], ..EMPTY }], fault::PROGRAM_OPERAND, 0),
-        ("a register above 15", &[Class { directs: &[Method { code: Some(&Code { insns: &[Insn::I12x { op: 0x01, a: 16, b: 0 }], ..BODY }), ..METHOD }], ..EMPTY }], fault::PROGRAM_OPERAND, 0),
-        ("goto itself", &[Class { directs: &[Method { code: Some(&Code { insns: &[Insn::I10t { op: 0x28, to: 0 }], ..BODY }), ..METHOD }], ..EMPTY }], fault::PROGRAM_TARGET, 0),
-        ("goto/32 itself", &[Class { directs: &[Method { code: Some(&Code { insns: &[Insn::I30t { op: 0x2a, to: 0 }], ..BODY }), ..METHOD }], ..EMPTY }], 0, 0),
-        ("goto past the end", &[Class { directs: &[Method { code: Some(&Code { insns: &[Insn::I10t { op: 0x28, to: 1 }], ..BODY }), ..METHOD }], ..EMPTY }], fault::PROGRAM_TARGET, 0),
-        ("goto/32 past the end", &[Class { directs: &[Method { code: Some(&Code { insns: &[Insn::I30t { op: 0x2a, to: 4294967295 }], ..BODY }), ..METHOD }], ..EMPTY }], fault::PROGRAM_TARGET, 0),
-        ("if-eqz past the end", &[Class { directs: &[Method { code: Some(&Code { insns: &[Insn::I21t { op: 0x38, a: 0, to: 1 }], ..BODY }), ..METHOD }], ..EMPTY }], fault::PROGRAM_TARGET, 0),
-        ("if-eq past the end", &[Class { directs: &[Method { code: Some(&Code { insns: &[Insn::I22t { op: 0x32, a: 0, b: 0, to: 1 }], ..BODY }), ..METHOD }], ..EMPTY }], fault::PROGRAM_TARGET, 0),
-        ("goto a payload", &[Class { directs: &[Method { code: Some(&Code { insns: &[Insn::I10t { op: 0x28, to: 1 }, Insn::Data { width: 1, bytes: &[] }], ..BODY }), ..METHOD }], ..EMPTY }], fault::PROGRAM_TARGET, 0),
-        ("the last register", &[Class { directs: &[Method { code: Some(&Code { insns: &[Insn::I11x { op: 0x0f, a: 0 }], ..BODY }), ..METHOD }], ..EMPTY }], 0, 0),
-        ("a register past it", &[Class { directs: &[Method { code: Some(&Code { insns: &[Insn::I11x { op: 0x0f, a: 1 }], ..BODY }), ..METHOD }], ..EMPTY }], fault::PROGRAM_REGISTER, 0),
-        ("ins past the registers", &[Class { directs: &[Method { code: Some(&Code { ins: 2, ..BODY }), ..METHOD }], ..EMPTY }], fault::PROGRAM_REGISTER, 0),
+    static CASES: [RuledBody; 14] = [
+        ("return-void", &BODY, 0),
+        ("no instruction", &Code { insns: &[], ..BODY }, fault::PROGRAM_OPERAND),
+        ("const-string of a type", &Code { insns: &[Insn::I21c { op: 0x1a, a: 0, name: Name::Desc(A) }], ..BODY }, fault::PROGRAM_OPERAND),
+        ("a register above 15", &Code { insns: &[Insn::I12x { op: 0x01, a: 16, b: 0 }], ..BODY }, fault::PROGRAM_OPERAND),
+        ("goto itself", &Code { insns: &[Insn::I10t { op: 0x28, to: 0 }], ..BODY }, fault::PROGRAM_TARGET),
+        ("goto/32 itself", &Code { insns: &[Insn::I30t { op: 0x2a, to: 0 }], ..BODY }, 0),
+        ("goto past the end", &Code { insns: &[Insn::I10t { op: 0x28, to: 1 }], ..BODY }, fault::PROGRAM_TARGET),
+        ("goto/32 past the end", &Code { insns: &[Insn::I30t { op: 0x2a, to: 4294967295 }], ..BODY }, fault::PROGRAM_TARGET),
+        ("if-eqz past the end", &Code { insns: &[Insn::I21t { op: 0x38, a: 0, to: 1 }], ..BODY }, fault::PROGRAM_TARGET),
+        ("if-eq past the end", &Code { insns: &[Insn::I22t { op: 0x32, a: 0, b: 0, to: 1 }], ..BODY }, fault::PROGRAM_TARGET),
+        ("goto a payload", &Code { insns: &[Insn::I10t { op: 0x28, to: 1 }, Insn::Data { width: 1, bytes: &[] }], ..BODY }, fault::PROGRAM_TARGET),
+        ("the last register", &Code { insns: &[Insn::I11x { op: 0x0f, a: 0 }], ..BODY }, 0),
+        ("a register past it", &Code { insns: &[Insn::I11x { op: 0x0f, a: 1 }], ..BODY }, fault::PROGRAM_REGISTER),
+        ("ins past the registers", &Code { ins: 2, ..BODY }, fault::PROGRAM_REGISTER),
     ];
-    none_wrong(Ok(first_ruled_otherwise(rt.alloc(), &CASES)))
+    let arena = Bump::new(rt.alloc());
+    none_wrong(first_body_ruled_otherwise(rt.alloc(), &arena, &CASES))
 }
 
 #[rattlefmt::skip]
 #[test]
 fn payloads_and_tries_are_ruled(rt: HostRuntime) -> Result<(), Fail> {
-    static CASES: [Ruled; 14] = [
-        ("a switch and its payload", &[Class { directs: &[Method { code: Some(&Code { insns: &[Insn::I31t { op: 0x2b, a: 0, to: 1 }, Insn::Packed { first: 0, targets: &[0] }], ..BODY }), ..METHOD }], ..EMPTY }], 0, 0),
-        ("a switch's payload that nothing uses", &[Class { directs: &[Method { code: Some(&Code { insns: &[Insn::Packed { first: 0, targets: &[] }], ..BODY }), ..METHOD }], ..EMPTY }], fault::PROGRAM_PAYLOAD_USE, 0),
-        ("two switches with one payload", &[Class { directs: &[Method { code: Some(&Code { insns: &[Insn::I31t { op: 0x2b, a: 0, to: 2 }, Insn::I31t { op: 0x2b, a: 0, to: 2 }, Insn::Packed { first: 0, targets: &[] }], ..BODY }), ..METHOD }], ..EMPTY }], fault::PROGRAM_PAYLOAD_USE, 0),
-        ("a switch with a payload of another kind", &[Class { directs: &[Method { code: Some(&Code { insns: &[Insn::I31t { op: 0x2c, a: 0, to: 1 }, Insn::Data { width: 2, bytes: &[] }], ..BODY }), ..METHOD }], ..EMPTY }], fault::PROGRAM_PAYLOAD_USE, 0),
-        ("a switch to a place past the end", &[Class { directs: &[Method { code: Some(&Code { insns: &[Insn::I31t { op: 0x2b, a: 0, to: 1 }, Insn::Packed { first: 0, targets: &[2] }], ..BODY }), ..METHOD }], ..EMPTY }], fault::PROGRAM_TARGET, 0),
-        ("a switch by keys to a place past the end", &[Class { directs: &[Method { code: Some(&Code { insns: &[Insn::I31t { op: 0x2c, a: 0, to: 1 }, Insn::Sparse { keys: &[7], targets: &[2] }], ..BODY }), ..METHOD }], ..EMPTY }], fault::PROGRAM_TARGET, 0),
-        ("a switch whose payload is past the end", &[Class { directs: &[Method { code: Some(&Code { insns: &[Insn::I31t { op: 0x2b, a: 0, to: 1 }], ..BODY }), ..METHOD }], ..EMPTY }], fault::PROGRAM_PAYLOAD_USE, 0),
-        ("fill-array-data past the end", &[Class { directs: &[Method { code: Some(&Code { insns: &[Insn::I31t { op: 0x26, a: 0, to: 4294967295 }], ..BODY }), ..METHOD }], ..EMPTY }], fault::PROGRAM_PAYLOAD_USE, 0),
-        ("a try with a handler", &[Class { directs: &[Method { code: Some(&Code { tries: &[COVER], ..BODY }), ..METHOD }], ..EMPTY }], 0, 0),
-        ("a try that covers nothing", &[Class { directs: &[Method { code: Some(&Code { tries: &[Try { to: 0, ..COVER }], ..BODY }), ..METHOD }], ..EMPTY }], fault::PROGRAM_TRY, 0),
-        ("a try past the end", &[Class { directs: &[Method { code: Some(&Code { tries: &[Try { to: 2, ..COVER }], ..BODY }), ..METHOD }], ..EMPTY }], fault::PROGRAM_TRY, 0),
-        ("a handler that is no instruction", &[Class { directs: &[Method { code: Some(&Code { tries: &[Try { catches: &[Catch { ty: A, at: 1 }], ..COVER }], ..BODY }), ..METHOD }], ..EMPTY }], fault::PROGRAM_TRY, 0),
-        ("a handler of all that is no instruction", &[Class { directs: &[Method { code: Some(&Code { tries: &[Try { catch_all: Some(1), ..COVER }], ..BODY }), ..METHOD }], ..EMPTY }], fault::PROGRAM_TRY, 0),
-        ("a try without a handler", &[Class { directs: &[Method { code: Some(&Code { tries: &[Try { catches: &[], ..COVER }], ..BODY }), ..METHOD }], ..EMPTY }], fault::PROGRAM_TRY, 0),
+    static CASES: [RuledBody; 14] = [
+        ("a switch and its payload", &Code { insns: &[Insn::I31t { op: 0x2b, a: 0, to: 1 }, Insn::Packed { first: 0, targets: &[0] }], ..BODY }, 0),
+        ("a switch's payload that nothing uses", &Code { insns: &[Insn::Packed { first: 0, targets: &[] }], ..BODY }, fault::PROGRAM_PAYLOAD_USE),
+        ("two switches with one payload", &Code { insns: &[Insn::I31t { op: 0x2b, a: 0, to: 2 }, Insn::I31t { op: 0x2b, a: 0, to: 2 }, Insn::Packed { first: 0, targets: &[] }], ..BODY }, fault::PROGRAM_PAYLOAD_USE),
+        ("a switch with a payload of another kind", &Code { insns: &[Insn::I31t { op: 0x2c, a: 0, to: 1 }, Insn::Data { width: 2, bytes: &[] }], ..BODY }, fault::PROGRAM_PAYLOAD_USE),
+        ("a switch to a place past the end", &Code { insns: &[Insn::I31t { op: 0x2b, a: 0, to: 1 }, Insn::Packed { first: 0, targets: &[2] }], ..BODY }, fault::PROGRAM_TARGET),
+        ("a switch by keys to a place past the end", &Code { insns: &[Insn::I31t { op: 0x2c, a: 0, to: 1 }, Insn::Sparse { keys: &[7], targets: &[2] }], ..BODY }, fault::PROGRAM_TARGET),
+        ("a switch whose payload is past the end", &Code { insns: &[Insn::I31t { op: 0x2b, a: 0, to: 1 }], ..BODY }, fault::PROGRAM_PAYLOAD_USE),
+        ("fill-array-data past the end", &Code { insns: &[Insn::I31t { op: 0x26, a: 0, to: 4294967295 }], ..BODY }, fault::PROGRAM_PAYLOAD_USE),
+        ("a try with a handler", &Code { tries: &[COVER], ..BODY }, 0),
+        ("a try that covers nothing", &Code { tries: &[Try { to: 0, ..COVER }], ..BODY }, fault::PROGRAM_TRY),
+        ("a try past the end", &Code { tries: &[Try { to: 2, ..COVER }], ..BODY }, fault::PROGRAM_TRY),
+        ("a handler that is no instruction", &Code { tries: &[Try { catches: &[Catch { ty: A, at: 1 }], ..COVER }], ..BODY }, fault::PROGRAM_TRY),
+        ("a handler of all that is no instruction", &Code { tries: &[Try { catch_all: Some(1), ..COVER }], ..BODY }, fault::PROGRAM_TRY),
+        ("a try without a handler", &Code { tries: &[Try { catches: &[], ..COVER }], ..BODY }, fault::PROGRAM_TRY),
     ];
-    none_wrong(Ok(first_ruled_otherwise(rt.alloc(), &CASES)))
+    let arena = Bump::new(rt.alloc());
+    none_wrong(first_body_ruled_otherwise(rt.alloc(), &arena, &CASES))
 }

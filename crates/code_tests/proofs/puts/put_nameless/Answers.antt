@@ -1,11 +1,11 @@
-use Rattle.std.proofs.Common.{subst, sym, ◌∙◌}
+use Rattle.std.proofs.Common.{subst, sym}
 use Rattle.dex_code_put.specs.Fits.{CanBePut}
 use Rattle.dex_names.specs.Closure.{NameRanks, Five}
 use Rattle.dex_program.specs.View as view
 use Rattle.code_tests.proofs.FormedCodes.{can_be_put}
-use Rattle.code_tests.proofs.puts.item_of.Goals as goal
+use Rattle.code_tests.proofs.puts.put_nameless.Goals as goal
 
 pub put_code-requires-clause-ranked : goal.put_code-requires-clause-ranked
 put_code-requires-clause-ranked c =
-    subst (λ (s : Five). CanBePut (NameRanks s) (view.code c.args.code.now)) (sym (c.in_ok-ranks.ensures.same ∙ c.new.ensures))
+    subst (λ (s : Five). CanBePut (NameRanks s) (view.code c.args.code.now)) (sym c.requires.ranks)
     (can_be_put (view.code c.args.code.now) c.requires.insns c.requires.tries c.requires.short)

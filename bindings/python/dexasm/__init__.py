@@ -1,0 +1,129 @@
+"""Checks, lists, assembles and strips .dex files (Dalvik Executable, version 035), by libdexasm.
+
+    >>> import dexasm
+    >>> dexasm.check(open("hello.dex", "rb").read())
+    >>> text = dexasm.list(open("hello.dex", "rb").read())
+    >>> made = dexasm.assemble(text)
+
+What is refused raises Refused, with the fault's number, name and place; want of memory raises MemoryError. The library is the one that
+the variable DEXASM_LIBRARY names, or libdexasm.so beside this file, or the one that tools/build made in this repository, or the system's.
+"""
+from __future__ import annotations
+
+import ctypes
+import os
+
+__all__ = ["Refused", "assemble", "check", "fault_name", "list", "strip", "version"]
+
+Data = bytes | bytearray | memoryview
+
+_ANSWERED, _REFUSED, _MEMORY, _TOO_SMALL = 0, 1, 4, 5
+_HERE = os.path.dirname(os.path.abspath(__file__))
+_BUILT = os.path.join(_HERE, *[".."] * 3, "crates", "dexasm_c", "out", "built")
+
+
+class Refused(ValueError):
+    """The bytes are refused: the number and the name of a rule that is broken, and the place where it is.
+
+    The place is a byte of a file, a line of a listing from 1, or a class of a program from 0: docs/FORMAT.md says which by the number.
+    """
+
+    def __init__(self, number: int, name: str, place: int) -> None:
+        super().__init__(f"refused {number} {name} at {place}")
+        self.number, self.name, self.place = number, name, place
+
+    def __reduce__(self) -> tuple[type[Refused], tuple[int, str, int]]:
+        return Refused, (self.number, self.name, self.place)
+
+
+class _Fault(ctypes.Structure):
+    _fields_ = [("code", ctypes.c_uint16), ("place", ctypes.c_uint64)]
+
+
+def _load() -> ctypes.CDLL:
+    named = os.environ.get("DEXASM_LIBRARY")
+    if named:
+        return ctypes.CDLL(named)
+    for folder in (_HERE, _BUILT):
+        path = os.path.join(folder, "libdexasm.so")
+        if os.path.exists(path):
+            return ctypes.CDLL(path)
+    return ctypes.CDLL("libdexasm.so.0")
+
+
+def _declare(library: ctypes.CDLL) -> ctypes.CDLL:
+    size, fault = ctypes.c_size_t, ctypes.POINTER(_Fault)
+    given, out = [ctypes.c_char_p, size], [ctypes.c_char_p, size, ctypes.POINTER(size)]
+    for name, words in {
+        "check": [*given, fault],
+        "list": [*given, *out, fault],
+        "assemble": [*given, ctypes.c_bool, *out, fault],
+        "strip": [*given, *out, fault],
+        "fault_name": [ctypes.c_uint16, *out],
+        "version": out,
+    }.items():
+        call = getattr(library, f"dexasm_{name}")
+        call.argtypes, call.restype = words, ctypes.c_uint32
+    return library
+
+
+_library = _declare(_load())
+
+
+def _text(call: ctypes._CFuncPtr, *words: int) -> str:
+    """A short text that the library tells."""
+    out, needed = ctypes.create_string_buffer(64), ctypes.c_size_t()
+    call(*words, out, len(out), ctypes.byref(needed))
+    return out.raw[: needed.value].decode("ascii")
+
+
+def _raise(status: int, fault: _Fault) -> None:
+    if status == _REFUSED:
+        raise Refused(fault.code, fault_name(fault.code), fault.place)
+    if status == _MEMORY:
+        raise MemoryError("dexasm: out of memory")
+
+
+def _answer(call: ctypes._CFuncPtr, given: bytes, capacity: int, *words: bool) -> bytes:
+    """The answer to a job; if it is longer than was guessed, the job is done again."""
+    while True:
+        out, needed, fault = ctypes.create_string_buffer(capacity), ctypes.c_size_t(), _Fault()
+        status = call(given, len(given), *words, out, capacity, ctypes.byref(needed), ctypes.byref(fault))
+        _raise(status, fault)
+        if status == _ANSWERED:
+            return ctypes.string_at(out, needed.value)
+        capacity = needed.value
+
+
+def check(data: Data) -> None:
+    """Returns if the bytes are a file that keeps every rule of the format."""
+    given, fault = bytes(data), _Fault()
+    _raise(_library.dexasm_check(given, len(given), ctypes.byref(fault)), fault)
+
+
+def list(data: Data) -> str:
+    """The listing of a file's program."""
+    given = bytes(data)
+    return _answer(_library.dexasm_list, given, 4 * len(given) + 64).decode("ascii")
+
+
+def assemble(text: str | Data, align: bool = False) -> bytes:
+    """The file of a listed program; with align a nop is put before each payload that would stand at an odd address."""
+    given = text.encode() if isinstance(text, str) else bytes(text)
+    return _answer(_library.dexasm_assemble, given, len(given) + 4096, align)
+
+
+def strip(data: Data) -> bytes:
+    """A file's program written anew, with nothing to spare."""
+    given = bytes(data)
+    return _answer(_library.dexasm_strip, given, len(given) + 64)
+
+
+def fault_name(number: int) -> str:
+    """The name of a fault's number."""
+    return _text(_library.dexasm_fault_name, number)
+
+
+def version() -> str:
+    """The version of the library."""
+    return _text(_library.dexasm_version)

@@ -1,0 +1,48 @@
+-- What a call leaves in its caller's memory, by how it ended. `old` and `new` are the caller's buffer before and after.
+use Rattle.std.specs.Prelude.{◌≡◌, ◌≢◌, ℕ, ◌<◌, ◌≤◌, List, ◌++◌, length, drop}
+use Rattle.dex_bytes.specs.declared.fault.Fault.{Fault}
+use Rattle.dexasm_job.specs.declared.job.Job.{Job}
+use Rattle.dexasm_job.specs.declared.job.Job.TheVariants.{Check}
+use Rattle.dexasm_jobs.specs.Answers.{Answer, Refusal}
+use Rattle.dexasm_c.specs.declared.ending.CFault.{CFault}
+use Rattle.dexasm_c.specs.declared.ending.Ending.{Ending}
+use Rattle.dexasm_c.specs.declared.ending.Ending.TheVariants.{Answered, Refused, Memory, TooSmall}
+
+-- no fault is told
+abbrev pub none : CFault
+none = record { code = 0; place = 0 }
+
+-- the fault that is told
+abbrev pub told : CFault → Fault
+told fault = record { code = fault.code; place = fault.place }
+
+-- Bytes are put: all of them at the front of the buffer, which is as it was behind them; or none, where it is too small for them.
+-- Their number is told.
+abbrev pub Puts : Ending → List ℕ → List ℕ → List ℕ → ℕ → Type 0
+Puts Answered made old new needed =
+    (length made ≤ length old) × (new ≡ made ++ drop (length made) old) × (needed ≡ length made)
+Puts TooSmall made old new needed = (length old < length made) × (new ≡ old) × (needed ≡ length made)
+Puts _ made old new needed = ⊥
+
+-- A fault is told: want of memory, or another one.
+abbrev pub Tells : Ending → Fault → CFault → Type 0
+Tells Refused fault tells = (fault.code ≢ 255) × (told tells ≡ fault)
+Tells Memory fault tells = (fault.code ≡ 255) × (told tells ≡ fault)
+Tells _ fault tells = ⊥
+
+-- The job's answer to the given bytes is put, or its length is told where it is too long; or the job refuses them with the fault that
+-- is told, or had not enough memory, and the buffer is as it was.
+abbrev pub Ends : Ending → Job → List ℕ → List ℕ → List ℕ → ℕ → CFault → Type 0
+Ends Answered job given old new needed fault =
+    (made : List ℕ) × Answer job given made × Puts Answered made old new needed × (fault ≡ none)
+Ends TooSmall job given old new needed fault =
+    (made : List ℕ) × Answer job given made × Puts TooSmall made old new needed × (fault ≡ none)
+Ends Refused job given old new needed fault = Refusal job given (told fault) × (new ≡ old) × (needed ≡ 0)
+Ends Memory job given old new needed fault = (fault.code ≡ 255) × (new ≡ old) × (needed ≡ 0)
+
+-- The same of a check, whose answer is its ending alone.
+abbrev pub Checks : Ending → List ℕ → CFault → Type 0
+Checks Answered given fault = (made : List ℕ) × Answer Check given made × (fault ≡ none)
+Checks Refused given fault = Refusal Check given (told fault)
+Checks Memory given fault = fault.code ≡ 255
+Checks TooSmall given fault = ⊥

@@ -1,0 +1,68 @@
+//! `example FILE OUT` reads a .dex file, prints its classes, with how many instructions each method has, and writes the program anew, with
+//! the constant 41 made 42.
+#![tactic(auto)]
+
+mod patch;
+
+use anyhow::{Error, Result, anyhow, bail};
+use bumpalo::Bump;
+use dex_base::{Fault, fault_name};
+use dex_program::{Method, Program};
+use dex_words::{put_name, put_proto};
+use patch::patch;
+use std::alloc::Global;
+use std::io::Write;
+use std::{env, fs};
+
+fn main(rt: HostRuntime) -> Result<()> {
+    let words: Vec<String> = env::args(&rt)?.collect(rt.alloc())?;
+    let [_, file, out] = words.as_slice() else {
+        bail!("usage: example FILE OUT");
+    };
+    let bytes = fs::read(&rt, file.as_str())?;
+    let arena = Bump::new(rt.alloc());
+    let program = dex_file::read(rt.alloc(), &arena, &bytes).map_err(refused)?;
+    let shown = show(rt.alloc(), &program).map_err(refused)?;
+    rt.stdout().write_all(&shown)?;
+    let patched = patch(&arena, &program).map_err(refused)?;
+    let made = write(rt.alloc(), &patched).map_err(refused)?;
+    fs::write(&rt, out.as_str(), &made)?;
+    Ok(())
+}
+
+fn refused(fault: Fault) -> Error {
+    let (code, name, place) = (fault.code, fault_name(fault.code), fault.place);
+    anyhow!("refused {code} {name} at {place}")
+}
+
+// A program made by hand has to be well formed before it is written: a file's always is.
+fn write(alloc: Global, program: &Program<'_>) -> Result<Vec<u8>, Fault> {
+    dex_rules::well_formed_in(alloc, program)?;
+    dex_write::write(alloc, program)
+}
+
+// A line for each class, and one for each of its methods.
+fn show(alloc: Global, program: &Program<'_>) -> Result<Vec<u8>, Fault> {
+    let mut shown = Vec::new(alloc);
+    for class in program.classes {
+        put_name(&mut shown, class.ty.text.units)?;
+        shown.push(b'\n')?;
+        for method in class.directs.iter().chain(class.virtuals) {
+            put_method(&mut shown, method)?;
+        }
+    }
+    Ok(shown)
+}
+
+fn put_method(shown: &mut Vec<u8>, method: &Method<'_>) -> Result<(), Fault> {
+    let count = match method.code {
+        Some(code) => code.insns.len(),
+        None => 0,
+    };
+    let alloc = *shown.allocator();
+    shown.extend_from_slice(b"  ")?;
+    put_name(shown, method.name.units)?;
+    put_proto(shown, method.proto)?;
+    shown.extend_from_slice(format!(in alloc; ": {count} instructions\n")?.as_bytes())?;
+    Ok(())
+}
