@@ -1,5 +1,5 @@
 -- The labels of a map.
-use Rattle.std.proofs.Common.{◌≡◌, ℕ, Bool, true, false, cond, ◌⊎◌, inl, inr, List, [], ◌∷◌, ◌++◌, map, if◌then◌else◌, Option, Some, None, option_copied, is_some, refl, sym, ap, ◌∙◌}
+use Rattle.std.proofs.Common.{◌≡◌, ℕ, Bool, true, false, cond, ◌⊎◌, inl, inr, List, [], ◌∷◌, ◌++◌, map, if◌then◌else◌, Option, Some, None, is_some, refl, sym, ap, ◌∙◌}
 use Rattle.std.proofs.lemmas.Bool.{and_parts, eqb-true}
 use lib.Dec.{eqb}
 use Rattle.std.specs.Borrow.{Bor}
@@ -8,7 +8,7 @@ use Rattle.indexmap.specs.IndexMap.{insert_entry}
 use Rattle.dex_slots.specs.Keys.{same}
 use Rattle.dex_labels.specs.Labels.{Label, lookup, with_label}
 use Rattle.dex_labels.specs.View.{label, place_in}
-use Rattle.dex_labels.specs.declared.labels.Place.{Place}
+use Rattle.dex_labels.specs.declared.known.Place.{Place}
 
 cases_bool : (b : Bool) → (b ≡ true) ⊎ (b ≡ false)
 cases_bool true = inl refl
@@ -22,7 +22,7 @@ pub found_place : (name : List ℕ) (test : Bor (List ℕ) → Bool) → ((k : B
 found_place name test t [] = refl
 found_place name test t (e ∷ es) = rw (t e.0) (chosen (same name e.0.now) e.0 e.1 (found_in test es) (lookup name (map label es)) (found_place name test t es))
 
-same_true : (xs ys : List ℕ) → same xs ys ≡ true → xs ≡ ys
+pub same_true : (xs ys : List ℕ) → same xs ys ≡ true → xs ≡ ys
 unfolding same
 same_true [] [] e = refl
 same_true [] (y ∷ ys) e = absurd cc

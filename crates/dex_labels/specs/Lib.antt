@@ -1,3 +1,4 @@
 pub mod Lines
 pub mod Labels
+pub mod Order
 pub mod View

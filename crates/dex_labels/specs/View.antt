@@ -2,7 +2,7 @@
 use Rattle.std.specs.Prelude.{ℕ, List, Option, option_map}
 use Rattle.std.specs.Borrow.{Bor}
 use Rattle.dex_labels.specs.Labels as says
-use Rattle.dex_labels.specs.declared.labels.Place.{Place}
+use Rattle.dex_labels.specs.declared.known.Place.{Place}
 
 -- A label, held by its name.
 abbrev pub label : Bor (List ℕ) × Place → says.Label

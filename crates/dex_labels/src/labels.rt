@@ -9,21 +9,13 @@ ghost use Rattle.dex_slots.specs.View.{datum};
 ghost use Rattle.dex_labels.specs.Lines.{lines, is_comment};
 ghost use Rattle.dex_labels.specs.Labels as says;
 ghost use Rattle.dex_labels.specs.Labels.{SpellsHere, SpellsAll, MisspellsAll};
-ghost use Rattle.dex_labels.specs.View.{label, place_in};
 
+use crate::known::{Labels, Place};
 use crate::pieces::split_line;
 use bumpalo::Bump;
 use dex_base::{Fault, fault};
 use dex_slots::{Datum, Key, Mark, Slot, fault_of, is_same, key_text, read_datum};
 use dex_words::Word;
-use indexmap::IndexMap;
-
-/// The line that a label stands on, and the number of the instruction that it marks.
-#[derive(Clone, Copy)]
-pub struct Place {
-    pub line: u64,
-    pub number: u64,
-}
 
 /// Whether a byte can stand in a label.
 fn is_name_byte(c: u8) -> bool
@@ -116,34 +108,14 @@ fn is_stop(words: &[u8]) -> bool
     is_same(key_text(Key::Try).as_bytes(), word) || is_same(key_text(Key::End).as_bytes(), word)
 }
 
-/// One label more, unless one of its name is there.
-fn put_label<'t>(
-    labels: &mut IndexMap<&'t [u8], Place>,
-    name: &'t [u8],
-    place: Place,
-) -> Result<(), Fault>
-    ensures put { OnOk result (map label labels.new.entries ≡ says.with_label (map label labels.old.entries) (record { name = name.now; line = place.line; number = place.number })) }
-    ensures memory { IsOkUnless result memory }
-{
-    // So a name is hashed once: what a second label of its name puts there is taken back.
-    if let Some(first) = labels.insert(name, place)? {
-        labels.insert(name, first)?;
-    }
-    Ok(())
-}
-
 /// Puts the labels of the code whose first line begins the text, which is the line of this number, in place of those that
 /// are there.
-pub fn look_ahead<'t>(
-    labels: &mut IndexMap<&'t [u8], Place>,
-    text: &'t [u8],
-    first: u64,
-) -> Result<(), Fault>
+pub fn look_ahead<'t>(labels: &mut Labels<'t>, text: &'t [u8], first: u64) -> Result<(), Fault>
     requires { first + length text.now < 2 ^ 64 }
-    ensures ahead { OnOk result (map label labels.new.entries ≡ says.labels_ahead [] first 0 (lines text.now)) }
+    ensures ahead { OnOk result (labels.new ≡ says.labels_ahead [] first 0 (lines text.now)) }
     ensures memory { IsOkUnless result memory }
 {
-    labels.truncate(0);
+    labels.clear();
     let mut line = first;
     let mut number = 0u64;
     let mut rest = text;
@@ -154,7 +126,7 @@ pub fn look_ahead<'t>(
                 return Ok(());
             }
             if is_mark(words) {
-                put_label(labels, up_to_space(words), Place { line, number })?;
+                labels.put(up_to_space(words), Place { line, number })?;
             } else {
                 number += 1;
             }
@@ -165,35 +137,11 @@ pub fn look_ahead<'t>(
     Ok(())
 }
 
-/// The label at this index, where it has this name.
-fn place_at(labels: &IndexMap<&[u8], Place>, index: usize, name: &[u8]) -> Option<Place>
-    ensures { IfSome result (λ place. Some place ≡ place_in (says.lookup name.now (map label labels.now.entries))) }
-{
-    let (there, place) = labels.get_index(index)?;
-    if is_same(there, name) {
-        return Some(*place);
-    }
-    None
-}
-
-/// The label of this name. The one at the index `near` is found without hashing the name.
-pub fn place_of(labels: &IndexMap<&[u8], Place>, near: usize, name: &[u8]) -> Option<Place>
-    ensures { result ≡ place_in (says.lookup name.now (map label labels.now.entries)) }
-{
-    if let Some(place) = place_at(labels, near, name) {
-        return Some(place);
-    }
-    match labels.get(name) {
-        Some(place) => Some(*place),
-        None => None,
-    }
-}
-
 /// The instruction that the label of this name marks.
-fn marked(labels: &IndexMap<&[u8], Place>, near: usize, name: &[u8]) -> u32
-    ensures { result ≡ says.marked_by (says.lookup name.now (map label labels.now.entries)) }
+fn marked(labels: &Labels<'_>, near: usize, name: &[u8]) -> u32
+    ensures { result ≡ says.marked_by (says.lookup name.now labels.now) }
 {
-    match place_of(labels, near, name) {
+    match labels.place_of(near, name) {
         Some(place) => place.number.min(4294967295) as u32,
         None => 4294967295,
     }
@@ -207,13 +155,9 @@ fn is_target(slot: Slot) -> bool
 }
 
 /// What a word says where a target stands.
-fn read_label<'a>(
-    labels: &IndexMap<&[u8], Place>,
-    near: usize,
-    one: Word<'a, '_>,
-) -> Option<Datum<'a>>
-    ensures found { IfSome result (λ d. says.SpellsLabel (map label labels.now.entries) (word one.entry) (datum d)) }
-    ensures none { IfNone result ((d : Said) → says.SpellsLabel (map label labels.now.entries) (word one.entry) d → ⊥) }
+fn read_label<'a>(labels: &Labels<'_>, near: usize, one: Word<'a, '_>) -> Option<Datum<'a>>
+    ensures found { IfSome result (λ d. says.SpellsLabel labels.now (word one.entry) (datum d)) }
+    ensures none { IfNone result ((d : Said) → says.SpellsLabel labels.now (word one.entry) d → ⊥) }
 {
     match one {
         Word::Plain(text) => {
@@ -229,13 +173,13 @@ fn read_label<'a>(
 /// What a word says in a slot of the second form.
 fn read_here<'a>(
     bump: &'a Bump,
-    labels: &IndexMap<&[u8], Place>,
+    labels: &Labels<'_>,
     near: usize,
     slot: Slot,
     one: Word<'a, '_>,
 ) -> Result<Option<Datum<'a>>, Fault>
-    ensures found { IfOk result (λ r. IfSome r (λ d. SpellsHere (map label labels.now.entries) slot (word one.entry) (datum d))) }
-    ensures none { IfOk result (λ r. IfNone r ((d : Said) → SpellsHere (map label labels.now.entries) slot (word one.entry) d → ⊥)) }
+    ensures found { IfOk result (λ r. IfSome r (λ d. SpellsHere labels.now slot (word one.entry) (datum d))) }
+    ensures none { IfOk result (λ r. IfNone r ((d : Said) → SpellsHere labels.now slot (word one.entry) d → ⊥)) }
     ensures memory { IsOkUnless result memory }
 {
     if is_target(slot) {
@@ -258,15 +202,15 @@ fn fault_here(slot: Slot) -> u16
 /// at the index `near` is found without hashing its name.
 pub fn read_all<'a, 'b>(
     bump: &'a Bump,
-    labels: &IndexMap<&[u8], Place>,
+    labels: &Labels<'_>,
     near: usize,
     slots: &[Slot],
     words: &[Word<'a, 'b>],
     says: &mut Vec<Datum<'a>, &'a Bump>,
 ) -> Result<Option<u16>, Fault>
     requires { length slots.now ≡ length words.now }
-    ensures all { IfOk result (λ r. IfNone r (SpellsAll (map label labels.now.entries) slots.now (map word words.now) (map datum says.new.items))) }
-    ensures bad { IfOk result (λ r. IfSome r (λ code. MisspellsAll (map label labels.now.entries) slots.now (map word words.now) code)) }
+    ensures all { IfOk result (λ r. IfNone r (SpellsAll labels.now slots.now (map word words.now) (map datum says.new.items))) }
+    ensures bad { IfOk result (λ r. IfSome r (λ code. MisspellsAll labels.now slots.now (map word words.now) code)) }
     ensures memory { IsOkUnless result memory }
 {
     says.clear();

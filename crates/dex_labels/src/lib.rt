@@ -7,8 +7,10 @@
 //! ```
 #![tactic(auto)]
 
+mod known;
 mod labels;
 mod pieces;
 
-pub use labels::{Place, is_label, is_mark, look_ahead, place_of, read_all};
+pub use known::{Labels, Place};
+pub use labels::{is_label, is_mark, look_ahead, read_all};
 pub use pieces::{is_skipped, split_line};

@@ -3,7 +3,7 @@ use Rattle.std.proofs.Common.{◌≡◌, ◌≢◌, ℕ, ◌==◌, ◌||◌, Boo
 use Rattle.std.proofs.lemmas.Bool.{eq-eqb, ne_eqb}
 use Rattle.dex_labels.specs.Labels.{Label, is_label, lookup}
 use Rattle.dex_labels.specs.View.{place_in}
-use Rattle.dex_labels.specs.declared.labels.Place.{Place}
+use Rattle.dex_labels.specs.declared.known.Place.{Place}
 use Rattle.dex_lines.specs.Forms.{is_two}
 use Rattle.dex_lines.specs.Places.{is_start, is_insns}
 use Rattle.dex_words.specs.Words.{Word, plain_word}

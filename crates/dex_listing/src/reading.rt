@@ -8,7 +8,6 @@ ghost use Rattle.dex_slots.specs.View.{datum};
 ghost use Rattle.dex_shapes.specs.Shapes.{Shape};
 ghost use Rattle.dex_shapes.specs.ShapeView.{shape};
 ghost use Rattle.dex_draft.specs.View.{state};
-ghost use Rattle.dex_labels.specs.View.{label};
 ghost use Rattle.dex_labels.specs.Lines.{lines, is_skipped};
 ghost use Rattle.dex_listing.specs.Forms.{Shapes, may_be, Spells, Misspells};
 ghost use Rattle.dex_listing.specs.Text as spec;
@@ -19,16 +18,13 @@ use crate::aside::Aside;
 use bumpalo::Bump;
 use dex_base::{Fault, fault};
 use dex_draft::Draft;
-use dex_labels::{
-    Place, is_label, is_mark, is_skipped, look_ahead, place_of, read_all, split_line,
-};
+use dex_labels::{Labels, is_label, is_mark, is_skipped, look_ahead, read_all, split_line};
 use dex_lines::{Form, Stage, is_insns, is_start, is_two, make_line, may_stand};
 use dex_program::Program;
 use dex_rules::well_formed_in;
 use dex_shapes::{Found, read_bare_shape, read_shape};
 use dex_slots::{Datum, Kind, Slot, is_same, read_operands};
 use dex_words::{Word, read_words};
-use indexmap::IndexMap;
 use std::alloc::Global;
 
 /// A listing that is being read: its form, the labels of the open code, how many of their lines were read, and what its
@@ -36,7 +32,7 @@ use std::alloc::Global;
 #[derive(Drop)]
 pub struct Reading<'a, 't> {
     pub form: Form,
-    pub labels: IndexMap<&'t [u8], Place>,
+    pub labels: Labels<'t>,
     pub passed: usize,
     pub draft: Draft<'a>,
 }
@@ -101,7 +97,7 @@ impl<'a, 't> Reading<'a, 't> {
         if !is_label(name) {
             return Aside::Refused(fault::LINE_NAME);
         }
-        match place_of(&self.labels, self.passed, name) {
+        match self.labels.place_of(self.passed, name) {
             Some(place) => {
                 if place.line == self.draft.lines {
                     return Aside::Mark;
@@ -197,7 +193,7 @@ impl<'a, 't> Reading<'a, 't> {
                 look_ahead(&mut self.labels, behind, self.draft.lines + 1)
             }
             (Form::Two, Kind::EndCode) => {
-                self.labels.truncate(0);
+                self.labels.clear();
                 Ok(())
             }
             _ => Ok(()),
@@ -226,15 +222,15 @@ fn read_form<'a, 'b>(
 fn read_says<'a, 'b>(
     arena: &'a Bump,
     form: Form,
-    labels: &IndexMap<&[u8], Place>,
+    labels: &Labels<'_>,
     near: usize,
     slots: &[Slot],
     words: &[Word<'a, 'b>],
     says: &mut Vec<Datum<'a>, &'a Bump>,
 ) -> Result<Option<u16>, Fault>
     requires { length slots.now ≡ length words.now }
-    ensures all { IfOk result (λ r. IfNone r (Spells form (map label labels.now.entries) slots.now (map word words.now) (map datum says.new.items))) }
-    ensures bad { IfOk result (λ r. IfSome r (λ code. Misspells form (map label labels.now.entries) slots.now (map word words.now) code)) }
+    ensures all { IfOk result (λ r. IfNone r (Spells form labels.now slots.now (map word words.now) (map datum says.new.items))) }
+    ensures bad { IfOk result (λ r. IfSome r (λ code. Misspells form labels.now slots.now (map word words.now) code)) }
     ensures memory { IsOkUnless result memory }
 {
     match form {
@@ -358,7 +354,7 @@ fn begin<'a, 't>(alloc: Global, arena: &'a Bump) -> Reading<'a, 't>
 {
     Reading {
         form: Form::One,
-        labels: IndexMap::new(alloc),
+        labels: Labels::new(alloc),
         passed: 0,
         draft: Draft::new(alloc, arena),
     }

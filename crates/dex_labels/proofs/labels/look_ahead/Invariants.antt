@@ -1,12 +1,11 @@
-use Rattle.std.proofs.Common.{◌≡◌, ◌≤◌, ◌+◌, [], length, map}
+use Rattle.std.proofs.Common.{◌≡◌, ◌≤◌, ◌+◌, [], length}
 use Rattle.dex_labels.specs.Lines.{lines}
 use Rattle.dex_labels.specs.Labels.{labels_ahead}
-use Rattle.dex_labels.specs.View.{label}
 use Rattle.dex_labels.proofs.labels.look_ahead.Given as goal
 
 abbrev pub invariant-loop-next : goal.invariant-loop-next
 invariant-loop-next l = record {
-  ahead : labels_ahead [] l.first 0 (lines l.text) ≡ labels_ahead (map label l.labels.entries) l.line l.number (lines l.rest);
+  ahead : labels_ahead [] l.first 0 (lines l.text) ≡ labels_ahead l.labels l.line l.number (lines l.rest);
   line : l.line + length l.rest ≤ l.first + length l.text;
   number : l.number + length l.rest ≤ length l.text;
 }

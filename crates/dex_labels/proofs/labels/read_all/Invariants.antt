@@ -3,11 +3,10 @@ use Rattle.dex_words.specs.View.{word}
 use Rattle.dex_slots.specs.Data.{Datum}
 use Rattle.dex_slots.specs.View.{datum}
 use Rattle.dex_labels.specs.Labels.{SpellsAll, MisspellsAll}
-use Rattle.dex_labels.specs.View.{label}
 use Rattle.dex_labels.proofs.labels.read_all.Given as goal
 
 abbrev pub invariant-loop-i : goal.invariant-loop-i
 invariant-loop-i l = record {
-  all : (more : List Datum) → SpellsAll (map label l.labels.entries) (drop l.i l.slots) (map word (drop l.i l.words)) more → SpellsAll (map label l.labels.entries) l.slots (map word l.words) (map datum l.says.items ++ more);
-  bad : (code : ℕ) → MisspellsAll (map label l.labels.entries) (drop l.i l.slots) (map word (drop l.i l.words)) code → MisspellsAll (map label l.labels.entries) l.slots (map word l.words) code;
+  all : (more : List Datum) → SpellsAll l.labels (drop l.i l.slots) (map word (drop l.i l.words)) more → SpellsAll l.labels l.slots (map word l.words) (map datum l.says.items ++ more);
+  bad : (code : ℕ) → MisspellsAll l.labels (drop l.i l.slots) (map word (drop l.i l.words)) code → MisspellsAll l.labels l.slots (map word l.words) code;
 }

@@ -7,7 +7,6 @@ use Rattle.dex_lines.specs.Lines.{line_of}
 use Rattle.dex_lines.specs.LineView.{line}
 use Rattle.dex_draft.specs.View.{state}
 use Rattle.dex_labels.specs.Lines.{lines}
-use Rattle.dex_labels.specs.View.{label}
 use Rattle.dex_listing.specs.Text.{labels_behind}
 use Rattle.dex_listing.specs.View.{reading}
 use Rattle.dex_listing.proofs.RefusedLaws.{shapeless, misplaced, misspelled, twice, taken, drop_map}
@@ -46,7 +45,7 @@ unfolding reading state
 returns-clause-taken c =
     let ws = map word c.args.words.now in
     let ls = lines c.args.behind.now in
-    let es = map label c.args.listing.now.labels.entries in
+    let es = c.args.listing.now.labels in
     let form = c.args.listing.now.form in
     let e : map word c.split_at.result.1.now ≡ drop c.in-Some.found.lead ws = ap (map word) c.split_at.ensures.back ∙ drop_map c.in-Some.found.lead c.args.words.now in
     taken (reading c.args.listing.now) (reading c.look.new.self) ls ws (shape c.in-Some.found c.read_form.new.slots.items ws) (map datum c.read_says.new.says.items) (line c.in_ok-next.next) (state c.add.new.self)

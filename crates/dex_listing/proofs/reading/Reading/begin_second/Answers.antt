@@ -1,7 +1,6 @@
-use Rattle.std.proofs.Common.{◌≡◌, List, [], map, ap}
+use Rattle.std.proofs.Common.{List, ap}
 use Rattle.dex_draft.specs.View.{state}
 use Rattle.dex_labels.specs.Labels.{Label}
-use Rattle.dex_labels.specs.View.{label}
 use Rattle.dex_lines.specs.declared.form.Form.TheVariants.{Two}
 use Rattle.dex_lines.specs.declared.stage.Stage.TheVariants.{Top}
 use Rattle.dex_listing.specs.View.{reading}
@@ -9,6 +8,4 @@ use Rattle.dex_listing.proofs.reading.Reading.begin_second.Goals as goal
 
 pub returns-clause-second : goal.returns-clause-second
 unfolding reading state
-returns-clause-second c =
-    let e : map label c.clear.new.self.entries ≡ [] = ap (map label) c.clear.ensures.empty in
-    ap (λ (ls : List Label). record { form = Two; labels = ls; base = record (state c.args.self.now.draft) { stage = Top } }) e
+returns-clause-second c = ap (λ (ls : List Label). record { form = Two; labels = ls; base = record (state c.args.self.now.draft) { stage = Top } }) c.clear.ensures
