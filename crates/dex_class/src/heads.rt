@@ -1,9 +1,10 @@
 // The first pass over class_defs: all of each class but its static values and its code, faults 40 to 47.
-ghost use Rattle.std.specs.Prelude.{◌≢◌, ◌<◌, IfOk, IfErr, OnOk, map};
+ghost use Rattle.std.specs.Prelude.{◌≡◌, ◌≢◌, ◌<◌, [], IfOk, IfErr, OnOk, map};
 ghost use Rattle.dex_container.specs.Layout.{size_of};
 ghost use Rattle.dex_bytes.specs.Fault.{memory};
 ghost use Rattle.dex_program.specs.View.{desc};
 ghost use Rattle.dex_tables.specs.Names.{AreNamesOf, AreRows};
+ghost use Rattle.dex_tables.specs.Reading.{AreFirst};
 ghost use Rattle.dex_tables.specs.TableFaults.{BreaksAt, IsFirstRow};
 ghost use Rattle.dex_class.specs.ClassFaults.{ClassBreaks, ClassHolds, ClassesHold};
 ghost use Rattle.dex_class.specs.Classes.{InterfacesAt};
@@ -97,6 +98,31 @@ fn read_head<'a, 's>(
     })
 }
 
+// The heads of all rows, one behind the other.
+fn push_heads<'a, 's>(
+    alloc: Global,
+    arena: &'a Bump,
+    scratch: &'s Bump,
+    sections: &Sections<'_>,
+    tables: &Tables<'a>,
+    places: &Places,
+    kept: &mut IndexMap<u32, &'a [Desc<'a>]>,
+    heads: &mut Vec<Head<'a, 's>, &'s Bump>,
+) -> Result<(), Fault>
+    requires names { AreNamesOf sections.now tables.now }
+    requires places { ArePlaces sections.now (size_of sections.now 5) places.now.first.items places.now.last.items }
+    requires kept { AreKept (λ off list. InterfacesAt sections.now off (map desc list.now)) kept.old }
+    requires none { heads.old.items ≡ [] }
+    ensures rows { OnOk result (AreFirst IsHead ClassHolds sections.now (size_of sections.now 5) heads.new.items) }
+    ensures err { IfErr result (λ e. e ≢ memory → IsFirstRow ClassBreaks ClassHolds sections.now 5 e) }
+{
+    for i in 0..class_count(sections) {
+        let head = read_head(alloc, arena, scratch, sections, tables, places, kept, i)?;
+        heads.push(head)?;
+    }
+    Ok(())
+}
+
 /// The heads of all rows.
 pub fn read_heads<'a, 's>(
     alloc: Global,
@@ -110,15 +136,14 @@ pub fn read_heads<'a, 's>(
     ensures hold { IfOk result (λ _. ClassesHold sections.now) }
     ensures err { IfErr result (λ e. e ≢ memory → IsFirstRow ClassBreaks ClassHolds sections.now 5 e) }
 {
-    let count = class_count(sections);
     let places = read_places(alloc, sections)?;
+    let mut heads: Vec<Head<'a, 's>, &'s Bump> = Vec::with_capacity(
+        scratch,
+        class_count(sections) as usize,
+    )?;
     let mut kept = IndexMap::new(alloc);
-    let mut heads: Vec<Head<'a, 's>, &'s Bump> = Vec::with_capacity(scratch, count as usize)?;
-    for i in 0..count {
-        let head = read_head(
-            alloc, arena, scratch, sections, tables, &places, &mut kept, i,
-        )?;
-        heads.push(head)?;
-    }
+    push_heads(
+        alloc, arena, scratch, sections, tables, &places, &mut kept, &mut heads,
+    )?;
     Ok(into_bump_slice(heads))
 }

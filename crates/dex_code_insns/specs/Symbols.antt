@@ -1,7 +1,7 @@
 -- What a raw instruction says: an index stands for a name, and an offset leads to an instruction.
 -- Page: "Dalvik bytecode": string@, type@, field@ and method@ indices, and "Dalvik Executable instruction formats": the letters
 -- c and t of a format's ID.
-use Rattle.std.specs.Prelude.{ℕ, ℤ, ◌≡◌, zero, suc, ◌+◌, ◌/◌, List, [], ◌∷◌, length, Option, Some, None, option_map, ⊤}
+use Rattle.std.specs.Prelude.{ℕ, ℤ, Bool, true, false, ◌≡◌, zero, suc, ◌+◌, ◌/◌, List, [], ◌∷◌, length, Option, Some, None, option_map, ⊤}
 use Rattle.std.specs.Borrow.{Bor}
 use Rattle.dex_insn.specs.Raw as raw
 use Rattle.dex_insn.specs.Raw.{Raw}
@@ -81,6 +81,25 @@ places T [] = Some []
 places T (z ∷ zs) = both (T z) (places T zs)
 
 -- ---- both
+
+-- it has an offset: the letter t of its format
+unfoldable pub has_offset : Raw → Bool
+has_offset (raw.I10t op offset) = true
+has_offset (raw.I20t op offset) = true
+has_offset (raw.I21t op a offset) = true
+has_offset (raw.I22t op a b offset) = true
+has_offset (raw.I30t op offset) = true
+has_offset (raw.I31t op a offset) = true
+has_offset _ = false
+
+-- it has an index: the letter c of its format
+unfoldable pub has_index : Raw → Bool
+has_index (raw.I21c op a index) = true
+has_index (raw.I22c op a b index) = true
+has_index (raw.I31c op a index) = true
+has_index (raw.I35c op n regs index) = true
+has_index (raw.I3rc op n first index) = true
+has_index _ = false
 
 -- The symbolic instruction with this name for its index, where T says which instruction an offset leads to: none if one of its
 -- offsets leads nowhere.

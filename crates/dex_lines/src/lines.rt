@@ -1,12 +1,12 @@
 //! Lines made of what their slots say.
 
-ghost use Rattle.std.specs.Prelude.{◌≡◌, ◌++◌, map, drop, IfOk, IsOkUnless};
+ghost use Rattle.std.specs.Prelude.{◌≡◌, ◌++◌, map, drop, false, IfOk, IsOkUnless};
 ghost use Rattle.dex_bytes.specs.Fault.{memory};
 ghost use Rattle.dex_insn.specs.Opcodes.{format_of};
 ghost use Rattle.dex_program.specs.View.{insn};
 ghost use Rattle.dex_slots.specs.View.{datum};
 ghost use Rattle.dex_slots.specs.Data.{int_of, word_of};
-ghost use Rattle.dex_lines.specs.Lines.{line_of, insn_of, alternate};
+ghost use Rattle.dex_lines.specs.Lines.{line_of, takes_memory, insn_of, alternate};
 ghost use Rattle.dex_lines.specs.LineView.{line};
 
 use crate::line::Line;
@@ -81,45 +81,58 @@ fn words_between<'a>(alloc: &'a Bump, said: &[Datum<'_>]) -> Result<&'a [u32], F
     Ok(into_bump_slice(numbers))
 }
 
-/// The line of this kind whose slots say this.
+/// The line of a kind that takes no memory.
 #[rattlefmt::skip]
-#[tactic(auto, unfolding(crate::specs::Lines::line_of))]
-pub fn make_line<'a>(bump: &'a Bump, kind: Kind, said: &[Datum<'a>]) -> Result<Line<'a>, Fault>
-    ensures ok { IfOk result (λ l. line l ≡ line_of kind (map datum said.now)) }
-    ensures memory { IsOkUnless result memory }
+#[tactic(auto, unfolding(crate::specs::Lines::line_of, crate::specs::Lines::takes_memory))]
+fn flat_line<'a>(kind: Kind, said: &[Datum<'a>]) -> Line<'a>
+    requires { takes_memory kind ≡ false }
+    ensures { line result ≡ line_of kind (map datum said.now) }
 {
     let first = datum_at(said, 0);
     let second = datum_at(said, 1);
     match kind {
-        Kind::First => Ok(Line::First),
-        Kind::OpenClass => Ok(Line::OpenClass(type_of(first), word_of(second))),
-        Kind::EndClass => Ok(Line::EndClass),
-        Kind::Super => Ok(Line::Super(type_of(first))),
-        Kind::Implements => Ok(Line::Implements(type_of(first))),
-        Kind::Source => Ok(Line::Source(text_of(first))),
-        Kind::Static => Ok(Line::Static(make_member(said), None)),
+        Kind::First => Line::First,
+        Kind::OpenClass => Line::OpenClass(type_of(first), word_of(second)),
+        Kind::EndClass => Line::EndClass,
+        Kind::Super => Line::Super(type_of(first)),
+        Kind::Implements => Line::Implements(type_of(first)),
+        Kind::Source => Line::Source(text_of(first)),
+        Kind::Static => Line::Static(make_member(said), None),
+        Kind::Instance => Line::Instance(make_member(said)),
+        Kind::Direct => Line::Direct(make_method(said)),
+        Kind::Virtual => Line::Virtual(make_method(said)),
+        Kind::OpenCode => Line::OpenCode(half_of(first), half_of(second), half_of(datum_at(said, 2))),
+        Kind::EndCode => Line::EndCode,
+        Kind::Plain(op) => Line::Insn(make_insn(op, said)),
+        Kind::Elements => Line::Insn(Insn::Data { width: half_of(first), bytes: elements_of(second) }),
+        Kind::Try => Line::Try(word_of(first), word_of(second)),
+        Kind::Catch => Line::Catch(type_of(first), word_of(second)),
+        Kind::CatchAll => Line::CatchAll(word_of(first)),
+        Kind::Given | Kind::Packed | Kind::Sparse => unreachable!(),
+    }
+}
+
+/// The line of this kind whose slots say this.
+#[tactic(auto, unfolding(crate::specs::Lines::line_of, crate::specs::Lines::takes_memory))]
+pub fn make_line<'a>(bump: &'a Bump, kind: Kind, said: &[Datum<'a>]) -> Result<Line<'a>, Fault>
+    ensures ok { IfOk result (λ l. line l ≡ line_of kind (map datum said.now)) }
+    ensures memory { IsOkUnless result memory }
+{
+    match kind {
         Kind::Given => {
             let initial = make_value(bump, behind(said, 4))?;
             Ok(Line::Static(make_member(said), Some(initial)))
         }
-        Kind::Instance => Ok(Line::Instance(make_member(said))),
-        Kind::Direct => Ok(Line::Direct(make_method(said))),
-        Kind::Virtual => Ok(Line::Virtual(make_method(said))),
-        Kind::OpenCode => Ok(Line::OpenCode(half_of(first), half_of(second), half_of(datum_at(said, 2)))),
-        Kind::EndCode => Ok(Line::EndCode),
-        Kind::Plain(op) => Ok(Line::Insn(make_insn(op, said))),
         Kind::Packed => {
+            let first = int_of(datum_at(said, 0));
             let targets = words_of(bump, behind(said, 1))?;
-            Ok(Line::Insn(Insn::Packed { first: int_of(first), targets }))
+            Ok(Line::Insn(Insn::Packed { first, targets }))
         }
         Kind::Sparse => {
             let keys = ints_between(bump, said)?;
             let targets = words_between(bump, behind(said, 1))?;
             Ok(Line::Insn(Insn::Sparse { keys, targets }))
         }
-        Kind::Elements => Ok(Line::Insn(Insn::Data { width: half_of(first), bytes: elements_of(second) })),
-        Kind::Try => Ok(Line::Try(word_of(first), word_of(second))),
-        Kind::Catch => Ok(Line::Catch(type_of(first), word_of(second))),
-        Kind::CatchAll => Ok(Line::CatchAll(word_of(first))),
+        _ => Ok(flat_line(kind, said)),
     }
 }

@@ -7,3 +7,4 @@ pub mod NaturalLaws
 pub mod NameLaws
 pub mod BitLaws
 pub mod WrittenLaws
+pub mod PlainLaws

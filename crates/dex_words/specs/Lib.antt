@@ -5,3 +5,4 @@ pub mod View
 pub mod Numbers
 pub mod Names
 pub mod Written
+pub mod Plain

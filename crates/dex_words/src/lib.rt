@@ -16,6 +16,7 @@ mod labels;
 mod law;
 mod names;
 mod numbers;
+mod plain;
 mod print;
 mod print_hex;
 mod print_names;

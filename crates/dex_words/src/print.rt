@@ -5,6 +5,7 @@ ghost use Rattle.std.specs.List.{flat_map};
 ghost use Rattle.dex_words.specs.Texts.{unit_text, escape_text, text_word, glyph};
 ghost use Rattle.dex_bytes.specs.Fault.{memory};
 
+use crate::plain::{put_bytes, split_plain};
 use dex_base::Fault;
 
 /// A hexadecimal digit in lower case.
@@ -49,6 +50,17 @@ fn put_unit(out: &mut Vec<u8>, unit: u16) -> Result<(), Fault>
     Ok(())
 }
 
+/// Appends units one by one as they stand in a text.
+fn put_units(out: &mut Vec<u8>, units: &[u16]) -> Result<(), Fault>
+    ensures ok { OnOk result (out.new.items ≡ out.old.items ++ flat_map unit_text units.now) }
+    ensures memory { IsOkUnless result memory }
+{
+    for unit in units {
+        put_unit(out, *unit)?;
+    }
+    Ok(())
+}
+
 /// Appends a text in quotes: the units 0x20 to 0x7e stand for themselves, a quote and a backslash behind a backslash, all
 /// others are escaped as `\uXXXX` in lower case.
 ///
@@ -57,10 +69,10 @@ pub fn put_text(out: &mut Vec<u8>, units: &[u16]) -> Result<(), Fault>
     ensures ok { OnOk result (out.new.items ≡ out.old.items ++ text_word units.now) }
     ensures memory { IsOkUnless result memory }
 {
+    let (plain, rest) = split_plain(units, 32);
     out.push(34)?;
-    for unit in units {
-        put_unit(out, *unit)?;
-    }
+    put_bytes(out, plain)?;
+    put_units(out, rest)?;
     out.push(34)?;
     Ok(())
 }

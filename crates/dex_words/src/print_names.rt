@@ -6,6 +6,7 @@ ghost use Rattle.dex_bytes.specs.Fault.{memory};
 ghost use Rattle.dex_program.specs.View.{desc, proto, field_ref, method_ref};
 ghost use Rattle.dex_words.specs.Written.{name_unit, name_text, proto_units, field_units, method_units};
 
+use crate::plain::{put_bytes, split_plain};
 use crate::print::put_escape;
 use dex_base::Fault;
 use dex_program::{Desc, FieldRef, MethodRef, Proto};
@@ -25,10 +26,8 @@ fn put_name_unit(out: &mut Vec<u8>, unit: u16) -> Result<(), Fault>
     Ok(())
 }
 
-/// Appends a name or a descriptor: an ASCII character stands for itself, any other unit is escaped as `\uXXXX`.
-///
-/// The only error is want of memory, behind which part of the name may stand in `out`.
-pub fn put_name(out: &mut Vec<u8>, units: &[u16]) -> Result<(), Fault>
+/// Appends units one by one as they stand in a name.
+fn put_name_units(out: &mut Vec<u8>, units: &[u16]) -> Result<(), Fault>
     ensures ok { OnOk result (out.new.items ≡ out.old.items ++ name_text units.now) }
     ensures memory { IsOkUnless result memory }
 {
@@ -36,6 +35,18 @@ pub fn put_name(out: &mut Vec<u8>, units: &[u16]) -> Result<(), Fault>
         put_name_unit(out, *unit)?;
     }
     Ok(())
+}
+
+/// Appends a name or a descriptor: an ASCII character stands for itself, any other unit is escaped as `\uXXXX`.
+///
+/// The only error is want of memory, behind which part of the name may stand in `out`.
+pub fn put_name(out: &mut Vec<u8>, units: &[u16]) -> Result<(), Fault>
+    ensures ok { OnOk result (out.new.items ≡ out.old.items ++ name_text units.now) }
+    ensures memory { IsOkUnless result memory }
+{
+    let (plain, rest) = split_plain(units, 33);
+    put_bytes(out, plain)?;
+    put_name_units(out, rest)
 }
 
 /// Appends the descriptors of parameters.
