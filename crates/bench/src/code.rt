@@ -3,13 +3,13 @@
 
 use crate::words::number;
 use bumpalo::Bump;
+use code_read::read_code;
 use dex_base::Fault;
-use dex_code::read_code;
 use dex_container::{Sections, kind, open};
-use dex_program::{Code, Insn};
-use dex_tables::Tables;
+use program_types::{Code, Insn};
 use std::alloc::Global;
 use std::io;
+use tables_rows::Tables;
 
 // Where an instruction leads, or what its operands add up to.
 fn weight(one: &Insn<'_>) -> u64 {

@@ -4,9 +4,9 @@
 use crate::words::{number, word};
 use bumpalo::Bump;
 use dex_base::Fault;
-use dex_listing::parse;
-use dex_print::print_1;
-use dex_program::Program;
+use listing_parse::parse;
+use listing_print::print_1;
+use program_types::Program;
 use std::alloc::{AllocError, Global};
 use std::io;
 

@@ -4,15 +4,15 @@
 
 ghost use Rattle.std.specs.Prelude.{IfOk, IsTrue, All, map};
 ghost use Rattle.dex_base.specs.Descriptor.{IsDescriptor};
-ghost use Rattle.dex_program.specs.View.{desc};
+ghost use Rattle.program_types.specs.View.{desc};
 
 use crate::words::{number, word};
 use bumpalo::Bump;
 use dex_base::{Fault, fault, is_descriptor};
-use dex_names::{Needed, Ranks};
-use dex_program::{Desc, FieldRef, MethodRef, Proto, Str, place_proto, place_str};
+use program_types::{Desc, FieldRef, MethodRef, Proto, Str, place_proto, place_str};
 use std::alloc::Global;
 use std::io;
+use tables_names::{Needed, Ranks};
 
 /// `Labcdefgh;` for a number, so that the order of numbers is that of texts.
 fn numbered<'a>(arena: &'a Bump, number: u32) -> Result<Str<'a>, Fault> {

@@ -5,9 +5,9 @@ use crate::words::number;
 use bumpalo::Bump;
 use dex_base::Fault;
 use dex_container::{Sections, kind, open};
-use dex_tables::Tables;
 use std::alloc::Global;
 use std::io;
+use tables_rows::Tables;
 
 // The units of all strings, and of the names of all fields and methods.
 fn units_of(sections: &Sections<'_>, tables: &Tables<'_>) -> u64 {

@@ -2,15 +2,15 @@
 use Rattle.std.proofs.Common.{ℕ, ◌≡◌, ◌<◌, ◌≤◌, ◌++◌, List, [], ◌∷◌, Option, None, Some}
 use Rattle.std.specs.Prelude.{IfSome}
 use Rattle.std.specs.List.{AllByRecursion, flat_map}
-use Rattle.dex_code_put.specs.Fits.{AllInsns, CanBePut, HasIndexBelow, ShortFits, short_name, wide_code}
-use Rattle.dex_code_rules.proofs.OperandLaws.{operands_of}
-use Rattle.dex_code_rules.specs.CodeRules.{OperandsHold, TargetsHold, PayloadsHold, TriesHold}
+use Rattle.code_put.specs.Fits.{AllInsns, CanBePut, HasIndexBelow, ShortFits, short_name, wide_code}
+use Rattle.program_code_rules.proofs.OperandLaws.{operands_of}
+use Rattle.program_code_rules.specs.CodeRules.{OperandsHold, TargetsHold, PayloadsHold, TriesHold}
 use Rattle.dex_insn.specs.declared.opcode.IndexKind.TheVariants as kind
-use Rattle.dex_names.specs.Closure.{NameRanks, nothing}
-use Rattle.dex_program.specs.Content.{Name, OfText, OfDesc, OfField, OfMethod, Code}
-use Rattle.dex_program.specs.Formed.{IsFormed, RegistersHold, insn_at}
-use Rattle.dex_program.specs.Kinds.{IsOfKind}
-use Rattle.dex_program.specs.Mentions.{names_of_insn, names_of_try}
+use Rattle.tables_names.specs.Closure.{NameRanks, nothing}
+use Rattle.program_types.specs.Content.{Name, OfText, OfDesc, OfField, OfMethod, Code}
+use Rattle.program_types.specs.Formed.{IsFormed, RegistersHold, insn_at}
+use Rattle.program_types.specs.Kinds.{IsOfKind}
+use Rattle.program_types.specs.Mentions.{names_of_insn, names_of_try}
 
 pub formed_of : (c : Code) → OperandsHold c → TargetsHold c → PayloadsHold c → TriesHold c → RegistersHold c → c.registers < 65536 → c.ins < 65536 → c.outs < 65536 → IsFormed c
 formed_of c o t p r g registers ins outs = record {

@@ -1,13 +1,13 @@
 //! Files of one code item, and what is read of them.
 
 use bumpalo::Bump;
+use code_read::read_code;
 use dex_base::Fault;
-use dex_code::read_code;
 use dex_container::open;
-use dex_program::Code;
 use dex_samples::{NOTHING, Rows, file_of, item_of};
-use dex_tables::Tables;
+use program_types::Code;
 use std::alloc::Global;
+use tables_rows::Tables;
 
 /// Where the code item begins.
 pub const CODE_AT: u32 = 180;

@@ -3,8 +3,8 @@
 use crate::fixtures::read_units;
 use bumpalo::Bump;
 use dex_base::Fault;
-use dex_program::{Code, Insn};
 use dex_samples::none_wrong;
+use program_types::{Code, Insn};
 use std::alloc::Global;
 use std::test::Fail;
 

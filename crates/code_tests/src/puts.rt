@@ -2,24 +2,24 @@
 
 ghost use Rattle.std.specs.Prelude.{◌≡◌, ◌≤◌, ◌<◌, [], IfOk, IsTrue};
 ghost use Rattle.std.specs.List.{flat_map};
-ghost use Rattle.dex_code_put.specs.Fits.{wide_code};
-ghost use Rattle.dex_names.specs.Closure.{nothing};
-ghost use Rattle.dex_program.specs.Formed.{IsFormed};
-ghost use Rattle.dex_program.specs.Mentions.{names_of_insn, names_of_try};
-ghost use Rattle.dex_program.specs.View as view;
+ghost use Rattle.code_put.specs.Fits.{wide_code};
+ghost use Rattle.tables_names.specs.Closure.{nothing};
+ghost use Rattle.program_types.specs.Formed.{IsFormed};
+ghost use Rattle.program_types.specs.Mentions.{names_of_insn, names_of_try};
+ghost use Rattle.program_types.specs.View as view;
 
 use crate::insns::all_told;
 use bumpalo::Bump;
+use code_align::align;
+use code_fits::fits;
+use code_put::{addresses, put_code};
 use dex_base::{Fault, fault};
-use dex_code_align::align;
-use dex_code_fits::fits;
-use dex_code_put::{addresses, put_code};
-use dex_code_rules::{CodeRule, code_holds};
-use dex_names::{Needed, Ranks};
-use dex_program::{Code, Insn, Try};
 use dex_samples::none_wrong;
+use program_code_rules::{CodeRule, code_holds};
+use program_types::{Code, Insn, Try};
 use std::alloc::Global;
 use std::test::Fail;
+use tables_names::{Needed, Ranks};
 
 // const/4, if-eqz over the goto, a goto back to it, return-void, and a try of the two in between.
 static LOOP: Code<'static> = Code {
@@ -162,7 +162,7 @@ fn item_of(alloc: Global, code: &Code<'_>) -> Result<Vec<u8>, Fault>
     put_nameless(alloc, &ranks, code)
 }
 
-#[tactic(auto, unfolding(dex_program::specs::Sizes::insn_units, dex_program::specs::Sizes::total))]
+#[tactic(auto, unfolding(program_types::specs::Sizes::insn_units, program_types::specs::Sizes::total))]
 fn is_put_so(alloc: Global) -> Result<bool, Fault> {
     let item = item_of(alloc, &LOOP)?;
     Ok(item.as_slice() == ITEM.as_slice())
@@ -176,12 +176,12 @@ fn is_refused_so(put: Result<Vec<u8>, Fault>, want: u16) -> bool {
     }
 }
 
-#[tactic(auto, unfolding(dex_program::specs::Sizes::insn_units, dex_program::specs::Sizes::total))]
+#[tactic(auto, unfolding(program_types::specs::Sizes::insn_units, program_types::specs::Sizes::total))]
 fn is_odd_one_refused(alloc: Global) -> bool {
     is_refused_so(item_of(alloc, &ODD), fault::MISALIGNED)
 }
 
-#[tactic(auto, unfolding(dex_program::specs::Sizes::insn_units, dex_program::specs::Sizes::total))]
+#[tactic(auto, unfolding(program_types::specs::Sizes::insn_units, program_types::specs::Sizes::total))]
 fn is_far_one_refused(alloc: Global) -> bool {
     is_refused_so(item_of(alloc, &FAR), fault::BRANCH_OUT_OF_REACH)
 }

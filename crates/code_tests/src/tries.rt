@@ -3,8 +3,8 @@
 use crate::fixtures::read_units;
 use bumpalo::Bump;
 use dex_base::Fault;
-use dex_program::{Catch, Code, Try};
 use dex_samples::none_wrong;
+use program_types::{Catch, Code, Try};
 use std::alloc::Global;
 use std::test::Fail;
 

@@ -1,10 +1,10 @@
 //! Laws of the definitions: functions that do nothing, whose contracts are the laws.
 
 ghost use Rattle.std.specs.Prelude.{◌≡◌, ◌≢◌, ℕ, ◌≤◌, ◌<◌, ◌+◌, ◌*◌, ◌↔◌, List, length, All, slice_index};
-ghost use Rattle.dex_bytes.specs.Grammar.{IsPrefixUnique};
+ghost use Rattle.base_bytes.specs.Grammar.{IsPrefixUnique};
 ghost use Rattle.dex_base.specs.Mutf8.{SpellsUnit, SpellsText, PacksText, mutf8_length};
 ghost use Rattle.dex_base.specs.Descriptor.{IsDescriptor, IsClass, IsArray, IsMemberName, IsPrefixFree};
-ghost use Rattle.dex_bytes.specs.Deciding.{Decided, DecidedFront};
+ghost use Rattle.base_bytes.specs.Deciding.{Decided, DecidedFront};
 
 /// No spelling of a unit begins another one, and it spells one unit.
 pub fn unit_is_prefix_unique()

@@ -1,4 +1,4 @@
-//! Texts: MUTF-8 strings, the order of strings, names and descriptors; and, from `dex_bytes`, faults, numbers in bytes and the
+//! Texts: MUTF-8 strings, the order of strings, names and descriptors; and, from `base_bytes`, faults, numbers in bytes and the
 //! checksum, which all layers share.
 //!
 //! ```
@@ -19,11 +19,11 @@ mod simple_name;
 // What holds of these.
 mod laws;
 
-pub use descriptor::{descriptor_length, is_array, is_class, is_descriptor};
-pub use dex_bytes::{
+pub use base_bytes::{
     Fault, adler32, fault, fault_name, push_words, put_sleb, put_u32_at, put_uleb, read_sleb,
     read_uleb, u16_at, u32_at,
 };
+pub use descriptor::{descriptor_length, is_array, is_class, is_descriptor};
 pub use laws::{
     class_begins_with_l, descriptor_has_no_parenthesis, descriptor_is_prefix_free,
     member_name_has_no_parenthesis, names_are_decided, packed_text_is_one_text,

@@ -1,24 +1,18 @@
-//! Code items, read: the instructions of a method's body and its tries, at a byte offset of a file.
+//! Code items: read, written, and payloads moved to even addresses.
 //!
-//! ```text
-//! let tables = Tables::read(alloc, &arena, &sections)?;
-//! let code = read_code(alloc, &arena, &tables, &sections, 0x1c0)?; // the code item at byte 448
-//! let first = code.insns[0]; // const/4 v0, -1 is `I11n { op: 0x12, a: 0, b: -1 }`
 //! ```
+//! use dex_code::{addresses, align, fits, put_code, read_code};
+//!
+//! let code = read_code(alloc, &arena, &tables, &sections, place)?;
+//! fits(alloc, &ranks, &code)?;
+//! put_code(&mut out, &ranks, &code)?;
+//! ```
+//!
+//! Its rooms: `code_insns` and `code_read` (read), `code_put` and `code_fits` (written, and whether it fits), `code_align`,
+//! `code_put_laws` and `code_read_laws`.
 #![tactic(auto)]
 
-// The fixed parts of an item.
-mod item;
-
-// Tries and handlers.
-mod handlers;
-mod tries;
-
-// All of it.
-mod reading;
-
-// What holds of every item.
-mod laws;
-
-pub use laws::{broken_code_is_none, code_carries_over, code_is_one, code_is_prefix_unique};
-pub use reading::{Body, read_body, read_code};
+pub use code_align::align;
+pub use code_fits::fits;
+pub use code_put::{addresses, put_code};
+pub use code_read::read_code;

@@ -1,15 +1,17 @@
-//! Whole files, read: `read` answers the program that a file means, `check` whether it means one.
+//! Whole files: read and checked, written, stripped, aligned.
 //!
 //! ```
-//! let program = read(alloc, &arena, &bytes)?; // 1 to 73, the first fault
-//! check(alloc, &bytes)?; // the same fault, and no program is held
+//! use dex_file::{read, write};
+//!
+//! let arena = Bump::new(alloc);
+//! let program = read(alloc, &arena, &bytes)?;
+//! let packed = write(alloc, &program)?; // read gives the same program again
 //! ```
+//!
+//! Its rooms: `file_classes` and `file_read` (read), `file_needed`, `file_layout`, `file_rows`, `file_shared`, `file_sections`,
+//! `file_class_defs`, `file_limits`, `file_assemble` and `file_write` (written), `file_align`, `file_laws` and `file_least`.
 #![tactic(auto)]
 
-mod checking;
-mod laws;
-mod reading;
-
-pub use checking::check;
-pub use laws::{meaning_is_clear, one_program, refusals_are_first};
-pub use reading::read;
+pub use file_align::align_all;
+pub use file_read::{check, read};
+pub use file_write::{strip, write};

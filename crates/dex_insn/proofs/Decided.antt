@@ -3,9 +3,9 @@ use Rattle.std.proofs.Common.{◌≡◌, ℕ, zero, suc, ◌+◌, ◌*◌, ◌%�
 use Rattle.std.specs.Prelude.{IsTrue, slice_range}
 use Rattle.std.proofs.lemmas.Bool.{cases_lt, cases_eq}
 use Rattle.std.proofs.lemmas.Int.{ints, by_lt_z}
-use Rattle.dex_bytes.specs.Deciding.{Decided}
-use Rattle.dex_bytes.specs.Fields.{AreBytes}
-use Rattle.dex_bytes.specs.declared.fault.Fault.{Fault}
+use Rattle.base_bytes.specs.Deciding.{Decided}
+use Rattle.base_bytes.specs.Fields.{AreBytes}
+use Rattle.base_bytes.specs.declared.fault.Fault.{Fault}
 use Rattle.dex_insn.specs.Fields.{number, field, signed, int_at, KeysRise}
 use Rattle.dex_insn.specs.Opcodes.{units_of}
 use Rattle.dex_insn.specs.Raw.{Raw, packed_units, sparse_units, data_units, I10x, I12x, I11n, I11x, I10t, I20t, I22x, I21t, I21s, I21h, I21c, I23x, I22b, I22t, I22s, I22c, I30t, I32x, I31i, I31t, I31c, I35c, I3rc, I51l, Packed, Sparse, Data}

@@ -1,10 +1,16 @@
-//! Listings: a program as text, and back.
+//! Listings: a program as text, both ways.
+//!
+//! ```
+//! use dex_listing::{parse, print};
+//!
+//! let arena = Bump::new(alloc);
+//! let program = parse(alloc, &arena, b"dex 035 listing 2\n")?;
+//! let text = print(alloc, &program)?; // parse gives the same program again
+//! ```
+//!
+//! Its rooms: `listing_words`, `listing_slots`, `listing_shapes`, `listing_lines` and `listing_labels` (a line), `listing_draft` and
+//! `listing_parse` (read), `listing_print` (printed), `listing_laws`.
 #![tactic(auto)]
 
-mod aside;
-mod law;
-mod reading;
-
-pub use aside::Aside;
-pub use law::one_program;
-pub use reading::{Reading, parse};
+pub use listing_parse::parse;
+pub use listing_print::{print, print_1};

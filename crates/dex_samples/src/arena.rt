@@ -1,11 +1,11 @@
 //! The end of an arena, which nothing in it outlives.
 
 ghost use Rattle.std.specs.Prelude.{◌≡◌, IfOk, IsOkUnless, slice_get};
-ghost use Rattle.dex_bytes.specs.Fault.{memory};
+ghost use Rattle.base_bytes.specs.Fault.{memory};
 
 use bumpalo::Bump;
 use dex_base::Fault;
-use dex_program::place_str;
+use program_types::place_str;
 use std::alloc::Global;
 
 /// The first unit of a string that lies in an arena of its own, read before the arena ends. Refused only for want of memory.

@@ -1,12 +1,12 @@
 //! Names of ASCII texts, in an arena.
 ghost use Rattle.std.specs.Prelude.{IfOk, IsTrue, All, map};
 ghost use Rattle.dex_base.specs.Descriptor.{IsDescriptor};
-ghost use Rattle.dex_program.specs.View.{desc};
+ghost use Rattle.program_types.specs.View.{desc};
 
 use bumpalo::Bump;
 use bumpalo::collections::into_bump_slice;
 use dex_base::{Fault, is_descriptor};
-use dex_program::{Desc, FieldRef, MethodRef, Proto, Str, place_proto, place_str};
+use program_types::{Desc, FieldRef, MethodRef, Proto, Str, place_proto, place_str};
 
 /// What is answered of a prototype one of whose types is no descriptor.
 pub const MISSPELLED: Fault = Fault { code: 0, place: 0 };

@@ -1,7 +1,7 @@
 //! Names as text, for tests that compare many at once.
 
 use dex_base::Fault;
-use dex_program::{Desc, FieldRef, MethodRef, Name, Proto, Str};
+use program_types::{Desc, FieldRef, MethodRef, Name, Proto, Str};
 
 /// Adds the kind and the name: `type LA;`.
 pub fn put_name(text: &mut String, name: Name<'_>) -> Result<(), Fault> {

@@ -1,31 +1,16 @@
-//! The five tables of names, string_ids to method_ids, read from a file.
+//! The five tables of names: those of a file, and those that a program needs, with their ranks.
 //!
 //! ```
-//! let tables = Tables::read(alloc, &arena, &open(bytes)?)?;
-//! let name = tables.string(3); // the text of row 3
+//! use dex_tables::{Needed, Tables};
+//!
+//! let tables = Tables::read(alloc, &arena, &sections)?;
+//! let mut needed = Needed::new(alloc);
+//! needed.add_string(tables.string(0).unwrap())?;
+//! needed.freeze()?.string(0); // the empty string or the least of the others
 //! ```
+//!
+//! Its rooms: `tables_rows` (a file's tables), `tables_names` (needed names and ranks), `tables_laws`.
 #![tactic(auto)]
 
-// The fields of a row.
-mod row_fields;
-
-// The tables, in the order in which they are read.
-mod field_ids;
-mod kinds;
-mod look_up;
-mod members;
-mod method_ids;
-mod names;
-mod proto_ids;
-mod string_ids;
-mod tables;
-mod type_ids;
-mod type_list;
-
-// What holds of the tables of a file.
-mod file_laws;
-
-pub use file_laws::{names_of_a_file_are_its_rows, type_list_is_one};
-pub use row_fields::{MemberTable, member_class};
-pub use tables::Tables;
-pub use type_list::indexes_or_none;
+pub use tables_names::{Needed, Ranks, Row};
+pub use tables_rows::Tables;

@@ -2,16 +2,16 @@
 use Rattle.std.proofs.Common.{◌≡◌, ℕ, ◌+◌, ◌^◌, ◌<◌, ◌≤◌, List, [], ◌∷◌, ◌++◌, length, take, drop, get_or, map, refl, sym, ap, subst, ◌∙◌, append_assoc, arith, add-one, Result, Ok, Err, OnErr}
 use Rattle.std.proofs.Math.Seq.{drop-cons}
 use Rattle.std.proofs.lemmas.List.{length-append, length-map, map-append, take_more, take_all}
-use Rattle.dex_bytes.specs.Grammar.{Appends, Each}
-use Rattle.dex_bytes.specs.Leb128.{Spells, Shortest}
-use Rattle.dex_bytes.proofs.GrammarLaws.{Each-appends_none, Each-appends_more}
-use Rattle.dex_program.specs.Content.{Name, OfText, OfDesc, OfField, OfMethod, FieldRef, Value, Float, Enum, Array, Values, more_values, values}
-use Rattle.dex_program.specs.declared.value.Value as made
-use Rattle.dex_program.specs.View.{value}
-use Rattle.dex_names.specs.Closure.{Five, AreRising, NameRanks}
-use Rattle.dex_names.proofs.PlaceLemmas.{rank_at}
+use Rattle.base_bytes.specs.Grammar.{Appends, Each}
+use Rattle.base_bytes.specs.Leb128.{Spells, Shortest}
+use Rattle.base_bytes.proofs.GrammarLaws.{Each-appends_none, Each-appends_more}
+use Rattle.program_types.specs.Content.{Name, OfText, OfDesc, OfField, OfMethod, FieldRef, Value, Float, Enum, Array, Values, more_values, values}
+use Rattle.program_types.specs.declared.value.Value as made
+use Rattle.program_types.specs.View.{value}
+use Rattle.tables_names.specs.Closure.{Five, AreRising, NameRanks}
+use Rattle.tables_names.proofs.PlaceLemmas.{rank_at}
 use Rattle.dex_value.specs.Spelling.{unsigned_of, SpellsValue, SpellsArray, count_of}
-use Rattle.dex_program.specs.Mentions.{NamesHold, AllNamesHold}
+use Rattle.program_types.specs.Mentions.{NamesHold, AllNamesHold}
 use Rattle.dex_value.specs.Named.{IsRanked}
 use Rattle.dex_value.specs.Counts.{CountsFit, AllCountsFit}
 use Rattle.dex_value.specs.Wide.{wide_value, wide_values}

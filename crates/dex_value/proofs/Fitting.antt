@@ -1,9 +1,9 @@
 -- What has a spelling has names with ranks and counts that fit.
 use Rattle.std.proofs.Common.{ℕ, ◌<◌, ◌≤◌, List, arith}
-use Rattle.dex_program.specs.Content.{Name, OfField, Value, Named, Enum, Array, Values, no_values, more_values, values}
-use Rattle.dex_names.specs.Closure.{Five, NameRanks}
+use Rattle.program_types.specs.Content.{Name, OfField, Value, Named, Enum, Array, Values, no_values, more_values, values}
+use Rattle.tables_names.specs.Closure.{Five, NameRanks}
 use Rattle.dex_value.specs.Spelling.{Sized, unsigned_of, SpellsValue, SpellsValues, SpellsArray, count_of}
-use Rattle.dex_program.specs.Mentions.{NamesHold, AllNamesHold}
+use Rattle.program_types.specs.Mentions.{NamesHold, AllNamesHold}
 use Rattle.dex_value.specs.Named.{IsRanked}
 use Rattle.dex_value.specs.Counts.{CountsFit, AllCountsFit, ArrayFits}
 use Rattle.dex_value.specs.Wide.{wide_value, wide_values, wide_array}

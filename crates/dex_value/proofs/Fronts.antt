@@ -1,6 +1,6 @@
 -- A value that is spelled, by the first byte: with bytes behind its head, an array, or a head alone.
 use Rattle.std.proofs.Common.{◌≡◌, ℕ, ◌+◌, ◌*◌, ◌-◌, ◌<◌, ◌≤◌, ◌⊎◌, inl, inr, List, [], ◌∷◌, length, slice_index, refl, subst, true, false, lit<, lit≤, arith}
-use Rattle.dex_program.specs.Content.{Name, OfText, OfDesc, OfField, OfMethod, Value, Byte, Short, Char, Int, Long, Float, Double, Named, Enum, Array, Null, Boolean, Values}
+use Rattle.program_types.specs.Content.{Name, OfText, OfDesc, OfField, OfMethod, Value, Byte, Short, Char, Int, Long, Float, Double, Named, Enum, Array, Null, Boolean, Values}
 use Rattle.dex_value.specs.Spelling.{Sized, Behind, SpellsValue, SpellsValues, count_of}
 use Rattle.dex_value.specs.Faults.{widest_of}
 use Rattle.dex_value.specs.Reading.{ValueStands}

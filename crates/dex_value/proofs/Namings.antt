@@ -1,8 +1,8 @@
 -- An index stands for one name of a kind.
 use Rattle.std.proofs.Common.{◌≡◌, ℕ, List, sym, ap, subst, ◌∙◌, Some, arith}
-use Rattle.dex_program.specs.Content.{Name, OfText, OfDesc, OfField, OfMethod, Value, Named, Enum}
-use Rattle.dex_program.specs.Kinds.{IsOfKind}
-use Rattle.dex_tables.specs.Names.{Names, NameIsAt}
+use Rattle.program_types.specs.Content.{Name, OfText, OfDesc, OfField, OfMethod, Value, Named, Enum}
+use Rattle.program_types.specs.Kinds.{IsOfKind}
+use Rattle.tables_rows.specs.Names.{Names, NameIsAt}
 use Rattle.dex_value.specs.declared.types.NameType.{NameType}
 use Rattle.dex_value.specs.declared.types.NameType.TheVariants as named
 use Rattle.dex_value.specs.Faults.{IsOfType}

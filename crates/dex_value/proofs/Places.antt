@@ -2,16 +2,16 @@
 use Rattle.std.proofs.Common.{◌≡◌, ℕ, ◌+◌, ◌-◌, ◌<◌, ◌≤◌, inr, List, length, take, drop, sym, subst, ◌∙◌, arith, length-take}
 use Rattle.std.specs.List.{AllByRecursion}
 use Rattle.std.proofs.lemmas.List.{take-take, take-append-drop, length-append}
-use Rattle.dex_bytes.specs.Grammar.{Takes}
-use Rattle.dex_bytes.specs.declared.fault.Fault.{Fault}
-use Rattle.dex_bytes.proofs.LengthLaws.{IsAtLeast, Spells-least}
-use Rattle.dex_bytes.proofs.TakesLaws.{Begins-from_takes, Takes-unique}
+use Rattle.base_bytes.specs.Grammar.{Takes}
+use Rattle.base_bytes.specs.declared.fault.Fault.{Fault}
+use Rattle.base_bytes.proofs.LengthLaws.{IsAtLeast, Spells-least}
+use Rattle.base_bytes.proofs.TakesLaws.{Begins-from_takes, Takes-unique}
 use Rattle.dex_container.specs.declared.section.Section.{Section}
 use Rattle.dex_container.specs.Where.{slice, At, IsInSection}
 use Rattle.dex_container.specs.Where.{IsSectionOf}
 use Rattle.dex_container.proofs.Standing.{stands_at, at_place, mod_one}
-use Rattle.dex_program.specs.Content.{Name, Value}
-use Rattle.dex_program.specs.Depth.{depth}
+use Rattle.program_types.specs.Content.{Name, Value}
+use Rattle.program_types.specs.Depth.{depth}
 use Rattle.dex_value.specs.Spelling.{SpellsArray}
 use Rattle.dex_value.specs.Standing.{ArrayStands}
 use Rattle.dex_value.specs.Unique.{IsFunctional}

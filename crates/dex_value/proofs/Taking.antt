@@ -2,14 +2,14 @@
 use Rattle.std.proofs.Common.{◌≡◌, ℕ, zero, suc, inl, ◌+◌, ◌*◌, ◌-◌, ◌/◌, ◌%◌, ◌<◌, ◌≤◌, List, [], ◌∷◌, ◌++◌, length, slice_index, lit<, map, take, drop, refl, sym, ap, subst, ◌∙◌, arith, append_assoc}
 use Rattle.std.proofs.lemmas.List.{take-append-drop, length-take-le, length-map, map-append}
 use Rattle.std.specs.List.{AllByRecursion}
-use Rattle.dex_bytes.specs.Grammar.{Begins, Takes, Each, Many}
-use Rattle.dex_bytes.specs.Leb128.{Spells}
-use Rattle.dex_bytes.specs.declared.fault.Fault.{Fault}
-use Rattle.dex_bytes.proofs.TakesLaws.{Takes-from_begins, Takes-each_push, Takes-counted}
-use Rattle.dex_program.specs.Content.{Name, Value, Array, values}
-use Rattle.dex_program.specs.declared.value.Value as made
-use Rattle.dex_program.specs.View.{value}
-use Rattle.dex_program.specs.Depth.{depth}
+use Rattle.base_bytes.specs.Grammar.{Begins, Takes, Each, Many}
+use Rattle.base_bytes.specs.Leb128.{Spells}
+use Rattle.base_bytes.specs.declared.fault.Fault.{Fault}
+use Rattle.base_bytes.proofs.TakesLaws.{Takes-from_begins, Takes-each_push, Takes-counted}
+use Rattle.program_types.specs.Content.{Name, Value, Array, values}
+use Rattle.program_types.specs.declared.value.Value as made
+use Rattle.program_types.specs.View.{value}
+use Rattle.program_types.specs.Depth.{depth}
 use Rattle.dex_value.specs.Spelling.{SpellsValue, SpellsArray}
 use Rattle.dex_value.specs.Standing.{Shallow}
 use Rattle.dex_value.specs.Faults.{widest_of, OwnBreaks, NextBreaks, ValueBreaks}

@@ -1,8 +1,8 @@
 -- A spelling carries over to a naming that the first implies.
 use Rattle.std.proofs.Common.{ℕ, List, true, false}
-use Rattle.dex_bytes.specs.Leb128.{Spells}
-use Rattle.dex_bytes.proofs.WeakerLaws.{Implies, Counted-weaker}
-use Rattle.dex_program.specs.Content.{Name, OfField, Value, Byte, Short, Char, Int, Long, Float, Double, Named, Enum, Array, Null, Boolean, Values, no_values, more_values}
+use Rattle.base_bytes.specs.Leb128.{Spells}
+use Rattle.base_bytes.proofs.WeakerLaws.{Implies, Counted-weaker}
+use Rattle.program_types.specs.Content.{Name, OfField, Value, Byte, Short, Char, Int, Long, Float, Double, Named, Enum, Array, Null, Boolean, Values, no_values, more_values}
 use Rattle.dex_value.specs.Spelling.{Sized, SpellsValue, SpellsValues, SpellsArray, unsigned_of}
 
 sized_weaker : (type widest : ℕ) (M P : List ℕ → Type 0) (all : List ℕ) → ((low : List ℕ) → M low → P low) → Sized type widest M all → Sized type widest P all

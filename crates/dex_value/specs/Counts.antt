@@ -1,7 +1,7 @@
 -- How many values an array can have: its count is a uleb128, so it has 32 bits.
 -- Page: "Dalvik Executable format", "encoded_array format": size.
 use Rattle.std.specs.Prelude.{⊤, ◌<◌, ◌^◌, List, length}
-use Rattle.dex_program.specs.Content.{Value, Array, Values, no_values, more_values, values}
+use Rattle.program_types.specs.Content.{Value, Array, Values, no_values, more_values, values}
 use Rattle.dex_value.specs.Spelling.{count_of}
 
 -- Of each array in a value, or in values, the count has 32 bits.

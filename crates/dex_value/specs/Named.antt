@@ -1,7 +1,7 @@
 -- The names in values.
 use Rattle.std.specs.Prelude.{ℕ, ◌<◌, ◌^◌}
-use Rattle.dex_program.specs.Content.{Name}
-use Rattle.dex_names.specs.Closure.{Five, NameRanks}
+use Rattle.program_types.specs.Content.{Name}
+use Rattle.tables_names.specs.Closure.{Five, NameRanks}
 
 -- The name has a rank that an index of 32 bits can be.
 pub record IsRanked (ranks : Five) (which : Name) : Type 0 where

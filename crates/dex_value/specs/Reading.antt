@@ -1,6 +1,6 @@
 -- What the private functions of reading say.
 use Rattle.std.specs.Prelude.{◌≡◌, ℕ, List}
-use Rattle.dex_program.specs.Content.{Name, OfField, Value, Byte, Short, Char, Int, Long, Float, Double, Named, Enum}
+use Rattle.program_types.specs.Content.{Name, OfField, Value, Byte, Short, Char, Int, Long, Float, Double, Named, Enum}
 use Rattle.dex_insn.specs.declared.opcode.IndexKind.{IndexKind}
 use Rattle.dex_insn.specs.declared.opcode.IndexKind.TheVariants as kind
 use Rattle.dex_value.specs.Spelling.{unsigned_of, signed_of, high_of, type_of}

@@ -2,8 +2,8 @@
 use Rattle.std.specs.Prelude.{ℕ, ◌≤◌, List, length}
 use Rattle.std.specs.List.{AllByRecursion}
 use Rattle.dex_container.specs.Where.{At}
-use Rattle.dex_program.specs.Content.{Name, Value}
-use Rattle.dex_program.specs.Depth.{depth}
+use Rattle.program_types.specs.Content.{Name, Value}
+use Rattle.program_types.specs.Depth.{depth}
 use Rattle.dex_value.specs.Spelling.{SpellsValue, SpellsArray}
 
 -- The bytes spell the value, which is at most this deep.

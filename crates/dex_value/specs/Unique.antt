@@ -1,6 +1,6 @@
 -- When a spelling has one value.
 use Rattle.std.specs.Prelude.{◌≡◌, ℕ}
-use Rattle.dex_program.specs.Content.{Name}
+use Rattle.program_types.specs.Content.{Name}
 use Rattle.dex_value.specs.Spelling.{type_of}
 
 -- In each table an index stands for one name.

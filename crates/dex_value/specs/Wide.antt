@@ -1,6 +1,6 @@
 -- How many bytes encoded values take at most, the plain sum with five bytes for each count.
 use Rattle.std.specs.Prelude.{ℕ, ◌+◌, List}
-use Rattle.dex_program.specs.Content.{Value, Array, Values, no_values, more_values, values}
+use Rattle.program_types.specs.Content.{Value, Array, Values, no_values, more_values, values}
 
 -- An array takes its head, a count and its values; any other value a head and at most eight bytes.
 abbrev mutual

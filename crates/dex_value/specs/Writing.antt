@@ -1,6 +1,6 @@
 -- What the private functions of writing say.
 use Rattle.std.specs.Prelude.{◌≡◌, ℕ, ℤ, pos, negsuc, ◌+◌, ◌*◌, ◌-◌, ◌%◌, ◌^◌, ◌<◌, ◌≤◌, List, ◌∷◌, ◌++◌, length}
-use Rattle.dex_program.specs.Content.{Name}
+use Rattle.program_types.specs.Content.{Name}
 use Rattle.dex_value.specs.Spelling.{Sized, signed_of, unsigned_of, high_of}
 
 -- How far a number is from 0, or from -1 where it is negative.

@@ -1,13 +1,13 @@
 //! Laws over the definitions, for the proofs of crates above. Those that take any naming stand in `proofs/`: `SpellsArray-weaker`
 //! carries a spelling over to a naming that the first implies.
 ghost use Rattle.std.specs.Prelude.{ℕ, List, length, ◌<◌, ◌≤◌};
-ghost use Rattle.dex_bytes.specs.Grammar.{IsPrefixUnique};
-ghost use Rattle.dex_program.specs.Content.{Name, Value, values};
-ghost use Rattle.dex_tables.specs.Names.{Names, NameIsAt};
-ghost use Rattle.dex_names.specs.Closure.{Five, NameRanks};
+ghost use Rattle.base_bytes.specs.Grammar.{IsPrefixUnique};
+ghost use Rattle.program_types.specs.Content.{Name, Value, values};
+ghost use Rattle.tables_rows.specs.Names.{Names, NameIsAt};
+ghost use Rattle.tables_names.specs.Closure.{Five, NameRanks};
 ghost use Rattle.dex_value.specs.Spelling.{SpellsArray};
 ghost use Rattle.dex_value.specs.Wide.{wide_array};
-ghost use Rattle.dex_program.specs.Mentions.{AllNamesHold};
+ghost use Rattle.program_types.specs.Mentions.{AllNamesHold};
 ghost use Rattle.dex_value.specs.Named.{IsRanked};
 ghost use Rattle.dex_value.specs.Counts.{ArrayFits};
 

@@ -1,18 +1,18 @@
 // Names by their index.
 ghost use Rattle.std.specs.Prelude.{◌≡◌, ℕ, ◌<◌, ◌≤◌, length, IfSome, IfNone};
-ghost use Rattle.dex_program.specs.Content as content;
-ghost use Rattle.dex_program.specs.View as view;
-ghost use Rattle.dex_program.specs.View.{value};
-ghost use Rattle.dex_program.specs.Kinds.{IsOfKind};
-ghost use Rattle.dex_tables.specs.Names.{NameIsAt};
+ghost use Rattle.program_types.specs.Content as content;
+ghost use Rattle.program_types.specs.View as view;
+ghost use Rattle.program_types.specs.View.{value};
+ghost use Rattle.program_types.specs.Kinds.{IsOfKind};
+ghost use Rattle.tables_rows.specs.Names.{NameIsAt};
 ghost use Rattle.dex_value.specs.Spelling.{unsigned_of};
 ghost use Rattle.dex_value.specs.Faults.{IsOfType};
 ghost use Rattle.dex_value.specs.Reading.{name_code, kind_of, IsNamed, ValueStands};
 
 use crate::numbers::unsigned;
 use crate::types::{NameType, name_kind};
-use dex_program::{Name, Value};
-use dex_tables::Tables;
+use program_types::{Name, Value};
+use tables_rows::Tables;
 
 /// The name as a value of this type.
 fn name_value<'a>(ty: NameType, name: Name<'a>) -> Value<'a>

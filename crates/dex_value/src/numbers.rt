@@ -1,13 +1,13 @@
 // Numbers of one to eight bytes, the low byte first.
 ghost use Rattle.std.specs.Prelude.{◌≡◌, ℕ, ℤ, pos, ◌+ℤ◌, ◌≤ℤ◌, ◌<ℤ◌, ◌+◌, ◌*◌, ◌^◌, ◌<◌, ◌≤◌, length};
-ghost use Rattle.dex_program.specs.View.{value};
+ghost use Rattle.program_types.specs.View.{value};
 ghost use Rattle.dex_value.specs.Spelling.{unsigned_of, signed_of, high_of};
 ghost use Rattle.dex_value.specs.Faults.{widest_of};
 ghost use Rattle.dex_value.specs.Reading.{number_code, IsNumber};
 
 use crate::types::NumberType;
 use byteorder::{ByteOrder, LittleEndian};
-use dex_program::Value;
+use program_types::Value;
 
 /// The unsigned number of these bytes.
 #[tactic(auto, unfolding(crate::specs::Spelling::unsigned_of))]

@@ -1,12 +1,12 @@
 // Values in the order of their bytes.
 ghost use Rattle.std.specs.Prelude.{◌≡◌, ◌≢◌, ℕ, ◌≤◌, ◌-◌, ◌∷◌, List, length, map, IfOk, IfErr};
-ghost use Rattle.dex_bytes.specs.Fault.{memory};
-ghost use Rattle.dex_bytes.specs.Grammar.{Takes, Many};
-ghost use Rattle.dex_program.specs.Content as content;
-ghost use Rattle.dex_program.specs.View.{value};
-ghost use Rattle.dex_tables.specs.Names.{NameIsAt};
+ghost use Rattle.base_bytes.specs.Fault.{memory};
+ghost use Rattle.base_bytes.specs.Grammar.{Takes, Many};
+ghost use Rattle.program_types.specs.Content as content;
+ghost use Rattle.program_types.specs.View.{value};
+ghost use Rattle.tables_rows.specs.Names.{NameIsAt};
 ghost use Rattle.std.specs.List.{AllByRecursion};
-ghost use Rattle.dex_program.specs.Depth.{depth};
+ghost use Rattle.program_types.specs.Depth.{depth};
 ghost use Rattle.dex_value.specs.Spelling.{SpellsArray};
 ghost use Rattle.dex_value.specs.Standing.{Shallow, ArrayStands};
 ghost use Rattle.dex_value.specs.Faults.{IsLoneHead, OwnBreaks, ValueBreaks, NextBreaks, InsideBreaks, ArrayBreaks, ArrayBreaksAt, values_fault, kind_fault, depth_fault};
@@ -17,9 +17,9 @@ use crate::types::{SizedType, sized_type, widest};
 use bumpalo::Bump;
 use dex_base::{Fault, fault, read_uleb};
 use dex_container::{Sections, bytes_from, kind, section_of};
-use dex_program::Value;
-use dex_tables::Tables;
+use program_types::Value;
 use std::alloc::Global;
+use tables_rows::Tables;
 
 /// How deep an array value may lie.
 const DEPTH: u32 = 64;

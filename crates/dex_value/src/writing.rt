@@ -1,15 +1,15 @@
 // Values as bytes, in the fewest.
 ghost use Rattle.std.specs.Prelude.{◌≡◌, ℕ, ◌+◌, ◌*◌, ◌-◌, ◌^◌, ◌<◌, ◌≤◌, ◌∷◌, ◌++◌, List, length, map, OnOk, OnErr, IsOkUnless};
-ghost use Rattle.dex_bytes.specs.Fault.{memory};
-ghost use Rattle.dex_bytes.specs.Grammar.{Appends, Each};
-ghost use Rattle.dex_bytes.specs.Leb128.{Shortest};
-ghost use Rattle.dex_program.specs.View as view;
-ghost use Rattle.dex_program.specs.View.{value};
-ghost use Rattle.dex_program.specs.Content as content;
-ghost use Rattle.dex_program.specs.Depth.{depth};
-ghost use Rattle.dex_names.specs.Closure.{NameRanks};
+ghost use Rattle.base_bytes.specs.Fault.{memory};
+ghost use Rattle.base_bytes.specs.Grammar.{Appends, Each};
+ghost use Rattle.base_bytes.specs.Leb128.{Shortest};
+ghost use Rattle.program_types.specs.View as view;
+ghost use Rattle.program_types.specs.View.{value};
+ghost use Rattle.program_types.specs.Content as content;
+ghost use Rattle.program_types.specs.Depth.{depth};
+ghost use Rattle.tables_names.specs.Closure.{NameRanks};
 ghost use Rattle.dex_value.specs.Spelling.{Sized, unsigned_of, type_of, SpellsValue, SpellsArray};
-ghost use Rattle.dex_program.specs.Mentions.{NamesHold, AllNamesHold};
+ghost use Rattle.program_types.specs.Mentions.{NamesHold, AllNamesHold};
 ghost use Rattle.dex_value.specs.Named.{IsRanked};
 ghost use Rattle.dex_value.specs.Counts.{CountsFit, AllCountsFit, ArrayFits};
 ghost use Rattle.dex_value.specs.Writing.{SignedAs, UnsignedAs, HighAs, IndexAs, magnitude_of, sized, HoldsMore};
@@ -17,8 +17,8 @@ ghost use Rattle.dex_value.specs.Writing.{SignedAs, UnsignedAs, HighAs, IndexAs,
 use crate::widths::{high_width, signed_width, unsigned_width};
 use byteorder::{ByteOrder, LittleEndian};
 use dex_base::{Fault, put_uleb};
-use dex_names::Ranks;
-use dex_program::{Name, Value};
+use program_types::{Name, Value};
+use tables_names::Ranks;
 
 /// Appends a head of this type and the bytes behind it.
 fn put_sized(out: &mut Vec<u8>, code: u8, low: &[u8]) -> Result<(), Fault>

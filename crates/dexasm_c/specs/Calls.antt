@@ -1,6 +1,6 @@
 -- What a call leaves in its caller's memory, by how it ended. `old` and `new` are the caller's buffer before and after.
 use Rattle.std.specs.Prelude.{◌≡◌, ◌≢◌, ℕ, ◌<◌, ◌≤◌, List, ◌++◌, length, drop}
-use Rattle.dex_bytes.specs.declared.fault.Fault.{Fault}
+use Rattle.base_bytes.specs.declared.fault.Fault.{Fault}
 use Rattle.dexasm_job.specs.declared.job.Job.{Job}
 use Rattle.dexasm_job.specs.declared.job.Job.TheVariants.{Check}
 use Rattle.dexasm_jobs.specs.Answers.{Answer, Refusal}

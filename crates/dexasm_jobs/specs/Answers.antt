@@ -1,15 +1,15 @@
 -- What a job answers to the bytes that it is given, and when it refuses them.
 -- Page: docs/PROMISES.md; "Dalvik Executable format" for files, docs/LISTING.md for listings.
 use Rattle.std.specs.Prelude.{◌≡◌, ℕ, true, false, ◌⊎◌, List, codes}
-use Rattle.dex_align.specs.Programs.{AlignedProgram, IsTooLong}
-use Rattle.dex_bytes.specs.declared.fault.Fault.{Fault}
-use Rattle.dex_file.specs.Means.{Means}
-use Rattle.dex_file.specs.Refused.{IsRefused}
-use Rattle.dex_limits.specs.Limits.{IsLowestLimit}
-use Rattle.dex_listing.specs.Text.{IsListing, ListingBreaks}
-use Rattle.dex_print.specs.Canon.{canon}
-use Rattle.dex_program.specs.Content.{Program}
-use Rattle.dex_write.specs.Written.{IsFileOf, IsStripped, IsStripRefused}
+use Rattle.file_align.specs.Programs.{AlignedProgram, IsTooLong}
+use Rattle.base_bytes.specs.declared.fault.Fault.{Fault}
+use Rattle.file_read.specs.Means.{Means}
+use Rattle.file_read.specs.Refused.{IsRefused}
+use Rattle.file_limits.specs.Limits.{IsLowestLimit}
+use Rattle.listing_parse.specs.Text.{IsListing, ListingBreaks}
+use Rattle.listing_print.specs.Canon.{canon}
+use Rattle.program_types.specs.Content.{Program}
+use Rattle.file_write.specs.Written.{IsFileOf, IsStripped, IsStripRefused}
 use Rattle.dexasm_job.specs.declared.job.Job.{Job}
 use Rattle.dexasm_job.specs.declared.job.Job.TheVariants.{Check, List as Listing, Assemble, Strip}
 

@@ -1,16 +1,16 @@
 // The answer to each job.
 ghost use Rattle.std.specs.Prelude.{◌≢◌, IfOk, IfErr, false, true};
-ghost use Rattle.dex_bytes.specs.Fault.{memory};
+ghost use Rattle.base_bytes.specs.Fault.{memory};
 ghost use Rattle.dexasm_jobs.specs.Answers.{Answer, Refusal};
 
 use bumpalo::Bump;
-use dex_align::align_all;
 use dex_base::Fault;
-use dex_file::{check, read};
-use dex_listing::parse;
-use dex_print::print;
-use dex_write::{strip, write};
 use dexasm_job::Job;
+use file_align::align_all;
+use file_read::{check, read};
+use file_write::{strip, write};
+use listing_parse::parse;
+use listing_print::print;
 use std::alloc::Global;
 
 /// The whole answer to a job on these bytes, or the fault of the call that refused them.

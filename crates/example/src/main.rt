@@ -8,7 +8,7 @@ use anyhow::{Error, Result, anyhow, bail};
 use bumpalo::Bump;
 use dex_base::{Fault, fault_name};
 use dex_program::{Method, Program};
-use dex_words::{put_name, put_proto};
+use listing_words::{put_name, put_proto};
 use patch::patch;
 use std::alloc::Global;
 use std::io::Write;
@@ -37,8 +37,8 @@ fn refused(fault: Fault) -> Error {
 
 // A program made by hand has to be well formed before it is written: a file's always is.
 fn write(alloc: Global, program: &Program<'_>) -> Result<Vec<u8>, Fault> {
-    dex_rules::well_formed_in(alloc, program)?;
-    dex_write::write(alloc, program)
+    dex_program::well_formed_in(alloc, program)?;
+    dex_file::write(alloc, program)
 }
 
 // A line for each class, and one for each of its methods.

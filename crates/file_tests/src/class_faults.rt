@@ -2,8 +2,8 @@
 
 use bumpalo::Bump;
 use dex_base::{Fault, fault};
-use dex_file::{check, read};
 use dex_samples::{NOTHING, ONE_CLASS, Rows, closed_with, file_of, is_so, none_wrong};
+use file_read::{check, read};
 use std::alloc::Global;
 use std::test::Fail;
 

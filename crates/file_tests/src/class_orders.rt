@@ -3,8 +3,8 @@
 use crate::class_faults::fault_of_rows;
 use bumpalo::Bump;
 use dex_base::{Fault, fault};
-use dex_file::read;
 use dex_samples::{NOTHING, Rows, file_of, is_so, none_wrong};
+use file_read::read;
 use std::alloc::Global;
 use std::test::Fail;
 

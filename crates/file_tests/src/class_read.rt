@@ -2,9 +2,9 @@
 
 use bumpalo::Bump;
 use dex_base::Fault;
-use dex_file::read;
-use dex_program::{Class, Code, Insn, Method};
 use dex_samples::{ONE_CLASS, is_so, put_proto, put_units, shows};
+use file_read::read;
+use program_types::{Class, Code, Insn, Method};
 use std::alloc::Global;
 use std::test::Fail;
 

@@ -3,10 +3,10 @@
 use crate::class_faults::fault_of;
 use bumpalo::Bump;
 use dex_base::{Fault, fault};
-use dex_file::read;
 use dex_samples::{
     NOTHING, ONE_CLASS, Rows, WITHOUT_CLASSES, closed_with, file_of, is_so, none_wrong, with_bytes,
 };
+use file_read::read;
 use std::alloc::Global;
 use std::test::Fail;
 

@@ -1,11 +1,11 @@
 //! Files laid by hand: their data and their rows in, the finished file out.
 
 ghost use Rattle.std.specs.Prelude.{◌≡◌};
-ghost use Rattle.dex_layout.specs.Plan.{IsPlanned, tables_end};
+ghost use Rattle.file_layout.specs.Plan.{IsPlanned, tables_end};
 
 use dex_base::Fault;
-use dex_layout::{Part, Plan, Rows, finish, pad};
 use dex_samples::{ONE_CLASS, WITHOUT_CLASSES, is_so, none_wrong};
+use file_layout::{Part, Plan, Rows, finish, pad};
 use std::alloc::Global;
 use std::test::Fail;
 

@@ -7,11 +7,11 @@ mod frame;
 #[cfg(test)]
 mod sections;
 
-// dex_layout
+// file_layout
 #[cfg(test)]
 mod laid;
 
-// dex_tables
+// tables_rows
 #[cfg(test)]
 mod named_rows;
 #[cfg(test)]
@@ -33,7 +33,7 @@ mod values_put;
 #[cfg(test)]
 mod values_read;
 
-// dex_file
+// file_read
 #[cfg(test)]
 mod class_faults;
 #[cfg(test)]

@@ -5,9 +5,9 @@ use bumpalo::Bump;
 use dex_base::{Fault, fault};
 use dex_container::open;
 use dex_samples::{ONE_CLASS, Rows, closed_with, file_of, none_wrong};
-use dex_tables::Tables;
 use std::alloc::Global;
 use std::test::Fail;
+use tables_rows::Tables;
 
 /// A name for the case, where two bytes are changed, to which number, and the fault.
 type Case = (&'static str, usize, u16, (u16, u64));

@@ -6,11 +6,11 @@ use bumpalo::Bump;
 use dex_base::Fault;
 use dex_container::open;
 use dex_insn::IndexKind;
-use dex_program::{Desc, Name};
 use dex_samples::{NOTHING, ONE_CLASS, Rows, file_of, none_wrong, put_name, put_types, shows};
-use dex_tables::Tables;
+use program_types::{Desc, Name};
 use std::alloc::Global;
 use std::test::Fail;
+use tables_rows::Tables;
 
 // The rows of the five tables of a file.
 fn rows_of(alloc: Global, file: &[u8]) -> Result<String, Fault> {

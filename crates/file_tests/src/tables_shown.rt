@@ -2,8 +2,8 @@
 
 use dex_base::Fault;
 use dex_samples::{put_field, put_method, put_proto, put_units};
-use dex_tables::Tables;
 use std::alloc::Global;
+use tables_rows::Tables;
 
 // More than any table of these tests has.
 const ROWS: u32 = 100;

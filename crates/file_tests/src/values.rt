@@ -3,11 +3,11 @@
 use bumpalo::Bump;
 use dex_base::Fault;
 use dex_container::open;
-use dex_program::{Desc, FieldRef, MethodRef, Proto, Str, Value};
 use dex_samples::{NOTHING, Rows};
-use dex_tables::Tables;
 use dex_value::read_array;
+use program_types::{Desc, FieldRef, MethodRef, Proto, Str, Value};
 use std::alloc::Global;
+use tables_rows::Tables;
 
 /// Where the arrays begin in a file that has nothing else: behind the header and a map of three entries.
 pub const ARRAYS_AT: u32 = 0x98;

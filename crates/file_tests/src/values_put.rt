@@ -1,22 +1,22 @@
 //! Values to bytes, in the fewest.
 
 ghost use Rattle.std.specs.Prelude.{◌≤◌, IsTrue, length, map};
-ghost use Rattle.dex_program.specs.Content as content;
-ghost use Rattle.dex_program.specs.View as view;
-ghost use Rattle.dex_program.specs.View.{value};
-ghost use Rattle.dex_program.specs.Mentions.{NamesHold, AllNamesHold};
+ghost use Rattle.program_types.specs.Content as content;
+ghost use Rattle.program_types.specs.View as view;
+ghost use Rattle.program_types.specs.View.{value};
+ghost use Rattle.program_types.specs.Mentions.{NamesHold, AllNamesHold};
 ghost use Rattle.dex_value.specs.Named.{IsRanked};
 ghost use Rattle.dex_value.specs.Counts.{CountsFit, AllCountsFit};
 
 use crate::values::{CLASS, FIELD, INT, METHOD};
 use bumpalo::Bump;
 use dex_base::Fault;
-use dex_names::{Needed, Ranks};
-use dex_program::{Name, Str, Value};
 use dex_samples::{field, method, none_wrong};
 use dex_value::put_array;
+use program_types::{Name, Str, Value};
 use std::alloc::Global;
 use std::test::Fail;
+use tables_names::{Needed, Ranks};
 
 fn has_rank(ranks: &Ranks<'_>, name: Name<'_>) -> bool
     ensures { IsTrue result → IsRanked ranks.now (view.name name.entry) }

@@ -5,8 +5,8 @@ use crate::values::{
 };
 use bumpalo::Bump;
 use dex_base::{Fault, put_mutf8, put_uleb};
-use dex_program::{Str, Value, is_within_depth};
 use dex_samples::{NOTHING, Rows, file_of, is_so, none_wrong};
+use program_types::{Str, Value, is_within_depth};
 use std::alloc::Global;
 use std::test::Fail;
 

@@ -2,8 +2,8 @@
 
 use bumpalo::Bump;
 use dex_base::{Fault, fault};
-use dex_listing::parse;
 use dex_samples::none_wrong;
+use listing_parse::parse;
 use std::alloc::Global;
 use std::test::Fail;
 

@@ -2,9 +2,9 @@
 
 use bumpalo::Bump;
 use dex_base::{Fault, fault};
-use dex_listing::parse;
-use dex_print::{print, print_1};
 use dex_samples::none_wrong;
+use listing_parse::parse;
+use listing_print::{print, print_1};
 use std::alloc::Global;
 use std::test::Fail;
 

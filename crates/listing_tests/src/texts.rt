@@ -2,10 +2,10 @@
 
 use bumpalo::Bump;
 use dex_base::Fault;
-use dex_listing::parse;
-use dex_print::print_1;
-use dex_program::{Class, Desc, Member, Program, Str, Value};
 use dex_samples::{is_so, none_wrong, shows};
+use listing_parse::parse;
+use listing_print::print_1;
+use program_types::{Class, Desc, Member, Program, Str, Value};
 use std::alloc::Global;
 use std::test::Fail;
 

@@ -2,8 +2,8 @@
 
 use bumpalo::Bump;
 use dex_base::Fault;
-use dex_program::{Value, is_within_depth};
 use dex_samples::{is_so, none_wrong};
+use program_types::{Value, is_within_depth};
 use std::test::Fail;
 
 // Whether the value is as deep as that: within this depth, and not within one less.

@@ -1,7 +1,7 @@
-//! Tests of dex_program and dex_names: names in arenas, their orders and ranks, and values.
+//! Tests of program_types and tables_names: names in arenas, their orders and ranks, and values.
 #![tactic(auto)]
 
-// dex_program
+// program_types
 #[cfg(test)]
 mod depths;
 #[cfg(test)]
@@ -13,12 +13,12 @@ mod sets;
 #[cfg(test)]
 mod shorties;
 
-// dex_names
+// tables_names
 #[cfg(test)]
 mod needed;
 #[cfg(test)]
 mod ranks_shown;
 
-// dex_rules
+// program_rules
 #[cfg(test)]
 mod rules;

@@ -3,11 +3,11 @@
 use crate::ranks_shown::shown_ranks;
 use bumpalo::Bump;
 use dex_base::Fault;
-use dex_names::{Needed, Ranks};
-use dex_program::Name;
 use dex_samples::{field, method, none_wrong, proto, text, ty};
+use program_types::Name;
 use std::alloc::Global;
 use std::test::Fail;
+use tables_names::{Needed, Ranks};
 
 // A name, and its rank.
 type Ranked = (&'static str, Option<u32>);

@@ -2,11 +2,11 @@
 
 use bumpalo::Bump;
 use dex_base::Fault;
-use dex_program::{
+use dex_samples::{field, method, none_wrong, proto, ty};
+use program_types::{
     Str, desc_cmp, desc_eq, field_ref_cmp, field_ref_eq, method_ref_cmp, method_ref_eq, proto_cmp,
     proto_eq, str_cmp, str_eq,
 };
-use dex_samples::{field, method, none_wrong, proto, ty};
 use std::cmp::Ordering;
 use std::test::Fail;
 

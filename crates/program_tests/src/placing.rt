@@ -2,8 +2,8 @@
 
 use bumpalo::Bump;
 use dex_base::Fault;
-use dex_program::{place_descs, place_proto, place_str};
 use dex_samples::{first_unit, is_so, ty};
+use program_types::{place_descs, place_proto, place_str};
 use std::alloc::Global;
 use std::test::Fail;
 

@@ -1,9 +1,9 @@
 //! The names that are needed, as text, each at its rank.
 
 use dex_base::Fault;
-use dex_names::Ranks;
 use dex_samples::{put_field, put_method, put_proto, put_units};
 use std::alloc::Global;
+use tables_names::Ranks;
 
 // More than any kind of these tests has.
 const NAMES: u32 = 100;

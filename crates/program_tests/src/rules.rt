@@ -4,11 +4,11 @@ use crate::depths::nested;
 use bumpalo::Bump;
 use bumpalo::collections::into_bump_slice;
 use dex_base::{Fault, fault};
-use dex_program::{
+use dex_samples::{is_so, none_wrong};
+use program_rules::{well_formed, well_formed_in};
+use program_types::{
     Catch, Class, Code, Desc, Insn, Member, Method, Name, Program, Proto, Str, Try, Value,
 };
-use dex_rules::{well_formed, well_formed_in};
-use dex_samples::{is_so, none_wrong};
 use std::alloc::Global;
 use std::test::Fail;
 

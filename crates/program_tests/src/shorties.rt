@@ -2,8 +2,8 @@
 
 use bumpalo::Bump;
 use dex_base::Fault;
-use dex_program::shorty_of;
 use dex_samples::{none_wrong, proto, text};
+use program_types::shorty_of;
 use std::alloc::Global;
 use std::test::Fail;
 

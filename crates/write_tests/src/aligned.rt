@@ -6,8 +6,8 @@ use crate::many::{body, program};
 use bumpalo::Bump;
 use bumpalo::collections::into_bump_slice;
 use dex_base::Fault;
-use dex_program::{Insn, Program};
 use dex_samples::none_wrong;
+use program_types::{Insn, Program};
 use std::alloc::Global;
 use std::test::Fail;
 

@@ -7,8 +7,8 @@ use crate::small::RETURN;
 use bumpalo::Bump;
 use bumpalo::collections::into_bump_slice;
 use dex_base::{Fault, fault};
-use dex_program::{Code, Insn, Program, Try};
 use dex_samples::{is_so, none_wrong};
+use program_types::{Code, Insn, Program, Try};
 use std::alloc::Global;
 use std::test::Fail;
 

@@ -2,7 +2,7 @@
 
 use dex_base::{Fault, u32_at};
 use dex_samples::{file_of_item, item_of, none_wrong};
-use dex_write::strip;
+use file_write::strip;
 use std::alloc::Global;
 use std::test::Fail;
 

@@ -1,11 +1,11 @@
 //! Programs that keep the rules, written.
 
 use bumpalo::Bump;
-use dex_align::align_all;
 use dex_base::Fault;
-use dex_program::Program;
-use dex_rules::well_formed;
-use dex_write::write;
+use file_align::align_all;
+use file_write::write;
+use program_rules::well_formed;
+use program_types::Program;
 use std::alloc::Global;
 
 /// The file of a program. Refused as `well_formed` or `write` refuses it.

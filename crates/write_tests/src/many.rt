@@ -4,7 +4,7 @@ use crate::small::{A, VOID};
 use bumpalo::Bump;
 use bumpalo::collections::into_bump_slice;
 use dex_base::Fault;
-use dex_program::{
+use program_types::{
     Class, Code, Desc, FieldRef, Insn, Member, Method, MethodRef, Name, Program, Proto, Str, Try,
     place_str,
 };

@@ -6,8 +6,8 @@ use crate::small::RETURN;
 use bumpalo::Bump;
 use bumpalo::collections::into_bump_slice;
 use dex_base::{Fault, fault};
-use dex_program::{Insn, Name, Program, Str};
 use dex_samples::none_wrong;
+use program_types::{Insn, Name, Program, Str};
 use std::alloc::Global;
 use std::test::Fail;
 

@@ -4,12 +4,12 @@ use crate::kept::file_of;
 use crate::small::{BODY, EMPTY, METHOD, TWO, VOID};
 use bumpalo::Bump;
 use dex_base::{Fault, fault, u32_at};
-use dex_file::read;
-use dex_program::{Class, Desc, Member, Method, Program, Proto, Str, Value};
 use dex_samples::{
     NOTHING, ONE_CLASS, Rows, closed_with, file_of as rows_file, is_so, length, none_wrong,
 };
-use dex_write::strip;
+use file_read::read;
+use file_write::strip;
+use program_types::{Class, Desc, Member, Method, Program, Proto, Str, Value};
 use std::alloc::Global;
 use std::test::Fail;
 

@@ -1,6 +1,6 @@
 //! The program of file S, with another body or with another method.
 
-use dex_program::{Class, Code, Desc, Insn, Method, Proto, Str};
+use program_types::{Class, Code, Desc, Insn, Method, Proto, Str};
 
 /// `LA;`.
 pub const A: Desc<'static> = Desc {

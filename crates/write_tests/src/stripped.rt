@@ -2,7 +2,7 @@
 
 use dex_base::Fault;
 use dex_samples::{NOTHING, ONE_CLASS, Rows, closed_with, file_of, none_wrong};
-use dex_write::strip;
+use file_write::strip;
 use std::alloc::Global;
 use std::test::Fail;
 

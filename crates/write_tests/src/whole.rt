@@ -4,10 +4,10 @@ use crate::kept::file_of;
 use crate::small::{BODY, EMPTY, METHOD, ONE, TWO, VOID};
 use bumpalo::Bump;
 use dex_base::{Fault, u32_at};
-use dex_file::read;
-use dex_program::{Class, Code, Desc, Method, Program, Proto, Str};
 use dex_samples::{ONE_CLASS, WITHOUT_CLASSES, is_so, none_wrong};
-use dex_write::strip;
+use file_read::read;
+use file_write::strip;
+use program_types::{Class, Code, Desc, Method, Program, Proto, Str};
 use std::alloc::Global;
 use std::test::Fail;
 

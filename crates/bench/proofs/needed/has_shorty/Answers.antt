@@ -3,8 +3,8 @@ use Rattle.std.specs.List.{AllByRecursion}
 use Rattle.std.proofs.lemmas.List.{take_all}
 use Rattle.std.proofs.lemmas.List.Elements.{All-from_recursion}
 use Rattle.dex_base.specs.Descriptor.{IsDescriptor}
-use Rattle.dex_program.specs.View.{desc}
-use Rattle.dex_program.specs.declared.names.Desc.{Desc}
+use Rattle.program_types.specs.View.{desc}
+use Rattle.program_types.specs.declared.names.Desc.{Desc}
 use Rattle.bench.proofs.needed.has_shorty.Goals as goal
 
 -- one more is

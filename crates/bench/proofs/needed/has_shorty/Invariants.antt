@@ -1,7 +1,7 @@
 use Rattle.std.proofs.Common.{map, take}
 use Rattle.std.specs.List.{AllByRecursion}
 use Rattle.dex_base.specs.Descriptor.{IsDescriptor}
-use Rattle.dex_program.specs.View.{desc}
+use Rattle.program_types.specs.View.{desc}
 use Rattle.bench.proofs.needed.has_shorty.Given as goal
 
 -- the parameters so far are descriptors

@@ -1,5 +1,5 @@
 use Rattle.std.proofs.Common.{refl}
-use Rattle.dex_program.specs.View as view
+use Rattle.program_types.specs.View as view
 use Rattle.code_tests.proofs.FormedCodes.{formed_of}
 use Rattle.code_tests.proofs.puts.is_formed.Goals as goal
 

@@ -1,7 +1,7 @@
 use Rattle.std.proofs.Common.{subst, sym}
-use Rattle.dex_code_put.specs.Fits.{CanBePut}
-use Rattle.dex_names.specs.Closure.{NameRanks, Five}
-use Rattle.dex_program.specs.View as view
+use Rattle.code_put.specs.Fits.{CanBePut}
+use Rattle.tables_names.specs.Closure.{NameRanks, Five}
+use Rattle.program_types.specs.View as view
 use Rattle.code_tests.proofs.FormedCodes.{can_be_put}
 use Rattle.code_tests.proofs.puts.put_nameless.Goals as goal
 

@@ -1,5 +1,5 @@
 use Rattle.std.proofs.Common.{◌<◌}
-use Rattle.dex_bytes.proofs.ShortestLaws.{all_recursion}
+use Rattle.base_bytes.proofs.ShortestLaws.{all_recursion}
 use Rattle.dex_base.proofs.TextLaws.{packed_is_text, packed_one}
 use Rattle.dex_base.proofs.laws.packed_text_is_one_text.Goals as goal
 

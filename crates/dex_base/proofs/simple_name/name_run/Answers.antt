@@ -1,7 +1,7 @@
 use Rattle.std.proofs.Common.{[], ◌∷◌, ◌++◌, refl}
 use Rattle.std.proofs.lemmas.List.{take_rest}
 use Rattle.dex_base.specs.Names.{SpellsPoint}
-use Rattle.dex_bytes.proofs.GrammarLaws.{Each-none, Each-more}
+use Rattle.base_bytes.proofs.GrammarLaws.{Each-none, Each-more}
 use Rattle.dex_base.proofs.simple_name.name_run.Goals as goal
 
 pub loop-length-init : goal.loop-length-init

@@ -1,5 +1,5 @@
-use Rattle.dex_names.specs.Closure.{NameRanks}
-use Rattle.dex_tables.specs.Names.{NameIsAt}
+use Rattle.tables_names.specs.Closure.{NameRanks}
+use Rattle.tables_rows.specs.Names.{NameIsAt}
 use Rattle.dex_value.proofs.Weaker.{SpellsArray-weaker}
 use Rattle.dex_value.proofs.laws.array_carries_over.Goals as goal
 

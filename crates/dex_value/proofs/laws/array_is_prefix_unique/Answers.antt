@@ -1,4 +1,4 @@
-use Rattle.dex_tables.specs.Names.{NameIsAt}
+use Rattle.tables_rows.specs.Names.{NameIsAt}
 use Rattle.dex_value.proofs.FrontLaws.{SpellsArray-unique}
 use Rattle.dex_value.proofs.Namings.{NameIsAt-functional}
 use Rattle.dex_value.proofs.laws.array_is_prefix_unique.Goals as goal

@@ -1,4 +1,4 @@
-use Rattle.dex_names.specs.Closure.{NameRanks}
+use Rattle.tables_names.specs.Closure.{NameRanks}
 use Rattle.dex_value.proofs.Lengths.{SpellsArray-most}
 use Rattle.dex_value.proofs.Places.{SpellsArray-least}
 use Rattle.dex_value.proofs.laws.array_is_short.Goals as goal

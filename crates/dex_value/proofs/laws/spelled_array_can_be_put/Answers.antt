@@ -1,4 +1,4 @@
-use Rattle.dex_names.specs.Closure.{NameRanks}
+use Rattle.tables_names.specs.Closure.{NameRanks}
 use Rattle.dex_value.proofs.Fitting.{spelled_ranked, spelled_fits, narrow_fits}
 use Rattle.dex_value.proofs.laws.spelled_array_can_be_put.Goals as goal
 

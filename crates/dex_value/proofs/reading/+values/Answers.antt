@@ -1,10 +1,10 @@
 use Rattle.std.proofs.Common.{◌∷◌, map, refl, ap, ◌∙◌, false, true, arith}
 use Rattle.std.proofs.lemmas.Grind.{common_steps}
 use Rattle.std.proofs.lemmas.Result.{IfErr-weaker, err_from_is_err_and}
-use Rattle.dex_program.specs.View.{value}
-use Rattle.dex_program.specs.Content.{Null, Boolean}
-use Rattle.dex_program.proofs.ValueViews.{value_array, value_null, value_bool}
-use Rattle.dex_tables.specs.Names.{NameIsAt}
+use Rattle.program_types.specs.View.{value}
+use Rattle.program_types.specs.Content.{Null, Boolean}
+use Rattle.program_types.proofs.ValueViews.{value_array, value_null, value_bool}
+use Rattle.tables_rows.specs.Names.{NameIsAt}
 use Rattle.dex_value.specs.Standing.{Shallow}
 use Rattle.dex_value.specs.Faults.{ValueBreaks}
 use Rattle.dex_value.proofs.Taking.{takes_alone, takes_array, next_breaks, next_taken, own_breaks}

@@ -1,7 +1,7 @@
 use Rattle.std.proofs.Common.{◌≡◌, ◌+◌, ◌*◌, length, map}
-use Rattle.dex_bytes.specs.Grammar.{Takes, Each}
-use Rattle.dex_program.specs.View.{value}
-use Rattle.dex_tables.specs.Names.{NameIsAt}
+use Rattle.base_bytes.specs.Grammar.{Takes, Each}
+use Rattle.program_types.specs.View.{value}
+use Rattle.tables_rows.specs.Names.{NameIsAt}
 use Rattle.dex_value.specs.Standing.{Shallow}
 use Rattle.dex_value.proofs.reading.+values.Given as goal
 

@@ -1,8 +1,8 @@
 use Rattle.std.proofs.Common.{map, Result, Ok, Err, IfOk}
 use Rattle.std.proofs.lemmas.List.{length-map}
 use Rattle.std.proofs.lemmas.Result.{IfErr-weaker, IfOk-weaker}
-use Rattle.dex_program.specs.View.{value}
-use Rattle.dex_tables.specs.Names.{NameIsAt}
+use Rattle.program_types.specs.View.{value}
+use Rattle.tables_rows.specs.Names.{NameIsAt}
 use Rattle.dex_container.specs.Where.{IsSectionOf}
 use Rattle.dex_value.proofs.Namings.{NameIsAt-functional}
 use Rattle.dex_value.proofs.Places.{outside_none, array_stands, array_only, broken_none, broken}

@@ -1,8 +1,8 @@
 use Rattle.std.proofs.Common.{ap, ◌∙◌, inl, inr, drop, map}
-use Rattle.dex_bytes.specs.Leb128.{Spells}
-use Rattle.dex_bytes.proofs.TakesLaws.{Takes-from_begins}
-use Rattle.dex_program.specs.View.{value}
-use Rattle.dex_tables.specs.Names.{NameIsAt}
+use Rattle.base_bytes.specs.Leb128.{Spells}
+use Rattle.base_bytes.proofs.TakesLaws.{Takes-from_begins}
+use Rattle.program_types.specs.View.{value}
+use Rattle.tables_rows.specs.Names.{NameIsAt}
 use Rattle.dex_value.proofs.Taking.{takes_static, takes_deep}
 use Rattle.dex_value.proofs.reading.read_rest.Goals as goal
 

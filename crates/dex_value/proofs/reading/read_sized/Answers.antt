@@ -1,6 +1,6 @@
 use Rattle.std.proofs.Common.{◌≡◌, ◌+◌, ◌%◌, ℕ, take, drop, ap, sym, subst, ◌∙◌, arith}
-use Rattle.dex_program.specs.View.{value}
-use Rattle.dex_tables.specs.Names.{NameIsAt}
+use Rattle.program_types.specs.View.{value}
+use Rattle.tables_rows.specs.Names.{NameIsAt}
 use Rattle.dex_value.specs.Faults.{widest_of}
 use Rattle.dex_value.specs.Reading.{sized_code, IsNumber, ValueStands}
 use Rattle.dex_value.proofs.Namings.{number_stands}

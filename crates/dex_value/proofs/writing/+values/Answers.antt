@@ -1,15 +1,15 @@
 use Rattle.std.proofs.Common.{◌≡◌, ◌≤◌, length, map, sym, subst, arith, get_or}
 use Rattle.std.proofs.lemmas.Result.{on_ok_weaker}
 use Rattle.std.proofs.lemmas.List.{length-map}
-use Rattle.dex_bytes.specs.Grammar.{Appends}
-use Rattle.dex_bytes.specs.Leb128.{Shortest}
-use Rattle.dex_program.specs.Content.{values}
-use Rattle.dex_program.specs.View.{value}
-use Rattle.dex_program.specs.declared.value.Value as made
-use Rattle.dex_program.proofs.ValueViews.{value_array}
-use Rattle.dex_names.specs.Closure.{NameRanks}
+use Rattle.base_bytes.specs.Grammar.{Appends}
+use Rattle.base_bytes.specs.Leb128.{Shortest}
+use Rattle.program_types.specs.Content.{values}
+use Rattle.program_types.specs.View.{value}
+use Rattle.program_types.specs.declared.value.Value as made
+use Rattle.program_types.proofs.ValueViews.{value_array}
+use Rattle.tables_names.specs.Closure.{NameRanks}
 use Rattle.dex_value.specs.Spelling.{SpellsValue}
-use Rattle.dex_program.specs.Mentions.{NamesHold}
+use Rattle.program_types.specs.Mentions.{NamesHold}
 use Rattle.dex_value.specs.Named.{IsRanked}
 use Rattle.dex_value.specs.Counts.{CountsFit}
 use Rattle.dex_value.specs.Wide.{wide_value, wide_values}

@@ -1,6 +1,6 @@
 use Rattle.std.proofs.Common.{◌+◌, ◌*◌, map}
-use Rattle.dex_program.specs.Content.{values}
-use Rattle.dex_program.specs.View.{value}
+use Rattle.program_types.specs.Content.{values}
+use Rattle.program_types.specs.View.{value}
 use Rattle.dex_value.specs.Wide.{wide_value, wide_values}
 use Rattle.dex_value.proofs.Appending.{Writing}
 use Rattle.dex_value.proofs.writing.+values.Given as goal

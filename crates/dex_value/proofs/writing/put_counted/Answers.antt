@@ -1,8 +1,8 @@
 use Rattle.std.proofs.Common.{length, map, arith}
 use Rattle.std.proofs.lemmas.List.{length-map}
 use Rattle.std.proofs.lemmas.Result.{on_ok_weaker}
-use Rattle.dex_program.specs.View.{value}
-use Rattle.dex_names.specs.Closure.{NameRanks}
+use Rattle.program_types.specs.View.{value}
+use Rattle.tables_names.specs.Closure.{NameRanks}
 use Rattle.dex_value.proofs.Appending.{array_appends}
 use Rattle.dex_value.proofs.writing.put_counted.Goals as goal
 

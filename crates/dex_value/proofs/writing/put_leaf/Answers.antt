@@ -1,10 +1,10 @@
 use Rattle.std.proofs.Common.{ℕ, subst}
 use Rattle.std.proofs.lemmas.Result.{on_ok_weaker}
-use Rattle.dex_bytes.specs.Grammar.{Appends}
-use Rattle.dex_bytes.specs.Leb128.{Shortest}
-use Rattle.dex_program.specs.View.{field_ref}
-use Rattle.dex_program.proofs.ValueViews.{value_float, value_enum}
-use Rattle.dex_names.specs.Closure.{NameRanks}
+use Rattle.base_bytes.specs.Grammar.{Appends}
+use Rattle.base_bytes.specs.Leb128.{Shortest}
+use Rattle.program_types.specs.View.{field_ref}
+use Rattle.program_types.proofs.ValueViews.{value_float, value_enum}
+use Rattle.tables_names.specs.Closure.{NameRanks}
 use Rattle.dex_value.specs.Writing.{HighAs}
 use Rattle.dex_value.proofs.Appending.{float_appends, enum_appends}
 use Rattle.dex_value.proofs.writing.put_leaf.Goals as goal

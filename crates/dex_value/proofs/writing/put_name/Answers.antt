@@ -1,8 +1,8 @@
 use Rattle.std.proofs.Common.{ℕ, subst}
 use Rattle.std.proofs.lemmas.Result.{on_ok_weaker}
-use Rattle.dex_bytes.specs.Grammar.{Appends}
-use Rattle.dex_bytes.specs.Leb128.{Shortest}
-use Rattle.dex_program.specs.View as view
+use Rattle.base_bytes.specs.Grammar.{Appends}
+use Rattle.base_bytes.specs.Leb128.{Shortest}
+use Rattle.program_types.specs.View as view
 use Rattle.dex_value.specs.Writing.{UnsignedAs}
 use Rattle.dex_value.proofs.Appending.{index_appends}
 use Rattle.dex_value.proofs.writing.put_name.Goals as goal

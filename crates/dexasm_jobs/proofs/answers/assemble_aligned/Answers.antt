@@ -1,6 +1,6 @@
 use Rattle.std.proofs.Common.{inl, inr}
 use Rattle.std.proofs.lemmas.Result.{IfErr-weaker, IfOk-weaker}
-use Rattle.dex_rules.proofs.OrderLaws.{passed}
+use Rattle.program_rules.proofs.OrderLaws.{passed}
 use Rattle.dexasm_jobs.proofs.answers.assemble_aligned.Goals as goal
 
 pub returns-in_err-program-clause-refused : goal.returns-in_err-program-clause-refused

@@ -1,6 +1,6 @@
 use Rattle.std.proofs.Common.{arith}
 use Rattle.std.proofs.lemmas.List.{length-map}
-use Rattle.dex_program.specs.View.{value}
+use Rattle.program_types.specs.View.{value}
 use Rattle.file_tests.proofs.values_put.put_flat.Goals as goal
 
 pub put_array-requires-clause-counts : goal.put_array-requires-clause-counts

@@ -1,7 +1,7 @@
 use Rattle.std.proofs.Common.{map, lit<, arith}
 use Rattle.std.proofs.lemmas.List.{length-map}
-use Rattle.dex_program.specs.View.{value}
-use Rattle.dex_program.proofs.ValueViews.{value_array}
+use Rattle.program_types.specs.View.{value}
+use Rattle.program_types.proofs.ValueViews.{value_array}
 use Rattle.dex_value.proofs.Lists.{count_of-values}
 use Rattle.file_tests.proofs.values_put.put_inner.Goals as goal
 

@@ -1,0 +1,31 @@
+-- Grammars through a relation, and what stands behind a front that is known.
+use Rattle.std.proofs.Common.{◌≡◌, ℕ, List, ◌++◌, length, drop, sym, subst}
+use Rattle.base_bytes.specs.Grammar.{IsPrefixUnique, Begins, Takes, NoneBegins, Then}
+use Rattle.base_bytes.specs.Via.{Via}
+use Rattle.base_bytes.proofs.GrammarLaws.{Then-none_second}
+use Rattle.base_bytes.proofs.TakesLaws.{Takes-from_begins, Begins-from_takes, Takes-unique}
+
+pub Via-unique : {U V : Type 0} (G : List ℕ → U → Type 0) (R : U → V → Type 0) → IsPrefixUnique G → ((u : U) (v w : V) → R u v → R u w → v ≡ w) → IsPrefixUnique (Via G R)
+Via-unique {U} {V} G R g f a b x y v w p q e =
+    let one = g a b x y p.raw q.raw p.spelled q.spelled e in
+    (one.0, f p.raw v w p.means (subst (λ (u : U). R u w) (sym one.1) q.means))
+
+pub via-takes : {U V : Type 0} (G : List ℕ → U → Type 0) (R : U → V → Type 0) (bytes rest : List ℕ) (u : U) (v : V) → Takes G bytes u rest → R u v → Takes (Via G R) bytes v rest
+via-takes G R bytes rest u v t r = record { front = t.front; whole = t.whole; spelled = record { raw = u; spelled = t.spelled; means = r } }
+
+pub via-none : {U V : Type 0} (G : List ℕ → U → Type 0) (R : U → V → Type 0) (bytes : List ℕ) → NoneBegins G bytes → NoneBegins (Via G R) bytes
+via-none G R bytes none front rest v e s = none front rest s.raw e s.spelled
+
+pub via-nothing : {U V : Type 0} (G : List ℕ → U → Type 0) (R : U → V → Type 0) (bytes rest : List ℕ) (u : U) → IsPrefixUnique G → Takes G bytes u rest → ((v : V) → R u v → ⊥) → NoneBegins (Via G R) bytes
+via-nothing {U} {V} G R bytes rest u g t nothing front r v e s =
+    let one = Takes-unique G bytes u s.raw rest r g t (record { front = front; whole = e; spelled = s.spelled }) in
+    nothing v (subst (λ (w : U). R w v) (sym one.0) s.means)
+
+-- what stands behind a known front spells nothing
+pub second-none : {V W : Type 0} (G : List ℕ → V → Type 0) (H : V → List ℕ → W → Type 0) (bytes mid : List ℕ) (v : V) → IsPrefixUnique G → Takes G bytes v mid → NoneBegins (H v) mid → NoneBegins (Then G H) bytes
+second-none G H bytes mid v g t none =
+    let b = Begins-from_takes G bytes v mid t in
+    Then-none_second G H bytes v (length t.front) g b.0 (subst (λ (l : List ℕ). NoneBegins (H v) l) (sym b.1) none)
+
+pub takes-rest : {V : Type 0} (G : List ℕ → V → Type 0) (bytes rest : List ℕ) (v : V) (n : ℕ) → Begins G bytes v n → rest ≡ drop n bytes → Takes G bytes v rest
+takes-rest {V} G bytes rest v n b e = subst (λ (r : List ℕ). Takes G bytes v r) (sym e) (Takes-from_begins G bytes v n b)

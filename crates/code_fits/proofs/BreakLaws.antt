@@ -1,0 +1,227 @@
+-- Which limits a code breaks: none exactly if it fits, and of those that it breaks the lowest.
+use Rattle.std.proofs.Common.{◌≡◌, ◌≢◌, Bool, true, false, ℕ, pos, ◌-ℤ◌, ◌+◌, ◌%◌, ◌<◌, ◌≤◌, ◌⊎◌, inl, inr, ⊎_elim, List, [], ◌∷◌, length, eqb, get_or, refl, sym, subst, arith, Option, Some, None}
+use Rattle.std.proofs.lemmas.Bool.{cases_lt, eqb-true, eqb-false}
+use Rattle.std.proofs.lemmas.Int.{ints}
+use Rattle.std.specs.Int.{w8, w16, w32}
+use Rattle.std.specs.Prelude.{FitsSigned, IfSome, MatchBool}
+use Rattle.std.specs.List.{AllByRecursion}
+use Rattle.base_bytes.specs.declared.fault.Fault.{Fault}
+use Rattle.dex_container.specs.Faults.{on}
+use Rattle.dex_insn.specs.declared.opcode.IndexKind.{IndexKind}
+use Rattle.dex_insn.specs.declared.opcode.IndexKind.TheVariants as kind
+use Rattle.program_types.specs.Content.{Name, Insn, Code, Try}
+use Rattle.program_types.specs.Content as made
+use Rattle.program_types.specs.Formed.{insn_at, insn_targets}
+use Rattle.program_types.specs.Kinds.{IsOfKind}
+use Rattle.program_types.specs.Sizes.{addresses_of}
+use Rattle.code_put.specs.Fits.{AllInsns, AllNumbers, AllTries, BranchFits, CodeBreaks, FitsCode, HandlersAreNear, IsEven, IsUnfit, OffsetsFit, ShortFits, TargetsFit, TryFits, distance_of, short_name, wide_code}
+
+-- ---- by the number
+
+pub on_split : (code number : ℕ) (P Q : Type 0) → on code number P Q → ((code ≡ number) × P) ⊎ ((code ≢ number) × Q)
+on_split code number P Q h = elim (eqb code number) as (λ (t : Bool). eqb code number ≡ t → MatchBool t P Q → ((code ≡ number) × P) ⊎ ((code ≢ number) × Q)) [
+  | true ↦ λ e x. inl (eqb-true code number e, x)
+  | false ↦ λ e x. inr (eqb-false code number e, x)
+] refl h
+
+pub on_other : (code number : ℕ) (P Q : Type 0) → code ≢ number → Q → on code number P Q
+on_other code number P Q n q = elim (eqb code number) as (λ (t : Bool). eqb code number ≡ t → MatchBool t P Q) [
+  | true ↦ λ e. absurd (n (eqb-true code number e))
+  | false ↦ λ e. q
+] refl
+
+-- the numbers of the limits of a code
+abbrev pub IsCodeLimit : ℕ → Type 0
+IsCodeLimit m = (82 ≤ m) × (m ≤ 89)
+
+on_in : (m number : ℕ) (P Q : Type 0) → IsCodeLimit number → (Q → IsCodeLimit m) → on m number P Q → IsCodeLimit m
+on_in m number P Q r f h = elim (on_split m number P Q h) [
+  | inl x ↦ subst IsCodeLimit (sym x.0) r
+  | inr x ↦ f x.1
+]
+
+pub breaks_range : (N : ℕ → Name → Type 0) (c : Code) (m : ℕ) → CodeBreaks N m c → IsCodeLimit m
+breaks_range N c m h =
+    on_in m 82 _ _ (omega arith, omega arith) (λ h. on_in m 83 _ _ (omega arith, omega arith) (λ h. on_in m 84 _ _ (omega arith, omega arith) (λ h. on_in m 85 _ _ (omega arith, omega arith)
+    (λ h. on_in m 86 _ _ (omega arith, omega arith) (λ h. on_in m 87 _ _ (omega arith, omega arith) (λ h. on_in m 88 _ _ (omega arith, omega arith) (λ h. on_in m 89 _ _ (omega arith, omega arith)
+    (λ none. absurd none) h) h) h) h) h) h) h) h
+
+-- ---- the lowest that is broken
+
+-- The code breaks no limit below this number.
+abbrev pub IsClearBelow : (ℕ → Name → Type 0) → Code → ℕ → Type 0
+IsClearBelow N c k = (m : ℕ) → m < k → ¬ CodeBreaks N m c
+
+-- the refusal of this number
+abbrev pub unfit : ℕ → Fault
+unfit number = record { code = number; place = 0 }
+
+module _ (N : ℕ → Name → Type 0) (c : Code) where
+  next : (k : ℕ) → IsClearBelow N c k → (¬ CodeBreaks N k c) → IsClearBelow N c (k + 1)
+  next k below here m lt h = ⊎_elim (λ (less : m < k). below m less h) (λ (same : k ≤ m). let e : m ≡ k = omega (arith, lt, same) in here (subst (λ (n : ℕ). CodeBreaks N n c) e h)) (cases_lt m k)
+
+  lowest : (k : ℕ) → IsClearBelow N c k → CodeBreaks N k c → IsUnfit N c (unfit k)
+  lowest k below h = record {
+    breaks = h;
+    lowest = λ m x. ⊎_elim (λ (less : m < k). absurd (below m less x)) (λ (le : k ≤ m). le) (cases_lt m k);
+    place = refl;
+  }
+
+  clear82 : IsClearBelow N c 82
+  clear82 m lt h = let r = (breaks_range N c m h).0 in omega (arith, lt, r)
+
+  pub unfit82 : (¬ AllInsns (ShortFits N kind.String) c) → IsUnfit N c (unfit 82)
+  unfit82 broken = lowest 82 clear82 broken
+
+  module _ (strings : AllInsns (ShortFits N kind.String) c) where
+    clear83 : IsClearBelow N c 83
+    clear83 = next 82 clear82 (λ no. no strings)
+
+    pub unfit83 : (¬ AllInsns (ShortFits N kind.Field) c) → IsUnfit N c (unfit 83)
+    unfit83 broken = lowest 83 clear83 broken
+
+    module _ (fields : AllInsns (ShortFits N kind.Field) c) where
+      clear84 : IsClearBelow N c 84
+      clear84 = next 83 clear83 (λ no. no fields)
+
+      pub unfit84 : (¬ AllInsns (ShortFits N kind.Method) c) → IsUnfit N c (unfit 84)
+      unfit84 broken = lowest 84 clear84 broken
+
+      module _ (methods : AllInsns (ShortFits N kind.Method) c) where
+        clear85 : IsClearBelow N c 85
+        clear85 = next 84 clear84 (λ no. no methods)
+
+        pub unfit85 : (¬ AllNumbers OffsetsFit c) → IsUnfit N c (unfit 85)
+        unfit85 broken = lowest 85 clear85 broken
+
+        module _ (offsets : AllNumbers OffsetsFit c) where
+          clear86 : IsClearBelow N c 86
+          clear86 = next 85 clear85 (λ no. no offsets)
+
+          pub unfit86 : (¬ AllNumbers IsEven c) → IsUnfit N c (unfit 86)
+          unfit86 broken = lowest 86 clear86 broken
+
+          module _ (even : AllNumbers IsEven c) where
+            clear87 : IsClearBelow N c 87
+            clear87 = next 86 clear86 (λ no. no even)
+
+            pub unfit87 : (¬ AllTries TryFits c) → IsUnfit N c (unfit 87)
+            unfit87 broken = lowest 87 clear87 broken
+
+            module _ (tries : AllTries TryFits c) where
+              clear88 : IsClearBelow N c 88
+              clear88 = next 87 clear87 (λ no. no tries)
+
+              pub unfit88 : 65535 < length c.tries → IsUnfit N c (unfit 88)
+              unfit88 many = lowest 88 clear88 many
+
+              module _ (few : length c.tries ≤ 65535) where
+                clear89 : IsClearBelow N c 89
+                clear89 = next 88 clear88 (λ many. omega (arith, many, few))
+
+                pub unfit89 : wide_code c ≤ 4294967295 → (¬ HandlersAreNear N (addresses_of c.insns) c.tries) → IsUnfit N c (unfit 89)
+                unfit89 short far = lowest 89 clear89 (short, far)
+
+                pub clear90 : (wide_code c ≤ 4294967295 → HandlersAreNear N (addresses_of c.insns) c.tries) → IsClearBelow N c 90
+                clear90 near = next 89 clear89 (λ far. far.1 (near far.0))
+
+-- what fits breaks no limit
+pub fits_clear : (N : ℕ → Name → Type 0) (c : Code) (m : ℕ) → FitsCode N c → ¬ CodeBreaks N m c
+fits_clear N c m f h =
+    let r = (breaks_range N c m h).1 in
+    clear90 N c f.strings f.fields f.methods f.offsets f.even f.tries f.few f.handlers m (omega (arith, r)) h
+
+-- ---- what breaks no limit fits
+
+-- it holds, if it isn't so that it doesn't
+abbrev Stable : Type 0 → Type 0
+Stable P = (¬ (¬ P)) → P
+
+less_stable : (m n : ℕ) → Stable (m < n)
+less_stable m n h = ⊎_elim (λ (lt : m < n). lt) (λ (le : n ≤ m). absurd (h (λ lt. omega (arith, lt, le)))) (cases_lt m n)
+
+most_stable : (m n : ℕ) → Stable (m ≤ n)
+most_stable m n h = ⊎_elim (λ (lt : n < m). absurd (h (λ le. omega (arith, lt, le)))) (λ (le : m ≤ n). le) (cases_lt n m)
+
+none_stable : (n : ℕ) → Stable (n ≡ 0)
+none_stable n h = let l = most_stable n 0 (λ no. h (λ e. no (omega (arith, e)))) in omega (arith, l)
+
+all_stable : {A : Type 0} (P : A → Type 0) → ((x : A) → Stable (P x)) → (xs : List A) → Stable (AllByRecursion P xs)
+all_stable P s [] h = tt
+all_stable P s (x ∷ xs) h = (s x (λ no. h (λ f. no f.0)), all_stable P s xs (λ no. h (λ f. no f.1)))
+
+-- ---- names
+
+short_stable : (N : ℕ → Name → Type 0) (k : IndexKind) (i : Insn) → Stable (ShortFits N k i)
+short_stable N k i = by (short_name i)
+  where
+    by : (o : Option Name) → Stable (IfSome o (λ which. IsOfKind k which → (index : ℕ) → N index which → index < 65536))
+    by None h = tt
+    by (Some which) h = λ is index at. less_stable index 65536 (λ no. h (λ f. no (f is index at)))
+
+insns_stable : (P : Insn → Type 0) → ((i : Insn) → Stable (P i)) → (c : Code) → Stable (AllInsns P c)
+insns_stable P s c h = λ k lt. s (insn_at c.insns k) (λ no. h (λ f. no (f k lt)))
+
+-- ---- offsets
+
+near8 : (a b : ℕ) → Stable (FitsSigned w8 (pos a -ℤ pos b))
+near8 a b h =
+    let high = most_stable a (b + 127) (λ no. h (λ f. no (omega (arith, ints, f)))) in
+    let low = most_stable b (a + 128) (λ no. h (λ f. no (omega (arith, ints, f)))) in
+    omega (arith, ints, high, low)
+
+near16 : (a b : ℕ) → Stable (FitsSigned w16 (pos a -ℤ pos b))
+near16 a b h =
+    let high = most_stable a (b + 32767) (λ no. h (λ f. no (omega (arith, ints, f)))) in
+    let low = most_stable b (a + 32768) (λ no. h (λ f. no (omega (arith, ints, f)))) in
+    omega (arith, ints, high, low)
+
+near32 : (a b : ℕ) → Stable (FitsSigned w32 (pos a -ℤ pos b))
+near32 a b h =
+    let high = most_stable a (b + 2147483647) (λ no. h (λ f. no (omega (arith, ints, f)))) in
+    let low = most_stable b (a + 2147483648) (λ no. h (λ f. no (omega (arith, ints, f)))) in
+    omega (arith, ints, high, low)
+
+branch_stable : (ss : List ℕ) (at : ℕ) (i : Insn) → Stable (BranchFits ss at i)
+branch_stable ss at (made.I10t op to) h = near8 (get_or ss to 0) at h
+branch_stable ss at (made.I20t op to) h = near16 (get_or ss to 0) at h
+branch_stable ss at (made.I21t op a to) h = near16 (get_or ss to 0) at h
+branch_stable ss at (made.I22t op a b to) h = near16 (get_or ss to 0) at h
+branch_stable ss at (made.I30t op to) h = near32 (get_or ss to 0) at h
+branch_stable ss at (made.I31t op a to) h = near32 (get_or ss to 0) at h
+branch_stable ss at _ h = tt
+
+targets_stable : (ss : List ℕ) (at : ℕ) (i : Insn) → Stable (TargetsFit ss at i)
+targets_stable ss at i = all_stable (λ (to : ℕ). FitsSigned w32 (distance_of ss at to)) (λ to. near32 (get_or ss to 0) at) (insn_targets i)
+
+offsets_stable : (is : List Insn) (ss : List ℕ) (k : ℕ) → Stable (OffsetsFit is ss k)
+offsets_stable is ss k h = record {
+  branch = branch_stable ss (get_or ss k 0) (insn_at is k) (λ no. h (λ f. no f.branch));
+  targets = λ j r. targets_stable ss (get_or ss j 0) (insn_at is k) (λ no. h (λ f. no (f.targets j r)));
+}
+
+even_stable : (is : List Insn) (ss : List ℕ) (k : ℕ) → Stable (IsEven is ss k)
+even_stable is ss k h = λ some. none_stable (get_or ss k 0 % 2) (λ no. h (λ f. no (f some)))
+
+numbers_stable : (P : List Insn → List ℕ → ℕ → Type 0) → ((is : List Insn) (ss : List ℕ) (k : ℕ) → Stable (P is ss k)) → (c : Code) → Stable (AllNumbers P c)
+numbers_stable P s c h = λ k lt. s c.insns (addresses_of c.insns) k (λ no. h (λ f. no (f k lt)))
+
+-- ---- tries
+
+tries_stable : (c : Code) → Stable (AllTries TryFits c)
+tries_stable c h = λ i lt. most_stable _ _ (λ no. h (λ f. no (f i lt)))
+
+handlers_stable : (N : ℕ → Name → Type 0) (ss : List ℕ) (ts : List Try) → Stable (HandlersAreNear N ss ts)
+handlers_stable N ss ts h = λ list offs p i lt. less_stable (get_or offs i 0) 65536 (λ no. h (λ f. no (f list offs p i lt)))
+
+pub clear_fits : (N : ℕ → Name → Type 0) (c : Code) → ((m : ℕ) → ¬ CodeBreaks N m c) → FitsCode N c
+clear_fits N c clear = record {
+  strings = insns_stable (ShortFits N kind.String) (short_stable N kind.String) c (clear 82);
+  fields = insns_stable (ShortFits N kind.Field) (short_stable N kind.Field) c (clear 83);
+  methods = insns_stable (ShortFits N kind.Method) (short_stable N kind.Method) c (clear 84);
+  offsets = numbers_stable OffsetsFit offsets_stable c (clear 85);
+  even = numbers_stable IsEven even_stable c (clear 86);
+  tries = tries_stable c (clear 87);
+  few = ⊎_elim (λ (many : 65535 < length c.tries). absurd (clear 88 many)) (λ (few : length c.tries ≤ 65535). few) (cases_lt 65535 (length c.tries));
+  handlers = λ short. handlers_stable N (addresses_of c.insns) c.tries (λ no. clear 89 (short, no));
+}

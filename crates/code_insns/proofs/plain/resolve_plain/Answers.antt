@@ -1,0 +1,22 @@
+use Rattle.std.proofs.Common.{◌≡◌, List, sym, subst, map, length, arith}
+use Rattle.std.proofs.lemmas.List.{length-map}
+use Rattle.dex_insn.specs.Raw.{raw}
+use Rattle.program_types.specs.View.{insn}
+use Rattle.program_types.specs.declared.insn.Insn.{Insn as Held}
+use Rattle.tables_rows.specs.Names.{NameIsAt}
+use Rattle.code_insns.specs.Reading.{SaysPlainly, ArePlain}
+use Rattle.code_insns.proofs.ResolveLaws.{resolved-more, resolved-none}
+use Rattle.code_insns.proofs.PlainLaws.{plain_all}
+use Rattle.code_insns.proofs.plain.resolve_plain.Goals as goal
+
+pub loop-k-init : goal.loop-k-init
+loop-k-init c = resolved-none (SaysPlainly (NameIsAt c.args.tables.now) (map raw c.args.insns.now)) _ c.in_ok-found.ensures.items
+
+pub loop-k-preserved : goal.loop-k-preserved
+loop-k-preserved c = resolved-more (SaysPlainly (NameIsAt c.args.tables.now) (map raw c.args.insns.now)) c.loop-k.k c.loop-k.found.items _ c.in-Some.one c.loop-k.invariant c.in-Some.ensures c.in_ok-push-in-Some.ensures.items
+
+pub returns-clause-ok : goal.returns-clause-ok
+returns-clause-ok c =
+    let e : c.loop-k.k ≡ length (map raw c.args.insns.now) = omega (arith, length-map c.args.insns.now raw) in
+    subst (λ (xs : List Held). ArePlain (NameIsAt c.args.tables.now) (map raw c.args.insns.now) (map insn xs)) (sym c.into_bump_slice.ensures)
+    (plain_all (NameIsAt c.args.tables.now) (map raw c.args.insns.now) _ c.loop-k.k e c.loop-k.invariant)

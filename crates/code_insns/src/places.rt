@@ -1,0 +1,68 @@
+//! From addresses to the numbers of instructions.
+
+ghost use Rattle.std.specs.Prelude.{◌≡◌, ◌≤◌, length, pos, ◌+ℤ◌, ◌<ℤ◌, IfNone, IfSome};
+ghost use Rattle.code_insns.specs.Places.{Rises, IsBelow, count_below, position, place};
+
+/// Where the addresses that are not below `x` begin.
+fn split(starts: &[u32], x: u64) -> usize
+    requires { Rises starts.now }
+    ensures { IsBelow starts.now x result }
+{
+    let mut low = 0;
+    let mut high = starts.len();
+    while low < high {
+        let middle = low + (high - low) / 2;
+        if u64::from(starts[middle]) < x {
+            low = middle + 1;
+        } else {
+            high = middle;
+        }
+    }
+    low
+}
+
+/// How many addresses are below `x`.
+pub fn below(starts: &[u32], x: u64) -> usize
+    requires { Rises starts.now }
+    ensures counted { result ≡ count_below x starts.now }
+    ensures within { result ≤ length starts.now }
+{
+    split(starts, x)
+}
+
+/// The unit that is `offset` units from `base`.
+fn unit_at(base: u32, offset: i32) -> Option<u64>
+    ensures none { IfNone result ((pos base +ℤ offset) <ℤ pos 0) }
+    ensures some { IfSome result (λ n. pos n ≡ (pos base +ℤ offset)) }
+{
+    let unit = i64::from(base) + i64::from(offset);
+    if unit < 0 { None } else { Some(unit as u64) }
+}
+
+/// The number of the instruction that begins at the unit.
+pub fn number_at(starts: &[u32], unit: u64) -> Option<u32>
+    requires rises { Rises starts.now }
+    requires few { length starts.now ≤ 4294967295 }
+    ensures { result ≡ position starts.now unit }
+{
+    let n = split(starts, unit);
+    if n >= starts.len() {
+        return None;
+    }
+    if u64::from(starts[n]) != unit {
+        return None;
+    }
+    Some(n as u32)
+}
+
+/// The number of the instruction that is `offset` units from the address `base`.
+pub fn find(starts: &[u32], base: u32, offset: i32) -> Option<u32>
+    requires rises { Rises starts.now }
+    requires few { length starts.now ≤ 4294967295 }
+    ensures { result ≡ place starts.now base offset }
+{
+    match unit_at(base, offset) {
+        Some(unit) => number_at(starts, unit),
+        None => None,
+    }
+}

@@ -1,0 +1,80 @@
+-- What the private functions of writing say.
+use Rattle.std.specs.Prelude.{ℕ, ◌≡◌, ◌+◌, ◌≤◌, ◌<◌, ◌++◌, ◌==◌, if◌then◌else◌, List, [], ◌∷◌, length, take, ◌*◌, slice_index, slice_get, Option, Some, None, ◌⊎◌}
+use Rattle.std.specs.List.{AllZip, AllByRecursion, flat_map}
+use Rattle.base_bytes.specs.Leb128.{Spells, Shortest}
+use Rattle.dex_insn.specs.Raw.{Raw}
+use Rattle.dex_insn.specs.Written.{written}
+use Rattle.program_types.specs.Content.{Name, Insn, Try}
+use Rattle.program_types.specs.Content as made
+use Rattle.program_types.specs.Formed.{insn_at, try_at}
+use Rattle.tables_names.specs.Closure.{Five, NameRanks}
+use Rattle.code_read.specs.Handlers.{Handler}
+use Rattle.code_read.specs.Tries.{handler_of}
+use Rattle.code_put.specs.Fits.{catches_in}
+use Rattle.code_put.specs.Packs.{Lowers, IsOrigin, PacksHandler}
+
+-- the payload that a switch refers to
+unfoldable pub switched_by : Insn → Option ℕ
+switched_by (made.I31t op a to) = if op == 0x2b then Some to else (if op == 0x2c then Some to else None)
+switched_by _ = None
+
+-- The targets of each instruction count from these.
+pub record AreOrigins (is : List Insn) (js : List ℕ) : Type 0 where
+  pub count : length js ≡ length is
+  pub each : (k : ℕ) → k < length is → IsOrigin is k (slice_index js k)
+
+-- Payload k has its last switch among the first m instructions, or itself if it has none.
+abbrev pub IsLastSwitch : List Insn → ℕ → ℕ → ℕ → Type 0
+IsLastSwitch is m k j =
+    ((j ≡ k) × ((i : ℕ) → i < m → switched_by (insn_at is i) ≡ Some k → ⊥))
+    ⊎ ((j < m) × (switched_by (insn_at is j) ≡ Some k))
+
+-- the same of each instruction
+pub record AreSome (is : List Insn) (m : ℕ) (js : List ℕ) : Type 0 where
+  pub count : length js ≡ length is
+  pub each : (k : ℕ) → k < length is → IsLastSwitch is m k (slice_index js k)
+
+-- What is written of an instruction is appended.
+pub record PutInsn (N : ℕ → Name → Type 0) (ss : List ℕ) (at : ℕ) (i : Insn) (old new : List ℕ) : Type 0 where
+  pub raw : Raw
+  pub lowers : Lowers N ss at i raw
+  pub is_new : new ≡ old ++ written raw
+
+-- What is written of a payload is appended, whichever index stands for which name.
+abbrev pub PutPayload : List ℕ → ℕ → Insn → List ℕ → List ℕ → Type 0
+PutPayload ss at i old new = (ranks : Five) → PutInsn (NameRanks ranks) ss at i old new
+
+-- ---- handlers, each as its bytes
+
+-- The bytes are number n of those that are held after the call, at its place of before if they were held, else last.
+pub record Numbers (old new : List (List ℕ)) (bytes : List ℕ) (n : ℕ) : Type 0 where
+  pub there : slice_get new n ≡ Some bytes
+  pub is_new : (new ≡ old) ⊎ ((n ≡ length old) × (new ≡ old ++ bytes ∷ []) × ((k : ℕ) → slice_get old k ≡ Some bytes → ⊥))
+
+-- byte strings, one behind the other
+abbrev pub joined_keys : List (List ℕ) → List ℕ
+joined_keys keys = flat_map (λ key. key) keys
+
+-- The byte strings are handlers, and the first n tries have the handlers of these numbers, each once and in the order of first use.
+pub record IsDistinct (N : ℕ → Name → Type 0) (ss : List ℕ) (ts : List Try) (n : ℕ) (keys : List (List ℕ)) (numbers : List ℕ) : Type 0 where
+  pub handlers : List Handler
+  pub spelled : AllZip (PacksHandler N ss) keys handlers
+  pub bytes : AllByRecursion (AllByRecursion (λ byte. byte < 256)) keys
+  pub count : length numbers ≡ n
+  pub few : length keys ≤ n
+  pub short : length (joined_keys keys) ≤ 10 * n + 10 * catches_in (take n ts)
+  pub each : (i : ℕ) → i < n → slice_get handlers (slice_index numbers i) ≡ Some (handler_of (try_at ts i))
+  pub order : (k l i : ℕ) (g h : Handler) → k < l → slice_get handlers k ≡ Some g → slice_get handlers l ≡ Some h → i < n → handler_of (try_at ts i) ≡ h → (j : ℕ) × (j < i) × (handler_of (try_at ts j) ≡ g)
+  pub used : (k : ℕ) (h : Handler) → slice_get handlers k ≡ Some h → (i : ℕ) × (i < n) × (handler_of (try_at ts i) ≡ h)
+
+-- where each of these stands, the first at a place
+abbrev pub places_of : ℕ → List (List ℕ) → List ℕ
+places_of at [] = []
+places_of at (k ∷ ks) = at ∷ places_of (at + length k) ks
+
+-- The bytes are a count and the byte strings behind it, at these places.
+pub record IsListed (keys : List (List ℕ)) (bytes places : List ℕ) : Type 0 where
+  pub front : List ℕ
+  pub count : Shortest Spells front (length keys)
+  pub is : bytes ≡ front ++ joined_keys keys
+  pub places_are : places ≡ places_of (length front) keys

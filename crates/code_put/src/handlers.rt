@@ -1,0 +1,229 @@
+//! Writing handlers ("Dalvik Executable format", "encoded_catch_handler_list", "encoded_catch_handler").
+
+ghost use Rattle.std.specs.Prelude.{◌≡◌, ◌≤◌, ◌<◌, ◌+◌, ◌*◌, ℕ, length, map, OnOk, IfOk, IsOkUnless, IfSome, IfNone, ◌≢◌, [], slice_index};
+ghost use Rattle.std.specs.List.{AllByRecursion, flat_map};
+ghost use Rattle.base_bytes.specs.Fault.{memory};
+ghost use Rattle.base_bytes.specs.Grammar.{Appends, Each};
+ghost use Rattle.program_types.specs.Content.{OfDesc};
+ghost use Rattle.program_types.specs.View.{desc, catch, try};
+ghost use Rattle.program_types.specs.Formed.{TryFormed};
+ghost use Rattle.program_types.specs.Mentions.{names_of_try};
+ghost use Rattle.tables_names.specs.Closure.{NameRanks};
+ghost use Rattle.code_insns.specs.Places.{Rises};
+ghost use Rattle.code_read.specs.Tries.{handler_of};
+ghost use Rattle.code_put.specs.Packs.{PlaceAt, PacksCatch, PacksHandler, PacksHandlersOf};
+ghost use Rattle.code_put.specs.Writing.{Numbers, IsDistinct, IsListed, joined_keys};
+ghost use Rattle.code_put.specs.Fits.{HasIndexBelow, catches_in};
+
+use dex_base::{Fault, put_sleb, put_uleb};
+use indexmap::IndexSet;
+use program_types::{Catch, Name, Try};
+use std::alloc::Global;
+use tables_names::Ranks;
+
+/// Appends the address of an instruction.
+fn put_place(out: &mut Vec<u8>, starts: &[u64], at: u32) -> Result<(), Fault>
+    requires rises { Rises starts.now }
+    requires low { (k : ℕ) → k < length starts.now → slice_index starts.now k ≤ 4294967295 }
+    requires inside { at < length starts.now }
+    ensures ok { OnOk result (Appends (PlaceAt starts.now) out.old.items out.new.items at) }
+    ensures memory { IsOkUnless result memory }
+{
+    put_uleb(out, starts[at as usize] as u32)
+}
+
+/// Appends a catch: its type's index, and the address of its handler.
+fn put_catch(
+    out: &mut Vec<u8>,
+    ranks: &Ranks<'_>,
+    starts: &[u64],
+    one: &Catch<'_>,
+) -> Result<(), Fault>
+    requires rises { Rises starts.now }
+    requires low { (k : ℕ) → k < length starts.now → slice_index starts.now k ≤ 4294967295 }
+    requires inside { one.now.at < length starts.now }
+    requires ranked { HasIndexBelow (NameRanks ranks.now) 4294967296 (OfDesc (desc one.now.ty)) }
+    ensures ok { OnOk result (Appends (PacksCatch (NameRanks ranks.now) starts.now) out.old.items out.new.items (catch one.now)) }
+    ensures memory { IsOkUnless result memory }
+{
+    ranks.rise();
+    let Some(index) = ranks.index_of(Name::Desc(one.ty)) else {
+        unreachable!();
+    };
+    put_uleb(out, index)?;
+    put_place(out, starts, one.at)
+}
+
+/// Appends catches, one behind the other.
+fn put_catches(
+    out: &mut Vec<u8>,
+    ranks: &Ranks<'_>,
+    starts: &[u64],
+    catches: &[Catch<'_>],
+) -> Result<(), Fault>
+    requires rises { Rises starts.now }
+    requires low { (k : ℕ) → k < length starts.now → slice_index starts.now k ≤ 4294967295 }
+    requires inside { AllByRecursion (λ c. c.at < length starts.now) (map catch catches.now) }
+    requires ranked { AllByRecursion (λ c. HasIndexBelow (NameRanks ranks.now) 4294967296 (OfDesc c.ty)) (map catch catches.now) }
+    ensures ok { OnOk result (Appends (Each (PacksCatch (NameRanks ranks.now) starts.now)) out.old.items out.new.items (map catch catches.now)) }
+    ensures memory { IsOkUnless result memory }
+{
+    for one in catches {
+        put_catch(out, ranks, starts, one)?;
+    }
+    Ok(())
+}
+
+/// Appends the handler of a try.
+fn put_handler(
+    out: &mut Vec<u8>,
+    ranks: &Ranks<'_>,
+    starts: &[u64],
+    one: &Try<'_>,
+) -> Result<(), Fault>
+    requires rises { Rises starts.now }
+    requires low { (k : ℕ) → k < length starts.now → slice_index starts.now k ≤ 4294967295 }
+    requires few { length one.now.catches.now ≤ 2147483647 }
+    requires inside { AllByRecursion (λ c. c.at < length starts.now) (map catch one.now.catches.now) }
+    requires ranked { AllByRecursion (λ c. HasIndexBelow (NameRanks ranks.now) 4294967296 (OfDesc c.ty)) (map catch one.now.catches.now) }
+    requires last { IfSome one.now.catch_all (λ k. k < length starts.now) }
+    requires handled { IfNone one.now.catch_all (map catch one.now.catches.now ≢ []) }
+    ensures ok { OnOk result (Appends (PacksHandler (NameRanks ranks.now) starts.now) out.old.items out.new.items (handler_of (try one.now))) }
+    ensures memory { IsOkUnless result memory }
+{
+    let count = one.catches.len() as i32;
+    match one.catch_all {
+        None => {
+            put_sleb(out, count)?;
+            put_catches(out, ranks, starts, one.catches)
+        }
+        Some(at) => {
+            put_sleb(out, -count)?;
+            put_catches(out, ranks, starts, one.catches)?;
+            put_place(out, starts, at)
+        }
+    }
+}
+
+// What stands in bytes is below 256.
+fn are_bytes(bytes: &[u8])
+    ensures { AllByRecursion (λ byte. byte < 256) bytes.now }
+{
+    // Only for the proof: what holds of each value of its type.
+    let _ = bytes.len();
+}
+
+/// The number of these bytes among those that are held, where they come last if they weren't held.
+fn number_of(handlers: &mut IndexSet<Vec<u8>>, bytes: Vec<u8>) -> Result<u32, Fault>
+    requires few { length handlers.old.keys < 65536 }
+    ensures ok { IfOk result (λ n. Numbers (map (λ v. v.items) handlers.old.keys) (map (λ v. v.items) handlers.new.keys) bytes.items n) }
+    ensures memory { IsOkUnless result memory }
+{
+    let (number, _) = handlers.insert_full(bytes)?;
+    Ok(number as u32)
+}
+
+/// The distinct handlers of tries, in the order of their first use, each as its bytes, and of each try the number of its
+/// handler.
+#[derive(Drop)]
+struct Distinct {
+    handlers: IndexSet<Vec<u8>>,
+    numbers: Vec<u32>,
+}
+
+/// The handlers of the tries, each once.
+fn distinct_of(
+    alloc: Global,
+    ranks: &Ranks<'_>,
+    starts: &[u64],
+    tries: &[Try<'_>],
+) -> Result<Distinct, Fault>
+    requires rises { Rises starts.now }
+    requires low { (k : ℕ) → k < length starts.now → slice_index starts.now k ≤ 4294967295 }
+    requires formed { (i : ℕ) → i < length tries.now → TryFormed (length starts.now) (map try tries.now) i }
+    requires ranked { AllByRecursion (HasIndexBelow (NameRanks ranks.now) 4294967296) (flat_map names_of_try (map try tries.now)) }
+    requires few { length tries.now ≤ 65535 }
+    requires short { 26 + 18 * length tries.now + 10 * catches_in (map try tries.now) ≤ 4294967295 }
+    ensures ok { IfOk result (λ d. IsDistinct (NameRanks ranks.now) starts.now (map try tries.now) (length tries.now) (map (λ v. v.items) d.handlers.keys) d.numbers.items) }
+    ensures memory { IsOkUnless result memory }
+{
+    ranks.rise();
+    let mut handlers = IndexSet::new(alloc);
+    let mut numbers = Vec::with_capacity(alloc, tries.len())?;
+    for i in 0..tries.len() {
+        let mut bytes = Vec::new(alloc);
+        put_handler(&mut bytes, ranks, starts, &tries[i])?;
+        are_bytes(&bytes);
+        numbers.push(number_of(&mut handlers, bytes)?)?;
+    }
+    Ok(Distinct { handlers, numbers })
+}
+
+/// The list of handlers, and where in it each begins.
+#[derive(Drop)]
+struct Listed {
+    bytes: Vec<u8>,
+    places: Vec<u32>,
+}
+
+/// The encoded_catch_handler_list of these handlers.
+fn list_of(alloc: Global, handlers: &IndexSet<Vec<u8>>) -> Result<Listed, Fault>
+    requires few { length handlers.now.keys ≤ 65535 }
+    requires short { 5 + length (joined_keys (map (λ v. v.items) handlers.now.keys)) ≤ 4294967295 }
+    ensures ok { IfOk result (λ l. IsListed (map (λ v. v.items) handlers.now.keys) l.bytes.items l.places.items) }
+    ensures memory { IsOkUnless result memory }
+{
+    let mut bytes = Vec::new(alloc);
+    let mut places = Vec::with_capacity(alloc, handlers.len())?;
+    put_uleb(&mut bytes, handlers.len() as u32)?;
+    for k in 0..handlers.len() {
+        let Some(one) = handlers.get_index(k) else {
+            unreachable!();
+        };
+        places.push(bytes.len() as u32)?;
+        bytes.extend_from_slice(one)?;
+    }
+    Ok(Listed { bytes, places })
+}
+
+/// The handlers of a code, and where that of each try begins.
+#[derive(Drop)]
+pub struct Laid {
+    pub bytes: Vec<u8>,
+    pub offsets: Vec<u32>,
+}
+
+/// The list of handlers of the tries: none without tries.
+pub fn lay_handlers(
+    alloc: Global,
+    ranks: &Ranks<'_>,
+    starts: &[u64],
+    tries: &[Try<'_>],
+) -> Result<Laid, Fault>
+    requires rises { Rises starts.now }
+    requires low { (k : ℕ) → k < length starts.now → slice_index starts.now k ≤ 4294967295 }
+    requires formed { (i : ℕ) → i < length tries.now → TryFormed (length starts.now) (map try tries.now) i }
+    requires ranked { AllByRecursion (HasIndexBelow (NameRanks ranks.now) 4294967296) (flat_map names_of_try (map try tries.now)) }
+    requires few { length tries.now ≤ 65535 }
+    requires short { 26 + 18 * length tries.now + 10 * catches_in (map try tries.now) ≤ 4294967295 }
+    ensures ok { IfOk result (λ l. PacksHandlersOf (NameRanks ranks.now) starts.now (map try tries.now) l.bytes.items l.offsets.items) }
+    ensures memory { IsOkUnless result memory }
+{
+    let mut offsets = Vec::with_capacity(alloc, tries.len())?;
+    if tries.is_empty() {
+        return Ok(Laid {
+            bytes: Vec::new(alloc),
+            offsets,
+        });
+    }
+    let distinct = distinct_of(alloc, ranks, starts, tries)?;
+    let list = list_of(alloc, &distinct.handlers)?;
+    are_bytes(&list.bytes);
+    for number in &distinct.numbers {
+        offsets.push(list.places[*number as usize])?;
+    }
+    Ok(Laid {
+        bytes: list.bytes,
+        offsets,
+    })
+}

@@ -1,0 +1,60 @@
+//! Writing a code item.
+
+ghost use Rattle.std.specs.Prelude.{◌≡◌, ◌≤◌, ◌<◌, ◌++◌, ℕ, length, map, IfOk, OnOk, OnErr, IsOkUnless};
+ghost use Rattle.base_bytes.specs.Fault.{memory};
+ghost use Rattle.base_bytes.specs.Grammar.{Appends};
+ghost use Rattle.program_types.specs.View as view;
+ghost use Rattle.program_types.specs.Formed.{IsFormed};
+ghost use Rattle.tables_names.specs.Closure.{NameRanks};
+ghost use Rattle.code_put.specs.Fits.{FitsCode, CanBePut};
+ghost use Rattle.code_put.specs.Packs.{PacksCode};
+
+use crate::handlers::lay_handlers;
+use crate::insns::put_insns;
+use crate::items::{put_head, put_items, put_padding};
+use crate::origins::origins_of;
+use crate::sizes::starts_of;
+use dex_base::Fault;
+use program_types::Code;
+use std::alloc::Global;
+use tables_names::Ranks;
+
+/// The bytes of the code item of a code, as [`put_code`] appends them. The only refusal is want of memory.
+pub fn make_item(alloc: Global, ranks: &Ranks<'_>, code: &Code<'_>) -> Result<Vec<u8>, Fault>
+    requires formed { IsFormed (view.code code.now) }
+    requires fits { FitsCode (NameRanks ranks.now) (view.code code.now) }
+    requires ranked { CanBePut (NameRanks ranks.now) (view.code code.now) }
+    ensures ok { IfOk result (λ item. PacksCode (NameRanks ranks.now) item.items (view.code code.now)) }
+    ensures memory { IsOkUnless result memory }
+{
+    let all = starts_of(alloc, code.insns)?;
+    let size = all.end as u32;
+    let origins = origins_of(alloc, code.insns)?;
+    let laid = lay_handlers(alloc, ranks, &all.starts, code.tries)?;
+    let mut item = Vec::with_capacity(alloc, 16 + 2 * size as usize)?;
+    put_head(&mut item, code, size)?;
+    put_insns(&mut item, ranks, &all.starts, &origins, code.insns)?;
+    put_padding(&mut item, size, code.tries.len())?;
+    put_items(&mut item, &all.starts, size, code.tries, &laid.offsets)?;
+    item.extend_from_slice(&laid.bytes)?;
+    Ok(item)
+}
+
+/// Appends the code item of a code that is well formed and fits, as [`fits`](crate::fits) says: no padding before it,
+/// the shortest LEB128 numbers, debug_info_off 0, and each handler once, in the order of first use by the tries. An error is want of
+/// memory, and leaves the Vec as it was.
+///
+/// Page: "Dalvik Executable format", "code_item".
+pub fn put_code(out: &mut Vec<u8>, ranks: &Ranks<'_>, code: &Code<'_>) -> Result<(), Fault>
+    requires formed { IsFormed (view.code code.now) }
+    requires fits { FitsCode (NameRanks ranks.now) (view.code code.now) }
+    requires ranked { CanBePut (NameRanks ranks.now) (view.code code.now) }
+    ensures ok { OnOk result (Appends (PacksCode (NameRanks ranks.now)) out.old.items out.new.items (view.code code.now)) }
+    ensures err { OnErr result (out.new.items ≡ out.old.items) }
+    ensures memory { IsOkUnless result memory }
+{
+    let alloc = *out.allocator();
+    let item = make_item(alloc, ranks, code)?;
+    out.extend_from_slice(&item)?;
+    Ok(())
+}

@@ -1,0 +1,170 @@
+-- The item at the front of bytes, and what follows it.
+use Rattle.std.proofs.Common.{◌≡◌, ◌≢◌, ℕ, ◌+◌, ◌≤◌, ◌*◌, ◌%◌, ◌++◌, List, length, take, drop, ap, sym, ◌∙◌, subst, arith, append_assoc, length-append, length-take, if◌then◌else◌, ◌==◌}
+use Rattle.std.specs.Prelude.{slice_range}
+use Rattle.std.proofs.lemmas.List.{take-append-drop, drop-append-le, append_cancel_right}
+use Rattle.base_bytes.specs.Grammar.{IsPrefixUnique, Takes}
+use Rattle.base_bytes.proofs.FieldBounds.{u16_at-front, u32_at-front}
+use Rattle.dex_insn.specs.Raw.{Raw}
+use Rattle.dex_insn.proofs.More.{slice-append}
+use Rattle.program_types.specs.Content.{Name, Code, Insn, Try}
+use Rattle.code_insns.specs.Walk.{starts}
+use Rattle.code_insns.specs.Symbols.{IsFunctional}
+use Rattle.code_insns.specs.Reading.{ReadInsns}
+use Rattle.code_read.specs.Item.{tries_of, size_of, units_end, tries_begin, list_begin, units_of, items_of}
+use Rattle.code_insns.specs.Insns.{SpellsInsns}
+use Rattle.code_read.specs.Tries.{SpellsTries}
+use Rattle.code_read.specs.Code.{SpellsBody}
+use Rattle.code_read.specs.Reading.{ReadCode, ReadTries, IsItem}
+use Rattle.code_read.specs.declared.item.Item.{Item}
+use Rattle.code_insns.proofs.InsnsOnce.{walks-one, insns-one}
+use Rattle.code_read.proofs.TriesOnce.{tries-one}
+use Rattle.base_bytes.proofs.GrammarLaws.{rest_same}
+
+-- the try_items begin behind the header and the units
+pub begins_late : (bytes : List ℕ) → units_end bytes ≤ tries_begin bytes
+unfolding tries_begin
+begins_late bytes = omega arith
+
+-- the fields of a front that is long enough are those of the whole
+module _ (f b : List ℕ) (head : 16 ≤ length f) where
+  pub size-front : size_of (f ++ b) ≡ size_of f
+  size-front = u32_at-front f b 12 (omega arith)
+
+  pub tries-front : tries_of (f ++ b) ≡ tries_of f
+  tries-front = u16_at-front f b 6 (omega arith)
+
+  pub begin-front : tries_begin (f ++ b) ≡ tries_begin f
+  unfolding tries_begin
+  begin-front =
+      let s = size-front in let t = tries-front in
+      (λ i. 16 + 2 * s i + (if t i == 0 then 0 else 2 * (s i % 2)))
+
+  pub list-front : list_begin (f ++ b) ≡ list_begin f
+  list-front = let s = begin-front in let t = tries-front in (λ i. s i + 8 * t i)
+
+  pub units-front : list_begin f ≤ length f → units_of (f ++ b) ≡ units_of f
+  units-front l =
+      let s = size-front in
+      let late = begins_late f in
+      (λ i. slice_range (f ++ b) 16 (16 + 2 * s i)) ∙ slice-append f b 16 (units_end f) (omega arith) (omega arith)
+
+  pub items-front : list_begin f ≤ length f → items_of (f ++ b) ≡ items_of f
+  items-front l =
+      let s = begin-front in let t = list-front in
+      (λ i. slice_range (f ++ b) (s i) (t i)) ∙ slice-append f b (tries_begin f) (list_begin f) (omega arith) l
+
+-- the item at the front, seen from all of the bytes
+pub read-from_front : (N : ℕ → Name → Type 0) (f rest : List ℕ) (c : Code) → SpellsBody N f c → ReadCode N (f ++ rest) rest c
+read-from_front N f rest c s =
+    let h = s.whole.head in let l = s.whole.fixed in
+    let size = size-front f rest h in
+    let n = tries-front f rest h in
+    let list = list-front f rest h in
+    let u = units-front f rest h l in
+    let it = items-front f rest h l in
+    record {
+      whole = record { head = omega (arith, length-append f rest); fixed = omega (arith, length-append f rest, list) };
+      some = rw size s.some;
+      registers = s.registers ∙ sym (u16_at-front f rest 0 (omega arith));
+      ins = s.ins ∙ sym (u16_at-front f rest 2 (omega arith));
+      outs = s.outs ∙ sym (u16_at-front f rest 4 (omega arith));
+      raws = s.raws;
+      insns = subst (λ (us : List ℕ). SpellsInsns N us s.raws c.insns) (sym u) s.insns;
+      list = drop (list_begin f) f;
+      joined = ap (λ (k : ℕ). drop k (f ++ rest)) list ∙ drop-append-le (list_begin f) f rest l;
+      tries =
+          subst (λ (z : ℕ). SpellsTries N (starts s.raws) z (tries_of (f ++ rest)) (items_of (f ++ rest)) (drop (list_begin f) f) c.tries) (sym size)
+          (subst (λ (z : ℕ). SpellsTries N (starts s.raws) (size_of f) z (items_of (f ++ rest)) (drop (list_begin f) f) c.tries) (sym n)
+          (subst (λ (z : List ℕ). SpellsTries N (starts s.raws) (size_of f) (tries_of f) z (drop (list_begin f) f) c.tries) (sym it) s.tries));
+    }
+
+pub read-from_takes : (N : ℕ → Name → Type 0) (bytes rest : List ℕ) (c : Code) → Takes (SpellsBody N) bytes c rest → ReadCode N bytes rest c
+read-from_takes N bytes rest c t = subst (λ (b : List ℕ). ReadCode N b rest c) (sym t.whole) (read-from_front N t.front rest c t.spelled)
+
+-- and from all of the bytes the item at the front
+read-to_front : (N : ℕ → Name → Type 0) (f rest : List ℕ) (c : Code) → 16 ≤ length f → list_begin f ≤ length f → ReadCode N (f ++ rest) rest c → SpellsBody N f c
+read-to_front N f rest c h l r =
+    let d : drop (list_begin f) f ≡ r.list =
+    append_cancel_right (drop (list_begin f) f) r.list rest
+    (sym (drop-append-le (list_begin f) f rest l) ∙ sym (ap (λ (k : ℕ). drop k (f ++ rest)) (list-front f rest h)) ∙ r.joined) in
+    let size = size-front f rest h in
+    let n = tries-front f rest h in
+    let u = units-front f rest h l in
+    let it = items-front f rest h l in
+    record {
+      whole = record { head = h; fixed = l };
+      some = rw size at r.some;
+      registers = r.registers ∙ u16_at-front f rest 0 (omega arith);
+      ins = r.ins ∙ u16_at-front f rest 2 (omega arith);
+      outs = r.outs ∙ u16_at-front f rest 4 (omega arith);
+      raws = r.raws;
+      insns = subst (λ (us : List ℕ). SpellsInsns N us r.raws c.insns) u r.insns;
+      tries =
+          subst (λ (z : List ℕ). SpellsTries N (starts r.raws) (size_of f) (tries_of f) (items_of f) z c.tries) (sym d)
+          (subst (λ (z : List ℕ). SpellsTries N (starts r.raws) (size_of f) (tries_of f) z r.list c.tries) it
+          (subst (λ (z : ℕ). SpellsTries N (starts r.raws) (size_of f) z (items_of (f ++ rest)) r.list c.tries) n
+          (subst (λ (z : ℕ). SpellsTries N (starts r.raws) z (tries_of (f ++ rest)) (items_of (f ++ rest)) r.list c.tries) size r.tries)));
+    }
+
+pub takes-from_read : (N : ℕ → Name → Type 0) (bytes rest : List ℕ) (c : Code) → ReadCode N bytes rest c → Takes (SpellsBody N) bytes c rest
+takes-from_read N bytes rest c r =
+    let k = list_begin bytes in
+    let f = take k bytes ++ r.list in
+    let e : bytes ≡ f ++ rest = sym (take-append-drop k bytes) ∙ ap (λ (z : List ℕ). take k bytes ++ z) r.joined ∙ sym (append_assoc (take k bytes) r.list rest) in
+    let late = begins_late bytes in
+    let fixed = r.whole.fixed in
+    let tk : length (take k bytes) ≡ k = length-take k bytes ∙ (let w = fixed in omega arith) in
+    let h : 16 ≤ length f = omega (arith, length-append (take k bytes) r.list) in
+    let q : ReadCode N (f ++ rest) rest c = subst (λ (b : List ℕ). ReadCode N b rest c) e r in
+    let b : list_begin f ≡ k = sym (list-front f rest h) ∙ sym (ap list_begin e) in
+    let l : list_begin f ≤ length f = omega (arith, length-append (take k bytes) r.list, b) in
+    record { front = f; whole = e; spelled = read-to_front N f rest c h l q }
+
+-- ---- what the stages of reading give together
+
+abbrev pub code_with : Item → List Insn → List Try → Code
+code_with i is ts = record { registers = i.registers; ins = i.ins; outs = i.outs; insns = is; tries = ts }
+
+pub item-read : (N : ℕ → Name → Type 0) (bytes begins : List ℕ) (i : Item) (is : List Insn) (ts : List Try) → IsItem bytes i → i.size ≢ 0
+    → ReadInsns N i.units.now begins is → ReadTries N begins i.size i.tries i.items.now i.list.now ts → (rest : List ℕ) × Takes (SpellsBody N) bytes (code_with i is ts) rest
+item-read N bytes begins i is ts p nz a b =
+    let size = p.size in (
+      b.behind,
+      takes-from_read N bytes b.behind (code_with i is ts) (record {
+        whole = p.whole;
+        some = omega arith;
+        registers = p.registers;
+        ins = p.ins;
+        outs = p.outs;
+        raws = a.raws;
+        insns = subst (λ (us : List ℕ). SpellsInsns N us a.raws is) p.units a.insns;
+        list = b.list;
+        joined = sym p.list ∙ b.joined;
+        tries =
+            subst (λ (z : List ℕ). SpellsTries N z (size_of bytes) (tries_of bytes) (items_of bytes) b.list ts) a.table.is
+            (subst (λ (z : ℕ). SpellsTries N begins z (tries_of bytes) (items_of bytes) b.list ts) p.size
+            (subst (λ (z : ℕ). SpellsTries N begins i.size z (items_of bytes) b.list ts) p.tries
+            (subst (λ (z : List ℕ). SpellsTries N begins i.size i.tries z b.list ts) p.items b.tries)));
+      }),
+    )
+
+-- ---- one code
+
+pub read-one : (N : ℕ → Name → Type 0) (bytes r s : List ℕ) (c d : Code) → IsFunctional N → ReadCode N bytes r c → ReadCode N bytes s d → (c ≡ d) × (r ≡ s)
+read-one N bytes r s c d f p q =
+    let e = walks-one (units_of bytes) p.raws q.raws p.insns.walk q.insns.walk in
+    let i = insns-one N (units_of bytes) p.raws c.insns d.insns f p.insns (subst (λ (rs : List Raw). SpellsInsns N (units_of bytes) rs d.insns) (sym e) q.insns) in
+    let t = subst (λ (rs : List Raw). SpellsTries N (starts rs) (size_of bytes) (tries_of bytes) (items_of bytes) q.list d.tries) (sym e) q.tries in
+    let j = sym p.joined ∙ q.joined in
+    let both = tries-one N (starts p.raws) (size_of bytes) (tries_of bytes) (items_of bytes) p.list q.list r s c.tries d.tries f p.tries t j in
+    let a = p.registers ∙ sym q.registers in let b = p.ins ∙ sym q.ins in let o = p.outs ∙ sym q.outs in
+    ((λ k. record { registers = a k; ins = b k; outs = o k; insns = i k; tries = both.1 k }), rest_same p.list q.list r s both.0 j)
+
+-- no code item begins another one, and it spells one code
+pub SpellsBody-unique : (N : ℕ → Name → Type 0) → IsFunctional N → IsPrefixUnique (SpellsBody N)
+SpellsBody-unique N f a b x y c d p q e =
+    let u = read-from_front N a x c p in
+    let v = subst (λ (l : List ℕ). ReadCode N l y d) (sym e) (read-from_front N b y d q) in
+    let r = read-one N (a ++ x) x y c d f u v in
+    let t : a ++ x ≡ b ++ x = e ∙ ap (λ (l : List ℕ). b ++ l) (sym r.1) in
+    (append_cancel_right a b x t, r.0)

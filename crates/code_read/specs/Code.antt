@@ -1,0 +1,36 @@
+-- Which bytes spell which code.
+-- Page: "Dalvik Executable format", "code_item".
+use Rattle.std.specs.Prelude.{ℕ, ◌≡◌, ◌<◌, List, drop}
+use Rattle.dex_insn.specs.Raw.{Raw}
+use Rattle.program_types.specs.Content.{Name, Code}
+use Rattle.program_types.specs.Formed.{RegistersHold}
+use Rattle.dex_container.specs.Where.{At}
+use Rattle.code_insns.specs.Walk.{starts}
+use Rattle.code_read.specs.Item.{registers_of, ins_of, outs_of, tries_of, size_of, units_of, items_of, list_begin, IsWhole}
+use Rattle.code_insns.specs.Insns.{SpellsInsns}
+use Rattle.code_read.specs.Tries.{SpellsTries}
+
+-- The bytes are the code_item of this code, whichever registers it names, where N says which index stands for which name.
+-- debug_info_off and the padding aren't looked at.
+pub record SpellsBody (N : ℕ → Name → Type 0) (bytes : List ℕ) (c : Code) : Type 0 where
+  pub whole : IsWhole bytes
+  pub some : 0 < size_of bytes
+  pub registers : c.registers ≡ registers_of bytes
+  pub ins : c.ins ≡ ins_of bytes
+  pub outs : c.outs ≡ outs_of bytes
+  pub raws : List Raw
+  pub insns : SpellsInsns N (units_of bytes) raws c.insns
+  pub tries : SpellsTries N (starts raws) (size_of bytes) (tries_of bytes) (items_of bytes) (drop (list_begin bytes) bytes) c.tries
+
+-- They are the code_item of this code, and its ins and the registers that it names are among its registers.
+pub record SpellsCode (N : ℕ → Name → Type 0) (bytes : List ℕ) (c : Code) : Type 0 where
+  pub body : SpellsBody N bytes c
+  pub named : RegistersHold c
+
+-- At this place of the section of code items, 4-aligned, stands the code, whichever registers it names.
+abbrev pub BodyStands : (ℕ → Name → Type 0) → List ℕ → ℕ → Code → Type 0
+BodyStands N b off c = At (SpellsBody N) b 0x2001 4 off c
+
+-- At this place stands the code.
+abbrev pub CodeStands : (ℕ → Name → Type 0) → List ℕ → ℕ → Code → Type 0
+CodeStands N b off c = At (SpellsCode N) b 0x2001 4 off c

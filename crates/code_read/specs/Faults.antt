@@ -1,0 +1,82 @@
+-- What a refusal of a code item says: the rule that is broken at its place.
+-- Page: "Dalvik Executable format", "code_item", "try_item" and "encoded_catch_handler_list".
+use Rattle.std.specs.Prelude.{ℕ, ◌≡◌, ◌-◌, ◌+◌, ◌*◌, ◌%◌, ◌<◌, ◌≤◌, ◌⊎◌, List, ◌++◌, take, drop, Some}
+use Rattle.base_bytes.specs.declared.fault.Fault.{Fault}
+use Rattle.dex_container.specs.Frame.{IsSection}
+use Rattle.dex_insn.specs.Raw.{Raw}
+use Rattle.program_types.specs.Content.{Name, Code}
+use Rattle.dex_container.specs.Where.{IsInSection}
+use Rattle.code_insns.specs.Places.{IsFirst, AllHold}
+use Rattle.code_insns.specs.Walk.{Walks, starts}
+use Rattle.code_insns.specs.InsnFaults.{RulesHold, InsnsBreak}
+use Rattle.code_insns.specs.Registers.{IsPast}
+use Rattle.code_read.specs.Code.{BodyStands}
+use Rattle.code_read.specs.Item.{size_of, tries_of, units_of, items_of, tries_begin, list_begin, try_handler, IsWhole}
+use Rattle.code_read.specs.Handlers.{Handler, SpellsList, handler_at}
+use Rattle.code_read.specs.Tries.{TryHolds}
+
+-- ---- tries; `base` is the place of the first try_item
+
+-- Handlers stand at the front of these bytes, and each of the n try_items has one of them.
+pub record HasHandlers (N : ℕ → Name → Type 0) (ss : List ℕ) (n : ℕ) (items rest : List ℕ) : Type 0 where
+  pub list : List ℕ
+  pub behind : List ℕ
+  pub joined : rest ≡ list ++ behind
+  pub handlers : List (ℕ × Handler)
+  pub spelled : SpellsList N ss list handlers
+  pub each : (i : ℕ) → i < n → (h : Handler) × (handler_at handlers (try_handler items i) ≡ Some h)
+
+-- the place of the list
+abbrev pub list_fault : ℕ → Fault
+list_fault place = record { code = 72; place = place }
+
+-- What is wrong with tries and handlers: the first try_item that breaks the rules (71), or, where none does, the list (72).
+abbrev pub TriesBreak : (ℕ → Name → Type 0) → List ℕ → ℕ → ℕ → List ℕ → List ℕ → ℕ → Fault → Type 0
+TriesBreak N ss size n items rest base fault =
+    ((i : ℕ) × IsFirst (TryHolds ss size items) (TryHolds ss size items) n i × (fault ≡ record { code = 71; place = base + 8 * i }))
+    ⊎ ((0 < n) × AllHold (TryHolds ss size items) n × (¬ HasHandlers N ss n items rest) × (fault ≡ list_fault (base + 8 * n)))
+
+-- ---- the item
+
+-- What is wrong with the item at `off` whose section has these bytes from it on: header, units, padding or try_items go past the
+-- section (60), it has no units (61), its instructions are wrong, or its tries are. Each is asked only of an item with nothing of
+-- what stands before it here.
+abbrev pub ItemBreaks : (ℕ → Name → Type 0) → ℕ → List ℕ → Fault → Type 0
+ItemBreaks N off bytes fault =
+    ((¬ IsWhole bytes) × (fault ≡ record { code = 60; place = off }))
+    ⊎ (IsWhole bytes × (size_of bytes ≡ 0) × (fault ≡ record { code = 61; place = off }))
+    ⊎ (IsWhole bytes × (0 < size_of bytes) × InsnsBreak N (units_of bytes) (off + 16) fault)
+    ⊎ (IsWhole bytes × (0 < size_of bytes) × (raws : List Raw) × Walks (units_of bytes) raws × RulesHold N raws
+    × TriesBreak N (starts raws) (size_of bytes) (tries_of bytes) (items_of bytes) (drop (list_begin bytes) bytes) (off + tries_begin bytes) fault)
+
+-- ---- the file
+
+-- These bytes are what the section of code items, which goes to `end`, has from this place on.
+pub record IsRest (b : List ℕ) (off end : ℕ) (bytes : List ℕ) : Type 0 where
+  pub begin : ℕ
+  pub section : IsSection b 0x2001 begin end
+  pub behind : begin ≤ off
+  pub before : off < end
+  pub same : bytes ≡ take (end - off) (drop off b)
+
+-- The place is misaligned or lies outside the section of code items (60), or it is neither and what is there is wrong.
+abbrev pub CodeBreaks : (ℕ → Name → Type 0) → List ℕ → ℕ → Fault → Type 0
+CodeBreaks N b off fault =
+    ((¬ (off % 4 ≡ 0)) × (fault ≡ record { code = 60; place = off }))
+    ⊎ ((¬ IsInSection b 0x2001 off) × (fault ≡ record { code = 60; place = off }))
+    ⊎ ((off % 4 ≡ 0) × (end : ℕ) × (bytes : List ℕ) × IsRest b off end bytes × ItemBreaks N off bytes fault)
+
+-- ---- registers, which are looked at last
+
+-- What is wrong with the registers of the code whose item is at `off` (73): its ins are more (the place is the item), or the
+-- first instruction that names one past them (the place is the instruction).
+abbrev pub RegistersBreak : ℕ → Code → Fault → Type 0
+RegistersBreak off c fault =
+    ((c.registers < c.ins) × (fault ≡ record { code = 73; place = off }))
+    ⊎ ((c.ins ≤ c.registers) × (at : ℕ) × IsPast c.registers c.insns at × (fault ≡ record { code = 73; place = off + 16 + 2 * at }))
+
+-- A code stands at this place but for its registers.
+pub record CodeOverruns (N : ℕ → Name → Type 0) (b : List ℕ) (off : ℕ) (fault : Fault) : Type 0 where
+  pub code : Code
+  pub body : BodyStands N b off code
+  pub breaks : RegistersBreak off code fault

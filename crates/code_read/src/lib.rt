@@ -1,0 +1,24 @@
+//! Code items, read: the instructions of a method's body and its tries, at a byte offset of a file.
+//!
+//! ```text
+//! let tables = Tables::read(alloc, &arena, &sections)?;
+//! let code = read_code(alloc, &arena, &tables, &sections, 0x1c0)?; // the code item at byte 448
+//! let first = code.insns[0]; // const/4 v0, -1 is `I11n { op: 0x12, a: 0, b: -1 }`
+//! ```
+#![tactic(auto)]
+
+// The fixed parts of an item.
+mod item;
+
+// Tries and handlers.
+mod handlers;
+mod tries;
+
+// All of it.
+mod reading;
+
+// What holds of every item.
+mod laws;
+
+pub use laws::{broken_code_is_none, code_carries_over, code_is_one, code_is_prefix_unique};
+pub use reading::{Body, read_body, read_code};

@@ -1,0 +1,164 @@
+//! Reading a code item.
+
+ghost use Rattle.std.specs.Prelude.{◌≡◌, ◌≢◌, ℕ, ◌≤◌, ◌<◌, ◌+◌, ◌*◌, ◌⊎◌, List, length, map, IfOk, IfErr, IfSome, IfNone, Some, None};
+ghost use Rattle.base_bytes.specs.Fault.{memory};
+ghost use Rattle.base_bytes.specs.Grammar.{Takes};
+ghost use Rattle.program_types.specs.Content as content;
+ghost use Rattle.program_types.specs.View.{code};
+ghost use Rattle.tables_rows.specs.Names.{NameIsAt};
+ghost use Rattle.program_types.specs.Formed.{RegistersHold};
+ghost use Rattle.code_read.specs.Code.{SpellsBody, BodyStands, CodeStands};
+ghost use Rattle.code_read.specs.Faults.{ItemBreaks, CodeBreaks, RegistersBreak, CodeOverruns};
+
+use crate::item::item_of;
+use crate::tries::read_tries;
+use bumpalo::Bump;
+use code_insns::read_insns;
+use dex_base::{Fault, fault};
+use dex_container::{Sections, bytes_from, section_of};
+use program_types::Code;
+use std::alloc::Global;
+use tables_rows::Tables;
+
+/// The kind of the section of code items (TYPE_CODE_ITEM).
+const CODE_ITEMS: u16 = 0x2001;
+
+/// A code as its item spells it, and what is wrong with its registers, if anything is.
+#[derive(Clone, Copy)]
+pub struct Body<'a> {
+    pub code: Code<'a>,
+    /// 73: ins past the registers, or the first instruction that names one past them.
+    pub past: Option<Fault>,
+}
+
+/// What is wrong with the registers of the code at `off`, where the first instruction that names one past them is at this unit.
+fn register_fault(off: u32, registers: u16, ins: u16, past: Option<u32>) -> Option<Fault>
+    ensures none { IfNone result ((ins ≤ registers) × (past ≡ None)) }
+    ensures some { IfSome result (λ e. ((registers < ins) × (e ≡ record { code = 73; place = off }))
+        ⊎ ((ins ≤ registers) × (at : ℕ) × (past ≡ Some at) × (e ≡ record { code = 73; place = off + 16 + 2 * at }))) }
+{
+    if ins > registers {
+        return Some(Fault {
+            code: fault::REGISTER,
+            place: u64::from(off),
+        });
+    }
+    match past {
+        Some(at) => Some(Fault {
+            code: fault::REGISTER,
+            place: u64::from(off) + 16 + 2 * u64::from(at),
+        }),
+        None => None,
+    }
+}
+
+/// Reads the item at the front of these bytes, which go to the section's end.
+fn read_item<'a>(
+    alloc: Global,
+    arena: &'a Bump,
+    tables: &Tables<'a>,
+    off: u32,
+    bytes: &[u8],
+) -> Result<Body<'a>, Fault>
+    requires { length bytes.now < 4294967296 }
+    ensures ok { IfOk result (λ x. (rest : List ℕ) × Takes (SpellsBody (NameIsAt tables.now)) bytes.now (code x.code) rest) }
+    ensures named { IfOk result (λ x. IfNone x.past (RegistersHold (code x.code))) }
+    ensures past { IfOk result (λ x. IfSome x.past (RegistersBreak off (code x.code))) }
+    ensures err { IfErr result (λ e. e ≢ memory → ItemBreaks (NameIsAt tables.now) off bytes.now e) }
+{
+    let Some(item) = item_of(bytes) else {
+        return Err(Fault {
+            code: fault::CODE_PLACE,
+            place: u64::from(off),
+        });
+    };
+    if item.size == 0 {
+        return Err(Fault {
+            code: fault::EMPTY_CODE,
+            place: u64::from(off),
+        });
+    }
+    let insns = read_insns(
+        alloc,
+        arena,
+        tables,
+        item.units,
+        u64::from(off) + 16,
+        item.registers,
+    )?;
+    let tries = read_tries(
+        alloc,
+        arena,
+        tables,
+        &insns.starts,
+        &item,
+        u64::from(off) + item.items_at,
+    )?;
+    Ok(Body {
+        code: Code {
+            registers: item.registers,
+            ins: item.ins,
+            outs: item.outs,
+            insns: insns.insns,
+            tries,
+        },
+        past: register_fault(off, item.registers, item.ins, insns.past),
+    })
+}
+
+/// The code of the code item at this byte offset of the file, and what is wrong with its registers, if anything is: a caller that
+/// reads many codes looks at that when all of them are read.
+pub fn read_body<'a>(
+    alloc: Global,
+    arena: &'a Bump,
+    tables: &Tables<'a>,
+    sections: &Sections<'_>,
+    off: u32,
+) -> Result<Body<'a>, Fault>
+    ensures ok { IfOk result (λ x. BodyStands (NameIsAt tables.now) sections.now off (code x.code)) }
+    ensures named { IfOk result (λ x. IfNone x.past (RegistersHold (code x.code))) }
+    ensures past { IfOk result (λ x. IfSome x.past (RegistersBreak off (code x.code))) }
+    ensures only { IfOk result (λ x. (d : content.Code) →
+        BodyStands (NameIsAt tables.now) sections.now off d → d ≡ code x.code) }
+    ensures broken { IfErr result (λ e. e ≢ memory → CodeBreaks (NameIsAt tables.now) sections.now off e) }
+    ensures refused { IfErr result (λ e. e ≢ memory →
+        (c : content.Code) → ¬ BodyStands (NameIsAt tables.now) sections.now off c) }
+{
+    if off % 4 != 0 {
+        return Err(Fault {
+            code: fault::CODE_PLACE,
+            place: u64::from(off),
+        });
+    }
+    let section = section_of(sections, CODE_ITEMS);
+    let Some(bytes) = bytes_from(sections, CODE_ITEMS, section, off) else {
+        return Err(Fault {
+            code: fault::CODE_PLACE,
+            place: u64::from(off),
+        });
+    };
+    read_item(alloc, arena, tables, off, bytes)
+}
+
+/// The code of the code item at this byte offset of the file. Its registers are looked at last (73).
+pub fn read_code<'a>(
+    alloc: Global,
+    arena: &'a Bump,
+    tables: &Tables<'a>,
+    sections: &Sections<'_>,
+    off: u32,
+) -> Result<Code<'a>, Fault>
+    ensures ok { IfOk result (λ c. CodeStands (NameIsAt tables.now) sections.now off (code c)) }
+    ensures only { IfOk result (λ c. (d : content.Code) →
+        CodeStands (NameIsAt tables.now) sections.now off d → d ≡ code c) }
+    ensures broken { IfErr result (λ e. e ≢ memory →
+        CodeBreaks (NameIsAt tables.now) sections.now off e ⊎ CodeOverruns (NameIsAt tables.now) sections.now off e) }
+    ensures refused { IfErr result (λ e. e ≢ memory →
+        (c : content.Code) → ¬ CodeStands (NameIsAt tables.now) sections.now off c) }
+{
+    let body = read_body(alloc, arena, tables, sections, off)?;
+    match body.past {
+        Some(fault) => Err(fault),
+        None => Ok(body.code),
+    }
+}

@@ -1,6 +1,0 @@
-use Rattle.dex_program.specs.View as view
-use Rattle.dex_assemble.proofs.NamedLaws.{have_shorties}
-use Rattle.dex_assemble.proofs.assembling.assemble_in.Goals as goal
-
-pub needed_names-requires : goal.needed_names-requires
-needed_names-requires c = have_shorties (view.program c.args.program.now) c.requires.kept.rules

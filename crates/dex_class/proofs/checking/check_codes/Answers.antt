@@ -1,5 +1,0 @@
-use Rattle.dex_class.proofs.KeptLaws.{kept_none}
-use Rattle.dex_class.proofs.checking.check_codes.Goals as goal
-
-pub check_rows-requires-clause-kept : goal.check_rows-requires-clause-kept
-check_rows-requires-clause-kept c = kept_none _ c.new-kept.result c.new-kept.ensures.empty

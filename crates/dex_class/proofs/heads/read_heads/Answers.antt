@@ -1,5 +1,0 @@
-use Rattle.dex_class.proofs.KeptLaws.{kept_none}
-use Rattle.dex_class.proofs.heads.read_heads.Goals as goal
-
-pub push_heads-requires-clause-kept : goal.push_heads-requires-clause-kept
-push_heads-requires-clause-kept c = kept_none _ c.new-kept.result c.new-kept.ensures.empty

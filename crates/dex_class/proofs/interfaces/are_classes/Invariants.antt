@@ -1,8 +1,0 @@
-use Rattle.std.proofs.Common.{map, take}
-use Rattle.std.specs.List.{AllByRecursion}
-use Rattle.dex_base.specs.Descriptor.{IsClass}
-use Rattle.dex_program.specs.View.{desc}
-use Rattle.dex_class.proofs.interfaces.are_classes.Given as goal
-
-abbrev pub invariant-loop-ty : goal.invariant-loop-ty
-invariant-loop-ty l = AllByRecursion IsClass (map desc (take l.ty-index l.types))

@@ -1,7 +1,0 @@
-use Rattle.std.proofs.Common.{map, ◌<◌, ℕ}
-use Rattle.dex_program.specs.View.{desc}
-use Rattle.dex_class.specs.Reading.{IsNotAmong}
-use Rattle.dex_class.proofs.interfaces.are_few_distinct.Given as goal
-
-abbrev pub invariant-loop-n : goal.invariant-loop-n
-invariant-loop-n l = (k : ℕ) → k < l.n → IsNotAmong (map desc l.types) k k

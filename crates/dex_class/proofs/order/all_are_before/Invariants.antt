@@ -1,9 +1,0 @@
-use Rattle.std.proofs.Common.{ℕ, ◌<◌}
-use Rattle.std.specs.Prelude.{slice_index}
-use Rattle.dex_container.specs.Layout.{size_of}
-use Rattle.dex_tables.specs.Halves.{halves}
-use Rattle.dex_class.specs.ClassRows.{NoneDefines}
-use Rattle.dex_class.proofs.order.all_are_before.Given as goal
-
-abbrev pub invariant-loop-k : goal.invariant-loop-k
-invariant-loop-k l = (k : ℕ) → k < l.k → NoneDefines l.sections l.i (size_of l.sections 5) (slice_index (halves l.types) k)

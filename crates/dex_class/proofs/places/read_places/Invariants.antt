@@ -1,5 +1,0 @@
-use Rattle.dex_class.specs.Places.{ArePlaces}
-use Rattle.dex_class.proofs.places.read_places.Given as goal
-
-abbrev pub invariant-loop-i : goal.invariant-loop-i
-invariant-loop-i l = ArePlaces l.sections l.i l.first.items l.last.items

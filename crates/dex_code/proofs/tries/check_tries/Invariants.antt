@@ -1,6 +1,0 @@
-use Rattle.dex_code_insns.specs.Places.{AllHold}
-use Rattle.dex_code.specs.Tries.{TryHolds}
-use Rattle.dex_code.proofs.tries.check_tries.Given as goal
-
-abbrev pub invariant-loop-i : goal.invariant-loop-i
-invariant-loop-i l = AllHold (TryHolds l.starts l.size l.items) l.i

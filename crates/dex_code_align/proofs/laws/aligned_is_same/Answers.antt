@@ -1,5 +1,0 @@
-use Rattle.dex_code_align.proofs.SameLaws.{aligned-same}
-use Rattle.dex_code_align.proofs.laws.aligned_is_same.Goals as goal
-
-pub returns : goal.returns
-returns c = λ a b e p. aligned-same a b e p

@@ -1,8 +1,0 @@
-//! Laws of what fits, each the contract of a function that does nothing else.
-
-ghost use Rattle.dex_code_fits.specs.Laws.{CodeLimitsAreDecided};
-
-/// A code fits, by the ranks of names, exactly if it breaks none of the limits 82 to 89.
-pub fn code_limits_are_decided()
-    ensures { CodeLimitsAreDecided }
-{}

@@ -1,8 +1,0 @@
-use Rattle.std.proofs.Common.{map}
-use Rattle.dex_insn.specs.Raw.{raw}
-use Rattle.dex_code_insns.specs.Places.{AllHold}
-use Rattle.dex_code_insns.specs.Insns.{TargetsHold}
-use Rattle.dex_code_insns.proofs.rules.check_targets.Given as goal
-
-abbrev pub invariant-loop-k : goal.invariant-loop-k
-invariant-loop-k l = AllHold (TargetsHold (map raw l.insns)) l.k

@@ -1,8 +1,0 @@
-use Rattle.std.proofs.Common.{map}
-use Rattle.dex_program.specs.View.{insn}
-use Rattle.dex_names.specs.Closure.{NameRanks}
-use Rattle.dex_code_put.proofs.PutLaws.{PutSome}
-use Rattle.dex_code_put.proofs.insns.put_insns.Given as goal
-
-abbrev pub invariant-loop-k : goal.invariant-loop-k
-invariant-loop-k l = PutSome (NameRanks l.ranks) (map insn l.insns) l.starts l.fn.out.items l.out.items l.k

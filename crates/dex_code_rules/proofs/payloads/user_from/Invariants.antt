@@ -1,7 +1,0 @@
-use Rattle.std.proofs.Common.{ℕ, ◌<◌, ◌≤◌, map}
-use Rattle.dex_program.specs.View.{insn}
-use Rattle.dex_program.specs.Formed.{Refers}
-use Rattle.dex_code_rules.proofs.payloads.user_from.Given as goal
-
-abbrev pub invariant-loop-j : goal.invariant-loop-j
-invariant-loop-j l = (i : ℕ) → l.from ≤ i → i < l.j → ¬ Refers (map insn l.insns) i l.k

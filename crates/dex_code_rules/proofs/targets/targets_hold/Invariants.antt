@@ -1,7 +1,0 @@
-use Rattle.std.proofs.Common.{ℕ, ◌<◌, map}
-use Rattle.dex_program.specs.View.{insn}
-use Rattle.dex_program.specs.Formed.{TargetHolds}
-use Rattle.dex_code_rules.proofs.targets.targets_hold.Given as goal
-
-abbrev pub invariant-loop-k : goal.invariant-loop-k
-invariant-loop-k l = (k : ℕ) → k < l.k → TargetHolds (map insn l.one.insns.now) k

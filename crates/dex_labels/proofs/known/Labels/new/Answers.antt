@@ -1,5 +1,0 @@
-use Rattle.dex_labels.proofs.OrderLaws.{rising_none}
-use Rattle.dex_labels.proofs.known.Labels.new.Goals as goal
-
-pub invariant_of-result : goal.invariant_of-result
-invariant_of-result c = rw c.new.ensures.items rising_none

@@ -1,8 +1,0 @@
-use Rattle.std.proofs.Common.{map, take}
-use Rattle.dex_names.specs.Closure.{NameRanks}
-use Rattle.dex_program.specs.View as view
-use Rattle.dex_limits.specs.Limits.{IsLeast, codes_in}
-use Rattle.dex_limits.proofs.bodies.methods_number.Given as goal
-
-abbrev pub invariant-loop-method : goal.invariant-loop-method
-invariant-loop-method l = IsLeast (NameRanks l.ranks) (codes_in (map view.method (take l.method-index l.methods))) l.least

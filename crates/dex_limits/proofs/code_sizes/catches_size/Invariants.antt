@@ -1,8 +1,0 @@
-use Rattle.std.proofs.Common.{◌*◌, map, take}
-use Rattle.dex_code_put.specs.Fits.{catches_in}
-use Rattle.dex_program.specs.View as view
-use Rattle.dex_limits.specs.Sum.{IsSum}
-use Rattle.dex_limits.proofs.code_sizes.catches_size.Given as goal
-
-abbrev pub invariant-loop-one : goal.invariant-loop-one
-invariant-loop-one l = IsSum l.sum (10 * catches_in (take l.one-index (map view.try l.tries)))

@@ -1,9 +1,0 @@
-use Rattle.std.proofs.Common.{map, take}
-use Rattle.dex_layout.specs.Sections.{wide_all}
-use Rattle.dex_names.specs.Keys.{key_of_str}
-use Rattle.dex_limits.specs.Sum.{IsSum}
-use Rattle.dex_limits.specs.Wide.{wide_string}
-use Rattle.dex_limits.proofs.text_sizes.strings_size.Given as goal
-
-abbrev pub invariant-loop-text : goal.invariant-loop-text
-invariant-loop-text l = IsSum l.sum (wide_all wide_string (map key_of_str (take l.text-index l.texts)))

@@ -1,9 +1,0 @@
-use Rattle.std.proofs.Common.{ap, map, Option}
-use Rattle.dex_insn.specs.declared.opcode.Format.{Format}
-use Rattle.dex_slots.specs.View.{datum}
-use Rattle.dex_lines.specs.Lines.{insn_of}
-use Rattle.dex_lines.proofs.lines.make_insn.Goals as goal
-
-pub returns-in-None : goal.returns-in-None
-unfolding insn_of
-returns-in-None c = ap (λ (f : Option Format). insn_of f c.args.op (map datum c.args.said.now)) c.in-None.ensures

@@ -1,9 +1,0 @@
-use Rattle.std.proofs.Common.{◌≡◌, ◌++◌, map, drop}
-use Rattle.dex_slots.specs.View.{datum}
-use Rattle.dex_slots.specs.Data.{word_of}
-use Rattle.dex_lines.specs.Lines.{alternate}
-use Rattle.dex_lines.proofs.LineLaws.{between}
-use Rattle.dex_lines.proofs.lines.words_between.Given as goal
-
-abbrev pub invariant-loop-i : goal.invariant-loop-i
-invariant-loop-i l = map word_of (alternate (map datum l.said)) ≡ l.numbers.items ++ map word_of (between l.is_due (map datum (drop l.i l.said)))

@@ -1,7 +1,0 @@
-use Rattle.std.proofs.Common.{◌≡◌, map, take}
-use Rattle.dex_slots.specs.View.{datum}
-use Rattle.dex_slots.specs.Data.{word_of}
-use Rattle.dex_lines.proofs.lines.words_of.Given as goal
-
-abbrev pub invariant-loop-i : goal.invariant-loop-i
-invariant-loop-i l = l.numbers.items ≡ map word_of (map datum (take l.i l.said))

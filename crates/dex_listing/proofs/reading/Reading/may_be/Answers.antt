@@ -1,9 +1,0 @@
-use Rattle.dex_draft.specs.View.{state}
-use Rattle.dex_listing.proofs.reading.Reading.may_be.Goals as goal
-
-pub returns-in-One : goal.returns-in-One
-returns-in-One c = λ ss ws. rw c.in-One.is (c.stands.ensures ss ws)
-
-pub returns-in-Two : goal.returns-in-Two
-unfolding state
-returns-in-Two c = λ ss ws. rw c.in-Two.is c.may_stand.ensures

@@ -1,9 +1,0 @@
-use Rattle.std.proofs.Common.{◌≡◌, ◌++◌, map, take}
-use Rattle.std.specs.List.{flat_map}
-use Rattle.dex_program.specs.View.{desc}
-use Rattle.dex_lines.specs.Lines as says
-use Rattle.dex_print.specs.Printed.{keyed_text}
-use Rattle.dex_print.proofs.blocks.put_interfaces.Given as goal
-
-abbrev pub invariant-loop-one : goal.invariant-loop-one
-invariant-loop-one l = l.out.items ≡ l.fn.out.items ++ flat_map (λ d. keyed_text (says.implements_line d)) (map desc (take l.one-index l.interfaces))

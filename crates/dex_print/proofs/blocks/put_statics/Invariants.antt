@@ -1,7 +1,0 @@
-use Rattle.std.proofs.Common.{◌≡◌, ◌++◌, map, take}
-use Rattle.dex_program.specs.View.{member, value}
-use Rattle.dex_print.specs.Canon.{statics_text}
-use Rattle.dex_print.proofs.blocks.put_statics.Given as goal
-
-abbrev pub invariant-loop-i : goal.invariant-loop-i
-invariant-loop-i l = l.out.items ≡ l.fn.out.items ++ statics_text (map member (take l.i l.fields)) (map value l.values)

@@ -1,8 +1,0 @@
-use Rattle.std.proofs.Common.{◌≡◌, ◌++◌, map, take}
-use Rattle.std.specs.List.{flat_map}
-use Rattle.dex_program.specs.View.{method}
-use Rattle.dex_print.specs.Canon.{virtual_text}
-use Rattle.dex_print.proofs.blocks.put_virtuals.Given as goal
-
-abbrev pub invariant-loop-one : goal.invariant-loop-one
-invariant-loop-one l = l.out.items ≡ l.fn.out.items ++ flat_map (virtual_text l.form) (map method (take l.one-index l.methods))

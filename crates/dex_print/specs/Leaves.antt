@@ -1,7 +1,0 @@
--- Values that are no arrays.
-use Rattle.dex_program.specs.Content.{Value, Array}
-
--- It is no array.
-abbrev pub IsLeaf : Value → Type 0
-IsLeaf (Array vs) = ⊥
-IsLeaf _ = Unit {0}

@@ -1,7 +1,0 @@
--- Which instructions of a code are named, in memory.
-use Rattle.std.specs.Prelude.{◌≡◌, ℕ, ◌<◌, Bool, false, List, length, get_or}
-use Rattle.dex_print.specs.Canon.{is_named}
-
--- These marks tell which of the first instructions are among the numbers.
-abbrev pub IsMarked : List Bool → List ℕ → Type 0
-IsMarked ms ns = (k : ℕ) → k < length ms → get_or ms k false ≡ is_named ns k

@@ -1,8 +1,0 @@
-use Rattle.dex_program.specs.KeyLaws.{key_cmp-total, key_cmp-same}
-use Rattle.dex_program.proofs.compare.key_laws.Goals as goal
-
-pub returns-clause-total : goal.returns-clause-total
-returns-clause-total c = key_cmp-total
-
-pub returns-clause-no_ties : goal.returns-clause-no_ties
-returns-clause-no_ties c = key_cmp-same

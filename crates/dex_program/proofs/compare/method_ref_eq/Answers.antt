@@ -1,5 +1,0 @@
-use Rattle.dex_program.proofs.Comparisons.{method_ref_same}
-use Rattle.dex_program.proofs.compare.method_ref_eq.Goals as goal
-
-pub returns : goal.returns
-returns c = rw c.eq.ensures (method_ref_same c.args.method.now c.args.other.now)

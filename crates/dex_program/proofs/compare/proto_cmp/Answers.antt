@@ -1,6 +1,0 @@
-use Rattle.std.proofs.Common.{◌∙◌, refl}
-use Rattle.dex_program.specs.KeyLaws.{proto_cmp}
-use Rattle.dex_program.proofs.compare.proto_cmp.Goals as goal
-
-pub returns : goal.returns
-returns c = c.cmp.ensures ∙ proto_cmp _ (λ d e. refl) c.args.prototype.now c.args.other.now

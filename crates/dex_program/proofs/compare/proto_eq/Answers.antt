@@ -1,5 +1,0 @@
-use Rattle.dex_program.proofs.Comparisons.{proto_same}
-use Rattle.dex_program.proofs.compare.proto_eq.Goals as goal
-
-pub returns : goal.returns
-returns c = rw c.eq.ensures (proto_same c.args.prototype.now c.args.other.now)

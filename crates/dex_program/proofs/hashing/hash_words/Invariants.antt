@@ -1,7 +1,0 @@
-use Rattle.std.proofs.Common.{◌≡◌}
-use Rattle.std.specs.List.{fold}
-use Rattle.dex_program.specs.Hashing.{words}
-use Rattle.dex_program.proofs.hashing.hash_words.Given as goal
-
-abbrev pub invariant-loop-k : goal.invariant-loop-k
-invariant-loop-k g l = l.state ≡ fold g.H.Hasher.write l.initial.state (words l.units l.k)

@@ -1,4 +1,0 @@
-use Rattle.dex_program.proofs.kinds.is_class_type.Goals as goal
-
-pub returns : goal.returns
-returns c = c.is_class.ensures

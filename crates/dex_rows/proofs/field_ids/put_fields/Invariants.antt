@@ -1,8 +1,0 @@
-use Rattle.std.proofs.Common.{map, take}
-use Rattle.dex_bytes.specs.Grammar.{Appends, Each}
-use Rattle.dex_program.specs.View as view
-use Rattle.dex_rows.specs.Rows.{SpellsFieldRow}
-use Rattle.dex_rows.proofs.field_ids.put_fields.Given as goal
-
-abbrev pub invariant-loop-field : goal.invariant-loop-field
-invariant-loop-field l = Appends (Each (SpellsFieldRow l.ranks)) l.fn.rows.items l.rows.items (map view.field_ref (take l.field-index l.field-items))

@@ -1,8 +1,0 @@
-use Rattle.std.proofs.Common.{map, take}
-use Rattle.dex_bytes.specs.Grammar.{Appends, Each}
-use Rattle.dex_program.specs.View as view
-use Rattle.dex_rows.specs.Rows.{SpellsTypeRow}
-use Rattle.dex_rows.proofs.type_ids.put_types.Given as goal
-
-abbrev pub invariant-loop-ty : goal.invariant-loop-ty
-invariant-loop-ty l = Appends (Each (SpellsTypeRow l.ranks)) l.fn.rows.items l.rows.items (map view.desc (take l.ty-index l.ty-items))

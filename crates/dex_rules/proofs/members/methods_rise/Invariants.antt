@@ -1,7 +1,0 @@
-use Rattle.std.proofs.Common.{ℕ, ◌<◌, ◌+◌, map}
-use Rattle.dex_program.specs.View.{method}
-use Rattle.dex_rules.specs.Rules.{IsBelowNext, method_key}
-use Rattle.dex_rules.proofs.members.methods_rise.Given as goal
-
-abbrev pub invariant-loop-k : goal.invariant-loop-k
-invariant-loop-k l = (j : ℕ) → j + 1 < l.k → IsBelowNext (map method_key (map method l.all)) j

@@ -1,8 +1,0 @@
-use Rattle.std.proofs.Common.{◌↔◌, map, drop}
-use Rattle.std.specs.List.{AllByRecursion}
-use Rattle.dex_program.specs.View.{desc}
-use Rattle.dex_rules.specs.Valid.{IsValueType}
-use Rattle.dex_rules.proofs.names.are_value_types.Given as goal
-
-abbrev pub invariant-loop-ty : goal.invariant-loop-ty
-invariant-loop-ty l = AllByRecursion IsValueType (map desc l.types) ↔ AllByRecursion IsValueType (map desc (drop l.ty-index l.types))

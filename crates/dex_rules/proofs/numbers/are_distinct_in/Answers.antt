@@ -1,8 +1,0 @@
-use Rattle.std.proofs.Common.{map, length, sym}
-use Rattle.std.proofs.lemmas.List.{length-map}
-use Rattle.dex_program.specs.View.{desc}
-use Rattle.dex_rules.proofs.NumberLaws.{distinct-by}
-use Rattle.dex_rules.proofs.numbers.are_distinct_in.Goals as goal
-
-pub returns-clause-ok : goal.returns-clause-ok
-returns-clause-ok c = distinct-by (map desc c.args.list.now) (length c.args.list.now) (sym (length-map c.args.list.now desc)) _ c.in_ok-numbers.ensures.ok.again _ c.is_none.ensures

@@ -1,8 +1,0 @@
-use Rattle.std.proofs.Common.{rules}
-use Rattle.dex_program.specs.View.{desc}
-use Rattle.dex_rules.specs.Rules.{NoneFrom}
-use Rattle.dex_rules.proofs.OrderLaws.{all-step}
-use Rattle.dex_rules.proofs.numbers.are_none_from.Goals as goal
-
-pub loop-ty-preserved : goal.loop-ty-preserved
-loop-ty-preserved c = λ p h. all-step (NoneFrom p c.args.from) desc _ c.args.list.now c.loop-ty.ty-index _ c.loop-ty-test.true (c.loop-ty.invariant p h) ((c.is_none_from.ensures p h).0 (search rules))

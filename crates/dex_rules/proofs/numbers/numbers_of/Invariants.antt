@@ -1,7 +1,0 @@
-use Rattle.std.proofs.Common.{map}
-use Rattle.dex_program.specs.View.{desc}
-use Rattle.dex_rules.specs.Numbers.{AreNumbers}
-use Rattle.dex_rules.proofs.numbers.numbers_of.Given as goal
-
-abbrev pub invariant-loop-k : goal.invariant-loop-k
-invariant-loop-k l = AreNumbers (map desc l.list) l.k record { last = l.last; again = l.again }

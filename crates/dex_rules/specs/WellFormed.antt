@@ -1,9 +1,0 @@
--- Programs that are well formed, as `write` asks for one.
-use Rattle.dex_program.specs.Content.{Program}
-use Rattle.dex_ranges.specs.Ranges.{InRange}
-use Rattle.dex_rules.specs.Rules.{RulesHold}
-
--- A program is well formed: its numbers and units lie in the ranges of their types, and each class keeps the rules.
-pub record WellFormed (p : Program) : Type 0 where
-  pub ranges : InRange p
-  pub rules : RulesHold p

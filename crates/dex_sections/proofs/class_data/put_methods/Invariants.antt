@@ -1,7 +1,0 @@
-use Rattle.std.proofs.Common.{map, take}
-use Rattle.dex_program.specs.View as view
-use Rattle.dex_sections.proofs.MemberRuns.{MethodsTo}
-use Rattle.dex_sections.proofs.class_data.put_methods.Given as goal
-
-abbrev pub invariant-loop-i : goal.invariant-loop-i
-invariant-loop-i l = MethodsTo l.ranks (view.desc l.class) (take l.i l.codes) l.fn.out.items l.out.items (map view.method (take l.i l.methods)) l.last

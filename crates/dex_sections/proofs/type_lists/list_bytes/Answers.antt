@@ -1,8 +1,0 @@
-use Rattle.dex_program.specs.View as view
-use Rattle.std.proofs.Common.{map}
-use Rattle.dex_sections.proofs.ListLaws.{all_of_it}
-use Rattle.dex_sections.specs.Lists.{SpellsRanks}
-use Rattle.dex_sections.proofs.type_lists.list_bytes.Goals as goal
-
-pub returns-clause-ok : goal.returns-clause-ok
-returns-clause-ok c = all_of_it (SpellsRanks c.args.ranks.now) _ _ (map view.desc c.args.types.now) c.new-bytes.ensures.items c.in_ok-put_list.ensures.ok

@@ -1,7 +1,0 @@
-use Rattle.std.proofs.Common.{map, take}
-use Rattle.dex_program.specs.View as view
-use Rattle.dex_sections.specs.Lists.{AddsIndices}
-use Rattle.dex_sections.proofs.type_lists.put_indices.Given as goal
-
-abbrev pub invariant-loop-ty : goal.invariant-loop-ty
-invariant-loop-ty l = AddsIndices l.ranks l.fn.out.items l.out.items (map view.desc (take l.ty-index l.types))

@@ -1,7 +1,0 @@
-use Rattle.std.proofs.Common.{◌≡◌, drop, map}
-use Rattle.dex_words.specs.View.{word}
-use Rattle.dex_slots.specs.Slots.{have_forms}
-use Rattle.dex_shapes.proofs.forms.have_forms.Given as goal
-
-abbrev pub invariant-loop-i : goal.invariant-loop-i
-invariant-loop-i l = have_forms l.slots (map word l.words) ≡ have_forms (drop l.i l.slots) (map word (drop l.i l.words))

@@ -1,6 +1,0 @@
-use Rattle.std.proofs.Common.{◌≡◌, drop}
-use Rattle.dex_slots.specs.Keys.{find_key}
-use Rattle.dex_slots.proofs.key.find_key.Given as goal
-
-abbrev pub invariant-loop-key : goal.invariant-loop-key
-invariant-loop-key l = find_key l.keys l.text ≡ find_key (drop l.key-index l.keys) l.text

@@ -1,5 +1,0 @@
-use Rattle.dex_tables.proofs.TypeLists.{types_one}
-use Rattle.dex_tables.proofs.file_laws.type_list_is_one.Goals as goal
-
-pub returns : goal.returns
-returns c = λ b framed off xs ys x y. types_one b off xs ys framed x y

@@ -1,6 +1,0 @@
-use Rattle.std.proofs.Common.{◌∙◌}
-use Rattle.dex_words.proofs.WrittenLaws.{hex_more}
-use Rattle.dex_words.proofs.print_hex.+put_hex.Goals as goal
-
-pub returns-clause-ok : goal.returns-clause-ok
-returns-clause-ok t c = c.in_ok-push.ensures.items ∙ hex_more _ _ c.args.width c.args.n _ c.if-width-eq0.false c.in_ok-put_hex.ensures.ok c.glyph.ensures

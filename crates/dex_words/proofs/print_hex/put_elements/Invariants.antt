@@ -1,6 +1,0 @@
-use Rattle.std.proofs.Common.{◌≡◌, ◌++◌, take}
-use Rattle.dex_words.specs.Written.{elements_text}
-use Rattle.dex_words.proofs.print_hex.put_elements.Given as goal
-
-abbrev pub invariant-loop-byte : goal.invariant-loop-byte
-invariant-loop-byte l = l.out.items ≡ l.fn.out.items ++ elements_text (take l.byte-index l.bytes)

@@ -1,8 +1,0 @@
-use Rattle.std.proofs.Common.{◌≡◌, ◌++◌, take, map}
-use Rattle.std.specs.List.{flat_map}
-use Rattle.dex_program.specs.View.{desc}
-use Rattle.dex_words.specs.Written.{name_text}
-use Rattle.dex_words.proofs.print_names.put_params.Given as goal
-
-abbrev pub invariant-loop-param : goal.invariant-loop-param
-invariant-loop-param l = l.out.items ≡ l.fn.out.items ++ name_text (flat_map (λ t. t) (map desc (take l.param-index l.params)))

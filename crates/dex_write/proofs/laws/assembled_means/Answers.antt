@@ -1,5 +1,0 @@
-use Rattle.dex_write.proofs.Classes.{means}
-use Rattle.dex_write.proofs.laws.assembled_means.Goals as goal
-
-pub returns : goal.returns
-returns c = means

@@ -1,0 +1,6 @@
+use Rattle.program_types.specs.View as view
+use Rattle.file_assemble.proofs.NamedLaws.{have_shorties}
+use Rattle.file_assemble.proofs.assembling.assemble_in.Goals as goal
+
+pub needed_names-requires : goal.needed_names-requires
+needed_names-requires c = have_shorties (view.program c.args.program.now) c.requires.kept.rules

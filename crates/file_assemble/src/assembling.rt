@@ -1,0 +1,213 @@
+// From a program to the bytes of its file.
+// Page: "Dalvik Executable format", "File layout".
+ghost use Rattle.std.specs.Prelude.{◌≡◌, ◌≢◌, ℕ, ◌+◌, ◌<◌, ◌≤◌, ◌^◌, IfOk, IfErr, OnOk, IsOkUnless, length};
+ghost use Rattle.base_bytes.specs.Fault.{memory};
+ghost use Rattle.file_layout.specs.Plan.{tables_end};
+ghost use Rattle.file_layout.specs.Tiles.{gap, zeros};
+ghost use Rattle.file_limits.specs.Limits.{Fits, IsLowestLimit};
+ghost use Rattle.file_limits.specs.Wide.{wide_rows};
+ghost use Rattle.tables_names.specs.Needed.{needed};
+ghost use Rattle.program_types.specs.View as view;
+ghost use Rattle.program_rules.specs.WellFormed.{WellFormed};
+ghost use Rattle.file_assemble.specs.Assembled.{Assembled, DataIsLaid, SpellsTables, rows_of};
+ghost use Rattle.file_assemble.specs.Making.{places_of};
+
+use bumpalo::Bump;
+use dex_base::Fault;
+use file_class_defs::put_classes;
+use file_layout::{Part, Plan, Rows, finish, gap_behind};
+use file_limits::check_limits;
+use file_needed::needed_names;
+use file_rows::name_rows;
+use file_sections::{put_arrays, put_codes, put_datas, put_lists, put_strings};
+use program_types::Program;
+use std::alloc::Global;
+use tables_names::Ranks;
+
+/// The file of a program that is well formed, laid out as `Assembled` says: tables of exactly the needed names, type lists, code items,
+/// texts, static values, class data, map. Equal lists, bodies and arrays stand once.
+///
+/// Refused are programs that break a limit of the format, by the lowest of 80 to 90 that stands, at its place. 255 is want of memory.
+pub fn assemble(alloc: Global, program: &Program<'_>) -> Result<Vec<u8>, Fault>
+    requires kept { WellFormed (view.program program.now) }
+    ensures assembled { IfOk result (λ file. Assembled file.items (needed (view.program program.now)) (view.program program.now)) }
+    ensures fits { OnOk result (Fits (view.program program.now)) }
+    ensures refused { IfErr result (λ e. e ≢ memory → IsLowestLimit (view.program program.now) e) }
+{
+    let arena = Bump::new(alloc);
+    assemble_in(alloc, &arena, program)
+}
+
+// With an arena for the shorties.
+fn assemble_in<'a, 'p: 'a>(
+    alloc: Global,
+    arena: &'a Bump,
+    program: &Program<'p>,
+) -> Result<Vec<u8>, Fault>
+    requires kept { WellFormed (view.program program.now) }
+    ensures assembled { IfOk result (λ file. Assembled file.items (needed (view.program program.now)) (view.program program.now)) }
+    ensures fits { OnOk result (Fits (view.program program.now)) }
+    ensures refused { IfErr result (λ e. e ≢ memory → IsLowestLimit (view.program program.now) e) }
+{
+    let ranks = needed_names(alloc, arena, program)?;
+    assemble_named(alloc, &ranks, program)
+}
+
+// With the names that it needs.
+fn assemble_named(alloc: Global, ranks: &Ranks<'_>, program: &Program<'_>) -> Result<Vec<u8>, Fault>
+    requires kept { WellFormed (view.program program.now) }
+    requires needed { ranks.now ≡ needed (view.program program.now) }
+    ensures assembled { IfOk result (λ file. Assembled file.items (needed (view.program program.now)) (view.program program.now)) }
+    ensures fits { OnOk result (Fits (view.program program.now)) }
+    ensures refused { IfErr result (λ e. e ≢ memory → IsLowestLimit (view.program program.now) e) }
+{
+    check_limits(alloc, ranks, program)?;
+    Ok(assemble_ranked(alloc, ranks, program)?)
+}
+
+// How many rows each table has.
+fn counts_of(ranks: &Ranks<'_>, program: &Program<'_>) -> Rows
+    requires { wide_rows ranks.now (view.program program.now) < 2 ^ 32 }
+    ensures { result ≡ rows_of ranks.now (view.program program.now) }
+{
+    Rows {
+        strings: ranks.strings().len() as u32,
+        types: ranks.types().len() as u32,
+        protos: ranks.protos().len() as u32,
+        fields: ranks.fields().len() as u32,
+        methods: ranks.methods().len() as u32,
+        classes: program.classes.len() as u32,
+    }
+}
+
+// Room for header and tables.
+fn space(alloc: Global, end: u32) -> Result<Vec<u8>, Fault>
+    ensures ok { IfOk result (λ out. out.items ≡ zeros end) }
+    ensures memory { IsOkUnless result memory }
+{
+    let mut out = Vec::with_capacity(alloc, end as usize)?;
+    for done in 0..end {
+        out.push(0)?;
+    }
+    Ok(out)
+}
+
+// The data, laid behind header and tables: the plan, and where the items of each part stand.
+#[derive(Drop)]
+pub struct Data {
+    pub plan: Plan,
+    pub lists: Vec<u32>,
+    pub codes: Vec<u32>,
+    pub texts: Vec<u32>,
+    pub arrays: Vec<u32>,
+    pub datas: Vec<u32>,
+}
+
+// A part that has so many items and lies from one byte to another.
+fn part(items: u32, begin: u32, end: u32) -> Part
+    ensures { result ≡ record { items = items; begin = begin; end = end } }
+{
+    Part { items, begin, end }
+}
+
+// The part of so many code items, which stand behind the type lists: it begins at the first of them, behind the bytes that align it.
+fn codes_part(items: u32, lists_end: u32, end: u32) -> Part
+    requires { lists_end + 3 < 2 ^ 32 }
+    ensures { result ≡ record { items = items; begin = lists_end + gap 4 lists_end; end = end } }
+{
+    let padding = gap_behind(lists_end as usize) as u32;
+    part(items, lists_end + padding, end)
+}
+
+// Appends the parts of the data.
+fn put_data(
+    alloc: Global,
+    out: &mut Vec<u8>,
+    ranks: &Ranks<'_>,
+    program: &Program<'_>,
+    counts: Rows,
+) -> Result<Data, Fault>
+    requires kept { WellFormed (view.program program.now) }
+    requires needed { ranks.now ≡ needed (view.program program.now) }
+    requires fits { Fits (view.program program.now) }
+    requires counts { counts ≡ rows_of ranks.now (view.program program.now) }
+    requires front { length out.old.items ≡ tables_end counts }
+    ensures ok { IfOk result (λ d. DataIsLaid out.new.items ranks.now (view.program program.now) d.plan (places_of d)) }
+    ensures memory { IsOkUnless result memory }
+{
+    let tables = out.len() as u32;
+    let lists = put_lists(alloc, out, ranks, program)?;
+    let lists_end = out.len() as u32;
+    let codes = put_codes(alloc, out, ranks, program)?;
+    let codes_end = out.len() as u32;
+    let texts = put_strings(alloc, out, ranks)?;
+    let texts_end = out.len() as u32;
+    let arrays = put_arrays(alloc, out, ranks, program)?;
+    let arrays_end = out.len() as u32;
+    let datas = put_datas(alloc, out, ranks, program, &codes.places)?;
+    let datas_end = out.len() as u32;
+    Ok(Data {
+        plan: Plan {
+            rows: counts,
+            lists: part(lists.items, tables, lists_end),
+            codes: codes_part(codes.items, lists_end, codes_end),
+            strings: part(texts.items, codes_end, texts_end),
+            arrays: part(arrays.items, texts_end, arrays_end),
+            datas: part(datas.items, arrays_end, datas_end),
+        },
+        lists: lists.places,
+        codes: codes.places,
+        texts: texts.places,
+        arrays: arrays.places,
+        datas: datas.places,
+    })
+}
+
+// The rows of the six tables.
+fn table_rows(
+    alloc: Global,
+    ranks: &Ranks<'_>,
+    program: &Program<'_>,
+    laid: &Data,
+) -> Result<Vec<u8>, Fault>
+    requires needed { ranks.now ≡ needed (view.program program.now) }
+    requires fits { Fits (view.program program.now) }
+    requires lists { length laid.now.lists.items ≡ length ranks.now.protos + length (view.program program.now) }
+    requires texts { length laid.now.texts.items ≡ length ranks.now.strings }
+    requires datas { length laid.now.datas.items ≡ length (view.program program.now) }
+    requires arrays { length laid.now.arrays.items ≡ length (view.program program.now) }
+    ensures ok { IfOk result (λ rows. SpellsTables ranks.now (view.program program.now) (places_of laid.now) rows.items) }
+    ensures memory { IsOkUnless result memory }
+{
+    let protos = ranks.protos().len();
+    let mut rows = name_rows(alloc, ranks, &laid.texts, &laid.lists[..protos])?;
+    put_classes(
+        &mut rows,
+        ranks,
+        program.classes,
+        &laid.lists[protos..],
+        &laid.datas,
+        &laid.arrays,
+    )?;
+    Ok(rows)
+}
+
+// The file of a program within the limits.
+fn assemble_ranked(
+    alloc: Global,
+    ranks: &Ranks<'_>,
+    program: &Program<'_>,
+) -> Result<Vec<u8>, Fault>
+    requires kept { WellFormed (view.program program.now) }
+    requires needed { ranks.now ≡ needed (view.program program.now) }
+    requires fits { Fits (view.program program.now) }
+    ensures assembled { IfOk result (λ file. Assembled file.items ranks.now (view.program program.now)) }
+    ensures memory { IsOkUnless result memory }
+{
+    let counts = counts_of(ranks, program);
+    let mut out = space(alloc, counts.tables_end())?;
+    let data = put_data(alloc, &mut out, ranks, program, counts)?;
+    let rows = table_rows(alloc, ranks, program, &data)?;
+    finish(alloc, &mut out, &data.plan, &rows)?;
+    Ok(out)
+}

@@ -1,0 +1,117 @@
+// The rows of class_defs.
+// Page: "Dalvik Executable format", "class_def_item".
+ghost use Rattle.std.specs.Prelude.{◌≡◌, ℕ, ◌+◌, ◌<◌, ◌≤◌, ◌^◌, Some, IfOk, OnOk, IsOkUnless, length, map, option_map, slice_get};
+ghost use Rattle.std.specs.Option.{ForSome};
+ghost use Rattle.base_bytes.specs.Fault.{memory};
+ghost use Rattle.base_bytes.specs.Grammar.{Appends, Each};
+ghost use Rattle.file_classes.specs.ClassRows.{IndexOrNone};
+ghost use Rattle.tables_names.specs.Indices.{HasPlace};
+ghost use Rattle.program_types.specs.Key.{text_key};
+ghost use Rattle.program_types.specs.View as view;
+ghost use Rattle.file_class_defs.specs.ClassDefs.{SpellsClassRow, StringRanks, TypeRanks, seated};
+ghost use Rattle.file_class_defs.specs.Held.{RowNamesHeld};
+
+use dex_base::{Fault, push_words};
+use file_rows::{string_index, type_index};
+use program_types::{Class, Desc, Str};
+use tables_names::Ranks;
+
+// The index that stands for none.
+const NO_INDEX: u32 = 0xffffffff;
+
+// Where the items of a class stand, 0 for none.
+#[derive(Clone, Copy)]
+pub struct Seats {
+    pub list: u32,
+    pub datum: u32,
+    pub array: u32,
+}
+
+// The index of a type that may be none.
+fn type_or_none(ranks: &Ranks<'_>, name: Option<Desc<'_>>) -> u32
+    requires held { ForSome (option_map view.desc name) (λ t. HasPlace ranks.now.types (text_key t)) }
+    requires few { length ranks.now.types ≤ 65535 }
+    ensures { IndexOrNone (TypeRanks ranks.now) result (option_map view.desc name.entry) }
+{
+    match name {
+        Some(ty) => u32::from(type_index(ranks, ty)),
+        None => NO_INDEX,
+    }
+}
+
+// The index of a string that may be none.
+fn string_or_none(ranks: &Ranks<'_>, name: Option<Str<'_>>) -> u32
+    requires held { ForSome (option_map view.str name) (λ t. HasPlace ranks.now.strings (text_key t)) }
+    requires few { length ranks.now.strings < 4294967295 }
+    ensures { IndexOrNone (StringRanks ranks.now) result (option_map view.str name.entry) }
+{
+    match name {
+        Some(text) => string_index(ranks, text),
+        None => NO_INDEX,
+    }
+}
+
+// A number of four bytes is below 2^32.
+fn is_word(number: u32)
+    ensures { number < 2 ^ 32 }
+{}
+
+// Appends the row of a class.
+fn put_class(
+    rows: &mut Vec<u8>,
+    ranks: &Ranks<'_>,
+    class: &Class<'_>,
+    seats: Seats,
+) -> Result<(), Fault>
+    requires held { RowNamesHeld ranks.now (view.class class.now) }
+    requires few_types { length ranks.now.types ≤ 65535 }
+    requires few_strings { length ranks.now.strings < 4294967295 }
+    ensures ok { OnOk result (Appends (SpellsClassRow ranks.now) rows.old.items rows.new.items (record { class = view.class class.now; list = seats.list; datum = seats.datum; array = seats.array })) }
+    ensures memory { IsOkUnless result memory }
+{
+    is_word(class.flags);
+    push_words(
+        rows,
+        &[
+            u32::from(type_index(ranks, class.ty)),
+            class.flags,
+            type_or_none(ranks, class.superclass),
+            seats.list,
+            string_or_none(ranks, class.source),
+            0,
+            seats.datum,
+            seats.array,
+        ],
+    )
+}
+
+/// Appends the rows of all classes, whose interfaces, class data and static values stand at these places.
+///
+/// The only refusal is want of memory.
+pub fn put_classes(
+    rows: &mut Vec<u8>,
+    ranks: &Ranks<'_>,
+    classes: &[Class<'_>],
+    lists: &[u32],
+    datas: &[u32],
+    arrays: &[u32],
+) -> Result<(), Fault>
+    requires held { (i : ℕ) (c : _) → slice_get (map view.class classes.now) i ≡ Some c → RowNamesHeld ranks.now c }
+    requires few_types { length ranks.now.types ≤ 65535 }
+    requires few_strings { length ranks.now.strings < 4294967295 }
+    requires lists { length lists.now ≡ length classes.now }
+    requires datas { length datas.now ≡ length classes.now }
+    requires arrays { length arrays.now ≡ length classes.now }
+    ensures ok { OnOk result (Appends (Each (SpellsClassRow ranks.now)) rows.old.items rows.new.items (seated (map view.class classes.now) lists.now datas.now arrays.now)) }
+    ensures memory { IsOkUnless result memory }
+{
+    for (i, class) in classes.iter().enumerate() {
+        let seats = Seats {
+            list: lists[i],
+            datum: datas[i],
+            array: arrays[i],
+        };
+        put_class(rows, ranks, class, seats)?;
+    }
+    Ok(())
+}

@@ -1,0 +1,63 @@
+-- What is kept by its offset.
+use Rattle.std.proofs.Common.{◌≡◌, ℕ, Bool, true, false, cond, eqb, nat_eq, ap, sym, subst, ◌∙◌, Some, refl}
+use Rattle.std.proofs.lemmas.Bool.{eqb-true}
+use Rattle.std.proofs.lemmas.Option.{none-some}
+use Rattle.std.specs.Map.{lookup}
+use Rattle.indexmap.specs.IndexMap.{IndexMap, get, IsEmpty, Updates}
+use Rattle.file_classes.specs.Kept.{AreKept}
+use Rattle.std.proofs.Common.{◌≢◌, Result, Ok, Err}
+use Rattle.std.specs.Prelude.{IfErr, IsErrAnd}
+use Rattle.base_bytes.specs.Fault.{memory}
+use Rattle.base_bytes.specs.declared.fault.Fault.{Fault}
+use Rattle.std.proofs.Common.{◌-◌, ◌<◌, ◌≤◌, List, ◌++◌, length, take, drop, arith, length-take, append_assoc, inl, inr}
+use Rattle.std.proofs.lemmas.List.{take-take, take-append-drop}
+use Rattle.dex_container.specs.Where.{slice}
+use Rattle.program_types.specs.Content.{Name, Value}
+use Rattle.dex_value.specs.Standing.{ArrayStands}
+use Rattle.dex_value.specs.Faults.{ArrayBreaksAt}
+use Rattle.dex_value.proofs.Places.{SpellsArray-least}
+
+some_same : {V : Type 0} (a b : V) → Some a ≡ Some b → a ≡ b
+some_same a b e = cc
+
+-- nothing is kept yet
+pub kept_none : {V S : Type 0} (Stands : ℕ → V → Type 0) (m : IndexMap ℕ V S) → IsEmpty m → AreKept Stands m
+kept_none Stands m e off v at = absurd (none-some v (sym (ap (lookup (nat_eq off)) e) ∙ at))
+
+-- one more value
+pub kept_more : {V S : Type 0} (Stands : ℕ → V → Type 0) (m n : IndexMap ℕ V S) (off : ℕ) (v : V) → AreKept Stands m → Stands off v → Updates nat_eq m n off (Some v) → AreKept Stands n
+kept_more {V} Stands m n off v kept stands u other w at = by (eqb off other) refl (sym (u.0 other) ∙ at)
+  where
+    by : (t : Bool) → eqb off other ≡ t → cond t (Some v) (get nat_eq m other) ≡ Some w → Stands other w
+    by true t e = subst (λ (k : ℕ). Stands k w) (eqb-true off other t) (subst (λ (x : V). Stands off x) (some_same v w e) stands)
+    by false t e = kept other w e
+
+-- ---- arrays that are used again
+
+pub array_fewer : (N : ℕ → Name → Type 0) (b : List ℕ) (off most m : ℕ) (vs : List Value) → ArrayStands N b off most vs → length vs ≤ m → ArrayStands N b off m vs
+array_fewer N b off most m vs a few = record { stands = a.stands; few = few; deep = a.deep }
+
+-- one that has more values than are wanted
+pub array_above : (N : ℕ → Name → Type 0) (b : List ℕ) (off most m : ℕ) (vs : List Value) → ArrayStands N b off most vs → m < length vs → ArrayBreaksAt N b off m (record { code = 49; place = off })
+unfolding slice
+array_above N b off most m vs a above =
+    let s = a.stands in
+    let rest = take (s.end - off) (drop off b) in
+    let l = SpellsArray-least N (take s.size (drop off b)) vs s.spelled in
+    let t = length-take s.size (drop off b) in
+    let w = s.within in
+    let front : take s.size rest ≡ take s.size (drop off b) = take-take s.size (s.end - off) (drop off b) (omega (arith, w)) in
+    let whole : rest ≡ s.spelled.front ++ (s.spelled.back ++ drop s.size rest) =
+    sym (take-append-drop s.size rest) ∙ ap (λ (x : List ℕ). x ++ drop s.size rest) (front ∙ s.spelled.joined) ∙ append_assoc s.spelled.front s.spelled.back (drop s.size rest) in
+    inr (
+      s.end,
+      rest,
+      record { begin = s.begin; section = s.section; behind = s.behind; before = omega (arith, l, t, w); same = refl },
+      inr (inl (record { n = length vs; behind = s.spelled.back ++ drop s.size rest; counted = record { front = s.spelled.front; whole = whole; spelled = s.spelled.first }; above = above }, refl)),
+    )
+
+-- ---- want of memory
+
+pub refused : {T : Type 0} (r : Result T Fault) (P : Fault → Type 0) → IsErrAnd r (λ x. x ≡ memory) → IfErr r (λ e. e ≢ memory → P e)
+refused (Ok x) P h = tt
+refused (Err y) P h = λ ne. absurd (ne h)

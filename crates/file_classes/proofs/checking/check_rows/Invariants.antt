@@ -1,0 +1,12 @@
+use Rattle.tables_rows.specs.Sorted.{RowsHold}
+use Rattle.file_classes.specs.ClassFaults.{BodiesHold}
+use Rattle.file_classes.specs.Kept.{AreKept}
+use Rattle.file_classes.specs.Reading.{RowsUpTo, IsChecked}
+use Rattle.file_classes.proofs.checking.check_rows.Given as goal
+
+abbrev pub invariant-loop-i : goal.invariant-loop-i
+invariant-loop-i l = record {
+  hold : RowsHold BodiesHold l.sections l.i;
+  past : RowsUpTo l.sections l.i l.past;
+  kept : AreKept (IsChecked l.sections) l.kept;
+}

@@ -1,0 +1,7 @@
+use Rattle.std.proofs.Common.{◌≡◌, ◌<◌, ℕ, map, take}
+use Rattle.program_types.specs.View.{desc}
+use Rattle.file_classes.specs.Reading.{IsNotAmong}
+use Rattle.file_classes.proofs.interfaces.are_many_distinct.Given as goal
+
+abbrev pub invariant-loop-n : goal.invariant-loop-n
+invariant-loop-n l = (l.seen.keys ≡ take l.n l.types) × ((k : ℕ) → k < l.n → IsNotAmong (map desc l.types) k k)

@@ -1,0 +1,14 @@
+use Rattle.std.proofs.Common.{map}
+use Rattle.program_types.specs.View.{class}
+use Rattle.tables_rows.specs.Reading.{AreFirst}
+use Rattle.file_classes.specs.ClassFaults.{BodiesHold}
+use Rattle.file_classes.specs.Kept.{AreKept}
+use Rattle.file_classes.specs.Reading.{SpellsBodies, RowsUpTo, IsFound}
+use Rattle.file_classes.proofs.methods.read_classes.Given as goal
+
+abbrev pub invariant-loop-i : goal.invariant-loop-i
+invariant-loop-i l = record {
+  rows : AreFirst SpellsBodies BodiesHold l.sections l.i (map class l.classes.items);
+  past : RowsUpTo l.sections l.i l.past;
+  kept : AreKept (IsFound l.sections) l.kept;
+}

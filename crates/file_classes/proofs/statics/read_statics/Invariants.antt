@@ -1,0 +1,11 @@
+use Rattle.std.proofs.Common.{map}
+use Rattle.program_types.specs.View.{value}
+use Rattle.tables_rows.specs.Names.{NameIsAt}
+use Rattle.file_classes.specs.Kept.{AreKept, StandsOnce}
+use Rattle.tables_rows.specs.Reading.{AreFirst}
+use Rattle.file_classes.specs.ClassFaults.{ValuesHold}
+use Rattle.file_classes.specs.Reading.{AreStatics}
+use Rattle.file_classes.proofs.statics.read_statics.Given as goal
+
+abbrev pub invariant-loop-i : goal.invariant-loop-i
+invariant-loop-i l = AreFirst AreStatics ValuesHold l.sections l.i l.all.items × AreKept (λ off values. StandsOnce (NameIsAt l.tables) l.sections off (map value values.now)) l.kept

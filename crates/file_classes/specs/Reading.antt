@@ -1,0 +1,166 @@
+-- What the private functions of reading say.
+use Rattle.std.specs.Prelude.{◌≡◌, ◌≢◌, ℕ, ◌<◌, ◌≤◌, List, [], length, map, option_map, Option, Some, None, IfSome, IfNone}
+use Rattle.std.specs.List.{slice_get}
+use Rattle.base_bytes.specs.declared.fault.Fault.{Fault}
+use Rattle.dex_container.specs.Faults.{on}
+use Rattle.program_types.specs.Content as content
+use Rattle.program_types.specs.View.{str, desc, proto, member, value, code}
+use Rattle.file_classes.specs.declared.class_data.FieldEntry.{FieldEntry}
+use Rattle.file_classes.specs.declared.class_data.MethodEntry.{MethodEntry}
+use Rattle.file_classes.specs.declared.class_data.Counts.{Counts}
+use Rattle.file_classes.specs.declared.class_data.Entries.{Entries}
+use Rattle.file_classes.specs.declared.members.Bare.{Bare}
+use Rattle.file_classes.specs.declared.heads.Head.{Head}
+use Rattle.file_classes.specs.declared.members.Members.{Members}
+use Rattle.file_classes.specs.declared.methods.Found.{Found}
+use Rattle.file_classes.specs.ClassData.{IsRun}
+use Rattle.file_classes.specs.declared.statics.Statics.{Statics}
+use Rattle.file_classes.specs.ClassData as numbers
+use Rattle.file_classes.specs.ClassRows.{class_word}
+use Rattle.file_classes.specs.Classes.{IsField, IsMethod, HeadIs, StaticsAt}
+use Rattle.file_classes.specs.ClassFaults.{EntryBreaks, ValuesStand, BodyAt, BodyHolds, CodeHolds, RegistersFail, RegistersHold, RegistersBreak, IsFirstClass}
+use Rattle.tables_rows.specs.Sorted.{RowsHold}
+
+-- what entries in memory say
+abbrev pub field_entry : FieldEntry → numbers.FieldEntry
+field_entry e = (e.step, e.flags)
+
+-- A method's entry in memory.
+abbrev pub method_entry : MethodEntry → numbers.MethodEntry
+method_entry e = (e.step, (e.flags, e.code))
+
+-- Counts in memory.
+abbrev pub counts : Counts → ℕ × (ℕ × (ℕ × ℕ))
+counts c = (c.statics, (c.instances, (c.directs, c.virtuals)))
+
+-- The four lists in memory.
+abbrev pub entries : Entries → numbers.Entries
+entries e = record {
+  statics = map field_entry e.statics.items;
+  instances = map field_entry e.instances.items;
+  directs = map method_entry e.directs.items;
+  virtuals = map method_entry e.virtuals.items;
+}
+
+-- a method before its code is looked at
+abbrev pub bare : Bare → content.Method
+bare m = record { name = str m.method.now.name; proto = proto m.method.now.proto.now; flags = m.flags; code = None }
+
+-- The entry with this index is this method of the class, and its code stands here.
+pub record IsBare (b : List ℕ) (class : content.Units) (index : ℕ) (e : numbers.MethodEntry) (m : Bare) : Type 0 where
+  pub method : IsMethod b class index e (bare m)
+  pub code : m.code ≡ e.1.1
+
+-- a class before its static values and its code are looked at
+abbrev pub head : Head → content.Class
+head h = record {
+  ty = desc h.ty;
+  flags = h.flags;
+  superclass = option_map desc h.superclass;
+  interfaces = map desc h.interfaces.now;
+  source = option_map str h.source;
+  statics = map member h.statics.now;
+  values = [];
+  instances = map member h.instances.now;
+  directs = map bare h.directs.now;
+  virtuals = map bare h.virtuals.now;
+}
+
+-- Each method's code stands where its entry says.
+abbrev pub HaveCodes : List numbers.MethodEntry → List Bare → Type 0
+HaveCodes es ms = (k : ℕ) (e : numbers.MethodEntry) (m : Bare) → slice_get es k ≡ Some e → slice_get ms k ≡ Some m → m.code ≡ e.1.1
+
+-- This is the head of row i.
+pub record IsHead (b : List ℕ) (i : ℕ) (h : Head) : Type 0 where
+  pub entries : numbers.Entries
+  pub head : HeadIs b i entries (head h)
+  pub directs : HaveCodes entries.directs h.directs.now
+  pub virtuals : HaveCodes entries.virtuals h.virtuals.now
+
+-- These are the static values of row i.
+abbrev pub AreStatics : List ℕ → ℕ → Statics → Type 0
+AreStatics b i s = ValuesStand b i (map value s.values.now)
+
+-- These are the members of a class, with these entries.
+pub record MembersStand (b : List ℕ) (class : content.Units) (e : numbers.Entries) (m : Members) : Type 0 where
+  pub statics : IsRun (IsField b class) e.statics (map member m.statics.now)
+  pub instances : IsRun (IsField b class) e.instances (map member m.instances.now)
+  pub directs : IsRun (IsBare b class) e.directs m.directs.now
+  pub virtuals : IsRun (IsBare b class) e.virtuals m.virtuals.now
+
+-- ---- refusals
+
+-- The row of an index breaks a rule: out of its table (45), or of another class (46).
+pub record IndexFails (IsOwner : ℕ → content.Units → Type 0) (size : ℕ) (class : content.Units) (index place : ℕ) (fault : Fault) : Type 0 where
+  pub breaks : on fault.code 45 (size ≤ index) (on fault.code 46 ((t : content.Units) × IsOwner index t × (t ≢ class)) ⊥)
+  pub there : fault.place ≡ place
+
+-- An entry of a list breaks one (45 to 47).
+pub record EntriesFail (IsOwner : ℕ → content.Units → Type 0) (size : ℕ) (class : content.Units) (differences : List ℕ) (place : ℕ) (fault : Fault) : Type 0 where
+  pub breaks : EntryBreaks IsOwner size class fault.code differences
+  pub there : fault.place ≡ place
+
+-- None of the first m types is type n.
+abbrev pub IsNotAmong : List content.Units → ℕ → ℕ → Type 0
+IsNotAmong ts m n = (j : ℕ) (t : content.Units) → j < m → slice_get ts j ≡ Some t → slice_get ts n ≢ Some t
+
+-- ---- methods with their code
+
+-- This is the body at an offset, and the code stands or this is the fault of its registers.
+pub record IsFound (b : List ℕ) (off : ℕ) (x : Found) : Type 0 where
+  pub body : BodyAt b off (option_map (λ c. code c.now) x.code)
+  pub hold : IfNone x.past (CodeHolds b off)
+  pub past : IfSome x.past (RegistersFail b off)
+
+-- The body at an offset stands, and the code does or this is the fault of its registers.
+pub record IsChecked (b : List ℕ) (off : ℕ) (found : Option Fault) : Type 0 where
+  pub body : BodyHolds b off
+  pub hold : IfNone found (CodeHolds b off)
+  pub past : IfSome found (RegistersFail b off)
+
+-- This is the method, with its body.
+pub record IsDone (b : List ℕ) (m : Bare) (v : content.Method) : Type 0 where
+  pub name : (bare m).name ≡ v.name
+  pub proto : (bare m).proto ≡ v.proto
+  pub flags : (bare m).flags ≡ v.flags
+  pub code : BodyAt b m.code v.code
+
+-- Of the first n methods all hold.
+abbrev pub BaresHold : (List ℕ → ℕ → Type 0) → List ℕ → List Bare → ℕ → Type 0
+BaresHold Holds b ms n = (k : ℕ) (m : Bare) → k < n → slice_get ms k ≡ Some m → Holds b m.code
+
+-- These are the first n methods, with their bodies.
+pub record AreDone (b : List ℕ) (ms : List Bare) (n : ℕ) (vs : List content.Method) : Type 0 where
+  pub count : length vs ≡ n
+  pub each : (k : ℕ) (m : Bare) (v : content.Method) → slice_get ms k ≡ Some m → slice_get vs k ≡ Some v → IsDone b m v
+  pub hold : BaresHold BodyHolds b ms n
+
+-- The first of the methods that doesn't hold, and its fault.
+pub record BaresBreak (Holds : List ℕ → ℕ → Type 0) (Fails : List ℕ → ℕ → Fault → Type 0) (b : List ℕ) (ms : List Bare) (fault : Fault) : Type 0 where
+  pub entry : ℕ
+  pub one : Bare
+  pub there : slice_get ms entry ≡ Some one
+  pub fails : Fails b one.code fault
+  pub before : (k : ℕ) (m : Bare) → k < entry → slice_get ms k ≡ Some m → Holds b m.code
+
+-- Each of the methods has the body of its entry.
+abbrev pub BodiesAre : List ℕ → List numbers.MethodEntry → List content.Method → Type 0
+BodiesAre b es ms = (k : ℕ) (e : numbers.MethodEntry) (m : content.Method) → slice_get es k ≡ Some e → slice_get ms k ≡ Some m → BodyAt b e.1.1 m.code
+
+-- Row i spells the class, whichever registers its code names.
+pub record SpellsBodies (b : List ℕ) (i : ℕ) (c : content.Class) : Type 0 where
+  pub entries : numbers.Entries
+  pub head : HeadIs b i entries c
+  pub values : StaticsAt b (class_word b i 7) (length entries.statics) c.values
+  pub directs : BodiesAre b entries.directs c.directs
+  pub virtuals : BodiesAre b entries.virtuals c.virtuals
+
+-- Of the first n of the methods all hold, or this is the first fault.
+pub record BaresUpTo (Holds : List ℕ → ℕ → Type 0) (Fails : List ℕ → ℕ → Fault → Type 0) (b : List ℕ) (ms : List Bare) (n : ℕ) (past : Option Fault) : Type 0 where
+  pub none : IfNone past (BaresHold Holds b ms n)
+  pub some : IfSome past (BaresBreak Holds Fails b ms)
+
+-- The registers of all code of the first n rows hold, or this is the first fault.
+pub record RowsUpTo (b : List ℕ) (n : ℕ) (past : Option Fault) : Type 0 where
+  pub none : IfNone past (RowsHold RegistersHold b n)
+  pub some : IfSome past (IsFirstClass RegistersBreak RegistersHold b)

@@ -1,0 +1,163 @@
+// The third pass over class_defs where no program is asked for: the faults of `read_classes`. Of a code that is read nothing is
+// kept but what is wrong with its registers.
+ghost use Rattle.std.specs.Prelude.{◌≢◌, ◌⊎◌, IfOk, IfErr, IfSome, IfNone, OnOk, length};
+ghost use Rattle.base_bytes.specs.Fault.{memory};
+ghost use Rattle.dex_container.specs.Layout.{size_of};
+ghost use Rattle.tables_rows.specs.Names.{AreNamesOf, AreRows};
+ghost use Rattle.tables_rows.specs.Sorted.{RowsHold};
+ghost use Rattle.file_classes.specs.ClassFaults.{BodyHolds, BodyFails, CodeHolds, RegistersFail, BodiesHold, BodiesBreak, RegistersHold, RegistersBreak, IsFirstClass};
+ghost use Rattle.file_classes.specs.Kept.{AreKept};
+ghost use Rattle.file_classes.specs.Reading.{IsHead, BaresHold, BaresBreak, BaresUpTo, IsChecked};
+
+use crate::class_row::class_count;
+use crate::heads::Head;
+use crate::members::Bare;
+use crate::methods::{first_of, read_code_at};
+use crate::statics::head_at;
+use bumpalo::Bump;
+use dex_base::Fault;
+use dex_container::Sections;
+use indexmap::IndexMap;
+use std::alloc::Global;
+use tables_rows::Tables;
+
+// What is wrong with the registers of the code at an offset, if anything is; the code lies in the arena.
+fn check_code(
+    alloc: Global,
+    arena: &Bump,
+    sections: &Sections<'_>,
+    tables: &Tables<'_>,
+    off: u32,
+) -> Result<Option<Fault>, Fault>
+    requires names { AreNamesOf sections.now tables.now }
+    ensures ok { IfOk result (IsChecked sections.now off) }
+    ensures err { IfErr result (λ e. e ≢ memory → BodyFails sections.now off e) }
+{
+    let found = read_code_at(alloc, arena, sections, tables, off)?;
+    Ok(found.past)
+}
+
+// The same: what is kept of the offset, or what is found now, and kept. Behind each code the scratch arena is empty again.
+fn check_code_at(
+    alloc: Global,
+    scratch: &mut Bump,
+    sections: &Sections<'_>,
+    tables: &Tables<'_>,
+    kept: &mut IndexMap<u32, Option<Fault>>,
+    off: u32,
+) -> Result<Option<Fault>, Fault>
+    requires names { AreNamesOf sections.now tables.now }
+    requires kept { AreKept (IsChecked sections.now) kept.old }
+    ensures ok { IfOk result (IsChecked sections.now off) }
+    ensures kept { OnOk result (AreKept (IsChecked sections.now) kept.new) }
+    ensures err { IfErr result (λ e. e ≢ memory → BodyFails sections.now off e) }
+{
+    if let Some(past) = kept.get(&off) {
+        return Ok(*past);
+    }
+    let past = check_code(alloc, scratch, sections, tables, off)?;
+    if scratch.reset().is_err() {
+        return Err(Fault::MEMORY);
+    }
+    kept.insert(off, past)?;
+    Ok(past)
+}
+
+// The first fault of the registers of a list of methods.
+fn check_methods(
+    alloc: Global,
+    scratch: &mut Bump,
+    sections: &Sections<'_>,
+    tables: &Tables<'_>,
+    kept: &mut IndexMap<u32, Option<Fault>>,
+    bares: &[Bare<'_>],
+) -> Result<Option<Fault>, Fault>
+    requires names { AreNamesOf sections.now tables.now }
+    requires kept { AreKept (IsChecked sections.now) kept.old }
+    ensures ok { OnOk result (BaresHold BodyHolds sections.now bares.now (length bares.now)) }
+    ensures past { IfOk result (BaresUpTo CodeHolds RegistersFail sections.now bares.now (length bares.now)) }
+    ensures kept { OnOk result (AreKept (IsChecked sections.now) kept.new) }
+    ensures err { IfErr result (λ e. e ≢ memory → BaresBreak BodyHolds BodyFails sections.now bares.now e) }
+{
+    let mut past = None;
+    for bare in bares {
+        let next = check_code_at(alloc, scratch, sections, tables, kept, bare.code)?;
+        past = first_of(past, next);
+    }
+    Ok(past)
+}
+
+// The first fault of the registers of row i.
+fn check_class(
+    alloc: Global,
+    scratch: &mut Bump,
+    sections: &Sections<'_>,
+    tables: &Tables<'_>,
+    kept: &mut IndexMap<u32, Option<Fault>>,
+    i: u32,
+    head: Head<'_, '_>,
+) -> Result<Option<Fault>, Fault>
+    requires names { AreNamesOf sections.now tables.now }
+    requires kept { AreKept (IsChecked sections.now) kept.old }
+    requires head { IsHead sections.now i head }
+    ensures ok { OnOk result (BodiesHold sections.now i) }
+    ensures hold { IfOk result (λ past. IfNone past (RegistersHold sections.now i)) }
+    ensures past { IfOk result (λ past. IfSome past (RegistersBreak sections.now i)) }
+    ensures kept { OnOk result (AreKept (IsChecked sections.now) kept.new) }
+    ensures err { IfErr result (λ e. e ≢ memory → BodiesBreak sections.now i e) }
+{
+    // Only for the proof: what holds of each value of its type.
+    let _file = sections.bytes();
+    let directs = check_methods(alloc, scratch, sections, tables, kept, head.directs)?;
+    let virtuals = check_methods(alloc, scratch, sections, tables, kept, head.virtuals)?;
+    Ok(first_of(directs, virtuals))
+}
+
+// Looks at the code of all rows, with nothing kept so far.
+fn check_rows(
+    alloc: Global,
+    scratch: &mut Bump,
+    sections: &Sections<'_>,
+    tables: &Tables<'_>,
+    kept: &mut IndexMap<u32, Option<Fault>>,
+    heads: &[Head<'_, '_>],
+) -> Result<(), Fault>
+    requires names { AreNamesOf sections.now tables.now }
+    requires kept { AreKept (IsChecked sections.now) kept.old }
+    requires heads { AreRows IsHead sections.now 5 heads.now }
+    ensures hold { OnOk result (RowsHold RegistersHold sections.now (size_of sections.now 5)) }
+    ensures err { IfErr result (λ e. e ≢ memory → IsFirstClass BodiesBreak BodiesHold sections.now e
+        ⊎ (RowsHold BodiesHold sections.now (size_of sections.now 5) × IsFirstClass RegistersBreak RegistersHold sections.now e)) }
+{
+    // Only for the proof: what holds of each value of its type.
+    let _file = sections.bytes();
+    let count = class_count(sections);
+    let mut past = None;
+    for i in 0..count {
+        let head = head_at(sections, heads, i);
+        let next = check_class(alloc, scratch, sections, tables, kept, i, head)?;
+        past = first_of(past, next);
+    }
+    match past {
+        Some(fault) => Err(fault),
+        None => Ok(()),
+    }
+}
+
+/// Looks at the code of all rows, each code once: 60 to 72, the first fault of code, or else 73, the first of registers.
+pub fn check_codes(
+    alloc: Global,
+    sections: &Sections<'_>,
+    tables: &Tables<'_>,
+    heads: &[Head<'_, '_>],
+) -> Result<(), Fault>
+    requires names { AreNamesOf sections.now tables.now }
+    requires heads { AreRows IsHead sections.now 5 heads.now }
+    ensures hold { OnOk result (RowsHold RegistersHold sections.now (size_of sections.now 5)) }
+    ensures err { IfErr result (λ e. e ≢ memory → IsFirstClass BodiesBreak BodiesHold sections.now e
+        ⊎ (RowsHold BodiesHold sections.now (size_of sections.now 5) × IsFirstClass RegistersBreak RegistersHold sections.now e)) }
+{
+    let mut scratch = Bump::new(alloc);
+    let mut kept = IndexMap::new(alloc);
+    check_rows(alloc, &mut scratch, sections, tables, &mut kept, heads)
+}

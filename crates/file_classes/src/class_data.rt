@@ -1,0 +1,208 @@
+// What a class defines, as numbers ("class_data_item"): fault 44.
+ghost use Rattle.std.specs.Prelude.{◌≡◌, ◌≢◌, ℕ, List, IfOk, IfSome, IfNone, IsOkUnless, map};
+ghost use Rattle.base_bytes.specs.Fault.{memory};
+ghost use Rattle.base_bytes.specs.Grammar.{Takes, NoneBegins, Many};
+ghost use Rattle.base_bytes.specs.Leb128.{Spells};
+ghost use Rattle.file_classes.specs.ClassData.{SpellsField, SpellsMethod, SpellsCounts, SpellsEntries, EntriesAt};
+ghost use Rattle.file_classes.specs.Reading.{field_entry, method_entry, counts, entries};
+
+use dex_base::{Fault, read_uleb};
+use dex_container::{Sections, bytes_from, kind, section_of};
+use std::alloc::Global;
+
+/// A field: the difference of its index to that of the entry before, and its flags.
+#[derive(Clone, Copy)]
+pub(crate) struct FieldEntry {
+    pub step: u32,
+    pub flags: u32,
+}
+
+/// A method: the difference, its flags, and the offset of its code.
+#[derive(Clone, Copy)]
+pub(crate) struct MethodEntry {
+    pub step: u32,
+    pub flags: u32,
+    pub code: u32,
+}
+
+/// The lengths of the four lists.
+#[derive(Clone, Copy)]
+pub(crate) struct Counts {
+    pub statics: u32,
+    pub instances: u32,
+    pub directs: u32,
+    pub virtuals: u32,
+}
+
+/// The four lists of a class.
+#[derive(Drop)]
+pub(crate) struct Entries {
+    pub statics: Vec<FieldEntry>,
+    pub instances: Vec<FieldEntry>,
+    pub directs: Vec<MethodEntry>,
+    pub virtuals: Vec<MethodEntry>,
+}
+
+// A number at the front of the bytes, and what follows it; so with the others.
+fn take_number(bytes: &[u8]) -> Option<(u32, &[u8])>
+    ensures found { IfSome result (λ x. Takes Spells bytes.now x.0 x.1.now) }
+    ensures none { IfNone result (NoneBegins Spells bytes.now) }
+{
+    let Some((number, length)) = read_uleb(bytes) else {
+        return None;
+    };
+    let (_, rest) = bytes.split_at(length);
+    Some((number, rest))
+}
+
+fn take_field(bytes: &[u8]) -> Option<(FieldEntry, &[u8])>
+    ensures found { IfSome result (λ x. Takes (SpellsField Spells) bytes.now (field_entry x.0) x.1.now) }
+    ensures none { IfNone result (NoneBegins (SpellsField Spells) bytes.now) }
+{
+    let Some((step, behind)) = take_number(bytes) else {
+        return None;
+    };
+    let Some((flags, rest)) = take_number(behind) else {
+        return None;
+    };
+    Some((FieldEntry { step, flags }, rest))
+}
+
+fn take_method(bytes: &[u8]) -> Option<(MethodEntry, &[u8])>
+    ensures found { IfSome result (λ x. Takes (SpellsMethod Spells) bytes.now (method_entry x.0) x.1.now) }
+    ensures none { IfNone result (NoneBegins (SpellsMethod Spells) bytes.now) }
+{
+    let Some((step, behind)) = take_number(bytes) else {
+        return None;
+    };
+    let Some((field, rest)) = take_field(behind) else {
+        return None;
+    };
+    Some((
+        MethodEntry {
+            step,
+            flags: field.step,
+            code: field.flags,
+        },
+        rest,
+    ))
+}
+
+fn take_counts(bytes: &[u8]) -> Option<(Counts, &[u8])>
+    ensures found { IfSome result (λ x. Takes (SpellsCounts Spells) bytes.now (counts x.0) x.1.now) }
+    ensures none { IfNone result (NoneBegins (SpellsCounts Spells) bytes.now) }
+{
+    let Some((statics, behind)) = take_number(bytes) else {
+        return None;
+    };
+    let Some((others, rest)) = take_method(behind) else {
+        return None;
+    };
+    Some((
+        Counts {
+            statics,
+            instances: others.step,
+            directs: others.flags,
+            virtuals: others.code,
+        },
+        rest,
+    ))
+}
+
+// So many fields. Memory is asked for as they come.
+fn take_fields<'b>(
+    alloc: Global,
+    count: u32,
+    bytes: &'b [u8],
+) -> Result<Option<(Vec<FieldEntry>, &'b [u8])>, Fault>
+    ensures found { IfOk result (λ r. IfSome r (λ x. Takes (Many (SpellsField Spells) count) bytes.now (map field_entry x.0.items) x.1.now)) }
+    ensures none { IfOk result (λ r. IfNone r (NoneBegins (Many (SpellsField Spells) count) bytes.now)) }
+    ensures memory { IsOkUnless result memory }
+{
+    let mut all = Vec::new(alloc);
+    let mut left = bytes;
+    for _turn in 0..count {
+        let Some((entry, rest)) = take_field(left) else {
+            return Ok(None);
+        };
+        all.push(entry)?;
+        left = rest;
+    }
+    Ok(Some((all, left)))
+}
+
+// So many methods.
+fn take_methods<'b>(
+    alloc: Global,
+    count: u32,
+    bytes: &'b [u8],
+) -> Result<Option<(Vec<MethodEntry>, &'b [u8])>, Fault>
+    ensures found { IfOk result (λ r. IfSome r (λ x. Takes (Many (SpellsMethod Spells) count) bytes.now (map method_entry x.0.items) x.1.now)) }
+    ensures none { IfOk result (λ r. IfNone r (NoneBegins (Many (SpellsMethod Spells) count) bytes.now)) }
+    ensures memory { IsOkUnless result memory }
+{
+    let mut all = Vec::new(alloc);
+    let mut left = bytes;
+    for _turn in 0..count {
+        let Some((entry, rest)) = take_method(left) else {
+            return Ok(None);
+        };
+        all.push(entry)?;
+        left = rest;
+    }
+    Ok(Some((all, left)))
+}
+
+// The class_data_item at the front of the bytes.
+fn take_entries(alloc: Global, bytes: &[u8]) -> Result<Option<Entries>, Fault>
+    ensures found { IfOk result (λ r. IfSome r (λ e. (rest : List ℕ) × Takes (SpellsEntries Spells) bytes.now (entries e) rest)) }
+    ensures none { IfOk result (λ r. IfNone r (NoneBegins (SpellsEntries Spells) bytes.now)) }
+    ensures memory { IsOkUnless result memory }
+{
+    let Some((counts, lists)) = take_counts(bytes) else {
+        return Ok(None);
+    };
+    let Some((statics, second)) = take_fields(alloc, counts.statics, lists)? else {
+        return Ok(None);
+    };
+    let Some((instances, third)) = take_fields(alloc, counts.instances, second)? else {
+        return Ok(None);
+    };
+    let Some((directs, fourth)) = take_methods(alloc, counts.directs, third)? else {
+        return Ok(None);
+    };
+    let Some((virtuals, _)) = take_methods(alloc, counts.virtuals, fourth)? else {
+        return Ok(None);
+    };
+    Ok(Some(Entries {
+        statics,
+        instances,
+        directs,
+        virtuals,
+    }))
+}
+
+/// The class data at an offset, none of any at 0. None where none stands there.
+pub(crate) fn entries_at(
+    alloc: Global,
+    sections: &Sections<'_>,
+    off: u32,
+) -> Result<Option<Entries>, Fault>
+    ensures found { IfOk result (λ r. IfSome r (λ e. EntriesAt sections.now off (entries e))) }
+    ensures none { IfOk result (λ r. IfNone r ((e : _) → ¬ EntriesAt sections.now off e)) }
+    ensures memory { IsOkUnless result memory }
+{
+    if off == 0 {
+        return Ok(Some(Entries {
+            statics: Vec::new(alloc),
+            instances: Vec::new(alloc),
+            directs: Vec::new(alloc),
+            virtuals: Vec::new(alloc),
+        }));
+    }
+    let section = section_of(sections, kind::CLASS_DATA_ITEM);
+    let Some(bytes) = bytes_from(sections, kind::CLASS_DATA_ITEM, section, off) else {
+        return Ok(None);
+    };
+    take_entries(alloc, bytes)
+}

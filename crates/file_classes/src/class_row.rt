@@ -1,0 +1,177 @@
+// The names and flags of a class row ("class_def_item"): faults 40 and 41.
+ghost use Rattle.std.specs.Prelude.{◌≡◌, ◌≢◌, ◌↔◌, ◌<◌, ◌≤◌, IfOk, IfErr, IfSome, IfNone, IsTrue, option_map};
+ghost use Rattle.dex_base.specs.Descriptor.{IsClass};
+ghost use Rattle.dex_container.specs.Layout.{size_of};
+ghost use Rattle.program_types.specs.View.{str, desc};
+ghost use Rattle.tables_rows.specs.Names.{AreNamesOf};
+ghost use Rattle.tables_rows.specs.RowFields.{row_place};
+ghost use Rattle.tables_rows.specs.Stands.{StringStands, TypeStands};
+ghost use Rattle.tables_rows.specs.TableFaults.{BreaksAt};
+ghost use Rattle.file_classes.specs.ClassRows.{class_word, no_index, IndexOrNone};
+ghost use Rattle.file_classes.specs.Classes.{RowIs};
+ghost use Rattle.file_classes.specs.ClassFaults.{ClassBreaks};
+
+use dex_base::{Fault, fault, is_class, u32_at};
+use dex_container::{Sections, kind};
+use program_types::{Desc, Str};
+use tables_rows::Tables;
+
+/// The index that stands for none.
+const NO_INDEX: u32 = 0xffffffff;
+
+/// The names and flags of a class.
+#[derive(Clone, Copy)]
+pub(crate) struct Row<'a> {
+    pub ty: Desc<'a>,
+    pub flags: u32,
+    pub superclass: Option<Desc<'a>>,
+    pub source: Option<Str<'a>>,
+}
+
+/// How many rows there are.
+pub(crate) fn class_count(sections: &Sections<'_>) -> u32
+    ensures { result ≡ size_of sections.now 5 }
+{
+    sections.table(kind::CLASS_DEF_ITEM).0
+}
+
+/// Where row i stands.
+pub(crate) fn class_place(sections: &Sections<'_>, i: u32) -> u64
+    requires { i < size_of sections.now 5 }
+    ensures { result ≡ row_place sections.now 5 i }
+{
+    u64::from(sections.table(kind::CLASS_DEF_ITEM).1) + 32 * u64::from(i)
+}
+
+/// Word j of row i.
+#[tactic(auto, unfolding(crate::specs::ClassRows::class_word))]
+pub(crate) fn class_word(sections: &Sections<'_>, i: u32, j: u32) -> u32
+    requires row { i < size_of sections.now 5 }
+    requires word { j < 8 }
+    ensures { result ≡ class_word sections.now i j }
+{
+    let place = class_place(sections, i);
+    u32_at(sections.bytes(), place as usize + 4 * j as usize)
+}
+
+// The type at an index; None past the last row.
+fn type_at<'a>(sections: &Sections<'_>, tables: &Tables<'a>, index: u32) -> Option<Desc<'a>>
+    requires { AreNamesOf sections.now tables.now }
+    ensures some { IfSome result (λ t. TypeStands sections.now index (desc t)) }
+    ensures none { IfNone result (size_of sections.now 1 ≤ index) }
+{
+    // Only for the proof: what holds of each value of its type.
+    let _file = sections;
+    match tables.type_(index) {
+        Some(ty) => Some(ty),
+        None => None,
+    }
+}
+
+// The type at an index, or none for NO_INDEX; None past the last row.
+fn type_or_none<'a>(
+    sections: &Sections<'_>,
+    tables: &Tables<'a>,
+    index: u32,
+) -> Option<Option<Desc<'a>>>
+    requires { AreNamesOf sections.now tables.now }
+    ensures some { IfSome result (λ t. IndexOrNone (TypeStands sections.now) index (option_map desc t)) }
+    ensures none { IfNone result ((index ≢ no_index) × (size_of sections.now 1 ≤ index)) }
+{
+    if index == NO_INDEX {
+        return Some(None);
+    }
+    match type_at(sections, tables, index) {
+        Some(ty) => Some(Some(ty)),
+        None => None,
+    }
+}
+
+// The same of strings.
+fn string_or_none<'a>(
+    sections: &Sections<'_>,
+    tables: &Tables<'a>,
+    index: u32,
+) -> Option<Option<Str<'a>>>
+    requires { AreNamesOf sections.now tables.now }
+    ensures some { IfSome result (λ s. IndexOrNone (StringStands sections.now) index (option_map str s)) }
+    ensures none { IfNone result ((index ≢ no_index) × (size_of sections.now 0 ≤ index)) }
+{
+    // Only for the proof: what holds of each value of its type.
+    let _file = sections;
+    if index == NO_INDEX {
+        return Some(None);
+    }
+    match tables.string(index) {
+        Some(text) => Some(Some(text)),
+        None => None,
+    }
+}
+
+// Whether a type is a class type.
+fn is_class_type(ty: Desc<'_>) -> bool
+    ensures { IsTrue result ↔ IsClass (desc ty.entry) }
+{
+    is_class(ty.text.units)
+}
+
+// Whether a superclass, where there is one, is a class type.
+fn is_class_or_none(superclass: Option<Desc<'_>>) -> bool
+    ensures { IsTrue result ↔ IfSome (option_map desc superclass.entry) IsClass }
+{
+    match superclass {
+        Some(ty) => is_class_type(ty),
+        None => true,
+    }
+}
+
+/// The names and flags of row i.
+pub(crate) fn read_row<'a>(
+    sections: &Sections<'_>,
+    tables: &Tables<'a>,
+    i: u32,
+) -> Result<Row<'a>, Fault>
+    requires names { AreNamesOf sections.now tables.now }
+    requires row { i < size_of sections.now 5 }
+    ensures ok { IfOk result (λ r. RowIs sections.now i (desc r.ty) r.flags (option_map desc r.superclass) (option_map str r.source)) }
+    ensures err { IfErr result (BreaksAt ClassBreaks sections.now 5 i) }
+{
+    let place = class_place(sections, i);
+    let Some(ty) = type_at(sections, tables, class_word(sections, i, 0)) else {
+        return Err(Fault {
+            code: fault::CLASS_INDEX,
+            place,
+        });
+    };
+    let Some(superclass) = type_or_none(sections, tables, class_word(sections, i, 2)) else {
+        return Err(Fault {
+            code: fault::CLASS_INDEX,
+            place,
+        });
+    };
+    let Some(source) = string_or_none(sections, tables, class_word(sections, i, 4)) else {
+        return Err(Fault {
+            code: fault::CLASS_INDEX,
+            place,
+        });
+    };
+    if !is_class_type(ty) {
+        return Err(Fault {
+            code: fault::CLASS_KIND,
+            place,
+        });
+    }
+    if !is_class_or_none(superclass) {
+        return Err(Fault {
+            code: fault::CLASS_KIND,
+            place,
+        });
+    }
+    let flags = class_word(sections, i, 1);
+    Ok(Row {
+        ty,
+        flags,
+        superclass,
+        source,
+    })
+}

@@ -1,0 +1,149 @@
+// The first pass over class_defs: all of each class but its static values and its code, faults 40 to 47.
+ghost use Rattle.std.specs.Prelude.{◌≡◌, ◌≢◌, ◌<◌, [], IfOk, IfErr, OnOk, map};
+ghost use Rattle.dex_container.specs.Layout.{size_of};
+ghost use Rattle.base_bytes.specs.Fault.{memory};
+ghost use Rattle.program_types.specs.View.{desc};
+ghost use Rattle.tables_rows.specs.Names.{AreNamesOf, AreRows};
+ghost use Rattle.tables_rows.specs.Reading.{AreFirst};
+ghost use Rattle.tables_rows.specs.TableFaults.{BreaksAt, IsFirstRow};
+ghost use Rattle.file_classes.specs.ClassFaults.{ClassBreaks, ClassHolds, ClassesHold};
+ghost use Rattle.file_classes.specs.Classes.{InterfacesAt};
+ghost use Rattle.file_classes.specs.Kept.{AreKept};
+ghost use Rattle.file_classes.specs.Places.{ArePlaces};
+ghost use Rattle.file_classes.specs.Reading.{IsHead};
+
+use crate::class_data::entries_at;
+use crate::class_row::{class_count, class_place, class_word, read_row};
+use crate::interfaces::interfaces_at;
+use crate::members::{Bare, read_members};
+use crate::order::is_in_order;
+use crate::places::{Places, read_places};
+use bumpalo::Bump;
+use bumpalo::collections::into_bump_slice;
+use dex_base::{Fault, fault};
+use dex_container::Sections;
+use indexmap::IndexMap;
+use program_types::{Desc, Member, Str};
+use std::alloc::Global;
+use tables_rows::Tables;
+
+/// A class before its static values and its code are looked at.
+#[derive(Clone, Copy)]
+pub struct Head<'a, 's> {
+    pub ty: Desc<'a>,
+    pub flags: u32,
+    pub superclass: Option<Desc<'a>>,
+    pub interfaces: &'a [Desc<'a>],
+    pub source: Option<Str<'a>>,
+    pub statics: &'a [Member<'a>],
+    pub instances: &'a [Member<'a>],
+    pub directs: &'s [Bare<'a>],
+    pub virtuals: &'s [Bare<'a>],
+}
+
+// The head of row i.
+fn read_head<'a, 's>(
+    alloc: Global,
+    arena: &'a Bump,
+    scratch: &'s Bump,
+    sections: &Sections<'_>,
+    tables: &Tables<'a>,
+    places: &Places,
+    kept: &mut IndexMap<u32, &'a [Desc<'a>]>,
+    i: u32,
+) -> Result<Head<'a, 's>, Fault>
+    requires names { AreNamesOf sections.now tables.now }
+    requires places { ArePlaces sections.now (size_of sections.now 5) places.now.first.items places.now.last.items }
+    requires kept { AreKept (λ off list. InterfacesAt sections.now off (map desc list.now)) kept.old }
+    requires row { i < size_of sections.now 5 }
+    ensures ok { IfOk result (λ h. IsHead sections.now i h) }
+    ensures holds { IfOk result (λ _. ClassHolds sections.now i) }
+    ensures kept { OnOk result (AreKept (λ off list. InterfacesAt sections.now off (map desc list.now)) kept.new) }
+    ensures err { IfErr result (λ e. e ≢ memory → BreaksAt ClassBreaks sections.now 5 i e) }
+{
+    // Only for the proof: what holds of each value of its type.
+    let _file = sections.bytes();
+    let place = class_place(sections, i);
+    let row = read_row(sections, tables, i)?;
+    let list = class_word(sections, i, 3);
+    let Some(interfaces) = interfaces_at(alloc, arena, sections, tables, kept, list)? else {
+        return Err(Fault {
+            code: fault::INTERFACE_LIST,
+            place,
+        });
+    };
+    if !is_in_order(sections, places, i) {
+        return Err(Fault {
+            code: fault::CLASS_ORDER,
+            place,
+        });
+    }
+    let Some(entries) = entries_at(alloc, sections, class_word(sections, i, 6))? else {
+        return Err(Fault {
+            code: fault::CLASS_DATA,
+            place,
+        });
+    };
+    let members = read_members(arena, scratch, sections, tables, i, row.ty, &entries)?;
+    Ok(Head {
+        ty: row.ty,
+        flags: row.flags,
+        superclass: row.superclass,
+        interfaces,
+        source: row.source,
+        statics: members.statics,
+        instances: members.instances,
+        directs: members.directs,
+        virtuals: members.virtuals,
+    })
+}
+
+// The heads of all rows, one behind the other.
+fn push_heads<'a, 's>(
+    alloc: Global,
+    arena: &'a Bump,
+    scratch: &'s Bump,
+    sections: &Sections<'_>,
+    tables: &Tables<'a>,
+    places: &Places,
+    kept: &mut IndexMap<u32, &'a [Desc<'a>]>,
+    heads: &mut Vec<Head<'a, 's>, &'s Bump>,
+) -> Result<(), Fault>
+    requires names { AreNamesOf sections.now tables.now }
+    requires places { ArePlaces sections.now (size_of sections.now 5) places.now.first.items places.now.last.items }
+    requires kept { AreKept (λ off list. InterfacesAt sections.now off (map desc list.now)) kept.old }
+    requires none { heads.old.items ≡ [] }
+    ensures rows { OnOk result (AreFirst IsHead ClassHolds sections.now (size_of sections.now 5) heads.new.items) }
+    ensures err { IfErr result (λ e. e ≢ memory → IsFirstRow ClassBreaks ClassHolds sections.now 5 e) }
+{
+    for i in 0..class_count(sections) {
+        let head = read_head(alloc, arena, scratch, sections, tables, places, kept, i)?;
+        heads.push(head)?;
+    }
+    Ok(())
+}
+
+/// The heads of all rows.
+pub fn read_heads<'a, 's>(
+    alloc: Global,
+    arena: &'a Bump,
+    scratch: &'s Bump,
+    sections: &Sections<'_>,
+    tables: &Tables<'a>,
+) -> Result<&'s [Head<'a, 's>], Fault>
+    requires names { AreNamesOf sections.now tables.now }
+    ensures rows { IfOk result (λ heads. AreRows IsHead sections.now 5 heads.now) }
+    ensures hold { IfOk result (λ _. ClassesHold sections.now) }
+    ensures err { IfErr result (λ e. e ≢ memory → IsFirstRow ClassBreaks ClassHolds sections.now 5 e) }
+{
+    let places = read_places(alloc, sections)?;
+    let mut heads: Vec<Head<'a, 's>, &'s Bump> = Vec::with_capacity(
+        scratch,
+        class_count(sections) as usize,
+    )?;
+    let mut kept = IndexMap::new(alloc);
+    push_heads(
+        alloc, arena, scratch, sections, tables, &places, &mut kept, &mut heads,
+    )?;
+    Ok(into_bump_slice(heads))
+}

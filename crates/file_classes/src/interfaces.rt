@@ -1,0 +1,137 @@
+// The interfaces of a class: fault 43.
+ghost use Rattle.std.specs.Prelude.{◌≡◌, ◌≢◌, ◌↔◌, ◌<◌, IfOk, IfSome, IfNone, IsTrue, IsOkUnless, OnOk, length, map};
+ghost use Rattle.std.specs.List.{AllByRecursion};
+ghost use Rattle.dex_base.specs.Descriptor.{IsClass};
+ghost use Rattle.base_bytes.specs.Fault.{memory};
+ghost use Rattle.program_types.specs.View.{desc};
+ghost use Rattle.tables_rows.specs.Names.{AreNamesOf};
+ghost use Rattle.file_classes.specs.Classes.{AreDistinct, InterfacesAt};
+ghost use Rattle.file_classes.specs.Kept.{AreKept};
+ghost use Rattle.file_classes.specs.Reading.{IsNotAmong};
+
+use bumpalo::Bump;
+use dex_base::{Fault, is_class};
+use dex_container::Sections;
+use indexmap::{IndexMap, IndexSet};
+use program_types::{Desc, desc_eq};
+use std::alloc::Global;
+use tables_rows::Tables;
+
+/// How many types are compared pair by pair, without memory.
+const FEW: usize = 8;
+
+// Whether all of the types are class types.
+fn are_classes(types: &[Desc<'_>]) -> bool
+    ensures { IsTrue result ↔ AllByRecursion IsClass (map desc types.now) }
+{
+    for ty in types {
+        if !is_class(ty.text.units) {
+            return false;
+        }
+    }
+    true
+}
+
+// Whether none of the first n types is type n.
+fn is_new(types: &[Desc<'_>], n: usize) -> bool
+    requires { n < length types.now }
+    ensures { IsTrue result ↔ IsNotAmong (map desc types.now) n n }
+{
+    for i in 0..n {
+        if desc_eq(&types[i], &types[n]) {
+            return false;
+        }
+    }
+    true
+}
+
+// Whether none of a few types stands twice.
+fn are_few_distinct(types: &[Desc<'_>]) -> bool
+    ensures { IsTrue result ↔ AreDistinct (map desc types.now) }
+{
+    for n in 0..types.len() {
+        if !is_new(types, n) {
+            return false;
+        }
+    }
+    true
+}
+
+// The same of many: time that grows with their number.
+fn are_many_distinct(alloc: Global, types: &[Desc<'_>]) -> Result<bool, Fault>
+    ensures ok { IfOk result (λ yes. IsTrue yes ↔ AreDistinct (map desc types.now)) }
+    ensures memory { IsOkUnless result memory }
+{
+    let mut seen = IndexSet::new(alloc);
+    for n in 0..types.len() {
+        if !seen.insert(types[n])? {
+            return Ok(false);
+        }
+    }
+    Ok(true)
+}
+
+// Whether no type stands twice.
+fn are_distinct(alloc: Global, types: &[Desc<'_>]) -> Result<bool, Fault>
+    ensures ok { IfOk result (λ yes. IsTrue yes ↔ AreDistinct (map desc types.now)) }
+    ensures memory { IsOkUnless result memory }
+{
+    if types.len() <= FEW {
+        return Ok(are_few_distinct(types));
+    }
+    are_many_distinct(alloc, types)
+}
+
+// The interfaces at an offset, in the arena. None where no list of distinct class types stands there.
+fn read_interfaces<'a>(
+    alloc: Global,
+    arena: &'a Bump,
+    sections: &Sections<'_>,
+    tables: &Tables<'a>,
+    off: u32,
+) -> Result<Option<&'a [Desc<'a>]>, Fault>
+    requires names { AreNamesOf sections.now tables.now }
+    ensures found { IfOk result (λ r. IfSome r (λ list. InterfacesAt sections.now off (map desc list.now))) }
+    ensures none { IfOk result (λ r. IfNone r ((ts : _) → ¬ InterfacesAt sections.now off ts)) }
+    ensures memory { IsOkUnless result memory }
+{
+    // Only for the proof: what holds of each value of its type.
+    let _file = sections.bytes();
+    let Some(types) = tables.type_list(alloc, arena, sections, off)? else {
+        return Ok(None);
+    };
+    if !are_classes(types) {
+        return Ok(None);
+    }
+    if !are_distinct(alloc, types)? {
+        return Ok(None);
+    }
+    Ok(Some(types))
+}
+
+/// The interfaces at an offset: the list that is kept of it, or the one that is read now, and kept. None where no list of distinct
+/// class types stands there.
+pub(crate) fn interfaces_at<'a>(
+    alloc: Global,
+    arena: &'a Bump,
+    sections: &Sections<'_>,
+    tables: &Tables<'a>,
+    kept: &mut IndexMap<u32, &'a [Desc<'a>]>,
+    off: u32,
+) -> Result<Option<&'a [Desc<'a>]>, Fault>
+    requires names { AreNamesOf sections.now tables.now }
+    requires kept { AreKept (λ off list. InterfacesAt sections.now off (map desc list.now)) kept.old }
+    ensures found { IfOk result (λ r. IfSome r (λ list. InterfacesAt sections.now off (map desc list.now))) }
+    ensures none { IfOk result (λ r. IfNone r ((ts : _) → ¬ InterfacesAt sections.now off ts)) }
+    ensures kept { OnOk result (AreKept (λ off list. InterfacesAt sections.now off (map desc list.now)) kept.new) }
+    ensures memory { IsOkUnless result memory }
+{
+    if let Some(list) = kept.get(&off) {
+        return Ok(Some(*list));
+    }
+    let Some(list) = read_interfaces(alloc, arena, sections, tables, off)? else {
+        return Ok(None);
+    };
+    kept.insert(off, list)?;
+    Ok(Some(list))
+}

@@ -1,0 +1,246 @@
+// The fields and methods of a class, by their indices: faults 45 to 47.
+ghost use Rattle.std.specs.Prelude.{◌≡◌, ◌≢◌, ◌<◌, ◌^◌, IfOk, IfErr, map};
+ghost use Rattle.base_bytes.specs.Fault.{memory};
+ghost use Rattle.dex_container.specs.Layout.{size_of};
+ghost use Rattle.program_types.specs.View.{desc, field_ref, method_ref, member};
+ghost use Rattle.tables_rows.specs.Names.{AreNamesOf};
+ghost use Rattle.tables_rows.specs.Stands.{TypeStands, FieldStands, MethodStands};
+ghost use Rattle.file_classes.specs.ClassData.{steps, EntriesAt, IsRun};
+ghost use Rattle.file_classes.specs.Classes.{IsField};
+ghost use Rattle.file_classes.specs.ClassFaults.{ClassBreaks, FieldOwner, MethodOwner};
+ghost use Rattle.file_classes.specs.ClassRows.{class_word};
+ghost use Rattle.tables_rows.specs.TableFaults.{BreaksAt};
+ghost use Rattle.file_classes.specs.Reading as numbers;
+ghost use Rattle.file_classes.specs.Reading.{MembersStand, field_entry, method_entry, IsBare, IndexFails, EntriesFail};
+
+use crate::class_data::{Entries, FieldEntry, MethodEntry};
+use crate::class_row::{class_place, class_word};
+use crate::owners::is_member_of;
+use bumpalo::Bump;
+use bumpalo::collections::into_bump_slice;
+use dex_base::{Fault, fault};
+use dex_container::{Sections, kind};
+use program_types::{Desc, FieldRef, Member, MethodRef};
+use tables_rows::{MemberTable, Tables};
+
+/// A method before its code is looked at.
+#[derive(Clone, Copy)]
+pub struct Bare<'a> {
+    pub method: &'a MethodRef<'a>,
+    pub flags: u32,
+    pub code: u32,
+}
+
+/// What a class defines.
+#[derive(Clone, Copy)]
+pub(crate) struct Members<'a, 's> {
+    pub statics: &'a [Member<'a>],
+    pub instances: &'a [Member<'a>],
+    pub directs: &'s [Bare<'a>],
+    pub virtuals: &'s [Bare<'a>],
+}
+
+// The field at an index, which is of this class.
+fn field_at<'a>(
+    sections: &Sections<'_>,
+    tables: &Tables<'a>,
+    row: u32,
+    class: Desc<'_>,
+    place: u64,
+    index: u64,
+) -> Result<&'a FieldRef<'a>, Fault>
+    requires names { AreNamesOf sections.now tables.now }
+    requires class { TypeStands sections.now row (desc class) }
+    ensures stands { IfOk result (λ f. FieldStands sections.now index (field_ref f.now)) }
+    ensures class { IfOk result (λ f. desc f.now.class ≡ desc class.entry) }
+    ensures small { IfOk result (λ _. index < 2 ^ 32) }
+    ensures err { IfErr result (IndexFails (FieldOwner sections.now) (size_of sections.now 3) (desc class.entry) index place) }
+{
+    let (count, _) = sections.table(kind::FIELD_ID_ITEM);
+    if index >= u64::from(count) {
+        return Err(Fault {
+            code: fault::MEMBER_INDEX,
+            place,
+        });
+    }
+    let Some(field) = tables.field(index as u32) else {
+        return Err(Fault {
+            code: fault::MEMBER_INDEX,
+            place,
+        });
+    };
+    let (table, of) = (MemberTable::Fields, &field.class);
+    if !is_member_of(sections, table, index as u32, of, row, class) {
+        return Err(Fault {
+            code: fault::MEMBER_OWNER,
+            place,
+        });
+    }
+    Ok(field)
+}
+
+// The method at an index, which is of this class.
+fn method_at<'a>(
+    sections: &Sections<'_>,
+    tables: &Tables<'a>,
+    row: u32,
+    class: Desc<'_>,
+    place: u64,
+    index: u64,
+) -> Result<&'a MethodRef<'a>, Fault>
+    requires names { AreNamesOf sections.now tables.now }
+    requires class { TypeStands sections.now row (desc class) }
+    ensures stands { IfOk result (λ m. MethodStands sections.now index (method_ref m.now)) }
+    ensures class { IfOk result (λ m. desc m.now.class ≡ desc class.entry) }
+    ensures small { IfOk result (λ _. index < 2 ^ 32) }
+    ensures err { IfErr result (IndexFails (MethodOwner sections.now) (size_of sections.now 4) (desc class.entry) index place) }
+{
+    let (count, _) = sections.table(kind::METHOD_ID_ITEM);
+    if index >= u64::from(count) {
+        return Err(Fault {
+            code: fault::MEMBER_INDEX,
+            place,
+        });
+    }
+    let Some(method) = tables.method(index as u32) else {
+        return Err(Fault {
+            code: fault::MEMBER_INDEX,
+            place,
+        });
+    };
+    let (table, of) = (MemberTable::Methods, &method.class);
+    if !is_member_of(sections, table, index as u32, of, row, class) {
+        return Err(Fault {
+            code: fault::MEMBER_OWNER,
+            place,
+        });
+    }
+    Ok(method)
+}
+
+/// The fields of a list of entries, each of this class, in the arena. A fault stands at the class row.
+pub(crate) fn read_fields<'a>(
+    arena: &'a Bump,
+    sections: &Sections<'_>,
+    tables: &Tables<'a>,
+    row: u32,
+    class: Desc<'_>,
+    place: u64,
+    entries: &[FieldEntry],
+) -> Result<&'a [Member<'a>], Fault>
+    requires names { AreNamesOf sections.now tables.now }
+    requires class { TypeStands sections.now row (desc class) }
+    ensures ok { IfOk result (λ fields. IsRun (IsField sections.now (desc class.entry)) (map field_entry entries.now) (map member fields.now)) }
+    ensures err { IfErr result (λ e. e ≢ memory →
+        EntriesFail (FieldOwner sections.now) (size_of sections.now 3) (desc class.entry) (steps (map field_entry entries.now)) place e) }
+{
+    let mut fields: Vec<Member<'a>, &'a Bump> = Vec::with_capacity(arena, entries.len())?;
+    let mut index: u64 = 0;
+    for entry in entries {
+        index += u64::from(entry.step);
+        let field = field_at(sections, tables, row, class, place, index)?;
+        if entry.step == 0 && fields.len() > 0 {
+            return Err(Fault {
+                code: fault::MEMBER_ORDER,
+                place,
+            });
+        }
+        fields.push(Member {
+            name: field.name,
+            ty: field.ty,
+            flags: entry.flags,
+        })?;
+    }
+    Ok(into_bump_slice(fields))
+}
+
+/// The methods of a list of entries, each of this class. A fault stands at the class row.
+pub(crate) fn read_bares<'a, 's>(
+    scratch: &'s Bump,
+    sections: &Sections<'_>,
+    tables: &Tables<'a>,
+    row: u32,
+    class: Desc<'_>,
+    place: u64,
+    entries: &[MethodEntry],
+) -> Result<&'s [Bare<'a>], Fault>
+    requires names { AreNamesOf sections.now tables.now }
+    requires class { TypeStands sections.now row (desc class) }
+    ensures ok { IfOk result (λ bares. IsRun (IsBare sections.now (desc class.entry)) (map method_entry entries.now) bares.now) }
+    ensures err { IfErr result (λ e. e ≢ memory →
+        EntriesFail (MethodOwner sections.now) (size_of sections.now 4) (desc class.entry) (steps (map method_entry entries.now)) place e) }
+{
+    let mut bares: Vec<Bare<'a>, &'s Bump> = Vec::with_capacity(scratch, entries.len())?;
+    let mut index: u64 = 0;
+    for entry in entries {
+        index += u64::from(entry.step);
+        let method = method_at(sections, tables, row, class, place, index)?;
+        if entry.step == 0 && bares.len() > 0 {
+            return Err(Fault {
+                code: fault::MEMBER_ORDER,
+                place,
+            });
+        }
+        bares.push(Bare {
+            method,
+            flags: entry.flags,
+            code: entry.code,
+        })?;
+    }
+    Ok(into_bump_slice(bares))
+}
+
+/// The members of the class of row i, by its entries.
+pub(crate) fn read_members<'a, 's>(
+    arena: &'a Bump,
+    scratch: &'s Bump,
+    sections: &Sections<'_>,
+    tables: &Tables<'a>,
+    i: u32,
+    class: Desc<'_>,
+    entries: &Entries,
+) -> Result<Members<'a, 's>, Fault>
+    requires names { AreNamesOf sections.now tables.now }
+    requires row { i < size_of sections.now 5 }
+    requires class { TypeStands sections.now (class_word sections.now i 0) (desc class) }
+    requires entries { EntriesAt sections.now (class_word sections.now i 6) (numbers.entries entries.now) }
+    ensures ok { IfOk result (MembersStand sections.now (desc class.entry) (numbers.entries entries.now)) }
+    ensures err { IfErr result (λ e. e ≢ memory → BreaksAt ClassBreaks sections.now 5 i e) }
+{
+    let place = class_place(sections, i);
+    let row = class_word(sections, i, 0);
+    let statics = read_fields(arena, sections, tables, row, class, place, &entries.statics)?;
+    let instances = read_fields(
+        arena,
+        sections,
+        tables,
+        row,
+        class,
+        place,
+        &entries.instances,
+    )?;
+    let directs = read_bares(
+        scratch,
+        sections,
+        tables,
+        row,
+        class,
+        place,
+        &entries.directs,
+    )?;
+    let virtuals = read_bares(
+        scratch,
+        sections,
+        tables,
+        row,
+        class,
+        place,
+        &entries.virtuals,
+    )?;
+    Ok(Members {
+        statics,
+        instances,
+        directs,
+        virtuals,
+    })
+}

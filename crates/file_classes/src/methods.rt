@@ -1,0 +1,232 @@
+// The third pass over class_defs: the code of methods, faults 60 to 72, which completes the classes. The first fault of
+// registers (73) is kept, and answered where there is no other.
+ghost use Rattle.std.specs.Prelude.{◌≢◌, ◌<◌, ◌≡◌, ◌⊎◌, IfOk, IfErr, IfSome, IfNone, OnOk, Some, length, map, option_map};
+ghost use Rattle.base_bytes.specs.Fault.{memory};
+ghost use Rattle.dex_container.specs.Layout.{size_of};
+ghost use Rattle.program_types.specs.View as view;
+ghost use Rattle.tables_rows.specs.Names.{AreNamesOf, AreRows};
+ghost use Rattle.tables_rows.specs.Sorted.{RowsHold};
+ghost use Rattle.file_classes.specs.Classes.{SpellsClass};
+ghost use Rattle.file_classes.specs.ClassFaults.{BodyAt, BodyHolds, BodyFails, CodeHolds, RegistersFail, BodiesHold, BodiesBreak, RegistersHold, RegistersBreak, IsFirstClass};
+ghost use Rattle.file_classes.specs.Kept.{AreKept};
+ghost use Rattle.file_classes.specs.Reading.{IsHead, AreStatics, AreDone, BaresBreak, BaresUpTo, IsFound, SpellsBodies};
+
+use crate::class_row::class_count;
+use crate::heads::Head;
+use crate::members::Bare;
+use crate::statics::{Statics, head_at};
+use bumpalo::Bump;
+use bumpalo::collections::into_bump_slice;
+use code_read::read_body;
+use dex_base::Fault;
+use dex_container::Sections;
+use indexmap::IndexMap;
+use program_types::{Class, Code, Method};
+use std::alloc::Global;
+use tables_rows::Tables;
+
+// The code at an offset, and what is wrong with its registers, if anything is.
+#[derive(Clone, Copy)]
+pub(crate) struct Found<'a> {
+    pub(crate) code: Option<&'a Code<'a>>,
+    pub(crate) past: Option<Fault>,
+}
+
+// The methods of a list, and the first fault of their registers.
+#[derive(Clone, Copy)]
+struct Methods<'a> {
+    list: &'a [Method<'a>],
+    past: Option<Fault>,
+}
+
+// The class of a row, and the first fault of its registers.
+#[derive(Clone, Copy)]
+struct FoundClass<'a> {
+    class: Class<'a>,
+    past: Option<Fault>,
+}
+
+// The first of two faults.
+pub(crate) fn first_of(first: Option<Fault>, next: Option<Fault>) -> Option<Fault>
+    ensures first { IfSome first (λ e. result ≡ Some e) }
+    ensures next { IfNone first (result ≡ next) }
+{
+    match first {
+        Some(fault) => Some(fault),
+        None => next,
+    }
+}
+
+// The code at an offset, none at 0.
+pub(crate) fn read_code_at<'a>(
+    alloc: Global,
+    arena: &'a Bump,
+    sections: &Sections<'_>,
+    tables: &Tables<'a>,
+    off: u32,
+) -> Result<Found<'a>, Fault>
+    requires names { AreNamesOf sections.now tables.now }
+    ensures ok { IfOk result (λ x. BodyAt sections.now off (option_map (λ c. view.code c.now) x.code)) }
+    ensures hold { IfOk result (λ x. IfNone x.past (CodeHolds sections.now off)) }
+    ensures past { IfOk result (λ x. IfSome x.past (RegistersFail sections.now off)) }
+    ensures err { IfErr result (λ e. e ≢ memory → BodyFails sections.now off e) }
+{
+    if off == 0 {
+        return Ok(Found {
+            code: None,
+            past: None,
+        });
+    }
+    let body = read_body(alloc, arena, tables, sections, off)?;
+    let placed: &'a Code<'a> = arena.try_alloc(body.code)?;
+    Ok(Found {
+        code: Some(placed),
+        past: body.past,
+    })
+}
+
+// The same: what is kept of the offset, or what is read now, and kept.
+fn code_at<'a>(
+    alloc: Global,
+    arena: &'a Bump,
+    sections: &Sections<'_>,
+    tables: &Tables<'a>,
+    kept: &mut IndexMap<u32, Found<'a>>,
+    off: u32,
+) -> Result<Found<'a>, Fault>
+    requires names { AreNamesOf sections.now tables.now }
+    requires kept { AreKept (IsFound sections.now) kept.old }
+    ensures ok { IfOk result (IsFound sections.now off) }
+    ensures kept { OnOk result (AreKept (IsFound sections.now) kept.new) }
+    ensures err { IfErr result (λ e. e ≢ memory → BodyFails sections.now off e) }
+{
+    if let Some(found) = kept.get(&off) {
+        return Ok(*found);
+    }
+    let found = read_code_at(alloc, arena, sections, tables, off)?;
+    kept.insert(off, found)?;
+    Ok(found)
+}
+
+// The methods of a list, each with its code.
+fn read_methods<'a>(
+    alloc: Global,
+    arena: &'a Bump,
+    sections: &Sections<'_>,
+    tables: &Tables<'a>,
+    kept: &mut IndexMap<u32, Found<'a>>,
+    bares: &[Bare<'a>],
+) -> Result<Methods<'a>, Fault>
+    requires names { AreNamesOf sections.now tables.now }
+    requires kept { AreKept (IsFound sections.now) kept.old }
+    ensures ok { IfOk result (λ x. AreDone sections.now bares.now (length bares.now) (map view.method x.list.now)) }
+    ensures past { IfOk result (λ x. BaresUpTo CodeHolds RegistersFail sections.now bares.now (length bares.now) x.past) }
+    ensures kept { OnOk result (AreKept (IsFound sections.now) kept.new) }
+    ensures err { IfErr result (λ e. e ≢ memory → BaresBreak BodyHolds BodyFails sections.now bares.now e) }
+{
+    let mut methods: Vec<Method<'a>, &'a Bump> = Vec::with_capacity(arena, bares.len())?;
+    let mut past = None;
+    for bare in bares {
+        let found = code_at(alloc, arena, sections, tables, kept, bare.code)?;
+        past = first_of(past, found.past);
+        methods.push(Method {
+            name: bare.method.name,
+            proto: bare.method.proto,
+            flags: bare.flags,
+            code: found.code,
+        })?;
+    }
+    Ok(Methods {
+        list: into_bump_slice(methods),
+        past,
+    })
+}
+
+// The class of row i.
+fn read_class<'a>(
+    alloc: Global,
+    arena: &'a Bump,
+    sections: &Sections<'_>,
+    tables: &Tables<'a>,
+    kept: &mut IndexMap<u32, Found<'a>>,
+    i: u32,
+    head: Head<'a, '_>,
+    statics: Statics<'a>,
+) -> Result<FoundClass<'a>, Fault>
+    requires names { AreNamesOf sections.now tables.now }
+    requires kept { AreKept (IsFound sections.now) kept.old }
+    requires head { IsHead sections.now i head }
+    requires statics { AreStatics sections.now i statics }
+    ensures ok { IfOk result (λ x. SpellsBodies sections.now i (view.class x.class)) }
+    ensures hold { IfOk result (λ x. IfNone x.past (RegistersHold sections.now i)) }
+    ensures past { IfOk result (λ x. IfSome x.past (RegistersBreak sections.now i)) }
+    ensures kept { OnOk result (AreKept (IsFound sections.now) kept.new) }
+    ensures err { IfErr result (λ e. e ≢ memory → BodiesBreak sections.now i e) }
+{
+    // Only for the proof: what holds of each value of its type.
+    let _file = sections.bytes();
+    let directs = read_methods(alloc, arena, sections, tables, kept, head.directs)?;
+    let virtuals = read_methods(alloc, arena, sections, tables, kept, head.virtuals)?;
+    Ok(FoundClass {
+        class: Class {
+            ty: head.ty,
+            flags: head.flags,
+            superclass: head.superclass,
+            interfaces: head.interfaces,
+            source: head.source,
+            statics: head.statics,
+            values: statics.values,
+            instances: head.instances,
+            directs: directs.list,
+            virtuals: virtuals.list,
+        },
+        past: first_of(directs.past, virtuals.past),
+    })
+}
+
+// The static values of row i.
+fn statics_at<'a>(sections: &Sections<'_>, statics: &[Statics<'a>], i: u32) -> Statics<'a>
+    requires statics { AreRows AreStatics sections.now 5 statics.now }
+    requires row { i < size_of sections.now 5 }
+    ensures { AreStatics sections.now i result }
+{
+    // Only for the proof: what holds of each value of its type.
+    let _file = sections;
+    statics[i as usize]
+}
+
+/// The classes of all rows: 60 to 72, the first fault of code, or else 73, the first of registers.
+pub fn read_classes<'a>(
+    alloc: Global,
+    arena: &'a Bump,
+    sections: &Sections<'_>,
+    tables: &Tables<'a>,
+    heads: &[Head<'a, '_>],
+    statics: &[Statics<'a>],
+) -> Result<&'a [Class<'a>], Fault>
+    requires names { AreNamesOf sections.now tables.now }
+    requires heads { AreRows IsHead sections.now 5 heads.now }
+    requires statics { AreRows AreStatics sections.now 5 statics.now }
+    ensures rows { IfOk result (λ classes. AreRows SpellsClass sections.now 5 (map view.class classes.now)) }
+    ensures hold { IfOk result (λ _. RowsHold RegistersHold sections.now (size_of sections.now 5)) }
+    ensures err { IfErr result (λ e. e ≢ memory → IsFirstClass BodiesBreak BodiesHold sections.now e
+        ⊎ (RowsHold BodiesHold sections.now (size_of sections.now 5) × IsFirstClass RegistersBreak RegistersHold sections.now e)) }
+{
+    // Only for the proof: what holds of each value of its type.
+    let _file = sections.bytes();
+    let count = class_count(sections);
+    let mut kept = IndexMap::new(alloc);
+    let mut classes: Vec<Class<'a>, &'a Bump> = Vec::with_capacity(arena, count as usize)?;
+    let mut past = None;
+    for i in 0..count {
+        let head = head_at(sections, heads, i);
+        let values = statics_at(sections, statics, i);
+        let found = read_class(alloc, arena, sections, tables, &mut kept, i, head, values)?;
+        past = first_of(past, found.past);
+        classes.push(found.class)?;
+    }
+    match past {
+        Some(fault) => Err(fault),
+        None => Ok(into_bump_slice(classes)),
+    }
+}

@@ -1,0 +1,73 @@
+// The order of class rows: fault 42.
+ghost use Rattle.std.specs.Prelude.{◌≡◌, ◌≢◌, ◌↔◌, ℕ, ◌*◌, ◌<◌, ◌≤◌, List, IsTrue, length, slice_index};
+ghost use Rattle.dex_container.specs.Layout.{size_of};
+ghost use Rattle.tables_rows.specs.Halves.{halves};
+ghost use Rattle.file_classes.specs.ClassRows.{class_word, no_index, NoneDefines, InOrder, InterfaceIndexes};
+ghost use Rattle.file_classes.specs.Places.{ArePlaces, TypesHaveRows};
+
+use crate::class_row::class_word;
+use crate::places::{Places, is_first, is_undefined};
+use dex_base::u16_at;
+use dex_container::{Sections, kind, section_of};
+use tables_rows::indexes_or_none;
+
+// Whether the superclass of row i, if it has one, isn't defined here or later.
+fn superclass_is_before(sections: &Sections<'_>, places: &Places, i: u32) -> bool
+    requires places { ArePlaces sections.now (size_of sections.now 5) places.now.first.items places.now.last.items }
+    requires row { i < size_of sections.now 5 }
+    requires within { class_word sections.now i 2 ≢ no_index → class_word sections.now i 2 < size_of sections.now 1 }
+    ensures { IsTrue result ↔ (class_word sections.now i 2 ≢ no_index → NoneDefines sections.now i (size_of sections.now 5) (class_word sections.now i 2)) }
+{
+    let above = class_word(sections, i, 2);
+    if above == 0xffffffff {
+        return true;
+    }
+    is_undefined(sections, places, i, above)
+}
+
+// Whether none of these types is defined in row i or later.
+fn all_are_before(sections: &Sections<'_>, places: &Places, i: u32, types: &[u8]) -> bool
+    requires places { ArePlaces sections.now (size_of sections.now 5) places.now.first.items places.now.last.items }
+    requires even { length types.now ≡ 2 * length (halves types.now) }
+    requires within { (k : ℕ) → k < length (halves types.now) → slice_index (halves types.now) k < size_of sections.now 1 }
+    ensures { IsTrue result ↔ ((k : ℕ) → k < length (halves types.now) → NoneDefines sections.now i (size_of sections.now 5) (slice_index (halves types.now) k)) }
+{
+    for k in 0..types.len() / 2 {
+        if !is_undefined(sections, places, i, u32::from(u16_at(types, 2 * k))) {
+            return false;
+        }
+    }
+    true
+}
+
+// Whether no interface of row i is defined here or later.
+fn interfaces_are_before(sections: &Sections<'_>, places: &Places, i: u32) -> bool
+    requires places { ArePlaces sections.now (size_of sections.now 5) places.now.first.items places.now.last.items }
+    requires row { i < size_of sections.now 5 }
+    requires within { (indexes : List ℕ) → InterfaceIndexes sections.now i indexes → (k : ℕ) → k < length indexes → slice_index indexes k < size_of sections.now 1 }
+    ensures { IsTrue result ↔ ((indexes : List ℕ) → InterfaceIndexes sections.now i indexes → (k : ℕ) → k < length indexes → NoneDefines sections.now i (size_of sections.now 5) (slice_index indexes k)) }
+{
+    // Only for the proof: what holds of each value of its type.
+    let _file = sections.bytes();
+    let lists = section_of(sections, kind::TYPE_LIST);
+    match indexes_or_none(sections, lists, class_word(sections, i, 3)) {
+        Some(types) => all_are_before(sections, places, i, types),
+        None => true,
+    }
+}
+
+/// Whether row i defines a class that no earlier row defines, and what it stands on is defined neither here nor later.
+pub(crate) fn is_in_order(sections: &Sections<'_>, places: &Places, i: u32) -> bool
+    requires places { ArePlaces sections.now (size_of sections.now 5) places.now.first.items places.now.last.items }
+    requires row { i < size_of sections.now 5 }
+    requires within { TypesHaveRows sections.now i }
+    ensures { IsTrue result ↔ InOrder sections.now i }
+{
+    if !is_first(sections, places, i, class_word(sections, i, 0)) {
+        return false;
+    }
+    if !superclass_is_before(sections, places, i) {
+        return false;
+    }
+    interfaces_are_before(sections, places, i)
+}

@@ -1,0 +1,30 @@
+-- The fields of the header of a written file, by the page's names.
+-- Page: "Dalvik Executable format", "header_item".
+use Rattle.std.specs.Prelude.{◌≡◌, ℕ, ◌-◌, List, length}
+use Rattle.base_bytes.specs.Fields.{u32_at}
+use Rattle.dex_container.specs.Layout.{size_of, offset_of, map_place}
+use Rattle.file_layout.specs.declared.plan.Rows.{Rows}
+use Rattle.file_layout.specs.Plan.{type_ids_begin, proto_ids_begin, field_ids_begin, method_ids_begin, class_defs_begin, tables_end, table_offset}
+
+-- The header says this, of so many rows and a map at this place. A table without rows has the offset 0.
+pub record HasHeader (b : List ℕ) (r : Rows) (map : ℕ) : Type 0 where
+  pub file_size : u32_at b 32 ≡ length b
+  pub header_size : u32_at b 36 ≡ 112
+  pub endian_tag : u32_at b 40 ≡ 0x12345678
+  pub link_size : u32_at b 44 ≡ 0
+  pub link_off : u32_at b 48 ≡ 0
+  pub map_off : map_place b ≡ map
+  pub string_ids_size : size_of b 0 ≡ r.strings
+  pub string_ids_off : offset_of b 0 ≡ table_offset r.strings 112
+  pub type_ids_size : size_of b 1 ≡ r.types
+  pub type_ids_off : offset_of b 1 ≡ table_offset r.types (type_ids_begin r)
+  pub proto_ids_size : size_of b 2 ≡ r.protos
+  pub proto_ids_off : offset_of b 2 ≡ table_offset r.protos (proto_ids_begin r)
+  pub field_ids_size : size_of b 3 ≡ r.fields
+  pub field_ids_off : offset_of b 3 ≡ table_offset r.fields (field_ids_begin r)
+  pub method_ids_size : size_of b 4 ≡ r.methods
+  pub method_ids_off : offset_of b 4 ≡ table_offset r.methods (method_ids_begin r)
+  pub class_defs_size : size_of b 5 ≡ r.classes
+  pub class_defs_off : offset_of b 5 ≡ table_offset r.classes (class_defs_begin r)
+  pub data_size : size_of b 6 ≡ length b - tables_end r
+  pub data_off : offset_of b 6 ≡ tables_end r

@@ -1,0 +1,42 @@
+// Zeros where alignment asks for them.
+// Page: "Dalvik Executable format", "alignment" of each item.
+ghost use Rattle.std.specs.Prelude.{◌≡◌, ◌++◌, OnOk, OnErr, IsOkUnless, length};
+ghost use Rattle.base_bytes.specs.Fault.{memory};
+ghost use Rattle.file_layout.specs.Tiles.{zeros, gap};
+
+use base_bytes::Fault;
+
+/// How many bytes there are from a place to the next that 4 divides.
+pub fn gap_behind(place: usize) -> usize
+    ensures { result ≡ gap 4 place }
+{
+    (4 - place % 4) % 4
+}
+
+/// Appends as many zeros as there are from `place` to the next place that 4 divides: at most three bytes.
+///
+/// The only refusal is want of memory, and then nothing was added.
+pub fn pad_behind(out: &mut Vec<u8>, place: usize) -> Result<(), Fault>
+    ensures ok { OnOk result (out.new.items ≡ out.old.items ++ zeros (gap 4 place)) }
+    ensures err { OnErr result (out.new.items ≡ out.old.items) }
+    ensures memory { IsOkUnless result memory }
+{
+    match gap_behind(place) {
+        0 => {}
+        1 => out.extend_from_slice(&[0])?,
+        2 => out.extend_from_slice(&[0, 0])?,
+        _ => out.extend_from_slice(&[0, 0, 0])?,
+    }
+    Ok(())
+}
+
+/// Appends zeros up to the next place that 4 divides: at most three bytes.
+///
+/// The only refusal is want of memory, and then nothing was added.
+pub fn pad(out: &mut Vec<u8>) -> Result<(), Fault>
+    ensures ok { OnOk result (out.new.items ≡ out.old.items ++ zeros (gap 4 (length out.old.items))) }
+    ensures err { OnErr result (out.new.items ≡ out.old.items) }
+    ensures memory { IsOkUnless result memory }
+{
+    pad_behind(out, out.len())
+}

@@ -1,0 +1,63 @@
+// The limits of a file: faults 80 to 90.
+// Page: "Dalvik Executable format", "header_item": type_ids_size and proto_ids_size are at most 65535, file_size has four bytes.
+ghost use Rattle.std.specs.Prelude.{◌≡◌, ◌≢◌, ℕ, Some, IfErr, OnOk, map, slice_get};
+ghost use Rattle.std.specs.List.{AllByRecursion};
+ghost use Rattle.base_bytes.specs.Fault.{memory};
+ghost use Rattle.file_limits.specs.Limits.{Fits, IsLowestLimit, IsReady, codes_of, or_too_big};
+ghost use Rattle.tables_names.specs.Needed.{needed};
+ghost use Rattle.program_types.specs.View as view;
+
+use crate::bodies::lowest_of;
+use crate::file_size::is_too_big;
+use dex_base::{Fault, fault};
+use program_types::Program;
+use std::alloc::Global;
+use tables_names::Ranks;
+
+// What is refused where the file is too big: the lower limit that a body breaks, if it is not how far its handlers are.
+fn too_big_or(broken: Option<Fault>) -> Fault
+    ensures { result ≡ or_too_big broken }
+{
+    match broken {
+        Some(lower) if lower.code != fault::HANDLER_TOO_FAR => lower,
+        _ => Fault {
+            code: fault::TOO_BIG,
+            place: 0,
+        },
+    }
+}
+
+/// Refuses a program that no file has room for: the lowest of 80 to 90 that stands, at its place. 80 TooManyTypes and 81 TooManyProtos
+/// stand at how many are needed, 82 to 89 at the number of the first class of which a body breaks the limit, 90 TooBig at 0. 255 is
+/// want of memory.
+///
+/// The bodies have to be well formed, and `ranks` to hold what the program needs.
+pub fn check_limits(alloc: Global, ranks: &Ranks<'_>, program: &Program<'_>) -> Result<(), Fault>
+    requires needed { ranks.now ≡ needed (view.program program.now) }
+    requires ready { (i : ℕ) (c : _) → slice_get (view.program program.now) i ≡ Some c → AllByRecursion (IsReady ranks.now) (codes_of c) }
+    ensures ok { OnOk result (Fits (view.program program.now)) }
+    ensures err { IfErr result (λ e. e ≢ memory → IsLowestLimit (view.program program.now) e) }
+{
+    let types = ranks.types().len();
+    if types > 65535 {
+        return Err(Fault {
+            code: fault::TOO_MANY_TYPES,
+            place: types as u64,
+        });
+    }
+    let protos = ranks.protos().len();
+    if protos > 65535 {
+        return Err(Fault {
+            code: fault::TOO_MANY_PROTOS,
+            place: protos as u64,
+        });
+    }
+    let broken = lowest_of(alloc, ranks, program.classes)?;
+    if is_too_big(ranks, program) {
+        return Err(too_big_or(broken));
+    }
+    match broken {
+        Some(limit) => Err(limit),
+        None => Ok(()),
+    }
+}

@@ -1,0 +1,29 @@
+// Whether the bytes of a file mean a program.
+ghost use Rattle.std.specs.Prelude.{◌≡◌, ◌≢◌, IfErr, OnOk};
+ghost use Rattle.base_bytes.specs.Fault.{memory};
+ghost use Rattle.program_types.specs.Content.{Program};
+ghost use Rattle.file_read.specs.Means.{Means};
+ghost use Rattle.file_read.specs.Refused.{IsRefused};
+
+use bumpalo::Bump;
+use dex_base::Fault;
+use dex_container::open;
+use file_classes::{check_codes, read_heads, read_statics};
+use std::alloc::Global;
+use tables_rows::Tables;
+
+/// Whether a file means a program: refuses what `read` refuses, with the same fault, and holds no program: each code is let go when
+/// it is read.
+pub fn check(alloc: Global, bytes: &[u8]) -> Result<(), Fault>
+    ensures means { OnOk result ((p : Program) × Means bytes.now p) }
+    ensures only { (p : Program) → Means bytes.now p → IfErr result (λ e. e ≡ memory) }
+    ensures refused { IfErr result (λ e. e ≢ memory → IsRefused bytes.now e) }
+{
+    let sections = open(bytes)?;
+    let arena = Bump::new(alloc);
+    let tables = Tables::read(alloc, &arena, &sections)?;
+    let heads = read_heads(alloc, &arena, &arena, &sections, &tables)?;
+    read_statics(alloc, &arena, &arena, &sections, &tables, heads)?;
+    check_codes(alloc, &sections, &tables, heads)?;
+    Ok(())
+}

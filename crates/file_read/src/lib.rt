@@ -1,0 +1,15 @@
+//! Whole files, read: `read` answers the program that a file means, `check` whether it means one.
+//!
+//! ```
+//! let program = read(alloc, &arena, &bytes)?; // 1 to 73, the first fault
+//! check(alloc, &bytes)?; // the same fault, and no program is held
+//! ```
+#![tactic(auto)]
+
+mod checking;
+mod laws;
+mod reading;
+
+pub use checking::check;
+pub use laws::{meaning_is_clear, one_program, refusals_are_first};
+pub use reading::read;

@@ -1,0 +1,83 @@
+// The indices of names that are held: never a refusal.
+ghost use Rattle.std.specs.Prelude.{◌≤◌, ◌^◌, length};
+ghost use Rattle.tables_names.specs.Indices.{HasPlace};
+ghost use Rattle.tables_names.specs.Keys.{key_of_str, key_of_desc, key_of_proto, key_of_field, key_of_method};
+ghost use Rattle.tables_names.specs.Rank.{IsAt};
+ghost use Rattle.program_types.specs.Key.{text_key};
+ghost use Rattle.program_types.specs.Shorty.{shorty};
+ghost use Rattle.program_types.specs.View.{proto};
+
+use program_types::{Desc, FieldRef, MethodRef, Proto, Str};
+use tables_names::Ranks;
+
+/// The index of a string that is held.
+pub fn string_index(ranks: &Ranks<'_>, name: Str<'_>) -> u32
+    requires held { HasPlace ranks.now.strings (key_of_str name) }
+    requires few { length ranks.now.strings ≤ 2 ^ 32 }
+    ensures { IsAt ranks.now.strings result (key_of_str name.entry) }
+{
+    match ranks.index_of_string(name) {
+        Some(index) => index,
+        None => unreachable!(),
+    }
+}
+
+/// The index of the shorty of a prototype, which is held as a string.
+pub fn shorty_index(ranks: &Ranks<'_>, name: &Proto<'_>) -> u32
+    requires held { HasPlace ranks.now.strings (text_key (shorty (proto name.now))) }
+    requires few { length ranks.now.strings ≤ 2 ^ 32 }
+    ensures { IsAt ranks.now.strings result (text_key (shorty (proto name.now))) }
+{
+    match ranks.index_of_shorty(name) {
+        Some(index) => index,
+        None => unreachable!(),
+    }
+}
+
+/// The index of a type that is held, where there are at most 65535.
+pub fn type_index(ranks: &Ranks<'_>, name: Desc<'_>) -> u16
+    requires held { HasPlace ranks.now.types (key_of_desc name) }
+    requires few { length ranks.now.types ≤ 65535 }
+    ensures { IsAt ranks.now.types result (key_of_desc name.entry) }
+{
+    match ranks.index_of_type(name) {
+        Some(index) => index as u16,
+        None => unreachable!(),
+    }
+}
+
+/// The index of a prototype that is held, where there are at most 65535.
+pub fn proto_index(ranks: &Ranks<'_>, name: &Proto<'_>) -> u16
+    requires held { HasPlace ranks.now.protos (key_of_proto name.now) }
+    requires few { length ranks.now.protos ≤ 65535 }
+    ensures { IsAt ranks.now.protos result (key_of_proto name.now) }
+{
+    match ranks.index_of_proto(name) {
+        Some(index) => index as u16,
+        None => unreachable!(),
+    }
+}
+
+/// The index of a field that is held.
+pub fn field_index(ranks: &Ranks<'_>, name: &FieldRef<'_>) -> u32
+    requires held { HasPlace ranks.now.fields (key_of_field name.now) }
+    requires few { length ranks.now.fields ≤ 2 ^ 32 }
+    ensures { IsAt ranks.now.fields result (key_of_field name.now) }
+{
+    match ranks.index_of_field(name) {
+        Some(index) => index,
+        None => unreachable!(),
+    }
+}
+
+/// The index of a method that is held.
+pub fn method_index(ranks: &Ranks<'_>, name: &MethodRef<'_>) -> u32
+    requires held { HasPlace ranks.now.methods (key_of_method name.now) }
+    requires few { length ranks.now.methods ≤ 2 ^ 32 }
+    ensures { IsAt ranks.now.methods result (key_of_method name.now) }
+{
+    match ranks.index_of_method(name) {
+        Some(index) => index,
+        None => unreachable!(),
+    }
+}

@@ -1,0 +1,10 @@
+// Laws of the definitions, each the contract of a function that does nothing else.
+ghost use Rattle.file_rows.specs.AtIndex.{TypeRowsStand, ProtoRowsStand, FieldRowsStand, MethodRowsStand};
+
+/// In the rows of the tables each name's row stands at the name's index.
+pub fn rows_stand_at_their_indices()
+    ensures types { TypeRowsStand }
+    ensures protos { ProtoRowsStand }
+    ensures fields { FieldRowsStand }
+    ensures methods { MethodRowsStand }
+{}

@@ -1,0 +1,24 @@
+// The rows of type_ids.
+// Page: "Dalvik Executable format", "type_id_item".
+ghost use Rattle.std.specs.Prelude.{◌≤◌, ◌^◌, OnOk, IsOkUnless, length};
+ghost use Rattle.base_bytes.specs.Fault.{memory};
+ghost use Rattle.base_bytes.specs.Grammar.{Appends};
+ghost use Rattle.program_types.specs.Key.{text_key};
+ghost use Rattle.file_rows.specs.Rows.{SpellsTable, SpellsTypeRow};
+
+use crate::index::string_index;
+use dex_base::{Fault, push_words};
+use tables_names::Ranks;
+
+/// Appends the rows of all types: the index of each descriptor.
+pub fn put_types(rows: &mut Vec<u8>, ranks: &Ranks<'_>) -> Result<(), Fault>
+    requires few_strings { length ranks.now.strings ≤ 2 ^ 32 }
+    ensures ok { OnOk result (Appends (SpellsTable text_key (SpellsTypeRow ranks.now)) rows.old.items rows.new.items ranks.now.types) }
+    ensures memory { IsOkUnless result memory }
+{
+    ranks.holds_parts();
+    for ty in ranks.types() {
+        push_words(rows, &[string_index(ranks, ty.text)])?;
+    }
+    Ok(())
+}

@@ -1,0 +1,41 @@
+-- What has to be held of the names of a class, so that its items can be written.
+-- Page: "Dalvik Executable format", "class_data_item", "encoded_array".
+use Rattle.std.specs.Prelude.{ℕ, ◌≤◌, ◌^◌, length, Option, IfSome}
+use Rattle.std.specs.List.{AllByRecursion}
+use Rattle.code_put.specs.Fits.{CanBePut, FitsCode}
+use Rattle.tables_names.specs.Closure.{Five, NameRanks}
+use Rattle.program_types.specs.Content.{Name, OfMethod, Descriptor, Code, Method, Class}
+use Rattle.program_types.specs.Formed.{IsFormed}
+use Rattle.program_types.specs.Mentions.{field_of_class}
+
+-- the name has an index
+abbrev pub HasName : Five → Name → Type 0
+HasName s name = (i : ℕ) × NameRanks s i name
+
+-- a method that a class of this type defines
+abbrev pub method_of_class : Descriptor → Method → Name
+method_of_class class m = OfMethod (record { class = class; name = m.name; proto = m.proto })
+
+-- Each member has an index.
+pub record MembersHaveNames (s : Five) (c : Class) : Type 0 where
+  pub statics : AllByRecursion (λ m. HasName s (field_of_class c.ty m)) c.statics
+  pub instances : AllByRecursion (λ m. HasName s (field_of_class c.ty m)) c.instances
+  pub directs : AllByRecursion (λ m. HasName s (method_of_class c.ty m)) c.directs
+  pub virtuals : AllByRecursion (λ m. HasName s (method_of_class c.ty m)) c.virtuals
+
+-- A body can be put.
+pub record CanPut (s : Five) (c : Code) : Type 0 where
+  pub formed : IsFormed c
+  pub fits : FitsCode (NameRanks s) c
+  pub ranked : CanBePut (NameRanks s) c
+
+-- .. if there is one
+abbrev pub BodyCanBePut : Five → Option Code → Type 0
+BodyCanBePut s body = IfSome body (CanPut s)
+
+-- All names have indices of 32 bits.
+pub record FewNames (s : Five) : Type 0 where
+  pub strings : length s.strings ≤ 2 ^ 32
+  pub types : length s.types ≤ 2 ^ 32
+  pub fields : length s.fields ≤ 2 ^ 32
+  pub methods : length s.methods ≤ 2 ^ 32

@@ -1,0 +1,194 @@
+// Class data.
+// Page: "Dalvik Executable format", "class_data_item", "encoded_field", "encoded_method".
+ghost use Rattle.std.specs.Prelude.{◌≡◌, ℕ, ◌+◌, ◌<◌, ◌≤◌, ◌^◌, Some, IfOk, OnOk, IsOkUnless, length, map, slice_get};
+ghost use Rattle.std.specs.List.{AllByRecursion};
+ghost use Rattle.base_bytes.specs.Fault.{memory};
+ghost use Rattle.base_bytes.specs.Grammar.{Appends};
+ghost use Rattle.base_bytes.specs.Leb128.{Spells, Shortest};
+ghost use Rattle.file_classes.specs.ClassData.{SpellsCounts, SpellsField, SpellsMethod};
+ghost use Rattle.file_layout.specs.Sections.{wide_all, AddsSome, Laid};
+ghost use Rattle.file_limits.specs.Wide.{body_values, wide_data};
+ghost use Rattle.tables_names.specs.Closure.{NameRanks};
+ghost use Rattle.tables_names.specs.Needed.{needed};
+ghost use Rattle.program_types.specs.Mentions.{field_of_class};
+ghost use Rattle.program_types.specs.View as view;
+ghost use Rattle.program_rules.specs.Rules.{KeysRise, MembersRise, member_key, method_key};
+ghost use Rattle.file_sections.specs.Data.{PacksData, has_no_members, method_count, sited, wide_sited};
+ghost use Rattle.file_sections.specs.Growing.{AddsFields, AddsMethods};
+ghost use Rattle.file_sections.specs.Named.{FewNames, HasName, MembersHaveNames, method_of_class};
+
+use crate::placed::Placed;
+use dex_base::{Fault, put_uleb};
+use file_rows::{field_index, method_index};
+use program_types::{Class, Desc, FieldRef, Member, Method, MethodRef, Program};
+use std::alloc::Global;
+use tables_names::Ranks;
+
+// Appends a field's entry: how far its index is from that of the entry before, and its flags.
+fn put_field(out: &mut Vec<u8>, step: u32, flags: u32) -> Result<(), Fault>
+    ensures ok { OnOk result (Appends (SpellsField (Shortest Spells)) out.old.items out.new.items (step, flags)) }
+    ensures memory { IsOkUnless result memory }
+{
+    put_uleb(out, step)?;
+    put_uleb(out, flags)
+}
+
+// Appends a method's entry: the same, and the place of its body.
+fn put_method(out: &mut Vec<u8>, step: u32, flags: u32, code: u32) -> Result<(), Fault>
+    ensures ok { OnOk result (Appends (SpellsMethod (Shortest Spells)) out.old.items out.new.items (step, (flags, code))) }
+    ensures memory { IsOkUnless result memory }
+{
+    put_uleb(out, step)?;
+    put_uleb(out, flags)?;
+    put_uleb(out, code)
+}
+
+// Appends the entries of fields.
+fn put_fields(
+    out: &mut Vec<u8>,
+    ranks: &Ranks<'_>,
+    class: Desc<'_>,
+    members: &[Member<'_>],
+) -> Result<(), Fault>
+    requires named { AllByRecursion (λ m. HasName ranks.now (field_of_class (view.desc class) m)) (map view.member members.now) }
+    requires few { length ranks.now.fields ≤ 2 ^ 32 }
+    requires rise { KeysRise (map member_key (map view.member members.now)) }
+    ensures ok { OnOk result (AddsFields (NameRanks ranks.now) (view.desc class.entry) out.old.items out.new.items (map view.member members.now)) }
+    ensures memory { IsOkUnless result memory }
+{
+    ranks.rise();
+    let mut last = 0;
+    for member in members {
+        let field = FieldRef {
+            class,
+            name: member.name,
+            ty: member.ty,
+        };
+        let index = field_index(ranks, &field);
+        put_field(out, index - last, member.flags)?;
+        last = index;
+    }
+    Ok(())
+}
+
+// Appends the entries of methods, whose bodies stand at these places.
+fn put_methods(
+    out: &mut Vec<u8>,
+    ranks: &Ranks<'_>,
+    class: Desc<'_>,
+    methods: &[Method<'_>],
+    codes: &[u32],
+) -> Result<(), Fault>
+    requires named { AllByRecursion (λ m. HasName ranks.now (method_of_class (view.desc class) m)) (map view.method methods.now) }
+    requires few { length ranks.now.methods ≤ 2 ^ 32 }
+    requires rise { KeysRise (map method_key (map view.method methods.now)) }
+    requires codes { length codes.now ≡ length methods.now }
+    ensures ok { OnOk result (AddsMethods (NameRanks ranks.now) (view.desc class.entry) codes.now out.old.items out.new.items (map view.method methods.now)) }
+    ensures memory { IsOkUnless result memory }
+{
+    ranks.rise();
+    let mut last = 0;
+    for (i, method) in methods.iter().enumerate() {
+        let name = MethodRef {
+            class,
+            name: method.name,
+            proto: method.proto,
+        };
+        let index = method_index(ranks, &name);
+        put_method(out, index - last, method.flags, codes[i])?;
+        last = index;
+    }
+    Ok(())
+}
+
+// Appends how many members of each kind there are.
+fn put_counts(out: &mut Vec<u8>, class: &Class<'_>) -> Result<(), Fault>
+    requires room { wide_data (view.class class.now) < 2 ^ 32 }
+    ensures ok { OnOk result (Appends (SpellsCounts (Shortest Spells)) out.old.items out.new.items (length class.now.statics.now, (length class.now.instances.now, (length class.now.directs.now, length class.now.virtuals.now)))) }
+    ensures memory { IsOkUnless result memory }
+{
+    put_uleb(out, class.statics.len() as u32)?;
+    put_uleb(out, class.instances.len() as u32)?;
+    put_uleb(out, class.directs.len() as u32)?;
+    put_uleb(out, class.virtuals.len() as u32)
+}
+
+// Appends the members of a class.
+fn put_members(
+    out: &mut Vec<u8>,
+    ranks: &Ranks<'_>,
+    class: &Class<'_>,
+    codes: &[u32],
+) -> Result<(), Fault>
+    requires named { MembersHaveNames ranks.now (view.class class.now) }
+    requires few { FewNames ranks.now }
+    requires rise { MembersRise (view.class class.now) }
+    requires room { wide_data (view.class class.now) < 2 ^ 32 }
+    requires codes { length codes.now ≡ length class.now.directs.now + length class.now.virtuals.now }
+    ensures ok { OnOk result (Appends (PacksData (NameRanks ranks.now)) out.old.items out.new.items (record { class = view.class class.now; codes = codes.now })) }
+    ensures memory { IsOkUnless result memory }
+{
+    let directs = &codes[..class.directs.len()];
+    let virtuals = &codes[class.directs.len()..];
+    put_counts(out, class)?;
+    put_fields(out, ranks, class.ty, class.statics)?;
+    put_fields(out, ranks, class.ty, class.instances)?;
+    put_methods(out, ranks, class.ty, class.directs, directs)?;
+    put_methods(out, ranks, class.ty, class.virtuals, virtuals)
+}
+
+// Appends the class data of a class, if it has members, and answers the byte at which it begins, or 0.
+fn add_data(
+    out: &mut Vec<u8>,
+    ranks: &Ranks<'_>,
+    class: &Class<'_>,
+    codes: &[u32],
+) -> Result<u32, Fault>
+    requires named { MembersHaveNames ranks.now (view.class class.now) }
+    requires few { FewNames ranks.now }
+    requires rise { MembersRise (view.class class.now) }
+    requires room { length out.old.items + wide_data (view.class class.now) < 2 ^ 32 }
+    requires codes { length codes.now ≡ length class.now.directs.now + length class.now.virtuals.now }
+    ensures ok { IfOk result (AddsSome has_no_members (PacksData (NameRanks ranks.now)) 1 out.old.items out.new.items (record { class = view.class class.now; codes = codes.now })) }
+    ensures bound { OnOk result (length out.new.items ≤ length out.old.items + wide_data (view.class class.now)) }
+    ensures memory { IsOkUnless result memory }
+{
+    let fields = class.statics.len() + class.instances.len();
+    let methods = class.directs.len() + class.virtuals.len();
+    if fields == 0 && methods == 0 {
+        return Ok(0);
+    }
+    let place = out.len() as u32;
+    put_members(out, ranks, class, codes)?;
+    Ok(place)
+}
+
+/// Appends the class data of each class that has members, where the bodies of all methods stand at these places.
+///
+/// The only refusal is want of memory.
+pub fn put_datas(
+    alloc: Global,
+    out: &mut Vec<u8>,
+    ranks: &Ranks<'_>,
+    program: &Program<'_>,
+    codes: &[u32],
+) -> Result<Placed, Fault>
+    requires needed { ranks.now ≡ needed (view.program program.now) }
+    requires few { FewNames ranks.now }
+    requires rise { (i : ℕ) (c : _) → slice_get (view.program program.now) i ≡ Some c → MembersRise c }
+    requires front { 0 < length out.old.items }
+    requires codes { length codes.now ≡ length (body_values (view.program program.now)) }
+    requires room { length out.old.items + wide_all wide_data (view.program program.now) < 2 ^ 32 }
+    ensures ok { IfOk result (λ r. Laid has_no_members (PacksData (NameRanks ranks.now)) 1 wide_sited out.old.items out.new.items (sited (view.program program.now) codes.now) r.places.items r.items) }
+    ensures memory { IsOkUnless result memory }
+{
+    let mut placed = Placed::new(alloc);
+    let mut rest = codes;
+    for class in program.classes {
+        let (own, others) = rest.split_at(class.directs.len() + class.virtuals.len());
+        let place = add_data(out, ranks, class, own)?;
+        placed.add(place)?;
+        rest = others;
+    }
+    Ok(placed)
+}

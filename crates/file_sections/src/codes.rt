@@ -1,0 +1,95 @@
+// Bodies.
+// Page: "Dalvik Executable format", "code_item".
+ghost use Rattle.std.specs.Prelude.{◌≡◌, ℕ, ◌+◌, ◌<◌, ◌≤◌, ◌^◌, ◌++◌, List, Option, Some, IfOk, OnOk, IsOkUnless, length, map, option_map, slice_get};
+ghost use Rattle.std.specs.List.{AllByRecursion};
+ghost use Rattle.base_bytes.specs.Fault.{memory};
+ghost use Rattle.file_layout.specs.Sections.{wide_all, Laid};
+ghost use Rattle.file_limits.specs.Wide.{bodies_in, bodies_of, body_values, wide_body};
+ghost use Rattle.tables_names.specs.Closure.{NameRanks};
+ghost use Rattle.program_types.specs.Content as content;
+ghost use Rattle.program_types.specs.View as view;
+ghost use Rattle.file_sections.specs.Codes.{is_bodiless, PacksBody, WritesBody};
+ghost use Rattle.file_sections.specs.Named.{BodyCanBePut};
+ghost use Rattle.file_shared.specs.Once.{Entry};
+ghost use Rattle.file_shared.specs.Sharing.{Sharing, UsesItem};
+
+use crate::placed::Placed;
+use code_put::make_item;
+use dex_base::Fault;
+use file_shared::Items;
+use program_types::{Code, Method, Program};
+use std::alloc::Global;
+use tables_names::Ranks;
+
+// The byte at which a body stands, 4-aligned, to which it is appended unless an equal one stands already; 0 where there is none.
+fn add_body(
+    alloc: Global,
+    out: &mut Vec<u8>,
+    items: &mut Items,
+    ranks: &Ranks<'_>,
+    body: Option<&Code<'_>>,
+) -> Result<u32, Fault>
+    requires can { BodyCanBePut ranks.now (option_map (λ c. view.code c.now) body) }
+    requires room { length out.old.items + wide_body (option_map (λ c. view.code c.now) body) < 2 ^ 32 }
+    ensures ok { IfOk result (UsesItem is_bodiless (WritesBody ranks.now) 4 items.old items.new out.old.items out.new.items (option_map (λ c. view.code c.now) body.entry)) }
+    ensures memory { IsOkUnless result memory }
+{
+    match body {
+        None => Ok(0),
+        Some(code) => {
+            let item = make_item(alloc, ranks, code)?;
+            Ok(items.put_aligned(out, item)?)
+        }
+    }
+}
+
+// The places of the bodies of methods, behind others.
+fn put_bodies(
+    alloc: Global,
+    out: &mut Vec<u8>,
+    items: &mut Items,
+    ranks: &Ranks<'_>,
+    methods: &[Method<'_>],
+    places: &mut Vec<u32>,
+) -> Result<(), Fault>
+    requires can { AllByRecursion (BodyCanBePut ranks.now) (bodies_in (map view.method methods.now)) }
+    requires room { length out.old.items + wide_all wide_body (bodies_in (map view.method methods.now)) < 2 ^ 32 }
+    ensures ok { OnOk result ((old : List ℕ) (done rest all : List (Option content.Code)) → 0 < length old
+        → Sharing is_bodiless (PacksBody (NameRanks ranks.now)) (WritesBody ranks.now) 4 wide_body old out.old.items done (bodies_in (map view.method methods.now) ++ rest) all places.old.items items.old
+        → Sharing is_bodiless (PacksBody (NameRanks ranks.now)) (WritesBody ranks.now) 4 wide_body old out.new.items (done ++ bodies_in (map view.method methods.now)) rest all places.new.items items.new) }
+    ensures memory { IsOkUnless result memory }
+{
+    for method in methods {
+        let place = add_body(alloc, out, items, ranks, method.code)?;
+        places.push(place)?;
+    }
+    Ok(())
+}
+
+/// Appends the bodies of all methods, each 4-aligned: by class, direct methods, then virtual ones. It answers the place of each
+/// method's body, 0 for a method without one. Equal bodies stand once.
+///
+/// The only refusal is want of memory.
+pub fn put_codes(
+    alloc: Global,
+    out: &mut Vec<u8>,
+    ranks: &Ranks<'_>,
+    program: &Program<'_>,
+) -> Result<Placed, Fault>
+    requires can { (i : ℕ) (c : _) → slice_get (view.program program.now) i ≡ Some c → AllByRecursion (BodyCanBePut ranks.now) (bodies_of c) }
+    requires front { 0 < length out.old.items }
+    requires room { length out.old.items + wide_all wide_body (body_values (view.program program.now)) < 2 ^ 32 }
+    ensures ok { IfOk result (λ r. Laid is_bodiless (PacksBody (NameRanks ranks.now)) 4 wide_body out.old.items out.new.items (body_values (view.program program.now)) r.places.items r.items) }
+    ensures memory { IsOkUnless result memory }
+{
+    let mut items = Items::new(alloc);
+    let mut places = Vec::new(alloc);
+    for class in program.classes {
+        put_bodies(alloc, out, &mut items, ranks, class.directs, &mut places)?;
+        put_bodies(alloc, out, &mut items, ranks, class.virtuals, &mut places)?;
+    }
+    Ok(Placed {
+        places,
+        items: items.count(),
+    })
+}

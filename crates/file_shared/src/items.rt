@@ -1,0 +1,101 @@
+// The items of a part, each once, and where they stand.
+// Page: "Dalvik Executable format", "File layout".
+ghost use Rattle.std.specs.Prelude.{◌≡◌, ℕ, ◌+◌, ◌<◌, ◌^◌, ◌∷◌, [], ◌++◌, IfOk, IfSome, IfNone, OnOk, IsOkUnless, length};
+ghost use Rattle.base_bytes.specs.Fault.{memory};
+ghost use Rattle.file_layout.specs.Sections.{Adds, IsItself};
+ghost use Rattle.file_shared.specs.Once.{IsKept, IsFirst, PutsOnce};
+
+use base_bytes::Fault;
+use file_layout::pad;
+use indexmap::IndexMap;
+use std::alloc::Global;
+use std::marker::Model;
+
+/// The items of a part, in the order in which they stand. It stands for the bytes of each, with its place.
+#[derive(Drop)]
+pub struct Items {
+    places: IndexMap<Vec<u8>, u32>,
+}
+
+impl Model for Items {
+    ghost use Rattle.std.specs.Prelude.{List};
+    ghost use Rattle.file_shared.specs.Once.{Entry, entry_of};
+    ghost use Rattle.std.specs.Prelude.{map};
+
+    ghost Value = { List Entry };
+
+    ghost view = { λ i. map entry_of i.places.entries };
+}
+
+impl Items {
+    /// No item.
+    pub fn new(alloc: Global) -> Self
+        ensures { result ≡ [] }
+    {
+        Items {
+            places: IndexMap::new(alloc),
+        }
+    }
+
+    /// How many there are.
+    pub fn count(&self) -> u32
+        requires { length self.now < 2 ^ 32 }
+        ensures { result ≡ length self.now }
+    {
+        self.places.len() as u32
+    }
+
+    // Where the item of these bytes stands, if there is one.
+    fn find(&self, bytes: &[u8]) -> Option<u32>
+        ensures some { IfSome result (IsKept self.now bytes.now) }
+        ensures none { IfNone result ((place : ℕ) → ¬ IsKept self.now bytes.now place) }
+    {
+        self.places.get(bytes).copied()
+    }
+
+    // Appends an item, and keeps it.
+    fn append(&mut self, out: &mut Vec<u8>, bytes: Vec<u8>) -> Result<u32, Fault>
+        requires fresh { (place : ℕ) → ¬ IsKept self.old bytes.items place }
+        requires room { length out.old.items < 2 ^ 32 }
+        ensures place { IfOk result (λ place. place ≡ length out.old.items) }
+        ensures out { OnOk result (out.new.items ≡ out.old.items ++ bytes.items) }
+        ensures kept { IfOk result (λ place. self.new ≡ self.old ++ (bytes.items, place) ∷ []) }
+        ensures memory { IsOkUnless result memory }
+    {
+        let place = out.len() as u32;
+        out.extend_from_slice(&bytes)?;
+        self.places.insert(bytes, place)?;
+        Ok(place)
+    }
+
+    /// Where the item of these bytes stands: where an equal one does, or else behind `out`, to which it is appended.
+    ///
+    /// The only refusal is want of memory.
+    pub fn put(&mut self, out: &mut Vec<u8>, bytes: Vec<u8>) -> Result<u32, Fault>
+        requires some { 0 < length bytes.items }
+        requires room { length out.old.items < 2 ^ 32 }
+        ensures ok { IfOk result (PutsOnce 1 self.old self.new out.old.items out.new.items bytes.items) }
+        ensures memory { IsOkUnless result memory }
+    {
+        if let Some(place) = self.find(&bytes) {
+            return Ok(place);
+        }
+        Ok(self.append(out, bytes)?)
+    }
+
+    /// The same of items that are 4-aligned: zeros are appended before one that is new, up to the next place that 4 divides.
+    ///
+    /// The only refusal is want of memory.
+    pub fn put_aligned(&mut self, out: &mut Vec<u8>, bytes: Vec<u8>) -> Result<u32, Fault>
+        requires some { 0 < length bytes.items }
+        requires room { length out.old.items + 3 < 2 ^ 32 }
+        ensures ok { IfOk result (PutsOnce 4 self.old self.new out.old.items out.new.items bytes.items) }
+        ensures memory { IsOkUnless result memory }
+    {
+        if let Some(place) = self.find(&bytes) {
+            return Ok(place);
+        }
+        pad(out)?;
+        Ok(self.append(out, bytes)?)
+    }
+}

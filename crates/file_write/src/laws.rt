@@ -1,0 +1,43 @@
+// Laws of what is assembled, each the contract of a function that does nothing.
+// Page: "Dalvik Executable format", "File layout".
+ghost use Rattle.std.specs.Prelude.{ℕ, ◌<◌, List};
+ghost use Rattle.file_assemble.specs.Assembled.{Assembled};
+ghost use Rattle.file_classes.specs.ClassRows.{InOrder};
+ghost use Rattle.file_classes.specs.Classes.{SpellsClass};
+ghost use Rattle.dex_container.specs.Frame.{IsFramed};
+ghost use Rattle.dex_container.specs.Layout.{size_of};
+ghost use Rattle.file_read.specs.Means.{Means};
+ghost use Rattle.file_limits.specs.Limits.{Fits};
+ghost use Rattle.tables_names.specs.Needed.{needed};
+ghost use Rattle.program_types.specs.Content.{Program};
+ghost use Rattle.program_rules.specs.WellFormed.{WellFormed};
+ghost use Rattle.tables_rows.specs.Names.{AreRows};
+ghost use Rattle.tables_rows.specs.Sorted.{TablesHold};
+ghost use Rattle.file_write.specs.Least.{HoldsExactly};
+ghost use Rattle.file_write.specs.Packed.{Packed};
+
+/// The file that is assembled of a well-formed program is framed, each row of its five tables denotes a name above that of the row
+/// before, and these are exactly the names that the program needs.
+pub fn assembled_tables_hold()
+    ensures framed { (b : List ℕ) (p : Program) → WellFormed p → Assembled b (needed p) p → IsFramed b }
+    ensures tables { (b : List ℕ) (p : Program) → WellFormed p → Assembled b (needed p) p → TablesHold b }
+    ensures exactly { (b : List ℕ) (p : Program) → WellFormed p → Assembled b (needed p) p → HoldsExactly b (needed p) }
+{}
+
+/// The rows of class_defs of an assembled file spell the classes of its program, with their interfaces, static values, members and
+/// bodies, and each class comes behind what it stands on.
+pub fn assembled_classes_stand()
+    ensures classes { (b : List ℕ) (p : Program) → WellFormed p → Fits p → Assembled b (needed p) p → AreRows SpellsClass b 5 p }
+    ensures order { (b : List ℕ) (p : Program) → WellFormed p → Fits p → Assembled b (needed p) p → (i : ℕ) → i < size_of b 5 → InOrder b i }
+{}
+
+/// The file that is assembled of a well-formed program within the limits means this program.
+pub fn assembled_means()
+    ensures { (b : List ℕ) (p : Program) → WellFormed p → Fits p → Assembled b (needed p) p → Means b p }
+{}
+
+/// It is packed: its tables stand end to end, its data section holds the items that are referred to, in the order of their first
+/// references, and nothing else but the zeros that align them, numbers and values take the fewest bytes, and what no reader looks at is 0.
+pub fn assembled_is_packed()
+    ensures { (b : List ℕ) (p : Program) → WellFormed p → Fits p → Assembled b (needed p) p → Packed b }
+{}

@@ -1,0 +1,77 @@
+// From a program to its file, and from a file to one without slack.
+// Page: "Dalvik Executable format", "File layout".
+ghost use Rattle.std.specs.Prelude.{◌≡◌, ◌≢◌, ◌≤◌, ℕ, List, IfOk, IfErr, IsOkUnless, OnOk};
+ghost use Rattle.base_bytes.specs.Fault.{memory};
+ghost use Rattle.base_bytes.specs.Fields.{AreBytes};
+ghost use Rattle.file_read.specs.Means.{Means};
+ghost use Rattle.file_read.specs.Refused.{IsRefused};
+ghost use Rattle.file_limits.specs.Limits.{Fits, IsLowestLimit};
+ghost use Rattle.program_types.specs.View as view;
+ghost use Rattle.program_rules.specs.WellFormed.{WellFormed};
+ghost use Rattle.file_write.specs.Written.{IsFileOf, IsStripped, IsStripRefused};
+
+use base_bytes::are_bytes;
+use bumpalo::Bump;
+use dex_base::Fault;
+use file_assemble::assemble;
+use file_read::read;
+use program_types::Program;
+use std::alloc::Global;
+
+/// The file of a well-formed program (Dalvik Executable format, version 035). It means the program, has no slack, and its tables hold
+/// exactly the names that the program needs.
+///
+/// Refused are programs that break a limit of the format, by the lowest of 80 to 90 that stands, at its place: for 80 and 81 how many
+/// are needed, for 82 to 89 the class's number, for 90 it is 0. What is refused with 80 to 88 is meant by no file at all. 255 is want of
+/// memory.
+pub fn write(alloc: Global, program: &Program<'_>) -> Result<Vec<u8>, Fault>
+    requires kept { WellFormed (view.program program.now) }
+    ensures file { IfOk result (λ file. IsFileOf (view.program program.now) file.items) }
+    ensures fits { OnOk result (Fits (view.program program.now)) }
+    ensures only { Fits (view.program program.now) → IsOkUnless result memory }
+    ensures refused { IfErr result (λ e. e ≢ memory → IsLowestLimit (view.program program.now) e) }
+    ensures vain { IfErr result (λ e. e.code ≤ 88 → (b : List ℕ) → AreBytes b → ¬ Means b (view.program program.now)) }
+{
+    Ok(assemble(alloc, program)?)
+}
+
+// The program of a file, which is well formed.
+fn read_formed<'a>(alloc: Global, arena: &'a Bump, bytes: &[u8]) -> Result<Program<'a>, Fault>
+    ensures means { IfOk result (λ p. Means bytes.now (view.program p)) }
+    ensures formed { IfOk result (λ p. WellFormed (view.program p)) }
+    ensures only { (p : _) → Means bytes.now p → IfErr result (λ e. e ≡ memory) }
+    ensures refused { IfErr result (λ e. e ≢ memory → IsRefused bytes.now e) }
+{
+    are_bytes(bytes);
+    read(alloc, arena, bytes)
+}
+
+/// The file of what a file means: without names that nothing needs, debugging information, annotations and slack.
+///
+/// Its five tables of names are no longer than those of the file that came in. Refused are bytes that `read` refuses (1 to 73), and
+/// programs whose handlers are too far in the order of first use (89) or that are too big (90), as `write` refuses them.
+pub fn strip(alloc: Global, bytes: &[u8]) -> Result<Vec<u8>, Fault>
+    ensures ok { IfOk result (λ file. IsStripped bytes.now file.items) }
+    ensures only { (p : _) → Means bytes.now p → Fits p → IfErr result (λ e. e ≡ memory) }
+    ensures refused { IfErr result (λ e. e ≢ memory → IsStripRefused bytes.now e) }
+{
+    are_bytes(bytes);
+    let arena = Bump::new(alloc);
+    let program = read_formed(alloc, &arena, bytes)?;
+    write(alloc, &program)
+}
+
+/// What is written is read again: the same program, unless memory is wanting.
+pub fn written_is_read<'a>(
+    alloc: Global,
+    arena: &'a Bump,
+    program: &Program<'_>,
+) -> Result<Program<'a>, Fault>
+    requires kept { WellFormed (view.program program.now) }
+    requires fits { Fits (view.program program.now) }
+    ensures same { IfOk result (λ again. view.program again ≡ view.program program.now) }
+    ensures memory { IsOkUnless result memory }
+{
+    let file = write(alloc, program)?;
+    read(alloc, arena, &file)
+}

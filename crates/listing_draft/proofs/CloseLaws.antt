@@ -1,0 +1,64 @@
+-- Values of the static fields.
+use Rattle.std.proofs.Common.{◌≡◌, ℕ, zero, suc, ◌+◌, ◌<◌, ◌≤◌, Bool, true, false, ltb, if◌then◌else◌, List, [], ◌∷◌, ◌++◌, length, get_or, drop, take, map, Option, Some, refl, sym, ap, ◌∙◌, arith, add-one, drop-cons, drop_of_length-le}
+use Rattle.std.proofs.lemmas.Bool.{lt-ltb}
+use Rattle.std.proofs.lemmas.List.{map-append, take_all, take_more, length-map}
+use Rattle.program_types.specs.View.{member, value}
+use Rattle.listing_lines.specs.Lines.{end_code}
+use Rattle.listing_lines.specs.declared.stage.Stage.TheVariants.{Members}
+use Rattle.listing_lines.specs.Needs.{earliest, first_late}
+use Rattle.listing_draft.specs.States.{State, Open, Body, with_code_at, with_tries, whole_code, placed}
+use Rattle.program_types.specs.declared.class.Member.{Member as Field}
+use Rattle.program_types.specs.declared.value.Value.{Value as Put}
+use Rattle.listing_draft.specs.Members.{Given, is_given, given_length, value_or_zero}
+use Rattle.listing_draft.specs.View.{given}
+use Rattle.listing_draft.specs.declared.close.Given.{Given as Made}
+
+-- behind i fields, of which the last with a value ends at n
+abbrev pub ends_at : ℕ → ℕ → ℕ → ℕ
+ends_at n i more = if ltb 0 more then i + more else n
+
+split : (more : ℕ) (b : Bool) (i n : ℕ) → ends_at n i (if ltb 0 more then more + 1 else (if b then 1 else 0)) ≡ ends_at (if b then i + 1 else n) (i + 1) more
+split zero true i n = refl
+split zero false i n = refl
+split (suc more) b i n =
+    let t : ltb 0 (suc more) ≡ true = lt-ltb 0 (suc more) (omega arith) in
+    let u : ltb 0 (suc more + 1) ≡ true = lt-ltb 0 (suc more + 1) (omega arith) in
+    rw (t, u) (omega arith)
+
+pub given_more : (all : List Made) (i n : ℕ) (x : Made) → i < length all
+    → ends_at n i (given_length (map given (drop i all))) ≡ ends_at (if is_given (given (get_or all i x)) then i + 1 else n) (i + 1) (given_length (map given (drop (i + 1) all)))
+unfolding given_length
+given_more all i n x h =
+    let d : drop i all ≡ get_or all i x ∷ drop (i + 1) all = rw add-one (drop-cons all i x h) in
+    rw d (split (given_length (map given (drop (i + 1) all))) (is_given (given (get_or all i x))) i n)
+
+pub given_end : (all : List Made) (i n : ℕ) → length all ≤ i → ends_at n i (given_length (map given (drop i all))) ≡ n
+unfolding given_length
+given_end all i n h = rw (drop_of_length-le all {i = i} h) refl
+
+-- ---- what is placed
+
+pub fields_are : (all : List Made) → map member (map (λ (g : Made). g.field) all) ≡ map (λ g. g.field) (map given all)
+fields_are [] = refl
+fields_are (g ∷ all) = ap (λ t. member g.field ∷ t) (fields_are all)
+
+pub fields_placed : (all : List Made) (fields : List Field) (i : ℕ) → length all ≤ i → fields ≡ map (λ (g : Made). g.field) (take i all) → map member fields ≡ map (λ g. g.field) (map given all)
+fields_placed all fields i h e = ap (map member) (e ∙ ap (map (λ (g : Made). g.field)) (take_all i all h)) ∙ fields_are all
+
+given_at : (all : List Made) (i : ℕ) (x : Made) (d : Given) → i < length all → given (get_or all i x) ≡ get_or (map given all) i d
+given_at [] i x d h = absurd (omega arith)
+given_at (g ∷ all) zero x d h = refl
+given_at (g ∷ all) (suc i) x d h = given_at all i x d (omega arith)
+
+pub values_push : (all : List Made) (done : List Put) (v : Put) (i : ℕ) (x : Made) → i < length all → map value done ≡ map value_or_zero (take i (map given all)) → value v ≡ value_or_zero (given (get_or all i x))
+    → map value (done ++ v ∷ []) ≡ map value_or_zero (take (i + 1) (map given all))
+values_push all done v i x h e f =
+    let n : i < length (map given all) = (let l = length-map all given in omega arith) in
+    let t = take_more (map given all) i (given x) n in
+    map-append value done (v ∷ []) ∙ rw (e, f, given_at all i x (given x) h) (sym (ap (map value_or_zero) t ∙ map-append value_or_zero (take i (map given all)) (get_or (map given all) i (given x) ∷ [])))
+
+-- the code is whole
+pub code_ends : (s : State) (o : Open) (b : Body) (l : Option ℕ) → b ≡ with_tries s.stage s.body → o ≡ with_code_at s.current b.direct b.method (whole_code b) → l ≡ earliest s.late (first_late (length s.body.insns) s.body.needs)
+    → placed s end_code ≡ Some (record s { stage = Members; current = o; body = b; late = l })
+unfolding placed
+code_ends s o b l e f g = rw (f, g, e) refl

@@ -1,0 +1,224 @@
+//! Labels: how they are spelled, what they mark, and what words say where they stand.
+
+ghost use Rattle.std.specs.Prelude.{◌≡◌, ◌<◌, ◌≤◌, ◌+◌, ◌^◌, [], List, Some, map, length, IfOk, IfSome, IfNone, OnOk, IsOkUnless, option_map};
+ghost use Rattle.base_bytes.specs.Fault.{memory};
+ghost use Rattle.listing_words.specs.Words.{after_spaces, up_to_space};
+ghost use Rattle.listing_words.specs.View.{word};
+ghost use Rattle.listing_slots.specs.Data.{Datum as Said};
+ghost use Rattle.listing_slots.specs.View.{datum};
+ghost use Rattle.listing_labels.specs.Lines.{lines, is_comment};
+ghost use Rattle.listing_labels.specs.Labels as says;
+ghost use Rattle.listing_labels.specs.Labels.{SpellsHere, SpellsAll, MisspellsAll};
+
+use crate::known::{Labels, Place};
+use crate::pieces::split_line;
+use bumpalo::Bump;
+use dex_base::{Fault, fault};
+use listing_slots::{Datum, Key, Mark, Slot, fault_of, is_same, key_text, read_datum};
+use listing_words::Word;
+
+/// Whether a byte can stand in a label.
+fn is_name_byte(c: u8) -> bool
+    ensures { result ≡ says.is_name_byte c }
+{
+    (48 <= c && c <= 57) || (65 <= c && c <= 90) || (97 <= c && c <= 122) || c == 95
+}
+
+/// Whether all bytes can.
+fn are_name_bytes(name: &[u8]) -> bool
+    ensures { result ≡ says.are_name_bytes name.now }
+{
+    for c in name {
+        if !is_name_byte(*c) {
+            return false;
+        }
+    }
+    true
+}
+
+/// Whether it begins with `:`.
+pub fn is_mark(word: &[u8]) -> bool
+    ensures { result ≡ says.is_mark word.now }
+{
+    match word.split_first() {
+        Some((first, _)) => *first == 58,
+        None => false,
+    }
+}
+
+/// Whether it is `:` and 1 to 32 letters, digits or `_`.
+pub fn is_label(word: &[u8]) -> bool
+    ensures { result ≡ says.is_label word.now }
+{
+    let Some((first, name)) = word.split_first() else {
+        return false;
+    };
+    *first == 58 && 0 < name.len() && name.len() <= 32 && are_name_bytes(name)
+}
+
+/// The text without the spaces at its front.
+fn after_spaces(text: &[u8]) -> &[u8]
+    ensures { result.now ≡ after_spaces text.now }
+{
+    let mut rest = text;
+    while let Some((first, behind)) = rest.split_first() {
+        if *first != 32 {
+            return rest;
+        }
+        rest = behind;
+    }
+    rest
+}
+
+/// What stands before the first space.
+fn up_to_space(text: &[u8]) -> &[u8]
+    ensures { result.now ≡ up_to_space text.now }
+{
+    for end in 0..text.len() {
+        if text[end] == 32 {
+            let (front, _) = text.split_at(end);
+            return front;
+        }
+    }
+    text
+}
+
+/// Whether a line says nothing whose spaces at the front are left out.
+fn is_comment(words: &[u8]) -> bool
+    ensures { result ≡ is_comment words.now }
+{
+    match words.split_first() {
+        Some((first, _)) => *first == 35,
+        None => true,
+    }
+}
+
+/// Whether the instructions end at a line of these words.
+fn is_stop(words: &[u8]) -> bool
+    ensures { result ≡ says.is_stop (up_to_space words.now) }
+{
+    // Both words begin otherwise than most mnemonics.
+    let Some((first, _)) = words.split_first() else {
+        return false;
+    };
+    if *first != 116 && *first != 101 {
+        return false;
+    }
+    let word = up_to_space(words);
+    is_same(key_text(Key::Try).as_bytes(), word) || is_same(key_text(Key::End).as_bytes(), word)
+}
+
+/// Puts the labels of the code whose first line begins the text, which is the line of this number, in place of those that
+/// are there.
+pub fn look_ahead<'t>(labels: &mut Labels<'t>, text: &'t [u8], first: u64) -> Result<(), Fault>
+    requires { first + length text.now < 2 ^ 64 }
+    ensures ahead { OnOk result (labels.new ≡ says.labels_ahead [] first 0 (lines text.now)) }
+    ensures memory { IsOkUnless result memory }
+{
+    labels.clear();
+    let mut line = first;
+    let mut number = 0u64;
+    let mut rest = text;
+    while let Some((next, behind)) = split_line(rest) {
+        let words = after_spaces(next);
+        if !is_comment(words) {
+            if is_stop(words) {
+                return Ok(());
+            }
+            if is_mark(words) {
+                labels.put(up_to_space(words), Place { line, number })?;
+            } else {
+                number += 1;
+            }
+        }
+        line += 1;
+        rest = behind;
+    }
+    Ok(())
+}
+
+/// The instruction that the label of this name marks.
+fn marked(labels: &Labels<'_>, near: usize, name: &[u8]) -> u32
+    ensures { result ≡ says.marked_by (says.lookup name.now labels.now) }
+{
+    match labels.place_of(near, name) {
+        Some(place) => place.number.min(4294967295) as u32,
+        None => 4294967295,
+    }
+}
+
+/// Whether a target stands in the slot.
+fn is_target(slot: Slot) -> bool
+    ensures { result ≡ says.is_target slot }
+{
+    matches!(slot, Slot::Word(Mark::Target, _))
+}
+
+/// What a word says where a target stands.
+fn read_label<'a>(labels: &Labels<'_>, near: usize, one: Word<'a, '_>) -> Option<Datum<'a>>
+    ensures found { IfSome result (λ d. says.SpellsLabel labels.now (word one.entry) (datum d)) }
+    ensures none { IfNone result ((d : Said) → says.SpellsLabel labels.now (word one.entry) d → ⊥) }
+{
+    match one {
+        Word::Plain(text) => {
+            if is_label(text) {
+                return Some(Datum::Word(marked(labels, near, text)));
+            }
+            None
+        }
+        Word::Text(_) => None,
+    }
+}
+
+/// What a word says in a slot of the second form.
+fn read_here<'a>(
+    bump: &'a Bump,
+    labels: &Labels<'_>,
+    near: usize,
+    slot: Slot,
+    one: Word<'a, '_>,
+) -> Result<Option<Datum<'a>>, Fault>
+    ensures found { IfOk result (λ r. IfSome r (λ d. SpellsHere labels.now slot (word one.entry) (datum d))) }
+    ensures none { IfOk result (λ r. IfNone r ((d : Said) → SpellsHere labels.now slot (word one.entry) d → ⊥)) }
+    ensures memory { IsOkUnless result memory }
+{
+    if is_target(slot) {
+        return Ok(read_label(labels, near, one));
+    }
+    read_datum(bump, slot, one)
+}
+
+/// The fault of a word that says nothing there.
+fn fault_here(slot: Slot) -> u16
+    ensures { result ≡ says.fault_here slot }
+{
+    if is_target(slot) {
+        return fault::LINE_NAME;
+    }
+    fault_of(slot)
+}
+
+/// What these words say in these slots of the second form; else the fault of the first that says nothing there. The label
+/// at the index `near` is found without hashing its name.
+pub fn read_all<'a, 'b>(
+    bump: &'a Bump,
+    labels: &Labels<'_>,
+    near: usize,
+    slots: &[Slot],
+    words: &[Word<'a, 'b>],
+    says: &mut Vec<Datum<'a>, &'a Bump>,
+) -> Result<Option<u16>, Fault>
+    requires { length slots.now ≡ length words.now }
+    ensures all { IfOk result (λ r. IfNone r (SpellsAll labels.now slots.now (map word words.now) (map datum says.new.items))) }
+    ensures bad { IfOk result (λ r. IfSome r (λ code. MisspellsAll labels.now slots.now (map word words.now) code)) }
+    ensures memory { IsOkUnless result memory }
+{
+    says.clear();
+    for i in 0..slots.len() {
+        let Some(said) = read_here(bump, labels, near, slots[i], words[i])? else {
+            return Ok(Some(fault_here(slots[i])));
+        };
+        says.push(said)?;
+    }
+    Ok(None)
+}

@@ -1,0 +1,36 @@
+//! Lines of a text.
+
+ghost use Rattle.std.specs.Prelude.{◌≡◌, ◌<◌, ◌∷◌, [], List, ℕ, length, IfSome, IfNone};
+ghost use Rattle.listing_labels.specs.Lines.{lines, is_skipped};
+ghost use Rattle.listing_words.specs.Words.{after_spaces};
+
+/// The first line of a text, and what follows it.
+pub fn split_line(text: &[u8]) -> Option<(&[u8], &[u8])>
+    ensures found { IfSome result (λ f. lines text.now ≡ f.0.now ∷ lines f.1.now) }
+    ensures shorter { IfSome result (λ f. length f.1.now < length text.now) }
+    ensures none { IfNone result (lines text.now ≡ []) }
+{
+    if text.is_empty() {
+        return None;
+    }
+    for end in 0..text.len() {
+        if text[end] == 10 {
+            let (line, behind) = text.split_at(end);
+            let (_, rest) = behind.split_at(1);
+            return Some((line, rest));
+        }
+    }
+    Some((text, &[]))
+}
+
+/// Whether a line has nothing but spaces, or a comment.
+pub fn is_skipped(line: &[u8]) -> bool
+    ensures { result ≡ is_skipped line.now }
+{
+    for i in 0..line.len() {
+        if line[i] != 32 {
+            return line[i] == 35;
+        }
+    }
+    true
+}

@@ -1,0 +1,383 @@
+-- A printed instruction is read as that instruction, in both forms.
+use Rattle.std.proofs.Common.{◌≡◌, ◌≢◌, ℕ, zero, suc, ◌+◌, ◌<◌, ◌≤◌, ◌^◌, ◌==◌, ◌&&◌, if◌then◌else◌, Bool, true, false, inr, List, [], ◌∷◌, ◌++◌, length, get_or, Some, refl, sym, ap, subst, ◌∙◌, append_assoc, arith}
+use Rattle.std.specs.Prelude.{codes}
+use Rattle.std.specs.List.{AllByRecursion, list_all}
+use Rattle.std.specs.Fmt.{decimal}
+use Rattle.std.specs.Char.{digit_value}
+use Rattle.std.specs.Str.Parse.{AllDigits}
+use Rattle.std.proofs.lemmas.Fmt.{decimal_is_IsNumeral}
+use Rattle.std.proofs.lemmas.Bool.{ne_eqb}
+use Rattle.dex_insn.specs.declared.opcode.Format.{Format}
+use Rattle.dex_insn.specs.declared.opcode.Format.TheVariants as format
+use Rattle.dex_insn.specs.Opcodes.{format_of}
+use Rattle.dex_insn.specs.Mnemonics.{mnemonics, mnemonic_of, is_mnemonic_byte}
+use Rattle.dex_insn.proofs.Rows.{used_named, mnemonic_plain}
+use Rattle.dex_base.proofs.NameUnits.{all_append}
+use Rattle.program_types.specs.Content as content
+use Rattle.program_types.specs.Content.{Insn}
+use Rattle.listing_words.specs.Words.{Word, plain_word, IsGraphic, IsWritable, line_bytes}
+use Rattle.listing_words.specs.Numbers.{is_number}
+use Rattle.listing_words.proofs.PrintLaws.{line_again}
+use Rattle.listing_slots.specs.declared.key.Key.TheVariants as key
+use Rattle.listing_slots.specs.declared.slot.Mark.TheVariants.{Nothing}
+use Rattle.listing_slots.specs.declared.slot.Slot.TheVariants as slot
+use Rattle.listing_slots.specs.Keys.{key_text, same}
+use Rattle.listing_slots.specs.Data.{said}
+use Rattle.listing_slots.proofs.ShownLaws.{shown_written, number_written}
+use Rattle.listing_lines.specs.Lines.{insn_line}
+use Rattle.listing_lines.specs.declared.stage.Stage.{Stage}
+use Rattle.listing_lines.specs.declared.stage.Stage.TheVariants.{Start, Top, Heads, Members, Behind, Insns, Tries, Caught}
+use Rattle.listing_lines.specs.declared.form.Form.{Form}
+use Rattle.listing_lines.specs.declared.form.Form.TheVariants.{One, Two}
+use Rattle.listing_lines.specs.Places.{may_stand, is_insn, is_insns, is_start}
+use Rattle.listing_draft.specs.States.{State, counted, add}
+use Rattle.listing_labels.specs.Lines.{is_skipped}
+use Rattle.listing_labels.specs.Labels.{Label, is_mark, is_stop}
+use Rattle.listing_parse.specs.declared.aside.Aside.{Aside}
+use Rattle.listing_parse.specs.declared.aside.Aside.TheVariants as aside
+use Rattle.listing_parse.specs.Text.{Takes, Says, is_second, aside, labels_behind}
+use Rattle.listing_print.specs.Operands.{insn_operands, operand_text_in}
+use Rattle.listing_print.specs.Printed.{insn_word, insn_text}
+use Rattle.listing_print.specs.Reading.{slots_of, data_of, words_in, FitOperands, insn_kind, OpcodeFits}
+use Rattle.listing_print.proofs.InsnLaws.{insn_has_shape, insn_has_bare_shape, number_printed, insn_says}
+use Rattle.listing_laws.proofs.Runs.{RunsTo, frame, at}
+use Rattle.listing_laws.proofs.RunLaws.{IsLine, line_runs, line_is, words_line, behind_spaces}
+use Rattle.listing_laws.proofs.FormWords.{words_written, text_is_in, TargetsAreMarked, spelled_in}
+use Rattle.listing_laws.proofs.KeyedLaws.{not_aside, no_aside}
+
+-- ---- its words are written
+
+both : (a b : Bool) → (a && b) ≡ true → (a ≡ true) × (b ≡ true)
+both true b e = (refl, e)
+both false b e = absurd (cc)
+
+mnemonic_byte : (c : ℕ) → is_mnemonic_byte c ≡ true → (45 ≤ c) × (c < 127)
+mnemonic_byte c e = grind arith
+
+mnemonic_bytes : (cs : List ℕ) → list_all is_mnemonic_byte cs ≡ true → AllByRecursion IsGraphic cs
+mnemonic_bytes [] e = tt
+mnemonic_bytes (c ∷ cs) e = let b = mnemonic_byte c (both _ _ e).0 in ((omega arith, b.1), mnemonic_bytes cs (both _ _ e).1)
+
+plain_written : (cs : List ℕ) → cs ≢ [] → list_all is_mnemonic_byte cs ≡ true → IsWritable (plain_word cs)
+plain_written [] s e = absurd (s refl)
+plain_written (c ∷ cs) s e = let b = mnemonic_byte c (both _ _ e).0 in (omega arith, (λ q. omega arith), mnemonic_bytes (c ∷ cs) e)
+
+mnemonic_written : (op : ℕ) (f : Format) → format_of op ≡ Some f → IsWritable (plain_word (mnemonic_of op))
+mnemonic_written op f e = plain_written (mnemonic_of op) (used_named op f e) (mnemonic_plain op)
+
+pub insn_written : (i : Insn) → OpcodeFits i → IsWritable (plain_word (insn_word i))
+insn_written (content.I10x op) h = mnemonic_written op format.F10x h
+insn_written (content.I12x op a b) h = mnemonic_written op format.F12x h
+insn_written (content.I11n op a b) h = mnemonic_written op format.F11n h
+insn_written (content.I11x op a) h = mnemonic_written op format.F11x h
+insn_written (content.I10t op k) h = mnemonic_written op format.F10t h
+insn_written (content.I20t op k) h = mnemonic_written op format.F20t h
+insn_written (content.I30t op k) h = mnemonic_written op format.F30t h
+insn_written (content.I22x op a b) h = mnemonic_written op format.F22x h
+insn_written (content.I21t op a k) h = mnemonic_written op format.F21t h
+insn_written (content.I31t op a k) h = mnemonic_written op format.F31t h
+insn_written (content.I21s op a b) h = mnemonic_written op format.F21s h
+insn_written (content.I21h op a b) h = mnemonic_written op format.F21h h
+insn_written (content.I21c op a which) h = mnemonic_written op format.F21c h.0
+insn_written (content.I31c op a which) h = mnemonic_written op format.F31c h.0
+insn_written (content.I23x op a b c) h = mnemonic_written op format.F23x h
+insn_written (content.I22b op a b c) h = mnemonic_written op format.F22b h
+insn_written (content.I22t op a b k) h = mnemonic_written op format.F22t h
+insn_written (content.I22s op a b c) h = mnemonic_written op format.F22s h
+insn_written (content.I22c op a b which) h = mnemonic_written op format.F22c h.0
+insn_written (content.I32x op a b) h = mnemonic_written op format.F32x h
+insn_written (content.I31i op a b) h = mnemonic_written op format.F31i h
+insn_written (content.I51l op a b) h = mnemonic_written op format.F51l h
+insn_written (content.I35c op n regs which) h = mnemonic_written op format.F35c h.0
+insn_written (content.I3rc op n first which) h = mnemonic_written op format.F3rc h.0
+insn_written (content.Packed first targets) h = shown_written (slot.Key key.Packed) (said key.Packed) refl
+insn_written (content.Sparse keys targets) h = shown_written (slot.Key key.Sparse) (said key.Sparse) refl
+insn_written (content.Data width bytes) h = shown_written (slot.Key key.Elements) (said key.Elements) refl
+
+behind_colon : (w : List ℕ) → IsWritable (plain_word w) → IsWritable (plain_word (w ++ 58 ∷ []))
+behind_colon [] h = absurd (omega arith)
+behind_colon (c ∷ cs) h = (omega arith, h.1, all_append IsGraphic (c ∷ cs) (58 ∷ []) h.2 ((omega arith, omega arith), tt))
+
+-- ---- its line
+
+-- the words behind its number, which it has in the first form alone
+abbrev pub insn_words : Form → ℕ → Insn → List Word
+insn_words One k i = plain_word (decimal k ++ 58 ∷ []) ∷ plain_word (insn_word i) ∷ words_in One (insn_operands i)
+insn_words Two k i = plain_word (insn_word i) ∷ words_in Two (insn_operands i)
+
+plain_is : (form : Form) (i : Insn) → insn_word i ++ (operand_text_in form (insn_operands i) ++ 10 ∷ []) ≡ (insn_word i ++ behind_spaces (words_in form (insn_operands i))) ++ 10 ∷ []
+plain_is form i =
+    let ws = words_in form (insn_operands i) in
+    ap (λ t. insn_word i ++ (t ++ 10 ∷ [])) (text_is_in form (insn_operands i)) ∙ sym (append_assoc (insn_word i) (behind_spaces ws) (10 ∷ []))
+
+pub insn_is : (form : Form) (k : ℕ) (i : Insn) → insn_text form k i ≡ line_bytes (insn_words form k i) ++ 10 ∷ []
+insn_is One k i =
+    let d = decimal k in
+    let w = insn_word i in
+    let ws = words_in One (insn_operands i) in
+    let b = 32 ∷ (w ++ behind_spaces ws) in
+    ap (λ t. d ++ (58 ∷ 32 ∷ t)) (plain_is One i)
+    ∙ sym (append_assoc d (58 ∷ b) (10 ∷ []))
+    ∙ ap (λ t. t ++ 10 ∷ []) (sym (append_assoc d (58 ∷ []) b))
+    ∙ ap (λ t. t ++ 10 ∷ []) (sym (line_is (plain_word (d ++ 58 ∷ [])) (plain_word w ∷ ws)))
+insn_is Two k i = plain_is Two i ∙ ap (λ t. t ++ 10 ∷ []) (sym (line_is (plain_word (insn_word i)) (words_in Two (insn_operands i))))
+
+insn_words_written : (form : Form) (k : ℕ) (i : Insn) → k < 2 ^ 64 → OpcodeFits i → FitOperands (insn_operands i) → AllByRecursion IsWritable (insn_words form k i)
+insn_words_written One k i h o f = (behind_colon (decimal k) (number_written Nothing k h), (insn_written i o, words_written One (insn_operands i) f))
+insn_words_written Two k i h o f = (insn_written i o, words_written Two (insn_operands i) f)
+
+digit_range : (c : ℕ) → digit_value c < 10 → (48 ≤ c) × (c < 58)
+digit_range c h = grind arith
+
+digits_shown : (cs rest : List ℕ) → 0 < length cs → AllDigits 10 cs → is_skipped (cs ++ rest) ≡ false
+digits_shown [] rest s h = absurd (omega arith)
+digits_shown (c ∷ cs) rest s h =
+    let r = digit_range c h.0 in
+    let a : c ≢ 32 = λ q. omega arith in
+    let b : c ≢ 35 = λ q. omega arith in
+    rw (ne_eqb c 32 a, ne_eqb c 35 b) refl
+
+numbered_shown : (k : ℕ) (i : Insn) → k < 2 ^ 64 → is_skipped (line_bytes (insn_words One k i)) ≡ false
+numbered_shown k i h =
+    let d = decimal_is_IsNumeral k h in
+    let b = behind_spaces (plain_word (insn_word i) ∷ words_in One (insn_operands i)) in
+    ap is_skipped (line_is (plain_word (decimal k ++ 58 ∷ [])) (plain_word (insn_word i) ∷ words_in One (insn_operands i)) ∙ append_assoc (decimal k) (58 ∷ []) b) ∙ digits_shown (decimal k) (58 ∷ b) d.0.0 d.0.1
+
+-- ---- its first word in the second form: no comment, no label, no end of the instructions, and not that of the first line
+
+abbrev not : Bool → Bool
+not true = false
+not false = true
+
+abbrev begins_other : List ℕ → Bool
+begins_other [] = true
+begins_other (c ∷ cs) = not (c == 32) && (not (c == 35) && not (c == 58))
+
+abbrev is_other : List ℕ → Bool
+is_other m = begins_other m && (not (is_stop m) && not (same (codes "dex") m))
+
+mnemonics_other : list_all is_other mnemonics ≡ true
+unfolding mnemonics same key_text
+mnemonics_other = refl
+
+empty_other : is_other [] ≡ true
+unfolding same key_text
+empty_other = refl
+
+all_at : (P : List ℕ → Bool) (xs : List (List ℕ)) (i : ℕ) → list_all P xs ≡ true → P [] ≡ true → P (get_or xs i []) ≡ true
+all_at P [] i a e = e
+all_at P (x ∷ xs) zero a e = (both (P x) (list_all P xs) a).0
+all_at P (x ∷ xs) (suc i) a e = all_at P xs i (both (P x) (list_all P xs) a).1 e
+
+mnemonic_other : (op : ℕ) → is_other (mnemonic_of op) ≡ true
+mnemonic_other op = all_at is_other mnemonics op mnemonics_other empty_other
+
+insn_other : (i : Insn) → is_other (insn_word i) ≡ true
+unfolding same key_text
+insn_other (content.I10x op) = mnemonic_other op
+insn_other (content.I12x op a b) = mnemonic_other op
+insn_other (content.I11n op a b) = mnemonic_other op
+insn_other (content.I11x op a) = mnemonic_other op
+insn_other (content.I10t op k) = mnemonic_other op
+insn_other (content.I20t op k) = mnemonic_other op
+insn_other (content.I30t op k) = mnemonic_other op
+insn_other (content.I22x op a b) = mnemonic_other op
+insn_other (content.I21t op a k) = mnemonic_other op
+insn_other (content.I31t op a k) = mnemonic_other op
+insn_other (content.I21s op a b) = mnemonic_other op
+insn_other (content.I21h op a b) = mnemonic_other op
+insn_other (content.I21c op a which) = mnemonic_other op
+insn_other (content.I31c op a which) = mnemonic_other op
+insn_other (content.I23x op a b c) = mnemonic_other op
+insn_other (content.I22b op a b c) = mnemonic_other op
+insn_other (content.I22t op a b k) = mnemonic_other op
+insn_other (content.I22s op a b c) = mnemonic_other op
+insn_other (content.I22c op a b which) = mnemonic_other op
+insn_other (content.I32x op a b) = mnemonic_other op
+insn_other (content.I31i op a b) = mnemonic_other op
+insn_other (content.I51l op a b) = mnemonic_other op
+insn_other (content.I35c op n regs which) = mnemonic_other op
+insn_other (content.I3rc op n first which) = mnemonic_other op
+insn_other (content.Packed first targets) = refl
+insn_other (content.Sparse keys targets) = refl
+insn_other (content.Data width bytes) = refl
+
+not_true : (b : Bool) → not b ≡ true → b ≡ false
+not_true false e = refl
+not_true true e = absurd cc
+
+-- what such a word is not
+pub record IsOther (m : List ℕ) : Type 0 where
+  pub shown : (rest : List ℕ) → is_skipped (m ++ rest) ≡ false
+  pub mark : is_mark m ≡ false
+  pub stop : is_stop m ≡ false
+  pub first : same (codes "dex") m ≡ false
+
+other_begins : (m : List ℕ) → 0 < length m → begins_other m ≡ true → ((rest : List ℕ) → is_skipped (m ++ rest) ≡ false) × (is_mark m ≡ false)
+other_begins [] s e = absurd (omega arith)
+other_begins (c ∷ cs) s e =
+    let a = both (not (c == 32)) (not (c == 35) && not (c == 58)) e in
+    let b = both (not (c == 35)) (not (c == 58)) a.1 in
+    ((λ rest. rw (not_true (c == 32) a.0, not_true (c == 35) b.0) refl), not_true (c == 58) b.1)
+
+other_is : (m : List ℕ) → 0 < length m → is_other m ≡ true → IsOther m
+other_is m s e =
+    let a = both (begins_other m) (not (is_stop m) && not (same (codes "dex") m)) e in
+    let b = both (not (is_stop m)) (not (same (codes "dex") m)) a.1 in
+    let c = other_begins m s a.0 in
+    record { shown = c.0; mark = c.1; stop = not_true (is_stop m) b.0; first = not_true (same (codes "dex") m) b.1 }
+
+pub insn_is_other : (i : Insn) → OpcodeFits i → IsOther (insn_word i)
+insn_is_other i o = other_is (insn_word i) (insn_written i o).0 (insn_other i)
+
+pub insn_shown : (form : Form) (k : ℕ) (i : Insn) → k < 2 ^ 64 → OpcodeFits i → is_skipped (line_bytes (insn_words form k i)) ≡ false
+insn_shown One k i h o = numbered_shown k i h
+insn_shown Two k i h o = ap is_skipped (line_is (plain_word (insn_word i)) (words_in Two (insn_operands i))) ∙ (insn_is_other i o).shown (behind_spaces (words_in Two (insn_operands i)))
+
+-- ---- it may stand among instructions
+
+kind_stands : (s : Stage) (i : Insn) → (is_insn (insn_kind i) ≡ true) × (may_stand s (insn_kind i) ≡ is_insns s)
+unfolding may_stand
+kind_stands s (content.I10x op) = (refl, refl)
+kind_stands s (content.I12x op a b) = (refl, refl)
+kind_stands s (content.I11n op a b) = (refl, refl)
+kind_stands s (content.I11x op a) = (refl, refl)
+kind_stands s (content.I10t op k) = (refl, refl)
+kind_stands s (content.I20t op k) = (refl, refl)
+kind_stands s (content.I30t op k) = (refl, refl)
+kind_stands s (content.I22x op a b) = (refl, refl)
+kind_stands s (content.I21t op a k) = (refl, refl)
+kind_stands s (content.I31t op a k) = (refl, refl)
+kind_stands s (content.I21s op a b) = (refl, refl)
+kind_stands s (content.I21h op a b) = (refl, refl)
+kind_stands s (content.I21c op a which) = (refl, refl)
+kind_stands s (content.I31c op a which) = (refl, refl)
+kind_stands s (content.I23x op a b c) = (refl, refl)
+kind_stands s (content.I22b op a b c) = (refl, refl)
+kind_stands s (content.I22t op a b k) = (refl, refl)
+kind_stands s (content.I22s op a b c) = (refl, refl)
+kind_stands s (content.I22c op a b which) = (refl, refl)
+kind_stands s (content.I32x op a b) = (refl, refl)
+kind_stands s (content.I31i op a b) = (refl, refl)
+kind_stands s (content.I51l op a b) = (refl, refl)
+kind_stands s (content.I35c op n regs which) = (refl, refl)
+kind_stands s (content.I3rc op n first which) = (refl, refl)
+kind_stands s (content.Packed first targets) = (refl, refl)
+kind_stands s (content.Sparse keys targets) = (refl, refl)
+kind_stands s (content.Data width bytes) = (refl, refl)
+
+-- and gives no labels
+kind_keeps : (i : Insn) (line : ℕ) (ls : List (List ℕ)) (es : List Label) → labels_behind Two (insn_kind i) line ls es ≡ es
+kind_keeps (content.I10x op) line ls es = refl
+kind_keeps (content.I12x op a b) line ls es = refl
+kind_keeps (content.I11n op a b) line ls es = refl
+kind_keeps (content.I11x op a) line ls es = refl
+kind_keeps (content.I10t op k) line ls es = refl
+kind_keeps (content.I20t op k) line ls es = refl
+kind_keeps (content.I30t op k) line ls es = refl
+kind_keeps (content.I22x op a b) line ls es = refl
+kind_keeps (content.I21t op a k) line ls es = refl
+kind_keeps (content.I31t op a k) line ls es = refl
+kind_keeps (content.I21s op a b) line ls es = refl
+kind_keeps (content.I21h op a b) line ls es = refl
+kind_keeps (content.I21c op a which) line ls es = refl
+kind_keeps (content.I31c op a which) line ls es = refl
+kind_keeps (content.I23x op a b c) line ls es = refl
+kind_keeps (content.I22b op a b c) line ls es = refl
+kind_keeps (content.I22t op a b k) line ls es = refl
+kind_keeps (content.I22s op a b c) line ls es = refl
+kind_keeps (content.I22c op a b which) line ls es = refl
+kind_keeps (content.I32x op a b) line ls es = refl
+kind_keeps (content.I31i op a b) line ls es = refl
+kind_keeps (content.I51l op a b) line ls es = refl
+kind_keeps (content.I35c op n regs which) line ls es = refl
+kind_keeps (content.I3rc op n first which) line ls es = refl
+kind_keeps (content.Packed first targets) line ls es = refl
+kind_keeps (content.Sparse keys targets) line ls es = refl
+kind_keeps (content.Data width bytes) line ls es = refl
+
+keeps : (form : Form) (i : Insn) (line : ℕ) (ls : List (List ℕ)) (es : List Label) → labels_behind form (insn_kind i) line ls es ≡ es
+keeps One i line ls es = refl
+keeps Two i line ls es = kind_keeps i line ls es
+
+-- among instructions something was read before
+not_start : (st : Stage) → is_insns st ≡ true → is_start st ≡ false
+not_start Start a = absurd cc
+not_start Top a = absurd cc
+not_start Heads a = absurd cc
+not_start Members a = absurd cc
+not_start Behind a = absurd cc
+not_start Insns a = refl
+not_start Tries a = absurd cc
+not_start Caught a = absurd cc
+
+plain_aside : (es : List Label) (s : State) (ws : List Word) → is_start s.stage ≡ false → aside (at (frame One es) s) ws ≡ aside.Nothing
+unfolding aside
+plain_aside es s ws h = rw h (not_aside (is_second ws) (aside.Refused 103))
+
+not_second : (m : List ℕ) (ws : List Word) → same (codes "dex") m ≡ false → is_second (plain_word m ∷ ws) ≡ false
+not_second m [] h = refl
+not_second m (a ∷ []) h = refl
+not_second m (a ∷ b ∷ []) h = refl
+not_second m (a ∷ b ∷ c ∷ []) h = rw h refl
+not_second m (a ∷ b ∷ c ∷ d ∷ ws) h = refl
+
+insn_aside : (form : Form) (es : List Label) (s : State) (k : ℕ) (i : Insn) → OpcodeFits i → is_start s.stage ≡ false → aside (at (frame form es) s) (insn_words form k i) ≡ aside.Nothing
+insn_aside One es s k i o h = plain_aside es s (insn_words One k i) h
+insn_aside Two es s k i o h = let x = insn_is_other i o in no_aside (frame Two es) s (insn_words Two k i) (not_second (insn_word i) (words_in Two (insn_operands i)) x.first) x.mark
+
+-- ---- its shape
+
+insn_says_so : (form : Form) (es : List Label) (s t : State) (k : ℕ) (i : Insn) (ls : List (List ℕ)) → k < 2 ^ 64 → OpcodeFits i → FitOperands (insn_operands i) → TargetsAreMarked form es (insn_operands i) → is_insns s.stage ≡ true
+    → length s.body.insns ≡ k → add s (insn_line i) ≡ Some t → Says (at (frame form es) s) ls (insn_words form k i) (at (frame form es) t)
+insn_says_so One es s t k i ls h o f g m e a =
+    let os = insn_operands i in
+    let ks = kind_stands s.stage i in
+    let n : is_number (decimal k) (length s.body.insns) ≡ true = ap (is_number (decimal k)) e ∙ number_printed k h in
+    record {
+      shape = record { kind = insn_kind i; label = decimal k; slots = slots_of os; words = words_in One os };
+      has_shape = insn_has_shape k i h o f;
+      may_stand = rw (ks.0, ks.1, m, n) refl;
+      says = data_of os;
+      spelled = spelled_in One es os f g;
+      next = t;
+      added = rw (insn_says i o) a;
+      is = refl;
+    }
+insn_says_so Two es s t k i ls h o f g m e a =
+    let os = insn_operands i in
+    record {
+      shape = record { kind = insn_kind i; label = []; slots = slots_of os; words = words_in Two os };
+      has_shape = insn_has_bare_shape i o f;
+      may_stand = (kind_stands s.stage i).1 ∙ m;
+      says = data_of os;
+      spelled = spelled_in Two es os f g;
+      next = t;
+      added = rw (insn_says i o) a;
+      is = rw (kind_keeps i (s.lines + 1) ls es) refl;
+    }
+
+insn_taken : (form : Form) (es : List Label) (s t : State) (k : ℕ) (i : Insn) → k < 2 ^ 64 → OpcodeFits i → FitOperands (insn_operands i) → TargetsAreMarked form es (insn_operands i) → is_insns s.stage ≡ true
+    → length s.body.insns ≡ k → add (counted s) (insn_line i) ≡ Some t → (ls : List (List ℕ)) → Takes (at (frame form es) s) ls (line_bytes (insn_words form k i)) (at (frame form es) t)
+insn_taken form es s t k i h o f g m e a ls =
+    inr (
+      insn_shown form k i h o,
+      record {
+        words = insn_words form k i;
+        has_words = line_again (insn_words form k i) (insn_words_written form k i h o f);
+        makes = inr (inr (insn_aside form es (counted s) k i o (not_start s.stage m), insn_says_so form es (counted s) t k i ls h o f g m e a));
+      },
+    )
+
+insn_is_line : (form : Form) (k : ℕ) (i : Insn) → AllByRecursion IsWritable (insn_words form k i) → IsLine (line_bytes (insn_words form k i))
+insn_is_line One k i w = words_line (plain_word (decimal k ++ 58 ∷ [])) (plain_word (insn_word i) ∷ words_in One (insn_operands i)) w.0 w.1
+insn_is_line Two k i w = words_line (plain_word (insn_word i)) (words_in Two (insn_operands i)) w.0 w.1
+
+pub insn_line_is : (form : Form) (k : ℕ) (i : Insn) → k < 2 ^ 64 → OpcodeFits i → FitOperands (insn_operands i) → IsLine (line_bytes (insn_words form k i))
+insn_line_is form k i h o f = insn_is_line form k i (insn_words_written form k i h o f)
+
+pub insn_runs : (form : Form) (es : List Label) (s t : State) (k : ℕ) (i : Insn) → k < 2 ^ 64 → OpcodeFits i → FitOperands (insn_operands i) → TargetsAreMarked form es (insn_operands i) → is_insns s.stage ≡ true → length s.body.insns ≡ k
+    → add (counted s) (insn_line i) ≡ Some t → RunsTo (frame form es) s (insn_text form k i) t
+insn_runs form es s t k i h o f g m e a =
+    let r = frame form es in
+    subst (λ (text : List ℕ). RunsTo r s text t) (sym (insn_is form k i)) (line_runs r r s t (line_bytes (insn_words form k i)) (insn_line_is form k i h o f) (insn_taken form es s t k i h o f g m e a))

@@ -1,0 +1,332 @@
+-- A printed line that begins with a keyword is read as that line, in both forms.
+use Rattle.std.proofs.Common.{◌≡◌, ℕ, ◌+◌, ◌&&◌, if◌then◌else◌, Bool, true, false, inr, List, [], ◌∷◌, ◌++◌, Some, None, refl, sym, ap, subst, ◌∙◌, append_assoc}
+use Rattle.std.specs.List.{AllByRecursion}
+use Rattle.std.proofs.lemmas.List.{append-nil}
+use Rattle.program_types.specs.Content as content
+use Rattle.program_types.specs.Content.{Value, Values, no_values, more_values, OfText, OfDesc, OfField, OfMethod}
+use Rattle.listing_words.specs.Words.{Word, plain_word, IsWritable, line_bytes}
+use Rattle.listing_words.proofs.PrintLaws.{line_again}
+use Rattle.listing_slots.specs.declared.key.Key.TheVariants as key
+use Rattle.listing_slots.specs.declared.kind.Kind.TheVariants as kind
+use Rattle.listing_slots.specs.declared.slot.Slot.TheVariants as slot
+use Rattle.listing_slots.specs.Keys.{key_text, same}
+use Rattle.listing_slots.specs.Data.{said}
+use Rattle.listing_slots.proofs.ShownLaws.{shown_written}
+use Rattle.listing_shapes.specs.Shapes.{Shape}
+use Rattle.listing_lines.specs.Lines.{Line, first_line, open_class, end_class, super_line, implements_line, source_line, static_line, instance_line, direct_line, virtual_line, open_code, end_code, insn_line, try_line, catch_line, catch_all_line}
+use Rattle.listing_lines.specs.Places.{may_stand, is_insn}
+use Rattle.listing_lines.specs.Forms.{is_two}
+use Rattle.listing_lines.specs.declared.form.Form.{Form}
+use Rattle.listing_lines.specs.declared.form.Form.TheVariants.{One, Two}
+use Rattle.listing_draft.specs.States.{State, counted, add}
+use Rattle.listing_labels.specs.Lines.{lines, is_skipped}
+use Rattle.listing_labels.specs.Labels.{Label}
+use Rattle.listing_parse.specs.Forms.{Shapes, may_be}
+use Rattle.listing_parse.specs.Text.{Reading, Takes, Reads, is_second, begins_mark, mark_aside, aside, labels_behind}
+use Rattle.listing_parse.specs.declared.aside.Aside.{Aside}
+use Rattle.listing_parse.specs.declared.aside.Aside.TheVariants.{Nothing}
+use Rattle.listing_print.specs.Operands.{Operand, keyword, value_operands, values_operands}
+use Rattle.listing_print.specs.Printed.{line_key, line_operands, keyed_text, keyed_text_in}
+use Rattle.listing_print.specs.Reading.{slots_of, data_of, words_of, words_in, FitOperands, line_kind, IsKeyedLine}
+use Rattle.listing_print.proofs.PrintedLaws.{value_words}
+use Rattle.listing_print.proofs.RowLaws.{keyed_has_shape, keyed_says_line}
+use Rattle.listing_laws.proofs.Runs.{Frame, bare, at, RunsInto, RunsTo}
+use Rattle.listing_laws.proofs.RunLaws.{IsLine, line_reads, line_runs, line_is, words_line, behind_spaces}
+use Rattle.listing_laws.proofs.FormWords.{words_written, text_is_in, text_is, TargetIsMarked, TargetsAreMarked, first_marked, spelled_in}
+
+-- ---- a line that begins with a keyword says something of the program
+
+-- the words of the line
+abbrev pub keyed_words : Form → Line → List Word
+keyed_words form l = plain_word (key_text (line_key l)) ∷ words_in form (line_operands l)
+
+pub not_aside : (b : Bool) (x : Aside) → (if b && false then x else Nothing) ≡ Nothing
+not_aside true x = refl
+not_aside false x = refl
+
+-- it begins neither as the first line of the second form nor as a label's line
+pub no_aside : (f : Frame) (s : State) (ws : List Word) → is_second ws ≡ false → begins_mark ws ≡ false → aside (at f s) ws ≡ Nothing
+unfolding aside
+no_aside f s ws h k = rw (h, k) (not_aside (is_two f.form) (mark_aside (at f s) ws))
+
+keyed_plain : (form : Form) (l : Line) → IsKeyedLine l → (is_second (keyed_words form l) ≡ false) × (begins_mark (keyed_words form l) ≡ false)
+unfolding key_text same
+keyed_plain form first_line k = (refl, refl)
+keyed_plain form (open_class d f) k = (refl, refl)
+keyed_plain form end_class k = (refl, refl)
+keyed_plain form (super_line d) k = (refl, refl)
+keyed_plain form (implements_line d) k = (refl, refl)
+keyed_plain form (source_line us) k = (refl, refl)
+keyed_plain form (static_line m None) k = (refl, refl)
+keyed_plain form (static_line m (Some v)) k = (refl, refl)
+keyed_plain form (instance_line m) k = (refl, refl)
+keyed_plain form (direct_line m) k = (refl, refl)
+keyed_plain form (virtual_line m) k = (refl, refl)
+keyed_plain form (open_code r i o) k = (refl, refl)
+keyed_plain form end_code k = (refl, refl)
+keyed_plain form (insn_line i) k = absurd k
+keyed_plain form (try_line f t) k = (refl, refl)
+keyed_plain form (catch_line d n) k = (refl, refl)
+keyed_plain form (catch_all_line n) k = (refl, refl)
+
+pub keyed_is : (form : Form) (l : Line) → keyed_text_in form l ≡ line_bytes (keyed_words form l) ++ 10 ∷ []
+keyed_is form l =
+    let k = key_text (line_key l) in
+    let ws = words_in form (line_operands l) in
+    ap (λ t. k ++ (t ++ 10 ∷ [])) (text_is_in form (line_operands l)) ∙ sym (append_assoc k (behind_spaces ws) (10 ∷ [])) ∙ ap (λ t. t ++ 10 ∷ []) (sym (line_is (plain_word k) ws))
+
+pub keyed_is_line : (form : Form) (l : Line) → FitOperands (line_operands l) → IsLine (line_bytes (keyed_words form l))
+keyed_is_line form l f = words_line (plain_word (key_text (line_key l))) (words_in form (line_operands l)) (shown_written (slot.Key (line_key l)) (said (line_key l)) refl) (words_written form (line_operands l) f)
+
+-- it begins neither with a space nor with `#`
+pub key_shown : (l : Line) (rest : List ℕ) → is_skipped (key_text (line_key l) ++ rest) ≡ false
+unfolding key_text
+key_shown first_line rest = refl
+key_shown (open_class d f) rest = refl
+key_shown end_class rest = refl
+key_shown (super_line d) rest = refl
+key_shown (implements_line d) rest = refl
+key_shown (source_line us) rest = refl
+key_shown (static_line m v) rest = refl
+key_shown (instance_line m) rest = refl
+key_shown (direct_line m) rest = refl
+key_shown (virtual_line m) rest = refl
+key_shown (open_code r i o) rest = refl
+key_shown end_code rest = refl
+key_shown (insn_line i) rest = refl
+key_shown (try_line f t) rest = refl
+key_shown (catch_line d k) rest = refl
+key_shown (catch_all_line k) rest = refl
+
+no_number : (l : Line) → is_insn (line_kind l) ≡ false
+no_number first_line = refl
+no_number (open_class d f) = refl
+no_number end_class = refl
+no_number (super_line d) = refl
+no_number (implements_line d) = refl
+no_number (source_line us) = refl
+no_number (static_line m None) = refl
+no_number (static_line m (Some v)) = refl
+no_number (instance_line m) = refl
+no_number (direct_line m) = refl
+no_number (virtual_line m) = refl
+no_number (open_code r i o) = refl
+no_number end_code = refl
+no_number (insn_line i) = refl
+no_number (try_line f t) = refl
+no_number (catch_line d k) = refl
+no_number (catch_all_line k) = refl
+
+keyed_shape : (form : Form) (l : Line) (k : IsKeyedLine l) → FitOperands (line_operands l) → Shapes form (keyed_words form l) (record { kind = line_kind l; label = []; slots = slots_of (line_operands l); words = words_in form (line_operands l) })
+keyed_shape One l k f = inr (keyed_has_shape One l k f)
+keyed_shape Two l k f = inr (keyed_has_shape Two l k f)
+
+may_stand_in : (form : Form) (s : State) (l : Line) (sh : Shape) → sh.kind ≡ line_kind l → may_stand s.stage (line_kind l) ≡ true → may_be form s sh ≡ true
+may_stand_in One s l sh e m = rw (e, m, no_number l) refl
+may_stand_in Two s l sh e m = rw (e, m) refl
+
+-- It is read; the labels behind it are those that the lines behind it give.
+pub keyed_taken : (f : Frame) (s t : State) (l : Line) → IsKeyedLine l → FitOperands (line_operands l) → TargetsAreMarked f.form f.labels (line_operands l) → may_stand s.stage (line_kind l) ≡ true → add (counted s) l ≡ Some t
+    → (ls : List (List ℕ)) → Takes (at f s) ls (line_bytes (keyed_words f.form l)) (record { form = f.form; labels = labels_behind f.form (line_kind l) (s.lines + 1 + 1) ls f.labels; base = t })
+keyed_taken f s t l k h g m a ls =
+    let os = line_operands l in
+    let ws = words_in f.form os in
+    let w : AllByRecursion IsWritable (keyed_words f.form l) = (shown_written (slot.Key (line_key l)) (said (line_key l)) refl, words_written f.form os h) in
+    let sh : Shape = record { kind = line_kind l; label = []; slots = slots_of os; words = ws } in
+    let p = keyed_plain f.form l k in
+    inr (
+      ap is_skipped (line_is (plain_word (key_text (line_key l))) ws) ∙ key_shown l (behind_spaces ws),
+      record {
+        words = keyed_words f.form l;
+        has_words = line_again (keyed_words f.form l) w;
+        makes = inr (inr (
+          no_aside f (counted s) (keyed_words f.form l) p.0 p.1,
+          record {
+            shape = sh;
+            has_shape = keyed_shape f.form l k h;
+            may_stand = may_stand_in f.form (counted s) l sh refl m;
+            says = data_of os;
+            spelled = spelled_in f.form f.labels os h g;
+            next = t;
+            added = rw (keyed_says_line l k) a;
+            is = refl;
+          },
+        ));
+      },
+    )
+
+-- ---- lines of a class, and those that follow the instructions of a code
+
+-- No target stands on the line, and no code begins or ends with it.
+abbrev pub IsOfClass : Line → Type 0
+IsOfClass (open_code r i o) = ⊥
+IsOfClass end_code = ⊥
+IsOfClass (insn_line i) = ⊥
+IsOfClass (try_line f t) = ⊥
+IsOfClass (catch_line d k) = ⊥
+IsOfClass (catch_all_line k) = ⊥
+IsOfClass _ = Unit {0}
+
+-- It says what a try covers, or a handler.
+abbrev pub IsOfTry : Line → Type 0
+IsOfTry (try_line f t) = Unit {0}
+IsOfTry (catch_line d k) = Unit {0}
+IsOfTry (catch_all_line k) = Unit {0}
+IsOfTry _ = ⊥
+
+class_keeps : (form : Form) (l : Line) (line : ℕ) (ls : List (List ℕ)) (es : List Label) → IsOfClass l → labels_behind form (line_kind l) line ls es ≡ es
+class_keeps One l line ls es h = refl
+class_keeps Two first_line line ls es h = refl
+class_keeps Two (open_class d f) line ls es h = refl
+class_keeps Two end_class line ls es h = refl
+class_keeps Two (super_line d) line ls es h = refl
+class_keeps Two (implements_line d) line ls es h = refl
+class_keeps Two (source_line us) line ls es h = refl
+class_keeps Two (static_line m None) line ls es h = refl
+class_keeps Two (static_line m (Some v)) line ls es h = refl
+class_keeps Two (instance_line m) line ls es h = refl
+class_keeps Two (direct_line m) line ls es h = refl
+class_keeps Two (virtual_line m) line ls es h = refl
+class_keeps Two (open_code r i o) line ls es h = absurd h
+class_keeps Two end_code line ls es h = absurd h
+class_keeps Two (insn_line i) line ls es h = absurd h
+class_keeps Two (try_line f t) line ls es h = absurd h
+class_keeps Two (catch_line d n) line ls es h = absurd h
+class_keeps Two (catch_all_line n) line ls es h = absurd h
+
+try_keeps : (form : Form) (l : Line) (line : ℕ) (ls : List (List ℕ)) (es : List Label) → IsOfTry l → labels_behind form (line_kind l) line ls es ≡ es
+try_keeps One l line ls es h = refl
+try_keeps Two (try_line f t) line ls es h = refl
+try_keeps Two (catch_line d n) line ls es h = refl
+try_keeps Two (catch_all_line n) line ls es h = refl
+try_keeps Two first_line line ls es h = absurd h
+try_keeps Two (open_class d f) line ls es h = absurd h
+try_keeps Two end_class line ls es h = absurd h
+try_keeps Two (super_line d) line ls es h = absurd h
+try_keeps Two (implements_line d) line ls es h = absurd h
+try_keeps Two (source_line us) line ls es h = absurd h
+try_keeps Two (static_line m v) line ls es h = absurd h
+try_keeps Two (instance_line m) line ls es h = absurd h
+try_keeps Two (direct_line m) line ls es h = absurd h
+try_keeps Two (virtual_line m) line ls es h = absurd h
+try_keeps Two (open_code r i o) line ls es h = absurd h
+try_keeps Two end_code line ls es h = absurd h
+try_keeps Two (insn_line i) line ls es h = absurd h
+
+pub all_then : {X : Type 0} (P : X → Type 0) (xs ys : List X) → AllByRecursion P xs → AllByRecursion P ys → AllByRecursion P (xs ++ ys)
+all_then {X} P [] ys h k = k
+all_then {X} P (x ∷ xs) ys h k = (h.0, all_then P xs ys h.1 k)
+
+-- no target stands in a value
+mutual
+  value_marked : (es : List Label) (v : Value) → TargetsAreMarked Two es (value_operands v)
+  value_marked es (content.Byte z) = (tt, (tt, tt))
+  value_marked es (content.Short z) = (tt, (tt, tt))
+  value_marked es (content.Char n) = (tt, (tt, tt))
+  value_marked es (content.Int z) = (tt, (tt, tt))
+  value_marked es (content.Long z) = (tt, (tt, tt))
+  value_marked es (content.Float n) = (tt, (tt, tt))
+  value_marked es (content.Double n) = (tt, (tt, tt))
+  value_marked es (content.Named (OfText us)) = (tt, (tt, tt))
+  value_marked es (content.Named (OfDesc d)) = (tt, (tt, tt))
+  value_marked es (content.Named (OfField f)) = (tt, (tt, tt))
+  value_marked es (content.Named (OfMethod m)) = (tt, (tt, tt))
+  value_marked es (content.Enum f) = (tt, (tt, tt))
+  value_marked es (content.Array vs) = (tt, (tt, all_then (λ (o : Operand). TargetIsMarked Two es o.slot o.says) (values_operands vs) (keyword key.Close ∷ []) (values_marked es vs) (tt, tt)))
+  value_marked es content.Null = (tt, tt)
+  value_marked es (content.Boolean b) = (tt, tt)
+
+  values_marked : (es : List Label) (vs : Values) → TargetsAreMarked Two es (values_operands vs)
+  values_marked es no_values = tt
+  values_marked es (more_values v vs) = all_then (λ (o : Operand). TargetIsMarked Two es o.slot o.says) (value_operands v) (values_operands vs) (value_marked es v) (values_marked es vs)
+
+class_marked : (form : Form) (es : List Label) (l : Line) → IsOfClass l → TargetsAreMarked form es (line_operands l)
+class_marked One es l h = first_marked es (line_operands l)
+class_marked Two es first_line h = (tt, tt)
+class_marked Two es (open_class d f) h = (tt, (tt, tt))
+class_marked Two es end_class h = (tt, tt)
+class_marked Two es (super_line d) h = (tt, tt)
+class_marked Two es (implements_line d) h = (tt, tt)
+class_marked Two es (source_line us) h = (tt, tt)
+class_marked Two es (static_line m None) h = (tt, (tt, (tt, tt)))
+class_marked Two es (static_line m (Some v)) h = (tt, (tt, (tt, (tt, value_marked es v))))
+class_marked Two es (instance_line m) h = (tt, (tt, (tt, tt)))
+class_marked Two es (direct_line m) h = (tt, (tt, (tt, tt)))
+class_marked Two es (virtual_line m) h = (tt, (tt, (tt, tt)))
+class_marked Two es (open_code r i o) h = absurd h
+class_marked Two es end_code h = absurd h
+class_marked Two es (insn_line i) h = absurd h
+class_marked Two es (try_line f t) h = absurd h
+class_marked Two es (catch_line d n) h = absurd h
+class_marked Two es (catch_all_line n) h = absurd h
+
+class_words : (form : Form) (l : Line) → IsOfClass l → words_in form (line_operands l) ≡ words_of (line_operands l)
+class_words form first_line h = refl
+class_words form (open_class d f) h = refl
+class_words form end_class h = refl
+class_words form (super_line d) h = refl
+class_words form (implements_line d) h = refl
+class_words form (source_line us) h = refl
+class_words form (static_line m None) h = refl
+class_words form (static_line m (Some v)) h = rw (value_words form v) refl
+class_words form (instance_line m) h = refl
+class_words form (direct_line m) h = refl
+class_words form (virtual_line m) h = refl
+class_words form (open_code r i o) h = absurd h
+class_words form end_code h = absurd h
+class_words form (insn_line i) h = absurd h
+class_words form (try_line f t) h = absurd h
+class_words form (catch_line d n) h = absurd h
+class_words form (catch_all_line n) h = absurd h
+
+-- the text of such a line is the same in both forms
+pub text_same : (form : Form) (l : Line) → words_in form (line_operands l) ≡ words_of (line_operands l) → keyed_text_in form l ≡ keyed_text l
+text_same form l e = ap (λ t. key_text (line_key l) ++ (t ++ 10 ∷ [])) (text_is_in form (line_operands l) ∙ ap behind_spaces e ∙ sym (text_is (line_operands l)))
+
+keyed_into : (f g : Frame) (s t : State) (l : Line) → IsKeyedLine l → FitOperands (line_operands l) → TargetsAreMarked f.form f.labels (line_operands l) → may_stand s.stage (line_kind l) ≡ true → add (counted s) l ≡ Some t
+    → g.form ≡ f.form → ((ls : List (List ℕ)) → labels_behind f.form (line_kind l) (s.lines + 1 + 1) ls f.labels ≡ g.labels) → RunsInto f s (keyed_text_in f.form l) g t
+keyed_into f g s t l k h w m a e b =
+    let q : (ls : List (List ℕ)) → Takes (at f s) ls (line_bytes (keyed_words f.form l)) (at g t) = λ ls.
+    subst (λ (r : Reading). Takes (at f s) ls (line_bytes (keyed_words f.form l)) r) (let b2 = b ls in cc) (keyed_taken f s t l k h w m a ls) in
+    subst (λ (text : List ℕ). RunsInto f s text g t) (sym (keyed_is f.form l)) (line_runs f g s t (line_bytes (keyed_words f.form l)) (keyed_is_line f.form l h) q)
+
+-- a line of a class
+pub keyed_runs : (form : Form) (s t : State) (l : Line) → IsOfClass l → IsKeyedLine l → FitOperands (line_operands l) → may_stand s.stage (line_kind l) ≡ true → add (counted s) l ≡ Some t → RunsTo (bare form) s (keyed_text l) t
+keyed_runs form s t l c k h m a =
+    subst (λ (text : List ℕ). RunsTo (bare form) s text t) (text_same form l (class_words form l c))
+    (keyed_into (bare form) (bare form) s t l k h (class_marked form [] l c) m a refl (λ ls. class_keeps form l (s.lines + 1 + 1) ls [] c))
+
+-- a line of a try
+pub try_line_runs : (f : Frame) (s t : State) (l : Line) → IsOfTry l → IsKeyedLine l → FitOperands (line_operands l) → TargetsAreMarked f.form f.labels (line_operands l) → may_stand s.stage (line_kind l) ≡ true → add (counted s) l ≡ Some t
+    → RunsTo f s (keyed_text_in f.form l) t
+try_line_runs f s t l c k h w m a = keyed_into f f s t l k h w m a refl (λ ls. try_keeps f.form l (s.lines + 1 + 1) ls f.labels c)
+
+end_marked : (form : Form) (es : List Label) → TargetsAreMarked form es (line_operands end_code)
+end_marked One es = (tt, tt)
+end_marked Two es = (tt, tt)
+
+code_marked : (form : Form) (es : List Label) (r i o : ℕ) → TargetsAreMarked form es (line_operands (open_code r i o))
+code_marked One es r i o = (tt, (tt, (tt, tt)))
+code_marked Two es r i o = (tt, (tt, (tt, tt)))
+
+end_empty : (form : Form) (es : List Label) (line : ℕ) (ls : List (List ℕ)) → (form ≡ One → es ≡ []) → labels_behind form kind.EndCode line ls es ≡ []
+end_empty One es line ls h = h refl
+end_empty Two es line ls h = refl
+
+-- the end of a code, behind which there are no labels
+pub end_line_runs : (f : Frame) (s t : State) → (f.form ≡ One → f.labels ≡ []) → may_stand s.stage kind.EndCode ≡ true → add (counted s) end_code ≡ Some t → RunsInto f s (keyed_text end_code) (bare f.form) t
+end_line_runs f s t e m a =
+    subst (λ (text : List ℕ). RunsInto f s text (bare f.form) t) (text_same f.form end_code refl)
+    (keyed_into f (bare f.form) s t end_code tt (refl, tt) (end_marked f.form f.labels) m a refl (λ ls. end_empty f.form f.labels (s.lines + 1 + 1) ls e))
+
+-- the first line of a code, behind which stand the labels that the lines behind it give
+pub code_line_reads : (f : Frame) (s t : State) (r i o : ℕ) (text rest : List ℕ) (u : Reading) → FitOperands (line_operands (open_code r i o)) → may_stand s.stage kind.OpenCode ≡ true → add (counted s) (open_code r i o) ≡ Some t
+    → labels_behind f.form kind.OpenCode (s.lines + 1 + 1) (lines (text ++ rest)) [] ≡ f.labels → Reads (at f t) (lines (text ++ rest)) [] u → Reads (at (bare f.form) s) (lines ((keyed_text (open_code r i o) ++ text) ++ rest)) [] u
+code_line_reads f s t r i o text rest u h m a e x =
+    let l = open_code r i o in
+    let b = bare f.form in
+    let k = line_bytes (keyed_words f.form l) in
+    let n : labels_behind f.form kind.OpenCode (s.lines + 1 + 1) (lines (text ++ rest) ++ []) [] ≡ f.labels = ap (λ ls. labels_behind f.form kind.OpenCode (s.lines + 1 + 1) ls []) (append-nil (lines (text ++ rest))) ∙ e in
+    let q : Takes (at b s) (lines (text ++ rest) ++ []) k (at f t) =
+    subst (λ (es : List Label). Takes (at b s) (lines (text ++ rest) ++ []) k (record { form = f.form; labels = es; base = t })) n (keyed_taken b s t l tt h (code_marked f.form [] r i o) m a (lines (text ++ rest) ++ [])) in
+    subst (λ (y : List ℕ). Reads (at b s) (lines ((y ++ text) ++ rest)) [] u) (sym (keyed_is f.form l) ∙ text_same f.form l refl) (line_reads (at b s) (at f t) k text rest u (keyed_is_line f.form l h) q x)

@@ -1,0 +1,119 @@
+-- Printed methods of a class and their codes, one behind the other.
+use Rattle.listing_lines.specs.declared.form.Form.{Form}
+use Rattle.std.proofs.Common.{◌≡◌, ℕ, ◌+◌, Bool, true, false, List, [], ◌∷◌, ◌++◌, map, Option, Some, None, refl, ap, subst, ◌∙◌}
+use Rattle.std.specs.List.{AllByRecursion, flat_map}
+use Rattle.std.specs.Ordering.{is_eq, ordering_reverse}
+use Rattle.std.specs.declared.cmp.Ordering.{Ordering}
+use Rattle.std.specs.declared.cmp.Ordering.TheVariants as ordering
+use Rattle.program_types.specs.Key.{Key, key_cmp}
+use Rattle.program_types.specs.KeyLaws.{key_cmp-total}
+use Rattle.program_rules.specs.Rules.{method_key}
+use Rattle.program_types.specs.Content.{Code, Method, Class}
+use Rattle.listing_lines.specs.Lines.{direct_line, virtual_line}
+use Rattle.listing_lines.specs.declared.stage.Stage.{Stage}
+use Rattle.listing_lines.specs.declared.stage.Stage.TheVariants.{Members, Behind}
+use Rattle.listing_lines.specs.Places.{may_stand, is_in_class}
+use Rattle.listing_draft.specs.States.{State, Open, Body, placed, counted, noted, owned, with_direct, with_virtual, with_code, with_code_at}
+use Rattle.listing_print.specs.Printed.{keyed_text}
+use Rattle.listing_print.specs.Canon.{body_text, direct_text, virtual_text}
+use Rattle.listing_laws.proofs.Runs.{bare, in_stage}
+use Rattle.listing_laws.proofs.Printable.{KeysAreSorted, AllBelow, BodyFits, MethodFits}
+use Rattle.listing_laws.proofs.KeyedLaws.{keyed_runs}
+use Rattle.listing_laws.proofs.CodeRuns.{nothing_runs}
+use Rattle.listing_laws.proofs.WholeCode.{code_runs}
+use Rattle.listing_laws.proofs.InClass.{InClass, in_then, with_last, code_skips, each_runs}
+
+-- ---- the code of the method that was read last
+
+-- the method with this code, or without
+abbrev pub coded : Method → Option Code → Method
+coded m o = record m { code = o }
+
+itself : (o : Ordering) → o ≡ ordering_reverse o → is_eq o ≡ true
+itself ordering.Less e = absurd cc
+itself ordering.Equal e = refl
+itself ordering.Greater e = absurd cc
+
+code_last : (ms : List Method) (m : Method) (c : Code) → AllBelow (map method_key ms) (method_key m) → with_code (ms ++ coded m None ∷ []) (method_key m) c ≡ ms ++ coded m (Some c) ∷ []
+code_last [] m c h = rw (itself (key_cmp (method_key m) (method_key m)) (key_cmp-total.antisymm (method_key m) (method_key m))) refl
+code_last (l ∷ ms) m c h = rw (code_skips (method_key l) (method_key m) h.0) (ap (λ t. l ∷ t) (code_last ms m c h.1))
+
+-- Where methods stand in the class, a code goes to the one with its key.
+abbrev PutsCode : (List Method → Open) → Bool → Type 0
+PutsCode with direct = (ms : List Method) (k : Key) (c : Code) → with_code_at (with ms) direct k c ≡ with (with_code ms k c)
+
+body_runs : (form : Form) (done : List Class) (with : List Method → Open) (direct : Bool) (b : Body) (n : ℕ) (before : List Method) (m : Method) (o : Option Code) → PutsCode with direct → AllBelow (map method_key before) (method_key m) → BodyFits o
+    → InClass form done (in_stage Behind done (with (before ++ coded m None ∷ [])) None (owned b direct (method_key m)) n) ((body_text form) o) (with (before ++ coded m o ∷ []))
+body_runs form done with direct b n before m None p h f =
+    let d = owned b direct (method_key m) in
+    record { stage = Behind; body = d; lines = n; runs = nothing_runs (bare form) (in_stage Behind done (with (before ++ coded m None ∷ [])) None d n); in_class = refl }
+body_runs form done with direct b n before m (Some c) p h f =
+    let d = owned b direct (method_key m) in
+    let o = with (before ++ coded m None ∷ []) in
+    let y = code_runs form done o d n c f in
+    let e : with_code_at o direct (method_key m) c ≡ with (before ++ coded m (Some c) ∷ []) = p (before ++ coded m None ∷ []) (method_key m) c ∙ ap with (code_last before m c h) in
+    subst (λ (q : Open). InClass form done (in_stage Behind done o None d n) ((body_text form) (Some c)) q) e (record { stage = Members; body = y.1; lines = y.0; runs = y.2; in_class = refl })
+
+-- ---- direct methods
+
+abbrev with_directs : Open → List Method → Open
+with_directs o ms = record o { directs = ms }
+
+direct_goes_last : (s : State) (m : Method) → AllBelow (map method_key s.current.directs) (method_key m)
+    → placed s (direct_line m) ≡ Some (record s { stage = Behind; current = record s.current { directs = s.current.directs ++ m ∷ [] }; body = owned s.body true (method_key m) })
+unfolding placed with_direct
+direct_goes_last s m h = rw (with_last method_key m s.current.directs h) refl
+
+direct_line_runs : (form : Form) (done : List Class) (o : Open) (st : Stage) (b : Body) (n : ℕ) (before : List Method) (m : Method) → is_in_class st ≡ true → MethodFits m → AllBelow (map method_key before) (method_key m)
+    → InClass form done (in_stage st done (with_directs o before) None b n) (keyed_text (direct_line m)) (with_directs o (before ++ coded m None ∷ []))
+unfolding may_stand
+direct_line_runs form done o st b n before m k f h =
+    let s = in_stage st done (with_directs o before) None b n in
+    let d = owned b true (method_key m) in
+    let t = in_stage Behind done (with_directs o (before ++ coded m None ∷ [])) None d (n + 1) in
+    let l = direct_line (coded m None) in
+    record { stage = Behind; body = d; lines = n + 1; runs = keyed_runs form s t l tt refl f.0 k (direct_goes_last (noted (counted s) l) (coded m None) h); in_class = refl }
+
+direct_step : (form : Form) (done : List Class) (o : Open) (st : Stage) (b : Body) (n : ℕ) (before : List Method) (m : Method) → is_in_class st ≡ true → MethodFits m → AllBelow (map method_key before) (method_key m)
+    → InClass form done (in_stage st done (with_directs o before) None b n) ((direct_text form) m) (with_directs o (before ++ m ∷ []))
+unfolding direct_line_runs
+direct_step form done o st b n before m k f h =
+    in_then form done (in_stage st done (with_directs o before) None b n) (keyed_text (direct_line m)) ((body_text form) m.code) (with_directs o (before ++ coded m None ∷ [])) (with_directs o (before ++ m ∷ []))
+    (direct_line_runs form done o st b n before m k f h)
+    (body_runs form done (with_directs o) true b (n + 1) before m m.code (λ ms k c. refl) h f.1)
+
+pub directs_run : (form : Form) (done : List Class) (o : Open) (ms : List Method) (st : Stage) (b : Body) (n : ℕ) → is_in_class st ≡ true → AllByRecursion MethodFits ms → KeysAreSorted (map method_key ms)
+    → InClass form done (in_stage st done (with_directs o []) None b n) (flat_map (direct_text form) ms) (with_directs o ms)
+directs_run form done o ms st b n k f s = each_runs form done (direct_text form) (with_directs o) MethodFits method_key (direct_step form done o) ms [] st b n k f s
+
+-- ---- virtual methods
+
+abbrev with_virtuals : Open → List Method → Open
+with_virtuals o ms = record o { virtuals = ms }
+
+virtual_goes_last : (s : State) (m : Method) → AllBelow (map method_key s.current.virtuals) (method_key m)
+    → placed s (virtual_line m) ≡ Some (record s { stage = Behind; current = record s.current { virtuals = s.current.virtuals ++ m ∷ [] }; body = owned s.body false (method_key m) })
+unfolding placed with_virtual
+virtual_goes_last s m h = rw (with_last method_key m s.current.virtuals h) refl
+
+virtual_line_runs : (form : Form) (done : List Class) (o : Open) (st : Stage) (b : Body) (n : ℕ) (before : List Method) (m : Method) → is_in_class st ≡ true → MethodFits m → AllBelow (map method_key before) (method_key m)
+    → InClass form done (in_stage st done (with_virtuals o before) None b n) (keyed_text (virtual_line m)) (with_virtuals o (before ++ coded m None ∷ []))
+unfolding may_stand
+virtual_line_runs form done o st b n before m k f h =
+    let s = in_stage st done (with_virtuals o before) None b n in
+    let d = owned b false (method_key m) in
+    let t = in_stage Behind done (with_virtuals o (before ++ coded m None ∷ [])) None d (n + 1) in
+    let l = virtual_line (coded m None) in
+    record { stage = Behind; body = d; lines = n + 1; runs = keyed_runs form s t l tt refl f.0 k (virtual_goes_last (noted (counted s) l) (coded m None) h); in_class = refl }
+
+virtual_step : (form : Form) (done : List Class) (o : Open) (st : Stage) (b : Body) (n : ℕ) (before : List Method) (m : Method) → is_in_class st ≡ true → MethodFits m → AllBelow (map method_key before) (method_key m)
+    → InClass form done (in_stage st done (with_virtuals o before) None b n) ((virtual_text form) m) (with_virtuals o (before ++ m ∷ []))
+unfolding virtual_line_runs
+virtual_step form done o st b n before m k f h =
+    in_then form done (in_stage st done (with_virtuals o before) None b n) (keyed_text (virtual_line m)) ((body_text form) m.code) (with_virtuals o (before ++ coded m None ∷ [])) (with_virtuals o (before ++ m ∷ []))
+    (virtual_line_runs form done o st b n before m k f h)
+    (body_runs form done (with_virtuals o) false b (n + 1) before m m.code (λ ms k c. refl) h f.1)
+
+pub virtuals_run : (form : Form) (done : List Class) (o : Open) (ms : List Method) (st : Stage) (b : Body) (n : ℕ) → is_in_class st ≡ true → AllByRecursion MethodFits ms → KeysAreSorted (map method_key ms)
+    → InClass form done (in_stage st done (with_virtuals o []) None b n) (flat_map (virtual_text form) ms) (with_virtuals o ms)
+virtuals_run form done o ms st b n k f s = each_runs form done (virtual_text form) (with_virtuals o) MethodFits method_key (virtual_step form done o) ms [] st b n k f s

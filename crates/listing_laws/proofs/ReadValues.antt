@@ -1,0 +1,293 @@
+-- What is read as a value is spelled as it.
+use Rattle.std.proofs.Common.{◌≡◌, ℕ, zero, suc, ◌+◌, ◌<◌, ◌≤◌, Bool, true, false, if◌then◌else◌, inl, inr, ◌⊎◌, List, [], ◌∷◌, ◌++◌, length, drop, Option, Some, None, refl, sym, ap, subst, ◌∙◌, append_assoc, add-one, arith, length-append}
+use Rattle.std.proofs.lemmas.List.{append-nil}
+use Rattle.std.specs.List.{AllByRecursion}
+use Rattle.program_types.specs.Content as content
+use Rattle.program_types.specs.Content.{OfText, OfDesc, OfField, OfMethod, Value, Values, no_values, more_values}
+use Rattle.listing_words.specs.Words.{Word, plain_word, text_in_quotes}
+use Rattle.listing_slots.specs.declared.key.Key.{Key}
+use Rattle.listing_slots.specs.declared.key.Key.TheVariants as key
+use Rattle.listing_slots.specs.declared.slot.Mark.TheVariants.{Nothing}
+use Rattle.listing_slots.specs.declared.slot.Slot.{Slot}
+use Rattle.listing_slots.specs.declared.slot.Slot.TheVariants as slot
+use Rattle.listing_slots.specs.Data.{Datum, said}
+use Rattle.listing_slots.specs.Keys.{key_text, same, find_key, value_keys}
+use Rattle.listing_slots.specs.Slots.{SpellsSlot, has_form}
+use Rattle.listing_shapes.specs.declared.due.Due.TheVariants as due
+use Rattle.listing_shapes.specs.Shapes.{slot_at, due_behind_word, due_after, due_behind, due_behind_close, due_behind_key, key_slot}
+use Rattle.listing_shapes.proofs.ShapeLaws.{same_eq, chosen}
+use Rattle.listing_lines.specs.Lines.{value_of}
+use Rattle.listing_print.specs.Operands.{value_operands, values_operands}
+use Rattle.listing_print.specs.Operands as print
+use Rattle.listing_print.specs.Reading.{data_of}
+use Rattle.listing_print.proofs.MadeLaws.{data_join, value_made}
+use Rattle.listing_laws.specs.Values.{keyword, SaysValue, SayValues, IsReadAsValue}
+use Rattle.listing_laws.proofs.WordRuns.{Runs, run_of}
+
+-- A value stands at the front, in so many arrays.
+record Front (n : ℕ) (ws : List Word) (ds : List Datum) : Type 0 where
+  pub value : Value
+  pub front : List Word
+  pub back : List Word
+  pub left : List Datum
+  pub some : 0 < length front
+  pub words : ws ≡ front ++ back
+  pub data_are : ds ≡ data_of (value_operands value) ++ left
+  pub says : SaysValue front value
+  pub run : Runs (due_after n) back left
+
+-- `}` does.
+record Closes (n : ℕ) (ws : List Word) (ds : List Datum) : Type 0 where
+  pub outside : ℕ
+  pub back : List Word
+  pub left : List Datum
+  pub is : n ≡ suc outside
+  pub words : ws ≡ keyword key.Close ∷ back
+  pub data_are : ds ≡ said key.Close ∷ left
+  pub run : Runs (due_after outside) back left
+
+-- The values of an array do, up to its `}`.
+record Inner (n : ℕ) (ws : List Word) (ds : List Datum) : Type 0 where
+  pub values : Values
+  pub inner : List Word
+  pub back : List Word
+  pub left : List Datum
+  pub words : ws ≡ inner ++ (keyword key.Close ∷ back)
+  pub data_are : ds ≡ data_of (values_operands values) ++ (said key.Close ∷ left)
+  pub says : SayValues inner values
+  pub run : Runs (due_after n) back left
+
+-- ---- words that end nothing
+
+refused_never : (ws : List Word) (ds : List Datum) → Runs due.Refused ws ds → ⊥
+unfolding due_behind_word
+refused_never [] [] r = cc
+refused_never [] (x ∷ ds) r = r
+refused_never (w ∷ ws) [] r = r
+refused_never (w ∷ ws) (x ∷ ds) r = refused_never ws ds r.2
+
+nothing_more : (ws : List Word) (ds : List Datum) → Runs due.Nothing ws ds → (ws ≡ []) × (ds ≡ [])
+unfolding due_behind_word
+nothing_more [] [] r = (refl, refl)
+nothing_more [] (x ∷ ds) r = absurd r
+nothing_more (w ∷ ws) [] r = absurd r
+nothing_more (w ∷ ws) (x ∷ ds) r = absurd (refused_never ws ds r.2)
+
+-- ---- keywords
+
+-- what holds of each keyword of a list holds of the one that the text is
+among : (P : Key → Type 0) (ks : List Key) (text : List ℕ) (k : Key) → Some k ≡ find_key ks text → AllByRecursion P ks → (key_text k ≡ text) × P k
+unfolding find_key
+among P [] text k e all = absurd cc
+among P (j ∷ ks) text k e all = elim (chosen (same (key_text j) text) j (find_key ks text) k e) [
+  | inl f ↦ (subst (λ (i : Key). key_text i ≡ text) (sym f.1) (same_eq (key_text j) text f.0), subst P (sym f.1) all.0)
+  | inr f ↦ among P ks text k f.1 all.1
+]
+
+-- a word of a keyword's form is the keyword
+pub key_is : (k : Key) (w : Word) → has_form (slot.Key k) w ≡ true → w ≡ keyword k
+key_is k (plain_word t) e = ap plain_word (sym (same_eq (key_text k) t e))
+key_is k (text_in_quotes us) e = absurd cc
+
+-- The word behind a keyword, and what follows it.
+record Operand (s : Slot) (n : ℕ) (ws : List Word) (ds : List Datum) : Type 0 where
+  pub word : Word
+  pub says : Datum
+  pub back : List Word
+  pub left : List Datum
+  pub words : ws ≡ word ∷ back
+  pub data_are : ds ≡ says ∷ left
+  pub form : has_form s word ≡ true
+  pub spelled : SpellsSlot s word says
+  pub run : Runs (due_after n) back left
+
+operand_of : (s : Slot) (n : ℕ) (ws : List Word) (ds : List Datum) → Runs (due.Word s n) ws ds → Operand s n ws ds
+unfolding slot_at due_behind_word
+operand_of s n [] [] r = absurd cc
+operand_of s n [] (x ∷ ds) r = absurd r
+operand_of s n (w ∷ ws) [] r = absurd r
+operand_of s n (w ∷ ws) (x ∷ ds) r = record { word = w; says = x; back = ws; left = ds; words = refl; data_are = refl; form = r.0; spelled = r.1; run = r.2 }
+
+-- a keyword and its operand
+before_front : (k : Key) (s : Slot) (n : ℕ) (ws : List Word) (ds : List Datum) (o : Operand s n ws ds) (v : Value) → said k ∷ o.says ∷ [] ≡ data_of (value_operands v) → SaysValue (keyword k ∷ o.word ∷ []) v → Front n (keyword k ∷ ws) (said k ∷ ds)
+before_front k s n ws ds o v e h = record {
+  value = v;
+  front = keyword k ∷ o.word ∷ [];
+  back = o.back;
+  left = o.left;
+  some = omega arith;
+  words = ap (λ us. keyword k ∷ us) o.words;
+  data_are = ap (λ xs. said k ∷ xs) o.data_are ∙ ap (λ xs. xs ++ o.left) e;
+  says = h;
+  run = o.run;
+}
+
+-- a keyword alone
+alone_front : (k : Key) (n : ℕ) (ws : List Word) (ds : List Datum) (v : Value) → said k ∷ [] ≡ data_of (value_operands v) → SaysValue (keyword k ∷ []) v → Runs (due_after n) ws ds → Front n (keyword k ∷ ws) (said k ∷ ds)
+alone_front k n ws ds v e h r = record {
+  value = v;
+  front = keyword k ∷ [];
+  back = ws;
+  left = ds;
+  some = omega arith;
+  words = refl;
+  data_are = ap (λ xs. xs ++ ds) e;
+  says = h;
+  run = r;
+}
+
+-- what stands behind a keyword is a value's
+abbrev Step : ℕ → List Word → List Datum → Key → Type 0
+Step n ws ds k = Runs (due_behind n k) ws ds → Front n (keyword k ∷ ws) (said k ∷ ds)
+
+byte_step : (n : ℕ) (ws : List Word) (ds : List Datum) → Step n ws ds key.Byte
+byte_step n ws ds r = let o = operand_of slot.Tiny n ws ds r in let h = o.spelled in before_front key.Byte slot.Tiny n ws ds o (content.Byte h.0) (ap (λ x. said key.Byte ∷ x ∷ []) h.2) (o.word, refl, h.1)
+
+short_step : (n : ℕ) (ws : List Word) (ds : List Datum) → Step n ws ds key.Short
+short_step n ws ds r = let o = operand_of slot.Short n ws ds r in let h = o.spelled in before_front key.Short slot.Short n ws ds o (content.Short h.0) (ap (λ x. said key.Short ∷ x ∷ []) h.2) (o.word, refl, h.1)
+
+char_step : (n : ℕ) (ws : List Word) (ds : List Datum) → Step n ws ds key.Char
+char_step n ws ds r = let o = operand_of (slot.Half Nothing 65535) n ws ds r in let h = o.spelled in before_front key.Char (slot.Half Nothing 65535) n ws ds o (content.Char h.0) (ap (λ x. said key.Char ∷ x ∷ []) h.2) (o.word, refl, h.1)
+
+int_step : (n : ℕ) (ws : List Word) (ds : List Datum) → Step n ws ds key.Int
+int_step n ws ds r = let o = operand_of slot.Int n ws ds r in let h = o.spelled in before_front key.Int slot.Int n ws ds o (content.Int h.0) (ap (λ x. said key.Int ∷ x ∷ []) h.2) (o.word, refl, h.1)
+
+long_step : (n : ℕ) (ws : List Word) (ds : List Datum) → Step n ws ds key.Long
+long_step n ws ds r = let o = operand_of slot.Long n ws ds r in let h = o.spelled in before_front key.Long slot.Long n ws ds o (content.Long h.0) (ap (λ x. said key.Long ∷ x ∷ []) h.2) (o.word, refl, h.1)
+
+float_step : (n : ℕ) (ws : List Word) (ds : List Datum) → Step n ws ds key.Float
+float_step n ws ds r = let o = operand_of slot.Float n ws ds r in let h = o.spelled in before_front key.Float slot.Float n ws ds o (content.Float h.0) (ap (λ x. said key.Float ∷ x ∷ []) h.2) (o.word, refl, h.1)
+
+double_step : (n : ℕ) (ws : List Word) (ds : List Datum) → Step n ws ds key.Double
+double_step n ws ds r = let o = operand_of slot.Double n ws ds r in let h = o.spelled in before_front key.Double slot.Double n ws ds o (content.Double h.0) (ap (λ x. said key.Double ∷ x ∷ []) h.2) (o.word, refl, h.1)
+
+text_step : (n : ℕ) (ws : List Word) (ds : List Datum) → Step n ws ds key.Text
+text_step n ws ds r = let o = operand_of slot.Text n ws ds r in let h = o.spelled in before_front key.Text slot.Text n ws ds o (content.Named (OfText h.0)) (ap (λ x. said key.Text ∷ x ∷ []) h.2) (o.word, refl, h.1)
+
+type_step : (n : ℕ) (ws : List Word) (ds : List Datum) → Step n ws ds key.Desc
+type_step n ws ds r = let o = operand_of slot.Desc n ws ds r in let h = o.spelled in before_front key.Desc slot.Desc n ws ds o (content.Named (OfDesc h.0)) (ap (λ x. said key.Desc ∷ x ∷ []) h.2) (o.word, refl, h.1)
+
+field_step : (n : ℕ) (ws : List Word) (ds : List Datum) → Step n ws ds key.Field
+field_step n ws ds r = let o = operand_of slot.Field n ws ds r in let h = o.spelled in before_front key.Field slot.Field n ws ds o (content.Named (OfField h.0)) (ap (λ x. said key.Field ∷ x ∷ []) h.2) (o.word, refl, h.1)
+
+method_step : (n : ℕ) (ws : List Word) (ds : List Datum) → Step n ws ds key.Method
+method_step n ws ds r = let o = operand_of slot.Method n ws ds r in let h = o.spelled in before_front key.Method slot.Method n ws ds o (content.Named (OfMethod h.0)) (ap (λ x. said key.Method ∷ x ∷ []) h.2) (o.word, refl, h.1)
+
+enum_step : (n : ℕ) (ws : List Word) (ds : List Datum) → Step n ws ds key.Enum
+enum_step n ws ds r = let o = operand_of slot.Enum n ws ds r in let h = o.spelled in before_front key.Enum slot.Enum n ws ds o (content.Enum h.0) (ap (λ x. said key.Enum ∷ x ∷ []) h.2) (o.word, refl, h.1)
+
+-- the same of `array`, where the values of shorter lists of words are known
+array_step : (n : ℕ) (ws : List Word) (ds : List Datum) → ((us : List Word) (xs : List Datum) → length us < length ws → Runs (due.Value (suc n)) us xs → Inner n us xs) → Step n ws ds key.Array
+array_step n ws ds shorter r =
+    let o = operand_of (slot.Key key.Open) (n + 1) ws ds r in
+    let run : Runs (due.Value (suc n)) o.back o.left = subst (λ (m : ℕ). Runs (due_after m) o.back o.left) (add-one n) o.run in
+    let less : length o.back < length ws = subst (λ (us : List Word). length o.back < length us) (sym o.words) (omega arith) in
+    let i = shorter o.back o.left less run in
+    let close = keyword key.Close ∷ [] in
+    let words : ws ≡ keyword key.Open ∷ ((i.inner ++ close) ++ i.back) =
+    o.words ∙ ap (λ w. w ∷ o.back) (key_is key.Open o.word o.form) ∙ ap (λ us. keyword key.Open ∷ us) (i.words ∙ sym (append_assoc i.inner close i.back)) in
+    let others = data_of (values_operands i.values) in
+    let joined : others ++ (said key.Close ∷ i.left) ≡ data_of (values_operands i.values ++ (print.keyword key.Close ∷ [])) ++ i.left =
+    sym (append_assoc others (said key.Close ∷ []) i.left) ∙ ap (λ xs. xs ++ i.left) (sym (data_join (values_operands i.values) (print.keyword key.Close ∷ []))) in
+    let says : ds ≡ said key.Open ∷ (data_of (values_operands i.values ++ (print.keyword key.Close ∷ [])) ++ i.left) =
+    o.data_are ∙ ap (λ x. x ∷ o.left) o.spelled ∙ ap (λ xs. said key.Open ∷ xs) (i.data_are ∙ joined) in
+    record {
+      value = content.Array i.values;
+      front = keyword key.Array ∷ keyword key.Open ∷ (i.inner ++ close);
+      back = i.back;
+      left = i.left;
+      some = omega arith;
+      words = ap (λ us. keyword key.Array ∷ us) words;
+      data_are = ap (λ xs. said key.Array ∷ xs) says;
+      says = (i.inner, refl, i.says);
+      run = i.run;
+    }
+
+-- ---- values
+
+close_front : (n : ℕ) (ws : List Word) (ds : List Datum) → Runs (due_behind_close n) ws ds → Closes n (keyword key.Close ∷ ws) (said key.Close ∷ ds)
+close_front zero ws ds r = absurd (refused_never ws ds r)
+close_front (suc n) ws ds r = record { outside = n; back = ws; left = ds; is = refl; words = refl; data_are = refl; run = r }
+
+-- by the word at the front
+plain_front : (n : ℕ) (text : List ℕ) (x : Datum) (ws : List Word) (ds : List Datum) (all : AllByRecursion (Step n ws ds) value_keys) (b : Bool) (o : Option Key) → same (key_text key.Close) text ≡ b → o ≡ find_key value_keys text
+    → SpellsSlot (if b then slot.Key key.Close else key_slot o) (plain_word text) x → Runs (if b then due_behind_close n else due_behind_key n o) ws ds → Front n (plain_word text ∷ ws) (x ∷ ds) ⊎ Closes n (plain_word text ∷ ws) (x ∷ ds)
+plain_front n text x ws ds all true o e f h r =
+    let c = close_front n ws ds r in
+    inr (subst (λ (t : List ℕ). Closes n (plain_word t ∷ ws) (x ∷ ds)) (same_eq (key_text key.Close) text e) (subst (λ (y : Datum). Closes n (keyword key.Close ∷ ws) (y ∷ ds)) (sym h) c))
+plain_front n text x ws ds all false None e f h r = absurd (refused_never ws ds r)
+plain_front n text x ws ds all false (Some k) e f h r =
+    let step = among (Step n ws ds) value_keys text k f all in
+    inl (subst (λ (t : List ℕ). Front n (plain_word t ∷ ws) (x ∷ ds)) step.0 (subst (λ (y : Datum). Front n (keyword k ∷ ws) (y ∷ ds)) (sym h) (step.1 r)))
+
+-- a value more in front of others
+more_inner : (n : ℕ) (ws : List Word) (ds : List Datum) (f : Front (suc n) ws ds) → Inner n f.back f.left → Inner n ws ds
+more_inner n ws ds f i =
+    let first = data_of (value_operands f.value) in
+    let others = data_of (values_operands i.values) in
+    let rest = said key.Close ∷ i.left in
+    record {
+      values = more_values f.value i.values;
+      inner = f.front ++ i.inner;
+      back = i.back;
+      left = i.left;
+      words = f.words ∙ ap (λ us. f.front ++ us) i.words ∙ sym (append_assoc f.front i.inner (keyword key.Close ∷ i.back));
+      data_are = f.data_are ∙ ap (λ xs. first ++ xs) i.data_are ∙ sym (append_assoc first others rest) ∙ ap (λ xs. xs ++ rest) (sym (data_join (value_operands f.value) (values_operands i.values)));
+      says = (f.front, i.inner, refl, f.says, i.says);
+      run = i.run;
+    }
+
+-- no value more
+ended_inner : (n : ℕ) (ws : List Word) (ds : List Datum) → Closes (suc n) ws ds → Inner n ws ds
+ended_inner n ws ds c = let e : c.outside ≡ n = omega (arith, c.is) in record {
+  values = no_values;
+  inner = [];
+  back = c.back;
+  left = c.left;
+  words = c.words;
+  data_are = c.data_are;
+  says = refl;
+  run = subst (λ (m : ℕ). Runs (due_after m) c.back c.left) e c.run;
+}
+
+shorter_back : (n fuel : ℕ) (ws : List Word) (ds : List Datum) (f : Front (suc n) ws ds) → length ws < suc fuel → length f.back < fuel
+shorter_back n fuel ws ds f l =
+    let e : length ws ≡ length f.front + length f.back = ap length f.words ∙ length-append f.front f.back in
+    let some = f.some in
+    omega (arith, e, some, l)
+
+mutual
+  unfolding slot_at due_behind_word
+
+  front : (fuel n : ℕ) (ws : List Word) (ds : List Datum) → length ws ≤ fuel → Runs (due.Value n) ws ds → Front n ws ds ⊎ Closes n ws ds
+  front fuel n [] [] l r = absurd cc
+  front fuel n [] (x ∷ ds) l r = absurd r
+  front fuel n (w ∷ ws) [] l r = absurd r
+  front zero n (w ∷ ws) (x ∷ ds) l r = absurd (omega (arith, l))
+  front (suc fuel) n (text_in_quotes us ∷ ws) (x ∷ ds) l r = absurd (refused_never ws ds r.2)
+  front (suc fuel) n (plain_word text ∷ ws) (x ∷ ds) l r =
+      let array = array_step n ws ds (λ us xs short s. inner fuel n us xs (omega (arith, l, short)) s) in
+      let P = Step n ws ds in
+      let alone : AllByRecursion P (drop 13 value_keys) = (alone_front key.Null n ws ds content.Null refl refl, (alone_front key.True n ws ds (content.Boolean true) refl refl, (alone_front key.False n ws ds (content.Boolean false) refl refl, tt))) in
+      let named : AllByRecursion P (drop 7 value_keys) = (text_step n ws ds, (type_step n ws ds, (field_step n ws ds, (method_step n ws ds, (enum_step n ws ds, (array, alone)))))) in
+      let all : AllByRecursion P value_keys = (byte_step n ws ds, (short_step n ws ds, (char_step n ws ds, (int_step n ws ds, (long_step n ws ds, (float_step n ws ds, (double_step n ws ds, named))))))) in
+      plain_front n text x ws ds all (same (key_text key.Close) text) (find_key value_keys text) refl refl r.1 r.2
+
+  inner : (fuel n : ℕ) (ws : List Word) (ds : List Datum) → length ws < fuel → Runs (due.Value (suc n)) ws ds → Inner n ws ds
+  inner zero n ws ds l r = absurd (omega (arith, l))
+  inner (suc fuel) n ws ds l r = elim (front fuel (suc n) ws ds (omega (arith, l)) r) [
+    | inl f ↦ more_inner n ws ds f (inner fuel n f.back f.left (shorter_back n fuel ws ds f l) f.run)
+    | inr c ↦ ended_inner n ws ds c
+  ]
+
+pub read_is_spelled : (ws : List Word) (v : Value) → IsReadAsValue ws v → SaysValue ws v
+read_is_spelled ws v h = elim (front (length ws) 0 ws h.says (omega arith) (run_of (due.Value 0) ws h.slots h.says h.has_slots h.forms h.spelled)) [
+  | inl f ↦
+      let end = nothing_more f.back f.left f.run in
+      let words : f.front ≡ ws = sym (f.words ∙ ap (λ us. f.front ++ us) end.0 ∙ append-nil f.front) in
+      let first = data_of (value_operands f.value) in
+      let data_are : first ≡ h.says = sym (f.data_are ∙ ap (λ xs. first ++ xs) end.1 ∙ append-nil first) in
+      let made : f.value ≡ v = sym (value_made f.value) ∙ ap value_of data_are ∙ h.made in
+      subst (λ (u : Value). SaysValue ws u) made (subst (λ (us : List Word). SaysValue us f.value) words f.says)
+  | inr c ↦ absurd (omega (arith, c.is))
+]

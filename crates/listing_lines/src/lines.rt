@@ -1,0 +1,140 @@
+//! Lines made of what their slots say.
+
+ghost use Rattle.std.specs.Prelude.{◌≡◌, ◌++◌, map, drop, false, IfOk, IsOkUnless};
+ghost use Rattle.base_bytes.specs.Fault.{memory};
+ghost use Rattle.dex_insn.specs.Opcodes.{format_of};
+ghost use Rattle.program_types.specs.View.{insn};
+ghost use Rattle.listing_slots.specs.View.{datum};
+ghost use Rattle.listing_slots.specs.Data.{int_of, word_of};
+ghost use Rattle.listing_lines.specs.Lines.{line_of, takes_memory, insn_of, alternate};
+ghost use Rattle.listing_lines.specs.LineView.{line};
+
+use crate::line::Line;
+use crate::make::{make_member, make_method, plain_insn};
+use crate::making::make_value;
+use bumpalo::Bump;
+use bumpalo::collections::into_bump_slice;
+use dex_base::Fault;
+use dex_insn::format_of;
+use listing_slots::{
+    Datum, Kind, datum_at, elements_of, half_of, int_of, text_of, type_of, word_of,
+};
+use program_types::Insn;
+
+/// The words behind so many.
+fn behind<'b, 'a>(said: &'b [Datum<'a>], n: usize) -> &'b [Datum<'a>]
+    ensures { map datum result.now ≡ drop n (map datum said.now) }
+{
+    let (_, rest) = said.split_at(n.min(said.len()));
+    rest
+}
+
+/// The instruction of this opcode.
+fn make_insn<'a>(op: u8, said: &[Datum<'a>]) -> Insn<'a>
+    ensures { insn result ≡ insn_of (format_of op) op (map datum said.now) }
+{
+    match format_of(op) {
+        Some(format) => plain_insn(format, op, said),
+        None => Insn::I10x { op },
+    }
+}
+
+/// The numbers that all words say.
+fn words_of<'a>(alloc: &'a Bump, said: &[Datum<'_>]) -> Result<&'a [u32], Fault>
+    ensures ok { IfOk result (λ ns. ns.now ≡ map word_of (map datum said.now)) }
+    ensures memory { IsOkUnless result memory }
+{
+    let mut numbers = Vec::new(alloc);
+    for i in 0..said.len() {
+        numbers.push(word_of(said[i]))?;
+    }
+    Ok(into_bump_slice(numbers))
+}
+
+/// The numbers that every other word says.
+fn ints_between<'a>(alloc: &'a Bump, said: &[Datum<'_>]) -> Result<&'a [i32], Fault>
+    ensures ok { IfOk result (λ ns. ns.now ≡ map int_of (alternate (map datum said.now))) }
+    ensures memory { IsOkUnless result memory }
+{
+    let mut numbers = Vec::new(alloc);
+    let mut is_due = true;
+    for i in 0..said.len() {
+        if is_due {
+            numbers.push(int_of(said[i]))?;
+        }
+        is_due = !is_due;
+    }
+    Ok(into_bump_slice(numbers))
+}
+
+/// The numbers that every other word says.
+fn words_between<'a>(alloc: &'a Bump, said: &[Datum<'_>]) -> Result<&'a [u32], Fault>
+    ensures ok { IfOk result (λ ns. ns.now ≡ map word_of (alternate (map datum said.now))) }
+    ensures memory { IsOkUnless result memory }
+{
+    let mut numbers = Vec::new(alloc);
+    let mut is_due = true;
+    for i in 0..said.len() {
+        if is_due {
+            numbers.push(word_of(said[i]))?;
+        }
+        is_due = !is_due;
+    }
+    Ok(into_bump_slice(numbers))
+}
+
+/// The line of a kind that takes no memory.
+#[rattlefmt::skip]
+#[tactic(auto, unfolding(crate::specs::Lines::line_of, crate::specs::Lines::takes_memory))]
+fn flat_line<'a>(kind: Kind, said: &[Datum<'a>]) -> Line<'a>
+    requires { takes_memory kind ≡ false }
+    ensures { line result ≡ line_of kind (map datum said.now) }
+{
+    let first = datum_at(said, 0);
+    let second = datum_at(said, 1);
+    match kind {
+        Kind::First => Line::First,
+        Kind::OpenClass => Line::OpenClass(type_of(first), word_of(second)),
+        Kind::EndClass => Line::EndClass,
+        Kind::Super => Line::Super(type_of(first)),
+        Kind::Implements => Line::Implements(type_of(first)),
+        Kind::Source => Line::Source(text_of(first)),
+        Kind::Static => Line::Static(make_member(said), None),
+        Kind::Instance => Line::Instance(make_member(said)),
+        Kind::Direct => Line::Direct(make_method(said)),
+        Kind::Virtual => Line::Virtual(make_method(said)),
+        Kind::OpenCode => Line::OpenCode(half_of(first), half_of(second), half_of(datum_at(said, 2))),
+        Kind::EndCode => Line::EndCode,
+        Kind::Plain(op) => Line::Insn(make_insn(op, said)),
+        Kind::Elements => Line::Insn(Insn::Data { width: half_of(first), bytes: elements_of(second) }),
+        Kind::Try => Line::Try(word_of(first), word_of(second)),
+        Kind::Catch => Line::Catch(type_of(first), word_of(second)),
+        Kind::CatchAll => Line::CatchAll(word_of(first)),
+        Kind::Given | Kind::Packed | Kind::Sparse => unreachable!(),
+    }
+}
+
+/// The line of this kind whose slots say this.
+#[tactic(auto, unfolding(crate::specs::Lines::line_of, crate::specs::Lines::takes_memory))]
+pub fn make_line<'a>(bump: &'a Bump, kind: Kind, said: &[Datum<'a>]) -> Result<Line<'a>, Fault>
+    ensures ok { IfOk result (λ l. line l ≡ line_of kind (map datum said.now)) }
+    ensures memory { IsOkUnless result memory }
+{
+    match kind {
+        Kind::Given => {
+            let initial = make_value(bump, behind(said, 4))?;
+            Ok(Line::Static(make_member(said), Some(initial)))
+        }
+        Kind::Packed => {
+            let first = int_of(datum_at(said, 0));
+            let targets = words_of(bump, behind(said, 1))?;
+            Ok(Line::Insn(Insn::Packed { first, targets }))
+        }
+        Kind::Sparse => {
+            let keys = ints_between(bump, said)?;
+            let targets = words_between(bump, behind(said, 1))?;
+            Ok(Line::Insn(Insn::Sparse { keys, targets }))
+        }
+        _ => Ok(flat_line(kind, said)),
+    }
+}

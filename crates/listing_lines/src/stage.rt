@@ -1,0 +1,135 @@
+//! Where a line stands.
+
+ghost use Rattle.std.specs.Prelude.{◌≡◌};
+ghost use Rattle.listing_lines.specs.Places.{may_stand, is_insn, is_start, is_top, is_heads, is_in_class, is_behind, is_insns, is_in_code, is_caught};
+
+use listing_slots::Kind;
+
+/// What may follow.
+#[derive(Clone, Copy)]
+pub enum Stage {
+    /// Nothing was read.
+    Start,
+    /// Outside of classes.
+    Top,
+    /// Before the members of a class.
+    Heads,
+    /// Among its members.
+    Members,
+    /// Behind a method.
+    Behind,
+    /// Among instructions.
+    Insns,
+    /// Among tries, behind a whole one.
+    Tries,
+    /// Behind a try, or a catch of it.
+    Caught,
+}
+
+/// Whether nothing was read.
+pub fn is_start(stage: Stage) -> bool
+    ensures { result ≡ is_start stage }
+{
+    match stage {
+        Stage::Start => true,
+        _ => false,
+    }
+}
+
+/// Whether outside of classes.
+pub fn is_top(stage: Stage) -> bool
+    ensures { result ≡ is_top stage }
+{
+    match stage {
+        Stage::Top => true,
+        _ => false,
+    }
+}
+
+/// Whether before the members of a class.
+pub fn is_heads(stage: Stage) -> bool
+    ensures { result ≡ is_heads stage }
+{
+    match stage {
+        Stage::Heads => true,
+        _ => false,
+    }
+}
+
+/// Whether in a class, outside of code.
+pub fn is_in_class(stage: Stage) -> bool
+    ensures { result ≡ is_in_class stage }
+{
+    match stage {
+        Stage::Heads | Stage::Members | Stage::Behind => true,
+        _ => false,
+    }
+}
+
+/// Whether behind a method.
+pub fn is_behind(stage: Stage) -> bool
+    ensures { result ≡ is_behind stage }
+{
+    match stage {
+        Stage::Behind => true,
+        _ => false,
+    }
+}
+
+/// Whether among instructions.
+pub fn is_insns(stage: Stage) -> bool
+    ensures { result ≡ is_insns stage }
+{
+    match stage {
+        Stage::Insns => true,
+        _ => false,
+    }
+}
+
+/// Whether in code.
+pub fn is_in_code(stage: Stage) -> bool
+    ensures { result ≡ is_in_code stage }
+{
+    match stage {
+        Stage::Insns | Stage::Tries | Stage::Caught => true,
+        _ => false,
+    }
+}
+
+/// Whether behind a try or a catch.
+pub fn is_caught(stage: Stage) -> bool
+    ensures { result ≡ is_caught stage }
+{
+    match stage {
+        Stage::Caught => true,
+        _ => false,
+    }
+}
+
+/// Whether an instruction or a payload.
+pub fn is_insn(kind: Kind) -> bool
+    ensures { result ≡ is_insn kind }
+{
+    match kind {
+        Kind::Plain(_) | Kind::Packed | Kind::Sparse | Kind::Elements => true,
+        _ => false,
+    }
+}
+
+/// Whether such a line may stand there.
+#[rattlefmt::skip]
+#[tactic(auto, unfolding(crate::specs::Places::may_stand))]
+pub fn may_stand(stage: Stage, kind: Kind) -> bool
+    ensures { result ≡ may_stand stage kind }
+{
+    match kind {
+        Kind::First => is_start(stage),
+        Kind::OpenClass => is_top(stage),
+        Kind::Super | Kind::Implements | Kind::Source => is_heads(stage),
+        Kind::EndClass | Kind::Static | Kind::Given | Kind::Instance | Kind::Direct | Kind::Virtual => is_in_class(stage),
+        Kind::OpenCode => is_behind(stage),
+        Kind::Plain(_) | Kind::Packed | Kind::Sparse | Kind::Elements => is_insns(stage),
+        Kind::Try | Kind::EndCode => is_in_code(stage),
+        Kind::Catch | Kind::CatchAll => is_caught(stage),
+    }
+}

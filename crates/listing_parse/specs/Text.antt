@@ -1,0 +1,215 @@
+-- Which program a text is, and why it is refused.
+-- Page: docs/LISTING.md, "Lines and words", "Faults".
+use Rattle.std.specs.Prelude.{◌≡◌, ◌≢◌, ℕ, ◌+◌, ◌==◌, ◌&&◌, ◌||◌, Bool, true, false, if◌then◌else◌, ◌⊎◌, List, [], ◌∷◌, ◌++◌, length, Option, Some, None, codes}
+use Rattle.program_types.specs.Content.{Program}
+use Rattle.program_rules.specs.WellFormed.{WellFormed}
+use Rattle.program_rules.specs.Rules.{RuleBreaks}
+use Rattle.listing_words.specs.Words.{Word, plain_word, text_in_quotes, HasWords}
+use Rattle.listing_slots.specs.Data.{Datum}
+use Rattle.listing_slots.specs.declared.kind.Kind.{Kind}
+use Rattle.listing_slots.specs.declared.kind.Kind.TheVariants as kind
+use Rattle.listing_slots.specs.Keys.{same}
+use Rattle.listing_shapes.specs.Shapes.{Shape}
+use Rattle.listing_lines.specs.Lines.{line_of}
+use Rattle.listing_lines.specs.declared.stage.Stage.TheVariants.{Top}
+use Rattle.listing_lines.specs.Places.{is_start, is_insns}
+use Rattle.listing_lines.specs.Forms.{is_two}
+use Rattle.listing_draft.specs.States.{State, start, counted, add}
+use Rattle.listing_labels.specs.Lines.{lines, is_skipped}
+use Rattle.listing_labels.specs.Labels.{Label, is_label, is_mark, lookup, labels_ahead}
+use Rattle.listing_parse.specs.Forms.{Shapes, may_be, Spells, Misspells}
+use Rattle.listing_lines.specs.declared.form.Form.{Form}
+use Rattle.listing_lines.specs.declared.form.Form.TheVariants.{One, Two}
+use Rattle.listing_parse.specs.declared.aside.Aside.{Aside}
+use Rattle.listing_parse.specs.declared.aside.Aside.TheVariants.{Nothing, Refused, First, Mark}
+
+-- A listing that is being read: its form, the labels of the open code, and what its lines make.
+pub record Reading : Type 0 where
+  pub form : Form
+  pub labels : List Label
+  pub base : State
+
+-- Nothing was read; until a first line tells the form it is the first.
+abbrev pub begin : Reading
+begin = record { form = One; labels = []; base = start }
+
+-- One line more was read.
+abbrev pub tallied : Reading → Reading
+tallied r = record r { base = counted r.base }
+
+-- ---- lines that say nothing of the program
+
+-- The word is this one.
+abbrev pub is_plain : List ℕ → Word → Bool
+is_plain t (plain_word w) = same t w
+is_plain t (text_in_quotes us) = false
+
+-- `dex 035 listing 2`
+abbrev pub is_second : List Word → Bool
+is_second (a ∷ b ∷ c ∷ d ∷ []) = is_plain (codes "dex") a && (is_plain (codes "035") b && (is_plain (codes "listing") c && is_plain (codes "2") d))
+is_second _ = false
+
+-- The first word begins with `:`.
+abbrev pub begins_mark : List Word → Bool
+begins_mark (plain_word w ∷ ws) = is_mark w
+begins_mark _ = false
+
+-- The label stands on this line, or nowhere.
+abbrev pub is_on : ℕ → Option Label → Bool
+is_on line None = true
+is_on line (Some l) = l.line == line
+
+-- A label alone: well formed, and not defined before.
+abbrev pub label_aside : Reading → List ℕ → Aside
+label_aside r w = if is_label w then (if is_on r.base.lines (lookup w r.labels) then Mark else Refused 104) else Refused 101
+
+-- The line of a label: one word, among instructions.
+abbrev pub mark_aside : Reading → List Word → Aside
+mark_aside r (plain_word w ∷ []) = if is_insns r.base.stage then label_aside r w else Refused 103
+mark_aside r _ = Refused 100
+
+-- What a line is that says nothing of the program: the first line of the second form, or a label's line, or why neither.
+unfoldable pub aside : Reading → List Word → Aside
+aside r ws =
+    if is_second ws && (is_two r.form || is_start r.base.stage) then (if is_start r.base.stage then First else Refused 103)
+    else (if is_two r.form && begins_mark ws then mark_aside r ws else Nothing)
+
+-- The listing is of the second form.
+abbrev pub in_second : Reading → Reading
+in_second r = record { form = Two; labels = []; base = record r.base { stage = Top } }
+
+-- ---- lines one by one
+
+-- The labels behind a line of this kind: those of a code are of the lines that follow it, up to the code's end.
+abbrev pub labels_behind : Form → Kind → ℕ → List (List ℕ) → List Label → List Label
+labels_behind Two kind.OpenCode line ls es = labels_ahead [] line 0 ls
+labels_behind Two kind.EndCode line ls es = []
+labels_behind _ _ line ls es = es
+
+-- The line says this of the program, and these lines follow it.
+pub record Says (r : Reading) (ls : List (List ℕ)) (ws : List Word) (t : Reading) : Type 0 where
+  pub shape : Shape
+  pub has_shape : Shapes r.form ws shape
+  pub may_stand : may_be r.form r.base shape ≡ true
+  pub says : List Datum
+  pub spelled : Spells r.form r.labels shape.slots shape.words says
+  pub next : State
+  pub added : add r.base (line_of shape.kind says) ≡ Some next
+  pub is : t ≡ record { form = r.form; labels = labels_behind r.form shape.kind (r.base.lines + 1) ls r.labels; base = next }
+
+-- Behind the lines that make r, and before these, this line makes it t.
+pub record Adds (r : Reading) (ls : List (List ℕ)) (line : List ℕ) (t : Reading) : Type 0 where
+  pub words : List Word
+  pub has_words : HasWords line words
+  pub makes : ((aside r words ≡ First) × (t ≡ in_second r)) ⊎ ((aside r words ≡ Mark) × (t ≡ r)) ⊎ ((aside r words ≡ Nothing) × Says r ls words t)
+
+-- A line is read, whether it is skipped or says something: it counts in any case.
+abbrev pub Takes : Reading → List (List ℕ) → List ℕ → Reading → Type 0
+Takes r ls line t = ((is_skipped line ≡ true) × (t ≡ tallied r)) ⊎ ((is_skipped line ≡ false) × Adds (tallied r) ls line t)
+
+-- Lines one behind the other, and then these.
+abbrev pub Reads : Reading → List (List ℕ) → List (List ℕ) → Reading → Type 0
+Reads r [] rest t = r ≡ t
+Reads r (l ∷ ls) rest t = (u : Reading) × Takes r (ls ++ rest) l u × Reads u ls rest t
+
+-- The text is a listing of this program: its lines, one behind the other, make the program's classes, no block is open at its
+-- end, each target is an instruction of its code, and the program is well formed.
+pub record IsListing (text : List ℕ) (p : Program) : Type 0 where
+  pub end : Reading
+  pub read : Reads begin (lines text) [] end
+  pub whole : end.base.stage ≡ Top
+  pub targets : end.base.late ≡ None
+  pub classes : end.base.done ≡ p
+  pub formed : WellFormed p
+
+-- ---- faults
+
+-- 100 Word: no words.
+abbrev pub IsWordless : List ℕ → Type 0
+IsWordless line = (ws : List Word) → HasWords line ws → ⊥
+
+-- 103 Order: it may not stand behind these lines.
+pub record IsMisplaced (r : Reading) (ws : List Word) : Type 0 where
+  pub shape : Shape
+  pub has_shape : Shapes r.form ws shape
+  pub refused : may_be r.form r.base shape ≡ false
+
+-- 101 Name, 102 Number: from the left, a word says nothing in its slot.
+pub record IsMisspelled (r : Reading) (ws : List Word) (code : ℕ) : Type 0 where
+  pub shape : Shape
+  pub has_shape : Shapes r.form ws shape
+  pub may_stand : may_be r.form r.base shape ≡ true
+  pub bad : Misspells r.form r.labels shape.slots shape.words code
+
+-- 104 Twice: it gives again what may be given once.
+pub record IsTwice (r : Reading) (ws : List Word) : Type 0 where
+  pub shape : Shape
+  pub has_shape : Shapes r.form ws shape
+  pub may_stand : may_be r.form r.base shape ≡ true
+  pub says : List Datum
+  pub spelled : Spells r.form r.labels shape.slots shape.words says
+  pub refused : add r.base (line_of shape.kind says) ≡ None
+
+-- Why these words say nothing of the program: 100 Word where they have no shape, or one of the others.
+abbrev pub IsUnsaid : Reading → List Word → ℕ → Type 0
+IsUnsaid r ws code = ((code ≡ 100) × ((sh : Shape) → Shapes r.form ws sh → ⊥)) ⊎ ((code ≡ 103) × IsMisplaced r ws) ⊎ IsMisspelled r ws code ⊎ ((code ≡ 104) × IsTwice r ws)
+
+-- Why these words are refused: as the first line of a form or as a label's line, or as any other.
+abbrev pub AreRefused : Reading → List Word → ℕ → Type 0
+AreRefused r ws code = (aside r ws ≡ Refused code) ⊎ ((aside r ws ≡ Nothing) × IsUnsaid r ws code)
+
+-- Why a line is refused behind the lines that make r.
+pub record IsRefused (r : Reading) (line : List ℕ) (code : ℕ) : Type 0 where
+  pub not_skipped : is_skipped line ≡ false
+  pub why : ((code ≡ 100) × IsWordless line) ⊎ ((ws : List Word) × HasWords line ws × AreRefused r ws code)
+
+-- The lines before it are accepted, and it isn't.
+pub record IsBadLine (ls : List (List ℕ)) (code place : ℕ) : Type 0 where
+  pub before : List (List ℕ)
+  pub bad : List ℕ
+  pub behind : List (List ℕ)
+  pub joined : ls ≡ before ++ bad ∷ behind
+  pub number : place ≡ length before + 1
+  pub state : Reading
+  pub accepted : Reads begin before (bad ∷ behind) state
+  pub refused : IsRefused (tallied state) bad code
+
+-- 106 NotEnded: all lines are accepted, and a block is open or nothing was read.
+pub record IsOpen (ls : List (List ℕ)) : Type 0 where
+  pub state : Reading
+  pub accepted : Reads begin ls [] state
+  pub inside : state.base.stage ≢ Top
+
+-- 105 Target: all lines are accepted and no block is open, and this is the lowest line with a target that is no instruction.
+pub record IsLate (ls : List (List ℕ)) (place : ℕ) : Type 0 where
+  pub state : Reading
+  pub accepted : Reads begin ls [] state
+  pub whole : state.base.stage ≡ Top
+  pub late : state.base.late ≡ Some place
+
+-- 110 to 118: all lines are accepted, no block is open and each target is an instruction, but the program breaks a rule; the
+-- place is the number of the class that does.
+pub record IsIllFormed (ls : List (List ℕ)) (code place : ℕ) : Type 0 where
+  pub state : Reading
+  pub accepted : Reads begin ls [] state
+  pub whole : state.base.stage ≡ Top
+  pub targets : state.base.late ≡ None
+  pub breaks : RuleBreaks state.base.done (record { code = code; place = place })
+
+-- The text has this fault at this line, or in this class.
+abbrev pub ListingBreaks : List ℕ → ℕ → ℕ → Type 0
+ListingBreaks text code place =
+    IsBadLine (lines text) code place
+    ⊎ ((code ≡ 106) × (place ≡ length (lines text)) × IsOpen (lines text))
+    ⊎ ((code ≡ 105) × IsLate (lines text) place)
+    ⊎ IsIllFormed (lines text) code place
+
+-- ---- what a private helper says
+
+-- Behind all lines: no block is open, and each target is an instruction of its code.
+abbrev pub IsFinished : State → Type 0
+IsFinished s = (s.stage ≡ Top) × (s.late ≡ None)
+
+-- Or why not.
+abbrev pub IsUnfinished : State → ℕ → ℕ → Type 0
+IsUnfinished s code place = ((code ≡ 106) × (place ≡ s.lines) × (s.stage ≢ Top)) ⊎ ((code ≡ 105) × (s.stage ≡ Top) × (s.late ≡ Some place))

@@ -1,0 +1,431 @@
+//! Reading a listing, line by line.
+
+ghost use Rattle.std.specs.Prelude.{◌≡◌, ◌≢◌, false, ◌+◌, ◌<◌, ◌^◌, [], map, length, IfOk, IfErr, IfSome, IfNone, OnOk, IsOkUnless};
+ghost use Rattle.base_bytes.specs.Fault.{memory};
+ghost use Rattle.program_types.specs.View.{program};
+ghost use Rattle.listing_words.specs.View.{word};
+ghost use Rattle.listing_slots.specs.View.{datum};
+ghost use Rattle.listing_shapes.specs.Shapes.{Shape};
+ghost use Rattle.listing_shapes.specs.ShapeView.{shape};
+ghost use Rattle.listing_draft.specs.View.{state};
+ghost use Rattle.listing_labels.specs.Lines.{lines, is_skipped};
+ghost use Rattle.listing_parse.specs.Forms.{Shapes, may_be, Spells, Misspells};
+ghost use Rattle.listing_parse.specs.Text as spec;
+ghost use Rattle.listing_parse.specs.Text.{begin, tallied, is_plain, is_second, begins_mark, labels_behind, Says, IsUnsaid, Adds, Takes, Reads, IsListing, IsRefused, IsBadLine, ListingBreaks, IsFinished, IsUnfinished};
+ghost use Rattle.listing_parse.specs.View.{reading};
+
+use crate::aside::Aside;
+use bumpalo::Bump;
+use dex_base::{Fault, fault};
+use listing_draft::Draft;
+use listing_labels::{Labels, is_label, is_mark, is_skipped, look_ahead, read_all, split_line};
+use listing_lines::{Form, Stage, is_insns, is_start, is_two, make_line, may_stand};
+use listing_shapes::{Found, read_bare_shape, read_shape};
+use listing_slots::{Datum, Kind, Slot, is_same, read_operands};
+use listing_words::{Word, read_words};
+use program_rules::well_formed_in;
+use program_types::Program;
+use std::alloc::Global;
+
+/// A listing that is being read: its form, the labels of the open code, how many of their lines were read, and what its
+/// lines make.
+#[derive(Drop)]
+pub struct Reading<'a, 't> {
+    pub form: Form,
+    pub labels: Labels<'t>,
+    pub passed: usize,
+    pub draft: Draft<'a>,
+}
+
+/// Whether the word is this one.
+fn is_plain(text: &[u8], one: Word<'_, '_>) -> bool
+    ensures { result ≡ is_plain text.now (word one.entry) }
+{
+    match one {
+        Word::Plain(w) => is_same(text, w),
+        Word::Text(_) => false,
+    }
+}
+
+/// Whether the words are the first line of the second form.
+fn is_second(words: &[Word<'_, '_>]) -> bool
+    ensures { result ≡ is_second (map word words.now) }
+{
+    let Some((first, words)) = words.split_first() else {
+        return false;
+    };
+    let Some((second, words)) = words.split_first() else {
+        return false;
+    };
+    let Some((third, words)) = words.split_first() else {
+        return false;
+    };
+    let Some((fourth, words)) = words.split_first() else {
+        return false;
+    };
+    if words.len() > 0
+        || !is_plain("dex".as_bytes(), *first)
+        || !is_plain("035".as_bytes(), *second)
+    {
+        return false;
+    }
+    is_plain("listing".as_bytes(), *third) && is_plain("2".as_bytes(), *fourth)
+}
+
+/// Whether the first word begins with `:`.
+fn begins_mark(words: &[Word<'_, '_>]) -> bool
+    ensures { result ≡ begins_mark (map word words.now) }
+{
+    match words.split_first() {
+        Some((Word::Plain(text), _)) => is_mark(text),
+        _ => false,
+    }
+}
+
+impl<'a, 't> Reading<'a, 't> {
+    ghost use Rattle.std.specs.Prelude.{List};
+    ghost use Rattle.listing_slots.specs.declared.slot.Slot.{Slot};
+    ghost use Rattle.listing_words.specs.Words as words;
+    ghost use Rattle.listing_shapes.specs.ShapeView.{shape};
+    ghost use Rattle.listing_parse.specs.Text.{label_aside, mark_aside, aside, in_second};
+
+    /// What the line of a label is.
+    #[tactic(auto, unfolding(crate::specs::View::reading))]
+    fn label_aside(&self, name: &[u8]) -> Aside
+        ensures { result ≡ label_aside (reading self.now) name.now }
+    {
+        if !is_label(name) {
+            return Aside::Refused(fault::LINE_NAME);
+        }
+        match self.labels.place_of(self.passed, name) {
+            Some(place) => {
+                if place.line == self.draft.lines {
+                    return Aside::Mark;
+                }
+                Aside::Refused(fault::LINE_TWICE)
+            }
+            None => Aside::Mark,
+        }
+    }
+
+    /// What a line is that begins with a label.
+    #[tactic(auto, unfolding(crate::specs::View::reading))]
+    fn mark_aside(&self, words: &[Word<'_, '_>]) -> Aside
+        ensures { result ≡ mark_aside (reading self.now) (map word words.now) }
+    {
+        let Some((Word::Plain(name), rest)) = words.split_first() else {
+            return Aside::Refused(fault::LINE_WORD);
+        };
+        if rest.len() > 0 {
+            return Aside::Refused(fault::LINE_WORD);
+        }
+        if !is_insns(self.draft.stage) {
+            return Aside::Refused(fault::LINE_ORDER);
+        }
+        self.label_aside(name)
+    }
+
+    /// What a line of these words is if it says nothing of the program.
+    #[tactic(auto, unfolding(crate::specs::View::reading, crate::specs::Text::aside))]
+    fn aside(&self, words: &[Word<'_, '_>]) -> Aside
+        ensures { result ≡ aside (reading self.now) (map word words.now) }
+    {
+        if is_second(words) {
+            if is_start(self.draft.stage) {
+                return Aside::First;
+            }
+            if is_two(self.form) {
+                return Aside::Refused(fault::LINE_ORDER);
+            }
+            return Aside::Nothing;
+        }
+        if !is_two(self.form) {
+            return Aside::Nothing;
+        }
+        if begins_mark(words) {
+            return self.mark_aside(words);
+        }
+        Aside::Nothing
+    }
+
+    /// The listing is of the second form.
+    #[tactic(auto, unfolding(crate::specs::View::reading))]
+    fn begin_second(&mut self)
+        ensures second { reading self.new ≡ in_second (reading self.old) }
+        ensures lines { self.new.draft.lines ≡ self.old.draft.lines }
+    {
+        self.form = Form::Two;
+        self.labels.clear();
+        self.draft.stage = Stage::Top;
+    }
+
+    /// The line of a label was read. The number of such lines is the index of the next label ahead, which is looked at first.
+    #[tactic(auto, unfolding(crate::specs::View::reading))]
+    fn pass_label(&mut self)
+        ensures same { reading self.new ≡ reading self.old }
+        ensures lines { self.new.draft.lines ≡ self.old.draft.lines }
+    {
+        self.passed = self.passed.saturating_add(1);
+    }
+
+    /// Whether a line of this shape may stand here.
+    #[tactic(auto, unfolding(crate::specs::View::reading))]
+    fn may_be(&self, found: Found<'_>) -> bool
+        ensures { (ss : List Slot) (ws : List words.Word) → result ≡ may_be self.now.form (state self.now.draft) (shape found.entry ss ws) }
+    {
+        match self.form {
+            Form::One => self.draft.stands(found),
+            Form::Two => may_stand(self.draft.stage, found.kind),
+        }
+    }
+
+    /// The labels ahead of a line of this kind.
+    #[tactic(auto, unfolding(crate::specs::View::reading))]
+    fn look(&mut self, kind: Kind, behind: &'t [u8]) -> Result<(), Fault>
+        requires { self.old.draft.lines + 1 + length behind.now < 2 ^ 64 }
+        ensures looked { OnOk result (reading self.new ≡ record (reading self.old) { labels = labels_behind self.old.form kind (self.old.draft.lines + 1) (lines behind.now) (reading self.old).labels }) }
+        ensures lines { self.new.draft.lines ≡ self.old.draft.lines }
+        ensures memory { IsOkUnless result memory }
+    {
+        match (self.form, kind) {
+            (Form::Two, Kind::OpenCode) => {
+                self.passed = 0;
+                look_ahead(&mut self.labels, behind, self.draft.lines + 1)
+            }
+            (Form::Two, Kind::EndCode) => {
+                self.labels.clear();
+                Ok(())
+            }
+            _ => Ok(()),
+        }
+    }
+}
+
+/// The shape of a line of these words.
+fn read_form<'a, 'b>(
+    form: Form,
+    words: &[Word<'a, 'b>],
+    slots: &mut Vec<Slot, &'a Bump>,
+) -> Result<Option<Found<'b>>, Fault>
+    ensures found { IfOk result (λ r. IfSome r (λ f. Shapes form (map word words.now) (shape f slots.new.items (map word words.now)))) }
+    ensures lengths { IfOk result (λ r. IfSome r (λ f. f.lead + length slots.new.items ≡ length words.now)) }
+    ensures none { IfOk result (λ r. IfNone r ((s : Shape) → Shapes form (map word words.now) s → ⊥)) }
+    ensures memory { IsOkUnless result memory }
+{
+    match form {
+        Form::One => read_shape(words, slots),
+        Form::Two => read_bare_shape(words, slots),
+    }
+}
+
+/// What these words say in these slots; else the fault of the first that says nothing there.
+fn read_says<'a, 'b>(
+    arena: &'a Bump,
+    form: Form,
+    labels: &Labels<'_>,
+    near: usize,
+    slots: &[Slot],
+    words: &[Word<'a, 'b>],
+    says: &mut Vec<Datum<'a>, &'a Bump>,
+) -> Result<Option<u16>, Fault>
+    requires { length slots.now ≡ length words.now }
+    ensures all { IfOk result (λ r. IfNone r (Spells form labels.now slots.now (map word words.now) (map datum says.new.items))) }
+    ensures bad { IfOk result (λ r. IfSome r (λ code. Misspells form labels.now slots.now (map word words.now) code)) }
+    ensures memory { IsOkUnless result memory }
+{
+    match form {
+        Form::One => read_operands(arena, slots, words, says),
+        Form::Two => read_all(arena, labels, near, slots, words, says),
+    }
+}
+
+/// Adds a line that says something of the program; else why it is refused: 100 to 104.
+fn add_says<'a, 'b>(
+    arena: &'a Bump,
+    words: &[Word<'a, 'b>],
+    slots: &mut Vec<Slot, &'a Bump>,
+    says: &mut Vec<Datum<'a>, &'a Bump>,
+    listing: &mut Reading<'a, 'b>,
+    behind: &'b [u8],
+) -> Result<Option<u16>, Fault>
+    requires { listing.old.draft.lines + 1 + length behind.now < 2 ^ 64 }
+    ensures taken { IfOk result (λ r. IfNone r (Says (reading listing.old) (lines behind.now) (map word words.now) (reading listing.new))) }
+    ensures refused { IfOk result (λ r. IfSome r (λ code. IsUnsaid (reading listing.old) (map word words.now) code)) }
+    ensures lines { IfOk result (λ r. listing.new.draft.lines ≡ listing.old.draft.lines) }
+    ensures memory { IsOkUnless result memory }
+{
+    let Some(found) = read_form(listing.form, words, slots)? else {
+        return Ok(Some(fault::LINE_WORD));
+    };
+    if !listing.may_be(found) {
+        return Ok(Some(fault::LINE_ORDER));
+    }
+    let (_, operands) = words.split_at(found.lead);
+    if let Some(code) = read_says(
+        arena,
+        listing.form,
+        &listing.labels,
+        listing.passed,
+        slots.as_slice(),
+        operands,
+        says,
+    )? {
+        return Ok(Some(code));
+    }
+    let next = make_line(arena, found.kind, says.as_slice())?;
+    if !listing.draft.add(arena, next)? {
+        return Ok(Some(fault::LINE_TWICE));
+    }
+    listing.look(found.kind, behind)?;
+    Ok(None)
+}
+
+/// Adds a line that isn't skipped; else why it is refused: 100 to 104.
+fn add_line<'a, 'b>(
+    arena: &'a Bump,
+    words: &mut Vec<Word<'a, 'b>, &'a Bump>,
+    slots: &mut Vec<Slot, &'a Bump>,
+    says: &mut Vec<Datum<'a>, &'a Bump>,
+    listing: &mut Reading<'a, 'b>,
+    line: &'b [u8],
+    behind: &'b [u8],
+) -> Result<Option<u16>, Fault>
+    requires says { is_skipped line.now ≡ false }
+    requires short { listing.old.draft.lines + 1 + length behind.now < 2 ^ 64 }
+    ensures taken { IfOk result (λ r. IfNone r (Adds (reading listing.old) (lines behind.now) line.now (reading listing.new))) }
+    ensures refused { IfOk result (λ r. IfSome r (λ code. IsRefused (reading listing.old) line.now code)) }
+    ensures lines { IfOk result (λ r. listing.new.draft.lines ≡ listing.old.draft.lines) }
+    ensures memory { IsOkUnless result memory }
+{
+    if !read_words(arena, line, words)? {
+        return Ok(Some(fault::LINE_WORD));
+    }
+    match listing.aside(words.as_slice()) {
+        Aside::Nothing => add_says(arena, words.as_slice(), slots, says, listing, behind),
+        Aside::Refused(code) => Ok(Some(code)),
+        Aside::First => {
+            listing.begin_second();
+            Ok(None)
+        }
+        Aside::Mark => {
+            listing.pass_label();
+            Ok(None)
+        }
+    }
+}
+
+/// One line more was read.
+#[tactic(auto, unfolding(crate::specs::View::reading))]
+fn tally(listing: &mut Reading<'_, '_>)
+    requires { listing.old.draft.lines + 1 < 2 ^ 64 }
+    ensures state { reading listing.new ≡ tallied (reading listing.old) }
+    ensures lines { listing.new.draft.lines ≡ listing.old.draft.lines + 1 }
+{
+    listing.draft.count_line();
+}
+
+/// Reads a line; else why it is refused: 100 to 104.
+fn read_line<'a, 'b>(
+    arena: &'a Bump,
+    words: &mut Vec<Word<'a, 'b>, &'a Bump>,
+    slots: &mut Vec<Slot, &'a Bump>,
+    says: &mut Vec<Datum<'a>, &'a Bump>,
+    listing: &mut Reading<'a, 'b>,
+    line: &'b [u8],
+    behind: &'b [u8],
+) -> Result<Option<u16>, Fault>
+    requires { listing.old.draft.lines + 2 + length behind.now < 2 ^ 64 }
+    ensures taken { IfOk result (λ r. IfNone r (Takes (reading listing.old) (lines behind.now) line.now (reading listing.new))) }
+    ensures refused { IfOk result (λ r. IfSome r (λ code. IsRefused (tallied (reading listing.old)) line.now code)) }
+    ensures lines { IfOk result (λ r. listing.new.draft.lines ≡ listing.old.draft.lines + 1) }
+    ensures memory { IsOkUnless result memory }
+{
+    tally(listing);
+    if is_skipped(line) {
+        return Ok(None);
+    }
+    add_line(arena, words, slots, says, listing, line, behind)
+}
+
+/// Nothing was read.
+#[tactic(auto, unfolding(crate::specs::View::reading))]
+fn begin<'a, 't>(alloc: Global, arena: &'a Bump) -> Reading<'a, 't>
+    ensures { reading result ≡ begin }
+{
+    Reading {
+        form: Form::One,
+        labels: Labels::new(alloc),
+        passed: 0,
+        draft: Draft::new(alloc, arena),
+    }
+}
+
+/// Reads all lines of a text; else the lowest that is refused: 100 to 104.
+fn read_lines<'a>(alloc: Global, arena: &'a Bump, text: &[u8]) -> Result<Draft<'a>, Fault>
+    ensures ok { IfOk result (λ d. (r : spec.Reading) × Reads begin (lines text.now) [] r × (r.base ≡ state d)) }
+    ensures number { IfOk result (λ d. d.lines ≡ length (lines text.now)) }
+    ensures err { IfErr result (λ e. e ≢ memory → IsBadLine (lines text.now) e.code e.place) }
+{
+    let mut words = Vec::new(arena);
+    let mut slots = Vec::new(arena);
+    let mut says = Vec::new(arena);
+    let mut listing = begin(alloc, arena);
+    let mut rest = text;
+    while let Some((line, behind)) = split_line(rest) {
+        if let Some(code) = read_line(
+            arena,
+            &mut words,
+            &mut slots,
+            &mut says,
+            &mut listing,
+            line,
+            behind,
+        )? {
+            return Err(Fault {
+                code,
+                place: listing.draft.lines,
+            });
+        }
+        rest = behind;
+    }
+    Ok(listing.draft)
+}
+
+/// Whether a listing may end behind these lines; else 106 where a block is open, 105 where a target is no instruction of its code.
+fn check_end(draft: &Draft<'_>) -> Result<(), Fault>
+    ensures ok { OnOk result (IsFinished (state draft.now)) }
+    ensures err { IfErr result (λ e. IsUnfinished (state draft.now) e.code e.place) }
+{
+    match draft.stage {
+        Stage::Top => match draft.late {
+            Some(place) => Err(Fault {
+                code: fault::LINE_TARGET,
+                place,
+            }),
+            None => Ok(()),
+        },
+        _ => Err(Fault {
+            code: fault::LINE_NOT_ENDED,
+            place: draft.lines,
+        }),
+    }
+}
+
+/// The program of a listing. It is well formed: it keeps the rules of every file's program, and each number fits its type.
+///
+/// The names, slices and values of the program lie in the arena. The lowest line with a fault of 100 to 104 is refused, or
+/// else a text that ends inside a block (106); where there is none, the lowest line with a target that is no instruction of
+/// its code (105); and then the first class that breaks a rule (110 to 118). A fault's place is a line's number, from 1, and
+/// of 110 to 118 the class's, from 0.
+pub fn parse<'a>(alloc: Global, arena: &'a Bump, text: &[u8]) -> Result<Program<'a>, Fault>
+    ensures ok { IfOk result (λ p. IsListing text.now (program p)) }
+    ensures err { IfErr result (λ e. e ≢ memory → ListingBreaks text.now e.code e.place) }
+{
+    let draft = read_lines(alloc, arena, text)?;
+    check_end(&draft)?;
+    let whole = Program {
+        classes: draft.into_classes(),
+    };
+    well_formed_in(alloc, &whole)?;
+    Ok(whole)
+}

@@ -1,0 +1,89 @@
+-- What the printed words of a value say makes the value.
+use Rattle.std.proofs.Common.{◌≡◌, Bool, true, false, List, [], ◌∷◌, ◌++◌, length, take, drop, refl, sym, ap, ◌∙◌, append_assoc}
+use Rattle.std.specs.Prelude.{fold}
+use Rattle.std.proofs.lemmas.List.{append-nil}
+use Rattle.program_types.specs.Content as content
+use Rattle.program_types.specs.Content.{Value, Values, no_values, more_values, Name, OfText, OfDesc, OfField, OfMethod}
+use Rattle.listing_slots.specs.declared.key.Key.TheVariants as key
+use Rattle.listing_slots.specs.Data.{Datum, said}
+use Rattle.listing_lines.specs.Lines.{Making, with_word, with_value, value_of, first_value}
+use Rattle.listing_print.specs.Operands.{Operand, keyword, named_operands, value_operands, values_operands}
+use Rattle.listing_print.specs.Reading.{data_of}
+
+-- the values one by one
+abbrev pub list_of : Values → List Value
+list_of no_values = []
+list_of (more_values v vs) = v ∷ list_of vs
+
+values_of_list : (vs : Values) → content.values (list_of vs) ≡ vs
+values_of_list no_values = refl
+values_of_list (more_values v vs) = ap (more_values v) (values_of_list vs)
+
+take_front : (xs ys : List Value) → take (length xs) (xs ++ ys) ≡ xs
+take_front [] ys = refl
+take_front (x ∷ xs) ys = ap (λ t. x ∷ t) (take_front xs ys)
+
+drop_front : (xs ys : List Value) → drop (length xs) (xs ++ ys) ≡ ys
+drop_front [] ys = refl
+drop_front (x ∷ xs) ys = drop_front xs ys
+
+pub data_join : (os ps : List Operand) → data_of (os ++ ps) ≡ data_of os ++ data_of ps
+data_join [] ps = refl
+data_join (o ∷ os) ps = ap (λ ds. o.says ∷ ds) (data_join os ps)
+
+-- behind these values
+abbrev with_values : Making → List Value → Making
+with_values m vs = record { values = m.values ++ vs; begins = m.begins }
+
+no_more : (m : Making) → m ≡ with_values m []
+no_more m = ap (λ vs. record { values = vs; begins = m.begins }) (sym (append-nil m.values))
+
+one_more : (m : Making) (v : Value) (vs : List Value) → with_values (with_value m v) vs ≡ with_values m (v ∷ vs)
+one_more m v vs = ap (λ xs. record { values = xs; begins = m.begins }) (append_assoc m.values (v ∷ []) vs)
+
+-- a whole array
+array_made : (m : Making) (vs : Values) → with_word (record { values = m.values ++ list_of vs; begins = length m.values ∷ m.begins }) (said key.Close) ≡ with_value m (content.Array vs)
+array_made m vs = rw (take_front m.values (list_of vs), drop_front m.values (list_of vs), values_of_list vs) refl
+
+named_fold : (which : Name) (m : Making) (rest : List Datum) → fold with_word m (data_of (named_operands which) ++ rest) ≡ fold with_word (with_value m (content.Named which)) rest
+named_fold (OfText us) m rest = refl
+named_fold (OfDesc d) m rest = refl
+named_fold (OfField f) m rest = refl
+named_fold (OfMethod k) m rest = refl
+
+truth_fold : (b : Bool) (m : Making) (rest : List Datum) → fold with_word m (data_of (value_operands (content.Boolean b)) ++ rest) ≡ fold with_word (with_value m (content.Boolean b)) rest
+truth_fold true m rest = refl
+truth_fold false m rest = refl
+
+mutual
+  pub value_fold : (v : Value) (m : Making) (rest : List Datum) → fold with_word m (data_of (value_operands v) ++ rest) ≡ fold with_word (with_value m v) rest
+  value_fold (content.Byte z) m rest = refl
+  value_fold (content.Short z) m rest = refl
+  value_fold (content.Char k) m rest = refl
+  value_fold (content.Int z) m rest = refl
+  value_fold (content.Long z) m rest = refl
+  value_fold (content.Float k) m rest = refl
+  value_fold (content.Double k) m rest = refl
+  value_fold (content.Named which) m rest = named_fold which m rest
+  value_fold (content.Enum f) m rest = refl
+  value_fold (content.Array vs) m rest =
+      let d : data_of (values_operands vs ++ (keyword key.Close ∷ [])) ++ rest ≡ data_of (values_operands vs) ++ (said key.Close ∷ rest) = ap (λ ds. ds ++ rest) (data_join (values_operands vs) (keyword key.Close ∷ [])) ∙ append_assoc (data_of (values_operands vs)) (said key.Close ∷ []) rest in
+      let n : Making = record { values = m.values; begins = length m.values ∷ m.begins } in
+      ap (fold with_word n) d ∙ values_fold vs n (said key.Close ∷ rest) ∙ ap (λ x. fold with_word x rest) (array_made m vs)
+  value_fold content.Null m rest = refl
+  value_fold (content.Boolean b) m rest = truth_fold b m rest
+
+  pub values_fold : (vs : Values) (m : Making) (rest : List Datum) → fold with_word m (data_of (values_operands vs) ++ rest) ≡ fold with_word (with_values m (list_of vs)) rest
+  values_fold no_values m rest = ap (λ x. fold with_word x rest) (no_more m)
+  values_fold (more_values v vs) m rest =
+      ap (λ ds. fold with_word m (ds ++ rest)) (data_join (value_operands v) (values_operands vs))
+      ∙ ap (fold with_word m) (append_assoc (data_of (value_operands v)) (data_of (values_operands vs)) rest)
+      ∙ value_fold v m (data_of (values_operands vs) ++ rest)
+      ∙ values_fold vs (with_value m v) rest
+      ∙ ap (λ x. fold with_word x rest) (one_more m v (list_of vs))
+
+pub value_made : (v : Value) → value_of (data_of (value_operands v)) ≡ v
+unfolding value_of
+value_made v =
+    let start : Making = record { values = []; begins = [] } in
+    ap (λ (m : Making). first_value m.values) (ap (fold with_word start) (sym (append-nil (data_of (value_operands v)))) ∙ value_fold v start [])

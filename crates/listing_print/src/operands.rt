@@ -1,0 +1,157 @@
+//! The operands of instructions, each behind one space.
+
+ghost use Rattle.std.specs.Prelude.{◌≡◌, ◌++◌, ◌∷◌, [], map, take, OnOk, IsOkUnless};
+ghost use Rattle.base_bytes.specs.Fault.{memory};
+ghost use Rattle.program_types.specs.View.{name, insn};
+ghost use Rattle.listing_slots.specs.declared.key.Key.TheVariants as Key;
+ghost use Rattle.listing_print.specs.Operands.{operand_text, operand_text_in, keyword, v4, to, name_operand, pair_operands, element_operands, insn_operands};
+
+use dex_base::Fault;
+use listing_lines::Form;
+use listing_slots::{
+    Key, put_decimal, put_elements, put_field, put_key, put_method, put_name, put_number,
+    put_register, put_signed, put_text,
+};
+use program_types::{Insn, Name};
+
+/// Appends a name in the form of its kind.
+pub fn put_named(out: &mut Vec<u8>, which: Name<'_>) -> Result<(), Fault>
+    ensures ok { OnOk result (out.new.items ≡ out.old.items ++ operand_text (name_operand (name which.entry) ∷ [])) }
+    ensures memory { IsOkUnless result memory }
+{
+    match which {
+        Name::Text(text) => put_text(out, text.units),
+        Name::Desc(ty) => put_name(out, ty.text.units),
+        Name::Field(field) => put_field(out, field),
+        Name::Method(method) => put_method(out, method),
+    }
+}
+
+/// Appends registers of four bits.
+fn put_registers(out: &mut Vec<u8>, regs: &[u8]) -> Result<(), Fault>
+    ensures ok { OnOk result (out.new.items ≡ out.old.items ++ operand_text (map v4 regs.now)) }
+    ensures memory { IsOkUnless result memory }
+{
+    for reg in regs {
+        put_register(out, *reg as u16)?;
+    }
+    Ok(())
+}
+
+/// Appends a space and a target: its number, or its label.
+pub fn put_target(out: &mut Vec<u8>, form: Form, n: u32) -> Result<(), Fault>
+    ensures ok { OnOk result (out.new.items ≡ out.old.items ++ operand_text_in form (to n ∷ [])) }
+    ensures memory { IsOkUnless result memory }
+{
+    match form {
+        Form::One => out.extend_from_slice(b" @")?,
+        Form::Two => out.extend_from_slice(b" :L")?,
+    }
+    put_decimal(out, n as u64)
+}
+
+/// Appends targets.
+fn put_targets(out: &mut Vec<u8>, form: Form, targets: &[u32]) -> Result<(), Fault>
+    ensures ok { OnOk result (out.new.items ≡ out.old.items ++ operand_text_in form (map to targets.now)) }
+    ensures memory { IsOkUnless result memory }
+{
+    for target in targets {
+        put_target(out, form, *target)?;
+    }
+    Ok(())
+}
+
+/// Appends keys, each with its target.
+fn put_pairs(out: &mut Vec<u8>, form: Form, keys: &[i32], targets: &[u32]) -> Result<(), Fault>
+    ensures ok { OnOk result (out.new.items ≡ out.old.items ++ operand_text_in form (pair_operands keys.now targets.now)) }
+    ensures memory { IsOkUnless result memory }
+{
+    let count = keys.len().min(targets.len());
+    for i in 0..count {
+        put_signed(out, keys[i] as i64)?;
+        put_target(out, form, targets[i])?;
+    }
+    Ok(())
+}
+
+/// Appends the bytes of an array, if it has some.
+fn put_bytes(out: &mut Vec<u8>, bytes: &[u8]) -> Result<(), Fault>
+    ensures ok { OnOk result (out.new.items ≡ out.old.items ++ operand_text (element_operands bytes.now)) }
+    ensures memory { IsOkUnless result memory }
+{
+    if bytes.is_empty() {
+        return Ok(());
+    }
+    put_elements(out, bytes)
+}
+
+/// Appends registers in braces, and a name.
+fn put_braces(out: &mut Vec<u8>, regs: &[u8], which: Name<'_>) -> Result<(), Fault>
+    ensures ok { OnOk result (out.new.items ≡ out.old.items ++ operand_text (keyword Key.Open ∷ (map v4 regs.now ++ (keyword Key.Close ∷ name_operand (name which.entry) ∷ [])))) }
+    ensures memory { IsOkUnless result memory }
+{
+    put_key(out, Key::Open)?;
+    put_registers(out, regs)?;
+    put_key(out, Key::Close)?;
+    put_named(out, which)
+}
+
+/// Appends those of the registers that are used in braces, and a name.
+#[tactic(auto, using(crate::proofs::TextLaws::take_least))]
+fn put_call(out: &mut Vec<u8>, n: u8, regs: [u8; 5], which: Name<'_>) -> Result<(), Fault>
+    ensures ok { OnOk result (out.new.items ≡ out.old.items ++ operand_text (keyword Key.Open ∷ (map v4 (take n regs) ++ (keyword Key.Close ∷ name_operand (name which.entry) ∷ [])))) }
+    ensures memory { IsOkUnless result memory }
+{
+    let (used, _) = regs.split_at((n as usize).min(5));
+    put_braces(out, used, which)
+}
+
+/// Appends two registers.
+fn put_two(out: &mut Vec<u8>, a: u16, b: u16) -> Result<(), Fault>
+    ensures ok { OnOk result (out.new.items ≡ out.old.items ++ operand_text (v4 a ∷ v4 b ∷ [])) }
+    ensures memory { IsOkUnless result memory }
+{
+    put_register(out, a)?;
+    put_register(out, b)
+}
+
+/// Appends the operands of an instruction, in the order of its format.
+#[rattlefmt::skip]
+pub fn put_operands(out: &mut Vec<u8>, form: Form, one: &Insn<'_>) -> Result<(), Fault>
+    ensures ok { OnOk result (out.new.items ≡ out.old.items ++ operand_text_in form (insn_operands (insn one.now))) }
+    ensures memory { IsOkUnless result memory }
+{
+    match *one {
+        Insn::I10x { op: _ } => Ok(()),
+        Insn::I12x { op: _, a, b } => put_two(out, a as u16, b as u16),
+        Insn::I11n { op: _, a, b } => { put_register(out, a as u16)?; put_signed(out, b as i64) }
+        Insn::I11x { op: _, a } => put_register(out, a as u16),
+        Insn::I10t { op: _, to } => put_target(out, form, to),
+        Insn::I20t { op: _, to } => put_target(out, form, to),
+        Insn::I30t { op: _, to } => put_target(out, form, to),
+        Insn::I22x { op: _, a, b } => put_two(out, a as u16, b),
+        Insn::I21t { op: _, a, to } => { put_register(out, a as u16)?; put_target(out, form, to) }
+        Insn::I31t { op: _, a, to } => { put_register(out, a as u16)?; put_target(out, form, to) }
+        Insn::I21s { op: _, a, b } => { put_register(out, a as u16)?; put_signed(out, b as i64) }
+        Insn::I21h { op: _, a, b } => { put_register(out, a as u16)?; put_signed(out, b as i64) }
+        Insn::I21c { op: _, a, name } => { put_register(out, a as u16)?; put_named(out, name) }
+        Insn::I31c { op: _, a, name } => { put_register(out, a as u16)?; put_named(out, name) }
+        Insn::I23x { op: _, a, b, c } => { put_two(out, a as u16, b as u16)?; put_register(out, c as u16) }
+        Insn::I22b { op: _, a, b, c } => { put_two(out, a as u16, b as u16)?; put_signed(out, c as i64) }
+        Insn::I22t { op: _, a, b, to } => { put_two(out, a as u16, b as u16)?; put_target(out, form, to) }
+        Insn::I22s { op: _, a, b, c } => { put_two(out, a as u16, b as u16)?; put_signed(out, c as i64) }
+        Insn::I22c { op: _, a, b, name } => { put_two(out, a as u16, b as u16)?; put_named(out, name) }
+        Insn::I32x { op: _, a, b } => put_two(out, a, b),
+        Insn::I31i { op: _, a, b } => { put_register(out, a as u16)?; put_signed(out, b as i64) }
+        Insn::I51l { op: _, a, b } => { put_register(out, a as u16)?; put_signed(out, b) }
+        Insn::I35c { op: _, n, regs, name } => put_call(out, n, regs, name),
+        Insn::I3rc { op: _, n, first, name } => {
+            put_register(out, first)?;
+            put_number(out, n as u64)?;
+            put_named(out, name)
+        }
+        Insn::Packed { first, targets } => { put_signed(out, first as i64)?; put_targets(out, form, targets) }
+        Insn::Sparse { keys, targets } => put_pairs(out, form, keys, targets),
+        Insn::Data { width, bytes } => { put_number(out, width as u64)?; put_bytes(out, bytes) }
+    }
+}

@@ -1,0 +1,12 @@
+//! The words of a value.
+
+use listing_slots::Slot;
+
+/// What is due: another value or `}` in so many arrays, the word behind a keyword, nothing, or what can't come.
+#[derive(Clone, Copy)]
+pub enum Due {
+    Value(usize),
+    Word(Slot, usize),
+    Nothing,
+    Refused,
+}

@@ -1,0 +1,17 @@
+use Rattle.std.proofs.Common.{arith, [], ◌∷◌}
+use Rattle.listing_slots.specs.View.{datum}
+use Rattle.std.proofs.lemmas.List.{append-nil}
+use Rattle.listing_slots.proofs.OperandLaws.{all_end, all_more, bad_more, data_push}
+use Rattle.listing_slots.proofs.read.read_operands.Goals as goal
+
+pub returns-clause-all : goal.returns-clause-all
+returns-clause-all c = rw append-nil at (c.loop-i.invariant.all [] (all_end c.args.slots.now c.args.words.now c.loop-i.i (omega arith) c.requires))
+
+pub loop-i-preserved : goal.loop-i-preserved
+loop-i-preserved c =
+    let found = rw c.in-Some.is at c.in_ok-said.ensures.found in
+    record {
+      all = λ more m. rw (c.in_ok-push.ensures.items, data_push c.loop-i.says.items c.in-Some.said more)
+          (c.loop-i.invariant.all (datum c.in-Some.said ∷ more) (all_more c.args.slots.now c.args.words.now c.loop-i.i _ _ (datum c.in-Some.said) more c.loop-i-test.true c.requires found m));
+      bad = λ code b. c.loop-i.invariant.bad code (bad_more c.args.slots.now c.args.words.now c.loop-i.i _ _ (datum c.in-Some.said) code c.loop-i-test.true c.requires found b);
+    }

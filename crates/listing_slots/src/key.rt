@@ -1,0 +1,99 @@
+//! The words that are always the same.
+
+ghost use Rattle.std.specs.Prelude.{◌≡◌, ◌↔◌, IsTrue};
+ghost use Rattle.listing_slots.specs.Keys.{key_text, same, find_key, lead_keys, value_keys, payload_keys};
+
+/// A keyword.
+#[rattlefmt::skip]
+#[derive(Clone, Copy)]
+pub enum Key {
+    // the first word of a line
+    Dex, Class, End, Super, Implements, Source, Static, Instance, Direct, Virtual, Code, Try, Catch, CatchAll,
+    // the word of a payload
+    Packed, Sparse, Elements,
+    // behind others
+    Version, Equals, Open, Close,
+    // the first word of a value
+    Byte, Short, Char, Int, Long, Float, Double, Text, Desc, Field, Method, Enum, Array, Null, True, False,
+}
+
+#[rattlefmt::skip]
+const LEADS: [Key; 14] = [
+    Key::Dex, Key::Class, Key::End, Key::Super, Key::Implements, Key::Source, Key::Static, Key::Instance, Key::Direct, Key::Virtual,
+    Key::Code, Key::Try, Key::Catch, Key::CatchAll,
+];
+
+#[rattlefmt::skip]
+const VALUES: [Key; 16] = [
+    Key::Byte, Key::Short, Key::Char, Key::Int, Key::Long, Key::Float, Key::Double, Key::Text, Key::Desc, Key::Field, Key::Method,
+    Key::Enum, Key::Array, Key::Null, Key::True, Key::False,
+];
+
+const PAYLOADS: [Key; 3] = [Key::Packed, Key::Sparse, Key::Elements];
+
+/// The word.
+#[rattlefmt::skip]
+#[tactic(auto, unfolding(crate::specs::Keys::key_text))]
+pub fn key_text(key: Key) -> &'static str
+    ensures { result.now ≡ key_text key }
+{
+    match key {
+        Key::Dex => "dex", Key::Class => "class", Key::End => "end", Key::Super => "super", Key::Implements => "implements",
+        Key::Source => "source", Key::Static => "static", Key::Instance => "instance", Key::Direct => "direct",
+        Key::Virtual => "virtual", Key::Code => "code", Key::Try => "try", Key::Catch => "catch", Key::CatchAll => "catchall",
+        Key::Packed => "packed-switch-payload", Key::Sparse => "sparse-switch-payload", Key::Elements => "array-payload",
+        Key::Version => "035", Key::Equals => "=", Key::Open => "{", Key::Close => "}",
+        Key::Byte => "byte", Key::Short => "short", Key::Char => "char", Key::Int => "int", Key::Long => "long",
+        Key::Float => "float", Key::Double => "double", Key::Text => "string", Key::Desc => "type", Key::Field => "field",
+        Key::Method => "method", Key::Enum => "enum", Key::Array => "array", Key::Null => "null", Key::True => "true",
+        Key::False => "false",
+    }
+}
+
+/// Whether the texts are equal.
+pub fn is_same(a: &[u8], b: &[u8]) -> bool
+    ensures { result ≡ same a.now b.now }
+{
+    a.len() == b.len() && a == b
+}
+
+#[tactic(auto, unfolding(crate::specs::Keys::find_key))]
+/// The keyword among these that is the text.
+fn find_key(keys: &[Key], text: &[u8]) -> Option<Key>
+    ensures { result ≡ find_key keys.now text.now }
+{
+    for key in keys {
+        if is_same(key_text(*key).as_bytes(), text) {
+            return Some(*key);
+        }
+    }
+    None
+}
+
+/// The keyword of a line.
+pub fn lead_key(text: &[u8]) -> Option<Key>
+    ensures { result ≡ find_key lead_keys text.now }
+{
+    find_key(&LEADS, text)
+}
+
+/// The keyword of a value.
+pub fn value_key(text: &[u8]) -> Option<Key>
+    ensures { result ≡ find_key value_keys text.now }
+{
+    find_key(&VALUES, text)
+}
+
+/// Whether the texts are equal.
+pub fn is_same_text(a: &[u16], b: &[u16]) -> bool
+    ensures { result ≡ same a.now b.now }
+{
+    a == b
+}
+
+/// The word of a payload.
+pub fn payload_key(text: &[u8]) -> Option<Key>
+    ensures { result ≡ find_key payload_keys text.now }
+{
+    find_key(&PAYLOADS, text)
+}

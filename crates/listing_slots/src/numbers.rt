@@ -1,0 +1,90 @@
+//! Numbers in slots.
+
+ghost use Rattle.std.specs.Prelude.{◌≡◌, ℕ, ℤ, ◌<◌, ◌≤◌, ◌^◌, ◌∷◌, [], ◌+◌, pos, neg_ℤ, List, IfSome, IfNone};
+ghost use Rattle.listing_words.specs.Numbers.{SpellsNatural};
+ghost use Rattle.listing_words.specs.Words.{plain_word};
+ghost use Rattle.listing_slots.specs.Slots.{mark_text, SpellsNumber, SpellsSigned};
+
+use crate::slot::Mark;
+use listing_words::read_natural;
+
+/// The byte of a mark.
+fn mark_byte(mark: Mark) -> Option<u8>
+    ensures some { IfSome result (λ c. mark_text mark ≡ c ∷ []) }
+    ensures none { IfNone result (mark_text mark ≡ []) }
+{
+    match mark {
+        Mark::Nothing => None,
+        Mark::Register => Some(118),
+        Mark::Target => Some(64),
+    }
+}
+
+/// The number of at most `most` behind the mark.
+pub fn read_number(mark: Mark, text: &[u8], most: u64) -> Option<u64>
+    ensures found { IfSome result (λ n. SpellsNumber mark most (plain_word text.now) n) }
+    ensures none { IfNone result ((n : ℕ) → SpellsNumber mark most (plain_word text.now) n → ⊥) }
+{
+    let Some(before) = mark_byte(mark) else {
+        return read_natural(text, most);
+    };
+    let Some((first, digits)) = text.split_first() else {
+        return None;
+    };
+    if *first != before {
+        return None;
+    }
+    read_natural(digits, most)
+}
+
+/// What follows a minus.
+fn behind_minus(text: &[u8]) -> Option<&[u8]>
+    ensures found { IfSome result (λ ds. text.now ≡ 45 ∷ ds.now) }
+    ensures none { IfNone result ((ds : List ℕ) → text.now ≡ 45 ∷ ds → ⊥) }
+{
+    let Some((first, digits)) = text.split_first() else {
+        return None;
+    };
+    if *first != 45 {
+        return None;
+    }
+    Some(digits)
+}
+
+/// Minus a number.
+fn minus(n: u64) -> i64
+    requires { n ≤ 2 ^ 63 }
+    ensures { result ≡ neg_ℤ (pos n) }
+{
+    if n == 0 {
+        return 0;
+    }
+    -((n - 1) as i64) - 1
+}
+
+/// Minus the number that the digits spell, if that is at most `most`.
+fn read_minus(digits: &[u8], most: u64) -> Option<i64>
+    requires { most ≤ 2 ^ 63 }
+    ensures found { IfSome result (λ z. (n : ℕ) × SpellsNatural digits.now n × (n ≤ most) × (z ≡ neg_ℤ (pos n))) }
+    ensures none { IfNone result ((n : ℕ) → SpellsNatural digits.now n → n ≤ most → ⊥) }
+{
+    match read_natural(digits, most) {
+        Some(n) => Some(minus(n)),
+        None => None,
+    }
+}
+
+/// The number from minus one more than `most` up to `most`.
+pub fn read_signed(text: &[u8], most: u64) -> Option<i64>
+    requires { most < 2 ^ 63 }
+    ensures found { IfSome result (λ z. SpellsSigned most (plain_word text.now) z) }
+    ensures none { IfNone result ((z : ℤ) → SpellsSigned most (plain_word text.now) z → ⊥) }
+{
+    match behind_minus(text) {
+        Some(digits) => read_minus(digits, most + 1),
+        None => match read_natural(text, most) {
+            Some(n) => Some(n as i64),
+            None => None,
+        },
+    }
+}

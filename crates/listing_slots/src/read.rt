@@ -1,0 +1,251 @@
+//! What the words of a line say.
+
+ghost use Rattle.std.specs.Prelude.{◌≡◌, true, ℕ, List, map, length, IfOk, IfSome, IfNone, IsOkUnless};
+ghost use Rattle.base_bytes.specs.Fault.{memory};
+ghost use Rattle.listing_words.specs.Words.{plain_word, text_in_quotes};
+ghost use Rattle.listing_words.specs.View.{word};
+ghost use Rattle.listing_slots.specs.Slots.{SpellsSlot, SpellsSlots, MisspellsSlots, SpellsUnitsIn, is_name_slot, is_number_slot, is_signed_slot, fault_of};
+ghost use Rattle.listing_slots.specs.Data.{Datum as Said};
+ghost use Rattle.listing_slots.specs.View.{datum};
+
+use crate::datum::Datum;
+use crate::numbers::{read_number, read_signed};
+use crate::slot::{Mark, Slot};
+use bumpalo::Bump;
+use dex_base::{Fault, fault, is_descriptor, is_member_name};
+use listing_words::{
+    Word, read_bits, read_elements, read_field, read_method, read_name, read_proto,
+};
+use program_types::{Desc, Name, Str};
+
+/// What a word without quotes says in a number's slot.
+fn read_plain(slot: Slot, text: &[u8]) -> Option<Datum<'static>>
+    requires { is_number_slot slot ≡ true }
+    ensures found { IfSome result (λ d. SpellsSlot slot (plain_word text.now) (datum d)) }
+    ensures none { IfNone result ((d : Said) → SpellsSlot slot (plain_word text.now) d → ⊥) }
+{
+    match slot {
+        Slot::Byte(mark, most) => match read_number(mark, text, most as u64) {
+            Some(n) => Some(Datum::Byte(n as u8)),
+            None => None,
+        },
+        Slot::Half(mark, most) => match read_number(mark, text, most as u64) {
+            Some(n) => Some(Datum::Half(n as u16)),
+            None => None,
+        },
+        Slot::Word(mark, most) => match read_number(mark, text, most as u64) {
+            Some(n) => Some(Datum::Word(n as u32)),
+            None => None,
+        },
+        Slot::Flags => match read_number(Mark::Nothing, text, 4294967295) {
+            Some(n) => Some(Datum::Word(n as u32)),
+            None => None,
+        },
+        Slot::Float => match read_bits(8, text) {
+            Some(n) => Some(Datum::Word(n as u32)),
+            None => None,
+        },
+        Slot::Double => match read_bits(16, text) {
+            Some(n) => Some(Datum::Wide(n)),
+            None => None,
+        },
+        _ => read_whole(slot, text),
+    }
+}
+
+/// What a word without quotes says in the slot of a signed number.
+fn read_whole(slot: Slot, text: &[u8]) -> Option<Datum<'static>>
+    requires { is_signed_slot slot ≡ true }
+    ensures found { IfSome result (λ d. SpellsSlot slot (plain_word text.now) (datum d)) }
+    ensures none { IfNone result ((d : Said) → SpellsSlot slot (plain_word text.now) d → ⊥) }
+{
+    match slot {
+        Slot::Nibble => match read_signed(text, 7) {
+            Some(n) => Some(Datum::Tiny(n as i8)),
+            None => None,
+        },
+        Slot::Tiny => match read_signed(text, 127) {
+            Some(n) => Some(Datum::Tiny(n as i8)),
+            None => None,
+        },
+        Slot::Short => match read_signed(text, 32767) {
+            Some(n) => Some(Datum::Short(n as i16)),
+            None => None,
+        },
+        Slot::Int => match read_signed(text, 2147483647) {
+            Some(n) => Some(Datum::Int(n as i32)),
+            None => None,
+        },
+        Slot::Long => match read_signed(text, 9223372036854775807) {
+            Some(n) => Some(Datum::Long(n)),
+            None => None,
+        },
+        _ => None,
+    }
+}
+
+/// What a word's units say in a name's slot.
+fn read_named<'a>(bump: &'a Bump, slot: Slot, units: &'a [u16]) -> Result<Option<Datum<'a>>, Fault>
+    requires { is_name_slot slot ≡ true }
+    ensures found { IfOk result (λ r. IfSome r (λ d. SpellsUnitsIn slot units.now (datum d))) }
+    ensures none { IfOk result (λ r. IfNone r ((d : Said) → SpellsUnitsIn slot units.now d → ⊥)) }
+    ensures memory { IsOkUnless result memory }
+{
+    match slot {
+        Slot::Member => {
+            if is_member_name(units) {
+                return Ok(Some(Datum::Name(Name::Text(Str { units }))));
+            }
+            Ok(None)
+        }
+        Slot::Desc => {
+            if is_descriptor(units) {
+                return Ok(Some(Datum::Name(Name::Desc(Desc {
+                    text: Str { units },
+                }))));
+            }
+            Ok(None)
+        }
+        Slot::Field => {
+            let Some(field) = read_field(units) else {
+                return Ok(None);
+            };
+            Ok(Some(Datum::Name(Name::Field(bump.try_alloc(field)?))))
+        }
+        Slot::Enum => {
+            let Some(field) = read_field(units) else {
+                return Ok(None);
+            };
+            Ok(Some(Datum::Enum(bump.try_alloc(field)?)))
+        }
+        Slot::Method => {
+            let Some(method) = read_method(bump, units)? else {
+                return Ok(None);
+            };
+            Ok(Some(Datum::Name(Name::Method(bump.try_alloc(method)?))))
+        }
+        Slot::Proto => {
+            let Some(proto) = read_proto(bump, units)? else {
+                return Ok(None);
+            };
+            Ok(Some(Datum::Proto(bump.try_alloc(proto)?)))
+        }
+        _ => Ok(None),
+    }
+}
+
+/// Whether names stand in the slot.
+fn is_name_slot(slot: Slot) -> bool
+    ensures { result ≡ is_name_slot slot }
+{
+    matches!(
+        slot,
+        Slot::Member | Slot::Desc | Slot::Field | Slot::Method | Slot::Enum | Slot::Proto
+    )
+}
+
+/// Whether a number stands in the slot.
+fn is_number_slot(slot: Slot) -> bool
+    ensures { result ≡ is_number_slot slot }
+{
+    match slot {
+        Slot::Byte(_, _) | Slot::Half(_, _) | Slot::Word(_, _) | Slot::Nibble | Slot::Tiny => true,
+        Slot::Short | Slot::Int | Slot::Long | Slot::Flags | Slot::Float | Slot::Double => true,
+        _ => false,
+    }
+}
+
+/// What a word without quotes says in a name's slot: it is decoded first, and then read.
+fn read_encoded<'a>(bump: &'a Bump, slot: Slot, text: &[u8]) -> Result<Option<Datum<'a>>, Fault>
+    requires { is_name_slot slot ≡ true }
+    ensures found { IfOk result (λ r. IfSome r (λ d. SpellsSlot slot (plain_word text.now) (datum d))) }
+    ensures none { IfOk result (λ r. IfNone r ((d : Said) → SpellsSlot slot (plain_word text.now) d → ⊥)) }
+    ensures memory { IsOkUnless result memory }
+{
+    match read_name(bump, text)? {
+        Some(units) => read_named(bump, slot, units),
+        None => Ok(None),
+    }
+}
+
+/// What a word without quotes says in the slot.
+fn read_unquoted<'a>(bump: &'a Bump, slot: Slot, text: &[u8]) -> Result<Option<Datum<'a>>, Fault>
+    ensures found { IfOk result (λ r. IfSome r (λ d. SpellsSlot slot (plain_word text.now) (datum d))) }
+    ensures none { IfOk result (λ r. IfNone r ((d : Said) → SpellsSlot slot (plain_word text.now) d → ⊥)) }
+    ensures memory { IsOkUnless result memory }
+{
+    if is_number_slot(slot) {
+        return Ok(read_plain(slot, text));
+    }
+    if is_name_slot(slot) {
+        return read_encoded(bump, slot, text);
+    }
+    match slot {
+        Slot::Key(key) => Ok(Some(Datum::Key(key))),
+        Slot::Elements => match read_elements(bump, text)? {
+            Some(bytes) => Ok(Some(Datum::Elements(bytes))),
+            None => Ok(None),
+        },
+        _ => Ok(None),
+    }
+}
+
+/// What a text in quotes says in the slot.
+fn read_quoted<'a>(slot: Slot, units: &'a [u16]) -> Option<Datum<'a>>
+    ensures found { IfSome result (λ d. SpellsSlot slot (text_in_quotes units.now) (datum d)) }
+    ensures none { IfNone result ((d : Said) → SpellsSlot slot (text_in_quotes units.now) d → ⊥) }
+{
+    match slot {
+        Slot::Key(key) => Some(Datum::Key(key)),
+        Slot::Text => Some(Datum::Name(Name::Text(Str { units }))),
+        _ => None,
+    }
+}
+
+/// What the word says in the slot.
+pub fn read_datum<'a, 'b>(
+    bump: &'a Bump,
+    slot: Slot,
+    one: Word<'a, 'b>,
+) -> Result<Option<Datum<'a>>, Fault>
+    ensures found { IfOk result (λ r. IfSome r (λ d. SpellsSlot slot (word one.entry) (datum d))) }
+    ensures none { IfOk result (λ r. IfNone r ((d : Said) → SpellsSlot slot (word one.entry) d → ⊥)) }
+    ensures memory { IsOkUnless result memory }
+{
+    match one {
+        Word::Plain(text) => read_unquoted(bump, slot, text),
+        Word::Text(units) => Ok(read_quoted(slot, units)),
+    }
+}
+
+/// The fault of a word that says nothing in the slot.
+pub fn fault_of(slot: Slot) -> u16
+    ensures { result ≡ fault_of slot }
+{
+    if is_name_slot(slot) {
+        return fault::LINE_NAME;
+    }
+    fault::LINE_NUMBER
+}
+
+/// What these words say in these slots; else the fault of the first that says nothing there.
+pub fn read_operands<'a, 'b>(
+    bump: &'a Bump,
+    slots: &[Slot],
+    words: &[Word<'a, 'b>],
+    says: &mut Vec<Datum<'a>, &'a Bump>,
+) -> Result<Option<u16>, Fault>
+    requires { length slots.now ≡ length words.now }
+    ensures all { IfOk result (λ r. IfNone r (SpellsSlots slots.now (map word words.now) (map datum says.new.items))) }
+    ensures bad { IfOk result (λ r. IfSome r (λ code. MisspellsSlots slots.now (map word words.now) code)) }
+    ensures memory { IsOkUnless result memory }
+{
+    says.clear();
+    for i in 0..slots.len() {
+        let Some(said) = read_datum(bump, slots[i], words[i])? else {
+            return Ok(Some(fault_of(slots[i])));
+        };
+        says.push(said)?;
+    }
+    Ok(None)
+}

@@ -1,0 +1,109 @@
+-- The words of a line: a line has its words in one way.
+use Rattle.std.proofs.Common.{◌≡◌, ◌≢◌, ℕ, ◌+◌, ◌<◌, inl, inr, List, [], ◌∷◌, ◌++◌, length, get_or, map, take, drop, refl, sym, ap, subst, ◌∙◌, append_assoc, arith, add-one, drop-cons}
+use Rattle.std.specs.Prelude.{Bool, false, ◌==◌, MatchBool}
+use Rattle.std.proofs.lemmas.Bool.{cases_eq, eq-eqb, ne_eqb}
+use Rattle.std.proofs.lemmas.List.{take_more, append-nil}
+use Rattle.std.specs.List.{AllByRecursion}
+use Rattle.listing_words.specs.Taking.{NoneAt, IsDecided, Each}
+use Rattle.listing_words.specs.Texts.{TakesUnits}
+use Rattle.listing_words.specs.Words.{Word, plain_word, text_in_quotes, after_spaces, up_to_space, from_space, IsGraphic, TakesPlain, TakesText, TakesWord, HasWords}
+use Rattle.listing_words.proofs.TakingLaws.{Each-one}
+use Rattle.listing_words.specs.View.{word}
+use Rattle.listing_words.specs.declared.words.Word.{Word as Made}
+use Rattle.listing_words.proofs.TextLaws.{units_decided}
+
+pub up_at_space : (c : ℕ) (cs : List ℕ) → c ≡ 32 → up_to_space (c ∷ cs) ≡ []
+up_at_space c cs e = rw (eq-eqb c 32 e) refl
+
+pub up_at_other : (c : ℕ) (cs : List ℕ) → c ≢ 32 → up_to_space (c ∷ cs) ≡ c ∷ up_to_space cs
+up_at_other c cs e = rw (ne_eqb c 32 e) refl
+
+pub from_at_space : (c : ℕ) (cs : List ℕ) → c ≡ 32 → from_space (c ∷ cs) ≡ c ∷ cs
+from_at_space c cs e = rw (eq-eqb c 32 e) refl
+
+pub from_at_other : (c : ℕ) (cs : List ℕ) → c ≢ 32 → from_space (c ∷ cs) ≡ from_space cs
+from_at_other c cs e = rw (ne_eqb c 32 e) refl
+
+-- a byte more before the space
+pub front_more : (text : List ℕ) (i : ℕ) → i < length text → get_or text i 0 ≢ 32 → take i text ++ up_to_space (drop i text) ≡ take (i + 1) text ++ up_to_space (drop (i + 1) text)
+front_more text i h n = rw (take_more text i 0 h, add-one, drop-cons text i 0 h, up_at_other _ _ n) (sym (append_assoc (take i text) (get_or text i 0 ∷ []) _))
+
+pub front_end : (text : List ℕ) (i : ℕ) → i < length text → get_or text i 0 ≡ 32 → take i text ++ up_to_space (drop i text) ≡ take i text
+front_end text i h e = rw (drop-cons text i 0 h, up_at_space _ _ e) (append-nil (take i text))
+
+pub back_more : (text : List ℕ) (i : ℕ) → i < length text → get_or text i 0 ≢ 32 → from_space (drop i text) ≡ from_space (drop (i + 1) text)
+back_more text i h n = rw (add-one, drop-cons text i 0 h, from_at_other _ _ n) refl
+
+pub back_end : (text : List ℕ) (i : ℕ) → i < length text → get_or text i 0 ≡ 32 → from_space (drop i text) ≡ drop i text
+back_end text i h e = rw (drop-cons text i 0 h, from_at_space _ _ e) refl
+
+plain_or_text : (text v us r s : List ℕ) → TakesPlain text v r → TakesText text us s → ⊥
+plain_or_text text v us r s p q = p.no_quote (ap (λ w. get_or w 0 0) (p.word ∙ ap up_to_space q.quote))
+
+pub word_decided : IsDecided TakesWord
+word_decided text (plain_word v) (plain_word w) r s p q = let a = p.word in let b = q.word in let c = p.behind in let d = q.behind in (cc, cc)
+word_decided text (plain_word v) (text_in_quotes us) r s p q = absurd (plain_or_text (after_spaces text) v us r s p q)
+word_decided text (text_in_quotes us) (plain_word v) r s p q = absurd (plain_or_text (after_spaces text) v us s r q p)
+word_decided text (text_in_quotes us) (text_in_quotes vs) r s p q =
+    let a = p.quote in let b = q.quote in let e : p.inner ≡ q.inner = cc in
+    let both = units_decided q.inner us vs r s (subst (λ (t : List ℕ). TakesUnits t us r) e p.units) q.units in
+    (ap text_in_quotes both.0, both.1)
+
+-- at the end of the words only spaces stand
+end_stops : (end : List ℕ) → after_spaces end ≡ [] → NoneAt TakesWord end
+end_stops end e (plain_word w) rest p = let a = p.word ∙ ap up_to_space e in let b = ap length a in omega (arith, p.some)
+end_stops end e (text_in_quotes us) rest p = let a = p.quote in cc
+
+pub words_one : (line : List ℕ) (vs ws : List Word) → HasWords line vs → HasWords line ws → vs ≡ ws
+words_one line vs ws p q = (Each-one TakesWord word_decided vs ws line p.end q.end p.words q.words (end_stops p.end p.spaces) (end_stops q.end q.spaces)).0
+
+pub words_none : (line end : List ℕ) (vs : List Word) → Each TakesWord line vs end → NoneAt TakesWord end → (after_spaces end ≢ []) → (ws : List Word) → HasWords line ws → ⊥
+words_none line end vs p stop some ws q =
+    let one = Each-one TakesWord word_decided vs ws line end q.end p q.words stop (end_stops q.end q.spaces) in
+    some (ap after_spaces one.1 ∙ q.spaces)
+
+-- behind all words only spaces stand, or the line can't be cut into words
+pub words_end : (line end rest : List ℕ) (vs : List Word) (b : Bool) → Each TakesWord line vs end → NoneAt TakesWord end → rest ≡ after_spaces end → b ≡ (length rest == 0) → MatchBool b (HasWords line vs) ((ws : List Word) → HasWords line ws → ⊥)
+words_end line end [] vs b h stop e f = rw f (record { end = end; words = h; spaces = sym e })
+words_end line end (x ∷ rest) vs b h stop e f = let n : (length (x ∷ rest) == 0) ≡ false = ne_eqb (length (x ∷ rest)) 0 (λ z. omega arith) in rw (f, n) (words_none line end vs h stop (λ g. let k = e ∙ g in cc))
+
+-- ---- what the reader meets
+
+after_not_space : (line : List ℕ) (c : ℕ) (cs : List ℕ) → after_spaces line ≡ c ∷ cs → c ≢ 32
+after_not_space [] c cs e = absurd cc
+after_not_space (d ∷ ds) c cs e = elim (cases_eq d 32) [
+  | inl h ↦ after_not_space ds c cs (rw (eq-eqb d 32 h) at e)
+  | inr h ↦ let f = rw (ne_eqb d 32 h) at e in let g : d ≡ c = cc in λ i. h (g ∙ i)
+]
+
+pub plain_long : (line : List ℕ) (c : ℕ) (cs : List ℕ) → after_spaces line ≡ c ∷ cs → 0 < length (up_to_space (after_spaces line))
+plain_long line c cs e = rw (e, up_at_other c cs (after_not_space line c cs e)) (omega arith)
+
+pub plain_found : (line : List ℕ) (c : ℕ) (cs w rest : List ℕ) → after_spaces line ≡ c ∷ cs → c ≢ 34 → w ≡ up_to_space (after_spaces line) → rest ≡ from_space (after_spaces line) → AllByRecursion IsGraphic w
+    → TakesPlain (after_spaces line) w rest
+plain_found line c cs w rest e n word behind all = record {
+  some = rw word (plain_long line c cs e);
+  no_quote = λ h. n (sym (ap (λ (l : List ℕ). get_or l 0 0) (word ∙ ap up_to_space e ∙ up_at_other c cs (after_not_space line c cs e))) ∙ h);
+  bytes = all;
+  word = word;
+  behind = behind;
+}
+
+quoted_not_plain : (text inner w rest : List ℕ) → text ≡ 34 ∷ inner → TakesPlain text w rest → ⊥
+quoted_not_plain text inner w rest e p = p.no_quote (ap (λ (l : List ℕ). get_or l 0 0) (p.word ∙ ap up_to_space e))
+
+pub quoted_none : (line inner : List ℕ) → after_spaces line ≡ 34 ∷ inner → NoneAt TakesUnits inner → NoneAt TakesWord line
+quoted_none line inner e none (plain_word w) rest p = quoted_not_plain (after_spaces line) inner w rest e p
+quoted_none line inner e none (text_in_quotes us) rest p =
+    let q = p.quote in let f : p.inner ≡ inner = cc in none us rest (subst (λ (t : List ℕ). TakesUnits t us rest) f p.units)
+
+pub quoted_open : (line inner us rest : List ℕ) → after_spaces line ≡ 34 ∷ inner → TakesUnits inner us rest → up_to_space rest ≢ [] → NoneAt TakesWord line
+quoted_open line inner us rest e u n (plain_word w) more p = quoted_not_plain (after_spaces line) inner w more e p
+quoted_open line inner us rest e u n (text_in_quotes vs) more p =
+    let q = p.quote in let f : p.inner ≡ inner = cc in
+    let both = units_decided inner us vs rest more u (subst (λ (t : List ℕ). TakesUnits t vs more) f p.units) in
+    n (ap up_to_space both.1 ∙ p.ends)
+
+pub said_push : (ws : List Made) (w : Made) → map word (ws ++ w ∷ []) ≡ map word ws ++ word w ∷ []
+said_push [] w = refl
+said_push (v ∷ ws) w = ap (λ l. word v ∷ l) (said_push ws w)

@@ -1,0 +1,72 @@
+-- Texts in quotes: units that stand for themselves or are escaped.
+-- Page: docs/LISTING.md, "Lines and words".
+use Rattle.std.specs.Prelude.{◌≡◌, ◌≢◌, ℕ, ◌+◌, ◌*◌, ◌/◌, ◌%◌, ◌<◌, ◌≤◌, ◌⊎◌, ◌||◌, ◌&&◌, nat_lt, ◌==◌, if◌then◌else◌, List, [], ◌∷◌, ◌++◌, length, slice_index}
+use Rattle.std.specs.List.{flat_map}
+use Rattle.std.specs.Char.{digit_value}
+use Rattle.listing_words.specs.Taking.{Each}
+
+-- A unit that stands for itself.
+pub record IsPlain (u : ℕ) : Type 0 where
+  pub low : 32 ≤ u
+  pub high : u < 127
+  pub no_quote : u ≢ 34
+  pub no_escape : u ≢ 92
+
+-- The value of a hexadecimal digit; 16 or more for any other byte.
+unfoldable pub hex : ℕ → ℕ
+hex c = digit_value c
+
+-- A backslash, a `u`, and four hexadecimal digits.
+pub record TakesHex (text : List ℕ) (u : ℕ) (rest : List ℕ) : Type 0 where
+  pub a : ℕ
+  pub b : ℕ
+  pub c : ℕ
+  pub d : ℕ
+  pub joined : text ≡ 92 ∷ 117 ∷ a ∷ b ∷ c ∷ d ∷ rest
+  pub digits : (hex a < 16) × (hex b < 16) × (hex c < 16) × (hex d < 16)
+  pub number : u ≡ hex a * 4096 + hex b * 256 + hex c * 16 + hex d
+
+-- One unit: itself, or an escape.
+abbrev pub TakesUnit : List ℕ → ℕ → List ℕ → Type 0
+TakesUnit text u rest =
+    (IsPlain u × (text ≡ u ∷ rest))
+    ⊎ (((u ≡ 34) ⊎ (u ≡ 92)) × (text ≡ 92 ∷ u ∷ rest))
+    ⊎ TakesHex text u rest
+
+-- Units up to a quote.
+pub record TakesUnits (text : List ℕ) (us : List ℕ) (rest : List ℕ) : Type 0 where
+  pub end : List ℕ
+  pub units : Each TakesUnit text us end
+  pub quote : end ≡ 34 ∷ rest
+
+-- ---- what is written
+
+-- A hexadecimal digit in lower case.
+abbrev pub glyph : ℕ → ℕ
+glyph d = if nat_lt d 10 then 48 + d else 87 + d
+
+-- `\uXXXX`
+abbrev pub escape_text : ℕ → List ℕ
+escape_text u = 92 ∷ 117 ∷ glyph (u / 4096 % 16) ∷ glyph (u / 256 % 16) ∷ glyph (u / 16 % 16) ∷ glyph (u % 16) ∷ []
+
+-- A unit of a text: a quote and a backslash behind a backslash, any other from 0x20 to 0x7e as itself, the rest escaped.
+abbrev pub unit_text : ℕ → List ℕ
+unit_text u =
+    if (u == 34) || (u == 92) then 92 ∷ u ∷ []
+    else if nat_lt 31 u && nat_lt u 127 then u ∷ []
+    else escape_text u
+
+-- A text in its quotes.
+abbrev pub text_word : List ℕ → List ℕ
+text_word us = 34 ∷ (flat_map unit_text us ++ 34 ∷ [])
+
+-- ---- what a private helper says
+
+-- The unit at the front, byte by byte, and how many bytes it takes.
+abbrev pub HasUnit : List ℕ → ℕ → ℕ → Type 0
+HasUnit text u len =
+    (IsPlain u × (len ≡ 1) × (1 ≤ length text) × (slice_index text 0 ≡ u))
+    ⊎ (((u ≡ 34) ⊎ (u ≡ 92)) × (len ≡ 2) × (2 ≤ length text) × (slice_index text 0 ≡ 92) × (slice_index text 1 ≡ u))
+    ⊎ ((len ≡ 6) × (6 ≤ length text) × (slice_index text 0 ≡ 92) × (slice_index text 1 ≡ 117)
+    × (hex (slice_index text 2) < 16) × (hex (slice_index text 3) < 16) × (hex (slice_index text 4) < 16) × (hex (slice_index text 5) < 16)
+    × (u ≡ hex (slice_index text 2) * 4096 + hex (slice_index text 3) * 256 + hex (slice_index text 4) * 16 + hex (slice_index text 5)))

@@ -1,0 +1,213 @@
+//! Names in words, and their parts: a word is decoded first, and then split.
+
+ghost use Rattle.std.specs.Prelude.{◌≡◌, ◌≢◌, ℕ, ◌<◌, ◌≤◌, ◌⊎◌, ◌++◌, ◌∷◌, [], List, length, map, IfOk, IfSome, IfNone, IsOkUnless};
+ghost use Rattle.base_bytes.specs.Fault.{memory};
+ghost use Rattle.program_types.specs.View.{desc, proto, field_ref, method_ref};
+ghost use Rattle.program_types.specs.Content.{Proto as SaidProto, FieldRef as SaidField, MethodRef as SaidMethod};
+ghost use Rattle.listing_words.specs.Taking.{NoneAt, Each};
+ghost use Rattle.listing_words.specs.Names.{HasNameUnit, TakesNameUnit, SpellsUnits, TakesDescriptor, IsMemberText, IsProtoText, IsFieldText, IsMethodText, up_to, from};
+
+use crate::texts::hex;
+use bumpalo::Bump;
+use bumpalo::collections::into_bump_slice;
+use dex_base::{Fault, descriptor_length, is_descriptor, is_member_name};
+use program_types::{Desc, FieldRef, MethodRef, Proto, Str};
+
+/// The unit at the front, and how many bytes it takes.
+fn name_unit_at(text: &[u8]) -> Option<(u16, usize)>
+    ensures found { IfSome result (λ f. HasNameUnit text.now f.0 f.1) }
+    ensures none { IfNone result ((u len : ℕ) → HasNameUnit text.now u len → ⊥) }
+{
+    if text.len() == 0 {
+        return None;
+    }
+    if text[0] != 92 {
+        return Some((text[0] as u16, 1));
+    }
+    if text.len() < 6 {
+        return None;
+    }
+    if text[1] != 117 {
+        return None;
+    }
+    let a = hex(text[2])?;
+    let b = hex(text[3])?;
+    let c = hex(text[4])?;
+    let d = hex(text[5])?;
+    Some((a * 4096 + b * 256 + c * 16 + d, 6))
+}
+
+/// The unit at the front, and what follows it.
+fn read_name_unit(text: &[u8]) -> Option<(u16, &[u8])>
+    ensures shorter { IfSome result (λ f. length f.1.now < length text.now) }
+    ensures found { IfSome result (λ f. TakesNameUnit text.now f.0 f.1.now) }
+    ensures none { IfNone result (NoneAt TakesNameUnit text.now) }
+{
+    match name_unit_at(text) {
+        Some((unit, length)) => {
+            let (_, rest) = text.split_at(length);
+            Some((unit, rest))
+        }
+        None => None,
+    }
+}
+
+/// The units of a word, decoded into the arena; none where an escape is malformed.
+pub fn read_name<'a>(bump: &'a Bump, word: &[u8]) -> Result<Option<&'a [u16]>, Fault>
+    ensures found { IfOk result (λ r. IfSome r (λ us. SpellsUnits word.now us.now)) }
+    ensures none { IfOk result (λ r. IfNone r ((us : List ℕ) → SpellsUnits word.now us → ⊥)) }
+    ensures memory { IsOkUnless result memory }
+{
+    let mut units = Vec::with_capacity(bump, word.len())?;
+    let mut rest = word;
+    while let Some((unit, after)) = read_name_unit(rest) {
+        units.push(unit)?;
+        rest = after;
+    }
+    if rest.len() == 0 {
+        return Ok(Some(into_bump_slice(units)));
+    }
+    Ok(None)
+}
+
+/// All descriptors at the front, and what follows them.
+fn read_params<'a>(
+    bump: &'a Bump,
+    units: &'a [u16],
+) -> Result<(Vec<Desc<'a>, &'a Bump>, &'a [u16]), Fault>
+    ensures params { IfOk result (λ f. Each TakesDescriptor units.now (map desc f.0.items) f.1.now) }
+    ensures all { IfOk result (λ f. NoneAt TakesDescriptor f.1.now) }
+    ensures memory { IsOkUnless result memory }
+{
+    let mut params = Vec::new(bump);
+    let mut rest = units;
+    while let Some(n) = descriptor_length(rest) {
+        let (text, after) = rest.split_at(n);
+        params.push(Desc {
+            text: Str { units: text },
+        })?;
+        rest = after;
+    }
+    Ok((params, rest))
+}
+
+/// The prototype behind its first parenthesis.
+fn read_proto_tail<'a>(bump: &'a Bump, units: &'a [u16]) -> Result<Option<Proto<'a>>, Fault>
+    ensures found { IfOk result (λ r. IfSome r (λ p. IsProtoText (40 ∷ units.now) (proto p))) }
+    ensures none { IfOk result (λ r. IfNone r ((p : SaidProto) → IsProtoText (40 ∷ units.now) p → ⊥)) }
+    ensures memory { IsOkUnless result memory }
+{
+    let (params, rest) = read_params(bump, units)?;
+    let Some((close, ret)) = rest.split_first() else {
+        return Ok(None);
+    };
+    if *close != 41 {
+        return Ok(None);
+    }
+    if !is_descriptor(ret) {
+        return Ok(None);
+    }
+    Ok(Some(Proto {
+        ret: Desc {
+            text: Str { units: ret },
+        },
+        params: into_bump_slice(params),
+    }))
+}
+
+/// The prototype that the units are: `(P..)R`.
+pub fn read_proto<'a>(bump: &'a Bump, units: &'a [u16]) -> Result<Option<Proto<'a>>, Fault>
+    ensures found { IfOk result (λ r. IfSome r (λ p. IsProtoText units.now (proto p))) }
+    ensures none { IfOk result (λ r. IfNone r ((p : SaidProto) → IsProtoText units.now p → ⊥)) }
+    ensures memory { IsOkUnless result memory }
+{
+    let Some((open, inner)) = units.split_first() else {
+        return Ok(None);
+    };
+    if *open != 40 {
+        return Ok(None);
+    }
+    read_proto_tail(bump, inner)
+}
+
+/// What stands before the first such unit, and the rest.
+fn split_stop(units: &[u16], stop: u16) -> (&[u16], &[u16])
+    ensures front { result.0.now ≡ up_to stop units.now }
+    ensures back { result.1.now ≡ from stop units.now }
+{
+    for end in 0..units.len() {
+        if units[end] == stop {
+            return units.split_at(end);
+        }
+    }
+    units.split_at(units.len())
+}
+
+/// A class, a member's name, and what stands behind the unit that ends the name.
+fn split_member<'a>(units: &'a [u16], stop: u16) -> Option<(&'a [u16], &'a [u16], &'a [u16])>
+    requires { (stop ≡ 58) ⊎ (stop ≡ 40) }
+    ensures found { IfSome result (λ f. IsMemberText stop units.now f.0.now f.1.now f.2.now) }
+    ensures none { IfNone result ((class name tail : List ℕ) → IsMemberText stop units.now class name tail → ⊥) }
+{
+    let n = descriptor_length(units)?;
+    let (class, behind) = units.split_at(n);
+    if behind.len() < 2 {
+        return None;
+    }
+    if behind[0] != 45 {
+        return None;
+    }
+    if behind[1] != 62 {
+        return None;
+    }
+    let (_, rest) = behind.split_at(2);
+    let (name, end) = split_stop(rest, stop);
+    let Some((_, tail)) = end.split_first() else {
+        return None;
+    };
+    if !is_member_name(name) {
+        return None;
+    }
+    Some((class, name, tail))
+}
+
+/// The field that the units are: `C->n:T`. Its parts are slices of them.
+pub fn read_field<'a>(units: &'a [u16]) -> Option<FieldRef<'a>>
+    ensures found { IfSome result (λ f. IsFieldText units.now (field_ref f)) }
+    ensures none { IfNone result ((f : SaidField) → IsFieldText units.now f → ⊥) }
+{
+    let (class, name, ty) = split_member(units, 58)?;
+    if !is_descriptor(ty) {
+        return None;
+    }
+    Some(FieldRef {
+        class: Desc {
+            text: Str { units: class },
+        },
+        name: Str { units: name },
+        ty: Desc {
+            text: Str { units: ty },
+        },
+    })
+}
+
+/// The method that the units are: `C->n(P..)R`.
+pub fn read_method<'a>(bump: &'a Bump, units: &'a [u16]) -> Result<Option<MethodRef<'a>>, Fault>
+    ensures found { IfOk result (λ r. IfSome r (λ m. IsMethodText units.now (method_ref m))) }
+    ensures none { IfOk result (λ r. IfNone r ((m : SaidMethod) → IsMethodText units.now m → ⊥)) }
+    ensures memory { IsOkUnless result memory }
+{
+    let Some((class, name, tail)) = split_member(units, 40) else {
+        return Ok(None);
+    };
+    let Some(proto) = read_proto_tail(bump, tail)? else {
+        return Ok(None);
+    };
+    Ok(Some(MethodRef {
+        class: Desc {
+            text: Str { units: class },
+        },
+        name: Str { units: name },
+        proto: bump.try_alloc(proto)?,
+    }))
+}

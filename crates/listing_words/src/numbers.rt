@@ -1,0 +1,75 @@
+//! Numbers in decimal or hexadecimal digits.
+
+ghost use Rattle.std.specs.Prelude.{◌≡◌, ℕ, ◌<◌, ◌≤◌, ◌⊎◌, ◌++◌, List, IfSome, IfNone, SomeIff, OnOk, OnErr, IsOkUnless, ◌==◌, true};
+ghost use Rattle.std.specs.Str.Parse.{IsNumeral, digits_value};
+ghost use Rattle.std.specs.Char.{digit_value};
+ghost use Rattle.std.specs.Fmt.{decimal};
+ghost use Rattle.listing_words.specs.Numbers.{SpellsNatural};
+ghost use Rattle.base_bytes.specs.Fault.{memory};
+
+use dex_base::Fault;
+
+/// The value of a digit or a letter in any base up to 36, and 36 for any other byte.
+pub(crate) fn digit(c: u8) -> u64
+    ensures value { result ≡ digit_value c }
+    ensures small { result ≤ 36 }
+{
+    if c < 48 {
+        return 36;
+    }
+    if c < 58 {
+        return (c - 48) as u64;
+    }
+    if c < 65 {
+        return 36;
+    }
+    if c < 91 {
+        return (c - 55) as u64;
+    }
+    if c < 97 {
+        return 36;
+    }
+    if c < 123 {
+        return (c - 87) as u64;
+    }
+    36
+}
+
+/// The number that the digits write, if it is at most `most`.
+pub(crate) fn read_digits(radix: u64, digits: &[u8], most: u64) -> Option<u64>
+    requires { (radix ≡ 10) ⊎ (radix ≡ 16) }
+    ensures { SomeIff result (IsNumeral radix digits.now × (digits_value radix digits.now ≤ most)) (digits_value radix digits.now) }
+{
+    if digits.len() == 0 {
+        return None;
+    }
+    let mut value = 0u64;
+    for c in digits {
+        let next = digit(*c);
+        if next >= radix {
+            return None;
+        }
+        let sum = value as u128 * radix as u128 + next as u128;
+        if sum > most as u128 {
+            return None;
+        }
+        value = sum as u64;
+    }
+    Some(value)
+}
+
+/// The number of at most `most` that the word spells: decimal digits, or `0x` and hexadecimal digits of either case.
+pub fn read_natural(word: &[u8], most: u64) -> Option<u64>
+    ensures found { IfSome result (λ n. SpellsNatural word.now n × (n ≤ most)) }
+    ensures none { IfNone result ((n : ℕ) → SpellsNatural word.now n → n ≤ most → ⊥) }
+{
+    if word.len() >= 2 {
+        if word[0] == 48 {
+            if word[1] == 120 {
+                let (_, digits) = word.split_at(2);
+                return read_digits(16, digits, most);
+            }
+        }
+    }
+    read_digits(10, word, most)
+}

@@ -1,0 +1,48 @@
+//! Units that stand for themselves, in one piece.
+
+ghost use Rattle.std.specs.Prelude.{◌≡◌, ℕ, ◌+◌, ◌<◌, ◌≤◌, ◌++◌, List, length, slice_index, IsTrue, EachIndex, OnOk, IsOkUnless, vec_len, vec_capacity};
+ghost use Rattle.base_bytes.specs.Fault.{memory};
+ghost use Rattle.listing_words.specs.Plain.{IsPlainFrom};
+
+use dex_base::Fault;
+
+/// Whether a unit stands for itself, where those from `least` on can.
+fn is_plain(unit: u16, least: u16) -> bool
+    requires { 32 ≤ least }
+    ensures { IsTrue result → IsPlainFrom least unit }
+{
+    if unit < least || unit >= 127 {
+        return false;
+    }
+    if unit == 34 || unit == 92 {
+        return false;
+    }
+    true
+}
+
+/// The units at the front that stand for themselves, and the rest.
+pub(crate) fn split_plain(units: &[u16], least: u16) -> (&[u16], &[u16])
+    requires { 32 ≤ least }
+    ensures joined { units.now ≡ result.0.now ++ result.1.now }
+    ensures plain { EachIndex result.0.now (λ k. IsPlainFrom least (slice_index result.0.now k)) }
+{
+    for end in 0..units.len() {
+        if !is_plain(units[end], least) {
+            return units.split_at(end);
+        }
+    }
+    units.split_at(units.len())
+}
+
+/// Appends units that are bytes: room is asked for once.
+pub(crate) fn put_bytes(out: &mut Vec<u8>, units: &[u16]) -> Result<(), Fault>
+    requires { EachIndex units.now (λ k. slice_index units.now k < 256) }
+    ensures ok { OnOk result (out.new.items ≡ out.old.items ++ units.now) }
+    ensures memory { IsOkUnless result memory }
+{
+    out.reserve(units.len())?;
+    for unit in units {
+        out.push_reserved(*unit as u8);
+    }
+    Ok(())
+}

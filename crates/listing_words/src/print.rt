@@ -1,0 +1,78 @@
+//! Texts in quotes, as they are written.
+
+ghost use Rattle.std.specs.Prelude.{◌≡◌, ℕ, ◌<◌, ◌≤◌, ◌+◌, ◌++◌, [], ◌∷◌, List, OnOk, IsOkUnless, take};
+ghost use Rattle.std.specs.List.{flat_map};
+ghost use Rattle.listing_words.specs.Texts.{unit_text, escape_text, text_word, glyph};
+ghost use Rattle.base_bytes.specs.Fault.{memory};
+
+use crate::plain::{put_bytes, split_plain};
+use dex_base::Fault;
+
+/// A hexadecimal digit in lower case.
+pub(crate) fn glyph(digit: u16) -> u8
+    requires { digit < 16 }
+    ensures { result ≡ glyph digit }
+{
+    if digit < 10 {
+        return (48 + digit) as u8;
+    }
+    (87 + digit) as u8
+}
+
+/// Appends `\uXXXX`.
+pub(crate) fn put_escape(out: &mut Vec<u8>, unit: u16) -> Result<(), Fault>
+    ensures ok { OnOk result (out.new.items ≡ out.old.items ++ escape_text unit) }
+    ensures memory { IsOkUnless result memory }
+{
+    out.extend_from_slice(&[
+        92,
+        117,
+        glyph(unit / 4096 % 16),
+        glyph(unit / 256 % 16),
+        glyph(unit / 16 % 16),
+        glyph(unit % 16),
+    ])?;
+    Ok(())
+}
+
+/// Appends a unit as it stands in a text.
+fn put_unit(out: &mut Vec<u8>, unit: u16) -> Result<(), Fault>
+    ensures ok { OnOk result (out.new.items ≡ out.old.items ++ unit_text unit) }
+    ensures memory { IsOkUnless result memory }
+{
+    if unit == 34 || unit == 92 {
+        out.extend_from_slice(&[92, unit as u8])?;
+    } else if 31 < unit && unit < 127 {
+        out.extend_from_slice(&[unit as u8])?;
+    } else {
+        put_escape(out, unit)?;
+    }
+    Ok(())
+}
+
+/// Appends units one by one as they stand in a text.
+fn put_units(out: &mut Vec<u8>, units: &[u16]) -> Result<(), Fault>
+    ensures ok { OnOk result (out.new.items ≡ out.old.items ++ flat_map unit_text units.now) }
+    ensures memory { IsOkUnless result memory }
+{
+    for unit in units {
+        put_unit(out, *unit)?;
+    }
+    Ok(())
+}
+
+/// Appends a text in quotes: the units 0x20 to 0x7e stand for themselves, a quote and a backslash behind a backslash, all
+/// others are escaped as `\uXXXX` in lower case.
+///
+/// The only error is want of memory, behind which part of the text may stand in `out`.
+pub fn put_text(out: &mut Vec<u8>, units: &[u16]) -> Result<(), Fault>
+    ensures ok { OnOk result (out.new.items ≡ out.old.items ++ text_word units.now) }
+    ensures memory { IsOkUnless result memory }
+{
+    let (plain, rest) = split_plain(units, 32);
+    out.push(34)?;
+    put_bytes(out, plain)?;
+    put_units(out, rest)?;
+    out.push(34)?;
+    Ok(())
+}

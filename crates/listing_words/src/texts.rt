@@ -1,0 +1,130 @@
+//! Texts in quotes.
+
+ghost use Rattle.std.specs.Prelude.{◌≡◌, ℕ, ◌<◌, ◌≤◌, ◌+◌, ◌*◌, ◌++◌, [], ◌∷◌, List, length, slice_index, drop, IfOk, IfSome, IfNone, SomeIff, OnOk, OnErr, IsOkUnless, vec_len, vec_capacity};
+ghost use Rattle.listing_words.specs.Taking.{NoneAt, Each};
+ghost use Rattle.listing_words.specs.Texts.{HasUnit, TakesUnit, TakesUnits, hex, unit_text, text_word, glyph};
+ghost use Rattle.base_bytes.specs.Fault.{memory};
+ghost use Rattle.std.specs.List.{flat_map};
+
+use bumpalo::Bump;
+use bumpalo::collections::into_bump_slice;
+use dex_base::Fault;
+
+/// The value of a hexadecimal digit.
+#[tactic(auto, unfolding(crate::specs::Texts::hex))]
+pub(crate) fn hex(c: u8) -> Option<u16>
+    ensures { SomeIff result (hex c < 16) (hex c) }
+{
+    if c < 48 {
+        return None;
+    }
+    if c < 58 {
+        return Some((c - 48) as u16);
+    }
+    if c < 65 {
+        return None;
+    }
+    if c < 71 {
+        return Some((c - 55) as u16);
+    }
+    if c < 97 {
+        return None;
+    }
+    if c < 103 {
+        return Some((c - 87) as u16);
+    }
+    None
+}
+
+/// The unit at the front, and how many bytes it takes.
+fn unit_at(text: &[u8]) -> Option<(u16, usize)>
+    ensures found { IfSome result (λ f. HasUnit text.now f.0 f.1) }
+    ensures none { IfNone result ((u len : ℕ) → HasUnit text.now u len → ⊥) }
+{
+    if text.len() == 0 {
+        return None;
+    }
+    if text[0] != 92 {
+        if text[0] < 32 {
+            return None;
+        }
+        if text[0] >= 127 {
+            return None;
+        }
+        if text[0] == 34 {
+            return None;
+        }
+        return Some((text[0] as u16, 1));
+    }
+    if text.len() < 2 {
+        return None;
+    }
+    if text[1] != 117 {
+        if text[1] == 34 {
+            return Some((34, 2));
+        }
+        if text[1] == 92 {
+            return Some((92, 2));
+        }
+        return None;
+    }
+    if text.len() < 6 {
+        return None;
+    }
+    let a = hex(text[2])?;
+    let b = hex(text[3])?;
+    let c = hex(text[4])?;
+    let d = hex(text[5])?;
+    Some((a * 4096 + b * 256 + c * 16 + d, 6))
+}
+
+/// The unit at the front, and what follows it.
+fn read_unit(text: &[u8]) -> Option<(u16, &[u8])>
+    ensures shorter { IfSome result (λ f. length f.1.now < length text.now) }
+    ensures found { IfSome result (λ f. TakesUnit text.now f.0 f.1.now) }
+    ensures none { IfNone result (NoneAt TakesUnit text.now) }
+{
+    match unit_at(text) {
+        Some((unit, length)) => {
+            let (_, rest) = text.split_at(length);
+            Some((unit, rest))
+        }
+        None => None,
+    }
+}
+
+/// All units that stand at the front.
+fn read_run<'a, 'b>(bump: &'a Bump, text: &'b [u8]) -> Result<(Vec<u16, &'a Bump>, &'b [u8]), Fault>
+    ensures run { IfOk result (λ f. Each TakesUnit text.now f.0.items f.1.now) }
+    ensures within { IfOk result (λ f. length f.1.now ≤ length text.now) }
+    ensures all { IfOk result (λ f. NoneAt TakesUnit f.1.now) }
+    ensures memory { IsOkUnless result memory }
+{
+    let mut units = Vec::new(bump);
+    let mut rest = text;
+    while let Some((unit, after)) = read_unit(rest) {
+        units.push(unit)?;
+        rest = after;
+    }
+    Ok((units, rest))
+}
+
+/// The units up to a quote, decoded into the arena, and what follows the quote.
+pub(crate) fn read_units<'a, 'b>(
+    bump: &'a Bump,
+    text: &'b [u8],
+) -> Result<Option<(&'a [u16], &'b [u8])>, Fault>
+    ensures found { IfOk result (λ r. IfSome r (λ f. TakesUnits text.now f.0.now f.1.now)) }
+    ensures shorter { IfOk result (λ r. IfSome r (λ f. length f.1.now < length text.now)) }
+    ensures none { IfOk result (λ r. IfNone r (NoneAt TakesUnits text.now)) }
+    ensures memory { IsOkUnless result memory }
+{
+    let (units, end) = read_run(bump, text)?;
+    let Some((first, rest)) = end.split_first() else {
+        return Ok(None);
+    };
+    if *first != 34 {
+        return Ok(None);
+    }
+    Ok(Some((into_bump_slice(units), rest)))
+}

@@ -1,0 +1,72 @@
+-- What is left of the names in a value.
+use Rattle.std.proofs.Common.{◌≡◌, ℕ, ◌+◌, ◌<◌, ◌≤◌, List, [], ◌∷◌, map, length, get_or, drop, arith, add-one, refl, sym, subst, zero, suc}
+use Rattle.std.specs.Prelude.{◌↔◌}
+use Rattle.std.proofs.Math.Seq.{drop-cons}
+use Rattle.program_types.specs.Content as content
+use Rattle.program_types.specs.Content.{Values, Array, no_values, more_values, values}
+use Rattle.program_types.specs.Depth.{depth, greatest_depth}
+use Rattle.program_types.specs.View.{value}
+use Rattle.program_types.specs.declared.value.Value.{Value as Held}
+use Rattle.program_types.proofs.Nesting.{from}
+use Rattle.program_rules.specs.Nested.{IsGood, AreGood, IsWalked, IsLook, IsSoFar}
+use Rattle.program_rules.specs.declared.nested.Walked.{Walked}
+use Rattle.program_rules.specs.declared.nested.Walked.TheVariants as walked
+use Rattle.program_rules.specs.declared.nested.Look.{Look}
+use Rattle.program_rules.specs.declared.nested.Look.TheVariants as look
+
+-- how deep what is left is
+abbrev pub rest_of : Look → ℕ
+rest_of (look.One left) = depth (value left.now) + 1
+rest_of _ = 0
+
+from-next : (xs : List Held) (i : ℕ) (d : Held) → i < length xs → from xs i ≡ more_values (value (get_or xs i d)) (from xs (i + 1))
+from-next xs i d l = rw (add-one, drop-cons xs i d l) refl
+
+pub good-at : (xs : List Held) (i : ℕ) (d : Held) → i < length xs → AreGood (from xs 0) → IsGood (value (get_or xs i d))
+good-at [] i d l h = absurd (omega arith)
+good-at (x ∷ xs) zero d l h = h.0
+good-at (x ∷ xs) (suc i) d l h = good-at xs i d (omega arith) h.1
+
+deep-at : (xs : List Held) (i : ℕ) (d : Held) → i < length xs → depth (value (get_or xs i d)) ≤ greatest_depth (from xs 0)
+deep-at [] i d l = absurd (omega arith)
+deep-at (x ∷ xs) zero d l = omega arith
+deep-at (x ∷ xs) (suc i) d l = let r = deep-at xs i d (omega arith) in omega arith
+
+-- the first value that is left
+pub one-left : (xs : List Held) (i : ℕ) (d : Held) (left : content.Value) → i < length xs → AreGood (from xs 0) ↔ AreGood (from xs i) → IsGood (value (get_or xs i d)) ↔ IsGood left → depth left ≤ depth (value (get_or xs i d)) → (AreGood (from xs 0) ↔ (IsGood left × AreGood (from xs (i + 1)))) × (depth left ≤ greatest_depth (from xs 0))
+one-left xs i d left l h k m =
+    let e = from-next xs i d l in
+    let g : AreGood (from xs 0) ↔ AreGood (more_values (value (get_or xs i d)) (from xs (i + 1))) = subst (λ (vs : Values). AreGood (from xs 0) ↔ AreGood vs) e h in
+    let deep = deep-at xs i d l in
+    ((λ a. let p = g.0 a in (k.0 p.0, p.1), λ p. g.1 (k.1 p.0, p.1)), omega arith)
+
+-- one behind the other: what is left of what is left
+pub look-deeper : (v w : content.Value) (k : Look) → IsGood v ↔ IsGood w → depth w < depth v → IsLook w k → IsLook v k
+look-deeper v w look.Valid g l h = g.1 h
+look-deeper v w look.Invalid g l h = λ a. h (g.0 a)
+look-deeper v w (look.One left) g l h = ((λ a. h.0.0 (g.0 a), λ b. g.1 (h.0.1 b)), omega arith)
+look-deeper v w (look.Many left) g l h = ((λ a. h.0.0 (g.0 a), λ b. g.1 (h.0.1 b)), omega arith)
+
+pub walked-deeper : (v w : content.Value) (k : Walked) → IsGood v ↔ IsGood w → depth w ≤ depth v → IsWalked w k → IsWalked v k
+walked-deeper v w walked.Valid g l h = g.1 h
+walked-deeper v w walked.Invalid g l h = λ a. h (g.0 a)
+walked-deeper v w (walked.Left left) g l h = ((λ a. h.0.0 (g.0 a), λ b. g.1 (h.0.1 b)), omega arith)
+
+-- all values of an array are looked at
+pub look-whole : (v : content.Value) (xs : List Held) (i : ℕ) (k : Look) → v ≡ Array (values (map value xs)) → length xs ≤ i → IsSoFar v xs i k → IsLook v k
+look-whole v xs i k e l s = subst (λ (w : content.Value). IsLook w k) (sym e) (whole k (subst (λ (w : content.Value). IsSoFar w xs i k) e s))
+  where
+    none : AreGood (from xs i)
+    none = rw (past xs i l) tt
+      where
+        past : (ys : List Held) (j : ℕ) → length ys ≤ j → drop j ys ≡ []
+        past [] zero m = refl
+        past [] (suc j) m = refl
+        past (y ∷ ys) zero m = absurd (omega arith)
+        past (y ∷ ys) (suc j) m = past ys j (omega arith)
+
+    whole : (k : Look) → IsSoFar (Array (values (map value xs))) xs i k → IsLook (Array (values (map value xs))) k
+    whole look.Valid s = s.1 none
+    whole look.Invalid s = s
+    whole (look.One left) s = ((λ a. (s.0.0 a).0, λ g. s.0.1 (g, none)), omega arith)
+    whole (look.Many left) s = rw s ((λ a. a, λ a. a), omega arith)

@@ -1,0 +1,10 @@
+use Rattle.std.proofs.Common.{ℕ, ◌<◌, ◌≡◌, map, Some}
+use Rattle.std.specs.List.{slice_get}
+use Rattle.program_types.specs.Content as content
+use Rattle.program_types.specs.View.{class}
+use Rattle.program_ranges.specs.Ranges.{ClassInRange}
+use Rattle.program_rules.specs.Rules.{ClassHolds}
+use Rattle.program_rules.proofs.program.well_formed.Given as goal
+
+abbrev pub invariant-loop-i : goal.invariant-loop-i
+invariant-loop-i l = (i : ℕ) (c : content.Class) → i < l.i → slice_get (map class l.all.classes.now) i ≡ Some c → ClassHolds (map class l.all.classes.now) i c × ClassInRange c

@@ -1,0 +1,41 @@
+-- What the private functions say of the names in a value, part by part.
+use Rattle.std.specs.Prelude.{◌≡◌, ℕ, ◌<◌, ◌≤◌, ◌↔◌, List}
+use Rattle.program_types.specs.Content.{Value, Values}
+use Rattle.program_types.specs.Depth.{depth, greatest_depth}
+use Rattle.program_types.specs.Mentions.{NamesHold, AllNamesHold}
+use Rattle.program_types.specs.View.{value}
+use Rattle.program_types.specs.declared.value.Value.{Value as Held}
+use Rattle.program_types.proofs.Nesting.{from}
+use Rattle.program_rules.specs.Valid.{IsValidName}
+use Rattle.program_rules.specs.declared.nested.Walked.{Walked}
+use Rattle.program_rules.specs.declared.nested.Walked.TheVariants as walked
+use Rattle.program_rules.specs.declared.nested.Look.{Look}
+use Rattle.program_rules.specs.declared.nested.Look.TheVariants as look
+
+-- A file can have all names in the value.
+abbrev pub IsGood : Value → Type 0
+IsGood v = NamesHold IsValidName v
+
+-- And in the values.
+abbrev pub AreGood : Values → Type 0
+AreGood vs = AllNamesHold IsValidName vs
+
+-- What is known of a value: what is left of it stands for it, and is no deeper.
+abbrev pub IsWalked : Value → Walked → Type 0
+IsWalked v walked.Valid = IsGood v
+IsWalked v walked.Invalid = ¬ IsGood v
+IsWalked v (walked.Left left) = (IsGood v ↔ IsGood (value left.now)) × (depth (value left.now) ≤ depth v)
+
+-- What is known of a value that was looked at: the one that is left stands for it and is deeper within, or more are left of it.
+abbrev pub IsLook : Value → Look → Type 0
+IsLook v look.Valid = IsGood v
+IsLook v look.Invalid = ¬ IsGood v
+IsLook v (look.One left) = (IsGood v ↔ IsGood (value left.now)) × (depth (value left.now) < depth v)
+IsLook v (look.Many left) = (IsGood v ↔ IsGood (value left.now)) × (depth (value left.now) ≤ depth v)
+
+-- What is known of an array of these values behind the first i of them.
+abbrev pub IsSoFar : Value → List Held → ℕ → Look → Type 0
+IsSoFar v xs i look.Valid = AreGood (from xs 0) ↔ AreGood (from xs i)
+IsSoFar v xs i look.Invalid = ¬ AreGood (from xs 0)
+IsSoFar v xs i (look.One left) = (AreGood (from xs 0) ↔ (IsGood (value left.now) × AreGood (from xs i))) × (depth (value left.now) ≤ greatest_depth (from xs 0))
+IsSoFar v xs i (look.Many left) = value left.now ≡ v

@@ -1,0 +1,75 @@
+//! The rules of bodies, over all bodies of a class.
+
+ghost use Rattle.std.specs.Prelude.{◌↔◌, map, IfOk, IsTrue, IfSome};
+ghost use Rattle.std.specs.List.{AllByRecursion};
+ghost use Rattle.program_types.specs.View.{method, class};
+ghost use Rattle.program_rules.specs.Rules.{CodesHold};
+ghost use Rattle.program_code_rules.specs.CodeRules.{Keeps, PayloadsHold};
+
+use program_code_rules::{CodeRule, code_holds, payloads_hold_in};
+use program_types::{Class, Method};
+use std::alloc::{AllocError, Global};
+
+/// Whether the method's body does, if it has one.
+fn method_holds(rule: CodeRule, one: &Method<'_>) -> bool
+    ensures { IsTrue result ↔ IfSome (method one.now).code (Keeps rule) }
+{
+    match one.code {
+        Some(body) => code_holds(rule, body),
+        None => true,
+    }
+}
+
+/// Whether the bodies of all of the methods do.
+fn methods_hold(rule: CodeRule, all: &[Method<'_>]) -> bool
+    ensures { IsTrue result ↔ AllByRecursion (λ m. IfSome m.code (Keeps rule)) (map method all.now) }
+{
+    for each in all {
+        if !method_holds(rule, each) {
+            return false;
+        }
+    }
+    true
+}
+
+/// Whether all bodies in the class do.
+pub(crate) fn codes_hold(rule: CodeRule, one: &Class<'_>) -> bool
+    ensures { IsTrue result ↔ CodesHold (Keeps rule) (class one.now) }
+{
+    if !methods_hold(rule, one.directs) {
+        return false;
+    }
+    methods_hold(rule, one.virtuals)
+}
+
+/// Whether the payloads in the method's body are used as they have to be, if it has one.
+fn method_uses_hold(alloc: Global, one: &Method<'_>) -> Result<bool, AllocError>
+    ensures { IfOk result (λ hold. IsTrue hold ↔ IfSome (method one.now).code PayloadsHold) }
+{
+    match one.code {
+        Some(body) => payloads_hold_in(alloc, body),
+        None => Ok(true),
+    }
+}
+
+/// Whether those in the bodies of all of the methods are.
+fn methods_uses_hold(alloc: Global, all: &[Method<'_>]) -> Result<bool, AllocError>
+    ensures { IfOk result (λ hold. IsTrue hold ↔ AllByRecursion (λ m. IfSome m.code PayloadsHold) (map method all.now)) }
+{
+    for each in all {
+        if !method_uses_hold(alloc, each)? {
+            return Ok(false);
+        }
+    }
+    Ok(true)
+}
+
+/// Whether those in all bodies in the class are, as `codes_hold` of `PayloadUse` says it.
+pub(crate) fn payload_uses_hold(alloc: Global, one: &Class<'_>) -> Result<bool, AllocError>
+    ensures { IfOk result (λ hold. IsTrue hold ↔ CodesHold PayloadsHold (class one.now)) }
+{
+    if !methods_uses_hold(alloc, one.directs)? {
+        return Ok(false);
+    }
+    methods_uses_hold(alloc, one.virtuals)
+}

@@ -1,0 +1,166 @@
+//! Whether a program keeps its rules.
+
+ghost use Rattle.std.specs.Prelude.{◌≡◌, ◌≢◌, ◌↔◌, length, map, IsTrue, IfOk, OnOk, IfErr, IsOkUnless};
+ghost use Rattle.base_bytes.specs.Fault.{memory};
+ghost use Rattle.program_code_rules.specs.CodeRules.{OperandsHold, PayloadsHold, TargetsHold, TriesHold};
+ghost use Rattle.program_types.specs.Content as content;
+ghost use Rattle.program_types.specs.Formed.{RegistersHold};
+ghost use Rattle.program_types.specs.View.{class, desc, program};
+ghost use Rattle.program_rules.specs.Numbers.{AreNumbers, types};
+ghost use Rattle.program_ranges.specs.Ranges.{ClassInRange};
+ghost use Rattle.program_rules.specs.Rules.{ClassBreaks, ClassHolds, CodesBreak, CodesHold, OrderHolds, RuleBreaks};
+ghost use Rattle.program_rules.specs.WellFormed.{WellFormed};
+
+use crate::codes::{codes_hold, payload_uses_hold};
+use crate::members::{members_rise, names_are_valid};
+use crate::numbers::{Numbers, numbers_of, order_holds_in};
+use crate::order::order_holds;
+use crate::values::values_fit;
+use dex_base::{Fault, fault};
+use program_code_rules::CodeRule;
+use program_ranges::class_is_in_range;
+use program_types::{Class, Desc, Program};
+use std::alloc::Global;
+
+/// Whether the code of class `place` keeps all rules, if it is known whether its payloads are used as they have to be.
+fn check_codes(place: u64, one: &Class<'_>, uses_hold: bool) -> Result<(), Fault>
+    requires uses { IsTrue uses_hold ↔ CodesHold PayloadsHold (class one.now) }
+    ensures operands { OnOk result (CodesHold OperandsHold (class one.now)) }
+    ensures targets { OnOk result (CodesHold TargetsHold (class one.now)) }
+    ensures payloads { OnOk result (CodesHold PayloadsHold (class one.now)) }
+    ensures tries { OnOk result (CodesHold TriesHold (class one.now)) }
+    ensures registers { OnOk result (CodesHold RegistersHold (class one.now)) }
+    ensures err { IfErr result (CodesBreak place (class one.now)) }
+{
+    if !codes_hold(CodeRule::Operand, one) {
+        return Err(Fault {
+            code: fault::PROGRAM_OPERAND,
+            place,
+        });
+    }
+    if !codes_hold(CodeRule::Target, one) {
+        return Err(Fault {
+            code: fault::PROGRAM_TARGET,
+            place,
+        });
+    }
+    if !uses_hold {
+        return Err(Fault {
+            code: fault::PROGRAM_PAYLOAD_USE,
+            place,
+        });
+    }
+    if !codes_hold(CodeRule::Try, one) {
+        return Err(Fault {
+            code: fault::PROGRAM_TRY,
+            place,
+        });
+    }
+    if !codes_hold(CodeRule::Register, one) {
+        return Err(Fault {
+            code: fault::PROGRAM_REGISTER,
+            place,
+        });
+    }
+    Ok(())
+}
+
+/// Whether class `i` of a program keeps all rules, if it is known whether it is in order and its payloads are used as they have to
+/// be; then its numbers are in range.
+fn check_class(i: usize, one: &Class<'_>, is_in_order: bool, uses_hold: bool) -> Result<(), Fault>
+    requires uses { IsTrue uses_hold ↔ CodesHold PayloadsHold (class one.now) }
+    ensures ok { (p : content.Program) → IsTrue is_in_order ↔ OrderHolds p i (class one.now) → OnOk result (ClassHolds p i (class one.now)) }
+    ensures ranges { OnOk result (ClassInRange (class one.now)) }
+    ensures err { (p : content.Program) → IsTrue is_in_order ↔ OrderHolds p i (class one.now) → IfErr result (ClassBreaks p i (class one.now)) }
+{
+    let place = i as u64;
+    if !names_are_valid(one) {
+        return Err(Fault {
+            code: fault::PROGRAM_NAME,
+            place,
+        });
+    }
+    if !members_rise(one) {
+        return Err(Fault {
+            code: fault::PROGRAM_MEMBER_ORDER,
+            place,
+        });
+    }
+    if !is_in_order {
+        return Err(Fault {
+            code: fault::PROGRAM_CLASS_ORDER,
+            place,
+        });
+    }
+    if !values_fit(one) {
+        return Err(Fault {
+            code: fault::PROGRAM_VALUES,
+            place,
+        });
+    }
+    check_codes(place, one, uses_hold)?;
+    class_is_in_range(one);
+    Ok(())
+}
+
+/// Whether a program is well formed, as `write` asks for one: it keeps the rules that every file's program keeps, and its
+/// numbers and units lie in the ranges of their types, as those of every program in memory do. Of the first class that
+/// breaks a rule the fault names the first rule that it breaks; its place is the class's number, from 0.
+///
+/// 110 a name that no file can have; 111 members that don't rise; 112 a class that is defined twice or stands on itself or a later
+/// one, or an interface given twice; 113 more values than static fields, or one deeper than 64; 114 an instruction whose operands
+/// its format doesn't have, 115 a target that is no instruction, 116 a payload that isn't used as it has to be, 117 a try,
+/// 118 a register that the code doesn't have.
+///
+/// Takes no memory. So each class's type is looked for among all classes, and the user of a switch's payload among all
+/// instructions of its code.
+pub fn well_formed(all: &Program<'_>) -> Result<(), Fault>
+    ensures formed { OnOk result (WellFormed (program all.now)) }
+    ensures err { IfErr result (RuleBreaks (program all.now)) }
+{
+    for i in 0..all.classes.len() {
+        let one = &all.classes[i];
+        let is_in_order = order_holds(all.classes, i, one);
+        let uses_hold = codes_hold(CodeRule::PayloadUse, one);
+        check_class(i, one, is_in_order, uses_hold)?;
+    }
+    Ok(())
+}
+
+/// The types that classes define.
+fn types_of<'a>(alloc: Global, classes: &[Class<'a>]) -> Result<Vec<Desc<'a>>, Fault>
+    ensures ok { IfOk result (λ list. map desc list.items ≡ types (map class classes.now)) }
+    ensures memory { IsOkUnless result memory }
+{
+    let mut list = Vec::with_capacity(alloc, classes.len())?;
+    for one in classes {
+        list.push(one.ty)?;
+    }
+    Ok(list)
+}
+
+/// Whether all classes keep all rules.
+fn check_classes(alloc: Global, numbers: &Numbers<'_>, classes: &[Class<'_>]) -> Result<(), Fault>
+    requires numbers { AreNumbers (types (map class classes.now)) (length (map class classes.now)) numbers.now }
+    ensures formed { OnOk result (WellFormed (map class classes.now)) }
+    ensures err { IfErr result (λ e. e ≢ memory → RuleBreaks (map class classes.now) e) }
+{
+    for i in 0..classes.len() {
+        let one = &classes[i];
+        let is_in_order = order_holds_in(alloc, numbers, i, one)?;
+        let uses_hold = payload_uses_hold(alloc, one)?;
+        check_class(i, one, is_in_order, uses_hold)?;
+    }
+    Ok(())
+}
+
+/// Whether a program is well formed, as `well_formed` says it. Types are looked up by hash and the users of payloads are noted in
+/// one walk, so that n classes or n switches take time that grows with n; want of memory is a refusal (255).
+pub fn well_formed_in(alloc: Global, all: &Program<'_>) -> Result<(), Fault>
+    ensures formed { OnOk result (WellFormed (program all.now)) }
+    ensures err { IfErr result (λ e. e ≢ memory → RuleBreaks (program all.now) e) }
+{
+    let list = types_of(alloc, all.classes)?;
+    let numbers = numbers_of(alloc, list.as_slice())?;
+    check_classes(alloc, &numbers, all.classes)
+}

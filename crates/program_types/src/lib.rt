@@ -1,0 +1,53 @@
+//! A program of a .dex file, symbolically: its names are texts, its branches lead to instructions by number, and nothing in it
+//! says where it stands in a file.
+//!
+//! All types are `Copy`. Their slices and references lie in the caller's arena, which a program can't outlive. What a program
+//! says, apart from where it lies, is its content (`specs/Content.antt`), and two programs are equal where their contents
+//! (`specs/View.antt`) are. So names are compared, ordered and hashed.
+//!
+//! ```text
+//! let arena = Bump::new(alloc);
+//! let void = Desc { text: place_str(&arena, &[0x56])? };
+//! let proto = place_proto(&arena, void, &[])?;
+//! let shorty = shorty_of(alloc, &arena, proto.ret, proto.params)?; // `V`
+//! ```
+//!
+//! Pages of the Android Open Source Project: "Dalvik Executable format", "Dalvik Executable instruction formats".
+#![tactic(auto)]
+
+// Names, and how they are hashed.
+mod hashing;
+mod names;
+
+// What has names in it: instructions and values.
+mod insn;
+mod payload;
+mod value;
+
+// What has instructions in it: bodies of methods.
+mod code;
+
+// What has all of these in it: classes and programs.
+mod class;
+
+// What is done with names and values.
+mod compare;
+mod depth;
+mod kinds;
+mod place;
+mod shorty;
+
+pub use class::{Class, Member, Method, Program, program_law};
+pub use code::{Catch, Code, Try};
+pub use compare::{
+    desc_cmp, desc_eq, field_ref_cmp, field_ref_eq, key_laws, method_ref_cmp, method_ref_eq,
+    proto_cmp, proto_eq, str_cmp, str_eq,
+};
+pub use depth::is_within_depth;
+pub use insn::Insn;
+pub use kinds::{is_class_or_array, is_class_type, is_void};
+pub use names::{Desc, FieldRef, MethodRef, Name, Proto, Str};
+pub use payload::Payload;
+pub use place::{place_descs, place_proto, place_str};
+pub use shorty::{letter, shorty_laws, shorty_of};
+pub use value::Value;

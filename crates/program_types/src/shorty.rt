@@ -1,0 +1,61 @@
+//! The short form of a prototype ("Dalvik Executable format", "String syntax": ShortyDescriptor).
+
+ghost use Rattle.std.specs.Prelude.{◌≡◌, ◌↔◌, ℕ, List, All, IfOk, IsOkUnless, map};
+ghost use Rattle.dex_base.specs.Descriptor.{IsDescriptor};
+ghost use Rattle.base_bytes.specs.Fault.{memory};
+ghost use Rattle.program_types.specs.Shorty.{StandsFor, letter_of, shorty};
+ghost use Rattle.program_types.specs.View.{str, desc};
+
+use crate::names::{Desc, Str};
+use crate::place::place_str;
+use bumpalo::Bump;
+use dex_base::Fault;
+use std::alloc::Global;
+
+/// The letter of every class and array type.
+const REFERENCE: u16 = b'L' as u16;
+
+/// The first unit of an array type.
+const ARRAY: u16 = b'[' as u16;
+
+/// The letter of a type in a shorty: `L` for classes and arrays, else the first unit of its descriptor (0 of an empty text).
+pub fn letter(ty: Desc<'_>) -> u16
+    ensures { result ≡ letter_of (desc ty.entry) }
+{
+    let units = ty.text.units;
+    if units.is_empty() {
+        return 0;
+    }
+    match units[0] {
+        ARRAY => REFERENCE,
+        first => first,
+    }
+}
+
+/// The shorty of a return type and parameters, in the arena: a letter for each, `L` for classes and arrays and else the
+/// descriptor itself. So the shorty of `(I[JLA;)V` is `VILL`. Refused only for want of memory.
+pub fn shorty_of<'a>(
+    alloc: Global,
+    arena: &'a Bump,
+    ret: Desc<'_>,
+    params: &[Desc<'_>],
+) -> Result<Str<'a>, Fault>
+    requires ret { IsDescriptor (desc ret) }
+    requires params { All IsDescriptor (map desc params.now) }
+    ensures ok { IfOk result (λ placed.
+        str placed ≡ shorty (record { ret = desc ret.entry; params = map desc params.now })) }
+    ensures err { IsOkUnless result memory }
+{
+    let mut letters = Vec::with_capacity(alloc, params.len() + 1)?;
+    letters.push(letter(ret))?;
+    for param in params {
+        letters.push(letter(*param))?;
+    }
+    place_str(arena, &letters)
+}
+
+/// The law of letters: of a descriptor exactly one letter stands for its type, the one that a shorty has.
+pub fn shorty_laws()
+    ensures { (descriptor : List ℕ) (one : ℕ) → IsDescriptor descriptor →
+        (StandsFor one descriptor ↔ (one ≡ letter_of descriptor)) }
+{}

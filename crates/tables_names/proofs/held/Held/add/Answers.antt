@@ -1,0 +1,8 @@
+use Rattle.std.proofs.Common.{ap, ◌∙◌}
+use Rattle.std.specs.Ordering.{is_eq}
+use Rattle.tables_names.proofs.HeldLemmas.{keys-insert_last}
+use Rattle.tables_names.proofs.held.Held.add.Goals as goal
+
+pub returns-clause-added : goal.returns-clause-added
+returns-clause-added g c =
+    rw (c.in_ok-insert.ensures.keys, ← c.self.view_is) (keys-insert_last g.N.Row.key g.N.PartialEq.eq (λ x y. g.met.N.Ord.matches_eq x y ∙ ap is_eq (g.met.N.Row.cmp_by_key x y)) c.self.inside.items.keys c.args.name)

@@ -1,0 +1,11 @@
+use Rattle.std.proofs.Common.{◌≡◌, ◌∷◌, map, take}
+use Rattle.tables_names.specs.Keys.{key_of_proto}
+use Rattle.program_types.specs.View.{desc}
+use Rattle.tables_names.specs.Closure.{shorty_of_texts}
+use Rattle.tables_names.specs.Closure.{join, proto_parts}
+use Rattle.tables_names.proofs.needed.Needed.add_proto.Given as goal
+
+-- the shorty, the return type and the parameters so far
+abbrev pub invariant-loop-param : goal.invariant-loop-param
+invariant-loop-param l =
+    l.self ≡ join l.fn.self (proto_parts (shorty_of_texts (key_of_proto l.name)) (desc l.name.ret ∷ map desc (take l.param-index l.param-items)))

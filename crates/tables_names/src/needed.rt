@@ -1,0 +1,223 @@
+//! The names that a program needs, of all five kinds, each with its parts ("Dalvik Executable format": the indices in
+//! type_id_item, proto_id_item, field_id_item and method_id_item).
+ghost use Rattle.std.specs.Prelude.{◌≡◌, OnOk, OnErr, IfOk, IsOkUnless, All, map};
+ghost use Rattle.base_bytes.specs.Fault.{memory};
+ghost use Rattle.dex_base.specs.Descriptor.{IsDescriptor};
+ghost use Rattle.program_types.specs.Content.{OfText, OfDesc, OfField, OfMethod};
+ghost use Rattle.program_types.specs.View.{str, desc, proto, field_ref, method_ref};
+ghost use Rattle.program_types.specs.View as view;
+ghost use Rattle.tables_names.specs.Closure.{nothing, with_name, with_proto, with_parts, with_proto_parts, AddsPart, AreRising, IsClosed, HasShorty};
+
+use crate::held::{Held, Ranked};
+use crate::ranks::Ranks;
+use bumpalo::Bump;
+use dex_base::Fault;
+use program_types::{Desc, FieldRef, MethodRef, Name, Proto, Str, shorty_of};
+use std::alloc::{AllocError, Global};
+use std::marker::Model;
+
+/// The names that are needed so far: a set of each of the five kinds, with each name its parts. It stands for the five
+/// sets (`specs/Closure.antt`).
+///
+/// Each kind is kept in the order of first need and sorted once, by `freeze`. A name that was refused for want of memory
+/// may have left some of its parts; all that was held is held.
+#[derive(Drop)]
+pub struct Needed<'a> {
+    alloc: Global,
+    strings: Held<Str<'a>>,
+    types: Held<Desc<'a>>,
+    protos: Held<Proto<'a>>,
+    fields: Held<FieldRef<'a>>,
+    methods: Held<MethodRef<'a>>,
+}
+
+impl<'a> Model for Needed<'a> {
+    ghost use Rattle.tables_names.specs.Closure.{Five, IsClosed};
+
+    ghost Value = { Five };
+
+    ghost view = { λ n. record { strings = n.strings; types = n.types; protos = n.protos; fields = n.fields; methods = n.methods } };
+
+    ghost invariant = { λ n. IsClosed record { strings = n.strings; types = n.types; protos = n.protos; fields = n.fields; methods = n.methods } };
+}
+
+#[tactic(auto, unfolding(crate::specs::Closure::with_name, crate::specs::Closure::with_proto, crate::specs::Closure::with_parts, crate::specs::Closure::with_proto_parts))]
+impl<'a> Needed<'a> {
+    /// No name. Takes no memory.
+    pub fn new(alloc: Global) -> Self
+        ensures { result ≡ nothing }
+    {
+        Needed {
+            alloc,
+            strings: Held::new(alloc),
+            types: Held::new(alloc),
+            protos: Held::new(alloc),
+            fields: Held::new(alloc),
+            methods: Held::new(alloc),
+        }
+    }
+
+    /// Beside each name its parts are held.
+    pub fn holds_parts(&self)
+        ensures { IsClosed self.now }
+    {
+        // Only for the proof: what holds of each value of its type.
+        let _ = &self.strings;
+    }
+
+    // In each of the five sets the names strictly rise.
+    fn rise(&self)
+        ensures { AreRising self.now }
+    {
+        self.strings.rises();
+        self.types.rises();
+        self.protos.rises();
+        self.fields.rises();
+        self.methods.rises();
+    }
+
+    /// Adds a string. Refused only for want of memory, as all additions are: what was held is held then, and beyond it
+    /// at most parts of the name, never the name itself.
+    pub fn add_string(&mut self, name: Str<'a>) -> Result<(), Fault>
+        ensures added { OnOk result (self.new ≡ with_name self.old (OfText (str name.entry))) }
+        ensures unchanged { OnErr result (self.new ≡ self.old) }
+        ensures memory { IsOkUnless result memory }
+    {
+        self.strings.add(name)?;
+        Ok(())
+    }
+
+    /// Adds a type, and its descriptor as a string.
+    pub fn add_type(&mut self, name: Desc<'a>) -> Result<(), Fault>
+        ensures added { OnOk result (self.new ≡ with_name self.old (OfDesc (desc name.entry))) }
+        ensures partly { OnErr result (AddsPart self.old self.new (with_parts self.old (OfDesc (desc name.entry)))) }
+        ensures memory { IsOkUnless result memory }
+    {
+        if self.types.holds(&name) {
+            self.rise();
+            return Ok(());
+        }
+        self.strings.add(name.text)?;
+        self.types.add(name)?;
+        Ok(())
+    }
+
+    /// Adds a prototype, its shorty, its return type and its parameters. The arena holds the shorty, which is spelled only
+    /// where the prototype isn't held yet.
+    pub fn add_proto(&mut self, arena: &'a Bump, name: &Proto<'a>) -> Result<(), Fault>
+        requires ret { IsDescriptor (desc name.now.ret) }
+        requires params { All IsDescriptor (map desc name.now.params.now) }
+        ensures added { OnOk result (self.new ≡ with_proto self.old (proto name.now)) }
+        ensures partly { OnErr result (AddsPart self.old self.new (with_proto_parts self.old (proto name.now))) }
+        ensures memory { IsOkUnless result memory }
+    {
+        if self.protos.holds(name) {
+            self.rise();
+            return Ok(());
+        }
+        self.strings
+            .add(shorty_of(self.alloc, arena, name.ret, name.params)?)?;
+        self.add_type(name.ret)?;
+        for param in name.params {
+            self.add_type(*param)?;
+        }
+        self.protos.add(*name)?;
+        Ok(())
+    }
+
+    /// Adds a method, its class, its name and its prototype. The arena holds the shorty.
+    pub fn add_method(&mut self, arena: &'a Bump, name: &MethodRef<'a>) -> Result<(), Fault>
+        requires ret { IsDescriptor (desc name.now.proto.now.ret) }
+        requires params { All IsDescriptor (map desc name.now.proto.now.params.now) }
+        ensures added { OnOk result (self.new ≡ with_name self.old (OfMethod (method_ref name.now))) }
+        ensures partly { OnErr result (AddsPart self.old self.new (with_parts self.old (OfMethod (method_ref name.now)))) }
+        ensures memory { IsOkUnless result memory }
+    {
+        if self.methods.holds(name) {
+            self.rise();
+            return Ok(());
+        }
+        self.add_type(name.class)?;
+        self.add_string(name.name)?;
+        self.add_proto(arena, name.proto)?;
+        self.methods.add(*name)?;
+        Ok(())
+    }
+
+    /// Adds a field, its class, its name and its type.
+    pub fn add_field(&mut self, name: &FieldRef<'a>) -> Result<(), Fault>
+        ensures added { OnOk result (self.new ≡ with_name self.old (OfField (field_ref name.now))) }
+        ensures partly { OnErr result (AddsPart self.old self.new (with_parts self.old (OfField (field_ref name.now)))) }
+        ensures memory { IsOkUnless result memory }
+    {
+        if self.fields.holds(name) {
+            self.rise();
+            return Ok(());
+        }
+        self.add_type(name.class)?;
+        self.add_string(name.name)?;
+        self.add_type(name.ty)?;
+        self.fields.add(*name)?;
+        Ok(())
+    }
+
+    /// Adds what an instruction or a value names, with its parts. The arena holds a method's shorty.
+    pub fn add_name(&mut self, arena: &'a Bump, name: Name<'a>) -> Result<(), Fault>
+        requires { HasShorty (view.name name) }
+        ensures added { OnOk result (self.new ≡ with_name self.old (view.name name.entry)) }
+        ensures partly { OnErr result (AddsPart self.old self.new (with_parts self.old (view.name name.entry))) }
+        ensures memory { IsOkUnless result memory }
+    {
+        match name {
+            Name::Text(text) => self.add_string(text),
+            Name::Desc(desc) => self.add_type(desc),
+            Name::Field(field) => self.add_field(field),
+            Name::Method(method) => self.add_method(arena, method),
+        }
+    }
+
+    /// The names that are held, with their ranks. No name is added from here on. Refused only for want of memory, and
+    /// then nothing is given back.
+    pub fn freeze(self) -> Result<Ranks<'a>, Fault>
+        ensures same { IfOk result (λ r. r ≡ self.entry) }
+        ensures memory { IsOkUnless result memory }
+    {
+        let Needed {
+            alloc: _,
+            strings,
+            types,
+            protos,
+            fields,
+            methods,
+        } = self;
+        let (strings, types, protos) = ranked_types(strings, types, protos)?;
+        let (fields, methods) = ranked_members(fields, methods)?;
+        Ok(Ranks::new(strings, types, protos, fields, methods))
+    }
+}
+
+// Three kinds with their ranks.
+fn ranked_types<'a>(
+    strings: Held<Str<'a>>,
+    types: Held<Desc<'a>>,
+    protos: Held<Proto<'a>>,
+) -> Result<(Ranked<Str<'a>>, Ranked<Desc<'a>>, Ranked<Proto<'a>>), AllocError>
+    ensures { IfOk result (λ r. (r.0 ≡ strings.entry) × (r.1 ≡ types.entry) × (r.2 ≡ protos.entry)) }
+{
+    let strings = strings.ranked()?;
+    let types = types.ranked()?;
+    let protos = protos.ranked()?;
+    Ok((strings, types, protos))
+}
+
+// Two kinds with their ranks.
+fn ranked_members<'a>(
+    fields: Held<FieldRef<'a>>,
+    methods: Held<MethodRef<'a>>,
+) -> Result<(Ranked<FieldRef<'a>>, Ranked<MethodRef<'a>>), AllocError>
+    ensures { IfOk result (λ r. (r.0 ≡ fields.entry) × (r.1 ≡ methods.entry)) }
+{
+    let fields = fields.ranked()?;
+    let methods = methods.ranked()?;
+    Ok((fields, methods))
+}

@@ -1,0 +1,22 @@
+-- What is kept by its offset.
+use Rattle.std.proofs.Common.{◌≡◌, ℕ, Bool, true, false, cond, eqb, nat_eq, [], ap, sym, subst, ◌∙◌, Option, Some, refl}
+use Rattle.std.proofs.lemmas.Bool.{eqb-true}
+use Rattle.std.proofs.lemmas.Option.{none-some}
+use Rattle.std.specs.Map.{lookup}
+use Rattle.indexmap.specs.IndexMap.{IndexMap, get, IsEmpty, Updates}
+use Rattle.tables_rows.specs.Kept.{AreKept}
+
+some_same : {V : Type 0} (a b : V) → Some a ≡ Some b → a ≡ b
+some_same a b e = cc
+
+-- nothing is kept yet
+pub kept_none : {V S : Type 0} (Stands : ℕ → V → Type 0) (m : IndexMap ℕ V S) → IsEmpty m → AreKept Stands m
+kept_none Stands m e off v at = absurd (none-some v (sym (ap (lookup (nat_eq off)) e) ∙ at))
+
+-- one more value
+pub kept_more : {V S : Type 0} (Stands : ℕ → V → Type 0) (m n : IndexMap ℕ V S) (off : ℕ) (v : V) → AreKept Stands m → Stands off v → Updates nat_eq m n off (Some v) → AreKept Stands n
+kept_more {V} Stands m n off v kept stands u other w at = by (eqb off other) refl (sym (u.0 other) ∙ at)
+  where
+    by : (t : Bool) → eqb off other ≡ t → cond t (Some v) (get nat_eq m other) ≡ Some w → Stands other w
+    by true t e = subst (λ (k : ℕ). Stands k w) (eqb-true off other t) (subst (λ (x : V). Stands off x) (some_same v w e) stands)
+    by false t e = kept other w e

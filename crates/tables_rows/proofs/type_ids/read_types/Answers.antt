@@ -1,0 +1,20 @@
+use Rattle.std.proofs.Common.{arith}
+use Rattle.std.proofs.lemmas.Grind.{common_steps}
+use Rattle.std.proofs.lemmas.List.{map-append}
+use Rattle.program_types.specs.View.{desc}
+use Rattle.tables_rows.specs.Sorted.{TypeHolds}
+use Rattle.tables_rows.specs.Stands.{TypeStands}
+use Rattle.tables_rows.specs.TableFaults.{TypeBreaks}
+use Rattle.tables_rows.proofs.RowReading.{passed, first_row, first_more, first_rows}
+use Rattle.tables_rows.proofs.type_ids.read_types.Goals as goal
+
+pub returns-in_err-ty-clause-err : goal.returns-in_err-ty-clause-err
+returns-in_err-ty-clause-err c =
+    passed _ _ _ c.from_residual-in_err-ty.ensures.1 (λ _. first_row TypeBreaks TypeHolds c.args.sections.now 1 c.loop-i.i _ (let t = c.table-count.ensures in let lt = c.loop-i-test.true in grind (arith, common_steps)) c.loop-i.invariant.hold c.in_err-ty.ensures.err)
+
+pub loop-i-preserved : goal.loop-i-preserved
+loop-i-preserved c =
+    rw (c.in_ok-push.ensures.items, map-append) (first_more TypeStands TypeHolds c.args.sections.now c.loop-i.i _ (desc c.in_ok-ty.ty) c.loop-i.invariant c.in_ok-ty.ensures.ok c.in_ok-ty.ensures.holds)
+
+pub returns-clause-rows : goal.returns-clause-rows
+returns-clause-rows c = rw c.into_bump_slice.ensures (first_rows TypeStands TypeHolds c.args.sections.now c.loop-i.i 1 _ (let t = c.table-count.ensures in let ge = c.loop-i-test.false in let le = c.loop-i.auto.i-end in grind (arith, common_steps)) c.loop-i.invariant)

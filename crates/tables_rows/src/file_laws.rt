@@ -1,0 +1,18 @@
+//! Laws of what stands in a file, each the contract of a function that does nothing. The one that takes any grammar stands in
+//! `proofs/Standing`: `At-one`, that one value stands at a place where no spelling begins another one.
+ghost use Rattle.std.specs.Prelude.{◌≡◌, ℕ, List};
+ghost use Rattle.dex_container.specs.Frame.{IsFramed};
+ghost use Rattle.tables_rows.specs.Names.{AreNamesOf, NameIsAt};
+ghost use Rattle.tables_rows.specs.Stands.{NameStands, TypesAt};
+
+/// At an offset stands one list of types.
+pub fn type_list_is_one()
+    ensures { (b : List ℕ) → IsFramed b → (off : ℕ) (xs ys : _) → TypesAt b off xs → TypesAt b off ys → xs ≡ ys }
+{}
+
+/// Which file tables are of: an index stands for a name in the file exactly if it does in the file's tables.
+pub fn names_of_a_file_are_its_rows()
+    ensures there { (b : List ℕ) (names : _) (i : ℕ) (n : _) → AreNamesOf b names → NameIsAt names i n → NameStands b i n }
+    ensures only { (b : List ℕ) (names : _) (i : ℕ) (n : _) → IsFramed b → AreNamesOf b names → NameStands b i n → NameIsAt names i n }
+    ensures one { (b : List ℕ) (x y : _) → IsFramed b → AreNamesOf b x → AreNamesOf b y → x ≡ y }
+{}

@@ -1,0 +1,32 @@
+//! Which strings are member names: looked through once a string, however many rows name it.
+//! Page: "Dalvik Executable format", "String syntax": MemberName.
+ghost use Rattle.std.specs.Prelude.{◌≡◌, IfOk, IsOkUnless, get_or, map, false};
+ghost use Rattle.base_bytes.specs.Fault.{memory};
+ghost use Rattle.program_types.specs.View.{str};
+ghost use Rattle.tables_rows.specs.Reading.{AreMarks};
+
+use dex_base::{Fault, is_member_name};
+use program_types::Str;
+use std::alloc::Global;
+
+/// For each string whether it is a member name.
+pub(crate) fn mark_names(alloc: Global, strings: &[Str<'_>]) -> Result<Vec<bool>, Fault>
+    ensures marks { IfOk result (λ names. AreMarks (map str strings.now) names.items) }
+    ensures memory { IsOkUnless result memory }
+{
+    let mut names = Vec::with_capacity(alloc, strings.len())?;
+    for string in strings {
+        names.push(is_member_name(string.units))?;
+    }
+    Ok(names)
+}
+
+/// Whether the string at an index is one.
+pub(crate) fn is_marked(names: &[bool], index: u32) -> bool
+    ensures { result ≡ get_or names.now index false }
+{
+    match names.get(index as usize) {
+        Some(name) => *name,
+        None => false,
+    }
+}

@@ -1,0 +1,11 @@
+-- Arrays of a file, with the names that stand in it.
+use Rattle.std.specs.Prelude.{ℕ, ◌⊎◌, List}
+use Rattle.base_bytes.specs.declared.fault.Fault.{Fault}
+use Rattle.program_types.specs.Content.{Value}
+use Rattle.tables_rows.specs.Stands.{NameStands}
+use Rattle.dex_value.specs.Standing.{ArrayStands}
+use Rattle.dex_value.specs.Faults.{ArrayBreaksAt}
+
+-- An array stands at this place, or a fault does.
+abbrev pub ArrayIsDecided : List ℕ → ℕ → ℕ → Type 0
+ArrayIsDecided b off most = ((vs : List Value) × ArrayStands (NameStands b) b off most vs) ⊎ ((e : Fault) × ArrayBreaksAt (NameStands b) b off most e)
