@@ -9,7 +9,7 @@
 //! ```
 //!
 //! Its rooms: `file_classes` and `file_read` (read), `file_needed`, `file_layout`, `file_rows`, `file_shared`, `file_sections`,
-//! `file_class_defs`, `file_limits`, `file_assemble` and `file_write` (written), `file_align`, `file_laws` and `file_least`.
+//! `file_limits`, `file_assemble` and `file_write` (written), `file_align`, `file_laws` and `file_least`.
 #![tactic(auto)]
 
 pub use file_align::align_all;

@@ -19,8 +19,8 @@ use Rattle.program_types.specs.Key.{Key}
 use Rattle.file_rows.specs.Rows.{SpellsFieldRow, SpellsMethodRow, SpellsProtoRow, SpellsProtos, SpellsTable, SpellsTypeRow}
 use Rattle.file_sections.specs.Data.{has_no_members, sited}
 use Rattle.file_sections.proofs.SitedLaws.{length-sited}
-use Rattle.file_class_defs.specs.ClassDefs.{Seated, SpellsClassRow}
-use Rattle.file_class_defs.proofs.ClassRowLaws.{length-seated}
+use Rattle.file_rows.specs.ClassDefs.{Seated, SpellsClassRow}
+use Rattle.file_rows.proofs.ClassRowLaws.{length-seated}
 use Rattle.file_assemble.specs.Assembled.{Assembled, DataIsLaid, DataLies, Places, SpellsTables, rows_of}
 use Rattle.file_assemble.proofs.DataLaws.{lies_agree}
 

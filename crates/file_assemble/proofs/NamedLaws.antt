@@ -21,7 +21,7 @@ use Rattle.program_types.specs.Mentions.{if_any, mentions, names_of_class}
 use Rattle.program_rules.specs.Rules.{RulesHold}
 use Rattle.program_rules.specs.Valid.{IsValidName, IsValueType}
 use Rattle.file_sections.specs.Named.{FewNames, HasName}
-use Rattle.file_class_defs.specs.Held.{RowNamesHeld}
+use Rattle.file_rows.specs.Held.{RowNamesHeld}
 
 -- what holds of all names in each class holds of all names in the program
 pub mentions_hold : (P : Name → Type 0) (p : Program) → ((i : ℕ) (c : Class) → slice_get p i ≡ Some c → AllByRecursion P (names_of_class c)) → AllByRecursion P (mentions p)

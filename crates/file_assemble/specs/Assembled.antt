@@ -19,7 +19,7 @@ use Rattle.file_sections.specs.Codes.{PacksBody, is_bodiless}
 use Rattle.file_sections.specs.Data.{PacksData, has_no_members, sited}
 use Rattle.file_sections.specs.Lists.{SpellsRanks}
 use Rattle.dex_value.specs.Spelling.{SpellsArray}
-use Rattle.file_class_defs.specs.ClassDefs.{SpellsClassRow, seated}
+use Rattle.file_rows.specs.ClassDefs.{SpellsClassRow, seated}
 
 -- how many rows each table has
 abbrev pub rows_of : Five → Program → Rows

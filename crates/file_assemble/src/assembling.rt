@@ -14,11 +14,10 @@ ghost use Rattle.file_assemble.specs.Making.{places_of};
 
 use bumpalo::Bump;
 use dex_base::Fault;
-use file_class_defs::put_classes;
 use file_layout::{Part, Plan, Rows, finish, gap_behind};
 use file_limits::check_limits;
 use file_needed::needed_names;
-use file_rows::name_rows;
+use file_rows::{name_rows, put_classes};
 use file_sections::{put_arrays, put_codes, put_datas, put_lists, put_strings};
 use program_types::Program;
 use std::alloc::Global;

@@ -1,2 +1,4 @@
 pub mod Rows
 pub mod AtIndex
+pub mod ClassDefs
+pub mod Held

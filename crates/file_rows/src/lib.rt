@@ -1,8 +1,10 @@
-//! The rows of the tables string_ids to method_ids of a file that is written, from the ranks of the names.
+//! The rows of the tables string_ids to method_ids and of class_defs of a file that is written, from the ranks of the names and the
+//! places of the items.
 //!
 //! ```
 //! let ranks = needed.freeze()?;
 //! let rows = name_rows(alloc, &ranks, &texts, &lists)?; // the places of texts and of parameter lists in, bytes out
+//! put_classes(&mut rows, &ranks, program.classes, &lists, &datas, &arrays)?; // the places of the classes' items, 0 for none
 //! ```
 #![tactic(auto)]
 
@@ -16,9 +18,13 @@ mod proto_ids;
 mod tables;
 mod type_ids;
 
+// The rows of class_defs.
+mod class_defs;
+
 // What holds of rows.
 mod laws;
 
+pub use class_defs::put_classes;
 pub use index::{field_index, method_index, proto_index, shorty_index, string_index, type_index};
 pub use laws::rows_stand_at_their_indices;
 pub use tables::name_rows;

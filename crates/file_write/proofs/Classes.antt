@@ -10,7 +10,7 @@ use Rattle.file_classes.specs.ClassData.{EntriesAt}
 use Rattle.file_classes.specs.ClassRows.{InOrder, class_word}
 use Rattle.file_classes.specs.Classes.{CodeAt, SpellsClass, StaticsAt}
 use Rattle.file_classes.proofs.EntryLaws.{entry_at}
-use Rattle.file_class_defs.specs.ClassDefs.{TypeRanks}
+use Rattle.file_rows.specs.ClassDefs.{TypeRanks}
 use Rattle.dex_container.specs.Layout.{size_of}
 use Rattle.file_read.specs.Means.{Means}
 use Rattle.file_layout.specs.Sections.{is_empty_list}

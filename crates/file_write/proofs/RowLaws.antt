@@ -7,8 +7,8 @@ use Rattle.base_bytes.specs.Words.{words_bytes}
 use Rattle.base_bytes.proofs.FieldBounds.{u32_at-fits}
 use Rattle.base_bytes.specs.Fields.{u16_at, u32_at}
 use Rattle.file_classes.specs.ClassRows.{IndexOrNone, class_word}
-use Rattle.file_class_defs.specs.ClassDefs.{SpellsClassRow, StringRanks, TypeRanks, other_places, seated}
-use Rattle.file_class_defs.proofs.ClassRowLaws.{first_of, length-seated, others_of}
+use Rattle.file_rows.specs.ClassDefs.{SpellsClassRow, StringRanks, TypeRanks, other_places, seated}
+use Rattle.file_rows.proofs.ClassRowLaws.{first_of, length-seated, others_of}
 use Rattle.dex_container.specs.Frame.{IsFramed}
 use Rattle.dex_container.specs.Layout.{offset_of, size_of}
 use Rattle.file_layout.specs.Header.{HasHeader}

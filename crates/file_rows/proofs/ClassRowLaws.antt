@@ -13,7 +13,7 @@ use Rattle.program_types.specs.Content.{Units, Program}
 use Rattle.program_types.specs.Key.{Key, text_key}
 use Rattle.program_types.specs.View as view
 use Rattle.program_types.specs.declared.class.Class as made
-use Rattle.file_class_defs.specs.ClassDefs.{Seated, SpellsClassRow, first_place, other_places, seated}
+use Rattle.file_rows.specs.ClassDefs.{Seated, SpellsClassRow, first_place, other_places, seated}
 
 pub length-seated : (p : Program) (lists datas arrays : List ℕ) → length (seated p lists datas arrays) ≡ length p
 length-seated [] lists datas arrays = refl

@@ -1,7 +1,7 @@
 use Rattle.std.proofs.Common.{◌∷◌, [], arith, refl}
 use Rattle.std.proofs.lemmas.Result.{on_ok_weaker}
 use Rattle.base_bytes.specs.Words.{words_bytes}
-use Rattle.file_class_defs.proofs.class_defs.put_class.Goals as goal
+use Rattle.file_rows.proofs.class_defs.put_class.Goals as goal
 
 pub returns-clause-ok : goal.returns-clause-ok
 returns-clause-ok c =

@@ -8,11 +8,11 @@ ghost use Rattle.file_classes.specs.ClassRows.{IndexOrNone};
 ghost use Rattle.tables_names.specs.Indices.{HasPlace};
 ghost use Rattle.program_types.specs.Key.{text_key};
 ghost use Rattle.program_types.specs.View as view;
-ghost use Rattle.file_class_defs.specs.ClassDefs.{SpellsClassRow, StringRanks, TypeRanks, seated};
-ghost use Rattle.file_class_defs.specs.Held.{RowNamesHeld};
+ghost use Rattle.file_rows.specs.ClassDefs.{SpellsClassRow, StringRanks, TypeRanks, seated};
+ghost use Rattle.file_rows.specs.Held.{RowNamesHeld};
 
+use crate::index::{string_index, type_index};
 use dex_base::{Fault, push_words};
-use file_rows::{string_index, type_index};
 use program_types::{Class, Desc, Str};
 use tables_names::Ranks;
 

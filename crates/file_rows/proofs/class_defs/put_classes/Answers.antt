@@ -1,5 +1,5 @@
-use Rattle.file_class_defs.proofs.ClassRowLaws.{class_there, seated_all, seated_more}
-use Rattle.file_class_defs.proofs.class_defs.put_classes.Goals as goal
+use Rattle.file_rows.proofs.ClassRowLaws.{class_there, seated_all, seated_more}
+use Rattle.file_rows.proofs.class_defs.put_classes.Goals as goal
 
 pub put_class-requires-clause-held : goal.put_class-requires-clause-held
 put_class-requires-clause-held c = c.requires.held c.loop-i.i _ (class_there c.args.classes.now c.loop-i.i _ c.loop-i-test.true)

@@ -1,2 +1,0 @@
-pub mod ClassDefs
-pub mod Held
