@@ -13,7 +13,7 @@ use clap::Error;
 use clap::error::ErrorKind;
 use dexasm_plan::{Plan, plan, usage_status};
 use dexasm_run::{RunFault, Source, Watched, run, status};
-use out::{finish, write_out};
+use out::{Out, finish};
 use std::fs::File;
 use std::process::ExitCode;
 use std::{env, io};
@@ -90,7 +90,7 @@ fn carry_out(rt: &HostRuntime, planned: Plan<'_>) -> Result<(), RunFault> {
     }
 }
 
-// With OUT the answer is made in memory, and OUT only when it is whole: so OUT may be FILE, and stays as it was after a failure.
+// OUT is opened only when the answer is whole: so it may be FILE, and stays as it was after a failure.
 fn read_from<R: Source>(rt: &HostRuntime, planned: Plan<'_>, input: &mut R) -> Result<(), RunFault>
     requires works { R.failed input.old ≡ false }
     requires goes_on { R.ended input.old ≡ false }
@@ -102,17 +102,9 @@ fn read_from<R: Source>(rt: &HostRuntime, planned: Plan<'_>, input: &mut R) -> R
             finish(output.into_inner())
         }
         Some(path) => {
-            let mut output = Watched::new(Vec::new(rt.alloc()));
-            in_memory(run(rt.alloc(), planned.job, input, &mut output))?;
-            write_out(rt, path, output.into_inner().as_slice())
+            let mut output = Watched::new(Out::new(rt, path));
+            let done = run(rt.alloc(), planned.job, input, &mut output);
+            output.into_inner().close(done)
         }
-    }
-}
-
-// A vector fails as a writer only for want of memory.
-fn in_memory(done: Result<(), RunFault>) -> Result<(), RunFault> {
-    match done {
-        Err(RunFault::Output) => Err(RunFault::Memory),
-        done => done,
     }
 }

@@ -8,75 +8,149 @@ use std::{fs, io};
 // How many names beside OUT are tried.
 const NAMES: u32 = 100;
 
+// Where the answer goes.
+#[derive(Drop)]
+enum Place {
+    // Nothing was opened: no piece has come yet.
+    Unopened,
+    // OUT itself.
+    Itself(File),
+    // A file beside OUT, by its name, and the name that it is to have.
+    Beside(File, String, String),
+}
+
+// OUT as a writer. It is opened when the first piece comes, and `run` hands over none before the answer is whole: so OUT may be
+// FILE, and until then nothing of the user's has changed.
+#[derive(Drop)]
+pub(crate) struct Out<'p> {
+    rt: &'p HostRuntime,
+    path: &'p str,
+    place: Place,
+    // Why OUT was not opened, where that is why a piece was not taken.
+    unopened: Option<RunFault>,
+}
+
+impl<'p> Out<'p> {
+    pub(crate) fn new(rt: &'p HostRuntime, path: &'p str) -> Out<'p> {
+        Out {
+            rt,
+            path,
+            place: Place::Unopened,
+            unopened: None,
+        }
+    }
+
+    // Ends a run, as `done` says that it ended: a whole answer takes OUT's place, of another nothing stays.
+    pub(crate) fn close(self, done: Result<(), RunFault>) -> Result<(), RunFault> {
+        let Out {
+            rt,
+            path: _,
+            place,
+            unopened,
+        } = self;
+        match place {
+            Place::Unopened => match unopened {
+                Some(fault) => Err(fault),
+                // (no answer is empty)
+                None => done,
+            },
+            Place::Itself(file) => {
+                done?;
+                finish(file)
+            }
+            Place::Beside(file, beside, name) => {
+                let kept = done.and_then(|()| finish(file)).and_then(|()| {
+                    fs::rename(rt, beside.as_str(), name.as_str()).map_err(|_| RunFault::Output)
+                });
+                if kept.is_err() {
+                    let _ = fs::remove_file(rt, beside.as_str());
+                }
+                kept
+            }
+        }
+    }
+}
+
+impl Write for Out<'_> {
+    fn write(&mut self, piece: &[u8]) -> io::Result<usize> {
+        if let Place::Unopened = self.place {
+            match open(self.rt, self.path) {
+                Ok(place) => self.place = place,
+                Err(fault) => self.unopened = Some(fault),
+            }
+        }
+        match &mut self.place {
+            Place::Unopened => Err(io::Error::from(ErrorKind::Other)),
+            Place::Itself(file) => file.write(piece),
+            Place::Beside(file, _, _) => file.write(piece),
+        }
+    }
+
+    fn flush(&mut self) -> io::Result<()> {
+        Ok(())
+    }
+}
+
 // Flushes what may be held back.
 pub(crate) fn finish<W: Write + Drop>(mut output: W) -> Result<(), RunFault> {
     output.flush().map_err(|_| RunFault::Output)
 }
 
-// The file at this path, with these bytes. A regular file, or one that isn't there, is written beside and renamed, so that OUT is as
-// it was whatever fails; where a link leads to it, the link stays. A device, a pipe, a file with several names and one whose
-// folder takes no new file are written in place.
-pub(crate) fn write_out(rt: &HostRuntime, path: &str, made: &[u8]) -> Result<(), RunFault> {
+// A regular file, or one that isn't there, is written beside and renamed, so that OUT is as it was whatever fails; where a link
+// leads to it, the link stays. A device, a pipe, a file with several names and one whose folder takes no new file are written in
+// place.
+fn open(rt: &HostRuntime, path: &str) -> Result<Place, RunFault> {
     match fs::symlink_metadata(rt, path) {
-        Err(error) if error.kind() == ErrorKind::NotFound => replace(rt, path, None, made),
+        Err(error) if error.kind() == ErrorKind::NotFound => open_beside(rt, path, None),
         Err(_) => Err(RunFault::Output),
         Ok(there) if there.is_symlink() => match fs::canonicalize(rt, path) {
-            Ok(target) => write_over(rt, target.as_str(), made),
-            Err(_) => write_in_place(rt, path, made),
+            Ok(target) => open_over(rt, target.as_str()),
+            Err(_) => open_itself(rt, path),
         },
-        Ok(_) => write_over(rt, path, made),
+        Ok(_) => open_over(rt, path),
     }
 }
 
-// What is at this path, which is no link, gives way to these bytes.
-fn write_over(rt: &HostRuntime, path: &str, made: &[u8]) -> Result<(), RunFault> {
+// What is at this path, which is no link, is to give way.
+fn open_over(rt: &HostRuntime, path: &str) -> Result<Place, RunFault> {
     match fs::metadata(rt, path) {
         Ok(there) if there.is_file() && there.nlink() == 1 => {
             // A file that may not be written stays, although its folder would let it be replaced.
             match OpenOptions::new().write(true).open(rt, path) {
-                Ok(_) => replace(rt, path, Some(there), made),
+                Ok(_) => open_beside(rt, path, Some(there)),
                 Err(_) => Err(RunFault::Output),
             }
         }
-        _ => write_in_place(rt, path, made),
+        _ => open_itself(rt, path),
     }
 }
 
-fn write_in_place(rt: &HostRuntime, path: &str, made: &[u8]) -> Result<(), RunFault> {
+fn open_itself(rt: &HostRuntime, path: &str) -> Result<Place, RunFault> {
     match File::create(rt, path) {
-        Ok(mut file) => match file.write_all(made) {
-            Ok(()) => finish(file),
-            Err(_) => Err(RunFault::Output),
-        },
+        Ok(file) => Ok(Place::Itself(file)),
         Err(_) => Err(RunFault::Output),
     }
 }
 
-// Writes a file beside the path and renames it, with the mode and the owner of what was there.
-fn replace(
-    rt: &HostRuntime,
-    path: &str,
-    there: Option<Metadata>,
-    made: &[u8],
-) -> Result<(), RunFault> {
+// A new file beside the path, with the mode and the owner of what is there.
+fn open_beside(rt: &HostRuntime, path: &str, there: Option<Metadata>) -> Result<Place, RunFault> {
+    let Ok(name) = format!(in rt.alloc(); "{path}") else {
+        return Err(RunFault::Memory);
+    };
     for number in 0..NAMES {
         let Ok(beside) = format!(in rt.alloc(); "{path}.{number}.part") else {
             return Err(RunFault::Memory);
         };
         match File::create_new(rt, beside.as_str()) {
             Ok(file) => {
-                let done = fill(file, there, made).and_then(|()| fs::rename(
-                    rt,
-                    beside.as_str(),
-                    path,
-                ));
-                if done.is_err() {
+                if dress(&file, there).is_err() {
                     let _ = fs::remove_file(rt, beside.as_str());
+                    return Err(RunFault::Output);
                 }
-                return done.map_err(|_| RunFault::Output);
+                return Ok(Place::Beside(file, beside, name));
             }
             Err(error) if error.kind() == ErrorKind::AlreadyExists => {}
-            Err(error) if is_closed(&error) => return write_in_place(rt, path, made),
+            Err(error) if is_closed(&error) => return open_itself(rt, path),
             Err(_) => return Err(RunFault::Output),
         }
     }
@@ -91,12 +165,11 @@ fn is_closed(error: &io::Error) -> bool {
         || kind == ErrorKind::InvalidFilename
 }
 
-// The new file takes the bytes, and the mode and owner of the one that it replaces; the owner only where the system allows it.
-fn fill(mut file: File, there: Option<Metadata>, made: &[u8]) -> io::Result<()> {
+// The new file takes the mode and the owner of the one that it replaces; the owner only where the system allows it.
+fn dress(file: &File, there: Option<Metadata>) -> io::Result<()> {
     if let Some(there) = there {
-        let _ = fchown(&file, Some(there.uid()), Some(there.gid()));
+        let _ = fchown(file, Some(there.uid()), Some(there.gid()));
         file.set_permissions(there.permissions())?;
     }
-    file.write_all(made)?;
-    file.flush()
+    Ok(())
 }
