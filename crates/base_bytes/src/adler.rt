@@ -31,6 +31,12 @@ fn add_all(a: u32, b: u32, bytes: &[u8]) -> Sums
 }
 
 /// The Adler-32 checksum of the bytes (RFC 1950). Takes no memory.
+///
+/// ```
+/// use dex_base::adler32;
+///
+/// assert_eq!(rt; adler32(b"abc"), 0x024d0127);
+/// ```
 pub fn adler32(bytes: &[u8]) -> u32
     ensures { result ≡ adler32 bytes.now }
 {

@@ -3,6 +3,12 @@ ghost use Rattle.std.specs.Prelude.{◌≡◌};
 ghost use Rattle.base_bytes.specs.Fault.{name_of, frame_fault, table_fault, class_fault, code_fault, limit_fault, line_fault, program_fault, own_fault};
 
 /// The name of a fault's number, `Unknown` for a number that has none.
+///
+/// ```
+/// use dex_base::fault_name;
+///
+/// assert_eq!(rt; fault_name(8), "Checksum");
+/// ```
 pub fn fault_name(code: u16) -> &'static str
     ensures { result.now ≡ name_of code }
 {

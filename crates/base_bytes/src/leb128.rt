@@ -47,6 +47,12 @@ fn read_sequence(bytes: &[u8]) -> Option<Sequence>
 /// read too.
 ///
 /// None where no front of the bytes spells a number of 32 bits.
+///
+/// ```
+/// use dex_base::read_uleb;
+///
+/// assert_eq!(rt; read_uleb(&[0x80, 0x7f, 0x05]), Some((16256, 2)));
+/// ```
 pub fn read_uleb(bytes: &[u8]) -> Option<(u32, usize)>
     ensures found { IfSome result (λ f. Begins Spells bytes.now f.0 f.1) }
     ensures none { IfNone result (NoneBegins Spells bytes.now) }
@@ -75,6 +81,12 @@ fn signed_of(number: u64, scale: u64, last: u8) -> i64
 /// read too.
 ///
 /// None where no front of the bytes spells a signed number of 32 bits.
+///
+/// ```
+/// use dex_base::read_sleb;
+///
+/// assert_eq!(rt; read_sleb(&[0x80, 0x7f, 0x05]), Some((-128, 2)));
+/// ```
 pub fn read_sleb(bytes: &[u8]) -> Option<(i32, usize)>
     ensures found { IfSome result (λ f. Begins SpellsSigned bytes.now f.0 f.1) }
     ensures none { IfNone result (NoneBegins SpellsSigned bytes.now) }
@@ -140,6 +152,14 @@ fn uleb_length(n: u32) -> usize
 /// Appends the shortest spelling of an unsigned number (uleb128), 1 to 5 bytes.
 ///
 /// The only error is want of memory, and then `out` holds what it held; where there is room for 5 bytes, there is none.
+///
+/// ```
+/// use dex_base::put_uleb;
+///
+/// let mut out = Vec::new(alloc);
+/// put_uleb(&mut out, 16256)?;
+/// assert_eq!(rt; out.as_slice(), [0x80, 0x7f].as_slice());
+/// ```
 pub fn put_uleb(out: &mut Vec<u8>, n: u32) -> Result<(), Fault>
     ensures ok { OnOk result (Appends (Shortest Spells) out.old.items out.new.items n) }
     ensures err { OnErr result (out.new.items ≡ out.old.items) }
@@ -207,6 +227,14 @@ fn sleb_width(n: i32) -> Width
 /// Appends the shortest spelling of a signed number (sleb128), 1 to 5 bytes.
 ///
 /// The only error is want of memory, and then `out` holds what it held; where there is room for 5 bytes, there is none.
+///
+/// ```
+/// use dex_base::put_sleb;
+///
+/// let mut out = Vec::new(alloc);
+/// put_sleb(&mut out, -128)?;
+/// assert_eq!(rt; out.as_slice(), [0x80, 0x7f].as_slice());
+/// ```
 pub fn put_sleb(out: &mut Vec<u8>, n: i32) -> Result<(), Fault>
     ensures ok { OnOk result (Appends (Shortest SpellsSigned) out.old.items out.new.items n) }
     ensures err { OnErr result (out.new.items ≡ out.old.items) }

@@ -20,6 +20,17 @@ use std::alloc::Global;
 /// would result, or want of memory.
 ///
 /// Page: "Dalvik bytecode": payloads stand at even addresses.
+///
+/// ```
+/// use bumpalo::Bump;
+/// use dex_code::align;
+/// use dex_program::{Code, Insn};
+///
+/// let arena = Bump::new(alloc);
+/// let insns = &[Insn::I31t { op: 0x2b, a: 0, to: 1 }, Insn::Packed { first: 0, targets: &[0] }]; // a payload at an odd address
+/// let code = Code { registers: 1, ins: 0, outs: 0, insns, tries: &[] };
+/// assert_eq!(rt; align(alloc, &arena, &code)?.insns.len(), 3); // a nop before it
+/// ```
 pub fn align<'a>(alloc: Global, arena: &'a Bump, code: &Code<'a>) -> Result<Code<'a>, Fault>
     requires formed { IsFormed (view.code code.now) }
     ensures ok { IfOk result (λ d. Aligned (view.code code.now) (view.code d)) }

@@ -63,6 +63,16 @@ fn check_tries(alloc: Global, ranks: &Ranks<'_>, all: &Starts, code: &Code<'_>) 
 /// Whether a code that is well formed fits the fields of a file. Of the limits that it breaks the fault names the lowest: 82 to 84 an
 /// index of a string, field or method that doesn't fit 16 bits, 85 an offset, 86 a payload at an odd address, 87 a try that covers
 /// too much, 88 too many tries, 89 a handler too far behind the list's begin. Its place is 0. Beside these only want of memory.
+///
+/// ```
+/// use dex_code::fits;
+/// use dex_program::{Code, Insn};
+/// use dex_tables::Needed;
+///
+/// let code = Code { registers: 0, ins: 0, outs: 0, insns: &[Insn::I10x { op: 0x0e }], tries: &[] }; // return-void
+/// let ranks = Needed::new(alloc).freeze()?; // of a code that names nothing
+/// assert!(rt; fits(alloc, &ranks, &code).is_ok());
+/// ```
 pub fn fits(alloc: Global, ranks: &Ranks<'_>, code: &Code<'_>) -> Result<(), Fault>
     requires formed { IsFormed (view.code code.now) }
     requires ranked { AllByRecursion (HasIndex (NameRanks ranks.now)) (names_of_code (view.code code.now)) }

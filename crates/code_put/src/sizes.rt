@@ -68,6 +68,14 @@ pub fn starts_of(alloc: Global, insns: &[Insn<'_>]) -> Result<Starts, Fault>
 /// them last. An error is want of memory.
 ///
 /// Page: "Dalvik bytecode": addresses count 16-bit units.
+///
+/// ```
+/// use dex_code::addresses;
+/// use dex_program::{Code, Insn};
+///
+/// let code = Code { registers: 0, ins: 0, outs: 0, insns: &[Insn::I10x { op: 0x0e }], tries: &[] }; // return-void
+/// assert_eq!(rt; addresses(alloc, &code)?.as_slice(), [0, 1].as_slice());
+/// ```
 pub fn addresses(alloc: Global, code: &Code<'_>) -> Result<Vec<u64>, Fault>
     requires { IsFormed (view.code code.now) }
     ensures ok { IfOk result (λ all. all.items ≡ addresses_of (map insn code.now.insns.now) ++ length_of (map insn code.now.insns.now) ∷ []) }

@@ -45,6 +45,18 @@ pub fn make_item(alloc: Global, ranks: &Ranks<'_>, code: &Code<'_>) -> Result<Ve
 /// memory, and leaves the Vec as it was.
 ///
 /// Page: "Dalvik Executable format", "code_item".
+///
+/// ```
+/// use dex_code::put_code;
+/// use dex_program::{Code, Insn};
+/// use dex_tables::Needed;
+///
+/// let code = Code { registers: 0, ins: 0, outs: 0, insns: &[Insn::I10x { op: 0x0e }], tries: &[] }; // return-void
+/// let ranks = Needed::new(alloc).freeze()?; // of a code that names nothing
+/// let mut out = Vec::new(alloc);
+/// put_code(&mut out, &ranks, &code)?;
+/// assert_eq!(rt; out.len(), 18);
+/// ```
 pub fn put_code(out: &mut Vec<u8>, ranks: &Ranks<'_>, code: &Code<'_>) -> Result<(), Fault>
     requires formed { IsFormed (view.code code.now) }
     requires fits { FitsCode (NameRanks ranks.now) (view.code code.now) }

@@ -141,6 +141,24 @@ pub fn read_body<'a>(
 }
 
 /// The code of the code item at this byte offset of the file. Its registers are looked at last (73).
+///
+/// ```
+/// use bumpalo::Bump;
+/// use dex_code::read_code;
+/// use dex_container::{kind, open};
+/// use dex_file::write;
+/// use dex_listing::parse;
+/// use dex_tables::Tables;
+///
+/// let arena = Bump::new(alloc);
+/// let listed = parse(alloc, &arena, b"dex 035 listing 2\nclass LA; 0x1\ndirect m ()V 0x9\ncode 0 0 0\nreturn-void\nend code\nend class\n")?;
+/// let file = write(alloc, &listed)?;
+/// let sections = open(&file)?;
+/// let tables = Tables::read(alloc, &arena, &sections)?;
+/// let (off, _) = sections.section(kind::CODE_ITEM).unwrap();
+/// let code = read_code(alloc, &arena, &tables, &sections, off)?;
+/// assert_eq!(rt; code.insns.len(), 1);
+/// ```
 pub fn read_code<'a>(
     alloc: Global,
     arena: &'a Bump,

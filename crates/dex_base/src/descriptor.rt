@@ -128,6 +128,12 @@ pub fn descriptor_length(units: &[u16]) -> Option<usize>
 }
 
 /// Whether the units are a type descriptor: `V`, or 0 to 255 `[` before a primitive type or a class (TypeDescriptor).
+///
+/// ```
+/// use dex_base::is_descriptor;
+///
+/// assert!(rt; is_descriptor(&[0x5b, 0x49])); // [I
+/// ```
 pub fn is_descriptor(units: &[u16]) -> bool
     ensures { IsTrue result ↔ IsDescriptor units.now }
 {
@@ -138,6 +144,12 @@ pub fn is_descriptor(units: &[u16]) -> bool
 }
 
 /// Whether the units are the descriptor of a class: `L`, simple names joined by `/`, `;`.
+///
+/// ```
+/// use dex_base::is_class;
+///
+/// assert!(rt; is_class(&[0x4c, 0x41, 0x3b])); // LA;
+/// ```
 pub fn is_class(units: &[u16]) -> bool
     ensures { IsTrue result ↔ IsClass units.now }
 {
@@ -148,6 +160,12 @@ pub fn is_class(units: &[u16]) -> bool
 }
 
 /// Whether the units are the descriptor of an array: one that begins with `[`.
+///
+/// ```
+/// use dex_base::is_array;
+///
+/// assert!(rt; is_array(&[0x5b, 0x49])); // [I
+/// ```
 pub fn is_array(units: &[u16]) -> bool
     ensures { IsTrue result ↔ IsArray units.now }
 {

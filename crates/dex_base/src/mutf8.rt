@@ -89,6 +89,15 @@ fn read_units<'a>(
 /// None where no front of the bytes is one: the count is misspelled or above the units that follow, a unit is
 /// misspelled (overlong, or of four bytes), or no zero ends it. Lone surrogates are units like others. The only error
 /// is want of memory; the count is compared with the bytes that are left before memory is asked for it.
+///
+/// ```
+/// use bumpalo::Bump;
+/// use dex_base::read_mutf8;
+///
+/// let arena = Bump::new(alloc);
+/// let read = read_mutf8(alloc, &arena, &[0x01, 0x56, 0x00])?;
+/// assert!(rt; read == Some(([0x56].as_slice(), 3)));
+/// ```
 pub fn read_mutf8<'a>(
     _alloc: Global,
     arena: &'a Bump,
@@ -137,6 +146,14 @@ fn put_unit(out: &mut Vec<u8>, unit: u16)
 ///
 /// The only error is want of memory, and then `out` holds what it held; where there is room for three bytes a unit and 6
 /// more, there is none.
+///
+/// ```
+/// use dex_base::put_mutf8;
+///
+/// let mut out = Vec::new(alloc);
+/// put_mutf8(&mut out, &[0xd800, 0xdc00])?;
+/// assert_eq!(rt; out.as_slice(), [0x02, 0xed, 0xa0, 0x80, 0xed, 0xb0, 0x80, 0x00].as_slice());
+/// ```
 pub fn put_mutf8(out: &mut Vec<u8>, units: &[u16]) -> Result<(), Fault>
     requires { length units.now < 2 ^ 32 }
     ensures ok { OnOk result (Appends PacksText out.old.items out.new.items units.now) }

@@ -100,6 +100,12 @@ fn between_angles(units: &[u16]) -> Option<&[u16]>
 }
 
 /// Whether the units are the name of a field or a method: a simple name, or one between `<` and `>` (MemberName).
+///
+/// ```
+/// use dex_base::is_member_name;
+///
+/// assert!(rt; is_member_name(&[0x3c, 0x61, 0x3e])); // <a>
+/// ```
 pub fn is_member_name(units: &[u16]) -> bool
     ensures { IsTrue result ↔ IsMemberName units.now }
 {

@@ -16,6 +16,17 @@ fn put_signature(bytes: &mut [u8])
 
 /// Fills in the SHA-1 signature of the bytes from 32 on (bytes 12 to 31), and then the Adler-32 checksum of the
 /// bytes from 12 on (bytes 8 to 11). No other byte changes (Dalvik Executable format, "header_item").
+///
+/// ```
+/// use dex_container::{close, open};
+/// use dex_file::write;
+/// use dex_program::Program;
+///
+/// let mut file = write(alloc, &Program { classes: &[] })?;
+/// file[12] = 0; // breaks the signature
+/// close(&mut file);
+/// assert!(rt; open(&file).is_ok());
+/// ```
 pub fn close(bytes: &mut [u8])
     requires { 112 ≤ length bytes.old }
     ensures { IsClosed bytes.old bytes.new }

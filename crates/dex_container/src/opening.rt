@@ -31,6 +31,15 @@ impl<'a> Model for Sections<'a> {
 
 impl<'a> Sections<'a> {
     /// The whole file.
+    ///
+    /// ```
+    /// use dex_container::open;
+    /// use dex_file::write;
+    /// use dex_program::Program;
+    ///
+    /// let file = write(alloc, &Program { classes: &[] })?;
+    /// assert!(rt; open(&file)?.bytes() == file.as_slice());
+    /// ```
     pub fn bytes(&self) -> &'a [u8]
         ensures value { result.now ≡ self.now }
         ensures framed { IsFramed self.now }
@@ -40,6 +49,15 @@ impl<'a> Sections<'a> {
 
     /// How many rows the table of this kind has (1 to 6, as the map numbers them) and at which byte it begins: 0
     /// and 0 where it has no row, or for another kind.
+    ///
+    /// ```
+    /// use dex_container::{kind, open};
+    /// use dex_file::write;
+    /// use dex_program::Program;
+    ///
+    /// let file = write(alloc, &Program { classes: &[] })?;
+    /// assert_eq!(rt; open(&file)?.table(kind::STRING_ID_ITEM), (0, 0));
+    /// ```
     pub fn table(&self, kind: u16) -> (u32, u32)
         ensures { result ≡ table_of self.now kind }
     {
@@ -57,6 +75,15 @@ impl<'a> Sections<'a> {
 
     /// Where the section of this kind of data item begins and ends, in bytes. None where the map has no entry of
     /// the kind, and for the kinds of header and tables.
+    ///
+    /// ```
+    /// use dex_container::{kind, open};
+    /// use dex_file::write;
+    /// use dex_program::Program;
+    ///
+    /// let file = write(alloc, &Program { classes: &[] })?;
+    /// assert_eq!(rt; open(&file)?.section(kind::MAP_LIST), Some((112, 140)));
+    /// ```
     pub fn section(&self, kind: u16) -> Option<(u32, u32)>
         ensures some { IfSome result (λ s. IsSection self.now kind s.0 s.1) }
         ensures within { IfSome result (λ s. (s.0 < s.1) × (s.1 ≤ length self.now)) }
@@ -73,6 +100,12 @@ impl<'a> Sections<'a> {
 
 /// The sections of a file whose header, map and checksums keep all rules (Dalvik Executable format), else the lowest
 /// number of the faults 1 to 14 that stands, at its lowest place, a byte offset. Takes no memory.
+///
+/// ```
+/// use dex_container::open;
+///
+/// assert!(rt; open(b"dex\n035").is_err()); // 1 TooShort at 7
+/// ```
 pub fn open(bytes: &[u8]) -> Result<Sections<'_>, Fault>
     ensures framed { IfOk result (λ s. (s ≡ bytes.now) × IsFramed bytes.now) }
     ensures only { IsFramed bytes.now → IsOk result }

@@ -77,6 +77,14 @@ fn put_raw(out: &mut Vec<u8>, insn: RawInsn<'_>) -> Result<(), AllocError>
 /// The opcode has to be one of the variant's format, each operand has to fit its field, registers that 35c doesn't name have to be
 /// 0, and a payload has to keep its rules. An error is want of memory, and leaves the Vec as it was; where there is
 /// room for the units, there is none.
+///
+/// ```
+/// use dex_insn::{RawInsn, put_insn};
+///
+/// let mut out = Vec::new(alloc);
+/// put_insn(&mut out, &RawInsn::I11n { op: 0x12, a: 0, b: -1 })?; // const/4 v0, -1
+/// assert_eq!(rt; out.as_slice(), [0x12, 0xf0].as_slice());
+/// ```
 #[tactic(auto, using(crate::proofs::Spelled::spells, crate::proofs::Spelled::length_written))]
 pub fn put_insn(out: &mut Vec<u8>, insn: &RawInsn<'_>) -> Result<(), Fault>
     requires { IsRaw (raw insn.now) }

@@ -44,6 +44,13 @@ fn fault(flaw: Flaw, at: u32) -> Fault
 /// 64 (a bit that has to be 0 is set), 66 (format 35c with more than five registers) and 67 (a payload at an odd unit, an element
 /// width other than 1, 2, 4 and 8, or keys that don't rise strictly). Where several rules are broken, the first in the order
 /// 62, 63, 64, 66 is answered, and for payloads in the order odd unit, head past the units, width, length past the units, keys.
+///
+/// ```
+/// use dex_insn::{RawInsn, read_insn};
+///
+/// let insn = read_insn(&[0x12, 0xf0], 0)?; // const/4 v0, -1
+/// assert!(rt; matches!(insn, RawInsn::I11n { op: 0x12, a: 0, b: -1 }));
+/// ```
 pub fn read_insn(units: &[u8], at: u32) -> Result<RawInsn<'_>, Fault>
     // What is read stands there.
     ensures ok { IfOk result (λ insn. InsnStands units.now at (raw insn)) }

@@ -36,6 +36,12 @@ fn last_named(n: u8, first: u16) -> Option<u32>
 
 /// The greatest register that an instruction names: `None` where it names none. Of format 35c it is one of the first `n`, of
 /// 3rc the last of the `n` from `first` on. The second half of a wide pair isn't named.
+///
+/// ```
+/// use dex_insn::{RawInsn, top_register};
+///
+/// assert_eq!(rt; top_register(&RawInsn::I12x { op: 0x01, a: 3, b: 15 }), Some(15)); // move v3, v15
+/// ```
 #[rattlefmt::skip]
 #[tactic(auto, unfolding(crate::specs::Raw::raw, crate::specs::Registers::named_registers))]
 pub fn top_register(insn: &RawInsn<'_>) -> Option<u32>

@@ -6,6 +6,12 @@ ghost use Rattle.dex_insn.specs.Raw.{raw, units};
 use crate::raw::RawInsn;
 
 /// How many 16-bit units spell the instruction or payload.
+///
+/// ```
+/// use dex_insn::{RawInsn, size_of};
+///
+/// assert_eq!(rt; size_of(&RawInsn::I51l { op: 0x18, a: 0, b: 1 }), 5); // const-wide v0, 1
+/// ```
 #[rattlefmt::skip]
 #[tactic(auto, unfolding(crate::specs::Raw::raw, crate::specs::Raw::units))]
 pub fn size_of(insn: &RawInsn<'_>) -> u64

@@ -196,6 +196,24 @@ fn read_rest<'a>(
 /// value's first byte); an array value inside 64 others (51, at its first byte). In one value the type and the argument
 /// are looked at first, then the depth, its bytes and its index; values are looked at in the order of their bytes. The
 /// only other error is want of memory, which is asked for as values come, never for a count.
+///
+/// ```
+/// use bumpalo::Bump;
+/// use dex_container::{kind, open};
+/// use dex_file::write;
+/// use dex_listing::parse;
+/// use dex_program::Value;
+/// use dex_tables::Tables;
+/// use dex_value::read_array;
+///
+/// let arena = Bump::new(alloc);
+/// let file = write(alloc, &parse(alloc, &arena, b"dex 035 listing 2\nclass LA; 0x1\nstatic n I 0x9 = int 7\ndirect m ()V 0x9\nend class\n")?)?;
+/// let sections = open(&file)?;
+/// let tables = Tables::read(alloc, &arena, &sections)?;
+/// let (off, _) = sections.section(kind::ENCODED_ARRAY_ITEM).unwrap();
+/// let values = read_array(alloc, &arena, &tables, &sections, off, 1)?;
+/// assert!(rt; matches!(values, [Value::Int(7)]));
+/// ```
 pub fn read_array<'a>(
     alloc: Global,
     arena: &'a Bump,

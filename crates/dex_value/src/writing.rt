@@ -175,6 +175,17 @@ fn put_counted(out: &mut Vec<u8>, ranks: &Ranks<'_>, all: &[Value<'_>]) -> Resul
 /// All that some bytes spell is so (`spelled_array_can_be_put`), so nothing that can be written is kept out.
 ///
 /// The only error is want of memory, and then `out` holds what it held.
+///
+/// ```
+/// use dex_program::Value;
+/// use dex_tables::Needed;
+/// use dex_value::put_array;
+///
+/// let ranks = Needed::new(alloc).freeze()?; // of values that name nothing
+/// let mut out = Vec::new(alloc);
+/// put_array(&mut out, &ranks, &[Value::Int(-1), Value::Null])?;
+/// assert_eq!(rt; out.as_slice(), [0x02, 0x04, 0xff, 0x1e].as_slice());
+/// ```
 pub fn put_array(out: &mut Vec<u8>, ranks: &Ranks<'_>, values: &[Value<'_>]) -> Result<(), Fault>
     requires named { AllNamesHold (IsRanked ranks.now) (content.values (map value values.now)) }
     requires counts { ArrayFits (map value values.now) }

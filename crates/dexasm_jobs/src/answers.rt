@@ -18,6 +18,17 @@ use std::alloc::Global;
 /// Check and List refuse what `read` refuses, Strip what `read` or `write` does, Assemble what `parse`, `align_all` (with
 /// align) or `write` does; the fault is theirs, with its place: a byte of a file, a line of a listing, or a class of the
 /// program. 255 is want of memory.
+///
+/// ```
+/// use dex_file::write;
+/// use dex_program::Program;
+/// use dexasm_job::Job;
+/// use dexasm_jobs::answer;
+///
+/// let file = write(alloc, &Program { classes: &[] })?;
+/// let said = answer(alloc, Job::Check, &file)?;
+/// assert_eq!(rt; said.len(), 3); // ok and a line feed
+/// ```
 pub fn answer(alloc: Global, job: Job, given: &[u8]) -> Result<Vec<u8>, Fault>
     ensures answered { IfOk result (λ made. Answer job given.now made.items) }
     ensures refused { IfErr result (λ fault. fault ≢ memory → Refusal job given.now fault) }

@@ -14,6 +14,13 @@ use dexasm_job::Job;
 use std::alloc::Global;
 
 /// Reads the program's words, of which the first is its name.
+///
+/// ```
+/// use dexasm_plan::plan;
+///
+/// let planned = plan(alloc, &["dexasm", "list", "a.dex"]).unwrap();
+/// assert_eq!(rt; planned.file, Some("a.dex"));
+/// ```
 pub fn plan<'w>(alloc: Global, words: &'w [&'w str]) -> Result<Plan<'w>, Error>
     ensures ok { IfOk result (Plans (subcommand_of dexasm (texts_of words.entry.now))) }
     ensures passes { IfErr result (λ e.
@@ -71,6 +78,14 @@ fn job_of(name: &str, align: bool) -> Option<Job>
 }
 
 /// The exit status that tells of wrong words.
+///
+/// ```
+/// use dexasm_plan::{plan, usage_status};
+///
+/// let words = ["dexasm", "lisst"];
+/// let Err(error) = plan(alloc, &words) else { unreachable!() };
+/// assert_eq!(rt; usage_status(&error), 2);
+/// ```
 pub fn usage_status(error: &Error) -> u8
     ensures help { kind_of error.now ≡ ErrorKind.DisplayHelp → result ≡ 0 }
     ensures memory { kind_of error.now ≡ ErrorKind.OutOfMemory → result ≡ 4 }

@@ -66,6 +66,14 @@ pub struct Watched<T> {
 
 impl<T> Watched<T> {
     /// Watches a reader or a writer from here on. Takes no memory.
+    ///
+    /// ```
+    /// use dexasm_run::{Sink, Watched};
+    ///
+    /// let mut output = Watched::new(Vec::new(alloc));
+    /// assert!(rt; output.put(b"ab").is_ok());
+    /// assert!(rt; !output.failed());
+    /// ```
     pub fn new(inner: T) -> Watched<T>
         ensures inner { watched_inner result ≡ inner }
         ensures works { watched_failed result ≡ false }
@@ -79,6 +87,13 @@ impl<T> Watched<T> {
     }
 
     /// The reader or the writer again.
+    ///
+    /// ```
+    /// use dexasm_run::Watched;
+    ///
+    /// let output: Watched<Vec<u8>> = Watched::new(Vec::new(alloc));
+    /// assert!(rt; output.into_inner().is_empty());
+    /// ```
     pub fn into_inner(self) -> T
         ensures { result ≡ watched_inner self }
     {

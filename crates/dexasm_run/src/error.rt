@@ -22,6 +22,13 @@ pub enum RunFault {
 }
 
 /// The exit status of the program: 1 refused, 3 input or output, 4 want of memory.
+///
+/// ```
+/// use dex_base::Fault;
+/// use dexasm_run::{RunFault, status};
+///
+/// assert_eq!(rt; status(&RunFault::Refused(Fault { code: 8, place: 8 })), 1);
+/// ```
 pub fn status(fault: &RunFault) -> u8
     ensures { result ≡ status_of fault.now }
 {

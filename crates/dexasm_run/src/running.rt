@@ -19,6 +19,16 @@ const PIECE: usize = 64 * 1024;
 /// this run, `Output` only where the sink did, and `Memory` stands for the fault 255. After `Refused`, `Input` and
 /// `Memory` nothing was put, after `Output` a beginning of the answer. An endless source ends in `Memory` or
 /// `Input`, since each `take` adds a byte, fails or ends the source, and a vector's length is bounded.
+///
+/// ```
+/// use dexasm_run::{Job, Watched, run};
+///
+/// let listing: &[u8] = b"dex 035 listing 2\n";
+/// let mut output = Watched::new(Vec::new(alloc));
+/// let done = run(alloc, Job::Assemble { align: false }, &mut Watched::new(listing), &mut output);
+/// assert!(rt; done.is_ok());
+/// assert_eq!(rt; output.into_inner().len(), 140);
+/// ```
 pub fn run<R: Source, W: Sink>(
     alloc: Global,
     job: Job,

@@ -117,6 +117,19 @@ fn aligned_classes<'a>(
 /// instructions moved with it. All else is as it was, and the program is well formed again. What is new lies in the arena.
 ///
 /// An error is 90, where a body would have more than 2147483647 instructions, or want of memory.
+///
+/// ```
+/// use bumpalo::Bump;
+/// use dex_file::{align_all, write};
+/// use dex_listing::parse;
+///
+/// let arena = Bump::new(alloc);
+/// let text = b"dex 035 listing 2\nclass LA; 0x1\ndirect m ()V 0x9\ncode 1 0 0\n:l\npacked-switch v0 :p\n:p\npacked-switch-payload 0 :l\nend code\nend class\n";
+/// let listed = parse(alloc, &arena, text)?;
+/// assert!(rt; write(alloc, &listed).is_err()); // 86 Misaligned at 0
+/// let aligned = align_all(alloc, &arena, &listed)?;
+/// assert!(rt; write(alloc, &aligned).is_ok());
+/// ```
 pub fn align_all<'a>(
     alloc: Global,
     arena: &'a Bump,

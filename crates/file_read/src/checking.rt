@@ -14,6 +14,16 @@ use tables_rows::Tables;
 
 /// Whether a file means a program: refuses what `read` refuses, with the same fault, and holds no program: each code is let go when
 /// it is read.
+///
+/// ```
+/// use dex_file::{check, write};
+/// use dex_program::Program;
+///
+/// let mut file = write(alloc, &Program { classes: &[] })?;
+/// assert!(rt; check(alloc, &file).is_ok());
+/// file[139] = 1; // the last byte
+/// assert!(rt; check(alloc, &file).is_err()); // 8 Checksum at 8
+/// ```
 pub fn check(alloc: Global, bytes: &[u8]) -> Result<(), Fault>
     ensures means { OnOk result ((p : Program) × Means bytes.now p) }
     ensures only { (p : Program) → Means bytes.now p → IfErr result (λ e. e ≡ memory) }

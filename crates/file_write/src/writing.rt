@@ -24,6 +24,17 @@ use std::alloc::Global;
 /// Refused are programs that break a limit of the format, by the lowest of 80 to 90 that stands, at its place: for 80 and 81 how many
 /// are needed, for 82 to 89 the class's number, for 90 it is 0. What is refused with 80 to 88 is meant by no file at all. 255 is want of
 /// memory.
+///
+/// ```
+/// use bumpalo::Bump;
+/// use dex_file::{read, write};
+/// use dex_listing::parse;
+///
+/// let arena = Bump::new(alloc);
+/// let listed = parse(alloc, &arena, b"dex 035 listing 2\nclass LA; 0x1\nend class\n")?;
+/// let file = write(alloc, &listed)?; // what `parse` answers is well formed
+/// assert_eq!(rt; read(alloc, &arena, &file)?.classes.len(), 1);
+/// ```
 pub fn write(alloc: Global, program: &Program<'_>) -> Result<Vec<u8>, Fault>
     requires kept { WellFormed (view.program program.now) }
     ensures file { IfOk result (λ file. IsFileOf (view.program program.now) file.items) }
@@ -50,6 +61,14 @@ fn read_formed<'a>(alloc: Global, arena: &'a Bump, bytes: &[u8]) -> Result<Progr
 ///
 /// Its five tables of names are no longer than those of the file that came in. Refused are bytes that `read` refuses (1 to 73), and
 /// programs whose handlers are too far in the order of first use (89) or that are too big (90), as `write` refuses them.
+///
+/// ```
+/// use dex_file::{strip, write};
+/// use dex_program::Program;
+///
+/// let file = write(alloc, &Program { classes: &[] })?;
+/// assert!(rt; strip(alloc, &file)?.as_slice() == file.as_slice()); // it has nothing to spare
+/// ```
 pub fn strip(alloc: Global, bytes: &[u8]) -> Result<Vec<u8>, Fault>
     ensures ok { IfOk result (λ file. IsStripped bytes.now file.items) }
     ensures only { (p : _) → Means bytes.now p → Fits p → IfErr result (λ e. e ≡ memory) }

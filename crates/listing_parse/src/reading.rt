@@ -417,6 +417,16 @@ fn check_end(draft: &Draft<'_>) -> Result<(), Fault>
 /// else a text that ends inside a block (106); where there is none, the lowest line with a target that is no instruction of
 /// its code (105); and then the first class that breaks a rule (110 to 118). A fault's place is a line's number, from 1, and
 /// of 110 to 118 the class's, from 0.
+///
+/// ```
+/// use bumpalo::Bump;
+/// use dex_listing::parse;
+///
+/// let arena = Bump::new(alloc);
+/// let listed = parse(alloc, &arena, b"dex 035 listing 2\nclass LA; 0x1\nend class\n")?;
+/// assert_eq!(rt; listed.classes.len(), 1);
+/// assert!(rt; parse(alloc, &arena, b"dex 035 listing 2\nclass A 0x1\n").is_err()); // 101 Name at 2
+/// ```
 pub fn parse<'a>(alloc: Global, arena: &'a Bump, text: &[u8]) -> Result<Program<'a>, Fault>
     ensures ok { IfOk result (λ p. IsListing text.now (program p)) }
     ensures err { IfErr result (λ e. e ≢ memory → ListingBreaks text.now e.code e.place) }

@@ -290,6 +290,15 @@ fn print_in(alloc: Global, form: Form, whole: &Program<'_>) -> Result<Vec<u8>, F
 ///
 /// The only error is want of memory. The stack holds a call for each array that a value is in, at most 64 in a well-formed
 /// program. Page: docs/LISTING.md.
+///
+/// ```
+/// use bumpalo::Bump;
+/// use dex_listing::{parse, print};
+///
+/// let arena = Bump::new(alloc);
+/// let listed = parse(alloc, &arena, b"dex 035 listing 2\nclass LA; 0x1\nend class\n")?;
+/// assert!(rt; print(alloc, &listed)?.as_slice() == b"dex 035 listing 2\nclass LA; 0x1\nend class\n".as_slice());
+/// ```
 pub fn print(alloc: Global, whole: &Program<'_>) -> Result<Vec<u8>, Fault>
     ensures canonical { IfOk result (λ text. text.items ≡ canon (program whole.now)) }
     ensures memory { IsOkUnless result memory }
@@ -298,6 +307,15 @@ pub fn print(alloc: Global, whole: &Program<'_>) -> Result<Vec<u8>, Fault>
 }
 
 /// The canonical listing of the first form, in which each instruction has its number; else as `print`.
+///
+/// ```
+/// use bumpalo::Bump;
+/// use dex_listing::{parse, print_1};
+///
+/// let arena = Bump::new(alloc);
+/// let listed = parse(alloc, &arena, b"dex 035 listing 2\nclass LA; 0x1\nend class\n")?;
+/// assert!(rt; print_1(alloc, &listed)?.as_slice() == b"dex 035\nclass LA; 0x1\nend class\n".as_slice());
+/// ```
 pub fn print_1(alloc: Global, whole: &Program<'_>) -> Result<Vec<u8>, Fault>
     ensures canonical { IfOk result (λ text. text.items ≡ canon_1 (program whole.now)) }
     ensures memory { IsOkUnless result memory }

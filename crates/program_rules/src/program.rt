@@ -114,6 +114,26 @@ fn check_class(i: usize, one: &Class<'_>, is_in_order: bool, uses_hold: bool) ->
 ///
 /// Takes no memory. So each class's type is looked for among all classes, and the user of a switch's payload among all
 /// instructions of its code.
+///
+/// ```
+/// use dex_program::{Class, Desc, Program, Str, well_formed};
+///
+/// let ty = Desc { text: Str { units: &[0x4c, 0x41, 0x3b] } }; // LA;
+/// let class = Class {
+///     ty,
+///     flags: 1,
+///     superclass: None,
+///     interfaces: &[],
+///     source: None,
+///     statics: &[],
+///     values: &[],
+///     instances: &[],
+///     directs: &[],
+///     virtuals: &[],
+/// };
+/// assert!(rt; well_formed(&Program { classes: &[class] }).is_ok());
+/// assert!(rt; well_formed(&Program { classes: &[class, class] }).is_err()); // 112 ClassOrder at 1
+/// ```
 pub fn well_formed(all: &Program<'_>) -> Result<(), Fault>
     ensures formed { OnOk result (WellFormed (program all.now)) }
     ensures err { IfErr result (RuleBreaks (program all.now)) }
@@ -156,6 +176,12 @@ fn check_classes(alloc: Global, numbers: &Numbers<'_>, classes: &[Class<'_>]) ->
 
 /// Whether a program is well formed, as `well_formed` says it. Types are looked up by hash and the users of payloads are noted in
 /// one walk, so that n classes or n switches take time that grows with n; want of memory is a refusal (255).
+///
+/// ```
+/// use dex_program::{Program, well_formed_in};
+///
+/// assert!(rt; well_formed_in(alloc, &Program { classes: &[] }).is_ok());
+/// ```
 pub fn well_formed_in(alloc: Global, all: &Program<'_>) -> Result<(), Fault>
     ensures formed { OnOk result (WellFormed (program all.now)) }
     ensures err { IfErr result (λ e. e ≢ memory → RuleBreaks (program all.now) e) }

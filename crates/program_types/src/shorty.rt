@@ -34,6 +34,17 @@ pub fn letter(ty: Desc<'_>) -> u16
 
 /// The shorty of a return type and parameters, in the arena: a letter for each, `L` for classes and arrays and else the
 /// descriptor itself. So the shorty of `(I[JLA;)V` is `VILL`. Refused only for want of memory.
+///
+/// ```
+/// use bumpalo::Bump;
+/// use dex_program::{Desc, Str, shorty_of};
+///
+/// let arena = Bump::new(alloc);
+/// let class = Desc { text: Str { units: &[0x4c, 0x41, 0x3b] } }; // LA;
+/// let void = Desc { text: Str { units: &[0x56] } };
+/// let shorty = shorty_of(alloc, &arena, void, &[class])?;
+/// assert!(rt; shorty.units == [0x56, 0x4c].as_slice()); // VL
+/// ```
 pub fn shorty_of<'a>(
     alloc: Global,
     arena: &'a Bump,

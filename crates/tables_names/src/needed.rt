@@ -44,6 +44,13 @@ impl<'a> Model for Needed<'a> {
 #[tactic(auto, unfolding(crate::specs::Closure::with_name, crate::specs::Closure::with_proto, crate::specs::Closure::with_parts, crate::specs::Closure::with_proto_parts))]
 impl<'a> Needed<'a> {
     /// No name. Takes no memory.
+    ///
+    /// ```
+    /// use dex_tables::Needed;
+    ///
+    /// let ranks = Needed::new(alloc).freeze()?;
+    /// assert!(rt; ranks.string(0).is_none());
+    /// ```
     pub fn new(alloc: Global) -> Self
         ensures { result ≡ nothing }
     {
@@ -78,6 +85,15 @@ impl<'a> Needed<'a> {
 
     /// Adds a string. Refused only for want of memory, as all additions are: what was held is held then, and beyond it
     /// at most parts of the name, never the name itself.
+    ///
+    /// ```
+    /// use dex_program::Str;
+    /// use dex_tables::Needed;
+    ///
+    /// let mut needed = Needed::new(alloc);
+    /// needed.add_string(Str { units: &[0x61] })?; // a
+    /// assert!(rt; needed.freeze()?.string(0).is_some());
+    /// ```
     pub fn add_string(&mut self, name: Str<'a>) -> Result<(), Fault>
         ensures added { OnOk result (self.new ≡ with_name self.old (OfText (str name.entry))) }
         ensures unchanged { OnErr result (self.new ≡ self.old) }
@@ -88,6 +104,15 @@ impl<'a> Needed<'a> {
     }
 
     /// Adds a type, and its descriptor as a string.
+    ///
+    /// ```
+    /// use dex_program::{Desc, Str};
+    /// use dex_tables::Needed;
+    ///
+    /// let mut needed = Needed::new(alloc);
+    /// needed.add_type(Desc { text: Str { units: &[0x49] } })?; // I
+    /// assert!(rt; needed.freeze()?.string(0).is_some()); // its text came along
+    /// ```
     pub fn add_type(&mut self, name: Desc<'a>) -> Result<(), Fault>
         ensures added { OnOk result (self.new ≡ with_name self.old (OfDesc (desc name.entry))) }
         ensures partly { OnErr result (AddsPart self.old self.new (with_parts self.old (OfDesc (desc name.entry)))) }
@@ -104,6 +129,19 @@ impl<'a> Needed<'a> {
 
     /// Adds a prototype, its shorty, its return type and its parameters. The arena holds the shorty, which is spelled only
     /// where the prototype isn't held yet.
+    ///
+    /// ```
+    /// use bumpalo::Bump;
+    /// use dex_program::{Desc, Proto, Str};
+    /// use dex_tables::Needed;
+    ///
+    /// let arena = Bump::new(alloc);
+    /// let int = Desc { text: Str { units: &[0x49] } }; // I
+    /// let proto = Proto { ret: int, params: &[] };
+    /// let mut needed = Needed::new(alloc);
+    /// needed.add_proto(&arena, &proto)?; // ()I
+    /// assert!(rt; needed.freeze()?.type_(0).is_some()); // its return type came along
+    /// ```
     pub fn add_proto(&mut self, arena: &'a Bump, name: &Proto<'a>) -> Result<(), Fault>
         requires ret { IsDescriptor (desc name.now.ret) }
         requires params { All IsDescriptor (map desc name.now.params.now) }
@@ -126,6 +164,21 @@ impl<'a> Needed<'a> {
     }
 
     /// Adds a method, its class, its name and its prototype. The arena holds the shorty.
+    ///
+    /// ```
+    /// use bumpalo::Bump;
+    /// use dex_program::{Desc, MethodRef, Proto, Str};
+    /// use dex_tables::Needed;
+    ///
+    /// let arena = Bump::new(alloc);
+    /// let int = Desc { text: Str { units: &[0x49] } }; // I
+    /// let proto = Proto { ret: int, params: &[] };
+    /// let class = Desc { text: Str { units: &[0x4c, 0x41, 0x3b] } };
+    /// let method = MethodRef { class, name: Str { units: &[0x6d] }, proto: &proto };
+    /// let mut needed = Needed::new(alloc);
+    /// needed.add_method(&arena, &method)?; // LA;->m()I
+    /// assert!(rt; needed.freeze()?.proto(0).is_some()); // its prototype came along
+    /// ```
     pub fn add_method(&mut self, arena: &'a Bump, name: &MethodRef<'a>) -> Result<(), Fault>
         requires ret { IsDescriptor (desc name.now.proto.now.ret) }
         requires params { All IsDescriptor (map desc name.now.proto.now.params.now) }
@@ -145,6 +198,18 @@ impl<'a> Needed<'a> {
     }
 
     /// Adds a field, its class, its name and its type.
+    ///
+    /// ```
+    /// use dex_program::{Desc, FieldRef, Str};
+    /// use dex_tables::Needed;
+    ///
+    /// let int = Desc { text: Str { units: &[0x49] } }; // I
+    /// let class = Desc { text: Str { units: &[0x4c, 0x41, 0x3b] } };
+    /// let field = FieldRef { class, name: Str { units: &[0x6e] }, ty: int };
+    /// let mut needed = Needed::new(alloc);
+    /// needed.add_field(&field)?; // LA;->n:I
+    /// assert!(rt; needed.freeze()?.type_(1).is_some()); // its class and its type came along
+    /// ```
     pub fn add_field(&mut self, name: &FieldRef<'a>) -> Result<(), Fault>
         ensures added { OnOk result (self.new ≡ with_name self.old (OfField (field_ref name.now))) }
         ensures partly { OnErr result (AddsPart self.old self.new (with_parts self.old (OfField (field_ref name.now)))) }
@@ -178,6 +243,19 @@ impl<'a> Needed<'a> {
 
     /// The names that are held, with their ranks. No name is added from here on. Refused only for want of memory, and
     /// then nothing is given back.
+    ///
+    /// ```
+    /// use dex_program::{Desc, FieldRef, Str};
+    /// use dex_tables::Needed;
+    ///
+    /// let int = Desc { text: Str { units: &[0x49] } }; // I
+    /// let class = Desc { text: Str { units: &[0x4c, 0x41, 0x3b] } };
+    /// let field = FieldRef { class, name: Str { units: &[0x6e] }, ty: int };
+    /// let mut needed = Needed::new(alloc);
+    /// needed.add_field(&field)?; // LA;->n:I
+    /// let ranks = needed.freeze()?;
+    /// assert_eq!(rt; ranks.index_of_string(class.text), Some(1)); // I, LA;, n
+    /// ```
     pub fn freeze(self) -> Result<Ranks<'a>, Fault>
         ensures same { IfOk result (λ r. r ≡ self.entry) }
         ensures memory { IsOkUnless result memory }

@@ -89,6 +89,16 @@ impl<'a> Ranks<'a> {
     }
 
     /// The rank of a string. None where it isn't held, or where the rank is above 4294967295; so with the other kinds.
+    ///
+    /// ```
+    /// use dex_program::Str;
+    /// use dex_tables::Needed;
+    ///
+    /// let name = Str { units: &[0x61] };
+    /// let mut needed = Needed::new(alloc);
+    /// needed.add_string(name)?;
+    /// assert_eq!(rt; needed.freeze()?.index_of_string(name), Some(0));
+    /// ```
     pub fn index_of_string(&self, name: Str<'a>) -> Option<u32>
         ensures rank { HasIndex self.now.strings (key_of_str name.entry) result }
         ensures some { IfSome result (λ i. IsAt self.now.strings i (key_of_str name.entry)) }
@@ -98,6 +108,16 @@ impl<'a> Ranks<'a> {
     }
 
     /// The rank of a type.
+    ///
+    /// ```
+    /// use dex_program::{Desc, Str};
+    /// use dex_tables::Needed;
+    ///
+    /// let int = Desc { text: Str { units: &[0x49] } };
+    /// let mut needed = Needed::new(alloc);
+    /// needed.add_type(int)?;
+    /// assert_eq!(rt; needed.freeze()?.index_of_type(int), Some(0));
+    /// ```
     pub fn index_of_type(&self, name: Desc<'a>) -> Option<u32>
         ensures rank { HasIndex self.now.types (key_of_desc name.entry) result }
         ensures some { IfSome result (λ i. IsAt self.now.types i (key_of_desc name.entry)) }
@@ -107,6 +127,19 @@ impl<'a> Ranks<'a> {
     }
 
     /// The rank of a prototype.
+    ///
+    /// ```
+    /// use bumpalo::Bump;
+    /// use dex_program::{Desc, Proto, Str};
+    /// use dex_tables::Needed;
+    ///
+    /// let arena = Bump::new(alloc);
+    /// let int = Desc { text: Str { units: &[0x49] } }; // I
+    /// let proto = Proto { ret: int, params: &[] };
+    /// let mut needed = Needed::new(alloc);
+    /// needed.add_proto(&arena, &proto)?;
+    /// assert_eq!(rt; needed.freeze()?.index_of_proto(&proto), Some(0));
+    /// ```
     pub fn index_of_proto(&self, name: &Proto<'a>) -> Option<u32>
         ensures rank { HasIndex self.now.protos (key_of_proto name.now) result }
         ensures some { IfSome result (λ i. IsAt self.now.protos i (key_of_proto name.now)) }
@@ -126,6 +159,18 @@ impl<'a> Ranks<'a> {
     }
 
     /// The rank of a field.
+    ///
+    /// ```
+    /// use dex_program::{Desc, FieldRef, Str};
+    /// use dex_tables::Needed;
+    ///
+    /// let int = Desc { text: Str { units: &[0x49] } }; // I
+    /// let class = Desc { text: Str { units: &[0x4c, 0x41, 0x3b] } };
+    /// let field = FieldRef { class, name: Str { units: &[0x6e] }, ty: int };
+    /// let mut needed = Needed::new(alloc);
+    /// needed.add_field(&field)?; // LA;->n:I
+    /// assert_eq!(rt; needed.freeze()?.index_of_field(&field), Some(0));
+    /// ```
     pub fn index_of_field(&self, name: &FieldRef<'a>) -> Option<u32>
         ensures rank { HasIndex self.now.fields (key_of_field name.now) result }
         ensures some { IfSome result (λ i. IsAt self.now.fields i (key_of_field name.now)) }
@@ -135,6 +180,21 @@ impl<'a> Ranks<'a> {
     }
 
     /// The rank of a method.
+    ///
+    /// ```
+    /// use bumpalo::Bump;
+    /// use dex_program::{Desc, MethodRef, Proto, Str};
+    /// use dex_tables::Needed;
+    ///
+    /// let arena = Bump::new(alloc);
+    /// let int = Desc { text: Str { units: &[0x49] } }; // I
+    /// let proto = Proto { ret: int, params: &[] };
+    /// let class = Desc { text: Str { units: &[0x4c, 0x41, 0x3b] } };
+    /// let method = MethodRef { class, name: Str { units: &[0x6d] }, proto: &proto };
+    /// let mut needed = Needed::new(alloc);
+    /// needed.add_method(&arena, &method)?;
+    /// assert_eq!(rt; needed.freeze()?.index_of_method(&method), Some(0));
+    /// ```
     pub fn index_of_method(&self, name: &MethodRef<'a>) -> Option<u32>
         ensures rank { HasIndex self.now.methods (key_of_method name.now) result }
         ensures some { IfSome result (λ i. IsAt self.now.methods i (key_of_method name.now)) }
@@ -144,6 +204,15 @@ impl<'a> Ranks<'a> {
     }
 
     /// The string with this rank. None past the last; so with the other kinds.
+    ///
+    /// ```
+    /// use dex_program::Str;
+    /// use dex_tables::Needed;
+    ///
+    /// let mut needed = Needed::new(alloc);
+    /// needed.add_string(Str { units: &[0x61] })?;
+    /// assert!(rt; needed.freeze()?.string(0).unwrap().units == [0x61].as_slice());
+    /// ```
     pub fn string(&self, rank: u32) -> Option<Str<'a>>
         ensures { option_map key_of_str result ≡ slice_get self.now.strings rank }
     {
@@ -151,6 +220,15 @@ impl<'a> Ranks<'a> {
     }
 
     /// The type with this rank.
+    ///
+    /// ```
+    /// use dex_program::{Desc, Str};
+    /// use dex_tables::Needed;
+    ///
+    /// let mut needed = Needed::new(alloc);
+    /// needed.add_type(Desc { text: Str { units: &[0x49] } })?;
+    /// assert!(rt; needed.freeze()?.type_(0).unwrap().text.units == [0x49].as_slice());
+    /// ```
     pub fn type_(&self, rank: u32) -> Option<Desc<'a>>
         ensures { option_map key_of_desc result ≡ slice_get self.now.types rank }
     {
@@ -158,6 +236,19 @@ impl<'a> Ranks<'a> {
     }
 
     /// The prototype with this rank.
+    ///
+    /// ```
+    /// use bumpalo::Bump;
+    /// use dex_program::{Desc, Proto, Str};
+    /// use dex_tables::Needed;
+    ///
+    /// let arena = Bump::new(alloc);
+    /// let int = Desc { text: Str { units: &[0x49] } }; // I
+    /// let proto = Proto { ret: int, params: &[] };
+    /// let mut needed = Needed::new(alloc);
+    /// needed.add_proto(&arena, &proto)?;
+    /// assert!(rt; needed.freeze()?.proto(0).unwrap() == proto);
+    /// ```
     pub fn proto(&self, rank: u32) -> Option<Proto<'a>>
         ensures { option_map key_of_proto result ≡ slice_get self.now.protos rank }
     {
@@ -165,6 +256,18 @@ impl<'a> Ranks<'a> {
     }
 
     /// The field with this rank.
+    ///
+    /// ```
+    /// use dex_program::{Desc, FieldRef, Str};
+    /// use dex_tables::Needed;
+    ///
+    /// let int = Desc { text: Str { units: &[0x49] } }; // I
+    /// let class = Desc { text: Str { units: &[0x4c, 0x41, 0x3b] } };
+    /// let field = FieldRef { class, name: Str { units: &[0x6e] }, ty: int };
+    /// let mut needed = Needed::new(alloc);
+    /// needed.add_field(&field)?; // LA;->n:I
+    /// assert!(rt; needed.freeze()?.field(0).unwrap() == field);
+    /// ```
     pub fn field(&self, rank: u32) -> Option<FieldRef<'a>>
         ensures { option_map key_of_field result ≡ slice_get self.now.fields rank }
     {
@@ -172,6 +275,21 @@ impl<'a> Ranks<'a> {
     }
 
     /// The method with this rank.
+    ///
+    /// ```
+    /// use bumpalo::Bump;
+    /// use dex_program::{Desc, MethodRef, Proto, Str};
+    /// use dex_tables::Needed;
+    ///
+    /// let arena = Bump::new(alloc);
+    /// let int = Desc { text: Str { units: &[0x49] } }; // I
+    /// let proto = Proto { ret: int, params: &[] };
+    /// let class = Desc { text: Str { units: &[0x4c, 0x41, 0x3b] } };
+    /// let method = MethodRef { class, name: Str { units: &[0x6d] }, proto: &proto };
+    /// let mut needed = Needed::new(alloc);
+    /// needed.add_method(&arena, &method)?;
+    /// assert!(rt; needed.freeze()?.method(0).unwrap() == method);
+    /// ```
     pub fn method(&self, rank: u32) -> Option<MethodRef<'a>>
         ensures { option_map key_of_method result ≡ slice_get self.now.methods rank }
     {

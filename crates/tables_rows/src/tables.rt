@@ -57,6 +57,19 @@ impl<'a> Tables<'a> {
     /// The names of the five tables of a file, every row of which must denote a name, used or not, and be above the row
     /// before it. The faults are 20 to 35, in the order of the tables; in each the lowest row is answered, at its place
     /// in bytes, and in a row the first fault in the order 20 to 25, 26, 28, 27, 29, 30 to 35. 255 is want of memory.
+    ///
+    /// ```
+    /// use bumpalo::Bump;
+    /// use dex_container::open;
+    /// use dex_file::write;
+    /// use dex_listing::parse;
+    /// use dex_tables::Tables;
+    ///
+    /// let arena = Bump::new(alloc);
+    /// let file = write(alloc, &parse(alloc, &arena, b"dex 035 listing 2\nclass LA; 0x1\nstatic n I 0x9 = int 7\ndirect m ()V 0x9\nend class\n")?)?;
+    /// let tables = Tables::read(alloc, &arena, &open(&file)?)?;
+    /// assert!(rt; tables.string(0).is_some());
+    /// ```
     pub fn read(
         alloc: Global,
         arena: &'a Bump,
@@ -73,6 +86,21 @@ impl<'a> Tables<'a> {
     /// The types of the list at an offset of this file: the empty list for 0, else the list that stands there (a
     /// type_list in its section, 4-aligned), and None exactly where none stands or an index has no row. Placed in the
     /// arena. The only refusal is want of memory.
+    ///
+    /// ```
+    /// use bumpalo::Bump;
+    /// use dex_container::open;
+    /// use dex_file::write;
+    /// use dex_listing::parse;
+    /// use dex_tables::Tables;
+    ///
+    /// let arena = Bump::new(alloc);
+    /// let file = write(alloc, &parse(alloc, &arena, b"dex 035 listing 2\nclass LA; 0x1\nstatic n I 0x9 = int 7\ndirect m ()V 0x9\nend class\n")?)?;
+    /// let sections = open(&file)?;
+    /// let tables = Tables::read(alloc, &arena, &sections)?;
+    /// let list = tables.type_list(alloc, &arena, &sections, 0)?; // the empty list
+    /// assert!(rt; list.unwrap().is_empty());
+    /// ```
     pub fn type_list(
         &self,
         _alloc: Global,
@@ -90,6 +118,19 @@ impl<'a> Tables<'a> {
     }
 
     /// The string of a row. None past the last row; so with the other kinds.
+    ///
+    /// ```
+    /// use bumpalo::Bump;
+    /// use dex_container::open;
+    /// use dex_file::write;
+    /// use dex_listing::parse;
+    /// use dex_tables::Tables;
+    ///
+    /// let arena = Bump::new(alloc);
+    /// let file = write(alloc, &parse(alloc, &arena, b"dex 035 listing 2\nclass LA; 0x1\nstatic n I 0x9 = int 7\ndirect m ()V 0x9\nend class\n")?)?;
+    /// let tables = Tables::read(alloc, &arena, &open(&file)?)?;
+    /// assert!(rt; tables.string(0).unwrap().units == [0x49].as_slice()); // I
+    /// ```
     pub fn string(&self, index: u32) -> Option<Str<'a>>
         ensures { option_map view.str result ≡ slice_get self.now.strings index }
     {
@@ -97,6 +138,19 @@ impl<'a> Tables<'a> {
     }
 
     /// The type of a row.
+    ///
+    /// ```
+    /// use bumpalo::Bump;
+    /// use dex_container::open;
+    /// use dex_file::write;
+    /// use dex_listing::parse;
+    /// use dex_tables::Tables;
+    ///
+    /// let arena = Bump::new(alloc);
+    /// let file = write(alloc, &parse(alloc, &arena, b"dex 035 listing 2\nclass LA; 0x1\nstatic n I 0x9 = int 7\ndirect m ()V 0x9\nend class\n")?)?;
+    /// let tables = Tables::read(alloc, &arena, &open(&file)?)?;
+    /// assert!(rt; tables.type_(0).unwrap().text.units == [0x49].as_slice()); // I
+    /// ```
     pub fn type_(&self, index: u32) -> Option<Desc<'a>>
         ensures { option_map view.desc result ≡ slice_get self.now.types index }
     {
@@ -104,6 +158,19 @@ impl<'a> Tables<'a> {
     }
 
     /// The proto of a row.
+    ///
+    /// ```
+    /// use bumpalo::Bump;
+    /// use dex_container::open;
+    /// use dex_file::write;
+    /// use dex_listing::parse;
+    /// use dex_tables::Tables;
+    ///
+    /// let arena = Bump::new(alloc);
+    /// let file = write(alloc, &parse(alloc, &arena, b"dex 035 listing 2\nclass LA; 0x1\nstatic n I 0x9 = int 7\ndirect m ()V 0x9\nend class\n")?)?;
+    /// let tables = Tables::read(alloc, &arena, &open(&file)?)?;
+    /// assert!(rt; tables.proto(0).unwrap().ret.text.units == [0x56].as_slice()); // ()V
+    /// ```
     pub fn proto(&self, index: u32) -> Option<&'a Proto<'a>>
         ensures { option_map (λ p. view.proto p.now) result ≡ slice_get self.now.protos index }
     {
@@ -111,6 +178,19 @@ impl<'a> Tables<'a> {
     }
 
     /// The field of a row.
+    ///
+    /// ```
+    /// use bumpalo::Bump;
+    /// use dex_container::open;
+    /// use dex_file::write;
+    /// use dex_listing::parse;
+    /// use dex_tables::Tables;
+    ///
+    /// let arena = Bump::new(alloc);
+    /// let file = write(alloc, &parse(alloc, &arena, b"dex 035 listing 2\nclass LA; 0x1\nstatic n I 0x9 = int 7\ndirect m ()V 0x9\nend class\n")?)?;
+    /// let tables = Tables::read(alloc, &arena, &open(&file)?)?;
+    /// assert!(rt; tables.field(0).unwrap().name.units == [0x6e].as_slice()); // LA;->n:I
+    /// ```
     pub fn field(&self, index: u32) -> Option<&'a FieldRef<'a>>
         ensures { option_map (λ f. view.field_ref f.now) result ≡ slice_get self.now.fields index }
     {
@@ -118,6 +198,19 @@ impl<'a> Tables<'a> {
     }
 
     /// The method of a row.
+    ///
+    /// ```
+    /// use bumpalo::Bump;
+    /// use dex_container::open;
+    /// use dex_file::write;
+    /// use dex_listing::parse;
+    /// use dex_tables::Tables;
+    ///
+    /// let arena = Bump::new(alloc);
+    /// let file = write(alloc, &parse(alloc, &arena, b"dex 035 listing 2\nclass LA; 0x1\nstatic n I 0x9 = int 7\ndirect m ()V 0x9\nend class\n")?)?;
+    /// let tables = Tables::read(alloc, &arena, &open(&file)?)?;
+    /// assert!(rt; tables.method(0).unwrap().name.units == [0x6d].as_slice()); // LA;->m()V
+    /// ```
     pub fn method(&self, index: u32) -> Option<&'a MethodRef<'a>>
         ensures { option_map (λ m. view.method_ref m.now) result ≡ slice_get self.now.methods index }
     {
