@@ -1,3 +1,4 @@
+pub mod LowPoints
 pub mod DescriptorLaws
 pub mod NameLaws
 pub mod NameUnits

@@ -2,7 +2,7 @@
 //! proto_id_item, field_id_item, method_id_item).
 //!
 //! The derives compare and hash through the references, so by content, in the order of the fields, which is that of the table.
-//! A string is hashed four units at a time (`hashing.rt`).
+//! A string is hashed four units at a time, a field and a method without the whole of their types (`hashing.rt`).
 
 /// A string, by its UTF-16 units.
 #[derive(Clone, Copy, PartialEq, Eq, PartialOrd, Ord)]
@@ -24,7 +24,7 @@ pub struct Proto<'a> {
 }
 
 /// A field of a class, by name and type.
-#[derive(Clone, Copy, PartialEq, Eq, PartialOrd, Ord, Hash)]
+#[derive(Clone, Copy, PartialEq, Eq, PartialOrd, Ord)]
 pub struct FieldRef<'a> {
     pub class: Desc<'a>,
     pub name: Str<'a>,
@@ -32,7 +32,7 @@ pub struct FieldRef<'a> {
 }
 
 /// A method of a class or of an array type, by name and prototype.
-#[derive(Clone, Copy, PartialEq, Eq, PartialOrd, Ord, Hash)]
+#[derive(Clone, Copy, PartialEq, Eq, PartialOrd, Ord)]
 pub struct MethodRef<'a> {
     pub class: Desc<'a>,
     pub name: Str<'a>,
