@@ -6,4 +6,6 @@ mod faults;
 #[cfg(test)]
 mod labels;
 #[cfg(test)]
+mod names;
+#[cfg(test)]
 mod texts;

@@ -1,6 +1,6 @@
 //! Names in words, and their parts: a word is decoded first, and then split.
 
-ghost use Rattle.std.specs.Prelude.{◌≡◌, ◌≢◌, ℕ, ◌<◌, ◌≤◌, ◌⊎◌, ◌++◌, ◌∷◌, [], List, length, map, IfOk, IfSome, IfNone, IsOkUnless};
+ghost use Rattle.std.specs.Prelude.{◌≡◌, ◌≢◌, ℕ, ◌+◌, ◌<◌, ◌≤◌, ◌⊎◌, ◌++◌, ◌∷◌, [], List, length, map, IfOk, IfSome, IfNone, IsOkUnless, vec_len, vec_capacity};
 ghost use Rattle.base_bytes.specs.Fault.{memory};
 ghost use Rattle.program_types.specs.View.{desc, proto, field_ref, method_ref};
 ghost use Rattle.program_types.specs.Content.{Proto as SaidProto, FieldRef as SaidField, MethodRef as SaidMethod};
@@ -52,6 +52,23 @@ fn read_name_unit(text: &[u8]) -> Option<(u16, &[u8])>
     }
 }
 
+/// Puts the units before the first escape into a Vec with room for them, and answers what stands from it on.
+fn read_plain<'a, 'b>(units: &mut Vec<u16, &'a Bump>, word: &'b [u8]) -> &'b [u8]
+    requires empty { units.old.items ≡ [] }
+    requires room { vec_len units.old + length word.now ≤ vec_capacity units.old }
+    ensures { Each TakesNameUnit word.now units.new.items result.now }
+{
+    let mut rest = word;
+    while let Some((first, behind)) = rest.split_first() {
+        if *first == 92 {
+            return rest;
+        }
+        units.push_reserved(*first as u16);
+        rest = behind;
+    }
+    rest
+}
+
 /// The units of a word, decoded into the arena; none where an escape is malformed.
 pub fn read_name<'a>(bump: &'a Bump, word: &[u8]) -> Result<Option<&'a [u16]>, Fault>
     ensures found { IfOk result (λ r. IfSome r (λ us. SpellsUnits word.now us.now)) }
@@ -59,7 +76,7 @@ pub fn read_name<'a>(bump: &'a Bump, word: &[u8]) -> Result<Option<&'a [u16]>, F
     ensures memory { IsOkUnless result memory }
 {
     let mut units = Vec::with_capacity(bump, word.len())?;
-    let mut rest = word;
+    let mut rest = read_plain(&mut units, word);
     while let Some((unit, after)) = read_name_unit(rest) {
         units.push(unit)?;
         rest = after;

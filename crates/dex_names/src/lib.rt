@@ -1,0 +1,21 @@
+//! Names made from a text, placed in the caller's arena.
+//!
+//! A text spells a name as a listing writes it: `\uXXXX` stands for one UTF-16 unit, any other ASCII character for itself. What
+//! spells no name is answered with `None`; an error is want of memory.
+//!
+//! ```
+//! use bumpalo::Bump;
+//! use dex_names::{method, ty};
+//!
+//! let arena = Bump::new(alloc);
+//! let object = ty(&arena, "Ljava/lang/Object;")?; // Some: a descriptor
+//! let get = method(&arena, "LHello;->get(Z)I")?; // Some: a class, a name and a prototype
+//! let none = ty(&arena, "java.lang.Object")?; // None: no descriptor
+//! ```
+#![tactic(auto)]
+
+mod law;
+mod spelled;
+
+pub use law::written_names_are_spelled;
+pub use spelled::{field, method, proto, text, ty};

@@ -1,0 +1,130 @@
+//! The five names, each from its text.
+
+ghost use Rattle.std.specs.Prelude.{List, ℕ, IfOk, IfSome, IfNone, IsOkUnless};
+ghost use Rattle.base_bytes.specs.Fault.{memory};
+ghost use Rattle.program_types.specs.View.{str, desc, proto as said_proto, field_ref, method_ref};
+ghost use Rattle.program_types.specs.Content.{Proto as SaidProto, FieldRef as SaidField, MethodRef as SaidMethod};
+ghost use Rattle.dex_names.specs.Spelled.{SpellsText, SpellsType, SpellsProto, SpellsField, SpellsMethod};
+
+use bumpalo::Bump;
+use dex_base::{Fault, is_descriptor};
+use listing_words::{read_field, read_method, read_name, read_proto};
+use program_types::{Desc, FieldRef, MethodRef, Proto, Str};
+
+/// The units that a text spells, in the arena.
+fn units_of<'a>(arena: &'a Bump, said: &str) -> Result<Option<&'a [u16]>, Fault>
+    ensures found { IfOk result (λ r. IfSome r (λ units. SpellsText said.now units.now)) }
+    ensures none { IfOk result (λ r. IfNone r ((units : List ℕ) → SpellsText said.now units → ⊥)) }
+    ensures memory { IsOkUnless result memory }
+{
+    if said.is_ascii() {
+        read_name(arena, said.as_bytes())
+    } else {
+        Ok(None)
+    }
+}
+
+/// The string that a text spells; none where a backslash begins no `\uXXXX` or a character isn't ASCII.
+///
+/// ```
+/// use bumpalo::Bump;
+/// use dex_names::text;
+///
+/// let arena = Bump::new(alloc);
+/// let name = text(&arena, "caf\\u00e9")?; // Some: four units
+/// ```
+pub fn text<'a>(arena: &'a Bump, said: &str) -> Result<Option<Str<'a>>, Fault>
+    ensures found { IfOk result (λ r. IfSome r (λ s. SpellsText said.now (str s))) }
+    ensures none { IfOk result (λ r. IfNone r ((units : List ℕ) → SpellsText said.now units → ⊥)) }
+    ensures memory { IsOkUnless result memory }
+{
+    match units_of(arena, said)? {
+        Some(units) => Ok(Some(Str { units })),
+        None => Ok(None),
+    }
+}
+
+/// The type that a text spells, by its descriptor; none where it is no descriptor.
+///
+/// ```
+/// use bumpalo::Bump;
+/// use dex_names::ty;
+///
+/// let arena = Bump::new(alloc);
+/// let rows = ty(&arena, "[[I")?; // Some
+/// ```
+pub fn ty<'a>(arena: &'a Bump, said: &str) -> Result<Option<Desc<'a>>, Fault>
+    ensures found { IfOk result (λ r. IfSome r (λ d. SpellsType said.now (desc d))) }
+    ensures none { IfOk result (λ r. IfNone r ((d : List ℕ) → SpellsType said.now d → ⊥)) }
+    ensures memory { IsOkUnless result memory }
+{
+    let Some(units) = units_of(arena, said)? else {
+        return Ok(None);
+    };
+    if !is_descriptor(units) {
+        return Ok(None);
+    }
+    Ok(Some(Desc {
+        text: Str { units },
+    }))
+}
+
+/// The prototype that a text spells: `(P..)R`; none where it is of another form or one of its types is no descriptor.
+///
+/// ```
+/// use bumpalo::Bump;
+/// use dex_names::proto;
+///
+/// let arena = Bump::new(alloc);
+/// let main = proto(&arena, "([Ljava/lang/String;)V")?; // Some
+/// ```
+pub fn proto<'a>(arena: &'a Bump, said: &str) -> Result<Option<Proto<'a>>, Fault>
+    ensures found { IfOk result (λ r. IfSome r (λ p. SpellsProto said.now (said_proto p))) }
+    ensures none { IfOk result (λ r. IfNone r ((p : SaidProto) → SpellsProto said.now p → ⊥)) }
+    ensures memory { IsOkUnless result memory }
+{
+    match units_of(arena, said)? {
+        Some(units) => read_proto(arena, units),
+        None => Ok(None),
+    }
+}
+
+/// The field that a text spells: `C->n:T`; none where it is of another form or one of its parts isn't well formed.
+///
+/// ```
+/// use bumpalo::Bump;
+/// use dex_names::field;
+///
+/// let arena = Bump::new(alloc);
+/// let name = field(&arena, "LHello;->name:Ljava/lang/String;")?; // Some
+/// ```
+pub fn field<'a>(arena: &'a Bump, said: &str) -> Result<Option<FieldRef<'a>>, Fault>
+    ensures found { IfOk result (λ r. IfSome r (λ f. SpellsField said.now (field_ref f))) }
+    ensures none { IfOk result (λ r. IfNone r ((f : SaidField) → SpellsField said.now f → ⊥)) }
+    ensures memory { IsOkUnless result memory }
+{
+    match units_of(arena, said)? {
+        Some(units) => Ok(read_field(units)),
+        None => Ok(None),
+    }
+}
+
+/// The method that a text spells: `C->n(P..)R`; none where it is of another form or one of its parts isn't well formed.
+///
+/// ```
+/// use bumpalo::Bump;
+/// use dex_names::method;
+///
+/// let arena = Bump::new(alloc);
+/// let get = method(&arena, "LHello;->get(Z)I")?; // Some
+/// ```
+pub fn method<'a>(arena: &'a Bump, said: &str) -> Result<Option<MethodRef<'a>>, Fault>
+    ensures found { IfOk result (λ r. IfSome r (λ m. SpellsMethod said.now (method_ref m))) }
+    ensures none { IfOk result (λ r. IfNone r ((m : SaidMethod) → SpellsMethod said.now m → ⊥)) }
+    ensures memory { IsOkUnless result memory }
+{
+    match units_of(arena, said)? {
+        Some(units) => read_method(arena, units),
+        None => Ok(None),
+    }
+}
