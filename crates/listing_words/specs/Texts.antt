@@ -1,9 +1,11 @@
 -- Texts in quotes: units that stand for themselves or are escaped.
 -- Page: docs/LISTING.md, "Lines and words".
-use Rattle.std.specs.Prelude.{◌≡◌, ◌≢◌, ℕ, ◌+◌, ◌*◌, ◌/◌, ◌%◌, ◌<◌, ◌≤◌, ◌⊎◌, ◌||◌, ◌&&◌, nat_lt, ◌==◌, if◌then◌else◌, List, [], ◌∷◌, ◌++◌, length, slice_index}
+use Rattle.std.specs.Prelude.{◌≡◌, ◌≢◌, ℕ, ◌+◌, ◌*◌, ◌<◌, ◌≤◌, ◌⊎◌, ◌||◌, ◌&&◌, nat_lt, ◌==◌, if◌then◌else◌, List, [], ◌∷◌, ◌++◌, length, slice_index}
 use Rattle.std.specs.List.{flat_map}
 use Rattle.std.specs.Char.{digit_value}
 use Rattle.listing_words.specs.Taking.{Each}
+-- An escape is written in a text as in a name.
+pub use Rattle.program_types.specs.Written.{glyph, escape_text}
 
 -- A unit that stands for itself.
 pub record IsPlain (u : ℕ) : Type 0 where
@@ -40,14 +42,6 @@ pub record TakesUnits (text : List ℕ) (us : List ℕ) (rest : List ℕ) : Type
   pub quote : end ≡ 34 ∷ rest
 
 -- ---- what is written
-
--- A hexadecimal digit in lower case.
-abbrev pub glyph : ℕ → ℕ
-glyph d = if nat_lt d 10 then 48 + d else 87 + d
-
--- `\uXXXX`
-abbrev pub escape_text : ℕ → List ℕ
-escape_text u = 92 ∷ 117 ∷ glyph (u / 4096 % 16) ∷ glyph (u / 256 % 16) ∷ glyph (u / 16 % 16) ∷ glyph (u % 16) ∷ []
 
 -- A unit of a text: a quote and a backslash behind a backslash, any other from 0x20 to 0x7e as itself, the rest escaped.
 abbrev pub unit_text : ℕ → List ℕ

@@ -1,9 +1,10 @@
--- How numbers and names are written.
+-- How numbers are written, and names.
 -- Page: docs/LISTING.md, "What a word can be".
-use Rattle.std.specs.Prelude.{ℕ, zero, suc, ◌/◌, ◌%◌, ◌==◌, ◌||◌, ◌&&◌, nat_lt, if◌then◌else◌, List, [], ◌∷◌, ◌++◌}
+use Rattle.std.specs.Prelude.{ℕ, zero, suc, ◌/◌, ◌%◌, nat_lt, if◌then◌else◌, List, [], ◌∷◌, ◌++◌}
 use Rattle.std.specs.List.{flat_map}
-use Rattle.program_types.specs.Content.{Proto, FieldRef, MethodRef}
-use Rattle.listing_words.specs.Texts.{glyph, escape_text}
+-- Names, as `{}` shows them.
+pub use Rattle.program_types.specs.Written.{name_unit, name_text, proto_units, field_units, method_units}
+use Rattle.listing_words.specs.Texts.{glyph}
 
 -- The last hexadecimal digits of a number, so many of them.
 abbrev pub hex_digits : ℕ → ℕ → List ℕ
@@ -28,26 +29,3 @@ flags_text n = 48 ∷ 120 ∷ hex_digits (hex_width n) n
 -- The bytes of an array: two digits for each.
 abbrev pub elements_text : List ℕ → List ℕ
 elements_text bytes = flat_map (hex_digits 2) bytes
-
--- A unit of a name: an ASCII character that is seen stands for itself, any other unit is escaped. Quotes and
--- backslashes, which no name has, are escaped as well.
-abbrev pub name_unit : ℕ → List ℕ
-name_unit u =
-    if nat_lt 32 u && nat_lt u 127 then (if (u == 34) || (u == 92) then escape_text u else u ∷ [])
-    else escape_text u
-
--- A name as a word.
-abbrev pub name_text : List ℕ → List ℕ
-name_text us = flat_map name_unit us
-
--- The units of a prototype: `(P..)R`
-abbrev pub proto_units : Proto → List ℕ
-proto_units p = 40 ∷ (flat_map (λ t. t) p.params ++ (41 ∷ p.ret))
-
--- The units of a field: `C->n:T`
-abbrev pub field_units : FieldRef → List ℕ
-field_units f = f.class ++ (45 ∷ 62 ∷ (f.name ++ (58 ∷ f.ty)))
-
--- The units of a method: `C->n(P..)R`
-abbrev pub method_units : MethodRef → List ℕ
-method_units m = m.class ++ (45 ∷ 62 ∷ (m.name ++ proto_units m.proto))

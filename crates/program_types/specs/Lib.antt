@@ -2,6 +2,7 @@ pub mod Content
 pub mod View
 pub mod Key
 pub mod KeyLaws
+pub mod Written
 pub mod Shorty
 pub mod Depth
 pub mod Kinds

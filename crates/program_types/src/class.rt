@@ -8,7 +8,7 @@ use crate::names::{Desc, Proto, Str};
 use crate::value::Value;
 
 /// A field that a class defines.
-#[derive(Clone, Copy)]
+#[derive(Clone, Copy, Debug)]
 pub struct Member<'a> {
     pub name: Str<'a>,
     pub ty: Desc<'a>,
@@ -16,7 +16,7 @@ pub struct Member<'a> {
 }
 
 /// A method that a class defines, without code where it is abstract or native.
-#[derive(Clone, Copy)]
+#[derive(Clone, Copy, Debug)]
 pub struct Method<'a> {
     pub name: Str<'a>,
     pub proto: &'a Proto<'a>,

@@ -7,7 +7,7 @@ use crate::names::Name;
 /// `op` is the opcode; `a`, `b` and `c` are the fields A, B and C of the format, which are registers or literals by the opcode;
 /// `to` is the number, in its code, of the instruction at the target; `name` is what the index names.
 #[rattlefmt::skip]
-#[derive(Clone, Copy)]
+#[derive(Clone, Copy, Debug)]
 pub enum Insn<'a> {
     I10x { op: u8 },
     I12x { op: u8, a: u8, b: u8 },

@@ -12,6 +12,8 @@
 //! let shorty = shorty_of(alloc, &arena, proto.ret, proto.params)?; // `V`
 //! ```
 //!
+//! `{}` shows a name as a listing writes it, `LA;->m(I)V`, and so does `{:?}`.
+//!
 //! Pages of the Android Open Source Project: "Dalvik Executable format", "Dalvik Executable instruction formats".
 #![tactic(auto)]
 
@@ -30,12 +32,13 @@ mod code;
 // What has all of these in it: classes and programs.
 mod class;
 
-// What is done with names and values.
+// What is done with names and values, and how they are shown.
 mod compare;
 mod depth;
 mod kinds;
 mod place;
 mod shorty;
+mod written;
 
 pub use class::{Class, Member, Method, Program, program_law};
 pub use code::{Catch, Code, Try};

@@ -40,7 +40,7 @@ pub struct MethodRef<'a> {
 }
 
 /// What an instruction or a value names.
-#[derive(Clone, Copy)]
+#[derive(Clone, Copy, Debug)]
 pub enum Name<'a> {
     Text(Str<'a>),
     Desc(Desc<'a>),
