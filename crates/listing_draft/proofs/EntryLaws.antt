@@ -16,8 +16,8 @@ use Rattle.program_types.specs.declared.names.Desc.{Desc}
 use Rattle.program_types.specs.declared.names.Proto.{Proto}
 use Rattle.program_types.specs.declared.code.Code.{Code as Put}
 use Rattle.program_rules.specs.Rules.{member_key, method_key}
-use Rattle.listing_draft.specs.declared.draft.Static.{Static}
-use Rattle.listing_draft.specs.declared.draft.Defined.{Defined}
+use Rattle.listing_draft.specs.declared.open_class.Static.{Static}
+use Rattle.listing_draft.specs.declared.open_class.Defined.{Defined}
 use Rattle.listing_draft.specs.Members.{given_key, is_held, put_in, with_member}
 use Rattle.listing_draft.specs.States.{Open, with_static, with_instance, with_direct, with_virtual, with_code}
 use Rattle.listing_draft.specs.View.{held_static, held_instance, held_method}

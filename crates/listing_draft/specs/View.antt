@@ -11,10 +11,10 @@ use Rattle.listing_lines.specs.NeedView.{need}
 use Rattle.listing_draft.specs.Members as members
 use Rattle.listing_draft.specs.States as states
 use Rattle.listing_draft.specs.declared.close.Given.{Given}
-use Rattle.listing_draft.specs.declared.draft.Static.{Static}
-use Rattle.listing_draft.specs.declared.draft.Defined.{Defined}
-use Rattle.listing_draft.specs.declared.draft.Open.{Open}
-use Rattle.listing_draft.specs.declared.draft.Body.{Body}
+use Rattle.listing_draft.specs.declared.open_class.Static.{Static}
+use Rattle.listing_draft.specs.declared.open_class.Defined.{Defined}
+use Rattle.listing_draft.specs.declared.open_class.Open.{Open}
+use Rattle.listing_draft.specs.declared.open_code.Body.{Body}
 use Rattle.listing_draft.specs.declared.draft.Draft.{Draft}
 
 -- a static field, and its value

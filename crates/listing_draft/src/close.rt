@@ -8,7 +8,7 @@ ghost use Rattle.listing_draft.specs.Members.{zero_of, value_or_zero, given_leng
 ghost use Rattle.listing_draft.specs.States.{closed, with_code};
 ghost use Rattle.listing_draft.specs.View.{given, held_static, held_instance, held_method, open_class};
 
-use crate::draft::{Defined, FieldKey, MethodKey, Open, Static};
+use crate::open_class::{Defined, FieldKey, MethodKey, Open, Static};
 use bumpalo::Bump;
 use bumpalo::collections::into_bump_slice;
 use dex_base::Fault;

@@ -9,6 +9,10 @@
 
 mod close;
 mod draft;
+mod open_class;
+mod open_code;
 
 pub use close::Given;
-pub use draft::{Body, Defined, Draft, FieldKey, MethodKey, Open, Static};
+pub use draft::Draft;
+pub use open_class::{Defined, FieldKey, MethodKey, Open, Static};
+pub use open_code::Body;

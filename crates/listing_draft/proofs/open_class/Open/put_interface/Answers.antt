@@ -6,7 +6,7 @@ use Rattle.program_types.specs.declared.names.Desc.{Desc}
 use Rattle.listing_slots.proofs.KeyLaws.{same_is}
 use Rattle.listing_draft.specs.View.{open_class}
 use Rattle.listing_draft.proofs.OpenLaws.{interface_put}
-use Rattle.listing_draft.proofs.draft.Open.put_interface.Goals as goal
+use Rattle.listing_draft.proofs.open_class.Open.put_interface.Goals as goal
 
 pub returns-clause-put : goal.returns-clause-put
 unfolding open_class

@@ -1,7 +1,7 @@
 use Rattle.std.proofs.Common.{refl, ◌∙◌, sym, ap, is_some}
 use Rattle.listing_draft.specs.View.{open_class}
 use Rattle.listing_draft.proofs.EntryLaws.{direct_put}
-use Rattle.listing_draft.proofs.draft.Open.put_direct.Goals as goal
+use Rattle.listing_draft.proofs.open_class.Open.put_direct.Goals as goal
 
 pub returns-clause-put : goal.returns-clause-put
 unfolding open_class
