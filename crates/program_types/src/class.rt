@@ -26,7 +26,7 @@ pub struct Method<'a> {
 
 /// A class. `values` are the initial values of the first `values.len()` static fields; `directs` are its static and private
 /// methods and its constructors, `virtuals` its other methods.
-#[derive(Clone, Copy)]
+#[derive(Clone, Copy, Debug)]
 pub struct Class<'a> {
     pub ty: Desc<'a>,
     pub flags: u32,
@@ -41,7 +41,14 @@ pub struct Class<'a> {
 }
 
 /// A program: its classes, in the order of the file.
-#[derive(Clone, Copy)]
+///
+/// ```
+/// use dex_program::Program;
+///
+/// let nothing = Program { classes: &[] };
+/// assert_eq!(rt; format!(in alloc; "{nothing:?}")?.as_str(), "Program { classes: [] }");
+/// ```
+#[derive(Clone, Copy, Debug)]
 pub struct Program<'a> {
     pub classes: &'a [Class<'a>],
 }

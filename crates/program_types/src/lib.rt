@@ -12,7 +12,7 @@
 //! let shorty = shorty_of(alloc, &arena, proto.ret, proto.params)?; // `V`
 //! ```
 //!
-//! `{}` shows a name as a listing writes it, `LA;->m(I)V`, and so does `{:?}`.
+//! `{}` shows a name as a listing writes it, `LA;->m(I)V`, and `{:?}` all types, names in the same way.
 //!
 //! Pages of the Android Open Source Project: "Dalvik Executable format", "Dalvik Executable instruction formats".
 #![tactic(auto)]

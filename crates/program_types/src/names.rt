@@ -32,6 +32,15 @@ pub struct FieldRef<'a> {
 }
 
 /// A method of a class or of an array type, by name and prototype.
+///
+/// ```
+/// use bumpalo::Bump;
+/// use dex_names::method;
+///
+/// let arena = Bump::new(alloc);
+/// let get = method(&arena, "LHello;->get(Z)I")?.unwrap();
+/// assert_eq!(rt; format!(in alloc; "{get}")?.as_str(), "LHello;->get(Z)I");
+/// ```
 #[derive(Clone, Copy, PartialEq, Eq, PartialOrd, Ord)]
 pub struct MethodRef<'a> {
     pub class: Desc<'a>,

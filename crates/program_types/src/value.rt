@@ -1,6 +1,7 @@
 //! Values of static fields ("Dalvik Executable format": encoded_value).
 
 use crate::names::{Desc, FieldRef, MethodRef, Str};
+use std::fmt;
 
 /// A value. `Float` and `Double` hold the bits of the number, by IEEE 754.
 #[derive(Clone, Copy)]
@@ -20,4 +21,49 @@ pub enum Value<'a> {
     Array(&'a [Value<'a>]),
     Null,
     Bool(bool),
+}
+
+// A word, and what stands behind it.
+fn write_behind<W: fmt::Write, D: fmt::Display>(
+    f: &mut fmt::Formatter<W>,
+    word: &str,
+    shown: &D,
+) -> fmt::Result {
+    write!(f, "{word} {shown}")
+}
+
+// A value, of an array its word alone.
+fn write_front<W: fmt::Write>(f: &mut fmt::Formatter<W>, one: &Value<'_>) -> fmt::Result {
+    match one {
+        Value::Byte(n) => write_behind(f, "byte", n),
+        Value::Short(n) => write_behind(f, "short", n),
+        Value::Char(unit) => write_behind(f, "char", unit),
+        Value::Int(n) => write_behind(f, "int", n),
+        Value::Long(n) => write_behind(f, "long", n),
+        Value::Float(bits) => write!(f, "float {bits:08x}"),
+        Value::Double(bits) => write!(f, "double {bits:016x}"),
+        Value::Text(text) => write_behind(f, "string", text),
+        Value::Desc(ty) => write_behind(f, "type", ty),
+        Value::Field(field) => write_behind(f, "field", field),
+        Value::Method(method) => write_behind(f, "method", method),
+        Value::Enum(field) => write_behind(f, "enum", field),
+        Value::Array(_) => f.write_str("array"),
+        Value::Null => f.write_str("null"),
+        Value::Bool(truth) => fmt::Display::fmt(truth, f),
+    }
+}
+
+/// As a listing writes it, a string as a name: `int 42`, `array { byte 1 null }`.
+impl fmt::Debug for Value<'_> {
+    fn fmt<W: fmt::Write>(&self, f: &mut fmt::Formatter<W>) -> fmt::Result {
+        write_front(f, self)?;
+        let Value::Array(all) = self else {
+            return Ok(());
+        };
+        f.write_str(" {")?;
+        for each in *all {
+            write!(f, " {each:?}")?;
+        }
+        f.write_str(" }")
+    }
 }
