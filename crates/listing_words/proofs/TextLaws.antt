@@ -82,7 +82,7 @@ text_hex u a b h = elim h [
   | inr l ↦ rw (ne_eqb u 34 a, ne_eqb u 92 b, lt-ltb 31 u (omega arith), le-ltb u 127 l) refl
 ]
 
-text_plain : (u : ℕ) → IsPlain u → unit_text u ≡ u ∷ []
+pub text_plain : (u : ℕ) → IsPlain u → unit_text u ≡ u ∷ []
 text_plain u p = rw (ne_eqb u 34 p.no_quote, ne_eqb u 92 p.no_escape, lt-ltb 31 u (omega (arith, p.low)), lt-ltb u 127 p.high) refl
 
 pub takes_hex : (u : ℕ) (rest : List ℕ) → u < 65536 → TakesHex (92 ∷ 117 ∷ glyph (u / 4096 % 16) ∷ glyph (u / 256 % 16) ∷ glyph (u / 16 % 16) ∷ glyph (u % 16) ∷ rest) u rest

@@ -94,7 +94,7 @@ elements_again (b ∷ bs) h =
 
 -- ---- names
 
-name_plain : (u : ℕ) → 32 < u → u < 127 → u ≢ 34 → u ≢ 92 → name_unit u ≡ u ∷ []
+pub name_plain : (u : ℕ) → 32 < u → u < 127 → u ≢ 34 → u ≢ 92 → name_unit u ≡ u ∷ []
 name_plain u a b c d = rw (lt-ltb 32 u a, lt-ltb u 127 b, ne_eqb u 34 c, ne_eqb u 92 d) refl
 
 name_low : (u : ℕ) → u ≤ 32 → name_unit u ≡ escape_text u
