@@ -1,5 +1,5 @@
 -- Grammars through a relation, and what stands behind a front that is known.
-use Rattle.std.proofs.Common.{◌≡◌, ℕ, List, ◌++◌, length, drop, sym, subst}
+use Rattle.std.proofs.Common.{◌≡◌, ℕ, List, length, drop, sym, subst}
 use Rattle.base_bytes.specs.Grammar.{IsPrefixUnique, Begins, Takes, NoneBegins, Then}
 use Rattle.base_bytes.specs.Via.{Via}
 use Rattle.base_bytes.proofs.GrammarLaws.{Then-none_second}

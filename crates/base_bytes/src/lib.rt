@@ -16,6 +16,7 @@ mod fault_names;
 // Numbers of fixed width, and of as many bytes as they need.
 mod fields;
 mod leb128;
+mod width;
 mod words;
 
 // The checksum.
@@ -34,4 +35,5 @@ pub use laws::{
     sleb_is_prefix_unique, uleb_is_prefix_unique,
 };
 pub use leb128::{put_sleb, put_uleb, read_sleb, read_uleb};
+pub use width::{narrow, widen};
 pub use words::push_words;

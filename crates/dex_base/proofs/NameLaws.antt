@@ -1,12 +1,12 @@
 -- Code points of names as units, and the simple names that they make.
-use Rattle.std.proofs.Common.{◌≡◌, ◌≢◌, ℕ, zero, suc, ◌+◌, ◌-◌, ◌/◌, ◌%◌, ◌<◌, ◌≤◌, ◌⊎◌, inl, inr, List, [], ◌∷◌, ◌++◌, length, take, drop, refl, sym, ap, subst, ◌∙◌, arith}
+use Rattle.std.proofs.Common.{◌≡◌, ◌≢◌, ℕ, zero, suc, ◌+◌, ◌-◌, ◌/◌, ◌%◌, ◌<◌, ◌≤◌, ◌⊎◌, inl, inr, List, [], ◌∷◌, ◌++◌, length, get_or, take, drop, refl, sym, ap, subst, ◌∙◌, arith}
 use Rattle.std.proofs.lemmas.Bool.{cases_lt, cases_order, lt-ltb, le-ltb}
-use Rattle.std.proofs.lemmas.List.{length-append, take-append-drop, length-take-le, append-nil, take_all, append_cancel_right}
+use Rattle.std.proofs.lemmas.List.{length-append, take-append-drop, length-take-le, append-nil, take_all, append_cancel_right, drop_more}
 use Rattle.std.specs.List.{flat_map, AllByRecursion}
 use Rattle.base_bytes.specs.Grammar.{Begins, NoneBegins, IsPrefixUnique, Each}
 use Rattle.dex_base.specs.Descriptor.{IsNamePoint, point_units, IsSimpleName, IsMemberName}
 use Rattle.dex_base.specs.Names.{SpellsPoint, HasPoint, IsRun}
-use Rattle.base_bytes.proofs.GrammarLaws.{Each-next, Each-unique}
+use Rattle.base_bytes.proofs.GrammarLaws.{Each-more, Each-next, Each-unique}
 use Rattle.dex_base.proofs.UnitLaws.{take_one, take_two}
 
 pub units_one : (c : ℕ) → c < 0x10000 → point_units c ≡ c ∷ []
@@ -35,6 +35,13 @@ point_found units c len h = elim h [
 
 pub point_some : (units : List ℕ) (c len : ℕ) → HasPoint units c len → 0 < len
 point_some units c len h = elim h [ inl p ↦ omega arith | inr p ↦ omega arith ]
+
+-- one low unit more
+pub low_more : (units points : List ℕ) (at : ℕ) → at < length units → get_or units at 0 < 128 → IsNamePoint (get_or units at 0)
+    → Begins (Each SpellsPoint) units points at → Begins (Each SpellsPoint) units (points ++ get_or units at 0 ∷ []) (at + 1)
+low_more units points at lt low name p =
+    Each-more SpellsPoint units points (get_or units at 0) at 1 p
+    (rw (drop_more units at 0 lt) (point_found (get_or units at 0 ∷ drop (at + 1) units) (get_or units at 0) 1 (inl (name, omega (arith, low), refl, omega arith, refl))))
 
 pub point_front : (c : ℕ) (front rest : List ℕ) → SpellsPoint front c → HasPoint (front ++ rest) c (length front)
 point_front c front rest s = elim (cases_lt c 0x10000) [

@@ -1,5 +1,5 @@
 -- Whether a text stands at the front of bytes is decided.
-use Rattle.std.proofs.Common.{ℕ, List, ◌<◌}
+use Rattle.std.proofs.Common.{ℕ, List}
 use Rattle.base_bytes.specs.Grammar.{Counted}
 use Rattle.base_bytes.specs.Leb128.{Spells}
 use Rattle.base_bytes.specs.Deciding.{DecidedFront}

@@ -1,7 +1,7 @@
 -- The bytes of one unit, seen as numbers.
-use Rattle.std.proofs.Common.{◌≡◌, ℕ, ◌+◌, ◌/◌, ◌%◌, ◌<◌, ◌≤◌, inl, inr, List, [], ◌∷◌, ◌++◌, length, take, get_or, refl, sym, ap, ◌∙◌, arith}
+use Rattle.std.proofs.Common.{◌≡◌, ℕ, suc, ◌+◌, ◌/◌, ◌%◌, ◌<◌, ◌≤◌, inl, inr, List, [], ◌∷◌, ◌++◌, length, take, get_or, refl, sym, ap, subst, ◌∙◌, arith}
 use Rattle.std.proofs.lemmas.Bool.{cases_lt, lt-ltb, le-ltb, ne_eqb}
-use Rattle.std.proofs.lemmas.List.{length-append}
+use Rattle.std.proofs.lemmas.List.{length-append, length-take-le}
 use Rattle.base_bytes.specs.Grammar.{Begins, NoneBegins, Appends, IsPrefixUnique, Each, Many}
 use Rattle.dex_base.specs.Mutf8.{unit_bytes, SpellsUnit}
 use Rattle.dex_base.specs.Names.{HasUnit}
@@ -94,6 +94,22 @@ units_long (u ∷ us) bytes e = omega (arith, unit_long u e.0 e.3, units_long us
 
 pub units_none : (n : ℕ) (bytes : List ℕ) → length bytes < n → NoneBegins (Many SpellsUnit n) bytes
 units_none n bytes h front rest us e s = absurd (omega (arith, s.0, units_long us front s.1, ap length e, length-append front rest))
+
+single_each : (us : List ℕ) → ((k : ℕ) → k < length us → (0 < get_or us k 0) × (get_or us k 0 < 128)) → Each SpellsUnit us us
+single_each [] p = refl
+single_each (u ∷ us) p =
+    let one = p 0 (omega arith) in
+    (u ∷ [], us, refl, (omega (arith, one.1), sym (bytes_one u one.0 one.1)), single_each us (λ k h. p (suc k) (omega (arith, h))))
+
+-- units of a byte each
+pub single_found : (bytes front units : List ℕ) (n : ℕ) → n ≤ length bytes → front ≡ take n bytes → units ≡ front
+    → ((k : ℕ) → k < length front → (0 < get_or front k 0) × (get_or front k 0 < 128)) → Begins (Many SpellsUnit n) bytes units (length front)
+single_found bytes front units n h f u p =
+    let same : length front ≡ n = ap length f ∙ length-take-le n bytes h in
+    record {
+      inside = rw (same) h;
+      spelled = rw (u, same) (refl, subst (λ (l : List ℕ). Each SpellsUnit l front) f (single_each front p));
+    }
 
 pub unit_appends : (old new : List ℕ) (u : ℕ) → u < 65536 → new ≡ old ++ unit_bytes u → Appends SpellsUnit old new u
 unit_appends old new u h e = record { bytes = unit_bytes u; joined = e; spelled = (h, refl) }

@@ -1,14 +1,14 @@
 //! Strings in MUTF-8, with their count and end byte ("Dalvik Executable format", sections "MUTF-8 (Modified UTF-8)
 //! Encoding" and "string_data_item").
 
-ghost use Rattle.std.specs.Prelude.{◌≡◌, ℕ, ◌^◌, ◌<◌, ◌≤◌, ◌+◌, ◌*◌, ◌++◌, List, length, IfOk, IfSome, IfNone, OnOk, OnErr, IsOk, IsOkUnless, vec_len, vec_capacity};
+ghost use Rattle.std.specs.Prelude.{◌≡◌, ℕ, ◌^◌, ◌<◌, ◌≤◌, ◌+◌, ◌*◌, ◌++◌, List, length, slice_index, IsTrue, EachIndex, IfOk, IfSome, IfNone, OnOk, OnErr, IsOk, IsOkUnless, vec_len, vec_capacity};
 ghost use Rattle.base_bytes.specs.Grammar.{Begins, NoneBegins, Appends, Many, Counted};
 ghost use Rattle.dex_base.specs.Mutf8.{SpellsUnit, SpellsText, PacksText, mutf8_length, unit_bytes};
 ghost use Rattle.dex_base.specs.Names.{HasUnit};
 ghost use Rattle.base_bytes.specs.Leb128.{Spells, Shortest};
 ghost use Rattle.base_bytes.specs.Fault.{memory};
 
-use base_bytes::{Fault, put_uleb, read_uleb};
+use base_bytes::{Fault, put_uleb, read_uleb, widen};
 use bumpalo::Bump;
 use bumpalo::collections::into_bump_slice;
 use std::alloc::Global;
@@ -59,6 +59,50 @@ fn read_unit(bytes: &[u8]) -> Option<(u16, usize)>
     unit_at(bytes)
 }
 
+/// Whether each byte is a unit by itself, as in nearly all strings: none is 0, and none above 127.
+fn are_single(bytes: &[u8]) -> bool
+    ensures { IsTrue result → EachIndex bytes.now (λ k. (0 < slice_index bytes.now k) × (slice_index bytes.now k < 128)) }
+{
+    let mut single = true;
+    for byte in bytes {
+        single &= (*byte != 0) & (*byte < 128);
+    }
+    single
+}
+
+/// Units of a byte each.
+fn single_units<'a>(arena: &'a Bump, bytes: &[u8]) -> Result<Vec<u16, &'a Bump>, Fault>
+    ensures ok { IfOk result (λ units. units.items ≡ bytes.now) }
+    ensures memory { IsOkUnless result memory }
+{
+    let mut units = Vec::with_capacity(arena, bytes.len())?;
+    units.resize(bytes.len(), 0)?;
+    widen(&mut units[..], bytes);
+    Ok(units)
+}
+
+/// So many units at the front, one by one, and their length.
+fn read_each<'a>(
+    arena: &'a Bump,
+    bytes: &[u8],
+    count: u32,
+) -> Result<Option<(Vec<u16, &'a Bump>, usize)>, Fault>
+    ensures found { IfOk result (λ r. IfSome r (λ f. Begins (Many SpellsUnit count) bytes.now f.0.items f.1)) }
+    ensures none { IfOk result (λ r. IfNone r (NoneBegins (Many SpellsUnit count) bytes.now)) }
+    ensures memory { IsOkUnless result memory }
+{
+    let mut units = Vec::with_capacity(arena, count as usize)?;
+    let mut at = 0;
+    for _ in 0..count {
+        let Some((unit, length)) = read_unit(&bytes[at..]) else {
+            return Ok(None);
+        };
+        units.push(unit)?;
+        at += length;
+    }
+    Ok(Some((units, at)))
+}
+
 /// So many units at the front, and their length.
 fn read_units<'a>(
     arena: &'a Bump,
@@ -72,16 +116,11 @@ fn read_units<'a>(
     if bytes.len() < count as usize {
         return Ok(None);
     }
-    let mut units = Vec::with_capacity(arena, count as usize)?;
-    let mut at = 0;
-    for _ in 0..count {
-        let Some((unit, length)) = read_unit(&bytes[at..]) else {
-            return Ok(None);
-        };
-        units.push(unit)?;
-        at += length;
+    let (front, _) = bytes.split_at(count as usize);
+    if are_single(front) {
+        return Ok(Some((single_units(arena, front)?, front.len())));
     }
-    Ok(Some((units, at)))
+    read_each(arena, bytes, count)
 }
 
 /// The string_data_item at the front: its units, placed in the arena, and its length in bytes with count and end byte.

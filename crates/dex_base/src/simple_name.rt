@@ -2,7 +2,7 @@
 //! section "String syntax").
 
 ghost use Rattle.std.specs.Prelude.{◌≡◌, ℕ, ◌<◌, ◌≤◌, [], ◌∷◌, ◌++◌, ◌↔◌, List, length, IsTrue, IfSome, IfNone};
-ghost use Rattle.base_bytes.specs.Grammar.{Begins, NoneBegins};
+ghost use Rattle.base_bytes.specs.Grammar.{Begins, NoneBegins, Each};
 ghost use Rattle.dex_base.specs.Descriptor.{IsNamePoint, IsSimpleName, IsMemberName};
 ghost use Rattle.dex_base.specs.Names.{HasPoint, SpellsPoint, IsRun};
 
@@ -74,12 +74,25 @@ fn read_point(units: &[u16]) -> Option<(u32, usize)>
     point_at(units)
 }
 
+/// How many units at the front are code points below 128 of names.
+fn low_run(units: &[u16]) -> usize
+    ensures { (points : List ℕ) × Begins (Each SpellsPoint) units.now points result }
+{
+    for at in 0..units.len() {
+        let unit = units[at] as u32;
+        if unit >= 128 || !is_low_point(unit) {
+            return at;
+        }
+    }
+    units.len()
+}
+
 /// The length of the longest front that is made of code points of names.
 pub(crate) fn name_run(units: &[u16]) -> usize
     ensures inside { result ≤ length units.now }
     ensures run { IsRun units.now result }
 {
-    let mut at = 0;
+    let mut at = low_run(units);
     while let Some((_, length)) = read_point(&units[at..]) {
         at += length;
     }

@@ -4,6 +4,8 @@ ghost use Rattle.std.specs.Prelude.{◌≡◌, ◌<◌, ◌∷◌, [], List, ℕ
 ghost use Rattle.listing_labels.specs.Lines.{lines, is_skipped};
 ghost use Rattle.listing_words.specs.Words.{after_spaces};
 
+use listing_words::split_before;
+
 /// The first line of a text, and what follows it.
 pub fn split_line(text: &[u8]) -> Option<(&[u8], &[u8])>
     ensures found { IfSome result (λ f. lines text.now ≡ f.0.now ∷ lines f.1.now) }
@@ -13,14 +15,12 @@ pub fn split_line(text: &[u8]) -> Option<(&[u8], &[u8])>
     if text.is_empty() {
         return None;
     }
-    for end in 0..text.len() {
-        if text[end] == 10 {
-            let (line, behind) = text.split_at(end);
-            let (_, rest) = behind.split_at(1);
-            return Some((line, rest));
-        }
+    let (line, behind) = split_before(10, text);
+    if behind.is_empty() {
+        return Some((line, behind));
     }
-    Some((text, &[]))
+    let (_, rest) = behind.split_at(1);
+    Some((line, rest))
 }
 
 /// Whether a line has nothing but spaces, or a comment.

@@ -70,10 +70,13 @@ fn find_key(keys: &[Key], text: &[u8]) -> Option<Key>
     None
 }
 
-/// The keyword of a line.
+/// The keyword of a line. The longest is `implements`, so that most mnemonics aren't compared with any.
 pub fn lead_key(text: &[u8]) -> Option<Key>
     ensures { result ≡ find_key lead_keys text.now }
 {
+    if text.len() > 10 {
+        return None;
+    }
     find_key(&LEADS, text)
 }
 
@@ -91,9 +94,12 @@ pub fn is_same_text(a: &[u16], b: &[u16]) -> bool
     a == b
 }
 
-/// The word of a payload.
+/// The word of a payload. The shortest is `array-payload`.
 pub fn payload_key(text: &[u8]) -> Option<Key>
     ensures { result ≡ find_key payload_keys text.now }
 {
+    if text.len() < 13 {
+        return None;
+    }
     find_key(&PAYLOADS, text)
 }

@@ -1,6 +1,7 @@
 -- Names in words: each is read in one way.
-use Rattle.std.proofs.Common.{◌≡◌, ◌≢◌, ℕ, ◌<◌, ◌≤◌, inl, inr, ◌⊎◌, List, [], ◌∷◌, ◌++◌, length, get_or, take, drop, refl, sym, ap, subst, ◌∙◌, append_assoc, arith, eq-eqb}
+use Rattle.std.proofs.Common.{◌≡◌, ◌≢◌, ℕ, suc, ◌<◌, ◌≤◌, inl, inr, ◌⊎◌, List, [], ◌∷◌, ◌++◌, length, get_or, take, drop, refl, sym, ap, subst, ◌∙◌, append_assoc, arith, eq-eqb}
 use Rattle.std.proofs.lemmas.List.{take-append-drop}
+use Rattle.std.proofs.Math.Seq.{take-append_seam}
 use Rattle.std.proofs.lemmas.Bool.{ne_eqb, cases_eq}
 use Rattle.std.specs.List.{flat_map, AllByRecursion}
 use Rattle.dex_base.specs.Descriptor.{IsDescriptor, IsMemberName, NoFront}
@@ -45,6 +46,15 @@ units_one text us vs p q = (Each-one TakesNameUnit name_unit_decided us vs text 
 
 pub units_none : (text us rest : List ℕ) → Each TakesNameUnit text us rest → NoneAt TakesNameUnit rest → length rest ≢ 0 → (vs : List ℕ) → SpellsUnits text vs → ⊥
 units_none text us rest p n some vs q = some (ap length (Each-one TakesNameUnit name_unit_decided us vs text rest [] p q n name_end).1)
+
+plain_taken : (plain rest : List ℕ) → ((k : ℕ) → k < length plain → get_or plain k 0 ≢ 92) → Each TakesNameUnit (plain ++ rest) plain rest
+plain_taken [] rest p = refl
+plain_taken (c ∷ plain) rest p = (plain ++ rest, inl (p 0 (omega arith), refl), plain_taken plain rest (λ k h. p (suc k) (omega (arith, h))))
+
+-- bytes that begin no escape are units as they stand
+pub read_taken : (word plain rest room more : List ℕ) (n : ℕ) → word ≡ plain ++ rest → ((k : ℕ) → k < length plain → get_or plain k 0 ≢ 92)
+    → room ≡ plain → n ≡ length plain → Each TakesNameUnit word (take n (room ++ more)) rest
+read_taken word plain rest room more n e p r l = rw (e, r, l, take-append_seam plain more) (plain_taken plain rest p)
 
 pub units_found : (text us rest : List ℕ) → Each TakesNameUnit text us rest → length rest ≡ 0 → SpellsUnits text us
 units_found text us [] p e = p

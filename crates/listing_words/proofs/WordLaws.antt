@@ -1,8 +1,7 @@
 -- The words of a line: a line has its words in one way.
-use Rattle.std.proofs.Common.{◌≡◌, ◌≢◌, ℕ, ◌+◌, ◌<◌, inl, inr, List, [], ◌∷◌, ◌++◌, length, get_or, map, take, drop, refl, sym, ap, subst, ◌∙◌, append_assoc, arith, add-one, drop-cons}
+use Rattle.std.proofs.Common.{◌≡◌, ◌≢◌, ℕ, suc, ◌+◌, ◌<◌, inl, inr, List, [], ◌∷◌, ◌++◌, length, get_or, map, refl, sym, ap, subst, ◌∙◌, arith}
 use Rattle.std.specs.Prelude.{Bool, false, ◌==◌, MatchBool}
 use Rattle.std.proofs.lemmas.Bool.{cases_eq, eq-eqb, ne_eqb}
-use Rattle.std.proofs.lemmas.List.{take_more, append-nil}
 use Rattle.std.specs.List.{AllByRecursion}
 use Rattle.listing_words.specs.Taking.{NoneAt, IsDecided, Each}
 use Rattle.listing_words.specs.Texts.{TakesUnits}
@@ -12,30 +11,20 @@ use Rattle.listing_words.specs.View.{word}
 use Rattle.listing_words.specs.declared.words.Word.{Word as Made}
 use Rattle.listing_words.proofs.TextLaws.{units_decided}
 
-pub up_at_space : (c : ℕ) (cs : List ℕ) → c ≡ 32 → up_to_space (c ∷ cs) ≡ []
-up_at_space c cs e = rw (eq-eqb c 32 e) refl
-
 pub up_at_other : (c : ℕ) (cs : List ℕ) → c ≢ 32 → up_to_space (c ∷ cs) ≡ c ∷ up_to_space cs
 up_at_other c cs e = rw (ne_eqb c 32 e) refl
-
-pub from_at_space : (c : ℕ) (cs : List ℕ) → c ≡ 32 → from_space (c ∷ cs) ≡ c ∷ cs
-from_at_space c cs e = rw (eq-eqb c 32 e) refl
 
 pub from_at_other : (c : ℕ) (cs : List ℕ) → c ≢ 32 → from_space (c ∷ cs) ≡ from_space cs
 from_at_other c cs e = rw (ne_eqb c 32 e) refl
 
--- a byte more before the space
-pub front_more : (text : List ℕ) (i : ℕ) → i < length text → get_or text i 0 ≢ 32 → take i text ++ up_to_space (drop i text) ≡ take (i + 1) text ++ up_to_space (drop (i + 1) text)
-front_more text i h n = rw (take_more text i 0 h, add-one, drop-cons text i 0 h, up_at_other _ _ n) (sym (append_assoc (take i text) (get_or text i 0 ∷ []) _))
-
-pub front_end : (text : List ℕ) (i : ℕ) → i < length text → get_or text i 0 ≡ 32 → take i text ++ up_to_space (drop i text) ≡ take i text
-front_end text i h e = rw (drop-cons text i 0 h, up_at_space _ _ e) (append-nil (take i text))
-
-pub back_more : (text : List ℕ) (i : ℕ) → i < length text → get_or text i 0 ≢ 32 → from_space (drop i text) ≡ from_space (drop (i + 1) text)
-back_more text i h n = rw (add-one, drop-cons text i 0 h, from_at_other _ _ n) refl
-
-pub back_end : (text : List ℕ) (i : ℕ) → i < length text → get_or text i 0 ≡ 32 → from_space (drop i text) ≡ drop i text
-back_end text i h e = rw (drop-cons text i 0 h, from_at_space _ _ e) refl
+-- bytes before the first space, and what stands from it on
+pub space_split : (front rest : List ℕ) → ((k : ℕ) → k < length front → get_or front k 0 ≢ 32) → (0 < length rest → get_or rest 0 0 ≡ 32)
+    → (up_to_space (front ++ rest) ≡ front) × (from_space (front ++ rest) ≡ rest)
+space_split [] [] p e = (refl, refl)
+space_split [] (c ∷ rest) p e = rw (eq-eqb c 32 (e (omega arith))) (refl, refl)
+space_split (c ∷ front) rest p e =
+    let m = space_split front rest (λ k h. p (suc k) (omega (arith, h))) e in
+    rw (ne_eqb c 32 (p 0 (omega arith))) (ap (λ t. c ∷ t) m.0, m.1)
 
 plain_or_text : (text v us r s : List ℕ) → TakesPlain text v r → TakesText text us s → ⊥
 plain_or_text text v us r s p q = p.no_quote (ap (λ w. get_or w 0 0) (p.word ∙ ap up_to_space q.quote))

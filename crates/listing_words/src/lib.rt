@@ -12,6 +12,7 @@
 #![tactic(auto)]
 
 mod bits;
+mod cut;
 mod labels;
 mod law;
 mod names;
@@ -24,6 +25,7 @@ mod texts;
 mod words;
 
 pub use bits::{read_bits, read_elements};
+pub use cut::split_before;
 pub use labels::{is_natural, is_number};
 pub use law::{words_are_read_one_way, written_words_are_read_again};
 pub use names::{read_field, read_method, read_name, read_proto};

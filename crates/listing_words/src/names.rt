@@ -1,13 +1,15 @@
 //! Names in words, and their parts: a word is decoded first, and then split.
 
-ghost use Rattle.std.specs.Prelude.{◌≡◌, ◌≢◌, ℕ, ◌+◌, ◌<◌, ◌≤◌, ◌⊎◌, ◌++◌, ◌∷◌, [], List, length, map, IfOk, IfSome, IfNone, IsOkUnless, vec_len, vec_capacity};
+ghost use Rattle.std.specs.Prelude.{◌≡◌, ◌≢◌, ℕ, ◌+◌, ◌<◌, ◌≤◌, ◌⊎◌, ◌++◌, ◌∷◌, [], List, length, map, IfOk, IfSome, IfNone, IsOkUnless};
 ghost use Rattle.base_bytes.specs.Fault.{memory};
 ghost use Rattle.program_types.specs.View.{desc, proto, field_ref, method_ref};
 ghost use Rattle.program_types.specs.Content.{Proto as SaidProto, FieldRef as SaidField, MethodRef as SaidMethod};
 ghost use Rattle.listing_words.specs.Taking.{NoneAt, Each};
 ghost use Rattle.listing_words.specs.Names.{HasNameUnit, TakesNameUnit, SpellsUnits, TakesDescriptor, IsMemberText, IsProtoText, IsFieldText, IsMethodText, up_to, from};
 
+use crate::cut::split_before;
 use crate::texts::hex;
+use base_bytes::widen;
 use bumpalo::Bump;
 use bumpalo::collections::into_bump_slice;
 use dex_base::{Fault, descriptor_length, is_descriptor, is_member_name};
@@ -52,21 +54,19 @@ fn read_name_unit(text: &[u8]) -> Option<(u16, &[u8])>
     }
 }
 
-/// Puts the units before the first escape into a Vec with room for them, and answers what stands from it on.
-fn read_plain<'a, 'b>(units: &mut Vec<u16, &'a Bump>, word: &'b [u8]) -> &'b [u8]
-    requires empty { units.old.items ≡ [] }
-    requires room { vec_len units.old + length word.now ≤ vec_capacity units.old }
-    ensures { Each TakesNameUnit word.now units.new.items result.now }
+/// The units before the first escape, in a Vec with room for the others, and what stands from it on.
+fn read_plain<'a, 'b>(
+    bump: &'a Bump,
+    word: &'b [u8],
+) -> Result<(Vec<u16, &'a Bump>, &'b [u8]), Fault>
+    ensures taken { IfOk result (λ f. Each TakesNameUnit word.now f.0.items f.1.now) }
+    ensures memory { IsOkUnless result memory }
 {
-    let mut rest = word;
-    while let Some((first, behind)) = rest.split_first() {
-        if *first == 92 {
-            return rest;
-        }
-        units.push_reserved(*first as u16);
-        rest = behind;
-    }
-    rest
+    let (plain, rest) = split_before(92, word);
+    let mut units = Vec::with_capacity(bump, word.len())?;
+    units.resize(plain.len(), 0)?;
+    widen(&mut units[..], plain);
+    Ok((units, rest))
 }
 
 /// The units of a word, decoded into the arena; none where an escape is malformed.
@@ -75,8 +75,7 @@ pub fn read_name<'a>(bump: &'a Bump, word: &[u8]) -> Result<Option<&'a [u16]>, F
     ensures none { IfOk result (λ r. IfNone r ((us : List ℕ) → SpellsUnits word.now us → ⊥)) }
     ensures memory { IsOkUnless result memory }
 {
-    let mut units = Vec::with_capacity(bump, word.len())?;
-    let mut rest = read_plain(&mut units, word);
+    let (mut units, mut rest) = read_plain(bump, word)?;
     while let Some((unit, after)) = read_name_unit(rest) {
         units.push(unit)?;
         rest = after;

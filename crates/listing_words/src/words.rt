@@ -8,6 +8,7 @@ ghost use Rattle.listing_words.specs.View.{word};
 ghost use Rattle.listing_words.specs.Words.{Word as Spoken};
 ghost use Rattle.base_bytes.specs.Fault.{memory};
 
+use crate::cut::split_before;
 use crate::texts::read_units;
 use bumpalo::Bump;
 use dex_base::Fault;
@@ -40,12 +41,7 @@ fn split_word(text: &[u8]) -> (&[u8], &[u8])
     ensures back { result.1.now ≡ from_space text.now }
     ensures within { length result.1.now + length result.0.now ≡ length text.now }
 {
-    for end in 0..text.len() {
-        if text[end] == 32 {
-            return text.split_at(end);
-        }
-    }
-    text.split_at(text.len())
+    split_before(32, text)
 }
 
 /// Whether a space or nothing stands at the front.
@@ -58,19 +54,22 @@ fn is_end(text: &[u8]) -> bool
     }
 }
 
-/// Whether all bytes can stand in a word.
+/// Whether the byte can stand in a word.
+fn is_graphic_byte(c: u8) -> bool
+    ensures { IsTrue result ↔ IsGraphic c }
+{
+    (c >= 33) & (c < 127)
+}
+
+/// Whether all bytes can stand in a word. All are looked at, many at a time.
 fn is_graphic(word: &[u8]) -> bool
     ensures { IsTrue result ↔ AllByRecursion IsGraphic word.now }
 {
+    let mut graphic = true;
     for c in word {
-        if *c < 33 {
-            return false;
-        }
-        if *c >= 127 {
-            return false;
-        }
+        graphic &= is_graphic_byte(*c);
     }
-    true
+    graphic
 }
 
 /// The word at the front, and what follows it.

@@ -8,3 +8,4 @@ pub mod PlaceLemmas
 pub mod NeededLemmas
 pub mod IndexLemmas
 pub mod ShortyLemmas
+pub mod SortingLemmas

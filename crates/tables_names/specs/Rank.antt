@@ -2,7 +2,8 @@
 -- these names.
 -- Page: "Dalvik Executable format", "File layout": each table of names is sorted and has no duplicates.
 use Rattle.std.specs.Prelude.{◌≡◌, ℕ, ◌≤◌, List, [], Bool, true, Some, count_by, fold, slice_get, Option, SomeIff, IsTrue, ◌<◌, ◌^◌}
-use Rattle.std.specs.Ordering.{is_lt, eq_by_cmp, nat_cmp}
+use Rattle.std.specs.declared.cmp.Ordering.{Ordering}
+use Rattle.std.specs.Ordering.{is_lt, eq_by_cmp, nat_cmp, ordering_then}
 use Rattle.std.specs.List.{list_any}
 use Rattle.std.specs.List.Sorted.{IsStrictlySortedBy}
 use Rattle.std.specs.BTreeSet as set
@@ -45,6 +46,10 @@ PlaceIsAtLeastRank =
 abbrev pub KeysCompareAsPlaces : Type 0
 KeysCompareAsPlaces =
     (table : List Key) (i j : ℕ) (a b : Key) → Rising table → IsAt table i a → IsAt table j b → key_cmp a b ≡ nat_cmp i j
+
+-- two names compare as these ranks of their parts do, unless the ranks tie
+abbrev pub Leads : Ordering → Ordering → Type 0
+Leads ranks names = ordering_then ranks names ≡ names
 
 -- what a look-up of k answers: the rank, where k is held and the rank has 32 bits
 abbrev pub HasIndex : List Key → Key → Option ℕ → Type 0

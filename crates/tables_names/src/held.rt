@@ -1,9 +1,11 @@
 //! The names of one kind that are needed: a hashed set in the order of first need while names are added, and then a list in
 //! the order of their ranks.
 ghost use Rattle.std.specs.Prelude.{◌≡◌, ◌<◌, ◌^◌, ℕ, List, [], map, OnOk, OnErr, IfOk, IfSome, IfNone, option_map, slice_get};
-ghost use Rattle.tables_names.specs.Rank.{Rising, insert_key, is_member, HasIndex, IsAt};
+ghost use Rattle.program_types.specs.Key.{key_cmp};
+ghost use Rattle.tables_names.specs.Rank.{Rising, insert_key, is_member, HasIndex, IsAt, Leads};
 
 use crate::row::Row;
+use crate::sorting::{ByRanks, put_all, with_ranks};
 use indexmap::IndexSet;
 use std::alloc::{AllocError, Global};
 use std::marker::Model;
@@ -58,7 +60,7 @@ impl<N: Row> Held<N> {
         Ok(())
     }
 
-    /// The names with their ranks: each kind is sorted once, where it stands.
+    /// The names with their ranks, sorted where they stand.
     pub(crate) fn ranked(self) -> Result<Ranked<N>, AllocError>
         ensures same { IfOk result (λ r. r ≡ self) }
     {
@@ -66,6 +68,27 @@ impl<N: Row> Held<N> {
         items.sort_unstable()?;
         Ok(Ranked { items })
     }
+}
+
+/// The names with their ranks, sorted by the ranks of their parts, and by themselves where these tie. By themselves alone,
+/// where a part has no rank.
+pub(crate) fn ranked_by<T, R: Copy + Ord, N: ByRanks<T, R>>(
+    alloc: Global,
+    held: Held<N>,
+    parts: &T,
+) -> Result<Ranked<N>, AllocError>
+    requires { (x y : N) (r s : R) → N.has parts.now x r → N.has parts.now y s → Leads (R.cmp r s) (key_cmp (N.key x) (N.key y)) }
+    ensures { IfOk result (λ r. r ≡ held) }
+{
+    let made = with_ranks(alloc, held.items.as_slice(), parts)?;
+    let Some(mut pairs) = made else {
+        return held.ranked();
+    };
+    pairs.sort_unstable();
+    let Held { mut items } = held;
+    items.clear();
+    put_all(&mut items, &pairs)?;
+    Ok(Ranked { items })
 }
 
 /// A set of names that stays, each with its rank, in the order of these. It stands for the rising list of their keys.

@@ -15,6 +15,7 @@ mod held;
 mod needed;
 mod ranks;
 mod shorty;
+mod sorting;
 
 // What holds of rows, names and ranks.
 mod laws;

@@ -8,8 +8,9 @@ ghost use Rattle.program_types.specs.View.{str, desc, proto, field_ref, method_r
 ghost use Rattle.program_types.specs.View as view;
 ghost use Rattle.tables_names.specs.Closure.{nothing, with_name, with_proto, with_parts, with_proto_parts, AddsPart, AreRising, IsClosed, HasShorty};
 
-use crate::held::{Held, Ranked};
+use crate::held::{Held, Ranked, ranked_by};
 use crate::ranks::Ranks;
+use crate::sorting::Parts;
 use bumpalo::Bump;
 use dex_base::Fault;
 use program_types::{Desc, FieldRef, MethodRef, Name, Proto, Str, shorty_of};
@@ -261,41 +262,58 @@ impl<'a> Needed<'a> {
         ensures memory { IsOkUnless result memory }
     {
         let Needed {
-            alloc: _,
+            alloc,
             strings,
             types,
             protos,
             fields,
             methods,
         } = self;
-        let (strings, types, protos) = ranked_types(strings, types, protos)?;
-        let (fields, methods) = ranked_members(fields, methods)?;
+        let parts = ranked_parts(alloc, strings, types, protos)?;
+        let (fields, methods) = ranked_members(alloc, &parts, fields, methods)?;
+        let Parts {
+            strings,
+            types,
+            protos,
+        } = parts;
         Ok(Ranks::new(strings, types, protos, fields, methods))
     }
 }
 
 // Three kinds with their ranks.
-fn ranked_types<'a>(
+fn ranked_parts<'a>(
+    alloc: Global,
     strings: Held<Str<'a>>,
     types: Held<Desc<'a>>,
     protos: Held<Proto<'a>>,
-) -> Result<(Ranked<Str<'a>>, Ranked<Desc<'a>>, Ranked<Proto<'a>>), AllocError>
-    ensures { IfOk result (λ r. (r.0 ≡ strings.entry) × (r.1 ≡ types.entry) × (r.2 ≡ protos.entry)) }
+) -> Result<Parts<'a>, AllocError>
+    ensures { IfOk result (λ r. (r.strings ≡ strings.entry) × (r.types ≡ types.entry) × (r.protos ≡ protos.entry)) }
 {
     let strings = strings.ranked()?;
-    let types = types.ranked()?;
-    let protos = protos.ranked()?;
-    Ok((strings, types, protos))
+    strings.rises();
+    let types = ranked_by(alloc, types, &strings)?;
+    types.rises();
+    let protos = ranked_by(alloc, protos, &types)?;
+    Ok(Parts {
+        strings,
+        types,
+        protos,
+    })
 }
 
 // Two kinds with their ranks.
 fn ranked_members<'a>(
+    alloc: Global,
+    parts: &Parts<'a>,
     fields: Held<FieldRef<'a>>,
     methods: Held<MethodRef<'a>>,
 ) -> Result<(Ranked<FieldRef<'a>>, Ranked<MethodRef<'a>>), AllocError>
     ensures { IfOk result (λ r. (r.0 ≡ fields.entry) × (r.1 ≡ methods.entry)) }
 {
-    let fields = fields.ranked()?;
-    let methods = methods.ranked()?;
+    parts.strings.rises();
+    parts.types.rises();
+    parts.protos.rises();
+    let fields = ranked_by(alloc, fields, parts)?;
+    let methods = ranked_by(alloc, methods, parts)?;
     Ok((fields, methods))
 }

@@ -1,18 +1,12 @@
 use Rattle.std.proofs.Common.{arith}
-use Rattle.std.proofs.lemmas.List.{take_rest, length_push}
-use Rattle.dex_base.specs.Mutf8.{SpellsUnit}
-use Rattle.dex_base.proofs.UnitLaws.{unit_unique, units_none}
-use Rattle.base_bytes.proofs.GrammarLaws.{Each-more, Many-none}
+use Rattle.dex_base.proofs.UnitLaws.{units_none, single_found}
 use Rattle.dex_base.proofs.mutf8.read_units.Goals as goal
-
-pub returns-in_default-clause-none : goal.returns-in_default-clause-none
-returns-in_default-clause-none c = Many-none SpellsUnit c.args.count c.args.bytes.now _ _ unit_unique c.loop.invariant.read (omega (arith, c.loop.invariant.counted)) (simp take_rest at c.in_default.ensures.none)
-
-pub loop-preserved : goal.loop-preserved
-loop-preserved c = record {
-  read = rw c.in_ok-push.ensures.items (Each-more SpellsUnit c.args.bytes.now _ c.in-Some.unit _ _ c.loop.invariant.read (simp take_rest at c.in-Some.ensures.found));
-  counted = rw c.in_ok-push.ensures.items (rw length_push (omega arith));
-}
 
 pub returns-then-bytes-count-clause-none : goal.returns-then-bytes-count-clause-none
 returns-then-bytes-count-clause-none c = units_none c.args.count c.args.bytes.now c.if-bytes-count.true
+
+pub returns-then-are_single-clause-found : goal.returns-then-are_single-clause-found
+returns-then-are_single-clause-found c =
+    let room = c.if-bytes-count.false in
+    single_found c.args.bytes.now c.split_at.result.0.now _ c.args.count (omega (arith, room)) c.split_at.ensures.front c.in_ok-single_units.ensures.ok
+    (c.are_single.ensures c.if-are_single.true)

@@ -1,11 +1,8 @@
-use Rattle.std.proofs.Common.{[], ◌∷◌, ◌++◌, refl}
+use Rattle.std.proofs.Common.{[], ◌∷◌, ◌++◌}
 use Rattle.std.proofs.lemmas.List.{take_rest}
 use Rattle.dex_base.specs.Names.{SpellsPoint}
-use Rattle.base_bytes.proofs.GrammarLaws.{Each-none, Each-more}
+use Rattle.base_bytes.proofs.GrammarLaws.{Each-more}
 use Rattle.dex_base.proofs.simple_name.name_run.Goals as goal
-
-pub loop-length-init : goal.loop-length-init
-loop-length-init c = ([], Each-none SpellsPoint c.args.units.now [] refl)
 
 pub loop-length-preserved : goal.loop-length-preserved
 loop-length-preserved c =

@@ -1,10 +1,8 @@
-use Rattle.std.proofs.Common.{arith, ap, length, inl}
-use Rattle.listing_words.specs.Names.{TakesNameUnit}
-use Rattle.listing_words.proofs.TakingLaws.{Each-push}
+use Rattle.listing_words.proofs.NameLaws.{read_taken}
 use Rattle.listing_words.proofs.names.read_plain.Goals as goal
 
-pub loop-first-preserved : goal.loop-first-preserved
-loop-first-preserved c = record {
-  taken = rw c.push_reserved.ensures.items (Each-push TakesNameUnit _ _ _ _ _ c.loop-first.invariant.taken (inl (c.if-first-eq92.false, c.in-Some.ensures.cases.0)));
-  room = let longer = ap length c.in-Some.ensures.cases.0 in omega (arith, longer, c.loop-first.invariant.room, c.push_reserved.ensures.len, c.push_reserved.ensures.capacity);
-}
+pub returns-clause-taken : goal.returns-clause-taken
+returns-clause-taken c =
+    let cut = c.split_before.ensures in
+    read_taken c.args.word.now c.split_before.result.0.now c.split_before.result.1.now c.widen.new.units _ c.resize.new.self.len
+    cut.joined cut.before c.widen.ensures c.in_ok-resize.ensures.len

@@ -1,7 +1,7 @@
 use Rattle.std.proofs.Common.{◌≡◌, length}
 use Rattle.base_bytes.specs.Grammar.{Begins, Each}
 use Rattle.dex_base.specs.Mutf8.{SpellsUnit}
-use Rattle.dex_base.proofs.mutf8.read_units.Given as goal
+use Rattle.dex_base.proofs.mutf8.read_each.Given as goal
 
 abbrev pub invariant-loop : goal.invariant-loop
 invariant-loop l = record {
