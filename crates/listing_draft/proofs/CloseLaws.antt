@@ -1,12 +1,8 @@
 -- Values of the static fields.
-use Rattle.std.proofs.Common.{◌≡◌, ℕ, zero, suc, ◌+◌, ◌<◌, ◌≤◌, Bool, true, false, ltb, if◌then◌else◌, List, [], ◌∷◌, ◌++◌, length, get_or, drop, take, map, Option, Some, refl, sym, ap, ◌∙◌, arith, add-one, drop-cons, drop_of_length-le}
+use Rattle.std.proofs.Common.{◌≡◌, ℕ, zero, suc, ◌+◌, ◌<◌, ◌≤◌, Bool, true, false, ltb, if◌then◌else◌, List, [], ◌∷◌, ◌++◌, length, get_or, drop, take, map, refl, sym, ap, ◌∙◌, arith, add-one, drop-cons, drop_of_length-le}
 use Rattle.std.proofs.lemmas.Bool.{lt-ltb}
 use Rattle.std.proofs.lemmas.List.{map-append, take_all, take_more, length-map}
 use Rattle.program_types.specs.View.{member, value}
-use Rattle.listing_lines.specs.Lines.{end_code}
-use Rattle.listing_lines.specs.declared.stage.Stage.TheVariants.{Members}
-use Rattle.listing_lines.specs.Needs.{earliest, first_late}
-use Rattle.listing_draft.specs.States.{State, Open, Body, with_code_at, with_tries, whole_code, placed}
 use Rattle.program_types.specs.declared.class.Member.{Member as Field}
 use Rattle.program_types.specs.declared.value.Value.{Value as Put}
 use Rattle.listing_draft.specs.Members.{Given, is_given, given_length, value_or_zero}
@@ -56,9 +52,3 @@ values_push all done v i x h e f =
     let n : i < length (map given all) = (let l = length-map all given in omega arith) in
     let t = take_more (map given all) i (given x) n in
     map-append value done (v ∷ []) ∙ rw (e, f, given_at all i x (given x) h) (sym (ap (map value_or_zero) t ∙ map-append value_or_zero (take i (map given all)) (get_or (map given all) i (given x) ∷ [])))
-
--- the code is whole
-pub code_ends : (s : State) (o : Open) (b : Body) (l : Option ℕ) → b ≡ with_tries s.stage s.body → o ≡ with_code_at s.current b.direct b.method (whole_code b) → l ≡ earliest s.late (first_late (length s.body.insns) s.body.needs)
-    → placed s end_code ≡ Some (record s { stage = Members; current = o; body = b; late = l })
-unfolding placed
-code_ends s o b l e f g = rw (f, g, e) refl

@@ -12,7 +12,7 @@ use Rattle.listing_shapes.specs.Shapes.{Shape}
 use Rattle.listing_slots.specs.Keys.{same}
 use Rattle.listing_lines.specs.declared.stage.Stage.{Stage}
 use Rattle.listing_lines.specs.declared.stage.Stage.TheVariants.{Start, Top, Heads, Members, Behind, Insns, Tries, Caught}
-use Rattle.listing_lines.specs.Places.{may_stand, is_insn, is_caught}
+use Rattle.listing_lines.specs.Places.{may_stand, is_insn, is_start, is_top}
 use Rattle.listing_lines.specs.Needs.{Need, line_needs, with_need, first_late, earliest}
 use Rattle.listing_draft.specs.Members.{Given, given_key, with_member, values_of}
 
@@ -28,44 +28,92 @@ pub record Open : Type 0 where
   pub directs : List Method
   pub virtuals : List Method
 
--- The code that is open: the key of its method, and what it has so far. The catches are those of the last try.
-pub record Body : Type 0 where
+-- The method that a code belongs to: a direct or a virtual one, with this key.
+pub record Owner : Type 0 where
   pub direct : Bool
   pub method : Key
+
+-- How far the lines of a class have come: before its members, among them, or behind a method, whose code may follow.
+pub data ClassPart : Type 0 where
+  at_heads : ClassPart
+  at_members : ClassPart
+  behind_method : Owner → ClassPart
+
+-- The code that is open: whose it is, and what it has so far. Its tries are those that are whole.
+pub record Body : Type 0 where
+  pub owner : Owner
   pub registers : ℕ
   pub ins : ℕ
   pub outs : ℕ
   pub insns : List Insn
   pub tries : List Try
+  pub needs : List Need
+
+-- The try that is open: what it covers, and its catches so far.
+pub record OpenTry : Type 0 where
   pub from : ℕ
   pub to : ℕ
   pub catches : List Catch
-  pub needs : List Need
 
--- What stands in a listing so far: the whole classes, the class and the code that are open, how many lines were read, and the
--- lowest line with a target that is no instruction of its code.
+-- How far the lines of a code have come: among its instructions, behind a whole try, or in a try.
+pub data CodePart : Type 0 where
+  at_insns : CodePart
+  behind_try : CodePart
+  in_try : OpenTry → CodePart
+
+-- The block that is open: none, before the first line or behind it; a class; or a code of a class.
+pub data Block : Type 0 where
+  at_start : Block
+  at_top : Block
+  in_class : Open → ClassPart → Block
+  in_code : Open → Body → CodePart → Block
+
+-- What stands in a listing so far: the whole classes, the block that is open, how many lines were read, and the lowest line
+-- with a target that is no instruction of its code.
 pub record State : Type 0 where
   pub done : List Class
-  pub stage : Stage
-  pub current : Open
-  pub body : Body
+  pub block : Block
   pub lines : ℕ
   pub late : Option ℕ
+
+-- Nothing was read.
+abbrev pub start : State
+start = record { done = []; block = at_start; lines = 0; late = None }
+
+-- ---- which line may follow
+
+abbrev pub class_stage : ClassPart → Stage
+class_stage at_heads = Heads
+class_stage at_members = Members
+class_stage (behind_method m) = Behind
+
+abbrev pub code_stage : CodePart → Stage
+code_stage at_insns = Insns
+code_stage behind_try = Tries
+code_stage (in_try t) = Caught
+
+-- Where the next line stands.
+abbrev pub stage_of : Block → Stage
+stage_of at_start = Start
+stage_of at_top = Top
+stage_of (in_class o p) = class_stage p
+stage_of (in_code o b p) = code_stage p
+
+-- How many instructions the open code has.
+abbrev pub count_of : Block → ℕ
+count_of (in_code o b p) = length b.insns
+count_of _ = 0
+
+-- A line of this shape may stand there; an instruction gives itself the next number.
+abbrev pub stands : State → Shape → Bool
+stands s sh =
+    may_stand (stage_of s.block) sh.kind && (if is_insn sh.kind then is_number sh.label (count_of s.block) else true)
+
+-- ---- the class
 
 -- A class without anything.
 abbrev pub opened : Descriptor → ℕ → Open
 opened d f = record { ty = d; flags = f; superclass = None; interfaces = []; source = None; statics = []; instances = []; directs = []; virtuals = [] }
-
--- Nothing was read.
-abbrev pub start : State
-start = record {
-  done = [];
-  stage = Start;
-  current = opened [] 0;
-  body = record { direct = false; method = [] ∷ [] ∷ []; registers = 0; ins = 0; outs = 0; insns = []; tries = []; from = 0; to = 0; catches = []; needs = [] };
-  lines = 0;
-  late = None;
-}
 
 -- The class is whole.
 abbrev pub closed : Open → Class
@@ -82,34 +130,16 @@ closed c = record {
   virtuals = c.virtuals;
 }
 
--- The try that is open is whole.
-abbrev pub try_of : Body → Option ℕ → Try
-try_of b all = record { from = b.from; to = b.to; catches = b.catches; catch_all = all }
-
--- The tries that are whole, and the one that is open behind its catches.
-abbrev pub all_tries : Stage → Body → List Try
-all_tries s b = if is_caught s then b.tries ++ try_of b None ∷ [] else b.tries
-
--- The code is whole.
-abbrev pub whole_code : Body → Code
-whole_code b = record { registers = b.registers; ins = b.ins; outs = b.outs; insns = b.insns; tries = b.tries }
-
--- No try is open any more.
-abbrev pub with_tries : Stage → Body → Body
-with_tries s b = record b { tries = all_tries s b }
-
--- The code will be that of the method with this key, a direct or a virtual one.
-abbrev pub owned : Body → Bool → Key → Body
-owned b direct k = record b { direct = direct; method = k }
-
 -- The method with this key has the code.
 abbrev pub with_code : List Method → Key → Code → List Method
 with_code [] k c = []
 with_code (m ∷ ms) k c = if is_eq (key_cmp k (method_key m)) then record m { code = Some c } ∷ ms else m ∷ with_code ms k c
 
 -- The method that the code belongs to has it.
-abbrev pub with_code_at : Open → Bool → Key → Code → Open
-with_code_at o direct k c = if direct then record o { directs = with_code o.directs k c } else record o { virtuals = with_code o.virtuals k c }
+abbrev pub with_code_at : Open → Owner → Code → Open
+with_code_at o m c =
+    if m.direct then record o { directs = with_code o.directs m.method c }
+    else record o { virtuals = with_code o.virtuals m.method c }
 
 -- The type is one of these.
 abbrev pub is_among : List Descriptor → Descriptor → Bool
@@ -143,75 +173,128 @@ with_source o us = elim o.source [ None ↦ Some (record o { source = Some us })
 unfoldable pub with_interface : Open → Descriptor → Option Open
 with_interface o d = if is_among o.interfaces d then None else Some (record o { interfaces = o.interfaces ++ d ∷ [] })
 
+-- The class with its lines up to this part, if there is one.
+abbrev pub at_part : ClassPart → Option Open → Option (Open × ClassPart)
+at_part p o = option_map (λ c. (c, p)) o
+
+-- A line of the class alone: the class with what it gives, none where that is given already or the line is of another
+-- kind.
+abbrev pub class_line : Open → Line → Option (Open × ClassPart)
+class_line o (super_line d) = at_part at_heads (with_superclass o d)
+class_line o (implements_line d) = at_part at_heads (with_interface o d)
+class_line o (source_line us) = at_part at_heads (with_source o us)
+class_line o (static_line m v) = at_part at_members (with_static o (record { field = m; value = v }))
+class_line o (instance_line m) = at_part at_members (with_instance o m)
+class_line o (direct_line m) =
+    at_part (behind_method (record { direct = true; method = method_key m })) (with_direct o m)
+class_line o (virtual_line m) =
+    at_part (behind_method (record { direct = false; method = method_key m })) (with_virtual o m)
+class_line o _ = None
+
 -- ---- the code
 
--- A code without anything, of the same method.
-abbrev pub begun : Body → ℕ → ℕ → ℕ → Body
-begun b r i o = record b { registers = r; ins = i; outs = o; insns = []; tries = []; catches = []; needs = [] }
+-- A code without anything, of this method.
+abbrev pub begun : Owner → ℕ → ℕ → ℕ → Body
+begun m r i o = record { owner = m; registers = r; ins = i; outs = o; insns = []; tries = []; needs = [] }
+
+-- What a line's targets need is noted.
+abbrev pub noted : Body → ℕ → Line → Body
+noted b n line = record b { needs = with_need b.needs n (line_needs line) }
 
 -- One instruction more.
 abbrev pub with_insn : Body → Insn → Body
 with_insn b i = record b { insns = b.insns ++ i ∷ [] }
 
--- A try is open; the one before it is whole.
-abbrev pub with_try : Stage → Body → ℕ → ℕ → Body
-with_try s b from to = record b { tries = all_tries s b; from = from; to = to; catches = [] }
+-- The open try with its catch of everything, if it has one, is whole.
+abbrev pub try_of : OpenTry → Option ℕ → Try
+try_of t all = record { from = t.from; to = t.to; catches = t.catches; catch_all = all }
 
--- One catch more in the open try.
-abbrev pub with_catch : Body → Descriptor → ℕ → Body
-with_catch b d k = record b { catches = b.catches ++ record { ty = d; at = k } ∷ [] }
+-- The tries, when the one that is open is whole, if one is.
+abbrev pub all_tries : CodePart → Option ℕ → List Try → List Try
+all_tries (in_try t) all ts = ts ++ try_of t all ∷ []
+all_tries _ all ts = ts
 
--- The open try has a catch of everything, and is whole.
-abbrev pub with_catch_all : Body → ℕ → Body
-with_catch_all b k = record b { tries = b.tries ++ try_of b (Some k) ∷ [] }
+-- No try is open any more.
+abbrev pub with_tries : Body → CodePart → Option ℕ → Body
+with_tries b p all = record b { tries = all_tries p all b.tries }
+
+-- One catch more in the open try: none where no try is open.
+abbrev pub with_catch : CodePart → Catch → Option CodePart
+with_catch (in_try t) c = Some (in_try (record t { catches = t.catches ++ c ∷ [] }))
+with_catch _ c = None
+
+-- A try is open.
+abbrev pub is_in_try : CodePart → Bool
+is_in_try (in_try t) = true
+is_in_try _ = false
+
+-- The code is whole.
+abbrev pub whole_code : Body → Code
+whole_code b = record { registers = b.registers; ins = b.ins; outs = b.outs; insns = b.insns; tries = b.tries }
+
+-- A line of the code alone: none where it is of another kind, or a catch where no try is open.
+abbrev pub code_line : Body → CodePart → Line → Option (Body × CodePart)
+code_line b p (insn_line i) = Some (with_insn b i, at_insns)
+code_line b p (try_line from to) = Some (with_tries b p None, in_try (record { from = from; to = to; catches = [] }))
+code_line b p (catch_line d k) = option_map (λ q. (b, q)) (with_catch p (record { ty = d; at = k }))
+code_line b p (catch_all_line k) = if is_in_try p then Some (with_tries b p (Some k), behind_try) else None
+code_line b p _ = None
 
 -- ---- a line more
 
--- The open class is this one, if there is one, and the stage that of its lines.
-abbrev pub in_class : State → Stage → Option Open → Option State
-in_class s stage o = option_map (λ c. record s { stage = stage; current = c }) o
+-- A line that may stand inside the open block is added to it, and what its targets need is noted for this line: none
+-- where it gives again what may be given once.
+unfoldable pub inside : Block → ℕ → Line → Option Block
+inside (in_class o p) n line = option_map (λ c. in_class c.0 c.1) (class_line o line)
+inside (in_code o b p) n line = option_map (λ c. in_code o c.0 c.1) (code_line (noted b n line) p line)
+inside _ n line = None
 
--- The same behind a method, whose code may follow.
-abbrev pub behind_method : State → Bool → Method → Option Open → Option State
-behind_method s direct m o = option_map (λ c. record s { stage = Behind; current = c; body = owned s.body direct (method_key m) }) o
+-- The class that is open, outside of its codes.
+abbrev pub class_of : Block → Option Open
+class_of (in_class o p) = Some o
+class_of _ = None
 
--- The open code is this one, and the stage that of its lines.
-abbrev pub in_body : State → Stage → Body → Option State
-in_body s stage b = Some (record s { stage = stage; body = b })
+-- The method whose code may follow.
+abbrev pub owner_of : Block → Option Owner
+owner_of (in_class o (behind_method m)) = Some m
+owner_of _ = None
+
+-- The code begins.
+abbrev pub with_body : Block → Body → Block
+with_body (in_class o p) b = in_code o b at_insns
+with_body other b = other
+
+-- The code is whole, and the method that it belongs to has it: none where no code is open.
+abbrev pub code_ended : Block → Option Block
+code_ended (in_code o b p) = Some (in_class (with_code_at o b.owner (whole_code (with_tries b p None))) at_members)
+code_ended _ = None
+
+-- The lowest line of the open code with a target that is none of its instructions.
+abbrev pub late_in : Block → Option ℕ
+late_in (in_code o b p) = first_late (length b.insns) b.needs
+late_in _ = None
+
+-- This block is open.
+abbrev pub with_block : State → Block → State
+with_block s b = record s { block = b }
+
+-- A line that may stand there is added to the listing: none where it gives again what may be given once.
+unfoldable pub add : State → Line → Option State
+add s first_line = if is_start (stage_of s.block) then Some (with_block s at_top) else None
+add s (open_class d f) =
+    if is_top (stage_of s.block) then Some (with_block s (in_class (opened d f) at_heads)) else None
+add s end_class = option_map (λ o. record s { done = s.done ++ closed o ∷ []; block = at_top }) (class_of s.block)
+add s (open_code r i u) = option_map (λ m. with_block s (with_body s.block (begun m r i u))) (owner_of s.block)
+add s end_code = option_map (λ b. record s { block = b; late = earliest s.late (late_in s.block) }) (code_ended s.block)
+add s line = option_map (λ b. with_block s b) (inside s.block s.lines line)
 
 -- One line more was read.
 abbrev pub counted : State → State
 counted s = record s { lines = s.lines + 1 }
 
--- What the last line's targets need is noted.
-abbrev pub noted : State → Line → State
-noted s line = record s { body = record s.body { needs = with_need s.body.needs s.lines (line_needs line) } }
+-- ---- what a private helper says
 
--- What the line says is put in its place: none where the line gives again what may be given once.
-unfoldable pub placed : State → Line → Option State
-placed s first_line = Some (record s { stage = Top })
-placed s (open_class d f) = Some (record s { stage = Heads; current = opened d f })
-placed s end_class = Some (record s { done = s.done ++ closed s.current ∷ []; stage = Top })
-placed s (super_line d) = in_class s Heads (with_superclass s.current d)
-placed s (implements_line d) = in_class s Heads (with_interface s.current d)
-placed s (source_line us) = in_class s Heads (with_source s.current us)
-placed s (static_line m v) = in_class s Members (with_static s.current (record { field = m; value = v }))
-placed s (instance_line m) = in_class s Members (with_instance s.current m)
-placed s (direct_line m) = behind_method s true m (with_direct s.current m)
-placed s (virtual_line m) = behind_method s false m (with_virtual s.current m)
-placed s (open_code r i o) = in_body s Insns (begun s.body r i o)
-placed s end_code =
-    let b = with_tries s.stage s.body in
-    Some (record s { stage = Members; current = with_code_at s.current b.direct b.method (whole_code b); body = b; late = earliest s.late (first_late (length s.body.insns) s.body.needs) })
-placed s (insn_line i) = in_body s Insns (with_insn s.body i)
-placed s (try_line from to) = in_body s Caught (with_try s.stage s.body from to)
-placed s (catch_line d k) = in_body s Caught (with_catch s.body d k)
-placed s (catch_all_line k) = in_body s Tries (with_catch_all s.body k)
-
--- The listing with one line more: none where the line gives again what may be given once.
-abbrev pub add : State → Line → Option State
-add s line = placed (noted s line) line
-
--- A line of this shape may stand there; an instruction gives itself the next number.
-abbrev pub stands : State → Shape → Bool
-stands s sh = may_stand s.stage sh.kind && (if is_insn sh.kind then is_number sh.label (length s.body.insns) else true)
+-- The class of the open code, outside of it.
+abbrev pub class_again : Block → Block
+class_again (in_code o b p) = in_class o at_members
+class_again other = other

@@ -14,7 +14,15 @@ use Rattle.listing_draft.specs.declared.close.Given.{Given}
 use Rattle.listing_draft.specs.declared.open_class.Static.{Static}
 use Rattle.listing_draft.specs.declared.open_class.Defined.{Defined}
 use Rattle.listing_draft.specs.declared.open_class.Open.{Open}
+use Rattle.listing_draft.specs.declared.open_class.Owner.{Owner}
+use Rattle.listing_draft.specs.declared.open_class.ClassPart.{ClassPart}
+use Rattle.listing_draft.specs.declared.open_class.ClassPart.TheVariants as of_class
 use Rattle.listing_draft.specs.declared.open_code.Body.{Body}
+use Rattle.listing_draft.specs.declared.open_code.OpenTry.{OpenTry}
+use Rattle.listing_draft.specs.declared.open_code.CodePart.{CodePart}
+use Rattle.listing_draft.specs.declared.open_code.CodePart.TheVariants as of_code
+use Rattle.listing_draft.specs.declared.block.Block.{Block}
+use Rattle.listing_draft.specs.declared.block.Block.TheVariants as of_block
 use Rattle.listing_draft.specs.declared.draft.Draft.{Draft}
 
 -- a static field, and its value
@@ -47,22 +55,45 @@ open_class c = record {
   virtuals = map held_method c.virtuals.entries;
 }
 
+-- the method that a code belongs to
+abbrev pub owner : Owner → states.Owner
+owner m = record { direct = m.direct; method = str m.name ∷ proto_key (proto m.proto.now) }
+
+-- how far the lines of a class have come
+abbrev pub class_part : ClassPart → states.ClassPart
+class_part of_class.Heads = states.at_heads
+class_part of_class.Members = states.at_members
+class_part (of_class.Behind m) = states.behind_method (owner m)
+
 -- the code that is open
 unfoldable pub open_body : Body → states.Body
 open_body b = record {
-  direct = b.direct;
-  method = str b.name ∷ proto_key (proto b.proto.now);
+  owner = owner b.owner;
   registers = b.registers;
   ins = b.ins;
   outs = b.outs;
   insns = map insn b.insns.items;
   tries = map try b.tries.items;
-  from = b.from;
-  to = b.to;
-  catches = map catch b.catches.items;
   needs = map need b.needs.items;
 }
 
+-- the try that is open
+abbrev pub open_try : OpenTry → states.OpenTry
+open_try t = record { from = t.from; to = t.to; catches = map catch t.catches.items }
+
+-- how far the lines of a code have come
+abbrev pub code_part : CodePart → states.CodePart
+code_part of_code.Insns = states.at_insns
+code_part of_code.Tries = states.behind_try
+code_part (of_code.Caught t) = states.in_try (open_try t)
+
+-- the block that is open
+unfoldable pub block : Block → states.Block
+block of_block.Start = states.at_start
+block of_block.Top = states.at_top
+block (of_block.Class c) = states.in_class (open_class c.open) (class_part c.part)
+block (of_block.Code c) = states.in_code (open_class c.class) (open_body c.body) (code_part c.part)
+
 -- the whole draft
 unfoldable pub state : Draft → states.State
-state d = record { done = map class d.done.items; stage = d.stage; current = open_class d.current; body = open_body d.body; lines = d.lines; late = d.late }
+state d = record { done = map class d.done.items; block = block d.block; lines = d.lines; late = d.late }

@@ -3,53 +3,50 @@
 ghost use Rattle.std.specs.Prelude.{◌≡◌, Option, Some, None, Bool, IfOk, IsOkUnless, MatchBool};
 ghost use Rattle.base_bytes.specs.Fault.{memory};
 
+use crate::block::Block;
 use crate::close::place_class;
-use crate::open_class::Open;
+use crate::open_class::{ClassPart, InClass, Open};
 use crate::open_code::Body;
 use bumpalo::Bump;
 use bumpalo::collections::into_bump_slice;
 use dex_base::Fault;
-use listing_lines::{Line, Stage, first_late, is_insn, line_needs, may_stand};
+use listing_lines::{Line, Stage, is_insn, may_stand};
 use listing_shapes::Found;
 use listing_words::is_number;
-use program_types::{Class, Method};
+use program_types::{Class, Desc};
 use std::alloc::Global;
 
-/// What is whole so far, and what is open.
+/// What is whole so far, in the arena, and the block that is open, outside of it.
 #[derive(Drop)]
 pub struct Draft<'a> {
+    pub alloc: Global,
     pub done: Vec<Class<'a>, &'a Bump>,
-    pub stage: Stage,
-    pub current: Open<'a>,
-    pub body: Body<'a>,
+    pub block: Block<'a>,
     pub lines: u64,
     pub late: Option<u64>,
 }
 
 impl<'a> Draft<'a> {
-    ghost use Rattle.std.specs.Prelude.{List};
+    ghost use Rattle.std.specs.Prelude.{List, map, ◌+◌, ◌<◌, ◌^◌};
     ghost use Rattle.listing_words.specs.Words.{Word};
     ghost use Rattle.listing_slots.specs.declared.slot.Slot.{Slot};
-    ghost use Rattle.std.specs.Prelude.{map};
-    ghost use Rattle.program_types.specs.View.{method, class};
+    ghost use Rattle.program_types.specs.View.{desc, class};
     ghost use Rattle.listing_lines.specs.Lines as says;
     ghost use Rattle.listing_lines.specs.LineView.{line};
+    ghost use Rattle.listing_lines.specs.Needs.{earliest};
     ghost use Rattle.listing_shapes.specs.ShapeView.{shape};
-    ghost use Rattle.std.specs.Prelude.{OnOk, ◌+◌, ◌<◌, ◌^◌, length};
-    ghost use Rattle.listing_lines.specs.Needs.{earliest, first_late};
-    ghost use Rattle.listing_draft.specs.States.{start, counted, noted, placed, add, stands};
-    ghost use Rattle.listing_draft.specs.View.{state, open_class, open_body};
+    ghost use Rattle.listing_draft.specs.States.{start, stage_of, counted, add, stands, late_in};
+    ghost use Rattle.listing_draft.specs.View.{state, block};
 
     /// Nothing was read.
-    #[tactic(auto, unfolding(crate::specs::View::state, crate::specs::View::open_class, crate::specs::View::open_body))]
-    pub fn new(alloc: Global, bump: &'a Bump) -> Draft<'a>
+    #[tactic(auto, unfolding(crate::specs::View::state, crate::specs::View::block))]
+    pub fn new(alloc: Global, arena: &'a Bump) -> Draft<'a>
         ensures { state result ≡ start }
     {
         Draft {
-            done: Vec::new(bump),
-            stage: Stage::Start,
-            current: Open::new(alloc),
-            body: Body::new(bump),
+            alloc,
+            done: Vec::new(arena),
+            block: Block::Start,
             lines: 0,
             late: None,
         }
@@ -61,28 +58,35 @@ impl<'a> Draft<'a> {
         ensures { map class result.now ≡ (state self.entry).done }
     {
         let Draft {
+            alloc: _,
             done,
-            stage: _,
-            current: _,
-            body: _,
+            block: _,
             lines: _,
             late: _,
         } = self;
         into_bump_slice(done)
     }
 
+    /// Where the next line stands.
+    #[tactic(auto, unfolding(crate::specs::View::state))]
+    pub fn stage(&self) -> Stage
+        ensures { result ≡ stage_of (state self.now).block }
+    {
+        self.block.stage()
+    }
+
     /// Whether a line of this shape may stand here.
-    #[tactic(auto, unfolding(crate::specs::View::state, crate::specs::View::open_body))]
+    #[tactic(auto, unfolding(crate::specs::View::state))]
     pub fn stands(&self, found: Found<'_>) -> bool
         ensures { (ss : List Slot) (ws : List Word) → result ≡ stands (state self.now) (shape found.entry ss ws) }
     {
-        if !may_stand(self.stage, found.kind) {
+        if !may_stand(self.block.stage(), found.kind) {
             return false;
         }
         if !is_insn(found.kind) {
             return true;
         }
-        is_number(found.label, self.body.insns.len() as u64)
+        is_number(found.label, self.block.count())
     }
 
     /// One line more was read.
@@ -95,130 +99,122 @@ impl<'a> Draft<'a> {
         self.lines += 1;
     }
 
-    /// What the targets of the last line need is noted.
-    #[tactic(auto, unfolding(crate::specs::View::state))]
-    fn note(&mut self, next: &Line<'a>) -> Result<(), Fault>
-        ensures noted { OnOk result (state self.new ≡ noted (state self.old) (line next.now)) }
-        ensures lines { self.new.lines ≡ self.old.lines }
-        ensures memory { IsOkUnless result memory }
-    {
-        self.body.note(self.lines, line_needs(next))
-    }
-
     /// The lowest line with a target that is no instruction of its code, if the open code is whole now.
-    #[tactic(auto, unfolding(crate::specs::View::state, crate::specs::View::open_body))]
+    #[tactic(auto, unfolding(crate::specs::View::state))]
     fn late_line(&self) -> Option<u64>
-        ensures { result ≡ earliest (state self.now).late (first_late (length (state self.now).body.insns) (state self.now).body.needs) }
+        ensures { result ≡ earliest (state self.now).late (late_in (state self.now).block) }
     {
         if self.late.is_some() {
             return self.late;
         }
-        first_late(self.body.insns.len() as u64, self.body.needs.as_slice())
+        self.block.late_line()
     }
 
-    /// One line more; false where it gives again what may be given once.
-    #[tactic(auto, unfolding(crate::specs::View::state))]
-    pub fn add(&mut self, alloc: &'a Bump, next: Line<'a>) -> Result<bool, Fault>
+    /// The first line; false where a line was read.
+    #[tactic(auto, unfolding(crate::specs::View::state, crate::specs::View::block, crate::specs::States::add))]
+    fn begin(&mut self) -> bool
+        ensures begun { MatchBool result
+            (add (state self.old) says.first_line ≡ Some (state self.new))
+            (add (state self.old) says.first_line ≡ None) }
+        ensures lines { self.new.lines ≡ self.old.lines }
+    {
+        match self.block {
+            Block::Start => {
+                self.block = Block::Top;
+                true
+            }
+            _ => false,
+        }
+    }
+
+    /// A class begins; false where a block is open.
+    #[tactic(auto, unfolding(crate::specs::View::state, crate::specs::View::block, crate::specs::States::add))]
+    fn open_class(&mut self, ty: Desc<'a>, flags: u32) -> bool
+        ensures opened { MatchBool result
+            (add (state self.old) (says.open_class (desc ty.entry) flags) ≡ Some (state self.new))
+            (add (state self.old) (says.open_class (desc ty.entry) flags) ≡ None) }
+        ensures lines { self.new.lines ≡ self.old.lines }
+    {
+        match self.block {
+            Block::Top => {
+                self.block = Block::Class(InClass {
+                    open: Open::new(self.alloc, ty, flags),
+                    part: ClassPart::Heads,
+                });
+                true
+            }
+            _ => false,
+        }
+    }
+
+    /// A code begins; false where the line before gave no method.
+    #[tactic(auto, unfolding(crate::specs::View::state, crate::specs::States::add))]
+    fn open_code(&mut self, registers: u16, ins: u16, outs: u16) -> bool
+        ensures opened { MatchBool result
+            (add (state self.old) (says.open_code registers ins outs) ≡ Some (state self.new))
+            (add (state self.old) (says.open_code registers ins outs) ≡ None) }
+        ensures lines { self.new.lines ≡ self.old.lines }
+    {
+        let Some(owner) = self.block.owner() else {
+            return false;
+        };
+        self.block
+            .begin_code(Body::new(self.alloc, owner, registers, ins, outs));
+        true
+    }
+
+    /// The class is whole; false where none is open.
+    #[tactic(auto, unfolding(crate::specs::View::state, crate::specs::View::block, crate::specs::States::add))]
+    fn end_class(&mut self, arena: &'a Bump) -> Result<bool, Fault>
+        ensures ended { IfOk result (λ yes. MatchBool yes
+            (add (state self.old) says.end_class ≡ Some (state self.new))
+            (add (state self.old) says.end_class ≡ None)) }
+        ensures lines { self.new.lines ≡ self.old.lines }
+        ensures memory { IsOkUnless result memory }
+    {
+        let Block::Class(class) = &self.block else {
+            return Ok(false);
+        };
+        let whole = place_class(arena, &class.open)?;
+        self.done.push(whole)?;
+        self.block = Block::Top;
+        Ok(true)
+    }
+
+    /// The code is whole, and the method that it belongs to has it; false where none is open.
+    #[tactic(auto, unfolding(crate::specs::View::state, crate::specs::States::add))]
+    fn end_code(&mut self, arena: &'a Bump) -> Result<bool, Fault>
+        ensures ended { IfOk result (λ yes. MatchBool yes
+            (add (state self.old) says.end_code ≡ Some (state self.new))
+            (add (state self.old) says.end_code ≡ None)) }
+        ensures lines { self.new.lines ≡ self.old.lines }
+        ensures memory { IsOkUnless result memory }
+    {
+        let late = self.late_line();
+        if !self.block.end_code(arena)? {
+            return Ok(false);
+        }
+        self.late = late;
+        Ok(true)
+    }
+
+    /// A line that may stand here is added; false where it gives again what may be given once.
+    #[rattlefmt::skip]
+    #[tactic(auto, unfolding(crate::specs::View::state, crate::specs::States::add))]
+    pub fn add(&mut self, arena: &'a Bump, next: Line<'a>) -> Result<bool, Fault>
         ensures added { IfOk result (λ yes. MatchBool yes
             (add (state self.old) (line next.entry) ≡ Some (state self.new))
             (add (state self.old) (line next.entry) ≡ None)) }
         ensures lines { self.new.lines ≡ self.old.lines }
         ensures memory { IsOkUnless result memory }
     {
-        self.note(&next)?;
-        self.place(alloc, next)
-    }
-
-    /// The class is whole.
-    #[tactic(auto, unfolding(crate::specs::View::state, crate::specs::States::placed))]
-    fn end_class(&mut self, alloc: &'a Bump) -> Result<(), Fault>
-        ensures put { OnOk result (placed (state self.old) says.end_class ≡ Some (state self.new)) }
-        ensures lines { self.new.lines ≡ self.old.lines }
-        ensures memory { IsOkUnless result memory }
-    {
-        let whole = place_class(alloc, &self.current)?;
-        self.done.push(whole)?;
-        self.stage = Stage::Top;
-        Ok(())
-    }
-
-    /// A direct method in its place; false where it is given already.
-    #[tactic(auto, unfolding(crate::specs::View::state, crate::specs::States::placed))]
-    fn put_direct(&mut self, new: Method<'a>) -> Result<bool, Fault>
-        ensures put { IfOk result (λ yes. MatchBool yes
-            (placed (state self.old) (says.direct_line (method new.entry)) ≡ Some (state self.new))
-            (placed (state self.old) (says.direct_line (method new.entry)) ≡ None)) }
-        ensures lines { self.new.lines ≡ self.old.lines }
-        ensures memory { IsOkUnless result memory }
-    {
-        if !self.current.put_direct(new)? {
-            return Ok(false);
-        }
-        self.body.set_owner(true, new.name, new.proto);
-        self.stage = Stage::Behind;
-        Ok(true)
-    }
-
-    /// A virtual method in its place; false where it is given already.
-    #[tactic(auto, unfolding(crate::specs::View::state, crate::specs::States::placed))]
-    fn put_virtual(&mut self, new: Method<'a>) -> Result<bool, Fault>
-        ensures put { IfOk result (λ yes. MatchBool yes
-            (placed (state self.old) (says.virtual_line (method new.entry)) ≡ Some (state self.new))
-            (placed (state self.old) (says.virtual_line (method new.entry)) ≡ None)) }
-        ensures lines { self.new.lines ≡ self.old.lines }
-        ensures memory { IsOkUnless result memory }
-    {
-        if !self.current.put_virtual(new)? {
-            return Ok(false);
-        }
-        self.body.set_owner(false, new.name, new.proto);
-        self.stage = Stage::Behind;
-        Ok(true)
-    }
-
-    /// The code is whole, and the method that it belongs to has it.
-    #[tactic(auto, unfolding(crate::specs::View::state))]
-    fn end_code(&mut self, alloc: &'a Bump) -> Result<(), Fault>
-        ensures put { OnOk result (placed (state self.old) says.end_code ≡ Some (state self.new)) }
-        ensures lines { self.new.lines ≡ self.old.lines }
-        ensures memory { IsOkUnless result memory }
-    {
-        self.late = self.late_line();
-        self.body.end_tries(alloc, self.stage)?;
-        let whole = alloc.try_alloc(self.body.place_code(alloc)?)?;
-        self.current
-            .put_code(self.body.direct, self.body.name, self.body.proto, whole);
-        self.stage = Stage::Members;
-        Ok(())
-    }
-
-    /// What a line says is put in its place; false where it gives again what may be given once.
-    #[rattlefmt::skip]
-    #[tactic(auto, unfolding(crate::specs::View::state, crate::specs::States::placed))]
-    fn place(&mut self, alloc: &'a Bump, next: Line<'a>) -> Result<bool, Fault>
-        ensures added { IfOk result (λ yes. MatchBool yes
-            (placed (state self.old) (line next.entry) ≡ Some (state self.new))
-            (placed (state self.old) (line next.entry) ≡ None)) }
-        ensures lines { self.new.lines ≡ self.old.lines }
-        ensures memory { IsOkUnless result memory }
-    {
         match next {
-            Line::First => { self.stage = Stage::Top; Ok(true) }
-            Line::OpenClass(ty, flags) => { self.current.begin(ty, flags); self.stage = Stage::Heads; Ok(true) }
-            Line::EndClass => { self.end_class(alloc)?; Ok(true) }
-            Line::Super(ty) => { self.stage = Stage::Heads; Ok(self.current.put_superclass(ty)) }
-            Line::Implements(ty) => { self.stage = Stage::Heads; self.current.put_interface(ty) }
-            Line::Source(text) => { self.stage = Stage::Heads; Ok(self.current.put_source(text)) }
-            Line::Static(field, value) => { self.stage = Stage::Members; self.current.put_static(field, value) }
-            Line::Instance(field) => { self.stage = Stage::Members; self.current.put_instance(field) }
-            Line::Direct(method) => self.put_direct(method),
-            Line::Virtual(method) => self.put_virtual(method),
-            Line::OpenCode(registers, ins, outs) => { self.body.begin(registers, ins, outs); self.stage = Stage::Insns; Ok(true) }
-            Line::EndCode => { self.end_code(alloc)?; Ok(true) }
-            Line::Insn(insn) => { self.body.put_insn(insn)?; self.stage = Stage::Insns; Ok(true) }
-            Line::Try(from, to) => { self.body.put_try(alloc, self.stage, from, to)?; self.stage = Stage::Caught; Ok(true) }
-            Line::Catch(ty, at) => { self.body.put_catch(ty, at)?; self.stage = Stage::Caught; Ok(true) }
-            Line::CatchAll(at) => { self.body.end_try(alloc, Some(at))?; self.stage = Stage::Tries; Ok(true) }
+            Line::First => Ok(self.begin()),
+            Line::OpenClass(ty, flags) => Ok(self.open_class(ty, flags)),
+            Line::EndClass => self.end_class(arena),
+            Line::OpenCode(registers, ins, outs) => Ok(self.open_code(registers, ins, outs)),
+            Line::EndCode => self.end_code(arena),
+            _ => self.block.add(arena, self.lines, next),
         }
     }
 }

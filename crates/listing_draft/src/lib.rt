@@ -7,12 +7,14 @@
 //! ```
 #![tactic(auto)]
 
+mod block;
 mod close;
 mod draft;
 mod open_class;
 mod open_code;
 
+pub use block::Block;
 pub use close::Given;
 pub use draft::Draft;
-pub use open_class::{Defined, FieldKey, MethodKey, Open, Static};
-pub use open_code::Body;
+pub use open_class::{ClassPart, Defined, FieldKey, InClass, MethodKey, Open, Owner, Static};
+pub use open_code::{Body, CodePart, InCode, OpenTry};

@@ -6,6 +6,7 @@ ghost use Rattle.base_bytes.specs.Fault.{memory};
 use crate::close::set_code;
 use dex_base::Fault;
 use indexmap::IndexSet;
+use listing_lines::Line;
 use program_types::{Code, Desc, Member, Method, Proto, Str, Value};
 use std::alloc::Global;
 use std::collections::BTreeMap;
@@ -44,24 +45,46 @@ pub struct Open<'a> {
     pub virtuals: BTreeMap<MethodKey<'a>, Defined<'a>>,
 }
 
+/// The method that a code belongs to.
+#[derive(Clone, Copy)]
+pub struct Owner<'a> {
+    pub direct: bool,
+    pub name: Str<'a>,
+    pub proto: &'a Proto<'a>,
+}
+
+/// How far the lines of a class have come.
+#[derive(Clone, Copy)]
+pub enum ClassPart<'a> {
+    /// Before its members.
+    Heads,
+    /// Among them.
+    Members,
+    /// Behind a method, whose code may follow.
+    Behind(Owner<'a>),
+}
+
+/// A class among whose lines the next one stands.
+#[derive(Drop)]
+pub struct InClass<'a> {
+    pub open: Open<'a>,
+    pub part: ClassPart<'a>,
+}
+
 impl<'a> Open<'a> {
-    ghost use Rattle.program_types.specs.View.{desc, str, proto, member, method, value, code};
+    ghost use Rattle.program_types.specs.View.{desc, str, member, method, value, code};
     ghost use Rattle.listing_draft.specs.States.{opened, with_superclass, with_source, with_interface, with_static, with_instance, with_direct, with_virtual, with_code_at};
-    ghost use Rattle.std.specs.Prelude.{[], ◌∷◌};
-    ghost use Rattle.program_types.specs.Key.{proto_key};
-    ghost use Rattle.listing_draft.specs.View.{open_class};
+    ghost use Rattle.listing_draft.specs.View.{open_class, owner};
     ghost use Rattle.std.specs.Prelude.{option_map};
 
-    /// No class.
+    /// A class without anything.
     #[tactic(auto, unfolding(crate::specs::View::open_class))]
-    pub(crate) fn new(alloc: Global) -> Open<'a>
-        ensures { open_class result ≡ opened [] 0 }
+    pub(crate) fn new(alloc: Global, ty: Desc<'a>, flags: u32) -> Open<'a>
+        ensures { open_class result ≡ opened (desc ty.entry) flags }
     {
         Open {
-            ty: Desc {
-                text: Str { units: &[] },
-            },
-            flags: 0,
+            ty,
+            flags,
             superclass: None,
             interfaces: IndexSet::new(alloc),
             source: None,
@@ -72,24 +95,8 @@ impl<'a> Open<'a> {
         }
     }
 
-    /// A class without anything.
-    #[tactic(auto, unfolding(crate::specs::View::open_class))]
-    pub(crate) fn begin(&mut self, ty: Desc<'a>, flags: u32)
-        ensures { open_class self.new ≡ opened (desc ty.entry) flags }
-    {
-        self.ty = ty;
-        self.flags = flags;
-        self.superclass = None;
-        self.interfaces.clear();
-        self.source = None;
-        self.statics.clear();
-        self.instances.clear();
-        self.directs.clear();
-        self.virtuals.clear();
-    }
-
     #[tactic(auto, unfolding(crate::specs::View::open_class, crate::specs::States::with_superclass))]
-    pub(crate) fn put_superclass(&mut self, ty: Desc<'a>) -> bool
+    fn put_superclass(&mut self, ty: Desc<'a>) -> bool
         ensures { MatchBool result
             (with_superclass (open_class self.old) (desc ty.entry) ≡ Some (open_class self.new))
             (with_superclass (open_class self.old) (desc ty.entry) ≡ None) }
@@ -102,7 +109,7 @@ impl<'a> Open<'a> {
     }
 
     #[tactic(auto, unfolding(crate::specs::View::open_class, crate::specs::States::with_source))]
-    pub(crate) fn put_source(&mut self, text: Str<'a>) -> bool
+    fn put_source(&mut self, text: Str<'a>) -> bool
         ensures { MatchBool result
             (with_source (open_class self.old) (str text.entry) ≡ Some (open_class self.new))
             (with_source (open_class self.old) (str text.entry) ≡ None) }
@@ -115,7 +122,7 @@ impl<'a> Open<'a> {
     }
 
     #[tactic(auto, unfolding(crate::specs::View::open_class, crate::specs::States::with_interface))]
-    pub(crate) fn put_interface(&mut self, ty: Desc<'a>) -> Result<bool, Fault>
+    fn put_interface(&mut self, ty: Desc<'a>) -> Result<bool, Fault>
         ensures put { IfOk result (λ yes. MatchBool yes
             (with_interface (open_class self.old) (desc ty.entry) ≡ Some (open_class self.new))
             (with_interface (open_class self.old) (desc ty.entry) ≡ None)) }
@@ -125,11 +132,7 @@ impl<'a> Open<'a> {
     }
 
     #[tactic(auto, unfolding(crate::specs::View::open_class, crate::specs::States::with_static))]
-    pub(crate) fn put_static(
-        &mut self,
-        field: Member<'a>,
-        initial: Option<Value<'a>>,
-    ) -> Result<bool, Fault>
+    fn put_static(&mut self, field: Member<'a>, initial: Option<Value<'a>>) -> Result<bool, Fault>
         ensures put { IfOk result (λ yes. MatchBool yes
             (with_static (open_class self.old) (record { field = member field.entry; value = option_map value initial.entry }) ≡ Some (open_class self.new))
             (with_static (open_class self.old) (record { field = member field.entry; value = option_map value initial.entry }) ≡ None)) }
@@ -144,7 +147,7 @@ impl<'a> Open<'a> {
     }
 
     #[tactic(auto, unfolding(crate::specs::View::open_class, crate::specs::States::with_instance))]
-    pub(crate) fn put_instance(&mut self, field: Member<'a>) -> Result<bool, Fault>
+    fn put_instance(&mut self, field: Member<'a>) -> Result<bool, Fault>
         ensures put { IfOk result (λ yes. MatchBool yes
             (with_instance (open_class self.old) (member field.entry) ≡ Some (open_class self.new))
             (with_instance (open_class self.old) (member field.entry) ≡ None)) }
@@ -155,7 +158,7 @@ impl<'a> Open<'a> {
     }
 
     #[tactic(auto, unfolding(crate::specs::View::open_class, crate::specs::States::with_direct))]
-    pub(crate) fn put_direct(&mut self, new: Method<'a>) -> Result<bool, Fault>
+    fn put_direct(&mut self, new: Method<'a>) -> Result<bool, Fault>
         ensures put { IfOk result (λ yes. MatchBool yes
             (with_direct (open_class self.old) (method new.entry) ≡ Some (open_class self.new))
             (with_direct (open_class self.old) (method new.entry) ≡ None)) }
@@ -170,7 +173,7 @@ impl<'a> Open<'a> {
     }
 
     #[tactic(auto, unfolding(crate::specs::View::open_class, crate::specs::States::with_virtual))]
-    pub(crate) fn put_virtual(&mut self, new: Method<'a>) -> Result<bool, Fault>
+    fn put_virtual(&mut self, new: Method<'a>) -> Result<bool, Fault>
         ensures put { IfOk result (λ yes. MatchBool yes
             (with_virtual (open_class self.old) (method new.entry) ≡ Some (open_class self.new))
             (with_virtual (open_class self.old) (method new.entry) ≡ None)) }
@@ -184,21 +187,48 @@ impl<'a> Open<'a> {
         Ok(old.is_none())
     }
 
-    /// The method with this name and prototype has the code.
+    /// The method that the code belongs to has it.
     #[tactic(auto, unfolding(crate::specs::View::open_class))]
-    pub(crate) fn put_code(
-        &mut self,
-        direct: bool,
-        name: Str<'a>,
-        prototype: &'a Proto<'a>,
-        whole: &'a Code<'a>,
-    )
-        ensures { open_class self.new ≡ with_code_at (open_class self.old) direct (str name.entry ∷ proto_key (proto prototype.now)) (code whole.now) }
+    pub(crate) fn put_code(&mut self, of: Owner<'a>, whole: &'a Code<'a>)
+        ensures { open_class self.new ≡ with_code_at (open_class self.old) (owner of.entry) (code whole.now) }
     {
-        if direct {
-            set_code(&mut self.directs, name, prototype, whole);
+        if of.direct {
+            set_code(&mut self.directs, of.name, of.proto, whole);
             return;
         }
-        set_code(&mut self.virtuals, name, prototype, whole);
+        set_code(&mut self.virtuals, of.name, of.proto, whole);
+    }
+}
+
+impl<'a> InClass<'a> {
+    ghost use Rattle.listing_lines.specs.LineView.{line};
+    ghost use Rattle.listing_draft.specs.States.{class_line};
+    ghost use Rattle.listing_draft.specs.View.{open_class, class_part};
+
+    /// A line of the class alone; false where what it gives is given already, or where it is of another kind.
+    #[rattlefmt::skip]
+    pub(crate) fn add(&mut self, next: Line<'a>) -> Result<bool, Fault>
+        ensures added { IfOk result (λ yes. MatchBool yes
+            (class_line (open_class self.old.open) (line next.entry)
+            ≡ Some (open_class self.new.open, class_part self.new.part))
+            (class_line (open_class self.old.open) (line next.entry) ≡ None)) }
+        ensures memory { IsOkUnless result memory }
+    {
+        match next {
+            Line::Super(ty) => { self.part = ClassPart::Heads; Ok(self.open.put_superclass(ty)) }
+            Line::Implements(ty) => { self.part = ClassPart::Heads; self.open.put_interface(ty) }
+            Line::Source(text) => { self.part = ClassPart::Heads; Ok(self.open.put_source(text)) }
+            Line::Static(field, value) => { self.part = ClassPart::Members; self.open.put_static(field, value) }
+            Line::Instance(field) => { self.part = ClassPart::Members; self.open.put_instance(field) }
+            Line::Direct(new) => {
+                self.part = ClassPart::Behind(Owner { direct: true, name: new.name, proto: new.proto });
+                self.open.put_direct(new)
+            }
+            Line::Virtual(new) => {
+                self.part = ClassPart::Behind(Owner { direct: false, name: new.name, proto: new.proto });
+                self.open.put_virtual(new)
+            }
+            _ => Ok(false),
+        }
     }
 }

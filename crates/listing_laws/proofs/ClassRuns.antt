@@ -9,16 +9,15 @@ use Rattle.std.proofs.lemmas.List.{append-nil}
 use Rattle.program_types.specs.Content.{Class, Program}
 use Rattle.program_rules.specs.WellFormed.{WellFormed}
 use Rattle.listing_lines.specs.Lines.{first_line, end_class, instance_line}
-use Rattle.listing_lines.specs.declared.stage.Stage.TheVariants.{Top, Heads}
 use Rattle.listing_lines.specs.Places.{may_stand}
-use Rattle.listing_draft.specs.States.{State, Open, Body, start, placed, closed}
+use Rattle.listing_draft.specs.States.{State, Open, at_heads, start, add, closed}
 use Rattle.listing_parse.specs.Text.{aside, IsListing}
 use Rattle.listing_words.specs.Words.{Word, plain_word, IsWritable, line_bytes}
 use Rattle.listing_words.proofs.PrintLaws.{line_again}
 use Rattle.listing_slots.proofs.ShownLaws.{word_written}
 use Rattle.listing_print.specs.Printed.{keyed_text}
 use Rattle.listing_print.specs.Canon.{statics_text, direct_text, virtual_text, heads_text, fields_text, methods_text, class_text, first_text, text_in}
-use Rattle.listing_laws.proofs.Runs.{bare, RunsInto, RunsTo, in_stage}
+use Rattle.listing_laws.proofs.Runs.{bare, RunsInto, RunsTo, outside, within, class_goes_on}
 use Rattle.listing_laws.proofs.Printable.{givens, ClassFits, IsPrintable}
 use Rattle.listing_laws.proofs.ClassRules.{printable}
 use Rattle.listing_laws.proofs.RunLaws.{runs_joined, runs_join, runs_whole, line_runs, words_line}
@@ -39,22 +38,22 @@ fields_of c = record (heads_of c) { statics = givens c.statics c.values; instanc
 abbrev whole : Class → Open
 whole c = record (fields_of c) { directs = c.directs; virtuals = c.virtuals }
 
-fields_run : (form : Form) (done : List Class) (b : Body) (n : ℕ) (c : Class) → ClassFits c → InClass form done (in_stage Heads done (heads_of c) None b n) (fields_text c) (fields_of c)
-fields_run form done b n c f =
-    let x = statics_run form done (heads_of c) c.statics c.values Heads b n refl f.statics f.statics_rise in
+fields_run : (form : Form) (done : List Class) (n : ℕ) (c : Class) → ClassFits c → InClass form done (within at_heads done (heads_of c) None n) (fields_text c) (fields_of c)
+fields_run form done n c f =
+    let x = statics_run form done (heads_of c) c.statics c.values at_heads n f.statics f.statics_rise in
     let o = record (heads_of c) { statics = givens c.statics c.values } in
-    in_then form done (in_stage Heads done (heads_of c) None b n) (statics_text c.statics c.values) (flat_map (λ m. keyed_text (instance_line m)) c.instances) o (fields_of c) x
-    (instances_run form done o c.instances x.stage x.body x.lines x.in_class f.instances f.instances_rise)
+    in_then form done (within at_heads done (heads_of c) None n) (statics_text c.statics c.values) (flat_map (λ m. keyed_text (instance_line m)) c.instances) o (fields_of c) x
+    (instances_run form done o c.instances x.part x.lines f.instances f.instances_rise)
 
-members_run : (form : Form) (done : List Class) (b : Body) (n : ℕ) (c : Class) → ClassFits c → InClass form done (in_stage Heads done (heads_of c) None b n) (fields_text c ++ (methods_text form) c) (whole c)
-members_run form done b n c f =
-    let s = in_stage Heads done (heads_of c) None b n in
-    let x = fields_run form done b n c f in
-    let y = directs_run form done (fields_of c) c.directs x.stage x.body x.lines x.in_class f.directs f.directs_rise in
+members_run : (form : Form) (done : List Class) (n : ℕ) (c : Class) → ClassFits c → InClass form done (within at_heads done (heads_of c) None n) (fields_text c ++ (methods_text form) c) (whole c)
+members_run form done n c f =
+    let s = within at_heads done (heads_of c) None n in
+    let x = fields_run form done n c f in
+    let y = directs_run form done (fields_of c) c.directs x.part x.lines f.directs f.directs_rise in
     let o = record (fields_of c) { directs = c.directs } in
-    let z = virtuals_run form done o c.virtuals y.stage y.body y.lines y.in_class f.virtuals f.virtuals_rise in
+    let z = virtuals_run form done o c.virtuals y.part y.lines f.virtuals f.virtuals_rise in
     in_then form done s (fields_text c) ((methods_text form) c) (fields_of c) (whole c) x
-    (in_then form done (in_stage x.stage done (fields_of c) None x.body x.lines) (flat_map (direct_text form) c.directs) (flat_map (virtual_text form) c.virtuals) o (whole c) y z)
+    (in_then form done (within x.part done (fields_of c) None x.lines) (flat_map (direct_text form) c.directs) (flat_map (virtual_text form) c.virtuals) o (whole c) y z)
 
 -- what is closed is the class
 closed_again : (c : Class) → ClassFits c → closed (whole c) ≡ c
@@ -62,52 +61,50 @@ closed_again c f = rw (fields_again c.statics c.values, values_again c.statics c
 
 -- From state s, the text leads behind these classes.
 record Behind (form : Form) (s : State) (text : List ℕ) (cs : List Class) : Type 0 where
-  current : Open
-  body : Body
   lines : ℕ
-  runs : RunsTo (bare form) s text (in_stage Top cs current None body lines)
+  runs : RunsTo (bare form) s text (outside cs lines)
 
-end_runs : (form : Form) (done : List Class) (s : State) (text : List ℕ) (o : Open) (x : InClass form done s text o) → RunsTo (bare form) (in_stage x.stage done o None x.body x.lines) (keyed_text end_class) (in_stage Top (done ++ closed o ∷ []) o None x.body (x.lines + 1))
-unfolding placed may_stand
-end_runs form done s text o x = keyed_runs form (in_stage x.stage done o None x.body x.lines) (in_stage Top (done ++ closed o ∷ []) o None x.body (x.lines + 1)) end_class tt tt (refl, tt) x.in_class refl
+end_runs : (form : Form) (done : List Class) (s : State) (text : List ℕ) (o : Open) (x : InClass form done s text o) → RunsTo (bare form) (within x.part done o None x.lines) (keyed_text end_class) (outside (done ++ closed o ∷ []) (x.lines + 1))
+unfolding add may_stand
+end_runs form done s text o x = keyed_runs form (within x.part done o None x.lines) (outside (done ++ closed o ∷ []) (x.lines + 1)) end_class tt tt (refl, tt) (class_goes_on x.part) refl
 
-class_runs : (form : Form) (done : List Class) (o : Open) (b : Body) (n : ℕ) (c : Class) → ClassFits c → Behind form (in_stage Top done o None b n) ((class_text form) c) (done ++ c ∷ [])
-class_runs form done o b n c f =
-    let s = in_stage Top done o None b n in
-    let h = heads_run form done o b n c f in
-    let t = in_stage Heads done (heads_of c) None b h.0 in
-    let x = members_run form done b h.0 c f in
-    let u = in_stage x.stage done (whole c) None x.body x.lines in
-    let v = in_stage Top (done ++ closed (whole c) ∷ []) (whole c) None x.body (x.lines + 1) in
+class_runs : (form : Form) (done : List Class) (n : ℕ) (c : Class) → ClassFits c → Behind form (outside done n) ((class_text form) c) (done ++ c ∷ [])
+class_runs form done n c f =
+    let s = outside done n in
+    let h = heads_run form done n c f in
+    let t = within at_heads done (heads_of c) None h.0 in
+    let x = members_run form done h.0 c f in
+    let u = within x.part done (whole c) None x.lines in
+    let v = outside (done ++ closed (whole c) ∷ []) (x.lines + 1) in
     let e = end_runs form done t (fields_text c ++ (methods_text form) c) (whole c) x in
     let r = runs_join (bare form) t u v (fields_text c ++ (methods_text form) c) (keyed_text end_class) x.runs e in
     let q = subst (λ (text : List ℕ). RunsTo (bare form) t text v) (append_assoc (fields_text c) ((methods_text form) c) (keyed_text end_class)) r in
     let w = runs_join (bare form) s t v (heads_text c) (fields_text c ++ ((methods_text form) c ++ keyed_text end_class)) h.1 q in
-    subst (λ (d : Class). Behind form s ((class_text form) c) (done ++ d ∷ [])) (closed_again c f) (record { current = whole c; body = x.body; lines = x.lines + 1; runs = w })
+    subst (λ (d : Class). Behind form s ((class_text form) c) (done ++ d ∷ [])) (closed_again c f) (record { lines = x.lines + 1; runs = w })
 
-classes_run : (form : Form) (cs done : List Class) (o : Open) (b : Body) (n : ℕ) → IsPrintable cs → Behind form (in_stage Top done o None b n) (flat_map (class_text form) cs) (done ++ cs)
-classes_run form [] done o b n f =
-    let s = in_stage Top done o None b n in
-    subst (λ (ds : List Class). Behind form s [] ds) (sym (append-nil done)) (record { current = o; body = b; lines = n; runs = nothing_runs (bare form) s })
-classes_run form (c ∷ cs) done o b n f =
-    let s = in_stage Top done o None b n in
-    let x = class_runs form done o b n c f.0 in
-    let y = classes_run form cs (done ++ c ∷ []) x.current x.body x.lines f.1 in
-    let t = in_stage Top (done ++ c ∷ []) x.current None x.body x.lines in
-    let u = in_stage Top ((done ++ c ∷ []) ++ cs) y.current None y.body y.lines in
+classes_run : (form : Form) (cs done : List Class) (n : ℕ) → IsPrintable cs → Behind form (outside done n) (flat_map (class_text form) cs) (done ++ cs)
+classes_run form [] done n f =
+    let s = outside done n in
+    subst (λ (ds : List Class). Behind form s [] ds) (sym (append-nil done)) (record { lines = n; runs = nothing_runs (bare form) s })
+classes_run form (c ∷ cs) done n f =
+    let s = outside done n in
+    let x = class_runs form done n c f.0 in
+    let y = classes_run form cs (done ++ c ∷ []) x.lines f.1 in
+    let t = outside (done ++ c ∷ []) x.lines in
+    let u = outside ((done ++ c ∷ []) ++ cs) y.lines in
     let r = runs_join (bare form) s t u ((class_text form) c) (flat_map (class_text form) cs) x.runs y.runs in
-    subst (λ (ds : List Class). Behind form s (flat_map (class_text form) (c ∷ cs)) ds) (append_assoc done (c ∷ []) cs) (record { current = y.current; body = y.body; lines = y.lines; runs = r })
+    subst (λ (ds : List Class). Behind form s (flat_map (class_text form) (c ∷ cs)) ds) (append_assoc done (c ∷ []) cs) (record { lines = y.lines; runs = r })
 
 -- ---- the first line
 
 second_first : List Word
 second_first = plain_word (codes "dex") ∷ plain_word (codes "035") ∷ plain_word (codes "listing") ∷ plain_word (codes "2") ∷ []
 
-first_runs : (form : Form) → RunsInto (bare One) start (first_text form) (bare form) (in_stage Top [] start.current None start.body 1)
-unfolding placed may_stand key_text same aside second_first
-first_runs One = keyed_runs One start (in_stage Top [] start.current None start.body 1) first_line tt tt (refl, tt) refl refl
+first_runs : (form : Form) → RunsInto (bare One) start (first_text form) (bare form) (outside [] 1)
+unfolding add may_stand key_text same aside second_first
+first_runs One = keyed_runs One start (outside [] 1) first_line tt tt (refl, tt) refl refl
 first_runs Two =
-    let t = in_stage Top [] start.current None start.body 1 in
+    let t = outside [] 1 in
     let w : AllByRecursion IsWritable second_first = (word_written (codes "dex") refl, (word_written (codes "035") refl, (word_written (codes "listing") refl, (word_written (codes "2") refl, tt)))) in
     line_runs (bare One) (bare Two) start t (line_bytes second_first) (words_line (plain_word (codes "dex")) (plain_word (codes "035") ∷ plain_word (codes "listing") ∷ plain_word (codes "2") ∷ []) w.0 w.1)
     (λ ls. inr (refl, record { words = second_first; has_words = line_again second_first w; makes = inl (refl, refl) }))
@@ -116,8 +113,8 @@ first_runs Two =
 
 pub printed_again : (form : Form) (p : Program) → WellFormed p → IsListing (text_in form p) p
 printed_again form p h =
-    let x = classes_run form p [] start.current start.body 1 (printable p h) in
-    let s = in_stage Top [] start.current None start.body 1 in
-    let t = in_stage Top p x.current None x.body x.lines in
+    let x = classes_run form p [] 1 (printable p h) in
+    let s = outside [] 1 in
+    let t = outside p x.lines in
     let r = runs_joined (bare One) (bare form) (bare form) start s t (first_text form) (flat_map (class_text form) p) (first_runs form) x.runs in
     runs_whole (bare form) (text_in form p) p t r refl refl refl h

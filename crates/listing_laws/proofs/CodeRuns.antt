@@ -10,7 +10,7 @@ use Rattle.listing_lines.specs.declared.form.Form.{Form}
 use Rattle.listing_lines.specs.declared.form.Form.TheVariants.{One, Two}
 use Rattle.listing_lines.specs.Needs.{Need, with_need, insn_needs}
 use Rattle.listing_lines.specs.Places.{is_insns}
-use Rattle.listing_draft.specs.States.{State, Open, Body, placed, counted}
+use Rattle.listing_draft.specs.States.{State, Open, Body, stage_of, counted, add, inside}
 use Rattle.listing_labels.specs.Labels.{Label, lookup}
 use Rattle.listing_parse.specs.Text.{aside}
 use Rattle.listing_parse.specs.declared.aside.Aside.TheVariants.{Mark}
@@ -18,7 +18,7 @@ use Rattle.listing_print.specs.Operands.{insn_operands, label_name}
 use Rattle.listing_print.specs.Printed.{insn_text, label_text}
 use Rattle.listing_print.specs.Canon.{insn_numbers, is_named, mark_text, insns_text}
 use Rattle.listing_print.specs.Reading.{FitOperands, OpcodeFits}
-use Rattle.listing_laws.proofs.Runs.{Frame, RunsTo, NeedsFit, at_insns, frame, at}
+use Rattle.listing_laws.proofs.Runs.{Frame, RunsTo, NeedsFit, among, frame, at}
 use Rattle.listing_laws.proofs.Printable.{InstructionsFit}
 use Rattle.listing_laws.proofs.RunLaws.{runs_join, line_runs}
 use Rattle.listing_laws.proofs.FormWords.{TargetsAreMarked, label_written, named_label}
@@ -31,11 +31,11 @@ nothing_runs f s rest u r = r
 
 -- ---- the line of a label
 
-label_is_mark : (es : List Label) (s : State) (k : ℕ) → k < 2 ^ 64 → is_insns s.stage ≡ true → lookup (label_name k) es ≡ Some (label_of s.lines k) → aside (at (frame Two es) (counted s)) (plain_word (label_name k) ∷ []) ≡ Mark
+label_is_mark : (es : List Label) (s : State) (k : ℕ) → k < 2 ^ 64 → is_insns (stage_of s.block) ≡ true → lookup (label_name k) es ≡ Some (label_of s.lines k) → aside (at (frame Two es) (counted s)) (plain_word (label_name k) ∷ []) ≡ Mark
 unfolding aside
 label_is_mark es s k h m e = rw (m, named_label k h, e, eq-eqb (s.lines + 1) (s.lines + 1) refl) refl
 
-label_runs : (es : List Label) (s : State) (k : ℕ) → k < 2 ^ 64 → is_insns s.stage ≡ true → lookup (label_name k) es ≡ Some (label_of s.lines k) → RunsTo (frame Two es) s (label_text k) (counted s)
+label_runs : (es : List Label) (s : State) (k : ℕ) → k < 2 ^ 64 → is_insns (stage_of s.block) ≡ true → lookup (label_name k) es ≡ Some (label_of s.lines k) → RunsTo (frame Two es) s (label_text k) (counted s)
 label_runs es s k h m e =
     let f = frame Two es in
     line_runs f f s (counted s) (label_name k) (label_is_line k h)
@@ -54,11 +54,11 @@ before_insn One ns n k = n
 before_insn Two ns n k = past_mark ns n k
 
 mark_runs : (form : Form) (ns : List ℕ) (es : List Label) (done : List Class) (o : Open) (late : Option ℕ) (is : List Insn) (b : Body) (n k : ℕ) → k < 2 ^ 64 → AreAhead form ns es n k is
-    → RunsTo (frame form es) (at_insns done o late b n) (mark_text form ns k) (at_insns done o late b (before_insn form ns n k))
-mark_runs One ns es done o late is b n k h a = nothing_runs (frame One es) (at_insns done o late b n)
+    → RunsTo (frame form es) (among done o late b n) (mark_text form ns k) (among done o late b (before_insn form ns n k))
+mark_runs One ns es done o late is b n k h a = nothing_runs (frame One es) (among done o late b n)
 mark_runs Two ns es done o late is b n k h a = elim (cases_bool (is_named ns k)) [
-  | inl y ↦ rw y (label_runs es (at_insns done o late b n) k h refl (ap (lookup (label_name k)) a.2 ∙ found_first ns is a.0 n k a.1 h y))
-  | inr x ↦ rw x (nothing_runs (frame Two es) (at_insns done o late b n))
+  | inl y ↦ rw y (label_runs es (among done o late b n) k h refl (ap (lookup (label_name k)) a.2 ∙ found_first ns is a.0 n k a.1 h y))
+  | inr x ↦ rw x (nothing_runs (frame Two es) (among done o late b n))
 ]
 
 ahead_next : (form : Form) (ns : List ℕ) (es : List Label) (n k : ℕ) (i : Insn) (is : List Insn) → k < 2 ^ 64 → AreAhead form ns es n k (i ∷ is) → AreAhead form ns es (before_insn form ns n k + 1) (k + 1) is
@@ -84,28 +84,28 @@ with_insn_more : Body → Insn → ℕ → Body
 with_insn_more b i n = record b { needs = with_need b.needs (n + 1) (insn_needs i); insns = b.insns ++ i ∷ [] }
 
 step : (form : Form) (es : List Label) (done : List Class) (o : Open) (late : Option ℕ) (b : Body) (n k : ℕ) (i : Insn) → k < 2 ^ 64 → OpcodeFits i → FitOperands (insn_operands i) → TargetsAreMarked form es (insn_operands i) → length b.insns ≡ k
-    → RunsTo (frame form es) (at_insns done o late b n) (insn_text form k i) (at_insns done o late (with_insn_more b i n) (n + 1))
-unfolding placed with_insn_more
-step form es done o late b n k i h c f g e = insn_runs form es (at_insns done o late b n) (at_insns done o late (with_insn_more b i n) (n + 1)) k i h c f g refl e refl
+    → RunsTo (frame form es) (among done o late b n) (insn_text form k i) (among done o late (with_insn_more b i n) (n + 1))
+unfolding add inside with_insn_more
+step form es done o late b n k i h c f g e = insn_runs form es (among done o late b n) (among done o late (with_insn_more b i n) (n + 1)) k i h c f g refl e refl
 
 pub insns_run : (form : Form) (ns : List ℕ) (es : List Label) (done : List Class) (o : Open) (late : Option ℕ) (is : List Insn) (b : Body) (n k c : ℕ) → k + length is < 2 ^ 64 → InstructionsFit c is → MarkAll form ns es c
     → AllByRecursion (λ i. AreNamed ns (insn_numbers i)) is → AreAhead form ns es n k is → length b.insns ≡ k → NeedsFit c b.needs
-    → (m : ℕ) × (needs : List Need) × RunsTo (frame form es) (at_insns done o late b n) (insns_text form ns k is) (at_insns done o late (record b { insns = b.insns ++ is; needs = needs }) m) × NeedsFit c needs
+    → (m : ℕ) × (needs : List Need) × RunsTo (frame form es) (among done o late b n) (insns_text form ns k is) (among done o late (record b { insns = b.insns ++ is; needs = needs }) m) × NeedsFit c needs
 unfolding with_insn_more
 insns_run form ns es done o late [] b n k c h f m y a e w =
     let p = before_insn form ns n k in
-    let s = at_insns done o late b n in
-    (p, b.needs, subst (λ (x : List Insn). RunsTo (frame form es) s (mark_text form ns k) (at_insns done o late (record b { insns = x; needs = b.needs }) p)) (sym (append-nil b.insns)) (mark_runs form ns es done o late [] b n k (omega arith) a), w)
+    let s = among done o late b n in
+    (p, b.needs, subst (λ (x : List Insn). RunsTo (frame form es) s (mark_text form ns k) (among done o late (record b { insns = x; needs = b.needs }) p)) (sym (append-nil b.insns)) (mark_runs form ns es done o late [] b n k (omega arith) a), w)
 insns_run form ns es done o late (i ∷ is) b n k c h f m y a e w =
     let p = before_insn form ns n k in
     let g = frame form es in
-    let s = at_insns done o late b n in
-    let t = at_insns done o late b p in
+    let s = among done o late b n in
+    let t = among done o late b p in
     let d = with_insn_more b i p in
-    let u = at_insns done o late d (p + 1) in
+    let u = among done o late d (p + 1) in
     let q = mark_runs form ns es done o late (i ∷ is) b n k (omega arith) a in
     let x = step form es done o late b p k i (omega arith) f.0.0 f.0.1 (insn_marked form ns es c i m f.0.1 f.0.2 y.0) e in
     let z = insns_run form ns es done o late is d (p + 1) (k + 1) c (omega arith) f.1 m y.1 (ahead_next form ns es n k i is (omega arith) a) (one_more b.insns i k e) (need_fits c b.needs (p + 1) (insn_needs i) f.0.2 w) in
-    let v = at_insns done o late (record d { insns = d.insns ++ is; needs = z.1 }) z.0 in
+    let v = among done o late (record d { insns = d.insns ++ is; needs = z.1 }) z.0 in
     let r = runs_join g s t v (mark_text form ns k) (insn_text form k i ++ insns_text form ns (k + 1) is) q (runs_join g t u v (insn_text form k i) (insns_text form ns (k + 1) is) x z.2) in
-    (z.0, z.1, subst (λ (l : List Insn). RunsTo g s (insns_text form ns k (i ∷ is)) (at_insns done o late (record b { insns = l; needs = z.1 }) z.0)) (append_assoc b.insns (i ∷ []) is) r, z.3)
+    (z.0, z.1, subst (λ (l : List Insn). RunsTo g s (insns_text form ns k (i ∷ is)) (among done o late (record b { insns = l; needs = z.1 }) z.0)) (append_assoc b.insns (i ∷ []) is) r, z.3)

@@ -6,16 +6,14 @@ use Rattle.program_types.specs.Content.{Value, Member, Class}
 use Rattle.program_types.specs.Key.{Key}
 use Rattle.program_rules.specs.Rules.{member_key}
 use Rattle.listing_lines.specs.Lines.{static_line, instance_line}
-use Rattle.listing_lines.specs.declared.stage.Stage.{Stage}
-use Rattle.listing_lines.specs.declared.stage.Stage.TheVariants.{Members}
 use Rattle.listing_lines.specs.Places.{may_stand, is_in_class}
 use Rattle.listing_draft.specs.Members.{Given, given_key, given_length, value_or_zero, values_of}
-use Rattle.listing_draft.specs.States.{State, Open, Body, placed, counted, noted, with_static, with_instance}
+use Rattle.listing_draft.specs.States.{State, Open, ClassPart, at_members, stage_of, counted, add, inside, with_static, with_instance}
 use Rattle.listing_print.specs.Printed.{line_operands, keyed_text}
 use Rattle.listing_print.specs.Canon.{statics_text}
 use Rattle.listing_print.specs.Reading.{FitOperands}
 use Rattle.listing_lines.specs.declared.form.Form.{Form}
-use Rattle.listing_laws.proofs.Runs.{bare, RunsTo, in_stage}
+use Rattle.listing_laws.proofs.Runs.{bare, RunsTo, within, class_goes_on}
 use Rattle.listing_laws.proofs.Printable.{KeysAreSorted, AllBelow, FieldFits, GivenFits, givens}
 use Rattle.listing_laws.proofs.KeyedLaws.{keyed_runs}
 use Rattle.listing_laws.proofs.InClass.{InClass, with_last, each_runs}
@@ -25,44 +23,44 @@ use Rattle.listing_laws.proofs.InClass.{InClass, with_last, each_runs}
 abbrev with_instances : Open → List Member → Open
 with_instances o ms = record o { instances = ms }
 
-instance_goes_last : (s : State) (m : Member) → AllBelow (map member_key s.current.instances) (member_key m)
-    → placed s (instance_line m) ≡ Some (record s { stage = Members; current = record s.current { instances = s.current.instances ++ m ∷ [] } })
-unfolding placed with_instance
-instance_goes_last s m h = rw (with_last member_key m s.current.instances h) refl
+instance_goes_last : (p : ClassPart) (done : List Class) (o : Open) (n : ℕ) (m : Member) → AllBelow (map member_key o.instances) (member_key m)
+    → add (within p done o None n) (instance_line m) ≡ Some (within at_members done (record o { instances = o.instances ++ m ∷ [] }) None n)
+unfolding add inside with_instance
+instance_goes_last p done o n m h = rw (with_last member_key m o.instances h) refl
 
-instance_step : (form : Form) (done : List Class) (o : Open) (st : Stage) (b : Body) (n : ℕ) (before : List Member) (m : Member) → is_in_class st ≡ true → FieldFits m → AllBelow (map member_key before) (member_key m)
-    → InClass form done (in_stage st done (with_instances o before) None b n) (keyed_text (instance_line m)) (with_instances o (before ++ m ∷ []))
+instance_step : (form : Form) (done : List Class) (o : Open) (p : ClassPart) (n : ℕ) (before : List Member) (m : Member) → FieldFits m → AllBelow (map member_key before) (member_key m)
+    → InClass form done (within p done (with_instances o before) None n) (keyed_text (instance_line m)) (with_instances o (before ++ m ∷ []))
 unfolding may_stand
-instance_step form done o st b n before m k f h =
-    let s = in_stage st done (with_instances o before) None b n in
-    let t = in_stage Members done (with_instances o (before ++ m ∷ [])) None b (n + 1) in
-    record { stage = Members; body = b; lines = n + 1; runs = keyed_runs form s t (instance_line m) tt tt f k (instance_goes_last (noted (counted s) (instance_line m)) m h); in_class = refl }
+instance_step form done o p n before m f h =
+    let s = within p done (with_instances o before) None n in
+    let t = within at_members done (with_instances o (before ++ m ∷ [])) None (n + 1) in
+    record { part = at_members; lines = n + 1; runs = keyed_runs form s t (instance_line m) tt tt f (class_goes_on p) (instance_goes_last p done (with_instances o before) (n + 1) m h) }
 
-pub instances_run : (form : Form) (done : List Class) (o : Open) (ms : List Member) (st : Stage) (b : Body) (n : ℕ) → is_in_class st ≡ true → AllByRecursion FieldFits ms → KeysAreSorted (map member_key ms)
-    → InClass form done (in_stage st done (with_instances o []) None b n) (flat_map (λ m. keyed_text (instance_line m)) ms) (with_instances o ms)
-instances_run form done o ms st b n k f s = each_runs form done (λ (m : Member). keyed_text (instance_line m)) (with_instances o) FieldFits member_key (instance_step form done o) ms [] st b n k f s
+pub instances_run : (form : Form) (done : List Class) (o : Open) (ms : List Member) (p : ClassPart) (n : ℕ) → AllByRecursion FieldFits ms → KeysAreSorted (map member_key ms)
+    → InClass form done (within p done (with_instances o []) None n) (flat_map (λ m. keyed_text (instance_line m)) ms) (with_instances o ms)
+instances_run form done o ms p n f s = each_runs form done (λ (m : Member). keyed_text (instance_line m)) (with_instances o) FieldFits member_key (instance_step form done o) ms [] p n f s
 
 -- ---- static fields
 
 abbrev with_statics : Open → List Given → Open
 with_statics o gs = record o { statics = gs }
 
-static_goes_last : (s : State) (g : Given) → AllBelow (map given_key s.current.statics) (given_key g)
-    → placed s (static_line g.field g.value) ≡ Some (record s { stage = Members; current = record s.current { statics = s.current.statics ++ g ∷ [] } })
-unfolding placed with_static
-static_goes_last s g h = rw (with_last given_key g s.current.statics h) refl
+static_goes_last : (p : ClassPart) (done : List Class) (o : Open) (n : ℕ) (g : Given) → AllBelow (map given_key o.statics) (given_key g)
+    → add (within p done o None n) (static_line g.field g.value) ≡ Some (within at_members done (record o { statics = o.statics ++ g ∷ [] }) None n)
+unfolding add inside with_static
+static_goes_last p done o n g h = rw (with_last given_key g o.statics h) refl
 
-given_runs : (form : Form) (s t : State) (m : Member) (v : Option Value) → FitOperands (line_operands (static_line m v)) → is_in_class s.stage ≡ true → placed (noted (counted s) (static_line m v)) (static_line m v) ≡ Some t → RunsTo (bare form) s (keyed_text (static_line m v)) t
+given_runs : (form : Form) (s t : State) (m : Member) (v : Option Value) → FitOperands (line_operands (static_line m v)) → is_in_class (stage_of s.block) ≡ true → add (counted s) (static_line m v) ≡ Some t → RunsTo (bare form) s (keyed_text (static_line m v)) t
 unfolding may_stand
 given_runs form s t m None f k a = keyed_runs form s t (static_line m None) tt tt f k a
 given_runs form s t m (Some v) f k a = keyed_runs form s t (static_line m (Some v)) tt tt f k a
 
-static_step : (form : Form) (done : List Class) (o : Open) (st : Stage) (b : Body) (n : ℕ) (before : List Given) (g : Given) → is_in_class st ≡ true → GivenFits g → AllBelow (map given_key before) (given_key g)
-    → InClass form done (in_stage st done (with_statics o before) None b n) (keyed_text (static_line g.field g.value)) (with_statics o (before ++ g ∷ []))
-static_step form done o st b n before g k f h =
-    let s = in_stage st done (with_statics o before) None b n in
-    let t = in_stage Members done (with_statics o (before ++ g ∷ [])) None b (n + 1) in
-    record { stage = Members; body = b; lines = n + 1; runs = given_runs form s t g.field g.value f k (static_goes_last (noted (counted s) (static_line g.field g.value)) g h); in_class = refl }
+static_step : (form : Form) (done : List Class) (o : Open) (p : ClassPart) (n : ℕ) (before : List Given) (g : Given) → GivenFits g → AllBelow (map given_key before) (given_key g)
+    → InClass form done (within p done (with_statics o before) None n) (keyed_text (static_line g.field g.value)) (with_statics o (before ++ g ∷ []))
+static_step form done o p n before g f h =
+    let s = within p done (with_statics o before) None n in
+    let t = within at_members done (with_statics o (before ++ g ∷ [])) None (n + 1) in
+    record { part = at_members; lines = n + 1; runs = given_runs form s t g.field g.value f (class_goes_on p) (static_goes_last p done (with_statics o before) (n + 1) g h) }
 
 -- the text of the fields, one by one
 statics_each : (ms : List Member) (vs : List Value) → flat_map (λ (g : Given). keyed_text (static_line g.field g.value)) (givens ms vs) ≡ statics_text ms vs
@@ -75,11 +73,11 @@ statics_keys k [] vs = refl
 statics_keys k (m ∷ ms) [] = ap (λ t. k m ∷ t) (statics_keys k ms [])
 statics_keys k (m ∷ ms) (v ∷ vs) = ap (λ t. k m ∷ t) (statics_keys k ms vs)
 
-pub statics_run : (form : Form) (done : List Class) (o : Open) (ms : List Member) (vs : List Value) (st : Stage) (b : Body) (n : ℕ) → is_in_class st ≡ true → AllByRecursion GivenFits (givens ms vs) → KeysAreSorted (map member_key ms)
-    → InClass form done (in_stage st done (with_statics o []) None b n) (statics_text ms vs) (with_statics o (givens ms vs))
-statics_run form done o ms vs st b n k f s =
-    let r = each_runs form done (λ (g : Given). keyed_text (static_line g.field g.value)) (with_statics o) GivenFits given_key (static_step form done o) (givens ms vs) [] st b n k f (subst KeysAreSorted (statics_keys member_key ms vs) s) in
-    subst (λ (text : List ℕ). InClass form done (in_stage st done (with_statics o []) None b n) text (with_statics o (givens ms vs))) (statics_each ms vs) r
+pub statics_run : (form : Form) (done : List Class) (o : Open) (ms : List Member) (vs : List Value) (p : ClassPart) (n : ℕ) → AllByRecursion GivenFits (givens ms vs) → KeysAreSorted (map member_key ms)
+    → InClass form done (within p done (with_statics o []) None n) (statics_text ms vs) (with_statics o (givens ms vs))
+statics_run form done o ms vs p n f s =
+    let r = each_runs form done (λ (g : Given). keyed_text (static_line g.field g.value)) (with_statics o) GivenFits given_key (static_step form done o) (givens ms vs) [] p n f (subst KeysAreSorted (statics_keys member_key ms vs) s) in
+    subst (λ (text : List ℕ). InClass form done (within p done (with_statics o []) None n) text (with_statics o (givens ms vs))) (statics_each ms vs) r
 
 -- ---- the fields of the class, and their values, are these
 

@@ -1,5 +1,5 @@
 -- Printed words in a form: they are written, and say what was printed.
-use Rattle.std.proofs.Common.{◌≡◌, ℕ, ◌<◌, ◌≤◌, ◌^◌, inl, inr, true, false, List, [], ◌∷◌, ◌++◌, length, refl, sym, ap, arith}
+use Rattle.std.proofs.Common.{◌≡◌, ℕ, ◌<◌, ◌≤◌, ◌^◌, true, List, [], ◌∷◌, ◌++◌, length, refl, sym, ap, arith}
 use Rattle.std.specs.List.{AllByRecursion}
 use Rattle.std.specs.Fmt.{decimal}
 use Rattle.std.specs.Char.{digit_value}
@@ -11,7 +11,6 @@ use Rattle.listing_slots.specs.declared.slot.Mark.TheVariants as mark
 use Rattle.listing_slots.specs.declared.slot.Mark.TheVariants.{Target}
 use Rattle.listing_slots.specs.declared.slot.Slot.{Slot}
 use Rattle.listing_slots.specs.declared.slot.Slot.TheVariants as slot
-use Rattle.listing_slots.specs.Keys.{same}
 use Rattle.listing_slots.specs.Data.{Datum, byte, half, word, wide, tiny, short, int, long, elements, named, constant, prototype, said}
 use Rattle.listing_slots.specs.Shown.{shown, FitsSlot}
 use Rattle.listing_slots.proofs.ShownLaws.{shown_says, shown_written, number_written}

@@ -6,14 +6,13 @@ use Rattle.program_types.specs.Content.{Units, Descriptor, Class}
 use Rattle.program_rules.specs.Rules.{AreDistinct}
 use Rattle.listing_lines.specs.Lines.{open_class, super_line, implements_line, source_line}
 use Rattle.listing_slots.specs.Keys.{same}
-use Rattle.listing_lines.specs.declared.stage.Stage.TheVariants.{Top, Heads}
 use Rattle.listing_lines.specs.Places.{may_stand}
-use Rattle.listing_draft.specs.States.{Open, Body, placed, with_superclass, with_interface, with_source, counted, add, opened, is_among}
+use Rattle.listing_draft.specs.States.{Open, at_heads, with_superclass, with_interface, with_source, counted, add, inside, opened, is_among}
 use Rattle.listing_print.specs.Printed.{line_operands, keyed_text}
 use Rattle.listing_print.specs.Canon.{super_text, source_text, heads_text}
 use Rattle.listing_print.specs.Reading.{FitOperands}
 use Rattle.listing_lines.specs.declared.form.Form.{Form}
-use Rattle.listing_laws.proofs.Runs.{bare, RunsTo, in_stage}
+use Rattle.listing_laws.proofs.Runs.{bare, RunsTo, outside, within}
 use Rattle.listing_laws.proofs.Printable.{SuperFits, SourceFits, InterfaceFits, ClassFits}
 use Rattle.listing_laws.proofs.RunLaws.{runs_join}
 use Rattle.listing_laws.proofs.KeyedLaws.{keyed_runs}
@@ -24,20 +23,20 @@ use Rattle.listing_laws.proofs.CodeRuns.{nothing_runs}
 abbrev pub headed : Class → Option Descriptor → List Descriptor → Option Units → Open
 headed c super interfaces source = record (opened c.ty c.flags) { superclass = super; interfaces = interfaces; source = source }
 
-class_runs : (form : Form) (done : List Class) (o : Open) (b : Body) (n : ℕ) (c : Class) → FitOperands (line_operands (open_class c.ty c.flags)) → RunsTo (bare form) (in_stage Top done o None b n) (keyed_text (open_class c.ty c.flags)) (in_stage Heads done (headed c None [] None) None b (n + 1))
-unfolding placed may_stand
-class_runs form done o b n c f = keyed_runs form (in_stage Top done o None b n) (in_stage Heads done (headed c None [] None) None b (n + 1)) (open_class c.ty c.flags) tt tt f refl refl
+class_runs : (form : Form) (done : List Class) (n : ℕ) (c : Class) → FitOperands (line_operands (open_class c.ty c.flags)) → RunsTo (bare form) (outside done n) (keyed_text (open_class c.ty c.flags)) (within at_heads done (headed c None [] None) None (n + 1))
+unfolding add inside may_stand
+class_runs form done n c f = keyed_runs form (outside done n) (within at_heads done (headed c None [] None) None (n + 1)) (open_class c.ty c.flags) tt tt f refl refl
 
-super_runs : (form : Form) (done : List Class) (b : Body) (n : ℕ) (c : Class) (d : Option Descriptor) → SuperFits d → (l : ℕ) × RunsTo (bare form) (in_stage Heads done (headed c None [] None) None b n) (super_text d) (in_stage Heads done (headed c d [] None) None b l)
-unfolding placed may_stand with_superclass
-super_runs form done b n c None f = (n, nothing_runs (bare form) (in_stage Heads done (headed c None [] None) None b n))
-super_runs form done b n c (Some d) f = (n + 1, keyed_runs form (in_stage Heads done (headed c None [] None) None b n) (in_stage Heads done (headed c (Some d) [] None) None b (n + 1)) (super_line d) tt tt f refl refl)
+super_runs : (form : Form) (done : List Class) (n : ℕ) (c : Class) (d : Option Descriptor) → SuperFits d → (l : ℕ) × RunsTo (bare form) (within at_heads done (headed c None [] None) None n) (super_text d) (within at_heads done (headed c d [] None) None l)
+unfolding add inside may_stand with_superclass
+super_runs form done n c None f = (n, nothing_runs (bare form) (within at_heads done (headed c None [] None) None n))
+super_runs form done n c (Some d) f = (n + 1, keyed_runs form (within at_heads done (headed c None [] None) None n) (within at_heads done (headed c (Some d) [] None) None (n + 1)) (super_line d) tt tt f refl refl)
 
-source_runs : (form : Form) (done : List Class) (b : Body) (n : ℕ) (c : Class) (d : Option Descriptor) (is : List Descriptor) (u : Option Units) → SourceFits u
-    → (l : ℕ) × RunsTo (bare form) (in_stage Heads done (headed c d is None) None b n) (source_text u) (in_stage Heads done (headed c d is u) None b l)
-unfolding placed may_stand with_source
-source_runs form done b n c d is None f = (n, nothing_runs (bare form) (in_stage Heads done (headed c d is None) None b n))
-source_runs form done b n c d is (Some u) f = (n + 1, keyed_runs form (in_stage Heads done (headed c d is None) None b n) (in_stage Heads done (headed c d is (Some u)) None b (n + 1)) (source_line u) tt tt f refl refl)
+source_runs : (form : Form) (done : List Class) (n : ℕ) (c : Class) (d : Option Descriptor) (is : List Descriptor) (u : Option Units) → SourceFits u
+    → (l : ℕ) × RunsTo (bare form) (within at_heads done (headed c d is None) None n) (source_text u) (within at_heads done (headed c d is u) None l)
+unfolding add inside may_stand with_source
+source_runs form done n c d is None f = (n, nothing_runs (bare form) (within at_heads done (headed c d is None) None n))
+source_runs form done n c d is (Some u) f = (n + 1, keyed_runs form (within at_heads done (headed c d is None) None n) (within at_heads done (headed c d is (Some u)) None (n + 1)) (source_line u) tt tt f refl refl)
 
 -- ---- interfaces
 
@@ -69,44 +68,44 @@ not_before before d rest true e h =
     let y = among_at before d e in
     absurd (h (length before) (omega (arith, length-append before (d ∷ rest))) y.0 y.1 (get_front before (d ∷ rest) y.0 d y.2 ∙ sym (get_behind before d rest)))
 
-interface_added : (done : List Class) (b : Body) (n : ℕ) (c : Class) (u : Option Descriptor) (before : List Descriptor) (d : Descriptor) → is_among before d ≡ false
-    → add (counted (in_stage Heads done (headed c u before None) None b n)) (implements_line d) ≡ Some (in_stage Heads done (headed c u (before ++ d ∷ []) None) None b (n + 1))
-unfolding placed with_interface
-interface_added done b n c u before d h = rw h refl
+interface_added : (done : List Class) (n : ℕ) (c : Class) (u : Option Descriptor) (before : List Descriptor) (d : Descriptor) → is_among before d ≡ false
+    → add (counted (within at_heads done (headed c u before None) None n)) (implements_line d) ≡ Some (within at_heads done (headed c u (before ++ d ∷ []) None) None (n + 1))
+unfolding add inside with_interface
+interface_added done n c u before d h = rw h refl
 
-interface_step : (form : Form) (done : List Class) (b : Body) (n : ℕ) (c : Class) (u : Option Descriptor) (before : List Descriptor) (d : Descriptor) → InterfaceFits d → is_among before d ≡ false
-    → RunsTo (bare form) (in_stage Heads done (headed c u before None) None b n) (keyed_text (implements_line d)) (in_stage Heads done (headed c u (before ++ d ∷ []) None) None b (n + 1))
+interface_step : (form : Form) (done : List Class) (n : ℕ) (c : Class) (u : Option Descriptor) (before : List Descriptor) (d : Descriptor) → InterfaceFits d → is_among before d ≡ false
+    → RunsTo (bare form) (within at_heads done (headed c u before None) None n) (keyed_text (implements_line d)) (within at_heads done (headed c u (before ++ d ∷ []) None) None (n + 1))
 unfolding may_stand
-interface_step form done b n c u before d f h = keyed_runs form (in_stage Heads done (headed c u before None) None b n) (in_stage Heads done (headed c u (before ++ d ∷ []) None) None b (n + 1)) (implements_line d) tt tt f refl (interface_added done b n c u before d h)
+interface_step form done n c u before d f h = keyed_runs form (within at_heads done (headed c u before None) None n) (within at_heads done (headed c u (before ++ d ∷ []) None) None (n + 1)) (implements_line d) tt tt f refl (interface_added done n c u before d h)
 
-interfaces_run : (form : Form) (done : List Class) (b : Body) (c : Class) (u : Option Descriptor) (ds before : List Descriptor) (n : ℕ) → AllByRecursion InterfaceFits ds → AreDistinct (before ++ ds)
-    → (l : ℕ) × RunsTo (bare form) (in_stage Heads done (headed c u before None) None b n) (flat_map (λ d. keyed_text (implements_line d)) ds) (in_stage Heads done (headed c u (before ++ ds) None) None b l)
-interfaces_run form done b c u [] before n f h =
-    let s = in_stage Heads done (headed c u before None) None b n in
-    (n, subst (λ (is : List Descriptor). RunsTo (bare form) s [] (in_stage Heads done (headed c u is None) None b n)) (sym (append-nil before)) (nothing_runs (bare form) s))
-interfaces_run form done b c u (d ∷ ds) before n f h =
+interfaces_run : (form : Form) (done : List Class) (c : Class) (u : Option Descriptor) (ds before : List Descriptor) (n : ℕ) → AllByRecursion InterfaceFits ds → AreDistinct (before ++ ds)
+    → (l : ℕ) × RunsTo (bare form) (within at_heads done (headed c u before None) None n) (flat_map (λ d. keyed_text (implements_line d)) ds) (within at_heads done (headed c u (before ++ ds) None) None l)
+interfaces_run form done c u [] before n f h =
+    let s = within at_heads done (headed c u before None) None n in
+    (n, subst (λ (is : List Descriptor). RunsTo (bare form) s [] (within at_heads done (headed c u is None) None n)) (sym (append-nil before)) (nothing_runs (bare form) s))
+interfaces_run form done c u (d ∷ ds) before n f h =
     let e : (before ++ d ∷ []) ++ ds ≡ before ++ (d ∷ ds) = append_assoc before (d ∷ []) ds in
-    let y = interfaces_run form done b c u ds (before ++ d ∷ []) (n + 1) f.1 (subst AreDistinct (sym e) h) in
-    let s = in_stage Heads done (headed c u before None) None b n in
-    let t = in_stage Heads done (headed c u (before ++ d ∷ []) None) None b (n + 1) in
-    let x = interface_step form done b n c u before d f.0 (not_before before d ds (is_among before d) refl h) in
-    let r = runs_join (bare form) s t (in_stage Heads done (headed c u ((before ++ d ∷ []) ++ ds) None) None b y.0) (keyed_text (implements_line d)) (flat_map (λ i. keyed_text (implements_line i)) ds) x y.1 in
-    (y.0, subst (λ (is : List Descriptor). RunsTo (bare form) s (flat_map (λ i. keyed_text (implements_line i)) (d ∷ ds)) (in_stage Heads done (headed c u is None) None b y.0)) e r)
+    let y = interfaces_run form done c u ds (before ++ d ∷ []) (n + 1) f.1 (subst AreDistinct (sym e) h) in
+    let s = within at_heads done (headed c u before None) None n in
+    let t = within at_heads done (headed c u (before ++ d ∷ []) None) None (n + 1) in
+    let x = interface_step form done n c u before d f.0 (not_before before d ds (is_among before d) refl h) in
+    let r = runs_join (bare form) s t (within at_heads done (headed c u ((before ++ d ∷ []) ++ ds) None) None y.0) (keyed_text (implements_line d)) (flat_map (λ i. keyed_text (implements_line i)) ds) x y.1 in
+    (y.0, subst (λ (is : List Descriptor). RunsTo (bare form) s (flat_map (λ i. keyed_text (implements_line i)) (d ∷ ds)) (within at_heads done (headed c u is None) None y.0)) e r)
 
 -- ---- all of them
 
-pub heads_run : (form : Form) (done : List Class) (o : Open) (b : Body) (n : ℕ) (c : Class) → ClassFits c
-    → (l : ℕ) × RunsTo (bare form) (in_stage Top done o None b n) (heads_text c) (in_stage Heads done (headed c c.superclass c.interfaces c.source) None b l)
-heads_run form done o b n c f =
-    let x = class_runs form done o b n c f.head in
-    let y = super_runs form done b (n + 1) c c.superclass f.above in
-    let z = interfaces_run form done b c c.superclass c.interfaces [] y.0 f.interfaces f.distinct in
-    let w = source_runs form done b z.0 c c.superclass c.interfaces c.source f.source in
-    let s0 = in_stage Top done o None b n in
-    let s1 = in_stage Heads done (headed c None [] None) None b (n + 1) in
-    let s2 = in_stage Heads done (headed c c.superclass [] None) None b y.0 in
-    let s3 = in_stage Heads done (headed c c.superclass c.interfaces None) None b z.0 in
-    let s4 = in_stage Heads done (headed c c.superclass c.interfaces c.source) None b w.0 in
+pub heads_run : (form : Form) (done : List Class) (n : ℕ) (c : Class) → ClassFits c
+    → (l : ℕ) × RunsTo (bare form) (outside done n) (heads_text c) (within at_heads done (headed c c.superclass c.interfaces c.source) None l)
+heads_run form done n c f =
+    let x = class_runs form done n c f.head in
+    let y = super_runs form done (n + 1) c c.superclass f.above in
+    let z = interfaces_run form done c c.superclass c.interfaces [] y.0 f.interfaces f.distinct in
+    let w = source_runs form done z.0 c c.superclass c.interfaces c.source f.source in
+    let s0 = outside done n in
+    let s1 = within at_heads done (headed c None [] None) None (n + 1) in
+    let s2 = within at_heads done (headed c c.superclass [] None) None y.0 in
+    let s3 = within at_heads done (headed c c.superclass c.interfaces None) None z.0 in
+    let s4 = within at_heads done (headed c c.superclass c.interfaces c.source) None w.0 in
     let is = flat_map (λ d. keyed_text (implements_line d)) c.interfaces in (
       w.0,
       runs_join (bare form) s0 s1 s4 (keyed_text (open_class c.ty c.flags)) (super_text c.superclass ++ (is ++ source_text c.source)) x

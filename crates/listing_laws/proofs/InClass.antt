@@ -1,5 +1,5 @@
 -- Texts that run into a class that is open.
-use Rattle.std.proofs.Common.{◌≡◌, ℕ, true, false, Some, refl, ap, ◌∙◌, List, [], ◌∷◌, ◌++◌, map, None, sym, subst, append_assoc}
+use Rattle.std.proofs.Common.{◌≡◌, ℕ, false, Some, refl, ap, ◌∙◌, List, [], ◌∷◌, ◌++◌, map, None, sym, subst, append_assoc}
 use Rattle.std.proofs.lemmas.List.{append-nil, map-append}
 use Rattle.std.specs.List.{AllByRecursion, flat_map}
 use Rattle.std.specs.declared.cmp.Ordering.TheVariants as ordering
@@ -7,33 +7,23 @@ use Rattle.program_types.specs.Content.{Class}
 use Rattle.std.specs.Ordering.{is_eq, ordering_reverse}
 use Rattle.program_types.specs.Key.{Key, key_cmp}
 use Rattle.program_types.specs.KeyLaws.{key_cmp-total}
-use Rattle.listing_lines.specs.declared.stage.Stage.{Stage}
-use Rattle.listing_lines.specs.Places.{is_in_class}
 use Rattle.listing_draft.specs.Members.{is_held, put_in, with_member}
-use Rattle.listing_draft.specs.States.{State, Open, Body}
+use Rattle.listing_draft.specs.States.{State, Open, ClassPart}
 use Rattle.listing_laws.proofs.Printable.{IsBelowAll, KeysAreSorted, AllBelow}
 use Rattle.listing_lines.specs.declared.form.Form.{Form}
-use Rattle.listing_laws.proofs.Runs.{bare, RunsTo, in_stage}
+use Rattle.listing_laws.proofs.Runs.{bare, RunsTo, within}
 use Rattle.listing_laws.proofs.RunLaws.{runs_join}
 use Rattle.listing_laws.proofs.CodeRuns.{nothing_runs}
 
--- From state s, the text leads into this class, where members may stand, and no target was late.
+-- From state s, the text leads into this class, and no target was late.
 pub record InClass (form : Form) (done : List Class) (s : State) (text : List ℕ) (o : Open) : Type 0 where
-  pub stage : Stage
-  pub body : Body
+  pub part : ClassPart
   pub lines : ℕ
-  pub runs : RunsTo (bare form) s text (in_stage stage done o None body lines)
-  pub in_class : is_in_class stage ≡ true
+  pub runs : RunsTo (bare form) s text (within part done o None lines)
 
 -- one text behind the other
-pub in_then : (form : Form) (done : List Class) (s : State) (a t : List ℕ) (o p : Open) (x : InClass form done s a o) → InClass form done (in_stage x.stage done o None x.body x.lines) t p → InClass form done s (a ++ t) p
-in_then form done s a t o p x y = record {
-  stage = y.stage;
-  body = y.body;
-  lines = y.lines;
-  runs = runs_join (bare form) s (in_stage x.stage done o None x.body x.lines) (in_stage y.stage done p None y.body y.lines) a t x.runs y.runs;
-  in_class = y.in_class;
-}
+pub in_then : (form : Form) (done : List Class) (s : State) (a t : List ℕ) (o p : Open) (x : InClass form done s a o) → InClass form done (within x.part done o None x.lines) t p → InClass form done s (a ++ t) p
+in_then form done s a t o p x y = record { part = y.part; lines = y.lines; runs = runs_join (bare form) s (within x.part done o None x.lines) (within y.part done p None y.lines) a t x.runs y.runs }
 
 -- ---- members that rise
 
@@ -69,14 +59,14 @@ code_skips q k e = ap is_eq (above q k e)
 
 -- Members of one list, one behind the other, where each goes last.
 pub each_runs : {X : Type 0} (form : Form) (done : List Class) (text : X → List ℕ) (with : List X → Open) (Fits : X → Type 0) (key : X → Key)
-    → ((st : Stage) (b : Body) (n : ℕ) (before : List X) (x : X) → is_in_class st ≡ true → Fits x → AllBelow (map key before) (key x) → InClass form done (in_stage st done (with before) None b n) (text x) (with (before ++ x ∷ [])))
-    → (xs before : List X) (st : Stage) (b : Body) (n : ℕ) → is_in_class st ≡ true → AllByRecursion Fits xs → KeysAreSorted (map key (before ++ xs)) → InClass form done (in_stage st done (with before) None b n) (flat_map text xs) (with (before ++ xs))
-each_runs {X} form done text with Fits key step [] before st b n k f s =
-    let t = in_stage st done (with before) None b n in
-    record { stage = st; body = b; lines = n; runs = subst (λ (ys : List X). RunsTo (bare form) t [] (in_stage st done (with ys) None b n)) (sym (append-nil before)) (nothing_runs (bare form) t); in_class = k }
-each_runs {X} form done text with Fits key step (x ∷ xs) before st b n k f s =
-    let t = in_stage st done (with before) None b n in
+    → ((p : ClassPart) (n : ℕ) (before : List X) (x : X) → Fits x → AllBelow (map key before) (key x) → InClass form done (within p done (with before) None n) (text x) (with (before ++ x ∷ [])))
+    → (xs before : List X) (p : ClassPart) (n : ℕ) → AllByRecursion Fits xs → KeysAreSorted (map key (before ++ xs)) → InClass form done (within p done (with before) None n) (flat_map text xs) (with (before ++ xs))
+each_runs {X} form done text with Fits key step [] before p n f s =
+    let t = within p done (with before) None n in
+    record { part = p; lines = n; runs = subst (λ (ys : List X). RunsTo (bare form) t [] (within p done (with ys) None n)) (sym (append-nil before)) (nothing_runs (bare form) t) }
+each_runs {X} form done text with Fits key step (x ∷ xs) before p n f s =
+    let t = within p done (with before) None n in
     let e : (before ++ x ∷ []) ++ xs ≡ before ++ (x ∷ xs) = append_assoc before (x ∷ []) xs in
-    let y = step st b n before x k f.0 (front_below key before x xs s) in
-    let z = each_runs form done text with Fits key step xs (before ++ x ∷ []) y.stage y.body y.lines y.in_class f.1 (subst (λ (ys : List X). KeysAreSorted (map key ys)) (sym e) s) in
+    let y = step p n before x f.0 (front_below key before x xs s) in
+    let z = each_runs form done text with Fits key step xs (before ++ x ∷ []) y.part y.lines f.1 (subst (λ (ys : List X). KeysAreSorted (map key ys)) (sym e) s) in
     subst (λ (ys : List X). InClass form done t (text x ++ flat_map text xs) (with ys)) e (in_then form done t (text x) (flat_map text xs) (with (before ++ x ∷ [])) (with ((before ++ x ∷ []) ++ xs)) y z)

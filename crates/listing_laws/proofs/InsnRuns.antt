@@ -1,5 +1,5 @@
 -- A printed instruction is read as that instruction, in both forms.
-use Rattle.std.proofs.Common.{◌≡◌, ◌≢◌, ℕ, zero, suc, ◌+◌, ◌<◌, ◌≤◌, ◌^◌, ◌==◌, ◌&&◌, if◌then◌else◌, Bool, true, false, inr, List, [], ◌∷◌, ◌++◌, length, get_or, Some, refl, sym, ap, subst, ◌∙◌, append_assoc, arith}
+use Rattle.std.proofs.Common.{◌≡◌, ◌≢◌, ℕ, zero, suc, ◌+◌, ◌<◌, ◌≤◌, ◌^◌, ◌==◌, ◌&&◌, Bool, true, false, inr, List, [], ◌∷◌, ◌++◌, length, get_or, Some, refl, sym, ap, subst, ◌∙◌, append_assoc, arith}
 use Rattle.std.specs.Prelude.{codes}
 use Rattle.std.specs.List.{AllByRecursion, list_all}
 use Rattle.std.specs.Fmt.{decimal}
@@ -30,10 +30,9 @@ use Rattle.listing_lines.specs.declared.stage.Stage.TheVariants.{Start, Top, Hea
 use Rattle.listing_lines.specs.declared.form.Form.{Form}
 use Rattle.listing_lines.specs.declared.form.Form.TheVariants.{One, Two}
 use Rattle.listing_lines.specs.Places.{may_stand, is_insn, is_insns, is_start}
-use Rattle.listing_draft.specs.States.{State, counted, add}
+use Rattle.listing_draft.specs.States.{State, stage_of, count_of, counted, add}
 use Rattle.listing_labels.specs.Lines.{is_skipped}
 use Rattle.listing_labels.specs.Labels.{Label, is_mark, is_stop}
-use Rattle.listing_parse.specs.declared.aside.Aside.{Aside}
 use Rattle.listing_parse.specs.declared.aside.Aside.TheVariants as aside
 use Rattle.listing_parse.specs.Text.{Takes, Says, is_second, aside, labels_behind}
 use Rattle.listing_print.specs.Operands.{insn_operands, operand_text_in}
@@ -311,7 +310,7 @@ not_start Insns a = refl
 not_start Tries a = absurd cc
 not_start Caught a = absurd cc
 
-plain_aside : (es : List Label) (s : State) (ws : List Word) → is_start s.stage ≡ false → aside (at (frame One es) s) ws ≡ aside.Nothing
+plain_aside : (es : List Label) (s : State) (ws : List Word) → is_start (stage_of s.block) ≡ false → aside (at (frame One es) s) ws ≡ aside.Nothing
 unfolding aside
 plain_aside es s ws h = rw h (not_aside (is_second ws) (aside.Refused 103))
 
@@ -322,18 +321,18 @@ not_second m (a ∷ b ∷ []) h = refl
 not_second m (a ∷ b ∷ c ∷ []) h = rw h refl
 not_second m (a ∷ b ∷ c ∷ d ∷ ws) h = refl
 
-insn_aside : (form : Form) (es : List Label) (s : State) (k : ℕ) (i : Insn) → OpcodeFits i → is_start s.stage ≡ false → aside (at (frame form es) s) (insn_words form k i) ≡ aside.Nothing
+insn_aside : (form : Form) (es : List Label) (s : State) (k : ℕ) (i : Insn) → OpcodeFits i → is_start (stage_of s.block) ≡ false → aside (at (frame form es) s) (insn_words form k i) ≡ aside.Nothing
 insn_aside One es s k i o h = plain_aside es s (insn_words One k i) h
 insn_aside Two es s k i o h = let x = insn_is_other i o in no_aside (frame Two es) s (insn_words Two k i) (not_second (insn_word i) (words_in Two (insn_operands i)) x.first) x.mark
 
 -- ---- its shape
 
-insn_says_so : (form : Form) (es : List Label) (s t : State) (k : ℕ) (i : Insn) (ls : List (List ℕ)) → k < 2 ^ 64 → OpcodeFits i → FitOperands (insn_operands i) → TargetsAreMarked form es (insn_operands i) → is_insns s.stage ≡ true
-    → length s.body.insns ≡ k → add s (insn_line i) ≡ Some t → Says (at (frame form es) s) ls (insn_words form k i) (at (frame form es) t)
+insn_says_so : (form : Form) (es : List Label) (s t : State) (k : ℕ) (i : Insn) (ls : List (List ℕ)) → k < 2 ^ 64 → OpcodeFits i → FitOperands (insn_operands i) → TargetsAreMarked form es (insn_operands i) → is_insns (stage_of s.block) ≡ true
+    → count_of s.block ≡ k → add s (insn_line i) ≡ Some t → Says (at (frame form es) s) ls (insn_words form k i) (at (frame form es) t)
 insn_says_so One es s t k i ls h o f g m e a =
     let os = insn_operands i in
-    let ks = kind_stands s.stage i in
-    let n : is_number (decimal k) (length s.body.insns) ≡ true = ap (is_number (decimal k)) e ∙ number_printed k h in
+    let ks = kind_stands (stage_of s.block) i in
+    let n : is_number (decimal k) (count_of s.block) ≡ true = ap (is_number (decimal k)) e ∙ number_printed k h in
     record {
       shape = record { kind = insn_kind i; label = decimal k; slots = slots_of os; words = words_in One os };
       has_shape = insn_has_shape k i h o f;
@@ -349,7 +348,7 @@ insn_says_so Two es s t k i ls h o f g m e a =
     record {
       shape = record { kind = insn_kind i; label = []; slots = slots_of os; words = words_in Two os };
       has_shape = insn_has_bare_shape i o f;
-      may_stand = (kind_stands s.stage i).1 ∙ m;
+      may_stand = (kind_stands (stage_of s.block) i).1 ∙ m;
       says = data_of os;
       spelled = spelled_in Two es os f g;
       next = t;
@@ -357,15 +356,15 @@ insn_says_so Two es s t k i ls h o f g m e a =
       is = rw (kind_keeps i (s.lines + 1) ls es) refl;
     }
 
-insn_taken : (form : Form) (es : List Label) (s t : State) (k : ℕ) (i : Insn) → k < 2 ^ 64 → OpcodeFits i → FitOperands (insn_operands i) → TargetsAreMarked form es (insn_operands i) → is_insns s.stage ≡ true
-    → length s.body.insns ≡ k → add (counted s) (insn_line i) ≡ Some t → (ls : List (List ℕ)) → Takes (at (frame form es) s) ls (line_bytes (insn_words form k i)) (at (frame form es) t)
+insn_taken : (form : Form) (es : List Label) (s t : State) (k : ℕ) (i : Insn) → k < 2 ^ 64 → OpcodeFits i → FitOperands (insn_operands i) → TargetsAreMarked form es (insn_operands i) → is_insns (stage_of s.block) ≡ true
+    → count_of s.block ≡ k → add (counted s) (insn_line i) ≡ Some t → (ls : List (List ℕ)) → Takes (at (frame form es) s) ls (line_bytes (insn_words form k i)) (at (frame form es) t)
 insn_taken form es s t k i h o f g m e a ls =
     inr (
       insn_shown form k i h o,
       record {
         words = insn_words form k i;
         has_words = line_again (insn_words form k i) (insn_words_written form k i h o f);
-        makes = inr (inr (insn_aside form es (counted s) k i o (not_start s.stage m), insn_says_so form es (counted s) t k i ls h o f g m e a));
+        makes = inr (inr (insn_aside form es (counted s) k i o (not_start (stage_of s.block) m), insn_says_so form es (counted s) t k i ls h o f g m e a));
       },
     )
 
@@ -376,7 +375,7 @@ insn_is_line Two k i w = words_line (plain_word (insn_word i)) (words_in Two (in
 pub insn_line_is : (form : Form) (k : ℕ) (i : Insn) → k < 2 ^ 64 → OpcodeFits i → FitOperands (insn_operands i) → IsLine (line_bytes (insn_words form k i))
 insn_line_is form k i h o f = insn_is_line form k i (insn_words_written form k i h o f)
 
-pub insn_runs : (form : Form) (es : List Label) (s t : State) (k : ℕ) (i : Insn) → k < 2 ^ 64 → OpcodeFits i → FitOperands (insn_operands i) → TargetsAreMarked form es (insn_operands i) → is_insns s.stage ≡ true → length s.body.insns ≡ k
+pub insn_runs : (form : Form) (es : List Label) (s t : State) (k : ℕ) (i : Insn) → k < 2 ^ 64 → OpcodeFits i → FitOperands (insn_operands i) → TargetsAreMarked form es (insn_operands i) → is_insns (stage_of s.block) ≡ true → count_of s.block ≡ k
     → add (counted s) (insn_line i) ≡ Some t → RunsTo (frame form es) s (insn_text form k i) t
 insn_runs form es s t k i h o f g m e a =
     let r = frame form es in

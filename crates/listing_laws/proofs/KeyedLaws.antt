@@ -18,7 +18,7 @@ use Rattle.listing_lines.specs.Places.{may_stand, is_insn}
 use Rattle.listing_lines.specs.Forms.{is_two}
 use Rattle.listing_lines.specs.declared.form.Form.{Form}
 use Rattle.listing_lines.specs.declared.form.Form.TheVariants.{One, Two}
-use Rattle.listing_draft.specs.States.{State, counted, add}
+use Rattle.listing_draft.specs.States.{State, stage_of, counted, add}
 use Rattle.listing_labels.specs.Lines.{lines, is_skipped}
 use Rattle.listing_labels.specs.Labels.{Label}
 use Rattle.listing_parse.specs.Forms.{Shapes, may_be}
@@ -121,12 +121,12 @@ keyed_shape : (form : Form) (l : Line) (k : IsKeyedLine l) → FitOperands (line
 keyed_shape One l k f = inr (keyed_has_shape One l k f)
 keyed_shape Two l k f = inr (keyed_has_shape Two l k f)
 
-may_stand_in : (form : Form) (s : State) (l : Line) (sh : Shape) → sh.kind ≡ line_kind l → may_stand s.stage (line_kind l) ≡ true → may_be form s sh ≡ true
+may_stand_in : (form : Form) (s : State) (l : Line) (sh : Shape) → sh.kind ≡ line_kind l → may_stand (stage_of s.block) (line_kind l) ≡ true → may_be form s sh ≡ true
 may_stand_in One s l sh e m = rw (e, m, no_number l) refl
 may_stand_in Two s l sh e m = rw (e, m) refl
 
 -- It is read; the labels behind it are those that the lines behind it give.
-pub keyed_taken : (f : Frame) (s t : State) (l : Line) → IsKeyedLine l → FitOperands (line_operands l) → TargetsAreMarked f.form f.labels (line_operands l) → may_stand s.stage (line_kind l) ≡ true → add (counted s) l ≡ Some t
+pub keyed_taken : (f : Frame) (s t : State) (l : Line) → IsKeyedLine l → FitOperands (line_operands l) → TargetsAreMarked f.form f.labels (line_operands l) → may_stand (stage_of s.block) (line_kind l) ≡ true → add (counted s) l ≡ Some t
     → (ls : List (List ℕ)) → Takes (at f s) ls (line_bytes (keyed_words f.form l)) (record { form = f.form; labels = labels_behind f.form (line_kind l) (s.lines + 1 + 1) ls f.labels; base = t })
 keyed_taken f s t l k h g m a ls =
     let os = line_operands l in
@@ -283,7 +283,7 @@ class_words form (catch_all_line n) h = absurd h
 pub text_same : (form : Form) (l : Line) → words_in form (line_operands l) ≡ words_of (line_operands l) → keyed_text_in form l ≡ keyed_text l
 text_same form l e = ap (λ t. key_text (line_key l) ++ (t ++ 10 ∷ [])) (text_is_in form (line_operands l) ∙ ap behind_spaces e ∙ sym (text_is (line_operands l)))
 
-keyed_into : (f g : Frame) (s t : State) (l : Line) → IsKeyedLine l → FitOperands (line_operands l) → TargetsAreMarked f.form f.labels (line_operands l) → may_stand s.stage (line_kind l) ≡ true → add (counted s) l ≡ Some t
+keyed_into : (f g : Frame) (s t : State) (l : Line) → IsKeyedLine l → FitOperands (line_operands l) → TargetsAreMarked f.form f.labels (line_operands l) → may_stand (stage_of s.block) (line_kind l) ≡ true → add (counted s) l ≡ Some t
     → g.form ≡ f.form → ((ls : List (List ℕ)) → labels_behind f.form (line_kind l) (s.lines + 1 + 1) ls f.labels ≡ g.labels) → RunsInto f s (keyed_text_in f.form l) g t
 keyed_into f g s t l k h w m a e b =
     let q : (ls : List (List ℕ)) → Takes (at f s) ls (line_bytes (keyed_words f.form l)) (at g t) = λ ls.
@@ -291,13 +291,13 @@ keyed_into f g s t l k h w m a e b =
     subst (λ (text : List ℕ). RunsInto f s text g t) (sym (keyed_is f.form l)) (line_runs f g s t (line_bytes (keyed_words f.form l)) (keyed_is_line f.form l h) q)
 
 -- a line of a class
-pub keyed_runs : (form : Form) (s t : State) (l : Line) → IsOfClass l → IsKeyedLine l → FitOperands (line_operands l) → may_stand s.stage (line_kind l) ≡ true → add (counted s) l ≡ Some t → RunsTo (bare form) s (keyed_text l) t
+pub keyed_runs : (form : Form) (s t : State) (l : Line) → IsOfClass l → IsKeyedLine l → FitOperands (line_operands l) → may_stand (stage_of s.block) (line_kind l) ≡ true → add (counted s) l ≡ Some t → RunsTo (bare form) s (keyed_text l) t
 keyed_runs form s t l c k h m a =
     subst (λ (text : List ℕ). RunsTo (bare form) s text t) (text_same form l (class_words form l c))
     (keyed_into (bare form) (bare form) s t l k h (class_marked form [] l c) m a refl (λ ls. class_keeps form l (s.lines + 1 + 1) ls [] c))
 
 -- a line of a try
-pub try_line_runs : (f : Frame) (s t : State) (l : Line) → IsOfTry l → IsKeyedLine l → FitOperands (line_operands l) → TargetsAreMarked f.form f.labels (line_operands l) → may_stand s.stage (line_kind l) ≡ true → add (counted s) l ≡ Some t
+pub try_line_runs : (f : Frame) (s t : State) (l : Line) → IsOfTry l → IsKeyedLine l → FitOperands (line_operands l) → TargetsAreMarked f.form f.labels (line_operands l) → may_stand (stage_of s.block) (line_kind l) ≡ true → add (counted s) l ≡ Some t
     → RunsTo f s (keyed_text_in f.form l) t
 try_line_runs f s t l c k h w m a = keyed_into f f s t l k h w m a refl (λ ls. try_keeps f.form l (s.lines + 1 + 1) ls f.labels c)
 
@@ -314,13 +314,13 @@ end_empty One es line ls h = h refl
 end_empty Two es line ls h = refl
 
 -- the end of a code, behind which there are no labels
-pub end_line_runs : (f : Frame) (s t : State) → (f.form ≡ One → f.labels ≡ []) → may_stand s.stage kind.EndCode ≡ true → add (counted s) end_code ≡ Some t → RunsInto f s (keyed_text end_code) (bare f.form) t
+pub end_line_runs : (f : Frame) (s t : State) → (f.form ≡ One → f.labels ≡ []) → may_stand (stage_of s.block) kind.EndCode ≡ true → add (counted s) end_code ≡ Some t → RunsInto f s (keyed_text end_code) (bare f.form) t
 end_line_runs f s t e m a =
     subst (λ (text : List ℕ). RunsInto f s text (bare f.form) t) (text_same f.form end_code refl)
     (keyed_into f (bare f.form) s t end_code tt (refl, tt) (end_marked f.form f.labels) m a refl (λ ls. end_empty f.form f.labels (s.lines + 1 + 1) ls e))
 
 -- the first line of a code, behind which stand the labels that the lines behind it give
-pub code_line_reads : (f : Frame) (s t : State) (r i o : ℕ) (text rest : List ℕ) (u : Reading) → FitOperands (line_operands (open_code r i o)) → may_stand s.stage kind.OpenCode ≡ true → add (counted s) (open_code r i o) ≡ Some t
+pub code_line_reads : (f : Frame) (s t : State) (r i o : ℕ) (text rest : List ℕ) (u : Reading) → FitOperands (line_operands (open_code r i o)) → may_stand (stage_of s.block) kind.OpenCode ≡ true → add (counted s) (open_code r i o) ≡ Some t
     → labels_behind f.form kind.OpenCode (s.lines + 1 + 1) (lines (text ++ rest)) [] ≡ f.labels → Reads (at f t) (lines (text ++ rest)) [] u → Reads (at (bare f.form) s) (lines ((keyed_text (open_code r i o) ++ text) ++ rest)) [] u
 code_line_reads f s t r i o text rest u h m a e x =
     let l = open_code r i o in

@@ -23,3 +23,4 @@ pub mod WordRuns
 pub mod SpelledValues
 pub mod ReadValues
 pub mod GivenLines
+pub mod TwiceLaws

@@ -10,13 +10,11 @@ use Rattle.program_types.specs.KeyLaws.{key_cmp-total}
 use Rattle.program_rules.specs.Rules.{method_key}
 use Rattle.program_types.specs.Content.{Code, Method, Class}
 use Rattle.listing_lines.specs.Lines.{direct_line, virtual_line}
-use Rattle.listing_lines.specs.declared.stage.Stage.{Stage}
-use Rattle.listing_lines.specs.declared.stage.Stage.TheVariants.{Members, Behind}
-use Rattle.listing_lines.specs.Places.{may_stand, is_in_class}
-use Rattle.listing_draft.specs.States.{State, Open, Body, placed, counted, noted, owned, with_direct, with_virtual, with_code, with_code_at}
+use Rattle.listing_lines.specs.Places.{may_stand}
+use Rattle.listing_draft.specs.States.{Open, ClassPart, at_members, behind_method, add, inside, with_direct, with_virtual, with_code, with_code_at}
 use Rattle.listing_print.specs.Printed.{keyed_text}
 use Rattle.listing_print.specs.Canon.{body_text, direct_text, virtual_text}
-use Rattle.listing_laws.proofs.Runs.{bare, in_stage}
+use Rattle.listing_laws.proofs.Runs.{bare, within, class_goes_on}
 use Rattle.listing_laws.proofs.Printable.{KeysAreSorted, AllBelow, BodyFits, MethodFits}
 use Rattle.listing_laws.proofs.KeyedLaws.{keyed_runs}
 use Rattle.listing_laws.proofs.CodeRuns.{nothing_runs}
@@ -38,82 +36,79 @@ code_last : (ms : List Method) (m : Method) (c : Code) → AllBelow (map method_
 code_last [] m c h = rw (itself (key_cmp (method_key m) (method_key m)) (key_cmp-total.antisymm (method_key m) (method_key m))) refl
 code_last (l ∷ ms) m c h = rw (code_skips (method_key l) (method_key m) h.0) (ap (λ t. l ∷ t) (code_last ms m c h.1))
 
--- Where methods stand in the class, a code goes to the one with its key.
-abbrev PutsCode : (List Method → Open) → Bool → Type 0
-PutsCode with direct = (ms : List Method) (k : Key) (c : Code) → with_code_at (with ms) direct k c ≡ with (with_code ms k c)
+-- Its code follows it: that of a direct or a virtual method.
+abbrev behind : Bool → Method → ClassPart
+behind direct m = behind_method (record { direct = direct; method = method_key m })
 
-body_runs : (form : Form) (done : List Class) (with : List Method → Open) (direct : Bool) (b : Body) (n : ℕ) (before : List Method) (m : Method) (o : Option Code) → PutsCode with direct → AllBelow (map method_key before) (method_key m) → BodyFits o
-    → InClass form done (in_stage Behind done (with (before ++ coded m None ∷ [])) None (owned b direct (method_key m)) n) ((body_text form) o) (with (before ++ coded m o ∷ []))
-body_runs form done with direct b n before m None p h f =
-    let d = owned b direct (method_key m) in
-    record { stage = Behind; body = d; lines = n; runs = nothing_runs (bare form) (in_stage Behind done (with (before ++ coded m None ∷ [])) None d n); in_class = refl }
-body_runs form done with direct b n before m (Some c) p h f =
-    let d = owned b direct (method_key m) in
+-- Where methods stand in the class, a code goes to the one with its key.
+abbrev pub PutsCode : (List Method → Open) → Bool → Type 0
+PutsCode with direct = (ms : List Method) (k : Key) (c : Code) → with_code_at (with ms) (record { direct = direct; method = k }) c ≡ with (with_code ms k c)
+
+body_runs : (form : Form) (done : List Class) (with : List Method → Open) (direct : Bool) (n : ℕ) (before : List Method) (m : Method) (o : Option Code) → PutsCode with direct → AllBelow (map method_key before) (method_key m) → BodyFits o
+    → InClass form done (within (behind direct m) done (with (before ++ coded m None ∷ [])) None n) ((body_text form) o) (with (before ++ coded m o ∷ []))
+body_runs form done with direct n before m None p h f = record { part = behind direct m; lines = n; runs = nothing_runs (bare form) (within (behind direct m) done (with (before ++ coded m None ∷ [])) None n) }
+body_runs form done with direct n before m (Some c) p h f =
     let o = with (before ++ coded m None ∷ []) in
-    let y = code_runs form done o d n c f in
-    let e : with_code_at o direct (method_key m) c ≡ with (before ++ coded m (Some c) ∷ []) = p (before ++ coded m None ∷ []) (method_key m) c ∙ ap with (code_last before m c h) in
-    subst (λ (q : Open). InClass form done (in_stage Behind done o None d n) ((body_text form) (Some c)) q) e (record { stage = Members; body = y.1; lines = y.0; runs = y.2; in_class = refl })
+    let y = code_runs form done o (record { direct = direct; method = method_key m }) n c f in
+    let e : with_code_at o (record { direct = direct; method = method_key m }) c ≡ with (before ++ coded m (Some c) ∷ []) = p (before ++ coded m None ∷ []) (method_key m) c ∙ ap with (code_last before m c h) in
+    subst (λ (q : Open). InClass form done (within (behind direct m) done o None n) ((body_text form) (Some c)) q) e (record { part = at_members; lines = y.0; runs = y.1 })
 
 -- ---- direct methods
 
 abbrev with_directs : Open → List Method → Open
 with_directs o ms = record o { directs = ms }
 
-direct_goes_last : (s : State) (m : Method) → AllBelow (map method_key s.current.directs) (method_key m)
-    → placed s (direct_line m) ≡ Some (record s { stage = Behind; current = record s.current { directs = s.current.directs ++ m ∷ [] }; body = owned s.body true (method_key m) })
-unfolding placed with_direct
-direct_goes_last s m h = rw (with_last method_key m s.current.directs h) refl
+direct_goes_last : (p : ClassPart) (done : List Class) (o : Open) (n : ℕ) (m : Method) → AllBelow (map method_key o.directs) (method_key m)
+    → add (within p done o None n) (direct_line m) ≡ Some (within (behind true m) done (record o { directs = o.directs ++ m ∷ [] }) None n)
+unfolding add inside with_direct
+direct_goes_last p done o n m h = rw (with_last method_key m o.directs h) refl
 
-direct_line_runs : (form : Form) (done : List Class) (o : Open) (st : Stage) (b : Body) (n : ℕ) (before : List Method) (m : Method) → is_in_class st ≡ true → MethodFits m → AllBelow (map method_key before) (method_key m)
-    → InClass form done (in_stage st done (with_directs o before) None b n) (keyed_text (direct_line m)) (with_directs o (before ++ coded m None ∷ []))
+direct_line_runs : (form : Form) (done : List Class) (o : Open) (p : ClassPart) (n : ℕ) (before : List Method) (m : Method) → MethodFits m → AllBelow (map method_key before) (method_key m)
+    → InClass form done (within p done (with_directs o before) None n) (keyed_text (direct_line m)) (with_directs o (before ++ coded m None ∷ []))
 unfolding may_stand
-direct_line_runs form done o st b n before m k f h =
-    let s = in_stage st done (with_directs o before) None b n in
-    let d = owned b true (method_key m) in
-    let t = in_stage Behind done (with_directs o (before ++ coded m None ∷ [])) None d (n + 1) in
-    let l = direct_line (coded m None) in
-    record { stage = Behind; body = d; lines = n + 1; runs = keyed_runs form s t l tt refl f.0 k (direct_goes_last (noted (counted s) l) (coded m None) h); in_class = refl }
+direct_line_runs form done o p n before m f h =
+    let s = within p done (with_directs o before) None n in
+    let t = within (behind true m) done (with_directs o (before ++ coded m None ∷ [])) None (n + 1) in
+    record { part = behind true m; lines = n + 1; runs = keyed_runs form s t (direct_line (coded m None)) tt refl f.0 (class_goes_on p) (direct_goes_last p done (with_directs o before) (n + 1) (coded m None) h) }
 
-direct_step : (form : Form) (done : List Class) (o : Open) (st : Stage) (b : Body) (n : ℕ) (before : List Method) (m : Method) → is_in_class st ≡ true → MethodFits m → AllBelow (map method_key before) (method_key m)
-    → InClass form done (in_stage st done (with_directs o before) None b n) ((direct_text form) m) (with_directs o (before ++ m ∷ []))
+direct_step : (form : Form) (done : List Class) (o : Open) (p : ClassPart) (n : ℕ) (before : List Method) (m : Method) → MethodFits m → AllBelow (map method_key before) (method_key m)
+    → InClass form done (within p done (with_directs o before) None n) ((direct_text form) m) (with_directs o (before ++ m ∷ []))
 unfolding direct_line_runs
-direct_step form done o st b n before m k f h =
-    in_then form done (in_stage st done (with_directs o before) None b n) (keyed_text (direct_line m)) ((body_text form) m.code) (with_directs o (before ++ coded m None ∷ [])) (with_directs o (before ++ m ∷ []))
-    (direct_line_runs form done o st b n before m k f h)
-    (body_runs form done (with_directs o) true b (n + 1) before m m.code (λ ms k c. refl) h f.1)
+direct_step form done o p n before m f h =
+    in_then form done (within p done (with_directs o before) None n) (keyed_text (direct_line m)) ((body_text form) m.code) (with_directs o (before ++ coded m None ∷ [])) (with_directs o (before ++ m ∷ []))
+    (direct_line_runs form done o p n before m f h)
+    (body_runs form done (with_directs o) true (n + 1) before m m.code (λ ms k c. refl) h f.1)
 
-pub directs_run : (form : Form) (done : List Class) (o : Open) (ms : List Method) (st : Stage) (b : Body) (n : ℕ) → is_in_class st ≡ true → AllByRecursion MethodFits ms → KeysAreSorted (map method_key ms)
-    → InClass form done (in_stage st done (with_directs o []) None b n) (flat_map (direct_text form) ms) (with_directs o ms)
-directs_run form done o ms st b n k f s = each_runs form done (direct_text form) (with_directs o) MethodFits method_key (direct_step form done o) ms [] st b n k f s
+pub directs_run : (form : Form) (done : List Class) (o : Open) (ms : List Method) (p : ClassPart) (n : ℕ) → AllByRecursion MethodFits ms → KeysAreSorted (map method_key ms)
+    → InClass form done (within p done (with_directs o []) None n) (flat_map (direct_text form) ms) (with_directs o ms)
+directs_run form done o ms p n f s = each_runs form done (direct_text form) (with_directs o) MethodFits method_key (direct_step form done o) ms [] p n f s
 
 -- ---- virtual methods
 
 abbrev with_virtuals : Open → List Method → Open
 with_virtuals o ms = record o { virtuals = ms }
 
-virtual_goes_last : (s : State) (m : Method) → AllBelow (map method_key s.current.virtuals) (method_key m)
-    → placed s (virtual_line m) ≡ Some (record s { stage = Behind; current = record s.current { virtuals = s.current.virtuals ++ m ∷ [] }; body = owned s.body false (method_key m) })
-unfolding placed with_virtual
-virtual_goes_last s m h = rw (with_last method_key m s.current.virtuals h) refl
+virtual_goes_last : (p : ClassPart) (done : List Class) (o : Open) (n : ℕ) (m : Method) → AllBelow (map method_key o.virtuals) (method_key m)
+    → add (within p done o None n) (virtual_line m) ≡ Some (within (behind false m) done (record o { virtuals = o.virtuals ++ m ∷ [] }) None n)
+unfolding add inside with_virtual
+virtual_goes_last p done o n m h = rw (with_last method_key m o.virtuals h) refl
 
-virtual_line_runs : (form : Form) (done : List Class) (o : Open) (st : Stage) (b : Body) (n : ℕ) (before : List Method) (m : Method) → is_in_class st ≡ true → MethodFits m → AllBelow (map method_key before) (method_key m)
-    → InClass form done (in_stage st done (with_virtuals o before) None b n) (keyed_text (virtual_line m)) (with_virtuals o (before ++ coded m None ∷ []))
+virtual_line_runs : (form : Form) (done : List Class) (o : Open) (p : ClassPart) (n : ℕ) (before : List Method) (m : Method) → MethodFits m → AllBelow (map method_key before) (method_key m)
+    → InClass form done (within p done (with_virtuals o before) None n) (keyed_text (virtual_line m)) (with_virtuals o (before ++ coded m None ∷ []))
 unfolding may_stand
-virtual_line_runs form done o st b n before m k f h =
-    let s = in_stage st done (with_virtuals o before) None b n in
-    let d = owned b false (method_key m) in
-    let t = in_stage Behind done (with_virtuals o (before ++ coded m None ∷ [])) None d (n + 1) in
-    let l = virtual_line (coded m None) in
-    record { stage = Behind; body = d; lines = n + 1; runs = keyed_runs form s t l tt refl f.0 k (virtual_goes_last (noted (counted s) l) (coded m None) h); in_class = refl }
+virtual_line_runs form done o p n before m f h =
+    let s = within p done (with_virtuals o before) None n in
+    let t = within (behind false m) done (with_virtuals o (before ++ coded m None ∷ [])) None (n + 1) in
+    record { part = behind false m; lines = n + 1; runs = keyed_runs form s t (virtual_line (coded m None)) tt refl f.0 (class_goes_on p) (virtual_goes_last p done (with_virtuals o before) (n + 1) (coded m None) h) }
 
-virtual_step : (form : Form) (done : List Class) (o : Open) (st : Stage) (b : Body) (n : ℕ) (before : List Method) (m : Method) → is_in_class st ≡ true → MethodFits m → AllBelow (map method_key before) (method_key m)
-    → InClass form done (in_stage st done (with_virtuals o before) None b n) ((virtual_text form) m) (with_virtuals o (before ++ m ∷ []))
+virtual_step : (form : Form) (done : List Class) (o : Open) (p : ClassPart) (n : ℕ) (before : List Method) (m : Method) → MethodFits m → AllBelow (map method_key before) (method_key m)
+    → InClass form done (within p done (with_virtuals o before) None n) ((virtual_text form) m) (with_virtuals o (before ++ m ∷ []))
 unfolding virtual_line_runs
-virtual_step form done o st b n before m k f h =
-    in_then form done (in_stage st done (with_virtuals o before) None b n) (keyed_text (virtual_line m)) ((body_text form) m.code) (with_virtuals o (before ++ coded m None ∷ [])) (with_virtuals o (before ++ m ∷ []))
-    (virtual_line_runs form done o st b n before m k f h)
-    (body_runs form done (with_virtuals o) false b (n + 1) before m m.code (λ ms k c. refl) h f.1)
+virtual_step form done o p n before m f h =
+    in_then form done (within p done (with_virtuals o before) None n) (keyed_text (virtual_line m)) ((body_text form) m.code) (with_virtuals o (before ++ coded m None ∷ [])) (with_virtuals o (before ++ m ∷ []))
+    (virtual_line_runs form done o p n before m f h)
+    (body_runs form done (with_virtuals o) false (n + 1) before m m.code (λ ms k c. refl) h f.1)
 
-pub virtuals_run : (form : Form) (done : List Class) (o : Open) (ms : List Method) (st : Stage) (b : Body) (n : ℕ) → is_in_class st ≡ true → AllByRecursion MethodFits ms → KeysAreSorted (map method_key ms)
-    → InClass form done (in_stage st done (with_virtuals o []) None b n) (flat_map (virtual_text form) ms) (with_virtuals o ms)
-virtuals_run form done o ms st b n k f s = each_runs form done (virtual_text form) (with_virtuals o) MethodFits method_key (virtual_step form done o) ms [] st b n k f s
+pub virtuals_run : (form : Form) (done : List Class) (o : Open) (ms : List Method) (p : ClassPart) (n : ℕ) → AllByRecursion MethodFits ms → KeysAreSorted (map method_key ms)
+    → InClass form done (within p done (with_virtuals o []) None n) (flat_map (virtual_text form) ms) (with_virtuals o ms)
+virtuals_run form done o ms p n f s = each_runs form done (virtual_text form) (with_virtuals o) MethodFits method_key (virtual_step form done o) ms [] p n f s

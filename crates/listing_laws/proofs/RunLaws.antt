@@ -8,8 +8,7 @@ use Rattle.program_rules.specs.WellFormed.{WellFormed}
 use Rattle.listing_words.specs.Texts.{glyph, escape_text, unit_text}
 use Rattle.listing_words.specs.Words.{Word, plain_word, text_in_quotes, IsGraphic, IsWritable, word_bytes, line_bytes}
 use Rattle.dex_base.proofs.NameUnits.{all_append}
-use Rattle.listing_lines.specs.declared.stage.Stage.TheVariants.{Top}
-use Rattle.listing_draft.specs.States.{State, start}
+use Rattle.listing_draft.specs.States.{at_top, State, start}
 use Rattle.listing_labels.specs.Lines.{lines}
 use Rattle.listing_parse.specs.Text.{Reading, Takes, Reads, IsListing}
 use Rattle.listing_lines.specs.declared.form.Form.TheVariants.{One}
@@ -25,7 +24,7 @@ no_lines : lines [] ≡ []
 unfolding lines
 no_lines = refl
 
-pub runs_whole : (g : Frame) (text : List ℕ) (p : Program) (t : State) → RunsInto (bare One) start text g t → t.stage ≡ Top → t.late ≡ None → t.done ≡ p → WellFormed p → IsListing text p
+pub runs_whole : (g : Frame) (text : List ℕ) (p : Program) (t : State) → RunsInto (bare One) start text g t → t.block ≡ at_top → t.late ≡ None → t.done ≡ p → WellFormed p → IsListing text p
 runs_whole g text p t x top late done formed = record {
   end = at g t;
   read = subst (λ (b : List ℕ). Reads (at (bare One) start) (lines b) [] (at g t)) (append-nil text) (x [] (at g t) (subst (λ (ls : List (List ℕ)). Reads (at g t) ls [] (at g t)) (sym no_lines) refl));

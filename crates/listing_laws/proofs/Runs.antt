@@ -1,12 +1,10 @@
 -- Whole lines in front of a text.
-use Rattle.std.proofs.Common.{◌≡◌, ℕ, ◌≤◌, true, List, [], ◌++◌, Option}
+use Rattle.std.proofs.Common.{◌≡◌, ℕ, ◌≤◌, true, List, [], ◌++◌, Option, None, refl}
 use Rattle.std.specs.List.{AllByRecursion}
 use Rattle.program_types.specs.Content.{Catch, Try, Class}
-use Rattle.listing_lines.specs.declared.stage.Stage.{Stage}
-use Rattle.listing_lines.specs.declared.stage.Stage.TheVariants.{Insns}
-use Rattle.listing_lines.specs.Places.{is_in_code}
+use Rattle.listing_lines.specs.Places.{is_in_class, is_in_code}
 use Rattle.listing_lines.specs.Needs.{Need}
-use Rattle.listing_draft.specs.States.{State, Open, Body, all_tries}
+use Rattle.listing_draft.specs.States.{State, Open, ClassPart, at_heads, at_members, behind_method, Body, CodePart, at_insns, behind_try, in_try, at_top, in_class, in_code, class_stage, code_stage, all_tries}
 use Rattle.listing_labels.specs.Lines.{lines}
 use Rattle.listing_lines.specs.declared.form.Form.{Form}
 use Rattle.listing_labels.specs.Labels.{Label}
@@ -41,28 +39,48 @@ RunsTo f s text t = RunsInto f s text f t
 abbrev pub NeedsFit : ℕ → List Need → Type 0
 NeedsFit c needs = AllByRecursion (λ (n : Need). n.count ≤ c) needs
 
--- At a stage: the whole classes, the class, the code, and how many lines were read.
-abbrev pub in_stage : Stage → List Class → Open → Option ℕ → Body → ℕ → State
-in_stage st done o late b n = record { done = done; stage = st; current = o; body = b; lines = n; late = late }
+-- Outside of classes: the whole classes, and how many lines were read. No target was late.
+abbrev pub outside : List Class → ℕ → State
+outside done n = record { done = done; block = at_top; lines = n; late = None }
 
--- The same among the instructions of a code.
-abbrev pub at_insns : List Class → Open → Option ℕ → Body → ℕ → State
-at_insns done o late b n = in_stage Insns done o late b n
+-- In a class.
+abbrev pub within : ClassPart → List Class → Open → Option ℕ → ℕ → State
+within p done o late n = record { done = done; block = in_class o p; lines = n; late = late }
 
--- The code with these tries, and a try that is open.
-abbrev pub with_handlers : Body → List Try → ℕ → ℕ → List Catch → List Need → Body
-with_handlers b ts from to xs needs = record b { tries = ts; from = from; to = to; catches = xs; needs = needs }
+-- In a code of a class.
+abbrev pub coding : CodePart → List Class → Open → Option ℕ → Body → ℕ → State
+coding p done o late b n = record { done = done; block = in_code o b p; lines = n; late = late }
+
+-- The same among the instructions of the code.
+abbrev pub among : List Class → Open → Option ℕ → Body → ℕ → State
+among done o late b n = coding at_insns done o late b n
+
+-- A try is open, with these catches.
+abbrev pub trying : ℕ → ℕ → List Catch → CodePart
+trying from to xs = in_try (record { from = from; to = to; catches = xs })
+
+-- A member or the class's end may stand wherever in a class.
+pub class_goes_on : (p : ClassPart) → is_in_class (class_stage p) ≡ true
+class_goes_on at_heads = refl
+class_goes_on at_members = refl
+class_goes_on (behind_method m) = refl
+
+-- A try or the code's end may stand wherever in a code.
+pub code_goes_on : (p : CodePart) → is_in_code (code_stage p) ≡ true
+code_goes_on at_insns = refl
+code_goes_on behind_try = refl
+code_goes_on (in_try t) = refl
+
+-- The code with these tries.
+abbrev pub with_handlers : Body → List Try → List Need → Body
+with_handlers b ts needs = record b { tries = ts; needs = needs }
 
 -- From state s, the text leads into the same code with these tries.
 pub record Tried (f : Frame) (c : ℕ) (done : List Class) (o : Open) (late : Option ℕ) (b : Body) (s : State) (text : List ℕ) (ts : List Try) : Type 0 where
-  pub stage : Stage
+  pub part : CodePart
   pub tries : List Try
-  pub from : ℕ
-  pub to : ℕ
-  pub catches : List Catch
   pub needs : List Need
   pub lines : ℕ
-  pub runs : RunsTo f s text (in_stage stage done o late (with_handlers b tries from to catches needs) lines)
-  pub in_code : is_in_code stage ≡ true
-  pub has : all_tries stage (with_handlers b tries from to catches needs) ≡ ts
+  pub runs : RunsTo f s text (coding part done o late (with_handlers b tries needs) lines)
+  pub has : all_tries part None tries ≡ ts
   pub fit : NeedsFit c needs

@@ -13,11 +13,9 @@ use Rattle.listing_slots.specs.declared.kind.Kind.TheVariants as kind
 use Rattle.listing_lines.specs.Lines.{open_code, end_code, try_line}
 use Rattle.listing_lines.specs.declared.form.Form.{Form}
 use Rattle.listing_lines.specs.declared.form.Form.TheVariants.{One, Two}
-use Rattle.listing_lines.specs.declared.stage.Stage.{Stage}
-use Rattle.listing_lines.specs.declared.stage.Stage.TheVariants.{Insns, Members, Behind}
-use Rattle.listing_lines.specs.Places.{may_stand, is_in_code}
+use Rattle.listing_lines.specs.Places.{may_stand}
 use Rattle.listing_lines.specs.Needs.{Need, first_late}
-use Rattle.listing_draft.specs.States.{Open, Body, placed, all_tries, begun, with_tries, whole_code, with_code_at}
+use Rattle.listing_draft.specs.States.{Open, Owner, Body, CodePart, behind_method, at_members, at_insns, add, all_tries, begun, with_tries, whole_code, with_code_at}
 use Rattle.listing_labels.specs.Lines.{lines, is_skipped}
 use Rattle.listing_labels.specs.Labels.{Label, first_word, is_stop, labels_ahead}
 use Rattle.listing_labels.proofs.AheadLaws.{ahead_stops}
@@ -25,7 +23,7 @@ use Rattle.listing_parse.specs.Text.{Reading, Reads, labels_behind}
 use Rattle.listing_print.specs.Printed.{line_operands, keyed_text, keyed_text_in}
 use Rattle.listing_print.specs.Canon.{insn_numbers, try_numbers, code_numbers, insns_text, catches_text, catch_all_text, try_text, code_text}
 use Rattle.listing_print.specs.Reading.{words_in, FitOperands}
-use Rattle.listing_laws.proofs.Runs.{Frame, bare, frame, at, RunsInto, RunsTo, NeedsFit, in_stage, with_handlers}
+use Rattle.listing_laws.proofs.Runs.{Frame, bare, frame, at, RunsInto, RunsTo, NeedsFit, within, coding, among, code_goes_on, with_handlers}
 use Rattle.listing_laws.proofs.Printable.{TryFits, CodeFits}
 use Rattle.listing_laws.proofs.RunLaws.{runs_joined, line_first, line_is, behind_spaces}
 use Rattle.listing_laws.proofs.KeyedLaws.{keyed_words, keyed_is, keyed_is_line, key_shown, end_line_runs, code_line_reads}
@@ -39,24 +37,24 @@ unfolding first_late
 none_late c [] h = refl
 none_late c (n ∷ ns) h = rw (le-ltb c n.count h.0) (none_late c ns h.1)
 
-begin_code : (form : Form) (es : List Label) (done : List Class) (o : Open) (b : Body) (n r i u : ℕ) (text rest : List ℕ) (v : Reading) → FitOperands (line_operands (open_code r i u))
-    → labels_behind form kind.OpenCode (n + 1 + 1) (lines (text ++ rest)) [] ≡ es → Reads (at (frame form es) (in_stage Insns done o None (begun b r i u) (n + 1))) (lines (text ++ rest)) [] v
-    → Reads (at (bare form) (in_stage Behind done o None b n)) (lines ((keyed_text (open_code r i u) ++ text) ++ rest)) [] v
-unfolding placed may_stand
-begin_code form es done o b n r i u text rest v f e x = code_line_reads (frame form es) (in_stage Behind done o None b n) (in_stage Insns done o None (begun b r i u) (n + 1)) r i u text rest v f refl refl e x
+begin_code : (form : Form) (es : List Label) (done : List Class) (o : Open) (m : Owner) (n r i u : ℕ) (text rest : List ℕ) (v : Reading) → FitOperands (line_operands (open_code r i u))
+    → labels_behind form kind.OpenCode (n + 1 + 1) (lines (text ++ rest)) [] ≡ es → Reads (at (frame form es) (among done o None (begun m r i u) (n + 1))) (lines (text ++ rest)) [] v
+    → Reads (at (bare form) (within (behind_method m) done o None n)) (lines ((keyed_text (open_code r i u) ++ text) ++ rest)) [] v
+unfolding add may_stand
+begin_code form es done o m n r i u text rest v f e x = code_line_reads (frame form es) (within (behind_method m) done o None n) (among done o None (begun m r i u) (n + 1)) r i u text rest v f refl refl e x
 
 -- the code's end, as it is computed
-close_code : (g : Frame) (st : Stage) (done : List Class) (o : Open) (b : Body) (n : ℕ) → (g.form ≡ One → g.labels ≡ []) → is_in_code st ≡ true
-    → RunsInto g (in_stage st done o None b n) (keyed_text end_code) (bare g.form) (in_stage Members done (with_code_at o b.direct b.method (whole_code (with_tries st b))) (first_late (length b.insns) b.needs) (with_tries st b) (n + 1))
-unfolding placed may_stand
-close_code g st done o b n e k = end_line_runs g (in_stage st done o None b n) (in_stage Members done (with_code_at o b.direct b.method (whole_code (with_tries st b))) (first_late (length b.insns) b.needs) (with_tries st b) (n + 1)) e k refl
+close_code : (g : Frame) (p : CodePart) (done : List Class) (o : Open) (b : Body) (n : ℕ) → (g.form ≡ One → g.labels ≡ [])
+    → RunsInto g (coding p done o None b n) (keyed_text end_code) (bare g.form) (within at_members done (with_code_at o b.owner (whole_code (with_tries b p None))) (first_late (length b.insns) b.needs) (n + 1))
+unfolding add may_stand
+close_code g p done o b n e = end_line_runs g (coding p done o None b n) (within at_members done (with_code_at o b.owner (whole_code (with_tries b p None))) (first_late (length b.insns) b.needs) (n + 1)) e (code_goes_on p) refl
 
-end_runs : (g : Frame) (st : Stage) (done : List Class) (o : Open) (b : Body) (n : ℕ) (ts : List Try) → (g.form ≡ One → g.labels ≡ []) → is_in_code st ≡ true → all_tries st b ≡ ts → NeedsFit (length b.insns) b.needs
-    → RunsInto g (in_stage st done o None b n) (keyed_text end_code) (bare g.form) (in_stage Members done (with_code_at o b.direct b.method (record { registers = b.registers; ins = b.ins; outs = b.outs; insns = b.insns; tries = ts })) None (with_tries st b) (n + 1))
-end_runs g st done o b n ts f k e a =
-    let s = in_stage st done o None b n in
-    let x = subst (λ (late : Option ℕ). RunsInto g s (keyed_text end_code) (bare g.form) (in_stage Members done (with_code_at o b.direct b.method (whole_code (with_tries st b))) late (with_tries st b) (n + 1))) (none_late (length b.insns) b.needs a) (close_code g st done o b n f k) in
-    subst (λ (us : List Try). RunsInto g s (keyed_text end_code) (bare g.form) (in_stage Members done (with_code_at o b.direct b.method (record { registers = b.registers; ins = b.ins; outs = b.outs; insns = b.insns; tries = us })) None (with_tries st b) (n + 1))) e x
+end_runs : (g : Frame) (p : CodePart) (done : List Class) (o : Open) (b : Body) (n : ℕ) (ts : List Try) → (g.form ≡ One → g.labels ≡ []) → all_tries p None b.tries ≡ ts → NeedsFit (length b.insns) b.needs
+    → RunsInto g (coding p done o None b n) (keyed_text end_code) (bare g.form) (within at_members done (with_code_at o b.owner (record { registers = b.registers; ins = b.ins; outs = b.outs; insns = b.insns; tries = ts })) None (n + 1))
+end_runs g p done o b n ts f e a =
+    let s = coding p done o None b n in
+    let x = subst (λ (late : Option ℕ). RunsInto g s (keyed_text end_code) (bare g.form) (within at_members done (with_code_at o b.owner (whole_code (with_tries b p None))) late (n + 1))) (none_late (length b.insns) b.needs a) (close_code g p done o b n f) in
+    subst (λ (us : List Try). RunsInto g s (keyed_text end_code) (bare g.form) (within at_members done (with_code_at o b.owner (record { registers = b.registers; ins = b.ins; outs = b.outs; insns = b.insns; tries = us })) None (n + 1))) e x
 
 -- ---- the labels of a code
 
@@ -116,28 +114,28 @@ code_ahead Two n c rest f =
     ap (λ t. labels_ahead [] (n + 1) 0 (lines t)) (append_assoc (insns_text Two (code_numbers c) 0 c.insns) tail rest)
     ∙ insns_ahead (code_numbers c) c.insns [] n 0 (length c.insns) (tail ++ rest) (none_before 0) (omega (arith, f.1)) f.2 (λ fs line j. tail_stops Two (length c.insns) c.tries rest fs line j f.3)
 
-pub code_runs : (form : Form) (done : List Class) (o : Open) (b : Body) (n : ℕ) (c : Code) → CodeFits c → (m : ℕ) × (e : Body) × RunsTo (bare form) (in_stage Behind done o None b n) ((code_text form) c) (in_stage Members done (with_code_at o b.direct b.method c) None e m)
-code_runs form done o b n c f =
+pub code_runs : (form : Form) (done : List Class) (o : Open) (m : Owner) (n : ℕ) (c : Code) → CodeFits c → (k : ℕ) × RunsTo (bare form) (within (behind_method m) done o None n) ((code_text form) c) (within at_members done (with_code_at o m c) None k)
+code_runs form done o m n c f =
     let l = length c.insns in
     let ns = code_numbers c in
     let es = labels_in form (n + 1) c in
     let g = frame form es in
-    let b0 = begun b c.registers c.ins c.outs in
+    let b0 = begun m c.registers c.ins c.outs in
     let few = f.1 in
     let mk = in_mark form (n + 1) c few in
     let y = insns_run form ns es done o None c.insns b0 (n + 1) 0 l (omega arith) f.2 mk (all_named insn_numbers c.insns ns (insns_among c)) (in_ahead form (n + 1) c) refl tt in
     let b1 : Body = record b0 { insns = c.insns; needs = y.1 } in
-    let x = tries_run g ns c.tries Insns done o None b1 y.0 l refl f.3 mk (all_named try_numbers c.tries ns (tries_among c)) y.3 in
-    let b2 = with_handlers b1 x.tries x.from x.to x.catches x.needs in
-    let z = end_runs g x.stage done o b2 x.lines c.tries (labels_none form (n + 1) c) x.in_code x.has x.fit in
-    let s0 = in_stage Behind done o None b n in
-    let s1 = in_stage Insns done o None b0 (n + 1) in
-    let s2 = in_stage Insns done o None b1 y.0 in
-    let s3 = in_stage x.stage done o None b2 x.lines in
-    let t = in_stage Members done (with_code_at o b.direct b.method c) None (with_tries x.stage b2) (x.lines + 1) in
+    let x = tries_run g ns c.tries at_insns done o None b1 y.0 l f.3 mk (all_named try_numbers c.tries ns (tries_among c)) y.3 in
+    let b2 = with_handlers b1 x.tries x.needs in
+    let z = end_runs g x.part done o b2 x.lines c.tries (labels_none form (n + 1) c) x.has x.fit in
+    let s0 = within (behind_method m) done o None n in
+    let s1 = among done o None b0 (n + 1) in
+    let s2 = among done o None b1 y.0 in
+    let s3 = coding x.part done o None b2 x.lines in
+    let t = within at_members done (with_code_at o m c) None (x.lines + 1) in
     let ti = insns_text form ns 0 c.insns in
     let tt = flat_map (try_text form) c.tries in
     let r3 = runs_joined g g (bare form) s2 s3 t tt (keyed_text end_code) x.runs z in
     let r2 = runs_joined g g (bare form) s1 s2 t ti (tt ++ keyed_text end_code) y.2 r3 in
-    let r1 : RunsTo (bare form) s0 ((code_text form) c) t = λ rest u r. begin_code form es done o b n c.registers c.ins c.outs (ti ++ (tt ++ keyed_text end_code)) rest u f.0 (code_ahead form (n + 1) c rest f) (r2 rest u r) in
-    (x.lines + 1, with_tries x.stage b2, r1)
+    let r1 : RunsTo (bare form) s0 ((code_text form) c) t = λ rest u r. begin_code form es done o m n c.registers c.ins c.outs (ti ++ (tt ++ keyed_text end_code)) rest u f.0 (code_ahead form (n + 1) c rest f) (r2 rest u r) in
+    (x.lines + 1, r1)

@@ -1,11 +1,14 @@
-//! The laws of listings: what is printed of a program is read again, as that program; which words are read as a value.
+//! The laws of listings: what is printed of a program is read again, as that program; which words are read as a value;
+//! what may be given once.
 //!
 //! A text of whole lines leads from what was read so far to what is read then, whatever follows it; texts that lead one
 //! behind the other lead as one. So the lines of a code, of a class and of a program are taken one by one.
 #![tactic(auto)]
 
 mod law;
+mod twice;
 mod values;
 
 pub use law::what_is_printed_is_read_again;
+pub use twice::only_what_is_given_twice_is_refused;
 pub use values::values_are_spelled;

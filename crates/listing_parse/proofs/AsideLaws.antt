@@ -4,6 +4,7 @@ use Rattle.std.proofs.lemmas.Bool.{eq-eqb, ne_eqb}
 use Rattle.listing_labels.specs.Labels.{Label, is_label, lookup}
 use Rattle.listing_labels.specs.View.{place_in}
 use Rattle.listing_labels.specs.declared.known.Place.{Place}
+use Rattle.listing_draft.specs.States.{stage_of}
 use Rattle.listing_lines.specs.Forms.{is_two}
 use Rattle.listing_lines.specs.Places.{is_start, is_insns}
 use Rattle.listing_words.specs.Words.{Word, plain_word}
@@ -34,15 +35,15 @@ or_last : (x : Bool) → x || true ≡ true
 or_last true = refl
 or_last false = refl
 
-pub second_first : (r : Reading) (ws : List Word) → is_second ws ≡ true → is_start r.base.stage ≡ true → First ≡ aside r ws
+pub second_first : (r : Reading) (ws : List Word) → is_second ws ≡ true → is_start (stage_of r.base.block) ≡ true → First ≡ aside r ws
 unfolding aside
 second_first r ws a b = rw (a, b, or_last (is_two r.form)) refl
 
-pub second_late : (r : Reading) (ws : List Word) → is_second ws ≡ true → is_start r.base.stage ≡ false → is_two r.form ≡ true → Refused 103 ≡ aside r ws
+pub second_late : (r : Reading) (ws : List Word) → is_second ws ≡ true → is_start (stage_of r.base.block) ≡ false → is_two r.form ≡ true → Refused 103 ≡ aside r ws
 unfolding aside
 second_late r ws a b d = rw (a, b, d) refl
 
-pub second_elsewhere : (r : Reading) (ws : List Word) → is_second ws ≡ true → is_start r.base.stage ≡ false → is_two r.form ≡ false → Nothing ≡ aside r ws
+pub second_elsewhere : (r : Reading) (ws : List Word) → is_second ws ≡ true → is_start (stage_of r.base.block) ≡ false → is_two r.form ≡ false → Nothing ≡ aside r ws
 unfolding aside
 second_elsewhere r ws a b d = rw (a, b, d) refl
 
@@ -52,8 +53,8 @@ pub lone : (ws rest : List Made) (x : Made) (name : List ℕ) → ws ≡ x ∷ r
 lone ws [] x name e l f = ap (map word) e ∙ ap (λ (w : Word). w ∷ []) f
 lone ws (y ∷ rest) x name e l f = absurd (omega (arith, l))
 
-pub mark_misplaced : (r : Reading) (ws : List Word) (name : List ℕ) → ws ≡ plain_word name ∷ [] → is_insns r.base.stage ≡ false → Refused 103 ≡ mark_aside r ws
+pub mark_misplaced : (r : Reading) (ws : List Word) (name : List ℕ) → ws ≡ plain_word name ∷ [] → is_insns (stage_of r.base.block) ≡ false → Refused 103 ≡ mark_aside r ws
 mark_misplaced r ws name e a = rw (e, a) refl
 
-pub mark_placed : (r : Reading) (ws : List Word) (name : List ℕ) (x : Aside) → ws ≡ plain_word name ∷ [] → is_insns r.base.stage ≡ true → x ≡ label_aside r name → x ≡ mark_aside r ws
+pub mark_placed : (r : Reading) (ws : List Word) (name : List ℕ) (x : Aside) → ws ≡ plain_word name ∷ [] → is_insns (stage_of r.base.block) ≡ true → x ≡ label_aside r name → x ≡ mark_aside r ws
 mark_placed r ws name x e a l = rw (e, a) l

@@ -168,7 +168,7 @@ listing_none text p code place b a = elim b [
   | inl w ↦
       let x = reads_split w.before w.bad w.behind begin w.state a.end w.accepted (subst (λ (ls : List (List ℕ)). Reads begin ls [] a.end) w.joined a.read) in
       refused_takes w.state w.behind w.bad x.0 code w.refused x.1
-  | inr (inl w) ↦ w.2.inside (ap (λ (r : Reading). r.base.stage) (reads_one (lines text) [] begin w.2.state a.end w.2.accepted a.read) ∙ a.whole)
+  | inr (inl w) ↦ w.2.inside (ap (λ (r : Reading). r.base.block) (reads_one (lines text) [] begin w.2.state a.end w.2.accepted a.read) ∙ a.whole)
   | inr (inr (inl w)) ↦
       let e = reads_one (lines text) [] begin w.1.state a.end w.1.accepted a.read in
       let f : Some place ≡ None = sym w.1.late ∙ ap (λ (r : Reading). r.base.late) e ∙ a.targets in cc

@@ -5,12 +5,13 @@ use Rattle.base_bytes.specs.declared.fault.Fault.{Fault}
 use Rattle.program_rules.specs.Rules.{RuleBreaks}
 use Rattle.program_rules.specs.WellFormed.{WellFormed}
 use Rattle.program_types.specs.Content.{Program}
-use Rattle.listing_lines.specs.declared.stage.Stage.TheVariants.{Top}
+use Rattle.listing_draft.specs.declared.block.Block.{Block}
+use Rattle.listing_draft.specs.declared.block.Block.TheVariants.{Start, Top, Class as Within, Code}
 use Rattle.listing_draft.specs.declared.draft.Draft.{Draft}
-use Rattle.listing_draft.specs.States.{State}
+use Rattle.listing_draft.specs.States.{at_top, State}
 use Rattle.listing_labels.specs.Lines.{lines}
 use Rattle.listing_parse.specs.Text.{Reading, begin, tallied, Takes, Reads, IsListing, IsRefused, IsBadLine, ListingBreaks, IsFinished, IsUnfinished}
-use Rattle.listing_draft.specs.View.{state}
+use Rattle.listing_draft.specs.View.{block, state}
 use Rattle.listing_parse.specs.View.{reading}
 use Rattle.listing_parse.specs.declared.reading.Reading.{Reading as Made}
 
@@ -54,24 +55,31 @@ lines_in r = refl
 
 -- ---- behind the last line
 
-pub finished : (d : Draft) → d.stage ≡ Top → d.late ≡ None → IsFinished (state d)
-unfolding state
-finished d t l = (t, l)
+pub finished : (d : Draft) → d.block ≡ Top → d.late ≡ None → IsFinished (state d)
+unfolding state block
+finished d t l = (ap block t, l)
 
-pub late_end : (d : Draft) (n : ℕ) → d.stage ≡ Top → d.late ≡ Some n → IsUnfinished (state d) 105 n
-unfolding state
-late_end d n t l = inr (refl, t, l)
+pub late_end : (d : Draft) (n : ℕ) → d.block ≡ Top → d.late ≡ Some n → IsUnfinished (state d) 105 n
+unfolding state block
+late_end d n t l = inr (refl, ap block t, l)
 
-pub open_end : (d : Draft) → (d.stage ≡ Top → ⊥) → IsUnfinished (state d) 106 d.lines
+outside : (b : Block) → block b ≡ at_top → b ≡ Top
+unfolding block
+outside Start e = absurd cc
+outside Top e = refl
+outside (Within c) e = absurd cc
+outside (Code c) e = absurd cc
+
+pub open_end : (d : Draft) → (d.block ≡ Top → ⊥) → IsUnfinished (state d) 106 d.lines
 unfolding state
-open_end d t = inl (refl, refl, t)
+open_end d t = inl (refl, refl, λ e. t (outside d.block e))
 
 pub whole_text : (text : List ℕ) (s : State) (r : Reading) (p : Program) → Reads begin (lines text) [] r → r.base ≡ s → IsFinished s → p ≡ s.done → WellFormed p → IsListing text p
-whole_text text s r p d q w e f = record { end = r; read = d; whole = ap (λ (x : State). x.stage) q ∙ w.0; targets = ap (λ (x : State). x.late) q ∙ w.1; classes = ap (λ (x : State). x.done) q ∙ sym e; formed = f }
+whole_text text s r p d q w e f = record { end = r; read = d; whole = ap (λ (x : State). x.block) q ∙ w.0; targets = ap (λ (x : State). x.late) q ∙ w.1; classes = ap (λ (x : State). x.done) q ∙ sym e; formed = f }
 
 pub unfinished_text : (text : List ℕ) (s : State) (r : Reading) (code place : ℕ) → Reads begin (lines text) [] r → r.base ≡ s → s.lines ≡ length (lines text) → IsUnfinished s code place → ListingBreaks text code place
-unfinished_text text s r code place d q n (inl u) = inr (inl (u.0, u.1 ∙ n, record { state = r; accepted = d; inside = λ t. u.2 (sym (ap (λ (x : State). x.stage) q) ∙ t) }))
-unfinished_text text s r code place d q n (inr u) = inr (inr (inl (u.0, record { state = r; accepted = d; whole = ap (λ (x : State). x.stage) q ∙ u.1; late = ap (λ (x : State). x.late) q ∙ u.2 })))
+unfinished_text text s r code place d q n (inl u) = inr (inl (u.0, u.1 ∙ n, record { state = r; accepted = d; inside = λ t. u.2 (sym (ap (λ (x : State). x.block) q) ∙ t) }))
+unfinished_text text s r code place d q n (inr u) = inr (inr (inl (u.0, record { state = r; accepted = d; whole = ap (λ (x : State). x.block) q ∙ u.1; late = ap (λ (x : State). x.late) q ∙ u.2 })))
 
 pub unruly_text : (text : List ℕ) (s : State) (r : Reading) (p : Program) (e : Fault) → Reads begin (lines text) [] r → r.base ≡ s → IsFinished s → p ≡ s.done → RuleBreaks p e → ListingBreaks text e.code e.place
-unruly_text text s r p e d q w m b = inr (inr (inr (record { state = r; accepted = d; whole = ap (λ (x : State). x.stage) q ∙ w.0; targets = ap (λ (x : State). x.late) q ∙ w.1; breaks = subst (λ (x : Program). RuleBreaks x e) (m ∙ sym (ap (λ (x : State). x.done) q)) b })))
+unruly_text text s r p e d q w m b = inr (inr (inr (record { state = r; accepted = d; whole = ap (λ (x : State). x.block) q ∙ w.0; targets = ap (λ (x : State). x.late) q ∙ w.1; breaks = subst (λ (x : Program). RuleBreaks x e) (m ∙ sym (ap (λ (x : State). x.done) q)) b })))

@@ -10,7 +10,7 @@ use Rattle.listing_shapes.specs.Shapes.{Shape, HasShape, HasBareShape}
 use Rattle.listing_lines.specs.Places.{may_stand}
 use Rattle.listing_lines.specs.declared.form.Form.{Form}
 use Rattle.listing_lines.specs.declared.form.Form.TheVariants.{One, Two}
-use Rattle.listing_draft.specs.States.{State, stands}
+use Rattle.listing_draft.specs.States.{State, stage_of, stands}
 
 -- The words have this shape.
 abbrev pub Shapes : Form → List Word → Shape → Type 0
@@ -20,7 +20,7 @@ Shapes Two ws s = HasBareShape ws s
 -- A line of this shape may stand there.
 abbrev pub may_be : Form → State → Shape → Bool
 may_be One s sh = stands s sh
-may_be Two s sh = may_stand s.stage sh.kind
+may_be Two s sh = may_stand (stage_of s.block) sh.kind
 
 -- Each word says this in its slot.
 abbrev pub Spells : Form → List Label → List Slot → List Word → List Datum → Type 0

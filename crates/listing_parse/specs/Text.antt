@@ -11,10 +11,9 @@ use Rattle.listing_slots.specs.declared.kind.Kind.TheVariants as kind
 use Rattle.listing_slots.specs.Keys.{same}
 use Rattle.listing_shapes.specs.Shapes.{Shape}
 use Rattle.listing_lines.specs.Lines.{line_of}
-use Rattle.listing_lines.specs.declared.stage.Stage.TheVariants.{Top}
 use Rattle.listing_lines.specs.Places.{is_start, is_insns}
 use Rattle.listing_lines.specs.Forms.{is_two}
-use Rattle.listing_draft.specs.States.{State, start, counted, add}
+use Rattle.listing_draft.specs.States.{at_top, State, start, stage_of, counted, add}
 use Rattle.listing_labels.specs.Lines.{lines, is_skipped}
 use Rattle.listing_labels.specs.Labels.{Label, is_label, is_mark, lookup, labels_ahead}
 use Rattle.listing_parse.specs.Forms.{Shapes, may_be, Spells, Misspells}
@@ -65,18 +64,18 @@ label_aside r w = if is_label w then (if is_on r.base.lines (lookup w r.labels) 
 
 -- The line of a label: one word, among instructions.
 abbrev pub mark_aside : Reading → List Word → Aside
-mark_aside r (plain_word w ∷ []) = if is_insns r.base.stage then label_aside r w else Refused 103
+mark_aside r (plain_word w ∷ []) = if is_insns (stage_of r.base.block) then label_aside r w else Refused 103
 mark_aside r _ = Refused 100
 
 -- What a line is that says nothing of the program: the first line of the second form, or a label's line, or why neither.
 unfoldable pub aside : Reading → List Word → Aside
 aside r ws =
-    if is_second ws && (is_two r.form || is_start r.base.stage) then (if is_start r.base.stage then First else Refused 103)
+    if is_second ws && (is_two r.form || is_start (stage_of r.base.block)) then (if is_start (stage_of r.base.block) then First else Refused 103)
     else (if is_two r.form && begins_mark ws then mark_aside r ws else Nothing)
 
 -- The listing is of the second form.
 abbrev pub in_second : Reading → Reading
-in_second r = record { form = Two; labels = []; base = record r.base { stage = Top } }
+in_second r = record { form = Two; labels = []; base = record r.base { block = at_top } }
 
 -- ---- lines one by one
 
@@ -117,7 +116,7 @@ Reads r (l ∷ ls) rest t = (u : Reading) × Takes r (ls ++ rest) l u × Reads u
 pub record IsListing (text : List ℕ) (p : Program) : Type 0 where
   pub end : Reading
   pub read : Reads begin (lines text) [] end
-  pub whole : end.base.stage ≡ Top
+  pub whole : end.base.block ≡ at_top
   pub targets : end.base.late ≡ None
   pub classes : end.base.done ≡ p
   pub formed : WellFormed p
@@ -178,13 +177,13 @@ pub record IsBadLine (ls : List (List ℕ)) (code place : ℕ) : Type 0 where
 pub record IsOpen (ls : List (List ℕ)) : Type 0 where
   pub state : Reading
   pub accepted : Reads begin ls [] state
-  pub inside : state.base.stage ≢ Top
+  pub inside : state.base.block ≢ at_top
 
 -- 105 Target: all lines are accepted and no block is open, and this is the lowest line with a target that is no instruction.
 pub record IsLate (ls : List (List ℕ)) (place : ℕ) : Type 0 where
   pub state : Reading
   pub accepted : Reads begin ls [] state
-  pub whole : state.base.stage ≡ Top
+  pub whole : state.base.block ≡ at_top
   pub late : state.base.late ≡ Some place
 
 -- 110 to 118: all lines are accepted, no block is open and each target is an instruction, but the program breaks a rule; the
@@ -192,7 +191,7 @@ pub record IsLate (ls : List (List ℕ)) (place : ℕ) : Type 0 where
 pub record IsIllFormed (ls : List (List ℕ)) (code place : ℕ) : Type 0 where
   pub state : Reading
   pub accepted : Reads begin ls [] state
-  pub whole : state.base.stage ≡ Top
+  pub whole : state.base.block ≡ at_top
   pub targets : state.base.late ≡ None
   pub breaks : RuleBreaks state.base.done (record { code = code; place = place })
 
@@ -208,8 +207,8 @@ ListingBreaks text code place =
 
 -- Behind all lines: no block is open, and each target is an instruction of its code.
 abbrev pub IsFinished : State → Type 0
-IsFinished s = (s.stage ≡ Top) × (s.late ≡ None)
+IsFinished s = (s.block ≡ at_top) × (s.late ≡ None)
 
 -- Or why not.
 abbrev pub IsUnfinished : State → ℕ → ℕ → Type 0
-IsUnfinished s code place = ((code ≡ 106) × (place ≡ s.lines) × (s.stage ≢ Top)) ⊎ ((code ≡ 105) × (s.stage ≡ Top) × (s.late ≡ Some place))
+IsUnfinished s code place = ((code ≡ 106) × (place ≡ s.lines) × (s.block ≢ at_top)) ⊎ ((code ≡ 105) × (s.block ≡ at_top) × (s.late ≡ Some place))

@@ -17,9 +17,9 @@ ghost use Rattle.listing_parse.specs.View.{reading};
 use crate::aside::Aside;
 use bumpalo::Bump;
 use dex_base::{Fault, fault};
-use listing_draft::Draft;
+use listing_draft::{Block, Draft};
 use listing_labels::{Labels, is_label, is_mark, is_skipped, look_ahead, read_all, split_line};
-use listing_lines::{Form, Stage, is_insns, is_start, is_two, make_line, may_stand};
+use listing_lines::{Form, is_insns, is_start, is_two, make_line, may_stand};
 use listing_shapes::{Found, read_bare_shape, read_shape};
 use listing_slots::{Datum, Kind, Slot, is_same, read_operands};
 use listing_words::{Word, read_words};
@@ -119,7 +119,7 @@ impl<'a, 't> Reading<'a, 't> {
         if rest.len() > 0 {
             return Aside::Refused(fault::LINE_WORD);
         }
-        if !is_insns(self.draft.stage) {
+        if !is_insns(self.draft.stage()) {
             return Aside::Refused(fault::LINE_ORDER);
         }
         self.label_aside(name)
@@ -131,7 +131,7 @@ impl<'a, 't> Reading<'a, 't> {
         ensures { result ≡ aside (reading self.now) (map word words.now) }
     {
         if is_second(words) {
-            if is_start(self.draft.stage) {
+            if is_start(self.draft.stage()) {
                 return Aside::First;
             }
             if is_two(self.form) {
@@ -156,7 +156,7 @@ impl<'a, 't> Reading<'a, 't> {
     {
         self.form = Form::Two;
         self.labels.clear();
-        self.draft.stage = Stage::Top;
+        self.draft.block = Block::Top;
     }
 
     /// The line of a label was read. The number of such lines is the index of the next label ahead, which is looked at first.
@@ -175,7 +175,7 @@ impl<'a, 't> Reading<'a, 't> {
     {
         match self.form {
             Form::One => self.draft.stands(found),
-            Form::Two => may_stand(self.draft.stage, found.kind),
+            Form::Two => may_stand(self.draft.stage(), found.kind),
         }
     }
 
@@ -396,8 +396,8 @@ fn check_end(draft: &Draft<'_>) -> Result<(), Fault>
     ensures ok { OnOk result (IsFinished (state draft.now)) }
     ensures err { IfErr result (λ e. IsUnfinished (state draft.now) e.code e.place) }
 {
-    match draft.stage {
-        Stage::Top => match draft.late {
+    match draft.block {
+        Block::Top => match draft.late {
             Some(place) => Err(Fault {
                 code: fault::LINE_TARGET,
                 place,

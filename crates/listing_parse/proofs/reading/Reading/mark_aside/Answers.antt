@@ -1,7 +1,8 @@
-use Rattle.std.proofs.Common.{rules, ◌≡◌, ◌∙◌, sym, map, ◌∷◌, length}
+use Rattle.std.proofs.Common.{rules, ◌≡◌, ◌∙◌, sym, ap, map, ◌∷◌, length}
 use Rattle.listing_words.specs.View.{word}
 use Rattle.listing_words.specs.Words.{plain_word}
 use Rattle.listing_draft.specs.View.{state}
+use Rattle.listing_lines.specs.Places.{is_insns}
 use Rattle.listing_parse.specs.View.{reading}
 use Rattle.listing_parse.proofs.AsideLaws.{lone, mark_misplaced, mark_placed}
 use Rattle.listing_parse.proofs.reading.Reading.mark_aside.Goals as goal
@@ -13,7 +14,7 @@ returns-then-not-is_insns c =
     let none : length c.in-Some-Plain-default.rest.now ≡ 0 = search rules in
     let plain : word c.in-Some-Plain-default.field-0-0.now ≡ plain_word c.in-Some-Plain-default.name.now = search rules in
     let e = lone c.args.words.now c.in-Some-Plain-default.rest.now c.in-Some-Plain-default.field-0-0.now c.in-Some-Plain-default.name.now first none plain in
-    mark_misplaced (reading c.args.self.now) (map word c.args.words.now) c.in-Some-Plain-default.name.now e (sym c.is_insns.ensures ∙ c.if-not-is_insns.true)
+    mark_misplaced (reading c.args.self.now) (map word c.args.words.now) c.in-Some-Plain-default.name.now e (ap is_insns (sym c.stage.ensures) ∙ sym c.is_insns.ensures ∙ c.if-not-is_insns.true)
 
 pub returns : goal.returns
 unfolding reading state
@@ -22,4 +23,4 @@ returns c =
     let none : length c.in-Some-Plain-default.rest.now ≡ 0 = search rules in
     let plain : word c.in-Some-Plain-default.field-0-0.now ≡ plain_word c.in-Some-Plain-default.name.now = search rules in
     let e = lone c.args.words.now c.in-Some-Plain-default.rest.now c.in-Some-Plain-default.field-0-0.now c.in-Some-Plain-default.name.now first none plain in
-    mark_placed (reading c.args.self.now) (map word c.args.words.now) c.in-Some-Plain-default.name.now c.label_aside.result e (sym c.is_insns.ensures ∙ c.if-not-is_insns.false) c.label_aside.ensures
+    mark_placed (reading c.args.self.now) (map word c.args.words.now) c.in-Some-Plain-default.name.now c.label_aside.result e (ap is_insns (sym c.stage.ensures) ∙ sym c.is_insns.ensures ∙ c.if-not-is_insns.false) c.label_aside.ensures

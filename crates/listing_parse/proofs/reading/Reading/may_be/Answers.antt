@@ -6,4 +6,4 @@ returns-in-One c = λ ss ws. rw c.in-One.is (c.stands.ensures ss ws)
 
 pub returns-in-Two : goal.returns-in-Two
 unfolding state
-returns-in-Two c = λ ss ws. rw c.in-Two.is c.may_stand.ensures
+returns-in-Two c = λ ss ws. rw (c.in-Two.is, ← c.stage.ensures) c.may_stand.ensures

@@ -1,0 +1,23 @@
+-- What a class may be given once.
+-- Page: docs/LISTING.md, "Faults" (104).
+use Rattle.std.specs.Prelude.{Bool, false, is_some}
+use Rattle.program_rules.specs.Rules.{member_key, method_key}
+use Rattle.listing_lines.specs.Lines.{Line, super_line, implements_line, source_line, static_line, instance_line, direct_line, virtual_line}
+use Rattle.listing_draft.specs.Members.{given_key, is_held}
+use Rattle.listing_draft.specs.States.{Open, Block, in_class, is_among}
+
+-- The class has it: a superclass, this interface, a source file, or a member of this key.
+abbrev pub is_given : Open → Line → Bool
+is_given o (super_line d) = is_some o.superclass
+is_given o (implements_line d) = is_among o.interfaces d
+is_given o (source_line us) = is_some o.source
+is_given o (static_line m v) = is_held given_key (member_key m) o.statics
+is_given o (instance_line m) = is_held member_key (member_key m) o.instances
+is_given o (direct_line m) = is_held method_key (method_key m) o.directs
+is_given o (virtual_line m) = is_held method_key (method_key m) o.virtuals
+is_given o _ = false
+
+-- The class that is open has it.
+abbrev pub is_twice : Block → Line → Bool
+is_twice (in_class o p) line = is_given o line
+is_twice _ line = false
