@@ -81,10 +81,7 @@ pub(crate) fn numbers_of(alloc: Global, pads: &[bool]) -> Result<Vec<u32>, Fault
     }
     let end = pads.len() as u32 + nops;
     if end > 2147483647 {
-        return Err(Fault {
-            code: fault::TOO_BIG,
-            place: 0,
-        });
+        return Err(Fault::at(fault::TOO_BIG, 0));
     }
     all.push(end)?;
     Ok(all)

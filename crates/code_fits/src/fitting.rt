@@ -37,25 +37,16 @@ fn check_tries(alloc: Global, ranks: &Ranks<'_>, all: &Starts, code: &Code<'_>) 
     ensures err { IfErr result (λ e. e ≢ memory → IsUnfit (NameRanks ranks.now) (view.code code.now) e) }
 {
     if !tries_fit(&all.starts, code.tries) {
-        return Err(Fault {
-            code: fault::TRY_TOO_LONG,
-            place: 0,
-        });
+        return Err(Fault::at(fault::TRY_TOO_LONG, 0));
     }
     if code.tries.len() > 65535 {
-        return Err(Fault {
-            code: fault::TOO_MANY_TRIES,
-            place: 0,
-        });
+        return Err(Fault::at(fault::TOO_MANY_TRIES, 0));
     }
     if !is_short(all.end, code.tries) {
         return Ok(());
     }
     if !handlers_fit(alloc, ranks, &all.starts, code.tries)? {
-        return Err(Fault {
-            code: fault::HANDLER_TOO_FAR,
-            place: 0,
-        });
+        return Err(Fault::at(fault::HANDLER_TOO_FAR, 0));
     }
     Ok(())
 }
@@ -81,36 +72,21 @@ pub fn fits(alloc: Global, ranks: &Ranks<'_>, code: &Code<'_>) -> Result<(), Fau
     ensures err { IfErr result (λ e. e ≢ memory → IsUnfit (NameRanks ranks.now) (view.code code.now) e) }
 {
     if !names_fit(ranks, IndexKind::String, code.insns) {
-        return Err(Fault {
-            code: fault::STRING_OUT_OF_REACH,
-            place: 0,
-        });
+        return Err(Fault::at(fault::STRING_OUT_OF_REACH, 0));
     }
     if !names_fit(ranks, IndexKind::Field, code.insns) {
-        return Err(Fault {
-            code: fault::FIELD_OUT_OF_REACH,
-            place: 0,
-        });
+        return Err(Fault::at(fault::FIELD_OUT_OF_REACH, 0));
     }
     if !names_fit(ranks, IndexKind::Method, code.insns) {
-        return Err(Fault {
-            code: fault::METHOD_OUT_OF_REACH,
-            place: 0,
-        });
+        return Err(Fault::at(fault::METHOD_OUT_OF_REACH, 0));
     }
     let all = starts_of(alloc, code.insns)?;
     let origins = origins_of(alloc, code.insns)?;
     if !offsets_fit(&all.starts, &origins, code.insns) {
-        return Err(Fault {
-            code: fault::BRANCH_OUT_OF_REACH,
-            place: 0,
-        });
+        return Err(Fault::at(fault::BRANCH_OUT_OF_REACH, 0));
     }
     if !are_even(&all.starts, code.insns) {
-        return Err(Fault {
-            code: fault::MISALIGNED,
-            place: 0,
-        });
+        return Err(Fault::at(fault::MISALIGNED, 0));
     }
     check_tries(alloc, ranks, &all, code)?;
     Ok(())

@@ -119,10 +119,7 @@ pub(crate) fn check_names(
 {
     for k in 0..insns.len() {
         if !has_name(tables, &insns[k]) {
-            return Err(Fault {
-                code: fault::OPERAND_INDEX,
-                place: base + 2 * u64::from(begins[k]),
-            });
+            return Err(Fault::at(fault::OPERAND_INDEX, base + 2 * u64::from(begins[k])));
         }
     }
     Ok(())
@@ -137,16 +134,10 @@ pub(crate) fn check_branches(insns: &[RawInsn<'_>], begins: &[u32], base: u64) -
 {
     for k in 0..insns.len() {
         if !branch_lands(insns, begins, k) {
-            return Err(Fault {
-                code: fault::BRANCH_TARGET,
-                place: base + 2 * u64::from(begins[k]),
-            });
+            return Err(Fault::at(fault::BRANCH_TARGET, base + 2 * u64::from(begins[k])));
         }
         if !branch_moves(insns, k) {
-            return Err(Fault {
-                code: fault::BRANCH_ZERO,
-                place: base + 2 * u64::from(begins[k]),
-            });
+            return Err(Fault::at(fault::BRANCH_ZERO, base + 2 * u64::from(begins[k])));
         }
     }
     Ok(())
@@ -209,10 +200,7 @@ pub(crate) fn check_targets(
 {
     for k in 0..insns.len() {
         if !targets_hold(all, insns, begins, k) {
-            return Err(Fault {
-                code: fault::BRANCH_TARGET,
-                place: base + 2 * u64::from(begins[k]),
-            });
+            return Err(Fault::at(fault::BRANCH_TARGET, base + 2 * u64::from(begins[k])));
         }
     }
     Ok(())

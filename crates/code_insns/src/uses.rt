@@ -119,10 +119,7 @@ pub fn check_uses(
 {
     for k in 0..insns.len() {
         if !use_holds(all, insns, begins, k) {
-            return Err(Fault {
-                code: fault::PAYLOAD_USE,
-                place: base + 2 * u64::from(begins[k]),
-            });
+            return Err(Fault::at(fault::PAYLOAD_USE, base + 2 * u64::from(begins[k])));
         }
     }
     Ok(())

@@ -42,10 +42,7 @@ pub fn walk<'b>(alloc: Global, units: &'b [u8], base: u64) -> Result<Walked<'b>,
                 at += size_of(&insn);
             }
             Err(fault) => {
-                return Err(Fault {
-                    code: fault.code,
-                    place: base + 2 * at,
-                });
+                return Err(Fault::at(fault.code, base + 2 * at));
             }
         }
     }

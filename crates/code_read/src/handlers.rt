@@ -127,10 +127,7 @@ fn read_catches<'a, 'b>(
     let mut left = bytes;
     for _turn in 0..count {
         let Some((one, after)) = read_catch(tables, starts, left) else {
-            return Err(Fault {
-                code: fault::HANDLER,
-                place: list,
-            });
+            return Err(Fault::at(fault::HANDLER, list));
         };
         all.push(one)?;
         left = after;
@@ -154,10 +151,7 @@ pub(crate) fn read_handler<'a, 'b>(
     ensures err { IfErr result (λ e. e ≢ memory → NoneBegins (SpellsHandler (NameIsAt tables.now) starts.now) bytes.now) }
 {
     let Some((n, behind)) = read_signed(bytes) else {
-        return Err(Fault {
-            code: fault::HANDLER,
-            place: list,
-        });
+        return Err(Fault::at(fault::HANDLER, list));
     };
     let (catches, rest) = read_catches(
         alloc,
@@ -172,10 +166,7 @@ pub(crate) fn read_handler<'a, 'b>(
         return Ok((Caught { catches, all: None }, rest));
     }
     let Some((at, after)) = read_place(tables, starts, rest) else {
-        return Err(Fault {
-            code: fault::HANDLER,
-            place: list,
-        });
+        return Err(Fault::at(fault::HANDLER, list));
     };
     Ok((
         Caught {

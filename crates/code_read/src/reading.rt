@@ -38,16 +38,10 @@ fn register_fault(off: u32, registers: u16, ins: u16, past: Option<u32>) -> Opti
         ⊎ ((ins ≤ registers) × (at : ℕ) × (past ≡ Some at) × (e ≡ record { code = 73; place = off + 16 + 2 * at }))) }
 {
     if ins > registers {
-        return Some(Fault {
-            code: fault::REGISTER,
-            place: u64::from(off),
-        });
+        return Some(Fault::at(fault::REGISTER, u64::from(off)));
     }
     match past {
-        Some(at) => Some(Fault {
-            code: fault::REGISTER,
-            place: u64::from(off) + 16 + 2 * u64::from(at),
-        }),
+        Some(at) => Some(Fault::at(fault::REGISTER, u64::from(off) + 16 + 2 * u64::from(at))),
         None => None,
     }
 }
@@ -67,16 +61,10 @@ fn read_item<'a>(
     ensures err { IfErr result (λ e. e ≢ memory → ItemBreaks (NameIsAt tables.now) off bytes.now e) }
 {
     let Some(item) = item_of(bytes) else {
-        return Err(Fault {
-            code: fault::CODE_PLACE,
-            place: u64::from(off),
-        });
+        return Err(Fault::at(fault::CODE_PLACE, u64::from(off)));
     };
     if item.size == 0 {
-        return Err(Fault {
-            code: fault::EMPTY_CODE,
-            place: u64::from(off),
-        });
+        return Err(Fault::at(fault::EMPTY_CODE, u64::from(off)));
     }
     let insns = read_insns(
         alloc,
@@ -125,17 +113,11 @@ pub fn read_body<'a>(
         (c : content.Code) → ¬ BodyStands (NameIsAt tables.now) sections.now off c) }
 {
     if off % 4 != 0 {
-        return Err(Fault {
-            code: fault::CODE_PLACE,
-            place: u64::from(off),
-        });
+        return Err(Fault::at(fault::CODE_PLACE, u64::from(off)));
     }
     let section = section_of(sections, CODE_ITEMS);
     let Some(bytes) = bytes_from(sections, CODE_ITEMS, section, off) else {
-        return Err(Fault {
-            code: fault::CODE_PLACE,
-            place: u64::from(off),
-        });
+        return Err(Fault::at(fault::CODE_PLACE, u64::from(off)));
     };
     read_item(alloc, arena, tables, off, bytes)
 }

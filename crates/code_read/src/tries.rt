@@ -89,10 +89,7 @@ fn check_tries(starts: &[u32], size: u32, items: &[u8], tries: u16, base: u64) -
 {
     for i in 0..tries {
         if !try_holds(starts, size, items, i as usize) {
-            return Err(Fault {
-                code: fault::TRY,
-                place: base + 8 * u64::from(i),
-            });
+            return Err(Fault::at(fault::TRY, base + 8 * u64::from(i)));
         }
     }
     Ok(())
@@ -125,10 +122,7 @@ fn read_list<'a>(
     ensures err { IfErr result (λ e. e ≢ memory → NoneBegins (SpellsList (NameIsAt tables.now) starts.now) bytes.now) }
 {
     let Some((count, behind)) = read_number(bytes) else {
-        return Err(Fault {
-            code: fault::HANDLER,
-            place: list,
-        });
+        return Err(Fault::at(fault::HANDLER, list));
     };
     let mut offsets = Vec::new(alloc);
     let mut handlers = Vec::new(alloc);
@@ -192,10 +186,7 @@ fn take_tries<'a>(
     let mut found = Vec::with_capacity(arena, usize::from(tries))?;
     for i in 0..tries {
         let Some(one) = take_try(starts, items, all, usize::from(i)) else {
-            return Err(Fault {
-                code: fault::HANDLER,
-                place: list,
-            });
+            return Err(Fault::at(fault::HANDLER, list));
         };
         found.push(one)?;
     }

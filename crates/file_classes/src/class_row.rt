@@ -138,34 +138,19 @@ pub(crate) fn read_row<'a>(
 {
     let place = class_place(sections, i);
     let Some(ty) = type_at(sections, tables, class_word(sections, i, 0)) else {
-        return Err(Fault {
-            code: fault::CLASS_INDEX,
-            place,
-        });
+        return Err(Fault::at(fault::CLASS_INDEX, place));
     };
     let Some(superclass) = type_or_none(sections, tables, class_word(sections, i, 2)) else {
-        return Err(Fault {
-            code: fault::CLASS_INDEX,
-            place,
-        });
+        return Err(Fault::at(fault::CLASS_INDEX, place));
     };
     let Some(source) = string_or_none(sections, tables, class_word(sections, i, 4)) else {
-        return Err(Fault {
-            code: fault::CLASS_INDEX,
-            place,
-        });
+        return Err(Fault::at(fault::CLASS_INDEX, place));
     };
     if !is_class_type(ty) {
-        return Err(Fault {
-            code: fault::CLASS_KIND,
-            place,
-        });
+        return Err(Fault::at(fault::CLASS_KIND, place));
     }
     if !is_class_or_none(superclass) {
-        return Err(Fault {
-            code: fault::CLASS_KIND,
-            place,
-        });
+        return Err(Fault::at(fault::CLASS_KIND, place));
     }
     let flags = class_word(sections, i, 1);
     Ok(Row {

@@ -67,22 +67,13 @@ fn read_head<'a, 's>(
     let row = read_row(sections, tables, i)?;
     let list = class_word(sections, i, 3);
     let Some(interfaces) = interfaces_at(alloc, arena, sections, tables, kept, list)? else {
-        return Err(Fault {
-            code: fault::INTERFACE_LIST,
-            place,
-        });
+        return Err(Fault::at(fault::INTERFACE_LIST, place));
     };
     if !is_in_order(sections, places, i) {
-        return Err(Fault {
-            code: fault::CLASS_ORDER,
-            place,
-        });
+        return Err(Fault::at(fault::CLASS_ORDER, place));
     }
     let Some(entries) = entries_at(alloc, sections, class_word(sections, i, 6))? else {
-        return Err(Fault {
-            code: fault::CLASS_DATA,
-            place,
-        });
+        return Err(Fault::at(fault::CLASS_DATA, place));
     };
     let members = read_members(arena, scratch, sections, tables, i, row.ty, &entries)?;
     Ok(Head {

@@ -40,41 +40,38 @@ pub(crate) struct Members<'a, 's> {
     pub virtuals: &'s [Bare<'a>],
 }
 
+// The class whose members are read: the index of its type, its name, and the place of its row, where their faults stand.
+#[derive(Clone, Copy)]
+struct Owner<'n> {
+    row: u32,
+    class: Desc<'n>,
+    place: u64,
+}
+
 // The field at an index, which is of this class.
 fn field_at<'a>(
     sections: &Sections<'_>,
     tables: &Tables<'a>,
-    row: u32,
-    class: Desc<'_>,
-    place: u64,
+    owner: Owner<'_>,
     index: u64,
 ) -> Result<&'a FieldRef<'a>, Fault>
     requires names { AreNamesOf sections.now tables.now }
-    requires class { TypeStands sections.now row (desc class) }
+    requires class { TypeStands sections.now owner.row (desc owner.class) }
     ensures stands { IfOk result (λ f. FieldStands sections.now index (field_ref f.now)) }
-    ensures class { IfOk result (λ f. desc f.now.class ≡ desc class.entry) }
+    ensures class { IfOk result (λ f. desc f.now.class ≡ desc owner.entry.class) }
     ensures small { IfOk result (λ _. index < 2 ^ 32) }
-    ensures err { IfErr result (IndexFails (FieldOwner sections.now) (size_of sections.now 3) (desc class.entry) index place) }
+    ensures err { IfErr result (IndexFails (FieldOwner sections.now) (size_of sections.now 3) (desc owner.entry.class) index owner.entry.place) }
 {
     let (count, _) = sections.table(kind::FIELD_ID_ITEM);
     if index >= u64::from(count) {
-        return Err(Fault {
-            code: fault::MEMBER_INDEX,
-            place,
-        });
+        return Err(Fault::at(fault::MEMBER_INDEX, owner.place));
     }
     let Some(field) = tables.field(index as u32) else {
-        return Err(Fault {
-            code: fault::MEMBER_INDEX,
-            place,
-        });
+        return Err(Fault::at(fault::MEMBER_INDEX, owner.place));
     };
     let (table, of) = (MemberTable::Fields, &field.class);
-    if !is_member_of(sections, table, index as u32, of, row, class) {
-        return Err(Fault {
-            code: fault::MEMBER_OWNER,
-            place,
-        });
+    if !is_member_of(sections, table, index as u32, of, owner.row, owner.class) {
+        return Err(Fault::at(fault::MEMBER_OWNER, owner.place));
     }
     Ok(field)
 }
@@ -83,67 +80,51 @@ fn field_at<'a>(
 fn method_at<'a>(
     sections: &Sections<'_>,
     tables: &Tables<'a>,
-    row: u32,
-    class: Desc<'_>,
-    place: u64,
+    owner: Owner<'_>,
     index: u64,
 ) -> Result<&'a MethodRef<'a>, Fault>
     requires names { AreNamesOf sections.now tables.now }
-    requires class { TypeStands sections.now row (desc class) }
+    requires class { TypeStands sections.now owner.row (desc owner.class) }
     ensures stands { IfOk result (λ m. MethodStands sections.now index (method_ref m.now)) }
-    ensures class { IfOk result (λ m. desc m.now.class ≡ desc class.entry) }
+    ensures class { IfOk result (λ m. desc m.now.class ≡ desc owner.entry.class) }
     ensures small { IfOk result (λ _. index < 2 ^ 32) }
-    ensures err { IfErr result (IndexFails (MethodOwner sections.now) (size_of sections.now 4) (desc class.entry) index place) }
+    ensures err { IfErr result (IndexFails (MethodOwner sections.now) (size_of sections.now 4) (desc owner.entry.class) index owner.entry.place) }
 {
     let (count, _) = sections.table(kind::METHOD_ID_ITEM);
     if index >= u64::from(count) {
-        return Err(Fault {
-            code: fault::MEMBER_INDEX,
-            place,
-        });
+        return Err(Fault::at(fault::MEMBER_INDEX, owner.place));
     }
     let Some(method) = tables.method(index as u32) else {
-        return Err(Fault {
-            code: fault::MEMBER_INDEX,
-            place,
-        });
+        return Err(Fault::at(fault::MEMBER_INDEX, owner.place));
     };
     let (table, of) = (MemberTable::Methods, &method.class);
-    if !is_member_of(sections, table, index as u32, of, row, class) {
-        return Err(Fault {
-            code: fault::MEMBER_OWNER,
-            place,
-        });
+    if !is_member_of(sections, table, index as u32, of, owner.row, owner.class) {
+        return Err(Fault::at(fault::MEMBER_OWNER, owner.place));
     }
     Ok(method)
 }
 
-/// The fields of a list of entries, each of this class, in the arena. A fault stands at the class row.
-pub(crate) fn read_fields<'a>(
+// The fields of a list of entries, each of this class, in the arena. A fault stands at the class row.
+fn read_fields<'a>(
     arena: &'a Bump,
     sections: &Sections<'_>,
     tables: &Tables<'a>,
-    row: u32,
-    class: Desc<'_>,
-    place: u64,
+    owner: Owner<'_>,
     entries: &[FieldEntry],
 ) -> Result<&'a [Member<'a>], Fault>
     requires names { AreNamesOf sections.now tables.now }
-    requires class { TypeStands sections.now row (desc class) }
-    ensures ok { IfOk result (λ fields. IsRun (IsField sections.now (desc class.entry)) (map field_entry entries.now) (map member fields.now)) }
+    requires class { TypeStands sections.now owner.row (desc owner.class) }
+    ensures ok { IfOk result (λ fields. IsRun (IsField sections.now (desc owner.entry.class)) (map field_entry entries.now) (map member fields.now)) }
     ensures err { IfErr result (λ e. e ≢ memory →
-        EntriesFail (FieldOwner sections.now) (size_of sections.now 3) (desc class.entry) (steps (map field_entry entries.now)) place e) }
+        EntriesFail (FieldOwner sections.now) (size_of sections.now 3) (desc owner.entry.class) (steps (map field_entry entries.now)) owner.entry.place e) }
 {
     let mut fields: Vec<Member<'a>, &'a Bump> = Vec::with_capacity(arena, entries.len())?;
     let mut index: u64 = 0;
     for entry in entries {
         index += u64::from(entry.step);
-        let field = field_at(sections, tables, row, class, place, index)?;
+        let field = field_at(sections, tables, owner, index)?;
         if entry.step == 0 && fields.len() > 0 {
-            return Err(Fault {
-                code: fault::MEMBER_ORDER,
-                place,
-            });
+            return Err(Fault::at(fault::MEMBER_ORDER, owner.place));
         }
         fields.push(Member {
             name: field.name,
@@ -154,32 +135,27 @@ pub(crate) fn read_fields<'a>(
     Ok(into_bump_slice(fields))
 }
 
-/// The methods of a list of entries, each of this class. A fault stands at the class row.
-pub(crate) fn read_bares<'a, 's>(
+// The methods of a list of entries, each of this class. A fault stands at the class row.
+fn read_bares<'a, 's>(
     scratch: &'s Bump,
     sections: &Sections<'_>,
     tables: &Tables<'a>,
-    row: u32,
-    class: Desc<'_>,
-    place: u64,
+    owner: Owner<'_>,
     entries: &[MethodEntry],
 ) -> Result<&'s [Bare<'a>], Fault>
     requires names { AreNamesOf sections.now tables.now }
-    requires class { TypeStands sections.now row (desc class) }
-    ensures ok { IfOk result (λ bares. IsRun (IsBare sections.now (desc class.entry)) (map method_entry entries.now) bares.now) }
+    requires class { TypeStands sections.now owner.row (desc owner.class) }
+    ensures ok { IfOk result (λ bares. IsRun (IsBare sections.now (desc owner.entry.class)) (map method_entry entries.now) bares.now) }
     ensures err { IfErr result (λ e. e ≢ memory →
-        EntriesFail (MethodOwner sections.now) (size_of sections.now 4) (desc class.entry) (steps (map method_entry entries.now)) place e) }
+        EntriesFail (MethodOwner sections.now) (size_of sections.now 4) (desc owner.entry.class) (steps (map method_entry entries.now)) owner.entry.place e) }
 {
     let mut bares: Vec<Bare<'a>, &'s Bump> = Vec::with_capacity(scratch, entries.len())?;
     let mut index: u64 = 0;
     for entry in entries {
         index += u64::from(entry.step);
-        let method = method_at(sections, tables, row, class, place, index)?;
+        let method = method_at(sections, tables, owner, index)?;
         if entry.step == 0 && bares.len() > 0 {
-            return Err(Fault {
-                code: fault::MEMBER_ORDER,
-                place,
-            });
+            return Err(Fault::at(fault::MEMBER_ORDER, owner.place));
         }
         bares.push(Bare {
             method,
@@ -207,36 +183,15 @@ pub(crate) fn read_members<'a, 's>(
     ensures ok { IfOk result (MembersStand sections.now (desc class.entry) (numbers.entries entries.now)) }
     ensures err { IfErr result (λ e. e ≢ memory → BreaksAt ClassBreaks sections.now 5 i e) }
 {
-    let place = class_place(sections, i);
-    let row = class_word(sections, i, 0);
-    let statics = read_fields(arena, sections, tables, row, class, place, &entries.statics)?;
-    let instances = read_fields(
-        arena,
-        sections,
-        tables,
-        row,
+    let owner = Owner {
+        row: class_word(sections, i, 0),
         class,
-        place,
-        &entries.instances,
-    )?;
-    let directs = read_bares(
-        scratch,
-        sections,
-        tables,
-        row,
-        class,
-        place,
-        &entries.directs,
-    )?;
-    let virtuals = read_bares(
-        scratch,
-        sections,
-        tables,
-        row,
-        class,
-        place,
-        &entries.virtuals,
-    )?;
+        place: class_place(sections, i),
+    };
+    let statics = read_fields(arena, sections, tables, owner, &entries.statics)?;
+    let instances = read_fields(arena, sections, tables, owner, &entries.instances)?;
+    let directs = read_bares(scratch, sections, tables, owner, &entries.directs)?;
+    let virtuals = read_bares(scratch, sections, tables, owner, &entries.virtuals)?;
     Ok(Members {
         statics,
         instances,

@@ -61,10 +61,7 @@ fn at_row(place: u64, found: Fault) -> Fault
     ensures { result ≡ at_row place found }
 {
     if found.code == fault::VALUES || found.code == fault::TOO_MANY_VALUES {
-        Fault {
-            code: found.code,
-            place,
-        }
+        Fault::at(found.code, place)
     } else {
         found
     }

@@ -101,10 +101,7 @@ fn earlier_of(lowest: Option<Fault>, number: Option<u16>, class: usize) -> Optio
         None => lowest,
         Some(code) => match lowest {
             Some(before) if before.code <= code => Some(before),
-            _ => Some(Fault {
-                code,
-                place: class as u64,
-            }),
+            _ => Some(Fault::at(code, class as u64)),
         },
     }
 }

@@ -20,10 +20,7 @@ fn too_big_or(broken: Option<Fault>) -> Fault
 {
     match broken {
         Some(lower) if lower.code != fault::HANDLER_TOO_FAR => lower,
-        _ => Fault {
-            code: fault::TOO_BIG,
-            place: 0,
-        },
+        _ => Fault::at(fault::TOO_BIG, 0),
     }
 }
 
@@ -40,17 +37,11 @@ pub fn check_limits(alloc: Global, ranks: &Ranks<'_>, program: &Program<'_>) -> 
 {
     let types = ranks.types().len();
     if types > 65535 {
-        return Err(Fault {
-            code: fault::TOO_MANY_TYPES,
-            place: types as u64,
-        });
+        return Err(Fault::at(fault::TOO_MANY_TYPES, types as u64));
     }
     let protos = ranks.protos().len();
     if protos > 65535 {
-        return Err(Fault {
-            code: fault::TOO_MANY_PROTOS,
-            place: protos as u64,
-        });
+        return Err(Fault::at(fault::TOO_MANY_PROTOS, protos as u64));
     }
     let broken = lowest_of(alloc, ranks, program.classes)?;
     if is_too_big(ranks, program) {

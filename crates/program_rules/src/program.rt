@@ -33,34 +33,19 @@ fn check_codes(place: u64, one: &Class<'_>, uses_hold: bool) -> Result<(), Fault
     ensures err { IfErr result (CodesBreak place (class one.now)) }
 {
     if !codes_hold(CodeRule::Operand, one) {
-        return Err(Fault {
-            code: fault::PROGRAM_OPERAND,
-            place,
-        });
+        return Err(Fault::at(fault::PROGRAM_OPERAND, place));
     }
     if !codes_hold(CodeRule::Target, one) {
-        return Err(Fault {
-            code: fault::PROGRAM_TARGET,
-            place,
-        });
+        return Err(Fault::at(fault::PROGRAM_TARGET, place));
     }
     if !uses_hold {
-        return Err(Fault {
-            code: fault::PROGRAM_PAYLOAD_USE,
-            place,
-        });
+        return Err(Fault::at(fault::PROGRAM_PAYLOAD_USE, place));
     }
     if !codes_hold(CodeRule::Try, one) {
-        return Err(Fault {
-            code: fault::PROGRAM_TRY,
-            place,
-        });
+        return Err(Fault::at(fault::PROGRAM_TRY, place));
     }
     if !codes_hold(CodeRule::Register, one) {
-        return Err(Fault {
-            code: fault::PROGRAM_REGISTER,
-            place,
-        });
+        return Err(Fault::at(fault::PROGRAM_REGISTER, place));
     }
     Ok(())
 }
@@ -75,28 +60,16 @@ fn check_class(i: usize, one: &Class<'_>, is_in_order: bool, uses_hold: bool) ->
 {
     let place = i as u64;
     if !names_are_valid(one) {
-        return Err(Fault {
-            code: fault::PROGRAM_NAME,
-            place,
-        });
+        return Err(Fault::at(fault::PROGRAM_NAME, place));
     }
     if !members_rise(one) {
-        return Err(Fault {
-            code: fault::PROGRAM_MEMBER_ORDER,
-            place,
-        });
+        return Err(Fault::at(fault::PROGRAM_MEMBER_ORDER, place));
     }
     if !is_in_order {
-        return Err(Fault {
-            code: fault::PROGRAM_CLASS_ORDER,
-            place,
-        });
+        return Err(Fault::at(fault::PROGRAM_CLASS_ORDER, place));
     }
     if !values_fit(one) {
-        return Err(Fault {
-            code: fault::PROGRAM_VALUES,
-            place,
-        });
+        return Err(Fault::at(fault::PROGRAM_VALUES, place));
     }
     check_codes(place, one, uses_hold)?;
     class_is_in_range(one);

@@ -15,7 +15,7 @@ returns-then-end-gt2147483647-clause-err c = λ ne.
     let k : c.loop-k.k ≡ length c.args.pads.now = omega arith in
     let z = end-is c.args.pads.now c.loop-k.all.items c.loop-k.nops c.loop-k.k k c.loop-k.invariant in
     let l : 2147483647 < length c.args.pads.now + c.loop-k.nops = search rules in
-    (refl, omega arith)
+    rw c.at.ensures ((refl, omega arith))
 
 pub returns-clause-ok : goal.returns-clause-ok
 returns-clause-ok c =

@@ -40,10 +40,10 @@ pub returns-then-not-tries_fit-clause-err : goal.returns-then-not-tries_fit-clau
 returns-then-not-tries_fit-clause-err c = λ ne.
     let m = length-map c.args.code.now.tries.now try in
     let starts = c.deref.ensures.value ∙ c.requires.starts in
-    unfit87 (NameRanks c.args.ranks.now) (view.code c.args.code.now) c.requires.strings c.requires.fields c.requires.methods c.requires.offsets c.requires.even (λ h.
+    rw c.at.ensures (unfit87 (NameRanks c.args.ranks.now) (view.code c.args.code.now) c.requires.strings c.requires.fields c.requires.methods c.requires.offsets c.requires.even (λ h.
     let t = c.tries_fit.ensures.1 (subst (λ (ss : List ℕ). (i : ℕ) → i < length c.args.code.now.tries.now → TryFits ss (map try c.args.code.now.tries.now) i) (sym starts)
     (by-count (length (map try c.args.code.now.tries.now)) (length c.args.code.now.tries.now) (λ i. TryFits (addresses_of (map insn c.args.code.now.insns.now)) (map try c.args.code.now.tries.now) i) m h)) in
-    search rules)
+    search rules))
 
 pub returns-then-not-branch-clause-err : goal.returns-then-not-branch-clause-err
 returns-then-not-branch-clause-err c = λ ne.
@@ -54,8 +54,8 @@ returns-then-not-branch-clause-err c = λ ne.
     let e = c.requires.end in
     let w = c.is_short.ensures.0 (search rules) in
     let same = c.deref-2.ensures.value ∙ c.requires.starts in
-    unfit89 (NameRanks c.args.ranks.now) (view.code c.args.code.now) c.requires.strings c.requires.fields c.requires.methods c.requires.offsets c.requires.even tries (omega arith) (omega arith)
-    (λ h. let t = c.in_ok-handlers_fit.ensures.ok.1 (subst (λ (ss : List ℕ). HandlersAreNear (NameRanks c.args.ranks.now) ss (map try c.args.code.now.tries.now)) (sym same) h) in search rules)
+    rw c.at-then-not-branch.ensures (unfit89 (NameRanks c.args.ranks.now) (view.code c.args.code.now) c.requires.strings c.requires.fields c.requires.methods c.requires.offsets c.requires.even tries (omega arith) (omega arith)
+    (λ h. let t = c.in_ok-handlers_fit.ensures.ok.1 (subst (λ (ss : List ℕ). HandlersAreNear (NameRanks c.args.ranks.now) ss (map try c.args.code.now.tries.now)) (sym same) h) in search rules))
 
 pub returns-clause-ok : goal.returns-clause-ok
 returns-clause-ok c =

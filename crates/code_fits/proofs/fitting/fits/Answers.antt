@@ -31,7 +31,7 @@ are_even-requires c = record { count = count-of c.args.code.now.insns.now c.dere
 pub returns-then-not-names_fit-clause-err : goal.returns-then-not-names_fit-clause-err
 returns-then-not-names_fit-clause-err c = λ ne.
     let insns = c.args.code.now.insns.now in
-    unfit82 (NameRanks c.args.ranks.now) (view.code c.args.code.now) (λ h. let t = c.names_fit.ensures.1 (by-count (length (map insn insns)) (length insns) (λ k. ShortFits (NameRanks c.args.ranks.now) kind.String (insn_at (map insn insns) k)) (length-map insns insn) h) in search rules)
+    rw c.at.ensures (unfit82 (NameRanks c.args.ranks.now) (view.code c.args.code.now) (λ h. let t = c.names_fit.ensures.1 (by-count (length (map insn insns)) (length insns) (λ k. ShortFits (NameRanks c.args.ranks.now) kind.String (insn_at (map insn insns) k)) (length-map insns insn) h) in search rules))
 
 pub returns-then-not-names_fit-2-clause-err : goal.returns-then-not-names_fit-2-clause-err
 returns-then-not-names_fit-2-clause-err c = λ ne.
@@ -39,7 +39,7 @@ returns-then-not-names_fit-2-clause-err c = λ ne.
     let insns = c.args.code.now.insns.now in
     let names = λ (which : IndexKind). by-count (length insns) (length (map insn insns)) (λ k. ShortFits (NameRanks c.args.ranks.now) which (insn_at (map insn insns) k)) n in
     let strings = names kind.String (c.names_fit.ensures.0 (search rules)) in
-    unfit83 (NameRanks c.args.ranks.now) (view.code c.args.code.now) strings (λ h. let t = c.names_fit-2.ensures.1 (by-count (length (map insn insns)) (length insns) (λ k. ShortFits (NameRanks c.args.ranks.now) kind.Field (insn_at (map insn insns) k)) (length-map insns insn) h) in search rules)
+    rw c.at-then-not-names_fit-2.ensures (unfit83 (NameRanks c.args.ranks.now) (view.code c.args.code.now) strings (λ h. let t = c.names_fit-2.ensures.1 (by-count (length (map insn insns)) (length insns) (λ k. ShortFits (NameRanks c.args.ranks.now) kind.Field (insn_at (map insn insns) k)) (length-map insns insn) h) in search rules))
 
 pub returns-then-not-names_fit-3-clause-err : goal.returns-then-not-names_fit-3-clause-err
 returns-then-not-names_fit-3-clause-err c = λ ne.
@@ -48,7 +48,7 @@ returns-then-not-names_fit-3-clause-err c = λ ne.
     let names = λ (which : IndexKind). by-count (length insns) (length (map insn insns)) (λ k. ShortFits (NameRanks c.args.ranks.now) which (insn_at (map insn insns) k)) n in
     let strings = names kind.String (c.names_fit.ensures.0 (search rules)) in
     let fields = names kind.Field (c.names_fit-2.ensures.0 (search rules)) in
-    unfit84 (NameRanks c.args.ranks.now) (view.code c.args.code.now) strings fields (λ h. let t = c.names_fit-3.ensures.1 (by-count (length (map insn insns)) (length insns) (λ k. ShortFits (NameRanks c.args.ranks.now) kind.Method (insn_at (map insn insns) k)) (length-map insns insn) h) in search rules)
+    rw c.at-then-not-names_fit-3.ensures (unfit84 (NameRanks c.args.ranks.now) (view.code c.args.code.now) strings fields (λ h. let t = c.names_fit-3.ensures.1 (by-count (length (map insn insns)) (length insns) (λ k. ShortFits (NameRanks c.args.ranks.now) kind.Method (insn_at (map insn insns) k)) (length-map insns insn) h) in search rules))
 
 pub returns-then-not-offsets_fit-clause-err : goal.returns-then-not-offsets_fit-clause-err
 returns-then-not-offsets_fit-clause-err c = λ ne.
@@ -59,8 +59,8 @@ returns-then-not-offsets_fit-clause-err c = λ ne.
     let fields = names kind.Field (c.names_fit-2.ensures.0 (search rules)) in
     let methods = names kind.Method (c.names_fit-3.ensures.0 (search rules)) in
     let starts = c.in_ok-all.ensures.ok in
-    unfit85 (NameRanks c.args.ranks.now) (view.code c.args.code.now) strings fields methods
-    (λ h. let t = c.offsets_fit.ensures.1 (subst (λ (ss : List ℕ). (k : ℕ) → k < length insns → OffsetsFit (map insn insns) ss k) (sym (c.deref.ensures.value ∙ starts)) (by-count (length (map insn insns)) (length insns) (λ k. OffsetsFit (map insn insns) (addresses_of (map insn insns)) k) (length-map insns insn) h)) in search rules)
+    rw c.at-then-not-offsets_fit.ensures (unfit85 (NameRanks c.args.ranks.now) (view.code c.args.code.now) strings fields methods
+    (λ h. let t = c.offsets_fit.ensures.1 (subst (λ (ss : List ℕ). (k : ℕ) → k < length insns → OffsetsFit (map insn insns) ss k) (sym (c.deref.ensures.value ∙ starts)) (by-count (length (map insn insns)) (length insns) (λ k. OffsetsFit (map insn insns) (addresses_of (map insn insns)) k) (length-map insns insn) h)) in search rules))
 
 pub returns-then-not-are_even-clause-err : goal.returns-then-not-are_even-clause-err
 returns-then-not-are_even-clause-err c = λ ne.
@@ -73,8 +73,8 @@ returns-then-not-are_even-clause-err c = λ ne.
     let starts = c.in_ok-all.ensures.ok in
     let offsets = by-count (length insns) (length (map insn insns)) (λ k. OffsetsFit (map insn insns) (addresses_of (map insn insns)) k) n
     (subst (λ (ss : List ℕ). (k : ℕ) → k < length insns → OffsetsFit (map insn insns) ss k) (c.deref.ensures.value ∙ starts) (c.offsets_fit.ensures.0 (search rules))) in
-    unfit86 (NameRanks c.args.ranks.now) (view.code c.args.code.now) strings fields methods offsets
-    (λ h. let t = c.are_even.ensures.1 (subst (λ (ss : List ℕ). (k : ℕ) → k < length insns → IsEven (map insn insns) ss k) (sym (c.deref-3.ensures.value ∙ starts)) (by-count (length (map insn insns)) (length insns) (λ k. IsEven (map insn insns) (addresses_of (map insn insns)) k) (length-map insns insn) h)) in search rules)
+    rw c.at-then-not-are_even.ensures (unfit86 (NameRanks c.args.ranks.now) (view.code c.args.code.now) strings fields methods offsets
+    (λ h. let t = c.are_even.ensures.1 (subst (λ (ss : List ℕ). (k : ℕ) → k < length insns → IsEven (map insn insns) ss k) (sym (c.deref-3.ensures.value ∙ starts)) (by-count (length (map insn insns)) (length insns) (λ k. IsEven (map insn insns) (addresses_of (map insn insns)) k) (length-map insns insn) h)) in search rules))
 
 pub check_tries-requires-clause-strings : goal.check_tries-requires-clause-strings
 check_tries-requires-clause-strings c =

@@ -8,4 +8,4 @@ loop-k-preserved c = below_more _ _ c.loop-k.invariant (c.use_holds.ensures.0 (s
 
 pub returns-then-not-use_holds-clause-err : goal.returns-then-not-use_holds-clause-err
 returns-then-not-use_holds-clause-err c =
-    breaks-in c.args.insns.now c.args.begins.now c.args.base 70 c.loop-k.k c.from.result UseHolds UseHolds _ c.requires.table c.loop-k-test.true (λ h. let t = c.use_holds.ensures.1 h in cc) c.loop-k.invariant c.from.ensures (λ i. record { code = 70; place = c.args.base + 2 * c.from.result })
+    rw c.at.ensures (breaks-in c.args.insns.now c.args.begins.now c.args.base 70 c.loop-k.k c.from.result UseHolds UseHolds _ c.requires.table c.loop-k-test.true (λ h. let t = c.use_holds.ensures.1 h in cc) c.loop-k.invariant c.from.ensures (λ i. record { code = 70; place = c.args.base + 2 * c.from.result }))

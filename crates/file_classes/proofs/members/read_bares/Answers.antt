@@ -28,8 +28,8 @@ loop-entry-preserved c =
       | else-entry-eq0-via-else-entry-eq0 w ↦ λ some. omega (arith, w.if-entry-eq0.false)
     ] in
     record {
-      runs = rw c.in_ok-push.ensures.items (runs_more (IsBare c.args.sections.now (desc c.args.class)) (map method_entry es) k c.loop-entry.bares.items (method_entry (get_or es k d)) (record { method = c.in_ok-method.method; flags = (get_or c.args.entries.now c.loop-entry.entry-index (record { step = 0; flags = 0; code = 0 })).flags; code = (get_or c.args.entries.now c.loop-entry.entry-index (record { step = 0; flags = 0; code = 0 })).code }) c.loop-entry.invariant.runs (there method_entry es k d lt)
-          (bare_stands c.args.sections.now (c.loop-entry.index + c.from-index.result) (index_of (steps (map method_entry es)) k) (record { method = c.in_ok-method.method; flags = (get_or es k d).flags; code = (get_or es k d).code }) (desc c.args.class) (method_entry (get_or es k d)) is c.in_ok-method.ensures.class refl refl c.in_ok-method.ensures.stands) (step_rises method_entry es k d lt up));
+      runs = rw c.in_ok-push.ensures.items (runs_more (IsBare c.args.sections.now (desc c.args.owner.class)) (map method_entry es) k c.loop-entry.bares.items (method_entry (get_or es k d)) (record { method = c.in_ok-method.method; flags = (get_or c.args.entries.now c.loop-entry.entry-index (record { step = 0; flags = 0; code = 0 })).flags; code = (get_or c.args.entries.now c.loop-entry.entry-index (record { step = 0; flags = 0; code = 0 })).code }) c.loop-entry.invariant.runs (there method_entry es k d lt)
+          (bare_stands c.args.sections.now (c.loop-entry.index + c.from-index.result) (index_of (steps (map method_entry es)) k) (record { method = c.in_ok-method.method; flags = (get_or es k d).flags; code = (get_or es k d).code }) (desc c.args.owner.class) (method_entry (get_or es k d)) is c.in_ok-method.ensures.class refl refl c.in_ok-method.ensures.stands) (step_rises method_entry es k d lt up));
       summed = is;
       small = c.in_ok-method.ensures.small;
     }
@@ -38,13 +38,13 @@ pub returns-clause-ok : goal.returns-clause-ok
 returns-clause-ok c =
     let es = c.args.entries.now in
     let l = length-map es method_entry in
-    rw c.into_bump_slice.ensures (all_run (IsBare c.args.sections.now (desc c.args.class)) (map method_entry es) c.loop-entry.entry-index c.loop-entry.bares.items (omega (arith, l, c.loop-entry-test.false, c.loop-entry.auto.entry-index-end)) c.loop-entry.invariant.runs)
+    rw c.into_bump_slice.ensures (all_run (IsBare c.args.sections.now (desc c.args.owner.class)) (map method_entry es) c.loop-entry.entry-index c.loop-entry.bares.items (omega (arith, l, c.loop-entry-test.false, c.loop-entry.auto.entry-index-end)) c.loop-entry.invariant.runs)
 
 pub returns-then-len-gt0-clause-err : goal.returns-then-len-gt0-clause-err
 returns-then-len-gt0-clause-err c =
     let n = c.loop-entry.invariant.runs.count in
     let v = c.loop-entry.bares.ok.0 in
-    λ _. step_fails method_entry c.args.entries.now c.loop-entry.entry-index (record { step = 0; flags = 0; code = 0 }) c.loop-entry-test.true (MethodOwner c.args.sections.now) (size_of c.args.sections.now 4) (desc c.args.class) c.args.place (omega (arith, n, v, c.len.ensures, c.if-len-gt0.true)) c.if-entry-eq0.true
+    λ _. rw c.at.ensures (step_fails method_entry c.args.entries.now c.loop-entry.entry-index (record { step = 0; flags = 0; code = 0 }) c.loop-entry-test.true (MethodOwner c.args.sections.now) (size_of c.args.sections.now 4) (desc c.args.owner.class) c.args.owner.place (omega (arith, n, v, c.len.ensures, c.if-len-gt0.true)) c.if-entry-eq0.true)
 
 pub returns-in_err-method-clause-err : goal.returns-in_err-method-clause-err
 returns-in_err-method-clause-err c =
@@ -52,4 +52,4 @@ returns-in_err-method-clause-err c =
     let k = c.loop-entry.entry-index in
     let d : MethodEntry = (record { step = 0; flags = 0; code = 0 }) in
     let is : c.loop-entry.index + c.from-index.result ≡ index_of (steps (map method_entry es)) k = next_index method_entry es k d c.loop-entry-test.true c.loop-entry.index c.from-index.result c.loop-entry.invariant.summed c.from-index.ensures in
-    passed _ _ _ c.from_residual-in_err-method.ensures.1 (λ _. index_fails method_entry es k d c.loop-entry-test.true (MethodOwner c.args.sections.now) (size_of c.args.sections.now 4) (desc c.args.class) (c.loop-entry.index + c.from-index.result) c.args.place _ is c.in_err-method.ensures.err)
+    passed _ _ _ c.from_residual-in_err-method.ensures.1 (λ _. index_fails method_entry es k d c.loop-entry-test.true (MethodOwner c.args.sections.now) (size_of c.args.sections.now 4) (desc c.args.owner.class) (c.loop-entry.index + c.from-index.result) c.args.owner.place _ is c.in_err-method.ensures.err)

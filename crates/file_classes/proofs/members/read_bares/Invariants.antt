@@ -8,7 +8,7 @@ use Rattle.file_classes.proofs.members.read_bares.Given as goal
 
 abbrev pub invariant-loop-entry : goal.invariant-loop-entry
 invariant-loop-entry l = record {
-  runs : Runs (IsBare l.sections (desc l.class)) (map method_entry l.entries) l.entry-index l.bares.items;
+  runs : Runs (IsBare l.sections (desc l.owner.class)) (map method_entry l.entries) l.entry-index l.bares.items;
   summed : l.index ≡ sum (take l.entry-index (steps (map method_entry l.entries)));
   small : l.index < 2 ^ 32;
 }

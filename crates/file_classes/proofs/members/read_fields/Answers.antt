@@ -29,8 +29,8 @@ loop-entry-preserved c =
       | else-entry-eq0-via-else-entry-eq0 w ↦ λ some. omega (arith, w.if-entry-eq0.false)
     ] in
     record {
-      runs = rw (c.in_ok-push.ensures.items, map-append) (runs_more (IsField c.args.sections.now (desc c.args.class)) (map field_entry es) k (map member c.loop-entry.fields.items) (field_entry (get_or es k d)) (record { name = str c.in_ok-field.field.now.name; ty = desc c.in_ok-field.field.now.ty; flags = (get_or c.args.entries.now c.loop-entry.entry-index (record { step = 0; flags = 0 })).flags }) c.loop-entry.invariant.runs (there field_entry es k d lt)
-          (field_stands c.args.sections.now (c.loop-entry.index + c.from-index.result) (index_of (steps (map field_entry es)) k) (field_ref c.in_ok-field.field.now) (desc c.args.class) (field_entry (get_or es k d)) is c.in_ok-field.ensures.class c.in_ok-field.ensures.stands) (step_rises field_entry es k d lt up));
+      runs = rw (c.in_ok-push.ensures.items, map-append) (runs_more (IsField c.args.sections.now (desc c.args.owner.class)) (map field_entry es) k (map member c.loop-entry.fields.items) (field_entry (get_or es k d)) (record { name = str c.in_ok-field.field.now.name; ty = desc c.in_ok-field.field.now.ty; flags = (get_or c.args.entries.now c.loop-entry.entry-index (record { step = 0; flags = 0 })).flags }) c.loop-entry.invariant.runs (there field_entry es k d lt)
+          (field_stands c.args.sections.now (c.loop-entry.index + c.from-index.result) (index_of (steps (map field_entry es)) k) (field_ref c.in_ok-field.field.now) (desc c.args.owner.class) (field_entry (get_or es k d)) is c.in_ok-field.ensures.class c.in_ok-field.ensures.stands) (step_rises field_entry es k d lt up));
       summed = is;
       small = c.in_ok-field.ensures.small;
     }
@@ -39,14 +39,14 @@ pub returns-clause-ok : goal.returns-clause-ok
 returns-clause-ok c =
     let es = c.args.entries.now in
     let l = length-map es field_entry in
-    rw c.into_bump_slice.ensures (all_run (IsField c.args.sections.now (desc c.args.class)) (map field_entry es) c.loop-entry.entry-index (map member c.loop-entry.fields.items) (omega (arith, l, c.loop-entry-test.false, c.loop-entry.auto.entry-index-end)) c.loop-entry.invariant.runs)
+    rw c.into_bump_slice.ensures (all_run (IsField c.args.sections.now (desc c.args.owner.class)) (map field_entry es) c.loop-entry.entry-index (map member c.loop-entry.fields.items) (omega (arith, l, c.loop-entry-test.false, c.loop-entry.auto.entry-index-end)) c.loop-entry.invariant.runs)
 
 pub returns-then-len-gt0-clause-err : goal.returns-then-len-gt0-clause-err
 returns-then-len-gt0-clause-err c =
     let n = c.loop-entry.invariant.runs.count in
     let v = c.loop-entry.fields.ok.0 in
     let l = length-map c.loop-entry.fields.items member in
-    λ _. step_fails field_entry c.args.entries.now c.loop-entry.entry-index (record { step = 0; flags = 0 }) c.loop-entry-test.true (FieldOwner c.args.sections.now) (size_of c.args.sections.now 3) (desc c.args.class) c.args.place (omega (arith, n, v, l, c.len.ensures, c.if-len-gt0.true)) c.if-entry-eq0.true
+    λ _. rw c.at.ensures (step_fails field_entry c.args.entries.now c.loop-entry.entry-index (record { step = 0; flags = 0 }) c.loop-entry-test.true (FieldOwner c.args.sections.now) (size_of c.args.sections.now 3) (desc c.args.owner.class) c.args.owner.place (omega (arith, n, v, l, c.len.ensures, c.if-len-gt0.true)) c.if-entry-eq0.true)
 
 pub returns-in_err-field-clause-err : goal.returns-in_err-field-clause-err
 returns-in_err-field-clause-err c =
@@ -54,4 +54,4 @@ returns-in_err-field-clause-err c =
     let k = c.loop-entry.entry-index in
     let d : FieldEntry = (record { step = 0; flags = 0 }) in
     let is : c.loop-entry.index + c.from-index.result ≡ index_of (steps (map field_entry es)) k = next_index field_entry es k d c.loop-entry-test.true c.loop-entry.index c.from-index.result c.loop-entry.invariant.summed c.from-index.ensures in
-    passed _ _ _ c.from_residual-in_err-field.ensures.1 (λ _. index_fails field_entry es k d c.loop-entry-test.true (FieldOwner c.args.sections.now) (size_of c.args.sections.now 3) (desc c.args.class) (c.loop-entry.index + c.from-index.result) c.args.place _ is c.in_err-field.ensures.err)
+    passed _ _ _ c.from_residual-in_err-field.ensures.1 (λ _. index_fails field_entry es k d c.loop-entry-test.true (FieldOwner c.args.sections.now) (size_of c.args.sections.now 3) (desc c.args.owner.class) (c.loop-entry.index + c.from-index.result) c.args.owner.place _ is c.in_err-field.ensures.err)

@@ -8,7 +8,7 @@ use Rattle.file_classes.proofs.members.read_fields.Given as goal
 
 abbrev pub invariant-loop-entry : goal.invariant-loop-entry
 invariant-loop-entry l = record {
-  runs : Runs (IsField l.sections (desc l.class)) (map field_entry l.entries) l.entry-index (map member l.fields.items);
+  runs : Runs (IsField l.sections (desc l.owner.class)) (map field_entry l.entries) l.entry-index (map member l.fields.items);
   summed : l.index ≡ sum (take l.entry-index (steps (map field_entry l.entries)));
   small : l.index < 2 ^ 32;
 }
