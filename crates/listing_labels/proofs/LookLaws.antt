@@ -1,11 +1,10 @@
 -- The labels of a map.
 use Rattle.std.proofs.Common.{◌≡◌, ℕ, Bool, true, false, cond, ◌⊎◌, inl, inr, List, [], ◌∷◌, ◌++◌, map, if◌then◌else◌, Option, Some, None, is_some, refl, sym, ap, ◌∙◌}
-use Rattle.std.proofs.lemmas.Bool.{and_parts, eqb-true}
-use lib.Dec.{eqb}
 use Rattle.std.specs.Borrow.{Bor}
 use Rattle.std.specs.Map.{lookup as found_in}
 use Rattle.indexmap.specs.IndexMap.{insert_entry}
 use Rattle.listing_slots.specs.Keys.{same}
+use Rattle.listing_slots.proofs.KeyLaws.{same_true}
 use Rattle.listing_labels.specs.Labels.{Label, lookup, with_label}
 use Rattle.listing_labels.specs.View.{label, place_in}
 use Rattle.listing_labels.specs.declared.known.Place.{Place}
@@ -21,13 +20,6 @@ chosen false name p o q e = e
 pub found_place : (name : List ℕ) (test : Bor (List ℕ) → Bool) → ((k : Bor (List ℕ)) → test k ≡ same name k.now) → (es : List (Bor (List ℕ) × Place)) → found_in test es ≡ place_in (lookup name (map label es))
 found_place name test t [] = refl
 found_place name test t (e ∷ es) = rw (t e.0) (chosen (same name e.0.now) e.0 e.1 (found_in test es) (lookup name (map label es)) (found_place name test t es))
-
-pub same_true : (xs ys : List ℕ) → same xs ys ≡ true → xs ≡ ys
-unfolding same
-same_true [] [] e = refl
-same_true [] (y ∷ ys) e = absurd cc
-same_true (x ∷ xs) [] e = absurd cc
-same_true (x ∷ xs) (y ∷ ys) e = let p = and_parts (eqb x y) (same xs ys) e in let a = eqb-true x y p.0 in let b = same_true xs ys p.1 in cc
 
 -- the label of an entry, by the entry's name
 pub found_there : (same_key : Bor (List ℕ) → Bor (List ℕ) → Bool) → ((j k : Bor (List ℕ)) → same_key j k ≡ same j.now k.now) → (k : Bor (List ℕ)) (name : List ℕ) (p : Place) (es : List (Bor (List ℕ) × Place)) → found_in (same_key k) es ≡ Some p → same k.now name ≡ true

@@ -21,7 +21,7 @@ use Rattle.listing_labels.specs.declared.known.Place.{Place}
 use Rattle.listing_labels.specs.Labels.{Label, lookup, with_label}
 use Rattle.listing_labels.specs.Order.{shortlex, is_above, Rising}
 use Rattle.listing_labels.specs.View.{label, place_in}
-use Rattle.listing_labels.proofs.LookLaws.{same_true}
+use Rattle.listing_slots.proofs.KeyLaws.{same_true}
 
 shortlex_total : IsTotalOrder shortlex
 shortlex_total = then_total (on_total (λ (n : List ℕ). length n) nat_cmp_total) nat_list_cmp_total

@@ -14,7 +14,7 @@ use crate::known::{Labels, Place};
 use crate::pieces::split_line;
 use bumpalo::Bump;
 use dex_base::{Fault, fault};
-use listing_slots::{Datum, Key, Mark, Slot, fault_of, is_same, key_text, read_datum};
+use listing_slots::{Datum, Key, Mark, Slot, Spelled, fault_of, is_same, key_text, read_datum};
 use listing_words::Word;
 
 /// Whether a byte can stand in a label.
@@ -171,12 +171,13 @@ fn read_label<'a>(labels: &Labels<'_>, near: usize, one: Word<'a, '_>) -> Option
 }
 
 /// What a word says in a slot of the second form.
-fn read_here<'a>(
+fn read_here<'a, 'b>(
+    spelled: &mut Spelled<'a, 'b>,
     bump: &'a Bump,
     labels: &Labels<'_>,
     near: usize,
     slot: Slot,
-    one: Word<'a, '_>,
+    one: Word<'a, 'b>,
 ) -> Result<Option<Datum<'a>>, Fault>
     ensures found { IfOk result (λ r. IfSome r (λ d. SpellsHere labels.now slot (word one.entry) (datum d))) }
     ensures none { IfOk result (λ r. IfNone r ((d : Said) → SpellsHere labels.now slot (word one.entry) d → ⊥)) }
@@ -185,7 +186,7 @@ fn read_here<'a>(
     if is_target(slot) {
         return Ok(read_label(labels, near, one));
     }
-    read_datum(bump, slot, one)
+    read_datum(spelled, bump, slot, one)
 }
 
 /// The fault of a word that says nothing there.
@@ -201,6 +202,7 @@ fn fault_here(slot: Slot) -> u16
 /// What these words say in these slots of the second form; else the fault of the first that says nothing there. The label
 /// at the index `near` is found without hashing its name.
 pub fn read_all<'a, 'b>(
+    spelled: &mut Spelled<'a, 'b>,
     bump: &'a Bump,
     labels: &Labels<'_>,
     near: usize,
@@ -215,7 +217,7 @@ pub fn read_all<'a, 'b>(
 {
     says.clear();
     for i in 0..slots.len() {
-        let Some(said) = read_here(bump, labels, near, slots[i], words[i])? else {
+        let Some(said) = read_here(spelled, bump, labels, near, slots[i], words[i])? else {
             return Ok(Some(fault_here(slots[i])));
         };
         says.push(said)?;

@@ -1,6 +1,6 @@
 //! Reading a listing, line by line.
 
-ghost use Rattle.std.specs.Prelude.{◌≡◌, ◌≢◌, false, ◌+◌, ◌<◌, ◌^◌, [], map, length, IfOk, IfErr, IfSome, IfNone, OnOk, IsOkUnless};
+ghost use Rattle.std.specs.Prelude.{◌≡◌, ◌≢◌, false, ◌+◌, ◌<◌, ◌^◌, [], map, length, drop, IfOk, IfErr, IfSome, IfNone, OnOk, IsOkUnless};
 ghost use Rattle.base_bytes.specs.Fault.{memory};
 ghost use Rattle.program_types.specs.View.{program};
 ghost use Rattle.listing_words.specs.View.{word};
@@ -21,11 +21,17 @@ use listing_draft::{Block, Draft};
 use listing_labels::{Labels, is_label, is_mark, is_skipped, look_ahead, read_all, split_line};
 use listing_lines::{Form, is_insns, is_start, is_two, make_line, may_stand};
 use listing_shapes::{Found, read_bare_shape, read_shape};
-use listing_slots::{Datum, Kind, Slot, is_same, read_operands};
+use listing_slots::{Datum, Kind, Slot, Spelled, is_same, read_operands};
 use listing_words::{Word, read_words};
 use program_rules::well_formed_in;
 use program_types::Program;
 use std::alloc::Global;
+
+/// How many bytes of a listing there are for each name that is remembered, so that names take no more than a quarter of it.
+const BYTES_A_NAME: usize = 256;
+
+/// No more names than these are remembered: a file has at most as many of a kind.
+const MOST_NAMES: usize = 65536;
 
 /// A listing that is being read: its form, the labels of the open code, how many of their lines were read, and what its
 /// lines make.
@@ -218,98 +224,106 @@ fn read_form<'a, 'b>(
     }
 }
 
-/// What these words say in these slots; else the fault of the first that says nothing there.
-fn read_says<'a, 'b>(
+/// Where a line's words, the slots of its shape and what they say are put: each line fills them anew. And the names that
+/// words have spelled.
+#[derive(Drop)]
+struct Scratch<'a, 'b> {
     arena: &'a Bump,
-    form: Form,
-    labels: &Labels<'_>,
-    near: usize,
-    slots: &[Slot],
-    words: &[Word<'a, 'b>],
-    says: &mut Vec<Datum<'a>, &'a Bump>,
+    words: Vec<Word<'a, 'b>, &'a Bump>,
+    slots: Vec<Slot, &'a Bump>,
+    says: Vec<Datum<'a>, &'a Bump>,
+    spelled: Spelled<'a, 'b>,
+}
+
+/// What the words behind the first ones say in the slots; else the fault of the first that says nothing there.
+fn read_says<'a, 'b>(
+    scratch: &mut Scratch<'a, 'b>,
+    listing: &Reading<'a, 'b>,
+    lead: usize,
 ) -> Result<Option<u16>, Fault>
-    requires { length slots.now ≡ length words.now }
-    ensures all { IfOk result (λ r. IfNone r (Spells form labels.now slots.now (map word words.now) (map datum says.new.items))) }
-    ensures bad { IfOk result (λ r. IfSome r (λ code. Misspells form labels.now slots.now (map word words.now) code)) }
+    requires { lead + length scratch.old.slots.items ≡ length scratch.old.words.items }
+    ensures all { IfOk result (λ r. IfNone r (Spells listing.now.form listing.now.labels scratch.old.slots.items (drop lead (map word scratch.old.words.items)) (map datum scratch.new.says.items))) }
+    ensures bad { IfOk result (λ r. IfSome r (λ code. Misspells listing.now.form listing.now.labels scratch.old.slots.items (drop lead (map word scratch.old.words.items)) code)) }
     ensures memory { IsOkUnless result memory }
 {
-    match form {
-        Form::One => read_operands(arena, slots, words, says),
-        Form::Two => read_all(arena, labels, near, slots, words, says),
+    let (_, operands) = scratch.words.as_slice().split_at(lead);
+    let slots = scratch.slots.as_slice();
+    match listing.form {
+        Form::One => read_operands(
+            &mut scratch.spelled,
+            scratch.arena,
+            slots,
+            operands,
+            &mut scratch.says,
+        ),
+        Form::Two => read_all(
+            &mut scratch.spelled,
+            scratch.arena,
+            &listing.labels,
+            listing.passed,
+            slots,
+            operands,
+            &mut scratch.says,
+        ),
     }
 }
 
-/// Adds a line that says something of the program; else why it is refused: 100 to 104.
+/// Adds a line that says something of the program; else it is refused: 100 to 104.
 fn add_says<'a, 'b>(
-    arena: &'a Bump,
-    words: &[Word<'a, 'b>],
-    slots: &mut Vec<Slot, &'a Bump>,
-    says: &mut Vec<Datum<'a>, &'a Bump>,
+    scratch: &mut Scratch<'a, 'b>,
     listing: &mut Reading<'a, 'b>,
     behind: &'b [u8],
-) -> Result<Option<u16>, Fault>
+) -> Result<(), Fault>
     requires { listing.old.draft.lines + 1 + length behind.now < 2 ^ 64 }
-    ensures taken { IfOk result (λ r. IfNone r (Says (reading listing.old) (lines behind.now) (map word words.now) (reading listing.new))) }
-    ensures refused { IfOk result (λ r. IfSome r (λ code. IsUnsaid (reading listing.old) (map word words.now) code)) }
-    ensures lines { IfOk result (λ r. listing.new.draft.lines ≡ listing.old.draft.lines) }
-    ensures memory { IsOkUnless result memory }
+    ensures taken { OnOk result (Says (reading listing.old) (lines behind.now) (map word scratch.old.words.items) (reading listing.new)) }
+    ensures refused { IfErr result (λ e. e ≢ memory → IsUnsaid (reading listing.old) (map word scratch.old.words.items) e.code) }
+    ensures place { IfErr result (λ e. e ≢ memory → e.place ≡ listing.old.draft.lines) }
+    ensures lines { OnOk result (listing.new.draft.lines ≡ listing.old.draft.lines) }
 {
-    let Some(found) = read_form(listing.form, words, slots)? else {
-        return Ok(Some(fault::LINE_WORD));
+    let words = scratch.words.as_slice();
+    let Some(found) = read_form(listing.form, words, &mut scratch.slots)? else {
+        return Err(Fault::at(fault::LINE_WORD, listing.draft.lines));
     };
     if !listing.may_be(found) {
-        return Ok(Some(fault::LINE_ORDER));
+        return Err(Fault::at(fault::LINE_ORDER, listing.draft.lines));
     }
-    let (_, operands) = words.split_at(found.lead);
-    if let Some(code) = read_says(
-        arena,
-        listing.form,
-        &listing.labels,
-        listing.passed,
-        slots.as_slice(),
-        operands,
-        says,
-    )? {
-        return Ok(Some(code));
+    if let Some(code) = read_says(scratch, listing, found.lead)? {
+        return Err(Fault::at(code, listing.draft.lines));
     }
-    let next = make_line(arena, found.kind, says.as_slice())?;
-    if !listing.draft.add(arena, next)? {
-        return Ok(Some(fault::LINE_TWICE));
+    let next = make_line(scratch.arena, found.kind, scratch.says.as_slice())?;
+    if !listing.draft.add(scratch.arena, next)? {
+        return Err(Fault::at(fault::LINE_TWICE, listing.draft.lines));
     }
-    listing.look(found.kind, behind)?;
-    Ok(None)
+    listing.look(found.kind, behind)
 }
 
-/// Adds a line that isn't skipped; else why it is refused: 100 to 104.
+/// Adds a line that isn't skipped; else it is refused: 100 to 104.
 fn add_line<'a, 'b>(
-    arena: &'a Bump,
-    words: &mut Vec<Word<'a, 'b>, &'a Bump>,
-    slots: &mut Vec<Slot, &'a Bump>,
-    says: &mut Vec<Datum<'a>, &'a Bump>,
+    scratch: &mut Scratch<'a, 'b>,
     listing: &mut Reading<'a, 'b>,
     line: &'b [u8],
     behind: &'b [u8],
-) -> Result<Option<u16>, Fault>
+) -> Result<(), Fault>
     requires says { is_skipped line.now ≡ false }
     requires short { listing.old.draft.lines + 1 + length behind.now < 2 ^ 64 }
-    ensures taken { IfOk result (λ r. IfNone r (Adds (reading listing.old) (lines behind.now) line.now (reading listing.new))) }
-    ensures refused { IfOk result (λ r. IfSome r (λ code. IsRefused (reading listing.old) line.now code)) }
-    ensures lines { IfOk result (λ r. listing.new.draft.lines ≡ listing.old.draft.lines) }
-    ensures memory { IsOkUnless result memory }
+    ensures taken { OnOk result (Adds (reading listing.old) (lines behind.now) line.now (reading listing.new)) }
+    ensures refused { IfErr result (λ e. e ≢ memory → IsRefused (reading listing.old) line.now e.code) }
+    ensures place { IfErr result (λ e. e ≢ memory → e.place ≡ listing.old.draft.lines) }
+    ensures lines { OnOk result (listing.new.draft.lines ≡ listing.old.draft.lines) }
 {
-    if !read_words(arena, line, words)? {
-        return Ok(Some(fault::LINE_WORD));
+    if !read_words(scratch.arena, line, &mut scratch.words)? {
+        return Err(Fault::at(fault::LINE_WORD, listing.draft.lines));
     }
-    match listing.aside(words.as_slice()) {
-        Aside::Nothing => add_says(arena, words.as_slice(), slots, says, listing, behind),
-        Aside::Refused(code) => Ok(Some(code)),
+    match listing.aside(scratch.words.as_slice()) {
+        Aside::Nothing => add_says(scratch, listing, behind),
+        Aside::Refused(code) => Err(Fault::at(code, listing.draft.lines)),
         Aside::First => {
             listing.begin_second();
-            Ok(None)
+            Ok(())
         }
         Aside::Mark => {
             listing.pass_label();
-            Ok(None)
+            Ok(())
         }
     }
 }
@@ -324,27 +338,24 @@ fn tally(listing: &mut Reading<'_, '_>)
     listing.draft.count_line();
 }
 
-/// Reads a line; else why it is refused: 100 to 104.
+/// Reads a line; else it is refused: 100 to 104, at its number.
 fn read_line<'a, 'b>(
-    arena: &'a Bump,
-    words: &mut Vec<Word<'a, 'b>, &'a Bump>,
-    slots: &mut Vec<Slot, &'a Bump>,
-    says: &mut Vec<Datum<'a>, &'a Bump>,
+    scratch: &mut Scratch<'a, 'b>,
     listing: &mut Reading<'a, 'b>,
     line: &'b [u8],
     behind: &'b [u8],
-) -> Result<Option<u16>, Fault>
+) -> Result<(), Fault>
     requires { listing.old.draft.lines + 2 + length behind.now < 2 ^ 64 }
-    ensures taken { IfOk result (λ r. IfNone r (Takes (reading listing.old) (lines behind.now) line.now (reading listing.new))) }
-    ensures refused { IfOk result (λ r. IfSome r (λ code. IsRefused (tallied (reading listing.old)) line.now code)) }
-    ensures lines { IfOk result (λ r. listing.new.draft.lines ≡ listing.old.draft.lines + 1) }
-    ensures memory { IsOkUnless result memory }
+    ensures taken { OnOk result (Takes (reading listing.old) (lines behind.now) line.now (reading listing.new)) }
+    ensures refused { IfErr result (λ e. e ≢ memory → IsRefused (tallied (reading listing.old)) line.now e.code) }
+    ensures place { IfErr result (λ e. e ≢ memory → e.place ≡ listing.old.draft.lines + 1) }
+    ensures lines { OnOk result (listing.new.draft.lines ≡ listing.old.draft.lines + 1) }
 {
     tally(listing);
     if is_skipped(line) {
-        return Ok(None);
+        return Ok(());
     }
-    add_line(arena, words, slots, says, listing, line, behind)
+    add_line(scratch, listing, line, behind)
 }
 
 /// Nothing was read.
@@ -366,26 +377,17 @@ fn read_lines<'a>(alloc: Global, arena: &'a Bump, text: &[u8]) -> Result<Draft<'
     ensures number { IfOk result (λ d. d.lines ≡ length (lines text.now)) }
     ensures err { IfErr result (λ e. e ≢ memory → IsBadLine (lines text.now) e.code e.place) }
 {
-    let mut words = Vec::new(arena);
-    let mut slots = Vec::new(arena);
-    let mut says = Vec::new(arena);
+    let mut scratch = Scratch {
+        arena,
+        words: Vec::new(arena),
+        slots: Vec::new(arena),
+        says: Vec::new(arena),
+        spelled: Spelled::new(alloc, (text.len() / BYTES_A_NAME).min(MOST_NAMES))?,
+    };
     let mut listing = begin(alloc, arena);
     let mut rest = text;
     while let Some((line, behind)) = split_line(rest) {
-        if let Some(code) = read_line(
-            arena,
-            &mut words,
-            &mut slots,
-            &mut says,
-            &mut listing,
-            line,
-            behind,
-        )? {
-            return Err(Fault {
-                code,
-                place: listing.draft.lines,
-            });
-        }
+        read_line(&mut scratch, &mut listing, line, behind)?;
         rest = behind;
     }
     Ok(listing.draft)
@@ -398,16 +400,10 @@ fn check_end(draft: &Draft<'_>) -> Result<(), Fault>
 {
     match draft.block {
         Block::Top => match draft.late {
-            Some(place) => Err(Fault {
-                code: fault::LINE_TARGET,
-                place,
-            }),
+            Some(place) => Err(Fault::at(fault::LINE_TARGET, place)),
             None => Ok(()),
         },
-        _ => Err(Fault {
-            code: fault::LINE_NOT_ENDED,
-            place: draft.lines,
-        }),
+        _ => Err(Fault::at(fault::LINE_NOT_ENDED, draft.lines)),
     }
 }
 

@@ -1,6 +1,6 @@
 -- Texts that are equal.
-use Rattle.std.proofs.Common.{◌≡◌, ◌≢◌, ℕ, suc, ◌<◌, false, List, [], ◌∷◌, length, refl, ap, arith, None}
-use Rattle.std.proofs.lemmas.Bool.{and_right}
+use Rattle.std.proofs.Common.{◌≡◌, ◌≢◌, ℕ, suc, ◌<◌, true, false, List, [], ◌∷◌, length, refl, ap, arith, None}
+use Rattle.std.proofs.lemmas.Bool.{and_right, and_parts, eqb-true}
 use lib.Pointwise.{pointwise}
 use lib.Dec.{eqb}
 use Rattle.std.specs.List.{AllByRecursion}
@@ -13,6 +13,13 @@ same_is [] [] = refl
 same_is [] (y ∷ ys) = refl
 same_is (x ∷ xs) [] = refl
 same_is (x ∷ xs) (y ∷ ys) = rw (same_is xs ys) refl
+
+pub same_true : (xs ys : List ℕ) → same xs ys ≡ true → xs ≡ ys
+unfolding same
+same_true [] [] e = refl
+same_true [] (y ∷ ys) e = absurd cc
+same_true (x ∷ xs) [] e = absurd cc
+same_true (x ∷ xs) (y ∷ ys) e = let p = and_parts (eqb x y) (same xs ys) e in let a = eqb-true x y p.0 in let b = same_true xs ys p.1 in cc
 
 pub other_length : (xs ys : List ℕ) → length xs ≢ length ys → same xs ys ≡ false
 unfolding same

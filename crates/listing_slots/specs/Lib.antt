@@ -3,3 +3,4 @@ pub mod Data
 pub mod View
 pub mod Slots
 pub mod Shown
+pub mod Spelled

@@ -4,7 +4,7 @@
 //! nothing there; what is printed of a datum says that datum again.
 //!
 //! ```text
-//! read_operands(bump, &[Slot::Byte(Mark::Register, 15), Slot::Short], words, &mut data)?
+//! read_operands(spelled, bump, &[Slot::Byte(Mark::Register, 15), Slot::Short], words, &mut data)?
 //! // None, and data is [Byte(3), Short(-1)], for the words `v3 -1`; Some(102), Number, for `v16 -1`
 //! ```
 #![tactic(auto)]
@@ -17,6 +17,7 @@ mod numbers;
 mod put;
 mod read;
 mod slot;
+mod spelled;
 
 pub use datum::{
     Datum, byte_of, datum_at, elements_of, half_of, int_of, long_of, name_of, proto_of, short_of,
@@ -31,3 +32,4 @@ pub use put::{
 };
 pub use read::{fault_of, read_datum, read_operands};
 pub use slot::{Mark, Slot};
+pub use spelled::Spelled;

@@ -11,6 +11,7 @@ ghost use Rattle.listing_slots.specs.View.{datum};
 use crate::datum::Datum;
 use crate::numbers::{read_number, read_signed};
 use crate::slot::{Mark, Slot};
+use crate::spelled::Spelled;
 use bumpalo::Bump;
 use dex_base::{Fault, fault, is_descriptor, is_member_name};
 use listing_words::{
@@ -156,7 +157,11 @@ fn is_number_slot(slot: Slot) -> bool
 }
 
 /// What a word without quotes says in a name's slot: it is decoded first, and then read.
-fn read_encoded<'a>(bump: &'a Bump, slot: Slot, text: &[u8]) -> Result<Option<Datum<'a>>, Fault>
+pub(crate) fn read_encoded<'a>(
+    bump: &'a Bump,
+    slot: Slot,
+    text: &[u8],
+) -> Result<Option<Datum<'a>>, Fault>
     requires { is_name_slot slot ≡ true }
     ensures found { IfOk result (λ r. IfSome r (λ d. SpellsSlot slot (plain_word text.now) (datum d))) }
     ensures none { IfOk result (λ r. IfNone r ((d : Said) → SpellsSlot slot (plain_word text.now) d → ⊥)) }
@@ -169,7 +174,12 @@ fn read_encoded<'a>(bump: &'a Bump, slot: Slot, text: &[u8]) -> Result<Option<Da
 }
 
 /// What a word without quotes says in the slot.
-fn read_unquoted<'a>(bump: &'a Bump, slot: Slot, text: &[u8]) -> Result<Option<Datum<'a>>, Fault>
+fn read_unquoted<'a, 'b>(
+    spelled: &mut Spelled<'a, 'b>,
+    bump: &'a Bump,
+    slot: Slot,
+    text: &'b [u8],
+) -> Result<Option<Datum<'a>>, Fault>
     ensures found { IfOk result (λ r. IfSome r (λ d. SpellsSlot slot (plain_word text.now) (datum d))) }
     ensures none { IfOk result (λ r. IfNone r ((d : Said) → SpellsSlot slot (plain_word text.now) d → ⊥)) }
     ensures memory { IsOkUnless result memory }
@@ -178,7 +188,7 @@ fn read_unquoted<'a>(bump: &'a Bump, slot: Slot, text: &[u8]) -> Result<Option<D
         return Ok(read_plain(slot, text));
     }
     if is_name_slot(slot) {
-        return read_encoded(bump, slot, text);
+        return spelled.read(bump, slot, text);
     }
     match slot {
         Slot::Key(key) => Ok(Some(Datum::Key(key))),
@@ -202,8 +212,9 @@ fn read_quoted<'a>(slot: Slot, units: &'a [u16]) -> Option<Datum<'a>>
     }
 }
 
-/// What the word says in the slot.
+/// What the word says in the slot: a name is read now, or was before.
 pub fn read_datum<'a, 'b>(
+    spelled: &mut Spelled<'a, 'b>,
     bump: &'a Bump,
     slot: Slot,
     one: Word<'a, 'b>,
@@ -213,7 +224,7 @@ pub fn read_datum<'a, 'b>(
     ensures memory { IsOkUnless result memory }
 {
     match one {
-        Word::Plain(text) => read_unquoted(bump, slot, text),
+        Word::Plain(text) => read_unquoted(spelled, bump, slot, text),
         Word::Text(units) => Ok(read_quoted(slot, units)),
     }
 }
@@ -230,6 +241,7 @@ pub fn fault_of(slot: Slot) -> u16
 
 /// What these words say in these slots; else the fault of the first that says nothing there.
 pub fn read_operands<'a, 'b>(
+    spelled: &mut Spelled<'a, 'b>,
     bump: &'a Bump,
     slots: &[Slot],
     words: &[Word<'a, 'b>],
@@ -242,7 +254,7 @@ pub fn read_operands<'a, 'b>(
 {
     says.clear();
     for i in 0..slots.len() {
-        let Some(said) = read_datum(bump, slots[i], words[i])? else {
+        let Some(said) = read_datum(spelled, bump, slots[i], words[i])? else {
             return Ok(Some(fault_of(slots[i])));
         };
         says.push(said)?;

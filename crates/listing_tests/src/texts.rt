@@ -52,6 +52,16 @@ fn canonical_texts_come_back(rt: HostRuntime) -> Result<(), Fail> {
     none_wrong(first_printed_otherwise(rt.alloc(), &TEXTS))
 }
 
+/// Words that stand in slots of several kinds, each more than once: `I` as a name, a type and a part of both, a field as what an
+/// instruction names, as a value and as a constant.
+#[test]
+fn a_word_says_in_each_slot_what_it_says_there(rt: HostRuntime) -> Result<(), Fail> {
+    static TEXTS: [&str; 1] = [
+        "dex 035\nclass LA; 0x1\nsuper Ljava/lang/Object;\nstatic I I 0x9 = type I\nstatic J J 0x9 = type I\nstatic a I 0x9 = array { type I enum LA;->I:I field LA;->I:I enum LA;->I:I field LA;->I:I method LA;->I(I)I method LA;->I(I)I string \"I\" type LA; }\nstatic b I 0x9 = array { enum LA;->J:J field LA;->J:J type J }\ndirect I (I)I 0x9\ncode 1 1 1\n0: invoke-static { v0 } LA;->I(I)I\n1: sget v0 LA;->I:I\n2: invoke-static { v0 } LA;->J(I)I\n3: sput v0 LA;->I:I\n4: check-cast v0 LA;\n5: const-class v0 LA;\n6: const-string v0 \"LA;\"\n7: invoke-static { v0 } LA;->I(I)I\n8: return v0\nend code\ndirect J (I)I 0x9\ncode 1 1 1\n0: invoke-static { v0 } LA;->J(I)I\n1: return v0\nend code\nend class\n",
+    ];
+    none_wrong(first_printed_otherwise(rt.alloc(), &TEXTS))
+}
+
 #[test]
 fn members_are_put_in_their_order(rt: HostRuntime) -> Result<(), Fail> {
     shows(

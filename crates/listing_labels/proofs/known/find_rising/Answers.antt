@@ -1,6 +1,6 @@
 use Rattle.std.proofs.Common.{◌∙◌, sym, ap, Some}
 use Rattle.std.proofs.lemmas.Option.{slice_get-get_or}
-use Rattle.listing_labels.proofs.LookLaws.{same_true}
+use Rattle.listing_slots.proofs.KeyLaws.{same_true}
 use Rattle.listing_labels.proofs.OrderLaws.{there}
 use Rattle.listing_labels.proofs.known.find_rising.Goals as goal
 

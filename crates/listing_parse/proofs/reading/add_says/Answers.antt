@@ -1,4 +1,5 @@
-use Rattle.std.proofs.Common.{◌∙◌, sym, ap, ◌≡◌, ℕ, ◌+◌, List, map, drop}
+use Rattle.std.proofs.Common.{◌∙◌, sym, ap, ℕ, ◌+◌, List, map}
+use Rattle.std.proofs.lemmas.Result.{on_ok_weaker}
 use Rattle.listing_words.specs.View.{word}
 use Rattle.listing_slots.specs.View.{datum}
 use Rattle.listing_slots.specs.declared.datum.Datum.{Datum}
@@ -9,48 +10,47 @@ use Rattle.listing_draft.specs.View.{state}
 use Rattle.listing_labels.specs.Lines.{lines}
 use Rattle.listing_parse.specs.Text.{labels_behind}
 use Rattle.listing_parse.specs.View.{reading}
-use Rattle.listing_parse.proofs.RefusedLaws.{shapeless, misplaced, misspelled, twice, taken, drop_map}
+use Rattle.listing_parse.proofs.RefusedLaws.{shapeless, misplaced, misspelled, twice, taken}
 use Rattle.listing_parse.proofs.reading.add_says.Goals as goal
 
 pub returns-in_default-clause-refused : goal.returns-in_default-clause-refused
 unfolding reading
-returns-in_default-clause-refused c = shapeless (reading c.args.listing.now) (map word c.args.words.now) (rw c.in_default.is at c.in_ok-found.ensures.none)
+returns-in_default-clause-refused c = λ ne.
+    rw c.at.ensures (shapeless (reading c.args.listing.now) (map word c.args.scratch.now.words.items) (rw (c.in_default.is, c.as_slice-words.ensures.value) at c.in_ok-found.ensures.none))
 
 pub returns-then-not-may_be-clause-refused : goal.returns-then-not-may_be-clause-refused
 unfolding reading
-returns-then-not-may_be-clause-refused c =
-    let ws = map word c.args.words.now in
-    misplaced (reading c.args.listing.now) ws (shape c.in-Some.found c.read_form.new.slots.items ws) (rw c.in-Some.is at c.in_ok-found.ensures.found) (sym (c.may_be.ensures c.read_form.new.slots.items ws) ∙ c.if-not-may_be.true)
+returns-then-not-may_be-clause-refused c = λ ne.
+    let ws = map word c.args.scratch.now.words.items in
+    rw c.at-then-not-may_be.ensures (misplaced (reading c.args.listing.now) ws (shape c.in-Some.found c.read_form.new.slots.items ws) (rw (c.in-Some.is, c.as_slice-words.ensures.value) at c.in_ok-found.ensures.found) (sym (c.may_be.ensures c.read_form.new.slots.items ws) ∙ c.if-not-may_be.true))
 
 pub returns-in-Some-2-clause-refused : goal.returns-in-Some-2-clause-refused
 unfolding reading
-returns-in-Some-2-clause-refused c =
-    let ws = map word c.args.words.now in
-    let e : map word c.split_at.result.1.now ≡ drop c.in-Some.found.lead ws = ap (map word) c.split_at.ensures.back ∙ drop_map c.in-Some.found.lead c.args.words.now in
-    misspelled (reading c.args.listing.now) ws (shape c.in-Some.found c.read_form.new.slots.items ws) _ (rw c.in-Some.is at c.in_ok-found.ensures.found) (sym (c.may_be.ensures c.read_form.new.slots.items ws) ∙ c.if-not-may_be.false)
-    (rw (c.as_slice.ensures.value, e) at (rw c.in-Some-2.is at c.in_ok-code.ensures.bad))
+returns-in-Some-2-clause-refused c = λ ne.
+    let ws = map word c.args.scratch.now.words.items in
+    rw c.at-in-Some-2.ensures (misspelled (reading c.args.listing.now) ws (shape c.in-Some.found c.read_form.new.slots.items ws) _ (rw (c.in-Some.is, c.as_slice-words.ensures.value) at c.in_ok-found.ensures.found) (sym (c.may_be.ensures c.read_form.new.slots.items ws) ∙ c.if-not-may_be.false)
+    (rw c.in-Some-2.is at c.in_ok-code.ensures.bad))
 
 pub returns-then-not-branch-clause-refused : goal.returns-then-not-branch-clause-refused
 unfolding reading
-returns-then-not-branch-clause-refused c =
-    let ws = map word c.args.words.now in
-    let e : map word c.split_at.result.1.now ≡ drop c.in-Some.found.lead ws = ap (map word) c.split_at.ensures.back ∙ drop_map c.in-Some.found.lead c.args.words.now in
-    twice (reading c.args.listing.now) ws (shape c.in-Some.found c.read_form.new.slots.items ws) (map datum c.read_says.new.says.items) (line c.in_ok-next.next) (rw c.in-Some.is at c.in_ok-found.ensures.found) (sym (c.may_be.ensures c.read_form.new.slots.items ws) ∙ c.if-not-may_be.false)
-    (rw (c.as_slice.ensures.value, e) at (rw c.in_default-2.is at c.in_ok-code.ensures.all))
-    (c.in_ok-next.ensures.ok ∙ ap (λ (ds : List Datum). line_of c.in-Some.found.kind (map datum ds)) c.as_slice-2.ensures.value)
-    (rw c.if-not-branch.true at c.in_ok-add.ensures.added)
+returns-then-not-branch-clause-refused c = λ ne.
+    let ws = map word c.args.scratch.now.words.items in
+    rw c.at-then-not-branch.ensures (twice (reading c.args.listing.now) ws (shape c.in-Some.found c.read_form.new.slots.items ws) (map datum c.read_says.new.scratch.says.items) (line c.in_ok-next.next) (rw (c.in-Some.is, c.as_slice-words.ensures.value) at c.in_ok-found.ensures.found) (sym (c.may_be.ensures c.read_form.new.slots.items ws) ∙ c.if-not-may_be.false)
+    (rw c.in_default-2.is at c.in_ok-code.ensures.all)
+    (c.in_ok-next.ensures.ok ∙ ap (λ (ds : List Datum). line_of c.in-Some.found.kind (map datum ds)) c.as_slice.ensures.value)
+    (rw c.if-not-branch.true at c.in_ok-add.ensures.added))
 
 pub returns-clause-taken : goal.returns-clause-taken
 unfolding reading state
 returns-clause-taken c =
-    let ws = map word c.args.words.now in
+    let ws = map word c.args.scratch.now.words.items in
     let ls = lines c.args.behind.now in
     let es = c.args.listing.now.labels in
     let form = c.args.listing.now.form in
-    let e : map word c.split_at.result.1.now ≡ drop c.in-Some.found.lead ws = ap (map word) c.split_at.ensures.back ∙ drop_map c.in-Some.found.lead c.args.words.now in
-    taken (reading c.args.listing.now) (reading c.look.new.self) ls ws (shape c.in-Some.found c.read_form.new.slots.items ws) (map datum c.read_says.new.says.items) (line c.in_ok-next.next) (state c.add.new.self)
-    (rw c.in-Some.is at c.in_ok-found.ensures.found) (sym (c.may_be.ensures c.read_form.new.slots.items ws) ∙ c.if-not-may_be.false)
-    (rw (c.as_slice.ensures.value, e) at (rw c.in_default-2.is at c.in_ok-code.ensures.all))
-    (c.in_ok-next.ensures.ok ∙ ap (λ (ds : List Datum). line_of c.in-Some.found.kind (map datum ds)) c.as_slice-2.ensures.value)
+    on_ok_weaker c.look.result (λ looked. taken (reading c.args.listing.now) (reading c.look.new.self) ls ws (shape c.in-Some.found c.read_form.new.slots.items ws) (map datum c.read_says.new.scratch.says.items) (line c.in_ok-next.next) (state c.add.new.self)
+    (rw (c.in-Some.is, c.as_slice-words.ensures.value) at c.in_ok-found.ensures.found) (sym (c.may_be.ensures c.read_form.new.slots.items ws) ∙ c.if-not-may_be.false)
+    (rw c.in_default-2.is at c.in_ok-code.ensures.all)
+    (c.in_ok-next.ensures.ok ∙ ap (λ (ds : List Datum). line_of c.in-Some.found.kind (map datum ds)) c.as_slice.ensures.value)
     (rw c.if-not-branch.false at c.in_ok-add.ensures.added)
-    (c.in_ok-look.ensures.looked ∙ ap (λ (n : ℕ). record { form = form; labels = labels_behind form c.in-Some.found.kind (n + 1) ls es; base = state c.add.new.self }) c.in_ok-add.ensures.lines)
+    (looked ∙ ap (λ (n : ℕ). record { form = form; labels = labels_behind form c.in-Some.found.kind (n + 1) ls es; base = state c.add.new.self }) c.in_ok-add.ensures.lines))
+    c.look.ensures.looked

@@ -1,0 +1,140 @@
+//! Names that words have spelled: a listing spells most of its names many times.
+
+ghost use Rattle.std.specs.Prelude.{◌≡◌, true, IfOk, IfSome, IfNone, IsTrue, IsOkUnless};
+ghost use Rattle.base_bytes.specs.Fault.{memory};
+ghost use Rattle.listing_words.specs.Words.{plain_word};
+ghost use Rattle.listing_slots.specs.Slots.{SpellsSlot, is_name_slot};
+ghost use Rattle.listing_slots.specs.Data.{Datum as Said};
+ghost use Rattle.listing_slots.specs.View.{datum};
+
+use crate::datum::Datum;
+use crate::key::is_same;
+use crate::read::read_encoded;
+use crate::slot::Slot;
+use base_bytes::u32_at;
+use bumpalo::Bump;
+use dex_base::Fault;
+use std::alloc::Global;
+use std::marker::Model;
+
+/// A word that spelled a name in a slot.
+#[derive(Clone, Copy)]
+struct Spelling<'a, 'b> {
+    slot: Slot,
+    text: &'b [u8],
+    name: Datum<'a>,
+}
+
+/// Words that spelled names, with their names: such a word is read once, and its name stands in memory once.
+///
+/// Each word has one place, by its bytes, and takes it from the word that was there. So a word is compared with one other,
+/// whatever the listing, and the places take the memory that they took at first. It stands for the number of places.
+#[derive(Drop)]
+pub struct Spelled<'a, 'b> {
+    places: Vec<Option<Spelling<'a, 'b>>>,
+}
+
+impl<'a, 'b> Model for Spelled<'a, 'b> {
+    ghost use Rattle.std.specs.Prelude.{ℕ, length};
+    ghost use Rattle.listing_slots.specs.Spelled.{AreSpelled};
+
+    ghost Value = { ℕ };
+
+    ghost view = { λ s. length s.places.items };
+
+    ghost invariant = { λ s. AreSpelled s.places.items };
+}
+
+/// Whether they are one slot, in which names stand.
+fn is_same_slot(a: Slot, b: Slot) -> bool
+    ensures { IsTrue result → a ≡ b }
+{
+    match (a, b) {
+        (Slot::Member, Slot::Member) | (Slot::Desc, Slot::Desc) | (Slot::Field, Slot::Field) =>
+            true,
+        (Slot::Method, Slot::Method) | (Slot::Enum, Slot::Enum) | (Slot::Proto, Slot::Proto) =>
+            true,
+        _ => false,
+    }
+}
+
+/// The factor of Fibonacci hashing, 2 to the 64th divided by the golden ratio: it spreads each byte over the bits above it.
+const GOLDEN: u64 = 0x9e37_79b9_7f4a_7c15;
+
+/// A number made of all bytes of a word.
+fn sum_of(text: &[u8]) -> u64 {
+    let mut sum = text.len() as u64;
+    for k in 0..text.len() / 4 {
+        sum = (sum ^ u64::from(u32_at(text, 4 * k))).wrapping_mul(GOLDEN);
+    }
+    for byte in &text[text.len() / 4 * 4..] {
+        sum = (sum ^ u64::from(*byte)).wrapping_mul(GOLDEN);
+    }
+    sum
+}
+
+/// The place of a word among so many; of none it means nothing.
+fn place_of(text: &[u8], places: usize) -> usize {
+    if places == 0 {
+        return 0;
+    }
+    (sum_of(text) >> 32) as usize % places
+}
+
+impl<'a, 'b> Spelled<'a, 'b> {
+    /// No word, and so many places.
+    pub fn new(alloc: Global, places: usize) -> Result<Self, Fault>
+        ensures none { IfOk result (λ s. s ≡ places) }
+        ensures memory { IsOkUnless result memory }
+    {
+        let mut all: Vec<Option<Spelling<'a, 'b>>> = Vec::new(alloc);
+        all.resize(places, None)?;
+        Ok(Spelled { places: all })
+    }
+
+    /// What the word said in the slot, if it is the one at this place.
+    fn find(&self, at: usize, slot: Slot, text: &[u8]) -> Option<Datum<'a>>
+        ensures { IfSome result (λ d. SpellsSlot slot (plain_word text.now) (datum d)) }
+    {
+        if at >= self.places.len() {
+            return None;
+        }
+        let one = self.places[at]?;
+        if is_same_slot(one.slot, slot) && is_same(one.text, text) {
+            return Some(one.name);
+        }
+        None
+    }
+
+    /// Puts a word at a place, where it says this in the slot.
+    fn keep(&mut self, at: usize, slot: Slot, text: &'b [u8], name: Datum<'a>)
+        requires { SpellsSlot slot (plain_word text.now) (datum name) }
+    {
+        if at < self.places.len() {
+            self.places[at] = Some(Spelling { slot, text, name });
+        }
+    }
+
+    /// What a word without quotes says in a name's slot.
+    pub(crate) fn read(
+        &mut self,
+        bump: &'a Bump,
+        slot: Slot,
+        text: &'b [u8],
+    ) -> Result<Option<Datum<'a>>, Fault>
+        requires { is_name_slot slot ≡ true }
+        ensures found { IfOk result (λ r. IfSome r (λ d. SpellsSlot slot (plain_word text.now) (datum d))) }
+        ensures none { IfOk result (λ r. IfNone r ((d : Said) → SpellsSlot slot (plain_word text.now) d → ⊥)) }
+        ensures memory { IsOkUnless result memory }
+    {
+        let at = place_of(text, self.places.len());
+        if let Some(name) = self.find(at, slot, text) {
+            return Ok(Some(name));
+        }
+        let Some(name) = read_encoded(bump, slot, text)? else {
+            return Ok(None);
+        };
+        self.keep(at, slot, text, name);
+        Ok(Some(name))
+    }
+}
