@@ -10,3 +10,4 @@ pub mod InsnFaultLaws
 pub mod Saying
 pub mod SaidRegisters
 pub mod PlainLaws
+pub mod CheckLaws

@@ -6,3 +6,4 @@ pub mod Insns
 pub mod InsnFaults
 pub mod Registers
 pub mod Reading
+pub mod Checking

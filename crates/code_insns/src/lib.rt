@@ -25,8 +25,10 @@ mod plain;
 mod symbols;
 mod targets;
 
-// All of it.
+// All of it: read, or only looked at.
+mod checking;
 mod insns;
 
+pub use checking::{Checked, check_insns};
 pub use insns::{Insns, read_insns};
 pub use places::{below, number_at};

@@ -20,7 +20,7 @@ use tables_rows::Tables;
 
 /// Whether it neither is a payload nor refers to one.
 #[tactic(auto, unfolding(crate::specs::Reading::is_plain, dex_insn::specs::Raw::raw))]
-fn is_plain(one: &RawInsn<'_>) -> bool
+pub(crate) fn is_plain(one: &RawInsn<'_>) -> bool
     ensures { result ≡ is_plain (raw one.now) }
 {
     match one {

@@ -11,7 +11,7 @@ ghost use Rattle.code_insns.specs.Walk.{IsTable};
 use dex_insn::{RawInsn, top_register};
 
 /// Whether the registers that an instruction names are among the first `count`.
-fn is_among(one: &RawInsn<'_>, count: u16) -> bool
+pub(crate) fn is_among(one: &RawInsn<'_>, count: u16) -> bool
     ensures { IsTrue result ↔ AllByRecursion (λ v. v < count) (named_registers (raw one.now)) }
 {
     match top_register(one) {

@@ -35,7 +35,7 @@ fn branch_of(one: &RawInsn<'_>) -> Option<i32>
 
 /// The same, where 0 isn't allowed.
 #[tactic(auto, unfolding(crate::specs::Insns::branch, crate::specs::Insns::short_branch, dex_insn::specs::Raw::raw))]
-fn short_branch_of(one: &RawInsn<'_>) -> Option<i32>
+pub(crate) fn short_branch_of(one: &RawInsn<'_>) -> Option<i32>
     ensures { result ≡ short_branch (raw one.now) }
 {
     match one {
@@ -85,7 +85,7 @@ fn branch_lands(insns: &[RawInsn<'_>], begins: &[u32], k: usize) -> bool
 }
 
 /// Whether it isn't 0.
-fn moves(offset: i32) -> bool
+pub(crate) fn moves(offset: i32) -> bool
     ensures { IsTrue result ↔ (offset ≢ pos 0) }
 {
     if offset < 0 {

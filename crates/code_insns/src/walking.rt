@@ -17,7 +17,7 @@ pub struct Walked<'b> {
 }
 
 // For how many instructions room is taken before the first is read.
-const MOST_AT_ONCE: usize = 256;
+pub(crate) const MOST_AT_ONCE: usize = 256;
 
 /// Reads the units as instructions end to end. The first unit is at the place `base`.
 pub fn walk<'b>(alloc: Global, units: &'b [u8], base: u64) -> Result<Walked<'b>, Fault>

@@ -5,3 +5,4 @@ pub mod Tries
 pub mod Code
 pub mod Faults
 pub mod Reading
+pub mod Checking

@@ -14,11 +14,13 @@ mod item;
 mod handlers;
 mod tries;
 
-// All of it.
+// All of it: read, or only looked at.
+mod checking;
 mod reading;
 
 // What holds of every item.
 mod laws;
 
+pub use checking::check_body;
 pub use laws::{broken_code_is_none, code_carries_over, code_is_one, code_is_prefix_unique};
 pub use reading::{Body, read_body, read_code};

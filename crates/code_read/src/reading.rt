@@ -21,7 +21,7 @@ use std::alloc::Global;
 use tables_rows::Tables;
 
 /// The kind of the section of code items (TYPE_CODE_ITEM).
-const CODE_ITEMS: u16 = 0x2001;
+pub(crate) const CODE_ITEMS: u16 = 0x2001;
 
 /// A code as its item spells it, and what is wrong with its registers, if anything is.
 #[derive(Clone, Copy)]
@@ -32,7 +32,7 @@ pub struct Body<'a> {
 }
 
 /// What is wrong with the registers of the code at `off`, where the first instruction that names one past them is at this unit.
-fn register_fault(off: u32, registers: u16, ins: u16, past: Option<u32>) -> Option<Fault>
+pub(crate) fn register_fault(off: u32, registers: u16, ins: u16, past: Option<u32>) -> Option<Fault>
     ensures none { IfNone result ((ins ≤ registers) × (past ≡ None)) }
     ensures some { IfSome result (λ e. ((registers < ins) × (e ≡ record { code = 73; place = off }))
         ⊎ ((ins ≤ registers) × (at : ℕ) × (past ≡ Some at) × (e ≡ record { code = 73; place = off + 16 + 2 * at }))) }

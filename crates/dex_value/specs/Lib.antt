@@ -3,6 +3,7 @@ pub mod Standing
 pub mod Unique
 pub mod Faults
 pub mod Reading
+pub mod Checking
 pub mod Wide
 pub mod Counts
 pub mod Named

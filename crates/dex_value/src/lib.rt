@@ -1,7 +1,7 @@
 //! Encoded values: the initial values of static fields ("Dalvik Executable format": encoded_value, encoded_array).
 //!
-//! `read_array` reads the encoded_array at an offset of a file; `put_array` appends one, in the fewest bytes. Both meet one
-//! relation, `specs/Spelling.antt`, in which the names that indices stand for are a parameter: for a file those of its
+//! `read_array` reads the encoded_array at an offset of a file, `check_array` looks at it and keeps nothing; `put_array` appends one, in
+//! the fewest bytes. All meet one relation, `specs/Spelling.antt`, in which the names that indices stand for are a parameter: for a file those of its
 //! tables, for a writer the names by rank.
 #![tactic(auto)]
 
@@ -10,7 +10,8 @@ mod names;
 mod numbers;
 mod types;
 
-// Values in values, from a file.
+// Values in values, from a file: kept, or only looked at.
+mod checking;
 mod reading;
 
 // Values to bytes, in the fewest.
@@ -20,6 +21,7 @@ mod writing;
 // What crates above rest on.
 mod laws;
 
+pub use checking::check_array;
 pub use laws::{
     array_carries_over, array_is_prefix_unique, array_is_short, spelled_array_can_be_put,
 };

@@ -22,21 +22,21 @@ use std::alloc::Global;
 use tables_rows::Tables;
 
 /// How deep an array value may lie.
-const DEPTH: u32 = 64;
+pub(crate) const DEPTH: u32 = 64;
 
 /// The head of an array: its type, without an argument.
-const ARRAY: u8 = 0x1c;
+pub(crate) const ARRAY: u8 = 0x1c;
 
 /// Where the array of static values begins, and where its section ends, in bytes.
 #[derive(Clone, Copy)]
-struct Span {
-    off: u32,
-    end: u32,
+pub(crate) struct Span {
+    pub(crate) off: u32,
+    pub(crate) end: u32,
 }
 
 impl Span {
     /// The bytes run past the section, or a count is misspelled.
-    fn cut(self) -> Fault
+    pub(crate) fn cut(self) -> Fault
         ensures { result ≡ values_fault self.off }
     {
         Fault::at(fault::VALUES, u64::from(self.off))
@@ -50,7 +50,7 @@ impl Span {
     }
 
     /// The value at the front of the bytes is an array that lies too deep.
-    fn too_deep(self, bytes: &[u8]) -> Fault
+    pub(crate) fn too_deep(self, bytes: &[u8]) -> Fault
         ensures { result ≡ depth_fault self.end bytes.now }
     {
         Fault::at(fault::VALUE_DEPTH, self.place_of(bytes))
@@ -65,7 +65,7 @@ impl Span {
 }
 
 /// A value with bytes behind its head, and what follows it.
-fn read_sized<'a, 'b>(
+pub(crate) fn read_sized<'a, 'b>(
     tables: &Tables<'a>,
     span: Span,
     bytes: &'b [u8],

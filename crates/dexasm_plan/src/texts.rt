@@ -21,13 +21,14 @@ Exit status: 0 done, 1 the file or the listing is refused, 2 a bad command line,
 Example: dexasm check classes.dex";
 
 /// The subcommand check: what it does.
-pub(crate) const CHECK: &str = "Says whether a .dex file keeps every rule of its format";
+pub(crate) const CHECK: &str = "Says whether a .dex file keeps the rules of its format";
 
 /// More on it.
 pub(crate) const CHECK_MORE: &str = "\
 Reads the whole file: header, map and checksums, the tables of names, classes, static values
-and code. Prints ok, or tells the first rule that is broken and the byte where it is.
-The format is Dalvik Executable, version 035.
+and code. Prints ok, or tells a rule that is broken and the byte where it is.
+Annotations and debug information are not looked at. The format is Dalvik Executable,
+version 035.
 
 Example: dexasm check classes.dex";
 
@@ -38,8 +39,8 @@ pub(crate) const LIST: &str = "Prints the program of a .dex file as a listing";
 pub(crate) const LIST_MORE: &str = "\
 A listing is plain text: a line for each class, member and instruction, and labels where
 branches lead (its first line is 'dex 035 listing 2'). It can be changed by hand, and
-'dexasm assemble' makes a file of it again. A file that breaks a rule of its format (Dalvik
-Executable, version 035) is refused.
+'dexasm assemble' makes a file of it again. Annotations and debug information are not
+listed. A file that breaks a rule of its format (Dalvik Executable, version 035) is refused.
 
 Example: dexasm list classes.dex --output classes.txt";
 
@@ -60,8 +61,9 @@ pub(crate) const STRIP: &str = "Writes a .dex file anew, with nothing to spare";
 
 /// More on it.
 pub(crate) const STRIP_MORE: &str = "\
-The program stays as it is. Names that it doesn't need, annotations and debug information
-(line numbers too) are dropped. The format is Dalvik Executable, version 035.
+Classes, members, static values and code stay. Annotations (a program that reads them at
+run time will miss them), debug information (line numbers too) and names that nothing needs
+are dropped. The format is Dalvik Executable, version 035.
 
 Example: dexasm strip classes.dex --output small.dex";
 
@@ -70,7 +72,7 @@ pub(crate) const FILE: &str = "The file to read, in place of standard input";
 
 /// --output OUT.
 pub(crate) const OUTPUT: &str =
-    "The file to write, in place of standard output: made or emptied only when the answer is whole";
+    "The file to write, in place of standard output: untouched until the answer is whole";
 
 /// --align.
 pub(crate) const ALIGN: &str = "Put a nop before each payload at an odd address";

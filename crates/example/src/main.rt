@@ -8,7 +8,6 @@ use anyhow::{Error, Result, anyhow, bail};
 use bumpalo::Bump;
 use dex_base::{Fault, fault_name};
 use dex_program::{Method, Program};
-use listing_words::{put_name, put_proto};
 use patch::patch;
 use std::alloc::Global;
 use std::io::Write;
@@ -23,7 +22,7 @@ fn main(rt: HostRuntime) -> Result<()> {
     let arena = Bump::new(rt.alloc());
     let program = dex_file::read(rt.alloc(), &arena, &bytes).map_err(refused)?;
     let shown = show(rt.alloc(), &program).map_err(refused)?;
-    rt.stdout().write_all(&shown)?;
+    rt.stdout().write_all(shown.as_bytes())?;
     let patched = patch(&arena, &program).map_err(refused)?;
     let made = write(rt.alloc(), &patched).map_err(refused)?;
     fs::write(&rt, out.as_str(), &made)?;
@@ -42,11 +41,10 @@ fn write(alloc: Global, program: &Program<'_>) -> Result<Vec<u8>, Fault> {
 }
 
 // A line for each class, and one for each of its methods.
-fn show(alloc: Global, program: &Program<'_>) -> Result<Vec<u8>, Fault> {
-    let mut shown = Vec::new(alloc);
+fn show(alloc: Global, program: &Program<'_>) -> Result<String, Fault> {
+    let mut shown = String::new(alloc);
     for class in program.classes {
-        put_name(&mut shown, class.ty.text.units)?;
-        shown.push(b'\n')?;
+        writeln!(shown, "{}", class.ty)?;
         for method in class.directs.iter().chain(class.virtuals) {
             put_method(&mut shown, method)?;
         }
@@ -54,15 +52,12 @@ fn show(alloc: Global, program: &Program<'_>) -> Result<Vec<u8>, Fault> {
     Ok(shown)
 }
 
-fn put_method(shown: &mut Vec<u8>, method: &Method<'_>) -> Result<(), Fault> {
+fn put_method(shown: &mut String, method: &Method<'_>) -> Result<(), Fault> {
     let count = match method.code {
         Some(code) => code.insns.len(),
         None => 0,
     };
-    let alloc = *shown.allocator();
-    shown.extend_from_slice(b"  ")?;
-    put_name(shown, method.name.units)?;
-    put_proto(shown, method.proto)?;
-    shown.extend_from_slice(format!(in alloc; ": {count} instructions\n")?.as_bytes())?;
+    let (name, proto) = (method.name, method.proto);
+    writeln!(shown, "  {name}{proto}: {count} instructions")?;
     Ok(())
 }

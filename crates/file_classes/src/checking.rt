@@ -12,16 +12,17 @@ ghost use Rattle.file_classes.specs.Reading.{IsHead, BaresHold, BaresBreak, Bare
 use crate::class_row::class_count;
 use crate::heads::Head;
 use crate::members::Bare;
-use crate::methods::{first_of, read_code_at};
+use crate::methods::first_of;
 use crate::statics::head_at;
 use bumpalo::Bump;
+use code_read::check_body;
 use dex_base::Fault;
 use dex_container::Sections;
 use indexmap::IndexMap;
 use std::alloc::Global;
 use tables_rows::Tables;
 
-// What is wrong with the registers of the code at an offset, if anything is; the code lies in the arena.
+// What is wrong with the registers of the code at an offset, if anything is; what has to be kept of it lies in the arena.
 fn check_code(
     alloc: Global,
     arena: &Bump,
@@ -33,8 +34,11 @@ fn check_code(
     ensures ok { IfOk result (IsChecked sections.now off) }
     ensures err { IfErr result (λ e. e ≢ memory → BodyFails sections.now off e) }
 {
-    let found = read_code_at(alloc, arena, sections, tables, off)?;
-    Ok(found.past)
+    if off == 0 {
+        return Ok(None);
+    }
+    let past = check_body(alloc, arena, tables, sections, off)?;
+    Ok(past)
 }
 
 // The same: what is kept of the offset, or what is found now, and kept. Behind each code the scratch arena is empty again.

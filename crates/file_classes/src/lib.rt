@@ -4,7 +4,9 @@
 //! let heads = read_heads(alloc, &arena, &scratch, &sections, &tables)?; // faults 40 to 47
 //! let statics = read_statics(alloc, &arena, &scratch, &sections, &tables, heads)?; // faults 48 to 51
 //! let classes = read_classes(alloc, &arena, &sections, &tables, heads, statics)?; // faults 60 to 73
-//! check_codes(alloc, &sections, &tables, heads)?; // faults 60 to 73, where no program is asked for
+//!
+//! check_statics(alloc, &sections, &tables, heads)?; // faults 48 to 51, where no program is asked for
+//! check_codes(alloc, &sections, &tables, heads)?; // faults 60 to 73
 //! ```
 #![tactic(auto)]
 
@@ -19,12 +21,14 @@ mod places;
 
 // The passes over all rows.
 mod checking;
+mod checking_statics;
 mod heads;
 mod laws;
 mod methods;
 mod statics;
 
 pub use checking::check_codes;
+pub use checking_statics::check_statics;
 pub use heads::{Head, read_heads};
 pub use laws::{class_is_one, classes_are_clear};
 pub use members::Bare;

@@ -58,7 +58,7 @@ pub(crate) fn first_of(first: Option<Fault>, next: Option<Fault>) -> Option<Faul
 }
 
 // The code at an offset, none at 0.
-pub(crate) fn read_code_at<'a>(
+fn read_code_at<'a>(
     alloc: Global,
     arena: &'a Bump,
     sections: &Sections<'_>,

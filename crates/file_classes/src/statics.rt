@@ -57,7 +57,7 @@ fn array_at<'a>(
 }
 
 // A fault of a row's array stands at the row, one of a value at the value.
-fn at_row(place: u64, found: Fault) -> Fault
+pub(crate) fn at_row(place: u64, found: Fault) -> Fault
     ensures { result ≡ at_row place found }
 {
     if found.code == fault::VALUES || found.code == fault::TOO_MANY_VALUES {

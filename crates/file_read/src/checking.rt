@@ -8,12 +8,12 @@ ghost use Rattle.file_read.specs.Refused.{IsRefused};
 use bumpalo::Bump;
 use dex_base::Fault;
 use dex_container::open;
-use file_classes::{check_codes, read_heads, read_statics};
+use file_classes::{check_codes, check_statics, read_heads};
 use std::alloc::Global;
 use tables_rows::Tables;
 
-/// Whether a file means a program: refuses what `read` refuses, with the same fault, and holds no program: each code is let go when
-/// it is read.
+/// Whether a file means a program: refuses what `read` refuses, with a fault of the same group, and holds no program: static values are
+/// only looked at, and each code is let go when it is read.
 ///
 /// ```
 /// use dex_file::{check, write};
@@ -33,7 +33,7 @@ pub fn check(alloc: Global, bytes: &[u8]) -> Result<(), Fault>
     let arena = Bump::new(alloc);
     let tables = Tables::read(alloc, &arena, &sections)?;
     let heads = read_heads(alloc, &arena, &arena, &sections, &tables)?;
-    read_statics(alloc, &arena, &arena, &sections, &tables, heads)?;
+    check_statics(alloc, &sections, &tables, heads)?;
     check_codes(alloc, &sections, &tables, heads)?;
     Ok(())
 }

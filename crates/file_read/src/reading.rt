@@ -17,17 +17,7 @@ use tables_rows::Tables;
 ///
 /// A refusal is the first fault, group by group: header, map and checksums (1 to 14), the five tables of names (20 to 35),
 /// class rows (40 to 47), static values (48 to 51), code (60 to 72), its registers (73); in each group at the first
-/// row that breaks a rule. Places are byte offsets. 255 is want of memory.
-///
-/// ```
-/// use bumpalo::Bump;
-/// use dex_file::{read, write};
-/// use dex_program::Program;
-///
-/// let arena = Bump::new(alloc);
-/// let file = write(alloc, &Program { classes: &[] })?;
-/// assert!(rt; read(alloc, &arena, &file)?.classes.is_empty());
-/// ```
+/// row that breaks a rule. Places are byte offsets. 255 is want of memory. `read` of dex_file says more of its answer.
 pub fn read<'a>(alloc: Global, arena: &'a Bump, bytes: &[u8]) -> Result<Program<'a>, Fault>
     ensures means { IfOk result (λ p. Means bytes.now (view.program p)) }
     ensures only { (p : _) → Means bytes.now p → IfErr result (λ e. e ≡ memory) }

@@ -98,7 +98,7 @@ static OF_VOID: Rows<'static> = Rows {
 
 fn is_void_told(alloc: Global) -> Result<bool, Fault> {
     let (code, place) = fault_of_rows(alloc, &OF_VOID)?;
-    Ok(code == 28 && place == 124)
+    Ok(code == fault::PARAMETER_LIST && place == 124)
 }
 
 #[test]

@@ -1,18 +1,21 @@
 //! Bytes that are no array of values, and which fault is told.
 
-use crate::values::{ARRAYS_AT, ARRAYS_BEHIND_NAMES_AT, NAMES, read_in};
+use crate::values::{ARRAYS_AT, ARRAYS_BEHIND_NAMES_AT, NAMES, check_in, read_in};
 use bumpalo::Bump;
 use dex_base::{Fault, fault};
 use dex_samples::{NOTHING, Rows, file_of, none_wrong};
 use std::alloc::Global;
 use std::test::Fail;
 
-// Whether this fault is told of the array at a place of the file.
+// Whether this fault is told of the array at a place of the file, when it is read and when it is only looked at.
 fn is_refused_at(alloc: Global, file: &[u8], off: u32, most: usize, want: Fault) -> bool {
     let arena = Bump::new(alloc);
-    match read_in(alloc, &arena, file, off, most) {
-        Ok(_) => false,
-        Err(fault) => fault == want,
+    match (
+        read_in(alloc, &arena, file, off, most),
+        check_in(alloc, file, off, most),
+    ) {
+        (Err(read), Err(checked)) => read == want && checked == want,
+        _ => false,
     }
 }
 

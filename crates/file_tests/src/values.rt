@@ -4,7 +4,7 @@ use bumpalo::Bump;
 use dex_base::Fault;
 use dex_container::open;
 use dex_samples::{NOTHING, Rows};
-use dex_value::read_array;
+use dex_value::{check_array, read_array};
 use program_types::{Desc, FieldRef, MethodRef, Proto, Str, Value};
 use std::alloc::Global;
 use tables_rows::Tables;
@@ -79,6 +79,14 @@ pub fn read_in<'a>(
     let sections = open(file)?;
     let tables = Tables::read(alloc, arena, &sections)?;
     read_array(alloc, arena, &tables, &sections, off, most)
+}
+
+/// How many values it has, when they are only looked at.
+pub fn check_in(alloc: Global, file: &[u8], off: u32, most: usize) -> Result<u32, Fault> {
+    let arena = Bump::new(alloc);
+    let sections = open(file)?;
+    let tables = Tables::read(alloc, &arena, &sections)?;
+    check_array(&tables, &sections, off, most)
 }
 
 /// Whether two values, neither of which is an array, are one.

@@ -1,7 +1,8 @@
 //! Values from their bytes, in files.
 
 use crate::values::{
-    A, ARRAYS_AT, ARRAYS_BEHIND_NAMES_AT, B, CLASS, FIELD, METHOD, NAMES, is_same, read_in,
+    A, ARRAYS_AT, ARRAYS_BEHIND_NAMES_AT, B, CLASS, FIELD, METHOD, NAMES, check_in, is_same,
+    read_in,
 };
 use bumpalo::Bump;
 use dex_base::{Fault, put_mutf8, put_uleb};
@@ -15,6 +16,9 @@ type Read = (&'static str, &'static [u8], Value<'static>);
 
 // Whether the array at this place of the file has one value, and which.
 fn is_one_at(alloc: Global, file: &[u8], off: u32, want: &Value<'_>) -> Result<bool, Fault> {
+    if check_in(alloc, file, off, 1)? != 1 {
+        return Ok(false);
+    }
     let arena = Bump::new(alloc);
     match read_in(alloc, &arena, file, off, 1)? {
         [one] => Ok(is_same(one, want)),

@@ -90,7 +90,7 @@ module _ (b : List ℕ) (s : Five) (p : Program) (a : Assembled b s p) (valid : 
 
   -- ---- lists of types
 
-  types_spell : (bytes : List ℕ) (ts : List Descriptor) → SpellsRanks s bytes ts → SpellsTypes b bytes ts
+  types_spell : (bytes : List ℕ) (ts : List Descriptor) → SpellsRanks s bytes ts → SpellsTypes (TypeStands b) bytes ts
   types_spell bytes ts r = record { indexes = r.indexes; spelled = r.spelled; named = zip_weaker (λ i t. IsAt s.types i (text_key t)) (TypeStands b) type_stands r.indexes ts r.named }
 
   -- the list at place k of the references, by ranks and as the file has it
@@ -104,7 +104,7 @@ module _ (b : List ℕ) (s : Five) (p : Program) (a : Assembled b s p) (valid : 
   pub list_at : (k : ℕ) (ts : List Descriptor) → slice_get (list_values s p) k ≡ Some ts → TypesAt b (get_or a.at.lists k 0) ts
   list_at k ts e =
       let l = a.lies.lists in
-      at_list (SpellsRanks s) (SpellsTypes b) 4 b 0x1001 a.plan.lists.begin a.plan.lists.begin a.plan.lists.end (list_values s p) a.at.lists a.plan.lists.items (get_or a.at.lists k 0) ts
+      at_list (SpellsRanks s) (SpellsTypes (TypeStands b)) 4 b 0x1001 a.plan.lists.begin a.plan.lists.begin a.plan.lists.end (list_values s p) a.at.lists a.plan.lists.items (get_or a.at.lists k 0) ts
       l (lists_part b a.plan a.map a.written).stands (omega arith) even_four (λ bytes. types_spell bytes ts)
       (zip_at (Refers is_empty_list l.items) a.at.lists (list_values s p) k ts l.each e)
 

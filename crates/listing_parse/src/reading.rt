@@ -407,7 +407,22 @@ fn check_end(draft: &Draft<'_>) -> Result<(), Fault>
     }
 }
 
-/// The program of a listing. It is well formed: it keeps the rules of every file's program, and each number fits its type.
+/// The program of a text, or why it is none.
+fn read_program<'a>(alloc: Global, arena: &'a Bump, text: &[u8]) -> Result<Program<'a>, Fault>
+    ensures ok { IfOk result (λ p. IsListing text.now (program p)) }
+    ensures err { IfErr result (λ e. e ≢ memory → ListingBreaks text.now e.code e.place) }
+{
+    let draft = read_lines(alloc, arena, text)?;
+    check_end(&draft)?;
+    let whole = Program {
+        classes: draft.into_classes(),
+    };
+    well_formed_in(alloc, &whole)?;
+    Ok(whole)
+}
+
+/// The program of a listing: the only one that it is a listing of. It is well formed: it keeps the rules of every file's program, and
+/// each number fits its type.
 ///
 /// The names, slices and values of the program lie in the arena. The lowest line with a fault of 100 to 104 is refused, or
 /// else a text that ends inside a block (106); where there is none, the lowest line with a target that is no instruction of
@@ -425,13 +440,9 @@ fn check_end(draft: &Draft<'_>) -> Result<(), Fault>
 /// ```
 pub fn parse<'a>(alloc: Global, arena: &'a Bump, text: &[u8]) -> Result<Program<'a>, Fault>
     ensures ok { IfOk result (λ p. IsListing text.now (program p)) }
+    ensures one { IfOk result (λ p. (q : _) → IsListing text.now q → q ≡ program p) }
     ensures err { IfErr result (λ e. e ≢ memory → ListingBreaks text.now e.code e.place) }
+    ensures none { IfErr result (λ e. e ≢ memory → (q : _) → ¬ IsListing text.now q) }
 {
-    let draft = read_lines(alloc, arena, text)?;
-    check_end(&draft)?;
-    let whole = Program {
-        classes: draft.into_classes(),
-    };
-    well_formed_in(alloc, &whole)?;
-    Ok(whole)
+    read_program(alloc, arena, text)
 }

@@ -5,7 +5,7 @@ use lib.Pointwise.{pointwise}
 use lib.Dec.{eqb}
 use Rattle.std.specs.List.{AllByRecursion}
 use Rattle.listing_slots.specs.declared.key.Key.{Key}
-use Rattle.listing_slots.specs.Keys.{key_text, same, find_key, lead_keys, payload_keys}
+use Rattle.listing_slots.specs.Keys.{key_text, same, find_key, payload_keys}
 
 pub same_is : (xs ys : List ℕ) → pointwise eqb xs ys ≡ same xs ys
 unfolding same
@@ -33,24 +33,8 @@ unfolding find_key
 find_none [] text h = refl
 find_none (k ∷ ks) text h = rw (other_length (key_text k) text h.0) (find_none ks text h.1)
 
-shorter : (m n : ℕ) → m < n → m ≢ n
-shorter m n h e = omega (arith, h, e)
-
 longer : (m n : ℕ) → n < m → m ≢ n
 longer m n h e = omega (arith, h, e)
-
--- the longest keyword of a line is `implements`
-pub no_lead : (text : List ℕ) → 10 < length text → find_key lead_keys text ≡ None
-unfolding key_text
-no_lead text h =
-    let is3 = shorter 3 (length text) (omega (arith, h)) in
-    let is4 = shorter 4 (length text) (omega (arith, h)) in
-    let is5 = shorter 5 (length text) (omega (arith, h)) in
-    let is6 = shorter 6 (length text) (omega (arith, h)) in
-    let is7 = shorter 7 (length text) (omega (arith, h)) in
-    let is8 = shorter 8 (length text) (omega (arith, h)) in
-    let is10 = shorter 10 (length text) (omega (arith, h)) in
-    find_none lead_keys text (is3, (is5, (is3, (is5, (is10, (is6, (is6, (is8, (is6, (is7, (is4, (is3, (is5, (is8, tt))))))))))))))
 
 -- the shortest word of a payload is `array-payload`
 pub no_payload : (text : List ℕ) → length text < 13 → find_key payload_keys text ≡ None

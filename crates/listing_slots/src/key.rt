@@ -1,6 +1,6 @@
 //! The words that are always the same.
 
-ghost use Rattle.std.specs.Prelude.{◌≡◌, ◌↔◌, IsTrue};
+ghost use Rattle.std.specs.Prelude.{◌≡◌, ◌↔◌, ◌∷◌, ℕ, List, IsTrue};
 ghost use Rattle.listing_slots.specs.Keys.{key_text, same, find_key, lead_keys, value_keys, payload_keys};
 
 /// A keyword.
@@ -16,12 +16,6 @@ pub enum Key {
     // the first word of a value
     Byte, Short, Char, Int, Long, Float, Double, Text, Desc, Field, Method, Enum, Array, Null, True, False,
 }
-
-#[rattlefmt::skip]
-const LEADS: [Key; 14] = [
-    Key::Dex, Key::Class, Key::End, Key::Super, Key::Implements, Key::Source, Key::Static, Key::Instance, Key::Direct, Key::Virtual,
-    Key::Code, Key::Try, Key::Catch, Key::CatchAll,
-];
 
 #[rattlefmt::skip]
 const VALUES: [Key; 16] = [
@@ -70,14 +64,32 @@ fn find_key(keys: &[Key], text: &[u8]) -> Option<Key>
     None
 }
 
-/// The keyword of a line. The longest is `implements`, so that most mnemonics aren't compared with any.
+/// The keywords of lines that begin with this byte: at most four, so that a mnemonic is compared with few of them.
+#[tactic(auto, unfolding(crate::specs::Keys::find_key, crate::specs::Keys::key_text, crate::specs::Keys::same))]
+fn leads_with(first: u8) -> &'static [Key]
+    ensures { (rest : List ℕ) → find_key result.now (first ∷ rest) ≡ find_key lead_keys (first ∷ rest) }
+{
+    match first {
+        b'c' => &[Key::Class, Key::Code, Key::Catch, Key::CatchAll],
+        b'd' => &[Key::Dex, Key::Direct],
+        b'e' => &[Key::End],
+        b'i' => &[Key::Implements, Key::Instance],
+        b's' => &[Key::Super, Key::Source, Key::Static],
+        b't' => &[Key::Try],
+        b'v' => &[Key::Virtual],
+        _ => &[],
+    }
+}
+
+/// The keyword of a line.
+#[tactic(auto, unfolding(crate::specs::Keys::find_key, crate::specs::Keys::key_text, crate::specs::Keys::same))]
 pub fn lead_key(text: &[u8]) -> Option<Key>
     ensures { result ≡ find_key lead_keys text.now }
 {
-    if text.len() > 10 {
-        return None;
+    match text.split_first() {
+        Some((first, _)) => find_key(leads_with(*first), text),
+        None => None,
     }
-    find_key(&LEADS, text)
 }
 
 /// The keyword of a value.

@@ -25,7 +25,7 @@ struct Spelling<'a, 'b> {
     name: Datum<'a>,
 }
 
-/// Words that spelled names, with their names: such a word is read once, and its name stands in memory once.
+/// Words that spelled names, with their names: a word that has its place here isn't read again, nor its name stored again.
 ///
 /// Each word has one place, by its bytes, and takes it from the word that was there. So a word is compared with one other,
 /// whatever the listing, and the places take the memory that they took at first. It stands for the number of places.

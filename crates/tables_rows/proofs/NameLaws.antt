@@ -3,12 +3,12 @@ use Rattle.std.proofs.Common.{◌≡◌, ℕ, suc, ◌<◌, List, [], ◌∷◌,
 use Rattle.std.proofs.lemmas.Option.{slice_get-get_or}
 use Rattle.dex_container.specs.Frame.{IsFramed}
 use Rattle.dex_container.specs.Layout.{size_of}
-use Rattle.program_types.specs.Content.{Proto, FieldRef, MethodRef, Name, OfText, OfDesc, OfField, OfMethod}
-use Rattle.tables_rows.specs.Names.{Names, AreRows, AreNamesOf, NameIsAt}
+use Rattle.program_types.specs.Content.{Units, Proto, FieldRef, MethodRef, Name, OfText, OfDesc, OfField, OfMethod}
+use Rattle.tables_rows.specs.Names.{Names, AreRows, AreNamesOf, NameIsAt, TypeIsAt}
 use Rattle.tables_rows.specs.RowFields.{proto_return, proto_parameters, member_class, member_kind, member_name}
-use Rattle.tables_rows.specs.Stands.{StringStands, TypeStands, ProtoStands, FieldStands, MethodStands, NameStands}
+use Rattle.tables_rows.specs.Stands.{StringStands, TypeStands, ProtoStands, FieldStands, MethodStands, NameStands, ListAt, TypesAt}
 use Rattle.tables_rows.proofs.RowReading.{string_one}
-use Rattle.tables_rows.proofs.TypeLists.{type_one, types_one}
+use Rattle.tables_rows.proofs.TypeLists.{type_one, types_one, list_weaker}
 
 pub proto_one : (b : List ℕ) → IsFramed b → (i : ℕ) (p q : Proto) → ProtoStands b i p → ProtoStands b i q → p ≡ q
 proto_one b framed i p q x y =
@@ -37,6 +37,14 @@ row_is S b k i names v one rows lt =
     let within : i < length names = omega (arith, size, lt) in
     let got = slice_get-get_or names i v within in
     got ∙ ap Some (one (get_or names i v) (rows.each i (get_or names i v) got))
+
+-- the lists of types by the rows in memory are those of the file
+pub list_stands : (b : List ℕ) (types : List Units) (off : ℕ) (ts : List Units) → AreRows TypeStands b 1 types → ListAt (TypeIsAt types) b off ts → TypesAt b off ts
+list_stands b types off ts rows at = list_weaker (TypeIsAt types) (TypeStands b) b off rows.each ts at
+
+pub stands_list : (b : List ℕ) (types : List Units) (off : ℕ) (ts : List Units) → IsFramed b → AreRows TypeStands b 1 types → TypesAt b off ts → ListAt (TypeIsAt types) b off ts
+stands_list b types off ts framed rows at =
+    list_weaker (TypeStands b) (TypeIsAt types) b off (λ i t st. row_is TypeStands b 1 i types t (λ w x. type_one b i w t framed x st) rows st.row) ts at
 
 pub names_stand : (b : List ℕ) (names : Names) (i : ℕ) (n : Name) → AreNamesOf b names → NameIsAt names i n → NameStands b i n
 names_stand b names i (OfText s) are at = are.strings.each i s at

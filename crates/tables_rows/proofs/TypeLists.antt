@@ -1,10 +1,9 @@
 -- Lists of types, by the indices that they are spelled with.
-use Rattle.std.proofs.Common.{◌≢◌, Bool, true, false, ◌≡◌, ℕ, zero, suc, ◌+◌, ◌<◌, ◌≤◌, List, [], ◌∷◌, ◌++◌, length, map, take, get_or, refl, sym, ap, ◌∙◌, subst, arith}
+use Rattle.std.proofs.Common.{◌≢◌, Bool, true, false, ◌≡◌, ℕ, zero, suc, ◌+◌, ◌<◌, List, [], ◌∷◌, ◌++◌, length, map, take, get_or, refl, sym, ap, ◌∙◌, subst, arith}
 use Rattle.std.specs.Prelude.{MatchBool, ◌==◌}
 use Rattle.std.specs.List.{AllZip, AllByRecursion}
 use Rattle.std.proofs.lemmas.List.{take_more}
 use Rattle.dex_container.specs.Frame.{IsFramed}
-use Rattle.dex_container.specs.Layout.{size_of}
 use Rattle.program_types.specs.Content.{Units}
 use Rattle.program_types.specs.View.{desc}
 use Rattle.program_types.specs.declared.names.Desc.{Desc}
@@ -12,66 +11,86 @@ use Rattle.dex_container.specs.Where.{At, AtOrNone}
 use Rattle.tables_rows.specs.RowFields.{type_string, proto_return, proto_parameters}
 use Rattle.tables_rows.specs.Sorted.{IsBelow, ProtoIsBelow}
 use Rattle.program_types.specs.Kinds.{void}
-use Rattle.tables_rows.specs.Stands.{TypeStands, TypesAt, SpellsTypes, SpellsIndexes}
+use Rattle.tables_rows.specs.Stands.{TypeStands, TypesAt, ListAt, SpellsTypes, SpellsIndexes}
 use Rattle.tables_rows.specs.TableFaults.{ParametersAt}
 use Rattle.tables_rows.proofs.RowReading.{string_one}
 use Rattle.tables_rows.proofs.HalvesLaws.{list_or_none_one}
 
 -- these indices spell the list of types at an offset
-pub record HasIndexes (b : List ℕ) (off : ℕ) (ts : List Units) : Type 0 where
+pub record HasIndexes (T : ℕ → Units → Type 0) (b : List ℕ) (off : ℕ) (ts : List Units) : Type 0 where
   pub indexes : List ℕ
   pub spelled : AtOrNone SpellsIndexes b 0x1001 4 off indexes
-  pub named : AllZip (TypeStands b) indexes ts
+  pub named : AllZip T indexes ts
 
-pub indexes_of : (b : List ℕ) (off : ℕ) (ts : List Units) → TypesAt b off ts → HasIndexes b off ts
-indexes_of b off ts at = let x = by (off == 0) at in record { indexes = x.0; spelled = x.1.0; named = x.1.1 }
-  where
-    by : (z : Bool) → MatchBool z (ts ≡ []) (At (SpellsTypes b) b 0x1001 4 off ts) → (indexes : List ℕ) × (MatchBool z (indexes ≡ []) (At SpellsIndexes b 0x1001 4 off indexes) × AllZip (TypeStands b) indexes ts)
-    by true e = ([], (refl, subst (λ (x : List Units). AllZip (TypeStands b) [] x) (sym e) tt))
-    by false a =
-        let s = a.spelled in
-        (s.indexes, (record { begin = a.begin; end = a.end; section = a.section; behind = a.behind; aligned = a.aligned; size = a.size; within = a.within; spelled = s.spelled }, s.named))
+module _ (T : ℕ → Units → Type 0) (b : List ℕ) (off : ℕ) where
+  pub list_indexes : (ts : List Units) → ListAt T b off ts → HasIndexes T b off ts
+  list_indexes ts at = let x = by (off == 0) at in record { indexes = x.0; spelled = x.1.0; named = x.1.1 }
+    where
+      by : (z : Bool) → MatchBool z (ts ≡ []) (At (SpellsTypes T) b 0x1001 4 off ts) → (indexes : List ℕ) × (MatchBool z (indexes ≡ []) (At SpellsIndexes b 0x1001 4 off indexes) × AllZip T indexes ts)
+      by true e = ([], (refl, subst (λ (x : List Units). AllZip T [] x) (sym e) tt))
+      by false a =
+          let s = a.spelled in
+          (s.indexes, (record { begin = a.begin; end = a.end; section = a.section; behind = a.behind; aligned = a.aligned; size = a.size; within = a.within; spelled = s.spelled }, s.named))
 
--- and back
-pub types_of : (b : List ℕ) (off : ℕ) (indexes : List ℕ) (ts : List Units) → AtOrNone SpellsIndexes b 0x1001 4 off indexes → AllZip (TypeStands b) indexes ts → TypesAt b off ts
-types_of b off indexes ts at named = by (off == 0) at
-  where
-    none : (xs : List ℕ) (ys : List Units) → xs ≡ [] → AllZip (TypeStands b) xs ys → ys ≡ []
-    none [] [] e z = refl
-    none [] (y ∷ ys) e z = absurd z
-    none (x ∷ xs) ys e z = absurd cc
+  -- and back
+  pub list_of : (indexes : List ℕ) (ts : List Units) → AtOrNone SpellsIndexes b 0x1001 4 off indexes → AllZip T indexes ts → ListAt T b off ts
+  list_of indexes ts at named = by (off == 0) at
+    where
+      none : (xs : List ℕ) (ys : List Units) → xs ≡ [] → AllZip T xs ys → ys ≡ []
+      none [] [] e z = refl
+      none [] (y ∷ ys) e z = absurd z
+      none (x ∷ xs) ys e z = absurd cc
 
-    by : (z : Bool) → MatchBool z (indexes ≡ []) (At SpellsIndexes b 0x1001 4 off indexes) → MatchBool z (ts ≡ []) (At (SpellsTypes b) b 0x1001 4 off ts)
-    by true e = none indexes ts e named
-    by false a =
-        record { begin = a.begin; end = a.end; section = a.section; behind = a.behind; aligned = a.aligned; size = a.size; within = a.within; spelled = record { indexes = indexes; spelled = a.spelled; named = named } }
+      by : (z : Bool) → MatchBool z (indexes ≡ []) (At SpellsIndexes b 0x1001 4 off indexes) → MatchBool z (ts ≡ []) (At (SpellsTypes T) b 0x1001 4 off ts)
+      by true e = none indexes ts e named
+      by false a =
+          record { begin = a.begin; end = a.end; section = a.section; behind = a.behind; aligned = a.aligned; size = a.size; within = a.within; spelled = record { indexes = indexes; spelled = a.spelled; named = named } }
 
--- no list of indices, no list of types
-pub no_types : (b : List ℕ) (off : ℕ) → ((indexes : List ℕ) → AtOrNone SpellsIndexes b 0x1001 4 off indexes → ⊥) → (ts : List Units) → TypesAt b off ts → ⊥
-no_types b off none ts at = let x = indexes_of b off ts at in none x.indexes x.spelled
+  -- no list of indices, no list of types
+  pub no_list : ((indexes : List ℕ) → AtOrNone SpellsIndexes b 0x1001 4 off indexes → ⊥) → (ts : List Units) → ListAt T b off ts → ⊥
+  no_list none ts at = let x = list_indexes ts at in none x.indexes x.spelled
 
--- an index without a row
-pub no_row : (b : List ℕ) (off : ℕ) (indexes : List ℕ) (j : ℕ) → IsFramed b → AtOrNone SpellsIndexes b 0x1001 4 off indexes → j < length indexes → size_of b 1 ≤ get_or indexes j 0 → (ts : List Units) → TypesAt b off ts → ⊥
-no_row b off indexes j framed at lt past ts types =
-    let x = indexes_of b off ts types in
-    let same : x.indexes ≡ indexes = list_or_none_one b framed 0x1001 4 off x.indexes indexes x.spelled at in
-    row_at indexes ts j lt past (subst (λ (xs : List ℕ). AllZip (TypeStands b) xs ts) same x.named)
-  where
-    row_at : (xs : List ℕ) (ys : List Units) (k : ℕ) → k < length xs → size_of b 1 ≤ get_or xs k 0 → AllZip (TypeStands b) xs ys → ⊥
-    row_at [] ys k lt past z = absurd (omega (arith, lt))
-    row_at (x ∷ xs) [] k lt past z = absurd z
-    row_at (x ∷ xs) (y ∷ ys) zero lt past z = let row = z.0.row in omega (arith, row, past)
-    row_at (x ∷ xs) (y ∷ ys) (suc k) lt past z = row_at xs ys k (omega (arith, lt)) past z.1
+  -- an index that stands for no type
+  pub no_type : (indexes : List ℕ) (j : ℕ) → IsFramed b → AtOrNone SpellsIndexes b 0x1001 4 off indexes → j < length indexes → ((t : Units) → T (get_or indexes j 0) t → ⊥) → (ts : List Units) → ListAt T b off ts → ⊥
+  no_type indexes j framed at lt past ts types =
+      let x = list_indexes ts types in
+      let same : x.indexes ≡ indexes = list_or_none_one b framed 0x1001 4 off x.indexes indexes x.spelled at in
+      type_at indexes ts j lt past (subst (λ (xs : List ℕ). AllZip T xs ts) same x.named)
+    where
+      type_at : (xs : List ℕ) (ys : List Units) (k : ℕ) → k < length xs → ((t : Units) → T (get_or xs k 0) t → ⊥) → AllZip T xs ys → ⊥
+      type_at [] ys k lt past z = absurd (omega (arith, lt))
+      type_at (x ∷ xs) [] k lt past z = absurd z
+      type_at (x ∷ xs) (y ∷ ys) zero lt past z = past y z.0
+      type_at (x ∷ xs) (y ∷ ys) (suc k) lt past z = type_at xs ys k (omega (arith, lt)) past z.1
 
 -- one more type
-pub zip_more : (b : List ℕ) (indexes : List ℕ) (j : ℕ) (ts : List Units) (t : Units) → j < length indexes → AllZip (TypeStands b) (take j indexes) ts → TypeStands b (get_or indexes j 0) t → AllZip (TypeStands b) (take (j + 1) indexes) (ts ++ t ∷ [])
-zip_more b indexes j ts t lt zip stands = rw (take_more indexes j 0 lt) (push (take j indexes) ts zip)
+pub zip_more : (T : ℕ → Units → Type 0) (indexes : List ℕ) (j : ℕ) (ts : List Units) (t : Units) → j < length indexes → AllZip T (take j indexes) ts → T (get_or indexes j 0) t → AllZip T (take (j + 1) indexes) (ts ++ t ∷ [])
+zip_more T indexes j ts t lt zip stands = rw (take_more indexes j 0 lt) (push (take j indexes) ts zip)
   where
-    push : (xs : List ℕ) (ys : List Units) → AllZip (TypeStands b) xs ys → AllZip (TypeStands b) (xs ++ get_or indexes j 0 ∷ []) (ys ++ t ∷ [])
+    push : (xs : List ℕ) (ys : List Units) → AllZip T xs ys → AllZip T (xs ++ get_or indexes j 0 ∷ []) (ys ++ t ∷ [])
     push [] [] z = (stands, tt)
     push [] (y ∷ ys) z = absurd z
     push (x ∷ xs) [] z = absurd z
     push (x ∷ xs) (y ∷ ys) z = (z.0, push xs ys z.1)
+
+-- where indices stand for other types too, the list does
+pub list_weaker : (T U : ℕ → Units → Type 0) (b : List ℕ) (off : ℕ) → ((i : ℕ) (t : Units) → T i t → U i t) → (ts : List Units) → ListAt T b off ts → ListAt U b off ts
+list_weaker T U b off weaker ts at =
+    let x = list_indexes T b off ts at in
+    list_of U b off x.indexes ts x.spelled (each x.indexes ts x.named)
+  where
+    each : (xs : List ℕ) (ys : List Units) → AllZip T xs ys → AllZip U xs ys
+    each [] [] z = tt
+    each [] (y ∷ ys) z = absurd z
+    each (x ∷ xs) [] z = absurd z
+    each (x ∷ xs) (y ∷ ys) z = (weaker x y z.0, each xs ys z.1)
+
+-- the same of the rows of a file
+pub indexes_of : (b : List ℕ) (off : ℕ) (ts : List Units) → TypesAt b off ts → HasIndexes (TypeStands b) b off ts
+indexes_of b off ts at = list_indexes (TypeStands b) b off ts at
+
+pub types_of : (b : List ℕ) (off : ℕ) (indexes : List ℕ) (ts : List Units) → AtOrNone SpellsIndexes b 0x1001 4 off indexes → AllZip (TypeStands b) indexes ts → TypesAt b off ts
+types_of b off indexes ts at named = list_of (TypeStands b) b off indexes ts at named
 
 -- a row of types is one type
 pub type_one : (b : List ℕ) (i : ℕ) (s t : Units) → IsFramed b → TypeStands b i s → TypeStands b i t → s ≡ t

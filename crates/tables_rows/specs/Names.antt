@@ -26,6 +26,10 @@ pub record AreNamesOf (b : List ℕ) (names : Names) : Type 0 where
   pub fields : AreRows FieldStands b 3 names.fields
   pub methods : AreRows MethodStands b 4 names.methods
 
+-- Index i stands for the type among these types.
+abbrev pub TypeIsAt : List Units → ℕ → Units → Type 0
+TypeIsAt types i t = slice_get types i ≡ Some t
+
 -- Index i stands for the name among these names, in the table of its kind.
 abbrev pub NameIsAt : Names → ℕ → Name → Type 0
 NameIsAt names i (OfText s) = slice_get names.strings i ≡ Some s

@@ -29,15 +29,19 @@ pub record SpellsIndexes (bytes indexes : List ℕ) : Type 0 where
   pub small : AllByRecursion (λ i. i < 2 ^ 16) indexes
   pub few : length indexes < 2 ^ 32
 
--- A type_list whose indices are those of these types.
-pub record SpellsTypes (b bytes : List ℕ) (ts : List Units) : Type 0 where
+-- A type_list whose indices stand for these types.
+pub record SpellsTypes (T : ℕ → Units → Type 0) (bytes : List ℕ) (ts : List Units) : Type 0 where
   pub indexes : List ℕ
   pub spelled : SpellsIndexes bytes indexes
-  pub named : AllZip (TypeStands b) indexes ts
+  pub named : AllZip T indexes ts
 
--- The list of types at an offset, 0 for the empty one.
+-- The list of types at an offset, 0 for the empty one, where indices stand for types so.
+abbrev pub ListAt : (ℕ → Units → Type 0) → List ℕ → ℕ → List Units → Type 0
+ListAt T b place ts = AtOrNone (SpellsTypes T) b 0x1001 4 place ts
+
+-- The list of types at an offset, by the rows of its file.
 abbrev pub TypesAt : List ℕ → ℕ → List Units → Type 0
-TypesAt b place ts = AtOrNone (SpellsTypes b) b 0x1001 4 place ts
+TypesAt b place ts = ListAt (TypeStands b) b place ts
 
 -- Row i of the protos: return type, parameters that are not void, and the shorty of these.
 pub record ProtoStands (b : List ℕ) (i : ℕ) (p : Proto) : Type 0 where

@@ -2,8 +2,8 @@
 //! `proofs/Standing`: `At-one`, that one value stands at a place where no spelling begins another one.
 ghost use Rattle.std.specs.Prelude.{◌≡◌, ℕ, List};
 ghost use Rattle.dex_container.specs.Frame.{IsFramed};
-ghost use Rattle.tables_rows.specs.Names.{AreNamesOf, NameIsAt};
-ghost use Rattle.tables_rows.specs.Stands.{NameStands, TypesAt};
+ghost use Rattle.tables_rows.specs.Names.{AreNamesOf, NameIsAt, TypeIsAt};
+ghost use Rattle.tables_rows.specs.Stands.{ListAt, NameStands, TypesAt};
 
 /// At an offset stands one list of types.
 pub fn type_list_is_one()
@@ -15,4 +15,10 @@ pub fn names_of_a_file_are_its_rows()
     ensures there { (b : List ℕ) (names : _) (i : ℕ) (n : _) → AreNamesOf b names → NameIsAt names i n → NameStands b i n }
     ensures only { (b : List ℕ) (names : _) (i : ℕ) (n : _) → IsFramed b → AreNamesOf b names → NameStands b i n → NameIsAt names i n }
     ensures one { (b : List ℕ) (x y : _) → IsFramed b → AreNamesOf b x → AreNamesOf b y → x ≡ y }
+{}
+
+/// So with the lists of types: one stands in the file exactly if it does by the types of the file's tables.
+pub fn lists_of_a_file_are_of_its_rows()
+    ensures there { (b : List ℕ) (names : _) (off : ℕ) (ts : _) → AreNamesOf b names → ListAt (TypeIsAt names.types) b off ts → TypesAt b off ts }
+    ensures only { (b : List ℕ) (names : _) (off : ℕ) (ts : _) → IsFramed b → AreNamesOf b names → TypesAt b off ts → ListAt (TypeIsAt names.types) b off ts }
 {}

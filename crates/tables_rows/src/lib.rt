@@ -25,7 +25,9 @@ mod type_list;
 // What holds of the tables of a file.
 mod file_laws;
 
-pub use file_laws::{names_of_a_file_are_its_rows, type_list_is_one};
+pub use file_laws::{
+    lists_of_a_file_are_of_its_rows, names_of_a_file_are_its_rows, type_list_is_one,
+};
 pub use row_fields::{MemberTable, member_class};
 pub use tables::Tables;
 pub use type_list::indexes_or_none;

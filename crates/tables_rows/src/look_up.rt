@@ -1,8 +1,8 @@
 // The name at an index of a table that is read.
-ghost use Rattle.std.specs.Prelude.{◌≡◌, ◌≤◌, IfSome, IfNone, map, slice_get};
+ghost use Rattle.std.specs.Prelude.{◌≡◌, ◌≤◌, IfSome, IfNone, length, map, slice_get};
 ghost use Rattle.dex_container.specs.Layout.{size_of};
 ghost use Rattle.program_types.specs.View.{str, desc, proto};
-ghost use Rattle.tables_rows.specs.Names.{AreRows};
+ghost use Rattle.tables_rows.specs.Names.{AreRows, TypeIsAt};
 ghost use Rattle.tables_rows.specs.Stands.{StringStands, TypeStands, ProtoStands};
 
 use dex_container::Sections;
@@ -36,6 +36,14 @@ pub(crate) fn type_at<'a>(
 {
     // Only for the proof: what holds of each value of its type.
     let _file = sections;
+    types.get(index as usize).copied()
+}
+
+/// The type at an index; None past the last one.
+pub(crate) fn type_in<'a>(types: &[Desc<'a>], index: u32) -> Option<Desc<'a>>
+    ensures some { IfSome result (λ t. TypeIsAt (map desc types.now) index (desc t)) }
+    ensures none { IfNone result (length types.now ≤ index) }
+{
     types.get(index as usize).copied()
 }
 

@@ -4,9 +4,9 @@ ghost use Rattle.program_types.specs.View as view;
 ghost use Rattle.program_types.specs.Content as content;
 ghost use Rattle.base_bytes.specs.Fault.{memory};
 ghost use Rattle.program_types.specs.Kinds.{IsOfKind};
-ghost use Rattle.tables_rows.specs.Names.{AreNamesOf, NameIsAt};
+ghost use Rattle.tables_rows.specs.Names.{AreNamesOf, NameIsAt, TypeIsAt};
 ghost use Rattle.tables_rows.specs.Sorted.{TablesHold};
-ghost use Rattle.tables_rows.specs.Stands.{TypesAt};
+ghost use Rattle.tables_rows.specs.Stands.{ListAt};
 ghost use Rattle.tables_rows.specs.TableFaults.{IsTableFault};
 
 use crate::field_ids::read_fields;
@@ -108,9 +108,8 @@ impl<'a> Tables<'a> {
         sections: &Sections<'_>,
         off: u32,
     ) -> Result<Option<&'a [Desc<'a>]>, Fault>
-        requires names { AreNamesOf sections.now self.now }
-        ensures found { IfOk result (λ r. IfSome r (λ list. TypesAt sections.now off (map view.desc list.now))) }
-        ensures none { IfOk result (λ r. IfNone r ((ts : _) → ¬ TypesAt sections.now off ts)) }
+        ensures found { IfOk result (λ r. IfSome r (λ list. ListAt (TypeIsAt self.now.types) sections.now off (map view.desc list.now))) }
+        ensures none { IfOk result (λ r. IfNone r ((ts : _) → ¬ ListAt (TypeIsAt self.now.types) sections.now off ts)) }
         ensures memory { IsOkUnless result memory }
     {
         let lists = section_of(sections, kind::TYPE_LIST);

@@ -7,12 +7,12 @@ ghost use Rattle.base_bytes.specs.Grammar.{Begins, NoneBegins};
 ghost use Rattle.dex_container.specs.Frame.{IsFramed};
 ghost use Rattle.program_types.specs.View.{desc};
 ghost use Rattle.tables_rows.specs.Halves.{halves};
-ghost use Rattle.tables_rows.specs.Names.{AreRows};
+ghost use Rattle.tables_rows.specs.Names.{TypeIsAt};
 ghost use Rattle.dex_container.specs.Where.{IsSectionOf};
-ghost use Rattle.tables_rows.specs.Stands.{TypeStands, TypesAt, SpellsIndexes};
+ghost use Rattle.tables_rows.specs.Stands.{ListAt, SpellsIndexes};
 ghost use Rattle.dex_container.specs.Where.{At, AtOrNone};
 
-use crate::look_up::type_at;
+use crate::look_up::type_in;
 use bumpalo::Bump;
 use bumpalo::collections::into_bump_slice;
 use dex_base::{Fault, u16_at, u32_at};
@@ -65,8 +65,8 @@ pub fn indexes_or_none<'b>(sections: &Sections<'b>, lists: Section, off: u32) ->
     indexes_at(sections, lists, off)
 }
 
-/// The types of the list at an offset, 0 for the empty list, in the arena. None where no list stands there, or an index
-/// has no row.
+/// The types of the list at an offset, 0 for the empty list, in the arena, each index standing for one of these. None where no
+/// list stands there, or an index stands for none.
 pub(crate) fn types_at<'a>(
     arena: &'a Bump,
     sections: &Sections<'_>,
@@ -76,9 +76,8 @@ pub(crate) fn types_at<'a>(
 ) -> Result<Option<&'a [Desc<'a>]>, Fault>
     requires section { IsSectionOf sections.now 0x1001 lists }
     requires framed { IsFramed sections.now }
-    requires types { AreRows TypeStands sections.now 1 (map desc types.now) }
-    ensures found { IfOk result (λ r. IfSome r (λ list. TypesAt sections.now off (map desc list.now))) }
-    ensures none { IfOk result (λ r. IfNone r ((ts : _) → ¬ TypesAt sections.now off ts)) }
+    ensures found { IfOk result (λ r. IfSome r (λ list. ListAt (TypeIsAt (map desc types.now)) sections.now off (map desc list.now))) }
+    ensures none { IfOk result (λ r. IfNone r ((ts : _) → ¬ ListAt (TypeIsAt (map desc types.now)) sections.now off ts)) }
     ensures memory { IsOkUnless result memory }
 {
     let Some(indexes) = indexes_or_none(sections, lists, off) else {
@@ -87,7 +86,7 @@ pub(crate) fn types_at<'a>(
     let count = indexes.len() / 2;
     let mut list: Vec<Desc<'a>, &'a Bump> = Vec::with_capacity(arena, count)?;
     for j in 0..count {
-        let Some(ty) = type_at(sections, types, u32::from(u16_at(indexes, 2 * j))) else {
+        let Some(ty) = type_in(types, u32::from(u16_at(indexes, 2 * j))) else {
             return Ok(None);
         };
         list.push(ty)?;

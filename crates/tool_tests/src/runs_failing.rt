@@ -1,6 +1,6 @@
 //! Runs whose reader or writer fails, for good or once.
 
-use dex_base::Fault;
+use dex_base::{Fault, fault};
 use dex_samples::{
     NOTHING, ONE_CLASS, Rows, TestReader, TestWriter, WITHOUT_CLASSES, file_of, is_so, none_wrong,
     reader, reader_failing_once, writer, writer_failing_once,
@@ -161,7 +161,7 @@ fn is_cut_told(alloc: Global) -> bool {
     let mut output = Watched::new(writer(alloc, 9, 0));
     let done = run(alloc, Job::Strip, &mut input, &mut output);
     let is_told = match done {
-        Err(RunFault::Refused(fault)) => fault.code == 1 && fault.place == 111,
+        Err(RunFault::Refused(found)) => found.code == fault::TOO_SHORT && found.place == 111,
         _ => false,
     };
     is_told && !Sink::failed(&output)

@@ -5,7 +5,7 @@ use crate::kept::{aligned_file_of, fault_of};
 use crate::many::{body, program};
 use bumpalo::Bump;
 use bumpalo::collections::into_bump_slice;
-use dex_base::Fault;
+use dex_base::{Fault, fault};
 use dex_samples::none_wrong;
 use program_types::{Insn, Program};
 use std::alloc::Global;
@@ -37,7 +37,7 @@ fn first_otherwise(alloc: Global) -> Result<Option<&'static str>, Fault> {
     let arena = Bump::new(alloc);
     let program = switch(&arena)?;
     let (code, place) = fault_of(alloc, &program);
-    if code != 86 || place != 0 {
+    if code != fault::MISALIGNED || place != 0 {
         return Ok(Some("an odd address"));
     }
     let file = aligned_file_of(alloc, &arena, &program)?;

@@ -298,7 +298,7 @@ fn is_too_big(alloc: Global) -> Result<bool, Fault> {
     let arena = Bump::new(alloc);
     let program = arrays(&arena)?;
     let (code, place) = fault_of(alloc, &program);
-    Ok(code == 90 && place == 0)
+    Ok(code == fault::TOO_BIG && place == 0)
 }
 
 #[test]

@@ -1,6 +1,6 @@
 //! Files with slack, and what is left of them.
 
-use dex_base::Fault;
+use dex_base::{Fault, fault};
 use dex_samples::{NOTHING, ONE_CLASS, Rows, closed_with, file_of, none_wrong};
 use file_write::strip;
 use std::alloc::Global;
@@ -110,7 +110,7 @@ fn is_refused_at_its_row(alloc: Global) -> Result<Option<&'static str>, Fault> {
     let broken = closed_with(alloc, &file, 245, &[7])?;
     match strip(alloc, &broken) {
         Ok(_) => Ok(Some("it is not refused")),
-        Err(fault) => Ok(if fault.code == 21 && fault.place == 128 {
+        Err(found) => Ok(if found.code == fault::STRING_SPELLING && found.place == 128 {
             None
         } else {
             Some("another fault")

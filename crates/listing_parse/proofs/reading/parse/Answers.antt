@@ -1,16 +1,10 @@
-use Rattle.std.proofs.Common.{◌∙◌}
-use Rattle.program_rules.proofs.OrderLaws.{passed}
-use Rattle.listing_draft.specs.View.{state}
-use Rattle.listing_parse.proofs.ReadingLaws.{lines_of, whole_text, unfinished_text, unruly_text}
+use Rattle.std.proofs.lemmas.Result.{IfOk-weaker, IfErr-weaker}
+use Rattle.program_types.specs.View.{program}
+use Rattle.listing_parse.proofs.ExactLaws.{listing_one, listing_none}
 use Rattle.listing_parse.proofs.reading.parse.Goals as goal
 
-pub returns-in_err-check_end-clause-err : goal.returns-in_err-check_end-clause-err
-returns-in_err-check_end-clause-err c =
-    passed _ _ _ c.from_residual-in_err-check_end.ensures.1 (λ ne. unfinished_text _ (state c.in_ok-draft.draft) c.in_ok-draft.ensures.ok.0 _ _ c.in_ok-draft.ensures.ok.1 c.in_ok-draft.ensures.ok.2 (lines_of c.in_ok-draft.draft ∙ c.in_ok-draft.ensures.number) c.in_err-check_end.ensures.err)
+pub returns-clause-one : goal.returns-clause-one
+returns-clause-one c = IfOk-weaker c.read_program.result _ _ (λ p is q other. listing_one c.args.text.now q (program p) other is) c.read_program.ensures.ok
 
-pub returns-in_err-well_formed_in-clause-err : goal.returns-in_err-well_formed_in-clause-err
-returns-in_err-well_formed_in-clause-err c =
-    passed _ _ _ c.from_residual-in_err-well_formed_in.ensures.1 (λ ne. unruly_text _ (state c.in_ok-draft.draft) c.in_ok-draft.ensures.ok.0 _ _ c.in_ok-draft.ensures.ok.1 c.in_ok-draft.ensures.ok.2 c.in_ok-check_end.ensures.ok c.into_classes.ensures (c.in_err-well_formed_in.ensures.err ne))
-
-pub returns-clause-ok : goal.returns-clause-ok
-returns-clause-ok c = whole_text _ (state c.in_ok-draft.draft) c.in_ok-draft.ensures.ok.0 _ c.in_ok-draft.ensures.ok.1 c.in_ok-draft.ensures.ok.2 c.in_ok-check_end.ensures.ok c.into_classes.ensures c.in_ok-well_formed_in.ensures.formed
+pub returns-clause-none : goal.returns-clause-none
+returns-clause-none c = IfErr-weaker c.read_program.result _ _ (λ e broken ne q is. listing_none c.args.text.now q e.code e.place (broken ne) is) c.read_program.ensures.err

@@ -1,0 +1,19 @@
+use Rattle.std.proofs.Common.{below_more, arith}
+use Rattle.tables_rows.proofs.RowReading.{passed}
+use Rattle.file_classes.specs.ClassFaults.{ValuesBreak, ValuesHold}
+use Rattle.file_classes.proofs.KeptLaws.{kept_none}
+use Rattle.file_classes.proofs.StaticsLaws.{first_class}
+use Rattle.file_classes.proofs.checking_statics.check_statics.Goals as goal
+
+pub loop-i-init : goal.loop-i-init
+loop-i-init c = record { hold = λ i lt. absurd (omega (arith, lt)); kept = kept_none _ c.new-kept.result c.new-kept.ensures.empty }
+
+pub loop-i-preserved : goal.loop-i-preserved
+loop-i-preserved c = record {
+  hold = below_more _ _ c.loop-i.invariant.hold c.in_ok-check_row.ensures.ok;
+  kept = c.in_ok-check_row.ensures.kept;
+}
+
+pub returns-in_err-check_row-clause-err : goal.returns-in_err-check_row-clause-err
+returns-in_err-check_row-clause-err c =
+    passed _ _ _ c.from_residual.ensures.1 (λ ne. first_class ValuesBreak ValuesHold c.args.sections.now c.loop-i.i _ (omega (arith, c.class_count-count.ensures, c.loop-i-test.true)) c.loop-i.invariant.hold (c.in_err-check_row.ensures.err ne))

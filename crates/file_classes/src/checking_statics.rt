@@ -1,0 +1,94 @@
+// The second pass over class_defs where no program is asked for: the faults of `read_statics`. Of an array nothing is kept but how many
+// values it has.
+ghost use Rattle.std.specs.Prelude.{◌≡◌, ◌≢◌, ◌<◌, List, IfOk, IfErr, OnOk};
+ghost use Rattle.base_bytes.specs.Fault.{memory};
+ghost use Rattle.dex_container.specs.Layout.{size_of};
+ghost use Rattle.program_types.specs.Content.{Value};
+ghost use Rattle.tables_rows.specs.Names.{AreNamesOf, AreRows, NameIsAt};
+ghost use Rattle.tables_rows.specs.Sorted.{RowsHold};
+ghost use Rattle.dex_value.specs.Faults.{ArrayBreaksAt};
+ghost use Rattle.dex_value.specs.Standing.{ArrayStands};
+ghost use Rattle.file_classes.specs.ClassFaults.{ValuesBreak, ValuesHold, IsFirstClass};
+ghost use Rattle.file_classes.specs.Kept.{AreKept, CountsOnce};
+ghost use Rattle.file_classes.specs.Reading.{IsHead};
+
+use crate::class_row::{class_count, class_place, class_word};
+use crate::heads::Head;
+use crate::statics::{at_row, head_at};
+use dex_base::{Fault, fault};
+use dex_container::Sections;
+use dex_value::check_array;
+use indexmap::IndexMap;
+use std::alloc::Global;
+use tables_rows::Tables;
+
+// Looks at the values at an offset, at most so many: what is kept of them, or what is found now, and kept.
+fn check_array_at(
+    sections: &Sections<'_>,
+    tables: &Tables<'_>,
+    kept: &mut IndexMap<u32, u32>,
+    off: u32,
+    most: usize,
+) -> Result<(), Fault>
+    requires kept { AreKept (CountsOnce (NameIsAt tables.now) sections.now) kept.old }
+    ensures ok { OnOk result ((vs : List Value) × ArrayStands (NameIsAt tables.now) sections.now off most vs) }
+    ensures kept { OnOk result (AreKept (CountsOnce (NameIsAt tables.now) sections.now) kept.new) }
+    ensures broken { IfErr result (λ e. e ≢ memory → ArrayBreaksAt (NameIsAt tables.now) sections.now off most e) }
+{
+    if let Some(found) = kept.get(&off) {
+        if *found as usize > most {
+            return Err(Fault::at(fault::TOO_MANY_VALUES, u64::from(off)));
+        }
+        return Ok(());
+    }
+    let count = check_array(tables, sections, off, most)?;
+    kept.insert(off, count)?;
+    Ok(())
+}
+
+// The static values of row i.
+fn check_row(
+    sections: &Sections<'_>,
+    tables: &Tables<'_>,
+    kept: &mut IndexMap<u32, u32>,
+    i: u32,
+    head: Head<'_, '_>,
+) -> Result<(), Fault>
+    requires names { AreNamesOf sections.now tables.now }
+    requires row { i < size_of sections.now 5 }
+    requires kept { AreKept (CountsOnce (NameIsAt tables.now) sections.now) kept.old }
+    requires head { IsHead sections.now i head }
+    ensures ok { OnOk result (ValuesHold sections.now i) }
+    ensures kept { OnOk result (AreKept (CountsOnce (NameIsAt tables.now) sections.now) kept.new) }
+    ensures err { IfErr result (λ e. e ≢ memory → ValuesBreak sections.now i e) }
+{
+    let off = class_word(sections, i, 7);
+    if off == 0 {
+        return Ok(());
+    }
+    match check_array_at(sections, tables, kept, off, head.statics.len()) {
+        Ok(()) => Ok(()),
+        Err(fault) => Err(at_row(class_place(sections, i), fault)),
+    }
+}
+
+/// Looks at the static values of all rows, at each array once: 48 to 51.
+pub fn check_statics(
+    alloc: Global,
+    sections: &Sections<'_>,
+    tables: &Tables<'_>,
+    heads: &[Head<'_, '_>],
+) -> Result<(), Fault>
+    requires names { AreNamesOf sections.now tables.now }
+    requires heads { AreRows IsHead sections.now 5 heads.now }
+    ensures hold { OnOk result (RowsHold ValuesHold sections.now (size_of sections.now 5)) }
+    ensures err { IfErr result (λ e. e ≢ memory → IsFirstClass ValuesBreak ValuesHold sections.now e) }
+{
+    let count = class_count(sections);
+    let mut kept = IndexMap::new(alloc);
+    for i in 0..count {
+        let head = head_at(sections, heads, i);
+        check_row(sections, tables, &mut kept, i, head)?;
+    }
+    Ok(())
+}
