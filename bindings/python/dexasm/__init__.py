@@ -25,7 +25,8 @@ _BUILT = os.path.join(_HERE, *[".."] * 3, "crates", "dexasm_c", "out", "built")
 class Refused(ValueError):
     """The bytes are refused: the number and the name of a rule that is broken, and the place where it is.
 
-    The place is a byte of a file, a line of a listing from 1, or a class of a program from 0: docs/FORMAT.md says which by the number.
+    The place is a byte of a file, a line of a listing from 1, or a class of a program from 0 (of 80 and 81 how many are needed, of 90 it is
+    0): docs/FORMAT.md says which by the number.
     """
 
     def __init__(self, number: int, name: str, place: int) -> None:

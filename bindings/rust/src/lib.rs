@@ -19,7 +19,8 @@ mod ffi;
 pub struct Fault {
     /// The number of the rule; [`fault_name`] has its name.
     pub code: u16,
-    /// A byte of a file, a line of a listing from 1, or a class of a program from 0: docs/FORMAT.md says which by the number.
+    /// A byte of a file, a line of a listing from 1, or a class of a program from 0 (of 80 and 81 how many are needed, of 90 it is 0):
+    /// docs/FORMAT.md says which by the number.
     pub place: u64,
 }
 

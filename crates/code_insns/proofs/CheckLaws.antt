@@ -11,7 +11,7 @@ use Rattle.dex_insn.specs.RawInsns.{InsnStands}
 use Rattle.dex_insn.specs.Registers.{named_registers}
 use Rattle.program_types.specs.Content.{Name, Insn}
 use Rattle.program_types.specs.Formed.{insn_at}
-use Rattle.code_insns.specs.Places.{place, AllHold, IsFirst}
+use Rattle.code_insns.specs.Places.{place, AllHold, IsFirstBroken}
 use Rattle.code_insns.specs.Walk.{Walks, IsTable, raw_at}
 use Rattle.code_insns.specs.Symbols.{Says, resolved, has_offset, name_in}
 use Rattle.code_insns.specs.Insns.{SpellsInsns}
@@ -50,7 +50,7 @@ Among : ℕ → Raw → Type 0
 Among count r = AllByRecursion (λ v. v < count) (named_registers r)
 
 FirstPast : ℕ → List Raw → List ℕ → Option ℕ → Type 0
-FirstPast count rs begins past = IfSome past (λ p. (k : ℕ) × IsFirst (RawAmong count rs) (RawAmong count rs) (length rs) k × (p ≡ get_or begins k 0))
+FirstPast count rs begins past = IfSome past (λ p. (k : ℕ) × IsFirstBroken (RawAmong count rs) (RawAmong count rs) (length rs) k × (p ≡ get_or begins k 0))
 
 module _ (count : ℕ) (rs : List Raw) (r : Raw) where
   among_front : (k : ℕ) → k < length rs → RawAmong count rs k → RawAmong count (rs ++ r ∷ []) k

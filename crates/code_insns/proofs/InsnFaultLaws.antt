@@ -7,7 +7,7 @@ use Rattle.program_types.specs.Content.{Name, Insn}
 use Rattle.code_insns.specs.Walk.{raw_at}
 use Rattle.code_insns.specs.Symbols.{Names, HasName}
 use Rattle.code_insns.specs.Payloads.{UseHolds}
-use Rattle.code_insns.specs.Insns.{SpellsInsns, NameHolds, BranchLands, BranchMoves, BranchHolds, TargetsHold}
+use Rattle.code_insns.specs.Insns.{SpellsInsns, NameHolds, BranchLands, BranchMoves, BranchHolds, OffsetsLand}
 use Rattle.code_insns.specs.InsnFaults.{BreaksIn, AllKeep, RulesHold, RulesBreak, InsnsBreak}
 use Rattle.code_insns.proofs.Runs.{no-walk-fault}
 use Rattle.code_insns.proofs.InsnsOnce.{walks-one}
@@ -33,7 +33,7 @@ rules-clear N rs base fault h (inl b) = none-breaks rs base 65 (NameHolds N) (Na
 rules-clear N rs base fault h (inr (inl b)) = none-breaks rs base 68 BranchHolds BranchLands fault (λ k l. (h.branches k l).lands) b.1
 rules-clear N rs base fault h (inr (inr (inl b))) = none-breaks rs base 69 BranchHolds BranchMoves fault (λ k l. (h.branches k l).moves) b.1
 rules-clear N rs base fault h (inr (inr (inr (inl b)))) = none-breaks rs base 70 UseHolds UseHolds fault h.uses b.2
-rules-clear N rs base fault h (inr (inr (inr (inr b)))) = none-breaks rs base 68 TargetsHold TargetsHold fault h.targets b.3
+rules-clear N rs base fault h (inr (inr (inr (inr b)))) = none-breaks rs base 68 OffsetsLand OffsetsLand fault h.targets b.3
 
 pub insns-clear : (N : ℕ → Name → Type 0) (us : List ℕ) (rs : List Raw) (is : List Insn) (base : ℕ) (fault : Fault) → length us ≡ 2 * (length us / 2) → SpellsInsns N us rs is → InsnsBreak N us base fault → ⊥
 insns-clear N us rs is base fault even s (inl f) = no-walk-fault us rs base fault even s.walk f

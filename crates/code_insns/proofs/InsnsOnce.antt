@@ -9,7 +9,7 @@ use Rattle.dex_insn.specs.declared.opcode.IndexKind.{IndexKind}
 use Rattle.program_types.specs.Operands.{IsOfIndexKind}
 use Rattle.code_insns.specs.Walk.{Walks, starts, raw_at, address}
 use Rattle.code_insns.specs.Places.{place}
-use Rattle.code_insns.specs.Symbols.{resolved, Says, IsNamed, name_in, IsFunctional}
+use Rattle.code_insns.specs.Symbols.{resolved, Says, IndexStandsFor, name_in, IsFunctional}
 use Rattle.code_insns.specs.Payloads.{UseHolds}
 use Rattle.code_insns.specs.Insns.{IsBase, SpellsInsn, SpellsInsns}
 use Rattle.code_insns.proofs.Runs.{run-once}
@@ -46,7 +46,7 @@ same-name T r i j e p q = some-one (resolved T (name_in i) r) i j p (subst (λ (
 plain-one : (T : ℤ → Option ℕ) (r : Raw) (i j : Insn) → resolved T (name_in i) r ≡ resolved T (name_in j) r → resolved T (name_in i) r ≡ Some i → resolved T (name_in j) r ≡ Some j → i ≡ j
 plain-one T r i j e p q = some-one (resolved T (name_in i) r) i j p (e ∙ q)
 
-named-one : (N : ℕ → Name → Type 0) (op n : ℕ) (v w : Name) → IsFunctional N → IsNamed N op n v → IsNamed N op n w → v ≡ w
+named-one : (N : ℕ → Name → Type 0) (op n : ℕ) (v w : Name) → IsFunctional N → IndexStandsFor N op n v → IndexStandsFor N op n w → v ≡ w
 named-one N op n v w f p q = by (index_kind_of op) p.kind q.kind
   where
     by : (kind : Option IndexKind) → IsOfIndexKind kind v → IsOfIndexKind kind w → v ≡ w

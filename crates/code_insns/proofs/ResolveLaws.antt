@@ -21,7 +21,7 @@ use Rattle.code_insns.specs.Walk.{IsTable, raw_at, address, starts}
 use Rattle.code_insns.specs.Symbols.{places, both, ints, ints_from, Says}
 use Rattle.code_insns.specs.Payloads.{payload_of, wants, reach, IsUse, UseHolds}
 use Rattle.program_types.specs.Formed.{AreAlike, IsSwitch}
-use Rattle.code_insns.specs.Insns.{branch, Reaches, Lands, AllLand, TargetsHold, BranchHolds, IsBase, SpellsInsn, targets}
+use Rattle.code_insns.specs.Insns.{branch, Reaches, Lands, AllLand, OffsetsLand, BranchHolds, IsBase, SpellsInsn, targets}
 use Rattle.code_insns.specs.Reading.{AreResolved}
 use Rattle.code_insns.proofs.PayloadLaws.{at_raw}
 
@@ -48,7 +48,7 @@ no-targets (raw.Packed first offsets) h = absurd (h tt)
 no-targets (raw.Sparse keys offsets) h = absurd (h tt)
 no-targets _ h = refl
 
-pub leads-all : (rs : List Raw) (begins : List ℕ) (k base : ℕ) → IsTable begins rs → IsBase rs k base → TargetsHold rs k → places (place begins base) (ints (targets (raw_at rs k))) ≢ None
+pub leads-all : (rs : List Raw) (begins : List ℕ) (k base : ℕ) → IsTable begins rs → IsBase rs k base → OffsetsLand rs k → places (place begins base) (ints (targets (raw_at rs k))) ≢ None
 unfolding ints
 leads-all rs begins k base t (inl s) h = subst (λ (x : ℕ). places (place begins x) (ints (targets (raw_at rs k))) ≢ None) (sym s.3) (all-places rs begins (address rs s.1) (targets (raw_at rs k)) t (h s.0 s.1 s.2))
 leads-all rs begins k base t (inr s) h = subst (λ (o : List ℕ). places (place begins base) (ints o) ≢ None) (sym (no-targets (raw_at rs k) s.0)) (λ e. cc)

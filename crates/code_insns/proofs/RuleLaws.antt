@@ -8,7 +8,7 @@ use Rattle.dex_insn.specs.declared.raw.RawInsn.{RawInsn}
 use Rattle.dex_insn.specs.declared.raw.RawInsn.TheVariants as made
 use Rattle.code_insns.specs.Places.{AllHold, place}
 use Rattle.code_insns.specs.Walk.{IsTable, raw_at, address}
-use Rattle.code_insns.specs.Insns.{branch, short_branch, Lands, BranchLands, BranchMoves, AllLand, TargetsHold, targets}
+use Rattle.code_insns.specs.Insns.{branch, short_branch, Lands, BranchLands, BranchMoves, AllLand, OffsetsLand, targets}
 use Rattle.code_insns.specs.Payloads.{IsUse, payload_of}
 use Rattle.program_types.specs.Formed.{IsSwitch}
 use Rattle.code_insns.specs.declared.uses.Use.TheVariants as users
@@ -63,7 +63,7 @@ pub moves-no_branch : (xs : List RawInsn) (k : ℕ) → None ≡ short_branch (r
 moves-no_branch xs k e = let b : short_branch (raw_at (map raw xs) k) ≡ None = ap short_branch (at_raw xs k) ∙ sym e in rw b tt
 
 -- targets count from the only user
-pub targets-by : (rs : List Raw) (k j : ℕ) (P : Type 0) → IsUse rs (length rs) k (users.By j) → IsSwitch (payload_of (raw_at rs k)) → (P ↔ AllLand rs (address rs j) (targets (raw_at rs k))) → P ↔ TargetsHold rs k
+pub targets-by : (rs : List Raw) (k j : ℕ) (P : Type 0) → IsUse rs (length rs) k (users.By j) → IsSwitch (payload_of (raw_at rs k)) → (P ↔ AllLand rs (address rs j) (targets (raw_at rs k))) → P ↔ OffsetsLand rs k
 targets-by rs k j P h sw f = (
   (λ p _ i u. subst (λ (x : ℕ). AllLand rs (address rs x) (targets (raw_at rs k))) (sym (h.2 i u.there u)) (f.0 p)),
   (λ t. f.1 (t sw j h.1)),

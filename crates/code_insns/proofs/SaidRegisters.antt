@@ -11,7 +11,7 @@ use Rattle.program_types.specs.Content.{Name, Insn}
 use Rattle.program_types.specs.Content as made
 use Rattle.program_types.specs.Formed.{insn_registers, insn_at}
 use Rattle.program_types.specs.Sizes.{insn_units, addresses_of, starts_from}
-use Rattle.code_insns.specs.Places.{place, AllHold, IsFirst}
+use Rattle.code_insns.specs.Places.{place, AllHold, IsFirstBroken}
 use Rattle.code_insns.specs.Walk.{IsTable, starts, raw_at}
 use Rattle.code_insns.specs.Symbols.{resolved, places, ints, ints_from, name_in}
 use Rattle.code_insns.specs.Insns.{SpellsInsns}
@@ -129,7 +129,7 @@ module _ (N : ℕ → Name → Type 0) (us : List ℕ) (rs : List Raw) (is : Lis
   pub all-among : (count n : ℕ) → n ≡ length rs → AllHold (RawAmong count rs) n → AllHold (AmongAt count is) (length is)
   all-among count n e h k l = let c = s.count in among count k (omega (arith, l, c)) (h k (omega (arith, l, c, e)))
 
-  pub first-past : (count n first at : ℕ) (begins : List ℕ) → n ≡ length rs → IsTable begins rs → IsFirst (RawAmong count rs) (RawAmong count rs) n first → at ≡ get_or begins first 0 → IsPast count is at
+  pub first-past : (count n first at : ℕ) (begins : List ℕ) → n ≡ length rs → IsTable begins rs → IsFirstBroken (RawAmong count rs) (RawAmong count rs) n first → at ≡ get_or begins first 0 → IsPast count is at
   first-past count n first at begins e t f a =
       let c = s.count in
       let i = f.inside in
@@ -148,6 +148,6 @@ module _ (N : ℕ → Name → Type 0) (us : List ℕ) (rs : List Raw) (is : Lis
   among_given count n None e h = all-among count n e h
   among_given count n (Some at) e h = tt
 
-  pub past_given : (count n : ℕ) (begins : List ℕ) (o : Option ℕ) → n ≡ length rs → IsTable begins rs → IfSome o (λ at. (k : ℕ) × IsFirst (RawAmong count rs) (RawAmong count rs) n k × (at ≡ get_or begins k 0)) → IfSome o (IsPast count is)
+  pub past_given : (count n : ℕ) (begins : List ℕ) (o : Option ℕ) → n ≡ length rs → IsTable begins rs → IfSome o (λ at. (k : ℕ) × IsFirstBroken (RawAmong count rs) (RawAmong count rs) n k × (at ≡ get_or begins k 0)) → IfSome o (IsPast count is)
   past_given count n begins None e t h = tt
   past_given count n begins (Some at) e t h = first-past count n h.0 at begins e t h.1 h.2

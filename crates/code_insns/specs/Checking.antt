@@ -3,7 +3,7 @@ use Rattle.std.specs.Prelude.{ℕ, pos, ◌≡◌, ◌≢◌, ◌<◌, ◌⊎◌
 use Rattle.dex_insn.specs.Raw.{Raw}
 use Rattle.dex_insn.specs.RawInsns.{InsnStands}
 use Rattle.program_types.specs.Content.{Name, Insn}
-use Rattle.code_insns.specs.Places.{place, AllHold, IsFirst}
+use Rattle.code_insns.specs.Places.{place, AllHold, IsFirstBroken}
 use Rattle.code_insns.specs.Walk.{Run, starts, raw_at}
 use Rattle.code_insns.specs.Symbols.{Says, has_offset}
 use Rattle.code_insns.specs.Insns.{short_branch}
@@ -35,7 +35,7 @@ pub record PlainRun (N : ℕ → Name → Type 0) (us : List ℕ) (count : ℕ) 
   pub each : AllHold (λ k. HoldsApart N (raw_at raws k)) (length raws)
   pub branches_are : AllHold (λ k. has_offset (raw_at raws k) ≡ true → HasNumber branches (slice_index begins k)) (length raws)
   pub among : IfNone past (AllHold (RawAmong count raws) (length raws))
-  pub first : IfSome past (λ p. (k : ℕ) × IsFirst (RawAmong count raws) (RawAmong count raws) (length raws) k × (p ≡ slice_index begins k))
+  pub first : IfSome past (λ p. (k : ℕ) × IsFirstBroken (RawAmong count raws) (RawAmong count raws) (length raws) k × (p ≡ slice_index begins k))
 
 -- What stands at this unit leads somewhere.
 abbrev pub Leads : (ℕ → Name → Type 0) → List ℕ → List ℕ → ℕ → Type 0

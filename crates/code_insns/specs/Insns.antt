@@ -66,8 +66,8 @@ pub record BranchHolds (rs : List Raw) (k : ℕ) : Type 0 where
   pub moves : BranchMoves rs k
 
 -- the targets of switch payload k, counted from its switch, are instructions that are no payloads
-abbrev pub TargetsHold : List Raw → ℕ → Type 0
-TargetsHold rs k = IsSwitch (payload_of (raw_at rs k)) → (j : ℕ) → Uses rs j k → AllLand rs (address rs j) (targets (raw_at rs k))
+abbrev pub OffsetsLand : List Raw → ℕ → Type 0
+OffsetsLand rs k = IsSwitch (payload_of (raw_at rs k)) → (j : ℕ) → Uses rs j k → AllLand rs (address rs j) (targets (raw_at rs k))
 
 -- the index of instruction k, if it has one, stands for a name
 abbrev pub NameHolds : (ℕ → Name → Type 0) → List Raw → ℕ → Type 0
@@ -90,6 +90,6 @@ pub record SpellsInsns (N : ℕ → Name → Type 0) (us : List ℕ) (rs : List 
   pub walk : Walks us rs
   pub branches : AllHold (BranchHolds rs) (length rs)
   pub uses : AllHold (UseHolds rs) (length rs)
-  pub targets : AllHold (TargetsHold rs) (length rs)
+  pub targets : AllHold (OffsetsLand rs) (length rs)
   pub count : length is ≡ length rs
   pub each : (k : ℕ) → k < length rs → SpellsInsn N rs k (insn_at is k)

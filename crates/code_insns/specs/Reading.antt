@@ -8,7 +8,7 @@ use Rattle.code_insns.specs.Places.{place, AllHold}
 use Rattle.code_insns.specs.Walk.{IsTable, starts, raw_at, address}
 use Rattle.code_insns.specs.Symbols.{Says}
 use Rattle.code_insns.specs.Payloads.{UseHolds}
-use Rattle.code_insns.specs.Insns.{SpellsInsns, SpellsInsn, BranchHolds, BranchMoves, TargetsHold}
+use Rattle.code_insns.specs.Insns.{SpellsInsns, SpellsInsn, BranchHolds, BranchMoves, OffsetsLand}
 
 -- The raw instructions say these.
 pub record AreResolved (N : ℕ → Name → Type 0) (rs : List Raw) (is : List Insn) : Type 0 where
@@ -19,7 +19,7 @@ pub record AreResolved (N : ℕ → Name → Type 0) (rs : List Raw) (is : List 
 pub record AreSpelled (N : ℕ → Name → Type 0) (rs : List Raw) (is : List Insn) : Type 0 where
   pub branches : AllHold (BranchHolds rs) (length rs)
   pub uses : AllHold (UseHolds rs) (length rs)
-  pub targets : AllHold (TargetsHold rs) (length rs)
+  pub targets : AllHold (OffsetsLand rs) (length rs)
   pub resolved : AreResolved N rs is
 
 -- it neither is a payload nor refers to one

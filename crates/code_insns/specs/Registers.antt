@@ -7,7 +7,7 @@ use Rattle.dex_insn.specs.Registers.{named_registers}
 use Rattle.program_types.specs.Content.{Insn}
 use Rattle.program_types.specs.Formed.{AreAmong, insn_at}
 use Rattle.program_types.specs.Sizes.{addresses_of}
-use Rattle.code_insns.specs.Places.{IsFirst}
+use Rattle.code_insns.specs.Places.{IsFirstBroken}
 use Rattle.code_insns.specs.Walk.{raw_at}
 
 -- raw instruction k names registers among the first `count`
@@ -21,5 +21,5 @@ AmongAt count is k = AreAmong count (insn_at is k)
 -- The instruction at this address is the first that names a register past the first `count`.
 pub record IsPast (count : ℕ) (is : List Insn) (at : ℕ) : Type 0 where
   pub first : ℕ
-  pub breaks : IsFirst (AmongAt count is) (AmongAt count is) (length is) first
+  pub breaks : IsFirstBroken (AmongAt count is) (AmongAt count is) (length is) first
   pub is_at : at ≡ slice_index (addresses_of is) first

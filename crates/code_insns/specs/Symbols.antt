@@ -16,7 +16,7 @@ use Rattle.program_types.specs.Content as made
 -- ---- names
 
 -- Index i of an instruction with this opcode stands for the name, where N says which index stands for which name.
-pub record IsNamed (N : ℕ → Name → Type 0) (op i : ℕ) (which : Name) : Type 0 where
+pub record IndexStandsFor (N : ℕ → Name → Type 0) (op i : ℕ) (which : Name) : Type 0 where
   pub kind : IsOfIndexKind (index_kind_of op) which
   pub stands : N i which
 
@@ -26,15 +26,15 @@ IsFunctional N = (kind : IndexKind) (i : ℕ) (m n : Name) → IsOfKind kind m �
 
 -- index i of an instruction with this opcode stands for some name
 abbrev pub SomeName : (ℕ → Name → Type 0) → ℕ → ℕ → Type 0
-SomeName N op i = (which : Name) × IsNamed N op i which
+SomeName N op i = (which : Name) × IndexStandsFor N op i which
 
 -- the instruction's index, if it has one, stands for the name
 abbrev pub Names : (ℕ → Name → Type 0) → Raw → Name → Type 0
-Names N (raw.I21c op a index) which = IsNamed N op index which
-Names N (raw.I22c op a b index) which = IsNamed N op index which
-Names N (raw.I31c op a index) which = IsNamed N op index which
-Names N (raw.I35c op n regs index) which = IsNamed N op index which
-Names N (raw.I3rc op n first index) which = IsNamed N op index which
+Names N (raw.I21c op a index) which = IndexStandsFor N op index which
+Names N (raw.I22c op a b index) which = IndexStandsFor N op index which
+Names N (raw.I31c op a index) which = IndexStandsFor N op index which
+Names N (raw.I35c op n regs index) which = IndexStandsFor N op index which
+Names N (raw.I3rc op n first index) which = IndexStandsFor N op index which
 Names N _ which = ⊤
 
 -- the instruction's index, if it has one, stands for some name

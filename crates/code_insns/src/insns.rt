@@ -8,7 +8,7 @@ ghost use Rattle.dex_insn.specs.Raw.{raw};
 ghost use Rattle.code_insns.specs.Walk.{IsTable, raw_at};
 ghost use Rattle.code_insns.specs.Places.{AllHold};
 ghost use Rattle.code_insns.specs.Payloads.{AreUsers, UseHolds};
-ghost use Rattle.code_insns.specs.Insns.{BranchHolds, TargetsHold, NameHolds, SpellsInsn, IsBase};
+ghost use Rattle.code_insns.specs.Insns.{BranchHolds, OffsetsLand, NameHolds, SpellsInsn, IsBase};
 ghost use Rattle.code_insns.specs.InsnFaults.{RulesHold, RulesBreak, InsnsBreak};
 ghost use Rattle.code_insns.specs.Registers.{AmongAt, IsPast};
 ghost use Rattle.code_insns.specs.Reading.{AreResolved, AreSpelled, ReadInsns};
@@ -91,7 +91,7 @@ fn resolve_at<'a>(
     requires names { AllHold (NameHolds (NameIsAt tables.now) (map raw insns.now)) (length insns.now) }
     requires branches { AllHold (BranchHolds (map raw insns.now)) (length insns.now) }
     requires uses { AllHold (UseHolds (map raw insns.now)) (length insns.now) }
-    requires targets { AllHold (TargetsHold (map raw insns.now)) (length insns.now) }
+    requires targets { AllHold (OffsetsLand (map raw insns.now)) (length insns.now) }
     requires inside { k < length insns.now }
     ensures ok { IfOk result (λ i. SpellsInsn (NameIsAt tables.now) (map raw insns.now) k (insn i)) }
     ensures err { IsOkUnless result memory }
@@ -119,7 +119,7 @@ fn resolve_all<'a>(
     requires names { AllHold (NameHolds (NameIsAt tables.now) (map raw insns.now)) (length insns.now) }
     requires branches { AllHold (BranchHolds (map raw insns.now)) (length insns.now) }
     requires uses { AllHold (UseHolds (map raw insns.now)) (length insns.now) }
-    requires targets { AllHold (TargetsHold (map raw insns.now)) (length insns.now) }
+    requires targets { AllHold (OffsetsLand (map raw insns.now)) (length insns.now) }
     ensures ok { IfOk result (λ found. AreResolved (NameIsAt tables.now) (map raw insns.now) (map insn found.now)) }
     ensures err { IsOkUnless result memory }
 {

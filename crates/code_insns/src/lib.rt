@@ -29,6 +29,10 @@ mod targets;
 mod checking;
 mod insns;
 
+// What holds of instructions.
+mod laws;
+
 pub use checking::{Checked, check_insns};
 pub use insns::{Insns, read_insns};
+pub use laws::registers_are_said;
 pub use places::{below, number_at};

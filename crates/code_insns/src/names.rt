@@ -5,7 +5,7 @@ ghost use Rattle.program_types.specs.Content as content;
 ghost use Rattle.program_types.specs.View.{name};
 ghost use Rattle.tables_rows.specs.Names.{NameIsAt};
 ghost use Rattle.dex_insn.specs.Raw.{raw};
-ghost use Rattle.code_insns.specs.Symbols.{IsNamed, SomeName, HasName};
+ghost use Rattle.code_insns.specs.Symbols.{IndexStandsFor, SomeName, HasName};
 
 use dex_insn::{RawInsn, index_kind_of};
 use program_types::Name;
@@ -13,8 +13,8 @@ use tables_rows::Tables;
 
 /// The name that an index in an instruction of this opcode stands for. None where its table has no such row.
 pub(crate) fn named<'a>(tables: &Tables<'a>, op: u8, index: u32) -> Option<Name<'a>>
-    ensures some { IfSome result (λ n. IsNamed (NameIsAt tables.now) op index (name n)) }
-    ensures none { IfNone result ((n : content.Name) → ¬ IsNamed (NameIsAt tables.now) op index n) }
+    ensures some { IfSome result (λ n. IndexStandsFor (NameIsAt tables.now) op index (name n)) }
+    ensures none { IfNone result ((n : content.Name) → ¬ IndexStandsFor (NameIsAt tables.now) op index n) }
 {
     match index_kind_of(op) {
         Some(kind) => tables.name(kind, index),

@@ -4,7 +4,7 @@ ghost use Rattle.std.specs.Prelude.{◌≡◌, ◌↔◌, ◌<◌, ℕ, slice_in
 ghost use Rattle.std.specs.List.{AllByRecursion};
 ghost use Rattle.dex_insn.specs.Raw.{raw};
 ghost use Rattle.dex_insn.specs.Registers.{named_registers};
-ghost use Rattle.code_insns.specs.Places.{AllHold, IsFirst};
+ghost use Rattle.code_insns.specs.Places.{AllHold, IsFirstBroken};
 ghost use Rattle.code_insns.specs.Registers.{RawAmong};
 ghost use Rattle.code_insns.specs.Walk.{IsTable};
 
@@ -35,7 +35,7 @@ fn is_among_at(insns: &[RawInsn<'_>], count: u16, k: usize) -> bool
 
 /// The first instruction that names another register.
 fn first_past(insns: &[RawInsn<'_>], count: u16) -> Option<usize>
-    ensures some { IfSome result (IsFirst (RawAmong count (map raw insns.now)) (RawAmong count (map raw insns.now)) (length insns.now)) }
+    ensures some { IfSome result (IsFirstBroken (RawAmong count (map raw insns.now)) (RawAmong count (map raw insns.now)) (length insns.now)) }
     ensures none { IfNone result (AllHold (RawAmong count (map raw insns.now)) (length insns.now)) }
 {
     for k in 0..insns.len() {
@@ -49,7 +49,7 @@ fn first_past(insns: &[RawInsn<'_>], count: u16) -> Option<usize>
 /// The unit at which it begins.
 pub(crate) fn past_registers(insns: &[RawInsn<'_>], begins: &[u32], count: u16) -> Option<u32>
     requires table { IsTable begins.now (map raw insns.now) }
-    ensures some { IfSome result (λ at. (k : ℕ) × IsFirst (RawAmong count (map raw insns.now)) (RawAmong count (map raw insns.now)) (length insns.now) k
+    ensures some { IfSome result (λ at. (k : ℕ) × IsFirstBroken (RawAmong count (map raw insns.now)) (RawAmong count (map raw insns.now)) (length insns.now) k
         × (at ≡ slice_index begins.now k)) }
     ensures none { IfNone result (AllHold (RawAmong count (map raw insns.now)) (length insns.now)) }
 {

@@ -6,7 +6,7 @@ ghost use Rattle.dex_insn.specs.Raw.{raw, is_payload};
 ghost use Rattle.code_insns.specs.Walk.{IsTable, raw_at, address};
 ghost use Rattle.code_insns.specs.Places.{AllHold};
 ghost use Rattle.code_insns.specs.Payloads.{AreUsers, UseHolds};
-ghost use Rattle.code_insns.specs.Insns.{branch, short_branch, Lands, BranchLands, BranchMoves, BranchHolds, TargetsHold, NameHolds, AllLand, targets};
+ghost use Rattle.code_insns.specs.Insns.{branch, short_branch, Lands, BranchLands, BranchMoves, BranchHolds, OffsetsLand, NameHolds, AllLand, targets};
 ghost use Rattle.code_insns.specs.InsnFaults.{BreaksIn};
 
 use crate::names::has_name;
@@ -173,7 +173,7 @@ fn targets_hold(all: &[Use], insns: &[RawInsn<'_>], begins: &[u32], k: usize) ->
     requires users { AreUsers (map raw insns.now) (length insns.now) all.now }
     requires uses { AllHold (UseHolds (map raw insns.now)) (length insns.now) }
     requires inside { k < length insns.now }
-    ensures { IsTrue result ↔ TargetsHold (map raw insns.now) k }
+    ensures { IsTrue result ↔ OffsetsLand (map raw insns.now) k }
 {
     if !is_switch(payload_at(insns, k)) {
         return true;
@@ -195,8 +195,8 @@ pub(crate) fn check_targets(
     requires users { AreUsers (map raw insns.now) (length insns.now) all.now }
     requires uses { AllHold (UseHolds (map raw insns.now)) (length insns.now) }
     requires base { base < 2 ^ 40 }
-    ensures ok { OnOk result (AllHold (TargetsHold (map raw insns.now)) (length insns.now)) }
-    ensures err { IfErr result (λ e. BreaksIn (map raw insns.now) base 68 TargetsHold TargetsHold e) }
+    ensures ok { OnOk result (AllHold (OffsetsLand (map raw insns.now)) (length insns.now)) }
+    ensures err { IfErr result (λ e. BreaksIn (map raw insns.now) base 68 OffsetsLand OffsetsLand e) }
 {
     for k in 0..insns.len() {
         if !targets_hold(all, insns, begins, k) {

@@ -12,7 +12,7 @@ use Rattle.code_insns.specs.Places.{place}
 use Rattle.code_insns.specs.Walk.{starts, raw_at, address}
 use Rattle.code_insns.specs.Symbols.{Says}
 use Rattle.code_insns.specs.Payloads.{payload_of, wants, reach, Uses, UseHolds}
-use Rattle.code_insns.specs.Insns.{branch, short_branch, targets, Lands, BranchLands, BranchMoves, TargetsHold, SpellsInsn, SpellsInsns}
+use Rattle.code_insns.specs.Insns.{branch, short_branch, targets, Lands, BranchLands, BranchMoves, OffsetsLand, SpellsInsn, SpellsInsns}
 use Rattle.code_insns.proofs.PlaceLaws.{place-to}
 use Rattle.code_put.specs.Packs.{IsOrigin, AreLowered, joined}
 use Rattle.code_put.proofs.FormLaws.{addresses-rise, length-addresses}
@@ -130,7 +130,7 @@ module _ (N : ℕ → Name → Type 0) (is : List Insn) (rs : List Raw) (low : A
             record { by = u.0; uses = uses-of u.0 k u.1; only = λ i v. u.2 i (refers-of i k v) };
       }
 
-  targets-hold : (k : ℕ) → k < length rs → TargetsHold rs k
+  targets-hold : (k : ℕ) → k < length rs → OffsetsLand rs k
   targets-hold k l = λ s j v y m.
       let c = low.count in
       let x = low.each k l in

@@ -6,7 +6,7 @@ use Rattle.dex_container.specs.Frame.{IsSection}
 use Rattle.dex_insn.specs.Raw.{Raw}
 use Rattle.program_types.specs.Content.{Name, Code}
 use Rattle.dex_container.specs.Where.{IsInSection}
-use Rattle.code_insns.specs.Places.{IsFirst, AllHold}
+use Rattle.code_insns.specs.Places.{IsFirstBroken, AllHold}
 use Rattle.code_insns.specs.Walk.{Walks, starts}
 use Rattle.code_insns.specs.InsnFaults.{RulesHold, InsnsBreak}
 use Rattle.code_insns.specs.Registers.{IsPast}
@@ -33,7 +33,7 @@ list_fault place = record { code = 72; place = place }
 -- What is wrong with tries and handlers: the first try_item that breaks the rules (71), or, where none does, the list (72).
 abbrev pub TriesBreak : (ℕ → Name → Type 0) → List ℕ → ℕ → ℕ → List ℕ → List ℕ → ℕ → Fault → Type 0
 TriesBreak N ss size n items rest base fault =
-    ((i : ℕ) × IsFirst (TryHolds ss size items) (TryHolds ss size items) n i × (fault ≡ record { code = 71; place = base + 8 * i }))
+    ((i : ℕ) × IsFirstBroken (TryHolds ss size items) (TryHolds ss size items) n i × (fault ≡ record { code = 71; place = base + 8 * i }))
     ⊎ ((0 < n) × AllHold (TryHolds ss size items) n × (¬ HasHandlers N ss n items rest) × (fault ≡ list_fault (base + 8 * n)))
 
 -- ---- the item

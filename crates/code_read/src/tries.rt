@@ -5,7 +5,7 @@ ghost use Rattle.base_bytes.specs.Fault.{memory};
 ghost use Rattle.base_bytes.specs.Grammar.{NoneBegins};
 ghost use Rattle.program_types.specs.View.{try};
 ghost use Rattle.tables_rows.specs.Names.{NameIsAt};
-ghost use Rattle.code_insns.specs.Places.{Rises, AllHold, IsFirst, position};
+ghost use Rattle.code_insns.specs.Places.{Rises, AllHold, IsFirstBroken, position};
 ghost use Rattle.code_read.specs.Tries.{TryHolds};
 ghost use Rattle.code_read.specs.Item.{try_start, try_count, try_handler};
 ghost use Rattle.code_read.specs.Handlers.{SpellsList};
@@ -84,7 +84,7 @@ fn check_tries(starts: &[u32], size: u32, items: &[u8], tries: u16, base: u64) -
     requires base { base < 2 ^ 40 }
     ensures ok { OnOk result (AllHold (TryHolds starts.now size items.now) tries) }
     ensures err { IfErr result (λ e. (i : ℕ)
-        × IsFirst (TryHolds starts.now size items.now) (TryHolds starts.now size items.now) tries i
+        × IsFirstBroken (TryHolds starts.now size items.now) (TryHolds starts.now size items.now) tries i
         × (e ≡ record { code = 71; place = base + 8 * i })) }
 {
     for i in 0..tries {

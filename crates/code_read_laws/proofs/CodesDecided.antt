@@ -26,7 +26,7 @@ use Rattle.code_read.specs.Code.{SpellsBody, BodyStands, CodeStands}
 use Rattle.code_read.specs.Faults.{ItemBreaks, CodeBreaks, RegistersBreak, CodeOverruns}
 use Rattle.program_types.specs.Formed.{RegistersHold, insn_at, insn_registers}
 use Rattle.program_types.specs.Sizes.{addresses_of}
-use Rattle.code_insns.specs.Places.{AllHold, IsFirst}
+use Rattle.code_insns.specs.Places.{AllHold, IsFirstBroken}
 use Rattle.code_insns.specs.Registers.{AmongAt}
 use Rattle.code_read.proofs.StandLaws.{body_code}
 use Rattle.code_read.proofs.FaultLaws.{units-even}
@@ -141,7 +141,7 @@ numbers-decided count (v ∷ vs) = elim (cases_lt v count) [
 ]
 
 -- the first n instructions name registers of the code, or there is a first that doesn't
-first-decided : (c : Code) (n : ℕ) → n ≤ length c.insns → AllHold (AmongAt c.registers c.insns) n ⊎ ((k : ℕ) × IsFirst (AmongAt c.registers c.insns) (AmongAt c.registers c.insns) (length c.insns) k)
+first-decided : (c : Code) (n : ℕ) → n ≤ length c.insns → AllHold (AmongAt c.registers c.insns) n ⊎ ((k : ℕ) × IsFirstBroken (AmongAt c.registers c.insns) (AmongAt c.registers c.insns) (length c.insns) k)
 first-decided c zero le = inl (λ k l. absurd (omega (arith, l)))
 first-decided c (suc n) le = elim (first-decided c n (omega (arith, le))) [
   | inl before ↦ elim (numbers-decided c.registers (insn_registers (insn_at c.insns n))) [

@@ -10,7 +10,7 @@ use Rattle.base_bytes.specs.Via.{Via}
 use Rattle.base_bytes.proofs.Deciding.{decide_like, decide_both, decide_lt, decide_le, decide_eq, decide_by, DecidedEach, decide_each}
 use Rattle.base_bytes.proofs.TakesLaws.{Takes-then, Then-takes, Takes-unique, Takes-none, NoneBegins-from_takes}
 use Rattle.base_bytes.proofs.ViaLaws.{via-takes, via-none, via-nothing}
-use Rattle.code_insns.specs.Places.{AllHold, IsFirst}
+use Rattle.code_insns.specs.Places.{AllHold, IsFirstBroken}
 
 -- ---- numbers below a bound
 
@@ -21,7 +21,7 @@ all-more P n all here k l = elim (cases_lt k n) [
 ]
 
 -- each number below the bound keeps a rule, or there is a first that breaks it
-pub first-or-all : (P : ℕ → Type 0) → ((k : ℕ) → Decided (P k)) → (n : ℕ) → AllHold P n ⊎ ((k : ℕ) × IsFirst P P n k)
+pub first-or-all : (P : ℕ → Type 0) → ((k : ℕ) → Decided (P k)) → (n : ℕ) → AllHold P n ⊎ ((k : ℕ) × IsFirstBroken P P n k)
 first-or-all P d zero = inl (λ k l. absurd (omega (arith, l)))
 first-or-all P d (suc n) = elim (first-or-all P d n) [
   | inl all ↦ elim (d n) [

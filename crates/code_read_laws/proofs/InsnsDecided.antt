@@ -8,11 +8,11 @@ use Rattle.dex_insn.specs.Raw.{Raw}
 use Rattle.program_types.specs.Content.{Name, Insn}
 use Rattle.program_types.specs.Content as made
 use Rattle.program_types.specs.Formed.{IsSwitch}
-use Rattle.code_insns.specs.Places.{IsFirst, place}
+use Rattle.code_insns.specs.Places.{IsFirstBroken, place}
 use Rattle.code_insns.specs.Walk.{Walks, IsTable, starts, raw_at, address}
 use Rattle.code_insns.specs.Symbols.{resolved, places, ints, Says, HasName}
 use Rattle.code_insns.specs.Payloads.{payload_of, UseHolds}
-use Rattle.code_insns.specs.Insns.{Reaches, Lands, branch, targets, BranchLands, BranchMoves, BranchHolds, TargetsHold, NameHolds, IsBase, SpellsInsn, SpellsInsns}
+use Rattle.code_insns.specs.Insns.{Reaches, Lands, branch, targets, BranchLands, BranchMoves, BranchHolds, OffsetsLand, NameHolds, IsBase, SpellsInsn, SpellsInsns}
 use Rattle.code_insns.specs.InsnFaults.{BreaksIn, AllKeep, RulesHold, RulesBreak, InsnsBreak}
 use Rattle.code_insns.proofs.ResolveLaws.{leads-all, reaches-all}
 use Rattle.code_insns.proofs.Runs.{table-of}
@@ -78,7 +78,7 @@ module _ (rs : List Raw) (k : ℕ) (once : UseHolds rs k) (b : BranchHolds rs k)
     | inr other ↦ (address rs k, inr (other, refl), reaches-own)
   ]
 
-insn-spelled : (N : ℕ → Name → Type 0) (rs : List Raw) (k : ℕ) → IsTable (starts rs) rs → UseHolds rs k → BranchHolds rs k → TargetsHold rs k → NameHolds N rs k → (i : Insn) × SpellsInsn N rs k i
+insn-spelled : (N : ℕ → Name → Type 0) (rs : List Raw) (k : ℕ) → IsTable (starts rs) rs → UseHolds rs k → BranchHolds rs k → OffsetsLand rs k → NameHolds N rs k → (i : Insn) × SpellsInsn N rs k i
 insn-spelled N rs k table once b t n =
     let at = based rs k once b in
     let x = says-some N (place (starts rs) at.0) (raw_at rs k) at.2 (leads-all rs (starts rs) k at.0 table at.1 t) n in
@@ -91,10 +91,10 @@ module _ (N : ℕ → Name → Type 0) (names : AreNamesDecided N) (us : List �
   InsnsAreDecided = ((rs : List Raw) × (is : List Insn) × SpellsInsns N us rs is) ⊎ ((e : Fault) × InsnsBreak N us base e)
 
   -- the first that breaks a rule
-  broken-at : (number : ℕ) (P Q : List Raw → ℕ → Type 0) (rs : List Raw) (k : ℕ) → IsFirst (P rs) (Q rs) (length rs) k → (e : Fault) × BreaksIn rs base number P Q e
+  broken-at : (number : ℕ) (P Q : List Raw → ℕ → Type 0) (rs : List Raw) (k : ℕ) → IsFirstBroken (P rs) (Q rs) (length rs) k → (e : Fault) × BreaksIn rs base number P Q e
   broken-at number P Q rs k f = (record { code = number; place = base + 2 * address rs k }, record { first = k; breaks = f; is = refl })
 
-  branch-broken : (rs : List Raw) (k : ℕ) → AllKeep (NameHolds N) rs → IsFirst (BranchHolds rs) (BranchHolds rs) (length rs) k → (e : Fault) × RulesBreak N rs base e
+  branch-broken : (rs : List Raw) (k : ℕ) → AllKeep (NameHolds N) rs → IsFirstBroken (BranchHolds rs) (BranchHolds rs) (length rs) k → (e : Fault) × RulesBreak N rs base e
   branch-broken rs k named f = elim (decide-branch-lands rs k) [
     | inr nay ↦ let x = broken-at 68 BranchHolds BranchLands rs k (record { inside = f.inside; broken = nay; before = f.before }) in (x.0, inr (inl (named, x.1)))
     | inl lands ↦ elim (decide-branch-moves rs k) [
@@ -117,8 +117,8 @@ module _ (N : ℕ → Name → Type 0) (names : AreNamesDecided N) (us : List �
       | inr f ↦ inr (branch-broken rs f.0 named f.1)
       | inl branches ↦ elim (first-or-all (UseHolds rs) (decide-use rs) (length rs)) [
         | inr f ↦ let x = broken-at 70 UseHolds UseHolds rs f.0 f.1 in inr (x.0, inr (inr (inr (inl (named, branches, x.1)))))
-        | inl uses ↦ elim (first-or-all (TargetsHold rs) (decide-targets rs) (length rs)) [
-          | inr f ↦ let x = broken-at 68 TargetsHold TargetsHold rs f.0 f.1 in inr (x.0, inr (inr (inr (inr (named, branches, uses, x.1)))))
+        | inl uses ↦ elim (first-or-all (OffsetsLand rs) (decide-targets rs) (length rs)) [
+          | inr f ↦ let x = broken-at 68 OffsetsLand OffsetsLand rs f.0 f.1 in inr (x.0, inr (inr (inr (inr (named, branches, uses, x.1)))))
           | inl all ↦ inl (record { names = named; branches = branches; uses = uses; targets = all })
         ]
       ]

@@ -17,7 +17,7 @@ use Rattle.code_insns.specs.Places.{AllHold, place}
 use Rattle.code_insns.specs.Walk.{starts, raw_at, address}
 use Rattle.code_insns.specs.Symbols.{SomeName, HasName}
 use Rattle.code_insns.specs.Payloads.{payload_of, wants, reach, Uses, UsedOnce, UseHolds}
-use Rattle.code_insns.specs.Insns.{branch, short_branch, targets, Lands, AllLand, BranchLands, BranchMoves, BranchHolds, TargetsHold}
+use Rattle.code_insns.specs.Insns.{branch, short_branch, targets, Lands, AllLand, BranchLands, BranchMoves, BranchHolds, OffsetsLand}
 use Rattle.code_read_laws.proofs.Deciding.{decide-all-below, decide-implied, option-cases, bool-cases, decide-some, decide-if-some, decide-moves}
 
 -- ---- names
@@ -109,7 +109,7 @@ module _ (rs : List Raw) where
   pub decide-branch : (k : ℕ) → Decided (BranchHolds rs k)
   decide-branch k = decide_like (λ x. record { lands = x.0; moves = x.1 }) (λ (h : BranchHolds rs k). (h.lands, h.moves)) (decide_both (decide-branch-lands k) (decide-branch-moves k))
 
-  pub decide-targets : (k : ℕ) → Decided (TargetsHold rs k)
+  pub decide-targets : (k : ℕ) → Decided (OffsetsLand rs k)
   decide-targets k = decide-implied (decide-switch (payload_of (raw_at rs k))) (λ _. decide_like
       (λ all j u. all j u.there u)
       (λ f j l u. f j u)

@@ -35,7 +35,7 @@ abbrev pub IsClearBelow : List ℕ → ℕ → Type 0
 IsClearBelow b code = (c place : ℕ) → FrameBreaks b c place → code ≤ c
 
 -- The fault stands, with the lowest number that stands and at its lowest place.
-pub record IsFirst (b : List ℕ) (fault : Fault) : Type 0 where
+pub record IsFrameFault (b : List ℕ) (fault : Fault) : Type 0 where
   pub stands : FrameBreaks b fault.code fault.place
   pub number : IsClearBelow b fault.code
   pub place : (place : ℕ) → FrameBreaks b fault.code place → fault.place ≤ place

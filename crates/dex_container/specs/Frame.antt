@@ -5,6 +5,7 @@ use Rattle.base_bytes.specs.Fields.{u16_at, u32_at}
 use Rattle.base_bytes.specs.Adler32.{adler32}
 use Rattle.sha1.specs.Sha1.{sha1}
 use Rattle.dex_container.specs.Layout.{row_bytes, size_of, offset_of, data_begin, data_end, map_place, entry_count, map_end, kind_at, items_at, place_at}
+use Rattle.dex_container.specs.Section as section
 
 -- the bytes 0 to 3 are `dex` and a line feed, and byte 7 is 0
 pub record HasMagic (b : List ℕ) : Type 0 where
@@ -56,8 +57,8 @@ HasFewRows b k = size_of b k ≤ 65535
 -- All sections stand so, and types and protos have few rows.
 pub record SectionsHold (b : List ℕ) : Type 0 where
   pub each : (k : ℕ) → k < 7 → SectionHolds b k
-  pub types : HasFewRows b 1
-  pub protos : HasFewRows b 2
+  pub types : HasFewRows b section.type_ids
+  pub protos : HasFewRows b section.proto_ids
 
 -- The map stands 4-aligned in the data section, with all its entries.
 pub record MapIsPlaced (b : List ℕ) : Type 0 where

@@ -1,14 +1,14 @@
 // The fields of the header that depend on nothing else: faults 1 to 7.
 ghost use Rattle.std.specs.Prelude.{◌≡◌, OnOk, IfErr};
 ghost use Rattle.dex_container.specs.Frame.{HeaderHolds};
-ghost use Rattle.dex_container.specs.Faults.{IsFirst};
+ghost use Rattle.dex_container.specs.Faults.{IsFrameFault};
 
 use dex_base::{Fault, fault, u16_at, u32_at};
 
 /// The rules of magic, version, file_size, header_size, endian_tag and link_size.
 pub fn check_header(bytes: &[u8]) -> Result<(), Fault>
     ensures ok { OnOk result (HeaderHolds bytes.now) }
-    ensures err { IfErr result (IsFirst bytes.now) }
+    ensures err { IfErr result (IsFrameFault bytes.now) }
 {
     if bytes.len() < 112 {
         return Err(Fault::at(fault::TOO_SHORT, bytes.len() as u64));

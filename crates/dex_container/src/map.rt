@@ -2,7 +2,7 @@
 ghost use Rattle.std.specs.Prelude.{◌≡◌, ℕ, ◌+◌, ◌<◌, ◌≤◌, ◌↔◌, length, IsTrue, OnOk, IfErr, MatchOption};
 ghost use Rattle.dex_container.specs.Layout.{entry_count, kind_at};
 ghost use Rattle.dex_container.specs.Frame.{HeaderHolds, SumsHold, SectionsHold, MapIsReadable, MapIsPlaced, EntryHolds, EntriesHold, HasKind, MapHolds};
-ghost use Rattle.dex_container.specs.Faults.{IsFirst};
+ghost use Rattle.dex_container.specs.Faults.{IsFrameFault};
 
 use crate::entry::entry_holds;
 use crate::fields::{entry_count, kind_at, map_place, offset_of, size_of};
@@ -44,7 +44,7 @@ fn check_entries(bytes: &[u8]) -> Result<(), Fault>
     requires placed { MapIsPlaced bytes.now }
     requires map { MapIsReadable bytes.now }
     ensures ok { OnOk result (EntriesHold bytes.now) }
-    ensures err { IfErr result (IsFirst bytes.now) }
+    ensures err { IfErr result (IsFrameFault bytes.now) }
 {
     for i in 0..entry_count(bytes) as usize {
         if !entry_holds(bytes, i) {
@@ -63,7 +63,7 @@ pub fn check_map(bytes: &[u8]) -> Result<(), Fault>
     requires sums { SumsHold bytes.now }
     requires sections { SectionsHold bytes.now }
     ensures ok { OnOk result (MapHolds bytes.now) }
-    ensures err { IfErr result (IsFirst bytes.now) }
+    ensures err { IfErr result (IsFrameFault bytes.now) }
 {
     if !map_is_placed(bytes) {
         return Err(Fault::at(fault::MAP_PLACE, 52));

@@ -2,7 +2,7 @@
 ghost use Rattle.std.specs.Prelude.{◌≡◌, ◌+◌, ◌<◌, ◌≤◌, ℕ, length, IfOk, IfErr, IfSome, IsOk, MatchOption};
 ghost use Rattle.dex_container.specs.Frame.{IsFramed, HasKind, IsSection, table_of, end_at};
 ghost use Rattle.dex_container.specs.Layout.{entry_count};
-ghost use Rattle.dex_container.specs.Faults.{IsFirst};
+ghost use Rattle.dex_container.specs.Faults.{IsFrameFault};
 
 use crate::fields::{entry_count, offset_of, place_at, size_of};
 use crate::header::check_header;
@@ -109,7 +109,7 @@ impl<'a> Sections<'a> {
 pub fn open(bytes: &[u8]) -> Result<Sections<'_>, Fault>
     ensures framed { IfOk result (λ s. (s ≡ bytes.now) × IsFramed bytes.now) }
     ensures only { IsFramed bytes.now → IsOk result }
-    ensures fault { IfErr result (IsFirst bytes.now) }
+    ensures fault { IfErr result (IsFrameFault bytes.now) }
 {
     check_header(bytes)?;
     check_sums(bytes)?;

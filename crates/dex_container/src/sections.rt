@@ -1,7 +1,7 @@
 // Where the header says that tables and data stand: faults 10 and 11.
 ghost use Rattle.std.specs.Prelude.{◌≡◌, ◌<◌, ◌≤◌, ◌↔◌, length, IsTrue, OnOk, IfErr};
 ghost use Rattle.dex_container.specs.Frame.{HeaderHolds, SumsHold, SectionsHold, SectionHolds};
-ghost use Rattle.dex_container.specs.Faults.{IsFirst};
+ghost use Rattle.dex_container.specs.Faults.{IsFrameFault};
 
 use crate::fields::{offset_of, row_bytes, size_of};
 use dex_base::{Fault, fault};
@@ -23,7 +23,7 @@ pub fn check_sections(bytes: &[u8]) -> Result<(), Fault>
     requires header { HeaderHolds bytes.now }
     requires sums { SumsHold bytes.now }
     ensures ok { OnOk result (SectionsHold bytes.now) }
-    ensures err { IfErr result (IsFirst bytes.now) }
+    ensures err { IfErr result (IsFrameFault bytes.now) }
 {
     for k in 0..7 {
         if !section_holds(bytes, k) {

@@ -1,7 +1,7 @@
 // Checksum and signature: faults 8 and 9.
 ghost use Rattle.std.specs.Prelude.{◌≡◌, ◌≤◌, ◌↔◌, IsTrue, length, OnOk, IfErr};
 ghost use Rattle.dex_container.specs.Frame.{HeaderHolds, SumsHold, HasChecksum, HasSignature};
-ghost use Rattle.dex_container.specs.Faults.{IsFirst};
+ghost use Rattle.dex_container.specs.Faults.{IsFrameFault};
 
 use dex_base::{Fault, adler32, fault, u32_at};
 use sha1::Sha1;
@@ -28,7 +28,7 @@ fn has_signature(bytes: &[u8]) -> bool
 pub fn check_sums(bytes: &[u8]) -> Result<(), Fault>
     requires { HeaderHolds bytes.now }
     ensures ok { OnOk result (SumsHold bytes.now) }
-    ensures err { IfErr result (IsFirst bytes.now) }
+    ensures err { IfErr result (IsFrameFault bytes.now) }
 {
     if !has_checksum(bytes) {
         return Err(Fault::at(fault::CHECKSUM, 8));

@@ -89,7 +89,8 @@ pub fn proto<'a>(arena: &'a Bump, said: &str) -> Result<Option<Proto<'a>>, Fault
     }
 }
 
-/// The field that a text spells: `C->n:T`; none where it is of another form or one of its parts isn't well formed.
+/// The field that a text spells: `C->n:T`; none where it is of another form or one of its parts isn't well formed. It may still be one
+/// that no file has, as `V->n:V`: `well_formed` tells (110).
 ///
 /// ```
 /// use bumpalo::Bump;
@@ -109,7 +110,8 @@ pub fn field<'a>(arena: &'a Bump, said: &str) -> Result<Option<FieldRef<'a>>, Fa
     }
 }
 
-/// The method that a text spells: `C->n(P..)R`; none where it is of another form or one of its parts isn't well formed.
+/// The method that a text spells: `C->n(P..)R`; none where it is of another form or one of its parts isn't well formed. It may still be
+/// one that no file has, as `V->n()V`: `well_formed` tells (110).
 ///
 /// ```
 /// use bumpalo::Bump;

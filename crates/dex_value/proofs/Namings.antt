@@ -6,7 +6,7 @@ use Rattle.tables_rows.specs.Names.{Names, NameIsAt}
 use Rattle.dex_value.specs.declared.types.NameType.{NameType}
 use Rattle.dex_value.specs.declared.types.NameType.TheVariants as named
 use Rattle.dex_value.specs.Faults.{IsOfType}
-use Rattle.dex_value.specs.Reading.{name_code, kind_of, IsNamed, IsNumber, ValueStands}
+use Rattle.dex_value.specs.Reading.{name_code, kind_of, IsName, IsNumber, ValueStands}
 use Rattle.dex_value.specs.Spelling.{type_of, unsigned_of}
 use Rattle.dex_value.specs.Unique.{IsFunctional}
 
@@ -30,7 +30,7 @@ kind_of_type named.Enum (OfField n) e = tt
 kind_of_type _ _ e = absurd (omega (arith, e))
 
 -- a name of a value stands where its index is that of the bytes
-pub named_stands : (N : ℕ → Name → Type 0) (type : ℕ) (low : List ℕ) (which : Name) (v : Value) → IsNamed type which v → N (unsigned_of low) which → ValueStands N type low v
+pub named_stands : (N : ℕ → Name → Type 0) (type : ℕ) (low : List ℕ) (which : Name) (v : Value) → IsName type which v → N (unsigned_of low) which → ValueStands N type low v
 named_stands N type low which (Named other) s n = (s.0 ∙ ap type_of (sym s.1), subst (λ (w : Name). N (unsigned_of low) w) (sym s.1) n)
 named_stands N type low which (Enum f) s n = (s.0, subst (λ (w : Name). N (unsigned_of low) w) s.1 n)
 named_stands N type low which _ s n = absurd s

@@ -15,18 +15,18 @@ use Rattle.dex_value.specs.Standing.{Shallow}
 -- The greatest number of bytes behind the head of a value of this type; 0 where no value of the type has any.
 abbrev pub widest_of : ℕ → ℕ
 widest_of type =
-    if type == 0 then 1 else (
-    if type == 2 then 2 else (
-    if type == 3 then 2 else (
-    if type == 4 then 4 else (
-    if type == 6 then 8 else (
-    if type == 16 then 4 else (
-    if type == 17 then 8 else (
-    if type == 23 then 4 else (
-    if type == 24 then 4 else (
-    if type == 25 then 4 else (
-    if type == 26 then 4 else (
-    if type == 27 then 4 else (
+    if type == 0x00 then 1 else (
+    if type == 0x02 then 2 else (
+    if type == 0x03 then 2 else (
+    if type == 0x04 then 4 else (
+    if type == 0x06 then 8 else (
+    if type == 0x10 then 4 else (
+    if type == 0x11 then 8 else (
+    if type == 0x17 then 4 else (
+    if type == 0x18 then 4 else (
+    if type == 0x19 then 4 else (
+    if type == 0x1a then 4 else (
+    if type == 0x1b then 4 else (
     0))))))))))))
 
 -- The head of a value with bytes: of its type, and the argument is in the type's range.
@@ -35,7 +35,7 @@ IsSizedHead head = head / 32 < widest_of (head % 32)
 
 -- The head of an array, null, false or true.
 abbrev pub IsLoneHead : ℕ → Type 0
-IsLoneHead head = (head ≡ 28) ⊎ (head ≡ 30) ⊎ (head ≡ 31) ⊎ (head ≡ 63)
+IsLoneHead head = (head ≡ 0x1c) ⊎ (head ≡ 0x1e) ⊎ (head ≡ 0x1f) ⊎ (head ≡ 0x3f)
 
 -- ---- a value
 
@@ -50,7 +50,7 @@ pub record IsUnknown (bytes : List ℕ) : Type 0 where
 -- Here begins an array, where no depth is left.
 pub record IsTooDeep (limit : ℕ) (bytes : List ℕ) : Type 0 where
   pub rest : List ℕ
-  pub first : bytes ≡ 28 ∷ rest
+  pub first : bytes ≡ 0x1c ∷ rest
   pub none_left : limit ≡ 0
 
 -- The bytes end before the head of a value, ..
@@ -68,13 +68,13 @@ pub record IsCut (bytes : List ℕ) : Type 0 where
 -- .. or the count of an array isn't there.
 pub record HasNoCount (limit : ℕ) (bytes : List ℕ) : Type 0 where
   pub rest : List ℕ
-  pub first : bytes ≡ 28 ∷ rest
+  pub first : bytes ≡ 0x1c ∷ rest
   pub some_left : 0 < limit
   pub none : NoneBegins Spells rest
 
--- The name is of the kind that a value of this type names; VALUE_ENUM (27) names a field (25).
+-- The name is of the kind that a value of this type names; VALUE_ENUM (0x1b) names a field (0x19).
 abbrev pub IsOfType : ℕ → Name → Type 0
-IsOfType type which = type_of which ≡ (if type == 27 then 25 else type)
+IsOfType type which = type_of which ≡ (if type == 0x1b then 0x19 else type)
 
 -- The index of the value that begins here stands for no name.
 pub record NamesNothing (N : ℕ → Name → Type 0) (bytes : List ℕ) : Type 0 where
@@ -82,7 +82,7 @@ pub record NamesNothing (N : ℕ → Name → Type 0) (bytes : List ℕ) : Type 
   pub rest : List ℕ
   pub first : bytes ≡ head ∷ rest
   pub sized : IsSizedHead head
-  pub named : 23 ≤ head % 32
+  pub named : 0x17 ≤ head % 32
   pub whole : head / 32 + 1 ≤ length rest
   pub nothing : (which : Name) → IsOfType (head % 32) which → ¬ N (unsigned_of (take (head / 32 + 1) rest)) which
 
@@ -117,7 +117,7 @@ pub record NextBreaks (G : List ℕ → Value → Type 0) (ArrayBreaksAt : List 
 -- Here begins an array, and behind its count one of its values is wrong.
 pub record InsideBreaks (G : List ℕ → Value → Type 0) (ArrayBreaksAt : List ℕ → Fault → Type 0) (bytes : List ℕ) (fault : Fault) : Type 0 where
   pub rest : List ℕ
-  pub first : bytes ≡ 28 ∷ rest
+  pub first : bytes ≡ 0x1c ∷ rest
   pub n : ℕ
   pub behind : List ℕ
   pub counted : Takes Spells rest n behind

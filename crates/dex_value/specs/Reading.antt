@@ -54,10 +54,10 @@ IsNumber type low (Double bits) = (type ≡ 0x11) × (bits ≡ high_of 8 low)
 IsNumber type low _ = ⊥
 
 -- The value is this name, in a value of this type.
-abbrev pub IsNamed : ℕ → Name → Value → Type 0
-IsNamed type which (Named other) = (type ≡ type_of which) × (other ≡ which)
-IsNamed type which (Enum constant) = (type ≡ 0x1b) × (which ≡ OfField constant)
-IsNamed type which _ = ⊥
+abbrev pub IsName : ℕ → Name → Value → Type 0
+IsName type which (Named other) = (type ≡ type_of which) × (other ≡ which)
+IsName type which (Enum constant) = (type ≡ 0x1b) × (which ≡ OfField constant)
+IsName type which _ = ⊥
 
 -- Behind a head of this type these bytes stand for the value.
 abbrev pub ValueStands : (ℕ → Name → Type 0) → ℕ → List ℕ → Value → Type 0

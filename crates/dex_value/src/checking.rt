@@ -83,8 +83,8 @@ fn check_rest(tables: &Tables<'_>, span: Span, most: usize, bytes: &[u8]) -> Res
     Ok(count)
 }
 
-/// How many values the encoded_array at this byte offset of the file has: refuses what `read_array` refuses, as it does, and takes no
-/// memory, since no value is kept.
+/// How many values the encoded_array at this byte offset of the file has: refuses what `read_array` refuses, with a fault that stands
+/// there too, and takes no memory, since no value is kept.
 ///
 /// ```
 /// use bumpalo::Bump;

@@ -7,7 +7,7 @@ ghost use Rattle.program_types.specs.Kinds.{IsOfKind};
 ghost use Rattle.tables_rows.specs.Names.{NameIsAt};
 ghost use Rattle.dex_value.specs.Spelling.{unsigned_of};
 ghost use Rattle.dex_value.specs.Faults.{IsOfType};
-ghost use Rattle.dex_value.specs.Reading.{name_code, kind_of, IsNamed, ValueStands};
+ghost use Rattle.dex_value.specs.Reading.{name_code, kind_of, IsName, ValueStands};
 
 use crate::numbers::unsigned;
 use crate::types::{NameType, name_kind};
@@ -17,7 +17,7 @@ use tables_rows::Tables;
 /// The name as a value of this type.
 fn name_value<'a>(ty: NameType, name: Name<'a>) -> Value<'a>
     requires { IsOfKind (kind_of ty) (view.name name) }
-    ensures { IsNamed (name_code ty) (view.name name.entry) (value result) }
+    ensures { IsName (name_code ty) (view.name name.entry) (value result) }
 {
     match name {
         Name::Text(text) => Value::Text(text),

@@ -90,7 +90,7 @@ fn carry_out(rt: &HostRuntime, planned: Plan<'_>) -> Result<(), RunFault> {
     }
 }
 
-// OUT is opened only when the answer is whole: so it may be FILE, and stays as it was after a failure.
+// OUT is made only behind a run that ended well: so it may be FILE, and stays as it was after a failure.
 fn read_from<R: Source>(rt: &HostRuntime, planned: Plan<'_>, input: &mut R) -> Result<(), RunFault>
     requires works { R.failed input.old ≡ false }
     requires goes_on { R.ended input.old ≡ false }

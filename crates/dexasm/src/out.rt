@@ -13,21 +13,21 @@ const NAMES: u32 = 100;
 enum Place {
     // Nothing was opened: no piece has come yet.
     Unopened,
-    // OUT itself.
-    Itself(File),
+    // OUT itself, and the pieces that it is to get.
+    Itself(Vec<u8>),
     // A file beside OUT, by its name, and the name that it is to have.
     Beside(File, String, String),
 }
 
-// OUT as a writer. It is opened when the first piece comes, and `run` hands over none before the answer is whole: so OUT may be
-// FILE, and until then nothing of the user's has changed.
+// OUT as a writer. Where the answer goes is looked for when the first piece comes, which `run` hands over when the answer is
+// whole; OUT itself is made or emptied only behind `run`, when that has answered Ok: so OUT may be FILE.
 #[derive(Drop)]
 pub(crate) struct Out<'p> {
     rt: &'p HostRuntime,
     path: &'p str,
     place: Place,
-    // Why OUT was not opened, where that is why a piece was not taken.
-    unopened: Option<RunFault>,
+    // Why a piece was not taken, where no file was opened or there was no memory to keep it.
+    untaken: Option<RunFault>,
 }
 
 impl<'p> Out<'p> {
@@ -36,7 +36,7 @@ impl<'p> Out<'p> {
             rt,
             path,
             place: Place::Unopened,
-            unopened: None,
+            untaken: None,
         }
     }
 
@@ -44,19 +44,19 @@ impl<'p> Out<'p> {
     pub(crate) fn close(self, done: Result<(), RunFault>) -> Result<(), RunFault> {
         let Out {
             rt,
-            path: _,
+            path,
             place,
-            unopened,
+            untaken,
         } = self;
+        if let Some(fault) = untaken {
+            return Err(fault);
+        }
         match place {
-            Place::Unopened => match unopened {
-                Some(fault) => Err(fault),
-                // (no answer is empty)
-                None => done,
-            },
-            Place::Itself(file) => {
+            // (no answer is empty)
+            Place::Unopened => done,
+            Place::Itself(answer) => {
                 done?;
-                finish(file)
+                write_itself(rt, path, answer.as_slice())
             }
             Place::Beside(file, beside, name) => {
                 let kept = done.and_then(|()| finish(file)).and_then(|()| {
@@ -76,12 +76,18 @@ impl Write for Out<'_> {
         if let Place::Unopened = self.place {
             match open(self.rt, self.path) {
                 Ok(place) => self.place = place,
-                Err(fault) => self.unopened = Some(fault),
+                Err(fault) => self.untaken = Some(fault),
             }
         }
         match &mut self.place {
             Place::Unopened => Err(io::Error::from(ErrorKind::Other)),
-            Place::Itself(file) => file.write(piece),
+            Place::Itself(answer) => {
+                if answer.extend_from_slice(piece).is_err() {
+                    self.untaken = Some(RunFault::Memory);
+                    return Err(io::Error::from(ErrorKind::Other));
+                }
+                Ok(piece.len())
+            }
             Place::Beside(file, _, _) => file.write(piece),
         }
     }
@@ -105,7 +111,7 @@ fn open(rt: &HostRuntime, path: &str) -> Result<Place, RunFault> {
         Err(_) => Err(RunFault::Output),
         Ok(there) if there.is_symlink() => match fs::canonicalize(rt, path) {
             Ok(target) => open_over(rt, target.as_str()),
-            Err(_) => open_itself(rt, path),
+            Err(_) => Ok(itself(rt)),
         },
         Ok(_) => open_over(rt, path),
     }
@@ -121,15 +127,19 @@ fn open_over(rt: &HostRuntime, path: &str) -> Result<Place, RunFault> {
                 Err(_) => Err(RunFault::Output),
             }
         }
-        _ => open_itself(rt, path),
+        _ => Ok(itself(rt)),
     }
 }
 
-fn open_itself(rt: &HostRuntime, path: &str) -> Result<Place, RunFault> {
-    match File::create(rt, path) {
-        Ok(file) => Ok(Place::Itself(file)),
-        Err(_) => Err(RunFault::Output),
-    }
+fn itself(rt: &HostRuntime) -> Place {
+    Place::Itself(Vec::new(rt.alloc()))
+}
+
+// Writes the answer to what is at this path, or makes it.
+fn write_itself(rt: &HostRuntime, path: &str, answer: &[u8]) -> Result<(), RunFault> {
+    let mut file = File::create(rt, path).map_err(|_| RunFault::Output)?;
+    file.write_all(answer).map_err(|_| RunFault::Output)?;
+    finish(file)
 }
 
 // A new file beside the path, with the mode and the owner of what is there.
@@ -150,7 +160,7 @@ fn open_beside(rt: &HostRuntime, path: &str, there: Option<Metadata>) -> Result<
                 return Ok(Place::Beside(file, beside, name));
             }
             Err(error) if error.kind() == ErrorKind::AlreadyExists => {}
-            Err(error) if is_closed(&error) => return open_itself(rt, path),
+            Err(error) if is_closed(&error) => return Ok(itself(rt)),
             Err(_) => return Err(RunFault::Output),
         }
     }

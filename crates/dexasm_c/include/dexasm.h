@@ -9,8 +9,8 @@
  *   - behind it are as many bytes as the length or the capacity says, and less than 2^63;
  *   - out, needed and fault overlap neither one another nor the bytes that are read, and nobody else writes any of it meanwhile.
  *
- * A call with room for its answer is one call; without, ask with a capacity of 0 (and any pointer) and call again with *needed:
- * that does the work twice.
+ * A call with room for its answer is one call; without, ask with a capacity of 0 (and any pointer but NULL) and call again with
+ * *needed: that does the work twice.
  */
 #ifndef DEXASM_H
 #define DEXASM_H
@@ -31,12 +31,13 @@ typedef uint32_t dexasm_status;
 enum {
   DEXASM_ANSWERED = 0,  /* out[0 .. *needed) is the answer, and behind it out is as it was */
   DEXASM_REFUSED = 1,   /* the bytes are refused with *fault; out is as it was, *needed is 0 */
-  DEXASM_MEMORY = 4,    /* want of memory: fault->code is 255; out is as it was, *needed is 0 */
+  DEXASM_MEMORY = 4,    /* want of memory: *fault is 255 at 0; out is as it was, *needed is 0 */
   DEXASM_TOO_SMALL = 5  /* the answer has *needed bytes, more than the capacity; out is as it was */
 };
 
 /* A rule that is broken: its number, whose name dexasm_fault_name tells, and where: a byte of a file, a line of a listing from 1, or a
- * class of a program from 0 (docs/FORMAT.md). Both are 0 after DEXASM_ANSWERED and DEXASM_TOO_SMALL. */
+ * class of a program from 0; of 80 and 81 how many are needed, of 90 and 255 it is 0 (docs/FORMAT.md). Both are 0 after DEXASM_ANSWERED
+ * and DEXASM_TOO_SMALL. */
 typedef struct dexasm_fault {
   uint16_t code;
   uint64_t place;

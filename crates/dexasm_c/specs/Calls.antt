@@ -1,5 +1,6 @@
 -- What a call leaves in its caller's memory, by how it ended. `old` and `new` are the caller's buffer before and after.
 use Rattle.std.specs.Prelude.{◌≡◌, ◌≢◌, ℕ, ◌<◌, ◌≤◌, List, ◌++◌, length, drop}
+use Rattle.base_bytes.specs.Fault.{memory}
 use Rattle.base_bytes.specs.declared.fault.Fault.{Fault}
 use Rattle.dexasm_job.specs.declared.job.Job.{Job}
 use Rattle.dexasm_job.specs.declared.job.Job.TheVariants.{Check}
@@ -27,7 +28,7 @@ Puts _ made old new needed = ⊥
 -- A fault is told: want of memory, or another one.
 abbrev pub Tells : Ending → Fault → CFault → Type 0
 Tells Refused fault tells = (fault.code ≢ 255) × (told tells ≡ fault)
-Tells Memory fault tells = (fault.code ≡ 255) × (told tells ≡ fault)
+Tells Memory fault tells = (fault.code ≡ 255) × (told tells ≡ memory)
 Tells _ fault tells = ⊥
 
 -- The job's answer to the given bytes is put, or its length is told where it is too long; or the job refuses them with the fault that
@@ -38,11 +39,11 @@ Ends Answered job given old new needed fault =
 Ends TooSmall job given old new needed fault =
     (made : List ℕ) × Answer job given made × Puts TooSmall made old new needed × (fault ≡ none)
 Ends Refused job given old new needed fault = Refusal job given (told fault) × (new ≡ old) × (needed ≡ 0)
-Ends Memory job given old new needed fault = (fault.code ≡ 255) × (new ≡ old) × (needed ≡ 0)
+Ends Memory job given old new needed fault = (told fault ≡ memory) × (new ≡ old) × (needed ≡ 0)
 
 -- The same of a check, whose answer is its ending alone.
 abbrev pub Checks : Ending → List ℕ → CFault → Type 0
 Checks Answered given fault = (made : List ℕ) × Answer Check given made × (fault ≡ none)
 Checks Refused given fault = Refusal Check given (told fault)
-Checks Memory given fault = fault.code ≡ 255
+Checks Memory given fault = told fault ≡ memory
 Checks TooSmall given fault = ⊥

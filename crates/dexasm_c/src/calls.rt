@@ -11,6 +11,12 @@ use std::alloc::Global;
 // No fault.
 const NONE: CFault = CFault { code: 0, place: 0 };
 
+// Want of memory.
+const MEMORY: CFault = CFault {
+    code: 255,
+    place: 0,
+};
+
 // The answer to a job, put into the buffer.
 pub(crate) fn answer_into(
     alloc: Global,
@@ -63,13 +69,13 @@ pub(crate) fn put(made: &[u8], out: &mut [u8], needed: &mut usize) -> Ending
 fn tell(refused: Fault, fault: &mut CFault) -> Ending
     ensures { Tells result refused fault.new }
 {
+    if refused.code == 255 {
+        *fault = MEMORY;
+        return Ending::Memory;
+    }
     *fault = CFault {
         code: refused.code,
         place: refused.place,
     };
-    if refused.code == 255 {
-        Ending::Memory
-    } else {
-        Ending::Refused
-    }
+    Ending::Refused
 }

@@ -28,7 +28,7 @@ use Rattle.code_read.proofs.StandLaws.{NameIsAt-functional as code_names}
 use Rattle.file_classes.specs.ClassRows.{class_word, no_index, IndexOrNone}
 use Rattle.file_classes.specs.ClassData.{FieldEntry, MethodEntry, Entries, steps, index_of, IsRun}
 use Rattle.file_classes.specs.Classes.{IsField, IsMethod, SomeCodeStands}
-use Rattle.file_classes.specs.ClassFaults.{EntryBreaks, FieldOwner, MethodOwner, OneBreaks, ClassBreaks, ClassHolds, ValuesHold, ValuesBreak, SomeBodyStands, BodyHolds, BodyFails, CodeHolds, RegistersFail, CodesHold, CodesBreak, MethodsHold, MethodsBreak, BodiesHold, BodiesBreak, RegistersHold, RegistersBreak}
+use Rattle.file_classes.specs.ClassFaults.{EntryBreaks, FieldOwner, MethodOwner, OneBreaks, ClassRowBreaks, ClassRowHolds, ValuesHold, ValuesBreak, SomeBodyStands, BodyHolds, BodyFails, CodeHolds, RegistersFail, EachCodeHolds, SomeCodeFails, MethodsHold, MethodsBreak, BodiesHold, BodiesBreak, RowRegistersHold, RowRegistersBreak}
 use Rattle.file_classes.proofs.EntryLaws.{entries_one, entry_at, at_some}
 
 -- a fact of this number, or of another
@@ -65,7 +65,7 @@ index_some S i None not is = absurd (not is)
 index_some S i (Some n) not is = (n, refl, is.1)
 
 module _ (b : List ℕ) (framed : IsFramed b) where
-  pub class_clear : (i code : ℕ) → ClassHolds b i → ClassBreaks b code i → ⊥
+  pub class_clear : (i code : ℕ) → ClassRowHolds b i → ClassRowBreaks b code i → ⊥
   class_clear i code h =
       let r = h.head.row in
       on_cases code 40 _ _ ⊥ (λ none. elim none [
@@ -152,14 +152,14 @@ module _ (b : List ℕ) (framed : IsFramed b) where
 
   -- and so of both passes
   module _ (Holds : List ℕ → ℕ → Type 0) (Fails : List ℕ → ℕ → Fault → Type 0) (clear : (place : ℕ) (e : Fault) → Holds b place → Fails b place e → ⊥) where
-    codes_clear : (es : List MethodEntry) (e : Fault) → CodesHold Holds b es → CodesBreak Holds Fails b es e → ⊥
+    codes_clear : (es : List MethodEntry) (e : Fault) → EachCodeHolds Holds b es → SomeCodeFails Holds Fails b es e → ⊥
     codes_clear es e h m = clear m.numbers.1.1 e (h m.entry m.numbers m.there) m.fails
 
     both_clear : (i : ℕ) (e : Fault) → MethodsHold Holds b i → MethodsBreak Holds Fails b i e → ⊥
     both_clear i e h m =
         let same = entries_one b framed (class_word b i 6) h.entries m.entries h.class_data m.class_data in
-        let directs = subst (λ (x : Entries). CodesHold Holds b x.directs) same h.directs in
-        let virtuals = subst (λ (x : Entries). CodesHold Holds b x.virtuals) same h.virtuals in
+        let directs = subst (λ (x : Entries). EachCodeHolds Holds b x.directs) same h.directs in
+        let virtuals = subst (λ (x : Entries). EachCodeHolds Holds b x.virtuals) same h.virtuals in
         elim m.breaks [
           | inl p ↦ codes_clear m.entries.directs e directs p
           | inr p ↦ codes_clear m.entries.virtuals e virtuals p.1
@@ -168,5 +168,5 @@ module _ (b : List ℕ) (framed : IsFramed b) where
   pub bodies_clear : (i : ℕ) (e : Fault) → BodiesHold b i → BodiesBreak b i e → ⊥
   bodies_clear = both_clear BodyHolds BodyFails body_clear
 
-  pub methods_clear : (i : ℕ) (e : Fault) → RegistersHold b i → RegistersBreak b i e → ⊥
+  pub methods_clear : (i : ℕ) (e : Fault) → RowRegistersHold b i → RowRegistersBreak b i e → ⊥
   methods_clear = both_clear CodeHolds RegistersFail registers_clear

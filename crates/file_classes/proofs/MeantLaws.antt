@@ -5,7 +5,7 @@ use Rattle.program_types.specs.Content.{Units, Code, Method, Class}
 use Rattle.file_classes.specs.ClassRows.{class_word}
 use Rattle.file_classes.specs.ClassData.{MethodEntry, Entries, steps, index_of, IsRun}
 use Rattle.file_classes.specs.Classes.{IsMethod, StaticsAt, CodeAt, CodesAre, SpellsClass}
-use Rattle.file_classes.specs.ClassFaults.{ClassHolds, ValuesHold, CodeHolds, CodesHold, RegistersHold}
+use Rattle.file_classes.specs.ClassFaults.{ClassRowHolds, ValuesHold, CodeHolds, EachCodeHolds, RowRegistersHold}
 use Rattle.file_classes.proofs.EntryLaws.{entry_at, entries_one}
 
 -- a list of n values, each with what it must have
@@ -24,7 +24,7 @@ module _ (b : List ℕ) (framed : IsFramed b) where
   abbrev IsWhole : Units → List MethodEntry → ℕ → Method → Type 0
   IsWhole class es k v = (e : MethodEntry) → slice_get es k ≡ Some e → IsMethod b class (index_of (steps es) k) e v × CodeAt b e.1.1 v.code
 
-  with_codes : (class : Units) (es : List MethodEntry) (ms : List Method) → IsRun (IsMethod b class) es ms → CodesHold CodeHolds b es → (vs : List Method) × IsRun (IsMethod b class) es vs × CodesAre b es vs
+  with_codes : (class : Units) (es : List MethodEntry) (ms : List Method) → IsRun (IsMethod b class) es ms → EachCodeHolds CodeHolds b es → (vs : List Method) × IsRun (IsMethod b class) es vs × CodesAre b es vs
   with_codes class es ms run hold =
       let built = build (IsWhole class es) (length es) one in
       (built.0, record { count = built.1; each = (λ k e v at_e at_v. (built.2 k v at_v e at_e).0); rises = run.rises }, λ k e v at_e at_v. (built.2 k v at_v e at_e).1)
@@ -43,14 +43,14 @@ module _ (b : List ℕ) (framed : IsFramed b) where
           let c = hold k e.0 e.1 in
           (record { name = m.0.name; proto = m.0.proto; flags = m.0.flags; code = c.0 }, whole k e.0 m.0 c.0 e.1 (run.each k e.0 m.0 e.1 m.1) c.1)
 
-  pub class_meant : (i : ℕ) → ClassHolds b i → ValuesHold b i → RegistersHold b i → (c : Class) × SpellsClass b i c
+  pub class_meant : (i : ℕ) → ClassRowHolds b i → ValuesHold b i → RowRegistersHold b i → (c : Class) × SpellsClass b i c
   class_meant i h v m =
       let same = entries_one b framed (class_word b i 6) v.1.entries h.entries v.1.class_data h.head.class_data in
       let other = entries_one b framed (class_word b i 6) m.entries h.entries m.class_data h.head.class_data in
       let ms = h.head.members in
       let c = h.class in
-      let directs = with_codes c.ty h.entries.directs c.directs ms.directs (subst (λ (x : Entries). CodesHold CodeHolds b x.directs) other m.directs) in
-      let virtuals = with_codes c.ty h.entries.virtuals c.virtuals ms.virtuals (subst (λ (x : Entries). CodesHold CodeHolds b x.virtuals) other m.virtuals) in (
+      let directs = with_codes c.ty h.entries.directs c.directs ms.directs (subst (λ (x : Entries). EachCodeHolds CodeHolds b x.directs) other m.directs) in
+      let virtuals = with_codes c.ty h.entries.virtuals c.virtuals ms.virtuals (subst (λ (x : Entries). EachCodeHolds CodeHolds b x.virtuals) other m.virtuals) in (
         record { ty = c.ty; flags = c.flags; superclass = c.superclass; interfaces = c.interfaces; source = c.source; statics = c.statics; values = v.0; instances = c.instances; directs = directs.0; virtuals = virtuals.0 },
         record {
           entries = h.entries;

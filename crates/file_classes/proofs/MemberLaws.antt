@@ -14,7 +14,7 @@ use Rattle.program_types.specs.Content.{Method}
 use Rattle.tables_rows.specs.RowFields.{row_place}
 use Rattle.tables_rows.specs.TableFaults.{BreaksAt}
 use Rattle.file_classes.specs.ClassRows.{class_word}
-use Rattle.file_classes.specs.ClassFaults.{EntryBreaks, OneBreaks, MemberBreaks, ClassBreaks}
+use Rattle.file_classes.specs.ClassFaults.{EntryBreaks, OneBreaks, MemberBreaks, ClassRowBreaks}
 use Rattle.file_classes.proofs.EntryLaws.{entry_at}
 use Rattle.file_classes.specs.Reading.{bare, HaveCodes, IsBare, IndexFails, EntriesFail}
 use Rattle.file_classes.specs.declared.members.Bare.{Bare}
@@ -22,7 +22,7 @@ use Rattle.file_classes.specs.Classes.{IsField, IsMethod, RowIs, InterfacesAt, H
 use Rattle.file_classes.specs.declared.heads.Head.{Head}
 use Rattle.file_classes.specs.Reading.{head, IsHead}
 use Rattle.file_classes.specs.ClassRows.{InOrder}
-use Rattle.file_classes.specs.ClassFaults.{ClassHolds}
+use Rattle.file_classes.specs.ClassFaults.{ClassRowHolds}
 use Rattle.program_types.specs.View.{desc, str, member, method_ref}
 
 -- a fact of this number, or of another, and what follows from it
@@ -130,7 +130,7 @@ one_code b class code e (inr (inr (inl p))) = entry_code _ _ _ code _ p
 one_code b class code e (inr (inr (inr p))) = entry_code _ _ _ code _ p
 
 -- what breaks in one of the lists breaks in the row
-pub member_breaks : (b : List ℕ) (i : ℕ) (e : Entries) (class : Units) (fault : Fault) → EntriesAt b (class_word b i 6) e → TypeStands b (class_word b i 0) class → OneBreaks b class fault.code e → fault.place ≡ row_place b 5 i → BreaksAt ClassBreaks b 5 i fault
+pub member_breaks : (b : List ℕ) (i : ℕ) (e : Entries) (class : Units) (fault : Fault) → EntriesAt b (class_word b i 6) e → TypeStands b (class_word b i 0) class → OneBreaks b class fault.code e → fault.place ≡ row_place b 5 i → BreaksAt ClassRowBreaks b 5 i fault
 member_breaks b i e class fault at ty breaks place =
     let code = fault.code in
     let ge : 45 ≤ code = one_code b class code e breaks in
@@ -192,5 +192,5 @@ module _ (b : List ℕ) (i : ℕ) (e : Entries) (h : Head) (row : RowIs b i (des
     virtuals = bares_codes b (desc h.ty) e.virtuals h.virtuals.now members.virtuals;
   }
 
-  pub head_holds : InOrder b i → ClassHolds b i
+  pub head_holds : InOrder b i → ClassRowHolds b i
   head_holds order = record { entries = e; class = head h; head = is_head; order = order }

@@ -26,7 +26,7 @@ use Rattle.tables_rows.proofs.RowReading.{slice_get-push}
 use Rattle.file_classes.specs.ClassData.{MethodEntry, Entries, steps, index_of, IsRun}
 use Rattle.file_classes.specs.ClassRows.{class_word}
 use Rattle.file_classes.specs.Classes.{IsMethod, StaticsAt, CodeAt, SomeCodeStands, SpellsClass}
-use Rattle.file_classes.specs.ClassFaults.{ValuesStand, SomeBodyStands, BodyAt, BodyHolds, BodyFails, CodeHolds, RegistersFail, CodesHold, CodesBreak, MethodsHold, MethodsBreak, BodiesHold, RegistersHold, RegistersBreak}
+use Rattle.file_classes.specs.ClassFaults.{ValuesStand, SomeBodyStands, BodyAt, BodyHolds, BodyFails, CodeHolds, RegistersFail, EachCodeHolds, SomeCodeFails, MethodsHold, MethodsBreak, BodiesHold, RowRegistersHold, RowRegistersBreak}
 use Rattle.file_classes.specs.Reading.{bare, head, HaveCodes, IsHead, IsDone, AreDone, BaresHold, BaresBreak, BaresUpTo, RowsUpTo, BodiesAre, SpellsBodies}
 use Rattle.file_classes.specs.declared.members.Bare.{Bare}
 use Rattle.file_classes.specs.declared.heads.Head.{Head}
@@ -72,12 +72,12 @@ module _ (b : List ℕ) (ms : List Bare) where
         subst (λ (n : ℕ). BodyAt b n v.code) (codes k e m.0 at_e m.1) (done.each k m.0 v m.1 at_v).code
 
     module _ (Holds : List ℕ → ℕ → Type 0) where
-      pub bares_hold : ((k : ℕ) (m : Bare) → k < length ms → slice_get ms k ≡ Some m → Holds b m.code) → CodesHold Holds b es
+      pub bares_hold : ((k : ℕ) (m : Bare) → k < length ms → slice_get ms k ≡ Some m → Holds b m.code) → EachCodeHolds Holds b es
       bares_hold all k e at_e =
           let m = other k e at_e in
           subst (λ (n : ℕ). Holds b n) (codes k e m.0 at_e m.1) (all k m.0 (slice_get_within ms k m.0 m.1) m.1)
 
-      pub codes_break : (Fails : List ℕ → ℕ → Fault → Type 0) (e : Fault) → BaresBreak Holds Fails b ms e → CodesBreak Holds Fails b es e
+      pub codes_break : (Fails : List ℕ → ℕ → Fault → Type 0) (e : Fault) → BaresBreak Holds Fails b ms e → SomeCodeFails Holds Fails b es e
       codes_break Fails e f =
           let x = same f.entry f.one f.there in
           record {
@@ -88,7 +88,7 @@ module _ (b : List ℕ) (ms : List Bare) where
             before = λ k y lt at. let m = other k y at in subst (λ (n : ℕ). Holds b n) (codes k y m.0 at m.1) (f.before k m.0 lt m.1);
           }
 
-    pub done_hold : (vs : List Method) → AreDone b ms (length ms) vs → CodesHold BodyHolds b es
+    pub done_hold : (vs : List Method) → AreDone b ms (length ms) vs → EachCodeHolds BodyHolds b es
     done_hold vs done = bares_hold BodyHolds (λ k m lt at. done.hold k m lt at)
 
     pub done_run : (class : Units) (vs : List Method) → IsRun (IsMethod b class) es (map bare ms) → AreDone b ms (length ms) vs → IsRun (IsMethod b class) es vs
@@ -164,30 +164,30 @@ module _ (b : List ℕ) (framed : IsFramed b) (i : ℕ) (h : Head) (is : IsHead 
 -- what the class keeps of the first fault of its registers: that of its direct methods, else that of its virtual ones
 module _ (b : List ℕ) (framed : IsFramed b) (i : ℕ) (h : Head) (is : IsHead b i h) where
   pub class_kept : (d v r : Option Fault) → BaresUpTo CodeHolds RegistersFail b h.directs.now (length h.directs.now) d → BaresUpTo CodeHolds RegistersFail b h.virtuals.now (length h.virtuals.now) v
-      → IfSome d (λ e. r ≡ Some e) → IfNone d (r ≡ v) → IfNone r (RegistersHold b i) × IfSome r (RegistersBreak b i)
-  class_kept None v r direct virtual kept next = subst (λ (o : Option Fault). IfNone o (RegistersHold b i) × IfSome o (RegistersBreak b i)) (sym next) (last v virtual.none virtual.some)
+      → IfSome d (λ e. r ≡ Some e) → IfNone d (r ≡ v) → IfNone r (RowRegistersHold b i) × IfSome r (RowRegistersBreak b i)
+  class_kept None v r direct virtual kept next = subst (λ (o : Option Fault). IfNone o (RowRegistersHold b i) × IfSome o (RowRegistersBreak b i)) (sym next) (last v virtual.none virtual.some)
     where
-      last : (o : Option Fault) → IfNone o ((k : ℕ) (m : Bare) → k < length h.virtuals.now → slice_get h.virtuals.now k ≡ Some m → CodeHolds b m.code) → IfSome o (BaresBreak CodeHolds RegistersFail b h.virtuals.now) → IfNone o (RegistersHold b i) × IfSome o (RegistersBreak b i)
+      last : (o : Option Fault) → IfNone o ((k : ℕ) (m : Bare) → k < length h.virtuals.now → slice_get h.virtuals.now k ≡ Some m → CodeHolds b m.code) → IfSome o (BaresBreak CodeHolds RegistersFail b h.virtuals.now) → IfNone o (RowRegistersHold b i) × IfSome o (RowRegistersBreak b i)
       last None n s = (all_hold b framed i h is CodeHolds direct.none n, tt)
       last (Some e) n s = (tt, virtuals_break b framed i h is CodeHolds RegistersFail e direct.none s)
-  class_kept (Some e) v r direct virtual kept next = subst (λ (o : Option Fault). IfNone o (RegistersHold b i) × IfSome o (RegistersBreak b i)) (sym kept) (tt, directs_break b framed i h is CodeHolds RegistersFail e direct.some)
+  class_kept (Some e) v r direct virtual kept next = subst (λ (o : Option Fault). IfNone o (RowRegistersHold b i) × IfSome o (RowRegistersBreak b i)) (sym kept) (tt, directs_break b framed i h is CodeHolds RegistersFail e direct.some)
 
 -- one row more, whose registers hold or are the first that don't
 module _ (b : List ℕ) where
   pub rows_none : RowsUpTo b 0 None
   rows_none = record { none = λ i lt. absurd (omega (arith, lt)); some = tt }
 
-  rows_more : (n : ℕ) (o : Option Fault) → n < size_of b 5 → RowsUpTo b n None → IfNone o (RegistersHold b n) → IfSome o (RegistersBreak b n) → RowsUpTo b (n + 1) o
+  rows_more : (n : ℕ) (o : Option Fault) → n < size_of b 5 → RowsUpTo b n None → IfNone o (RowRegistersHold b n) → IfSome o (RowRegistersBreak b n) → RowsUpTo b (n + 1) o
   rows_more n None lt u h f = record {
     none = λ i l. elim (cases_lt i n) [
       | inl before ↦ u.none i before
-      | inr ge ↦ let same : n ≡ i = omega (arith, l, ge) in subst (λ (j : ℕ). RegistersHold b j) same h
+      | inr ge ↦ let same : n ≡ i = omega (arith, l, ge) in subst (λ (j : ℕ). RowRegistersHold b j) same h
     ];
     some = tt;
   }
-  rows_more n (Some e) lt u h f = record { none = tt; some = first_class RegistersBreak RegistersHold b n e lt u.none f }
+  rows_more n (Some e) lt u h f = record { none = tt; some = first_class RowRegistersBreak RowRegistersHold b n e lt u.none f }
 
-  pub rows_turn : (n : ℕ) (o next r : Option Fault) → IfSome o (λ e. r ≡ Some e) → IfNone o (r ≡ next) → n < size_of b 5 → RowsUpTo b n o → IfNone next (RegistersHold b n) → IfSome next (RegistersBreak b n) → RowsUpTo b (n + 1) r
+  pub rows_turn : (n : ℕ) (o next r : Option Fault) → IfSome o (λ e. r ≡ Some e) → IfNone o (r ≡ next) → n < size_of b 5 → RowsUpTo b n o → IfNone next (RowRegistersHold b n) → IfSome next (RowRegistersBreak b n) → RowsUpTo b (n + 1) r
   rows_turn n None next r kept is lt u h f = subst (λ (x : Option Fault). RowsUpTo b (n + 1) x) (sym is) (rows_more n next lt u h f)
   rows_turn n (Some e) next r kept is lt u h f = subst (λ (x : Option Fault). RowsUpTo b (n + 1) x) (sym kept) (record { none = tt; some = u.some })
 
@@ -267,7 +267,7 @@ module _ (b : List ℕ) (names : Names) (are : AreNamesOf b names) (off : ℕ) (
   registers_fail_at (Some e) h = record { some = some; names = names; of_file = are; breaks = record { code = code; body = stands; breaks = h } }
 
 -- a class that a row spells keeps the rules of code
-pub methods_hold : (b : List ℕ) (i : ℕ) (c : Class) → SpellsClass b i c → RegistersHold b i
+pub methods_hold : (b : List ℕ) (i : ℕ) (c : Class) → SpellsClass b i c → RowRegistersHold b i
 methods_hold b i c s =
     let ms = s.head.members in
     record {
@@ -296,7 +296,7 @@ code_body_holds b place h = (h.0, by (place == 0) h.1)
     by true e = e
     by false s = record { some = s.some; is = s.is; stands = code_body (NameStands b) b place s.some s.stands }
 
-pub registers_bodies : (b : List ℕ) (i : ℕ) → RegistersHold b i → BodiesHold b i
+pub registers_bodies : (b : List ℕ) (i : ℕ) → RowRegistersHold b i → BodiesHold b i
 registers_bodies b i h = record {
   entries = h.entries;
   class_data = h.class_data;
@@ -315,11 +315,11 @@ module _ (b : List ℕ) (framed : IsFramed b) where
           let same = body_one (NameStands b) (one_of_kind b framed) b framed place g.some s.some (code_body (NameStands b) b place g.some g.stands) s.stands in
           record { some = s.some; is = s.is; stands = subst (λ (c : Code). CodeStands (NameStands b) b place c) same g.stands }
 
-  pub spelled_full : (i : ℕ) (c : Class) → SpellsBodies b i c → RegistersHold b i → SpellsClass b i c
+  pub spelled_full : (i : ℕ) (c : Class) → SpellsBodies b i c → RowRegistersHold b i → SpellsClass b i c
   spelled_full i c s h =
       let same = entries_one b framed (class_word b i 6) h.entries s.entries h.class_data s.head.class_data in
-      let directs = subst (λ (x : Entries). CodesHold CodeHolds b x.directs) same h.directs in
-      let virtuals = subst (λ (x : Entries). CodesHold CodeHolds b x.virtuals) same h.virtuals in
+      let directs = subst (λ (x : Entries). EachCodeHolds CodeHolds b x.directs) same h.directs in
+      let virtuals = subst (λ (x : Entries). EachCodeHolds CodeHolds b x.virtuals) same h.virtuals in
       record {
         entries = s.entries;
         head = s.head;
@@ -329,7 +329,7 @@ module _ (b : List ℕ) (framed : IsFramed b) where
       }
 
   -- where the registers of all rows hold, the rows spell the classes
-  pub all_spelled : (n : ℕ) (cs : List Class) → n ≡ size_of b 5 → AreFirst SpellsBodies BodiesHold b n cs → RowsHold RegistersHold b n → AreRows SpellsClass b 5 cs
+  pub all_spelled : (n : ℕ) (cs : List Class) → n ≡ size_of b 5 → AreFirst SpellsBodies BodiesHold b n cs → RowsHold RowRegistersHold b n → AreRows SpellsClass b 5 cs
   all_spelled n cs e first hold = record {
     count = first.count ∙ e;
     each = λ i c at. spelled_full i c (first.each i c at) (hold i (let w = slice_get_within cs i c at in let k = first.count in omega (arith, w, k)));

@@ -13,6 +13,18 @@ FieldEntry = ℕ × ℕ
 abbrev pub MethodEntry : Type 0
 MethodEntry = ℕ × (ℕ × ℕ)
 
+-- the flags of a field
+abbrev pub field_flags : FieldEntry → ℕ
+field_flags e = e.1
+
+-- the flags of a method
+abbrev pub method_flags : MethodEntry → ℕ
+method_flags e = e.1.0
+
+-- the offset of a method's code
+abbrev pub code_off : MethodEntry → ℕ
+code_off e = e.1.1
+
 -- the four lists
 pub record Entries : Type 0 where
   pub statics : List FieldEntry

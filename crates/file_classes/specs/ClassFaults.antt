@@ -7,6 +7,7 @@ use Rattle.dex_base.specs.Descriptor.{IsClass}
 use Rattle.dex_container.specs.Layout.{size_of}
 use Rattle.dex_container.specs.Frame.{IsFramed}
 use Rattle.dex_container.specs.Faults.{on}
+use Rattle.dex_container.specs.Section as section
 use Rattle.program_types.specs.Content.{Units, FieldRef, MethodRef, Value, Code, Class}
 use Rattle.tables_rows.specs.RowFields.{row_place}
 use Rattle.tables_rows.specs.Names.{Names, AreNamesOf, NameIsAt}
@@ -16,8 +17,8 @@ use Rattle.tables_rows.specs.TableFaults.{IsFirstRow}
 use Rattle.dex_value.specs.Faults.{ArrayBreaksAt}
 use Rattle.code_read.specs.Code.{BodyStands}
 use Rattle.code_read.specs.Faults.{CodeBreaks, CodeOverruns}
-use Rattle.file_classes.specs.ClassRows.{class_word, no_index, InOrder}
-use Rattle.file_classes.specs.ClassData.{MethodEntry, Entries, EntriesAt, steps, index_of}
+use Rattle.file_classes.specs.ClassRows.{no_index, InOrder, class_data_off, class_idx, interfaces_off, source_file_idx, static_values_off, superclass_idx}
+use Rattle.file_classes.specs.ClassData.{MethodEntry, Entries, EntriesAt, steps, index_of, code_off}
 use Rattle.file_classes.specs.Classes.{InterfacesAt, HeadIs, StaticsAt, CodeAt}
 
 -- ---- class rows
@@ -25,9 +26,9 @@ use Rattle.file_classes.specs.Classes.{InterfacesAt, HeadIs, StaticsAt, CodeAt}
 -- 40: an index out of its table
 abbrev pub HasNoName : List ℕ → ℕ → Type 0
 HasNoName b i =
-    (size_of b 1 ≤ class_word b i 0)
-    ⊎ ((class_word b i 2 ≢ no_index) × (size_of b 1 ≤ class_word b i 2))
-    ⊎ ((class_word b i 4 ≢ no_index) × (size_of b 0 ≤ class_word b i 4))
+    (size_of b section.type_ids ≤ class_idx b i)
+    ⊎ ((superclass_idx b i ≢ no_index) × (size_of b section.type_ids ≤ superclass_idx b i))
+    ⊎ ((source_file_idx b i ≢ no_index) × (size_of b section.string_ids ≤ source_file_idx b i))
 
 -- 41: class or superclass of another kind
 pub record IsNoClass (b : List ℕ) (index : ℕ) : Type 0 where
@@ -75,47 +76,47 @@ MethodOwner b j t = (m : MethodRef) × MethodStands b j m × (m.class ≡ t)
 -- in one of the four lists
 abbrev pub OneBreaks : List ℕ → Units → ℕ → Entries → Type 0
 OneBreaks b class code e =
-    EntryBreaks (FieldOwner b) (size_of b 3) class code (steps e.statics)
-    ⊎ EntryBreaks (FieldOwner b) (size_of b 3) class code (steps e.instances)
-    ⊎ EntryBreaks (MethodOwner b) (size_of b 4) class code (steps e.directs)
-    ⊎ EntryBreaks (MethodOwner b) (size_of b 4) class code (steps e.virtuals)
+    EntryBreaks (FieldOwner b) (size_of b section.field_ids) class code (steps e.statics)
+    ⊎ EntryBreaks (FieldOwner b) (size_of b section.field_ids) class code (steps e.instances)
+    ⊎ EntryBreaks (MethodOwner b) (size_of b section.method_ids) class code (steps e.directs)
+    ⊎ EntryBreaks (MethodOwner b) (size_of b section.method_ids) class code (steps e.virtuals)
 
 -- 45 to 47 of a row
 pub record MemberBreaks (b : List ℕ) (code i : ℕ) : Type 0 where
   pub entries : Entries
-  pub class_data : EntriesAt b (class_word b i 6) entries
+  pub class_data : EntriesAt b (class_data_off b i) entries
   pub class : Units
-  pub ty : TypeStands b (class_word b i 0) class
+  pub ty : TypeStands b (class_idx b i) class
   pub breaks : OneBreaks b class code entries
 
 -- 40 ClassIndex, 41 ClassKind, 43 InterfaceList, 42 ClassOrder, 44 ClassData, 45 MemberIndex, 46 MemberOwner, 47 MemberOrder
-abbrev pub ClassBreaks : List ℕ → ℕ → ℕ → Type 0
-ClassBreaks b code i =
+abbrev pub ClassRowBreaks : List ℕ → ℕ → ℕ → Type 0
+ClassRowBreaks b code i =
     on code 40 (HasNoName b i) (
-    on code 41 (IsNoClass b (class_word b i 0) ⊎ ((class_word b i 2 ≢ no_index) × IsNoClass b (class_word b i 2))) (
-    on code 43 ((ts : List Units) → ¬ InterfacesAt b (class_word b i 3) ts) (
+    on code 41 (IsNoClass b (class_idx b i) ⊎ ((superclass_idx b i ≢ no_index) × IsNoClass b (superclass_idx b i))) (
+    on code 43 ((ts : List Units) → ¬ InterfacesAt b (interfaces_off b i) ts) (
     on code 42 (¬ InOrder b i) (
-    on code 44 ((e : Entries) → ¬ EntriesAt b (class_word b i 6) e) (
+    on code 44 ((e : Entries) → ¬ EntriesAt b (class_data_off b i) e) (
     MemberBreaks b code i)))))
 
 -- Row i keeps the rules of 40 to 47.
-pub record ClassHolds (b : List ℕ) (i : ℕ) : Type 0 where
+pub record ClassRowHolds (b : List ℕ) (i : ℕ) : Type 0 where
   pub entries : Entries
   pub class : Class
   pub head : HeadIs b i entries class
   pub order : InOrder b i
 
 -- All rows do.
-abbrev pub ClassesHold : List ℕ → Type 0
-ClassesHold b = RowsHold ClassHolds b (size_of b 5)
+abbrev pub ClassRowsHold : List ℕ → Type 0
+ClassRowsHold b = RowsHold ClassRowHolds b (size_of b section.class_defs)
 
 -- ---- static values
 
 -- The static values of row i.
 pub record ValuesStand (b : List ℕ) (i : ℕ) (vs : List Value) : Type 0 where
   pub entries : Entries
-  pub class_data : EntriesAt b (class_word b i 6) entries
-  pub spelled : StaticsAt b (class_word b i 7) (length entries.statics) vs
+  pub class_data : EntriesAt b (class_data_off b i) entries
+  pub spelled : StaticsAt b (static_values_off b i) (length entries.statics) vs
 
 -- Row i has static values.
 abbrev pub ValuesHold : List ℕ → ℕ → Type 0
@@ -128,13 +129,13 @@ at_row place fault = if (fault.code == 48) || (fault.code == 49) then record { c
 -- Row i names an array, and a fault stands in it.
 pub record ValuesBreak (b : List ℕ) (i : ℕ) (fault : Fault) : Type 0 where
   pub entries : Entries
-  pub class_data : EntriesAt b (class_word b i 6) entries
-  pub some : class_word b i 7 ≢ 0
+  pub class_data : EntriesAt b (class_data_off b i) entries
+  pub some : static_values_off b i ≢ 0
   pub names : Names
   pub of_file : AreNamesOf b names
   pub own : Fault
-  pub breaks : ArrayBreaksAt (NameIsAt names) b (class_word b i 7) (length entries.statics) own
-  pub moved : fault ≡ at_row (row_place b 5 i) own
+  pub breaks : ArrayBreaksAt (NameIsAt names) b (static_values_off b i) (length entries.statics) own
+  pub moved : fault ≡ at_row (row_place b section.class_defs i) own
 
 -- ---- code, in two passes: bodies, whichever registers they name (60 to 72), then registers (73)
 
@@ -172,29 +173,29 @@ pub record RegistersFail (b : List ℕ) (place : ℕ) (fault : Fault) : Type 0 w
 
 -- Holds and Fails are what a pass asks at an offset.
 -- Each of these methods holds.
-abbrev pub CodesHold : (List ℕ → ℕ → Type 0) → List ℕ → List MethodEntry → Type 0
-CodesHold Holds b es = (k : ℕ) (e : MethodEntry) → slice_get es k ≡ Some e → Holds b e.1.1
+abbrev pub EachCodeHolds : (List ℕ → ℕ → Type 0) → List ℕ → List MethodEntry → Type 0
+EachCodeHolds Holds b es = (k : ℕ) (e : MethodEntry) → slice_get es k ≡ Some e → Holds b (code_off e)
 
 -- The first of a list that doesn't, and its fault.
-pub record CodesBreak (Holds : List ℕ → ℕ → Type 0) (Fails : List ℕ → ℕ → Fault → Type 0) (b : List ℕ) (es : List MethodEntry) (fault : Fault) : Type 0 where
+pub record SomeCodeFails (Holds : List ℕ → ℕ → Type 0) (Fails : List ℕ → ℕ → Fault → Type 0) (b : List ℕ) (es : List MethodEntry) (fault : Fault) : Type 0 where
   pub entry : ℕ
   pub numbers : MethodEntry
   pub there : slice_get es entry ≡ Some numbers
-  pub fails : Fails b numbers.1.1 fault
-  pub before : (k : ℕ) (e : MethodEntry) → k < entry → slice_get es k ≡ Some e → Holds b e.1.1
+  pub fails : Fails b (code_off numbers) fault
+  pub before : (k : ℕ) (e : MethodEntry) → k < entry → slice_get es k ≡ Some e → Holds b (code_off e)
 
 -- All code of row i holds.
 pub record MethodsHold (Holds : List ℕ → ℕ → Type 0) (b : List ℕ) (i : ℕ) : Type 0 where
   pub entries : Entries
-  pub class_data : EntriesAt b (class_word b i 6) entries
-  pub directs : CodesHold Holds b entries.directs
-  pub virtuals : CodesHold Holds b entries.virtuals
+  pub class_data : EntriesAt b (class_data_off b i) entries
+  pub directs : EachCodeHolds Holds b entries.directs
+  pub virtuals : EachCodeHolds Holds b entries.virtuals
 
 -- The first code of row i that doesn't: direct methods, then virtual ones.
 pub record MethodsBreak (Holds : List ℕ → ℕ → Type 0) (Fails : List ℕ → ℕ → Fault → Type 0) (b : List ℕ) (i : ℕ) (fault : Fault) : Type 0 where
   pub entries : Entries
-  pub class_data : EntriesAt b (class_word b i 6) entries
-  pub breaks : CodesBreak Holds Fails b entries.directs fault ⊎ (CodesHold Holds b entries.directs × CodesBreak Holds Fails b entries.virtuals fault)
+  pub class_data : EntriesAt b (class_data_off b i) entries
+  pub breaks : SomeCodeFails Holds Fails b entries.directs fault ⊎ (EachCodeHolds Holds b entries.directs × SomeCodeFails Holds Fails b entries.virtuals fault)
 
 -- The two passes.
 abbrev pub BodiesHold : List ℕ → ℕ → Type 0
@@ -205,19 +206,19 @@ abbrev pub BodiesBreak : List ℕ → ℕ → Fault → Type 0
 BodiesBreak = MethodsBreak BodyHolds BodyFails
 
 -- The code of row i stands, registers and all.
-abbrev pub RegistersHold : List ℕ → ℕ → Type 0
-RegistersHold = MethodsHold CodeHolds
+abbrev pub RowRegistersHold : List ℕ → ℕ → Type 0
+RowRegistersHold = MethodsHold CodeHolds
 
 -- The registers of a code of row i don't (73).
-abbrev pub RegistersBreak : List ℕ → ℕ → Fault → Type 0
-RegistersBreak = MethodsBreak CodeHolds RegistersFail
+abbrev pub RowRegistersBreak : List ℕ → ℕ → Fault → Type 0
+RowRegistersBreak = MethodsBreak CodeHolds RegistersFail
 
 -- ---- in the order of the groups
 
 -- The fault is that of a class row, and all rows before it hold.
 pub record IsFirstClass (Breaks : List ℕ → ℕ → Fault → Type 0) (Holds : List ℕ → ℕ → Type 0) (b : List ℕ) (fault : Fault) : Type 0 where
   pub row : ℕ
-  pub within : row < size_of b 5
+  pub within : row < size_of b section.class_defs
   pub broken : Breaks b row fault
   pub before : RowsHold Holds b row
 
@@ -225,28 +226,28 @@ pub record IsFirstClass (Breaks : List ℕ → ℕ → Fault → Type 0) (Holds 
 pub record IsClassFault (b : List ℕ) (fault : Fault) : Type 0 where
   pub framed : IsFramed b
   pub tables : TablesHold b
-  pub first : IsFirstRow ClassBreaks ClassHolds b 5 fault
+  pub first : IsFirstRow ClassRowBreaks ClassRowHolds b section.class_defs fault
 
 -- The first of the static values, where all class rows hold too.
 pub record IsValueFault (b : List ℕ) (fault : Fault) : Type 0 where
   pub framed : IsFramed b
   pub tables : TablesHold b
-  pub classes : ClassesHold b
+  pub classes : ClassRowsHold b
   pub first : IsFirstClass ValuesBreak ValuesHold b fault
 
 -- The first of the code, where all static values hold too.
 pub record IsCodeFault (b : List ℕ) (fault : Fault) : Type 0 where
   pub framed : IsFramed b
   pub tables : TablesHold b
-  pub classes : ClassesHold b
-  pub values : RowsHold ValuesHold b (size_of b 5)
+  pub classes : ClassRowsHold b
+  pub values : RowsHold ValuesHold b (size_of b section.class_defs)
   pub first : IsFirstClass BodiesBreak BodiesHold b fault
 
 -- The first of the registers, where all code holds too.
 pub record IsRegisterFault (b : List ℕ) (fault : Fault) : Type 0 where
   pub framed : IsFramed b
   pub tables : TablesHold b
-  pub classes : ClassesHold b
-  pub values : RowsHold ValuesHold b (size_of b 5)
-  pub bodies : RowsHold BodiesHold b (size_of b 5)
-  pub first : IsFirstClass RegistersBreak RegistersHold b fault
+  pub classes : ClassRowsHold b
+  pub values : RowsHold ValuesHold b (size_of b section.class_defs)
+  pub bodies : RowsHold BodiesHold b (size_of b section.class_defs)
+  pub first : IsFirstClass RowRegistersBreak RowRegistersHold b fault

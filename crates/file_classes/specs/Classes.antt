@@ -7,17 +7,17 @@ use Rattle.program_types.specs.Content.{Units, Value, Code, Member, Method, Clas
 use Rattle.tables_rows.specs.Stands.{StringStands, TypeStands, TypesAt, FieldStands, MethodStands, NameStands}
 use Rattle.dex_value.specs.Standing.{ArrayStands}
 use Rattle.code_read.specs.Code.{CodeStands}
-use Rattle.file_classes.specs.ClassRows.{class_word, IndexOrNone}
-use Rattle.file_classes.specs.ClassData.{FieldEntry, MethodEntry, Entries, EntriesAt, IsRun}
+use Rattle.file_classes.specs.ClassRows.{IndexOrNone, access_flags, class_data_off, class_idx, interfaces_off, source_file_idx, static_values_off, superclass_idx}
+use Rattle.file_classes.specs.ClassData.{FieldEntry, MethodEntry, Entries, EntriesAt, IsRun, field_flags, method_flags, code_off}
 
 -- The names and flags of the row.
 pub record RowIs (b : List ℕ) (i : ℕ) (ty : Units) (flags : ℕ) (superclass source : Option Units) : Type 0 where
-  pub named : TypeStands b (class_word b i 0) ty
+  pub named : TypeStands b (class_idx b i) ty
   pub class : IsClass ty
-  pub flagged : flags ≡ class_word b i 1
-  pub above : IndexOrNone (TypeStands b) (class_word b i 2) superclass
+  pub flagged : flags ≡ access_flags b i
+  pub above : IndexOrNone (TypeStands b) (superclass_idx b i) superclass
   pub above_class : (t : Units) → superclass ≡ Some t → IsClass t
-  pub written_in : IndexOrNone (StringStands b) (class_word b i 4) source
+  pub written_in : IndexOrNone (StringStands b) (source_file_idx b i) source
 
 -- No type stands twice.
 abbrev pub AreDistinct : List Units → Type 0
@@ -32,12 +32,12 @@ pub record InterfacesAt (b : List ℕ) (place : ℕ) (ts : List Units) : Type 0 
 -- The entry with this index is this field of the class.
 pub record IsField (b : List ℕ) (class : Units) (index : ℕ) (e : FieldEntry) (m : Member) : Type 0 where
   pub field : FieldStands b index (record { class = class; name = m.name; ty = m.ty })
-  pub flags : m.flags ≡ e.1
+  pub flags : m.flags ≡ field_flags e
 
 -- The entry with this index is this method of the class, its code aside.
 pub record IsMethod (b : List ℕ) (class : Units) (index : ℕ) (e : MethodEntry) (m : Method) : Type 0 where
   pub method : MethodStands b index (record { class = class; name = m.name; proto = m.proto })
-  pub flags : m.flags ≡ e.1.0
+  pub flags : m.flags ≡ method_flags e
 
 -- The four lists.
 pub record MembersAre (b : List ℕ) (e : Entries) (c : Class) : Type 0 where
@@ -49,8 +49,8 @@ pub record MembersAre (b : List ℕ) (e : Entries) (c : Class) : Type 0 where
 -- All but static values and code.
 pub record HeadIs (b : List ℕ) (i : ℕ) (e : Entries) (c : Class) : Type 0 where
   pub row : RowIs b i c.ty c.flags c.superclass c.source
-  pub interfaces : InterfacesAt b (class_word b i 3) c.interfaces
-  pub class_data : EntriesAt b (class_word b i 6) e
+  pub interfaces : InterfacesAt b (interfaces_off b i) c.interfaces
+  pub class_data : EntriesAt b (class_data_off b i) e
   pub members : MembersAre b e c
 
 -- The values at an offset, none at 0.
@@ -69,12 +69,12 @@ CodeAt b place code = MatchBool (place == 0) (code ≡ None) (SomeCodeStands b p
 
 -- Each of the methods has the code of its entry.
 abbrev pub CodesAre : List ℕ → List MethodEntry → List Method → Type 0
-CodesAre b es ms = (k : ℕ) (e : MethodEntry) (m : Method) → slice_get es k ≡ Some e → slice_get ms k ≡ Some m → CodeAt b e.1.1 m.code
+CodesAre b es ms = (k : ℕ) (e : MethodEntry) (m : Method) → slice_get es k ≡ Some e → slice_get ms k ≡ Some m → CodeAt b (code_off e) m.code
 
 -- Row i spells the class.
 pub record SpellsClass (b : List ℕ) (i : ℕ) (c : Class) : Type 0 where
   pub entries : Entries
   pub head : HeadIs b i entries c
-  pub values : StaticsAt b (class_word b i 7) (length entries.statics) c.values
+  pub values : StaticsAt b (static_values_off b i) (length entries.statics) c.values
   pub directs : CodesAre b entries.directs c.directs
   pub virtuals : CodesAre b entries.virtuals c.virtuals

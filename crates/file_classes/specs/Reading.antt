@@ -16,9 +16,9 @@ use Rattle.file_classes.specs.declared.methods.Found.{Found}
 use Rattle.file_classes.specs.ClassData.{IsRun}
 use Rattle.file_classes.specs.declared.statics.Statics.{Statics}
 use Rattle.file_classes.specs.ClassData as numbers
-use Rattle.file_classes.specs.ClassRows.{class_word}
+use Rattle.file_classes.specs.ClassRows.{static_values_off}
 use Rattle.file_classes.specs.Classes.{IsField, IsMethod, HeadIs, StaticsAt}
-use Rattle.file_classes.specs.ClassFaults.{EntryBreaks, ValuesStand, BodyAt, BodyHolds, CodeHolds, RegistersFail, RegistersHold, RegistersBreak, IsFirstClass}
+use Rattle.file_classes.specs.ClassFaults.{EntryBreaks, ValuesStand, BodyAt, BodyHolds, CodeHolds, RegistersFail, RowRegistersHold, RowRegistersBreak, IsFirstClass}
 use Rattle.tables_rows.specs.Sorted.{RowsHold}
 
 -- what entries in memory say
@@ -151,7 +151,7 @@ BodiesAre b es ms = (k : ℕ) (e : numbers.MethodEntry) (m : content.Method) →
 pub record SpellsBodies (b : List ℕ) (i : ℕ) (c : content.Class) : Type 0 where
   pub entries : numbers.Entries
   pub head : HeadIs b i entries c
-  pub values : StaticsAt b (class_word b i 7) (length entries.statics) c.values
+  pub values : StaticsAt b (static_values_off b i) (length entries.statics) c.values
   pub directs : BodiesAre b entries.directs c.directs
   pub virtuals : BodiesAre b entries.virtuals c.virtuals
 
@@ -162,5 +162,5 @@ pub record BaresUpTo (Holds : List ℕ → ℕ → Type 0) (Fails : List ℕ →
 
 -- The registers of all code of the first n rows hold, or this is the first fault.
 pub record RowsUpTo (b : List ℕ) (n : ℕ) (past : Option Fault) : Type 0 where
-  pub none : IfNone past (RowsHold RegistersHold b n)
-  pub some : IfSome past (IsFirstClass RegistersBreak RegistersHold b)
+  pub none : IfNone past (RowsHold RowRegistersHold b n)
+  pub some : IfSome past (IsFirstClass RowRegistersBreak RowRegistersHold b)

@@ -3,10 +3,11 @@
 ghost use Rattle.std.specs.Prelude.{◌≢◌, ◌⊎◌, IfOk, IfErr, IfSome, IfNone, OnOk, length};
 ghost use Rattle.base_bytes.specs.Fault.{memory};
 ghost use Rattle.dex_container.specs.Layout.{size_of};
+ghost use Rattle.dex_container.specs.Section as section;
 ghost use Rattle.tables_rows.specs.Names.{AreNamesOf, AreRows};
 ghost use Rattle.tables_rows.specs.Sorted.{RowsHold};
-ghost use Rattle.file_classes.specs.ClassFaults.{BodyHolds, BodyFails, CodeHolds, RegistersFail, BodiesHold, BodiesBreak, RegistersHold, RegistersBreak, IsFirstClass};
-ghost use Rattle.file_classes.specs.Kept.{AreKept};
+ghost use Rattle.file_classes.specs.ClassFaults.{BodyHolds, BodyFails, CodeHolds, RegistersFail, BodiesHold, BodiesBreak, RowRegistersHold, RowRegistersBreak, IsFirstClass};
+ghost use Rattle.tables_rows.specs.Kept.{AreKept};
 ghost use Rattle.file_classes.specs.Reading.{IsHead, BaresHold, BaresBreak, BaresUpTo, IsChecked};
 
 use crate::class_row::class_count;
@@ -105,8 +106,8 @@ fn check_class(
     requires kept { AreKept (IsChecked sections.now) kept.old }
     requires head { IsHead sections.now i head }
     ensures ok { OnOk result (BodiesHold sections.now i) }
-    ensures hold { IfOk result (λ past. IfNone past (RegistersHold sections.now i)) }
-    ensures past { IfOk result (λ past. IfSome past (RegistersBreak sections.now i)) }
+    ensures hold { IfOk result (λ past. IfNone past (RowRegistersHold sections.now i)) }
+    ensures past { IfOk result (λ past. IfSome past (RowRegistersBreak sections.now i)) }
     ensures kept { OnOk result (AreKept (IsChecked sections.now) kept.new) }
     ensures err { IfErr result (λ e. e ≢ memory → BodiesBreak sections.now i e) }
 {
@@ -128,10 +129,10 @@ fn check_rows(
 ) -> Result<(), Fault>
     requires names { AreNamesOf sections.now tables.now }
     requires kept { AreKept (IsChecked sections.now) kept.old }
-    requires heads { AreRows IsHead sections.now 5 heads.now }
-    ensures hold { OnOk result (RowsHold RegistersHold sections.now (size_of sections.now 5)) }
+    requires heads { AreRows IsHead sections.now section.class_defs heads.now }
+    ensures hold { OnOk result (RowsHold RowRegistersHold sections.now (size_of sections.now section.class_defs)) }
     ensures err { IfErr result (λ e. e ≢ memory → IsFirstClass BodiesBreak BodiesHold sections.now e
-        ⊎ (RowsHold BodiesHold sections.now (size_of sections.now 5) × IsFirstClass RegistersBreak RegistersHold sections.now e)) }
+        ⊎ (RowsHold BodiesHold sections.now (size_of sections.now section.class_defs) × IsFirstClass RowRegistersBreak RowRegistersHold sections.now e)) }
 {
     // Only for the proof: what holds of each value of its type.
     let _file = sections.bytes();
@@ -156,10 +157,10 @@ pub fn check_codes(
     heads: &[Head<'_, '_>],
 ) -> Result<(), Fault>
     requires names { AreNamesOf sections.now tables.now }
-    requires heads { AreRows IsHead sections.now 5 heads.now }
-    ensures hold { OnOk result (RowsHold RegistersHold sections.now (size_of sections.now 5)) }
+    requires heads { AreRows IsHead sections.now section.class_defs heads.now }
+    ensures hold { OnOk result (RowsHold RowRegistersHold sections.now (size_of sections.now section.class_defs)) }
     ensures err { IfErr result (λ e. e ≢ memory → IsFirstClass BodiesBreak BodiesHold sections.now e
-        ⊎ (RowsHold BodiesHold sections.now (size_of sections.now 5) × IsFirstClass RegistersBreak RegistersHold sections.now e)) }
+        ⊎ (RowsHold BodiesHold sections.now (size_of sections.now section.class_defs) × IsFirstClass RowRegistersBreak RowRegistersHold sections.now e)) }
 {
     let mut scratch = Bump::new(alloc);
     let mut kept = IndexMap::new(alloc);

@@ -3,13 +3,15 @@
 ghost use Rattle.std.specs.Prelude.{◌≡◌, ◌≢◌, ◌<◌, List, IfOk, IfErr, OnOk};
 ghost use Rattle.base_bytes.specs.Fault.{memory};
 ghost use Rattle.dex_container.specs.Layout.{size_of};
+ghost use Rattle.dex_container.specs.Section as section;
 ghost use Rattle.program_types.specs.Content.{Value};
 ghost use Rattle.tables_rows.specs.Names.{AreNamesOf, AreRows, NameIsAt};
 ghost use Rattle.tables_rows.specs.Sorted.{RowsHold};
 ghost use Rattle.dex_value.specs.Faults.{ArrayBreaksAt};
 ghost use Rattle.dex_value.specs.Standing.{ArrayStands};
 ghost use Rattle.file_classes.specs.ClassFaults.{ValuesBreak, ValuesHold, IsFirstClass};
-ghost use Rattle.file_classes.specs.Kept.{AreKept, CountsOnce};
+ghost use Rattle.tables_rows.specs.Kept.{AreKept};
+ghost use Rattle.file_classes.specs.Kept.{CountsOnce};
 ghost use Rattle.file_classes.specs.Reading.{IsHead};
 
 use crate::class_row::{class_count, class_place, class_word};
@@ -55,7 +57,7 @@ fn check_row(
     head: Head<'_, '_>,
 ) -> Result<(), Fault>
     requires names { AreNamesOf sections.now tables.now }
-    requires row { i < size_of sections.now 5 }
+    requires row { i < size_of sections.now section.class_defs }
     requires kept { AreKept (CountsOnce (NameIsAt tables.now) sections.now) kept.old }
     requires head { IsHead sections.now i head }
     ensures ok { OnOk result (ValuesHold sections.now i) }
@@ -80,8 +82,8 @@ pub fn check_statics(
     heads: &[Head<'_, '_>],
 ) -> Result<(), Fault>
     requires names { AreNamesOf sections.now tables.now }
-    requires heads { AreRows IsHead sections.now 5 heads.now }
-    ensures hold { OnOk result (RowsHold ValuesHold sections.now (size_of sections.now 5)) }
+    requires heads { AreRows IsHead sections.now section.class_defs heads.now }
+    ensures hold { OnOk result (RowsHold ValuesHold sections.now (size_of sections.now section.class_defs)) }
     ensures err { IfErr result (λ e. e ≢ memory → IsFirstClass ValuesBreak ValuesHold sections.now e) }
 {
     let count = class_count(sections);

@@ -2,6 +2,7 @@
 ghost use Rattle.std.specs.Prelude.{◌≡◌, ◌≢◌, ◌↔◌, ◌<◌, ◌≤◌, IfOk, IfErr, IfSome, IfNone, IsTrue, option_map};
 ghost use Rattle.dex_base.specs.Descriptor.{IsClass};
 ghost use Rattle.dex_container.specs.Layout.{size_of};
+ghost use Rattle.dex_container.specs.Section as section;
 ghost use Rattle.program_types.specs.View.{str, desc};
 ghost use Rattle.tables_rows.specs.Names.{AreNamesOf};
 ghost use Rattle.tables_rows.specs.RowFields.{row_place};
@@ -9,7 +10,7 @@ ghost use Rattle.tables_rows.specs.Stands.{StringStands, TypeStands};
 ghost use Rattle.tables_rows.specs.TableFaults.{BreaksAt};
 ghost use Rattle.file_classes.specs.ClassRows.{class_word, no_index, IndexOrNone};
 ghost use Rattle.file_classes.specs.Classes.{RowIs};
-ghost use Rattle.file_classes.specs.ClassFaults.{ClassBreaks};
+ghost use Rattle.file_classes.specs.ClassFaults.{ClassRowBreaks};
 
 use dex_base::{Fault, fault, is_class, u32_at};
 use dex_container::{Sections, kind};
@@ -30,15 +31,15 @@ pub(crate) struct Row<'a> {
 
 /// How many rows there are.
 pub(crate) fn class_count(sections: &Sections<'_>) -> u32
-    ensures { result ≡ size_of sections.now 5 }
+    ensures { result ≡ size_of sections.now section.class_defs }
 {
     sections.table(kind::CLASS_DEF_ITEM).0
 }
 
 /// Where row i stands.
 pub(crate) fn class_place(sections: &Sections<'_>, i: u32) -> u64
-    requires { i < size_of sections.now 5 }
-    ensures { result ≡ row_place sections.now 5 i }
+    requires { i < size_of sections.now section.class_defs }
+    ensures { result ≡ row_place sections.now section.class_defs i }
 {
     u64::from(sections.table(kind::CLASS_DEF_ITEM).1) + 32 * u64::from(i)
 }
@@ -46,7 +47,7 @@ pub(crate) fn class_place(sections: &Sections<'_>, i: u32) -> u64
 /// Word j of row i.
 #[tactic(auto, unfolding(crate::specs::ClassRows::class_word))]
 pub(crate) fn class_word(sections: &Sections<'_>, i: u32, j: u32) -> u32
-    requires row { i < size_of sections.now 5 }
+    requires row { i < size_of sections.now section.class_defs }
     requires word { j < 8 }
     ensures { result ≡ class_word sections.now i j }
 {
@@ -58,7 +59,7 @@ pub(crate) fn class_word(sections: &Sections<'_>, i: u32, j: u32) -> u32
 fn type_at<'a>(sections: &Sections<'_>, tables: &Tables<'a>, index: u32) -> Option<Desc<'a>>
     requires { AreNamesOf sections.now tables.now }
     ensures some { IfSome result (λ t. TypeStands sections.now index (desc t)) }
-    ensures none { IfNone result (size_of sections.now 1 ≤ index) }
+    ensures none { IfNone result (size_of sections.now section.type_ids ≤ index) }
 {
     // Only for the proof: what holds of each value of its type.
     let _file = sections;
@@ -76,7 +77,7 @@ fn type_or_none<'a>(
 ) -> Option<Option<Desc<'a>>>
     requires { AreNamesOf sections.now tables.now }
     ensures some { IfSome result (λ t. IndexOrNone (TypeStands sections.now) index (option_map desc t)) }
-    ensures none { IfNone result ((index ≢ no_index) × (size_of sections.now 1 ≤ index)) }
+    ensures none { IfNone result ((index ≢ no_index) × (size_of sections.now section.type_ids ≤ index)) }
 {
     if index == NO_INDEX {
         return Some(None);
@@ -95,7 +96,7 @@ fn string_or_none<'a>(
 ) -> Option<Option<Str<'a>>>
     requires { AreNamesOf sections.now tables.now }
     ensures some { IfSome result (λ s. IndexOrNone (StringStands sections.now) index (option_map str s)) }
-    ensures none { IfNone result ((index ≢ no_index) × (size_of sections.now 0 ≤ index)) }
+    ensures none { IfNone result ((index ≢ no_index) × (size_of sections.now section.string_ids ≤ index)) }
 {
     // Only for the proof: what holds of each value of its type.
     let _file = sections;
@@ -132,9 +133,9 @@ pub(crate) fn read_row<'a>(
     i: u32,
 ) -> Result<Row<'a>, Fault>
     requires names { AreNamesOf sections.now tables.now }
-    requires row { i < size_of sections.now 5 }
+    requires row { i < size_of sections.now section.class_defs }
     ensures ok { IfOk result (λ r. RowIs sections.now i (desc r.ty) r.flags (option_map desc r.superclass) (option_map str r.source)) }
-    ensures err { IfErr result (BreaksAt ClassBreaks sections.now 5 i) }
+    ensures err { IfErr result (BreaksAt ClassRowBreaks sections.now section.class_defs i) }
 {
     let place = class_place(sections, i);
     let Some(ty) = type_at(sections, tables, class_word(sections, i, 0)) else {

@@ -1,14 +1,15 @@
 // The first pass over class_defs: all of each class but its static values and its code, faults 40 to 47.
 ghost use Rattle.std.specs.Prelude.{◌≡◌, ◌≢◌, ◌<◌, [], IfOk, IfErr, OnOk, map};
 ghost use Rattle.dex_container.specs.Layout.{size_of};
+ghost use Rattle.dex_container.specs.Section as section;
 ghost use Rattle.base_bytes.specs.Fault.{memory};
 ghost use Rattle.program_types.specs.View.{desc};
 ghost use Rattle.tables_rows.specs.Names.{AreNamesOf, AreRows};
 ghost use Rattle.tables_rows.specs.Reading.{AreFirst};
 ghost use Rattle.tables_rows.specs.TableFaults.{BreaksAt, IsFirstRow};
-ghost use Rattle.file_classes.specs.ClassFaults.{ClassBreaks, ClassHolds, ClassesHold};
+ghost use Rattle.file_classes.specs.ClassFaults.{ClassRowBreaks, ClassRowHolds, ClassRowsHold};
 ghost use Rattle.file_classes.specs.Classes.{InterfacesAt};
-ghost use Rattle.file_classes.specs.Kept.{AreKept};
+ghost use Rattle.tables_rows.specs.Kept.{AreKept};
 ghost use Rattle.file_classes.specs.Places.{ArePlaces};
 ghost use Rattle.file_classes.specs.Reading.{IsHead};
 
@@ -53,13 +54,13 @@ fn read_head<'a, 's>(
     i: u32,
 ) -> Result<Head<'a, 's>, Fault>
     requires names { AreNamesOf sections.now tables.now }
-    requires places { ArePlaces sections.now (size_of sections.now 5) places.now.first.items places.now.last.items }
+    requires places { ArePlaces sections.now (size_of sections.now section.class_defs) places.now.first.items places.now.last.items }
     requires kept { AreKept (λ off list. InterfacesAt sections.now off (map desc list.now)) kept.old }
-    requires row { i < size_of sections.now 5 }
+    requires row { i < size_of sections.now section.class_defs }
     ensures ok { IfOk result (λ h. IsHead sections.now i h) }
-    ensures holds { IfOk result (λ _. ClassHolds sections.now i) }
+    ensures holds { IfOk result (λ _. ClassRowHolds sections.now i) }
     ensures kept { OnOk result (AreKept (λ off list. InterfacesAt sections.now off (map desc list.now)) kept.new) }
-    ensures err { IfErr result (λ e. e ≢ memory → BreaksAt ClassBreaks sections.now 5 i e) }
+    ensures err { IfErr result (λ e. e ≢ memory → BreaksAt ClassRowBreaks sections.now section.class_defs i e) }
 {
     // Only for the proof: what holds of each value of its type.
     let _file = sections.bytes();
@@ -101,11 +102,11 @@ fn push_heads<'a, 's>(
     heads: &mut Vec<Head<'a, 's>, &'s Bump>,
 ) -> Result<(), Fault>
     requires names { AreNamesOf sections.now tables.now }
-    requires places { ArePlaces sections.now (size_of sections.now 5) places.now.first.items places.now.last.items }
+    requires places { ArePlaces sections.now (size_of sections.now section.class_defs) places.now.first.items places.now.last.items }
     requires kept { AreKept (λ off list. InterfacesAt sections.now off (map desc list.now)) kept.old }
     requires none { heads.old.items ≡ [] }
-    ensures rows { OnOk result (AreFirst IsHead ClassHolds sections.now (size_of sections.now 5) heads.new.items) }
-    ensures err { IfErr result (λ e. e ≢ memory → IsFirstRow ClassBreaks ClassHolds sections.now 5 e) }
+    ensures rows { OnOk result (AreFirst IsHead ClassRowHolds sections.now (size_of sections.now section.class_defs) heads.new.items) }
+    ensures err { IfErr result (λ e. e ≢ memory → IsFirstRow ClassRowBreaks ClassRowHolds sections.now section.class_defs e) }
 {
     for i in 0..class_count(sections) {
         let head = read_head(alloc, arena, scratch, sections, tables, places, kept, i)?;
@@ -123,9 +124,9 @@ pub fn read_heads<'a, 's>(
     tables: &Tables<'a>,
 ) -> Result<&'s [Head<'a, 's>], Fault>
     requires names { AreNamesOf sections.now tables.now }
-    ensures rows { IfOk result (λ heads. AreRows IsHead sections.now 5 heads.now) }
-    ensures hold { IfOk result (λ _. ClassesHold sections.now) }
-    ensures err { IfErr result (λ e. e ≢ memory → IsFirstRow ClassBreaks ClassHolds sections.now 5 e) }
+    ensures rows { IfOk result (λ heads. AreRows IsHead sections.now section.class_defs heads.now) }
+    ensures hold { IfOk result (λ _. ClassRowsHold sections.now) }
+    ensures err { IfErr result (λ e. e ≢ memory → IsFirstRow ClassRowBreaks ClassRowHolds sections.now section.class_defs e) }
 {
     let places = read_places(alloc, sections)?;
     let mut heads: Vec<Head<'a, 's>, &'s Bump> = Vec::with_capacity(

@@ -6,7 +6,7 @@ ghost use Rattle.base_bytes.specs.Fault.{memory};
 ghost use Rattle.program_types.specs.View.{desc};
 ghost use Rattle.tables_rows.specs.Names.{AreNamesOf};
 ghost use Rattle.file_classes.specs.Classes.{AreDistinct, InterfacesAt};
-ghost use Rattle.file_classes.specs.Kept.{AreKept};
+ghost use Rattle.tables_rows.specs.Kept.{AreKept};
 ghost use Rattle.file_classes.specs.Reading.{IsNotAmong};
 
 use bumpalo::Bump;

@@ -2,7 +2,7 @@
 
 ghost use Rattle.std.specs.Prelude.{◌≡◌, ℕ, List};
 ghost use Rattle.base_bytes.specs.declared.fault.Fault.{Fault};
-ghost use Rattle.file_classes.specs.ClassFaults.{ClassBreaks, ClassHolds, ValuesBreak, ValuesHold, BodiesBreak, BodiesHold, RegistersBreak, RegistersHold};
+ghost use Rattle.file_classes.specs.ClassFaults.{ClassRowBreaks, ClassRowHolds, ValuesBreak, ValuesHold, BodiesBreak, BodiesHold, RowRegistersBreak, RowRegistersHold};
 ghost use Rattle.file_classes.specs.Classes.{SpellsClass};
 ghost use Rattle.dex_container.specs.Frame.{IsFramed};
 ghost use Rattle.program_types.specs.Content.{Class};
@@ -14,8 +14,8 @@ pub fn class_is_one()
 
 /// A row that keeps the rules of a pass has no fault of that pass.
 pub fn classes_are_clear()
-    ensures rows { (b : List ℕ) → IsFramed b → (i code : ℕ) → ClassHolds b i → ¬ ClassBreaks b code i }
+    ensures rows { (b : List ℕ) → IsFramed b → (i code : ℕ) → ClassRowHolds b i → ¬ ClassRowBreaks b code i }
     ensures values { (b : List ℕ) → IsFramed b → (i : ℕ) (e : Fault) → ValuesHold b i → ¬ ValuesBreak b i e }
     ensures code { (b : List ℕ) → IsFramed b → (i : ℕ) (e : Fault) → BodiesHold b i → ¬ BodiesBreak b i e }
-    ensures registers { (b : List ℕ) → IsFramed b → (i : ℕ) (e : Fault) → RegistersHold b i → ¬ RegistersBreak b i e }
+    ensures registers { (b : List ℕ) → IsFramed b → (i : ℕ) (e : Fault) → RowRegistersHold b i → ¬ RowRegistersBreak b i e }
 {}

@@ -2,13 +2,14 @@
 ghost use Rattle.std.specs.Prelude.{◌≡◌, ◌≢◌, ◌<◌, ◌^◌, IfOk, IfErr, map};
 ghost use Rattle.base_bytes.specs.Fault.{memory};
 ghost use Rattle.dex_container.specs.Layout.{size_of};
+ghost use Rattle.dex_container.specs.Section as section;
 ghost use Rattle.program_types.specs.View.{desc, field_ref, method_ref, member};
 ghost use Rattle.tables_rows.specs.Names.{AreNamesOf};
 ghost use Rattle.tables_rows.specs.Stands.{TypeStands, FieldStands, MethodStands};
 ghost use Rattle.file_classes.specs.ClassData.{steps, EntriesAt, IsRun};
 ghost use Rattle.file_classes.specs.Classes.{IsField};
-ghost use Rattle.file_classes.specs.ClassFaults.{ClassBreaks, FieldOwner, MethodOwner};
-ghost use Rattle.file_classes.specs.ClassRows.{class_word};
+ghost use Rattle.file_classes.specs.ClassFaults.{ClassRowBreaks, FieldOwner, MethodOwner};
+ghost use Rattle.file_classes.specs.ClassRows.{class_data_off, class_idx};
 ghost use Rattle.tables_rows.specs.TableFaults.{BreaksAt};
 ghost use Rattle.file_classes.specs.Reading as numbers;
 ghost use Rattle.file_classes.specs.Reading.{MembersStand, field_entry, method_entry, IsBare, IndexFails, EntriesFail};
@@ -60,7 +61,7 @@ fn field_at<'a>(
     ensures stands { IfOk result (λ f. FieldStands sections.now index (field_ref f.now)) }
     ensures class { IfOk result (λ f. desc f.now.class ≡ desc owner.entry.class) }
     ensures small { IfOk result (λ _. index < 2 ^ 32) }
-    ensures err { IfErr result (IndexFails (FieldOwner sections.now) (size_of sections.now 3) (desc owner.entry.class) index owner.entry.place) }
+    ensures err { IfErr result (IndexFails (FieldOwner sections.now) (size_of sections.now section.field_ids) (desc owner.entry.class) index owner.entry.place) }
 {
     let (count, _) = sections.table(kind::FIELD_ID_ITEM);
     if index >= u64::from(count) {
@@ -88,7 +89,7 @@ fn method_at<'a>(
     ensures stands { IfOk result (λ m. MethodStands sections.now index (method_ref m.now)) }
     ensures class { IfOk result (λ m. desc m.now.class ≡ desc owner.entry.class) }
     ensures small { IfOk result (λ _. index < 2 ^ 32) }
-    ensures err { IfErr result (IndexFails (MethodOwner sections.now) (size_of sections.now 4) (desc owner.entry.class) index owner.entry.place) }
+    ensures err { IfErr result (IndexFails (MethodOwner sections.now) (size_of sections.now section.method_ids) (desc owner.entry.class) index owner.entry.place) }
 {
     let (count, _) = sections.table(kind::METHOD_ID_ITEM);
     if index >= u64::from(count) {
@@ -116,7 +117,7 @@ fn read_fields<'a>(
     requires class { TypeStands sections.now owner.row (desc owner.class) }
     ensures ok { IfOk result (λ fields. IsRun (IsField sections.now (desc owner.entry.class)) (map field_entry entries.now) (map member fields.now)) }
     ensures err { IfErr result (λ e. e ≢ memory →
-        EntriesFail (FieldOwner sections.now) (size_of sections.now 3) (desc owner.entry.class) (steps (map field_entry entries.now)) owner.entry.place e) }
+        EntriesFail (FieldOwner sections.now) (size_of sections.now section.field_ids) (desc owner.entry.class) (steps (map field_entry entries.now)) owner.entry.place e) }
 {
     let mut fields: Vec<Member<'a>, &'a Bump> = Vec::with_capacity(arena, entries.len())?;
     let mut index: u64 = 0;
@@ -147,7 +148,7 @@ fn read_bares<'a, 's>(
     requires class { TypeStands sections.now owner.row (desc owner.class) }
     ensures ok { IfOk result (λ bares. IsRun (IsBare sections.now (desc owner.entry.class)) (map method_entry entries.now) bares.now) }
     ensures err { IfErr result (λ e. e ≢ memory →
-        EntriesFail (MethodOwner sections.now) (size_of sections.now 4) (desc owner.entry.class) (steps (map method_entry entries.now)) owner.entry.place e) }
+        EntriesFail (MethodOwner sections.now) (size_of sections.now section.method_ids) (desc owner.entry.class) (steps (map method_entry entries.now)) owner.entry.place e) }
 {
     let mut bares: Vec<Bare<'a>, &'s Bump> = Vec::with_capacity(scratch, entries.len())?;
     let mut index: u64 = 0;
@@ -177,11 +178,11 @@ pub(crate) fn read_members<'a, 's>(
     entries: &Entries,
 ) -> Result<Members<'a, 's>, Fault>
     requires names { AreNamesOf sections.now tables.now }
-    requires row { i < size_of sections.now 5 }
-    requires class { TypeStands sections.now (class_word sections.now i 0) (desc class) }
-    requires entries { EntriesAt sections.now (class_word sections.now i 6) (numbers.entries entries.now) }
+    requires row { i < size_of sections.now section.class_defs }
+    requires class { TypeStands sections.now (class_idx sections.now i) (desc class) }
+    requires entries { EntriesAt sections.now (class_data_off sections.now i) (numbers.entries entries.now) }
     ensures ok { IfOk result (MembersStand sections.now (desc class.entry) (numbers.entries entries.now)) }
-    ensures err { IfErr result (λ e. e ≢ memory → BreaksAt ClassBreaks sections.now 5 i e) }
+    ensures err { IfErr result (λ e. e ≢ memory → BreaksAt ClassRowBreaks sections.now section.class_defs i e) }
 {
     let owner = Owner {
         row: class_word(sections, i, 0),

@@ -3,12 +3,13 @@
 ghost use Rattle.std.specs.Prelude.{◌≢◌, ◌<◌, ◌≡◌, ◌⊎◌, IfOk, IfErr, IfSome, IfNone, OnOk, Some, length, map, option_map};
 ghost use Rattle.base_bytes.specs.Fault.{memory};
 ghost use Rattle.dex_container.specs.Layout.{size_of};
+ghost use Rattle.dex_container.specs.Section as section;
 ghost use Rattle.program_types.specs.View as view;
 ghost use Rattle.tables_rows.specs.Names.{AreNamesOf, AreRows};
 ghost use Rattle.tables_rows.specs.Sorted.{RowsHold};
 ghost use Rattle.file_classes.specs.Classes.{SpellsClass};
-ghost use Rattle.file_classes.specs.ClassFaults.{BodyAt, BodyHolds, BodyFails, CodeHolds, RegistersFail, BodiesHold, BodiesBreak, RegistersHold, RegistersBreak, IsFirstClass};
-ghost use Rattle.file_classes.specs.Kept.{AreKept};
+ghost use Rattle.file_classes.specs.ClassFaults.{BodyAt, BodyHolds, BodyFails, CodeHolds, RegistersFail, BodiesHold, BodiesBreak, RowRegistersHold, RowRegistersBreak, IsFirstClass};
+ghost use Rattle.tables_rows.specs.Kept.{AreKept};
 ghost use Rattle.file_classes.specs.Reading.{IsHead, AreStatics, AreDone, BaresBreak, BaresUpTo, IsFound, SpellsBodies};
 
 use crate::class_row::class_count;
@@ -158,8 +159,8 @@ fn read_class<'a>(
     requires head { IsHead sections.now i head }
     requires statics { AreStatics sections.now i statics }
     ensures ok { IfOk result (λ x. SpellsBodies sections.now i (view.class x.class)) }
-    ensures hold { IfOk result (λ x. IfNone x.past (RegistersHold sections.now i)) }
-    ensures past { IfOk result (λ x. IfSome x.past (RegistersBreak sections.now i)) }
+    ensures hold { IfOk result (λ x. IfNone x.past (RowRegistersHold sections.now i)) }
+    ensures past { IfOk result (λ x. IfSome x.past (RowRegistersBreak sections.now i)) }
     ensures kept { OnOk result (AreKept (IsFound sections.now) kept.new) }
     ensures err { IfErr result (λ e. e ≢ memory → BodiesBreak sections.now i e) }
 {
@@ -186,8 +187,8 @@ fn read_class<'a>(
 
 // The static values of row i.
 fn statics_at<'a>(sections: &Sections<'_>, statics: &[Statics<'a>], i: u32) -> Statics<'a>
-    requires statics { AreRows AreStatics sections.now 5 statics.now }
-    requires row { i < size_of sections.now 5 }
+    requires statics { AreRows AreStatics sections.now section.class_defs statics.now }
+    requires row { i < size_of sections.now section.class_defs }
     ensures { AreStatics sections.now i result }
 {
     // Only for the proof: what holds of each value of its type.
@@ -205,12 +206,12 @@ pub fn read_classes<'a>(
     statics: &[Statics<'a>],
 ) -> Result<&'a [Class<'a>], Fault>
     requires names { AreNamesOf sections.now tables.now }
-    requires heads { AreRows IsHead sections.now 5 heads.now }
-    requires statics { AreRows AreStatics sections.now 5 statics.now }
-    ensures rows { IfOk result (λ classes. AreRows SpellsClass sections.now 5 (map view.class classes.now)) }
-    ensures hold { IfOk result (λ _. RowsHold RegistersHold sections.now (size_of sections.now 5)) }
+    requires heads { AreRows IsHead sections.now section.class_defs heads.now }
+    requires statics { AreRows AreStatics sections.now section.class_defs statics.now }
+    ensures rows { IfOk result (λ classes. AreRows SpellsClass sections.now section.class_defs (map view.class classes.now)) }
+    ensures hold { IfOk result (λ _. RowsHold RowRegistersHold sections.now (size_of sections.now section.class_defs)) }
     ensures err { IfErr result (λ e. e ≢ memory → IsFirstClass BodiesBreak BodiesHold sections.now e
-        ⊎ (RowsHold BodiesHold sections.now (size_of sections.now 5) × IsFirstClass RegistersBreak RegistersHold sections.now e)) }
+        ⊎ (RowsHold BodiesHold sections.now (size_of sections.now section.class_defs) × IsFirstClass RowRegistersBreak RowRegistersHold sections.now e)) }
 {
     // Only for the proof: what holds of each value of its type.
     let _file = sections.bytes();

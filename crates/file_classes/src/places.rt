@@ -2,7 +2,8 @@
 ghost use Rattle.std.specs.Prelude.{◌≡◌, ◌<◌, ◌≤◌, ◌↔◌, ◌+◌, IfOk, IsTrue, IsOkUnless, replicate, length, get_or, set, ◌≢◌, ◌^◌};
 ghost use Rattle.base_bytes.specs.Fault.{memory};
 ghost use Rattle.dex_container.specs.Layout.{size_of};
-ghost use Rattle.file_classes.specs.ClassRows.{class_word, NoneDefines};
+ghost use Rattle.dex_container.specs.Section as section;
+ghost use Rattle.file_classes.specs.ClassRows.{NoneDefines, class_idx};
 ghost use Rattle.file_classes.specs.Places.{ArePlaces};
 
 use crate::class_row::{class_count, class_word};
@@ -19,7 +20,7 @@ pub(crate) struct Places {
 
 // How many types there are.
 fn type_count(sections: &Sections<'_>) -> u32
-    ensures { result ≡ size_of sections.now 1 }
+    ensures { result ≡ size_of sections.now section.type_ids }
 {
     sections.table(kind::TYPE_ID_ITEM).0
 }
@@ -69,7 +70,7 @@ fn mark(first: &mut Vec<u32>, last: &mut Vec<u32>, ty: u32, i: u32)
 
 /// The rows that define each type.
 pub(crate) fn read_places(alloc: Global, sections: &Sections<'_>) -> Result<Places, Fault>
-    ensures ok { IfOk result (λ p. ArePlaces sections.now (size_of sections.now 5) p.first.items p.last.items) }
+    ensures ok { IfOk result (λ p. ArePlaces sections.now (size_of sections.now section.class_defs) p.first.items p.last.items) }
     ensures memory { IsOkUnless result memory }
 {
     let types = type_count(sections);
@@ -87,10 +88,10 @@ pub(crate) fn read_places(alloc: Global, sections: &Sections<'_>) -> Result<Plac
 
 /// Whether row i is the first that defines its type.
 pub(crate) fn is_first(sections: &Sections<'_>, places: &Places, i: u32, ty: u32) -> bool
-    requires places { ArePlaces sections.now (size_of sections.now 5) places.now.first.items places.now.last.items }
-    requires row { i < size_of sections.now 5 }
-    requires ty { ty ≡ class_word sections.now i 0 }
-    requires within { ty < size_of sections.now 1 }
+    requires places { ArePlaces sections.now (size_of sections.now section.class_defs) places.now.first.items places.now.last.items }
+    requires row { i < size_of sections.now section.class_defs }
+    requires ty { ty ≡ class_idx sections.now i }
+    requires within { ty < size_of sections.now section.type_ids }
     ensures { IsTrue result ↔ NoneDefines sections.now 0 i ty }
 {
     // Only for the proof: what holds of each value of its type.
@@ -100,9 +101,9 @@ pub(crate) fn is_first(sections: &Sections<'_>, places: &Places, i: u32, ty: u32
 
 /// Whether no row from `from` on defines the type of this index.
 pub(crate) fn is_undefined(sections: &Sections<'_>, places: &Places, from: u32, ty: u32) -> bool
-    requires places { ArePlaces sections.now (size_of sections.now 5) places.now.first.items places.now.last.items }
-    requires within { ty < size_of sections.now 1 }
-    ensures { IsTrue result ↔ NoneDefines sections.now from (size_of sections.now 5) ty }
+    requires places { ArePlaces sections.now (size_of sections.now section.class_defs) places.now.first.items places.now.last.items }
+    requires within { ty < size_of sections.now section.type_ids }
+    ensures { IsTrue result ↔ NoneDefines sections.now from (size_of sections.now section.class_defs) ty }
 {
     // Only for the proof: what holds of each value of its type.
     let _file = sections;

@@ -2,13 +2,15 @@
 ghost use Rattle.std.specs.Prelude.{◌≡◌, ◌≢◌, ◌<◌, IfOk, IfErr, OnOk, map};
 ghost use Rattle.base_bytes.specs.Fault.{memory};
 ghost use Rattle.dex_container.specs.Layout.{size_of};
+ghost use Rattle.dex_container.specs.Section as section;
 ghost use Rattle.program_types.specs.View.{value};
 ghost use Rattle.tables_rows.specs.Names.{AreNamesOf, AreRows, NameIsAt};
 ghost use Rattle.tables_rows.specs.Sorted.{RowsHold};
 ghost use Rattle.file_classes.specs.ClassFaults.{at_row, ValuesBreak, ValuesHold, IsFirstClass};
 ghost use Rattle.dex_value.specs.Faults.{ArrayBreaksAt};
 ghost use Rattle.dex_value.specs.Standing.{ArrayStands};
-ghost use Rattle.file_classes.specs.Kept.{AreKept, StandsOnce};
+ghost use Rattle.tables_rows.specs.Kept.{AreKept};
+ghost use Rattle.file_classes.specs.Kept.{StandsOnce};
 ghost use Rattle.file_classes.specs.Reading.{IsHead, AreStatics};
 
 use crate::class_row::{class_count, class_place, class_word};
@@ -78,7 +80,7 @@ fn row_statics<'a>(
     head: Head<'a, '_>,
 ) -> Result<Statics<'a>, Fault>
     requires names { AreNamesOf sections.now tables.now }
-    requires row { i < size_of sections.now 5 }
+    requires row { i < size_of sections.now section.class_defs }
     requires kept { AreKept (λ off values. StandsOnce (NameIsAt tables.now) sections.now off (map value values.now)) kept.old }
     requires head { IsHead sections.now i head }
     ensures ok { IfOk result (λ s. AreStatics sections.now i s) }
@@ -109,8 +111,8 @@ pub(crate) fn head_at<'a, 's>(
     heads: &[Head<'a, 's>],
     i: u32,
 ) -> Head<'a, 's>
-    requires heads { AreRows IsHead sections.now 5 heads.now }
-    requires row { i < size_of sections.now 5 }
+    requires heads { AreRows IsHead sections.now section.class_defs heads.now }
+    requires row { i < size_of sections.now section.class_defs }
     ensures { IsHead sections.now i result }
 {
     // Only for the proof: what holds of each value of its type.
@@ -128,9 +130,9 @@ pub fn read_statics<'a, 's>(
     heads: &[Head<'a, 's>],
 ) -> Result<&'s [Statics<'a>], Fault>
     requires names { AreNamesOf sections.now tables.now }
-    requires heads { AreRows IsHead sections.now 5 heads.now }
-    ensures rows { IfOk result (λ all. AreRows AreStatics sections.now 5 all.now) }
-    ensures hold { IfOk result (λ _. RowsHold ValuesHold sections.now (size_of sections.now 5)) }
+    requires heads { AreRows IsHead sections.now section.class_defs heads.now }
+    ensures rows { IfOk result (λ all. AreRows AreStatics sections.now section.class_defs all.now) }
+    ensures hold { IfOk result (λ _. RowsHold ValuesHold sections.now (size_of sections.now section.class_defs)) }
     ensures err { IfErr result (λ e. e ≢ memory → IsFirstClass ValuesBreak ValuesHold sections.now e) }
 {
     let count = class_count(sections);

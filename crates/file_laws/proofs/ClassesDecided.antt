@@ -19,7 +19,7 @@ use Rattle.tables_laws.proofs.RowsBreak.{HoldsOrBreaks, first_break}
 use Rattle.file_classes.specs.ClassRows.{class_word, no_index, IndexOrNone, InterfaceIndexes, NoneDefines, InOrder}
 use Rattle.file_classes.specs.ClassData.{FieldEntry, MethodEntry, Entries, EntriesAt, steps, index_of, Runs, IsRun}
 use Rattle.file_classes.specs.Classes.{AreDistinct, InterfacesAt, RowIs, IsField, IsMethod}
-use Rattle.file_classes.specs.ClassFaults.{IsNoClass, EntryBreaks, FieldOwner, MethodOwner, OneBreaks, ClassBreaks, ClassHolds, ClassesHold, IsClassFault}
+use Rattle.file_classes.specs.ClassFaults.{IsNoClass, EntryBreaks, FieldOwner, MethodOwner, OneBreaks, ClassRowBreaks, ClassRowHolds, ClassRowsHold, IsClassFault}
 use Rattle.file_classes.proofs.EntryLaws.{entry_at, runs_none, runs_more}
 use Rattle.file_classes.proofs.HeadLaws.{to_each, no_classes, not_distinct}
 use Rattle.file_classes.proofs.MemberLaws.{field_stands, member_breaks}
@@ -189,10 +189,10 @@ class_above b k (Some n) is = elim (decide_class n) [
 module _ (b : List ℕ) (framed : IsFramed b) (tables : TablesHold b) (i : ℕ) where
   module _ (class : Units) (superclass source : Option Units) (interfaces : List Units) (e : Entries) (row : RowIs b i class (class_word b i 1) superclass source)
       (list : InterfacesAt b (class_word b i 3) interfaces) (data_at : EntriesAt b (class_word b i 6) e) (order : InOrder b i) where
-    broken : (code : ℕ) → OneBreaks b class code e → ClassBreaks b code i
+    broken : (code : ℕ) → OneBreaks b class code e → ClassRowBreaks b code i
     broken code one = (member_breaks b i e class (record { code = code; place = row_place b 5 i }) data_at row.named one refl).breaks
 
-    members_row : HoldsOrBreaks ClassHolds ClassBreaks b i
+    members_row : HoldsOrBreaks ClassRowHolds ClassRowBreaks b i
     unfolding HoldsOrBreaks
     members_row = elim (fields_or_breaks b tables class e.statics) [
       | inr f ↦ inr (f.0, broken f.0 (inl f.1))
@@ -213,7 +213,7 @@ module _ (b : List ℕ) (framed : IsFramed b) (tables : TablesHold b) (i : ℕ) 
       ]
     ]
 
-  pub class_row : i < size_of b 5 → HoldsOrBreaks ClassHolds ClassBreaks b i
+  pub class_row : i < size_of b 5 → HoldsOrBreaks ClassRowHolds ClassRowBreaks b i
   unfolding HoldsOrBreaks
   class_row lt = elim (cases_lt (class_word b i 0) (size_of b 1)) [
     | inr ge ↦ inr (40, inl ge)
@@ -245,12 +245,12 @@ module _ (b : List ℕ) (framed : IsFramed b) (tables : TablesHold b) (i : ℕ) 
     ]
   ]
 
-pub classes_are_decided : (b : List ℕ) → IsFramed b → TablesHold b → ClassesHold b ⊎ ((e : Fault) × IsClassFault b e)
-classes_are_decided b framed tables = elim (first_break ClassBreaks ClassHolds b 5 (λ i lt. class_row b framed tables i lt) (size_of b 5) (omega arith)) [
+pub classes_are_decided : (b : List ℕ) → IsFramed b → TablesHold b → ClassRowsHold b ⊎ ((e : Fault) × IsClassFault b e)
+classes_are_decided b framed tables = elim (first_break ClassRowBreaks ClassRowHolds b 5 (λ i lt. class_row b framed tables i lt) (size_of b 5) (omega arith)) [
   | inl hold ↦ inl hold
   | inr f ↦ inr (f.0, record { framed = framed; tables = tables; first = f.1 })
 ]
 
-pub row_is_decided : (b : List ℕ) → IsFramed b → TablesHold b → (i : ℕ) → i < size_of b 5 → ClassHolds b i ⊎ ((code : ℕ) × ClassBreaks b code i)
+pub row_is_decided : (b : List ℕ) → IsFramed b → TablesHold b → (i : ℕ) → i < size_of b 5 → ClassRowHolds b i ⊎ ((code : ℕ) × ClassRowBreaks b code i)
 unfolding HoldsOrBreaks
 row_is_decided b framed tables i lt = class_row b framed tables i lt

@@ -25,7 +25,7 @@ use Rattle.file_read.specs.Broken.{Broken}
 use Rattle.file_classes.specs.ClassRows.{class_word}
 use Rattle.file_classes.specs.ClassData.{MethodEntry, Entries, EntriesAt, steps, index_of, IsRun}
 use Rattle.file_classes.specs.Classes.{IsMethod, StaticsAt, CodeAt, CodesAre, SpellsClass}
-use Rattle.file_classes.specs.ClassFaults.{ClassHolds, ClassesHold, ValuesHold, ValuesBreak, at_row, SomeBodyStands, BodyHolds, BodyFails, CodeHolds, RegistersFail, CodesHold, CodesBreak, MethodsHold, MethodsBreak, BodiesHold, BodiesBreak, RegistersHold, RegistersBreak, IsFirstClass}
+use Rattle.file_classes.specs.ClassFaults.{ClassRowHolds, ClassRowsHold, ValuesHold, ValuesBreak, at_row, SomeBodyStands, BodyHolds, BodyFails, CodeHolds, RegistersFail, EachCodeHolds, SomeCodeFails, MethodsHold, MethodsBreak, BodiesHold, BodiesBreak, RowRegistersHold, RowRegistersBreak, IsFirstClass}
 use Rattle.file_read.specs.Means.{Means}
 use Rattle.file_read.specs.Refused.{IsRefused}
 use Rattle.file_classes.proofs.EntryLaws.{entry_at, entries_one, at_some}
@@ -63,7 +63,7 @@ first_class_break Breaks Holds b row (suc n) le = elim (first_class_break Breaks
 
 -- ---- static values
 
-module _ (b : List ℕ) (are : AreBytes b) (framed : IsFramed b) (tables : TablesHold b) (i : ℕ) (h : ClassHolds b i) where
+module _ (b : List ℕ) (are : AreBytes b) (framed : IsFramed b) (tables : TablesHold b) (i : ℕ) (h : ClassRowHolds b i) where
   pub value_row : ValuesHold b i ⊎ ((f : Fault) × ValuesBreak b i f)
   value_row = elim (cases_eq (class_word b i 7) 0) [
     | inl none ↦ inl ([], record { entries = h.entries; class_data = h.head.class_data; spelled = at_none (class_word b i 7) _ _ none refl })
@@ -105,7 +105,7 @@ module _ (b : List ℕ) (Holds : List ℕ → ℕ → Type 0) (Fails : List ℕ 
   ]
 
   -- the first n of the methods, where it is decided at the offset of each
-  codes_up_to : (es : List MethodEntry) → ((k : ℕ) (e : MethodEntry) → slice_get es k ≡ Some e → Holds b e.1.1 ⊎ ((f : Fault) × Fails b e.1.1 f)) → (n : ℕ) → n ≤ length es → HoldUpTo es n ⊎ ((f : Fault) × CodesBreak Holds Fails b es f)
+  codes_up_to : (es : List MethodEntry) → ((k : ℕ) (e : MethodEntry) → slice_get es k ≡ Some e → Holds b e.1.1 ⊎ ((f : Fault) × Fails b e.1.1 f)) → (n : ℕ) → n ≤ length es → HoldUpTo es n ⊎ ((f : Fault) × SomeCodeFails Holds Fails b es f)
   codes_up_to es here zero le = inl (λ k e lt. absurd (omega (arith, lt)))
   codes_up_to es here (suc n) le = elim (codes_up_to es here n (omega (arith, le))) [
     | inl before ↦
@@ -117,7 +117,7 @@ module _ (b : List ℕ) (Holds : List ℕ → ℕ → Type 0) (Fails : List ℕ 
     | inr f ↦ inr f
   ]
 
-  codes_row : (es : List MethodEntry) → ((k : ℕ) (e : MethodEntry) → slice_get es k ≡ Some e → Holds b e.1.1 ⊎ ((f : Fault) × Fails b e.1.1 f)) → CodesHold Holds b es ⊎ ((f : Fault) × CodesBreak Holds Fails b es f)
+  codes_row : (es : List MethodEntry) → ((k : ℕ) (e : MethodEntry) → slice_get es k ≡ Some e → Holds b e.1.1 ⊎ ((f : Fault) × Fails b e.1.1 f)) → EachCodeHolds Holds b es ⊎ ((f : Fault) × SomeCodeFails Holds Fails b es f)
   codes_row es here = elim (codes_up_to es here (length es) (omega arith)) [
     | inl all ↦ inl (λ k e at. all k e (slice_get_within es k e at) at)
     | inr f ↦ inr f
@@ -159,13 +159,13 @@ module _ (b : List ℕ) (names : Names) (of_file : AreNamesOf b names) where
         ]
   ]
 
-pub bodies_decided : (b : List ℕ) → AreBytes b → IsFramed b → TablesHold b → (i : ℕ) → ClassHolds b i → BodiesHold b i ⊎ ((f : Fault) × BodiesBreak b i f)
+pub bodies_decided : (b : List ℕ) → AreBytes b → IsFramed b → TablesHold b → (i : ℕ) → ClassRowHolds b i → BodiesHold b i ⊎ ((f : Fault) × BodiesBreak b i f)
 bodies_decided b are framed tables i h =
     let found = tables_have_names b tables in
     let here = body_here b found.0 found.1 (body-decided b are framed found.0) in
     method_row b BodyHolds BodyFails i h.entries h.head.class_data (λ k e at. here e.1.1) (λ k e at. here e.1.1)
 
-pub registers_decided : (b : List ℕ) → IsFramed b → TablesHold b → (i : ℕ) → BodiesHold b i → RegistersHold b i ⊎ ((f : Fault) × RegistersBreak b i f)
+pub registers_decided : (b : List ℕ) → IsFramed b → TablesHold b → (i : ℕ) → BodiesHold b i → RowRegistersHold b i ⊎ ((f : Fault) × RowRegistersBreak b i f)
 registers_decided b framed tables i h =
     let found = tables_have_names b tables in
     method_row b CodeHolds RegistersFail i h.entries h.class_data (λ k e at. registers_here b found.0 found.1 framed e.1.1 (h.directs k e at)) (λ k e at. registers_here b found.0 found.1 framed e.1.1 (h.virtuals k e at))
@@ -182,7 +182,7 @@ framed_is_decided b are framed = elim (tables_are_decided b framed) [
       | inl values ↦
           elim (first_class_break BodiesBreak BodiesHold b (λ i lt. bodies_decided b are framed tables i (classes i lt)) (size_of b 5) (omega arith)) [
             | inr f ↦ inr (f.0, inr (inr (inr (inr (inl (record { framed = framed; tables = tables; classes = classes; values = values; first = f.1 }))))))
-            | inl bodies ↦ elim (first_class_break RegistersBreak RegistersHold b (λ i lt. registers_decided b framed tables i (bodies i lt)) (size_of b 5) (omega arith)) [
+            | inl bodies ↦ elim (first_class_break RowRegistersBreak RowRegistersHold b (λ i lt. registers_decided b framed tables i (bodies i lt)) (size_of b 5) (omega arith)) [
               | inr f ↦ inr (f.0, inr (inr (inr (inr (inr (record { framed = framed; tables = tables; classes = classes; values = values; bodies = bodies; first = f.1 }))))))
               | inl methods ↦ inl (program_meant b framed tables classes values methods)
             ]

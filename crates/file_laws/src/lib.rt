@@ -14,7 +14,8 @@ ghost use Rattle.program_rules.specs.WellFormed.{WellFormed};
 ghost use Rattle.tables_rows.specs.Sorted.{TablesHold};
 ghost use Rattle.tables_laws.specs.FileNames.{IsMentionedIn};
 ghost use Rattle.dex_container.specs.Layout.{size_of};
-ghost use Rattle.file_classes.specs.ClassFaults.{ClassHolds, ClassBreaks, ClassesHold, IsClassFault, ValuesHold, ValuesBreak, BodiesHold, BodiesBreak, RegistersHold, RegistersBreak};
+ghost use Rattle.dex_container.specs.Section as section;
+ghost use Rattle.file_classes.specs.ClassFaults.{ClassRowHolds, ClassRowBreaks, ClassRowsHold, IsClassFault, ValuesHold, ValuesBreak, BodiesHold, BodiesBreak, RowRegistersHold, RowRegistersBreak};
 ghost use Rattle.file_read.specs.Broken.{Broken};
 ghost use Rattle.file_read.specs.Means.{Means};
 ghost use Rattle.file_laws.specs.FileDeciding.{MeansOrRefused};
@@ -24,16 +25,16 @@ use dex_container::open;
 
 /// Where the tables hold, the class rows hold, or one of the faults 40 to 47 stands.
 pub fn classes_are_decided()
-    ensures { (b : List ℕ) → IsFramed b → TablesHold b → ClassesHold b ⊎ ((e : Fault) × IsClassFault b e) }
+    ensures { (b : List ℕ) → IsFramed b → TablesHold b → ClassRowsHold b ⊎ ((e : Fault) × IsClassFault b e) }
 {}
 
 /// A row of class_defs keeps the rules of each pass of reading, or a fault of that pass stands: names and members (40 to 47), static
 /// values (48 to 51), code (60 to 72), and where its code does, its registers (73).
 pub fn rows_are_decided()
-    ensures class { (b : List ℕ) → IsFramed b → TablesHold b → (i : ℕ) → i < size_of b 5 → ClassHolds b i ⊎ ((code : ℕ) × ClassBreaks b code i) }
-    ensures values { (b : List ℕ) → AreBytes b → IsFramed b → TablesHold b → (i : ℕ) → ClassHolds b i → ValuesHold b i ⊎ ((e : Fault) × ValuesBreak b i e) }
-    ensures code { (b : List ℕ) → AreBytes b → IsFramed b → TablesHold b → (i : ℕ) → ClassHolds b i → BodiesHold b i ⊎ ((e : Fault) × BodiesBreak b i e) }
-    ensures registers { (b : List ℕ) → IsFramed b → TablesHold b → (i : ℕ) → BodiesHold b i → RegistersHold b i ⊎ ((e : Fault) × RegistersBreak b i e) }
+    ensures class { (b : List ℕ) → IsFramed b → TablesHold b → (i : ℕ) → i < size_of b section.class_defs → ClassRowHolds b i ⊎ ((code : ℕ) × ClassRowBreaks b code i) }
+    ensures values { (b : List ℕ) → AreBytes b → IsFramed b → TablesHold b → (i : ℕ) → ClassRowHolds b i → ValuesHold b i ⊎ ((e : Fault) × ValuesBreak b i e) }
+    ensures code { (b : List ℕ) → AreBytes b → IsFramed b → TablesHold b → (i : ℕ) → ClassRowHolds b i → BodiesHold b i ⊎ ((e : Fault) × BodiesBreak b i e) }
+    ensures registers { (b : List ℕ) → IsFramed b → TablesHold b → (i : ℕ) → BodiesHold b i → RowRegistersHold b i ⊎ ((e : Fault) × RowRegistersBreak b i e) }
 {}
 
 /// A file whose header, map and checksums hold means a program, or one of the faults 20 to 73 refuses it.

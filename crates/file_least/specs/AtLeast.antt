@@ -6,6 +6,7 @@ use Rattle.code_read.specs.Code.{CodeStands}
 use Rattle.code_put.specs.Fits.{AllInsns, AllNumbers, AllTries, IsEven, OffsetsFit, ShortFits, TryFits}
 use Rattle.dex_container.specs.Frame.{IsFramed}
 use Rattle.dex_container.specs.Layout.{size_of}
+use Rattle.dex_container.specs.Section as section
 use Rattle.dex_insn.specs.declared.opcode.IndexKind.{IndexKind}
 use Rattle.tables_names.specs.Closure.{Five, NameRanks}
 use Rattle.tables_names.specs.Rank.{IsAt}
@@ -27,11 +28,11 @@ pub record ProtoStandsFrom (b : List ℕ) (i : ℕ) (proto : Proto) : Type 0 whe
 
 -- Each table is as long as the list of such names or longer, and has a row for each of them, at its rank or behind it.
 pub record HoldsAtLeast (b : List ℕ) (s : Five) : Type 0 where
-  pub strings : length s.strings ≤ size_of b 0
-  pub types : length s.types ≤ size_of b 1
-  pub protos : length s.protos ≤ size_of b 2
-  pub fields : length s.fields ≤ size_of b 3
-  pub methods : length s.methods ≤ size_of b 4
+  pub strings : length s.strings ≤ size_of b section.string_ids
+  pub types : length s.types ≤ size_of b section.type_ids
+  pub protos : length s.protos ≤ size_of b section.proto_ids
+  pub fields : length s.fields ≤ size_of b section.field_ids
+  pub methods : length s.methods ≤ size_of b section.method_ids
   pub names : (i : ℕ) (name : Name) → NameRanks s i name → NameStandsFrom b i name
   pub proto_names : (i : ℕ) (proto : Proto) → IsAt s.protos i (proto_key proto) → ProtoStandsFrom b i proto
 

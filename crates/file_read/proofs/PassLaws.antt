@@ -7,7 +7,7 @@ use Rattle.program_types.specs.Content.{Class, Program}
 use Rattle.tables_rows.specs.Names.{AreRows}
 use Rattle.tables_rows.specs.Sorted.{RowsHold, TablesHold}
 use Rattle.tables_rows.specs.TableFaults.{IsFirstRow}
-use Rattle.file_classes.specs.ClassFaults.{ClassBreaks, ClassHolds, ClassesHold, ValuesBreak, ValuesHold, BodiesBreak, BodiesHold, RegistersBreak, RegistersHold, IsFirstClass, IsCodeFault, IsRegisterFault}
+use Rattle.file_classes.specs.ClassFaults.{ClassRowBreaks, ClassRowHolds, ClassRowsHold, ValuesBreak, ValuesHold, BodiesBreak, BodiesHold, RowRegistersBreak, RowRegistersHold, IsFirstClass, IsCodeFault, IsRegisterFault}
 use Rattle.file_classes.specs.Classes.{SpellsClass}
 use Rattle.file_classes.specs.ClassRows.{InOrder}
 use Rattle.file_read.specs.Means.{Means}
@@ -18,7 +18,7 @@ use Rattle.file_classes.proofs.MethodLaws.{methods_hold, registers_bodies}
 use Rattle.file_classes.proofs.ClearLaws.{class_clear, values_clear, bodies_clear, methods_clear}
 
 -- a class that a row spells keeps the rules of all three passes
-class_holds : (b : List ℕ) (i : ℕ) (c : Class) → SpellsClass b i c → InOrder b i → ClassHolds b i
+class_holds : (b : List ℕ) (i : ℕ) (c : Class) → SpellsClass b i c → InOrder b i → ClassRowHolds b i
 class_holds b i c s order = record { entries = s.entries; class = c; head = s.head; order = order }
 
 values_hold : (b : List ℕ) (i : ℕ) (c : Class) → SpellsClass b i c → ValuesHold b i
@@ -31,14 +31,14 @@ module _ (b : List ℕ) (p : Program) (m : Means b p) where
       let c = entry_at p i (let n = m.classes.count in omega (arith, n, lt)) in
       f i c.0 lt (m.classes.each i c.0 c.1)
 
-  pub means_classes : ClassesHold b
-  means_classes = each (ClassHolds b) (λ i c lt s. class_holds b i c s (m.order i lt))
+  pub means_classes : ClassRowsHold b
+  means_classes = each (ClassRowHolds b) (λ i c lt s. class_holds b i c s (m.order i lt))
 
   pub means_values : RowsHold ValuesHold b (size_of b 5)
   means_values = each (ValuesHold b) (λ i c lt s. values_hold b i c s)
 
-  pub means_methods : RowsHold RegistersHold b (size_of b 5)
-  means_methods = each (RegistersHold b) (λ i c lt s. methods_hold b i c s)
+  pub means_methods : RowsHold RowRegistersHold b (size_of b 5)
+  means_methods = each (RowRegistersHold b) (λ i c lt s. methods_hold b i c s)
 
   pub means_bodies : RowsHold BodiesHold b (size_of b 5)
   means_bodies i lt = registers_bodies b i (means_methods i lt)
@@ -47,7 +47,7 @@ module _ (b : List ℕ) (p : Program) (m : Means b p) where
 pub no_first_class : (Breaks : List ℕ → ℕ → Fault → Type 0) (Holds : List ℕ → ℕ → Type 0) (b : List ℕ) (e : Fault) → ((i : ℕ) → Holds b i → Breaks b i e → ⊥) → RowsHold Holds b (size_of b 5) → IsFirstClass Breaks Holds b e → ⊥
 no_first_class Breaks Holds b e clear all first = clear first.row (all first.row first.within) first.broken
 
-pub no_class_fault : (b : List ℕ) (p : Program) (e : Fault) → Means b p → IsFirstRow ClassBreaks ClassHolds b 5 e → ⊥
+pub no_class_fault : (b : List ℕ) (p : Program) (e : Fault) → Means b p → IsFirstRow ClassRowBreaks ClassRowHolds b 5 e → ⊥
 no_class_fault b p e m first = class_clear b m.framed first.row e.code (means_classes b p m first.row first.within) first.broken.breaks
 
 pub no_value_fault : (b : List ℕ) (p : Program) (e : Fault) → Means b p → IsFirstClass ValuesBreak ValuesHold b e → ⊥
@@ -56,25 +56,25 @@ no_value_fault b p e m first = no_first_class ValuesBreak ValuesHold b e (λ i. 
 pub no_code_fault : (b : List ℕ) (p : Program) (e : Fault) → Means b p → IsFirstClass BodiesBreak BodiesHold b e → ⊥
 no_code_fault b p e m first = no_first_class BodiesBreak BodiesHold b e (λ i. bodies_clear b m.framed i e) (means_bodies b p m) first
 
-pub no_register_fault : (b : List ℕ) (p : Program) (e : Fault) → Means b p → IsFirstClass RegistersBreak RegistersHold b e → ⊥
-no_register_fault b p e m first = no_first_class RegistersBreak RegistersHold b e (λ i. methods_clear b m.framed i e) (means_methods b p m) first
+pub no_register_fault : (b : List ℕ) (p : Program) (e : Fault) → Means b p → IsFirstClass RowRegistersBreak RowRegistersHold b e → ⊥
+no_register_fault b p e m first = no_first_class RowRegistersBreak RowRegistersHold b e (λ i. methods_clear b m.framed i e) (means_methods b p m) first
 
 -- the third pass refuses nothing where a program is meant
-pub no_last_fault : (b : List ℕ) (p : Program) (e : Fault) → Means b p → IsFirstClass BodiesBreak BodiesHold b e ⊎ (RowsHold BodiesHold b (size_of b 5) × IsFirstClass RegistersBreak RegistersHold b e) → ⊥
+pub no_last_fault : (b : List ℕ) (p : Program) (e : Fault) → Means b p → IsFirstClass BodiesBreak BodiesHold b e ⊎ (RowsHold BodiesHold b (size_of b 5) × IsFirstClass RowRegistersBreak RowRegistersHold b e) → ⊥
 no_last_fault b p e m (inl f) = no_code_fault b p e m f
 no_last_fault b p e m (inr f) = no_register_fault b p e m f.1
 
 -- where the passes before it refuse nothing, it refuses by one of its groups
-pub last_refused : (b : List ℕ) (e : Fault) → IsFramed b → TablesHold b → ClassesHold b → RowsHold ValuesHold b (size_of b 5) → IsFirstClass BodiesBreak BodiesHold b e ⊎ (RowsHold BodiesHold b (size_of b 5) × IsFirstClass RegistersBreak RegistersHold b e) → IsCodeFault b e ⊎ IsRegisterFault b e
+pub last_refused : (b : List ℕ) (e : Fault) → IsFramed b → TablesHold b → ClassRowsHold b → RowsHold ValuesHold b (size_of b 5) → IsFirstClass BodiesBreak BodiesHold b e ⊎ (RowsHold BodiesHold b (size_of b 5) × IsFirstClass RowRegistersBreak RowRegistersHold b e) → IsCodeFault b e ⊎ IsRegisterFault b e
 last_refused b e framed tables classes values (inl f) = inl (record { framed = framed; tables = tables; classes = classes; values = values; first = f })
 last_refused b e framed tables classes values (inr f) = inr (record { framed = framed; tables = tables; classes = classes; values = values; bodies = f.0; first = f.1 })
 
 -- the program of classes that the rows spell
-pub means_these : (b : List ℕ) (p : Program) → IsFramed b → TablesHold b → ClassesHold b → AreRows SpellsClass b 5 p → Means b p
+pub means_these : (b : List ℕ) (p : Program) → IsFramed b → TablesHold b → ClassRowsHold b → AreRows SpellsClass b 5 p → Means b p
 means_these b p framed tables hold rows = record { framed = framed; tables = tables; classes = rows; order = λ i lt. (hold i lt).order }
 
 -- where all rows keep the rules of all passes, the file means some program
-pub program_meant : (b : List ℕ) → IsFramed b → TablesHold b → ClassesHold b → RowsHold ValuesHold b (size_of b 5) → RowsHold RegistersHold b (size_of b 5) → (p : Program) × Means b p
+pub program_meant : (b : List ℕ) → IsFramed b → TablesHold b → ClassRowsHold b → RowsHold ValuesHold b (size_of b 5) → RowsHold RowRegistersHold b (size_of b 5) → (p : Program) × Means b p
 program_meant b framed tables classes values codes =
     let built = build (SpellsClass b) (size_of b 5) (λ i lt. class_meant b framed i (classes i lt) (values i lt) (codes i lt)) in
     (built.0, record { framed = framed; tables = tables; classes = record { count = built.1; each = built.2 }; order = λ i lt. (classes i lt).order })

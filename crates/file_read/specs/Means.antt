@@ -2,6 +2,7 @@
 use Rattle.std.specs.Prelude.{ℕ, ◌<◌, List}
 use Rattle.dex_container.specs.Layout.{size_of}
 use Rattle.dex_container.specs.Frame.{IsFramed}
+use Rattle.dex_container.specs.Section as section
 use Rattle.program_types.specs.Content.{Program}
 use Rattle.tables_rows.specs.Names.{AreRows}
 use Rattle.tables_rows.specs.Sorted.{TablesHold}
@@ -13,5 +14,5 @@ use Rattle.file_classes.specs.Classes.{SpellsClass}
 pub record Means (b : List ℕ) (p : Program) : Type 0 where
   pub framed : IsFramed b
   pub tables : TablesHold b
-  pub classes : AreRows SpellsClass b 5 p
-  pub order : (i : ℕ) → i < size_of b 5 → InOrder b i
+  pub classes : AreRows SpellsClass b section.class_defs p
+  pub order : (i : ℕ) → i < size_of b section.class_defs → InOrder b i

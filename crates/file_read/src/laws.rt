@@ -3,6 +3,7 @@ ghost use Rattle.std.specs.Prelude.{◌≡◌, ℕ, List};
 ghost use Rattle.base_bytes.specs.declared.fault.Fault.{Fault};
 ghost use Rattle.file_classes.specs.ClassFaults.{IsClassFault, IsValueFault, IsCodeFault, IsRegisterFault};
 ghost use Rattle.dex_container.specs.Faults.{FrameBreaks};
+ghost use Rattle.dex_container.specs.Section as section;
 ghost use Rattle.file_read.specs.Broken.{RowBroken, TableBroken, ClassBroken, ValueBroken, CodeBroken, RegisterBroken, Broken};
 ghost use Rattle.file_read.specs.Means.{Means};
 ghost use Rattle.tables_rows.specs.TableFaults.{StringBreaks, TypeBreaks, ProtoBreaks, FieldBreaks, MethodBreaks, IsStringFault, IsTypeFault, IsProtoFault, IsFieldFault, IsMethodFault};
@@ -19,11 +20,11 @@ pub fn meaning_is_clear()
 
 /// A fault that is answered stands, and none of an earlier group does.
 pub fn refusals_are_first()
-    ensures string { (b : List ℕ) (e : Fault) → IsStringFault b e → RowBroken StringBreaks b 0 e × ((f : Fault) → ¬ FrameBreaks b f.code f.place) }
-    ensures ty { (b : List ℕ) (e : Fault) → IsTypeFault b e → RowBroken TypeBreaks b 1 e × ((f : Fault) → (¬ FrameBreaks b f.code f.place) × (¬ RowBroken StringBreaks b 0 f)) }
-    ensures proto { (b : List ℕ) (e : Fault) → IsProtoFault b e → RowBroken ProtoBreaks b 2 e × ((f : Fault) → (¬ FrameBreaks b f.code f.place) × (¬ RowBroken StringBreaks b 0 f) × (¬ RowBroken TypeBreaks b 1 f)) }
-    ensures field { (b : List ℕ) (e : Fault) → IsFieldFault b e → RowBroken FieldBreaks b 3 e × ((f : Fault) → (¬ FrameBreaks b f.code f.place) × (¬ RowBroken StringBreaks b 0 f) × (¬ RowBroken TypeBreaks b 1 f) × (¬ RowBroken ProtoBreaks b 2 f)) }
-    ensures method { (b : List ℕ) (e : Fault) → IsMethodFault b e → RowBroken MethodBreaks b 4 e × ((f : Fault) → (¬ FrameBreaks b f.code f.place) × (¬ RowBroken StringBreaks b 0 f) × (¬ RowBroken TypeBreaks b 1 f) × (¬ RowBroken ProtoBreaks b 2 f) × (¬ RowBroken FieldBreaks b 3 f)) }
+    ensures string { (b : List ℕ) (e : Fault) → IsStringFault b e → RowBroken StringBreaks b section.string_ids e × ((f : Fault) → ¬ FrameBreaks b f.code f.place) }
+    ensures ty { (b : List ℕ) (e : Fault) → IsTypeFault b e → RowBroken TypeBreaks b section.type_ids e × ((f : Fault) → (¬ FrameBreaks b f.code f.place) × (¬ RowBroken StringBreaks b section.string_ids f)) }
+    ensures proto { (b : List ℕ) (e : Fault) → IsProtoFault b e → RowBroken ProtoBreaks b section.proto_ids e × ((f : Fault) → (¬ FrameBreaks b f.code f.place) × (¬ RowBroken StringBreaks b section.string_ids f) × (¬ RowBroken TypeBreaks b section.type_ids f)) }
+    ensures field { (b : List ℕ) (e : Fault) → IsFieldFault b e → RowBroken FieldBreaks b section.field_ids e × ((f : Fault) → (¬ FrameBreaks b f.code f.place) × (¬ RowBroken StringBreaks b section.string_ids f) × (¬ RowBroken TypeBreaks b section.type_ids f) × (¬ RowBroken ProtoBreaks b section.proto_ids f)) }
+    ensures method { (b : List ℕ) (e : Fault) → IsMethodFault b e → RowBroken MethodBreaks b section.method_ids e × ((f : Fault) → (¬ FrameBreaks b f.code f.place) × (¬ RowBroken StringBreaks b section.string_ids f) × (¬ RowBroken TypeBreaks b section.type_ids f) × (¬ RowBroken ProtoBreaks b section.proto_ids f) × (¬ RowBroken FieldBreaks b section.field_ids f)) }
     ensures class { (b : List ℕ) (e : Fault) → IsClassFault b e → ClassBroken b e × ((f : Fault) → (¬ FrameBreaks b f.code f.place) × (¬ TableBroken b f)) }
     ensures value { (b : List ℕ) (e : Fault) → IsValueFault b e → ValueBroken b e × ((f : Fault) → (¬ FrameBreaks b f.code f.place) × (¬ TableBroken b f) × (¬ ClassBroken b f)) }
     ensures code { (b : List ℕ) (e : Fault) → IsCodeFault b e → CodeBroken b e × ((f : Fault) → (¬ FrameBreaks b f.code f.place) × (¬ TableBroken b f) × (¬ ClassBroken b f) × (¬ ValueBroken b f)) }

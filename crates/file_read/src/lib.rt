@@ -2,7 +2,7 @@
 //!
 //! ```
 //! let program = read(alloc, &arena, &bytes)?; // 1 to 73, the first fault
-//! check(alloc, &bytes)?; // the same fault, and no program is held
+//! check(alloc, &bytes)?; // a fault of the same group, and no program is held
 //! ```
 #![tactic(auto)]
 

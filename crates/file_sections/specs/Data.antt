@@ -2,7 +2,7 @@
 -- Page: "Dalvik Executable format", "class_data_item", "encoded_field", "encoded_method".
 use Rattle.std.specs.Prelude.{◌≡◌, ℕ, ◌+◌, Bool, List, [], ◌∷◌, ◌++◌, ◌&&◌, length, map, take, drop}
 use Rattle.base_bytes.specs.Leb128.{Spells, Shortest}
-use Rattle.file_classes.specs.ClassData.{FieldEntry, MethodEntry, Entries, SpellsEntries, IsRun}
+use Rattle.file_classes.specs.ClassData.{FieldEntry, MethodEntry, Entries, SpellsEntries, IsRun, field_flags, method_flags, code_off}
 use Rattle.file_layout.specs.Sections.{is_empty_list}
 use Rattle.file_limits.specs.Wide.{wide_data}
 use Rattle.program_types.specs.Content.{Name, OfField, OfMethod, Descriptor, Member, Method, Class, Program}
@@ -32,12 +32,12 @@ wide_sited v = wide_data v.class
 -- The entry with this index is this field of the class, where N says which index stands for which name.
 pub record FieldRanks (N : ℕ → Name → Type 0) (class : Descriptor) (index : ℕ) (e : FieldEntry) (m : Member) : Type 0 where
   pub field : N index (OfField (record { class = class; name = m.name; ty = m.ty }))
-  pub flags : m.flags ≡ e.1
+  pub flags : m.flags ≡ field_flags e
 
 -- .. this method of the class, its body aside.
 pub record MethodRanks (N : ℕ → Name → Type 0) (class : Descriptor) (index : ℕ) (e : MethodEntry) (m : Method) : Type 0 where
   pub method : N index (OfMethod (record { class = class; name = m.name; proto = m.proto }))
-  pub flags : m.flags ≡ e.1.0
+  pub flags : m.flags ≡ method_flags e
 
 -- The four lists are those of the class.
 pub record MembersRank (N : ℕ → Name → Type 0) (e : Entries) (c : Class) : Type 0 where
@@ -48,7 +48,7 @@ pub record MembersRank (N : ℕ → Name → Type 0) (e : Entries) (c : Class) :
 
 -- where the bodies of methods stand
 abbrev pub code_offs : List MethodEntry → List ℕ
-code_offs es = map (λ e. e.1.1) es
+code_offs es = map (λ e. code_off e) es
 
 -- A class_data_item of the class, in the fewest bytes.
 pub record PacksData (N : ℕ → Name → Type 0) (bytes : List ℕ) (v : Sited) : Type 0 where

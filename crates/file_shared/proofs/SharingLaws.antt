@@ -5,7 +5,7 @@ use Rattle.std.specs.Prelude.{MatchBool}
 use Rattle.file_layout.specs.Tiles.{zeros, gap, Refers}
 use Rattle.file_layout.specs.Sections.{Adds, IsItself, Laying, Laid}
 use Rattle.file_layout.proofs.SectionLaws.{Laying-start, Laying-none, Laying-item, Laying-again, Zip-length, length-padded}
-use Rattle.file_shared.specs.Once.{Entry, IsKept, IsAgain, IsFirst, PutsOnce}
+use Rattle.file_shared.specs.Once.{Entry, IsKept, IsAgain, IsAdded, PutsOnce}
 use Rattle.file_shared.specs.Sharing.{IsUse, AreApart, Sharing, UsesItem}
 
 -- ---- lists with one more at the end
@@ -94,7 +94,7 @@ module _ {V : Type 0} (none : V → Bool) (G K : List ℕ → V → Type 0) (ali
   -- one with an item of its own
   sharing_first : (old out new : List ℕ) (done rest all : List V) (v : V) (places : List ℕ) (place : ℕ) (kept more : List Entry) (bytes : List ℕ)
       → ((bytes : List ℕ) (u : V) → K bytes u → G bytes u)
-      → Sharing none G K align wide old out done (v ∷ rest) all places kept → 0 < length old → none v ≡ false → K bytes v → IsFirst align kept more out new bytes place → length new ≤ length out + wide v
+      → Sharing none G K align wide old out done (v ∷ rest) all places kept → 0 < length old → none v ≡ false → K bytes v → IsAdded align kept more out new bytes place → length new ≤ length out + wide v
       → Sharing none G K align wide old new (done ++ v ∷ []) rest all (places ++ place ∷ []) more
   sharing_first old out new done rest all v places place kept more bytes packs s front e k f small =
       let a = f.adds in

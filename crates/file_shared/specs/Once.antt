@@ -23,11 +23,11 @@ pub record IsAgain (kept more : List Entry) (old new bytes : List ℕ) (place : 
   pub same : more ≡ kept
 
 -- None does; the item is added behind `old`, at the next place that `align` divides, and is kept.
-pub record IsFirst (align : ℕ) (kept more : List Entry) (old new bytes : List ℕ) (place : ℕ) : Type 0 where
+pub record IsAdded (align : ℕ) (kept more : List Entry) (old new bytes : List ℕ) (place : ℕ) : Type 0 where
   pub fresh : (other : ℕ) → ¬ IsKept kept bytes other
   pub adds : Adds IsItself align old new bytes place
   pub last : more ≡ kept ++ (bytes, place) ∷ []
 
 -- The item of these bytes stands at this place, once.
 abbrev pub PutsOnce : ℕ → List Entry → List Entry → List ℕ → List ℕ → List ℕ → ℕ → Type 0
-PutsOnce align kept more old new bytes place = IsAgain kept more old new bytes place ⊎ IsFirst align kept more old new bytes place
+PutsOnce align kept more old new bytes place = IsAgain kept more old new bytes place ⊎ IsAdded align kept more old new bytes place

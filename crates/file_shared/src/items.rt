@@ -3,7 +3,7 @@
 ghost use Rattle.std.specs.Prelude.{◌≡◌, ℕ, ◌+◌, ◌<◌, ◌^◌, ◌∷◌, [], ◌++◌, IfOk, IfSome, IfNone, OnOk, IsOkUnless, length};
 ghost use Rattle.base_bytes.specs.Fault.{memory};
 ghost use Rattle.file_layout.specs.Sections.{Adds, IsItself};
-ghost use Rattle.file_shared.specs.Once.{IsKept, IsFirst, PutsOnce};
+ghost use Rattle.file_shared.specs.Once.{IsKept, IsAdded, PutsOnce};
 
 use base_bytes::Fault;
 use file_layout::pad;

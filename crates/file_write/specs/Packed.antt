@@ -6,9 +6,10 @@ use Rattle.dex_base.specs.Mutf8.{PacksText}
 use Rattle.base_bytes.specs.Fields.{u16_at, u32_at}
 use Rattle.base_bytes.specs.Leb128.{Spells, Shortest}
 use Rattle.file_classes.specs.ClassData.{Entries, EntriesAt, SpellsEntries}
-use Rattle.file_classes.specs.ClassRows.{class_word}
+use Rattle.file_classes.specs.ClassRows.{annotations_off, class_data_off, interfaces_off, static_values_off}
 use Rattle.code_put.specs.Packs.{PacksCode}
 use Rattle.dex_container.specs.Layout.{size_of, offset_of, row_bytes, map_place, map_end, entry_count, entry_place, kind_at, items_at, place_at, data_begin, data_end}
+use Rattle.dex_container.specs.Section as section
 use Rattle.file_layout.specs.Parts.{IsWrittenKind}
 use Rattle.file_layout.specs.Tiles.{Tiles, IsNext, distinct_places}
 use Rattle.program_types.specs.Content.{Value}
@@ -60,23 +61,23 @@ words_of word (suc n) = words_of word n ++ word n ∷ []
 
 -- parameters_off of each prototype, then interfaces_off of each class
 abbrev pub list_places : List ℕ → List ℕ
-list_places b = words_of (proto_parameters b) (size_of b 2) ++ words_of (λ i. class_word b i 3) (size_of b 5)
+list_places b = words_of (proto_parameters b) (size_of b section.proto_ids) ++ words_of (λ i. interfaces_off b i) (size_of b section.class_defs)
 
 -- string_data_off of each string
 abbrev pub text_places : List ℕ → List ℕ
-text_places b = words_of (string_place b) (size_of b 0)
+text_places b = words_of (string_place b) (size_of b section.string_ids)
 
 -- static_values_off of each class
 abbrev pub array_places : List ℕ → List ℕ
-array_places b = words_of (λ i. class_word b i 7) (size_of b 5)
+array_places b = words_of (λ i. static_values_off b i) (size_of b section.class_defs)
 
 -- class_data_off of each class
 abbrev pub data_places : List ℕ → List ℕ
-data_places b = words_of (λ i. class_word b i 6) (size_of b 5)
+data_places b = words_of (λ i. class_data_off b i) (size_of b section.class_defs)
 
 -- the class data of row i, no entries where it has none
 abbrev pub ClassDataIs : List ℕ → ℕ → Entries → Type 0
-ClassDataIs b i e = EntriesAt b (class_word b i 6) e
+ClassDataIs b i e = EntriesAt b (class_data_off b i) e
 
 -- code_off of each method of a class, the direct ones first
 abbrev pub code_places : Entries → List ℕ
@@ -117,7 +118,7 @@ pub record DataIsPacked (b : List ℕ) (ends : DataEnds) (entries : List Entries
 -- What no reader looks at is 0: link_off, annotations_off, the half word behind the kind of a map entry.
 pub record UnusedIsZero (b : List ℕ) : Type 0 where
   pub link : u32_at b 48 ≡ 0
-  pub annotations : (i : ℕ) → i < size_of b 5 → class_word b i 5 ≡ 0
+  pub annotations : (i : ℕ) → i < size_of b section.class_defs → annotations_off b i ≡ 0
   pub map : (i : ℕ) → i < entry_count b → u16_at b (entry_place b i + 2) ≡ 0
 
 -- The map lists the kinds that a written file has and no others, and each only if it has items.
@@ -130,7 +131,7 @@ pub record MapIsPacked (b : List ℕ) : Type 0 where
 pub record Packed (b : List ℕ) : Type 0 where
   pub tables : TablesArePacked b
   pub entries : List Entries
-  pub entries_are : AreRows ClassDataIs b 5 entries
+  pub entries_are : AreRows ClassDataIs b section.class_defs entries
   pub ends : DataEnds
   pub data_section : DataIsPacked b ends entries
   pub map : MapIsPacked b

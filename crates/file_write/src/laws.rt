@@ -6,6 +6,7 @@ ghost use Rattle.file_classes.specs.ClassRows.{InOrder};
 ghost use Rattle.file_classes.specs.Classes.{SpellsClass};
 ghost use Rattle.dex_container.specs.Frame.{IsFramed};
 ghost use Rattle.dex_container.specs.Layout.{size_of};
+ghost use Rattle.dex_container.specs.Section as section;
 ghost use Rattle.file_read.specs.Means.{Means};
 ghost use Rattle.file_limits.specs.Limits.{Fits};
 ghost use Rattle.tables_names.specs.Needed.{needed};
@@ -27,8 +28,8 @@ pub fn assembled_tables_hold()
 /// The rows of class_defs of an assembled file spell the classes of its program, with their interfaces, static values, members and
 /// bodies, and each class comes behind what it stands on.
 pub fn assembled_classes_stand()
-    ensures classes { (b : List ℕ) (p : Program) → WellFormed p → Fits p → Assembled b (needed p) p → AreRows SpellsClass b 5 p }
-    ensures order { (b : List ℕ) (p : Program) → WellFormed p → Fits p → Assembled b (needed p) p → (i : ℕ) → i < size_of b 5 → InOrder b i }
+    ensures classes { (b : List ℕ) (p : Program) → WellFormed p → Fits p → Assembled b (needed p) p → AreRows SpellsClass b section.class_defs p }
+    ensures order { (b : List ℕ) (p : Program) → WellFormed p → Fits p → Assembled b (needed p) p → (i : ℕ) → i < size_of b section.class_defs → InOrder b i }
 {}
 
 /// The file that is assembled of a well-formed program within the limits means this program.

@@ -82,11 +82,13 @@ start = record { done = []; block = at_start; lines = 0; late = None }
 
 -- ---- which line may follow
 
+-- Where the next line of a class stands.
 abbrev pub class_stage : ClassPart → Stage
 class_stage at_heads = Heads
 class_stage at_members = Members
 class_stage (behind_method m) = Behind
 
+-- Where the next line of a code stands.
 abbrev pub code_stage : CodePart → Stage
 code_stage at_insns = Insns
 code_stage behind_try = Tries

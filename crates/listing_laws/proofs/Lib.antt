@@ -22,5 +22,6 @@ pub mod ClassRuns
 pub mod WordRuns
 pub mod SpelledValues
 pub mod ReadValues
+pub mod FreeSlots
 pub mod GivenLines
 pub mod TwiceLaws

@@ -14,11 +14,11 @@ Runs d [] [] = is_whole d ≡ true
 Runs d (w ∷ ws) (x ∷ ds) = (has_form (slot_at d w) w ≡ true) × SpellsSlot (slot_at d w) w x × Runs (due_behind_word d w) ws ds
 Runs _ _ _ = ⊥
 
-whole_of : (b : Bool) (ss : List Slot) → (if b then Some [] else None) ≡ Some ss → (b ≡ true) × (ss ≡ [])
+pub whole_of : (b : Bool) (ss : List Slot) → (if b then Some [] else None) ≡ Some ss → (b ≡ true) × (ss ≡ [])
 whole_of true ss e = (refl, cc)
 whole_of false ss e = absurd cc
 
-more_of : (s : Slot) (o : Option (List Slot)) (ss : List Slot) → option_map (λ more. s ∷ more) o ≡ Some ss → (more : List Slot) × (o ≡ Some more) × (ss ≡ s ∷ more)
+pub more_of : (s : Slot) (o : Option (List Slot)) (ss : List Slot) → option_map (λ more. s ∷ more) o ≡ Some ss → (more : List Slot) × (o ≡ Some more) × (ss ≡ s ∷ more)
 more_of s None ss e = absurd cc
 more_of s (Some more) ss e = (more, refl, cc)
 

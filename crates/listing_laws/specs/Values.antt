@@ -15,8 +15,11 @@ use Rattle.listing_slots.specs.Keys.{key_text}
 use Rattle.listing_slots.specs.Slots.{SpellsNumber, SpellsSigned, SpellsPlain, SpellsNamed, IsMember, IsType}
 use Rattle.listing_slots.specs.Slots.{SpellsSlots, have_forms}
 use Rattle.listing_shapes.specs.declared.due.Due.TheVariants as due
-use Rattle.listing_shapes.specs.Shapes.{Shape, HasShape, value_slots}
+use Rattle.listing_shapes.specs.Shapes.{Shape, value_slots}
 use Rattle.listing_lines.specs.Lines.{Line, line_of, value_of}
+use Rattle.listing_lines.specs.declared.form.Form.{Form}
+use Rattle.listing_labels.specs.Labels.{Label}
+use Rattle.listing_parse.specs.Forms.{Shapes, Spells}
 
 -- The word that a keyword is.
 abbrev pub keyword : Key → Word
@@ -78,11 +81,11 @@ pub record IsReadAsValue (ws : List Word) (v : Value) : Type 0 where
   pub spelled : SpellsSlots slots ws says
   pub made : value_of says ≡ v
 
--- The words of a line are read as the line: they have a shape, each says something in its slot, and what they say makes
--- the line.
-pub record IsReadAsLine (ws : List Word) (l : Line) : Type 0 where
+-- The words of a line are read as the line, in a text of this form, where the open code has these labels: they have a shape, each
+-- says something in its slot, and what they say makes the line.
+pub record IsReadAsLine (form : Form) (ls : List Label) (ws : List Word) (l : Line) : Type 0 where
   pub shape : Shape
-  pub has_shape : HasShape ws shape
+  pub has_shape : Shapes form ws shape
   pub says : List Datum
-  pub spelled : SpellsSlots shape.slots shape.words says
+  pub spelled : Spells form ls shape.slots shape.words says
   pub made : line_of shape.kind says ≡ l

@@ -5,13 +5,15 @@ ghost use Rattle.program_types.specs.Content.{Member, Value};
 ghost use Rattle.listing_words.specs.Words.{Word};
 ghost use Rattle.listing_slots.specs.declared.key.Key.TheVariants.{Static};
 ghost use Rattle.listing_lines.specs.Lines.{static_line};
+ghost use Rattle.listing_lines.specs.declared.form.Form.{Form};
+ghost use Rattle.listing_labels.specs.Labels.{Label};
 ghost use Rattle.listing_laws.specs.Values.{keyword, SaysValue, SayGiven, IsReadAsValue, IsReadAsLine};
 
 /// Words are read as a value exactly if they say it: its keyword and its operand, an array's values between braces. So a
-/// line that begins with `static` gives a field a value exactly if name, type, flags and `=` come first, and then words
-/// that say the value.
+/// line that begins with `static` gives a field a value, in either form, exactly if name, type, flags and `=` come first,
+/// and then words that say the value.
 pub fn values_are_spelled()
     ensures value { (ws : List Word) (v : Value) → SaysValue ws v ↔ IsReadAsValue ws v }
-    ensures line { (ws : List Word) (m : Member) (v : Value)
-        → SayGiven ws m v ↔ IsReadAsLine (keyword Static ∷ ws) (static_line m (Some v)) }
+    ensures line { (form : Form) (ls : List Label) (ws : List Word) (m : Member) (v : Value)
+        → SayGiven ws m v ↔ IsReadAsLine form ls (keyword Static ∷ ws) (static_line m (Some v)) }
 {}

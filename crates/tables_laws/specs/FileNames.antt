@@ -4,6 +4,7 @@ use Rattle.std.specs.Prelude.{◌≡◌, ℕ, ◌≤◌, List, map, length, true
 use Rattle.std.specs.List.{AllByRecursion}
 use Rattle.dex_container.specs.Frame.{IsFramed}
 use Rattle.dex_container.specs.Layout.{size_of}
+use Rattle.dex_container.specs.Section as section
 use Rattle.program_types.specs.Content.{Units, Proto, FieldRef, MethodRef, Name, Program}
 use Rattle.program_types.specs.Key.{text_key, proto_key, field_ref_key, method_ref_key}
 use Rattle.tables_names.specs.Rank.{rank_of, is_member}
@@ -46,11 +47,11 @@ IsMentionedIn p b = AllByRecursion (HasRow b) (mentions p)
 
 -- The tables are at least as long as these sets, and no name's row is before its rank in them.
 pub record AreNoShorter (b : List ℕ) (s : Five) : Type 0 where
-  pub strings : length s.strings ≤ size_of b 0
-  pub types : length s.types ≤ size_of b 1
-  pub protos : length s.protos ≤ size_of b 2
-  pub fields : length s.fields ≤ size_of b 3
-  pub methods : length s.methods ≤ size_of b 4
+  pub strings : length s.strings ≤ size_of b section.string_ids
+  pub types : length s.types ≤ size_of b section.type_ids
+  pub protos : length s.protos ≤ size_of b section.proto_ids
+  pub fields : length s.fields ≤ size_of b section.field_ids
+  pub methods : length s.methods ≤ size_of b section.method_ids
   pub string_rank : (i : ℕ) (t : Units) → StringStands b i t → rank_of s.strings (text_key t) ≤ i
   pub type_rank : (i : ℕ) (t : Units) → TypeStands b i t → rank_of s.types (text_key t) ≤ i
   pub proto_rank : (i : ℕ) (p : Proto) → ProtoStands b i p → rank_of s.protos (proto_key p) ≤ i

@@ -10,6 +10,7 @@ ghost use Rattle.tables_rows.specs.Stands.{StringStands, TypeStands, ProtoStands
 ghost use Rattle.base_bytes.specs.declared.fault.Fault.{Fault};
 ghost use Rattle.dex_container.specs.Frame.{IsFramed};
 ghost use Rattle.dex_container.specs.Layout.{size_of};
+ghost use Rattle.dex_container.specs.Section as section;
 ghost use Rattle.tables_rows.specs.Sorted.{StringHolds, TypeHolds, ProtoHolds, FieldHolds, MethodHolds, StringsHold, TypesHold, ProtosHold, TablesHold};
 ghost use Rattle.tables_rows.specs.TableFaults.{StringBreaks, TypeBreaks, ProtoBreaks, FieldBreaks, MethodBreaks, IsTableFault};
 ghost use Rattle.tables_laws.specs.FileNames.{TablesHaveNames, NamesRise, NamesAreClosed, FilesHoldNeeded, FilesAreNoShorter, NeededHasRows};
@@ -65,11 +66,11 @@ pub fn tables_hold_without_fault()
 
 /// A row that no rule is broken at holds, where the tables before hold.
 pub fn clear_rows_hold()
-    ensures string { (b : List ℕ) → IsFramed b → (i : ℕ) → i < size_of b 0 → ((code : ℕ) → ¬ StringBreaks b code i) → StringHolds b i }
-    ensures ty { (b : List ℕ) → IsFramed b → (i : ℕ) → StringsHold b → i < size_of b 1 → ((code : ℕ) → ¬ TypeBreaks b code i) → TypeHolds b i }
-    ensures proto { (b : List ℕ) → IsFramed b → (i : ℕ) → StringsHold b → TypesHold b → i < size_of b 2 → ((code : ℕ) → ¬ ProtoBreaks b code i) → ProtoHolds b i }
-    ensures field { (b : List ℕ) → IsFramed b → (i : ℕ) → StringsHold b → TypesHold b → i < size_of b 3 → ((code : ℕ) → ¬ FieldBreaks b code i) → FieldHolds b i }
-    ensures method { (b : List ℕ) → IsFramed b → (i : ℕ) → StringsHold b → TypesHold b → ProtosHold b → i < size_of b 4 → ((code : ℕ) → ¬ MethodBreaks b code i) → MethodHolds b i }
+    ensures string { (b : List ℕ) → IsFramed b → (i : ℕ) → i < size_of b section.string_ids → ((code : ℕ) → ¬ StringBreaks b code i) → StringHolds b i }
+    ensures ty { (b : List ℕ) → IsFramed b → (i : ℕ) → StringsHold b → i < size_of b section.type_ids → ((code : ℕ) → ¬ TypeBreaks b code i) → TypeHolds b i }
+    ensures proto { (b : List ℕ) → IsFramed b → (i : ℕ) → StringsHold b → TypesHold b → i < size_of b section.proto_ids → ((code : ℕ) → ¬ ProtoBreaks b code i) → ProtoHolds b i }
+    ensures field { (b : List ℕ) → IsFramed b → (i : ℕ) → StringsHold b → TypesHold b → i < size_of b section.field_ids → ((code : ℕ) → ¬ FieldBreaks b code i) → FieldHolds b i }
+    ensures method { (b : List ℕ) → IsFramed b → (i : ℕ) → StringsHold b → TypesHold b → ProtosHold b → i < size_of b section.method_ids → ((code : ℕ) → ¬ MethodBreaks b code i) → MethodHolds b i }
 {}
 
 /// Such a file has a row for each name that the program needs.

@@ -2,6 +2,7 @@
 use Rattle.std.specs.Prelude.{◌≡◌, ℕ, List, length, Some}
 use Rattle.std.specs.List.{slice_get}
 use Rattle.dex_container.specs.Layout.{size_of}
+use Rattle.dex_container.specs.Section as section
 use Rattle.program_types.specs.Content.{Units, Proto, FieldRef, MethodRef, Name, OfText, OfDesc, OfField, OfMethod}
 use Rattle.tables_rows.specs.Stands.{StringStands, TypeStands, ProtoStands, FieldStands, MethodStands}
 
@@ -20,11 +21,11 @@ pub record AreRows {V : Type 0} (Stands : List ℕ → ℕ → V → Type 0) (b 
 
 -- These are the names of the five tables of this file.
 pub record AreNamesOf (b : List ℕ) (names : Names) : Type 0 where
-  pub strings : AreRows StringStands b 0 names.strings
-  pub types : AreRows TypeStands b 1 names.types
-  pub protos : AreRows ProtoStands b 2 names.protos
-  pub fields : AreRows FieldStands b 3 names.fields
-  pub methods : AreRows MethodStands b 4 names.methods
+  pub strings : AreRows StringStands b section.string_ids names.strings
+  pub types : AreRows TypeStands b section.type_ids names.types
+  pub protos : AreRows ProtoStands b section.proto_ids names.protos
+  pub fields : AreRows FieldStands b section.field_ids names.fields
+  pub methods : AreRows MethodStands b section.method_ids names.methods
 
 -- Index i stands for the type among these types.
 abbrev pub TypeIsAt : List Units → ℕ → Units → Type 0

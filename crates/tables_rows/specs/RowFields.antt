@@ -3,6 +3,7 @@
 use Rattle.std.specs.Prelude.{ℕ, ◌+◌, ◌*◌, List, [], ◌∷◌}
 use Rattle.base_bytes.specs.Fields.{u16_at, u32_at}
 use Rattle.dex_container.specs.Layout.{row_bytes, offset_of}
+use Rattle.dex_container.specs.Section as section
 use Rattle.tables_rows.specs.declared.row_fields.MemberTable.{MemberTable}
 use Rattle.tables_rows.specs.declared.row_fields.MemberTable.TheVariants.{Fields, Methods}
 
@@ -12,23 +13,23 @@ row_place b k i = offset_of b k + row_bytes k * i
 
 -- string_data_off of row i
 unfoldable pub string_place : List ℕ → ℕ → ℕ
-string_place b i = u32_at b (row_place b 0 i)
+string_place b i = u32_at b (row_place b section.string_ids i)
 
 -- descriptor_idx of row i
 unfoldable pub type_string : List ℕ → ℕ → ℕ
-type_string b i = u32_at b (row_place b 1 i)
+type_string b i = u32_at b (row_place b section.type_ids i)
 
 -- shorty_idx of row i
 unfoldable pub proto_shorty : List ℕ → ℕ → ℕ
-proto_shorty b i = u32_at b (row_place b 2 i)
+proto_shorty b i = u32_at b (row_place b section.proto_ids i)
 
 -- return_type_idx of row i
 unfoldable pub proto_return : List ℕ → ℕ → ℕ
-proto_return b i = u32_at b (row_place b 2 i + 4)
+proto_return b i = u32_at b (row_place b section.proto_ids i + 4)
 
 -- parameters_off of row i
 unfoldable pub proto_parameters : List ℕ → ℕ → ℕ
-proto_parameters b i = u32_at b (row_place b 2 i + 8)
+proto_parameters b i = u32_at b (row_place b section.proto_ids i + 8)
 
 -- the number of a table of members
 abbrev pub number_of : MemberTable → ℕ

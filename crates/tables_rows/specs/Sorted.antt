@@ -7,6 +7,7 @@ use Rattle.std.specs.declared.cmp.Ordering.TheVariants.{Less}
 use Rattle.dex_container.specs.Layout.{size_of}
 use Rattle.program_types.specs.Content.{Units}
 use Rattle.dex_container.specs.Where.{AtOrNone}
+use Rattle.dex_container.specs.Section as section
 use Rattle.tables_rows.specs.RowFields.{type_string, proto_return, proto_parameters, member_key}
 use Rattle.tables_rows.specs.Stands.{StringStands, TypeStands, ProtoStands, FieldStands, MethodStands, SpellsIndexes}
 
@@ -72,23 +73,23 @@ RowsHold Holds b n = (i : ℕ) → i < n → Holds b i
 
 -- All rows of string_ids hold.
 abbrev pub StringsHold : List ℕ → Type 0
-StringsHold b = RowsHold StringHolds b (size_of b 0)
+StringsHold b = RowsHold StringHolds b (size_of b section.string_ids)
 
 -- All rows of type_ids hold.
 abbrev pub TypesHold : List ℕ → Type 0
-TypesHold b = RowsHold TypeHolds b (size_of b 1)
+TypesHold b = RowsHold TypeHolds b (size_of b section.type_ids)
 
 -- All rows of proto_ids hold.
 abbrev pub ProtosHold : List ℕ → Type 0
-ProtosHold b = RowsHold ProtoHolds b (size_of b 2)
+ProtosHold b = RowsHold ProtoHolds b (size_of b section.proto_ids)
 
 -- All rows of field_ids hold.
 abbrev pub FieldsHold : List ℕ → Type 0
-FieldsHold b = RowsHold FieldHolds b (size_of b 3)
+FieldsHold b = RowsHold FieldHolds b (size_of b section.field_ids)
 
 -- All rows of method_ids hold.
 abbrev pub MethodsHold : List ℕ → Type 0
-MethodsHold b = RowsHold MethodHolds b (size_of b 4)
+MethodsHold b = RowsHold MethodHolds b (size_of b section.method_ids)
 
 -- All five tables hold: every row denotes a name, used or not, and the rows strictly rise.
 pub record TablesHold (b : List ℕ) : Type 0 where

@@ -10,16 +10,17 @@ use Rattle.program_types.specs.Content.{Units, Proto, FieldRef, MethodRef, Name,
 use Rattle.program_types.specs.Kinds.{void}
 use Rattle.program_types.specs.Shorty.{shorty}
 use Rattle.dex_container.specs.Where.{At, AtOrNone}
+use Rattle.dex_container.specs.Section as section
 use Rattle.tables_rows.specs.RowFields.{string_place, type_string, proto_shorty, proto_return, proto_parameters, member_class, member_kind, member_name}
 
 -- Row i of the strings: the text of its string_data_item.
 pub record StringStands (b : List ℕ) (i : ℕ) (s : Units) : Type 0 where
-  pub row : i < size_of b 0
+  pub row : i < size_of b section.string_ids
   pub text : At SpellsText b 0x2002 1 (string_place b i) s
 
 -- Row i of the types: its string, a descriptor.
 pub record TypeStands (b : List ℕ) (i : ℕ) (t : Units) : Type 0 where
-  pub row : i < size_of b 1
+  pub row : i < size_of b section.type_ids
   pub string : StringStands b (type_string b i) t
   pub descriptor : IsDescriptor t
 
@@ -45,7 +46,7 @@ TypesAt b place ts = ListAt (TypeStands b) b place ts
 
 -- Row i of the protos: return type, parameters that are not void, and the shorty of these.
 pub record ProtoStands (b : List ℕ) (i : ℕ) (p : Proto) : Type 0 where
-  pub row : i < size_of b 2
+  pub row : i < size_of b section.proto_ids
   pub ret : TypeStands b (proto_return b i) p.ret
   pub params : TypesAt b (proto_parameters b i) p.params
   pub values : AllByRecursion (λ t. t ≢ void) p.params
@@ -53,20 +54,20 @@ pub record ProtoStands (b : List ℕ) (i : ℕ) (p : Proto) : Type 0 where
 
 -- Row i of the fields: a class type, a type that is not void, a member name.
 pub record FieldStands (b : List ℕ) (i : ℕ) (f : FieldRef) : Type 0 where
-  pub row : i < size_of b 3
-  pub class : TypeStands b (member_class b 3 i) f.class
-  pub ty : TypeStands b (member_kind b 3 i) f.ty
-  pub name : StringStands b (member_name b 3 i) f.name
+  pub row : i < size_of b section.field_ids
+  pub class : TypeStands b (member_class b section.field_ids i) f.class
+  pub ty : TypeStands b (member_kind b section.field_ids i) f.ty
+  pub name : StringStands b (member_name b section.field_ids i) f.name
   pub of_class : IsClass f.class
   pub value : f.ty ≢ void
   pub named : IsMemberName f.name
 
 -- Row i of the methods: a class or array type, a proto, a member name.
 pub record MethodStands (b : List ℕ) (i : ℕ) (m : MethodRef) : Type 0 where
-  pub row : i < size_of b 4
-  pub class : TypeStands b (member_class b 4 i) m.class
-  pub proto : ProtoStands b (member_kind b 4 i) m.proto
-  pub name : StringStands b (member_name b 4 i) m.name
+  pub row : i < size_of b section.method_ids
+  pub class : TypeStands b (member_class b section.method_ids i) m.class
+  pub proto : ProtoStands b (member_kind b section.method_ids i) m.proto
+  pub name : StringStands b (member_name b section.method_ids i) m.name
   pub of_class : IsClass m.class ⊎ IsArray m.class
   pub named : IsMemberName m.name
 

@@ -10,6 +10,7 @@ use Rattle.dex_container.specs.Faults.{on}
 use Rattle.program_types.specs.Content.{Units, Proto}
 use Rattle.program_types.specs.Shorty.{shorty}
 use Rattle.dex_container.specs.Where.{IsInSection}
+use Rattle.dex_container.specs.Section as section
 use Rattle.tables_rows.specs.RowFields.{row_place, string_place, type_string, proto_shorty, proto_return, proto_parameters, member_class, member_kind, member_name}
 use Rattle.program_types.specs.Kinds.{void}
 use Rattle.tables_rows.specs.Stands.{StringStands, TypeStands, TypesAt}
@@ -26,7 +27,7 @@ StringBreaks b code i =
 -- 23 TypeIndex, 24 TypeText, 25 TypeOrder
 abbrev pub TypeBreaks : List ℕ → ℕ → ℕ → Type 0
 TypeBreaks b code i =
-    on code 23 (size_of b 0 ≤ type_string b i) (
+    on code 23 (size_of b section.string_ids ≤ type_string b i) (
     on code 24 ((t : Units) × StringStands b (type_string b i) t × (¬ IsDescriptor t)) (
     on code 25 (¬ RowRises TypeIsBelow b i)
     ⊥))
@@ -48,7 +49,7 @@ pub record HasAnotherShorty (b : List ℕ) (i : ℕ) : Type 0 where
 -- 26 ProtoIndex, 28 ParameterList, 27 Shorty, 29 ProtoOrder
 abbrev pub ProtoBreaks : List ℕ → ℕ → ℕ → Type 0
 ProtoBreaks b code i =
-    on code 26 ((size_of b 0 ≤ proto_shorty b i) ⊎ (size_of b 1 ≤ proto_return b i)) (
+    on code 26 ((size_of b section.string_ids ≤ proto_shorty b i) ⊎ (size_of b section.type_ids ≤ proto_return b i)) (
     on code 28 ((ts : List Units) → ¬ ParametersAt b (proto_parameters b i) ts) (
     on code 27 (HasAnotherShorty b i) (
     on code 29 (¬ RowRises ProtoIsBelow b i)
@@ -57,19 +58,19 @@ ProtoBreaks b code i =
 -- 30 FieldIndex, 31 FieldKind, 32 FieldOrder
 abbrev pub FieldBreaks : List ℕ → ℕ → ℕ → Type 0
 FieldBreaks b code i =
-    on code 30 ((size_of b 1 ≤ member_class b 3 i) ⊎ (size_of b 1 ≤ member_kind b 3 i) ⊎ (size_of b 0 ≤ member_name b 3 i)) (
-    on code 31 (((t : Units) × TypeStands b (member_class b 3 i) t × (¬ IsClass t))
-    ⊎ TypeStands b (member_kind b 3 i) void
-    ⊎ ((s : Units) × StringStands b (member_name b 3 i) s × (¬ IsMemberName s))) (
+    on code 30 ((size_of b section.type_ids ≤ member_class b section.field_ids i) ⊎ (size_of b section.type_ids ≤ member_kind b section.field_ids i) ⊎ (size_of b section.string_ids ≤ member_name b section.field_ids i)) (
+    on code 31 (((t : Units) × TypeStands b (member_class b section.field_ids i) t × (¬ IsClass t))
+    ⊎ TypeStands b (member_kind b section.field_ids i) void
+    ⊎ ((s : Units) × StringStands b (member_name b section.field_ids i) s × (¬ IsMemberName s))) (
     on code 32 (¬ RowRises (MemberIsBelow 3) b i)
     ⊥))
 
 -- 33 MethodIndex, 34 MethodKind, 35 MethodOrder
 abbrev pub MethodBreaks : List ℕ → ℕ → ℕ → Type 0
 MethodBreaks b code i =
-    on code 33 ((size_of b 1 ≤ member_class b 4 i) ⊎ (size_of b 2 ≤ member_kind b 4 i) ⊎ (size_of b 0 ≤ member_name b 4 i)) (
-    on code 34 (((t : Units) × TypeStands b (member_class b 4 i) t × (¬ (IsClass t ⊎ IsArray t)))
-    ⊎ ((s : Units) × StringStands b (member_name b 4 i) s × (¬ IsMemberName s))) (
+    on code 33 ((size_of b section.type_ids ≤ member_class b section.method_ids i) ⊎ (size_of b section.proto_ids ≤ member_kind b section.method_ids i) ⊎ (size_of b section.string_ids ≤ member_name b section.method_ids i)) (
+    on code 34 (((t : Units) × TypeStands b (member_class b section.method_ids i) t × (¬ (IsClass t ⊎ IsArray t)))
+    ⊎ ((s : Units) × StringStands b (member_name b section.method_ids i) s × (¬ IsMemberName s))) (
     on code 35 (¬ RowRises (MemberIsBelow 4) b i)
     ⊥))
 
@@ -88,20 +89,20 @@ pub record IsFirstRow (Breaks : List ℕ → ℕ → ℕ → Type 0) (Holds : Li
 -- The first fault of string_ids, in a framed file.
 pub record IsStringFault (b : List ℕ) (fault : Fault) : Type 0 where
   pub framed : IsFramed b
-  pub first : IsFirstRow StringBreaks StringHolds b 0 fault
+  pub first : IsFirstRow StringBreaks StringHolds b section.string_ids fault
 
 -- The first of type_ids, where all strings hold.
 pub record IsTypeFault (b : List ℕ) (fault : Fault) : Type 0 where
   pub framed : IsFramed b
   pub strings : StringsHold b
-  pub first : IsFirstRow TypeBreaks TypeHolds b 1 fault
+  pub first : IsFirstRow TypeBreaks TypeHolds b section.type_ids fault
 
 -- The first of proto_ids, where all strings and types hold.
 pub record IsProtoFault (b : List ℕ) (fault : Fault) : Type 0 where
   pub framed : IsFramed b
   pub strings : StringsHold b
   pub types : TypesHold b
-  pub first : IsFirstRow ProtoBreaks ProtoHolds b 2 fault
+  pub first : IsFirstRow ProtoBreaks ProtoHolds b section.proto_ids fault
 
 -- The first of field_ids, where the three tables before it hold.
 pub record IsFieldFault (b : List ℕ) (fault : Fault) : Type 0 where
@@ -109,7 +110,7 @@ pub record IsFieldFault (b : List ℕ) (fault : Fault) : Type 0 where
   pub strings : StringsHold b
   pub types : TypesHold b
   pub protos : ProtosHold b
-  pub first : IsFirstRow FieldBreaks FieldHolds b 3 fault
+  pub first : IsFirstRow FieldBreaks FieldHolds b section.field_ids fault
 
 -- The first of method_ids, where the four tables before it hold.
 pub record IsMethodFault (b : List ℕ) (fault : Fault) : Type 0 where
@@ -118,7 +119,7 @@ pub record IsMethodFault (b : List ℕ) (fault : Fault) : Type 0 where
   pub types : TypesHold b
   pub protos : ProtosHold b
   pub fields : FieldsHold b
-  pub first : IsFirstRow MethodBreaks MethodHolds b 4 fault
+  pub first : IsFirstRow MethodBreaks MethodHolds b section.method_ids fault
 
 -- A fault of the tables: of the first table that has one, at its first row.
 abbrev pub IsTableFault : List ℕ → Fault → Type 0

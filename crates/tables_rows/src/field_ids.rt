@@ -2,6 +2,7 @@
 ghost use Rattle.std.specs.Prelude.{◌≡◌, ◌≢◌, ◌<◌, IfOk, IfErr, map};
 ghost use Rattle.base_bytes.specs.Fault.{memory};
 ghost use Rattle.dex_container.specs.Layout.{size_of};
+ghost use Rattle.dex_container.specs.Section as section;
 ghost use Rattle.program_types.specs.View.{str, desc, field_ref};
 ghost use Rattle.tables_rows.specs.Names.{AreRows};
 ghost use Rattle.tables_rows.specs.Reading.{AreMarks};
@@ -30,12 +31,12 @@ pub(crate) fn read_fields<'a>(
     names: &[bool],
     types: &[Desc<'a>],
 ) -> Result<&'a [FieldRef<'a>], Fault>
-    requires strings { AreRows StringStands sections.now 0 (map str strings.now) }
+    requires strings { AreRows StringStands sections.now section.string_ids (map str strings.now) }
     requires names { AreMarks (map str strings.now) names.now }
-    requires types { AreRows TypeStands sections.now 1 (map desc types.now) }
-    ensures rows { IfOk result (λ fields. AreRows FieldStands sections.now 3 (map field_ref fields.now)) }
+    requires types { AreRows TypeStands sections.now section.type_ids (map desc types.now) }
+    ensures rows { IfOk result (λ fields. AreRows FieldStands sections.now section.field_ids (map field_ref fields.now)) }
     ensures hold { IfOk result (λ _. FieldsHold sections.now) }
-    ensures err { IfErr result (λ e. e ≢ memory → IsFirstRow FieldBreaks FieldHolds sections.now 3 e) }
+    ensures err { IfErr result (λ e. e ≢ memory → IsFirstRow FieldBreaks FieldHolds sections.now section.field_ids e) }
 {
     let (count, _) = sections.table(kind::FIELD_ID_ITEM);
     let mut fields: Vec<FieldRef<'a>, &'a Bump> = Vec::with_capacity(arena, count as usize)?;
@@ -54,13 +55,13 @@ fn next_field<'a>(
     types: &[Desc<'a>],
     i: u32,
 ) -> Result<FieldRef<'a>, Fault>
-    requires strings { AreRows StringStands sections.now 0 (map str strings.now) }
+    requires strings { AreRows StringStands sections.now section.string_ids (map str strings.now) }
     requires names { AreMarks (map str strings.now) names.now }
-    requires types { AreRows TypeStands sections.now 1 (map desc types.now) }
-    requires row { i < size_of sections.now 3 }
+    requires types { AreRows TypeStands sections.now section.type_ids (map desc types.now) }
+    requires row { i < size_of sections.now section.field_ids }
     ensures ok { IfOk result (λ f. FieldStands sections.now i (field_ref f)) }
     ensures holds { IfOk result (λ _. FieldHolds sections.now i) }
-    ensures err { IfErr result (BreaksAt FieldBreaks sections.now 3 i) }
+    ensures err { IfErr result (BreaksAt FieldBreaks sections.now section.field_ids i) }
 {
     let field = read_field(sections, strings, names, types, i)?;
     if !rises(sections, TABLE, i) {
@@ -77,12 +78,12 @@ fn read_field<'a>(
     types: &[Desc<'a>],
     i: u32,
 ) -> Result<FieldRef<'a>, Fault>
-    requires strings { AreRows StringStands sections.now 0 (map str strings.now) }
+    requires strings { AreRows StringStands sections.now section.string_ids (map str strings.now) }
     requires names { AreMarks (map str strings.now) names.now }
-    requires types { AreRows TypeStands sections.now 1 (map desc types.now) }
-    requires row { i < size_of sections.now 3 }
+    requires types { AreRows TypeStands sections.now section.type_ids (map desc types.now) }
+    requires row { i < size_of sections.now section.field_ids }
     ensures ok { IfOk result (λ f. FieldStands sections.now i (field_ref f)) }
-    ensures err { IfErr result (BreaksAt FieldBreaks sections.now 3 i) }
+    ensures err { IfErr result (BreaksAt FieldBreaks sections.now section.field_ids i) }
 {
     let row = member_row(sections, TABLE, i);
     let missing = Fault::at(fault::FIELD_INDEX, row);

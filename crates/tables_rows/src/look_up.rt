@@ -1,6 +1,7 @@
 // The name at an index of a table that is read.
 ghost use Rattle.std.specs.Prelude.{◌≡◌, ◌≤◌, IfSome, IfNone, length, map, slice_get};
 ghost use Rattle.dex_container.specs.Layout.{size_of};
+ghost use Rattle.dex_container.specs.Section as section;
 ghost use Rattle.program_types.specs.View.{str, desc, proto};
 ghost use Rattle.tables_rows.specs.Names.{AreRows, TypeIsAt};
 ghost use Rattle.tables_rows.specs.Stands.{StringStands, TypeStands, ProtoStands};
@@ -14,10 +15,10 @@ pub(crate) fn string_at<'a>(
     strings: &[Str<'a>],
     index: u32,
 ) -> Option<Str<'a>>
-    requires { AreRows StringStands sections.now 0 (map str strings.now) }
+    requires { AreRows StringStands sections.now section.string_ids (map str strings.now) }
     ensures some { IfSome result (λ s. StringStands sections.now index (str s)) }
     ensures got { IfSome result (λ s. slice_get (map str strings.now) index ≡ Some (str s)) }
-    ensures none { IfNone result (size_of sections.now 0 ≤ index) }
+    ensures none { IfNone result (size_of sections.now section.string_ids ≤ index) }
 {
     // Only for the proof: what holds of each value of its type.
     let _file = sections;
@@ -30,9 +31,9 @@ pub(crate) fn type_at<'a>(
     types: &[Desc<'a>],
     index: u32,
 ) -> Option<Desc<'a>>
-    requires { AreRows TypeStands sections.now 1 (map desc types.now) }
+    requires { AreRows TypeStands sections.now section.type_ids (map desc types.now) }
     ensures some { IfSome result (λ t. TypeStands sections.now index (desc t)) }
-    ensures none { IfNone result (size_of sections.now 1 ≤ index) }
+    ensures none { IfNone result (size_of sections.now section.type_ids ≤ index) }
 {
     // Only for the proof: what holds of each value of its type.
     let _file = sections;
@@ -53,9 +54,9 @@ pub(crate) fn proto_at<'a>(
     protos: &'a [Proto<'a>],
     index: u32,
 ) -> Option<&'a Proto<'a>>
-    requires { AreRows ProtoStands sections.now 2 (map proto protos.now) }
+    requires { AreRows ProtoStands sections.now section.proto_ids (map proto protos.now) }
     ensures some { IfSome result (λ p. ProtoStands sections.now index (proto p.now)) }
-    ensures none { IfNone result (size_of sections.now 2 ≤ index) }
+    ensures none { IfNone result (size_of sections.now section.proto_ids ≤ index) }
 {
     // Only for the proof: what holds of each value of its type.
     let _file = sections;

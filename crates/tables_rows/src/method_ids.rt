@@ -2,6 +2,7 @@
 ghost use Rattle.std.specs.Prelude.{◌≡◌, ◌≢◌, ◌<◌, IfOk, IfErr, map};
 ghost use Rattle.base_bytes.specs.Fault.{memory};
 ghost use Rattle.dex_container.specs.Layout.{size_of};
+ghost use Rattle.dex_container.specs.Section as section;
 ghost use Rattle.program_types.specs.View.{str, desc, proto, method_ref};
 ghost use Rattle.tables_rows.specs.Names.{AreRows};
 ghost use Rattle.tables_rows.specs.Reading.{AreMarks};
@@ -32,13 +33,13 @@ pub(crate) fn read_methods<'a>(
     types: &[Desc<'a>],
     protos: &'a [Proto<'a>],
 ) -> Result<&'a [MethodRef<'a>], Fault>
-    requires strings { AreRows StringStands sections.now 0 (map str strings.now) }
+    requires strings { AreRows StringStands sections.now section.string_ids (map str strings.now) }
     requires names { AreMarks (map str strings.now) names.now }
-    requires types { AreRows TypeStands sections.now 1 (map desc types.now) }
-    requires protos { AreRows ProtoStands sections.now 2 (map proto protos.now) }
-    ensures rows { IfOk result (λ methods. AreRows MethodStands sections.now 4 (map method_ref methods.now)) }
+    requires types { AreRows TypeStands sections.now section.type_ids (map desc types.now) }
+    requires protos { AreRows ProtoStands sections.now section.proto_ids (map proto protos.now) }
+    ensures rows { IfOk result (λ methods. AreRows MethodStands sections.now section.method_ids (map method_ref methods.now)) }
     ensures hold { IfOk result (λ _. MethodsHold sections.now) }
-    ensures err { IfErr result (λ e. e ≢ memory → IsFirstRow MethodBreaks MethodHolds sections.now 4 e) }
+    ensures err { IfErr result (λ e. e ≢ memory → IsFirstRow MethodBreaks MethodHolds sections.now section.method_ids e) }
 {
     let (count, _) = sections.table(kind::METHOD_ID_ITEM);
     let mut methods: Vec<MethodRef<'a>, &'a Bump> = Vec::with_capacity(arena, count as usize)?;
@@ -58,14 +59,14 @@ fn next_method<'a>(
     protos: &'a [Proto<'a>],
     i: u32,
 ) -> Result<MethodRef<'a>, Fault>
-    requires strings { AreRows StringStands sections.now 0 (map str strings.now) }
+    requires strings { AreRows StringStands sections.now section.string_ids (map str strings.now) }
     requires names { AreMarks (map str strings.now) names.now }
-    requires types { AreRows TypeStands sections.now 1 (map desc types.now) }
-    requires protos { AreRows ProtoStands sections.now 2 (map proto protos.now) }
-    requires row { i < size_of sections.now 4 }
+    requires types { AreRows TypeStands sections.now section.type_ids (map desc types.now) }
+    requires protos { AreRows ProtoStands sections.now section.proto_ids (map proto protos.now) }
+    requires row { i < size_of sections.now section.method_ids }
     ensures ok { IfOk result (λ f. MethodStands sections.now i (method_ref f)) }
     ensures holds { IfOk result (λ _. MethodHolds sections.now i) }
-    ensures err { IfErr result (BreaksAt MethodBreaks sections.now 4 i) }
+    ensures err { IfErr result (BreaksAt MethodBreaks sections.now section.method_ids i) }
 {
     let method = read_method(sections, strings, names, types, protos, i)?;
     if !rises(sections, TABLE, i) {
@@ -83,13 +84,13 @@ fn read_method<'a>(
     protos: &'a [Proto<'a>],
     i: u32,
 ) -> Result<MethodRef<'a>, Fault>
-    requires strings { AreRows StringStands sections.now 0 (map str strings.now) }
+    requires strings { AreRows StringStands sections.now section.string_ids (map str strings.now) }
     requires names { AreMarks (map str strings.now) names.now }
-    requires types { AreRows TypeStands sections.now 1 (map desc types.now) }
-    requires protos { AreRows ProtoStands sections.now 2 (map proto protos.now) }
-    requires row { i < size_of sections.now 4 }
+    requires types { AreRows TypeStands sections.now section.type_ids (map desc types.now) }
+    requires protos { AreRows ProtoStands sections.now section.proto_ids (map proto protos.now) }
+    requires row { i < size_of sections.now section.method_ids }
     ensures ok { IfOk result (λ f. MethodStands sections.now i (method_ref f)) }
-    ensures err { IfErr result (BreaksAt MethodBreaks sections.now 4 i) }
+    ensures err { IfErr result (BreaksAt MethodBreaks sections.now section.method_ids i) }
 {
     let row = member_row(sections, TABLE, i);
     let missing = Fault::at(fault::METHOD_INDEX, row);

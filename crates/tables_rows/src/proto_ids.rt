@@ -11,6 +11,7 @@ ghost use Rattle.tables_rows.specs.Halves.{halves};
 ghost use Rattle.tables_rows.specs.Kept.{AreKept};
 ghost use Rattle.tables_rows.specs.Names.{AreRows};
 ghost use Rattle.dex_container.specs.Where.{IsSectionOf};
+ghost use Rattle.dex_container.specs.Section as section;
 ghost use Rattle.tables_rows.specs.Sorted.{RowRises, ProtoHolds, ProtosHold, ProtoIsBelow, ProtoIndexes};
 ghost use Rattle.tables_rows.specs.Stands.{StringStands, TypeStands, ProtoStands};
 ghost use Rattle.tables_rows.specs.TableFaults.{ProtoBreaks, ParametersAt, BreaksAt, IsFirstRow};
@@ -36,11 +37,11 @@ pub(crate) fn read_protos<'a>(
     strings: &[Str<'a>],
     types: &[Desc<'a>],
 ) -> Result<&'a [Proto<'a>], Fault>
-    requires strings { AreRows StringStands sections.now 0 (map str strings.now) }
-    requires types { AreRows TypeStands sections.now 1 (map desc types.now) }
-    ensures rows { IfOk result (λ protos. AreRows ProtoStands sections.now 2 (map proto protos.now)) }
+    requires strings { AreRows StringStands sections.now section.string_ids (map str strings.now) }
+    requires types { AreRows TypeStands sections.now section.type_ids (map desc types.now) }
+    ensures rows { IfOk result (λ protos. AreRows ProtoStands sections.now section.proto_ids (map proto protos.now)) }
     ensures hold { IfOk result (λ _. ProtosHold sections.now) }
-    ensures err { IfErr result (λ e. e ≢ memory → IsFirstRow ProtoBreaks ProtoHolds sections.now 2 e) }
+    ensures err { IfErr result (λ e. e ≢ memory → IsFirstRow ProtoBreaks ProtoHolds sections.now section.proto_ids e) }
 {
     let (count, _) = sections.table(kind::PROTO_ID_ITEM);
     let lists = section_of(sections, kind::TYPE_LIST);
@@ -65,14 +66,14 @@ fn next_proto<'a>(
 ) -> Result<Proto<'a>, Fault>
     requires framed { IsFramed sections.now }
     requires section { IsSectionOf sections.now 0x1001 lists }
-    requires strings { AreRows StringStands sections.now 0 (map str strings.now) }
-    requires types { AreRows TypeStands sections.now 1 (map desc types.now) }
+    requires strings { AreRows StringStands sections.now section.string_ids (map str strings.now) }
+    requires types { AreRows TypeStands sections.now section.type_ids (map desc types.now) }
     requires kept { AreKept (λ off params. ParametersAt sections.now off (map desc params.now)) kept.old }
-    requires row { i < size_of sections.now 2 }
+    requires row { i < size_of sections.now section.proto_ids }
     ensures ok { IfOk result (λ p. ProtoStands sections.now i (proto p)) }
     ensures kept { OnOk result (AreKept (λ off params. ParametersAt sections.now off (map desc params.now)) kept.new) }
     ensures holds { IfOk result (λ _. ProtoHolds sections.now i) }
-    ensures err { IfErr result (λ e. e ≢ memory → BreaksAt ProtoBreaks sections.now 2 i e) }
+    ensures err { IfErr result (λ e. e ≢ memory → BreaksAt ProtoBreaks sections.now section.proto_ids i e) }
 {
     let proto = read_proto(arena, sections, lists, strings, types, kept, i)?;
     if !rises(sections, lists, i) {
@@ -93,13 +94,13 @@ fn read_proto<'a>(
 ) -> Result<Proto<'a>, Fault>
     requires framed { IsFramed sections.now }
     requires section { IsSectionOf sections.now 0x1001 lists }
-    requires strings { AreRows StringStands sections.now 0 (map str strings.now) }
-    requires types { AreRows TypeStands sections.now 1 (map desc types.now) }
+    requires strings { AreRows StringStands sections.now section.string_ids (map str strings.now) }
+    requires types { AreRows TypeStands sections.now section.type_ids (map desc types.now) }
     requires kept { AreKept (λ off params. ParametersAt sections.now off (map desc params.now)) kept.old }
-    requires row { i < size_of sections.now 2 }
+    requires row { i < size_of sections.now section.proto_ids }
     ensures ok { IfOk result (λ p. ProtoStands sections.now i (proto p)) }
     ensures kept { OnOk result (AreKept (λ off params. ParametersAt sections.now off (map desc params.now)) kept.new) }
-    ensures err { IfErr result (λ e. e ≢ memory → BreaksAt ProtoBreaks sections.now 2 i e) }
+    ensures err { IfErr result (λ e. e ≢ memory → BreaksAt ProtoBreaks sections.now section.proto_ids i e) }
 {
     let row = proto_row(sections, i);
     let Some(text) = string_at(sections, strings, proto_shorty(sections, i)) else {
@@ -128,7 +129,7 @@ fn read_parameters<'a>(
 ) -> Result<Option<&'a [Desc<'a>]>, Fault>
     requires framed { IsFramed sections.now }
     requires section { IsSectionOf sections.now 0x1001 lists }
-    requires types { AreRows TypeStands sections.now 1 (map desc types.now) }
+    requires types { AreRows TypeStands sections.now section.type_ids (map desc types.now) }
     ensures found { IfOk result (λ r. IfSome r (λ params. ParametersAt sections.now off (map desc params.now))) }
     ensures none { IfOk result (λ r. IfNone r ((ts : _) → ¬ ParametersAt sections.now off ts)) }
     ensures memory { IsOkUnless result memory }
@@ -155,7 +156,7 @@ fn parameters_at<'a>(
 ) -> Result<Option<&'a [Desc<'a>]>, Fault>
     requires framed { IsFramed sections.now }
     requires section { IsSectionOf sections.now 0x1001 lists }
-    requires types { AreRows TypeStands sections.now 1 (map desc types.now) }
+    requires types { AreRows TypeStands sections.now section.type_ids (map desc types.now) }
     requires kept { AreKept (λ off params. ParametersAt sections.now off (map desc params.now)) kept.old }
     ensures found { IfOk result (λ r. IfSome r (λ params. ParametersAt sections.now off (map desc params.now))) }
     ensures none { IfOk result (λ r. IfNone r ((ts : _) → ¬ ParametersAt sections.now off ts)) }
@@ -198,7 +199,7 @@ fn is_shorty(text: Str<'_>, ret: Desc<'_>, params: &[Desc<'_>]) -> bool
 fn rises(sections: &Sections<'_>, lists: Section, i: u32) -> bool
     requires framed { IsFramed sections.now }
     requires section { IsSectionOf sections.now 0x1001 lists }
-    requires row { i < size_of sections.now 2 }
+    requires row { i < size_of sections.now section.proto_ids }
     ensures { IsTrue result ↔ RowRises ProtoIsBelow sections.now i }
 {
     i == 0 || is_below(sections, lists, i - 1, i)
@@ -220,8 +221,8 @@ fn cmp_keys(first: u32, second: u32, a: &[u8], b: &[u8]) -> Ordering
 fn is_below(sections: &Sections<'_>, lists: Section, i: u32, j: u32) -> bool
     requires framed { IsFramed sections.now }
     requires section { IsSectionOf sections.now 0x1001 lists }
-    requires i { i < size_of sections.now 2 }
-    requires j { j < size_of sections.now 2 }
+    requires i { i < size_of sections.now section.proto_ids }
+    requires j { j < size_of sections.now section.proto_ids }
     ensures { IsTrue result ↔ ProtoIsBelow sections.now i j }
 {
     let (first, second) = (proto_return(sections, i), proto_return(sections, j));

@@ -1,6 +1,7 @@
 //! The fields of a row of each table ("string_id_item" to "method_id_item"), and where the row stands.
 ghost use Rattle.std.specs.Prelude.{◌≡◌, ◌+◌, ◌<◌};
 ghost use Rattle.dex_container.specs.Layout.{size_of};
+ghost use Rattle.dex_container.specs.Section as section;
 ghost use Rattle.tables_rows.specs.RowFields.{row_place, string_place, type_string, proto_shorty, proto_return, proto_parameters, member_class, member_kind, member_name, number_of};
 
 use dex_base::{u16_at, u32_at};
@@ -27,8 +28,8 @@ impl MemberTable {
 
 /// Where row i of string_ids stands, in bytes.
 pub(crate) fn string_row(sections: &Sections<'_>, i: u32) -> u64
-    requires { i < size_of sections.now 0 }
-    ensures { result ≡ row_place sections.now 0 i }
+    requires { i < size_of sections.now section.string_ids }
+    ensures { result ≡ row_place sections.now section.string_ids i }
 {
     u64::from(sections.table(kind::STRING_ID_ITEM).1) + 4 * u64::from(i)
 }
@@ -36,7 +37,7 @@ pub(crate) fn string_row(sections: &Sections<'_>, i: u32) -> u64
 /// Its string_data_off.
 #[tactic(auto, unfolding(crate::specs::RowFields::string_place))]
 pub(crate) fn string_place(sections: &Sections<'_>, i: u32) -> u32
-    requires { i < size_of sections.now 0 }
+    requires { i < size_of sections.now section.string_ids }
     ensures { result ≡ string_place sections.now i }
 {
     let place = string_row(sections, i);
@@ -45,8 +46,8 @@ pub(crate) fn string_place(sections: &Sections<'_>, i: u32) -> u32
 
 /// Where row i of type_ids stands, in bytes.
 pub(crate) fn type_row(sections: &Sections<'_>, i: u32) -> u64
-    requires { i < size_of sections.now 1 }
-    ensures { result ≡ row_place sections.now 1 i }
+    requires { i < size_of sections.now section.type_ids }
+    ensures { result ≡ row_place sections.now section.type_ids i }
 {
     u64::from(sections.table(kind::TYPE_ID_ITEM).1) + 4 * u64::from(i)
 }
@@ -54,7 +55,7 @@ pub(crate) fn type_row(sections: &Sections<'_>, i: u32) -> u64
 /// Its descriptor_idx.
 #[tactic(auto, unfolding(crate::specs::RowFields::type_string))]
 pub(crate) fn type_string(sections: &Sections<'_>, i: u32) -> u32
-    requires { i < size_of sections.now 1 }
+    requires { i < size_of sections.now section.type_ids }
     ensures { result ≡ type_string sections.now i }
 {
     let place = type_row(sections, i);
@@ -63,8 +64,8 @@ pub(crate) fn type_string(sections: &Sections<'_>, i: u32) -> u32
 
 /// Where row i of proto_ids stands, in bytes.
 pub(crate) fn proto_row(sections: &Sections<'_>, i: u32) -> u64
-    requires { i < size_of sections.now 2 }
-    ensures { result ≡ row_place sections.now 2 i }
+    requires { i < size_of sections.now section.proto_ids }
+    ensures { result ≡ row_place sections.now section.proto_ids i }
 {
     u64::from(sections.table(kind::PROTO_ID_ITEM).1) + 12 * u64::from(i)
 }
@@ -72,7 +73,7 @@ pub(crate) fn proto_row(sections: &Sections<'_>, i: u32) -> u64
 /// Its shorty_idx.
 #[tactic(auto, unfolding(crate::specs::RowFields::proto_shorty))]
 pub(crate) fn proto_shorty(sections: &Sections<'_>, i: u32) -> u32
-    requires { i < size_of sections.now 2 }
+    requires { i < size_of sections.now section.proto_ids }
     ensures { result ≡ proto_shorty sections.now i }
 {
     let place = proto_row(sections, i);
@@ -82,7 +83,7 @@ pub(crate) fn proto_shorty(sections: &Sections<'_>, i: u32) -> u32
 /// Its return_type_idx.
 #[tactic(auto, unfolding(crate::specs::RowFields::proto_return))]
 pub(crate) fn proto_return(sections: &Sections<'_>, i: u32) -> u32
-    requires { i < size_of sections.now 2 }
+    requires { i < size_of sections.now section.proto_ids }
     ensures { result ≡ proto_return sections.now i }
 {
     let place = proto_row(sections, i);
@@ -92,7 +93,7 @@ pub(crate) fn proto_return(sections: &Sections<'_>, i: u32) -> u32
 /// Its parameters_off.
 #[tactic(auto, unfolding(crate::specs::RowFields::proto_parameters))]
 pub(crate) fn proto_parameters(sections: &Sections<'_>, i: u32) -> u32
-    requires { i < size_of sections.now 2 }
+    requires { i < size_of sections.now section.proto_ids }
     ensures { result ≡ proto_parameters sections.now i }
 {
     let place = proto_row(sections, i);

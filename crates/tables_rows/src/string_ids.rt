@@ -6,6 +6,7 @@ ghost use Rattle.dex_container.specs.Frame.{IsFramed};
 ghost use Rattle.program_types.specs.View.{str};
 ghost use Rattle.tables_rows.specs.Names.{AreRows};
 ghost use Rattle.dex_container.specs.Where.{IsSectionOf};
+ghost use Rattle.dex_container.specs.Section as section;
 ghost use Rattle.tables_rows.specs.Reading.{LastIsBelow, AreFirst};
 ghost use Rattle.tables_rows.specs.Sorted.{StringHolds, StringsHold};
 ghost use Rattle.tables_rows.specs.Stands.{StringStands};
@@ -27,9 +28,9 @@ pub(crate) fn read_strings<'a>(
     sections: &Sections<'_>,
 ) -> Result<&'a [Str<'a>], Fault>
     ensures framed { IsFramed sections.now }
-    ensures rows { IfOk result (λ strings. AreRows StringStands sections.now 0 (map str strings.now)) }
+    ensures rows { IfOk result (λ strings. AreRows StringStands sections.now section.string_ids (map str strings.now)) }
     ensures hold { IfOk result (λ _. StringsHold sections.now) }
-    ensures err { IfErr result (λ e. e ≢ memory → IsFirstRow StringBreaks StringHolds sections.now 0 e) }
+    ensures err { IfErr result (λ e. e ≢ memory → IsFirstRow StringBreaks StringHolds sections.now section.string_ids e) }
 {
     let (count, _) = sections.table(kind::STRING_ID_ITEM);
     let texts = section_of(sections, kind::STRING_DATA_ITEM);
@@ -51,12 +52,12 @@ fn next_string<'a>(
     i: u32,
 ) -> Result<Str<'a>, Fault>
     requires section { IsSectionOf sections.now 0x2002 texts }
-    requires row { i < size_of sections.now 0 }
+    requires row { i < size_of sections.now section.string_ids }
     requires framed { IsFramed sections.now }
     requires first { AreFirst StringStands StringHolds sections.now i (map str strings.now) }
     ensures ok { IfOk result (λ s. StringStands sections.now i (str s)) }
     ensures holds { IfOk result (λ _. StringHolds sections.now i) }
-    ensures err { IfErr result (λ e. e ≢ memory → BreaksAt StringBreaks sections.now 0 i e) }
+    ensures err { IfErr result (λ e. e ≢ memory → BreaksAt StringBreaks sections.now section.string_ids i e) }
 {
     let string = read_string(alloc, arena, sections, texts, i)?;
     if !is_above_last(strings, string) {
@@ -74,9 +75,9 @@ fn read_string<'a>(
     i: u32,
 ) -> Result<Str<'a>, Fault>
     requires section { IsSectionOf sections.now 0x2002 texts }
-    requires row { i < size_of sections.now 0 }
+    requires row { i < size_of sections.now section.string_ids }
     ensures ok { IfOk result (λ s. StringStands sections.now i (str s)) }
-    ensures err { IfErr result (λ e. e ≢ memory → BreaksAt StringBreaks sections.now 0 i e) }
+    ensures err { IfErr result (λ e. e ≢ memory → BreaksAt StringBreaks sections.now section.string_ids i e) }
 {
     let place = string_place(sections, i);
     let row = string_row(sections, i);

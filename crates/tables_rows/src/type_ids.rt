@@ -2,6 +2,7 @@
 ghost use Rattle.std.specs.Prelude.{◌≡◌, ◌≢◌, ◌↔◌, ◌<◌, IfOk, IfErr, IsTrue, map};
 ghost use Rattle.base_bytes.specs.Fault.{memory};
 ghost use Rattle.dex_container.specs.Layout.{size_of};
+ghost use Rattle.dex_container.specs.Section as section;
 ghost use Rattle.program_types.specs.View.{str, desc};
 ghost use Rattle.tables_rows.specs.Names.{AreRows};
 ghost use Rattle.tables_rows.specs.Sorted.{RowRises, TypeHolds, TypesHold, TypeIsBelow};
@@ -22,10 +23,10 @@ pub(crate) fn read_types<'a>(
     sections: &Sections<'_>,
     strings: &[Str<'a>],
 ) -> Result<&'a [Desc<'a>], Fault>
-    requires strings { AreRows StringStands sections.now 0 (map str strings.now) }
-    ensures rows { IfOk result (λ types. AreRows TypeStands sections.now 1 (map desc types.now)) }
+    requires strings { AreRows StringStands sections.now section.string_ids (map str strings.now) }
+    ensures rows { IfOk result (λ types. AreRows TypeStands sections.now section.type_ids (map desc types.now)) }
     ensures hold { IfOk result (λ _. TypesHold sections.now) }
-    ensures err { IfErr result (λ e. e ≢ memory → IsFirstRow TypeBreaks TypeHolds sections.now 1 e) }
+    ensures err { IfErr result (λ e. e ≢ memory → IsFirstRow TypeBreaks TypeHolds sections.now section.type_ids e) }
 {
     let (count, _) = sections.table(kind::TYPE_ID_ITEM);
     let mut types: Vec<Desc<'a>, &'a Bump> = Vec::with_capacity(arena, count as usize)?;
@@ -38,11 +39,11 @@ pub(crate) fn read_types<'a>(
 
 // The type of row i, which is above the row before it.
 fn next_type<'a>(sections: &Sections<'_>, strings: &[Str<'a>], i: u32) -> Result<Desc<'a>, Fault>
-    requires strings { AreRows StringStands sections.now 0 (map str strings.now) }
-    requires row { i < size_of sections.now 1 }
+    requires strings { AreRows StringStands sections.now section.string_ids (map str strings.now) }
+    requires row { i < size_of sections.now section.type_ids }
     ensures ok { IfOk result (λ t. TypeStands sections.now i (desc t)) }
     ensures holds { IfOk result (λ _. TypeHolds sections.now i) }
-    ensures err { IfErr result (BreaksAt TypeBreaks sections.now 1 i) }
+    ensures err { IfErr result (BreaksAt TypeBreaks sections.now section.type_ids i) }
 {
     let ty = read_type(sections, strings, i)?;
     if !rises(sections, i) {
@@ -53,10 +54,10 @@ fn next_type<'a>(sections: &Sections<'_>, strings: &[Str<'a>], i: u32) -> Result
 
 // The type of row i.
 fn read_type<'a>(sections: &Sections<'_>, strings: &[Str<'a>], i: u32) -> Result<Desc<'a>, Fault>
-    requires strings { AreRows StringStands sections.now 0 (map str strings.now) }
-    requires row { i < size_of sections.now 1 }
+    requires strings { AreRows StringStands sections.now section.string_ids (map str strings.now) }
+    requires row { i < size_of sections.now section.type_ids }
     ensures ok { IfOk result (λ t. TypeStands sections.now i (desc t)) }
-    ensures err { IfErr result (BreaksAt TypeBreaks sections.now 1 i) }
+    ensures err { IfErr result (BreaksAt TypeBreaks sections.now section.type_ids i) }
 {
     let row = type_row(sections, i);
     let Some(text) = string_at(sections, strings, type_string(sections, i)) else {
@@ -70,7 +71,7 @@ fn read_type<'a>(sections: &Sections<'_>, strings: &[Str<'a>], i: u32) -> Result
 
 // Whether row i is above the row before it.
 fn rises(sections: &Sections<'_>, i: u32) -> bool
-    requires { i < size_of sections.now 1 }
+    requires { i < size_of sections.now section.type_ids }
     ensures { IsTrue result ↔ RowRises TypeIsBelow sections.now i }
 {
     i == 0 || type_string(sections, i - 1) < type_string(sections, i)

@@ -1,5 +1,5 @@
 use Rattle.file_classes.specs.ClassFaults.{BodyHolds, CodeHolds, RegistersFail}
-use Rattle.file_classes.specs.Kept.{AreKept}
+use Rattle.tables_rows.specs.Kept.{AreKept}
 use Rattle.file_classes.specs.Reading.{BaresHold, BaresUpTo, IsChecked}
 use Rattle.file_classes.proofs.checking.check_methods.Given as goal
 

@@ -4,7 +4,7 @@ use Rattle.base_bytes.specs.declared.fault.Fault.{Fault}
 use Rattle.dex_container.specs.Layout.{size_of}
 use Rattle.tables_rows.specs.Sorted.{RowsHold}
 use Rattle.tables_rows.proofs.RowReading.{passed}
-use Rattle.file_classes.specs.ClassFaults.{BodiesBreak, BodiesHold, RegistersBreak, RegistersHold, IsFirstClass}
+use Rattle.file_classes.specs.ClassFaults.{BodiesBreak, BodiesHold, RowRegistersBreak, RowRegistersHold, IsFirstClass}
 use Rattle.file_classes.proofs.StaticsLaws.{first_class}
 use Rattle.file_classes.proofs.MethodLaws.{rows_none, rows_turn}
 use Rattle.file_classes.proofs.checking.check_rows.Goals as goal
@@ -30,11 +30,11 @@ returns-in-Some-clause-err c = λ ne.
     let all : c.loop-i.i ≡ size_of b 5 = omega (arith, c.class_count-count.ensures, c.loop-i-test.false, c.loop-i.auto.i-end) in
     inr (
       subst (λ (n : ℕ). RowsHold BodiesHold b n) all c.loop-i.invariant.hold,
-      subst (λ (o : Option Fault). IfSome o (IsFirstClass RegistersBreak RegistersHold b)) c.in-Some.is c.loop-i.invariant.past.some,
+      subst (λ (o : Option Fault). IfSome o (IsFirstClass RowRegistersBreak RowRegistersHold b)) c.in-Some.is c.loop-i.invariant.past.some,
     )
 
 pub returns-in-None-clause-hold : goal.returns-in-None-clause-hold
 returns-in-None-clause-hold c =
     let b = c.args.sections.now in
     let all : c.loop-i.i ≡ size_of b 5 = omega (arith, c.class_count-count.ensures, c.loop-i-test.false, c.loop-i.auto.i-end) in
-    subst (λ (n : ℕ). RowsHold RegistersHold b n) all (subst (λ (o : Option Fault). IfNone o (RowsHold RegistersHold b c.loop-i.i)) c.in-None.is c.loop-i.invariant.past.none)
+    subst (λ (n : ℕ). RowsHold RowRegistersHold b n) all (subst (λ (o : Option Fault). IfNone o (RowsHold RowRegistersHold b c.loop-i.i)) c.in-None.is c.loop-i.invariant.past.none)

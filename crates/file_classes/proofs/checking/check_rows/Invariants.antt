@@ -1,6 +1,6 @@
 use Rattle.tables_rows.specs.Sorted.{RowsHold}
 use Rattle.file_classes.specs.ClassFaults.{BodiesHold}
-use Rattle.file_classes.specs.Kept.{AreKept}
+use Rattle.tables_rows.specs.Kept.{AreKept}
 use Rattle.file_classes.specs.Reading.{RowsUpTo, IsChecked}
 use Rattle.file_classes.proofs.checking.check_rows.Given as goal
 

@@ -1,7 +1,8 @@
 use Rattle.tables_rows.specs.Names.{NameIsAt}
 use Rattle.tables_rows.specs.Sorted.{RowsHold}
 use Rattle.file_classes.specs.ClassFaults.{ValuesHold}
-use Rattle.file_classes.specs.Kept.{AreKept, CountsOnce}
+use Rattle.tables_rows.specs.Kept.{AreKept}
+use Rattle.file_classes.specs.Kept.{CountsOnce}
 use Rattle.file_classes.proofs.checking_statics.check_statics.Given as goal
 
 abbrev pub invariant-loop-i : goal.invariant-loop-i

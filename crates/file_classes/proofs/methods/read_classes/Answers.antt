@@ -7,7 +7,7 @@ use Rattle.tables_rows.specs.Sorted.{RowsHold}
 use Rattle.std.proofs.lemmas.List.{map-append}
 use Rattle.program_types.specs.View.{class}
 use Rattle.tables_rows.proofs.RowReading.{passed, first_more}
-use Rattle.file_classes.specs.ClassFaults.{BodiesBreak, BodiesHold, RegistersBreak, RegistersHold, IsFirstClass}
+use Rattle.file_classes.specs.ClassFaults.{BodiesBreak, BodiesHold, RowRegistersBreak, RowRegistersHold, IsFirstClass}
 use Rattle.file_classes.specs.Reading.{SpellsBodies}
 use Rattle.file_classes.proofs.StaticsLaws.{first_class}
 use Rattle.file_classes.proofs.MethodLaws.{bodies_hold, rows_none, rows_turn, all_spelled}
@@ -34,7 +34,7 @@ returns-in-Some-clause-err c = λ ne.
     let all : c.loop-i.i ≡ size_of b 5 = omega (arith, c.class_count-count.ensures, c.loop-i-test.false, c.loop-i.auto.i-end) in
     inr (
       subst (λ (n : ℕ). RowsHold BodiesHold b n) all c.loop-i.invariant.rows.hold,
-      subst (λ (o : Option Fault). IfSome o (IsFirstClass RegistersBreak RegistersHold b)) c.in-Some.is c.loop-i.invariant.past.some,
+      subst (λ (o : Option Fault). IfSome o (IsFirstClass RowRegistersBreak RowRegistersHold b)) c.in-Some.is c.loop-i.invariant.past.some,
     )
 
 pub returns-clause-rows : goal.returns-clause-rows
@@ -42,4 +42,4 @@ returns-clause-rows c =
     let b = c.args.sections.now in
     let all : c.loop-i.i ≡ size_of b 5 = omega (arith, c.class_count-count.ensures, c.loop-i-test.false, c.loop-i.auto.i-end) in
     rw c.into_bump_slice.ensures (all_spelled b c.bytes-file.ensures.framed c.loop-i.i (map class c.loop-i.classes.items) all c.loop-i.invariant.rows
-    (subst (λ (o : Option Fault). IfNone o (RowsHold RegistersHold b c.loop-i.i)) c.in-None.is c.loop-i.invariant.past.none))
+    (subst (λ (o : Option Fault). IfNone o (RowsHold RowRegistersHold b c.loop-i.i)) c.in-None.is c.loop-i.invariant.past.none))

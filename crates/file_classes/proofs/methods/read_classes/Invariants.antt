@@ -2,7 +2,7 @@ use Rattle.std.proofs.Common.{map}
 use Rattle.program_types.specs.View.{class}
 use Rattle.tables_rows.specs.Reading.{AreFirst}
 use Rattle.file_classes.specs.ClassFaults.{BodiesHold}
-use Rattle.file_classes.specs.Kept.{AreKept}
+use Rattle.tables_rows.specs.Kept.{AreKept}
 use Rattle.file_classes.specs.Reading.{SpellsBodies, RowsUpTo, IsFound}
 use Rattle.file_classes.proofs.methods.read_classes.Given as goal
 

@@ -1,7 +1,7 @@
 use Rattle.std.proofs.Common.{map}
 use Rattle.program_types.specs.View.{method}
 use Rattle.file_classes.specs.ClassFaults.{CodeHolds, RegistersFail}
-use Rattle.file_classes.specs.Kept.{AreKept}
+use Rattle.tables_rows.specs.Kept.{AreKept}
 use Rattle.file_classes.specs.Reading.{AreDone, BaresUpTo, IsFound}
 use Rattle.file_classes.proofs.methods.read_methods.Given as goal
 

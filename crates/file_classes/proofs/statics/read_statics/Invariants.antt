@@ -1,7 +1,8 @@
 use Rattle.std.proofs.Common.{map}
 use Rattle.program_types.specs.View.{value}
 use Rattle.tables_rows.specs.Names.{NameIsAt}
-use Rattle.file_classes.specs.Kept.{AreKept, StandsOnce}
+use Rattle.tables_rows.specs.Kept.{AreKept}
+use Rattle.file_classes.specs.Kept.{StandsOnce}
 use Rattle.tables_rows.specs.Reading.{AreFirst}
 use Rattle.file_classes.specs.ClassFaults.{ValuesHold}
 use Rattle.file_classes.specs.Reading.{AreStatics}

@@ -6,5 +6,5 @@ use Rattle.listing_laws.proofs.values.values_are_spelled.Goals as goal
 pub returns : goal.returns
 returns c = record {
   value = λ ws v. (spelled_is_read ws v, read_is_spelled ws v);
-  line = λ ws m v. (spelled_line_is_read ws m v, line_is_spelled ws m v);
+  line = λ form ls ws m v. (spelled_line_is_read form ls ws m v, line_is_spelled form ls ws m v);
 }
