@@ -1,12 +1,11 @@
 -- Which limits a code breaks: none exactly if it fits, and of those that it breaks the lowest.
-use Rattle.std.proofs.Common.{◌≡◌, ◌≢◌, Bool, true, false, ℕ, pos, ◌-ℤ◌, ◌+◌, ◌%◌, ◌<◌, ◌≤◌, ◌⊎◌, inl, inr, ⊎_elim, List, [], ◌∷◌, length, eqb, get_or, refl, sym, subst, arith, Option, Some, None}
-use Rattle.std.proofs.lemmas.Bool.{cases_lt, eqb-true, eqb-false}
+use Rattle.std.proofs.Common.{◌≡◌, ℕ, pos, ◌-ℤ◌, ◌+◌, ◌%◌, ◌<◌, ◌≤◌, ⊎_elim, List, [], ◌∷◌, length, get_or, refl, subst, arith, Option, Some, None}
+use Rattle.std.proofs.lemmas.Bool.{cases_lt}
 use Rattle.std.proofs.lemmas.Int.{ints}
 use Rattle.std.specs.Int.{w8, w16, w32}
-use Rattle.std.specs.Prelude.{FitsSigned, IfSome, MatchBool}
+use Rattle.std.specs.Prelude.{FitsSigned, IfSome}
 use Rattle.std.specs.List.{AllByRecursion}
 use Rattle.base_bytes.specs.declared.fault.Fault.{Fault}
-use Rattle.dex_container.specs.Faults.{on}
 use Rattle.dex_insn.specs.declared.opcode.IndexKind.{IndexKind}
 use Rattle.dex_insn.specs.declared.opcode.IndexKind.TheVariants as kind
 use Rattle.program_types.specs.Content.{Name, Insn, Code, Try}
@@ -14,53 +13,63 @@ use Rattle.program_types.specs.Content as made
 use Rattle.program_types.specs.Formed.{insn_at, insn_targets}
 use Rattle.program_types.specs.Kinds.{IsOfKind}
 use Rattle.program_types.specs.Sizes.{addresses_of}
-use Rattle.code_put.specs.Fits.{AllInsns, AllNumbers, AllTries, BranchFits, CodeBreaks, FitsCode, HandlersAreNear, IsEven, IsUnfit, OffsetsFit, ShortFits, TargetsFit, TryFits, distance_of, short_name, wide_code}
+use Rattle.code_put.specs.Fits.{AllInsns, AllNumbers, AllTries, BranchFits, CodeBreaks, FieldOutOfReach, FitsCode, HandlerTooFar, HandlersAreNear, IsEven, IsUnfit, BranchOutOfReach, MethodOutOfReach, Misaligned, OffsetsFit, ShortFits, StringOutOfReach, TargetsFit, TooManyTries, TryFits, TryTooLong, distance_of, short_name, wide_code}
 
 -- ---- by the number
-
-pub on_split : (code number : ℕ) (P Q : Type 0) → on code number P Q → ((code ≡ number) × P) ⊎ ((code ≢ number) × Q)
-on_split code number P Q h = elim (eqb code number) as (λ (t : Bool). eqb code number ≡ t → MatchBool t P Q → ((code ≡ number) × P) ⊎ ((code ≢ number) × Q)) [
-  | true ↦ λ e x. inl (eqb-true code number e, x)
-  | false ↦ λ e x. inr (eqb-false code number e, x)
-] refl h
-
-pub on_other : (code number : ℕ) (P Q : Type 0) → code ≢ number → Q → on code number P Q
-on_other code number P Q n q = elim (eqb code number) as (λ (t : Bool). eqb code number ≡ t → MatchBool t P Q) [
-  | true ↦ λ e. absurd (n (eqb-true code number e))
-  | false ↦ λ e. q
-] refl
 
 -- the numbers of the limits of a code
 abbrev pub IsCodeLimit : ℕ → Type 0
 IsCodeLimit m = (82 ≤ m) × (m ≤ 89)
 
-on_in : (m number : ℕ) (P Q : Type 0) → IsCodeLimit number → (Q → IsCodeLimit m) → on m number P Q → IsCodeLimit m
-on_in m number P Q r f h = elim (on_split m number P Q h) [
-  | inl x ↦ subst IsCodeLimit (sym x.0) r
-  | inr x ↦ f x.1
-]
-
-pub breaks_range : (N : ℕ → Name → Type 0) (c : Code) (m : ℕ) → CodeBreaks N m c → IsCodeLimit m
-breaks_range N c m h =
-    on_in m 82 _ _ (omega arith, omega arith) (λ h. on_in m 83 _ _ (omega arith, omega arith) (λ h. on_in m 84 _ _ (omega arith, omega arith) (λ h. on_in m 85 _ _ (omega arith, omega arith)
-    (λ h. on_in m 86 _ _ (omega arith, omega arith) (λ h. on_in m 87 _ _ (omega arith, omega arith) (λ h. on_in m 88 _ _ (omega arith, omega arith) (λ h. on_in m 89 _ _ (omega arith, omega arith)
-    (λ none. absurd none) h) h) h) h) h) h) h) h
+pub breaks_range : (N : ℕ → Name → Type 0) (c : Code) (m : ℕ) → CodeBreaks N c m → IsCodeLimit m
+breaks_range N c m (StringOutOfReach broken) = (omega arith, omega arith)
+breaks_range N c m (FieldOutOfReach broken) = (omega arith, omega arith)
+breaks_range N c m (MethodOutOfReach broken) = (omega arith, omega arith)
+breaks_range N c m (BranchOutOfReach broken) = (omega arith, omega arith)
+breaks_range N c m (Misaligned broken) = (omega arith, omega arith)
+breaks_range N c m (TryTooLong broken) = (omega arith, omega arith)
+breaks_range N c m (TooManyTries many) = (omega arith, omega arith)
+breaks_range N c m (HandlerTooFar short far) = (omega arith, omega arith)
 
 -- ---- the lowest that is broken
 
 -- The code breaks no limit below this number.
 abbrev pub IsClearBelow : (ℕ → Name → Type 0) → Code → ℕ → Type 0
-IsClearBelow N c k = (m : ℕ) → m < k → ¬ CodeBreaks N m c
+IsClearBelow N c k = (m : ℕ) → m < k → ¬ CodeBreaks N c m
 
 -- the refusal of this number
 abbrev pub unfit : ℕ → Fault
 unfit number = record { code = number; place = 0 }
 
 module _ (N : ℕ → Name → Type 0) (c : Code) where
-  next : (k : ℕ) → IsClearBelow N c k → (¬ CodeBreaks N k c) → IsClearBelow N c (k + 1)
-  next k below here m lt h = ⊎_elim (λ (less : m < k). below m less h) (λ (same : k ≤ m). let e : m ≡ k = omega (arith, lt, same) in here (subst (λ (n : ℕ). CodeBreaks N n c) e h)) (cases_lt m k)
+  kept82 : AllInsns (ShortFits N kind.String) c → ¬ CodeBreaks N c 82
+  kept82 kept (StringOutOfReach broken) = broken kept
 
-  lowest : (k : ℕ) → IsClearBelow N c k → CodeBreaks N k c → IsUnfit N c (unfit k)
+  kept83 : AllInsns (ShortFits N kind.Field) c → ¬ CodeBreaks N c 83
+  kept83 kept (FieldOutOfReach broken) = broken kept
+
+  kept84 : AllInsns (ShortFits N kind.Method) c → ¬ CodeBreaks N c 84
+  kept84 kept (MethodOutOfReach broken) = broken kept
+
+  kept85 : AllNumbers OffsetsFit c → ¬ CodeBreaks N c 85
+  kept85 kept (BranchOutOfReach broken) = broken kept
+
+  kept86 : AllNumbers IsEven c → ¬ CodeBreaks N c 86
+  kept86 kept (Misaligned broken) = broken kept
+
+  kept87 : AllTries TryFits c → ¬ CodeBreaks N c 87
+  kept87 kept (TryTooLong broken) = broken kept
+
+  kept88 : length c.tries ≤ 65535 → ¬ CodeBreaks N c 88
+  kept88 few (TooManyTries many) = omega (arith, few, many)
+
+  kept89 : (wide_code c ≤ 4294967295 → HandlersAreNear N (addresses_of c.insns) c.tries) → ¬ CodeBreaks N c 89
+  kept89 near (HandlerTooFar short far) = far (near short)
+
+  next : (k : ℕ) → IsClearBelow N c k → (¬ CodeBreaks N c k) → IsClearBelow N c (k + 1)
+  next k below here m lt h = ⊎_elim (λ (less : m < k). below m less h) (λ (same : k ≤ m). let e : m ≡ k = omega (arith, lt, same) in here (subst (λ (n : ℕ). CodeBreaks N c n) e h)) (cases_lt m k)
+
+  lowest : (k : ℕ) → IsClearBelow N c k → CodeBreaks N c k → IsUnfit N c (unfit k)
   lowest k below h = record {
     breaks = h;
     lowest = λ m x. ⊎_elim (λ (less : m < k). absurd (below m less x)) (λ (le : k ≤ m). le) (cases_lt m k);
@@ -71,62 +80,62 @@ module _ (N : ℕ → Name → Type 0) (c : Code) where
   clear82 m lt h = let r = (breaks_range N c m h).0 in omega (arith, lt, r)
 
   pub unfit82 : (¬ AllInsns (ShortFits N kind.String) c) → IsUnfit N c (unfit 82)
-  unfit82 broken = lowest 82 clear82 broken
+  unfit82 broken = lowest 82 clear82 (StringOutOfReach broken)
 
   module _ (strings : AllInsns (ShortFits N kind.String) c) where
     clear83 : IsClearBelow N c 83
-    clear83 = next 82 clear82 (λ no. no strings)
+    clear83 = next 82 clear82 (kept82 strings)
 
     pub unfit83 : (¬ AllInsns (ShortFits N kind.Field) c) → IsUnfit N c (unfit 83)
-    unfit83 broken = lowest 83 clear83 broken
+    unfit83 broken = lowest 83 clear83 (FieldOutOfReach broken)
 
     module _ (fields : AllInsns (ShortFits N kind.Field) c) where
       clear84 : IsClearBelow N c 84
-      clear84 = next 83 clear83 (λ no. no fields)
+      clear84 = next 83 clear83 (kept83 fields)
 
       pub unfit84 : (¬ AllInsns (ShortFits N kind.Method) c) → IsUnfit N c (unfit 84)
-      unfit84 broken = lowest 84 clear84 broken
+      unfit84 broken = lowest 84 clear84 (MethodOutOfReach broken)
 
       module _ (methods : AllInsns (ShortFits N kind.Method) c) where
         clear85 : IsClearBelow N c 85
-        clear85 = next 84 clear84 (λ no. no methods)
+        clear85 = next 84 clear84 (kept84 methods)
 
         pub unfit85 : (¬ AllNumbers OffsetsFit c) → IsUnfit N c (unfit 85)
-        unfit85 broken = lowest 85 clear85 broken
+        unfit85 broken = lowest 85 clear85 (BranchOutOfReach broken)
 
         module _ (offsets : AllNumbers OffsetsFit c) where
           clear86 : IsClearBelow N c 86
-          clear86 = next 85 clear85 (λ no. no offsets)
+          clear86 = next 85 clear85 (kept85 offsets)
 
           pub unfit86 : (¬ AllNumbers IsEven c) → IsUnfit N c (unfit 86)
-          unfit86 broken = lowest 86 clear86 broken
+          unfit86 broken = lowest 86 clear86 (Misaligned broken)
 
           module _ (even : AllNumbers IsEven c) where
             clear87 : IsClearBelow N c 87
-            clear87 = next 86 clear86 (λ no. no even)
+            clear87 = next 86 clear86 (kept86 even)
 
             pub unfit87 : (¬ AllTries TryFits c) → IsUnfit N c (unfit 87)
-            unfit87 broken = lowest 87 clear87 broken
+            unfit87 broken = lowest 87 clear87 (TryTooLong broken)
 
             module _ (tries : AllTries TryFits c) where
               clear88 : IsClearBelow N c 88
-              clear88 = next 87 clear87 (λ no. no tries)
+              clear88 = next 87 clear87 (kept87 tries)
 
               pub unfit88 : 65535 < length c.tries → IsUnfit N c (unfit 88)
-              unfit88 many = lowest 88 clear88 many
+              unfit88 many = lowest 88 clear88 (TooManyTries many)
 
               module _ (few : length c.tries ≤ 65535) where
                 clear89 : IsClearBelow N c 89
-                clear89 = next 88 clear88 (λ many. omega (arith, many, few))
+                clear89 = next 88 clear88 (kept88 few)
 
                 pub unfit89 : wide_code c ≤ 4294967295 → (¬ HandlersAreNear N (addresses_of c.insns) c.tries) → IsUnfit N c (unfit 89)
-                unfit89 short far = lowest 89 clear89 (short, far)
+                unfit89 short far = lowest 89 clear89 (HandlerTooFar short far)
 
                 pub clear90 : (wide_code c ≤ 4294967295 → HandlersAreNear N (addresses_of c.insns) c.tries) → IsClearBelow N c 90
-                clear90 near = next 89 clear89 (λ far. far.1 (near far.0))
+                clear90 near = next 89 clear89 (kept89 near)
 
 -- what fits breaks no limit
-pub fits_clear : (N : ℕ → Name → Type 0) (c : Code) (m : ℕ) → FitsCode N c → ¬ CodeBreaks N m c
+pub fits_clear : (N : ℕ → Name → Type 0) (c : Code) (m : ℕ) → FitsCode N c → ¬ CodeBreaks N c m
 fits_clear N c m f h =
     let r = (breaks_range N c m h).1 in
     clear90 N c f.strings f.fields f.methods f.offsets f.even f.tries f.few f.handlers m (omega (arith, r)) h
@@ -214,14 +223,14 @@ tries_stable c h = λ i lt. most_stable _ _ (λ no. h (λ f. no (f i lt)))
 handlers_stable : (N : ℕ → Name → Type 0) (ss : List ℕ) (ts : List Try) → Stable (HandlersAreNear N ss ts)
 handlers_stable N ss ts h = λ list offs p i lt. less_stable (get_or offs i 0) 65536 (λ no. h (λ f. no (f list offs p i lt)))
 
-pub clear_fits : (N : ℕ → Name → Type 0) (c : Code) → ((m : ℕ) → ¬ CodeBreaks N m c) → FitsCode N c
+pub clear_fits : (N : ℕ → Name → Type 0) (c : Code) → ((m : ℕ) → ¬ CodeBreaks N c m) → FitsCode N c
 clear_fits N c clear = record {
-  strings = insns_stable (ShortFits N kind.String) (short_stable N kind.String) c (clear 82);
-  fields = insns_stable (ShortFits N kind.Field) (short_stable N kind.Field) c (clear 83);
-  methods = insns_stable (ShortFits N kind.Method) (short_stable N kind.Method) c (clear 84);
-  offsets = numbers_stable OffsetsFit offsets_stable c (clear 85);
-  even = numbers_stable IsEven even_stable c (clear 86);
-  tries = tries_stable c (clear 87);
-  few = ⊎_elim (λ (many : 65535 < length c.tries). absurd (clear 88 many)) (λ (few : length c.tries ≤ 65535). few) (cases_lt 65535 (length c.tries));
-  handlers = λ short. handlers_stable N (addresses_of c.insns) c.tries (λ no. clear 89 (short, no));
+  strings = insns_stable (ShortFits N kind.String) (short_stable N kind.String) c (λ broken. clear 82 (StringOutOfReach broken));
+  fields = insns_stable (ShortFits N kind.Field) (short_stable N kind.Field) c (λ broken. clear 83 (FieldOutOfReach broken));
+  methods = insns_stable (ShortFits N kind.Method) (short_stable N kind.Method) c (λ broken. clear 84 (MethodOutOfReach broken));
+  offsets = numbers_stable OffsetsFit offsets_stable c (λ broken. clear 85 (BranchOutOfReach broken));
+  even = numbers_stable IsEven even_stable c (λ broken. clear 86 (Misaligned broken));
+  tries = tries_stable c (λ broken. clear 87 (TryTooLong broken));
+  few = ⊎_elim (λ (many : 65535 < length c.tries). absurd (clear 88 (TooManyTries many))) (λ (few : length c.tries ≤ 65535). few) (cases_lt 65535 (length c.tries));
+  handlers = λ short. handlers_stable N (addresses_of c.insns) c.tries (λ far. clear 89 (HandlerTooFar short far));
 }

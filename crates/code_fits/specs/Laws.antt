@@ -8,4 +8,4 @@ use Rattle.program_types.specs.Content.{Code}
 -- a code fits exactly if it breaks no limit
 abbrev pub CodeLimitsAreDecided : Type 0
 CodeLimitsAreDecided =
-    (ranks : Five) (c : Code) → (FitsCode (NameRanks ranks) c ↔ ((number : ℕ) → ¬ CodeBreaks (NameRanks ranks) number c))
+    (ranks : Five) (c : Code) → (FitsCode (NameRanks ranks) c ↔ ((number : ℕ) → ¬ CodeBreaks (NameRanks ranks) c number))

@@ -1,11 +1,10 @@
 -- Distinct handlers, in the order of their first use.
-use Rattle.std.proofs.Common.{◌≡◌, ℕ, ◌+◌, ◌<◌, ◌≤◌, ◌++◌, List, [], ◌∷◌, length, get_or, refl, ap, sym, ◌∙◌, arith, zero, suc, subst, Option, Some, None, inl, inr, ◌⊎◌, length-append, append_assoc, append-nil, take, ◌*◌, ℤ}
+use Rattle.std.proofs.Common.{◌≡◌, ℕ, ◌+◌, ◌<◌, ◌≤◌, ◌++◌, List, [], ◌∷◌, length, get_or, refl, ap, sym, ◌∙◌, arith, zero, suc, subst, Option, Some, None, inl, inr, length-append, append_assoc, append-nil, take, ◌*◌, ℤ}
 use Rattle.std.specs.Prelude.{slice_get}
 use Rattle.std.specs.List.{AllZip, AllByRecursion, flat_map}
 use Rattle.base_bytes.specs.Leb128.{Spells, SpellsSigned, Shortest}
 use Rattle.code_put.specs.Fits.{catches_in}
 use Rattle.std.proofs.lemmas.Bool.{cases_lt}
-use Rattle.std.proofs.lemmas.Option.{slice_get_within}
 use Rattle.base_bytes.proofs.ShortestLaws.{AllBytes}
 use Rattle.base_bytes.specs.Grammar.{IsPrefixUnique, Each}
 use Rattle.program_types.specs.Content.{Name, Try, Catch}
@@ -13,8 +12,10 @@ use Rattle.program_types.specs.Formed.{try_at}
 use Rattle.code_insns.proofs.ResolveLaws.{at-old, at-new}
 use Rattle.code_read.specs.Handlers.{Handler, AllBy}
 use Rattle.code_read.specs.Tries.{handler_of}
-use Rattle.code_put.specs.Packs.{PacksHandler, PacksCatch}
+use Rattle.code_insns.specs.Places.{Rises}
+use Rattle.code_put.specs.Packs.{IsFirstUse, PacksHandler, PacksCatch}
 use Rattle.code_put.specs.Writing.{Numbers, IsDistinct, joined_keys}
+use Rattle.code_put.proofs.ListLaws.{all-at}
 
 -- ---- elements
 
@@ -26,13 +27,6 @@ get-old (z ∷ xs) x (suc k) y e = get-old xs x k y e
 get-last : {A : Type 0} (xs : List A) (x : A) → slice_get (xs ++ x ∷ []) (length xs) ≡ Some x
 get-last [] x = refl
 get-last (z ∷ xs) x = get-last xs x
-
--- an element of a longer list is an old one or the last
-get-cases : {A : Type 0} (xs : List A) (x : A) (k : ℕ) (y : A) → slice_get (xs ++ x ∷ []) k ≡ Some y → (slice_get xs k ≡ Some y) ⊎ ((k ≡ length xs) × (x ≡ y))
-get-cases [] x zero y e = inr (refl, cc)
-get-cases [] x (suc k) y e = absurd cc
-get-cases (z ∷ xs) x zero y e = inl e
-get-cases (z ∷ xs) x (suc k) y e = elim (get-cases xs x k y e) [ inl a ↦ inl a | inr a ↦ let b = a.0 in inr (omega arith, a.1) ]
 
 zip-more : {A B : Type 0} (R : A → B → Type 0) (xs : List A) (ys : List B) (x : A) (y : B) → AllZip R xs ys → R x y → AllZip R (xs ++ x ∷ []) (ys ++ y ∷ [])
 zip-more R [] [] x y h r = (r, tt)
@@ -46,7 +40,7 @@ zip-length R [] (y ∷ ys) h = absurd h
 zip-length R (x ∷ xs) [] h = absurd h
 zip-length R (x ∷ xs) (y ∷ ys) h = ap suc (zip-length R xs ys h.1)
 
-zip-left : {A B : Type 0} (R : A → B → Type 0) (xs : List A) (ys : List B) (k : ℕ) (x : A) → AllZip R xs ys → slice_get xs k ≡ Some x → (y : B) × (slice_get ys k ≡ Some y) × R x y
+pub zip-left : {A B : Type 0} (R : A → B → Type 0) (xs : List A) (ys : List B) (k : ℕ) (x : A) → AllZip R xs ys → slice_get xs k ≡ Some x → (y : B) × (slice_get ys k ≡ Some y) × R x y
 zip-left R [] ys k x h e = absurd cc
 zip-left R (a ∷ xs) [] k x h e = absurd h
 zip-left R (a ∷ xs) (b ∷ ys) zero x h e = let q : a ≡ x = cc in (b, refl, subst (λ z. R z b) q h.0)
@@ -68,8 +62,28 @@ all-more : {A : Type 0} (P : A → Type 0) (xs : List A) (x : A) → AllByRecurs
 all-more P [] x h p = (p, tt)
 all-more P (y ∷ xs) x h p = (h.0, all-more P xs x h.1 p)
 
-some-same : {A : Type 0} (o : Option A) (x y : A) → o ≡ Some x → o ≡ Some y → x ≡ y
+pub some-same : {A : Type 0} (o : Option A) (x y : A) → o ≡ Some x → o ≡ Some y → x ≡ y
 some-same o x y p q = cc
+
+-- ---- numbers that rise
+
+all-below : (n : ℕ) (xs : List ℕ) → AllByRecursion (λ (k : ℕ). k < n) xs → AllByRecursion (λ (k : ℕ). k < n + 1) xs
+all-below n [] h = tt
+all-below n (x ∷ xs) h = (let lt = h.0 in omega arith, all-below n xs h.1)
+
+rises-more : (xs : List ℕ) (x : ℕ) → Rises xs → AllByRecursion (λ (k : ℕ). k < x) xs → Rises (xs ++ x ∷ [])
+rises-more xs x r h = record {
+  each = λ i j lt inside.
+      let n = length-append xs (x ∷ []) in
+      elim (cases_lt j (length xs)) [
+        | inl a ↦ let old = r.each i j lt a in omega (arith, old, at-old xs x 0 i (omega arith), at-old xs x 0 j a)
+        | inr a ↦
+            let e : length xs ≡ j = omega arith in
+            let last : get_or (xs ++ x ∷ []) j 0 ≡ x = ap (λ (k : ℕ). get_or (xs ++ x ∷ []) k 0) (sym e) ∙ at-new xs x 0 in
+            let below = all-at (λ (k : ℕ). k < x) xs i 0 h (omega arith) in
+            omega (arith, last, below, at-old xs x 0 i (omega arith))
+      ];
+}
 
 -- ---- lengths
 
@@ -125,13 +139,13 @@ module _ (N : ℕ → Name → Type 0) (ss : List ℕ) (ts : List Try)
     few = omega (arith, ap length e);
     short = omega (arith, ap (λ (ks : List (List ℕ)). length (joined_keys ks)) e);
     each = λ i l. absurd (omega arith);
-    order = λ k l i g h a b c d. absurd (omega arith);
-    used = λ k h e. absurd cc;
+    order = record { firsts = []; each = tt; rise = record { each = λ i j a b. absurd (omega arith) } };
+    early = tt;
   }
 
-  pub distinct-more : (i n : ℕ) (old new : List (List ℕ)) (numbers more : List ℕ) (bytes : List ℕ) → IsDistinct N ss ts i old numbers → PacksHandler N ss bytes (handler_of (try_at ts i)) → AllBytes bytes
+  pub distinct-more : (i n : ℕ) (old new : List (List ℕ)) (numbers more : List ℕ) (bytes : List ℕ) → i < length ts → IsDistinct N ss ts i old numbers → PacksHandler N ss bytes (handler_of (try_at ts i)) → AllBytes bytes
       → Numbers old new bytes n → more ≡ numbers ++ n ∷ [] → IsDistinct N ss ts (i + 1) new more
-  distinct-more i n old new numbers more bytes d p small s m = elim s.is_new [
+  distinct-more i n old new numbers more bytes inside d p small s m = elim s.is_new [
     | inl same ↦
         let there = subst (λ (ks : List (List ℕ)). slice_get ks n ≡ Some bytes) same s.there in
         let z = zip-left (PacksHandler N ss) old d.handlers n bytes d.spelled there in
@@ -144,11 +158,8 @@ module _ (N : ℕ → Name → Type 0) (ss : List ℕ) (ts : List Try)
           few = let f = d.few in omega arith;
           short = let f = d.short in let t = catches-more ts i in omega arith;
           each = numbered d.handlers (λ k x e. e) (z.1 ∙ ap (λ (x : Handler). Some x) h);
-          order = λ k l j g q a b c e f. elim (cases_lt j i) [
-            | inl u ↦ d.order k l j g q a b c u f
-            | inr u ↦ let w = d.used k g b in let x = w.1 in (w.0, omega arith, w.2)
-          ];
-          used = λ k q e. let w = d.used k q e in let x = w.1 in (w.0, omega arith, w.2);
+          order = d.order;
+          early = all-below i d.order.firsts d.early;
         }))
     | inr fresh ↦
         let h = handler_of (try_at ts i) in
@@ -163,26 +174,12 @@ module _ (N : ℕ → Name → Type 0) (ss : List ℕ) (ts : List Try)
           few = let f = d.few in omega (arith, length-append old (bytes ∷ []));
           short = let f = d.short in let t = catches-more ts i in let j = joined-more old bytes in let k = handler-most N ss bytes (handler_of (try_at ts i)) p in omega (arith, ap length j, length-append (joined_keys old) bytes);
           each = numbered hs (λ k x e. get-old d.handlers h k x e) (let q : length d.handlers ≡ n = omega arith in subst (λ (k : ℕ). slice_get hs k ≡ Some h) q (get-last d.handlers h));
-          order = λ k l j g q a b c e f. elim (get-cases d.handlers h k g b) [
-            | inl b1 ↦ elim (get-cases d.handlers h l q c) [
-              | inl c1 ↦ elim (cases_lt j i) [
-                | inl u ↦ d.order k l j g q a b1 c1 u f
-                | inr u ↦ let w = d.used k g b1 in let x = w.1 in (w.0, omega arith, w.2)
-              ]
-              | inr c1 ↦ elim (cases_lt j i) [
-                | inl u ↦ absurd (none-before j fresh.2 (f ∙ sym c1.1) u)
-                | inr u ↦ let w = d.used k g b1 in let x = w.1 in (w.0, omega arith, w.2)
-              ]
-            ]
-            | inr b1 ↦ elim (get-cases d.handlers h l q c) [
-              | inl c1 ↦ let v = slice_get_within d.handlers l q c1 in let y = b1.0 in absurd (omega arith)
-              | inr c1 ↦ let y = b1.0 in let z = c1.0 in absurd (omega arith)
-            ]
-          ];
-          used = λ k q e. elim (get-cases d.handlers h k q e) [
-            | inl a ↦ let w = d.used k q a in let x = w.1 in (w.0, omega arith, w.2)
-            | inr a ↦ (i, omega arith, a.1)
-          ];
+          order = record {
+            firsts = d.order.firsts ++ i ∷ [];
+            each = zip-more (IsFirstUse ts) d.handlers d.order.firsts h i d.order.each (record { inside = inside; uses = refl; first = first-here fresh.2 });
+            rise = rises-more d.order.firsts i d.order.rise d.early;
+          };
+          early = all-more (λ (k : ℕ). k < i + 1) d.order.firsts i (all-below i d.order.firsts d.early) (omega arith);
         }))
   ]
     where
@@ -206,3 +203,6 @@ module _ (N : ℕ → Name → Type 0) (ss : List ℕ) (ts : List Try)
           let b = all-get AllBytes old (get_or numbers j 0) z.0 d.bytes z.1 in
           let same = once z.0 bytes (handler_of (try_at ts i)) b small (subst (λ (x : Handler). PacksHandler N ss z.0 x) e z.2) p in
           none (get_or numbers j 0) (z.1 ∙ ap (λ (x : List ℕ). Some x) same)
+
+      first-here : ((k : ℕ) → slice_get old k ≡ Some bytes → ⊥) → (j : ℕ) → handler_of (try_at ts j) ≡ handler_of (try_at ts i) → i ≤ j
+      first-here none j e = elim (cases_lt j i) [ inl lt ↦ absurd (none-before j none e lt) | inr le ↦ le ]

@@ -1,5 +1,5 @@
 -- The handlers of tries, laid out in one list.
-use Rattle.std.proofs.Common.{◌≡◌, ◌≢◌, ℕ, ◌+◌, ◌*◌, ◌<◌, ◌≤◌, ◌++◌, List, [], ◌∷◌, take, length, get_or, refl, ap, sym, ◌∙◌, arith, zero, suc, subst, Option, Some, inl, inr, length-append, append-nil, ◌==◌, if◌then◌else◌}
+use Rattle.std.proofs.Common.{◌≡◌, ◌≢◌, ℕ, ◌+◌, ◌*◌, ◌<◌, ◌≤◌, ◌++◌, List, [], ◌∷◌, map, take, length, get_or, refl, ap, sym, ◌∙◌, arith, zero, suc, subst, Option, Some, inl, inr, length-append, append-nil, ◌==◌, if◌then◌else◌}
 use Rattle.std.specs.Prelude.{slice_get}
 use Rattle.std.specs.List.{AllZip}
 use Rattle.std.proofs.lemmas.Bool.{cases_lt}
@@ -15,7 +15,7 @@ use Rattle.code_read.specs.Handlers.{Handler, PacksHandlers, PacksList, handler_
 use Rattle.code_read.specs.Tries.{handler_of}
 use Rattle.code_insns.proofs.ResolveLaws.{at-old, at-new}
 use Rattle.code_put.specs.Fits.{catches_in}
-use Rattle.code_put.specs.Packs.{PacksHandler, PacksHandlersOf}
+use Rattle.code_put.specs.Packs.{AreByFirstUse, PacksHandler, PacksHandlersOf}
 use Rattle.code_put.specs.Writing.{IsDistinct, IsListed, joined_keys, places_of}
 use Rattle.code_put.proofs.DistinctLaws.{zip-length}
 use Rattle.code_put.proofs.ListLaws.{take-whole}
@@ -46,12 +46,12 @@ module _ (N : ℕ → Name → Type 0) (ss : List ℕ) where
   placed-count at (k ∷ ks) [] h = absurd h
   placed-count at (k ∷ ks) (x ∷ hs) h = ap suc (placed-count (at + length k) ks hs h.1)
 
-  -- entry n is handler n
-  placed-handler : (at : ℕ) (ks : List (List ℕ)) (hs : List Handler) (n : ℕ) (p : ℕ × Handler) → AllZip (PacksHandler N ss) ks hs → slice_get (placed_of at ks hs) n ≡ Some p → slice_get hs n ≡ Some p.1
-  placed-handler at [] hs n p h e = absurd cc
-  placed-handler at (k ∷ ks) [] n p h e = absurd h
-  placed-handler at (k ∷ ks) (x ∷ hs) zero p h e = let q : (at, x) ≡ p = cc in ap (λ (r : ℕ × Handler). Some r.1) q
-  placed-handler at (k ∷ ks) (x ∷ hs) (suc n) p h e = placed-handler (at + length k) ks hs n p h.1 e
+  -- without their places they are the handlers
+  placed-handlers : (at : ℕ) (ks : List (List ℕ)) (hs : List Handler) → AllZip (PacksHandler N ss) ks hs → map (λ (p : ℕ × Handler). p.1) (placed_of at ks hs) ≡ hs
+  placed-handlers at [] [] h = refl
+  placed-handlers at [] (x ∷ hs) h = absurd h
+  placed-handlers at (k ∷ ks) [] h = absurd h
+  placed-handlers at (k ∷ ks) (x ∷ hs) h = ap (λ (l : List Handler). x ∷ l) (placed-handlers (at + length k) ks hs h.1)
 
   places-low : (at : ℕ) (ks : List (List ℕ)) (hs : List Handler) (n : ℕ) → AllZip (PacksHandler N ss) ks hs → n < length ks → at ≤ get_or (places_of at ks) n 0
   places-low at [] hs n h l = absurd (omega arith)
@@ -89,8 +89,7 @@ module _ (N : ℕ → Name → Type 0) (ss : List ℕ) where
       record {
         handlers = hs;
         spelled = some-handlers (length ts) (omega arith) (record { front = l.front; back = joined_keys keys; joined = l.is; count = subst (λ (x : ℕ). Shortest Spells l.front x) (sym count) l.count; each = placed-all at keys d.handlers d.spelled });
-        order = λ a b i g h lt ga gb li e. d.order a b i g.1 h.1 lt (placed-handler at keys d.handlers a g d.spelled ga) (placed-handler at keys d.handlers b h d.spelled gb) (omega arith) e;
-        used = λ a h e. let u = d.used a h.1 (placed-handler at keys d.handlers a h d.spelled e) in let v = u.1 in (u.0, omega arith, u.2);
+        order = subst (λ (l : List Handler). AreByFirstUse l ts) (sym (placed-handlers at keys d.handlers d.spelled)) d.order;
         offsets = record {
           count = c ∙ k ∙ en;
           each = λ i li.
@@ -113,8 +112,7 @@ module _ (N : ℕ → Name → Type 0) (ss : List ℕ) where
   laid-none [] list offs e f g = record {
     handlers = [];
     spelled = (f, refl);
-    order = λ a b i x y lt ga gb li q. absurd (omega arith);
-    used = λ a h q. absurd cc;
+    order = record { firsts = []; each = tt; rise = record { each = λ i j a b. absurd (omega arith) } };
     offsets = record { count = ap length g; each = λ i li. absurd (omega arith) };
     bytes = subst AllBytes (sym f) tt;
     short = let n = ap length f in omega arith;

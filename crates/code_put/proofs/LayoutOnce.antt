@@ -3,6 +3,7 @@ use Rattle.std.proofs.Common.{◌≡◌, ℕ, ◌+◌, ◌<◌, ◌++◌, List, 
 use Rattle.std.specs.Prelude.{slice_get}
 use Rattle.std.proofs.lemmas.Bool.{cases_lt}
 use Rattle.std.proofs.lemmas.Bool.Decides.{nat_tests}
+use Rattle.std.proofs.lemmas.Option.{slice_get_within, slice_get-get_or}
 use Rattle.base_bytes.specs.Grammar.{Placed}
 use Rattle.base_bytes.specs.Leb128.{Spells, Shortest}
 use Rattle.base_bytes.proofs.ShortestLaws.{AllBytes, shortest_one}
@@ -10,7 +11,9 @@ use Rattle.program_types.specs.Content.{Name, Try}
 use Rattle.program_types.specs.Formed.{try_at}
 use Rattle.code_read.specs.Handlers.{Handler, PacksHandlers, handler_at}
 use Rattle.code_read.specs.Tries.{handler_of}
-use Rattle.code_put.specs.Packs.{PacksHandler, PacksHandlersOf}
+use Rattle.code_insns.specs.Places.{Rises}
+use Rattle.code_put.specs.Packs.{IsFirstUse, PacksHandler, PacksHandlersOf}
+use Rattle.code_put.proofs.DistinctLaws.{some-same, zip-left}
 use Rattle.code_put.proofs.HandlerOnce.{IsInjective, handler-once, two-parts}
 
 -- ---- things in the order of their first use
@@ -71,16 +74,19 @@ module _ (A : Type 0) (f : ℕ → A) (n : ℕ) where
 
 -- ---- handlers and their offsets
 
+rise-at : (xs : List ℕ) (k l x y : ℕ) → Rises xs → k < l → slice_get xs k ≡ Some x → slice_get xs l ≡ Some y → x < y
+rise-at xs k l x y r lt a b =
+    let inside = slice_get_within xs l y b in
+    let less = r.each k l lt inside in
+    let p : get_or xs k 0 ≡ x = some-same (slice_get xs k) _ _ (slice_get-get_or xs k 0 (omega (arith, lt, inside))) a in
+    let q : get_or xs l 0 ≡ y = some-same (slice_get xs l) _ _ (slice_get-get_or xs l 0 inside) b in
+    omega (arith, less, p, q)
+
 second : ℕ × Handler → Handler
 second p = p.1
 
 seconds : List (ℕ × Handler) → List Handler
 seconds hs = map (λ (p : ℕ × Handler). p.1) hs
-
-get-second : (hs : List (ℕ × Handler)) (k : ℕ) (g : Handler) → slice_get (map (λ (p : ℕ × Handler). p.1) hs) k ≡ Some g → (r : ℕ × Handler) × (slice_get hs k ≡ Some r) × (r.1 ≡ g)
-get-second [] k g e = absurd cc
-get-second (p ∷ ps) zero g e = (p, refl, cc)
-get-second (p ∷ ps) (suc k) g e = get-second ps k g e
 
 second-get : (hs : List (ℕ × Handler)) (k : ℕ) (r : ℕ × Handler) → slice_get hs k ≡ Some r → slice_get (map (λ (p : ℕ × Handler). p.1) hs) k ≡ Some r.1
 second-get [] k r e = absurd cc
@@ -150,22 +156,20 @@ module _ (N : ℕ → Name → Type 0) (ss : List ℕ) (inj : IsInjective N) whe
     ordered-of : (list offs : List ℕ) (p : PacksHandlersOf N ss ts list offs) → Ordered Handler (λ i. handler_of (try_at ts i)) (length ts) (map (λ (r : ℕ × Handler). r.1) p.handlers)
     ordered-of list offs p = record {
       order = λ k l g h lt a b i li e.
-          let r = get-second p.handlers k g a in let s = get-second p.handlers l h b in
-          let o = p.order k l i r.0 s.0 lt r.1 s.1 li (e ∙ sym s.2) in
-          (o.0, o.1, o.2 ∙ r.2);
-      used = λ k h e.
-          let r = get-second p.handlers k h e in
-          let u = p.used k r.0 r.1 in
-          (u.0, u.1, u.2 ∙ r.2);
+          let r = zip-left (IsFirstUse ts) (map (λ (x : ℕ × Handler). x.1) p.handlers) p.order.firsts k g p.order.each a in
+          let s = zip-left (IsFirstUse ts) (map (λ (x : ℕ × Handler). x.1) p.handlers) p.order.firsts l h p.order.each b in
+          let rise = rise-at p.order.firsts k l r.0 s.0 p.order.rise lt r.1 s.1 in
+          let le = s.2.first i e in
+          (r.0, omega (arith, rise, le), r.2.uses);
+      used = λ k h e. let r = zip-left (IsFirstUse ts) (map (λ (x : ℕ × Handler). x.1) p.handlers) p.order.firsts k h p.order.each e in (r.0, r.2.inside, r.2.uses);
     }
 
     into : (la oa lb ob : List ℕ) (p : PacksHandlersOf N ss ts la oa) (q : PacksHandlersOf N ss ts lb ob) (h : Handler)
         → In Handler (λ i. handler_of (try_at ts i)) (length ts) h (map (λ (r : ℕ × Handler). r.1) p.handlers) → In Handler (λ i. handler_of (try_at ts i)) (length ts) h (map (λ (r : ℕ × Handler). r.1) q.handlers)
     into la oa lb ob p q h i =
-        let r = get-second p.handlers i.0 h i.1 in
-        let u = p.used i.0 r.0 r.1 in
+        let u = (ordered-of la oa p).used i.0 h i.1 in
         let k = handler-in q.handlers (get_or ob u.0 0) (handler_of (try_at ts u.0)) (q.offsets.each u.0 u.1) in
-        (k.0, second-get q.handlers k.0 k.1 k.2 ∙ ap (λ (x : Handler). Some x) (k.4 ∙ u.2 ∙ r.2))
+        (k.0, second-get q.handlers k.0 k.1 k.2 ∙ ap (λ (x : Handler). Some x) (k.4 ∙ u.2))
 
     offset-once : (list offs : List ℕ) (p : PacksHandlersOf N ss ts list offs) (i a b : ℕ) → handler_at p.handlers a ≡ Some (handler_of (try_at ts i)) → handler_at p.handlers b ≡ Some (handler_of (try_at ts i)) → a ≡ b
     offset-once list offs p i a b x y =
@@ -184,7 +188,7 @@ module _ (N : ℕ → Name → Type 0) (ss : List ℕ) (inj : IsInjective N) whe
         twice k l g h lt m n e =
             let o = (ordered-of list offs p).order k l g.1 h.1 lt (second-get p.handlers k g m) (second-get p.handlers l h n) in
             let back = subst (λ (z : Handler). Before Handler (λ j. handler_of (try_at ts j)) (length ts) z h.1) e o in
-            both-ways Handler (λ j. handler_of (try_at ts j)) (length ts) h.1 h.1 back back (p.used l h n)
+            both-ways Handler (λ j. handler_of (try_at ts j)) (length ts) h.1 h.1 back back ((ordered-of list offs p).used l h.1 (second-get p.handlers l h n))
 
         one-there : (hs : List (ℕ × Handler)) (k l : ℕ) (g h : ℕ × Handler) → k ≡ l → slice_get hs k ≡ Some g → slice_get hs l ≡ Some h → g ≡ h
         one-there hs k l g h e m n = cc

@@ -5,7 +5,6 @@ use Rattle.std.specs.Prelude.{ℕ, ℤ, pos, ◌-ℤ◌, ◌≡◌, ◌≢◌, �
 use Rattle.std.specs.Int.{w8, w16, w32}
 use Rattle.std.specs.List.{AllByRecursion, flat_map}
 use Rattle.base_bytes.specs.declared.fault.Fault.{Fault}
-use Rattle.dex_container.specs.Faults.{on}
 use Rattle.dex_insn.specs.declared.opcode.IndexKind.{IndexKind}
 use Rattle.dex_insn.specs.declared.opcode.IndexKind.TheVariants as kind
 use Rattle.program_types.specs.Content.{Name, OfDesc, Insn, Code, Try, Catch}
@@ -127,22 +126,23 @@ pub record CanBePut (N : ℕ → Name → Type 0) (c : Code) : Type 0 where
 
 -- ---- the limits that a code breaks
 
--- The code breaks the limit of this number: 82 StringOutOfReach, 83 FieldOutOfReach, 84 MethodOutOfReach (an index in a field of 16
--- bits), 85 BranchOutOfReach, 86 Misaligned, 87 TryTooLong, 88 TooManyTries, 89 HandlerTooFar, if the code is not too big itself.
-abbrev pub CodeBreaks : (ℕ → Name → Type 0) → ℕ → Code → Type 0
-CodeBreaks N number c =
-    on number 82 (¬ AllInsns (ShortFits N kind.String) c) (
-    on number 83 (¬ AllInsns (ShortFits N kind.Field) c) (
-    on number 84 (¬ AllInsns (ShortFits N kind.Method) c) (
-    on number 85 (¬ AllNumbers OffsetsFit c) (
-    on number 86 (¬ AllNumbers IsEven c) (
-    on number 87 (¬ AllTries TryFits c) (
-    on number 88 (65535 < length c.tries) (
-    on number 89 ((wide_code c ≤ 4294967295) × (¬ HandlersAreNear N (addresses_of c.insns) c.tries))
-    ⊥)))))))
+-- The code breaks the limit of this number.
+pub data CodeBreaks (N : ℕ → Name → Type 0) (c : Code) : ℕ → Type 0 where
+  -- an index of a string, a field or a method is past its field of 16 bits
+  StringOutOfReach : (¬ AllInsns (ShortFits N kind.String) c) → CodeBreaks N c 82
+  FieldOutOfReach : (¬ AllInsns (ShortFits N kind.Field) c) → CodeBreaks N c 83
+  MethodOutOfReach : (¬ AllInsns (ShortFits N kind.Method) c) → CodeBreaks N c 84
+  -- an offset is past its field, a payload has an odd address
+  BranchOutOfReach : (¬ AllNumbers OffsetsFit c) → CodeBreaks N c 85
+  Misaligned : (¬ AllNumbers IsEven c) → CodeBreaks N c 86
+  -- a try covers too much, there are too many
+  TryTooLong : (¬ AllTries TryFits c) → CodeBreaks N c 87
+  TooManyTries : 65535 < length c.tries → CodeBreaks N c 88
+  -- a handler is too far behind the begin of the list, in a code that is not too big itself
+  HandlerTooFar : wide_code c ≤ 4294967295 → (¬ HandlersAreNear N (addresses_of c.insns) c.tries) → CodeBreaks N c 89
 
 -- The fault names the lowest limit that the code breaks; it has no place of its own.
 pub record IsUnfit (N : ℕ → Name → Type 0) (c : Code) (fault : Fault) : Type 0 where
-  pub breaks : CodeBreaks N fault.code c
-  pub lowest : (number : ℕ) → CodeBreaks N number c → fault.code ≤ number
+  pub breaks : CodeBreaks N c fault.code
+  pub lowest : (number : ℕ) → CodeBreaks N c number → fault.code ≤ number
   pub place : fault.place ≡ 0

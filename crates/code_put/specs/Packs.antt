@@ -1,7 +1,7 @@
 -- What is written of a code, byte by byte.
 -- Page: "Dalvik Executable format", "code_item", "try_item", "encoded_catch_handler_list" and "encoded_catch_handler".
-use Rattle.std.specs.Prelude.{ℕ, ◌≡◌, ◌+◌, ◌-◌, ◌*◌, ◌<◌, ◌≤◌, ◌%◌, ◌++◌, ◌==◌, if◌then◌else◌, List, [], ◌∷◌, length, min, slice_index, slice_get, Some, true, ◌⊎◌}
-use Rattle.std.specs.List.{AllByRecursion, flat_map}
+use Rattle.std.specs.Prelude.{ℕ, ◌≡◌, ◌+◌, ◌-◌, ◌*◌, ◌<◌, ◌≤◌, ◌%◌, ◌++◌, ◌==◌, if◌then◌else◌, List, [], ◌∷◌, length, map, min, slice_index, Some, true, ◌⊎◌}
+use Rattle.std.specs.List.{AllByRecursion, AllZip, flat_map}
 use Rattle.base_bytes.specs.Via.{Via}
 use Rattle.base_bytes.specs.Leb128.{Spells, SpellsSigned, Shortest}
 use Rattle.base_bytes.specs.Fields.{u16_bytes, u32_bytes}
@@ -10,7 +10,7 @@ use Rattle.dex_insn.specs.Written.{written, IsRaw}
 use Rattle.program_types.specs.Content.{Name, Catch, Insn, Code, Try}
 use Rattle.program_types.specs.Formed.{insn_at, try_at, insn_payload, IsSwitch, Refers}
 use Rattle.program_types.specs.Sizes.{insn_units, addresses_of, length_of}
-use Rattle.code_insns.specs.Places.{place, position}
+use Rattle.code_insns.specs.Places.{Rises, place, position}
 use Rattle.code_insns.specs.Walk.{raw_at}
 use Rattle.code_insns.specs.Symbols.{Says}
 use Rattle.code_insns.specs.Payloads.{payload_of}
@@ -78,23 +78,23 @@ pub record AreOffsets (hs : List (ℕ × Handler)) (ts : List Try) (offs : List 
   pub count : length offs ≡ length ts
   pub each : (i : ℕ) → i < length ts → handler_at hs (slice_index offs i) ≡ Some (handler_of (try_at ts i))
 
--- The handlers stand in the order of their first use by the tries, each once: whichever try uses a handler, one before it uses
--- the handlers that stand before that one.
-abbrev pub AreInOrder : List (ℕ × Handler) → List Try → Type 0
-AreInOrder hs ts =
-    (k l i : ℕ) (g h : ℕ × Handler) → k < l → slice_get hs k ≡ Some g → slice_get hs l ≡ Some h → i < length ts → handler_of (try_at ts i) ≡ h.1
-    → (j : ℕ) × (j < i) × (handler_of (try_at ts j) ≡ g.1)
+-- Try i is the first that uses the handler.
+pub record IsFirstUse (ts : List Try) (h : Handler) (i : ℕ) : Type 0 where
+  pub inside : i < length ts
+  pub uses : handler_of (try_at ts i) ≡ h
+  pub first : (j : ℕ) → handler_of (try_at ts j) ≡ h → i ≤ j
 
--- Each handler is some try's.
-abbrev pub AreUsed : List (ℕ × Handler) → List Try → Type 0
-AreUsed hs ts = (k : ℕ) (h : ℕ × Handler) → slice_get hs k ≡ Some h → (i : ℕ) × (i < length ts) × (handler_of (try_at ts i) ≡ h.1)
+-- The handlers stand in the order of their first use by the tries, so each once.
+pub record AreByFirstUse (hs : List Handler) (ts : List Try) : Type 0 where
+  pub firsts : List ℕ
+  pub each : AllZip (IsFirstUse ts) hs firsts
+  pub rise : Rises firsts
 
 -- The bytes are the handlers of the tries, which begin at these offsets.
 pub record PacksHandlersOf (N : ℕ → Name → Type 0) (ss : List ℕ) (ts : List Try) (list offs : List ℕ) : Type 0 where
   pub handlers : List (ℕ × Handler)
   pub spelled : PacksHandlers N ss (length ts) list handlers
-  pub order : AreInOrder handlers ts
-  pub used : AreUsed handlers ts
+  pub order : AreByFirstUse (map (λ (h : ℕ × Handler). h.1) handlers) ts
   pub offsets : AreOffsets handlers ts offs
   pub bytes : AllByRecursion (λ byte. byte < 256) list
   pub short : length list ≤ 5 + 10 * length ts + 10 * length (flat_map (λ t. t.catches) ts)

@@ -11,7 +11,7 @@ use Rattle.tables_names.specs.Closure.{Five, NameRanks}
 use Rattle.code_read.specs.Handlers.{Handler}
 use Rattle.code_read.specs.Tries.{handler_of}
 use Rattle.code_put.specs.Fits.{catches_in}
-use Rattle.code_put.specs.Packs.{Lowers, IsOrigin, PacksHandler}
+use Rattle.code_put.specs.Packs.{AreByFirstUse, Lowers, IsOrigin, PacksHandler}
 
 -- the payload that a switch refers to
 unfoldable pub switched_by : Insn → Option ℕ
@@ -64,8 +64,8 @@ pub record IsDistinct (N : ℕ → Name → Type 0) (ss : List ℕ) (ts : List T
   pub few : length keys ≤ n
   pub short : length (joined_keys keys) ≤ 10 * n + 10 * catches_in (take n ts)
   pub each : (i : ℕ) → i < n → slice_get handlers (slice_index numbers i) ≡ Some (handler_of (try_at ts i))
-  pub order : (k l i : ℕ) (g h : Handler) → k < l → slice_get handlers k ≡ Some g → slice_get handlers l ≡ Some h → i < n → handler_of (try_at ts i) ≡ h → (j : ℕ) × (j < i) × (handler_of (try_at ts j) ≡ g)
-  pub used : (k : ℕ) (h : Handler) → slice_get handlers k ≡ Some h → (i : ℕ) × (i < n) × (handler_of (try_at ts i) ≡ h)
+  pub order : AreByFirstUse handlers ts
+  pub early : AllByRecursion (λ i. i < n) order.firsts
 
 -- where each of these stands, the first at a place
 abbrev pub places_of : ℕ → List (List ℕ) → List ℕ

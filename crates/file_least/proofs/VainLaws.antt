@@ -1,5 +1,5 @@
 -- What some file means breaks none of the limits 80 to 88.
-use Rattle.std.proofs.Common.{◌≡◌, ℕ, zero, suc, ◌≤◌, ◌⊎◌, inl, inr, Bool, true, false, List, [], ◌∷◌, ◌++◌, sym, subst, arith, Option, Some, None}
+use Rattle.std.proofs.Common.{◌≡◌, ℕ, zero, suc, ◌≤◌, ◌⊎◌, inl, inr, Bool, true, false, List, [], ◌∷◌, ◌++◌, refl, sym, subst, arith, Option, Some, None}
 use Rattle.std.specs.Prelude.{MatchBool, IfSome, ◌==◌}
 use Rattle.std.specs.Option.{option_to_list}
 use Rattle.std.specs.List.{AllByRecursion, slice_get}
@@ -7,11 +7,11 @@ use Rattle.base_bytes.specs.Fields.{AreBytes}
 use Rattle.base_bytes.specs.declared.fault.Fault.{Fault}
 use Rattle.file_classes.specs.ClassData.{IsRun, MethodEntry}
 use Rattle.file_classes.specs.Classes.{CodeAt, CodesAre, IsMethod, SomeCodeStands, SpellsClass}
-use Rattle.code_fits.proofs.BreakLaws.{on_split}
-use Rattle.code_put.specs.Fits.{CodeBreaks}
+use Rattle.code_put.specs.Fits.{BranchOutOfReach, CodeBreaks, FieldOutOfReach, HandlerTooFar, MethodOutOfReach, Misaligned, StringOutOfReach, TooManyTries, TryTooLong}
 use Rattle.dex_container.specs.Frame.{IsFramed}
 use Rattle.dex_insn.specs.declared.opcode.IndexKind.TheVariants as kind
-use Rattle.file_limits.specs.Limits.{ClassBreaks, IsLowestLimit, LimitBreaks, code_of, codes_in, codes_of}
+use Rattle.file_limits.specs.Limits as limits
+use Rattle.file_limits.specs.Limits.{BodyBreaks, ClassBreaksLimit, IsLowestLimit, LimitBreaks, TooBig, TooManyProtos, TooManyTypes, code_of, codes_in, codes_of}
 use Rattle.tables_names.specs.Closure.{Five, NameRanks}
 use Rattle.tables_names.specs.Needed.{needed}
 use Rattle.program_types.specs.Content.{Class, Code, Method, Name, Program, Units}
@@ -24,32 +24,15 @@ use Rattle.file_least.proofs.StandingFits.{standing-fits}
 -- ---- a code
 
 -- a code that fits its fields breaks no limit but how far handlers may be
-only_far : (N : ℕ → Name → Type 0) (c : Code) (n : ℕ) → FitsFields N c → CodeBreaks N n c → n ≡ 89
-only_far N c n f h = elim (on_split n 82 _ _ h) [
-  | inl x ↦ absurd (x.1 (f.names kind.String))
-  | inr x ↦ elim (on_split n 83 _ _ x.1) [
-    | inl x ↦ absurd (x.1 (f.names kind.Field))
-    | inr x ↦ elim (on_split n 84 _ _ x.1) [
-      | inl x ↦ absurd (x.1 (f.names kind.Method))
-      | inr x ↦ elim (on_split n 85 _ _ x.1) [
-        | inl x ↦ absurd (x.1 f.offsets)
-        | inr x ↦ elim (on_split n 86 _ _ x.1) [
-          | inl x ↦ absurd (x.1 f.even)
-          | inr x ↦ elim (on_split n 87 _ _ x.1) [
-            | inl x ↦ absurd (x.1 f.tries)
-            | inr x ↦ elim (on_split n 88 _ _ x.1) [
-              | inl x ↦ absurd (let few = f.few in let many = x.1 in omega (arith, few, many))
-              | inr x ↦ elim (on_split n 89 _ _ x.1) [
-                | inl x ↦ x.0
-                | inr x ↦ absurd x.1
-              ]
-            ]
-          ]
-        ]
-      ]
-    ]
-  ]
-]
+only_far : (N : ℕ → Name → Type 0) (c : Code) (n : ℕ) → FitsFields N c → CodeBreaks N c n → n ≡ 89
+only_far N c n f (StringOutOfReach broken) = absurd (broken (f.names kind.String))
+only_far N c n f (FieldOutOfReach broken) = absurd (broken (f.names kind.Field))
+only_far N c n f (MethodOutOfReach broken) = absurd (broken (f.names kind.Method))
+only_far N c n f (BranchOutOfReach broken) = absurd (broken f.offsets)
+only_far N c n f (Misaligned broken) = absurd (broken f.even)
+only_far N c n f (TryTooLong broken) = absurd (broken f.tries)
+only_far N c n f (TooManyTries many) = absurd (let few = f.few in omega (arith, few, many))
+only_far N c n f (HandlerTooFar short far) = refl
 
 -- ---- the codes of a class
 
@@ -96,26 +79,18 @@ module _ (b : List ℕ) (are : AreBytes b) (framed : IsFramed b) (names : Five) 
 -- ---- a program
 
 module _ (b : List ℕ) (p : Program) (are : AreBytes b) (m : Means b p) where
-  class_far : (n i : ℕ) → ClassBreaks (NameRanks (needed p)) n p i → n ≡ 89
+  class_far : (n i : ℕ) → ClassBreaksLimit (NameRanks (needed p)) n p i → n ≡ 89
   class_far n i h =
       let fits = class_fits b are m.framed (needed p) (no_further b p m) i h.class (m.classes.each i h.class h.there) in
       only_far (NameRanks (needed p)) h.body.code n (one_of (FitsFields (NameRanks (needed p))) (codes_of h.class) h.body.index h.body.code fits h.body.there) h.body.breaks
 
   -- a limit that the program breaks
   pub only_late : (n place : ℕ) → LimitBreaks p n place → (n ≡ 89) ⊎ (n ≡ 90)
-  only_late n place h = elim (on_split n 80 _ _ h) [
-    | inl x ↦ absurd (let many = x.1.0 in let l = (holds_at_least b p m).types in let few = m.framed.sections.types in omega (arith, many, l, few))
-    | inr x ↦ elim (on_split n 81 _ _ x.1) [
-      | inl x ↦ absurd (let many = x.1.0 in let l = (holds_at_least b p m).protos in let few = m.framed.sections.protos in omega (arith, many, l, few))
-      | inr x ↦ elim (on_split n 90 _ _ x.1) [
-        | inl x ↦ inr x.0
-        | inr x ↦ elim (on_split n 89 _ _ x.1) [
-          | inl x ↦ inl x.0
-          | inr x ↦ inl (class_far n place x.1.here)
-        ]
-      ]
-    ]
-  ]
+  only_late n place (TooManyTypes many) = absurd (let l = (holds_at_least b p m).types in let few = m.framed.sections.types in omega (arith, many, l, few))
+  only_late n place (TooManyProtos many) = absurd (let l = (holds_at_least b p m).protos in let few = m.framed.sections.protos in omega (arith, many, l, few))
+  only_late n place (BodyBreaks most first) = inl (class_far n place first.here)
+  only_late n place (limits.HandlerTooFar small first) = inl refl
+  only_late n place (TooBig big) = inr refl
 
 pub meant : (b : List ℕ) (p : Program) (e : Fault) → AreBytes b → Means b p → IsLowestLimit p e → (e.code ≡ 89) ⊎ (e.code ≡ 90)
 meant b p e are m l = only_late b p are m e.code e.place l.breaks

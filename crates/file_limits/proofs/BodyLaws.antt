@@ -8,7 +8,8 @@ use Rattle.base_bytes.specs.declared.fault.Fault.{Fault}
 use Rattle.code_put.specs.Fits.{CodeBreaks, FitsCode, IsUnfit}
 use Rattle.code_fits.proofs.BreakLaws.{breaks_range, fits_clear}
 use Rattle.program_types.specs.Content.{Name, Code, Class, Program}
-use Rattle.file_limits.specs.Limits.{SomeBreaks, ClassBreaks, IsFirstClass, IsLeast, IsLowestOf, lower, earlier, codes_of}
+use Rattle.file_limits.specs.Limits.{SomeBreaks, ClassBreaksLimit, IsFirstClass, codes_of}
+use Rattle.file_limits.specs.Lowest.{IsLeast, IsLowestOf, lower, earlier}
 
 -- ---- one body
 
@@ -20,14 +21,14 @@ pub one_fits : (N : ℕ → Name → Type 0) (c : Code) → FitsCode N c → IsL
 one_fits N c f = record {
   none = (f, tt);
   some = tt;
-  least = λ m s. absurd (fits_clear N c m f (subst (CodeBreaks N m) (sym (one_there c s.code s.index s.there)) s.breaks));
+  least = λ m s. absurd (fits_clear N c m f (subst (λ (d : Code). CodeBreaks N d m) (sym (one_there c s.code s.index s.there)) s.breaks));
 }
 
 pub one_breaks : (N : ℕ → Name → Type 0) (c : Code) (f : Fault) → IsUnfit N c f → IsLeast N (c ∷ []) (Some f.code)
 one_breaks N c f h = record {
   none = tt;
   some = record { index = 0; code = c; there = refl; breaks = h.breaks };
-  least = λ m s. (f.code, refl, h.lowest m (subst (CodeBreaks N m) (sym (one_there c s.code s.index s.there)) s.breaks));
+  least = λ m s. (f.code, refl, h.lowest m (subst (λ (d : Code). CodeBreaks N d m) (sym (one_there c s.code s.index s.there)) s.breaks));
 }
 
 pub unfit_is_no_memory : (N : ℕ → Name → Type 0) (c : Code) (f : Fault) → IsUnfit N c f → f.code ≢ 255
@@ -107,19 +108,19 @@ get_last [] v = refl
 get_last (x ∷ xs) v = get_last xs v
 
 module _ (N : ℕ → Name → Type 0) (p : Program) (c : Class) where
-  split_class : (m i : ℕ) → ClassBreaks N m (p ++ c ∷ []) i → ClassBreaks N m p i ⊎ ((i ≡ length p) × SomeBreaks N m (codes_of c))
+  split_class : (m i : ℕ) → ClassBreaksLimit N m (p ++ c ∷ []) i → ClassBreaksLimit N m p i ⊎ ((i ≡ length p) × SomeBreaks N m (codes_of c))
   split_class m i h = elim (get_split p c h.class i h.there) [
     | inl e ↦ inl (record { class = h.class; there = e; body = h.body })
     | inr e ↦ inr (e.0, subst (λ (d : Class). SomeBreaks N m (codes_of d)) (sym e.1) h.body)
   ]
 
-  lift_class : (m i : ℕ) → ClassBreaks N m p i → ClassBreaks N m (p ++ c ∷ []) i
+  lift_class : (m i : ℕ) → ClassBreaksLimit N m p i → ClassBreaksLimit N m (p ++ c ∷ []) i
   lift_class m i h = record { class = h.class; there = get_front p c h.class i h.there; body = h.body }
 
-  last_class : (m : ℕ) → SomeBreaks N m (codes_of c) → ClassBreaks N m (p ++ c ∷ []) (length p)
+  last_class : (m : ℕ) → SomeBreaks N m (codes_of c) → ClassBreaksLimit N m (p ++ c ∷ []) (length p)
   last_class m s = record { class = c; there = get_last p c; body = s }
 
-  within : (m i : ℕ) → ClassBreaks N m p i → i < length p
+  within : (m i : ℕ) → ClassBreaksLimit N m p i → i < length p
   within m i h = slice_get_within p i h.class h.there
 
   -- a first class stays one

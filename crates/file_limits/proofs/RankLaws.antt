@@ -16,7 +16,8 @@ use Rattle.program_types.specs.Mentions.{names_of_insn, names_of_try, names_of_c
 use Rattle.program_types.specs.View as view
 use Rattle.program_types.specs.declared.class.Class.{Class}
 use Rattle.program_types.specs.declared.class.Method.{Method}
-use Rattle.file_limits.specs.Limits.{IsLeast, IsLowestOf, codes_in, lower, earlier}
+use Rattle.file_limits.specs.Limits.{codes_in}
+use Rattle.file_limits.specs.Lowest.{IsLeast, IsLowestOf, lower, earlier}
 use Rattle.file_limits.proofs.BodyLaws.{both_least, class_more, all_both}
 use Rattle.file_limits.proofs.SumLaws.{map_more}
 

@@ -4,7 +4,8 @@ ghost use Rattle.std.specs.Prelude.{◌≡◌, ℕ, ◌≤◌, ◌∷◌, ◌++�
 ghost use Rattle.std.specs.List.{AllByRecursion};
 ghost use Rattle.std.specs.Option.{option_to_list};
 ghost use Rattle.base_bytes.specs.Fault.{memory};
-ghost use Rattle.file_limits.specs.Limits.{IsLeast, IsLowestOf, IsReady, codes_in, codes_of, earlier, lower};
+ghost use Rattle.file_limits.specs.Limits.{IsReady, codes_in, codes_of};
+ghost use Rattle.file_limits.specs.Lowest.{IsLeast, IsLowestOf, earlier, lower};
 ghost use Rattle.tables_names.specs.Closure.{NameRanks};
 ghost use Rattle.program_types.specs.View as view;
 

@@ -3,7 +3,8 @@
 ghost use Rattle.std.specs.Prelude.{◌≡◌, ◌≢◌, ℕ, Some, IfErr, OnOk, map, slice_get};
 ghost use Rattle.std.specs.List.{AllByRecursion};
 ghost use Rattle.base_bytes.specs.Fault.{memory};
-ghost use Rattle.file_limits.specs.Limits.{Fits, IsLowestLimit, IsReady, codes_of, or_too_big};
+ghost use Rattle.file_limits.specs.Limits.{Fits, IsLowestLimit, IsReady, codes_of};
+ghost use Rattle.file_limits.specs.Lowest.{or_too_big};
 ghost use Rattle.tables_names.specs.Needed.{needed};
 ghost use Rattle.program_types.specs.View as view;
 

@@ -72,7 +72,6 @@ module _ (M N : ℕ → Name → Type 0) (f : (i : ℕ) (which : Name) → M i w
       handlers = h.handlers;
       spelled = handlers-weaker _ list h.handlers h.spelled;
       order = h.order;
-      used = h.used;
       offsets = h.offsets;
       bytes = h.bytes;
       short = h.short;

@@ -6,7 +6,7 @@ use Rattle.program_types.specs.Sizes.{addresses_of}
 use Rattle.tables_names.specs.Closure.{NameRanks}
 use Rattle.code_put.specs.Fits.{TryFits, HandlersAreNear}
 use Rattle.code_put.proofs.FormLaws.{good}
-use Rattle.code_fits.proofs.BreakLaws.{unfit87, unfit89}
+use Rattle.code_fits.proofs.BreakLaws.{unfit87, unfit88, unfit89}
 use Rattle.code_fits.proofs.FitLaws.{by-count, tries-there, addresses-small}
 use Rattle.code_fits.proofs.fitting.check_tries.Goals as goal
 
@@ -44,6 +44,14 @@ returns-then-not-tries_fit-clause-err c = λ ne.
     let t = c.tries_fit.ensures.1 (subst (λ (ss : List ℕ). (i : ℕ) → i < length c.args.code.now.tries.now → TryFits ss (map try c.args.code.now.tries.now) i) (sym starts)
     (by-count (length (map try c.args.code.now.tries.now)) (length c.args.code.now.tries.now) (λ i. TryFits (addresses_of (map insn c.args.code.now.insns.now)) (map try c.args.code.now.tries.now) i) m h)) in
     search rules))
+
+pub returns-then-code-gt65535-clause-err : goal.returns-then-code-gt65535-clause-err
+returns-then-code-gt65535-clause-err c = λ ne.
+    let m = sym (length-map c.args.code.now.tries.now try) in
+    let tries = by-count (length c.args.code.now.tries.now) (length (map try c.args.code.now.tries.now)) (λ i. TryFits (addresses_of (map insn c.args.code.now.insns.now)) (map try c.args.code.now.tries.now) i) m
+    (subst (λ (ss : List ℕ). (i : ℕ) → i < length c.args.code.now.tries.now → TryFits ss (map try c.args.code.now.tries.now) i) (c.deref.ensures.value ∙ c.requires.starts) (c.tries_fit.ensures.0 (search rules))) in
+    let many : 65535 < length c.args.code.now.tries.now = search rules in
+    rw c.at-then-code-gt65535.ensures (unfit88 (NameRanks c.args.ranks.now) (view.code c.args.code.now) c.requires.strings c.requires.fields c.requires.methods c.requires.offsets c.requires.even tries (omega (arith, many, m)))
 
 pub returns-then-not-branch-clause-err : goal.returns-then-not-branch-clause-err
 returns-then-not-branch-clause-err c = λ ne.

@@ -41,7 +41,7 @@ loop-i-init c =
 pub loop-i-preserved : goal.loop-i-preserved
 loop-i-preserved c =
     distinct-more (NameRanks c.args.ranks.now) c.args.starts.now (map try c.args.tries.now) (packs-unique c.args.ranks.now c.args.starts.now) (handler-once (NameRanks c.args.ranks.now) c.args.starts.now (ranks-injective c.args.ranks.now c.rise.ensures))
-    c.loop-i.i _ _ _ c.loop-i.numbers.items _ c.put_handler.new.out.items c.loop-i.invariant
+    c.loop-i.i _ _ _ c.loop-i.numbers.items _ c.put_handler.new.out.items (let n = length-map c.args.tries.now try in let l = c.loop-i-test.true in omega (arith, n, l)) c.loop-i.invariant
     (subst (λ (t : Try). PacksHandler (NameRanks c.args.ranks.now) c.args.starts.now c.put_handler.new.out.items (handler_of t)) (seen-at c.args.tries.now c.loop-i.i _ c.loop-i-test.true)
     (alone (PacksHandler (NameRanks c.args.ranks.now) c.args.starts.now) _ _ _ c.new-bytes.ensures.items c.in_ok-put_handler.ensures.ok))
     (subst AllBytes c.deref.ensures.value c.are_bytes.ensures) c.in_ok-number_of.ensures.ok c.in_ok-push.ensures.items

@@ -1,7 +1,8 @@
 use Rattle.std.proofs.Common.{map, sym, subst, Option, ℕ}
 use Rattle.tables_names.specs.Closure.{NameRanks}
 use Rattle.program_types.specs.View as view
-use Rattle.file_limits.specs.Limits.{IsLeast, IsReady, codes_in, codes_of}
+use Rattle.file_limits.specs.Limits.{IsReady, codes_in, codes_of}
+use Rattle.file_limits.specs.Lowest.{IsLeast}
 use Rattle.file_limits.proofs.BodyLaws.{both_least}
 use Rattle.file_limits.proofs.RankLaws.{front_all, back_all}
 use Rattle.file_limits.proofs.bodies.class_number.Goals as goal
