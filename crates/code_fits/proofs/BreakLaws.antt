@@ -13,7 +13,7 @@ use Rattle.program_types.specs.Content as made
 use Rattle.program_types.specs.Formed.{insn_at, insn_targets}
 use Rattle.program_types.specs.Kinds.{IsOfKind}
 use Rattle.program_types.specs.Sizes.{addresses_of}
-use Rattle.code_put.specs.Fits.{AllInsns, AllNumbers, AllTries, BranchFits, CodeBreaks, FieldOutOfReach, FitsCode, HandlerTooFar, HandlersAreNear, IsEven, IsUnfit, BranchOutOfReach, MethodOutOfReach, Misaligned, OffsetsFit, ShortFits, StringOutOfReach, TargetsFit, TooManyTries, TryFits, TryTooLong, distance_of, short_name, wide_code}
+use Rattle.code_put.specs.Fits.{AllInsns, AllNumbers, AllTries, BranchFits, CodeBreaks, FieldOutOfReach, FitsCode, HandlerTooFar, HandlersAreNear, IsEven, IsUnfit, BranchOutOfReach, MethodOutOfReach, Misaligned, OffsetsFit, ShortFits, SomeHandlerIsFar, StringOutOfReach, TargetsFit, TooManyTries, TryFits, TryTooLong, distance_of, short_name, wide_code}
 
 -- ---- by the number
 
@@ -64,7 +64,7 @@ module _ (N : ℕ → Name → Type 0) (c : Code) where
   kept88 few (TooManyTries many) = omega (arith, few, many)
 
   kept89 : (wide_code c ≤ 4294967295 → HandlersAreNear N (addresses_of c.insns) c.tries) → ¬ CodeBreaks N c 89
-  kept89 near (HandlerTooFar short far) = far (near short)
+  kept89 near (HandlerTooFar short some) = let n = near short some.list some.offs some.laid some.index some.inside in let f = some.far in omega (arith, n, f)
 
   next : (k : ℕ) → IsClearBelow N c k → (¬ CodeBreaks N c k) → IsClearBelow N c (k + 1)
   next k below here m lt h = ⊎_elim (λ (less : m < k). below m less h) (λ (same : k ≤ m). let e : m ≡ k = omega (arith, lt, same) in here (subst (λ (n : ℕ). CodeBreaks N c n) e h)) (cases_lt m k)
@@ -128,7 +128,7 @@ module _ (N : ℕ → Name → Type 0) (c : Code) where
                 clear89 : IsClearBelow N c 89
                 clear89 = next 88 clear88 (kept88 few)
 
-                pub unfit89 : wide_code c ≤ 4294967295 → (¬ HandlersAreNear N (addresses_of c.insns) c.tries) → IsUnfit N c (unfit 89)
+                pub unfit89 : wide_code c ≤ 4294967295 → SomeHandlerIsFar N (addresses_of c.insns) c.tries → IsUnfit N c (unfit 89)
                 unfit89 short far = lowest 89 clear89 (HandlerTooFar short far)
 
                 pub clear90 : (wide_code c ≤ 4294967295 → HandlersAreNear N (addresses_of c.insns) c.tries) → IsClearBelow N c 90
@@ -220,8 +220,12 @@ numbers_stable P s c h = λ k lt. s c.insns (addresses_of c.insns) k (λ no. h (
 tries_stable : (c : Code) → Stable (AllTries TryFits c)
 tries_stable c h = λ i lt. most_stable _ _ (λ no. h (λ f. no (f i lt)))
 
-handlers_stable : (N : ℕ → Name → Type 0) (ss : List ℕ) (ts : List Try) → Stable (HandlersAreNear N ss ts)
-handlers_stable N ss ts h = λ list offs p i lt. less_stable (get_or offs i 0) 65536 (λ no. h (λ f. no (f list offs p i lt)))
+handlers_near : (N : ℕ → Name → Type 0) (c : Code) → ((m : ℕ) → ¬ CodeBreaks N c m) → wide_code c ≤ 4294967295 → HandlersAreNear N (addresses_of c.insns) c.tries
+handlers_near N c clear short list offs laid i inside =
+    less_stable (get_or offs i 0) 65536 (λ far. clear 89 (HandlerTooFar short (record { list = list; offs = offs; laid = laid; index = i; inside = inside; far = at_least (get_or offs i 0) far })))
+  where
+    at_least : (n : ℕ) → (¬ (n < 65536)) → 65535 < n
+    at_least n far = ⊎_elim (λ (lt : n < 65536). absurd (far lt)) (λ (le : 65536 ≤ n). omega (arith, le)) (cases_lt n 65536)
 
 pub clear_fits : (N : ℕ → Name → Type 0) (c : Code) → ((m : ℕ) → ¬ CodeBreaks N c m) → FitsCode N c
 clear_fits N c clear = record {
@@ -232,5 +236,5 @@ clear_fits N c clear = record {
   even = numbers_stable IsEven even_stable c (λ broken. clear 86 (Misaligned broken));
   tries = tries_stable c (λ broken. clear 87 (TryTooLong broken));
   few = ⊎_elim (λ (many : 65535 < length c.tries). absurd (clear 88 (TooManyTries many))) (λ (few : length c.tries ≤ 65535). few) (cases_lt 65535 (length c.tries));
-  handlers = λ short. handlers_stable N (addresses_of c.insns) c.tries (λ far. clear 89 (HandlerTooFar short far));
+  handlers = handlers_near N c clear;
 }

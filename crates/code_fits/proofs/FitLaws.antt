@@ -3,6 +3,7 @@ use Rattle.std.proofs.Common.{◌≡◌, ℕ, ◌+◌, ◌*◌, ◌<◌, ◌≤�
 use Rattle.std.specs.Prelude.{FitsSigned}
 use Rattle.std.specs.Int.{w32}
 use Rattle.std.specs.List.{AllByRecursion, flat_map}
+use Rattle.std.proofs.lemmas.Bool.{cases_lt}
 use Rattle.std.proofs.lemmas.List.{length-map}
 use Rattle.std.proofs.lemmas.List.Folds.{length-flat_map-take}
 use Rattle.program_types.specs.Content.{Name, Insn, Code, Try}
@@ -98,3 +99,17 @@ tries-there xs ts ss e h i l =
     let n = length-map ts try in
     let m : length (map insn xs) ≡ length ss = sym (ap length e ∙ length-addresses (map insn xs)) in
     subst (λ (k : ℕ). TryFormed k (map try ts) i) m (h i (omega arith))
+
+-- ---- offsets of handlers
+
+-- where not all are below 65536, one isn't
+pub far-at : (xs : List ℕ) → (¬ ((i : ℕ) → i < length xs → get_or xs i 0 < 65536)) → (i : ℕ) × (i < length xs) × (65535 < get_or xs i 0)
+far-at [] h = absurd (h (λ i l. absurd (omega (arith, l))))
+far-at (x ∷ xs) h = elim (cases_lt x 65536) [
+  | inl near ↦ let r = far-at xs (λ f. h (both near f)) in let l = r.1 in (suc r.0, omega (arith, l), r.2)
+  | inr far ↦ (zero, omega arith, omega (arith, far))
+]
+  where
+    both : x < 65536 → ((i : ℕ) → i < length xs → get_or xs i 0 < 65536) → (i : ℕ) → i < suc (length xs) → get_or (x ∷ xs) i 0 < 65536
+    both near f zero l = near
+    both near f (suc i) l = f i (omega (arith, l))

@@ -1,6 +1,6 @@
 //! Whether the counts of tries and the offsets of their handlers fit.
 
-ghost use Rattle.std.specs.Prelude.{◌≡◌, ◌<◌, ◌≤◌, ◌+◌, ◌*◌, ◌^◌, ◌↔◌, ℕ, length, map, slice_index, IsTrue, IfOk, IsOkUnless};
+ghost use Rattle.std.specs.Prelude.{◌≡◌, ◌<◌, ◌≤◌, ◌+◌, ◌*◌, ◌^◌, ◌↔◌, ℕ, false, length, map, slice_index, IsTrue, IfOk, IsOkUnless};
 ghost use Rattle.std.specs.List.{AllByRecursion, flat_map};
 ghost use Rattle.base_bytes.specs.Fault.{memory};
 ghost use Rattle.program_types.specs.Formed.{try_at, TryFormed};
@@ -8,7 +8,7 @@ ghost use Rattle.program_types.specs.Mentions.{names_of_try};
 ghost use Rattle.program_types.specs.View.{try};
 ghost use Rattle.tables_names.specs.Closure.{NameRanks};
 ghost use Rattle.code_insns.specs.Places.{Rises};
-ghost use Rattle.code_put.specs.Fits.{TryFits, HandlersAreNear, HasIndexBelow, catches_in};
+ghost use Rattle.code_put.specs.Fits.{TryFits, HandlersAreNear, HasIndexBelow, SomeHandlerIsFar, catches_in};
 
 use code_put::lay_handlers;
 use dex_base::Fault;
@@ -94,6 +94,7 @@ pub(crate) fn handlers_fit(
     requires few { length tries.now ≤ 65535 }
     requires short { 26 + 18 * length tries.now + 10 * catches_in (map try tries.now) ≤ 4294967295 }
     ensures ok { IfOk result (λ b. IsTrue b ↔ HandlersAreNear (NameRanks ranks.now) starts.now (map try tries.now)) }
+    ensures far { IfOk result (λ b. b ≡ false → SomeHandlerIsFar (NameRanks ranks.now) starts.now (map try tries.now)) }
     ensures memory { IsOkUnless result memory }
 {
     ranks.rise();

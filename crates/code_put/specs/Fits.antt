@@ -7,7 +7,7 @@ use Rattle.std.specs.List.{AllByRecursion, flat_map}
 use Rattle.base_bytes.specs.declared.fault.Fault.{Fault}
 use Rattle.dex_insn.specs.declared.opcode.IndexKind.{IndexKind}
 use Rattle.dex_insn.specs.declared.opcode.IndexKind.TheVariants as kind
-use Rattle.program_types.specs.Content.{Name, OfDesc, Insn, Code, Try, Catch}
+use Rattle.program_types.specs.Content.{Name, Insn, Code, Try}
 use Rattle.program_types.specs.Content as made
 use Rattle.program_types.specs.Mentions.{names_of_code}
 use Rattle.program_types.specs.Kinds.{IsOfKind}
@@ -81,6 +81,15 @@ TryFits ss ts i = slice_index ss ((try_at ts i).to - 1) + 1 ≤ slice_index ss (
 abbrev pub HandlersAreNear : (ℕ → Name → Type 0) → List ℕ → List Try → Type 0
 HandlersAreNear N ss ts = (list offs : List ℕ) → PacksHandlersOf N ss ts list offs → (i : ℕ) → i < length offs → slice_index offs i < 65536
 
+-- In the written order some handler begins past offset 65535.
+pub record SomeHandlerIsFar (N : ℕ → Name → Type 0) (ss : List ℕ) (ts : List Try) : Type 0 where
+  pub list : List ℕ
+  pub offs : List ℕ
+  pub laid : PacksHandlersOf N ss ts list offs
+  pub index : ℕ
+  pub inside : index < length offs
+  pub far : 65535 < slice_index offs index
+
 -- ---- the size
 
 -- how many catches tries have
@@ -139,7 +148,7 @@ pub data CodeBreaks (N : ℕ → Name → Type 0) (c : Code) : ℕ → Type 0 wh
   TryTooLong : (¬ AllTries TryFits c) → CodeBreaks N c 87
   TooManyTries : 65535 < length c.tries → CodeBreaks N c 88
   -- a handler is too far behind the begin of the list, in a code that is not too big itself
-  HandlerTooFar : wide_code c ≤ 4294967295 → (¬ HandlersAreNear N (addresses_of c.insns) c.tries) → CodeBreaks N c 89
+  HandlerTooFar : wide_code c ≤ 4294967295 → SomeHandlerIsFar N (addresses_of c.insns) c.tries → CodeBreaks N c 89
 
 -- The fault names the lowest limit that the code breaks; it has no place of its own.
 pub record IsUnfit (N : ℕ → Name → Type 0) (c : Code) (fault : Fault) : Type 0 where

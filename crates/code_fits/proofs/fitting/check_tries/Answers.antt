@@ -4,7 +4,7 @@ use Rattle.program_types.specs.View as view
 use Rattle.program_types.specs.View.{insn, try}
 use Rattle.program_types.specs.Sizes.{addresses_of}
 use Rattle.tables_names.specs.Closure.{NameRanks}
-use Rattle.code_put.specs.Fits.{TryFits, HandlersAreNear}
+use Rattle.code_put.specs.Fits.{TryFits, HandlersAreNear, SomeHandlerIsFar}
 use Rattle.code_put.proofs.FormLaws.{good}
 use Rattle.code_fits.proofs.BreakLaws.{unfit87, unfit88, unfit89}
 use Rattle.code_fits.proofs.FitLaws.{by-count, tries-there, addresses-small}
@@ -63,7 +63,7 @@ returns-then-not-branch-clause-err c = λ ne.
     let w = c.is_short.ensures.0 (search rules) in
     let same = c.deref-2.ensures.value ∙ c.requires.starts in
     rw c.at-then-not-branch.ensures (unfit89 (NameRanks c.args.ranks.now) (view.code c.args.code.now) c.requires.strings c.requires.fields c.requires.methods c.requires.offsets c.requires.even tries (omega arith) (omega arith)
-    (λ h. let t = c.in_ok-handlers_fit.ensures.ok.1 (subst (λ (ss : List ℕ). HandlersAreNear (NameRanks c.args.ranks.now) ss (map try c.args.code.now.tries.now)) (sym same) h) in search rules))
+    (subst (λ (ss : List ℕ). SomeHandlerIsFar (NameRanks c.args.ranks.now) ss (map try c.args.code.now.tries.now)) same (c.in_ok-handlers_fit.ensures.far (search rules))))
 
 pub returns-clause-ok : goal.returns-clause-ok
 returns-clause-ok c =
