@@ -12,5 +12,5 @@
 //! Its rooms: `tables_rows` (a file's tables), `tables_names` (needed names and ranks), `tables_laws`.
 #![tactic(auto)]
 
-pub use tables_names::{Needed, Ranks, Row};
+pub use tables_names::{FieldParts, MethodParts, Needed, ProtoParts, Ranks, Row, TypeParts};
 pub use tables_rows::Tables;

@@ -1,11 +1,13 @@
 -- The names of a class, part by part.
 use Rattle.std.proofs.Common.{◌≡◌, List, [], ◌∷◌, ◌++◌, map, refl, sym, ap, ◌∙◌, subst}
 use Rattle.std.specs.List.{AllByRecursion, flat_map}
-use Rattle.tables_names.specs.Closure.{Five, with_name, with_names}
+use Rattle.file_needed.specs.Bodies.{names_of_body}
+use Rattle.tables_names.specs.Closure.{Five, AreRising, IsClosed, method_of_class, with_names}
+use Rattle.tables_names.proofs.NeededLemmas.{names_append, same_names}
 use Rattle.program_types.specs.Content as content
 use Rattle.program_types.specs.Content.{Name, OfText, OfDesc, values}
 use Rattle.program_types.specs.Mentions.{names_of_value, names_of_values, names_of_class, names_of_method, field_of_class, if_any}
-use Rattle.file_needed.proofs.Steps.{names_append, left, right}
+use Rattle.file_needed.proofs.Steps.{left, right}
 
 pub next : (s a b : Five) (xs ys : List Name) → a ≡ with_names s xs → b ≡ with_names a ys → b ≡ with_names s (xs ++ ys)
 next s a b xs ys e f = f ∙ ap (λ q. with_names q ys) e ∙ sym (names_append s xs ys)
@@ -40,21 +42,6 @@ directs_kept P c h = right P (part6 c) (flat_map (names_of_method c.ty) c.direct
 pub virtuals_kept : (P : Name → Type 0) (c : content.Class) → AllByRecursion P (names_of_class c) → AllByRecursion P (flat_map (names_of_method c.ty) c.virtuals)
 virtuals_kept P c h = right P (part7 c) (flat_map (names_of_method c.ty) c.virtuals) h
 
-pub class_names : (s s1 s2 s3 s4 s5 s6 s7 s8 s9 : Five) (c : content.Class)
-    → s1 ≡ with_name s (OfDesc c.ty) → s2 ≡ with_names s1 (if_any (λ t. OfDesc t ∷ []) c.superclass) → s3 ≡ with_names s2 (map OfDesc c.interfaces)
-    → s4 ≡ with_names s3 (if_any (λ t. OfText t ∷ []) c.source) → s5 ≡ with_names s4 (map (field_of_class c.ty) c.statics) → s6 ≡ with_names s5 (names_of_values (values c.values))
-    → s7 ≡ with_names s6 (map (field_of_class c.ty) c.instances) → s8 ≡ with_names s7 (flat_map (names_of_method c.ty) c.directs) → s9 ≡ with_names s8 (flat_map (names_of_method c.ty) c.virtuals)
-    → s9 ≡ with_names s (names_of_class c)
-class_names s s1 s2 s3 s4 s5 s6 s7 s8 s9 c e1 e2 e3 e4 e5 e6 e7 e8 e9 =
-    let p1 : s2 ≡ with_names s (part1 c) = e2 ∙ ap (λ q. with_names q (if_any (λ t. OfDesc t ∷ []) c.superclass)) e1 in
-    let p2 = next s s2 s3 (part1 c) (map OfDesc c.interfaces) p1 e3 in
-    let p3 = next s s3 s4 (part1 c ++ map OfDesc c.interfaces) (if_any (λ t. OfText t ∷ []) c.source) p2 e4 in
-    let p4 = next s s4 s5 (part1 c ++ map OfDesc c.interfaces ++ if_any (λ t. OfText t ∷ []) c.source) (map (field_of_class c.ty) c.statics) p3 e5 in
-    let p5 = next s s5 s6 (part4 c) (flat_map names_of_value c.values) p4 (e6 ∙ ap (with_names s5) (values_flat c.values)) in
-    let p6 = next s s6 s7 (part4 c ++ flat_map names_of_value c.values) (map (field_of_class c.ty) c.instances) p5 e7 in
-    let p7 = next s s7 s8 (part6 c) (flat_map (names_of_method c.ty) c.directs) p6 e8 in
-    next s s8 s9 (part7 c) (flat_map (names_of_method c.ty) c.virtuals) p7 e9
-
 -- the parts of a class's names, one by one
 pub interfaces_named : (P : Name → Type 0) (c : content.Class) → AllByRecursion P (names_of_class c) → AllByRecursion P (map OfDesc c.interfaces)
 interfaces_named P c h =
@@ -83,3 +70,110 @@ statics_named P c h =
 
 pub instances_named : (P : Name → Type 0) (c : content.Class) → AllByRecursion P (names_of_class c) → AllByRecursion P (map (field_of_class c.ty) c.instances)
 instances_named P c h = right P (part4 c ++ flat_map names_of_value c.values) (map (field_of_class c.ty) c.instances) (left P (part6 c) (flat_map (names_of_method c.ty) c.directs) (left P (part7 c) (flat_map (names_of_method c.ty) c.virtuals) h))
+
+-- ---- as they are added: the class with each kind of member, and bodies behind the methods
+
+both : (P : Name → Type 0) (xs ys : List Name) → AllByRecursion P xs → AllByRecursion P ys → AllByRecursion P (xs ++ ys)
+both P [] ys a b = b
+both P (x ∷ xs) ys a b = (a.0, both P xs ys a.1 b)
+
+module _ (P : Name → Type 0) (class : content.Descriptor) where
+  pub methods_apart : (ms : List content.Method) → AllByRecursion P (flat_map (names_of_method class) ms) → AllByRecursion P (map (method_of_class class) ms) × AllByRecursion P (flat_map names_of_body ms)
+  methods_apart [] h = (tt, tt)
+  methods_apart (m ∷ ms) h =
+      let rest = methods_apart ms (right P (names_of_body m) (flat_map (names_of_method class) ms) h.1) in
+      ((h.0, rest.0), both P (names_of_body m) (flat_map names_of_body ms) (left P (names_of_body m) (flat_map (names_of_method class) ms) h.1) rest.1)
+
+  methods_together : (ms : List content.Method) → AllByRecursion P (map (method_of_class class) ms) → AllByRecursion P (flat_map names_of_body ms) → AllByRecursion P (flat_map (names_of_method class) ms)
+  methods_together [] own bodies = tt
+  methods_together (m ∷ ms) own bodies =
+      let rest = methods_together ms own.1 (right P (names_of_body m) (flat_map names_of_body ms) bodies) in
+      (own.0, both P (names_of_body m) (flat_map (names_of_method class) ms) (left P (names_of_body m) (flat_map names_of_body ms) bodies) rest)
+
+-- what is added for methods
+abbrev pub methods_added : content.Descriptor → List content.Method → List Name
+methods_added class ms = OfDesc class ∷ map (method_of_class class) ms ++ flat_map names_of_body ms
+
+abbrev added3 : content.Class → List Name
+added3 c = if_any (λ t. OfDesc t ∷ []) c.superclass ++ map OfDesc c.interfaces ++ if_any (λ t. OfText t ∷ []) c.source
+
+abbrev added5 : content.Class → List Name
+added5 c = added3 c ++ (OfDesc c.ty ∷ map (field_of_class c.ty) c.statics) ++ flat_map names_of_value c.values
+
+abbrev added7 : content.Class → List Name
+added7 c = added5 c ++ (OfDesc c.ty ∷ map (field_of_class c.ty) c.instances) ++ methods_added c.ty c.directs
+
+abbrev added : content.Class → List Name
+added c = added7 c ++ methods_added c.ty c.virtuals
+
+module _ (P : Name → Type 0) (c : content.Class) where
+  methods_there : (ms : List content.Method) → P (OfDesc c.ty) → AllByRecursion P (flat_map (names_of_method c.ty) ms) → AllByRecursion P (methods_added c.ty ms)
+  methods_there ms here h =
+      let apart = methods_apart P c.ty ms h in both P (OfDesc c.ty ∷ map (method_of_class c.ty) ms) (flat_map names_of_body ms) (here, apart.0) apart.1
+
+  methods_back : (ms : List content.Method) → AllByRecursion P (methods_added c.ty ms) → AllByRecursion P (flat_map (names_of_method c.ty) ms)
+  methods_back ms h =
+      let own = OfDesc c.ty ∷ map (method_of_class c.ty) ms in
+      methods_together P c.ty ms (left P own (flat_map names_of_body ms) h).1 (right P own (flat_map names_of_body ms) h)
+
+  -- each name of the class is added
+  there : AllByRecursion P (names_of_class c) → AllByRecursion P (added c)
+  there h =
+      let types = type_named P c h in
+      let h6 = left P (part6 c) (flat_map (names_of_method c.ty) c.directs) (left P (part7 c) (flat_map (names_of_method c.ty) c.virtuals) h) in
+      let h5 = left P (part4 c ++ flat_map names_of_value c.values) (map (field_of_class c.ty) c.instances) h6 in
+      let superclass = if_any (λ t. OfDesc t ∷ []) c.superclass in
+      let interfaces = map OfDesc c.interfaces in
+      let source = if_any (λ t. OfText t ∷ []) c.source in
+      let statics = OfDesc c.ty ∷ map (field_of_class c.ty) c.statics in
+      let instances = OfDesc c.ty ∷ map (field_of_class c.ty) c.instances in
+      let a3 = both P (superclass ++ interfaces) source (both P superclass interfaces types.1 (interfaces_named P c h)) (source_named P c h) in
+      let a4 = both P (added3 c) statics a3 (types.0, statics_named P c h) in
+      let a5 = both P (added3 c ++ statics) (flat_map names_of_value c.values) a4 (right P (part4 c) (flat_map names_of_value c.values) h5) in
+      let a6 = both P (added5 c) instances a5 (types.0, instances_named P c h) in
+      let a7 = both P (added5 c ++ instances) (methods_added c.ty c.directs) a6 (methods_there c.directs types.0 (directs_kept P c h)) in
+      both P (added7 c) (methods_added c.ty c.virtuals) a7 (methods_there c.virtuals types.0 (virtuals_kept P c h))
+
+  -- and no other
+  back : AllByRecursion P (added c) → AllByRecursion P (names_of_class c)
+  back h =
+      let superclass = if_any (λ t. OfDesc t ∷ []) c.superclass in
+      let interfaces = map OfDesc c.interfaces in
+      let source = if_any (λ t. OfText t ∷ []) c.source in
+      let statics = OfDesc c.ty ∷ map (field_of_class c.ty) c.statics in
+      let instances = OfDesc c.ty ∷ map (field_of_class c.ty) c.instances in
+      let values = flat_map names_of_value c.values in
+      let h7 = left P (added7 c) (methods_added c.ty c.virtuals) h in
+      let h6 = left P (added5 c ++ instances) (methods_added c.ty c.directs) h7 in
+      let h5 = left P (added5 c) instances h6 in
+      let h4 = left P (added3 c ++ statics) values h5 in
+      let h3 = left P (added3 c) statics h4 in
+      let h2 = left P (superclass ++ interfaces) source h3 in
+      let own = right P (added3 c) statics h4 in
+      let n1 : AllByRecursion P (part1 c) = (own.0, left P superclass interfaces h2) in
+      let n2 = both P (part1 c) interfaces n1 (right P superclass interfaces h2) in
+      let n3 = both P (part1 c ++ interfaces) source n2 (right P (superclass ++ interfaces) source h3) in
+      let n4 = both P (part1 c ++ interfaces ++ source) (map (field_of_class c.ty) c.statics) n3 own.1 in
+      let n5 = both P (part4 c) values n4 (right P (added3 c ++ statics) values h5) in
+      let n6 = both P (part4 c ++ values) (map (field_of_class c.ty) c.instances) n5 (right P (added5 c) instances h6).1 in
+      let n7 = both P (part6 c) (flat_map (names_of_method c.ty) c.directs) n6 (methods_back c.directs (right P (added5 c ++ instances) (methods_added c.ty c.directs) h7)) in
+      both P (part7 c) (flat_map (names_of_method c.ty) c.virtuals) n7 (methods_back c.virtuals (right P (added7 c) (methods_added c.ty c.virtuals) h))
+
+pub class_names : (s s1 s2 s3 s4 s5 s6 s7 s8 : Five) (c : content.Class) → IsClosed s → AreRising s
+    → s1 ≡ with_names s (if_any (λ t. OfDesc t ∷ []) c.superclass) → s2 ≡ with_names s1 (map OfDesc c.interfaces)
+    → s3 ≡ with_names s2 (if_any (λ t. OfText t ∷ []) c.source) → s4 ≡ with_names s3 (OfDesc c.ty ∷ map (field_of_class c.ty) c.statics) → s5 ≡ with_names s4 (names_of_values (values c.values))
+    → s6 ≡ with_names s5 (OfDesc c.ty ∷ map (field_of_class c.ty) c.instances) → s7 ≡ with_names s6 (methods_added c.ty c.directs) → s8 ≡ with_names s7 (methods_added c.ty c.virtuals)
+    → s8 ≡ with_names s (names_of_class c)
+class_names s s1 s2 s3 s4 s5 s6 s7 s8 c closed up e1 e2 e3 e4 e5 e6 e7 e8 =
+    let superclass = if_any (λ t. OfDesc t ∷ []) c.superclass in
+    let interfaces = map OfDesc c.interfaces in
+    let statics = OfDesc c.ty ∷ map (field_of_class c.ty) c.statics in
+    let instances = OfDesc c.ty ∷ map (field_of_class c.ty) c.instances in
+    let p2 = next s s1 s2 superclass interfaces e1 e2 in
+    let p3 = next s s2 s3 (superclass ++ interfaces) (if_any (λ t. OfText t ∷ []) c.source) p2 e3 in
+    let p4 = next s s3 s4 (added3 c) statics p3 e4 in
+    let p5 = next s s4 s5 (added3 c ++ statics) (flat_map names_of_value c.values) p4 (e5 ∙ ap (with_names s4) (values_flat c.values)) in
+    let p6 = next s s5 s6 (added5 c) instances p5 e6 in
+    let p7 = next s s6 s7 (added5 c ++ instances) (methods_added c.ty c.directs) p6 e7 in
+    next s s7 s8 (added7 c) (methods_added c.ty c.virtuals) p7 e8
+    ∙ same_names s (added c) (names_of_class c) closed up (λ P. back P c) (λ P. there P c)

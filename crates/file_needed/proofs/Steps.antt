@@ -4,6 +4,7 @@ use Rattle.std.proofs.lemmas.List.{take_more, map-append}
 use Rattle.std.proofs.lemmas.List.Sums.{fold_push}
 use Rattle.std.specs.List.{AllByRecursion, flat_map}
 use Rattle.tables_names.specs.Closure.{Five, with_name, with_names}
+use Rattle.tables_names.proofs.NeededLemmas.{names_append}
 use Rattle.program_types.specs.Content as content
 use Rattle.program_types.specs.Content.{Name, values}
 use Rattle.program_types.specs.Depth.{depth, greatest_depth}
@@ -20,10 +21,6 @@ pub names_more : {A B : Type 0} (f : B → Name) (g : A → B) (s l new : Five) 
 names_more f g s l new xs i d lt e n =
     let m : map f (map g (take (i + 1) xs)) ≡ map f (map g (take i xs)) ++ f (g (get_or xs i d)) ∷ [] = ap (map f) (map_more g xs i d lt) ∙ map-append f (map g (take i xs)) (g (get_or xs i d) ∷ []) in
     n ∙ ap (λ q. with_name q (f (g (get_or xs i d)))) e ∙ sym (ap (with_names s) m ∙ fold_push with_name s (map f (map g (take i xs))) (f (g (get_or xs i d))))
-
-pub names_append : (s : Five) (xs ys : List Name) → with_names s (xs ++ ys) ≡ with_names (with_names s xs) ys
-names_append s [] ys = refl
-names_append s (x ∷ xs) ys = names_append (with_name s x) xs ys
 
 names_push : (vs : List content.Value) (v : content.Value) → names_of_values (values (vs ++ v ∷ [])) ≡ names_of_values (values vs) ++ names_of_value v
 names_push [] v = one (names_of_value v)

@@ -1,52 +1,22 @@
 // The names that classes mention.
 // Page: "Dalvik Executable format", "class_def_item", "class_data_item".
-ghost use Rattle.std.specs.Prelude.{◌≡◌, ◌∷◌, [], map, option_map, IfOk, OnOk, IsOkUnless};
+ghost use Rattle.std.specs.Prelude.{◌≡◌, ◌∷◌, ◌++◌, [], map, option_map, IfOk, OnOk, IsOkUnless};
 ghost use Rattle.std.specs.List.{AllByRecursion, flat_map};
 ghost use Rattle.base_bytes.specs.Fault.{memory};
-ghost use Rattle.tables_names.specs.Closure.{HasShorty, with_name, with_names};
+ghost use Rattle.file_needed.specs.Bodies.{names_of_body};
+ghost use Rattle.tables_names.specs.Closure.{HasShorty, method_of_class, with_names};
 ghost use Rattle.tables_names.specs.Needed.{needed};
 ghost use Rattle.program_types.specs.Content.{OfText, OfDesc};
-ghost use Rattle.program_types.specs.Mentions.{field_of_class, if_any, mentions, names_of_class, names_of_method};
+ghost use Rattle.program_types.specs.Mentions.{if_any, mentions, names_of_class, names_of_method};
 ghost use Rattle.program_types.specs.View as view;
 
 use crate::bodies::add_body;
 use crate::values::add_values;
 use bumpalo::Bump;
 use dex_base::Fault;
-use program_types::{Class, Desc, FieldRef, Member, Method, MethodRef, Program, Str};
+use program_types::{Class, Desc, Method, Program, Str};
 use std::alloc::Global;
 use tables_names::{Needed, Ranks};
-
-// A field that a class of this type defines.
-fn add_field<'a, 'p: 'a>(
-    needed: &mut Needed<'a>,
-    class: Desc<'p>,
-    member: &Member<'p>,
-) -> Result<(), Fault>
-    ensures added { OnOk result (needed.new ≡ with_name needed.old (field_of_class (view.desc class.entry) (view.member member.now))) }
-    ensures memory { IsOkUnless result memory }
-{
-    needed.add_field(&FieldRef {
-        class,
-        name: member.name,
-        ty: member.ty,
-    })
-}
-
-// The fields that it defines.
-fn add_fields<'a, 'p: 'a>(
-    needed: &mut Needed<'a>,
-    class: Desc<'p>,
-    members: &[Member<'p>],
-) -> Result<(), Fault>
-    ensures added { OnOk result (needed.new ≡ with_names needed.old (map (field_of_class (view.desc class.entry)) (map view.member members.now))) }
-    ensures memory { IsOkUnless result memory }
-{
-    for member in members {
-        add_field(needed, class, member)?;
-    }
-    Ok(())
-}
 
 // Its interfaces.
 fn add_types<'a, 'p: 'a>(needed: &mut Needed<'a>, types: &[Desc<'p>]) -> Result<(), Fault>
@@ -59,27 +29,23 @@ fn add_types<'a, 'p: 'a>(needed: &mut Needed<'a>, types: &[Desc<'p>]) -> Result<
     Ok(())
 }
 
-// A method that it defines, and the names in its body.
-fn add_method<'a, 'p: 'a>(
+// The names in the bodies of the methods that it defines.
+fn add_bodies<'a, 'p: 'a>(
     needed: &mut Needed<'a>,
     arena: &'a Bump,
-    class: Desc<'p>,
-    method: &Method<'p>,
+    methods: &[Method<'p>],
 ) -> Result<(), Fault>
-    requires { AllByRecursion HasShorty (names_of_method (view.desc class) (view.method method.now)) }
-    ensures added { OnOk result (needed.new ≡ with_names needed.old (names_of_method (view.desc class.entry) (view.method method.now))) }
+    requires { AllByRecursion HasShorty (flat_map names_of_body (map view.method methods.now)) }
+    ensures added { OnOk result (needed.new ≡ with_names needed.old (flat_map names_of_body (map view.method methods.now))) }
     ensures memory { IsOkUnless result memory }
 {
-    let name = MethodRef {
-        class,
-        name: method.name,
-        proto: method.proto,
-    };
-    needed.add_method(arena, &name)?;
-    add_body(needed, arena, method.code)
+    for method in methods {
+        add_body(needed, arena, method.code)?;
+    }
+    Ok(())
 }
 
-// The methods that it defines.
+// The methods that it defines, and the names in their bodies.
 fn add_methods<'a, 'p: 'a>(
     needed: &mut Needed<'a>,
     arena: &'a Bump,
@@ -87,13 +53,11 @@ fn add_methods<'a, 'p: 'a>(
     methods: &[Method<'p>],
 ) -> Result<(), Fault>
     requires { AllByRecursion HasShorty (flat_map (names_of_method (view.desc class)) (map view.method methods.now)) }
-    ensures added { OnOk result (needed.new ≡ with_names needed.old (flat_map (names_of_method (view.desc class.entry)) (map view.method methods.now))) }
+    ensures added { OnOk result (needed.new ≡ with_names needed.old (OfDesc (view.desc class.entry) ∷ map (method_of_class (view.desc class.entry)) (map view.method methods.now) ++ flat_map names_of_body (map view.method methods.now))) }
     ensures memory { IsOkUnless result memory }
 {
-    for method in methods {
-        add_method(needed, arena, class, method)?;
-    }
-    Ok(())
+    needed.add_methods_of(arena, class, methods)?;
+    add_bodies(needed, arena, methods)
 }
 
 // Its superclass, if it has one.
@@ -131,13 +95,13 @@ fn add_class<'a, 'p: 'a>(
     ensures added { OnOk result (needed.new ≡ with_names needed.old (names_of_class (view.class class.now))) }
     ensures memory { IsOkUnless result memory }
 {
-    needed.add_type(class.ty)?;
+    needed.holds_parts();
     add_superclass(needed, class.superclass)?;
     add_types(needed, class.interfaces)?;
     add_source(needed, class.source)?;
-    add_fields(needed, class.ty, class.statics)?;
+    needed.add_fields_of(class.ty, class.statics)?;
     add_values(needed, arena, class.values)?;
-    add_fields(needed, class.ty, class.instances)?;
+    needed.add_fields_of(class.ty, class.instances)?;
     add_methods(needed, arena, class.ty, class.directs)?;
     add_methods(needed, arena, class.ty, class.virtuals)
 }

@@ -1,3 +1,4 @@
 pub mod RowLaws
 pub mod AtLaws
 pub mod ClassRowLaws
+pub mod PartLaws

@@ -7,10 +7,9 @@ use Rattle.std.specs.List.{slice_get, zip}
 use Rattle.base_bytes.specs.Grammar.{Appends, Each}
 use Rattle.base_bytes.proofs.GrammarLaws.{Each-appends_more}
 use Rattle.tables_names.specs.Closure.{Five}
-use Rattle.tables_names.specs.Indices.{HasPlace, IsProtoRow}
 use Rattle.tables_names.specs.Rank.{IsAt}
 use Rattle.program_types.specs.Content.{Proto}
-use Rattle.program_types.specs.Key.{Key, text_key, proto_key}
+use Rattle.program_types.specs.Key.{Key, proto_key}
 use Rattle.file_rows.specs.Rows.{SpellsTable, SpellsProtos, SpellsProtoRow}
 
 -- what a set has at an index
@@ -96,11 +95,6 @@ protos_are_table {U = U} view s old new places xs table i n e all a =
 pub three_joined : (old a b new x y z : List ℕ) → a ≡ old ++ x → b ≡ a ++ y → new ≡ b ++ z → new ≡ old ++ (x ++ (y ++ z))
 three_joined old a b new x y z e f g =
     g ∙ ap (λ (l : List ℕ). l ++ z) (f ∙ ap (λ (l : List ℕ). l ++ y) e ∙ append_assoc old x y) ∙ append_assoc old (x ++ y) z ∙ ap (λ (l : List ℕ). old ++ l) (append_assoc x y z)
-
--- a proto's return type is held
-pub ret_held : (s : Five) (p : Proto) → (row : List ℕ) × IsProtoRow s p row → HasPlace s.types (text_key p.ret)
-ret_held s p ([], h) = absurd h
-ret_held s p (i ∷ row, h) = (i, h.0)
 
 -- five tables, one behind the other
 pub five_joined : (s t p f m ws w x y z : List ℕ) → s ≡ ws → t ≡ s ++ w → p ≡ t ++ x → f ≡ p ++ y → m ≡ f ++ z → m ≡ ws ++ (w ++ (x ++ (y ++ z)))

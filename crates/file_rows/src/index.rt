@@ -1,13 +1,14 @@
 // The indices of names that are held: never a refusal.
 ghost use Rattle.std.specs.Prelude.{◌≤◌, ◌^◌, length};
 ghost use Rattle.tables_names.specs.Indices.{HasPlace};
-ghost use Rattle.tables_names.specs.Keys.{key_of_str, key_of_desc, key_of_proto, key_of_field, key_of_method};
+ghost use Rattle.tables_names.specs.Keys.{key_of_str, key_of_desc, key_of_proto, own_field, own_method};
 ghost use Rattle.tables_names.specs.Rank.{IsAt};
+ghost use Rattle.program_types.specs.Content.{Units};
 ghost use Rattle.program_types.specs.Key.{text_key};
 ghost use Rattle.program_types.specs.Shorty.{shorty};
-ghost use Rattle.program_types.specs.View.{proto};
+ghost use Rattle.program_types.specs.View as view;
 
-use program_types::{Desc, FieldRef, MethodRef, Proto, Str};
+use program_types::{Desc, Proto, Str};
 use tables_names::Ranks;
 
 /// The index of a string that is held.
@@ -24,9 +25,9 @@ pub fn string_index(ranks: &Ranks<'_>, name: Str<'_>) -> u32
 
 /// The index of the shorty of a prototype, which is held as a string.
 pub fn shorty_index(ranks: &Ranks<'_>, name: &Proto<'_>) -> u32
-    requires held { HasPlace ranks.now.strings (text_key (shorty (proto name.now))) }
+    requires held { HasPlace ranks.now.strings (text_key (shorty (view.proto name.now))) }
     requires few { length ranks.now.strings ≤ 2 ^ 32 }
-    ensures { IsAt ranks.now.strings result (text_key (shorty (proto name.now))) }
+    ensures { IsAt ranks.now.strings result (text_key (shorty (view.proto name.now))) }
 {
     match ranks.index_of_shorty(name) {
         Some(index) => index,
@@ -58,25 +59,29 @@ pub fn proto_index(ranks: &Ranks<'_>, name: &Proto<'_>) -> u16
     }
 }
 
-/// The index of a field that is held.
-pub fn field_index(ranks: &Ranks<'_>, name: &FieldRef<'_>) -> u32
-    requires held { HasPlace ranks.now.fields (key_of_field name.now) }
+/// The index of a field that is held, of the class with this index.
+pub fn own_field_index(ranks: &Ranks<'_>, class: usize, name: Str<'_>, ty: Desc<'_>) -> u32
+    ghost owner: { Units }
+    requires class { IsAt ranks.now.types class (text_key owner) }
+    requires held { HasPlace ranks.now.fields (own_field owner (view.str name) (view.desc ty)) }
     requires few { length ranks.now.fields ≤ 2 ^ 32 }
-    ensures { IsAt ranks.now.fields result (key_of_field name.now) }
+    ensures { IsAt ranks.now.fields result (own_field owner (view.str name.entry) (view.desc ty.entry)) }
 {
-    match ranks.index_of_field(name) {
+    match (&*ranks).index_of_own_field(class, name, ty) {
         Some(index) => index,
         None => unreachable!(),
     }
 }
 
-/// The index of a method that is held.
-pub fn method_index(ranks: &Ranks<'_>, name: &MethodRef<'_>) -> u32
-    requires held { HasPlace ranks.now.methods (key_of_method name.now) }
+/// The index of a method that is held, of the class with this index.
+pub fn own_method_index(ranks: &Ranks<'_>, class: usize, name: Str<'_>, proto: &Proto<'_>) -> u32
+    ghost owner: { Units }
+    requires class { IsAt ranks.now.types class (text_key owner) }
+    requires held { HasPlace ranks.now.methods (own_method owner (view.str name) (view.proto proto.now)) }
     requires few { length ranks.now.methods ≤ 2 ^ 32 }
-    ensures { IsAt ranks.now.methods result (key_of_method name.now) }
+    ensures { IsAt ranks.now.methods result (own_method owner (view.str name.entry) (view.proto proto.now)) }
 {
-    match ranks.index_of_method(name) {
+    match (&*ranks).index_of_own_method(class, name, &*proto) {
         Some(index) => index,
         None => unreachable!(),
     }

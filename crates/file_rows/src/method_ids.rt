@@ -1,30 +1,26 @@
 // The rows of method_ids.
 // Page: "Dalvik Executable format", "method_id_item".
-ghost use Rattle.std.specs.Prelude.{ℕ, ◌≤◌, ◌^◌, List, OnOk, IsOkUnless, length};
+ghost use Rattle.std.specs.Prelude.{◌≡◌, ◌<◌, ◌≤◌, ◌^◌, ◌++◌, OnOk, IsOkUnless, length};
 ghost use Rattle.base_bytes.specs.Fault.{memory};
+ghost use Rattle.base_bytes.specs.Fields.{u16_bytes, u32_bytes};
 ghost use Rattle.base_bytes.specs.Grammar.{Appends};
-ghost use Rattle.tables_names.specs.Indices.{IsMethodRow};
 ghost use Rattle.program_types.specs.Key.{method_ref_key};
-ghost use Rattle.program_types.specs.View as view;
 ghost use Rattle.file_rows.specs.Rows.{SpellsMethodRow, SpellsTable};
 
-use crate::index::{proto_index, string_index, type_index};
 use dex_base::Fault;
-use program_types::MethodRef;
-use tables_names::Ranks;
+use tables_names::{MethodParts, Ranks};
 
 // Appends the row of a method: class, proto, name.
-fn put_method(rows: &mut Vec<u8>, ranks: &Ranks<'_>, method: &MethodRef<'_>) -> Result<(), Fault>
-    requires held { (row : List ℕ) × IsMethodRow ranks.now (view.method_ref method.now) row }
-    requires few_strings { length ranks.now.strings ≤ 2 ^ 32 }
-    requires few_types { length ranks.now.types ≤ 65535 }
-    requires few_protos { length ranks.now.protos ≤ 65535 }
-    ensures ok { OnOk result (Appends (SpellsMethodRow ranks.now) rows.old.items rows.new.items (view.method_ref method.now)) }
+fn put_method(rows: &mut Vec<u8>, method: MethodParts) -> Result<(), Fault>
+    requires class { method.class < 2 ^ 16 }
+    requires proto { method.proto < 2 ^ 16 }
+    requires name { method.name < 2 ^ 32 }
+    ensures ok { OnOk result (rows.new.items ≡ rows.old.items ++ (u16_bytes method.class ++ (u16_bytes method.proto ++ u32_bytes method.name))) }
     ensures memory { IsOkUnless result memory }
 {
-    rows.extend_from_slice(&type_index(ranks, method.class).to_le_bytes())?;
-    rows.extend_from_slice(&proto_index(ranks, method.proto).to_le_bytes())?;
-    rows.extend_from_slice(&string_index(ranks, method.name).to_le_bytes())?;
+    rows.extend_from_slice(&(method.class as u16).to_le_bytes())?;
+    rows.extend_from_slice(&(method.proto as u16).to_le_bytes())?;
+    rows.extend_from_slice(&(method.name as u32).to_le_bytes())?;
     Ok(())
 }
 
@@ -36,9 +32,8 @@ pub fn put_methods(rows: &mut Vec<u8>, ranks: &Ranks<'_>) -> Result<(), Fault>
     ensures ok { OnOk result (Appends (SpellsTable method_ref_key (SpellsMethodRow ranks.now)) rows.old.items rows.new.items ranks.now.methods) }
     ensures memory { IsOkUnless result memory }
 {
-    ranks.holds_parts();
-    for method in ranks.methods() {
-        put_method(rows, ranks, method)?;
+    for method in ranks.method_parts() {
+        put_method(rows, *method)?;
     }
     Ok(())
 }

@@ -6,7 +6,6 @@ ghost use Rattle.base_bytes.specs.Grammar.{Appends};
 ghost use Rattle.program_types.specs.Key.{text_key};
 ghost use Rattle.file_rows.specs.Rows.{SpellsTable, SpellsTypeRow};
 
-use crate::index::string_index;
 use dex_base::{Fault, push_words};
 use tables_names::Ranks;
 
@@ -16,9 +15,8 @@ pub fn put_types(rows: &mut Vec<u8>, ranks: &Ranks<'_>) -> Result<(), Fault>
     ensures ok { OnOk result (Appends (SpellsTable text_key (SpellsTypeRow ranks.now)) rows.old.items rows.new.items ranks.now.types) }
     ensures memory { IsOkUnless result memory }
 {
-    ranks.holds_parts();
-    for ty in ranks.types() {
-        push_words(rows, &[string_index(ranks, ty.text)])?;
+    for ty in ranks.type_parts() {
+        push_words(rows, &[ty.text as u32])?;
     }
     Ok(())
 }

@@ -13,7 +13,7 @@ use Rattle.base_bytes.specs.Grammar.{Appends}
 use Rattle.base_bytes.specs.Leb128.{Spells, Shortest}
 use Rattle.file_classes.specs.ClassData.{FieldEntry, MethodEntry, SpellsField, SpellsMethod}
 use Rattle.tables_names.proofs.RowLemmas.{keys_compare_as_places}
-use Rattle.tables_names.specs.Closure.{Five, NameRanks}
+use Rattle.tables_names.specs.Closure.{Five, NameRanks, method_of_class}
 use Rattle.tables_names.specs.Rank.{Rising, IsAt}
 use Rattle.program_types.specs.Content.{Units, Descriptor, Member, Method}
 use Rattle.program_types.specs.Key.{Key, key_cmp}
@@ -26,7 +26,6 @@ use Rattle.file_sections.proofs.RunLaws.{total, total_push, no_run, run_push}
 use Rattle.file_sections.proofs.Steps.{map_more}
 use Rattle.file_sections.specs.Data.{FieldRanks, MethodRanks}
 use Rattle.file_sections.specs.Growing.{AddsFields, AddsMethods}
-use Rattle.file_sections.specs.Named.{method_of_class}
 
 abbrev some_or : {V : Type 0} → V → Option V → V
 some_or d None = d

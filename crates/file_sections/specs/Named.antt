@@ -3,18 +3,14 @@
 use Rattle.std.specs.Prelude.{ℕ, ◌≤◌, ◌^◌, length, Option, IfSome}
 use Rattle.std.specs.List.{AllByRecursion}
 use Rattle.code_put.specs.Fits.{CanBePut, FitsCode}
-use Rattle.tables_names.specs.Closure.{Five, NameRanks}
-use Rattle.program_types.specs.Content.{Name, OfMethod, Descriptor, Code, Method, Class}
+use Rattle.tables_names.specs.Closure.{Five, NameRanks, method_of_class}
+use Rattle.program_types.specs.Content.{Name, Code, Class}
 use Rattle.program_types.specs.Formed.{IsFormed}
 use Rattle.program_types.specs.Mentions.{field_of_class}
 
 -- the name has an index
 abbrev pub HasName : Five → Name → Type 0
 HasName s name = (i : ℕ) × NameRanks s i name
-
--- a method that a class of this type defines
-abbrev pub method_of_class : Descriptor → Method → Name
-method_of_class class m = OfMethod (record { class = class; name = m.name; proto = m.proto })
 
 -- Each member has an index.
 pub record MembersHaveNames (s : Five) (c : Class) : Type 0 where

@@ -8,19 +8,24 @@ ghost use Rattle.base_bytes.specs.Leb128.{Spells, Shortest};
 ghost use Rattle.file_classes.specs.ClassData.{SpellsCounts, SpellsField, SpellsMethod};
 ghost use Rattle.file_layout.specs.Sections.{wide_all, AddsSome, Laid};
 ghost use Rattle.file_limits.specs.Wide.{body_values, wide_data};
-ghost use Rattle.tables_names.specs.Closure.{NameRanks};
+ghost use Rattle.tables_names.specs.Closure.{NameRanks, method_of_class};
+ghost use Rattle.tables_names.specs.Indices.{HasPlace};
+ghost use Rattle.tables_names.specs.Keys.{key_of_desc};
 ghost use Rattle.tables_names.specs.Needed.{needed};
+ghost use Rattle.tables_names.specs.Rank.{IsAt};
+ghost use Rattle.program_types.specs.Content.{Descriptor};
+ghost use Rattle.program_types.specs.Key.{text_key};
 ghost use Rattle.program_types.specs.Mentions.{field_of_class};
 ghost use Rattle.program_types.specs.View as view;
 ghost use Rattle.program_rules.specs.Rules.{KeysRise, MembersRise, member_key, method_key};
 ghost use Rattle.file_sections.specs.Data.{PacksData, has_no_members, method_count, sited, wide_sited};
 ghost use Rattle.file_sections.specs.Growing.{AddsFields, AddsMethods};
-ghost use Rattle.file_sections.specs.Named.{FewNames, HasName, MembersHaveNames, method_of_class};
+ghost use Rattle.file_sections.specs.Named.{FewNames, HasName, MembersHaveNames};
 
 use crate::placed::Placed;
 use dex_base::{Fault, put_uleb};
-use file_rows::{field_index, method_index};
-use program_types::{Class, Desc, FieldRef, Member, Method, MethodRef, Program};
+use file_rows::{own_field_index, own_method_index};
+use program_types::{Class, Desc, Member, Method, Program};
 use std::alloc::Global;
 use tables_names::Ranks;
 
@@ -43,58 +48,52 @@ fn put_method(out: &mut Vec<u8>, step: u32, flags: u32, code: u32) -> Result<(),
     put_uleb(out, code)
 }
 
-// Appends the entries of fields.
+// Appends the entries of fields of the class with this index.
 fn put_fields(
     out: &mut Vec<u8>,
     ranks: &Ranks<'_>,
-    class: Desc<'_>,
+    class: usize,
     members: &[Member<'_>],
 ) -> Result<(), Fault>
-    requires named { AllByRecursion (λ m. HasName ranks.now (field_of_class (view.desc class) m)) (map view.member members.now) }
+    ghost owner: { Descriptor }
+    requires class { IsAt ranks.now.types class (text_key owner) }
+    requires named { AllByRecursion (λ m. HasName ranks.now (field_of_class owner m)) (map view.member members.now) }
     requires few { length ranks.now.fields ≤ 2 ^ 32 }
     requires rise { KeysRise (map member_key (map view.member members.now)) }
-    ensures ok { OnOk result (AddsFields (NameRanks ranks.now) (view.desc class.entry) out.old.items out.new.items (map view.member members.now)) }
+    ensures ok { OnOk result (AddsFields (NameRanks ranks.now) owner out.old.items out.new.items (map view.member members.now)) }
     ensures memory { IsOkUnless result memory }
 {
     ranks.rise();
     let mut last = 0;
     for member in members {
-        let field = FieldRef {
-            class,
-            name: member.name,
-            ty: member.ty,
-        };
-        let index = field_index(ranks, &field);
+        let index = own_field_index(ranks, class, member.name, member.ty);
         put_field(out, index - last, member.flags)?;
         last = index;
     }
     Ok(())
 }
 
-// Appends the entries of methods, whose bodies stand at these places.
+// Appends the entries of methods of the class with this index, whose bodies stand at these places.
 fn put_methods(
     out: &mut Vec<u8>,
     ranks: &Ranks<'_>,
-    class: Desc<'_>,
+    class: usize,
     methods: &[Method<'_>],
     codes: &[u32],
 ) -> Result<(), Fault>
-    requires named { AllByRecursion (λ m. HasName ranks.now (method_of_class (view.desc class) m)) (map view.method methods.now) }
+    ghost owner: { Descriptor }
+    requires class { IsAt ranks.now.types class (text_key owner) }
+    requires named { AllByRecursion (λ m. HasName ranks.now (method_of_class owner m)) (map view.method methods.now) }
     requires few { length ranks.now.methods ≤ 2 ^ 32 }
     requires rise { KeysRise (map method_key (map view.method methods.now)) }
     requires codes { length codes.now ≡ length methods.now }
-    ensures ok { OnOk result (AddsMethods (NameRanks ranks.now) (view.desc class.entry) codes.now out.old.items out.new.items (map view.method methods.now)) }
+    ensures ok { OnOk result (AddsMethods (NameRanks ranks.now) owner codes.now out.old.items out.new.items (map view.method methods.now)) }
     ensures memory { IsOkUnless result memory }
 {
     ranks.rise();
     let mut last = 0;
     for (i, method) in methods.iter().enumerate() {
-        let name = MethodRef {
-            class,
-            name: method.name,
-            proto: method.proto,
-        };
-        let index = method_index(ranks, &name);
+        let index = own_method_index(ranks, class, method.name, method.proto);
         put_method(out, index - last, method.flags, codes[i])?;
         last = index;
     }
@@ -113,13 +112,26 @@ fn put_counts(out: &mut Vec<u8>, class: &Class<'_>) -> Result<(), Fault>
     put_uleb(out, class.virtuals.len() as u32)
 }
 
-// Appends the members of a class.
+// The index of a class that is held.
+fn class_index(ranks: &Ranks<'_>, class: Desc<'_>) -> usize
+    requires held { HasPlace ranks.now.types (key_of_desc class) }
+    requires few { length ranks.now.types ≤ 2 ^ 32 }
+    ensures { IsAt ranks.now.types result (key_of_desc class.entry) }
+{
+    match ranks.index_of_type(class) {
+        Some(index) => index as usize,
+        None => unreachable!(),
+    }
+}
+
+// Appends the members of a class, whose own text is read once.
 fn put_members(
     out: &mut Vec<u8>,
     ranks: &Ranks<'_>,
     class: &Class<'_>,
     codes: &[u32],
 ) -> Result<(), Fault>
+    requires held { HasPlace ranks.now.types (key_of_desc class.now.ty) }
     requires named { MembersHaveNames ranks.now (view.class class.now) }
     requires few { FewNames ranks.now }
     requires rise { MembersRise (view.class class.now) }
@@ -131,10 +143,11 @@ fn put_members(
     let directs = &codes[..class.directs.len()];
     let virtuals = &codes[class.directs.len()..];
     put_counts(out, class)?;
-    put_fields(out, ranks, class.ty, class.statics)?;
-    put_fields(out, ranks, class.ty, class.instances)?;
-    put_methods(out, ranks, class.ty, class.directs, directs)?;
-    put_methods(out, ranks, class.ty, class.virtuals, virtuals)
+    let own = class_index(ranks, class.ty);
+    put_fields(out, ranks, own, class.statics)?;
+    put_fields(out, ranks, own, class.instances)?;
+    put_methods(out, ranks, own, class.directs, directs)?;
+    put_methods(out, ranks, own, class.virtuals, virtuals)
 }
 
 // Appends the class data of a class, if it has members, and answers the byte at which it begins, or 0.
@@ -144,6 +157,7 @@ fn add_data(
     class: &Class<'_>,
     codes: &[u32],
 ) -> Result<u32, Fault>
+    requires held { HasPlace ranks.now.types (key_of_desc class.now.ty) }
     requires named { MembersHaveNames ranks.now (view.class class.now) }
     requires few { FewNames ranks.now }
     requires rise { MembersRise (view.class class.now) }

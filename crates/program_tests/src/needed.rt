@@ -4,7 +4,7 @@ use crate::ranks_shown::shown_ranks;
 use bumpalo::Bump;
 use dex_base::Fault;
 use dex_samples::{field, method, none_wrong, proto, text, ty};
-use program_types::Name;
+use program_types::{Member, Method, Name};
 use std::alloc::Global;
 use std::test::Fail;
 use tables_names::{Needed, Ranks};
@@ -23,6 +23,8 @@ enum Added {
     Each,
     // names, each by its kind
     Names,
+    // the members of a class
+    Members,
 }
 
 // What is asked of the ranks.
@@ -38,6 +40,9 @@ enum Asked {
     // a field and a method, a text and a type, are found each as its kind and as a name
     Members,
     Texts,
+    // beside the members of a class are the ranks of their parts, by which they are found
+    Parts,
+    Own,
     // so many names of each kind are there
     Counts([usize; 5]),
 }
@@ -113,6 +118,35 @@ fn add_names<'a>(needed: &mut Needed<'a>, arena: &'a Bump) -> Result<(), Fault> 
     needed.add_name(arena, Name::Method(m))
 }
 
+// A field and a method that LA; defines.
+fn add_own<'a>(
+    needed: &mut Needed<'a>,
+    arena: &'a Bump,
+    field: (&str, &str),
+    params: &[&'static str],
+) -> Result<(), Fault> {
+    let class = ty(arena, "LA;")?;
+    let own_field = Member {
+        name: text(arena, field.0)?,
+        ty: ty(arena, field.1)?,
+        flags: 0,
+    };
+    let own_method = Method {
+        name: text(arena, "m")?,
+        proto: proto(arena, "V", params)?,
+        flags: 0x401,
+        code: None,
+    };
+    needed.add_fields_of(class, &[own_field])?;
+    needed.add_methods_of(arena, class, &[own_method])
+}
+
+// What LA; defines: LA;->g:J, LA;->m(J)V, LA;->f:I and LA;->m()V.
+fn add_members<'a>(needed: &mut Needed<'a>, arena: &'a Bump) -> Result<(), Fault> {
+    add_own(needed, arena, ("g", "J"), &["J"])?;
+    add_own(needed, arena, ("f", "I"), &[])
+}
+
 fn add<'a>(
     needed: &mut Needed<'a>,
     here: &'a Bump,
@@ -123,6 +157,7 @@ fn add<'a>(
         Added::OneMethod => add_one_method(needed, here),
         Added::Prototypes(order) => add_protos(needed, here, order),
         Added::Names => add_names(needed, here),
+        Added::Members => add_members(needed, here),
         Added::Each => {
             add_each(needed, here)?;
             add_each(needed, there)
@@ -168,6 +203,40 @@ fn are_texts_found<'a>(arena: &'a Bump, ranks: &Ranks<'a>) -> Result<bool, Fault
     Ok(ranks.index_of(Name::Text(x)) == Some(8) && ranks.index_of(Name::Desc(array)) == Some(4))
 }
 
+fn are_parts_beside(ranks: &Ranks<'_>) -> bool {
+    let are_fields = match ranks.field_parts() {
+        [f, g] => (f.class, f.name, f.ty) == (2, 5, 0) && (g.class, g.name, g.ty) == (2, 6, 1),
+        _ => false,
+    };
+    let are_methods = match ranks.method_parts() {
+        [none, many] => {
+            (none.class, none.name, none.proto) == (2, 7, 0)
+                && (many.class, many.name, many.proto) == (2, 7, 1)
+        }
+        _ => false,
+    };
+    let are_protos = match ranks.proto_parts() {
+        [none, many] => none.ret == 3 && many.ret == 3,
+        _ => false,
+    };
+    are_fields
+        && are_methods
+        && are_protos
+        && matches!(ranks.type_parts(), [_, _, class, _] if class.text == 2)
+}
+
+fn are_own_members_found<'a>(arena: &'a Bump, ranks: &Ranks<'a>) -> Result<bool, Fault> {
+    let owner = ty(arena, "LA;")?;
+    let Some(class) = ranks.index_of_type(owner) else {
+        return Ok(false);
+    };
+    let (g, m) = (text(arena, "g")?, text(arena, "m")?);
+    let field = ranks.index_of_own_field(class as usize, g, ty(arena, "J")?);
+    let none = ranks.index_of_own_field(class as usize, g, ty(arena, "I")?);
+    let method = ranks.index_of_own_method(class as usize, m, proto(arena, "V", &["J"])?);
+    Ok(field == Some(1) && none.is_none() && method == Some(1))
+}
+
 fn are_shown_so(alloc: Global, ranks: &Ranks<'_>, want: &str) -> Result<bool, Fault> {
     let shown = shown_ranks(alloc, ranks)?;
     Ok(shown.as_str() == want)
@@ -196,6 +265,8 @@ fn is_answered<'a>(
         Asked::Prototypes => Ok(first_proto_elsewhere(here, ranks)?.is_none()),
         Asked::Members => are_members_found(here, ranks),
         Asked::Texts => are_texts_found(here, ranks),
+        Asked::Parts => Ok(are_parts_beside(ranks)),
+        Asked::Own => are_own_members_found(here, ranks),
         Asked::Counts(counts) => Ok(are_so_many(ranks, counts)),
     }
 }
@@ -282,6 +353,17 @@ fn equal_names_of_two_arenas_are_one_name_of_each_kind(rt: HostRuntime) -> Resul
 fn what_is_named_is_added_by_its_kind(rt: HostRuntime) -> Result<(), Fail> {
     static CASES: [Case; 1] = [
         ("all", Added::Names, Asked::Shown("strings: I J LA; V VJ [I f m x\ntypes: I J LA; V [I\nprotos: (J)V\nfields: LA;->f:I\nmethods: LA;->m(J)V")),
+    ];
+    none_wrong(first_otherwise(rt.alloc(), &CASES))
+}
+
+#[rattlefmt::skip]
+#[test]
+fn the_members_of_a_class_are_found_by_the_ranks_of_their_parts(rt: HostRuntime) -> Result<(), Fail> {
+    static CASES: [Case; 3] = [
+        ("all", Added::Members, Asked::Shown("strings: I J LA; V VJ f g m\ntypes: I J LA; V\nprotos: ()V (J)V\nfields: LA;->f:I LA;->g:J\nmethods: LA;->m()V LA;->m(J)V")),
+        ("their parts", Added::Members, Asked::Parts),
+        ("one of each kind", Added::Members, Asked::Own),
     ];
     none_wrong(first_otherwise(rt.alloc(), &CASES))
 }

@@ -5,7 +5,6 @@ use Rattle.program_types.specs.Key.{text_key, Key}
 use Rattle.tables_names.specs.Closure.{shorty_of_texts}
 use Rattle.tables_names.specs.Rank.{insert_key, is_member, IsSubset}
 use Rattle.tables_names.specs.Closure.{Five, nothing, AreRising, join, IsPart, AddsPart, IsClosed, type_closure, proto_parts, proto_closure, field_closure, method_closure}
-use Rattle.tables_names.specs.declared.needed.Needed.TheInside.{Inside}
 use Rattle.tables_names.proofs.SubsetLemmas as sub
 
 pub IsPart-refl : (s : Five) → IsPart s s
@@ -65,10 +64,6 @@ module _ (s : Five) (closed : IsClosed s) (x : Key) where
   pub closed-methods : IsPart (method_closure x) (record s { methods = insert_key s.methods x }) → IsClosed (record s { methods = insert_key s.methods x })
   closed-methods p =
       closed_more s (record s { methods = insert_key s.methods x }) closed (record { strings = sub.IsSubset-refl _; types = sub.IsSubset-refl _; protos = sub.IsSubset-refl _; fields = sub.IsSubset-refl _; methods = sub.IsSubset-insert s.methods x }) (λ k h. inr h) (λ k h. inr h) (λ k h. inr h) (λ k h. elim (sub.inserted_cases s.methods x k h) [ inl e ↦ inl (rw e p) | inr m ↦ inr m ])
-
--- what the fields of a `Needed` hold
-abbrev pub five_of : Inside → Five
-five_of n = record { strings = n.strings; types = n.types; protos = n.protos; fields = n.fields; methods = n.methods }
 
 -- ---- what a refused addition leaves
 
@@ -208,7 +203,7 @@ module _ (class name : List ℕ) where
     pub proto_parts_in_method : IsPart (parts_of_proto proto) method_parts
     proto_parts_in_method = IsPart-trans (parts_of_proto proto) (proto_closure proto) method_parts (parts_in_proto proto) proto_in_parts
 
-    parts_in_method : IsPart method_parts (method_closure k)
+    pub parts_in_method : IsPart method_parts (method_closure k)
     parts_in_method =
         record { strings = sub.IsSubset-refl (method_closure k).strings; types = sub.IsSubset-refl (method_closure k).types; protos = sub.IsSubset-refl _; fields = sub.IsSubset-refl _; methods = sub.IsSubset-nil _ }
 
@@ -234,6 +229,10 @@ module _ (class name : List ℕ) where
     pub type_text_in_field : IsPart (type_parts (text_key ty)) field_parts
     type_text_in_field =
         record { strings = sub.IsSubset-tail _ _ _ (sub.IsSubset-tail _ _ _ (sub.IsSubset-refl _)); types = sub.IsSubset-nil _; protos = sub.IsSubset-refl _; fields = sub.IsSubset-refl _; methods = sub.IsSubset-refl _ }
+
+    pub parts_in_field : IsPart field_parts (field_closure f)
+    parts_in_field =
+        record { strings = sub.IsSubset-refl (field_closure f).strings; types = sub.IsSubset-refl (field_closure f).types; protos = sub.IsSubset-refl _; fields = sub.IsSubset-nil _; methods = sub.IsSubset-refl _ }
 
     pub field_there : (l : Five) → IsPart field_parts l → IsPart (field_closure f) (record l { fields = insert_key l.fields f })
     field_there l p =

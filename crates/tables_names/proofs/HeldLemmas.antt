@@ -1,5 +1,5 @@
 -- Names in the order of first need, or sorted, as a set of keys. `key`, `cmp` and `eq` are those of any kind of names.
-use Rattle.std.proofs.Common.{◌≡◌, ℕ, ◌+◌, ◌<◌, Bool, true, false, ◌||◌, List, [], ◌∷◌, ◌++◌, map, length, get_or, refl, sym, ap, ◌∙◌, arith, if◌then◌else◌, Option, Some, None, MatchOption, is_some, Result, Ok, Err, MatchResult, subst}
+use Rattle.std.proofs.Common.{◌≡◌, ℕ, ◌+◌, ◌<◌, Bool, true, false, ◌||◌, List, [], ◌∷◌, ◌++◌, map, length, get_or, refl, sym, ap, ◌∙◌, arith, if◌then◌else◌, Option, Some, None, MatchOption, is_some, Result, Ok, Err, MatchResult, subst, IfSome, IfNone, slice_get, option_map}
 use Rattle.std.specs.declared.cmp.Ordering.{Ordering}
 use Rattle.std.specs.declared.cmp.Ordering.TheVariants.{Less, Greater}
 use Rattle.std.specs.Ordering.{is_eq, is_lt, eq_by_cmp, ordering_reverse}
@@ -12,13 +12,14 @@ use Rattle.std.proofs.lemmas.List.{length-map, get_or-map, map-append}
 use Rattle.std.proofs.lemmas.List.Folds.{list_any_at}
 use Rattle.std.proofs.lemmas.List.Quantifiers.{position-Some}
 use Rattle.std.proofs.lemmas.List.Sorted.{list_any-IsPermutation, IsPermutation-map, searchable_from_sorted}
-use Rattle.std.proofs.lemmas.List.Sums.{fold_push}
 use Rattle.std.proofs.lemmas.Map.Keys.{sorted_from_all_adjacent, apart_from_distinct, Less-from_sorted}
 use Rattle.indexmap.specs.IndexSet.{insert_key as insert_last}
 use Rattle.program_types.specs.Key.{Key, key_cmp}
 use Rattle.program_types.specs.KeyLaws.{key_cmp-total, key_cmp-same}
-use Rattle.tables_names.specs.Rank.{Rising, insert_key, is_member, rank_of, add_all}
-use Rattle.tables_names.proofs.RisingLemmas.{less_of, insert_key-member, same_rising, rank-at, not_member}
+use Rattle.std.proofs.lemmas.Option.{slice_get-map, slice_get-get_or}
+use Rattle.tables_names.specs.Rank.{Rising, is_member, rank_of, add_all, IsAt}
+use Rattle.tables_names.specs.Numbers.{with_last}
+use Rattle.tables_names.proofs.RisingLemmas.{less_of, same_rising, rank-at, not_member}
 use Rattle.tables_names.proofs.UnionLemmas.{rising-add_all, is_member-add_all, rising-none}
 
 module _ {N : Type 0} (key : N → Key) (eq : N → N → Bool) (by_key : (x y : N) → eq x y ≡ is_eq (key_cmp (key x) (key y))) where
@@ -26,18 +27,29 @@ module _ {N : Type 0} (key : N → Key) (eq : N → N → Bool) (by_key : (x y :
   any_keys [] x = refl
   any_keys (y ∷ ys) x = λ i. by_key x y i || any_keys ys x i
 
-  -- what a hashed set has is what its keys have
-  pub held_keys : (xs : List N) (x : N) → list_any (eq x) xs ≡ is_member (add_all [] (map key xs)) (key x)
-  held_keys xs x = any_keys xs x ∙ sym (is_member-add_all [] (map key xs) (key x))
-
-  -- a name that goes last, if no equal one is there, is inserted into the set of keys
-  pub keys-insert_last : (xs : List N) (x : N) → add_all [] (map key (insert_last eq xs x)) ≡ insert_key (add_all [] (map key xs)) (key x)
-  keys-insert_last xs x = by (list_any (eq x) xs) refl
+  -- a name that goes last, if no equal one is there
+  pub keys-insert_last : (xs : List N) (x : N) → map key (insert_last eq xs x) ≡ with_last (map key xs) (key x)
+  keys-insert_last xs x = by (list_any (eq x) xs) ∙ (λ i. if any_keys xs x i then map key xs else map key xs ++ key x ∷ [])
     where
-      by : (b : Bool) → list_any (eq x) xs ≡ b → add_all [] (map key (if b then xs else xs ++ x ∷ [])) ≡ insert_key (add_all [] (map key xs)) (key x)
-      by true h =
-          sym (insert_key-member key_cmp-total key_cmp-same (add_all [] (map key xs)) (key x) (rising-add_all [] (map key xs) rising-none) (sym (held_keys xs x) ∙ h))
-      by false h = rw map-append (fold_push (λ l k. insert_key l k) [] (map key xs) (key x))
+      by : (b : Bool) → map key (if b then xs else xs ++ x ∷ []) ≡ (if b then map key xs else map key xs ++ key x ∷ [])
+      by true = refl
+      by false = map-append key xs (x ∷ [])
+
+  -- an equal name has the same key
+  pub stored_at : (xs : List N) (x : N) (i : ℕ) → (y : N) × (slice_get xs i ≡ Some y) × (eq x y ≡ true) → IsAt (map key xs) i (key x)
+  stored_at xs x i s =
+      let same : key x ≡ key s.0 = key_cmp-same (key x) (key s.0) ((Equal-is (key_cmp (key x) (key s.0))).0 (sym (by_key x s.0) ∙ s.2)) in
+      slice_get-map key xs i ∙ ap (option_map key) s.1 ∙ ap Some (sym same)
+
+  -- what a look-up finds
+  pub found_at : (xs : List N) (x : N) (r : Option ℕ) → r ≡ position (eq x) xs → IfSome r (λ n. IsAt (map key xs) n (key x))
+  found_at xs x None at = tt
+  found_at xs x (Some i) at =
+      let here = position-Some (eq x) xs i x (sym at) in stored_at xs x i (get_or xs i x, slice_get-get_or xs i x here.0, here.1)
+
+  pub none_there : (xs : List N) (x : N) (r : Option ℕ) → is_some r ≡ list_any (eq x) xs → IfNone r (is_member (map key xs) (key x) ≡ false)
+  none_there xs x None found = sym (found ∙ any_keys xs x)
+  none_there xs x (Some i) found = tt
 
   -- after a sort the keys rise
   pub sorted_keys : (cmp : N → N → Ordering) → ((x y : N) → cmp x y ≡ key_cmp (key x) (key y)) → (ys : List N) → IsDistinct eq ys → IsSorted cmp ys → Rising (map key ys)

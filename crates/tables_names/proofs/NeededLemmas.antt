@@ -1,5 +1,6 @@
 -- The needed names are the least closed sets, and the only ones.
-use Rattle.std.proofs.Common.{◌≡◌, true, true≢false, List, [], ◌∷◌, map, sym, inl, inr}
+use Rattle.std.proofs.Common.{◌≡◌, ℕ, zero, suc, ◌+◌, ◌<◌, true, true≢false, List, [], ◌∷◌, ◌++◌, arith, drop, get_or, length, map, refl, sym, take, ap, ◌∙◌, inl, inr}
+use Rattle.std.proofs.lemmas.List.{map-append, map_more}
 use Rattle.std.specs.Ordering.{eq_by_cmp}
 use Rattle.std.specs.List.{AllByRecursion}
 use Rattle.std.specs.Cmp.{Equal-is, both_ways}
@@ -7,13 +8,13 @@ use Rattle.program_types.specs.Content.{Name, OfText, OfDesc, OfField, OfMethod}
 use Rattle.program_types.specs.Key.{Key, key_cmp, text_key, field_ref_key, method_ref_key, proto_key}
 use Rattle.program_types.specs.KeyLaws.{key_cmp-total, key_cmp-same}
 use Rattle.tables_names.specs.Rank.{Rising, is_member, IsSubset}
-use Rattle.tables_names.specs.Closure.{Five, nothing, shorty_of_texts, join, with_name, with_names, closure_of, Holds, IsPart, IsClosed, AreRising, string_closure, type_closure, proto_closure, field_closure, method_closure}
+use Rattle.tables_names.specs.Closure.{Five, nothing, shorty_of_texts, join, with_name, with_names, with_parts, closure_of, Holds, IsPart, IsClosed, AddsPart, AreRising, string_closure, type_closure, proto_closure, field_closure, method_closure}
 use Rattle.program_types.specs.Mentions.{mentions}
 use Rattle.tables_names.specs.Needed.{needed, NeededIsLeast, LeastIsNeeded}
 use Rattle.tables_names.proofs.SubsetLemmas as sub
 use Rattle.tables_names.proofs.RisingLemmas.{same_rising}
 use Rattle.tables_names.proofs.UnionLemmas.{rising-add_all, rising-none}
-use Rattle.tables_names.proofs.FiveLemmas.{IsPart-refl, IsPart-trans, IsPart-left, IsPart-right, IsPart-join, proto_in_method}
+use Rattle.tables_names.proofs.FiveLemmas.{IsPart-refl, IsPart-trans, IsPart-left, IsPart-right, IsPart-join, join_grows, proto_in_method}
 
 -- the member of one key is that key
 one_member : (x k : Key) → is_member (x ∷ []) k ≡ true → k ≡ x
@@ -214,3 +215,69 @@ pub least_is_needed : LeastIsNeeded
 least_is_needed p s up is =
     let own = needed_is_least p in
     same_parts s (needed p) up own.0 (is.least (needed p) own.1.closed own.1.holds) (own.1.least s is.closed is.holds)
+
+-- ---- in any order
+
+-- Names that are the same but for their order and repetitions add the same to a set with all parts.
+pub same_names : (s : Five) (xs ys : List Name) → IsClosed s → AreRising s → ((P : Name → Type 0) → AllByRecursion P xs → AllByRecursion P ys) → ((P : Name → Type 0) → AllByRecursion P ys → AllByRecursion P xs) → with_names s xs ≡ with_names s ys
+same_names s xs ys closed up there back =
+    let left = with_names s xs in
+    let right = with_names s ys in
+    same_parts left right (with_names-rising s xs up) (with_names-rising s ys up)
+    (with_names-least s right xs (with_names-grows s ys) (with_names-closed s ys closed) (back (Holds right) (with_names-holds s ys)))
+    (with_names-least s left ys (with_names-grows s xs) (with_names-closed s xs closed) (there (Holds left) (with_names-holds s xs)))
+
+-- ---- one after the other
+
+pub names_append : (s : Five) (xs ys : List Name) → with_names s (xs ++ ys) ≡ with_names (with_names s xs) ys
+names_append s [] ys = refl
+names_append s (x ∷ xs) ys = names_append (with_name s x) xs ys
+
+-- the next name
+pub next_name : (s l new : Five) (front : List Name) (x : Name) → l ≡ with_names s front → new ≡ with_name l x → new ≡ with_names s (front ++ x ∷ [])
+next_name s l new front x so_far added = added ∙ ap (λ q. with_name q x) so_far ∙ sym (names_append s front (x ∷ []))
+
+-- what is part of the next adds nothing before it
+pub absorbed : (s t u : Five) → AreRising s → IsPart t u → join (join s t) u ≡ join s u
+absorbed s t u up part =
+    let left = join s t in
+    same_parts (join left u) (join s u) (rising_join left u (rising_join s t up)) (rising_join s u up)
+    (IsPart-join left u (join s u) (join_grows s t u part) (IsPart-right s u))
+    (IsPart-join s u (join left u) (IsPart-trans s left (join left u) (IsPart-left s t) (IsPart-left left u)) (IsPart-right left u))
+
+parts_within : (s : Five) (x : Name) → IsPart (with_parts s x) (with_name s x)
+unfolding with_name with_parts
+parts_within s (OfText t) = IsPart-left s (closure_of (OfText t))
+parts_within s (OfDesc t) = join_grows s (record (type_closure (text_key t)) { types = [] }) (type_closure (text_key t)) (record { strings = sub.IsSubset-refl _; types = sub.IsSubset-nil _; protos = sub.IsSubset-refl _; fields = sub.IsSubset-refl _; methods = sub.IsSubset-refl _ })
+parts_within s (OfField f) =
+    let all = field_closure (field_ref_key f) in
+    join_grows s (record all { fields = [] }) all (record { strings = sub.IsSubset-refl all.strings; types = sub.IsSubset-refl all.types; protos = sub.IsSubset-refl _; fields = sub.IsSubset-nil _; methods = sub.IsSubset-refl _ })
+parts_within s (OfMethod m) =
+    let all = method_closure (method_ref_key m) in
+    join_grows s (record all { methods = [] }) all (record { strings = sub.IsSubset-refl all.strings; types = sub.IsSubset-refl all.types; protos = sub.IsSubset-refl all.protos; fields = sub.IsSubset-refl _; methods = sub.IsSubset-nil _ })
+
+-- names were added, and then what a refusal of the next left
+pub next_refused : (s l new : Five) (all front : List Name) (x : Name) (rest : List Name) → all ≡ front ++ x ∷ rest → l ≡ with_names s front → AddsPart l new (with_parts l x) → AddsPart s new (with_names s all)
+next_refused s l new all front x rest split so_far left =
+    let keeps : IsPart s l = rw so_far (with_names-grows s front) in
+    let whole : with_names s all ≡ with_names (with_name l x) rest = ap (with_names s) split ∙ names_append s front (x ∷ rest) ∙ ap (λ q. with_names (with_name q x) rest) (sym so_far) in
+    record {
+      keeps = IsPart-trans s l new keeps left.keeps;
+      adds = rw whole (IsPart-trans new (with_parts l x) (with_names (with_name l x) rest) left.adds (IsPart-trans (with_parts l x) (with_name l x) (with_names (with_name l x) rest) (parts_within l x) (with_names-grows (with_name l x) rest)));
+    }
+
+-- ---- the members of a class
+
+module _ {A B : Type 0} (f : B → Name) (g : A → B) where
+  pub members_split : (xs : List A) (i : ℕ) (d : A) → i < length xs → map f (map g xs) ≡ map f (map g (take i xs)) ++ f (g (get_or xs i d)) ∷ map f (map g (drop (suc i) xs))
+  members_split [] i d lt = absurd (omega arith)
+  members_split (x ∷ xs) zero d lt = refl
+  members_split (x ∷ xs) (suc i) d lt = ap (λ l. f (g x) ∷ l) (members_split xs i d (omega arith))
+
+  pub members_more : (xs : List A) (i : ℕ) (d : A) → i < length xs → map f (map g (take (i + 1) xs)) ≡ map f (map g (take i xs)) ++ f (g (get_or xs i d)) ∷ []
+  members_more xs i d lt = ap (map f) (map_more g xs i d lt) ∙ map-append f (map g (take i xs)) (g (get_or xs i d) ∷ [])
+
+  pub member_kept : (P : Name → Type 0) (xs : List A) (i : ℕ) (d : A) → i < length xs → AllByRecursion P (map f (map g xs)) → P (f (g (get_or xs i d)))
+  member_kept P [] i d lt all = absurd (omega arith)
+  member_kept P (x ∷ xs) zero d lt all = all.0
+  member_kept P (x ∷ xs) (suc i) d lt all = member_kept P xs i d (omega arith) all.1

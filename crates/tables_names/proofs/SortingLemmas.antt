@@ -1,12 +1,13 @@
 -- Names that are sorted by the ranks of their parts.
-use Rattle.std.proofs.Common.{◌≡◌, ℕ, ◌+◌, ◌<◌, Bool, List, [], ◌∷◌, ◌++◌, map, take, length, get_or, refl, sym, ap, ◌∙◌, arith, All}
+use Rattle.std.proofs.Common.{◌≡◌, ℕ, ◌+◌, ◌<◌, Bool, List, [], ◌∷◌, ◌++◌, map, take, length, get_or, refl, sym, ap, ◌∙◌, arith, All, true, zero, suc, Some, subst, option_map}
 use Rattle.std.specs.declared.cmp.Ordering.{Ordering}
 use Rattle.std.specs.declared.cmp.Ordering.TheVariants.{Less, Equal, Greater}
 use Rattle.std.specs.Ordering.{nat_cmp, is_eq, is_lt, ordering_then}
 use Rattle.std.specs.Cmp.{IsEquivalence}
-use Rattle.std.specs.List.{IsDistinct}
+use Rattle.std.specs.List.{IsDistinct, AllZip}
 use Rattle.std.specs.List.Sorted.{IsSorted, IsPermutation}
 use Rattle.std.proofs.lemmas.List.{length-map, get_or-map, map_push, map_more, take_more}
+use Rattle.std.proofs.lemmas.Option.{slice_get-map, slice_get-get_or}
 use Rattle.std.proofs.lemmas.List.Elements.{All-push, All-same}
 use Rattle.std.proofs.lemmas.List.Sorted.{IsPermutation-map, All-permutation}
 use Rattle.std.proofs.lemmas.Map.Keys.{IsDistinct-IsPermutation}
@@ -14,16 +15,17 @@ use Rattle.indexmap.specs.IndexSet.{insert_all, insert_key as insert_last}
 use Rattle.indexmap.proofs.SetLemmas.{set_all_push}
 use Rattle.program_types.specs.Key.{Key, key_cmp, units_cmp}
 use Rattle.program_types.specs.KeyLaws.{ordering_then-equal}
-use Rattle.program_types.specs.View.{str, desc}
-use Rattle.program_types.specs.declared.names.Desc.{Desc}
-use Rattle.program_types.specs.declared.names.Proto.{Proto}
-use Rattle.program_types.specs.declared.names.FieldRef.{FieldRef}
-use Rattle.program_types.specs.declared.names.MethodRef.{MethodRef}
-use Rattle.tables_names.specs.Keys.{key_of_str, key_of_desc, key_of_proto, key_of_field, key_of_method}
-use Rattle.tables_names.specs.Rank.{Rising, IsAt, Leads, add_all}
+use Rattle.tables_names.specs.Rank.{Rising, IsAt, Leads, is_member, add_all}
+use Rattle.tables_names.specs.Numbers.{set_of, TypeAt, ProtoAt, FieldAt, MethodAt, RanksOf}
+use Rattle.tables_names.specs.declared.parts.TypeParts.{TypeParts}
+use Rattle.tables_names.specs.declared.parts.ProtoParts.{ProtoParts}
+use Rattle.tables_names.specs.declared.parts.FieldParts.{FieldParts}
+use Rattle.tables_names.specs.declared.parts.MethodParts.{MethodParts}
 use Rattle.tables_names.proofs.HeldLemmas.{sorted_keys, same_keys}
 use Rattle.tables_names.proofs.IndexLemmas.{units_by_index}
 use Rattle.tables_names.proofs.RowLemmas.{keys_compare_as_places}
+use Rattle.tables_names.proofs.PlaceLemmas.{member_at}
+use Rattle.tables_names.proofs.NumberLemmas.{zip_push, zip_length, zip_get, member_of_set}
 
 -- what the names answer is what their ranks do
 same_leads : (ranks names : Ordering) → ranks ≡ names → Leads ranks names
@@ -36,11 +38,6 @@ first_leads : (ranks first rest : Ordering) → ranks ≡ first → Leads ranks 
 first_leads ranks Less rest e = rw e refl
 first_leads ranks Equal rest e = rw e refl
 first_leads ranks Greater rest e = rw e refl
-
-then_assoc : (a b c : Ordering) → ordering_then (ordering_then a b) c ≡ ordering_then a (ordering_then b c)
-then_assoc Less b c = refl
-then_assoc Equal b c = refl
-then_assoc Greater b c = refl
 
 -- ---- pairs of ranks and a name
 
@@ -93,36 +90,86 @@ module _ {N R : Type 0} where
       pub names_same : map key (map (λ p. p.1) new) ≡ add_all [] (map key names)
       names_same = same_keys key eq by_key names (map (λ p. p.1) new) (names_moved names old new are moved) names_rise
 
+-- ---- what stands beside names
+
+module _ {N : Type 0} (key : N → Key) where
+  -- a name has its number
+  pub name_at : (names : List N) (i : ℕ) (x : N) → i < length names → x ≡ get_or names i x → IsAt (map key names) i (key x)
+  name_at names i x lt at = slice_get-map key names i ∙ ap (option_map key) (slice_get-get_or names i x lt) ∙ ap (λ y. Some (key y)) (sym at)
+
+  -- what stands beside the keys stands beside a name
+  pub beside : {P : Type 0} (R : Key → P → Type 0) (names : List N) (parts : List P) (i : ℕ) (x : N) (p : P) → AllZip R (map key names) parts → i < length names → x ≡ get_or names i x → p ≡ get_or parts i p → R (key x) p
+  beside {P = P} R names parts i x p all lt at part =
+      subst (λ (q : P). R (key x) q) (sym part) (zip_get R (map key names) parts i (key x) p all (name_at names i x lt at))
+
+  pub beside_length : {P : Type 0} (R : Key → P → Type 0) (names : List N) (parts : List P) (i : ℕ) → AllZip R (map key names) parts → i < length names → i < length parts
+  beside_length R names parts i all lt = let same = zip_length R (map key names) parts all in omega (arith, lt, same, length-map names key)
+
+  -- the next rank
+  pub rank_pushed : (table : List Key) (names : List N) (old new : List ℕ) (i : ℕ) (x : N) (rank : ℕ) → i < length names → x ≡ get_or names i x → new ≡ old ++ rank ∷ [] → IsAt table rank (key x) → RanksOf (map key (take i names)) table old → RanksOf (map key (take (i + 1) names)) table new
+  rank_pushed table names old new i x rank lt at pushed here so_far =
+      let more : map key (take (i + 1) names) ≡ map key (take i names) ++ key x ∷ [] = map_more key names i x lt ∙ ap (λ y. map key (take i names) ++ key y ∷ []) (sym at) in
+      rw (more, pushed) (zip_push (λ k r. IsAt table r k) (map key (take i names)) old (key x) rank so_far here)
+
+  -- a name of the list is in the set
+  pub name_in_set : (table : List Key) (names : List N) (i : ℕ) (x : N) → table ≡ set_of (map key names) → i < length names → x ≡ get_or names i x → is_member table (key x) ≡ true
+  name_in_set table names i x is lt at =
+      rw is (member_of_set (map key names) (key x) ∙ member_at (map key names) i (key x) (name_at names i x lt at))
+
+  -- the rows of sorted pairs
+  pub rows_stand : {P : Type 0} (Has : Key → P → Type 0) (ys : List (P × N)) → All (λ p. Has (key p.1) p.0) ys → AllZip Has (map key (map (λ p. p.1) ys)) (map (λ p. p.0) ys)
+  rows_stand Has [] all = tt
+  rows_stand Has (y ∷ ys) all = (all zero y (omega arith), rows_stand Has ys (λ i d lt. all (suc i) d (omega (arith, lt))))
+
 -- ---- the ranks of each kind
 
-pub text_rank : (strings : List Key) → Rising strings → (x y : Desc) (r s : ℕ) → IsAt strings r (key_of_desc x) → IsAt strings s (key_of_desc y) → Leads (nat_cmp r s) (key_cmp (key_of_desc x) (key_of_desc y))
-text_rank strings up x y r s a b =
-    same_leads (nat_cmp r s) (key_cmp (key_of_desc x) (key_of_desc y)) (sym (keys_compare_as_places strings r s (key_of_desc x) (key_of_desc y) up a b))
+pub text_ranks : (strings : List Key) → Rising strings → (j k : Key) (p q : TypeParts) → TypeAt strings j p → TypeAt strings k q → Leads (nat_cmp p.text q.text) (key_cmp j k)
+text_ranks strings up [] k p q a b = absurd a
+text_ranks strings up (x ∷ o ∷ j) k p q a b = absurd a
+text_ranks strings up (x ∷ []) [] p q a b = absurd b
+text_ranks strings up (x ∷ []) (y ∷ o ∷ k) p q a b = absurd b
+text_ranks strings up (x ∷ []) (y ∷ []) p q a b =
+    same_leads (nat_cmp p.text q.text) (key_cmp (x ∷ []) (y ∷ [])) (sym (keys_compare_as_places strings p.text q.text (x ∷ []) (y ∷ []) up a b))
 
-pub ret_rank : (types : List Key) → Rising types → (x y : Proto) (r s : ℕ) → IsAt types r (key_of_desc x.ret) → IsAt types s (key_of_desc y.ret) → Leads (nat_cmp r s) (key_cmp (key_of_proto x) (key_of_proto y))
-ret_rank types up x y r s a b =
-    first_leads (nat_cmp r s) (units_cmp (desc x.ret) (desc y.ret)) (key_cmp (map desc x.params.now) (map desc y.params.now)) (sym (units_by_index types r s (desc x.ret) (desc y.ret) up a b))
-
--- three ranks, of which the first that differ decide
-abbrev pub three_cmp : ℕ × ℕ × ℕ → ℕ × ℕ × ℕ → Ordering
-three_cmp r s = ordering_then (ordering_then (nat_cmp r.0 s.0) (nat_cmp r.1 s.1)) (nat_cmp r.2 s.2)
+pub ret_ranks : (types : List Key) → Rising types → (j k : Key) (p q : ProtoParts) → ProtoAt types j p → ProtoAt types k q → Leads (nat_cmp p.ret q.ret) (key_cmp j k)
+ret_ranks types up [] k p q a b = absurd a
+ret_ranks types up (x ∷ j) [] p q a b = absurd b
+ret_ranks types up (x ∷ j) (y ∷ k) p q a b = first_leads (nat_cmp p.ret q.ret) (units_cmp x y) (key_cmp j k) (sym (units_by_index types p.ret q.ret x y up a b))
 
 module _ (strings types : List Key) (s_up : Rising strings) (t_up : Rising types) where
-  abbrev pub FieldHas : FieldRef → ℕ × ℕ × ℕ → Type 0
-  FieldHas x r = IsAt types r.0 (key_of_desc x.class) × IsAt strings r.1 (key_of_str x.name) × IsAt types r.2 (key_of_desc x.ty)
+  -- three ranks, of which the first that differs decides
+  abbrev pub field_cmp : FieldParts → FieldParts → Ordering
+  field_cmp p q = ordering_then (nat_cmp p.class q.class) (ordering_then (nat_cmp p.name q.name) (nat_cmp p.ty q.ty))
 
-  pub field_ranks : (x y : FieldRef) (r s : ℕ × ℕ × ℕ) → FieldHas x r → FieldHas y s → Leads (three_cmp r s) (key_cmp (key_of_field x) (key_of_field y))
-  field_ranks x y r s a b =
-      same_leads (three_cmp r s) (key_cmp (key_of_field x) (key_of_field y))
-      (then_assoc (nat_cmp r.0 s.0) (nat_cmp r.1 s.1) (nat_cmp r.2 s.2)
-      ∙ (λ t. ordering_then (sym (units_by_index types r.0 s.0 (desc x.class) (desc y.class) t_up a.0 b.0) t) (ordering_then (sym (units_by_index strings r.1 s.1 (str x.name) (str y.name) s_up a.1 b.1) t) ((sym (units_by_index types r.2 s.2 (desc x.ty) (desc y.ty) t_up a.2 b.2) ∙ ordering_then-equal (units_cmp (desc x.ty) (desc y.ty))) t))))
+  -- which is how the fields compare
+  pub field_ranks_cmp : (j k : Key) (p q : FieldParts) → FieldAt types strings j p → FieldAt types strings k q → field_cmp p q ≡ key_cmp j k
+  field_ranks_cmp [] k p q a b = absurd a
+  field_ranks_cmp (c ∷ []) k p q a b = absurd a
+  field_ranks_cmp (c ∷ n ∷ []) k p q a b = absurd a
+  field_ranks_cmp (c ∷ n ∷ t ∷ o ∷ j) k p q a b = absurd a
+  field_ranks_cmp (c ∷ n ∷ t ∷ []) [] p q a b = absurd b
+  field_ranks_cmp (c ∷ n ∷ t ∷ []) (d ∷ []) p q a b = absurd b
+  field_ranks_cmp (c ∷ n ∷ t ∷ []) (d ∷ m ∷ []) p q a b = absurd b
+  field_ranks_cmp (c ∷ n ∷ t ∷ []) (d ∷ m ∷ u ∷ o ∷ k) p q a b = absurd b
+  field_ranks_cmp (c ∷ n ∷ t ∷ []) (d ∷ m ∷ u ∷ []) p q a b =
+      λ i. ordering_then (sym (units_by_index types p.class q.class c d t_up a.0 b.0) i) (ordering_then (sym (units_by_index strings p.name q.name n m s_up a.1 b.1) i) ((sym (units_by_index types p.ty q.ty t u t_up a.2 b.2) ∙ ordering_then-equal (units_cmp t u)) i))
+
+  pub field_ranks_lead : (j k : Key) (p q : FieldParts) → FieldAt types strings j p → FieldAt types strings k q → Leads (field_cmp p q) (key_cmp j k)
+  field_ranks_lead j k p q a b = same_leads (field_cmp p q) (key_cmp j k) (field_ranks_cmp j k p q a b)
 
   module _ (protos : List Key) (p_up : Rising protos) where
-    abbrev pub MethodHas : MethodRef → ℕ × ℕ × ℕ → Type 0
-    MethodHas x r = IsAt types r.0 (key_of_desc x.class) × IsAt strings r.1 (key_of_str x.name) × IsAt protos r.2 (key_of_proto x.proto.now)
+    abbrev pub method_cmp : MethodParts → MethodParts → Ordering
+    method_cmp p q = ordering_then (nat_cmp p.class q.class) (ordering_then (nat_cmp p.name q.name) (nat_cmp p.proto q.proto))
 
-    pub method_ranks : (x y : MethodRef) (r s : ℕ × ℕ × ℕ) → MethodHas x r → MethodHas y s → Leads (three_cmp r s) (key_cmp (key_of_method x) (key_of_method y))
-    method_ranks x y r s a b =
-        same_leads (three_cmp r s) (key_cmp (key_of_method x) (key_of_method y))
-        (then_assoc (nat_cmp r.0 s.0) (nat_cmp r.1 s.1) (nat_cmp r.2 s.2)
-        ∙ (λ t. ordering_then (sym (units_by_index types r.0 s.0 (desc x.class) (desc y.class) t_up a.0 b.0) t) (ordering_then (sym (units_by_index strings r.1 s.1 (str x.name) (str y.name) s_up a.1 b.1) t) (sym (keys_compare_as_places protos r.2 s.2 (key_of_proto x.proto.now) (key_of_proto y.proto.now) p_up a.2 b.2) t))))
+    pub method_ranks_cmp : (j k : Key) (p q : MethodParts) → MethodAt types strings protos j p → MethodAt types strings protos k q → method_cmp p q ≡ key_cmp j k
+    method_ranks_cmp [] k p q a b = absurd a
+    method_ranks_cmp (c ∷ []) k p q a b = absurd a
+    method_ranks_cmp (c ∷ n ∷ []) k p q a b = absurd a
+    method_ranks_cmp (c ∷ n ∷ x ∷ j) [] p q a b = absurd b
+    method_ranks_cmp (c ∷ n ∷ x ∷ j) (d ∷ []) p q a b = absurd b
+    method_ranks_cmp (c ∷ n ∷ x ∷ j) (d ∷ m ∷ []) p q a b = absurd b
+    method_ranks_cmp (c ∷ n ∷ x ∷ j) (d ∷ m ∷ y ∷ k) p q a b =
+        λ i. ordering_then (sym (units_by_index types p.class q.class c d t_up a.0 b.0) i) (ordering_then (sym (units_by_index strings p.name q.name n m s_up a.1 b.1) i) (sym (keys_compare_as_places protos p.proto q.proto (x ∷ j) (y ∷ k) p_up a.2 b.2) i))
+
+    pub method_ranks_lead : (j k : Key) (p q : MethodParts) → MethodAt types strings protos j p → MethodAt types strings protos k q → Leads (method_cmp p q) (key_cmp j k)
+    method_ranks_lead j k p q a b = same_leads (method_cmp p q) (key_cmp j k) (method_ranks_cmp j k p q a b)

@@ -2,7 +2,7 @@
 -- Page: "Dalvik Executable format": the fields of string_id_item, type_id_item, proto_id_item, field_id_item and
 -- method_id_item that are indices of other names.
 use Rattle.std.specs.Prelude.{◌≡◌, ℕ, List, [], ◌∷◌, map, fold, true, ⊤, All}
-use Rattle.program_types.specs.Content.{Proto, Name, OfText, OfDesc, OfField, OfMethod}
+use Rattle.program_types.specs.Content.{Descriptor, Method, Proto, Name, OfText, OfDesc, OfField, OfMethod}
 use Rattle.program_types.specs.Key.{Key, text_key, proto_key, field_ref_key, method_ref_key}
 use Rattle.dex_base.specs.Descriptor.{IsDescriptor}
 use Rattle.program_types.specs.Shorty.{letter_of}
@@ -131,6 +131,10 @@ pub record AreRising (s : Five) : Type 0 where
 abbrev pub HasShorty : Name → Type 0
 HasShorty (OfMethod m) = IsDescriptor m.proto.ret × All IsDescriptor m.proto.params
 HasShorty _ = ⊤
+
+-- a method that a class of this type defines
+abbrev pub method_of_class : Descriptor → Method → Name
+method_of_class class m = OfMethod (record { class = class; name = m.name; proto = m.proto })
 
 -- i is the index of the name, in the set of its kind
 abbrev pub NameRanks : Five → ℕ → Name → Type 0

@@ -1,29 +1,30 @@
 //! The names of one kind that are needed: a hashed set in the order of first need while names are added, and then a list in
 //! the order of their ranks.
-ghost use Rattle.std.specs.Prelude.{◌≡◌, ◌<◌, ◌^◌, ℕ, List, [], map, OnOk, OnErr, IfOk, IfSome, IfNone, option_map, slice_get};
-ghost use Rattle.program_types.specs.Key.{key_cmp};
-ghost use Rattle.tables_names.specs.Rank.{Rising, insert_key, is_member, HasIndex, IsAt, Leads};
+ghost use Rattle.std.specs.Prelude.{◌≡◌, ◌<◌, ◌^◌, ℕ, List, [], ◌∷◌, ◌++◌, map, false, true, OnOk, OnErr, IfOk, IfSome, IfNone, option_map, slice_get};
+ghost use Rattle.std.specs.List.{AllZip, IsDistinct};
+ghost use Rattle.program_types.specs.Key.{Key, key_cmp};
+ghost use Rattle.tables_names.specs.Rank.{Rising, is_member, HasIndex, IsAt, Leads};
+ghost use Rattle.tables_names.specs.Numbers.{set_of, with_last};
 
 use crate::row::Row;
-use crate::sorting::{ByRanks, put_all, with_ranks};
+use crate::sorting::{Numbers, put_all, rows_of, with_ranks};
 use indexmap::IndexSet;
 use std::alloc::{AllocError, Global};
 use std::marker::Model;
 
-/// A set of names, in the order of first need. It stands for the rising list of their keys.
+/// A set of names, in the order of first need, where the place of a name is its number. It stands for the list of their keys.
 #[derive(Drop)]
 pub(crate) struct Held<N: Row> {
     items: IndexSet<N>,
 }
 
 impl<N: Row> Model for Held<N> {
-    ghost use Rattle.std.specs.Prelude.{List, [], map};
+    ghost use Rattle.std.specs.Prelude.{List, map};
     ghost use Rattle.program_types.specs.Key.{Key};
-    ghost use Rattle.tables_names.specs.Rank.{add_all};
 
     ghost Value = { List Key };
 
-    ghost view = { λ h. add_all [] (map N.key h.items.keys) };
+    ghost view = { λ h. map N.key h.items.keys };
 }
 
 impl<N: Row> Held<N> {
@@ -43,26 +44,35 @@ impl<N: Row> Held<N> {
         self.items.contains(name)
     }
 
-    /// The keys strictly rise.
-    pub(crate) fn rises(&self)
-        ensures { Rising self.now }
+    /// The number of a name, where it is there.
+    pub(crate) fn number_of(&self, name: &N) -> Option<usize>
+        ensures some { IfSome result (λ n. IsAt self.now n (N.key name.now)) }
+        ensures none { IfNone result (is_member self.now (N.key name.now) ≡ false) }
     {
-        // Only for the proof: what holds of each value of its type.
-        let _ = &self.items;
+        self.items.get_index_of(name)
     }
 
-    /// Adds a name, if it isn't there yet.
-    pub(crate) fn add(&mut self, name: N) -> Result<(), AllocError>
-        ensures added { OnOk result (self.new ≡ insert_key self.old (N.key name)) }
+    /// Adds a name behind the others, if it isn't there yet, and gives its number.
+    pub(crate) fn add(&mut self, name: N) -> Result<usize, AllocError>
+        ensures added { OnOk result (self.new ≡ with_last self.old (N.key name)) }
+        ensures number { IfOk result (λ n. IsAt self.new n (N.key name)) }
         ensures unchanged { OnErr result (self.new ≡ self.old) }
     {
-        self.items.insert(name)?;
-        Ok(())
+        let (number, _) = self.items.insert_full(name)?;
+        Ok(number)
+    }
+
+    /// The names, in the order of first need.
+    pub(crate) fn in_order(&self) -> &[N]
+        ensures keys { map N.key result.now ≡ self.now }
+        ensures distinct { IsDistinct N.eq result.now }
+    {
+        self.items.as_slice()
     }
 
     /// The names with their ranks, sorted where they stand.
     pub(crate) fn ranked(self) -> Result<Ranked<N>, AllocError>
-        ensures same { IfOk result (λ r. r ≡ self) }
+        ensures same { IfOk result (λ r. r ≡ set_of self) }
     {
         let Held { mut items } = self;
         items.sort_unstable()?;
@@ -70,25 +80,71 @@ impl<N: Row> Held<N> {
     }
 }
 
-/// The names with their ranks, sorted by the ranks of their parts, and by themselves where these tie. By themselves alone,
-/// where a part has no rank.
-pub(crate) fn ranked_by<T, R: Copy + Ord, N: ByRanks<T, R>>(
+/// A set of names, and beside each the numbers of its parts.
+#[derive(Drop)]
+pub(crate) struct Made<N: Row, P: Copy> {
+    pub(crate) names: Held<N>,
+    pub(crate) parts: Vec<P>,
+}
+
+impl<N: Row, P: Copy> Made<N, P> {
+    /// No name.
+    pub(crate) fn new(alloc: Global) -> Self
+        ensures names { result.names ≡ [] }
+        ensures parts { result.parts.items ≡ [] }
+    {
+        Made {
+            names: Held::new(alloc),
+            parts: Vec::new(alloc),
+        }
+    }
+
+    /// Adds a name that isn't there yet behind the others, with the numbers of its parts, and gives its number.
+    pub(crate) fn add(&mut self, name: N, parts: P) -> Result<usize, AllocError>
+        requires { is_member self.old.names (N.key name) ≡ false }
+        ensures names { OnOk result (self.new.names ≡ self.old.names ++ N.key name ∷ []) }
+        ensures parts { OnOk result (self.new.parts.items ≡ self.old.parts.items ++ parts ∷ []) }
+        ensures number { IfOk result (λ n. IsAt self.new.names n (N.key name)) }
+        ensures same_names { OnErr result (self.new.names ≡ self.old.names) }
+        ensures same_parts { OnErr result (self.new.parts.items ≡ self.old.parts.items) }
+    {
+        self.parts.reserve(1)?;
+        let number = self.names.add(name)?;
+        self.parts.push(parts)?;
+        Ok(number)
+    }
+}
+
+/// The names with their ranks, sorted by the ranks of their parts, and by themselves where these tie; and the ranks of the
+/// parts of each.
+pub(crate) fn ranked_by<T, P: Numbers<T>, N: Row>(
     alloc: Global,
-    held: Held<N>,
-    parts: &T,
-) -> Result<Ranked<N>, AllocError>
-    requires { (x y : N) (r s : R) → N.has parts.now x r → N.has parts.now y s → Leads (R.cmp r s) (key_cmp (N.key x) (N.key y)) }
-    ensures { IfOk result (λ r. r ≡ held) }
+    made: Made<N, P>,
+    sorted: &T,
+) -> Result<Table<N, P>, AllocError>
+    requires parts { AllZip (λ k p. P.within sorted.now p × P.has sorted.now k (P.ranked sorted.now p)) made.names made.parts.items }
+    requires leads { (j k : Key) (p q : P) → P.has sorted.now j p → P.has sorted.now k q → Leads (P.cmp p q) (key_cmp j k) }
+    ensures same { IfOk result (λ r. r.names ≡ set_of made.names) }
+    ensures rows { IfOk result (λ r. AllZip (P.has sorted.now) r.names r.parts.items) }
 {
-    let made = with_ranks(alloc, held.items.as_slice(), parts)?;
-    let Some(mut pairs) = made else {
-        return held.ranked();
-    };
+    let Made { names, parts } = made;
+    let mut pairs = with_ranks(alloc, names.in_order(), &parts, sorted)?;
     pairs.sort_unstable();
-    let Held { mut items } = held;
+    let parts = rows_of(alloc, &pairs)?;
+    let Held { mut items } = names;
     items.clear();
     put_all(&mut items, &pairs)?;
-    Ok(Ranked { items })
+    Ok(Table {
+        names: Ranked { items },
+        parts,
+    })
+}
+
+/// A set of names that stays, and beside each the ranks of its parts.
+#[derive(Drop)]
+pub(crate) struct Table<N: Row, P: Copy> {
+    pub(crate) names: Ranked<N>,
+    pub(crate) parts: Vec<P>,
 }
 
 /// A set of names that stays, each with its rank, in the order of these. It stands for the rising list of their keys.
@@ -119,6 +175,25 @@ impl<N: Row> Ranked<N> {
         match self.items.get_index_of(&name) {
             Some(at) => u32::try_from(at).ok(),
             None => None,
+        }
+    }
+
+    /// The rank of a name, where it is held.
+    pub(crate) fn place_of(&self, name: &N) -> Option<usize>
+        ensures some { IfSome result (λ i. IsAt self.now i (N.key name.now)) }
+        ensures none { IfNone result (is_member self.now (N.key name.now) ≡ false) }
+    {
+        self.items.get_index_of(name)
+    }
+
+    /// The rank of a name that is held.
+    pub(crate) fn rank_of(&self, name: &N) -> usize
+        requires { is_member self.now (N.key name.now) ≡ true }
+        ensures { IsAt self.now result (N.key name.now) }
+    {
+        match self.items.get_index_of(name) {
+            Some(at) => at,
+            None => unreachable!(),
         }
     }
 

@@ -13,6 +13,8 @@ mod row;
 // The names that a program needs, and their ranks.
 mod held;
 mod needed;
+mod numbered;
+mod parts;
 mod ranks;
 mod shorty;
 mod sorting;
@@ -26,5 +28,6 @@ pub use laws::{
     sets_are_their_members, types_rise,
 };
 pub use needed::Needed;
+pub use parts::{FieldParts, MethodParts, ProtoParts, TypeParts};
 pub use ranks::Ranks;
 pub use row::Row;

@@ -1,20 +1,21 @@
 //! The names that a program needs, of all five kinds, each with its parts ("Dalvik Executable format": the indices in
 //! type_id_item, proto_id_item, field_id_item and method_id_item).
-ghost use Rattle.std.specs.Prelude.{◌≡◌, OnOk, OnErr, IfOk, IsOkUnless, All, map};
+ghost use Rattle.std.specs.Prelude.{◌≡◌, ◌∷◌, OnOk, OnErr, IfOk, IsOkUnless, All, map};
+ghost use Rattle.std.specs.List.{AllByRecursion};
 ghost use Rattle.base_bytes.specs.Fault.{memory};
 ghost use Rattle.dex_base.specs.Descriptor.{IsDescriptor};
 ghost use Rattle.program_types.specs.Content.{OfText, OfDesc, OfField, OfMethod};
-ghost use Rattle.program_types.specs.View.{str, desc, proto, field_ref, method_ref};
+ghost use Rattle.program_types.specs.Mentions.{field_of_class};
+ghost use Rattle.program_types.specs.View.{str, desc, proto, field_ref, method_ref, member, method};
 ghost use Rattle.program_types.specs.View as view;
-ghost use Rattle.tables_names.specs.Closure.{nothing, with_name, with_proto, with_parts, with_proto_parts, AddsPart, AreRising, IsClosed, HasShorty};
+ghost use Rattle.tables_names.specs.Closure.{nothing, with_name, with_names, with_proto, with_parts, with_proto_parts, method_of_class, AddsPart, AreRising, IsClosed, HasShorty};
 
-use crate::held::{Held, Ranked, ranked_by};
+use crate::numbered::Numbered;
 use crate::ranks::Ranks;
-use crate::sorting::Parts;
 use bumpalo::Bump;
 use dex_base::Fault;
-use program_types::{Desc, FieldRef, MethodRef, Name, Proto, Str, shorty_of};
-use std::alloc::{AllocError, Global};
+use program_types::{Desc, FieldRef, Member, Method, MethodRef, Name, Proto, Str};
+use std::alloc::Global;
 use std::marker::Model;
 
 /// The names that are needed so far: a set of each of the five kinds, with each name its parts. It stands for the five
@@ -24,22 +25,16 @@ use std::marker::Model;
 /// may have left some of its parts; all that was held is held.
 #[derive(Drop)]
 pub struct Needed<'a> {
-    alloc: Global,
-    strings: Held<Str<'a>>,
-    types: Held<Desc<'a>>,
-    protos: Held<Proto<'a>>,
-    fields: Held<FieldRef<'a>>,
-    methods: Held<MethodRef<'a>>,
+    numbered: Numbered<'a>,
 }
 
 impl<'a> Model for Needed<'a> {
-    ghost use Rattle.tables_names.specs.Closure.{Five, IsClosed};
+    ghost use Rattle.tables_names.specs.Closure.{Five};
+    ghost use Rattle.tables_names.specs.Numbers.{sets};
 
     ghost Value = { Five };
 
-    ghost view = { λ n. record { strings = n.strings; types = n.types; protos = n.protos; fields = n.fields; methods = n.methods } };
-
-    ghost invariant = { λ n. IsClosed record { strings = n.strings; types = n.types; protos = n.protos; fields = n.fields; methods = n.methods } };
+    ghost view = { λ n. sets n.numbered.names };
 }
 
 #[tactic(auto, unfolding(crate::specs::Closure::with_name, crate::specs::Closure::with_proto, crate::specs::Closure::with_parts, crate::specs::Closure::with_proto_parts))]
@@ -56,32 +51,16 @@ impl<'a> Needed<'a> {
         ensures { result ≡ nothing }
     {
         Needed {
-            alloc,
-            strings: Held::new(alloc),
-            types: Held::new(alloc),
-            protos: Held::new(alloc),
-            fields: Held::new(alloc),
-            methods: Held::new(alloc),
+            numbered: Numbered::new(alloc),
         }
     }
 
-    /// Beside each name its parts are held.
+    /// Beside each name its parts are held, and the names of each kind rise.
     pub fn holds_parts(&self)
-        ensures { IsClosed self.now }
+        ensures closed { IsClosed self.now }
+        ensures rise { AreRising self.now }
     {
-        // Only for the proof: what holds of each value of its type.
-        let _ = &self.strings;
-    }
-
-    // In each of the five sets the names strictly rise.
-    fn rise(&self)
-        ensures { AreRising self.now }
-    {
-        self.strings.rises();
-        self.types.rises();
-        self.protos.rises();
-        self.fields.rises();
-        self.methods.rises();
+        self.numbered.has_parts();
     }
 
     /// Adds a string. Refused only for want of memory, as all additions are: what was held is held then, and beyond it
@@ -100,7 +79,7 @@ impl<'a> Needed<'a> {
         ensures unchanged { OnErr result (self.new ≡ self.old) }
         ensures memory { IsOkUnless result memory }
     {
-        self.strings.add(name)?;
+        self.numbered.add_string(name)?;
         Ok(())
     }
 
@@ -119,12 +98,7 @@ impl<'a> Needed<'a> {
         ensures partly { OnErr result (AddsPart self.old self.new (with_parts self.old (OfDesc (desc name.entry)))) }
         ensures memory { IsOkUnless result memory }
     {
-        if self.types.holds(&name) {
-            self.rise();
-            return Ok(());
-        }
-        self.strings.add(name.text)?;
-        self.types.add(name)?;
+        self.numbered.add_type(name)?;
         Ok(())
     }
 
@@ -150,17 +124,7 @@ impl<'a> Needed<'a> {
         ensures partly { OnErr result (AddsPart self.old self.new (with_proto_parts self.old (proto name.now))) }
         ensures memory { IsOkUnless result memory }
     {
-        if self.protos.holds(name) {
-            self.rise();
-            return Ok(());
-        }
-        self.strings
-            .add(shorty_of(self.alloc, arena, name.ret, name.params)?)?;
-        self.add_type(name.ret)?;
-        for param in name.params {
-            self.add_type(*param)?;
-        }
-        self.protos.add(*name)?;
+        self.numbered.add_proto(arena, name)?;
         Ok(())
     }
 
@@ -187,15 +151,7 @@ impl<'a> Needed<'a> {
         ensures partly { OnErr result (AddsPart self.old self.new (with_parts self.old (OfMethod (method_ref name.now)))) }
         ensures memory { IsOkUnless result memory }
     {
-        if self.methods.holds(name) {
-            self.rise();
-            return Ok(());
-        }
-        self.add_type(name.class)?;
-        self.add_string(name.name)?;
-        self.add_proto(arena, name.proto)?;
-        self.methods.add(*name)?;
-        Ok(())
+        self.numbered.add_method(arena, name)
     }
 
     /// Adds a field, its class, its name and its type.
@@ -216,15 +172,65 @@ impl<'a> Needed<'a> {
         ensures partly { OnErr result (AddsPart self.old self.new (with_parts self.old (OfField (field_ref name.now)))) }
         ensures memory { IsOkUnless result memory }
     {
-        if self.fields.holds(name) {
-            self.rise();
-            return Ok(());
-        }
-        self.add_type(name.class)?;
-        self.add_string(name.name)?;
-        self.add_type(name.ty)?;
-        self.fields.add(*name)?;
+        self.numbered.add_field(name)?;
         Ok(())
+    }
+
+    /// Adds a class and the fields that it defines, each with its parts. The class's name is looked up once.
+    ///
+    /// ```
+    /// use dex_program::{Desc, Member, Str};
+    /// use dex_tables::Needed;
+    ///
+    /// let int = Desc { text: Str { units: &[0x49] } }; // I
+    /// let class = Desc { text: Str { units: &[0x4c, 0x41, 0x3b] } };
+    /// let field = Member { name: Str { units: &[0x6e] }, ty: int, flags: 0 };
+    /// let mut needed = Needed::new(alloc);
+    /// needed.add_fields_of(class, &[field])?; // LA;->n:I
+    /// assert!(rt; needed.freeze()?.field(0).is_some());
+    /// ```
+    pub fn add_fields_of<'p: 'a>(
+        &mut self,
+        class: Desc<'a>,
+        fields: &[Member<'p>],
+    ) -> Result<(), Fault>
+        ensures added { OnOk result (self.new ≡ with_names self.old (OfDesc (desc class.entry) ∷ map (field_of_class (desc class.entry)) (map member fields.now))) }
+        ensures partly { OnErr result (AddsPart self.old self.new (with_names self.old (OfDesc (desc class.entry) ∷ map (field_of_class (desc class.entry)) (map member fields.now)))) }
+        ensures memory { IsOkUnless result memory }
+    {
+        self.numbered.add_fields_of(class, fields)?;
+        Ok(())
+    }
+
+    /// Adds a class and the methods that it defines, each with its parts, but nothing of their code. The arena holds the
+    /// shorties. The class's name is looked up once.
+    ///
+    /// ```
+    /// use bumpalo::Bump;
+    /// use dex_program::{Desc, Method, Proto, Str};
+    /// use dex_tables::Needed;
+    ///
+    /// let arena = Bump::new(alloc);
+    /// let int = Desc { text: Str { units: &[0x49] } }; // I
+    /// let class = Desc { text: Str { units: &[0x4c, 0x41, 0x3b] } };
+    /// let proto = Proto { ret: int, params: &[] };
+    /// let method = Method { name: Str { units: &[0x6d] }, proto: &proto, flags: 0x401, code: None };
+    /// let mut needed = Needed::new(alloc);
+    /// needed.add_methods_of(&arena, class, &[method])?; // LA;->m()I
+    /// assert!(rt; needed.freeze()?.method(0).is_some());
+    /// ```
+    pub fn add_methods_of<'p: 'a>(
+        &mut self,
+        arena: &'a Bump,
+        class: Desc<'a>,
+        methods: &[Method<'p>],
+    ) -> Result<(), Fault>
+        requires { AllByRecursion HasShorty (map (method_of_class (desc class)) (map method methods.now)) }
+        ensures added { OnOk result (self.new ≡ with_names self.old (OfDesc (desc class.entry) ∷ map (method_of_class (desc class.entry)) (map method methods.now))) }
+        ensures partly { OnErr result (AddsPart self.old self.new (with_names self.old (OfDesc (desc class.entry) ∷ map (method_of_class (desc class.entry)) (map method methods.now)))) }
+        ensures memory { IsOkUnless result memory }
+    {
+        self.numbered.add_methods_of(arena, class, methods)
     }
 
     /// Adds what an instruction or a value names, with its parts. The arena holds a method's shorty.
@@ -261,59 +267,7 @@ impl<'a> Needed<'a> {
         ensures same { IfOk result (λ r. r ≡ self.entry) }
         ensures memory { IsOkUnless result memory }
     {
-        let Needed {
-            alloc,
-            strings,
-            types,
-            protos,
-            fields,
-            methods,
-        } = self;
-        let parts = ranked_parts(alloc, strings, types, protos)?;
-        let (fields, methods) = ranked_members(alloc, &parts, fields, methods)?;
-        let Parts {
-            strings,
-            types,
-            protos,
-        } = parts;
-        Ok(Ranks::new(strings, types, protos, fields, methods))
+        let Needed { numbered } = self;
+        Ok(numbered.freeze()?)
     }
-}
-
-// Three kinds with their ranks.
-fn ranked_parts<'a>(
-    alloc: Global,
-    strings: Held<Str<'a>>,
-    types: Held<Desc<'a>>,
-    protos: Held<Proto<'a>>,
-) -> Result<Parts<'a>, AllocError>
-    ensures { IfOk result (λ r. (r.strings ≡ strings.entry) × (r.types ≡ types.entry) × (r.protos ≡ protos.entry)) }
-{
-    let strings = strings.ranked()?;
-    strings.rises();
-    let types = ranked_by(alloc, types, &strings)?;
-    types.rises();
-    let protos = ranked_by(alloc, protos, &types)?;
-    Ok(Parts {
-        strings,
-        types,
-        protos,
-    })
-}
-
-// Two kinds with their ranks.
-fn ranked_members<'a>(
-    alloc: Global,
-    parts: &Parts<'a>,
-    fields: Held<FieldRef<'a>>,
-    methods: Held<MethodRef<'a>>,
-) -> Result<(Ranked<FieldRef<'a>>, Ranked<MethodRef<'a>>), AllocError>
-    ensures { IfOk result (λ r. (r.0 ≡ fields.entry) × (r.1 ≡ methods.entry)) }
-{
-    parts.strings.rises();
-    parts.types.rises();
-    parts.protos.rises();
-    let fields = ranked_by(alloc, fields, parts)?;
-    let methods = ranked_by(alloc, methods, parts)?;
-    Ok((fields, methods))
 }

@@ -1,16 +1,21 @@
 //! The names that a program needs, of all five kinds, with their ranks, which are their indices in a table that has no other
 //! names ("Dalvik Executable format": string_ids, type_ids, proto_ids, field_ids and method_ids).
 ghost use Rattle.std.specs.Prelude.{◌≡◌, ◌<◌, ◌^◌, ℕ, IfSome, IfNone, map, option_map, slice_get};
+ghost use Rattle.std.specs.List.{AllZip};
+ghost use Rattle.program_types.specs.Content.{Units};
 ghost use Rattle.program_types.specs.Key.{text_key};
 ghost use Rattle.program_types.specs.Shorty.{shorty};
 ghost use Rattle.program_types.specs.View as view;
 ghost use Rattle.program_types.specs.View.{proto};
-ghost use Rattle.tables_names.specs.Keys.{key_of_str, key_of_desc, key_of_proto, key_of_field, key_of_method};
+ghost use Rattle.tables_names.specs.Keys.{key_of_str, key_of_desc, key_of_proto, key_of_field, key_of_method, own_field, own_method};
 ghost use Rattle.tables_names.specs.Rank.{HasIndex, IsAt};
 ghost use Rattle.tables_names.specs.Closure.{IsClosed, AreRising, NameRanks};
+ghost use Rattle.tables_names.specs.Numbers.{IsTables, TypeAt, ProtoAt, FieldAt, MethodAt};
 
-use crate::held::Ranked;
+use crate::held::{Ranked, Table};
+use crate::parts::{FieldParts, MethodParts, ProtoParts, TypeParts};
 use crate::shorty::index_of_shorty;
+use crate::sorting::Parts;
 use program_types::{Desc, FieldRef, MethodRef, Name, Proto, Str};
 use std::marker::Model;
 
@@ -19,38 +24,62 @@ use std::marker::Model;
 #[derive(Drop)]
 pub struct Ranks<'a> {
     strings: Ranked<Str<'a>>,
-    types: Ranked<Desc<'a>>,
-    protos: Ranked<Proto<'a>>,
-    fields: Ranked<FieldRef<'a>>,
-    methods: Ranked<MethodRef<'a>>,
+    types: Table<Desc<'a>, TypeParts>,
+    protos: Table<Proto<'a>, ProtoParts>,
+    fields: Table<FieldRef<'a>, FieldParts>,
+    methods: Table<MethodRef<'a>, MethodParts>,
 }
 
 impl<'a> Model for Ranks<'a> {
     ghost use Rattle.tables_names.specs.Closure.{Five, IsClosed};
+    ghost use Rattle.tables_names.specs.Numbers.{Order, IsTables};
 
     ghost Value = { Five };
 
-    ghost view = { λ n. record { strings = n.strings; types = n.types; protos = n.protos; fields = n.fields; methods = n.methods } };
+    ghost view = { λ n. record { strings = n.strings; types = n.types.names; protos = n.protos.names; fields = n.fields.names; methods = n.methods.names } };
 
-    ghost invariant = { λ n. IsClosed record { strings = n.strings; types = n.types; protos = n.protos; fields = n.fields; methods = n.methods } };
+    ghost invariant = { λ n. IsTables record {
+      names = record { strings = n.strings; types = n.types.names; protos = n.protos.names; fields = n.fields.names; methods = n.methods.names };
+      types = n.types.parts.items;
+      protos = n.protos.parts.items;
+      fields = n.fields.parts.items;
+      methods = n.methods.parts.items;
+    } };
 }
 
 impl<'a> Ranks<'a> {
-    // Five sets that hold each name's parts.
+    // Five sets that hold each name's parts, and the ranks of these.
     pub(crate) fn new(
-        strings: Ranked<Str<'a>>,
-        types: Ranked<Desc<'a>>,
-        protos: Ranked<Proto<'a>>,
-        fields: Ranked<FieldRef<'a>>,
-        methods: Ranked<MethodRef<'a>>,
+        parts: Parts<'a>,
+        types: Vec<TypeParts>,
+        protos: Vec<ProtoParts>,
+        fields: Table<FieldRef<'a>, FieldParts>,
+        methods: Table<MethodRef<'a>, MethodParts>,
     ) -> Self
-        requires { IsClosed record { strings = strings; types = types; protos = protos; fields = fields; methods = methods } }
-        ensures { result ≡ record { strings = strings.entry; types = types.entry; protos = protos.entry; fields = fields.entry; methods = methods.entry } }
+        requires { IsTables record {
+          names = record { strings = parts.strings.names; types = parts.types.names; protos = parts.protos.names; fields = fields.names; methods = methods.names };
+          types = types.items;
+          protos = protos.items;
+          fields = fields.parts.items;
+          methods = methods.parts.items;
+        } }
+        ensures { result ≡ record { strings = parts.entry.strings.names; types = parts.entry.types.names; protos = parts.entry.protos.names; fields = fields.entry.names; methods = methods.entry.names } }
     {
-        Ranks {
+        let Parts {
             strings,
-            types,
-            protos,
+            types: sorted_types,
+            protos: sorted_protos,
+        } = parts;
+        Ranks {
+            strings: strings.names,
+            types: Table {
+                names: sorted_types.names,
+                parts: types,
+            },
+            protos: Table {
+                names: sorted_protos.names,
+                parts: protos,
+            },
             fields,
             methods,
         }
@@ -69,10 +98,10 @@ impl<'a> Ranks<'a> {
         ensures { AreRising self.now }
     {
         self.strings.rises();
-        self.types.rises();
-        self.protos.rises();
-        self.fields.rises();
-        self.methods.rises();
+        self.types.names.rises();
+        self.protos.names.rises();
+        self.fields.names.rises();
+        self.methods.names.rises();
     }
 
     /// The rank of a name among those of its kind. None where it isn't held, or where the rank is above 4294967295.
@@ -123,7 +152,7 @@ impl<'a> Ranks<'a> {
         ensures some { IfSome result (λ i. IsAt self.now.types i (key_of_desc name.entry)) }
         ensures none { IfNone result ((i : ℕ) → i < 2 ^ 32 → ¬ IsAt self.now.types i (key_of_desc name.entry)) }
     {
-        self.types.index_of(name)
+        self.types.names.index_of(name)
     }
 
     /// The rank of a prototype.
@@ -145,7 +174,7 @@ impl<'a> Ranks<'a> {
         ensures some { IfSome result (λ i. IsAt self.now.protos i (key_of_proto name.now)) }
         ensures none { IfNone result ((i : ℕ) → i < 2 ^ 32 → ¬ IsAt self.now.protos i (key_of_proto name.now)) }
     {
-        self.protos.index_of(*name)
+        self.protos.names.index_of(*name)
     }
 
     /// The rank of the shorty of a prototype. A prototype that is held has one, unless it is above 4294967295. Spells none.
@@ -176,7 +205,7 @@ impl<'a> Ranks<'a> {
         ensures some { IfSome result (λ i. IsAt self.now.fields i (key_of_field name.now)) }
         ensures none { IfNone result ((i : ℕ) → i < 2 ^ 32 → ¬ IsAt self.now.fields i (key_of_field name.now)) }
     {
-        self.fields.index_of(*name)
+        self.fields.names.index_of(*name)
     }
 
     /// The rank of a method.
@@ -200,7 +229,70 @@ impl<'a> Ranks<'a> {
         ensures some { IfSome result (λ i. IsAt self.now.methods i (key_of_method name.now)) }
         ensures none { IfNone result ((i : ℕ) → i < 2 ^ 32 → ¬ IsAt self.now.methods i (key_of_method name.now)) }
     {
-        self.methods.index_of(*name)
+        self.methods.names.index_of(*name)
+    }
+
+    /// The rank of the field of this name and type that the class with this rank has. The class's text isn't read.
+    ///
+    /// ```
+    /// use dex_program::{Desc, FieldRef, Str};
+    /// use dex_tables::Needed;
+    ///
+    /// let int = Desc { text: Str { units: &[0x49] } }; // I
+    /// let class = Desc { text: Str { units: &[0x4c, 0x41, 0x3b] } };
+    /// let name = Str { units: &[0x6e] };
+    /// let mut needed = Needed::new(alloc);
+    /// needed.add_field(&FieldRef { class, name, ty: int })?; // LA;->n:I
+    /// assert_eq!(rt; needed.freeze()?.index_of_own_field(1, name, int), Some(0)); // I, LA;
+    /// ```
+    pub fn index_of_own_field(&self, class: usize, name: Str<'a>, ty: Desc<'a>) -> Option<u32>
+        ghost owner: { Units }
+        requires { IsAt self.now.types class (text_key owner) }
+        ensures rank { HasIndex self.now.fields (own_field owner (view.str name.entry) (view.desc ty.entry)) result }
+        ensures some { IfSome result (λ i. IsAt self.now.fields i (own_field owner (view.str name.entry) (view.desc ty.entry))) }
+        ensures none { IfNone result ((i : ℕ) → i < 2 ^ 32 → ¬ IsAt self.now.fields i (own_field owner (view.str name.entry) (view.desc ty.entry))) }
+    {
+        self.rise();
+        let name = self.strings.place_of(&name)?;
+        let ty = self.types.names.place_of(&ty)?;
+        let own = FieldParts { class, name, ty };
+        match self.fields.parts.binary_search(&own) {
+            Ok(at) => u32::try_from(at).ok(),
+            Err(_) => None,
+        }
+    }
+
+    /// The rank of the method of this name and prototype that the class with this rank has. The class's text isn't read.
+    ///
+    /// ```
+    /// use bumpalo::Bump;
+    /// use dex_program::{Desc, MethodRef, Proto, Str};
+    /// use dex_tables::Needed;
+    ///
+    /// let arena = Bump::new(alloc);
+    /// let int = Desc { text: Str { units: &[0x49] } }; // I
+    /// let proto = Proto { ret: int, params: &[] };
+    /// let class = Desc { text: Str { units: &[0x4c, 0x41, 0x3b] } };
+    /// let name = Str { units: &[0x6d] };
+    /// let mut needed = Needed::new(alloc);
+    /// needed.add_method(&arena, &MethodRef { class, name, proto: &proto })?; // LA;->m()I
+    /// assert_eq!(rt; needed.freeze()?.index_of_own_method(1, name, &proto), Some(0)); // I, LA;
+    /// ```
+    pub fn index_of_own_method(&self, class: usize, name: Str<'a>, proto: &Proto<'a>) -> Option<u32>
+        ghost owner: { Units }
+        requires { IsAt self.now.types class (text_key owner) }
+        ensures rank { HasIndex self.now.methods (own_method owner (view.str name.entry) (view.proto proto.now)) result }
+        ensures some { IfSome result (λ i. IsAt self.now.methods i (own_method owner (view.str name.entry) (view.proto proto.now))) }
+        ensures none { IfNone result ((i : ℕ) → i < 2 ^ 32 → ¬ IsAt self.now.methods i (own_method owner (view.str name.entry) (view.proto proto.now))) }
+    {
+        self.rise();
+        let name = self.strings.place_of(&name)?;
+        let proto = self.protos.names.place_of(proto)?;
+        let own = MethodParts { class, name, proto };
+        match self.methods.parts.binary_search(&own) {
+            Ok(at) => u32::try_from(at).ok(),
+            Err(_) => None,
+        }
     }
 
     /// The string with this rank. None past the last; so with the other kinds.
@@ -232,7 +324,7 @@ impl<'a> Ranks<'a> {
     pub fn type_(&self, rank: u32) -> Option<Desc<'a>>
         ensures { option_map key_of_desc result ≡ slice_get self.now.types rank }
     {
-        self.types.name_at(rank)
+        self.types.names.name_at(rank)
     }
 
     /// The prototype with this rank.
@@ -252,7 +344,7 @@ impl<'a> Ranks<'a> {
     pub fn proto(&self, rank: u32) -> Option<Proto<'a>>
         ensures { option_map key_of_proto result ≡ slice_get self.now.protos rank }
     {
-        self.protos.name_at(rank)
+        self.protos.names.name_at(rank)
     }
 
     /// The field with this rank.
@@ -271,7 +363,7 @@ impl<'a> Ranks<'a> {
     pub fn field(&self, rank: u32) -> Option<FieldRef<'a>>
         ensures { option_map key_of_field result ≡ slice_get self.now.fields rank }
     {
-        self.fields.name_at(rank)
+        self.fields.names.name_at(rank)
     }
 
     /// The method with this rank.
@@ -293,7 +385,7 @@ impl<'a> Ranks<'a> {
     pub fn method(&self, rank: u32) -> Option<MethodRef<'a>>
         ensures { option_map key_of_method result ≡ slice_get self.now.methods rank }
     {
-        self.methods.name_at(rank)
+        self.methods.names.name_at(rank)
     }
 
     /// The strings, in the order of their ranks: the rows of the table. So with the other kinds.
@@ -307,27 +399,103 @@ impl<'a> Ranks<'a> {
     pub fn types(&self) -> &[Desc<'a>]
         ensures { map key_of_desc result.now ≡ self.now.types }
     {
-        self.types.names()
+        self.types.names.names()
     }
 
     /// The prototypes, in the order of their ranks.
     pub fn protos(&self) -> &[Proto<'a>]
         ensures { map key_of_proto result.now ≡ self.now.protos }
     {
-        self.protos.names()
+        self.protos.names.names()
     }
 
     /// The fields, in the order of their ranks.
     pub fn fields(&self) -> &[FieldRef<'a>]
         ensures { map key_of_field result.now ≡ self.now.fields }
     {
-        self.fields.names()
+        self.fields.names.names()
     }
 
     /// The methods, in the order of their ranks.
     pub fn methods(&self) -> &[MethodRef<'a>]
         ensures { map key_of_method result.now ≡ self.now.methods }
     {
-        self.methods.names()
+        self.methods.names.names()
+    }
+
+    /// Beside each type, in the order of their ranks, the rank of its descriptor: the rows of the table. So with the other
+    /// kinds. No name is looked up.
+    ///
+    /// ```
+    /// use dex_program::{Desc, Str};
+    /// use dex_tables::Needed;
+    ///
+    /// let mut needed = Needed::new(alloc);
+    /// needed.add_string(Str { units: &[0x41] })?; // A
+    /// needed.add_type(Desc { text: Str { units: &[0x49] } })?; // I
+    /// assert_eq!(rt; needed.freeze()?.type_parts()[0].text, 1);
+    /// ```
+    pub fn type_parts(&self) -> &[TypeParts]
+        ensures { AllZip (TypeAt self.now.strings) self.now.types result.now }
+    {
+        &self.types.parts
+    }
+
+    /// Beside each prototype the rank of its return type.
+    ///
+    /// ```
+    /// use bumpalo::Bump;
+    /// use dex_program::{Desc, Proto, Str};
+    /// use dex_tables::Needed;
+    ///
+    /// let arena = Bump::new(alloc);
+    /// let int = Desc { text: Str { units: &[0x49] } }; // I
+    /// let mut needed = Needed::new(alloc);
+    /// needed.add_proto(&arena, &Proto { ret: int, params: &[] })?;
+    /// assert_eq!(rt; needed.freeze()?.proto_parts()[0].ret, 0);
+    /// ```
+    pub fn proto_parts(&self) -> &[ProtoParts]
+        ensures { AllZip (ProtoAt self.now.types) self.now.protos result.now }
+    {
+        &self.protos.parts
+    }
+
+    /// Beside each field the ranks of its class, its name and its type.
+    ///
+    /// ```
+    /// use dex_program::{Desc, FieldRef, Str};
+    /// use dex_tables::Needed;
+    ///
+    /// let int = Desc { text: Str { units: &[0x49] } }; // I
+    /// let class = Desc { text: Str { units: &[0x4c, 0x41, 0x3b] } };
+    /// let mut needed = Needed::new(alloc);
+    /// needed.add_field(&FieldRef { class, name: Str { units: &[0x6e] }, ty: int })?; // LA;->n:I
+    /// assert_eq!(rt; needed.freeze()?.field_parts()[0].name, 2); // I, LA;, n
+    /// ```
+    pub fn field_parts(&self) -> &[FieldParts]
+        ensures { AllZip (FieldAt self.now.types self.now.strings) self.now.fields result.now }
+    {
+        &self.fields.parts
+    }
+
+    /// Beside each method the ranks of its class, its name and its prototype.
+    ///
+    /// ```
+    /// use bumpalo::Bump;
+    /// use dex_program::{Desc, MethodRef, Proto, Str};
+    /// use dex_tables::Needed;
+    ///
+    /// let arena = Bump::new(alloc);
+    /// let int = Desc { text: Str { units: &[0x49] } }; // I
+    /// let proto = Proto { ret: int, params: &[] };
+    /// let class = Desc { text: Str { units: &[0x4c, 0x41, 0x3b] } };
+    /// let mut needed = Needed::new(alloc);
+    /// needed.add_method(&arena, &MethodRef { class, name: Str { units: &[0x6d] }, proto: &proto })?; // LA;->m()I
+    /// assert_eq!(rt; needed.freeze()?.method_parts()[0].name, 2); // I, LA;, m
+    /// ```
+    pub fn method_parts(&self) -> &[MethodParts]
+        ensures { AllZip (MethodAt self.now.types self.now.strings self.now.protos) self.now.methods result.now }
+    {
+        &self.methods.parts
     }
 }

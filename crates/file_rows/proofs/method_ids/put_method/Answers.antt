@@ -1,4 +1,4 @@
-use Rattle.std.proofs.Common.{◌≡◌, ◌++◌, arith, refl}
+use Rattle.std.proofs.Common.{◌≡◌, ◌++◌, ◌∙◌}
 use Rattle.base_bytes.specs.Fields.{u16_bytes, u32_bytes}
 use Rattle.file_rows.proofs.RowLaws.{three_joined}
 use Rattle.file_rows.proofs.method_ids.put_method.Goals as goal
@@ -6,23 +6,9 @@ use Rattle.file_rows.proofs.method_ids.put_method.Goals as goal
 pub returns-clause-ok : goal.returns-clause-ok
 unfolding u16_bytes u32_bytes
 returns-clause-ok c =
-    let class : c.to_le_bytes.result ≡ u16_bytes c.type_index.result = c.to_le_bytes.ensures in
-    let proto : c.to_le_bytes-2.result ≡ u16_bytes c.proto_index.result = c.to_le_bytes-2.ensures in
-    let name : c.to_le_bytes-3.result ≡ u32_bytes c.string_index.result = c.to_le_bytes-3.ensures in
-    record {
-      bytes = c.to_le_bytes.result ++ (c.to_le_bytes-2.result ++ c.to_le_bytes-3.result);
-      joined = three_joined c.args.rows.now.items _ _ _ c.to_le_bytes.result c.to_le_bytes-2.result c.to_le_bytes-3.result
-          c.in_ok-extend_from_slice.ensures.items c.in_ok-extend_from_slice-2.ensures.items c.in_ok-extend_from_slice-3.ensures.items;
-      spelled = record {
-        class = c.type_index.result;
-        proto = c.proto_index.result;
-        name = c.string_index.result;
-        whole = rw (class, proto, name) refl;
-        small_class = omega arith;
-        small_proto = omega arith;
-        small_name = omega arith;
-        class_is = c.type_index.ensures;
-        proto_is = c.proto_index.ensures;
-        name_is = c.string_index.ensures;
-      };
-    }
+    let class : c.to_le_bytes.result ≡ u16_bytes c.args.method.class = c.to_le_bytes.ensures in
+    let proto : c.to_le_bytes-2.result ≡ u16_bytes c.args.method.proto = c.to_le_bytes-2.ensures in
+    let name : c.to_le_bytes-3.result ≡ u32_bytes c.args.method.name = c.to_le_bytes-3.ensures in
+    three_joined c.args.rows.now.items _ _ _ c.to_le_bytes.result c.to_le_bytes-2.result c.to_le_bytes-3.result
+    c.in_ok-extend_from_slice.ensures.items c.in_ok-extend_from_slice-2.ensures.items c.in_ok-extend_from_slice-3.ensures.items
+    ∙ (λ i. c.args.rows.now.items ++ (class i ++ (proto i ++ name i)))

@@ -1,8 +1,8 @@
 use Rattle.std.proofs.Common.{map, take}
 use Rattle.base_bytes.specs.Grammar.{Appends, Each}
-use Rattle.program_types.specs.View as view
 use Rattle.file_rows.specs.Rows.{SpellsTypeRow}
+use Rattle.file_rows.proofs.PartLaws.{type_of}
 use Rattle.file_rows.proofs.type_ids.put_types.Given as goal
 
 abbrev pub invariant-loop-ty : goal.invariant-loop-ty
-invariant-loop-ty l = Appends (Each (SpellsTypeRow l.ranks)) l.fn.rows.items l.rows.items (map view.desc (take l.ty-index l.ty-items))
+invariant-loop-ty l = Appends (Each (SpellsTypeRow l.ranks)) l.fn.rows.items l.rows.items (map type_of (take l.ty-index l.ranks.types))

@@ -4,7 +4,7 @@ use Rattle.file_layout.proofs.SectionLaws.{Laying-start}
 use Rattle.file_layout.specs.Sections.{AddsSome}
 use Rattle.tables_names.specs.Closure.{NameRanks}
 use Rattle.program_types.specs.View as view
-use Rattle.file_sections.proofs.DataLaws.{members_named}
+use Rattle.file_sections.proofs.DataLaws.{class_held, members_named}
 use Rattle.file_sections.proofs.LayingLaws.{items_few, laid_all, placed_more, room_at}
 use Rattle.file_sections.proofs.NumberLaws.{no_class}
 use Rattle.file_sections.proofs.SitedLaws.{count_in, length-sited, rest_after, rest_enough, rest_next, room_of_sited, sited_at, no_sited}
@@ -25,6 +25,9 @@ split_at-requires c =
     let n = count_in (get_or cs c.loop-class.class-index no_class) in
     let r = ap length c.loop-class.invariant.1 in
     omega (arith, e, n, r)
+
+pub add_data-requires-clause-held : goal.add_data-requires-clause-held
+add_data-requires-clause-held c = class_held c.args.ranks.now (view.program c.args.program.now) c.args.program.now.classes.now c.loop-class.class-index _ c.requires.needed refl c.loop-class-test.true
 
 pub add_data-requires-clause-named : goal.add_data-requires-clause-named
 add_data-requires-clause-named c = members_named c.args.ranks.now (view.program c.args.program.now) c.args.program.now.classes.now c.loop-class.class-index _ c.requires.needed refl c.loop-class-test.true

@@ -11,17 +11,19 @@ use Rattle.file_sections.specs.Named.{HasName}
 use Rattle.file_sections.proofs.class_data.put_fields.Goals as goal
 
 pub loop-member-init : goal.loop-member-init
-loop-member-init c = fields_start _ _ _
+loop-member-init g c = fields_start _ _ _
 
-pub field_index-index-requires-clause-held : goal.field_index-index-requires-clause-held
-field_index-index-requires-clause-held c = all_kept_at (λ m. HasName c.args.ranks.now (field_of_class (view.desc c.args.class) m)) view.member c.args.members.now c.loop-member.member-index _ c.loop-member-test.true c.requires.named
+pub own_field_index-index-requires : goal.own_field_index-index-requires
+own_field_index-index-requires g c =
+    let held = all_kept_at (λ m. HasName c.args.ranks.now (field_of_class g.owner m)) view.member c.args.members.now c.loop-member.member-index _ c.loop-member-test.true c.requires.1.0 in
+    (c.requires.0, (held, c.requires.1.1.0))
 
 pub overflow_sub-index : goal.overflow_sub-index
-overflow_sub-index c = (field_step c.args.ranks.now (view.desc c.args.class) _ _ c.args.members.now c.loop-member.member-index _ _ _ c.rise.ensures.fields c.loop-member-test.true c.requires.rise c.loop-member.invariant c.field_index-index.ensures).1
+overflow_sub-index g c = (field_step c.args.ranks.now g.owner _ _ c.args.members.now c.loop-member.member-index _ _ _ c.rise.ensures.fields c.loop-member-test.true c.requires.1.1.1 c.loop-member.invariant c.own_field_index-index.ensures).1
 
 pub loop-member-preserved : goal.loop-member-preserved
-loop-member-preserved c = fields_more c.args.ranks.now (view.desc c.args.class) _ _ _ c.args.members.now c.loop-member.member-index _ _ _ c.rise.ensures.fields c.loop-member-test.true c.requires.rise c.loop-member.invariant c.field_index-index.ensures c.in_ok-put_field.ensures.ok
+loop-member-preserved g c = fields_more c.args.ranks.now g.owner _ _ _ c.args.members.now c.loop-member.member-index _ _ _ c.rise.ensures.fields c.loop-member-test.true c.requires.1.1.1 c.loop-member.invariant c.own_field_index-index.ensures c.in_ok-put_field.ensures.ok
 
 pub returns-clause-ok : goal.returns-clause-ok
-returns-clause-ok c =
-    subst (λ (xs : List Member). AddsFields (NameRanks c.args.ranks.now) (view.desc c.args.class) c.args.out.now.items c.loop-member.out.items (map view.member xs)) (take_all c.loop-member.member-index c.args.members.now c.loop-member-test.false) c.loop-member.invariant.adds
+returns-clause-ok g c =
+    subst (λ (xs : List Member). AddsFields (NameRanks c.args.ranks.now) g.owner c.args.out.now.items c.loop-member.out.items (map view.member xs)) (take_all c.loop-member.member-index c.args.members.now c.loop-member-test.false) c.loop-member.invariant.adds

@@ -4,4 +4,7 @@ use Rattle.file_sections.proofs.MemberRuns.{MethodsTo}
 use Rattle.file_sections.proofs.class_data.put_methods.Given as goal
 
 abbrev pub invariant-loop-i : goal.invariant-loop-i
-invariant-loop-i l = MethodsTo l.ranks (view.desc l.class) (take l.i l.codes) l.fn.out.items l.out.items (map view.method (take l.i l.methods)) l.last
+invariant-loop-i g l = MethodsTo l.ranks g.owner (take l.i l.codes) l.fn.out.items l.out.items (map view.method (take l.i l.methods)) l.last
+
+abbrev pub ghost-own_method_index : goal.ghost-own_method_index
+ghost-own_method_index g a = g.owner

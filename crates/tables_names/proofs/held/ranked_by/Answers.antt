@@ -1,34 +1,37 @@
-use Rattle.std.proofs.Common.{◌≡◌, ◌∙◌, sym, ap, map, subst, All}
+use Rattle.std.proofs.Common.{◌≡◌, ◌∙◌, sym, ap, map, subst}
 use Rattle.std.specs.Ordering.{is_eq}
+use Rattle.std.proofs.lemmas.List.Sorted.{All-permutation}
 use Rattle.tables_names.specs.Rank.{Rising}
-use Rattle.tables_names.proofs.SortingLemmas.{names_distinct, names_rise, names_same}
+use Rattle.tables_names.specs.Numbers.{set_of}
+use Rattle.tables_names.proofs.SortingLemmas.{names_distinct, names_rise, names_same, rows_stand}
 use Rattle.tables_names.proofs.held.ranked_by.Goals as goal
 
-pub put_all-requires : goal.put_all-requires
-put_all-requires g c =
-    let old = c.in-Some.pairs.items in
-    let names : map (λ p. p.1) old ≡ c.held.inside.items.keys = (rw c.in-Some.is at c.in_ok-made.ensures.names) ∙ c.as_slice.ensures.keys in
-    record {
-      none = c.clear.ensures.empty;
-      distinct = rw c.deref.ensures.value (names_distinct g.N.PartialEq.eq g.met.N.Eq.laws c.held.inside.items.keys old c.sort_unstable.new.self.items names c.sort_unstable.ensures.permutation c.as_slice.ensures.unique);
-    }
+pub with_ranks-requires : goal.with_ranks-requires
+with_ranks-requires g c = rw (c.in_order.ensures.keys, c.deref.ensures.value) c.requires.parts
+
+pub put_all-requires-clause-distinct : goal.put_all-requires-clause-distinct
+put_all-requires-clause-distinct g c =
+    let old = c.in_ok-pairs.pairs.items in
+    rw c.deref-3.ensures.value (names_distinct g.N.PartialEq.eq g.met.N.Eq.laws c.in_order.result.now old c.sort_unstable.new.self.items c.in_ok-pairs.ensures.names c.sort_unstable.ensures.permutation c.in_order.ensures.distinct)
 
 pub invariant_of-result : goal.invariant_of-result
 invariant_of-result g c =
-    let old = c.in-Some.pairs.items in
+    let old = c.in_ok-pairs.pairs.items in
     let new = c.sort_unstable.new.self.items in
-    let put : c.put_all.new.items.keys ≡ map (λ p. p.1) new = c.in_ok-put_all.ensures ∙ ap (map (λ p. p.1)) c.deref.ensures.value in
-    let names : map (λ p. p.1) old ≡ c.held.inside.items.keys = (rw c.in-Some.is at c.in_ok-made.ensures.names) ∙ c.as_slice.ensures.keys in
-    let has : All (λ p. g.N.ByRanks.has c.args.parts.now p.1 p.0) old = rw c.in-Some.is at c.in_ok-made.ensures.ranks in
-    let rise = names_rise g.N.Row.key g.N.Ord.cmp g.met.N.Row.cmp_by_key g.R.Ord.cmp (λ x r. g.N.ByRanks.has c.args.parts.now x r) c.requires g.N.PartialEq.eq g.met.N.Eq.laws (λ x y. g.met.N.Ord.matches_eq x y ∙ ap is_eq (g.met.N.Row.cmp_by_key x y)) c.held.inside.items.keys old new names c.sort_unstable.ensures.permutation c.as_slice.ensures.unique has c.sort_unstable.ensures.sorted in
-    subst (λ (l : _). Rising (map g.N.Row.key l)) (sym put) rise
+    let put : c.put_all.new.items.keys ≡ map (λ p. p.1) new = c.in_ok-put_all.ensures ∙ ap (map (λ p. p.1)) c.deref-3.ensures.value in
+    subst (λ (l : _). Rising (map g.N.Row.key l)) (sym put) (names_rise g.N.Row.key g.N.Ord.cmp g.met.N.Row.cmp_by_key g.P.Ord.cmp (λ x r. g.P.Numbers.has c.args.sorted.now (g.N.Row.key x) r) (λ x y r s a b. c.requires.leads (g.N.Row.key x) (g.N.Row.key y) r s a b) g.N.PartialEq.eq g.met.N.Eq.laws (λ x y. g.met.N.Ord.matches_eq x y ∙ ap is_eq (g.met.N.Row.cmp_by_key x y)) c.in_order.result.now old new c.in_ok-pairs.ensures.names c.sort_unstable.ensures.permutation c.in_order.ensures.distinct c.in_ok-pairs.ensures.ranks c.sort_unstable.ensures.sorted)
 
-pub returns : goal.returns
-returns g c =
-    let old = c.in-Some.pairs.items in
+pub returns-clause-same : goal.returns-clause-same
+returns-clause-same g c =
+    let old = c.in_ok-pairs.pairs.items in
     let new = c.sort_unstable.new.self.items in
-    let put : c.put_all.new.items.keys ≡ map (λ p. p.1) new = c.in_ok-put_all.ensures ∙ ap (map (λ p. p.1)) c.deref.ensures.value in
-    let names : map (λ p. p.1) old ≡ c.held.inside.items.keys = (rw c.in-Some.is at c.in_ok-made.ensures.names) ∙ c.as_slice.ensures.keys in
-    let has : All (λ p. g.N.ByRanks.has c.args.parts.now p.1 p.0) old = rw c.in-Some.is at c.in_ok-made.ensures.ranks in
-    let same = names_same g.N.Row.key g.N.Ord.cmp g.met.N.Row.cmp_by_key g.R.Ord.cmp (λ x r. g.N.ByRanks.has c.args.parts.now x r) c.requires g.N.PartialEq.eq g.met.N.Eq.laws (λ x y. g.met.N.Ord.matches_eq x y ∙ ap is_eq (g.met.N.Row.cmp_by_key x y)) c.held.inside.items.keys old new names c.sort_unstable.ensures.permutation c.as_slice.ensures.unique has c.sort_unstable.ensures.sorted in
-    ap (map g.N.Row.key) put ∙ same ∙ c.held.view_is
+    let put : c.put_all.new.items.keys ≡ map (λ p. p.1) new = c.in_ok-put_all.ensures ∙ ap (map (λ p. p.1)) c.deref-3.ensures.value in
+    ap (map g.N.Row.key) put ∙ names_same g.N.Row.key g.N.Ord.cmp g.met.N.Row.cmp_by_key g.P.Ord.cmp (λ x r. g.P.Numbers.has c.args.sorted.now (g.N.Row.key x) r) (λ x y r s a b. c.requires.leads (g.N.Row.key x) (g.N.Row.key y) r s a b) g.N.PartialEq.eq g.met.N.Eq.laws (λ x y. g.met.N.Ord.matches_eq x y ∙ ap is_eq (g.met.N.Row.cmp_by_key x y)) c.in_order.result.now old new c.in_ok-pairs.ensures.names c.sort_unstable.ensures.permutation c.in_order.ensures.distinct c.in_ok-pairs.ensures.ranks c.sort_unstable.ensures.sorted ∙ ap set_of c.in_order.ensures.keys
+
+pub returns-clause-rows : goal.returns-clause-rows
+returns-clause-rows g c =
+    let new = c.sort_unstable.new.self.items in
+    let put : c.put_all.new.items.keys ≡ map (λ p. p.1) new = c.in_ok-put_all.ensures ∙ ap (map (λ p. p.1)) c.deref-3.ensures.value in
+    let rows : c.in_ok-parts.parts.items ≡ map (λ p. p.0) new = c.in_ok-parts.ensures ∙ ap (map (λ p. p.0)) c.deref-2.ensures.value in
+    let has = All-permutation (λ p. g.P.Numbers.has c.args.sorted.now (g.N.Row.key p.1) p.0) c.in_ok-pairs.pairs.items new c.sort_unstable.ensures.permutation c.in_ok-pairs.ensures.ranks in
+    rw (put, rows) (rows_stand g.N.Row.key (g.P.Numbers.has c.args.sorted.now) new has)

@@ -1,16 +1,28 @@
 use Rattle.std.proofs.Common.{refl, arith}
 use Rattle.std.proofs.lemmas.List.Elements.{All-nil}
-use Rattle.tables_names.proofs.SortingLemmas.{names_pushed, ranks_pushed}
+use Rattle.tables_names.proofs.SortingLemmas.{names_pushed, ranks_pushed, beside, beside_length}
 use Rattle.tables_names.proofs.sorting.with_ranks.Goals as goal
 
-pub loop-name-init : goal.loop-name-init
-loop-name-init g c = rw c.in_ok-pairs.ensures.items (record { names = refl; ranks = All-nil _ })
+pub loop-i-init : goal.loop-i-init
+loop-i-init g c = rw c.in_ok-pairs.ensures.items (record { names = refl; ranks = All-nil _ })
 
-pub loop-name-preserved : goal.loop-name-preserved
-loop-name-preserved g c =
-    let at = c.loop-name in
+pub bounds-parts-i : goal.bounds-parts-i
+bounds-parts-i g c =
+    beside_length g.N.Row.key (λ k p. g.P.Numbers.within c.args.sorted.now p × g.P.Numbers.has c.args.sorted.now k (g.P.Numbers.ranked c.args.sorted.now p)) c.args.names.now c.args.parts.now c.loop-i.i c.requires (omega arith)
+
+pub offset_bounds-parts-i : goal.offset_bounds-parts-i
+offset_bounds-parts-i g c = omega (arith, bounds-parts-i g c)
+
+pub ranks-requires : goal.ranks-requires
+ranks-requires g c =
+    (beside g.N.Row.key (λ k p. g.P.Numbers.within c.args.sorted.now p × g.P.Numbers.has c.args.sorted.now k (g.P.Numbers.ranked c.args.sorted.now p)) c.args.names.now c.args.parts.now c.loop-i.i c.index-names-i.result c.index-parts-i.result c.requires (omega arith) c.index-names-i.is c.index-parts-i.is).0
+
+pub loop-i-preserved : goal.loop-i-preserved
+loop-i-preserved g c =
+    let at = c.loop-i in
     let pushed = c.in_ok-push.ensures.items in
+    let here = beside g.N.Row.key (λ k p. g.P.Numbers.within c.args.sorted.now p × g.P.Numbers.has c.args.sorted.now k (g.P.Numbers.ranked c.args.sorted.now p)) c.args.names.now c.args.parts.now at.i c.index-names-i.result c.index-parts-i.result c.requires (omega arith) c.index-names-i.is c.index-parts-i.is in
     record {
-      names = names_pushed c.args.names.now at.pairs.items c.push.new.self.items at.name-index c.name-item.result c.in-Some.ranks (omega arith) c.name-item.is pushed at.invariant.names;
-      ranks = ranks_pushed (λ x r. g.N.ByRanks.has c.args.parts.now x r) at.pairs.items c.push.new.self.items c.name-item.result c.in-Some.ranks pushed at.invariant.ranks c.in-Some.ensures;
+      names = names_pushed c.args.names.now at.pairs.items c.push.new.self.items at.i c.index-names-i.result c.ranks.result (omega arith) c.index-names-i.is pushed at.invariant.names;
+      ranks = ranks_pushed (λ x r. g.P.Numbers.has c.args.sorted.now (g.N.Row.key x) r) at.pairs.items c.push.new.self.items c.index-names-i.result c.ranks.result pushed at.invariant.ranks (rw c.ranks.ensures here.1);
     }

@@ -1,0 +1,4 @@
+use Rattle.tables_names.proofs.ranks.Ranks.type_parts.Goals as goal
+
+pub returns : goal.returns
+returns c = rw (c.deref.ensures.value, ← c.self.view_is) c.self.invariant.parts.types

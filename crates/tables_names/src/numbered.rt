@@ -1,0 +1,326 @@
+//! Names of all five kinds in the order of first need, and beside each the numbers of its parts.
+//!
+//! A name is added behind its parts, so their numbers are at hand then, and no part is looked up again to sort a kind or to
+//! write its rows.
+ghost use Rattle.std.specs.Prelude.{◌≡◌, ◌∷◌, OnOk, OnErr, IfOk, IsOkUnless, All, map};
+ghost use Rattle.std.specs.List.{AllByRecursion, AllZip};
+ghost use Rattle.base_bytes.specs.Fault.{memory};
+ghost use Rattle.dex_base.specs.Descriptor.{IsDescriptor};
+ghost use Rattle.program_types.specs.Content.{OfText, OfDesc, OfField, OfMethod};
+ghost use Rattle.program_types.specs.Mentions.{field_of_class};
+ghost use Rattle.program_types.specs.View.{str, desc, proto, field_ref, method_ref, member, method};
+ghost use Rattle.tables_names.specs.Keys.{key_of_str, key_of_desc, key_of_proto};
+ghost use Rattle.tables_names.specs.Rank.{IsAt};
+ghost use Rattle.tables_names.specs.Closure.{nothing, with_name, with_names, with_proto, with_parts, with_proto_parts, method_of_class, AddsPart, HasShorty};
+ghost use Rattle.tables_names.specs.Numbers.{sets, set_of, AllGrow, IsNumbered, RanksOf, TypeAt, ProtoAt, FieldAt, MethodAt, FieldLeads, MethodLeads};
+
+use crate::held::{Held, Made, Table, ranked_by};
+use crate::parts::{FieldParts, MethodParts, ProtoParts, TypeParts};
+use crate::ranks::Ranks;
+use crate::sorting::{Parts, sorted_by, sorted_strings};
+use bumpalo::Bump;
+use dex_base::Fault;
+use program_types::{Desc, FieldRef, Member, Method, MethodRef, Proto, Str, shorty_of};
+use std::alloc::{AllocError, Global};
+use std::marker::Model;
+
+/// Names of each of the five kinds, with each name its parts. It stands for the lists and the numbers
+/// (`specs/Numbers.antt`).
+///
+/// A name that was refused for want of memory may have left some of its parts; all that was held is held.
+#[derive(Drop)]
+pub(crate) struct Numbered<'a> {
+    alloc: Global,
+    strings: Held<Str<'a>>,
+    types: Made<Desc<'a>, TypeParts>,
+    protos: Made<Proto<'a>, ProtoParts>,
+    fields: Made<FieldRef<'a>, FieldParts>,
+    methods: Made<MethodRef<'a>, MethodParts>,
+}
+
+impl<'a> Model for Numbered<'a> {
+    ghost use Rattle.tables_names.specs.Numbers.{Order, IsNumbered};
+
+    ghost Value = { Order };
+
+    ghost view = { λ n. record {
+      names = record { strings = n.strings; types = n.types.names; protos = n.protos.names; fields = n.fields.names; methods = n.methods.names };
+      types = n.types.parts.items;
+      protos = n.protos.parts.items;
+      fields = n.fields.parts.items;
+      methods = n.methods.parts.items;
+    } };
+
+    ghost invariant = { λ n. IsNumbered record {
+      names = record { strings = n.strings; types = n.types.names; protos = n.protos.names; fields = n.fields.names; methods = n.methods.names };
+      types = n.types.parts.items;
+      protos = n.protos.parts.items;
+      fields = n.fields.parts.items;
+      methods = n.methods.parts.items;
+    } };
+}
+
+#[tactic(auto, unfolding(crate::specs::Closure::with_name, crate::specs::Closure::with_proto, crate::specs::Closure::with_parts, crate::specs::Closure::with_proto_parts))]
+impl<'a> Numbered<'a> {
+    /// No name. Takes no memory.
+    pub(crate) fn new(alloc: Global) -> Self
+        ensures { result.names ≡ nothing }
+    {
+        Numbered {
+            alloc,
+            strings: Held::new(alloc),
+            types: Made::new(alloc),
+            protos: Made::new(alloc),
+            fields: Made::new(alloc),
+            methods: Made::new(alloc),
+        }
+    }
+
+    /// Beside each name its parts are held, and their numbers.
+    pub(crate) fn has_parts(&self)
+        ensures { IsNumbered self.now }
+    {
+        // Only for the proof: what holds of each value of its type.
+        let _ = &self.strings;
+    }
+
+    /// Adds a string, and gives its number, as the other additions do.
+    pub(crate) fn add_string(&mut self, name: Str<'a>) -> Result<usize, AllocError>
+        ensures added { OnOk result (sets self.new.names ≡ with_name (sets self.old.names) (OfText (str name.entry))) }
+        ensures number { IfOk result (λ n. IsAt self.new.names.strings n (key_of_str name.entry)) }
+        ensures grows { OnOk result (AllGrow self.old.names self.new.names) }
+        ensures unchanged { OnErr result (self.new ≡ self.old) }
+    {
+        let number = self.strings.add(name)?;
+        Ok(number)
+    }
+
+    /// Adds a type, and its descriptor as a string.
+    pub(crate) fn add_type(&mut self, name: Desc<'a>) -> Result<usize, AllocError>
+        ensures added { OnOk result (sets self.new.names ≡ with_name (sets self.old.names) (OfDesc (desc name.entry))) }
+        ensures number { IfOk result (λ n. IsAt self.new.names.types n (key_of_desc name.entry)) }
+        ensures grows { OnOk result (AllGrow self.old.names self.new.names) }
+        ensures partly { OnErr result (AddsPart (sets self.old.names) (sets self.new.names) (with_parts (sets self.old.names) (OfDesc (desc name.entry)))) }
+    {
+        if let Some(number) = self.types.names.number_of(&name) {
+            return Ok(number);
+        }
+        let text = self.add_string(name.text)?;
+        let number = self.types.add(name, TypeParts { text })?;
+        Ok(number)
+    }
+
+    /// Adds a prototype, its shorty, its return type and its parameters. The arena holds the shorty, which is spelled only
+    /// where the prototype isn't held yet.
+    pub(crate) fn add_proto(&mut self, arena: &'a Bump, name: &Proto<'a>) -> Result<usize, Fault>
+        requires ret { IsDescriptor (desc name.now.ret) }
+        requires params { All IsDescriptor (map desc name.now.params.now) }
+        ensures added { OnOk result (sets self.new.names ≡ with_proto (sets self.old.names) (proto name.now)) }
+        ensures number { IfOk result (λ n. IsAt self.new.names.protos n (key_of_proto name.now)) }
+        ensures grows { OnOk result (AllGrow self.old.names self.new.names) }
+        ensures partly { OnErr result (AddsPart (sets self.old.names) (sets self.new.names) (with_proto_parts (sets self.old.names) (proto name.now))) }
+        ensures memory { IsOkUnless result memory }
+    {
+        if let Some(number) = self.protos.names.number_of(name) {
+            return Ok(number);
+        }
+        self.add_string(shorty_of(self.alloc, arena, name.ret, name.params)?)?;
+        let ret = self.add_type(name.ret)?;
+        for param in name.params {
+            self.add_type(*param)?;
+        }
+        let number = self.protos.add(*name, ProtoParts { ret })?;
+        Ok(number)
+    }
+
+    /// Adds a method, its class, its name and its prototype. The arena holds the shorty.
+    pub(crate) fn add_method(&mut self, arena: &'a Bump, name: &MethodRef<'a>) -> Result<(), Fault>
+        requires ret { IsDescriptor (desc name.now.proto.now.ret) }
+        requires params { All IsDescriptor (map desc name.now.proto.now.params.now) }
+        ensures added { OnOk result (sets self.new.names ≡ with_name (sets self.old.names) (OfMethod (method_ref name.now))) }
+        ensures partly { OnErr result (AddsPart (sets self.old.names) (sets self.new.names) (with_parts (sets self.old.names) (OfMethod (method_ref name.now)))) }
+        ensures memory { IsOkUnless result memory }
+    {
+        if self.methods.names.holds(name) {
+            return Ok(());
+        }
+        let class = self.add_type(name.class)?;
+        self.add_method_in(arena, class, name)
+    }
+
+    /// Adds a field, its class, its name and its type.
+    pub(crate) fn add_field(&mut self, name: &FieldRef<'a>) -> Result<(), AllocError>
+        ensures added { OnOk result (sets self.new.names ≡ with_name (sets self.old.names) (OfField (field_ref name.now))) }
+        ensures partly { OnErr result (AddsPart (sets self.old.names) (sets self.new.names) (with_parts (sets self.old.names) (OfField (field_ref name.now)))) }
+    {
+        if self.fields.names.holds(name) {
+            return Ok(());
+        }
+        let class = self.add_type(name.class)?;
+        self.add_field_in(class, name)
+    }
+
+    // Adds a field of the class with this number, its name and its type.
+    fn add_field_in(&mut self, class: usize, name: &FieldRef<'a>) -> Result<(), AllocError>
+        requires { IsAt self.old.names.types class (key_of_desc name.now.class) }
+        ensures added { OnOk result (sets self.new.names ≡ with_name (sets self.old.names) (OfField (field_ref name.now))) }
+        ensures grows { OnOk result (AllGrow self.old.names self.new.names) }
+        ensures partly { OnErr result (AddsPart (sets self.old.names) (sets self.new.names) (with_parts (sets self.old.names) (OfField (field_ref name.now)))) }
+    {
+        if self.fields.names.holds(name) {
+            return Ok(());
+        }
+        let text = self.add_string(name.name)?;
+        let ty = self.add_type(name.ty)?;
+        let parts = FieldParts {
+            class,
+            name: text,
+            ty,
+        };
+        self.fields.add(*name, parts)?;
+        Ok(())
+    }
+
+    // Adds a method of the class with this number, its name and its prototype.
+    fn add_method_in(
+        &mut self,
+        arena: &'a Bump,
+        class: usize,
+        name: &MethodRef<'a>,
+    ) -> Result<(), Fault>
+        requires class { IsAt self.old.names.types class (key_of_desc name.now.class) }
+        requires ret { IsDescriptor (desc name.now.proto.now.ret) }
+        requires params { All IsDescriptor (map desc name.now.proto.now.params.now) }
+        ensures added { OnOk result (sets self.new.names ≡ with_name (sets self.old.names) (OfMethod (method_ref name.now))) }
+        ensures grows { OnOk result (AllGrow self.old.names self.new.names) }
+        ensures partly { OnErr result (AddsPart (sets self.old.names) (sets self.new.names) (with_parts (sets self.old.names) (OfMethod (method_ref name.now)))) }
+        ensures memory { IsOkUnless result memory }
+    {
+        if self.methods.names.holds(name) {
+            return Ok(());
+        }
+        let text = self.add_string(name.name)?;
+        let proto = self.add_proto(arena, name.proto)?;
+        let parts = MethodParts {
+            class,
+            name: text,
+            proto,
+        };
+        self.methods.add(*name, parts)?;
+        Ok(())
+    }
+
+    /// Adds a class and the fields that it defines. The class is looked up once.
+    pub(crate) fn add_fields_of<'p: 'a>(
+        &mut self,
+        class: Desc<'a>,
+        fields: &[Member<'p>],
+    ) -> Result<(), AllocError>
+        ensures added { OnOk result (sets self.new.names ≡ with_names (sets self.old.names) (OfDesc (desc class.entry) ∷ map (field_of_class (desc class.entry)) (map member fields.now))) }
+        ensures partly { OnErr result (AddsPart (sets self.old.names) (sets self.new.names) (with_names (sets self.old.names) (OfDesc (desc class.entry) ∷ map (field_of_class (desc class.entry)) (map member fields.now)))) }
+    {
+        let number = self.add_type(class)?;
+        for field in fields {
+            let name = FieldRef {
+                class,
+                name: field.name,
+                ty: field.ty,
+            };
+            self.add_field_in(number, &name)?;
+        }
+        Ok(())
+    }
+
+    /// Adds a class and the methods that it defines. The arena holds the shorties.
+    pub(crate) fn add_methods_of<'p: 'a>(
+        &mut self,
+        arena: &'a Bump,
+        class: Desc<'a>,
+        methods: &[Method<'p>],
+    ) -> Result<(), Fault>
+        requires { AllByRecursion HasShorty (map (method_of_class (desc class)) (map method methods.now)) }
+        ensures added { OnOk result (sets self.new.names ≡ with_names (sets self.old.names) (OfDesc (desc class.entry) ∷ map (method_of_class (desc class.entry)) (map method methods.now))) }
+        ensures partly { OnErr result (AddsPart (sets self.old.names) (sets self.new.names) (with_names (sets self.old.names) (OfDesc (desc class.entry) ∷ map (method_of_class (desc class.entry)) (map method methods.now)))) }
+        ensures memory { IsOkUnless result memory }
+    {
+        let number = self.add_type(class)?;
+        for one in methods {
+            let name = MethodRef {
+                class,
+                name: one.name,
+                proto: one.proto,
+            };
+            self.add_method_in(arena, number, &name)?;
+        }
+        Ok(())
+    }
+
+    /// The names with their ranks. Refused only for want of memory.
+    pub(crate) fn freeze(self) -> Result<Ranks<'a>, AllocError>
+        ensures { IfOk result (λ r. r ≡ sets self.entry.names) }
+    {
+        let Numbered {
+            alloc,
+            strings,
+            types,
+            protos,
+            fields,
+            methods,
+        } = self;
+        let (parts, types, protos) = ranked_parts(alloc, strings, types, protos)?;
+        let (fields, methods) = ranked_members(alloc, &parts, fields, methods)?;
+        Ok(Ranks::new(parts, types, protos, fields, methods))
+    }
+}
+
+// Three kinds with their ranks, and the ranks of the parts of two.
+fn ranked_parts<'a>(
+    alloc: Global,
+    strings: Held<Str<'a>>,
+    types: Made<Desc<'a>, TypeParts>,
+    protos: Made<Proto<'a>, ProtoParts>,
+) -> Result<(Parts<'a>, Vec<TypeParts>, Vec<ProtoParts>), AllocError>
+    requires types { AllZip (TypeAt strings) types.names types.parts.items }
+    requires protos { AllZip (ProtoAt types.names) protos.names protos.parts.items }
+    ensures names { IfOk result (λ r. (r.0.strings.names ≡ set_of strings.entry) × (r.0.types.names ≡ set_of types.entry.names) × (r.0.protos.names ≡ set_of protos.entry.names)) }
+    ensures ranks { IfOk result (λ r. RanksOf strings.entry r.0.strings.names r.0.strings.ranks.items × RanksOf types.entry.names r.0.types.names r.0.types.ranks.items × RanksOf protos.entry.names r.0.protos.names r.0.protos.ranks.items) }
+    ensures rows { IfOk result (λ r. AllZip (TypeAt r.0.strings.names) r.0.types.names r.1.items × AllZip (ProtoAt r.0.types.names) r.0.protos.names r.2.items) }
+{
+    let strings = sorted_strings(alloc, strings)?;
+    strings.names.rises();
+    let (types, type_rows) = sorted_by(alloc, types, &strings)?;
+    types.names.rises();
+    let (protos, proto_rows) = sorted_by(alloc, protos, &types)?;
+    let parts = Parts {
+        strings,
+        types,
+        protos,
+    };
+    Ok((parts, type_rows, proto_rows))
+}
+
+// Two kinds with their ranks.
+fn ranked_members<'a>(
+    alloc: Global,
+    parts: &Parts<'a>,
+    fields: Made<FieldRef<'a>, FieldParts>,
+    methods: Made<MethodRef<'a>, MethodParts>,
+) -> Result<
+    (
+        Table<FieldRef<'a>, FieldParts>,
+        Table<MethodRef<'a>, MethodParts>,
+    ),
+    AllocError,
+>
+    requires fields { AllZip (FieldLeads parts.now.types.names parts.now.types.ranks.items parts.now.strings.names parts.now.strings.ranks.items) fields.names fields.parts.items }
+    requires methods { AllZip (MethodLeads parts.now.types.names parts.now.types.ranks.items parts.now.strings.names parts.now.strings.ranks.items parts.now.protos.names parts.now.protos.ranks.items) methods.names methods.parts.items }
+    ensures names { IfOk result (λ r. (r.0.names ≡ set_of fields.entry.names) × (r.1.names ≡ set_of methods.entry.names)) }
+    ensures rows { IfOk result (λ r. AllZip (FieldAt parts.now.types.names parts.now.strings.names) r.0.names r.0.parts.items × AllZip (MethodAt parts.now.types.names parts.now.strings.names parts.now.protos.names) r.1.names r.1.parts.items) }
+{
+    parts.strings.names.rises();
+    parts.types.names.rises();
+    parts.protos.names.rises();
+    let fields = ranked_by(alloc, fields, parts)?;
+    let methods = ranked_by(alloc, methods, parts)?;
+    Ok((fields, methods))
+}
