@@ -67,6 +67,7 @@ pub fn own_field_index(ranks: &Ranks<'_>, class: usize, name: Str<'_>, ty: Desc<
     requires few { length ranks.now.fields ≤ 2 ^ 32 }
     ensures { IsAt ranks.now.fields result (own_field owner (view.str name.entry) (view.desc ty.entry)) }
 {
+    // A reborrow, which a call with a ghost value needs here.
     match (&*ranks).index_of_own_field(class, name, ty) {
         Some(index) => index,
         None => unreachable!(),
@@ -81,6 +82,7 @@ pub fn own_method_index(ranks: &Ranks<'_>, class: usize, name: Str<'_>, proto: &
     requires few { length ranks.now.methods ≤ 2 ^ 32 }
     ensures { IsAt ranks.now.methods result (own_method owner (view.str name.entry) (view.proto proto.now)) }
 {
+    // Reborrows, as above.
     match (&*ranks).index_of_own_method(class, name, &*proto) {
         Some(index) => index,
         None => unreachable!(),

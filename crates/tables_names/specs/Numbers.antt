@@ -91,26 +91,29 @@ pub record AllGrow (old new : Five) : Type 0 where
 abbrev pub RanksOf : List Key → List Key → List ℕ → Type 0
 RanksOf names table ranks = AllZip (λ k rank. IsAt table rank k) names ranks
 
--- the ranks of the parts of a field, and of a method
+-- the ranks of the parts of a field
 abbrev pub field_ranks : List ℕ → List ℕ → FieldParts → FieldParts
 field_ranks types strings p = record { class = slice_index types p.class; name = slice_index strings p.name; ty = slice_index types p.ty }
 
+-- the ranks of the parts of a method
 abbrev pub method_ranks : List ℕ → List ℕ → List ℕ → MethodParts → MethodParts
 method_ranks types strings protos p =
     record { class = slice_index types p.class; name = slice_index strings p.name; proto = slice_index protos p.proto }
 
--- there are ranks for these numbers
+-- there are ranks for these numbers of a field's parts
 abbrev pub FieldWithin : List ℕ → List ℕ → FieldParts → Type 0
 FieldWithin types strings p = (p.class < length types) × (p.name < length strings) × (p.ty < length types)
 
+-- there are ranks for these numbers of a method's parts
 abbrev pub MethodWithin : List ℕ → List ℕ → List ℕ → MethodParts → Type 0
 MethodWithin types strings protos p = (p.class < length types) × (p.name < length strings) × (p.proto < length protos)
 
--- these numbers have ranks, and they are those of the parts of the name k
+-- these numbers have ranks, and they are those of the parts of the field k
 abbrev pub FieldLeads : List Key → List ℕ → List Key → List ℕ → Key → FieldParts → Type 0
 FieldLeads types type_ranks strings string_ranks k p =
     FieldWithin type_ranks string_ranks p × FieldAt types strings k (field_ranks type_ranks string_ranks p)
 
+-- these numbers have ranks, and they are those of the parts of the method k
 abbrev pub MethodLeads : List Key → List ℕ → List Key → List ℕ → List Key → List ℕ → Key → MethodParts → Type 0
 MethodLeads types type_ranks strings string_ranks protos proto_ranks k p =
     MethodWithin type_ranks string_ranks proto_ranks p × MethodAt types strings protos k (method_ranks type_ranks string_ranks proto_ranks p)

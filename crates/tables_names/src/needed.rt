@@ -63,8 +63,8 @@ impl<'a> Needed<'a> {
         self.numbered.has_parts();
     }
 
-    /// Adds a string. Refused only for want of memory, as all additions are: what was held is held then, and beyond it
-    /// at most parts of the name, never the name itself.
+    /// Adds a string. Refused only for want of memory, as all additions are: what was held is held then, and beyond it,
+    /// where one name is added, at most parts of the name, never the name itself.
     ///
     /// ```
     /// use dex_program::Str;
@@ -176,7 +176,8 @@ impl<'a> Needed<'a> {
         Ok(())
     }
 
-    /// Adds a class and the fields that it defines, each with its parts. The class's name is looked up once.
+    /// Adds a class and the fields that it defines, each with its parts. The class's name is looked up once. After a refusal
+    /// some of these names may have come, and parts of the next.
     ///
     /// ```
     /// use dex_program::{Desc, Member, Str};
@@ -203,7 +204,7 @@ impl<'a> Needed<'a> {
     }
 
     /// Adds a class and the methods that it defines, each with its parts, but nothing of their code. The arena holds the
-    /// shorties. The class's name is looked up once.
+    /// shorties. The class's name is looked up once, and after a refusal some of these names may have come.
     ///
     /// ```
     /// use bumpalo::Bump;
