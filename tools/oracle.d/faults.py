@@ -6,6 +6,7 @@ FORMAT's; the pages in quotes are those of FORMAT's first table.
 
 A text has a character of 0 to 0xffff for each unit of UTF-16, surrogates as they stand, so that texts compare by units.
 """
+import functools
 import hashlib
 import struct
 import zlib
@@ -113,6 +114,7 @@ def is_name_unit(unit):
     return any(low <= unit <= high for low, high in ranges)
 
 
+@functools.lru_cache(1 << 16)
 def is_simple_name(text):
     at = 0
     while at < len(text):

@@ -29,14 +29,23 @@ def closed(data):
     return bytes(data)
 
 
+# What a layout chooses, each by its name: the odd choice of "order" has tables and sections in any order, and so on.
+CHOICES = (
+    "order", "section order", "string order", "item order", "unknown sections", "gaps", "sharing", "empty items",
+    "numbers", "values", "padding", "handler order", "tries", "debug_info_off", "junk")
+
+
 class Layout:
-    """How a file is laid out: with rng, each choice is the odd one with the probability `odd`; without it, none is."""
+    """How a file is laid out: with rng, each choice is the odd one with the probability `odd`; without it, none is.
+    With `only`, a choice, no other is."""
 
-    def __init__(self, rng=None, odd=0.0):
-        self.rng, self.odd = rng, odd
+    def __init__(self, rng=None, odd=0.0, only=None):
+        self.rng, self.odd, self.only = rng, odd, only
 
-    def chance(self, share=1.0):
-        return self.rng is not None and self.rng.random() < self.odd * share
+    def chance(self, choice, share=1.0):
+        if self.rng is None or self.only not in (None, choice):
+            return False
+        return self.rng.random() < self.odd * share
 
 
 # ------------------------------------------------------------------------------------------------------------ spellings
@@ -44,7 +53,7 @@ class Layout:
 
 def sevens(parts, filler, layout):
     """Seven bits a byte, now and then with more bytes than needed."""
-    while len(parts) < 5 and layout.chance(1 / 8):
+    while len(parts) < 5 and layout.chance("numbers", 1 / 8):
         parts.append(filler)
     return bytes(part | 0x80 for part in parts[:-1]) + bytes(parts[-1:])
 
@@ -154,14 +163,14 @@ class Names:
 
 def signed_value(kind, number, most, layout):
     width = 1
-    while not -(1 << 8 * width - 1) <= number < 1 << 8 * width - 1 or (width < most and layout.chance(1 / 4)):
+    while not -(1 << 8 * width - 1) <= number < 1 << 8 * width - 1 or (width < most and layout.chance("values", 1 / 4)):
         width += 1
     return bytes([width - 1 << 5 | kind]) + number.to_bytes(width, "little", signed=True)
 
 
 def unsigned_value(kind, number, most, layout):
     width = 1
-    while number >= 1 << 8 * width or (width < most and layout.chance(1 / 4)):
+    while number >= 1 << 8 * width or (width < most and layout.chance("values", 1 / 4)):
         width += 1
     return bytes([width - 1 << 5 | kind]) + number.to_bytes(width, "little")
 
@@ -173,7 +182,7 @@ def value_bytes(names, value, layout):
         return signed_value(head, held, most, layout)
     if kind in ("float", "double"):
         high = held.to_bytes(4 if kind == "float" else 8, "little")
-        while len(high) > 1 and high[0] == 0 and not layout.chance():
+        while len(high) > 1 and high[0] == 0 and not layout.chance("values"):
             high = high[1:]
         return bytes([len(high) - 1 << 5 | (0x10 if kind == "float" else 0x11)]) + high
     if kind == "char":
@@ -239,7 +248,7 @@ def instruction_bytes(names, instruction, at, addresses):
 def tries_bytes(names, tries, addresses, layout):
     """The try_items and the list of handlers."""
     handlers = list(dict.fromkeys((tuple(catches), other) for _, _, catches, other in tries))
-    if layout.chance():
+    if layout.chance("handler order"):
         layout.rng.shuffle(handlers)
     listed, begins, items = uleb128(len(handlers), layout), {}, b""
     for catches, other in handlers:
@@ -268,7 +277,7 @@ def code_bytes(names, code, layout):
     if not tries:
         return out
     if addresses[-1] % 2:
-        out += b"\xaa\x55" if layout.chance() else b"\0\0"
+        out += b"\xaa\x55" if layout.chance("padding") else b"\0\0"
     return out + tries_bytes(names, tries, addresses, layout)
 
 
@@ -314,19 +323,19 @@ class Draft:
         self.sizes = [len(self.names.index[kind]) for kind in ("string", "type", "proto", "field", "method")]
         self.sizes.append(len(classes))
         self.blocks = self.ordered_blocks()
-        self.has_shared, self.has_empty = layout.chance(), layout.chance()
+        self.has_shared, self.has_empty = layout.chance("sharing"), layout.chance("empty items")
         self.offsets = {section: {} for section in KIND_OF}
         self.place, self.pieces = {}, []
 
     def ordered_blocks(self):
         """Tables by their numbers, sections by their names, in the order in which they stand in the file."""
         tables, sections = list(range(6)), ["lists", "codes", "strings", "arrays", "members", "map"]
-        if self.layout.chance():
+        if self.layout.chance("unknown sections"):
             sections += [other for other in NOT_LOOKED_AT if self.layout.rng.random() < 0.3]
         blocks = tables + sections
-        if self.layout.chance():
+        if self.layout.chance("order"):
             self.layout.rng.shuffle(blocks)
-        elif self.layout.chance():
+        elif self.layout.chance("section order"):
             self.layout.rng.shuffle(sections)
             blocks = tables + sections
         return blocks
@@ -349,7 +358,7 @@ class Draft:
                             yield (i, group, j), code_bytes(names, method[3], layout)
         elif section == "strings":
             texts = list(names.index["string"])
-            if layout.chance():
+            if layout.chance("string order"):
                 layout.rng.shuffle(texts)
             for text in texts:
                 yield text, uleb128(len(text), layout) + mutf8(text) + b"\0"
@@ -387,7 +396,7 @@ class Draft:
                 self.place[block] = at
                 at += self.sizes[block] * WIDTHS[block]
                 continue
-            if self.layout.chance(1 / 2):
+            if self.layout.chance("gaps", 1 / 2):
                 at += self.layout.rng.randrange(1, 9)
             if block in ALIGNED:
                 at += -at % 4
