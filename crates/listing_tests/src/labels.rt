@@ -179,7 +179,7 @@ fn the_first_line_tells_the_form(rt: HostRuntime) -> Result<(), Fail> {
         ("dex 036 listing 2\n", fault::LINE_WORD, 1),
         ("dex 035 listing 2\ndex 035 listing 2\n", fault::LINE_ORDER, 2),
         ("dex 035 listing 2\ndex 035\n", fault::LINE_ORDER, 2),
-        ("dex 035 listing 2\nclass LA; 0x1\ndirect m ()V 0x9\n:a\ncode 1 0 0\n", fault::LINE_ORDER, 4),
+        ("dex 035 listing 2\nclass LA; 0x1\nsuper Ljava/lang/Object;\ndirect m ()V 0x9\n:a\ncode 1 0 0\n", fault::LINE_ORDER, 5),
         ("dex 035 listing 2\n:a\n", fault::LINE_ORDER, 2),
         ("dex 035 listing 2\n:@\n", fault::LINE_ORDER, 2),
         ("dex 035 listing 2\nclass LA; 0x1\ndirect m ()V 0x9\ncode 1 0 0\n:a\n", fault::LINE_NOT_ENDED, 5),
