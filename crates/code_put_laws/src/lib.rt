@@ -6,11 +6,12 @@
 #![tactic(auto)]
 
 ghost use Rattle.std.specs.Prelude.{◌≡◌, ◌<◌, ◌≤◌, ℕ, List, length, slice_index};
+ghost use Rattle.base_bytes.specs.Fields.{AreBytes};
 ghost use Rattle.dex_insn.specs.Raw.{Raw};
 ghost use Rattle.program_types.specs.Content.{Insn, Code, Try};
 ghost use Rattle.program_types.specs.Sizes.{addresses_of, length_of};
 ghost use Rattle.program_types.specs.Formed.{TargetHolds, PayloadHolds, TryFormed, IsFormed};
-ghost use Rattle.tables_names.specs.Closure.{Five, NameRanks};
+ghost use Rattle.tables_names.specs.Closure.{Five, AreRising, NameRanks};
 ghost use Rattle.code_insns.specs.Insns.{SpellsInsns};
 ghost use Rattle.code_read.specs.Tries.{SpellsTries};
 ghost use Rattle.code_read.specs.Code.{SpellsCode};
@@ -41,4 +42,10 @@ pub fn packed_is_spelled()
 /// It takes at most the bytes that are counted for the code, and some.
 pub fn packed_is_short()
     ensures { (ranks : Five) (c : Code) (bytes : List ℕ) → PacksCode (NameRanks ranks) bytes c → (16 ≤ length bytes) × (length bytes ≤ wide_code c) }
+{}
+
+/// By ranks, where each name has one, a well formed code is written in one way.
+pub fn packed_is_one()
+    ensures { (ranks : Five) → AreRising ranks → (c : Code) (a b : List ℕ) → IsFormed c → AreBytes a → AreBytes b
+        → PacksCode (NameRanks ranks) a c → PacksCode (NameRanks ranks) b c → a ≡ b }
 {}

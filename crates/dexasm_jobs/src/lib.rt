@@ -9,4 +9,8 @@
 
 mod answers;
 
+// What holds of answers.
+mod laws;
+
 pub use answers::answer;
+pub use laws::{listed_and_assembled_is_stripped, one_answer};

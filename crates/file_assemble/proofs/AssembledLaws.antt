@@ -117,6 +117,7 @@ assembled out b s p plan at rows d t f short = record {
   next = subst (λ (n : ℕ). IsNext 4 b n f.map) d.end f.next;
   counts = d.counts;
   lies = lies_agree out b s p plan at d f.same;
+  once = d.once;
   rows = rows;
   rows_are = f.rows_are;
   tables = t;

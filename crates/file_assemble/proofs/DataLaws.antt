@@ -17,7 +17,7 @@ use Rattle.file_sections.specs.Lists.{SpellsRanks}
 use Rattle.file_sections.proofs.SitedLaws.{room_of_sited}
 use Rattle.dex_value.specs.Spelling.{SpellsArray}
 use Rattle.dex_value.specs.Wide.{wide_array}
-use Rattle.file_assemble.specs.Assembled.{Places, DataLies, DataIsLaid, rows_of}
+use Rattle.file_assemble.specs.Assembled.{Places, DataLies, DataIsLaid, StandOnce, rows_of}
 use Rattle.file_assemble.proofs.FitsLaws.{Room}
 
 -- items take bytes
@@ -72,6 +72,7 @@ pub record AreLaid (s : Five) (p : Program) (o0 o1 o2 o3 o4 o5 : List ℕ) (at :
   pub texts : Laid never PacksText 1 wide_text o2 o3 (text_values s) at.texts n.texts
   pub arrays : Laid is_empty_list (Shortest (SpellsArray (NameRanks s))) 1 wide_array o3 o4 (array_values p) at.arrays n.arrays
   pub datas : Laid has_no_members (PacksData (NameRanks s)) 1 wide_sited o4 o5 (sited p at.codes) at.datas n.datas
+  pub once : StandOnce s p at
 
 module _ (s : Five) (p : Program) (room : Room s p) (o0 o1 o2 o3 o4 o5 : List ℕ) (at : Places) (n : Counts)
     (front : length o0 ≡ tables_end (rows_of s p)) (l : AreLaid s p o0 o1 o2 o3 o4 o5 at n) where
@@ -122,6 +123,7 @@ module _ (s : Five) (p : Program) (room : Room s p) (o0 o1 o2 o3 o4 o5 : List �
           arrays = Lays-agree is_empty_list _ 1 (length o3) (length o4) o4 o5 0 (array_values p) at.arrays n.arrays l.arrays.lays (omega arith) a4;
           datas = l.datas.lays;
         };
+        once = l.once;
       }
 
 -- the data lies in the finished file as it was laid

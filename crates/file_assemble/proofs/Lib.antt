@@ -3,3 +3,6 @@ pub mod NamedLaws
 pub mod ReadyLaws
 pub mod DataLaws
 pub mod AssembledLaws
+pub mod OnceLaws
+pub mod BodyLaws
+pub mod FileOnce

@@ -8,7 +8,7 @@ use Rattle.base_bytes.specs.Leb128.{Shortest}
 use Rattle.dex_container.specs.Where.{slice}
 use Rattle.file_layout.specs.Plan.{tables_end, IsPlanned, IsWritten}
 use Rattle.file_layout.specs.Sections.{is_empty_list, never}
-use Rattle.file_layout.specs.Tiles.{IsNext, Lays, gap}
+use Rattle.file_layout.specs.Tiles.{AreShared, IsNext, Lays, gap}
 use Rattle.file_layout.specs.declared.plan.Plan.{Plan}
 use Rattle.file_layout.specs.declared.plan.Rows.{Rows}
 use Rattle.file_limits.specs.Wide.{array_values, body_values, list_values, text_values, wide_of}
@@ -47,6 +47,14 @@ pub record DataLies (b : List ℕ) (s : Five) (p : Program) (plan : Plan) (at : 
   pub arrays : Lays is_empty_list (Shortest (SpellsArray (NameRanks s))) 1 plan.arrays.begin plan.arrays.end b (array_values p) at.arrays plan.arrays.items
   pub datas : Lays has_no_members (PacksData (NameRanks s)) 1 plan.datas.begin plan.datas.end b (sited p at.codes) at.datas plan.datas.items
 
+-- Of each kind equal items stand once: equal type lists, bodies, texts, arrays and class data are each referred to by one place.
+pub record StandOnce (s : Five) (p : Program) (at : Places) : Type 0 where
+  pub lists : AreShared at.lists (list_values s p)
+  pub codes : AreShared at.codes (body_values p)
+  pub texts : AreShared at.texts (text_values s)
+  pub arrays : AreShared at.arrays (array_values p)
+  pub datas : AreShared at.datas (sited p at.codes)
+
 -- The data is laid behind room for header and tables, and with the map, which takes at most 163 bytes, it is within the plain sum.
 pub record DataIsLaid (out : List ℕ) (s : Five) (p : Program) (plan : Plan) (at : Places) : Type 0 where
   pub counts : plan.rows ≡ rows_of s p
@@ -55,6 +63,7 @@ pub record DataIsLaid (out : List ℕ) (s : Five) (p : Program) (plan : Plan) (a
   pub front : tables_end plan.rows ≤ length out
   pub bound : length out + 163 ≤ wide_of s p
   pub lies : DataLies out s p plan at
+  pub once : StandOnce s p at
 
 -- The bytes are the rows of the six tables, one table behind the other, where the items stand at these places.
 pub record SpellsTables (s : Five) (p : Program) (at : Places) (rows : List ℕ) : Type 0 where
@@ -64,7 +73,7 @@ pub record SpellsTables (s : Five) (p : Program) (at : Places) (rows : List ℕ)
   pub name_rows : SpellsRows s at.texts (take (length s.protos) at.lists) names
   pub class_rows : Each (SpellsClassRow s) classes (seated p (drop (length s.protos) at.lists) at.datas at.arrays)
 
--- A file of these names and these classes, by a plan, no longer than the plain sum.
+-- A file of these names and these classes, by a plan, equal items once, no longer than the plain sum.
 pub record Assembled (b : List ℕ) (s : Five) (p : Program) : Type 0 where
   pub plan : Plan
   pub map : ℕ
@@ -73,6 +82,7 @@ pub record Assembled (b : List ℕ) (s : Five) (p : Program) : Type 0 where
   pub next : IsNext 4 b plan.datas.end map
   pub counts : plan.rows ≡ rows_of s p
   pub lies : DataLies b s p plan at
+  pub once : StandOnce s p at
   pub rows : List ℕ
   pub rows_are : slice b 112 (length rows) ≡ rows
   pub tables : SpellsTables s p at rows

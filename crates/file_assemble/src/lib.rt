@@ -8,4 +8,8 @@
 // The data, and all of it.
 mod assembling;
 
+// What holds of it.
+mod laws;
+
 pub use assembling::assemble;
+pub use laws::assembled_is_one;

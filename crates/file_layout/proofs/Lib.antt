@@ -7,3 +7,6 @@ pub mod FrameLaws
 pub mod Halves
 pub mod MapBytes
 pub mod FinishLaws
+pub mod PartLaws
+pub mod LayingOnce
+pub mod FrontOnce

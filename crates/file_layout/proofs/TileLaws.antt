@@ -211,10 +211,10 @@ among_known [] place v a = absurd a
 among_known (x ∷ xs) place v (inl e) = rw (eq-eqb x.0 place e.0) refl
 among_known {V = V} (x ∷ xs) place v (inr a) = ap (λ t. eqb x.0 place || t) (among_known xs place v a) ∙ or_true (eqb x.0 place)
 
-refers_some : {V : Type 0} (none : V → Bool) (items : List (ℕ × V)) (place : ℕ) (v : V) → none v ≡ false → Refers none items place v → (0 < place) × Among items place v
+pub refers_some : {V : Type 0} (none : V → Bool) (items : List (ℕ × V)) (place : ℕ) (v : V) → none v ≡ false → Refers none items place v → (0 < place) × Among items place v
 refers_some none items place v e r = rw e at r
 
-zip_there : {A B : Type 0} (R : A → B → Type 0) (xs : List A) (ys : List B) (k : ℕ) (x : A) (y : B) → AllZip R xs ys → slice_get xs k ≡ Some x → slice_get ys k ≡ Some y → R x y
+pub zip_there : {A B : Type 0} (R : A → B → Type 0) (xs : List A) (ys : List B) (k : ℕ) (x : A) (y : B) → AllZip R xs ys → slice_get xs k ≡ Some x → slice_get ys k ≡ Some y → R x y
 zip_there R [] ys k x y h a b = absurd cc
 zip_there R (u ∷ us) [] k x y h a b = absurd cc
 zip_there {A} {B} R (u ∷ us) (w ∷ ws) zero x y h a b = let e : u ≡ x = cc in let f : w ≡ y = cc in subst (λ (z : B). R x z) f (subst (λ (z : A). R z w) e h.0)

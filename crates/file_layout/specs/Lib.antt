@@ -7,3 +7,4 @@ pub mod Parts
 pub mod Entries
 pub mod Finished
 pub mod Laws
+pub mod Once

@@ -1,6 +1,6 @@
 -- Items that stand one behind the other, and the places by which they are referred to.
 -- Page: "Dalvik Executable format", "alignment" of each item.
-use Rattle.std.specs.Prelude.{◌≡◌, ℕ, ◌+◌, ◌-◌, ◌%◌, ◌<◌, ◌≤◌, ◌==◌, ◌||◌, Bool, if◌then◌else◌, List, [], ◌∷◌, ◌++◌, length, map, replicate, ◌⊎◌, MatchBool}
+use Rattle.std.specs.Prelude.{◌≡◌, ℕ, ◌+◌, ◌-◌, ◌%◌, ◌<◌, ◌≤◌, ◌==◌, ◌||◌, Bool, if◌then◌else◌, List, [], ◌∷◌, ◌++◌, length, map, replicate, slice_get, Some, ◌⊎◌, MatchBool}
 use Rattle.std.specs.List.{fold, list_any, AllZip}
 use Rattle.dex_container.specs.Where.{slice}
 
@@ -51,6 +51,12 @@ pub record Lays {V : Type 0} (none : V → Bool) (G : List ℕ → V → Type 0)
   pub each : AllZip (Refers none items) places vs
   pub order : map (λ (x : ℕ × V). x.0) items ≡ distinct_places places
   pub counted : count ≡ length items
+
+-- Equal values are referred to by one place.
+abbrev pub AreShared : {V : Type 0} → List ℕ → List V → Type 0
+AreShared {V} places vs =
+    (i j : ℕ) (v : V) (p q : ℕ) → slice_get vs i ≡ Some v → slice_get vs j ≡ Some v
+    → slice_get places i ≡ Some p → slice_get places j ≡ Some q → p ≡ q
 
 -- Two files have the same bytes from `from` to `to`.
 pub record Agree (b c : List ℕ) (from to : ℕ) : Type 0 where

@@ -6,8 +6,10 @@ ghost use Rattle.dex_container.specs.Layout.{entry_count, kind_at};
 ghost use Rattle.file_layout.specs.declared.plan.Plan.{Plan};
 ghost use Rattle.file_layout.specs.Header.{HasHeader};
 ghost use Rattle.file_layout.specs.Laws.{LaidItemsStay, LaidItemsStand, OneMoreItemIsLaid};
+ghost use Rattle.file_layout.specs.Once.{LayingsAreOne, WrittenIsOne};
 ghost use Rattle.file_layout.specs.Parts.{HasPart, IsWrittenKind};
 ghost use Rattle.file_layout.specs.Plan.{IsWritten};
+ghost use Rattle.file_layout.specs.Sections.{IsItself, is_empty_list};
 
 /// What is written by a plan is framed, the header has the plan's fields, each part stands in the section of its kind, and the map
 /// lists no other kinds than those that a written file has.
@@ -36,4 +38,15 @@ pub fn one_more_item_is_laid()
 /// Items that are laid in a part stand in the section of its kind, 4-aligned, each at the place that refers to it.
 pub fn laid_items_stand()
     ensures { LaidItemsStand }
+{}
+
+/// Lists of bytes that are laid from the same place on, equal ones in one item, are laid in one way.
+pub fn layings_are_one()
+    ensures { (align : ℕ) → LayingsAreOne {V = List ℕ} is_empty_list IsItself align }
+{}
+
+/// Files that are written by one plan and agree between the header and the map are one: plan and bytes decide header, map,
+/// signature and checksum.
+pub fn written_is_one()
+    ensures { WrittenIsOne }
 {}

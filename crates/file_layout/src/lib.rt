@@ -25,6 +25,9 @@ mod ranges;
 mod laws;
 
 pub use finishing::finish;
-pub use laws::{laid_items_stand, laid_items_stay, one_more_item_is_laid, written_is_framed};
+pub use laws::{
+    laid_items_stand, laid_items_stay, layings_are_one, one_more_item_is_laid, written_is_framed,
+    written_is_one,
+};
 pub use padding::{gap_behind, pad};
 pub use plan::{Part, Plan, Rows};

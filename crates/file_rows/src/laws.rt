@@ -1,5 +1,6 @@
 // Laws of the definitions, each the contract of a function that does nothing else.
 ghost use Rattle.file_rows.specs.AtIndex.{TypeRowsStand, ProtoRowsStand, FieldRowsStand, MethodRowsStand};
+ghost use Rattle.file_rows.specs.Once.{ClassRowsAreOne, NameRowsAreOne};
 
 /// In the rows of the tables each name's row stands at the name's index.
 pub fn rows_stand_at_their_indices()
@@ -7,4 +8,10 @@ pub fn rows_stand_at_their_indices()
     ensures protos { ProtoRowsStand }
     ensures fields { FieldRowsStand }
     ensures methods { MethodRowsStand }
+{}
+
+/// Names and the places of items decide the rows: each table is spelled in one way.
+pub fn rows_are_one()
+    ensures names { NameRowsAreOne }
+    ensures classes { ClassRowsAreOne }
 {}

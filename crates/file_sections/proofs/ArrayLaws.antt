@@ -8,7 +8,7 @@ use Rattle.program_types.specs.Content.{Units, FieldRef, MethodRef, Name, OfText
 use Rattle.program_types.specs.View as view
 use Rattle.program_types.specs.declared.value.Value as made
 use Rattle.program_types.specs.declared.class.Class as class
-use Rattle.tables_names.specs.Closure.{Five, NameRanks}
+use Rattle.tables_names.specs.Closure.{AreRising, Five, NameRanks}
 use Rattle.tables_names.specs.Needed.{needed}
 use Rattle.program_types.specs.Mentions.{names_of_value, names_of_values, NamesHold, AllNamesHold}
 use Rattle.dex_value.specs.Named.{IsRanked}
@@ -28,6 +28,10 @@ use Rattle.file_needed.proofs.ClassNames.{values_kept}
 use Rattle.file_sections.specs.Named.{HasName, FewNames}
 use Rattle.file_sections.proofs.NumberLaws.{class_named, kept_left, kept_right}
 use Rattle.file_layout.proofs.SectionLaws.{not_none, gap_one}
+use Rattle.base_bytes.specs.Fields.{AreBytes}
+use Rattle.code_put.proofs.HandlerOnce.{ranks-injective}
+use Rattle.value_laws.proofs.ArrayOnce.{array_once}
+use Rattle.file_sections.specs.Arrays.{WritesArray}
 
 ranked : (s : Five) → FewNames s → (n : Name) → HasName s n → IsRanked s n
 ranked s k (OfText t) h = let w = slice_get_within s.strings h.0 _ h.1 in record { rank = h.0; small = omega (arith, w, k.strings); stands = h.1 }
@@ -59,22 +63,26 @@ values_ranked s p cs k d e f m lt = all_ranked s f _ (values_kept (HasName s) (v
 
 -- ---- an array that is written once
 
-pub array_used : (s : Five) (kept more : List Entry) (old new : List ℕ) (xs : List made.Value) (bytes : List ℕ) (place : ℕ) → 0 < length xs → Shortest (SpellsArray (NameRanks s)) bytes (map view.value xs) → PutsOnce 1 kept more old new bytes place
-    → UsesItem is_empty_list (Shortest (SpellsArray (NameRanks s))) 1 kept more old new (map view.value xs) place
-array_used s kept more old new xs bytes place some p u =
+pub array_used : (s : Five) (kept more : List Entry) (old new : List ℕ) (xs : List made.Value) (bytes : List ℕ) (place : ℕ) → 0 < length xs → AreBytes bytes → Shortest (SpellsArray (NameRanks s)) bytes (map view.value xs) → PutsOnce 1 kept more old new bytes place
+    → UsesItem is_empty_list (WritesArray s) 1 kept more old new (map view.value xs) place
+array_used s kept more old new xs bytes place some are p u =
     let n = length-map xs view.value in
-    rw (not_none (map view.value xs) (omega (arith, n, some))) (bytes, p, u)
+    rw (not_none (map view.value xs) (omega (arith, n, some))) (bytes, record { packs = p; are = are }, u)
 
 pub array_some : (s : Five) (bytes : List ℕ) (vs : List Value) → Shortest (SpellsArray (NameRanks s)) bytes vs → 0 < length bytes
 array_some s bytes vs p = SpellsArray-least (NameRanks s) bytes vs p.spelled
 
-pub array_packs : (s : Five) (bytes : List ℕ) (vs : List Value) → Shortest (SpellsArray (NameRanks s)) bytes vs → Shortest (SpellsArray (NameRanks s)) bytes vs
-array_packs s bytes vs p = p
+pub array_packs : (s : Five) (bytes : List ℕ) (vs : List Value) → WritesArray s bytes vs → Shortest (SpellsArray (NameRanks s)) bytes vs
+array_packs s bytes vs p = p.packs
 
-pub array_most : (s : Five) (vs : List Value) → is_empty_list vs ≡ false → (bytes : List ℕ) (at : ℕ) → Shortest (SpellsArray (NameRanks s)) bytes vs → gap 1 at + length bytes ≤ wide_array vs
+-- values have one list of bytes
+pub arrays_once : (s : Five) → AreRising s → (a b : List ℕ) (vs : List Value) → WritesArray s a vs → WritesArray s b vs → a ≡ b
+arrays_once s rising a b vs p q = array_once (NameRanks s) (ranks-injective s rising) vs a b p.are q.are p.packs q.packs
+
+pub array_most : (s : Five) (vs : List Value) → is_empty_list vs ≡ false → (bytes : List ℕ) (at : ℕ) → WritesArray s bytes vs → gap 1 at + length bytes ≤ wide_array vs
 array_most s vs e bytes at p =
     let g = gap_one at in
-    let m = SpellsArray-most (NameRanks s) bytes vs p.spelled in
+    let m = SpellsArray-most (NameRanks s) bytes vs p.packs.spelled in
     omega (arith, g, m)
 
 -- in each table a rank is of one name
@@ -101,5 +109,5 @@ ranks_functional s i (OfMethod m) (OfMethod n) e p q = ap OfMethod (method_one m
 ranks_functional s i _ _ e p q = absurd (omega arith)
 
 -- the bytes of an array have one value
-pub array_one : (s : Five) (bytes : List ℕ) (us vs : List Value) → Shortest (SpellsArray (NameRanks s)) bytes us → Shortest (SpellsArray (NameRanks s)) bytes vs → us ≡ vs
-array_one s bytes us vs p q = (SpellsArray-unique (NameRanks s) (ranks_functional s) bytes bytes [] [] us vs p.spelled q.spelled refl).1
+pub array_one : (s : Five) (bytes : List ℕ) (us vs : List Value) → WritesArray s bytes us → WritesArray s bytes vs → us ≡ vs
+array_one s bytes us vs p q = (SpellsArray-unique (NameRanks s) (ranks_functional s) bytes bytes [] [] us vs p.packs.spelled q.packs.spelled refl).1

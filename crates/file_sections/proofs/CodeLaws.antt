@@ -14,10 +14,13 @@ use Rattle.file_shared.specs.Sharing.{Sharing, UsesItem}
 use Rattle.file_shared.proofs.SharingLaws.{sharing_more, sharing_bound}
 use Rattle.code_read.proofs.CodeLaws.{SpellsCode-unique}
 use Rattle.code_put.proofs.RankLaws.{ranks-functional}
+use Rattle.code_put.proofs.HandlerOnce.{ranks-injective}
+use Rattle.code_put_laws.proofs.CodeOnce.{code_once}
+use Rattle.base_bytes.specs.Fields.{AreBytes}
 use Rattle.code_put_laws.proofs.PackedLaws.{packed-spells}
 use Rattle.file_limits.specs.Wide.{bodies_in, bodies_of, wide_body}
 use Rattle.file_limits.proofs.SumLaws.{wide_all_append}
-use Rattle.tables_names.specs.Closure.{Five, NameRanks}
+use Rattle.tables_names.specs.Closure.{Five, AreRising, NameRanks}
 use Rattle.program_types.specs.Content.{Name, Code, Class}
 use Rattle.program_types.specs.Content as content
 use Rattle.program_types.specs.Sizes.{addresses_of, length_of}
@@ -62,24 +65,30 @@ packed_room N c bytes p =
 
 pub bodies_packs : (s : Five) (bytes : List ℕ) (v : Option Code) → WritesBody s bytes v → PacksBody (NameRanks s) bytes v
 bodies_packs s bytes None p = absurd p
-bodies_packs s bytes (Some c) p = p.0
+bodies_packs s bytes (Some c) p = p.packs
 
 -- the bytes of a body have one value
 pub bodies_one : (s : Five) (bytes : List ℕ) (u v : Option Code) → WritesBody s bytes u → WritesBody s bytes v → u ≡ v
 bodies_one s bytes None v p q = absurd p
 bodies_one s bytes (Some c) None p q = absurd q
-bodies_one s bytes (Some c) (Some d) p q = ap (λ (x : Code). Some x) (SpellsCode-unique (NameRanks s) (ranks-functional s) bytes bytes [] [] c d p.1 q.1 refl).1
+bodies_one s bytes (Some c) (Some d) p q = ap (λ (x : Code). Some x) (SpellsCode-unique (NameRanks s) (ranks-functional s) bytes bytes [] [] c d p.spells q.spells refl).1
 
 pub bodies_most : (s : Five) (v : Option Code) → is_bodiless v ≡ false → (bytes : List ℕ) (at : ℕ) → WritesBody s bytes v → gap 4 at + length bytes ≤ wide_body v
 bodies_most s None e bytes at p = absurd p
 bodies_most s (Some c) e bytes at p =
-    let r = (packed_room (NameRanks s) c bytes p.0).1 in
+    let r = (packed_room (NameRanks s) c bytes p.packs).1 in
     let g = gap_four at in
     omega (arith, r, g)
 
-pub body_used : (s : Five) (kept more : List Entry) (old new : List ℕ) (c : Code) (bytes : List ℕ) (place : ℕ) → CanPut s c → PacksCode (NameRanks s) bytes c → PutsOnce 4 kept more old new bytes place
+pub body_used : (s : Five) (kept more : List Entry) (old new : List ℕ) (c : Code) (bytes : List ℕ) (place : ℕ) → CanPut s c → AreBytes bytes → PacksCode (NameRanks s) bytes c → PutsOnce 4 kept more old new bytes place
     → UsesItem is_bodiless (WritesBody s) 4 kept more old new (Some c) place
-body_used s kept more old new c bytes place can p u = (bytes, (p, packed-spells (NameRanks s) c can.formed can.fits can.ranked.short bytes p), u)
+body_used s kept more old new c bytes place can are p u =
+    (bytes, record { packs = p; spells = packed-spells (NameRanks s) c can.formed can.fits can.ranked.short bytes p; formed = can.formed; are = are }, u)
+
+-- a body has one list of bytes
+pub bodies_once : (s : Five) → AreRising s → (a b : List ℕ) (v : Option Code) → WritesBody s a v → WritesBody s b v → a ≡ b
+bodies_once s rising a b None p q = absurd p
+bodies_once s rising a b (Some c) p q = code_once (NameRanks s) (ranks-injective s rising) c a b p.formed p.are q.are p.packs q.packs
 
 -- ---- the bodies of methods
 

@@ -9,3 +9,7 @@ pub mod RunLaws
 pub mod MemberRuns
 pub mod DataLaws
 pub mod SitedLaws
+pub mod ApartLaws
+pub mod GrammarOnce
+pub mod EntryOnce
+pub mod DataOnce

@@ -10,7 +10,8 @@ use Rattle.program_types.specs.Content.{Descriptor, Units}
 use Rattle.program_types.specs.Key.{text_key}
 use Rattle.program_types.specs.View as view
 use Rattle.program_types.specs.declared.names.Desc.{Desc}
-use Rattle.tables_names.specs.Closure.{Five}
+use Rattle.tables_names.specs.Closure.{AreRising, Five}
+use Rattle.tables_names.proofs.PlaceLemmas.{rank_at}
 use Rattle.tables_names.specs.Rank.{IsAt}
 use Rattle.tables_rows.proofs.HalvesLaws.{length-halves_bytes}
 use Rattle.file_layout.specs.Tiles.{gap}
@@ -112,7 +113,7 @@ text_one t u e = cc e
 key_one : (ks : List Key) (i : ℕ) (k l : Key) → IsAt ks i k → IsAt ks i l → k ≡ l
 key_one ks i k l p q = cc
 
-named_one : (s : Five) (is : List ℕ) (ts us : List Units) → AreIndices s.types is ts → AreIndices s.types is us → ts ≡ us
+pub named_one : (s : Five) (is : List ℕ) (ts us : List Units) → AreIndices s.types is ts → AreIndices s.types is us → ts ≡ us
 named_one s [] [] [] p q = refl
 named_one s [] [] (u ∷ us) p q = absurd q
 named_one s [] (t ∷ ts) us p q = absurd p
@@ -128,3 +129,21 @@ pub list_one : (s : Five) (bytes : List ℕ) (ts us : List Descriptor) → Spell
 list_one s bytes ts us p q =
     let e = (indexes_unique bytes bytes [] [] p.indexes q.indexes p.spelled q.spelled refl).1 in
     named_one s p.indexes ts us p.named (subst (λ (is : List ℕ). AreIndices s.types is us) (sym e) q.named)
+
+-- types have one list of bytes
+indexes_once : (s : Five) → AreRising s → (is js : List ℕ) (ts : List Units) → AreIndices s.types is ts → AreIndices s.types js ts → is ≡ js
+indexes_once s rising [] [] [] p q = refl
+indexes_once s rising [] [] (t ∷ ts) p q = absurd p
+indexes_once s rising [] (j ∷ js) [] p q = absurd q
+indexes_once s rising [] (j ∷ js) (t ∷ ts) p q = absurd p
+indexes_once s rising (i ∷ is) js [] p q = absurd p
+indexes_once s rising (i ∷ is) [] (t ∷ ts) p q = absurd q
+indexes_once s rising (i ∷ is) (j ∷ js) (t ∷ ts) p q =
+    let a : i ≡ j = sym (rank_at s.types i (text_key t) rising.types p.0) ∙ rank_at s.types j (text_key t) rising.types q.0 in
+    let b = indexes_once s rising is js ts p.1 q.1 in
+    (λ k. a k ∷ b k)
+
+pub lists_once : (s : Five) → AreRising s → (a b : List ℕ) (ts : List Descriptor) → SpellsRanks s a ts → SpellsRanks s b ts → a ≡ b
+lists_once s rising a b ts p q =
+    let e = indexes_once s rising p.indexes q.indexes ts p.named q.named in
+    p.spelled.spelled ∙ (λ k. u32_bytes (length (e k)) ++ halves_bytes (e k)) ∙ sym q.spelled.spelled

@@ -4,3 +4,5 @@ pub mod Codes
 pub mod Data
 pub mod Growing
 pub mod Named
+pub mod Arrays
+pub mod Once

@@ -10,13 +10,16 @@ ghost use Rattle.tables_names.specs.Needed.{needed};
 ghost use Rattle.program_types.specs.Content as content;
 ghost use Rattle.program_types.specs.Mentions.{AllNamesHold};
 ghost use Rattle.program_types.specs.View as view;
+ghost use Rattle.file_sections.specs.Arrays.{WritesArray};
 ghost use Rattle.file_sections.specs.Named.{FewNames};
+ghost use Rattle.file_layout.specs.Tiles.{AreShared};
 ghost use Rattle.file_shared.specs.Sharing.{UsesItem};
 ghost use Rattle.dex_value.specs.Named.{IsRanked};
 ghost use Rattle.dex_value.specs.Spelling.{SpellsArray};
 ghost use Rattle.dex_value.specs.Wide.{wide_array};
 
 use crate::placed::Placed;
+use base_bytes::are_bytes;
 use dex_base::Fault;
 use dex_value::put_array;
 use file_shared::Items;
@@ -34,7 +37,7 @@ fn add_array(
 ) -> Result<u32, Fault>
     requires named { AllNamesHold (IsRanked ranks.now) (content.values (map view.value values.now)) }
     requires room { length out.old.items + wide_array (map view.value values.now) < 2 ^ 32 }
-    ensures ok { IfOk result (UsesItem is_empty_list (Shortest (SpellsArray (NameRanks ranks.now))) 1 items.old items.new out.old.items out.new.items (map view.value values.now)) }
+    ensures ok { IfOk result (UsesItem is_empty_list (WritesArray ranks.now) 1 items.old items.new out.old.items out.new.items (map view.value values.now)) }
     ensures memory { IsOkUnless result memory }
 {
     if values.len() == 0 {
@@ -42,6 +45,7 @@ fn add_array(
     }
     let mut bytes = Vec::new(alloc);
     put_array(&mut bytes, ranks, values)?;
+    are_bytes(&bytes);
     Ok(items.put(out, bytes)?)
 }
 
@@ -59,8 +63,10 @@ pub fn put_arrays(
     requires front { 0 < length out.old.items }
     requires room { length out.old.items + wide_all wide_array (array_values (view.program program.now)) < 2 ^ 32 }
     ensures ok { IfOk result (λ r. Laid is_empty_list (Shortest (SpellsArray (NameRanks ranks.now))) 1 wide_array out.old.items out.new.items (array_values (view.program program.now)) r.places.items r.items) }
+    ensures once { IfOk result (λ r. AreShared r.places.items (array_values (view.program program.now))) }
     ensures memory { IsOkUnless result memory }
 {
+    ranks.rise();
     let mut items = Items::new(alloc);
     let mut places = Vec::new(alloc);
     for class in program.classes {

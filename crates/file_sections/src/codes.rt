@@ -11,9 +11,11 @@ ghost use Rattle.program_types.specs.View as view;
 ghost use Rattle.file_sections.specs.Codes.{is_bodiless, PacksBody, WritesBody};
 ghost use Rattle.file_sections.specs.Named.{BodyCanBePut};
 ghost use Rattle.file_shared.specs.Once.{Entry};
+ghost use Rattle.file_layout.specs.Tiles.{AreShared};
 ghost use Rattle.file_shared.specs.Sharing.{Sharing, UsesItem};
 
 use crate::placed::Placed;
+use base_bytes::are_bytes;
 use code_put::make_item;
 use dex_base::Fault;
 use file_shared::Items;
@@ -38,6 +40,7 @@ fn add_body(
         None => Ok(0),
         Some(code) => {
             let item = make_item(alloc, ranks, code)?;
+            are_bytes(&item);
             Ok(items.put_aligned(out, item)?)
         }
     }
@@ -80,8 +83,10 @@ pub fn put_codes(
     requires front { 0 < length out.old.items }
     requires room { length out.old.items + wide_all wide_body (body_values (view.program program.now)) < 2 ^ 32 }
     ensures ok { IfOk result (λ r. Laid is_bodiless (PacksBody (NameRanks ranks.now)) 4 wide_body out.old.items out.new.items (body_values (view.program program.now)) r.places.items r.items) }
+    ensures once { IfOk result (λ r. AreShared r.places.items (body_values (view.program program.now))) }
     ensures memory { IsOkUnless result memory }
 {
+    ranks.rise();
     let mut items = Items::new(alloc);
     let mut places = Vec::new(alloc);
     for class in program.classes {

@@ -20,9 +20,13 @@ mod codes;
 mod texts;
 mod type_lists;
 
+// What holds of spellings.
+mod laws;
+
 pub use arrays::put_arrays;
 pub use class_data::put_datas;
 pub use codes::put_codes;
+pub use laws::lists_and_data_are_one;
 pub use placed::Placed;
 pub use texts::put_strings;
 pub use type_lists::put_lists;

@@ -6,6 +6,7 @@ ghost use Rattle.dex_base.specs.Mutf8.{PacksText};
 ghost use Rattle.program_types.specs.View as view;
 ghost use Rattle.file_layout.specs.Sections.{never, wide_all, Adds, Laid};
 ghost use Rattle.file_limits.specs.Wide.{text_values, wide_text};
+ghost use Rattle.file_layout.specs.Tiles.{AreShared};
 
 use crate::placed::Placed;
 use dex_base::{Fault, put_mutf8};
@@ -32,8 +33,10 @@ pub fn put_strings(alloc: Global, out: &mut Vec<u8>, ranks: &Ranks<'_>) -> Resul
     requires front { 0 < length out.old.items }
     requires room { length out.old.items + wide_all wide_text (text_values ranks.now) < 2 ^ 32 }
     ensures ok { IfOk result (λ r. Laid never PacksText 1 wide_text out.old.items out.new.items (text_values ranks.now) r.places.items r.items) }
+    ensures once { IfOk result (λ r. AreShared r.places.items (text_values ranks.now)) }
     ensures memory { IsOkUnless result memory }
 {
+    ranks.rise();
     let texts = ranks.strings();
     let mut places = Vec::with_capacity(alloc, texts.len())?;
     for text in texts {

@@ -12,6 +12,7 @@ ghost use Rattle.file_layout.specs.Sections.{is_empty_list, wide_all, Laid};
 ghost use Rattle.file_sections.specs.Lists.{AddsIndices, SpellsRanks};
 ghost use Rattle.file_limits.specs.Wide.{list_values, wide_list};
 ghost use Rattle.file_shared.specs.Sharing.{UsesItem};
+ghost use Rattle.file_layout.specs.Tiles.{AreShared};
 
 use crate::placed::Placed;
 use dex_base::Fault;
@@ -126,8 +127,10 @@ pub fn put_lists(
     requires few { length ranks.now.types ≤ 65535 }
     requires room { length out.old.items + wide_all wide_list (list_values ranks.now (view.program program.now)) < 2 ^ 32 }
     ensures ok { IfOk result (λ r. Laid is_empty_list (SpellsRanks ranks.now) 4 wide_list out.old.items out.new.items (list_values ranks.now (view.program program.now)) r.places.items r.items) }
+    ensures once { IfOk result (λ r. AreShared r.places.items (list_values ranks.now (view.program program.now))) }
     ensures memory { IsOkUnless result memory }
 {
+    ranks.rise();
     let mut items = Items::new(alloc);
     let mut places = Vec::new(alloc);
     for number in 0..ranks.protos().len() + program.classes.len() {

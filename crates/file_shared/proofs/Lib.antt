@@ -1,2 +1,3 @@
+pub mod HeldLaws
 pub mod ItemLaws
 pub mod SharingLaws

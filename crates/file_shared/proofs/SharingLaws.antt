@@ -1,29 +1,13 @@
 -- A part of which each item is written once, value by value.
-use Rattle.std.proofs.Common.{◌≡◌, ℕ, zero, suc, ◌+◌, ◌<◌, ◌≤◌, Bool, true, false, List, [], ◌∷◌, ◌++◌, length, refl, sym, ap, subst, ◌∙◌, arith, length-append, Some, inl, inr, ◌⊎◌, slice_get, take, drop, get_or}
+use Rattle.std.proofs.Common.{◌≡◌, ℕ, ◌+◌, ◌<◌, ◌≤◌, Bool, true, false, List, [], ◌∷◌, ◌++◌, length, refl, sym, ap, subst, ◌∙◌, arith, length-append, Some, inl, inr, slice_get, take, drop, get_or}
 use Rattle.std.proofs.lemmas.List.{take_more, drop_more, take_all, drop_all}
 use Rattle.std.specs.Prelude.{MatchBool}
-use Rattle.file_layout.specs.Tiles.{zeros, gap, Refers}
-use Rattle.file_layout.specs.Sections.{Adds, IsItself, Laying, Laid}
+use Rattle.file_layout.specs.Tiles.{zeros, gap, AreShared, Refers}
+use Rattle.file_layout.specs.Sections.{Adds, Laying, Laid}
 use Rattle.file_layout.proofs.SectionLaws.{Laying-start, Laying-none, Laying-item, Laying-again, Zip-length, length-padded}
+use Rattle.file_shared.proofs.HeldLaws.{slice_left, slice_last, slice_split, held_start, held_none, held_again, held_first, held_shared}
 use Rattle.file_shared.specs.Once.{Entry, IsKept, IsAgain, IsAdded, PutsOnce}
 use Rattle.file_shared.specs.Sharing.{IsUse, AreApart, Sharing, UsesItem}
-
--- ---- lists with one more at the end
-
-slice_left : {A : Type 0} (xs ys : List A) (k : ℕ) (x : A) → slice_get xs k ≡ Some x → slice_get (xs ++ ys) k ≡ Some x
-slice_left [] ys k x at = absurd (cc at)
-slice_left (y ∷ xs) ys zero x at = at
-slice_left (y ∷ xs) ys (suc k) x at = slice_left xs ys k x at
-
-slice_last : {A : Type 0} (xs : List A) (x : A) → slice_get (xs ++ x ∷ []) (length xs) ≡ Some x
-slice_last [] x = refl
-slice_last (y ∷ xs) x = slice_last xs x
-
-slice_split : {A : Type 0} (xs : List A) (x y : A) (k : ℕ) → slice_get (xs ++ x ∷ []) k ≡ Some y → (slice_get xs k ≡ Some y) ⊎ ((k ≡ length xs) × (x ≡ y))
-slice_split [] x y zero at = inr (refl, cc)
-slice_split [] x y (suc k) at = absurd (cc at)
-slice_split (z ∷ xs) x y zero at = inl at
-slice_split (z ∷ xs) x y (suc k) at = elim (slice_split xs x y k at) [ inl h ↦ inl h | inr h ↦ inr (ap suc h.0, h.1) ]
 
 -- ---- uses
 
@@ -62,7 +46,7 @@ apart_more kept bytes place apart fresh j k x y at_j at_k same =
 
 module _ {V : Type 0} (none : V → Bool) (G K : List ℕ → V → Type 0) (align : ℕ) (wide : V → ℕ) where
   pub sharing_start : (old : List ℕ) (all : List V) → Sharing none G K align wide old old [] all all [] []
-  sharing_start old all = record { laying = Laying-start none G align wide old all; uses = λ k e at. absurd (cc at); apart = λ j k x y at. absurd (cc at) }
+  sharing_start old all = record { laying = Laying-start none G align wide old all; uses = λ k e at. absurd (cc at); apart = λ j k x y at. absurd (cc at); held = held_start none K [] }
 
   -- a value that takes no item
   sharing_none : (old out new : List ℕ) (done rest all : List V) (v : V) (places : List ℕ) (place : ℕ) (kept more : List Entry)
@@ -74,6 +58,7 @@ module _ {V : Type 0} (none : V → Bool) (G K : List ℕ → V → Type 0) (ali
         laying = Laying-none none G align wide old out new done rest all v places place (length kept) s.laying e (a.0, a.1);
         uses = λ k x at. use_more K done places x.0 x.1 v place (s.uses k x at);
         apart = s.apart;
+        held = held_none none K done v places place kept s.held e;
       })
 
   -- one whose item stands already
@@ -89,6 +74,7 @@ module _ {V : Type 0} (none : V → Bool) (G K : List ℕ → V → Type 0) (ali
         laying = Laying-again none G align wide old out done rest all v places place (length kept) u.turn s.laying e there u.at;
         uses = λ j x at. use_more K done places x.0 x.1 v place (s.uses j x at);
         apart = s.apart;
+        held = held_again none K done v places place kept bytes s.held k a.there;
       })
 
   -- one with an item of its own
@@ -109,6 +95,7 @@ module _ {V : Type 0} (none : V → Bool) (G K : List ℕ → V → Type 0) (ali
           | inr b ↦ subst (λ (y : Entry). IsUse K (done ++ v ∷ []) (places ++ place ∷ []) y.0 y.1) b.1 (use_last K done places bytes place v n k)
         ];
         apart = apart_more kept bytes place s.apart f.fresh;
+        held = held_first none K done v places place kept bytes s.held k;
       })
 
   pub sharing_more : (old out new : List ℕ) (done rest all : List V) (v : V) (places : List ℕ) (place : ℕ) (kept more : List Entry)
@@ -160,3 +147,7 @@ module _ {V : Type 0} (none : V → Bool) (G K : List ℕ → V → Type 0) (ali
       let before = subst (λ (rest : List V). Sharing none G K align wide old out (take i vs) rest vs places kept) (drop_more vs i d lt) s in
       let after = sharing_more old out new (take i vs) (drop (i + 1) vs) vs v places place kept more packs one before front a (sharing_bound out new v place kept more most a) in
       rw n (subst (λ (done : List V). Sharing none G K align wide old new done (drop (i + 1) vs) vs (places ++ place ∷ []) more) (sym (take_more vs i d lt)) after)
+
+  -- equal values have one place, where a value has one list of bytes
+  pub sharing_shared : ((a b : List ℕ) (v : V) → K a v → K b v → a ≡ b) → (old out : List ℕ) (done rest all : List V) (places : List ℕ) (kept : List Entry) → Sharing none G K align wide old out done rest all places kept → AreShared places done
+  sharing_shared one old out done rest all places kept s = held_shared none K one done places kept s.laying.lays.items s.held s.apart s.laying.lays.each

@@ -39,6 +39,7 @@ file_of b p well fits file =
       least = λ c m. holds_at_least c p m;
       no_longer = λ c m. no_longer b c (needed p) exactly (holds_at_least c p m);
       short = file.short;
+      laid = file;
     }
 
 -- a value that is so where a fact holds

@@ -18,3 +18,4 @@ pub mod References
 pub mod Codes
 pub mod Readings
 pub mod Files
+pub mod OneFile

@@ -1,6 +1,6 @@
 // Laws of what is assembled, each the contract of a function that does nothing.
 // Page: "Dalvik Executable format", "File layout".
-ghost use Rattle.std.specs.Prelude.{ℕ, ◌<◌, List};
+ghost use Rattle.std.specs.Prelude.{◌≡◌, ℕ, ◌<◌, ◌↔◌, List};
 ghost use Rattle.file_assemble.specs.Assembled.{Assembled};
 ghost use Rattle.file_classes.specs.ClassRows.{InOrder};
 ghost use Rattle.file_classes.specs.Classes.{SpellsClass};
@@ -16,6 +16,7 @@ ghost use Rattle.tables_rows.specs.Names.{AreRows};
 ghost use Rattle.tables_rows.specs.Sorted.{TablesHold};
 ghost use Rattle.file_write.specs.Least.{HoldsExactly};
 ghost use Rattle.file_write.specs.Packed.{Packed};
+ghost use Rattle.file_write.specs.Written.{IsFileOf, IsStripped};
 
 /// The file that is assembled of a well-formed program is framed, each row of its five tables denotes a name above that of the row
 /// before, and these are exactly the names that the program needs.
@@ -41,4 +42,24 @@ pub fn assembled_means()
 /// references, and nothing else but the zeros that align them, numbers and values take the fewest bytes, and what no reader looks at is 0.
 pub fn assembled_is_packed()
     ensures { (b : List ℕ) (p : Program) → WellFormed p → Fits p → Assembled b (needed p) p → Packed b }
+{}
+
+/// What is written of a program means it and no other.
+pub fn written_is_read()
+    ensures { (p q : Program) (b : List ℕ) → IsFileOf p b → Means b q → q ≡ p }
+{}
+
+/// A program has one file: equal programs are written as equal bytes.
+pub fn one_file()
+    ensures { (p : Program) (b c : List ℕ) → IsFileOf p b → IsFileOf p c → b ≡ c }
+{}
+
+/// What is stripped of two files is equal exactly if both mean the same program.
+pub fn stripped_alike_exactly_if_meaning_alike()
+    ensures { (a b c d : List ℕ) → IsStripped a c → IsStripped b d → (c ≡ d) ↔ ((p : Program) × Means a p × Means b p) }
+{}
+
+/// What is stripped stays as it is when it is stripped again.
+pub fn stripped_stays()
+    ensures { (a b c : List ℕ) → IsStripped a b → IsStripped b c → b ≡ c }
 {}

@@ -79,18 +79,3 @@ pub fn strip(alloc: Global, bytes: &[u8]) -> Result<Vec<u8>, Fault>
     let program = read_formed(alloc, &arena, bytes)?;
     write(alloc, &program)
 }
-
-/// What is written is read again: the same program, unless memory is wanting.
-pub fn written_is_read<'a>(
-    alloc: Global,
-    arena: &'a Bump,
-    program: &Program<'_>,
-) -> Result<Program<'a>, Fault>
-    requires kept { WellFormed (view.program program.now) }
-    requires fits { Fits (view.program program.now) }
-    ensures same { IfOk result (λ again. view.program again ≡ view.program program.now) }
-    ensures memory { IsOkUnless result memory }
-{
-    let file = write(alloc, program)?;
-    read(alloc, arena, &file)
-}

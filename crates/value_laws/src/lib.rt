@@ -1,4 +1,4 @@
-//! Laws of the arrays of a file, each the contract of a function that does nothing.
+//! Laws of the arrays of a file, and of arrays in the fewest bytes, each the contract of a function that does nothing.
 #![tactic(auto)]
 
 ghost use Rattle.std.specs.Prelude.{◌↔◌, ℕ, List};
@@ -17,6 +17,7 @@ ghost use Rattle.dex_value.specs.Standing.{ArrayStands};
 ghost use Rattle.dex_value.specs.Faults.{ArrayBreaksAt};
 ghost use Rattle.base_bytes.specs.Fields.{AreBytes};
 ghost use Rattle.value_laws.specs.FileArrays.{ArrayIsDecided};
+ghost use Rattle.value_laws.specs.Once.{ShortestArrayIsOne};
 
 /// With the tables of a file, an array or a fault stands by their names exactly if it does by the file's.
 pub fn arrays_carry_over()
@@ -39,4 +40,9 @@ pub fn faults_are_where_no_array_stands()
 /// The names in an array that stands have rows.
 pub fn names_of_arrays_have_rows()
     ensures { (b : List ℕ) (off most : ℕ) (vs : List Value) → ArrayStands (NameStands b) b off most vs → AllByRecursion (HasRow b) (flat_map names_of_value vs) }
+{}
+
+/// By ranks, where each name has one, values have one array in the fewest bytes.
+pub fn shortest_array_is_one()
+    ensures { ShortestArrayIsOne }
 {}

@@ -9,6 +9,7 @@ use Rattle.file_sections.proofs.SitedLaws.{room_of_sited}
 use Rattle.file_assemble.specs.Assembled.{Places, rows_of}
 use Rattle.file_assemble.proofs.DataLaws.{laid, longer}
 use Rattle.file_assemble.proofs.FitsLaws.{behind, few_of, room_of}
+use Rattle.file_assemble.proofs.OnceLaws.{datas_shared}
 use Rattle.file_assemble.proofs.ReadyLaws.{class_can}
 use Rattle.file_assemble.proofs.assembling.put_data.Goals as goal
 
@@ -144,7 +145,7 @@ returns-clause-ok c =
     let d = rw c.deref.ensures.value at c.in_ok-datas.ensures.ok in
     rw (c.part.ensures, c.codes_part.ensures, c.part-2.ensures, c.part-3.ensures, c.part-4.ensures, c.requires.counts, e0, e1, e2, e3, e4, e5)
     (laid s p r c.args.out.now.items c.put_lists.new.out.items c.put_codes.new.out.items c.put_strings.new.out.items c.put_arrays.new.out.items c.put_datas.new.out.items at (record { lists = c.in_ok-lists.lists.items; codes = c.in_ok-codes.codes.items; texts = c.in_ok-texts.texts.items; arrays = c.in_ok-arrays.arrays.items; datas = c.in_ok-datas.datas.items }) f
-    (record { lists = c.in_ok-lists.ensures.ok; codes = c.in_ok-codes.ensures.ok; texts = c.in_ok-texts.ensures.ok; arrays = c.in_ok-arrays.ensures.ok; datas = d }))
+    (record { lists = c.in_ok-lists.ensures.ok; codes = c.in_ok-codes.ensures.ok; texts = c.in_ok-texts.ensures.ok; arrays = c.in_ok-arrays.ensures.ok; datas = d; once = record { lists = c.in_ok-lists.ensures.once; codes = c.in_ok-codes.ensures.once; texts = c.in_ok-texts.ensures.once; arrays = c.in_ok-arrays.ensures.once; datas = datas_shared p c.requires.kept _ _ } }))
 
 pub codes_part-requires : goal.codes_part-requires
 codes_part-requires c =

@@ -1,7 +1,7 @@
 use Rattle.std.proofs.Common.{◌+◌, ◌++◌, map, take, drop, get_or, ap, arith, subst, List, [], Option}
 use Rattle.std.proofs.lemmas.List.{take_all, drop_all}
 use Rattle.std.specs.List.{flat_map}
-use Rattle.file_shared.proofs.SharingLaws.{sharing_start}
+use Rattle.file_shared.proofs.SharingLaws.{sharing_start, sharing_shared}
 use Rattle.file_layout.specs.Sections.{wide_all}
 use Rattle.file_limits.proofs.RankLaws.{front_all, back_all}
 use Rattle.file_limits.proofs.SumLaws.{wide_all_append}
@@ -10,7 +10,8 @@ use Rattle.tables_names.specs.Closure.{NameRanks}
 use Rattle.program_types.specs.Content as content
 use Rattle.program_types.specs.View as view
 use Rattle.program_types.specs.declared.class.Class.{Class}
-use Rattle.file_sections.proofs.CodeLaws.{Bodies, class_left, first_part, both_parts}
+use Rattle.file_sections.proofs.CodeLaws.{Bodies, bodies_once, class_left, first_part, both_parts}
+use Rattle.file_layout.specs.Tiles.{AreShared}
 use Rattle.file_sections.proofs.LayingLaws.{items_few}
 use Rattle.file_sections.proofs.NumberLaws.{no_class}
 use Rattle.file_sections.proofs.Steps.{mapped_at}
@@ -67,3 +68,12 @@ returns-clause-ok c =
     subst (λ (d : List (Option content.Code)). Bodies c.args.ranks.now c.args.out.now.items c.loop-class.out.items d [] (body_values (map view.class cs)) c.loop-class.places.items c.loop-class.items) done
     (subst (λ (r : List (Option content.Code)). Bodies c.args.ranks.now c.args.out.now.items c.loop-class.out.items (body_values (map view.class (take i cs))) r (body_values (map view.class cs)) c.loop-class.places.items c.loop-class.items) none c.loop-class.invariant) in
     rw c.count.ensures all.laying
+
+pub returns-clause-once : goal.returns-clause-once
+returns-clause-once c =
+    let cs = c.args.program.now.classes.now in
+    let i = c.loop-class.class-index in
+    let s = c.args.ranks.now in
+    let done = ap (λ (xs : List Class). body_values (map view.class xs)) (take_all i cs c.loop-class-test.false) in
+    subst (λ (d : List (Option content.Code)). AreShared c.loop-class.places.items d) done
+    (sharing_shared is_bodiless (PacksBody (NameRanks s)) (WritesBody s) 4 wide_body (bodies_once s c.rise.ensures) _ _ _ _ _ _ _ c.loop-class.invariant)

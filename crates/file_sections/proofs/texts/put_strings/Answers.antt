@@ -6,7 +6,10 @@ use Rattle.tables_names.specs.Rows.{first_of}
 use Rattle.file_layout.specs.Sections.{never, wide_all, Laying}
 use Rattle.file_layout.proofs.SectionLaws.{Laying-start, Laying-more}
 use Rattle.file_limits.specs.Wide.{wide_text}
-use Rattle.file_sections.proofs.Steps.{map_more, no_str}
+use Rattle.program_types.specs.Key.{text_key}
+use Rattle.file_layout.specs.Tiles.{AreShared}
+use Rattle.file_sections.proofs.ApartLaws.{texts_shared}
+use Rattle.file_sections.proofs.Steps.{map_map, map_more, no_str}
 use Rattle.file_sections.proofs.RoomLaws.{texts_of_keys, map_drop, strings_room}
 use Rattle.file_sections.proofs.texts.put_strings.Goals as goal
 
@@ -51,3 +54,10 @@ returns-clause-ok c =
     (subst (λ (done : List (List ℕ)). Laying never PacksText 1 wide_text c.args.out.now.items c.loop-text.out.items done (map str (drop i xs)) (map str xs) c.loop-text.places.items i) all c.loop-text.invariant) in
     subst (λ (vs : List (List ℕ)). Laying never PacksText 1 wide_text c.args.out.now.items c.loop-text.out.items vs [] vs c.loop-text.places.items (length xs)) (sym same)
     (subst (λ (n : ℕ). Laying never PacksText 1 wide_text c.args.out.now.items c.loop-text.out.items (map str xs) [] (map str xs) c.loop-text.places.items n) e l)
+
+pub returns-clause-once : goal.returns-clause-once
+returns-clause-once c =
+    let xs = c.strings-texts.result.now in
+    let same = sym (ap (map first_of) c.strings-texts.ensures) ∙ texts_of_keys xs in
+    subst (λ (vs : List (List ℕ)). AreShared c.loop-text.places.items vs) (sym same)
+    (texts_shared c.args.ranks.now.strings c.rise.ensures.strings (map str xs) c.loop-text.places.items (map_map text_key str xs ∙ c.strings-texts.ensures))

@@ -1,12 +1,15 @@
-use Rattle.std.proofs.Common.{arith, []}
+use Rattle.std.proofs.Common.{arith, [], List, subst}
 use Rattle.program_types.specs.View as view
 use Rattle.file_sections.proofs.NumberLaws.{list_count}
 use Rattle.file_sections.proofs.LayingLaws.{items_few, room_at}
-use Rattle.file_sections.proofs.ListLaws.{list_packs, list_one, list_most}
+use Rattle.file_sections.proofs.ListLaws.{list_packs, list_one, list_most, lists_once}
 use Rattle.file_layout.specs.Sections.{is_empty_list}
 use Rattle.file_sections.specs.Lists.{SpellsRanks}
 use Rattle.file_limits.specs.Wide.{wide_list, list_values}
-use Rattle.file_shared.proofs.SharingLaws.{sharing_start, sharing_next, sharing_end}
+use Rattle.file_shared.proofs.SharingLaws.{sharing_start, sharing_next, sharing_end, sharing_shared}
+use Rattle.file_layout.specs.Tiles.{AreShared}
+use Rattle.std.proofs.lemmas.List.{take_all}
+use Rattle.program_types.specs.Content.{Descriptor}
 use Rattle.file_sections.proofs.type_lists.put_lists.Goals as goal
 
 pub loop-number-init : goal.loop-number-init
@@ -41,3 +44,11 @@ pub returns-clause-ok : goal.returns-clause-ok
 returns-clause-ok c =
     let n = list_count c.args.ranks.now c.protos.result.now c.args.program.now.classes.now c.protos.ensures in
     sharing_end is_empty_list (SpellsRanks c.args.ranks.now) (SpellsRanks c.args.ranks.now) 4 wide_list _ _ (list_values c.args.ranks.now (view.program c.args.program.now)) c.loop-number.number _ _ _ (omega (arith, n, c.loop-number-test.false)) c.loop-number.invariant c.count.ensures
+
+pub returns-clause-once : goal.returns-clause-once
+returns-clause-once c =
+    let n = list_count c.args.ranks.now c.protos.result.now c.args.program.now.classes.now c.protos.ensures in
+    let s = c.args.ranks.now in
+    let vs = list_values s (view.program c.args.program.now) in
+    subst (λ (done : List (List Descriptor)). AreShared c.loop-number.places.items done) (take_all c.loop-number.number vs (omega (arith, n, c.loop-number-test.false)))
+    (sharing_shared is_empty_list (SpellsRanks s) (SpellsRanks s) 4 wide_list (lists_once s c.rise.ensures) _ _ _ _ _ _ _ c.loop-number.invariant)

@@ -1,4 +1,4 @@
-use Rattle.std.proofs.Common.{◌≡◌, ◌∙◌, ℕ, List, subst, sym}
+use Rattle.std.proofs.Common.{◌∙◌, ℕ, List, subst, sym}
 use Rattle.file_shared.specs.Once.{Entry, IsKept}
 use Rattle.file_shared.proofs.ItemLaws.{insert_last, last_entry}
 use Rattle.file_shared.proofs.items.Items.append.Goals as goal

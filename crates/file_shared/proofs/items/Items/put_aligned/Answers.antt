@@ -1,4 +1,4 @@
-use Rattle.std.proofs.Common.{◌≡◌, ℕ, List, inr, subst}
+use Rattle.std.proofs.Common.{ℕ, List, inr, subst}
 use Rattle.file_shared.specs.Once.{IsKept}
 use Rattle.file_shared.proofs.ItemLaws.{adds_aligned}
 use Rattle.file_shared.proofs.items.Items.put_aligned.Goals as goal

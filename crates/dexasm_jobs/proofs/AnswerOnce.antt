@@ -1,0 +1,38 @@
+-- A job has one answer to the bytes that it is given.
+use Rattle.std.proofs.Common.{◌≡◌, ℕ, List, true, false, sym, ap, ◌∙◌, subst}
+use Rattle.dexasm_job.specs.declared.job.Job.{Job}
+use Rattle.dexasm_job.specs.declared.job.Job.TheVariants.{Check, List as Listing, Assemble, Strip}
+use Rattle.dexasm_jobs.specs.Answers.{Answer}
+use Rattle.file_align.specs.Programs.{AlignedProgram}
+use Rattle.file_laws.proofs.RangeLaws.{well_formed}
+use Rattle.file_read.proofs.PassLaws.{program_one}
+use Rattle.file_write.proofs.OneFile.{file_one, stripped_same}
+use Rattle.file_write.specs.Written.{IsFileOf}
+use Rattle.listing_parse.proofs.ExactLaws.{listing_one}
+use Rattle.listing_parse.specs.Text.{IsListing}
+use Rattle.listing_print.specs.Canon.{canon}
+use Rattle.program_rules.specs.WellFormed.{WellFormed}
+use Rattle.program_types.specs.Content.{Program}
+use Rattle.listing_laws.proofs.ClassRuns.{printed_again}
+use Rattle.listing_lines.specs.declared.form.Form.TheVariants.{Two}
+use Rattle.dexasm_jobs.proofs.AlignOnce.{program_aligned_one}
+
+pub answer_once : (job : Job) (given a b : List ℕ) → Answer job given a → Answer job given b → a ≡ b
+answer_once Check given a b x y = x.2 ∙ sym y.2
+answer_once Listing given a b x y = x.2 ∙ ap canon (program_one given x.0 y.0 x.1 y.1) ∙ sym y.2
+answer_once (Assemble false) given a b x y =
+    file_one x.0 a b x.2 (subst (λ (p : Program). IsFileOf p b) (sym (listing_one given x.0 y.0 x.1 y.1)) y.2)
+answer_once (Assemble true) given a b x y =
+    let same = listing_one given x.0 y.0 x.1 y.1 in
+    let s = x.2 in let t = y.2 in
+    let one = program_aligned_one x.0 s.0 t.0 s.1 (subst (λ (p : Program). AlignedProgram p t.0) (sym same) t.1) in
+    file_one s.0 a b s.2 (subst (λ (p : Program). IsFileOf p b) (sym one) t.2)
+answer_once Strip given a b x y = stripped_same given given a b x y (program_one given x.program y.program x.meant y.meant)
+
+pub listed_once : (file text made small : List ℕ) → Answer Listing file text → Answer (Assemble false) text made → Answer Strip file small → made ≡ small
+listed_once file text made small x y z =
+    let meant = program_one file x.0 z.program x.1 z.meant in
+    let formed = subst WellFormed (sym meant) (well_formed small z.file.laid.bytes z.program z.file.means) in
+    let listed = subst (λ (t : List ℕ). IsListing t x.0) (sym x.2) (printed_again Two x.0 formed) in
+    let same = listing_one text x.0 y.0 listed y.1 in
+    file_one y.0 made small y.2 (subst (λ (p : Program). IsFileOf p small) (sym meant ∙ same) z.file)

@@ -1,0 +1,2 @@
+pub mod AlignOnce
+pub mod AnswerOnce

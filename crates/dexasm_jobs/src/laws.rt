@@ -1,0 +1,12 @@
+// Laws of the definitions, each the contract of a function that does nothing else.
+ghost use Rattle.dexasm_jobs.specs.Once.{ListedAndAssembledIsStripped, OneAnswer};
+
+/// A job has one answer to the bytes that it is given.
+pub fn one_answer()
+    ensures { OneAnswer }
+{}
+
+/// What is listed of a file and assembled is what is stripped of it.
+pub fn listed_and_assembled_is_stripped()
+    ensures { ListedAndAssembledIsStripped }
+{}

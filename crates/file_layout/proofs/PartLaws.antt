@@ -1,0 +1,75 @@
+-- Parts of bytes.
+use Rattle.std.proofs.Common.{◌≡◌, ℕ, zero, suc, ◌+◌, ◌-◌, ◌≤◌, List, [], ◌∷◌, ◌++◌, length, take, drop, refl, sym, ap, ◌∙◌, arith}
+use Rattle.std.proofs.Math.Seq.{take-add}
+use Rattle.std.proofs.lemmas.List.{get_or-drop, length-drop}
+use Rattle.base_bytes.specs.Fields.{AreBytes}
+use Rattle.base_bytes.proofs.ShortestLaws.{AllBytes}
+use Rattle.dex_container.specs.Where.{slice}
+use Rattle.file_layout.specs.Once.{part_of}
+
+pub all_of : (b : List ℕ) → AreBytes b → AllBytes b
+all_of [] h = tt
+all_of (x ∷ xs) h = (h 0, all_of xs (λ i. h (suc i)))
+
+take_are : (n : ℕ) (xs : List ℕ) → AreBytes xs → AreBytes (take n xs)
+take_are zero xs h i = omega arith
+take_are (suc n) [] h i = omega arith
+take_are (suc n) (x ∷ xs) h zero = h 0
+take_are (suc n) (x ∷ xs) h (suc i) = take_are n xs (λ j. h (suc j)) i
+
+-- a part of bytes is bytes
+pub slice_are : (b : List ℕ) (place size : ℕ) → AreBytes b → AreBytes (slice b place size)
+unfolding slice
+slice_are b place size h = take_are size (drop place b) (λ i. rw (get_or-drop place b i 0) (h (place + i)))
+
+length_take : (n : ℕ) (xs : List ℕ) → n ≤ length xs → length (take n xs) ≡ n
+length_take zero xs h = refl
+length_take (suc n) [] h = absurd (omega arith)
+length_take (suc n) (x ∷ xs) h = ap suc (length_take n xs (omega arith))
+
+pub length_slice : (b : List ℕ) (place size : ℕ) → place + size ≤ length b → length (slice b place size) ≡ size
+unfolding slice
+length_slice b place size h = length_take size (drop place b) (let l = length-drop place b in omega (arith, h, l))
+
+drop_nil : (n : ℕ) → drop {A = ℕ} n [] ≡ []
+drop_nil zero = refl
+drop_nil (suc n) = refl
+
+pub drop_more : (m n : ℕ) (xs : List ℕ) → drop n (drop m xs) ≡ drop (m + n) xs
+drop_more zero n xs = let e : n ≡ 0 + n = omega arith in ap (λ (k : ℕ). drop k xs) e
+drop_more (suc m) n [] = drop_nil n ∙ sym (drop_nil (suc m + n))
+drop_more (suc m) n (x ∷ xs) = let e : suc (m + n) ≡ suc m + n = omega arith in drop_more m n xs ∙ ap (λ (k : ℕ). drop k (x ∷ xs)) e
+
+slice_more : (b : List ℕ) (at m n : ℕ) → slice b at (m + n) ≡ slice b at m ++ slice b (at + m) n
+unfolding slice
+slice_more b at m n = take-add m n (drop at b) ∙ ap (λ (t : List ℕ). take m (drop at b) ++ take n t) (drop_more at m b)
+
+-- a part, cut at a place between
+pub part_cut : (b : List ℕ) (from mid to : ℕ) → from ≤ mid → mid ≤ to → part_of b from to ≡ part_of b from mid ++ part_of b mid to
+part_cut b from mid to p q =
+    let n : to - from ≡ (mid - from) + (to - mid) = omega (arith, p, q) in
+    let m : from + (mid - from) ≡ mid = omega (arith, p) in
+    ap (λ (k : ℕ). slice b from k) n ∙ slice_more b from (mid - from) (to - mid) ∙ ap (λ (k : ℕ). slice b from (mid - from) ++ slice b k (to - mid)) m
+
+-- zeros, an item, and what is behind it
+pub part_item : (b : List ℕ) (at place size end g : ℕ) → place ≡ at + g → place + size ≤ end → part_of b at end ≡ slice b at g ++ (slice b place size ++ part_of b (place + size) end)
+part_item b at place size end g here le =
+    let m : place - at ≡ g = omega (arith, here) in
+    let n : place + size - place ≡ size = omega arith in
+    part_cut b at place end (omega (arith, here)) (omega (arith, le))
+    ∙ ap (λ (t : List ℕ). part_of b at place ++ t) (part_cut b place (place + size) end (omega arith) le)
+    ∙ ap (λ (k : ℕ). slice b at k ++ (part_of b place (place + size) ++ part_of b (place + size) end)) m
+    ∙ ap (λ (k : ℕ). slice b at g ++ (slice b place k ++ part_of b (place + size) end)) n
+
+-- no bytes
+pub part_none : (b : List ℕ) (at : ℕ) → part_of b at at ≡ []
+unfolding slice
+part_none b at = let n : at - at ≡ 0 = omega arith in ap (λ (k : ℕ). take k (drop at b)) n
+
+pub part_whole : (b : List ℕ) → part_of b 0 (length b) ≡ b
+unfolding slice
+part_whole b = let e : length b - 0 ≡ length b = omega arith in ap (λ (k : ℕ). take k b) e ∙ all_taken b
+  where
+    all_taken : (xs : List ℕ) → take (length xs) xs ≡ xs
+    all_taken [] = refl
+    all_taken (x ∷ xs) = ap (λ (t : List ℕ). x ∷ t) (all_taken xs)
