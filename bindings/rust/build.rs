@@ -7,8 +7,15 @@ fn main() {
         || PathBuf::from(env::var_os("CARGO_MANIFEST_DIR").unwrap()).join("../../crates/dexasm_c/out/built"),
         PathBuf::from,
     );
+    let library = folder.join("libdexasm.a");
     println!("cargo:rerun-if-env-changed=DEXASM_LIB");
-    println!("cargo:rerun-if-changed={}", folder.join("libdexasm.a").display());
+    println!("cargo:rerun-if-changed={}", library.display());
+    if !library.exists() && env::var_os("DOCS_RS").is_none() {
+        println!(
+            "cargo:warning={} isn't there: `tools/build library` makes it, or DEXASM_LIB names its folder",
+            library.display()
+        );
+    }
     println!("cargo:rustc-link-search=native={}", folder.display());
     println!("cargo:rustc-link-lib=static=dexasm");
 }

@@ -7,13 +7,14 @@
 
 What is refused raises Refused, with the fault's number, name and place; want of memory raises MemoryError. The library is the one that
 the variable DEXASM_LIBRARY names, or libdexasm.so beside this file, or the one that tools/build made in this repository, or the system's.
+`from dexasm import *` leaves out `list`, so that Python's own stays.
 """
 from __future__ import annotations
 
 import ctypes
 import os
 
-__all__ = ["Refused", "assemble", "check", "fault_name", "list", "strip", "version"]
+__all__ = ["Refused", "assemble", "check", "fault_name", "strip", "version"]
 
 Data = bytes | bytearray | memoryview
 
@@ -49,7 +50,10 @@ def _load() -> ctypes.CDLL:
         path = os.path.join(folder, "libdexasm.so")
         if os.path.exists(path):
             return ctypes.CDLL(path)
-    return ctypes.CDLL("libdexasm.so.0")
+    try:
+        return ctypes.CDLL("libdexasm.so.0")
+    except OSError:
+        raise ImportError("libdexasm isn't found: DEXASM_LIBRARY may name its file; `tools/build library` makes it") from None
 
 
 def _declare(library: ctypes.CDLL) -> ctypes.CDLL:

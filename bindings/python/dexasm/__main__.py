@@ -2,9 +2,14 @@
 from __future__ import annotations
 
 import argparse
+import os
+import stat
 import sys
+from typing import BinaryIO
 
 import dexasm
+
+NAMES = 100  # how many names beside OUT are tried
 
 
 def words() -> argparse.Namespace:
@@ -27,13 +32,51 @@ def read(path: str | None) -> bytes:
         return file.read()
 
 
+def beside(path: str) -> BinaryIO | None:
+    """A new file beside the path, with the mode of what is there; None where that can't be replaced: a device, a file of several names,
+    one in a folder that takes no new file."""
+    is_there = os.path.exists(path)
+    if is_there:
+        there = os.stat(path)
+        if not stat.S_ISREG(there.st_mode) or there.st_nlink > 1:
+            return None
+        open(path, "r+b").close()  # a file that may not be written stays
+    for number in range(NAMES):
+        try:
+            file = open(f"{path}.{number}.part", "xb")
+        except FileExistsError:
+            continue
+        except PermissionError:
+            return None
+        if is_there:
+            os.chmod(file.name, stat.S_IMODE(there.st_mode))
+        return file
+    return None
+
+
+def write_beside(path: str, file: BinaryIO, made: bytes) -> None:
+    """What was there stays until the answer is whole, also where the disk is full."""
+    try:
+        with file:
+            file.write(made)
+        os.replace(file.name, path)
+    except BaseException:
+        os.remove(file.name)
+        raise
+
+
 def write(path: str | None, made: bytes) -> None:
     if path is None:
         sys.stdout.buffer.write(made)
         sys.stdout.buffer.flush()
         return
-    with open(path, "wb") as file:
-        file.write(made)
+    path = os.path.realpath(path) if os.path.exists(path) else path
+    file = beside(path)
+    if file is not None:
+        write_beside(path, file, made)
+        return
+    with open(path, "wb") as itself:
+        itself.write(made)
 
 
 def answer(asked: argparse.Namespace, given: bytes) -> bytes:

@@ -59,9 +59,8 @@ impl<'p> Out<'p> {
                 write_itself(rt, path, answer.as_slice())
             }
             Place::Beside(file, beside, name) => {
-                let kept = done.and_then(|()| finish(file)).and_then(|()| {
-                    fs::rename(rt, beside.as_str(), name.as_str()).map_err(|_| RunFault::Output)
-                });
+                let whole = done.and_then(|()| finish(file));
+                let kept = whole.and_then(|()| replace(rt, beside.as_str(), name.as_str()));
                 if kept.is_err() {
                     let _ = fs::remove_file(rt, beside.as_str());
                 }
@@ -103,8 +102,7 @@ pub(crate) fn finish<W: Write + Drop>(mut output: W) -> Result<(), RunFault> {
 }
 
 // A regular file, or one that isn't there, is written beside and renamed, so that OUT is as it was whatever fails; where a link
-// leads to it, the link stays. A device, a pipe, a file with several names and one whose folder takes no new file are written in
-// place.
+// leads to it, the link stays. A device, a pipe, a file with several names and one that can't be replaced are written in place.
 fn open(rt: &HostRuntime, path: &str) -> Result<Place, RunFault> {
     match fs::symlink_metadata(rt, path) {
         Err(error) if error.kind() == ErrorKind::NotFound => open_beside(rt, path, None),
@@ -137,9 +135,31 @@ fn itself(rt: &HostRuntime) -> Place {
 
 // Writes the answer to what is at this path, or makes it.
 fn write_itself(rt: &HostRuntime, path: &str, answer: &[u8]) -> Result<(), RunFault> {
-    let mut file = File::create(rt, path).map_err(|_| RunFault::Output)?;
+    let mut file = open_itself(rt, path).map_err(|_| RunFault::Output)?;
     file.write_all(answer).map_err(|_| RunFault::Output)?;
     finish(file)
+}
+
+// What is at this path, emptied, or a new file. (To ask for a new one where there is one is refused in some sticky folders.)
+fn open_itself(rt: &HostRuntime, path: &str) -> io::Result<File> {
+    match OpenOptions::new().write(true).truncate(true).open(rt, path) {
+        Err(error) if error.kind() == ErrorKind::NotFound => File::create(rt, path),
+        opened => opened,
+    }
+}
+
+// The file beside takes the name of OUT. Where that can't be replaced, though it can be written (a mount point, another user's file in
+// a sticky folder), its bytes go there.
+fn replace(rt: &HostRuntime, beside: &str, name: &str) -> Result<(), RunFault> {
+    if fs::rename(rt, beside, name).is_ok() {
+        return Ok(());
+    }
+    let mut answer = File::open(rt, beside).map_err(|_| RunFault::Output)?;
+    let mut file = open_itself(rt, name).map_err(|_| RunFault::Output)?;
+    io::copy(&mut answer, &mut file).map_err(|_| RunFault::Output)?;
+    finish(file)?;
+    let _ = fs::remove_file(rt, beside);
+    Ok(())
 }
 
 // A new file beside the path, with the mode and the owner of what is there.
@@ -164,7 +184,8 @@ fn open_beside(rt: &HostRuntime, path: &str, there: Option<Metadata>) -> Result<
             Err(_) => return Err(RunFault::Output),
         }
     }
-    Err(RunFault::Output)
+    // (all these names were left by runs that were killed)
+    Ok(itself(rt))
 }
 
 // Whether the folder takes no file of this name, so that only the file itself can be written.

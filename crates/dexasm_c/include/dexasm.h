@@ -4,8 +4,9 @@
  * realloc, free) it gives back, and there is no global state: so threads may call at once, each with memory of its own. Not from a
  * signal handler, nor in a forked child of a process with threads. Calls recurse little, yet give a thread the usual stack.
  *
- * What each call leaves is proved (docs/PROVED.md), for pointers that keep this:
+ * What each call leaves is proved (docs/PROVED.md), for arguments that keep this:
  *   - none is NULL, not even where the length or the capacity is 0;
+ *   - align is 0 or 1, as a bool of C is (other languages: one byte);
  *   - behind it are as many bytes as the length or the capacity says, and less than 2^63;
  *   - out, needed and fault overlap neither one another nor the bytes that are read, and nobody else writes any of it meanwhile.
  *

@@ -1,0 +1,79 @@
+"""Makes the wheel of the module dexasm with libdexasm.so in it, for `pip install` (PEP 517) and for tools/package.
+
+The library is the file that the variable DEXASM_LIBRARY names, or the one that tools/build library has made in this repository.
+"""
+import base64
+import hashlib
+import io
+import os
+import re
+import time
+import zipfile
+
+HERE = os.path.dirname(os.path.abspath(__file__))
+BUILT = os.path.join(HERE, "..", "..", "crates", "dexasm_c", "out", "built", "libdexasm.so")
+# The library asks for glibc 2.17 at least, and for nothing else that isn't in the name's list.
+TAG = "py3-none-manylinux_2_17_x86_64"
+EARLIEST = 315532800  # the first second that a zip archive can hold
+
+
+def get(*path):
+    with open(os.path.join(*path), "rb") as file:
+        return file.read()
+
+
+def version():
+    return re.search(r'^version = "(.*)"$', get(HERE, "pyproject.toml").decode(), re.MULTILINE).group(1)
+
+
+def name_of_wheel():
+    return f"dexasm-{version()}-{TAG}.whl"
+
+
+def files_of_wheel(library):
+    """Where each file stands in the wheel, and its bytes."""
+    info = f"dexasm-{version()}.dist-info"
+    files = {f"dexasm/{name}": get(HERE, "dexasm", name) for name in os.listdir(f"{HERE}/dexasm") if name.endswith(".py")}
+    files["dexasm/libdexasm.so"] = library
+    files[f"{info}/LICENSE"] = get(HERE, "..", "..", "LICENSE")
+    head = ["Metadata-Version: 2.1", "Name: dexasm", f"Version: {version()}"]
+    head += ["Summary: Checks, lists, assembles and strips .dex files, by libdexasm", "License: Apache-2.0"]
+    head += ["Requires-Python: >=3.10", "Classifier: Operating System :: POSIX :: Linux", "Description-Content-Type: text/markdown"]
+    files[f"{info}/METADATA"] = "\n".join([*head, "", ""]).encode() + get(HERE, "README.md")
+    files[f"{info}/WHEEL"] = f"Wheel-Version: 1.0\nGenerator: dexasm\nRoot-Is-Purelib: false\nTag: {TAG}\n".encode()
+    rows = [f"{place},{digest(given)},{len(given)}\n" for place, given in sorted(files.items())]
+    files[f"{info}/RECORD"] = "".join([*rows, f"{info}/RECORD,,\n"]).encode()
+    return files
+
+
+def digest(given):
+    return "sha256=" + base64.urlsafe_b64encode(hashlib.sha256(given).digest()).decode().rstrip("=")
+
+
+def wheel(library, when):
+    """The bytes of the wheel: the same for the same files and the same time."""
+    packed = io.BytesIO()
+    with zipfile.ZipFile(packed, "w", zipfile.ZIP_DEFLATED) as archive:
+        for place, given in sorted(files_of_wheel(library).items()):
+            entry = zipfile.ZipInfo(place, time.gmtime(max(when, EARLIEST))[:6])
+            entry.external_attr, entry.compress_type = 0o100644 << 16, zipfile.ZIP_DEFLATED
+            archive.writestr(entry, given)
+    return packed.getvalue()
+
+
+# ---- what pip calls
+
+
+def build_wheel(wheel_directory, config_settings=None, metadata_directory=None):
+    path = os.environ.get("DEXASM_LIBRARY") or BUILT
+    if not os.path.exists(path):
+        raise SystemExit(
+            f"libdexasm.so isn't at {os.path.normpath(path)}: `tools/build library` makes it, or DEXASM_LIBRARY names its file"
+        )
+    with open(os.path.join(wheel_directory, name_of_wheel()), "wb") as file:
+        file.write(wheel(get(path), int(os.environ.get("SOURCE_DATE_EPOCH", EARLIEST))))
+    return name_of_wheel()
+
+
+def build_sdist(sdist_directory, config_settings=None):
+    raise SystemExit("there is no source distribution: the library is built in the repository, by `tools/build library`")

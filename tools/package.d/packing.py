@@ -1,0 +1,202 @@
+"""What stands in the packages, and how each is packed: the same files give the same bytes."""
+import email.utils
+import gzip
+import hashlib
+import io
+import os
+import re
+import subprocess
+import sys
+import tarfile
+import tempfile
+
+TOP = os.path.dirname(os.path.dirname(os.path.dirname(os.path.abspath(__file__))))
+sys.path.insert(0, os.path.join(TOP, "bindings/python"))
+
+# Where each file goes below the package's top, or below /usr.
+FILES = {
+    "docs/man/dexasm.1": "share/man/man1/dexasm.1",
+    "docs/man/dexasm-listing.5": "share/man/man5/dexasm-listing.5",
+    "contrib/completion/dexasm.bash": "share/bash-completion/completions/dexasm",
+    "contrib/completion/_dexasm": "share/zsh/site-functions/_dexasm",
+    "contrib/completion/dexasm.fish": "share/fish/vendor_completions.d/dexasm.fish",
+    "README.md": "share/doc/dexasm/README.md",
+    "CHANGELOG.md": "share/doc/dexasm/CHANGELOG.md",
+    "bindings/c/example.c": "share/doc/dexasm/examples/example.c",
+    "LICENSE": "share/doc/dexasm/copyright",
+}
+# What goes there with all that lies below it.
+FOLDERS = {
+    "bindings/python/dexasm": "lib/python3/dist-packages/dexasm",
+    "bindings/rust": "share/doc/dexasm/rust",
+    "contrib/bin": "bin",
+    "contrib/vim": "share/vim/vimfiles",
+    "docs": "share/doc/dexasm/docs",
+}
+LEFT_OUT = ("target", "man", "__pycache__", "Cargo.lock", ".gitignore")  # what is made, and what goes elsewhere
+# The oldest C library that has what the program and libdexasm.so ask for.
+GLIBC = {"bin/dexasm": (2, 34), "lib/libdexasm.so.0": (2, 17)}
+
+# For pkg-config, wherever the package lies.
+PC = """prefix=${pcfiledir}/../..
+Name: dexasm
+Description: checks, lists, assembles and strips .dex files
+Version: %s
+Libs: -L${prefix}/lib -ldexasm
+Cflags: -I${prefix}/include
+"""
+# What Debian wants beside the files: the licence by its place, and why lintian is not followed.
+COPYRIGHT = """Format: (the machine-readable format, 1.0)
+Upstream-Name: dexasm
+
+Files: *
+Copyright: 2026 the authors of dexasm
+License: Apache-2.0
+ On Debian systems the text is in /usr/share/common-licenses/Apache-2.0.
+"""
+OVERRIDES = """# The bytes are those that the proof was built to, and PROVED-BY has their sums.
+dexasm: unstripped-binary-or-object
+# Program, library and header are one package, and nobody's but the authors'.
+dexasm: package-name-doesnt-match-sonames
+dexasm: link-to-shared-library-in-wrong-package
+"""
+
+
+class Failed(Exception):
+    """Why there is no package."""
+
+
+def output(*words):
+    done = subprocess.run(words, cwd=TOP, stdout=subprocess.PIPE, stderr=subprocess.PIPE)
+    return done.stdout.decode().strip() if done.returncode == 0 else ""
+
+
+def get(path):
+    with open(path, "rb") as file:
+        return file.read()
+
+
+def version():
+    return re.search(r'VERSION: &str = "([^"]*)"', get(f"{TOP}/crates/dexasm_plan/src/texts.rt").decode()).group(1)
+
+
+def proved_by(program, library, is_given):
+    """What was proved, by what, and what it came to; what is given by --of was built nobody says where."""
+    commit = output("git", "rev-parse", "HEAD") or "unknown"
+    changed = " with changes that aren't committed" if output("git", "status", "--porcelain", "-uno") else ""
+    compiler = output("rt", "version") or "unknown"
+    sums = "".join(f"{hashlib.sha256(get(path)).hexdigest()}  {os.path.basename(path)}\n" for path in (program, *library))
+    built = f"Proved and built of commit {commit}{changed},\nby the toolchain {compiler}.\nPROVED.md says what that means.\n"
+    given = f"Packed at commit {commit}{changed}.\nThe program and the library were given: of which commit they are isn't known here.\n"
+    return f"{given if is_given else built}\n{sums}"
+
+
+def below(folder, place):
+    """The files below a folder, where they go."""
+    for at, folders, names in os.walk(f"{TOP}/{folder}"):
+        folders[:] = sorted(set(folders).difference(LEFT_OUT))
+        for name in sorted(set(names).difference(LEFT_OUT)):
+            path = os.path.join(at, name)
+            mode = 0o755 if os.access(path, os.X_OK) else 0o644
+            yield place + path.removeprefix(f"{TOP}/{folder}"), (get(path), mode)
+
+
+def contents(program, library, is_given):
+    """Where each file goes, its bytes and its mode; what a link leads to where that is a text."""
+    parts = [f"{library}/{name}" for name in ("libdexasm.a", "libdexasm.so", "dexasm.h")]
+    held = {
+        "bin/dexasm": (get(program), 0o755),
+        "lib/libdexasm.a": (get(parts[0]), 0o644),
+        "lib/libdexasm.so.0": (get(parts[1]), 0o644),
+        "lib/libdexasm.so": ("libdexasm.so.0", 0o777),
+        "include/dexasm.h": (get(parts[2]), 0o644),
+        "lib/pkgconfig/dexasm.pc": ((PC % version()).encode(), 0o644),
+        "share/doc/dexasm/PROVED-BY": (proved_by(program, parts, is_given).encode(), 0o644),
+    }
+    for path, place in FOLDERS.items():
+        held.update(below(path, place))
+    for path, place in FILES.items():
+        held[place] = get(os.path.join(TOP, path)), 0o644
+    return held
+
+
+def pack_tar(held, top, path, time):
+    """The same bytes for the same files: sorted, with the commit's time, of nobody in particular."""
+    packed = io.BytesIO()
+    with tarfile.open(fileobj=packed, mode="w", format=tarfile.USTAR_FORMAT) as tar:
+        for place in sorted(held):
+            given, mode = held[place]
+            entry = tarfile.TarInfo(f"{top}/{place}")
+            entry.mode, entry.mtime = mode, time
+            if isinstance(given, str):
+                entry.type, entry.linkname = tarfile.SYMTYPE, given
+                tar.addfile(entry)
+            else:
+                entry.size = len(given)
+                tar.addfile(entry, io.BytesIO(given))
+    with open(path, "wb") as file, gzip.GzipFile("", "wb", 9, file, mtime=time) as zipped:
+        zipped.write(packed.getvalue())
+
+
+def authors():
+    """Whose package it is: those of the commit."""
+    return output("git", "log", "-1", "--format=%an <%ae>") or "the authors of dexasm <root@localhost>"
+
+
+def zipped(given):
+    return gzip.compress(given, 9, mtime=0)
+
+
+def for_debian(held, number, time):
+    """The same files as Debian has them: manual pages zipped, a changelog, the licence by its place."""
+    when = email.utils.formatdate(time)
+    news = f"dexasm ({number}) unstable; urgency=low\n\n  * See CHANGELOG.md beside this file.\n\n -- {authors()}  {when}\n"
+    moved = {"share/doc/dexasm/changelog.gz": (zipped(news.encode()), 0o644)}
+    for place, (given, mode) in held.items():
+        if place.startswith("share/man/"):
+            place, given = f"{place}.gz", zipped(given)
+        elif place.startswith("lib/pkgconfig/"):
+            place = place.replace("lib/", "share/")
+        elif place.endswith("/copyright"):
+            given = COPYRIGHT.encode()
+        moved[place] = given, mode
+    moved["share/lintian/overrides/dexasm"] = OVERRIDES.encode(), 0o644
+    return moved
+
+
+def pack_deb(held, path, number, time):
+    """A .deb of the same files below /usr."""
+    held = for_debian(held, number, time)
+    with tempfile.TemporaryDirectory() as root:
+        os.chmod(root, 0o755)
+        for place, (given, mode) in held.items():
+            at = os.path.join(root, "usr", place)
+            os.makedirs(os.path.dirname(at), exist_ok=True)
+            if isinstance(given, str):
+                os.symlink(given, at)
+                continue
+            with open(at, "wb") as file:
+                file.write(given)
+            os.chmod(at, mode)
+        size = sum(len(given) for given, _ in held.values()) // 1024 + 1
+        os.makedirs(f"{root}/DEBIAN")
+        with open(f"{root}/DEBIAN/control", "w", encoding="ascii") as file:
+            file.write(f"Package: dexasm\nVersion: {number}\nArchitecture: amd64\nDepends: libc6 (>= 2.34), python3:any\nSuggests: unzip\nSection: devel\n")
+            file.write(f"Priority: optional\nInstalled-Size: {size}\nMaintainer: {authors()}\n")
+            file.write("Description: checks, lists, assembles and strips .dex files\n Dalvik Executable files of version 035: a program, and a\n")
+            file.write(" library for C and Python. What they promise is proved.\n")
+        sums = [(hashlib.md5(given).hexdigest(), place) for place, (given, _) in sorted(held.items()) if not isinstance(given, str)]
+        beside = {
+            "md5sums": "".join(f"{sum}  usr/{place}\n" for sum, place in sums),
+            "shlibs": "libdexasm 0 dexasm\n",
+            "triggers": "activate-noawait ldconfig\n",
+        }
+        for name, text in beside.items():
+            with open(f"{root}/DEBIAN/{name}", "w", encoding="ascii") as file:
+                file.write(text)
+            os.chmod(f"{root}/DEBIAN/{name}", 0o644)
+        env = {**os.environ, "SOURCE_DATE_EPOCH": str(time)}
+        words = ["dpkg-deb", "--root-owner-group", "-Zgzip", "--build", root, path]
+        done = subprocess.run(words, env=env, stdout=subprocess.PIPE, stderr=subprocess.STDOUT)
+        if done.returncode:
+            raise Failed(f"dpkg-deb: {done.stdout.decode()}")

@@ -1,0 +1,126 @@
+"""The packages, each unpacked elsewhere and tried there. What needs a tool that isn't here isn't tried."""
+import os
+import re
+import shutil
+import subprocess
+import sys
+import tempfile
+
+from packing import GLIBC, TOP, get
+
+LIMIT = 300  # seconds for a command
+
+
+class Tries:
+    """How many things were tried, and what failed, which is told on standard error."""
+
+    def __init__(self):
+        self.tried, self.failed = 0, 0
+
+    def check(self, what, is_so, seen=""):
+        self.tried += 1
+        if not is_so:
+            self.failed += 1
+            print(f"tools/package: {what}: FAILED {seen}", file=sys.stderr)
+
+    def runs(self, what, *words, want=None, **options):
+        """Whether these words end well, and print what is wanted."""
+        try:
+            done = subprocess.run(words, stdout=subprocess.PIPE, stderr=subprocess.STDOUT, timeout=LIMIT, **options)
+        except subprocess.TimeoutExpired:
+            self.check(what, False, f"no answer within {LIMIT} s")
+            return
+        said = done.stdout.decode("utf8", "replace")
+        self.check(what, done.returncode == 0 if want is None else said == want, repr(said[-600:]))
+
+
+def session():
+    """README's session: each command with what it prints, or with what is typed into it."""
+    text = re.search(r"```console\n(.*?)```", get(f"{TOP}/README.md").decode(), re.S).group(1)
+    for step in re.split(r"^\$ ", text, flags=re.M)[1:]:
+        command, _, rest = step.partition("\n")
+        yield command, rest
+
+
+def as_nobody(home):
+    """Words before a command that root gives, by which nobody gives it; the folder is nobody's then."""
+    if os.geteuid() != 0 or not shutil.which("setpriv"):
+        return []
+    os.chown(home, 65534, 65534)
+    return ["setpriv", "--reuid=65534", "--regid=65534", "--clear-groups", "--no-new-privs"]
+
+
+def try_session(tries, what, folder, home):
+    """README's session with the program below that folder, and the library by Python."""
+    drop = as_nobody(home)
+    places = {"PATH": f"{folder}/bin:/usr/local/bin:/usr/bin:/bin", "HOME": home, "LANG": "C.UTF-8"}
+    env = {**places, "DEXASM_LIBRARY": f"{folder}/lib/libdexasm.so.0", "PYTHONPATH": f"{folder}/lib/python3/dist-packages"}
+    steps = [*session(), ("/usr/bin/env python3 -B -m dexasm check hello.dex", "dexasm: refused 8 Checksum at 8\n")]
+    for command, rest in steps:
+        is_typed = command.startswith("cat >")
+        given, want = (rest.encode(), "") if is_typed else (b"", rest)
+        tries.runs(f"{what}: {command}", *drop, "bash", "-c", command, want=want, cwd=home, env=env, input=given)
+
+
+def try_c(tries, what, folder, room):
+    """A caller in C, as pkg-config says that it is compiled."""
+    if not shutil.which("pkg-config") or not shutil.which("cc"):
+        return
+    env = {**os.environ, "PKG_CONFIG_PATH": f"{folder}/lib/pkgconfig:{folder}/share/pkgconfig", "LD_LIBRARY_PATH": f"{folder}/lib"}
+    source, made = f"{folder}/share/doc/dexasm/examples/example.c", f"{room}/example"
+    compile = f"cc -Wall -Werror {source} $(pkg-config --cflags --libs dexasm) -o {made}"
+    tries.runs(f"{what}: by pkg-config and cc", "bash", "-c", compile, env=env, cwd=room)
+    tries.runs(f"{what}: the caller in C", made, "check", f"{room}/hello.dex", want="ok\n", env=env)
+
+
+def try_rust(tries, what, folder, room):
+    """The crate in the package, by cargo."""
+    if not shutil.which("cargo"):
+        return
+    shutil.copytree(f"{folder}/share/doc/dexasm/rust", f"{room}/rust")
+    env = {**os.environ, "DEXASM_LIB": f"{folder}/lib"}
+    words = ["cargo", "run", "--quiet", "--offline", "--example", "run", "check", f"{room}/hello.dex"]
+    tries.runs(f"{what}: by cargo", *words, want="ok\n", env=env, cwd=f"{room}/rust")
+
+
+def try_glibc(tries, what, folder):
+    """That no younger C library is asked for than the package says."""
+    for place, most in GLIBC.items():
+        asked = [tuple(map(int, found.split(b"."))) for found in re.findall(rb"\0GLIBC_(\d+\.\d+)", get(f"{folder}/{place}"))]
+        tries.check(f"{what}: {place} asks for glibc {most}", asked and max(asked) <= most, max(asked, default=None))
+
+
+def try_package(tries, path, top, sample):
+    """A .tar.gz or a .deb; `sample` is a file that `check` accepts."""
+    what = os.path.basename(path)
+    with tempfile.TemporaryDirectory() as room:
+        os.chmod(room, 0o755)
+        words = ["tar", "-xzf", path, "-C", room] if path.endswith(".gz") else ["dpkg-deb", "-x", path, room]
+        tries.runs(f"{what}: unpacked", *words)
+        folder, home = os.path.join(room, top if path.endswith(".gz") else "usr"), os.path.join(room, "home")
+        os.mkdir(home)
+        with open(f"{room}/hello.dex", "wb") as file:
+            file.write(sample)
+        try_session(tries, what, folder, home)
+        try_glibc(tries, what, folder)
+        try_c(tries, what, folder, room)
+        try_rust(tries, what, folder, room)
+        if path.endswith(".deb") and shutil.which("lintian"):
+            tries.runs(f"{what}: by lintian", "lintian", "--allow-root", "--fail-on", "error", path, cwd=room)
+
+
+def try_wheels(tries, wheel, library, sample):
+    """The wheel, and the one that pip makes of the folder, each in an environment of its own."""
+    with tempfile.TemporaryDirectory() as room:
+        with open(f"{room}/hello.dex", "wb") as file:
+            file.write(sample)
+        env = {name: value for name, value in os.environ.items() if name not in ("PYTHONPATH", "DEXASM_LIBRARY")}
+        for what, given, options in (
+            (os.path.basename(wheel), wheel, env),
+            ("bindings/python", f"{TOP}/bindings/python", {**env, "DEXASM_LIBRARY": f"{library}/libdexasm.so"}),
+        ):
+            python = f"{room}/{len(options)}/bin/python"
+            tries.runs(f"{what}: an environment", sys.executable, "-m", "venv", f"{room}/{len(options)}", env=env)
+            install = ["-m", "pip", "install", "--quiet", "--no-index", "--disable-pip-version-check", given]
+            tries.runs(f"{what}: by pip", python, *install, env=options, cwd=room)
+            tries.runs(f"{what}: check", python, "-m", "dexasm", "check", "hello.dex", want="ok\n", env=env, cwd=room)
