@@ -42,11 +42,12 @@ AWKWARD_IN = {"string count": "text", "string byte": "text", "string end": "text
 
 
 class Spots:
-    """The fields of an accepted file: under each label the place and width of each."""
+    """The fields of an accepted file: under each label the place and width of each. And of each row, each two entries of
+    class data that are neighbours, and each instruction, its fields: (label, place, width)."""
 
     def __init__(self, data):
         self.data, self.file = data, faults.read(data)
-        self.of = collections.defaultdict(list)
+        self.of, self.together = collections.defaultdict(list), collections.defaultdict(list)
         self.in_head_and_map()
         self.in_tables()
         for row in self.file.classes:
@@ -87,9 +88,12 @@ class Spots:
             for i in range(self.file.size(kind)):
                 at = self.file.row(kind, i)
                 self.put(f"row {kind}", at, faults.TABLES[kind][1])
+                fields = []
                 for width, label in columns:
                     self.put(label, at, width)
+                    fields.append((label, at, width))
                     at += width
+                self.together[f"row {kind}"].append([field for field in fields if field[0] not in ("ignored", "flags")])
         for i in range(self.file.size(faults.STRINGS)):
             at = faults.u32(self.data, self.file.row(faults.STRINGS, i))
             end = self.data.index(0, faults.uleb128(self.data, at, len(self.data))[1])
@@ -109,10 +113,15 @@ class Spots:
             at, end = row.class_data, self.file.section[faults.CLASS_DATA][1]
             for _ in range(4):
                 _, at = self.put_number("members count", at, end)
+            before = []
             for members in row.members:
                 for member in members:
+                    entry = []
                     for label, _ in zip(("difference", "member flags", "code offset"), member):
+                        entry += [(label, at, 1)] * (label == "difference")
                         _, at = self.put_number(label, at, end)
+                    self.together["members"].append(before + entry)
+                    before = entry
         if row.values:
             end = self.file.section[faults.ARRAY_OF_VALUES][1]
             self.put("values count", row.values)
@@ -135,6 +144,8 @@ class Spots:
     def in_instruction(self, at, each):
         self.put("opcode", at)
         self.put("high byte", at + 1)
+        tail = [("unit", at + there, 2) for there in range(2, 2 * each.size, 2)][:2]
+        self.together["instruction"].append([("opcode", at, 1), ("high byte", at + 1, 1), *tail])
         if each.form == "10t":
             self.put("branch", at + 1)
         elif each.form in faults.BRANCH_FORMATS:
@@ -275,6 +286,17 @@ def of_neighbours(rng, spots):
     near = [(label, spot) for label, spot in all_spots if abs(spot[0] - centre) <= 48 and spot[0] >= 32]
     for label, (at, width) in rng.sample(near, min(len(near), rng.choice((2, 2, 3)))):
         put(data, at, width, new_number(rng, data, label, at, width, spots.of[label]))
+    return closed(data)
+
+
+def of_pairs(rng, spots):
+    """Two fields of one row, of two members' entries or of one instruction: which of two faults is told."""
+    data = bytearray(spots.data)
+    if not spots.together:  # no row
+        return bytes(data)
+    fields = rng.choice(spots.together[rng.choice(list(spots.together))])
+    for label, at, width in rng.sample(fields, min(len(fields), 2)):
+        put(data, at, width, new_number(rng, data, label, at, width, spots.of[label] or [(at, width)]))
     return closed(data)
 
 
@@ -458,11 +480,11 @@ def random_samples(rng, count):
 def mutated(rng, samples):
     """Files without end; the samples are the spots of accepted files."""
     own = of_names, of_units, of_depths, of_many_rows, random_sample
-    of_sample = of_fields, of_runs, of_borders, of_neighbours
+    of_sample = of_fields, of_runs, of_borders, of_neighbours, of_pairs
     while True:
         if rng.random() < 0.23:
             data = rng.choices(own, (7, 13, 1, 0.1, 1))[0](rng)
         else:
-            data = rng.choices(of_sample, (50, 8, 9, 10))[0](rng, rng.choice(samples))
+            data = rng.choices(of_sample, (46, 8, 9, 8, 12))[0](rng, rng.choice(samples))
         if data is not None:
             yield data
