@@ -32,7 +32,7 @@ answer_once Strip given a b x y = stripped_same given given a b x y (program_one
 pub listed_once : (file text made small : List ℕ) → Answer Listing file text → Answer (Assemble false) text made → Answer Strip file small → made ≡ small
 listed_once file text made small x y z =
     let meant = program_one file x.0 z.program x.1 z.meant in
-    let formed = subst WellFormed (sym meant) (well_formed small z.file.laid.bytes z.program z.file.means) in
+    let formed = subst WellFormed (sym meant) (well_formed small z.file.packed.bytes z.program z.file.means) in
     let listed = subst (λ (t : List ℕ). IsListing t x.0) (sym x.2) (printed_again Two x.0 formed) in
     let same = listing_one text x.0 y.0 listed y.1 in
     file_one y.0 made small y.2 (subst (λ (p : Program). IsFileOf p small) (sym meant ∙ same) z.file)

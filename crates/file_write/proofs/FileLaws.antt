@@ -16,8 +16,10 @@ use Rattle.tables_names.specs.Needed.{needed}
 use Rattle.program_types.specs.Content.{Program}
 use Rattle.program_rules.specs.WellFormed.{WellFormed}
 use Rattle.file_write.proofs.Classes.{means}
+use Rattle.file_write.proofs.Converse.{assembled_of}
 use Rattle.file_write.proofs.Files.{packed}
 use Rattle.file_write.specs.Least.{HoldsExactly}
+use Rattle.file_write.specs.Packed.{Packed}
 use Rattle.file_write.proofs.TableLaws.{holds_exactly}
 use Rattle.file_write.specs.Written.{AreNoLonger, IsFileOf, IsStripRefused, IsStripped}
 
@@ -29,18 +31,19 @@ no_longer b c s e h (suc (suc (suc zero))) l = omega (arith, e.fields, h.fields)
 no_longer b c s e h (suc (suc (suc (suc zero)))) l = omega (arith, e.methods, h.methods)
 no_longer b c s e h (suc (suc (suc (suc (suc k))))) l = absurd (omega arith)
 
+-- what means a program, holds exactly its names and is packed is its file
+pub packed_file : (b : List ℕ) (p : Program) → Means b p → HoldsExactly b (needed p) → Packed b → IsFileOf p b
+packed_file b p meant exactly whole = record {
+  means = meant;
+  packed = whole;
+  tables = exactly;
+  least = λ c m. holds_at_least c p m;
+  no_longer = λ c m. no_longer b c (needed p) exactly (holds_at_least c p m);
+  short = (assembled_of b p meant exactly whole).short;
+}
+
 pub file_of : (b : List ℕ) (p : Program) → WellFormed p → Fits p → Assembled b (needed p) p → IsFileOf p b
-file_of b p well fits file =
-    let exactly = holds_exactly b p well file in
-    record {
-      means = means b p well fits file;
-      packed = packed b p file well fits;
-      tables = exactly;
-      least = λ c m. holds_at_least c p m;
-      no_longer = λ c m. no_longer b c (needed p) exactly (holds_at_least c p m);
-      short = file.short;
-      laid = file;
-    }
+file_of b p well fits file = packed_file b p (means b p well fits file) (holds_exactly b p well file) (packed b p file well fits)
 
 -- a value that is so where a fact holds
 pub with_fact : {A E : Type 0} (r : Result A E) (P : A → Type 0) (fact : Type 0) → OnOk r fact → IfOk r P → IfOk r (λ x. fact × P x)

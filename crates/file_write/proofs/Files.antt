@@ -11,7 +11,6 @@ use Rattle.base_bytes.specs.Leb128.{Shortest}
 use Rattle.file_classes.specs.ClassData.{Entries, EntriesAt}
 use Rattle.file_classes.specs.ClassRows.{class_word}
 use Rattle.file_classes.proofs.EntryLaws.{entry_at}
-use Rattle.code_put.specs.Packs.{PacksCode}
 use Rattle.dex_container.specs.Layout.{data_begin, offset_of, size_of}
 use Rattle.file_layout.specs.Header.{HasHeader}
 use Rattle.file_layout.specs.Plan.{class_defs_begin, field_ids_begin, method_ids_begin, proto_ids_begin, table_offset, type_ids_begin}
@@ -24,7 +23,7 @@ use Rattle.file_limits.specs.Wide.{array_values, bodies_of, body_values, list_va
 use Rattle.tables_names.specs.Closure.{NameRanks}
 use Rattle.tables_names.specs.Needed.{needed}
 use Rattle.tables_names.specs.Rank.{IsAt}
-use Rattle.program_types.specs.Content.{Class, Program, Proto}
+use Rattle.program_types.specs.Content.{Class, Program, Proto, Value}
 use Rattle.program_types.specs.Key.{proto_key}
 use Rattle.program_rules.specs.WellFormed.{WellFormed}
 use Rattle.file_sections.specs.Codes.{PacksBody, is_bodiless}
@@ -32,7 +31,6 @@ use Rattle.file_sections.specs.Data.{PacksData, has_no_members, method_count, si
 use Rattle.file_sections.specs.Lists.{SpellsRanks}
 use Rattle.file_sections.proofs.SitedLaws.{count_of_bodies, rest_after}
 use Rattle.tables_rows.specs.RowFields.{proto_parameters, string_place}
-use Rattle.tables_rows.specs.Stands.{NameStands}
 use Rattle.dex_value.specs.Spelling.{SpellsArray}
 use Rattle.file_write.proofs.Classes.{data_stands, row}
 use Rattle.file_write.proofs.Datas.{DataStands}
@@ -42,8 +40,8 @@ use Rattle.file_write.proofs.NameLaws.{valid_of}
 use Rattle.file_write.proofs.RowLaws.{class_count, is_framed, proto_count, proto_row, string_count, string_row}
 use Rattle.file_write.proofs.TableLaws.{holds_exactly}
 use Rattle.file_write.proofs.ValidNames.{IsProtoKey, member_is}
-use Rattle.file_write.specs.Packed.{DataIsPacked, IsPackedSection, Packed, SomeMembers, SomeTypes, SomeValues, TablesArePacked, UnusedIsZero, array_places, code_places, data_places, list_places, table_end, text_places}
-use Rattle.file_write.proofs.Readings.{codes_read, members_read, types_read, values_read}
+use Rattle.file_write.specs.Packed.{DataIsPacked, IsPackedSection, Packed, SomeCode, SomeMembers, SomeTypes, SomeValues, TablesArePacked, UnusedIsZero, array_places, code_places, data_places, list_places, table_end, text_places}
+use Rattle.file_write.proofs.Readings.{AreEntriesOf, AreIndicesOf, IsBodyOf, bodies_can, codes_read, members_read, members_told, types_read, types_told, values_read}
 use Rattle.file_write.proofs.References.{all_words, both_words}
 use Rattle.file_write.proofs.Sections.{packed_section}
 
@@ -185,16 +183,19 @@ module _ (b : List ℕ) (p : Program) (a : Assembled b (needed p) p) (w : WellFo
       let m = header.map_off in
       record {
         lists = subst (λ (k : ℕ). IsPackedSection SomeTypes 4 b 0x1001 k a.plan.lists.end (list_places b)) at_lists
-            (packed_section is_empty_list (SpellsRanks (needed p)) SomeTypes (types_read (needed p)) 4 b 0x1001 a.plan.lists a.plan.lists.begin (list_values (needed p) p) a.at.lists (list_places b) (lists_part b a.plan a.map a.written) (let e = a.lies.lists_begin in omega (arith, e)) a.lies.lists lists_are);
-        codes = packed_section is_bodiless (PacksBody (NameRanks (needed p))) (PacksCode (NameStands b)) (codes_read b (needed p) exact.each exact.only) 4 b 0x2001 a.plan.codes a.plan.lists.end (body_values p) a.at.codes
-            (flat_map code_places data_of.entries) (codes_part b a.plan a.map a.written) a.lies.codes_begin a.lies.codes data_of.places;
+            (packed_section is_empty_list (SpellsRanks (needed p)) SomeTypes (AreIndicesOf (needed p)) 4 b 0x1001 a.plan.lists a.plan.lists.begin (list_values (needed p) p) a.at.lists (list_places b)
+            (types_read (needed p) (list_values (needed p) p)) (types_told (needed p) (list_values (needed p) p)) (lists_part b a.plan a.map a.written) (let e = a.lies.lists_begin in omega (arith, e)) a.lies.lists a.once.lists lists_are);
+        codes = packed_section is_bodiless (PacksBody (NameRanks (needed p))) (SomeCode b) IsBodyOf 4 b 0x2001 a.plan.codes a.plan.lists.end (body_values p) a.at.codes (flat_map code_places data_of.entries)
+            (codes_read b (needed p) exact.each exact.only (body_values p) (bodies_can p w fits)) (λ i j u v c at_i at_j some x y. x ∙ sym y) (codes_part b a.plan a.map a.written) a.lies.codes_begin a.lies.codes a.once.codes data_of.places;
         texts = subst (λ (k : ℕ). IsPackedSection PacksText 1 b 0x2002 k a.plan.strings.end (text_places b)) a.lies.strings_begin
-            (packed_section never PacksText PacksText (λ bytes v some t. (v, t)) 1 b 0x2002 a.plan.strings a.plan.strings.begin (text_values (needed p)) a.at.texts (text_places b) (strings_part b a.plan a.map a.written) (omega arith) a.lies.strings texts_are);
+            (packed_section never PacksText PacksText (◌≡◌ {A = List ℕ}) 1 b 0x2002 a.plan.strings a.plan.strings.begin (text_values (needed p)) a.at.texts (text_places b)
+            (λ k v at some bytes t. (v, t, refl)) (λ i j u v t at_i at_j some x y. x ∙ sym y) (strings_part b a.plan a.map a.written) (omega arith) a.lies.strings a.once.texts texts_are);
         arrays = subst (λ (k : ℕ). IsPackedSection (SomeValues b) 1 b 0x2005 k a.plan.arrays.end (array_places b)) a.lies.arrays_begin
-            (packed_section is_empty_list (Shortest (SpellsArray (NameRanks (needed p)))) (SomeValues b) (values_read b (needed p) exact.each exact.only) 1 b 0x2005 a.plan.arrays a.plan.arrays.begin (array_values p) a.at.arrays (array_places b)
-            (arrays_part b a.plan a.map a.written) (omega arith) a.lies.arrays arrays_are);
+            (packed_section is_empty_list (Shortest (SpellsArray (NameRanks (needed p)))) (SomeValues b) (◌≡◌ {A = List Value}) 1 b 0x2005 a.plan.arrays a.plan.arrays.begin (array_values p) a.at.arrays (array_places b)
+            (values_read b (needed p) exact.each exact.only (array_values p)) (λ i j u v t at_i at_j some x y. x ∙ sym y) (arrays_part b a.plan a.map a.written) (omega arith) a.lies.arrays a.once.arrays arrays_are);
         datas = subst (λ (k : ℕ). IsPackedSection SomeMembers 1 b 0x2000 k a.plan.datas.end (data_places b)) a.lies.datas_begin
-            (packed_section has_no_members (PacksData (NameRanks (needed p))) SomeMembers (members_read (needed p)) 1 b 0x2000 a.plan.datas a.plan.datas.begin (sited p a.at.codes) a.at.datas (data_places b) (datas_part b a.plan a.map a.written) (omega arith) a.lies.datas datas_are);
+            (packed_section has_no_members (PacksData (NameRanks (needed p))) SomeMembers (AreEntriesOf (needed p)) 1 b 0x2000 a.plan.datas a.plan.datas.begin (sited p a.at.codes) a.at.datas (data_places b)
+            (members_read (needed p) (sited p a.at.codes)) (members_told (needed p) p a.at.codes w) (datas_part b a.plan a.map a.written) (omega arith) a.lies.datas a.once.datas datas_are);
         map = subst (λ (k : ℕ). IsNext 4 b a.plan.datas.end k) (sym m) a.next;
         map_last = let e = a.written.ends in let c = a.written.named.count in omega (arith, e, c, m);
       }
@@ -208,6 +209,7 @@ module _ (b : List ℕ) (p : Program) (a : Assembled b (needed p) p) (w : WellFo
 
   pub packed : Packed b
   packed = record {
+    bytes = a.bytes;
     tables = tables;
     entries = data_of.entries;
     entries_are = record { count = let n = class_count b (needed p) p a in let m = data_of.many in omega (arith, n, m); each = data_of.each };

@@ -1,7 +1,7 @@
 -- Items that are laid take values that have items.
-use Rattle.std.proofs.Common.{◌≡◌, ◌≢◌, ℕ, ◌<◌, Bool, true, false, List, [], ◌∷◌, ◌++◌, map, refl, sym, ◌∙◌, subst, arith, inl, inr}
+use Rattle.std.proofs.Common.{◌≡◌, ◌≢◌, ℕ, suc, ◌<◌, Bool, true, false, List, [], ◌∷◌, ◌++◌, map, refl, sym, ◌∙◌, subst, arith, Some, inl, inr}
 use Rattle.std.specs.Prelude.{MatchBool, ◌==◌, ◌||◌, if◌then◌else◌}
-use Rattle.std.specs.List.{AllByRecursion, AllZip, fold, list_any}
+use Rattle.std.specs.List.{AllByRecursion, AllZip, fold, list_any, slice_get}
 use Rattle.std.proofs.lemmas.Bool.{eq-eqb}
 use Rattle.file_layout.specs.Tiles.{Among, Done, Item, Lays, Refers, Tiles, add_place, distinct_places}
 use Rattle.file_layout.proofs.TileLaws.{Tiles-among}
@@ -33,44 +33,51 @@ fold_kept : (P : ℕ → Type 0) (places seen : List ℕ) → AllByRecursion P s
 fold_kept P [] seen h f = h
 fold_kept P (place ∷ places) seen h f = fold_kept P places (add_place seen place) (add_kept P seen place h f.0) f.1
 
-places_kept : (P : ℕ → Type 0) (places : List ℕ) → AllByRecursion (λ q. q ≢ 0 → P q) places → AllByRecursion P (distinct_places places)
+pub places_kept : (P : ℕ → Type 0) (places : List ℕ) → AllByRecursion (λ q. q ≢ 0 → P q) places → AllByRecursion P (distinct_places places)
 unfolding distinct_places
 places_kept P places f = fold_kept P places [] tt f
 
 -- ---- items
 
--- A value that has an item stands at the place.
-record HasItem {V : Type 0} (none : V → Bool) (items : List (ℕ × V)) (place : ℕ) : Type 0 where
-  value : V
-  some : none value ≡ false
-  there : Among items place value
+-- A value that has an item stands at the place: it is that of some turn, which refers to the place.
+pub record HasItem {V : Type 0} (none : V → Bool) (items : List (ℕ × V)) (places : List ℕ) (vs : List V) (place : ℕ) : Type 0 where
+  pub turn : ℕ
+  pub value : V
+  pub of : slice_get vs turn ≡ Some value
+  pub at : slice_get places turn ≡ Some place
+  pub some : none value ≡ false
+  pub there : Among items place value
 
-refers_kept : {V : Type 0} (none : V → Bool) (items : List (ℕ × V)) (places : List ℕ) (vs : List V) → AllZip (Refers none items) places vs → AllByRecursion (λ q. q ≢ 0 → HasItem none items q) places
+pub all_weaker : {A : Type 0} (P Q : A → Type 0) → ((q : A) → P q → Q q) → (qs : List A) → AllByRecursion P qs → AllByRecursion Q qs
+all_weaker P Q f [] h = tt
+all_weaker P Q f (q ∷ qs) h = (f q h.0, all_weaker P Q f qs h.1)
+
+one_later : {V : Type 0} (none : V → Bool) (items : List (ℕ × V)) (places : List ℕ) (vs : List V) (p : ℕ) (v : V) (place : ℕ) → HasItem none items places vs place → HasItem none items (p ∷ places) (v ∷ vs) place
+one_later none items places vs p v place h = record { turn = suc h.turn; value = h.value; of = h.of; at = h.at; some = h.some; there = h.there }
+
+refers_kept : {V : Type 0} (none : V → Bool) (items : List (ℕ × V)) (places : List ℕ) (vs : List V) → AllZip (Refers none items) places vs → AllByRecursion (λ q. q ≢ 0 → HasItem none items places vs q) places
 refers_kept none items [] [] z = tt
 refers_kept none items [] (v ∷ vs) z = absurd z
 refers_kept none items (place ∷ places) [] z = absurd z
-refers_kept {V = V} none items (place ∷ places) (v ∷ vs) z = (by (none v) refl z.0, refers_kept none items places vs z.1)
+refers_kept {V = V} none items (place ∷ places) (v ∷ vs) z = (
+  by (none v) refl z.0,
+  all_weaker (λ (q : ℕ). q ≢ 0 → HasItem none items places vs q) (λ (q : ℕ). q ≢ 0 → HasItem none items (place ∷ places) (v ∷ vs) q)
+      (λ q h n. one_later none items places vs place v q (h n)) places (refers_kept none items places vs z.1),
+)
   where
-    by : (t : Bool) → none v ≡ t → MatchBool t (place ≡ 0) ((0 < place) × Among items place v) → place ≢ 0 → HasItem none items place
+    by : (t : Bool) → none v ≡ t → MatchBool t (place ≡ 0) ((0 < place) × Among items place v) → place ≢ 0 → HasItem none items (place ∷ places) (v ∷ vs) place
     by true e r f = absurd (f r)
-    by false e r f = record { value = v; some = e; there = r.1 }
+    by false e r f = record { turn = 0; value = v; of = refl; at = refl; some = e; there = r.1 }
 
-among_kept : {V : Type 0} (P : ℕ → Type 0) (items : List (ℕ × V)) (place : ℕ) (v : V) → AllByRecursion P (map (λ (x : ℕ × V). x.0) items) → Among items place v → P place
+pub among_kept : {V : Type 0} (P : ℕ → Type 0) (items : List (ℕ × V)) (place : ℕ) (v : V) → AllByRecursion P (map (λ (x : ℕ × V). x.0) items) → Among items place v → P place
 among_kept P [] place v h a = absurd a
 among_kept P (x ∷ items) place v h (inl e) = subst P e.0 h.0
 among_kept P (x ∷ items) place v h (inr a) = among_kept P items place v h.1 a
 
-all_among : {V : Type 0} (P : V → Type 0) (items : List (ℕ × V)) → ((place : ℕ) (v : V) → Among items place v → P v) → AllByRecursion (λ (x : ℕ × V). P x.1) items
-all_among P [] f = tt
-all_among P (x ∷ items) f = (f x.0 x.1 (inl (refl, refl)), all_among P items (λ place v a. f place v (inr a)))
-
--- no item is that of a value without one
-pub items_some : {V : Type 0} (none : V → Bool) (G : List ℕ → V → Type 0) (align begin end : ℕ) (b : List ℕ) (vs : List V) (places : List ℕ) (count : ℕ)
-    → (l : Lays none G align begin end b vs places count) → AllByRecursion (λ (x : ℕ × V). none x.1 ≡ false) l.items
-items_some {V = V} none G align begin end b vs places count l =
-    let all : AllByRecursion (HasItem none l.items) (map (λ (x : ℕ × V). x.0) l.items) =
-    subst (AllByRecursion (HasItem none l.items)) (sym l.order) (places_kept (HasItem none l.items) places (refers_kept none l.items places vs l.each)) in
-    all_among (λ (v : V). none v ≡ false) l.items
-    (λ place v a.
-    let h = among_kept (HasItem none l.items) l.items place v all a in
-    subst (λ (w : V). none w ≡ false) (Tiles-one place h.value v l.tiled h.there a) h.some)
+-- each item is that of a turn
+pub items_used : {V : Type 0} (none : V → Bool) (G : List ℕ → V → Type 0) (align begin end : ℕ) (b : List ℕ) (vs : List V) (places : List ℕ) (count : ℕ)
+    → (l : Lays none G align begin end b vs places count) → (place : ℕ) (v : V) → Among l.items place v → HasItem none l.items places vs place
+items_used {V = V} none G align begin end b vs places count l place v a =
+    let all : AllByRecursion (HasItem none l.items places vs) (map (λ (x : ℕ × V). x.0) l.items) =
+    subst (AllByRecursion (HasItem none l.items places vs)) (sym l.order) (places_kept (HasItem none l.items places vs) places (refers_kept none l.items places vs l.each)) in
+    among_kept (HasItem none l.items places vs) l.items place v all a

@@ -19,3 +19,10 @@ pub mod Codes
 pub mod Readings
 pub mod Files
 pub mod OneFile
+pub mod Retold
+pub mod Room
+pub mod MapNamed
+pub mod TableBytes
+pub mod TableRows
+pub mod Told
+pub mod Converse

@@ -33,7 +33,7 @@ entries_spelled bytes e s =
 -- ---- runs
 
 -- entries that stand for these stand for them by what follows
-run_weaker : {R V : Type 0} (M P : ℕ → ℕ × R → V → Type 0) → ((k : ℕ) (e : ℕ × R) (v : V) → M k e v → P k e v) → (es : List (ℕ × R)) (vs : List V) → IsRun M es vs → IsRun P es vs
+pub run_weaker : {R V : Type 0} (M P : ℕ → ℕ × R → V → Type 0) → ((k : ℕ) (e : ℕ × R) (v : V) → M k e v → P k e v) → (es : List (ℕ × R)) (vs : List V) → IsRun M es vs → IsRun P es vs
 run_weaker M P f es vs r = record { count = r.count; each = λ k e v p q. f _ e v (r.each k e v p q); rises = r.rises }
 
 -- no entries stand for nothing

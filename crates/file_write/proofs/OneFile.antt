@@ -7,9 +7,11 @@ use Rattle.file_laws.proofs.RangeLaws.{well_formed}
 use Rattle.file_assemble.proofs.FileOnce.{file_one as assembled_one}
 use Rattle.program_types.specs.Content.{Program}
 use Rattle.file_write.specs.Written.{IsFileOf, IsStripped}
+use Rattle.file_write.proofs.Converse.{assembled_of}
 
 pub file_one : (p : Program) (b c : List ℕ) → IsFileOf p b → IsFileOf p c → b ≡ c
-file_one p b c x y = assembled_one p (well_formed b x.laid.bytes p x.means) b c x.laid y.laid
+file_one p b c x y =
+    assembled_one p (well_formed b x.packed.bytes p x.means) b c (assembled_of b p x.means x.tables x.packed) (assembled_of c p y.means y.tables y.packed)
 
 -- two files of one program
 pub stripped_same : (a b c d : List ℕ) → (x : IsStripped a c) → (y : IsStripped b d) → x.program ≡ y.program → c ≡ d

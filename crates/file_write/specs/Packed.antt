@@ -3,16 +3,17 @@
 use Rattle.std.specs.Prelude.{◌≡◌, ℕ, zero, suc, ◌+◌, ◌*◌, ◌<◌, ◌==◌, if◌then◌else◌, List, [], ◌∷◌, ◌++◌, length, map, slice_index}
 use Rattle.std.specs.List.{flat_map}
 use Rattle.dex_base.specs.Mutf8.{PacksText}
-use Rattle.base_bytes.specs.Fields.{u16_at, u32_at}
+use Rattle.base_bytes.specs.Fields.{AreBytes, u16_at, u32_at}
 use Rattle.base_bytes.specs.Leb128.{Spells, Shortest}
 use Rattle.file_classes.specs.ClassData.{Entries, EntriesAt, SpellsEntries}
 use Rattle.file_classes.specs.ClassRows.{annotations_off, class_data_off, interfaces_off, static_values_off}
 use Rattle.code_put.specs.Packs.{PacksCode}
+use Rattle.code_read.specs.Code.{SpellsCode}
 use Rattle.dex_container.specs.Layout.{size_of, offset_of, row_bytes, map_place, map_end, entry_count, entry_place, kind_at, items_at, place_at, data_begin, data_end}
 use Rattle.dex_container.specs.Section as section
 use Rattle.file_layout.specs.Parts.{IsWrittenKind}
-use Rattle.file_layout.specs.Tiles.{Tiles, IsNext, distinct_places}
-use Rattle.program_types.specs.Content.{Value}
+use Rattle.file_layout.specs.Tiles.{Among, Tiles, IsNext, distinct_places}
+use Rattle.program_types.specs.Content.{Code, Value}
 use Rattle.file_sections.specs.Data.{code_offs}
 use Rattle.tables_rows.specs.Names.{AreRows}
 use Rattle.tables_rows.specs.RowFields.{string_place, proto_parameters}
@@ -28,12 +29,13 @@ pub record MapSays (b : List ℕ) (kind : ℕ) (places : List ℕ) : Type 0 wher
   pub named : 0 < length places → (i : ℕ) × (i < entry_count b) × (kind_at b i ≡ kind) × (place_at b i ≡ slice_index places 0)
 
 -- From `begin` to `end` stand the items that these references name, in the order of their first references, with zeros
--- where alignment asks for them, and nothing else.
+-- where alignment asks for them, and nothing else; no two of them are equal.
 pub record IsPackedSection {V : Type 0} (G : List ℕ → V → Type 0) (align : ℕ) (b : List ℕ) (kind begin end : ℕ)
     (references : List ℕ) : Type 0 where
   pub items : List (ℕ × V)
   pub tiled : Tiles G align b begin end items
   pub order : map (λ (x : ℕ × V). x.0) items ≡ distinct_places references
+  pub apart : (place other : ℕ) (v : V) → Among items place v → Among items other v → place ≡ other
   pub in_map : MapSays b kind (map (λ (x : ℕ × V). x.0) items)
 
 -- ---- items, of which none is empty
@@ -41,6 +43,11 @@ pub record IsPackedSection {V : Type 0} (G : List ℕ → V → Type 0) (align :
 -- a type_list, by its indices
 abbrev pub SomeTypes : List ℕ → List ℕ → Type 0
 SomeTypes bytes indexes = SpellsIndexes bytes indexes × (0 < length indexes)
+
+-- a code_item, which spells the code, in the bytes that are written of it
+pub record SomeCode (b bytes : List ℕ) (c : Code) : Type 0 where
+  pub spelled : SpellsCode (NameStands b) bytes c
+  pub packed : PacksCode (NameStands b) bytes c
 
 -- an encoded_array, in the fewest bytes
 abbrev pub SomeValues : List ℕ → List ℕ → List Value → Type 0
@@ -108,7 +115,7 @@ pub record DataEnds : Type 0 where
 -- Type lists, code, texts, static values, class data and the map stand one behind the other.
 pub record DataIsPacked (b : List ℕ) (ends : DataEnds) (entries : List Entries) : Type 0 where
   pub lists : IsPackedSection SomeTypes 4 b 0x1001 (data_begin b) ends.lists (list_places b)
-  pub codes : IsPackedSection (PacksCode (NameStands b)) 4 b 0x2001 ends.lists ends.codes (flat_map code_places entries)
+  pub codes : IsPackedSection (SomeCode b) 4 b 0x2001 ends.lists ends.codes (flat_map code_places entries)
   pub texts : IsPackedSection PacksText 1 b 0x2002 ends.codes ends.texts (text_places b)
   pub arrays : IsPackedSection (SomeValues b) 1 b 0x2005 ends.texts ends.arrays (array_places b)
   pub datas : IsPackedSection SomeMembers 1 b 0x2000 ends.arrays ends.datas (data_places b)
@@ -126,9 +133,10 @@ pub record MapIsPacked (b : List ℕ) : Type 0 where
   pub kinds : (i : ℕ) → i < entry_count b → IsWrittenKind (kind_at b i)
   pub some : (i : ℕ) → i < entry_count b → 0 < items_at b i
 
--- A file without slack: tables and sections stand end to end, each item is referred to and in its place, numbers take
--- the fewest bytes, the map lists what there is, and what no reader looks at is 0.
+-- A file without slack: bytes, whose tables and sections stand end to end, each item is referred to and in its place, equal ones are
+-- one, numbers take the fewest bytes, the map lists what there is, and what no reader looks at is 0.
 pub record Packed (b : List ℕ) : Type 0 where
+  pub bytes : AreBytes b
   pub tables : TablesArePacked b
   pub entries : List Entries
   pub entries_are : AreRows ClassDataIs b section.class_defs entries

@@ -3,7 +3,6 @@
 use Rattle.std.specs.Prelude.{◌≡◌, ℕ, ◌<◌, ◌≤◌, ◌⊎◌, List, length}
 use Rattle.base_bytes.specs.declared.fault.Fault.{Fault}
 use Rattle.dex_container.specs.Layout.{size_of}
-use Rattle.file_assemble.specs.Assembled.{Assembled}
 use Rattle.file_read.specs.Means.{Means}
 use Rattle.file_read.specs.Refused.{IsRefused}
 use Rattle.file_least.specs.AtLeast.{HoldsAtLeast}
@@ -18,9 +17,9 @@ use Rattle.file_write.specs.Least.{HoldsExactly}
 abbrev pub AreNoLonger : List ℕ → List ℕ → Type 0
 AreNoLonger b c = (k : ℕ) → k < 5 → size_of b k ≤ size_of c k
 
--- The file of a program: it means the program, has no slack, and its tables hold exactly the names that the program needs. Every file
--- of the program holds these names, so that its tables are no shorter. The file is no longer than the plain sum. Its parts are laid out
--- in one way, equal items once, so that it is the only one (`one_file`).
+-- The file of a program: it means the program, has no slack, and its tables hold exactly the names that the program needs; these three
+-- leave no byte open, so that it is the only one (`one_file`). Every file of the program holds these names, so that its tables are no
+-- shorter. The file is no longer than the plain sum.
 pub record IsFileOf (p : Program) (b : List ℕ) : Type 0 where
   pub means : Means b p
   pub packed : Packed b
@@ -28,7 +27,6 @@ pub record IsFileOf (p : Program) (b : List ℕ) : Type 0 where
   pub least : (c : List ℕ) → Means c p → HoldsAtLeast c (needed p)
   pub no_longer : (c : List ℕ) → Means c p → AreNoLonger b c
   pub short : length b ≤ wide p
-  pub laid : Assembled b (needed p) p
 
 -- The one file means a program that fits, and the other is its file, with tables no longer than those of the first.
 pub record IsStripped (given made : List ℕ) : Type 0 where

@@ -38,10 +38,17 @@ pub fn assembled_means()
     ensures { (b : List ℕ) (p : Program) → WellFormed p → Fits p → Assembled b (needed p) p → Means b p }
 {}
 
-/// It is packed: its tables stand end to end, its data section holds the items that are referred to, in the order of their first
-/// references, and nothing else but the zeros that align them, numbers and values take the fewest bytes, and what no reader looks at is 0.
+/// It is packed: its tables stand end to end, its data section holds the items that are referred to, no two of a section equal, in the
+/// order of their first references, and nothing else but the zeros that align them, numbers and values take the fewest bytes, and what no
+/// reader looks at is 0.
 pub fn assembled_is_packed()
     ensures { (b : List ℕ) (p : Program) → WellFormed p → Fits p → Assembled b (needed p) p → Packed b }
+{}
+
+/// The converse: what means a program, holds exactly the names that the program needs and is packed is assembled of it, and is its file.
+pub fn packed_is_assembled()
+    ensures assembled { (b : List ℕ) (p : Program) → Means b p → HoldsExactly b (needed p) → Packed b → Assembled b (needed p) p }
+    ensures file { (b : List ℕ) (p : Program) → Means b p → HoldsExactly b (needed p) → Packed b → IsFileOf p b }
 {}
 
 /// What is written of a program means it and no other.

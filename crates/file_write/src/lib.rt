@@ -14,6 +14,6 @@ mod writing;
 
 pub use laws::{
     assembled_classes_stand, assembled_is_packed, assembled_means, assembled_tables_hold, one_file,
-    stripped_alike_exactly_if_meaning_alike, stripped_stays, written_is_read,
+    packed_is_assembled, stripped_alike_exactly_if_meaning_alike, stripped_stays, written_is_read,
 };
 pub use writing::{strip, write};
