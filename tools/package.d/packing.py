@@ -46,7 +46,7 @@ Libs: -L${prefix}/lib -ldexasm
 Cflags: -I${prefix}/include
 """
 # What Debian wants beside the files: the licence by its place, and why lintian is not followed.
-COPYRIGHT = """Format: (the machine-readable format, 1.0)
+COPYRIGHT = """Format: https://www.debian.org/doc/packaging-manuals/copyright-format/1.0/
 Upstream-Name: dexasm
 
 Files: *
@@ -164,37 +164,51 @@ def for_debian(held, number, time):
     return moved
 
 
+def control_of(held, number):
+    """What Debian's tools are told of the package: each file's name and text."""
+    size = sum(len(given) for given, _ in held.values()) // 1024 + 1
+    sums = [(hashlib.md5(given).hexdigest(), place) for place, (given, _) in sorted(held.items()) if not isinstance(given, str)]
+    control = f"""Package: dexasm
+Version: {number}
+Architecture: amd64
+Depends: libc6 (>= 2.34), python3:any
+Suggests: unzip
+Section: devel
+Priority: optional
+Installed-Size: {size}
+Maintainer: {authors()}
+Description: checks, lists, assembles and strips .dex files
+ Dalvik Executable files of version 035: a program, helpers around it, and a
+ library for C, Python and Rust. What they promise is proved.
+"""
+    return {
+        "control": control,
+        "md5sums": "".join(f"{sum}  usr/{place}\n" for sum, place in sums),
+        "shlibs": "libdexasm 0 dexasm\n",
+        "triggers": "activate-noawait ldconfig\n",
+    }
+
+
+def put_files(folder, held):
+    """Writes them below the folder, each with its mode; a text is a link to what it says."""
+    for place, (given, mode) in held.items():
+        at = os.path.join(folder, place)
+        os.makedirs(os.path.dirname(at), exist_ok=True)
+        if isinstance(given, str):
+            os.symlink(given, at)
+            continue
+        with open(at, "wb") as file:
+            file.write(given)
+        os.chmod(at, mode)
+
+
 def pack_deb(held, path, number, time):
     """A .deb of the same files below /usr."""
     held = for_debian(held, number, time)
     with tempfile.TemporaryDirectory() as root:
         os.chmod(root, 0o755)
-        for place, (given, mode) in held.items():
-            at = os.path.join(root, "usr", place)
-            os.makedirs(os.path.dirname(at), exist_ok=True)
-            if isinstance(given, str):
-                os.symlink(given, at)
-                continue
-            with open(at, "wb") as file:
-                file.write(given)
-            os.chmod(at, mode)
-        size = sum(len(given) for given, _ in held.values()) // 1024 + 1
-        os.makedirs(f"{root}/DEBIAN")
-        with open(f"{root}/DEBIAN/control", "w", encoding="ascii") as file:
-            file.write(f"Package: dexasm\nVersion: {number}\nArchitecture: amd64\nDepends: libc6 (>= 2.34), python3:any\nSuggests: unzip\nSection: devel\n")
-            file.write(f"Priority: optional\nInstalled-Size: {size}\nMaintainer: {authors()}\n")
-            file.write("Description: checks, lists, assembles and strips .dex files\n Dalvik Executable files of version 035: a program, and a\n")
-            file.write(" library for C and Python. What they promise is proved.\n")
-        sums = [(hashlib.md5(given).hexdigest(), place) for place, (given, _) in sorted(held.items()) if not isinstance(given, str)]
-        beside = {
-            "md5sums": "".join(f"{sum}  usr/{place}\n" for sum, place in sums),
-            "shlibs": "libdexasm 0 dexasm\n",
-            "triggers": "activate-noawait ldconfig\n",
-        }
-        for name, text in beside.items():
-            with open(f"{root}/DEBIAN/{name}", "w", encoding="ascii") as file:
-                file.write(text)
-            os.chmod(f"{root}/DEBIAN/{name}", 0o644)
+        put_files(f"{root}/usr", held)
+        put_files(f"{root}/DEBIAN", {name: (text.encode(), 0o644) for name, text in control_of(held, number).items()})
         env = {**os.environ, "SOURCE_DATE_EPOCH": str(time)}
         words = ["dpkg-deb", "--root-owner-group", "-Zgzip", "--build", root, path]
         done = subprocess.run(words, env=env, stdout=subprocess.PIPE, stderr=subprocess.STDOUT)
