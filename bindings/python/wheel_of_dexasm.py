@@ -12,7 +12,7 @@ import zipfile
 
 HERE = os.path.dirname(os.path.abspath(__file__))
 BUILT = os.path.join(HERE, "..", "..", "crates", "dexasm_c", "out", "built", "libdexasm.so")
-# The library asks for glibc 2.17 at least, and for nothing else that isn't in the name's list.
+# What pip looks at: a Linux with glibc 2.17 or later, where the library loads (the program asks for 2.34). The name of a tag promises no more.
 TAG = "py3-none-manylinux_2_17_x86_64"
 EARLIEST = 315532800  # the first second that a zip archive can hold
 

@@ -2,6 +2,7 @@
 from __future__ import annotations
 
 import argparse
+import errno
 import os
 import stat
 import sys
@@ -10,6 +11,8 @@ from typing import BinaryIO
 import dexasm
 
 NAMES = 100  # how many names beside OUT are tried
+# How a rename is refused where OUT keeps its place, though it can be written: a mount point, another user's file in a sticky folder.
+FIXED = (errno.EBUSY, errno.EPERM, errno.EACCES)
 
 
 def words() -> argparse.Namespace:
@@ -55,14 +58,23 @@ def beside(path: str) -> BinaryIO | None:
 
 
 def write_beside(path: str, file: BinaryIO, made: bytes) -> None:
-    """What was there stays until the answer is whole, also where the disk is full."""
+    """What was there stays until the answer is whole, also where the disk is full. Where OUT can't be replaced it is written itself, and
+    the file beside stays if the answer doesn't fit there."""
     try:
         with file:
             file.write(made)
         os.replace(file.name, path)
-    except BaseException:
+    except BaseException as error:
+        if not isinstance(error, OSError) or error.errno not in FIXED:
+            os.remove(file.name)
+            raise
+        write_itself(path, made)
         os.remove(file.name)
-        raise
+
+
+def write_itself(path: str, made: bytes) -> None:
+    with open(path, "wb") as itself:
+        itself.write(made)
 
 
 def write(path: str | None, made: bytes) -> None:
@@ -75,8 +87,7 @@ def write(path: str | None, made: bytes) -> None:
     if file is not None:
         write_beside(path, file, made)
         return
-    with open(path, "wb") as itself:
-        itself.write(made)
+    write_itself(path, made)
 
 
 def answer(asked: argparse.Namespace, given: bytes) -> bytes:

@@ -58,14 +58,10 @@ impl<'p> Out<'p> {
                 done?;
                 write_itself(rt, path, answer.as_slice())
             }
-            Place::Beside(file, beside, name) => {
-                let whole = done.and_then(|()| finish(file));
-                let kept = whole.and_then(|()| replace(rt, beside.as_str(), name.as_str()));
-                if kept.is_err() {
-                    let _ = fs::remove_file(rt, beside.as_str());
-                }
-                kept
-            }
+            Place::Beside(file, beside, name) => match done.and_then(|()| finish(file)) {
+                Ok(()) => replace(rt, beside.as_str(), name.as_str()),
+                Err(fault) => discard(rt, beside.as_str(), fault),
+            },
         }
     }
 }
@@ -148,18 +144,36 @@ fn open_itself(rt: &HostRuntime, path: &str) -> io::Result<File> {
     }
 }
 
-// The file beside takes the name of OUT. Where that can't be replaced, though it can be written (a mount point, another user's file in
-// a sticky folder), its bytes go there.
+// The file beside takes the name of OUT, or its bytes go there where OUT can't be replaced.
 fn replace(rt: &HostRuntime, beside: &str, name: &str) -> Result<(), RunFault> {
-    if fs::rename(rt, beside, name).is_ok() {
-        return Ok(());
+    match fs::rename(rt, beside, name) {
+        Ok(()) => Ok(()),
+        Err(error) if is_fixed(&error) => copy_over(rt, beside, name),
+        Err(_) => discard(rt, beside, RunFault::Output),
     }
-    let mut answer = File::open(rt, beside).map_err(|_| RunFault::Output)?;
-    let mut file = open_itself(rt, name).map_err(|_| RunFault::Output)?;
+}
+
+// Whether OUT keeps its place, though it can be written: a mount point, or another user's file in a sticky folder.
+fn is_fixed(error: &io::Error) -> bool {
+    let kind = error.kind();
+    kind == ErrorKind::PermissionDenied || kind == ErrorKind::ResourceBusy
+}
+
+// The bytes of the file beside, in OUT. Where they don't fit there, the file beside stays, and has the whole answer.
+fn copy_over(rt: &HostRuntime, beside: &str, name: &str) -> Result<(), RunFault> {
+    let (Ok(mut answer), Ok(mut file)) = (File::open(rt, beside), open_itself(rt, name)) else {
+        return discard(rt, beside, RunFault::Output);
+    };
     io::copy(&mut answer, &mut file).map_err(|_| RunFault::Output)?;
     finish(file)?;
     let _ = fs::remove_file(rt, beside);
     Ok(())
+}
+
+// Nothing stays of an answer that isn't whole, or that finds no place.
+fn discard(rt: &HostRuntime, beside: &str, fault: RunFault) -> Result<(), RunFault> {
+    let _ = fs::remove_file(rt, beside);
+    Err(fault)
 }
 
 // A new file beside the path, with the mode and the owner of what is there.
