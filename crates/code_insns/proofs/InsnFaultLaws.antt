@@ -4,7 +4,7 @@ use Rattle.base_bytes.specs.declared.fault.Fault.{Fault}
 use Rattle.dex_insn.specs.Raw as raw
 use Rattle.dex_insn.specs.Raw.{Raw}
 use Rattle.program_types.specs.Content.{Name, Insn}
-use Rattle.code_insns.specs.Walk.{raw_at}
+use Rattle.code_insns.specs.Walk.{Walks, raw_at}
 use Rattle.code_insns.specs.Symbols.{Names, HasName}
 use Rattle.code_insns.specs.Payloads.{UseHolds}
 use Rattle.code_insns.specs.Insns.{SpellsInsns, NameHolds, BranchLands, BranchMoves, BranchHolds, OffsetsLand}
@@ -25,7 +25,7 @@ pub rules-hold : (N : ℕ → Name → Type 0) (us : List ℕ) (rs : List Raw) (
 rules-hold N us rs is s = record { names = λ k l. has-name N (raw_at rs k) _ (s.each k l).says.named; branches = s.branches; uses = s.uses; targets = s.targets }
 
 -- a rule that all keep is broken nowhere
-none-breaks : (rs : List Raw) (base number : ℕ) (P Q : List Raw → ℕ → Type 0) (fault : Fault) → AllKeep Q rs → BreaksIn rs base number P Q fault → ⊥
+pub none-breaks : (rs : List Raw) (base number : ℕ) (P Q : List Raw → ℕ → Type 0) (fault : Fault) → AllKeep Q rs → BreaksIn rs base number P Q fault → ⊥
 none-breaks rs base number P Q fault all b = b.breaks.broken (all b.first b.breaks.inside)
 
 rules-clear : (N : ℕ → Name → Type 0) (rs : List Raw) (base : ℕ) (fault : Fault) → RulesHold N rs → RulesBreak N rs base fault → ⊥
@@ -35,8 +35,12 @@ rules-clear N rs base fault h (inr (inr (inl b))) = none-breaks rs base 69 Branc
 rules-clear N rs base fault h (inr (inr (inr (inl b)))) = none-breaks rs base 70 UseHolds UseHolds fault h.uses b.2
 rules-clear N rs base fault h (inr (inr (inr (inr b)))) = none-breaks rs base 68 OffsetsLand OffsetsLand fault h.targets b.3
 
+-- instructions that keep the rules break none
+pub rules-refute : (N : ℕ → Name → Type 0) (us : List ℕ) (rs : List Raw) (base : ℕ) (fault : Fault) → length us ≡ 2 * (length us / 2) → Walks us rs → RulesHold N rs → InsnsBreak N us base fault → ⊥
+rules-refute N us rs base fault even walk hold (inl f) = no-walk-fault us rs base fault even walk f
+rules-refute N us rs base fault even walk hold (inr b) =
+    let e = walks-one us rs b.0 walk b.1 in
+    rules-clear N b.0 base fault (subst (λ (z : List Raw). RulesHold N z) e hold) b.2
+
 pub insns-clear : (N : ℕ → Name → Type 0) (us : List ℕ) (rs : List Raw) (is : List Insn) (base : ℕ) (fault : Fault) → length us ≡ 2 * (length us / 2) → SpellsInsns N us rs is → InsnsBreak N us base fault → ⊥
-insns-clear N us rs is base fault even s (inl f) = no-walk-fault us rs base fault even s.walk f
-insns-clear N us rs is base fault even s (inr b) =
-    let e = walks-one us rs b.0 s.walk b.1 in
-    rules-clear N b.0 base fault (subst (λ (z : List Raw). RulesHold N z) e (rules-hold N us rs is s)) b.2
+insns-clear N us rs is base fault even s b = rules-refute N us rs base fault even s.walk (rules-hold N us rs is s) b

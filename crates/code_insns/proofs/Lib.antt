@@ -11,3 +11,4 @@ pub mod Saying
 pub mod SaidRegisters
 pub mod PlainLaws
 pub mod CheckLaws
+pub mod OneFault

@@ -6,6 +6,7 @@ use Rattle.base_bytes.specs.declared.fault.Fault.{Fault}
 use Rattle.dex_insn.specs.declared.raw.RawInsn.{RawInsn}
 use Rattle.dex_insn.specs.Raw.{raw}
 use Rattle.dex_insn.proofs.Laws.{stands-whole, one-stands, stands-clear}
+use Rattle.code_insns.specs.Places.{Rises}
 use Rattle.code_insns.specs.Walk.{Run, Walks, starts, IsWalkFault, IsTable}
 use Rattle.program_types.specs.Sizes.{starts_from}
 use Rattle.std.proofs.lemmas.List.{length-map}
@@ -84,13 +85,19 @@ run-rises us a (r ∷ rs) e i zero h p l = absurd (omega arith)
 run-rises us a (r ∷ rs) e zero (suc j) h p l = let t = starts-low us (a + units r) rs e j h.1 (omega arith) in let u = (stands-whole us a r h.0).0 in omega arith
 run-rises us a (r ∷ rs) e (suc i) (suc j) h p l = run-rises us (a + units r) rs e i j h.1 (omega arith) (omega arith)
 
+pub length-of_starts : (rs : List Raw) → length (starts rs) ≡ length rs
+length-of_starts rs = length-starts 0 (map units rs) ∙ length-map rs units
+
+pub walk-rises : (us : List ℕ) (rs : List Raw) → Walks us rs → Rises (starts rs)
+walk-rises us rs w = let n = length-of_starts rs in record { each = λ i j p q. run-rises us 0 rs (length us / 2) i j w.run p (omega (arith, n, q)) }
+
 run-few : (us : List ℕ) (a : ℕ) (rs : List Raw) (e : ℕ) → Run us a rs e → a + length rs ≤ e
 run-few us a [] e h = omega arith
 run-few us a (r ∷ rs) e h = let t = run-few us (a + units r) rs e h.1 in let u = (stands-whole us a r h.0).0 in omega arith
 
 pub table-of : (us : List ℕ) (ss : List ℕ) (rs : List Raw) → length us ≤ 8589934590 → Run us 0 rs (length us / 2) → ss ≡ starts rs → IsTable ss rs
 table-of us ss rs m h e =
-    let l : length ss ≡ length rs = ap length e ∙ length-starts 0 (map units rs) ∙ length-map rs units in
+    let l : length ss ≡ length rs = ap length e ∙ length-of_starts rs in
     let f = run-few us 0 rs (length us / 2) h in
     record {
       is = e;

@@ -34,5 +34,5 @@ mod laws;
 
 pub use checking::{Checked, check_insns};
 pub use insns::{Insns, read_insns};
-pub use laws::registers_are_said;
+pub use laws::{one_fault, registers_are_said};
 pub use places::{below, number_at};

@@ -9,3 +9,4 @@ pub mod StandLaws
 pub mod CarryLaws
 pub mod CodeLaws
 pub mod PastLaws
+pub mod OneFault

@@ -29,3 +29,9 @@ pub fn broken_code_is_none()
     ensures body { (names : Names) (b : List ℕ) → IsFramed b → (off : ℕ) (e : Fault) (c : Code) → CodeBreaks (NameIsAt names) b off e → ¬ BodyStands (NameIsAt names) b off c }
     ensures code { (names : Names) (b : List ℕ) → IsFramed b → (off : ℕ) (e : Fault) (c : Code) → CodeOverruns (NameIsAt names) b off e → ¬ CodeStands (NameIsAt names) b off c }
 {}
+
+/// What stands at an offset has one fault (60 to 72): one number, at one place; and so have its registers (73).
+pub fn one_fault()
+    ensures body { (names : Names) (b : List ℕ) → IsFramed b → (off : ℕ) (e f : Fault) → CodeBreaks (NameIsAt names) b off e → CodeBreaks (NameIsAt names) b off f → e ≡ f }
+    ensures registers { (names : Names) (b : List ℕ) → IsFramed b → (off : ℕ) (e f : Fault) → CodeOverruns (NameIsAt names) b off e → CodeOverruns (NameIsAt names) b off f → e ≡ f }
+{}

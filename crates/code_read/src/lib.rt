@@ -22,5 +22,7 @@ mod reading;
 mod laws;
 
 pub use checking::check_body;
-pub use laws::{broken_code_is_none, code_carries_over, code_is_one, code_is_prefix_unique};
+pub use laws::{
+    broken_code_is_none, code_carries_over, code_is_one, code_is_prefix_unique, one_fault,
+};
 pub use reading::{Body, read_body, read_code};

@@ -2,7 +2,8 @@
 
 ghost use Rattle.std.specs.Prelude.{◌≡◌, ◌↔◌, ℕ, List};
 ghost use Rattle.dex_container.specs.Frame.{IsFramed, IsSection};
-ghost use Rattle.dex_container.specs.Faults.{FrameBreaks};
+ghost use Rattle.dex_container.specs.Faults.{FrameBreaks, IsFrameFault};
+ghost use Rattle.base_bytes.specs.declared.fault.Fault.{Fault};
 
 use crate::opening::open;
 
@@ -20,6 +21,12 @@ pub fn framed_without_fault(bytes: &[u8])
 #[tactic(auto, using(crate::proofs::Framed::framed_clear))]
 pub fn clear_where_framed()
     ensures { (bytes : List ℕ) → IsFramed bytes → (code place : ℕ) → ¬ FrameBreaks bytes code place }
+{}
+
+/// Header, map and checksums have one fault: one number, at one place.
+#[tactic(auto, using(crate::proofs::OneFault::one_fault))]
+pub fn one_fault()
+    ensures { (b : List ℕ) (e f : Fault) → IsFrameFault b e → IsFrameFault b f → e ≡ f }
 {}
 
 /// A kind of data item has one section.

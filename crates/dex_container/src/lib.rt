@@ -16,6 +16,6 @@ mod sections;
 mod sums;
 
 pub use closing::close;
-pub use laws::{clear_where_framed, framed_without_fault, section_is_one};
+pub use laws::{clear_where_framed, framed_without_fault, one_fault, section_is_one};
 pub use opening::{Sections, open};
 pub use section::{Section, bytes_from, section_of};

@@ -57,7 +57,7 @@ Front us at = ((r : Raw) × SpellsInsn us r × (IsPayload us → at % 2 ≡ 0)) 
 module _ (us : List ℕ) (at : ℕ) (long : 2 ≤ length us) (plain : IsPayload us → ⊥) where
   with-format : (f : Format) → format_at us ≡ Some f → Front us at
   with-format f e = elim (cases_lt (length us) (2 * units_of f)) [
-    | inl short ↦ inr (Cut, (f, plain, e, short))
+    | inl short ↦ inr (Cut, (f, (plain, e), short))
     | inr enough ↦ zero-byte (has_zero_byte f) refl (record { opcode = refl; kind = e; whole = enough })
   ]
     where
@@ -65,7 +65,7 @@ module _ (us : List ℕ) (at : ℕ) (long : 2 ≤ length us) (plain : IsPayload 
       counted b z = elim (is-35c f) [
         | inr other ↦ let r = in-format us f b z (λ g. absurd (other g)) in inl (r.0, r.1, λ p. absurd (plain p))
         | inl g ↦ elim (cases_lt 5 (field us 0 12 4)) [
-          | inl many ↦ inr (RegisterCount, (e ∙ ap Some g, many))
+          | inl many ↦ inr (RegisterCount, ((plain, e ∙ ap Some g), subst (λ (k : Format). 2 * units_of k ≤ length us) g b.whole, many))
           | inr few ↦ let r = in-format us f b z (λ _. few) in inl (r.0, r.1, λ p. absurd (plain p))
         ]
       ]
@@ -73,7 +73,7 @@ module _ (us : List ℕ) (at : ℕ) (long : 2 ≤ length us) (plain : IsPayload 
       zero-byte : (t : Bool) → has_zero_byte f ≡ t → BeginsInsn us f (field us 0 0 8) → Front us at
       zero-byte false t b = counted b (λ h. cc)
       zero-byte true t b = elim (cases_lt 0 (field us 0 8 8)) [
-        | inl some ↦ inr (NonZero, (f, plain, e, t, some))
+        | inl some ↦ inr (NonZero, (f, (plain, e), b.whole, t, some))
         | inr none ↦ counted b (λ _. omega (arith, none))
       ]
 
@@ -115,10 +115,10 @@ decide-width width = elim (cases_eq width 1) [
 ]
 
 -- the units of a payload's head, and of all of it, by its kind
-head-of : (k h a b : ℕ) → h ≡ k → (if h == 3 then a else b) ≡ (if k == 3 then a else b)
+pub head-of : (k h a b : ℕ) → h ≡ k → (if h == 3 then a else b) ≡ (if k == 3 then a else b)
 head-of k h a b e = rw e refl
 
-units-by : (k h p s d : ℕ) → h ≡ k → (if h == 1 then p else (if h == 2 then s else d)) ≡ (if k == 1 then p else (if k == 2 then s else d))
+pub units-by : (k h p s d : ℕ) → h ≡ k → (if h == 1 then p else (if h == 2 then s else d)) ≡ (if k == 1 then p else (if k == 2 then s else d))
 units-by k h p s d e = rw e refl
 
 module _ (us : List ℕ) (at : ℕ) (are : AreBytes us) (payload : IsPayload us) (even : at % 2 ≡ 0) where
@@ -129,9 +129,9 @@ module _ (us : List ℕ) (at : ℕ) (are : AreBytes us) (payload : IsPayload us)
       let head : head_units us ≡ 2 = head-of 1 (field us 0 8 8) 4 2 high in
       let all : payload_units us ≡ packed_units (number us 1 1) = units-by 1 (field us 0 8 8) (packed_units (number us 1 1)) (sparse_units (number us 1 1)) (data_units (number us 2 2 * number us 1 1)) high in
       elim (cases_lt (length us) 4) [
-        | inl cut ↦ inr (CutHead, (payload, omega (arith, cut, head)))
+        | inl cut ↦ inr (CutHead, ((payload, even), omega (arith, cut, head)))
         | inr long ↦ elim (cases_lt (length us) (2 * packed_units (number us 1 1))) [
-          | inl cut ↦ inr (CutPayload, (payload, omega (arith, cut, all)))
+          | inl cut ↦ inr (CutPayload, ((payload, even), omega (arith, long, head), (λ is. absurd (omega (arith, first, is))), omega (arith, cut, all)))
           | inr whole ↦ inl (Packed (signed 32 (number us 2 2)) (slice_range us 8 (8 + 4 * number us 1 1)), (first, whole, refl, refl), λ _. even)
         ]
       ]
@@ -143,12 +143,12 @@ module _ (us : List ℕ) (at : ℕ) (are : AreBytes us) (payload : IsPayload us)
       let head : head_units us ≡ 2 = head-of 2 (field us 0 8 8) 4 2 high in
       let all : payload_units us ≡ sparse_units (number us 1 1) = units-by 2 (field us 0 8 8) (packed_units (number us 1 1)) (sparse_units (number us 1 1)) (data_units (number us 2 2 * number us 1 1)) high in
       elim (cases_lt (length us) 4) [
-        | inl cut ↦ inr (CutHead, (payload, omega (arith, cut, head)))
+        | inl cut ↦ inr (CutHead, ((payload, even), omega (arith, cut, head)))
         | inr long ↦ elim (cases_lt (length us) (2 * sparse_units (number us 1 1))) [
-          | inl cut ↦ inr (CutPayload, (payload, omega (arith, cut, all)))
+          | inl cut ↦ inr (CutPayload, ((payload, even), omega (arith, long, head), (λ is. absurd (omega (arith, first, is))), omega (arith, cut, all)))
           | inr whole ↦ elim (decide-rises (slice_range us 4 (4 + 4 * number us 1 1)) (number us 1 1)) [
             | inl rise ↦ inl (Sparse (slice_range us 4 (4 + 4 * number us 1 1)) (slice_range us (4 + 4 * number us 1 1) (4 + 8 * number us 1 1)), (first, whole, refl, refl, rise), λ _. even)
-            | inr fall ↦ inr (KeyOrder, (first, whole, fall))
+            | inr fall ↦ inr (KeyOrder, ((payload, even), first, whole, fall))
           ]
         ]
       ]
@@ -160,11 +160,11 @@ module _ (us : List ℕ) (at : ℕ) (are : AreBytes us) (payload : IsPayload us)
       let head : head_units us ≡ 4 = head-of 3 (field us 0 8 8) 4 2 high in
       let all : payload_units us ≡ data_units (number us 2 2 * number us 1 1) = units-by 3 (field us 0 8 8) (packed_units (number us 1 1)) (sparse_units (number us 1 1)) (data_units (number us 2 2 * number us 1 1)) high in
       elim (cases_lt (length us) 8) [
-        | inl cut ↦ inr (CutHead, (payload, omega (arith, cut, head)))
+        | inl cut ↦ inr (CutHead, ((payload, even), omega (arith, cut, head)))
         | inr long ↦ elim (decide-width (number us 1 1)) [
-          | inr other ↦ inr (Width, (first, long, other))
+          | inr other ↦ inr (Width, ((payload, even), first, long, other))
           | inl width ↦ elim (cases_lt (length us) (2 * data_units (number us 2 2 * number us 1 1))) [
-            | inl cut ↦ inr (CutPayload, (payload, omega (arith, cut, all)))
+            | inl cut ↦ inr (CutPayload, ((payload, even), omega (arith, long, head), (λ _. width), omega (arith, cut, all)))
             | inr whole ↦ inl (Data (number us 1 1) (slice_range us 8 (8 + number us 2 2 * number us 1 1)), (first, whole, refl, width, refl), λ _. even)
           ]
         ]
@@ -202,7 +202,7 @@ front-decided us at are long = elim (decide-payload us) [
   | inr plain ↦ plain-front us at long plain
   | inl payload ↦ elim (cases_eq (at % 2) 0) [
     | inl even ↦ payload-front us at are payload even
-    | inr odd ↦ inr (OddPayload, (payload, omega (arith, odd)))
+    | inr odd ↦ inr (OddPayload, (long, payload, omega (arith, odd)))
   ]
 ]
 

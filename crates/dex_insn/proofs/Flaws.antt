@@ -1,9 +1,10 @@
--- Where an instruction stands, no rule is broken.
+-- Where an instruction stands, each rule is kept, and so none is broken.
 use Rattle.std.proofs.Common.{◌≡◌, ℕ, ◌*◌, ◌%◌, ◌<◌, ◌≤◌, List, drop, Some, sym, ap, ◌∙◌, arith, ⊎_elim, if◌then◌else◌, ◌==◌}
 use Rattle.std.proofs.lemmas.Bool.Decides.{nat_tests}
+use Rattle.dex_insn.specs.Fields.{field}
 use Rattle.dex_insn.specs.Opcodes.{format_of, units_of}
 use Rattle.dex_insn.specs.RawInsns.{InsnStands, IsPayload}
-use Rattle.dex_insn.specs.Flaws.{InsnBreaks, format_at, has_zero_byte}
+use Rattle.dex_insn.specs.Flaws.{InsnBreaks, KeepsRules, format_at, has_zero_byte}
 use Rattle.dex_insn.specs.Raw.{Raw}
 use Rattle.dex_insn.specs.declared.opcode.Format.{Format}
 use Rattle.dex_insn.specs.declared.opcode.Format.TheVariants.{F10x, F12x, F11n, F11x, F10t, F20t, F22x, F21t, F21s, F21h, F21c, F23x, F22b, F22t, F22s, F22c, F30t, F32x, F31i, F31t, F31c, F35c, F3rc, F51l}
@@ -42,34 +43,55 @@ some_unit F35c = omega arith
 some_unit F3rc = omega arith
 some_unit F51l = omega arith
 
-two_heads : (h n : ℕ) → 2 * (if h == 3 then 4 else 2) ≤ n → n < 2 → ⊥
-two_heads h n p q = grind (arith, nat_tests)
+two_heads : (h n : ℕ) → 2 * (if h == 3 then 4 else 2) ≤ n → 2 ≤ n
+two_heads h n p = grind (arith, nat_tests)
 
-not_plain : (flaw : Flaw) (at : ℕ) (us : List ℕ) (it : Raw) → Plain us it → InsnBreaks flaw at us → ⊥
-not_plain Missing at us it p b = let s = some_unit p.f in let w = p.begins.whole in omega arith
-not_plain Opcode at us it p b = let none = b.1 in let k : format_at us ≡ Some p.f = ap format_of (sym p.begins.opcode) ∙ p.begins.kind in cc
-not_plain Cut at us it p b = let g = format_is us it p b.0 b.2 in let w = p.begins.whole in let e = ap units_of g in omega arith
-not_plain NonZero at us it p b = let g = format_is us it p b.0 b.2 in let z = p.zero (ap has_zero_byte (sym g) ∙ b.3) in omega arith
-not_plain RegisterCount at us it p b = let g = format_is us it p F35c b.0 in let n = p.count (sym g) in omega arith
-not_plain OddPayload at us it p b = p.not_payload b.0
-not_plain CutHead at us it p b = p.not_payload b.0
-not_plain Width at us it p b = p.not_payload (omega arith, omega arith, omega arith)
-not_plain CutPayload at us it p b = p.not_payload b.0
-not_plain KeyOrder at us it p b = p.not_payload (omega arith, omega arith, omega arith)
+plain_keeps : (at : ℕ) (us : List ℕ) (it : Raw) → Plain us it → KeepsRules at us
+plain_keeps at us it p = record {
+  unit = let s = some_unit p.f in let w = p.begins.whole in omega arith;
+  opcode = λ none. let k : format_at us ≡ Some p.f = ap format_of (sym p.begins.opcode) ∙ p.begins.kind in cc;
+  whole = λ f is. let e = ap units_of (format_is us it p f is.1) in let w = p.begins.whole in omega arith;
+  zero = λ f is zero. p.zero (ap has_zero_byte (sym (format_is us it p f is.1)) ∙ zero);
+  count = λ is. p.count (sym (format_is us it p F35c is));
+  even = λ is. absurd (p.not_payload is);
+  head = λ is. absurd (p.not_payload is);
+  width = λ is. absurd (p.not_payload (omega arith, omega arith, omega arith));
+  payload = λ is. absurd (p.not_payload is);
+  keys = λ is. absurd (p.not_payload (omega arith, omega arith, omega arith));
+}
 
-not_load : (flaw : Flaw) (at : ℕ) (us : List ℕ) (it : Raw) → Load us it → (IsPayload us → at % 2 ≡ 0) → InsnBreaks flaw at us → ⊥
-not_load Missing at us it p even b = two_heads _ _ p.head b
-not_load Opcode at us it p even b = let none = b.1 in let k : format_at us ≡ Some F10x = ap format_of p.identifier.0 ∙ zero_row in cc
-not_load Cut at us it p even b = b.1 p.identifier
-not_load NonZero at us it p even b = b.1 p.identifier
-not_load RegisterCount at us it p even b = let k : format_at us ≡ Some F10x = ap format_of p.identifier.0 ∙ zero_row in cc
-not_load OddPayload at us it p even b = let e = even p.identifier in let o = b.1 in omega arith
-not_load CutHead at us it p even b = let e = p.head in let o = b.1 in omega arith
-not_load Width at us it p even b = b.2 (p.width b.0)
-not_load CutPayload at us it p even b = let e = p.whole in let o = b.1 in omega arith
-not_load KeyOrder at us it p even b = b.2 (p.keys b.0)
+load_keeps : (at : ℕ) (us : List ℕ) (it : Raw) → Load us it → (IsPayload us → at % 2 ≡ 0) → KeepsRules at us
+load_keeps at us it p even =
+    let k : format_at us ≡ Some F10x = ap format_of p.identifier.0 ∙ zero_row in
+    record {
+      unit = two_heads (field us 0 8 8) _ p.head;
+      opcode = λ none. cc;
+      whole = λ f is. absurd (is.0 p.identifier);
+      zero = λ f is. absurd (is.0 p.identifier);
+      count = λ is. cc;
+      even = even;
+      head = λ _. p.head;
+      width = p.width;
+      payload = λ _. p.whole;
+      keys = p.keys;
+    }
 
--- an instruction that stands at a place breaks no rule there
+-- an instruction that stands at a place keeps all rules there
+pub rules_kept : (bytes : List ℕ) (at : ℕ) (insn : Raw) → InsnStands bytes at insn → KeepsRules at (drop (2 * at) bytes)
+rules_kept bytes at insn s = ⊎_elim (λ p. plain_keeps at _ _ p) (λ l. load_keeps at _ _ l s.even) (known _ insn s.spelled)
+
+clear : (flaw : Flaw) (at : ℕ) (us : List ℕ) → KeepsRules at us → InsnBreaks flaw at us → ⊥
+clear Missing at us k b = let n = k.unit in omega arith
+clear Opcode at us k b = k.opcode b.1
+clear Cut at us k b = let n = k.whole b.0 b.1 in let less = b.2 in omega arith
+clear NonZero at us k b = let n = k.zero b.0 b.1 b.3 in let some = b.4 in omega arith
+clear RegisterCount at us k b = let n = k.count b.0.1 in let many = b.2 in omega arith
+clear OddPayload at us k b = let e = k.even b.1 in let o = b.2 in omega arith
+clear CutHead at us k b = let n = k.head b.0.0 in let less = b.1 in omega arith
+clear Width at us k b = b.3 (k.width b.1)
+clear CutPayload at us k b = let n = k.payload b.0.0 in let less = b.3 in omega arith
+clear KeyOrder at us k b = b.3 (k.keys b.1)
+
+-- and so it breaks none
 pub no_flaw : (flaw : Flaw) (at : ℕ) (bytes : List ℕ) (insn : Raw) → InsnStands bytes at insn → InsnBreaks flaw at (drop (2 * at) bytes) → ⊥
-no_flaw flaw at bytes insn s b =
-    ⊎_elim (λ p. not_plain flaw at _ _ p b) (λ l. not_load flaw at _ _ l s.even b) (known _ insn s.spelled)
+no_flaw flaw at bytes insn s b = clear flaw at _ (rules_kept bytes at insn s) b

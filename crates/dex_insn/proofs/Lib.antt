@@ -12,3 +12,4 @@ pub mod Mnemonics
 pub mod Rows
 pub mod RegisterRuns
 pub mod Decided
+pub mod OneFault

@@ -1,10 +1,10 @@
 //! Laws of what stands at a unit. None has code: each says of the definitions what its contract says.
 
-ghost use Rattle.std.specs.Prelude.{ℕ, List, ◌≡◌, ◌≤◌, ◌<◌, ◌+◌, ◌*◌, ◌%◌, ◌++◌, ◌⊎◌, length, true, false};
+ghost use Rattle.std.specs.Prelude.{ℕ, List, ◌≡◌, ◌≤◌, ◌<◌, ◌+◌, ◌*◌, ◌%◌, ◌++◌, ◌⊎◌, length, drop, true, false};
 ghost use Rattle.base_bytes.specs.declared.fault.Fault.{Fault};
 ghost use Rattle.dex_insn.specs.Raw.{Raw, units, is_payload};
 ghost use Rattle.dex_insn.specs.RawInsns.{SpellsInsn, InsnStands, IsPayload};
-ghost use Rattle.dex_insn.specs.Flaws.{IsFaultAt};
+ghost use Rattle.dex_insn.specs.Flaws.{IsFaultAt, KeepsRules};
 ghost use Rattle.base_bytes.specs.Fields.{AreBytes};
 ghost use Rattle.dex_insn.specs.Written.{IsRaw, written};
 
@@ -21,6 +21,16 @@ pub fn whole_where_one_stands()
 /// Where an instruction stands, no rule is broken.
 pub fn clear_where_one_stands()
     ensures { (bytes : List ℕ) (at : ℕ) (r : Raw) (fault : Fault) → InsnStands bytes at r → IsFaultAt bytes at fault → ⊥ }
+{}
+
+/// Where an instruction stands, each rule is kept, also asked alone.
+pub fn rules_are_kept()
+    ensures { (bytes : List ℕ) (at : ℕ) (r : Raw) → InsnStands bytes at r → KeepsRules at (drop (2 * at) bytes) }
+{}
+
+/// At a unit one rule is broken at most: there is one fault.
+pub fn one_fault()
+    ensures { (bytes : List ℕ) (at : ℕ) (e f : Fault) → IsFaultAt bytes at e → IsFaultAt bytes at f → e ≡ f }
 {}
 
 /// At a unit that is there an instruction stands, or a rule is broken.

@@ -1,6 +1,6 @@
 //! Reading a payload ("Dalvik bytecode", the three payload formats).
 
-ghost use Rattle.std.specs.Prelude.{ℕ, ◌≡◌, ◌≤◌, ◌+◌, ◌*◌, ◌<◌, length, IfOk, IfErr, IsTrue, ◌↔◌};
+ghost use Rattle.std.specs.Prelude.{ℕ, ◌≡◌, ◌≤◌, ◌+◌, ◌*◌, ◌%◌, ◌<◌, length, IfOk, IfErr, IsTrue, ◌↔◌};
 ghost use Rattle.dex_insn.specs.Fields.{number, field, KeysRise};
 ghost use Rattle.dex_insn.specs.Raw.{raw};
 ghost use Rattle.dex_insn.specs.RawInsns.{SpellsInsn, IsElementWidth};
@@ -31,7 +31,7 @@ pub(crate) fn read_packed(front: &[u8]) -> Result<RawInsn<'_>, Flaw>
     requires long { 2 ≤ length front.now }
     requires identifier { number front.now 0 1 ≡ 0x0100 }
     ensures ok { IfOk result (λ insn. SpellsInsn front.now (raw insn)) }
-    ensures err { IfErr result (λ flaw. (at : ℕ) → InsnBreaks flaw at front.now) }
+    ensures err { IfErr result (λ flaw. (at : ℕ) → at % 2 ≡ 0 → InsnBreaks flaw at front.now) }
 {
     if front.len() < 4 {
         return Err(Flaw::CutHead);
@@ -52,7 +52,7 @@ pub(crate) fn read_sparse(front: &[u8]) -> Result<RawInsn<'_>, Flaw>
     requires long { 2 ≤ length front.now }
     requires identifier { number front.now 0 1 ≡ 0x0200 }
     ensures ok { IfOk result (λ insn. SpellsInsn front.now (raw insn)) }
-    ensures err { IfErr result (λ flaw. (at : ℕ) → InsnBreaks flaw at front.now) }
+    ensures err { IfErr result (λ flaw. (at : ℕ) → at % 2 ≡ 0 → InsnBreaks flaw at front.now) }
 {
     if front.len() < 4 {
         return Err(Flaw::CutHead);
@@ -84,7 +84,7 @@ pub(crate) fn read_data(front: &[u8]) -> Result<RawInsn<'_>, Flaw>
     requires long { 2 ≤ length front.now }
     requires identifier { number front.now 0 1 ≡ 0x0300 }
     ensures ok { IfOk result (λ insn. SpellsInsn front.now (raw insn)) }
-    ensures err { IfErr result (λ flaw. (at : ℕ) → InsnBreaks flaw at front.now) }
+    ensures err { IfErr result (λ flaw. (at : ℕ) → at % 2 ≡ 0 → InsnBreaks flaw at front.now) }
 {
     if front.len() < 8 {
         return Err(Flaw::CutHead);

@@ -11,3 +11,4 @@ pub mod Fitting
 pub mod Weaker
 pub mod Narrow
 pub mod Appending
+pub mod OneFault

@@ -45,7 +45,7 @@ module _ (N : ℕ → Name → Type 0) (b rest : List ℕ) (s : Section) (off : 
     deep = deep;
   }
 
-  at_takes : (vs : List Value) → At (SpellsArray N) b 0x2005 1 off vs → (after : List ℕ) × Takes (SpellsArray N) rest vs after
+  pub at_takes : (vs : List Value) → At (SpellsArray N) b 0x2005 1 off vs → (after : List ℕ) × Takes (SpellsArray N) rest vs after
   unfolding slice
   at_takes vs a =
       let e = (is.only a.begin a.end a.section).1 in

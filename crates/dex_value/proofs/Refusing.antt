@@ -28,7 +28,7 @@ lone h (inl e) = inr (inl e)
 lone h (inr (inl e)) = inr (inr (inl e))
 lone h (inr (inr e)) = inr (inr (inr e))
 
-lone_not_sized : (h : ℕ) → IsLoneHead h → IsSizedHead h → ⊥
+pub lone_not_sized : (h : ℕ) → IsLoneHead h → IsSizedHead h → ⊥
 lone_not_sized h (inl e) s = let k : IsSizedHead 28 = subst (λ (j : ℕ). IsSizedHead j) e s in absurd (omega (arith, k))
 lone_not_sized h (inr (inl e)) s = let k : IsSizedHead 30 = subst (λ (j : ℕ). IsSizedHead j) e s in absurd (omega (arith, k))
 lone_not_sized h (inr (inr (inl e))) s = let k : IsSizedHead 31 = subst (λ (j : ℕ). IsSizedHead j) e s in absurd (omega (arith, k))

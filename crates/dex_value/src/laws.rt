@@ -1,10 +1,13 @@
 //! Laws over the definitions, for the proofs of crates above. Those that take any naming stand in `proofs/`: `SpellsArray-weaker`
 //! carries a spelling over to a naming that the first implies.
-ghost use Rattle.std.specs.Prelude.{ℕ, List, length, ◌<◌, ◌≤◌};
+ghost use Rattle.std.specs.Prelude.{◌≡◌, ℕ, List, length, ◌<◌, ◌≤◌};
 ghost use Rattle.base_bytes.specs.Grammar.{IsPrefixUnique};
+ghost use Rattle.base_bytes.specs.declared.fault.Fault.{Fault};
+ghost use Rattle.dex_container.specs.Frame.{IsFramed};
 ghost use Rattle.program_types.specs.Content.{Name, Value, values};
 ghost use Rattle.tables_rows.specs.Names.{Names, NameIsAt};
 ghost use Rattle.tables_names.specs.Closure.{Five, NameRanks};
+ghost use Rattle.dex_value.specs.Faults.{ArrayBreaksAt};
 ghost use Rattle.dex_value.specs.Spelling.{SpellsArray};
 ghost use Rattle.dex_value.specs.Wide.{wide_array};
 ghost use Rattle.program_types.specs.Mentions.{AllNamesHold};
@@ -34,4 +37,9 @@ pub fn array_carries_over()
     ensures { (ranks : Five) (names : Names) →
         ((i : ℕ) (which : Name) → NameRanks ranks i which → NameIsAt names i which) →
         (bytes : List ℕ) (vs : List Value) → SpellsArray (NameRanks ranks) bytes vs → SpellsArray (NameIsAt names) bytes vs }
+{}
+
+/// What stands at an offset in place of an encoded_array has one fault: one number, at one place.
+pub fn one_fault()
+    ensures { (names : Names) (b : List ℕ) → IsFramed b → (off most : ℕ) (e f : Fault) → ArrayBreaksAt (NameIsAt names) b off most e → ArrayBreaksAt (NameIsAt names) b off most f → e ≡ f }
 {}

@@ -23,7 +23,9 @@ mod laws;
 
 pub use checking::check_array;
 pub use laws::{
-    array_carries_over, array_is_prefix_unique, array_is_short, spelled_array_can_be_put,
+    array_carries_over, array_is_prefix_unique, array_is_short, one_fault, spelled_array_can_be_put,
 };
+pub use numbers::{number, unsigned};
 pub use reading::read_array;
-pub use writing::put_array;
+pub use types::{NameType, NumberType, SizedType, name_kind, sized_type};
+pub use writing::{put_array, put_plain, put_unsigned};

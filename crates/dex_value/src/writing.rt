@@ -7,10 +7,10 @@ ghost use Rattle.program_types.specs.View as view;
 ghost use Rattle.program_types.specs.View.{value};
 ghost use Rattle.program_types.specs.Content as content;
 ghost use Rattle.program_types.specs.Depth.{depth};
-ghost use Rattle.tables_names.specs.Closure.{NameRanks};
+ghost use Rattle.tables_names.specs.Closure.{Five, NameRanks};
 ghost use Rattle.dex_value.specs.Spelling.{Sized, unsigned_of, type_of, SpellsValue, SpellsArray};
 ghost use Rattle.program_types.specs.Mentions.{NamesHold, AllNamesHold};
-ghost use Rattle.dex_value.specs.Named.{IsRanked};
+ghost use Rattle.dex_value.specs.Named.{IsRanked, IsPlain};
 ghost use Rattle.dex_value.specs.Counts.{CountsFit, AllCountsFit, ArrayFits};
 ghost use Rattle.dex_value.specs.Writing.{SignedAs, UnsignedAs, HighAs, IndexAs, magnitude_of, sized, HoldsMore};
 
@@ -48,8 +48,18 @@ fn put_signed(out: &mut Vec<u8>, code: u8, n: i64, widest: usize) -> Result<(), 
     put_sized(out, code, &low[..width])
 }
 
-/// Appends an unsigned number of a type of at most `widest` bytes.
-fn put_unsigned(out: &mut Vec<u8>, code: u8, n: u64, widest: usize) -> Result<(), Fault>
+/// Appends an unsigned number of a type of at most `widest` bytes, in the fewest.
+///
+/// The only error is want of memory, and then `out` may hold some of the number's bytes.
+///
+/// ```
+/// use dex_value::put_unsigned;
+///
+/// let mut out = Vec::new(alloc);
+/// put_unsigned(&mut out, 0x18, 300, 4)?; // the type of row 300
+/// assert_eq!(rt; out.as_slice(), [0x38, 0x2c, 0x01].as_slice());
+/// ```
+pub fn put_unsigned(out: &mut Vec<u8>, code: u8, n: u64, widest: usize) -> Result<(), Fault>
     requires code { code < 32 }
     requires some { 0 < widest }
     requires fits { n < 256 ^ widest }
@@ -94,11 +104,21 @@ fn put_name(out: &mut Vec<u8>, ranks: &Ranks<'_>, code: u8, name: Name<'_>) -> R
     }
 }
 
-/// Appends a value that is no array.
-fn put_leaf(out: &mut Vec<u8>, ranks: &Ranks<'_>, one: &Value<'_>) -> Result<(), Fault>
-    requires named { NamesHold (IsRanked ranks.now) (value one.now) }
-    requires flat { depth (value one.now) ≡ 0 }
-    ensures ok { OnOk result (Appends (Shortest (SpellsValue (NameRanks ranks.now))) out.old.items out.new.items (value one.now)) }
+/// Appends a value that is neither a name nor an array, in the fewest bytes.
+///
+/// The only error is want of memory, and then `out` may hold some of the value's bytes.
+///
+/// ```
+/// use dex_program::Value;
+/// use dex_value::put_plain;
+///
+/// let mut out = Vec::new(alloc);
+/// put_plain(&mut out, &Value::Int(-1))?;
+/// assert_eq!(rt; out.as_slice(), [0x04, 0xff].as_slice());
+/// ```
+pub fn put_plain(out: &mut Vec<u8>, one: &Value<'_>) -> Result<(), Fault>
+    requires { IsPlain (value one.now) }
+    ensures ok { OnOk result ((s : Five) → Appends (Shortest (SpellsValue (NameRanks s))) out.old.items out.new.items (value one.now)) }
     ensures err { OnErr result (HoldsMore out.old.items out.new.items) }
     ensures memory { IsOkUnless result memory }
 {
@@ -110,15 +130,28 @@ fn put_leaf(out: &mut Vec<u8>, ranks: &Ranks<'_>, one: &Value<'_>) -> Result<(),
         Value::Long(n) => put_signed(out, 0x06, *n, 8),
         Value::Float(bits) => put_high(out, 0x10, u64::from(*bits), 4),
         Value::Double(bits) => put_high(out, 0x11, *bits, 8),
+        Value::Null => Ok(out.push(0x1e)?),
+        Value::Bool(false) => Ok(out.push(0x1f)?),
+        Value::Bool(true) => Ok(out.push(0x3f)?),
+        _ => unreachable!(),
+    }
+}
+
+/// Appends a value that is no array.
+fn put_leaf(out: &mut Vec<u8>, ranks: &Ranks<'_>, one: &Value<'_>) -> Result<(), Fault>
+    requires named { NamesHold (IsRanked ranks.now) (value one.now) }
+    requires flat { depth (value one.now) ≡ 0 }
+    ensures ok { OnOk result (Appends (Shortest (SpellsValue (NameRanks ranks.now))) out.old.items out.new.items (value one.now)) }
+    ensures err { OnErr result (HoldsMore out.old.items out.new.items) }
+    ensures memory { IsOkUnless result memory }
+{
+    match one {
         Value::Text(text) => put_name(out, ranks, 0x17, Name::Text(*text)),
         Value::Desc(desc) => put_name(out, ranks, 0x18, Name::Desc(*desc)),
         Value::Field(field) => put_name(out, ranks, 0x19, Name::Field(field)),
         Value::Method(method) => put_name(out, ranks, 0x1a, Name::Method(method)),
         Value::Enum(constant) => put_name(out, ranks, 0x1b, Name::Field(constant)),
-        Value::Null => Ok(out.push(0x1e)?),
-        Value::Bool(false) => Ok(out.push(0x1f)?),
-        Value::Bool(true) => Ok(out.push(0x3f)?),
-        Value::Array(_) => unreachable!(),
+        _ => put_plain(out, one),
     }
 }
 
@@ -174,7 +207,8 @@ fn put_counted(out: &mut Vec<u8>, ranks: &Ranks<'_>, all: &[Value<'_>]) -> Resul
 /// Every name in the values has to have a rank of at most 4294967295, and no array may have more than 4294967295 values.
 /// All that some bytes spell is so (`spelled_array_can_be_put`), so nothing that can be written is kept out.
 ///
-/// The only error is want of memory, and then `out` holds what it held.
+/// The only error is want of memory, and then `out` holds what it held. The stack holds a call for each array that a value is
+/// in: at most 64 in what `read_array` answers. A value made by hand that is much deeper may end the stack.
 ///
 /// ```
 /// use dex_program::Value;

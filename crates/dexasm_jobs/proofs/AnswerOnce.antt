@@ -15,18 +15,19 @@ use Rattle.program_rules.specs.WellFormed.{WellFormed}
 use Rattle.program_types.specs.Content.{Program}
 use Rattle.listing_laws.proofs.ClassRuns.{printed_again}
 use Rattle.listing_lines.specs.declared.form.Form.TheVariants.{Two}
-use Rattle.dexasm_jobs.proofs.AlignOnce.{program_aligned_one}
+use Rattle.file_align.proofs.OneAligned.{program_aligned_one}
 
 pub answer_once : (job : Job) (given a b : List ℕ) → Answer job given a → Answer job given b → a ≡ b
 answer_once Check given a b x y = x.2 ∙ sym y.2
 answer_once Listing given a b x y = x.2 ∙ ap canon (program_one given x.0 y.0 x.1 y.1) ∙ sym y.2
 answer_once (Assemble false) given a b x y =
-    file_one x.0 a b x.2 (subst (λ (p : Program). IsFileOf p b) (sym (listing_one given x.0 y.0 x.1 y.1)) y.2)
+    let same = listing_one given x.program y.program x.listed y.listed in
+    file_one x.program a b x.file (subst (λ (p : Program). IsFileOf p b) (sym same) y.file)
 answer_once (Assemble true) given a b x y =
-    let same = listing_one given x.0 y.0 x.1 y.1 in
-    let s = x.2 in let t = y.2 in
-    let one = program_aligned_one x.0 s.0 t.0 s.1 (subst (λ (p : Program). AlignedProgram p t.0) (sym same) t.1) in
-    file_one s.0 a b s.2 (subst (λ (p : Program). IsFileOf p b) (sym one) t.2)
+    let same = listing_one given x.program y.program x.listed y.listed in
+    let other = subst (λ (p : Program). AlignedProgram p y.other) (sym same) y.is.aligned in
+    let one = program_aligned_one x.program x.other y.other x.is.aligned other in
+    file_one x.other a b x.file (subst (λ (p : Program). IsFileOf p b) (sym one) y.file)
 answer_once Strip given a b x y = stripped_same given given a b x y (program_one given x.program y.program x.meant y.meant)
 
 pub listed_once : (file text made small : List ℕ) → Answer Listing file text → Answer (Assemble false) text made → Answer Strip file small → made ≡ small
@@ -34,5 +35,5 @@ listed_once file text made small x y z =
     let meant = program_one file x.0 z.program x.1 z.meant in
     let formed = subst WellFormed (sym meant) (well_formed small z.file.packed.bytes z.program z.file.means) in
     let listed = subst (λ (t : List ℕ). IsListing t x.0) (sym x.2) (printed_again Two x.0 formed) in
-    let same = listing_one text x.0 y.0 listed y.1 in
-    file_one y.0 made small y.2 (subst (λ (p : Program). IsFileOf p small) (sym meant ∙ same) z.file)
+    let same = listing_one text x.0 y.program listed y.listed in
+    file_one y.program made small y.file (subst (λ (p : Program). IsFileOf p small) (sym meant ∙ same) z.file)

@@ -1,2 +1,3 @@
-pub mod AlignOnce
 pub mod AnswerOnce
+pub mod MadeLaws
+pub mod OutcomeOnce

@@ -1,34 +1,52 @@
 -- What a job answers to the bytes that it is given, and when it refuses them.
 -- Page: docs/PROMISES.md; "Dalvik Executable format" for files, docs/LISTING.md for listings.
-use Rattle.std.specs.Prelude.{◌≡◌, ℕ, true, false, ◌⊎◌, List, codes}
+use Rattle.std.specs.Prelude.{◌≡◌, ℕ, true, false, ◌⊎◌, List, codes, Result, Ok, Err}
 use Rattle.file_align.specs.Programs.{AlignedProgram, IsTooLong}
 use Rattle.base_bytes.specs.declared.fault.Fault.{Fault}
 use Rattle.file_read.specs.Means.{Means}
 use Rattle.file_read.specs.Refused.{IsRefused}
-use Rattle.file_limits.specs.Limits.{IsLowestLimit}
+use Rattle.file_limits.specs.Limits.{Fits, IsLowestLimit}
 use Rattle.listing_parse.specs.Text.{IsListing, ListingBreaks}
 use Rattle.listing_print.specs.Canon.{canon}
+use Rattle.program_rules.specs.WellFormed.{WellFormed}
 use Rattle.program_types.specs.Content.{Program}
 use Rattle.file_write.specs.Written.{IsFileOf, IsStripped, IsStripRefused}
 use Rattle.dexasm_job.specs.declared.job.Job.{Job}
 use Rattle.dexasm_job.specs.declared.job.Job.TheVariants.{Check, List as Listing, Assemble, Strip}
 
--- The bytes are the file of the program with each of its codes aligned.
-abbrev pub IsAlignedFileOf : Program → List ℕ → Type 0
-IsAlignedFileOf p made = (q : Program) × AlignedProgram p q × IsFileOf q made
+-- The listing says a program that fits, and the bytes are its file.
+pub record IsAssembled (given made : List ℕ) : Type 0 where
+  pub program : Program
+  pub listed : IsListing given program
+  pub fits : Fits program
+  pub file : IsFileOf program made
+
+-- The one program is the other with each of its codes aligned, and well formed: no code gets too long.
+pub record IsAligned (p q : Program) : Type 0 where
+  pub aligned : AlignedProgram p q
+  pub formed : WellFormed q
+
+-- The same, of the listed program with each of its codes aligned.
+pub record IsAssembledAligned (given made : List ℕ) : Type 0 where
+  pub program : Program
+  pub listed : IsListing given program
+  pub other : Program
+  pub is : IsAligned program other
+  pub fits : Fits other
+  pub file : IsFileOf other made
 
 -- The job's answer to these bytes. Check: `ok` and a line feed, where they are a file. List: the listing of the file's program.
 -- Assemble: the file of the listed program, or with align of that program aligned. Strip: the file of the file's program.
 abbrev pub Answer : Job → List ℕ → List ℕ → Type 0
 Answer Check given made = (p : Program) × Means given p × (made ≡ codes "ok\n")
 Answer Listing given made = (p : Program) × Means given p × (made ≡ canon p)
-Answer (Assemble false) given made = (p : Program) × IsListing given p × IsFileOf p made
-Answer (Assemble true) given made = (p : Program) × IsListing given p × IsAlignedFileOf p made
+Answer (Assemble false) given made = IsAssembled given made
+Answer (Assemble true) given made = IsAssembledAligned given made
 Answer Strip given made = IsStripped given made
 
--- A code of the program would be too long when aligned, or the aligned program breaks a limit of the format.
+-- A code of the program would be too long when aligned, or else the aligned program breaks a limit of the format.
 abbrev pub IsAlignedUnwritten : Program → Fault → Type 0
-IsAlignedUnwritten p fault = IsTooLong p fault ⊎ ((q : Program) × AlignedProgram p q × IsLowestLimit q fault)
+IsAlignedUnwritten p fault = IsTooLong p fault ⊎ ((q : Program) × IsAligned p q × IsLowestLimit q fault)
 
 -- The job refuses these bytes with this fault: they are no file, or no listing, or their program can't be written.
 abbrev pub Refusal : Job → List ℕ → Fault → Type 0
@@ -39,3 +57,8 @@ Refusal (Assemble false) given fault =
 Refusal (Assemble true) given fault =
     ListingBreaks given fault.code fault.place ⊎ ((p : Program) × IsListing given p × IsAlignedUnwritten p fault)
 Refusal Strip given fault = IsStripRefused given fault
+
+-- What comes of a job on these bytes, want of memory aside: its answer, or its refusal.
+abbrev pub Outcome : Job → List ℕ → Result (List ℕ) Fault → Type 0
+Outcome job given (Ok made) = Answer job given made
+Outcome job given (Err fault) = Refusal job given fault

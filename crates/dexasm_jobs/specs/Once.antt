@@ -1,9 +1,10 @@
 -- A job's answer is decided by the bytes that it is given.
 -- Page: docs/PROMISES.md.
-use Rattle.std.specs.Prelude.{◌≡◌, ℕ, List, false}
+use Rattle.std.specs.Prelude.{◌≡◌, ℕ, List, Result, false}
+use Rattle.base_bytes.specs.declared.fault.Fault.{Fault}
 use Rattle.dexasm_job.specs.declared.job.Job.{Job}
 use Rattle.dexasm_job.specs.declared.job.Job.TheVariants.{List as Listing, Assemble, Strip}
-use Rattle.dexasm_jobs.specs.Answers.{Answer}
+use Rattle.dexasm_jobs.specs.Answers.{Answer, Outcome}
 
 -- no job has two answers to the same bytes
 abbrev pub OneAnswer : Type 0
@@ -13,3 +14,7 @@ OneAnswer = (job : Job) (given a b : List ℕ) → Answer job given a → Answer
 abbrev pub ListedAndAssembledIsStripped : Type 0
 ListedAndAssembledIsStripped =
     (file text made small : List ℕ) → Answer Listing file text → Answer (Assemble false) text made → Answer Strip file small → made ≡ small
+
+-- no job has two outcomes on the same bytes
+abbrev pub OneOutcome : Type 0
+OneOutcome = (job : Job) (given : List ℕ) (x y : Result (List ℕ) Fault) → Outcome job given x → Outcome job given y → x ≡ y

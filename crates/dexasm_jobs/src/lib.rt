@@ -13,4 +13,4 @@ mod answers;
 mod laws;
 
 pub use answers::answer;
-pub use laws::{listed_and_assembled_is_stripped, one_answer};
+pub use laws::{listed_and_assembled_is_stripped, one_answer, one_outcome};

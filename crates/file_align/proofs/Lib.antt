@@ -1,3 +1,4 @@
 pub mod PairLaws
 pub mod NameLaws
 pub mod WellLaws
+pub mod OneAligned

@@ -36,7 +36,7 @@ some_turned : (P Q : Code → Type 0) → ((c : Code) → P c → Q c) → (o : 
 some_turned P Q h None a = tt
 some_turned P Q h (Some c) a = h c a
 
-codes_turned : (Q : Code → Type 0) → ((c : Code) → IsFormed c → Q c) → (c : Class) → CodesHold IsFormed c → CodesHold Q c
+pub codes_turned : (Q : Code → Type 0) → ((c : Code) → IsFormed c → Q c) → (c : Class) → CodesHold IsFormed c → CodesHold Q c
 codes_turned Q h c f = record {
   directs = all-turned (λ (m : Method). IfSome m.code IsFormed) (λ (m : Method). IfSome m.code Q) (λ m a. some_turned IsFormed Q h m.code a) c.directs f.directs;
   virtuals = all-turned (λ (m : Method). IfSome m.code IsFormed) (λ (m : Method). IfSome m.code Q) (λ m a. some_turned IsFormed Q h m.code a) c.virtuals f.virtuals;

@@ -8,4 +8,8 @@
 // Bodies, methods, classes.
 mod aligning;
 
+// What holds of them.
+mod laws;
+
 pub use aligning::align_all;
+pub use laws::{aligned_program_is_one, what_is_too_long_is_not_formed};

@@ -1,5 +1,7 @@
 pub mod PlaceLaws
 pub mod EntryLaws
+pub mod EntryFaults
+pub mod RowFaults
 pub mod ClearLaws
 pub mod TakingLaws
 pub mod MemberLaws
@@ -10,3 +12,4 @@ pub mod OnceLaws
 pub mod SeenLaws
 pub mod KeptLaws
 pub mod MeantLaws
+pub mod OneFault

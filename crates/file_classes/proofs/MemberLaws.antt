@@ -1,22 +1,20 @@
 -- Entries in memory, read one by one by their indices.
-use Rattle.std.proofs.Common.{◌≡◌, ◌≢◌, ℕ, zero, suc, ◌+◌, ◌<◌, ◌≤◌, Bool, true, false, inl, inr, List, [], ◌∷◌, length, map, take, get_or, Some, option_map, refl, sym, ap, ◌∙◌, subst, arith, slice_get}
-use Rattle.std.specs.Prelude.{MatchBool, ◌==◌, slice_index, sum}
+use Rattle.std.proofs.Common.{◌≡◌, ℕ, zero, suc, ◌+◌, ◌<◌, List, [], ◌∷◌, length, map, take, get_or, Some, option_map, refl, sym, ap, ◌∙◌, subst, arith, slice_get}
+use Rattle.std.specs.Prelude.{slice_index, sum}
 use Rattle.std.proofs.lemmas.Grind.{common_steps}
 use Rattle.std.proofs.lemmas.List.{length-map}
 use Rattle.std.proofs.lemmas.Option.{slice_get-get_or, slice_get-map, slice_get_within, same_Some}
 use Rattle.base_bytes.specs.declared.fault.Fault.{Fault}
-use Rattle.dex_container.specs.Faults.{on}
 use Rattle.program_types.specs.Content.{Units, FieldRef}
 use Rattle.tables_rows.specs.Stands.{TypeStands, FieldStands, MethodStands}
 use Rattle.file_classes.specs.ClassData.{FieldEntry, MethodEntry, Entries, EntriesAt, steps, index_of, Runs, IsRun}
-use Rattle.std.proofs.lemmas.Bool.{cases_lt, eqb-true}
 use Rattle.program_types.specs.Content.{Method}
 use Rattle.tables_rows.specs.RowFields.{row_place}
 use Rattle.tables_rows.specs.TableFaults.{BreaksAt}
 use Rattle.file_classes.specs.ClassRows.{class_word}
-use Rattle.file_classes.specs.ClassFaults.{EntryBreaks, OneBreaks, MemberBreaks, ClassRowBreaks}
+use Rattle.file_classes.specs.ClassFaults.{HasHead, EntryHolds, IsForeign, EntryBreaks, MemberIndex, MemberOwner, MemberOrder, ClassRowBreaks, Member}
 use Rattle.file_classes.proofs.EntryLaws.{entry_at}
-use Rattle.file_classes.specs.Reading.{bare, HaveCodes, IsBare, IndexFails, EntriesFail}
+use Rattle.file_classes.specs.Reading.{bare, HaveCodes, IsBare, IndexBreaks, IndexIsOut, IndexIsForeign, IndexFails, EntriesFail, MembersFail}
 use Rattle.file_classes.specs.declared.members.Bare.{Bare}
 use Rattle.file_classes.specs.Classes.{IsField, IsMethod, RowIs, InterfacesAt, HeadIs}
 use Rattle.file_classes.specs.declared.heads.Head.{Head}
@@ -25,13 +23,10 @@ use Rattle.file_classes.specs.ClassRows.{InOrder}
 use Rattle.file_classes.specs.ClassFaults.{ClassRowHolds}
 use Rattle.program_types.specs.View.{desc, str, member, method_ref}
 
--- a fact of this number, or of another, and what follows from it
-on_weaker : (code number : ℕ) (P Q R S : Type 0) → (P → Q) → (R → S) → on code number P R → on code number Q S
-on_weaker code number P Q R S f g o = by (code == number) o
-  where
-    by : (t : Bool) → MatchBool t P R → MatchBool t Q S
-    by true p = f p
-    by false r = g r
+-- what the row at the index of an entry breaks, the entry breaks
+entry_breaks : (IsOwner : ℕ → Units → Type 0) (size : ℕ) (class : Units) (differences : List ℕ) (k index code : ℕ) → index ≡ index_of differences k → IndexBreaks IsOwner size class index code → EntryBreaks IsOwner size class differences k code
+entry_breaks IsOwner size class differences k index code is (IndexIsOut out) = MemberIndex (omega (arith, out, is))
+entry_breaks IsOwner size class differences k index code is (IndexIsForeign f) = MemberOwner (subst (λ (i : ℕ). IsForeign IsOwner class i) is f)
 
 module _ {E R : Type 0} (view : E → ℕ × R) where
   pub step_at : (es : List E) (k : ℕ) (d : E) → k < length es → get_or (steps (map view es)) k 0 ≡ (view (get_or es k d)).0
@@ -55,22 +50,29 @@ module _ {E R : Type 0} (view : E → ℕ × R) where
         let more : sum (take (k + 1) s) ≡ sum (take k s) + get_or s k 0 = grind (arith, common_steps) in
         omega (arith, is, at, here, more)
 
-    -- a fault of the row at the next index is one of the list
-    pub index_fails : (IsOwner : ℕ → Units → Type 0) (size : ℕ) (class : Units) (index place : ℕ) (e : Fault) → index ≡ index_of (steps (map view es)) k → IndexFails IsOwner size class index place e → EntriesFail IsOwner size class (steps (map view es)) place e
-    index_fails IsOwner size class index place e is f =
-        let within : k < length (steps (map view es)) = let n = all in omega (arith, n, lt) in
-        record {
-          breaks = on_weaker e.code 45 _ _ _ _ (λ out. record { entry = k; within = within; out = omega (arith, out, is) })
-              (on_weaker e.code 46 _ _ _ _ (λ p. record { entry = k; within = within; owner = p.0; owned = subst (λ (i : ℕ). IsOwner i p.0) is p.1; other = p.2 }) (λ z. absurd z)) f.breaks;
-          there = f.there;
-        }
+    inside : k < length (steps (map view es))
+    inside = let n = all in omega (arith, n, lt)
 
-    -- a difference of 0 behind another entry is one
-    pub step_fails : (IsOwner : ℕ → Units → Type 0) (size : ℕ) (class : Units) (place : ℕ) → 0 < k → (view (get_or es k d)).0 ≡ 0 → EntriesFail IsOwner size class (steps (map view es)) place (record { code = 47; place = place })
-    step_fails IsOwner size class place some zero_step = record {
-      breaks = record { entry = k; behind = some; within = let n = all in omega (arith, n, lt); same = step_at es k d lt ∙ zero_step };
-      there = refl;
-    }
+    module _ (IsOwner : ℕ → Units → Type 0) (size : ℕ) (class : Units) (index place : ℕ) (is : index ≡ index_of (steps (map view es)) k)
+        (before : (j : ℕ) → j < k → EntryHolds IsOwner class (steps (map view es)) j) where
+      -- a fault of the row at the next index is one of the list
+      pub index_fails : (e : Fault) → IndexFails IsOwner size class index place e → EntriesFail IsOwner size class (steps (map view es)) place e
+      index_fails e f = record {
+        breaks = record { entry = k; within = inside; breaks = entry_breaks IsOwner size class (steps (map view es)) k index e.code is f.breaks; before = before };
+        there = f.there;
+      }
+
+      -- a difference of 0 behind another entry is one
+      pub step_fails : IsOwner index class → 0 < k → (view (get_or es k d)).0 ≡ 0 → EntriesFail IsOwner size class (steps (map view es)) place (record { code = 47; place = place })
+      step_fails owned some zero_step = record {
+        breaks = record {
+          entry = k;
+          within = inside;
+          breaks = MemberOrder (record { owned = subst (λ (i : ℕ). IsOwner i class) is owned; behind = some; same = step_at es k d lt ∙ zero_step });
+          before = before;
+        };
+        there = refl;
+      }
 
     pub step_rises : (0 < k → 0 < (view (get_or es k d)).0) → 0 < k → 0 < slice_index (steps (map view es)) k
     step_rises up some = let a = up some in let e = step_at es k d lt in omega (arith, a, e)
@@ -97,53 +99,12 @@ all_run M es n vs e r = subst (λ (k : ℕ). Runs M es k vs) e r
 
 -- ---- the members of a row
 
--- a fact of another number
-on_other : (code number : ℕ) (P Q : Type 0) → code ≢ number → Q → on code number P Q
-on_other code number P Q not q = by (code == number) (λ e. not (eqb-true code number e))
-  where
-    by : (t : Bool) → (t ≢ true) → MatchBool t P Q
-    by true no_way = absurd (no_way refl)
-    by false no_way = q
-
--- a fact of a number can't be one of another
-on_not : (code number : ℕ) (P Q : Type 0) → code ≢ number → on code number P Q → Q
-on_not code number P Q not o = by (code == number) (λ e. not (eqb-true code number e)) o
-  where
-    by : (t : Bool) → (t ≢ true) → MatchBool t P Q → Q
-    by true no_way p = absurd (no_way refl)
-    by false no_way q = q
-
-entry_code : (IsOwner : ℕ → Units → Type 0) (size : ℕ) (class : Units) (code : ℕ) (d : List ℕ) → EntryBreaks IsOwner size class code d → 45 ≤ code
-entry_code IsOwner size class code d breaks = elim (cases_lt code 45) [
-  | inl lt ↦
-      let a : code ≢ 45 = omega arith in
-      let b : code ≢ 46 = omega arith in
-      let e : code ≢ 47 = omega arith in
-      absurd (on_not code 47 _ _ e (on_not code 46 _ _ b (on_not code 45 _ _ a breaks)))
-  | inr ge ↦ ge
-]
-
-one_code : (b : List ℕ) (class : Units) (code : ℕ) (e : Entries) → OneBreaks b class code e → 45 ≤ code
-one_code b class code e (inl p) = entry_code _ _ _ code _ p
-one_code b class code e (inr (inl p)) = entry_code _ _ _ code _ p
-one_code b class code e (inr (inr (inl p))) = entry_code _ _ _ code _ p
-one_code b class code e (inr (inr (inr p))) = entry_code _ _ _ code _ p
-
--- what breaks in one of the lists breaks in the row
-pub member_breaks : (b : List ℕ) (i : ℕ) (e : Entries) (class : Units) (fault : Fault) → EntriesAt b (class_word b i 6) e → TypeStands b (class_word b i 0) class → OneBreaks b class fault.code e → fault.place ≡ row_place b 5 i → BreaksAt ClassRowBreaks b 5 i fault
-member_breaks b i e class fault at ty breaks place =
-    let code = fault.code in
-    let ge : 45 ≤ code = one_code b class code e breaks in
-    let m : MemberBreaks b code i = record { entries = e; class_data = at; class = class; ty = ty; breaks = breaks } in
-    let n40 : code ≢ 40 = omega arith in
-    let n41 : code ≢ 41 = omega arith in
-    let n42 : code ≢ 42 = omega arith in
-    let n43 : code ≢ 43 = omega arith in
-    let n44 : code ≢ 44 = omega arith in
-    record {
-      breaks = on_other code 40 _ _ n40 (on_other code 41 _ _ n41 (on_other code 43 _ _ n43 (on_other code 42 _ _ n42 (on_other code 44 _ _ n44 m))));
-      place = place;
-    }
+-- what an entry breaks breaks in the row
+pub member_breaks : (b : List ℕ) (i : ℕ) (e : Entries) (class : Units) (fault : Fault) → HasHead b i class → InOrder b i → EntriesAt b (class_word b i 6) e → MembersFail b class e (row_place b 5 i) fault → BreaksAt ClassRowBreaks b 5 i fault
+member_breaks b i e class fault head order at fails = record {
+  breaks = Member (record { class = class; head = head; order = order; entries = e; class_data = at; breaks = fails.breaks });
+  place = fails.there;
+}
 
 -- methods before their code: as methods, and where the code stands
 pub bares_run : (b : List ℕ) (class : Units) (es : List MethodEntry) (ms : List Bare) → IsRun (IsBare b class) es ms → IsRun (IsMethod b class) es (map bare ms)

@@ -41,7 +41,7 @@ one_of_kind b framed kind.Field i (OfField m) _ k l p q = absurd l
 one_of_kind b framed kind.Method i (OfMethod m) _ k l p q = absurd l
 one_of_kind b framed _ i _ _ k l p q = absurd k
 
-index_one : (S : ℕ → Units → Type 0) → ((i : ℕ) (s t : Units) → S i s → S i t → s ≡ t) → (i : ℕ) (x y : Option Units) → IndexOrNone S i x → IndexOrNone S i y → x ≡ y
+pub index_one : (S : ℕ → Units → Type 0) → ((i : ℕ) (s t : Units) → S i s → S i t → s ≡ t) → (i : ℕ) (x y : Option Units) → IndexOrNone S i x → IndexOrNone S i y → x ≡ y
 index_one S one i None None p q = refl
 index_one S one i None (Some t) p q = absurd (q.0 p)
 index_one S one i (Some s) None p q = absurd (p.0 q)

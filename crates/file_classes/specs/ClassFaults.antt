@@ -1,71 +1,79 @@
 -- The faults of class rows (40 to 47), static values (48 to 51), code (60 to 72) and its registers (73). Each is stated so that
--- it has a meaning for any file; it is asked only where the groups before, and the rows before, hold.
-use Rattle.std.specs.Prelude.{◌≡◌, ◌≢◌, ℕ, ◌<◌, ◌≤◌, ◌⊎◌, ◌==◌, ◌||◌, if◌then◌else◌, MatchBool, None, List, length, Option, Some, slice_index}
+-- it has a meaning for any file; it is asked only where the groups before, and the rows before, hold. Of the rules of a row each says
+-- what is asked before it.
+use Rattle.std.specs.Prelude.{◌≡◌, ◌≢◌, ℕ, ◌<◌, ◌≤◌, ◌⊎◌, ◌==◌, ◌||◌, if◌then◌else◌, MatchBool, None, List, length, Option, Some, slice_index, IfSome}
 use Rattle.std.specs.List.{slice_get}
 use Rattle.base_bytes.specs.declared.fault.Fault.{Fault}
 use Rattle.dex_base.specs.Descriptor.{IsClass}
 use Rattle.dex_container.specs.Layout.{size_of}
 use Rattle.dex_container.specs.Frame.{IsFramed}
-use Rattle.dex_container.specs.Faults.{on}
 use Rattle.dex_container.specs.Section as section
 use Rattle.program_types.specs.Content.{Units, FieldRef, MethodRef, Value, Code, Class}
 use Rattle.tables_rows.specs.RowFields.{row_place}
 use Rattle.tables_rows.specs.Names.{Names, AreNamesOf, NameIsAt}
 use Rattle.tables_rows.specs.Sorted.{RowsHold, TablesHold}
-use Rattle.tables_rows.specs.Stands.{TypeStands, FieldStands, MethodStands, NameStands}
+use Rattle.tables_rows.specs.Stands.{StringStands, TypeStands, FieldStands, MethodStands, NameStands}
 use Rattle.tables_rows.specs.TableFaults.{IsFirstRow}
 use Rattle.dex_value.specs.Faults.{ArrayBreaksAt}
 use Rattle.code_read.specs.Code.{BodyStands}
 use Rattle.code_read.specs.Faults.{CodeBreaks, CodeOverruns}
-use Rattle.file_classes.specs.ClassRows.{no_index, InOrder, class_data_off, class_idx, interfaces_off, source_file_idx, static_values_off, superclass_idx}
-use Rattle.file_classes.specs.ClassData.{MethodEntry, Entries, EntriesAt, steps, index_of, code_off}
-use Rattle.file_classes.specs.Classes.{InterfacesAt, HeadIs, StaticsAt, CodeAt}
+use Rattle.file_classes.specs.ClassRows.{no_index, IndexOrNone, InOrder, class_data_off, class_idx, interfaces_off, source_file_idx, static_values_off, superclass_idx}
+use Rattle.file_classes.specs.ClassData.{FieldEntry, MethodEntry, Entries, EntriesAt, steps, index_of, code_off}
+use Rattle.file_classes.specs.Classes.{RowIs, InterfacesAt, HeadIs, StaticsAt, CodeAt}
 
 -- ---- class rows
 
--- 40: an index out of its table
+-- 40: an index is out of its table.
 abbrev pub HasNoName : List ℕ → ℕ → Type 0
 HasNoName b i =
     (size_of b section.type_ids ≤ class_idx b i)
     ⊎ ((superclass_idx b i ≢ no_index) × (size_of b section.type_ids ≤ superclass_idx b i))
     ⊎ ((source_file_idx b i ≢ no_index) × (size_of b section.string_ids ≤ source_file_idx b i))
 
--- 41: class or superclass of another kind
-pub record IsNoClass (b : List ℕ) (index : ℕ) : Type 0 where
-  pub ty : Units
-  pub stands : TypeStands b index ty
-  pub other : ¬ IsClass ty
+-- 41: the three are there, and class or superclass is no class type.
+pub record IsOfOtherKind (b : List ℕ) (i : ℕ) : Type 0 where
+  pub class : Units
+  pub superclass : Option Units
+  pub source : Option Units
+  pub named : TypeStands b (class_idx b i) class
+  pub above : IndexOrNone (TypeStands b) (superclass_idx b i) superclass
+  pub written_in : IndexOrNone (StringStands b) (source_file_idx b i) source
+  pub other : (¬ IsClass class) ⊎ (¬ IfSome superclass IsClass)
 
--- 45: an entry's index is out of its table
-pub record EntryIsOut (size : ℕ) (differences : List ℕ) : Type 0 where
-  pub entry : ℕ
-  pub within : entry < length differences
-  pub out : size ≤ index_of differences entry
+-- 43: these are of their kinds, and no list of distinct class types stands at the offset.
+pub record HasNoInterfaces (b : List ℕ) (i : ℕ) : Type 0 where
+  pub class : Units
+  pub flags : ℕ
+  pub superclass : Option Units
+  pub source : Option Units
+  pub row : RowIs b i class flags superclass source
+  pub none : (ts : List Units) → ¬ InterfacesAt b (interfaces_off b i) ts
 
--- 46: the row of an entry is of another class
-pub record EntryIsForeign (IsOwner : ℕ → Units → Type 0) (class : Units) (differences : List ℕ) : Type 0 where
-  pub entry : ℕ
-  pub within : entry < length differences
-  pub owner : Units
-  pub owned : IsOwner (index_of differences entry) owner
-  pub other : owner ≢ class
+-- The row keeps 40 to 43: names and class types, and a list of interfaces.
+pub record HasHead (b : List ℕ) (i : ℕ) (class : Units) : Type 0 where
+  pub flags : ℕ
+  pub superclass : Option Units
+  pub source : Option Units
+  pub interfaces : List Units
+  pub row : RowIs b i class flags superclass source
+  pub list : InterfacesAt b (interfaces_off b i) interfaces
 
--- 47: an entry has the index of the one before
-pub record EntryRepeats (differences : List ℕ) : Type 0 where
-  pub entry : ℕ
-  pub behind : 0 < entry
-  pub within : entry < length differences
-  pub same : slice_index differences entry ≡ 0
+-- 42: it keeps these, and is out of order.
+pub record IsMisplaced (b : List ℕ) (i : ℕ) : Type 0 where
+  pub class : Units
+  pub head : HasHead b i class
+  pub late : ¬ InOrder b i
 
--- A list of entries breaks rule 45, 46 or 47.
-abbrev pub EntryBreaks : (ℕ → Units → Type 0) → ℕ → Units → ℕ → List ℕ → Type 0
-EntryBreaks IsOwner size class code differences =
-    on code 45 (EntryIsOut size differences) (
-    on code 46 (EntryIsForeign IsOwner class differences) (
-    on code 47 (EntryRepeats differences)
-    ⊥))
+-- 44: it is in order too, and no class_data_item stands at the offset.
+pub record HasNoClassData (b : List ℕ) (i : ℕ) : Type 0 where
+  pub class : Units
+  pub head : HasHead b i class
+  pub order : InOrder b i
+  pub none : (e : Entries) → ¬ EntriesAt b (class_data_off b i) e
 
--- the class of a row of field_ids, and of method_ids
+-- ---- members, entry by entry
+
+-- The class of a row of field_ids.
 abbrev pub FieldOwner : List ℕ → ℕ → Units → Type 0
 FieldOwner b j t = (f : FieldRef) × FieldStands b j f × (f.class ≡ t)
 
@@ -73,31 +81,88 @@ FieldOwner b j t = (f : FieldRef) × FieldStands b j f × (f.class ≡ t)
 abbrev pub MethodOwner : List ℕ → ℕ → Units → Type 0
 MethodOwner b j t = (m : MethodRef) × MethodStands b j m × (m.class ≡ t)
 
--- in one of the four lists
-abbrev pub OneBreaks : List ℕ → Units → ℕ → Entries → Type 0
-OneBreaks b class code e =
-    EntryBreaks (FieldOwner b) (size_of b section.field_ids) class code (steps e.statics)
-    ⊎ EntryBreaks (FieldOwner b) (size_of b section.field_ids) class code (steps e.instances)
-    ⊎ EntryBreaks (MethodOwner b) (size_of b section.method_ids) class code (steps e.directs)
-    ⊎ EntryBreaks (MethodOwner b) (size_of b section.method_ids) class code (steps e.virtuals)
+-- Entry k is one of the class, and has a higher index than the entry before.
+pub record EntryHolds (IsOwner : ℕ → Units → Type 0) (class : Units) (differences : List ℕ) (k : ℕ) : Type 0 where
+  pub owned : IsOwner (index_of differences k) class
+  pub rises : 0 < k → 0 < slice_index differences k
 
--- 45 to 47 of a row
-pub record MemberBreaks (b : List ℕ) (code i : ℕ) : Type 0 where
+-- 46: the row of an index is of another class.
+pub record IsForeign (IsOwner : ℕ → Units → Type 0) (class : Units) (index : ℕ) : Type 0 where
+  pub owner : Units
+  pub owned : IsOwner index owner
+  pub other : owner ≢ class
+
+-- 47: entry k is one of the class, and has the index of the entry before.
+pub record EntryRepeats (IsOwner : ℕ → Units → Type 0) (class : Units) (differences : List ℕ) (k : ℕ) : Type 0 where
+  pub owned : IsOwner (index_of differences k) class
+  pub behind : 0 < k
+  pub same : slice_index differences k ≡ 0
+
+-- The rule that entry k breaks.
+pub data EntryBreaks (IsOwner : ℕ → Units → Type 0) (size : ℕ) (class : Units) (differences : List ℕ) (k : ℕ) : ℕ → Type 0 where
+  MemberIndex : size ≤ index_of differences k → EntryBreaks IsOwner size class differences k 45
+  MemberOwner : IsForeign IsOwner class (index_of differences k) → EntryBreaks IsOwner size class differences k 46
+  MemberOrder : EntryRepeats IsOwner class differences k → EntryBreaks IsOwner size class differences k 47
+
+-- All entries of a list hold.
+abbrev pub EntriesHold : (ℕ → Units → Type 0) → Units → List ℕ → Type 0
+EntriesHold IsOwner class differences = (k : ℕ) → k < length differences → EntryHolds IsOwner class differences k
+
+-- The first entry of a list that breaks a rule.
+pub record EntriesBreak (IsOwner : ℕ → Units → Type 0) (size : ℕ) (class : Units) (differences : List ℕ) (code : ℕ) : Type 0 where
+  pub entry : ℕ
+  pub within : entry < length differences
+  pub breaks : EntryBreaks IsOwner size class differences entry code
+  pub before : (k : ℕ) → k < entry → EntryHolds IsOwner class differences k
+
+-- Each of these is a field of the class, and their indices rise.
+abbrev pub FieldEntriesHold : List ℕ → Units → List FieldEntry → Type 0
+FieldEntriesHold b class es = EntriesHold (FieldOwner b) class (steps es)
+
+-- The first that isn't, or whose index doesn't rise, breaks the rule of this number.
+abbrev pub FieldEntriesBreak : List ℕ → Units → List FieldEntry → ℕ → Type 0
+FieldEntriesBreak b class es code = EntriesBreak (FieldOwner b) (size_of b section.field_ids) class (steps es) code
+
+-- The same of methods.
+abbrev pub MethodEntriesHold : List ℕ → Units → List MethodEntry → Type 0
+MethodEntriesHold b class es = EntriesHold (MethodOwner b) class (steps es)
+
+-- The same of methods.
+abbrev pub MethodEntriesBreak : List ℕ → Units → List MethodEntry → ℕ → Type 0
+MethodEntriesBreak b class es code = EntriesBreak (MethodOwner b) (size_of b section.method_ids) class (steps es) code
+
+-- All four lists hold.
+pub record MembersHold (b : List ℕ) (class : Units) (e : Entries) : Type 0 where
+  pub statics : FieldEntriesHold b class e.statics
+  pub instances : FieldEntriesHold b class e.instances
+  pub directs : MethodEntriesHold b class e.directs
+  pub virtuals : MethodEntriesHold b class e.virtuals
+
+-- The first of the four lists that doesn't: static fields, instance fields, direct methods, virtual methods.
+abbrev pub MembersBreak : List ℕ → Units → Entries → ℕ → Type 0
+MembersBreak b class e code =
+    FieldEntriesBreak b class e.statics code
+    ⊎ (FieldEntriesHold b class e.statics × FieldEntriesBreak b class e.instances code)
+    ⊎ (FieldEntriesHold b class e.statics × FieldEntriesHold b class e.instances × MethodEntriesBreak b class e.directs code)
+    ⊎ (FieldEntriesHold b class e.statics × FieldEntriesHold b class e.instances × MethodEntriesHold b class e.directs × MethodEntriesBreak b class e.virtuals code)
+
+-- 45 to 47: class data stands there, and an entry breaks one.
+pub record MemberBreaks (b : List ℕ) (i code : ℕ) : Type 0 where
+  pub class : Units
+  pub head : HasHead b i class
+  pub order : InOrder b i
   pub entries : Entries
   pub class_data : EntriesAt b (class_data_off b i) entries
-  pub class : Units
-  pub ty : TypeStands b (class_idx b i) class
-  pub breaks : OneBreaks b class code entries
+  pub breaks : MembersBreak b class entries code
 
--- 40 ClassIndex, 41 ClassKind, 43 InterfaceList, 42 ClassOrder, 44 ClassData, 45 MemberIndex, 46 MemberOwner, 47 MemberOrder
-abbrev pub ClassRowBreaks : List ℕ → ℕ → ℕ → Type 0
-ClassRowBreaks b code i =
-    on code 40 (HasNoName b i) (
-    on code 41 (IsNoClass b (class_idx b i) ⊎ ((superclass_idx b i ≢ no_index) × IsNoClass b (superclass_idx b i))) (
-    on code 43 ((ts : List Units) → ¬ InterfacesAt b (interfaces_off b i) ts) (
-    on code 42 (¬ InOrder b i) (
-    on code 44 ((e : Entries) → ¬ EntriesAt b (class_data_off b i) e) (
-    MemberBreaks b code i)))))
+-- The rule that row i of class_defs breaks: the first, since each is asked only where those before it hold.
+pub data ClassRowBreaks (b : List ℕ) (i : ℕ) : ℕ → Type 0 where
+  ClassIndex : HasNoName b i → ClassRowBreaks b i 40
+  ClassKind : IsOfOtherKind b i → ClassRowBreaks b i 41
+  InterfaceList : HasNoInterfaces b i → ClassRowBreaks b i 43
+  ClassOrder : IsMisplaced b i → ClassRowBreaks b i 42
+  ClassData : HasNoClassData b i → ClassRowBreaks b i 44
+  Member : {code : ℕ} → MemberBreaks b i code → ClassRowBreaks b i code
 
 -- Row i keeps the rules of 40 to 47.
 pub record ClassRowHolds (b : List ℕ) (i : ℕ) : Type 0 where
@@ -106,7 +171,17 @@ pub record ClassRowHolds (b : List ℕ) (i : ℕ) : Type 0 where
   pub head : HeadIs b i entries class
   pub order : InOrder b i
 
--- All rows do.
+-- Each of these rules is kept, asked alone.
+pub record ClassRowKeeps (b : List ℕ) (i : ℕ) : Type 0 where
+  pub names : ¬ HasNoName b i
+  pub class : (t : Units) → TypeStands b (class_idx b i) t → IsClass t
+  pub superclass : superclass_idx b i ≢ no_index → (t : Units) → TypeStands b (superclass_idx b i) t → IsClass t
+  pub interfaces : (ts : List Units) × InterfacesAt b (interfaces_off b i) ts
+  pub order : InOrder b i
+  pub class_data : (e : Entries) × EntriesAt b (class_data_off b i) e
+  pub members : (class : Units) (e : Entries) → TypeStands b (class_idx b i) class → EntriesAt b (class_data_off b i) e → MembersHold b class e
+
+-- All rows hold.
 abbrev pub ClassRowsHold : List ℕ → Type 0
 ClassRowsHold b = RowsHold ClassRowHolds b (size_of b section.class_defs)
 

@@ -2,7 +2,6 @@
 use Rattle.std.specs.Prelude.{◌≡◌, ◌≢◌, ℕ, ◌<◌, ◌≤◌, List, [], length, map, option_map, Option, Some, None, IfSome, IfNone}
 use Rattle.std.specs.List.{slice_get}
 use Rattle.base_bytes.specs.declared.fault.Fault.{Fault}
-use Rattle.dex_container.specs.Faults.{on}
 use Rattle.program_types.specs.Content as content
 use Rattle.program_types.specs.View.{str, desc, proto, member, value, code}
 use Rattle.file_classes.specs.declared.class_data.FieldEntry.{FieldEntry}
@@ -18,7 +17,7 @@ use Rattle.file_classes.specs.declared.statics.Statics.{Statics}
 use Rattle.file_classes.specs.ClassData as numbers
 use Rattle.file_classes.specs.ClassRows.{static_values_off}
 use Rattle.file_classes.specs.Classes.{IsField, IsMethod, HeadIs, StaticsAt}
-use Rattle.file_classes.specs.ClassFaults.{EntryBreaks, ValuesStand, BodyAt, BodyHolds, CodeHolds, RegistersFail, RowRegistersHold, RowRegistersBreak, IsFirstClass}
+use Rattle.file_classes.specs.ClassFaults.{IsForeign, EntriesBreak, MembersBreak, ValuesStand, BodyAt, BodyHolds, CodeHolds, RegistersFail, RowRegistersHold, RowRegistersBreak, IsFirstClass}
 use Rattle.tables_rows.specs.Sorted.{RowsHold}
 
 -- what entries in memory say
@@ -90,14 +89,24 @@ pub record MembersStand (b : List ℕ) (class : content.Units) (e : numbers.Entr
 
 -- ---- refusals
 
--- The row of an index breaks a rule: out of its table (45), or of another class (46).
+-- The rule that the row of an index breaks: it is out of its table, or of another class.
+pub data IndexBreaks (IsOwner : ℕ → content.Units → Type 0) (size : ℕ) (class : content.Units) (index : ℕ) : ℕ → Type 0 where
+  IndexIsOut : size ≤ index → IndexBreaks IsOwner size class index 45
+  IndexIsForeign : IsForeign IsOwner class index → IndexBreaks IsOwner size class index 46
+
+-- The row of an index breaks one, and this is the fault.
 pub record IndexFails (IsOwner : ℕ → content.Units → Type 0) (size : ℕ) (class : content.Units) (index place : ℕ) (fault : Fault) : Type 0 where
-  pub breaks : on fault.code 45 (size ≤ index) (on fault.code 46 ((t : content.Units) × IsOwner index t × (t ≢ class)) ⊥)
+  pub breaks : IndexBreaks IsOwner size class index fault.code
   pub there : fault.place ≡ place
 
 -- An entry of a list breaks one (45 to 47).
 pub record EntriesFail (IsOwner : ℕ → content.Units → Type 0) (size : ℕ) (class : content.Units) (differences : List ℕ) (place : ℕ) (fault : Fault) : Type 0 where
-  pub breaks : EntryBreaks IsOwner size class fault.code differences
+  pub breaks : EntriesBreak IsOwner size class differences fault.code
+  pub there : fault.place ≡ place
+
+-- An entry of the four lists does.
+pub record MembersFail (b : List ℕ) (class : content.Units) (e : numbers.Entries) (place : ℕ) (fault : Fault) : Type 0 where
+  pub breaks : MembersBreak b class e fault.code
   pub there : fault.place ≡ place
 
 -- None of the first m types is type n.

@@ -127,6 +127,7 @@ fn is_class_or_none(superclass: Option<Desc<'_>>) -> bool
 }
 
 /// The names and flags of row i.
+#[tactic(auto, using(crate::specs::ClassFaults::ClassIndex))]
 pub(crate) fn read_row<'a>(
     sections: &Sections<'_>,
     tables: &Tables<'a>,

@@ -43,6 +43,7 @@ pub struct Head<'a, 's> {
 }
 
 // The head of row i.
+#[tactic(auto, using(crate::specs::ClassFaults::InterfaceList, crate::specs::ClassFaults::ClassOrder, crate::specs::ClassFaults::ClassData))]
 fn read_head<'a, 's>(
     alloc: Global,
     arena: &'a Bump,

@@ -30,7 +30,9 @@ mod statics;
 pub use checking::check_codes;
 pub use checking_statics::check_statics;
 pub use heads::{Head, read_heads};
-pub use laws::{class_is_one, classes_are_clear};
+pub use laws::{
+    class_is_one, classes_are_clear, rows_break_one_rule, rows_that_hold_keep_the_rules,
+};
 pub use members::Bare;
 pub use methods::read_classes;
 pub use statics::{Statics, read_statics};

@@ -5,14 +5,14 @@ ghost use Rattle.dex_container.specs.Layout.{size_of};
 ghost use Rattle.dex_container.specs.Section as section;
 ghost use Rattle.program_types.specs.View.{desc, field_ref, method_ref, member};
 ghost use Rattle.tables_rows.specs.Names.{AreNamesOf};
+ghost use Rattle.tables_rows.specs.RowFields.{row_place};
 ghost use Rattle.tables_rows.specs.Stands.{TypeStands, FieldStands, MethodStands};
-ghost use Rattle.file_classes.specs.ClassData.{steps, EntriesAt, IsRun};
+ghost use Rattle.file_classes.specs.ClassData.{steps, IsRun};
 ghost use Rattle.file_classes.specs.Classes.{IsField};
-ghost use Rattle.file_classes.specs.ClassFaults.{ClassRowBreaks, FieldOwner, MethodOwner};
-ghost use Rattle.file_classes.specs.ClassRows.{class_data_off, class_idx};
-ghost use Rattle.tables_rows.specs.TableFaults.{BreaksAt};
+ghost use Rattle.file_classes.specs.ClassFaults.{FieldOwner, MethodOwner};
+ghost use Rattle.file_classes.specs.ClassRows.{class_idx};
 ghost use Rattle.file_classes.specs.Reading as numbers;
-ghost use Rattle.file_classes.specs.Reading.{MembersStand, field_entry, method_entry, IsBare, IndexFails, EntriesFail};
+ghost use Rattle.file_classes.specs.Reading.{MembersStand, field_entry, method_entry, IsBare, IndexFails, EntriesFail, MembersFail};
 
 use crate::class_data::{Entries, FieldEntry, MethodEntry};
 use crate::class_row::{class_place, class_word};
@@ -50,6 +50,7 @@ struct Owner<'n> {
 }
 
 // The field at an index, which is of this class.
+#[tactic(auto, using(crate::specs::Reading::IndexIsOut))]
 fn field_at<'a>(
     sections: &Sections<'_>,
     tables: &Tables<'a>,
@@ -78,6 +79,7 @@ fn field_at<'a>(
 }
 
 // The method at an index, which is of this class.
+#[tactic(auto, using(crate::specs::Reading::IndexIsOut))]
 fn method_at<'a>(
     sections: &Sections<'_>,
     tables: &Tables<'a>,
@@ -180,9 +182,8 @@ pub(crate) fn read_members<'a, 's>(
     requires names { AreNamesOf sections.now tables.now }
     requires row { i < size_of sections.now section.class_defs }
     requires class { TypeStands sections.now (class_idx sections.now i) (desc class) }
-    requires entries { EntriesAt sections.now (class_data_off sections.now i) (numbers.entries entries.now) }
     ensures ok { IfOk result (MembersStand sections.now (desc class.entry) (numbers.entries entries.now)) }
-    ensures err { IfErr result (λ e. e ≢ memory → BreaksAt ClassRowBreaks sections.now section.class_defs i e) }
+    ensures err { IfErr result (λ e. e ≢ memory → MembersFail sections.now (desc class.entry) (numbers.entries entries.now) (row_place sections.now section.class_defs i) e) }
 {
     let owner = Owner {
         row: class_word(sections, i, 0),

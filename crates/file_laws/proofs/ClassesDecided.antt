@@ -1,14 +1,14 @@
 -- A class row holds, or it breaks a rule.
 use Rattle.std.proofs.Common.{◌≡◌, ◌≢◌, ℕ, zero, suc, ◌+◌, ◌<◌, ◌≤◌, ◌⊎◌, inl, inr, List, [], ◌∷◌, ◌++◌, length, Option, Some, None, refl, ap, ◌∙◌, subst, arith, slice_get}
-use Rattle.std.specs.Prelude.{slice_index}
+use Rattle.std.specs.Prelude.{slice_index, IfSome}
 use Rattle.std.proofs.lemmas.Bool.{cases_lt, cases_eq}
 use Rattle.std.proofs.lemmas.List.{length-map}
 use Rattle.base_bytes.specs.declared.fault.Fault.{Fault}
 use Rattle.dex_base.specs.Descriptor.{IsClass}
 use Rattle.dex_container.specs.Frame.{IsFramed}
 use Rattle.dex_container.specs.Layout.{size_of}
-use Rattle.program_types.specs.Content.{Units, Member, Method}
-use Rattle.tables_rows.specs.RowFields.{row_place}
+use Rattle.program_types.specs.Content.{Units, Method}
+use Rattle.program_types.specs.Content as content
 use Rattle.tables_rows.specs.Sorted.{TablesHold}
 use Rattle.tables_rows.specs.Stands.{StringStands, TypeStands, MethodStands}
 use Rattle.base_bytes.specs.Deciding.{Decided}
@@ -19,10 +19,11 @@ use Rattle.tables_laws.proofs.RowsBreak.{HoldsOrBreaks, first_break}
 use Rattle.file_classes.specs.ClassRows.{class_word, no_index, IndexOrNone, InterfaceIndexes, NoneDefines, InOrder}
 use Rattle.file_classes.specs.ClassData.{FieldEntry, MethodEntry, Entries, EntriesAt, steps, index_of, Runs, IsRun}
 use Rattle.file_classes.specs.Classes.{AreDistinct, InterfacesAt, RowIs, IsField, IsMethod}
-use Rattle.file_classes.specs.ClassFaults.{IsNoClass, EntryBreaks, FieldOwner, MethodOwner, OneBreaks, ClassRowBreaks, ClassRowHolds, ClassRowsHold, IsClassFault}
+use Rattle.file_classes.specs.ClassFaults.{HasHead, FieldOwner, MethodOwner, EntryBreaks, MemberIndex, MemberOwner, MemberOrder, EntriesBreak, FieldEntriesBreak, MethodEntriesBreak, MembersBreak, ClassRowBreaks, ClassIndex, ClassKind, InterfaceList, ClassOrder, ClassData, Member, ClassRowHolds, ClassRowsHold, IsClassFault}
+use Rattle.file_classes.proofs.EntryFaults.{run_holds, field_owned, method_owned, fields_hold, methods_hold}
 use Rattle.file_classes.proofs.EntryLaws.{entry_at, runs_none, runs_more}
 use Rattle.file_classes.proofs.HeadLaws.{to_each, no_classes, not_distinct}
-use Rattle.file_classes.proofs.MemberLaws.{field_stands, member_breaks}
+use Rattle.file_classes.proofs.MemberLaws.{field_stands}
 use Rattle.code_read_laws.proofs.Deciding.{decide-all-below, decide-implied}
 use Rattle.file_laws.proofs.DataDecided.{decide_entries_at}
 
@@ -101,10 +102,10 @@ module _ (b : List ℕ) where
 -- ---- members
 
 module _ {R V : Type 0} (M : ℕ → ℕ × R → V → Type 0) (IsOwner : ℕ → Units → Type 0) (size : ℕ) (class : Units)
-    (row : (k : ℕ) (e : ℕ × R) → k < size → ((v : V) × M k e v) ⊎ ((t : Units) × IsOwner k t × (t ≢ class))) (es : List (ℕ × R)) where
+    (row : (k : ℕ) (e : ℕ × R) → k < size → ((v : V) × M k e v) ⊎ ((t : Units) × IsOwner k t × (t ≢ class))) (owns : (k : ℕ) (e : ℕ × R) (v : V) → M k e v → IsOwner k class) (es : List (ℕ × R)) where
   -- the first n entries stand for members of the class, or an entry breaks a rule
   abbrev RunOrBreaks : ℕ → Type 0
-  RunOrBreaks n = ((vs : List V) × Runs M es n vs) ⊎ ((code : ℕ) × EntryBreaks IsOwner size class code (steps es))
+  RunOrBreaks n = ((vs : List V) × Runs M es n vs) ⊎ ((code : ℕ) × EntriesBreak IsOwner size class (steps es) code)
 
   step_up : (n : ℕ) → (0 < n → 0 < slice_index (steps es) n) ⊎ ((0 < n) × (slice_index (steps es) n ≡ 0))
   step_up n = elim (cases_lt 0 n) [
@@ -118,6 +119,10 @@ module _ {R V : Type 0} (M : ℕ → ℕ × R → V → Type 0) (IsOwner : ℕ �
   inside : (n : ℕ) → suc n ≤ length es → n < length (steps es)
   inside n le = let all = length-map es (λ (e : ℕ × R). e.0) in omega (arith, le, all)
 
+  -- what entry n breaks is the first, where those before it stand for members
+  first : (n : ℕ) (vs : List V) (code : ℕ) → suc n ≤ length es → Runs M es n vs → EntryBreaks IsOwner size class (steps es) n code → EntriesBreak IsOwner size class (steps es) code
+  first n vs code le run breaks = record { entry = n; within = inside n le; breaks = breaks; before = run_holds M IsOwner class owns es n vs (omega (arith, le)) run }
+
   run_or_breaks : (n : ℕ) → n ≤ length es → RunOrBreaks n
   run_or_breaks zero le = inl ([], runs_none M es)
   run_or_breaks (suc n) le = elim (run_or_breaks n (omega (arith, le))) [
@@ -130,20 +135,20 @@ module _ {R V : Type 0} (M : ℕ → ℕ × R → V → Type 0) (IsOwner : ℕ �
                   let more = runs_more M es n x.0 at.0 v.0 x.1 at.1 v.1 up in
                   let next : n + 1 ≡ suc n = omega arith in
                   inl (x.0 ++ v.0 ∷ [], subst (λ (k : ℕ). Runs M es k (x.0 ++ v.0 ∷ [])) next more)
-              | inr flat ↦ inr (47, record { entry = n; behind = flat.0; within = inside n le; same = flat.1 })
+              | inr flat ↦ inr (47, first n x.0 47 le x.1 (MemberOrder (record { owned = owns (index_of (steps es) n) at.0 v.0 v.1; behind = flat.0; same = flat.1 })))
             ]
-            | inr f ↦ inr (46, record { entry = n; within = inside n le; owner = f.0; owned = f.1; other = f.2 })
+            | inr f ↦ inr (46, first n x.0 46 le x.1 (MemberOwner (record { owner = f.0; owned = f.1; other = f.2 })))
           ]
-          | inr ge ↦ inr (45, record { entry = n; within = inside n le; out = ge })
+          | inr ge ↦ inr (45, first n x.0 45 le x.1 (MemberIndex ge))
         ]
     | inr f ↦ inr f
   ]
 
-  pub all_or_breaks : ((vs : List V) × IsRun M es vs) ⊎ ((code : ℕ) × EntryBreaks IsOwner size class code (steps es))
+  pub all_or_breaks : ((vs : List V) × IsRun M es vs) ⊎ ((code : ℕ) × EntriesBreak IsOwner size class (steps es) code)
   all_or_breaks = run_or_breaks (length es) (omega arith)
 
 module _ (b : List ℕ) (tables : TablesHold b) (class : Units) where
-  field_row_of : (k : ℕ) (e : FieldEntry) → k < size_of b 3 → ((v : Member) × IsField b class k e v) ⊎ ((t : Units) × FieldOwner b k t × (t ≢ class))
+  field_row_of : (k : ℕ) (e : FieldEntry) → k < size_of b 3 → ((v : content.Member) × IsField b class k e v) ⊎ ((t : Units) × FieldOwner b k t × (t ≢ class))
   field_row_of k e lt =
       let row = tables.fields k lt in
       elim (decide_list row.name.class class) [
@@ -162,11 +167,11 @@ module _ (b : List ℕ) (tables : TablesHold b) (class : Units) where
         | inr nay ↦ inr (row.name.class, (row.name, row.stands, refl), nay)
       ]
 
-  pub fields_or_breaks : (es : List FieldEntry) → ((vs : List Member) × IsRun (IsField b class) es vs) ⊎ ((code : ℕ) × EntryBreaks (FieldOwner b) (size_of b 3) class code (steps es))
-  fields_or_breaks es = all_or_breaks (IsField b class) (FieldOwner b) (size_of b 3) class field_row_of es
+  pub fields_or_breaks : (es : List FieldEntry) → ((vs : List content.Member) × IsRun (IsField b class) es vs) ⊎ ((code : ℕ) × FieldEntriesBreak b class es code)
+  fields_or_breaks es = all_or_breaks (IsField b class) (FieldOwner b) (size_of b 3) class field_row_of (field_owned b class) es
 
-  pub methods_or_breaks : (es : List MethodEntry) → ((vs : List Method) × IsRun (IsMethod b class) es vs) ⊎ ((code : ℕ) × EntryBreaks (MethodOwner b) (size_of b 4) class code (steps es))
-  methods_or_breaks es = all_or_breaks (IsMethod b class) (MethodOwner b) (size_of b 4) class method_row_of es
+  pub methods_or_breaks : (es : List MethodEntry) → ((vs : List Method) × IsRun (IsMethod b class) es vs) ⊎ ((code : ℕ) × MethodEntriesBreak b class es code)
+  methods_or_breaks es = all_or_breaks (IsMethod b class) (MethodOwner b) (size_of b 4) class method_row_of (method_owned b class) es
 
 -- ---- the row
 
@@ -179,36 +184,59 @@ optional S size there k = elim (cases_eq k no_index) [
   ]
 ]
 
-class_above : (b : List ℕ) (k : ℕ) (name : Option Units) → IndexOrNone (TypeStands b) k name → ((t : Units) → name ≡ Some t → IsClass t) ⊎ ((k ≢ no_index) × IsNoClass b k)
-class_above b k None is = inl (λ t e. absurd cc)
-class_above b k (Some n) is = elim (decide_class n) [
+class_above : (above : Option Units) → ((t : Units) → above ≡ Some t → IsClass t) ⊎ (IfSome above IsClass → ⊥)
+class_above None = inl (λ t e. absurd cc)
+class_above (Some n) = elim (decide_class n) [
   | inl c ↦ inl (λ t e. let s : n ≡ t = cc in subst (λ (u : Units). IsClass u) s c)
-  | inr nay ↦ inr (is.0, record { ty = n; stands = is.1; other = nay })
+  | inr nay ↦ inr nay
 ]
 
 module _ (b : List ℕ) (framed : IsFramed b) (tables : TablesHold b) (i : ℕ) where
-  module _ (class : Units) (superclass source : Option Units) (interfaces : List Units) (e : Entries) (row : RowIs b i class (class_word b i 1) superclass source)
-      (list : InterfacesAt b (class_word b i 3) interfaces) (data_at : EntriesAt b (class_word b i 6) e) (order : InOrder b i) where
-    broken : (code : ℕ) → OneBreaks b class code e → ClassRowBreaks b code i
-    broken code one = (member_breaks b i e class (record { code = code; place = row_place b 5 i }) data_at row.named one refl).breaks
+  -- what is asked behind the row's names and kinds: interfaces, order, class data, members
+  module _ (class : Units) (superclass source : Option Units) (row : RowIs b i class (class_word b i 1) superclass source) where
+    module _ (interfaces : List Units) (list : InterfacesAt b (class_word b i 3) interfaces) where
+      head : HasHead b i class
+      head = record { flags = class_word b i 1; superclass = superclass; source = source; interfaces = interfaces; row = row; list = list }
 
-    members_row : HoldsOrBreaks ClassRowHolds ClassRowBreaks b i
+      module _ (order : InOrder b i) (e : Entries) (data_at : EntriesAt b (class_word b i 6) e) where
+        broken : (code : ℕ) → MembersBreak b class e code → HoldsOrBreaks ClassRowHolds ClassRowBreaks b i
+        unfolding HoldsOrBreaks
+        broken code breaks = inr (code, Member (record { class = class; head = head; order = order; entries = e; class_data = data_at; breaks = breaks }))
+
+        members_row : HoldsOrBreaks ClassRowHolds ClassRowBreaks b i
+        unfolding HoldsOrBreaks
+        members_row = elim (fields_or_breaks b tables class e.statics) [
+          | inr f ↦ broken f.0 (inl f.1)
+          | inl s ↦
+              let statics = fields_hold b class e.statics s.0 s.1 in
+              elim (fields_or_breaks b tables class e.instances) [
+                | inr f ↦ broken f.0 (inr (inl (statics, f.1)))
+                | inl n ↦
+                    let instances = fields_hold b class e.instances n.0 n.1 in
+                    elim (methods_or_breaks b tables class e.directs) [
+                      | inr f ↦ broken f.0 (inr (inr (inl (statics, instances, f.1))))
+                      | inl d ↦ elim (methods_or_breaks b tables class e.virtuals) [
+                        | inr f ↦ broken f.0 (inr (inr (inr (statics, instances, methods_hold b class e.directs d.0 d.1, f.1))))
+                        | inl v ↦ inl (record {
+                          entries = e;
+                          class = record { ty = class; flags = class_word b i 1; superclass = superclass; interfaces = interfaces; source = source; statics = s.0; values = []; instances = n.0; directs = d.0; virtuals = v.0 };
+                          head = record { row = row; interfaces = list; class_data = data_at; members = record { statics = s.1; instances = n.1; directs = d.1; virtuals = v.1 } };
+                          order = order;
+                        })
+                      ]
+                    ]
+              ]
+        ]
+
+    behind_names : HoldsOrBreaks ClassRowHolds ClassRowBreaks b i
     unfolding HoldsOrBreaks
-    members_row = elim (fields_or_breaks b tables class e.statics) [
-      | inr f ↦ inr (f.0, broken f.0 (inl f.1))
-      | inl s ↦ elim (fields_or_breaks b tables class e.instances) [
-        | inr f ↦ inr (f.0, broken f.0 (inr (inl f.1)))
-        | inl n ↦ elim (methods_or_breaks b tables class e.directs) [
-          | inr f ↦ inr (f.0, broken f.0 (inr (inr (inl f.1))))
-          | inl d ↦ elim (methods_or_breaks b tables class e.virtuals) [
-            | inr f ↦ inr (f.0, broken f.0 (inr (inr (inr f.1))))
-            | inl v ↦ inl (record {
-              entries = e;
-              class = record { ty = class; flags = class_word b i 1; superclass = superclass; interfaces = interfaces; source = source; statics = s.0; values = []; instances = n.0; directs = d.0; virtuals = v.0 };
-              head = record { row = row; interfaces = list; class_data = data_at; members = record { statics = s.1; instances = n.1; directs = d.1; virtuals = v.1 } };
-              order = order;
-            })
-          ]
+    behind_names = elim (decide_interfaces b framed tables (class_word b i 3)) [
+      | inr none ↦ inr (43, InterfaceList (record { class = class; flags = class_word b i 1; superclass = superclass; source = source; row = row; none = λ ts at. none (ts, at) }))
+      | inl list ↦ elim (decide_order b framed i) [
+        | inr nay ↦ inr (42, ClassOrder (record { class = class; head = head list.0 list.1; late = nay }))
+        | inl order ↦ elim (decide_entries_at b framed (class_word b i 6)) [
+          | inr none ↦ inr (44, ClassData (record { class = class; head = head list.0 list.1; order = order; none = λ e at. none (e, at) }))
+          | inl e ↦ members_row list.0 list.1 order e.0 e.1
         ]
       ]
     ]
@@ -216,29 +244,19 @@ module _ (b : List ℕ) (framed : IsFramed b) (tables : TablesHold b) (i : ℕ) 
   pub class_row : i < size_of b 5 → HoldsOrBreaks ClassRowHolds ClassRowBreaks b i
   unfolding HoldsOrBreaks
   class_row lt = elim (cases_lt (class_word b i 0) (size_of b 1)) [
-    | inr ge ↦ inr (40, inl ge)
+    | inr ge ↦ inr (40, ClassIndex (inl ge))
     | inl c_in ↦ elim (optional (TypeStands b) (size_of b 1) (λ k l. let t = tables.types k l in (t.name, t.stands)) (class_word b i 2)) [
-      | inr p ↦ inr (40, inr (inl p))
+      | inr p ↦ inr (40, ClassIndex (inr (inl p)))
       | inl above ↦ elim (optional (StringStands b) (size_of b 0) (λ k l. let s = tables.strings k l in (s.name, s.stands)) (class_word b i 4)) [
-        | inr p ↦ inr (40, inr (inr p))
+        | inr p ↦ inr (40, ClassIndex (inr (inr p)))
         | inl source ↦
             let c = tables.types (class_word b i 0) c_in in
             elim (decide_class c.name) [
-              | inr nay ↦ inr (41, inl (record { ty = c.name; stands = c.stands; other = nay }))
-              | inl is_class ↦ elim (class_above b (class_word b i 2) above.0 above.1) [
-                | inr p ↦ inr (41, inr p)
-                | inl above_class ↦ elim (decide_interfaces b framed tables (class_word b i 3)) [
-                  | inr none ↦ inr (43, λ ts at. none (ts, at))
-                  | inl list ↦ elim (decide_order b framed i) [
-                    | inr nay ↦ inr (42, nay)
-                    | inl order ↦ elim (decide_entries_at b framed (class_word b i 6)) [
-                      | inr none ↦ inr (44, λ e at. none (e, at))
-                      | inl e ↦
-                          members_row c.name above.0 source.0 list.0 e.0
-                          (record { named = c.stands; class = is_class; flagged = refl; above = above.1; above_class = above_class; written_in = source.1 }) list.1 e.1 order
-                    ]
-                  ]
-                ]
+              | inr nay ↦ inr (41, ClassKind (record { class = c.name; superclass = above.0; source = source.0; named = c.stands; above = above.1; written_in = source.1; other = inl nay }))
+              | inl is_class ↦ elim (class_above above.0) [
+                | inr nay ↦ inr (41, ClassKind (record { class = c.name; superclass = above.0; source = source.0; named = c.stands; above = above.1; written_in = source.1; other = inr nay }))
+                | inl above_class ↦
+                    behind_names c.name above.0 source.0 (record { named = c.stands; class = is_class; flagged = refl; above = above.1; above_class = above_class; written_in = source.1 })
               ]
             ]
       ]
@@ -251,6 +269,6 @@ classes_are_decided b framed tables = elim (first_break ClassRowBreaks ClassRowH
   | inr f ↦ inr (f.0, record { framed = framed; tables = tables; first = f.1 })
 ]
 
-pub row_is_decided : (b : List ℕ) → IsFramed b → TablesHold b → (i : ℕ) → i < size_of b 5 → ClassRowHolds b i ⊎ ((code : ℕ) × ClassRowBreaks b code i)
+pub row_is_decided : (b : List ℕ) → IsFramed b → TablesHold b → (i : ℕ) → i < size_of b 5 → ClassRowHolds b i ⊎ ((code : ℕ) × ClassRowBreaks b i code)
 unfolding HoldsOrBreaks
 row_is_decided b framed tables i lt = class_row b framed tables i lt

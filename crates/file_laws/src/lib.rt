@@ -31,7 +31,7 @@ pub fn classes_are_decided()
 /// A row of class_defs keeps the rules of each pass of reading, or a fault of that pass stands: names and members (40 to 47), static
 /// values (48 to 51), code (60 to 72), and where its code does, its registers (73).
 pub fn rows_are_decided()
-    ensures class { (b : List ℕ) → IsFramed b → TablesHold b → (i : ℕ) → i < size_of b section.class_defs → ClassRowHolds b i ⊎ ((code : ℕ) × ClassRowBreaks b code i) }
+    ensures class { (b : List ℕ) → IsFramed b → TablesHold b → (i : ℕ) → i < size_of b section.class_defs → ClassRowHolds b i ⊎ ((code : ℕ) × ClassRowBreaks b i code) }
     ensures values { (b : List ℕ) → AreBytes b → IsFramed b → TablesHold b → (i : ℕ) → ClassRowHolds b i → ValuesHold b i ⊎ ((e : Fault) × ValuesBreak b i e) }
     ensures code { (b : List ℕ) → AreBytes b → IsFramed b → TablesHold b → (i : ℕ) → ClassRowHolds b i → BodiesHold b i ⊎ ((e : Fault) × BodiesBreak b i e) }
     ensures registers { (b : List ℕ) → IsFramed b → TablesHold b → (i : ℕ) → BodiesHold b i → RowRegistersHold b i ⊎ ((e : Fault) × RowRegistersBreak b i e) }

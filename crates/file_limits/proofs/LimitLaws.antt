@@ -16,7 +16,7 @@ use Rattle.file_limits.specs.Wide.{wide}
 abbrev N : Program → ℕ → Name → Type 0
 N p = NameRanks (needed p)
 
-class_range : (p : Program) (n i : ℕ) → ClassBreaksLimit (N p) n p i → (82 ≤ n) × (n ≤ 89)
+pub class_range : (p : Program) (n i : ℕ) → ClassBreaksLimit (N p) n p i → (82 ≤ n) × (n ≤ 89)
 class_range p n i h = breaks_range (N p) h.body.code n h.body.breaks
 
 at_least_80 : (p : Program) (n place : ℕ) → LimitBreaks p n place → 80 ≤ n

@@ -21,5 +21,5 @@ mod limits;
 mod laws;
 
 pub use file_size::is_too_big;
-pub use laws::{limits_are_decided, wide_is_by_parts};
+pub use laws::{limits_are_decided, one_limit, wide_is_by_parts};
 pub use limits::check_limits;

@@ -9,7 +9,8 @@ use Rattle.tables_rows.specs.TableFaults.{IsStringFault, IsTypeFault, IsProtoFau
 use Rattle.tables_rows.proofs.ClearRows.{string_clear, type_clear, proto_clear, field_clear, method_clear}
 use Rattle.file_classes.specs.ClassFaults.{IsClassFault, IsValueFault, IsCodeFault, IsRegisterFault}
 use Rattle.file_read.specs.Broken.{Broken, RowBroken, TableBroken, ClassBroken, ValueBroken, CodeBroken, RegisterBroken}
-use Rattle.file_classes.proofs.ClearLaws.{class_clear, values_clear, bodies_clear, methods_clear}
+use Rattle.file_classes.proofs.RowFaults.{class_clear}
+use Rattle.file_classes.proofs.ClearLaws.{values_clear, bodies_clear, methods_clear}
 use Rattle.program_types.specs.Content.{Program}
 use Rattle.file_read.specs.Means.{Means}
 use Rattle.file_read.proofs.PassLaws.{means_classes, means_values, means_bodies, means_methods}

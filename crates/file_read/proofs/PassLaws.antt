@@ -15,7 +15,8 @@ use Rattle.file_classes.proofs.EntryLaws.{entry_at, list_same}
 use Rattle.file_classes.proofs.OnceLaws.{class_one}
 use Rattle.file_classes.proofs.MeantLaws.{build, class_meant}
 use Rattle.file_classes.proofs.MethodLaws.{methods_hold, registers_bodies}
-use Rattle.file_classes.proofs.ClearLaws.{class_clear, values_clear, bodies_clear, methods_clear}
+use Rattle.file_classes.proofs.RowFaults.{class_clear}
+use Rattle.file_classes.proofs.ClearLaws.{values_clear, bodies_clear, methods_clear}
 
 -- a class that a row spells keeps the rules of all three passes
 class_holds : (b : List ℕ) (i : ℕ) (c : Class) → SpellsClass b i c → InOrder b i → ClassRowHolds b i

@@ -12,8 +12,8 @@ use file_classes::{check_codes, check_statics, read_heads};
 use std::alloc::Global;
 use tables_rows::Tables;
 
-/// Whether a file means a program: refuses what `read` refuses, with a fault of the same group, and holds no program: static values are
-/// only looked at, and each code is let go when it is read.
+/// Whether a file means a program: refuses what `read` refuses, with the same fault (`one_refusal`), and holds no program: static values
+/// are only looked at, and each code is let go when it is read.
 ///
 /// ```
 /// use dex_file::{check, write};

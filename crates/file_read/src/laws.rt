@@ -6,6 +6,8 @@ ghost use Rattle.dex_container.specs.Faults.{FrameBreaks};
 ghost use Rattle.dex_container.specs.Section as section;
 ghost use Rattle.file_read.specs.Broken.{RowBroken, TableBroken, ClassBroken, ValueBroken, CodeBroken, RegisterBroken, Broken};
 ghost use Rattle.file_read.specs.Means.{Means};
+ghost use Rattle.file_read.specs.Refused.{IsRefused};
+ghost use Rattle.program_types.specs.Content.{Program};
 ghost use Rattle.tables_rows.specs.TableFaults.{StringBreaks, TypeBreaks, ProtoBreaks, FieldBreaks, MethodBreaks, IsStringFault, IsTypeFault, IsProtoFault, IsFieldFault, IsMethodFault};
 
 /// A file means one program.
@@ -16,6 +18,12 @@ pub fn one_program()
 /// Where a file means a program, no fault stands.
 pub fn meaning_is_clear()
     ensures { (b : List ℕ) (p : _) → Means b p → (f : Fault) → ¬ Broken b f }
+{}
+
+/// Bytes are refused with one fault, one number at one place, whichever call is asked, and none that mean a program are.
+pub fn one_refusal()
+    ensures one { (b : List ℕ) (e f : Fault) → IsRefused b e → IsRefused b f → e ≡ f }
+    ensures none { (b : List ℕ) (e : Fault) (p : Program) → IsRefused b e → ¬ Means b p }
 {}
 
 /// A fault that is answered stands, and none of an earlier group does.

@@ -2,7 +2,7 @@
 //!
 //! ```
 //! let program = read(alloc, &arena, &bytes)?; // 1 to 73, the first fault
-//! check(alloc, &bytes)?; // a fault of the same group, and no program is held
+//! check(alloc, &bytes)?; // the same fault, and no program is held
 //! ```
 #![tactic(auto)]
 
@@ -11,5 +11,5 @@ mod laws;
 mod reading;
 
 pub use checking::check;
-pub use laws::{meaning_is_clear, one_program, refusals_are_first};
+pub use laws::{meaning_is_clear, one_program, one_refusal, refusals_are_first};
 pub use reading::read;

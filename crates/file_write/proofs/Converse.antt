@@ -27,7 +27,7 @@ use Rattle.file_layout.specs.Tiles.{gap}
 use Rattle.file_layout.proofs.PartLaws.{length_slice}
 use Rattle.file_layout.proofs.SectionLaws.{Zip-length}
 use Rattle.file_layout.proofs.StandLaws.{zip_weaker}
-use Rattle.file_layout.proofs.TileLaws.{Tiles-le, zip_there}
+use Rattle.file_layout.proofs.TileLaws.{Tiles-le}
 use Rattle.file_limits.specs.Wide.{array_values, bodies_in, bodies_of, body_values, list_values, params_of, text_values, wide_body, wide_list, wide_of, wide_text}
 use Rattle.file_limits.proofs.PartLaws.{by_parts}
 use Rattle.file_read.specs.Means.{Means}

@@ -1,9 +1,10 @@
 -- A text is one program, and none where a fault stands.
-use Rattle.std.proofs.Common.{◌≡◌, ◌⊎◌, ℕ, Bool, true, false, inl, inr, List, [], ◌∷◌, ◌++◌, Some, None, sym, ap, subst, ◌∙◌}
+use Rattle.std.proofs.Common.{◌≡◌, ◌⊎◌, ℕ, Bool, true, false, inl, inr, List, [], ◌∷◌, ◌++◌, Some, None, sym, ap, subst, ◌∙◌, append_assoc}
 use Rattle.std.proofs.lemmas.List.{append-nil}
 use Rattle.base_bytes.specs.declared.fault.Fault.{Fault}
-use Rattle.program_types.specs.Content.{Class, Program}
-use Rattle.program_rules.specs.Rules.{ClassHolds, RulesHold, ClassBreaks, RuleBreaks}
+use Rattle.program_types.specs.Content.{Program}
+use Rattle.program_rules.specs.Rules.{RulesHold, RuleBreaks}
+use Rattle.program_rules.proofs.OneRule.{class_keeps}
 use Rattle.listing_words.specs.Words.{Word}
 use Rattle.listing_words.proofs.WordLaws.{words_one}
 use Rattle.listing_slots.specs.declared.slot.Slot.{Slot}
@@ -19,16 +20,16 @@ use Rattle.listing_parse.specs.declared.aside.Aside.TheVariants.{Nothing, Refuse
 use Rattle.listing_lines.specs.Lines.{line_of}
 use Rattle.listing_slots.proofs.SpellLaws.{all_one, none_bad}
 use Rattle.listing_draft.specs.States.{add}
-use Rattle.listing_parse.specs.Text.{Reading, begin, tallied, aside, in_second, Says, Adds, IsUnsaid, AreRefused, Takes, Reads, IsListing, IsRefused, ListingBreaks}
+use Rattle.listing_parse.specs.Text.{Reading, begin, tallied, aside, in_second, Says, Adds, IsUnsaid, AreRefused, Takes, Reads, IsListing, IsRefused, IsBadLine, ListingBreaks}
 use Rattle.listing_slots.proofs.SpellsOneLaws.{spells_one}
 use Rattle.listing_shapes.proofs.ShapeLaws.{shapes_one, bare_one}
 
-not_both : (b : Bool) → b ≡ true → b ≡ false → ⊥
+pub not_both : (b : Bool) → b ≡ true → b ≡ false → ⊥
 not_both b e f = let g = sym e ∙ f in cc
 
 -- ---- by the form
 
-shape_one : (f : Form) (ws : List Word) (s t : Shape) → Shapes f ws s → Shapes f ws t → s ≡ t
+pub shape_one : (f : Form) (ws : List Word) (s t : Shape) → Shapes f ws s → Shapes f ws t → s ≡ t
 shape_one One ws s t p q = shapes_one ws s t p q
 shape_one Two ws s t p q = bare_one ws s t p q
 
@@ -36,11 +37,11 @@ says_one : (f : Form) (es : List Label) (ss : List Slot) (ws : List Word) (ds gs
 says_one One es ss ws ds gs p q = all_one spells_one ss ws ds gs p q
 says_one Two es ss ws ds gs p q = here_one es ss ws ds gs p q
 
-says_none : (f : Form) (es : List Label) (ss : List Slot) (ws : List Word) (ds : List Datum) (code : ℕ) → Spells f es ss ws ds → Misspells f es ss ws code → ⊥
+pub says_none : (f : Form) (es : List Label) (ss : List Slot) (ws : List Word) (ds : List Datum) (code : ℕ) → Spells f es ss ws ds → Misspells f es ss ws code → ⊥
 says_none One es ss ws ds code p q = none_bad ss ws ds code p q
 says_none Two es ss ws ds code p q = here_bad es ss ws ds code p q
 
-at_shape : (f : Form) (es : List Label) (s t : Shape) (ds gs : List Datum) → s ≡ t → Spells f es s.slots s.words ds → Spells f es t.slots t.words gs → ds ≡ gs
+pub at_shape : (f : Form) (es : List Label) (s t : Shape) (ds gs : List Datum) → s ≡ t → Spells f es s.slots s.words ds → Spells f es t.slots t.words gs → ds ≡ gs
 at_shape f es s t ds gs e p q = says_one f es t.slots t.words ds gs (subst (λ (x : Shape). Spells f es x.slots x.words ds) e p) q
 
 -- ---- a line makes one thing
@@ -80,7 +81,7 @@ takes_one r ls line t u (inl a) (inr b) = absurd (not_both (is_skipped line) a.0
 takes_one r ls line t u (inr a) (inl b) = absurd (not_both (is_skipped line) b.0 a.0)
 takes_one r ls line t u (inr a) (inr b) = adds_one (tallied r) ls line t u a.1 b.1
 
-reads_one : (ls rest : List (List ℕ)) (r t u : Reading) → Reads r ls rest t → Reads r ls rest u → t ≡ u
+pub reads_one : (ls rest : List (List ℕ)) (r t u : Reading) → Reads r ls rest t → Reads r ls rest u → t ≡ u
 reads_one [] rest r t u p q = sym p ∙ q
 reads_one (l ∷ ls) rest r t u p q =
     let e = takes_one r (ls ++ rest) l p.0 q.0 p.1 q.1 in
@@ -120,54 +121,31 @@ refused_adds r ls line t code w a = elim w.why [
   | inr x ↦ refused_makes r ls a.words t code (subst (λ (ws : List Word). AreRefused r ws code) (words_one line x.0 a.words x.1 a.has_words) x.2) a.makes
 ]
 
-refused_takes : (r : Reading) (ls : List (List ℕ)) (line : List ℕ) (t : Reading) (code : ℕ) → IsRefused (tallied r) line code → Takes r ls line t → ⊥
+pub refused_takes : (r : Reading) (ls : List (List ℕ)) (line : List ℕ) (t : Reading) (code : ℕ) → IsRefused (tallied r) line code → Takes r ls line t → ⊥
 refused_takes r ls line t code w (inl a) = not_both (is_skipped line) a.0 w.not_skipped
 refused_takes r ls line t code w (inr a) = refused_adds (tallied r) ls line t code w a.1
-
--- a class that keeps its rules breaks none
-class_keeps : (p : Program) (i : ℕ) (c : Class) (e : Fault) → ClassBreaks p i c e → ClassHolds p i c → ⊥
-class_keeps p i c e b h = elim b [
-  | inl w ↦ w.0 h.names
-  | inr w1 ↦ elim w1.1 [
-    | inl w ↦ w.0 h.members
-    | inr w2 ↦ elim w2.1 [
-      | inl w ↦ w.0 h.order
-      | inr w3 ↦ elim w3.1 [
-        | inl w ↦ w.0 h.values
-        | inr w4 ↦ elim w4.1 [
-          | inl w ↦ w.0 h.operands
-          | inr w5 ↦ elim w5.1 [
-            | inl w ↦ w.0 h.targets
-            | inr w6 ↦ elim w6.1 [
-              | inl w ↦ w.0 h.payloads
-              | inr w7 ↦ elim w7.1 [
-                | inl w ↦ w.0 h.tries
-                | inr w ↦ w.1 h.registers
-              ]
-            ]
-          ]
-        ]
-      ]
-    ]
-  ]
-]
 
 not_both_ways : (p : Program) (e : Fault) → RuleBreaks p e → RulesHold p → ⊥
 not_both_ways p e b h = class_keeps p b.number b.class e b.breaks (h b.number b.class b.there)
 
--- behind the same lines
-reads_split : (before : List (List ℕ)) (l : List ℕ) (behind : List (List ℕ)) (r t u : Reading) → Reads r before (l ∷ behind) t → Reads r (before ++ l ∷ behind) [] u → (v : Reading) × Takes t behind l v
-reads_split [] l behind r t u p q = (q.0, subst (λ (x : Reading). Takes x behind l q.0) p (subst (λ (ls : List (List ℕ)). Takes r ls l q.0) (append-nil behind) q.1))
-reads_split (b ∷ before) l behind r t u p q =
-    let n : (before ++ l ∷ behind) ++ [] ≡ before ++ l ∷ behind = append-nil (before ++ l ∷ behind) in
-    let e = takes_one r (before ++ l ∷ behind) b p.0 q.0 p.1 (subst (λ (ls : List (List ℕ)). Takes r ls b q.0) n q.1) in
-    reads_split before l behind q.0 t u (subst (λ (x : Reading). Reads x before (l ∷ behind) t) e p.2) q.2
+-- Where these lines are read, a line that stands among them is taken behind those before it.
+pub reads_over : (before : List (List ℕ)) (l : List ℕ) (behind rest : List (List ℕ)) (r t u : Reading) → Reads r before (l ∷ (behind ++ rest)) t → Reads r (before ++ l ∷ behind) rest u → (v : Reading) × Takes t (behind ++ rest) l v
+reads_over [] l behind rest r t u p q = (q.0, subst (λ (x : Reading). Takes x (behind ++ rest) l q.0) p q.1)
+reads_over (b ∷ before) l behind rest r t u p q =
+    let n : (before ++ l ∷ behind) ++ rest ≡ before ++ l ∷ (behind ++ rest) = append_assoc before (l ∷ behind) rest in
+    let e = takes_one r (before ++ l ∷ (behind ++ rest)) b p.0 q.0 p.1 (subst (λ (ls : List (List ℕ)). Takes r ls b q.0) n q.1) in
+    reads_over before l behind rest q.0 t u (subst (λ (x : Reading). Reads x before (l ∷ (behind ++ rest)) t) e p.2) q.2
+
+-- A text with a bad line isn't read to its end.
+pub bad_is_unread : (ls : List (List ℕ)) (code place : ℕ) (u : Reading) → IsBadLine ls code place → Reads begin ls [] u → ⊥
+bad_is_unread ls code place u w a =
+    let p = subst (λ (k : List (List ℕ)). Reads begin w.before (w.bad ∷ k) w.state) (sym (append-nil w.behind)) w.accepted in
+    let x = reads_over w.before w.bad w.behind [] begin w.state u p (subst (λ (k : List (List ℕ)). Reads begin k [] u) w.joined a) in
+    refused_takes w.state (w.behind ++ []) w.bad x.0 code w.refused x.1
 
 pub listing_none : (text : List ℕ) (p : Program) (code place : ℕ) → ListingBreaks text code place → IsListing text p → ⊥
 listing_none text p code place b a = elim b [
-  | inl w ↦
-      let x = reads_split w.before w.bad w.behind begin w.state a.end w.accepted (subst (λ (ls : List (List ℕ)). Reads begin ls [] a.end) w.joined a.read) in
-      refused_takes w.state w.behind w.bad x.0 code w.refused x.1
+  | inl w ↦ bad_is_unread (lines text) code place a.end w a.read
   | inr (inl w) ↦ w.2.inside (ap (λ (r : Reading). r.base.block) (reads_one (lines text) [] begin w.2.state a.end w.2.accepted a.read) ∙ a.whole)
   | inr (inr (inl w)) ↦
       let e = reads_one (lines text) [] begin w.1.state a.end w.1.accepted a.read in

@@ -2,3 +2,4 @@ pub mod RefusedLaws
 pub mod ReadingLaws
 pub mod AsideLaws
 pub mod ExactLaws
+pub mod OneFault

@@ -9,3 +9,8 @@ pub fn one_program()
     ensures one { (text : List ℕ) (p q : Program) → IsListing text p → IsListing text q → p ≡ q }
     ensures none { (text : List ℕ) (p : Program) (code place : ℕ) → ListingBreaks text code place → IsListing text p → ⊥ }
 {}
+
+/// A text has one fault, at one place.
+pub fn one_fault()
+    ensures { (text : List ℕ) (c d p q : ℕ) → ListingBreaks text c p → ListingBreaks text d q → (c ≡ d) × (p ≡ q) }
+{}

@@ -6,5 +6,5 @@ mod law;
 mod reading;
 
 pub use aside::Aside;
-pub use law::one_program;
+pub use law::{one_fault, one_program};
 pub use reading::{Reading, parse};

@@ -288,8 +288,9 @@ fn print_in(alloc: Global, form: Form, whole: &Program<'_>) -> Result<Vec<u8>, F
 /// The canonical listing of a program, in ASCII: each word stands behind one space, each line has its line feed. Instructions that
 /// a code names stand behind a label, `:L` and their number.
 ///
-/// The only error is want of memory. The stack holds a call for each array that a value is in, at most 64 in a well-formed
-/// program. Page: docs/LISTING.md.
+/// The only error is want of memory. The stack holds a call for each array that a value is in: at most 64 in a well-formed
+/// program, and so in every program that `read` or `parse` answers. A value made by hand that is much deeper may end the stack:
+/// ask `well_formed` first, which refuses it (113). Page: docs/LISTING.md.
 ///
 /// ```
 /// use bumpalo::Bump;

@@ -22,4 +22,8 @@ mod order;
 mod codes;
 mod program;
 
+// What holds of the rules.
+mod laws;
+
+pub use laws::one_rule;
 pub use program::{well_formed, well_formed_in};

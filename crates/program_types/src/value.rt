@@ -3,7 +3,8 @@
 use crate::names::{Desc, FieldRef, MethodRef, Str};
 use std::fmt;
 
-/// A value. `Float` and `Double` hold the bits of the number, by IEEE 754.
+/// A value. `Float` and `Double` hold the bits of the number, by IEEE 754. `{:?}` shows an array by a call for each array that a
+/// value is in: at most 64 in a well-formed program; a value made by hand that is much deeper may end the stack.
 #[derive(Clone, Copy)]
 pub enum Value<'a> {
     Byte(i8),

@@ -9,25 +9,25 @@ use Rattle.tables_rows.proofs.ClearRows.{string_clear, type_clear, proto_clear, 
 use Rattle.tables_laws.proofs.RowsBreak.{HoldsOrBreaks, string_row, type_row, proto_row, field_row, method_row, tables_are_decided}
 
 -- a row that breaks no rule holds
-unbroken : (Holds : List ℕ → ℕ → Type 0) (Breaks : List ℕ → ℕ → ℕ → Type 0) (b : List ℕ) (i : ℕ) → HoldsOrBreaks Holds Breaks b i → ((code : ℕ) → Breaks b code i → ⊥) → Holds b i
+unbroken : (Holds : List ℕ → ℕ → Type 0) (Breaks : List ℕ → ℕ → ℕ → Type 0) (b : List ℕ) (i : ℕ) → HoldsOrBreaks Holds Breaks b i → ((code : ℕ) → Breaks b i code → ⊥) → Holds b i
 unfolding HoldsOrBreaks
 unbroken Holds Breaks b i (inl h) clear = h
 unbroken Holds Breaks b i (inr u) clear = absurd (clear u.0 u.1)
 
 module _ (b : List ℕ) (framed : IsFramed b) (i : ℕ) where
-  pub string_unbroken : i < size_of b 0 → ((code : ℕ) → StringBreaks b code i → ⊥) → StringHolds b i
+  pub string_unbroken : i < size_of b 0 → ((code : ℕ) → StringBreaks b i code → ⊥) → StringHolds b i
   string_unbroken lt = unbroken StringHolds StringBreaks b i (string_row b framed i lt)
 
-  pub type_unbroken : StringsHold b → i < size_of b 1 → ((code : ℕ) → TypeBreaks b code i → ⊥) → TypeHolds b i
+  pub type_unbroken : StringsHold b → i < size_of b 1 → ((code : ℕ) → TypeBreaks b i code → ⊥) → TypeHolds b i
   type_unbroken strings lt = unbroken TypeHolds TypeBreaks b i (type_row b framed i strings lt)
 
-  pub proto_unbroken : StringsHold b → TypesHold b → i < size_of b 2 → ((code : ℕ) → ProtoBreaks b code i → ⊥) → ProtoHolds b i
+  pub proto_unbroken : StringsHold b → TypesHold b → i < size_of b 2 → ((code : ℕ) → ProtoBreaks b i code → ⊥) → ProtoHolds b i
   proto_unbroken strings types lt = unbroken ProtoHolds ProtoBreaks b i (proto_row b framed i strings types lt)
 
-  pub field_unbroken : StringsHold b → TypesHold b → i < size_of b 3 → ((code : ℕ) → FieldBreaks b code i → ⊥) → FieldHolds b i
+  pub field_unbroken : StringsHold b → TypesHold b → i < size_of b 3 → ((code : ℕ) → FieldBreaks b i code → ⊥) → FieldHolds b i
   field_unbroken strings types lt = unbroken FieldHolds FieldBreaks b i (field_row b framed i strings types lt)
 
-  pub method_unbroken : StringsHold b → TypesHold b → ProtosHold b → i < size_of b 4 → ((code : ℕ) → MethodBreaks b code i → ⊥) → MethodHolds b i
+  pub method_unbroken : StringsHold b → TypesHold b → ProtosHold b → i < size_of b 4 → ((code : ℕ) → MethodBreaks b i code → ⊥) → MethodHolds b i
   method_unbroken strings types protos lt = unbroken MethodHolds MethodBreaks b i (method_row b framed i strings types protos lt)
 
 pub without_fault : (b : List ℕ) → IsFramed b → ((e : Fault) → IsTableFault b e → ⊥) → TablesHold b

@@ -7,13 +7,13 @@ use Rattle.std.specs.Cmp.Lexicographic.{slice_cmp}
 use Rattle.base_bytes.specs.declared.fault.Fault.{Fault}
 use Rattle.dex_container.specs.Frame.{IsFramed}
 use Rattle.dex_container.specs.Layout.{size_of}
-use Rattle.program_types.specs.Content.{Units, Proto}
+use Rattle.program_types.specs.Content.{Units, Proto, FieldRef, MethodRef}
 use Rattle.program_types.specs.Shorty.{shorty}
 use Rattle.tables_rows.specs.RowFields.{row_place, string_place, type_string, proto_shorty, proto_return, proto_parameters, member_class, member_kind, member_name, member_key}
 use Rattle.tables_rows.specs.Sorted.{IsBelow, RowRises, StringIsBelow, TypeIsBelow, ProtoIsBelow, MemberIsBelow, StringHolds, TypeHolds, ProtoHolds, FieldHolds, MethodHolds, RowsHold, StringsHold, TypesHold, ProtosHold, TablesHold}
 use Rattle.program_types.specs.Kinds.{void}
-use Rattle.tables_rows.specs.Stands.{TypeStands}
-use Rattle.tables_rows.specs.TableFaults.{StringBreaks, TypeBreaks, ProtoBreaks, FieldBreaks, MethodBreaks, IsFirstRow, IsTableFault}
+use Rattle.tables_rows.specs.Stands.{TypeStands, ProtoStands, FieldStands, MethodStands}
+use Rattle.tables_rows.specs.TableFaults.{StringBreaks, StringPlace, StringSpelling, StringOrder, TypeBreaks, TypeIndex, TypeText, TypeOrder, ProtoBreaks, ProtoIndex, ParameterList, Shorty, ProtoOrder, FieldBreaks, FieldIndex, FieldKind, FieldOrder, MethodBreaks, MethodIndex, MethodKind, MethodOrder, IsFirstRow, IsTableFault}
 use Rattle.tables_rows.proofs.RowReading.{string_one}
 use Rattle.tables_rows.proofs.TypeLists.{protos_below, below_protos, protos_below_none, protos_none_below}
 use Rattle.base_bytes.specs.Deciding.{Decided}
@@ -65,7 +65,7 @@ module _ (b : List ℕ) (framed : IsFramed b) (j i : ℕ) where
 
 -- the row holds, or it breaks this rule
 unfoldable pub HoldsOrBreaks : (List ℕ → ℕ → Type 0) → (List ℕ → ℕ → ℕ → Type 0) → List ℕ → ℕ → Type 0
-HoldsOrBreaks Holds Breaks b i = Holds b i ⊎ ((code : ℕ) × Breaks b code i)
+HoldsOrBreaks Holds Breaks b i = Holds b i ⊎ ((code : ℕ) × Breaks b i code)
 
 module _ (b : List ℕ) (framed : IsFramed b) (i : ℕ) where
   pub string_row : i < size_of b 0 → HoldsOrBreaks StringHolds StringBreaks b i
@@ -74,11 +74,11 @@ module _ (b : List ℕ) (framed : IsFramed b) (i : ℕ) where
     | inl in_section ↦ elim (decide_string b framed i) [
       | inl x ↦ elim (decide_rises StringIsBelow b i (λ j. decide_strings b framed j i)) [
         | inl up ↦ inl (record { name = x.0; stands = x.1; rises = up })
-        | inr down ↦ inr (22, down)
+        | inr down ↦ inr (22, StringOrder (record { name = x.0; stands = x.1; falls = down }))
       ]
-      | inr none ↦ inr (21, (in_section, λ s st. none (s, st)))
+      | inr none ↦ inr (21, StringSpelling (record { inside = in_section; none = λ s st. none (s, st) }))
     ]
-    | inr out ↦ inr (20, out)
+    | inr out ↦ inr (20, StringPlace out)
   ]
 
   pub type_row : StringsHold b → i < size_of b 1 → HoldsOrBreaks TypeHolds TypeBreaks b i
@@ -87,13 +87,15 @@ module _ (b : List ℕ) (framed : IsFramed b) (i : ℕ) where
     | inl in_table ↦
         let s = strings (type_string b i) in_table in
         elim (decide_descriptor s.name) [
-          | inl is ↦ elim (decide_rises TypeIsBelow b i (λ j. decide_lt (type_string b j) (type_string b i))) [
-            | inl up ↦ inl (record { name = s.name; stands = record { row = lt; string = s.stands; descriptor = is }; rises = up })
-            | inr down ↦ inr (25, down)
-          ]
-          | inr nay ↦ inr (24, (s.name, s.stands, nay))
+          | inl is ↦
+              let stands : TypeStands b i s.name = record { row = lt; string = s.stands; descriptor = is } in
+              elim (decide_rises TypeIsBelow b i (λ j. decide_lt (type_string b j) (type_string b i))) [
+                | inl up ↦ inl (record { name = s.name; stands = stands; rises = up })
+                | inr down ↦ inr (25, TypeOrder (record { name = s.name; stands = stands; falls = down }))
+              ]
+          | inr nay ↦ inr (24, TypeText (record { text = s.name; string = s.stands; other = nay }))
         ]
-    | inr past ↦ inr (23, past)
+    | inr past ↦ inr (23, TypeIndex past)
   ]
 
   pub proto_row : StringsHold b → TypesHold b → i < size_of b 2 → HoldsOrBreaks ProtoHolds ProtoBreaks b i
@@ -107,17 +109,19 @@ module _ (b : List ℕ) (framed : IsFramed b) (i : ℕ) where
             | inl x ↦
                 let p : Proto = record { ret = t.name; params = x.0 } in
                 elim (decide_list s.name (shorty p)) [
-                  | inl same ↦ elim (decide_rises ProtoIsBelow b i (λ j. decide_protos b framed j i)) [
-                    | inl up ↦ inl (record { name = p; stands = record { row = lt; ret = t.stands; params = x.1.types; values = x.1.values; shorty = rw same at s.stands }; rises = up })
-                    | inr down ↦ inr (29, down)
-                  ]
-                  | inr nay ↦ inr (27, record { proto = p; ret = t.stands; params = x.1; found = s.name; string = s.stands; differs = nay })
+                  | inl same ↦
+                      let stands : ProtoStands b i p = record { row = lt; ret = t.stands; params = x.1.types; values = x.1.values; shorty = rw same at s.stands } in
+                      elim (decide_rises ProtoIsBelow b i (λ j. decide_protos b framed j i)) [
+                        | inl up ↦ inl (record { name = p; stands = stands; rises = up })
+                        | inr down ↦ inr (29, ProtoOrder (record { name = p; stands = stands; falls = down }))
+                      ]
+                  | inr nay ↦ inr (27, Shorty (record { proto = p; ret = t.stands; params = x.1; found = s.name; string = s.stands; differs = nay }))
                 ]
-            | inr none ↦ inr (28, λ ts at. none (ts, at))
+            | inr none ↦ inr (28, ParameterList (record { shorty = s_in; ret = t_in; none = λ ts at. none (ts, at) }))
           ]
-      | inr past ↦ inr (26, inr past)
+      | inr past ↦ inr (26, ProtoIndex (inr past))
     ]
-    | inr past ↦ inr (26, inl past)
+    | inr past ↦ inr (26, ProtoIndex (inl past))
   ]
 
   pub field_row : StringsHold b → TypesHold b → i < size_of b 3 → HoldsOrBreaks FieldHolds FieldBreaks b i
@@ -129,24 +133,27 @@ module _ (b : List ℕ) (framed : IsFramed b) (i : ℕ) where
             let c = types (member_class b 3 i) c_in in
             let t = types (member_kind b 3 i) t_in in
             let n = strings (member_name b 3 i) n_in in
+            let f : FieldRef = record { class = c.name; name = n.name; ty = t.name } in
             elim (decide_class c.name) [
               | inl is_class ↦ elim (decide_list t.name void) [
-                | inl is_void ↦ inr (31, inr (inl (subst (λ (u : Units). TypeStands b (member_kind b 3 i) u) is_void t.stands)))
+                | inl is_void ↦ inr (31, FieldKind (record { field = f; class = c.stands; ty = t.stands; name = n.stands; unfit = inr (inl is_void) }))
                 | inr value ↦ elim (decide_member n.name) [
-                  | inl named ↦ elim (decide_rises (MemberIsBelow 3) b i (λ j. decide_less (slice_cmp nat_cmp (member_key b 3 j) (member_key b 3 i)))) [
-                    | inl up ↦ inl (record { name = record { class = c.name; name = n.name; ty = t.name }; stands = record { row = lt; class = c.stands; ty = t.stands; name = n.stands; of_class = is_class; value = value; named = named }; rises = up })
-                    | inr down ↦ inr (32, down)
-                  ]
-                  | inr nay ↦ inr (31, inr (inr (n.name, n.stands, nay)))
+                  | inl named ↦
+                      let stands : FieldStands b i f = record { row = lt; class = c.stands; ty = t.stands; name = n.stands; of_class = is_class; value = value; named = named } in
+                      elim (decide_rises (MemberIsBelow 3) b i (λ j. decide_less (slice_cmp nat_cmp (member_key b 3 j) (member_key b 3 i)))) [
+                        | inl up ↦ inl (record { name = f; stands = stands; rises = up })
+                        | inr down ↦ inr (32, FieldOrder (record { name = f; stands = stands; falls = down }))
+                      ]
+                  | inr nay ↦ inr (31, FieldKind (record { field = f; class = c.stands; ty = t.stands; name = n.stands; unfit = inr (inr nay) }))
                 ]
               ]
-              | inr nay ↦ inr (31, inl (c.name, c.stands, nay))
+              | inr nay ↦ inr (31, FieldKind (record { field = f; class = c.stands; ty = t.stands; name = n.stands; unfit = inl nay }))
             ]
-        | inr past ↦ inr (30, inr (inr past))
+        | inr past ↦ inr (30, FieldIndex (inr (inr past)))
       ]
-      | inr past ↦ inr (30, inr (inl past))
+      | inr past ↦ inr (30, FieldIndex (inr (inl past)))
     ]
-    | inr past ↦ inr (30, inl past)
+    | inr past ↦ inr (30, FieldIndex (inl past))
   ]
 
   pub method_row : StringsHold b → TypesHold b → ProtosHold b → i < size_of b 4 → HoldsOrBreaks MethodHolds MethodBreaks b i
@@ -158,21 +165,24 @@ module _ (b : List ℕ) (framed : IsFramed b) (i : ℕ) where
             let c = types (member_class b 4 i) c_in in
             let p = protos (member_kind b 4 i) p_in in
             let n = strings (member_name b 4 i) n_in in
+            let m : MethodRef = record { class = c.name; name = n.name; proto = p.name } in
             elim (decide_either (decide_class c.name) (decide_array c.name)) [
               | inl of_class ↦ elim (decide_member n.name) [
-                | inl named ↦ elim (decide_rises (MemberIsBelow 4) b i (λ j. decide_less (slice_cmp nat_cmp (member_key b 4 j) (member_key b 4 i)))) [
-                  | inl up ↦ inl (record { name = record { class = c.name; name = n.name; proto = p.name }; stands = record { row = lt; class = c.stands; proto = p.stands; name = n.stands; of_class = of_class; named = named }; rises = up })
-                  | inr down ↦ inr (35, down)
-                ]
-                | inr nay ↦ inr (34, inr (n.name, n.stands, nay))
+                | inl named ↦
+                    let stands : MethodStands b i m = record { row = lt; class = c.stands; proto = p.stands; name = n.stands; of_class = of_class; named = named } in
+                    elim (decide_rises (MemberIsBelow 4) b i (λ j. decide_less (slice_cmp nat_cmp (member_key b 4 j) (member_key b 4 i)))) [
+                      | inl up ↦ inl (record { name = m; stands = stands; rises = up })
+                      | inr down ↦ inr (35, MethodOrder (record { name = m; stands = stands; falls = down }))
+                    ]
+                | inr nay ↦ inr (34, MethodKind (record { method = m; class = c.stands; proto = p.stands; name = n.stands; unfit = inr nay }))
               ]
-              | inr nay ↦ inr (34, inl (c.name, c.stands, nay))
+              | inr nay ↦ inr (34, MethodKind (record { method = m; class = c.stands; proto = p.stands; name = n.stands; unfit = inl nay }))
             ]
-        | inr past ↦ inr (33, inr (inr past))
+        | inr past ↦ inr (33, MethodIndex (inr (inr past)))
       ]
-      | inr past ↦ inr (33, inr (inl past))
+      | inr past ↦ inr (33, MethodIndex (inr (inl past)))
     ]
-    | inr past ↦ inr (33, inl past)
+    | inr past ↦ inr (33, MethodIndex (inl past))
   ]
 
 -- ---- tables

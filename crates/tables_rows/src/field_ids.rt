@@ -48,6 +48,7 @@ pub(crate) fn read_fields<'a>(
 }
 
 // The field of row i, which is above the row before it.
+#[tactic(auto, using(crate::specs::TableFaults::FieldOrder))]
 fn next_field<'a>(
     sections: &Sections<'_>,
     strings: &[Str<'a>],
@@ -71,6 +72,7 @@ fn next_field<'a>(
 }
 
 // The field of row i.
+#[tactic(auto, using(crate::specs::TableFaults::FieldIndex, crate::specs::TableFaults::FieldKind))]
 fn read_field<'a>(
     sections: &Sections<'_>,
     strings: &[Str<'a>],

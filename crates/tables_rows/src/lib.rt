@@ -28,6 +28,9 @@ mod file_laws;
 pub use file_laws::{
     lists_of_a_file_are_of_its_rows, names_of_a_file_are_its_rows, type_list_is_one,
 };
-pub use row_fields::{MemberTable, member_class};
+pub use row_fields::{
+    MemberTable, member_class, member_kind, member_name, proto_parameters, proto_return,
+    proto_shorty, type_string,
+};
 pub use tables::Tables;
 pub use type_list::indexes_or_none;

@@ -51,6 +51,7 @@ pub(crate) fn read_methods<'a>(
 }
 
 // The method of row i, which is above the row before it.
+#[tactic(auto, using(crate::specs::TableFaults::MethodOrder))]
 fn next_method<'a>(
     sections: &Sections<'_>,
     strings: &[Str<'a>],
@@ -76,6 +77,7 @@ fn next_method<'a>(
 }
 
 // The method of row i.
+#[tactic(auto, using(crate::specs::TableFaults::MethodIndex, crate::specs::TableFaults::MethodKind))]
 fn read_method<'a>(
     sections: &Sections<'_>,
     strings: &[Str<'a>],

@@ -55,6 +55,7 @@ pub(crate) fn read_protos<'a>(
 }
 
 // The proto of row i, which is above the row before it.
+#[tactic(auto, using(crate::specs::TableFaults::ProtoOrder))]
 fn next_proto<'a>(
     arena: &'a Bump,
     sections: &Sections<'_>,
@@ -83,6 +84,7 @@ fn next_proto<'a>(
 }
 
 // The proto of row i.
+#[tactic(auto, using(crate::specs::TableFaults::ProtoIndex, crate::specs::TableFaults::ParameterList, crate::specs::TableFaults::Shorty))]
 fn read_proto<'a>(
     arena: &'a Bump,
     sections: &Sections<'_>,

@@ -54,7 +54,7 @@ pub(crate) fn type_row(sections: &Sections<'_>, i: u32) -> u64
 
 /// Its descriptor_idx.
 #[tactic(auto, unfolding(crate::specs::RowFields::type_string))]
-pub(crate) fn type_string(sections: &Sections<'_>, i: u32) -> u32
+pub fn type_string(sections: &Sections<'_>, i: u32) -> u32
     requires { i < size_of sections.now section.type_ids }
     ensures { result ≡ type_string sections.now i }
 {
@@ -72,7 +72,7 @@ pub(crate) fn proto_row(sections: &Sections<'_>, i: u32) -> u64
 
 /// Its shorty_idx.
 #[tactic(auto, unfolding(crate::specs::RowFields::proto_shorty))]
-pub(crate) fn proto_shorty(sections: &Sections<'_>, i: u32) -> u32
+pub fn proto_shorty(sections: &Sections<'_>, i: u32) -> u32
     requires { i < size_of sections.now section.proto_ids }
     ensures { result ≡ proto_shorty sections.now i }
 {
@@ -82,7 +82,7 @@ pub(crate) fn proto_shorty(sections: &Sections<'_>, i: u32) -> u32
 
 /// Its return_type_idx.
 #[tactic(auto, unfolding(crate::specs::RowFields::proto_return))]
-pub(crate) fn proto_return(sections: &Sections<'_>, i: u32) -> u32
+pub fn proto_return(sections: &Sections<'_>, i: u32) -> u32
     requires { i < size_of sections.now section.proto_ids }
     ensures { result ≡ proto_return sections.now i }
 {
@@ -92,7 +92,7 @@ pub(crate) fn proto_return(sections: &Sections<'_>, i: u32) -> u32
 
 /// Its parameters_off.
 #[tactic(auto, unfolding(crate::specs::RowFields::proto_parameters))]
-pub(crate) fn proto_parameters(sections: &Sections<'_>, i: u32) -> u32
+pub fn proto_parameters(sections: &Sections<'_>, i: u32) -> u32
     requires { i < size_of sections.now section.proto_ids }
     ensures { result ≡ proto_parameters sections.now i }
 {
@@ -120,7 +120,7 @@ pub fn member_class(sections: &Sections<'_>, table: MemberTable, i: u32) -> u16
 
 /// Its type_idx or proto_idx.
 #[tactic(auto, unfolding(crate::specs::RowFields::member_kind))]
-pub(crate) fn member_kind(sections: &Sections<'_>, table: MemberTable, i: u32) -> u16
+pub fn member_kind(sections: &Sections<'_>, table: MemberTable, i: u32) -> u16
     requires { i < size_of sections.now (number_of table) }
     ensures { result ≡ member_kind sections.now (number_of table) i }
 {
@@ -130,7 +130,7 @@ pub(crate) fn member_kind(sections: &Sections<'_>, table: MemberTable, i: u32) -
 
 /// Its name_idx.
 #[tactic(auto, unfolding(crate::specs::RowFields::member_name))]
-pub(crate) fn member_name(sections: &Sections<'_>, table: MemberTable, i: u32) -> u32
+pub fn member_name(sections: &Sections<'_>, table: MemberTable, i: u32) -> u32
     requires { i < size_of sections.now (number_of table) }
     ensures { result ≡ member_name sections.now (number_of table) i }
 {

@@ -38,6 +38,7 @@ pub(crate) fn read_types<'a>(
 }
 
 // The type of row i, which is above the row before it.
+#[tactic(auto, using(crate::specs::TableFaults::TypeOrder))]
 fn next_type<'a>(sections: &Sections<'_>, strings: &[Str<'a>], i: u32) -> Result<Desc<'a>, Fault>
     requires strings { AreRows StringStands sections.now section.string_ids (map str strings.now) }
     requires row { i < size_of sections.now section.type_ids }
@@ -53,6 +54,7 @@ fn next_type<'a>(sections: &Sections<'_>, strings: &[Str<'a>], i: u32) -> Result
 }
 
 // The type of row i.
+#[tactic(auto, using(crate::specs::TableFaults::TypeIndex, crate::specs::TableFaults::TypeText))]
 fn read_type<'a>(sections: &Sections<'_>, strings: &[Str<'a>], i: u32) -> Result<Desc<'a>, Fault>
     requires strings { AreRows StringStands sections.now section.string_ids (map str strings.now) }
     requires row { i < size_of sections.now section.type_ids }

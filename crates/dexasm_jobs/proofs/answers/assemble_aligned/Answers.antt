@@ -1,6 +1,7 @@
 use Rattle.std.proofs.Common.{inl, inr}
-use Rattle.std.proofs.lemmas.Result.{IfErr-weaker, IfOk-weaker}
+use Rattle.std.proofs.lemmas.Result.{IfErr-weaker}
 use Rattle.program_rules.proofs.OrderLaws.{passed}
+use Rattle.dexasm_jobs.proofs.MadeLaws.{made_and}
 use Rattle.dexasm_jobs.proofs.answers.assemble_aligned.Goals as goal
 
 pub returns-in_err-program-clause-refused : goal.returns-in_err-program-clause-refused
@@ -13,7 +14,16 @@ pub returns-in_err-aligned-clause-refused : goal.returns-in_err-aligned-clause-r
 returns-in_err-aligned-clause-refused c = passed _ _ _ c.from_residual-in_err-aligned.ensures.1 (λ ne. inr (_, c.in_ok-program.ensures.ok, inl (c.in_err-aligned.ensures.err ne)))
 
 pub returns-clause-answered : goal.returns-clause-answered
-returns-clause-answered c = IfOk-weaker c.write.result _ _ (λ made h. (_, c.in_ok-program.ensures.ok, (_, c.in_ok-aligned.ensures.ok, h))) c.write.ensures.file
+returns-clause-answered c =
+    made_and c.write.result _ _ _
+    (λ made h f. record {
+      program = _;
+      listed = c.in_ok-program.ensures.ok;
+      other = _;
+      is = record { aligned = c.in_ok-aligned.ensures.ok; formed = c.in_ok-aligned.ensures.formed };
+      fits = f;
+      file = h;
+    }) c.write.ensures.file c.write.ensures.fits
 
 pub returns-clause-refused : goal.returns-clause-refused
-returns-clause-refused c = IfErr-weaker c.write.result _ _ (λ e h ne. inr (_, c.in_ok-program.ensures.ok, inr (_, c.in_ok-aligned.ensures.ok, h ne))) c.write.ensures.refused
+returns-clause-refused c = IfErr-weaker c.write.result _ _ (λ e h ne. inr (_, c.in_ok-program.ensures.ok, inr (_, record { aligned = c.in_ok-aligned.ensures.ok; formed = c.in_ok-aligned.ensures.formed }, h ne))) c.write.ensures.refused

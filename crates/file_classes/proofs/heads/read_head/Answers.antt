@@ -1,7 +1,8 @@
-use Rattle.std.proofs.Common.{refl, map}
-use Rattle.program_types.specs.View.{desc}
+use Rattle.std.proofs.Common.{refl, map, option_map}
+use Rattle.program_types.specs.View.{str, desc}
+use Rattle.tables_rows.proofs.RowReading.{passed}
 use Rattle.file_classes.specs.Reading.{entries}
-use Rattle.file_classes.proofs.MemberLaws.{head_stands, head_holds}
+use Rattle.file_classes.proofs.MemberLaws.{head_stands, head_holds, member_breaks}
 use Rattle.file_classes.proofs.PlaceLaws.{types_have_rows}
 use Rattle.file_classes.proofs.heads.read_head.Goals as goal
 
@@ -32,3 +33,15 @@ returns-clause-holds c =
 pub is_in_order-requires-clause-within : goal.is_in_order-requires-clause-within
 is_in_order-requires-clause-within c =
     types_have_rows c.args.sections.now c.bytes-file.ensures.framed c.args.i _ _ _ _ (map desc c.in-Some.interfaces.now) c.in_ok-row.ensures.ok (rw (← c.class_word-list.ensures) (rw c.in-Some.is at c.in_ok-interfaces.ensures.found))
+
+pub returns-in_err-members-clause-err : goal.returns-in_err-members-clause-err
+returns-in_err-members-clause-err c =
+    let b = c.args.sections.now in
+    passed _ _ _ c.from_residual-in_err-members.ensures.1 (λ ne. member_breaks b c.args.i (entries c.in-Some-2.entries) (desc c.in_ok-row.row.ty) _ (record {
+      flags = c.in_ok-row.row.flags;
+      superclass = option_map desc c.in_ok-row.row.superclass;
+      source = option_map str c.in_ok-row.row.source;
+      interfaces = map desc c.in-Some.interfaces.now;
+      row = c.in_ok-row.ensures.ok;
+      list = rw (← c.class_word-list.ensures) (rw c.in-Some.is at c.in_ok-interfaces.ensures.found);
+    }) (c.if-not-is_in_order.ensures.0 refl) (rw (← c.class_word.ensures) (rw c.in-Some-2.is at c.in_ok-entries.ensures.found)) (c.in_err-members.ensures.err ne))

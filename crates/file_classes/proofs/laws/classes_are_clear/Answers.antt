@@ -1,4 +1,5 @@
-use Rattle.file_classes.proofs.ClearLaws.{class_clear, values_clear, bodies_clear, methods_clear}
+use Rattle.file_classes.proofs.RowFaults.{class_clear}
+use Rattle.file_classes.proofs.ClearLaws.{values_clear, bodies_clear, methods_clear}
 use Rattle.file_classes.proofs.laws.classes_are_clear.Goals as goal
 
 pub returns-clause-rows : goal.returns-clause-rows

@@ -1,10 +1,15 @@
 use Rattle.std.proofs.Common.{refl, sym, true≢false}
 use Rattle.program_types.specs.View.{desc, method_ref}
+use Rattle.file_classes.specs.Reading.{IndexIsForeign}
 use Rattle.file_classes.proofs.members.method_at.Goals as goal
 
 pub returns-then-not-is_member_of-clause-err : goal.returns-then-not-is_member_of-clause-err
 returns-then-not-is_member_of-clause-err c = rw c.at-then-not-is_member_of.ensures (record {
-  breaks = (desc c.in-Some.method.now.class, (method_ref c.in-Some.method.now, c.requires.names.methods.each c.args.index (method_ref c.in-Some.method.now) (sym c.in-Some.ensures), refl), λ e. true≢false (sym (c.if-not-is_member_of.ensures.1 e)));
+  breaks = IndexIsForeign (record {
+    owner = desc c.in-Some.method.now.class;
+    owned = (method_ref c.in-Some.method.now, c.requires.names.methods.each c.args.index (method_ref c.in-Some.method.now) (sym c.in-Some.ensures), refl);
+    other = λ e. true≢false (sym (c.if-not-is_member_of.ensures.1 e));
+  });
   there = refl;
 })
 

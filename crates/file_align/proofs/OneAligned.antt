@@ -1,8 +1,15 @@
--- A program is aligned in one way.
+-- A program is aligned in one way, and what is too long then isn't well formed.
 use Rattle.std.proofs.Common.{◌≡◌, List, [], ◌∷◌, refl, sym, ap, ◌∙◌, Option, Some, None}
+use Rattle.base_bytes.specs.declared.fault.Fault.{Fault}
 use Rattle.program_types.specs.Content.{Code, Method, Class, Program}
+use Rattle.program_types.specs.Formed.{IsFormed}
 use Rattle.code_align.proofs.PadLaws.{aligned-one}
-use Rattle.file_align.specs.Programs.{Pairwise, AlignedBody, AlignedMethod, AlignedClass, AlignedProgram}
+use Rattle.file_align.specs.Programs.{Pairwise, AlignedBody, AlignedMethod, AlignedClass, AlignedProgram, IsShort, IsTooLong}
+use Rattle.file_align.proofs.WellLaws.{codes_turned, program_formed}
+use Rattle.program_code_rules.proofs.OperandLaws.{formed_operands}
+use Rattle.program_ranges.proofs.AllLaws.{all-turned}
+use Rattle.program_rules.specs.Rules.{CodesHold}
+use Rattle.program_rules.specs.WellFormed.{WellFormed}
 
 pairs_one : {A : Type 0} (R : A → A → Type 0) → ((x y z : A) → R x y → R x z → y ≡ z) → (xs ys zs : List A) → Pairwise R xs ys → Pairwise R xs zs → ys ≡ zs
 pairs_one R one [] [] [] p q = refl
@@ -38,3 +45,7 @@ class_one c d e p q =
 
 pub program_aligned_one : (p q r : Program) → AlignedProgram p q → AlignedProgram p r → q ≡ r
 program_aligned_one p q r x y = pairs_one AlignedClass class_one p q r x y
+
+pub too_long_unformed : (p q : Program) (fault : Fault) → IsTooLong p fault → AlignedProgram p q → WellFormed q → ⊥
+too_long_unformed p q fault long aligned well =
+    long.each q aligned (all-turned (CodesHold IsFormed) (CodesHold IsShort) (codes_turned IsShort (λ c f. (formed_operands c f).few)) q (program_formed q well))

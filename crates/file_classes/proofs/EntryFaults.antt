@@ -1,0 +1,145 @@
+-- Entries hold, or the first that doesn't breaks one rule.
+use Rattle.std.proofs.Common.{◌≡◌, ℕ, ◌<◌, ◌≤◌, inl, inr, List, length, refl, sym, ap, ◌∙◌, subst, arith}
+use Rattle.std.proofs.lemmas.Bool.{cases_lt}
+use Rattle.std.proofs.lemmas.List.{length-map}
+use Rattle.dex_container.specs.Frame.{IsFramed}
+use Rattle.dex_container.specs.Layout.{size_of}
+use Rattle.program_types.specs.Content.{Units, Member, Method}
+use Rattle.tables_rows.proofs.NameLaws.{field_one, method_one}
+use Rattle.file_classes.specs.ClassData.{FieldEntry, MethodEntry, Entries, steps, index_of, Runs, IsRun}
+use Rattle.file_classes.specs.Classes.{IsField, IsMethod}
+use Rattle.file_classes.specs.ClassFaults.{FieldOwner, MethodOwner, EntryHolds, EntryBreaks, MemberIndex, MemberOwner, MemberOrder, EntriesHold, EntriesBreak, FieldEntriesHold, MethodEntriesHold, MembersHold, MembersBreak}
+use Rattle.file_classes.specs.Reading.{IsBare}
+use Rattle.file_classes.specs.declared.members.Bare.{Bare}
+use Rattle.file_classes.proofs.EntryLaws.{entry_at}
+
+-- ---- entries that stand for members of the class hold
+
+module _ {R V : Type 0} (M : ℕ → ℕ × R → V → Type 0) (IsOwner : ℕ → Units → Type 0) (class : Units) (owns : (i : ℕ) (e : ℕ × R) (v : V) → M i e v → IsOwner i class) (es : List (ℕ × R)) where
+  pub run_holds : (n : ℕ) (vs : List V) → n ≤ length es → Runs M es n vs → (k : ℕ) → k < n → EntryHolds IsOwner class (steps es) k
+  run_holds n vs le run k lt =
+      let at = entry_at es k (omega (arith, le, lt)) in
+      let to = entry_at vs k (let count = run.count in omega (arith, count, lt)) in
+      record { owned = owns (index_of (steps es) k) at.0 to.0 (run.each k at.0 to.0 at.1 to.1); rises = λ some. run.rises k some lt }
+
+  all_hold : (vs : List V) → IsRun M es vs → EntriesHold IsOwner class (steps es)
+  all_hold vs run k lt = run_holds (length es) vs (omega arith) run k (let all = length-map es (λ (e : ℕ × R). e.0) in omega (arith, all, lt))
+
+module _ (b : List ℕ) (class : Units) where
+  pub field_owned : (i : ℕ) (e : FieldEntry) (v : Member) → IsField b class i e v → FieldOwner b i class
+  field_owned i e v f = (record { class = class; name = v.name; ty = v.ty }, f.field, refl)
+
+  pub method_owned : (i : ℕ) (e : MethodEntry) (v : Method) → IsMethod b class i e v → MethodOwner b i class
+  method_owned i e v m = (record { class = class; name = v.name; proto = v.proto }, m.method, refl)
+
+  bare_owned : (i : ℕ) (e : MethodEntry) (v : Bare) → IsBare b class i e v → MethodOwner b i class
+  bare_owned i e v m = method_owned i e _ m.method
+
+  -- the entries so far
+  pub fields_before : (es : List FieldEntry) (n : ℕ) (vs : List Member) → n ≤ length es → Runs (IsField b class) es n vs → (k : ℕ) → k < n → EntryHolds (FieldOwner b) class (steps es) k
+  fields_before es n vs = run_holds (IsField b class) (FieldOwner b) class field_owned es n vs
+
+  pub bares_before : (es : List MethodEntry) (n : ℕ) (vs : List Bare) → n ≤ length es → Runs (IsBare b class) es n vs → (k : ℕ) → k < n → EntryHolds (MethodOwner b) class (steps es) k
+  bares_before es n vs = run_holds (IsBare b class) (MethodOwner b) class bare_owned es n vs
+
+  -- all of them
+  pub fields_hold : (es : List FieldEntry) (vs : List Member) → IsRun (IsField b class) es vs → FieldEntriesHold b class es
+  fields_hold es vs = all_hold (IsField b class) (FieldOwner b) class field_owned es vs
+
+  pub methods_hold : (es : List MethodEntry) (vs : List Method) → IsRun (IsMethod b class) es vs → MethodEntriesHold b class es
+  methods_hold es vs = all_hold (IsMethod b class) (MethodOwner b) class method_owned es vs
+
+  pub bares_hold : (es : List MethodEntry) (vs : List Bare) → IsRun (IsBare b class) es vs → MethodEntriesHold b class es
+  bares_hold es vs = all_hold (IsBare b class) (MethodOwner b) class bare_owned es vs
+
+-- ---- an entry holds, or breaks one rule
+
+module _ (IsOwner : ℕ → Units → Type 0) (size : ℕ) (row : (k : ℕ) (t : Units) → IsOwner k t → k < size) (one : (k : ℕ) (s t : Units) → IsOwner k s → IsOwner k t → s ≡ t) (class : Units) (differences : List ℕ) where
+  entry_clear : (k code : ℕ) → EntryHolds IsOwner class differences k → EntryBreaks IsOwner size class differences k code → ⊥
+  entry_clear k code h (MemberIndex out) = let lt = row (index_of differences k) class h.owned in omega (arith, lt, out)
+  entry_clear k code h (MemberOwner f) = f.other (one (index_of differences k) f.owner class f.owned h.owned)
+  entry_clear k code h (MemberOrder r) = let up = h.rises r.behind in let same = r.same in omega (arith, up, same)
+
+  entry_number : (k m n : ℕ) → EntryBreaks IsOwner size class differences k m → EntryBreaks IsOwner size class differences k n → m ≡ n
+  entry_number k m n (MemberIndex p) (MemberIndex q) = refl
+  entry_number k m n (MemberIndex p) (MemberOwner q) = let lt = row (index_of differences k) q.owner q.owned in omega (arith, lt, p)
+  entry_number k m n (MemberIndex p) (MemberOrder q) = let lt = row (index_of differences k) class q.owned in omega (arith, lt, p)
+  entry_number k m n (MemberOwner p) (MemberIndex q) = let lt = row (index_of differences k) p.owner p.owned in omega (arith, lt, q)
+  entry_number k m n (MemberOwner p) (MemberOwner q) = refl
+  entry_number k m n (MemberOwner p) (MemberOrder q) = absurd (p.other (one (index_of differences k) p.owner class p.owned q.owned))
+  entry_number k m n (MemberOrder p) (MemberIndex q) = let lt = row (index_of differences k) class p.owned in omega (arith, lt, q)
+  entry_number k m n (MemberOrder p) (MemberOwner q) = absurd (q.other (one (index_of differences k) q.owner class q.owned p.owned))
+  entry_number k m n (MemberOrder p) (MemberOrder q) = refl
+
+  entries_clear : (code : ℕ) → EntriesHold IsOwner class differences → EntriesBreak IsOwner size class differences code → ⊥
+  entries_clear code hold b = entry_clear b.entry code (hold b.entry b.within) b.breaks
+
+  -- and of a list the first
+  entries_number : (m n : ℕ) → EntriesBreak IsOwner size class differences m → EntriesBreak IsOwner size class differences n → m ≡ n
+  entries_number m n x y = elim (cases_lt x.entry y.entry) [
+    | inl less ↦ absurd (entry_clear x.entry m (y.before x.entry less) x.breaks)
+    | inr ge ↦ elim (cases_lt y.entry x.entry) [
+      | inl more ↦ absurd (entry_clear y.entry n (x.before y.entry more) y.breaks)
+      | inr le ↦
+          let same : x.entry ≡ y.entry = omega (arith, ge, le) in
+          entry_number y.entry m n (subst (λ (k : ℕ). EntryBreaks IsOwner size class differences k m) same x.breaks) y.breaks
+    ]
+  ]
+
+-- ---- of the four lists the first
+
+module _ (b : List ℕ) (framed : IsFramed b) where
+  field_row : (k : ℕ) (t : Units) → FieldOwner b k t → k < size_of b 3
+  field_row k t o = o.1.row
+
+  field_owner_one : (k : ℕ) (s t : Units) → FieldOwner b k s → FieldOwner b k t → s ≡ t
+  field_owner_one k s t p q = sym p.2 ∙ ap (λ f. f.class) (field_one b framed k p.0 q.0 p.1 q.1) ∙ q.2
+
+  method_row : (k : ℕ) (t : Units) → MethodOwner b k t → k < size_of b 4
+  method_row k t o = o.1.row
+
+  method_owner_one : (k : ℕ) (s t : Units) → MethodOwner b k s → MethodOwner b k t → s ≡ t
+  method_owner_one k s t p q = sym p.2 ∙ ap (λ m. m.class) (method_one b framed k p.0 q.0 p.1 q.1) ∙ q.2
+
+  module _ (class : Units) (e : Entries) where
+    abbrev Fields : List FieldEntry → ℕ → Type 0
+    Fields es code = EntriesBreak (FieldOwner b) (size_of b 3) class (steps es) code
+
+    abbrev Methods : List MethodEntry → ℕ → Type 0
+    Methods es code = EntriesBreak (MethodOwner b) (size_of b 4) class (steps es) code
+
+    fields_clear : (es : List FieldEntry) (code : ℕ) → FieldEntriesHold b class es → Fields es code → ⊥
+    fields_clear es code = entries_clear (FieldOwner b) (size_of b 3) field_row field_owner_one class (steps es) code
+
+    methods_clear : (es : List MethodEntry) (code : ℕ) → MethodEntriesHold b class es → Methods es code → ⊥
+    methods_clear es code = entries_clear (MethodOwner b) (size_of b 4) method_row method_owner_one class (steps es) code
+
+    fields_number : (es : List FieldEntry) (m n : ℕ) → Fields es m → Fields es n → m ≡ n
+    fields_number es m n = entries_number (FieldOwner b) (size_of b 3) field_row field_owner_one class (steps es) m n
+
+    methods_number : (es : List MethodEntry) (m n : ℕ) → Methods es m → Methods es n → m ≡ n
+    methods_number es m n = entries_number (MethodOwner b) (size_of b 4) method_row method_owner_one class (steps es) m n
+
+    pub members_clear : (code : ℕ) → MembersHold b class e → MembersBreak b class e code → ⊥
+    members_clear code h (inl p) = fields_clear e.statics code h.statics p
+    members_clear code h (inr (inl p)) = fields_clear e.instances code h.instances p.1
+    members_clear code h (inr (inr (inl p))) = methods_clear e.directs code h.directs p.2
+    members_clear code h (inr (inr (inr p))) = methods_clear e.virtuals code h.virtuals p.3
+
+    pub members_number : (m n : ℕ) → MembersBreak b class e m → MembersBreak b class e n → m ≡ n
+    members_number m n (inl x) (inl y) = fields_number e.statics m n x y
+    members_number m n (inl x) (inr (inl y)) = absurd (fields_clear e.statics m y.0 x)
+    members_number m n (inl x) (inr (inr (inl y))) = absurd (fields_clear e.statics m y.0 x)
+    members_number m n (inl x) (inr (inr (inr y))) = absurd (fields_clear e.statics m y.0 x)
+    members_number m n (inr (inl x)) (inl y) = absurd (fields_clear e.statics n x.0 y)
+    members_number m n (inr (inl x)) (inr (inl y)) = fields_number e.instances m n x.1 y.1
+    members_number m n (inr (inl x)) (inr (inr (inl y))) = absurd (fields_clear e.instances m y.1 x.1)
+    members_number m n (inr (inl x)) (inr (inr (inr y))) = absurd (fields_clear e.instances m y.1 x.1)
+    members_number m n (inr (inr (inl x))) (inl y) = absurd (fields_clear e.statics n x.0 y)
+    members_number m n (inr (inr (inl x))) (inr (inl y)) = absurd (fields_clear e.instances n x.1 y.1)
+    members_number m n (inr (inr (inl x))) (inr (inr (inl y))) = methods_number e.directs m n x.2 y.2
+    members_number m n (inr (inr (inl x))) (inr (inr (inr y))) = absurd (methods_clear e.directs m y.2 x.2)
+    members_number m n (inr (inr (inr x))) (inl y) = absurd (fields_clear e.statics n x.0 y)
+    members_number m n (inr (inr (inr x))) (inr (inl y)) = absurd (fields_clear e.instances n x.1 y.1)
+    members_number m n (inr (inr (inr x))) (inr (inr (inl y))) = absurd (methods_clear e.directs n x.2 y.2)
+    members_number m n (inr (inr (inr x))) (inr (inr (inr y))) = methods_number e.virtuals m n x.3 y.3
