@@ -1,0 +1,114 @@
+-- Words that have a shape in the second form are neither its first line nor a label's line.
+use Rattle.std.proofs.Common.{◌≡◌, ℕ, zero, suc, ◌&&◌, Bool, true, false, not, inl, inr, List, [], ◌∷◌, length, get_or, Some, None, refl, ap, subst, ◌∙◌, codes}
+use Rattle.std.specs.List.{AllByRecursion, list_all}
+use Rattle.dex_insn.specs.Mnemonics.{IsNamed, mnemonics}
+use Rattle.listing_words.specs.Words.{Word, plain_word}
+use Rattle.listing_slots.specs.declared.key.Key.{Key}
+use Rattle.listing_slots.specs.declared.key.Key.TheVariants as key
+use Rattle.listing_slots.specs.declared.slot.Slot.{Slot}
+use Rattle.listing_slots.specs.Keys.{key_text, same, find_key, lead_keys, payload_keys}
+use Rattle.listing_slots.specs.Slots.{has_form, have_forms}
+use Rattle.listing_shapes.specs.Shapes.{Row, Shape, IsInsnRow, HasBareShape, key_row}
+use Rattle.listing_shapes.proofs.ShapeLaws.{same_eq}
+use Rattle.listing_labels.specs.Labels.{is_mark}
+use Rattle.listing_parse.specs.Text.{is_second, begins_mark}
+
+-- ---- keywords
+
+pub none_each : (ks : List Key) (text : List ℕ) → None ≡ find_key ks text → AllByRecursion (λ k. same (key_text k) text ≡ false) ks
+unfolding find_key
+none_each [] text e = tt
+none_each (k ∷ ks) text e = by (none_each ks text) (same (key_text k) text) refl
+  where
+    by : (None ≡ find_key ks text → AllByRecursion (λ k. same (key_text k) text ≡ false) ks) → (b : Bool) → same (key_text k) text ≡ b → AllByRecursion (λ k. same (key_text k) text ≡ false) (k ∷ ks)
+    by h true f = let z : None ≡ Some k = rw f at e in absurd cc
+    by h false f = let z : None ≡ find_key ks text = rw f at e in (f, h z)
+
+pub found_same : (ks : List Key) (text : List ℕ) (k : Key) → Some k ≡ find_key ks text → same (key_text k) text ≡ true
+unfolding find_key
+found_same [] text k e = absurd cc
+found_same (j ∷ ks) text k e = by (found_same ks text k) (same (key_text j) text) refl
+  where
+    by : (Some k ≡ find_key ks text → same (key_text k) text ≡ true) → (b : Bool) → same (key_text j) text ≡ b → same (key_text k) text ≡ true
+    by h true f = let z : Some k ≡ Some j = rw f at e in let q : j ≡ k = cc in subst (λ (x : Key). same (key_text x) text ≡ true) q f
+    by h false f = let z : Some k ≡ find_key ks text = rw f at e in h z
+
+-- ---- the first line of the second form
+
+pub one_behind : (ss : List Slot) (w : Word) (ws : List Word) → length ss ≡ 1 → have_forms ss ws ≡ true → is_second (w ∷ ws) ≡ false
+unfolding have_forms
+one_behind [] w ws e h = absurd cc
+one_behind (s ∷ []) w [] e h = refl
+one_behind (s ∷ []) w (v ∷ []) e h = refl
+one_behind (s ∷ []) w (v ∷ (x ∷ ws)) e h = absurd (by (has_form s v) h)
+  where
+    by : (b : Bool) → (b && false) ≡ true → ⊥
+    by true k = cc
+    by false k = cc
+one_behind (s ∷ (r ∷ ss)) w ws e h = absurd cc
+
+second_first : (text : List ℕ) (ws : List Word) → same (codes "dex") text ≡ false → is_second (plain_word text ∷ ws) ≡ false
+second_first text [] e = refl
+second_first text (a ∷ []) e = refl
+second_first text (a ∷ (b ∷ [])) e = refl
+second_first text (a ∷ (b ∷ (c ∷ []))) e = rw e refl
+second_first text (a ∷ (b ∷ (c ∷ (d ∷ ws)))) e = refl
+
+one_slot : (r row : Row) → Some row ≡ Some r → length r.1 ≡ 1 → length row.1 ≡ 1
+one_slot r row e h = let q : r ≡ row = cc in subst (λ (x : Row). length x.1 ≡ 1) q h
+
+other_key : (lead : Key) (text : List ℕ) → same (key_text lead) text ≡ true → same (codes "dex") (key_text lead) ≡ false → same (codes "dex") text ≡ false
+other_key lead text e f = subst (λ t. same (codes "dex") t ≡ false) (same_eq (key_text lead) text e) f
+
+keyed_second : (lead : Key) (text : List ℕ) (behind : List Word) (row : Row) → same (key_text lead) text ≡ true → Some row ≡ key_row lead behind → have_forms row.1 behind ≡ true → is_second (plain_word text ∷ behind) ≡ false
+unfolding key_row key_text same
+keyed_second key.Dex text behind row e h f = one_behind row.1 (plain_word text) behind (one_slot _ row h refl) f
+keyed_second key.Class text behind row e h f = second_first text behind (other_key key.Class text e refl)
+keyed_second k text behind row e h f = second_first text behind (other_key k text e refl)
+
+-- ---- a label
+
+all_at : (P : List ℕ → Bool) (xs : List (List ℕ)) (i : ℕ) (d : List ℕ) → list_all P xs ≡ true → P d ≡ true → P (get_or xs i d) ≡ true
+all_at P [] i d a e = e
+all_at P (x ∷ xs) i d a e = by (P x) refl (all_at P xs) i
+  where
+    by : (b : Bool) → P x ≡ b → ((i : ℕ) (d : List ℕ) → list_all P xs ≡ true → P d ≡ true → P (get_or xs i d) ≡ true) → (i : ℕ) → P (get_or (x ∷ xs) i d) ≡ true
+    by true h more zero = h
+    by true h more (suc i) = let k : list_all P xs ≡ true = rw h at a in more i d k e
+    by false h more i = let k : false ≡ true = rw h at a in absurd cc
+
+abbrev no_mark : List ℕ → Bool
+no_mark m = not (is_mark m)
+
+mnemonics_free : list_all no_mark mnemonics ≡ true
+unfolding mnemonics
+mnemonics_free = refl
+
+not_true : (b : Bool) → not b ≡ true → b ≡ false
+not_true true e = absurd cc
+not_true false e = refl
+
+named_free : (op : ℕ) (text : List ℕ) → IsNamed op text → is_mark text ≡ false
+named_free op text n = not_true (is_mark text) (subst (λ t. no_mark t ≡ true) n.is (all_at no_mark mnemonics op [] mnemonics_free refl))
+
+key_free : (k : Key) → is_mark (key_text k) ≡ false
+unfolding key_text
+key_free key.Dex = refl
+key_free k = refl
+
+found_free : (ks : List Key) (text : List ℕ) (k : Key) → Some k ≡ find_key ks text → is_mark text ≡ false
+found_free ks text k e = subst (λ t. is_mark t ≡ false) (same_eq (key_text k) text (found_same ks text k e)) (key_free k)
+
+insn_free : (text : List ℕ) (ws : List Word) (row : Row) → IsInsnRow text ws row → is_mark text ≡ false
+insn_free text ws row (inl a) = named_free a.0 text a.1
+insn_free text ws row (inr a) = found_free payload_keys text a.0 a.1
+
+pub no_aside : (ws : List Word) (sh : Shape) → HasBareShape ws sh → (is_second ws ≡ false) × (begins_mark ws ≡ false)
+unfolding key_text
+no_aside ws sh (inl b) =
+    let n : same (codes "dex") b.text ≡ false = (none_each lead_keys b.text b.no_lead).0 in
+    (ap is_second b.words ∙ second_first b.text b.behind n, ap begins_mark b.insn.words ∙ insn_free b.insn.text b.insn.behind b.row b.insn.has_row)
+no_aside ws sh (inr b) = (
+  ap is_second b.words ∙ keyed_second b.keyed.lead b.text b.behind b.row (found_same lead_keys b.text b.keyed.lead b.keyed.found) b.keyed.has_row b.keyed.forms,
+  ap begins_mark b.words ∙ found_free lead_keys b.text b.keyed.lead b.keyed.found,
+)

@@ -1,0 +1,14 @@
+pub mod LateLaws
+pub mod CodeLaws
+pub mod HeldLaws
+pub mod ValueLaws
+pub mod Numbering
+pub mod HeadLaws
+pub mod MemberLaws
+pub mod ClassLaws
+pub mod AsideLaws
+pub mod LineSteps
+pub mod LabelLaws
+pub mod ReadOn
+pub mod ReadBack
+pub mod ListingLaws

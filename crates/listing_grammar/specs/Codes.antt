@@ -1,0 +1,69 @@
+-- The lines of a code, and the code that they mean.
+-- Page: docs/LISTING.md, "The lines", "A grammar", "Faults" (105).
+use Rattle.std.specs.Prelude.{ℕ, nat_lt, nat_le, ◌&&◌, Bool, true, if◌then◌else◌, List, [], ◌∷◌, ◌++◌, map, Option, Some, None}
+use Rattle.std.specs.List.{flat_map, list_all}
+use Rattle.program_types.specs.Content as content
+use Rattle.program_types.specs.Content.{Insn, Catch, Try, Code}
+use Rattle.listing_lines.specs.Lines.{Line, open_code, end_code, insn_line, try_line, catch_line, catch_all_line}
+
+-- A line, and its number in the text, from 1.
+abbrev pub Numbered : Type 0
+Numbered = ℕ × Line
+
+-- What the lines say.
+abbrev pub said : List Numbered → List Line
+said ls = map (λ (l : Numbered). l.1) ls
+
+-- ---- the text of a code
+
+-- A line for each instruction, in their order.
+abbrev pub insn_lines : List Insn → List Line
+insn_lines is = map (λ i. insn_line i) is
+
+-- `catch TYPE :K` for each handler of a type, in their order.
+abbrev pub catch_lines : List Catch → List Line
+catch_lines cs = map (λ (c : Catch). catch_line c.ty c.at) cs
+
+-- `catchall :K`, if there is one.
+abbrev pub catch_all_lines : Option ℕ → List Line
+catch_all_lines None = []
+catch_all_lines (Some k) = catch_all_line k ∷ []
+
+-- `try :FROM :TO`, its catches, and the one of all else behind them.
+abbrev pub try_lines : Try → List Line
+try_lines t = try_line t.from t.to ∷ (catch_lines t.catches ++ catch_all_lines t.catch_all)
+
+-- The instructions, then the tries.
+abbrev pub inner_lines : Code → List Line
+inner_lines c = insn_lines c.insns ++ flat_map try_lines c.tries
+
+-- `code REGISTERS INS OUTS`, what stands in it, `end code`.
+abbrev pub code_lines : Code → List Line
+code_lines c = open_code c.registers c.ins c.outs ∷ (inner_lines c ++ end_code ∷ [])
+
+-- ---- targets
+
+-- The instructions that an instruction leads to.
+abbrev pub targets_of : Insn → List ℕ
+targets_of (content.I10t op to) = to ∷ []
+targets_of (content.I20t op to) = to ∷ []
+targets_of (content.I30t op to) = to ∷ []
+targets_of (content.I21t op a to) = to ∷ []
+targets_of (content.I31t op a to) = to ∷ []
+targets_of (content.I22t op a b to) = to ∷ []
+targets_of (content.Packed first targets) = targets
+targets_of (content.Sparse keys targets) = targets
+targets_of _ = []
+
+-- Each target of the line is one of the n instructions of its code; what a try covers may end behind the last one.
+abbrev pub leads_into : ℕ → Line → Bool
+leads_into n (insn_line i) = list_all (λ to. nat_lt to n) (targets_of i)
+leads_into n (try_line from to) = nat_lt from n && nat_le to n
+leads_into n (catch_line d k) = nat_lt k n
+leads_into n (catch_all_line k) = nat_lt k n
+leads_into n _ = true
+
+-- The first of these lines with a target that is none of the n instructions, if there is one.
+abbrev pub late_line : ℕ → List Numbered → Option ℕ
+late_line n [] = None
+late_line n ((number, l) ∷ ls) = if leads_into n l then late_line n ls else Some number

@@ -1,0 +1,5 @@
+pub mod Codes
+pub mod Classes
+pub mod Runs
+pub mod Texts
+pub mod Reads

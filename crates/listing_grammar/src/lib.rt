@@ -1,0 +1,16 @@
+//! What a listing's lines mean, without a reader's state: the text of a code, of a class and of a program. The laws say
+//! that what is read, line by line, is just these texts, both ways and in both forms.
+//!
+//! specs/Codes.antt and specs/Classes.antt say which code and which classes lines mean, specs/Texts.antt which lines of a
+//! program those of a text say, and when a text is the text of a program. The other two files have the reader's side.
+#![tactic(auto)]
+
+mod class_law;
+mod code_law;
+mod listing_law;
+mod text_law;
+
+pub use class_law::{a_class_is_its_lines, classes_are_their_lines};
+pub use code_law::a_code_is_its_lines;
+pub use listing_law::a_listing_is_its_lines;
+pub use text_law::lines_are_read_as_they_say;
