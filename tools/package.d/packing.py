@@ -80,6 +80,11 @@ def version():
     return re.search(r'VERSION: &str = "([^"]*)"', get(f"{TOP}/crates/dexasm_plan/src/texts.rt").decode()).group(1)
 
 
+def for_dpkg(number):
+    """The version as Debian orders it: 0.5.0-dev is before 0.5.0."""
+    return number.replace("-dev", "~dev")
+
+
 def proved_by(program, library, is_given):
     """What was proved, by what, and what it came to; what is given by --of was built nobody says where."""
     commit = output("git", "rev-parse", "HEAD") or "unknown"

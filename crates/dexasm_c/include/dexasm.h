@@ -25,7 +25,7 @@ extern "C" {
 #endif
 
 /* The version that this header belongs to: dexasm_version answers that of the library. */
-#define DEXASM_VERSION "0.4.0"
+#define DEXASM_VERSION "0.5.0-dev"
 
 /* How a call ends: 0, 1 and 4 are the exit status of the command dexasm. */
 typedef uint32_t dexasm_status;

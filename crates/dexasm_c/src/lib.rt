@@ -89,7 +89,7 @@ pub extern "C" fn dexasm_fault_name(code: u16, out: &mut [u8], needed: &mut usiz
 /// The version, as `0.4.0`.
 #[unsafe(no_mangle)]
 pub extern "C" fn dexasm_version(out: &mut [u8], needed: &mut usize) -> u32
-    ensures { (way : Way) × (result ≡ status_of way) × Puts way (codes "0.4.0") out.old out.new needed.new }
+    ensures { (way : Way) × (result ≡ status_of way) × Puts way (codes "0.5.0-dev") out.old out.new needed.new }
 {
-    status(put(b"0.4.0", out, needed))
+    status(put(b"0.5.0-dev", out, needed))
 }
