@@ -9,7 +9,7 @@ use Rattle.listing_lines.specs.Lines.{Line, open_class, end_class}
 use Rattle.listing_draft.specs.Members.{Given, given_key, values_of}
 use Rattle.listing_draft.specs.States.{Open, at_heads, at_top, State, opened, closed, with_block, add}
 use Rattle.listing_grammar.specs.Codes.{Numbered, said}
-use Rattle.listing_grammar.specs.Classes.{AreHeld, entry_lines, static_in, instance_in, direct_in, virtual_in, ClassText, ClassesText}
+use Rattle.listing_grammar.specs.Classes.{AreSorted, entry_lines, static_in, instance_in, direct_in, virtual_in, ClassText, ClassesText}
 use Rattle.listing_grammar.specs.Runs.{at_line, Runs, with_class, with_classes, RunsBehindClass, RunsToClasses}
 use Rattle.listing_grammar.proofs.CodeLaws.{next, again}
 use Rattle.listing_grammar.proofs.HeldLaws.{ArePut, put_are_held, held_are_put}
@@ -27,7 +27,7 @@ read_class d fl o final e f = ap closed f ∙ ap (λ x. closed (with_members x f
 none_yet : (d : Descriptor) (fl : ℕ) (h : Open) → h ≡ with_heads (opened d fl) h.superclass h.interfaces h.source → (h.statics ≡ []) × (h.instances ≡ []) × (h.directs ≡ []) × (h.virtuals ≡ [])
 none_yet d fl h e = (ap (λ (o : Open). o.statics) e, ap (λ (o : Open). o.instances) e, ap (λ (o : Open). o.directs) e, ap (λ (o : Open). o.virtuals) e)
 
-held_from : {X : Type 0} (key : X → Key) (ys xs zs : List X) → ys ≡ [] → ArePut key ys xs zs → AreHeld key xs zs
+held_from : {X : Type 0} (key : X → Key) (ys xs zs : List X) → ys ≡ [] → ArePut key ys xs zs → AreSorted key xs zs
 held_from key ys xs zs e h = put_are_held key xs zs (subst (λ y. ArePut key y xs zs) e h)
 
 pub class_read : (s t : State) (n fl : ℕ) (d : Descriptor) (ls : List Numbered) → t.block ≡ at_top → t.late ≡ None → Runs (with_block s at_top) ((n, open_class d fl) ∷ ls) t → RunsBehindClass s ((n, open_class d fl) ∷ ls) t

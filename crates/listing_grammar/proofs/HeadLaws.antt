@@ -8,7 +8,7 @@ use Rattle.listing_lines.specs.Lines.{Line, super_line, implements_line, source_
 use Rattle.listing_slots.specs.Keys.{same}
 use Rattle.listing_draft.specs.States.{Open, ClassPart, at_heads, at_members, at_top, in_class, State, is_among, with_superclass, with_interface, with_source, with_block, class_line, inside, add}
 use Rattle.listing_grammar.specs.Codes.{Numbered, said}
-use Rattle.listing_grammar.specs.Classes.{is_head, superclass_in, interface_in, source_in, at_most_one, AreDistinct}
+use Rattle.listing_grammar.specs.Classes.{is_head, superclass_in, interface_in, source_in, at_most_one, NoneTwice}
 use Rattle.listing_grammar.specs.Runs.{at_line, Runs}
 use Rattle.listing_grammar.proofs.HeldLaws.{first_false, second_false}
 use Rattle.listing_grammar.proofs.Numbering.{more_split, more_said, starts, none_said, within, class_open}
@@ -36,7 +36,7 @@ apart : (xs ys : List ℕ) → same xs ys ≡ false → xs ≢ ys
 apart xs ys n e = let t = same_true xs ys e in cc
 
 -- What isn't among them differs from each.
-pub distinct_more : (ds : List Descriptor) (d : Descriptor) → AreDistinct ds → is_among ds d ≡ false → AreDistinct (ds ++ d ∷ [])
+pub distinct_more : (ds : List Descriptor) (d : Descriptor) → NoneTwice ds → is_among ds d ≡ false → NoneTwice (ds ++ d ∷ [])
 distinct_more [] d h n = (tt, tt)
 distinct_more (e ∷ ds) d h n = (last ds h.0, distinct_more ds d h.1 (second_false (same d e) (is_among ds d) n))
   where
@@ -44,7 +44,7 @@ distinct_more (e ∷ ds) d h n = (last ds h.0, distinct_more ds d h.1 (second_fa
     last [] a = ((λ q. apart d e (first_false (same d e) (is_among ds d) n) (sym q)), tt)
     last (f ∷ es) a = (a.0, last es a.1)
 
-pub distinct_last : (ds : List Descriptor) (d : Descriptor) (es : List Descriptor) → AreDistinct (ds ++ (d ∷ es)) → is_among ds d ≡ false
+pub distinct_last : (ds : List Descriptor) (d : Descriptor) (es : List Descriptor) → NoneTwice (ds ++ (d ∷ es)) → is_among ds d ≡ false
 distinct_last [] d es h = refl
 distinct_last (e ∷ ds) d es h = rw (same_false d e (λ q. reach ds h.0 (sym q))) (distinct_last ds d es h.1)
   where
@@ -100,13 +100,13 @@ pub record HeadsRead (done : List Class) (late : Option ℕ) (o : Open) (ls : Li
   pub final : Open
   pub superclass : at_most_one o.superclass ++ flat_map superclass_in heads ≡ at_most_one final.superclass
   pub interfaces : o.interfaces ++ flat_map interface_in heads ≡ final.interfaces
-  pub none_twice : AreDistinct final.interfaces
+  pub none_twice : NoneTwice final.interfaces
   pub source : at_most_one o.source ++ flat_map source_in heads ≡ at_most_one final.source
   pub same : final ≡ with_heads o final.superclass final.interfaces final.source
   pub line : ℕ
   pub runs : Runs (within at_members done late final line) behind t
 
-pub heads_read : (ls : List Numbered) (done : List Class) (late : Option ℕ) (o : Open) (k : ℕ) (t : State) → AreDistinct o.interfaces → t.block ≡ at_top → Runs (within at_heads done late o k) ls t → HeadsRead done late o ls t
+pub heads_read : (ls : List Numbered) (done : List Class) (late : Option ℕ) (o : Open) (k : ℕ) (t : State) → NoneTwice o.interfaces → t.block ≡ at_top → Runs (within at_heads done late o k) ls t → HeadsRead done late o ls t
 unfolding add inside
 heads_read [] done late o k t i top r = absurd (class_open at_heads done late o k t top r)
 heads_read ((n, super_line d) ∷ ls) done late o k t i top r =
@@ -204,7 +204,7 @@ three o final e a b c =
     ∙ ap (λ x. with_heads o o.superclass o.interfaces x) (sym c)
 
 pub heads_go : (hs : List Line) (done : List Class) (late : Option ℕ) (o : Open) (k : ℕ) (behind : List Numbered) (t : State) (ls : List Numbered) → said ls ≡ hs → list_all is_head hs ≡ true → (final : Open)
-    → at_most_one o.superclass ++ flat_map superclass_in hs ≡ at_most_one final.superclass → o.interfaces ++ flat_map interface_in hs ≡ final.interfaces → AreDistinct final.interfaces
+    → at_most_one o.superclass ++ flat_map superclass_in hs ≡ at_most_one final.superclass → o.interfaces ++ flat_map interface_in hs ≡ final.interfaces → NoneTwice final.interfaces
     → at_most_one o.source ++ flat_map source_in hs ≡ at_most_one final.source → final ≡ with_heads o final.superclass final.interfaces final.source
     → ((m : ℕ) → Runs (within at_heads done late final m) behind t) → Runs (within at_heads done late o k) (ls ++ behind) t
 unfolding add inside
@@ -222,7 +222,7 @@ heads_go (super_line d ∷ hs) done late o k behind t ls e h final a b i c same 
 heads_go (implements_line d ∷ hs) done late o k behind t ls e h final a b i c same r =
     let st = starts ls (implements_line d) hs e in
     let o1 = record o { interfaces = o.interfaces ++ d ∷ [] } in
-    let none = distinct_last o.interfaces d (flat_map interface_in hs) (subst AreDistinct (sym b) i) in
+    let none = distinct_last o.interfaces d (flat_map interface_in hs) (subst NoneTwice (sym b) i) in
     let b1 : o1.interfaces ++ flat_map interface_in hs ≡ final.interfaces = append_assoc o.interfaces (d ∷ []) (flat_map interface_in hs) ∙ b in
     let y = heads_go hs done late o1 st.number behind t st.rest st.says h final a b1 i c same r in
     let g : Runs (within at_heads done late o k) ((st.number, implements_line d) ∷ (st.rest ++ behind)) t = (within at_heads done late o1 st.number, record { stands = refl; added = interface_goes (at_line (within at_heads done late o k) st.number) o d none }, y) in

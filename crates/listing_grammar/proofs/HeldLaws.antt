@@ -15,7 +15,7 @@ use Rattle.program_types.specs.KeyLaws.{key_cmp-total}
 use Rattle.program_rules.specs.Rules.{method_key}
 use Rattle.listing_draft.specs.Members.{is_held, put_in}
 use Rattle.listing_draft.specs.States.{with_code}
-use Rattle.listing_grammar.specs.Classes.{Rise, AreHeld}
+use Rattle.listing_grammar.specs.Classes.{Rise, AreSorted}
 
 -- ---- keys
 
@@ -169,10 +169,10 @@ module _ {X : Type 0} (key : X → Key) where
       let n = not_held (key x) ys xs (IsDistinct-head (eq_by_cmp key_cmp) (key x) (map key (ys ++ xs)) d) in
       (n, held_put q xs zs (put_rises x ys a n) b (IsPermutation-trans (q ++ xs) (x ∷ (ys ++ xs)) zs (IsPermutation-sym (x ∷ (ys ++ xs)) (q ++ xs) (IsPermutation-append_left xs (x ∷ ys) q (put_permutes x ys))) moved))
 
-  pub put_are_held : (xs zs : List X) → ArePut [] xs zs → AreHeld key xs zs
+  pub put_are_held : (xs zs : List X) → ArePut [] xs zs → AreSorted key xs zs
   put_are_held xs zs h = let m = put_held [] xs zs tt h in record { same = m.1; rise = m.0 }
 
-  pub held_are_put : (xs zs : List X) → AreHeld key xs zs → ArePut [] xs zs
+  pub held_are_put : (xs zs : List X) → AreSorted key xs zs → ArePut [] xs zs
   held_are_put xs zs h = held_put [] xs zs tt h.rise h.same
 
 -- ---- a method with its code

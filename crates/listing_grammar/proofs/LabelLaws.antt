@@ -22,7 +22,7 @@ use Rattle.listing_labels.specs.Labels.{Label, is_label, is_mark, lookup, with_l
 use Rattle.listing_labels.proofs.AheadLaws.{ahead_skips, ahead_stops, ahead_marks, ahead_counts}
 use Rattle.listing_parse.specs.Text.{begins_mark}
 use Rattle.listing_grammar.specs.Codes.{Numbered}
-use Rattle.listing_grammar.specs.Classes.{AreDistinct}
+use Rattle.listing_grammar.specs.Classes.{NoneTwice}
 use Rattle.listing_grammar.specs.Texts.{SaysLine, IsLabelLine, names, Where, outside, among, behind_insns, SayLines, no_lines, silent, one_line, code_line, label_line, one_insn, no_insn, of_try, code_end}
 use Rattle.listing_grammar.proofs.AsideLaws.{none_each, found_same, no_aside}
 use Rattle.listing_grammar.proofs.HeadLaws.{same_true, distinct_last}
@@ -55,8 +55,8 @@ pub with_new : (es : List Label) (l : Label) → lookup l.name es ≡ None → w
 with_new es l e = rw e refl
 
 -- None of those before has the name.
-pub new_name : (es : List Label) (l : Label) (fs : List Label) → AreDistinct (names (es ++ (l ∷ fs))) → lookup l.name es ≡ None
-new_name es l fs h = unknown l.name es (distinct_last (names es) l.name (names fs) (subst AreDistinct (names_append es (l ∷ fs)) h))
+pub new_name : (es : List Label) (l : Label) (fs : List Label) → NoneTwice (names (es ++ (l ∷ fs))) → lookup l.name es ≡ None
+new_name es l fs h = unknown l.name es (distinct_last (names es) l.name (names fs) (subst NoneTwice (names_append es (l ∷ fs)) h))
 
 look_behind : (w : List ℕ) (es fs : List Label) → lookup w es ≡ None → lookup w (es ++ fs) ≡ lookup w fs
 look_behind w [] fs h = refl
@@ -74,7 +74,7 @@ look_front w (e ∷ es) fs l h = by (look_front w es fs l) (same w e.name) refl
     by k true f = let z : Some e ≡ Some l = rw f at h in rw f z
     by k false f = let z : lookup w es ≡ Some l = rw f at h in rw f (k z)
 
-pub look_there : (es : List Label) (l : Label) (fs : List Label) → AreDistinct (names (es ++ (l ∷ fs))) → lookup l.name (es ++ (l ∷ fs)) ≡ Some l
+pub look_there : (es : List Label) (l : Label) (fs : List Label) → NoneTwice (names (es ++ (l ∷ fs))) → lookup l.name (es ++ (l ∷ fs)) ≡ Some l
 look_there es l fs h = look_behind l.name es (l ∷ fs) (new_name es l fs h) ∙ rw (same_true l.name l.name refl) refl
 
 pub found_le : (w : List ℕ) (es : List Label) (n : ℕ) (l : Label) → AllByRecursion (λ (e : Label). e.line ≤ n) es → lookup w es ≡ Some l → l.line ≤ n
@@ -242,7 +242,7 @@ label_marks (c ∷ cs) e = (both_true (c == 58) _ e).0
 
 abbrev pub AheadIs : Where → List Label → ℕ → List (List ℕ) → Type 0
 AheadIs outside pre n ls = Unit {0}
-AheadIs (among labels ahead k) pre n ls = AreDistinct (names (pre ++ ahead)) → labels_ahead pre (n + 1) k ls ≡ pre ++ ahead
+AheadIs (among labels ahead k) pre n ls = NoneTwice (names (pre ++ ahead)) → labels_ahead pre (n + 1) k ls ≡ pre ++ ahead
 AheadIs (behind_insns labels) pre n ls = (k : ℕ) → labels_ahead pre (n + 1) k ls ≡ pre
 
 label_stop : (name : List ℕ) → is_label name ≡ true → is_stop name ≡ false
@@ -277,7 +277,7 @@ ahead_is (label_line {labels = labels} {ahead = ahead} {k = k} {n = n} {l = l} {
     let new : Label = record { name = name; line = n + 1; number = k } in
     label_ahead pre (n + 1) k Two l ls name m
     ∙ ap (λ es. labels_ahead es (n + 1 + 1) k ls) (with_new pre new (new_name pre new ahead h))
-    ∙ ahead_is d (pre ++ new ∷ []) (subst (λ es. AreDistinct (names es)) (sym (append_assoc pre (new ∷ []) ahead)) h)
+    ∙ ahead_is d (pre ++ new ∷ []) (subst (λ es. NoneTwice (names es)) (sym (append_assoc pre (new ∷ []) ahead)) h)
     ∙ append_assoc pre (new ∷ []) ahead
 ahead_is (one_insn {labels = labels} {k = k} {n = n} {l = l} {ls = ls} {i = i} s d) pre = λ h. insn_ahead pre labels (n + 1) k k l ls _ s refl ∙ ahead_is d pre h
 ahead_is (no_insn {k = k} d) pre = λ h. ahead_is d pre k ∙ sym (append-nil pre)
@@ -311,7 +311,7 @@ abbrev pub NoLabels : Form → List Label → Type 0
 NoLabels One es = es ≡ []
 NoLabels Two es = Unit {0}
 
-pub ahead_there : (form : Form) (n r i o : ℕ) (labels : List Label) (ls : List (List ℕ)) (xs : List Numbered) → AreDistinct (names labels) → SayLines form (among labels labels 0) n ls xs → labels_by form (open_code r i o) (n + 1) ls [] ≡ labels
+pub ahead_there : (form : Form) (n r i o : ℕ) (labels : List Label) (ls : List (List ℕ)) (xs : List Numbered) → NoneTwice (names labels) → SayLines form (among labels labels 0) n ls xs → labels_by form (open_code r i o) (n + 1) ls [] ≡ labels
 ahead_there One n r i o labels ls xs h d = sym (none_ahead d)
 ahead_there Two n r i o labels ls xs h d = ahead_is d [] h
 

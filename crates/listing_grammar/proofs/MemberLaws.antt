@@ -9,7 +9,7 @@ use Rattle.listing_lines.specs.Needs.{earliest}
 use Rattle.listing_draft.specs.Members.{Given, given_key, is_held, put_in, with_member}
 use Rattle.listing_draft.specs.States.{Open, Owner, ClassPart, at_members, behind_method, at_top, in_class, State, with_code_at, with_static, with_instance, with_direct, with_virtual, at_part, with_block, inside, add}
 use Rattle.listing_grammar.specs.Codes.{Numbered, said, code_lines, leads_into, late_line}
-use Rattle.listing_grammar.specs.Classes.{at_most_one, Entry, static_entry, instance_entry, direct_entry, virtual_entry, its_code, entry_lines, method_with, static_in, instance_in, direct_in, virtual_in, code_in, LeadsInside}
+use Rattle.listing_grammar.specs.Classes.{at_most_one, ListedMember, static_entry, instance_entry, direct_entry, virtual_entry, its_code, entry_lines, method_with, static_in, instance_in, direct_in, virtual_in, code_in, LeadsInside}
 use Rattle.listing_grammar.specs.Runs.{at_line, Runs, is_outside, with_its_code}
 use Rattle.listing_grammar.proofs.LateLaws.{earliest_none, none_late, all_lead, neither_late, runs_late}
 use Rattle.listing_grammar.proofs.CodeLaws.{again, code_read, text_runs}
@@ -132,7 +132,7 @@ abbrev pub with_members : Open → List Given → List Member → List Method �
 with_members o gs is ds vs = record o { statics = gs; instances = is; directs = ds; virtuals = vs }
 
 pub record MembersRead (done : List Class) (late : Option ℕ) (o : Open) (ls : List Numbered) (t : State) : Type 0 where
-  pub entries : List Entry
+  pub entries : List ListedMember
   pub mine : List Numbered
   pub behind : List Numbered
   pub split : ls ≡ mine ++ behind
@@ -274,7 +274,7 @@ four o final e a b c d =
     ∙ ap (λ x. with_members o o.statics o.instances x final.virtuals) (sym c)
     ∙ ap (λ x. with_members o o.statics o.instances o.directs x) (sym d)
 
-pub members_go : (es : List Entry) (p : ClassPart) (done : List Class) (late : Option ℕ) (o : Open) (k : ℕ) (behind : List Numbered) (t : State) (m : ℕ) (ls : List Numbered) → said ls ≡ flat_map entry_lines es ++ end_class ∷ [] → (final : Open)
+pub members_go : (es : List ListedMember) (p : ClassPart) (done : List Class) (late : Option ℕ) (o : Open) (k : ℕ) (behind : List Numbered) (t : State) (m : ℕ) (ls : List Numbered) → said ls ≡ flat_map entry_lines es ++ end_class ∷ [] → (final : Open)
     → ArePut given_key o.statics (flat_map static_in es) final.statics → ArePut member_key o.instances (flat_map instance_in es) final.instances → ArePut method_key o.directs (flat_map direct_in es) final.directs → ArePut method_key o.virtuals (flat_map virtual_in es) final.virtuals
     → final ≡ with_members o final.statics final.instances final.directs final.virtuals → AllByRecursion LeadsInside (flat_map code_in es) → Runs (behind_class done late final m) behind t → Runs (within p done late o k) (ls ++ behind) t
 unfolding add inside with_static with_instance with_direct with_virtual direct_owner virtual_owner

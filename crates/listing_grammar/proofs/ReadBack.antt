@@ -17,7 +17,7 @@ use Rattle.listing_labels.proofs.AheadLaws.{ahead_skips}
 use Rattle.listing_parse.specs.Text.{Reading, is_second, begins_mark, is_on, mark_aside, aside, in_second, Says, Adds, Takes, Reads}
 use Rattle.listing_parse.specs.declared.aside.Aside.TheVariants.{Nothing, Refused, First, Mark}
 use Rattle.listing_grammar.specs.Codes.{Numbered}
-use Rattle.listing_grammar.specs.Classes.{AreDistinct}
+use Rattle.listing_grammar.specs.Classes.{NoneTwice}
 use Rattle.listing_grammar.specs.Runs.{line_stands, at_line, Steps, Runs, is_outside}
 use Rattle.listing_grammar.specs.Texts.{SaysLine, IsLabelLine, opens_code, is_of_try, names, Where, outside, among, behind_insns, SayLines, no_lines, silent, one_line, code_line, label_line, one_insn, no_insn, of_try, code_end}
 use Rattle.listing_grammar.proofs.CodeLaws.{again}
@@ -118,7 +118,7 @@ IsAhead Two pre line k ls es = labels_ahead pre line k ls ≡ es
 
 abbrev pub Fits : Stand → Form → List Label → State → List (List ℕ) → Type 0
 Fits at_out form es s ls = (es ≡ []) × (part_of s.block ≡ out)
-Fits (at_insn pre k) form es s ls = (part_of s.block ≡ insns k) × IsAhead form pre (s.lines + 1) k ls es × AreDistinct (names pre) × AllByRecursion (λ (l : Label). l.line ≤ s.lines) pre
+Fits (at_insn pre k) form es s ls = (part_of s.block ≡ insns k) × IsAhead form pre (s.lines + 1) k ls es × NoneTwice (names pre) × AllByRecursion (λ (l : Label). l.line ≤ s.lines) pre
 Fits at_later form es s ls = NoLabels form es × (part_of s.block ≡ later)
 
 -- The lines say some of a program, which make t of s.
@@ -127,7 +127,7 @@ Sayings form w n ls s t = (xs : List Numbered) × SayLines form w n ls xs × Run
 
 abbrev pub Gives : Stand → Form → List Label → ℕ → State → List (List ℕ) → State → Type 0
 Gives at_out form es n s ls t = Sayings form outside n ls s t
-Gives (at_insn pre k) form es n s ls t = (ahead : List Label) × (es ≡ pre ++ ahead) × AreDistinct (names es) × Sayings form (among es ahead k) n ls s t
+Gives (at_insn pre k) form es n s ls t = (ahead : List Label) × (es ≡ pre ++ ahead) × NoneTwice (names es) × Sayings form (among es ahead k) n ls s t
 Gives at_later form es n s ls t = Sayings form (behind_insns es) n ls s t
 
 -- What is known of the lines behind a line.
@@ -180,7 +180,7 @@ label_gives pre k es s l ls t name f m on hyp r = by (lookup name pre) refl
         let new = label_at name s k in
         let a : labels_ahead (pre ++ new ∷ []) (s.lines + 1 + 1) k ls ≡ es =
         ap (λ z. labels_ahead z (s.lines + 1 + 1) k ls) (sym (with_new pre new e)) ∙ sym (label_ahead pre (s.lines + 1) k Two l ls name m) ∙ f.1 in
-        let d = subst AreDistinct (sym (names_append pre (new ∷ []))) (distinct_more (names pre) name f.2 (not_named name pre e)) in
+        let d = subst NoneTwice (sym (names_append pre (new ∷ []))) (distinct_more (names pre) name f.2 (not_named name pre e)) in
         let g = hyp (at_insn (pre ++ new ∷ []) k) Two es (counted s) (f.0, a, d, all_le_more pre s.lines new f.3 (omega arith)) r in
         (new ∷ g.0, g.1 ∙ append_assoc pre (new ∷ []) g.0, g.2, (g.3.0, label_line m g.3.1, again (counted s) t.base g.3.0 s.lines g.3.2))
     by (Some old) e =
@@ -263,7 +263,7 @@ insn_gives pre k form es s l ls t (insn_line i) u f y p w e hyp =
     let le = subst (λ z. AllByRecursion (λ (l : Label). l.line ≤ z) pre) (sym e) (all_le pre s.lines f.3) in
     let g = hyp (at_insn pre (k + 1)) (part, a2, f.2, le) in
     let d = subst (λ z. SayLines form (among z g.0 (k + 1)) u.lines ls g.3.0) same g.3.1 in
-    (g.0, sym same ∙ g.1, subst (λ z. AreDistinct (names z)) same g.2, ((s.lines + 1, x) ∷ g.3.0, one_insn y1 (subst (λ z. SayLines form (among es g.0 (k + 1)) z ls g.3.0) e d), (u, p, g.3.2)))
+    (g.0, sym same ∙ g.1, subst (λ z. NoneTwice (names z)) same g.2, ((s.lines + 1, x) ∷ g.3.0, one_insn y1 (subst (λ z. SayLines form (among es g.0 (k + 1)) z ls g.3.0) e d), (u, p, g.3.2)))
 insn_gives pre k form es s l ls t (try_line from to) u f y p w e hyp =
     let x = try_line from to in
     let es1 = labels_by form x (s.lines + 1 + 1) ls es in
@@ -273,13 +273,13 @@ insn_gives pre k form es s l ls t (try_line from to) u f y p w e hyp =
     let g = hyp at_later (subst (NoLabels form) (sym same) none, part_moves s (s.lines + 1) x u p) in
     let d = subst (λ z. SayLines form (behind_insns z) u.lines ls g.0) same g.1 in
     let y1 = renumbered form es (count_of s.block) 0 l x refl y in
-    ([], q ∙ sym (append-nil pre), subst (λ z. AreDistinct (names z)) (sym q) f.2, ((s.lines + 1, x) ∷ g.0, no_insn (of_try y1 refl (subst (λ z. SayLines form (behind_insns es) z ls g.0) e d)), (u, p, g.2)))
+    ([], q ∙ sym (append-nil pre), subst (λ z. NoneTwice (names z)) (sym q) f.2, ((s.lines + 1, x) ∷ g.0, no_insn (of_try y1 refl (subst (λ z. SayLines form (behind_insns es) z ls g.0) e d)), (u, p, g.2)))
 insn_gives pre k form es s l ls t end_code u f y p w e hyp =
     let q : es ≡ pre = end_on form pre es (s.lines + 1) k (count_of s.block) l ls end_code y refl f.1 in
     let none = none_on form pre es (s.lines + 1) k (l ∷ ls) f.1 in
     let g = hyp at_out (end_by form (s.lines + 1 + 1) ls es none, part_moves s (s.lines + 1) end_code u p) in
     let y1 = renumbered form es (count_of s.block) 0 l end_code refl y in
-    ([], q ∙ sym (append-nil pre), subst (λ z. AreDistinct (names z)) (sym q) f.2, ((s.lines + 1, end_code) ∷ g.0, no_insn (code_end y1 (subst (λ z. SayLines form outside z ls g.0) e g.1)), (u, p, g.2)))
+    ([], q ∙ sym (append-nil pre), subst (λ z. NoneTwice (names z)) (sym q) f.2, ((s.lines + 1, end_code) ∷ g.0, no_insn (code_end y1 (subst (λ z. SayLines form outside z ls g.0) e g.1)), (u, p, g.2)))
 insn_gives pre k form es s l ls t x u f y p w e hyp = absurd cc
 
 -- Behind the instructions of a code.

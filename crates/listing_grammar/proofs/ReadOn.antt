@@ -13,7 +13,7 @@ use Rattle.listing_labels.specs.Labels.{Label, is_label, lookup}
 use Rattle.listing_parse.specs.Text.{Reading, is_on, aside, Takes, Reads}
 use Rattle.listing_parse.specs.declared.aside.Aside.TheVariants.{Mark}
 use Rattle.listing_grammar.specs.Codes.{Numbered}
-use Rattle.listing_grammar.specs.Classes.{AreDistinct}
+use Rattle.listing_grammar.specs.Classes.{NoneTwice}
 use Rattle.listing_grammar.specs.Runs.{line_stands, at_line, Steps, Runs}
 use Rattle.listing_grammar.specs.Texts.{SaysLine, opens_code, is_of_try, names, Where, outside, among, behind_insns, SayLines, no_lines, silent, one_line, code_line, label_line, one_insn, no_insn, of_try, code_end}
 use Rattle.listing_grammar.proofs.CodeLaws.{again}
@@ -93,7 +93,7 @@ read_on r u t l ls k h = (u, subst (λ z. Takes r z l u) (sym (append-nil ls)) k
 -- The state stands there, with these labels.
 abbrev Meets : Form → Where → List Label → State → Type 0
 Meets form outside es s = (es ≡ []) × (part_of s.block ≡ out)
-Meets form (among labels ahead k) es s = (es ≡ labels) × (part_of s.block ≡ insns k) × AreDistinct (names labels) × NoLabels form labels × ((pre : List Label) × (labels ≡ pre ++ ahead))
+Meets form (among labels ahead k) es s = (es ≡ labels) × (part_of s.block ≡ insns k) × NoneTwice (names labels) × NoLabels form labels × ((pre : List Label) × (labels ≡ pre ++ ahead))
 Meets form (behind_insns labels) es s = (es ≡ labels) × InCode (part_of s.block) × NoLabels form labels
 
 meets_on : (form : Form) (w : Where) (es : List Label) (s : State) → Meets form w es s → Meets form w es (counted s)
@@ -136,7 +136,7 @@ to_reads form (label_line {labels = labels} {ahead = ahead} {k = k} {n = n} {l =
     let new : Label = record { name = name; line = n + 1; number = k } in
     let pre = m.4.0 in
     let split : labels ≡ pre ++ (new ∷ ahead) = m.4.1 in
-    let found : lookup name es ≡ Some new = ap (lookup name) (m.0 ∙ split) ∙ look_there pre new ahead (subst (λ z. AreDistinct (names z)) split m.2) in
+    let found : lookup name es ≡ Some new = ap (lookup name) (m.0 ∙ split) ∙ look_there pre new ahead (subst (λ z. NoneTwice (names z)) split m.2) in
     let stands : is_insns (stage_of s.block) ≡ true = ap is_insns (insns_is s.block k m.1).0 in
     let a = mark_there form es (counted s) name y.second y.is_label stands (on_line (n + 1) (s.lines + 1) new (lookup name es) found refl (ap (λ v. v + 1) (sym e))) in
     let q : Takes (rd form es s) ls l (rd form es (counted s)) = inr (y.not_skipped, record { words = plain_word name ∷ []; has_words = y.alone; makes = inr (inl (a, refl)) }) in

@@ -42,19 +42,19 @@ at_most_one None = []
 at_most_one (Some x) = x ∷ []
 
 -- Each differs from those behind it.
-abbrev pub AreDistinct : List Descriptor → Type 0
-AreDistinct [] = Unit {0}
-AreDistinct (d ∷ ds) = AllByRecursion (λ e. d ≢ e) ds × AreDistinct ds
+abbrev pub NoneTwice : List Descriptor → Type 0
+NoneTwice [] = Unit {0}
+NoneTwice (d ∷ ds) = AllByRecursion (λ e. d ≢ e) ds × NoneTwice ds
 
 -- ---- members
 
 -- A member as the text has it: a field, of a static one its value too if the text gives one; or a method, and the code
 -- behind it if there is one.
-pub data Entry : Type 0 where
-  static_entry : Given → Entry
-  instance_entry : Member → Entry
-  direct_entry : Method → Option Code → Entry
-  virtual_entry : Method → Option Code → Entry
+pub data ListedMember : Type 0 where
+  static_entry : Given → ListedMember
+  instance_entry : Member → ListedMember
+  direct_entry : Method → Option Code → ListedMember
+  virtual_entry : Method → Option Code → ListedMember
 
 -- The code behind a method, if there is one.
 abbrev pub its_code : Option Code → List Line
@@ -62,7 +62,7 @@ its_code None = []
 its_code (Some c) = code_lines c
 
 -- The lines of a member.
-abbrev pub entry_lines : Entry → List Line
+abbrev pub entry_lines : ListedMember → List Line
 entry_lines (static_entry g) = static_line g.field g.value ∷ []
 entry_lines (instance_entry m) = instance_line m ∷ []
 entry_lines (direct_entry m c) = direct_line m ∷ its_code c
@@ -73,25 +73,28 @@ abbrev pub method_with : Method → Option Code → Method
 method_with m None = m
 method_with m (Some c) = record m { code = Some c }
 
--- Which members an entry is, of each of the four lists.
-abbrev pub static_in : Entry → List Given
+-- The static field that it is, if it is one.
+abbrev pub static_in : ListedMember → List Given
 static_in (static_entry g) = g ∷ []
 static_in _ = []
 
-abbrev pub instance_in : Entry → List Member
+-- The instance field.
+abbrev pub instance_in : ListedMember → List Member
 instance_in (instance_entry m) = m ∷ []
 instance_in _ = []
 
-abbrev pub direct_in : Entry → List Method
+-- The direct method, with the code behind it.
+abbrev pub direct_in : ListedMember → List Method
 direct_in (direct_entry m c) = method_with m c ∷ []
 direct_in _ = []
 
-abbrev pub virtual_in : Entry → List Method
+-- The virtual method, with the code behind it.
+abbrev pub virtual_in : ListedMember → List Method
 virtual_in (virtual_entry m c) = method_with m c ∷ []
 virtual_in _ = []
 
 -- The code that it has.
-abbrev pub code_in : Entry → List Code
+abbrev pub code_in : ListedMember → List Code
 code_in (direct_entry m c) = at_most_one c
 code_in (virtual_entry m c) = at_most_one c
 code_in _ = []
@@ -106,7 +109,7 @@ Rise [] = Unit {0}
 Rise (k ∷ ks) = AllByRecursion (λ q. key_cmp k q ≡ Less) ks × Rise ks
 
 -- What the text gives in any order is held in the order of its keys, none of them twice.
-pub record AreHeld {X : Type 0} (key : X → Key) (given held : List X) : Type 0 where
+pub record AreSorted {X : Type 0} (key : X → Key) (given held : List X) : Type 0 where
   pub same : IsPermutation given held
   pub rise : Rise (map key held)
 
@@ -146,20 +149,20 @@ AreValues [] _ = ⊥
 -- `end class`.
 pub record ClassText (ls : List Line) (c : Class) : Type 0 where
   pub heads : List Line
-  pub entries : List Entry
+  pub entries : List ListedMember
   pub lines : ls ≡ open_class c.ty c.flags ∷ (heads ++ (flat_map entry_lines entries ++ end_class ∷ []))
   pub are_heads : list_all is_head heads ≡ true
   pub superclass : flat_map superclass_in heads ≡ at_most_one c.superclass
   pub interfaces : flat_map interface_in heads ≡ c.interfaces
-  pub none_twice : AreDistinct c.interfaces
+  pub none_twice : NoneTwice c.interfaces
   pub source : flat_map source_in heads ≡ at_most_one c.source
   pub statics : List Given
-  pub statics_held : AreHeld given_key (flat_map static_in entries) statics
+  pub statics_held : AreSorted given_key (flat_map static_in entries) statics
   pub fields : map (λ (g : Given). g.field) statics ≡ c.statics
   pub values : AreValues statics c.values
-  pub instances : AreHeld member_key (flat_map instance_in entries) c.instances
-  pub directs : AreHeld method_key (flat_map direct_in entries) c.directs
-  pub virtuals : AreHeld method_key (flat_map virtual_in entries) c.virtuals
+  pub instances : AreSorted member_key (flat_map instance_in entries) c.instances
+  pub directs : AreSorted method_key (flat_map direct_in entries) c.directs
+  pub virtuals : AreSorted method_key (flat_map virtual_in entries) c.virtuals
   pub targets : AllByRecursion LeadsInside (flat_map code_in entries)
 
 -- The lines are the texts of the classes, one behind the other.

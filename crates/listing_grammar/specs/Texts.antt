@@ -17,7 +17,7 @@ use Rattle.listing_labels.specs.Labels.{Label, is_label}
 use Rattle.listing_parse.specs.Forms.{Shapes, Spells}
 use Rattle.listing_parse.specs.Text.{is_second}
 use Rattle.listing_grammar.specs.Codes.{Numbered, said}
-use Rattle.listing_grammar.specs.Classes.{AreDistinct, ClassesText}
+use Rattle.listing_grammar.specs.Classes.{NoneTwice, ClassesText}
 
 -- ---- one line
 
@@ -87,7 +87,7 @@ pub data SayLines (form : Form) : Where → ℕ → List (List ℕ) → List Num
       → SayLines form outside n (l ∷ ls) ((n + 1, x) ∷ xs)
   -- `code REGISTERS INS OUTS`: all labels of the code are ahead
   code_line : {n : ℕ} {l : List ℕ} {ls : List (List ℕ)} {r i o : ℕ} {labels : List Label} {xs : List Numbered}
-      → SaysLine form [] 0 l (open_code r i o) → AreDistinct (names labels)
+      → SaysLine form [] 0 l (open_code r i o) → NoneTwice (names labels)
       → SayLines form (among labels labels 0) (n + 1) ls xs
       → SayLines form outside n (l ∷ ls) ((n + 1, open_code r i o) ∷ xs)
   -- `:LABEL`: it marks instruction k
