@@ -96,6 +96,40 @@ def overlapping(n):
     return file_of_body(file, lambda file: code([u for t in texts for u in (0x001A, file.string_at[t])] + [0x0E]))
 
 
+def file_of_methods(file, n, body):
+    """The file of one class LA; with n direct methods, of which number k has the body that body(k) answers."""
+    c = new_class(file.type("LA;"), None)
+    c["directs"] = [(file.method("LA;", f"m{k:06}", file.proto("V")), 9, body(k)) for k in range(n)]
+    file.classes.append(c)
+    return file
+
+
+def shared_code(n):
+    """n methods, one code of n units"""
+    one = lambda file: code([0] * (n - 1) + [0x0E])
+    return file_of_methods(File(), n, lambda k: one)
+
+
+class Nested(File):
+    """A file whose codes lie in one another: behind the header of each come 248 nops, then the next one's header, which its units hold too:
+    return-wide v0, nops, const/4 and a nop."""
+
+    def codes(self, begin):
+        methods = [m for m, _, _ in self.classes[0]["directs"]]
+        sizes = [256 * (len(methods) - k) + 0x12 for k in range(len(methods))]
+        data, at = bytearray(), {}
+        for method, size in zip(methods, sizes):
+            at[method] = begin + len(data)
+            data.extend(struct.pack("<HHHHII", 16, 0, 0, 0, 0, size) + bytes(2 * 248))
+        data.extend(bytes(2 * (8 + 0x12 - 1)) + struct.pack("<H", 0x0E))
+        return data, len(methods), at
+
+
+def overlapping_codes(n):
+    """n codes that lie in one another, each of 256 units more than the next one, at most 254"""
+    return file_of_methods(Nested(), n, lambda k: k)
+
+
 # ---- listings
 
 def listing_of_body(lines, registers=1):
@@ -196,6 +230,7 @@ def chain(n):
 
 SHAPES = [
     (payloads, 20000), (members, 32000), (calls, 32000), (handlers, 2000), (collisions, 10000), (prototypes, 500), (overlapping, 8000),
+    (shared_code, 2000), (overlapping_codes, 120),
     (nulls, 2000000), (nops, 500000), (deep, 500000), (braces, 500000), (blanks, 1000000), (comments, 500000), (tries, 32767),
     (targets, 32767), (interfaces, 32000), (labels, 40000), (chain, 30000),
 ]

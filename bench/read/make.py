@@ -80,6 +80,17 @@ class File:
             data.extend(uleb(len(s)) + s.encode("ascii") + b"\0")
         return data, places
 
+    def codes(self, begin):
+        """The code_items from the place `begin` on, how many, and where that of each method begins: methods with one body share its item."""
+        data, at, made = bytearray(), {}, {}
+        for method, _, body in (m for c in self.classes for m in c["directs"] + c["virtuals"] if m[2] is not None):
+            if body not in made:
+                data.extend(bytes(-(begin + len(data)) % 4))
+                made[body] = begin + len(data)
+                data.extend(body(self))
+            at[method] = made[body]
+        return data, len(made), at
+
     def write(self, path):
         rows = [(1, 4, len(self.string_at)), (2, 4, len(self.type_at)), (3, 12, len(self.proto_at)), (4, 8, len(self.field_at)),
                 (5, 8, len(self.method_at)), (6, 32, len(self.classes))]
@@ -105,14 +116,10 @@ class File:
             align(4)
             list_at[types] = begin + len(data)
             data.extend(struct.pack("<I", len(types)) + b"".join(struct.pack("<H", self.type_at[t]) for t in types))
-        bodies = [m for c in self.classes for m in c["directs"] + c["virtuals"] if m[2] is not None]
         align(4)
-        section(0x2001, len(bodies))
-        code_at = {}
-        for method, _, body in bodies:
-            align(4)
-            code_at[method] = begin + len(data)
-            data.extend(body(self))
+        codes, count, code_at = self.codes(begin + len(data))
+        section(0x2001, count)
+        data.extend(codes)
         section(0x2002, len(self.string_at))
         texts, text_at = self.texts(begin + len(data))
         data.extend(texts)

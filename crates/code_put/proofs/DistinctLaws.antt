@@ -95,7 +95,7 @@ no-catches : (k : ℕ) → catches_in (take k []) ≡ 0
 no-catches zero = refl
 no-catches (suc k) = refl
 
-catches-more : (ts : List Try) (i : ℕ) → catches_in (take (i + 1) ts) ≡ catches_in (take i ts) + length (try_at ts i).catches
+pub catches-more : (ts : List Try) (i : ℕ) → catches_in (take (i + 1) ts) ≡ catches_in (take i ts) + length (try_at ts i).catches
 catches-more [] i = omega (arith, no-catches (i + 1), no-catches i)
 catches-more (t ∷ ts) zero = omega (arith, length-append t.catches (flat_map (λ (u : Try). u.catches) (take 0 ts)))
 catches-more (t ∷ ts) (suc i) =

@@ -45,13 +45,13 @@ module _ (N : ℕ → Name → Type 0) (ss : List ℕ) where
       let a = then-appends (TypeBy (Shortest Spells) (Shortest SpellsSigned) N ss) (λ _. PlaceAt ss) old mid new c.ty c.at t q in
       record { bytes = a.bytes; joined = a.joined; spelled = a.spelled }
 
-  all-none : (z : ℤ) (old : List ℕ) → (HasAll z → ⊥) → Appends (AllBy (Shortest Spells) (Shortest SpellsSigned) N ss z) old old None
+  pub all-none : (z : ℤ) (old : List ℕ) → (HasAll z → ⊥) → Appends (AllBy (Shortest Spells) (Shortest SpellsSigned) N ss z) old old None
   all-none z old lacks = record { bytes = []; joined = sym (append-nil old); spelled = (lacks, refl) }
 
-  all-some : (z : ℤ) (old new : List ℕ) (n : ℕ) → HasAll z → Appends (PlaceAt ss) old new n → Appends (AllBy (Shortest Spells) (Shortest SpellsSigned) N ss z) old new (Some n)
+  pub all-some : (z : ℤ) (old new : List ℕ) (n : ℕ) → HasAll z → Appends (PlaceAt ss) old new n → Appends (AllBy (Shortest Spells) (Shortest SpellsSigned) N ss z) old new (Some n)
   all-some z old new n has p = record { bytes = p.bytes; joined = p.joined; spelled = (has, p.spelled) }
 
-  handler-appends : (old a b new : List ℕ) (z : ℤ) (h : Handler) → catches_of z ≡ length h.catches → Appends (Shortest SpellsSigned) old a z → Appends (Each (PacksCatch N ss)) a b h.catches
+  pub handler-appends : (old a b new : List ℕ) (z : ℤ) (h : Handler) → catches_of z ≡ length h.catches → Appends (Shortest SpellsSigned) old a z → Appends (Each (PacksCatch N ss)) a b h.catches
       → Appends (AllBy (Shortest Spells) (Shortest SpellsSigned) N ss z) b new h.all → Appends (PacksHandler N ss) old new h
   handler-appends old a b new z h e p q r =
       let m : Appends (Many (PacksCatch N ss) (catches_of z)) a b h.catches = record { bytes = q.bytes; joined = q.joined; spelled = (sym e, q.spelled) } in

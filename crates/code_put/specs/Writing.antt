@@ -67,6 +67,13 @@ pub record IsDistinct (N : ℕ → Name → Type 0) (ss : List ℕ) (ts : List T
   pub order : AreByFirstUse handlers ts
   pub early : AllByRecursion (λ i. i < n) order.firsts
 
+-- So with all of the tries, of which there are some, and not too many.
+pub record IsDistinctOf (N : ℕ → Name → Type 0) (ss : List ℕ) (ts : List Try) (keys : List (List ℕ)) (numbers : List ℕ) : Type 0 where
+  pub some : 0 < length ts
+  pub few : length ts ≤ 65535
+  pub short : 26 + 18 * length ts + 10 * catches_in ts ≤ 4294967295
+  pub distinct : IsDistinct N ss ts (length ts) keys numbers
+
 -- where each of these stands, the first at a place
 abbrev pub places_of : ℕ → List (List ℕ) → List ℕ
 places_of at [] = []

@@ -1,18 +1,19 @@
 //! Writing handlers ("Dalvik Executable format", "encoded_catch_handler_list", "encoded_catch_handler").
 
-ghost use Rattle.std.specs.Prelude.{◌≡◌, ◌≤◌, ◌<◌, ◌+◌, ◌*◌, ℕ, length, map, OnOk, IfOk, IsOkUnless, IfSome, IfNone, ◌≢◌, [], slice_index};
+ghost use Rattle.std.specs.Prelude.{◌≡◌, ◌≤◌, ◌<◌, ◌+◌, ◌*◌, ℕ, List, length, map, OnOk, IfOk, IsOkUnless, IfSome, IfNone, ◌≢◌, [], slice_index};
 ghost use Rattle.std.specs.List.{AllByRecursion, flat_map};
 ghost use Rattle.base_bytes.specs.Fault.{memory};
 ghost use Rattle.base_bytes.specs.Grammar.{Appends, Each};
 ghost use Rattle.program_types.specs.Content.{OfDesc};
+ghost use Rattle.program_types.specs.Content as content;
 ghost use Rattle.program_types.specs.View.{desc, catch, try};
 ghost use Rattle.program_types.specs.Formed.{TryFormed};
 ghost use Rattle.program_types.specs.Mentions.{names_of_try};
-ghost use Rattle.tables_names.specs.Closure.{NameRanks};
+ghost use Rattle.tables_names.specs.Closure.{Five, NameRanks};
 ghost use Rattle.code_insns.specs.Places.{Rises};
 ghost use Rattle.code_read.specs.Tries.{handler_of};
 ghost use Rattle.code_put.specs.Packs.{PlaceAt, PacksCatch, PacksHandler, PacksHandlersOf};
-ghost use Rattle.code_put.specs.Writing.{Numbers, IsDistinct, IsListed, joined_keys};
+ghost use Rattle.code_put.specs.Writing.{Numbers, IsDistinct, IsDistinctOf, IsListed, joined_keys};
 ghost use Rattle.code_put.specs.Fits.{HasIndexBelow, catches_in};
 
 use dex_base::{Fault, put_sleb, put_uleb};
@@ -114,7 +115,7 @@ fn are_bytes(bytes: &[u8])
 }
 
 /// The number of these bytes among those that are held, where they come last if they weren't held.
-fn number_of(handlers: &mut IndexSet<Vec<u8>>, bytes: Vec<u8>) -> Result<u32, Fault>
+pub fn number_of(handlers: &mut IndexSet<Vec<u8>>, bytes: Vec<u8>) -> Result<u32, Fault>
     requires few { length handlers.old.keys < 65536 }
     ensures ok { IfOk result (λ n. Numbers (map (λ v. v.items) handlers.old.keys) (map (λ v. v.items) handlers.new.keys) bytes.items n) }
     ensures memory { IsOkUnless result memory }
@@ -126,9 +127,9 @@ fn number_of(handlers: &mut IndexSet<Vec<u8>>, bytes: Vec<u8>) -> Result<u32, Fa
 /// The distinct handlers of tries, in the order of their first use, each as its bytes, and of each try the number of its
 /// handler.
 #[derive(Drop)]
-struct Distinct {
-    handlers: IndexSet<Vec<u8>>,
-    numbers: Vec<u32>,
+pub struct Distinct {
+    pub handlers: IndexSet<Vec<u8>>,
+    pub numbers: Vec<u32>,
 }
 
 /// The handlers of the tries, each once.
@@ -193,6 +194,25 @@ pub struct Laid {
     pub offsets: Vec<u32>,
 }
 
+/// The list of the handlers of tries, of which there are some, and where in it that of each try begins.
+pub fn lay_distinct(alloc: Global, distinct: &Distinct) -> Result<Laid, Fault>
+    requires { (s : Five) × (ss : List ℕ) × (ts : List content.Try) × IsDistinctOf (NameRanks s) ss ts (map (λ v. v.items) distinct.now.handlers.keys) distinct.now.numbers.items }
+    ensures ok { IfOk result (λ l. (s : Five) (ss : List ℕ) (ts : List content.Try) → IsDistinctOf (NameRanks s) ss ts (map (λ v. v.items) distinct.now.handlers.keys) distinct.now.numbers.items
+        → PacksHandlersOf (NameRanks s) ss ts l.bytes.items l.offsets.items) }
+    ensures memory { IsOkUnless result memory }
+{
+    let list = list_of(alloc, &distinct.handlers)?;
+    are_bytes(&list.bytes);
+    let mut offsets = Vec::with_capacity(alloc, distinct.numbers.len())?;
+    for number in &distinct.numbers {
+        offsets.push(list.places[*number as usize])?;
+    }
+    Ok(Laid {
+        bytes: list.bytes,
+        offsets,
+    })
+}
+
 /// The list of handlers of the tries: none without tries.
 pub fn lay_handlers(
     alloc: Global,
@@ -209,21 +229,12 @@ pub fn lay_handlers(
     ensures ok { IfOk result (λ l. PacksHandlersOf (NameRanks ranks.now) starts.now (map try tries.now) l.bytes.items l.offsets.items) }
     ensures memory { IsOkUnless result memory }
 {
-    let mut offsets = Vec::with_capacity(alloc, tries.len())?;
     if tries.is_empty() {
         return Ok(Laid {
             bytes: Vec::new(alloc),
-            offsets,
+            offsets: Vec::new(alloc),
         });
     }
     let distinct = distinct_of(alloc, ranks, starts, tries)?;
-    let list = list_of(alloc, &distinct.handlers)?;
-    are_bytes(&list.bytes);
-    for number in &distinct.numbers {
-        offsets.push(list.places[*number as usize])?;
-    }
-    Ok(Laid {
-        bytes: list.bytes,
-        offsets,
-    })
+    lay_distinct(alloc, &distinct)
 }

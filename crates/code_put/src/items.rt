@@ -13,7 +13,7 @@ use program_types::{Code, Try};
 
 /// Appends a number of two bytes.
 #[tactic(auto, unfolding(base_bytes::specs::Fields::u16_bytes))]
-pub(crate) fn put_u16(out: &mut Vec<u8>, n: u16) -> Result<(), Fault>
+pub fn put_u16(out: &mut Vec<u8>, n: u16) -> Result<(), Fault>
     ensures ok { OnOk result (out.new.items ≡ out.old.items ++ u16_bytes n) }
     ensures memory { IsOkUnless result memory }
 {
@@ -23,7 +23,7 @@ pub(crate) fn put_u16(out: &mut Vec<u8>, n: u16) -> Result<(), Fault>
 
 /// Appends a number of four bytes.
 #[tactic(auto, unfolding(base_bytes::specs::Fields::u32_bytes))]
-pub(crate) fn put_u32(out: &mut Vec<u8>, n: u32) -> Result<(), Fault>
+pub fn put_u32(out: &mut Vec<u8>, n: u32) -> Result<(), Fault>
     ensures ok { OnOk result (out.new.items ≡ out.old.items ++ u32_bytes n) }
     ensures memory { IsOkUnless result memory }
 {
@@ -46,7 +46,7 @@ pub(crate) fn put_head(out: &mut Vec<u8>, code: &Code<'_>, size: u32) -> Result<
 }
 
 /// Appends the padding unit behind an odd number of units, if there are tries.
-pub(crate) fn put_padding(out: &mut Vec<u8>, size: u32, tries: usize) -> Result<(), Fault>
+pub fn put_padding(out: &mut Vec<u8>, size: u32, tries: usize) -> Result<(), Fault>
     ensures ok { OnOk result (out.new.items ≡ out.old.items ++ padding size tries) }
     ensures memory { IsOkUnless result memory }
 {

@@ -23,7 +23,8 @@ mod items;
 // All of it.
 mod writing;
 
-pub use handlers::{Laid, lay_handlers};
+pub use handlers::{Distinct, Laid, lay_distinct, lay_handlers, number_of};
+pub use items::{put_padding, put_u16, put_u32};
 pub use origins::origins_of;
 pub use sizes::{Starts, addresses, starts_of, units_of};
 pub use writing::{make_item, put_code};

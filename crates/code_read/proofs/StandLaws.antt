@@ -56,7 +56,7 @@ module _ (N : ℕ → Name → Type 0) (b rest : List ℕ) (s : Section) (off : 
   code_stands c low high even t =
       stands_at (SpellsBody N) b rest 0x2001 4 s off is same c (length t.1.front) low high even (Begins-from_takes (SpellsBody N) rest c t.0 t.1).0
 
-  at_takes : (c : Code) → BodyStands N b off c → (after : List ℕ) × Takes (SpellsBody N) rest c after
+  pub at_takes : (c : Code) → BodyStands N b off c → (after : List ℕ) × Takes (SpellsBody N) rest c after
   unfolding slice
   at_takes c a =
       let e = (is.only a.begin a.end a.section).1 in

@@ -26,7 +26,7 @@ pub(crate) struct Caught<'a> {
 }
 
 /// A number, and what follows it.
-pub(crate) fn read_number(bytes: &[u8]) -> Option<(u32, &[u8])>
+pub fn read_number(bytes: &[u8]) -> Option<(u32, &[u8])>
     ensures some { IfSome result (λ x. Takes Spells bytes.now x.0 x.1.now) }
     ensures none { IfNone result (NoneBegins Spells bytes.now) }
 {
@@ -38,7 +38,7 @@ pub(crate) fn read_number(bytes: &[u8]) -> Option<(u32, &[u8])>
 }
 
 /// A signed number, and what follows it.
-fn read_signed(bytes: &[u8]) -> Option<(i32, &[u8])>
+pub fn read_signed(bytes: &[u8]) -> Option<(i32, &[u8])>
     ensures some { IfSome result (λ x. Takes SpellsSigned bytes.now x.0 x.1.now) }
     ensures none { IfNone result (NoneBegins SpellsSigned bytes.now) }
 {

@@ -8,7 +8,7 @@ use dex_base::{u16_at, u32_at};
 
 /// The fixed parts of an item, and the bytes behind them.
 #[derive(Clone, Copy)]
-pub(crate) struct Item<'b> {
+pub struct Item<'b> {
     pub registers: u16,
     pub ins: u16,
     pub outs: u16,
@@ -22,7 +22,7 @@ pub(crate) struct Item<'b> {
 
 /// The fixed parts of the item at the front of the bytes. None where they aren't all there.
 #[tactic(auto, unfolding(crate::specs::Item::tries_begin))]
-pub(crate) fn item_of<'b>(bytes: &'b [u8]) -> Option<Item<'b>>
+pub fn item_of<'b>(bytes: &'b [u8]) -> Option<Item<'b>>
     ensures some { IfSome result (λ i. IsItem bytes.now i) }
     ensures low { IfSome result (λ i. i.items_at < 2 ^ 35) }
     ensures none { IfNone result (¬ IsWhole bytes.now) }

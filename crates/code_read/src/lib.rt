@@ -22,6 +22,8 @@ mod reading;
 mod laws;
 
 pub use checking::check_body;
+pub use handlers::{read_number, read_signed};
+pub use item::{Item, item_of};
 pub use laws::{
     broken_code_is_none, code_carries_over, code_is_one, code_is_prefix_unique, one_fault,
 };

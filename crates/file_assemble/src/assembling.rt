@@ -79,19 +79,21 @@ fn counts_of(ranks: &Ranks<'_>, program: &Program<'_>) -> Rows
     }
 }
 
-// Room for header and tables.
-fn space(alloc: Global, end: u32) -> Result<Vec<u8>, Fault>
+/// So many zeros: room for the header and the tables of a file, which `finish` of file_layout fills.
+///
+/// The only refusal is want of memory.
+///
+/// ```
+/// let mut out = space(alloc, counts.tables_end())?; // at least the 112 bytes of the header
+/// ```
+pub fn space(alloc: Global, end: u32) -> Result<Vec<u8>, Fault>
     ensures ok { IfOk result (λ out. out.items ≡ zeros end) }
     ensures memory { IsOkUnless result memory }
 {
-    let mut out = Vec::with_capacity(alloc, end as usize)?;
-    for done in 0..end {
-        out.push(0)?;
-    }
-    Ok(out)
+    Ok(vec![in alloc; 0u8; end as usize]?)
 }
 
-// The data, laid behind header and tables: the plan, and where the items of each part stand.
+/// The data, laid behind header and tables: the plan, and where the items of each part stand.
 #[derive(Drop)]
 pub struct Data {
     pub plan: Plan,
@@ -102,15 +104,23 @@ pub struct Data {
     pub datas: Vec<u32>,
 }
 
-// A part that has so many items and lies from one byte to another.
-fn part(items: u32, begin: u32, end: u32) -> Part
+/// A part that has so many items and lies from one byte to another.
+///
+/// ```
+/// let lists = part(placed.items, begin, out.len() as u32);
+/// ```
+pub fn part(items: u32, begin: u32, end: u32) -> Part
     ensures { result ≡ record { items = items; begin = begin; end = end } }
 {
     Part { items, begin, end }
 }
 
-// The part of so many code items, which stand behind the type lists: it begins at the first of them, behind the bytes that align it.
-fn codes_part(items: u32, lists_end: u32, end: u32) -> Part
+/// The part of so many code items, which stand behind the type lists: it begins at the first of them, behind the bytes that align it.
+///
+/// ```
+/// let codes = codes_part(placed.items, lists_end, out.len() as u32); // from 4, where the lists end at 2
+/// ```
+pub fn codes_part(items: u32, lists_end: u32, end: u32) -> Part
     requires { lists_end + 3 < 2 ^ 32 }
     ensures { result ≡ record { items = items; begin = lists_end + gap 4 lists_end; end = end } }
 {

@@ -11,5 +11,5 @@ mod assembling;
 // What holds of it.
 mod laws;
 
-pub use assembling::assemble;
+pub use assembling::{Data, assemble, codes_part, part, space};
 pub use laws::assembled_is_one;

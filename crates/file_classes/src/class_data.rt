@@ -12,14 +12,14 @@ use std::alloc::Global;
 
 /// A field: the difference of its index to that of the entry before, and its flags.
 #[derive(Clone, Copy)]
-pub(crate) struct FieldEntry {
+pub struct FieldEntry {
     pub step: u32,
     pub flags: u32,
 }
 
 /// A method: the difference, its flags, and the offset of its code.
 #[derive(Clone, Copy)]
-pub(crate) struct MethodEntry {
+pub struct MethodEntry {
     pub step: u32,
     pub flags: u32,
     pub code: u32,
@@ -36,7 +36,7 @@ pub(crate) struct Counts {
 
 /// The four lists of a class.
 #[derive(Drop)]
-pub(crate) struct Entries {
+pub struct Entries {
     pub statics: Vec<FieldEntry>,
     pub instances: Vec<FieldEntry>,
     pub directs: Vec<MethodEntry>,
@@ -183,7 +183,7 @@ fn take_entries(alloc: Global, bytes: &[u8]) -> Result<Option<Entries>, Fault>
 }
 
 /// The class data at an offset, none of any at 0. None where none stands there.
-pub(crate) fn entries_at(
+pub fn entries_at(
     alloc: Global,
     sections: &Sections<'_>,
     off: u32,

@@ -30,7 +30,7 @@ pub(crate) struct Row<'a> {
 }
 
 /// How many rows there are.
-pub(crate) fn class_count(sections: &Sections<'_>) -> u32
+pub fn class_count(sections: &Sections<'_>) -> u32
     ensures { result ≡ size_of sections.now section.class_defs }
 {
     sections.table(kind::CLASS_DEF_ITEM).0
@@ -46,7 +46,7 @@ pub(crate) fn class_place(sections: &Sections<'_>, i: u32) -> u64
 
 /// Word j of row i.
 #[tactic(auto, unfolding(crate::specs::ClassRows::class_word))]
-pub(crate) fn class_word(sections: &Sections<'_>, i: u32, j: u32) -> u32
+pub fn class_word(sections: &Sections<'_>, i: u32, j: u32) -> u32
     requires row { i < size_of sections.now section.class_defs }
     requires word { j < 8 }
     ensures { result ≡ class_word sections.now i j }

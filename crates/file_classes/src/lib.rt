@@ -29,6 +29,8 @@ mod statics;
 
 pub use checking::check_codes;
 pub use checking_statics::check_statics;
+pub use class_data::{Entries, FieldEntry, MethodEntry, entries_at};
+pub use class_row::{class_count, class_word};
 pub use heads::{Head, read_heads};
 pub use laws::{
     class_is_one, classes_are_clear, rows_break_one_rule, rows_that_hold_keep_the_rules,

@@ -70,7 +70,7 @@ module _ (b : List ℕ) (are : AreBytes b) (framed : IsFramed b) (names : Five) 
       let x = run_entry (IsMethod b class) es ms run k m at in
       code_fits x.0.1.1 m.code (codes k x.0 m x.1 at)))
 
-  class_fits : (i : ℕ) (c : Class) → SpellsClass b i c → AllByRecursion Fits (codes_of c)
+  pub class_fits : (i : ℕ) (c : Class) → SpellsClass b i c → AllByRecursion Fits (codes_of c)
   class_fits i c s =
       both_all Fits (codes_in c.directs) (codes_in c.virtuals)
       (methods_fit c.ty s.entries.directs c.directs s.head.members.directs s.directs)

@@ -23,3 +23,4 @@ mod laws;
 pub use file_size::is_too_big;
 pub use laws::{limits_are_decided, one_limit, wide_is_by_parts};
 pub use limits::check_limits;
+pub use sums::{plus, times};

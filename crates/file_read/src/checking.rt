@@ -7,7 +7,7 @@ ghost use Rattle.file_read.specs.Refused.{IsRefused};
 
 use bumpalo::Bump;
 use dex_base::Fault;
-use dex_container::open;
+use dex_container::{Sections, open};
 use file_classes::{check_codes, check_statics, read_heads};
 use std::alloc::Global;
 use tables_rows::Tables;
@@ -30,10 +30,31 @@ pub fn check(alloc: Global, bytes: &[u8]) -> Result<(), Fault>
     ensures refused { IfErr result (λ e. e ≢ memory → IsRefused bytes.now e) }
 {
     let sections = open(bytes)?;
+    check_framed(alloc, &sections)
+}
+
+/// The same of a file that was opened.
+///
+/// ```
+/// use dex_container::open;
+/// use dex_file::write;
+/// use dex_program::Program;
+/// use file_read::check_framed;
+///
+/// let file = write(alloc, &Program { classes: &[] })?;
+/// assert!(rt; check_framed(alloc, &open(&file)?).is_ok());
+/// ```
+pub fn check_framed(alloc: Global, sections: &Sections<'_>) -> Result<(), Fault>
+    ensures means { OnOk result ((p : Program) × Means sections.now p) }
+    ensures only { (p : Program) → Means sections.now p → IfErr result (λ e. e ≡ memory) }
+    ensures refused { IfErr result (λ e. e ≢ memory → IsRefused sections.now e) }
+{
+    // Only for the proof: what holds of each value of its type.
+    let _file = sections.bytes();
     let arena = Bump::new(alloc);
-    let tables = Tables::read(alloc, &arena, &sections)?;
-    let heads = read_heads(alloc, &arena, &arena, &sections, &tables)?;
-    check_statics(alloc, &sections, &tables, heads)?;
-    check_codes(alloc, &sections, &tables, heads)?;
+    let tables = Tables::read(alloc, &arena, sections)?;
+    let heads = read_heads(alloc, &arena, &arena, sections, &tables)?;
+    check_statics(alloc, sections, &tables, heads)?;
+    check_codes(alloc, sections, &tables, heads)?;
     Ok(())
 }

@@ -10,6 +10,6 @@ mod checking;
 mod laws;
 mod reading;
 
-pub use checking::check;
+pub use checking::{check, check_framed};
 pub use laws::{meaning_is_clear, one_program, one_refusal, refusals_are_first};
 pub use reading::read;

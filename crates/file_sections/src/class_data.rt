@@ -29,8 +29,10 @@ use program_types::{Class, Desc, Member, Method, Program};
 use std::alloc::Global;
 use tables_names::Ranks;
 
-// Appends a field's entry: how far its index is from that of the entry before, and its flags.
-fn put_field(out: &mut Vec<u8>, step: u32, flags: u32) -> Result<(), Fault>
+/// Appends a field's entry: how far its index is from that of the entry before, and its flags.
+///
+/// The only refusal is want of memory.
+pub fn put_field(out: &mut Vec<u8>, step: u32, flags: u32) -> Result<(), Fault>
     ensures ok { OnOk result (Appends (SpellsField (Shortest Spells)) out.old.items out.new.items (step, flags)) }
     ensures memory { IsOkUnless result memory }
 {
@@ -38,8 +40,10 @@ fn put_field(out: &mut Vec<u8>, step: u32, flags: u32) -> Result<(), Fault>
     put_uleb(out, flags)
 }
 
-// Appends a method's entry: the same, and the place of its body.
-fn put_method(out: &mut Vec<u8>, step: u32, flags: u32, code: u32) -> Result<(), Fault>
+/// Appends a method's entry: the same, and the place of its body.
+///
+/// The only refusal is want of memory.
+pub fn put_method(out: &mut Vec<u8>, step: u32, flags: u32, code: u32) -> Result<(), Fault>
     ensures ok { OnOk result (Appends (SpellsMethod (Shortest Spells)) out.old.items out.new.items (step, (flags, code))) }
     ensures memory { IsOkUnless result memory }
 {

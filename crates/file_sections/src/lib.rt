@@ -24,7 +24,7 @@ mod type_lists;
 mod laws;
 
 pub use arrays::put_arrays;
-pub use class_data::put_datas;
+pub use class_data::{put_datas, put_field, put_method};
 pub use codes::put_codes;
 pub use laws::lists_and_data_are_one;
 pub use placed::Placed;

@@ -4,17 +4,17 @@ ghost use Rattle.std.specs.Prelude.{◌≡◌, ◌≢◌, ◌≤◌, ℕ, List, 
 ghost use Rattle.base_bytes.specs.Fault.{memory};
 ghost use Rattle.base_bytes.specs.Fields.{AreBytes};
 ghost use Rattle.file_read.specs.Means.{Means};
-ghost use Rattle.file_read.specs.Refused.{IsRefused};
 ghost use Rattle.file_limits.specs.Limits.{Fits, IsLowestLimit};
 ghost use Rattle.program_types.specs.View as view;
 ghost use Rattle.program_rules.specs.WellFormed.{WellFormed};
 ghost use Rattle.file_write.specs.Written.{IsFileOf, IsStripped, IsStripRefused};
 
 use base_bytes::are_bytes;
-use bumpalo::Bump;
 use dex_base::Fault;
+use dex_container::open;
 use file_assemble::assemble;
-use file_read::read;
+use file_read::check_framed;
+use file_strip::strip_framed;
 use program_types::Program;
 use std::alloc::Global;
 
@@ -46,21 +46,11 @@ pub fn write(alloc: Global, program: &Program<'_>) -> Result<Vec<u8>, Fault>
     Ok(assemble(alloc, program)?)
 }
 
-// The program of a file, which is well formed.
-fn read_formed<'a>(alloc: Global, arena: &'a Bump, bytes: &[u8]) -> Result<Program<'a>, Fault>
-    ensures means { IfOk result (λ p. Means bytes.now (view.program p)) }
-    ensures formed { IfOk result (λ p. WellFormed (view.program p)) }
-    ensures only { (p : _) → Means bytes.now p → IfErr result (λ e. e ≡ memory) }
-    ensures refused { IfErr result (λ e. e ≢ memory → IsRefused bytes.now e) }
-{
-    are_bytes(bytes);
-    read(alloc, arena, bytes)
-}
-
 /// The file of what a file means: without names that nothing needs, debugging information, annotations and slack.
 ///
-/// Its five tables of names are no longer than those of the file that came in. Refused are bytes that `read` refuses (1 to 73), and
-/// programs whose handlers are too far in the order of first use (89) or that are too big (90), as `write` refuses them.
+/// It goes by the rows of the file that came in: no name is read, and no program held. Its five tables of names are no longer than
+/// those of that file. Refused are bytes that `read` refuses (1 to 73), and programs whose handlers are too far in the order of first
+/// use (89) or that are too big (90), as `write` refuses them.
 ///
 /// ```
 /// use dex_file::{strip, write};
@@ -75,7 +65,7 @@ pub fn strip(alloc: Global, bytes: &[u8]) -> Result<Vec<u8>, Fault>
     ensures refused { IfErr result (λ e. e ≢ memory → IsStripRefused bytes.now e) }
 {
     are_bytes(bytes);
-    let arena = Bump::new(alloc);
-    let program = read_formed(alloc, &arena, bytes)?;
-    write(alloc, &program)
+    let sections = open(bytes)?;
+    check_framed(alloc, &sections)?;
+    Ok(strip_framed(alloc, &sections)?)
 }

@@ -1,5 +1,5 @@
 -- What is kept by its offset.
-use Rattle.std.proofs.Common.{◌≡◌, ℕ, Bool, true, false, cond, eqb, nat_eq, [], ap, sym, subst, ◌∙◌, Option, Some, refl}
+use Rattle.std.proofs.Common.{◌≡◌, ℕ, Bool, true, false, cond, eqb, nat_eq, ap, sym, subst, ◌∙◌, Some, refl}
 use Rattle.std.proofs.lemmas.Bool.{eqb-true}
 use Rattle.std.proofs.lemmas.Option.{none-some}
 use Rattle.std.specs.Map.{lookup}

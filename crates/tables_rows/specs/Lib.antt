@@ -6,3 +6,4 @@ pub mod TableFaults
 pub mod Reading
 pub mod Halves
 pub mod Kept
+pub mod Known

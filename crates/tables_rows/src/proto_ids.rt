@@ -9,6 +9,7 @@ ghost use Rattle.program_types.specs.View.{str, desc, proto};
 ghost use Rattle.program_types.specs.Shorty.{shorty};
 ghost use Rattle.tables_rows.specs.Halves.{halves};
 ghost use Rattle.tables_rows.specs.Kept.{AreKept};
+ghost use Rattle.tables_rows.specs.Known.{IsKnown};
 ghost use Rattle.tables_rows.specs.Names.{AreRows};
 ghost use Rattle.dex_container.specs.Where.{IsSectionOf};
 ghost use Rattle.dex_container.specs.Section as section;
@@ -27,6 +28,15 @@ use indexmap::IndexMap;
 use program_types::{Desc, Proto, Str, is_void, letter};
 use std::alloc::Global;
 use std::cmp::Ordering;
+
+// What is kept of a list of parameters: its types, and the letter of the return type and the row of the shorty of a row that has them.
+// Another row with these three has the right shorty too, so that its letters needn't be compared with the types.
+#[derive(Clone, Copy)]
+struct Known<'a> {
+    params: &'a [Desc<'a>],
+    letter: u16,
+    shorty: u32,
+}
 
 /// The protos of all rows, each above the row before by the indices of return type and parameters. A proto holds its
 /// types' slices.
@@ -62,17 +72,17 @@ fn next_proto<'a>(
     lists: Section,
     strings: &[Str<'a>],
     types: &[Desc<'a>],
-    kept: &mut IndexMap<u32, &'a [Desc<'a>]>,
+    kept: &mut IndexMap<u32, Known<'a>>,
     i: u32,
 ) -> Result<Proto<'a>, Fault>
     requires framed { IsFramed sections.now }
     requires section { IsSectionOf sections.now 0x1001 lists }
     requires strings { AreRows StringStands sections.now section.string_ids (map str strings.now) }
     requires types { AreRows TypeStands sections.now section.type_ids (map desc types.now) }
-    requires kept { AreKept (λ off params. ParametersAt sections.now off (map desc params.now)) kept.old }
+    requires kept { AreKept (IsKnown sections.now) kept.old }
     requires row { i < size_of sections.now section.proto_ids }
     ensures ok { IfOk result (λ p. ProtoStands sections.now i (proto p)) }
-    ensures kept { OnOk result (AreKept (λ off params. ParametersAt sections.now off (map desc params.now)) kept.new) }
+    ensures kept { OnOk result (AreKept (IsKnown sections.now) kept.new) }
     ensures holds { IfOk result (λ _. ProtoHolds sections.now i) }
     ensures err { IfErr result (λ e. e ≢ memory → BreaksAt ProtoBreaks sections.now section.proto_ids i e) }
 {
@@ -91,33 +101,47 @@ fn read_proto<'a>(
     lists: Section,
     strings: &[Str<'a>],
     types: &[Desc<'a>],
-    kept: &mut IndexMap<u32, &'a [Desc<'a>]>,
+    kept: &mut IndexMap<u32, Known<'a>>,
     i: u32,
 ) -> Result<Proto<'a>, Fault>
     requires framed { IsFramed sections.now }
     requires section { IsSectionOf sections.now 0x1001 lists }
     requires strings { AreRows StringStands sections.now section.string_ids (map str strings.now) }
     requires types { AreRows TypeStands sections.now section.type_ids (map desc types.now) }
-    requires kept { AreKept (λ off params. ParametersAt sections.now off (map desc params.now)) kept.old }
+    requires kept { AreKept (IsKnown sections.now) kept.old }
     requires row { i < size_of sections.now section.proto_ids }
     ensures ok { IfOk result (λ p. ProtoStands sections.now i (proto p)) }
-    ensures kept { OnOk result (AreKept (λ off params. ParametersAt sections.now off (map desc params.now)) kept.new) }
+    ensures kept { OnOk result (AreKept (IsKnown sections.now) kept.new) }
     ensures err { IfErr result (λ e. e ≢ memory → BreaksAt ProtoBreaks sections.now section.proto_ids i e) }
 {
     let row = proto_row(sections, i);
-    let Some(text) = string_at(sections, strings, proto_shorty(sections, i)) else {
+    let shorty = proto_shorty(sections, i);
+    let Some(text) = string_at(sections, strings, shorty) else {
         return Err(Fault::at(fault::PROTO_INDEX, row));
     };
     let Some(ret) = type_at(sections, types, proto_return(sections, i)) else {
         return Err(Fault::at(fault::PROTO_INDEX, row));
     };
     let off = proto_parameters(sections, i);
-    let Some(params) = parameters_at(arena, sections, lists, types, kept, off)? else {
+    let Some(known) = parameters_at(arena, sections, lists, types, kept, off)? else {
         return Err(Fault::at(fault::PARAMETER_LIST, row));
     };
+    let params = known.params;
+    let first = letter(ret);
+    if known.letter == first && known.shorty == shorty {
+        return Ok(Proto { ret, params });
+    }
     if !is_shorty(text, ret, params) {
         return Err(Fault::at(fault::SHORTY, row));
     }
+    kept.insert(
+        off,
+        Known {
+            params,
+            letter: first,
+            shorty,
+        },
+    )?;
     Ok(Proto { ret, params })
 }
 
@@ -147,32 +171,36 @@ fn read_parameters<'a>(
     Ok(Some(params))
 }
 
-// The same: the list that is kept of the offset, or the one that is read now, and kept.
+// The same, with what is known of it: what is kept of the offset, or the list that is read now.
 fn parameters_at<'a>(
     arena: &'a Bump,
     sections: &Sections<'_>,
     lists: Section,
     types: &[Desc<'a>],
-    kept: &mut IndexMap<u32, &'a [Desc<'a>]>,
+    kept: &IndexMap<u32, Known<'a>>,
     off: u32,
-) -> Result<Option<&'a [Desc<'a>]>, Fault>
+) -> Result<Option<Known<'a>>, Fault>
     requires framed { IsFramed sections.now }
     requires section { IsSectionOf sections.now 0x1001 lists }
     requires types { AreRows TypeStands sections.now section.type_ids (map desc types.now) }
-    requires kept { AreKept (λ off params. ParametersAt sections.now off (map desc params.now)) kept.old }
-    ensures found { IfOk result (λ r. IfSome r (λ params. ParametersAt sections.now off (map desc params.now))) }
+    requires kept { AreKept (IsKnown sections.now) kept.now }
+    ensures found { IfOk result (λ r. IfSome r (λ known. IsKnown sections.now off known)) }
     ensures none { IfOk result (λ r. IfNone r ((ts : _) → ¬ ParametersAt sections.now off ts)) }
-    ensures kept { OnOk result (AreKept (λ off params. ParametersAt sections.now off (map desc params.now)) kept.new) }
     ensures memory { IsOkUnless result memory }
 {
-    if let Some(params) = kept.get(&off) {
-        return Ok(Some(*params));
+    if let Some(known) = kept.get(&off) {
+        return Ok(Some(*known));
     }
     let Some(params) = read_parameters(arena, sections, lists, types, off)? else {
         return Ok(None);
     };
-    kept.insert(off, params)?;
-    Ok(Some(params))
+    // (no row of string_ids: that behind the last one)
+    let (shorty, _) = sections.table(kind::STRING_ID_ITEM);
+    Ok(Some(Known {
+        params,
+        letter: 0,
+        shorty,
+    }))
 }
 
 // Whether the text is the shorty of these types.

@@ -1,26 +1,36 @@
-use Rattle.std.proofs.lemmas.Result.{IfErr-weaker, IfOk-weaker}
-use Rattle.std.proofs.Common.{inl, subst}
-use Rattle.file_read.proofs.PassLaws.{program_one}
-use Rattle.file_limits.specs.Limits.{Fits}
-use Rattle.program_types.specs.View as view
+use Rattle.std.proofs.Common.{inl, subst, sym}
+use Rattle.file_laws.proofs.RangeLaws as law
+use Rattle.file_read.specs.Means.{Means}
+use Rattle.file_read.specs.Refused.{IsRefused}
 use Rattle.tables_rows.proofs.RowReading.{passed}
-use Rattle.file_write.proofs.FileLaws.{late_limit, stripped, with_fact}
-use Rattle.file_write.specs.Written.{IsFileOf}
+use Rattle.tables_rows.proofs.ClearRows.{only_memory}
+use Rattle.file_write.proofs.FileLaws.{file_of, late_limit, none_broken, stripped}
 use Rattle.file_write.proofs.writing.strip.Goals as goal
 
 pub returns-clause-ok : goal.returns-clause-ok
 returns-clause-ok c =
-    let p = view.program c.in_ok-program.program in
-    IfOk-weaker c.write.result _ _ (λ file h. stripped c.args.bytes.now file.items p c.in_ok-program.ensures.means h.0 h.1)
-    (with_fact c.write.result (λ file. IsFileOf p file.items) (Fits p) c.write.ensures.fits c.write.ensures.file)
+    let b = c.args.bytes.now in
+    let p = c.in_ok-check_framed.ensures.means.0 in
+    let m = c.in_ok-check_framed.ensures.means.1 in
+    let meant = subst (λ x. Means x p) c.in_ok-sections.ensures.framed.0 m in
+    let fits = c.in_ok-strip_framed.ensures.fits p m in
+    stripped b c.in_ok-strip_framed.field-0.items p meant fits (file_of c.in_ok-strip_framed.field-0.items p (law.well_formed b c.are_bytes.ensures p meant) fits (c.in_ok-strip_framed.ensures.assembled p m))
 
-pub returns-clause-only : goal.returns-clause-only
-returns-clause-only c = λ p m fits.
-    let same = program_one c.args.bytes.now p (view.program c.in_ok-program.program) m c.in_ok-program.ensures.means in
-    c.write.ensures.only (subst Fits same fits)
+pub returns-in_err-check_framed-clause-only : goal.returns-in_err-check_framed-clause-only
+returns-in_err-check_framed-clause-only c = λ p m fits.
+    passed _ _ _ c.from_residual-in_err-check_framed.ensures.1 (c.in_err-check_framed.ensures.only p (subst (λ x. Means x p) (sym c.in_ok-sections.ensures.framed.0) m))
 
-pub returns-clause-refused : goal.returns-clause-refused
-returns-clause-refused c = IfErr-weaker c.write.result _ _ (λ e h. late_limit c.args.bytes.now (view.program c.in_ok-program.program) c.are_bytes.ensures c.in_ok-program.ensures.means e h) c.write.ensures.refused
+pub returns-in_err-check_framed-clause-refused : goal.returns-in_err-check_framed-clause-refused
+returns-in_err-check_framed-clause-refused c =
+    passed _ _ _ c.from_residual-in_err-check_framed.ensures.1 (λ ne. inl (subst (λ x. IsRefused x c.in_err-check_framed.field-0.0) c.in_ok-sections.ensures.framed.0 (c.in_err-check_framed.ensures.refused ne)))
 
-pub returns-in_err-program-clause-refused : goal.returns-in_err-program-clause-refused
-returns-in_err-program-clause-refused c = passed _ _ _ c.from_residual.ensures.1 (λ ne. inl (c.in_err-program.ensures.refused ne))
+pub returns-in_err-strip_framed-clause-only : goal.returns-in_err-strip_framed-clause-only
+returns-in_err-strip_framed-clause-only c = λ p m fits.
+    passed _ _ _ c.from_residual-in_err-strip_framed.ensures.1 (only_memory _ (λ ne. none_broken p _ fits (c.in_err-strip_framed.ensures.refused ne p (subst (λ x. Means x p) (sym c.in_ok-sections.ensures.framed.0) m))))
+
+pub returns-in_err-strip_framed-clause-refused : goal.returns-in_err-strip_framed-clause-refused
+returns-in_err-strip_framed-clause-refused c =
+    let b = c.args.bytes.now in
+    let p = c.in_ok-check_framed.ensures.means.0 in
+    let m = c.in_ok-check_framed.ensures.means.1 in
+    passed _ _ _ c.from_residual-in_err-strip_framed.ensures.1 (late_limit b p c.are_bytes.ensures (subst (λ x. Means x p) c.in_ok-sections.ensures.framed.0 m) _ (λ ne. c.in_err-strip_framed.ensures.refused ne p m))

@@ -1,15 +1,20 @@
-use Rattle.std.proofs.Common.{sym, map, subst, true≢false}
+use Rattle.std.proofs.Common.{◌∙◌, ◌∷◌, refl, sym, ap, map, subst, true≢false}
+use Rattle.program_types.specs.Shorty.{letter_of}
 use Rattle.program_types.specs.View.{str, desc}
+use Rattle.tables_rows.specs.Known.{IsKnown}
 use Rattle.tables_rows.specs.Stands.{StringStands, TypeStands}
 use Rattle.tables_rows.specs.TableFaults.{ParametersAt, ParameterList, Shorty}
+use Rattle.tables_rows.proofs.KeptLaws.{kept_more}
+use Rattle.tables_rows.proofs.RowReading.{string_one}
+use Rattle.tables_rows.specs.RowFields.{proto_shorty}
 use Rattle.tables_rows.proofs.proto_ids.read_proto.Goals as goal
 
 pub returns-in_default-2-clause-err : goal.returns-in_default-2-clause-err
 returns-in_default-2-clause-err c = λ _. rw c.at-in_default-2.ensures (record {
   breaks = ParameterList (record {
-    shorty = (subst (λ n. StringStands c.args.sections.now n (str c.in-Some.text)) c.proto_shorty.ensures c.in-Some.ensures.some).row;
+    shorty = (subst (λ n. StringStands c.args.sections.now n (str c.in-Some.text)) c.proto_shorty-shorty.ensures c.in-Some.ensures.some).row;
     ret = (subst (λ n. TypeStands c.args.sections.now n (desc c.in-Some-type_at.ret)) c.proto_return.ensures c.in-Some-type_at.ensures.some).row;
-    none = λ ts at. (rw c.in_default-2.is at c.in_ok-params.ensures.none) ts (subst (λ n. ParametersAt c.args.sections.now n ts) (sym c.proto_parameters-off.ensures) at);
+    none = λ ts at. (rw c.in_default-2.is at c.in_ok-known.ensures.none) ts (subst (λ n. ParametersAt c.args.sections.now n ts) (sym c.proto_parameters-off.ensures) at);
   });
   place = c.proto_row-row.ensures;
 })
@@ -17,12 +22,35 @@ returns-in_default-2-clause-err c = λ _. rw c.at-in_default-2.ensures (record {
 pub returns-then-not-is_shorty-clause-err : goal.returns-then-not-is_shorty-clause-err
 returns-then-not-is_shorty-clause-err c = λ _. rw c.at-then-not-is_shorty.ensures (record {
   breaks = Shorty (record {
-    proto = record { ret = desc c.in-Some-type_at.ret; params = map desc c.in-Some-2.params.now };
+    proto = record { ret = desc c.in-Some-type_at.ret; params = map desc c.in-Some-2.known.params.now };
     ret = subst (λ n. TypeStands c.args.sections.now n (desc c.in-Some-type_at.ret)) c.proto_return.ensures c.in-Some-type_at.ensures.some;
-    params = subst (λ n. ParametersAt c.args.sections.now n (map desc c.in-Some-2.params.now)) c.proto_parameters-off.ensures (rw c.in-Some-2.is at c.in_ok-params.ensures.found);
+    params = subst (λ n. ParametersAt c.args.sections.now n (map desc c.in-Some-2.known.params.now)) c.proto_parameters-off.ensures (rw c.in-Some-2.is at c.in_ok-known.ensures.found).list;
     found = str c.in-Some.text;
-    string = subst (λ n. StringStands c.args.sections.now n (str c.in-Some.text)) c.proto_shorty.ensures c.in-Some.ensures.some;
+    string = subst (λ n. StringStands c.args.sections.now n (str c.in-Some.text)) c.proto_shorty-shorty.ensures c.in-Some.ensures.some;
     differs = λ e. true≢false (sym (c.if-not-is_shorty.ensures.1 e));
   });
   place = c.proto_row-row.ensures;
 })
+
+pub returns-then-known-shorty-clause-ok : goal.returns-then-known-shorty-clause-ok
+returns-then-known-shorty-clause-ok c =
+    let b = c.args.sections.now in
+    let found = rw c.in-Some-2.is at c.in_ok-known.ensures.found in
+    let text = found.fits (str c.in-Some.text) (subst (λ n. StringStands b n (str c.in-Some.text)) (sym c.if-known-shorty.true) c.in-Some.ensures.some) in
+    let list = subst (λ n. ParametersAt b n (map desc c.in-Some-2.known.params.now)) c.proto_parameters-off.ensures found.list in
+    record {
+      row = c.requires.row;
+      ret = subst (λ n. TypeStands b n (desc c.in-Some-type_at.ret)) c.proto_return.ensures c.in-Some-type_at.ensures.some;
+      params = list.types;
+      values = list.values;
+      shorty = subst (λ s. StringStands b (proto_shorty b c.args.i) s) (text ∙ ap (λ n. n ∷ map letter_of (map desc c.in-Some-2.known.params.now)) (c.if-known-first.true ∙ c.letter-first.ensures)) (subst (λ n. StringStands b n (str c.in-Some.text)) c.proto_shorty-shorty.ensures c.in-Some.ensures.some);
+    }
+
+pub returns-clause-kept : goal.returns-clause-kept
+returns-clause-kept c =
+    let b = c.args.sections.now in
+    let found = rw c.in-Some-2.is at c.in_ok-known.ensures.found in
+    kept_more (IsKnown b) c.args.kept.now c.insert.new.self c.proto_parameters-off.result (record { params = c.in-Some-2.known.params; letter = c.letter-first.result; shorty = c.proto_shorty-shorty.result }) c.requires.kept (record {
+      list = found.list;
+      fits = λ text at. string_one b c.proto_shorty-shorty.result text (str c.in-Some.text) c.requires.framed at c.in-Some.ensures.some ∙ c.if-not-is_shorty.ensures.0 refl ∙ ap (λ n. n ∷ map letter_of (map desc c.in-Some-2.known.params.now)) (sym c.letter-first.ensures);
+    }) c.in_ok-insert.ensures.updates

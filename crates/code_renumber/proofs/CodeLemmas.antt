@@ -1,0 +1,67 @@
+-- A code item, taken apart and put together.
+use Rattle.std.proofs.Common.{◌≡◌, ℕ, ◌*◌, ◌<◌, List, [], ◌++◌, length, map, refl, sym, ap, subst, ◌∙◌, arith}
+use Rattle.std.specs.List.{AllByRecursion, flat_map}
+use Rattle.base_bytes.specs.Fields.{AreBytes}
+use Rattle.dex_container.specs.Frame.{IsFramed}
+use Rattle.dex_insn.specs.Written.{IsRaw}
+use Rattle.program_types.specs.Content.{Code}
+use Rattle.program_types.specs.Mentions.{names_of_insn, names_of_try}
+use Rattle.program_types.specs.Sizes.{addresses_of}
+use Rattle.tables_names.specs.Closure.{Five, NameRanks}
+use Rattle.tables_rows.specs.Stands.{NameStands}
+use Rattle.tables_numbers.specs.Marked.{Columns}
+use Rattle.tables_numbers.specs.Numbers.{Carries}
+use Rattle.code_insns.specs.Walk.{starts}
+use Rattle.code_insns.proofs.SaidRegisters.{addresses-same}
+use Rattle.code_read.specs.Reading.{ReadTries}
+use Rattle.code_read.specs.declared.item.Item.{Item}
+use Rattle.code_read_laws.proofs.CodesFormed.{standing-formed}
+use Rattle.code_put.specs.Packs.{PutInsns, PacksHandlersOf, PacksCode, joined, padding, items_bytes}
+use Rattle.code_put.proofs.FormLaws.{all-front, all-back}
+use Rattle.code_put.proofs.PackLaws.{packed}
+use Rattle.code_renumber.specs.Renumbered.{renumbered, CanBeRenumbered}
+use Rattle.code_renumber.specs.Carried.{IsCarriedCode, AreCarriedTries, head_of}
+use Rattle.code_renumber.specs.Fronts.{SpellsItem}
+use Rattle.code_renumber.specs.Walks.{CoverTries}
+use Rattle.code_renumber.proofs.LoweredLemmas.{can-all, lowered}
+use Rattle.code_renumber.proofs.WideLemmas.{size_same, count_same, head_same}
+
+module _ (b : List ℕ) (off : ℕ) (numbers : Columns) (s : Five) (i : Item) (c : Code) (x : IsCarriedCode b off numbers s c) (y : SpellsItem (NameStands b) i c) (are : AreBytes b) (framed : IsFramed b) (units-are : AreBytes i.units.now) (units : length i.units.now ≡ 2 * i.size) where
+  carried_insns : AllByRecursion (Carries (NameStands b) (NameRanks s) numbers) (flat_map names_of_insn c.insns)
+  carried_insns = all-front (Carries (NameStands b) (NameRanks s) numbers) (flat_map names_of_insn c.insns) (flat_map names_of_try c.tries) x.carried
+
+  pub can_renumber_all : AllByRecursion (CanBeRenumbered numbers) y.raws
+  can_renumber_all = can-all (NameStands b) (NameRanks s) numbers i.units.now y.raws c.insns y.insns units-are carried_insns (λ table k l. x.fits table k l)
+
+  pub addresses_are : starts y.raws ≡ addresses_of c.insns
+  addresses_are = addresses-same (NameStands b) i.units.now y.raws c.insns y.insns
+
+  pub carried_tries : AreCarriedTries b numbers s (addresses_of c.insns) i.size i.tries i.items.now i.list.now c.tries
+  carried_tries = record {
+    read = subst (λ (ss : List ℕ). ReadTries (NameStands b) ss i.size i.tries i.items.now i.list.now c.tries) addresses_are y.tries;
+    rise = x.rise;
+    carried = all-back (Carries (NameStands b) (NameRanks s) numbers) (flat_map names_of_insn c.insns) (flat_map names_of_try c.tries) x.carried;
+    short = let w = x.short in let n = y.tries.tries.count in omega (arith, w, n);
+  }
+
+  pub cover_tries : CoverTries (addresses_of c.insns) i.items.now i.tries c.tries
+  cover_tries =
+      let r = carried_tries.read.tries in
+      record { count = r.count; each = λ k l. let t = r.each k l in record { from = t.from; to = t.to } }
+
+  pub put_insns_of : (old new : List ℕ) → new ≡ old ++ joined (map (renumbered numbers) y.raws) → AllByRecursion IsRaw (map (renumbered numbers) y.raws) → PutInsns (NameRanks s) c.insns (addresses_of c.insns) old new
+  put_insns_of old new e fit = record {
+    raws = map (renumbered numbers) y.raws;
+    lowered = lowered (NameStands b) (NameRanks s) numbers i.units.now y.raws c.insns y.insns units-are carried_insns (standing-formed b are framed off c x.stands).payloads fit;
+    is_new = e;
+  }
+
+  pub packed_code : (i0 i1 i2 i3 i4 i5 list offs : List ℕ) → i0 ≡ [] → i1 ≡ i0 ++ head_of i → i2 ≡ i1 ++ joined (map (renumbered numbers) y.raws) → AllByRecursion IsRaw (map (renumbered numbers) y.raws)
+      → i3 ≡ i2 ++ padding i.size i.tries → i4 ≡ i3 ++ items_bytes i.size (addresses_of c.insns) c.tries offs → i5 ≡ i4 ++ list → PacksHandlersOf (NameRanks s) (addresses_of c.insns) c.tries list offs
+      → AllByRecursion (λ off. off < 65536) offs → i.tries < 65536 → PacksCode (NameRanks s) i5 c
+  packed_code i0 i1 i2 i3 i4 i5 list offs e0 e1 e2 fit e3 e4 e5 hs near few =
+      let size = size_same (NameStands b) i c y units in
+      let count = count_same (NameStands b) i c y units in
+      let w = x.short in
+      packed (NameRanks s) c (addresses_of c.insns) i0 i1 i2 i3 i4 i5 list offs i.size i.tries refl (sym size) (sym count) e0 (e1 ∙ ap (λ z. i0 ++ z) (head_same (NameStands b) i c y units)) (put_insns_of i1 i2 e2 fit) e3 e4 e5 hs
+      (omega (arith, count, few)) near (omega (arith, w))

@@ -1,0 +1,14 @@
+pub mod InsnLemmas
+pub mod WalkLemmas
+pub mod UnitLemmas
+pub mod ItemLemmas
+pub mod WideLemmas
+pub mod HandlerLemmas
+pub mod ListLemmas
+pub mod TryLemmas
+pub mod NumberLemmas
+pub mod WrittenLemmas
+pub mod CatchLemmas
+pub mod KnownLemmas
+pub mod LoweredLemmas
+pub mod CodeLemmas

@@ -1,0 +1,68 @@
+-- What the private functions of handlers and tries say.
+use Rattle.std.specs.Prelude.{ℕ, ◌≡◌, ◌+◌, ◌-◌, ◌<◌, ◌⊎◌, List, map, drop, set, length, slice_index, slice_get, Some}
+use Rattle.std.specs.List.{AllByRecursion}
+use Rattle.base_bytes.specs.Grammar.{Takes}
+use Rattle.program_types.specs.Content.{Name, Try}
+use Rattle.program_types.specs.Formed.{try_at}
+use Rattle.tables_names.specs.Closure.{Five, NameRanks}
+use Rattle.tables_rows.specs.Stands.{NameStands}
+use Rattle.tables_numbers.specs.Marked.{Columns, Marked, AddsNames}
+use Rattle.code_insns.specs.Places.{position, count_below}
+use Rattle.code_read.specs.Handlers.{Handler, SpellsHandler}
+use Rattle.code_read.specs.Item.{try_start, try_count}
+use Rattle.code_read.specs.Reading.{ReadTries}
+use Rattle.code_put.specs.Packs.{PacksHandler}
+use Rattle.code_put.specs.Writing.{Numbers}
+use Rattle.code_renumber.specs.Fronts.{types_of}
+use Rattle.code_renumber.specs.Carried.{IsCarriedHandler, AreCarriedTries}
+
+-- The handlers begin at these offsets, and catch so many types.
+pub record AreListed (hs : List (ℕ × Handler)) (offsets catches : List ℕ) : Type 0 where
+  pub offsets_are : offsets ≡ map (λ (p : ℕ × Handler). p.0) hs
+  pub catches_are : catches ≡ map (λ (p : ℕ × Handler). length p.1.catches) hs
+
+-- The try_items spell these tries, and so the list of their handlers is listed.
+pub record ListedTries (N : ℕ → Name → Type 0) (ss : List ℕ) (size n : ℕ) (items bytes offsets catches : List ℕ) (ts : List Try) : Type 0 where
+  pub read : ReadTries N ss size n items bytes ts
+  pub listed : AreListed read.tries.handlers offsets catches
+
+-- Either the handler at this offset was seen before, or it is now and the types that it catches are marked.
+abbrev pub MarksOnce : List ℕ → List ℕ → ℕ → Marked → Marked → List ℕ → List ℕ → ℕ → Type 0
+MarksOnce b bytes offset old new seen more k =
+    ((more ≡ set seen k 1) × ((ss : List ℕ) (h : Handler) (rest : List ℕ) → Takes (SpellsHandler (NameStands b) ss) (drop offset bytes) h rest → AddsNames b old new (types_of h.catches)))
+    ⊎ ((0 < slice_index seen k) × (more ≡ seen) × (new ≡ old))
+
+-- Such tries are carried, and the handlers of their list begin at these offsets.
+pub record CarriedList (b : List ℕ) (numbers : Columns) (s : Five) (ss : List ℕ) (size n : ℕ) (items bytes offsets : List ℕ) (ts : List Try) : Type 0 where
+  pub tries : AreCarriedTries b numbers s ss size n items bytes ts
+  pub catches : List ℕ
+  pub listed : AreListed tries.read.tries.handlers offsets catches
+
+-- The byte string is what is written of the handler at the front of the bytes.
+pub record IsWrittenOf (numbers : Columns) (bytes key : List ℕ) : Type 0 where
+  pub small : AllByRecursion (λ byte. byte < 256) key
+  pub packs : (b : List ℕ) (s : Five) (ss : List ℕ) (h : Handler) (rest : List ℕ) → IsCarriedHandler b numbers s ss bytes h rest → PacksHandler (NameRanks s) ss key h
+
+-- What is written of the handler at the front of the bytes is number n of the byte strings that are held after the
+-- call.
+pub record GetsNumber (numbers : Columns) (bytes : List ℕ) (old new : List (List ℕ)) (n : ℕ) : Type 0 where
+  pub key : List ℕ
+  pub numbered : Numbers old new key n
+  pub written : IsWrittenOf numbers bytes key
+
+-- Where the entry of a handler isn't 0, what is written of it is held, with the number before. The handlers of the list
+-- begin at these offsets.
+abbrev pub AreKnown : Columns → List ℕ → List ℕ → List ℕ → List (List ℕ) → Type 0
+AreKnown numbers bytes offsets known keys =
+    (k : ℕ) → 0 < slice_index known k
+    → (key : List ℕ) × (slice_get keys (slice_index known k - 1) ≡ Some key) × IsWrittenOf numbers (drop (slice_index offsets k) bytes) key
+
+-- Try_item i begins at the try's first instruction and covers it as far as its last one.
+pub record CoversTry (ss items : List ℕ) (i : ℕ) (t : Try) : Type 0 where
+  pub from : position ss (try_start items i) ≡ Some t.from
+  pub to : t.to ≡ count_below (try_start items i + try_count items i) ss
+
+-- So do the n try_items with these tries.
+pub record CoverTries (ss items : List ℕ) (n : ℕ) (ts : List Try) : Type 0 where
+  pub count : length ts ≡ n
+  pub each : (i : ℕ) → i < n → CoversTry ss items i (try_at ts i)

@@ -1,0 +1,14 @@
+pub mod WordLaws
+pub mod MovedLaws
+pub mod KeepLaws
+pub mod ListLaws
+pub mod StaticsLaws
+pub mod TextLaws
+pub mod TableLaws
+pub mod SeatLaws
+pub mod MemberLaws
+pub mod SiteLaws
+pub mod SizeLaws
+pub mod BodyLaws
+pub mod FarLaws
+pub mod GatherLaws

@@ -1,0 +1,13 @@
+pub mod Words
+pub mod Keeping
+pub mod Moved
+pub mod Lists
+pub mod Statics
+pub mod Texts
+pub mod Tables
+pub mod Names
+pub mod Seats
+pub mod Members
+pub mod Sites
+pub mod Sizes
+pub mod Bodies

@@ -1,0 +1,115 @@
+//! The rows of class_defs ("class_def_item").
+ghost use Rattle.std.specs.Prelude.{◌≡◌, ℕ, ◌<◌, List, Option, OnOk, IsOkUnless, length};
+ghost use Rattle.base_bytes.specs.Fault.{memory};
+ghost use Rattle.base_bytes.specs.Grammar.{Appends, Each};
+ghost use Rattle.dex_container.specs.Layout.{size_of};
+ghost use Rattle.dex_container.specs.Section as section;
+ghost use Rattle.file_classes.specs.ClassRows.{IndexOrNone};
+ghost use Rattle.file_rows.specs.ClassDefs.{SpellsClassRow, StringRanks, TypeRanks, seated};
+ghost use Rattle.program_types.specs.Content.{Program, Units};
+ghost use Rattle.tables_names.specs.Closure.{Five};
+ghost use Rattle.tables_names.specs.Needed.{needed};
+ghost use Rattle.file_kept.specs.Keeping.{Keeps};
+ghost use Rattle.file_kept.specs.Names.{StringOrNone, TypeOrNone};
+ghost use Rattle.file_kept.specs.Seats.{IsSeatedRow};
+
+use dex_base::{Fault, push_words};
+use dex_container::Sections;
+use dex_insn::IndexKind;
+use file_classes::{class_count, class_word};
+use tables_numbers::Numbers;
+
+// The index that stands for none.
+const NO_INDEX: u32 = 0xffffffff;
+
+// Where the items of a class stand, 0 for none.
+#[derive(Clone, Copy)]
+struct Seats {
+    list: u32,
+    datum: u32,
+    array: u32,
+}
+
+// The number of a type that may be none.
+fn type_or_none(numbers: &Numbers, index: u32) -> u32
+    requires { (b : List ℕ) × (s : Five) × (name : Option Units) × TypeOrNone b numbers.now s index name }
+    ensures { (b : List ℕ) (s : Five) (name : Option Units) → TypeOrNone b numbers.now s index name → IndexOrNone (TypeRanks s) result name }
+{
+    if index == NO_INDEX {
+        return NO_INDEX;
+    }
+    numbers.of(IndexKind::Type, index)
+}
+
+// The number of a string that may be none.
+fn string_or_none(numbers: &Numbers, index: u32) -> u32
+    requires { (b : List ℕ) × (s : Five) × (name : Option Units) × StringOrNone b numbers.now s index name }
+    ensures { (b : List ℕ) (s : Five) (name : Option Units) → StringOrNone b numbers.now s index name → IndexOrNone (StringRanks s) result name }
+{
+    if index == NO_INDEX {
+        return NO_INDEX;
+    }
+    numbers.of(IndexKind::String, index)
+}
+
+// Appends row i, whose items stand here.
+fn put_class(
+    rows: &mut Vec<u8>,
+    numbers: &Numbers,
+    sections: &Sections<'_>,
+    i: u32,
+    seats: Seats,
+) -> Result<(), Fault>
+    requires kept { (p : Program) × Keeps sections.now numbers.now p }
+    requires row { i < size_of sections.now section.class_defs }
+    ensures ok { OnOk result ((p : Program) → Keeps sections.now numbers.now p → IsSeatedRow p i seats.list seats.datum seats.array rows.old.items rows.new.items) }
+    ensures memory { IsOkUnless result memory }
+{
+    push_words(
+        rows,
+        &[
+            numbers.of(IndexKind::Type, class_word(sections, i, 0)),
+            class_word(sections, i, 1),
+            type_or_none(numbers, class_word(sections, i, 2)),
+            seats.list,
+            string_or_none(numbers, class_word(sections, i, 4)),
+            0,
+            seats.datum,
+            seats.array,
+        ],
+    )
+}
+
+/// Appends the rows of all classes, whose interfaces, class data and static values stand at these places, 0 for none.
+///
+/// The only refusal is want of memory.
+///
+/// ```
+/// put_classes(&mut rows, &numbers, &sections, &lists.places[protos..], &datas.places, &arrays.places)?;
+/// ```
+pub fn put_classes(
+    rows: &mut Vec<u8>,
+    numbers: &Numbers,
+    sections: &Sections<'_>,
+    lists: &[u32],
+    datas: &[u32],
+    arrays: &[u32],
+) -> Result<(), Fault>
+    requires kept { (p : Program) × Keeps sections.now numbers.now p }
+    requires lists { length lists.now ≡ size_of sections.now section.class_defs }
+    requires datas { length datas.now ≡ size_of sections.now section.class_defs }
+    requires arrays { length arrays.now ≡ size_of sections.now section.class_defs }
+    ensures ok { OnOk result ((p : Program) → Keeps sections.now numbers.now p
+        → Appends (Each (SpellsClassRow (needed p))) rows.old.items rows.new.items (seated p lists.now datas.now arrays.now)) }
+    ensures memory { IsOkUnless result memory }
+{
+    for i in 0..class_count(sections) {
+        let seats = Seats {
+            list: lists[i as usize],
+            datum: datas[i as usize],
+            array: arrays[i as usize],
+        };
+        put_class(rows, numbers, sections, i, seats)?;
+    }
+    Ok(())
+}

@@ -1,0 +1,4 @@
+pub mod ClassSteps
+pub mod FoundLaws
+pub mod ReadyLaws
+pub mod WalkLaws

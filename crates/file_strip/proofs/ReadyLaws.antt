@@ -1,0 +1,125 @@
+-- What a file that is ready has room for, and which limits its program breaks.
+use Rattle.std.proofs.Common.{◌≡◌, ℕ, suc, ◌≤◌, ◌<◌, List, [], ◌∷◌, refl, sym, ap, subst, arith, slice_get, Some, inl, inr, ◌∙◌}
+use Rattle.std.specs.Prelude.{slice_index}
+use Rattle.std.specs.List.{AllByRecursion}
+use Rattle.std.proofs.lemmas.Bool.{cases_lt}
+use Rattle.base_bytes.specs.Fields.{AreBytes}
+use Rattle.base_bytes.specs.declared.fault.Fault.{Fault}
+use Rattle.code_put.specs.Fits.{CodeBreaks, FitsCode, HandlerTooFar}
+use Rattle.dex_insn.specs.declared.opcode.IndexKind.TheVariants as kind
+use Rattle.file_assemble.specs.Assembled.{rows_of}
+use Rattle.file_assemble.proofs.FitsLaws.{Behind, Room}
+use Rattle.file_kept.specs.Keeping.{Keeps}
+use Rattle.file_laws.proofs.RangeLaws.{well_formed}
+use Rattle.file_layout.specs.Plan.{tables_end}
+use Rattle.file_layout.specs.declared.plan.Rows.{Rows}
+use Rattle.file_least.specs.AtLeast.{FitsFields}
+use Rattle.file_least.proofs.RowsFrom.{holds_at_least, no_further}
+use Rattle.file_least.proofs.VainLaws.{class_fits, only_late}
+use Rattle.file_limits.specs.Limits as limits
+use Rattle.file_limits.specs.Limits.{BodyBreaks, ClassBreaksLimit, Fits, IsFirstClass, IsLowestLimit, LimitBreaks, TooBig, TooManyProtos, TooManyTypes, codes_of}
+use Rattle.file_limits.specs.Wide.{wide}
+use Rattle.file_limits.proofs.PartLaws.{by_parts}
+use Rattle.file_read.specs.Means.{Means}
+use Rattle.file_strip.specs.Ready.{IsReady}
+use Rattle.program_types.specs.Content.{Code, Name, Program}
+use Rattle.tables_names.specs.Closure.{NameRanks}
+use Rattle.tables_names.specs.Needed.{needed}
+use Rattle.tables_numbers.specs.Marked.{Columns, Marked, AreMarks}
+use Rattle.tables_numbers.specs.Numbers.{AreNumbers}
+
+-- ---- what is ready
+
+pub keeps_of : (b : List ℕ) (marks : Marked) (numbers : Columns) (p : Program) → Means b p → AreMarks b marks (needed p) → AreNumbers marks.columns numbers → Keeps b numbers p
+keeps_of b marks numbers p m marked numbered = record { tables = m.tables; classes = m.classes; marks = marks; marked = marked; numbered = numbered }
+
+pub ready_of : (b : List ℕ) (numbers : Columns) (p : Program) → AreBytes b → Means b p → Keeps b numbers p → wide p ≤ 4294967295 → IsReady b numbers p
+ready_of b numbers p are m keeps small = record {
+  keeps = keeps;
+  formed = well_formed b are p m;
+  few_types = let l = (holds_at_least b p m).types in let few = m.framed.sections.types in omega (arith, l, few);
+  few_protos = let l = (holds_at_least b p m).protos in let few = m.framed.sections.protos in omega (arith, l, few);
+  small = small;
+}
+
+-- ---- room
+
+module _ (b : List ℕ) (numbers : Columns) (p : Program) (r : IsReady b numbers p) where
+  pub room : Room (needed p) p
+  room = record {
+    rows = _;
+    lists = _;
+    codes = _;
+    texts = _;
+    arrays = _;
+    datas = _;
+    rows_are = refl;
+    lists_are = refl;
+    codes_are = refl;
+    texts_are = refl;
+    arrays_are = refl;
+    datas_are = refl;
+    sum = by_parts (needed p) p;
+    whole = let w = r.small in let x = by_parts (needed p) p in omega (arith, w, x);
+    few_types = r.few_types;
+    few_protos = r.few_protos;
+  }
+
+  pub behind : (rows : Rows) (n : ℕ) → rows ≡ rows_of (needed p) p → n ≡ tables_end rows → Behind (needed p) p n
+  behind rows n e m =
+      let t : n ≡ tables_end (rows_of (needed p) p) = m ∙ ap tables_end e in
+      let w = room in
+      record { some = omega (arith, t); small = omega (arith, t, w.rows_are, w.lists_are, w.codes_are, w.texts_are, w.arrays_are, w.datas_are, w.whole) }
+
+-- ---- limits
+
+-- a code that fits its fields, and breaks no limit of handlers, fits
+fits_near : (N : ℕ → Name → Type 0) (c : Code) → FitsFields N c → (¬ CodeBreaks N c 89) → FitsCode N c
+fits_near N c fits near = record {
+  strings = fits.names kind.String;
+  fields = fits.names kind.Field;
+  methods = fits.names kind.Method;
+  offsets = fits.offsets;
+  even = fits.even;
+  tries = fits.tries;
+  few = fits.few;
+  handlers = λ short list offs laid i lt. elim (cases_lt (slice_index offs i) 65536) [
+    | inl less ↦ less
+    | inr most ↦ absurd (near (HandlerTooFar short (record { list = list; offs = offs; laid = laid; index = i; inside = lt; far = omega (arith, most) })))
+  ];
+}
+
+all_near : (N : ℕ → Name → Type 0) (cs : List Code) → AllByRecursion (FitsFields N) cs → ((k : ℕ) (c : Code) → slice_get cs k ≡ Some c → ¬ CodeBreaks N c 89) → AllByRecursion (FitsCode N) cs
+all_near N [] fits near = tt
+all_near N (c ∷ cs) fits near = (fits_near N c fits.0 (near 0 c refl), all_near N cs fits.1 (λ k d at. near (suc k) d at))
+
+module _ (b : List ℕ) (p : Program) (are : AreBytes b) (m : Means b p) where
+  pub fits_of : ((i : ℕ) → ¬ ClassBreaksLimit (NameRanks (needed p)) 89 p i) → wide p ≤ 4294967295 → Fits p
+  fits_of near small = record {
+    few_types = let l = (holds_at_least b p m).types in let few = m.framed.sections.types in omega (arith, l, few);
+    few_protos = let l = (holds_at_least b p m).protos in let few = m.framed.sections.protos in omega (arith, l, few);
+    bodies = λ i c there.
+        all_near (NameRanks (needed p)) (codes_of c) (class_fits b are m.framed (needed p) (no_further b p m) i c (m.classes.each i c there))
+        (λ k d at breaks. near i (record { class = c; there = there; body = record { index = k; code = d; there = at; breaks = breaks } }));
+    small = small;
+  }
+
+  -- no limit below 90 stands where the file is too big
+  only_big : 4294967295 < wide p → (n place : ℕ) → LimitBreaks p n place → 90 ≤ n
+  only_big big n place (TooManyTypes many) = elim (only_late b p are m n place (TooManyTypes many)) [ inl x ↦ absurd (omega (arith, x)) | inr x ↦ absurd (omega (arith, x)) ]
+  only_big big n place (TooManyProtos many) = elim (only_late b p are m n place (TooManyProtos many)) [ inl x ↦ absurd (omega (arith, x)) | inr x ↦ absurd (omega (arith, x)) ]
+  only_big big n place (BodyBreaks most first) = elim (only_late b p are m n place (BodyBreaks most first)) [ inl x ↦ absurd (omega (arith, x, most)) | inr x ↦ absurd (omega (arith, x, most)) ]
+  only_big big n place (limits.HandlerTooFar small first) = absurd (omega (arith, big, small))
+  only_big big n place (TooBig more) = omega arith
+
+  pub too_big : 4294967295 < wide p → IsLowestLimit p (record { code = 90; place = 0 })
+  too_big big = record { breaks = TooBig big; lowest = only_big big }
+
+  pub too_far : (e : Fault) → wide p ≤ 4294967295 → e.code ≡ 89 → IsFirstClass (NameRanks (needed p)) 89 p e.place → IsLowestLimit p e
+  too_far e small code first = record {
+    breaks = subst (λ n. LimitBreaks p n e.place) (sym code) (limits.HandlerTooFar small first);
+    lowest = λ n place broken. elim (only_late b p are m n place broken) [
+      | inl x ↦ omega (arith, x, code)
+      | inr x ↦ omega (arith, x, code)
+    ];
+  }

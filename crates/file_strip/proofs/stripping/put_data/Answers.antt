@@ -1,0 +1,201 @@
+use Rattle.std.proofs.Common.{◌≡◌, length, ap, ◌∙◌, arith}
+use Rattle.file_layout.specs.Plan.{tables_end}
+use Rattle.file_layout.specs.Tiles.{Refers}
+use Rattle.file_layout.proofs.SectionLaws.{Zip-length}
+use Rattle.file_limits.specs.Wide.{body_values}
+use Rattle.file_sections.specs.Codes.{is_bodiless}
+use Rattle.file_sections.proofs.SitedLaws.{room_of_sited}
+use Rattle.file_assemble.specs.Assembled.{Places, rows_of}
+use Rattle.file_assemble.proofs.DataLaws.{laid, longer}
+use Rattle.file_assemble.proofs.OnceLaws.{datas_shared}
+use Rattle.tables_names.specs.Needed.{needed}
+use Rattle.tables_rows.proofs.RowReading.{passed}
+use Rattle.file_strip.proofs.ReadyLaws.{behind, room}
+use Rattle.file_strip.proofs.stripping.put_data.Goals as goal
+
+pub overflow_cast-tables : goal.overflow_cast-tables
+overflow_cast-tables c =
+    let p = c.requires.ready.0 in
+    let r = c.requires.ready.1 in
+    let n = behind c.args.sections.now c.args.numbers.now p r c.args.counts _ (c.requires.counts p r) c.requires.front in
+    omega (arith, n.small, c.len-tables.ensures, c.args.out.now.ok.0)
+
+pub put_lists-requires-clause-front : goal.put_lists-requires-clause-front
+put_lists-requires-clause-front c =
+    let p = c.requires.ready.0 in
+    let r = c.requires.ready.1 in
+    (behind c.args.sections.now c.args.numbers.now p r c.args.counts _ (c.requires.counts p r) c.requires.front).some
+
+pub put_lists-requires-clause-kept : goal.put_lists-requires-clause-kept
+put_lists-requires-clause-kept c =
+    let p = c.requires.ready.0 in
+    let r = c.requires.ready.1 in
+    let n = behind c.args.sections.now c.args.numbers.now p r c.args.counts _ (c.requires.counts p r) c.requires.front in
+    (p, r.keeps, omega (arith, n.small))
+
+pub overflow_cast-lists_end : goal.overflow_cast-lists_end
+overflow_cast-lists_end c =
+    let p = c.requires.ready.0 in
+    let r = c.requires.ready.1 in
+    let n = behind c.args.sections.now c.args.numbers.now p r c.args.counts _ (c.requires.counts p r) c.requires.front in
+    let b1 = (c.in_ok-lists.ensures.ok p r.keeps).bound in
+    omega (arith, n.small, b1, c.len-lists_end.ensures, c.put_lists.new.out.ok.0)
+
+pub put_codes-requires-clause-front : goal.put_codes-requires-clause-front
+put_codes-requires-clause-front c =
+    let p = c.requires.ready.0 in
+    let r = c.requires.ready.1 in
+    let n = behind c.args.sections.now c.args.numbers.now p r c.args.counts _ (c.requires.counts p r) c.requires.front in
+    let g0 = longer _ _ (c.in_ok-lists.ensures.ok p r.keeps).grown in
+    omega (arith, n.some, g0)
+
+pub put_codes-requires-clause-kept : goal.put_codes-requires-clause-kept
+put_codes-requires-clause-kept c =
+    let p = c.requires.ready.0 in
+    let r = c.requires.ready.1 in
+    let n = behind c.args.sections.now c.args.numbers.now p r c.args.counts _ (c.requires.counts p r) c.requires.front in
+    let b1 = (c.in_ok-lists.ensures.ok p r.keeps).bound in
+    (p, r.keeps, omega (arith, n.small, b1))
+
+pub overflow_cast-codes_end : goal.overflow_cast-codes_end
+overflow_cast-codes_end c =
+    let p = c.requires.ready.0 in
+    let r = c.requires.ready.1 in
+    let n = behind c.args.sections.now c.args.numbers.now p r c.args.counts _ (c.requires.counts p r) c.requires.front in
+    let b1 = (c.in_ok-lists.ensures.ok p r.keeps).bound in
+    let b2 = (c.in_ok-codes.ensures.ok p r.keeps).bound in
+    omega (arith, n.small, b1, b2, c.len-codes_end.ensures, c.put_codes.new.out.ok.0)
+
+pub put_texts-requires-clause-front : goal.put_texts-requires-clause-front
+put_texts-requires-clause-front c =
+    let p = c.requires.ready.0 in
+    let r = c.requires.ready.1 in
+    let n = behind c.args.sections.now c.args.numbers.now p r c.args.counts _ (c.requires.counts p r) c.requires.front in
+    let g0 = longer _ _ (c.in_ok-lists.ensures.ok p r.keeps).grown in
+    let g1 = longer _ _ (c.in_ok-codes.ensures.ok p r.keeps).grown in
+    omega (arith, n.some, g0, g1)
+
+pub put_texts-requires-clause-kept : goal.put_texts-requires-clause-kept
+put_texts-requires-clause-kept c =
+    let p = c.requires.ready.0 in
+    let r = c.requires.ready.1 in
+    let n = behind c.args.sections.now c.args.numbers.now p r c.args.counts _ (c.requires.counts p r) c.requires.front in
+    let b1 = (c.in_ok-lists.ensures.ok p r.keeps).bound in
+    let b2 = (c.in_ok-codes.ensures.ok p r.keeps).bound in
+    (p, r.keeps, omega (arith, n.small, b1, b2))
+
+pub overflow_cast-texts_end : goal.overflow_cast-texts_end
+overflow_cast-texts_end c =
+    let p = c.requires.ready.0 in
+    let r = c.requires.ready.1 in
+    let n = behind c.args.sections.now c.args.numbers.now p r c.args.counts _ (c.requires.counts p r) c.requires.front in
+    let b1 = (c.in_ok-lists.ensures.ok p r.keeps).bound in
+    let b2 = (c.in_ok-codes.ensures.ok p r.keeps).bound in
+    let b3 = (c.in_ok-texts.ensures.ok p r.keeps).bound in
+    omega (arith, n.small, b1, b2, b3, c.len-texts_end.ensures, c.put_texts.new.out.ok.0)
+
+pub put_arrays-requires-clause-front : goal.put_arrays-requires-clause-front
+put_arrays-requires-clause-front c =
+    let p = c.requires.ready.0 in
+    let r = c.requires.ready.1 in
+    let n = behind c.args.sections.now c.args.numbers.now p r c.args.counts _ (c.requires.counts p r) c.requires.front in
+    let g0 = longer _ _ (c.in_ok-lists.ensures.ok p r.keeps).grown in
+    let g1 = longer _ _ (c.in_ok-codes.ensures.ok p r.keeps).grown in
+    let g2 = longer _ _ (c.in_ok-texts.ensures.ok p r.keeps).grown in
+    omega (arith, n.some, g0, g1, g2)
+
+pub put_arrays-requires-clause-kept : goal.put_arrays-requires-clause-kept
+put_arrays-requires-clause-kept c =
+    let p = c.requires.ready.0 in
+    let r = c.requires.ready.1 in
+    let n = behind c.args.sections.now c.args.numbers.now p r c.args.counts _ (c.requires.counts p r) c.requires.front in
+    let b1 = (c.in_ok-lists.ensures.ok p r.keeps).bound in
+    let b2 = (c.in_ok-codes.ensures.ok p r.keeps).bound in
+    let b3 = (c.in_ok-texts.ensures.ok p r.keeps).bound in
+    (p, r.keeps, omega (arith, n.small, b1, b2, b3))
+
+pub overflow_cast-arrays_end : goal.overflow_cast-arrays_end
+overflow_cast-arrays_end c =
+    let p = c.requires.ready.0 in
+    let r = c.requires.ready.1 in
+    let n = behind c.args.sections.now c.args.numbers.now p r c.args.counts _ (c.requires.counts p r) c.requires.front in
+    let b1 = (c.in_ok-lists.ensures.ok p r.keeps).bound in
+    let b2 = (c.in_ok-codes.ensures.ok p r.keeps).bound in
+    let b3 = (c.in_ok-texts.ensures.ok p r.keeps).bound in
+    let b4 = (c.in_ok-arrays.ensures.ok p r.keeps).bound in
+    omega (arith, n.small, b1, b2, b3, b4, c.len-arrays_end.ensures, c.put_arrays.new.out.ok.0)
+
+pub put_datas-requires-clause-front : goal.put_datas-requires-clause-front
+put_datas-requires-clause-front c =
+    let p = c.requires.ready.0 in
+    let r = c.requires.ready.1 in
+    let n = behind c.args.sections.now c.args.numbers.now p r c.args.counts _ (c.requires.counts p r) c.requires.front in
+    let g0 = longer _ _ (c.in_ok-lists.ensures.ok p r.keeps).grown in
+    let g1 = longer _ _ (c.in_ok-codes.ensures.ok p r.keeps).grown in
+    let g2 = longer _ _ (c.in_ok-texts.ensures.ok p r.keeps).grown in
+    let g3 = longer _ _ (c.in_ok-arrays.ensures.ok p r.keeps).grown in
+    omega (arith, n.some, g0, g1, g2, g3)
+
+pub put_datas-requires-clause-kept : goal.put_datas-requires-clause-kept
+put_datas-requires-clause-kept c =
+    let p = c.requires.ready.0 in
+    let r = c.requires.ready.1 in
+    let n = behind c.args.sections.now c.args.numbers.now p r c.args.counts _ (c.requires.counts p r) c.requires.front in
+    let b1 = (c.in_ok-lists.ensures.ok p r.keeps).bound in
+    let b2 = (c.in_ok-codes.ensures.ok p r.keeps).bound in
+    let b3 = (c.in_ok-texts.ensures.ok p r.keeps).bound in
+    let b4 = (c.in_ok-arrays.ensures.ok p r.keeps).bound in
+    let z = ap length c.deref.ensures.value ∙ Zip-length (Refers is_bodiless (c.in_ok-codes.ensures.ok p r.keeps).lays.items) _ (body_values p) (c.in_ok-codes.ensures.ok p r.keeps).lays.each in
+    (p, r.keeps, z, omega (arith, n.small, b1, b2, b3, b4))
+
+pub overflow_cast-datas_end : goal.overflow_cast-datas_end
+overflow_cast-datas_end c =
+    let p = c.requires.ready.0 in
+    let r = c.requires.ready.1 in
+    let n = behind c.args.sections.now c.args.numbers.now p r c.args.counts _ (c.requires.counts p r) c.requires.front in
+    let b1 = (c.in_ok-lists.ensures.ok p r.keeps).bound in
+    let b2 = (c.in_ok-codes.ensures.ok p r.keeps).bound in
+    let b3 = (c.in_ok-texts.ensures.ok p r.keeps).bound in
+    let b4 = (c.in_ok-arrays.ensures.ok p r.keeps).bound in
+    let d = rw c.deref.ensures.value at (c.in_ok-datas.ensures.ok p r.keeps) in
+    let w = room_of_sited p c.in_ok-codes.codes.places.items in
+    omega (arith, n.small, b1, b2, b3, b4, d.bound, w, c.len-datas_end.ensures, c.put_datas.new.out.ok.0)
+
+pub codes_part-requires : goal.codes_part-requires
+codes_part-requires c =
+    let p = c.requires.ready.0 in
+    let r = c.requires.ready.1 in
+    let n = behind c.args.sections.now c.args.numbers.now p r c.args.counts _ (c.requires.counts p r) c.requires.front in
+    let b1 = (c.in_ok-lists.ensures.ok p r.keeps).bound in
+    omega (arith, n.small, b1, c.len-lists_end.ensures, c.put_lists.new.out.ok.0)
+
+pub returns-clause-ok : goal.returns-clause-ok
+returns-clause-ok c = λ p r.
+    let s = needed p in
+    let f : length c.args.out.now.items ≡ tables_end (rows_of s p) = c.requires.front ∙ ap tables_end (c.requires.counts p r) in
+    let e0 = c.len-tables.ensures ∙ c.args.out.now.ok.0 in
+    let e1 = c.len-lists_end.ensures ∙ c.put_lists.new.out.ok.0 in
+    let e2 = c.len-codes_end.ensures ∙ c.put_codes.new.out.ok.0 in
+    let e3 = c.len-texts_end.ensures ∙ c.put_texts.new.out.ok.0 in
+    let e4 = c.len-arrays_end.ensures ∙ c.put_arrays.new.out.ok.0 in
+    let e5 = c.len-datas_end.ensures ∙ c.put_datas.new.out.ok.0 in
+    let at : Places = record { lists = c.in_ok-lists.lists.places.items; codes = c.in_ok-codes.codes.places.items; texts = c.in_ok-texts.texts.places.items; arrays = c.in_ok-arrays.arrays.places.items; datas = c.in_ok-datas.datas.places.items } in
+    let d = rw c.deref.ensures.value at (c.in_ok-datas.ensures.ok p r.keeps) in
+    rw (c.part.ensures, c.codes_part.ensures, c.part-2.ensures, c.part-3.ensures, c.part-4.ensures, c.requires.counts p r, e0, e1, e2, e3, e4, e5)
+    (laid s p (room c.args.sections.now c.args.numbers.now p r) c.args.out.now.items c.put_lists.new.out.items c.put_codes.new.out.items c.put_texts.new.out.items c.put_arrays.new.out.items c.put_datas.new.out.items at
+    (record { lists = c.in_ok-lists.lists.items; codes = c.in_ok-codes.codes.items; texts = c.in_ok-texts.texts.items; arrays = c.in_ok-arrays.arrays.items; datas = c.in_ok-datas.datas.items }) f
+    (record {
+      lists = c.in_ok-lists.ensures.ok p r.keeps;
+      codes = c.in_ok-codes.ensures.ok p r.keeps;
+      texts = c.in_ok-texts.ensures.ok p r.keeps;
+      arrays = c.in_ok-arrays.ensures.ok p r.keeps;
+      datas = d;
+      once = record { lists = c.in_ok-lists.ensures.once p r.keeps; codes = c.in_ok-codes.ensures.once p r.keeps; texts = c.in_ok-texts.ensures.once p r.keeps; arrays = c.in_ok-arrays.ensures.once p r.keeps; datas = datas_shared p r.formed _ _ };
+    }))
+
+pub returns-clause-near : goal.returns-clause-near
+returns-clause-near c = λ p r. c.in_ok-codes.ensures.near p r.keeps
+
+pub returns-in_err-codes-clause-far : goal.returns-in_err-codes-clause-far
+returns-in_err-codes-clause-far c =
+    passed _ _ _ c.from_residual-in_err-codes.ensures.1 (λ ne. let f = c.in_err-codes.ensures.far ne in (f.0, λ p r. f.1 p r.keeps))

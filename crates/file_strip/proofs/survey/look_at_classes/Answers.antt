@@ -1,0 +1,57 @@
+use Rattle.std.proofs.Common.{ℕ, take, inl, refl, sym, subst, arith, ap, ◌∙◌}
+use Rattle.std.specs.List.{flat_map}
+use Rattle.std.proofs.lemmas.List.{take_all}
+use Rattle.program_types.specs.Content.{Program}
+use Rattle.program_types.specs.Mentions.{names_of_class}
+use Rattle.tables_names.specs.Closure.{Five, nothing, with_names}
+use Rattle.tables_rows.proofs.KeptLaws.{kept_none}
+use Rattle.tables_numbers.specs.Marked.{AreMarks}
+use Rattle.file_layout.specs.Sections.{wide_all}
+use Rattle.file_limits.specs.Sum.{IsSum}
+use Rattle.file_limits.specs.Wide.{wide_class}
+use Rattle.file_strip.specs.Survey.{ArrayIsFound, CodeIsFound}
+use Rattle.file_strip.proofs.ClassSteps.{class_at, needed_is, next_class, next_wide}
+use Rattle.file_strip.proofs.survey.look_at_classes.Goals as goal
+
+pub loop-i-init : goal.loop-i-init
+loop-i-init c = record {
+  found = λ p rows. record { marks = c.in_ok-new.ensures.none; codes = kept_none (CodeIsFound c.args.sections.now nothing) c.new-2.result c.new-2.ensures.empty; arrays = kept_none (ArrayIsFound c.args.sections.now nothing) c.new-3.result c.new-3.ensures.empty };
+  wide = λ p rows. inl refl;
+}
+
+pub look_at_class-requires-clause-found : goal.look_at_class-requires-clause-found
+look_at_class-requires-clause-found c =
+    let k = c.requires.classes.1 in
+    (with_names nothing (flat_map names_of_class (take c.loop-i.i k.0)), c.loop-i.invariant.found k.0 k.1)
+
+pub look_at_class-requires-clause-class : goal.look_at_class-requires-clause-class
+look_at_class-requires-clause-class c =
+    let k = c.requires.classes.1 in
+    let n = c.class_count-i-end.ensures in
+    let at = class_at c.args.sections.now k.0 c.loop-i.i k.1 (omega (arith, n, c.loop-i-test.true)) in
+    (at.0, at.2)
+
+pub loop-i-preserved : goal.loop-i-preserved
+loop-i-preserved c =
+    let b = c.args.sections.now in
+    let n = c.class_count-i-end.ensures in
+    record {
+      found = λ p rows.
+          let at = class_at b p c.loop-i.i rows (omega (arith, n, c.loop-i-test.true)) in
+          next_class b c.loop-i.found c.look_at_class.new.found p c.loop-i.i at.0 at.1 (c.loop-i.invariant.found p rows) (c.in_ok-look_at_class.ensures.found at.0 at.2);
+      wide = λ p rows.
+          let at = class_at b p c.loop-i.i rows (omega (arith, n, c.loop-i-test.true)) in
+          subst (λ (w : ℕ). IsSum c.plus-wide.result w) (sym (next_wide p c.loop-i.i at.0 at.1))
+          (c.plus-wide.ensures (wide_all wide_class (take c.loop-i.i p)) (wide_class at.0) (c.loop-i.invariant.wide p rows) (c.in_ok-look_at_class.ensures.wide at.0 at.2));
+    }
+
+pub returns-clause-ok : goal.returns-clause-ok
+returns-clause-ok c = λ p rows.
+    let b = c.args.sections.now in
+    let n = c.class_count-i-end.ensures in
+    let l = rows.count in
+    let all = take_all c.loop-i.i p (omega (arith, n, l, c.loop-i-test.false)) in
+    record {
+      marks = subst (λ (s : Five). AreMarks b c.loop-i.found.marks s) (ap (λ (q : Program). with_names nothing (flat_map names_of_class q)) all ∙ needed_is p) (c.loop-i.invariant.found p rows).marks;
+      wide = subst (λ (q : Program). IsSum c.loop-i.wide (wide_all wide_class q)) all (c.loop-i.invariant.wide p rows);
+    }

@@ -1,0 +1,18 @@
+use Rattle.std.proofs.Common.{refl, sym, subst, Option, ◌∷◌, []}
+use Rattle.program_types.specs.Content.{OfDesc, Units}
+use Rattle.program_types.specs.Mentions.{if_any}
+use Rattle.tables_rows.specs.Stands.{TypeStands}
+use Rattle.tables_numbers.specs.Marked.{AddsNames}
+use Rattle.file_strip.proofs.FoundLaws.{some_row}
+use Rattle.file_strip.proofs.survey.mark_superclass.Goals as goal
+
+pub mark-requires-clause-row : goal.mark-requires-clause-row
+mark-requires-clause-row c =
+    let r = some_row (TypeStands c.args.sections.now) c.args.index c.requires.row.0 c.if-index-eq-NO_INDEX.false c.requires.row.1 in
+    (OfDesc r.0, record { kind = refl; stands = r.2 })
+
+pub returns-clause-marked : goal.returns-clause-marked
+returns-clause-marked c = λ t is.
+    let b = c.args.sections.now in
+    let r = some_row (TypeStands b) c.args.index t c.if-index-eq-NO_INDEX.false is in
+    subst (λ (o : Option Units). AddsNames b c.args.marks.now c.mark.new.self (if_any (λ u. OfDesc u ∷ []) o)) (sym r.1) (c.in_ok-mark.ensures.marked (OfDesc r.0) (record { kind = refl; stands = r.2 }))

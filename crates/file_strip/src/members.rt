@@ -1,0 +1,94 @@
+// What the members of a class mention.
+// Page: "Dalvik Executable format", "class_data_item".
+ghost use Rattle.std.specs.Prelude.{◌≡◌, ℕ, List, Option, map, IfOk, OnOk, IsOkUnless};
+ghost use Rattle.std.specs.List.{flat_map};
+ghost use Rattle.base_bytes.specs.Fault.{memory};
+ghost use Rattle.program_types.specs.Content.{Units, Code, Member, Method};
+ghost use Rattle.program_types.specs.Mentions.{if_any, field_of_class, names_of_code, names_of_method};
+ghost use Rattle.tables_numbers.specs.Marked.{HasMarks, AddsNames};
+ghost use Rattle.file_layout.specs.Sections.{wide_all};
+ghost use Rattle.file_limits.specs.Sum.{IsSum};
+ghost use Rattle.file_limits.specs.Wide.{bodies_in, wide_body};
+ghost use Rattle.file_classes.specs.ClassData.{IsRun};
+ghost use Rattle.file_classes.specs.Classes.{CodeAt, CodesAre, IsField, IsMethod};
+ghost use Rattle.file_classes.specs.Reading.{field_entry, method_entry};
+ghost use Rattle.file_strip.specs.Survey.{FindsNames, HasFound};
+
+use crate::survey::Found;
+use code_renumber::mark_code;
+use dex_base::Fault;
+use dex_container::Sections;
+use dex_insn::IndexKind;
+use file_classes::{FieldEntry, MethodEntry};
+use file_limits::plus;
+use std::alloc::Global;
+use tables_numbers::Marks;
+
+// Marks the fields of a list of entries.
+pub(crate) fn mark_fields(
+    marks: &mut Marks,
+    sections: &Sections<'_>,
+    entries: &[FieldEntry],
+) -> Result<(), Fault>
+    requires marks { HasMarks sections.now marks.old }
+    requires run { (class : Units) × (ms : List Member) × IsRun (IsField sections.now class) (map field_entry entries.now) ms }
+    ensures marked { OnOk result ((class : Units) (ms : List Member) → IsRun (IsField sections.now class) (map field_entry entries.now) ms
+        → AddsNames sections.now marks.old marks.new (map (field_of_class class) ms)) }
+    ensures memory { IsOkUnless result memory }
+{
+    let mut index: u32 = 0;
+    for entry in entries {
+        index += entry.step;
+        marks.mark(sections, IndexKind::Field, index)?;
+    }
+    Ok(())
+}
+
+// Looks at the code at an offset, 0 for none, and answers how many bytes it takes at most. One that was looked at before is known.
+fn look_at_code(
+    alloc: Global,
+    found: &mut Found,
+    sections: &Sections<'_>,
+    off: u32,
+) -> Result<u64, Fault>
+    requires found { HasFound sections.now found.old }
+    requires code { (c : Option Code) × CodeAt sections.now off c }
+    ensures found { OnOk result ((c : Option Code) → CodeAt sections.now off c → FindsNames sections.now found.old found.new (if_any names_of_code c)) }
+    ensures wide { IfOk result (λ n. (c : Option Code) → CodeAt sections.now off c → n ≡ wide_body c) }
+    ensures memory { IsOkUnless result memory }
+{
+    if off == 0 {
+        return Ok(0);
+    }
+    if let Some(wide) = found.codes.get(&off) {
+        return Ok(*wide);
+    }
+    let wide = mark_code(alloc, &mut found.marks, sections, off)?;
+    found.codes.insert(off, wide)?;
+    Ok(wide)
+}
+
+// Marks the methods of a list of entries, looks at their codes, and answers how many bytes these take at most.
+pub(crate) fn look_at_methods(
+    alloc: Global,
+    found: &mut Found,
+    sections: &Sections<'_>,
+    entries: &[MethodEntry],
+) -> Result<u64, Fault>
+    requires found { HasFound sections.now found.old }
+    requires run { (class : Units) × (ms : List Method) × IsRun (IsMethod sections.now class) (map method_entry entries.now) ms × CodesAre sections.now (map method_entry entries.now) ms }
+    ensures found { OnOk result ((class : Units) (ms : List Method) → IsRun (IsMethod sections.now class) (map method_entry entries.now) ms → CodesAre sections.now (map method_entry entries.now) ms
+        → FindsNames sections.now found.old found.new (flat_map (names_of_method class) ms)) }
+    ensures wide { IfOk result (λ n. (class : Units) (ms : List Method) → IsRun (IsMethod sections.now class) (map method_entry entries.now) ms → CodesAre sections.now (map method_entry entries.now) ms
+        → IsSum n (wide_all wide_body (bodies_in ms))) }
+    ensures memory { IsOkUnless result memory }
+{
+    let mut index: u32 = 0;
+    let mut sum: u64 = 0;
+    for entry in entries {
+        index += entry.step;
+        found.marks.mark(sections, IndexKind::Method, index)?;
+        sum = plus(sum, look_at_code(alloc, found, sections, entry.code)?);
+    }
+    Ok(sum)
+}

@@ -1,0 +1,189 @@
+// What the classes of a file mention, and how many bytes they take at most.
+// Page: "Dalvik Executable format", "class_def_item".
+ghost use Rattle.std.specs.Prelude.{◌≡◌, ◌∷◌, ◌++◌, ◌<◌, ℕ, List, Option, [], map, IfOk, OnOk, IsOkUnless};
+ghost use Rattle.std.specs.List.{flat_map};
+ghost use Rattle.base_bytes.specs.Fault.{memory};
+ghost use Rattle.dex_container.specs.Frame.{IsFramed};
+ghost use Rattle.dex_container.specs.Layout.{size_of};
+ghost use Rattle.dex_container.specs.Section as section;
+ghost use Rattle.program_types.specs.Content.{Class, OfDesc, OfText, Program, Units, Value, values};
+ghost use Rattle.program_types.specs.Mentions.{field_of_class, if_any, mentions, names_of_class, names_of_method, names_of_value};
+ghost use Rattle.tables_names.specs.Needed.{needed};
+ghost use Rattle.tables_rows.specs.Names.{AreRows};
+ghost use Rattle.tables_rows.specs.Stands.{StringStands, TypeStands};
+ghost use Rattle.tables_numbers.specs.Marked.{AddsNames, AreMarks, HasMarks};
+ghost use Rattle.dex_value.specs.Wide.{wide_values};
+ghost use Rattle.file_layout.specs.Sections.{wide_all};
+ghost use Rattle.file_limits.specs.Sum.{IsSum};
+ghost use Rattle.file_limits.specs.Wide.{wide_class};
+ghost use Rattle.file_classes.specs.ClassRows.{IndexOrNone};
+ghost use Rattle.file_classes.specs.Classes.{SpellsClass, StaticsAt};
+ghost use Rattle.file_strip.specs.Survey.{FindsNames, HasFound, IsSurvey, SpellsMembers, names_of_head, names_of_members, wide_members};
+ghost use Rattle.file_classes.specs.Reading.{entries};
+
+use crate::members::{look_at_methods, mark_fields};
+use dex_base::Fault;
+use dex_container::Sections;
+use dex_insn::IndexKind;
+use file_classes::{Entries, class_count, class_word, entries_at};
+use file_kept::list_size;
+use file_limits::{plus, times};
+use indexmap::IndexMap;
+use std::alloc::Global;
+use tables_numbers::Marks;
+use value_renumber::mark_array;
+
+// The index that stands for none.
+const NO_INDEX: u32 = 0xffffffff;
+
+// What was found so far: the marks, and of each code and each array that was looked at how many bytes it takes at most.
+#[derive(Drop)]
+pub(crate) struct Found {
+    pub marks: Marks,
+    pub codes: IndexMap<u32, u64>,
+    pub arrays: IndexMap<u32, u64>,
+}
+
+/// What a file's classes need: the marked rows, and how many bytes the classes take at most.
+#[derive(Drop)]
+pub struct Survey {
+    pub marks: Marks,
+    pub wide: u64,
+}
+
+// Looks at the static values at an offset, 0 for none, and answers how many bytes they take at most.
+fn look_at_values(found: &mut Found, sections: &Sections<'_>, off: u32) -> Result<u64, Fault>
+    requires found { HasFound sections.now found.old }
+    requires values { (most : ℕ) × (vs : List Value) × StaticsAt sections.now off most vs }
+    ensures found { OnOk result ((most : ℕ) (vs : List Value) → StaticsAt sections.now off most vs
+        → FindsNames sections.now found.old found.new (flat_map names_of_value vs)) }
+    ensures wide { IfOk result (λ n. (most : ℕ) (vs : List Value) → StaticsAt sections.now off most vs → n ≡ wide_values (values vs)) }
+    ensures memory { IsOkUnless result memory }
+{
+    if off == 0 {
+        return Ok(0);
+    }
+    if let Some(wide) = found.arrays.get(&off) {
+        return Ok(*wide);
+    }
+    let wide = mark_array(&mut found.marks, sections, off)?;
+    found.arrays.insert(off, wide)?;
+    Ok(wide)
+}
+
+// Marks the superclass, if there is one.
+fn mark_superclass(marks: &mut Marks, sections: &Sections<'_>, index: u32) -> Result<(), Fault>
+    requires marks { HasMarks sections.now marks.old }
+    requires row { (t : Option Units) × IndexOrNone (TypeStands sections.now) index t }
+    ensures marked { OnOk result ((t : Option Units) → IndexOrNone (TypeStands sections.now) index t
+        → AddsNames sections.now marks.old marks.new (if_any (λ u. OfDesc u ∷ []) t)) }
+    ensures memory { IsOkUnless result memory }
+{
+    if index == NO_INDEX {
+        return Ok(());
+    }
+    marks.mark(sections, IndexKind::Type, index)?;
+    Ok(())
+}
+
+// Marks the source file, if there is one.
+fn mark_source(marks: &mut Marks, sections: &Sections<'_>, index: u32) -> Result<(), Fault>
+    requires marks { HasMarks sections.now marks.old }
+    requires row { (t : Option Units) × IndexOrNone (StringStands sections.now) index t }
+    ensures marked { OnOk result ((t : Option Units) → IndexOrNone (StringStands sections.now) index t
+        → AddsNames sections.now marks.old marks.new (if_any (λ u. OfText u ∷ []) t)) }
+    ensures memory { IsOkUnless result memory }
+{
+    if index == NO_INDEX {
+        return Ok(());
+    }
+    marks.mark(sections, IndexKind::String, index)?;
+    Ok(())
+}
+
+// Looks at the members of a class and at its static values, and answers how many bytes its class data, they and the codes take at most.
+fn look_at_members(
+    alloc: Global,
+    found: &mut Found,
+    sections: &Sections<'_>,
+    all: &Entries,
+    values: u32,
+) -> Result<u64, Fault>
+    requires found { HasFound sections.now found.old }
+    requires members { (c : Class) × SpellsMembers sections.now (entries all.now) values c }
+    ensures found { OnOk result ((c : Class) → SpellsMembers sections.now (entries all.now) values c → FindsNames sections.now found.old found.new (names_of_members c)) }
+    ensures wide { IfOk result (λ n. (c : Class) → SpellsMembers sections.now (entries all.now) values c → IsSum n (wide_members c)) }
+    ensures memory { IsOkUnless result memory }
+{
+    mark_fields(&mut found.marks, sections, &all.statics)?;
+    let array = look_at_values(found, sections, values)?;
+    mark_fields(&mut found.marks, sections, &all.instances)?;
+    let directs = look_at_methods(alloc, found, sections, &all.directs)?;
+    let virtuals = look_at_methods(alloc, found, sections, &all.virtuals)?;
+    let fields = plus(times(all.statics.len(), 10), times(all.instances.len(), 10));
+    let methods = plus(times(all.directs.len(), 15), times(all.virtuals.len(), 15));
+    let data = plus(plus(20, fields), methods);
+    Ok(plus(plus(data, plus(5, array)), plus(directs, virtuals)))
+}
+
+// Marks what the row of a class names: its type, superclass, interfaces and source file.
+fn mark_head(marks: &mut Marks, sections: &Sections<'_>, i: u32) -> Result<(), Fault>
+    requires marks { HasMarks sections.now marks.old }
+    requires row { i < size_of sections.now section.class_defs }
+    requires class { (c : Class) × SpellsClass sections.now i c }
+    ensures marked { OnOk result ((c : Class) → SpellsClass sections.now i c → AddsNames sections.now marks.old marks.new (names_of_head c)) }
+    ensures memory { IsOkUnless result memory }
+{
+    marks.mark(sections, IndexKind::Type, class_word(sections, i, 0))?;
+    mark_superclass(marks, sections, class_word(sections, i, 2))?;
+    marks.mark_list(sections, class_word(sections, i, 3))?;
+    mark_source(marks, sections, class_word(sections, i, 4))?;
+    Ok(())
+}
+
+// Looks at the class of row `i`, and answers how many bytes it takes at most.
+fn look_at_class(
+    alloc: Global,
+    found: &mut Found,
+    sections: &Sections<'_>,
+    i: u32,
+) -> Result<u64, Fault>
+    requires found { HasFound sections.now found.old }
+    requires row { i < size_of sections.now section.class_defs }
+    requires class { (c : Class) × SpellsClass sections.now i c }
+    ensures found { OnOk result ((c : Class) → SpellsClass sections.now i c → FindsNames sections.now found.old found.new (names_of_class c)) }
+    ensures wide { IfOk result (λ n. (c : Class) → SpellsClass sections.now i c → IsSum n (wide_class c)) }
+    ensures memory { IsOkUnless result memory }
+{
+    // Only for the proof: what holds of each value of its type.
+    let _file = sections.bytes();
+    mark_head(&mut found.marks, sections, i)?;
+    let Some(all) = entries_at(alloc, sections, class_word(sections, i, 6))? else {
+        unreachable!()
+    };
+    let members = look_at_members(alloc, found, sections, &all, class_word(sections, i, 7))?;
+    let interfaces = list_size(sections, class_word(sections, i, 3));
+    Ok(plus(plus(32, interfaces), members))
+}
+
+/// Looks at all classes of a file that means a program: the rows of the names that the program needs are marked, and the classes take at
+/// most so many bytes, which is exact as long as it is within the limit of a file.
+///
+/// The only refusal is want of memory.
+pub fn look_at_classes(alloc: Global, sections: &Sections<'_>) -> Result<Survey, Fault>
+    requires classes { IsFramed sections.now × ((p : Program) × AreRows SpellsClass sections.now section.class_defs p) }
+    ensures ok { IfOk result (λ survey. (p : Program) → AreRows SpellsClass sections.now section.class_defs p → IsSurvey sections.now survey p) }
+    ensures memory { IsOkUnless result memory }
+{
+    let mut found = Found {
+        marks: Marks::new(alloc, sections)?,
+        codes: IndexMap::new(alloc),
+        arrays: IndexMap::new(alloc),
+    };
+    let mut wide: u64 = 0;
+    for i in 0..class_count(sections) {
+        wide = plus(wide, look_at_class(alloc, &mut found, sections, i)?);
+    }
+    let Found { marks, .. } = found;
+    Ok(Survey { marks, wide })
+}

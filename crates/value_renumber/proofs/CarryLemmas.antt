@@ -1,0 +1,222 @@
+-- Values that are spelled anew.
+use Rattle.std.proofs.Common.{◌≡◌, ℕ, zero, suc, ◌+◌, ◌<◌, ◌≤◌, List, [], ◌∷◌, ◌++◌, length, take, drop, get_or, Some, slice_get, refl, sym, ap, subst, ◌∙◌, arith, true, false}
+use Rattle.std.proofs.Math.Seq.{drop-cons}
+use Rattle.std.proofs.lemmas.List.{take_more, take_all}
+use Rattle.base_bytes.specs.Grammar.{Appends, Takes, Each, Many}
+use Rattle.base_bytes.specs.Leb128.{Spells, Shortest}
+use Rattle.base_bytes.proofs.GrammarLaws.{Each-appends_none, Each-appends_more}
+use Rattle.dex_container.specs.Frame.{IsFramed}
+use Rattle.dex_insn.specs.declared.opcode.IndexKind.{IndexKind}
+use Rattle.program_types.specs.Content.{Name, OfField, Value, Byte, Short, Char, Int, Long, Float, Double, Named, Enum, Array, Null, Boolean, Values, values}
+use Rattle.program_types.specs.Mentions.{NamesHold, AllNamesHold, names_of_value}
+use Rattle.tables_names.specs.Closure.{Five, AreRising, NameRanks}
+use Rattle.tables_rows.specs.Stands.{NameStands}
+use Rattle.dex_value.specs.declared.types.NameType.{NameType}
+use Rattle.std.proofs.lemmas.Option.{slice_get_within}
+use Rattle.dex_value.specs.Named.{IsPlain}
+use Rattle.dex_value.specs.Reading.{name_code, kind_of as table_of, IsNumber, ValueStands}
+use Rattle.dex_value.specs.Spelling.{unsigned_of, type_of, SpellsValue, SpellsArray, count_of}
+use Rattle.dex_value.specs.Writing.{UnsignedAs, IndexAs}
+use Rattle.dex_value.proofs.Appending.{index_appends, array_appends, array_value_appends}
+use Rattle.dex_value.proofs.FrontLaws.{stands_one}
+use Rattle.dex_value.proofs.Fronts.{LoneFront, BareNull, BareFalse, BareTrue}
+use Rattle.dex_value.proofs.Lists.{listed, length-listed, values-listed}
+use Rattle.dex_value.proofs.Namings.{number_stands}
+use Rattle.value_laws.proofs.Carrying.{NameStands-functional}
+use Rattle.tables_numbers.specs.Marked.{Columns, kind_of}
+use Rattle.tables_numbers.specs.Numbers.{Carries, column_of}
+use Rattle.value_renumber.specs.Walks.{IsLow, IsCarriedLow, IsCarriedValue, AreCarriedValues}
+use Rattle.value_renumber.proofs.FrontLemmas.{TakenArray, next_value, values_due}
+use Rattle.value_renumber.specs.Carried.{IsCarriedArray, IsItemOf}
+use Rattle.value_renumber.proofs.NameLemmas.{NamedRow, row_of_low}
+
+-- ---- a value of bytes behind its head
+
+pub number_plain : (t : ℕ) (low : List ℕ) (v : Value) → IsNumber t low v → IsPlain v
+number_plain t low (Named which) s = s
+number_plain t low (Enum f) s = s
+number_plain t low (Array vs) s = s
+number_plain t low _ s = tt
+
+pub number_is : (b : List ℕ) (t : ℕ) (low : List ℕ) (v w : Value) → IsLow b t low v → IsNumber t low w → w ≡ v
+number_is b t low v w l n =
+    stands_one (NameStands b) (NameStands-functional b l.framed) w v t low (number_stands (NameStands b) t low w n) l.stands
+
+-- the value is spelled by the rank of its name
+pub record CarriedName (numbers : Columns) (s : Five) (table : IndexKind) (i t : ℕ) (v : Value) : Type 0 where
+  pub number : ℕ
+  pub at : slice_get (column_of numbers table) i ≡ Some number
+  pub appends : (old new : List ℕ) → Appends (Shortest (UnsignedAs t 4)) old new number → Appends (Shortest (SpellsValue (NameRanks s))) old new v
+
+named_appends : (N : ℕ → Name → Type 0) (which : Name) (old new : List ℕ) → Appends (Shortest (IndexAs N (type_of which))) old new which → Appends (Shortest (SpellsValue N)) old new (Named which)
+named_appends N which old new a = record { bytes = a.bytes; joined = a.joined; spelled = record { spelled = a.spelled.spelled; least = a.spelled.least } }
+
+enum_appends : (N : ℕ → Name → Type 0) (f : _) (old new : List ℕ) → Appends (Shortest (IndexAs N 27)) old new (OfField f) → Appends (Shortest (SpellsValue N)) old new (Enum f)
+enum_appends N f old new a = record { bytes = a.bytes; joined = a.joined; spelled = record { spelled = a.spelled.spelled; least = a.spelled.least } }
+
+module _ (b : List ℕ) (numbers : Columns) (s : Five) (ty : NameType) (t : ℕ) (low : List ℕ) (is : name_code ty ≡ t) where
+  column_at : (which : Name) (table : IndexKind) (number : ℕ) → kind_of which ≡ table → slice_get (column_of numbers (kind_of which)) (unsigned_of low) ≡ Some number → slice_get (column_of numbers table) (unsigned_of low) ≡ Some number
+  column_at which table number e at = subst (λ (k : IndexKind). slice_get (column_of numbers k) (unsigned_of low) ≡ Some number) e at
+
+  of_row : (v : Value) (which : Name) → NamedRow b (table_of ty) (unsigned_of low) v → names_of_value v ≡ which ∷ [] → kind_of which ≡ table_of ty
+  of_row v which r names = let same : r.which ≡ which = (let e = r.names in cc) in ap kind_of (sym same) ∙ r.row.kind
+
+  by : (v : Value) → AreRising s → NamedRow b (table_of ty) (unsigned_of low) v → ValueStands (NameStands b) t low v → NamesHold (Carries (NameStands b) (NameRanks s) numbers) v → CarriedName numbers s (table_of ty) (unsigned_of low) t v
+  by (Named which) up r st c =
+      let x = c (unsigned_of low) st.1 in
+      record {
+        number = x.0;
+        at = column_at which (table_of ty) x.0 (of_row (Named which) which r refl) x.1;
+        appends = λ old new a. named_appends (NameRanks s) which old new (index_appends s (type_of which) x.0 which old new up x.2 (subst (λ (k : ℕ). Appends (Shortest (UnsignedAs k 4)) old new x.0) st.0 a));
+      }
+  by (Enum f) up r st c =
+      let x = c (unsigned_of low) st.1 in
+      record {
+        number = x.0;
+        at = column_at (OfField f) (table_of ty) x.0 (of_row (Enum f) (OfField f) r refl) x.1;
+        appends = λ old new a. enum_appends (NameRanks s) f old new (index_appends s 27 x.0 (OfField f) old new up x.2 (subst (λ (k : ℕ). Appends (Shortest (UnsignedAs k 4)) old new x.0) st.0 a));
+      }
+  by (Array vs) up r st c = absurd st
+  by (Byte n) up r st c = let e = r.names in absurd cc
+  by (Short n) up r st c = let e = r.names in absurd cc
+  by (Char n) up r st c = let e = r.names in absurd cc
+  by (Int n) up r st c = let e = r.names in absurd cc
+  by (Long n) up r st c = let e = r.names in absurd cc
+  by (Float n) up r st c = let e = r.names in absurd cc
+  by (Double n) up r st c = let e = r.names in absurd cc
+  by Null up r st c = absurd st
+  by (Boolean x) up r st c = absurd st
+
+  pub carried_name : (v : Value) → IsCarriedLow b numbers s t low v → CarriedName numbers s (table_of ty) (unsigned_of low) t v
+  carried_name v c = by v c.rise (row_of_low b ty t low v is c.low) c.low.stands c.carried
+
+-- ---- a head alone
+
+alone : (N : ℕ → Name → Type 0) (h k : ℕ) (old new : List ℕ) (v w : Value) → v ≡ w → new ≡ old ++ h ∷ [] → SpellsValue N (h ∷ []) w → ((other : List ℕ) → SpellsValue N other w → other ≡ k ∷ []) → Appends (Shortest (SpellsValue N)) old new v
+alone N h k old new v w is joined s only = subst (λ (x : Value). Appends (Shortest (SpellsValue N)) old new x) (sym is) (record {
+  bytes = h ∷ [];
+  joined = joined;
+  spelled = record { spelled = s; least = λ other o. let e = ap length (only other o) in omega (arith, e) };
+})
+
+pub lone_appends : (N : ℕ → Name → Type 0) (h : ℕ) (old new : List ℕ) (v : Value) → new ≡ old ++ h ∷ [] → LoneFront (h ∷ []) v → Appends (Shortest (SpellsValue N)) old new v
+lone_appends N h old new v joined (BareNull e i) = alone N h 30 old new v Null i joined e (λ other o. o)
+lone_appends N h old new v joined (BareFalse e i) = alone N h 31 old new v (Boolean false) i joined e (λ other o. o)
+lone_appends N h old new v joined (BareTrue e i) = alone N h 63 old new v (Boolean true) i joined e (λ other o. o)
+
+-- ---- an array
+
+-- the values of an array value, as they are due behind its count
+pub inner_carried : (b : List ℕ) (numbers : Columns) (s : Five) (tail rest : List ℕ) (v : Value) (n : ℕ) (left : List ℕ) → IsFramed b → AreRising s → NamesHold (Carries (NameStands b) (NameRanks s) numbers) v → (t : TakenArray (NameStands b) tail v rest) → count_of t.vs ≡ n → t.mid ≡ left → AreCarriedValues b numbers s n left (listed t.vs) rest
+inner_carried b numbers s tail rest v n left framed up c t count mid = record {
+  framed = framed;
+  rise = up;
+  taken = subst (λ (l : List ℕ). Takes (Many (SpellsValue (NameStands b)) n) l (listed t.vs) rest) mid (subst (λ (k : ℕ). Takes (Many (SpellsValue (NameStands b)) k) t.mid (listed t.vs) rest) count t.values);
+  carried = subst (λ (ws : Values). AllNamesHold (Carries (NameStands b) (NameRanks s) numbers) ws) (sym (values-listed t.vs)) (subst (λ (x : Value). NamesHold (Carries (NameStands b) (NameRanks s) numbers) x) t.value c);
+}
+
+pub array_spelled : (N : ℕ → Name → Type 0) (start one two new : List ℕ) (v : Value) (vs : Values) (n : ℕ) → v ≡ Array vs → count_of vs ≡ n → one ≡ start ++ 28 ∷ [] → Appends (Shortest Spells) one two n → Appends (Each (Shortest (SpellsValue N))) two new (listed vs) → Appends (Shortest (SpellsValue N)) start new v
+array_spelled N start one two new v vs n is count head c a =
+    subst (λ (x : Value). Appends (Shortest (SpellsValue N)) start new x) (ap Array (values-listed vs) ∙ sym is)
+    (array_value_appends N one two new n (listed vs) start (length-listed vs ∙ count) head c a)
+
+-- ---- values one behind the other
+
+-- what holds of the names of all holds of those of one
+all_at : (P : Name → Type 0) (vs : List Value) (i : ℕ) → i < length vs → AllNamesHold P (values vs) → NamesHold P (get_or vs i Null)
+all_at P [] i lt all = absurd (omega (arith, lt))
+all_at P (v ∷ vs) zero lt all = all.0
+all_at P (v ∷ vs) (suc i) lt all = all_at P vs i (omega (arith, lt)) all.1
+
+-- those before a place are appended, and those from it on are due
+pub record Renumbered (b : List ℕ) (s : Five) (old out left : List ℕ) (turn : ℕ) (vs : List Value) (rest : List ℕ) : Type 0 where
+  pub done : Appends (Each (Shortest (SpellsValue (NameRanks s)))) old out (take turn vs)
+  pub due : Takes (Each (SpellsValue (NameStands b))) left (drop turn vs) rest
+
+pub renumbered_start : (b : List ℕ) (numbers : Columns) (s : Five) (n : ℕ) (bytes : List ℕ) (vs : List Value) (rest old : List ℕ) → AreCarriedValues b numbers s n bytes vs rest → Renumbered b s old old bytes 0 vs rest
+renumbered_start b numbers s n bytes vs rest old c = record {
+  done = Each-appends_none (Shortest (SpellsValue (NameRanks s))) old;
+  due = record { front = c.taken.front; whole = c.taken.whole; spelled = c.taken.spelled.1 };
+}
+
+-- the value that is due next
+pub record NextDue (b : List ℕ) (numbers : Columns) (s : Five) (left : List ℕ) (turn : ℕ) (vs : List Value) (rest : List ℕ) : Type 0 where
+  pub mid : List ℕ
+  pub one : IsCarriedValue b numbers s left (get_or vs turn Null) mid
+  pub more : Takes (Each (SpellsValue (NameStands b))) mid (drop (turn + 1) vs) rest
+
+pub next_due : (b : List ℕ) (numbers : Columns) (s : Five) (n : ℕ) (bytes left : List ℕ) (turn : ℕ) (vs : List Value) (rest old out : List ℕ) → turn < n → AreCarriedValues b numbers s n bytes vs rest → Renumbered b s old out left turn vs rest → NextDue b numbers s left turn vs rest
+next_due b numbers s n bytes left turn vs rest old out lt c r =
+    let count = c.taken.spelled.0 in
+    let within : turn < length vs = omega (arith, lt, count) in
+    let x = next_value (NameStands b) n left (get_or vs turn Null) (drop (suc turn) vs) rest (subst (λ (ws : List Value). Takes (Each (SpellsValue (NameStands b))) left ws rest) (drop-cons vs turn Null within) r.due) in
+    record {
+      mid = x.0;
+      one = record { framed = c.framed; rise = c.rise; taken = x.1; carried = all_at (Carries (NameStands b) (NameRanks s) numbers) vs turn within c.carried };
+      more = (let e : suc turn ≡ turn + 1 = omega arith in subst (λ (k : ℕ). Takes (Each (SpellsValue (NameStands b))) x.0 (drop k vs) rest) e x.2);
+    }
+
+pub renumbered_next : (b : List ℕ) (numbers : Columns) (s : Five) (n : ℕ) (bytes left after : List ℕ) (turn : ℕ) (vs : List Value) (rest old out new : List ℕ) → turn < n → AreCarriedValues b numbers s n bytes vs rest → Renumbered b s old out left turn vs rest → (d : NextDue b numbers s left turn vs rest) → after ≡ d.mid → Appends (Shortest (SpellsValue (NameRanks s))) out new (get_or vs turn Null) → Renumbered b s old new after (turn + 1) vs rest
+renumbered_next b numbers s n bytes left after turn vs rest old out new lt c r d follows a =
+    let count = c.taken.spelled.0 in record {
+      done = subst (λ (ws : List Value). Appends (Each (Shortest (SpellsValue (NameRanks s)))) old new ws) (sym (take_more vs turn Null (omega (arith, lt, count))))
+          (Each-appends_more (Shortest (SpellsValue (NameRanks s))) old out new (take turn vs) (get_or vs turn Null) r.done a);
+      due = subst (λ (l : List ℕ). Takes (Each (SpellsValue (NameStands b))) l (drop (turn + 1) vs) rest) (sym follows) d.more;
+    }
+
+none_left : (N : ℕ → Name → Type 0) (left rest : List ℕ) (vs : List Value) → vs ≡ [] → Takes (Each (SpellsValue N)) left vs rest → left ≡ rest
+none_left N left rest [] e t = t.whole ∙ ap (λ l. l ++ rest) t.spelled
+none_left N left rest (v ∷ vs) e t = absurd cc
+
+drop_none : (vs : List Value) (i : ℕ) → length vs ≤ i → drop i vs ≡ []
+drop_none [] zero le = refl
+drop_none [] (suc i) le = refl
+drop_none (v ∷ vs) zero le = absurd (omega (arith, le))
+drop_none (v ∷ vs) (suc i) le = drop_none vs i (omega (arith, le))
+
+pub renumbered_end : (b : List ℕ) (numbers : Columns) (s : Five) (n : ℕ) (bytes left : List ℕ) (turn : ℕ) (vs : List Value) (rest old out : List ℕ) → n ≤ turn → AreCarriedValues b numbers s n bytes vs rest → Renumbered b s old out left turn vs rest → Appends (Each (Shortest (SpellsValue (NameRanks s)))) old out vs × (left ≡ rest)
+renumbered_end b numbers s n bytes left turn vs rest old out le c r =
+    let count = c.taken.spelled.0 in
+    let all : length vs ≤ turn = omega (arith, le, count) in (
+      subst (λ (ws : List Value). Appends (Each (Shortest (SpellsValue (NameRanks s)))) old out ws) (take_all turn vs all) r.done,
+      none_left (NameStands b) left rest (drop turn vs) (drop_none vs turn all) r.due,
+    )
+
+-- ---- indices
+
+some_same : {V : Type 0} (x y : V) → Some x ≡ Some y → x ≡ y
+some_same x y e = cc
+
+-- the number that was looked up
+pub number_at : (numbers : Columns) (table asked : IndexKind) (i j n m : ℕ) → asked ≡ table → j ≡ i → slice_get (column_of numbers asked) j ≡ Some m → slice_get (column_of numbers table) i ≡ Some n → m ≡ n
+number_at numbers table asked i j n m same at there here =
+    some_same m n (sym (subst (λ (k : IndexKind). slice_get (column_of numbers k) i ≡ Some m) same (subst (λ (k : ℕ). slice_get (column_of numbers asked) k ≡ Some m) at there)) ∙ here)
+
+-- it can be looked up
+pub index_within : (numbers : Columns) (table asked : IndexKind) (i j n : ℕ) → asked ≡ table → j ≡ i → slice_get (column_of numbers table) i ≡ Some n → j < length (column_of numbers asked)
+index_within numbers table asked i j n same at here =
+    subst (λ (k : ℕ). k < length (column_of numbers asked)) (sym at) (subst (λ (k : IndexKind). i < length (column_of numbers k)) (sym same) (slice_get_within (column_of numbers table) i n here))
+
+-- ---- an array of a class
+
+pub values_carried : (b : List ℕ) (off : ℕ) (numbers : Columns) (s : Five) (vs : List Value) (n : ℕ) (bytes left mid rest : List ℕ) → IsFramed b → IsCarriedArray b off numbers s vs → Takes Spells bytes (length vs) mid → Takes Spells bytes n left → Takes (Many (SpellsValue (NameStands b)) (length vs)) mid vs rest → AreCarriedValues b numbers s n left vs rest
+values_carried b off numbers s vs n bytes left mid rest framed x p q t = record {
+  framed = framed;
+  rise = x.rise;
+  taken = values_due (NameStands b) bytes (length vs) n mid left vs rest p q t;
+  carried = x.carried;
+}
+
+pub no_item : (N : ℕ → Name → Type 0) (bytes : List ℕ) (vs : List Value) → length vs ≡ 0 → bytes ≡ [] → IsItemOf N bytes vs
+no_item N bytes [] none e = e
+no_item N bytes (v ∷ vs) none e = absurd (omega (arith, none))
+
+item_of : (N : ℕ → Name → Type 0) (bytes : List ℕ) (vs : List Value) → (length vs ≡ 0 → ⊥) → Shortest (SpellsArray N) bytes vs → IsItemOf N bytes vs
+item_of N bytes [] some s = absurd (some refl)
+item_of N bytes (v ∷ vs) some s = s
+
+pub item_is : (N : ℕ → Name → Type 0) (old mid new : List ℕ) (n : ℕ) (vs : List Value) → old ≡ [] → length vs ≡ n → (n ≡ 0 → ⊥) → Appends (Shortest Spells) old mid n → Appends (Each (Shortest (SpellsValue N))) mid new vs → IsItemOf N new vs
+item_is N old mid new n vs none count some c a =
+    let x = array_appends N old mid new n vs count c a in
+    let whole : x.bytes ≡ new = sym (x.joined ∙ ap (λ l. l ++ x.bytes) none) in
+    item_of N new vs (λ e. some (sym count ∙ e)) (subst (λ (l : List ℕ). Shortest (SpellsArray N) l vs) whole x.spelled)

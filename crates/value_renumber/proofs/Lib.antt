@@ -1,0 +1,4 @@
+pub mod FrontLemmas
+pub mod NameLemmas
+pub mod MarkLemmas
+pub mod CarryLemmas
