@@ -26,10 +26,10 @@ def file_of_body(file, body):
 
 
 def calls(n):
-    """n / 4 calls of methods of a class whose name has n units"""
+    """n / 4 calls of methods, at most 60,000, of a class whose name has n units"""
     file, owner = File(), "L" + "a" * n + ";"
-    called = [file.method(owner, f"m{i:06}", file.proto("V")) for i in range(n // 4)]
-    body = lambda file: code([u for m in called for u in (0x0071, file.method_at[m], 0)] + [0x0E])
+    called = [file.method(owner, f"m{i:06}", file.proto("V")) for i in range(min(n // 4, 60000))]
+    body = lambda file: code([u for i in range(n // 4) for u in (0x0071, file.method_at[called[i % len(called)]], 0)] + [0x0E])
     return file_of_body(file, body)
 
 

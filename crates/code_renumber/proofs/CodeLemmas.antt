@@ -1,16 +1,17 @@
 -- A code item, taken apart and put together.
-use Rattle.std.proofs.Common.{◌≡◌, ℕ, ◌*◌, ◌<◌, List, [], ◌++◌, length, map, refl, sym, ap, subst, ◌∙◌, arith}
+use Rattle.std.proofs.Common.{◌≡◌, ℕ, zero, suc, ◌*◌, ◌<◌, List, [], ◌∷◌, ◌++◌, length, map, refl, sym, ap, subst, ◌∙◌, arith}
 use Rattle.std.specs.List.{AllByRecursion, flat_map}
 use Rattle.base_bytes.specs.Fields.{AreBytes}
 use Rattle.dex_container.specs.Frame.{IsFramed}
 use Rattle.dex_insn.specs.Written.{IsRaw}
-use Rattle.program_types.specs.Content.{Code}
+use Rattle.program_types.specs.Content.{Try, Code}
 use Rattle.program_types.specs.Mentions.{names_of_insn, names_of_try}
 use Rattle.program_types.specs.Sizes.{addresses_of}
 use Rattle.tables_names.specs.Closure.{Five, NameRanks}
 use Rattle.tables_rows.specs.Stands.{NameStands}
 use Rattle.tables_numbers.specs.Marked.{Columns}
 use Rattle.tables_numbers.specs.Numbers.{Carries}
+use Rattle.code_insns.specs.Places.{Rises}
 use Rattle.code_insns.specs.Walk.{starts}
 use Rattle.code_insns.proofs.SaidRegisters.{addresses-same}
 use Rattle.code_read.specs.Reading.{ReadTries}
@@ -25,6 +26,21 @@ use Rattle.code_renumber.specs.Fronts.{SpellsItem}
 use Rattle.code_renumber.specs.Walks.{CoverTries}
 use Rattle.code_renumber.proofs.LoweredLemmas.{can-all, lowered}
 use Rattle.code_renumber.proofs.WideLemmas.{size_same, count_same, head_same}
+
+-- ---- without tries, where instructions begin isn't asked
+
+pub none_rise : (ss : List ℕ) → ss ≡ [] → Rises ss
+none_rise ss e = record { each = λ i j p q. let l = ap length e in absurd (omega (arith, l, q)) }
+
+pub cover_with : (n : ℕ) (items ss begins : List ℕ) (ts : List Try) → (0 < n → begins ≡ ss) → CoverTries ss items n ts → CoverTries begins items n ts
+cover_with zero items ss begins ts h c = record { count = c.count; each = λ i l. absurd (omega (arith, l)) }
+cover_with (suc n) items ss begins ts h c = subst (λ (z : List ℕ). CoverTries z items (suc n) ts) (sym (h (omega arith))) c
+
+pub items_with : (size n : ℕ) (ss begins : List ℕ) (ts : List Try) (offs : List ℕ) → (0 < n → begins ≡ ss) → length ts ≡ n → items_bytes size begins ts offs ≡ items_bytes size ss ts offs
+items_with size n ss begins [] offs h e = refl
+items_with size n ss begins (t ∷ ts) offs h e = ap (λ (z : List ℕ). items_bytes size z (t ∷ ts) offs) (h (omega (arith, e)))
+
+-- ---- all of it
 
 module _ (b : List ℕ) (off : ℕ) (numbers : Columns) (s : Five) (i : Item) (c : Code) (x : IsCarriedCode b off numbers s c) (y : SpellsItem (NameStands b) i c) (are : AreBytes b) (framed : IsFramed b) (units-are : AreBytes i.units.now) (units : length i.units.now ≡ 2 * i.size) where
   carried_insns : AllByRecursion (Carries (NameStands b) (NameRanks s) numbers) (flat_map names_of_insn c.insns)

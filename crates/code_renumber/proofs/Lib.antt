@@ -6,6 +6,10 @@ pub mod WideLemmas
 pub mod HandlerLemmas
 pub mod ListLemmas
 pub mod TryLemmas
+pub mod BytesLemmas
+pub mod FormLemmas
+pub mod ShapeLemmas
+pub mod IndexLemmas
 pub mod NumberLemmas
 pub mod WrittenLemmas
 pub mod CatchLemmas

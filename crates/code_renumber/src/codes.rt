@@ -1,5 +1,5 @@
 //! Code items ("code_item").
-ghost use Rattle.std.specs.Prelude.{◌≡◌, ◌≢◌, ◌++◌, ℕ, List, IfOk, IfErr, OnOk, IsOkUnless};
+ghost use Rattle.std.specs.Prelude.{◌≡◌, ◌≢◌, ◌<◌, ◌≤◌, ◌%◌, ◌++◌, ℕ, List, length, IfOk, IfErr, OnOk, IsOkUnless};
 ghost use Rattle.base_bytes.specs.Fault.{memory};
 ghost use Rattle.program_types.specs.Content.{Code};
 ghost use Rattle.program_types.specs.Mentions.{names_of_code};
@@ -7,13 +7,16 @@ ghost use Rattle.program_types.specs.Sizes.{addresses_of};
 ghost use Rattle.tables_names.specs.Closure.{Five, NameRanks};
 ghost use Rattle.tables_rows.specs.Stands.{NameStands};
 ghost use Rattle.tables_numbers.specs.Marked.{HasMarks, AddsNames};
+ghost use Rattle.dex_insn.specs.Raw.{Raw};
+ghost use Rattle.code_insns.specs.Places.{Rises};
+ghost use Rattle.code_insns.specs.Walk.{Walks, starts};
 ghost use Rattle.code_read.specs.Code.{CodeStands};
 ghost use Rattle.code_put.specs.Fits.{wide_code, SomeHandlerIsFar};
 ghost use Rattle.code_put.specs.Packs.{PacksCode};
 ghost use Rattle.code_renumber.specs.Carried.{IsCarriedCode, head_of};
 
 use crate::fronts::item_at;
-use crate::insns::{mark_insns, renumber_insns};
+use crate::insns::{mark_insns, renumber_insns, starts_of};
 use crate::tries::{lay_tries, mark_tries, put_items};
 use base_bytes::are_bytes;
 use code_put::{put_padding, put_u16, put_u32};
@@ -67,6 +70,21 @@ fn put_head(out: &mut Vec<u8>, item: &Item<'_>) -> Result<(), Fault>
     put_u32(out, item.size)
 }
 
+/// The unit at which each instruction of a code begins: none without tries, which alone ask for them.
+fn starts_asked(alloc: Global, item: &Item<'_>) -> Result<Vec<u32>, Fault>
+    requires even { length item.now.units.now % 2 ≡ 0 }
+    requires short { length item.now.units.now ≤ 8589934590 }
+    requires insns { (rs : List Raw) × Walks item.now.units.now rs }
+    ensures table { IfOk result (λ all. (rs : List Raw) → Walks item.now.units.now rs → 0 < item.now.tries → all.items ≡ starts rs) }
+    ensures rises { IfOk result (λ all. Rises all.items) }
+    ensures memory { IsOkUnless result memory }
+{
+    if item.tries == 0 {
+        return Ok(Vec::new(alloc));
+    }
+    starts_of(alloc, item.units)
+}
+
 /// The bytes of the code at an offset in a file of the kept rows: debug_info_off and padding 0, numbers in the fewest
 /// bytes, each handler once, in the order of first use. Refused with 89, at 0, where a handler begins too far behind the
 /// list's begin, and else only for want of memory.
@@ -93,7 +111,8 @@ pub fn renumber_code(
     are_bytes(item.units);
     let mut out = Vec::with_capacity(alloc, 16 + item.units.len())?;
     put_head(&mut out, &item)?;
-    let starts = renumber_insns(alloc, &mut out, numbers, item.units)?;
+    renumber_insns(&mut out, numbers, item.units)?;
+    let starts = starts_asked(alloc, &item)?;
     put_padding(&mut out, item.size, usize::from(item.tries))?;
     let laid = lay_tries(alloc, numbers, &item)?;
     put_items(&mut out, &item, &starts, &laid.offsets)?;

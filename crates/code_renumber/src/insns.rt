@@ -1,68 +1,48 @@
 //! The instructions of a code: what they name, and what they are with other indices.
-ghost use Rattle.std.specs.Prelude.{◌≡◌, ◌≤◌, ◌%◌, ◌++◌, ℕ, ℤ, List, Option, map, length, false, IfSome, IfNone, IfOk, OnOk, OnErr, IsOkUnless};
+ghost use Rattle.std.specs.Prelude.{◌≡◌, ◌<◌, ◌≤◌, ◌%◌, ◌++◌, ℕ, ℤ, List, Option, map, length, IfOk, OnOk, IsOkUnless};
 ghost use Rattle.std.specs.List.{AllByRecursion, flat_map};
 ghost use Rattle.base_bytes.specs.Fault.{memory};
-ghost use Rattle.dex_insn.specs.Opcodes.{index_kind_of};
-ghost use Rattle.dex_insn.specs.Raw.{raw, Raw};
-ghost use Rattle.dex_insn.specs.RawInsns.{InsnStands};
+ghost use Rattle.dex_insn.specs.Raw.{Raw};
 ghost use Rattle.dex_insn.specs.Written.{IsRaw};
 ghost use Rattle.program_types.specs.Content.{Insn};
 ghost use Rattle.program_types.specs.Mentions.{names_of_insn};
 ghost use Rattle.tables_rows.specs.Stands.{NameStands};
 ghost use Rattle.tables_numbers.specs.Marked.{HasMarks, AddsNames};
-ghost use Rattle.code_insns.specs.Symbols.{Says, has_index};
+ghost use Rattle.code_insns.specs.Places.{Rises};
+ghost use Rattle.code_insns.specs.Symbols.{Says};
 ghost use Rattle.code_insns.specs.Walk.{Walks, IsTable};
 ghost use Rattle.code_insns.specs.Insns.{SpellsInsns};
 ghost use Rattle.code_put.specs.Packs.{joined};
-ghost use Rattle.code_renumber.specs.Renumbered.{number_in, renumbered, HasNumber, CanBeRenumbered};
-ghost use Rattle.code_renumber.specs.Indices.{IsIndex};
+ghost use Rattle.code_renumber.specs.Renumbered.{renumbered, CanBeRenumbered};
+ghost use Rattle.code_renumber.specs.Shapes.{IsOfShape};
 
+use crate::in_place::renumber_front;
+use crate::shapes::{Shape, index_at, opcode_at, shape_at, size_at};
 use dex_base::Fault;
 use dex_container::Sections;
-use dex_insn::{RawInsn, index_kind_of, put_insn, read_insn, size_of};
+use dex_insn::index_kind_of;
 use std::alloc::Global;
 use tables_numbers::{Marks, Numbers};
 
-/// The opcode and the index of an instruction that has an index.
-#[tactic(auto, unfolding(code_insns::specs::Symbols::has_index, dex_insn::specs::Raw::raw))]
-fn index_of(one: &RawInsn<'_>) -> Option<(u8, u32)>
-    ensures some { IfSome result (λ x. IsIndex (raw one.now) x.0 x.1) }
-    ensures none { IfNone result (has_index (raw one.now) ≡ false) }
-{
-    match *one {
-        RawInsn::I21c { op, index, .. } => Some((op, index)),
-        RawInsn::I22c { op, index, .. } => Some((op, index)),
-        RawInsn::I31c { op, index, .. } => Some((op, index)),
-        RawInsn::I35c { op, index, .. } => Some((op, index)),
-        RawInsn::I3rc { op, index, .. } => Some((op, index)),
-        _ => None,
-    }
-}
-
-/// The instruction that stands at this unit.
-fn insn_at(units: &[u8], at: u32) -> RawInsn<'_>
-    requires { (r : Raw) × InsnStands units.now at r }
-    ensures { InsnStands units.now at (raw result) }
-{
-    match read_insn(units, at) {
-        Ok(one) => one,
-        Err(_) => unreachable!(),
-    }
-}
-
 // ---- what they name
 
-/// Marks the row that an instruction names, if it names one.
-fn mark_insn(marks: &mut Marks, sections: &Sections<'_>, one: &RawInsn<'_>) -> Result<(), Fault>
+/// Marks the row that the instruction of this shape at the front of the units names, if it names one.
+fn mark_insn(
+    marks: &mut Marks,
+    sections: &Sections<'_>,
+    front: &[u8],
+    shape: Shape,
+) -> Result<(), Fault>
     requires marks { HasMarks sections.now marks.old }
-    requires says { (T : ℤ → Option ℕ) × (i : Insn) × Says (NameStands sections.now) T (raw one.now) i }
-    ensures marked { OnOk result ((T : ℤ → Option ℕ) (i : Insn) → Says (NameStands sections.now) T (raw one.now) i → AddsNames sections.now marks.old marks.new (names_of_insn i)) }
+    requires says { (T : ℤ → Option ℕ) × (r : Raw) × (i : Insn) × IsOfShape front.now shape r × Says (NameStands sections.now) T r i }
+    ensures marked { OnOk result ((T : ℤ → Option ℕ) (r : Raw) (i : Insn) → IsOfShape front.now shape r → Says (NameStands sections.now) T r i
+        → AddsNames sections.now marks.old marks.new (names_of_insn i)) }
     ensures memory { IsOkUnless result memory }
 {
-    let Some((op, index)) = index_of(one) else {
+    let Some(index) = index_at(front, shape) else {
         return Ok(());
     };
-    match index_kind_of(op) {
+    match index_kind_of(opcode_at(front)) {
         Some(table) => marks.mark(sections, table, index),
         None => unreachable!(),
     }
@@ -82,71 +62,71 @@ pub(crate) fn mark_insns(
         → AddsNames sections.now marks.old marks.new (flat_map names_of_insn is)) }
     ensures memory { IsOkUnless result memory }
 {
-    let end = units.len() as u64 / 2;
-    let mut at: u64 = 0;
+    let end = units.len() / 2;
+    let mut at: usize = 0;
     while at < end {
-        let one = insn_at(units, at as u32);
-        mark_insn(marks, sections, &one)?;
-        at += size_of(&one);
+        let front = &units[2 * at..];
+        let shape = shape_at(front);
+        mark_insn(marks, sections, front, shape)?;
+        at += size_at(front, shape) as usize;
     }
     Ok(())
 }
 
+// ---- where they begin
+
+/// The unit at which each of the instructions begins, which stand end to end.
+pub(crate) fn starts_of(alloc: Global, units: &[u8]) -> Result<Vec<u32>, Fault>
+    requires even { length units.now % 2 ≡ 0 }
+    requires short { length units.now ≤ 8589934590 }
+    requires insns { (rs : List Raw) × Walks units.now rs }
+    ensures table { IfOk result (λ all. (rs : List Raw) → Walks units.now rs → IsTable all.items rs) }
+    ensures memory { IsOkUnless result memory }
+{
+    let mut starts = Vec::new(alloc);
+    let end = units.len() / 2;
+    let mut at: usize = 0;
+    while at < end {
+        starts.push(at as u32)?;
+        let front = &units[2 * at..];
+        at += size_at(front, shape_at(front)) as usize;
+    }
+    Ok(starts)
+}
+
 // ---- with other indices
 
-/// The number of the row that the index of an instruction of this opcode stands for.
-fn number_of(numbers: &Numbers, op: u8, index: u32) -> u32
-    requires { HasNumber numbers.now op index }
-    ensures { result ≡ number_in numbers.now (index_kind_of op) index }
+/// Puts the numbers of the rows that the instructions name, which stand end to end, in place of their indices.
+fn renumber_units(units: &mut [u8], numbers: &Numbers)
+    requires even { length units.old % 2 ≡ 0 }
+    requires short { length units.old ≤ 8589934590 }
+    requires insns { (rs : List Raw) × Walks units.old rs × AllByRecursion (CanBeRenumbered numbers.now) rs }
+    ensures ok { (rs : List Raw) → Walks units.old rs → units.new ≡ joined (map (renumbered numbers.now) rs) }
+    ensures fit { (rs : List Raw) → Walks units.old rs → AllByRecursion IsRaw (map (renumbered numbers.now) rs) }
 {
-    match index_kind_of(op) {
-        Some(table) => numbers.of(table, index),
-        None => unreachable!(),
+    let end = units.len() / 2;
+    let mut at: usize = 0;
+    while at < end {
+        at += renumber_front(&mut units[2 * at..], numbers) as usize;
     }
 }
 
-/// The instruction with the number of the row that its index, if it has one, stands for.
-#[rattlefmt::skip]
-#[tactic(auto, unfolding(dex_insn::specs::Raw::raw))]
-fn renumbered<'b>(numbers: &Numbers, one: &RawInsn<'b>) -> RawInsn<'b>
-    requires { CanBeRenumbered numbers.now (raw one.now) }
-    ensures value { raw result ≡ renumbered numbers.now (raw one.now) }
-    ensures fits { IsRaw (raw result) }
-{
-    match *one {
-        RawInsn::I21c { op, a, index } => RawInsn::I21c { op, a, index: number_of(numbers, op, index) },
-        RawInsn::I22c { op, a, b, index } => RawInsn::I22c { op, a, b, index: number_of(numbers, op, index) },
-        RawInsn::I31c { op, a, index } => RawInsn::I31c { op, a, index: number_of(numbers, op, index) },
-        RawInsn::I35c { op, n, regs, index } => RawInsn::I35c { op, n, regs, index: number_of(numbers, op, index) },
-        RawInsn::I3rc { op, n, first, index } => RawInsn::I3rc { op, n, first, index: number_of(numbers, op, index) },
-        other => other,
-    }
-}
-
-/// Appends the instructions, which stand end to end, with the numbers of the rows that they name, and answers the unit
-/// at which each begins.
+/// Appends the instructions, which stand end to end, with the numbers of the rows that they name: all units as they are,
+/// and then those that change in their places.
 pub(crate) fn renumber_insns(
-    alloc: Global,
     out: &mut Vec<u8>,
     numbers: &Numbers,
     units: &[u8],
-) -> Result<Vec<u32>, Fault>
+) -> Result<(), Fault>
     requires even { length units.now % 2 ≡ 0 }
     requires short { length units.now ≤ 8589934590 }
     requires insns { (rs : List Raw) × Walks units.now rs × AllByRecursion (CanBeRenumbered numbers.now) rs }
-    ensures table { IfOk result (λ all. (rs : List Raw) → Walks units.now rs → IsTable all.items rs) }
     ensures ok { OnOk result ((rs : List Raw) → Walks units.now rs → out.new.items ≡ out.old.items ++ joined (map (renumbered numbers.now) rs)) }
     ensures fit { OnOk result ((rs : List Raw) → Walks units.now rs → AllByRecursion IsRaw (map (renumbered numbers.now) rs)) }
     ensures memory { IsOkUnless result memory }
 {
-    let mut starts = Vec::new(alloc);
-    let end = units.len() as u64 / 2;
-    let mut at: u64 = 0;
-    while at < end {
-        let one = insn_at(units, at as u32);
-        put_insn(out, &renumbered(numbers, &one))?;
-        starts.push(at as u32)?;
-        at += size_of(&one);
-    }
-    Ok(starts)
+    let begin = out.len();
+    out.extend_from_slice(units)?;
+    renumber_units(&mut out[begin..], numbers);
+    Ok(())
 }

@@ -11,7 +11,9 @@
 mod fronts;
 
 // Instructions.
+mod in_place;
 mod insns;
+mod shapes;
 
 // Tries and handlers.
 mod handlers;

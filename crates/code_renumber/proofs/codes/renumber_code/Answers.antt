@@ -1,4 +1,4 @@
-use Rattle.std.proofs.Common.{◌∙◌, ◌<◌, ◌++◌, ℕ, List, length, get_or, ap, sym, subst, arith}
+use Rattle.std.proofs.Common.{◌≡◌, ◌∙◌, ◌<◌, ◌++◌, ℕ, List, length, get_or, ap, sym, subst, arith}
 use Rattle.std.specs.List.{AllByRecursion}
 use Rattle.base_bytes.specs.Fields.{AreBytes}
 use Rattle.program_types.specs.Sizes.{addresses_of}
@@ -6,8 +6,7 @@ use Rattle.tables_rows.specs.Stands.{NameStands}
 use Rattle.tables_rows.proofs.RowReading.{passed}
 use Rattle.code_insns.specs.Places.{Rises}
 use Rattle.code_put.specs.Packs.{items_bytes, padding}
-use Rattle.code_renumber.specs.Walks.{CoverTries}
-use Rattle.code_renumber.proofs.CodeLemmas.{can_renumber_all, addresses_are, carried_tries, cover_tries, packed_code}
+use Rattle.code_renumber.proofs.CodeLemmas.{cover_with, items_with, can_renumber_all, addresses_are, carried_tries, cover_tries, packed_code}
 use Rattle.code_renumber.proofs.WideLemmas.{count_same}
 use Rattle.code_renumber.proofs.codes.renumber_code.Goals as goal
 
@@ -27,6 +26,15 @@ renumber_insns-requires-clause-insns c =
     let are : AreBytes c.args.sections.now = subst AreBytes c.bytes.ensures.value c.are_bytes.ensures in
     (y.raws, y.insns.walk, can_renumber_all c.args.sections.now c.args.off c.args.numbers.now c.requires.0 c.item_at-item.result c.requires.1 x y are c.item_at-item.ensures.framed c.are_bytes-2.ensures c.item_at-item.ensures.units)
 
+pub starts_asked-requires-clause-even : goal.starts_asked-requires-clause-even
+starts_asked-requires-clause-even c = let u = c.item_at-item.ensures.units in omega (arith, u)
+
+pub starts_asked-requires-clause-short : goal.starts_asked-requires-clause-short
+starts_asked-requires-clause-short c = let u = c.item_at-item.ensures.units in omega (arith, u)
+
+pub starts_asked-requires-clause-insns : goal.starts_asked-requires-clause-insns
+starts_asked-requires-clause-insns c = let y = c.item_at-item.ensures.spelled c.requires.1 c.requires.2.stands in (y.raws, y.insns.walk)
+
 pub lay_tries-requires-clause-tries : goal.lay_tries-requires-clause-tries
 lay_tries-requires-clause-tries c =
     let x = c.requires.2 in
@@ -37,7 +45,7 @@ lay_tries-requires-clause-tries c =
 pub put_items-requires-clause-rises : goal.put_items-requires-clause-rises
 put_items-requires-clause-rises c =
     let y = c.item_at-item.ensures.spelled c.requires.1 c.requires.2.stands in
-    subst Rises (sym c.deref.ensures.value) (c.in_ok-starts.ensures.table y.raws y.insns.walk).rises
+    subst Rises (sym c.deref.ensures.value) c.in_ok-starts.ensures.rises
 
 pub put_items-requires-clause-count : goal.put_items-requires-clause-count
 put_items-requires-clause-count c =
@@ -54,13 +62,15 @@ returns-clause-ok c = λ s code x.
     let y = c.item_at-item.ensures.spelled code x.stands in
     let are : AreBytes B = subst AreBytes c.bytes.ensures.value c.are_bytes.ensures in
     let hs = c.in_ok-laid.ensures.ok B s (addresses_of code.insns) code.tries (carried_tries B c.args.off c.args.numbers.now s I code x y are c.item_at-item.ensures.framed c.are_bytes-2.ensures c.item_at-item.ensures.units) in
-    let begins = c.deref.ensures.value ∙ (c.in_ok-starts.ensures.table y.raws y.insns.walk).is ∙ addresses_are B c.args.off c.args.numbers.now s I code x y are c.item_at-item.ensures.framed c.are_bytes-2.ensures c.item_at-item.ensures.units in
+    let begins : 0 < I.tries → c.deref.result.now ≡ addresses_of code.insns =
+    λ some. c.deref.ensures.value ∙ c.in_ok-starts.ensures.table y.raws y.insns.walk some ∙ addresses_are B c.args.off c.args.numbers.now s I code x y are c.item_at-item.ensures.framed c.are_bytes-2.ensures c.item_at-item.ensures.units in
     let cover = cover_tries B c.args.off c.args.numbers.now s I code x y are c.item_at-item.ensures.framed c.are_bytes-2.ensures c.item_at-item.ensures.units in
-    let items = c.in_ok-put_items.ensures.ok code.tries (subst (λ (ss : List ℕ). CoverTries ss I.items.now I.tries code.tries) (sym begins) cover) in
+    let items = c.in_ok-put_items.ensures.ok code.tries (cover_with I.tries I.items.now (addresses_of code.insns) c.deref.result.now code.tries begins cover) in
     packed_code B c.args.off c.args.numbers.now s I code x y are c.item_at-item.ensures.framed c.are_bytes-2.ensures c.item_at-item.ensures.units
     c.in_ok-out.out.items c.put_head.new.out.items c.renumber_insns.new.out.items c.put_padding.new.out.items c.put_items.new.out.items _ c.in_ok-laid.laid.bytes.items c.in_ok-laid.laid.offsets.items
-    c.in_ok-out.ensures.items c.in_ok-put_head.ensures.ok (c.in_ok-starts.ensures.ok y.raws y.insns.walk) (c.in_ok-starts.ensures.fit y.raws y.insns.walk) (c.in_ok-put_padding.ensures.ok ∙ ap (λ (n : ℕ). c.renumber_insns.new.out.items ++ padding I.size n) c.from.ensures)
-    (items ∙ (λ k. c.put_padding.new.out.items ++ items_bytes I.size (begins k) code.tries (c.deref-2.ensures.value k)))
+    c.in_ok-out.ensures.items c.in_ok-put_head.ensures.ok (c.in_ok-renumber_insns.ensures.ok y.raws y.insns.walk) (c.in_ok-renumber_insns.ensures.fit y.raws y.insns.walk) (c.in_ok-put_padding.ensures.ok ∙ ap (λ (n : ℕ). c.renumber_insns.new.out.items ++ padding I.size n) c.from.ensures)
+    (items ∙ ap (λ z. c.put_padding.new.out.items ++ z)
+    (items_with I.size I.tries (addresses_of code.insns) c.deref.result.now code.tries c.deref-2.result.now begins cover.count ∙ ap (items_bytes I.size (addresses_of code.insns) code.tries) c.deref-2.ensures.value))
     (c.in_ok-extend_from_slice.ensures.items ∙ ap (λ z. c.put_items.new.out.items ++ z) c.deref-3.ensures.value) hs
     (subst (λ (os : List ℕ). AllByRecursion (λ off. off < 65536) os) c.deref-2.ensures.value c.in_ok-put_items.ensures.near) (omega arith)
 

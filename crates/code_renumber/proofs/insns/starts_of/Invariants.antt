@@ -1,10 +1,10 @@
 use Rattle.std.proofs.Common.{◌*◌, ◌-◌, ◌≤◌, length}
-use Rattle.code_renumber.proofs.WrittenLemmas.{WrittenTo}
-use Rattle.code_renumber.proofs.insns.renumber_insns.Given as goal
+use Rattle.code_renumber.proofs.WrittenLemmas.{BegunTo}
+use Rattle.code_renumber.proofs.insns.starts_of.Given as goal
 
 abbrev pub invariant-loop-at : goal.invariant-loop-at
 invariant-loop-at l = record {
-  written : WrittenTo l.numbers l.units l.fn.out.items l.out.items l.starts.items l.at;
+  begun : BegunTo l.units l.starts.items l.at;
   inside : 2 * l.at ≤ length l.units;
 }
 
