@@ -22,6 +22,7 @@ use program_types::{Catch, Class, Code, Desc, Insn, Member, Method, Program, Str
 use std::alloc::Global;
 
 /// Appends the label of instruction k if it is named, in the second form.
+#[inline(always)]
 fn put_mark(out: &mut Vec<u8>, form: Form, marks: &[bool], k: usize) -> Result<(), Fault>
     requires { k < length marks.now }
     ensures ok { OnOk result ((ns : List ℕ) → IsMarked marks.now ns → out.new.items ≡ out.old.items ++ mark_text form ns k) }

@@ -5,3 +5,4 @@ pub mod NumberReadLaws
 pub mod NumberNoneLaws
 pub mod OperandLaws
 pub mod ShownLaws
+pub mod DecimalLaws

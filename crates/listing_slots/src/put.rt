@@ -21,6 +21,14 @@ pub fn put_decimal(out: &mut Vec<u8>, n: u64) -> Result<(), Fault>
     ensures ok { OnOk result (out.new.items ≡ out.old.items ++ decimal n) }
     ensures memory { IsOkUnless result memory }
 {
+    if n < 10 {
+        out.push(48 + n as u8)?;
+        return Ok(());
+    }
+    if n < 100 {
+        out.extend_from_slice(&[48 + (n / 10) as u8, 48 + (n % 10) as u8])?;
+        return Ok(());
+    }
     let mut digits = Buffer::new();
     out.extend_from_slice(digits.format(n).as_bytes())?;
     Ok(())
@@ -36,10 +44,15 @@ pub fn put_number(out: &mut Vec<u8>, n: u64) -> Result<(), Fault>
 }
 
 /// Appends a space and a register.
+#[inline(always)]
 pub fn put_register(out: &mut Vec<u8>, n: u16) -> Result<(), Fault>
     ensures ok { OnOk result (out.new.items ≡ out.old.items ++ (32 ∷ 118 ∷ decimal n)) }
     ensures memory { IsOkUnless result memory }
 {
+    if n < 10 {
+        out.extend_from_slice(&[32, 118, 48 + n as u8])?;
+        return Ok(());
+    }
     out.extend_from_slice(b" v")?;
     put_decimal(out, n as u64)
 }
@@ -58,6 +71,9 @@ pub fn put_signed(out: &mut Vec<u8>, n: i64) -> Result<(), Fault>
     ensures ok { OnOk result (out.new.items ≡ out.old.items ++ (32 ∷ signed_decimal n)) }
     ensures memory { IsOkUnless result memory }
 {
+    if n >= 0 {
+        return put_number(out, n as u64);
+    }
     out.push(b' ')?;
     let mut digits = Buffer::new();
     out.extend_from_slice(digits.format(n).as_bytes())?;

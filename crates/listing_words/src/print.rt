@@ -5,7 +5,7 @@ ghost use Rattle.std.specs.List.{flat_map};
 ghost use Rattle.listing_words.specs.Texts.{unit_text, escape_text, text_word, glyph};
 ghost use Rattle.base_bytes.specs.Fault.{memory};
 
-use crate::plain::{put_bytes, split_plain};
+use crate::plain::put_plain;
 use dex_base::Fault;
 
 /// A hexadecimal digit in lower case.
@@ -69,9 +69,9 @@ pub fn put_text(out: &mut Vec<u8>, units: &[u16]) -> Result<(), Fault>
     ensures ok { OnOk result (out.new.items ≡ out.old.items ++ text_word units.now) }
     ensures memory { IsOkUnless result memory }
 {
-    let (plain, rest) = split_plain(units, 32);
     out.push(34)?;
-    put_bytes(out, plain)?;
+    let done = put_plain(out, units, 32)?;
+    let (_, rest) = units.split_at(done);
     put_units(out, rest)?;
     out.push(34)?;
     Ok(())

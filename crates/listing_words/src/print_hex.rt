@@ -55,6 +55,10 @@ pub fn put_flags(out: &mut Vec<u8>, flags: u32) -> Result<(), Fault>
     ensures ok { OnOk result (out.new.items ≡ out.old.items ++ flags_text flags) }
     ensures memory { IsOkUnless result memory }
 {
+    if flags < 16 {
+        out.extend_from_slice(&[48, 120, glyph(flags as u16)])?;
+        return Ok(());
+    }
     out.extend_from_slice(b"0x")?;
     put_hex(out, hex_width(flags), flags as u64)
 }

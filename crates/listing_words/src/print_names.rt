@@ -6,7 +6,7 @@ ghost use Rattle.base_bytes.specs.Fault.{memory};
 ghost use Rattle.program_types.specs.View.{desc, proto, field_ref, method_ref};
 ghost use Rattle.listing_words.specs.Written.{name_unit, name_text, proto_units, field_units, method_units};
 
-use crate::plain::{put_bytes, split_plain};
+use crate::plain::put_plain;
 use crate::print::put_escape;
 use dex_base::Fault;
 use program_types::{Desc, FieldRef, MethodRef, Proto};
@@ -44,8 +44,8 @@ pub fn put_name(out: &mut Vec<u8>, units: &[u16]) -> Result<(), Fault>
     ensures ok { OnOk result (out.new.items ≡ out.old.items ++ name_text units.now) }
     ensures memory { IsOkUnless result memory }
 {
-    let (plain, rest) = split_plain(units, 33);
-    put_bytes(out, plain)?;
+    let done = put_plain(out, units, 35)?;
+    let (_, rest) = units.split_at(done);
     put_name_units(out, rest)
 }
 

@@ -1,12 +1,11 @@
-use Rattle.std.proofs.Common.{arith}
+use Rattle.std.proofs.Common.{ap, ◌∙◌, ◌++◌, ◌∷◌, []}
+use Rattle.std.specs.List.{flat_map}
+use Rattle.listing_words.specs.Texts.{unit_text}
 use Rattle.listing_words.proofs.PlainLaws.{text_joined}
 use Rattle.listing_words.proofs.print.put_text.Goals as goal
 
-pub put_bytes-requires : goal.put_bytes-requires
-put_bytes-requires c k h = let high = (c.split_plain.ensures.plain k h).plain.high in omega (arith, high)
-
 pub returns-clause-ok : goal.returns-clause-ok
 returns-clause-ok c =
-    text_joined c.args.out.now.items c.put_bytes.new.out.items _ _ _ _ c.split_plain.ensures.joined c.split_plain.ensures.plain
-    (rw (← c.in_ok-push.ensures.items) c.in_ok-put_bytes.ensures.ok)
-    (rw (← c.in_ok-put_units.ensures.ok) c.in_ok-push-2.ensures.items)
+    text_joined c.args.out.now.items c.put_plain.new.out.items c.push-2.new.self.items c.args.units.now c.in_ok-done.done
+    (rw c.in_ok-push.ensures.items at c.in_ok-done.ensures.ok)
+    (c.in_ok-push-2.ensures.items ∙ ap (λ l. l ++ 34 ∷ []) (c.in_ok-put_units.ensures.ok ∙ ap (λ l. c.put_plain.new.out.items ++ flat_map unit_text l) c.split_at.ensures.back))
