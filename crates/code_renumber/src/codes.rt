@@ -5,6 +5,7 @@ ghost use Rattle.program_types.specs.Content.{Code};
 ghost use Rattle.program_types.specs.Mentions.{names_of_code};
 ghost use Rattle.program_types.specs.Sizes.{addresses_of};
 ghost use Rattle.tables_names.specs.Closure.{Five, NameRanks};
+ghost use Rattle.dex_container.specs.Where.{IsSectionOf};
 ghost use Rattle.tables_rows.specs.Stands.{NameStands};
 ghost use Rattle.tables_numbers.specs.Marked.{HasMarks, AddsNames};
 ghost use Rattle.dex_insn.specs.Raw.{Raw};
@@ -22,32 +23,34 @@ use base_bytes::are_bytes;
 use code_put::{put_padding, put_u16, put_u32};
 use code_read::Item;
 use dex_base::Fault;
-use dex_container::Sections;
+use dex_container::{Section, Sections};
 use std::alloc::Global;
 use tables_numbers::{Marks, Numbers};
 
 /// Marks the rows that the code at an offset names, and those of their parts, and answers how many bytes the code takes
 /// at most, in a file of any rows.
 ///
-/// A code has to stand at the offset. The only refusal is want of memory, and then some of the rows may be marked.
+/// A code has to stand at the offset, and `codes` to be the section of the code items. The only refusal is want of memory, and then some of the rows may be marked.
 ///
 /// ```
 /// let mut marks = Marks::new(alloc, &sections)?;
-/// let most = mark_code(alloc, &mut marks, &sections, 0x1c0)?; // 28 for a code of one unit without tries
+/// let most = mark_code(alloc, &mut marks, &sections, codes, 0x1c0)?; // 28 for a code of one unit without tries
 /// ```
 pub fn mark_code(
     alloc: Global,
     marks: &mut Marks,
     sections: &Sections<'_>,
+    codes: Section,
     off: u32,
 ) -> Result<u64, Fault>
     requires marks { HasMarks sections.now marks.old }
+    requires codes { IsSectionOf sections.now 0x2001 codes }
     requires stands { (c : Code) × CodeStands (NameStands sections.now) sections.now off c }
     ensures marked { OnOk result ((c : Code) → CodeStands (NameStands sections.now) sections.now off c → AddsNames sections.now marks.old marks.new (names_of_code c)) }
     ensures wide { IfOk result (λ n. (c : Code) → CodeStands (NameStands sections.now) sections.now off c → n ≡ wide_code c) }
     ensures memory { IsOkUnless result memory }
 {
-    let item = item_at(sections, off);
+    let item = item_at(sections, codes, off);
     mark_insns(marks, sections, item.units)?;
     let fixed = 26 + 2 * u64::from(item.size);
     if item.tries == 0 {
@@ -89,23 +92,26 @@ fn starts_asked(alloc: Global, item: &Item<'_>) -> Result<Vec<u32>, Fault>
 /// bytes, each handler once, in the order of first use. Refused with 89, at 0, where a handler begins too far behind the
 /// list's begin, and else only for want of memory.
 ///
-/// A code has to stand at the offset, and each row that it names has to be kept, with a number that fits its field.
+/// A code has to stand at the offset, `codes` to be the section of the code items, and each row that it names has to be kept, with a
+/// number that fits its field.
 ///
 /// ```
-/// let item = renumber_code(alloc, &numbers, &sections, 0x1c0)?; // 18 bytes for a code of one unit without tries
+/// let item = renumber_code(alloc, &numbers, &sections, codes, 0x1c0)?; // 18 bytes for a code of one unit without tries
 /// ```
 pub fn renumber_code(
     alloc: Global,
     numbers: &Numbers,
     sections: &Sections<'_>,
+    codes: Section,
     off: u32,
 ) -> Result<Vec<u8>, Fault>
-    requires { (s : Five) × (c : Code) × IsCarriedCode sections.now off numbers.now s c }
+    requires codes { IsSectionOf sections.now 0x2001 codes }
+    requires carried { (s : Five) × (c : Code) × IsCarriedCode sections.now off numbers.now s c }
     ensures ok { IfOk result (λ item. (s : Five) (c : Code) → IsCarriedCode sections.now off numbers.now s c → PacksCode (NameRanks s) item.items c) }
     ensures far { IfErr result (λ e. e ≢ memory → (e ≡ record { code = 89; place = 0 })
         × ((s : Five) (c : Code) → IsCarriedCode sections.now off numbers.now s c → SomeHandlerIsFar (NameRanks s) (addresses_of c.insns) c.tries)) }
 {
-    let item = item_at(sections, off);
+    let item = item_at(sections, codes, off);
     // Only for the proof: what holds of each value of its type.
     are_bytes(sections.bytes());
     are_bytes(item.units);

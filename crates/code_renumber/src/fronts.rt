@@ -3,6 +3,7 @@ ghost use Rattle.std.specs.Prelude.{◌≡◌, ◌*◌, ◌<◌, ◌^◌, ℕ, �
 ghost use Rattle.base_bytes.specs.Grammar.{Takes};
 ghost use Rattle.base_bytes.specs.Leb128.{Spells, SpellsSigned};
 ghost use Rattle.dex_container.specs.Frame.{IsFramed};
+ghost use Rattle.dex_container.specs.Where.{IsSectionOf};
 ghost use Rattle.program_types.specs.Content.{Code, Catch};
 ghost use Rattle.tables_rows.specs.Stands.{NameStands};
 ghost use Rattle.code_read.specs.Code.{CodeStands};
@@ -10,19 +11,21 @@ ghost use Rattle.code_read.specs.Handlers.{SpellsCatch};
 ghost use Rattle.code_renumber.specs.Fronts.{SpellsItem, IsCatch};
 
 use code_read::{Item, item_of, read_number, read_signed};
-use dex_container::{Sections, bytes_from, kind, section_of};
+use dex_container::{Section, Sections, bytes_from, kind};
 
 /// The fixed parts of the code item at an offset.
-pub(crate) fn item_at<'b>(sections: &Sections<'b>, off: u32) -> Item<'b>
-    requires { (c : Code) × CodeStands (NameStands sections.now) sections.now off c }
+pub(crate) fn item_at<'b>(sections: &Sections<'b>, codes: Section, off: u32) -> Item<'b>
+    requires codes { IsSectionOf sections.now 0x2001 codes }
+    requires stands { (c : Code) × CodeStands (NameStands sections.now) sections.now off c }
     ensures spelled { (c : Code) → CodeStands (NameStands sections.now) sections.now off c → SpellsItem (NameStands sections.now) result c }
     ensures framed { IsFramed sections.now }
     ensures units { length result.units.now ≡ 2 * result.size }
     ensures items { length result.items.now ≡ 8 * result.tries }
     ensures short { length result.list.now < 2 ^ 32 }
 {
-    let section = section_of(sections, kind::CODE_ITEM);
-    let Some(bytes) = bytes_from(sections, kind::CODE_ITEM, section, off) else {
+    // Only for the proof: what holds of each value of its type.
+    let _file = sections.bytes();
+    let Some(bytes) = bytes_from(sections, kind::CODE_ITEM, codes, off) else {
         unreachable!()
     };
     match item_of(bytes) {

@@ -3,6 +3,7 @@ ghost use Rattle.std.specs.Prelude.{◌≡◌, ◌≢◌, ℕ, ◌+◌, ◌<◌,
 ghost use Rattle.base_bytes.specs.Fault.{memory};
 ghost use Rattle.dex_container.specs.Layout.{size_of};
 ghost use Rattle.dex_container.specs.Section as section;
+ghost use Rattle.dex_container.specs.Where.{IsSectionOf};
 ghost use Rattle.file_layout.specs.Sections.{wide_all, Laid};
 ghost use Rattle.file_layout.specs.Tiles.{AreShared};
 ghost use Rattle.file_limits.specs.Limits.{ClassBreaksLimit, IsFirstClass};
@@ -22,7 +23,7 @@ use crate::moved::Moved;
 use base_bytes::are_bytes;
 use code_renumber::renumber_code;
 use dex_base::{Fault, fault};
-use dex_container::Sections;
+use dex_container::{Section, Sections, kind, section_of};
 use file_classes::{MethodEntry, class_count, class_word, entries_at};
 use file_sections::Placed;
 use std::alloc::Global;
@@ -40,14 +41,16 @@ fn renumber_body(
     alloc: Global,
     numbers: &Numbers,
     sections: &Sections<'_>,
+    codes: Section,
     body: Body,
 ) -> Result<Vec<u8>, Fault>
+    requires codes { IsSectionOf sections.now 0x2001 codes }
     requires body { (s : Five) × (v : Option content.Code) × IsCarriedSome sections.now numbers.now s body.code v }
     ensures ok { IfOk result (λ bytes. WritesCarried sections.now numbers.now body.code bytes.items) }
     ensures far { IfErr result (λ e. e ≢ memory → (e ≡ record { code = 89; place = body.class })
         × ((s : Five) (v : Option content.Code) → IsCarriedSome sections.now numbers.now s body.code v → IsFar s v)) }
 {
-    match renumber_code(alloc, numbers, sections, body.code) {
+    match renumber_code(alloc, numbers, sections, codes, body.code) {
         Ok(bytes) => {
             are_bytes(&bytes);
             Ok(bytes)
@@ -69,8 +72,10 @@ fn add_body(
     moved: &mut Moved,
     numbers: &Numbers,
     sections: &Sections<'_>,
+    codes: Section,
     body: Body,
 ) -> Result<u32, Fault>
+    requires codes { IsSectionOf sections.now 0x2001 codes }
     requires body { (s : Five) × (v : Option content.Code) × IsCarriedBody sections.now numbers.now s body.code v × (length out.old.items + wide_body v < 2 ^ 32) }
     requires kept { AreMoved (WritesCarried sections.now numbers.now) moved.old.items moved.old.places }
     ensures ok { IfOk result (λ place. (s : Five) (v : Option content.Code) → IsCarriedBody sections.now numbers.now s body.code v
@@ -85,7 +90,7 @@ fn add_body(
     if let Some(place) = moved.find(body.code) {
         return Ok(place);
     }
-    let bytes = renumber_body(alloc, numbers, sections, body)?;
+    let bytes = renumber_body(alloc, numbers, sections, codes, body)?;
     Ok(moved.put_aligned(out, body.code, bytes)?)
 }
 
@@ -106,10 +111,11 @@ fn place_bodies(
     ensures far { IfErr result (λ e. e ≢ memory → (e.code ≡ 89)
         × ((s : Five) (xs : List (ℕ × Option content.Code)) → AreOwned sections.now numbers.now s bodies.now xs → IsFirstFar s xs e.place)) }
 {
+    let codes = section_of(sections, kind::CODE_ITEM);
     let mut moved = Moved::new(alloc);
     let mut places = Vec::new(alloc);
     for body in bodies {
-        let place = add_body(alloc, out, &mut moved, numbers, sections, *body)?;
+        let place = add_body(alloc, out, &mut moved, numbers, sections, codes, *body)?;
         places.push(place)?;
     }
     Ok(Placed {

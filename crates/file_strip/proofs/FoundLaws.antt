@@ -58,7 +58,7 @@ pub arrays_stay : {S : Type 0} (b : List ℕ) (s : Five) (more : List Name) (m :
 arrays_stay b s more m kept off n at = let c = kept off n at in record { wide = c.wide; names = λ most vs st. still_held s more (flat_map names_of_value vs) (c.names most vs st) }
 
 pub finds_marked : (b : List ℕ) (old : Found) (marks : Marked) (ns : List Name) → AddsNames b old.marks marks ns → FindsNames b old (record old { marks = marks }) ns
-finds_marked b old marks ns f s a = record { marks = f s a.marks; codes = codes_stay b s ns old.codes a.codes; arrays = arrays_stay b s ns old.arrays a.arrays }
+finds_marked b old marks ns f s a = record { marks = f s a.marks; codes = codes_stay b s ns old.codes a.codes; arrays = arrays_stay b s ns old.arrays a.arrays; section = a.section }
 
 pub finds_none : (b : List ℕ) (f : Found) → FindsNames b f f []
 finds_none b f s a = a

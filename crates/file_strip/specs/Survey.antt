@@ -8,6 +8,7 @@ use Rattle.tables_names.specs.Closure.{Five, Holds, with_names}
 use Rattle.tables_rows.specs.Kept.{AreKept}
 use Rattle.tables_rows.specs.Stands.{NameStands}
 use Rattle.tables_numbers.specs.Marked.{AreMarks}
+use Rattle.dex_container.specs.Where.{IsSectionOf}
 use Rattle.dex_value.specs.Standing.{ArrayStands}
 use Rattle.dex_value.specs.Wide.{wide_array, wide_values}
 use Rattle.code_read.specs.Code.{CodeStands}
@@ -31,11 +32,12 @@ pub record ArrayIsFound (b : List ℕ) (s : Five) (off n : ℕ) : Type 0 where
   pub wide : (most : ℕ) (vs : List Value) → ArrayStands (NameStands b) b off most vs → n ≡ wide_values (values vs)
   pub names : (most : ℕ) (vs : List Value) → ArrayStands (NameStands b) b off most vs → AllByRecursion (Holds s) (flat_map names_of_value vs)
 
--- The names s were found: just their rows are marked, and what is known of codes and arrays is so.
+-- The names s were found: just their rows are marked, what is known of codes and arrays is so, and the section is that of codes.
 pub record AreFound (b : List ℕ) (f : Found) (s : Five) : Type 0 where
   pub marks : AreMarks b f.marks s
   pub codes : AreKept (CodeIsFound b s) f.codes
   pub arrays : AreKept (ArrayIsFound b s) f.arrays
+  pub section : IsSectionOf b 0x2001 f.section
 
 -- What was found is so of some names.
 abbrev pub HasFound : List ℕ → Found → Type 0

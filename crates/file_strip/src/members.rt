@@ -63,7 +63,7 @@ fn look_at_code(
     if let Some(wide) = found.codes.get(&off) {
         return Ok(*wide);
     }
-    let wide = mark_code(alloc, &mut found.marks, sections, off)?;
+    let wide = mark_code(alloc, &mut found.marks, sections, found.section, off)?;
     found.codes.insert(off, wide)?;
     Ok(wide)
 }

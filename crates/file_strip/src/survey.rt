@@ -23,7 +23,7 @@ ghost use Rattle.file_classes.specs.Reading.{entries};
 
 use crate::members::{look_at_methods, mark_fields};
 use dex_base::Fault;
-use dex_container::Sections;
+use dex_container::{Section, Sections, kind, section_of};
 use dex_insn::IndexKind;
 use file_classes::{Entries, class_count, class_word, entries_at};
 use file_kept::list_size;
@@ -36,12 +36,14 @@ use value_renumber::mark_array;
 // The index that stands for none.
 const NO_INDEX: u32 = 0xffffffff;
 
-// What was found so far: the marks, and of each code and each array that was looked at how many bytes it takes at most.
+// What was found so far: the marks, and of each code and each array that was looked at how many bytes it takes at most; the section in
+// which codes stand.
 #[derive(Drop)]
 pub(crate) struct Found {
     pub marks: Marks,
     pub codes: IndexMap<u32, u64>,
     pub arrays: IndexMap<u32, u64>,
+    pub section: Section,
 }
 
 /// What a file's classes need: the marked rows, and how many bytes the classes take at most.
@@ -179,6 +181,7 @@ pub fn look_at_classes(alloc: Global, sections: &Sections<'_>) -> Result<Survey,
         marks: Marks::new(alloc, sections)?,
         codes: IndexMap::new(alloc),
         arrays: IndexMap::new(alloc),
+        section: section_of(sections, kind::CODE_ITEM),
     };
     let mut wide: u64 = 0;
     for i in 0..class_count(sections) {

@@ -10,8 +10,8 @@ use Rattle.code_renumber.proofs.CodeLemmas.{cover_with, items_with, can_renumber
 use Rattle.code_renumber.proofs.WideLemmas.{count_same}
 use Rattle.code_renumber.proofs.codes.renumber_code.Goals as goal
 
-pub item_at-item-requires : goal.item_at-item-requires
-item_at-item-requires c = (c.requires.1, c.requires.2.stands)
+pub item_at-item-requires-clause-stands : goal.item_at-item-requires-clause-stands
+item_at-item-requires-clause-stands c = (c.requires.carried.1, c.requires.carried.2.stands)
 
 pub renumber_insns-requires-clause-even : goal.renumber_insns-requires-clause-even
 renumber_insns-requires-clause-even c = let u = c.item_at-item.ensures.units in omega (arith, u)
@@ -21,10 +21,10 @@ renumber_insns-requires-clause-short c = let u = c.item_at-item.ensures.units in
 
 pub renumber_insns-requires-clause-insns : goal.renumber_insns-requires-clause-insns
 renumber_insns-requires-clause-insns c =
-    let x = c.requires.2 in
-    let y = c.item_at-item.ensures.spelled c.requires.1 x.stands in
+    let x = c.requires.carried.2 in
+    let y = c.item_at-item.ensures.spelled c.requires.carried.1 x.stands in
     let are : AreBytes c.args.sections.now = subst AreBytes c.bytes.ensures.value c.are_bytes.ensures in
-    (y.raws, y.insns.walk, can_renumber_all c.args.sections.now c.args.off c.args.numbers.now c.requires.0 c.item_at-item.result c.requires.1 x y are c.item_at-item.ensures.framed c.are_bytes-2.ensures c.item_at-item.ensures.units)
+    (y.raws, y.insns.walk, can_renumber_all c.args.sections.now c.args.off c.args.numbers.now c.requires.carried.0 c.item_at-item.result c.requires.carried.1 x y are c.item_at-item.ensures.framed c.are_bytes-2.ensures c.item_at-item.ensures.units)
 
 pub starts_asked-requires-clause-even : goal.starts_asked-requires-clause-even
 starts_asked-requires-clause-even c = let u = c.item_at-item.ensures.units in omega (arith, u)
@@ -33,27 +33,27 @@ pub starts_asked-requires-clause-short : goal.starts_asked-requires-clause-short
 starts_asked-requires-clause-short c = let u = c.item_at-item.ensures.units in omega (arith, u)
 
 pub starts_asked-requires-clause-insns : goal.starts_asked-requires-clause-insns
-starts_asked-requires-clause-insns c = let y = c.item_at-item.ensures.spelled c.requires.1 c.requires.2.stands in (y.raws, y.insns.walk)
+starts_asked-requires-clause-insns c = let y = c.item_at-item.ensures.spelled c.requires.carried.1 c.requires.carried.2.stands in (y.raws, y.insns.walk)
 
 pub lay_tries-requires-clause-tries : goal.lay_tries-requires-clause-tries
 lay_tries-requires-clause-tries c =
-    let x = c.requires.2 in
-    let y = c.item_at-item.ensures.spelled c.requires.1 x.stands in
+    let x = c.requires.carried.2 in
+    let y = c.item_at-item.ensures.spelled c.requires.carried.1 x.stands in
     let are : AreBytes c.args.sections.now = subst AreBytes c.bytes.ensures.value c.are_bytes.ensures in
-    (c.args.sections.now, c.requires.0, _, _, carried_tries c.args.sections.now c.args.off c.args.numbers.now c.requires.0 c.item_at-item.result c.requires.1 x y are c.item_at-item.ensures.framed c.are_bytes-2.ensures c.item_at-item.ensures.units)
+    (c.args.sections.now, c.requires.carried.0, _, _, carried_tries c.args.sections.now c.args.off c.args.numbers.now c.requires.carried.0 c.item_at-item.result c.requires.carried.1 x y are c.item_at-item.ensures.framed c.are_bytes-2.ensures c.item_at-item.ensures.units)
 
 pub put_items-requires-clause-rises : goal.put_items-requires-clause-rises
 put_items-requires-clause-rises c =
-    let y = c.item_at-item.ensures.spelled c.requires.1 c.requires.2.stands in
+    let y = c.item_at-item.ensures.spelled c.requires.carried.1 c.requires.carried.2.stands in
     subst Rises (sym c.deref.ensures.value) c.in_ok-starts.ensures.rises
 
 pub put_items-requires-clause-count : goal.put_items-requires-clause-count
 put_items-requires-clause-count c =
-    let x = c.requires.2 in
-    let y = c.item_at-item.ensures.spelled c.requires.1 x.stands in
+    let x = c.requires.carried.2 in
+    let y = c.item_at-item.ensures.spelled c.requires.carried.1 x.stands in
     let are : AreBytes c.args.sections.now = subst AreBytes c.bytes.ensures.value c.are_bytes.ensures in
-    let hs = c.in_ok-laid.ensures.ok c.args.sections.now c.requires.0 _ _ (carried_tries c.args.sections.now c.args.off c.args.numbers.now c.requires.0 c.item_at-item.result c.requires.1 x y are c.item_at-item.ensures.framed c.are_bytes-2.ensures c.item_at-item.ensures.units) in
-    ap length c.deref-2.ensures.value ∙ hs.offsets.count ∙ count_same (NameStands c.args.sections.now) c.item_at-item.result c.requires.1 y c.item_at-item.ensures.units
+    let hs = c.in_ok-laid.ensures.ok c.args.sections.now c.requires.carried.0 _ _ (carried_tries c.args.sections.now c.args.off c.args.numbers.now c.requires.carried.0 c.item_at-item.result c.requires.carried.1 x y are c.item_at-item.ensures.framed c.are_bytes-2.ensures c.item_at-item.ensures.units) in
+    ap length c.deref-2.ensures.value ∙ hs.offsets.count ∙ count_same (NameStands c.args.sections.now) c.item_at-item.result c.requires.carried.1 y c.item_at-item.ensures.units
 
 pub returns-clause-ok : goal.returns-clause-ok
 returns-clause-ok c = λ s code x.

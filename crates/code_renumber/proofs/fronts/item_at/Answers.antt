@@ -10,19 +10,19 @@ use Rattle.code_renumber.proofs.fronts.item_at.Goals as goal
 pub unreachable-requires : goal.unreachable-requires
 unreachable-requires c =
     let b = c.args.sections.now in
-    outside_none (NameStands b) b c.args.off c.requires.0 c.in_default.ensures.none (code_body (NameStands b) b c.args.off c.requires.0 c.requires.1)
+    outside_none (NameStands b) b c.args.off c.requires.stands.0 c.in_default.ensures.none (code_body (NameStands b) b c.args.off c.requires.stands.0 c.requires.stands.1)
 
 pub unreachable-requires-in-None : goal.unreachable-requires-in-None
 unreachable-requires-in-None c =
     let b = c.args.sections.now in
-    let code = c.requires.0 in
-    let t = at_takes (NameStands b) b c.in-Some.bytes.now c.section_of-section.result c.args.off c.section_of-section.ensures.value c.in-Some.ensures.value code (code_body (NameStands b) b c.args.off code c.requires.1) in
+    let code = c.requires.stands.0 in
+    let t = at_takes (NameStands b) b c.in-Some.bytes.now c.args.codes c.args.off c.requires.codes c.in-Some.ensures.value code (code_body (NameStands b) b c.args.off code c.requires.stands.1) in
     c.in-None.ensures.none (read-from_takes (NameStands b) c.in-Some.bytes.now t.0 code t.1).whole
 
 pub returns-clause-spelled : goal.returns-clause-spelled
 returns-clause-spelled c = λ code a.
     let b = c.args.sections.now in
-    let t = at_takes (NameStands b) b c.in-Some.bytes.now c.section_of-section.result c.args.off c.section_of-section.ensures.value c.in-Some.ensures.value code (code_body (NameStands b) b c.args.off code a) in
+    let t = at_takes (NameStands b) b c.in-Some.bytes.now c.args.codes c.args.off c.requires.codes c.in-Some.ensures.value code (code_body (NameStands b) b c.args.off code a) in
     item_spells (NameStands b) c.in-Some.bytes.now t.0 c.in-Some-item_of.item code c.in-Some-item_of.ensures.some (read-from_takes (NameStands b) c.in-Some.bytes.now t.0 code t.1)
 
 pub returns-clause-units : goal.returns-clause-units

@@ -25,9 +25,10 @@ returns-clause-found c = λ code at s a.
     let b = c.args.sections.now in
     let st = code_there b c.args.off code c.if-off-eq0.false at in
     let found = names_of_code st.some in
-    subst (λ (o : Option Code). AreFound b (record { marks = c.mark_code.new.marks; codes = c.insert.new.self; arrays = c.args.found.now.arrays }) (with_names s (if_any names_of_code o))) (sym st.is) (record {
+    subst (λ (o : Option Code). AreFound b (record { marks = c.mark_code.new.marks; codes = c.insert.new.self; arrays = c.args.found.now.arrays; section = c.args.found.now.section }) (with_names s (if_any names_of_code o))) (sym st.is) (record {
       marks = c.in_ok-wide.ensures.marked st.some st.stands s a.marks;
       codes = kept_more (CodeIsFound b (with_names s found)) c.args.found.now.codes c.insert.new.self c.args.off c.in_ok-wide.wide (codes_stay b s found c.args.found.now.codes a.codes)
           (code_is_found b s c.args.off c.in_ok-wide.wide st.some a.marks.framed st.stands c.in_ok-wide.ensures.wide) c.in_ok-insert.ensures.updates;
       arrays = arrays_stay b s found c.args.found.now.arrays a.arrays;
+      section = a.section;
     })

@@ -15,7 +15,7 @@ use Rattle.file_strip.proofs.survey.look_at_classes.Goals as goal
 
 pub loop-i-init : goal.loop-i-init
 loop-i-init c = record {
-  found = λ p rows. record { marks = c.in_ok-new.ensures.none; codes = kept_none (CodeIsFound c.args.sections.now nothing) c.new-2.result c.new-2.ensures.empty; arrays = kept_none (ArrayIsFound c.args.sections.now nothing) c.new-3.result c.new-3.ensures.empty };
+  found = λ p rows. record { marks = c.in_ok-new.ensures.none; codes = kept_none (CodeIsFound c.args.sections.now nothing) c.new-2.result c.new-2.ensures.empty; arrays = kept_none (ArrayIsFound c.args.sections.now nothing) c.new-3.result c.new-3.ensures.empty; section = c.section_of.ensures.value };
   wide = λ p rows. inl refl;
 }
 

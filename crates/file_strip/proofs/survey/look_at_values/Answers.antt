@@ -27,6 +27,7 @@ returns-clause-found c = λ most vs at s a.
       codes = codes_stay b s found c.args.found.now.codes a.codes;
       arrays = kept_more (ArrayIsFound b (with_names s found)) c.args.found.now.arrays c.insert.new.self c.args.off c.in_ok-wide.wide (arrays_stay b s found c.args.found.now.arrays a.arrays)
           (array_is_found b s c.args.off c.in_ok-wide.wide most vs a.marks.framed st c.in_ok-wide.ensures.wide) c.in_ok-insert.ensures.updates;
+      section = a.section;
     }
 
 pub returns-clause-wide : goal.returns-clause-wide
