@@ -79,18 +79,21 @@ fn counts_of(ranks: &Ranks<'_>, program: &Program<'_>) -> Rows
     }
 }
 
-/// So many zeros: room for the header and the tables of a file, which `finish` of file_layout fills.
+/// So many zeros, in the place of the header and the tables of a file, which `finish` of file_layout fills; memory for
+/// so many bytes is asked for at once.
 ///
 /// The only refusal is want of memory.
 ///
 /// ```
-/// let mut out = space(alloc, counts.tables_end())?; // at least the 112 bytes of the header
+/// let mut out = space(alloc, counts.tables_end(), sections.bytes().len())?; // at least the 112 bytes of the header
 /// ```
-pub fn space(alloc: Global, end: u32) -> Result<Vec<u8>, Fault>
+pub fn space(alloc: Global, end: u32, bytes: usize) -> Result<Vec<u8>, Fault>
     ensures ok { IfOk result (λ out. out.items ≡ zeros end) }
     ensures memory { IsOkUnless result memory }
 {
-    Ok(vec![in alloc; 0u8; end as usize]?)
+    let mut out = Vec::with_capacity(alloc, bytes)?;
+    out.resize(end as usize, 0)?;
+    Ok(out)
 }
 
 /// The data, laid behind header and tables: the plan, and where the items of each part stand.
@@ -214,7 +217,7 @@ fn assemble_ranked(
     ensures memory { IsOkUnless result memory }
 {
     let counts = counts_of(ranks, program);
-    let mut out = space(alloc, counts.tables_end())?;
+    let mut out = space(alloc, counts.tables_end(), 0)?;
     let data = put_data(alloc, &mut out, ranks, program, counts)?;
     let rows = table_rows(alloc, ranks, program, &data)?;
     finish(alloc, &mut out, &data.plan, &rows)?;

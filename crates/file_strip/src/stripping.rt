@@ -143,7 +143,7 @@ fn assemble_kept(
         × ((p : Program) → IsReady sections.now numbers.now p → IsFirstClass (NameRanks (needed p)) 89 p e.place)) }
 {
     let counts = counts_of(sections, numbers);
-    let mut out = space(alloc, counts.tables_end())?;
+    let mut out = space(alloc, counts.tables_end(), sections.bytes().len())?;
     let data = put_data(alloc, &mut out, sections, numbers, counts)?;
     let rows = table_rows(alloc, sections, numbers, counts.protos, &data)?;
     finish(alloc, &mut out, &data.plan, &rows)?;
