@@ -57,7 +57,7 @@ def prototypes(n):
 
 
 class Overlapping(File):
-    """A file whose long texts lie in one run of bytes, each behind its own count of units, which is part of the texts before it."""
+    """A file whose long texts lie in one run of bytes, each after its own count of units, which is part of the texts before it."""
 
     def lay(self, n):
         """The run, from its end on: a count of r units may stand where its bytes are characters too."""
@@ -111,7 +111,7 @@ def shared_code(n):
 
 
 class Nested(File):
-    """A file whose codes lie in one another: behind the header of each come 248 nops, then the next one's header, which its units hold too:
+    """A file whose codes lie in one another: after the header of each come 248 nops, then the next one's header, which its units hold too:
     return-wide v0, nops, const/4 and a nop."""
 
     def codes(self, begin):
@@ -205,7 +205,7 @@ def targets(n):
 
 
 def labels(n):
-    """a code of n labels, and n / 2 codes of one label behind it"""
+    """a code of n labels, and n / 2 codes of one label after it"""
     many = [line for k in range(n) for line in (f":L{k}", "nop")]
     few = [line for k in range(n // 2) for line in (f"direct m{k} ()V 0x9", "code 1 0 0", ":a", "goto/32 :a", "end code")]
     head = ["dex 035 listing 2", "class LA; 0x1", "direct a ()V 0x9", "code 1 0 0"]

@@ -50,7 +50,7 @@ def changed(data, *changes):
 
 
 def with_code(units, registers=1, ins=0, tries=(), handlers=b""):
-    """ONE_METHOD with another code: `tries` as (first unit, units, handler_off). What stands behind it moves."""
+    """ONE_METHOD with another code: `tries` as (first unit, units, handler_off). What stands after it moves."""
     item = struct.pack("<4H2I", registers, ins, 0, len(tries), 0, len(units) // 2) + units
     if tries:
         item += bytes(len(units) % 4) + b"".join(struct.pack("<IHH", *each) for each in tries) + handlers
@@ -95,7 +95,7 @@ def headers_and_tables():
     yield "65536 types", with_rows(65536, 64, 4), ("TooManyRows", 64)
     yield "65536 prototypes", with_rows(65536, 72, 12), ("TooManyRows", 72)
     yield "version 037", changed(NO_CLASSES, (4, "303337")), ("Version", 4)
-    yield "a byte changed behind the checksum", NO_CLASSES[:-1] + b"\1", ("Checksum", 8)
+    yield "a byte changed after the checksum", NO_CLASSES[:-1] + b"\1", ("Checksum", 8)
     for what, at, text, answer in (
         ("a half word of the map that isn't looked at", MAP + 6, "07", None),
         ("a second header in the map", MAP + 16, "00", ("MapEntry", MAP + 16)),
@@ -161,7 +161,7 @@ def classes():
 def codes():
     for what, at, text, answer in (
         ("a code at an odd offset", MEMBERS + 6, "c1", ("CodePlace", 0xC1)),
-        ("a code behind the file's end", MEMBERS + 7, "7f", ("CodePlace", 0x3FC0)),
+        ("a code after the file's end", MEMBERS + 7, "7f", ("CodePlace", 0x3FC0)),
         ("no units", CODE + 12, "00", ("EmptyCode", CODE)),
         ("more ins than registers", CODE + 2, "02", ("Register", CODE)),
         ("the one register", UNITS, "0f00", None),
@@ -178,7 +178,7 @@ def codes():
         ("a packed-switch-payload, cut in its head", "0001", "Cut"),
         ("an array of width 3, cut in its head", "00030300", "Cut"),
         ("an array of width 3", "0003030000000000", "Payload"),
-        ("an array, cut behind its head", "00030800ffffffff", "Cut"),
+        ("an array, cut after its head", "00030800ffffffff", "Cut"),
         ("a key twice", "00020200" + "05000000" * 2 + "00000000" * 2, "Payload"),
         ("goto to itself", "2800", "BranchZero"),
     ):
@@ -196,7 +196,7 @@ def codes():
     for what, registers, text, answer in (
         ("a call with no registers, from 65535 on", 0, "77000000ffff", None),
         ("a call with the last register", 65535, "77010000feff", None),
-        ("a call with a register behind the last", 65535, "77020000feff", ("Register", UNITS)),
+        ("a call with a register after the last", 65535, "77020000feff", ("Register", UNITS)),
     ):
         yield what, with_code(bytes.fromhex(text), registers), answer
 
@@ -208,7 +208,7 @@ def tries():
         ("a try of whole instructions", 3, 1, 4, None),
         ("a try to the end", 4, 1, 4, None),
         ("a try of no units", 0, 1, 4, ("Try", UNITS + 12)),
-        ("a try that ends behind the units", 5, 1, 4, ("Try", UNITS + 12)),
+        ("a try that ends after the units", 5, 1, 4, ("Try", UNITS + 12)),
         ("handler_off at no handler", 3, 0, 4, ("Handler", UNITS + 20)),
         ("a handler within an instruction", 3, 1, 2, ("Handler", UNITS + 20)),
     ):

@@ -55,7 +55,7 @@ def leb128(data, at, end):
 
 
 def uleb128(data, at, end):
-    """The number and the place behind it; None where none is spelled."""
+    """The number and the place after it; None where none is spelled."""
     got = leb128(data, at, end)
     if got is None or got[0] > 0xFFFFFFFF:
         return None
@@ -73,7 +73,7 @@ def sleb128(data, at, end):
 
 
 def utf16_unit(data, at, end):
-    """The unit of which the one spelling in MUTF-8 stands here, and the place behind it; None for another form."""
+    """The unit of which the one spelling in MUTF-8 stands here, and the place after it; None for another form."""
     first = data[at]
     if 1 <= first <= 0x7F:
         return first, at + 1
@@ -218,10 +218,10 @@ def map_entries(file):
     # The offset of a data section of size 0 isn't looked at: nothing is within it.
     if file.data_size == 0 or off % 4 != 0 or off < begin or off + 4 > end:
         raise Fault("MapPlace", 52)
-    behind = off + 4 + 12 * u32(file.data, off)
-    if behind > end:
+    after = off + 4 + 12 * u32(file.data, off)
+    if after > end:
         raise Fault("MapPlace", 52)
-    return [(u16(file.data, at), u32(file.data, at + 4), u32(file.data, at + 8)) for at in range(off + 4, behind, 12)]
+    return [(u16(file.data, at), u32(file.data, at + 4), u32(file.data, at + 8)) for at in range(off + 4, after, 12)]
 
 
 def is_entry_broken(file, entries, i):
@@ -466,7 +466,7 @@ ARRAY, NULL, BOOLEAN = 0x1C, 0x1E, 0x1F
 
 
 def behind_value(file, row, at, end, arrays_around):
-    """The place behind the value that stands here."""
+    """The place after the value that stands here."""
     if at >= end:
         raise Fault("Values", row.row)
     kind, argument = file.data[at] & 0x1F, file.data[at] >> 5
@@ -478,17 +478,17 @@ def behind_value(file, row, at, end, arrays_around):
         return behind_array(file, row, at + 1, end, None, arrays_around + 1)
     if kind in (NULL, BOOLEAN):
         return at + 1
-    behind = at + 2 + argument
-    if behind > end:
+    after = at + 2 + argument
+    if after > end:
         raise Fault("Values", row.row)
-    index = int.from_bytes(file.data[at + 1 : behind], "little")
+    index = int.from_bytes(file.data[at + 1 : after], "little")
     if kind in NAMED_TABLE and index >= file.size(NAMED_TABLE[kind]):
         raise Fault("ValueKind", at)
-    return behind
+    return after
 
 
 def behind_array(file, row, at, end, most, arrays_around):
-    """The place behind the encoded_array that stands here; it has at most `most` values, where that isn't None."""
+    """The place after the encoded_array that stands here; it has at most `most` values, where that isn't None."""
     got = uleb128(file.data, at, end)
     if got is None:
         raise Fault("Values", row.row)

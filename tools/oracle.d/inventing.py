@@ -157,7 +157,7 @@ class Inventor:
         return Payload(kind, tuple(keys), (0,) * len(keys))
 
     def instructions(self, registers):
-        """Instructions, payloads among them or behind them, and which payload each needs."""
+        """Instructions, payloads among them or after them, and which payload each needs."""
         pool = lambda: self.rng.choice((WITH_TARGETS, CALLS, sorted(OPCODES), sorted(OPCODES)))
         made = [self.instruction(self.rng.choice(pool()), registers) for _ in range(self.rng.randrange(1, 12))]
         if self.chance(0.02):
@@ -215,12 +215,12 @@ class Inventor:
             first = min(at + self.rng.choice((0, 0, 1, 3)), length - 1)
             if self.is_odd():
                 first = max(0, first - 1)
-            behind = self.rng.choice((length, self.rng.randint(first + 1 - self.is_odd(), length)))
+            after = self.rng.choice((length, self.rng.randint(first + 1 - self.is_odd(), length)))
             if len(tries) < count - 1:
-                behind = min(behind, first + 3)
+                after = min(after, first + 3)
             catches, other = self.rng.choice(handlers) if self.chance(0.5) else self.handler(length)
-            tries.append(Try(first, behind, list(catches), other))
-            at = behind
+            tries.append(Try(first, after, list(catches), other))
+            at = after
         return tries
 
     def handler(self, length):

@@ -42,7 +42,7 @@ def unit_of(piece):
 
 
 def text_at(line, at):
-    """The text that begins here with its quote, and the place behind it. The line has a space at its end."""
+    """The text that begins here with its quote, and the place after it. The line has a space at its end."""
     units, at = [], at + 1
     while line[at : at + 1] != '"':  # at the end of the line no piece matches
         piece = PIECE_OF_TEXT.match(line, at)
@@ -305,8 +305,8 @@ def line_of(words, form):
 # --------------------------------------------------------------------------------------------------- 103, 104, 105, 106
 
 MEMBERS = ("static", "instance", "direct", "virtual")
-IN_CLASS = ("head", "members", "method")  # before the members, among them, behind a method
-IN_CODE = ("instructions", "try", "catchall")  # before the tries, behind a try and its catches, behind a catchall
+IN_CLASS = ("head", "members", "method")  # before the members, among them, after a method
+IN_CODE = ("instructions", "try", "catchall")  # before the tries, after a try and its catches, after a catchall
 # Where a line may stand. What isn't here is an instruction.
 PLACES = {
     "dex": ("start",), "class": ("outside",), "super": ("head",), "implements": ("head",), "source": ("head",),
@@ -341,7 +341,7 @@ class CodeDraft:
             elif each.target is not None:
                 each.target = self.place(each.target)
         for one in self.code.tries:
-            one.first, one.behind = self.place(one.first), self.place(one.behind)
+            one.first, one.after = self.place(one.first), self.place(one.after)
             one.catches = [(text, self.place(target)) for text, target in one.catches]
             one.other = None if one.other is None else self.place(one.other)
 
@@ -387,7 +387,7 @@ class Draft:
     def __init__(self):
         self.state, self.form = "start", None
         self.classes = []
-        self.needs = []  # (line, code, target, whether it may be the place behind the last instruction)
+        self.needs = []  # (line, code, target, whether it may be the place after the last instruction)
         self.values, self.given, self.code, self.codes = {}, set(), None, []
 
     def may_stand(self, line):
@@ -677,7 +677,7 @@ class Printer:
         if self.form == 2:
             yield from ([label] for label in self.labels(len(code.instructions)))
         for one in code.tries:
-            yield ["try", self.target(one.first), self.target(one.behind)]
+            yield ["try", self.target(one.first), self.target(one.after)]
             for text, k in one.catches:
                 yield ["catch", self.name(text), self.target(k)]
             if one.other is not None:
@@ -725,7 +725,7 @@ class Printer:
 
 
 def needed_labels(code):
-    """The numbers of instructions before which a label stands, and the one behind the last where a try ends there."""
+    """The numbers of instructions before which a label stands, and the one after the last where a try ends there."""
     labels = set()
     for each in code.instructions:
         if isinstance(each, Payload):
@@ -733,7 +733,7 @@ def needed_labels(code):
         elif each.target is not None:
             labels.add(each.target)
     for one in code.tries:
-        labels.update((one.first, one.behind), (k for _, k in one.catches), [] if one.other is None else [one.other])
+        labels.update((one.first, one.after), (k for _, k in one.catches), [] if one.other is None else [one.other])
     return labels
 
 

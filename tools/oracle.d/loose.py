@@ -19,7 +19,7 @@ from writing import write
 
 
 def packed_units(parts):
-    """The high byte and the units behind it of these parts, as (number, bits) from the low bits on."""
+    """The high byte and the units after it of these parts, as (number, bits) from the low bits on."""
     number = width = 0
     for part, bits in parts:
         number |= (part & (1 << bits) - 1) << width
@@ -60,7 +60,7 @@ def made_payload(each):
 def made_code(rng, code):
     instructions = [made_instruction(rng, each) if isinstance(each, Instruction) else made_payload(each)
                     for each in code.instructions]
-    tries = [(one.first, one.behind, one.catches, one.other) for one in code.tries]
+    tries = [(one.first, one.after, one.catches, one.other) for one in code.tries]
     return {"registers": code.registers, "ins": code.ins, "outs": code.outs, "instructions": instructions,
         "tries": tries}
 
@@ -113,8 +113,8 @@ def loose_tries_bytes(names, tries, addresses, layout):
             listed += uleb128(names.index["type"][text], layout) + uleb128(addresses[k], layout)
         if other is not None:
             listed += uleb128(addresses[other], layout)
-    for (first, behind, _, _), i in zip(tries, of_try):
-        least, most = addresses[behind - 1] - addresses[first] + 1, addresses[behind] - addresses[first]
+    for (first, after, _, _), i in zip(tries, of_try):
+        least, most = addresses[after - 1] - addresses[first] + 1, addresses[after] - addresses[first]
         length = layout.rng.choice((min(most, 65535), layout.rng.randint(least, min(most, 65535))))
         if begins[i] > 65535:
             return None

@@ -6,7 +6,7 @@ None), a value (kind, ..) as value_bytes takes it. A code is a dict of registers
 An instruction is (opcode, high byte, units ..), where ("string", s), ("type", t), ("field", (class, name, type))
 and ("method", (class, name, prototype)) stand for indices, and ("to", k, units) for the way to the k-th
 instruction; or it is a payload: ("packed", first key, [k ..]), ("sparse", [key ..], [k ..]), ("array", width,
-bytes). A try is (k, k behind it, [(type, k) ..], k of all others or None).
+bytes). A try is (k, k after it, [(type, k) ..], k of all others or None).
 """
 import hashlib
 import struct
@@ -258,8 +258,8 @@ def tries_bytes(names, tries, addresses, layout):
             listed += uleb128(names.index["type"][text], layout) + uleb128(addresses[k], layout)
         if other is not None:
             listed += uleb128(addresses[other], layout)
-    for first, behind, catches, other in tries:
-        length = addresses[behind] - addresses[first]
+    for first, after, catches, other in tries:
+        length = addresses[after] - addresses[first]
         items += struct.pack("<IHH", addresses[first], length, begins[tuple(catches), other])
     return items + listed
 

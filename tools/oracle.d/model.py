@@ -34,10 +34,10 @@ class Payload:
 
 @dataclasses.dataclass
 class Try:
-    """Instructions from `first` to `behind`; catches as (type, instruction); the instruction for all else, or None."""
+    """Instructions from `first` to `after`; catches as (type, instruction); the instruction for all else, or None."""
 
     first: int
-    behind: int
+    after: int
     catches: list
     other: int = None
 
@@ -164,7 +164,7 @@ def units_of(instruction):
 
 
 def addresses_of(instructions):
-    """The address of each instruction, and at the end that behind the last."""
+    """The address of each instruction, and at the end that after the last."""
     addresses = [0]
     for each in instructions:
         addresses.append(addresses[-1] + units_of(each))

@@ -63,9 +63,9 @@ class Spots:
             self.put(label, place)
 
     def put_number(self, label, at, end, read=faults.uleb128):
-        number, behind = read(self.data, at, end)
-        self.put_bytes(label, at, behind)
-        return number, behind
+        number, after = read(self.data, at, end)
+        self.put_bytes(label, at, after)
+        return number, after
 
     def in_head_and_map(self):
         self.put_bytes("magic", 0, 8)
@@ -377,7 +377,7 @@ def random_unit(rng):
 
 
 def units_of_any(rng, before):
-    """An instruction whose operands nobody chose, behind so many units."""
+    """An instruction whose operands nobody chose, after so many units."""
     opcode = rng.choice(sorted(faults.OPCODES) if rng.random() < 0.6 else (0,) + programs.WITH_TARGETS)
     if rng.random() < 0.05:
         opcode = rng.randrange(256)

@@ -67,7 +67,7 @@ def random_payload(rng, opcode, instructions):
 
 
 def with_payloads(rng, opcodes):
-    """The instructions as (opcode,), payloads at even units behind them; and which payload each leads to."""
+    """The instructions as (opcode,), payloads at even units after them; and which payload each leads to."""
     made, payload_of, shared = [(opcode,) for opcode in opcodes], {}, None
     length = sum(UNITS[OPCODES[opcode][0]] for opcode in opcodes)
     for k, opcode in enumerate(opcodes):
@@ -117,7 +117,7 @@ class Operands:
         return count, index, self.rng.randrange(self.registers - count + 1) if count else self.number()
 
     def of(self, form, index, target):
-        """The high byte and the units behind it."""
+        """The high byte and the units after it."""
         makers = {
             "10x": lambda: (0,), "12x": lambda: (self.pair(),), "11x": lambda: (self.byte(),),
             "11n": lambda: (self.rng.randrange(16) << 4 | self.low(),),
@@ -145,11 +145,11 @@ def random_tries(rng, instructions):
         at += rng.randrange(2)
         if at >= instructions:
             break
-        behind = rng.randrange(at + 1, min(instructions, at + 6) + 1)
+        after = rng.randrange(at + 1, min(instructions, at + 6) + 1)
         catches = [(rng.choice(OF_TYPES + ("V",)), rng.randrange(instructions)) for _ in range(rng.randrange(3))]
         other = rng.randrange(instructions) if not catches or rng.random() < 0.5 else None
-        tries.append((at, behind, catches, other))
-        at = behind
+        tries.append((at, after, catches, other))
+        at = after
     return tries
 
 

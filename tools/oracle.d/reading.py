@@ -37,22 +37,22 @@ KINDS = {0x00: "byte", 0x02: "short", 0x03: "char", 0x04: "int", 0x06: "long", 0
 
 
 def value_at(names, data, at):
-    """The value that stands here, and the place behind it."""
+    """The value that stands here, and the place after it."""
     kind, argument = data[at] & 0x1F, data[at] >> 5
     if kind == faults.ARRAY:
         values, at = array_at(names, data, at + 1)
         return ("array", values), at
     if kind in (faults.NULL, faults.BOOLEAN):
         return ("null" if kind == faults.NULL else ("false", "true")[argument], None), at + 1
-    kind, behind = KINDS[kind], at + 2 + argument
-    number = int.from_bytes(data[at + 1 : behind], "little")
+    kind, after = KINDS[kind], at + 2 + argument
+    number = int.from_bytes(data[at + 1 : after], "little")
     if kind in ("byte", "short", "int", "long"):
         number = signed(number, 8 * (argument + 1))
     elif kind in ("float", "double"):
         number <<= 8 * ((4 if kind == "float" else 8) - argument - 1)
     elif kind != "char":
-        return (kind, getattr(names, "field" if kind == "enum" else kind)[number]), behind
-    return (kind, number), behind
+        return (kind, getattr(names, "field" if kind == "enum" else kind)[number]), after
+    return (kind, number), after
 
 
 def array_at(names, data, at):
@@ -140,8 +140,8 @@ def handler_at(names, data, at, number_at):
 def try_at(names, data, code, at, number_at):
     """A try covers the instructions whose address lies in its range."""
     start, count, handler = struct.unpack_from("<IHH", data, at)
-    behind = sum(each.at < start + count for each in code.instructions)
-    return Try(number_at[start], behind, *handler_at(names, data, code.handlers_off + handler, number_at))
+    after = sum(each.at < start + count for each in code.instructions)
+    return Try(number_at[start], after, *handler_at(names, data, code.handlers_off + handler, number_at))
 
 
 def code_of(names, data, code):

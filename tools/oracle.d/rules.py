@@ -199,11 +199,11 @@ def breaks_try(code):
     end, length = 0, len(code.instructions)
     for one in code.tries:
         handlers = [k for _, k in one.catches] + ([] if one.other is None else [one.other])
-        if not end <= one.first < one.behind <= length or not handlers:
+        if not end <= one.first < one.after <= length or not handlers:
             return True
         if not all(0 <= k < length for k in handlers):
             return True
-        end = one.behind
+        end = one.after
     return False
 
 

@@ -77,14 +77,14 @@ def lines_and_words():
     yield "a line of a tab", b"\t\ndex 035\n", word(1)
     yield "a carriage return", b"dex 035\r\n", word(1)
     yield "a byte above ASCII", b"dex 035\nclass L\xc3\xa9; 1\nend class\n", word(2)
-    yield "a comment behind words", in_class("super LB; # its superclass"), word(3)
+    yield "a comment after words", in_class("super LB; # its superclass"), word(3)
     for what, text, answer in (
         ("escapes", r'"\"\\\u00e9\uD83D\ude00"', None),
         ("a # in a text", '"# {} ="', None),
         ("nothing in a text", '""', None),
         ("a text that isn't closed", '"a', word(3)),
         ("a text whose last quote is escaped", r'"a\"', word(3)),
-        ("a word behind a text without a space", '"a"b', word(3)),
+        ("a word after a text without a space", '"a"b', word(3)),
         ("a quote within a text", '"a"b"', word(3)),
         ("an escape that can't be", r'"\n"', word(3)),
         ("an escape of three digits", r'"\u00e"', word(3)),
@@ -158,7 +158,7 @@ def the_lines():
     yield "an unknown version", listing_of("dex 036"), word(1)
     yield "a number spelled in another way", listing_of("dex 0x23"), word(1)
     yield "the first line twice", listing_of(SECOND, SECOND), order(2)
-    yield "the other first line behind the second form's", listing_of(SECOND, FIRST), order(2)
+    yield "the other first line after the second form's", listing_of(SECOND, FIRST), order(2)
     yield "no first line", listing_of(CLASS, "end class"), order(1)
     yield "an unknown word before the first line", listing_of("nop"), word(1)
     yield "an instruction before the first line", listing_of("0: nop"), order(1)
@@ -166,12 +166,12 @@ def the_lines():
     yield "superclass, interfaces, source file", in_class("implements LB;", "super LC;", 'source "a"',
         "implements LD;"), None
     yield "members in any order", in_class("virtual n ()V 1", "static b I 1", "direct m ()V 1", "static a I 0"), None
-    yield "a superclass behind a member", in_class("static a I 0", "super LB;"), order(4)
-    yield "a superclass behind a second one and a member", in_class("super LB;", "static a I 0", "super LB;"), order(5)
+    yield "a superclass after a member", in_class("static a I 0", "super LB;"), order(4)
+    yield "a superclass after a second one and a member", in_class("super LB;", "static a I 0", "super LB;"), order(5)
     yield "a class in a class", in_class(CLASS), order(3)
     yield "a member outside", listing_of(SECOND, "static a I 0"), order(2)
     yield "the end of nothing", listing_of(SECOND, "end class"), order(2)
-    yield "a code behind a field", in_class("static a I 0", "code 0 0 0"), order(4)
+    yield "a code after a field", in_class("static a I 0", "code 0 0 0"), order(4)
     yield "a second code", in_class("direct m ()V 0", "code 0 0 0", "nop", "end code", "code 0 0 0"), order(7)
     yield "the end of the class in a code", in_class("direct m ()V 0", "code 0 0 0", "nop"), order(6)
     yield "an instruction in a class", in_class("nop"), order(3)
@@ -179,10 +179,10 @@ def the_lines():
     yield "registers, ins, outs", in_class("direct m ()V 0", "code 65535 65535 65535", "nop", "end code"), None
     yield "too many registers", in_class("direct m ()V 0", "code 65536 0 0", "nop", "end code"), number(4)
     yield "an unknown mnemonic", in_code("nops"), word(5)
-    yield "an instruction behind a try", in_code(":a", "nop", ":b", "try :a :b", "nop"), order(9)
-    yield "a label behind a try", in_code(":a", "nop", ":b", "try :a :b", ":c"), order(9)
+    yield "an instruction after a try", in_code(":a", "nop", ":b", "try :a :b", "nop"), order(9)
+    yield "a label after a try", in_code(":a", "nop", ":b", "try :a :b", ":c"), order(9)
     yield "a catch without a try", in_code(":a", "nop", "catch LB; :a"), order(7)
-    yield "a catch behind a catchall", in_code(":a", "nop", ":b", "try :a :b", "catchall :a", "catch LB; :a"), order(10)
+    yield "a catch after a catchall", in_code(":a", "nop", ":b", "try :a :b", "catchall :a", "catch LB; :a"), order(10)
     yield "a second catchall", in_code(":a", "nop", ":b", "try :a :b", "catchall :a", "catchall :a"), order(10)
     yield "two tries", in_code(":a", "nop", ":b", "nop", ":c", "try :a :b", "catch LB; :b", "catchall :a", "try :b :c",
                                "catchall :a"), None
@@ -266,9 +266,9 @@ def labels():
     yield "the same label twice", in_code(":a", "nop", ":a", "nop"), twice(7)
     yield "the same place twice, and a label that nothing uses", in_code(":a", ":b", "nop", "goto :a", ":c"), None
     yield "a label that isn't there", in_code("goto :a"), target(5)
-    yield "a branch behind the last instruction", in_code("goto :a", ":a"), target(5)
-    yield "a try that begins behind the last instruction", in_code("nop", ":a", "try :a :a", "catchall :a"), target(7)
-    yield "a handler behind the last instruction", in_code(":b", "nop", ":a", "try :b :a", "catchall :a"), target(9)
+    yield "a branch after the last instruction", in_code("goto :a", ":a"), target(5)
+    yield "a try that begins after the last instruction", in_code("nop", ":a", "try :a :a", "catchall :a"), target(7)
+    yield "a handler after the last instruction", in_code(":b", "nop", ":a", "try :b :a", "catchall :a"), target(9)
     yield "a target where another line has a fault", in_code("goto :a", "goto a"), name(6)
     yield "a target where the text doesn't end", in_code("goto :a")[: -len("end class\n")], not_ended(6)
     yield "a target in a text that breaks a rule", in_code("move v4 v0", "goto :a"), target(6)
@@ -332,8 +332,8 @@ def the_first_form():
     yield "a label as target", first("0: goto :a"), number(5)
     yield "a target of 32 bits", first("0: goto @4294967295"), target(5)
     yield "a target of 33 bits", first("0: goto @4294967296"), number(5)
-    yield "a target behind the last", first("0: goto @1"), target(5)
-    yield "a try that ends behind the place behind the last", first("0: nop", "try @0 @2", "catchall @0"), target(6)
+    yield "a target after the last", first("0: goto @1"), target(5)
+    yield "a try that ends after the place after the last", first("0: nop", "try @0 @2", "catchall @0"), target(6)
     yield "the second form's first line", listing_of(FIRST, SECOND), word(2)
     yield "a number in the second form", in_code("0: nop"), word(5)
     yield "a target of the first form in the second", in_code("goto @0"), name(5)
@@ -458,7 +458,7 @@ def tries():
     first = [":a", "nop", ":b", "nop", ":c", "nop", ":d", "try :a :b", *["catch LA; :a"] * 20000]
     for pairs, last in ((12764, None), (12765, ("written", "HandlerTooFar", 0))):
         second = ["try :b :c", *["catch LA; :a"] * pairs, "try :c :d", "catchall :a"]
-        yield f"a handler behind two of 20000 and {pairs} pairs", in_code(*first, *second), last
+        yield f"a handler after two of 20000 and {pairs} pairs", in_code(*first, *second), last
 
 
 SMALL = (of_the_page, lines_and_words, what_a_word_can_be, the_lines, instructions, labels, values, faults,

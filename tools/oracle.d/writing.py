@@ -145,7 +145,7 @@ OFFSET_BITS = {"10t": 8, "20t": 16, "21t": 16, "22t": 16, "30t": 32, "31t": 32}
 
 
 def fields_of(rank, each, offset):
-    """The parts of an instruction behind its opcode, from the low bits on: (number, bits)."""
+    """The parts of an instruction after its opcode, from the low bits on: (number, bits)."""
     form, registers = form_of(each.opcode), each.registers
     index = rank[kind_of_name(each.opcode)][each.name] if form in WITH_NAME else None
     if form == "35c":
@@ -225,8 +225,8 @@ def code_item(rank, code):
     listed, begins = handlers_of(rank, code, addresses)
     out += bytes(addresses[-1] % 2 * 2)
     for one, begin in zip(code.tries, begins):
-        first, behind = addresses[one.first], addresses[one.behind]
-        out += struct.pack("<IHH", first, min(behind - first, 0xFFFF), begin)
+        first, after = addresses[one.first], addresses[one.after]
+        out += struct.pack("<IHH", first, min(after - first, 0xFFFF), begin)
     return out + listed
 
 
@@ -286,7 +286,7 @@ def is_misaligned(codes):
 def has_long_try(codes):
     for code in codes:
         addresses = addresses_of(code.instructions)
-        if any(addresses[one.behind - 1] - addresses[one.first] > 65534 for one in code.tries):
+        if any(addresses[one.after - 1] - addresses[one.first] > 65534 for one in code.tries):
             return True
     return False
 
@@ -325,7 +325,7 @@ def limit_fault(classes, needs):
 
 
 class Data:
-    """The data section: items one behind the other, and of each kind how many there are and where the first stands."""
+    """The data section: items one after the other, and of each kind how many there are and where the first stands."""
 
     def __init__(self, begin):
         self.begin, self.bytes, self.entries = begin, bytearray(), []
@@ -463,7 +463,7 @@ def moved_code(code, instructions, numbers):
             each.target = numbers[each.target]
     tries = copy.deepcopy(code.tries)
     for one in tries:
-        one.first, one.behind = numbers[one.first], numbers[one.behind]
+        one.first, one.after = numbers[one.first], numbers[one.after]
         one.catches = [(text, numbers[k]) for text, k in one.catches]
         one.other = None if one.other is None else numbers[one.other]
     return type(code)(code.registers, code.ins, code.outs, instructions, tries)

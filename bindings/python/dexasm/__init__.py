@@ -119,7 +119,7 @@ def assemble(text: str | Data, align: bool = False) -> bytes:
 
 
 def strip(data: Data) -> bytes:
-    """A file's program written anew, with nothing to spare."""
+    """A file's program, written again without what it doesn't need."""
     given = bytes(data)
     return _answer(_library.dexasm_strip, given, len(given) + 64)
 

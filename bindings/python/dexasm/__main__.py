@@ -21,8 +21,8 @@ def words() -> argparse.Namespace:
     jobs = parser.add_subparsers(dest="job", required=True)
     for job in ("check", "list", "assemble", "strip"):
         by = jobs.add_parser(job)
-        by.add_argument("file", nargs="?", metavar="FILE", help="the file to read, in place of standard input")
-        by.add_argument("--output", metavar="OUT", help="the file to write, in place of standard output")
+        by.add_argument("file", nargs="?", metavar="FILE", help="read FILE instead of standard input")
+        by.add_argument("--output", metavar="OUT", help="write to OUT instead of standard output")
         if job == "assemble":
             by.add_argument("--align", action="store_true", help="put a nop before each payload at an odd address")
     return parser.parse_args()

@@ -75,7 +75,7 @@ pub fn assemble(text: &[u8], align: bool) -> Result<Vec<u8>, Error> {
     answer(text.len() + 4096, |out| ffi::assemble(text, align, out))
 }
 
-/// A file's program written anew, with nothing to spare.
+/// A file's program, written again without what it doesn't need.
 ///
 /// # Errors
 ///

@@ -15,8 +15,8 @@ syn match dexasmTarget /\s\@1<=\%(@\d\+\|:\w\+\)/
 syn match dexasmRegister /\s\@1<=v\d\+/
 syn match dexasmNumber /\s\@1<=-\?\%(0x\x\+\|\d\+\)\ze\%(\s\|$\)/
 syn match dexasmType /\s\@1<=\[*\%(L[^ ;]*;\|[ZBSCIJFDV]\)\ze\%(\s\|$\|->\)/
-syn keyword dexasmValue byte short char int long float double string type field method enum null true false array contained
-syn match dexasmInitial /=\s\+\w\+/ contains=dexasmValue
+syn match dexasmValue /\s\@1<=\%(byte\|short\|char\|int\|long\|float\|double\|string\|type\|field\|method\|enum\|null\|true\|false\|array\)\ze\%(\s\|$\)/ contained
+syn match dexasmInitial /\s\@1<==\s.*$/ contains=dexasmValue,dexasmNumber,dexasmType,dexasmText
 syn region dexasmText start=/"/ skip=/\\[\\"]/ end=/"/ oneline
 hi def link dexasmVersion PreProc
 hi def link dexasmComment Comment

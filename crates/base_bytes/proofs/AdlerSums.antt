@@ -1,6 +1,6 @@
 -- The sums of Adler-32 over joined lists, and under the remainder.
-use Rattle.std.proofs.Common.{lit<, ◌^◌, ◌≡◌, ℕ, ◌+◌, ◌*◌, ◌%◌, ◌<◌, ◌≤◌, List, [], ◌∷◌, ◌++◌, length, take, get_or, sum, refl, sym, ap, ◌∙◌, arith}
-use Rattle.std.proofs.lemmas.List.{length-append, take_more}
+use Rattle.std.proofs.Common.{lit<, ◌^◌, ◌≡◌, ℕ, ◌+◌, ◌*◌, ◌%◌, ◌<◌, ◌≤◌, List, [], ◌∷◌, ◌++◌, length, take, drop, get_or, sum, refl, sym, ap, ◌∙◌, arith}
+use Rattle.std.proofs.lemmas.List.{length-append, length-drop, get_or-drop, take_more}
 use Rattle.std.proofs.lemmas.List.Sums.{sum_by-append, sum_by-cons}
 use Rattle.std.proofs.lemmas.Nat.{mul-mod_second}
 use Rattle.std.proofs.Math.Nat.{mod-add-mod, add-mod-mod, mod-lt}
@@ -9,7 +9,7 @@ use Rattle.base_bytes.specs.Adler32.{weighted_sum, adler32}
 pub sum-append : (xs ys : List ℕ) → sum (xs ++ ys) ≡ sum xs + sum ys
 sum-append xs ys = sum_by-append (λ x. x) xs ys
 
-sum-cons : (x : ℕ) (xs : List ℕ) → sum (x ∷ xs) ≡ x + sum xs
+pub sum-cons : (x : ℕ) (xs : List ℕ) → sum (x ∷ xs) ≡ x + sum xs
 sum-cons x xs = sum_by-cons (λ x. x) x xs
 
 pub weighted_sum-append : (xs ys : List ℕ) → weighted_sum (xs ++ ys) ≡ weighted_sum xs + length ys * sum xs + weighted_sum ys
@@ -25,14 +25,18 @@ pub record IsSummed (a b : ℕ) (bytes : List ℕ) (i : ℕ) (x y : ℕ) : Type 
   pub a_small : x ≤ 65520 + 255 * i
   pub b_small : y ≤ 65520 + 1034520 * i
 
-pub summed_more : (a b : ℕ) (bytes : List ℕ) (i x y : ℕ) → IsSummed a b bytes i x y → i < length bytes → i < 3800 → get_or bytes i 0 < 256
-    → IsSummed a b bytes (i + 1) (x + get_or bytes i 0) (y + (x + get_or bytes i 0))
-summed_more a b bytes i x y s h small byte =
-    let last = get_or bytes i 0 in
-    let front = take i bytes in
+-- one byte more of those after the first n
+pub summed_more : (a b : ℕ) (bytes rest : List ℕ) (n k x y byte : ℕ) → IsSummed a b bytes (n + k) x y → rest ≡ drop n bytes → k < length rest → n + k < 3800
+    → byte ≡ get_or rest k 0 → get_or bytes (n + k) 0 < 256 → IsSummed a b bytes (n + (k + 1)) (x + byte) (y + (x + byte))
+summed_more a b bytes rest n k x y byte s back h small is fits =
+    let front = take (n + k) bytes in
+    let within : n + k < length bytes = omega (arith, ap length back, length-drop n bytes) in
+    let same : byte ≡ get_or bytes (n + k) 0 = is ∙ ap (λ xs. get_or xs k 0) back ∙ get_or-drop n bytes k 0 in
+    let next : n + (k + 1) ≡ n + k + 1 = omega arith in
+    let more : take (n + (k + 1)) bytes ≡ front ++ (byte ∷ []) = ap (λ i. take i bytes) next ∙ rw same (take_more bytes (n + k) 0 within) in
     record {
-      a_is = rw (take_more bytes i 0 h, sum-append front (last ∷ []), s.a_is) (omega arith);
-      b_is = rw (take_more bytes i 0 h, weighted_sum-append front (last ∷ []), s.a_is, s.b_is) (omega arith);
+      a_is = rw (more, sum-append front (byte ∷ []), s.a_is) (omega arith);
+      b_is = rw (more, weighted_sum-append front (byte ∷ []), s.a_is, s.b_is) (omega arith);
       a_small = omega (arith, s.a_small);
       b_small = omega (arith, s.a_small, s.b_small);
     }

@@ -100,7 +100,7 @@ decide_bounded G bound below d bytes = elim (decide_below (λ n. (v : ℕ) × (v
   ))
 ]
 
--- so many values, one behind the other
+-- so many values, one after the other
 unfoldable pub DecidedEach : {V : Type 0} → (List ℕ → V → Type 0) → ℕ → List ℕ → Type 0
 DecidedEach {V} G n bytes = ((vs : List V) × (rest : List ℕ) × (length vs ≡ n) × Takes (Each G) bytes vs rest) ⊎ ((vs : List V) (rest : List ℕ) → length vs ≡ n → Takes (Each G) bytes vs rest → ⊥)
 
@@ -158,7 +158,7 @@ module _ {V : Type 0} (G : List ℕ → V → Type 0) (unique : IsPrefixUnique G
 
 -- ---- numbers and texts
 
-decide_sequence : (bytes : List ℕ) → Decided (IsSequence bytes)
+pub decide_sequence : (bytes : List ℕ) → Decided (IsSequence bytes)
 decide_sequence [] = inr (λ e. e)
 decide_sequence (b ∷ []) = decide_lt b 128
 decide_sequence (b ∷ c ∷ bs) = decide_both (decide_le 128 b) (decide_sequence (c ∷ bs))

@@ -5,7 +5,7 @@ use Rattle.byteorder.specs.Endian.{little_number}
 use Rattle.byteorder.specs.Numbers.{little_number-reads_back, little_from-append}
 use Rattle.base_bytes.specs.Fields.{AreBytes, u16_at, u32_at, u32_bytes}
 
-drop-AreBytes : (b : List ℕ) (p : ℕ) → AreBytes b → AreBytes (drop p b)
+pub drop-AreBytes : (b : List ℕ) (p : ℕ) → AreBytes b → AreBytes (drop p b)
 drop-AreBytes b p h i = rw (get_or-drop p b i 0) (h (p + i))
 
 pub u32_at-fits : (b : List ℕ) (p : ℕ) → AreBytes b → u32_at b p < 2 ^ 32
@@ -22,7 +22,7 @@ pub length-u32_bytes : (n : ℕ) → length (u32_bytes n) ≡ 4
 unfolding u32_bytes
 length-u32_bytes n = refl
 
--- a field behind a front of k bytes
+-- a field after a front of k bytes
 pub u32_at-append : (xs ys : List ℕ) (k p : ℕ) → length xs ≡ k → u32_at (xs ++ ys) (k + p) ≡ u32_at ys p
 unfolding u32_at
 u32_at-append xs ys k p e =

@@ -66,9 +66,9 @@ Then-found G H bytes v w m n p q = record {
 pub Then-none_first : {V W : Type 0} (G : List ℕ → V → Type 0) (H : V → List ℕ → W → Type 0) (bytes : List ℕ) → NoneBegins G bytes → NoneBegins (Then G H) bytes
 Then-none_first G H bytes none front rest p e s = none s.front (s.back ++ rest) p.0 (e ∙ ap (λ l. l ++ rest) s.joined ∙ append_assoc s.front s.back rest) s.first
 
--- what stands behind a front that is known
-pub behind : {V : Type 0} (G : List ℕ → V → Type 0) (bytes front rest : List ℕ) (v w : V) (m : ℕ) → IsPrefixUnique G → Begins G bytes v m → G front w → bytes ≡ front ++ rest → (v ≡ w) × (drop m bytes ≡ rest)
-behind G bytes front rest v w m g p q e =
+-- what stands after a front that is known
+pub after : {V : Type 0} (G : List ℕ → V → Type 0) (bytes front rest : List ℕ) (v w : V) (m : ℕ) → IsPrefixUnique G → Begins G bytes v m → G front w → bytes ≡ front ++ rest → (v ≡ w) × (drop m bytes ≡ rest)
+after G bytes front rest v w m g p q e =
     let whole = take-append-drop m bytes in
     let same = g (take m bytes) front (drop m bytes) rest v w p.spelled q (whole ∙ e) in
     (same.1, rest_same (take m bytes) front (drop m bytes) rest same.0 (whole ∙ e))
@@ -76,14 +76,14 @@ behind G bytes front rest v w m g p q e =
 pub Then-none_second : {V W : Type 0} (G : List ℕ → V → Type 0) (H : V → List ℕ → W → Type 0) (bytes : List ℕ) (v : V) (m : ℕ)
     → IsPrefixUnique G → Begins G bytes v m → NoneBegins (H v) (drop m bytes) → NoneBegins (Then G H) bytes
 Then-none_second {V} {W} G H bytes v m g p none front rest w e s =
-    let b = behind G bytes s.front (s.back ++ rest) v w.0 m g p s.first (e ∙ ap (λ l. l ++ rest) s.joined ∙ append_assoc s.front s.back rest) in
+    let b = after G bytes s.front (s.back ++ rest) v w.0 m g p s.first (e ∙ ap (λ l. l ++ rest) s.joined ∙ append_assoc s.front s.back rest) in
     none s.back rest w.1 b.1 (subst (λ (u : V). H u s.back w.1) (sym b.0) s.second)
 
 pub Each-push : {V : Type 0} (G : List ℕ → V → Type 0) (a b : List ℕ) (vs : List V) (v : V) → Each G a vs → G b v → Each G (a ++ b) (vs ++ v ∷ [])
 Each-push G a b [] v p q = (b, [], rw p (sym (append-nil b)), q, refl)
 Each-push G a b (u ∷ us) v p q = (p.0, p.1 ++ b, ap (λ l. l ++ b) p.2 ∙ append_assoc p.0 p.1 b, p.3, Each-push G p.1 b us v p.4 q)
 
--- values, and behind them others
+-- values, and after them others
 pub Each-append : {V : Type 0} (G : List ℕ → V → Type 0) (a b : List ℕ) (vs ws : List V) → Each G a vs → Each G b ws → Each G (a ++ b) (vs ++ ws)
 Each-append {V} G a b [] ws p q = subst (λ (l : List ℕ). Each G (l ++ b) ws) (sym p) q
 Each-append G a b (v ∷ vs) ws p q = (p.0, p.1 ++ b, ap (λ l. l ++ b) p.2 ∙ append_assoc p.0 p.1 b, p.3, Each-append G p.1 b vs ws p.4 q)
@@ -114,7 +114,7 @@ Each-more {V} G bytes vs v m n p q = record {
   spelled = subst (λ (l : List ℕ). Each G l (vs ++ v ∷ [])) (sym (take-add m n bytes)) (Each-push G (take m bytes) (take n (drop m bytes)) vs v p.spelled q.spelled);
 }
 
--- behind some of the values stands the next
+-- after some of the values stands the next
 pub Each-next : {V : Type 0} (G : List ℕ → V → Type 0) → IsPrefixUnique G → (vs ws : List V) (a b x y : List ℕ) → length vs < length ws → Each G a vs → Each G b ws → a ++ x ≡ b ++ y
     → (front : List ℕ) × (rest : List ℕ) × (v : V) × (x ≡ front ++ rest) × G front v
 Each-next G g vs [] a b x y n p q e = absurd (omega arith)
@@ -201,10 +201,10 @@ Ended-found G bytes v m p l z = record {
 pub Ended-none : {V : Type 0} (G : List ℕ → V → Type 0) (bytes : List ℕ) → NoneBegins G bytes → NoneBegins (Ended G) bytes
 Ended-none G bytes none front rest v e s = none s.front (0 ∷ rest) v (e ∙ ap (λ l. l ++ rest) s.joined ∙ append_assoc s.front (0 ∷ []) rest) s.spelled
 
--- behind what is read stands no zero
+-- after what is read stands no zero
 pub Ended-none_zero : {V : Type 0} (G : List ℕ → V → Type 0) (bytes : List ℕ) (v : V) (m : ℕ) → IsPrefixUnique G → Begins G bytes v m → ((length bytes ≤ m) ⊎ (get_or bytes m 0 ≡ 0 → ⊥)) → NoneBegins (Ended G) bytes
 Ended-none_zero G bytes v m g p bad front rest w e s =
-    let b = behind G bytes s.front (0 ∷ rest) v w m g p s.spelled (e ∙ ap (λ l. l ++ rest) s.joined ∙ append_assoc s.front (0 ∷ []) rest) in
+    let b = after G bytes s.front (0 ∷ rest) v w m g p s.spelled (e ∙ ap (λ l. l ++ rest) s.joined ∙ append_assoc s.front (0 ∷ []) rest) in
     let n : length bytes - m ≡ suc (length rest) = sym (length-drop m bytes) ∙ ap length b.1 in
     let z : get_or bytes m 0 ≡ 0 = ap (λ k. get_or bytes k 0) (sym (add-zero m)) ∙ sym (get_or-drop m bytes 0 0) ∙ ap (λ l. get_or l 0 0) b.1 in
     elim bad [ inl short ↦ omega arith | inr other ↦ other z ]

@@ -1,4 +1,6 @@
+pub mod AdlerRows
 pub mod AdlerSums
+pub mod FaultLaws
 pub mod FieldBounds
 pub mod GrammarLaws
 pub mod LengthLaws
@@ -14,3 +16,4 @@ pub mod WordsBytes
 pub mod Deciding
 pub mod OrderLaws
 pub mod ViaLaws
+pub mod ListFacts

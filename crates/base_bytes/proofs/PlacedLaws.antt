@@ -1,15 +1,15 @@
--- Values one behind the other, with the places where their spellings begin.
+-- Values one after the other, with the places where their spellings begin.
 use Rattle.std.proofs.Common.{◌≡◌, ℕ, ◌+◌, List, [], ◌∷◌, ◌++◌, length, map, refl, sym, ap, subst, ◌∙◌, append_assoc, append-nil, length-append, arith}
 use Rattle.base_bytes.specs.Grammar.{IsPrefixUnique, Each, Placed}
 use Rattle.base_bytes.proofs.GrammarLaws.{regrouped, rest_same}
 use Rattle.base_bytes.proofs.WeakerLaws.{Implies}
 
--- without their places they are the values one behind the other
+-- without their places they are the values one after the other
 pub Placed-each : {V : Type 0} (G : List ℕ → V → Type 0) (place : ℕ) (bytes : List ℕ) (ps : List (ℕ × V)) → Placed G place bytes ps → Each G bytes (map (λ (p : ℕ × V). p.1) ps)
 Placed-each G place bytes [] h = h
 Placed-each G place bytes (p ∷ ps) h = (h.0, h.1, h.2, h.4, Placed-each G (place + length h.0) h.1 ps h.5)
 
--- and all that stand one behind the other have places
+-- and all that stand one after the other have places
 pub Placed-from_each : {V : Type 0} (G : List ℕ → V → Type 0) (place : ℕ) (bytes : List ℕ) (vs : List V) → Each G bytes vs → (ps : List (ℕ × V)) × Placed G place bytes ps × (map (λ (p : ℕ × V). p.1) ps ≡ vs)
 Placed-from_each G place bytes [] h = ([], h, refl)
 Placed-from_each G place bytes (v ∷ vs) h =

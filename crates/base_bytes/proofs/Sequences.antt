@@ -6,7 +6,7 @@ use Rattle.std.proofs.lemmas.List.{take_more, length-take-le}
 use Rattle.base_bytes.specs.Leb128.{IsSequence, low_first}
 use Rattle.base_bytes.specs.Sequence.{IsWhole}
 
--- each byte has its top bit set, so a sequence goes on behind them
+-- each byte has its top bit set, so a sequence goes on after them
 abbrev pub IsOpen : List ℕ → Type 0
 IsOpen [] = Unit {0}
 IsOpen (b ∷ bs) = (128 ≤ b) × IsOpen bs

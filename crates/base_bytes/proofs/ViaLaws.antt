@@ -1,4 +1,4 @@
--- Grammars through a relation, and what stands behind a front that is known.
+-- Grammars through a relation, and what stands after a front that is known.
 use Rattle.std.proofs.Common.{◌≡◌, ℕ, List, length, drop, sym, subst}
 use Rattle.base_bytes.specs.Grammar.{IsPrefixUnique, Begins, Takes, NoneBegins, Then}
 use Rattle.base_bytes.specs.Via.{Via}
@@ -21,7 +21,7 @@ via-nothing {U} {V} G R bytes rest u g t nothing front r v e s =
     let one = Takes-unique G bytes u s.raw rest r g t (record { front = front; whole = e; spelled = s.spelled }) in
     nothing v (subst (λ (w : U). R w v) (sym one.0) s.means)
 
--- what stands behind a known front spells nothing
+-- what stands after a known front spells nothing
 pub second-none : {V W : Type 0} (G : List ℕ → V → Type 0) (H : V → List ℕ → W → Type 0) (bytes mid : List ℕ) (v : V) → IsPrefixUnique G → Takes G bytes v mid → NoneBegins (H v) mid → NoneBegins (Then G H) bytes
 second-none G H bytes mid v g t none =
     let b = Begins-from_takes G bytes v mid t in

@@ -4,7 +4,7 @@ use Rattle.base_bytes.specs.Fields.{u32_at, u32_bytes}
 use Rattle.base_bytes.specs.Words.{words_bytes}
 use Rattle.base_bytes.proofs.FieldBounds.{u32_at-bytes, u32_at-append, length-u32_bytes}
 
-words_bytes-push : (xs : List ℕ) (x : ℕ) → words_bytes (xs ++ x ∷ []) ≡ words_bytes xs ++ u32_bytes x
+pub words_bytes-push : (xs : List ℕ) (x : ℕ) → words_bytes (xs ++ x ∷ []) ≡ words_bytes xs ++ u32_bytes x
 unfolding words_bytes
 words_bytes-push [] x = append-nil (u32_bytes x)
 words_bytes-push (y ∷ ys) x = rw (words_bytes-push ys x, append_assoc (u32_bytes y) (words_bytes ys) (u32_bytes x)) refl

@@ -1,4 +1,4 @@
--- A grammar relates the bytes of one spelling to the value that they spell: no place, and nothing behind it.
+-- A grammar relates the bytes of one spelling to the value that they spell: no place, and nothing after it.
 -- The words here say where a spelling stands, and make a grammar of others.
 use Rattle.std.specs.Prelude.{◌≡◌, ℕ, ◌+◌, ◌≤◌, List, [], ◌∷◌, ◌++◌, length, take}
 
@@ -19,7 +19,7 @@ pub record Takes {V : Type 0} (G : List ℕ → V → Type 0) (bytes : List ℕ)
   pub whole : bytes ≡ front ++ rest
   pub spelled : G front v
 
--- `new` is `old` and behind it a spelling of `v`.
+-- `new` is `old` and after it a spelling of `v`.
 pub record Appends {V : Type 0} (G : List ℕ → V → Type 0) (old new : List ℕ) (v : V) : Type 0 where
   pub bytes : List ℕ
   pub joined : new ≡ old ++ bytes
@@ -31,7 +31,7 @@ IsPrefixUnique {V} G = (a b x y : List ℕ) (v w : V) → G a v → G b w → a 
 
 -- ---- grammars made of others
 
--- A spelling of the first value, and behind it one of the second, whose grammar the first decides.
+-- A spelling of the first value, and after it one of the second, whose grammar the first decides.
 pub record Then {V W : Type 0} (G : List ℕ → V → Type 0) (H : V → List ℕ → W → Type 0) (bytes : List ℕ) (p : V × W) : Type 0 where
   pub front : List ℕ
   pub back : List ℕ
@@ -39,16 +39,16 @@ pub record Then {V W : Type 0} (G : List ℕ → V → Type 0) (H : V → List �
   pub first : G front p.0
   pub second : H p.0 back p.1
 
--- A spelling of the first value, and behind it one of the second.
+-- A spelling of the first value, and after it one of the second.
 abbrev pub Pair : {V W : Type 0} → (List ℕ → V → Type 0) → (List ℕ → W → Type 0) → List ℕ → V × W → Type 0
 Pair G H = Then G (λ _. H)
 
--- Spellings of the values, one behind the other.
+-- Spellings of the values, one after the other.
 abbrev pub Each : {V : Type 0} → (List ℕ → V → Type 0) → List ℕ → List V → Type 0
 Each G bytes [] = bytes ≡ []
 Each G bytes (v ∷ vs) = (front : List ℕ) × (back : List ℕ) × (bytes ≡ front ++ back) × G front v × Each G back vs
 
--- Spellings of the values, one behind the other, each with the place where it begins; the first begins at `place`.
+-- Spellings of the values, one after the other, each with the place where it begins; the first begins at `place`.
 abbrev pub Placed : {V : Type 0} → (List ℕ → V → Type 0) → ℕ → List ℕ → List (ℕ × V) → Type 0
 Placed G place bytes [] = bytes ≡ []
 Placed G place bytes (p ∷ ps) = (front : List ℕ) × (back : List ℕ) × (bytes ≡ front ++ back) × (p.0 ≡ place) × G front p.1 × Placed G (place + length front) back ps
@@ -57,7 +57,7 @@ Placed G place bytes (p ∷ ps) = (front : List ℕ) × (back : List ℕ) × (by
 abbrev pub Many : {V : Type 0} → (List ℕ → V → Type 0) → ℕ → List ℕ → List V → Type 0
 Many G n bytes vs = (length vs ≡ n) × Each G bytes vs
 
--- A spelled count, and behind it so many values.
+-- A spelled count, and after it so many values.
 abbrev pub Counted : {V : Type 0} → (List ℕ → ℕ → Type 0) → (List ℕ → V → Type 0) → List ℕ → List V → Type 0
 Counted C G bytes vs = Then C (Many G) bytes (length vs, vs)
 
@@ -65,7 +65,7 @@ Counted C G bytes vs = Then C (Many G) bytes (length vs, vs)
 abbrev pub Seen : {U V : Type 0} → (U → V) → (List ℕ → V → Type 0) → List ℕ → U → Type 0
 Seen view G bytes u = G bytes (view u)
 
--- A spelling, and behind it a zero.
+-- A spelling, and after it a zero.
 pub record Ended {V : Type 0} (G : List ℕ → V → Type 0) (bytes : List ℕ) (v : V) : Type 0 where
   pub front : List ℕ
   pub joined : bytes ≡ front ++ 0 ∷ []

@@ -40,7 +40,7 @@ pub fn shortest_spelling_is_one()
     ensures signed { (a b : List ℕ) (z : ℤ) → All (λ byte. byte < 256) a → All (λ byte. byte < 256) b → Shortest SpellsSigned a z → Shortest SpellsSigned b z → a ≡ b }
 {}
 
-/// Numbers one behind the other have their places, and no others.
+/// Numbers one after the other have their places, and no others.
 pub fn places_of_numbers_are_decided()
     ensures some { (place : ℕ) (bytes : List ℕ) (numbers : List ℕ) → Each Spells bytes numbers → (placed : List (ℕ × ℕ)) × Placed Spells place bytes placed × (map (λ p. p.1) placed ≡ numbers) }
     ensures one { (place : ℕ) (bytes : List ℕ) (a b : List (ℕ × ℕ)) → length a ≡ length b → Placed Spells place bytes a → Placed Spells place bytes b → a ≡ b }

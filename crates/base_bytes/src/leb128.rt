@@ -151,7 +151,7 @@ fn uleb_length(n: u32) -> usize
 
 /// Appends the shortest spelling of an unsigned number (uleb128), 1 to 5 bytes.
 ///
-/// The only error is want of memory, and then `out` holds what it held; where there is room for 5 bytes, there is none.
+/// It fails only when out of memory, and then `out` holds what it held; where there is room for 5 bytes, there is none.
 ///
 /// ```
 /// use dex_base::put_uleb;
@@ -226,7 +226,7 @@ fn sleb_width(n: i32) -> Width
 
 /// Appends the shortest spelling of a signed number (sleb128), 1 to 5 bytes.
 ///
-/// The only error is want of memory, and then `out` holds what it held; where there is room for 5 bytes, there is none.
+/// It fails only when out of memory, and then `out` holds what it held; where there is room for 5 bytes, there is none.
 ///
 /// ```
 /// use dex_base::put_sleb;

@@ -27,7 +27,7 @@ mod laws;
 
 pub use adler::adler32;
 pub use fault::Fault;
-pub use fault_names::fault_name;
+pub use fault_names::{FAULTS, Row, fault_name, fault_sentence};
 pub use fields::{are_bytes, put_u32_at, u16_at, u32_at};
 pub use laws::{
     counted_list_is_prefix_unique, number_at_the_front_is_one, numbers_are_decided,
@@ -35,5 +35,5 @@ pub use laws::{
     sleb_is_prefix_unique, uleb_is_prefix_unique,
 };
 pub use leb128::{put_sleb, put_uleb, read_sleb, read_uleb};
-pub use width::{narrow, widen};
+pub use width::widen;
 pub use words::push_words;

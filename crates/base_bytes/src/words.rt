@@ -7,7 +7,7 @@ use crate::fault::Fault;
 
 /// Adds numbers of four bytes each at the end, the low byte first.
 ///
-/// The only refusal is want of memory, and then nothing was added; where there is room, there is none.
+/// It fails only when out of memory, and then nothing was added; where there is room, there is none.
 pub fn push_words(out: &mut Vec<u8>, words: &[u32]) -> Result<(), Fault>
     ensures ok { OnOk result (out.new.items ≡ out.old.items ++ words_bytes words.now) }
     ensures err { OnErr result (out.new.items ≡ out.old.items) }

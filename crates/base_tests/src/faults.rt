@@ -2,7 +2,7 @@
 
 use dex_base::{Fault, fault_name};
 use dex_samples::{is_so, none_wrong};
-use std::alloc::AllocError;
+use std::alloc::{AllocError, Global};
 use std::test::Fail;
 
 // The faults and their names.
@@ -58,4 +58,26 @@ fn the_greatest_number_has_no_name() -> Result<(), Fail> {
 fn a_failed_allocation_is_want_of_memory() -> Result<(), Fail> {
     let fault = Fault::from(AllocError);
     is_so(Ok(fault.code == 255 && fault.place == 0))
+}
+
+fn is_shown_so(alloc: Global, fault: Fault, want: &str) -> Result<bool, Fault> {
+    Ok(fault.to_string(alloc)?.as_str() == want)
+}
+
+#[test]
+fn a_fault_is_shown_with_its_sentence(rt: HostRuntime) -> Result<(), Fail> {
+    is_so(is_shown_so(
+        rt.alloc(),
+        Fault { code: 8, place: 8 },
+        "8 Checksum at 8: the Adler-32 differs",
+    ))
+}
+
+#[test]
+fn a_fault_without_a_name_is_shown_so(rt: HostRuntime) -> Result<(), Fail> {
+    is_so(is_shown_so(
+        rt.alloc(),
+        Fault { code: 15, place: 0 },
+        "15 Unknown at 0: no fault has this number",
+    ))
 }

@@ -18,13 +18,13 @@ fn a_number_is_put_over_four_bytes() -> Result<(), Fail> {
     is_so(Ok(bytes == [0x11, 0xdd, 0xcc, 0xbb, 0xaa, 0x66]))
 }
 
-fn are_words_pushed_behind(alloc: Global) -> Result<bool, Fault> {
+fn are_words_pushed_after(alloc: Global) -> Result<bool, Fault> {
     let mut out = vec![in alloc; 7u8; 1]?;
     push_words(&mut out, &[0x0403_0201, 0xffff_fffe])?;
     Ok(out.as_slice() == [7, 1, 2, 3, 4, 0xfe, 0xff, 0xff, 0xff].as_slice())
 }
 
 #[test]
-fn words_are_pushed_behind_what_is_there(rt: HostRuntime) -> Result<(), Fail> {
-    is_so(are_words_pushed_behind(rt.alloc()))
+fn words_are_pushed_after_what_is_there(rt: HostRuntime) -> Result<(), Fail> {
+    is_so(are_words_pushed_after(rt.alloc()))
 }

@@ -112,7 +112,7 @@ fn first_read_otherwise(cases: &[Both]) -> Option<&'static str> {
     None
 }
 
-// Whether the instruction that stands at the front of the units is written in these units, behind what was there.
+// Whether the instruction that stands at the front of the units is written in these units, after what was there.
 fn is_put_so(alloc: Global, code: &[u8], want: &[u8]) -> Result<bool, Fault> {
     let mut out = vec![in alloc; 0xeeu8; 1]?;
     let insn = read_insn(code, 0)?;

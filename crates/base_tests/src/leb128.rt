@@ -26,7 +26,7 @@ fn unsigned_numbers_are_read() -> Result<(), Fail> {
         ("128", &[0x80, 0x01], Some((128, 2))),
         ("16256", &[0x80, 0x7f], Some((16256, 2))),
         ("a longer spelling than need be", &[0x80, 0x00], Some((0, 2))),
-        ("bytes behind the number", &[0x05, 0xff, 0xff], Some((5, 1))),
+        ("bytes after the number", &[0x05, 0xff, 0xff], Some((5, 1))),
         ("the greatest number", &[0xff, 0xff, 0xff, 0xff, 0x0f], Some((4294967295, 5))),
         ("one above the greatest", &[0xff, 0xff, 0xff, 0xff, 0x10], None),
         ("six bytes", &[0x80, 0x80, 0x80, 0x80, 0x80, 0x00], None),
@@ -136,7 +136,7 @@ fn signed_numbers_are_written_shortest(rt: HostRuntime) -> Result<(), Fail> {
     none_wrong(first_signed_put_otherwise(rt.alloc(), &CASES))
 }
 
-fn are_numbers_put_behind(alloc: Global) -> Result<bool, Fault> {
+fn are_numbers_put_after(alloc: Global) -> Result<bool, Fault> {
     let mut out = vec![in alloc; 0xaau8; 1]?;
     put_uleb(&mut out, 300)?;
     put_sleb(&mut out, -300)?;
@@ -144,6 +144,6 @@ fn are_numbers_put_behind(alloc: Global) -> Result<bool, Fault> {
 }
 
 #[test]
-fn numbers_are_written_behind_what_is_there(rt: HostRuntime) -> Result<(), Fail> {
-    is_so(are_numbers_put_behind(rt.alloc()))
+fn numbers_are_written_after_what_is_there(rt: HostRuntime) -> Result<(), Fail> {
+    is_so(are_numbers_put_after(rt.alloc()))
 }

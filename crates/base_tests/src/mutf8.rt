@@ -96,11 +96,11 @@ fn other_bytes_are_refused(rt: HostRuntime) -> Result<(), Fail> {
 }
 
 #[test]
-fn a_long_count_and_bytes_behind_are_read(rt: HostRuntime) -> Result<(), Fail> {
+fn a_long_count_and_bytes_after_are_read(rt: HostRuntime) -> Result<(), Fail> {
     is_so(is_read_so(rt.alloc(), &[0x81, 0x00, 0x61, 0x00, 0x62], &[0x61], 4))
 }
 
-fn are_strings_put_behind(alloc: Global) -> Result<bool, Fault> {
+fn are_strings_put_after(alloc: Global) -> Result<bool, Fault> {
     let mut out = vec![in alloc; 0xaau8; 1]?;
     put_mutf8(&mut out, &[0x56])?;
     put_mutf8(&mut out, &[0x4c, 0x41, 0x3b])?;
@@ -108,6 +108,6 @@ fn are_strings_put_behind(alloc: Global) -> Result<bool, Fault> {
 }
 
 #[test]
-fn strings_are_written_behind_what_is_there(rt: HostRuntime) -> Result<(), Fail> {
-    is_so(are_strings_put_behind(rt.alloc()))
+fn strings_are_written_after_what_is_there(rt: HostRuntime) -> Result<(), Fail> {
+    is_so(are_strings_put_after(rt.alloc()))
 }

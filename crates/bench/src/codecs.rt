@@ -54,8 +54,8 @@ fn sum_of_numbers(bytes: &[u8]) -> u64 {
     let mut rest = bytes;
     while let Some((number, length)) = read_uleb(rest) {
         sum = sum.wrapping_add(number as u64);
-        let (_, behind) = rest.split_at(length);
-        rest = behind;
+        let (_, after) = rest.split_at(length);
+        rest = after;
     }
     sum
 }
@@ -70,8 +70,8 @@ fn sum_of_texts(alloc: Global, bytes: &[u8]) -> Result<u64, Fault> {
         sum = sum
             .wrapping_add(units.len() as u64)
             .wrapping_add(last as u64);
-        let (_, behind) = rest.split_at(length);
-        rest = behind;
+        let (_, after) = rest.split_at(length);
+        rest = after;
     }
     Ok(sum)
 }

@@ -23,8 +23,8 @@ fn next(state: u64) -> u64 {
         .wrapping_add(1442695040888963407)
 }
 
-/// How many bytes stand behind the first unit of an instruction of the format.
-fn bytes_behind(format: Format) -> usize
+/// How many bytes stand after the first unit of an instruction of the format.
+fn bytes_after(format: Format) -> usize
     ensures { result ≤ 8 }
 {
     match format {
@@ -56,9 +56,9 @@ fn put_random(out: &mut Vec<u8>, random: u64) -> Result<(), AllocError> {
     match format_of(op) {
         Some(format) => {
             let high = high_byte(format, (random / 0x1000000000000 % 256) as u8);
-            let behind = next(random).to_le_bytes();
+            let after = next(random).to_le_bytes();
             out.extend_from_slice(&[op, high])?;
-            out.extend_from_slice(&behind[..bytes_behind(format)])
+            out.extend_from_slice(&after[..bytes_after(format)])
         }
         None if out.len() % 4 != 0 => Ok(()),
         None if op % 4 == 0 => out.extend_from_slice(&PACKED),

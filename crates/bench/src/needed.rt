@@ -1,5 +1,5 @@
 //! Adds names to an empty `Needed` and freezes it: `needed KIND COUNT ORDER`, where KIND is `string`, `field` or `method` and ORDER
-//! is `rising`, `falling`, `random` or `mentions` (each of COUNT / 100 names a hundred times, one behind another). It prints how many
+//! is `rising`, `falling`, `random` or `mentions` (each of COUNT / 100 names a hundred times, one after another). It prints how many
 //! names there are of all five kinds. bench/needed/run times it beside bench/needed/plain.rs.
 
 ghost use Rattle.std.specs.Prelude.{IfOk, IsTrue, All, map};

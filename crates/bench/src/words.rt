@@ -1,4 +1,4 @@
-//! The words behind a benchmark's name.
+//! The words after a benchmark's name.
 
 /// The word at a place: nothing where there are fewer.
 pub fn word<'a>(words: &[&'a str], place: usize) -> &'a str {

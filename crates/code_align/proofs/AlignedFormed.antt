@@ -10,9 +10,10 @@ use Rattle.program_types.specs.Content as made
 use Rattle.program_types.specs.declared.payload.Payload.{Payload}
 use Rattle.program_types.specs.declared.payload.Payload.TheVariants as payload
 use Rattle.program_types.specs.Operands.{IsOperand}
-use Rattle.program_types.specs.Formed.{insn_at, try_at, insn_payload, insn_wants, insn_reach, insn_branch, insn_short_branch, insn_targets, insn_registers, AreAmong, AreAlike, IsSwitch, Refers, IsTarget, TargetHolds, PayloadHolds, TryFormed, IsFormed}
+use Rattle.program_types.specs.Formed.{insn_at, try_at, insn_payload, insn_wants, insn_reach, insn_branch, insn_short_branch, insn_targets, insn_registers, AreAmong, AreAlike, IsSwitch, RefersToPayload, IsTarget, TargetHolds, PayloadHolds, TryFormed, IsFormed}
 use Rattle.code_align.specs.Aligned.{with_nops, PadsPayloads, nops_to, moved, moved_insn, moved_catch, moved_try, padded, Aligned}
 use Rattle.code_align.proofs.PadLaws.{length-with_nops, pads-count}
+use Rattle.code_insns.proofs.PayloadLaws.{self-alike}
 
 -- ---- the new numbers rise
 
@@ -187,12 +188,6 @@ none-moved f None [] h = absurd (h refl)
 none-moved f None (c ∷ cs) h = λ e. cc
 none-moved f (Some k) cs h = tt
 
-alike-own : (o p : Option Payload) → AreAlike o p → AreAlike o o
-alike-own (Some payload.PackedSwitch) (Some payload.PackedSwitch) h = tt
-alike-own (Some payload.SparseSwitch) (Some payload.SparseSwitch) h = tt
-alike-own (Some payload.Array) (Some payload.Array) h = tt
-alike-own _ _ h = absurd h
-
 some-moved : (f : ℕ → ℕ) (P Q : ℕ → Type 0) (o : Option ℕ) → ((t : ℕ) → P t → Q (f t)) → IfSome o P → IfSome (option_map f o) Q
 some-moved f P Q None g h = tt
 some-moved f P Q (Some t) g h = g t h
@@ -278,16 +273,16 @@ module _ (c : Code) (ps : List Bool) (good : PadsPayloads ps c.insns) (formed : 
   targets : (k : ℕ) → k < length (map (moved_insn (moved ps)) (with_nops ps c.insns)) → TargetHolds (map (moved_insn (moved ps)) (with_nops ps c.insns)) k
   targets k l = let r = each-new (TargetRule (map (moved_insn (moved ps)) (with_nops ps c.insns))) nop-rule moved-rule k l in record { lands = r.lands; moves = r.moves; all = r.all }
 
-  refers-moved : (j k : ℕ) → Refers c.insns j k → Refers (map (moved_insn (moved ps)) (with_nops ps c.insns)) (moved ps j) (moved ps k)
+  refers-moved : (j k : ℕ) → RefersToPayload c.insns j k → RefersToPayload (map (moved_insn (moved ps)) (with_nops ps c.insns)) (moved ps j) (moved ps k)
   refers-moved j k r = record {
     there = below-new j r.there;
     payload = below-new k r.payload;
     kind = two-alike (sym (ap insn_wants (at-moved j r.there) ∙ wants-same (moved ps) (insn_at c.insns j))) (sym (ap insn_payload (at-moved k r.payload) ∙ payload-same (moved ps) (insn_at c.insns k))) r.kind;
-    leads = ap insn_reach (at-moved j r.there) ∙ reach-same (moved ps) (insn_at c.insns j) (alike-own _ _ r.kind) ∙ ap (moved ps) r.leads;
+    leads = ap insn_reach (at-moved j r.there) ∙ reach-same (moved ps) (insn_at c.insns j) (self-alike _ _ r.kind) ∙ ap (moved ps) r.leads;
   }
 
   -- what refers to a moved payload was moved
-  refers-back : (m j : ℕ) → j < length c.insns → Refers (map (moved_insn (moved ps)) (with_nops ps c.insns)) m (moved ps j) → (a : ℕ) × (moved ps a ≡ m) × Refers c.insns a j
+  refers-back : (m j : ℕ) → j < length c.insns → RefersToPayload (map (moved_insn (moved ps)) (with_nops ps c.insns)) m (moved ps j) → (a : ℕ) × (moved ps a ≡ m) × RefersToPayload c.insns a j
   unfolding Origin
   refers-back m j l r =
       let n = length-map (with_nops ps c.insns) (moved_insn (moved ps)) in
@@ -305,14 +300,14 @@ module _ (c : Code) (ps : List Bool) (good : PadsPayloads ps c.insns) (formed : 
                 there = a.1;
                 payload = l;
                 kind = kind;
-                leads = moved-one ps (insn_reach (insn_at c.insns a.0)) j (sym (reach-same (moved ps) (insn_at c.insns a.0) (alike-own _ _ kind)) ∙ sym (ap insn_reach e) ∙ r.leads);
+                leads = moved-one ps (insn_reach (insn_at c.insns a.0)) j (sym (reach-same (moved ps) (insn_at c.insns a.0) (self-alike _ _ kind)) ∙ sym (ap insn_reach e) ∙ r.leads);
               },
             )
       ]
 
   record PayloadRule (is : List Insn) (k : ℕ) (i : Insn) : Type 0 where
-    refers : AreAlike (insn_wants i) (insn_wants i) → Refers is k (insn_reach i)
-    used : IsSwitch (insn_payload i) → (by : ℕ) × Refers is by k × ((m : ℕ) → Refers is m k → m ≡ by)
+    refers : AreAlike (insn_wants i) (insn_wants i) → RefersToPayload is k (insn_reach i)
+    used : IsSwitch (insn_payload i) → (by : ℕ) × RefersToPayload is by k × ((m : ℕ) → RefersToPayload is m k → m ≡ by)
 
   payload-nop : (k : ℕ) → PayloadRule (map (moved_insn (moved ps)) (with_nops ps c.insns)) k (made.I10x 0)
   payload-nop k = record { refers = λ h. absurd (no-wants (insn_wants (made.I10x 0)) h); used = λ h. absurd (no-switch h) }
@@ -324,7 +319,7 @@ module _ (c : Code) (ps : List Bool) (good : PadsPayloads ps c.insns) (formed : 
       record {
         refers = λ h.
             let own = two-alike w w h in
-            subst (λ (k : ℕ). Refers (map (moved_insn (moved ps)) (with_nops ps c.insns)) (moved ps j) k) (sym (reach-same (moved ps) (insn_at c.insns j) own)) (refers-moved j (insn_reach (insn_at c.insns j)) (p.refers own));
+            subst (λ (k : ℕ). RefersToPayload (map (moved_insn (moved ps)) (with_nops ps c.insns)) (moved ps j) k) (sym (reach-same (moved ps) (insn_at c.insns j) own)) (refers-moved j (insn_reach (insn_at c.insns j)) (p.refers own));
         used = λ s.
             let u = p.used (subst IsSwitch (payload-same (moved ps) (insn_at c.insns j)) s) in
             (moved ps u.0, refers-moved u.0 j u.1, λ m r. let b = refers-back m j l r in sym b.1 ∙ ap (moved ps) (u.2 b.0 b.2));
@@ -350,10 +345,10 @@ module _ (c : Code) (ps : List Bool) (good : PadsPayloads ps c.insns) (formed : 
       record {
         some = omega arith;
         within = omega arith;
-        behind = λ j q.
+        after = λ j q.
             let f = try-new j (omega arith) in
             let before : (try_at (map (moved_try (moved ps)) c.tries) j).to ≡ moved ps (try_at c.tries j).to = ap (λ (x : Try). x.to) f in
-            let r = moved-le ps (try_at c.tries j).to (try_at c.tries i).from (t.behind j q) in
+            let r = moved-le ps (try_at c.tries j).to (try_at c.tries i).from (t.after j q) in
             omega arith;
         places = subst (λ (x : Try). AllByRecursion (λ y. y.at < length (map (moved_insn (moved ps)) (with_nops ps c.insns))) x.catches) (sym e)
             (catches-moved (moved ps) (length c.insns) (length (map (moved_insn (moved ps)) (with_nops ps c.insns))) (try_at c.tries i).catches below-new t.places);

@@ -10,7 +10,7 @@ use Rattle.program_types.specs.Sizes.{insn_units}
 use Rattle.program_types.specs.declared.payload.Payload.{Payload}
 use Rattle.code_insns.proofs.ResolveLaws.{at-old, at-new}
 use Rattle.code_align.specs.Aligned.{PayloadsEven, with_nops, PadsPayloads, nops_to, moved, moved_insn, padded, Aligned}
-use Rattle.code_align.specs.Aligning.{is_there, is_odd, pads_from, trues, AreMoved}
+use Rattle.code_align.specs.Aligning.{is_there, is_odd, pads_from, trues, AreMovedNumbers}
 
 -- a nop has one unit
 nop : insn_units (made.I10x 0) ≡ 1
@@ -153,11 +153,11 @@ end-is ps ns nops k e s =
     let t : trues (take k ps) ≡ trues ps = ap (λ (j : ℕ). trues (take j ps)) e ∙ ap trues (take-all ps) in
     omega (arith, nops-end ps)
 
-pub moved-all : (ps : List Bool) (ns new : List ℕ) (nops at k : ℕ) → k ≡ length ps → SomeMoved ps k ns nops → at ≡ length ps + nops → new ≡ ns ++ at ∷ [] → AreMoved ps new
+pub moved-all : (ps : List Bool) (ns new : List ℕ) (nops at k : ℕ) → k ≡ length ps → SomeMoved ps k ns nops → at ≡ length ps + nops → new ≡ ns ++ at ∷ [] → AreMovedNumbers ps new
 moved-all ps ns new nops at k e s a n =
     let c = s.count in
     let z = end-is ps ns nops k e s in
-    subst (λ (xs : List ℕ). AreMoved ps xs) (sym n) (record {
+    subst (λ (xs : List ℕ). AreMovedNumbers ps xs) (sym n) (record {
       count = omega (arith, length-append ns (at ∷ []));
       each = λ j lj. elim (cases_lt j k) [
         | inl b ↦ at-old ns at 0 j (omega arith) ∙ s.each j b
@@ -179,9 +179,9 @@ pads-count [] (i ∷ is) h = absurd h
 pads-count (p ∷ ps) [] h = absurd h
 pads-count (p ∷ ps) (i ∷ is) h = ap suc (pads-count ps is h.1)
 
-pub behind-most : (b : Bool) (x y u : ℕ) → y ≡ x + (if b then 1 else 0) + u → u ≤ 4294967296 → y ≤ x + 4294967297
-behind-most true x y u e l = omega arith
-behind-most false x y u e l = omega arith
+pub after-most : (b : Bool) (x y u : ℕ) → y ≡ x + (if b then 1 else 0) + u → u ≤ 4294967296 → y ≤ x + 4294967297
+after-most true x y u e l = omega arith
+after-most false x y u e l = omega arith
 
 pub aligned-length : (c d : Code) → Aligned c d → length d.insns ≡ moved (pads_from 0 c.insns) (length (pads_from 0 c.insns))
 aligned-length c d a =
@@ -189,7 +189,7 @@ aligned-length c d a =
     ∙ ap (λ (ps : List Bool). moved ps (length ps)) (pads-one 0 c.insns a.pads (pads_from 0 c.insns) a.payloads (pads-good 0 c.insns) a.even (pads-even 0 c.insns))
 
 -- the numbers as they stand in memory
-pub same-moved : (whole ps : List Bool) (ns ms : List ℕ) → ps ≡ whole → ms ≡ ns → AreMoved ps ns → (k : ℕ) → k < length whole + 1 → get_or ms k 0 ≡ moved whole k
+pub same-moved : (whole ps : List Bool) (ns ms : List ℕ) → ps ≡ whole → ms ≡ ns → AreMovedNumbers ps ns → (k : ℕ) → k < length whole + 1 → get_or ms k 0 ≡ moved whole k
 same-moved whole ps ns ms e f a k l =
     let n = ap length e in
     ap (λ (xs : List ℕ). get_or xs k 0) f ∙ a.each k (omega arith) ∙ ap (λ (qs : List Bool). moved qs k) e

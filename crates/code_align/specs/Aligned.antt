@@ -7,13 +7,13 @@ use Rattle.program_types.specs.Formed.{insn_payload}
 use Rattle.program_types.specs.Sizes.{insn_units}
 
 -- it is a payload
-abbrev pub IsPayload : Insn → Type 0
-IsPayload i = insn_payload i ≢ None
+abbrev pub IsPayloadInsn : Insn → Type 0
+IsPayloadInsn i = insn_payload i ≢ None
 
 -- each payload stands at an even address, where the first instruction stands at `at`
 abbrev pub PayloadsEven : ℕ → List Insn → Type 0
 PayloadsEven at [] = ⊤
-PayloadsEven at (i ∷ is) = (IsPayload i → at % 2 ≡ 0) × PayloadsEven (at + insn_units i) is
+PayloadsEven at (i ∷ is) = (IsPayloadInsn i → at % 2 ≡ 0) × PayloadsEven (at + insn_units i) is
 
 -- the instructions, with a nop before each where the list of pads says so
 abbrev pub with_nops : List Bool → List Insn → List Insn
@@ -23,7 +23,7 @@ with_nops _ is = is
 
 -- only payloads have nops before them
 abbrev pub PadsPayloads : List Bool → List Insn → Type 0
-PadsPayloads (p ∷ ps) (i ∷ is) = (p ≡ true → IsPayload i) × PadsPayloads ps is
+PadsPayloads (p ∷ ps) (i ∷ is) = (p ≡ true → IsPayloadInsn i) × PadsPayloads ps is
 PadsPayloads [] [] = ⊤
 PadsPayloads _ _ = ⊥
 

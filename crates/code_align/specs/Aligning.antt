@@ -28,7 +28,7 @@ trues [] = 0
 trues (p ∷ ps) = (if p then 1 else 0) + trues ps
 
 -- These are the new numbers of the instructions, and of the place past the last one.
-pub record AreMoved (ps : List Bool) (ns : List ℕ) : Type 0 where
+pub record AreMovedNumbers (ps : List Bool) (ns : List ℕ) : Type 0 where
   pub count : length ns ≡ length ps + 1
   pub each : (k : ℕ) → k ≤ length ps → slice_index ns k ≡ moved ps k
 

@@ -7,7 +7,7 @@ ghost use Rattle.program_types.specs.Formed.{insn_at};
 ghost use Rattle.program_types.specs.Operands.{IsOperand};
 ghost use Rattle.program_types.specs.Sizes.{insn_units};
 ghost use Rattle.code_align.specs.Aligned.{moved};
-ghost use Rattle.code_align.specs.Aligning.{is_odd, pads_from, AreMoved, too_many};
+ghost use Rattle.code_align.specs.Aligning.{is_odd, pads_from, AreMovedNumbers, too_many};
 
 use code_put::units_of;
 use dex_base::{Fault, fault};
@@ -26,7 +26,7 @@ fn is_odd(at: u64, one: &Insn<'_>) -> bool
 }
 
 /// Where an instruction ends, with a nop before it or not.
-fn behind(at: u64, nop: bool, one: &Insn<'_>) -> u64
+fn after(at: u64, nop: bool, one: &Insn<'_>) -> u64
     requires at { at ≤ 2 ^ 63 }
     requires units { insn_units (insn one.now) ≤ 4294967296 }
     ensures { result ≡ at + (if nop then 1 else 0) + insn_units (insn one.now) }
@@ -50,7 +50,7 @@ pub(crate) fn pads_of(alloc: Global, insns: &[Insn<'_>]) -> Result<Vec<bool>, Fa
         let one = &insns[k];
         let odd = is_odd(at, one);
         pads.push(odd)?;
-        at = behind(at, odd, one);
+        at = after(at, odd, one);
     }
     Ok(pads)
 }
@@ -69,7 +69,7 @@ fn with_nop(nops: u32, nop: bool) -> u32
 /// The new number of each instruction, and of the place past the last one. 90 where these are more than a code can have.
 pub(crate) fn numbers_of(alloc: Global, pads: &[bool]) -> Result<Vec<u32>, Fault>
     requires few { length pads.now ≤ 2147483647 }
-    ensures ok { IfOk result (λ all. AreMoved pads.now all.items) }
+    ensures ok { IfOk result (λ all. AreMovedNumbers pads.now all.items) }
     ensures few { IfOk result (λ all. moved pads.now (length pads.now) ≤ 2147483647) }
     ensures err { IfErr result (λ e. e ≢ memory → (e ≡ too_many) × (2147483647 < moved pads.now (length pads.now))) }
 {

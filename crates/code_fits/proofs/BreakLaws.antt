@@ -13,7 +13,7 @@ use Rattle.program_types.specs.Content as made
 use Rattle.program_types.specs.Formed.{insn_at, insn_targets}
 use Rattle.program_types.specs.Kinds.{IsOfKind}
 use Rattle.program_types.specs.Sizes.{addresses_of}
-use Rattle.code_put.specs.Fits.{AllInsns, AllNumbers, AllTries, BranchFits, CodeBreaks, FieldOutOfReach, FitsCode, HandlerTooFar, HandlersAreNear, IsEven, IsUnfit, BranchOutOfReach, MethodOutOfReach, Misaligned, OffsetsFit, ShortFits, SomeHandlerIsFar, StringOutOfReach, TargetsFit, TooManyTries, TryFits, TryTooLong, distance_of, short_name, wide_code}
+use Rattle.code_put.specs.Fits.{AllInsns, AllNumbers, AllTries, BranchFits, CodeBreaksLimit, FieldOutOfReach, FitsCode, HandlerTooFar, HandlersAreNear, IsEven, IsUnfit, BranchOutOfReach, MethodOutOfReach, Misaligned, OffsetsFit, ShortFits, SomeHandlerIsFar, StringOutOfReach, TargetsFit, TooManyTries, TryFits, TryTooLong, distance_of, short_name, wide_code}
 
 -- ---- by the number
 
@@ -21,7 +21,7 @@ use Rattle.code_put.specs.Fits.{AllInsns, AllNumbers, AllTries, BranchFits, Code
 abbrev pub IsCodeLimit : ℕ → Type 0
 IsCodeLimit m = (82 ≤ m) × (m ≤ 89)
 
-pub breaks_range : (N : ℕ → Name → Type 0) (c : Code) (m : ℕ) → CodeBreaks N c m → IsCodeLimit m
+pub breaks_range : (N : ℕ → Name → Type 0) (c : Code) (m : ℕ) → CodeBreaksLimit N c m → IsCodeLimit m
 breaks_range N c m (StringOutOfReach broken) = (omega arith, omega arith)
 breaks_range N c m (FieldOutOfReach broken) = (omega arith, omega arith)
 breaks_range N c m (MethodOutOfReach broken) = (omega arith, omega arith)
@@ -35,41 +35,41 @@ breaks_range N c m (HandlerTooFar short far) = (omega arith, omega arith)
 
 -- The code breaks no limit below this number.
 abbrev pub IsClearBelow : (ℕ → Name → Type 0) → Code → ℕ → Type 0
-IsClearBelow N c k = (m : ℕ) → m < k → ¬ CodeBreaks N c m
+IsClearBelow N c k = (m : ℕ) → m < k → ¬ CodeBreaksLimit N c m
 
 -- the refusal of this number
 abbrev pub unfit : ℕ → Fault
 unfit number = record { code = number; place = 0 }
 
 module _ (N : ℕ → Name → Type 0) (c : Code) where
-  kept82 : AllInsns (ShortFits N kind.String) c → ¬ CodeBreaks N c 82
+  kept82 : AllInsns (ShortFits N kind.String) c → ¬ CodeBreaksLimit N c 82
   kept82 kept (StringOutOfReach broken) = broken kept
 
-  kept83 : AllInsns (ShortFits N kind.Field) c → ¬ CodeBreaks N c 83
+  kept83 : AllInsns (ShortFits N kind.Field) c → ¬ CodeBreaksLimit N c 83
   kept83 kept (FieldOutOfReach broken) = broken kept
 
-  kept84 : AllInsns (ShortFits N kind.Method) c → ¬ CodeBreaks N c 84
+  kept84 : AllInsns (ShortFits N kind.Method) c → ¬ CodeBreaksLimit N c 84
   kept84 kept (MethodOutOfReach broken) = broken kept
 
-  kept85 : AllNumbers OffsetsFit c → ¬ CodeBreaks N c 85
+  kept85 : AllNumbers OffsetsFit c → ¬ CodeBreaksLimit N c 85
   kept85 kept (BranchOutOfReach broken) = broken kept
 
-  kept86 : AllNumbers IsEven c → ¬ CodeBreaks N c 86
+  kept86 : AllNumbers IsEven c → ¬ CodeBreaksLimit N c 86
   kept86 kept (Misaligned broken) = broken kept
 
-  kept87 : AllTries TryFits c → ¬ CodeBreaks N c 87
+  kept87 : AllTries TryFits c → ¬ CodeBreaksLimit N c 87
   kept87 kept (TryTooLong broken) = broken kept
 
-  kept88 : length c.tries ≤ 65535 → ¬ CodeBreaks N c 88
+  kept88 : length c.tries ≤ 65535 → ¬ CodeBreaksLimit N c 88
   kept88 few (TooManyTries many) = omega (arith, few, many)
 
-  kept89 : (wide_code c ≤ 4294967295 → HandlersAreNear N (addresses_of c.insns) c.tries) → ¬ CodeBreaks N c 89
+  kept89 : (wide_code c ≤ 4294967295 → HandlersAreNear N (addresses_of c.insns) c.tries) → ¬ CodeBreaksLimit N c 89
   kept89 near (HandlerTooFar short some) = let n = near short some.list some.offs some.laid some.index some.inside in let f = some.far in omega (arith, n, f)
 
-  next : (k : ℕ) → IsClearBelow N c k → (¬ CodeBreaks N c k) → IsClearBelow N c (k + 1)
-  next k below here m lt h = ⊎_elim (λ (less : m < k). below m less h) (λ (same : k ≤ m). let e : m ≡ k = omega (arith, lt, same) in here (subst (λ (n : ℕ). CodeBreaks N c n) e h)) (cases_lt m k)
+  next : (k : ℕ) → IsClearBelow N c k → (¬ CodeBreaksLimit N c k) → IsClearBelow N c (k + 1)
+  next k below here m lt h = ⊎_elim (λ (less : m < k). below m less h) (λ (same : k ≤ m). let e : m ≡ k = omega (arith, lt, same) in here (subst (λ (n : ℕ). CodeBreaksLimit N c n) e h)) (cases_lt m k)
 
-  lowest : (k : ℕ) → IsClearBelow N c k → CodeBreaks N c k → IsUnfit N c (unfit k)
+  lowest : (k : ℕ) → IsClearBelow N c k → CodeBreaksLimit N c k → IsUnfit N c (unfit k)
   lowest k below h = record {
     breaks = h;
     lowest = λ m x. ⊎_elim (λ (less : m < k). absurd (below m less x)) (λ (le : k ≤ m). le) (cases_lt m k);
@@ -135,7 +135,7 @@ module _ (N : ℕ → Name → Type 0) (c : Code) where
                 clear90 near = next 89 clear89 (kept89 near)
 
 -- what fits breaks no limit
-pub fits_clear : (N : ℕ → Name → Type 0) (c : Code) (m : ℕ) → FitsCode N c → ¬ CodeBreaks N c m
+pub fits_clear : (N : ℕ → Name → Type 0) (c : Code) (m : ℕ) → FitsCode N c → ¬ CodeBreaksLimit N c m
 fits_clear N c m f h =
     let r = (breaks_range N c m h).1 in
     clear90 N c f.strings f.fields f.methods f.offsets f.even f.tries f.few f.handlers m (omega (arith, r)) h
@@ -220,14 +220,14 @@ numbers_stable P s c h = λ k lt. s c.insns (addresses_of c.insns) k (λ no. h (
 tries_stable : (c : Code) → Stable (AllTries TryFits c)
 tries_stable c h = λ i lt. most_stable _ _ (λ no. h (λ f. no (f i lt)))
 
-handlers_near : (N : ℕ → Name → Type 0) (c : Code) → ((m : ℕ) → ¬ CodeBreaks N c m) → wide_code c ≤ 4294967295 → HandlersAreNear N (addresses_of c.insns) c.tries
+handlers_near : (N : ℕ → Name → Type 0) (c : Code) → ((m : ℕ) → ¬ CodeBreaksLimit N c m) → wide_code c ≤ 4294967295 → HandlersAreNear N (addresses_of c.insns) c.tries
 handlers_near N c clear short list offs laid i inside =
     less_stable (get_or offs i 0) 65536 (λ far. clear 89 (HandlerTooFar short (record { list = list; offs = offs; laid = laid; index = i; inside = inside; far = at_least (get_or offs i 0) far })))
   where
     at_least : (n : ℕ) → (¬ (n < 65536)) → 65535 < n
     at_least n far = ⊎_elim (λ (lt : n < 65536). absurd (far lt)) (λ (le : 65536 ≤ n). omega (arith, le)) (cases_lt n 65536)
 
-pub clear_fits : (N : ℕ → Name → Type 0) (c : Code) → ((m : ℕ) → ¬ CodeBreaks N c m) → FitsCode N c
+pub clear_fits : (N : ℕ → Name → Type 0) (c : Code) → ((m : ℕ) → ¬ CodeBreaksLimit N c m) → FitsCode N c
 clear_fits N c clear = record {
   strings = insns_stable (ShortFits N kind.String) (short_stable N kind.String) c (λ broken. clear 82 (StringOutOfReach broken));
   fields = insns_stable (ShortFits N kind.Field) (short_stable N kind.Field) c (λ broken. clear 83 (FieldOutOfReach broken));

@@ -19,8 +19,9 @@ use Rattle.code_put.specs.Fits.{distance_of, BranchFits, TargetsFit, OffsetsFit,
 use Rattle.code_put.specs.Packs.{IsOrigin}
 use Rattle.code_put.proofs.ItemPieces.{seen-at}
 use Rattle.code_put.proofs.SizeLaws.{units-small}
-use Rattle.code_put.proofs.FormLaws.{length-addresses, names-at, all-front, all-back}
+use Rattle.code_put.proofs.FormLaws.{length-addresses, names-at}
 use Rattle.code_put.proofs.PutLaws.{no-targets}
+use Rattle.base_bytes.proofs.ListFacts.{all_front, all_back}
 
 -- ---- offsets
 
@@ -68,10 +69,10 @@ catches-least ts i l =
 pub insns-ranked : (P : Name → Type 0) (xs : List HeldInsn) (ts : List Try) → AllByRecursion P (flat_map names_of_insn (map insn xs) ++ flat_map names_of_try ts) → (k : ℕ) → k < length xs → AllByRecursion P (names_of_insn (insn_at (map insn xs) k))
 insns-ranked P xs ts h k l =
     let n = length-map xs insn in
-    names-at P (map insn xs) k (all-front P (flat_map names_of_insn (map insn xs)) (flat_map names_of_try ts) h) (omega arith)
+    names-at P (map insn xs) k (all_front P (flat_map names_of_insn (map insn xs)) (flat_map names_of_try ts) h) (omega arith)
 
 pub tries-ranked : (P : Name → Type 0) (is : List Insn) (ts : List Try) → AllByRecursion P (flat_map names_of_insn is ++ flat_map names_of_try ts) → AllByRecursion P (flat_map names_of_try ts)
-tries-ranked P is ts h = all-back P (flat_map names_of_insn is) (flat_map names_of_try ts) h
+tries-ranked P is ts h = all_back P (flat_map names_of_insn is) (flat_map names_of_try ts) h
 
 -- ---- addresses are small
 

@@ -1,2 +1,1 @@
-pub mod Ranked
 pub mod Laws

@@ -7,8 +7,8 @@ ghost use Rattle.program_types.specs.Formed.{IsFormed};
 ghost use Rattle.program_types.specs.Mentions.{names_of_code, names_of_try};
 ghost use Rattle.program_types.specs.View as view;
 ghost use Rattle.tables_names.specs.Closure.{NameRanks};
-ghost use Rattle.code_fits.specs.Ranked.{HasIndex};
 ghost use Rattle.program_types.specs.Sizes.{addresses_of, length_of};
+ghost use Rattle.program_types.specs.Kinds.{HasIndex};
 ghost use Rattle.code_put.specs.Fits.{AllInsns, AllNumbers, FitsCode, HasIndexBelow, IsEven, IsUnfit, OffsetsFit, ShortFits};
 ghost use Rattle.dex_insn.specs.declared.opcode.IndexKind.TheVariants as kind;
 
@@ -53,7 +53,7 @@ fn check_tries(alloc: Global, ranks: &Ranks<'_>, all: &Starts, code: &Code<'_>) 
 
 /// Whether a code that is well formed fits the fields of a file. Of the limits that it breaks the fault names the lowest: 82 to 84 an
 /// index of a string, field or method that doesn't fit 16 bits, 85 an offset, 86 a payload at an odd address, 87 a try that covers
-/// too much, 88 too many tries, 89 a handler too far behind the list's begin. Its place is 0. Beside these only want of memory.
+/// too much, 88 too many tries, 89 a handler too far after the list's begin. Its place is 0. Beside these only out of memory.
 ///
 /// ```
 /// use dex_code::fits;

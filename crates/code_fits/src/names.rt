@@ -4,12 +4,11 @@ ghost use Rattle.std.specs.Prelude.{◌≡◌, ◌<◌, ◌↔◌, ℕ, length, 
 ghost use Rattle.std.specs.List.{AllByRecursion};
 ghost use Rattle.program_types.specs.Content.{Name as Named};
 ghost use Rattle.program_types.specs.Formed.{insn_at};
-ghost use Rattle.program_types.specs.Kinds.{IsOfKind};
+ghost use Rattle.program_types.specs.Kinds.{IsOfKind, HasIndex};
 ghost use Rattle.program_types.specs.Mentions.{names_of_insn};
 ghost use Rattle.program_types.specs.View.{insn};
 ghost use Rattle.program_types.specs.View as view;
 ghost use Rattle.tables_names.specs.Closure.{NameRanks};
-ghost use Rattle.code_fits.specs.Ranked.{HasIndex};
 ghost use Rattle.code_put.specs.Fits.{short_name, ShortFits};
 
 use dex_insn::IndexKind;
@@ -29,7 +28,7 @@ fn short_name<'a>(one: &Insn<'a>) -> Option<Name<'a>>
     }
 }
 
-/// Whether it is a name of this table.
+/// Whether a name is one of this table.
 fn is_of_kind(kind: IndexKind, name: Name<'_>) -> bool
     ensures { IsTrue result ↔ IsOfKind kind (view.name name.entry) }
 {

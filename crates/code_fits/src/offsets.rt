@@ -10,7 +10,7 @@ ghost use Rattle.code_put.specs.Writing.{AreOrigins};
 
 use program_types::Insn;
 
-/// Whether `begin` is at most `most` behind `at`, or `most` and one before it.
+/// Whether `begin` is at most `most` after `at`, or `most` and one before it.
 fn is_near(begin: u64, at: u64, most: u64) -> bool
     requires { most ≤ 2147483647 }
     ensures { IsTrue result ↔ ((begin ≤ at + most) × (at ≤ begin + (most + 1))) }
@@ -29,7 +29,7 @@ fn fits_8(starts: &[u64], at: u64, to: u32) -> bool
     is_near(starts[to as usize], at, 127)
 }
 
-/// Whether it fits 16 bits.
+/// Whether the distance from `at` to instruction `to` fits 16 bits.
 fn fits_16(starts: &[u64], at: u64, to: u32) -> bool
     requires { to < length starts.now }
     ensures { IsTrue result ↔ FitsSigned w16 (distance_of starts.now at to) }
@@ -37,7 +37,7 @@ fn fits_16(starts: &[u64], at: u64, to: u32) -> bool
     is_near(starts[to as usize], at, 32767)
 }
 
-/// Whether it fits 32 bits.
+/// Whether the distance from `at` to instruction `to` fits 32 bits.
 fn fits_32(starts: &[u64], at: u64, to: u32) -> bool
     requires { to < length starts.now }
     ensures { IsTrue result ↔ FitsSigned w32 (distance_of starts.now at to) }
@@ -124,7 +124,7 @@ pub(crate) fn offsets_fit(starts: &[u64], origins: &[u32], insns: &[Insn<'_>]) -
     true
 }
 
-/// Whether it is a payload.
+/// Whether an instruction is a payload.
 #[tactic(auto, unfolding(program_types::specs::Formed::insn_payload))]
 fn is_payload(one: &Insn<'_>) -> bool
     ensures { IsTrue result ↔ (insn_payload (insn one.now) ≢ None) }

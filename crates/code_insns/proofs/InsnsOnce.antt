@@ -11,7 +11,7 @@ use Rattle.code_insns.specs.Walk.{Walks, starts, raw_at, address}
 use Rattle.code_insns.specs.Places.{place}
 use Rattle.code_insns.specs.Symbols.{resolved, Says, IndexStandsFor, name_in, IsFunctional}
 use Rattle.code_insns.specs.Payloads.{UseHolds}
-use Rattle.code_insns.specs.Insns.{IsBase, SpellsInsn, SpellsInsns}
+use Rattle.code_insns.specs.Insns.{IsBase, SpellsInsnAt, SpellsInsns}
 use Rattle.code_insns.proofs.Runs.{run-once}
 
 pub same-list : {A : Type 0} (xs ys : List A) (d : A) → length xs ≡ length ys → ((k : ℕ) → k < length xs → get_or xs k d ≡ get_or ys k d) → xs ≡ ys
@@ -62,7 +62,7 @@ says-one N T (raw.I35c op m regs n) i j f p q = same-name T (raw.I35c op m regs 
 says-one N T (raw.I3rc op m first n) i j f p q = same-name T (raw.I3rc op m first n) i j (named-one N op n _ _ f p.named q.named) p.symbol q.symbol
 says-one N T r i j f p q = plain-one T r i j refl p.symbol q.symbol
 
-insn-one : (N : ℕ → Name → Type 0) (rs : List Raw) (k : ℕ) (i j : Insn) → IsFunctional N → UseHolds rs k → SpellsInsn N rs k i → SpellsInsn N rs k j → i ≡ j
+insn-one : (N : ℕ → Name → Type 0) (rs : List Raw) (k : ℕ) (i j : Insn) → IsFunctional N → UseHolds rs k → SpellsInsnAt N rs k i → SpellsInsnAt N rs k j → i ≡ j
 insn-one N rs k i j f l p q =
     let b = base-one rs k p.base q.base l p.counts q.counts in
     says-one N (place (starts rs) p.base) (raw_at rs k) i j f p.says (subst (λ (x : ℕ). Says N (place (starts rs) x) (raw_at rs k) j) (sym b) q.says)

@@ -10,5 +10,4 @@ pub mod InsnFaultLaws
 pub mod Saying
 pub mod SaidRegisters
 pub mod PlainLaws
-pub mod CheckLaws
 pub mod OneFault

@@ -1,5 +1,5 @@
 -- The instructions of a code break one rule: the first that is asked.
-use Rattle.std.proofs.Common.{◌≡◌, ℕ, ℤ, pos, ◌+ℤ◌, ◌+◌, ◌*◌, ◌/◌, ◌<◌, List, length, get_or, false, Option, Some, None, refl, sym, ap, ◌∙◌, subst, arith, inl, inr}
+use Rattle.std.proofs.Common.{◌≡◌, ℕ, ℤ, pos, ◌+ℤ◌, ◌+◌, ◌*◌, ◌/◌, ◌<◌, List, length, get_or, false, refl, sym, ap, ◌∙◌, subst, arith, inl, inr}
 use Rattle.std.specs.Prelude.{IfSome, ◌≢◌}
 use Rattle.std.proofs.lemmas.Bool.{cases_lt}
 use Rattle.std.proofs.lemmas.Int.{ints}
@@ -11,7 +11,7 @@ use Rattle.dex_insn.proofs.Laws.{stands-clear}
 use Rattle.dex_insn.proofs.OneFault.{one_fault}
 use Rattle.program_types.specs.Content.{Name}
 use Rattle.code_insns.specs.Places.{Rises, IsFirstBroken}
-use Rattle.code_insns.specs.Walk.{IsWalkFault, Walks, starts, raw_at, address}
+use Rattle.code_insns.specs.Walk.{IsWalkFault, starts, raw_at, address}
 use Rattle.code_insns.specs.Payloads.{UseHolds}
 use Rattle.code_insns.specs.Insns.{branch, short_branch, Lands, NameHolds, BranchLands, BranchMoves, BranchHolds, OffsetsLand}
 use Rattle.code_insns.specs.InsnFaults.{BreaksIn, RulesBreak, InsnsBreak}

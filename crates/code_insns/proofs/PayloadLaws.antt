@@ -38,7 +38,7 @@ uses-other begins rs j k n z w l t e f a b differ u =
     let s : n ≡ k = cc in
     differ (rw (a, b, s) u.kind)
 
-self-alike : (w l : Option Payload) → AreAlike w l → AreAlike w w
+pub self-alike : (w l : Option Payload) → AreAlike w l → AreAlike w w
 self-alike (Some payload.PackedSwitch) l h = tt
 self-alike (Some payload.SparseSwitch) l h = tt
 self-alike (Some payload.Array) l h = tt

@@ -3,7 +3,7 @@ use Rattle.std.proofs.Common.{◌≡◌, ◌≢◌, ℕ, ◌+◌, ◌<◌, ◌�
 use Rattle.std.specs.Prelude.{option_map, IfSome}
 use Rattle.std.proofs.lemmas.Bool.{cases_lt}
 use Rattle.std.proofs.lemmas.Bool.Decides.{nat_tests}
-use Rattle.code_insns.specs.Places.{Rises, position, position_at, place, count_below, IsBelow}
+use Rattle.code_insns.specs.Places.{Rises, position, position_at, place, count_below, IsCountBelow}
 use Rattle.std.proofs.lemmas.Int.{ints}
 
 pub count-is : (ss : List ℕ) (x n : ℕ) → n ≤ length ss → ((k : ℕ) → k < n → get_or ss k 0 < x) → ((k : ℕ) → n ≤ k → k < length ss → x ≤ get_or ss k 0) → n ≡ count_below x ss
@@ -36,20 +36,20 @@ position-is (s ∷ ss) x (suc n) w e h =
     rw r (grind (arith, nat_tests))
 
 -- by the place where the addresses that are not below begin
-pub split-none : (ss : List ℕ) (x n : ℕ) → IsBelow ss x n → length ss ≤ n → position ss x ≡ None
+pub split-none : (ss : List ℕ) (x n : ℕ) → IsCountBelow ss x n → length ss ≤ n → position ss x ≡ None
 split-none ss x n b l = position-none ss x (λ k m e. let p = b.before k (omega arith) in absurd (omega arith))
 
-pub split-other : (ss : List ℕ) (x n : ℕ) → Rises ss → IsBelow ss x n → n < length ss → get_or ss n 0 ≢ x → position ss x ≡ None
+pub split-other : (ss : List ℕ) (x n : ℕ) → Rises ss → IsCountBelow ss x n → n < length ss → get_or ss n 0 ≢ x → position ss x ≡ None
 split-other ss x n r b l ne = position-none ss x
     (λ k m e. elim (cases_lt k n) [
       | inl h ↦ let p = b.before k h in absurd (omega arith)
       | inr h ↦ elim (cases_lt n k) [
-        | inl g ↦ let p = b.behind n (omega arith) l in let q = r.each n k g m in absurd (omega arith)
+        | inl g ↦ let p = b.after n (omega arith) l in let q = r.each n k g m in absurd (omega arith)
         | inr g ↦ let s : k ≡ n = omega arith in absurd (ne (subst (λ (j : ℕ). get_or ss j 0 ≡ x) s e))
       ]
     ])
 
-pub split-some : (ss : List ℕ) (x n : ℕ) → IsBelow ss x n → n < length ss → get_or ss n 0 ≡ x → position ss x ≡ Some n
+pub split-some : (ss : List ℕ) (x n : ℕ) → IsCountBelow ss x n → n < length ss → get_or ss n 0 ≡ x → position ss x ≡ Some n
 split-some ss x n b l e = position-is ss x n l e (λ k m f. let p = b.before k m in absurd (omega arith))
 
 neg : (ss : List ℕ) (z : ℤ) → z <ℤ pos 0 → position_at ss z ≡ None

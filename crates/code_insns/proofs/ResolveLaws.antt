@@ -21,7 +21,7 @@ use Rattle.code_insns.specs.Walk.{IsTable, raw_at, address, starts}
 use Rattle.code_insns.specs.Symbols.{places, both, ints, ints_from, Says}
 use Rattle.code_insns.specs.Payloads.{payload_of, wants, reach, IsUse, UseHolds}
 use Rattle.program_types.specs.Formed.{AreAlike, IsSwitch}
-use Rattle.code_insns.specs.Insns.{branch, Reaches, Lands, AllLand, OffsetsLand, BranchHolds, IsBase, SpellsInsn, targets}
+use Rattle.code_insns.specs.Insns.{branch, Reaches, Lands, AllLand, OffsetsLand, BranchHolds, IsBase, SpellsInsnAt, targets}
 use Rattle.code_insns.specs.Reading.{AreResolved}
 use Rattle.code_insns.proofs.PayloadLaws.{at_raw}
 
@@ -97,7 +97,7 @@ reaches-at xs begins k t b l =
     weaker None h = tt
     weaker (Some z) h = some_none (place (starts (map raw.raw xs)) (address (map raw.raw xs) k) z) h.number h.leads
 
-pub spells-at : (N : ℕ → Name → Type 0) (xs : List RawInsn) (begins : List ℕ) (k base : ℕ) (i : Insn) → IsTable begins (map raw.raw xs) → IsBase (map raw.raw xs) k base → Says N (place begins base) (raw.raw (get_or xs k (made.I10x 0))) i → SpellsInsn N (map raw.raw xs) k i
+pub spells-at : (N : ℕ → Name → Type 0) (xs : List RawInsn) (begins : List ℕ) (k base : ℕ) (i : Insn) → IsTable begins (map raw.raw xs) → IsBase (map raw.raw xs) k base → Says N (place begins base) (raw.raw (get_or xs k (made.I10x 0))) i → SpellsInsnAt N (map raw.raw xs) k i
 spells-at N xs begins k base i t b s = record {
   base = base;
   counts = b;
@@ -139,5 +139,5 @@ resolved-more P k xs new x s h e =
 pub resolved-none : (P : ℕ → Insn → Type 0) (xs : List Held) → xs ≡ [] → SomeResolved P (map insn xs) 0
 resolved-none P xs e = record { count = ap (λ (l : List Held). length (map insn l)) e; each = λ j l. absurd (omega arith) }
 
-pub resolved-all : (N : ℕ → Name → Type 0) (rs : List Raw) (is : List Insn) (k : ℕ) → k ≡ length rs → SomeResolved (SpellsInsn N rs) is k → AreResolved N rs is
+pub resolved-all : (N : ℕ → Name → Type 0) (rs : List Raw) (is : List Insn) (k : ℕ) → k ≡ length rs → SomeResolved (SpellsInsnAt N rs) is k → AreResolved N rs is
 resolved-all N rs is k e s = record { count = s.count ∙ e; each = λ j l. s.each j (omega arith) }

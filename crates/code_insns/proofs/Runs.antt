@@ -91,7 +91,7 @@ length-of_starts rs = length-starts 0 (map units rs) ∙ length-map rs units
 pub walk-rises : (us : List ℕ) (rs : List Raw) → Walks us rs → Rises (starts rs)
 walk-rises us rs w = let n = length-of_starts rs in record { each = λ i j p q. run-rises us 0 rs (length us / 2) i j w.run p (omega (arith, n, q)) }
 
-run-few : (us : List ℕ) (a : ℕ) (rs : List Raw) (e : ℕ) → Run us a rs e → a + length rs ≤ e
+pub run-few : (us : List ℕ) (a : ℕ) (rs : List Raw) (e : ℕ) → Run us a rs e → a + length rs ≤ e
 run-few us a [] e h = omega arith
 run-few us a (r ∷ rs) e h = let t = run-few us (a + units r) rs e h.1 in let u = (stands-whole us a r h.0).0 in omega arith
 

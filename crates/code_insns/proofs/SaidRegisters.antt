@@ -52,7 +52,7 @@ length-places T (z ∷ zs) ns e =
     let s = both-some (T z) (places T zs) ns e in
     ap length s.4 ∙ ap suc (length-places T zs s.1 s.3)
 
-units-said : (T : ℤ → Option ℕ) (w : Name) (r : Raw) → IfSome (resolved T w r) (λ i. units r ≡ insn_units i)
+pub units-said : (T : ℤ → Option ℕ) (w : Name) (r : Raw) → IfSome (resolved T w r) (λ i. units r ≡ insn_units i)
 unfolding resolved units insn_units ints
 units-said T w (raw.I10t op z) = mapped (λ i. 1 ≡ insn_units i) (λ to. made.I10t op to) (T z) (λ to e. refl)
 units-said T w (raw.I20t op z) = mapped (λ i. 2 ≡ insn_units i) (λ to. made.I20t op to) (T z) (λ to e. refl)

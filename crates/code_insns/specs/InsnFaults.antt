@@ -20,7 +20,7 @@ abbrev pub AllKeep : (List Raw → ℕ → Type 0) → List Raw → Type 0
 AllKeep P rs = AllHold (P rs) (length rs)
 
 -- The instructions keep the rules of indices, branches, payloads and switches.
-pub record RulesHold (N : ℕ → Name → Type 0) (rs : List Raw) : Type 0 where
+pub record InsnRulesHold (N : ℕ → Name → Type 0) (rs : List Raw) : Type 0 where
   pub names : AllKeep (NameHolds N) rs
   pub branches : AllKeep BranchHolds rs
   pub uses : AllKeep UseHolds rs
@@ -36,6 +36,6 @@ RulesBreak N rs base fault =
     ⊎ (AllKeep (NameHolds N) rs × AllKeep BranchHolds rs × BreaksIn rs base 70 UseHolds UseHolds fault)
     ⊎ (AllKeep (NameHolds N) rs × AllKeep BranchHolds rs × AllKeep UseHolds rs × BreaksIn rs base 68 OffsetsLand OffsetsLand fault)
 
--- What is wrong with the units: behind some instructions stands none (62, 63, 64, 66, 67), or those that they are break a rule.
+-- What is wrong with the units: after some instructions stands none (62, 63, 64, 66, 67), or those that they are break a rule.
 abbrev pub InsnsBreak : (ℕ → Name → Type 0) → List ℕ → ℕ → Fault → Type 0
 InsnsBreak N us base fault = IsWalkFault us base fault ⊎ ((rs : List Raw) × Walks us rs × RulesBreak N rs base fault)

@@ -8,7 +8,7 @@ use Rattle.dex_insn.specs.Fields.{int_at}
 use Rattle.program_types.specs.Content.{Name, Insn}
 use Rattle.code_insns.specs.Places.{place, AllHold}
 use Rattle.code_insns.specs.Walk.{Walks, starts, raw_at, address}
-use Rattle.code_insns.specs.Symbols.{Says, HasName}
+use Rattle.code_insns.specs.Symbols.{Says, InsnHasName}
 use Rattle.program_types.specs.Formed.{IsSwitch, insn_at}
 use Rattle.code_insns.specs.Payloads.{payload_of, Uses, UseHolds}
 
@@ -21,7 +21,7 @@ branch (raw.I21t op a offset) = Some offset
 branch (raw.I22t op a b offset) = Some offset
 branch _ = None
 
--- the same, where 0 isn't allowed: all but goto/32
+-- the offset of a branch that may not be 0: of all but goto/32
 unfoldable pub short_branch : Raw → Option ℤ
 short_branch (raw.I30t op offset) = None
 short_branch r = branch r
@@ -71,7 +71,7 @@ OffsetsLand rs k = IsSwitch (payload_of (raw_at rs k)) → (j : ℕ) → Uses rs
 
 -- the index of instruction k, if it has one, stands for a name
 abbrev pub NameHolds : (ℕ → Name → Type 0) → List Raw → ℕ → Type 0
-NameHolds N rs k = HasName N (raw_at rs k)
+NameHolds N rs k = InsnHasName N (raw_at rs k)
 
 -- From where the offsets in instruction k count: a switch's payload counts from the switch, all others from themselves.
 abbrev pub IsBase : List Raw → ℕ → ℕ → Type 0
@@ -80,7 +80,7 @@ IsBase rs k base =
     ⊎ ((¬ IsSwitch (payload_of (raw_at rs k))) × (base ≡ address rs k))
 
 -- instruction k is spelled by raw instruction k
-pub record SpellsInsn (N : ℕ → Name → Type 0) (rs : List Raw) (k : ℕ) (i : Insn) : Type 0 where
+pub record SpellsInsnAt (N : ℕ → Name → Type 0) (rs : List Raw) (k : ℕ) (i : Insn) : Type 0 where
   pub base : ℕ
   pub counts : IsBase rs k base
   pub says : Says N (place (starts rs) base) (raw_at rs k) i
@@ -92,4 +92,4 @@ pub record SpellsInsns (N : ℕ → Name → Type 0) (us : List ℕ) (rs : List 
   pub uses : AllHold (UseHolds rs) (length rs)
   pub targets : AllHold (OffsetsLand rs) (length rs)
   pub count : length is ≡ length rs
-  pub each : (k : ℕ) → k < length rs → SpellsInsn N rs k (insn_at is k)
+  pub each : (k : ℕ) → k < length rs → SpellsInsnAt N rs k (insn_at is k)

@@ -6,4 +6,5 @@ pub mod Insns
 pub mod InsnFaults
 pub mod Registers
 pub mod Reading
+pub mod Plain
 pub mod Checking

@@ -5,7 +5,7 @@ use Rattle.dex_insn.specs.Raw as raw
 use Rattle.dex_insn.specs.Raw.{Raw}
 use Rattle.code_insns.specs.Walk.{starts, raw_at, address}
 use Rattle.code_insns.specs.Places.{place}
-use Rattle.program_types.specs.Formed.{wanted_by, AreAlike, IsSwitch}
+use Rattle.program_types.specs.Formed.{wanted_by, AreAlike, IsSwitch, WantsPayload}
 use Rattle.program_types.specs.declared.payload.Payload.{Payload}
 use Rattle.program_types.specs.declared.payload.Payload.TheVariants as payload
 use Rattle.code_insns.specs.declared.uses.Use.{Use}
@@ -43,7 +43,7 @@ pub record UsedOnce (rs : List Raw) (k : ℕ) : Type 0 where
 
 -- Instruction k refers to a payload of its kind, if it refers to one at all, and is used once, if it is a switch's payload.
 pub record UseHolds (rs : List Raw) (k : ℕ) : Type 0 where
-  pub refers : AreAlike (wants (raw_at rs k)) (wants (raw_at rs k)) → (n : ℕ) × Uses rs k n
+  pub refers : WantsPayload (wants (raw_at rs k)) → (n : ℕ) × Uses rs k n
   pub used : IsSwitch (payload_of (raw_at rs k)) → UsedOnce rs k
 
 -- ---- what the code notes

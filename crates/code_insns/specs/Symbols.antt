@@ -29,22 +29,22 @@ abbrev pub SomeName : (ℕ → Name → Type 0) → ℕ → ℕ → Type 0
 SomeName N op i = (which : Name) × IndexStandsFor N op i which
 
 -- the instruction's index, if it has one, stands for the name
-abbrev pub Names : (ℕ → Name → Type 0) → Raw → Name → Type 0
-Names N (raw.I21c op a index) which = IndexStandsFor N op index which
-Names N (raw.I22c op a b index) which = IndexStandsFor N op index which
-Names N (raw.I31c op a index) which = IndexStandsFor N op index which
-Names N (raw.I35c op n regs index) which = IndexStandsFor N op index which
-Names N (raw.I3rc op n first index) which = IndexStandsFor N op index which
-Names N _ which = ⊤
+abbrev pub InsnNames : (ℕ → Name → Type 0) → Raw → Name → Type 0
+InsnNames N (raw.I21c op a index) which = IndexStandsFor N op index which
+InsnNames N (raw.I22c op a b index) which = IndexStandsFor N op index which
+InsnNames N (raw.I31c op a index) which = IndexStandsFor N op index which
+InsnNames N (raw.I35c op n regs index) which = IndexStandsFor N op index which
+InsnNames N (raw.I3rc op n first index) which = IndexStandsFor N op index which
+InsnNames N _ which = ⊤
 
 -- the instruction's index, if it has one, stands for some name
-abbrev pub HasName : (ℕ → Name → Type 0) → Raw → Type 0
-HasName N (raw.I21c op a index) = SomeName N op index
-HasName N (raw.I22c op a b index) = SomeName N op index
-HasName N (raw.I31c op a index) = SomeName N op index
-HasName N (raw.I35c op n regs index) = SomeName N op index
-HasName N (raw.I3rc op n first index) = SomeName N op index
-HasName N _ = ⊤
+abbrev pub InsnHasName : (ℕ → Name → Type 0) → Raw → Type 0
+InsnHasName N (raw.I21c op a index) = SomeName N op index
+InsnHasName N (raw.I22c op a b index) = SomeName N op index
+InsnHasName N (raw.I31c op a index) = SomeName N op index
+InsnHasName N (raw.I35c op n regs index) = SomeName N op index
+InsnHasName N (raw.I3rc op n first index) = SomeName N op index
+InsnHasName N _ = ⊤
 
 -- the name in an instruction: the empty text where it has none
 abbrev pub name_in : Insn → Name
@@ -135,4 +135,4 @@ resolved T which (raw.Data width bytes) = Some (made.Data width bytes)
 -- The raw instruction says what the symbolic one does.
 pub record Says (N : ℕ → Name → Type 0) (T : ℤ → Option ℕ) (r : Raw) (i : Insn) : Type 0 where
   pub symbol : resolved T (name_in i) r ≡ Some i
-  pub named : Names N r (name_in i)
+  pub named : InsnNames N r (name_in i)

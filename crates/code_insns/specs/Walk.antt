@@ -37,7 +37,7 @@ pub record IsTable (begins : List ℕ) (rs : List Raw) : Type 0 where
   pub few : length begins ≤ 4294967295
   pub count : length begins ≡ length rs
 
--- Behind the instructions so far stands none, for this reason; the first unit is at the place `base`.
+-- After the instructions so far stands none, for this reason; the first unit is at the place `base`.
 pub record IsWalkFault (us : List ℕ) (base : ℕ) (fault : Fault) : Type 0 where
   pub before : List Raw
   pub at : ℕ

@@ -1,6 +1,6 @@
 //! The instructions of a code, stage by stage.
 
-ghost use Rattle.std.specs.Prelude.{◌≡◌, ◌≢◌, ◌^◌, ◌<◌, ◌≤◌, ◌%◌, length, map, IfOk, IfErr, IfNone, IfSome, IsOkUnless, IsTrue};
+ghost use Rattle.std.specs.Prelude.{◌≡◌, ◌≢◌, ◌^◌, ◌<◌, ◌≤◌, ◌%◌, length, map, None, IfOk, IfErr, IfNone, IfSome, IsOkUnless, IsTrue};
 ghost use Rattle.base_bytes.specs.Fault.{memory};
 ghost use Rattle.program_types.specs.View.{insn};
 ghost use Rattle.tables_rows.specs.Names.{NameIsAt};
@@ -8,13 +8,14 @@ ghost use Rattle.dex_insn.specs.Raw.{raw};
 ghost use Rattle.code_insns.specs.Walk.{IsTable, raw_at};
 ghost use Rattle.code_insns.specs.Places.{AllHold};
 ghost use Rattle.code_insns.specs.Payloads.{AreUsers, UseHolds};
-ghost use Rattle.code_insns.specs.Insns.{BranchHolds, OffsetsLand, NameHolds, SpellsInsn, IsBase};
-ghost use Rattle.code_insns.specs.InsnFaults.{RulesHold, RulesBreak, InsnsBreak};
+ghost use Rattle.code_insns.specs.Insns.{BranchHolds, OffsetsLand, NameHolds, SpellsInsnAt, IsBase};
+ghost use Rattle.code_insns.specs.InsnFaults.{InsnRulesHold, RulesBreak, InsnsBreak};
 ghost use Rattle.code_insns.specs.Registers.{AmongAt, IsPast};
-ghost use Rattle.code_insns.specs.Reading.{AreResolved, AreSpelled, ReadInsns};
+ghost use Rattle.code_insns.specs.Reading.{AreResolved, HoldAndResolve, ReadInsns};
+ghost use Rattle.code_insns.specs.Plain.{ArePlain};
 
 use crate::payloads::{is_switch, payload_at};
-use crate::plain::{are_plain, resolve_plain};
+use crate::plain::{insns_at, starts_of};
 use crate::registers::past_registers;
 use crate::rules::{check_branches, check_names, check_targets, is_payload};
 use crate::symbols::resolve;
@@ -48,7 +49,7 @@ fn check_rules(
 ) -> Result<Vec<Use>, Fault>
     requires table { IsTable begins.now (map raw insns.now) }
     requires base { base < 2 ^ 40 }
-    ensures ok { IfOk result (λ all. RulesHold (NameIsAt tables.now) (map raw insns.now)) }
+    ensures ok { IfOk result (λ all. InsnRulesHold (NameIsAt tables.now) (map raw insns.now)) }
     ensures users { IfOk result (λ all. AreUsers (map raw insns.now) (length insns.now) all.items) }
     ensures err { IfErr result (λ e. e ≢ memory → RulesBreak (NameIsAt tables.now) (map raw insns.now) base e) }
 {
@@ -93,7 +94,7 @@ fn resolve_at<'a>(
     requires uses { AllHold (UseHolds (map raw insns.now)) (length insns.now) }
     requires targets { AllHold (OffsetsLand (map raw insns.now)) (length insns.now) }
     requires inside { k < length insns.now }
-    ensures ok { IfOk result (λ i. SpellsInsn (NameIsAt tables.now) (map raw insns.now) k (insn i)) }
+    ensures ok { IfOk result (λ i. SpellsInsnAt (NameIsAt tables.now) (map raw insns.now) k (insn i)) }
     ensures err { IsOkUnless result memory }
 {
     let one = &insns[k];
@@ -106,7 +107,7 @@ fn resolve_at<'a>(
     }
 }
 
-/// All instructions.
+/// All instructions, with names in place of indices and numbers of instructions in place of offsets.
 fn resolve_all<'a>(
     arena: &'a Bump,
     tables: &Tables<'a>,
@@ -131,8 +132,7 @@ fn resolve_all<'a>(
     Ok(into_bump_slice(found))
 }
 
-/// All instructions of a code, in one pass where there are no payloads; where that comes to nothing, the passes of the rules say
-/// which one is broken.
+/// All instructions of a code, and where one breaks a rule, which.
 fn resolve_walked<'a>(
     alloc: Global,
     arena: &'a Bump,
@@ -143,20 +143,42 @@ fn resolve_walked<'a>(
 ) -> Result<&'a [Insn<'a>], Fault>
     requires table { IsTable begins.now (map raw insns.now) }
     requires base { base < 2 ^ 40 }
-    ensures ok { IfOk result (λ found. AreSpelled (NameIsAt tables.now) (map raw insns.now) (map insn found.now)) }
+    ensures ok { IfOk result (λ found. HoldAndResolve (NameIsAt tables.now) (map raw insns.now) (map insn found.now)) }
     ensures err { IfErr result (λ e. e ≢ memory → RulesBreak (NameIsAt tables.now) (map raw insns.now) base e) }
 {
-    if are_plain(insns) {
-        if let Some(found) = resolve_plain(arena, tables, insns, begins)? {
-            return Ok(found);
-        }
-    }
     let all = check_rules(alloc, tables, insns, begins, base)?;
     let resolved = resolve_all(arena, tables, &all, insns, begins)?;
     Ok(resolved)
 }
 
-/// Reads the instructions of a code of so many registers, whose first unit is at the place `base`.
+/// The instructions of a code that has nothing to do with payloads; none where one of them breaks a rule, also that of registers.
+fn read_plain<'a>(
+    alloc: Global,
+    arena: &'a Bump,
+    tables: &Tables<'a>,
+    units: &[u8],
+    registers: u16,
+) -> Result<Option<Insns<'a>>, Fault>
+    requires even { length units.now % 2 ≡ 0 }
+    requires short { length units.now ≤ 8589934590 }
+    ensures ok { IfOk result (λ o. IfSome o (λ i. ArePlain (NameIsAt tables.now) units.now i.starts.items registers (map insn i.insns.now) × (i.past ≡ None))) }
+    ensures memory { IsOkUnless result memory }
+{
+    let Some(starts) = starts_of(alloc, units)? else {
+        return Ok(None);
+    };
+    match insns_at(arena, tables, &starts, units, registers)? {
+        Some(insns) => Ok(Some(Insns {
+            insns,
+            starts,
+            past: None,
+        })),
+        None => Ok(None),
+    }
+}
+
+/// Reads the instructions of a code of so many registers, whose first unit is at the place `base`: at once where there are no payloads;
+/// where that comes to nothing, in the passes that say which rule is broken.
 pub fn read_insns<'a>(
     alloc: Global,
     arena: &'a Bump,
@@ -173,6 +195,9 @@ pub fn read_insns<'a>(
     ensures past { IfOk result (λ i. IfSome i.past (IsPast registers (map insn i.insns.now))) }
     ensures err { IfErr result (λ e. e ≢ memory → InsnsBreak (NameIsAt tables.now) units.now base e) }
 {
+    if let Some(found) = read_plain(alloc, arena, tables, units, registers)? {
+        return Ok(found);
+    }
     let walked = walk(alloc, units, base)?;
     let insns = resolve_walked(alloc, arena, tables, &walked.insns, &walked.starts, base)?;
     let past = past_registers(&walked.insns, &walked.starts, registers);

@@ -11,7 +11,7 @@ use crate::places::find;
 use dex_insn::RawInsn;
 use program_types::Payload;
 
-/// Which payload it is.
+/// Which payload an instruction is.
 #[tactic(auto, unfolding(crate::specs::Payloads::payload_of, dex_insn::specs::Raw::raw))]
 fn payload_of(one: &RawInsn<'_>) -> Option<Payload>
     ensures { result ≡ payload_of (raw one.now) }
@@ -24,7 +24,7 @@ fn payload_of(one: &RawInsn<'_>) -> Option<Payload>
     }
 }
 
-/// Which payload it refers to.
+/// Which payload an instruction refers to.
 #[tactic(auto, unfolding(crate::specs::Payloads::wants, dex_insn::specs::Raw::raw))]
 fn wants_of(one: &RawInsn<'_>) -> Option<Payload>
     ensures { result ≡ wants (raw one.now) }
@@ -37,7 +37,7 @@ fn wants_of(one: &RawInsn<'_>) -> Option<Payload>
     }
 }
 
-/// How many units away what it refers to is.
+/// How many units away the payload is that an instruction refers to.
 #[tactic(auto, unfolding(crate::specs::Payloads::reach, dex_insn::specs::Raw::raw))]
 fn reach_of(one: &RawInsn<'_>) -> i32
     ensures { result ≡ reach (raw one.now) }
@@ -103,7 +103,7 @@ pub fn used_by(insns: &[RawInsn<'_>], begins: &[u32], j: usize) -> Option<usize>
     }
 }
 
-/// Whether it is the payload of a switch.
+/// Whether a payload is that of a switch.
 pub(crate) fn is_switch(one: Option<Payload>) -> bool
     ensures { IsTrue result ↔ IsSwitch one }
 {

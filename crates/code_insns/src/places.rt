@@ -1,12 +1,12 @@
 //! From addresses to the numbers of instructions.
 
 ghost use Rattle.std.specs.Prelude.{◌≡◌, ◌≤◌, length, pos, ◌+ℤ◌, ◌<ℤ◌, IfNone, IfSome};
-ghost use Rattle.code_insns.specs.Places.{Rises, IsBelow, count_below, position, place};
+ghost use Rattle.code_insns.specs.Places.{Rises, IsCountBelow, count_below, position, place};
 
 /// Where the addresses that are not below `x` begin.
 fn split(starts: &[u32], x: u64) -> usize
     requires { Rises starts.now }
-    ensures { IsBelow starts.now x result }
+    ensures { IsCountBelow starts.now x result }
 {
     let mut low = 0;
     let mut high = starts.len();

@@ -11,6 +11,7 @@ ghost use Rattle.code_insns.specs.Walk.{IsTable};
 use dex_insn::{RawInsn, top_register};
 
 /// Whether the registers that an instruction names are among the first `count`.
+#[inline(always)]
 pub(crate) fn is_among(one: &RawInsn<'_>, count: u16) -> bool
     ensures { IsTrue result ↔ AllByRecursion (λ v. v < count) (named_registers (raw one.now)) }
 {

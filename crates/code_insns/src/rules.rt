@@ -19,6 +19,7 @@ use dex_insn::RawInsn;
 use tables_rows::Tables;
 
 /// The offset of a branch.
+#[inline(always)]
 #[tactic(auto, unfolding(crate::specs::Insns::branch, dex_insn::specs::Raw::raw))]
 fn branch_of(one: &RawInsn<'_>) -> Option<i32>
     ensures { result ≡ branch (raw one.now) }
@@ -33,7 +34,8 @@ fn branch_of(one: &RawInsn<'_>) -> Option<i32>
     }
 }
 
-/// The same, where 0 isn't allowed.
+/// The offset of a branch that may not be 0: of all but goto/32.
+#[inline(always)]
 #[tactic(auto, unfolding(crate::specs::Insns::branch, crate::specs::Insns::short_branch, dex_insn::specs::Raw::raw))]
 pub(crate) fn short_branch_of(one: &RawInsn<'_>) -> Option<i32>
     ensures { result ≡ short_branch (raw one.now) }
@@ -44,7 +46,7 @@ pub(crate) fn short_branch_of(one: &RawInsn<'_>) -> Option<i32>
     }
 }
 
-/// Whether it is a payload.
+/// Whether an instruction is a payload.
 #[tactic(auto, unfolding(dex_insn::specs::Raw::is_payload, dex_insn::specs::Raw::raw))]
 pub(crate) fn is_payload(one: &RawInsn<'_>) -> bool
     ensures { result ≡ is_payload (raw one.now) }
@@ -84,7 +86,8 @@ fn branch_lands(insns: &[RawInsn<'_>], begins: &[u32], k: usize) -> bool
     }
 }
 
-/// Whether it isn't 0.
+/// Whether an offset leads to another instruction: it isn't 0.
+#[inline(always)]
 pub(crate) fn moves(offset: i32) -> bool
     ensures { IsTrue result ↔ (offset ≢ pos 0) }
 {

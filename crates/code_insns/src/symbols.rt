@@ -8,7 +8,7 @@ ghost use Rattle.program_types.specs.View as view;
 ghost use Rattle.tables_rows.specs.Names.{NameIsAt};
 ghost use Rattle.dex_insn.specs.Raw.{raw, is_payload};
 ghost use Rattle.code_insns.specs.Places.{Rises, place};
-ghost use Rattle.code_insns.specs.Symbols.{resolved, has_offset, has_index, name_in, Says, HasName};
+ghost use Rattle.code_insns.specs.Symbols.{resolved, has_offset, has_index, name_in, Says, InsnHasName};
 ghost use Rattle.code_insns.specs.Insns.{Reaches};
 
 use crate::names::named;
@@ -18,6 +18,7 @@ use program_types::{Insn, Name};
 use tables_rows::Tables;
 
 /// The instruction whose offset leads to instruction `to`.
+#[inline(always)]
 #[rattlefmt::skip]
 #[tactic(auto, unfolding(crate::specs::Symbols::resolved, crate::specs::Symbols::has_offset, dex_insn::specs::Raw::raw))]
 fn leading<'a>(one: &RawInsn<'_>, to: u32) -> Insn<'a>
@@ -36,6 +37,7 @@ fn leading<'a>(one: &RawInsn<'_>, to: u32) -> Insn<'a>
 }
 
 /// The instruction whose index stands for the name.
+#[inline(always)]
 #[rattlefmt::skip]
 #[tactic(auto, unfolding(crate::specs::Symbols::resolved, crate::specs::Symbols::has_index, dex_insn::specs::Raw::raw))]
 fn naming<'a>(one: &RawInsn<'_>, name: Name<'a>) -> Insn<'a>
@@ -53,6 +55,7 @@ fn naming<'a>(one: &RawInsn<'_>, name: Name<'a>) -> Insn<'a>
 }
 
 /// An instruction that has neither: the same operands.
+#[inline(always)]
 #[rattlefmt::skip]
 #[tactic(auto, unfolding(crate::specs::Symbols::resolved, crate::specs::Symbols::has_offset, crate::specs::Symbols::has_index, dex_insn::specs::Raw::is_payload, dex_insn::specs::Raw::raw))]
 fn plain<'a>(one: &RawInsn<'_>) -> Insn<'a>
@@ -80,6 +83,7 @@ fn plain<'a>(one: &RawInsn<'_>) -> Insn<'a>
 }
 
 /// The symbolic instruction. None only where its index has no row or its offset leads nowhere.
+#[inline(always)]
 #[rattlefmt::skip]
 #[tactic(auto, unfolding(crate::specs::Symbols::resolved, crate::specs::Symbols::has_offset, crate::specs::Symbols::has_index, dex_insn::specs::Raw::is_payload, dex_insn::specs::Raw::raw))]
 pub(crate) fn resolve<'a>(tables: &Tables<'a>, starts: &[u32], base: u32, one: &RawInsn<'_>) -> Option<Insn<'a>>
@@ -87,7 +91,7 @@ pub(crate) fn resolve<'a>(tables: &Tables<'a>, starts: &[u32], base: u32, one: &
     requires few { length starts.now ≤ 4294967295 }
     requires plain { is_payload (raw one.now) ≡ false }
     ensures some { IfSome result (λ i. Says (NameIsAt tables.now) (place starts.now base) (raw one.now) (insn i)) }
-    ensures none { IfNone result (HasName (NameIsAt tables.now) (raw one.now) → Reaches (place starts.now base) (raw one.now) → ⊥) }
+    ensures none { IfNone result (InsnHasName (NameIsAt tables.now) (raw one.now) → Reaches (place starts.now base) (raw one.now) → ⊥) }
 {
     match *one {
         RawInsn::I10t { offset, .. } | RawInsn::I20t { offset, .. } | RawInsn::I21t { offset, .. } | RawInsn::I22t { offset, .. }

@@ -7,7 +7,7 @@ ghost use Rattle.code_insns.specs.Walk.{IsTable, raw_at};
 ghost use Rattle.code_insns.specs.Places.{AllHold};
 ghost use Rattle.code_insns.specs.InsnFaults.{BreaksIn};
 ghost use Rattle.code_insns.specs.Payloads.{AreUsers, with_user, UseHolds, UsedOnce, payload_of, Uses, wants};
-ghost use Rattle.program_types.specs.Formed.{IsSwitch, AreAlike};
+ghost use Rattle.program_types.specs.Formed.{IsSwitch, WantsPayload};
 
 use crate::payloads::{are_alike, is_switch, payload_at, used_by, wants_at};
 use dex_base::{Fault, fault};
@@ -22,7 +22,7 @@ pub enum Use {
     Shared,
 }
 
-/// One user more.
+/// The users of a payload, with instruction `j` among them.
 fn with_user(so_far: Use, j: u32) -> Use
     ensures { result ≡ with_user so_far j }
 {
@@ -63,7 +63,7 @@ pub fn users(alloc: Global, insns: &[RawInsn<'_>], begins: &[u32]) -> Result<Vec
 fn refers(insns: &[RawInsn<'_>], begins: &[u32], k: usize) -> bool
     requires table { IsTable begins.now (map raw insns.now) }
     requires inside { k < length insns.now }
-    ensures { IsTrue result ↔ (AreAlike (wants (raw_at (map raw insns.now) k)) (wants (raw_at (map raw insns.now) k)) → (n : ℕ) × Uses (map raw insns.now) k n) }
+    ensures { IsTrue result ↔ (WantsPayload (wants (raw_at (map raw insns.now) k)) → (n : ℕ) × Uses (map raw insns.now) k n) }
 {
     let kind = wants_at(insns, k);
     if are_alike(kind, kind) {
@@ -88,7 +88,7 @@ fn is_used_once(all: &[Use], insns: &[RawInsn<'_>], k: usize) -> bool
     }
 }
 
-/// Whether the payload that it is or refers to is used as it must be.
+/// Whether the payload that instruction `k` is or refers to is used as it must be.
 fn use_holds(all: &[Use], insns: &[RawInsn<'_>], begins: &[u32], k: usize) -> bool
     requires table { IsTable begins.now (map raw insns.now) }
     requires users { AreUsers (map raw insns.now) (length insns.now) all.now }

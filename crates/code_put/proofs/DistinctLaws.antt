@@ -16,6 +16,8 @@ use Rattle.code_insns.specs.Places.{Rises}
 use Rattle.code_put.specs.Packs.{IsFirstUse, PacksHandler, PacksCatch}
 use Rattle.code_put.specs.Writing.{Numbers, IsDistinct, joined_keys}
 use Rattle.code_put.proofs.ListLaws.{all-at}
+use Rattle.code_insns.proofs.InsnsOnce.{some-one}
+use Rattle.base_bytes.proofs.ListFacts.{zip_length, zip_more, get_last}
 
 -- ---- elements
 
@@ -23,22 +25,6 @@ get-old : {A : Type 0} (xs : List A) (x : A) (k : ℕ) (y : A) → slice_get xs 
 get-old [] x k y e = absurd cc
 get-old (z ∷ xs) x zero y e = e
 get-old (z ∷ xs) x (suc k) y e = get-old xs x k y e
-
-get-last : {A : Type 0} (xs : List A) (x : A) → slice_get (xs ++ x ∷ []) (length xs) ≡ Some x
-get-last [] x = refl
-get-last (z ∷ xs) x = get-last xs x
-
-zip-more : {A B : Type 0} (R : A → B → Type 0) (xs : List A) (ys : List B) (x : A) (y : B) → AllZip R xs ys → R x y → AllZip R (xs ++ x ∷ []) (ys ++ y ∷ [])
-zip-more R [] [] x y h r = (r, tt)
-zip-more R [] (b ∷ ys) x y h r = absurd h
-zip-more R (a ∷ xs) [] x y h r = absurd h
-zip-more R (a ∷ xs) (b ∷ ys) x y h r = (h.0, zip-more R xs ys x y h.1 r)
-
-pub zip-length : {A B : Type 0} (R : A → B → Type 0) (xs : List A) (ys : List B) → AllZip R xs ys → length xs ≡ length ys
-zip-length R [] [] h = refl
-zip-length R [] (y ∷ ys) h = absurd h
-zip-length R (x ∷ xs) [] h = absurd h
-zip-length R (x ∷ xs) (y ∷ ys) h = ap suc (zip-length R xs ys h.1)
 
 pub zip-left : {A B : Type 0} (R : A → B → Type 0) (xs : List A) (ys : List B) (k : ℕ) (x : A) → AllZip R xs ys → slice_get xs k ≡ Some x → (y : B) × (slice_get ys k ≡ Some y) × R x y
 zip-left R [] ys k x h e = absurd cc
@@ -58,12 +44,9 @@ all-get P [] k x h e = absurd cc
 all-get P (y ∷ xs) zero x h e = subst P (let q : y ≡ x = cc in q) h.0
 all-get P (y ∷ xs) (suc k) x h e = all-get P xs k x h.1 e
 
-all-more : {A : Type 0} (P : A → Type 0) (xs : List A) (x : A) → AllByRecursion P xs → P x → AllByRecursion P (xs ++ x ∷ [])
+pub all-more : {A : Type 0} (P : A → Type 0) (xs : List A) (x : A) → AllByRecursion P xs → P x → AllByRecursion P (xs ++ x ∷ [])
 all-more P [] x h p = (p, tt)
 all-more P (y ∷ xs) x h p = (h.0, all-more P xs x h.1 p)
-
-pub some-same : {A : Type 0} (o : Option A) (x y : A) → o ≡ Some x → o ≡ Some y → x ≡ y
-some-same o x y p q = cc
 
 -- ---- numbers that rise
 
@@ -164,19 +147,19 @@ module _ (N : ℕ → Name → Type 0) (ss : List ℕ) (ts : List Try)
     | inr fresh ↦
         let h = handler_of (try_at ts i) in
         let hs = d.handlers ++ h ∷ [] in
-        let len = zip-length (PacksHandler N ss) old d.handlers d.spelled in
+        let len = zip_length (PacksHandler N ss) old d.handlers d.spelled in
         let at = fresh.0 in
         subst (λ (ks : List (List ℕ)). IsDistinct N ss ts (i + 1) ks more) (sym fresh.1) (subst (λ (ns : List ℕ). IsDistinct N ss ts (i + 1) (old ++ bytes ∷ []) ns) (sym m) (record {
           handlers = hs;
-          spelled = zip-more (PacksHandler N ss) old d.handlers bytes h d.spelled p;
+          spelled = zip_more (PacksHandler N ss) old d.handlers bytes h d.spelled p;
           bytes = all-more AllBytes old bytes d.bytes small;
           count = let c = d.count in omega (arith, length-append numbers (n ∷ []));
           few = let f = d.few in omega (arith, length-append old (bytes ∷ []));
           short = let f = d.short in let t = catches-more ts i in let j = joined-more old bytes in let k = handler-most N ss bytes (handler_of (try_at ts i)) p in omega (arith, ap length j, length-append (joined_keys old) bytes);
-          each = numbered hs (λ k x e. get-old d.handlers h k x e) (let q : length d.handlers ≡ n = omega arith in subst (λ (k : ℕ). slice_get hs k ≡ Some h) q (get-last d.handlers h));
+          each = numbered hs (λ k x e. get-old d.handlers h k x e) (let q : length d.handlers ≡ n = omega arith in subst (λ (k : ℕ). slice_get hs k ≡ Some h) q (get_last d.handlers h));
           order = record {
             firsts = d.order.firsts ++ i ∷ [];
-            each = zip-more (IsFirstUse ts) d.handlers d.order.firsts h i d.order.each (record { inside = inside; uses = refl; first = first-here fresh.2 });
+            each = zip_more (IsFirstUse ts) d.handlers d.order.firsts h i d.order.each (record { inside = inside; uses = refl; first = first-here fresh.2 });
             rise = rises-more d.order.firsts i d.order.rise d.early;
           };
           early = all-more (λ (k : ℕ). k < i + 1) d.order.firsts i (all-below i d.order.firsts d.early) (omega arith);

@@ -14,12 +14,10 @@ use Rattle.program_types.specs.Formed.{insn_at}
 use Rattle.code_insns.specs.Places.{Rises}
 use Rattle.code_put.specs.Fits.{ShortFits, HasIndexBelow, NameFits, FitsCode, CanBePut}
 use Rattle.code_put.proofs.SizeLaws.{units-some}
+use Rattle.base_bytes.proofs.ListFacts.{all_back, all_front}
+use Rattle.code_insns.proofs.Runs.{length-starts}
 
 -- ---- addresses
-
-pub length-starts : (a : ℕ) (ns : List ℕ) → length (starts_from a ns) ≡ length ns
-length-starts a [] = refl
-length-starts a (n ∷ ns) = ap suc (length-starts (a + n) ns)
 
 pub length-addresses : (is : List Insn) → length (addresses_of is) ≡ length is
 length-addresses is = length-starts 0 (map insn_units is) ∙ count is
@@ -57,18 +55,10 @@ address-low is k l = let n = length-addresses is in let t = address-end is k (om
 
 -- ---- names
 
-pub all-front : {A : Type 0} (P : A → Type 0) (xs ys : List A) → AllByRecursion P (xs ++ ys) → AllByRecursion P xs
-all-front P [] ys h = tt
-all-front P (x ∷ xs) ys h = (h.0, all-front P xs ys h.1)
-
-pub all-back : {A : Type 0} (P : A → Type 0) (xs ys : List A) → AllByRecursion P (xs ++ ys) → AllByRecursion P ys
-all-back P [] ys h = h
-all-back P (x ∷ xs) ys h = all-back P xs ys h.1
-
 pub names-at : (P : Name → Type 0) (is : List Insn) (k : ℕ) → AllByRecursion P (flat_map names_of_insn is) → k < length is → AllByRecursion P (names_of_insn (insn_at is k))
 names-at P [] k h l = absurd (omega arith)
-names-at P (i ∷ is) zero h l = all-front P (names_of_insn i) (flat_map names_of_insn is) h
-names-at P (i ∷ is) (suc k) h l = names-at P is k (all-back P (names_of_insn i) (flat_map names_of_insn is) h) (omega arith)
+names-at P (i ∷ is) zero h l = all_front P (names_of_insn i) (flat_map names_of_insn is) h
+names-at P (i ∷ is) (suc k) h l = names-at P is k (all_back P (names_of_insn i) (flat_map names_of_insn is) h) (omega arith)
 
 -- a name of any kind fits where all of its kind do
 record Shorts (N : ℕ → Name → Type 0) (which : Name) : Type 0 where
@@ -99,11 +89,11 @@ name-fits N _ h s = tt
 
 pub names-fit : (N : ℕ → Name → Type 0) (c : Code) (k : ℕ) → FitsCode N c → CanBePut N c → k < length c.insns → NameFits N (insn_at c.insns k)
 names-fit N c k f p l = name-fits N (insn_at c.insns k)
-    (names-at (HasIndexBelow N 4294967296) c.insns k (all-front (HasIndexBelow N 4294967296) (flat_map names_of_insn c.insns) (flat_map names_of_try c.tries) p.ranked) l)
+    (names-at (HasIndexBelow N 4294967296) c.insns k (all_front (HasIndexBelow N 4294967296) (flat_map names_of_insn c.insns) (flat_map names_of_try c.tries) p.ranked) l)
     (record { text = f.strings k l; type = p.types k l; field = f.fields k l; method = f.methods k l })
 
 pub caught-ranked : (N : ℕ → Name → Type 0) (c : Code) → CanBePut N c → AllByRecursion (HasIndexBelow N 4294967296) (flat_map names_of_try c.tries)
-caught-ranked N c p = all-back (HasIndexBelow N 4294967296) (flat_map names_of_insn c.insns) (flat_map names_of_try c.tries) p.ranked
+caught-ranked N c p = all_back (HasIndexBelow N 4294967296) (flat_map names_of_insn c.insns) (flat_map names_of_try c.tries) p.ranked
 
 -- ---- in memory
 

@@ -14,14 +14,14 @@ use Rattle.base_bytes.proofs.Signed.{signed_unique}
 use Rattle.tables_names.specs.Closure.{Five, AreRising, NameRanks}
 use Rattle.code_read.proofs.HandlerLaws.{handler-unique}
 use Rattle.code_put.proofs.RankLaws.{rank-one, ranks-functional}
-use Rattle.code_put.proofs.FormLaws.{all-front, all-back}
+use Rattle.base_bytes.proofs.ListFacts.{all_front, all_back}
 
 -- a name has one index
 abbrev pub IsInjective : (ℕ → Name → Type 0) → Type 0
 IsInjective N = (i j : ℕ) (which : Name) → N i which → N j which → i ≡ j
 
 pub two-parts : (a f b : List ℕ) → a ≡ f ++ b → AllBytes a → AllBytes f × AllBytes b
-two-parts a f b e h = let g = subst AllBytes e h in (all-front (λ (x : ℕ). x < 256) f b g, all-back (λ (x : ℕ). x < 256) f b g)
+two-parts a f b e h = let g = subst AllBytes e h in (all_front (λ (x : ℕ). x < 256) f b g, all_back (λ (x : ℕ). x < 256) f b g)
 
 -- the number before catches is told by how many they are, and whether an address for all others follows
 no-all : (z : ℤ) → (HasAll z → ⊥) → z ≡ pos (catches_of z)

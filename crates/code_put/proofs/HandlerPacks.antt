@@ -7,7 +7,7 @@ use mir.Syntax.{w32}
 use Rattle.base_bytes.specs.Grammar.{Appends, Then, Many, Each}
 use Rattle.base_bytes.specs.Via.{Via}
 use Rattle.base_bytes.specs.Leb128.{Spells, SpellsSigned, Shortest}
-use Rattle.base_bytes.proofs.GrammarLaws.{Each-push}
+use Rattle.base_bytes.proofs.GrammarLaws.{Each-push, Each-appends_more, Each-appends_none, Then-appends}
 use Rattle.program_types.specs.Content.{Name, OfDesc, Catch}
 use Rattle.code_insns.specs.Places.{Rises, position}
 use Rattle.code_insns.proofs.PlaceLaws.{position-is}
@@ -21,28 +21,11 @@ position-own ss n r l = position-is ss (get_or ss n 0) n l refl (λ k m f. let q
 pub via-appends : {U V : Type 0} (G : List ℕ → U → Type 0) (R : U → V → Type 0) (old new : List ℕ) (u : U) (v : V) → Appends G old new u → R u v → Appends (Via G R) old new v
 via-appends G R old new u v p r = record { bytes = p.bytes; joined = p.joined; spelled = record { raw = u; spelled = p.spelled; means = r } }
 
-pub then-appends : {V W : Type 0} (G : List ℕ → V → Type 0) (H : V → List ℕ → W → Type 0) (old mid new : List ℕ) (v : V) (w : W) → Appends G old mid v → Appends (H v) mid new w → Appends (Then G H) old new (v, w)
-then-appends G H old mid new v w p q = record {
-  bytes = p.bytes ++ q.bytes;
-  joined = q.joined ∙ ap (λ (l : List ℕ). l ++ q.bytes) p.joined ∙ append_assoc old p.bytes q.bytes;
-  spelled = record { front = p.bytes; back = q.bytes; joined = refl; first = p.spelled; second = q.spelled };
-}
-
-pub each-none : {V : Type 0} (G : List ℕ → V → Type 0) (old : List ℕ) → Appends (Each G) old old []
-each-none G old = record { bytes = []; joined = sym (append-nil old); spelled = refl }
-
-pub each-more : {V : Type 0} (G : List ℕ → V → Type 0) (old mid new : List ℕ) (vs : List V) (v : V) → Appends (Each G) old mid vs → Appends G mid new v → Appends (Each G) old new (vs ++ v ∷ [])
-each-more G old mid new vs v p q = record {
-  bytes = p.bytes ++ q.bytes;
-  joined = q.joined ∙ ap (λ (l : List ℕ). l ++ q.bytes) p.joined ∙ append_assoc old p.bytes q.bytes;
-  spelled = Each-push G p.bytes q.bytes vs v p.spelled q.spelled;
-}
-
 module _ (N : ℕ → Name → Type 0) (ss : List ℕ) where
   pub catch-appends : (old mid new : List ℕ) (index : ℕ) (c : Catch) → Appends (Shortest Spells) old mid index → N index (OfDesc c.ty) → Appends (PlaceAt ss) mid new c.at → Appends (PacksCatch N ss) old new c
   catch-appends old mid new index c p n q =
       let t = via-appends (Shortest Spells) (λ i ty. N i (OfDesc ty)) old mid index c.ty p n in
-      let a = then-appends (TypeBy (Shortest Spells) (Shortest SpellsSigned) N ss) (λ _. PlaceAt ss) old mid new c.ty c.at t q in
+      let a = Then-appends (TypeBy (Shortest Spells) (Shortest SpellsSigned) N ss) (λ _. PlaceAt ss) old mid new c.ty c.at t q in
       record { bytes = a.bytes; joined = a.joined; spelled = a.spelled }
 
   pub all-none : (z : ℤ) (old : List ℕ) → (HasAll z → ⊥) → Appends (AllBy (Shortest Spells) (Shortest SpellsSigned) N ss z) old old None
@@ -55,8 +38,8 @@ module _ (N : ℕ → Name → Type 0) (ss : List ℕ) where
       → Appends (AllBy (Shortest Spells) (Shortest SpellsSigned) N ss z) b new h.all → Appends (PacksHandler N ss) old new h
   handler-appends old a b new z h e p q r =
       let m : Appends (Many (PacksCatch N ss) (catches_of z)) a b h.catches = record { bytes = q.bytes; joined = q.joined; spelled = (sym e, q.spelled) } in
-      let parts = then-appends (Many (PacksCatch N ss) (catches_of z)) (λ _. AllBy (Shortest Spells) (Shortest SpellsSigned) N ss z) a b new h.catches h.all m r in
-      let all = then-appends (Shortest SpellsSigned) (PartsBy (Shortest Spells) (Shortest SpellsSigned) N ss) old a new z (h.catches, h.all) p parts in
+      let parts = Then-appends (Many (PacksCatch N ss) (catches_of z)) (λ _. AllBy (Shortest Spells) (Shortest SpellsSigned) N ss z) a b new h.catches h.all m r in
+      let all = Then-appends (Shortest SpellsSigned) (PartsBy (Shortest Spells) (Shortest SpellsSigned) N ss) old a new z (h.catches, h.all) p parts in
       via-appends (Then (Shortest SpellsSigned) (PartsBy (Shortest Spells) (Shortest SpellsSigned) N ss)) (λ x y. x.1 ≡ (y.catches, y.all)) old new (z, (h.catches, h.all)) h all refl
 
   lacks : (n : ℕ) → 0 < n → HasAll (pos n) → ⊥

@@ -10,7 +10,7 @@ use Rattle.dex_insn.specs.Fields.{number, int_at, signed}
 use Rattle.dex_insn.proofs.Signs.{signed_32, unsigned_32}
 use Rattle.code_insns.specs.Symbols.{ints, ints_from, places, both}
 
-number-u32 : (b : List ℕ) (i : ℕ) → number b (2 * i) 2 ≡ u32_at b (4 * i)
+pub number-u32 : (b : List ℕ) (i : ℕ) → number b (2 * i) 2 ≡ u32_at b (4 * i)
 unfolding number u32_at
 number-u32 b i = let e : 2 * (2 * i) ≡ 4 * i = omega arith in ap (λ (m : ℕ). little_number 4 (drop m b)) e
 

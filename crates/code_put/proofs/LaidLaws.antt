@@ -16,10 +16,10 @@ use Rattle.code_read.specs.Tries.{handler_of}
 use Rattle.code_insns.proofs.ResolveLaws.{at-old, at-new}
 use Rattle.code_put.specs.Fits.{catches_in}
 use Rattle.code_put.specs.Packs.{AreByFirstUse, PacksHandler, PacksHandlersOf}
-use Rattle.code_put.specs.Writing.{IsDistinct, IsListed, joined_keys, places_of}
-use Rattle.code_put.proofs.DistinctLaws.{zip-length}
+use Rattle.code_put.specs.Writing.{IsDistinct, IsListed, joined_keys, places_from}
 use Rattle.code_put.proofs.ListLaws.{take-whole}
 use Rattle.code_put.proofs.ListedLaws.{bytes-few}
+use Rattle.base_bytes.proofs.ListFacts.{zip_length}
 
 -- the handlers, each with its place
 abbrev placed_of : ℕ → List (List ℕ) → List Handler → List (ℕ × Handler)
@@ -53,7 +53,7 @@ module _ (N : ℕ → Name → Type 0) (ss : List ℕ) where
   placed-handlers at (k ∷ ks) [] h = absurd h
   placed-handlers at (k ∷ ks) (x ∷ hs) h = ap (λ (l : List Handler). x ∷ l) (placed-handlers (at + length k) ks hs h.1)
 
-  places-low : (at : ℕ) (ks : List (List ℕ)) (hs : List Handler) (n : ℕ) → AllZip (PacksHandler N ss) ks hs → n < length ks → at ≤ get_or (places_of at ks) n 0
+  places-low : (at : ℕ) (ks : List (List ℕ)) (hs : List Handler) (n : ℕ) → AllZip (PacksHandler N ss) ks hs → n < length ks → at ≤ get_or (places_from at ks) n 0
   places-low at [] hs n h l = absurd (omega arith)
   places-low at (k ∷ ks) [] n h l = absurd h
   places-low at (k ∷ ks) (x ∷ hs) zero h l = omega arith
@@ -66,7 +66,7 @@ module _ (N : ℕ → Name → Type 0) (ss : List ℕ) where
   first-same t a x = grind (arith, nat_tests)
 
   -- the handler that begins at place n is handler n
-  handler-there : (at : ℕ) (ks : List (List ℕ)) (hs : List Handler) (n : ℕ) (h : Handler) → AllZip (PacksHandler N ss) ks hs → slice_get hs n ≡ Some h → handler_at (placed_of at ks hs) (get_or (places_of at ks) n 0) ≡ Some h
+  handler-there : (at : ℕ) (ks : List (List ℕ)) (hs : List Handler) (n : ℕ) (h : Handler) → AllZip (PacksHandler N ss) ks hs → slice_get hs n ≡ Some h → handler_at (placed_of at ks hs) (get_or (places_from at ks) n 0) ≡ Some h
   unfolding handler_at
   handler-there at [] [] n h z e = absurd cc
   handler-there at [] (x ∷ hs) n h z e = absurd z
@@ -75,9 +75,9 @@ module _ (N : ℕ → Name → Type 0) (ss : List ℕ) where
   handler-there at (k ∷ ks) (x ∷ hs) (suc n) h z e =
       let r = handler-there (at + length k) ks hs n h z.1 e in
       let v = slice_get_within hs n h e in
-      let low = places-low (at + length k) ks hs n z.1 (let m = zip-length (PacksHandler N ss) ks hs z.1 in omega arith) in
+      let low = places-low (at + length k) ks hs n z.1 (let m = zip_length (PacksHandler N ss) ks hs z.1 in omega arith) in
       let some = packs-some k x z.0 in
-      first-other _ at (get_or (places_of (at + length k) ks) n 0) x (λ q. omega arith) ∙ r
+      first-other _ at (get_or (places_from (at + length k) ks) n 0) x (λ q. omega arith) ∙ r
 
   pub laid : (ts : List Try) (keys : List (List ℕ)) (numbers list places offs : List ℕ) (n : ℕ) → n ≡ length ts → 0 < n → IsDistinct N ss ts n keys numbers → IsListed keys list places → length offs ≡ length numbers
       → ((i : ℕ) → i < length numbers → get_or offs i 0 ≡ get_or places (get_or numbers i 0) 0) → AllBytes list → PacksHandlersOf N ss ts list offs
@@ -93,7 +93,7 @@ module _ (N : ℕ → Name → Type 0) (ss : List ℕ) where
         offsets = record {
           count = c ∙ k ∙ en;
           each = λ i li.
-              let place : get_or offs i 0 ≡ get_or (places_of at keys) (get_or numbers i 0) 0 = o i (omega arith) ∙ ap (λ (ps : List ℕ). get_or ps (get_or numbers i 0) 0) l.places_are in
+              let place : get_or offs i 0 ≡ get_or (places_from at keys) (get_or numbers i 0) 0 = o i (omega arith) ∙ ap (λ (ps : List ℕ). get_or ps (get_or numbers i 0) 0) l.places_are in
               ap (handler_at hs) place ∙ handler-there at keys d.handlers (get_or numbers i 0) (handler_of (try_at ts i)) d.spelled (d.each i (omega arith));
         };
         bytes = bytes;
@@ -127,9 +127,9 @@ module _ (N : ℕ → Name → Type 0) (ss : List ℕ) where
 
   -- each number is that of a handler
   pub number-inside : (ts : List Try) (keys : List (List ℕ)) (numbers : List ℕ) (n i : ℕ) → IsDistinct N ss ts n keys numbers → i < n → get_or numbers i 0 < length keys
-  number-inside ts keys numbers n i d l = let v = slice_get_within d.handlers (get_or numbers i 0) (handler_of (try_at ts i)) (d.each i l) in let c = zip-length (PacksHandler N ss) keys d.handlers d.spelled in omega arith
+  number-inside ts keys numbers n i d l = let v = slice_get_within d.handlers (get_or numbers i 0) (handler_of (try_at ts i)) (d.each i l) in let c = zip_length (PacksHandler N ss) keys d.handlers d.spelled in omega arith
 
-pub length-places : (at : ℕ) (ks : List (List ℕ)) → length (places_of at ks) ≡ length ks
+pub length-places : (at : ℕ) (ks : List (List ℕ)) → length (places_from at ks) ≡ length ks
 length-places at [] = refl
 length-places at (k ∷ ks) = ap suc (length-places (at + length k) ks)
 

@@ -13,8 +13,11 @@ use Rattle.code_read.specs.Handlers.{Handler, PacksHandlers, handler_at}
 use Rattle.code_read.specs.Tries.{handler_of}
 use Rattle.code_insns.specs.Places.{Rises}
 use Rattle.code_put.specs.Packs.{IsFirstUse, PacksHandler, PacksHandlersOf}
-use Rattle.code_put.proofs.DistinctLaws.{some-same, zip-left}
+use Rattle.code_put.proofs.DistinctLaws.{zip-left}
 use Rattle.code_put.proofs.HandlerOnce.{IsInjective, handler-once, two-parts}
+use Rattle.code_put.proofs.WordOnce.{same_bytes}
+use Rattle.dex_insn.proofs.Mnemonics.{equal}
+use Rattle.code_insns.proofs.InsnsOnce.{some-one}
 
 -- ---- things in the order of their first use
 
@@ -78,8 +81,8 @@ rise-at : (xs : List ℕ) (k l x y : ℕ) → Rises xs → k < l → slice_get x
 rise-at xs k l x y r lt a b =
     let inside = slice_get_within xs l y b in
     let less = r.each k l lt inside in
-    let p : get_or xs k 0 ≡ x = some-same (slice_get xs k) _ _ (slice_get-get_or xs k 0 (omega (arith, lt, inside))) a in
-    let q : get_or xs l 0 ≡ y = some-same (slice_get xs l) _ _ (slice_get-get_or xs l 0 inside) b in
+    let p : get_or xs k 0 ≡ x = some-one (slice_get xs k) _ _ (slice_get-get_or xs k 0 (omega (arith, lt, inside))) a in
+    let q : get_or xs l 0 ≡ y = some-one (slice_get xs l) _ _ (slice_get-get_or xs l 0 inside) b in
     omega (arith, less, p, q)
 
 second : ℕ × Handler → Handler
@@ -93,9 +96,6 @@ second-get [] k r e = absurd cc
 second-get (p ∷ ps) zero r e = let q : p ≡ r = cc in ap (λ (s : ℕ × Handler). Some s.1) q
 second-get (p ∷ ps) (suc k) r e = second-get ps k r e
 
-same-number : (a b : ℕ) → (a == b) ≡ true → a ≡ b
-same-number a b e = grind (arith, nat_tests)
-
 -- a handler that begins at a place is one of the list
 handler-in : (hs : List (ℕ × Handler)) (off : ℕ) (h : Handler) → handler_at hs off ≡ Some h → (k : ℕ) × (r : ℕ × Handler) × (slice_get hs k ≡ Some r) × (r.0 ≡ off) × (r.1 ≡ h)
 unfolding handler_at
@@ -105,17 +105,8 @@ handler-in (p ∷ ps) off h e = by-test (p.0 == off) refl e (λ g. handler-in ps
     by-test : (b : Bool) → (p.0 == off) ≡ b → (if b then Some p.1 else handler_at ps off) ≡ Some h
         → (handler_at ps off ≡ Some h → (k : ℕ) × (r : ℕ × Handler) × (slice_get ps k ≡ Some r) × (r.0 ≡ off) × (r.1 ≡ h))
         → (k : ℕ) × (r : ℕ × Handler) × (slice_get (p ∷ ps) k ≡ Some r) × (r.0 ≡ off) × (r.1 ≡ h)
-    by-test true t g more = (zero, p, refl, same-number p.0 off t, cc)
+    by-test true t g more = (zero, p, refl, equal p.0 off t, cc)
     by-test false t g more = let r = more g in (suc r.0, r.1, r.2, r.3, r.4)
-
-same-list : (a b : List ℕ) → length a ≡ length b → ((i : ℕ) → i < length a → get_or a i 0 ≡ get_or b i 0) → a ≡ b
-same-list [] [] l e = refl
-same-list [] (y ∷ ys) l e = absurd (omega arith)
-same-list (x ∷ xs) [] l e = absurd (omega arith)
-same-list (x ∷ xs) (y ∷ ys) l e =
-    let h = e zero (omega arith) in
-    let t = same-list xs ys (omega arith) (λ i li. e (suc i) (omega arith)) in
-    (λ k. h k ∷ t k)
 
 module _ (N : ℕ → Name → Type 0) (ss : List ℕ) (inj : IsInjective N) where
   placed-once : (at : ℕ) (a b : List ℕ) (gs hs : List (ℕ × Handler)) → map (λ (p : ℕ × Handler). p.1) gs ≡ map (λ (p : ℕ × Handler). p.1) hs → AllBytes a → AllBytes b
@@ -200,7 +191,7 @@ module _ (N : ℕ → Name → Type 0) (ss : List ℕ) (inj : IsInjective N) whe
         let l = list-once (length ts) la lb p.handlers q.handlers e p.bytes q.bytes p.spelled q.spelled in
         let a = p.offsets.count in let b = q.offsets.count in (
           l.0,
-          same-list oa ob (a ∙ sym b) (λ i li.
+          same_bytes oa ob (a ∙ sym b) (λ i li.
               offset-once la oa p i (get_or oa i 0) (get_or ob i 0) (p.offsets.each i (omega arith))
               (ap (λ (hs : List (ℕ × Handler)). handler_at hs (get_or ob i 0)) l.1 ∙ q.offsets.each i (omega arith))),
         )

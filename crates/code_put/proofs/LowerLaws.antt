@@ -3,7 +3,7 @@ use Rattle.std.proofs.Common.{◌≡◌, ℕ, ℤ, ◌+◌, ◌*◌, ◌/◌, �
 use Rattle.std.specs.Prelude.{option_map, slice_get}
 use Rattle.dex_insn.specs.Raw as raw
 use Rattle.dex_insn.specs.Raw.{Raw, units}
-use Rattle.dex_insn.specs.Fields.{int_at, KeysRise}
+use Rattle.dex_insn.specs.Fields.{int_at, SwitchKeysRise}
 use Rattle.dex_insn.specs.RawInsns.{IsElementWidth}
 use Rattle.dex_insn.specs.Written.{written}
 use Rattle.program_types.specs.Content.{Name, Insn}
@@ -46,7 +46,7 @@ module _ (N : ℕ → Name → Type 0) (ss : List ℕ) (at count : ℕ) where
   sparse-lowers keys targets bytes offsets zs o k kl e l m p =
       let same = o.0 in let few = o.1 in
       let n : length bytes / 4 ≡ length keys = omega arith in
-      let rise : KeysRise bytes (length bytes / 4) = λ i j. o.3 i _ _ (ints-at bytes keys i k (omega arith)) (ints-at bytes keys (i + 1) k j) in
+      let rise : SwitchKeysRise bytes (length bytes / 4) = λ i j. o.3 i _ _ (ints-at bytes keys i k (omega arith)) (ints-at bytes keys (i + 1) k j) in
       record {
         says = record { symbol = ap (λ (x : Option (List ℕ)). option_map (λ to. made.Sparse (ints bytes) to) x) (ap (places (place ss at)) e ∙ p) ∙ ap (λ (ks : List ℤ). Some (made.Sparse ks targets)) k; named = tt };
         fits = (omega arith, omega arith, omega arith, rise);

@@ -3,10 +3,11 @@ use Rattle.std.proofs.Common.{◌≡◌, ◌≢◌, ℕ, ◌+◌, ◌<◌, List,
 use Rattle.std.proofs.lemmas.Bool.{cases_lt}
 use Rattle.program_types.specs.Content.{Insn}
 use Rattle.program_types.specs.Content as made
-use Rattle.program_types.specs.Formed.{insn_at, insn_payload, insn_wants, insn_reach, AreAlike, IsSwitch, Refers, PayloadHolds}
+use Rattle.program_types.specs.Formed.{insn_at, insn_payload, insn_wants, insn_reach, AreAlike, IsSwitch, RefersToPayload, PayloadHolds}
 use Rattle.program_types.specs.declared.payload.Payload.{Payload}
 use Rattle.program_types.specs.declared.payload.Payload.TheVariants as payload
-use Rattle.code_put.specs.Writing.{switched_by, AreOrigins, IsLastSwitch, AreSome}
+use Rattle.code_put.specs.Writing.{switched_by, AreOrigins, IsLastSwitch, AreLastSwitches}
+use Rattle.code_insns.proofs.Saying.{none-alike}
 
 -- ---- what a switch refers to
 
@@ -31,12 +32,6 @@ switch-of : (i : Insn) (k : ℕ) → switched_by i ≡ Some k → Switch i k
 unfolding switched_by insn_wants insn_reach
 switch-of (made.I31t op a to) k e = let w = wanted-by (op == 0x2b) (op == 0x2c) to k e in record { wants = w.0; alike = w.1; reach = w.2 }
 switch-of _ k e = cc
-
-none-alike : (p : Option Payload) → AreAlike None p → ⊥
-none-alike None h = h
-none-alike (Some payload.PackedSwitch) h = h
-none-alike (Some payload.SparseSwitch) h = h
-none-alike (Some payload.Array) h = h
 
 leads-by : (x y : Bool) (to : ℕ) (p : Option Payload) → AreAlike (Some (kind_by x y)) p → IsSwitch p → to_by x y to ≡ Some to
 leads-by true y to p h s = refl
@@ -70,8 +65,8 @@ switch-cases (Some payload.SparseSwitch) = inl tt
 switch-cases (Some payload.Array) = inr (λ s. s)
 
 -- in a code that is well formed a switch refers to a payload
-pub switch-refers : (is : List Insn) (j k : ℕ) → PayloadHolds is j → switched_by (insn_at is j) ≡ Some k → Refers is j k
-switch-refers is j k h e = let s = switch-of (insn_at is j) k e in subst (λ (n : ℕ). Refers is j n) s.reach (h.refers s.alike)
+pub switch-refers : (is : List Insn) (j k : ℕ) → PayloadHolds is j → switched_by (insn_at is j) ≡ Some k → RefersToPayload is j k
+switch-refers is j k h e = let s = switch-of (insn_at is j) k e in subst (λ (n : ℕ). RefersToPayload is j n) s.reach (h.refers s.alike)
 
 -- ---- a turn
 
@@ -81,10 +76,10 @@ last-more is m i k h no_switch = elim h [
   | inr a ↦ let l = a.0 in inr (omega arith, a.1)
 ]
 
-pub some-same : (is : List Insn) (m : ℕ) (js : List ℕ) → AreSome is m js → switched_by (insn_at is m) ≡ None → AreSome is (m + 1) js
+pub some-same : (is : List Insn) (m : ℕ) (js : List ℕ) → AreLastSwitches is m js → switched_by (insn_at is m) ≡ None → AreLastSwitches is (m + 1) js
 some-same is m js a e = record { count = a.count; each = λ k l. last-more is m k (get_or js k 0) (a.each k l) (λ f. cc) }
 
-pub some-set : (is : List Insn) (m k : ℕ) (js : List ℕ) → AreSome is m js → k < length is → switched_by (insn_at is m) ≡ Some k → AreSome is (m + 1) (set js k m)
+pub some-set : (is : List Insn) (m k : ℕ) (js : List ℕ) → AreLastSwitches is m js → k < length is → switched_by (insn_at is m) ≡ Some k → AreLastSwitches is (m + 1) (set js k m)
 some-set is m k js a inside e =
     let n = a.count in
     record {
@@ -102,10 +97,10 @@ some-set is m k js a inside e =
 
 -- ---- the begin and the end
 
-pub some-none : (is : List Insn) (js : List ℕ) → length js ≡ length is → ((k : ℕ) → k < length is → get_or js k 0 ≡ k) → AreSome is 0 js
+pub some-none : (is : List Insn) (js : List ℕ) → length js ≡ length is → ((k : ℕ) → k < length is → get_or js k 0 ≡ k) → AreLastSwitches is 0 js
 some-none is js n h = record { count = n; each = λ k l. inl (h k l, λ i m. absurd (omega arith)) }
 
-pub origins-all : (is : List Insn) (js : List ℕ) → ((k : ℕ) → k < length is → PayloadHolds is k) → AreSome is (length is) js → AreOrigins is js
+pub origins-all : (is : List Insn) (js : List ℕ) → ((k : ℕ) → k < length is → PayloadHolds is k) → AreLastSwitches is (length is) js → AreOrigins is js
 origins-all is js h a = record {
   count = a.count;
   each = λ k l. elim (a.each k l) [

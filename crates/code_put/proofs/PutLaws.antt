@@ -1,4 +1,4 @@
--- Instructions one behind the other.
+-- Instructions one after the other.
 use Rattle.std.proofs.Common.{◌≡◌, ◌≢◌, ℕ, ◌+◌, ◌<◌, ◌++◌, List, [], ◌∷◌, length, get_or, refl, ap, sym, ◌∙◌, arith, append_assoc, append-nil, subst, inl, inr, length-append, None, true}
 use Rattle.std.proofs.lemmas.Bool.{cases_lt}
 use Rattle.dex_insn.specs.Raw as raw

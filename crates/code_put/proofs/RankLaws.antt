@@ -8,23 +8,21 @@ use Rattle.tables_names.specs.Rank.{Rising, IsAt}
 use Rattle.tables_names.specs.Closure.{Five, AreRising, NameRanks}
 use Rattle.tables_names.proofs.PlaceLemmas.{rank_at}
 use Rattle.code_put.specs.Fits.{HasIndexBelow}
-
-place-one : (ks : List Key) (i j : ℕ) (k : Key) → Rising ks → IsAt ks i k → IsAt ks j k → i ≡ j
-place-one ks i j k r p q = sym (rank_at ks i k r p) ∙ rank_at ks j k r q
+use Rattle.tables_laws.proofs.FileLemmas.{one_place}
 
 -- a name has one index
 pub rank-one : (s : Five) (i j : ℕ) (which : Name) → AreRising s → NameRanks s i which → NameRanks s j which → i ≡ j
-rank-one s i j (OfText t) r p q = place-one s.strings i j _ r.strings p q
-rank-one s i j (OfDesc t) r p q = place-one s.types i j _ r.types p q
-rank-one s i j (OfField f) r p q = place-one s.fields i j _ r.fields p q
-rank-one s i j (OfMethod m) r p q = place-one s.methods i j _ r.methods p q
+rank-one s i j (OfText t) r p q = one_place s.strings i j _ r.strings p q
+rank-one s i j (OfDesc t) r p q = one_place s.types i j _ r.types p q
+rank-one s i j (OfField f) r p q = one_place s.fields i j _ r.fields p q
+rank-one s i j (OfMethod m) r p q = one_place s.methods i j _ r.methods p q
 
 pub below-limit : (s : Five) (i limit : ℕ) (which : Name) → AreRising s → NameRanks s i which → HasIndexBelow (NameRanks s) limit which → i < limit
 below-limit s i limit which r p h = let e = rank-one s i h.0 which r p h.2 in let l = h.1 in omega arith
 
 -- ---- an index has one name of a kind
 
-keys-one : (ks : List Key) (i : ℕ) (k l : Key) → IsAt ks i k → IsAt ks i l → k ≡ l
+pub keys-one : (ks : List Key) (i : ℕ) (k l : Key) → IsAt ks i k → IsAt ks i l → k ≡ l
 keys-one ks i k l p q = cc
 
 text-one : (s t : Units) → text_key s ≡ text_key t → s ≡ t

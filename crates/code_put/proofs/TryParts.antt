@@ -10,8 +10,8 @@ use Rattle.program_types.specs.Formed.{try_at, TryFormed}
 use Rattle.program_types.specs.View.{try, catch}
 use Rattle.program_types.specs.declared.code.Try.{Try as Held}
 use Rattle.code_put.specs.Fits.{catches_in}
-use Rattle.code_put.proofs.FormLaws.{all-front, all-back}
 use Rattle.code_put.proofs.ItemPieces.{seen-at}
+use Rattle.base_bytes.proofs.ListFacts.{all_front, all_back}
 
 all-named : (P : Name → Type 0) (cs : List Catch) → AllByRecursion P (map (λ (c : Catch). OfDesc c.ty) cs) → AllByRecursion (λ (c : Catch). P (OfDesc c.ty)) cs
 all-named P [] h = tt
@@ -19,8 +19,8 @@ all-named P (c ∷ cs) h = (h.0, all-named P cs h.1)
 
 caught-at : (P : Name → Type 0) (ts : List Try) (i : ℕ) → AllByRecursion P (flat_map names_of_try ts) → i < length ts → AllByRecursion (λ (c : Catch). P (OfDesc c.ty)) (try_at ts i).catches
 caught-at P [] i h l = absurd (omega arith)
-caught-at P (t ∷ ts) zero h l = all-named P t.catches (all-front P (names_of_try t) (flat_map names_of_try ts) h)
-caught-at P (t ∷ ts) (suc i) h l = caught-at P ts i (all-back P (names_of_try t) (flat_map names_of_try ts) h) (omega arith)
+caught-at P (t ∷ ts) zero h l = all-named P t.catches (all_front P (names_of_try t) (flat_map names_of_try ts) h)
+caught-at P (t ∷ ts) (suc i) h l = caught-at P ts i (all_back P (names_of_try t) (flat_map names_of_try ts) h) (omega arith)
 
 module _ (xs : List Held) (i : ℕ) (x : Held) (l : i < length xs) where
   pub few-catches : 26 + 18 * length xs + 10 * catches_in (map try xs) ≤ 4294967295 → length (get_or xs i x).catches.now ≤ 2147483647

@@ -12,7 +12,7 @@ use Rattle.program_types.specs.Content as made
 use Rattle.program_types.specs.Mentions.{names_of_code}
 use Rattle.program_types.specs.Kinds.{IsOfKind}
 use Rattle.program_types.specs.Sizes.{addresses_of, length_of}
-use Rattle.program_types.specs.Formed.{insn_at, try_at, insn_payload, insn_targets, Refers}
+use Rattle.program_types.specs.Formed.{insn_at, try_at, insn_payload, insn_targets, RefersToPayload}
 use Rattle.code_put.specs.Packs.{PacksHandlersOf}
 
 -- ---- indices
@@ -25,7 +25,7 @@ short_name (made.I35c op n regs which) = Some which
 short_name (made.I3rc op n first which) = Some which
 short_name _ = None
 
--- Its index fits the field, if the name is of this kind.
+-- The index of the name in the instruction fits its field of 16 bits, if there is such a name and it is of this kind.
 abbrev pub ShortFits : (ℕ → Name → Type 0) → IndexKind → Insn → Type 0
 ShortFits N k i = IfSome (short_name i) (λ which. IsOfKind k which → (index : ℕ) → N index which → index < 65536)
 
@@ -65,7 +65,7 @@ TargetsFit ss at i = AllByRecursion (λ to. FitsSigned w32 (distance_of ss at to
 -- The offsets in instruction k fit, those of a switch's payload counted from its switch.
 pub record OffsetsFit (is : List Insn) (ss : List ℕ) (k : ℕ) : Type 0 where
   pub branch : BranchFits ss (slice_index ss k) (insn_at is k)
-  pub targets : (j : ℕ) → Refers is j k → TargetsFit ss (slice_index ss j) (insn_at is k)
+  pub targets : (j : ℕ) → RefersToPayload is j k → TargetsFit ss (slice_index ss j) (insn_at is k)
 
 -- Instruction k, if it is a payload, has an even address.
 abbrev pub IsEven : List Insn → List ℕ → ℕ → Type 0
@@ -136,22 +136,22 @@ pub record CanBePut (N : ℕ → Name → Type 0) (c : Code) : Type 0 where
 -- ---- the limits that a code breaks
 
 -- The code breaks the limit of this number.
-pub data CodeBreaks (N : ℕ → Name → Type 0) (c : Code) : ℕ → Type 0 where
+pub data CodeBreaksLimit (N : ℕ → Name → Type 0) (c : Code) : ℕ → Type 0 where
   -- an index of a string, a field or a method is past its field of 16 bits
-  StringOutOfReach : (¬ AllInsns (ShortFits N kind.String) c) → CodeBreaks N c 82
-  FieldOutOfReach : (¬ AllInsns (ShortFits N kind.Field) c) → CodeBreaks N c 83
-  MethodOutOfReach : (¬ AllInsns (ShortFits N kind.Method) c) → CodeBreaks N c 84
+  StringOutOfReach : (¬ AllInsns (ShortFits N kind.String) c) → CodeBreaksLimit N c 82
+  FieldOutOfReach : (¬ AllInsns (ShortFits N kind.Field) c) → CodeBreaksLimit N c 83
+  MethodOutOfReach : (¬ AllInsns (ShortFits N kind.Method) c) → CodeBreaksLimit N c 84
   -- an offset is past its field, a payload has an odd address
-  BranchOutOfReach : (¬ AllNumbers OffsetsFit c) → CodeBreaks N c 85
-  Misaligned : (¬ AllNumbers IsEven c) → CodeBreaks N c 86
+  BranchOutOfReach : (¬ AllNumbers OffsetsFit c) → CodeBreaksLimit N c 85
+  Misaligned : (¬ AllNumbers IsEven c) → CodeBreaksLimit N c 86
   -- a try covers too much, there are too many
-  TryTooLong : (¬ AllTries TryFits c) → CodeBreaks N c 87
-  TooManyTries : 65535 < length c.tries → CodeBreaks N c 88
-  -- a handler is too far behind the begin of the list, in a code that is not too big itself
-  HandlerTooFar : wide_code c ≤ 4294967295 → SomeHandlerIsFar N (addresses_of c.insns) c.tries → CodeBreaks N c 89
+  TryTooLong : (¬ AllTries TryFits c) → CodeBreaksLimit N c 87
+  TooManyTries : 65535 < length c.tries → CodeBreaksLimit N c 88
+  -- a handler is too far after the begin of the list, in a code that is not too big itself
+  HandlerTooFar : wide_code c ≤ 4294967295 → SomeHandlerIsFar N (addresses_of c.insns) c.tries → CodeBreaksLimit N c 89
 
 -- The fault names the lowest limit that the code breaks; it has no place of its own.
 pub record IsUnfit (N : ℕ → Name → Type 0) (c : Code) (fault : Fault) : Type 0 where
-  pub breaks : CodeBreaks N c fault.code
-  pub lowest : (number : ℕ) → CodeBreaks N c number → fault.code ≤ number
+  pub breaks : CodeBreaksLimit N c fault.code
+  pub lowest : (number : ℕ) → CodeBreaksLimit N c number → fault.code ≤ number
   pub place : fault.place ≡ 0

@@ -1,3 +1,3 @@
-pub mod Packs
 pub mod Fits
+pub mod Packs
 pub mod Writing

@@ -8,7 +8,7 @@ use Rattle.base_bytes.specs.Fields.{u16_bytes, u32_bytes}
 use Rattle.dex_insn.specs.Raw.{Raw, units, is_payload}
 use Rattle.dex_insn.specs.Written.{written, IsRaw}
 use Rattle.program_types.specs.Content.{Name, Catch, Insn, Code, Try}
-use Rattle.program_types.specs.Formed.{insn_at, try_at, insn_payload, IsSwitch, Refers}
+use Rattle.program_types.specs.Formed.{insn_at, try_at, insn_payload, IsSwitch, RefersToPayload}
 use Rattle.program_types.specs.Sizes.{insn_units, addresses_of, length_of}
 use Rattle.code_insns.specs.Places.{Rises, place, position}
 use Rattle.code_insns.specs.Walk.{raw_at}
@@ -27,7 +27,7 @@ joined (r ∷ rs) = written r ++ joined rs
 -- The targets of instruction k count from instruction j: those of a switch's payload from its switch, all others from themselves.
 abbrev pub IsOrigin : List Insn → ℕ → ℕ → Type 0
 IsOrigin is k j =
-    (IsSwitch (insn_payload (insn_at is k)) × Refers is j k)
+    (IsSwitch (insn_payload (insn_at is k)) × RefersToPayload is j k)
     ⊎ ((¬ IsSwitch (insn_payload (insn_at is k))) × (j ≡ k))
 
 -- The raw instruction says the instruction, whose targets count from the address `at`, and can be written.
@@ -113,7 +113,7 @@ covered size ss t = min 65535 (bound_of size ss t.to - slice_index ss t.from)
 abbrev pub item_bytes : ℕ → List ℕ → Try → ℕ → List ℕ
 item_bytes size ss t off = u32_bytes (slice_index ss t.from) ++ u16_bytes (covered size ss t) ++ u16_bytes off
 
--- those of all of them, with the offsets of their handlers
+-- the bytes of all try_items, with the offsets of their handlers
 abbrev pub items_bytes : ℕ → List ℕ → List Try → List ℕ → List ℕ
 items_bytes size ss [] offs = []
 items_bytes size ss (t ∷ ts) [] = []
@@ -121,7 +121,7 @@ items_bytes size ss (t ∷ ts) (off ∷ offs) = item_bytes size ss t off ++ item
 
 -- ---- the item
 
--- the padding unit behind an odd number of units, if there are tries
+-- the padding unit after an odd number of units, if there are tries
 abbrev pub padding : ℕ → ℕ → List ℕ
 padding size n = if n == 0 then [] else (if size % 2 == 0 then [] else 0 ∷ 0 ∷ [])
 

@@ -29,8 +29,8 @@ IsLastSwitch is m k j =
     ((j ≡ k) × ((i : ℕ) → i < m → switched_by (insn_at is i) ≡ Some k → ⊥))
     ⊎ ((j < m) × (switched_by (insn_at is j) ≡ Some k))
 
--- the same of each instruction
-pub record AreSome (is : List Insn) (m : ℕ) (js : List ℕ) : Type 0 where
+-- Of each instruction the last among the first m that is a switch with it as its payload, or itself if there is none.
+pub record AreLastSwitches (is : List Insn) (m : ℕ) (js : List ℕ) : Type 0 where
   pub count : length js ≡ length is
   pub each : (k : ℕ) → k < length is → IsLastSwitch is m k (slice_index js k)
 
@@ -51,7 +51,7 @@ pub record Numbers (old new : List (List ℕ)) (bytes : List ℕ) (n : ℕ) : Ty
   pub there : slice_get new n ≡ Some bytes
   pub is_new : (new ≡ old) ⊎ ((n ≡ length old) × (new ≡ old ++ bytes ∷ []) × ((k : ℕ) → slice_get old k ≡ Some bytes → ⊥))
 
--- byte strings, one behind the other
+-- byte strings, one after the other
 abbrev pub joined_keys : List (List ℕ) → List ℕ
 joined_keys keys = flat_map (λ key. key) keys
 
@@ -67,7 +67,8 @@ pub record IsDistinct (N : ℕ → Name → Type 0) (ss : List ℕ) (ts : List T
   pub order : AreByFirstUse handlers ts
   pub early : AllByRecursion (λ i. i < n) order.firsts
 
--- So with all of the tries, of which there are some, and not too many.
+-- The byte strings are handlers, and the tries, of which there are some and not too many, have the handlers of these
+-- numbers, each once and in the order of first use.
 pub record IsDistinctOf (N : ℕ → Name → Type 0) (ss : List ℕ) (ts : List Try) (keys : List (List ℕ)) (numbers : List ℕ) : Type 0 where
   pub some : 0 < length ts
   pub few : length ts ≤ 65535
@@ -75,13 +76,13 @@ pub record IsDistinctOf (N : ℕ → Name → Type 0) (ss : List ℕ) (ts : List
   pub distinct : IsDistinct N ss ts (length ts) keys numbers
 
 -- where each of these stands, the first at a place
-abbrev pub places_of : ℕ → List (List ℕ) → List ℕ
-places_of at [] = []
-places_of at (k ∷ ks) = at ∷ places_of (at + length k) ks
+abbrev pub places_from : ℕ → List (List ℕ) → List ℕ
+places_from at [] = []
+places_from at (k ∷ ks) = at ∷ places_from (at + length k) ks
 
--- The bytes are a count and the byte strings behind it, at these places.
+-- The bytes are a count and the byte strings after it, at these places.
 pub record IsListed (keys : List (List ℕ)) (bytes places : List ℕ) : Type 0 where
   pub front : List ℕ
   pub count : Shortest Spells front (length keys)
   pub is : bytes ≡ front ++ joined_keys keys
-  pub places_are : places ≡ places_of (length front) keys
+  pub places_are : places ≡ places_from (length front) keys

@@ -55,7 +55,7 @@ fn put_catch(
     put_place(out, starts, one.at)
 }
 
-/// Appends catches, one behind the other.
+/// Appends catches, one after the other.
 fn put_catches(
     out: &mut Vec<u8>,
     ranks: &Ranks<'_>,

@@ -1,4 +1,4 @@
-//! Writing instructions, one behind the other.
+//! Writing instructions, one after the other.
 
 ghost use Rattle.std.specs.Prelude.{◌≡◌, ◌≤◌, ◌<◌, ℕ, List, None, length, map, OnOk, IsOkUnless, slice_index};
 ghost use Rattle.base_bytes.specs.Fault.{memory};

@@ -45,7 +45,7 @@ pub(crate) fn put_head(out: &mut Vec<u8>, code: &Code<'_>, size: u32) -> Result<
     put_u32(out, size)
 }
 
-/// Appends the padding unit behind an odd number of units, if there are tries.
+/// Appends the padding unit after an odd number of units, if there are tries.
 pub fn put_padding(out: &mut Vec<u8>, size: u32, tries: usize) -> Result<(), Fault>
     ensures ok { OnOk result (out.new.items ≡ out.old.items ++ padding size tries) }
     ensures memory { IsOkUnless result memory }

@@ -23,6 +23,12 @@ mod items;
 // All of it.
 mod writing;
 
+// What holds of what is written.
+mod code_laws;
+
+pub use code_laws::{
+    lowered_is_spelled, packed_is_one, packed_is_short, packed_is_spelled, packed_tries_are_spelled,
+};
 pub use handlers::{Distinct, Laid, lay_distinct, lay_handlers, number_of};
 pub use items::{put_padding, put_u16, put_u32};
 pub use origins::origins_of;

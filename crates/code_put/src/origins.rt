@@ -5,7 +5,7 @@ ghost use Rattle.base_bytes.specs.Fault.{memory};
 ghost use Rattle.program_types.specs.View.{insn};
 ghost use Rattle.program_types.specs.Formed.{insn_at, insn_payload, PayloadHolds};
 ghost use Rattle.code_put.specs.Packs.{IsOrigin};
-ghost use Rattle.code_put.specs.Writing.{switched_by, AreOrigins, AreSome};
+ghost use Rattle.code_put.specs.Writing.{switched_by, AreOrigins, AreLastSwitches};
 
 use dex_base::Fault;
 use program_types::Insn;
@@ -25,9 +25,9 @@ fn switched_by(one: &Insn<'_>) -> Option<u32>
 /// Notes each switch at its payload.
 fn mark_switches(all: &mut [u32], insns: &[Insn<'_>])
     requires few { length insns.now ≤ 2147483647 }
-    requires none { AreSome (map insn insns.now) 0 all.old }
+    requires none { AreLastSwitches (map insn insns.now) 0 all.old }
     requires payloads { (k : ℕ) → k < length insns.now → PayloadHolds (map insn insns.now) k }
-    ensures { AreSome (map insn insns.now) (length insns.now) all.new }
+    ensures { AreLastSwitches (map insn insns.now) (length insns.now) all.new }
 {
     for j in 0..insns.len() {
         match switched_by(&insns[j]) {

@@ -65,7 +65,7 @@ pub fn starts_of(alloc: Global, insns: &[Insn<'_>]) -> Result<Starts, Fault>
 }
 
 /// The address of each instruction of a code that is well formed, in units from its first one, and the length of all of
-/// them last. An error is want of memory.
+/// them last. It fails only when out of memory.
 ///
 /// Page: "Dalvik bytecode": addresses count 16-bit units.
 ///

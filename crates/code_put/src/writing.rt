@@ -19,7 +19,7 @@ use program_types::Code;
 use std::alloc::Global;
 use tables_names::Ranks;
 
-/// The bytes of the code item of a code, as [`put_code`] appends them. The only refusal is want of memory.
+/// The bytes of the code item of a code, as [`put_code`] appends them. It fails only when out of memory.
 pub fn make_item(alloc: Global, ranks: &Ranks<'_>, code: &Code<'_>) -> Result<Vec<u8>, Fault>
     requires formed { IsFormed (view.code code.now) }
     requires fits { FitsCode (NameRanks ranks.now) (view.code code.now) }
@@ -41,7 +41,7 @@ pub fn make_item(alloc: Global, ranks: &Ranks<'_>, code: &Code<'_>) -> Result<Ve
 }
 
 /// Appends the code item of a code that is well formed and fits, as [`fits`](crate::fits) says: no padding before it,
-/// the shortest LEB128 numbers, debug_info_off 0, and each handler once, in the order of first use by the tries. An error is want of
+/// the shortest LEB128 numbers, debug_info_off 0, and each handler once, in the order of first use by the tries. It fails only when out of
 /// memory, and leaves the Vec as it was.
 ///
 /// Page: "Dalvik Executable format", "code_item".

@@ -7,7 +7,7 @@ use Rattle.base_bytes.proofs.PlacedLaws.{Placed-weaker}
 use Rattle.dex_insn.specs.Raw as raw
 use Rattle.dex_insn.specs.Raw.{Raw}
 use Rattle.program_types.specs.Content.{Name, OfDesc, Insn, Try, Code}
-use Rattle.code_insns.specs.Symbols.{Says, Names, name_in}
+use Rattle.code_insns.specs.Symbols.{Says, InsnNames, name_in}
 use Rattle.code_insns.specs.Insns.{SpellsInsns}
 use Rattle.code_read.specs.Handlers.{Handler, PlaceBy, TypeBy, CatchBy, AllBy, PartsBy, HandlerBy, ListBy, SpellsHandlers, catches_of}
 use Rattle.code_read.specs.Tries.{SpellsTries}
@@ -15,7 +15,7 @@ use Rattle.code_read.specs.Code.{SpellsBody, BodyStands, SpellsCode, CodeStands}
 use Rattle.code_read.proofs.StandLaws.{code_body, body_code}
 
 module _ (M N : ℕ → Name → Type 0) (f : (i : ℕ) (which : Name) → M i which → N i which) where
-  pub names-weaker : (r : Raw) (which : Name) → Names M r which → Names N r which
+  pub names-weaker : (r : Raw) (which : Name) → InsnNames M r which → InsnNames N r which
   names-weaker (raw.I21c op a i) w p = record { kind = p.kind; stands = f i w p.stands }
   names-weaker (raw.I22c op a b i) w p = record { kind = p.kind; stands = f i w p.stands }
   names-weaker (raw.I31c op a i) w p = record { kind = p.kind; stands = f i w p.stands }
@@ -91,7 +91,7 @@ module _ (M N : ℕ → Name → Type 0) (f : (i : ℕ) (which : Name) → M i w
 
   pub body_weaker : (b : List ℕ) (off : ℕ) (c : Code) → BodyStands M b off c → BodyStands N b off c
   body_weaker b off c a =
-      record { begin = a.begin; end = a.end; section = a.section; behind = a.behind; aligned = a.aligned; size = a.size; within = a.within; spelled = SpellsBody-weaker _ c a.spelled }
+      record { begin = a.begin; end = a.end; section = a.section; after = a.after; aligned = a.aligned; size = a.size; within = a.within; spelled = SpellsBody-weaker _ c a.spelled }
 
   pub SpellsCode-weaker : Implies (SpellsCode M) (SpellsCode N)
   SpellsCode-weaker bytes c s = record { body = SpellsBody-weaker bytes c s.body; named = s.named }

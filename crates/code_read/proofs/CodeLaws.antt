@@ -4,14 +4,14 @@ use Rattle.std.proofs.lemmas.List.{take-take, take-append-drop}
 use Rattle.base_bytes.specs.Grammar.{Takes, IsPrefixUnique}
 use Rattle.base_bytes.specs.declared.fault.Fault.{Fault}
 use Rattle.dex_container.specs.Frame.{IsFramed}
-use Rattle.dex_container.specs.Where.{slice}
+use Rattle.dex_container.specs.Where.{slice, IsSectionRest}
 use Rattle.dex_container.proofs.Framed.{IsSection-one}
 use Rattle.dex_container.proofs.Standing.{At-one}
 use Rattle.program_types.specs.Content.{Name, Code}
 use Rattle.code_insns.specs.Symbols.{IsFunctional}
 use Rattle.program_types.specs.Formed.{RegistersHold}
 use Rattle.code_read.specs.Code.{SpellsBody, BodyStands, SpellsCode, CodeStands}
-use Rattle.code_read.specs.Faults.{CodeBreaks, IsRest, RegistersBreak, CodeOverruns}
+use Rattle.code_read.specs.Faults.{CodeBreaks, RegistersBreak, CodeOverruns}
 use Rattle.code_read.proofs.ItemLaws.{SpellsBody-unique, read-from_takes}
 use Rattle.code_read.proofs.FaultLaws.{item-clear}
 use Rattle.code_read.proofs.StandLaws.{outside_none, code_body}
@@ -20,7 +20,7 @@ pub body_one : (N : ℕ → Name → Type 0) → IsFunctional N → (b : List �
 body_one N one b framed off c d x y = At-one (SpellsBody N) (SpellsBody-unique N one) b framed 0x2001 4 off c d x y
 
 -- what stands at an offset begins what the section has from there on
-front_of : (N : ℕ → Name → Type 0) (b : List ℕ) → IsFramed b → (off end : ℕ) (bytes : List ℕ) → IsRest b off end bytes → (c : Code) → BodyStands N b off c → (after : List ℕ) × Takes (SpellsBody N) bytes c after
+front_of : (N : ℕ → Name → Type 0) (b : List ℕ) → IsFramed b → (off end : ℕ) (bytes : List ℕ) → IsSectionRest 0x2001 b off end bytes → (c : Code) → BodyStands N b off c → (after : List ℕ) × Takes (SpellsBody N) bytes c after
 unfolding slice
 front_of N b framed off end bytes r c a =
     let ends = (IsSection-one b framed 0x2001 a.begin a.end r.begin end a.section r.section).1 in

@@ -9,44 +9,44 @@ use Rattle.code_insns.specs.InsnFaults.{InsnsBreak}
 use Rattle.code_insns.specs.Reading.{ReadInsns}
 use Rattle.code_insns.proofs.InsnsOnce.{walks-one}
 use Rattle.code_insns.proofs.InsnFaultLaws.{insns-clear, rules-hold}
-use Rattle.code_read.specs.Item.{tries_of, size_of, units_end, tries_begin, list_begin, units_of, items_of, IsWhole}
+use Rattle.code_read.specs.Item.{tries_of, insns_size, units_end, tries_begin, list_begin, insns_bytes, items_of, HasFixedParts}
 use Rattle.code_read.specs.Tries.{SpellsTries, handler_of}
 use Rattle.program_types.specs.Formed.{try_at}
 use Rattle.code_read.specs.Faults.{HasHandlers, TriesBreak, ItemBreaks}
-use Rattle.code_read.specs.Reading.{ReadCode, IsItem}
+use Rattle.code_read.specs.Reading.{ReadCode, IsCodeItem}
 use Rattle.code_read.specs.declared.item.Item.{Item}
 use Rattle.code_read.proofs.ItemLaws.{begins_late}
 
 has-handlers : (N : ℕ → Name → Type 0) (ss : List ℕ) (size n : ℕ) (items list rest : List ℕ) (ts : List Try) → 0 < n → SpellsTries N ss size n items list ts → HasHandlers N ss n items (list ++ rest)
 has-handlers N ss size zero items list rest ts l s = absurd (omega arith)
 has-handlers N ss size (suc n) items list rest ts l s =
-    record { list = list; behind = rest; joined = refl; handlers = s.handlers; spelled = s.spelled; each = λ i m. (handler_of (try_at ts i), (s.each i m).handler) }
+    record { list = list; after = rest; joined = refl; handlers = s.handlers; spelled = s.spelled; each = λ i m. (handler_of (try_at ts i), (s.each i m).handler) }
 
 pub tries-clear : (N : ℕ → Name → Type 0) (ss : List ℕ) (size n : ℕ) (items list rest bytes : List ℕ) (base : ℕ) (ts : List Try) (fault : Fault) → bytes ≡ list ++ rest → SpellsTries N ss size n items list ts → TriesBreak N ss size n items bytes base fault → ⊥
 tries-clear N ss size n items list rest bytes base ts fault e s (inl b) = b.1.broken (s.hold b.0 b.1.inside)
 tries-clear N ss size n items list rest bytes base ts fault e s (inr b) = b.2 (subst (λ (z : List ℕ). HasHandlers N ss n items z) (sym e) (has-handlers N ss size n items list rest ts b.0 s))
 
-pub units-even : (bytes : List ℕ) → IsWhole bytes → length (units_of bytes) ≡ 2 * size_of bytes
+pub units-even : (bytes : List ℕ) → HasFixedParts bytes → length (insns_bytes bytes) ≡ 2 * insns_size bytes
 units-even bytes w =
     let late = begins_late bytes in let l = w.fixed in
-    slice-length bytes 16 (units_end bytes) (omega arith) (omega arith) ∙ (let z : units_end bytes - 16 ≡ 2 * size_of bytes = omega arith in z)
+    slice-length bytes 16 (units_end bytes) (omega arith) (omega arith) ∙ (let z : units_end bytes - 16 ≡ 2 * insns_size bytes = omega arith in z)
 
 pub item-clear : (N : ℕ → Name → Type 0) (off : ℕ) (bytes rest : List ℕ) (c : Code) (fault : Fault) → ReadCode N bytes rest c → ItemBreaks N off bytes fault → ⊥
 item-clear N off bytes rest c fault r (inl b) = b.0 r.whole
 item-clear N off bytes rest c fault r (inr (inl b)) = let s = r.some in let z = b.1 in omega arith
-item-clear N off bytes rest c fault r (inr (inr (inl b))) = let u = units-even bytes r.whole in insns-clear N (units_of bytes) r.raws c.insns (off + 16) fault (omega arith) r.insns b.2
+item-clear N off bytes rest c fault r (inr (inr (inl b))) = let u = units-even bytes r.whole in insns-clear N (insns_bytes bytes) r.raws c.insns (off + 16) fault (omega arith) r.insns b.2
 item-clear N off bytes rest c fault r (inr (inr (inr b))) =
-    let e = walks-one (units_of bytes) b.2 r.raws b.3 r.insns.walk in
-    tries-clear N (starts b.2) (size_of bytes) (tries_of bytes) (items_of bytes) r.list rest (drop (list_begin bytes) bytes) (off + tries_begin bytes) c.tries fault r.joined
-    (subst (λ (rs : List Raw). SpellsTries N (starts rs) (size_of bytes) (tries_of bytes) (items_of bytes) r.list c.tries) (sym e) r.tries) b.5
+    let e = walks-one (insns_bytes bytes) b.2 r.raws b.3 r.insns.walk in
+    tries-clear N (starts b.2) (insns_size bytes) (tries_of bytes) (items_of bytes) r.list rest (drop (list_begin bytes) bytes) (off + tries_begin bytes) c.tries fault r.joined
+    (subst (λ (rs : List Raw). SpellsTries N (starts rs) (insns_size bytes) (tries_of bytes) (items_of bytes) r.list c.tries) (sym e) r.tries) b.5
 
 -- ---- what the stages of reading refuse
 
-pub insns-break : (N : ℕ → Name → Type 0) (off at : ℕ) (bytes us : List ℕ) (fault : Fault) → IsWhole bytes → 0 < size_of bytes → us ≡ units_of bytes → at ≡ off → InsnsBreak N us (at + 16) fault → ItemBreaks N off bytes fault
+pub insns-break : (N : ℕ → Name → Type 0) (off at : ℕ) (bytes us : List ℕ) (fault : Fault) → HasFixedParts bytes → 0 < insns_size bytes → us ≡ insns_bytes bytes → at ≡ off → InsnsBreak N us (at + 16) fault → ItemBreaks N off bytes fault
 insns-break N off at bytes us fault w s e a b =
-    inr (inr (inl (w, s, subst (λ (z : ℕ). InsnsBreak N (units_of bytes) (z + 16) fault) a (subst (λ (z : List ℕ). InsnsBreak N z (at + 16) fault) e b))))
+    inr (inr (inl (w, s, subst (λ (z : ℕ). InsnsBreak N (insns_bytes bytes) (z + 16) fault) a (subst (λ (z : List ℕ). InsnsBreak N z (at + 16) fault) e b))))
 
-pub tries-break : (N : ℕ → Name → Type 0) (off at : ℕ) (bytes begins : List ℕ) (i : Item) (is : List Insn) (fault : Fault) → IsItem bytes i → 0 < size_of bytes → at ≡ off → ReadInsns N i.units.now begins is
+pub tries-break : (N : ℕ → Name → Type 0) (off at : ℕ) (bytes begins : List ℕ) (i : Item) (is : List Insn) (fault : Fault) → IsCodeItem bytes i → 0 < insns_size bytes → at ≡ off → ReadInsns N i.units.now begins is
     → TriesBreak N begins i.size i.tries i.items.now i.list.now (at + i.items_at) fault → ItemBreaks N off bytes fault
 tries-break N off at bytes begins i is fault p s a r b =
     inr (inr (inr (
@@ -55,7 +55,7 @@ tries-break N off at bytes begins i is fault p s a r b =
       r.raws,
       subst (λ (us : List ℕ). Walks us r.raws) p.units r.insns.walk,
       rules-hold N i.units.now r.raws is r.insns,
-      subst (λ (z : List ℕ). TriesBreak N z (size_of bytes) (tries_of bytes) (items_of bytes) (drop (list_begin bytes) bytes) (off + tries_begin bytes) fault) r.table.is
+      subst (λ (z : List ℕ). TriesBreak N z (insns_size bytes) (tries_of bytes) (items_of bytes) (drop (list_begin bytes) bytes) (off + tries_begin bytes) fault) r.table.is
           (subst (λ (z : ℕ). TriesBreak N begins z (tries_of bytes) (items_of bytes) (drop (list_begin bytes) bytes) (off + tries_begin bytes) fault) p.size
           (subst (λ (z : ℕ). TriesBreak N begins i.size z (items_of bytes) (drop (list_begin bytes) bytes) (off + tries_begin bytes) fault) p.tries
           (subst (λ (z : List ℕ). TriesBreak N begins i.size i.tries z (drop (list_begin bytes) bytes) (off + tries_begin bytes) fault) p.items

@@ -10,24 +10,24 @@ use Rattle.program_types.specs.Content.{Name, Code, Insn, Try}
 use Rattle.code_insns.specs.Walk.{starts}
 use Rattle.code_insns.specs.Symbols.{IsFunctional}
 use Rattle.code_insns.specs.Reading.{ReadInsns}
-use Rattle.code_read.specs.Item.{tries_of, size_of, units_end, tries_begin, list_begin, units_of, items_of}
+use Rattle.code_read.specs.Item.{tries_of, insns_size, units_end, tries_begin, list_begin, insns_bytes, items_of}
 use Rattle.code_insns.specs.Insns.{SpellsInsns}
 use Rattle.code_read.specs.Tries.{SpellsTries}
 use Rattle.code_read.specs.Code.{SpellsBody}
-use Rattle.code_read.specs.Reading.{ReadCode, ReadTries, IsItem}
+use Rattle.code_read.specs.Reading.{ReadCode, ReadTries, IsCodeItem}
 use Rattle.code_read.specs.declared.item.Item.{Item}
 use Rattle.code_insns.proofs.InsnsOnce.{walks-one, insns-one}
 use Rattle.code_read.proofs.TriesOnce.{tries-one}
 use Rattle.base_bytes.proofs.GrammarLaws.{rest_same}
 
--- the try_items begin behind the header and the units
+-- the try_items begin after the header and the units
 pub begins_late : (bytes : List ℕ) → units_end bytes ≤ tries_begin bytes
 unfolding tries_begin
 begins_late bytes = omega arith
 
 -- the fields of a front that is long enough are those of the whole
 module _ (f b : List ℕ) (head : 16 ≤ length f) where
-  pub size-front : size_of (f ++ b) ≡ size_of f
+  pub size-front : insns_size (f ++ b) ≡ insns_size f
   size-front = u32_at-front f b 12 (omega arith)
 
   pub tries-front : tries_of (f ++ b) ≡ tries_of f
@@ -42,7 +42,7 @@ module _ (f b : List ℕ) (head : 16 ≤ length f) where
   pub list-front : list_begin (f ++ b) ≡ list_begin f
   list-front = let s = begin-front in let t = tries-front in (λ i. s i + 8 * t i)
 
-  pub units-front : list_begin f ≤ length f → units_of (f ++ b) ≡ units_of f
+  pub units-front : list_begin f ≤ length f → insns_bytes (f ++ b) ≡ insns_bytes f
   units-front l =
       let s = size-front in
       let late = begins_late f in
@@ -74,8 +74,8 @@ read-from_front N f rest c s =
       joined = ap (λ (k : ℕ). drop k (f ++ rest)) list ∙ drop-append-le (list_begin f) f rest l;
       tries =
           subst (λ (z : ℕ). SpellsTries N (starts s.raws) z (tries_of (f ++ rest)) (items_of (f ++ rest)) (drop (list_begin f) f) c.tries) (sym size)
-          (subst (λ (z : ℕ). SpellsTries N (starts s.raws) (size_of f) z (items_of (f ++ rest)) (drop (list_begin f) f) c.tries) (sym n)
-          (subst (λ (z : List ℕ). SpellsTries N (starts s.raws) (size_of f) (tries_of f) z (drop (list_begin f) f) c.tries) (sym it) s.tries));
+          (subst (λ (z : ℕ). SpellsTries N (starts s.raws) (insns_size f) z (items_of (f ++ rest)) (drop (list_begin f) f) c.tries) (sym n)
+          (subst (λ (z : List ℕ). SpellsTries N (starts s.raws) (insns_size f) (tries_of f) z (drop (list_begin f) f) c.tries) (sym it) s.tries));
     }
 
 pub read-from_takes : (N : ℕ → Name → Type 0) (bytes rest : List ℕ) (c : Code) → Takes (SpellsBody N) bytes c rest → ReadCode N bytes rest c
@@ -100,9 +100,9 @@ read-to_front N f rest c h l r =
       raws = r.raws;
       insns = subst (λ (us : List ℕ). SpellsInsns N us r.raws c.insns) u r.insns;
       tries =
-          subst (λ (z : List ℕ). SpellsTries N (starts r.raws) (size_of f) (tries_of f) (items_of f) z c.tries) (sym d)
-          (subst (λ (z : List ℕ). SpellsTries N (starts r.raws) (size_of f) (tries_of f) z r.list c.tries) it
-          (subst (λ (z : ℕ). SpellsTries N (starts r.raws) (size_of f) z (items_of (f ++ rest)) r.list c.tries) n
+          subst (λ (z : List ℕ). SpellsTries N (starts r.raws) (insns_size f) (tries_of f) (items_of f) z c.tries) (sym d)
+          (subst (λ (z : List ℕ). SpellsTries N (starts r.raws) (insns_size f) (tries_of f) z r.list c.tries) it
+          (subst (λ (z : ℕ). SpellsTries N (starts r.raws) (insns_size f) z (items_of (f ++ rest)) r.list c.tries) n
           (subst (λ (z : ℕ). SpellsTries N (starts r.raws) z (tries_of (f ++ rest)) (items_of (f ++ rest)) r.list c.tries) size r.tries)));
     }
 
@@ -125,12 +125,12 @@ takes-from_read N bytes rest c r =
 abbrev pub code_with : Item → List Insn → List Try → Code
 code_with i is ts = record { registers = i.registers; ins = i.ins; outs = i.outs; insns = is; tries = ts }
 
-pub item-read : (N : ℕ → Name → Type 0) (bytes begins : List ℕ) (i : Item) (is : List Insn) (ts : List Try) → IsItem bytes i → i.size ≢ 0
+pub item-read : (N : ℕ → Name → Type 0) (bytes begins : List ℕ) (i : Item) (is : List Insn) (ts : List Try) → IsCodeItem bytes i → i.size ≢ 0
     → ReadInsns N i.units.now begins is → ReadTries N begins i.size i.tries i.items.now i.list.now ts → (rest : List ℕ) × Takes (SpellsBody N) bytes (code_with i is ts) rest
 item-read N bytes begins i is ts p nz a b =
     let size = p.size in (
-      b.behind,
-      takes-from_read N bytes b.behind (code_with i is ts) (record {
+      b.after,
+      takes-from_read N bytes b.after (code_with i is ts) (record {
         whole = p.whole;
         some = omega arith;
         registers = p.registers;
@@ -141,7 +141,7 @@ item-read N bytes begins i is ts p nz a b =
         list = b.list;
         joined = sym p.list ∙ b.joined;
         tries =
-            subst (λ (z : List ℕ). SpellsTries N z (size_of bytes) (tries_of bytes) (items_of bytes) b.list ts) a.table.is
+            subst (λ (z : List ℕ). SpellsTries N z (insns_size bytes) (tries_of bytes) (items_of bytes) b.list ts) a.table.is
             (subst (λ (z : ℕ). SpellsTries N begins z (tries_of bytes) (items_of bytes) b.list ts) p.size
             (subst (λ (z : ℕ). SpellsTries N begins i.size z (items_of bytes) b.list ts) p.tries
             (subst (λ (z : List ℕ). SpellsTries N begins i.size i.tries z b.list ts) p.items b.tries)));
@@ -152,11 +152,11 @@ item-read N bytes begins i is ts p nz a b =
 
 pub read-one : (N : ℕ → Name → Type 0) (bytes r s : List ℕ) (c d : Code) → IsFunctional N → ReadCode N bytes r c → ReadCode N bytes s d → (c ≡ d) × (r ≡ s)
 read-one N bytes r s c d f p q =
-    let e = walks-one (units_of bytes) p.raws q.raws p.insns.walk q.insns.walk in
-    let i = insns-one N (units_of bytes) p.raws c.insns d.insns f p.insns (subst (λ (rs : List Raw). SpellsInsns N (units_of bytes) rs d.insns) (sym e) q.insns) in
-    let t = subst (λ (rs : List Raw). SpellsTries N (starts rs) (size_of bytes) (tries_of bytes) (items_of bytes) q.list d.tries) (sym e) q.tries in
+    let e = walks-one (insns_bytes bytes) p.raws q.raws p.insns.walk q.insns.walk in
+    let i = insns-one N (insns_bytes bytes) p.raws c.insns d.insns f p.insns (subst (λ (rs : List Raw). SpellsInsns N (insns_bytes bytes) rs d.insns) (sym e) q.insns) in
+    let t = subst (λ (rs : List Raw). SpellsTries N (starts rs) (insns_size bytes) (tries_of bytes) (items_of bytes) q.list d.tries) (sym e) q.tries in
     let j = sym p.joined ∙ q.joined in
-    let both = tries-one N (starts p.raws) (size_of bytes) (tries_of bytes) (items_of bytes) p.list q.list r s c.tries d.tries f p.tries t j in
+    let both = tries-one N (starts p.raws) (insns_size bytes) (tries_of bytes) (items_of bytes) p.list q.list r s c.tries d.tries f p.tries t j in
     let a = p.registers ∙ sym q.registers in let b = p.ins ∙ sym q.ins in let o = p.outs ∙ sym q.outs in
     ((λ k. record { registers = a k; ins = b k; outs = o k; insns = i k; tries = both.1 k }), rest_same p.list q.list r s both.0 j)
 

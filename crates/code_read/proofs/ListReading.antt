@@ -19,13 +19,13 @@ use Rattle.code_read.specs.Reading.{ReadList, ReadSome}
 use Rattle.code_read.proofs.HandlerLaws.{handler-unique}
 
 module _ (N : ℕ → Name → Type 0) (ss : List ℕ) where
-  pub some-none : (bytes behind offsets : List ℕ) (hs : List Caught) → offsets ≡ [] → hs ≡ [] → ReadSome N ss bytes behind behind offsets (map handler hs) 0
-  some-none bytes behind offsets hs a b = record { front = []; joined = refl; placed = []; spelled = refl; offsets_are = a; handlers_are = ap (map handler) b; count = refl }
+  pub some-none : (bytes entries offsets : List ℕ) (hs : List Caught) → offsets ≡ [] → hs ≡ [] → ReadSome N ss bytes entries entries offsets (map handler hs) 0
+  some-none bytes entries offsets hs a b = record { front = []; joined = refl; placed = []; spelled = refl; offsets_are = a; handlers_are = ap (map handler) b; count = refl }
 
-  pub some-more : (bytes behind left after offsets new : List ℕ) (hs more : List Caught) (h : Caught) (n at : ℕ) → ReadSome N ss bytes behind left offsets (map handler hs) n → Takes (SpellsHandler N ss) left (handler h) after
-      → length behind ≤ length bytes → at ≡ length bytes - length left → new ≡ offsets ++ at ∷ [] → more ≡ hs ++ h ∷ [] → ReadSome N ss bytes behind after new (map handler more) (n + 1)
-  some-more bytes behind left after offsets new hs more h n at s t l e a b =
-      let start = length bytes - length behind in
+  pub some-more : (bytes entries left after offsets new : List ℕ) (hs more : List Caught) (h : Caught) (n at : ℕ) → ReadSome N ss bytes entries left offsets (map handler hs) n → Takes (SpellsHandler N ss) left (handler h) after
+      → length entries ≤ length bytes → at ≡ length bytes - length left → new ≡ offsets ++ at ∷ [] → more ≡ hs ++ h ∷ [] → ReadSome N ss bytes entries after new (map handler more) (n + 1)
+  some-more bytes entries left after offsets new hs more h n at s t l e a b =
+      let start = length bytes - length entries in
       let j = ap length s.joined ∙ length-append s.front left in
       let place : start + length s.front ≡ at = omega arith in
       let push = Placed-push (SpellsHandler N ss) start s.front t.front s.placed (handler h) s.spelled t.spelled in
@@ -39,13 +39,13 @@ module _ (N : ℕ → Name → Type 0) (ss : List ℕ) where
         count = let c = s.count in omega (arith, length-append s.placed ((at, handler h) ∷ []));
       }
 
-  pub some-all : (bytes behind left offsets : List ℕ) (hs : List Handler) (n : ℕ) → Takes Spells bytes n behind → ReadSome N ss bytes behind left offsets hs n → ReadList N ss bytes offsets hs
-  some-all bytes behind left offsets hs n t s =
-      let l = Takes-length Spells bytes n behind t in
-      let start : length bytes - length behind ≡ length t.front = omega arith in
+  pub some-all : (bytes entries left offsets : List ℕ) (hs : List Handler) (n : ℕ) → Takes Spells bytes n entries → ReadSome N ss bytes entries left offsets hs n → ReadList N ss bytes offsets hs
+  some-all bytes entries left offsets hs n t s =
+      let l = Takes-length Spells bytes n entries t in
+      let start : length bytes - length entries ≡ length t.front = omega arith in
       record {
         list = t.front ++ s.front;
-        behind = left;
+        after = left;
         joined = t.whole ∙ ap (λ (z : List ℕ). t.front ++ z) s.joined ∙ sym (append_assoc t.front s.front left);
         placed = s.placed;
         spelled = record {
@@ -62,10 +62,10 @@ module _ (N : ℕ → Name → Type 0) (ss : List ℕ) where
   pub list-none-count : (bytes : List ℕ) → NoneBegins Spells bytes → NoneBegins (SpellsList N ss) bytes
   list-none-count bytes none front rest hs e s = none s.front (s.back ++ rest) (length hs) (e ∙ ap (λ (z : List ℕ). z ++ rest) s.joined ∙ append_assoc s.front s.back rest) s.count
 
-  pub list-none : IsFunctional N → (bytes behind left offsets : List ℕ) (hs : List Handler) (n turn : ℕ) → Takes Spells bytes n behind → ReadSome N ss bytes behind left offsets hs turn → turn < n → NoneBegins (SpellsHandler N ss) left → NoneBegins (SpellsList N ss) bytes
-  list-none f bytes behind left offsets hs n turn t s l none front rest gs e q =
+  pub list-none : IsFunctional N → (bytes entries left offsets : List ℕ) (hs : List Handler) (n turn : ℕ) → Takes Spells bytes n entries → ReadSome N ss bytes entries left offsets hs turn → turn < n → NoneBegins (SpellsHandler N ss) left → NoneBegins (SpellsList N ss) bytes
+  list-none f bytes entries left offsets hs n turn t s l none front rest gs e q =
       let w : bytes ≡ q.front ++ (q.back ++ rest) = e ∙ ap (λ (z : List ℕ). z ++ rest) q.joined ∙ append_assoc q.front q.back rest in
-      let one = Takes-unique Spells bytes n (length gs) behind (q.back ++ rest) spells_unique t (record { front = q.front; whole = w; spelled = q.count }) in
+      let one = Takes-unique Spells bytes n (length gs) entries (q.back ++ rest) spells_unique t (record { front = q.front; whole = w; spelled = q.count }) in
       let k = s.count in let m = one.0 in
       let short : length (map (λ (p : ℕ × Handler). p.1) s.placed) < length (map (λ (p : ℕ × Handler). p.1) gs) = omega (arith, length-map s.placed (λ (p : ℕ × Handler). p.1), length-map gs (λ (p : ℕ × Handler). p.1)) in
       let next = Each-next (SpellsHandler N ss) (handler-unique Spells SpellsSigned N ss spells_unique signed_unique f) (map (λ (p : ℕ × Handler). p.1) s.placed) (map (λ (p : ℕ × Handler). p.1) gs) s.front q.back left rest short
@@ -93,8 +93,8 @@ module _ (N : ℕ → Name → Type 0) (ss : List ℕ) where
       let e = h.3 in let s = handler-some h.0 p.1 h.4 in omega arith
   placed-rises start bytes (p ∷ ps) (suc i) (suc j) h a l = placed-rises (start + length h.0) h.1 ps i j h.5 (omega arith) (omega arith)
 
-  pub offsets-rise : (bytes behind left offsets : List ℕ) (hs : List Handler) (n : ℕ) → ReadSome N ss bytes behind left offsets hs n → Rises offsets
-  offsets-rise bytes behind left offsets hs n s =
+  pub offsets-rise : (bytes entries left offsets : List ℕ) (hs : List Handler) (n : ℕ) → ReadSome N ss bytes entries left offsets hs n → Rises offsets
+  offsets-rise bytes entries left offsets hs n s =
       let k = length-map s.placed (λ (p : ℕ × Handler). p.0) in
       let o = ap length s.offsets_are in
       record { each = λ i j a l. rw s.offsets_are (placed-rises _ s.front s.placed i j s.spelled a (omega arith)) }

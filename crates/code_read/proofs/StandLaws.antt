@@ -17,15 +17,13 @@ use Rattle.code_read.specs.Code.{SpellsBody, BodyStands, CodeStands}
 use Rattle.code_read.specs.Faults.{ItemBreaks, CodeBreaks}
 use Rattle.code_read.proofs.ItemLaws.{SpellsBody-unique, read-from_takes}
 use Rattle.code_read.proofs.FaultLaws.{item-clear}
-
-some_same : {V : Type 0} (o : Option V) (a b : V) → o ≡ Some a → o ≡ Some b → a ≡ b
-some_same o a b p q = cc
+use Rattle.code_insns.proofs.InsnsOnce.{some-one}
 
 pub NameIsAt-functional : (names : Names) → IsFunctional (NameIsAt names)
-NameIsAt-functional names kind.String i (OfText m) (OfText n) a b p q = ap OfText (some_same _ m n p q)
-NameIsAt-functional names kind.Type i (OfDesc m) (OfDesc n) a b p q = ap OfDesc (some_same _ m n p q)
-NameIsAt-functional names kind.Field i (OfField m) (OfField n) a b p q = ap OfField (some_same _ m n p q)
-NameIsAt-functional names kind.Method i (OfMethod m) (OfMethod n) a b p q = ap OfMethod (some_same _ m n p q)
+NameIsAt-functional names kind.String i (OfText m) (OfText n) a b p q = ap OfText (some-one _ m n p q)
+NameIsAt-functional names kind.Type i (OfDesc m) (OfDesc n) a b p q = ap OfDesc (some-one _ m n p q)
+NameIsAt-functional names kind.Field i (OfField m) (OfField n) a b p q = ap OfField (some-one _ m n p q)
+NameIsAt-functional names kind.Method i (OfMethod m) (OfMethod n) a b p q = ap OfMethod (some-one _ m n p q)
 NameIsAt-functional names kind.String i (OfText m) _ a b p q = absurd b
 NameIsAt-functional names kind.Type i (OfDesc m) _ a b p q = absurd b
 NameIsAt-functional names kind.Field i (OfField m) _ a b p q = absurd b
@@ -35,11 +33,11 @@ NameIsAt-functional names _ i _ _ a b p q = absurd a
 -- a code that stands is one whose registers hold
 pub code_body : (N : ℕ → Name → Type 0) (b : List ℕ) (off : ℕ) (c : Code) → CodeStands N b off c → BodyStands N b off c
 code_body N b off c a =
-    record { begin = a.begin; end = a.end; section = a.section; behind = a.behind; aligned = a.aligned; size = a.size; within = a.within; spelled = a.spelled.body }
+    record { begin = a.begin; end = a.end; section = a.section; after = a.after; aligned = a.aligned; size = a.size; within = a.within; spelled = a.spelled.body }
 
 pub body_code : (N : ℕ → Name → Type 0) (b : List ℕ) (off : ℕ) (c : Code) → RegistersHold c → BodyStands N b off c → CodeStands N b off c
 body_code N b off c h a =
-    record { begin = a.begin; end = a.end; section = a.section; behind = a.behind; aligned = a.aligned; size = a.size; within = a.within; spelled = record { body = a.spelled; named = h } }
+    record { begin = a.begin; end = a.end; section = a.section; after = a.after; aligned = a.aligned; size = a.size; within = a.within; spelled = record { body = a.spelled; named = h } }
 
 at_some : (N : ℕ → Name → Type 0) (b : List ℕ) (off : ℕ) (c : Code) (a : BodyStands N b off c) → 0 < a.size
 unfolding slice
@@ -77,4 +75,4 @@ module _ (N : ℕ → Name → Type 0) (b rest : List ℕ) (s : Section) (off : 
 
   pub broken : (fault : Fault) → s.begin ≤ off → off < s.end → off % 4 ≡ 0 → ItemBreaks N off rest fault → CodeBreaks N b off fault
   broken fault low high even u =
-      inr (inr (even, s.end, rest, record { begin = s.begin; section = is.some (omega (arith, low, high)); behind = low; before = high; same = same }, u))
+      inr (inr (even, s.end, rest, record { begin = s.begin; section = is.some (omega (arith, low, high)); after = low; before = high; same = same }, u))

@@ -60,7 +60,7 @@ missing (p ∷ ps) off h e g = missing_case (p.0 == off) ps p.1 off h e g (λ a 
 
 pub no-tries : (N : ℕ → Name → Type 0) (ss : List ℕ) (size n : ℕ) (items rest : List ℕ) → n ≡ 0 → ReadTries N ss size n items rest []
 no-tries N ss size zero items rest e =
-    record { list = []; behind = rest; joined = refl; tries = record { count = refl; hold = λ k l. absurd (omega arith); handlers = []; spelled = (refl, refl); each = λ k l. absurd (omega arith) } }
+    record { list = []; after = rest; joined = refl; tries = record { count = refl; hold = λ k l. absurd (omega arith); handlers = []; spelled = (refl, refl); each = λ k l. absurd (omega arith) } }
 no-tries N ss size (suc n) items rest e = absurd (omega arith)
 
 pub some-tries : (N : ℕ → Name → Type 0) (ss : List ℕ) (size n : ℕ) (items rest offsets : List ℕ) (hs : List Handler) (ts : List Try) → n ≢ 0 → AllHold (TryHolds ss size items) n
@@ -68,7 +68,7 @@ pub some-tries : (N : ℕ → Name → Type 0) (ss : List ℕ) (size n : ℕ) (i
 some-tries N ss size zero items rest offsets hs ts nz hold l t = absurd (nz refl)
 some-tries N ss size (suc n) items rest offsets hs ts nz hold l t = record {
   list = l.list;
-  behind = l.behind;
+  after = l.after;
   joined = l.joined;
   tries = record {
     count = t.count;
@@ -86,7 +86,7 @@ some-tries N ss size (suc n) items rest offsets hs ts nz hold l t = record {
 }
 
 pub no-list : (N : ℕ → Name → Type 0) (ss : List ℕ) (size n : ℕ) (items rest : List ℕ) (base : ℕ) (fault : Fault) → n ≢ 0 → AllHold (TryHolds ss size items) n → fault ≡ list_fault (base + 8 * n) → NoneBegins (SpellsList N ss) rest → TriesBreak N ss size n items rest base fault
-no-list N ss size n items rest base fault nz hold e none = inr (omega arith, hold, (λ h. none h.list h.behind h.handlers h.joined h.spelled), e)
+no-list N ss size n items rest base fault nz hold e none = inr (omega arith, hold, (λ h. none h.list h.after h.handlers h.joined h.spelled), e)
 
 pub no-handler : (N : ℕ → Name → Type 0) (ss : List ℕ) (size n : ℕ) (items rest offsets : List ℕ) (hs : List Handler) (base : ℕ) (fault : Fault) → IsFunctional N → n ≢ 0 → AllHold (TryHolds ss size items) n → fault ≡ list_fault (base + 8 * n)
     → ReadList N ss rest offsets hs → NoHandler items offsets n → TriesBreak N ss size n items rest base fault
@@ -94,7 +94,7 @@ no-handler N ss size n items rest offsets hs base fault f nz hold e l none = inr
   omega arith,
   hold,
   (λ h.
-      let same = (SpellsList-unique N ss f l.list h.list l.behind h.behind l.placed h.handlers l.spelled h.spelled (sym l.joined ∙ h.joined)).1 in
+      let same = (SpellsList-unique N ss f l.list h.list l.after h.after l.placed h.handlers l.spelled h.spelled (sym l.joined ∙ h.joined)).1 in
       let one = h.each none.0 none.1 in
       missing l.placed (try_handler items none.0) one.0
       (subst (λ (os : List ℕ). position os (try_handler items none.0) ≡ None) l.offsets_are none.2)

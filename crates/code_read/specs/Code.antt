@@ -6,23 +6,23 @@ use Rattle.program_types.specs.Content.{Name, Code}
 use Rattle.program_types.specs.Formed.{RegistersHold}
 use Rattle.dex_container.specs.Where.{At}
 use Rattle.code_insns.specs.Walk.{starts}
-use Rattle.code_read.specs.Item.{registers_of, ins_of, outs_of, tries_of, size_of, units_of, items_of, list_begin, IsWhole}
+use Rattle.code_read.specs.Item.{registers_of, ins_of, outs_of, tries_of, insns_size, insns_bytes, items_of, list_begin, HasFixedParts}
 use Rattle.code_insns.specs.Insns.{SpellsInsns}
 use Rattle.code_read.specs.Tries.{SpellsTries}
 
 -- The bytes are the code_item of this code, whichever registers it names, where N says which index stands for which name.
 -- debug_info_off and the padding aren't looked at.
 pub record SpellsBody (N : ℕ → Name → Type 0) (bytes : List ℕ) (c : Code) : Type 0 where
-  pub whole : IsWhole bytes
-  pub some : 0 < size_of bytes
+  pub whole : HasFixedParts bytes
+  pub some : 0 < insns_size bytes
   pub registers : c.registers ≡ registers_of bytes
   pub ins : c.ins ≡ ins_of bytes
   pub outs : c.outs ≡ outs_of bytes
   pub raws : List Raw
-  pub insns : SpellsInsns N (units_of bytes) raws c.insns
-  pub tries : SpellsTries N (starts raws) (size_of bytes) (tries_of bytes) (items_of bytes) (drop (list_begin bytes) bytes) c.tries
+  pub insns : SpellsInsns N (insns_bytes bytes) raws c.insns
+  pub tries : SpellsTries N (starts raws) (insns_size bytes) (tries_of bytes) (items_of bytes) (drop (list_begin bytes) bytes) c.tries
 
--- They are the code_item of this code, and its ins and the registers that it names are among its registers.
+-- The bytes are the code_item of this code, and its ins and the registers that it names are among its registers.
 pub record SpellsCode (N : ℕ → Name → Type 0) (bytes : List ℕ) (c : Code) : Type 0 where
   pub body : SpellsBody N bytes c
   pub named : RegistersHold c

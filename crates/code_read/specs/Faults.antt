@@ -1,17 +1,16 @@
 -- What a refusal of a code item says: the rule that is broken at its place.
 -- Page: "Dalvik Executable format", "code_item", "try_item" and "encoded_catch_handler_list".
-use Rattle.std.specs.Prelude.{ℕ, ◌≡◌, ◌-◌, ◌+◌, ◌*◌, ◌%◌, ◌<◌, ◌≤◌, ◌⊎◌, List, ◌++◌, take, drop, Some}
+use Rattle.std.specs.Prelude.{ℕ, ◌≡◌, ◌+◌, ◌*◌, ◌%◌, ◌<◌, ◌≤◌, ◌⊎◌, List, ◌++◌, drop, Some}
 use Rattle.base_bytes.specs.declared.fault.Fault.{Fault}
-use Rattle.dex_container.specs.Frame.{IsSection}
 use Rattle.dex_insn.specs.Raw.{Raw}
 use Rattle.program_types.specs.Content.{Name, Code}
-use Rattle.dex_container.specs.Where.{IsInSection}
+use Rattle.dex_container.specs.Where.{IsInSection, IsSectionRest}
 use Rattle.code_insns.specs.Places.{IsFirstBroken, AllHold}
 use Rattle.code_insns.specs.Walk.{Walks, starts}
-use Rattle.code_insns.specs.InsnFaults.{RulesHold, InsnsBreak}
+use Rattle.code_insns.specs.InsnFaults.{InsnRulesHold, InsnsBreak}
 use Rattle.code_insns.specs.Registers.{IsPast}
 use Rattle.code_read.specs.Code.{BodyStands}
-use Rattle.code_read.specs.Item.{size_of, tries_of, units_of, items_of, tries_begin, list_begin, try_handler, IsWhole}
+use Rattle.code_read.specs.Item.{insns_size, tries_of, insns_bytes, items_of, tries_begin, list_begin, try_handler, HasFixedParts}
 use Rattle.code_read.specs.Handlers.{Handler, SpellsList, handler_at}
 use Rattle.code_read.specs.Tries.{TryHolds}
 
@@ -20,8 +19,8 @@ use Rattle.code_read.specs.Tries.{TryHolds}
 -- Handlers stand at the front of these bytes, and each of the n try_items has one of them.
 pub record HasHandlers (N : ℕ → Name → Type 0) (ss : List ℕ) (n : ℕ) (items rest : List ℕ) : Type 0 where
   pub list : List ℕ
-  pub behind : List ℕ
-  pub joined : rest ≡ list ++ behind
+  pub after : List ℕ
+  pub joined : rest ≡ list ++ after
   pub handlers : List (ℕ × Handler)
   pub spelled : SpellsList N ss list handlers
   pub each : (i : ℕ) → i < n → (h : Handler) × (handler_at handlers (try_handler items i) ≡ Some h)
@@ -43,28 +42,20 @@ TriesBreak N ss size n items rest base fault =
 -- what stands before it here.
 abbrev pub ItemBreaks : (ℕ → Name → Type 0) → ℕ → List ℕ → Fault → Type 0
 ItemBreaks N off bytes fault =
-    ((¬ IsWhole bytes) × (fault ≡ record { code = 60; place = off }))
-    ⊎ (IsWhole bytes × (size_of bytes ≡ 0) × (fault ≡ record { code = 61; place = off }))
-    ⊎ (IsWhole bytes × (0 < size_of bytes) × InsnsBreak N (units_of bytes) (off + 16) fault)
-    ⊎ (IsWhole bytes × (0 < size_of bytes) × (raws : List Raw) × Walks (units_of bytes) raws × RulesHold N raws
-    × TriesBreak N (starts raws) (size_of bytes) (tries_of bytes) (items_of bytes) (drop (list_begin bytes) bytes) (off + tries_begin bytes) fault)
+    ((¬ HasFixedParts bytes) × (fault ≡ record { code = 60; place = off }))
+    ⊎ (HasFixedParts bytes × (insns_size bytes ≡ 0) × (fault ≡ record { code = 61; place = off }))
+    ⊎ (HasFixedParts bytes × (0 < insns_size bytes) × InsnsBreak N (insns_bytes bytes) (off + 16) fault)
+    ⊎ (HasFixedParts bytes × (0 < insns_size bytes) × (raws : List Raw) × Walks (insns_bytes bytes) raws × InsnRulesHold N raws
+    × TriesBreak N (starts raws) (insns_size bytes) (tries_of bytes) (items_of bytes) (drop (list_begin bytes) bytes) (off + tries_begin bytes) fault)
 
 -- ---- the file
-
--- These bytes are what the section of code items, which goes to `end`, has from this place on.
-pub record IsRest (b : List ℕ) (off end : ℕ) (bytes : List ℕ) : Type 0 where
-  pub begin : ℕ
-  pub section : IsSection b 0x2001 begin end
-  pub behind : begin ≤ off
-  pub before : off < end
-  pub same : bytes ≡ take (end - off) (drop off b)
 
 -- The place is misaligned or lies outside the section of code items (60), or it is neither and what is there is wrong.
 abbrev pub CodeBreaks : (ℕ → Name → Type 0) → List ℕ → ℕ → Fault → Type 0
 CodeBreaks N b off fault =
     ((¬ (off % 4 ≡ 0)) × (fault ≡ record { code = 60; place = off }))
     ⊎ ((¬ IsInSection b 0x2001 off) × (fault ≡ record { code = 60; place = off }))
-    ⊎ ((off % 4 ≡ 0) × (end : ℕ) × (bytes : List ℕ) × IsRest b off end bytes × ItemBreaks N off bytes fault)
+    ⊎ ((off % 4 ≡ 0) × (end : ℕ) × (bytes : List ℕ) × IsSectionRest 0x2001 b off end bytes × ItemBreaks N off bytes fault)
 
 -- ---- registers, which are looked at last
 

@@ -63,16 +63,16 @@ abbrev pub SpellsPlace : (ℕ → Name → Type 0) → List ℕ → List ℕ →
 SpellsPlace = PlaceBy Spells SpellsSigned
 
 -- The type that a catch names.
-abbrev pub SpellsType : (ℕ → Name → Type 0) → List ℕ → List ℕ → Descriptor → Type 0
-SpellsType = TypeBy Spells SpellsSigned
+abbrev pub SpellsCatchType : (ℕ → Name → Type 0) → List ℕ → List ℕ → Descriptor → Type 0
+SpellsCatchType = TypeBy Spells SpellsSigned
 
 -- A type and where its handler begins.
 abbrev pub SpellsCatch : (ℕ → Name → Type 0) → List ℕ → List ℕ → Catch → Type 0
 SpellsCatch = CatchBy Spells SpellsSigned
 
 -- The catch-all, there exactly if the count isn't positive.
-abbrev pub SpellsAll : (ℕ → Name → Type 0) → List ℕ → ℤ → List ℕ → Option ℕ → Type 0
-SpellsAll = AllBy Spells SpellsSigned
+abbrev pub SpellsCatchAll : (ℕ → Name → Type 0) → List ℕ → ℤ → List ℕ → Option ℕ → Type 0
+SpellsCatchAll = AllBy Spells SpellsSigned
 
 -- The catches of a handler, and its catch-all.
 abbrev pub SpellsParts : (ℕ → Name → Type 0) → List ℕ → ℤ → List ℕ → List Catch × Option ℕ → Type 0
@@ -95,7 +95,7 @@ abbrev pub SpellsHandlers : (ℕ → Name → Type 0) → List ℕ → ℕ → L
 SpellsHandlers N ss zero bytes hs = (bytes ≡ []) × (hs ≡ [])
 SpellsHandlers N ss (suc n) bytes hs = SpellsList N ss bytes hs
 
--- the same of what is written
+-- the list that is written, each number in the fewest bytes, is there only if there are tries
 abbrev pub PacksHandlers : (ℕ → Name → Type 0) → List ℕ → ℕ → List ℕ → List (ℕ × Handler) → Type 0
 PacksHandlers N ss zero bytes hs = (bytes ≡ []) × (hs ≡ [])
 PacksHandlers N ss (suc n) bytes hs = PacksList N ss bytes hs

@@ -1,4 +1,4 @@
--- The fixed parts of a code_item, as fields of the bytes from its first one on. What stands behind the item isn't looked at.
+-- The fixed parts of a code_item, as fields of the bytes from its first one on. What stands after the item isn't looked at.
 -- Page: "Dalvik Executable format", "code_item" and "try_item".
 use Rattle.std.specs.Prelude.{ℕ, ◌+◌, ◌*◌, ◌%◌, ◌≤◌, List, length, slice_range, ◌==◌, if◌then◌else◌}
 use Rattle.base_bytes.specs.Fields.{u16_at, u32_at}
@@ -20,31 +20,31 @@ abbrev pub tries_of : List ℕ → ℕ
 tries_of bytes = u16_at bytes 6
 
 -- insns_size, in units
-abbrev pub size_of : List ℕ → ℕ
-size_of bytes = u32_at bytes 12
+abbrev pub insns_size : List ℕ → ℕ
+insns_size bytes = u32_at bytes 12
 
 -- where the insns end
 abbrev pub units_end : List ℕ → ℕ
-units_end bytes = 16 + 2 * size_of bytes
+units_end bytes = 16 + 2 * insns_size bytes
 
--- where the try_items begin: behind a padding unit after an odd number of units, if there are tries
+-- where the try_items begin: after a padding unit after an odd number of units, if there are tries
 unfoldable pub tries_begin : List ℕ → ℕ
-tries_begin bytes = units_end bytes + (if tries_of bytes == 0 then 0 else 2 * (size_of bytes % 2))
+tries_begin bytes = units_end bytes + (if tries_of bytes == 0 then 0 else 2 * (insns_size bytes % 2))
 
 -- where they end, and the encoded_catch_handler_list begins
 abbrev pub list_begin : List ℕ → ℕ
 list_begin bytes = tries_begin bytes + 8 * tries_of bytes
 
 -- the bytes of the insns
-abbrev pub units_of : List ℕ → List ℕ
-units_of bytes = slice_range bytes 16 (units_end bytes)
+abbrev pub insns_bytes : List ℕ → List ℕ
+insns_bytes bytes = slice_range bytes 16 (units_end bytes)
 
 -- the bytes of the try_items
 abbrev pub items_of : List ℕ → List ℕ
 items_of bytes = slice_range bytes (tries_begin bytes) (list_begin bytes)
 
 -- All as far as the try_items' end is there.
-pub record IsWhole (bytes : List ℕ) : Type 0 where
+pub record HasFixedParts (bytes : List ℕ) : Type 0 where
   pub head : 16 ≤ length bytes
   pub fixed : list_begin bytes ≤ length bytes
 

@@ -1,8 +1,9 @@
-pub mod Item
-pub mod Handlers
-pub mod HandlerViews
-pub mod Tries
+pub mod Checking
 pub mod Code
 pub mod Faults
+pub mod FileCodes
+pub mod HandlerViews
+pub mod Handlers
+pub mod Item
 pub mod Reading
-pub mod Checking
+pub mod Tries

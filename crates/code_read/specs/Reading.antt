@@ -4,7 +4,7 @@ use Rattle.dex_insn.specs.Raw.{Raw}
 use Rattle.program_types.specs.Content.{Name, Try, Code}
 use Rattle.code_insns.specs.Walk.{starts}
 use Rattle.code_insns.specs.Places.{position, count_below}
-use Rattle.code_read.specs.Item.{try_start, try_count, try_handler, registers_of, ins_of, outs_of, tries_of, size_of, units_of, items_of, tries_begin, list_begin, IsWhole}
+use Rattle.code_read.specs.Item.{try_start, try_count, try_handler, registers_of, ins_of, outs_of, tries_of, insns_size, insns_bytes, items_of, tries_begin, list_begin, HasFixedParts}
 use Rattle.code_insns.specs.Insns.{SpellsInsns}
 use Rattle.code_read.specs.Tries.{SpellsTries, handler_of}
 use Rattle.program_types.specs.Formed.{try_at}
@@ -13,14 +13,14 @@ use Rattle.base_bytes.specs.Grammar.{Placed}
 use Rattle.code_read.specs.declared.item.Item.{Item}
 
 -- These are the fixed parts of the item at the front of the bytes.
-pub record IsItem (bytes : List ℕ) (i : Item) : Type 0 where
-  pub whole : IsWhole bytes
+pub record IsCodeItem (bytes : List ℕ) (i : Item) : Type 0 where
+  pub whole : HasFixedParts bytes
   pub registers : i.registers ≡ registers_of bytes
   pub ins : i.ins ≡ ins_of bytes
   pub outs : i.outs ≡ outs_of bytes
   pub tries : i.tries ≡ tries_of bytes
-  pub size : i.size ≡ size_of bytes
-  pub units : i.units.now ≡ units_of bytes
+  pub size : i.size ≡ insns_size bytes
+  pub units : i.units.now ≡ insns_bytes bytes
   pub items : i.items.now ≡ items_of bytes
   pub list : i.list.now ≡ drop (list_begin bytes) bytes
   pub place : i.items_at ≡ tries_begin bytes
@@ -28,15 +28,15 @@ pub record IsItem (bytes : List ℕ) (i : Item) : Type 0 where
 -- The try_items, and handlers at the front of the bytes, spell these tries.
 pub record ReadTries (N : ℕ → Name → Type 0) (ss : List ℕ) (size n : ℕ) (items rest : List ℕ) (ts : List Try) : Type 0 where
   pub list : List ℕ
-  pub behind : List ℕ
-  pub joined : rest ≡ list ++ behind
+  pub after : List ℕ
+  pub joined : rest ≡ list ++ after
   pub tries : SpellsTries N ss size n items list ts
 
 -- The bytes begin with a list of these handlers, at these offsets.
 pub record ReadList (N : ℕ → Name → Type 0) (ss rest offsets : List ℕ) (hs : List Handler) : Type 0 where
   pub list : List ℕ
-  pub behind : List ℕ
-  pub joined : rest ≡ list ++ behind
+  pub after : List ℕ
+  pub joined : rest ≡ list ++ after
   pub placed : List (ℕ × Handler)
   pub spelled : SpellsList N ss list placed
   pub offsets_are : offsets ≡ map (λ p. p.0) placed
@@ -44,16 +44,16 @@ pub record ReadList (N : ℕ → Name → Type 0) (ss rest offsets : List ℕ) (
 
 -- The bytes begin with the code_item of this code, and these bytes follow.
 pub record ReadCode (N : ℕ → Name → Type 0) (bytes rest : List ℕ) (c : Code) : Type 0 where
-  pub whole : IsWhole bytes
-  pub some : 0 < size_of bytes
+  pub whole : HasFixedParts bytes
+  pub some : 0 < insns_size bytes
   pub registers : c.registers ≡ registers_of bytes
   pub ins : c.ins ≡ ins_of bytes
   pub outs : c.outs ≡ outs_of bytes
   pub raws : List Raw
-  pub insns : SpellsInsns N (units_of bytes) raws c.insns
+  pub insns : SpellsInsns N (insns_bytes bytes) raws c.insns
   pub list : List ℕ
   pub joined : drop (list_begin bytes) bytes ≡ list ++ rest
-  pub tries : SpellsTries N (starts raws) (size_of bytes) (tries_of bytes) (items_of bytes) list c.tries
+  pub tries : SpellsTries N (starts raws) (insns_size bytes) (tries_of bytes) (items_of bytes) list c.tries
 
 -- Try_item i spells the try, by the handlers and the offsets at which they begin.
 pub record TakesTry (ss items offsets : List ℕ) (hs : List Handler) (i : ℕ) (t : Try) : Type 0 where
@@ -72,12 +72,12 @@ pub record TakesTries (ss items offsets : List ℕ) (hs : List Handler) (n : ℕ
 abbrev pub NoHandler : List ℕ → List ℕ → ℕ → Type 0
 NoHandler items offsets n = (i : ℕ) × (i < n) × (position offsets (try_handler items i) ≡ None)
 
--- Behind the count stand these handlers, at these offsets from the list's begin, and what is left follows.
-pub record ReadSome (N : ℕ → Name → Type 0) (ss bytes behind left offsets : List ℕ) (hs : List Handler) (n : ℕ) : Type 0 where
+-- After the count stand these handlers, at these offsets from the list's begin, and what is left follows.
+pub record ReadSome (N : ℕ → Name → Type 0) (ss bytes after left offsets : List ℕ) (hs : List Handler) (n : ℕ) : Type 0 where
   pub front : List ℕ
-  pub joined : behind ≡ front ++ left
+  pub joined : after ≡ front ++ left
   pub placed : List (ℕ × Handler)
-  pub spelled : Placed (SpellsHandler N ss) (length bytes - length behind) front placed
+  pub spelled : Placed (SpellsHandler N ss) (length bytes - length after) front placed
   pub offsets_are : offsets ≡ map (λ p. p.0) placed
   pub handlers_are : hs ≡ map (λ p. p.1) placed
   pub count : length placed ≡ n

@@ -7,13 +7,13 @@ use Rattle.code_insns.specs.Places.{position, count_below, AllHold}
 use Rattle.code_read.specs.Item.{try_start, try_count, try_handler}
 use Rattle.code_read.specs.Handlers.{Handler, SpellsHandlers, handler_at}
 
--- Try_item i keeps the rules: it begins at an instruction, covers some units, all of them there, and begins at or behind the end of
+-- Try_item i keeps the rules: it begins at an instruction, covers some units, all of them there, and begins at or after the end of
 -- the one before. ss are the addresses of the instructions, `size` is their number of units.
 pub record TryHolds (ss : List ℕ) (size : ℕ) (items : List ℕ) (i : ℕ) : Type 0 where
   pub begins : (n : ℕ) × (position ss (try_start items i) ≡ Some n)
   pub some : 0 < try_count items i
   pub within : try_start items i + try_count items i ≤ size
-  pub behind : (j : ℕ) → j + 1 ≡ i → try_start items j + try_count items j ≤ try_start items i
+  pub after : (j : ℕ) → j + 1 ≡ i → try_start items j + try_count items j ≤ try_start items i
 
 -- what a try's exceptions go to
 abbrev pub handler_of : Try → Handler

@@ -7,7 +7,7 @@ ghost use Rattle.base_bytes.specs.Leb128.{Spells, SpellsSigned};
 ghost use Rattle.program_types.specs.View.{desc, catch};
 ghost use Rattle.tables_rows.specs.Names.{NameIsAt};
 ghost use Rattle.code_insns.specs.Places.{Rises};
-ghost use Rattle.code_read.specs.Handlers.{SpellsPlace, SpellsType, SpellsCatch, SpellsHandler, SpellsList};
+ghost use Rattle.code_read.specs.Handlers.{SpellsPlace, SpellsCatchType, SpellsCatch, SpellsHandler, SpellsList};
 ghost use Rattle.code_read.specs.Faults.{list_fault};
 ghost use Rattle.code_read.specs.HandlerViews.{handler};
 
@@ -73,8 +73,8 @@ fn read_type<'a, 'b>(
     starts: &[u32],
     bytes: &'b [u8],
 ) -> Option<(Desc<'a>, &'b [u8])>
-    ensures some { IfSome result (λ x. Takes (SpellsType (NameIsAt tables.now) starts.now) bytes.now (desc x.0) x.1.now) }
-    ensures none { IfNone result (NoneBegins (SpellsType (NameIsAt tables.now) starts.now) bytes.now) }
+    ensures some { IfSome result (λ x. Takes (SpellsCatchType (NameIsAt tables.now) starts.now) bytes.now (desc x.0) x.1.now) }
+    ensures none { IfNone result (NoneBegins (SpellsCatchType (NameIsAt tables.now) starts.now) bytes.now) }
 {
     // Only for the proof: what holds of each value of its type.
     let _starts = starts;
@@ -150,7 +150,7 @@ pub(crate) fn read_handler<'a, 'b>(
     ensures code { IfErr result (λ e. e ≢ memory → e ≡ list_fault list) }
     ensures err { IfErr result (λ e. e ≢ memory → NoneBegins (SpellsHandler (NameIsAt tables.now) starts.now) bytes.now) }
 {
-    let Some((n, behind)) = read_signed(bytes) else {
+    let Some((n, pairs)) = read_signed(bytes) else {
         return Err(Fault::at(fault::HANDLER, list));
     };
     let (catches, rest) = read_catches(
@@ -160,7 +160,7 @@ pub(crate) fn read_handler<'a, 'b>(
         starts,
         n.unsigned_abs(),
         list,
-        behind,
+        pairs,
     )?;
     if n > 0 {
         return Ok((Caught { catches, all: None }, rest));

@@ -1,12 +1,12 @@
 //! The fixed parts of a code item.
 
 ghost use Rattle.std.specs.Prelude.{◌≡◌, ◌<◌, ◌^◌, IfSome, IfNone};
-ghost use Rattle.code_read.specs.Item.{IsWhole};
-ghost use Rattle.code_read.specs.Reading.{IsItem};
+ghost use Rattle.code_read.specs.Item.{HasFixedParts};
+ghost use Rattle.code_read.specs.Reading.{IsCodeItem};
 
 use dex_base::{u16_at, u32_at};
 
-/// The fixed parts of an item, and the bytes behind them.
+/// The fixed parts of an item, and the bytes after them.
 #[derive(Clone, Copy)]
 pub struct Item<'b> {
     pub registers: u16,
@@ -23,9 +23,9 @@ pub struct Item<'b> {
 /// The fixed parts of the item at the front of the bytes. None where they aren't all there.
 #[tactic(auto, unfolding(crate::specs::Item::tries_begin))]
 pub fn item_of<'b>(bytes: &'b [u8]) -> Option<Item<'b>>
-    ensures some { IfSome result (λ i. IsItem bytes.now i) }
+    ensures some { IfSome result (λ i. IsCodeItem bytes.now i) }
     ensures low { IfSome result (λ i. i.items_at < 2 ^ 35) }
-    ensures none { IfNone result (¬ IsWhole bytes.now) }
+    ensures none { IfNone result (¬ HasFixedParts bytes.now) }
 {
     if bytes.len() < 16 {
         return None;

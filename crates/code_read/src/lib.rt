@@ -21,7 +21,13 @@ mod reading;
 // What holds of every item.
 mod laws;
 
+// What holds of the codes of a file.
+mod file_codes;
+
 pub use checking::check_body;
+pub use file_codes::{
+    codes_are_decided, codes_carry_over, names_of_codes_have_rows, standing_codes_are_formed,
+};
 pub use handlers::{read_number, read_signed};
 pub use item::{Item, item_of};
 pub use laws::{

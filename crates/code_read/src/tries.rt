@@ -31,8 +31,8 @@ fn end_of(items: &[u8], i: usize) -> u64
     u64::from(u32_at(items, 8 * i)) + u64::from(u16_at(items, 8 * i + 4))
 }
 
-/// Whether try_item `i` begins at or behind the end of the one before.
-fn is_behind(items: &[u8], i: usize) -> bool
+/// Whether try_item `i` begins at or after the end of the one before.
+fn is_after(items: &[u8], i: usize) -> bool
     requires { 8 * i + 8 ≤ length items.now }
     ensures { IsTrue result ↔ ((j : ℕ) → j + 1 ≡ i → try_start items.now j + try_count items.now j ≤ try_start items.now i) }
 {
@@ -73,7 +73,7 @@ fn try_holds(starts: &[u32], size: u32, items: &[u8], i: usize) -> bool
     if end_of(items, i) > u64::from(size) {
         return false;
     }
-    is_behind(items, i)
+    is_after(items, i)
 }
 
 /// The first try_item that breaks the rules.
@@ -121,12 +121,12 @@ fn read_list<'a>(
     ensures code { IfErr result (λ e. e ≢ memory → e ≡ list_fault list) }
     ensures err { IfErr result (λ e. e ≢ memory → NoneBegins (SpellsList (NameIsAt tables.now) starts.now) bytes.now) }
 {
-    let Some((count, behind)) = read_number(bytes) else {
+    let Some((count, entries)) = read_number(bytes) else {
         return Err(Fault::at(fault::HANDLER, list));
     };
     let mut offsets = Vec::new(alloc);
     let mut handlers = Vec::new(alloc);
-    let mut left = behind;
+    let mut left = entries;
     for _turn in 0..count {
         offsets.push((bytes.len() - left.len()) as u32)?;
         let (one, after) = read_handler(alloc, arena, tables, starts, list, left)?;

@@ -11,6 +11,7 @@ use Rattle.dex_insn.specs.Fields.{number, field, signed}
 use Rattle.dex_insn.specs.RawInsns.{register, IsElementWidth}
 use Rattle.dex_insn.specs.Written.{bytes_of}
 use Rattle.code_renumber.specs.InPlace.{named_unit, with_named}
+use Rattle.dex_insn.proofs.Fits.{register-fits}
 
 -- ---- signed numbers: their bits are those that were read
 
@@ -109,20 +110,17 @@ long_3 (a ∷ b ∷ c ∷ d ∷ e ∷ f ∷ rest) u x are l p fits =
     (one_unit _ _ _ _ _ _ (omega arith) (omega arith) (one_unit _ _ _ _ rest rest (omega arith) (omega arith) refl))
 long_3 _ u x are l p fits = absurd (omega arith)
 
-register_fits : (n k bits : ℕ) → bits < 16 → register n k bits < 16
-register_fits n k bits h = grind (arith, nat_tests)
-
 pub five_3 : (us : List ℕ) (op n x : ℕ) → AreBytes us → 6 ≤ length us → op ≡ field us 0 0 8 → n ≤ 5 → x < 65536
     → bytes_of ((op + 256 * register n 4 (field us 0 8 4) + 4096 * n) ∷ x ∷ named_unit us n ∷ []) ++ drop 6 us ≡ set (set (with_named us n) 2 (x % 256)) 3 (x / 256)
 unfolding number
 five_3 (a ∷ b ∷ c ∷ d ∷ e ∷ f ∷ rest) op n x are l p few fits =
     let us : List ℕ = a ∷ b ∷ c ∷ d ∷ e ∷ f ∷ rest in
     let p0 = are 0 in
-    let g = register_fits n 4 (field us 0 8 4) (omega arith) in
-    let c0 = register_fits n 0 (field us 2 0 4) (omega arith) in
-    let c1 = register_fits n 1 (field us 2 4 4) (omega arith) in
-    let c2 = register_fits n 2 (field us 2 8 4) (omega arith) in
-    let c3 = register_fits n 3 (field us 2 12 4) (omega arith) in
+    let g = register-fits n 4 (field us 0 8 4) (omega arith) in
+    let c0 = register-fits n 0 (field us 2 0 4) (omega arith) in
+    let c1 = register-fits n 1 (field us 2 4 4) (omega arith) in
+    let c2 = register-fits n 2 (field us 2 8 4) (omega arith) in
+    let c3 = register-fits n 3 (field us 2 12 4) (omega arith) in
     let w = named_unit us n in
     let low : w < 65536 = omega arith in
     let u = op + 256 * register n 4 (field us 0 8 4) + 4096 * n in
@@ -148,7 +146,7 @@ head_8 (a ∷ b ∷ c ∷ d ∷ e ∷ f ∷ g ∷ h ∷ rest) u v n are l p q r 
     (one_unit (n % 65536 % 256) (n % 65536 / 256 % 256) e f _ _ (omega arith) (omega arith) (one_unit (n / 65536 % 256) (n / 65536 / 256 % 256) g h [] [] (omega arith) (omega arith) refl)))
 head_8 _ u v n are l p q r = absurd (omega arith)
 
--- a head, a part behind it and the rest are all
+-- a head, a part after it and the rest are all
 pub joined_again : (us : List ℕ) (k m : ℕ) → take k us ++ (take m (drop k us) ++ drop (k + m) us) ≡ us
 joined_again us k m =
     ap (λ (xs : List ℕ). take k us ++ (take m (drop k us) ++ xs)) (sym (drop-drop m k us))

@@ -14,10 +14,11 @@ use Rattle.tables_numbers.specs.Numbers.{Carries, column_of}
 use Rattle.code_insns.specs.Places.{position}
 use Rattle.code_read.specs.Handlers.{Handler, catches_of, HasAll, AllBy, SpellsCatch}
 use Rattle.code_put.specs.Packs.{PacksCatch, PacksHandler}
-use Rattle.code_put.proofs.HandlerPacks.{via-appends, catch-appends, each-none, each-more, all-none, all-some, handler-appends, alone}
+use Rattle.code_put.proofs.HandlerPacks.{via-appends, catch-appends, all-none, all-some, handler-appends, alone}
 use Rattle.code_renumber.specs.Fronts.{IsCatch, types_of}
 use Rattle.code_renumber.specs.Carried.{AreCarriedCatches, IsCarriedHandler}
 use Rattle.code_renumber.proofs.HandlerLemmas.{due_start, NextDue, due_end, no_catch, parts_from, catches_due}
+use Rattle.base_bytes.proofs.GrammarLaws.{Each-appends_none, Each-appends_more}
 
 -- ---- catches, written
 
@@ -26,7 +27,7 @@ pub record WrittenCatches (b : List ℕ) (s : Five) (ss old new left : List ℕ)
   pub done : Appends (Each (PacksCatch (NameRanks s) ss)) old new (take turn cs)
 
 pub written_none : (b : List ℕ) (numbers : Columns) (s : Five) (ss out : List ℕ) (n : ℕ) (bytes : List ℕ) (cs : List Catch) (rest : List ℕ) → AreCarriedCatches b numbers s ss n bytes cs rest → WrittenCatches b s ss out out bytes 0 cs rest
-written_none b numbers s ss out n bytes cs rest x = record { due = due_start (SpellsCatch (NameStands b) ss) n bytes cs rest x.taken; done = each-none (PacksCatch (NameRanks s) ss) out }
+written_none b numbers s ss out n bytes cs rest x = record { due = due_start (SpellsCatch (NameStands b) ss) n bytes cs rest x.taken; done = Each-appends_none (PacksCatch (NameRanks s) ss) out }
 
 -- the rank of the type of the next catch
 pub record RankNext (numbers : Columns) (s : Five) (ty : ℕ) (c : Catch) : Type 0 where
@@ -59,7 +60,7 @@ written_next b s numbers ss old a m new left after turn ty address index cs rest
     let one = catch-appends (NameRanks s) ss a m new index c p (subst (λ (k : ℕ). NameRanks s k (OfDesc c.ty)) same r.stands) place in
     record {
       due = subst (λ (l : List ℕ). Takes (Each (SpellsCatch (NameStands b) ss)) l (drop (turn + 1) cs) rest) (sym i.follows) d.more;
-      done = subst (λ (l : List Catch). Appends (Each (PacksCatch (NameRanks s) ss)) old new l) (sym (take_more cs turn no_catch lt)) (each-more (PacksCatch (NameRanks s) ss) old a new (take turn cs) c w.done one);
+      done = subst (λ (l : List Catch). Appends (Each (PacksCatch (NameRanks s) ss)) old new l) (sym (take_more cs turn no_catch lt)) (Each-appends_more (PacksCatch (NameRanks s) ss) old a new (take turn cs) c w.done one);
     }
 
 pub written_all : (b : List ℕ) (numbers : Columns) (s : Five) (ss old new bytes left : List ℕ) (n turn : ℕ) (cs : List Catch) (rest : List ℕ) → n ≤ turn → AreCarriedCatches b numbers s ss n bytes cs rest → WrittenCatches b s ss old new left turn cs rest

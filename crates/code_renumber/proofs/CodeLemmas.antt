@@ -16,9 +16,8 @@ use Rattle.code_insns.specs.Walk.{starts}
 use Rattle.code_insns.proofs.SaidRegisters.{addresses-same}
 use Rattle.code_read.specs.Reading.{ReadTries}
 use Rattle.code_read.specs.declared.item.Item.{Item}
-use Rattle.code_read_laws.proofs.CodesFormed.{standing-formed}
+use Rattle.code_read.proofs.CodesFormed.{standing-formed}
 use Rattle.code_put.specs.Packs.{PutInsns, PacksHandlersOf, PacksCode, joined, padding, items_bytes}
-use Rattle.code_put.proofs.FormLaws.{all-front, all-back}
 use Rattle.code_put.proofs.PackLaws.{packed}
 use Rattle.code_renumber.specs.Renumbered.{renumbered, CanBeRenumbered}
 use Rattle.code_renumber.specs.Carried.{IsCarriedCode, AreCarriedTries, head_of}
@@ -26,6 +25,7 @@ use Rattle.code_renumber.specs.Fronts.{SpellsItem}
 use Rattle.code_renumber.specs.Walks.{CoverTries}
 use Rattle.code_renumber.proofs.LoweredLemmas.{can-all, lowered}
 use Rattle.code_renumber.proofs.WideLemmas.{size_same, count_same, head_same}
+use Rattle.base_bytes.proofs.ListFacts.{all_front, all_back}
 
 -- ---- without tries, where instructions begin isn't asked
 
@@ -44,7 +44,7 @@ items_with size n ss begins (t ∷ ts) offs h e = ap (λ (z : List ℕ). items_b
 
 module _ (b : List ℕ) (off : ℕ) (numbers : Columns) (s : Five) (i : Item) (c : Code) (x : IsCarriedCode b off numbers s c) (y : SpellsItem (NameStands b) i c) (are : AreBytes b) (framed : IsFramed b) (units-are : AreBytes i.units.now) (units : length i.units.now ≡ 2 * i.size) where
   carried_insns : AllByRecursion (Carries (NameStands b) (NameRanks s) numbers) (flat_map names_of_insn c.insns)
-  carried_insns = all-front (Carries (NameStands b) (NameRanks s) numbers) (flat_map names_of_insn c.insns) (flat_map names_of_try c.tries) x.carried
+  carried_insns = all_front (Carries (NameStands b) (NameRanks s) numbers) (flat_map names_of_insn c.insns) (flat_map names_of_try c.tries) x.carried
 
   pub can_renumber_all : AllByRecursion (CanBeRenumbered numbers) y.raws
   can_renumber_all = can-all (NameStands b) (NameRanks s) numbers i.units.now y.raws c.insns y.insns units-are carried_insns (λ table k l. x.fits table k l)
@@ -56,7 +56,7 @@ module _ (b : List ℕ) (off : ℕ) (numbers : Columns) (s : Five) (i : Item) (c
   carried_tries = record {
     read = subst (λ (ss : List ℕ). ReadTries (NameStands b) ss i.size i.tries i.items.now i.list.now c.tries) addresses_are y.tries;
     rise = x.rise;
-    carried = all-back (Carries (NameStands b) (NameRanks s) numbers) (flat_map names_of_insn c.insns) (flat_map names_of_try c.tries) x.carried;
+    carried = all_back (Carries (NameStands b) (NameRanks s) numbers) (flat_map names_of_insn c.insns) (flat_map names_of_try c.tries) x.carried;
     short = let w = x.short in let n = y.tries.tries.count in omega (arith, w, n);
   }
 

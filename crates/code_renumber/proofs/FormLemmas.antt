@@ -11,7 +11,7 @@ use Rattle.dex_insn.specs.Raw.{Raw, units, is_payload}
 use Rattle.dex_insn.specs.RawInsns.{SpellsInsn, BeginsInsn, IsPayload}
 use Rattle.dex_insn.specs.Written.{IsRaw, written, bytes_of}
 use Rattle.dex_insn.specs.declared.opcode.Format.{Format}
-use Rattle.dex_insn.proofs.Fits.{behind, number-1, number-2}
+use Rattle.dex_insn.proofs.Fits.{number-1, number-2, number-4}
 use Rattle.dex_insn.proofs.Laws.{not-payload, is-payload}
 use Rattle.dex_insn.proofs.Unique.{slice-length}
 use Rattle.tables_numbers.specs.Marked.{Columns}
@@ -20,10 +20,8 @@ use Rattle.code_renumber.specs.Renumbered.{number_in, HasNumber, HasShortNumber,
 use Rattle.code_renumber.specs.Shapes.{shape_in, shape_of}
 use Rattle.code_renumber.specs.InPlace.{with_named, is_padded, with_pad, IsRenumbered}
 use Rattle.code_renumber.proofs.BytesLemmas.{nibble_bits, byte_bits, wide_byte_bits, half_bits, wide_half_bits, word_bits, long_bits, kept_1, kept_2, kept_3, kept_long, kept_wide, short_2, short_3, long_3, five_3, head_4, head_8, joined_again, replaced, by_width}
-
-number-4 : (us : List ℕ) (k : ℕ) → AreBytes us → number us k 4 < 18446744073709551616
-unfolding number
-number-4 us k bytes = let d = behind us (2 * k) bytes in omega (arith, d 0, d 1, d 2, d 3, d 4, d 5, d 6, d 7)
+use Rattle.base_bytes.proofs.ListFacts.{by_kind}
+use Rattle.base_bytes.proofs.FieldBounds.{drop-AreBytes}
 
 -- ---- no index
 
@@ -263,10 +261,6 @@ plain_shape us (raw.I31c op a index) s e = by_format us op _ s.0
 plain_shape us (raw.I35c op n regs index) s e = by_format us op _ s.0
 plain_shape us (raw.I3rc op n first index) s e = by_format us op _ s.0
 plain_shape us (raw.I51l op a b) s e = by_format us op _ s.0
-
-by_kind : (b : Bool) → (b ≡ true) ⊎ (b ≡ false)
-by_kind true = inl refl
-by_kind false = inr refl
 
 pub of_payload : (us : List ℕ) (r : Raw) → SpellsInsn us r → IsPayload us → shape_of r ≡ Payload
 of_payload us r s p = ⊎_elim (λ (e : is_payload r ≡ true). payload_shape r e) (λ (e : is_payload r ≡ false). absurd (not-payload us r s e p)) (by_kind (is_payload r))

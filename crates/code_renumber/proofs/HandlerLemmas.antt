@@ -13,13 +13,11 @@ use Rattle.tables_rows.specs.Stands.{NameStands}
 use Rattle.tables_numbers.specs.Marked.{Marked, AddsNames, IsRowOf}
 use Rattle.tables_numbers.proofs.MarkLemmas.{adds_none, adds_more}
 use Rattle.code_insns.specs.Places.{position}
-use Rattle.code_read.specs.Handlers.{Handler, catches_of, HasAll, SpellsCatch, SpellsAll, SpellsHandler}
+use Rattle.code_read.specs.Handlers.{Handler, catches_of, HasAll, SpellsCatch, SpellsCatchAll, SpellsHandler}
 use Rattle.code_renumber.specs.Fronts.{IsCatch, types_of}
+use Rattle.base_bytes.proofs.ListFacts.{number_one}
 
 -- ---- numbers
-
-pub number_one : (bytes : List ℕ) (m n : ℕ) (a b : List ℕ) → Takes Spells bytes m a → Takes Spells bytes n b → (m ≡ n) × (a ≡ b)
-number_one bytes m n a b p q = Takes-unique Spells bytes m n a b spells_unique p q
 
 signed_one : (bytes : List ℕ) (m n : ℤ) (a b : List ℕ) → Takes SpellsSigned bytes m a → Takes SpellsSigned bytes n b → (m ≡ n) × (a ≡ b)
 signed_one bytes m n a b p q = Takes-unique SpellsSigned bytes m n a b signed_unique p q
@@ -49,7 +47,7 @@ module _ (N : ℕ → Name → Type 0) (ss : List ℕ) where
         place = s.second.means;
       }
 
-  -- the address behind the type that was read
+  -- the address after the type that was read
   pub address_there : (bytes : List ℕ) (c : Catch) (rest : List ℕ) (ty : ℕ) (mid : List ℕ) → Takes (SpellsCatch N ss) bytes c rest → Takes Spells bytes ty mid → (n : ℕ) × (r : List ℕ) × Takes Spells mid n r
   address_there bytes c rest ty mid t p =
       let x = catch_parts bytes c rest t in
@@ -108,7 +106,7 @@ no_catch = record { ty = []; at = 0 }
 pub record HandlerParts (N : ℕ → Name → Type 0) (ss : List ℕ) (z : ℤ) (mid : List ℕ) (h : Handler) (rest : List ℕ) : Type 0 where
   pub left : List ℕ
   pub catches : Takes (Many (SpellsCatch N ss) (catches_of z)) mid h.catches left
-  pub last : Takes (SpellsAll N ss z) left h.all rest
+  pub last : Takes (SpellsCatchAll N ss z) left h.all rest
 
 module _ (N : ℕ → Name → Type 0) (ss : List ℕ) where
   pub handler_parts : (bytes : List ℕ) (h : Handler) (rest : List ℕ) → Takes (SpellsHandler N ss) bytes h rest → (z : ℤ) × (mid : List ℕ) × Takes SpellsSigned bytes z mid × HandlerParts N ss z mid h rest
@@ -127,11 +125,11 @@ module _ (N : ℕ → Name → Type 0) (ss : List ℕ) where
             whole = ap (λ l. l ++ rest) s.second.joined ∙ append_assoc s.second.front s.second.back rest;
             spelled = subst (λ (l : List Catch). Many (SpellsCatch N ss) (catches_of v.raw.0) s.second.front l) cs s.second.first;
           };
-          last = record { front = s.second.back; whole = refl; spelled = subst (λ (o : Option ℕ). SpellsAll N ss v.raw.0 s.second.back o) os s.second.second };
+          last = record { front = s.second.back; whole = refl; spelled = subst (λ (o : Option ℕ). SpellsCatchAll N ss v.raw.0 s.second.back o) os s.second.second };
         },
       )
 
-  -- behind the number that was read
+  -- after the number that was read
   pub parts_from : (bytes : List ℕ) (h : Handler) (rest : List ℕ) (z : ℤ) (mid : List ℕ) → Takes SpellsSigned bytes z mid → Takes (SpellsHandler N ss) bytes h rest → HandlerParts N ss z mid h rest
   parts_from bytes h rest z mid p t =
       let x = handler_parts bytes h rest t in
@@ -148,11 +146,11 @@ module _ (N : ℕ → Name → Type 0) (ss : List ℕ) where
     pub place : position ss address ≡ Some number
     pub is : o ≡ Some number
 
-  pub last_place : (z : ℤ) (left : List ℕ) (o : Option ℕ) (rest : List ℕ) → HasAll z → Takes (SpellsAll N ss z) left o rest → LastPlace left o rest
+  pub last_place : (z : ℤ) (left : List ℕ) (o : Option ℕ) (rest : List ℕ) → HasAll z → Takes (SpellsCatchAll N ss z) left o rest → LastPlace left o rest
   last_place z left None rest has t = absurd (t.spelled.0 has)
   last_place z left (Some n) rest has t = record { address = t.spelled.1.raw; number = n; taken = record { front = t.front; whole = t.whole; spelled = t.spelled.1.spelled }; place = t.spelled.1.means; is = refl }
 
-  pub no_last : (z : ℤ) (left : List ℕ) (o : Option ℕ) (rest : List ℕ) → (HasAll z → ⊥) → Takes (SpellsAll N ss z) left o rest → (o ≡ None) × (left ≡ rest)
+  pub no_last : (z : ℤ) (left : List ℕ) (o : Option ℕ) (rest : List ℕ) → (HasAll z → ⊥) → Takes (SpellsCatchAll N ss z) left o rest → (o ≡ None) × (left ≡ rest)
   no_last z left None rest lacks t = (refl, t.whole ∙ ap (λ l. l ++ rest) t.spelled.1)
   no_last z left (Some n) rest lacks t = absurd (lacks t.spelled.0)
 

@@ -15,8 +15,9 @@ use Rattle.program_types.specs.Sizes.{insn_units}
 use Rattle.tables_rows.specs.Stands.{NameStands}
 use Rattle.tables_numbers.specs.Marked.{kind_of, IsRowOf}
 use Rattle.code_insns.specs.Symbols.{Says, IndexStandsFor, resolved, name_in, has_index, places, ints, ints_from}
-use Rattle.code_insns.proofs.SaidRegisters.{mapped, said, length-ints_from, length-places}
+use Rattle.code_insns.proofs.SaidRegisters.{mapped, said, length-ints_from, length-places, units-said}
 use Rattle.code_renumber.specs.Indices.{IsIndex}
+use Rattle.base_bytes.proofs.ListFacts.{some_inj}
 
 -- ---- its name
 
@@ -55,13 +56,10 @@ pub record Named (N : ℕ → Name → Type 0) (op index : ℕ) (i : Insn) : Typ
   pub names : names_of_insn i ≡ which ∷ []
   pub stands : IndexStandsFor N op index which
 
-pub some_same : {V : Type 0} (x y : V) → Some x ≡ Some y → x ≡ y
-some_same x y e = cc
-
 moved : (N : ℕ → Name → Type 0) (o p x y : ℕ) (i made_of : Insn) (which : Name) → Some made_of ≡ Some i → names_of_insn made_of ≡ which ∷ [] → o ≡ p → x ≡ y → IndexStandsFor N o x which → Named N p y i
 moved N o p x y i made_of which e names a b n = record {
   which = which;
-  names = ap names_of_insn (sym (some_same made_of i e)) ∙ names;
+  names = ap names_of_insn (sym (some_inj made_of i e)) ∙ names;
   stands = subst (λ (q : ℕ). IndexStandsFor N p q which) b (subst (λ (q : ℕ). IndexStandsFor N q x which) a n);
 }
 
@@ -95,17 +93,3 @@ pub unnamed : (N : ℕ → Name → Type 0) (T : ℤ → Option ℕ) (r : Raw) (
 unnamed N T r i h s = said (λ i. names_of_insn i ≡ []) _ i (names_none T (name_in i) r h) s.symbol
 
 -- ---- its units
-
-pub units_said : (T : ℤ → Option ℕ) (w : Name) (r : Raw) → IfSome (resolved T w r) (λ i. units r ≡ insn_units i)
-unfolding resolved units insn_units ints
-units_said T w (raw.I10t op z) = mapped (λ i. 1 ≡ insn_units i) (λ to. made.I10t op to) (T z) (λ to e. refl)
-units_said T w (raw.I20t op z) = mapped (λ i. 2 ≡ insn_units i) (λ to. made.I20t op to) (T z) (λ to e. refl)
-units_said T w (raw.I21t op a z) = mapped (λ i. 2 ≡ insn_units i) (λ to. made.I21t op a to) (T z) (λ to e. refl)
-units_said T w (raw.I22t op a b z) = mapped (λ i. 2 ≡ insn_units i) (λ to. made.I22t op a b to) (T z) (λ to e. refl)
-units_said T w (raw.I30t op z) = mapped (λ i. 3 ≡ insn_units i) (λ to. made.I30t op to) (T z) (λ to e. refl)
-units_said T w (raw.I31t op a z) = mapped (λ i. 3 ≡ insn_units i) (λ to. made.I31t op a to) (T z) (λ to e. refl)
-units_said T w (raw.Packed first offsets) = mapped (λ i. 4 + 2 * (length offsets / 4) ≡ insn_units i) (λ to. made.Packed first to) (places T (ints_from offsets 0 (length offsets / 4)))
-    (λ to e. let m = length-places T (ints_from offsets 0 (length offsets / 4)) to e in let k = length-ints_from offsets 0 (length offsets / 4) in omega (arith, m, k))
-units_said T w (raw.Sparse keys offsets) = mapped (λ i. 2 + 4 * (length keys / 4) ≡ insn_units i) (λ to. made.Sparse (ints_from keys 0 (length keys / 4)) to) (places T (ints_from offsets 0 (length offsets / 4)))
-    (λ to e. let k = length-ints_from keys 0 (length keys / 4) in omega (arith, k))
-units_said T w _ = refl

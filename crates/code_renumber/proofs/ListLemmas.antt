@@ -15,15 +15,14 @@ use Rattle.code_read.specs.Tries.{handler_of}
 use Rattle.code_read.proofs.ListReading.{offsets-rise}
 use Rattle.program_types.specs.Formed.{try_at}
 use Rattle.program_types.specs.Content.{Try}
-use Rattle.code_put.proofs.FormLaws.{all-front, all-back}
 use Rattle.code_renumber.specs.Walks.{AreListed}
-use Rattle.code_renumber.proofs.HandlerLemmas.{number_one}
+use Rattle.base_bytes.proofs.ListFacts.{all_front, all_back, number_one}
 
 -- what holds of the parts of all holds of those of each
 pub all-part : {A B : Type 0} (P : B → Type 0) (f : A → List B) (xs : List A) (k : ℕ) (d : A) → AllByRecursion P (flat_map f xs) → k < length xs → AllByRecursion P (f (get_or xs k d))
 all-part P f [] k d all l = absurd (omega (arith, l))
-all-part P f (x ∷ xs) zero d all l = all-front P (f x) (flat_map f xs) all
-all-part P f (x ∷ xs) (suc k) d all l = all-part P f xs k d (all-back P (f x) (flat_map f xs) all) (omega (arith, l))
+all-part P f (x ∷ xs) zero d all l = all_front P (f x) (flat_map f xs) all
+all-part P f (x ∷ xs) (suc k) d all l = all-part P f xs k d (all_back P (f x) (flat_map f xs) all) (omega (arith, l))
 
 -- the offsets, the handlers, and how many types each catches
 abbrev pub offs : List (ℕ × Handler) → List ℕ
@@ -60,7 +59,7 @@ module _ (N : ℕ → Name → Type 0) (ss : List ℕ) where
         record { back = s.back; whole = refl; placed = subst (λ (k : ℕ). Placed (SpellsHandler N ss) k s.back hs) at s.each; short = omega (arith, size) },
       )
 
-  -- behind the count that was read
+  -- after the count that was read
   pub list_from : (bytes : List ℕ) (hs : List (ℕ × Handler)) (rest : List ℕ) (n : ℕ) (mid : List ℕ) → Takes Spells bytes n mid → Takes (SpellsList N ss) bytes hs rest → (length hs ≡ n) × ListDue N ss (length bytes) mid 0 hs rest
   list_from bytes hs rest n mid p t =
       let x = list_parts bytes hs rest t in
@@ -182,7 +181,7 @@ module _ (N : ℕ → Name → Type 0) (ss : List ℕ) where
   some_list zero list hs l s = absurd (omega (arith, l))
   some_list (suc n) list hs l s = s
 
-  pub list_of_tries : (size n : ℕ) (items bytes : List ℕ) (ts : List Try) → 0 < n → (r : ReadTries N ss size n items bytes ts) → Takes (SpellsList N ss) bytes r.tries.handlers r.behind
+  pub list_of_tries : (size n : ℕ) (items bytes : List ℕ) (ts : List Try) → 0 < n → (r : ReadTries N ss size n items bytes ts) → Takes (SpellsList N ss) bytes r.tries.handlers r.after
   list_of_tries size n items bytes ts some r = record { front = r.list; whole = r.joined; spelled = some_list n r.list r.tries.handlers some r.tries.spelled }
 
 -- the handler of try i, by its number in the list
@@ -199,7 +198,7 @@ handler_there N ss size n items bytes offsets catches ts some r l i lt =
     let hs = r.tries.handlers in
     let h = handler_of (try_at ts i) in
     let f = found_at hs (try_handler items i) h (r.tries.each i lt).handler in
-    let x = stands_there N ss bytes hs r.behind f.0 h (list_of_tries N ss size n items bytes ts some r) f.2 in
+    let x = stands_there N ss bytes hs r.after f.0 h (list_of_tries N ss size n items bytes ts some r) f.2 in
     record {
       number = f.0;
       at = subst (λ (os : List ℕ). position os (try_handler items i) ≡ Some f.0) (sym l.offsets_are) f.1;

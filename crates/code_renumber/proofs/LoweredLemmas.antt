@@ -26,7 +26,7 @@ use Rattle.code_insns.proofs.SaidRegisters.{addresses-same}
 use Rattle.code_put.specs.Fits.{ShortFits}
 use Rattle.code_put.specs.Packs.{IsOrigin, IsLowered, AreLowered}
 use Rattle.code_put.proofs.ListLaws.{all-at, all-from}
-use Rattle.code_read_laws.proofs.CodesFormed.{kind-at, uses-of}
+use Rattle.code_read.proofs.CodesFormed.{kind-at, uses-of}
 use Rattle.code_renumber.specs.Renumbered.{renumbered, CanBeRenumbered}
 use Rattle.code_renumber.proofs.ListLemmas.{all-part}
 use Rattle.code_renumber.proofs.UnitLemmas.{units-at}

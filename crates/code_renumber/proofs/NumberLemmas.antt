@@ -18,7 +18,8 @@ use Rattle.code_insns.specs.Symbols.{Says, IndexStandsFor, resolved, name_in}
 use Rattle.code_insns.specs.Payloads.{payload_of}
 use Rattle.code_put.specs.Fits.{short_name, ShortFits}
 use Rattle.code_renumber.specs.Renumbered.{number_in, renumbered, HasNumber, HasShortNumber, IsNumbered}
-use Rattle.code_renumber.proofs.InsnLemmas.{kind_is, of_kind, some_same}
+use Rattle.code_renumber.proofs.InsnLemmas.{kind_is, of_kind}
+use Rattle.base_bytes.proofs.ListFacts.{some_inj}
 
 -- the row has a number, by which it stands for the name
 record Renamed (M : ℕ → Name → Type 0) (numbers : Columns) (op i : ℕ) (which : Name) : Type 0 where
@@ -48,7 +49,7 @@ module _ (N M : ℕ → Name → Type 0) (numbers : Columns) where
   of_name : (op x : ℕ) (i made_of : Insn) (which : Name) → Some made_of ≡ Some i → names_of_insn made_of ≡ which ∷ [] → IndexStandsFor N op x which → Carried i → Renamed M numbers op x which
   of_name op x i made_of which e names n all =
       renamed op x which n
-      (subst (λ (ns : List Name). AllByRecursion (Carries N M numbers) ns) names (subst (λ (y : Insn). AllByRecursion (Carries N M numbers) (names_of_insn y)) (sym (some_same made_of i e)) all)).0
+      (subst (λ (ns : List Name). AllByRecursion (Carries N M numbers) ns) names (subst (λ (y : Insn). AllByRecursion (Carries N M numbers) (names_of_insn y)) (sym (some_inj made_of i e)) all)).0
 
   -- what is renumbered says the same by the other naming
   pub renumbered_says : (T : ℤ → Option ℕ) (r : Raw) (i : Insn) → Says N T r i → Carried i → Says M T (renumbered numbers r) i
@@ -63,7 +64,7 @@ module _ (N M : ℕ → Name → Type 0) (numbers : Columns) where
   -- a name's number fits where all of its indices do
   short_of : (op x : ℕ) (i made_of : Insn) (which : Name) → Some made_of ≡ Some i → short_name made_of ≡ Some which → Renamed M numbers op x which → ((table : IndexKind) → ShortFits M table i) → HasShortNumber numbers op x
   short_of op x i made_of which e short d fits =
-      let some : short_name i ≡ Some which = ap short_name (sym (some_same made_of i e)) ∙ short in
+      let some : short_name i ≡ Some which = ap short_name (sym (some_inj made_of i e)) ∙ short in
       let h = fits d.has.table in
       let f = subst (λ (o : Option Name). IfSome o (λ w. IsOfKind d.has.table w → (index : ℕ) → M index w → index < 65536)) some h in
       record { has = d.has; short = f (of_kind (index_kind_of op) d.has.table which d.has.asked d.stands.kind) (number_in numbers (index_kind_of op) x) d.stands.stands }

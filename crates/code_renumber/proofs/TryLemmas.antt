@@ -15,7 +15,7 @@ use Rattle.tables_names.proofs.FiveLemmas.{part_adds_nothing}
 use Rattle.tables_names.proofs.NeededLemmas.{names_append, with_names-holds}
 use Rattle.tables_rows.specs.Stands.{NameStands}
 use Rattle.tables_numbers.specs.Marked.{Marked, AreMarks, AddsNames}
-use Rattle.tables_numbers.proofs.MarkLemmas.{adds_none, adds_more}
+use Rattle.tables_numbers.proofs.MarkLemmas.{adds_none, adds_more, type_adds_nothing}
 use Rattle.code_insns.specs.Places.{position}
 use Rattle.code_insns.proofs.PlaceLaws.{position-there}
 use Rattle.code_read.specs.Handlers.{Handler, SpellsHandler, handler_at}
@@ -27,6 +27,7 @@ use Rattle.code_put.proofs.DistinctLaws.{catches-more}
 use Rattle.code_renumber.specs.Fronts.{types_of}
 use Rattle.code_renumber.specs.Walks.{MarksOnce, AreListed}
 use Rattle.code_renumber.proofs.ListLemmas.{all-part, HandlerThere, handler_there}
+use Rattle.code_insns.proofs.InsnsOnce.{some-one}
 
 -- past the end of a list
 abbrev pub no_try : Try
@@ -42,10 +43,6 @@ handler_some N ss bytes h rest t =
     omega (arith, a, j, w)
 
 -- ---- names that are marked already
-
-type_adds_nothing : (s : Five) (t : Units) → IsClosed s → AreRising s → Holds s (OfDesc t) → s ≡ with_name s (OfDesc t)
-unfolding with_name
-type_adds_nothing s t closed up h = part_adds_nothing s (type_closure (text_key t)) up (closed.of_types (text_key t) h)
 
 types_add_nothing : (s : Five) (cs : List Catch) → IsClosed s → AreRising s → AllByRecursion (Holds s) (types_of cs) → s ≡ with_names s (types_of cs)
 types_add_nothing s [] closed up all = refl
@@ -84,9 +81,6 @@ names_more ts i lt =
 same_handler : (items offsets : List ℕ) (i j k : ℕ) → position offsets (try_handler items i) ≡ Some k → position offsets (try_handler items j) ≡ Some k → try_handler items j ≡ try_handler items i
 same_handler items offsets i j k p q = sym (position-there offsets (try_handler items j) k q).1 ∙ (position-there offsets (try_handler items i) k p).1
 
-some_same : {V : Type 0} (o : Option V) (x y : V) → o ≡ Some x → o ≡ Some y → x ≡ y
-some_same o x y p q = cc
-
 module _ (b : List ℕ) (ss : List ℕ) (size n : ℕ) (items bytes offsets catches : List ℕ) (ts : List Try) (some : 0 < n) (r : ReadTries (NameStands b) ss size n items bytes ts) (l : AreListed r.tries.handlers offsets catches) where
   pub there : (i : ℕ) → i < n → HandlerThere (NameStands b) ss items bytes offsets catches i (handler_of (try_at ts i))
   there i lt = handler_there (NameStands b) ss size n items bytes offsets catches ts some r l i lt
@@ -95,13 +89,13 @@ module _ (b : List ℕ) (ss : List ℕ) (size n : ℕ) (items bytes offsets catc
   pub taken_at : (i k : ℕ) → i < n → position offsets (try_handler items i) ≡ Some k → (after : List ℕ) × Takes (SpellsHandler (NameStands b) ss) (drop (get_or offsets k 0) bytes) (handler_of (try_at ts i)) after
   taken_at i k lt at =
       let h = there i lt in
-      let same : h.number ≡ k = some_same (position offsets (try_handler items i)) h.number k h.at at in
+      let same : h.number ≡ k = some-one (position offsets (try_handler items i)) h.number k h.at at in
       (h.after, subst (λ (m : ℕ). Takes (SpellsHandler (NameStands b) ss) (drop (get_or offsets m 0) bytes) (handler_of (try_at ts i)) h.after) same h.taken)
 
   pub count_there : (i k : ℕ) → i < n → position offsets (try_handler items i) ≡ Some k → get_or catches k 0 ≡ length (try_at ts i).catches
   count_there i k lt at =
       let h = there i lt in
-      let same : h.number ≡ k = some_same (position offsets (try_handler items i)) h.number k h.at at in
+      let same : h.number ≡ k = some-one (position offsets (try_handler items i)) h.number k h.at at in
       subst (λ (m : ℕ). get_or catches m 0 ≡ length (try_at ts i).catches) same h.count
 
   same_catches : (i j k : ℕ) → i < n → j < n → position offsets (try_handler items i) ≡ Some k → position offsets (try_handler items j) ≡ Some k → names_of_try (try_at ts j) ≡ names_of_try (try_at ts i)
@@ -110,7 +104,7 @@ module _ (b : List ℕ) (ss : List ℕ) (size n : ℕ) (items bytes offsets catc
       let x = (r.tries.each i lt).handler in
       let y = (r.tries.each j ltj).handler in
       let h : handler_of (try_at ts j) ≡ handler_of (try_at ts i) =
-      some_same (handler_at r.tries.handlers (try_handler items i)) (handler_of (try_at ts j)) (handler_of (try_at ts i)) (subst (λ (o : ℕ). handler_at r.tries.handlers o ≡ Some (handler_of (try_at ts j))) off y) x in
+      some-one (handler_at r.tries.handlers (try_handler items i)) (handler_of (try_at ts j)) (handler_of (try_at ts i)) (subst (λ (o : ℕ). handler_at r.tries.handlers o ≡ Some (handler_of (try_at ts j))) off y) x in
       ap (λ (g : Handler). types_of g.catches) h
 
   held_again : (i j k : ℕ) → i < n → j < i → position offsets (try_handler items i) ≡ Some k → position offsets (try_handler items j) ≡ Some k → (s : Five) → AllByRecursion (Holds (with_names s (flat_map names_of_try (take i ts)))) (names_of_try (try_at ts i))

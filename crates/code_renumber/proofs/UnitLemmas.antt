@@ -8,12 +8,11 @@ use Rattle.code_insns.specs.Places.{place}
 use Rattle.code_insns.specs.Walk.{Run, starts, raw_at}
 use Rattle.code_insns.specs.Symbols.{name_in}
 use Rattle.code_insns.specs.Insns.{SpellsInsns}
-use Rattle.code_insns.proofs.SaidRegisters.{said}
-use Rattle.code_renumber.proofs.InsnLemmas.{units_said}
+use Rattle.code_insns.proofs.SaidRegisters.{said, units-said}
 
 module _ (N : ℕ → Name → Type 0) (us : List ℕ) (rs : List Raw) (is : List Insn) (s : SpellsInsns N us rs is) where
   pub units-at : (k : ℕ) → k < length rs → units (raw_at rs k) ≡ insn_units (insn_at is k)
-  units-at k l = let x = s.each k l in said (λ i. units (raw_at rs k) ≡ insn_units i) _ (insn_at is k) (units_said (place (starts rs) x.base) (name_in (insn_at is k)) (raw_at rs k)) x.says.symbol
+  units-at k l = let x = s.each k l in said (λ i. units (raw_at rs k) ≡ insn_units i) _ (insn_at is k) (units-said (place (starts rs) x.base) (name_in (insn_at is k)) (raw_at rs k)) x.says.symbol
 
   same-units : (qs : List Raw) (js : List Insn) → length js ≡ length qs → ((k : ℕ) → k < length qs → units (raw_at qs k) ≡ insn_units (insn_at js k)) → map units qs ≡ map insn_units js
   unfolding raw_at

@@ -1,4 +1,4 @@
--- Instructions one behind the other.
+-- Instructions one after the other.
 use Rattle.std.proofs.Common.{◌≡◌, ℕ, ℤ, ◌+◌, ◌/◌, ◌<◌, List, [], ◌∷◌, ◌++◌, length, take, refl, sym, ap, subst, ◌∙◌, arith, append_assoc, length-append}
 use Rattle.std.specs.List.{flat_map}
 use Rattle.std.proofs.lemmas.List.{take_more, take_all, append-nil}
@@ -18,7 +18,7 @@ use Rattle.code_insns.specs.Walk.{Run, Walks, starts, raw_at}
 use Rattle.code_insns.specs.Insns.{SpellsInsns}
 use Rattle.code_insns.proofs.Runs.{run-more, run-once, run-reaches, run-le}
 
--- what stands behind some of the instructions is the next of them
+-- what stands after some of the instructions is the next of them
 pub record Meets (rs : List Raw) (k : ℕ) (r : Raw) : Type 0 where
   pub inside : k < length rs
   pub same : raw_at rs k ≡ r

@@ -1,4 +1,4 @@
--- Instructions one behind the other, with other indices.
+-- Instructions one after the other, with other indices.
 use Rattle.std.proofs.Common.{◌≡◌, ℕ, ◌+◌, ◌-◌, ◌*◌, ◌/◌, ◌<◌, ◌≤◌, List, [], ◌∷◌, ◌++◌, length, map, take, drop, refl, sym, ap, subst, ◌∙◌, arith, append_assoc, length-append, length-drop, take_all}
 use borrow.Rule.Slice.PartMut.{put_mid}
 use Rattle.std.specs.List.{AllByRecursion}
@@ -70,7 +70,7 @@ begun_table us begins at rs e walk w short =
 
 -- ---- with other indices
 
--- as far as this unit they have their numbers, and behind it the units are as they were
+-- as far as this unit they have their numbers, and after it the units are as they were
 pub record WrittenTo (numbers : Columns) (us new : List ℕ) (at : ℕ) : Type 0 where
   pub before : List Raw
   pub run : Run us 0 before at

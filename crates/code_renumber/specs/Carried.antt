@@ -36,7 +36,8 @@ pub record AreCarriedCatches (b : List ℕ) (numbers : Columns) (s : Five) (ss :
   pub taken : Takes (Many (SpellsCatch (NameStands b) ss) n) bytes cs rest
   pub carried : AllByRecursion (Carries (NameStands b) (NameRanks s) numbers) (types_of cs)
 
--- Such a handler is.
+-- A handler is at the front of the bytes, and by these numbers each type that it catches has its rank among the names
+-- s.
 pub record IsCarriedHandler (b : List ℕ) (numbers : Columns) (s : Five) (ss bytes : List ℕ) (h : Handler) (rest : List ℕ) : Type 0 where
   pub taken : Takes (SpellsHandler (NameStands b) ss) bytes h rest
   pub carried : AllByRecursion (Carries (NameStands b) (NameRanks s) numbers) (types_of h.catches)

@@ -30,7 +30,7 @@ pub record HasNumber (numbers : Columns) (op i : ℕ) : Type 0 where
   pub asked : index_kind_of op ≡ Some table
   pub within : i < length (column_of numbers table)
 
--- .. of 16 bits.
+-- Row i of the table that an instruction with this opcode names has a number of 16 bits.
 pub record HasShortNumber (numbers : Columns) (op i : ℕ) : Type 0 where
   pub has : HasNumber numbers op i
   pub short : number_in numbers (index_kind_of op) i < 65536

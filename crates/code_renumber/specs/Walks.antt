@@ -32,7 +32,8 @@ MarksOnce b bytes offset old new seen more k =
     ((more ≡ set seen k 1) × ((ss : List ℕ) (h : Handler) (rest : List ℕ) → Takes (SpellsHandler (NameStands b) ss) (drop offset bytes) h rest → AddsNames b old new (types_of h.catches)))
     ⊎ ((0 < slice_index seen k) × (more ≡ seen) × (new ≡ old))
 
--- Such tries are carried, and the handlers of their list begin at these offsets.
+-- The try_items and handlers spell these tries, by these numbers each type that they catch has its rank among the names
+-- s, and the handlers of their list begin at these offsets.
 pub record CarriedList (b : List ℕ) (numbers : Columns) (s : Five) (ss : List ℕ) (size n : ℕ) (items bytes offsets : List ℕ) (ts : List Try) : Type 0 where
   pub tries : AreCarriedTries b numbers s ss size n items bytes ts
   pub catches : List ℕ
@@ -62,7 +63,7 @@ pub record CoversTry (ss items : List ℕ) (i : ℕ) (t : Try) : Type 0 where
   pub from : position ss (try_start items i) ≡ Some t.from
   pub to : t.to ≡ count_below (try_start items i + try_count items i) ss
 
--- So do the n try_items with these tries.
+-- The n try_items begin at the first instructions of these tries and cover them as far as their last ones.
 pub record CoverTries (ss items : List ℕ) (n : ℕ) (ts : List Try) : Type 0 where
   pub count : length ts ≡ n
   pub each : (i : ℕ) → i < n → CoversTry ss items i (try_at ts i)

@@ -30,7 +30,7 @@ use tables_numbers::{Marks, Numbers};
 /// Marks the rows that the code at an offset names, and those of their parts, and answers how many bytes the code takes
 /// at most, in a file of any rows.
 ///
-/// A code has to stand at the offset, and `codes` to be the section of the code items. The only refusal is want of memory, and then some of the rows may be marked.
+/// A code has to stand at the offset, and `codes` to be the section of the code items. It fails only when out of memory, and then some of the rows may be marked.
 ///
 /// ```
 /// let mut marks = Marks::new(alloc, &sections)?;
@@ -89,8 +89,8 @@ fn starts_asked(alloc: Global, item: &Item<'_>) -> Result<Vec<u32>, Fault>
 }
 
 /// The bytes of the code at an offset in a file of the kept rows: debug_info_off and padding 0, numbers in the fewest
-/// bytes, each handler once, in the order of first use. Refused with 89, at 0, where a handler begins too far behind the
-/// list's begin, and else only for want of memory.
+/// bytes, each handler once, in the order of first use. Refused with 89, at 0, where a handler begins too far after the
+/// list's begin, and else only when out of memory.
 ///
 /// A code has to stand at the offset, `codes` to be the section of the code items, and each row that it names has to be kept, with a
 /// number that fits its field.

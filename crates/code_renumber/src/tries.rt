@@ -295,7 +295,7 @@ fn put_item(
     put_u16(out, offset)
 }
 
-/// Appends the try_items, whose handlers begin at these offsets. 89 where one begins too far behind the list's begin.
+/// Appends the try_items, whose handlers begin at these offsets. 89 where one begins too far after the list's begin.
 pub(crate) fn put_items(
     out: &mut Vec<u8>,
     item: &Item<'_>,

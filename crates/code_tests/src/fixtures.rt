@@ -43,14 +43,14 @@ pub fn read_at<'a>(
     read_code(alloc, arena, &tables, &sections, off)
 }
 
-/// The code of an item of 256 registers, no ins, no outs: so many tries, these units, and what stands behind them.
+/// The code of an item of 256 registers, no ins, no outs: so many tries, these units, and what stands after them.
 pub fn read_units<'a>(
     alloc: Global,
     arena: &'a Bump,
     tries: u8,
     units: &[u8],
-    behind: &[u8],
+    after: &[u8],
 ) -> Result<Code<'a>, Fault> {
-    let item = item_of(alloc, 256, tries, units, behind)?;
+    let item = item_of(alloc, 256, tries, units, after)?;
     read_at(alloc, arena, &item, CODE_AT)
 }

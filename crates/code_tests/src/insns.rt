@@ -8,7 +8,7 @@ use program_types::{Code, Insn};
 use std::alloc::Global;
 use std::test::Fail;
 
-// The digits told so far, and behind them so many more.
+// The digits told so far, and after them so many more.
 fn then(sum: u64, scale: u64, more: u64) -> u64 {
     sum.wrapping_mul(scale).wrapping_add(more)
 }
@@ -50,7 +50,7 @@ fn told(one: &Insn<'_>) -> u64 {
     }
 }
 
-/// Instructions as numbers of five digits, one behind the other.
+/// Instructions as numbers of five digits, one after the other.
 pub fn all_told(code: &Code<'_>) -> u64 {
     let mut sum = 0u64;
     for one in code.insns {
@@ -90,7 +90,7 @@ fn instructions_are_read(rt: HostRuntime) -> Result<(), Fail> {
             443021000057001,
         ),
         (
-            "a switch whose target is the nop behind it",
+            "a switch whose target is the nop after it",
             &[
                 0x2b, 0, 4, 0, 0, 0, 0, 0, 0, 1, 1, 0, 0, 0, 0, 0, 3, 0, 0, 0,
             ],

@@ -41,7 +41,7 @@ fn an_item_stands_aligned_in_its_section(rt: HostRuntime) -> Result<(), Fail> {
     none_wrong(Ok(first_otherwise(rt.alloc(), &CASES)))
 }
 
-// A loop of 5 units with one try, which begins 28 bytes behind the item, and a list of handlers 36 bytes behind it.
+// A loop of 5 units with one try, which begins 28 bytes after the item, and a list of handlers 36 bytes after it.
 #[rattlefmt::skip]
 #[test]
 fn a_try_that_is_wrong_is_told_at_its_place(rt: HostRuntime) -> Result<(), Fail> {

@@ -54,7 +54,7 @@ static ITEM: [u8; 39] = [
     0, 1, 0, 0, 0, 3, 0, 1, 0, 1, 0, 4,
 ];
 
-// A switch of three units, and its payload right behind it.
+// A switch of three units, and its payload right after it.
 static ODD: Code<'static> = Code {
     registers: 1,
     ins: 0,

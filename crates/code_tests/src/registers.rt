@@ -10,7 +10,7 @@ use std::test::Fail;
 /// What it is, registers, ins, the units, and the place of the fault: 0 where there is none.
 type Case = (&'static str, u16, u16, &'static [u8], u64);
 
-// Behind the item's begin.
+// After the item's begin.
 const ITEM: u64 = CODE_AT as u64;
 
 const INSNS: u64 = ITEM + 16;
@@ -20,7 +20,7 @@ static CASES: [Case; 13] = [
     ("ins past the registers", 1, 2, &[0x0e, 0], ITEM),
     ("ins before instructions", 1, 2, &[0x0f, 1, 0x0e, 0], ITEM),
     ("the last register", 2, 2, &[0x0f, 1], 0),
-    ("the one behind it", 1, 1, &[0x0f, 1], INSNS),
+    ("the one after it", 1, 1, &[0x0f, 1], INSNS),
     (
         "the first of two instructions",
         1,

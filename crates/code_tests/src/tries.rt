@@ -8,7 +8,7 @@ use program_types::{Catch, Code, Try};
 use std::alloc::Global;
 use std::test::Fail;
 
-// The digits told so far, and behind them so many more.
+// The digits told so far, and after them so many more.
 fn then(sum: u64, scale: u64, more: u64) -> u64 {
     sum.wrapping_mul(scale).wrapping_add(more)
 }
@@ -52,18 +52,18 @@ fn all_told(code: &Code<'_>) -> u64 {
     sum
 }
 
-// What it is, the units, what stands behind them, and what is told of the tries.
+// What it is, the units, what stands after them, and what is told of the tries.
 type Case = (&'static str, &'static [u8], &'static [u8], u64);
 
-fn told_of(alloc: Global, units: &[u8], behind: &[u8]) -> Result<u64, Fault> {
+fn told_of(alloc: Global, units: &[u8], after: &[u8]) -> Result<u64, Fault> {
     let arena = Bump::new(alloc);
-    let code = read_units(alloc, &arena, 1, units, behind)?;
+    let code = read_units(alloc, &arena, 1, units, after)?;
     Ok(all_told(&code))
 }
 
 fn first_otherwise(alloc: Global, cases: &[Case]) -> Result<Option<&'static str>, Fault> {
-    for (what, units, behind, want) in cases {
-        if told_of(alloc, units, behind)? != *want {
+    for (what, units, after, want) in cases {
+        if told_of(alloc, units, after)? != *want {
             return Ok(Some(*what));
         }
     }

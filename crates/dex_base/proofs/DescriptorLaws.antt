@@ -3,21 +3,21 @@ use Rattle.std.proofs.Common.{◌≡◌, ℕ, zero, suc, ◌+◌, ◌-◌, ◌<�
 use Rattle.std.proofs.Math.Seq.{take-add}
 use Rattle.std.proofs.lemmas.Bool.{cases_order}
 use Rattle.std.proofs.lemmas.List.{length-append, length-drop, take-append-drop, append_cancel_left, drop_more, drop-drop, get_or-drop, get_or-take, get_or-replicate, get_or-append_right, get_or_append_left, length-replicate, take_more, take_all, length-take-le, append-nil, drop_at}
-use Rattle.dex_base.specs.Descriptor.{IsSimpleName, Joins, IsClass, IsElement, IsField, IsDescriptor, HasFront, NoFront, IsPrefixFree}
+use Rattle.dex_base.specs.Descriptor.{IsSimpleName, Joins, IsClass, IsElement, IsFieldType, IsDescriptor, HasFront, NoFront, IsPrefixFree}
 use Rattle.dex_base.specs.Names.{IsRun, IsClassTail, IsDepth}
 use Rattle.dex_base.proofs.NameUnits.{element_not_open, primitive_not_class}
 use Rattle.dex_base.proofs.NameLaws.{none_at_stop, run_simple, run_whole}
 
 -- ---- a class name and `;`
 
--- what stands behind the run at the front of a class name and `;`
+-- what stands after the run at the front of a class name and `;`
 pub record IsTailStep (units : List ℕ) (run : ℕ) : Type 0 where
   pub some : 0 < run
   pub inside : run < length units
   pub next : (get_or units run 0 ≡ 59) ⊎ ((get_or units run 0 ≡ 47) × ((front : List ℕ) × (rest : List ℕ) × (drop (run + 1) units ≡ front ++ rest) × IsClassTail front))
 
-behind_name : (units name rest : List ℕ) (c run : ℕ) → units ≡ name ++ c ∷ rest → take run units ≡ name → drop run units ≡ c ∷ rest
-behind_name units name rest c run e t = append_cancel_left (take run units) (drop run units) (c ∷ rest) (take-append-drop run units ∙ e ∙ ap (λ l. l ++ c ∷ rest) (sym t))
+after_name : (units name rest : List ℕ) (c run : ℕ) → units ≡ name ++ c ∷ rest → take run units ≡ name → drop run units ≡ c ∷ rest
+after_name units name rest c run e t = append_cancel_left (take run units) (drop run units) (c ∷ rest) (take-append-drop run units ∙ e ∙ ap (λ l. l ++ c ∷ rest) (sym t))
 
 stop_inside : (units rest : List ℕ) (c run : ℕ) → drop run units ≡ c ∷ rest → run < length units
 stop_inside units rest c run d = let n = length-drop run units in let m = ap length d in omega arith
@@ -32,13 +32,13 @@ tail_joined units name tail run [] r j e = absurd j
 tail_joined units name tail run (n ∷ []) r j e =
     let whole : units ≡ n ++ 59 ∷ tail = e ∙ ap (λ l. l ++ 59 ∷ tail) j.1 in
     let w = run_whole units n (59 ∷ tail) run r j.0 (none_at_stop 59 tail (inr (inl refl))) whole in
-    let d = behind_name units n tail 59 run whole w.0 in
+    let d = after_name units n tail 59 run whole w.0 in
     record { some = w.1; inside = stop_inside units tail 59 run d; next = inl (stop_at units tail 59 run d).0 }
 tail_joined units name tail run (n ∷ m ∷ ns) r j e =
     let more = j.1.0 ++ 59 ∷ tail in
     let whole : units ≡ n ++ 47 ∷ more = e ∙ ap (λ l. l ++ 59 ∷ tail) j.1.1 ∙ append_assoc n (47 ∷ j.1.0) (59 ∷ tail) in
     let w = run_whole units n (47 ∷ more) run r j.0 (none_at_stop 47 more (inl refl)) whole in
-    let d = behind_name units n more 47 run whole w.0 in
+    let d = after_name units n more 47 run whole w.0 in
     let s = stop_at units more 47 run d in
     record {
       some = w.1;
@@ -53,13 +53,13 @@ tail_step units front rest run r e t = tail_joined units t.0 rest run t.1.0 r t.
 pub tail_none : (units : List ℕ) (run : ℕ) → IsRun units run → (IsTailStep units run → ⊥) → NoFront IsClassTail units
 tail_none units run r never front rest e t = never (tail_step units front rest run r e t)
 
--- the run, and `;` behind it
+-- the run, and `;` after it
 pub tail_last : (units : List ℕ) (run : ℕ) → IsRun units run → 0 < run → run < length units → get_or units run 0 ≡ 59 → HasFront IsClassTail units (run + 1)
 tail_last units run r some inside end =
     let s = run_simple units run r some in
     (omega arith, (take run units, ((take run units ∷ []), (s, refl)), take_more units run 0 inside ∙ ap (λ c. take run units ++ c ∷ []) end))
 
--- the run, `/` behind it, and then more
+-- the run, `/` after it, and then more
 pub tail_more : (units : List ℕ) (run n : ℕ) → IsRun units run → 0 < run → run < length units → get_or units run 0 ≡ 47 → HasFront IsClassTail (drop (run + 1) units) n → HasFront IsClassTail units (run + 1 + n)
 tail_more units run n r some inside slash (fits, (name, (names, j), e)) =
     let l = length-drop (run + 1) units in
@@ -74,19 +74,19 @@ tail_more units run n r some inside slash (fits, (name, (names, j), e)) =
     go [] j s = absurd j
     go (m ∷ ms) j s = (take run units ++ 47 ∷ name, (take run units ∷ m ∷ ms, (s, (name, refl, j))), whole)
 
--- where nothing goes on behind the `/`, nothing stands at the front
+-- where nothing goes on after the `/`, nothing stands at the front
 pub tail_skip : (units : List ℕ) (run : ℕ) → IsRun units run → 0 < run → run < length units → get_or units run 0 ≡ 47 → NoFront IsClassTail (drop (run + 1) units) → NoFront IsClassTail units
 tail_skip units run r some inside slash never = tail_none units run r (λ s. elim s.next [ inl e ↦ absurd (omega arith) | inr e ↦ never e.1.0 e.1.1 e.1.2 e.1.3 ])
 
--- ---- the tail of the units behind the first simple names
+-- ---- the tail of the units after the first simple names
 
--- behind the first `k` units a class name and `;` goes on, if one stands at the front at all
+-- after the first `k` units a class name and `;` goes on, if one stands at the front at all
 pub record IsTailAt (units : List ℕ) (k : ℕ) : Type 0 where
   pub inside : k ≤ length units
   pub found : (n : ℕ) → HasFront IsClassTail (drop k units) n → HasFront IsClassTail units (k + n)
   pub none : NoFront IsClassTail (drop k units) → NoFront IsClassTail units
 
--- `k` units, a run and what stands behind it
+-- `k` units, a run and what stands after it
 pub record IsTailRun (units : List ℕ) (k run : ℕ) : Type 0 where
   pub before : IsTailAt units k
   pub run_is : IsRun (drop k units) run
@@ -140,22 +140,22 @@ same_depth units tail m n d inside head e = elim (cases_order m n) [
       absurd (d.next (omega (arith, ap length e, length-append (replicate m 91) tail, length-replicate {A = ℕ} m 91)) a)
 ]
 
-pub field_found : (units : List ℕ) (n m : ℕ) → IsDepth units n → n ≤ length units → n ≤ 255 → HasFront IsElement (drop n units) m → HasFront IsField units (n + m)
+pub field_found : (units : List ℕ) (n m : ℕ) → IsDepth units n → n ≤ length units → n ≤ 255 → HasFront IsElement (drop n units) m → HasFront IsFieldType units (n + m)
 field_found units n m d inside small (fits, e) =
     let l = length-drop n units in
     (omega arith, (n, take m (drop n units), small, e, take-add n m units ∙ ap (λ t. t ++ take m (drop n units)) d.front))
 
--- the `[` of a field's type are all that stand at the front, and behind them stands an element
-field_front : (units front rest : List ℕ) (n : ℕ) → IsDepth units n → n ≤ length units → units ≡ front ++ rest → IsField front → (n ≤ 255) × ((el : List ℕ) × IsElement el × (drop n units ≡ el ++ rest))
+-- the `[` of a field's type are all that stand at the front, and after them stands an element
+field_front : (units front rest : List ℕ) (n : ℕ) → IsDepth units n → n ≤ length units → units ≡ front ++ rest → IsFieldType front → (n ≤ 255) × ((el : List ℕ) × IsElement el × (drop n units ≡ el ++ rest))
 field_front units front rest n d inside e (m, el, small, p, f) =
     let whole : units ≡ replicate m 91 ++ (el ++ rest) = e ∙ ap (λ l. l ++ rest) f ∙ append_assoc (replicate m 91) el rest in
     let same = same_depth units (el ++ rest) m n d inside (element_not_open el rest p) whole in
     (omega arith, (el, p, ap (drop n) whole ∙ drop_at (replicate m 91) (el ++ rest) n (length-replicate m 91 ∙ same)))
 
-pub field_none_deep : (units : List ℕ) (n : ℕ) → IsDepth units n → n ≤ length units → 255 < n → NoFront IsField units
+pub field_none_deep : (units : List ℕ) (n : ℕ) → IsDepth units n → n ≤ length units → 255 < n → NoFront IsFieldType units
 field_none_deep units n d inside deep front rest e f = let s = (field_front units front rest n d inside e f).0 in absurd (omega arith)
 
-pub field_none : (units : List ℕ) (n : ℕ) → IsDepth units n → n ≤ length units → NoFront IsElement (drop n units) → NoFront IsField units
+pub field_none : (units : List ℕ) (n : ℕ) → IsDepth units n → n ≤ length units → NoFront IsElement (drop n units) → NoFront IsFieldType units
 field_none units n d inside never front rest e f = let s = (field_front units front rest n d inside e f).1 in never s.0 rest s.2 s.1
 
 -- ---- fronts and wholes

@@ -83,7 +83,7 @@ none_at_stop c rest s = point_none (c ∷ rest) (λ d len h. elim h [ inl p ↦ 
 pub none_at_end : NoneBegins SpellsPoint []
 none_at_end = point_none [] (λ d len h. elim h [ inl p ↦ absurd (omega arith) | inr p ↦ absurd (omega arith) ])
 
--- ---- points one behind the other
+-- ---- points one after the other
 
 pub each_is : (points units : List ℕ) → Each SpellsPoint units points → AllByRecursion IsNamePoint points × (units ≡ flat_map point_units points)
 each_is [] units e = (tt, e)
@@ -95,7 +95,7 @@ pub each_from : (points : List ℕ) → AllByRecursion IsNamePoint points → Ea
 each_from [] h = refl
 each_from (c ∷ points) h = (point_units c, flat_map point_units points, refl, (h.0, refl), each_from points h.1)
 
--- two fronts behind which no code point stands are one
+-- two fronts after which no code point stands are one
 pub run_is : (ps qs : List ℕ) (a b x y : List ℕ) → Each SpellsPoint a ps → Each SpellsPoint b qs → NoneBegins SpellsPoint x → NoneBegins SpellsPoint y → a ++ x ≡ b ++ y → (a ≡ b) × (ps ≡ qs)
 run_is ps qs a b x y p q nx ny e = elim (cases_order (length ps) (length qs)) [
   | inl same ↦ Each-unique SpellsPoint point_unique ps qs a b x y same p q e
@@ -114,7 +114,7 @@ run_simple units len r some =
     no_points [] e none = let n = length-take-le len units r.read.inside in omega (arith, ap length e)
     no_points (p ∷ ps) e none = cc
 
--- a simple name behind which no code point stands is the run
+-- a simple name after which no code point stands is the run
 pub run_whole : (units name tail : List ℕ) (len : ℕ) → IsRun units len → IsSimpleName name → NoneBegins SpellsPoint tail → units ≡ name ++ tail → (take len units ≡ name) × (0 < len)
 run_whole units name tail len r s none e =
     let q : Each SpellsPoint name s.points = rw s.spelled (each_from s.points s.allowed) in

@@ -2,7 +2,7 @@
 use Rattle.std.proofs.Common.{◌≡◌, ◌≢◌, ℕ, zero, suc, ◌≤◌, ◌⊎◌, inl, inr, List, [], ◌∷◌, ◌++◌, get_or, replicate, refl, sym, ap, ◌∙◌, append_assoc, arith}
 use Rattle.std.proofs.lemmas.Bool.{cases_lt}
 use Rattle.std.specs.List.{flat_map, All, AllByRecursion}
-use Rattle.dex_base.specs.Descriptor.{IsWithin, IsNamePoint, point_units, IsSimpleName, IsMemberName, Joins, IsClassName, IsClass, IsPrimitive, IsElement, IsField, IsDescriptor, IsPrefixFree}
+use Rattle.dex_base.specs.Descriptor.{IsWithin, IsNamePoint, point_units, IsSimpleName, IsMemberName, Joins, IsClassName, IsClass, IsPrimitive, IsElement, IsFieldType, IsDescriptor, IsPrefixFree}
 use Rattle.dex_base.proofs.NameLaws.{units_one, units_two}
 
 -- ---- all elements
@@ -191,7 +191,7 @@ depth_same (suc m) (suc n) s t p q e =
     let r = depth_same m n s t p q h in
     (ap suc r.0, r.1)
 
-pub field_prefix_free : IsPrefixFree IsField
+pub field_prefix_free : IsPrefixFree IsFieldType
 field_prefix_free a b x y (m, s, i, p, d) (n, t, j, q, f) e =
     let h : replicate m 91 ++ (s ++ x) ≡ replicate n 91 ++ (t ++ y) = sym (append_assoc (replicate m 91) s x) ∙ ap (λ l. l ++ x) (sym d) ∙ e ∙ ap (λ l. l ++ y) f ∙ append_assoc (replicate n 91) t y in
     let r = depth_same m n (s ++ x) (t ++ y) (element_not_open s x p) (element_not_open t y q) h in
@@ -199,7 +199,7 @@ field_prefix_free a b x y (m, s, i, p, d) (n, t, j, q, f) e =
     let v = r.0 in let w = u.0 in
     (d ∙ ap (λ k. replicate k 91 ++ s) v ∙ ap (λ l. replicate n 91 ++ l) w ∙ sym f, u.1)
 
-field_not_void : (units rest : List ℕ) → IsField units → get_or (units ++ rest) 0 0 ≡ 86 → ⊥
+field_not_void : (units rest : List ℕ) → IsFieldType units → get_or (units ++ rest) 0 0 ≡ 86 → ⊥
 field_not_void units rest (zero, el, small, p, d) e = (head_not _ (head_of el rest p)).1 (ap (λ l. get_or (l ++ rest) 0 0) (sym d) ∙ e)
 field_not_void units rest (suc n, el, small, p, d) e = let h : ◌≡◌ {A = ℕ} 91 86 = ap (λ l. get_or (l ++ rest) 0 0) (sym d) ∙ e in absurd (omega arith)
 

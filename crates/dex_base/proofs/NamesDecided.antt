@@ -5,7 +5,7 @@ use Rattle.std.proofs.lemmas.List.{take_at, drop_at, length-replicate}
 use Rattle.std.proofs.lemmas.Bool.{cases_eq}
 use Rattle.base_bytes.specs.Grammar.{Takes, Each}
 use Rattle.dex_base.specs.Names.{SpellsPoint}
-use Rattle.dex_base.specs.Descriptor.{IsWithin, IsNamePoint, point_units, IsSimpleName, IsMemberName, Joins, IsClassName, IsClass, IsPrimitive, IsElement, IsField, IsDescriptor, IsArray}
+use Rattle.dex_base.specs.Descriptor.{IsWithin, IsNamePoint, point_units, IsSimpleName, IsMemberName, Joins, IsClassName, IsClass, IsPrimitive, IsElement, IsFieldType, IsDescriptor, IsArray}
 use Rattle.dex_base.proofs.NameLaws.{point_some, point_front, point_unique, each_is, each_from, simple_some}
 use Rattle.base_bytes.proofs.TakesLaws.{Takes-length, Takes-unique}
 use Rattle.base_bytes.specs.Deciding.{Decided, DecidedFront}
@@ -29,7 +29,7 @@ decide_point = decide_bounded SpellsPoint 0x110000 (λ front c s. point_below c 
 
 -- ---- simple names
 
--- points, one behind the other
+-- points, one after the other
 ArePoints : List ℕ → Type 0
 ArePoints units = (points : List ℕ) × Each SpellsPoint units points
 
@@ -154,7 +154,7 @@ decide_one (c ∷ d ∷ units) = inr (λ x. let e = x.2 in absurd cc)
 decide_element : (units : List ℕ) → Decided (IsElement units)
 decide_element units = decide_either (decide_one units) (decide_class units)
 
-decide_field : (units : List ℕ) → Decided (IsField units)
+decide_field : (units : List ℕ) → Decided (IsFieldType units)
 decide_field units =
     elim (decide_below (λ n. IsElement (drop n units) × (units ≡ replicate n 91 ++ drop n units)) (λ n. decide_both (decide_element (drop n units)) (decide_list units (replicate n 91 ++ drop n units))) 256) [
       | inl x ↦ inl (x.0, drop x.0 units, (let lt = x.1 in omega (arith, lt)), x.2.0, x.2.1)

@@ -57,7 +57,7 @@ packed_length bytes units p =
     let c = Ended-most (Counted (Shortest Spells) SpellsUnit) _ (Counted-most (Shortest Spells) SpellsUnit 5 (λ u. length (unit_bytes u)) (Shortest-most Spells (λ _. 5) Spells-most) unit_most) bytes units p in
     omega (arith, c)
 
--- the same units, one behind the other, are the same bytes
+-- the same units, one after the other, are the same bytes
 pub each_same : (units a b : List ℕ) → Each SpellsUnit a units → Each SpellsUnit b units → a ≡ b
 each_same [] a b p q = p ∙ sym q
 each_same (u ∷ units) a b p q =

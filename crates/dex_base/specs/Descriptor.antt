@@ -50,13 +50,13 @@ IsPrimitive c = (c ≡ 90) ⊎ (c ≡ 66) ⊎ (c ≡ 83) ⊎ (c ≡ 67) ⊎ (c �
 abbrev pub IsElement : List ℕ → Type 0
 IsElement units = ((c : ℕ) × IsPrimitive c × (units ≡ c ∷ [])) ⊎ IsClass units
 
--- At most 255 `[` (91), and behind them a primitive type or a class (FieldTypeDescriptor).
-abbrev pub IsField : List ℕ → Type 0
-IsField units = (n : ℕ) × (element : List ℕ) × (n ≤ 255) × IsElement element × (units ≡ replicate n 91 ++ element)
+-- At most 255 `[` (91), and after them a primitive type or a class (FieldTypeDescriptor).
+abbrev pub IsFieldType : List ℕ → Type 0
+IsFieldType units = (n : ℕ) × (element : List ℕ) × (n ≤ 255) × IsElement element × (units ≡ replicate n 91 ++ element)
 
 -- `V`, or the type of a field (TypeDescriptor).
 abbrev pub IsDescriptor : List ℕ → Type 0
-IsDescriptor units = (units ≡ codes "V") ⊎ IsField units
+IsDescriptor units = (units ≡ codes "V") ⊎ IsFieldType units
 
 -- The descriptor of an array: one that begins with `[` (91).
 abbrev pub IsArray : List ℕ → Type 0

@@ -26,7 +26,7 @@ pub record IsRun (units : List ℕ) (len : ℕ) : Type 0 where
   pub read : Begins (Each SpellsPoint) units points len
   pub ends : NoneBegins SpellsPoint (drop len units)
 
--- What stands behind the `L` of a class: a class name and `;`.
+-- What stands after the `L` of a class: a class name and `;`.
 abbrev pub IsClassTail : List ℕ → Type 0
 IsClassTail units = (name : List ℕ) × IsClassName name × (units ≡ name ++ codes ";")
 

@@ -2,7 +2,7 @@
 //! units, and the tests ask whether it is all of them.
 
 ghost use Rattle.std.specs.Prelude.{◌≡◌, ℕ, ◌<◌, ◌≤◌, ◌++◌, ◌↔◌, List, length, take, IsTrue, IfSome, IfNone};
-ghost use Rattle.dex_base.specs.Descriptor.{IsClass, IsPrimitive, IsElement, IsField, IsDescriptor, IsArray, HasFront, NoFront};
+ghost use Rattle.dex_base.specs.Descriptor.{IsClass, IsPrimitive, IsElement, IsFieldType, IsDescriptor, IsArray, HasFront, NoFront};
 ghost use Rattle.dex_base.specs.Names.{IsClassTail, IsDepth};
 
 use crate::simple_name::name_run;
@@ -100,8 +100,8 @@ fn depth(units: &[u16]) -> usize
 
 /// The length of the descriptor of a field's type at the front.
 fn field_length(units: &[u16]) -> Option<usize>
-    ensures found { IfSome result (λ n. HasFront IsField units.now n) }
-    ensures none { IfNone result (NoFront IsField units.now) }
+    ensures found { IfSome result (λ n. HasFront IsFieldType units.now n) }
+    ensures none { IfNone result (NoFront IsFieldType units.now) }
 {
     let n = depth(units);
     if n > MAX_DIMENSIONS {

@@ -20,8 +20,8 @@ mod simple_name;
 mod laws;
 
 pub use base_bytes::{
-    Fault, adler32, fault, fault_name, push_words, put_sleb, put_u32_at, put_uleb, read_sleb,
-    read_uleb, u16_at, u32_at,
+    Fault, adler32, fault, fault_name, fault_sentence, push_words, put_sleb, put_u32_at, put_uleb,
+    read_sleb, read_uleb, u16_at, u32_at,
 };
 pub use descriptor::{descriptor_length, is_array, is_class, is_descriptor};
 pub use laws::{

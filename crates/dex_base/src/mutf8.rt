@@ -127,7 +127,7 @@ fn read_units<'a>(
 ///
 /// None where no front of the bytes is one: the count is misspelled or above the units that follow, a unit is
 /// misspelled (overlong, or of four bytes), or no zero ends it. Lone surrogates are units like others. The only error
-/// is want of memory; the count is compared with the bytes that are left before memory is asked for it.
+/// is out of memory; the count is compared with the bytes that are left before memory is asked for it.
 ///
 /// ```
 /// use bumpalo::Bump;
@@ -183,7 +183,7 @@ fn put_unit(out: &mut Vec<u8>, unit: u16)
 
 /// Appends the string_data_item of at most 4294967295 units: the shortest spelling of their count, the units, a zero.
 ///
-/// The only error is want of memory, and then `out` holds what it held; where there is room for three bytes a unit and 6
+/// It fails only when out of memory, and then `out` holds what it held; where there is room for three bytes a unit and 6
 /// more, there is none.
 ///
 /// ```

@@ -8,8 +8,7 @@
 //! put_code(&mut out, &ranks, &code)?;
 //! ```
 //!
-//! Its rooms: `code_insns` and `code_read` (read), `code_put` and `code_fits` (written, and whether it fits), `code_align`,
-//! `code_put_laws` and `code_read_laws`.
+//! Its rooms: `code_insns` and `code_read` (read), `code_put` and `code_fits` (written, and whether it fits), `code_align`.
 #![tactic(auto)]
 
 pub use code_align::align;

@@ -10,24 +10,24 @@ use Rattle.base_bytes.proofs.FieldBounds.{u32_at-bytes, u32_at-append, length-u3
 use Rattle.base_bytes.specs.Fields.{u16_at, u32_at}
 use Rattle.sha1.specs.Sha1.{sha1, digest_bytes, hash_after, padded_message}
 use Rattle.dex_container.specs.Frame.{HasChecksum, HasSignature, HasMagic, HasVersion}
-use Rattle.dex_container.specs.Closed.{signed, closed, IsClosed}
+use Rattle.dex_container.specs.Closed.{with_signature, with_sums, SetsSums}
 
 -- what `&xs[n..]` is
 pub tail_is : (xs : List ℕ) (n : ℕ) → take (length xs - n) (drop n xs) ≡ drop n xs
 tail_is xs n = take_all _ (drop n xs) (simp length-drop (omega arith))
 
-pub signed_by_parts : (b d : List ℕ) → d ≡ sha1 (take (length b - 32) (drop 32 b)) → put_mid 12 20 b d ≡ take 12 b ++ signed b
-unfolding signed
+pub signed_by_parts : (b d : List ℕ) → d ≡ sha1 (take (length b - 32) (drop 32 b)) → put_mid 12 20 b d ≡ take 12 b ++ with_signature b
+unfolding with_signature
 signed_by_parts b d e = rw (e, tail_is b 32, drop-drop 20 12 b) refl
 
-pub closed_by_parts : (b s : List ℕ) (n : ℕ) → 32 ≤ length b → s ≡ take 12 b ++ signed b → n ≡ adler32 (take (length s - 12) (drop 12 s))
-    → take 8 s ++ (u32_bytes n ++ drop 12 s) ≡ closed b
-unfolding closed
+pub closed_by_parts : (b s : List ℕ) (n : ℕ) → 32 ≤ length b → s ≡ take 12 b ++ with_signature b → n ≡ adler32 (take (length s - 12) (drop 12 s))
+    → take 8 s ++ (u32_bytes n ++ drop 12 s) ≡ with_sums b
+unfolding with_sums
 closed_by_parts b s n long e sum =
     let front : length (take 12 b) ≡ 12 = simp length-take (omega arith) in
-    let back : drop 12 s ≡ signed b = rw e (drop_at (take 12 b) (signed b) 12 front) in
+    let back : drop 12 s ≡ with_signature b = rw e (drop_at (take 12 b) (with_signature b) 12 front) in
     let first : take 8 s ≡ take 8 b =
-    rw e (take-append-le 8 (take 12 b) (signed b) (omega arith) ∙ take-take 8 12 b (lit≤ tt)) in
+    rw e (take-append-le 8 (take 12 b) (with_signature b) (omega arith) ∙ take-take 8 12 b (lit≤ tt)) in
     rw (sum, tail_is s 12, back, first) refl
 
 length-digest_bytes : (h : List ℕ) (n : ℕ) → length (digest_bytes h n) ≡ n * 4
@@ -42,28 +42,28 @@ pub length-sha1 : (m : List ℕ) → length (sha1 m) ≡ 20
 unfolding sha1
 length-sha1 m = length-digest_bytes (hash_after (padded_message m) (length (padded_message m) / 64)) 5
 
-pub closed-IsClosed : (b : List ℕ) → 32 ≤ length b → IsClosed b (closed b)
-unfolding closed signed HasChecksum HasSignature
+pub closed-IsClosed : (b : List ℕ) → 32 ≤ length b → SetsSums b (with_sums b)
+unfolding with_sums with_signature HasChecksum HasSignature
 closed-IsClosed b long =
     let front : length (take 8 b) ≡ 8 = simp length-take (omega arith) in
     let n = adler32 (sha1 (drop 32 b) ++ drop 32 b) in
     let rest = u32_bytes n ++ (sha1 (drop 32 b) ++ drop 32 b) in
-    let behind : drop 12 (take 8 b ++ rest) ≡ sha1 (drop 32 b) ++ drop 32 b =
+    let after : drop 12 (take 8 b ++ rest) ≡ sha1 (drop 32 b) ++ drop 32 b =
     sym (drop-drop 4 8 (take 8 b ++ rest))
     ∙ ap (drop 4) (drop_at (take 8 b) rest 8 front)
     ∙ drop_at (u32_bytes n) (sha1 (drop 32 b) ++ drop 32 b) 4 (length-u32_bytes n) in
     let back : drop 32 (take 8 b ++ rest) ≡ drop 32 b =
     sym (drop-drop 20 12 (take 8 b ++ rest))
-    ∙ ap (drop 20) behind
+    ∙ ap (drop 20) after
     ∙ drop_at (sha1 (drop 32 b)) (drop 32 b) 20 (length-sha1 (drop 32 b)) in
     record {
       sums = record {
         checksum =
             u32_at-append (take 8 b) rest 8 0 front
             ∙ u32_at-bytes n (sha1 (drop 32 b) ++ drop 32 b) (adler32-fits (sha1 (drop 32 b) ++ drop 32 b))
-            ∙ ap adler32 (sym behind);
+            ∙ ap adler32 (sym after);
         signature =
-            ap (take 20) behind
+            ap (take 20) after
             ∙ take_at (sha1 (drop 32 b)) (drop 32 b) 20 (length-sha1 (drop 32 b))
             ∙ ap sha1 (sym back);
       };
@@ -71,21 +71,21 @@ closed-IsClosed b long =
       back = back;
     }
 
--- a field behind the signature is as before
-pub IsClosed-u32_at : (old new : List ℕ) (p : ℕ) → IsClosed old new → u32_at new (32 + p) ≡ u32_at old (32 + p)
+-- a field after the signature is as before
+pub IsClosed-u32_at : (old new : List ℕ) (p : ℕ) → SetsSums old new → u32_at new (32 + p) ≡ u32_at old (32 + p)
 IsClosed-u32_at old new p c =
     sym (u32_at-drop new 32 p) ∙ ap (λ x. u32_at x p) c.back ∙ u32_at-drop old 32 p
 
-pub IsClosed-u16_at : (old new : List ℕ) (p : ℕ) → IsClosed old new → u16_at new (32 + p) ≡ u16_at old (32 + p)
+pub IsClosed-u16_at : (old new : List ℕ) (p : ℕ) → SetsSums old new → u16_at new (32 + p) ≡ u16_at old (32 + p)
 IsClosed-u16_at old new p c =
     sym (u16_at-drop new 32 p) ∙ ap (λ x. u16_at x p) c.back ∙ u16_at-drop old 32 p
 
-pub length-IsClosed : (old new : List ℕ) → IsClosed old new → 32 < length old → length new ≡ length old
+pub length-IsClosed : (old new : List ℕ) → SetsSums old new → 32 < length old → length new ≡ length old
 length-IsClosed old new c h =
     let e = simp length-drop at (ap length c.back) in omega arith
 
 -- the first eight bytes are as before
-pub IsClosed-magic : (old new : List ℕ) → IsClosed old new → 32 < length old → HasMagic old → HasVersion old → HasMagic new × HasVersion new
+pub IsClosed-magic : (old new : List ℕ) → SetsSums old new → 32 < length old → HasMagic old → HasVersion old → HasMagic new × HasVersion new
 IsClosed-magic old new c h m v =
     let n = length-IsClosed old new c h in
     let same : (i : ℕ) → i < 8 → slice_index new i ≡ slice_index old i =

@@ -26,10 +26,10 @@ decide_section b kind = decide_like
 pub decide_in : (b : List ℕ) → IsFramed b → (kind place : ℕ) → Decided (IsInSection b kind place)
 decide_in b framed kind place = elim (decide_section b kind) [
   | inl s ↦ decide_like
-      (λ x. record { begin = s.begin; end = s.end; section = s.section; behind = x.0; before = x.1 })
+      (λ x. record { begin = s.begin; end = s.end; section = s.section; after = x.0; before = x.1 })
       (λ (p : IsInSection b kind place).
       let one = IsSection-one b framed kind p.begin p.end s.begin s.end p.section s.section in
-      let low = p.behind in let high = p.before in let begins = one.0 in let ends = one.1 in
+      let low = p.after in let high = p.before in let begins = one.0 in let ends = one.1 in
       (omega (arith, low, begins), omega (arith, high, ends)))
       (decide_both (decide_le s.begin place) (decide_lt place s.end))
   | inr none ↦ inr (λ p. none (record { begin = p.begin; end = p.end; section = p.section }))
@@ -49,7 +49,7 @@ module _ {V : Type 0} (G : List ℕ → V → Type 0) (b : List ℕ) (framed : I
         begin = s.begin;
         end = s.end;
         section = s.section;
-        behind = low;
+        after = low;
         aligned = even;
         size = n;
         within = omega (arith, inside, high);
@@ -71,7 +71,7 @@ module _ {V : Type 0} (G : List ℕ → V → Type 0) (b : List ℕ) (framed : I
   at_within : (v : V) → At G b kind align place v → (s.begin ≤ place) × ((place ≤ s.end) × (place % align ≡ 0))
   at_within v a =
       let one = IsSection-one b framed kind a.begin a.end s.begin s.end a.section s.section in
-      let begins = one.0 in let ends = one.1 in let low = a.behind in let high = a.within in
+      let begins = one.0 in let ends = one.1 in let low = a.after in let high = a.within in
       (omega (arith, begins, low), (omega (arith, ends, high), a.aligned))
 
 pub decide_at : {V : Type 0} (G : List ℕ → V → Type 0) → ((bytes : List ℕ) → DecidedFront G bytes) → (b : List ℕ) → IsFramed b → (kind align place : ℕ) → Decided ((v : V) × At G b kind align place v)

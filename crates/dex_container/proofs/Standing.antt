@@ -19,7 +19,7 @@ module _ {V : Type 0} (G : List ℕ → V → Type 0) (b : List ℕ) (kind align
         begin = s.begin;
         end = s.end;
         section = is.some (omega arith);
-        behind = low;
+        after = low;
         aligned = even;
         size = n;
         within = omega (arith, i, high);
@@ -42,7 +42,7 @@ module _ {V : Type 0} (G : List ℕ → V → Type 0) (b : List ℕ) (kind align
 pub at_place : {V : Type 0} (G : List ℕ → V → Type 0) (b : List ℕ) (kind align place : ℕ) (v : V) (a : At G b kind align place v) → 0 < a.size → IsInSection b kind place
 at_place G b kind align place v a some =
     let w = a.within in
-    record { begin = a.begin; end = a.end; section = a.section; behind = a.behind; before = omega (arith, w, some) }
+    record { begin = a.begin; end = a.end; section = a.section; after = a.after; before = omega (arith, w, some) }
 
 -- what stands at a place is one value
 pub At-one : {V : Type 0} (G : List ℕ → V → Type 0) → IsPrefixUnique G → (b : List ℕ) → IsFramed b → (kind align place : ℕ) (v w : V)
@@ -55,10 +55,10 @@ At-one G unique b framed kind align place v w x y =
 -- a place lies in the section exactly where its numbers say so
 pub placed : (b : List ℕ) (kind : ℕ) (s : Section) (place : ℕ) → IsSectionOf b kind s → s.begin ≤ place → place < s.end → IsInSection b kind place
 placed b kind s place is low high =
-    record { begin = s.begin; end = s.end; section = is.some (omega arith); behind = low; before = high }
+    record { begin = s.begin; end = s.end; section = is.some (omega arith); after = low; before = high }
 
 pub placed_low : (b : List ℕ) (kind : ℕ) (s : Section) (place : ℕ) → IsSectionOf b kind s → IsInSection b kind place → s.begin ≤ place
-placed_low b kind s place is p = let e = (is.only p.begin p.end p.section).0 in let l = p.behind in omega (arith, e, l)
+placed_low b kind s place is p = let e = (is.only p.begin p.end p.section).0 in let l = p.after in omega (arith, e, l)
 
 pub placed_high : (b : List ℕ) (kind : ℕ) (s : Section) (place : ℕ) → IsSectionOf b kind s → IsInSection b kind place → place < s.end
 placed_high b kind s place is p = let e = (is.only p.begin p.end p.section).1 in let h = p.before in omega (arith, e, h)

@@ -27,28 +27,28 @@ pub record HeaderHolds (b : List ℕ) : Type 0 where
   pub endian : u32_at b 40 ≡ 0x12345678
   pub unlinked : u32_at b 44 ≡ 0
 
--- The number at byte 8 is the Adler-32 checksum of all behind it.
+-- The number at byte 8 is the Adler-32 checksum of all after it.
 unfoldable pub HasChecksum : List ℕ → Type 0
 HasChecksum b = u32_at b 8 ≡ adler32 (drop 12 b)
 
--- The bytes 12 to 31 are the SHA-1 signature of all behind them.
+-- The bytes 12 to 31 are the SHA-1 signature of all after them.
 unfoldable pub HasSignature : List ℕ → Type 0
 HasSignature b = take 20 (drop 12 b) ≡ sha1 (drop 32 b)
 
--- Both hold.
+-- The checksum and the signature hold.
 pub record SumsHold (b : List ℕ) : Type 0 where
   pub checksum : HasChecksum b
   pub signature : HasSignature b
 
--- A section of size above 0 stands behind the header, within the file, a table 4-aligned.
-pub record IsPlaced (b : List ℕ) (k : ℕ) : Type 0 where
+-- A section of size above 0 stands after the header, within the file, a table 4-aligned.
+pub record SectionIsPlaced (b : List ℕ) (k : ℕ) : Type 0 where
   pub aligned : k < 6 → offset_of b k % 4 ≡ 0
-  pub behind : 112 ≤ offset_of b k
+  pub after : 112 ≤ offset_of b k
   pub within : offset_of b k + row_bytes k * size_of b k ≤ length b
 
 -- Section k is empty, or stands so. The offset of an empty one isn't looked at.
 abbrev pub SectionHolds : List ℕ → ℕ → Type 0
-SectionHolds b k = 0 < size_of b k → IsPlaced b k
+SectionHolds b k = 0 < size_of b k → SectionIsPlaced b k
 
 -- Section k has at most 65535 rows.
 abbrev pub HasFewRows : List ℕ → ℕ → Type 0
@@ -63,7 +63,7 @@ pub record SectionsHold (b : List ℕ) : Type 0 where
 -- The map stands 4-aligned in the data section, with all its entries.
 pub record MapIsPlaced (b : List ℕ) : Type 0 where
   pub aligned : map_place b % 4 ≡ 0
-  pub behind : data_begin b ≤ map_place b
+  pub after : data_begin b ≤ map_place b
   pub within : map_end b ≤ data_end b
 
 -- the kinds that the map may name

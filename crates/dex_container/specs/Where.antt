@@ -1,5 +1,5 @@
 -- Where items of the data section stand (Dalvik Executable format, "map_list" and the items' own sections).
-use Rattle.std.specs.Prelude.{◌≡◌, ℕ, ◌+◌, ◌%◌, ◌<◌, ◌≤◌, ◌==◌, List, [], length, take, drop, MatchBool}
+use Rattle.std.specs.Prelude.{◌≡◌, ℕ, ◌+◌, ◌-◌, ◌%◌, ◌<◌, ◌≤◌, ◌==◌, List, [], length, take, drop, MatchBool}
 use Rattle.dex_container.specs.Frame.{IsSection}
 use Rattle.dex_container.specs.declared.section.Section.{Section}
 
@@ -12,15 +12,23 @@ pub record IsInSection (b : List ℕ) (kind place : ℕ) : Type 0 where
   pub begin : ℕ
   pub end : ℕ
   pub section : IsSection b kind begin end
-  pub behind : begin ≤ place
+  pub after : begin ≤ place
   pub before : place < end
+
+-- These bytes are what the section of the kind, which goes to `end`, has from this place on.
+pub record IsSectionRest (kind : ℕ) (b : List ℕ) (place end : ℕ) (bytes : List ℕ) : Type 0 where
+  pub begin : ℕ
+  pub section : IsSection b kind begin end
+  pub after : begin ≤ place
+  pub before : place < end
+  pub same : bytes ≡ take (end - place) (drop place b)
 
 -- A slice that begins at this place lies wholly in the section of the kind, is aligned, and spells the value.
 pub record At {V : Type 0} (G : List ℕ → V → Type 0) (b : List ℕ) (kind align place : ℕ) (v : V) : Type 0 where
   pub begin : ℕ
   pub end : ℕ
   pub section : IsSection b kind begin end
-  pub behind : begin ≤ place
+  pub after : begin ≤ place
   pub aligned : place % align ≡ 0
   pub size : ℕ
   pub within : place + size ≤ end

@@ -1,6 +1,6 @@
 // The signature and the checksum of a finished file.
 ghost use Rattle.std.specs.Prelude.{◌≡◌, ◌≤◌, ◌++◌, length, take};
-ghost use Rattle.dex_container.specs.Closed.{signed, IsClosed};
+ghost use Rattle.dex_container.specs.Closed.{with_signature, SetsSums};
 
 use dex_base::{adler32, put_u32_at};
 use sha1::Sha1;
@@ -8,7 +8,7 @@ use sha1::Sha1;
 // The signature stands before the checksum, which covers it.
 fn put_signature(bytes: &mut [u8])
     requires { 32 ≤ length bytes.old }
-    ensures { bytes.new ≡ take 12 bytes.old ++ signed bytes.old }
+    ensures { bytes.new ≡ take 12 bytes.old ++ with_signature bytes.old }
 {
     let digest = Sha1::digest(&bytes[32..]);
     bytes[12..32].copy_from_slice(&digest);
@@ -29,7 +29,7 @@ fn put_signature(bytes: &mut [u8])
 /// ```
 pub fn close(bytes: &mut [u8])
     requires { 112 ≤ length bytes.old }
-    ensures { IsClosed bytes.old bytes.new }
+    ensures { SetsSums bytes.old bytes.new }
 {
     put_signature(bytes);
     let checksum = adler32(&bytes[12..]);

@@ -9,12 +9,9 @@
 //! ```
 //!
 //! Its rooms: `file_classes` and `file_read` (read), `file_needed`, `file_layout`, `file_rows`, `file_shared`, `file_sections`,
-//! `file_limits`, `file_assemble` and `file_write` (written), `file_align`, `file_laws` and `file_least`.
+//! `file_limits`, `file_assemble` and `file_write` (written), `file_align` and `file_least`.
 #![tactic(auto)]
 
-mod reading;
-
 pub use file_align::align_all;
-pub use file_read::check;
+pub use file_read::{check, read};
 pub use file_write::{strip, write};
-pub use reading::read;

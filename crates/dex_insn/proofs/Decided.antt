@@ -6,7 +6,7 @@ use Rattle.std.proofs.lemmas.Int.{ints, by_lt_z}
 use Rattle.base_bytes.specs.Deciding.{Decided}
 use Rattle.base_bytes.specs.Fields.{AreBytes}
 use Rattle.base_bytes.specs.declared.fault.Fault.{Fault}
-use Rattle.dex_insn.specs.Fields.{number, field, signed, int_at, KeysRise}
+use Rattle.dex_insn.specs.Fields.{number, field, signed, int_at, SwitchKeysRise}
 use Rattle.dex_insn.specs.Opcodes.{units_of}
 use Rattle.dex_insn.specs.Raw.{Raw, packed_units, sparse_units, data_units, I10x, I12x, I11n, I11x, I10t, I20t, I22x, I21t, I21s, I21h, I21c, I23x, I22b, I22t, I22s, I22c, I30t, I32x, I31i, I31t, I31c, I35c, I3rc, I51l, Packed, Sparse, Data}
 use Rattle.dex_insn.specs.RawInsns.{SpellsInsn, BeginsInsn, registers, IsPayload, IsElementWidth, InsnStands}
@@ -14,8 +14,9 @@ use Rattle.dex_insn.specs.Flaws.{InsnBreaks, format_at, has_zero_byte, head_unit
 use Rattle.dex_insn.specs.declared.opcode.Format.{Format}
 use Rattle.dex_insn.specs.declared.opcode.Format.TheVariants.{F10x, F12x, F11n, F11x, F10t, F20t, F22x, F21t, F21s, F21h, F21c, F23x, F22b, F22t, F22s, F22c, F30t, F32x, F31i, F31t, F31c, F35c, F3rc, F51l}
 use Rattle.dex_insn.specs.declared.flaw.Flaw.{Flaw}
-use Rattle.dex_insn.proofs.Fits.{behind, number-1}
+use Rattle.dex_insn.proofs.Fits.{number-1}
 use Rattle.dex_insn.specs.declared.flaw.Flaw.TheVariants.{Opcode, Cut, NonZero, RegisterCount, OddPayload, CutHead, Width, CutPayload, KeyOrder}
+use Rattle.base_bytes.proofs.FieldBounds.{drop-AreBytes}
 
 -- ---- what is no payload
 
@@ -86,7 +87,7 @@ module _ (us : List ℕ) (at : ℕ) (long : 2 ≤ length us) (plain : IsPayload 
 
 -- ---- payloads
 
-decide-rises : (bytes : List ℕ) (n : ℕ) → Decided (KeysRise bytes n)
+decide-rises : (bytes : List ℕ) (n : ℕ) → Decided (SwitchKeysRise bytes n)
 decide-rises bytes zero = inl (λ i l. absurd (omega (arith, l)))
 decide-rises bytes (suc zero) = inl (λ i l. absurd (omega (arith, l)))
 decide-rises bytes (suc (suc n)) = elim (decide-rises bytes (suc n)) [
@@ -208,7 +209,7 @@ front-decided us at are long = elim (decide-payload us) [
 
 -- at a unit an instruction stands, or a fault does
 pub insn-decided : (bytes : List ℕ) (at : ℕ) → AreBytes bytes → 2 * at + 2 ≤ length bytes → ((r : Raw) × InsnStands bytes at r) ⊎ ((e : Fault) × IsFaultAt bytes at e)
-insn-decided bytes at are inside = elim (front-decided (drop (2 * at) bytes) at (behind bytes (2 * at) are) (omega (arith, inside, length-drop (2 * at) bytes))) [
+insn-decided bytes at are inside = elim (front-decided (drop (2 * at) bytes) at (drop-AreBytes bytes (2 * at) are) (omega (arith, inside, length-drop (2 * at) bytes))) [
   | inl x ↦ inl (x.0, record { spelled = x.1; even = x.2 })
   | inr x ↦ inr (record { code = code_of x.0; place = at }, record { flaw = x.0; code = refl; place = refl; broken = x.1 })
 ]

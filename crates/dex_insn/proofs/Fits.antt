@@ -10,22 +10,20 @@ use Rattle.dex_insn.specs.RawInsns.{SpellsInsn, InsnStands, IsElementWidth, regi
 use Rattle.base_bytes.specs.Fields.{AreBytes}
 use Rattle.dex_insn.specs.Written.{IsRaw, AreRegisters}
 use Rattle.dex_insn.proofs.Unique.{slice-length}
-
-pub behind : (us : List ℕ) (p : ℕ) → AreBytes us → AreBytes (drop p us)
-behind us p bytes i = rw (get_or-drop p us i 0) (bytes (p + i))
+use Rattle.base_bytes.proofs.FieldBounds.{drop-AreBytes}
 
 -- a number is below 2 to its bits
 pub number-1 : (us : List ℕ) (k : ℕ) → AreBytes us → number us k 1 < 65536
 unfolding number
-number-1 us k bytes = let d = behind us (2 * k) bytes in omega (arith, d 0, d 1)
+number-1 us k bytes = let d = drop-AreBytes us (2 * k) bytes in omega (arith, d 0, d 1)
 
 pub number-2 : (us : List ℕ) (k : ℕ) → AreBytes us → number us k 2 < 4294967296
 unfolding number
-number-2 us k bytes = let d = behind us (2 * k) bytes in omega (arith, d 0, d 1, d 2, d 3)
+number-2 us k bytes = let d = drop-AreBytes us (2 * k) bytes in omega (arith, d 0, d 1, d 2, d 3)
 
-number-4 : (us : List ℕ) (k : ℕ) → AreBytes us → number us k 4 < 18446744073709551616
+pub number-4 : (us : List ℕ) (k : ℕ) → AreBytes us → number us k 4 < 18446744073709551616
 unfolding number
-number-4 us k bytes = let d = behind us (2 * k) bytes in omega (arith, d 0, d 1, d 2, d 3, d 4, d 5, d 6, d 7)
+number-4 us k bytes = let d = drop-AreBytes us (2 * k) bytes in omega (arith, d 0, d 1, d 2, d 3, d 4, d 5, d 6, d 7)
 
 -- and as a signed number fits its bits
 nibble : (z : ℤ) (n : ℕ) → z ≡ signed 4 n → n < 16 → (neg_ℤ (pos 8) ≤ℤ z) × (z <ℤ pos 8)
@@ -43,7 +41,7 @@ signed-32 z n e h = rw e (grind (arith, ints, nat_tests))
 signed-64 : (z : ℤ) (n : ℕ) → z ≡ signed 64 n → n < 18446744073709551616 → FitsSigned w64 z
 signed-64 z n e h = rw e (grind (arith, ints, nat_tests))
 
-register-fits : (n k bits : ℕ) → bits < 16 → register n k bits < 16
+pub register-fits : (n k bits : ℕ) → bits < 16 → register n k bits < 16
 register-fits n k bits h = grind (arith, nat_tests)
 
 register-free : (n k bits : ℕ) → n ≤ k → register n k bits ≡ 0
@@ -212,4 +210,4 @@ fits (Data width elements) us bytes h = fits-data us width elements bytes h
 
 -- what stands in bytes can be written
 pub stands_fits : (bytes : List ℕ) (at : ℕ) (r : Raw) → AreBytes bytes → InsnStands bytes at r → IsRaw r
-stands_fits bytes at r are s = fits r (drop (2 * at) bytes) (behind bytes (2 * at) are) s.spelled
+stands_fits bytes at r are s = fits r (drop (2 * at) bytes) (drop-AreBytes bytes (2 * at) are) s.spelled

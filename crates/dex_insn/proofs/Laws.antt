@@ -60,32 +60,32 @@ payload-of us r h i = ⊎_elim
 pub even-of : (bytes : List ℕ) (at : ℕ) (r : Raw) → InsnStands bytes at r → is_payload r ≡ true → at % 2 ≡ 0
 even-of bytes at r s e = s.even (is-payload (drop (2 * at) bytes) r s.spelled e)
 
--- what stands behind changes nothing
-pub stands-before : (bytes behind : List ℕ) (at : ℕ) (r : Raw) → InsnStands bytes at r → InsnStands (bytes ++ behind) at r
-stands-before bytes behind at r s =
+-- what stands after changes nothing
+pub stands-before : (bytes after : List ℕ) (at : ℕ) (r : Raw) → InsnStands bytes at r → InsnStands (bytes ++ after) at r
+stands-before bytes after at r s =
     let w = stands-whole bytes at r s in
     let there = w.1 in
-    let d : drop (2 * at) (bytes ++ behind) ≡ drop (2 * at) bytes ++ behind = drop-append-le (2 * at) bytes behind (omega arith) in
-    let here : SpellsInsn (drop (2 * at) (bytes ++ behind)) r = rw d (more r (drop (2 * at) bytes) behind s.spelled) in
+    let d : drop (2 * at) (bytes ++ after) ≡ drop (2 * at) bytes ++ after = drop-append-le (2 * at) bytes after (omega arith) in
+    let here : SpellsInsn (drop (2 * at) (bytes ++ after)) r = rw d (more r (drop (2 * at) bytes) after s.spelled) in
     record {
       spelled = here;
-      even = λ i. even-of bytes at r s (payload-of (drop (2 * at) (bytes ++ behind)) r here i);
+      even = λ i. even-of bytes at r s (payload-of (drop (2 * at) (bytes ++ after)) r here i);
     }
 
 -- and can be left out
-pub stands-alone : (bytes behind : List ℕ) (at : ℕ) (r : Raw) → 2 * at + 2 * units r ≤ length bytes → InsnStands (bytes ++ behind) at r → InsnStands bytes at r
-stands-alone bytes behind at r fits s =
-    let d : drop (2 * at) (bytes ++ behind) ≡ drop (2 * at) bytes ++ behind = drop-append-le (2 * at) bytes behind (omega arith) in
-    let here : SpellsInsn (drop (2 * at) bytes) r = less r (drop (2 * at) bytes) behind (omega (arith, length-drop (2 * at) bytes)) (rw d at s.spelled) in
+pub stands-alone : (bytes after : List ℕ) (at : ℕ) (r : Raw) → 2 * at + 2 * units r ≤ length bytes → InsnStands (bytes ++ after) at r → InsnStands bytes at r
+stands-alone bytes after at r fits s =
+    let d : drop (2 * at) (bytes ++ after) ≡ drop (2 * at) bytes ++ after = drop-append-le (2 * at) bytes after (omega arith) in
+    let here : SpellsInsn (drop (2 * at) bytes) r = less r (drop (2 * at) bytes) after (omega (arith, length-drop (2 * at) bytes)) (rw d at s.spelled) in
     record {
       spelled = here;
-      even = λ i. even-of (bytes ++ behind) at r s (payload-of (drop (2 * at) bytes) r here i);
+      even = λ i. even-of (bytes ++ after) at r s (payload-of (drop (2 * at) bytes) r here i);
     }
 
 -- what is written stands
-pub written-stands : (before behind : List ℕ) (at : ℕ) (r : Raw) → IsRaw r → length before ≡ 2 * at → (is_payload r ≡ true → at % 2 ≡ 0)
-    → InsnStands (before ++ (written r ++ behind)) at r
-written-stands before behind at r fits e even =
-    let d : drop (2 * at) (before ++ (written r ++ behind)) ≡ written r ++ behind = rw (← e) (drop-append_seam before (written r ++ behind)) in
-    let here : SpellsInsn (drop (2 * at) (before ++ (written r ++ behind))) r = rw d (more r (written r) behind (spells r fits)) in
-    record { spelled = here; even = λ i. even (payload-of (drop (2 * at) (before ++ (written r ++ behind))) r here i) }
+pub written-stands : (before after : List ℕ) (at : ℕ) (r : Raw) → IsRaw r → length before ≡ 2 * at → (is_payload r ≡ true → at % 2 ≡ 0)
+    → InsnStands (before ++ (written r ++ after)) at r
+written-stands before after at r fits e even =
+    let d : drop (2 * at) (before ++ (written r ++ after)) ≡ written r ++ after = rw (← e) (drop-append_seam before (written r ++ after)) in
+    let here : SpellsInsn (drop (2 * at) (before ++ (written r ++ after))) r = rw d (more r (written r) after (spells r fits)) in
+    record { spelled = here; even = λ i. even (payload-of (drop (2 * at) (before ++ (written r ++ after))) r here i) }

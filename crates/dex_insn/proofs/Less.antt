@@ -1,4 +1,4 @@
--- What stands behind an instruction can be left out.
+-- What stands after an instruction can be left out.
 use Rattle.std.proofs.Common.{◌≡◌, ℕ, ◌+◌, ◌*◌, ◌/◌, ◌≤◌, ◌++◌, List, length, ap, ◌∙◌, arith, ℤ}
 use Rattle.dex_insn.specs.Fields.{number}
 use Rattle.dex_insn.specs.Opcodes.{units_of}
@@ -186,7 +186,7 @@ less_data us rest width bytes fits h =
     let s = slice-append us rest 8 (8 + number us 2 2 * width) (omega arith) (omega arith) in
     (rw n0 at h.0, omega arith, rw n1 at h.2, h.3, rw (m2, s) at h.4)
 
--- an instruction whose units are there stands without what is behind them
+-- an instruction whose units are there stands without what is after them
 pub less : (r : Raw) (us rest : List ℕ) → 2 * units r ≤ length us → SpellsInsn (us ++ rest) r → SpellsInsn us r
 unfolding units
 less (I10x op) us rest fits h = less_10x us rest op fits h

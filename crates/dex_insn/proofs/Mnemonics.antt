@@ -3,6 +3,7 @@ use Rattle.std.proofs.Common.{◌≡◌, ◌≢◌, ℕ, zero, suc, ◌+◌, Boo
 use Rattle.std.proofs.lemmas.Bool.Decides.{nat_tests}
 use Rattle.dex_insn.specs.Mnemonics.{mnemonics, IsNamed}
 use Rattle.dex_insn.specs.Named.{candidate}
+use Rattle.dex_base.proofs.LowPoints.{both}
 
 -- each text, the first of which is row n, has the slot of its row
 abbrev slots_hold : ℕ → List (List ℕ) → Bool
@@ -14,11 +15,7 @@ all_hold : slots_hold 0 mnemonics ≡ true
 unfolding mnemonics candidate
 all_hold = refl
 
-both : (a b : Bool) → (a && b) ≡ true → (a ≡ true) × (b ≡ true)
-both true b e = (refl, e)
-both false b e = absurd (cc)
-
-equal : (a b : ℕ) → (a == b) ≡ true → a ≡ b
+pub equal : (a b : ℕ) → (a == b) ≡ true → a ≡ b
 equal a b e = grind (arith, nat_tests)
 
 row : (n : ℕ) (ts : List (List ℕ)) (i : ℕ) (t : List ℕ) → slots_hold n ts ≡ true → t ≢ [] → get_or ts i [] ≡ t → candidate t ≡ n + i

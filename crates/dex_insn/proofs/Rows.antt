@@ -1,10 +1,11 @@
 -- What holds of each row of the table, by computing over its columns.
 use Rattle.std.proofs.Common.{◌≡◌, ◌≢◌, ℕ, zero, suc, Bool, true, false, ◌&&◌, refl, get_or, None, Some, Option, List, [], ◌∷◌, sym, ◌∙◌}
 use Rattle.std.specs.List.{list_all}
-use Rattle.dex_insn.specs.Opcodes.{formats, index_kinds, format_of, index_kind_of, has_index, names_table}
+use Rattle.dex_insn.specs.Opcodes.{formats, index_kinds, format_of, index_kind_of, format_has_index, names_table}
 use Rattle.dex_insn.specs.Mnemonics.{mnemonics, mnemonic_of, IsNamed, is_mnemonic_byte}
 use Rattle.dex_insn.specs.declared.opcode.Format.{Format}
 use Rattle.dex_insn.specs.declared.opcode.IndexKind.{IndexKind}
+use Rattle.dex_base.proofs.LowPoints.{both}
 
 abbrev same_bool : Bool → Bool → Bool
 same_bool true true = true
@@ -17,31 +18,27 @@ same-is false false e = refl
 same-is true false e = absurd (cc)
 same-is false true e = absurd (cc)
 
-both : (a b : Bool) → (a && b) ≡ true → (a ≡ true) × (b ≡ true)
-both true b e = (refl, e)
-both false b e = absurd (cc)
-
 -- each used row names a table exactly if its format has an index
 abbrev kinds_agree : List (Option Format) → List (Option IndexKind) → Bool
 kinds_agree [] ks = true
 kinds_agree (f ∷ fs) [] = false
 kinds_agree (None ∷ fs) (k ∷ ks) = kinds_agree fs ks
-kinds_agree (Some f ∷ fs) (k ∷ ks) = same_bool (has_index f) (names_table k) && kinds_agree fs ks
+kinds_agree (Some f ∷ fs) (k ∷ ks) = same_bool (format_has_index f) (names_table k) && kinds_agree fs ks
 
 all_agree : kinds_agree formats index_kinds ≡ true
 unfolding formats index_kinds
 all_agree = refl
 
-row-agrees : (fs : List (Option Format)) (ks : List (Option IndexKind)) (i : ℕ) (f : Format) → kinds_agree fs ks ≡ true → get_or fs i None ≡ Some f → has_index f ≡ names_table (get_or ks i None)
+row-agrees : (fs : List (Option Format)) (ks : List (Option IndexKind)) (i : ℕ) (f : Format) → kinds_agree fs ks ≡ true → get_or fs i None ≡ Some f → format_has_index f ≡ names_table (get_or ks i None)
 row-agrees [] ks i f e is = absurd (cc)
 row-agrees (g ∷ fs) [] i f e is = absurd (cc)
 row-agrees (None ∷ fs) (k ∷ ks) zero f e is = absurd (cc)
 row-agrees (None ∷ fs) (k ∷ ks) (suc i) f e is = row-agrees fs ks i f e is
-row-agrees (Some g ∷ fs) (k ∷ ks) zero f e is = let h = same-is (has_index g) (names_table k) (both _ _ e).0 in let s : g ≡ f = cc in rw (← s) h
+row-agrees (Some g ∷ fs) (k ∷ ks) zero f e is = let h = same-is (format_has_index g) (names_table k) (both _ _ e).0 in let s : g ≡ f = cc in rw (← s) h
 row-agrees (Some g ∷ fs) (k ∷ ks) (suc i) f e is = row-agrees fs ks i f (both _ _ e).1 is
 
 -- the index kind of an opcode names a table exactly if its format has an index
-pub kind_agrees : (op : ℕ) (f : Format) → format_of op ≡ Some f → has_index f ≡ names_table (index_kind_of op)
+pub kind_agrees : (op : ℕ) (f : Format) → format_of op ≡ Some f → format_has_index f ≡ names_table (index_kind_of op)
 kind_agrees op f is = row-agrees formats index_kinds op f all_agree is
 
 -- a row has a mnemonic exactly if it is used

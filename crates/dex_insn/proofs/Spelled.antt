@@ -271,7 +271,7 @@ whole xs n e = sym (take_all n xs (omega arith))
 first_part : (xs ys : List ℕ) (n : ℕ) → n ≡ length xs → xs ≡ take n (xs ++ ys)
 first_part xs ys n e = rw e (sym (take-append_seam xs ys))
 
--- the second of two parts, behind four bytes
+-- the second of two parts, after four bytes
 second_part : (a b c d : ℕ) (xs ys : List ℕ) (n m : ℕ) → n ≡ 4 + length xs → m ≡ n + length ys → ys ≡ slice_range (a ∷ b ∷ c ∷ d ∷ (xs ++ ys)) n m
 second_part a b c d xs ys n m e f =
     let head : List ℕ = a ∷ b ∷ c ∷ d ∷ [] in

@@ -2,7 +2,7 @@
 use Rattle.std.proofs.Common.{◌≡◌, ℕ, ◌+◌, ◌-◌, ◌*◌, drop, true, false, length-drop, length-take-le, ◌<◌, ◌≤◌, List, Option, Some, None, sym, ap, ◌∙◌, refl, arith, ℤ, length, if◌then◌else◌, ◌==◌, ◌≢◌, ◌⊎◌, inl, inr, ⊎_elim}
 use Rattle.std.proofs.lemmas.Bool.Decides.{nat_tests}
 use Rattle.std.specs.Prelude.{slice_range, IsTrue}
-use Rattle.dex_insn.specs.Fields.{number, field, signed, KeysRise}
+use Rattle.dex_insn.specs.Fields.{number, field, signed, SwitchKeysRise}
 use Rattle.dex_insn.specs.Opcodes.{format_of, formats, units_of}
 use Rattle.dex_insn.specs.Raw.{Raw, units, is_payload, packed_units, sparse_units, data_units, I10x, I12x, I11n, I11x, I10t, I20t, I22x, I21t, I21s, I21h, I21c, I23x, I22b, I22t, I22s, I22c, I30t, I32x, I31i, I31t, I31c, I35c, I3rc, I51l, Packed, Sparse, Data}
 use Rattle.dex_insn.specs.RawInsns.{SpellsInsn, BeginsInsn, registers, IsPayload, IsElementWidth}
@@ -188,7 +188,7 @@ pub record Load (us : List ℕ) (r : Raw) : Type 0 where
   pub head : 2 * head_units us ≤ length us
   pub whole : 2 * payload_units us ≤ length us
   pub width : number us 0 1 ≡ 0x0300 → IsElementWidth (number us 1 1)
-  pub keys : number us 0 1 ≡ 0x0200 → KeysRise (slice_range us 4 (4 + 4 * number us 1 1)) (number us 1 1)
+  pub keys : number us 0 1 ≡ 0x0200 → SwitchKeysRise (slice_range us 4 (4 + 4 * number us 1 1)) (number us 1 1)
   pub same : r ≡ raw_at us
   pub there : (0 < units r) × (2 * units r ≤ length us)
   pub kind : is_payload r ≡ true

@@ -19,5 +19,5 @@ abbrev pub int_at : List ℕ → ℕ → ℤ
 int_at bytes i = signed 32 (number bytes (2 * i) 2)
 
 -- the first n 32-bit signed numbers rise strictly
-abbrev pub KeysRise : List ℕ → ℕ → Type 0
-KeysRise bytes n = (i : ℕ) → i + 1 < n → int_at bytes i <ℤ int_at bytes (i + 1)
+abbrev pub SwitchKeysRise : List ℕ → ℕ → Type 0
+SwitchKeysRise bytes n = (i : ℕ) → i + 1 < n → int_at bytes i <ℤ int_at bytes (i + 1)

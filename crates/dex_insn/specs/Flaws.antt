@@ -1,7 +1,7 @@
 -- Which rule the units at some place break, and by which number a fault names it.
 use Rattle.std.specs.Prelude.{ℕ, ◌≡◌, ◌≢◌, ◌≤◌, ◌<◌, ◌*◌, ◌+◌, ◌%◌, Option, Some, None, List, length, drop, slice_range, if◌then◌else◌, ◌==◌, Bool, true, false, IsTrue}
 use Rattle.base_bytes.specs.declared.fault.Fault.{Fault}
-use Rattle.dex_insn.specs.Fields.{number, field, KeysRise}
+use Rattle.dex_insn.specs.Fields.{number, field, SwitchKeysRise}
 use Rattle.dex_insn.specs.Opcodes.{format_of, units_of}
 use Rattle.dex_insn.specs.Raw.{packed_units, sparse_units, data_units}
 use Rattle.dex_insn.specs.RawInsns.{IsPayload, IsElementWidth}
@@ -32,8 +32,8 @@ payload_units us = if field us 0 8 8 == 1 then packed_units (number us 1 1)
     else (if field us 0 8 8 == 2 then sparse_units (number us 1 1) else data_units (number us 2 2 * number us 1 1))
 
 -- no payload: the opcode has this format
-abbrev pub IsPlain : List ℕ → Format → Type 0
-IsPlain us format = (¬ IsPayload us) × (format_at us ≡ Some format)
+abbrev pub HasFormat : List ℕ → Format → Type 0
+HasFormat us format = (¬ IsPayload us) × (format_at us ≡ Some format)
 
 -- a payload, at an even unit
 abbrev pub IsEvenPayload : ℕ → List ℕ → Type 0
@@ -44,29 +44,29 @@ IsEvenPayload at us = IsPayload us × (at % 2 ≡ 0)
 abbrev pub InsnBreaks : Flaw → ℕ → List ℕ → Type 0
 InsnBreaks Missing at us = length us < 2
 InsnBreaks Opcode at us = (2 ≤ length us) × (format_at us ≡ None)
-InsnBreaks Cut at us = (format : Format) × IsPlain us format × (length us < 2 * units_of format)
-InsnBreaks NonZero at us = (format : Format) × IsPlain us format × (2 * units_of format ≤ length us) × IsTrue (has_zero_byte format) × (0 < field us 0 8 8)
-InsnBreaks RegisterCount at us = IsPlain us F35c × (2 * units_of F35c ≤ length us) × (5 < field us 0 12 4)
+InsnBreaks Cut at us = (format : Format) × HasFormat us format × (length us < 2 * units_of format)
+InsnBreaks NonZero at us = (format : Format) × HasFormat us format × (2 * units_of format ≤ length us) × IsTrue (has_zero_byte format) × (0 < field us 0 8 8)
+InsnBreaks RegisterCount at us = HasFormat us F35c × (2 * units_of F35c ≤ length us) × (5 < field us 0 12 4)
 InsnBreaks OddPayload at us = (2 ≤ length us) × IsPayload us × (at % 2 ≡ 1)
 InsnBreaks CutHead at us = IsEvenPayload at us × (length us < 2 * head_units us)
 InsnBreaks Width at us = IsEvenPayload at us × (number us 0 1 ≡ 0x0300) × (8 ≤ length us) × (¬ IsElementWidth (number us 1 1))
 InsnBreaks CutPayload at us = IsEvenPayload at us × (2 * head_units us ≤ length us) × (number us 0 1 ≡ 0x0300 → IsElementWidth (number us 1 1))
     × (length us < 2 * payload_units us)
 InsnBreaks KeyOrder at us = IsEvenPayload at us × (number us 0 1 ≡ 0x0200) × (2 * sparse_units (number us 1 1) ≤ length us)
-    × (¬ KeysRise (slice_range us 4 (4 + 4 * number us 1 1)) (number us 1 1))
+    × (¬ SwitchKeysRise (slice_range us 4 (4 + 4 * number us 1 1)) (number us 1 1))
 
 -- Each rule is kept, asked alone.
 pub record KeepsRules (at : ℕ) (us : List ℕ) : Type 0 where
   pub unit : 2 ≤ length us
   pub opcode : format_at us ≢ None
-  pub whole : (format : Format) → IsPlain us format → 2 * units_of format ≤ length us
-  pub zero : (format : Format) → IsPlain us format → IsTrue (has_zero_byte format) → field us 0 8 8 ≡ 0
+  pub whole : (format : Format) → HasFormat us format → 2 * units_of format ≤ length us
+  pub zero : (format : Format) → HasFormat us format → IsTrue (has_zero_byte format) → field us 0 8 8 ≡ 0
   pub count : format_at us ≡ Some F35c → field us 0 12 4 ≤ 5
   pub even : IsPayload us → at % 2 ≡ 0
   pub head : IsPayload us → 2 * head_units us ≤ length us
   pub width : number us 0 1 ≡ 0x0300 → IsElementWidth (number us 1 1)
   pub payload : IsPayload us → 2 * payload_units us ≤ length us
-  pub keys : number us 0 1 ≡ 0x0200 → KeysRise (slice_range us 4 (4 + 4 * number us 1 1)) (number us 1 1)
+  pub keys : number us 0 1 ≡ 0x0200 → SwitchKeysRise (slice_range us 4 (4 + 4 * number us 1 1)) (number us 1 1)
 
 -- the number by which a fault names the rule
 abbrev pub code_of : Flaw → ℕ

@@ -60,13 +60,13 @@ units_of F3rc = 3
 units_of F51l = 5
 
 -- the format has an index: the letter of its ID is c
-abbrev pub has_index : Format → Bool
-has_index F21c = true
-has_index F22c = true
-has_index F31c = true
-has_index F35c = true
-has_index F3rc = true
-has_index _ = false
+abbrev pub format_has_index : Format → Bool
+format_has_index F21c = true
+format_has_index F22c = true
+format_has_index F31c = true
+format_has_index F35c = true
+format_has_index F3rc = true
+format_has_index _ = false
 
 -- the index is a row of a table
 abbrev pub names_table : Option IndexKind → Bool

@@ -1,8 +1,8 @@
 -- Which units spell a raw instruction. The lists are bytes, two to a unit, from the instruction's first unit on; what stands
--- behind the instruction isn't looked at. The formats are those of the page "Dalvik Executable instruction formats", the
+-- after the instruction isn't looked at. The formats are those of the page "Dalvik Executable instruction formats", the
 -- payloads those of the page "Dalvik bytecode".
 use Rattle.std.specs.Prelude.{ℕ, ◌≡◌, ◌≤◌, ◌<◌, ◌*◌, ◌+◌, ◌%◌, Some, List, [], ◌∷◌, length, drop, slice_range, nat_lt, if◌then◌else◌, ◌⊎◌}
-use Rattle.dex_insn.specs.Fields.{number, field, signed, KeysRise}
+use Rattle.dex_insn.specs.Fields.{number, field, signed, SwitchKeysRise}
 use Rattle.dex_insn.specs.Opcodes.{format_of, units_of}
 use Rattle.dex_insn.specs.Raw.{Raw, packed_units, sparse_units, data_units, I10x, I12x, I11n, I11x, I10t, I20t, I22x, I21t, I21s, I21h, I21c, I23x, I22b, I22t, I22s, I22c, I30t, I32x, I31i, I31t, I31c, I35c, I3rc, I51l, Packed, Sparse, Data}
 use Rattle.dex_insn.specs.declared.opcode.Format.{Format}
@@ -26,7 +26,7 @@ registers us n = register n 0 (field us 2 0 4) ∷ register n 1 (field us 2 4 4)
 abbrev pub IsElementWidth : ℕ → Type 0
 IsElementWidth width = (width ≡ 1) ⊎ ((width ≡ 2) ⊎ ((width ≡ 4) ⊎ (width ≡ 8)))
 
--- The units begin with this instruction. Behind each line stands the layout that the page gives ("Format IDs", "Formats"): a unit
+-- The units begin with this instruction. After each line stands the layout that the page gives ("Format IDs", "Formats"): a unit
 -- from its high bits to its low ones, one letter four bits; op is the opcode, Ø a zero. In 35c A is the number of registers.
 abbrev pub SpellsInsn : List ℕ → Raw → Type 0
 SpellsInsn us (I10x op) = BeginsInsn us F10x op × (field us 0 8 8 ≡ 0)  -- ØØ|op
@@ -63,7 +63,7 @@ SpellsInsn us (Sparse keys offsets) =
     (number us 0 1 ≡ 0x0200) × (2 * sparse_units (number us 1 1) ≤ length us)
     × (keys ≡ slice_range us 4 (4 + 4 * number us 1 1))
     × (offsets ≡ slice_range us (4 + 4 * number us 1 1) (4 + 8 * number us 1 1))
-    × KeysRise keys (number us 1 1)
+    × SwitchKeysRise keys (number us 1 1)
 -- fill-array-data-payload: ushort ident, ushort element_width, uint size, ubyte[size * element_width] data, padded to a unit
 SpellsInsn us (Data width bytes) =
     (number us 0 1 ≡ 0x0300) × (2 * data_units (number us 2 2 * width) ≤ length us)

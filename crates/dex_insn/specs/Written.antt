@@ -1,7 +1,7 @@
 -- Which raw instructions can be written, and their bytes ("Dalvik Executable instruction formats"; payloads: "Dalvik bytecode").
 use Rattle.std.specs.Prelude.{ℕ, ◌≡◌, ◌≤◌, ◌<◌, ◌*◌, ◌+◌, ◌/◌, ◌%◌, ◌++◌, Some, List, [], ◌∷◌, length, slice_index, if◌then◌else◌, ◌==◌, pos, neg_ℤ, ◌≤ℤ◌, ◌<ℤ◌, FitsSigned}
 use Rattle.std.specs.Int.{cast_unsigned, w8, w16, w32, w64}
-use Rattle.dex_insn.specs.Fields.{KeysRise}
+use Rattle.dex_insn.specs.Fields.{SwitchKeysRise}
 use Rattle.dex_insn.specs.Opcodes.{format_of}
 use Rattle.dex_insn.specs.RawInsns.{IsElementWidth}
 use Rattle.dex_insn.specs.declared.opcode.Format.TheVariants.{F10x, F12x, F11n, F11x, F10t, F20t, F22x, F21t, F21s, F21h, F21c, F23x, F22b, F22t, F22s, F22c, F30t, F32x, F31i, F31t, F31c, F35c, F3rc, F51l}
@@ -41,7 +41,7 @@ IsRaw (I3rc op n first index) = (format_of op ≡ Some F3rc) × (index < 65536) 
 IsRaw (I51l op a b) = (format_of op ≡ Some F51l) × (a < 256) × (FitsSigned w64 b)
 IsRaw (Packed first offsets) = FitsSigned w32 first × (length offsets % 4 ≡ 0) × (length offsets / 4 < 65536)
 IsRaw (Sparse keys offsets) = (length keys % 4 ≡ 0) × (length offsets ≡ length keys) × (length keys / 4 < 65536)
-    × KeysRise keys (length keys / 4)
+    × SwitchKeysRise keys (length keys / 4)
 IsRaw (Data width bytes) = IsElementWidth width × (length bytes % width ≡ 0) × (length bytes / width < 4294967296)
 
 -- the bytes of units, the low byte first

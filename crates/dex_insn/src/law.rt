@@ -38,10 +38,10 @@ pub fn one_stands_or_none()
     ensures { (bytes : List ℕ) (at : ℕ) → AreBytes bytes → 2 * at + 2 ≤ length bytes → ((r : Raw) × InsnStands bytes at r) ⊎ ((fault : Fault) × IsFaultAt bytes at fault) }
 {}
 
-/// What stands behind an instruction doesn't change its reading.
-pub fn behind_is_free()
-    ensures more { (bytes behind : List ℕ) (at : ℕ) (r : Raw) → InsnStands bytes at r → InsnStands (bytes ++ behind) at r }
-    ensures less { (bytes behind : List ℕ) (at : ℕ) (r : Raw) → 2 * at + 2 * units r ≤ length bytes → InsnStands (bytes ++ behind) at r → InsnStands bytes at r }
+/// What stands after an instruction doesn't change its reading.
+pub fn after_is_free()
+    ensures more { (bytes after : List ℕ) (at : ℕ) (r : Raw) → InsnStands bytes at r → InsnStands (bytes ++ after) at r }
+    ensures less { (bytes after : List ℕ) (at : ℕ) (r : Raw) → 2 * at + 2 * units r ≤ length bytes → InsnStands (bytes ++ after) at r → InsnStands bytes at r }
 {}
 
 /// A payload begins with a payload's identifier, and nothing else does.
@@ -58,8 +58,8 @@ pub fn two_bytes_a_unit()
 
 /// What is written stands where it was written, a payload where that is an even unit.
 pub fn written_stands()
-    ensures { (before behind : List ℕ) (at : ℕ) (r : Raw) → IsRaw r → length before ≡ 2 * at → (is_payload r ≡ true → at % 2 ≡ 0)
-        → InsnStands (before ++ (written r ++ behind)) at r }
+    ensures { (before after : List ℕ) (at : ℕ) (r : Raw) → IsRaw r → length before ≡ 2 * at → (is_payload r ≡ true → at % 2 ≡ 0)
+        → InsnStands (before ++ (written r ++ after)) at r }
 {}
 
 /// What stands in bytes can be written: its operands fit their fields.

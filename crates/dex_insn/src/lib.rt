@@ -36,7 +36,7 @@ mod table_law;
 
 pub use columns::{format_of, index_kind_of, mnemonic_of};
 pub use law::{
-    behind_is_free, clear_where_one_stands, one_fault, one_stands, one_stands_or_none,
+    after_is_free, clear_where_one_stands, one_fault, one_stands, one_stands_or_none,
     payloads_by_identifier, rules_are_kept, two_bytes_a_unit, what_stands_can_be_written,
     whole_where_one_stands, written_stands,
 };

@@ -1,7 +1,7 @@
 //! Reading a payload ("Dalvik bytecode", the three payload formats).
 
 ghost use Rattle.std.specs.Prelude.{ℕ, ◌≡◌, ◌≤◌, ◌+◌, ◌*◌, ◌%◌, ◌<◌, length, IfOk, IfErr, IsTrue, ◌↔◌};
-ghost use Rattle.dex_insn.specs.Fields.{number, field, KeysRise};
+ghost use Rattle.dex_insn.specs.Fields.{number, field, SwitchKeysRise};
 ghost use Rattle.dex_insn.specs.Raw.{raw};
 ghost use Rattle.dex_insn.specs.RawInsns.{SpellsInsn, IsElementWidth};
 ghost use Rattle.dex_insn.specs.Flaws.{InsnBreaks};
@@ -13,7 +13,7 @@ use crate::units::{two_units, unit};
 /// Whether the keys, `n` numbers of 32 bits, rise strictly.
 fn rises(keys: &[u8], n: usize) -> bool
     requires { length keys.now ≡ 4 * n }
-    ensures { IsTrue result ↔ KeysRise keys.now n }
+    ensures { IsTrue result ↔ SwitchKeysRise keys.now n }
 {
     for i in 1..n {
         let before = two_units(keys, 2 * (i - 1)).cast_signed();

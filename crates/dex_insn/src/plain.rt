@@ -12,6 +12,7 @@ use crate::raw::RawInsn;
 use crate::units::{four_units, high_byte, low_byte, signed_nibble, signed_unit, two_units, unit};
 
 /// Reads the instruction at the front of the bytes, which isn't a payload.
+#[inline(always)]
 #[rattlefmt::skip]
 #[tactic(auto, unfolding(crate::specs::Raw::raw))]
 pub(crate) fn read_plain(front: &[u8]) -> Result<RawInsn<'_>, Flaw>
@@ -60,6 +61,7 @@ pub(crate) fn read_plain(front: &[u8]) -> Result<RawInsn<'_>, Flaw>
 }
 
 /// The registers of format 35c, those past the first `n` being 0: four in the third unit, and G.
+#[inline(always)]
 fn registers(n: u8, third: u16, g: u8) -> [u8; 5]
     ensures { result ≡ register n 0 (third % 16) ∷ register n 1 (third / 16 % 16)
         ∷ register n 2 (third / 256 % 16) ∷ register n 3 (third / 4096) ∷ register n 4 g ∷ [] }

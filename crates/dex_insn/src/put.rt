@@ -75,7 +75,7 @@ fn put_raw(out: &mut Vec<u8>, insn: RawInsn<'_>) -> Result<(), AllocError>
 /// registers that format 35c doesn't name are 0, and so is the byte that pads an array payload.
 ///
 /// The opcode has to be one of the variant's format, each operand has to fit its field, registers that 35c doesn't name have to be
-/// 0, and a payload has to keep its rules. An error is want of memory, and leaves the Vec as it was; where there is
+/// 0, and a payload has to keep its rules. It fails only when out of memory, and then leaves the Vec as it was; where there is
 /// room for the units, there is none.
 ///
 /// ```

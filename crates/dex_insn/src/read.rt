@@ -13,6 +13,7 @@ use crate::units::unit;
 use dex_base::Fault;
 
 /// Reads the instruction or payload at the front of the bytes, whose first unit is unit `at`.
+#[inline(always)]
 fn read_front(front: &[u8], at: u32) -> Result<RawInsn<'_>, Flaw>
     requires long { 2 ≤ length front.now }
     ensures ok { IfOk result (λ insn. SpellsInsn front.now (raw insn)) }
@@ -29,6 +30,7 @@ fn read_front(front: &[u8], at: u32) -> Result<RawInsn<'_>, Flaw>
 }
 
 /// The refusal of the instruction at unit `at`.
+#[inline(always)]
 fn fault(flaw: Flaw, at: u32) -> Fault
     ensures code { result.code ≡ code_of flaw }
     ensures place { result.place ≡ at }
@@ -51,6 +53,7 @@ fn fault(flaw: Flaw, at: u32) -> Fault
 /// let insn = read_insn(&[0x12, 0xf0], 0)?; // const/4 v0, -1
 /// assert!(rt; matches!(insn, RawInsn::I11n { op: 0x12, a: 0, b: -1 }));
 /// ```
+#[inline(always)]
 pub fn read_insn(units: &[u8], at: u32) -> Result<RawInsn<'_>, Fault>
     // What is read stands there.
     ensures ok { IfOk result (λ insn. InsnStands units.now at (raw insn)) }

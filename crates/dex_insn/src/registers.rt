@@ -8,6 +8,7 @@ ghost use Rattle.dex_insn.specs.Registers.{named_registers};
 use crate::raw::RawInsn;
 
 /// The greatest of some registers.
+#[inline(always)]
 fn greatest(regs: &[u8]) -> Option<u8>
     ensures { result ≡ reduce max regs.now }
 {
@@ -15,6 +16,7 @@ fn greatest(regs: &[u8]) -> Option<u8>
 }
 
 /// The greatest of the first `n` of five registers.
+#[inline(always)]
 fn greatest_named(n: u8, regs: &[u8; 5]) -> Option<u32>
     ensures { result ≡ reduce max (take n regs.now) }
 {
@@ -25,6 +27,7 @@ fn greatest_named(n: u8, regs: &[u8; 5]) -> Option<u32>
 }
 
 /// The last of `n` registers from `first` on.
+#[inline(always)]
 fn last_named(n: u8, first: u16) -> Option<u32>
     ensures { result ≡ reduce max (range_with_len first n) }
 {
@@ -42,6 +45,7 @@ fn last_named(n: u8, first: u16) -> Option<u32>
 ///
 /// assert_eq!(rt; top_register(&RawInsn::I12x { op: 0x01, a: 3, b: 15 }), Some(15)); // move v3, v15
 /// ```
+#[inline(always)]
 #[rattlefmt::skip]
 #[tactic(auto, unfolding(crate::specs::Raw::raw, crate::specs::Registers::named_registers))]
 pub fn top_register(insn: &RawInsn<'_>) -> Option<u32>

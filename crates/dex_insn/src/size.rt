@@ -12,6 +12,7 @@ use crate::raw::RawInsn;
 ///
 /// assert_eq!(rt; size_of(&RawInsn::I51l { op: 0x18, a: 0, b: 1 }), 5); // const-wide v0, 1
 /// ```
+#[inline(always)]
 #[rattlefmt::skip]
 #[tactic(auto, unfolding(crate::specs::Raw::raw, crate::specs::Raw::units))]
 pub fn size_of(insn: &RawInsn<'_>) -> u64

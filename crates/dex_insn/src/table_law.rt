@@ -2,7 +2,7 @@
 
 ghost use Rattle.std.specs.Prelude.{ℕ, List, ◌≡◌, ◌≢◌, [], Some, true};
 ghost use Rattle.std.specs.List.{list_all};
-ghost use Rattle.dex_insn.specs.Opcodes.{format_of, index_kind_of, has_index, names_table};
+ghost use Rattle.dex_insn.specs.Opcodes.{format_of, index_kind_of, format_has_index, names_table};
 ghost use Rattle.dex_insn.specs.Mnemonics.{mnemonic_of, IsNamed, is_mnemonic_byte};
 ghost use Rattle.dex_insn.specs.declared.opcode.Format.{Format};
 
@@ -27,5 +27,5 @@ pub fn mnemonics_are_plain()
 /// The instructions of a used opcode have an index exactly if the opcode names a table.
 #[tactic(auto, using(crate::proofs::Rows::kind_agrees))]
 pub fn indices_have_a_kind()
-    ensures { (op : ℕ) (f : Format) → format_of op ≡ Some f → has_index f ≡ names_table (index_kind_of op) }
+    ensures { (op : ℕ) (f : Format) → format_of op ≡ Some f → format_has_index f ≡ names_table (index_kind_of op) }
 {}

@@ -6,6 +6,7 @@ ghost use Rattle.dex_insn.specs.Fields.{number, signed};
 use byteorder::{ByteOrder, LittleEndian};
 
 /// Unit `k`.
+#[inline(always)]
 #[tactic(auto, unfolding(crate::specs::Fields::number))]
 pub(crate) fn unit(bytes: &[u8], k: usize) -> u16
     requires { 2 * k + 2 ≤ length bytes.now }
@@ -15,6 +16,7 @@ pub(crate) fn unit(bytes: &[u8], k: usize) -> u16
 }
 
 /// The number in two units from unit `k` on.
+#[inline(always)]
 #[tactic(auto, unfolding(crate::specs::Fields::number))]
 pub(crate) fn two_units(bytes: &[u8], k: usize) -> u32
     requires { 2 * k + 4 ≤ length bytes.now }
@@ -24,6 +26,7 @@ pub(crate) fn two_units(bytes: &[u8], k: usize) -> u32
 }
 
 /// The number in four units from unit `k` on.
+#[inline(always)]
 #[tactic(auto, unfolding(crate::specs::Fields::number))]
 pub(crate) fn four_units(bytes: &[u8], k: usize) -> u64
     requires { 2 * k + 8 ≤ length bytes.now }
@@ -33,6 +36,7 @@ pub(crate) fn four_units(bytes: &[u8], k: usize) -> u64
 }
 
 /// Four bits as a signed number.
+#[inline(always)]
 pub(crate) fn signed_nibble(bits: u8) -> i8
     requires { bits < 16 }
     ensures { result ≡ signed 4 bits }
@@ -45,6 +49,7 @@ pub(crate) fn signed_nibble(bits: u8) -> i8
 }
 
 /// The low byte of a unit.
+#[inline(always)]
 pub(crate) fn low_byte(unit: u16) -> u8
     ensures { result ≡ unit % 256 }
 {
@@ -52,6 +57,7 @@ pub(crate) fn low_byte(unit: u16) -> u8
 }
 
 /// The high byte of a unit.
+#[inline(always)]
 pub(crate) fn high_byte(unit: u16) -> u8
     ensures { result ≡ unit / 256 }
 {
@@ -59,6 +65,7 @@ pub(crate) fn high_byte(unit: u16) -> u8
 }
 
 /// Unit 1 as a signed number, as the branch offsets of 16 bits are.
+#[inline(always)]
 pub(crate) fn signed_unit(front: &[u8]) -> i32
     requires { 4 ≤ length front.now }
     ensures { result ≡ signed 16 (number front.now 1 1) }

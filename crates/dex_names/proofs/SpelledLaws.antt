@@ -7,28 +7,28 @@ use Rattle.listing_words.specs.Words.{IsGraphic}
 use Rattle.listing_words.specs.Written.{name_text}
 use Rattle.listing_words.proofs.NameLaws.{units_one}
 use Rattle.listing_words.proofs.WrittenLaws.{name_again, name_graphic}
-use Rattle.dex_names.specs.Spelled.{SpellsText}
+use Rattle.dex_names.specs.Spelled.{SpellsInAscii}
 
-pub no_form : {V : Type 0} (G : List ℕ → V → Type 0) (said us : List ℕ) → SpellsText said us
-    → ((v : V) → G us v → ⊥) → (v : V) → (units : List ℕ) × SpellsText said units × G units v → ⊥
+pub no_form : {V : Type 0} (G : List ℕ → V → Type 0) (said us : List ℕ) → SpellsInAscii said us
+    → ((v : V) → G us v → ⊥) → (v : V) → (units : List ℕ) × SpellsInAscii said units × G units v → ⊥
 no_form G said us spells none v h =
     none v (subst (λ (units : List ℕ). G units v) (units_one said h.0 us h.1.1 spells.1) h.2)
 
-pub no_units : {V : Type 0} (G : List ℕ → V → Type 0) (said : List ℕ) → ((us : List ℕ) → SpellsText said us → ⊥)
-    → (v : V) → (units : List ℕ) × SpellsText said units × G units v → ⊥
+pub no_units : {V : Type 0} (G : List ℕ → V → Type 0) (said : List ℕ) → ((us : List ℕ) → SpellsInAscii said us → ⊥)
+    → (v : V) → (units : List ℕ) × SpellsInAscii said units × G units v → ⊥
 no_units G said none v h = none h.0 h.1
 
 -- the same of what a reader of units answers, and what it finds
 pub found_in : {V W : Type 0} (G : List ℕ → V → Type 0) (view : W → V) (said us : List ℕ) (r : Result (Option W) Fault)
-    → SpellsText said us → IfOk r (λ o. IfSome o (λ w. G us (view w)))
-    → IfOk r (λ o. IfSome o (λ w. (units : List ℕ) × SpellsText said units × G units (view w)))
+    → SpellsInAscii said us → IfOk r (λ o. IfSome o (λ w. G us (view w)))
+    → IfOk r (λ o. IfSome o (λ w. (units : List ℕ) × SpellsInAscii said units × G units (view w)))
 found_in G view said us (Ok (Some w)) spells h = (us, spells, h)
 found_in G view said us (Ok None) spells h = tt
 found_in G view said us (Err e) spells h = tt
 
 pub none_in : {V W : Type 0} (G : List ℕ → V → Type 0) (said us : List ℕ) (r : Result (Option W) Fault)
-    → SpellsText said us → IfOk r (λ o. IfNone o ((v : V) → G us v → ⊥))
-    → IfOk r (λ o. IfNone o ((v : V) → (units : List ℕ) × SpellsText said units × G units v → ⊥))
+    → SpellsInAscii said us → IfOk r (λ o. IfNone o ((v : V) → G us v → ⊥))
+    → IfOk r (λ o. IfNone o ((v : V) → (units : List ℕ) × SpellsInAscii said units × G units v → ⊥))
 none_in G said us (Ok (Some w)) spells h = tt
 none_in G said us (Ok None) spells h = no_form G said us spells h
 none_in G said us (Err e) spells h = tt
@@ -39,5 +39,5 @@ graphic_ascii [] h i = omega arith
 graphic_ascii (c ∷ cs) h zero = let high = h.0.1 in omega arith
 graphic_ascii (c ∷ cs) h (suc i) = graphic_ascii cs h.1 i
 
-pub written_spells : (us : List ℕ) → AllByRecursion (λ u. u < 2 ^ 16) us → SpellsText (name_text us) us
+pub written_spells : (us : List ℕ) → AllByRecursion (λ u. u < 2 ^ 16) us → SpellsInAscii (name_text us) us
 written_spells us h = (graphic_ascii (name_text us) (name_graphic us), name_again us h)

@@ -7,21 +7,21 @@ use Rattle.program_types.specs.Content.{Units, Descriptor, Proto, FieldRef, Meth
 use Rattle.listing_words.specs.Names.{SpellsUnits, IsProtoText, IsFieldText, IsMethodText}
 
 -- The text is ASCII and spells these units: `\uXXXX` one unit, any other character itself.
-abbrev pub SpellsText : List ℕ → Units → Type 0
-SpellsText said units = IsAscii said × SpellsUnits said units
+abbrev pub SpellsInAscii : List ℕ → Units → Type 0
+SpellsInAscii said units = IsAscii said × SpellsUnits said units
 
 -- The text spells a type by its descriptor.
 abbrev pub SpellsType : List ℕ → Descriptor → Type 0
-SpellsType said d = SpellsText said d × IsDescriptor d
+SpellsType said d = SpellsInAscii said d × IsDescriptor d
 
 -- The text spells a prototype: `(P..)R`
 abbrev pub SpellsProto : List ℕ → Proto → Type 0
-SpellsProto said p = (units : Units) × SpellsText said units × IsProtoText units p
+SpellsProto said p = (units : Units) × SpellsInAscii said units × IsProtoText units p
 
 -- The text spells a field: `C->n:T`
 abbrev pub SpellsField : List ℕ → FieldRef → Type 0
-SpellsField said f = (units : Units) × SpellsText said units × IsFieldText units f
+SpellsField said f = (units : Units) × SpellsInAscii said units × IsFieldText units f
 
 -- The text spells a method: `C->n(P..)R`
 abbrev pub SpellsMethod : List ℕ → MethodRef → Type 0
-SpellsMethod said m = (units : Units) × SpellsText said units × IsMethodText units m
+SpellsMethod said m = (units : Units) × SpellsInAscii said units × IsMethodText units m

@@ -1,7 +1,7 @@
 //! Names made from a text, placed in the caller's arena.
 //!
 //! A text spells a name as a listing writes it: `\uXXXX` stands for one UTF-16 unit, any other ASCII character for itself. What
-//! spells no name is answered with `None`; an error is want of memory.
+//! spells no name is answered with `None`; an error means out of memory.
 //!
 //! ```
 //! use bumpalo::Bump;

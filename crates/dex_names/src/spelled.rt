@@ -4,7 +4,7 @@ ghost use Rattle.std.specs.Prelude.{List, ℕ, IfOk, IfSome, IfNone, IsOkUnless}
 ghost use Rattle.base_bytes.specs.Fault.{memory};
 ghost use Rattle.program_types.specs.View.{str, desc, proto as said_proto, field_ref, method_ref};
 ghost use Rattle.program_types.specs.Content.{Proto as SaidProto, FieldRef as SaidField, MethodRef as SaidMethod};
-ghost use Rattle.dex_names.specs.Spelled.{SpellsText, SpellsType, SpellsProto, SpellsField, SpellsMethod};
+ghost use Rattle.dex_names.specs.Spelled.{SpellsInAscii, SpellsType, SpellsProto, SpellsField, SpellsMethod};
 
 use bumpalo::Bump;
 use dex_base::{Fault, is_descriptor};
@@ -13,8 +13,8 @@ use program_types::{Desc, FieldRef, MethodRef, Proto, Str};
 
 /// The units that a text spells, in the arena.
 fn units_of<'a>(arena: &'a Bump, said: &str) -> Result<Option<&'a [u16]>, Fault>
-    ensures found { IfOk result (λ r. IfSome r (λ units. SpellsText said.now units.now)) }
-    ensures none { IfOk result (λ r. IfNone r ((units : List ℕ) → SpellsText said.now units → ⊥)) }
+    ensures found { IfOk result (λ r. IfSome r (λ units. SpellsInAscii said.now units.now)) }
+    ensures none { IfOk result (λ r. IfNone r ((units : List ℕ) → SpellsInAscii said.now units → ⊥)) }
     ensures memory { IsOkUnless result memory }
 {
     if said.is_ascii() {
@@ -34,8 +34,8 @@ fn units_of<'a>(arena: &'a Bump, said: &str) -> Result<Option<&'a [u16]>, Fault>
 /// let name = text(&arena, "caf\\u00e9")?; // Some: four units
 /// ```
 pub fn text<'a>(arena: &'a Bump, said: &str) -> Result<Option<Str<'a>>, Fault>
-    ensures found { IfOk result (λ r. IfSome r (λ s. SpellsText said.now (str s))) }
-    ensures none { IfOk result (λ r. IfNone r ((units : List ℕ) → SpellsText said.now units → ⊥)) }
+    ensures found { IfOk result (λ r. IfSome r (λ s. SpellsInAscii said.now (str s))) }
+    ensures none { IfOk result (λ r. IfNone r ((units : List ℕ) → SpellsInAscii said.now units → ⊥)) }
     ensures memory { IsOkUnless result memory }
 {
     match units_of(arena, said)? {

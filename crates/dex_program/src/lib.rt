@@ -8,8 +8,8 @@
 //! well_formed(&Program { classes: &[class] })?;
 //! ```
 //!
-//! Its rooms: `program_types` (the types, their content, comparisons and shorties), `program_rules` over `program_code_rules` and
-//! `program_ranges` (what a program has to keep: the faults 110 to 118).
+//! Its rooms: `program_types` (the types, their content, comparisons and shorties), `program_rules` over `program_code_rules` (what
+//! a program has to keep: the faults 110 to 118).
 #![tactic(auto)]
 
 pub use program_rules::{well_formed, well_formed_in};

@@ -8,7 +8,7 @@ use dex_base::Fault;
 use program_types::place_str;
 use std::alloc::Global;
 
-/// The first unit of a string that lies in an arena of its own, read before the arena ends. Refused only for want of memory.
+/// The first unit of a string that lies in an arena of its own, read before the arena ends. Fails only when out of memory.
 pub fn first_unit(alloc: Global, units: &[u16]) -> Result<Option<u16>, Fault>
     ensures ok { IfOk result (λ first. first ≡ slice_get units.now 0) }
     ensures err { IsOkUnless result memory }

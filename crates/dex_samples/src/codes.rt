@@ -26,25 +26,25 @@ pub fn length(len: usize) -> u32 {
     }
 }
 
-/// A code item of so many registers, no ins and no outs: so many tries, these units, and what stands behind them.
+/// A code item of so many registers, no ins and no outs: so many tries, these units, and what stands after them.
 pub fn item_of(
     alloc: Global,
     registers: u16,
     tries: u8,
     units: &[u8],
-    behind: &[u8],
+    after: &[u8],
 ) -> Result<Vec<u8>, Fault> {
     let mut item = Vec::from_slice(alloc, &registers.to_le_bytes())?;
     item.extend_from_slice(&[0, 0, 0, 0, tries, 0])?;
     push_words(&mut item, &[0, length(units.len() / 2)])?;
     item.extend_from_slice(units)?;
-    item.extend_from_slice(behind)?;
+    item.extend_from_slice(after)?;
     Ok(item)
 }
 
 /// The file of a class whose one method has this code item.
 pub fn file_of_item(alloc: Global, item: &[u8]) -> Result<Vec<u8>, Fault> {
-    // behind the item stand 17 bytes of strings
+    // after the item stand 17 bytes of strings
     let class_data = length(item.len()).saturating_add(221);
     let class = [1, 1, 0xffffffff, 0, 0xffffffff, 0, class_data, 0];
     file_of(

@@ -37,18 +37,18 @@ fn part_of(kind: u32, items: usize, at: u32) -> Part {
     }
 }
 
-// The place behind a table whose rows have so many bytes.
-fn behind(table: Part, bytes: u32) -> u32 {
+// The place after a table whose rows have so many bytes.
+fn after(table: Part, bytes: u32) -> u32 {
     table.at.saturating_add(table.items.saturating_mul(bytes))
 }
 
 fn tables_of(rows: &Rows<'_>) -> [Part; 6] {
     let strings = part_of(1, rows.strings.len(), 112);
-    let types = part_of(2, rows.types.len(), behind(strings, 4));
-    let protos = part_of(3, rows.protos.len(), behind(types, 4));
-    let fields = part_of(4, rows.fields.len(), behind(protos, 12));
-    let methods = part_of(5, rows.methods.len(), behind(fields, 8));
-    let classes = part_of(6, rows.classes.len(), behind(methods, 8));
+    let types = part_of(2, rows.types.len(), after(strings, 4));
+    let protos = part_of(3, rows.protos.len(), after(types, 4));
+    let fields = part_of(4, rows.fields.len(), after(protos, 12));
+    let methods = part_of(5, rows.methods.len(), after(fields, 8));
+    let classes = part_of(6, rows.classes.len(), after(methods, 8));
     [strings, types, protos, fields, methods, classes]
 }
 
@@ -57,7 +57,7 @@ fn items_of(bytes: &[u8]) -> usize {
     bytes.len().min(1)
 }
 
-/// How many bytes a type_list of so many types has, with the zeros behind it.
+/// How many bytes a type_list of so many types has, with the zeros after it.
 fn list_bytes(list: &[u16]) -> u32 {
     let types = length(list.len());
     let pairs = types / 2 + types % 2;
@@ -73,8 +73,8 @@ pub fn list_at(lists: &[&[u16]], number: usize, begin: u32) -> u32 {
     at
 }
 
-// The place behind texts that begin at a place.
-fn behind_texts(texts: &[&[u8]], begin: u32) -> u32 {
+// The place after texts that begin at a place.
+fn after_texts(texts: &[&[u8]], begin: u32) -> u32 {
     let mut at = begin;
     for text in texts {
         at = at.saturating_add(length(text.len()));
@@ -88,7 +88,7 @@ fn sections_of(rows: &Rows<'_>, begin: u32) -> [Part; 4] {
     let codes = part_of(0x2001, items_of(rows.codes), codes_at);
     let texts_at = codes_at.saturating_add(length(rows.codes.len()));
     let texts = part_of(0x2002, rows.strings.len(), texts_at);
-    let class_data_at = behind_texts(rows.strings, texts_at);
+    let class_data_at = after_texts(rows.strings, texts_at);
     let class_data = part_of(0x2000, items_of(rows.class_data), class_data_at);
     [lists, codes, texts, class_data]
 }
@@ -112,7 +112,7 @@ fn aligned(at: u32) -> u32 {
 /// Where the parts of the file of these rows stand.
 pub fn layout_of(rows: &Rows<'_>) -> Layout {
     let tables = tables_of(rows);
-    let begin = behind(tables[5], 32);
+    let begin = after(tables[5], 32);
     let sections = sections_of(rows, begin);
     let data_end = sections[3].at.saturating_add(length(rows.class_data.len()));
     let map = part_of(0x1000, 1, aligned(data_end));

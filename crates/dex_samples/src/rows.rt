@@ -4,7 +4,7 @@
 ///
 /// The file is laid out in this order: the header, the six tables, type lists, code items, texts, class data, the map,
 /// encoded arrays. A table or a section without items isn't there. Type lists and the map are 4-aligned by zeros before
-/// the map and behind each list; so a first code item is, too.
+/// the map and after each list; so a first code item is, too.
 #[derive(Clone, Copy)]
 pub struct Rows<'r> {
     /// Each string_data_item as it is spelled: the number of units, MUTF-8, the end byte.

@@ -50,7 +50,7 @@ pub fn put_proto(text: &mut String, proto: &Proto<'_>) -> Result<(), Fault> {
     put_units(text, proto.ret.text)
 }
 
-/// Adds the descriptors, one behind another: `I[ILA;`.
+/// Adds the descriptors, one after another: `I[ILA;`.
 pub fn put_types(text: &mut String, types: &[Desc<'_>]) -> Result<(), Fault> {
     for ty in types {
         put_units(text, ty.text)?;

@@ -6,7 +6,7 @@ use crate::rows::Rows;
 use dex_base::{Fault, push_words};
 use std::alloc::Global;
 
-/// The file of these rows, with its checksum and its signature. Refused only for want of memory.
+/// The file of these rows, with its checksum and its signature. Fails only when out of memory.
 pub fn file_of(alloc: Global, rows: &Rows<'_>) -> Result<Vec<u8>, Fault> {
     let mut file = Vec::new(alloc);
     put_file(&mut file, rows, &layout_of(rows))?;
@@ -54,7 +54,7 @@ fn put_tables(file: &mut Vec<u8>, rows: &Rows<'_>, layout: &Layout) -> Result<()
     put_class_defs(file, rows.classes)
 }
 
-// The texts stand one behind another.
+// The texts stand one after another.
 fn put_string_ids(file: &mut Vec<u8>, texts: &[&[u8]], begin: u32) -> Result<(), Fault> {
     let mut at = begin;
     for text in texts {

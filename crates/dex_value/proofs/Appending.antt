@@ -134,7 +134,7 @@ module _ (N : ℕ → Name → Type 0) (old mid new : List ℕ) (n : ℕ) (vs : 
     };
   }
 
-  -- the same behind the head of an array value
+  -- the same after the head of an array value
   pub array_value_appends : (start : List ℕ) → length vs ≡ n → old ≡ start ++ 28 ∷ [] → Appends (Shortest Spells) old mid n → Appends (Each (Shortest (SpellsValue N))) mid new vs → Appends (Shortest (SpellsValue N)) start new (Array (values vs))
   array_value_appends start len head c a =
       let x = array_appends len c a in

@@ -8,22 +8,22 @@ use Rattle.base_bytes.proofs.GrammarLaws.{Counted-unique}
 use Rattle.base_bytes.proofs.Numbers.{spells_unique}
 use Rattle.program_types.specs.Content.{Name, OfText, OfDesc, OfField, OfMethod, Value, Byte, Short, Char, Int, Long, Float, Double, Named, Enum, Array, Values, values}
 use Rattle.program_types.specs.Depth.{depth, greatest_depth}
-use Rattle.dex_value.specs.Spelling.{unsigned_of, signed_of, high_of, Behind, SpellsValue, SpellsValues, SpellsArray, count_of}
+use Rattle.dex_value.specs.Spelling.{unsigned_of, signed_of, high_of, After, SpellsValue, SpellsValues, SpellsArray, count_of}
 use Rattle.dex_value.specs.Standing.{Shallow}
-use Rattle.dex_value.specs.Unique.{IsFunctional}
-use Rattle.dex_value.specs.Faults.{IsOfType}
+use Rattle.dex_value.specs.Unique.{IsFunctionalByType}
+use Rattle.dex_value.specs.Faults.{IsNameOfType}
 use Rattle.dex_value.specs.Reading.{ValueStands}
 use Rattle.dex_value.proofs.Lists.{listed, values-listed, length-listed, each-listed}
 use Rattle.dex_value.proofs.Fronts.{SizedFront, ArrayFront, LoneFront, BareNull, BareFalse, BareTrue, Front, front}
 
--- ---- one value of bytes behind a head
+-- ---- one value of bytes after a head
 
 -- an enum constant is a field
 enum_of : Name → Value
 enum_of (OfField f) = Enum f
 enum_of which = Named which
 
--- what the bytes behind a head of the type stand for, if a name is this one
+-- what the bytes after a head of the type stand for, if a name is this one
 leaf_value : ℕ → List ℕ → Name → Value
 leaf_value type low which =
     if type == 0 then Byte (signed_of low) else (
@@ -43,16 +43,16 @@ no_name = OfText []
 record Leaf (N : ℕ → Name → Type 0) (t : ℕ) (low : List ℕ) (v : Value) : Type 0 where
   which : Name
   value : v ≡ leaf_value t low which
-  name : (IsOfType t which × N (unsigned_of low) which) ⊎ ((t < 23) × (which ≡ no_name))
+  name : (IsNameOfType t which × N (unsigned_of low) which) ⊎ ((t < 23) × (which ≡ no_name))
 
 module _ (N : ℕ → Name → Type 0) where
   number_leaf : (v : Value) (t k : ℕ) (low : List ℕ) → t ≡ k → k < 23 → v ≡ leaf_value k low no_name → Leaf N t low v
   number_leaf v t k low e small is =
       record { which = no_name; value = subst (λ (j : ℕ). v ≡ leaf_value j low no_name) (sym e) is; name = inr (omega arith, refl) }
 
-  named_leaf : (v : Value) (t k : ℕ) (low : List ℕ) (which : Name) → t ≡ k → IsOfType k which → N (unsigned_of low) which → v ≡ leaf_value k low which → Leaf N t low v
+  named_leaf : (v : Value) (t k : ℕ) (low : List ℕ) (which : Name) → t ≡ k → IsNameOfType k which → N (unsigned_of low) which → v ≡ leaf_value k low which → Leaf N t low v
   named_leaf v t k low which e of n is =
-      record { which = which; value = subst (λ (j : ℕ). v ≡ leaf_value j low which) (sym e) is; name = inl (subst (λ (j : ℕ). IsOfType j which) (sym e) of, n) }
+      record { which = which; value = subst (λ (j : ℕ). v ≡ leaf_value j low which) (sym e) is; name = inl (subst (λ (j : ℕ). IsNameOfType j which) (sym e) of, n) }
 
   leaf : (v : Value) (t : ℕ) (low : List ℕ) → ValueStands N t low v → Leaf N t low v
   unfolding leaf_value enum_of
@@ -70,13 +70,13 @@ module _ (N : ℕ → Name → Type 0) where
   leaf (Enum f) t low s = named_leaf (Enum f) t 27 low (OfField f) s.0 refl s.1 refl
   leaf _ t low s = absurd s
 
-  names_type : (t : ℕ) (which : Name) → IsOfType t which → 23 ≤ t
+  names_type : (t : ℕ) (which : Name) → IsNameOfType t which → 23 ≤ t
   names_type t (OfText n) e = grind (arith, nat_tests)
   names_type t (OfDesc n) e = grind (arith, nat_tests)
   names_type t (OfField n) e = grind (arith, nat_tests)
   names_type t (OfMethod n) e = grind (arith, nat_tests)
 
-  pub stands_one : IsFunctional N → (v w : Value) (t : ℕ) (low : List ℕ) → ValueStands N t low v → ValueStands N t low w → v ≡ w
+  pub stands_one : IsFunctionalByType N → (v w : Value) (t : ℕ) (low : List ℕ) → ValueStands N t low v → ValueStands N t low w → v ≡ w
   stands_one one v w t low s r =
       let x = leaf v t low s in
       let y = leaf w t low r in
@@ -94,7 +94,7 @@ module _ (N : ℕ → Name → Type 0) where
 
 -- ---- one value, by its front
 
--- the bytes behind equal heads
+-- the bytes after equal heads
 head_type : (n m t u : ℕ) → t < 28 → u < 28 → 32 * n + t ≡ 32 * m + u → (n ≡ m) × (t ≡ u)
 head_type n m t u p q e = (omega arith, omega arith)
 
@@ -104,7 +104,7 @@ cons_head a b as_ bs e = (cc, cc)
 front_same : (a b x y : List ℕ) → length a ≡ length b → a ++ x ≡ b ++ y → a ≡ b
 front_same a b x y e h = sym (take_at a x (length a) refl) ∙ ap (take (length a)) h ∙ take_at b y (length a) (sym e)
 
-module _ (N : ℕ → Name → Type 0) (one : IsFunctional N) where
+module _ (N : ℕ → Name → Type 0) (one : IsFunctionalByType N) where
   sized_same : (a b x y : List ℕ) (v w : Value) → SizedFront N a v → SizedFront N b w → a ++ x ≡ b ++ y → (a ≡ b) × (v ≡ w)
   sized_same a b x y v w p q e =
       let whole : (32 * (length p.low - 1) + p.type) ∷ (p.low ++ x) ≡ (32 * (length q.low - 1) + q.type) ∷ (q.low ++ y) = ap (λ l. l ++ x) (sym p.joined) ∙ e ∙ ap (λ l. l ++ y) q.joined in
@@ -144,7 +144,7 @@ lone_same a b x y v w (BareTrue p i) (BareNull q j) e = let h = heads a b x y []
 lone_same a b x y v w (BareTrue p i) (BareFalse q j) e = let h = heads a b x y [] [] 63 31 p q e in absurd (omega arith)
 
 -- an array within a limit is values within the one below it
-pub array_each : (N : ℕ → Name → Type 0) (k : ℕ) (text : List ℕ) (vs : Values) → Behind (count_of vs) (λ back. SpellsValues N back vs) text → greatest_depth vs ≤ k → Counted Spells (Shallow N k) text (listed vs)
+pub array_each : (N : ℕ → Name → Type 0) (k : ℕ) (text : List ℕ) (vs : Values) → After (count_of vs) (λ back. SpellsValues N back vs) text → greatest_depth vs ≤ k → Counted Spells (Shallow N k) text (listed vs)
 array_each N k text vs b d = record {
   front = b.count;
   back = b.back;
@@ -157,7 +157,7 @@ array_same : (N : ℕ → Name → Type 0) (k : ℕ) → IsPrefixUnique (Shallow
 array_same N k unique a b x y v w p q d g e =
     let whole : 28 ∷ (p.text ++ x) ≡ 28 ∷ (q.text ++ y) = ap (λ l. l ++ x) (sym p.joined) ∙ e ∙ ap (λ l. l ++ y) q.joined in
     let parts = cons_head _ _ _ _ whole in
-    let both = Counted-unique Spells (Shallow N k) spells_unique unique p.text q.text x y (listed p.vs) (listed q.vs) (array_each N k p.text p.vs p.behind d) (array_each N k q.text q.vs q.behind g) parts.1 in (
+    let both = Counted-unique Spells (Shallow N k) spells_unique unique p.text q.text x y (listed p.vs) (listed q.vs) (array_each N k p.text p.vs p.after d) (array_each N k q.text q.vs q.after g) parts.1 in (
       p.joined ∙ ap (λ l. 28 ∷ l) both.0 ∙ sym q.joined,
       p.value ∙ ap Array (sym (values-listed p.vs) ∙ ap values both.1 ∙ values-listed q.vs) ∙ sym q.value,
     )
@@ -168,7 +168,7 @@ array_depth k v vs e d = let h : depth v ≡ suc (greatest_depth vs) = ap depth 
 array_deep : (v : Value) (vs : Values) → v ≡ Array vs → depth v ≤ 0 → ⊥
 array_deep v vs e d = let h : depth v ≡ suc (greatest_depth vs) = ap depth e in omega (arith, h, d)
 
-module _ (N : ℕ → Name → Type 0) (one : IsFunctional N) where
+module _ (N : ℕ → Name → Type 0) (one : IsFunctionalByType N) where
   -- where two arrays agree, two values do
   by_fronts : (a b x y : List ℕ) (v w : Value) → a ++ x ≡ b ++ y → ((p : ArrayFront N a v) → (q : ArrayFront N b w) → (a ≡ b) × (v ≡ w)) → Front N a v → Front N b w → (a ≡ b) × (v ≡ w)
   by_fronts a b x y v w e arrays (inl p) (inl q) = sized_same N one a b x y v w p q e

@@ -1,7 +1,7 @@
--- A value that is spelled, by the first byte: with bytes behind its head, an array, or a head alone.
+-- A value that is spelled, by the first byte: with bytes after its head, an array, or a head alone.
 use Rattle.std.proofs.Common.{◌≡◌, ℕ, ◌+◌, ◌*◌, ◌-◌, ◌<◌, ◌≤◌, ◌⊎◌, inl, inr, List, [], ◌∷◌, length, slice_index, refl, subst, true, false, lit<, lit≤, arith}
 use Rattle.program_types.specs.Content.{Name, OfText, OfDesc, OfField, OfMethod, Value, Byte, Short, Char, Int, Long, Float, Double, Named, Enum, Array, Null, Boolean, Values}
-use Rattle.dex_value.specs.Spelling.{Sized, Behind, SpellsValue, SpellsValues, count_of}
+use Rattle.dex_value.specs.Spelling.{Sized, After, SpellsValue, SpellsValues, count_of}
 use Rattle.dex_value.specs.Faults.{widest_of}
 use Rattle.dex_value.specs.Reading.{ValueStands}
 
@@ -19,7 +19,7 @@ pub record ArrayFront (N : ℕ → Name → Type 0) (bytes : List ℕ) (v : Valu
   pub value : v ≡ Array vs
   pub text : List ℕ
   pub joined : bytes ≡ 28 ∷ text
-  pub behind : Behind (count_of vs) (λ back. SpellsValues N back vs) text
+  pub after : After (count_of vs) (λ back. SpellsValues N back vs) text
 
 pub data LoneFront (bytes : List ℕ) (v : Value) : Type 0 where
   BareNull : bytes ≡ 30 ∷ [] → v ≡ Null → LoneFront bytes v
@@ -47,12 +47,12 @@ module _ (N : ℕ → Name → Type 0) where
   front bytes (Named (OfField t)) s = sized bytes (Named (OfField t)) 25 4 _ (lit< tt) (lit≤ tt) (λ low m. (refl, m)) s
   front bytes (Named (OfMethod t)) s = sized bytes (Named (OfMethod t)) 26 4 _ (lit< tt) (lit≤ tt) (λ low m. (refl, m)) s
   front bytes (Enum f) s = sized bytes (Enum f) 27 4 _ (lit< tt) (lit≤ tt) (λ low m. (refl, m)) s
-  front bytes (Array vs) s = inr (inl (record { vs = vs; value = refl; text = s.0; joined = s.1; behind = s.2 }))
+  front bytes (Array vs) s = inr (inl (record { vs = vs; value = refl; text = s.0; joined = s.1; after = s.2 }))
   front bytes Null s = inr (inr (BareNull s refl))
   front bytes (Boolean false) s = inr (inr (BareFalse s refl))
   front bytes (Boolean true) s = inr (inr (BareTrue s refl))
 
-  -- the bytes behind a head of the type stand for the value, so the value is spelled
+  -- the bytes after a head of the type stand for the value, so the value is spelled
   whole : (all : List ℕ) (type widest : ℕ) (Means : List ℕ → Type 0) (low : List ℕ) (t : ℕ) → t ≡ type → widest_of t ≤ widest → Means low → ((i : ℕ) → slice_index low i < 256) → 0 < length low → length low ≤ widest_of t → all ≡ (32 * (length low - 1) + t) ∷ low → Sized type widest Means all
   whole all type widest Means low t is wide means bytes some few joined =
       record { low = low; some = some; few = omega arith; bytes = bytes; joined = subst (λ (k : ℕ). all ≡ (32 * (length low - 1) + k) ∷ low) is joined; means = means }

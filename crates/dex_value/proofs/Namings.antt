@@ -5,23 +5,21 @@ use Rattle.program_types.specs.Kinds.{IsOfKind}
 use Rattle.tables_rows.specs.Names.{Names, NameIsAt}
 use Rattle.dex_value.specs.declared.types.NameType.{NameType}
 use Rattle.dex_value.specs.declared.types.NameType.TheVariants as named
-use Rattle.dex_value.specs.Faults.{IsOfType}
-use Rattle.dex_value.specs.Reading.{name_code, kind_of, IsName, IsNumber, ValueStands}
-use Rattle.dex_value.specs.Spelling.{type_of, unsigned_of}
-use Rattle.dex_value.specs.Unique.{IsFunctional}
+use Rattle.dex_value.specs.Faults.{IsNameOfType}
+use Rattle.dex_value.specs.Reading.{name_code, table_of_type, IsName, IsNumber, ValueStands}
+use Rattle.dex_value.specs.Spelling.{value_type_of, unsigned_of}
+use Rattle.dex_value.specs.Unique.{IsFunctionalByType}
+use Rattle.base_bytes.proofs.ListFacts.{some_inj}
 
-some_same : {V : Type 0} (a b : V) → Some a ≡ Some b → a ≡ b
-some_same a b e = cc
-
-pub NameIsAt-functional : (names : Names) → IsFunctional (NameIsAt names)
-NameIsAt-functional names i (OfText m) (OfText n) e p q = ap OfText (some_same m n (sym p ∙ q))
-NameIsAt-functional names i (OfDesc m) (OfDesc n) e p q = ap OfDesc (some_same m n (sym p ∙ q))
-NameIsAt-functional names i (OfField m) (OfField n) e p q = ap OfField (some_same m n (sym p ∙ q))
-NameIsAt-functional names i (OfMethod m) (OfMethod n) e p q = ap OfMethod (some_same m n (sym p ∙ q))
+pub NameIsAt-functional : (names : Names) → IsFunctionalByType (NameIsAt names)
+NameIsAt-functional names i (OfText m) (OfText n) e p q = ap OfText (some_inj m n (sym p ∙ q))
+NameIsAt-functional names i (OfDesc m) (OfDesc n) e p q = ap OfDesc (some_inj m n (sym p ∙ q))
+NameIsAt-functional names i (OfField m) (OfField n) e p q = ap OfField (some_inj m n (sym p ∙ q))
+NameIsAt-functional names i (OfMethod m) (OfMethod n) e p q = ap OfMethod (some_inj m n (sym p ∙ q))
 NameIsAt-functional names i _ _ e p q = absurd (omega arith)
 
 -- names of a type are in its table
-pub kind_of_type : (ty : NameType) (which : Name) → IsOfType (name_code ty) which → IsOfKind (kind_of ty) which
+pub kind_of_type : (ty : NameType) (which : Name) → IsNameOfType (name_code ty) which → IsOfKind (table_of_type ty) which
 kind_of_type named.String (OfText n) e = tt
 kind_of_type named.Type (OfDesc n) e = tt
 kind_of_type named.Field (OfField n) e = tt
@@ -31,7 +29,7 @@ kind_of_type _ _ e = absurd (omega (arith, e))
 
 -- a name of a value stands where its index is that of the bytes
 pub named_stands : (N : ℕ → Name → Type 0) (type : ℕ) (low : List ℕ) (which : Name) (v : Value) → IsName type which v → N (unsigned_of low) which → ValueStands N type low v
-named_stands N type low which (Named other) s n = (s.0 ∙ ap type_of (sym s.1), subst (λ (w : Name). N (unsigned_of low) w) (sym s.1) n)
+named_stands N type low which (Named other) s n = (s.0 ∙ ap value_type_of (sym s.1), subst (λ (w : Name). N (unsigned_of low) w) (sym s.1) n)
 named_stands N type low which (Enum f) s n = (s.0, subst (λ (w : Name). N (unsigned_of low) w) s.1 n)
 named_stands N type low which _ s n = absurd s
 

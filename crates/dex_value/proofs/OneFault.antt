@@ -8,11 +8,12 @@ use Rattle.base_bytes.proofs.GrammarLaws.{Each-next, Each-unique, rest_same}
 use Rattle.base_bytes.proofs.Numbers.{spells_unique}
 use Rattle.base_bytes.proofs.TakesLaws.{Takes-none, Takes-unique}
 use Rattle.dex_container.specs.Frame.{IsFramed}
+use Rattle.dex_container.specs.Where.{IsSectionRest}
 use Rattle.dex_container.proofs.Framed.{IsSection-one}
 use Rattle.program_types.specs.Content.{Name, Value}
 use Rattle.dex_value.specs.Standing.{Shallow}
-use Rattle.dex_value.specs.Unique.{IsFunctional}
-use Rattle.dex_value.specs.Faults.{IsSizedHead, IsUnknown, IsTooDeep, IsEnded, IsCut, HasNoCount, NamesNothing, OwnBreaks, NextBreaks, InsideBreaks, ValueBreaks, ArrayBreaks, IsRest, ArrayBreaksAt}
+use Rattle.dex_value.specs.Unique.{IsFunctionalByType}
+use Rattle.dex_value.specs.Faults.{IsSizedHead, IsUnknown, IsTooDeep, IsEnded, IsCut, HasNoCount, NamesNothing, OwnBreaks, NextBreaks, InsideBreaks, ValueBreaks, ArrayBreaks, ArrayBreaksAt}
 use Rattle.dex_value.proofs.FrontLaws.{cons_head, shallow_unique}
 use Rattle.dex_value.proofs.Refusing.{lone_not_sized, value_none}
 
@@ -76,16 +77,16 @@ module _ (N : ℕ → Name → Type 0) (off end : ℕ) (bytes : List ℕ) where
   own_one limit e f (inr (inr (inr x))) (inr (inr (inr y))) = x.1 ∙ sym y.1
 
   -- an array whose count is there has nothing wrong of its own, where a depth is left
-  own_inside : (limit n : ℕ) (e : Fault) (rest behind : List ℕ) → bytes ≡ 28 ∷ rest → Takes Spells rest n behind → OwnBreaks N off end (suc limit) bytes e → ⊥
-  own_inside limit n e rest behind first counted (inl u) = unknown_array u.0 rest first
-  own_inside limit n e rest behind first counted (inr (inl u)) = let none = u.0.none_left in omega (arith, none)
-  own_inside limit n e rest behind first counted (inr (inr (inl ((inl u), is)))) = ended 28 rest u first
-  own_inside limit n e rest behind first counted (inr (inr (inl ((inr (inl u)), is)))) = array_sized u.head rest u.rest first u.first u.sized
-  own_inside limit n e rest behind first counted (inr (inr (inl ((inr (inr u)), is)))) =
-      Takes-none Spells rest n behind (subst (λ (l : List ℕ). NoneBegins Spells l) (same_head 28 28 u.rest rest u.first first).1 u.none) counted
-  own_inside limit n e rest behind first counted (inr (inr (inr u))) = array_sized u.0.head rest u.0.rest first u.0.first u.0.sized
+  own_inside : (limit n : ℕ) (e : Fault) (rest after : List ℕ) → bytes ≡ 28 ∷ rest → Takes Spells rest n after → OwnBreaks N off end (suc limit) bytes e → ⊥
+  own_inside limit n e rest after first counted (inl u) = unknown_array u.0 rest first
+  own_inside limit n e rest after first counted (inr (inl u)) = let none = u.0.none_left in omega (arith, none)
+  own_inside limit n e rest after first counted (inr (inr (inl ((inl u), is)))) = ended 28 rest u first
+  own_inside limit n e rest after first counted (inr (inr (inl ((inr (inl u)), is)))) = array_sized u.head rest u.rest first u.first u.sized
+  own_inside limit n e rest after first counted (inr (inr (inl ((inr (inr u)), is)))) =
+      Takes-none Spells rest n after (subst (λ (l : List ℕ). NoneBegins Spells l) (same_head 28 28 u.rest rest u.first first).1 u.none) counted
+  own_inside limit n e rest after first counted (inr (inr (inr u))) = array_sized u.0.head rest u.0.rest first u.0.first u.0.sized
 
--- ---- values, one behind the other
+-- ---- values, one after the other
 
 module _ (G : List ℕ → Value → Type 0) (Breaks : List ℕ → Fault → Type 0) (unique : IsPrefixUnique G) (none : (bytes : List ℕ) (fault : Fault) → Breaks bytes fault → NoneBegins G bytes)
     (one : (bytes : List ℕ) (e f : Fault) → Breaks bytes e → Breaks bytes f → e ≡ f) (n : ℕ) (bytes : List ℕ) where
@@ -112,52 +113,52 @@ module _ (G : List ℕ → Value → Type 0) (Breaks : List ℕ → Fault → Ty
     ]
   ]
 
-module _ (N : ℕ → Name → Type 0) (named : IsFunctional N) (off end : ℕ) where
+module _ (N : ℕ → Name → Type 0) (named : IsFunctionalByType N) (off end : ℕ) where
   inside_one : (limit : ℕ) → ((bytes : List ℕ) (e f : Fault) → ValueBreaks N off end limit bytes e → ValueBreaks N off end limit bytes f → e ≡ f)
       → (bytes : List ℕ) (e f : Fault) → InsideBreaks (Shallow N limit) (ValueBreaks N off end limit) bytes e → InsideBreaks (Shallow N limit) (ValueBreaks N off end limit) bytes f → e ≡ f
   inside_one limit one bytes e f x y =
       let Next = NextBreaks (Shallow N limit) (ValueBreaks N off end limit) in
       let rest = (cons_head 28 28 x.rest y.rest (sym x.first ∙ y.first)).1 in
-      let same = Takes-unique Spells y.rest x.n y.n x.behind y.behind spells_unique (subst (λ (l : List ℕ). Takes Spells l x.n x.behind) rest x.counted) y.counted in
-      next_one (Shallow N limit) (ValueBreaks N off end limit) (shallow_unique N named limit) (value_none N named off end limit) one y.n y.behind e f
-      (subst (λ (l : List ℕ). Next y.n l e) same.1 (subst (λ (n : ℕ). Next n x.behind e) same.0 x.next)) y.next
+      let same = Takes-unique Spells y.rest x.n y.n x.after y.after spells_unique (subst (λ (l : List ℕ). Takes Spells l x.n x.after) rest x.counted) y.counted in
+      next_one (Shallow N limit) (ValueBreaks N off end limit) (shallow_unique N named limit) (value_none N named off end limit) one y.n y.after e f
+      (subst (λ (l : List ℕ). Next y.n l e) same.1 (subst (λ (n : ℕ). Next n x.after e) same.0 x.next)) y.next
 
   value_one : (limit : ℕ) (bytes : List ℕ) (e f : Fault) → ValueBreaks N off end limit bytes e → ValueBreaks N off end limit bytes f → e ≡ f
   value_one zero bytes e f x y = own_one N off end bytes 0 e f x y
   value_one (suc limit) bytes e f (inl x) (inl y) = own_one N off end bytes (suc limit) e f x y
-  value_one (suc limit) bytes e f (inl x) (inr y) = absurd (own_inside N off end bytes limit y.n e y.rest y.behind y.first y.counted x)
-  value_one (suc limit) bytes e f (inr x) (inl y) = absurd (own_inside N off end bytes limit x.n f x.rest x.behind x.first x.counted y)
+  value_one (suc limit) bytes e f (inl x) (inr y) = absurd (own_inside N off end bytes limit y.n e y.rest y.after y.first y.counted x)
+  value_one (suc limit) bytes e f (inr x) (inl y) = absurd (own_inside N off end bytes limit x.n f x.rest x.after x.first x.counted y)
   value_one (suc limit) bytes e f (inr x) (inr y) = inside_one limit (value_one limit) bytes e f x y
 
   -- ---- the array
 
   array_one : (most : ℕ) (bytes : List ℕ) (e f : Fault) → ArrayBreaks N off end most bytes e → ArrayBreaks N off end most bytes f → e ≡ f
   array_one most bytes e f (inl x) (inl y) = x.1 ∙ sym y.1
-  array_one most bytes e f (inl x) (inr (inl y)) = absurd (Takes-none Spells bytes y.0.n y.0.behind x.0 y.0.counted)
-  array_one most bytes e f (inl x) (inr (inr y)) = absurd (Takes-none Spells bytes y.n y.behind x.0 y.counted)
-  array_one most bytes e f (inr (inl x)) (inl y) = absurd (Takes-none Spells bytes x.0.n x.0.behind y.0 x.0.counted)
+  array_one most bytes e f (inl x) (inr (inl y)) = absurd (Takes-none Spells bytes y.0.n y.0.after x.0 y.0.counted)
+  array_one most bytes e f (inl x) (inr (inr y)) = absurd (Takes-none Spells bytes y.n y.after x.0 y.counted)
+  array_one most bytes e f (inr (inl x)) (inl y) = absurd (Takes-none Spells bytes x.0.n x.0.after y.0 x.0.counted)
   array_one most bytes e f (inr (inl x)) (inr (inl y)) = x.1 ∙ sym y.1
   array_one most bytes e f (inr (inl x)) (inr (inr y)) =
-      let same = (Takes-unique Spells bytes x.0.n y.n x.0.behind y.behind spells_unique x.0.counted y.counted).0 in
+      let same = (Takes-unique Spells bytes x.0.n y.n x.0.after y.after spells_unique x.0.counted y.counted).0 in
       let above = x.0.above in let few = y.few in absurd (omega (arith, same, above, few))
-  array_one most bytes e f (inr (inr x)) (inl y) = absurd (Takes-none Spells bytes x.n x.behind y.0 x.counted)
+  array_one most bytes e f (inr (inr x)) (inl y) = absurd (Takes-none Spells bytes x.n x.after y.0 x.counted)
   array_one most bytes e f (inr (inr x)) (inr (inl y)) =
-      let same = (Takes-unique Spells bytes y.0.n x.n y.0.behind x.behind spells_unique y.0.counted x.counted).0 in
+      let same = (Takes-unique Spells bytes y.0.n x.n y.0.after x.after spells_unique y.0.counted x.counted).0 in
       let above = y.0.above in let few = x.few in absurd (omega (arith, same, above, few))
   array_one most bytes e f (inr (inr x)) (inr (inr y)) =
       let Next = NextBreaks (Shallow N 64) (ValueBreaks N off end 64) in
-      let same = Takes-unique Spells bytes x.n y.n x.behind y.behind spells_unique x.counted y.counted in
-      next_one (Shallow N 64) (ValueBreaks N off end 64) (shallow_unique N named 64) (value_none N named off end 64) (value_one 64) y.n y.behind e f
-      (subst (λ (l : List ℕ). Next y.n l e) same.1 (subst (λ (n : ℕ). Next n x.behind e) same.0 x.next)) y.next
+      let same = Takes-unique Spells bytes x.n y.n x.after y.after spells_unique x.counted y.counted in
+      next_one (Shallow N 64) (ValueBreaks N off end 64) (shallow_unique N named 64) (value_none N named off end 64) (value_one 64) y.n y.after e f
+      (subst (λ (l : List ℕ). Next y.n l e) same.1 (subst (λ (n : ℕ). Next n x.after e) same.0 x.next)) y.next
 
 -- two that go to one section's end have the same bytes
-same_rest : (b : List ℕ) (off m n : ℕ) (x y : List ℕ) → m ≡ n → IsRest b off m x → IsRest b off n y → x ≡ y
+same_rest : (b : List ℕ) (off m n : ℕ) (x y : List ℕ) → m ≡ n → IsSectionRest 0x2005 b off m x → IsSectionRest 0x2005 b off n y → x ≡ y
 same_rest b off m n x y e p q = p.same ∙ ap (λ (k : ℕ). take (k - off) (drop off b)) e ∙ sym q.same
 
-pub array_one_fault : (N : ℕ → Name → Type 0) → IsFunctional N → (b : List ℕ) → IsFramed b → (off most : ℕ) (e f : Fault) → ArrayBreaksAt N b off most e → ArrayBreaksAt N b off most f → e ≡ f
+pub array_one_fault : (N : ℕ → Name → Type 0) → IsFunctionalByType N → (b : List ℕ) → IsFramed b → (off most : ℕ) (e f : Fault) → ArrayBreaksAt N b off most e → ArrayBreaksAt N b off most f → e ≡ f
 array_one_fault N named b framed off most e f (inl x) (inl y) = x.1 ∙ sym y.1
-array_one_fault N named b framed off most e f (inl x) (inr y) = absurd (x.0 (record { begin = y.2.begin; end = y.0; section = y.2.section; behind = y.2.behind; before = y.2.before }))
-array_one_fault N named b framed off most e f (inr x) (inl y) = absurd (y.0 (record { begin = x.2.begin; end = x.0; section = x.2.section; behind = x.2.behind; before = x.2.before }))
+array_one_fault N named b framed off most e f (inl x) (inr y) = absurd (x.0 (record { begin = y.2.begin; end = y.0; section = y.2.section; after = y.2.after; before = y.2.before }))
+array_one_fault N named b framed off most e f (inr x) (inl y) = absurd (y.0 (record { begin = x.2.begin; end = x.0; section = x.2.section; after = x.2.after; before = x.2.before }))
 array_one_fault N named b framed off most e f (inr x) (inr y) =
     let ends = (IsSection-one b framed 0x2005 x.2.begin x.0 y.2.begin y.0 x.2.section y.2.section).1 in
     let same = same_rest b off x.0 y.0 x.1 y.1 ends x.2 y.2 in

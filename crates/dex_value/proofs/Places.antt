@@ -14,7 +14,7 @@ use Rattle.program_types.specs.Content.{Name, Value}
 use Rattle.program_types.specs.Depth.{depth}
 use Rattle.dex_value.specs.Spelling.{SpellsArray}
 use Rattle.dex_value.specs.Standing.{ArrayStands}
-use Rattle.dex_value.specs.Unique.{IsFunctional}
+use Rattle.dex_value.specs.Unique.{IsFunctionalByType}
 use Rattle.dex_value.specs.Faults.{ArrayBreaks, ArrayBreaksAt}
 use Rattle.dex_value.proofs.FrontLaws.{SpellsArray-unique}
 use Rattle.dex_value.proofs.Refusing.{array_none}
@@ -54,16 +54,16 @@ module _ (N : ℕ → Name → Type 0) (b rest : List ℕ) (s : Section) (off : 
       let front : take a.size rest ≡ take a.size (drop off b) = (λ j. take a.size (same j)) ∙ take-take a.size (s.end - off) (drop off b) i in
       (drop a.size rest, record { front = take a.size rest; whole = sym (take-append-drop a.size rest); spelled = subst (λ (l : List ℕ). SpellsArray N l vs) (sym front) a.spelled })
 
-  pub array_only : IsFunctional N → (most : ℕ) (vs ws : List Value) → ((after : List ℕ) × Takes (SpellsArray N) rest vs after) → ArrayStands N b off most ws → ws ≡ vs
+  pub array_only : IsFunctionalByType N → (most : ℕ) (vs ws : List Value) → ((after : List ℕ) × Takes (SpellsArray N) rest vs after) → ArrayStands N b off most ws → ws ≡ vs
   array_only one most vs ws t a =
       let u = at_takes ws a.stands in
       (Takes-unique (SpellsArray N) rest ws vs u.0 t.0 (SpellsArray-unique N one) u.1 t.1).0
 
-  pub broken_none : IsFunctional N → (most : ℕ) (fault : Fault) → ArrayBreaks N off s.end most rest fault → (vs : List Value) → ArrayStands N b off most vs → ⊥
+  pub broken_none : IsFunctionalByType N → (most : ℕ) (fault : Fault) → ArrayBreaks N off s.end most rest fault → (vs : List Value) → ArrayStands N b off most vs → ⊥
   broken_none one most fault u vs a =
       let t = at_takes vs a.stands in
       array_none N one off s.end most rest fault u vs t.0 t.1 a.few a.deep
 
   pub broken : (most : ℕ) (fault : Fault) → s.begin ≤ off → off < s.end → ArrayBreaks N off s.end most rest fault → ArrayBreaksAt N b off most fault
   broken most fault low high u =
-      inr (s.end, rest, record { begin = s.begin; section = is.some (omega (arith, low, high)); behind = low; before = high; same = same }, u)
+      inr (s.end, rest, record { begin = s.begin; section = is.some (omega (arith, low, high)); after = low; before = high; same = same }, u)

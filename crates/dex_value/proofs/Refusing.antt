@@ -12,8 +12,8 @@ use Rattle.program_types.specs.Content.{Name, OfText, OfDesc, OfField, OfMethod,
 use Rattle.program_types.specs.Depth.{depth, greatest_depth}
 use Rattle.dex_value.specs.Spelling.{unsigned_of, SpellsValue, SpellsArray, count_of}
 use Rattle.dex_value.specs.Standing.{Shallow}
-use Rattle.dex_value.specs.Unique.{IsFunctional}
-use Rattle.dex_value.specs.Faults.{widest_of, IsSizedHead, IsLoneHead, IsUnknown, IsTooDeep, IsEnded, IsCut, HasNoCount, IsOfType, NamesNothing, OwnBreaks, NextBreaks, InsideBreaks, ValueBreaks, ArrayBreaks}
+use Rattle.dex_value.specs.Unique.{IsFunctionalByType}
+use Rattle.dex_value.specs.Faults.{widest_of, IsSizedHead, IsLoneHead, IsUnknown, IsTooDeep, IsEnded, IsCut, HasNoCount, IsNameOfType, NamesNothing, OwnBreaks, NextBreaks, InsideBreaks, ValueBreaks, ArrayBreaks}
 use Rattle.dex_value.specs.Reading.{ValueStands}
 use Rattle.dex_value.proofs.Lists.{listed, each-shallow}
 use Rattle.dex_value.proofs.Fronts.{SizedFront, ArrayFront, Front, front}
@@ -43,7 +43,7 @@ head_arg n t h = omega arith
 sized_head : (n t : ℕ) → t < 28 → n < widest_of t → IsSizedHead (32 * n + t)
 sized_head n t h few = subst (λ (k : ℕ). k < widest_of ((32 * n + t) % 32)) (sym (head_arg n t h)) (subst (λ (k : ℕ). n < widest_of k) (sym (head_type n t h)) few)
 
-stands_name : (N : ℕ → Name → Type 0) (t : ℕ) (low : List ℕ) (v : Value) → 23 ≤ t → ValueStands N t low v → (which : Name) × IsOfType t which × N (unsigned_of low) which
+stands_name : (N : ℕ → Name → Type 0) (t : ℕ) (low : List ℕ) (v : Value) → 23 ≤ t → ValueStands N t low v → (which : Name) × IsNameOfType t which × N (unsigned_of low) which
 stands_name N t low (Named (OfText n)) h s = (OfText n, rw s.0 refl, s.1)
 stands_name N t low (Named (OfDesc n)) h s = (OfDesc n, rw s.0 refl, s.1)
 stands_name N t low (Named (OfField n)) h s = (OfField n, rw s.0 refl, s.1)
@@ -118,7 +118,7 @@ module _ (N : ℕ → Name → Type 0) where
   count_none : (limit : ℕ) (bytes a after : List ℕ) (v : Value) → HasNoCount limit bytes → bytes ≡ a ++ after → Front N a v → ⊥
   count_none limit bytes a after v u e f =
       let p = is_array bytes a after u.rest v e u.first f in
-      let b = p.0.behind in
+      let b = p.0.after in
       u.none b.count (b.back ++ after) (count_of p.0.vs) (sym p.1 ∙ ap (λ l. l ++ after) b.joined ∙ append_assoc b.count b.back after) b.counted
 
   nothing_none : (bytes a after : List ℕ) (v : Value) → NamesNothing N bytes → bytes ≡ a ++ after → Front N a v → ⊥
@@ -127,7 +127,7 @@ module _ (N : ℕ → Name → Type 0) where
       let arg = sized_arg a v p.0 u.head p.1 in
       let low : take (u.head / 32 + 1) u.rest ≡ p.0.low = ap (take (u.head / 32 + 1)) (sym p.2) ∙ take_at p.0.low after (u.head / 32 + 1) (sym arg.0) in
       let name = stands_name N p.0.type p.0.low v (let k = u.named in let t = arg.1 in omega (arith, k, t)) p.0.stands in
-      u.nothing name.0 (subst (λ (t : ℕ). IsOfType t name.0) (sym arg.1) name.1) (subst (λ (l : List ℕ). N (unsigned_of l) name.0) (sym low) name.2)
+      u.nothing name.0 (subst (λ (t : ℕ). IsNameOfType t name.0) (sym arg.1) name.1) (subst (λ (l : List ℕ). N (unsigned_of l) name.0) (sym low) name.2)
 
   own_none : (off end limit : ℕ) (bytes : List ℕ) (fault : Fault) → OwnBreaks N off end limit bytes fault → NoneBegins (Shallow N limit) bytes
   own_none off end limit bytes fault (inl u) a after v e s = unknown_none bytes a after v u.0 e (front N a v s.spelled)
@@ -147,17 +147,17 @@ next_none G ArrayBreaksAt unique none n bytes fault u front after vs e s =
     let next = Each-next G unique u.before vs t.front front u.left after (omega (arith, more, len)) t.spelled s.1 (sym t.whole ∙ e) in
     none u.left fault u.breaks next.0 next.1 next.2 next.3 next.4
 
-module _ (N : ℕ → Name → Type 0) (one : IsFunctional N) (off end : ℕ) where
+module _ (N : ℕ → Name → Type 0) (one : IsFunctionalByType N) (off end : ℕ) where
   inside_none : (limit : ℕ) → ((bytes : List ℕ) (fault : Fault) → ValueBreaks N off end limit bytes fault → NoneBegins (Shallow N limit) bytes)
       → (bytes : List ℕ) (fault : Fault) → InsideBreaks (Shallow N limit) (ValueBreaks N off end limit) bytes fault → NoneBegins (Shallow N (suc limit)) bytes
   inside_none limit none bytes fault u a after v e s =
       let p = is_array N bytes a after u.rest v e u.first (front N a v s.spelled) in
       let d = array_depth limit v p.0.vs p.0.value s.deep in
-      let c = array_each N limit p.0.text p.0.vs p.0.behind d in
+      let c = array_each N limit p.0.text p.0.vs p.0.after d in
       let t = Counted-takes Spells (Shallow N limit) u.rest after (listed p.0.vs) (record { front = p.0.text; whole = sym p.1; spelled = c }) in
-      let same = Takes-unique Spells u.rest u.n (length (listed p.0.vs)) u.behind t.0 spells_unique u.counted t.1 in
+      let same = Takes-unique Spells u.rest u.n (length (listed p.0.vs)) u.after t.0 spells_unique u.counted t.1 in
       let q = t.2 in
-      next_none (Shallow N limit) (ValueBreaks N off end limit) (shallow_unique N one limit) none u.n u.behind fault u.next
+      next_none (Shallow N limit) (ValueBreaks N off end limit) (shallow_unique N one limit) none u.n u.after fault u.next
       q.front after (listed p.0.vs) (same.1 ∙ q.whole) (sym same.0, q.spelled)
 
   pub value_none : (limit : ℕ) (bytes : List ℕ) (fault : Fault) → ValueBreaks N off end limit bytes fault → NoneBegins (Shallow N limit) bytes
@@ -173,12 +173,12 @@ module _ (N : ℕ → Name → Type 0) (one : IsFunctional N) (off end : ℕ) wh
       u.0 c.1.front c.0 (length vs) c.1.whole c.1.spelled
   array_none most bytes fault (inr (inl u)) vs rest t few deep =
       let c = Counted-takes Spells (SpellsValue N) bytes rest vs t in
-      let same = Takes-unique Spells bytes u.0.n (length vs) u.0.behind c.0 spells_unique u.0.counted c.1 in
+      let same = Takes-unique Spells bytes u.0.n (length vs) u.0.after c.0 spells_unique u.0.counted c.1 in
       let k = same.0 in let above = u.0.above in
       omega (arith, k, above, few)
   array_none most bytes fault (inr (inr u)) vs rest t few deep =
       let c = Counted-takes Spells (SpellsValue N) bytes rest vs t in
-      let same = Takes-unique Spells bytes u.n (length vs) u.behind c.0 spells_unique u.counted c.1 in
+      let same = Takes-unique Spells bytes u.n (length vs) u.after c.0 spells_unique u.counted c.1 in
       let q = c.2 in
-      next_none (Shallow N 64) (ValueBreaks N off end 64) (shallow_unique N one 64) (value_none 64) u.n u.behind fault u.next
+      next_none (Shallow N 64) (ValueBreaks N off end 64) (shallow_unique N one 64) (value_none 64) u.n u.after fault u.next
       q.front rest vs (same.1 ∙ q.whole) (sym same.0, each-shallow N 64 q.front vs q.spelled deep)

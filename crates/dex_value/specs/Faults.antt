@@ -1,18 +1,17 @@
 -- What a refusal of an encoded_array says: what is wrong with the bytes at its place.
 -- Page: "Dalvik Executable format", "encoded_value encoding" and "encoded_array format".
-use Rattle.std.specs.Prelude.{◌≡◌, ℕ, zero, suc, ◌⊎◌, ◌+◌, ◌-◌, ◌/◌, ◌%◌, ◌<◌, ◌≤◌, ◌==◌, if◌then◌else◌, List, [], ◌∷◌, length, take, drop}
+use Rattle.std.specs.Prelude.{◌≡◌, ℕ, zero, suc, ◌⊎◌, ◌+◌, ◌-◌, ◌/◌, ◌%◌, ◌<◌, ◌≤◌, ◌==◌, if◌then◌else◌, List, [], ◌∷◌, length, take}
 use Rattle.base_bytes.specs.Grammar.{Takes, NoneBegins, Each}
 use Rattle.base_bytes.specs.Leb128.{Spells}
 use Rattle.base_bytes.specs.declared.fault.Fault.{Fault}
-use Rattle.dex_container.specs.Frame.{IsSection}
-use Rattle.dex_container.specs.Where.{IsInSection}
+use Rattle.dex_container.specs.Where.{IsInSection, IsSectionRest}
 use Rattle.program_types.specs.Content.{Name, Value}
-use Rattle.dex_value.specs.Spelling.{unsigned_of, type_of}
+use Rattle.dex_value.specs.Spelling.{unsigned_of, value_type_of}
 use Rattle.dex_value.specs.Standing.{Shallow}
 
 -- ---- heads
 
--- The greatest number of bytes behind the head of a value of this type; 0 where no value of the type has any.
+-- The greatest number of bytes after the head of a value of this type; 0 where no value of the type has any.
 abbrev pub widest_of : ℕ → ℕ
 widest_of type =
     if type == 0x00 then 1 else (
@@ -53,11 +52,11 @@ pub record IsTooDeep (limit : ℕ) (bytes : List ℕ) : Type 0 where
   pub first : bytes ≡ 0x1c ∷ rest
   pub none_left : limit ≡ 0
 
--- The bytes end before the head of a value, ..
+-- The bytes end before the head of a value.
 abbrev pub IsEnded : List ℕ → Type 0
 IsEnded bytes = bytes ≡ []
 
--- .. before its last byte, ..
+-- The bytes end after the head of a value and before its last byte.
 pub record IsCut (bytes : List ℕ) : Type 0 where
   pub head : ℕ
   pub rest : List ℕ
@@ -65,7 +64,7 @@ pub record IsCut (bytes : List ℕ) : Type 0 where
   pub sized : IsSizedHead head
   pub short : length rest < head / 32 + 1
 
--- .. or the count of an array isn't there.
+-- The bytes end before the count of an array.
 pub record HasNoCount (limit : ℕ) (bytes : List ℕ) : Type 0 where
   pub rest : List ℕ
   pub first : bytes ≡ 0x1c ∷ rest
@@ -73,8 +72,8 @@ pub record HasNoCount (limit : ℕ) (bytes : List ℕ) : Type 0 where
   pub none : NoneBegins Spells rest
 
 -- The name is of the kind that a value of this type names; VALUE_ENUM (0x1b) names a field (0x19).
-abbrev pub IsOfType : ℕ → Name → Type 0
-IsOfType type which = type_of which ≡ (if type == 0x1b then 0x19 else type)
+abbrev pub IsNameOfType : ℕ → Name → Type 0
+IsNameOfType type which = value_type_of which ≡ (if type == 0x1b then 0x19 else type)
 
 -- The index of the value that begins here stands for no name.
 pub record NamesNothing (N : ℕ → Name → Type 0) (bytes : List ℕ) : Type 0 where
@@ -84,7 +83,7 @@ pub record NamesNothing (N : ℕ → Name → Type 0) (bytes : List ℕ) : Type 
   pub sized : IsSizedHead head
   pub named : 0x17 ≤ head % 32
   pub whole : head / 32 + 1 ≤ length rest
-  pub nothing : (which : Name) → IsOfType (head % 32) which → ¬ N (unsigned_of (take (head / 32 + 1) rest)) which
+  pub nothing : (which : Name) → IsNameOfType (head % 32) which → ¬ N (unsigned_of (take (head / 32 + 1) rest)) which
 
 -- 48 has the array's place.
 abbrev pub values_fault : ℕ → Fault
@@ -114,14 +113,14 @@ pub record NextBreaks (G : List ℕ → Value → Type 0) (ArrayBreaksAt : List 
   pub more : length before < n
   pub breaks : ArrayBreaksAt left fault
 
--- Here begins an array, and behind its count one of its values is wrong.
+-- Here begins an array, and after its count one of its values is wrong.
 pub record InsideBreaks (G : List ℕ → Value → Type 0) (ArrayBreaksAt : List ℕ → Fault → Type 0) (bytes : List ℕ) (fault : Fault) : Type 0 where
   pub rest : List ℕ
   pub first : bytes ≡ 0x1c ∷ rest
   pub n : ℕ
-  pub behind : List ℕ
-  pub counted : Takes Spells rest n behind
-  pub next : NextBreaks G ArrayBreaksAt n behind fault
+  pub after : List ℕ
+  pub counted : Takes Spells rest n after
+  pub next : NextBreaks G ArrayBreaksAt n after fault
 
 -- A value of at most this depth is due here, and it is wrong, or one inside it is.
 abbrev pub ValueBreaks : (ℕ → Name → Type 0) → ℕ → ℕ → ℕ → List ℕ → Fault → Type 0
@@ -135,17 +134,17 @@ ValueBreaks N off end (suc limit) bytes fault =
 -- The count is above what is wanted.
 pub record HasTooMany (most : ℕ) (bytes : List ℕ) : Type 0 where
   pub n : ℕ
-  pub behind : List ℕ
-  pub counted : Takes Spells bytes n behind
+  pub after : List ℕ
+  pub counted : Takes Spells bytes n after
   pub above : most < n
 
--- Behind a count of at most `most`, the values are at most 64 deep, and one is wrong.
+-- After a count of at most `most`, the values are at most 64 deep, and one is wrong.
 pub record HasWrongValue (N : ℕ → Name → Type 0) (off end most : ℕ) (bytes : List ℕ) (fault : Fault) : Type 0 where
   pub n : ℕ
-  pub behind : List ℕ
-  pub counted : Takes Spells bytes n behind
+  pub after : List ℕ
+  pub counted : Takes Spells bytes n after
   pub few : n ≤ most
-  pub next : NextBreaks (Shallow N 64) (ValueBreaks N off end 64) n behind fault
+  pub next : NextBreaks (Shallow N 64) (ValueBreaks N off end 64) n after fault
 
 -- What is wrong with an encoded_array whose section has these bytes from it on.
 abbrev pub ArrayBreaks : (ℕ → Name → Type 0) → ℕ → ℕ → ℕ → List ℕ → Fault → Type 0
@@ -154,16 +153,8 @@ ArrayBreaks N off end most bytes fault =
     ⊎ (HasTooMany most bytes × (fault ≡ record { code = 49; place = off }))
     ⊎ HasWrongValue N off end most bytes fault
 
--- These bytes are what the encoded_array section, which goes to `end`, has from this place on.
-pub record IsRest (b : List ℕ) (off end : ℕ) (bytes : List ℕ) : Type 0 where
-  pub begin : ℕ
-  pub section : IsSection b 0x2005 begin end
-  pub behind : begin ≤ off
-  pub before : off < end
-  pub same : bytes ≡ take (end - off) (drop off b)
-
 -- The place lies outside the encoded_array section (48), or what is there is wrong.
 abbrev pub ArrayBreaksAt : (ℕ → Name → Type 0) → List ℕ → ℕ → ℕ → Fault → Type 0
 ArrayBreaksAt N b off most fault =
     ((¬ IsInSection b 0x2005 off) × (fault ≡ values_fault off))
-    ⊎ ((end : ℕ) × (bytes : List ℕ) × IsRest b off end bytes × ArrayBreaks N off end most bytes fault)
+    ⊎ ((end : ℕ) × (bytes : List ℕ) × IsSectionRest 0x2005 b off end bytes × ArrayBreaks N off end most bytes fault)

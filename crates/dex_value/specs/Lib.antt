@@ -1,10 +1,12 @@
+pub mod Checking
+pub mod Counts
+pub mod Faults
+pub mod FileArrays
+pub mod Named
+pub mod Once
+pub mod Reading
 pub mod Spelling
 pub mod Standing
 pub mod Unique
-pub mod Faults
-pub mod Reading
-pub mod Checking
 pub mod Wide
-pub mod Counts
-pub mod Named
 pub mod Writing

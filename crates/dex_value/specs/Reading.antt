@@ -3,7 +3,7 @@ use Rattle.std.specs.Prelude.{◌≡◌, ℕ, List}
 use Rattle.program_types.specs.Content.{Name, OfField, Value, Byte, Short, Char, Int, Long, Float, Double, Named, Enum}
 use Rattle.dex_insn.specs.declared.opcode.IndexKind.{IndexKind}
 use Rattle.dex_insn.specs.declared.opcode.IndexKind.TheVariants as kind
-use Rattle.dex_value.specs.Spelling.{unsigned_of, signed_of, high_of, type_of}
+use Rattle.dex_value.specs.Spelling.{unsigned_of, signed_of, high_of, value_type_of}
 use Rattle.dex_value.specs.declared.types.NumberType.{NumberType}
 use Rattle.dex_value.specs.declared.types.NumberType.TheVariants as number
 use Rattle.dex_value.specs.declared.types.NameType.{NameType}
@@ -30,19 +30,19 @@ name_code named.Method = 0x1a
 name_code named.Enum = 0x1b
 
 -- The table of the names of a type.
-abbrev pub kind_of : NameType → IndexKind
-kind_of named.String = kind.String
-kind_of named.Type = kind.Type
-kind_of named.Field = kind.Field
-kind_of named.Method = kind.Method
-kind_of named.Enum = kind.Field
+abbrev pub table_of_type : NameType → IndexKind
+table_of_type named.String = kind.String
+table_of_type named.Type = kind.Type
+table_of_type named.Field = kind.Field
+table_of_type named.Method = kind.Method
+table_of_type named.Enum = kind.Field
 
 -- The type in the head of a number or a name.
 abbrev pub sized_code : SizedType → ℕ
 sized_code (sized.Number ty) = number_code ty
 sized_code (sized.Name ty) = name_code ty
 
--- Behind a head of this type these bytes are the value's number.
+-- After a head of this type these bytes are the value's number.
 abbrev pub IsNumber : ℕ → List ℕ → Value → Type 0
 IsNumber type low (Byte n) = (type ≡ 0x00) × (n ≡ signed_of low)
 IsNumber type low (Short n) = (type ≡ 0x02) × (n ≡ signed_of low)
@@ -55,12 +55,12 @@ IsNumber type low _ = ⊥
 
 -- The value is this name, in a value of this type.
 abbrev pub IsName : ℕ → Name → Value → Type 0
-IsName type which (Named other) = (type ≡ type_of which) × (other ≡ which)
+IsName type which (Named other) = (type ≡ value_type_of which) × (other ≡ which)
 IsName type which (Enum constant) = (type ≡ 0x1b) × (which ≡ OfField constant)
 IsName type which _ = ⊥
 
--- Behind a head of this type these bytes stand for the value.
+-- After a head of this type these bytes stand for the value.
 abbrev pub ValueStands : (ℕ → Name → Type 0) → ℕ → List ℕ → Value → Type 0
-ValueStands N type low (Named which) = (type ≡ type_of which) × N (unsigned_of low) which
+ValueStands N type low (Named which) = (type ≡ value_type_of which) × N (unsigned_of low) which
 ValueStands N type low (Enum constant) = (type ≡ 0x1b) × N (unsigned_of low) (OfField constant)
 ValueStands N type low v = IsNumber type low v

@@ -6,7 +6,7 @@ use Rattle.base_bytes.specs.Grammar.{Counted}
 use Rattle.base_bytes.specs.Leb128.{Spells}
 use Rattle.program_types.specs.Content.{Name, OfText, OfDesc, OfField, OfMethod, Value, Byte, Short, Char, Int, Long, Float, Double, Named, Enum, Array, Null, Boolean, Values, no_values, more_values}
 
--- ---- the bytes behind the head
+-- ---- the bytes after the head
 
 -- The unsigned number of these bytes, the low byte first.
 unfoldable pub unsigned_of : List ℕ → ℕ
@@ -20,7 +20,7 @@ signed_of bytes = twos_complement (length bytes) (little_number (length bytes) b
 unfoldable pub high_of : ℕ → List ℕ → ℕ
 high_of width bytes = little_number (length bytes) bytes * 256 ^ (width - length bytes)
 
--- One to `widest` bytes of this meaning stand behind the head: the type in its low five bits, and in the high three bits the
+-- One to `widest` bytes of this meaning stand after the head: the type in its low five bits, and in the high three bits the
 -- number of these bytes less one (the page's value_arg).
 pub record Sized (type widest : ℕ) (Means : List ℕ → Type 0) (all : List ℕ) : Type 0 where
   pub low : List ℕ
@@ -33,26 +33,26 @@ pub record Sized (type widest : ℕ) (Means : List ℕ → Type 0) (all : List �
 -- ---- values
 
 -- The type of a value that is a name: VALUE_STRING, VALUE_TYPE, VALUE_FIELD, VALUE_METHOD.
-abbrev pub type_of : Name → ℕ
-type_of (OfText units) = 0x17
-type_of (OfDesc type) = 0x18
-type_of (OfField field) = 0x19
-type_of (OfMethod method) = 0x1a
+abbrev pub value_type_of : Name → ℕ
+value_type_of (OfText units) = 0x17
+value_type_of (OfDesc type) = 0x18
+value_type_of (OfField field) = 0x19
+value_type_of (OfMethod method) = 0x1a
 
 -- How many values.
 abbrev pub count_of : Values → ℕ
 count_of no_values = 0
 count_of (more_values v vs) = suc (count_of vs)
 
--- A count, and behind it bytes of this meaning.
-pub record Behind (n : ℕ) (Means : List ℕ → Type 0) (bytes : List ℕ) : Type 0 where
+-- A count, and after it bytes of this meaning.
+pub record After (n : ℕ) (Means : List ℕ → Type 0) (bytes : List ℕ) : Type 0 where
   pub count : List ℕ
   pub back : List ℕ
   pub joined : bytes ≡ count ++ back
   pub counted : Spells count n
   pub means : Means back
 
--- The bytes of one value, and those of values one behind the other, where `N` says which index stands for which name.
+-- The bytes of one value, and those of values one after the other, where `N` says which index stands for which name.
 abbrev mutual
   pub SpellsValue : (ℕ → Name → Type 0) → List ℕ → Value → Type 0
   SpellsValue N bytes (Byte n) = Sized 0x00 1 (λ low. n ≡ signed_of low) bytes
@@ -62,9 +62,9 @@ abbrev mutual
   SpellsValue N bytes (Long n) = Sized 0x06 8 (λ low. n ≡ signed_of low) bytes
   SpellsValue N bytes (Float bits) = Sized 0x10 4 (λ high. bits ≡ high_of 4 high) bytes
   SpellsValue N bytes (Double bits) = Sized 0x11 8 (λ high. bits ≡ high_of 8 high) bytes
-  SpellsValue N bytes (Named which) = Sized (type_of which) 4 (λ low. N (unsigned_of low) which) bytes
+  SpellsValue N bytes (Named which) = Sized (value_type_of which) 4 (λ low. N (unsigned_of low) which) bytes
   SpellsValue N bytes (Enum constant) = Sized 0x1b 4 (λ low. N (unsigned_of low) (OfField constant)) bytes
-  SpellsValue N bytes (Array vs) = (text : List ℕ) × (bytes ≡ 0x1c ∷ text) × Behind (count_of vs) (λ back. SpellsValues N back vs) text
+  SpellsValue N bytes (Array vs) = (text : List ℕ) × (bytes ≡ 0x1c ∷ text) × After (count_of vs) (λ back. SpellsValues N back vs) text
   SpellsValue N bytes Null = bytes ≡ 0x1e ∷ []
   SpellsValue N bytes (Boolean false) = bytes ≡ 0x1f ∷ []
   SpellsValue N bytes (Boolean true) = bytes ≡ 0x3f ∷ []

@@ -15,22 +15,22 @@ pub record IsNumberWidth (n width : ℕ) : Type 0 where
   pub fits : n < 256 ^ width
   pub least : (k : ℕ) → 0 < k → n < 256 ^ k → width ≤ k
 
--- The fewest high bytes of a number of `full` bytes, one at least, behind which all are zeros.
+-- The fewest high bytes of a number of `full` bytes, one at least, after which all are zeros.
 pub record IsHighWidth (bits full width : ℕ) : Type 0 where
   pub some : 0 < width
   pub few : width ≤ full
   pub zeros : bits % 256 ^ (full - width) ≡ 0
   pub least : (k : ℕ) → 0 < k → k ≤ full → bits % 256 ^ (full - k) ≡ 0 → width ≤ k
 
--- The spellings of a signed number of a type, at most `widest` bytes behind the head.
+-- The spellings of a signed number of a type, at most `widest` bytes after the head.
 abbrev pub SignedAs : ℕ → ℕ → List ℕ → ℤ → Type 0
 SignedAs type widest bytes n = Sized type widest (λ low. n ≡ signed_of low) bytes
 
--- The same of an unsigned number.
+-- The spellings of an unsigned number of a type, at most `widest` bytes after the head.
 abbrev pub UnsignedAs : ℕ → ℕ → List ℕ → ℕ → Type 0
 UnsignedAs type widest bytes n = Sized type widest (λ low. n ≡ unsigned_of low) bytes
 
--- The same of bits whose high-order bytes are spelled.
+-- The spellings of bits of a type by their high-order bytes, at most `widest` bytes after the head.
 abbrev pub HighAs : ℕ → ℕ → List ℕ → ℕ → Type 0
 HighAs type widest bytes bits = Sized type widest (λ high. bits ≡ high_of widest high) bytes
 
@@ -38,7 +38,7 @@ HighAs type widest bytes bits = Sized type widest (λ high. bits ≡ high_of wid
 abbrev pub IndexAs : (ℕ → Name → Type 0) → ℕ → List ℕ → Name → Type 0
 IndexAs N type bytes which = Sized type 4 (λ low. N (unsigned_of low) which) bytes
 
--- The head of so many bytes, and behind it these.
+-- The head of so many bytes, and after it these.
 abbrev pub sized : ℕ → List ℕ → List ℕ
 sized type low = (32 * (length low - 1) + type) ∷ low
 

@@ -21,7 +21,14 @@ mod writing;
 // What crates above rest on.
 mod laws;
 
+// What holds of the values of a file.
+mod file_values;
+
 pub use checking::check_array;
+pub use file_values::{
+    arrays_are_decided, arrays_carry_over, faults_are_where_no_array_stands,
+    names_of_arrays_have_rows, shortest_array_is_one,
+};
 pub use laws::{
     array_carries_over, array_is_prefix_unique, array_is_short, one_fault, spelled_array_can_be_put,
 };

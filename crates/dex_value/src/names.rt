@@ -6,8 +6,8 @@ ghost use Rattle.program_types.specs.View.{value};
 ghost use Rattle.program_types.specs.Kinds.{IsOfKind};
 ghost use Rattle.tables_rows.specs.Names.{NameIsAt};
 ghost use Rattle.dex_value.specs.Spelling.{unsigned_of};
-ghost use Rattle.dex_value.specs.Faults.{IsOfType};
-ghost use Rattle.dex_value.specs.Reading.{name_code, kind_of, IsName, ValueStands};
+ghost use Rattle.dex_value.specs.Faults.{IsNameOfType};
+ghost use Rattle.dex_value.specs.Reading.{name_code, table_of_type, IsName, ValueStands};
 
 use crate::numbers::unsigned;
 use crate::types::{NameType, name_kind};
@@ -16,7 +16,7 @@ use tables_rows::Tables;
 
 /// The name as a value of this type.
 fn name_value<'a>(ty: NameType, name: Name<'a>) -> Value<'a>
-    requires { IsOfKind (kind_of ty) (view.name name) }
+    requires { IsOfKind (table_of_type ty) (view.name name) }
     ensures { IsName (name_code ty) (view.name name.entry) (value result) }
 {
     match name {
@@ -30,13 +30,13 @@ fn name_value<'a>(ty: NameType, name: Name<'a>) -> Value<'a>
     }
 }
 
-/// The name that the bytes behind a head of this type stand for. None where its table has no such row.
+/// The name that the bytes after a head of this type stand for. None where its table has no such row.
 pub fn named<'a>(tables: &Tables<'a>, ty: NameType, low: &[u8]) -> Option<Value<'a>>
     requires some { 0 < length low.now }
     requires few { length low.now ≤ 4 }
     ensures some { IfSome result (λ v. ValueStands (NameIsAt tables.now) (name_code ty) low.now (value v)) }
     ensures none { IfNone result ((which : content.Name) →
-        IsOfType (name_code ty) which → ¬ NameIsAt tables.now (unsigned_of low.now) which) }
+        IsNameOfType (name_code ty) which → ¬ NameIsAt tables.now (unsigned_of low.now) which) }
 {
     let index = unsigned(low) as u32;
     match tables.name(name_kind(ty), index) {

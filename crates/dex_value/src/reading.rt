@@ -64,7 +64,7 @@ impl Span {
     }
 }
 
-/// A value with bytes behind its head, and what follows it.
+/// A value with bytes after its head, and what follows it.
 pub(crate) fn read_sized<'a, 'b>(
     tables: &Tables<'a>,
     span: Span,
@@ -195,7 +195,7 @@ fn read_rest<'a>(
 /// section (48, at `off`); a count above `most` (49, at `off`); a value of a wrong type, argument or index (50, at the
 /// value's first byte); an array value inside 64 others (51, at its first byte). In one value the type and the argument
 /// are looked at first, then the depth, its bytes and its index; values are looked at in the order of their bytes. The
-/// only other error is want of memory, which is asked for as values come, never for a count.
+/// only other error is out of memory: memory is asked for as values come, never for a count.
 ///
 /// ```
 /// use bumpalo::Bump;

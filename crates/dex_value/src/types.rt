@@ -1,7 +1,7 @@
-// The types of values that have bytes behind their head ("Dalvik Executable format", "Value formats").
+// The types of values that have bytes after their head ("Dalvik Executable format", "Value formats").
 ghost use Rattle.std.specs.Prelude.{◌≡◌, IfSome, IfNone};
 ghost use Rattle.dex_value.specs.Faults.{widest_of};
-ghost use Rattle.dex_value.specs.Reading.{sized_code, kind_of};
+ghost use Rattle.dex_value.specs.Reading.{sized_code, table_of_type};
 
 use dex_insn::IndexKind;
 
@@ -27,7 +27,7 @@ pub enum NameType {
     Enum,
 }
 
-/// The types that have bytes behind their head.
+/// The types that have bytes after their head.
 #[derive(Clone, Copy)]
 pub enum SizedType {
     Number(NumberType),
@@ -71,7 +71,7 @@ pub fn widest(ty: SizedType) -> usize
 
 /// The table of the names of this type. An enum constant is a field.
 pub fn name_kind(ty: NameType) -> IndexKind
-    ensures { result ≡ kind_of ty }
+    ensures { result ≡ table_of_type ty }
 {
     match ty {
         NameType::String => IndexKind::String,

@@ -8,7 +8,7 @@ ghost use Rattle.program_types.specs.View.{value};
 ghost use Rattle.program_types.specs.Content as content;
 ghost use Rattle.program_types.specs.Depth.{depth};
 ghost use Rattle.tables_names.specs.Closure.{Five, NameRanks};
-ghost use Rattle.dex_value.specs.Spelling.{Sized, unsigned_of, type_of, SpellsValue, SpellsArray};
+ghost use Rattle.dex_value.specs.Spelling.{Sized, unsigned_of, value_type_of, SpellsValue, SpellsArray};
 ghost use Rattle.program_types.specs.Mentions.{NamesHold, AllNamesHold};
 ghost use Rattle.dex_value.specs.Named.{IsRanked, IsPlain};
 ghost use Rattle.dex_value.specs.Counts.{CountsFit, AllCountsFit, ArrayFits};
@@ -20,7 +20,7 @@ use dex_base::{Fault, put_uleb};
 use program_types::{Name, Value};
 use tables_names::Ranks;
 
-/// Appends a head of this type and the bytes behind it.
+/// Appends a head of this type and the bytes after it.
 fn put_sized(out: &mut Vec<u8>, code: u8, low: &[u8]) -> Result<(), Fault>
     requires code { code < 32 }
     requires few { length low.now ≤ 8 }
@@ -50,7 +50,7 @@ fn put_signed(out: &mut Vec<u8>, code: u8, n: i64, widest: usize) -> Result<(), 
 
 /// Appends an unsigned number of a type of at most `widest` bytes, in the fewest.
 ///
-/// The only error is want of memory, and then `out` may hold some of the number's bytes.
+/// It fails only when out of memory, and then `out` may hold some of the number's bytes.
 ///
 /// ```
 /// use dex_value::put_unsigned;
@@ -106,7 +106,7 @@ fn put_name(out: &mut Vec<u8>, ranks: &Ranks<'_>, code: u8, name: Name<'_>) -> R
 
 /// Appends a value that is neither a name nor an array, in the fewest bytes.
 ///
-/// The only error is want of memory, and then `out` may hold some of the value's bytes.
+/// It fails only when out of memory, and then `out` may hold some of the value's bytes.
 ///
 /// ```
 /// use dex_program::Value;
@@ -174,7 +174,7 @@ fn put_value(out: &mut Vec<u8>, ranks: &Ranks<'_>, one: &Value<'_>) -> Result<()
     }
 }
 
-/// Appends values, one behind the other.
+/// Appends values, one after the other.
 #[cycle(values)]
 fn put_values(out: &mut Vec<u8>, ranks: &Ranks<'_>, all: &[Value<'_>]) -> Result<(), Fault>
     requires named { AllNamesHold (IsRanked ranks.now) (content.values (map value all.now)) }
@@ -207,7 +207,7 @@ fn put_counted(out: &mut Vec<u8>, ranks: &Ranks<'_>, all: &[Value<'_>]) -> Resul
 /// Every name in the values has to have a rank of at most 4294967295, and no array may have more than 4294967295 values.
 /// All that some bytes spell is so (`spelled_array_can_be_put`), so nothing that can be written is kept out.
 ///
-/// The only error is want of memory, and then `out` holds what it held. The stack holds a call for each array that a value is
+/// It fails only when out of memory, and then `out` holds what it held. The stack holds a call for each array that a value is
 /// in: at most 64 in what `read_array` answers. A value made by hand that is much deeper may end the stack.
 ///
 /// ```

@@ -2,7 +2,7 @@
 //!
 //! Without FILE standard input is read, without `--output` the answer goes to standard output; a failure is one line on
 //! standard error. The exit status is 0 where the answer was written or help was asked for, 1 for a refused file or listing, 2
-//! for wrong words, 3 where reading or writing failed, and 4 for want of memory.
+//! for wrong words, 3 where reading or writing failed, and 4 when out of memory.
 #![tactic(auto)]
 
 ghost use Rattle.std.specs.Prelude.{◌≡◌, false};
@@ -49,7 +49,7 @@ fn serve(rt: &HostRuntime) -> u8 {
     }
 }
 
-// Words that could not be read: want of memory, or no text.
+// Words that could not be read: out of memory, or no text.
 fn no_words(rt: &HostRuntime, error: &io::Error) -> u8 {
     if error.kind() == io::ErrorKind::OutOfMemory {
         return failed(rt, &RunFault::Memory);
@@ -90,7 +90,7 @@ fn carry_out(rt: &HostRuntime, planned: Plan<'_>) -> Result<(), RunFault> {
     }
 }
 
-// OUT is made only behind a run that ended well: so it may be FILE, and stays as it was after a failure.
+// OUT is made only after a run that ended well: so it may be FILE, and stays as it was after a failure.
 fn read_from<R: Source>(rt: &HostRuntime, planned: Plan<'_>, input: &mut R) -> Result<(), RunFault>
     requires works { R.failed input.old ≡ false }
     requires goes_on { R.ended input.old ≡ false }

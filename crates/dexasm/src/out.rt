@@ -20,7 +20,7 @@ enum Place {
 }
 
 // OUT as a writer. Where the answer goes is looked for when the first piece comes, which `run` hands over when the answer is
-// whole; OUT itself is made or emptied only behind `run`, when that has answered Ok: so OUT may be FILE.
+// whole; OUT itself is made or emptied only after `run`, when that has answered Ok: so OUT may be FILE.
 #[derive(Drop)]
 pub(crate) struct Out<'p> {
     rt: &'p HostRuntime,

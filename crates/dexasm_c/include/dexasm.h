@@ -7,7 +7,7 @@
  * What each call leaves is proved (docs/PROVED.md), for arguments that keep this:
  *   - none is NULL, not even where the length or the capacity is 0;
  *   - align is 0 or 1, as a bool of C is (other languages: one byte);
- *   - behind it are as many bytes as the length or the capacity says, and less than 2^63;
+ *   - after it are as many bytes as the length or the capacity says, and less than 2^63;
  *   - out, needed and fault overlap neither one another nor the bytes that are read, and nobody else writes any of it meanwhile.
  *
  * A call with room for its answer is one call; without, ask with a capacity of 0 (and any pointer but NULL) and call again with
@@ -30,9 +30,9 @@ extern "C" {
 /* How a call ends: 0, 1 and 4 are the exit status of the command dexasm. */
 typedef uint32_t dexasm_status;
 enum {
-  DEXASM_ANSWERED = 0,  /* out[0 .. *needed) is the answer, and behind it out is as it was */
+  DEXASM_ANSWERED = 0,  /* out[0 .. *needed) is the answer, and after it out is as it was */
   DEXASM_REFUSED = 1,   /* the bytes are refused with *fault; out is as it was, *needed is 0 */
-  DEXASM_MEMORY = 4,    /* want of memory: *fault is 255 at 0; out is as it was, *needed is 0 */
+  DEXASM_MEMORY = 4,    /* out of memory: *fault is 255 at 0; out is as it was, *needed is 0 */
   DEXASM_TOO_SMALL = 5  /* the answer has *needed bytes, more than the capacity; out is as it was */
 };
 
@@ -61,11 +61,11 @@ dexasm_status dexasm_list(const uint8_t *bytes, size_t length, uint8_t *out, siz
 dexasm_status dexasm_assemble(const uint8_t *text, size_t length, bool align, uint8_t *out, size_t capacity, size_t *needed,
                               dexasm_fault *fault) DEXASM_NO_NULL;
 
-/* A file's program written anew, with nothing to spare. */
+/* A file's program, written again without what it doesn't need. */
 dexasm_status dexasm_strip(const uint8_t *bytes, size_t length, uint8_t *out, size_t capacity, size_t *needed,
                            dexasm_fault *fault) DEXASM_NO_NULL;
 
-/* The name of a fault's number, "Unknown" for a number that has none: ASCII, at most 32 bytes, without a zero behind it. It ends with
+/* The name of a fault's number, "Unknown" for a number that has none: ASCII, at most 32 bytes, without a zero after it. It ends with
  * DEXASM_ANSWERED or DEXASM_TOO_SMALL. */
 dexasm_status dexasm_fault_name(uint16_t code, uint8_t *out, size_t capacity, size_t *needed) DEXASM_NO_NULL;
 

@@ -17,7 +17,7 @@ none = record { code = 0; place = 0 }
 abbrev pub told : CFault → Fault
 told fault = record { code = fault.code; place = fault.place }
 
--- Bytes are put: all of them at the front of the buffer, which is as it was behind them; or none, where it is too small for them.
+-- Bytes are put: all of them at the front of the buffer, which is as it was after them; or none, where it is too small for them.
 -- Their number is told.
 abbrev pub Puts : Ending → List ℕ → List ℕ → List ℕ → ℕ → Type 0
 Puts Answered made old new needed =
@@ -25,7 +25,7 @@ Puts Answered made old new needed =
 Puts TooSmall made old new needed = (length old < length made) × (new ≡ old) × (needed ≡ length made)
 Puts _ made old new needed = ⊥
 
--- A fault is told: want of memory, or another one.
+-- A fault is told: out of memory, or another one.
 abbrev pub Tells : Ending → Fault → CFault → Type 0
 Tells Refused fault tells = (fault.code ≢ 255) × (told tells ≡ fault)
 Tells Memory fault tells = (fault.code ≡ 255) × (told tells ≡ memory)
@@ -41,7 +41,8 @@ Ends TooSmall job given old new needed fault =
 Ends Refused job given old new needed fault = Refusal job given (told fault) × (new ≡ old) × (needed ≡ 0)
 Ends Memory job given old new needed fault = (told fault ≡ memory) × (new ≡ old) × (needed ≡ 0)
 
--- The same of a check, whose answer is its ending alone.
+-- A check of the given bytes ends so: they are a file; or they are refused with the fault that is told; or memory is
+-- wanting, which is told.
 abbrev pub Checks : Ending → List ℕ → CFault → Type 0
 Checks Answered given fault = (made : List ℕ) × Answer Check given made × (fault ≡ none)
 Checks Refused given fault = Refusal Check given (told fault)

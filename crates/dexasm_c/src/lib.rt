@@ -10,7 +10,7 @@
 #![tactic(auto)]
 
 ghost use Rattle.std.specs.Prelude.{◌≡◌, codes};
-ghost use Rattle.base_bytes.specs.Fault.{name_of};
+ghost use Rattle.base_bytes.specs.Fault.{fault_name};
 ghost use Rattle.dexasm_c.specs.Calls.{Checks, Ends, Puts};
 ghost use Rattle.dexasm_c.specs.Status.{status_of};
 ghost use Rattle.dexasm_c.specs.declared.ending.Ending.{Ending as Way};
@@ -63,7 +63,7 @@ pub extern "C" fn dexasm_assemble(
     status(answer_into(alloc, Job::Assemble { align }, text, out, needed, fault))
 }
 
-/// A file's program written anew, with nothing to spare.
+/// A file's program, written again without what it doesn't need.
 #[unsafe(no_mangle)]
 pub extern "C" fn dexasm_strip(
     alloc: Global,
@@ -81,7 +81,7 @@ pub extern "C" fn dexasm_strip(
 /// The name of a fault's number, `Unknown` for a number that has none.
 #[unsafe(no_mangle)]
 pub extern "C" fn dexasm_fault_name(code: u16, out: &mut [u8], needed: &mut usize) -> u32
-    ensures { (way : Way) × (result ≡ status_of way) × Puts way (name_of code) out.old out.new needed.new }
+    ensures { (way : Way) × (result ≡ status_of way) × Puts way (fault_name code) out.old out.new needed.new }
 {
     status(put(fault_name(code).as_bytes(), out, needed))
 }

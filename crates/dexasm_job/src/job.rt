@@ -12,6 +12,6 @@ pub enum Job {
         /// Whether a nop is put before each payload that would stand at an odd address.
         align: bool,
     },
-    /// A file's program written anew, with nothing to spare.
+    /// A file's program, written again without what it doesn't need.
     Strip,
 }

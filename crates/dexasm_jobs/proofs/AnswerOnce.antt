@@ -4,7 +4,7 @@ use Rattle.dexasm_job.specs.declared.job.Job.{Job}
 use Rattle.dexasm_job.specs.declared.job.Job.TheVariants.{Check, List as Listing, Assemble, Strip}
 use Rattle.dexasm_jobs.specs.Answers.{Answer}
 use Rattle.file_align.specs.Programs.{AlignedProgram}
-use Rattle.file_laws.proofs.RangeLaws.{well_formed}
+use Rattle.file_read.proofs.RangeLaws.{well_formed}
 use Rattle.file_read.proofs.PassLaws.{program_one}
 use Rattle.file_write.proofs.OneFile.{file_one, stripped_same}
 use Rattle.file_write.specs.Written.{IsFileOf}

@@ -1,5 +1,5 @@
 -- What a job answers to the bytes that it is given, and when it refuses them.
--- Page: docs/PROMISES.md; "Dalvik Executable format" for files, docs/LISTING.md for listings.
+-- Page: docs/PROVED.md; "Dalvik Executable format" for files, docs/LISTING.md for listings.
 use Rattle.std.specs.Prelude.{◌≡◌, ℕ, true, false, ◌⊎◌, List, codes, Result, Ok, Err}
 use Rattle.file_align.specs.Programs.{AlignedProgram, IsTooLong}
 use Rattle.base_bytes.specs.declared.fault.Fault.{Fault}
@@ -26,7 +26,7 @@ pub record IsAligned (p q : Program) : Type 0 where
   pub aligned : AlignedProgram p q
   pub formed : WellFormed q
 
--- The same, of the listed program with each of its codes aligned.
+-- The bytes made are the file of the listed program with each of its codes aligned.
 pub record IsAssembledAligned (given made : List ℕ) : Type 0 where
   pub program : Program
   pub listed : IsListing given program
@@ -58,7 +58,7 @@ Refusal (Assemble true) given fault =
     ListingBreaks given fault.code fault.place ⊎ ((p : Program) × IsListing given p × IsAlignedUnwritten p fault)
 Refusal Strip given fault = IsStripRefused given fault
 
--- What comes of a job on these bytes, want of memory aside: its answer, or its refusal.
+-- What comes of a job on these bytes, unless memory runs out: its answer, or its refusal.
 abbrev pub Outcome : Job → List ℕ → Result (List ℕ) Fault → Type 0
 Outcome job given (Ok made) = Answer job given made
 Outcome job given (Err fault) = Refusal job given fault

@@ -1,5 +1,5 @@
 -- A job's answer is decided by the bytes that it is given.
--- Page: docs/PROMISES.md.
+-- Page: docs/PROVED.md.
 use Rattle.std.specs.Prelude.{◌≡◌, ℕ, List, Result, false}
 use Rattle.base_bytes.specs.declared.fault.Fault.{Fault}
 use Rattle.dexasm_job.specs.declared.job.Job.{Job}

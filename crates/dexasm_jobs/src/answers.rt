@@ -17,7 +17,7 @@ use std::alloc::Global;
 ///
 /// Check and List refuse what `read` refuses, Strip what `read` or `write` does, Assemble what `parse`, `align_all` (with
 /// align) or `write` does; the fault is theirs, with its place: a byte of a file, a line of a listing, a class of the program,
-/// or of 80 and 81 how many are needed. 255 is want of memory, at 0.
+/// or of 80 and 81 how many are needed. 255 is out of memory, at 0.
 ///
 /// ```
 /// use dex_file::write;

@@ -11,7 +11,7 @@ pub fn listed_and_assembled_is_stripped()
     ensures { ListedAndAssembledIsStripped }
 {}
 
-/// A job has one outcome on the bytes that it is given, want of memory aside: an answer, or a refusal with its number and its place.
+/// A job has one outcome on the bytes that it is given, unless memory runs out: an answer, or a refusal with its number and its place.
 pub fn one_outcome()
     ensures { OneOutcome }
 {}

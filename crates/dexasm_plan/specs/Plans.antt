@@ -8,7 +8,7 @@ use Rattle.dexasm_job.specs.declared.job.Job.{Job}
 use Rattle.dexasm_job.specs.declared.job.Job.TheVariants.{Check, List as ListJob, Assemble, Strip}
 use Rattle.dexasm_plan.specs.declared.planned.Plan.{Plan}
 
--- the texts behind the words
+-- the texts after the words
 abbrev pub texts_of : List (Bor Text) → List Text
 texts_of = map (λ s. s.now)
 

@@ -33,7 +33,7 @@ fn tool<'w>(alloc: Global) -> Command<'w>
         .disable_help_subcommand(true)
 }
 
-// The command with a job's subcommand behind its others.
+// The command with a job's subcommand after its others.
 fn with_job<'w>(
     alloc: Global,
     whole: Command<'w>,
@@ -47,7 +47,7 @@ fn with_job<'w>(
     whole.subcommand(job_command(alloc, name, about, more)?)
 }
 
-// The command with `assemble` behind its others.
+// The command with `assemble` after its others.
 fn with_assemble<'w>(alloc: Global, whole: Command<'w>) -> Result<Command<'w>, AllocError>
     ensures shape { IfOk result (λ c. app_of c ≡ with_subcommand (app_of whole.entry) (with_rule (job_app (codes "assemble")) align_rule).top) }
     ensures local { (out-Command whole.entry).has_globals ≡ false → IfOk result (λ c. (out-Command c).has_globals ≡ false) }

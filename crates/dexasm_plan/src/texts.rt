@@ -13,7 +13,7 @@ pub(crate) const TOOL: &str =
 /// More on it.
 pub(crate) const TOOL_MORE: &str = "\
 A .dex file holds the classes of an Android program. Only version 035 is read and written.
-Without FILE standard input is read, without --output the answer goes to standard output.
+Without FILE it reads standard input; without --output it writes to standard output.
 
 Exit status: 0 done, 1 the file or the listing is refused, 2 a bad command line,
 3 reading or writing failed, 4 out of memory.
@@ -21,14 +21,13 @@ Exit status: 0 done, 1 the file or the listing is refused, 2 a bad command line,
 Example: dexasm check classes.dex";
 
 /// The subcommand check: what it does.
-pub(crate) const CHECK: &str = "Says whether a .dex file keeps the rules of its format";
+pub(crate) const CHECK: &str = "Checks whether a .dex file keeps every rule of its format";
 
 /// More on it.
 pub(crate) const CHECK_MORE: &str = "\
 Reads the whole file: header, map and checksums, the tables of names, classes, static values
-and code. Prints ok, or tells a rule that is broken and the byte where it is.
-Annotations and debug information are not looked at. The format is Dalvik Executable,
-version 035.
+and code. Prints ok, or a rule that the file breaks and the byte where it breaks it.
+Annotations and debug information are ignored. The format is Dalvik Executable, version 035.
 
 Example: dexasm check classes.dex";
 
@@ -38,41 +37,40 @@ pub(crate) const LIST: &str = "Prints the program of a .dex file as a listing";
 /// More on it.
 pub(crate) const LIST_MORE: &str = "\
 A listing is plain text: a line for each class, member and instruction, and labels where
-branches lead (its first line is 'dex 035 listing 2'). It can be changed by hand, and
-'dexasm assemble' makes a file of it again. Annotations and debug information are not
-listed. A file that breaks a rule of its format (Dalvik Executable, version 035) is refused.
+branches lead (its first line is 'dex 035 listing 2'). You can edit it, and turn it back into
+a file with 'dexasm assemble'. Annotations and debug information are not listed. A file that
+breaks a rule of its format (Dalvik Executable, version 035) is refused.
 
 Example: dexasm list classes.dex --output classes.txt";
 
 /// The subcommand assemble: what it does.
-pub(crate) const ASSEMBLE: &str = "Makes the .dex file of a listing";
+pub(crate) const ASSEMBLE: &str = "Turns a listing into a .dex file";
 
 /// More on it.
 pub(crate) const ASSEMBLE_MORE: &str = "\
-Writes a file that means the listed program and holds nothing else (Dalvik Executable,
-version 035). Payloads, which are the tables of switches and the data of arrays, have to
-stand at even addresses: where one doesn't, the listing is refused; with --align a nop is
-put before it.
+Writes the listed program as a .dex file (Dalvik Executable, version 035), with nothing else
+in it. Payloads (the tables of switches and the data of arrays) must have even addresses: if
+one hasn't, the listing is refused; with --align, a nop is put before it.
 
 Example: dexasm assemble classes.txt --output classes.dex";
 
 /// The subcommand strip: what it does.
-pub(crate) const STRIP: &str = "Writes a .dex file anew, with nothing to spare";
+pub(crate) const STRIP: &str = "Rewrites a .dex file without what its program doesn't need";
 
 /// More on it.
 pub(crate) const STRIP_MORE: &str = "\
-Classes, members, static values and code stay. Annotations (a program that reads them at
-run time will miss them), debug information (line numbers too) and names that nothing needs
-are dropped. The format is Dalvik Executable, version 035.
+Classes, members, static values and code stay. Annotations (programs that read them at run
+time will miss them), debug information (line numbers too) and unneeded names are dropped.
+The format is Dalvik Executable, version 035.
 
 Example: dexasm strip classes.dex --output small.dex";
 
 /// FILE.
-pub(crate) const FILE: &str = "The file to read, in place of standard input";
+pub(crate) const FILE: &str = "Read FILE instead of standard input";
 
 /// --output OUT.
 pub(crate) const OUTPUT: &str =
-    "The file to write, in place of standard output: untouched until the answer is whole";
+    "Write to OUT instead of standard output; it isn't touched until the answer is complete";
 
 /// --align.
 pub(crate) const ALIGN: &str = "Put a nop before each payload at an odd address";

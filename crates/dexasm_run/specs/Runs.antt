@@ -18,28 +18,28 @@ MatchRun (Err Output) done refused input output memory = output
 MatchRun (Err Memory) done refused input output memory = memory
 
 -- `given` is all that a source gave, up to its end
-pub record IsWhole (old new : Option (List ℕ)) (given : List ℕ) : Type 0 where
+pub record IsAllGiven (old new : Option (List ℕ)) (given : List ℕ) : Type 0 where
   pub gave : Consumes old new given
   pub end : IsAtEnd new
 
 -- a source gave some bytes up to its end, and a sink took the job's answer to them
 abbrev pub Answers : Job → Option (List ℕ) → Option (List ℕ) → Option (List ℕ) → Option (List ℕ) → Type 0
 Answers job had left held holds = (given : List ℕ) × (made : List ℕ)
-    × IsWhole had left given × Answer job given made × Appends held holds made
+    × IsAllGiven had left given × Answer job given made × Appends held holds made
 
 -- a source gave some bytes up to its end, and the job refuses them with this fault
 abbrev pub Refuses : Job → Option (List ℕ) → Option (List ℕ) → Fault → Type 0
-Refuses job had left fault = (given : List ℕ) × IsWhole had left given × Refusal job given fault
+Refuses job had left fault = (given : List ℕ) × IsAllGiven had left given × Refusal job given fault
 
--- the same, of a sink that took only a beginning of the answer
+-- a source gave some bytes up to its end, and a sink took a beginning of the job's answer to them
 abbrev pub BeginsAnswer : Job → Option (List ℕ) → Option (List ℕ) → Option (List ℕ) → Option (List ℕ) → Type 0
 BeginsAnswer job had left held holds = (given : List ℕ) × (made : List ℕ) × (n : ℕ)
-    × IsWhole had left given × Answer job given made × (n ≤ length made)
+    × IsAllGiven had left given × Answer job given made × (n ≤ length made)
     × Appends held holds (take n made)
 
 -- reading to the end: the bytes given, or why not
 abbrev pub ReadsAll : Option (List ℕ) → Option (List ℕ) → Bool → Bool → Result (Vec ℕ Global) RunFault → Type 0
-ReadsAll old new failed ended (Ok given) = IsWhole old new given.items × (ended ≡ true)
+ReadsAll old new failed ended (Ok given) = IsAllGiven old new given.items × (ended ≡ true)
 ReadsAll old new failed ended (Err Memory) = ⊤
 ReadsAll old new failed ended (Err Input) = failed ≡ true
 ReadsAll old new failed ended (Err _) = ⊥

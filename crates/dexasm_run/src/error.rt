@@ -1,6 +1,6 @@
 // How a run fails.
 ghost use Rattle.std.specs.Prelude.{◌≡◌, Some, IfOk, string_bytes};
-ghost use Rattle.dexasm_run.specs.Status.{line_of, status_of};
+ghost use Rattle.dexasm_run.specs.Status.{error_line, exit_status};
 
 use dex_base::{Fault, fault_name};
 use std::alloc::{AllocError, Global};
@@ -21,7 +21,7 @@ pub enum RunFault {
     Memory,
 }
 
-/// The exit status of the program: 1 refused, 3 input or output, 4 want of memory.
+/// The exit status of the program: 1 refused, 3 input or output, 4 out of memory.
 ///
 /// ```
 /// use dex_base::Fault;
@@ -30,7 +30,7 @@ pub enum RunFault {
 /// assert_eq!(rt; status(&RunFault::Refused(Fault { code: 8, place: 8 })), 1);
 /// ```
 pub fn status(fault: &RunFault) -> u8
-    ensures { result ≡ status_of fault.now }
+    ensures { result ≡ exit_status fault.now }
 {
     match fault {
         RunFault::Refused(_) => 1,
@@ -44,7 +44,7 @@ pub fn status(fault: &RunFault) -> u8
 pub struct Line<'a>(pub &'a RunFault);
 
 impl fmt::Display for Line<'_> {
-    ghost output = { λ line. Some (line_of line.0.now) };
+    ghost output = { λ line. Some (error_line line.0.now) };
 
     fn fmt<W: fmt::Write>(&self, f: &mut fmt::Formatter<W>) -> fmt::Result {
         match self.0 {
@@ -61,9 +61,9 @@ impl fmt::Display for Line<'_> {
     }
 }
 
-/// The same line as a text.
+/// The line that tells of a failed run, as a text.
 pub fn line_text(alloc: Global, fault: &RunFault) -> Result<String, AllocError>
-    ensures { IfOk result (λ text. string_bytes text ≡ line_of fault.now) }
+    ensures { IfOk result (λ text. string_bytes text ≡ error_line fault.now) }
 {
     Line(fault).to_string(alloc)
 }

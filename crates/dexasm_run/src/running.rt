@@ -88,7 +88,7 @@ fn read_all<R: Source>(alloc: Global, input: &mut R) -> Result<Vec<u8>, RunFault
     }
 }
 
-// The same, with room for one piece.
+// All that the source gives up to its end, taken by way of `piece`.
 fn gather<R: Source>(alloc: Global, input: &mut R, piece: &mut [u8]) -> Result<Vec<u8>, RunFault>
     requires goes_on { R.ended input.old ≡ false }
     requires room { 0 < length piece.old }

@@ -7,7 +7,7 @@ use Rattle.code_align.proofs.PadLaws.{aligned-one}
 use Rattle.file_align.specs.Programs.{Pairwise, AlignedBody, AlignedMethod, AlignedClass, AlignedProgram, IsShort, IsTooLong}
 use Rattle.file_align.proofs.WellLaws.{codes_turned, program_formed}
 use Rattle.program_code_rules.proofs.OperandLaws.{formed_operands}
-use Rattle.program_ranges.proofs.AllLaws.{all-turned}
+use Rattle.program_rules.proofs.AllLaws.{all-turned}
 use Rattle.program_rules.specs.Rules.{CodesHold}
 use Rattle.program_rules.specs.WellFormed.{WellFormed}
 

@@ -4,6 +4,7 @@ use Rattle.std.specs.List.{AllByRecursion, flat_map, slice_get}
 use Rattle.std.proofs.Math.ListN.{drop_of_length-le}
 use Rattle.std.proofs.lemmas.List.{append_assoc, append-nil, map-append, drop_more}
 use Rattle.file_align.specs.Programs.{Pairwise}
+use Rattle.base_bytes.proofs.ListFacts.{all_at}
 
 -- one item more
 pub pair_step : {A B : Type 0} (R : B → B → Type 0) (f : A → B) (all out : List A) (i : ℕ) (d y : A) → i < length all
@@ -68,11 +69,6 @@ pair_done R f all out i l h =
     subst (Pairwise R (map f all)) (append-nil (map f out)) (h [] (subst (λ z. Pairwise R (map f z) []) (sym none) tt))
 
 -- ---- what holds of all
-
-pub all_at : {A B : Type 0} (P : B → Type 0) (f : A → B) (xs : List A) (i : ℕ) (d : A) → i < length xs → AllByRecursion P (map f xs) → P (f (get_or xs i d))
-all_at P f [] i d l h = absurd (omega arith)
-all_at P f (x ∷ xs) zero d l h = h.0
-all_at P f (x ∷ xs) (suc i) d l h = all_at P f xs i d (omega arith) h.1
 
 pub all_more : {A B : Type 0} (P : B → Type 0) (f : A → B) (xs : List A) (y : A) → AllByRecursion P (map f xs) → P (f y) → AllByRecursion P (map f (xs ++ y ∷ []))
 all_more P f [] y h p = (p, tt)

@@ -11,12 +11,12 @@ use Rattle.program_code_rules.specs.CodeRules.{OperandsHold, TargetsHold, Payloa
 use Rattle.program_types.specs.Content.{Descriptor, Code, Method, Class, Program}
 use Rattle.program_types.specs.Depth.{depth}
 use Rattle.program_types.specs.Formed.{IsFormed, RegistersHold}
-use Rattle.program_ranges.specs.Ranges.{NameInRange, ValueInRange, MemberInRange, CodeInRange, DefinedInRange, ClassInRange}
+use Rattle.program_rules.specs.Ranges.{NameInRange, ValueInRange, MemberInRange, CodeInRange, DefinedInRange, ClassInRange}
 use Rattle.program_rules.specs.WellFormed.{WellFormed}
 use Rattle.program_rules.specs.Rules.{NamesAreValid, KeysRise, MembersRise, AreDistinct, OrderHolds, ValuesFit, CodesHold, ClassHolds, member_key, method_key}
 use Rattle.program_rules.specs.Valid.{IsValidName}
 use Rattle.program_rules.proofs.FormedLaws.{class_formed}
-use Rattle.program_ranges.proofs.AllLaws.{all-turned}
+use Rattle.program_rules.proofs.AllLaws.{all-turned}
 
 -- ---- bodies that keep the rules are well formed, and the other way round
 

@@ -44,7 +44,7 @@ pub record AlignedClass (c d : Class) : Type 0 where
 abbrev pub AlignedProgram : Program → Program → Type 0
 AlignedProgram p q = Pairwise AlignedClass p q
 
--- It has as many instructions as a code can have, or fewer.
+-- A code has as many instructions as one can have, or fewer.
 abbrev pub IsShort : Code → Type 0
 IsShort c = length c.insns ≤ 2147483647
 

@@ -116,7 +116,7 @@ fn aligned_classes<'a>(
 /// A well-formed program with each body aligned: a nop before each payload that would stand at an odd address, and the numbers of
 /// instructions moved with it. All else is as it was, and the program is well formed again. What is new lies in the arena.
 ///
-/// An error is 90, where a body would have more than 2147483647 instructions, or want of memory.
+/// An error is 90, where a body would have more than 2147483647 instructions, or out of memory.
 ///
 /// ```
 /// use bumpalo::Bump;

@@ -10,39 +10,40 @@ use Rattle.file_layout.specs.Sections.{is_empty_list, never}
 use Rattle.file_layout.specs.Tiles.{IsNext, Refers}
 use Rattle.file_layout.specs.declared.plan.Plan.{Plan}
 use Rattle.file_layout.proofs.FinishLaws.{length-words}
-use Rattle.file_layout.proofs.SectionLaws.{Zip-length}
 use Rattle.file_limits.specs.Wide.{array_values, list_values, params_of, text_values}
 use Rattle.tables_names.specs.Closure.{Five}
 use Rattle.tables_names.specs.Rows.{first_of}
 use Rattle.program_types.specs.Content.{Class, Descriptor, FieldRef, MethodRef, Program, Proto}
 use Rattle.program_types.specs.Key.{Key}
 use Rattle.file_rows.specs.Rows.{SpellsFieldRow, SpellsMethodRow, SpellsProtoRow, SpellsProtos, SpellsTable, SpellsTypeRow}
-use Rattle.file_sections.specs.Data.{has_no_members, sited}
+use Rattle.file_sections.specs.Data.{has_no_members, with_code_places}
 use Rattle.file_sections.proofs.SitedLaws.{length-sited}
-use Rattle.file_rows.specs.ClassDefs.{Seated, SpellsClassRow}
+use Rattle.file_rows.specs.ClassDefs.{ClassWithPlaces, SpellsClassRow}
 use Rattle.file_rows.proofs.ClassRowLaws.{length-seated}
 use Rattle.file_assemble.specs.Assembled.{Assembled, DataIsLaid, DataLies, Places, SpellsTables, rows_of}
 use Rattle.file_assemble.proofs.DataLaws.{lies_agree}
+use Rattle.file_rows.proofs.AtLaws.{method_size, field_size, proto_size, type_size}
+use Rattle.base_bytes.proofs.ListFacts.{zip_length}
 
 -- ---- how many places there are
 
 module _ (b : List ℕ) (s : Five) (p : Program) (plan : Plan) (at : Places) (l : DataLies b s p plan at) where
   pub list_count : length at.lists ≡ length s.protos + length p
   list_count =
-      let z = Zip-length (Refers is_empty_list l.lists.items) at.lists (list_values s p) l.lists.each in
+      let z = zip_length (Refers is_empty_list l.lists.items) at.lists (list_values s p) l.lists.each in
       let a = length-append (map params_of s.protos) (map (λ (c : Class). c.interfaces) p) in
       let m = length-map s.protos params_of in
       let n = length-map p (λ (c : Class). c.interfaces) in
       omega (arith, z, a, m, n)
 
   pub text_count : length at.texts ≡ length s.strings
-  text_count = Zip-length (Refers never l.strings.items) at.texts (text_values s) l.strings.each ∙ length-map s.strings first_of
+  text_count = zip_length (Refers never l.strings.items) at.texts (text_values s) l.strings.each ∙ length-map s.strings first_of
 
   pub array_count : length at.arrays ≡ length p
-  array_count = Zip-length (Refers is_empty_list l.arrays.items) at.arrays (array_values p) l.arrays.each ∙ length-map p (λ (c : Class). c.values)
+  array_count = zip_length (Refers is_empty_list l.arrays.items) at.arrays (array_values p) l.arrays.each ∙ length-map p (λ (c : Class). c.values)
 
   pub data_count : length at.datas ≡ length p
-  data_count = Zip-length (Refers has_no_members l.datas.items) at.datas (sited p at.codes) l.datas.each ∙ length-sited p at.codes
+  data_count = zip_length (Refers has_no_members l.datas.items) at.datas (with_code_places p at.codes) l.datas.each ∙ length-sited p at.codes
 
 -- ---- how long the rows are
 
@@ -55,22 +56,7 @@ each_long G size one bytes (v ∷ vs) e =
     let r = each_long G size one e.1 vs e.4 in
     omega (arith, n, f, r)
 
-pub type_long : (s : Five) (bytes : List ℕ) (t : Descriptor) → SpellsTypeRow s bytes t → length bytes ≡ 4
-unfolding u32_bytes
-type_long s bytes t r = ap length r.whole
-
-proto_long : (s : Five) (bytes : List ℕ) (p : ℕ × Proto) → SpellsProtoRow s bytes p → length bytes ≡ 12
-proto_long s bytes p r = ap length r.whole ∙ length-words _
-
-pub field_long : (s : Five) (bytes : List ℕ) (f : FieldRef) → SpellsFieldRow s bytes f → length bytes ≡ 8
-unfolding u16_bytes u32_bytes
-field_long s bytes f r = ap length r.whole
-
-pub method_long : (s : Five) (bytes : List ℕ) (m : MethodRef) → SpellsMethodRow s bytes m → length bytes ≡ 8
-unfolding u16_bytes u32_bytes
-method_long s bytes m r = ap length r.whole
-
-pub class_long : (s : Five) (bytes : List ℕ) (v : Seated) → SpellsClassRow s bytes v → length bytes ≡ 32
+pub class_long : (s : Five) (bytes : List ℕ) (v : ClassWithPlaces) → SpellsClassRow s bytes v → length bytes ≡ 32
 class_long s bytes v r = ap length r.whole ∙ length-words _
 
 pub table_long : {V : Type 0} (key : V → Key) (G : List ℕ → V → Type 0) (size : ℕ) → ((bytes : List ℕ) (v : V) → G bytes v → length bytes ≡ size) → (bytes : List ℕ) (table : List Key) → SpellsTable key G bytes table → length bytes ≡ size * length table
@@ -83,7 +69,7 @@ table_long key G size one bytes table t =
 
 pub protos_long : (s : Five) (places bytes : List ℕ) (table : List Key) → SpellsProtos s places bytes table → length bytes ≡ 12 * length table
 protos_long s places bytes table t =
-    let r = each_long (SpellsProtoRow s) 12 (proto_long s) bytes t.names t.rows in
+    let r = each_long (SpellsProtoRow s) 12 (proto_size s) bytes t.names t.rows in
     let n : length t.names ≡ length table = sym (length-map t.names _) ∙ ap length t.keys in
     omega (arith, r, n)
 
@@ -97,10 +83,10 @@ row_count s p at rows t =
     let n3 = length-append r.fields r.methods in
     let m0 = length-words at.texts in
     let m1 = r.string_ids in
-    let m2 = table_long _ (SpellsTypeRow s) 4 (type_long s) r.types s.types r.type_ids in
+    let m2 = table_long _ (SpellsTypeRow s) 4 (type_size s) r.types s.types r.type_ids in
     let m3 = protos_long s _ r.protos s.protos r.proto_ids in
-    let m4 = table_long _ (SpellsFieldRow s) 8 (field_long s) r.fields s.fields r.field_ids in
-    let m5 = table_long _ (SpellsMethodRow s) 8 (method_long s) r.methods s.methods r.method_ids in
+    let m4 = table_long _ (SpellsFieldRow s) 8 (field_size s) r.fields s.fields r.field_ids in
+    let m5 = table_long _ (SpellsMethodRow s) 8 (method_size s) r.methods s.methods r.method_ids in
     let m6 = each_long (SpellsClassRow s) 32 (class_long s) t.classes _ t.class_rows in
     let m7 = length-seated p (drop (length s.protos) at.lists) at.datas at.arrays in
     omega (arith, w, n0, n1, n2, n3, m0, m1, m2, m3, m4, m5, m6, m7)

@@ -6,7 +6,7 @@ use Rattle.code_put.proofs.DistinctLaws.{all-get}
 use Rattle.file_limits.specs.Wide.{bodies_in, bodies_of, body_values}
 use Rattle.program_types.specs.Content.{Class, Code, Method, Program}
 use Rattle.program_types.specs.Formed.{IsFormed}
-use Rattle.program_ranges.specs.Ranges.{ClassInRange}
+use Rattle.program_rules.specs.Ranges.{ClassInRange}
 use Rattle.program_rules.specs.Rules.{CodesHold}
 use Rattle.program_rules.specs.WellFormed.{WellFormed}
 use Rattle.program_rules.proofs.FormedLaws.{class_formed}

@@ -1,4 +1,4 @@
--- The parts of the data, one behind the other.
+-- The parts of the data, one after the other.
 use Rattle.std.proofs.Common.{◌≡◌, ℕ, Bool, ◌+◌, ◌<◌, ◌≤◌, List, ◌++◌, length, refl, sym, ap, ◌∙◌, arith, subst, length-append}
 use Rattle.dex_base.specs.Mutf8.{PacksText}
 use Rattle.base_bytes.specs.Leb128.{Shortest}
@@ -12,7 +12,7 @@ use Rattle.file_limits.specs.Wide.{array_values, body_values, list_values, text_
 use Rattle.tables_names.specs.Closure.{Five, NameRanks}
 use Rattle.program_types.specs.Content.{Program}
 use Rattle.file_sections.specs.Codes.{PacksBody, is_bodiless}
-use Rattle.file_sections.specs.Data.{PacksData, has_no_members, sited, wide_sited}
+use Rattle.file_sections.specs.Data.{PacksData, has_no_members, with_code_places, wide_with_codes}
 use Rattle.file_sections.specs.Lists.{SpellsRanks}
 use Rattle.file_sections.proofs.SitedLaws.{room_of_sited}
 use Rattle.dex_value.specs.Spelling.{SpellsArray}
@@ -41,7 +41,7 @@ part_follows none G align at begin first end b vs places count l low from upto =
     let t = Tiles-le l.tiled in
     let c = l.counted in
     record {
-      behind = omega (arith, t, low);
+      after = omega (arith, t, low);
       begins = λ h. omega (arith, low, from);
       takes = λ h. let k = tiles_take l.tiled (omega (arith, c, h)) in omega (arith, k, upto);
     }
@@ -65,13 +65,13 @@ plan_of s p n e0 e1 e2 e3 e4 e5 = record {
   datas = record { items = n.datas; begin = e4; end = e5 };
 }
 
--- the parts, as they were laid one behind the other
+-- the parts, as they were laid one after the other
 pub record AreLaid (s : Five) (p : Program) (o0 o1 o2 o3 o4 o5 : List ℕ) (at : Places) (n : Counts) : Type 0 where
   pub lists : Laid is_empty_list (SpellsRanks s) 4 wide_list o0 o1 (list_values s p) at.lists n.lists
   pub codes : Laid is_bodiless (PacksBody (NameRanks s)) 4 wide_body o1 o2 (body_values p) at.codes n.codes
   pub texts : Laid never PacksText 1 wide_text o2 o3 (text_values s) at.texts n.texts
   pub arrays : Laid is_empty_list (Shortest (SpellsArray (NameRanks s))) 1 wide_array o3 o4 (array_values p) at.arrays n.arrays
-  pub datas : Laid has_no_members (PacksData (NameRanks s)) 1 wide_sited o4 o5 (sited p at.codes) at.datas n.datas
+  pub datas : Laid has_no_members (PacksData (NameRanks s)) 1 wide_with_codes o4 o5 (with_code_places p at.codes) at.datas n.datas
   pub once : StandOnce s p at
 
 module _ (s : Five) (p : Program) (room : Room s p) (o0 o1 o2 o3 o4 o5 : List ℕ) (at : Places) (n : Counts)
@@ -104,7 +104,7 @@ module _ (s : Five) (p : Program) (room : Room s p) (o0 o1 o2 o3 o4 o5 : List �
           codes = part_follows is_bodiless _ 4 (length o1) (length o1) (length o1 + gap 4 (length o1)) (length o2) o2 (body_values p) at.codes n.codes l.codes.lays (omega arith) (omega arith) (omega arith);
           strings = part_follows never PacksText 1 (length o2) (length o2) (length o2) (length o3) o3 (text_values s) at.texts n.texts l.texts.lays (omega arith) (omega arith) (omega arith);
           arrays = part_follows is_empty_list _ 1 (length o3) (length o3) (length o3) (length o4) o4 (array_values p) at.arrays n.arrays l.arrays.lays (omega arith) (omega arith) (omega arith);
-          datas = part_follows has_no_members _ 1 (length o4) (length o4) (length o4) (length o5) o5 (sited p at.codes) at.datas n.datas l.datas.lays (omega arith) (omega arith) (omega arith);
+          datas = part_follows has_no_members _ 1 (length o4) (length o4) (length o4) (length o5) o5 (with_code_places p at.codes) at.datas n.datas l.datas.lays (omega arith) (omega arith) (omega arith);
           few_types = room.few_types;
           few_protos = room.few_protos;
         };
@@ -130,7 +130,7 @@ module _ (s : Five) (p : Program) (room : Room s p) (o0 o1 o2 o3 o4 o5 : List �
 pub lies_agree : (out b : List ℕ) (s : Five) (p : Program) (plan : Plan) (at : Places) → DataIsLaid out s p plan at → Agree out b (tables_end plan.rows) (length out) → DataLies b s p plan at
 lies_agree out b s p plan at d same =
     let l = d.lies in
-    let f = d.planned in let f1 = f.lists.behind in let f2 = f.codes.behind in let f3 = f.strings.behind in let f4 = f.arrays.behind in let f5 = f.datas.behind in
+    let f = d.planned in let f1 = f.lists.after in let f2 = f.codes.after in let f3 = f.strings.after in let f4 = f.arrays.after in let f5 = f.datas.after in
     let en = d.end in
     let e1 = l.lists_begin in let e3 = l.strings_begin in let e4 = l.arrays_begin in let e5 = l.datas_begin in
     let upto : (to : ℕ) → to ≤ length out → Agree out b (tables_end plan.rows) to = λ to le. record { each = λ place size lo hi. same.each place size lo (omega (arith, hi, le)) } in
@@ -144,5 +144,5 @@ lies_agree out b s p plan at d same =
       codes = Lays-agree is_bodiless _ 4 plan.lists.end plan.codes.end out b (tables_end plan.rows) (body_values p) at.codes plan.codes.items l.codes (omega (arith, f1)) (upto plan.codes.end (omega (arith, f3, f4, f5, en)));
       strings = Lays-agree never PacksText 1 plan.strings.begin plan.strings.end out b (tables_end plan.rows) (text_values s) at.texts plan.strings.items l.strings (omega (arith, f1, f2, e3)) (upto plan.strings.end (omega (arith, f4, f5, en)));
       arrays = Lays-agree is_empty_list _ 1 plan.arrays.begin plan.arrays.end out b (tables_end plan.rows) (array_values p) at.arrays plan.arrays.items l.arrays (omega (arith, f1, f2, f3, e4)) (upto plan.arrays.end (omega (arith, f5, en)));
-      datas = Lays-agree has_no_members _ 1 plan.datas.begin plan.datas.end out b (tables_end plan.rows) (sited p at.codes) at.datas plan.datas.items l.datas (omega (arith, f1, f2, f3, f4, e5)) (upto plan.datas.end (omega (arith, en)));
+      datas = Lays-agree has_no_members _ 1 plan.datas.begin plan.datas.end out b (tables_end plan.rows) (with_code_places p at.codes) at.datas plan.datas.items l.datas (omega (arith, f1, f2, f3, f4, e5)) (upto plan.datas.end (omega (arith, en)));
     }

@@ -21,19 +21,20 @@ use Rattle.file_layout.specs.Once.{AreSame, HasOneSpelling, part_of}
 use Rattle.file_layout.specs.Tiles.{AreShared, IsNext, Lays, gap}
 use Rattle.file_layout.proofs.FrontOnce.{written_once}
 use Rattle.file_layout.proofs.LayingOnce.{layings_one}
-use Rattle.file_layout.proofs.PartLaws.{all_of, part_cut}
+use Rattle.file_layout.proofs.PartLaws.{part_cut}
 use Rattle.file_limits.specs.Wide.{array_values, body_values, list_values, text_values}
 use Rattle.file_sections.specs.Codes.{PacksBody, is_bodiless}
-use Rattle.file_sections.specs.Data.{PacksData, has_no_members, sited}
+use Rattle.file_sections.specs.Data.{PacksData, has_no_members, with_code_places}
 use Rattle.file_sections.specs.Lists.{SpellsRanks}
 use Rattle.file_assemble.specs.Assembled.{Assembled, Places, SpellsTables, StandOnce}
 use Rattle.file_assemble.proofs.AssembledLaws.{row_count}
-use Rattle.value_laws.proofs.ArrayOnce.{array_once}
-use Rattle.code_put_laws.proofs.CodeOnce.{code_once}
+use Rattle.dex_value.proofs.ArrayOnce.{array_once}
+use Rattle.code_put.proofs.CodeOnce.{code_once}
 use Rattle.file_rows.proofs.RowsOnce.{name_rows_once, class_rows_once}
 use Rattle.file_sections.proofs.DataOnce.{data_once}
 use Rattle.file_sections.proofs.ListLaws.{lists_once}
 use Rattle.file_assemble.proofs.BodyLaws.{bodies_formed}
+use Rattle.base_bytes.proofs.ListFacts.{all_of}
 
 -- where a file that is written ends its parts
 record Ends (b : List ℕ) (x : Plan) (map : ℕ) : Type 0 where
@@ -52,8 +53,8 @@ record Ends (b : List ℕ) (x : Plan) (map : ℕ) : Type 0 where
 
 ends_of : (b : List ℕ) (x : Plan) (map : ℕ) → IsWritten b x map → Ends b x map
 ends_of b x map w =
-    let a0 = w.planned.lists.behind in let a1 = w.planned.codes.behind in let a2 = w.planned.strings.behind in
-    let a3 = w.planned.arrays.behind in let a4 = w.planned.datas.behind in let a5 = w.behind in let a6 = w.ends in
+    let a0 = w.planned.lists.after in let a1 = w.planned.codes.after in let a2 = w.planned.strings.after in
+    let a3 = w.planned.arrays.after in let a4 = w.planned.datas.after in let a5 = w.after in let a6 = w.ends in
     record {
       lists = omega (arith, a0, a1, a2, a3, a4, a5, a6);
       codes = omega (arith, a0, a1, a2, a3, a4, a5, a6);
@@ -135,11 +136,11 @@ module _ (s : Five) (p : Program) (rising : AreRising s) (w : WellFormed p) (b c
 
   datas_same : AreSame b c x.plan.datas.begin x.plan.datas.end y.plan.datas.end x.at.datas y.at.datas x.plan.datas.items y.plan.datas.items
   datas_same =
-      layings_one has_no_members (PacksData (NameRanks s)) 1 x.plan.datas.begin x.plan.datas.end y.plan.datas.end b c (sited p x.at.codes) x.at.datas y.at.datas x.plan.datas.items y.plan.datas.items
+      layings_one has_no_members (PacksData (NameRanks s)) 1 x.plan.datas.begin x.plan.datas.end y.plan.datas.end b c (with_code_places p x.at.codes) x.at.datas y.at.datas x.plan.datas.items y.plan.datas.items
       (λ n d e l m i j f g. data_once (NameRanks s) (ranks-injective s rising) l m d i j f g) x.bytes y.bytes low.datas high.datas x.lies.datas u.datas
-      (subst (λ (ks : List ℕ). Lays has_no_members (PacksData (NameRanks s)) 1 x.plan.datas.begin y.plan.datas.end c (sited p ks) y.at.datas y.plan.datas.items) (sym codes_same.places_are)
-      (subst (λ (k : ℕ). Lays has_no_members (PacksData (NameRanks s)) 1 k y.plan.datas.end c (sited p y.at.codes) y.at.datas y.plan.datas.items) (sym datas_begin) y.lies.datas))
-      (subst (λ (ks : List ℕ). AreShared y.at.datas (sited p ks)) (sym codes_same.places_are) v.datas)
+      (subst (λ (ks : List ℕ). Lays has_no_members (PacksData (NameRanks s)) 1 x.plan.datas.begin y.plan.datas.end c (with_code_places p ks) y.at.datas y.plan.datas.items) (sym codes_same.places_are)
+      (subst (λ (k : ℕ). Lays has_no_members (PacksData (NameRanks s)) 1 k y.plan.datas.end c (with_code_places p y.at.codes) y.at.datas y.plan.datas.items) (sym datas_begin) y.lies.datas))
+      (subst (λ (ks : List ℕ). AreShared y.at.datas (with_code_places p ks)) (sym codes_same.places_are) v.datas)
 
   -- ---- plan, places and rows
 

@@ -62,13 +62,13 @@ few_of s p r = record {
   methods = omega (arith, r.rows_are, r.whole);
 }
 
--- Header and tables, which take n bytes, have room behind them for all parts of the data and the map.
-pub record Behind (s : Five) (p : Program) (n : ℕ) : Type 0 where
+-- Header and tables, which take n bytes, have room after them for all parts of the data and the map.
+pub record After (s : Five) (p : Program) (n : ℕ) : Type 0 where
   pub some : 0 < n
   pub small : n + wide_all wide_list (list_values s p) + wide_all wide_body (body_values p) + wide_all wide_text (text_values s) + wide_all wide_array (array_values p) + wide_all wide_data p + 163 ≤ 4294967295
 
-pub behind : (s : Five) (p : Program) (rows : Rows) (n : ℕ) → s ≡ needed p → Fits p → rows ≡ rows_of s p → n ≡ tables_end rows → Behind s p n
-behind s p rows n e f r m =
+pub after : (s : Five) (p : Program) (rows : Rows) (n : ℕ) → s ≡ needed p → Fits p → rows ≡ rows_of s p → n ≡ tables_end rows → After s p n
+after s p rows n e f r m =
     let w = room_of s p e f in
     let t : n ≡ tables_end (rows_of s p) = m ∙ ap tables_end r in
     record { some = omega (arith, t); small = omega (arith, t, w.rows_are, w.lists_are, w.codes_are, w.texts_are, w.arrays_are, w.datas_are, w.whole) }

@@ -7,15 +7,15 @@ use Rattle.std.proofs.lemmas.Bool.{cases_lt}
 use Rattle.program_types.specs.Content.{Class, Descriptor, Program}
 use Rattle.program_rules.specs.Rules.{IsOfType}
 use Rattle.program_rules.specs.WellFormed.{WellFormed}
-use Rattle.file_sections.specs.Data.{Sited, sited}
+use Rattle.file_sections.specs.Data.{ClassWithCodes, with_code_places}
 use Rattle.file_sections.proofs.ApartLaws.{apart_shared}
 use Rattle.file_layout.specs.Tiles.{AreShared}
 
-pub sited_class : (p : Program) (codes : List ℕ) (i : ℕ) (v : Sited) → slice_get (sited p codes) i ≡ Some v → slice_get p i ≡ Some v.class
+pub sited_class : (p : Program) (codes : List ℕ) (i : ℕ) (v : ClassWithCodes) → slice_get (with_code_places p codes) i ≡ Some v → slice_get p i ≡ Some v.class
 sited_class [] codes i v at = absurd cc
-sited_class (c ∷ p) codes zero v at = let e : _ ≡ v = some_same _ v at in ap (λ (x : Sited). Some x.class) e
+sited_class (c ∷ p) codes zero v at = let e : _ ≡ v = some_same _ v at in ap (λ (x : ClassWithCodes). Some x.class) e
   where
-    some_same : (x y : Sited) → Some x ≡ Some y → x ≡ y
+    some_same : (x y : ClassWithCodes) → Some x ≡ Some y → x ≡ y
     some_same x y e = cc
 sited_class (c ∷ p) codes (suc i) v at = sited_class p _ i v at
 
@@ -32,6 +32,6 @@ types_apart p w i j c d at_i at_j e = elim (cases_lt i j) [
   ]
 ]
 
-pub datas_shared : (p : Program) → WellFormed p → (codes places : List ℕ) → AreShared places (sited p codes)
+pub datas_shared : (p : Program) → WellFormed p → (codes places : List ℕ) → AreShared places (with_code_places p codes)
 datas_shared p w codes places =
-    apart_shared (sited p codes) places (λ i j v at_i at_j. types_apart p w i j v.class v.class (sited_class p codes i v at_i) (sited_class p codes j v at_j) refl)
+    apart_shared (with_code_places p codes) places (λ i j v at_i at_j. types_apart p w i j v.class v.class (sited_class p codes i v at_i) (sited_class p codes j v at_j) refl)

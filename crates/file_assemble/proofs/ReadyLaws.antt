@@ -6,29 +6,29 @@ use Rattle.std.specs.Option.{option_to_list}
 use Rattle.code_put.specs.Fits.{FitsCode}
 use Rattle.code_put.proofs.DistinctLaws.{all-get}
 use Rattle.file_layout.specs.Sections.{wide_all}
-use Rattle.file_limits.specs.Limits.{Fits, IsReady, code_of, codes_in, codes_of}
+use Rattle.file_limits.specs.Limits.{Fits, BodyIsReady, method_code, codes_in, codes_of}
 use Rattle.file_limits.specs.Wide.{bodies_in, bodies_of, wide_body}
-use Rattle.file_limits.proofs.BodyLaws.{all_both}
-use Rattle.file_limits.proofs.RankLaws.{back_all, front_all}
 use Rattle.tables_names.specs.Closure.{Five, NameRanks}
 use Rattle.tables_names.specs.Needed.{needed}
 use Rattle.file_needed.proofs.ClassNames.{directs_kept, virtuals_kept}
 use Rattle.program_types.specs.Content.{Class, Code, Descriptor, Method, Program}
 use Rattle.program_types.specs.Formed.{IsFormed}
 use Rattle.program_types.specs.Mentions.{if_any, names_of_code, names_of_method}
-use Rattle.program_ranges.specs.Ranges.{ClassInRange}
+use Rattle.program_types.specs.Kinds.{HasIndex}
+use Rattle.program_rules.specs.Ranges.{ClassInRange}
 use Rattle.program_rules.specs.WellFormed.{WellFormed}
 use Rattle.program_rules.proofs.FormedLaws.{class_formed}
-use Rattle.file_sections.specs.Named.{BodyCanBePut, FewNames, HasName}
+use Rattle.file_sections.specs.Named.{BodyCanBePut, FewNames}
 use Rattle.file_assemble.proofs.FitsLaws.{Room, back_small, class_small, few_of, front_small}
 use Rattle.file_assemble.proofs.NamedLaws.{all_below, class_ranked, types_short}
+use Rattle.base_bytes.proofs.ListFacts.{all_append, all_back, all_front}
 
 -- what is said of a body in a method
 pub record KeepsAll (s : Five) (c : Code) : Type 0 where
   pub formed : IsFormed c
-  pub ranked : AllByRecursion (HasName s) (names_of_code c)
+  pub ranked : AllByRecursion (HasIndex (NameRanks s)) (names_of_code c)
 
-body_kept : (s : Five) (o : Option Code) → IfSome o IsFormed → AllByRecursion (HasName s) (if_any names_of_code o) → IfSome o (KeepsAll s)
+body_kept : (s : Five) (o : Option Code) → IfSome o IsFormed → AllByRecursion (HasIndex (NameRanks s)) (if_any names_of_code o) → IfSome o (KeepsAll s)
 body_kept s None f n = tt
 body_kept s (Some code) f n = record { formed = f; ranked = n }
 
@@ -37,11 +37,11 @@ abbrev pub MethodsKeep : Five → List Method → Type 0
 MethodsKeep s ms = AllByRecursion (λ (m : Method). IfSome m.code (KeepsAll s)) ms
 
 methods_keep : (s : Five) (class : Descriptor) (ms : List Method) → AllByRecursion (λ (m : Method). IfSome m.code IsFormed) ms
-    → AllByRecursion (HasName s) (flat_map (names_of_method class) ms) → MethodsKeep s ms
+    → AllByRecursion (HasIndex (NameRanks s)) (flat_map (names_of_method class) ms) → MethodsKeep s ms
 methods_keep s class [] f n = tt
 methods_keep s class (m ∷ ms) f n =
-    let own = front_all (HasName s) (names_of_method class m) (flat_map (names_of_method class) ms) n in
-    let rest = back_all (HasName s) (names_of_method class m) (flat_map (names_of_method class) ms) n in
+    let own = all_front (HasIndex (NameRanks s)) (names_of_method class m) (flat_map (names_of_method class) ms) n in
+    let rest = all_back (HasIndex (NameRanks s)) (names_of_method class m) (flat_map (names_of_method class) ms) n in
     (body_kept s m.code f.0 own.1, methods_keep s class ms f.1 rest)
 
 pub record ClassKeeps (s : Five) (c : Class) : Type 0 where
@@ -54,24 +54,24 @@ class_keeps s p i c e w at =
     let k = w.rules i c at in
     let formed = class_formed c k.operands k.targets k.payloads k.tries k.registers (all-get ClassInRange p i c w.ranges at) in
     record {
-      directs = methods_keep s c.ty c.directs formed.directs (directs_kept (HasName s) c named);
-      virtuals = methods_keep s c.ty c.virtuals formed.virtuals (virtuals_kept (HasName s) c named);
+      directs = methods_keep s c.ty c.directs formed.directs (directs_kept (HasIndex (NameRanks s)) c named);
+      virtuals = methods_keep s c.ty c.virtuals formed.virtuals (virtuals_kept (HasIndex (NameRanks s)) c named);
     }
 
 -- ---- ready for the limits
 
-one_ready : (s : Five) (o : Option Code) → IfSome o (KeepsAll s) → AllByRecursion (IsReady s) (option_to_list o)
+one_ready : (s : Five) (o : Option Code) → IfSome o (KeepsAll s) → AllByRecursion (BodyIsReady s) (option_to_list o)
 one_ready s None h = tt
 one_ready s (Some c) h = (record { formed = h.formed; ranked = h.ranked }, tt)
 
-all_ready : (s : Five) (ms : List Method) → MethodsKeep s ms → AllByRecursion (IsReady s) (codes_in ms)
+all_ready : (s : Five) (ms : List Method) → MethodsKeep s ms → AllByRecursion (BodyIsReady s) (codes_in ms)
 all_ready s [] h = tt
-all_ready s (m ∷ ms) h = all_both (IsReady s) (code_of m) (codes_in ms) (one_ready s m.code h.0) (all_ready s ms h.1)
+all_ready s (m ∷ ms) h = all_append (BodyIsReady s) (method_code m) (codes_in ms) (one_ready s m.code h.0) (all_ready s ms h.1)
 
-pub class_ready : (s : Five) (p : Program) (i : ℕ) (c : Class) → s ≡ needed p → WellFormed p → slice_get p i ≡ Some c → AllByRecursion (IsReady s) (codes_of c)
+pub class_ready : (s : Five) (p : Program) (i : ℕ) (c : Class) → s ≡ needed p → WellFormed p → slice_get p i ≡ Some c → AllByRecursion (BodyIsReady s) (codes_of c)
 class_ready s p i c e w at =
     let k = class_keeps s p i c e w at in
-    all_both (IsReady s) (codes_in c.directs) (codes_in c.virtuals) (all_ready s c.directs k.directs) (all_ready s c.virtuals k.virtuals)
+    all_append (BodyIsReady s) (codes_in c.directs) (codes_in c.virtuals) (all_ready s c.directs k.directs) (all_ready s c.virtuals k.virtuals)
 
 -- ---- ready to be written
 
@@ -91,8 +91,8 @@ all_can : (s : Five) → FewNames s → length s.types ≤ 65535 → (ms : List 
     → AllByRecursion (BodyCanBePut s) (bodies_in ms)
 all_can s few types [] k f small = tt
 all_can s few types (m ∷ ms) k f small = (
-  one_can s few types m.code k.0 (front_all (FitsCode (NameRanks s)) (code_of m) (codes_in ms) f) (omega (arith, small)),
-  all_can s few types ms k.1 (back_all (FitsCode (NameRanks s)) (code_of m) (codes_in ms) f) (omega (arith, small)),
+  one_can s few types m.code k.0 (all_front (FitsCode (NameRanks s)) (method_code m) (codes_in ms) f) (omega (arith, small)),
+  all_can s few types ms k.1 (all_back (FitsCode (NameRanks s)) (method_code m) (codes_in ms) f) (omega (arith, small)),
 )
 
 pub class_can : (s : Five) (p : Program) (i : ℕ) (c : Class) → s ≡ needed p → WellFormed p → Fits p → Room s p → slice_get p i ≡ Some c → AllByRecursion (BodyCanBePut s) (bodies_of c)
@@ -101,6 +101,6 @@ class_can s p i c e w f r at =
     let fits : AllByRecursion (FitsCode (NameRanks s)) (codes_of c) =
     subst (λ (t : Five). AllByRecursion (FitsCode (NameRanks t)) (codes_of c)) (sym e) (f.bodies i c at) in
     let small = class_small p i c 4294967295 at (omega (arith, r.codes_are, r.whole)) in
-    all_both (BodyCanBePut s) (bodies_in c.directs) (bodies_in c.virtuals)
-    (all_can s (few_of s p r) r.few_types c.directs k.directs (front_all (FitsCode (NameRanks s)) (codes_in c.directs) (codes_in c.virtuals) fits) (front_small wide_body (bodies_in c.directs) (bodies_in c.virtuals) 4294967295 small))
-    (all_can s (few_of s p r) r.few_types c.virtuals k.virtuals (back_all (FitsCode (NameRanks s)) (codes_in c.directs) (codes_in c.virtuals) fits) (back_small wide_body (bodies_in c.directs) (bodies_in c.virtuals) 4294967295 small))
+    all_append (BodyCanBePut s) (bodies_in c.directs) (bodies_in c.virtuals)
+    (all_can s (few_of s p r) r.few_types c.directs k.directs (all_front (FitsCode (NameRanks s)) (codes_in c.directs) (codes_in c.virtuals) fits) (front_small wide_body (bodies_in c.directs) (bodies_in c.virtuals) 4294967295 small))
+    (all_can s (few_of s p r) r.few_types c.virtuals k.virtuals (all_back (FitsCode (NameRanks s)) (codes_in c.directs) (codes_in c.virtuals) fits) (back_small wide_body (bodies_in c.directs) (bodies_in c.virtuals) 4294967295 small))

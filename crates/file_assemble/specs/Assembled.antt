@@ -16,10 +16,10 @@ use Rattle.tables_names.specs.Closure.{Five, NameRanks}
 use Rattle.program_types.specs.Content.{Program}
 use Rattle.file_rows.specs.Rows.{SpellsRows}
 use Rattle.file_sections.specs.Codes.{PacksBody, is_bodiless}
-use Rattle.file_sections.specs.Data.{PacksData, has_no_members, sited}
+use Rattle.file_sections.specs.Data.{PacksData, has_no_members, with_code_places}
 use Rattle.file_sections.specs.Lists.{SpellsRanks}
 use Rattle.dex_value.specs.Spelling.{SpellsArray}
-use Rattle.file_rows.specs.ClassDefs.{SpellsClassRow, seated}
+use Rattle.file_rows.specs.ClassDefs.{SpellsClassRow, with_places}
 
 -- how many rows each table has
 abbrev pub rows_of : Five → Program → Rows
@@ -33,8 +33,8 @@ pub record Places : Type 0 where
   pub arrays : List ℕ
   pub datas : List ℕ
 
--- Where the items of the data lie in these bytes: the parts stand one behind the other, each with its items. The part of the code items
--- begins at the first of them, at the next place behind the type lists that 4 divides.
+-- Where the items of the data lie in these bytes: the parts stand one after the other, each with its items. The part of the code items
+-- begins at the first of them, at the next place after the type lists that 4 divides.
 pub record DataLies (b : List ℕ) (s : Five) (p : Program) (plan : Plan) (at : Places) : Type 0 where
   pub lists_begin : plan.lists.begin ≡ tables_end plan.rows
   pub codes_begin : plan.codes.begin ≡ plan.lists.end + gap 4 plan.lists.end
@@ -45,7 +45,7 @@ pub record DataLies (b : List ℕ) (s : Five) (p : Program) (plan : Plan) (at : 
   pub codes : Lays is_bodiless (PacksBody (NameRanks s)) 4 plan.lists.end plan.codes.end b (body_values p) at.codes plan.codes.items
   pub strings : Lays never PacksText 1 plan.strings.begin plan.strings.end b (text_values s) at.texts plan.strings.items
   pub arrays : Lays is_empty_list (Shortest (SpellsArray (NameRanks s))) 1 plan.arrays.begin plan.arrays.end b (array_values p) at.arrays plan.arrays.items
-  pub datas : Lays has_no_members (PacksData (NameRanks s)) 1 plan.datas.begin plan.datas.end b (sited p at.codes) at.datas plan.datas.items
+  pub datas : Lays has_no_members (PacksData (NameRanks s)) 1 plan.datas.begin plan.datas.end b (with_code_places p at.codes) at.datas plan.datas.items
 
 -- Of each kind equal items stand once: equal type lists, bodies, texts, arrays and class data are each referred to by one place.
 pub record StandOnce (s : Five) (p : Program) (at : Places) : Type 0 where
@@ -53,9 +53,9 @@ pub record StandOnce (s : Five) (p : Program) (at : Places) : Type 0 where
   pub codes : AreShared at.codes (body_values p)
   pub texts : AreShared at.texts (text_values s)
   pub arrays : AreShared at.arrays (array_values p)
-  pub datas : AreShared at.datas (sited p at.codes)
+  pub datas : AreShared at.datas (with_code_places p at.codes)
 
--- The data is laid behind room for header and tables, and with the map, which takes at most 163 bytes, it is within the plain sum.
+-- The data is laid after room for header and tables, and with the map, which takes at most 163 bytes, it is within the plain sum.
 pub record DataIsLaid (out : List ℕ) (s : Five) (p : Program) (plan : Plan) (at : Places) : Type 0 where
   pub counts : plan.rows ≡ rows_of s p
   pub planned : IsPlanned plan
@@ -65,13 +65,13 @@ pub record DataIsLaid (out : List ℕ) (s : Five) (p : Program) (plan : Plan) (a
   pub lies : DataLies out s p plan at
   pub once : StandOnce s p at
 
--- The bytes are the rows of the six tables, one table behind the other, where the items stand at these places.
+-- The bytes are the rows of the six tables, one table after the other, where the items stand at these places.
 pub record SpellsTables (s : Five) (p : Program) (at : Places) (rows : List ℕ) : Type 0 where
   pub names : List ℕ
   pub classes : List ℕ
   pub whole : rows ≡ names ++ classes
   pub name_rows : SpellsRows s at.texts (take (length s.protos) at.lists) names
-  pub class_rows : Each (SpellsClassRow s) classes (seated p (drop (length s.protos) at.lists) at.datas at.arrays)
+  pub class_rows : Each (SpellsClassRow s) classes (with_places p (drop (length s.protos) at.lists) at.datas at.arrays)
 
 -- A file of these names and these classes, by a plan, equal items once, no longer than the plain sum.
 pub record Assembled (b : List ℕ) (s : Five) (p : Program) : Type 0 where

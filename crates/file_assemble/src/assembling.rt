@@ -14,7 +14,7 @@ ghost use Rattle.file_assemble.specs.Making.{places_of};
 
 use bumpalo::Bump;
 use dex_base::Fault;
-use file_layout::{Part, Plan, Rows, finish, gap_behind};
+use file_layout::{Part, Plan, Rows, finish, gap_after};
 use file_limits::check_limits;
 use file_needed::needed_names;
 use file_rows::{name_rows, put_classes};
@@ -26,7 +26,7 @@ use tables_names::Ranks;
 /// The file of a program that is well formed, laid out as `Assembled` says: tables of exactly the needed names, type lists, code items,
 /// texts, static values, class data, map. Equal lists, bodies and arrays stand once.
 ///
-/// Refused are programs that break a limit of the format, by the lowest of 80 to 90 that stands, at its place. 255 is want of memory.
+/// Refused are programs that break a limit of the format, by the lowest of 80 to 90 that stands, at its place. 255 is out of memory.
 pub fn assemble(alloc: Global, program: &Program<'_>) -> Result<Vec<u8>, Fault>
     requires kept { WellFormed (view.program program.now) }
     ensures assembled { IfOk result (λ file. Assembled file.items (needed (view.program program.now)) (view.program program.now)) }
@@ -82,7 +82,7 @@ fn counts_of(ranks: &Ranks<'_>, program: &Program<'_>) -> Rows
 /// So many zeros, in the place of the header and the tables of a file, which `finish` of file_layout fills; memory for
 /// so many bytes is asked for at once.
 ///
-/// The only refusal is want of memory.
+/// It fails only when out of memory.
 ///
 /// ```
 /// let mut out = space(alloc, counts.tables_end(), sections.bytes().len())?; // at least the 112 bytes of the header
@@ -96,7 +96,7 @@ pub fn space(alloc: Global, end: u32, bytes: usize) -> Result<Vec<u8>, Fault>
     Ok(out)
 }
 
-/// The data, laid behind header and tables: the plan, and where the items of each part stand.
+/// The data, laid after header and tables: the plan, and where the items of each part stand.
 #[derive(Drop)]
 pub struct Data {
     pub plan: Plan,
@@ -118,7 +118,7 @@ pub fn part(items: u32, begin: u32, end: u32) -> Part
     Part { items, begin, end }
 }
 
-/// The part of so many code items, which stand behind the type lists: it begins at the first of them, behind the bytes that align it.
+/// The part of so many code items, which stand after the type lists: it begins at the first of them, after the bytes that align it.
 ///
 /// ```
 /// let codes = codes_part(placed.items, lists_end, out.len() as u32); // from 4, where the lists end at 2
@@ -127,7 +127,7 @@ pub fn codes_part(items: u32, lists_end: u32, end: u32) -> Part
     requires { lists_end + 3 < 2 ^ 32 }
     ensures { result ≡ record { items = items; begin = lists_end + gap 4 lists_end; end = end } }
 {
-    let padding = gap_behind(lists_end as usize) as u32;
+    let padding = gap_after(lists_end as usize) as u32;
     part(items, lists_end + padding, end)
 }
 

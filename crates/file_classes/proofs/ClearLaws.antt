@@ -7,12 +7,12 @@ use Rattle.dex_container.proofs.Framed.{IsSection-one}
 use Rattle.program_types.specs.Content.{Name, Value}
 use Rattle.tables_rows.specs.Names.{NameIsAt}
 use Rattle.tables_rows.specs.Stands.{NameStands}
-use Rattle.dex_container.specs.Where.{slice}
+use Rattle.dex_container.specs.Where.{slice, IsSectionRest}
 use Rattle.tables_rows.proofs.NameLaws.{stands_names}
 use Rattle.dex_value.specs.Spelling.{SpellsArray}
 use Rattle.dex_value.specs.Standing.{ArrayStands}
-use Rattle.dex_value.specs.Unique.{IsFunctional}
-use Rattle.dex_value.specs.Faults.{IsRest, ArrayBreaksAt}
+use Rattle.dex_value.specs.Unique.{IsFunctionalByType}
+use Rattle.dex_value.specs.Faults.{ArrayBreaksAt}
 use Rattle.dex_value.proofs.Namings.{NameIsAt-functional}
 use Rattle.dex_value.proofs.Places.{outside_none}
 use Rattle.dex_value.proofs.Refusing.{array_none}
@@ -23,19 +23,19 @@ use Rattle.code_read.proofs.StandLaws.{NameIsAt-functional as code_names}
 use Rattle.file_classes.specs.ClassRows.{class_word}
 use Rattle.file_classes.specs.ClassData.{MethodEntry, Entries}
 use Rattle.file_classes.specs.Classes.{SomeCodeStands}
-use Rattle.file_classes.specs.ClassFaults.{ValuesHold, ValuesBreak, SomeBodyStands, BodyHolds, BodyFails, CodeHolds, RegistersFail, EachCodeHolds, SomeCodeFails, MethodsHold, MethodsBreak, BodiesHold, BodiesBreak, RowRegistersHold, RowRegistersBreak}
+use Rattle.file_classes.specs.ClassFaults.{ValuesHold, ValuesBreak, SomeBodyStands, BodyHolds, BodyFails, CodeHolds, RegistersFail, EachCodeHolds, SomeCodeFails, ClassCodesHold, MethodsBreak, BodiesHold, BodiesBreak, RowRegistersHold, RowRegistersBreak}
 use Rattle.file_classes.proofs.EntryLaws.{entries_one, at_some}
 
 -- ---- static values
 
 -- what breaks at an offset is no array
-breaks_none : (N : ℕ → Name → Type 0) → IsFunctional N → (b : List ℕ) → IsFramed b → (off most : ℕ) (e : Fault) (vs : List Value) → ArrayBreaksAt N b off most e → ArrayStands N b off most vs → ⊥
+breaks_none : (N : ℕ → Name → Type 0) → IsFunctionalByType N → (b : List ℕ) → IsFramed b → (off most : ℕ) (e : Fault) (vs : List Value) → ArrayBreaksAt N b off most e → ArrayStands N b off most vs → ⊥
 unfolding slice
 breaks_none N one b framed off most e vs (inl out) a = outside_none N b off most vs out.0 a
 breaks_none N one b framed off most e vs (inr p) a =
     let end = p.0 in
     let rest = p.1 in
-    let is : IsRest b off end rest = p.2 in
+    let is : IsSectionRest 0x2005 b off end rest = p.2 in
     let st = a.stands in
     let same = (IsSection-one b framed 0x2005 st.begin st.end is.begin end st.section is.section).1 in
     let t = takes rest end is.same st.size (let w = st.within in omega (arith, w, same)) in
@@ -48,7 +48,7 @@ pub array_weaker : (M N : ℕ → Name → Type 0) → ((i : ℕ) (which : Name)
 array_weaker M N f b off most vs a =
     let s = a.stands in
     record {
-      stands = record { begin = s.begin; end = s.end; section = s.section; behind = s.behind; aligned = s.aligned; size = s.size; within = s.within; spelled = SpellsArray-weaker M N f _ vs s.spelled };
+      stands = record { begin = s.begin; end = s.end; section = s.section; after = s.after; aligned = s.aligned; size = s.size; within = s.within; spelled = SpellsArray-weaker M N f _ vs s.spelled };
       few = a.few;
       deep = a.deep;
     }
@@ -80,7 +80,7 @@ module _ (b : List ℕ) (framed : IsFramed b) where
     codes_clear : (es : List MethodEntry) (e : Fault) → EachCodeHolds Holds b es → SomeCodeFails Holds Fails b es e → ⊥
     codes_clear es e h m = clear m.numbers.1.1 e (h m.entry m.numbers m.there) m.fails
 
-    both_clear : (i : ℕ) (e : Fault) → MethodsHold Holds b i → MethodsBreak Holds Fails b i e → ⊥
+    both_clear : (i : ℕ) (e : Fault) → ClassCodesHold Holds b i → MethodsBreak Holds Fails b i e → ⊥
     both_clear i e h m =
         let same = entries_one b framed (class_word b i 6) h.entries m.entries h.class_data m.class_data in
         let directs = subst (λ (x : Entries). EachCodeHolds Holds b x.directs) same h.directs in

@@ -6,9 +6,9 @@ use Rattle.dex_container.specs.Frame.{IsFramed}
 use Rattle.dex_container.specs.Layout.{size_of}
 use Rattle.program_types.specs.Content.{Units, Member, Method}
 use Rattle.tables_rows.proofs.NameLaws.{field_one, method_one}
-use Rattle.file_classes.specs.ClassData.{FieldEntry, MethodEntry, Entries, steps, index_of, Runs, IsRun}
+use Rattle.file_classes.specs.ClassData.{FieldEntry, MethodEntry, Entries, steps, index_of, FirstEntriesAre, EntriesAre}
 use Rattle.file_classes.specs.Classes.{IsField, IsMethod}
-use Rattle.file_classes.specs.ClassFaults.{FieldOwner, MethodOwner, EntryHolds, EntryBreaks, MemberIndex, MemberOwner, MemberOrder, EntriesHold, EntriesBreak, FieldEntriesHold, MethodEntriesHold, MembersHold, MembersBreak}
+use Rattle.file_classes.specs.ClassFaults.{FieldOwner, MethodOwner, MemberEntryHolds, EntryBreaks, MemberIndex, MemberOwner, MemberOrder, MemberEntriesHold, EntriesBreak, FieldEntriesHold, MethodEntriesHold, MembersHold, MembersBreak}
 use Rattle.file_classes.specs.Reading.{IsBare}
 use Rattle.file_classes.specs.declared.members.Bare.{Bare}
 use Rattle.file_classes.proofs.EntryLaws.{entry_at}
@@ -16,13 +16,13 @@ use Rattle.file_classes.proofs.EntryLaws.{entry_at}
 -- ---- entries that stand for members of the class hold
 
 module _ {R V : Type 0} (M : ℕ → ℕ × R → V → Type 0) (IsOwner : ℕ → Units → Type 0) (class : Units) (owns : (i : ℕ) (e : ℕ × R) (v : V) → M i e v → IsOwner i class) (es : List (ℕ × R)) where
-  pub run_holds : (n : ℕ) (vs : List V) → n ≤ length es → Runs M es n vs → (k : ℕ) → k < n → EntryHolds IsOwner class (steps es) k
+  pub run_holds : (n : ℕ) (vs : List V) → n ≤ length es → FirstEntriesAre M es n vs → (k : ℕ) → k < n → MemberEntryHolds IsOwner class (steps es) k
   run_holds n vs le run k lt =
       let at = entry_at es k (omega (arith, le, lt)) in
       let to = entry_at vs k (let count = run.count in omega (arith, count, lt)) in
       record { owned = owns (index_of (steps es) k) at.0 to.0 (run.each k at.0 to.0 at.1 to.1); rises = λ some. run.rises k some lt }
 
-  all_hold : (vs : List V) → IsRun M es vs → EntriesHold IsOwner class (steps es)
+  all_hold : (vs : List V) → EntriesAre M es vs → MemberEntriesHold IsOwner class (steps es)
   all_hold vs run k lt = run_holds (length es) vs (omega arith) run k (let all = length-map es (λ (e : ℕ × R). e.0) in omega (arith, all, lt))
 
 module _ (b : List ℕ) (class : Units) where
@@ -36,29 +36,29 @@ module _ (b : List ℕ) (class : Units) where
   bare_owned i e v m = method_owned i e _ m.method
 
   -- the entries so far
-  pub fields_before : (es : List FieldEntry) (n : ℕ) (vs : List Member) → n ≤ length es → Runs (IsField b class) es n vs → (k : ℕ) → k < n → EntryHolds (FieldOwner b) class (steps es) k
+  pub fields_before : (es : List FieldEntry) (n : ℕ) (vs : List Member) → n ≤ length es → FirstEntriesAre (IsField b class) es n vs → (k : ℕ) → k < n → MemberEntryHolds (FieldOwner b) class (steps es) k
   fields_before es n vs = run_holds (IsField b class) (FieldOwner b) class field_owned es n vs
 
-  pub bares_before : (es : List MethodEntry) (n : ℕ) (vs : List Bare) → n ≤ length es → Runs (IsBare b class) es n vs → (k : ℕ) → k < n → EntryHolds (MethodOwner b) class (steps es) k
+  pub bares_before : (es : List MethodEntry) (n : ℕ) (vs : List Bare) → n ≤ length es → FirstEntriesAre (IsBare b class) es n vs → (k : ℕ) → k < n → MemberEntryHolds (MethodOwner b) class (steps es) k
   bares_before es n vs = run_holds (IsBare b class) (MethodOwner b) class bare_owned es n vs
 
   -- all of them
-  pub fields_hold : (es : List FieldEntry) (vs : List Member) → IsRun (IsField b class) es vs → FieldEntriesHold b class es
+  pub fields_hold : (es : List FieldEntry) (vs : List Member) → EntriesAre (IsField b class) es vs → FieldEntriesHold b class es
   fields_hold es vs = all_hold (IsField b class) (FieldOwner b) class field_owned es vs
 
-  pub methods_hold : (es : List MethodEntry) (vs : List Method) → IsRun (IsMethod b class) es vs → MethodEntriesHold b class es
+  pub methods_hold : (es : List MethodEntry) (vs : List Method) → EntriesAre (IsMethod b class) es vs → MethodEntriesHold b class es
   methods_hold es vs = all_hold (IsMethod b class) (MethodOwner b) class method_owned es vs
 
-  pub bares_hold : (es : List MethodEntry) (vs : List Bare) → IsRun (IsBare b class) es vs → MethodEntriesHold b class es
+  pub bares_hold : (es : List MethodEntry) (vs : List Bare) → EntriesAre (IsBare b class) es vs → MethodEntriesHold b class es
   bares_hold es vs = all_hold (IsBare b class) (MethodOwner b) class bare_owned es vs
 
 -- ---- an entry holds, or breaks one rule
 
 module _ (IsOwner : ℕ → Units → Type 0) (size : ℕ) (row : (k : ℕ) (t : Units) → IsOwner k t → k < size) (one : (k : ℕ) (s t : Units) → IsOwner k s → IsOwner k t → s ≡ t) (class : Units) (differences : List ℕ) where
-  entry_clear : (k code : ℕ) → EntryHolds IsOwner class differences k → EntryBreaks IsOwner size class differences k code → ⊥
+  entry_clear : (k code : ℕ) → MemberEntryHolds IsOwner class differences k → EntryBreaks IsOwner size class differences k code → ⊥
   entry_clear k code h (MemberIndex out) = let lt = row (index_of differences k) class h.owned in omega (arith, lt, out)
   entry_clear k code h (MemberOwner f) = f.other (one (index_of differences k) f.owner class f.owned h.owned)
-  entry_clear k code h (MemberOrder r) = let up = h.rises r.behind in let same = r.same in omega (arith, up, same)
+  entry_clear k code h (MemberOrder r) = let up = h.rises r.after in let same = r.same in omega (arith, up, same)
 
   entry_number : (k m n : ℕ) → EntryBreaks IsOwner size class differences k m → EntryBreaks IsOwner size class differences k n → m ≡ n
   entry_number k m n (MemberIndex p) (MemberIndex q) = refl
@@ -71,7 +71,7 @@ module _ (IsOwner : ℕ → Units → Type 0) (size : ℕ) (row : (k : ℕ) (t :
   entry_number k m n (MemberOrder p) (MemberOwner q) = absurd (q.other (one (index_of differences k) q.owner class q.owned p.owned))
   entry_number k m n (MemberOrder p) (MemberOrder q) = refl
 
-  entries_clear : (code : ℕ) → EntriesHold IsOwner class differences → EntriesBreak IsOwner size class differences code → ⊥
+  entries_clear : (code : ℕ) → MemberEntriesHold IsOwner class differences → EntriesBreak IsOwner size class differences code → ⊥
   entries_clear code hold b = entry_clear b.entry code (hold b.entry b.within) b.breaks
 
   -- and of a list the first

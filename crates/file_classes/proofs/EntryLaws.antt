@@ -11,15 +11,15 @@ use Rattle.base_bytes.proofs.Numbers.{spells_unique}
 use Rattle.dex_container.specs.Frame.{IsFramed}
 use Rattle.dex_container.specs.Where.{At}
 use Rattle.dex_container.proofs.Standing.{At-one}
-use Rattle.tables_rows.proofs.RowReading.{slice_get-push}
-use Rattle.file_classes.specs.ClassData.{FieldEntry, MethodEntry, Entries, no_entries, counts_of, lists_of, SpellsField, SpellsMethod, SpellsCounts, SpellsLists, SpellsEntries, EntriesAt, steps, index_of, Runs, IsRun}
+use Rattle.file_classes.specs.ClassData.{FieldEntry, MethodEntry, Entries, no_entries, counts_of, lists_of, SpellsFieldEntry, SpellsMethodEntry, SpellsCounts, SpellsLists, SpellsEntries, EntriesAt, steps, index_of, FirstEntriesAre, EntriesAre}
+use Rattle.base_bytes.proofs.ListFacts.{slice_split}
 
 -- ---- no spelling begins another one
 
-pub field_unique : IsPrefixUnique (SpellsField Spells)
+pub field_unique : IsPrefixUnique (SpellsFieldEntry Spells)
 field_unique = Pair-unique Spells Spells spells_unique spells_unique
 
-pub method_unique : IsPrefixUnique (SpellsMethod Spells)
+pub method_unique : IsPrefixUnique (SpellsMethodEntry Spells)
 method_unique = Pair-unique Spells (Pair Spells Spells) spells_unique field_unique
 
 pub counts_unique : IsPrefixUnique (SpellsCounts Spells)
@@ -27,11 +27,11 @@ counts_unique = Pair-unique Spells (Pair Spells (Pair Spells Spells)) spells_uni
 
 lists_unique : (n : ℕ × (ℕ × (ℕ × ℕ))) → IsPrefixUnique (SpellsLists Spells n)
 lists_unique n =
-    let fields = λ (k : ℕ). Many-unique (SpellsField Spells) k field_unique in
-    let methods = λ (k : ℕ). Many-unique (SpellsMethod Spells) k method_unique in
-    let third = Pair-unique (Many (SpellsMethod Spells) n.1.1.0) (Many (SpellsMethod Spells) n.1.1.1) (methods n.1.1.0) (methods n.1.1.1) in
-    let second = Pair-unique (Many (SpellsField Spells) n.1.0) (Pair (Many (SpellsMethod Spells) n.1.1.0) (Many (SpellsMethod Spells) n.1.1.1)) (fields n.1.0) third in
-    Pair-unique (Many (SpellsField Spells) n.0) (Pair (Many (SpellsField Spells) n.1.0) (Pair (Many (SpellsMethod Spells) n.1.1.0) (Many (SpellsMethod Spells) n.1.1.1))) (fields n.0) second
+    let fields = λ (k : ℕ). Many-unique (SpellsFieldEntry Spells) k field_unique in
+    let methods = λ (k : ℕ). Many-unique (SpellsMethodEntry Spells) k method_unique in
+    let third = Pair-unique (Many (SpellsMethodEntry Spells) n.1.1.0) (Many (SpellsMethodEntry Spells) n.1.1.1) (methods n.1.1.0) (methods n.1.1.1) in
+    let second = Pair-unique (Many (SpellsFieldEntry Spells) n.1.0) (Pair (Many (SpellsMethodEntry Spells) n.1.1.0) (Many (SpellsMethodEntry Spells) n.1.1.1)) (fields n.1.0) third in
+    Pair-unique (Many (SpellsFieldEntry Spells) n.0) (Pair (Many (SpellsFieldEntry Spells) n.1.0) (Pair (Many (SpellsMethodEntry Spells) n.1.1.0) (Many (SpellsMethodEntry Spells) n.1.1.1))) (fields n.0) second
 
 abbrev Whole : Type 0
 Whole = (ℕ × (ℕ × (ℕ × ℕ))) × (List FieldEntry × (List FieldEntry × (List MethodEntry × List MethodEntry)))
@@ -70,13 +70,13 @@ list_same (u ∷ us) [] size alike = absurd (omega (arith, size))
 list_same (u ∷ us) (v ∷ vs) size alike = rw (alike 0 u v refl refl, list_same us vs (omega (arith, size)) (λ i. alike (suc i))) refl
 
 module _ {R V : Type 0} (M : ℕ → ℕ × R → V → Type 0) (es : List (ℕ × R)) where
-  pub runs_none : Runs M es 0 []
+  pub runs_none : FirstEntriesAre M es 0 []
   runs_none = record { count = refl; each = λ k e v p q. absurd cc; rises = λ k some lt. absurd (omega arith) }
 
-  pub runs_more : (n : ℕ) (vs : List V) (e : ℕ × R) (v : V) → Runs M es n vs → slice_get es n ≡ Some e → M (index_of (steps es) n) e v → (0 < n → 0 < slice_index (steps es) n) → Runs M es (n + 1) (vs ++ v ∷ [])
+  pub runs_more : (n : ℕ) (vs : List V) (e : ℕ × R) (v : V) → FirstEntriesAre M es n vs → slice_get es n ≡ Some e → M (index_of (steps es) n) e v → (0 < n → 0 < slice_index (steps es) n) → FirstEntriesAre M es (n + 1) (vs ++ v ∷ [])
   runs_more n vs e v runs there stands up = record {
     count = length_push vs v ∙ ap (λ k. k + 1) runs.count;
-    each = λ k d w p q. elim (slice_get-push vs v w k q) [
+    each = λ k d w p q. elim (slice_split vs v w k q) [
       | inl at ↦ runs.each k d w p at
       | inr is ↦
           let same : n ≡ k = sym (is.0 ∙ runs.count) in
@@ -91,7 +91,7 @@ module _ {R V : Type 0} (M : ℕ → ℕ × R → V → Type 0) (es : List (ℕ 
   }
 
   -- what the entries stand for is one list
-  pub run_one : ((k : ℕ) (e : ℕ × R) (v w : V) → M k e v → M k e w → v ≡ w) → (vs ws : List V) → IsRun M es vs → IsRun M es ws → vs ≡ ws
+  pub run_one : ((k : ℕ) (e : ℕ × R) (v w : V) → M k e v → M k e w → v ≡ w) → (vs ws : List V) → EntriesAre M es vs → EntriesAre M es ws → vs ≡ ws
   run_one one vs ws p q =
       list_same vs ws (p.count ∙ sym q.count)
       (λ i v w x y. let at = entry_at es i (let n = p.count in let l = slice_get_within vs i v x in omega (arith, n, l)) in one (index_of (steps es) i) at.0 v w (p.each i at.0 v at.1 x) (q.each i at.0 w at.1 y))

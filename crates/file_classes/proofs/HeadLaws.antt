@@ -12,7 +12,7 @@ use Rattle.program_types.specs.declared.names.Desc.{Desc}
 use Rattle.tables_rows.specs.Names.{AreRows}
 use Rattle.tables_rows.specs.Stands.{TypesAt}
 use Rattle.tables_rows.proofs.TypeLists.{types_one}
-use Rattle.file_classes.specs.Classes.{AreDistinct, InterfacesAt}
+use Rattle.file_classes.specs.Classes.{NoTypeTwice, InterfacesAt}
 use Rattle.file_classes.specs.Reading.{IsNotAmong}
 use Rattle.file_classes.specs.ClassRows.{class_word, NoneDefines, InterfaceIndexes}
 use Rattle.tables_rows.specs.Halves.{halves}
@@ -58,7 +58,7 @@ not_among_more ts i n s t before at_i at_n differ j u lt at_j here = elim (cases
 pub among : (ts : List Units) (i n : ℕ) (s t : Units) → i < n → slice_get ts i ≡ Some s → slice_get ts n ≡ Some t → s ≡ t → IsNotAmong ts n n → ⊥
 among ts i n s t lt at_i at_n same none = none i t lt (at_i ∙ ap Some same) at_n
 
-pub distinct_from : (ts : List Units) (n : ℕ) → length ts ≤ n → ((k : ℕ) → k < n → IsNotAmong ts k k) → AreDistinct ts
+pub distinct_from : (ts : List Units) (n : ℕ) → length ts ≤ n → ((k : ℕ) → k < n → IsNotAmong ts k k) → NoTypeTwice ts
 distinct_from ts n all new j k t at_j at_k =
     let wj = slice_get_within ts j t at_j in
     let wk = slice_get_within ts k t at_k in
@@ -70,15 +70,15 @@ distinct_from ts n all new j k t at_j at_k =
       ]
     ]
 
-pub distinct_new : (ts : List Units) (n : ℕ) → AreDistinct ts → IsNotAmong ts n n
+pub distinct_new : (ts : List Units) (n : ℕ) → NoTypeTwice ts → IsNotAmong ts n n
 distinct_new ts n distinct j t lt at_j at_n = let e = distinct j n t at_j at_n in absurd (omega arith)
 
 module _ (b : List ℕ) (framed : IsFramed b) (off : ℕ) (here : List Units) (types : TypesAt b off here) where
   pub no_classes : (AllByRecursion IsClass here → ⊥) → (ts : List Units) → InterfacesAt b off ts → ⊥
   no_classes not ts at = not (subst (λ (x : List Units). AllByRecursion IsClass x) (types_one b off ts here framed at.types types) at.classes)
 
-  pub not_distinct : (AreDistinct here → ⊥) → (ts : List Units) → InterfacesAt b off ts → ⊥
-  not_distinct not ts at = not (subst (λ (x : List Units). AreDistinct x) (types_one b off ts here framed at.types types) at.distinct)
+  pub not_distinct : (NoTypeTwice here → ⊥) → (ts : List Units) → InterfacesAt b off ts → ⊥
+  not_distinct not ts at = not (subst (λ (x : List Units). NoTypeTwice x) (types_one b off ts here framed at.types types) at.distinct)
 
 -- ---- order
 

@@ -16,21 +16,8 @@ use Rattle.program_types.specs.Content.{Name, Value}
 use Rattle.dex_value.specs.Standing.{ArrayStands}
 use Rattle.dex_value.specs.Faults.{ArrayBreaksAt}
 use Rattle.dex_value.proofs.Places.{SpellsArray-least}
-
-some_same : {V : Type 0} (a b : V) → Some a ≡ Some b → a ≡ b
-some_same a b e = cc
-
--- nothing is kept yet
-pub kept_none : {V S : Type 0} (Stands : ℕ → V → Type 0) (m : IndexMap ℕ V S) → IsEmpty m → AreKept Stands m
-kept_none Stands m e off v at = absurd (none-some v (sym (ap (lookup (nat_eq off)) e) ∙ at))
-
--- one more value
-pub kept_more : {V S : Type 0} (Stands : ℕ → V → Type 0) (m n : IndexMap ℕ V S) (off : ℕ) (v : V) → AreKept Stands m → Stands off v → Updates nat_eq m n off (Some v) → AreKept Stands n
-kept_more {V} Stands m n off v kept stands u other w at = by (eqb off other) refl (sym (u.0 other) ∙ at)
-  where
-    by : (t : Bool) → eqb off other ≡ t → cond t (Some v) (get nat_eq m other) ≡ Some w → Stands other w
-    by true t e = subst (λ (k : ℕ). Stands k w) (eqb-true off other t) (subst (λ (x : V). Stands off x) (some_same v w e) stands)
-    by false t e = kept other w e
+use Rattle.tables_rows.proofs.KeptLaws.{kept_more, kept_none}
+use Rattle.base_bytes.proofs.ListFacts.{some_inj}
 
 -- ---- arrays that are used again
 
@@ -52,11 +39,11 @@ array_above N b off most m vs a above =
     inr (
       s.end,
       rest,
-      record { begin = s.begin; section = s.section; behind = s.behind; before = omega (arith, l, t, w); same = refl },
-      inr (inl (record { n = length vs; behind = s.spelled.back ++ drop s.size rest; counted = record { front = s.spelled.front; whole = whole; spelled = s.spelled.first }; above = above }, refl)),
+      record { begin = s.begin; section = s.section; after = s.after; before = omega (arith, l, t, w); same = refl },
+      inr (inl (record { n = length vs; after = s.spelled.back ++ drop s.size rest; counted = record { front = s.spelled.front; whole = whole; spelled = s.spelled.first }; above = above }, refl)),
     )
 
--- ---- want of memory
+-- ---- out of memory
 
 pub refused : {T : Type 0} (r : Result T Fault) (P : Fault → Type 0) → IsErrAnd r (λ x. x ≡ memory) → IfErr r (λ e. e ≢ memory → P e)
 refused (Ok x) P h = tt

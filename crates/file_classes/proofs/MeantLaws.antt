@@ -3,7 +3,7 @@ use Rattle.std.proofs.Common.{◌≡◌, ◌∙◌, ℕ, zero, suc, ◌<◌, Lis
 use Rattle.dex_container.specs.Frame.{IsFramed}
 use Rattle.program_types.specs.Content.{Units, Code, Method, Class}
 use Rattle.file_classes.specs.ClassRows.{class_word}
-use Rattle.file_classes.specs.ClassData.{MethodEntry, Entries, steps, index_of, IsRun}
+use Rattle.file_classes.specs.ClassData.{MethodEntry, Entries, steps, index_of, EntriesAre}
 use Rattle.file_classes.specs.Classes.{IsMethod, StaticsAt, CodeAt, CodesAre, SpellsClass}
 use Rattle.file_classes.specs.ClassFaults.{ClassRowHolds, ValuesHold, CodeHolds, EachCodeHolds, RowRegistersHold}
 use Rattle.file_classes.proofs.EntryLaws.{entry_at, entries_one}
@@ -24,7 +24,7 @@ module _ (b : List ℕ) (framed : IsFramed b) where
   abbrev IsWhole : Units → List MethodEntry → ℕ → Method → Type 0
   IsWhole class es k v = (e : MethodEntry) → slice_get es k ≡ Some e → IsMethod b class (index_of (steps es) k) e v × CodeAt b e.1.1 v.code
 
-  with_codes : (class : Units) (es : List MethodEntry) (ms : List Method) → IsRun (IsMethod b class) es ms → EachCodeHolds CodeHolds b es → (vs : List Method) × IsRun (IsMethod b class) es vs × CodesAre b es vs
+  with_codes : (class : Units) (es : List MethodEntry) (ms : List Method) → EntriesAre (IsMethod b class) es ms → EachCodeHolds CodeHolds b es → (vs : List Method) × EntriesAre (IsMethod b class) es vs × CodesAre b es vs
   with_codes class es ms run hold =
       let built = build (IsWhole class es) (length es) one in
       (built.0, record { count = built.1; each = (λ k e v at_e at_v. (built.2 k v at_v e at_e).0); rises = run.rises }, λ k e v at_e at_v. (built.2 k v at_v e at_e).1)

@@ -7,12 +7,12 @@ use Rattle.std.proofs.lemmas.Option.{slice_get-get_or, slice_get-map, slice_get_
 use Rattle.base_bytes.specs.declared.fault.Fault.{Fault}
 use Rattle.program_types.specs.Content.{Units, FieldRef}
 use Rattle.tables_rows.specs.Stands.{TypeStands, FieldStands, MethodStands}
-use Rattle.file_classes.specs.ClassData.{FieldEntry, MethodEntry, Entries, EntriesAt, steps, index_of, Runs, IsRun}
+use Rattle.file_classes.specs.ClassData.{FieldEntry, MethodEntry, Entries, EntriesAt, steps, index_of, FirstEntriesAre, EntriesAre}
 use Rattle.program_types.specs.Content.{Method}
 use Rattle.tables_rows.specs.RowFields.{row_place}
 use Rattle.tables_rows.specs.TableFaults.{BreaksAt}
 use Rattle.file_classes.specs.ClassRows.{class_word}
-use Rattle.file_classes.specs.ClassFaults.{HasHead, EntryHolds, IsForeign, EntryBreaks, MemberIndex, MemberOwner, MemberOrder, ClassRowBreaks, Member}
+use Rattle.file_classes.specs.ClassFaults.{HasHead, MemberEntryHolds, IsForeign, EntryBreaks, MemberIndex, MemberOwner, MemberOrder, ClassRowBreaks, Member}
 use Rattle.file_classes.proofs.EntryLaws.{entry_at}
 use Rattle.file_classes.specs.Reading.{bare, HaveCodes, IsBare, IndexBreaks, IndexIsOut, IndexIsForeign, IndexFails, EntriesFail, MembersFail}
 use Rattle.file_classes.specs.declared.members.Bare.{Bare}
@@ -54,7 +54,7 @@ module _ {E R : Type 0} (view : E → ℕ × R) where
     inside = let n = all in omega (arith, n, lt)
 
     module _ (IsOwner : ℕ → Units → Type 0) (size : ℕ) (class : Units) (index place : ℕ) (is : index ≡ index_of (steps (map view es)) k)
-        (before : (j : ℕ) → j < k → EntryHolds IsOwner class (steps (map view es)) j) where
+        (before : (j : ℕ) → j < k → MemberEntryHolds IsOwner class (steps (map view es)) j) where
       -- a fault of the row at the next index is one of the list
       pub index_fails : (e : Fault) → IndexFails IsOwner size class index place e → EntriesFail IsOwner size class (steps (map view es)) place e
       index_fails e f = record {
@@ -62,13 +62,13 @@ module _ {E R : Type 0} (view : E → ℕ × R) where
         there = f.there;
       }
 
-      -- a difference of 0 behind another entry is one
+      -- a difference of 0 after another entry is one
       pub step_fails : IsOwner index class → 0 < k → (view (get_or es k d)).0 ≡ 0 → EntriesFail IsOwner size class (steps (map view es)) place (record { code = 47; place = place })
       step_fails owned some zero_step = record {
         breaks = record {
           entry = k;
           within = inside;
-          breaks = MemberOrder (record { owned = subst (λ (i : ℕ). IsOwner i class) is owned; behind = some; same = step_at es k d lt ∙ zero_step });
+          breaks = MemberOrder (record { owned = subst (λ (i : ℕ). IsOwner i class) is owned; after = some; same = step_at es k d lt ∙ zero_step });
           before = before;
         };
         there = refl;
@@ -94,8 +94,8 @@ bare_stands b index i m class e is of flags code s = record {
 }
 
 -- all entries are read
-pub all_run : {R V : Type 0} (M : ℕ → ℕ × R → V → Type 0) (es : List (ℕ × R)) (n : ℕ) (vs : List V) → n ≡ length es → Runs M es n vs → Runs M es (length es) vs
-all_run M es n vs e r = subst (λ (k : ℕ). Runs M es k vs) e r
+pub all_run : {R V : Type 0} (M : ℕ → ℕ × R → V → Type 0) (es : List (ℕ × R)) (n : ℕ) (vs : List V) → n ≡ length es → FirstEntriesAre M es n vs → FirstEntriesAre M es (length es) vs
+all_run M es n vs e r = subst (λ (k : ℕ). FirstEntriesAre M es k vs) e r
 
 -- ---- the members of a row
 
@@ -107,7 +107,7 @@ member_breaks b i e class fault head order at fails = record {
 }
 
 -- methods before their code: as methods, and where the code stands
-pub bares_run : (b : List ℕ) (class : Units) (es : List MethodEntry) (ms : List Bare) → IsRun (IsBare b class) es ms → IsRun (IsMethod b class) es (map bare ms)
+pub bares_run : (b : List ℕ) (class : Units) (es : List MethodEntry) (ms : List Bare) → EntriesAre (IsBare b class) es ms → EntriesAre (IsMethod b class) es (map bare ms)
 bares_run b class es ms run = record {
   count = length-map ms bare ∙ run.count;
   each = λ k e v at_e at_v.
@@ -118,17 +118,17 @@ bares_run b class es ms run = record {
   rises = run.rises;
 }
 
-pub bares_codes : (b : List ℕ) (class : Units) (es : List MethodEntry) (ms : List Bare) → IsRun (IsBare b class) es ms → HaveCodes es ms
+pub bares_codes : (b : List ℕ) (class : Units) (es : List MethodEntry) (ms : List Bare) → EntriesAre (IsBare b class) es ms → HaveCodes es ms
 bares_codes b class es ms run = λ k e m at_e at_m. (run.each k e m at_e at_m).code
 
 -- ---- the head of a row
 
 -- the members of a head in memory
 pub record HeadMembers (b : List ℕ) (e : Entries) (h : Head) : Type 0 where
-  pub statics : IsRun (IsField b (desc h.ty)) e.statics (map member h.statics.now)
-  pub instances : IsRun (IsField b (desc h.ty)) e.instances (map member h.instances.now)
-  pub directs : IsRun (IsBare b (desc h.ty)) e.directs h.directs.now
-  pub virtuals : IsRun (IsBare b (desc h.ty)) e.virtuals h.virtuals.now
+  pub statics : EntriesAre (IsField b (desc h.ty)) e.statics (map member h.statics.now)
+  pub instances : EntriesAre (IsField b (desc h.ty)) e.instances (map member h.instances.now)
+  pub directs : EntriesAre (IsBare b (desc h.ty)) e.directs h.directs.now
+  pub virtuals : EntriesAre (IsBare b (desc h.ty)) e.virtuals h.virtuals.now
 
 module _ (b : List ℕ) (i : ℕ) (e : Entries) (h : Head) (row : RowIs b i (desc h.ty) h.flags (option_map desc h.superclass) (option_map str h.source)) (interfaces : InterfacesAt b (class_word b i 3) (map desc h.interfaces.now))
     (class_data : EntriesAt b (class_word b i 6) e) (members : HeadMembers b e h) where

@@ -22,16 +22,16 @@ use Rattle.code_read.specs.Faults.{RegistersBreak as Overrun}
 use Rattle.code_read.proofs.CarryLaws.{body_weaker}
 use Rattle.code_read.proofs.CodeLaws.{body_one}
 use Rattle.code_read.proofs.StandLaws.{code_body, body_code}
-use Rattle.tables_rows.proofs.RowReading.{slice_get-push}
-use Rattle.file_classes.specs.ClassData.{MethodEntry, Entries, steps, index_of, IsRun}
+use Rattle.file_classes.specs.ClassData.{MethodEntry, Entries, steps, index_of, EntriesAre}
 use Rattle.file_classes.specs.ClassRows.{class_word}
 use Rattle.file_classes.specs.Classes.{IsMethod, StaticsAt, CodeAt, SomeCodeStands, SpellsClass}
-use Rattle.file_classes.specs.ClassFaults.{ValuesStand, SomeBodyStands, BodyAt, BodyHolds, BodyFails, CodeHolds, RegistersFail, EachCodeHolds, SomeCodeFails, MethodsHold, MethodsBreak, BodiesHold, RowRegistersHold, RowRegistersBreak}
-use Rattle.file_classes.specs.Reading.{bare, head, HaveCodes, IsHead, IsDone, AreDone, BaresHold, BaresBreak, BaresUpTo, RowsUpTo, BodiesAre, SpellsBodies}
+use Rattle.file_classes.specs.ClassFaults.{ValuesStand, SomeBodyStands, BodyAt, BodyHolds, BodyFails, CodeHolds, RegistersFail, EachCodeHolds, SomeCodeFails, ClassCodesHold, MethodsBreak, BodiesHold, RowRegistersHold, RowRegistersBreak}
+use Rattle.file_classes.specs.Reading.{bare, head, HaveCodes, IsHead, IsDone, AreDone, CodesHoldUpTo, FirstCodeBreaks, CodesUpTo, RowsUpTo, BodiesAre, SpellsBodies}
 use Rattle.file_classes.specs.declared.members.Bare.{Bare}
 use Rattle.file_classes.specs.declared.heads.Head.{Head}
 use Rattle.file_classes.proofs.EntryLaws.{entry_at, entries_one}
 use Rattle.file_classes.proofs.OnceLaws.{one_of_kind}
+use Rattle.base_bytes.proofs.ListFacts.{slice_split}
 
 module _ (b : List ℕ) (ms : List Bare) where
   pub done_none : AreDone b ms 0 []
@@ -40,7 +40,7 @@ module _ (b : List ℕ) (ms : List Bare) where
   pub done_more : (n : ℕ) (vs : List Method) (m : Bare) (v : Method) → AreDone b ms n vs → slice_get ms n ≡ Some m → IsDone b m v → AreDone b ms (n + 1) (vs ++ v ∷ [])
   done_more n vs m v done there is = record {
     count = length_push vs v ∙ ap (λ k. k + 1) done.count;
-    each = λ k x w p q. elim (slice_get-push vs v w k q) [
+    each = λ k x w p q. elim (slice_split vs v w k q) [
       | inl at ↦ done.each k x w p at
       | inr e ↦
           let same : n ≡ k = sym (e.0 ∙ done.count) in
@@ -56,7 +56,7 @@ module _ (b : List ℕ) (ms : List Bare) where
     ];
   }
 
-  pub done_breaks : (n : ℕ) (vs : List Method) (m : Bare) (e : Fault) → AreDone b ms n vs → slice_get ms n ≡ Some m → BodyFails b m.code e → BaresBreak BodyHolds BodyFails b ms e
+  pub done_breaks : (n : ℕ) (vs : List Method) (m : Bare) (e : Fault) → AreDone b ms n vs → slice_get ms n ≡ Some m → BodyFails b m.code e → FirstCodeBreaks BodyHolds BodyFails b ms e
   done_breaks n vs m e done there fails = record { entry = n; one = m; there = there; fails = fails; before = λ k x lt p. done.hold k x lt p }
 
   module _ (es : List MethodEntry) (codes : HaveCodes es ms) (size : length ms ≡ length es) where
@@ -77,7 +77,7 @@ module _ (b : List ℕ) (ms : List Bare) where
           let m = other k e at_e in
           subst (λ (n : ℕ). Holds b n) (codes k e m.0 at_e m.1) (all k m.0 (slice_get_within ms k m.0 m.1) m.1)
 
-      pub codes_break : (Fails : List ℕ → ℕ → Fault → Type 0) (e : Fault) → BaresBreak Holds Fails b ms e → SomeCodeFails Holds Fails b es e
+      pub codes_break : (Fails : List ℕ → ℕ → Fault → Type 0) (e : Fault) → FirstCodeBreaks Holds Fails b ms e → SomeCodeFails Holds Fails b es e
       codes_break Fails e f =
           let x = same f.entry f.one f.there in
           record {
@@ -91,7 +91,7 @@ module _ (b : List ℕ) (ms : List Bare) where
     pub done_hold : (vs : List Method) → AreDone b ms (length ms) vs → EachCodeHolds BodyHolds b es
     done_hold vs done = bares_hold BodyHolds (λ k m lt at. done.hold k m lt at)
 
-    pub done_run : (class : Units) (vs : List Method) → IsRun (IsMethod b class) es (map bare ms) → AreDone b ms (length ms) vs → IsRun (IsMethod b class) es vs
+    pub done_run : (class : Units) (vs : List Method) → EntriesAre (IsMethod b class) es (map bare ms) → AreDone b ms (length ms) vs → EntriesAre (IsMethod b class) es vs
     done_run class vs run done = record {
       count = done.count ∙ size;
       each = λ k e v at_e at_v.
@@ -114,14 +114,14 @@ module _ (b : List ℕ) (framed : IsFramed b) (i : ℕ) (h : Head) (is : IsHead 
   virtual_count = sym (length-map h.virtuals.now bare) ∙ is.head.members.virtuals.count
 
   module _ (Holds : List ℕ → ℕ → Type 0) (Fails : List ℕ → ℕ → Fault → Type 0) where
-    pub directs_break : (e : Fault) → BaresBreak Holds Fails b h.directs.now e → MethodsBreak Holds Fails b i e
+    pub directs_break : (e : Fault) → FirstCodeBreaks Holds Fails b h.directs.now e → MethodsBreak Holds Fails b i e
     directs_break e f = record {
       entries = is.entries;
       class_data = is.head.class_data;
       breaks = inl (codes_break b h.directs.now is.entries.directs is.directs direct_count Holds Fails e f);
     }
 
-    pub virtuals_break : (e : Fault) → ((k : ℕ) (m : Bare) → k < length h.directs.now → slice_get h.directs.now k ≡ Some m → Holds b m.code) → BaresBreak Holds Fails b h.virtuals.now e → MethodsBreak Holds Fails b i e
+    pub virtuals_break : (e : Fault) → ((k : ℕ) (m : Bare) → k < length h.directs.now → slice_get h.directs.now k ≡ Some m → Holds b m.code) → FirstCodeBreaks Holds Fails b h.virtuals.now e → MethodsBreak Holds Fails b i e
     virtuals_break e all f = record {
       entries = is.entries;
       class_data = is.head.class_data;
@@ -129,7 +129,7 @@ module _ (b : List ℕ) (framed : IsFramed b) (i : ℕ) (h : Head) (is : IsHead 
     }
 
   pub all_hold : (Holds : List ℕ → ℕ → Type 0) → ((k : ℕ) (m : Bare) → k < length h.directs.now → slice_get h.directs.now k ≡ Some m → Holds b m.code)
-      → ((k : ℕ) (m : Bare) → k < length h.virtuals.now → slice_get h.virtuals.now k ≡ Some m → Holds b m.code) → MethodsHold Holds b i
+      → ((k : ℕ) (m : Bare) → k < length h.virtuals.now → slice_get h.virtuals.now k ≡ Some m → Holds b m.code) → ClassCodesHold Holds b i
   all_hold Holds d v = record {
     entries = is.entries;
     class_data = is.head.class_data;
@@ -163,11 +163,11 @@ module _ (b : List ℕ) (framed : IsFramed b) (i : ℕ) (h : Head) (is : IsHead 
 
 -- what the class keeps of the first fault of its registers: that of its direct methods, else that of its virtual ones
 module _ (b : List ℕ) (framed : IsFramed b) (i : ℕ) (h : Head) (is : IsHead b i h) where
-  pub class_kept : (d v r : Option Fault) → BaresUpTo CodeHolds RegistersFail b h.directs.now (length h.directs.now) d → BaresUpTo CodeHolds RegistersFail b h.virtuals.now (length h.virtuals.now) v
+  pub class_kept : (d v r : Option Fault) → CodesUpTo CodeHolds RegistersFail b h.directs.now (length h.directs.now) d → CodesUpTo CodeHolds RegistersFail b h.virtuals.now (length h.virtuals.now) v
       → IfSome d (λ e. r ≡ Some e) → IfNone d (r ≡ v) → IfNone r (RowRegistersHold b i) × IfSome r (RowRegistersBreak b i)
   class_kept None v r direct virtual kept next = subst (λ (o : Option Fault). IfNone o (RowRegistersHold b i) × IfSome o (RowRegistersBreak b i)) (sym next) (last v virtual.none virtual.some)
     where
-      last : (o : Option Fault) → IfNone o ((k : ℕ) (m : Bare) → k < length h.virtuals.now → slice_get h.virtuals.now k ≡ Some m → CodeHolds b m.code) → IfSome o (BaresBreak CodeHolds RegistersFail b h.virtuals.now) → IfNone o (RowRegistersHold b i) × IfSome o (RowRegistersBreak b i)
+      last : (o : Option Fault) → IfNone o ((k : ℕ) (m : Bare) → k < length h.virtuals.now → slice_get h.virtuals.now k ≡ Some m → CodeHolds b m.code) → IfSome o (FirstCodeBreaks CodeHolds RegistersFail b h.virtuals.now) → IfNone o (RowRegistersHold b i) × IfSome o (RowRegistersBreak b i)
       last None n s = (all_hold b framed i h is CodeHolds direct.none n, tt)
       last (Some e) n s = (tt, virtuals_break b framed i h is CodeHolds RegistersFail e direct.none s)
   class_kept (Some e) v r direct virtual kept next = subst (λ (o : Option Fault). IfNone o (RowRegistersHold b i) × IfSome o (RowRegistersBreak b i)) (sym kept) (tt, directs_break b framed i h is CodeHolds RegistersFail e direct.some)
@@ -212,22 +212,22 @@ done_at b ms n vs m code done lt is at =
     done_more b ms n vs m _ done (slice_get-get_or ms n no_bare lt ∙ ap (λ (x : Bare). Some x) (sym is)) (record { name = refl; proto = refl; flags = refl; code = at })
 
 -- the first of the methods whose body doesn't stand
-pub breaks_at : (b : List ℕ) (ms : List Bare) (n : ℕ) (vs : List Method) (m : Bare) (e : Fault) → AreDone b ms n vs → n < length ms → m ≡ get_or ms n no_bare → BodyFails b m.code e → BaresBreak BodyHolds BodyFails b ms e
+pub breaks_at : (b : List ℕ) (ms : List Bare) (n : ℕ) (vs : List Method) (m : Bare) (e : Fault) → AreDone b ms n vs → n < length ms → m ≡ get_or ms n no_bare → BodyFails b m.code e → FirstCodeBreaks BodyHolds BodyFails b ms e
 breaks_at b ms n vs m e done lt is fails = done_breaks b ms n vs m e done (slice_get-get_or ms n no_bare lt ∙ ap (λ (x : Bare). Some x) (sym is)) fails
 
 -- one more method, whose registers hold or are the first that don't
 module _ (b : List ℕ) (ms : List Bare) where
-  pub up_none : BaresUpTo CodeHolds RegistersFail b ms 0 None
+  pub up_none : CodesUpTo CodeHolds RegistersFail b ms 0 None
   up_none = record { none = λ k m lt. absurd (omega (arith, lt)); some = tt }
 
   -- where there is a fault already, it stays
-  pub up_same : (n : ℕ) (e : Fault) → BaresUpTo CodeHolds RegistersFail b ms n (Some e) → BaresUpTo CodeHolds RegistersFail b ms (n + 1) (Some e)
+  pub up_same : (n : ℕ) (e : Fault) → CodesUpTo CodeHolds RegistersFail b ms n (Some e) → CodesUpTo CodeHolds RegistersFail b ms (n + 1) (Some e)
   up_same n e u = record { none = tt; some = u.some }
 
   bare_there : (n : ℕ) (m : Bare) → n < length ms → m ≡ get_or ms n no_bare → slice_get ms n ≡ Some m
   bare_there n m lt is = slice_get-get_or ms n no_bare lt ∙ ap (λ (x : Bare). Some x) (sym is)
 
-  pub bares_more : (Holds : List ℕ → ℕ → Type 0) (n : ℕ) (m : Bare) → n < length ms → m ≡ get_or ms n no_bare → BaresHold Holds b ms n → Holds b m.code → BaresHold Holds b ms (n + 1)
+  pub bares_more : (Holds : List ℕ → ℕ → Type 0) (n : ℕ) (m : Bare) → n < length ms → m ≡ get_or ms n no_bare → CodesHoldUpTo Holds b ms n → Holds b m.code → CodesHoldUpTo Holds b ms (n + 1)
   bares_more Holds n m lt is all h k x l at = elim (cases_lt k n) [
     | inl before ↦ all k x before at
     | inr ge ↦
@@ -236,18 +236,18 @@ module _ (b : List ℕ) (ms : List Bare) where
         subst (λ (y : Bare). Holds b y.code) x_is h
   ]
 
-  pub bares_break : (Holds : List ℕ → ℕ → Type 0) (Fails : List ℕ → ℕ → Fault → Type 0) (n : ℕ) (m : Bare) (e : Fault) → n < length ms → m ≡ get_or ms n no_bare → BaresHold Holds b ms n → Fails b m.code e → BaresBreak Holds Fails b ms e
+  pub bares_break : (Holds : List ℕ → ℕ → Type 0) (Fails : List ℕ → ℕ → Fault → Type 0) (n : ℕ) (m : Bare) (e : Fault) → n < length ms → m ≡ get_or ms n no_bare → CodesHoldUpTo Holds b ms n → Fails b m.code e → FirstCodeBreaks Holds Fails b ms e
   bares_break Holds Fails n m e lt is all fails = record { entry = n; one = m; there = bare_there n m lt is; fails = fails; before = λ k x l at. all k x l at }
 
-  pub up_more : (n : ℕ) (m : Bare) (o : Option Fault) → n < length ms → m ≡ get_or ms n no_bare → BaresUpTo CodeHolds RegistersFail b ms n None → IfNone o (CodeHolds b m.code) → IfSome o (RegistersFail b m.code) → BaresUpTo CodeHolds RegistersFail b ms (n + 1) o
+  pub up_more : (n : ℕ) (m : Bare) (o : Option Fault) → n < length ms → m ≡ get_or ms n no_bare → CodesUpTo CodeHolds RegistersFail b ms n None → IfNone o (CodeHolds b m.code) → IfSome o (RegistersFail b m.code) → CodesUpTo CodeHolds RegistersFail b ms (n + 1) o
   up_more n m None lt is u h f = record { none = bares_more CodeHolds n m lt is u.none h; some = tt }
   up_more n m (Some e) lt is u h f = record { none = tt; some = bares_break CodeHolds RegistersFail n m e lt is u.none f }
 
   -- the first of both is kept
-  pub up_turn : (n : ℕ) (m : Bare) (o next r : Option Fault) → IfSome o (λ e. r ≡ Some e) → IfNone o (r ≡ next) → n < length ms → m ≡ get_or ms n no_bare → BaresUpTo CodeHolds RegistersFail b ms n o
-      → IfNone next (CodeHolds b m.code) → IfSome next (RegistersFail b m.code) → BaresUpTo CodeHolds RegistersFail b ms (n + 1) r
-  up_turn n m None next r kept is lt at u h f = subst (λ (x : Option Fault). BaresUpTo CodeHolds RegistersFail b ms (n + 1) x) (sym is) (up_more n m next lt at u h f)
-  up_turn n m (Some e) next r kept is lt at u h f = subst (λ (x : Option Fault). BaresUpTo CodeHolds RegistersFail b ms (n + 1) x) (sym kept) (up_same n e u)
+  pub up_turn : (n : ℕ) (m : Bare) (o next r : Option Fault) → IfSome o (λ e. r ≡ Some e) → IfNone o (r ≡ next) → n < length ms → m ≡ get_or ms n no_bare → CodesUpTo CodeHolds RegistersFail b ms n o
+      → IfNone next (CodeHolds b m.code) → IfSome next (RegistersFail b m.code) → CodesUpTo CodeHolds RegistersFail b ms (n + 1) r
+  up_turn n m None next r kept is lt at u h f = subst (λ (x : Option Fault). CodesUpTo CodeHolds RegistersFail b ms (n + 1) x) (sym is) (up_more n m next lt at u h f)
+  up_turn n m (Some e) next r kept is lt at u h f = subst (λ (x : Option Fault). CodesUpTo CodeHolds RegistersFail b ms (n + 1) x) (sym kept) (up_same n e u)
 
 -- the body at an offset stands by the names that the file has
 module _ (b : List ℕ) (names : Names) (are : AreNamesOf b names) (off : ℕ) (code : Code) (some : off ≢ 0) (stands : BodyStands (NameIsAt names) b off code) where

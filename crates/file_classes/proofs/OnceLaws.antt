@@ -11,23 +11,16 @@ use Rattle.tables_rows.proofs.TypeLists.{type_one, types_one}
 use Rattle.tables_rows.proofs.NameLaws.{field_one, method_one}
 use Rattle.dex_value.specs.Spelling.{SpellsArray}
 use Rattle.dex_value.specs.Standing.{ArrayStands}
-use Rattle.dex_value.specs.Unique.{IsFunctional}
+use Rattle.dex_value.specs.Unique.{IsFunctionalByType}
 use Rattle.dex_insn.specs.declared.opcode.IndexKind.TheVariants as kind
 use Rattle.code_insns.specs.Symbols as code
 use Rattle.dex_value.proofs.FrontLaws.{SpellsArray-unique}
 use Rattle.code_read.proofs.CodeLaws.{code_one}
 use Rattle.file_classes.specs.ClassRows.{class_word, IndexOrNone}
-use Rattle.file_classes.specs.ClassData.{FieldEntry, MethodEntry, Entries, steps, index_of, IsRun}
+use Rattle.file_classes.specs.ClassData.{FieldEntry, MethodEntry, Entries, steps, index_of, EntriesAre}
 use Rattle.file_classes.specs.Classes.{IsField, IsMethod, StaticsAt, CodeAt, SomeCodeStands, CodesAre, SpellsClass}
 use Rattle.file_classes.proofs.EntryLaws.{entries_one, entry_at, list_same, run_one}
-
--- an index stands for one name of a kind
-stands_functional : (b : List ℕ) → IsFramed b → IsFunctional (NameStands b)
-stands_functional b framed i (OfText m) (OfText n) e p q = ap OfText (string_one b i m n framed p q)
-stands_functional b framed i (OfDesc m) (OfDesc n) e p q = ap OfDesc (type_one b i m n framed p q)
-stands_functional b framed i (OfField m) (OfField n) e p q = ap OfField (field_one b framed i m n p q)
-stands_functional b framed i (OfMethod m) (OfMethod n) e p q = ap OfMethod (method_one b framed i m n p q)
-stands_functional b framed i _ _ e p q = absurd (omega arith)
+use Rattle.dex_value.proofs.Carrying.{NameStands-functional}
 
 -- and so it does of the kind that an opcode names
 pub one_of_kind : (b : List ℕ) → IsFramed b → code.IsFunctional (NameStands b)
@@ -53,7 +46,7 @@ module _ (b : List ℕ) (framed : IsFramed b) where
     where
       by : (t : Bool) → MatchBool t (vs ≡ []) (ArrayStands (NameStands b) b off most vs) → MatchBool t (ws ≡ []) (ArrayStands (NameStands b) b off most ws) → vs ≡ ws
       by true p q = p ∙ sym q
-      by false p q = At-one (SpellsArray (NameStands b)) (SpellsArray-unique (NameStands b) (stands_functional b framed)) b framed 0x2005 1 off vs ws p.stands q.stands
+      by false p q = At-one (SpellsArray (NameStands b)) (SpellsArray-unique (NameStands b) (NameStands-functional b framed)) b framed 0x2005 1 off vs ws p.stands q.stands
 
   code_same : (off : ℕ) (c d : Option Code) → CodeAt b off c → CodeAt b off d → c ≡ d
   code_same off c d x y = by (off == 0) x y
@@ -75,7 +68,7 @@ module _ (b : List ℕ) (framed : IsFramed b) where
       let code = code_same e.1.1 v.code w.code x y in
       λ j. record { name = (same j).name; proto = (same j).proto; flags = flags j; code = code j }
 
-  methods_same : (class : Units) (es : List MethodEntry) (vs ws : List Method) → IsRun (IsMethod b class) es vs → IsRun (IsMethod b class) es ws → CodesAre b es vs → CodesAre b es ws → vs ≡ ws
+  methods_same : (class : Units) (es : List MethodEntry) (vs ws : List Method) → EntriesAre (IsMethod b class) es vs → EntriesAre (IsMethod b class) es ws → CodesAre b es vs → CodesAre b es ws → vs ≡ ws
   methods_same class es vs ws p q x y =
       list_same vs ws (p.count ∙ sym q.count)
       (λ i v w at_v at_w.
@@ -93,14 +86,14 @@ module _ (b : List ℕ) (framed : IsFramed b) where
       let ms = x.head.members in
       let ns = y.head.members in
       let statics = run_one (IsField b c.ty) x.entries.statics (member_one c.ty) c.statics d.statics ms.statics
-      (subst (λ (t : Units). IsRun (IsField b t) x.entries.statics d.statics) (sym ty) (subst (λ (z : Entries). IsRun (IsField b d.ty) z.statics d.statics) e ns.statics)) in
+      (subst (λ (t : Units). EntriesAre (IsField b t) x.entries.statics d.statics) (sym ty) (subst (λ (z : Entries). EntriesAre (IsField b d.ty) z.statics d.statics) e ns.statics)) in
       let instances = run_one (IsField b c.ty) x.entries.instances (member_one c.ty) c.instances d.instances ms.instances
-      (subst (λ (t : Units). IsRun (IsField b t) x.entries.instances d.instances) (sym ty) (subst (λ (z : Entries). IsRun (IsField b d.ty) z.instances d.instances) e ns.instances)) in
+      (subst (λ (t : Units). EntriesAre (IsField b t) x.entries.instances d.instances) (sym ty) (subst (λ (z : Entries). EntriesAre (IsField b d.ty) z.instances d.instances) e ns.instances)) in
       let directs = methods_same c.ty x.entries.directs c.directs d.directs ms.directs
-      (subst (λ (t : Units). IsRun (IsMethod b t) x.entries.directs d.directs) (sym ty) (subst (λ (z : Entries). IsRun (IsMethod b d.ty) z.directs d.directs) e ns.directs))
+      (subst (λ (t : Units). EntriesAre (IsMethod b t) x.entries.directs d.directs) (sym ty) (subst (λ (z : Entries). EntriesAre (IsMethod b d.ty) z.directs d.directs) e ns.directs))
       x.directs (subst (λ (z : Entries). CodesAre b z.directs d.directs) e y.directs) in
       let virtuals = methods_same c.ty x.entries.virtuals c.virtuals d.virtuals ms.virtuals
-      (subst (λ (t : Units). IsRun (IsMethod b t) x.entries.virtuals d.virtuals) (sym ty) (subst (λ (z : Entries). IsRun (IsMethod b d.ty) z.virtuals d.virtuals) e ns.virtuals))
+      (subst (λ (t : Units). EntriesAre (IsMethod b t) x.entries.virtuals d.virtuals) (sym ty) (subst (λ (z : Entries). EntriesAre (IsMethod b d.ty) z.virtuals d.virtuals) e ns.virtuals))
       x.virtuals (subst (λ (z : Entries). CodesAre b z.virtuals d.virtuals) e y.virtuals) in
       let values = values_one (class_word b i 7) (length x.entries.statics) c.values d.values x.values (subst (λ (z : Entries). StaticsAt b (class_word b i 7) (length z.statics) d.values) e y.values) in
       λ j. record { ty = ty j; flags = flags j; superclass = superclass j; interfaces = interfaces j; source = source j; statics = statics j; values = values j; instances = instances j; directs = directs j; virtuals = virtuals j }

@@ -70,8 +70,8 @@ module _ (b : List ℕ) where
       }
 
   module _ (n ty : ℕ) (last : List ℕ) (is : ty ≡ class_word b n 0) (in_table : ty < size_of b 1) where
-    behind : (t i : ℕ) → length last ≡ size_of b 1 → (get_or last t 0 ≤ i → NoneDefines b i n t) → (NoneDefines b i n t → get_or last t 0 ≤ i) → (get_or (set last ty (n + 1)) t 0 ≤ i → NoneDefines b i (n + 1) t) × (NoneDefines b i (n + 1) t → get_or (set last ty (n + 1)) t 0 ≤ i)
-    behind t i size to from = elim (cases_eq t ty) [
+    after : (t i : ℕ) → length last ≡ size_of b 1 → (get_or last t 0 ≤ i → NoneDefines b i n t) → (NoneDefines b i n t → get_or last t 0 ≤ i) → (get_or (set last ty (n + 1)) t 0 ≤ i → NoneDefines b i (n + 1) t) × (NoneDefines b i (n + 1) t → get_or (set last ty (n + 1)) t 0 ≤ i)
+    after t i size to from = elim (cases_eq t ty) [
       | inl e ↦
           let here = get_or-set_at last ty t (n + 1) 0 e (omega (arith, size, in_table)) in (
             (λ le j low high. absurd (omega (arith, here, le, low, high))),
@@ -104,7 +104,7 @@ module _ (b : List ℕ) where
                 subst (λ (j : ℕ). (class_word b j 0 ≡ t) × NoneDefines b 0 j t) same (sym is ∙ sym e, p.none t lt (ap (λ (x : ℕ). get_or first x 0) e ∙ new))
             | inr not ↦ let here = set_other first ty t (n + 1) not in p.lowest t k lt (sym here ∙ at)
           ];
-          highest = λ t i lt. behind t i p.lasts (p.highest t i lt).0 (p.highest t i lt).1;
+          highest = λ t i lt. after t i p.lasts (p.highest t i lt).0 (p.highest t i lt).1;
         }
 
     -- of a type that has some
@@ -117,16 +117,16 @@ module _ (b : List ℕ) where
         | inr not ↦ none_more b 0 n t (λ x. not (sym x ∙ sym is)) (p.none t lt zero_at)
       ];
       lowest = p.lowest;
-      highest = λ t i lt. behind t i p.lasts (p.highest t i lt).0 (p.highest t i lt).1;
+      highest = λ t i lt. after t i p.lasts (p.highest t i lt).0 (p.highest t i lt).1;
     }
 
   -- of either
   pub places_marked : (n ty types : ℕ) (first last first' last' : List ℕ) → ty ≡ class_word b n 0 → types ≡ size_of b 1 → ty < types → (get_or first ty 0 ≡ 0 → first' ≡ set first ty (n + 1)) → (get_or first ty 0 ≢ 0 → first' ≡ first) → last' ≡ set last ty (n + 1) → ArePlaces b n first last → ArePlaces b (n + 1) first' last'
-  places_marked n ty types first last first' last' is all in_table new old behind_is p =
+  places_marked n ty types first last first' last' is all in_table new old after_is p =
       let within : ty < size_of b 1 = omega (arith, all, in_table) in
       elim (cases_eq (get_or first ty 0) 0) [
-        | inl z ↦ rw (new z, behind_is) (places_first n ty last is within first z p)
-        | inr nz ↦ rw (old nz, behind_is) (places_again n ty last is within first nz p)
+        | inl z ↦ rw (new z, after_is) (places_first n ty last is within first z p)
+        | inr nz ↦ rw (old nz, after_is) (places_again n ty last is within first nz p)
       ]
 
   -- of neither

@@ -9,7 +9,7 @@ use Rattle.tables_rows.proofs.TypeLists.{type_one}
 use Rattle.file_classes.specs.ClassRows.{class_word, no_index, IndexOrNone}
 use Rattle.file_classes.specs.ClassData.{Entries}
 use Rattle.file_classes.specs.Classes.{RowIs}
-use Rattle.file_classes.specs.ClassFaults.{HasNoName, IsOfOtherKind, HasNoInterfaces, IsMisplaced, HasNoClassData, MembersHold, MembersBreak, MemberBreaks, ClassRowBreaks, ClassIndex, ClassKind, InterfaceList, ClassOrder, ClassData, Member, ClassRowHolds, ClassRowKeeps}
+use Rattle.file_classes.specs.ClassFaults.{HasNoName, IsOfOtherKind, HasNoInterfaces, ComesTooEarly, HasNoClassData, MembersHold, MembersBreak, MemberBreaks, ClassRowBreaks, ClassIndex, ClassKind, InterfaceList, ClassOrder, ClassData, Member, ClassRowHolds, ClassRowKeeps}
 use Rattle.file_classes.proofs.EntryLaws.{entries_one}
 use Rattle.file_classes.proofs.EntryFaults.{fields_hold, methods_hold, members_clear, members_number}
 use Rattle.file_classes.proofs.OnceLaws.{index_one}
@@ -106,7 +106,7 @@ module _ (b : List ℕ) (framed : IsFramed b) (i : ℕ) where
   interfaces n p (ClassData q) = absurd (p.none q.head.interfaces q.head.list)
   interfaces n p (Member q) = absurd (p.none q.head.interfaces q.head.list)
 
-  order : (n : ℕ) → IsMisplaced b i → ClassRowBreaks b i n → 42 ≡ n
+  order : (n : ℕ) → ComesTooEarly b i → ClassRowBreaks b i n → 42 ≡ n
   order n p (ClassIndex q) = absurd (row_named p.class p.head.superclass p.head.source p.head.flags p.head.row q)
   order n p (ClassKind q) = absurd (row_fits p.class p.head.superclass p.head.source p.head.flags p.head.row q)
   order n p (InterfaceList q) = absurd (q.none p.head.interfaces p.head.list)

@@ -6,7 +6,7 @@ use Rattle.std.proofs.lemmas.List.{get_or-take, take_more, length-take-le}
 use Rattle.indexmap.specs.IndexSet.{insert_key}
 use Rattle.program_types.specs.View.{desc}
 use Rattle.program_types.specs.declared.names.Desc.{Desc}
-use Rattle.file_classes.specs.Classes.{AreDistinct}
+use Rattle.file_classes.specs.Classes.{NoTypeTwice}
 use Rattle.file_classes.specs.Reading.{IsNotAmong}
 use Rattle.file_classes.proofs.HeadLaws.{type_there}
 
@@ -42,7 +42,7 @@ module _ (eq : Desc → Desc → Bool) (decides : (x y : Desc) → Decides (eq x
       let last : slice_get (map desc types) n ≡ Some (desc (get_or types n d)) = type_there types n d lt in
       none (get_or types n d) ks free j (held ∙ ap (λ z. Some (desc z)) same ∙ sym there ∙ at_j ∙ sym at_n ∙ last)
 
-  pub old_type : (types ks : List Desc) (n : ℕ) (d : Desc) → ks ≡ take n types → n < length types → list_any (eq (get_or types n d)) ks ≡ true → AreDistinct (map desc types) → ⊥
+  pub old_type : (types ks : List Desc) (n : ℕ) (d : Desc) → ks ≡ take n types → n < length types → list_any (eq (get_or types n d)) ks ≡ true → NoTypeTwice (map desc types) → ⊥
   old_type types ks n d are lt held distinct =
       let p = found (get_or types n d) ks held in
       let l : length ks ≡ n = ap length are ∙ length-take-le n types (omega arith) in

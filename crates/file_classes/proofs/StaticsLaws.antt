@@ -70,7 +70,7 @@ module _ (b : List ℕ) (i : ℕ) (h : Head) (is : IsHead b i h) where
       moved = moved ∙ ap (λ p. at_row p own) there;
     }
 
--- want of memory stays what it is
+-- out of memory stays what it is
 pub other_fault : (place : ℕ) (own e : Fault) → e ≡ at_row place own → e ≢ memory → own ≢ memory
 other_fault place own e is ne same = ne (is ∙ ap (at_row place) same)
 

@@ -1,4 +1,4 @@
--- What stands at the front of bytes, one piece behind the other.
+-- What stands at the front of bytes, one piece after the other.
 use Rattle.std.proofs.Common.{◌≡◌, ◌≢◌, Bool, true, false, length-take, length-append, ℕ, ◌+◌, ◌-◌, ◌<◌, ◌≤◌, List, [], ◌∷◌, ◌++◌, length, take, drop, refl, sym, ap, ◌∙◌, subst, arith}
 use Rattle.std.specs.Prelude.{MatchBool, ◌==◌}
 use Rattle.std.proofs.lemmas.List.{length_push}
@@ -12,10 +12,10 @@ use Rattle.base_bytes.specs.Grammar.{NoneBegins, Takes, IsPrefixUnique, Then, Pa
 use Rattle.base_bytes.specs.Leb128.{Spells}
 use Rattle.base_bytes.proofs.GrammarLaws.{Then-none_first, Many-none, Many-unique}
 use Rattle.base_bytes.proofs.TakesLaws.{Begins-from_takes, Takes-unique, Takes-then, Then-takes, NoneBegins-from_takes, Takes-each_none, Takes-each_push}
-use Rattle.file_classes.specs.ClassData.{FieldEntry, MethodEntry, Entries, counts_of, lists_of, SpellsField, SpellsMethod, SpellsCounts, SpellsLists, SpellsEntries, no_entries, EntriesAt}
+use Rattle.file_classes.specs.ClassData.{FieldEntry, MethodEntry, Entries, counts_of, lists_of, SpellsFieldEntry, SpellsMethodEntry, SpellsCounts, SpellsLists, SpellsEntries, no_entries, EntriesAt}
 use Rattle.file_classes.proofs.EntryLaws.{at_some, field_unique, method_unique, counts_unique}
 
--- behind a front that is known stands nothing of the second
+-- after a front that is known stands nothing of the second
 pub then_none : {V W : Type 0} (G : List ℕ → V → Type 0) (H : V → List ℕ → W → Type 0) → IsPrefixUnique G → (bytes mid : List ℕ) (v : V) → Takes G bytes v mid → NoneBegins (H v) mid → NoneBegins (Then G H) bytes
 then_none {V} {W} G H one bytes mid v t none =
     NoneBegins-from_takes (Then G H) bytes (λ p rest u.
@@ -49,16 +49,16 @@ module _ {V : Type 0} (G : List ℕ → V → Type 0) (bytes : List ℕ) where
 -- ---- a class_data_item
 
 abbrev pub Fields : ℕ → List ℕ → List FieldEntry → Type 0
-Fields n = Many (SpellsField Spells) n
+Fields n = Many (SpellsFieldEntry Spells) n
 
 abbrev pub Methods : ℕ → List ℕ → List MethodEntry → Type 0
-Methods n = Many (SpellsMethod Spells) n
+Methods n = Many (SpellsMethodEntry Spells) n
 
 fields_unique : (n : ℕ) → IsPrefixUnique (Fields n)
-fields_unique n = Many-unique (SpellsField Spells) n field_unique
+fields_unique n = Many-unique (SpellsFieldEntry Spells) n field_unique
 
 methods_unique : (n : ℕ) → IsPrefixUnique (Methods n)
-methods_unique n = Many-unique (SpellsMethod Spells) n method_unique
+methods_unique n = Many-unique (SpellsMethodEntry Spells) n method_unique
 
 module _ (bytes : List ℕ) where
   -- no counts or lists, no entries
@@ -82,22 +82,22 @@ module _ (bytes : List ℕ) where
     none_first none = none_lists (Then-none_first (Fields n.0) (λ (_ : List FieldEntry). Second) lists none)
 
     module _ (statics : List FieldEntry) (second : List ℕ) (one : Takes (Fields n.0) lists statics second) where
-      behind_first : NoneBegins Second second → NoneBegins (SpellsEntries Spells) bytes
-      behind_first none = none_lists (then_none (Fields n.0) (λ (_ : List FieldEntry). Second) (fields_unique n.0) lists second statics one none)
+      after_first : NoneBegins Second second → NoneBegins (SpellsEntries Spells) bytes
+      after_first none = none_lists (then_none (Fields n.0) (λ (_ : List FieldEntry). Second) (fields_unique n.0) lists second statics one none)
 
       pub none_second : NoneBegins (Fields n.1.0) second → NoneBegins (SpellsEntries Spells) bytes
-      none_second none = behind_first (Then-none_first (Fields n.1.0) (λ (_ : List FieldEntry). Third) second none)
+      none_second none = after_first (Then-none_first (Fields n.1.0) (λ (_ : List FieldEntry). Third) second none)
 
       module _ (instances : List FieldEntry) (third : List ℕ) (two : Takes (Fields n.1.0) second instances third) where
-        behind_second : NoneBegins Third third → NoneBegins (SpellsEntries Spells) bytes
-        behind_second none = behind_first (then_none (Fields n.1.0) (λ (_ : List FieldEntry). Third) (fields_unique n.1.0) second third instances two none)
+        after_second : NoneBegins Third third → NoneBegins (SpellsEntries Spells) bytes
+        after_second none = after_first (then_none (Fields n.1.0) (λ (_ : List FieldEntry). Third) (fields_unique n.1.0) second third instances two none)
 
         pub none_third : NoneBegins (Methods n.1.1.0) third → NoneBegins (SpellsEntries Spells) bytes
-        none_third none = behind_second (Then-none_first (Methods n.1.1.0) (λ (_ : List MethodEntry). Methods n.1.1.1) third none)
+        none_third none = after_second (Then-none_first (Methods n.1.1.0) (λ (_ : List MethodEntry). Methods n.1.1.1) third none)
 
         module _ (directs : List MethodEntry) (fourth : List ℕ) (three : Takes (Methods n.1.1.0) third directs fourth) where
           pub none_fourth : NoneBegins (Methods n.1.1.1) fourth → NoneBegins (SpellsEntries Spells) bytes
-          none_fourth none = behind_second (then_none (Methods n.1.1.0) (λ (_ : List MethodEntry). Methods n.1.1.1) (methods_unique n.1.1.0) third fourth directs three none)
+          none_fourth none = after_second (then_none (Methods n.1.1.0) (λ (_ : List MethodEntry). Methods n.1.1.1) (methods_unique n.1.1.0) third fourth directs three none)
 
           pub entries_taken : (virtuals : List MethodEntry) (rest : List ℕ) → Takes (Methods n.1.1.1) fourth virtuals rest
               → Takes (SpellsEntries Spells) bytes (record { statics = statics; instances = instances; directs = directs; virtuals = virtuals }) rest

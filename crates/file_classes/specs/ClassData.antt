@@ -45,20 +45,20 @@ abbrev pub lists_of : Entries → List FieldEntry × (List FieldEntry × (List M
 lists_of e = (e.statics, (e.instances, (e.directs, e.virtuals)))
 
 -- The bytes spell a field's entry, a method's, four counts, and so many entries of each list, where N spells a number.
-abbrev pub SpellsField : (List ℕ → ℕ → Type 0) → List ℕ → FieldEntry → Type 0
-SpellsField N = Pair N N
+abbrev pub SpellsFieldEntry : (List ℕ → ℕ → Type 0) → List ℕ → FieldEntry → Type 0
+SpellsFieldEntry N = Pair N N
 
 -- A method's entry: difference, flags, code offset.
-abbrev pub SpellsMethod : (List ℕ → ℕ → Type 0) → List ℕ → MethodEntry → Type 0
-SpellsMethod N = Pair N (Pair N N)
+abbrev pub SpellsMethodEntry : (List ℕ → ℕ → Type 0) → List ℕ → MethodEntry → Type 0
+SpellsMethodEntry N = Pair N (Pair N N)
 
 -- The four counts.
 abbrev pub SpellsCounts : (List ℕ → ℕ → Type 0) → List ℕ → ℕ × (ℕ × (ℕ × ℕ)) → Type 0
 SpellsCounts N = Pair N (Pair N (Pair N N))
 
--- So many entries of each list.
+-- The bytes spell so many entries of each list.
 abbrev pub SpellsLists : (List ℕ → ℕ → Type 0) → ℕ × (ℕ × (ℕ × ℕ)) → List ℕ → List FieldEntry × (List FieldEntry × (List MethodEntry × List MethodEntry)) → Type 0
-SpellsLists N n = Pair (Many (SpellsField N) n.0) (Pair (Many (SpellsField N) n.1.0) (Pair (Many (SpellsMethod N) n.1.1.0) (Many (SpellsMethod N) n.1.1.1)))
+SpellsLists N n = Pair (Many (SpellsFieldEntry N) n.0) (Pair (Many (SpellsFieldEntry N) n.1.0) (Pair (Many (SpellsMethodEntry N) n.1.1.0) (Many (SpellsMethodEntry N) n.1.1.1)))
 
 -- A class_data_item.
 abbrev pub SpellsEntries : (List ℕ → ℕ → Type 0) → List ℕ → Entries → Type 0
@@ -79,11 +79,11 @@ abbrev pub index_of : List ℕ → ℕ → ℕ
 index_of differences k = sum (take (k + 1) differences)
 
 -- The first n entries stand for these, each by its index: all differences but the first are above 0.
-pub record Runs {R V : Type 0} (M : ℕ → ℕ × R → V → Type 0) (es : List (ℕ × R)) (n : ℕ) (vs : List V) : Type 0 where
+pub record FirstEntriesAre {R V : Type 0} (M : ℕ → ℕ × R → V → Type 0) (es : List (ℕ × R)) (n : ℕ) (vs : List V) : Type 0 where
   pub count : length vs ≡ n
   pub each : (k : ℕ) (e : ℕ × R) (v : V) → slice_get es k ≡ Some e → slice_get vs k ≡ Some v → M (index_of (steps es) k) e v
   pub rises : (k : ℕ) → 0 < k → k < n → 0 < slice_index (steps es) k
 
 -- All entries stand for these.
-abbrev pub IsRun : {R V : Type 0} → (ℕ → ℕ × R → V → Type 0) → List (ℕ × R) → List V → Type 0
-IsRun M es vs = Runs M es (length es) vs
+abbrev pub EntriesAre : {R V : Type 0} → (ℕ → ℕ × R → V → Type 0) → List (ℕ × R) → List V → Type 0
+EntriesAre M es vs = FirstEntriesAre M es (length es) vs

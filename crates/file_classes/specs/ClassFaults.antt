@@ -59,7 +59,7 @@ pub record HasHead (b : List ℕ) (i : ℕ) (class : Units) : Type 0 where
   pub list : InterfacesAt b (interfaces_off b i) interfaces
 
 -- 42: it keeps these, and is out of order.
-pub record IsMisplaced (b : List ℕ) (i : ℕ) : Type 0 where
+pub record ComesTooEarly (b : List ℕ) (i : ℕ) : Type 0 where
   pub class : Units
   pub head : HasHead b i class
   pub late : ¬ InOrder b i
@@ -82,7 +82,7 @@ abbrev pub MethodOwner : List ℕ → ℕ → Units → Type 0
 MethodOwner b j t = (m : MethodRef) × MethodStands b j m × (m.class ≡ t)
 
 -- Entry k is one of the class, and has a higher index than the entry before.
-pub record EntryHolds (IsOwner : ℕ → Units → Type 0) (class : Units) (differences : List ℕ) (k : ℕ) : Type 0 where
+pub record MemberEntryHolds (IsOwner : ℕ → Units → Type 0) (class : Units) (differences : List ℕ) (k : ℕ) : Type 0 where
   pub owned : IsOwner (index_of differences k) class
   pub rises : 0 < k → 0 < slice_index differences k
 
@@ -95,7 +95,7 @@ pub record IsForeign (IsOwner : ℕ → Units → Type 0) (class : Units) (index
 -- 47: entry k is one of the class, and has the index of the entry before.
 pub record EntryRepeats (IsOwner : ℕ → Units → Type 0) (class : Units) (differences : List ℕ) (k : ℕ) : Type 0 where
   pub owned : IsOwner (index_of differences k) class
-  pub behind : 0 < k
+  pub after : 0 < k
   pub same : slice_index differences k ≡ 0
 
 -- The rule that entry k breaks.
@@ -105,29 +105,30 @@ pub data EntryBreaks (IsOwner : ℕ → Units → Type 0) (size : ℕ) (class : 
   MemberOrder : EntryRepeats IsOwner class differences k → EntryBreaks IsOwner size class differences k 47
 
 -- All entries of a list hold.
-abbrev pub EntriesHold : (ℕ → Units → Type 0) → Units → List ℕ → Type 0
-EntriesHold IsOwner class differences = (k : ℕ) → k < length differences → EntryHolds IsOwner class differences k
+abbrev pub MemberEntriesHold : (ℕ → Units → Type 0) → Units → List ℕ → Type 0
+MemberEntriesHold IsOwner class differences =
+    (k : ℕ) → k < length differences → MemberEntryHolds IsOwner class differences k
 
 -- The first entry of a list that breaks a rule.
 pub record EntriesBreak (IsOwner : ℕ → Units → Type 0) (size : ℕ) (class : Units) (differences : List ℕ) (code : ℕ) : Type 0 where
   pub entry : ℕ
   pub within : entry < length differences
   pub breaks : EntryBreaks IsOwner size class differences entry code
-  pub before : (k : ℕ) → k < entry → EntryHolds IsOwner class differences k
+  pub before : (k : ℕ) → k < entry → MemberEntryHolds IsOwner class differences k
 
 -- Each of these is a field of the class, and their indices rise.
 abbrev pub FieldEntriesHold : List ℕ → Units → List FieldEntry → Type 0
-FieldEntriesHold b class es = EntriesHold (FieldOwner b) class (steps es)
+FieldEntriesHold b class es = MemberEntriesHold (FieldOwner b) class (steps es)
 
--- The first that isn't, or whose index doesn't rise, breaks the rule of this number.
+-- The first entry that is no field of the class, or whose index doesn't rise, breaks the rule of this number.
 abbrev pub FieldEntriesBreak : List ℕ → Units → List FieldEntry → ℕ → Type 0
 FieldEntriesBreak b class es code = EntriesBreak (FieldOwner b) (size_of b section.field_ids) class (steps es) code
 
--- The same of methods.
+-- Each of these is a method of the class, and their indices rise.
 abbrev pub MethodEntriesHold : List ℕ → Units → List MethodEntry → Type 0
-MethodEntriesHold b class es = EntriesHold (MethodOwner b) class (steps es)
+MethodEntriesHold b class es = MemberEntriesHold (MethodOwner b) class (steps es)
 
--- The same of methods.
+-- The first entry that is no method of the class, or whose index doesn't rise, breaks the rule of this number.
 abbrev pub MethodEntriesBreak : List ℕ → Units → List MethodEntry → ℕ → Type 0
 MethodEntriesBreak b class es code = EntriesBreak (MethodOwner b) (size_of b section.method_ids) class (steps es) code
 
@@ -160,7 +161,7 @@ pub data ClassRowBreaks (b : List ℕ) (i : ℕ) : ℕ → Type 0 where
   ClassIndex : HasNoName b i → ClassRowBreaks b i 40
   ClassKind : IsOfOtherKind b i → ClassRowBreaks b i 41
   InterfaceList : HasNoInterfaces b i → ClassRowBreaks b i 43
-  ClassOrder : IsMisplaced b i → ClassRowBreaks b i 42
+  ClassOrder : ComesTooEarly b i → ClassRowBreaks b i 42
   ClassData : HasNoClassData b i → ClassRowBreaks b i 44
   Member : {code : ℕ} → MemberBreaks b i code → ClassRowBreaks b i code
 
@@ -220,7 +221,7 @@ pub record SomeBodyStands (b : List ℕ) (place : ℕ) (code : Option Code) : Ty
   pub is : code ≡ Some some
   pub stands : BodyStands (NameStands b) b place some
 
--- None at 0.
+-- The body at an offset, none at 0.
 abbrev pub BodyAt : List ℕ → ℕ → Option Code → Type 0
 BodyAt b place code = MatchBool (place == 0) (code ≡ None) (SomeBodyStands b place code)
 
@@ -260,7 +261,7 @@ pub record SomeCodeFails (Holds : List ℕ → ℕ → Type 0) (Fails : List ℕ
   pub before : (k : ℕ) (e : MethodEntry) → k < entry → slice_get es k ≡ Some e → Holds b (code_off e)
 
 -- All code of row i holds.
-pub record MethodsHold (Holds : List ℕ → ℕ → Type 0) (b : List ℕ) (i : ℕ) : Type 0 where
+pub record ClassCodesHold (Holds : List ℕ → ℕ → Type 0) (b : List ℕ) (i : ℕ) : Type 0 where
   pub entries : Entries
   pub class_data : EntriesAt b (class_data_off b i) entries
   pub directs : EachCodeHolds Holds b entries.directs
@@ -274,7 +275,7 @@ pub record MethodsBreak (Holds : List ℕ → ℕ → Type 0) (Fails : List ℕ 
 
 -- The two passes.
 abbrev pub BodiesHold : List ℕ → ℕ → Type 0
-BodiesHold = MethodsHold BodyHolds
+BodiesHold = ClassCodesHold BodyHolds
 
 -- A body of row i breaks a rule (60 to 72).
 abbrev pub BodiesBreak : List ℕ → ℕ → Fault → Type 0
@@ -282,7 +283,7 @@ BodiesBreak = MethodsBreak BodyHolds BodyFails
 
 -- The code of row i stands, registers and all.
 abbrev pub RowRegistersHold : List ℕ → ℕ → Type 0
-RowRegistersHold = MethodsHold CodeHolds
+RowRegistersHold = ClassCodesHold CodeHolds
 
 -- The registers of a code of row i don't (73).
 abbrev pub RowRegistersBreak : List ℕ → ℕ → Fault → Type 0

@@ -8,7 +8,7 @@ use Rattle.tables_rows.specs.Stands.{StringStands, TypeStands, TypesAt, FieldSta
 use Rattle.dex_value.specs.Standing.{ArrayStands}
 use Rattle.code_read.specs.Code.{CodeStands}
 use Rattle.file_classes.specs.ClassRows.{IndexOrNone, access_flags, class_data_off, class_idx, interfaces_off, source_file_idx, static_values_off, superclass_idx}
-use Rattle.file_classes.specs.ClassData.{FieldEntry, MethodEntry, Entries, EntriesAt, IsRun, field_flags, method_flags, code_off}
+use Rattle.file_classes.specs.ClassData.{FieldEntry, MethodEntry, Entries, EntriesAt, EntriesAre, field_flags, method_flags, code_off}
 
 -- The names and flags of the row.
 pub record RowIs (b : List ℕ) (i : ℕ) (ty : Units) (flags : ℕ) (superclass source : Option Units) : Type 0 where
@@ -20,14 +20,14 @@ pub record RowIs (b : List ℕ) (i : ℕ) (ty : Units) (flags : ℕ) (superclass
   pub written_in : IndexOrNone (StringStands b) (source_file_idx b i) source
 
 -- No type stands twice.
-abbrev pub AreDistinct : List Units → Type 0
-AreDistinct ts = (j k : ℕ) (t : Units) → slice_get ts j ≡ Some t → slice_get ts k ≡ Some t → j ≡ k
+abbrev pub NoTypeTwice : List Units → Type 0
+NoTypeTwice ts = (j k : ℕ) (t : Units) → slice_get ts j ≡ Some t → slice_get ts k ≡ Some t → j ≡ k
 
 -- Distinct class types at an offset.
 pub record InterfacesAt (b : List ℕ) (place : ℕ) (ts : List Units) : Type 0 where
   pub types : TypesAt b place ts
   pub classes : AllByRecursion IsClass ts
-  pub distinct : AreDistinct ts
+  pub distinct : NoTypeTwice ts
 
 -- The entry with this index is this field of the class.
 pub record IsField (b : List ℕ) (class : Units) (index : ℕ) (e : FieldEntry) (m : Member) : Type 0 where
@@ -41,10 +41,10 @@ pub record IsMethod (b : List ℕ) (class : Units) (index : ℕ) (e : MethodEntr
 
 -- The four lists.
 pub record MembersAre (b : List ℕ) (e : Entries) (c : Class) : Type 0 where
-  pub statics : IsRun (IsField b c.ty) e.statics c.statics
-  pub instances : IsRun (IsField b c.ty) e.instances c.instances
-  pub directs : IsRun (IsMethod b c.ty) e.directs c.directs
-  pub virtuals : IsRun (IsMethod b c.ty) e.virtuals c.virtuals
+  pub statics : EntriesAre (IsField b c.ty) e.statics c.statics
+  pub instances : EntriesAre (IsField b c.ty) e.instances c.instances
+  pub directs : EntriesAre (IsMethod b c.ty) e.directs c.directs
+  pub virtuals : EntriesAre (IsMethod b c.ty) e.virtuals c.virtuals
 
 -- All but static values and code.
 pub record HeadIs (b : List ℕ) (i : ℕ) (e : Entries) (c : Class) : Type 0 where

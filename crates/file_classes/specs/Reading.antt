@@ -12,7 +12,7 @@ use Rattle.file_classes.specs.declared.members.Bare.{Bare}
 use Rattle.file_classes.specs.declared.heads.Head.{Head}
 use Rattle.file_classes.specs.declared.members.Members.{Members}
 use Rattle.file_classes.specs.declared.methods.Found.{Found}
-use Rattle.file_classes.specs.ClassData.{IsRun}
+use Rattle.file_classes.specs.ClassData.{EntriesAre}
 use Rattle.file_classes.specs.declared.statics.Statics.{Statics}
 use Rattle.file_classes.specs.ClassData as numbers
 use Rattle.file_classes.specs.ClassRows.{static_values_off}
@@ -82,10 +82,10 @@ AreStatics b i s = ValuesStand b i (map value s.values.now)
 
 -- These are the members of a class, with these entries.
 pub record MembersStand (b : List ℕ) (class : content.Units) (e : numbers.Entries) (m : Members) : Type 0 where
-  pub statics : IsRun (IsField b class) e.statics (map member m.statics.now)
-  pub instances : IsRun (IsField b class) e.instances (map member m.instances.now)
-  pub directs : IsRun (IsBare b class) e.directs m.directs.now
-  pub virtuals : IsRun (IsBare b class) e.virtuals m.virtuals.now
+  pub statics : EntriesAre (IsField b class) e.statics (map member m.statics.now)
+  pub instances : EntriesAre (IsField b class) e.instances (map member m.instances.now)
+  pub directs : EntriesAre (IsBare b class) e.directs m.directs.now
+  pub virtuals : EntriesAre (IsBare b class) e.virtuals m.virtuals.now
 
 -- ---- refusals
 
@@ -99,12 +99,12 @@ pub record IndexFails (IsOwner : ℕ → content.Units → Type 0) (size : ℕ) 
   pub breaks : IndexBreaks IsOwner size class index fault.code
   pub there : fault.place ≡ place
 
--- An entry of a list breaks one (45 to 47).
+-- An entry of a list breaks a rule (45 to 47).
 pub record EntriesFail (IsOwner : ℕ → content.Units → Type 0) (size : ℕ) (class : content.Units) (differences : List ℕ) (place : ℕ) (fault : Fault) : Type 0 where
   pub breaks : EntriesBreak IsOwner size class differences fault.code
   pub there : fault.place ≡ place
 
--- An entry of the four lists does.
+-- An entry of the four lists breaks a rule (45 to 47).
 pub record MembersFail (b : List ℕ) (class : content.Units) (e : numbers.Entries) (place : ℕ) (fault : Fault) : Type 0 where
   pub breaks : MembersBreak b class e fault.code
   pub there : fault.place ≡ place
@@ -134,18 +134,18 @@ pub record IsDone (b : List ℕ) (m : Bare) (v : content.Method) : Type 0 where
   pub flags : (bare m).flags ≡ v.flags
   pub code : BodyAt b m.code v.code
 
--- Of the first n methods all hold.
-abbrev pub BaresHold : (List ℕ → ℕ → Type 0) → List ℕ → List Bare → ℕ → Type 0
-BaresHold Holds b ms n = (k : ℕ) (m : Bare) → k < n → slice_get ms k ≡ Some m → Holds b m.code
+-- Of the first n methods all codes hold.
+abbrev pub CodesHoldUpTo : (List ℕ → ℕ → Type 0) → List ℕ → List Bare → ℕ → Type 0
+CodesHoldUpTo Holds b ms n = (k : ℕ) (m : Bare) → k < n → slice_get ms k ≡ Some m → Holds b m.code
 
 -- These are the first n methods, with their bodies.
 pub record AreDone (b : List ℕ) (ms : List Bare) (n : ℕ) (vs : List content.Method) : Type 0 where
   pub count : length vs ≡ n
   pub each : (k : ℕ) (m : Bare) (v : content.Method) → slice_get ms k ≡ Some m → slice_get vs k ≡ Some v → IsDone b m v
-  pub hold : BaresHold BodyHolds b ms n
+  pub hold : CodesHoldUpTo BodyHolds b ms n
 
--- The first of the methods that doesn't hold, and its fault.
-pub record BaresBreak (Holds : List ℕ → ℕ → Type 0) (Fails : List ℕ → ℕ → Fault → Type 0) (b : List ℕ) (ms : List Bare) (fault : Fault) : Type 0 where
+-- The fault is that of the first of the methods whose code doesn't hold.
+pub record FirstCodeBreaks (Holds : List ℕ → ℕ → Type 0) (Fails : List ℕ → ℕ → Fault → Type 0) (b : List ℕ) (ms : List Bare) (fault : Fault) : Type 0 where
   pub entry : ℕ
   pub one : Bare
   pub there : slice_get ms entry ≡ Some one
@@ -164,10 +164,10 @@ pub record SpellsBodies (b : List ℕ) (i : ℕ) (c : content.Class) : Type 0 wh
   pub directs : BodiesAre b entries.directs c.directs
   pub virtuals : BodiesAre b entries.virtuals c.virtuals
 
--- Of the first n of the methods all hold, or this is the first fault.
-pub record BaresUpTo (Holds : List ℕ → ℕ → Type 0) (Fails : List ℕ → ℕ → Fault → Type 0) (b : List ℕ) (ms : List Bare) (n : ℕ) (past : Option Fault) : Type 0 where
-  pub none : IfNone past (BaresHold Holds b ms n)
-  pub some : IfSome past (BaresBreak Holds Fails b ms)
+-- Of the first n of the methods all codes hold, or this is the first fault.
+pub record CodesUpTo (Holds : List ℕ → ℕ → Type 0) (Fails : List ℕ → ℕ → Fault → Type 0) (b : List ℕ) (ms : List Bare) (n : ℕ) (past : Option Fault) : Type 0 where
+  pub none : IfNone past (CodesHoldUpTo Holds b ms n)
+  pub some : IfSome past (FirstCodeBreaks Holds Fails b ms)
 
 -- The registers of all code of the first n rows hold, or this is the first fault.
 pub record RowsUpTo (b : List ℕ) (n : ℕ) (past : Option Fault) : Type 0 where

@@ -8,7 +8,7 @@ ghost use Rattle.tables_rows.specs.Names.{AreNamesOf, AreRows};
 ghost use Rattle.tables_rows.specs.Sorted.{RowsHold};
 ghost use Rattle.file_classes.specs.ClassFaults.{BodyHolds, BodyFails, CodeHolds, RegistersFail, BodiesHold, BodiesBreak, RowRegistersHold, RowRegistersBreak, IsFirstClass};
 ghost use Rattle.tables_rows.specs.Kept.{AreKept};
-ghost use Rattle.file_classes.specs.Reading.{IsHead, BaresHold, BaresBreak, BaresUpTo, IsChecked};
+ghost use Rattle.file_classes.specs.Reading.{IsHead, CodesHoldUpTo, FirstCodeBreaks, CodesUpTo, IsChecked};
 
 use crate::class_row::class_count;
 use crate::heads::Head;
@@ -42,7 +42,8 @@ fn check_code(
     Ok(past)
 }
 
-// The same: what is kept of the offset, or what is found now, and kept. Behind each code the scratch arena is empty again.
+// What is wrong with the registers of the code at an offset, if anything is: what is kept of the offset, or what is
+// found now, and kept. After each code the scratch arena is empty again.
 fn check_code_at(
     alloc: Global,
     scratch: &mut Bump,
@@ -79,10 +80,10 @@ fn check_methods(
 ) -> Result<Option<Fault>, Fault>
     requires names { AreNamesOf sections.now tables.now }
     requires kept { AreKept (IsChecked sections.now) kept.old }
-    ensures ok { OnOk result (BaresHold BodyHolds sections.now bares.now (length bares.now)) }
-    ensures past { IfOk result (BaresUpTo CodeHolds RegistersFail sections.now bares.now (length bares.now)) }
+    ensures ok { OnOk result (CodesHoldUpTo BodyHolds sections.now bares.now (length bares.now)) }
+    ensures past { IfOk result (CodesUpTo CodeHolds RegistersFail sections.now bares.now (length bares.now)) }
     ensures kept { OnOk result (AreKept (IsChecked sections.now) kept.new) }
-    ensures err { IfErr result (λ e. e ≢ memory → BaresBreak BodyHolds BodyFails sections.now bares.now e) }
+    ensures err { IfErr result (λ e. e ≢ memory → FirstCodeBreaks BodyHolds BodyFails sections.now bares.now e) }
 {
     let mut past = None;
     for bare in bares {

@@ -3,7 +3,7 @@ ghost use Rattle.std.specs.Prelude.{◌≡◌, ◌≢◌, ℕ, List, IfOk, IfSom
 ghost use Rattle.base_bytes.specs.Fault.{memory};
 ghost use Rattle.base_bytes.specs.Grammar.{Takes, NoneBegins, Many};
 ghost use Rattle.base_bytes.specs.Leb128.{Spells};
-ghost use Rattle.file_classes.specs.ClassData.{SpellsField, SpellsMethod, SpellsCounts, SpellsEntries, EntriesAt};
+ghost use Rattle.file_classes.specs.ClassData.{SpellsFieldEntry, SpellsMethodEntry, SpellsCounts, SpellsEntries, EntriesAt};
 ghost use Rattle.file_classes.specs.Reading.{field_entry, method_entry, counts, entries};
 
 use dex_base::{Fault, read_uleb};
@@ -56,26 +56,26 @@ fn take_number(bytes: &[u8]) -> Option<(u32, &[u8])>
 }
 
 fn take_field(bytes: &[u8]) -> Option<(FieldEntry, &[u8])>
-    ensures found { IfSome result (λ x. Takes (SpellsField Spells) bytes.now (field_entry x.0) x.1.now) }
-    ensures none { IfNone result (NoneBegins (SpellsField Spells) bytes.now) }
+    ensures found { IfSome result (λ x. Takes (SpellsFieldEntry Spells) bytes.now (field_entry x.0) x.1.now) }
+    ensures none { IfNone result (NoneBegins (SpellsFieldEntry Spells) bytes.now) }
 {
-    let Some((step, behind)) = take_number(bytes) else {
+    let Some((step, after)) = take_number(bytes) else {
         return None;
     };
-    let Some((flags, rest)) = take_number(behind) else {
+    let Some((flags, rest)) = take_number(after) else {
         return None;
     };
     Some((FieldEntry { step, flags }, rest))
 }
 
 fn take_method(bytes: &[u8]) -> Option<(MethodEntry, &[u8])>
-    ensures found { IfSome result (λ x. Takes (SpellsMethod Spells) bytes.now (method_entry x.0) x.1.now) }
-    ensures none { IfNone result (NoneBegins (SpellsMethod Spells) bytes.now) }
+    ensures found { IfSome result (λ x. Takes (SpellsMethodEntry Spells) bytes.now (method_entry x.0) x.1.now) }
+    ensures none { IfNone result (NoneBegins (SpellsMethodEntry Spells) bytes.now) }
 {
-    let Some((step, behind)) = take_number(bytes) else {
+    let Some((step, after)) = take_number(bytes) else {
         return None;
     };
-    let Some((field, rest)) = take_field(behind) else {
+    let Some((field, rest)) = take_field(after) else {
         return None;
     };
     Some((
@@ -92,10 +92,10 @@ fn take_counts(bytes: &[u8]) -> Option<(Counts, &[u8])>
     ensures found { IfSome result (λ x. Takes (SpellsCounts Spells) bytes.now (counts x.0) x.1.now) }
     ensures none { IfNone result (NoneBegins (SpellsCounts Spells) bytes.now) }
 {
-    let Some((statics, behind)) = take_number(bytes) else {
+    let Some((statics, after)) = take_number(bytes) else {
         return None;
     };
-    let Some((others, rest)) = take_method(behind) else {
+    let Some((others, rest)) = take_method(after) else {
         return None;
     };
     Some((
@@ -109,14 +109,14 @@ fn take_counts(bytes: &[u8]) -> Option<(Counts, &[u8])>
     ))
 }
 
-// So many fields. Memory is asked for as they come.
+// So many entries of fields at the front of the bytes, and what follows them. Memory is asked for as they come.
 fn take_fields<'b>(
     alloc: Global,
     count: u32,
     bytes: &'b [u8],
 ) -> Result<Option<(Vec<FieldEntry>, &'b [u8])>, Fault>
-    ensures found { IfOk result (λ r. IfSome r (λ x. Takes (Many (SpellsField Spells) count) bytes.now (map field_entry x.0.items) x.1.now)) }
-    ensures none { IfOk result (λ r. IfNone r (NoneBegins (Many (SpellsField Spells) count) bytes.now)) }
+    ensures found { IfOk result (λ r. IfSome r (λ x. Takes (Many (SpellsFieldEntry Spells) count) bytes.now (map field_entry x.0.items) x.1.now)) }
+    ensures none { IfOk result (λ r. IfNone r (NoneBegins (Many (SpellsFieldEntry Spells) count) bytes.now)) }
     ensures memory { IsOkUnless result memory }
 {
     let mut all = Vec::new(alloc);
@@ -131,14 +131,14 @@ fn take_fields<'b>(
     Ok(Some((all, left)))
 }
 
-// So many methods.
+// So many entries of methods at the front of the bytes, and what follows them. Memory is asked for as they come.
 fn take_methods<'b>(
     alloc: Global,
     count: u32,
     bytes: &'b [u8],
 ) -> Result<Option<(Vec<MethodEntry>, &'b [u8])>, Fault>
-    ensures found { IfOk result (λ r. IfSome r (λ x. Takes (Many (SpellsMethod Spells) count) bytes.now (map method_entry x.0.items) x.1.now)) }
-    ensures none { IfOk result (λ r. IfNone r (NoneBegins (Many (SpellsMethod Spells) count) bytes.now)) }
+    ensures found { IfOk result (λ r. IfSome r (λ x. Takes (Many (SpellsMethodEntry Spells) count) bytes.now (map method_entry x.0.items) x.1.now)) }
+    ensures none { IfOk result (λ r. IfNone r (NoneBegins (Many (SpellsMethodEntry Spells) count) bytes.now)) }
     ensures memory { IsOkUnless result memory }
 {
     let mut all = Vec::new(alloc);

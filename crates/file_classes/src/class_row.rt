@@ -29,7 +29,7 @@ pub(crate) struct Row<'a> {
     pub source: Option<Str<'a>>,
 }
 
-/// How many rows there are.
+/// How many rows class_defs has.
 pub fn class_count(sections: &Sections<'_>) -> u32
     ensures { result ≡ size_of sections.now section.class_defs }
 {
@@ -88,7 +88,7 @@ fn type_or_none<'a>(
     }
 }
 
-// The same of strings.
+// The string at an index, or none for NO_INDEX; None past the last row.
 fn string_or_none<'a>(
     sections: &Sections<'_>,
     tables: &Tables<'a>,

@@ -91,7 +91,7 @@ fn read_head<'a, 's>(
     })
 }
 
-// The heads of all rows, one behind the other.
+// The heads of all rows, one after the other.
 fn push_heads<'a, 's>(
     alloc: Global,
     arena: &'a Bump,

@@ -5,7 +5,7 @@ ghost use Rattle.dex_base.specs.Descriptor.{IsClass};
 ghost use Rattle.base_bytes.specs.Fault.{memory};
 ghost use Rattle.program_types.specs.View.{desc};
 ghost use Rattle.tables_rows.specs.Names.{AreNamesOf};
-ghost use Rattle.file_classes.specs.Classes.{AreDistinct, InterfacesAt};
+ghost use Rattle.file_classes.specs.Classes.{NoTypeTwice, InterfacesAt};
 ghost use Rattle.tables_rows.specs.Kept.{AreKept};
 ghost use Rattle.file_classes.specs.Reading.{IsNotAmong};
 
@@ -47,7 +47,7 @@ fn is_new(types: &[Desc<'_>], n: usize) -> bool
 
 // Whether none of a few types stands twice.
 fn are_few_distinct(types: &[Desc<'_>]) -> bool
-    ensures { IsTrue result ↔ AreDistinct (map desc types.now) }
+    ensures { IsTrue result ↔ NoTypeTwice (map desc types.now) }
 {
     for n in 0..types.len() {
         if !is_new(types, n) {
@@ -57,9 +57,9 @@ fn are_few_distinct(types: &[Desc<'_>]) -> bool
     true
 }
 
-// The same of many: time that grows with their number.
+// Whether none of many types stands twice, in time that grows with their number.
 fn are_many_distinct(alloc: Global, types: &[Desc<'_>]) -> Result<bool, Fault>
-    ensures ok { IfOk result (λ yes. IsTrue yes ↔ AreDistinct (map desc types.now)) }
+    ensures ok { IfOk result (λ yes. IsTrue yes ↔ NoTypeTwice (map desc types.now)) }
     ensures memory { IsOkUnless result memory }
 {
     let mut seen = IndexSet::new(alloc);
@@ -73,7 +73,7 @@ fn are_many_distinct(alloc: Global, types: &[Desc<'_>]) -> Result<bool, Fault>
 
 // Whether no type stands twice.
 fn are_distinct(alloc: Global, types: &[Desc<'_>]) -> Result<bool, Fault>
-    ensures ok { IfOk result (λ yes. IsTrue yes ↔ AreDistinct (map desc types.now)) }
+    ensures ok { IfOk result (λ yes. IsTrue yes ↔ NoTypeTwice (map desc types.now)) }
     ensures memory { IsOkUnless result memory }
 {
     if types.len() <= FEW {

@@ -7,7 +7,7 @@ ghost use Rattle.program_types.specs.View.{desc, field_ref, method_ref, member};
 ghost use Rattle.tables_rows.specs.Names.{AreNamesOf};
 ghost use Rattle.tables_rows.specs.RowFields.{row_place};
 ghost use Rattle.tables_rows.specs.Stands.{TypeStands, FieldStands, MethodStands};
-ghost use Rattle.file_classes.specs.ClassData.{steps, IsRun};
+ghost use Rattle.file_classes.specs.ClassData.{steps, EntriesAre};
 ghost use Rattle.file_classes.specs.Classes.{IsField};
 ghost use Rattle.file_classes.specs.ClassFaults.{FieldOwner, MethodOwner};
 ghost use Rattle.file_classes.specs.ClassRows.{class_idx};
@@ -117,7 +117,7 @@ fn read_fields<'a>(
 ) -> Result<&'a [Member<'a>], Fault>
     requires names { AreNamesOf sections.now tables.now }
     requires class { TypeStands sections.now owner.row (desc owner.class) }
-    ensures ok { IfOk result (λ fields. IsRun (IsField sections.now (desc owner.entry.class)) (map field_entry entries.now) (map member fields.now)) }
+    ensures ok { IfOk result (λ fields. EntriesAre (IsField sections.now (desc owner.entry.class)) (map field_entry entries.now) (map member fields.now)) }
     ensures err { IfErr result (λ e. e ≢ memory →
         EntriesFail (FieldOwner sections.now) (size_of sections.now section.field_ids) (desc owner.entry.class) (steps (map field_entry entries.now)) owner.entry.place e) }
 {
@@ -148,7 +148,7 @@ fn read_bares<'a, 's>(
 ) -> Result<&'s [Bare<'a>], Fault>
     requires names { AreNamesOf sections.now tables.now }
     requires class { TypeStands sections.now owner.row (desc owner.class) }
-    ensures ok { IfOk result (λ bares. IsRun (IsBare sections.now (desc owner.entry.class)) (map method_entry entries.now) bares.now) }
+    ensures ok { IfOk result (λ bares. EntriesAre (IsBare sections.now (desc owner.entry.class)) (map method_entry entries.now) bares.now) }
     ensures err { IfErr result (λ e. e ≢ memory →
         EntriesFail (MethodOwner sections.now) (size_of sections.now section.method_ids) (desc owner.entry.class) (steps (map method_entry entries.now)) owner.entry.place e) }
 {

@@ -10,7 +10,7 @@ ghost use Rattle.tables_rows.specs.Sorted.{RowsHold};
 ghost use Rattle.file_classes.specs.Classes.{SpellsClass};
 ghost use Rattle.file_classes.specs.ClassFaults.{BodyAt, BodyHolds, BodyFails, CodeHolds, RegistersFail, BodiesHold, BodiesBreak, RowRegistersHold, RowRegistersBreak, IsFirstClass};
 ghost use Rattle.tables_rows.specs.Kept.{AreKept};
-ghost use Rattle.file_classes.specs.Reading.{IsHead, AreStatics, AreDone, BaresBreak, BaresUpTo, IsFound, SpellsBodies};
+ghost use Rattle.file_classes.specs.Reading.{IsHead, AreStatics, AreDone, FirstCodeBreaks, CodesUpTo, IsFound, SpellsBodies};
 
 use crate::class_row::class_count;
 use crate::heads::Head;
@@ -86,7 +86,7 @@ fn read_code_at<'a>(
     })
 }
 
-// The same: what is kept of the offset, or what is read now, and kept.
+// The code at an offset, none at 0: what is kept of the offset, or what is read now, and kept.
 fn code_at<'a>(
     alloc: Global,
     arena: &'a Bump,
@@ -121,9 +121,9 @@ fn read_methods<'a>(
     requires names { AreNamesOf sections.now tables.now }
     requires kept { AreKept (IsFound sections.now) kept.old }
     ensures ok { IfOk result (λ x. AreDone sections.now bares.now (length bares.now) (map view.method x.list.now)) }
-    ensures past { IfOk result (λ x. BaresUpTo CodeHolds RegistersFail sections.now bares.now (length bares.now) x.past) }
+    ensures past { IfOk result (λ x. CodesUpTo CodeHolds RegistersFail sections.now bares.now (length bares.now) x.past) }
     ensures kept { OnOk result (AreKept (IsFound sections.now) kept.new) }
-    ensures err { IfErr result (λ e. e ≢ memory → BaresBreak BodyHolds BodyFails sections.now bares.now e) }
+    ensures err { IfErr result (λ e. e ≢ memory → FirstCodeBreaks BodyHolds BodyFails sections.now bares.now e) }
 {
     let mut methods: Vec<Method<'a>, &'a Bump> = Vec::with_capacity(arena, bares.len())?;
     let mut past = None;

@@ -18,7 +18,7 @@ pub(crate) struct Places {
     pub last: Vec<u32>,
 }
 
-// How many types there are.
+// How many rows type_ids has.
 fn type_count(sections: &Sections<'_>) -> u32
     ensures { result ≡ size_of sections.now section.type_ids }
 {

@@ -3,16 +3,15 @@ use Rattle.std.proofs.Common.{◌≡◌, ℕ, zero, suc, ◌+◌, ◌<◌, ◌�
 use Rattle.std.specs.Prelude.{MatchBool, ◌==◌}
 use Rattle.std.specs.List.{AllByRecursion}
 use Rattle.std.proofs.lemmas.List.{take_more, length-map}
-use Rattle.file_layout.proofs.SectionLaws.{Zip-length}
 use Rattle.base_bytes.specs.Fields.{AreBytes}
-use Rattle.code_put.specs.Fits.{CodeBreaks, FitsCode, HandlersAreNear, HandlerTooFar}
+use Rattle.code_put.specs.Fits.{CodeBreaksLimit, FitsCode, HandlersAreNear, HandlerTooFar}
 use Rattle.code_put.specs.Packs.{PacksCode}
 use Rattle.code_put.proofs.HandlerOnce.{ranks-injective}
 use Rattle.code_put.proofs.LayoutOnce.{layout-once}
-use Rattle.code_put_laws.proofs.PackedLaws.{packed-spells}
+use Rattle.code_put.proofs.PackedLaws.{packed-spells}
 use Rattle.code_renumber.specs.Carried.{IsCarriedCode}
 use Rattle.dex_insn.specs.declared.opcode.IndexKind.TheVariants as kind
-use Rattle.file_least.specs.AtLeast.{FitsFields}
+use Rattle.file_least.specs.AtLeast.{FitsButHandlers}
 use Rattle.file_limits.specs.Wide.{wide_body}
 use Rattle.file_sections.specs.Codes.{WritesBody, is_bodiless}
 use Rattle.file_sections.proofs.CodeLaws.{packed_room}
@@ -25,7 +24,7 @@ use Rattle.tables_numbers.specs.Marked.{Columns}
 use Rattle.file_kept.specs.Bodies.{AreNear, AreOwned, IsCarriedBody, IsCarriedSome, IsFar, IsFirstFar, IsOwned, bodies_alone}
 use Rattle.file_kept.specs.declared.codes.Body.{Body}
 use Rattle.file_kept.specs.Moved.{IsItem}
-use Rattle.file_kept.proofs.KeepLaws.{some_same}
+use Rattle.base_bytes.proofs.ListFacts.{zip_length, some_inj}
 
 -- ---- what is written is near, so it fits
 
@@ -43,10 +42,10 @@ near_of s c bytes rise packs = λ list offs laid i lt.
     let once = layout-once (NameRanks s) (addresses_of c.insns) (ranks-injective s rise) c.tries list offs packs.list packs.offsets laid packs.handlers in
     below_at offs i lt (subst (λ (os : List ℕ). AllByRecursion (λ off. off < 65536) os) (sym once.1) packs.near)
 
-not_far : (N : ℕ → _ → Type 0) (c : Code) → HandlersAreNear N (addresses_of c.insns) c.tries → ¬ CodeBreaks N c 89
+not_far : (N : ℕ → _ → Type 0) (c : Code) → HandlersAreNear N (addresses_of c.insns) c.tries → ¬ CodeBreaksLimit N c 89
 not_far N c near (HandlerTooFar short some) = let n = near some.list some.offs some.laid some.index some.inside in let f = some.far in omega (arith, n, f)
 
-fits_code : (s : Five) (c : Code) (bytes : List ℕ) → AreRising s → FitsFields (NameRanks s) c → PacksCode (NameRanks s) bytes c → FitsCode (NameRanks s) c
+fits_code : (s : Five) (c : Code) (bytes : List ℕ) → AreRising s → FitsButHandlers (NameRanks s) c → PacksCode (NameRanks s) bytes c → FitsCode (NameRanks s) c
 fits_code s c bytes rise fits packs = record {
   strings = fits.names kind.String;
   fields = fits.names kind.Field;
@@ -72,19 +71,19 @@ body_item b numbers s off v bytes are x packs =
 
 -- a handler is too far in it
 pub body_far : (b : List ℕ) (numbers : Columns) (s : Five) (off : ℕ) (v : Option Code) → IsCarriedSome b numbers s off v
-    → ((c : Code) → IsCarriedCode b off numbers s c → CodeBreaks (NameRanks s) c 89) → IsFar s v
+    → ((c : Code) → IsCarriedCode b off numbers s c → CodeBreaksLimit (NameRanks s) c 89) → IsFar s v
 body_far b numbers s off v x far = record { code = x.code; is = x.is; breaks = far x.code x.carried }
 
 near_written : (s : Five) → AreRising s → (bytes : List ℕ) (v : Option Code) → WritesBody s bytes v → ¬ IsFar s v
 near_written s rise bytes None w f = absurd w
-near_written s rise bytes (Some c) w f = not_far (NameRanks s) c (near_of s c bytes rise w.packs) (subst (λ (d : Code). CodeBreaks (NameRanks s) d 89) (sym (some_same c f.code f.is)) f.breaks)
+near_written s rise bytes (Some c) w f = not_far (NameRanks s) c (near_of s c bytes rise w.packs) (subst (λ (d : Code). CodeBreaksLimit (NameRanks s) d 89) (sym (some_inj c f.code f.is)) f.breaks)
 
 -- a body that has its place is near
 near_used : (s : Five) → AreRising s → (align : ℕ) (kept more : List Entry) (old new : List ℕ) (v : Option Code) (place : ℕ) → UsesItem is_bodiless (WritesBody s) align kept more old new v place → ¬ IsFar s v
 near_used s rise align kept more old new None place u f = absurd (no_code f.code None refl f.is)
 near_used s rise align kept more old new (Some c) place u f = near_written s rise u.0 (Some c) u.1 f
 
--- behind an offset other than 0 a code stands
+-- after an offset other than 0 a code stands
 pub some_carried : (b : List ℕ) (numbers : Columns) (s : Five) (off : ℕ) (v : Option Code) → (off == 0) ≡ false → IsCarriedBody b numbers s off v → IsCarriedSome b numbers s off v
 some_carried b numbers s off v e x = subst (λ (t : Bool). MatchBool t (v ≡ None) (IsCarriedSome b numbers s off v)) e x
 
@@ -132,7 +131,7 @@ carried_at b numbers s es xs i lt z =
 
 pub owned_long : (b : List ℕ) (numbers : Columns) (s : Five) (es : List Body) (xs : List (ℕ × Option Code)) → AreOwned b numbers s es xs → (length es ≡ length xs) × (length es ≡ length (bodies_alone xs))
 owned_long b numbers s es xs z =
-    let n = Zip-length (IsOwned b numbers s) es xs z in
+    let n = zip_length (IsOwned b numbers s) es xs z in
     (n, n ∙ sym (length-map xs (λ (x : ℕ × Option Code). x.1)))
 
 near_append : (s : Five) (xs ys : List (ℕ × Option Code)) → AreNear s xs → AreNear s ys → AreNear s (xs ++ ys)

@@ -3,14 +3,13 @@ use Rattle.std.proofs.Common.{◌≡◌, ℕ, zero, suc, ◌+◌, ◌≤◌, Lis
 use Rattle.std.specs.Prelude.{◌⊎◌}
 use Rattle.std.specs.Option.{option_to_list}
 use Rattle.std.proofs.lemmas.List.{map-append}
-use Rattle.code_put.specs.Fits.{CodeBreaks}
-use Rattle.file_limits.specs.Limits.{ClassBreaksLimit, IsFirstClass, SomeBreaks, codes_in, codes_of}
+use Rattle.code_put.specs.Fits.{CodeBreaksLimit}
+use Rattle.file_limits.specs.Limits.{ClassBreaksLimit, IsFirstToBreak, SomeBreaks, codes_in, codes_of}
 use Rattle.file_limits.specs.Wide.{bodies_in, bodies_of}
-use Rattle.file_shared.proofs.HeldLaws.{slice_left}
 use Rattle.program_types.specs.Content.{Class, Code, Method, Program}
 use Rattle.tables_names.specs.Closure.{Five, NameRanks}
 use Rattle.file_kept.specs.Bodies.{AreNear, IsFar, IsFirstFar, numbered}
-use Rattle.file_kept.proofs.KeepLaws.{some_same}
+use Rattle.base_bytes.proofs.ListFacts.{slice_left, some_inj}
 
 -- ---- lists of codes
 
@@ -20,16 +19,16 @@ Breaks s cs = SomeBreaks (NameRanks s) 89 cs
 front : (s : Five) (cs ds : List Code) → Breaks s cs → Breaks s (cs ++ ds)
 front s cs ds x = record { index = x.index; code = x.code; there = slice_left cs ds x.index x.code x.there; breaks = x.breaks }
 
-behind : (s : Five) (ds cs : List Code) → Breaks s cs → Breaks s (ds ++ cs)
-behind s [] cs x = x
-behind s (d ∷ ds) cs x = let r = behind s ds cs x in record { index = suc r.index; code = r.code; there = r.there; breaks = r.breaks }
+after : (s : Five) (ds cs : List Code) → Breaks s cs → Breaks s (ds ++ cs)
+after s [] cs x = x
+after s (d ∷ ds) cs x = let r = after s ds cs x in record { index = suc r.index; code = r.code; there = r.there; breaks = r.breaks }
 
 none_there : (cs : List Code) (i : ℕ) (c : Code) → cs ≡ [] → slice_get cs i ≡ Some c → ⊥
 none_there [] i c e at = absurd cc
 none_there (d ∷ cs) i c e at = absurd cc
 
-split_one : (s : Five) (c : Code) (cs : List Code) (i : ℕ) (d : Code) → slice_get (c ∷ cs) i ≡ Some d → CodeBreaks (NameRanks s) d 89 → CodeBreaks (NameRanks s) c 89 ⊎ Breaks s cs
-split_one s c cs zero d at far = inl (subst (λ (e : Code). CodeBreaks (NameRanks s) e 89) (sym (some_same c d at)) far)
+split_one : (s : Five) (c : Code) (cs : List Code) (i : ℕ) (d : Code) → slice_get (c ∷ cs) i ≡ Some d → CodeBreaksLimit (NameRanks s) d 89 → CodeBreaksLimit (NameRanks s) c 89 ⊎ Breaks s cs
+split_one s c cs zero d at far = inl (subst (λ (e : Code). CodeBreaksLimit (NameRanks s) e 89) (sym (some_inj c d at)) far)
 split_one s c cs (suc i) d at far = inr (record { index = i; code = d; there = at; breaks = far })
 
 neither : (s : Five) (cs ds : List Code) → (¬ Breaks s cs) → (¬ Breaks s ds) → ¬ Breaks s (cs ++ ds)
@@ -59,7 +58,7 @@ far_in : (s : Five) (n class : ℕ) (ms : List Method) → IsFirstFar s (map (λ
 far_in s n class [] f = absurd f
 far_in s n class (m ∷ ms) f = elim f [
   | inl here ↦ (here.0, front s (option_to_list m.code) (codes_in ms) (one s m.code here.1))
-  | inr rest ↦ let r = far_in s n class ms rest.1 in (r.0, behind s (option_to_list m.code) (codes_in ms) r.1)
+  | inr rest ↦ let r = far_in s n class ms rest.1 in (r.0, after s (option_to_list m.code) (codes_in ms) r.1)
 ]
 
 far_append : (s : Five) (xs ys : List (ℕ × Option Code)) (class : ℕ) → IsFirstFar s (xs ++ ys) class → IsFirstFar s xs class ⊎ (AreNear s xs × IsFirstFar s ys class)
@@ -89,13 +88,13 @@ far_of : (s : Five) (n class : ℕ) (c : Class) → IsFirstFar s (map (λ v. (n,
 far_of s n class c f =
     elim (far_append s (map (λ v. (n, v)) (bodies_in c.directs)) (map (λ v. (n, v)) (bodies_in c.virtuals)) class (subst (λ (xs : List (ℕ × Option Code)). IsFirstFar s xs class) (pairs n c) f)) [
       | inl a ↦ let r = far_in s n class c.directs a in (r.0, front s (codes_in c.directs) (codes_in c.virtuals) r.1)
-      | inr a ↦ let r = far_in s n class c.virtuals a.1 in (r.0, behind s (codes_in c.directs) (codes_in c.virtuals) r.1)
+      | inr a ↦ let r = far_in s n class c.virtuals a.1 in (r.0, after s (codes_in c.directs) (codes_in c.virtuals) r.1)
     ]
 
 -- ---- classes
 
 none_first : (s : Five) (n : ℕ) (c : Class) (p : Program) → AreNear s (map (λ v. (n, v)) (bodies_of c)) → ¬ ClassBreaksLimit (NameRanks s) 89 (c ∷ p) 0
-none_first s n c p near x = none_of s n c near (subst (λ (d : Class). Breaks s (codes_of d)) (sym (some_same c x.class x.there)) x.body)
+none_first s n c p near x = none_of s n c near (subst (λ (d : Class). Breaks s (codes_of d)) (sym (some_inj c x.class x.there)) x.body)
 
 below : (s : Five) (c : Class) (p : Program) (j : ℕ) → ClassBreaksLimit (NameRanks s) 89 (c ∷ p) (suc j) → ClassBreaksLimit (NameRanks s) 89 p j
 below s c p j x = record { class = x.class; there = x.there; body = x.body }
@@ -107,7 +106,7 @@ later : (s : Five) (n : ℕ) (c : Class) (p : Program) (i : ℕ) → AreNear s (
 later s n c p i near low zero x = absurd (none_first s n c p near x)
 later s n c p i near low (suc j) x = let l = low j (below s c p j x) in omega (arith, l)
 
-first_from : (s : Five) (n class : ℕ) (p : Program) → IsFirstFar s (numbered n p) class → (i : ℕ) × (class ≡ n + i) × IsFirstClass (NameRanks s) 89 p i
+first_from : (s : Five) (n class : ℕ) (p : Program) → IsFirstFar s (numbered n p) class → (i : ℕ) × (class ≡ n + i) × IsFirstToBreak (NameRanks s) 89 p i
 first_from s n class [] f = absurd f
 first_from s n class (c ∷ p) f = elim (far_append s (map (λ v. (n, v)) (bodies_of c)) (numbered (n + 1) p) class f) [
   | inl here ↦ let r = far_of s n class c here in let e = r.0 in (0, omega (arith, e), record { here = record { class = c; there = refl; body = r.1 }; first = λ j x. omega arith })
@@ -118,12 +117,12 @@ first_from s n class (c ∷ p) f = elim (far_append s (map (λ v. (n, v)) (bodie
 ]
 
 -- the number of the first body that is far is that of the first such class
-pub first_class : (s : Five) (p : Program) (class : ℕ) → IsFirstFar s (numbered 0 p) class → IsFirstClass (NameRanks s) 89 p class
+pub first_class : (s : Five) (p : Program) (class : ℕ) → IsFirstFar s (numbered 0 p) class → IsFirstToBreak (NameRanks s) 89 p class
 first_class s p class f =
     let r = first_from s 0 class p f in
     let e = r.1 in
     let same : r.0 ≡ class = omega (arith, e) in
-    subst (IsFirstClass (NameRanks s) 89 p) same r.2
+    subst (IsFirstToBreak (NameRanks s) 89 p) same r.2
 
 -- where none is far no class is such
 pub none_far : (s : Five) (n : ℕ) (p : Program) → AreNear s (numbered n p) → (i : ℕ) → ¬ ClassBreaksLimit (NameRanks s) 89 p i

@@ -6,7 +6,7 @@ use Rattle.std.proofs.lemmas.List.{take_all, map-append}
 use Rattle.std.proofs.lemmas.Option.{slice_get_within}
 use Rattle.base_bytes.specs.Fields.{AreBytes}
 use Rattle.code_put.proofs.HandlerOnce.{ranks-injective}
-use Rattle.code_read_laws.proofs.CodesFormed.{standing-formed}
+use Rattle.code_read.proofs.CodesFormed.{standing-formed}
 use Rattle.dex_container.specs.Layout.{size_of}
 use Rattle.file_classes.specs.ClassData.{Entries, EntriesAt}
 use Rattle.file_classes.specs.Classes.{CodeAt, CodesAre, SomeCodeStands}
@@ -35,9 +35,12 @@ use Rattle.tables_rows.specs.Stands.{NameStands}
 use Rattle.file_kept.specs.Bodies.{AreFirstBodies, AreOwned, IsCarriedBody, IsCarriedSome, body_of, numbered}
 use Rattle.file_kept.specs.declared.codes.Body.{Body}
 use Rattle.file_kept.specs.Keeping.{Keeps}
-use Rattle.file_kept.proofs.KeepLaws.{before_few, carried, class_holds, number_is, some_same}
+use Rattle.file_kept.proofs.KeepLaws.{carried, class_holds, number_is}
 use Rattle.file_kept.proofs.FarLaws.{pairs}
-use Rattle.file_kept.proofs.SiteLaws.{class_at}
+use Rattle.file_least.proofs.RowsFrom.{ranked_holds}
+use Rattle.tables_numbers.proofs.ColumnLemmas.{before_few}
+use Rattle.base_bytes.proofs.ListFacts.{some_inj}
+use Rattle.file_kept.proofs.ClassRowLaws.{class_at}
 
 -- ---- no number is above its row
 
@@ -49,12 +52,6 @@ low_number n column numbers shape counts i number at =
     let f = before_few column i shape.small in
     let g = number_is numbers i number at in
     omega (arith, e, f, g)
-
-ranked_holds : (s : Five) (rank : ℕ) (which : Name) → NameRanks s rank which → Holds s which
-ranked_holds s rank (OfText t) r = member_at s.strings rank (text_key t) r
-ranked_holds s rank (OfDesc t) r = member_at s.types rank (text_key t) r
-ranked_holds s rank (OfField f) r = member_at s.fields rank (field_ref_key f) r
-ranked_holds s rank (OfMethod m) r = member_at s.methods rank (method_ref_key m) r
 
 module _ (b : List ℕ) (numbers : Columns) (p : Program) (k : Keeps b numbers p) where
   low_of : (which : Name) (i number : ℕ) → slice_get (column_of numbers (kind_of which)) i ≡ Some number → number ≤ i
@@ -124,7 +121,7 @@ owned_append b numbers s (e ∷ es) fs (x ∷ xs) ys z w = (z.0, owned_append b 
 numbered_more : (n : ℕ) (p : Program) (i : ℕ) (c : Class) → slice_get p i ≡ Some c → numbered n (take (suc i) p) ≡ numbered n (take i p) ++ map (λ v. (n + i, v)) (bodies_of c)
 numbered_more n [] i c at = absurd cc
 numbered_more n (d ∷ p) zero c at =
-    let e = some_same d c at in
+    let e = some_inj d c at in
     let z : n + 0 ≡ n = omega arith in
     append-nil (map (λ v. (n, v)) (bodies_of d)) ∙ (λ j. map (λ v. ((sym z) j, v)) (bodies_of (e j)))
 numbered_more n (d ∷ p) (suc i) c at =
@@ -136,7 +133,7 @@ numbered_more n (d ∷ p) (suc i) c at =
 class_wide : (p : Program) (i : ℕ) (c : Class) → slice_get p i ≡ Some c → wide_all wide_body (bodies_of c) ≤ wide_all wide_body (body_values p)
 class_wide [] i c at = absurd cc
 class_wide (d ∷ p) zero c at =
-    let e = ap (λ (x : Class). wide_all wide_body (bodies_of x)) (some_same d c at) in
+    let e = ap (λ (x : Class). wide_all wide_body (bodies_of x)) (some_inj d c at) in
     let a = wide_all_append wide_body (bodies_of d) (body_values p) in
     omega (arith, e, a)
 class_wide (d ∷ p) (suc i) c at =

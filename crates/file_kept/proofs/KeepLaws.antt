@@ -11,28 +11,20 @@ use Rattle.tables_names.specs.Needed.{needed}
 use Rattle.tables_names.proofs.NeededLemmas.{needed_is_least}
 use Rattle.tables_numbers.specs.Marked.{Columns, IsColumn}
 use Rattle.tables_numbers.specs.Numbers.{before, Counts, IsKept, Carries}
-use Rattle.tables_numbers.proofs.ColumnLemmas.{before_next, before-cons}
+use Rattle.tables_numbers.proofs.ColumnLemmas.{before_next, before-cons, before_few}
 use Rattle.tables_numbers.proofs.RankLemmas.{kept_rows_are_ranks, totals_are_lengths}
 use Rattle.tables_rows.specs.Stands.{NameStands}
 use Rattle.file_needed.proofs.Steps.{left, right}
 use Rattle.file_kept.specs.Keeping.{Keeps}
+use Rattle.base_bytes.proofs.ListFacts.{some_inj}
 
 -- ---- one column
-
-pub some_same : {V : Type 0} (a b : V) → Some a ≡ Some b → a ≡ b
-some_same a b e = cc
 
 one_more : (j : ℕ) → suc j ≡ j + 1
 one_more j = omega arith
 
 pub number_is : (numbers : List ℕ) (i n : ℕ) → slice_get numbers i ≡ Some n → get_or numbers i 0 ≡ n
-number_is numbers i n at = some_same (get_or numbers i 0) n (sym (slice_get-get_or numbers i 0 (slice_get_within numbers i n at)) ∙ at)
-
-pub before_few : (c : List ℕ) (i : ℕ) → ((k : ℕ) → get_or c k 0 ≤ 1) → before c i ≤ i
-before_few c zero small = omega arith
-before_few [] (suc i) small = omega arith
-before_few (x ∷ c) (suc i) small =
-    let e = before-cons x c i in let first = small zero in let rest = before_few c i (λ k. small (suc k)) in omega (arith, e, first, rest)
+number_is numbers i n at = some_inj (get_or numbers i 0) n (sym (slice_get-get_or numbers i 0 (slice_get_within numbers i n at)) ∙ at)
 
 module _ (n : ℕ) (column numbers : List ℕ) (shape : IsColumn n column) (counts : Counts column numbers) where
   pub numbers_long : length numbers ≡ n + 1
@@ -43,11 +35,11 @@ module _ (n : ℕ) (column numbers : List ℕ) (shape : IsColumn n column) (coun
       let long = shape.long in
       counts.each (i + 1) (omega (arith, lt, long)) ∙ before_next column i (omega (arith, lt, long)) ∙ ap (λ k. k + get_or column i 0) (sym (counts.each i (omega (arith, lt, long))))
 
-  -- one more behind a row that is kept
+  -- one more after a row that is kept
   pub next_kept : (i : ℕ) → i < n → IsKept numbers i → get_or numbers (i + 1) 0 ≡ get_or numbers i 0 + 1
   next_kept i lt k = let e = step i lt in let s = shape.small i in omega (arith, e, s, k)
 
-  -- and none behind another
+  -- and none after another
   pub next_not_kept : (i : ℕ) → i < n → ¬ IsKept numbers i → get_or numbers (i + 1) 0 ≡ get_or numbers i 0
   next_not_kept i lt k = let e = step i lt in let s = shape.small i in omega (arith, e, s, k)
 

@@ -5,7 +5,7 @@ pub mod ListLaws
 pub mod StaticsLaws
 pub mod TextLaws
 pub mod TableLaws
-pub mod SeatLaws
+pub mod ClassRowLaws
 pub mod MemberLaws
 pub mod SiteLaws
 pub mod SizeLaws

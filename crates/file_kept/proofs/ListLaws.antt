@@ -24,18 +24,20 @@ use Rattle.tables_rows.specs.RowFields.{proto_parameters}
 use Rattle.tables_rows.specs.Stands.{NameStands, TypeStands, TypesAt, SpellsIndexes}
 use Rattle.tables_rows.proofs.HalvesLaws.{list_or_none_one}
 use Rattle.tables_rows.proofs.TypeLists.{indexes_of}
-use Rattle.file_layout.proofs.SectionLaws.{Zip-length, not_none}
-use Rattle.file_layout.proofs.TileLaws.{Zip-push}
+use Rattle.file_layout.proofs.SectionLaws.{not_none}
 use Rattle.file_layout.specs.Sections.{is_empty_list}
 use Rattle.file_limits.specs.Wide.{list_values, params_of, wide_list}
 use Rattle.file_needed.proofs.ClassNames.{interfaces_named}
 use Rattle.file_sections.specs.Lists.{AddsIndices, SpellsRanks}
-use Rattle.file_sections.proofs.ListLaws.{all_push, list_some}
+use Rattle.file_sections.proofs.ListLaws.{list_some, halves_push}
 use Rattle.file_kept.specs.Keeping.{Keeps}
 use Rattle.file_kept.specs.Lists.{AreCarriedLists, AreFirstLists, AreRanked, IsCarriedList}
 use Rattle.file_kept.specs.Moved.{IsItem}
 use Rattle.file_kept.specs.Words.{AreClassWords}
 use Rattle.file_kept.proofs.KeepLaws.{number_is, numbers_long, next_kept, next_not_kept, first_number, few_types, all_carried, class_holds}
+use Rattle.tables_numbers.proofs.MarkLemmas.{all_held}
+use Rattle.base_bytes.proofs.ListFacts.{zip_length, zip_more}
+use Rattle.code_put.proofs.DistinctLaws.{all-more}
 
 -- ---- the numbers of types
 
@@ -52,12 +54,7 @@ ranked_at numbers s indexes ts j lt r = by indexes ts j lt r.each
     by (x ∷ xs) (y ∷ ys) (suc k) lt z = let h = by xs ys k (omega (arith, lt)) z.1 in (h.0, h.1, h.2, h.3, (let l = h.4 in omega (arith, l)))
 
 pub ranked_long : (numbers : Columns) (s : Five) (indexes : List ℕ) (ts : List Units) → AreRanked numbers s indexes ts → length indexes ≡ length ts
-ranked_long numbers s indexes ts r = Zip-length (λ i t. (number : ℕ) × (slice_get numbers.types i ≡ Some number) × IsAt s.types number (text_key t)) indexes ts r.each
-
-halves_push : (xs : List ℕ) (x : ℕ) → halves_bytes (xs ++ x ∷ []) ≡ halves_bytes xs ++ u16_bytes x
-unfolding halves_bytes
-halves_push [] x = append-nil (u16_bytes x)
-halves_push (y ∷ xs) x = ap (λ l. u16_bytes y ++ l) (halves_push xs x) ∙ sym (append_assoc (u16_bytes y) (halves_bytes xs) (u16_bytes x))
+ranked_long numbers s indexes ts r = zip_length (λ i t. (number : ℕ) × (slice_get numbers.types i ≡ Some number) × IsAt s.types number (text_key t)) indexes ts r.each
 
 -- one type more
 pub indices_next : (s : Five) (old mid new bytes : List ℕ) (k : ℕ) (ts : List Units) (j : ℕ) → j < length ts → AddsIndices s old mid (take j ts) → new ≡ mid ++ bytes → bytes ≡ u16_bytes k → k < 2 ^ 16 → IsAt s.types k (text_key (get_or ts j [])) → AddsIndices s old new (take (j + 1) ts)
@@ -66,8 +63,8 @@ indices_next s old mid new bytes k ts j lt a n b small at =
     (record {
       indexes = a.indexes ++ k ∷ [];
       whole = n ∙ ap (λ (l : List ℕ). l ++ bytes) a.whole ∙ append_assoc old (halves_bytes a.indexes) bytes ∙ ap (λ (l : List ℕ). old ++ l) (ap (λ (l : List ℕ). halves_bytes a.indexes ++ l) b ∙ sym (halves_push a.indexes k));
-      small = all_push (λ (i : ℕ). i < 2 ^ 16) a.indexes k a.small small;
-      named = Zip-push (λ (i : ℕ) (t : Units). IsAt s.types i (text_key t)) a.indexes (take j ts) k (get_or ts j []) a.named at;
+      small = all-more (λ (i : ℕ). i < 2 ^ 16) a.indexes k a.small small;
+      named = zip_more (λ (i : ℕ) (t : Units). IsAt s.types i (text_key t)) a.indexes (take j ts) k (get_or ts j []) a.named at;
     })
 
 -- a row has one number
@@ -106,7 +103,7 @@ pub list_spelled : (numbers : Columns) (s : Five) (indexes : List ℕ) (ts : Lis
 unfolding words_bytes
 list_spelled numbers s indexes ts start count bytes n e c is some few r a =
     let long = ranked_long numbers s indexes ts r in
-    let same = Zip-length (λ (i : ℕ) (t : Units). IsAt s.types i (text_key t)) a.indexes ts a.named in
+    let same = zip_length (λ (i : ℕ) (t : Units). IsAt s.types i (text_key t)) a.indexes ts a.named in
     let front : count ≡ u32_bytes n = c ∙ ap (λ (l : List ℕ). l ++ words_bytes (n ∷ [])) e ∙ append-nil (u32_bytes n) in
     let as_many : n ≡ length a.indexes = omega (arith, is, long, same) in
     let p : SpellsRanks s bytes ts = record {
@@ -146,10 +143,6 @@ hold_all s [] row a = tt
 hold_all s (t ∷ ts) [] a = absurd a
 hold_all s (t ∷ ts) (i ∷ row) a = (member_at s.types i (text_key t) a.0, hold_all s ts row a.1)
 
-hold_each : (s : Five) (ts : List Units) → AllByRecursion (Holds s) (map OfDesc ts) → AllByRecursion (λ t. Holds s (OfDesc t)) ts
-hold_each s [] all = tt
-hold_each s (t ∷ ts) all = (all.0, hold_each s ts all.1)
-
 module _ (b : List ℕ) (numbers : Columns) (p : Program) (k : Keeps b numbers p) where
   pub protos_long : length numbers.protos ≡ size_of b 2 + 1
   protos_long = numbers_long (size_of b 2) k.marks.columns.protos numbers.protos k.marked.protos.shape k.numbered.protos
@@ -184,13 +177,13 @@ module _ (b : List ℕ) (numbers : Columns) (p : Program) (k : Keeps b numbers p
       let before : AreCarriedLists b numbers s offs (take rank.0 vs) = subst (λ (n : ℕ). AreCarriedLists b numbers s offs (take n vs)) is z in
       let more : AreCarriedLists b numbers s (offs ++ proto_parameters b i ∷ []) (take (rank.0 + 1) vs) =
       subst (AreCarriedLists b numbers s (offs ++ proto_parameters b i ∷ [])) (ap (λ (l : List Units). take rank.0 vs ++ l ∷ []) (sym own) ∙ sym (take_more vs rank.0 [] within))
-      (Zip-push (IsCarriedList b numbers s) offs (take rank.0 vs) (proto_parameters b i) q.params before at) in
+      (zip_more (IsCarriedList b numbers s) offs (take rank.0 vs) (proto_parameters b i) q.params before at) in
       subst (λ (n : ℕ). AreCarriedLists b numbers s (offs ++ proto_parameters b i ∷ []) (take n vs)) (ap (λ (n : ℕ). n + 1) (sym is) ∙ sym e) more
     where
       number_of : (vs : List (List Units)) (i : ℕ) (v : List Units) → slice_get vs i ≡ Some v → get_or vs i [] ≡ v
       number_of vs i v at = let e : Some (get_or vs i []) ≡ Some v = sym (slice_get-get_or vs i [] (slice_get_within vs i v at)) ∙ at in cc e
 
-  -- behind the last row there are all
+  -- after the last row there are all
   pub parameter_lists : (i : ℕ) (offs : List ℕ) → i ≡ size_of b 2 → AreFirstLists b numbers p i offs → AreCarriedLists b numbers (needed p) offs (map params_of (needed p).protos)
   parameter_lists i offs is z =
       let vs = map params_of (needed p).protos in
@@ -215,7 +208,7 @@ module _ (b : List ℕ) (numbers : Columns) (p : Program) (k : Keeps b numbers p
       (record {
         few = few_types b numbers p k;
         stands = subst (λ (o : ℕ). TypesAt b o c.0.interfaces) (sym (w.each i (omega (arith, lt, count)))) st.head.interfaces.types;
-        carried = all_carried b numbers p k c.0.interfaces (hold_each (needed p) c.0.interfaces all);
+        carried = all_carried b numbers p k c.0.interfaces (all_held (needed p) c.0.interfaces all);
       }))
     where
       mapped : (q : Program) (i : ℕ) (ts : List Units) → slice_get (map (λ (c : Class). c.interfaces) q) i ≡ Some ts → (c : Class) × (slice_get q i ≡ Some c) × (c.interfaces ≡ ts)

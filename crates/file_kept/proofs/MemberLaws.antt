@@ -8,7 +8,7 @@ use Rattle.base_bytes.specs.Grammar.{Appends, Each}
 use Rattle.base_bytes.specs.Leb128.{Spells, Shortest}
 use Rattle.base_bytes.proofs.GrammarLaws.{Each-push}
 use Rattle.dex_container.specs.Layout.{size_of}
-use Rattle.file_classes.specs.ClassData.{Entries, FieldEntry, MethodEntry, SpellsField, SpellsMethod, IsRun, steps, index_of}
+use Rattle.file_classes.specs.ClassData.{Entries, FieldEntry, MethodEntry, SpellsFieldEntry, SpellsMethodEntry, EntriesAre, steps, index_of}
 use Rattle.file_classes.specs.Classes.{IsField, IsMethod, MembersAre}
 use Rattle.file_needed.proofs.ClassNames.{statics_named, instances_named, directs_kept, virtuals_kept}
 use Rattle.file_needed.proofs.Steps.{right}
@@ -25,16 +25,12 @@ use Rattle.tables_numbers.proofs.RankLemmas.{kept_rows_are_held}
 use Rattle.file_kept.specs.Keeping.{Keeps}
 use Rattle.file_kept.specs.Members.{AreCarriedMembers, IsCarriedRun}
 use Rattle.file_kept.proofs.KeepLaws.{number_is, numbers_long, numbers_rise, carried, class_holds}
+use Rattle.file_classes.proofs.EntryLaws.{entry_at}
 
 -- ---- lists by index
 
 value_at : {A : Type 0} (xs : List A) (i : ℕ) (x d : A) → slice_get xs i ≡ Some x → get_or xs i d ≡ x
 value_at xs i x d at = let e : Some (get_or xs i d) ≡ Some x = sym (slice_get-get_or xs i d (slice_get_within xs i x at)) ∙ at in cc e
-
-there : {A : Type 0} (xs : List A) (i : ℕ) → i < length xs → (x : A) × (slice_get xs i ≡ Some x)
-there [] i lt = absurd (omega (arith, lt))
-there (x ∷ xs) zero lt = (x, refl)
-there (x ∷ xs) (suc i) lt = there xs i (omega (arith, lt))
 
 step_at : {R : Type 0} (es : List (ℕ × R)) (i : ℕ) (e : ℕ × R) → slice_get es i ≡ Some e → get_or (steps es) i 0 ≡ e.0
 step_at {R} es i e at = value_at (steps es) i e.0 0 (slice_get-map (λ (x : ℕ × R). x.0) es i ∙ ap (option_map (λ (x : ℕ × R). x.0)) at)
@@ -56,12 +52,12 @@ module _ {R V : Type 0} (column : List ℕ) (M : ℕ → ℕ × R → V → Type
   -- Of the first i entries these are written; the last of them has this index, and its row this number, 0 for none.
   pub record StepsTo (outs : List (ℕ × R)) (i index last : ℕ) : Type 0 where
     pub index_is : index ≡ sum (take i (steps es))
-    pub run : IsRun M outs (take i vs)
+    pub run : EntriesAre M outs (take i vs)
     pub sum_is : last ≡ total outs
-    pub behind : (k : ℕ) → i ≡ k + 1 → last ≡ get_or column (index_of (steps es) k) 0
+    pub after : (k : ℕ) → i ≡ k + 1 → last ≡ get_or column (index_of (steps es) k) 0
 
   pub steps_start : StepsTo [] 0 0 0
-  steps_start = record { index_is = refl; run = no_run M; sum_is = refl; behind = λ k e. absurd (omega (arith, e)) }
+  steps_start = record { index_is = refl; run = no_run M; sum_is = refl; after = λ k e. absurd (omega (arith, e)) }
 
   -- the next entry, its row's number and its value
   pub record NextStep (i index : ℕ) : Type 0 where
@@ -75,9 +71,9 @@ module _ {R V : Type 0} (column : List ℕ) (M : ℕ → ℕ × R → V → Type
 
   pub next_step : (outs : List (ℕ × R)) (i index last : ℕ) → IsCarriedRun column M es vs → StepsTo outs i index last → i < length es → NextStep i index
   next_step outs i index last c s lt =
-      let e = there es i lt in
+      let e = entry_at es i lt in
       let n = c.count in
-      let v = there vs i (omega (arith, n, lt)) in
+      let v = entry_at vs i (omega (arith, n, lt)) in
       let r = c.each i e.0 v.0 e.1 v.1 in
       record {
         entry = e.0;
@@ -97,7 +93,7 @@ module _ {R V : Type 0} (column : List ℕ) (M : ℕ → ℕ × R → V → Type
       (λ h. absurd (omega (arith, h)), omega (arith, t, z))
   last_low outs (suc i) index last number c s lt n =
       let one : suc i ≡ i + 1 = omega arith in
-      let b = s.behind i one in
+      let b = s.after i one in
       let r = c.rises i (omega (arith, lt)) in
       let m : number ≡ get_or column (index_of (steps es) (i + 1)) 0 = n ∙ ap (λ (k : ℕ). get_or column (index_of (steps es) k) 0) one in
       (λ h. omega (arith, b, r, m), omega (arith, b, r, m))
@@ -122,10 +118,10 @@ module _ {R V : Type 0} (column : List ℕ) (M : ℕ → ℕ × R → V → Type
         low = low;
         next = record {
           index_is = sym here;
-          run = subst (λ (us : List V). IsRun M (outs ++ (x.number - last, rest) ∷ []) us) done
+          run = subst (λ (us : List V). EntriesAre M (outs ++ (x.number - last, rest) ∷ []) us) done
               (run_push M outs (take i vs) (x.number - last, rest) x.value x.number s.run (omega (arith, t, low)) (moves (x.number - last) x.stands) (λ h. let q = l.0 h in omega (arith, q)));
           sum_is = omega (arith, p, t, low);
-          behind = λ k e. let same : i ≡ k = omega (arith, e) in subst (λ (j : ℕ). x.number ≡ get_or column (index_of (steps es) j) 0) same n;
+          after = λ k e. let same : i ≡ k = omega (arith, e) in subst (λ (j : ℕ). x.number ≡ get_or column (index_of (steps es) j) 0) same n;
         };
       }
 
@@ -144,7 +140,7 @@ pub record FieldsTo (column : List ℕ) (s : Five) (class : Descriptor) (es : Li
   pub outs : List FieldEntry
   pub bytes : List ℕ
   pub whole : out ≡ old ++ bytes
-  pub spelled : Each (SpellsField (Shortest Spells)) bytes outs
+  pub spelled : Each (SpellsFieldEntry (Shortest Spells)) bytes outs
   pub done : StepsTo column (FieldRanks (NameRanks s) class) es ms outs i index last
 
 module _ (column : List ℕ) (s : Five) (class : Descriptor) (es : List FieldEntry) (ms : List Member) (c : IsCarriedRun column (FieldRanks (NameRanks s) class) es ms) where
@@ -170,7 +166,7 @@ module _ (column : List ℕ) (s : Five) (class : Descriptor) (es : List FieldEnt
       subst (λ (k : ℕ). last ≤ k) x.2 g.low
 
   pub field_more : (old mid new : List ℕ) (i index last : ℕ) (e : FieldEntry) (number : ℕ) → FieldsTo column s class es ms old mid i index last → i < length es → slice_get es i ≡ Some e → slice_get column (index + e.0) ≡ Some number
-      → Appends (SpellsField (Shortest Spells)) mid new (number - last, e.1) → FieldsTo column s class es ms old new (i + 1) (index + e.0) number
+      → Appends (SpellsFieldEntry (Shortest Spells)) mid new (number - last, e.1) → FieldsTo column s class es ms old new (i + 1) (index + e.0) number
   field_more old mid new i index last e number f lt at n a =
       let x = field_number old mid i index last e number f lt at n in
       let M = FieldRanks (NameRanks s) class in
@@ -181,14 +177,14 @@ module _ (column : List ℕ) (s : Five) (class : Descriptor) (es : List FieldEnt
         outs = f.outs ++ (number - last, e.1) ∷ [];
         bytes = f.bytes ++ a.bytes;
         whole = a.joined ∙ ap (λ (l : List ℕ). l ++ a.bytes) f.whole ∙ append_assoc old f.bytes a.bytes;
-        spelled = Each-push (SpellsField (Shortest Spells)) f.bytes a.bytes f.outs (number - last, e.1) f.spelled a.spelled;
+        spelled = Each-push (SpellsFieldEntry (Shortest Spells)) f.bytes a.bytes f.outs (number - last, e.1) f.spelled a.spelled;
         done = subst (λ (k : ℕ). StepsTo column M es ms (f.outs ++ (k - last, e.1) ∷ []) (i + 1) (index + e.0) k) x.2 one;
       }
 
   pub fields_end : (old new : List ℕ) (i index last : ℕ) → length es ≤ i → FieldsTo column s class es ms old new i index last → AddsFields (NameRanks s) class old new ms
   fields_end old new i index last le f =
       let n = c.count in
-      record { bytes = f.bytes; entries = f.outs; whole = f.whole; spelled = f.spelled; run = subst (λ (us : List Member). IsRun (FieldRanks (NameRanks s) class) f.outs us) (take_all i ms (omega (arith, n, le))) f.done.run }
+      record { bytes = f.bytes; entries = f.outs; whole = f.whole; spelled = f.spelled; run = subst (λ (us : List Member). EntriesAre (FieldRanks (NameRanks s) class) f.outs us) (take_all i ms (omega (arith, n, le))) f.done.run }
 
 -- ---- methods
 
@@ -196,7 +192,7 @@ pub record MethodsTo (column : List ℕ) (s : Five) (class : Descriptor) (es : L
   pub outs : List MethodEntry
   pub bytes : List ℕ
   pub whole : out ≡ old ++ bytes
-  pub spelled : Each (SpellsMethod (Shortest Spells)) bytes outs
+  pub spelled : Each (SpellsMethodEntry (Shortest Spells)) bytes outs
   pub places : code_offs outs ≡ take i codes
   pub done : StepsTo column (MethodRanks (NameRanks s) class) es ms outs i index last
 
@@ -223,7 +219,7 @@ module _ (column : List ℕ) (s : Five) (class : Descriptor) (es : List MethodEn
       subst (λ (k : ℕ). last ≤ k) x.2 g.low
 
   pub method_more : (old mid new : List ℕ) (i index last : ℕ) (e : MethodEntry) (number code : ℕ) → MethodsTo column s class es ms codes old mid i index last → i < length es → i < length codes → slice_get es i ≡ Some e → slice_get column (index + e.0) ≡ Some number → code ≡ get_or codes i 0
-      → Appends (SpellsMethod (Shortest Spells)) mid new (number - last, (e.1.0, code)) → MethodsTo column s class es ms codes old new (i + 1) (index + e.0) number
+      → Appends (SpellsMethodEntry (Shortest Spells)) mid new (number - last, (e.1.0, code)) → MethodsTo column s class es ms codes old new (i + 1) (index + e.0) number
   method_more old mid new i index last e number code f lt few at n own a =
       let x = method_number old mid i index last e number f lt at n in
       let M = MethodRanks (NameRanks s) class in
@@ -234,7 +230,7 @@ module _ (column : List ℕ) (s : Five) (class : Descriptor) (es : List MethodEn
         outs = f.outs ++ (number - last, (e.1.0, code)) ∷ [];
         bytes = f.bytes ++ a.bytes;
         whole = a.joined ∙ ap (λ (l : List ℕ). l ++ a.bytes) f.whole ∙ append_assoc old f.bytes a.bytes;
-        spelled = Each-push (SpellsMethod (Shortest Spells)) f.bytes a.bytes f.outs (number - last, (e.1.0, code)) f.spelled a.spelled;
+        spelled = Each-push (SpellsMethodEntry (Shortest Spells)) f.bytes a.bytes f.outs (number - last, (e.1.0, code)) f.spelled a.spelled;
         places = map-append (λ (y : MethodEntry). y.1.1) f.outs ((number - last, (e.1.0, code)) ∷ []) ∙ ap (λ (l : List ℕ). l ++ code ∷ []) f.places ∙ ap (λ (k : ℕ). take i codes ++ k ∷ []) own ∙ sym (take_more codes i 0 few);
         done = subst (λ (k : ℕ). StepsTo column M es ms (f.outs ++ (k - last, (e.1.0, code)) ∷ []) (i + 1) (index + e.0) k) x.2 one;
       }
@@ -247,7 +243,7 @@ module _ (column : List ℕ) (s : Five) (class : Descriptor) (es : List MethodEn
         entries = f.outs;
         whole = f.whole;
         spelled = f.spelled;
-        run = subst (λ (us : List Method). IsRun (MethodRanks (NameRanks s) class) f.outs us) (take_all i ms (omega (arith, n, le))) f.done.run;
+        run = subst (λ (us : List Method). EntriesAre (MethodRanks (NameRanks s) class) f.outs us) (take_all i ms (omega (arith, n, le))) f.done.run;
         places = f.places ∙ take_all i codes (omega (arith, m, le));
       }
 
@@ -273,7 +269,7 @@ index_less {R} es i lt some =
     omega (arith, b, some)
 
 module _ (b : List ℕ) (numbers : Columns) (p : Program) (k : Keeps b numbers p) where
-  fields_carried : (class : Descriptor) (es : List FieldEntry) (ms : List Member) → IsRun (IsField b class) es ms → AllByRecursion (Holds (needed p)) (map (field_of_class class) ms) → IsCarriedRun numbers.fields (FieldRanks (NameRanks (needed p)) class) es ms
+  fields_carried : (class : Descriptor) (es : List FieldEntry) (ms : List Member) → EntriesAre (IsField b class) es ms → AllByRecursion (Holds (needed p)) (map (field_of_class class) ms) → IsCarriedRun numbers.fields (FieldRanks (NameRanks (needed p)) class) es ms
   fields_carried class es ms run all = record {
     count = run.count;
     each = λ j e m at_e at_m.
@@ -281,10 +277,10 @@ module _ (b : List ℕ) (numbers : Columns) (p : Program) (k : Keeps b numbers p
         (r.0, r.1, record { field = r.2; flags = (run.each j e m at_e at_m).flags });
     rises = λ j lt.
         let n = run.count in
-        let e = there es j (omega (arith, lt)) in
-        let m = there ms j (omega (arith, lt, n)) in
-        let e2 = there es (j + 1) lt in
-        let m2 = there ms (j + 1) (omega (arith, lt, n)) in
+        let e = entry_at es j (omega (arith, lt)) in
+        let m = entry_at ms j (omega (arith, lt, n)) in
+        let e2 = entry_at es (j + 1) lt in
+        let m2 = entry_at ms (j + 1) (omega (arith, lt, n)) in
         let st = (run.each j e.0 m.0 e.1 m.1).field in
         let st2 = (run.each (j + 1) e2.0 m2.0 e2.1 m2.1).field in
         let held = all_at (Holds (needed p)) (field_of_class class) ms j m.0 m.1 all in
@@ -294,7 +290,7 @@ module _ (b : List ℕ) (numbers : Columns) (p : Program) (k : Keeps b numbers p
         (index_less es j lt (run.rises (j + 1) (omega arith) lt)) (omega (arith, row)) kept;
   }
 
-  methods_carried : (class : Descriptor) (es : List MethodEntry) (ms : List Method) → IsRun (IsMethod b class) es ms → AllByRecursion (Holds (needed p)) (flat_map (names_of_method class) ms) → IsCarriedRun numbers.methods (MethodRanks (NameRanks (needed p)) class) es ms
+  methods_carried : (class : Descriptor) (es : List MethodEntry) (ms : List Method) → EntriesAre (IsMethod b class) es ms → AllByRecursion (Holds (needed p)) (flat_map (names_of_method class) ms) → IsCarriedRun numbers.methods (MethodRanks (NameRanks (needed p)) class) es ms
   methods_carried class es ms run all = record {
     count = run.count;
     each = λ j e m at_e at_m.
@@ -302,10 +298,10 @@ module _ (b : List ℕ) (numbers : Columns) (p : Program) (k : Keeps b numbers p
         (r.0, r.1, record { method = r.2; flags = (run.each j e m at_e at_m).flags });
     rises = λ j lt.
         let n = run.count in
-        let e = there es j (omega (arith, lt)) in
-        let m = there ms j (omega (arith, lt, n)) in
-        let e2 = there es (j + 1) lt in
-        let m2 = there ms (j + 1) (omega (arith, lt, n)) in
+        let e = entry_at es j (omega (arith, lt)) in
+        let m = entry_at ms j (omega (arith, lt, n)) in
+        let e2 = entry_at es (j + 1) lt in
+        let m2 = entry_at ms (j + 1) (omega (arith, lt, n)) in
         let st = (run.each j e.0 m.0 e.1 m.1).method in
         let st2 = (run.each (j + 1) e2.0 m2.0 e2.1 m2.1).method in
         let held = flat_at (Holds (needed p)) class ms j m.0 m.1 all in

@@ -3,11 +3,11 @@ use Rattle.std.proofs.Common.{◌≡◌, ℕ, ◌<◌, Bool, true, false, nat_eq
 use Rattle.std.specs.Prelude.{MatchBool}
 use Rattle.indexmap.specs.IndexMap.{IndexMap, IsEmpty, Updates}
 use Rattle.file_layout.specs.Sections.{IsItself, is_empty_list}
-use Rattle.file_shared.specs.Once.{Entry, IsKept, PutsOnce}
+use Rattle.file_shared.specs.Once.{Entry, HasItemAt, PutsOnce}
 use Rattle.file_shared.specs.Sharing.{UsesItem}
-use Rattle.file_shared.proofs.HeldLaws.{slice_left, slice_last}
 use Rattle.tables_rows.proofs.KeptLaws.{kept_none, kept_more}
 use Rattle.file_kept.specs.Moved.{IsItem, IsPlaced, AreMoved}
+use Rattle.base_bytes.proofs.ListFacts.{slice_left, get_last}
 
 -- no byte takes no item
 pub no_item : (align : ℕ) (kept : List Entry) (old bytes : List ℕ) → length bytes ≡ 0 → UsesItem is_empty_list IsItself align kept kept old old bytes 0
@@ -41,24 +41,24 @@ pub item_again : {V : Type 0} (none : V → Bool) (K : List ℕ → V → Type 0
 item_again none K align kept old bytes v place w p = item_used none K align kept kept old old bytes v place w (placed_again align kept old bytes place p)
 
 -- what is kept stays
-put_grows : (align : ℕ) (kept more : List Entry) (old new bytes : List ℕ) (place : ℕ) → PutsOnce align kept more old new bytes place → (b : List ℕ) (p : ℕ) → IsKept kept b p → IsKept more b p
+put_grows : (align : ℕ) (kept more : List Entry) (old new bytes : List ℕ) (place : ℕ) → PutsOnce align kept more old new bytes place → (b : List ℕ) (p : ℕ) → HasItemAt kept b p → HasItemAt more b p
 put_grows align kept more old new bytes place u b p k = elim u [
-  | inl again ↦ subst (λ (es : List Entry). IsKept es b p) (sym again.same) k
-  | inr first ↦ subst (λ (es : List Entry). IsKept es b p) (sym first.last) (k.0, slice_left kept ((bytes, place) ∷ []) k.0 (b, p) k.1)
+  | inl again ↦ subst (λ (es : List Entry). HasItemAt es b p) (sym again.same) k
+  | inr first ↦ subst (λ (es : List Entry). HasItemAt es b p) (sym first.last) (k.0, slice_left kept ((bytes, place) ∷ []) k.0 (b, p) k.1)
 ]
 
-grows : (align : ℕ) (kept more : List Entry) (old new bytes : List ℕ) (place : ℕ) → UsesItem is_empty_list IsItself align kept more old new bytes place → (b : List ℕ) (p : ℕ) → IsKept kept b p → IsKept more b p
-grows align kept more old new [] place u b p k = subst (λ (es : List Entry). IsKept es b p) (sym u.2) k
+grows : (align : ℕ) (kept more : List Entry) (old new bytes : List ℕ) (place : ℕ) → UsesItem is_empty_list IsItself align kept more old new bytes place → (b : List ℕ) (p : ℕ) → HasItemAt kept b p → HasItemAt more b p
+grows align kept more old new [] place u b p k = subst (λ (es : List Entry). HasItemAt es b p) (sym u.2) k
 grows align kept more old new (x ∷ bytes) place u b p k = put_grows align kept more old new u.0 place u.2 b p k
 
-placed_grows : (kept more : List Entry) → ((b : List ℕ) (p : ℕ) → IsKept kept b p → IsKept more b p) → (bytes : List ℕ) (place : ℕ) → IsPlaced kept bytes place → IsPlaced more bytes place
+placed_grows : (kept more : List Entry) → ((b : List ℕ) (p : ℕ) → HasItemAt kept b p → HasItemAt more b p) → (bytes : List ℕ) (place : ℕ) → IsPlaced kept bytes place → IsPlaced more bytes place
 placed_grows kept more g [] place p = p
 placed_grows kept more g (x ∷ bytes) place p = g (x ∷ bytes) place p
 
-put_there : (align : ℕ) (kept more : List Entry) (old new bytes : List ℕ) (place : ℕ) → PutsOnce align kept more old new bytes place → IsKept more bytes place
+put_there : (align : ℕ) (kept more : List Entry) (old new bytes : List ℕ) (place : ℕ) → PutsOnce align kept more old new bytes place → HasItemAt more bytes place
 put_there align kept more old new bytes place u = elim u [
-  | inl again ↦ subst (λ (es : List Entry). IsKept es bytes place) (sym again.same) again.there
-  | inr first ↦ subst (λ (es : List Entry). IsKept es bytes place) (sym first.last) (length kept, slice_last kept (bytes, place))
+  | inl again ↦ subst (λ (es : List Entry). HasItemAt es bytes place) (sym again.same) again.there
+  | inr first ↦ subst (λ (es : List Entry). HasItemAt es bytes place) (sym first.last) (length kept, get_last kept (bytes, place))
 ]
 
 used_placed : (align : ℕ) (kept more : List Entry) (old new bytes : List ℕ) (place : ℕ) → UsesItem is_empty_list IsItself align kept more old new bytes place → IsPlaced more bytes place

@@ -13,10 +13,10 @@ use Rattle.file_layout.specs.Sections.{Adds, AddsSome, Laid, Laying, is_empty_li
 use Rattle.file_layout.proofs.SectionLaws.{adds_some, gap_one, unpadded, length-padded, Laying-start}
 use Rattle.file_layout.specs.Tiles.{gap, zeros}
 use Rattle.file_limits.specs.Wide.{bodies_of, body_values, wide_data}
-use Rattle.file_sections.specs.Data.{PacksData, Sited, code_offs, has_no_members, method_count, sited, wide_sited}
+use Rattle.file_sections.specs.Data.{PacksData, ClassWithCodes, code_offs, has_no_members, method_count, with_code_places, wide_with_codes}
 use Rattle.file_sections.specs.Growing.{AddsFields, AddsMethods}
 use Rattle.file_sections.specs.Placing.{items_with}
-use Rattle.file_sections.proofs.DataLaws.{data_length}
+use Rattle.file_sections.proofs.DataLaws.{data_length, adds_none, some_members}
 use Rattle.file_sections.proofs.LayingLaws.{one_more}
 use Rattle.file_sections.proofs.SitedLaws.{length-sited, room_of_sited, count_of_bodies}
 use Rattle.program_types.specs.Content.{Class, Member, Method, Program}
@@ -25,8 +25,9 @@ use Rattle.tables_names.specs.Needed.{needed}
 use Rattle.tables_numbers.specs.Marked.{Columns}
 use Rattle.file_kept.specs.Keeping.{Keeps}
 use Rattle.file_kept.specs.Members.{AreCarriedMembers}
-use Rattle.file_kept.specs.Sites.{AddsSited, AreSited, HasRoom, places_after}
+use Rattle.file_kept.specs.Sites.{AddsClassData, ClassDataIsLaid, HasRoom, places_after}
 use Rattle.file_kept.proofs.MemberLaws.{members_carried}
+use Rattle.file_kept.proofs.ClassRowLaws.{class_at}
 
 -- ---- one class
 
@@ -70,13 +71,6 @@ members_append s c n1 n2 n3 n4 codes first last old m0 m1 m2 m3 new f1 f2 f3 f4 
       };
     }
 
-some_members : (a b : List Member) (c d : List Method) → 0 < length a + length b + (length c + length d) → (is_empty_list a && is_empty_list b && is_empty_list c && is_empty_list d) ≡ false
-some_members [] [] [] [] h = absurd (omega (arith, h))
-some_members [] [] [] (x ∷ d) h = refl
-some_members [] [] (x ∷ c) d h = refl
-some_members [] (x ∷ b) c d h = refl
-some_members (x ∷ a) b c d h = refl
-
 all_none : (a b : List Member) (c d : List Method) → length a + length b ≡ 0 → length c + length d ≡ 0 → (is_empty_list a && is_empty_list b && is_empty_list c && is_empty_list d) ≡ true
 all_none [] [] [] [] e f = refl
 all_none (x ∷ a) b c d e f = absurd (omega (arith, e))
@@ -90,9 +84,6 @@ data_adds s old new c codes place some p a =
     let g = gap_one (length old) in
     adds_some has_no_members (PacksData (NameRanks s)) 1 old new (record { class = c; codes = codes }) place (some_members c.statics c.instances c.directs c.virtuals some)
     (record { there = omega (arith, p, g); bytes = a.bytes; whole = a.joined ∙ ap (λ (l : List ℕ). l ++ a.bytes) (sym (unpadded old)); some = (data_length s a.bytes (record { class = c; codes = codes }) a.spelled).0; spelled = a.spelled })
-
-adds_none : {V : Type 0} (none : V → Bool) (G : List ℕ → V → Type 0) (align : ℕ) (old : List ℕ) (v : V) → none v ≡ true → AddsSome none G align old old v 0
-adds_none none G align old v e = rw e (refl, refl)
 
 pub data_none : (s : Five) (old : List ℕ) (c : Class) (codes : List ℕ) → length c.statics + length c.instances ≡ 0 → length c.directs + length c.virtuals ≡ 0
     → AddsSome has_no_members (PacksData (NameRanks s)) 1 old old (record { class = c; codes = codes }) 0
@@ -110,12 +101,7 @@ counted numbers s e c m = record { statics = sym m.statics.count; instances = sy
 
 -- ---- class by class
 
-pub class_at : (p : Program) (i : ℕ) → i < length p → (c : Class) × (slice_get p i ≡ Some c)
-class_at [] i lt = absurd (omega (arith, lt))
-class_at (c ∷ p) zero lt = (c, refl)
-class_at (c ∷ p) (suc i) lt = class_at p i (omega (arith, lt))
-
-sited_at : (p : Program) (codes : List ℕ) (i : ℕ) (c : Class) (n : Sited) → slice_get p i ≡ Some c → get_or (sited p codes) i n ≡ record { class = c; codes = take (method_count c) (places_after p codes i) }
+sited_at : (p : Program) (codes : List ℕ) (i : ℕ) (c : Class) (n : ClassWithCodes) → slice_get p i ≡ Some c → get_or (with_code_places p codes) i n ≡ record { class = c; codes = take (method_count c) (places_after p codes i) }
 sited_at [] codes i c n at = absurd cc
 sited_at (d ∷ p) codes zero c n at = let e : d ≡ c = cc in ap (λ (x : Class). record { class = x; codes = take (method_count x) codes }) e
 sited_at (d ∷ p) codes (suc i) c n at = sited_at p (drop (method_count d) codes) i c n at
@@ -138,43 +124,43 @@ rest_enough (d ∷ p) codes (suc i) c at e =
     let n = length-drop (method_count d) codes in
     rest_enough p (drop (method_count d) codes) i c at (omega (arith, e, a, b, n))
 
-pub sited_start : (p : Program) (old codes : List ℕ) → AreSited p codes old old 0 codes [] 0
-sited_start p old codes = (Laying-start has_no_members (PacksData (NameRanks (needed p))) 1 wide_sited old (sited p codes), refl)
+pub sited_start : (p : Program) (old codes : List ℕ) → ClassDataIsLaid p codes old old 0 codes [] 0
+sited_start p old codes = (Laying-start has_no_members (PacksData (NameRanks (needed p))) 1 wide_with_codes old (with_code_places p codes), refl)
 
 -- there is room for the next, and there are places for its methods
-pub sited_room : (p : Program) (codes old out rest places : List ℕ) (i items : ℕ) → i < length p → length codes ≡ length (body_values p) → length old + wide_all wide_data p < 2 ^ 32 → AreSited p codes old out i rest places items → HasRoom p i rest out
+pub sited_room : (p : Program) (codes old out rest places : List ℕ) (i items : ℕ) → i < length p → length codes ≡ length (body_values p) → length old + wide_all wide_data p < 2 ^ 32 → ClassDataIsLaid p codes old out i rest places items → HasRoom p i rest out
 sited_room p codes old out rest places i items lt e room s c at =
     let n = length-sited p codes in
-    let none : Sited = record { class = c; codes = [] } in
+    let none : ClassWithCodes = record { class = c; codes = [] } in
     let b = s.0.bound in
     let w = room_of_sited p codes in
-    let d = ap (wide_all wide_sited) (drop_more (sited p codes) i none (omega (arith, n, lt))) in
-    let h = ap wide_sited (sited_at p codes i c none at) in
+    let d = ap (wide_all wide_with_codes) (drop_more (with_code_places p codes) i none (omega (arith, n, lt))) in
+    let h = ap wide_with_codes (sited_at p codes i c none at) in
     (omega (arith, b, w, d, h, room), subst (λ (l : List ℕ). method_count c ≤ length l) (sym s.1) (rest_enough p codes i c at e))
 
-pub sited_next : (p : Program) (codes old out new rest others places more : List ℕ) (i items place count : ℕ) → i < length p → 0 < length old → AreSited p codes old out i rest places items → AddsSited p i rest others out new place
-    → more ≡ places ++ place ∷ [] → count ≡ items_with place items → AreSited p codes old new (i + 1) others more count
+pub sited_next : (p : Program) (codes old out new rest others places more : List ℕ) (i items place count : ℕ) → i < length p → 0 < length old → ClassDataIsLaid p codes old out i rest places items → AddsClassData p i rest others out new place
+    → more ≡ places ++ place ∷ [] → count ≡ items_with place items → ClassDataIsLaid p codes old new (i + 1) others more count
 sited_next p codes old out new rest others places more i items place count lt front s a m n =
     let x = class_at p i lt in
     let c = x.0 in
     let G = PacksData (NameRanks (needed p)) in
-    let vs = sited p codes in
-    let v : Sited = record { class = c; codes = take (method_count c) (places_after p codes i) } in
+    let vs = with_code_places p codes in
+    let v : ClassWithCodes = record { class = c; codes = take (method_count c) (places_after p codes i) } in
     let len = length-sited p codes in
     let own : get_or vs i v ≡ v = sited_at p codes i c v x.1 in
     let adds : AddsSome has_no_members G 1 out new v place = subst (λ (l : List ℕ). AddsSome has_no_members G 1 out new (record { class = c; codes = take (method_count c) l }) place) s.1 (a c x.1).1 in
-    let due : drop i vs ≡ v ∷ drop (i + 1) vs = drop_more vs i v (omega (arith, len, lt)) ∙ ap (λ (y : Sited). y ∷ drop (i + 1) vs) own in
-    let done : take i vs ++ v ∷ [] ≡ take (i + 1) vs = ap (λ (y : Sited). take i vs ++ y ∷ []) (sym own) ∙ sym (take_more vs i v (omega (arith, len, lt))) in
-    let before = subst (λ (ys : List Sited). Laying has_no_members G 1 wide_sited old out (take i vs) ys vs places items) due s.0 in
-    let after = one_more has_no_members G 1 wide_sited old out new (take i vs) (drop (i + 1) vs) vs v places more place items count before front adds (adds_bound (needed p) out new v place adds) m n in
+    let due : drop i vs ≡ v ∷ drop (i + 1) vs = drop_more vs i v (omega (arith, len, lt)) ∙ ap (λ (y : ClassWithCodes). y ∷ drop (i + 1) vs) own in
+    let done : take i vs ++ v ∷ [] ≡ take (i + 1) vs = ap (λ (y : ClassWithCodes). take i vs ++ y ∷ []) (sym own) ∙ sym (take_more vs i v (omega (arith, len, lt))) in
+    let before = subst (λ (ys : List ClassWithCodes). Laying has_no_members G 1 wide_with_codes old out (take i vs) ys vs places items) due s.0 in
+    let after = one_more has_no_members G 1 wide_with_codes old out new (take i vs) (drop (i + 1) vs) vs v places more place items count before front adds (adds_bound (needed p) out new v place adds) m n in
     let next : suc i ≡ i + 1 = omega arith in (
-      subst (λ (ys : List Sited). Laying has_no_members G 1 wide_sited old new ys (drop (i + 1) vs) vs more count) done after,
+      subst (λ (ys : List ClassWithCodes). Laying has_no_members G 1 wide_with_codes old new ys (drop (i + 1) vs) vs more count) done after,
       (a c x.1).0 ∙ ap (drop (method_count c)) s.1 ∙ sym (rest_next p codes i c x.1) ∙ ap (places_after p codes) next,
     )
   where
-    adds_bound : (s : Five) (old new : List ℕ) (v : Sited) (place : ℕ) → AddsSome has_no_members (PacksData (NameRanks s)) 1 old new v place → length new ≤ length old + wide_sited v
+    adds_bound : (s : Five) (old new : List ℕ) (v : ClassWithCodes) (place : ℕ) → AddsSome has_no_members (PacksData (NameRanks s)) 1 old new v place → length new ≤ length old + wide_with_codes v
     adds_bound s old new v place a =
-        elim (has_no_members v) as (λ (t : Bool). MatchBool t ((place ≡ 0) × (new ≡ old)) (Adds (PacksData (NameRanks s)) 1 old new v place) → length new ≤ length old + wide_sited v) [
+        elim (has_no_members v) as (λ (t : Bool). MatchBool t ((place ≡ 0) × (new ≡ old)) (Adds (PacksData (NameRanks s)) 1 old new v place) → length new ≤ length old + wide_with_codes v) [
           | true ↦ λ a. let n = ap length a.1 in omega (arith, n)
           | false ↦ λ a.
               let n = ap length a.whole ∙ length-append (old ++ zeros (gap 1 (length old))) a.bytes in
@@ -184,12 +170,12 @@ sited_next p codes old out new rest others places more i items place count lt fr
               omega (arith, n, l, g, m)
         ] a
 
-pub sited_end : (p : Program) (codes old out rest places : List ℕ) (i items : ℕ) → length p ≤ i → AreSited p codes old out i rest places items → Laid has_no_members (PacksData (NameRanks (needed p))) 1 wide_sited old out (sited p codes) places items
+pub sited_end : (p : Program) (codes old out rest places : List ℕ) (i items : ℕ) → length p ≤ i → ClassDataIsLaid p codes old out i rest places items → Laid has_no_members (PacksData (NameRanks (needed p))) 1 wide_with_codes old out (with_code_places p codes) places items
 sited_end p codes old out rest places i items le s =
     let n = length-sited p codes in
-    let vs = sited p codes in
-    subst (λ (done : List Sited). Laying has_no_members (PacksData (NameRanks (needed p))) 1 wide_sited old out done [] vs places items) (take_all i vs (omega (arith, n, le)))
-    (subst (λ (rest : List Sited). Laying has_no_members (PacksData (NameRanks (needed p))) 1 wide_sited old out (take i vs) rest vs places items) (drop_all i vs (omega (arith, n, le))) s.0)
+    let vs = with_code_places p codes in
+    subst (λ (done : List ClassWithCodes). Laying has_no_members (PacksData (NameRanks (needed p))) 1 wide_with_codes old out done [] vs places items) (take_all i vs (omega (arith, n, le)))
+    (subst (λ (rest : List ClassWithCodes). Laying has_no_members (PacksData (NameRanks (needed p))) 1 wide_with_codes old out (take i vs) rest vs places items) (drop_all i vs (omega (arith, n, le))) s.0)
 
 -- the entries that stand are those of the class
 pub entries_carried : (b : List ℕ) (numbers : Columns) (p : Program) → Keeps b numbers p → (i : ℕ) (c : Class) (e : Entries) → slice_get p i ≡ Some c → EntriesAt b (class_word b i 6) e → AreCarriedMembers numbers (needed p) e c

@@ -9,7 +9,6 @@ use Rattle.dex_container.specs.Frame.{IsFramed}
 use Rattle.dex_container.specs.Layout.{size_of}
 use Rattle.dex_container.specs.Where.{AtOrNone}
 use Rattle.file_layout.specs.Sections.{wide_all}
-use Rattle.file_layout.proofs.SectionLaws.{Zip-length}
 use Rattle.file_limits.specs.Sum.{IsSum}
 use Rattle.file_limits.specs.Wide.{wide_list, wide_proto, wide_string, wide_text}
 use Rattle.file_limits.proofs.SumLaws.{Adds, wide_all_append}
@@ -27,6 +26,7 @@ use Rattle.tables_rows.proofs.TypeLists.{indexes_of}
 use Rattle.file_kept.specs.Keeping.{Keeps}
 use Rattle.file_kept.specs.Sizes.{IsFirstSum}
 use Rattle.file_kept.proofs.KeepLaws.{number_is, numbers_long, next_kept, next_not_kept, first_number, carried}
+use Rattle.base_bytes.proofs.ListFacts.{zip_length}
 
 -- ---- a text
 
@@ -47,13 +47,6 @@ text_wide bytes t new e add =
     subst (IsSum new) (omega (arith, n, u)) (add 5 (length bytes) (inl refl) (inl refl))
 
 -- ---- a list
-
-pub list_length : (b : List ℕ) (off : ℕ) (indexes : List ℕ) (ts : List Units) → IsFramed b → AtOrNone SpellsIndexes b 0x1001 4 off indexes → TypesAt b off ts → length ts ≡ length indexes
-list_length b off indexes ts framed at st =
-    let x = indexes_of b off ts st in
-    let same : x.indexes ≡ indexes = list_or_none_one b framed 0x1001 4 off x.indexes indexes x.spelled at in
-    let n = Zip-length (TypeStands b) x.indexes ts x.named in
-    sym n ∙ ap length same
 
 pub no_list : (ts : List Units) → length ts ≡ 0 → IsSum 0 (wide_list ts)
 no_list [] n = inl refl

@@ -37,7 +37,7 @@ eq_off e = rw e refl
 pub off_some : {off : ℕ} → (off ≡ 0 → ⊥) → (off == 0) ≡ false
 off_some {off} not = ne_eqb off 0 (λ e. absurd (not e))
 
--- behind an offset other than 0 an array stands
+-- after an offset other than 0 an array stands
 pub array_carried : (b : List ℕ) (numbers : Columns) (s : Five) (off : ℕ) (vs : List Value) → (off == 0) ≡ false → IsCarriedStatics b numbers s off vs → IsCarriedArray b off numbers s vs
 array_carried b numbers s off vs e c =
     let stands : MatchBool false (vs ≡ []) (ArrayStands (NameStands b) b off c.most vs) = subst (λ (t : Bool). MatchBool t (vs ≡ []) (ArrayStands (NameStands b) b off c.most vs)) e c.stands in

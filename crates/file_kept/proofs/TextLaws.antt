@@ -33,6 +33,8 @@ use Rattle.tables_rows.specs.Stands.{StringStands}
 use Rattle.file_kept.specs.Keeping.{Keeps}
 use Rattle.file_kept.specs.Texts.{AreFirstTexts}
 use Rattle.file_kept.proofs.KeepLaws.{number_is, numbers_long, next_kept, next_not_kept, first_number, carried}
+use Rattle.tables_rows.proofs.ClearRows.{text_placed}
+use Rattle.dex_base.proofs.NameUnits.{all_append}
 
 -- ---- no unit has a zero byte
 
@@ -47,10 +49,6 @@ positive u = elim (cases_lt u 128) [
     | inr p ↦ rw (bytes_three u p) (omega arith, (omega arith, (omega arith, tt)))
   ]
 ]
-
-all_append : (P : ℕ → Type 0) (xs ys : List ℕ) → AllByRecursion P xs → AllByRecursion P ys → AllByRecursion P (xs ++ ys)
-all_append P [] ys a b = b
-all_append P (x ∷ xs) ys a b = (a.0, all_append P xs ys a.1 b)
 
 all_positive : (bytes : List ℕ) (ts : List ℕ) → Each SpellsUnit bytes ts → AllByRecursion (λ x. 0 < x) bytes
 all_positive bytes [] e = subst (AllByRecursion (λ x. 0 < x)) (sym e) tt
@@ -111,9 +109,6 @@ slice_some b place size t s =
     let n = ap length s.joined ∙ length-append s.front (0 ∷ []) in
     let l = length-take size (drop place b) in
     omega (arith, n, l)
-
-pub text_in : (b : List ℕ) (place : ℕ) (t : Units) → At SpellsText b 0x2002 1 place t → IsInSection b 0x2002 place
-text_in b place t a = at_place SpellsText b 0x2002 1 place t a (slice_some b place a.size t a.spelled)
 
 pub text_taken : (b rest : List ℕ) (s : Section) (place : ℕ) (t : Units) → IsSectionOf b 0x2002 s → rest ≡ take (s.end - place) (drop place b) → At SpellsText b 0x2002 1 place t → (after : List ℕ) × Takes SpellsText rest t after
 unfolding slice

@@ -2,10 +2,10 @@
 -- Page: "Dalvik Executable format", "encoded_method": code_off, 0 for a method without a body; "code_item".
 use Rattle.std.specs.Prelude.{◌≡◌, ℕ, ◌+◌, ◌==◌, List, [], ◌∷◌, ◌++◌, ◌⊎◌, MatchBool, Option, None, Some, map, take}
 use Rattle.std.specs.List.{AllByRecursion, AllZip}
-use Rattle.code_put.specs.Fits.{CodeBreaks}
+use Rattle.code_put.specs.Fits.{CodeBreaksLimit}
 use Rattle.code_renumber.specs.Carried.{IsCarriedCode}
 use Rattle.file_classes.specs.declared.class_data.MethodEntry.{MethodEntry}
-use Rattle.file_least.specs.AtLeast.{FitsFields}
+use Rattle.file_least.specs.AtLeast.{FitsButHandlers}
 use Rattle.file_limits.specs.Wide.{bodies_of}
 use Rattle.file_sections.specs.Codes.{WritesBody, is_bodiless}
 use Rattle.program_types.specs.Content.{Code, Program}
@@ -22,10 +22,11 @@ pub record IsCarriedSome (b : List ℕ) (numbers : Columns) (s : Five) (off : �
   pub code : Code
   pub is : v ≡ Some code
   pub carried : IsCarriedCode b off numbers s code
-  pub fits : FitsFields (NameRanks s) code
+  pub fits : FitsButHandlers (NameRanks s) code
   pub formed : IsFormed code
 
--- .. no body at offset 0
+-- At offset 0 there is no body; at any other one the body is a code that stands there, and by these numbers each name
+-- in it has its rank among names s.
 abbrev pub IsCarriedBody : List ℕ → Columns → Five → ℕ → Option Code → Type 0
 IsCarriedBody b numbers s off v = MatchBool (off == 0) (v ≡ None) (IsCarriedSome b numbers s off v)
 
@@ -35,7 +36,7 @@ WritesCarried b numbers off bytes = (s : Five) (v : Option Code) → IsCarriedSo
 
 -- ---- the bodies of classes, each with the number of its class
 
--- those of these classes, of which the first has this number
+-- the bodies of these classes, each with the number of its class, which for the first is n
 abbrev pub numbered : ℕ → Program → List (ℕ × Option Code)
 numbered n [] = []
 numbered n (c ∷ p) = map (λ v. (n, v)) (bodies_of c) ++ numbered (n + 1) p
@@ -45,7 +46,7 @@ pub record IsOwned (b : List ℕ) (numbers : Columns) (s : Five) (e : Body) (x :
   pub class : e.class ≡ x.0
   pub body : IsCarriedBody b numbers s e.code x.1
 
--- .. one for each of these
+-- The bodies of methods, each of the class with its number, stand where the methods' entries say.
 abbrev pub AreOwned : List ℕ → Columns → Five → List Body → List (ℕ × Option Code) → Type 0
 AreOwned b numbers s es xs = AllZip (IsOwned b numbers s) es xs
 
@@ -61,19 +62,20 @@ body_of n e = record { class = n; code = e.code }
 abbrev pub AreFirstBodies : List ℕ → Columns → Program → ℕ → List Body → Type 0
 AreFirstBodies b numbers p n es = AreOwned b numbers (needed p) es (numbered 0 (take n p))
 
--- ---- handlers that begin too far behind the list's begin
+-- ---- handlers that begin too far after the list's begin
 
--- A handler of the body does (89).
+-- A handler of the body begins too far after the list's begin (89).
 pub record IsFar (s : Five) (v : Option Code) : Type 0 where
   pub code : Code
   pub is : v ≡ Some code
-  pub breaks : CodeBreaks (NameRanks s) code 89
+  pub breaks : CodeBreaksLimit (NameRanks s) code 89
 
--- None of these bodies has one.
+-- None of these bodies has a handler that begins too far after the list's begin.
 abbrev pub AreNear : Five → List (ℕ × Option Code) → Type 0
 AreNear s xs = AllByRecursion (λ x. ¬ IsFar s x.1) xs
 
--- One of the bodies has one, the first that does, of the class with this number.
+-- One of the bodies has a handler that begins too far after the list's begin, and the first that does is of the class
+-- with this number.
 abbrev pub IsFirstFar : Five → List (ℕ × Option Code) → ℕ → Type 0
 IsFirstFar s [] class = ⊥
 IsFirstFar s (x ∷ xs) class = ((x.0 ≡ class) × IsFar s x.1) ⊎ ((¬ IsFar s x.1) × IsFirstFar s xs class)

@@ -6,7 +6,7 @@ use Rattle.file_classes.specs.Classes.{SpellsClass}
 use Rattle.program_types.specs.Content.{Program}
 use Rattle.tables_names.specs.Needed.{needed}
 use Rattle.tables_numbers.specs.Marked.{Columns, Marked, AreMarks}
-use Rattle.tables_numbers.specs.Numbers.{AreNumbers}
+use Rattle.tables_numbers.specs.Numbers.{AreRowNumbers}
 use Rattle.tables_rows.specs.Names.{AreRows}
 use Rattle.tables_rows.specs.Sorted.{TablesHold}
 
@@ -17,4 +17,4 @@ pub record Keeps (b : List ℕ) (numbers : Columns) (p : Program) : Type 0 where
   pub classes : AreRows SpellsClass b section.class_defs p
   pub marks : Marked
   pub marked : AreMarks b marks (needed p)
-  pub numbered : AreNumbers marks.columns numbers
+  pub numbered : AreRowNumbers marks.columns numbers

@@ -6,7 +6,7 @@ pub mod Statics
 pub mod Texts
 pub mod Tables
 pub mod Names
-pub mod Seats
+pub mod ClassRow
 pub mod Members
 pub mod Sites
 pub mod Sizes

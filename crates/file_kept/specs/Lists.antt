@@ -26,7 +26,8 @@ pub record IsCarriedList (b : List ℕ) (numbers : Columns) (s : Five) (off : �
   pub stands : TypesAt b off ts
   pub carried : AllByRecursion (λ t. Carries (NameStands b) (NameRanks s) numbers (OfDesc t)) ts
 
--- .. one at each of these offsets
+-- At each of these offsets stands one of these lists of types, and by these numbers each type in them has its rank
+-- among names s.
 abbrev pub AreCarriedLists : List ℕ → Columns → Five → List ℕ → List (List Units) → Type 0
 AreCarriedLists b numbers s offs lists = AllZip (IsCarriedList b numbers s) offs lists
 

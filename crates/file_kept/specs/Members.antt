@@ -14,7 +14,8 @@ pub record IsCarriedRun {R V : Type 0} (column : List ℕ) (M : ℕ → ℕ × R
       → (number : ℕ) × (slice_get column (index_of (steps es) k) ≡ Some number) × M number e v
   pub rises : (k : ℕ) → k + 1 < length es → slice_index column (index_of (steps es) k) < slice_index column (index_of (steps es) (k + 1))
 
--- So with the four lists of a class.
+-- The rows of the entries of each of the four lists have numbers, which rise, and by its number each entry stands for
+-- its member of the class.
 pub record AreCarriedMembers (numbers : Columns) (s : Five) (e : Entries) (c : Class) : Type 0 where
   pub few_fields : length numbers.fields ≤ 2 ^ 32
   pub few_methods : length numbers.methods ≤ 2 ^ 32

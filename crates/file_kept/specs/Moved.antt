@@ -3,7 +3,7 @@
 use Rattle.std.specs.Prelude.{◌≡◌, ℕ, ◌<◌, Bool, List, [], length, MatchBool}
 use Rattle.indexmap.specs.IndexMap.{IndexMap}
 use Rattle.file_layout.specs.Sections.{is_empty_list}
-use Rattle.file_shared.specs.Once.{Entry, IsKept}
+use Rattle.file_shared.specs.Once.{Entry, HasItemAt}
 use Rattle.tables_rows.specs.Kept.{AreKept}
 
 -- These bytes are the item of v: none where v takes none.
@@ -12,7 +12,7 @@ IsItem none K bytes v = MatchBool (none v) (bytes ≡ []) ((0 < length bytes) ×
 
 -- The item of these bytes stands at this place; where there is no byte the place is 0.
 abbrev pub IsPlaced : List Entry → List ℕ → ℕ → Type 0
-IsPlaced kept bytes place = MatchBool (is_empty_list bytes) (place ≡ 0) (IsKept kept bytes place)
+IsPlaced kept bytes place = MatchBool (is_empty_list bytes) (place ≡ 0) (HasItemAt kept bytes place)
 
 -- W says what is written for what stands at an offset. Each place that is kept by an offset is that of an item that is
 -- written for it.

@@ -15,7 +15,7 @@ pub record TypeOrNone (b : List ℕ) (numbers : Columns) (s : Five) (index : ℕ
   pub stands : IndexOrNone (TypeStands b) index name
   pub carried : ForSome name (λ t. Carries (NameStands b) (NameRanks s) numbers (OfDesc t))
 
--- So with a string.
+-- The index stands for a string that has its rank among names s, or for none.
 pub record StringOrNone (b : List ℕ) (numbers : Columns) (s : Five) (index : ℕ) (name : Option Units) : Type 0 where
   pub few : length s.strings ≤ no_index
   pub stands : IndexOrNone (StringStands b) index name

@@ -3,14 +3,14 @@
 use Rattle.std.specs.Prelude.{◌≡◌, ℕ, zero, suc, ◌+◌, ◌<◌, ◌≤◌, ◌^◌, List, [], ◌∷◌, Some, drop, length, slice_get, take}
 use Rattle.file_layout.specs.Sections.{AddsSome, Laying}
 use Rattle.file_limits.specs.Wide.{wide_data}
-use Rattle.file_sections.specs.Data.{PacksData, has_no_members, method_count, sited, wide_sited}
+use Rattle.file_sections.specs.Data.{PacksData, has_no_members, method_count, with_code_places, wide_with_codes}
 use Rattle.program_types.specs.Content.{Class, Program}
 use Rattle.tables_names.specs.Closure.{NameRanks}
 use Rattle.tables_names.specs.Needed.{needed}
 
 -- The class data of class i is added, with the first of these places of bodies, if the class has members; the others are left.
-abbrev pub AddsSited : Program → ℕ → List ℕ → List ℕ → List ℕ → List ℕ → ℕ → Type 0
-AddsSited p i codes others old new place =
+abbrev pub AddsClassData : Program → ℕ → List ℕ → List ℕ → List ℕ → List ℕ → ℕ → Type 0
+AddsClassData p i codes others old new place =
     (c : Class) → slice_get p i ≡ Some c
     → (others ≡ drop (method_count c) codes) × AddsSome has_no_members (PacksData (NameRanks (needed p))) 1 old new (record { class = c; codes = take (method_count c) codes }) place
 
@@ -18,14 +18,14 @@ AddsSited p i codes others old new place =
 abbrev pub HasRoom : Program → ℕ → List ℕ → List ℕ → Type 0
 HasRoom p i codes out = (c : Class) → slice_get p i ≡ Some c → (length out + wide_data c < 2 ^ 32) × (method_count c ≤ length codes)
 
--- the places behind those of the first n classes
+-- the places after those of the first n classes
 abbrev pub places_after : Program → List ℕ → ℕ → List ℕ
 places_after p codes zero = codes
 places_after [] codes (suc n) = codes
 places_after (c ∷ p) codes (suc n) = places_after p (drop (method_count c) codes) n
 
--- The class data of the first n classes is laid behind `old`, and these places of bodies are left.
-abbrev pub AreSited : Program → List ℕ → List ℕ → List ℕ → ℕ → List ℕ → List ℕ → ℕ → Type 0
-AreSited p codes old out n rest places items =
-    Laying has_no_members (PacksData (NameRanks (needed p))) 1 wide_sited old out (take n (sited p codes)) (drop n (sited p codes)) (sited p codes) places items
+-- The class data of the first n classes is laid after `old`, and these places of bodies are left.
+abbrev pub ClassDataIsLaid : Program → List ℕ → List ℕ → List ℕ → ℕ → List ℕ → List ℕ → ℕ → Type 0
+ClassDataIsLaid p codes old out n rest places items =
+    Laying has_no_members (PacksData (NameRanks (needed p))) 1 wide_with_codes old out (take n (with_code_places p codes)) (drop n (with_code_places p codes)) (with_code_places p codes) places items
     × (rest ≡ places_after p codes n)

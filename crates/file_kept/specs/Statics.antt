@@ -21,7 +21,8 @@ pub record IsCarriedStatics (b : List ℕ) (numbers : Columns) (s : Five) (off :
   pub rise : AreRising s
   pub carried : AllNamesHold (Carries (NameStands b) (NameRanks s) numbers) (values vs)
 
--- .. some at each of these offsets
+-- At each of these offsets, none at 0, stand the values of one of these lists, and by these numbers each name in them
+-- has its rank among names s.
 abbrev pub AreCarriedStatics : List ℕ → Columns → Five → List ℕ → List (List Value) → Type 0
 AreCarriedStatics b numbers s offs arrays = AllZip (IsCarriedStatics b numbers s) offs arrays
 

@@ -6,10 +6,11 @@ use Rattle.file_rows.specs.Rows.{SpellsProtos, SpellsTable}
 use Rattle.program_types.specs.Key.{Key}
 use Rattle.tables_names.specs.Closure.{Five}
 
--- `new` is `old` and behind it the rows of the kept ones of the first n rows, by these numbers.
+-- `new` is `old` and after it the rows of the kept ones of the first n rows, by these numbers.
 abbrev pub AreFirstRows : {V : Type 0} → (V → Key) → (List ℕ → V → Type 0) → List ℕ → List Key → List ℕ → ℕ → List ℕ → Type 0
 AreFirstRows key G numbers table old n new = Appends (SpellsTable key G) old new (take (slice_index numbers n) table)
 
--- So with prototypes, whose parameters stand at these places.
+-- `new` is `old` and after it the rows of the kept ones of the first n prototypes, by these numbers; their parameters
+-- stand at these places.
 abbrev pub AreFirstProtos : Five → List ℕ → List ℕ → List ℕ → ℕ → List ℕ → Type 0
 AreFirstProtos s numbers places old n new = Appends (SpellsProtos s (take (slice_index numbers n) places)) old new (take (slice_index numbers n) s.protos)

@@ -8,7 +8,7 @@ use Rattle.program_types.specs.Content.{Program}
 use Rattle.tables_names.specs.Needed.{needed}
 use Rattle.tables_numbers.specs.Marked.{Columns}
 
--- The texts of the kept ones of the first n strings are laid behind `old`.
+-- The texts of the kept ones of the first n strings are laid after `old`.
 abbrev pub AreFirstTexts : Columns → Program → List ℕ → List ℕ → ℕ → List ℕ → Type 0
 AreFirstTexts numbers p old out n places =
     Laying never PacksText 1 wide_text old out (take (slice_index numbers.strings n) (text_values (needed p))) (drop (slice_index numbers.strings n) (text_values (needed p)))

@@ -85,7 +85,7 @@ fn place_arrays(
 /// Appends the static values of each class that has some. Values that several classes refer to are looked at once, and
 /// equal ones stand once.
 ///
-/// The only refusal is want of memory.
+/// It fails only when out of memory.
 ///
 /// ```
 /// let arrays = put_arrays(alloc, &mut out, &numbers, &sections)?;

@@ -5,13 +5,13 @@ ghost use Rattle.base_bytes.specs.Grammar.{Appends, Each};
 ghost use Rattle.dex_container.specs.Layout.{size_of};
 ghost use Rattle.dex_container.specs.Section as section;
 ghost use Rattle.file_classes.specs.ClassRows.{IndexOrNone};
-ghost use Rattle.file_rows.specs.ClassDefs.{SpellsClassRow, StringRanks, TypeRanks, seated};
+ghost use Rattle.file_rows.specs.ClassDefs.{SpellsClassRow, StringRanks, TypeRanks, with_places};
 ghost use Rattle.program_types.specs.Content.{Program, Units};
 ghost use Rattle.tables_names.specs.Closure.{Five};
 ghost use Rattle.tables_names.specs.Needed.{needed};
 ghost use Rattle.file_kept.specs.Keeping.{Keeps};
 ghost use Rattle.file_kept.specs.Names.{StringOrNone, TypeOrNone};
-ghost use Rattle.file_kept.specs.Seats.{IsSeatedRow};
+ghost use Rattle.file_kept.specs.ClassRow.{IsRowWithPlaces};
 
 use dex_base::{Fault, push_words};
 use dex_container::Sections;
@@ -24,9 +24,9 @@ const NO_INDEX: u32 = 0xffffffff;
 
 // Where the items of a class stand, 0 for none.
 #[derive(Clone, Copy)]
-struct Seats {
+struct ClassPlaces {
     list: u32,
-    datum: u32,
+    class_data: u32,
     array: u32,
 }
 
@@ -58,11 +58,11 @@ fn put_class(
     numbers: &Numbers,
     sections: &Sections<'_>,
     i: u32,
-    seats: Seats,
+    places: ClassPlaces,
 ) -> Result<(), Fault>
     requires kept { (p : Program) × Keeps sections.now numbers.now p }
     requires row { i < size_of sections.now section.class_defs }
-    ensures ok { OnOk result ((p : Program) → Keeps sections.now numbers.now p → IsSeatedRow p i seats.list seats.datum seats.array rows.old.items rows.new.items) }
+    ensures ok { OnOk result ((p : Program) → Keeps sections.now numbers.now p → IsRowWithPlaces p i places.list places.class_data places.array rows.old.items rows.new.items) }
     ensures memory { IsOkUnless result memory }
 {
     push_words(
@@ -71,18 +71,18 @@ fn put_class(
             numbers.of(IndexKind::Type, class_word(sections, i, 0)),
             class_word(sections, i, 1),
             type_or_none(numbers, class_word(sections, i, 2)),
-            seats.list,
+            places.list,
             string_or_none(numbers, class_word(sections, i, 4)),
             0,
-            seats.datum,
-            seats.array,
+            places.class_data,
+            places.array,
         ],
     )
 }
 
 /// Appends the rows of all classes, whose interfaces, class data and static values stand at these places, 0 for none.
 ///
-/// The only refusal is want of memory.
+/// It fails only when out of memory.
 ///
 /// ```
 /// put_classes(&mut rows, &numbers, &sections, &lists.places[protos..], &datas.places, &arrays.places)?;
@@ -100,16 +100,16 @@ pub fn put_classes(
     requires datas { length datas.now ≡ size_of sections.now section.class_defs }
     requires arrays { length arrays.now ≡ size_of sections.now section.class_defs }
     ensures ok { OnOk result ((p : Program) → Keeps sections.now numbers.now p
-        → Appends (Each (SpellsClassRow (needed p))) rows.old.items rows.new.items (seated p lists.now datas.now arrays.now)) }
+        → Appends (Each (SpellsClassRow (needed p))) rows.old.items rows.new.items (with_places p lists.now datas.now arrays.now)) }
     ensures memory { IsOkUnless result memory }
 {
     for i in 0..class_count(sections) {
-        let seats = Seats {
+        let places = ClassPlaces {
             list: lists[i as usize],
-            datum: datas[i as usize],
+            class_data: datas[i as usize],
             array: arrays[i as usize],
         };
-        put_class(rows, numbers, sections, i, seats)?;
+        put_class(rows, numbers, sections, i, places)?;
     }
     Ok(())
 }

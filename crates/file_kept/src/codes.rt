@@ -6,7 +6,7 @@ ghost use Rattle.dex_container.specs.Section as section;
 ghost use Rattle.dex_container.specs.Where.{IsSectionOf};
 ghost use Rattle.file_layout.specs.Sections.{wide_all, Laid};
 ghost use Rattle.file_layout.specs.Tiles.{AreShared};
-ghost use Rattle.file_limits.specs.Limits.{ClassBreaksLimit, IsFirstClass};
+ghost use Rattle.file_limits.specs.Limits.{ClassBreaksLimit, IsFirstToBreak};
 ghost use Rattle.file_limits.specs.Wide.{body_values, wide_body};
 ghost use Rattle.file_sections.specs.Codes.{PacksBody, WritesBody, is_bodiless};
 ghost use Rattle.file_shared.specs.Sharing.{UsesItem};
@@ -138,7 +138,7 @@ fn push_bodies(bodies: &mut Vec<Body>, class: u32, entries: &[MethodEntry]) -> R
     Ok(())
 }
 
-// Appends those of row i: direct methods, then virtual ones.
+// Appends the bodies of the methods of row i, the direct ones, then the virtual ones.
 fn push_class(
     alloc: Global,
     bodies: &mut Vec<Body>,
@@ -177,8 +177,8 @@ fn all_bodies(alloc: Global, sections: &Sections<'_>) -> Result<Vec<Body>, Fault
 /// of each method's body, 0 for a method without one. A body that several methods refer to is looked at once, and equal
 /// ones stand once.
 ///
-/// Refused with 89 at the number of the first class of which a handler begins too far behind its list's begin, and else
-/// only for want of memory.
+/// Refused with 89 at the number of the first class of which a handler begins too far after its list's begin, and else
+/// only when out of memory.
 ///
 /// ```
 /// let codes = put_codes(alloc, &mut out, &numbers, &sections)?;
@@ -196,7 +196,7 @@ pub fn put_codes(
     ensures once { IfOk result (λ r. (p : Program) → Keeps sections.now numbers.now p → AreShared r.places.items (body_values p)) }
     ensures near { OnOk result ((p : Program) → Keeps sections.now numbers.now p → (i : ℕ) → ¬ ClassBreaksLimit (NameRanks (needed p)) 89 p i) }
     ensures far { IfErr result (λ e. e ≢ memory → (e.code ≡ 89)
-        × ((p : Program) → Keeps sections.now numbers.now p → IsFirstClass (NameRanks (needed p)) 89 p e.place)) }
+        × ((p : Program) → Keeps sections.now numbers.now p → IsFirstToBreak (NameRanks (needed p)) 89 p e.place)) }
 {
     let bodies = all_bodies(alloc, sections)?;
     Ok(place_bodies(alloc, out, numbers, sections, &bodies)?)

@@ -9,14 +9,14 @@ ghost use Rattle.file_classes.specs.ClassData.{SpellsCounts};
 ghost use Rattle.file_classes.specs.Reading.{entries, field_entry, method_entry};
 ghost use Rattle.file_layout.specs.Sections.{wide_all, AddsSome, Laid};
 ghost use Rattle.file_limits.specs.Wide.{body_values, wide_data};
-ghost use Rattle.file_sections.specs.Data.{FieldRanks, MethodRanks, PacksData, has_no_members, sited, wide_sited};
+ghost use Rattle.file_sections.specs.Data.{FieldRanks, MethodRanks, PacksData, has_no_members, with_code_places, wide_with_codes};
 ghost use Rattle.file_sections.specs.Growing.{AddsFields, AddsMethods};
 ghost use Rattle.program_types.specs.Content.{Class, Descriptor, Member, Method, Program};
 ghost use Rattle.tables_names.specs.Closure.{Five, NameRanks};
 ghost use Rattle.tables_names.specs.Needed.{needed};
 ghost use Rattle.file_kept.specs.Keeping.{Keeps};
 ghost use Rattle.file_kept.specs.Members.{AreCarriedMembers, IsCarriedRun};
-ghost use Rattle.file_kept.specs.Sites.{AddsSited, HasRoom};
+ghost use Rattle.file_kept.specs.Sites.{AddsClassData, HasRoom};
 
 use dex_base::{Fault, put_uleb};
 use dex_container::Sections;
@@ -140,7 +140,7 @@ fn put_class<'c>(
 ) -> Result<(u32, &'c [u32]), Fault>
     requires kept { (p : Program) × Keeps sections.now numbers.now p × HasRoom p i codes.now out.old.items }
     requires row { i < size_of sections.now section.class_defs }
-    ensures ok { IfOk result (λ x. (p : Program) → Keeps sections.now numbers.now p → AddsSited p i codes.now x.1.now out.old.items out.new.items x.0) }
+    ensures ok { IfOk result (λ x. (p : Program) → Keeps sections.now numbers.now p → AddsClassData p i codes.now x.1.now out.old.items out.new.items x.0) }
     ensures memory { IsOkUnless result memory }
 {
     let Some(all) = entries_at(alloc, sections, class_word(sections, i, 6))? else {
@@ -153,7 +153,7 @@ fn put_class<'c>(
 
 /// Appends the class data of each class that has members, where the bodies of all methods stand at these places.
 ///
-/// The only refusal is want of memory.
+/// It fails only when out of memory.
 ///
 /// ```
 /// let datas = put_datas(alloc, &mut out, &numbers, &sections, &codes.places)?;
@@ -168,7 +168,7 @@ pub fn put_datas(
     requires front { 0 < length out.old.items }
     requires kept { (p : Program) × Keeps sections.now numbers.now p × (length codes.now ≡ length (body_values p)) × (length out.old.items + wide_all wide_data p < 2 ^ 32) }
     ensures ok { IfOk result (λ r. (p : Program) → Keeps sections.now numbers.now p
-        → Laid has_no_members (PacksData (NameRanks (needed p))) 1 wide_sited out.old.items out.new.items (sited p codes.now) r.places.items r.items) }
+        → Laid has_no_members (PacksData (NameRanks (needed p))) 1 wide_with_codes out.old.items out.new.items (with_code_places p codes.now) r.places.items r.items) }
     ensures memory { IsOkUnless result memory }
 {
     let mut placed = Placed::new(alloc);

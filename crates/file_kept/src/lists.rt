@@ -157,7 +157,7 @@ fn parameter_offsets(
 /// Appends the type lists, each 4-aligned: the parameters of each kept prototype, then the interfaces of each class,
 /// where there are any. A list that several rows refer to is looked at once, and equal lists stand once.
 ///
-/// The only refusal is want of memory.
+/// It fails only when out of memory.
 ///
 /// ```
 /// let lists = put_lists(alloc, &mut out, &numbers, &sections)?;

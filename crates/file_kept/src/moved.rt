@@ -31,7 +31,8 @@ fn item_place(items: &mut Items, out: &mut Vec<u8>, bytes: Vec<u8>) -> Result<u3
     Ok(items.put(out, bytes)?)
 }
 
-// The same of items that are 4-aligned.
+// The byte, which 4 divides, at which the item of these bytes stands, to which it is appended unless an equal one
+// stands already; 0 for no byte.
 fn aligned_place(items: &mut Items, out: &mut Vec<u8>, bytes: Vec<u8>) -> Result<u32, Fault>
     requires room { 0 < length bytes.items → length out.old.items + 3 < 2 ^ 32 }
     ensures ok { IfOk result (UsesItem is_empty_list IsItself 4 items.old items.new out.old.items out.new.items bytes.items) }
@@ -63,7 +64,7 @@ impl Moved {
     }
 
     /// The item of these bytes, which is written for what stood at this offset: where an equal one stands, or else
-    /// behind `out`, to which it is appended; 0 for no byte.
+    /// after `out`, to which it is appended; 0 for no byte.
     pub(crate) fn put(&mut self, out: &mut Vec<u8>, off: u32, bytes: Vec<u8>) -> Result<u32, Fault>
         requires room { length out.old.items < 2 ^ 32 }
         ensures ok { IfOk result (UsesItem is_empty_list IsItself 1 self.old.items self.new.items out.old.items out.new.items bytes.items) }
@@ -75,7 +76,8 @@ impl Moved {
         Ok(place)
     }
 
-    /// The same of items that are 4-aligned.
+    /// The item of these bytes, 4-aligned, which is written for what stood at this offset: where an equal one stands,
+    /// or else after `out`, to which it is appended; 0 for no byte.
     pub(crate) fn put_aligned(
         &mut self,
         out: &mut Vec<u8>,

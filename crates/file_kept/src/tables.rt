@@ -182,10 +182,10 @@ fn put_methods(rows: &mut Vec<u8>, numbers: &Numbers, sections: &Sections<'_>) -
     Ok(())
 }
 
-/// The rows of string_ids, type_ids, proto_ids, field_ids and method_ids of the kept rows, one table behind the other,
+/// The rows of string_ids, type_ids, proto_ids, field_ids and method_ids of the kept rows, one table after the other,
 /// in bytes: `texts` has the place of each string's text, `lists` that of each prototype's parameters, 0 for none.
 ///
-/// The only refusal is want of memory.
+/// It fails only when out of memory.
 ///
 /// ```
 /// let rows = name_rows(alloc, &numbers, &sections, &texts.places, &lists.places[..protos])?;

@@ -101,9 +101,9 @@ fn add_text(
     put_text(out, text_at(sections, texts, i))
 }
 
-/// Appends the texts of all kept strings, one behind the other, and answers the byte at which each begins.
+/// Appends the texts of all kept strings, one after the other, and answers the byte at which each begins.
 ///
-/// The only refusal is want of memory.
+/// It fails only when out of memory.
 ///
 /// ```
 /// let texts = put_texts(alloc, &mut out, &numbers, &sections)?;

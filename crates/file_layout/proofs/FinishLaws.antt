@@ -9,7 +9,7 @@ use Rattle.base_bytes.proofs.FieldBounds.{u16_at-drop, u16_at-take, u32_at-drop,
 use Rattle.base_bytes.proofs.WordsBytes.{u32_at-words, words_bytes-more}
 use Rattle.dex_container.specs.Layout.{map_place}
 use Rattle.dex_container.specs.Frame.{HasMagic, HasVersion}
-use Rattle.dex_container.specs.Closed.{IsClosed}
+use Rattle.dex_container.specs.Closed.{SetsSums}
 use Rattle.dex_container.proofs.ClosedBytes.{IsClosed-u32_at, length-IsClosed, IsClosed-magic}
 use Rattle.dex_container.specs.Where.{slice}
 use Rattle.file_layout.specs.declared.map_list.Entry.{Entry}
@@ -89,7 +89,7 @@ module _ (old padded out front b : List ℕ) (p : Plan) (rows : List ℕ) (place
     (front_is : front ≡ words_bytes (header_words p.rows place (length out)) ++ (rows ++ drop (tables_end p.rows) out))
     (header_fits : (j : ℕ) → get_or (header_words p.rows place (length out)) j 0 < 2 ^ 32)
     (map_fits : (j : ℕ) → get_or (list_words (map entry_of (spans_of p place 0))) j 0 < 2 ^ 32)
-    (closed : IsClosed front b) (bytes : AreBytes b) where
+    (closed : SetsSums front b) (bytes : AreBytes b) where
   head : List ℕ
   head = header_words p.rows place (length out)
 
@@ -117,7 +117,7 @@ module _ (old padded out front b : List ℕ) (p : Plan) (rows : List ℕ) (place
   pub length-finished : length b ≡ length out
   length-finished = total
 
-  -- behind the rows nothing has changed
+  -- after the rows nothing has changed
   front_data : drop (tables_end p.rows) front ≡ drop (tables_end p.rows) out
   unfolding head
   front_data =
@@ -221,7 +221,7 @@ module _ (old padded out front b : List ℕ) (p : Plan) (rows : List ℕ) (place
     map = place;
     written = record {
       planned = planned;
-      behind = let l = padded_length in omega (arith, l, place_is, end_is);
+      after = let l = padded_length in omega (arith, l, place_is, end_is);
       aligned = let l = padded_length in omega (arith, l, place_is);
       named = is;
       ends = ends;

@@ -36,14 +36,14 @@ table_named b kind items begin end k is lt n o e = record {
   inside = λ z. absurd (omega arith);
 }
 
--- a part with items, behind where the data begin
+-- a part with items, after where the data begin
 part_named : (b : List ℕ) (kind at : ℕ) (q : Part) → 0x1001 ≤ kind → IsKind kind → Follows at q → 0 < q.items → data_begin b ≤ at → q.end ≤ data_end b → IsNamed b (part_span kind q)
 part_named b kind at q high known f some low last = let g = f.begins some in data_named b kind q.items q.begin q.end high known (omega (arith, g, low)) last
 
 -- the tables end at or before the data
 pub planned_low : (p : Plan) → IsPlanned p → tables_end p.rows ≤ p.datas.end
 planned_low p h =
-    let a = h.lists.behind in let b = h.codes.behind in let c = h.strings.behind in let d = h.arrays.behind in let e = h.datas.behind in
+    let a = h.lists.after in let b = h.codes.after in let c = h.strings.after in let d = h.arrays.after in let e = h.datas.after in
     omega (arith, a, b, c, d, e)
 
 module _ (b : List ℕ) (p : Plan) (place : ℕ) (w : IsWritten b p place) where
@@ -83,12 +83,12 @@ module _ (b : List ℕ) (p : Plan) (place : ℕ) (w : IsWritten b p place) where
     pub last : place + 4 ≤ length b
 
   ends : Ends
-  ends = let m = w.behind in let e = w.ends in record {
-    lists = w.planned.lists.behind;
-    codes = w.planned.codes.behind;
-    strings = w.planned.strings.behind;
-    arrays = w.planned.arrays.behind;
-    datas = w.planned.datas.behind;
+  ends = let m = w.after in let e = w.ends in record {
+    lists = w.planned.lists.after;
+    codes = w.planned.codes.after;
+    strings = w.planned.strings.after;
+    arrays = w.planned.arrays.after;
+    datas = w.planned.datas.after;
     map = omega (arith, m, e);
     last = omega (arith, e);
   }
@@ -113,24 +113,24 @@ module _ (b : List ℕ) (p : Plan) (place : ℕ) (w : IsWritten b p place) where
   section_holds : (k : ℕ) → k < 7 → SectionHolds b k
   section_holds zero h some =
       let f = header_of in let l = low in let n = f.string_ids_size in let o = f.string_ids_off ∙ placed p.rows.strings 112 (omega (arith, n, some)) in
-      record { aligned = λ _. omega (arith, o); behind = omega (arith, o); within = omega (arith, o, n, l) }
+      record { aligned = λ _. omega (arith, o); after = omega (arith, o); within = omega (arith, o, n, l) }
   section_holds (suc zero) h some =
       let f = header_of in let l = low in let n = f.type_ids_size in let o = f.type_ids_off ∙ placed p.rows.types (type_ids_begin p.rows) (omega (arith, n, some)) in
-      record { aligned = λ _. omega (arith, o); behind = omega (arith, o); within = omega (arith, o, n, l) }
+      record { aligned = λ _. omega (arith, o); after = omega (arith, o); within = omega (arith, o, n, l) }
   section_holds (suc (suc zero)) h some =
       let f = header_of in let l = low in let n = f.proto_ids_size in let o = f.proto_ids_off ∙ placed p.rows.protos (proto_ids_begin p.rows) (omega (arith, n, some)) in
-      record { aligned = λ _. omega (arith, o); behind = omega (arith, o); within = omega (arith, o, n, l) }
+      record { aligned = λ _. omega (arith, o); after = omega (arith, o); within = omega (arith, o, n, l) }
   section_holds (suc (suc (suc zero))) h some =
       let f = header_of in let l = low in let n = f.field_ids_size in let o = f.field_ids_off ∙ placed p.rows.fields (field_ids_begin p.rows) (omega (arith, n, some)) in
-      record { aligned = λ _. omega (arith, o); behind = omega (arith, o); within = omega (arith, o, n, l) }
+      record { aligned = λ _. omega (arith, o); after = omega (arith, o); within = omega (arith, o, n, l) }
   section_holds (suc (suc (suc (suc zero)))) h some =
       let f = header_of in let l = low in let n = f.method_ids_size in let o = f.method_ids_off ∙ placed p.rows.methods (method_ids_begin p.rows) (omega (arith, n, some)) in
-      record { aligned = λ _. omega (arith, o); behind = omega (arith, o); within = omega (arith, o, n, l) }
+      record { aligned = λ _. omega (arith, o); after = omega (arith, o); within = omega (arith, o, n, l) }
   section_holds (suc (suc (suc (suc (suc zero))))) h some =
       let f = header_of in let l = low in let n = f.class_defs_size in let o = f.class_defs_off ∙ placed p.rows.classes (class_defs_begin p.rows) (omega (arith, n, some)) in
-      record { aligned = λ _. omega (arith, o); behind = omega (arith, o); within = omega (arith, o, n, l) }
+      record { aligned = λ _. omega (arith, o); after = omega (arith, o); within = omega (arith, o, n, l) }
   section_holds (suc (suc (suc (suc (suc (suc zero)))))) h some =
-      let f = header_of in let l = low in let n = f.data_size in let o = f.data_off in record { aligned = λ q. absurd (omega (arith, q)); behind = omega (arith, o); within = omega (arith, o, n, l) }
+      let f = header_of in let l = low in let n = f.data_size in let o = f.data_off in record { aligned = λ q. absurd (omega (arith, q)); after = omega (arith, o); within = omega (arith, o, n, l) }
   section_holds (suc (suc (suc (suc (suc (suc (suc k))))))) h some = absurd (omega arith)
 
   pub sections_hold : SectionsHold b
@@ -146,7 +146,7 @@ module _ (b : List ℕ) (p : Plan) (place : ℕ) (w : IsWritten b p place) where
   follow : Follow rank 0 0 spans
   unfolding spans
   follow =
-      let e0 = ends.lists in let e1 = ends.codes in let e2 = ends.strings in let e3 = ends.arrays in let e4 = ends.datas in let e5 = ends.map in let m = w.behind in let e6 = ends.last in (
+      let e0 = ends.lists in let e1 = ends.codes in let e2 = ends.strings in let e3 = ends.arrays in let e4 = ends.datas in let e5 = ends.map in let m = w.after in let e6 = ends.last in (
         omega arith,
         λ _. (omega arith, omega arith),
         omega arith,
@@ -211,7 +211,7 @@ module _ (b : List ℕ) (p : Plan) (place : ℕ) (w : IsWritten b p place) where
   named : AllByRecursion (λ s. 0 < s.items → IsNamed b s) spans
   unfolding spans
   named =
-      let f = header_of in let e0 = ends.lists in let e1 = ends.codes in let e2 = ends.strings in let e3 = ends.arrays in let e4 = ends.datas in let e5 = ends.map in let m = w.behind in let e6 = ends.last in let we = w.ends in
+      let f = header_of in let e0 = ends.lists in let e1 = ends.codes in let e2 = ends.strings in let e3 = ends.arrays in let e4 = ends.datas in let e5 = ends.map in let m = w.after in let e6 = ends.last in let we = w.ends in
       let d = data_end_is in let o6 = f.data_off in (
         λ _. record { known = inl (omega arith); header = λ _. (refl, refl); table = λ k h e. absurd (omega arith); map = λ e. absurd (omega arith); inside = λ e. absurd (omega arith) },
         (
@@ -289,9 +289,9 @@ module _ (b : List ℕ) (p : Plan) (place : ℕ) (w : IsWritten b p place) where
 
   pub map_placed : MapIsPlaced b
   map_placed =
-      let f = header_of in let e0 = ends.lists in let e1 = ends.codes in let e2 = ends.strings in let e3 = ends.arrays in let e4 = ends.datas in let m = w.behind in
+      let f = header_of in let e0 = ends.lists in let e1 = ends.codes in let e2 = ends.strings in let e3 = ends.arrays in let e4 = ends.datas in let m = w.after in
       let d = data_end_is in let o6 = f.data_off in let g = f.map_off in let al = w.aligned in let c = w.named.count in let we = w.ends in
-      record { aligned = omega (arith, g, al); behind = omega (arith, g, o6, e0, e1, e2, e3, e4, m); within = omega (arith, g, d, c, we) }
+      record { aligned = omega (arith, g, al); after = omega (arith, g, o6, e0, e1, e2, e3, e4, m); within = omega (arith, g, d, c, we) }
 
   pub map_holds_here : MapHolds b
   unfolding map_span

@@ -15,6 +15,7 @@ use Rattle.file_layout.specs.Plan.{spans_of, header_words, IsWritten}
 use Rattle.file_layout.specs.Spans.{Span, has_items, MapNames}
 use Rattle.file_layout.specs.Once.{part_of}
 use Rattle.file_layout.proofs.PartLaws.{drop_more}
+use Rattle.base_bytes.proofs.ListFacts.{four_bytes}
 
 -- the same byte at a place
 abbrev pub SameAt : List ℕ → List ℕ → ℕ → Type 0
@@ -24,14 +25,6 @@ SameAt b c i = get_or b i 0 ≡ get_or c i 0
 
 two_bytes : (x y z w : ℕ) → x < 256 → y < 256 → z < 256 → w < 256 → x + 256 * (y + 256 * 0) ≡ z + 256 * (w + 256 * 0) → (x ≡ z) × (y ≡ w)
 two_bytes x y z w a b c d e = (omega arith, omega arith)
-
-four_bytes : (x0 x1 x2 x3 y0 y1 y2 y3 : ℕ) → x0 < 256 → x1 < 256 → x2 < 256 → x3 < 256 → y0 < 256 → y1 < 256 → y2 < 256 → y3 < 256
-    → x0 + 256 * (x1 + 256 * (x2 + 256 * (x3 + 256 * 0))) ≡ y0 + 256 * (y1 + 256 * (y2 + 256 * (y3 + 256 * 0))) → (x0 ≡ y0) × (x1 ≡ y1) × (x2 ≡ y2) × (x3 ≡ y3)
-four_bytes x0 x1 x2 x3 y0 y1 y2 y3 a b c d e f g h s =
-    let p : x0 ≡ y0 = omega arith in
-    let q : x1 ≡ y1 = omega arith in
-    let r : x2 ≡ y2 = omega arith in
-    (p, q, r, omega arith)
 
 module _ (b c : List ℕ) (bytes_b : AreBytes b) (bytes_c : AreBytes c) where
   moved : (p k : ℕ) → get_or (drop p b) k 0 ≡ get_or (drop p c) k 0 → SameAt b c (p + k)
@@ -105,21 +98,21 @@ same_inside b c from to i e low high p q =
 
 -- ---- signature and checksum
 
--- what is behind the signature decides all, with the first eight bytes
+-- what is after the signature decides all, with the first eight bytes
 pub closed_once : (b c : List ℕ) → AreBytes b → AreBytes c → length b ≡ length c → 32 ≤ length b → SumsHold b → SumsHold c → ((i : ℕ) → i < 8 → SameAt b c i) → drop 32 b ≡ drop 32 c → b ≡ c
 unfolding HasChecksum HasSignature
 closed_once b c bytes_b bytes_c n long s t front back =
     let sign : take 20 (drop 12 b) ≡ take 20 (drop 12 c) = s.signature ∙ ap sha1 back ∙ sym t.signature in
-    let behind : drop 12 b ≡ drop 12 c =
+    let after : drop 12 b ≡ drop 12 c =
     sym (take-append-drop 20 (drop 12 b)) ∙ (λ k. sign k ++ drop 20 (drop 12 b)) ∙ ap (λ (l : List ℕ). take 20 (drop 12 c) ++ l) (twelve b ∙ back ∙ sym (twelve c)) ∙ take-append-drop 20 (drop 12 c) in
-    let sum : u32_at b 8 ≡ u32_at c 8 = s.checksum ∙ ap adler32 behind ∙ sym t.checksum in
+    let sum : u32_at b 8 ≡ u32_at c 8 = s.checksum ∙ ap adler32 after ∙ sym t.checksum in
     same_bytes b c n (λ i lt. elim (cases_lt i 8) [
       | inl l ↦ front i l
       | inr l ↦ elim (cases_lt i 12) [
         | inl m ↦ (let k : 8 + (i - 8) ≡ i = omega (arith, l) in subst (λ (j : ℕ). SameAt b c j) k (same_word b c bytes_b bytes_c 8 sum (i - 8) (omega (arith, l, m))))
         | inr m ↦ (
             let k : 12 + (i - 12) ≡ i = omega (arith, m) in
-            subst (λ (j : ℕ). SameAt b c j) k (sym (get_or-drop 12 b (i - 12) 0) ∙ ap (λ (l : List ℕ). get_or l (i - 12) 0) behind ∙ get_or-drop 12 c (i - 12) 0))
+            subst (λ (j : ℕ). SameAt b c j) k (sym (get_or-drop 12 b (i - 12) 0) ∙ ap (λ (l : List ℕ). get_or l (i - 12) 0) after ∙ get_or-drop 12 c (i - 12) 0))
       ]
     ])
   where
@@ -228,7 +221,7 @@ map_once b c p map bytes_b bytes_c s t n i low high =
 
 -- files by one plan that agree between header and map are one
 pub written_once : (b c : List ℕ) (p : Plan) (map : ℕ) → AreBytes b → AreBytes c → IsWritten b p map → IsWritten c p map → 112 ≤ map → part_of b 112 map ≡ part_of c 112 map → b ≡ c
-written_once b c p map bytes_b bytes_c s t behind same =
+written_once b c p map bytes_b bytes_c s t after same =
     let n = length_once b c p map s t in
     let e = s.ends in
     let back : drop 32 b ≡ drop 32 c = same_from b c 32 n (λ i low high. elim (cases_lt i 112) [
@@ -238,4 +231,4 @@ written_once b c p map bytes_b bytes_c s t behind same =
         | inr m ↦ map_once b c p map bytes_b bytes_c s t n i m high
       ]
     ]) in
-    closed_once b c bytes_b bytes_c n (omega (arith, e, behind)) s.sums t.sums (magic_once b c bytes_b bytes_c s.magic t.magic s.version t.version) back
+    closed_once b c bytes_b bytes_c n (omega (arith, e, after)) s.sums t.sums (magic_once b c bytes_b bytes_c s.magic t.magic s.version t.version) back

@@ -7,7 +7,7 @@ use Rattle.base_bytes.specs.Fields.{AreBytes}
 use Rattle.dex_container.specs.Where.{slice}
 use Rattle.file_layout.specs.Once.{HasOneSpelling, HaveOneSpelling, part_of, AreSame}
 use Rattle.file_layout.specs.Tiles.{gap, Tiles, Done, Item, add_place, distinct_places, Among, AreShared, Refers, Lays}
-use Rattle.file_layout.proofs.TileLaws.{Tiles-le, Tiles-among, refers_some, zip_there}
+use Rattle.file_layout.proofs.TileLaws.{Tiles-le, Tiles-among, refers_some, zip_there, add_place-fresh, add_place-known, or_true}
 use Rattle.file_layout.proofs.PartLaws.{slice_are, length_slice, part_item, part_none}
 
 -- ---- places that are seen
@@ -25,18 +25,8 @@ holds_more : (P : ℕ → Type 0) (seen : List ℕ) (p : ℕ) → AllByRecursion
 holds_more P [] p h k = (k, tt)
 holds_more P (q ∷ qs) p h k = (h.0, holds_more P qs p h.1 k)
 
-or_true : (b : Bool) → (b || true) ≡ true
-or_true true = refl
-or_true false = refl
-
-add_known : (seen : List ℕ) (place : ℕ) → list_any (λ q. eqb q place) seen ≡ true → add_place seen place ≡ seen
-add_known seen place known = rw (known, or_true (eqb place 0)) refl
-
-add_fresh : (seen : List ℕ) (place : ℕ) → 0 < place → list_any (λ q. eqb q place) seen ≡ false → add_place seen place ≡ seen ++ place ∷ []
-add_fresh seen place some new = let z : eqb place 0 ≡ false = grind arith in rw (z, new) refl
-
 -- places are added at the end
-grows : (places seen : List ℕ) → (more : List ℕ) × (fold add_place seen places ≡ seen ++ more)
+pub grows : (places seen : List ℕ) → (more : List ℕ) × (fold add_place seen places ≡ seen ++ more)
 grows [] seen = ([], sym (append-nil seen))
 grows (p ∷ ps) seen = by_test (eqb p 0 || list_any (λ q. eqb q p) seen) refl (λ s. grows ps s)
   where
@@ -52,7 +42,7 @@ abbrev firsts : {V : Type 0} → List (ℕ × V) → List ℕ
 firsts {V} items = map (λ (x : ℕ × V). x.0) items
 
 -- at a place one value stands
-one_there : {V : Type 0} {G : List ℕ → V → Type 0} {align : ℕ} {b : List ℕ} {at end : ℕ} {items : List (ℕ × V)} (p : ℕ) (v w : V)
+pub one_there : {V : Type 0} {G : List ℕ → V → Type 0} {align : ℕ} {b : List ℕ} {at end : ℕ} {items : List (ℕ × V)} (p : ℕ) (v w : V)
     → Tiles G align b at end items → Among items p v → Among items p w → v ≡ w
 one_there p v w Done a c = absurd a
 one_there p v w (Item next some spelled rest) (inl e) (inl f) = sym e.1 ∙ f.1
@@ -173,7 +163,7 @@ module _ {V : Type 0} (none : V → Bool) (G : List ℕ → V → Type 0) (align
   fresh_left : (seen ps : List ℕ) (p : ℕ) (xs : List (ℕ × V)) → 0 < p → list_any (λ q. eqb q p) seen ≡ false → fold add_place seen (p ∷ ps) ≡ seen ++ firsts xs
       → (v : V) × (ys : List (ℕ × V)) × (xs ≡ (p, v) ∷ ys) × (fold add_place (seen ++ p ∷ []) ps ≡ (seen ++ p ∷ []) ++ firsts ys)
   fresh_left seen ps p xs some new order =
-      let f : fold add_place (add_place seen p) ps ≡ fold add_place (seen ++ p ∷ []) ps = ap (λ (s : List ℕ). fold add_place s ps) (add_fresh seen p some new) in
+      let f : fold add_place (add_place seen p) ps ≡ fold add_place (seen ++ p ∷ []) ps = ap (λ (s : List ℕ). fold add_place s ps) (add_place-fresh seen p some new) in
       let g = grows ps (seen ++ p ∷ []) in
       let whole : seen ++ firsts xs ≡ seen ++ (p ∷ g.0) = sym order ∙ f ∙ g.1 ∙ append_assoc seen (p ∷ []) g.0 in
       let l = some_left p g.0 xs (append_cancel_left seen (firsts xs) (p ∷ g.0) whole) in
@@ -235,10 +225,10 @@ module _ {V : Type 0} (none : V → Bool) (G : List ℕ → V → Type 0) (align
     where
       by_sight : (l r : Bool) → list_any (λ x. eqb x p) seen ≡ l → list_any (λ x. eqb x q) seen ≡ r → (0 < p) × Among items p v → (0 < q) × Among more q v → Same at (p ∷ ps) (q ∷ qs) xs ys
       by_sight true r e m a d =
-          seen_already p q ps qs xs ys at seen s t i j o w k go (known_first n p q v a.0 (seen_holds Known seen p k e) is first_is second_is a.1) (add_known seen p e)
+          seen_already p q ps qs xs ys at seen s t i j o w k go (known_first n p q v a.0 (seen_holds Known seen p k e) is first_is second_is a.1) (add_place-known seen p e)
       by_sight false true e m a d =
           let same : p ≡ q = known_second n p q v d.0 (seen_holds Known seen q k m) is first_is second_is d.1 in
-          seen_already p q ps qs xs ys at seen s t i j o w k go same (add_known seen p (ap (λ (x : ℕ). list_any (λ y. eqb y x) seen) same ∙ m))
+          seen_already p q ps qs xs ys at seen s t i j o w k go same (add_place-known seen p (ap (λ (x : ℕ). list_any (λ y. eqb y x) seen) same ∙ m))
       by_sight false false e m a d = new_one v p q n ps qs xs ys at seen s t i j o w k is first_is second_is go a d e m
 
       by_need : (need : Bool) → none v ≡ need → Same at (p ∷ ps) (q ∷ qs) xs ys

@@ -5,7 +5,7 @@ use Rattle.dex_container.specs.Layout.{size_of, offset_of, row_bytes, map_place,
 use Rattle.dex_container.specs.Frame.{IsKind}
 use Rattle.file_layout.specs.Spans.{Span}
 
--- The spans stand one behind the other; those with items take bytes. `ranks` numbers the kinds as they come.
+-- The spans stand one after the other; those with items take bytes. `ranks` numbers the kinds as they come.
 abbrev pub Follow : (ℕ → ℕ) → ℕ → ℕ → List Span → Type 0
 Follow rank at n [] = ⊤
 Follow rank at n (s ∷ ss) = (at ≤ s.end) × (0 < s.items → (at ≤ s.begin) × (s.begin < s.end)) × (n ≤ rank s.kind) × Follow rank s.end (suc (rank s.kind)) ss

@@ -6,21 +6,12 @@ use Rattle.base_bytes.specs.Fields.{AreBytes}
 use Rattle.base_bytes.proofs.ShortestLaws.{AllBytes}
 use Rattle.dex_container.specs.Where.{slice}
 use Rattle.file_layout.specs.Once.{part_of}
-
-pub all_of : (b : List ℕ) → AreBytes b → AllBytes b
-all_of [] h = tt
-all_of (x ∷ xs) h = (h 0, all_of xs (λ i. h (suc i)))
-
-take_are : (n : ℕ) (xs : List ℕ) → AreBytes xs → AreBytes (take n xs)
-take_are zero xs h i = omega arith
-take_are (suc n) [] h i = omega arith
-take_are (suc n) (x ∷ xs) h zero = h 0
-take_are (suc n) (x ∷ xs) h (suc i) = take_are n xs (λ j. h (suc j)) i
+use Rattle.base_bytes.proofs.ListFacts.{take_bytes, all_of}
 
 -- a part of bytes is bytes
 pub slice_are : (b : List ℕ) (place size : ℕ) → AreBytes b → AreBytes (slice b place size)
 unfolding slice
-slice_are b place size h = take_are size (drop place b) (λ i. rw (get_or-drop place b i 0) (h (place + i)))
+slice_are b place size h = take_bytes size (drop place b) (λ i. rw (get_or-drop place b i 0) (h (place + i)))
 
 length_take : (n : ℕ) (xs : List ℕ) → n ≤ length xs → length (take n xs) ≡ n
 length_take zero xs h = refl
@@ -40,7 +31,7 @@ drop_more zero n xs = let e : n ≡ 0 + n = omega arith in ap (λ (k : ℕ). dro
 drop_more (suc m) n [] = drop_nil n ∙ sym (drop_nil (suc m + n))
 drop_more (suc m) n (x ∷ xs) = let e : suc (m + n) ≡ suc m + n = omega arith in drop_more m n xs ∙ ap (λ (k : ℕ). drop k (x ∷ xs)) e
 
-slice_more : (b : List ℕ) (at m n : ℕ) → slice b at (m + n) ≡ slice b at m ++ slice b (at + m) n
+pub slice_more : (b : List ℕ) (at m n : ℕ) → slice b at (m + n) ≡ slice b at m ++ slice b (at + m) n
 unfolding slice
 slice_more b at m n = take-add m n (drop at b) ∙ ap (λ (t : List ℕ). take m (drop at b) ++ take n t) (drop_more at m b)
 
@@ -51,7 +42,7 @@ part_cut b from mid to p q =
     let m : from + (mid - from) ≡ mid = omega (arith, p) in
     ap (λ (k : ℕ). slice b from k) n ∙ slice_more b from (mid - from) (to - mid) ∙ ap (λ (k : ℕ). slice b from (mid - from) ++ slice b k (to - mid)) m
 
--- zeros, an item, and what is behind it
+-- zeros, an item, and what is after it
 pub part_item : (b : List ℕ) (at place size end g : ℕ) → place ≡ at + g → place + size ≤ end → part_of b at end ≡ slice b at g ++ (slice b place size ++ part_of b (place + size) end)
 part_item b at place size end g here le =
     let m : place - at ≡ g = omega (arith, here) in

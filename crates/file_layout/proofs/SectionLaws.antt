@@ -3,8 +3,9 @@ use Rattle.std.proofs.Common.{◌≡◌, ℕ, suc, ◌+◌, ◌<◌, ◌≤◌, 
 use Rattle.std.specs.List.{slice_get, AllZip}
 use Rattle.std.specs.Prelude.{MatchBool}
 use Rattle.file_layout.specs.Tiles.{zeros, gap}
-use Rattle.file_layout.specs.Sections.{Adds, AddsSome, Laying, wide_of, IsItself, is_empty_list, count_with}
+use Rattle.file_layout.specs.Sections.{Adds, AddsSome, Laying, wide_bytes, IsItself, is_empty_list, count_with}
 use Rattle.file_layout.proofs.TileLaws.{Lays-start, Lays-none, Lays-item, Lays-again, length-zeros}
+use Rattle.base_bytes.proofs.ListFacts.{zip_length}
 
 pub Laying-start : {V : Type 0} (none : V → Bool) (G : List ℕ → V → Type 0) (align : ℕ) (wide : V → ℕ) (old : List ℕ) (all : List V) → Laying none G align wide old old [] all all [] 0
 Laying-start none G align wide old all = record { lays = Lays-start none G align old; grown = ([], sym (append-nil old)); bound = omega arith }
@@ -54,12 +55,6 @@ Laying-again none G align wide old out done rest all v places place count turn l
       bound = omega (arith, b);
     }
 
-pub Zip-length : {A B : Type 0} (R : A → B → Type 0) (xs : List A) (ys : List B) → AllZip R xs ys → length xs ≡ length ys
-Zip-length R [] [] h = refl
-Zip-length R [] (y ∷ ys) h = absurd h
-Zip-length R (x ∷ xs) [] h = absurd h
-Zip-length R (x ∷ xs) (y ∷ ys) h = ap suc (Zip-length R xs ys h.1)
-
 pub adds_some : {V : Type 0} (none : V → Bool) (G : List ℕ → V → Type 0) (align : ℕ) (old new : List ℕ) (v : V) (place : ℕ) → none v ≡ false → Adds G align old new v place → AddsSome none G align old new v place
 adds_some none G align old new v place e a = rw e a
 
@@ -78,7 +73,7 @@ not_none [] h = absurd (omega arith)
 not_none (x ∷ xs) h = refl
 
 -- an item that is 4-aligned takes at most three bytes more
-pub few_more : (out new v : List ℕ) (place : ℕ) → AddsSome is_empty_list IsItself 4 out new v place → length new ≤ length out + wide_of v
+pub few_more : (out new v : List ℕ) (place : ℕ) → AddsSome is_empty_list IsItself 4 out new v place → length new ≤ length out + wide_bytes v
 few_more out new [] place a = let n = ap length a.1 in omega (arith, n)
 few_more out new (x ∷ xs) place a =
     let n = ap length a.whole ∙ length-append (out ++ zeros (gap 4 (length out))) a.bytes in

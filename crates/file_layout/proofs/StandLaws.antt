@@ -25,7 +25,7 @@ at_item none G H align b kind first begin end vs places count place v l reaches 
       begin = first;
       end = r.last;
       section = r.section;
-      behind = omega (arith, low, low_first);
+      after = omega (arith, low, low_first);
       aligned = ap (λ n. n % align) s.aligned ∙ even s.before;
       size = s.size;
       within = omega (arith, high, far);

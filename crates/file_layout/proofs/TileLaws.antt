@@ -1,4 +1,4 @@
--- Laws of items that stand one behind the other.
+-- Laws of items that stand one after the other.
 use Rattle.std.proofs.Common.{◌≡◌, ℕ, zero, suc, ◌+◌, ◌<◌, ◌≤◌, Bool, true, false, eqb, Some, List, [], ◌∷◌, ◌++◌, length, take, drop, map, refl, sym, ap, ◌∙◌, subst, arith, append_assoc, append-nil, length-append, inl, inr}
 use Rattle.std.proofs.lemmas.List.{take_at, drop_at, take-append-le, drop-append-le, length-drop, map-append, length-replicate, replicate_more}
 use Rattle.std.proofs.lemmas.List.Sums.{fold_push}
@@ -7,6 +7,7 @@ use Rattle.std.specs.List.{list_any, slice_get, AllZip}
 use Rattle.std.specs.Prelude.{MatchBool, ⊤, ◌||◌}
 use Rattle.dex_container.specs.Where.{slice}
 use Rattle.file_layout.specs.Tiles.{Agree, zeros, gap, IsNext, Tiles, Done, Item, add_place, distinct_places, Among, Refers, Lays}
+use Rattle.base_bytes.proofs.ListFacts.{zip_more}
 
 pub Tiles-le : {V : Type 0} {G : List ℕ → V → Type 0} {align : ℕ} {b : List ℕ} {at end : ℕ} {items : List (ℕ × V)} → Tiles G align b at end items → at ≤ end
 Tiles-le Done = omega arith
@@ -47,7 +48,7 @@ slice_at a b c place e = ap (take (length b)) (ap (drop place) (append_assoc a b
 pub length-zeros : (n : ℕ) → length (zeros n) ≡ n
 length-zeros n = length-replicate n 0
 
--- an item behind its gap
+-- an item after its gap
 pub Tiles-item : {V : Type 0} {G : List ℕ → V → Type 0} {align begin : ℕ} (b bytes new : List ℕ) {items : List (ℕ × V)} {v : V}
     → Tiles G align b begin (length b) items → new ≡ (b ++ zeros (gap align (length b))) ++ bytes → 0 < length bytes → G bytes v
     → Tiles G align new begin (length new) (items ++ (length b + gap align (length b), v) ∷ [])
@@ -102,14 +103,14 @@ AllBelow n (x ∷ xs) = (x < n) × AllBelow n xs
 below_eqb : (x at : ℕ) → x < at → eqb x at ≡ false
 below_eqb x at h = grind arith
 
-add_place-fresh : (seen : List ℕ) (place : ℕ) → 0 < place → list_any (λ q. eqb q place) seen ≡ false → add_place seen place ≡ seen ++ place ∷ []
+pub add_place-fresh : (seen : List ℕ) (place : ℕ) → 0 < place → list_any (λ q. eqb q place) seen ≡ false → add_place seen place ≡ seen ++ place ∷ []
 add_place-fresh seen place some new = let z : eqb place 0 ≡ false = grind arith in rw (z, new) refl
 
-or_true : (b : Bool) → (b || true) ≡ true
+pub or_true : (b : Bool) → (b || true) ≡ true
 or_true true = refl
 or_true false = refl
 
-add_place-known : (seen : List ℕ) (place : ℕ) → list_any (λ q. eqb q place) seen ≡ true → add_place seen place ≡ seen
+pub add_place-known : (seen : List ℕ) (place : ℕ) → list_any (λ q. eqb q place) seen ≡ true → add_place seen place ≡ seen
 add_place-known seen place known = rw (known, or_true (eqb place 0)) refl
 
 distinct_places-push : (places : List ℕ) (place : ℕ) → distinct_places (places ++ place ∷ []) ≡ add_place (distinct_places places) place
@@ -145,12 +146,6 @@ All-left none xs ys [] (v ∷ vs) h = absurd h
 All-left none xs ys (p ∷ ps) [] h = absurd h
 All-left none xs ys (p ∷ ps) (v ∷ vs) h = (Refers-left none xs ys p v h.0, All-left none xs ys ps vs h.1)
 
-pub Zip-push : {A B : Type 0} (R : A → B → Type 0) (xs : List A) (ys : List B) (x : A) (y : B) → AllZip R xs ys → R x y → AllZip R (xs ++ x ∷ []) (ys ++ y ∷ [])
-Zip-push R [] [] x y h r = (r, tt)
-Zip-push R [] (b ∷ bs) x y h r = absurd h
-Zip-push R (a ∷ as_) [] x y h r = absurd h
-Zip-push R (a ∷ as_) (b ∷ bs) x y h r = (h.0, Zip-push R as_ bs x y h.1 r)
-
 Tiles-below : {V : Type 0} {G : List ℕ → V → Type 0} {align : ℕ} {b : List ℕ} {at end : ℕ} {items : List (ℕ × V)} → Tiles G align b at end items → AllBelow end (map (λ (x : ℕ × V). x.0) items)
 Tiles-below Done = tt
 Tiles-below (Item next some spelled rest) = (let l = Tiles-le rest in omega (arith, l, some), Tiles-below rest)
@@ -170,7 +165,7 @@ pub Lays-none : {V : Type 0} (none : V → Bool) (G : List ℕ → V → Type 0)
 Lays-none none G align begin b vs v places count l e = record {
   items = l.items;
   tiled = l.tiled;
-  each = Zip-push (Refers none l.items) places vs 0 v l.each (rw e refl);
+  each = zip_more (Refers none l.items) places vs 0 v l.each (rw e refl);
   order = l.order ∙ sym (distinct_places-push places 0);
   counted = l.counted;
 }
@@ -186,7 +181,7 @@ Lays-item {V = V} none G align begin b bytes new vs v places count l front e who
     record {
       items = l.items ++ (place, v) ∷ [];
       tiled = Tiles-item b bytes new l.tiled whole some spelled;
-      each = Zip-push (Refers none (l.items ++ (place, v) ∷ [])) places vs place v
+      each = zip_more (Refers none (l.items ++ (place, v) ∷ [])) places vs place v
           (All-left none l.items ((place, v) ∷ []) places vs l.each)
           (rw e (omega arith, Among-last l.items place v));
       order = map-append (λ (x : ℕ × V). x.0) l.items ((place, v) ∷ []) ∙ ap (λ ps. ps ++ place ∷ []) l.order ∙ sym fresh ∙ sym (distinct_places-push places place);
@@ -200,7 +195,7 @@ pub Lays-shared : {V : Type 0} (none : V → Bool) (G : List ℕ → V → Type 
 Lays-shared none G align begin b vs v places place count l e some a known = record {
   items = l.items;
   tiled = l.tiled;
-  each = Zip-push (Refers none l.items) places vs place v l.each (rw e (some, a));
+  each = zip_more (Refers none l.items) places vs place v l.each (rw e (some, a));
   order = l.order ∙ sym (add_place-known (distinct_places places) place known) ∙ sym (distinct_places-push places place);
   counted = l.counted;
 }

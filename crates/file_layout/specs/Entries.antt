@@ -9,7 +9,7 @@ use Rattle.file_layout.specs.Spans.{Span}
 abbrev pub has_some : Entry → Bool
 has_some e = nat_lt 0 e.items
 
--- an entry that has items: its kind (with the two unused bytes behind it), how many items, where they begin
+-- an entry that has items: its kind (with the two unused bytes after it), how many items, where they begin
 abbrev pub entry_words : Entry → List ℕ
 entry_words e = if has_some e then e.kind ∷ e.items ∷ e.place ∷ [] else []
 

@@ -1,9 +1,9 @@
--- A file that is finished: the map behind the data, header and rows in front, signature and checksum.
+-- A file that is finished: the map after the data, header and rows in front, signature and checksum.
 -- Page: "Dalvik Executable format", "header_item".
 use Rattle.std.specs.Prelude.{◌≡◌, ℕ, ◌^◌, ◌<◌, ◌++◌, List, length, drop, slice_index}
 use Rattle.base_bytes.specs.Fields.{AreBytes}
 use Rattle.base_bytes.specs.Words.{words_bytes}
-use Rattle.dex_container.specs.Closed.{IsClosed}
+use Rattle.dex_container.specs.Closed.{SetsSums}
 use Rattle.dex_container.specs.Where.{slice}
 use Rattle.file_layout.specs.declared.plan.Rows.{Rows}
 use Rattle.file_layout.specs.declared.plan.Plan.{Plan}
@@ -15,10 +15,10 @@ pub record IsFronted (old new : List ℕ) (r : Rows) (map total : ℕ) (rows : L
   pub front : List ℕ
   pub whole : front ≡ words_bytes (header_words r map total) ++ (rows ++ drop (tables_end r) old)
   pub header_fits : (j : ℕ) → slice_index (header_words r map total) j < 2 ^ 32
-  pub closed : IsClosed front new
+  pub closed : SetsSums front new
   pub bytes : AreBytes new
 
--- `new` has the data of `old`, behind it zeros up to the map, the map, and in front header and rows.
+-- `new` has the data of `old`, after it zeros up to the map, the map, and in front header and rows.
 pub record Finishes (old new : List ℕ) (p : Plan) (rows : List ℕ) : Type 0 where
   pub map : ℕ
   pub written : IsWritten new p map

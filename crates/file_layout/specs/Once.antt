@@ -11,7 +11,7 @@ use Rattle.file_layout.specs.Tiles.{AreShared, Lays}
 abbrev pub HasOneSpelling : {V : Type 0} → (List ℕ → V → Type 0) → V → Type 0
 HasOneSpelling G v = (a b : List ℕ) → AreBytes a → AreBytes b → G a v → G b v → a ≡ b
 
--- The same of each of these values.
+-- Of all lists of bytes one at most spells each of these values by G.
 abbrev pub HaveOneSpelling : {V : Type 0} → (List ℕ → V → Type 0) → List V → Type 0
 HaveOneSpelling {V} G vs = (n : ℕ) (v : V) → slice_get vs n ≡ Some v → HasOneSpelling G v
 

@@ -9,23 +9,23 @@ use Rattle.file_layout.specs.declared.plan.Part.{Part}
 use Rattle.file_layout.specs.declared.plan.Plan.{Plan}
 use Rattle.file_layout.specs.Spans.{Span, has_items, MapNames}
 
--- where type_ids begins: behind the header's 112 bytes and string_ids, of 4 bytes a row
+-- where type_ids begins: after the header's 112 bytes and string_ids, of 4 bytes a row
 abbrev pub type_ids_begin : Rows → ℕ
 type_ids_begin r = 112 + 4 * r.strings
 
--- where proto_ids begins: behind type_ids, of 4 bytes a row
+-- where proto_ids begins: after type_ids, of 4 bytes a row
 abbrev pub proto_ids_begin : Rows → ℕ
 proto_ids_begin r = type_ids_begin r + 4 * r.types
 
--- where field_ids begins: behind proto_ids, of 12 bytes a row
+-- where field_ids begins: after proto_ids, of 12 bytes a row
 abbrev pub field_ids_begin : Rows → ℕ
 field_ids_begin r = proto_ids_begin r + 12 * r.protos
 
--- where method_ids begins: behind field_ids, of 8 bytes a row
+-- where method_ids begins: after field_ids, of 8 bytes a row
 abbrev pub method_ids_begin : Rows → ℕ
 method_ids_begin r = field_ids_begin r + 8 * r.fields
 
--- where class_defs begins: behind method_ids, of 8 bytes a row
+-- where class_defs begins: after method_ids, of 8 bytes a row
 abbrev pub class_defs_begin : Rows → ℕ
 class_defs_begin r = method_ids_begin r + 8 * r.methods
 
@@ -74,13 +74,13 @@ spans_of p map total =
     ∷ record { kind = 0x1000; items = 1; begin = map; end = total }
     ∷ []
 
--- A part of the data section ends at or behind `at`; with items it also begins there, and takes bytes.
+-- A part of the data section ends at or after `at`; with items it also begins there, and takes bytes.
 pub record Follows (at : ℕ) (p : Part) : Type 0 where
-  pub behind : at ≤ p.end
+  pub after : at ≤ p.end
   pub begins : 0 < p.items → at ≤ p.begin
   pub takes : 0 < p.items → p.begin < p.end
 
--- The parts stand one behind the other behind the tables, and there are at most 65535 types and protos.
+-- The parts stand one after the other after the tables, and there are at most 65535 types and protos.
 pub record IsPlanned (p : Plan) : Type 0 where
   pub lists : Follows (tables_end p.rows) p.lists
   pub codes : Follows p.lists.end p.codes
@@ -90,11 +90,11 @@ pub record IsPlanned (p : Plan) : Type 0 where
   pub few_types : p.rows.types ≤ 65535
   pub few_protos : p.rows.protos ≤ 65535
 
--- These bytes have header and map by the plan: the map stands 4-aligned at this place, behind the data, names exactly
+-- These bytes have header and map by the plan: the map stands 4-aligned at this place, after the data, names exactly
 -- what has items, and is the file's end.
 pub record IsWritten (b : List ℕ) (p : Plan) (map : ℕ) : Type 0 where
   pub planned : IsPlanned p
-  pub behind : p.datas.end ≤ map
+  pub after : p.datas.end ≤ map
   pub aligned : map % 4 ≡ 0
   pub named : MapNames b (filter has_items (spans_of p map (length b)))
   pub ends : map + 4 + 12 * length (filter has_items (spans_of p map (length b))) ≡ length b

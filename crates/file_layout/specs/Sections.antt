@@ -22,10 +22,10 @@ abbrev pub IsItself : List ℕ → List ℕ → Type 0
 IsItself bytes v = bytes ≡ v
 
 -- how many bytes a value that is bytes takes at most, 4-aligned
-abbrev pub wide_of : List ℕ → ℕ
-wide_of v = length v + 3
+abbrev pub wide_bytes : List ℕ → ℕ
+wide_bytes v = length v + 3
 
--- `new` is `old` with the item of v behind it, at this place, the next that `align` divides; zeros stand between.
+-- `new` is `old` with the item of v after it, at this place, the next that `align` divides; zeros stand between.
 pub record Adds {V : Type 0} (G : List ℕ → V → Type 0) (align : ℕ) (old new : List ℕ) (v : V) (place : ℕ) : Type 0 where
   pub there : place ≡ length old + gap align (length old)
   pub bytes : List ℕ
@@ -43,7 +43,7 @@ abbrev pub wide_all : {V : Type 0} → (V → ℕ) → List V → ℕ
 wide_all wide [] = 0
 wide_all wide (v ∷ vs) = wide v + wide_all wide vs
 
--- Of all values some are done: they are laid behind `old`, in so many items. `out` with the rest takes no more bytes
+-- Of all values some are done: they are laid after `old`, in so many items. `out` with the rest takes no more bytes
 -- than `old` with all.
 pub record Laying {V : Type 0} (none : V → Bool) (G : List ℕ → V → Type 0) (align : ℕ) (wide : V → ℕ)
     (old out : List ℕ) (done rest all : List V) (places : List ℕ) (count : ℕ) : Type 0 where
@@ -51,7 +51,7 @@ pub record Laying {V : Type 0} (none : V → Bool) (G : List ℕ → V → Type 
   pub grown : (more : List ℕ) × (out ≡ old ++ more)
   pub bound : length out + wide_all wide rest ≤ length old + wide_all wide all
 
--- All the values are laid behind `old`, in so many items.
+-- All the values are laid after `old`, in so many items.
 abbrev pub Laid : {V : Type 0} → (V → Bool) → (List ℕ → V → Type 0) → ℕ → (V → ℕ)
     → List ℕ → List ℕ → List V → List ℕ → ℕ → Type 0
 Laid none G align wide old out vs places count = Laying none G align wide old out vs [] vs places count

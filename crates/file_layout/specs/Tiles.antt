@@ -1,4 +1,4 @@
--- Items that stand one behind the other, and the places by which they are referred to.
+-- Items that stand one after the other, and the places by which they are referred to.
 -- Page: "Dalvik Executable format", "alignment" of each item.
 use Rattle.std.specs.Prelude.{◌≡◌, ℕ, ◌+◌, ◌-◌, ◌%◌, ◌<◌, ◌≤◌, ◌==◌, ◌||◌, Bool, if◌then◌else◌, List, [], ◌∷◌, ◌++◌, length, map, replicate, slice_get, Some, ◌⊎◌, MatchBool}
 use Rattle.std.specs.List.{fold, list_any, AllZip}
@@ -12,7 +12,7 @@ zeros n = replicate n 0
 abbrev pub gap : ℕ → ℕ → ℕ
 gap align at = (align - at % align) % align
 
--- An item stands behind `at`, at the next place that `align` divides; zeros stand between.
+-- An item stands after `at`, at the next place that `align` divides; zeros stand between.
 pub record IsNext (align : ℕ) (b : List ℕ) (at place : ℕ) : Type 0 where
   pub there : place ≡ at + gap align at
   pub clear : slice b at (gap align at) ≡ zeros (gap align at)

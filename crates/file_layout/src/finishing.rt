@@ -7,8 +7,8 @@ ghost use Rattle.dex_container.specs.Frame.{IsFramed};
 ghost use Rattle.file_layout.specs.Plan.{tables_end, header_words, IsPlanned, table_offset};
 ghost use Rattle.file_layout.specs.Finished.{Finishes, IsFronted};
 
-use crate::map_list::{entries_of, map_behind};
-use crate::padding::gap_behind;
+use crate::map_list::{entries_of, map_after};
+use crate::padding::gap_after;
 use crate::plan::{Plan, Rows};
 use crate::ranges::are_words;
 use base_bytes::{Fault, are_bytes, put_u32_at};
@@ -83,7 +83,7 @@ fn put_words(bytes: &mut [u8], words: &[u32])
     }
 }
 
-// Writes the rows of the tables behind the header. All other bytes stay.
+// Writes the rows of the tables after the header. All other bytes stay.
 fn put_rows(bytes: &mut [u8], rows: &[u8])
     requires { 112 + length rows.now ≤ length bytes.old }
     ensures { bytes.new ≡ take 112 bytes.old ++ (rows.now ++ drop (112 + length rows.now) bytes.old) }
@@ -107,13 +107,13 @@ fn put_front(bytes: &mut [u8], counts: Rows, map: u32, total: u32, rows: &[u8])
     are_bytes(bytes);
 }
 
-/// Finishes a file whose data stands in `out` behind room for the header and the tables: puts the map behind the data,
+/// Finishes a file whose data stands in `out` after room for the header and the tables: puts the map after the data,
 /// the header and the rows of the tables in front, and fills in the signature and the checksum.
 ///
 /// `rows` has the bytes of all rows, table by table: 4 a row of `string_ids` and `type_ids`, 12 of `proto_ids`, 8 of
 /// `field_ids` and `method_ids`, 32 of `class_defs`. The zeros and the map take at most 163 bytes.
 ///
-/// The only refusal is want of memory, and then nothing has changed.
+/// It fails only when out of memory, and then nothing has changed.
 pub fn finish(alloc: Global, out: &mut Vec<u8>, plan: &Plan, rows: &[u8]) -> Result<(), Fault>
     requires planned { IsPlanned plan.now }
     requires end { length out.old.items ≡ plan.now.datas.end }
@@ -126,9 +126,9 @@ pub fn finish(alloc: Global, out: &mut Vec<u8>, plan: &Plan, rows: &[u8]) -> Res
     ensures memory { IsOkUnless result memory }
 {
     let end = out.len();
-    let map = (end + gap_behind(end)) as u32;
-    let behind = map_behind(alloc, end, &entries_of(plan, map))?;
-    out.extend_from_slice(&behind)?;
+    let map = (end + gap_after(end)) as u32;
+    let after = map_after(alloc, end, &entries_of(plan, map))?;
+    out.extend_from_slice(&after)?;
     let total = out.len() as u32;
     put_front(out, plan.rows, map, total, rows);
     Ok(())

@@ -24,12 +24,12 @@ pub fn written_is_framed()
     ensures kinds { (b : List ℕ) (p : Plan) (map : ℕ) → IsWritten b p map → (i : ℕ) → i < entry_count b → IsWrittenKind (kind_at b i) }
 {}
 
-/// Items that are laid one behind the other are laid so in any bytes that agree with theirs.
+/// Items that are laid one after the other are laid so in any bytes that agree with theirs.
 pub fn laid_items_stay()
     ensures { LaidItemsStay }
 {}
 
-/// With one more item behind them, at the next place that 4 divides, items are laid as before; where the value takes
+/// With one more item after them, at the next place that 4 divides, items are laid as before; where the value takes
 /// none, the place 0 stands for it.
 pub fn one_more_item_is_laid()
     ensures { OneMoreItemIsLaid }

@@ -1,7 +1,7 @@
-//! The layout of a file that is written, whatever it says: items one behind the other with zeros where alignment asks
+//! The layout of a file that is written, whatever it says: items one after the other with zeros where alignment asks
 //! for them, the map, the header, the rows of the tables.
 //!
-//! Who writes a file puts zeros in place of header and tables, the parts of the data section behind them, and keeps of
+//! Who writes a file puts zeros in place of header and tables, the parts of the data section after them, and keeps of
 //! each part how many items it has and where it stands:
 //!
 //! ```
@@ -29,5 +29,5 @@ pub use laws::{
     laid_items_stand, laid_items_stay, layings_are_one, one_more_item_is_laid, written_is_framed,
     written_is_one,
 };
-pub use padding::{gap_behind, pad};
+pub use padding::{gap_after, pad};
 pub use plan::{Part, Plan, Rows};

@@ -8,7 +8,7 @@ ghost use Rattle.file_layout.specs.Entries.{entry_words, has_some, list_words, e
 ghost use Rattle.file_layout.specs.Plan.{tables_end, spans_of};
 ghost use Rattle.file_layout.specs.Tiles.{zeros, gap};
 
-use crate::padding::pad_behind;
+use crate::padding::pad_after;
 use crate::plan::{Part, Plan};
 use crate::ranges::are_words;
 use base_bytes::{Fault, push_words};
@@ -105,11 +105,11 @@ fn list_words(alloc: Global, entries: &[Entry]) -> Result<Vec<u32>, Fault>
     Ok(words)
 }
 
-/// What stands behind the data of a file that so far ends at `end`: zeros up to the next place that 4 divides, and there
+/// What stands after the data of a file that so far ends at `end`: zeros up to the next place that 4 divides, and there
 /// the map of these entries.
 ///
-/// The only refusal is want of memory.
-pub fn map_behind(alloc: Global, end: usize, entries: &[Entry]) -> Result<Vec<u8>, Fault>
+/// It fails only when out of memory.
+pub fn map_after(alloc: Global, end: usize, entries: &[Entry]) -> Result<Vec<u8>, Fault>
     requires { length entries.now ≤ 100 }
     ensures ok { IfOk result (λ bytes. bytes.items ≡ zeros (gap 4 end) ++ words_bytes (list_words entries.now)) }
     ensures fits { OnOk result ((j : ℕ) → slice_index (list_words entries.now) j < 2 ^ 32) }
@@ -117,7 +117,7 @@ pub fn map_behind(alloc: Global, end: usize, entries: &[Entry]) -> Result<Vec<u8
 {
     let words = list_words(alloc, entries)?;
     let mut bytes = Vec::new(alloc);
-    pad_behind(&mut bytes, end)?;
+    pad_after(&mut bytes, end)?;
     push_words(&mut bytes, &words)?;
     Ok(bytes)
 }

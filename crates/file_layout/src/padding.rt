@@ -7,7 +7,7 @@ ghost use Rattle.file_layout.specs.Tiles.{zeros, gap};
 use base_bytes::Fault;
 
 /// How many bytes there are from a place to the next that 4 divides.
-pub fn gap_behind(place: usize) -> usize
+pub fn gap_after(place: usize) -> usize
     ensures { result ≡ gap 4 place }
 {
     (4 - place % 4) % 4
@@ -15,13 +15,13 @@ pub fn gap_behind(place: usize) -> usize
 
 /// Appends as many zeros as there are from `place` to the next place that 4 divides: at most three bytes.
 ///
-/// The only refusal is want of memory, and then nothing was added.
-pub fn pad_behind(out: &mut Vec<u8>, place: usize) -> Result<(), Fault>
+/// It fails only when out of memory, and then nothing was added.
+pub fn pad_after(out: &mut Vec<u8>, place: usize) -> Result<(), Fault>
     ensures ok { OnOk result (out.new.items ≡ out.old.items ++ zeros (gap 4 place)) }
     ensures err { OnErr result (out.new.items ≡ out.old.items) }
     ensures memory { IsOkUnless result memory }
 {
-    match gap_behind(place) {
+    match gap_after(place) {
         0 => {}
         1 => out.extend_from_slice(&[0])?,
         2 => out.extend_from_slice(&[0, 0])?,
@@ -32,11 +32,11 @@ pub fn pad_behind(out: &mut Vec<u8>, place: usize) -> Result<(), Fault>
 
 /// Appends zeros up to the next place that 4 divides: at most three bytes.
 ///
-/// The only refusal is want of memory, and then nothing was added.
+/// It fails only when out of memory, and then nothing was added.
 pub fn pad(out: &mut Vec<u8>) -> Result<(), Fault>
     ensures ok { OnOk result (out.new.items ≡ out.old.items ++ zeros (gap 4 (length out.old.items))) }
     ensures err { OnErr result (out.new.items ≡ out.old.items) }
     ensures memory { IsOkUnless result memory }
 {
-    pad_behind(out, out.len())
+    pad_after(out, out.len())
 }

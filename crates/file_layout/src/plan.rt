@@ -36,7 +36,7 @@ pub struct Plan {
 }
 
 impl Rows {
-    /// The byte at which `type_ids` begins, behind the header and `string_ids`.
+    /// The byte at which `type_ids` begins, after the header and `string_ids`.
     pub fn type_ids_begin(self) -> u32
         requires { tables_end self < 2 ^ 32 }
         ensures { result ≡ type_ids_begin self }
@@ -44,7 +44,7 @@ impl Rows {
         112 + 4 * self.strings
     }
 
-    /// The byte at which `proto_ids` begins, behind `type_ids`.
+    /// The byte at which `proto_ids` begins, after `type_ids`.
     pub fn proto_ids_begin(self) -> u32
         requires { tables_end self < 2 ^ 32 }
         ensures { result ≡ proto_ids_begin self }
@@ -52,7 +52,7 @@ impl Rows {
         self.type_ids_begin() + 4 * self.types
     }
 
-    /// The byte at which `field_ids` begins, behind `proto_ids`.
+    /// The byte at which `field_ids` begins, after `proto_ids`.
     pub fn field_ids_begin(self) -> u32
         requires { tables_end self < 2 ^ 32 }
         ensures { result ≡ field_ids_begin self }
@@ -60,7 +60,7 @@ impl Rows {
         self.proto_ids_begin() + 12 * self.protos
     }
 
-    /// The byte at which `method_ids` begins, behind `field_ids`.
+    /// The byte at which `method_ids` begins, after `field_ids`.
     pub fn method_ids_begin(self) -> u32
         requires { tables_end self < 2 ^ 32 }
         ensures { result ≡ method_ids_begin self }
@@ -68,7 +68,7 @@ impl Rows {
         self.field_ids_begin() + 8 * self.fields
     }
 
-    /// The byte at which `class_defs` begins, behind `method_ids`.
+    /// The byte at which `class_defs` begins, after `method_ids`.
     pub fn class_defs_begin(self) -> u32
         requires { tables_end self < 2 ^ 32 }
         ensures { result ≡ class_defs_begin self }

@@ -10,19 +10,19 @@ use Rattle.program_types.specs.Key.{Key, field_ref_key, method_ref_key, proto_ke
 use Rattle.tables_laws.specs.FileNames.{AreNoShorter, HaveRowsIn}
 use Rattle.tables_laws.proofs.FileLemmas.{files_are_no_shorter, needed_has_rows}
 use Rattle.file_read.specs.Means.{Means}
-use Rattle.file_laws.proofs.WellLaws.{program_rows}
+use Rattle.file_read.proofs.WellLaws.{program_rows}
 use Rattle.file_least.specs.AtLeast.{AreNoFurther, HoldsAtLeast}
 
 -- the index of a key is its rank
-behind_rank : (set : List Key) (i j : ℕ) (k : Key) → Rising set → IsAt set i k → rank_of set k ≤ j → i ≤ j
-behind_rank set i j k up at h = let e = rank_at set i k up at in omega (arith, e, h)
+after_rank : (set : List Key) (i j : ℕ) (k : Key) → Rising set → IsAt set i k → rank_of set k ≤ j → i ≤ j
+after_rank set i j k up at h = let e = rank_at set i k up at in omega (arith, e, h)
 
 -- a name that has an index is held
-held : (s : Five) (i : ℕ) (name : Name) → NameRanks s i name → Holds s name
-held s i (OfText t) at = member_at s.strings i (text_key t) at
-held s i (OfDesc t) at = member_at s.types i (text_key t) at
-held s i (OfField f) at = member_at s.fields i (field_ref_key f) at
-held s i (OfMethod m) at = member_at s.methods i (method_ref_key m) at
+pub ranked_holds : (s : Five) (i : ℕ) (name : Name) → NameRanks s i name → Holds s name
+ranked_holds s i (OfText t) at = member_at s.strings i (text_key t) at
+ranked_holds s i (OfDesc t) at = member_at s.types i (text_key t) at
+ranked_holds s i (OfField f) at = member_at s.fields i (field_ref_key f) at
+ranked_holds s i (OfMethod m) at = member_at s.methods i (method_ref_key m) at
 
 module _ (b : List ℕ) (p : Program) (m : Means b p) where
   rows : HaveRowsIn b (needed p)
@@ -33,10 +33,10 @@ module _ (b : List ℕ) (p : Program) (m : Means b p) where
 
   -- no name stands before its rank
   pub no_further : AreNoFurther (needed p) b
-  no_further (OfText t) i j stands at = behind_rank (needed p).strings j i (text_key t) (needed_is_least p).0.strings at (short.string_rank i t stands)
-  no_further (OfDesc t) i j stands at = behind_rank (needed p).types j i (text_key t) (needed_is_least p).0.types at (short.type_rank i t stands)
-  no_further (OfField f) i j stands at = behind_rank (needed p).fields j i (field_ref_key f) (needed_is_least p).0.fields at (short.field_rank i f stands)
-  no_further (OfMethod n) i j stands at = behind_rank (needed p).methods j i (method_ref_key n) (needed_is_least p).0.methods at (short.method_rank i n stands)
+  no_further (OfText t) i j stands at = after_rank (needed p).strings j i (text_key t) (needed_is_least p).0.strings at (short.string_rank i t stands)
+  no_further (OfDesc t) i j stands at = after_rank (needed p).types j i (text_key t) (needed_is_least p).0.types at (short.type_rank i t stands)
+  no_further (OfField f) i j stands at = after_rank (needed p).fields j i (field_ref_key f) (needed_is_least p).0.fields at (short.field_rank i f stands)
+  no_further (OfMethod n) i j stands at = after_rank (needed p).methods j i (method_ref_key n) (needed_is_least p).0.methods at (short.method_rank i n stands)
 
   pub holds_at_least : HoldsAtLeast b (needed p)
   holds_at_least = record {
@@ -45,14 +45,14 @@ module _ (b : List ℕ) (p : Program) (m : Means b p) where
     protos = short.protos;
     fields = short.fields;
     methods = short.methods;
-    names = λ i name at. let r = rows.names name (held (needed p) i name at) in record {
+    names = λ i name at. let r = rows.names name (ranked_holds (needed p) i name at) in record {
       row = r.0;
       stands = r.1;
-      behind = no_further name r.0 i r.1 at;
+      after = no_further name r.0 i r.1 at;
     };
     proto_names = λ i q at. let r = rows.protos q (member_at (needed p).protos i (proto_key q) at) in record {
       row = r.0;
       stands = r.1;
-      behind = behind_rank (needed p).protos i r.0 (proto_key q) (needed_is_least p).0.protos at (short.proto_rank r.0 q r.1);
+      after = after_rank (needed p).protos i r.0 (proto_key q) (needed_is_least p).0.protos at (short.proto_rank r.0 q r.1);
     };
   }

@@ -1,11 +1,11 @@
--- A code that stands in a file fits the fields of every file in which no name stands further behind.
+-- A code that stands in a file fits the fields of every file in which no name stands further after.
 use Rattle.std.proofs.Common.{◌≡◌, ◌≢◌, ℕ, ℤ, zero, suc, ◌+◌, ◌-◌, ◌*◌, ◌/◌, ◌<◌, ◌≤◌, inl, inr, Option, Some, None, true, List, length, drop, get_or, refl, sym, ap, ◌∙◌, subst, arith, length-drop, length-take}
 use Rattle.std.specs.Prelude.{IfSome, FitsSigned}
 use Rattle.std.specs.Int.{w8, w16, w32}
 use Rattle.std.proofs.lemmas.Bool.{cases_lt}
 use Rattle.std.proofs.lemmas.Int.{ints as signs}
 use Rattle.base_bytes.specs.Fields.{AreBytes}
-use Rattle.base_bytes.proofs.FieldBounds.{u32_at-fits}
+use Rattle.base_bytes.proofs.FieldBounds.{u32_at-fits, drop-AreBytes}
 use Rattle.dex_container.specs.Frame.{IsFramed}
 use Rattle.dex_container.specs.Where.{slice}
 use Rattle.dex_insn.specs.Fields.{number, int_at}
@@ -14,33 +14,34 @@ use Rattle.dex_insn.specs.Raw.{Raw, units, is_payload}
 use Rattle.dex_insn.specs.RawInsns.{InsnStands, SpellsInsn}
 use Rattle.dex_insn.specs.Written.{IsRaw}
 use Rattle.dex_insn.specs.declared.opcode.IndexKind.{IndexKind}
-use Rattle.dex_insn.proofs.Fits.{behind, number-2, signed-32, stands_fits}
+use Rattle.dex_insn.proofs.Fits.{number-2, signed-32, stands_fits}
 use Rattle.dex_insn.proofs.Laws.{even-of}
 use Rattle.program_types.specs.Content.{Name, Insn, Try, Code}
 use Rattle.program_types.specs.Content as made
-use Rattle.program_types.specs.Formed.{IsSwitch, insn_at, try_at, insn_payload, insn_targets, Refers}
+use Rattle.program_types.specs.Formed.{IsSwitch, insn_at, try_at, insn_payload, insn_targets, RefersToPayload}
 use Rattle.program_types.specs.Kinds.{IsOfKind}
 use Rattle.program_types.specs.Sizes.{addresses_of}
 use Rattle.tables_rows.specs.Stands.{NameStands}
 use Rattle.code_insns.specs.Places.{place, count_below, Rises}
 use Rattle.code_insns.specs.Walk.{starts, raw_at, address}
-use Rattle.code_insns.specs.Symbols.{resolved, places, ints, Names, name_in}
+use Rattle.code_insns.specs.Symbols.{resolved, places, ints, InsnNames, name_in}
 use Rattle.code_insns.specs.Payloads.{payload_of}
 use Rattle.code_insns.specs.Insns.{targets, IsBase, SpellsInsns}
 use Rattle.code_insns.proofs.PlaceLaws.{place-there}
 use Rattle.code_insns.proofs.Runs.{run-at, table-of}
 use Rattle.code_insns.proofs.SaidRegisters.{mapped, said, addresses-same}
-use Rattle.code_read.specs.Item.{size_of, tries_of, units_of, items_of, units_end, tries_begin, list_begin, try_start, try_count}
+use Rattle.code_read.specs.Item.{insns_size, tries_of, insns_bytes, items_of, units_end, tries_begin, list_begin, try_start, try_count}
 use Rattle.code_read.specs.Tries.{SpellsTries}
 use Rattle.code_read.specs.Code.{SpellsBody, CodeStands}
 use Rattle.code_read.proofs.FaultLaws.{units-even}
 use Rattle.code_read.proofs.ItemLaws.{begins_late}
 use Rattle.code_put.specs.Fits.{short_name, ShortFits, distance_of, BranchFits, TargetsFit, OffsetsFit, IsEven, TryFits}
-use Rattle.file_least.specs.AtLeast.{AreNoFurther, CodesFit, FitsFields}
+use Rattle.file_least.specs.AtLeast.{AreNoFurther, CodesFit, FitsButHandlers}
 use Rattle.tables_names.specs.Closure.{Five, NameRanks}
-use Rattle.code_read_laws.proofs.Bytes.{take-bytes}
-use Rattle.code_read_laws.proofs.SaidLaws.{AllLed, targets-said, slice-bytes}
-use Rattle.code_read_laws.proofs.CodesFormed.{if-weaker, all-weaker, kind-at, uses-of, no-targets, count-most, not-below, from-at, u16-fits}
+use Rattle.code_read.proofs.SaidLaws.{AllLed, targets-said, slice-bytes}
+use Rattle.code_read.proofs.CodesFormed.{all-weaker, kind-at, uses-of, no-targets, count-most, not-below, from-at, u16-fits}
+use Rattle.base_bytes.proofs.ListFacts.{take_bytes}
+use Rattle.code_insns.proofs.PlainLaws.{weaker}
 
 -- ---- indices
 
@@ -48,7 +49,7 @@ use Rattle.code_read_laws.proofs.CodesFormed.{if-weaker, all-weaker, kind-at, us
 abbrev HasShort : (ℕ → Name → Type 0) → Name → Type 0
 HasShort M which = (j : ℕ) × (j < 65536) × M j which
 
-short-index : (M : ℕ → Name → Type 0) (T : ℤ → Option ℕ) (w : Name) (r : Raw) → IsRaw r → Names M r w → IfSome (resolved T w r) (λ i. IfSome (short_name i) (HasShort M))
+short-index : (M : ℕ → Name → Type 0) (T : ℤ → Option ℕ) (w : Name) (r : Raw) → IsRaw r → InsnNames M r w → IfSome (resolved T w r) (λ i. IfSome (short_name i) (HasShort M))
 unfolding resolved
 short-index M T w (raw.I21c op a index) f n = (index, f.1, n.stands)
 short-index M T w (raw.I22c op a b index) f n = (index, f.3, n.stands)
@@ -100,7 +101,7 @@ module _ (M : ℕ → Name → Type 0) (us : List ℕ) (rs : List Raw) (is : Lis
   short-at : (N : ℕ → Name → Type 0) → ((which : Name) (j n : ℕ) → M j which → N n which → n ≤ j) → (kind : IndexKind) (k : ℕ) → k < length rs → ShortFits N kind (insn_at is k)
   short-at N low kind k l =
       let x = s.each k l in
-      if-weaker (HasShort M) (λ which. IsOfKind kind which → (n : ℕ) → N n which → n < 65536) (short_name (insn_at is k))
+      weaker (HasShort M) (λ which. IsOfKind kind which → (n : ℕ) → N n which → n < 65536) (short_name (insn_at is k))
       (λ which h _ n r. let a = low which h.0 n h.2 r in let b = h.1 in omega (arith, a, b))
       (said (λ i. IfSome (short_name i) (HasShort M)) _ (insn_at is k) (short-index M (place (starts rs) x.base) (name_in (insn_at is k)) (raw_at rs k) (raw-fits k l) x.says.named) x.says.symbol)
 
@@ -118,7 +119,7 @@ module _ (M : ℕ → Name → Type 0) (us : List ℕ) (rs : List Raw) (is : Lis
       by base (inl b) f = no-branch (insn_at is k) (starts rs) (address rs k) (subst IsSwitch (kind-at M us rs is s k l) b.0)
       by base (inr b) f = subst (λ (a : ℕ). BranchFits (starts rs) a (insn_at is k)) b.1 f
 
-  targets-at : (j k : ℕ) → k < length rs → Refers is j k → TargetsFit (starts rs) (address rs j) (insn_at is k)
+  targets-at : (j k : ℕ) → k < length rs → RefersToPayload is j k → TargetsFit (starts rs) (address rs j) (insn_at is k)
   targets-at j k l f =
       let x = s.each k l in
       let led : AllLed (place (starts rs) x.base) (targets (raw_at rs k)) (length (targets (raw_at rs k)) / 4) (insn_targets (insn_at is k)) =
@@ -126,7 +127,7 @@ module _ (M : ℕ → Name → Type 0) (us : List ℕ) (rs : List Raw) (is : Lis
       all-weaker _ (λ to. FitsSigned w32 (distance_of (starts rs) (address rs j) to)) (insn_targets (insn_at is k)) (λ to h. by x.base x.counts to h.0 h.1 h.2) led
     where
       offset-small : (y : ℕ) → FitsSigned w32 (int_at (targets (raw_at rs k)) y)
-      offset-small y = signed-32 _ (number (targets (raw_at rs k)) (2 * y) 2) refl (number-2 (targets (raw_at rs k)) (2 * y) (target-bytes (drop (2 * address rs k) us) (raw_at rs k) (behind us (2 * address rs k) are) (stands-at k l).spelled))
+      offset-small y = signed-32 _ (number (targets (raw_at rs k)) (2 * y) 2) refl (number-2 (targets (raw_at rs k)) (2 * y) (target-bytes (drop (2 * address rs k) us) (raw_at rs k) (drop-AreBytes us (2 * address rs k) are) (stands-at k l).spelled))
 
       by : (base : ℕ) → IsBase rs k base → (to y : ℕ) → y < length (targets (raw_at rs k)) / 4 → place (starts rs) base (int_at (targets (raw_at rs k)) y) ≡ Some to → FitsSigned w32 (distance_of (starts rs) (address rs j) to)
       by base (inl b) to y m e =
@@ -178,36 +179,36 @@ try-fits M ss rises size n items list ts are s i l =
 -- ---- a code
 
 module _ (M N : ℕ → Name → Type 0) (low : (which : Name) (i j : ℕ) → M i which → N j which → j ≤ i) (bytes : List ℕ) (c : Code) (are : AreBytes bytes) (short : length bytes ≤ 4294967295) (s : SpellsBody M bytes c) where
-  units-are : AreBytes (units_of bytes)
-  units-are = take-bytes (units_end bytes - 16) (drop 16 bytes) (behind bytes 16 are)
+  units-are : AreBytes (insns_bytes bytes)
+  units-are = take_bytes (units_end bytes - 16) (drop 16 bytes) (drop-AreBytes bytes 16 are)
 
   items-are : AreBytes (items_of bytes)
-  items-are = take-bytes (list_begin bytes - tries_begin bytes) (drop (tries_begin bytes) bytes) (behind bytes (tries_begin bytes) are)
+  items-are = take_bytes (list_begin bytes - tries_begin bytes) (drop (tries_begin bytes) bytes) (drop-AreBytes bytes (tries_begin bytes) are)
 
   rise : Rises (starts s.raws)
   rise =
       let even = units-even bytes s.whole in let late = begins_late bytes in let fixed = s.whole.fixed in
-      (table-of (units_of bytes) (starts s.raws) s.raws (omega (arith, even, late, fixed, short)) s.insns.walk.run refl).rises
+      (table-of (insns_bytes bytes) (starts s.raws) s.raws (omega (arith, even, late, fixed, short)) s.insns.walk.run refl).rises
 
   same : starts s.raws ≡ addresses_of c.insns
-  same = addresses-same M (units_of bytes) s.raws c.insns s.insns
+  same = addresses-same M (insns_bytes bytes) s.raws c.insns s.insns
 
   inside : (k : ℕ) → k < length c.insns → k < length s.raws
   inside k l = let n = s.insns.count in omega (arith, l, n)
 
   short-of : (kind : IndexKind) (k : ℕ) → k < length c.insns → ShortFits N kind (insn_at c.insns k)
-  short-of kind k l = short-at M (units_of bytes) s.raws c.insns s.insns units-are N (λ which j n a b. low which j n a b) kind k (inside k l)
+  short-of kind k l = short-at M (insns_bytes bytes) s.raws c.insns s.insns units-are N (λ which j n a b. low which j n a b) kind k (inside k l)
 
-  pub spelled-fits : FitsFields N c
+  pub spelled-fits : FitsButHandlers N c
   spelled-fits = record {
     names = short-of;
     offsets = λ k l. subst (λ (ss : List ℕ). OffsetsFit c.insns ss k) same (record {
-      branch = branch-at M (units_of bytes) s.raws c.insns s.insns units-are k (inside k l);
-      targets = λ j f. targets-at M (units_of bytes) s.raws c.insns s.insns units-are j k (inside k l) f;
+      branch = branch-at M (insns_bytes bytes) s.raws c.insns s.insns units-are k (inside k l);
+      targets = λ j f. targets-at M (insns_bytes bytes) s.raws c.insns s.insns units-are j k (inside k l) f;
     });
-    even = λ k l. subst (λ (ss : List ℕ). IsEven c.insns ss k) same (even-at M (units_of bytes) s.raws c.insns s.insns units-are k (inside k l));
+    even = λ k l. subst (λ (ss : List ℕ). IsEven c.insns ss k) same (even-at M (insns_bytes bytes) s.raws c.insns s.insns units-are k (inside k l));
     tries = λ i l. subst (λ (ss : List ℕ). TryFits ss c.tries i) same
-        (try-fits M (starts s.raws) rise (size_of bytes) (tries_of bytes) (items_of bytes) (drop (list_begin bytes) bytes) c.tries items-are s.tries i (let n = s.tries.count in omega (arith, l, n)));
+        (try-fits M (starts s.raws) rise (insns_size bytes) (tries_of bytes) (items_of bytes) (drop (list_begin bytes) bytes) c.tries items-are s.tries i (let n = s.tries.count in omega (arith, l, n)));
     few = let n = s.tries.count in let f = u16-fits bytes 6 are in omega (arith, n, f);
   }
 
@@ -223,9 +224,9 @@ module _ (b : List ℕ) (are : AreBytes b) (framed : IsFramed b) (off : ℕ) (c 
 
   slice-are : AreBytes (slice b off a.size)
   unfolding slice
-  slice-are = take-bytes a.size (drop off b) (behind b off are)
+  slice-are = take_bytes a.size (drop off b) (drop-AreBytes b off are)
 
-  pub standing-fits : (s : Five) → AreNoFurther s b → FitsFields (NameRanks s) c
+  pub standing-fits : (s : Five) → AreNoFurther s b → FitsButHandlers (NameRanks s) c
   standing-fits s low = spelled-fits (NameStands b) (NameRanks s) low (slice b off a.size) c slice-are slice-short a.spelled.body
 
 pub codes-fit : CodesFit

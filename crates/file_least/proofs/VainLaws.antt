@@ -5,26 +5,28 @@ use Rattle.std.specs.Option.{option_to_list}
 use Rattle.std.specs.List.{AllByRecursion, slice_get}
 use Rattle.base_bytes.specs.Fields.{AreBytes}
 use Rattle.base_bytes.specs.declared.fault.Fault.{Fault}
-use Rattle.file_classes.specs.ClassData.{IsRun, MethodEntry}
+use Rattle.file_classes.specs.ClassData.{EntriesAre, MethodEntry}
 use Rattle.file_classes.specs.Classes.{CodeAt, CodesAre, IsMethod, SomeCodeStands, SpellsClass}
-use Rattle.code_put.specs.Fits.{BranchOutOfReach, CodeBreaks, FieldOutOfReach, HandlerTooFar, MethodOutOfReach, Misaligned, StringOutOfReach, TooManyTries, TryTooLong}
+use Rattle.code_put.specs.Fits.{BranchOutOfReach, CodeBreaksLimit, FieldOutOfReach, HandlerTooFar, MethodOutOfReach, Misaligned, StringOutOfReach, TooManyTries, TryTooLong}
 use Rattle.dex_container.specs.Frame.{IsFramed}
 use Rattle.dex_insn.specs.declared.opcode.IndexKind.TheVariants as kind
 use Rattle.file_limits.specs.Limits as limits
-use Rattle.file_limits.specs.Limits.{BodyBreaks, ClassBreaksLimit, IsLowestLimit, LimitBreaks, TooBig, TooManyProtos, TooManyTypes, code_of, codes_in, codes_of}
+use Rattle.file_limits.specs.Limits.{BodyBreaks, ClassBreaksLimit, IsLowestLimit, LimitBreaks, TooBig, TooManyProtos, TooManyTypes, method_code, codes_in, codes_of}
 use Rattle.tables_names.specs.Closure.{Five, NameRanks}
 use Rattle.tables_names.specs.Needed.{needed}
 use Rattle.program_types.specs.Content.{Class, Code, Method, Name, Program, Units}
 use Rattle.file_read.specs.Means.{Means}
-use Rattle.file_laws.proofs.WellLaws.{all_from, run_entry}
-use Rattle.file_least.specs.AtLeast.{AreNoFurther, FitsFields}
+use Rattle.file_read.proofs.WellLaws.{all_from, run_entry}
+use Rattle.file_least.specs.AtLeast.{AreNoFurther, FitsButHandlers}
 use Rattle.file_least.proofs.RowsFrom.{holds_at_least, no_further}
 use Rattle.file_least.proofs.StandingFits.{standing-fits}
+use Rattle.code_put.proofs.DistinctLaws.{all-get}
+use Rattle.base_bytes.proofs.ListFacts.{all_append}
 
 -- ---- a code
 
 -- a code that fits its fields breaks no limit but how far handlers may be
-only_far : (N : ℕ → Name → Type 0) (c : Code) (n : ℕ) → FitsFields N c → CodeBreaks N c n → n ≡ 89
+only_far : (N : ℕ → Name → Type 0) (c : Code) (n : ℕ) → FitsButHandlers N c → CodeBreaksLimit N c n → n ≡ 89
 only_far N c n f (StringOutOfReach broken) = absurd (broken (f.names kind.String))
 only_far N c n f (FieldOutOfReach broken) = absurd (broken (f.names kind.Field))
 only_far N c n f (MethodOutOfReach broken) = absurd (broken (f.names kind.Method))
@@ -36,27 +38,18 @@ only_far N c n f (HandlerTooFar short far) = refl
 
 -- ---- the codes of a class
 
-both_all : {V : Type 0} (P : V → Type 0) (xs ys : List V) → AllByRecursion P xs → AllByRecursion P ys → AllByRecursion P (xs ++ ys)
-both_all P [] ys h k = k
-both_all P (x ∷ xs) ys h k = (h.0, both_all P xs ys h.1 k)
-
-one_of : {V : Type 0} (P : V → Type 0) (vs : List V) (i : ℕ) (v : V) → AllByRecursion P vs → slice_get vs i ≡ Some v → P v
-one_of P [] i v h e = absurd (cc e)
-one_of P (w ∷ vs) zero v h e = let same : w ≡ v = cc e in subst P same h.0
-one_of P (w ∷ vs) (suc i) v h e = one_of P vs i v h.1 e
-
 one_code : (P : Code → Type 0) (o : Option Code) → IfSome o P → AllByRecursion P (option_to_list o)
 one_code P None h = tt
 one_code P (Some c) h = (h, tt)
 
 all_codes : (P : Code → Type 0) (ms : List Method) → AllByRecursion (λ (m : Method). IfSome m.code P) ms → AllByRecursion P (codes_in ms)
 all_codes P [] h = tt
-all_codes P (m ∷ ms) h = both_all P (code_of m) (codes_in ms) (one_code P m.code h.0) (all_codes P ms h.1)
+all_codes P (m ∷ ms) h = all_append P (method_code m) (codes_in ms) (one_code P m.code h.0) (all_codes P ms h.1)
 
 module _ (b : List ℕ) (are : AreBytes b) (framed : IsFramed b) (names : Five) (low : AreNoFurther names b) where
   -- the fields of the file of these names
   abbrev Fits : Code → Type 0
-  Fits = FitsFields (NameRanks names)
+  Fits = FitsButHandlers (NameRanks names)
 
   code_fits : (off : ℕ) (code : Option Code) → CodeAt b off code → IfSome code Fits
   code_fits off code st = by (off == 0) st
@@ -65,14 +58,14 @@ module _ (b : List ℕ) (are : AreBytes b) (framed : IsFramed b) (names : Five) 
       by true e = subst (λ (x : Option Code). IfSome x Fits) (sym e) tt
       by false s = subst (λ (x : Option Code). IfSome x Fits) (sym s.is) (standing-fits b are framed off s.some s.stands names low)
 
-  methods_fit : (class : Units) (es : List MethodEntry) (ms : List Method) → IsRun (IsMethod b class) es ms → CodesAre b es ms → AllByRecursion Fits (codes_in ms)
+  methods_fit : (class : Units) (es : List MethodEntry) (ms : List Method) → EntriesAre (IsMethod b class) es ms → CodesAre b es ms → AllByRecursion Fits (codes_in ms)
   methods_fit class es ms run codes = all_codes Fits ms (all_from ms (λ k m at.
       let x = run_entry (IsMethod b class) es ms run k m at in
       code_fits x.0.1.1 m.code (codes k x.0 m x.1 at)))
 
   pub class_fits : (i : ℕ) (c : Class) → SpellsClass b i c → AllByRecursion Fits (codes_of c)
   class_fits i c s =
-      both_all Fits (codes_in c.directs) (codes_in c.virtuals)
+      all_append Fits (codes_in c.directs) (codes_in c.virtuals)
       (methods_fit c.ty s.entries.directs c.directs s.head.members.directs s.directs)
       (methods_fit c.ty s.entries.virtuals c.virtuals s.head.members.virtuals s.virtuals)
 
@@ -82,7 +75,7 @@ module _ (b : List ℕ) (p : Program) (are : AreBytes b) (m : Means b p) where
   class_far : (n i : ℕ) → ClassBreaksLimit (NameRanks (needed p)) n p i → n ≡ 89
   class_far n i h =
       let fits = class_fits b are m.framed (needed p) (no_further b p m) i h.class (m.classes.each i h.class h.there) in
-      only_far (NameRanks (needed p)) h.body.code n (one_of (FitsFields (NameRanks (needed p))) (codes_of h.class) h.body.index h.body.code fits h.body.there) h.body.breaks
+      only_far (NameRanks (needed p)) h.body.code n (all-get (FitsButHandlers (NameRanks (needed p))) (codes_of h.class) h.body.index h.body.code fits h.body.there) h.body.breaks
 
   -- a limit that the program breaks
   pub only_late : (n place : ℕ) → LimitBreaks p n place → (n ≡ 89) ⊎ (n ≡ 90)

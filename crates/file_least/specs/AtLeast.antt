@@ -1,4 +1,4 @@
--- The tables of a file hold at least these names, and codes fit the fields of files in which no name stands further behind.
+-- The tables of a file hold at least these names, and codes fit the fields of files in which no name stands further after.
 -- Page: "Dalvik Executable format", "File layout": string_ids to method_ids; "code_item".
 use Rattle.std.specs.Prelude.{ℕ, ◌≤◌, List, length}
 use Rattle.base_bytes.specs.Fields.{AreBytes}
@@ -14,19 +14,19 @@ use Rattle.program_types.specs.Content.{Code, Name, Proto}
 use Rattle.program_types.specs.Key.{proto_key}
 use Rattle.tables_rows.specs.Stands.{NameStands, ProtoStands}
 
--- Row j stands for the name of index i, and is not before it.
+-- Some row from row i on stands for the name.
 pub record NameStandsFrom (b : List ℕ) (i : ℕ) (name : Name) : Type 0 where
   pub row : ℕ
   pub stands : NameStands b row name
-  pub behind : i ≤ row
+  pub after : i ≤ row
 
--- .. for the prototype.
+-- Some row from row i on stands for the prototype.
 pub record ProtoStandsFrom (b : List ℕ) (i : ℕ) (proto : Proto) : Type 0 where
   pub row : ℕ
   pub stands : ProtoStands b row proto
-  pub behind : i ≤ row
+  pub after : i ≤ row
 
--- Each table is as long as the list of such names or longer, and has a row for each of them, at its rank or behind it.
+-- Each table is as long as the list of such names or longer, and has a row for each of them, at its rank or after it.
 pub record HoldsAtLeast (b : List ℕ) (s : Five) : Type 0 where
   pub strings : length s.strings ≤ size_of b section.string_ids
   pub types : length s.types ≤ size_of b section.type_ids
@@ -37,7 +37,7 @@ pub record HoldsAtLeast (b : List ℕ) (s : Five) : Type 0 where
   pub proto_names : (i : ℕ) (proto : Proto) → IsAt s.protos i (proto_key proto) → ProtoStandsFrom b i proto
 
 -- The code fits: indices, offsets, addresses of payloads, and tries, but for how far handlers are.
-pub record FitsFields (N : ℕ → Name → Type 0) (c : Code) : Type 0 where
+pub record FitsButHandlers (N : ℕ → Name → Type 0) (c : Code) : Type 0 where
   pub names : (kind : IndexKind) → AllInsns (ShortFits N kind) c
   pub offsets : AllNumbers OffsetsFit c
   pub even : AllNumbers IsEven c
@@ -52,4 +52,4 @@ AreNoFurther s b = (name : Name) (row rank : ℕ) → NameStands b row name → 
 abbrev pub CodesFit : Type 0
 CodesFit =
     (b : List ℕ) (s : Five) (off : ℕ) (c : Code)
-    → AreBytes b → IsFramed b → CodeStands (NameStands b) b off c → AreNoFurther s b → FitsFields (NameRanks s) c
+    → AreBytes b → IsFramed b → CodeStands (NameStands b) b off c → AreNoFurther s b → FitsButHandlers (NameRanks s) c

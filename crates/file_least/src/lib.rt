@@ -15,13 +15,13 @@ ghost use Rattle.tables_names.specs.Needed.{needed};
 ghost use Rattle.program_types.specs.Content.{Program};
 ghost use Rattle.file_least.specs.AtLeast.{HoldsAtLeast, CodesFit};
 
-/// Each file of a program has a row for every name that the program needs, at its rank among them or behind it; so no table is shorter
+/// Each file of a program has a row for every name that the program needs, at its rank among them or after it; so no table is shorter
 /// than the list of the needed names of its kind.
 pub fn needed_names_have_rows()
     ensures { (b : List ℕ) (p : Program) → Means b p → HoldsAtLeast b (needed p) }
 {}
 
-/// A code that stands in a file fits the fields of every file in which no name stands further behind, how far handlers are aside.
+/// A code that stands in a file fits the fields of every file in which no name stands further after, how far handlers are aside.
 pub fn standing_codes_fit()
     ensures { CodesFit }
 {}

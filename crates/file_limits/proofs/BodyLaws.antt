@@ -5,11 +5,12 @@ use Rattle.std.proofs.lemmas.Option.{slice_get_within}
 use Rattle.std.specs.Prelude.{nat_le, if◌then◌else◌}
 use Rattle.std.specs.List.{AllByRecursion, slice_get}
 use Rattle.base_bytes.specs.declared.fault.Fault.{Fault}
-use Rattle.code_put.specs.Fits.{CodeBreaks, FitsCode, IsUnfit}
+use Rattle.code_put.specs.Fits.{CodeBreaksLimit, FitsCode, IsUnfit}
 use Rattle.code_fits.proofs.BreakLaws.{breaks_range, fits_clear}
 use Rattle.program_types.specs.Content.{Name, Code, Class, Program}
-use Rattle.file_limits.specs.Limits.{SomeBreaks, ClassBreaksLimit, IsFirstClass, codes_of}
-use Rattle.file_limits.specs.Lowest.{IsLeast, IsLowestOf, lower, earlier}
+use Rattle.file_limits.specs.Limits.{SomeBreaks, ClassBreaksLimit, IsFirstToBreak, codes_of}
+use Rattle.file_limits.specs.Lowest.{IsLowestBroken, IsLowestOf, lower, earlier}
+use Rattle.base_bytes.proofs.ListFacts.{get_last, slice_split, all_append}
 
 -- ---- one body
 
@@ -17,30 +18,26 @@ one_there : {V : Type 0} (v w : V) (i : ℕ) → slice_get (v ∷ []) i ≡ Some
 one_there v w zero e = cc
 one_there v w (suc i) e = absurd (cc e)
 
-pub one_fits : (N : ℕ → Name → Type 0) (c : Code) → FitsCode N c → IsLeast N (c ∷ []) None
+pub one_fits : (N : ℕ → Name → Type 0) (c : Code) → FitsCode N c → IsLowestBroken N (c ∷ []) None
 one_fits N c f = record {
   none = (f, tt);
   some = tt;
-  least = λ m s. absurd (fits_clear N c m f (subst (λ (d : Code). CodeBreaks N d m) (sym (one_there c s.code s.index s.there)) s.breaks));
+  least = λ m s. absurd (fits_clear N c m f (subst (λ (d : Code). CodeBreaksLimit N d m) (sym (one_there c s.code s.index s.there)) s.breaks));
 }
 
-pub one_breaks : (N : ℕ → Name → Type 0) (c : Code) (f : Fault) → IsUnfit N c f → IsLeast N (c ∷ []) (Some f.code)
+pub one_breaks : (N : ℕ → Name → Type 0) (c : Code) (f : Fault) → IsUnfit N c f → IsLowestBroken N (c ∷ []) (Some f.code)
 one_breaks N c f h = record {
   none = tt;
   some = record { index = 0; code = c; there = refl; breaks = h.breaks };
-  least = λ m s. (f.code, refl, h.lowest m (subst (λ (d : Code). CodeBreaks N d m) (sym (one_there c s.code s.index s.there)) s.breaks));
+  least = λ m s. (f.code, refl, h.lowest m (subst (λ (d : Code). CodeBreaksLimit N d m) (sym (one_there c s.code s.index s.there)) s.breaks));
 }
 
 pub unfit_is_no_memory : (N : ℕ → Name → Type 0) (c : Code) (f : Fault) → IsUnfit N c f → f.code ≢ 255
 unfit_is_no_memory N c f h e = let high = (breaks_range N c f.code h.breaks).1 in omega (arith, high, e)
 
--- ---- bodies, one behind the other
+-- ---- bodies, one after the other
 
-pub all_both : {V : Type 0} (P : V → Type 0) (xs ys : List V) → AllByRecursion P xs → AllByRecursion P ys → AllByRecursion P (xs ++ ys)
-all_both P [] ys h k = k
-all_both P (x ∷ xs) ys h k = (h.0, all_both P xs ys h.1 k)
-
-pub no_body : (N : ℕ → Name → Type 0) → IsLeast N [] None
+pub no_body : (N : ℕ → Name → Type 0) → IsLowestBroken N [] None
 no_body N = record { none = tt; some = tt; least = λ m s. absurd (cc s.there) }
 
 front_breaks : (N : ℕ → Name → Type 0) (m : ℕ) (cs ds : List Code) → SomeBreaks N m cs → SomeBreaks N m (cs ++ ds)
@@ -63,9 +60,9 @@ split_breaks N m cs ds s = at cs s.index s.there
     at (c ∷ cs) zero e = inl (record { index = 0; code = s.code; there = e; breaks = s.breaks })
     at (c ∷ cs) (suc i) e = elim (at cs i e) [ inl r ↦ inl (record { index = suc r.index; code = r.code; there = r.there; breaks = r.breaks }) | inr r ↦ inr r ]
 
-pub both_least : (N : ℕ → Name → Type 0) (cs ds : List Code) (a b : Option ℕ) → IsLeast N cs a → IsLeast N ds b → IsLeast N (cs ++ ds) (lower a b)
+pub both_least : (N : ℕ → Name → Type 0) (cs ds : List Code) (a b : Option ℕ) → IsLowestBroken N cs a → IsLowestBroken N ds b → IsLowestBroken N (cs ++ ds) (lower a b)
 both_least N cs ds None None x y = record {
-  none = all_both (FitsCode N) cs ds x.none y.none;
+  none = all_append (FitsCode N) cs ds x.none y.none;
   some = tt;
   least = λ m s. elim (split_breaks N m cs ds s) [ inl l ↦ x.least m l | inr r ↦ y.least m r ];
 }
@@ -89,27 +86,16 @@ both_least N cs ds (Some k) (Some n) x y = record {
   ];
 }
 
--- ---- classes, one behind the other
-
--- an element of a list with one more
-pub get_split : {V : Type 0} (xs : List V) (v w : V) (i : ℕ) → slice_get (xs ++ v ∷ []) i ≡ Some w → (slice_get xs i ≡ Some w) ⊎ ((i ≡ length xs) × (v ≡ w))
-get_split [] v w zero e = inr (refl, one_there v w 0 e)
-get_split [] v w (suc i) e = absurd (cc e)
-get_split (x ∷ xs) v w zero e = inl e
-get_split (x ∷ xs) v w (suc i) e = elim (get_split xs v w i e) [ inl h ↦ inl h | inr h ↦ inr (ap suc h.0, h.1) ]
+-- ---- classes, one after the other
 
 get_front : {V : Type 0} (xs : List V) (v w : V) (i : ℕ) → slice_get xs i ≡ Some w → slice_get (xs ++ v ∷ []) i ≡ Some w
 get_front [] v w i e = absurd (cc e)
 get_front (x ∷ xs) v w zero e = e
 get_front (x ∷ xs) v w (suc i) e = get_front xs v w i e
 
-get_last : {V : Type 0} (xs : List V) (v : V) → slice_get (xs ++ v ∷ []) (length xs) ≡ Some v
-get_last [] v = refl
-get_last (x ∷ xs) v = get_last xs v
-
 module _ (N : ℕ → Name → Type 0) (p : Program) (c : Class) where
   split_class : (m i : ℕ) → ClassBreaksLimit N m (p ++ c ∷ []) i → ClassBreaksLimit N m p i ⊎ ((i ≡ length p) × SomeBreaks N m (codes_of c))
-  split_class m i h = elim (get_split p c h.class i h.there) [
+  split_class m i h = elim (slice_split p c h.class i h.there) [
     | inl e ↦ inl (record { class = h.class; there = e; body = h.body })
     | inr e ↦ inr (e.0, subst (λ (d : Class). SomeBreaks N m (codes_of d)) (sym e.1) h.body)
   ]
@@ -124,7 +110,7 @@ module _ (N : ℕ → Name → Type 0) (p : Program) (c : Class) where
   within m i h = slice_get_within p i h.class h.there
 
   -- a first class stays one
-  stays : (m i : ℕ) → IsFirstClass N m p i → IsFirstClass N m (p ++ c ∷ []) i
+  stays : (m i : ℕ) → IsFirstToBreak N m p i → IsFirstToBreak N m (p ++ c ∷ []) i
   stays m i f = record {
     here = lift_class m i f.here;
     first = λ j h. elim (split_class m j h) [ inl x ↦ f.first j x | inr x ↦ (let e = x.0 in let lt = within m i f.here in omega (arith, e, lt)) ];
@@ -132,9 +118,9 @@ module _ (N : ℕ → Name → Type 0) (p : Program) (c : Class) where
 
   fits_more : (Option Fault) → ((i : ℕ) (d : Class) → slice_get p i ≡ Some d → AllByRecursion (FitsCode N) (codes_of d)) → AllByRecursion (FitsCode N) (codes_of c)
       → (i : ℕ) (d : Class) → slice_get (p ++ c ∷ []) i ≡ Some d → AllByRecursion (FitsCode N) (codes_of d)
-  fits_more _ f g i d e = elim (get_split p c d i e) [ inl h ↦ f i d h | inr h ↦ subst (λ (x : Class). AllByRecursion (FitsCode N) (codes_of x)) h.1 g ]
+  fits_more _ f g i d e = elim (slice_split p c d i e) [ inl h ↦ f i d h | inr h ↦ subst (λ (x : Class). AllByRecursion (FitsCode N) (codes_of x)) h.1 g ]
 
-  pub class_more : (best : Option Fault) (number : Option ℕ) → IsLowestOf N p best → IsLeast N (codes_of c) number → IsLowestOf N (p ++ c ∷ []) (earlier best number (length p))
+  pub class_more : (best : Option Fault) (number : Option ℕ) → IsLowestOf N p best → IsLowestBroken N (codes_of c) number → IsLowestOf N (p ++ c ∷ []) (earlier best number (length p))
   class_more None None x y = record {
     none = fits_more None x.none y.none;
     some = tt;

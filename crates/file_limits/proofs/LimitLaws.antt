@@ -9,9 +9,10 @@ use Rattle.code_put.specs.Fits.{FitsCode}
 use Rattle.tables_names.specs.Closure.{NameRanks}
 use Rattle.tables_names.specs.Needed.{needed}
 use Rattle.program_types.specs.Content.{Name, Code, Program}
-use Rattle.file_limits.specs.Limits.{BodyBreaks, ClassBreaksLimit, Fits, HandlerTooFar, IsFirstClass, IsLowestLimit, LimitBreaks, TooBig, TooManyProtos, TooManyTypes, codes_of}
+use Rattle.file_limits.specs.Limits.{BodyBreaks, ClassBreaksLimit, Fits, HandlerTooFar, IsFirstToBreak, IsLowestLimit, LimitBreaks, TooBig, TooManyProtos, TooManyTypes, codes_of}
 use Rattle.file_limits.specs.Lowest.{IsLowestOf, or_too_big}
 use Rattle.file_limits.specs.Wide.{wide}
+use Rattle.base_bytes.proofs.ListFacts.{all_there}
 
 abbrev N : Program → ℕ → Name → Type 0
 N p = NameRanks (needed p)
@@ -40,7 +41,7 @@ pub protos_lowest : (p : Program) (n : ℕ) → n ≡ length (needed p).protos �
 protos_lowest p n e few many = record { breaks = subst (LimitBreaks p 81) (sym e) (TooManyProtos (omega (arith, e, many))); lowest = λ k place b. at_least_81 p k place few b }
 
 -- a limit that a body breaks
-body_breaks : (p : Program) (n place : ℕ) → n ≢ 89 → IsFirstClass (N p) n p place → LimitBreaks p n place
+body_breaks : (p : Program) (n place : ℕ) → n ≢ 89 → IsFirstToBreak (N p) n p place → LimitBreaks p n place
 body_breaks p n place other f = let r = class_range p n place f.here in let high = r.1 in BodyBreaks (below n high other) f
   where
     below : (n : ℕ) → n ≤ 89 → n ≢ 89 → n ≤ 88
@@ -93,7 +94,7 @@ module _ (p : Program) (few_types : length (needed p).types ≤ 65535) (few_prot
   pub small_lowest : (f : Fault) → IsLowestOf (N p) p (Some f) → wide p ≤ 4294967295 → IsLowestLimit p f
   small_lowest f x small = record {
     breaks = elim (eqb f.code 89) as (λ (t : Bool). eqb f.code 89 ≡ t → LimitBreaks p f.code f.place) [
-      | true ↦ λ e. (let c = eqb-true f.code 89 e in subst (λ (k : ℕ). LimitBreaks p k f.place) (sym c) (HandlerTooFar small (subst (λ (k : ℕ). IsFirstClass (N p) k p f.place) c x.some)))
+      | true ↦ λ e. (let c = eqb-true f.code 89 e in subst (λ (k : ℕ). LimitBreaks p k f.place) (sym c) (HandlerTooFar small (subst (λ (k : ℕ). IsFirstToBreak (N p) k p f.place) c x.some)))
       | false ↦ λ e. body_breaks p f.code f.place (eqb-false f.code 89 e) x.some
     ] refl;
     lowest = small_least f x small;
@@ -126,10 +127,6 @@ none_below : (P : ℕ → Type 0) → ((i : ℕ) → P i → ((j : ℕ) → P j 
 none_below P f zero i lt h = absurd (omega (arith, lt))
 none_below P f (suc k) i lt h = f i h (λ j g. ⊎_elim (λ (less : j < i). absurd (none_below P f k j (omega (arith, less, lt)) g)) (λ (le : i ≤ j). le) (cases_lt j i))
 
-all_there : {V : Type 0} (P : V → Type 0) (vs : List V) → ((i : ℕ) (v : V) → slice_get vs i ≡ Some v → P v) → AllByRecursion P vs
-all_there P [] f = tt
-all_there P (v ∷ vs) f = (f 0 v refl, all_there P vs (λ i w e. f (suc i) w e))
-
 -- what isn't above a number is at most that
 at_most : (n m : ℕ) → (¬ (m < n)) → n ≤ m
 at_most n m not = ⊎_elim (λ (lt : m < n). absurd (not lt)) (λ (le : n ≤ m). le) (cases_lt m n)
@@ -138,9 +135,9 @@ module _ (p : Program) (clear : (n place : ℕ) → ¬ LimitBreaks p n place) wh
   not_big : wide p ≤ 4294967295
   not_big = at_most (wide p) 4294967295 (λ big. clear 90 0 (TooBig big))
 
-  not_first : (n i : ℕ) → ¬ IsFirstClass (N p) n p i
+  not_first : (n i : ℕ) → ¬ IsFirstToBreak (N p) n p i
   not_first n i f = elim (eqb n 89) as (λ (t : Bool). eqb n 89 ≡ t → ⊥) [
-    | true ↦ λ e. clear 89 i (HandlerTooFar not_big (subst (λ (k : ℕ). IsFirstClass (N p) k p i) (eqb-true n 89 e) f))
+    | true ↦ λ e. clear 89 i (HandlerTooFar not_big (subst (λ (k : ℕ). IsFirstToBreak (N p) k p i) (eqb-true n 89 e) f))
     | false ↦ λ e. clear n i (body_breaks p n i (eqb-false n 89 e) f)
   ] refl
 

@@ -15,6 +15,7 @@ use Rattle.program_types.specs.declared.value.Value as made
 use Rattle.dex_value.specs.Wide.{wide_value, wide_values}
 use Rattle.file_limits.specs.Sum.{IsSum}
 use Rattle.file_limits.specs.Wide.{wide_list}
+use Rattle.base_bytes.proofs.ListFacts.{map_more}
 
 pub sum_is : (a b r n m : ℕ) → ((a + b < 2 ^ 64) × (r ≡ a + b)) ⊎ (r ≡ 2 ^ 64 - 1) × (2 ^ 64 ≤ a + b) → IsSum a n → IsSum b m → IsSum r (n + m)
 sum_is a b r n m h s t = elim h [
@@ -25,9 +26,6 @@ sum_is a b r n m h s t = elim h [
 -- what `plus` says
 abbrev pub Adds : ℕ → ℕ → ℕ → Type 0
 Adds sum more new = (n m : ℕ) → IsSum sum n → IsSum more m → IsSum new (n + m)
-
-pub map_more : {A B : Type 0} (f : A → B) (xs : List A) (i : ℕ) (d : A) → i < length xs → map f (take (i + 1) xs) ≡ map f (take i xs) ++ f (get_or xs i d) ∷ []
-map_more f xs i d h = rw (take_more xs i d h) (map-append f (take i xs) (get_or xs i d ∷ []))
 
 pub wide_all_append : {V : Type 0} (W : V → ℕ) (vs ws : List V) → wide_all W (vs ++ ws) ≡ wide_all W vs + wide_all W ws
 wide_all_append W [] ws = omega arith

@@ -4,31 +4,31 @@ use Rattle.std.specs.Prelude.{◌≡◌, ℕ, ◌<◌, ◌≤◌, List, ◌++◌
 use Rattle.std.specs.List.{AllByRecursion, flat_map, slice_get}
 use Rattle.std.specs.Option.{option_to_list}
 use Rattle.base_bytes.specs.declared.fault.Fault.{Fault}
-use Rattle.code_fits.specs.Ranked.{HasIndex}
-use Rattle.code_put.specs.Fits.{CodeBreaks, FitsCode}
+use Rattle.code_put.specs.Fits.{CodeBreaksLimit, FitsCode}
 use Rattle.tables_names.specs.Closure.{Five, NameRanks}
 use Rattle.tables_names.specs.Needed.{needed}
 use Rattle.program_types.specs.Content.{Name, Code, Method, Class, Program}
 use Rattle.program_types.specs.Formed.{IsFormed}
 use Rattle.program_types.specs.Mentions.{names_of_code}
+use Rattle.program_types.specs.Kinds.{HasIndex}
 use Rattle.file_limits.specs.Wide.{wide}
 
 -- ---- bodies
 
 -- the body of a method that has one
-abbrev pub code_of : Method → List Code
-code_of m = option_to_list m.code
+abbrev pub method_code : Method → List Code
+method_code m = option_to_list m.code
 
 -- The bodies of these methods that have one.
 abbrev pub codes_in : List Method → List Code
-codes_in ms = flat_map code_of ms
+codes_in ms = flat_map method_code ms
 
 -- The bodies of a class: direct methods, then virtual ones.
 abbrev pub codes_of : Class → List Code
 codes_of c = codes_in c.directs ++ codes_in c.virtuals
 
 -- A body is well formed, and the names in it have indices.
-pub record IsReady (s : Five) (c : Code) : Type 0 where
+pub record BodyIsReady (s : Five) (c : Code) : Type 0 where
   pub formed : IsFormed c
   pub ranked : AllByRecursion (HasIndex (NameRanks s)) (names_of_code c)
 
@@ -37,16 +37,16 @@ pub record SomeBreaks (N : ℕ → Name → Type 0) (number : ℕ) (cs : List Co
   pub index : ℕ
   pub code : Code
   pub there : slice_get cs index ≡ Some code
-  pub breaks : CodeBreaks N code number
+  pub breaks : CodeBreaksLimit N code number
 
--- A body of class i breaks it.
+-- A body of class i breaks the limit of this number.
 pub record ClassBreaksLimit (N : ℕ → Name → Type 0) (number : ℕ) (p : Program) (i : ℕ) : Type 0 where
   pub class : Class
   pub there : slice_get p i ≡ Some class
   pub body : SomeBreaks N number (codes_of class)
 
--- It is the first such class.
-pub record IsFirstClass (N : ℕ → Name → Type 0) (number : ℕ) (p : Program) (i : ℕ) : Type 0 where
+-- Class i is the first with a body that breaks the limit of this number.
+pub record IsFirstToBreak (N : ℕ → Name → Type 0) (number : ℕ) (p : Program) (i : ℕ) : Type 0 where
   pub here : ClassBreaksLimit N number p i
   pub first : (j : ℕ) → ClassBreaksLimit N number p j → i ≤ j
 
@@ -65,9 +65,9 @@ pub data LimitBreaks (p : Program) : ℕ → ℕ → Type 0 where
   TooManyTypes : 65535 < length (needed p).types → LimitBreaks p 80 (length (needed p).types)
   TooManyProtos : 65535 < length (needed p).protos → LimitBreaks p 81 (length (needed p).protos)
   -- a body breaks one of 82 to 88: at the first class with such a body
-  BodyBreaks : {number i : ℕ} → number ≤ 88 → IsFirstClass (NameRanks (needed p)) number p i → LimitBreaks p number i
+  BodyBreaks : {number i : ℕ} → number ≤ 88 → IsFirstToBreak (NameRanks (needed p)) number p i → LimitBreaks p number i
   -- a body breaks 89, and the file is not too big itself: at the first class with such a body
-  HandlerTooFar : {i : ℕ} → wide p ≤ 4294967295 → IsFirstClass (NameRanks (needed p)) 89 p i → LimitBreaks p 89 i
+  HandlerTooFar : {i : ℕ} → wide p ≤ 4294967295 → IsFirstToBreak (NameRanks (needed p)) 89 p i → LimitBreaks p 89 i
   -- the file is too big for a file_size of four bytes: at 0
   TooBig : 4294967295 < wide p → LimitBreaks p 90 0
 

@@ -4,10 +4,10 @@ use Rattle.std.specs.List.{AllByRecursion, slice_get}
 use Rattle.base_bytes.specs.declared.fault.Fault.{Fault}
 use Rattle.code_put.specs.Fits.{FitsCode}
 use Rattle.program_types.specs.Content.{Name, Code, Class, Program}
-use Rattle.file_limits.specs.Limits.{ClassBreaksLimit, IsFirstClass, SomeBreaks, codes_of}
+use Rattle.file_limits.specs.Limits.{ClassBreaksLimit, IsFirstToBreak, SomeBreaks, codes_of}
 
 -- Of bodies this is the lowest limit that one of them breaks, if one is broken.
-pub record IsLeast (N : ℕ → Name → Type 0) (cs : List Code) (number : Option ℕ) : Type 0 where
+pub record IsLowestBroken (N : ℕ → Name → Type 0) (cs : List Code) (number : Option ℕ) : Type 0 where
   pub none : IfNone number (AllByRecursion (FitsCode N) cs)
   pub some : IfSome number (λ n. SomeBreaks N n cs)
   pub least : (m : ℕ) → SomeBreaks N m cs → (n : ℕ) × (number ≡ Some n) × (n ≤ m)
@@ -21,10 +21,10 @@ lower (Some m) (Some n) = Some (min m n)
 -- Of classes this is the lowest limit that a body breaks, at its first class, if one is broken.
 pub record IsLowestOf (N : ℕ → Name → Type 0) (p : Program) (fault : Option Fault) : Type 0 where
   pub none : IfNone fault ((i : ℕ) (c : Class) → slice_get p i ≡ Some c → AllByRecursion (FitsCode N) (codes_of c))
-  pub some : IfSome fault (λ f. IsFirstClass N f.code p f.place)
+  pub some : IfSome fault (λ f. IsFirstToBreak N f.code p f.place)
   pub least : (m i : ℕ) → ClassBreaksLimit N m p i → (f : Fault) × (fault ≡ Some f) × (f.code ≤ m)
 
--- the lowest limit, with one of this number at this class, which stands behind those before
+-- the lowest limit, with one of this number at this class, which stands after those before
 abbrev pub earlier : Option Fault → Option ℕ → ℕ → Option Fault
 earlier fault None class = fault
 earlier None (Some number) class = Some (record { code = number; place = class })

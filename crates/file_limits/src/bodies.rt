@@ -4,8 +4,8 @@ ghost use Rattle.std.specs.Prelude.{◌≡◌, ℕ, ◌≤◌, ◌∷◌, ◌++�
 ghost use Rattle.std.specs.List.{AllByRecursion};
 ghost use Rattle.std.specs.Option.{option_to_list};
 ghost use Rattle.base_bytes.specs.Fault.{memory};
-ghost use Rattle.file_limits.specs.Limits.{IsReady, codes_in, codes_of};
-ghost use Rattle.file_limits.specs.Lowest.{IsLeast, IsLowestOf, earlier, lower};
+ghost use Rattle.file_limits.specs.Limits.{BodyIsReady, codes_in, codes_of};
+ghost use Rattle.file_limits.specs.Lowest.{IsLowestBroken, IsLowestOf, earlier, lower};
 ghost use Rattle.tables_names.specs.Closure.{NameRanks};
 ghost use Rattle.program_types.specs.View as view;
 
@@ -17,9 +17,9 @@ use tables_names::Ranks;
 
 // The number of the lowest limit that a body breaks, if it breaks one.
 fn code_number(alloc: Global, ranks: &Ranks<'_>, code: &Code<'_>) -> Result<Option<u16>, Fault>
-    requires ready { IsReady ranks.now (view.code code.now) }
+    requires ready { BodyIsReady ranks.now (view.code code.now) }
     requires few { length ranks.now.types ≤ 65535 }
-    ensures ok { IfOk result (IsLeast (NameRanks ranks.now) (view.code code.now ∷ [])) }
+    ensures ok { IfOk result (IsLowestBroken (NameRanks ranks.now) (view.code code.now ∷ [])) }
     ensures memory { IsOkUnless result memory }
 {
     match fits(alloc, ranks, code) {
@@ -33,15 +33,15 @@ fn code_number(alloc: Global, ranks: &Ranks<'_>, code: &Code<'_>) -> Result<Opti
     }
 }
 
-// The same of the body of a method, if it has one.
+// The number of the lowest limit that the body of a method breaks, if it has one that breaks any.
 fn body_number(
     alloc: Global,
     ranks: &Ranks<'_>,
     body: Option<&Code<'_>>,
 ) -> Result<Option<u16>, Fault>
-    requires ready { AllByRecursion (IsReady ranks.now) (option_to_list (option_map (λ c. view.code c.now) body)) }
+    requires ready { AllByRecursion (BodyIsReady ranks.now) (option_to_list (option_map (λ c. view.code c.now) body)) }
     requires few { length ranks.now.types ≤ 65535 }
-    ensures ok { IfOk result (IsLeast (NameRanks ranks.now) (option_to_list (option_map (λ c. view.code c.now) body.entry))) }
+    ensures ok { IfOk result (IsLowestBroken (NameRanks ranks.now) (option_to_list (option_map (λ c. view.code c.now) body.entry))) }
     ensures memory { IsOkUnless result memory }
 {
     match body {
@@ -69,9 +69,9 @@ fn methods_number(
     ranks: &Ranks<'_>,
     methods: &[Method<'_>],
 ) -> Result<Option<u16>, Fault>
-    requires ready { AllByRecursion (IsReady ranks.now) (codes_in (map view.method methods.now)) }
+    requires ready { AllByRecursion (BodyIsReady ranks.now) (codes_in (map view.method methods.now)) }
     requires few { length ranks.now.types ≤ 65535 }
-    ensures ok { IfOk result (IsLeast (NameRanks ranks.now) (codes_in (map view.method methods.now))) }
+    ensures ok { IfOk result (IsLowestBroken (NameRanks ranks.now) (codes_in (map view.method methods.now))) }
     ensures memory { IsOkUnless result memory }
 {
     let mut least = None;
@@ -84,9 +84,9 @@ fn methods_number(
 
 // The number of the lowest limit that a body of a class breaks.
 fn class_number(alloc: Global, ranks: &Ranks<'_>, class: &Class<'_>) -> Result<Option<u16>, Fault>
-    requires ready { AllByRecursion (IsReady ranks.now) (codes_of (view.class class.now)) }
+    requires ready { AllByRecursion (BodyIsReady ranks.now) (codes_of (view.class class.now)) }
     requires few { length ranks.now.types ≤ 65535 }
-    ensures ok { IfOk result (IsLeast (NameRanks ranks.now) (codes_of (view.class class.now))) }
+    ensures ok { IfOk result (IsLowestBroken (NameRanks ranks.now) (codes_of (view.class class.now))) }
     ensures memory { IsOkUnless result memory }
 {
     let directs = methods_number(alloc, ranks, class.directs)?;
@@ -94,7 +94,7 @@ fn class_number(alloc: Global, ranks: &Ranks<'_>, class: &Class<'_>) -> Result<O
     Ok(lower_of(directs, virtuals))
 }
 
-// What is the lowest limit, where a body of this class, which stands behind those before, breaks one of this number.
+// What is the lowest limit, where a body of this class, which stands after those before, breaks one of this number.
 fn earlier_of(lowest: Option<Fault>, number: Option<u16>, class: usize) -> Option<Fault>
     ensures { result ≡ earlier lowest number class }
 {
@@ -113,7 +113,7 @@ pub fn lowest_of(
     ranks: &Ranks<'_>,
     classes: &[Class<'_>],
 ) -> Result<Option<Fault>, Fault>
-    requires ready { (i : ℕ) (c : _) → slice_get (map view.class classes.now) i ≡ Some c → AllByRecursion (IsReady ranks.now) (codes_of c) }
+    requires ready { (i : ℕ) (c : _) → slice_get (map view.class classes.now) i ≡ Some c → AllByRecursion (BodyIsReady ranks.now) (codes_of c) }
     requires few { length ranks.now.types ≤ 65535 }
     ensures ok { IfOk result (IsLowestOf (NameRanks ranks.now) (map view.class classes.now)) }
     ensures memory { IsOkUnless result memory }

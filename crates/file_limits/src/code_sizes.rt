@@ -12,7 +12,7 @@ use crate::sums::{plus, times};
 use code_put::units_of;
 use program_types::{Code, Insn, Method, Try};
 
-// Instructions: two bytes a unit.
+// How many bytes instructions take, two a unit.
 fn insns_size(insns: &[Insn<'_>]) -> u64
     ensures { IsSum result (2 * length_of (map view.insn insns.now)) }
 {
@@ -24,7 +24,7 @@ fn insns_size(insns: &[Insn<'_>]) -> u64
     sum
 }
 
-// What tries catch: two numbers each.
+// How many bytes the catches of tries take at most, two numbers each.
 fn catches_size(tries: &[Try<'_>]) -> u64
     ensures { IsSum result (10 * catches_in (map view.try tries.now)) }
 {
@@ -35,7 +35,7 @@ fn catches_size(tries: &[Try<'_>]) -> u64
     sum
 }
 
-// A body.
+// How many bytes a body takes at most.
 fn code_size(code: &Code<'_>) -> u64
     ensures { IsSum result (wide_code (view.code code.now)) }
 {
@@ -44,7 +44,7 @@ fn code_size(code: &Code<'_>) -> u64
     plus(tries, catches_size(code.tries))
 }
 
-// A body, if there is one.
+// How many bytes the body of a method takes at most: none if it has none.
 fn body_size(body: Option<&Code<'_>>) -> u64
     ensures { IsSum result (wide_body (option_map (λ c. view.code c.now) body.entry)) }
 {
@@ -54,7 +54,7 @@ fn body_size(body: Option<&Code<'_>>) -> u64
     }
 }
 
-/// The bodies of methods.
+/// How many bytes the bodies of methods take at most.
 pub fn bodies_size(methods: &[Method<'_>]) -> u64
     ensures { IsSum result (wide_all wide_body (bodies_in (map view.method methods.now))) }
 {

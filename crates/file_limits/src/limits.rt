@@ -3,7 +3,7 @@
 ghost use Rattle.std.specs.Prelude.{◌≡◌, ◌≢◌, ℕ, Some, IfErr, OnOk, map, slice_get};
 ghost use Rattle.std.specs.List.{AllByRecursion};
 ghost use Rattle.base_bytes.specs.Fault.{memory};
-ghost use Rattle.file_limits.specs.Limits.{Fits, IsLowestLimit, IsReady, codes_of};
+ghost use Rattle.file_limits.specs.Limits.{Fits, IsLowestLimit, BodyIsReady, codes_of};
 ghost use Rattle.file_limits.specs.Lowest.{or_too_big};
 ghost use Rattle.tables_names.specs.Needed.{needed};
 ghost use Rattle.program_types.specs.View as view;
@@ -27,12 +27,12 @@ fn too_big_or(broken: Option<Fault>) -> Fault
 
 /// Refuses a program that no file has room for: the lowest of 80 to 90 that stands, at its place. 80 TooManyTypes and 81 TooManyProtos
 /// stand at how many are needed, 82 to 89 at the number of the first class of which a body breaks the limit, 90 TooBig at 0. 255 is
-/// want of memory.
+/// out of memory.
 ///
 /// The bodies have to be well formed, and `ranks` to hold what the program needs.
 pub fn check_limits(alloc: Global, ranks: &Ranks<'_>, program: &Program<'_>) -> Result<(), Fault>
     requires needed { ranks.now ≡ needed (view.program program.now) }
-    requires ready { (i : ℕ) (c : _) → slice_get (view.program program.now) i ≡ Some c → AllByRecursion (IsReady ranks.now) (codes_of c) }
+    requires ready { (i : ℕ) (c : _) → slice_get (view.program program.now) i ≡ Some c → AllByRecursion (BodyIsReady ranks.now) (codes_of c) }
     ensures ok { OnOk result (Fits (view.program program.now)) }
     ensures err { IfErr result (λ e. e ≢ memory → IsLowestLimit (view.program program.now) e) }
 {

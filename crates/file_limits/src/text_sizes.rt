@@ -26,7 +26,7 @@ fn unit_length(unit: u16) -> u64
     }
 }
 
-// A string.
+// How many bytes a string takes at most.
 fn string_size(text: Str<'_>) -> u64
     ensures { IsSum result (wide_string (key_of_str text.entry)) }
 {
@@ -37,7 +37,7 @@ fn string_size(text: Str<'_>) -> u64
     sum
 }
 
-/// All strings.
+/// How many bytes all strings take at most.
 pub fn strings_size(texts: &[Str<'_>]) -> u64
     ensures { IsSum result (wide_all wide_string (map key_of_str texts.now)) }
 {
@@ -48,7 +48,7 @@ pub fn strings_size(texts: &[Str<'_>]) -> u64
     sum
 }
 
-/// A type list, if there are types.
+/// How many bytes a type list takes at most: none if there is no type.
 pub fn list_size(types: &[Desc<'_>]) -> u64
     ensures { IsSum result (wide_list (map view.desc types.now)) }
 {
@@ -58,7 +58,7 @@ pub fn list_size(types: &[Desc<'_>]) -> u64
     }
 }
 
-/// All prototypes.
+/// How many bytes all prototypes take at most.
 pub fn protos_size(protos: &[Proto<'_>]) -> u64
     ensures { IsSum result (wide_all wide_proto (map key_of_proto protos.now)) }
 {

@@ -9,7 +9,7 @@ ghost use Rattle.file_limits.specs.Sum.{IsSum};
 use crate::sums::plus;
 use program_types::Value;
 
-// A value.
+// How many bytes a value takes at most.
 #[cycle(values)]
 fn value_size(one: &Value<'_>) -> u64
     ensures { IsSum result (wide_value (view.value one.now)) }
@@ -20,7 +20,7 @@ fn value_size(one: &Value<'_>) -> u64
     }
 }
 
-/// Values, one behind the other.
+/// How many bytes values take at most, one after the other.
 #[cycle(values)]
 pub fn values_size(all: &[Value<'_>]) -> u64
     ensures { IsSum result (wide_values (content.values (map view.value all.now))) }

@@ -71,7 +71,7 @@ statics_named P c h =
 pub instances_named : (P : Name → Type 0) (c : content.Class) → AllByRecursion P (names_of_class c) → AllByRecursion P (map (field_of_class c.ty) c.instances)
 instances_named P c h = right P (part4 c ++ flat_map names_of_value c.values) (map (field_of_class c.ty) c.instances) (left P (part6 c) (flat_map (names_of_method c.ty) c.directs) (left P (part7 c) (flat_map (names_of_method c.ty) c.virtuals) h))
 
--- ---- as they are added: the class with each kind of member, and bodies behind the methods
+-- ---- as they are added: the class with each kind of member, and bodies after the methods
 
 both : (P : Name → Type 0) (xs ys : List Name) → AllByRecursion P xs → AllByRecursion P ys → AllByRecursion P (xs ++ ys)
 both P [] ys a b = b

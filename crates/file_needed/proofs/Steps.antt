@@ -11,9 +11,7 @@ use Rattle.program_types.specs.Depth.{depth, greatest_depth}
 use Rattle.program_types.specs.Mentions.{names_of_value, names_of_values}
 use Rattle.program_types.specs.View.{value}
 use Rattle.program_types.specs.declared.value.Value.{Value}
-
-pub map_more : {A B : Type 0} (f : A → B) (xs : List A) (i : ℕ) (d : A) → i < length xs → map f (take (i + 1) xs) ≡ map f (take i xs) ++ f (get_or xs i d) ∷ []
-map_more f xs i d h = rw (take_more xs i d h) (map-append f (take i xs) (get_or xs i d ∷ []))
+use Rattle.base_bytes.proofs.ListFacts.{map_more}
 
 -- one more name, of an element
 pub names_more : {A B : Type 0} (f : B → Name) (g : A → B) (s l new : Five) (xs : List A) (i : ℕ) (d : A) → i < length xs → l ≡ with_names s (map f (map g (take i xs))) → new ≡ with_name l (f (g (get_or xs i d)))
@@ -56,7 +54,7 @@ value_less [] i d lt = absurd (omega (arith, lt))
 value_less (x ∷ xs) zero d lt = omega arith
 value_less (x ∷ xs) (suc i) d lt = let r = value_less xs i d (omega (arith, lt)) in omega (arith, r)
 
--- names of elements, one behind the other
+-- names of elements, one after the other
 flat_push : {V : Type 0} (f : V → List Name) (vs : List V) (v : V) → flat_map f (vs ++ v ∷ []) ≡ flat_map f vs ++ f v
 flat_push f [] v = one (f v)
   where

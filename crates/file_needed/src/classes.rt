@@ -18,7 +18,7 @@ use program_types::{Class, Desc, Method, Program, Str};
 use std::alloc::Global;
 use tables_names::{Needed, Ranks};
 
-// Its interfaces.
+// Adds the types, the interfaces of a class.
 fn add_types<'a, 'p: 'a>(needed: &mut Needed<'a>, types: &[Desc<'p>]) -> Result<(), Fault>
     ensures added { OnOk result (needed.new ≡ with_names needed.old (map OfDesc (map view.desc types.now))) }
     ensures memory { IsOkUnless result memory }
@@ -29,7 +29,7 @@ fn add_types<'a, 'p: 'a>(needed: &mut Needed<'a>, types: &[Desc<'p>]) -> Result<
     Ok(())
 }
 
-// The names in the bodies of the methods that it defines.
+// Adds the names in the bodies of the methods that a class defines.
 fn add_bodies<'a, 'p: 'a>(
     needed: &mut Needed<'a>,
     arena: &'a Bump,
@@ -45,7 +45,7 @@ fn add_bodies<'a, 'p: 'a>(
     Ok(())
 }
 
-// The methods that it defines, and the names in their bodies.
+// Adds the methods that a class defines, and the names in their bodies.
 fn add_methods<'a, 'p: 'a>(
     needed: &mut Needed<'a>,
     arena: &'a Bump,
@@ -60,7 +60,7 @@ fn add_methods<'a, 'p: 'a>(
     add_bodies(needed, arena, methods)
 }
 
-// Its superclass, if it has one.
+// Adds the superclass of a class, if it has one.
 fn add_superclass<'a, 'p: 'a>(
     needed: &mut Needed<'a>,
     superclass: Option<Desc<'p>>,
@@ -74,7 +74,7 @@ fn add_superclass<'a, 'p: 'a>(
     }
 }
 
-// Its source file, if it has one.
+// Adds the source file of a class, if it has one.
 fn add_source<'a, 'p: 'a>(needed: &mut Needed<'a>, source: Option<Str<'p>>) -> Result<(), Fault>
     ensures added { OnOk result (needed.new ≡ with_names needed.old (if_any (λ t. OfText t ∷ []) (option_map view.str source.entry))) }
     ensures memory { IsOkUnless result memory }
@@ -85,7 +85,7 @@ fn add_source<'a, 'p: 'a>(needed: &mut Needed<'a>, source: Option<Str<'p>>) -> R
     }
 }
 
-// The names that a class mentions.
+// Adds the names that a class mentions.
 fn add_class<'a, 'p: 'a>(
     needed: &mut Needed<'a>,
     arena: &'a Bump,
@@ -108,7 +108,7 @@ fn add_class<'a, 'p: 'a>(
 
 /// The names that a program needs, with their ranks. The arena holds the shorties.
 ///
-/// The types in the prototypes of the methods that it mentions have to be descriptors. The only refusal is want of memory.
+/// The types in the prototypes of the methods that it mentions have to be descriptors. It fails only when out of memory.
 pub fn needed_names<'a, 'p: 'a>(
     alloc: Global,
     arena: &'a Bump,

@@ -27,7 +27,7 @@ one_of_both A B a b apart e f (inr x) (inl y) = absurd (apart f e y x)
 one_of_both A B a b apart e f (inr x) (inr y) = b e f x y
 
 module _ (b : List ℕ) where
-  -- what is asked behind the frame, behind the tables, and so on
+  -- what is asked after the frame, after the tables, and so on
   abbrev BehindValues : Fault → Type 0
   BehindValues e = IsCodeFault b e ⊎ IsRegisterFault b e
 
@@ -86,23 +86,23 @@ module _ (b : List ℕ) where
 
   -- ---- and of all
 
-  behind_values : (e f : Fault) → BehindValues e → BehindValues f → e ≡ f
-  behind_values = one_of_both (IsCodeFault b) (IsRegisterFault b) code_one_fault register_one_fault
+  after_values : (e f : Fault) → BehindValues e → BehindValues f → e ≡ f
+  after_values = one_of_both (IsCodeFault b) (IsRegisterFault b) code_one_fault register_one_fault
       (λ e f x y. no_first_class BodiesBreak BodiesHold b e (λ i. bodies_clear b x.framed i e) y.bodies x.first)
 
-  behind_rows : (e f : Fault) → BehindRows e → BehindRows f → e ≡ f
-  behind_rows = one_of_both (IsValueFault b) BehindValues value_one_fault behind_values
+  after_rows : (e f : Fault) → BehindRows e → BehindRows f → e ≡ f
+  after_rows = one_of_both (IsValueFault b) BehindValues value_one_fault after_values
       (λ e f x y. no_first_class ValuesBreak ValuesHold b e (λ i. values_clear b x.framed i e) (values f y) x.first)
 
-  behind_tables : (e f : Fault) → BehindTables e → BehindTables f → e ≡ f
-  behind_tables = one_of_both (IsClassFault b) BehindRows class_one_fault behind_rows
+  after_tables : (e f : Fault) → BehindTables e → BehindTables f → e ≡ f
+  after_tables = one_of_both (IsClassFault b) BehindRows class_one_fault after_rows
       (λ e f x y. class_clear b x.framed x.first.row e.code (classes f y x.first.row x.first.within) x.first.broken.breaks)
 
-  behind_frame : (e f : Fault) → BehindFrame e → BehindFrame f → e ≡ f
-  behind_frame = one_of_both (IsTableFault b) BehindTables (one_table_fault b) behind_tables (λ e f x y. with_tables b (table_framed e x) (tables f y) e x)
+  after_frame : (e f : Fault) → BehindFrame e → BehindFrame f → e ≡ f
+  after_frame = one_of_both (IsTableFault b) BehindTables (one_table_fault b) after_tables (λ e f x y. with_tables b (table_framed e x) (tables f y) e x)
 
   pub one_refusal : (e f : Fault) → IsRefused b e → IsRefused b f → e ≡ f
-  one_refusal = one_of_both (IsFrameFault b) BehindFrame (one_fault b) behind_frame (λ e f x y. framed_clear b (framed f y) e.code e.place x.stands)
+  one_refusal = one_of_both (IsFrameFault b) BehindFrame (one_fault b) after_frame (λ e f x y. framed_clear b (framed f y) e.code e.place x.stands)
 
   -- what means a program isn't refused
   pub none_meant : (e : Fault) (p : Program) → IsRefused b e → Means b p → ⊥

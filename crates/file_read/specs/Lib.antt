@@ -1,3 +1,4 @@
+pub mod Broken
+pub mod FileDeciding
 pub mod Means
 pub mod Refused
-pub mod Broken

@@ -10,7 +10,7 @@ use Rattle.file_classes.specs.ClassRows.{InOrder}
 use Rattle.file_classes.specs.Classes.{SpellsClass}
 
 -- The file has header, map and checksums as the format asks, every row of its tables denotes a name and the rows rise, and
--- its class rows spell the classes of the program, in an order in which each stands behind what it stands on.
+-- its class rows spell the classes of the program, in an order in which each stands after what it stands on.
 pub record Means (b : List ℕ) (p : Program) : Type 0 where
   pub framed : IsFramed b
   pub tables : TablesHold b

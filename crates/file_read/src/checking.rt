@@ -33,7 +33,7 @@ pub fn check(alloc: Global, bytes: &[u8]) -> Result<(), Fault>
     check_framed(alloc, &sections)
 }
 
-/// The same of a file that was opened.
+/// Whether an opened file means a program, as `check` tells it of bytes.
 ///
 /// ```
 /// use dex_container::open;

@@ -7,9 +7,14 @@
 #![tactic(auto)]
 
 mod checking;
+mod deciding;
 mod laws;
 mod reading;
 
 pub use checking::{check, check_framed};
+pub use deciding::{
+    classes_are_decided, framed_files_are_decided, meaning_is_decided, meanings_are_well_formed,
+    meanings_have_rows, rows_are_decided,
+};
 pub use laws::{meaning_is_clear, one_program, one_refusal, refusals_are_first};
 pub use reading::read;

@@ -12,7 +12,7 @@ use Rattle.program_types.specs.Content.{Units, Descriptor, Proto, FieldRef, Meth
 use Rattle.program_types.specs.Key.{Key, text_key, proto_key, field_ref_key, method_ref_key}
 use Rattle.file_rows.specs.Rows.{SpellsTable, SpellsProtos, SpellsTypeRow, SpellsProtoRow, SpellsFieldRow, SpellsMethodRow}
 
--- pieces of one size: piece i begins i sizes behind the front
+-- pieces of one size: piece i begins i sizes after the front
 pub each_at : {V : Type 0} (G : List ℕ → V → Type 0) (size : ℕ) → ((bytes : List ℕ) (v : V) → G bytes v → length bytes ≡ size)
     → (bytes : List ℕ) (vs : List V) (i : ℕ) (v : V) → Each G bytes vs → slice_get vs i ≡ Some v → G (take size (drop (size * i) bytes)) v
 each_at G size fixed bytes [] i v rows e = absurd (cc e)
@@ -36,7 +36,7 @@ named_at key one (x ∷ names) (suc i) v e = named_at key one names i v e
 text_one : (t u : Units) → text_key t ≡ text_key u → t ≡ u
 text_one t u e = cc e
 
-proto_one : (p q : Proto) → proto_key p ≡ proto_key q → p ≡ q
+pub proto_one : (p q : Proto) → proto_key p ≡ proto_key q → p ≡ q
 proto_one p q e =
     let ret : p.ret ≡ q.ret = cc e in
     let params : p.params ≡ q.params = cc e in
@@ -63,19 +63,19 @@ row_of : {V : Type 0} (key : V → Key) → ((v w : V) → key v ≡ key w → v
 row_of key one G size fixed bytes table i v t at =
     each_at G size fixed bytes t.names i v t.rows (named_at key one t.names i v (ap (λ (ks : List Key). slice_get ks i) t.keys ∙ at))
 
-type_size : (s : Five) (bytes : List ℕ) (t : Descriptor) → SpellsTypeRow s bytes t → length bytes ≡ 4
+pub type_size : (s : Five) (bytes : List ℕ) (t : Descriptor) → SpellsTypeRow s bytes t → length bytes ≡ 4
 unfolding u32_bytes
 type_size s bytes t r = ap length r.whole
 
-proto_size : (s : Five) (bytes : List ℕ) (p : ℕ × Proto) → SpellsProtoRow s bytes p → length bytes ≡ 12
+pub proto_size : (s : Five) (bytes : List ℕ) (p : ℕ × Proto) → SpellsProtoRow s bytes p → length bytes ≡ 12
 unfolding u32_bytes words_bytes
 proto_size s bytes p r = ap length r.whole
 
-field_size : (s : Five) (bytes : List ℕ) (f : FieldRef) → SpellsFieldRow s bytes f → length bytes ≡ 8
+pub field_size : (s : Five) (bytes : List ℕ) (f : FieldRef) → SpellsFieldRow s bytes f → length bytes ≡ 8
 unfolding u16_bytes u32_bytes
 field_size s bytes f r = ap length r.whole
 
-method_size : (s : Five) (bytes : List ℕ) (m : MethodRef) → SpellsMethodRow s bytes m → length bytes ≡ 8
+pub method_size : (s : Five) (bytes : List ℕ) (m : MethodRef) → SpellsMethodRow s bytes m → length bytes ≡ 8
 unfolding u16_bytes u32_bytes
 method_size s bytes m r = ap length r.whole
 

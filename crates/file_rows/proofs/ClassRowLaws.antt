@@ -13,51 +13,51 @@ use Rattle.program_types.specs.Content.{Units, Program}
 use Rattle.program_types.specs.Key.{Key, text_key}
 use Rattle.program_types.specs.View as view
 use Rattle.program_types.specs.declared.class.Class as made
-use Rattle.file_rows.specs.ClassDefs.{Seated, SpellsClassRow, first_place, other_places, seated}
+use Rattle.file_rows.specs.ClassDefs.{ClassWithPlaces, SpellsClassRow, first_or_zero, all_but_first, with_places}
 
-pub length-seated : (p : Program) (lists datas arrays : List ℕ) → length (seated p lists datas arrays) ≡ length p
+pub length-seated : (p : Program) (lists datas arrays : List ℕ) → length (with_places p lists datas arrays) ≡ length p
 length-seated [] lists datas arrays = refl
-length-seated (c ∷ p) lists datas arrays = ap suc (length-seated p (other_places lists) (other_places datas) (other_places arrays))
+length-seated (c ∷ p) lists datas arrays = ap suc (length-seated p (all_but_first lists) (all_but_first datas) (all_but_first arrays))
 
-pub first_of : (xs : List ℕ) → first_place xs ≡ get_or xs 0 0
+pub first_of : (xs : List ℕ) → first_or_zero xs ≡ get_or xs 0 0
 first_of [] = refl
 first_of (x ∷ xs) = refl
 
-pub others_of : (xs : List ℕ) (i : ℕ) → get_or (other_places xs) i 0 ≡ get_or xs (suc i) 0
+pub others_of : (xs : List ℕ) (i : ℕ) → get_or (all_but_first xs) i 0 ≡ get_or xs (suc i) 0
 others_of [] i = refl
 others_of (x ∷ xs) i = refl
 
 -- class i with its places
-pub seated_at : (cs : List made.Class) (lists datas arrays : List ℕ) (i : ℕ) (d : made.Class) (n : Seated) → i < length cs
-    → get_or (seated (map view.class cs) lists datas arrays) i n ≡ record { class = view.class (get_or cs i d); list = get_or lists i 0; datum = get_or datas i 0; array = get_or arrays i 0 }
+pub seated_at : (cs : List made.Class) (lists datas arrays : List ℕ) (i : ℕ) (d : made.Class) (n : ClassWithPlaces) → i < length cs
+    → get_or (with_places (map view.class cs) lists datas arrays) i n ≡ record { class = view.class (get_or cs i d); list = get_or lists i 0; class_data = get_or datas i 0; array = get_or arrays i 0 }
 seated_at [] lists datas arrays i d n lt = absurd (omega (arith, lt))
 seated_at (c ∷ cs) lists datas arrays zero d n lt = rw (first_of lists, first_of datas, first_of arrays) refl
 seated_at (c ∷ cs) lists datas arrays (suc i) d n lt =
-    seated_at cs (other_places lists) (other_places datas) (other_places arrays) i d n (omega (arith, lt))
+    seated_at cs (all_but_first lists) (all_but_first datas) (all_but_first arrays) i d n (omega (arith, lt))
     ∙ rw (others_of lists i, others_of datas i, others_of arrays i) refl
 
 -- one more row
 pub seated_more : (s : Five) (old mid new : List ℕ) (cs : List made.Class) (lists datas arrays : List ℕ) (i : ℕ) (d : made.Class) → i < length cs
-    → Appends (Each (SpellsClassRow s)) old mid (take i (seated (map view.class cs) lists datas arrays))
-    → Appends (SpellsClassRow s) mid new (record { class = view.class (get_or cs i d); list = get_or lists i 0; datum = get_or datas i 0; array = get_or arrays i 0 })
-    → Appends (Each (SpellsClassRow s)) old new (take (i + 1) (seated (map view.class cs) lists datas arrays))
+    → Appends (Each (SpellsClassRow s)) old mid (take i (with_places (map view.class cs) lists datas arrays))
+    → Appends (SpellsClassRow s) mid new (record { class = view.class (get_or cs i d); list = get_or lists i 0; class_data = get_or datas i 0; array = get_or arrays i 0 })
+    → Appends (Each (SpellsClassRow s)) old new (take (i + 1) (with_places (map view.class cs) lists datas arrays))
 seated_more s old mid new cs lists datas arrays i d lt rows row =
-    let all : List Seated = seated (map view.class cs) lists datas arrays in
-    let n : Seated = record { class = view.class d; list = 0; datum = 0; array = 0 } in
+    let all : List ClassWithPlaces = with_places (map view.class cs) lists datas arrays in
+    let n : ClassWithPlaces = record { class = view.class d; list = 0; class_data = 0; array = 0 } in
     let many = length-seated (map view.class cs) lists datas arrays in
     let same = length-map cs view.class in
-    subst (λ (vs : List Seated). Appends (Each (SpellsClassRow s)) old new vs) (sym (take_more all i n (omega (arith, lt, many, same))))
+    subst (λ (vs : List ClassWithPlaces). Appends (Each (SpellsClassRow s)) old new vs) (sym (take_more all i n (omega (arith, lt, many, same))))
     (Each-appends_more (SpellsClassRow s) old mid new (take i all) (get_or all i n) rows
-    (subst (λ (v : Seated). Appends (SpellsClassRow s) mid new v) (sym (seated_at cs lists datas arrays i d n lt)) row))
+    (subst (λ (v : ClassWithPlaces). Appends (SpellsClassRow s) mid new v) (sym (seated_at cs lists datas arrays i d n lt)) row))
 
 -- all rows
 pub seated_all : (s : Five) (old new : List ℕ) (cs : List made.Class) (lists datas arrays : List ℕ) (i : ℕ) → length cs ≤ i
-    → Appends (Each (SpellsClassRow s)) old new (take i (seated (map view.class cs) lists datas arrays))
-    → Appends (Each (SpellsClassRow s)) old new (seated (map view.class cs) lists datas arrays)
+    → Appends (Each (SpellsClassRow s)) old new (take i (with_places (map view.class cs) lists datas arrays))
+    → Appends (Each (SpellsClassRow s)) old new (with_places (map view.class cs) lists datas arrays)
 seated_all s old new cs lists datas arrays i all a =
     let many = length-seated (map view.class cs) lists datas arrays in
     let same = length-map cs view.class in
-    subst (λ (vs : List Seated). Appends (Each (SpellsClassRow s)) old new vs) (take_all i (seated (map view.class cs) lists datas arrays) (omega (arith, all, many, same))) a
+    subst (λ (vs : List ClassWithPlaces). Appends (Each (SpellsClassRow s)) old new vs) (take_all i (with_places (map view.class cs) lists datas arrays) (omega (arith, all, many, same))) a
 
 -- class i is among those of the program
 pub class_there : (cs : List made.Class) (i : ℕ) (d : made.Class) → i < length cs → slice_get (map view.class cs) i ≡ Some (view.class (get_or cs i d))

@@ -27,7 +27,7 @@ part_at R keys parts i p all lt =
     let here : i < length keys = omega (arith, same, lt) in
     zip_get R keys parts i (get_or keys i []) p all (slice_get-get_or keys i [] here)
 
--- what a look-up behind the last would give
+-- what a look-up after the last would give
 abbrev pub no_type : TypeParts
 no_type = record { text = 0 }
 

@@ -1,4 +1,4 @@
--- Rows of a table, one behind the other.
+-- Rows of a table, one after the other.
 use Rattle.std.proofs.Common.{◌≡◌, ℕ, zero, suc, ◌+◌, ◌<◌, ◌≤◌, List, [], ◌∷◌, ◌++◌, length, map, take, get_or, refl, sym, ap, ◌∙◌, arith, subst, append_assoc}
 use Rattle.std.proofs.lemmas.List.{take_more, take_all, map-append}
 use Rattle.std.proofs.lemmas.Option.{slice_get-map, slice_get-get_or}
@@ -91,12 +91,12 @@ protos_are_table {U = U} view s old new places xs table i n e all a =
       };
     }
 
--- three fields behind what there is
+-- three fields after what there is
 pub three_joined : (old a b new x y z : List ℕ) → a ≡ old ++ x → b ≡ a ++ y → new ≡ b ++ z → new ≡ old ++ (x ++ (y ++ z))
 three_joined old a b new x y z e f g =
     g ∙ ap (λ (l : List ℕ). l ++ z) (f ∙ ap (λ (l : List ℕ). l ++ y) e ∙ append_assoc old x y) ∙ append_assoc old (x ++ y) z ∙ ap (λ (l : List ℕ). old ++ l) (append_assoc x y z)
 
--- five tables, one behind the other
+-- five tables, one after the other
 pub five_joined : (s t p f m ws w x y z : List ℕ) → s ≡ ws → t ≡ s ++ w → p ≡ t ++ x → f ≡ p ++ y → m ≡ f ++ z → m ≡ ws ++ (w ++ (x ++ (y ++ z)))
 five_joined s t p f m ws w x y z a b c d e =
     e ∙ ap (λ (l : List ℕ). l ++ z) (d ∙ ap (λ (l : List ℕ). l ++ y) c ∙ append_assoc t x y)

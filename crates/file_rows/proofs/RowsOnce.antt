@@ -11,14 +11,12 @@ use Rattle.tables_names.specs.Closure.{Five, AreRising}
 use Rattle.tables_names.proofs.PlaceLemmas.{rank_at}
 use Rattle.file_classes.specs.ClassRows.{IndexOrNone}
 use Rattle.file_rows.specs.Rows.{SpellsTypeRow, SpellsProtoRow, SpellsFieldRow, SpellsMethodRow, SpellsTable, SpellsRows}
-use Rattle.file_rows.specs.ClassDefs.{Seated, SpellsClassRow}
-
-place_one : (ks : List Key) (i j : ℕ) (k : Key) → Rising ks → IsAt ks i k → IsAt ks j k → i ≡ j
-place_one ks i j k r p q = sym (rank_at ks i k r p) ∙ rank_at ks j k r q
+use Rattle.file_rows.specs.ClassDefs.{ClassWithPlaces, SpellsClassRow}
+use Rattle.tables_laws.proofs.FileLemmas.{one_place}
 
 -- the same of two keys that are equal
 place_same : (ks : List Key) (i j : ℕ) (k l : Key) → Rising ks → k ≡ l → IsAt ks i k → IsAt ks j l → i ≡ j
-place_same ks i j k l r e p q = place_one ks i j k r p (q ∙ ap (λ (x : Key). Some x) (sym e))
+place_same ks i j k l r e p q = one_place ks i j k r p (q ∙ ap (λ (x : Key). Some x) (sym e))
 
 -- ---- tables of names
 
@@ -97,16 +95,16 @@ module _ (s : Five) (rising : AreRising s) where
 
   or_none : (ks : List Key) → Rising ks → (i j : ℕ) (o : Option Units) → IndexOrNone (λ (n : ℕ) (t : Units). IsAt ks n (text_key t)) i o → IndexOrNone (λ (n : ℕ) (t : Units). IsAt ks n (text_key t)) j o → i ≡ j
   or_none ks r i j None p q = p ∙ sym q
-  or_none ks r i j (Some t) p q = place_one ks i j (text_key t) r p.1 q.1
+  or_none ks r i j (Some t) p q = one_place ks i j (text_key t) r p.1 q.1
 
-  class_row : (a b : List ℕ) (v : Seated) → SpellsClassRow s a v → SpellsClassRow s b v → a ≡ b
+  class_row : (a b : List ℕ) (v : ClassWithPlaces) → SpellsClassRow s a v → SpellsClassRow s b v → a ≡ b
   class_row a b v p q =
-      let x = place_one s.types p.class q.class (text_key v.class.ty) rising.types p.class_is q.class_is in
+      let x = one_place s.types p.class q.class (text_key v.class.ty) rising.types p.class_is q.class_is in
       let y = or_none s.types rising.types p.above q.above v.class.superclass p.above_is q.above_is in
       let z = or_none s.strings rising.strings p.source q.source v.class.source p.source_is q.source_is in
-      p.whole ∙ (λ k. words_bytes (x k ∷ v.class.flags ∷ y k ∷ v.list ∷ z k ∷ 0 ∷ v.datum ∷ v.array ∷ [])) ∙ sym q.whole
+      p.whole ∙ (λ k. words_bytes (x k ∷ v.class.flags ∷ y k ∷ v.list ∷ z k ∷ 0 ∷ v.class_data ∷ v.array ∷ [])) ∙ sym q.whole
 
-  pub class_rows_once : (a b : List ℕ) (vs : List Seated) → Each (SpellsClassRow s) a vs → Each (SpellsClassRow s) b vs → a ≡ b
+  pub class_rows_once : (a b : List ℕ) (vs : List ClassWithPlaces) → Each (SpellsClassRow s) a vs → Each (SpellsClassRow s) b vs → a ≡ b
   class_rows_once a b [] p q = p ∙ sym q
   class_rows_once a b (v ∷ vs) p q =
       let here = class_row p.0 q.0 v p.3 q.3 in

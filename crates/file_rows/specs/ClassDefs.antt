@@ -17,42 +17,42 @@ abbrev pub StringRanks : Five → ℕ → Units → Type 0
 StringRanks s i t = IsAt s.strings i (text_key t)
 
 -- A class, and the places of its interfaces, its class data and its static values, 0 for none.
-pub record Seated : Type 0 where
+pub record ClassWithPlaces : Type 0 where
   pub class : Class
   pub list : ℕ
-  pub datum : ℕ
+  pub class_data : ℕ
   pub array : ℕ
 
 -- the place that comes first, and the others
-abbrev pub first_place : List ℕ → ℕ
-first_place [] = 0
-first_place (p ∷ ps) = p
+abbrev pub first_or_zero : List ℕ → ℕ
+first_or_zero [] = 0
+first_or_zero (p ∷ ps) = p
 
 -- All places but the first.
-abbrev pub other_places : List ℕ → List ℕ
-other_places [] = []
-other_places (p ∷ ps) = ps
+abbrev pub all_but_first : List ℕ → List ℕ
+all_but_first [] = []
+all_but_first (p ∷ ps) = ps
 
 -- each class with its own of these places, which stand in the order of the classes
-abbrev pub seated : Program → List ℕ → List ℕ → List ℕ → List Seated
-seated [] lists datas arrays = []
-seated (c ∷ p) lists datas arrays =
-    record { class = c; list = first_place lists; datum = first_place datas; array = first_place arrays }
-    ∷ seated p (other_places lists) (other_places datas) (other_places arrays)
+abbrev pub with_places : Program → List ℕ → List ℕ → List ℕ → List ClassWithPlaces
+with_places [] lists datas arrays = []
+with_places (c ∷ p) lists datas arrays =
+    record { class = c; list = first_or_zero lists; class_data = first_or_zero datas; array = first_or_zero arrays }
+    ∷ with_places p (all_but_first lists) (all_but_first datas) (all_but_first arrays)
 
 -- class_def_item: class_idx, access_flags, superclass_idx, interfaces_off, source_file_idx, annotations_off (none), class_data_off,
 -- static_values_off.
-pub record SpellsClassRow (s : Five) (bytes : List ℕ) (v : Seated) : Type 0 where
+pub record SpellsClassRow (s : Five) (bytes : List ℕ) (v : ClassWithPlaces) : Type 0 where
   pub class : ℕ
   pub above : ℕ
   pub source : ℕ
-  pub whole : bytes ≡ words_bytes (class ∷ v.class.flags ∷ above ∷ v.list ∷ source ∷ 0 ∷ v.datum ∷ v.array ∷ [])
+  pub whole : bytes ≡ words_bytes (class ∷ v.class.flags ∷ above ∷ v.list ∷ source ∷ 0 ∷ v.class_data ∷ v.array ∷ [])
   pub small_class : class < 2 ^ 32
   pub small_flags : v.class.flags < 2 ^ 32
   pub small_above : above < 2 ^ 32
   pub small_list : v.list < 2 ^ 32
   pub small_source : source < 2 ^ 32
-  pub small_datum : v.datum < 2 ^ 32
+  pub small_class_data : v.class_data < 2 ^ 32
   pub small_array : v.array < 2 ^ 32
   pub class_is : TypeRanks s class v.class.ty
   pub above_is : IndexOrNone (TypeRanks s) above v.class.superclass

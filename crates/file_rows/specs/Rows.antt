@@ -69,7 +69,7 @@ pub record SpellsProtos (s : Five) (places : List ℕ) (bytes : List ℕ) (table
   pub places_are : map (λ (p : ℕ × Proto). p.0) names ≡ places
   pub rows : Each (SpellsProtoRow s) bytes names
 
--- The bytes are the tables of these names, one behind the other, where texts and parameters stand at these places.
+-- The bytes are the tables of these names, one after the other, where texts and parameters stand at these places.
 pub record SpellsRows (s : Five) (texts lists : List ℕ) (bytes : List ℕ) : Type 0 where
   pub types : List ℕ
   pub protos : List ℕ

@@ -8,7 +8,7 @@ ghost use Rattle.file_classes.specs.ClassRows.{IndexOrNone};
 ghost use Rattle.tables_names.specs.Indices.{HasPlace};
 ghost use Rattle.program_types.specs.Key.{text_key};
 ghost use Rattle.program_types.specs.View as view;
-ghost use Rattle.file_rows.specs.ClassDefs.{SpellsClassRow, StringRanks, TypeRanks, seated};
+ghost use Rattle.file_rows.specs.ClassDefs.{SpellsClassRow, StringRanks, TypeRanks, with_places};
 ghost use Rattle.file_rows.specs.Held.{RowNamesHeld};
 
 use crate::index::{string_index, type_index};
@@ -21,9 +21,9 @@ const NO_INDEX: u32 = 0xffffffff;
 
 // Where the items of a class stand, 0 for none.
 #[derive(Clone, Copy)]
-pub struct Seats {
+pub struct ClassPlaces {
     pub list: u32,
-    pub datum: u32,
+    pub class_data: u32,
     pub array: u32,
 }
 
@@ -61,12 +61,12 @@ fn put_class(
     rows: &mut Vec<u8>,
     ranks: &Ranks<'_>,
     class: &Class<'_>,
-    seats: Seats,
+    places: ClassPlaces,
 ) -> Result<(), Fault>
     requires held { RowNamesHeld ranks.now (view.class class.now) }
     requires few_types { length ranks.now.types ≤ 65535 }
     requires few_strings { length ranks.now.strings < 4294967295 }
-    ensures ok { OnOk result (Appends (SpellsClassRow ranks.now) rows.old.items rows.new.items (record { class = view.class class.now; list = seats.list; datum = seats.datum; array = seats.array })) }
+    ensures ok { OnOk result (Appends (SpellsClassRow ranks.now) rows.old.items rows.new.items (record { class = view.class class.now; list = places.list; class_data = places.class_data; array = places.array })) }
     ensures memory { IsOkUnless result memory }
 {
     is_word(class.flags);
@@ -76,18 +76,18 @@ fn put_class(
             u32::from(type_index(ranks, class.ty)),
             class.flags,
             type_or_none(ranks, class.superclass),
-            seats.list,
+            places.list,
             string_or_none(ranks, class.source),
             0,
-            seats.datum,
-            seats.array,
+            places.class_data,
+            places.array,
         ],
     )
 }
 
 /// Appends the rows of all classes, whose interfaces, class data and static values stand at these places.
 ///
-/// The only refusal is want of memory.
+/// It fails only when out of memory.
 pub fn put_classes(
     rows: &mut Vec<u8>,
     ranks: &Ranks<'_>,
@@ -102,16 +102,16 @@ pub fn put_classes(
     requires lists { length lists.now ≡ length classes.now }
     requires datas { length datas.now ≡ length classes.now }
     requires arrays { length arrays.now ≡ length classes.now }
-    ensures ok { OnOk result (Appends (Each (SpellsClassRow ranks.now)) rows.old.items rows.new.items (seated (map view.class classes.now) lists.now datas.now arrays.now)) }
+    ensures ok { OnOk result (Appends (Each (SpellsClassRow ranks.now)) rows.old.items rows.new.items (with_places (map view.class classes.now) lists.now datas.now arrays.now)) }
     ensures memory { IsOkUnless result memory }
 {
     for (i, class) in classes.iter().enumerate() {
-        let seats = Seats {
+        let places = ClassPlaces {
             list: lists[i],
-            datum: datas[i],
+            class_data: datas[i],
             array: arrays[i],
         };
-        put_class(rows, ranks, class, seats)?;
+        put_class(rows, ranks, class, places)?;
     }
     Ok(())
 }

@@ -12,10 +12,10 @@ use dex_base::{Fault, push_words};
 use std::alloc::Global;
 use tables_names::Ranks;
 
-/// The rows of string_ids, type_ids, proto_ids, field_ids and method_ids, one table behind the other, in bytes: `texts`
+/// The rows of string_ids, type_ids, proto_ids, field_ids and method_ids, one table after the other, in bytes: `texts`
 /// has the place of each string's text, `lists` that of each proto's parameters, 0 for none.
 ///
-/// The only refusal is want of memory.
+/// It fails only when out of memory.
 pub fn name_rows(
     alloc: Global,
     ranks: &Ranks<'_>,

@@ -20,27 +20,30 @@ use Rattle.file_layout.specs.Sections.{is_empty_list}
 use Rattle.file_layout.specs.Tiles.{gap}
 use Rattle.tables_names.specs.Rank.{IsAt}
 use Rattle.program_types.specs.Key.{Key, text_key, field_ref_key, method_ref_key}
+use Rattle.program_types.specs.Kinds.{HasIndex}
 use Rattle.file_shared.specs.Once.{Entry, PutsOnce}
 use Rattle.file_shared.specs.Sharing.{UsesItem}
-use Rattle.dex_value.specs.Unique.{IsFunctional}
+use Rattle.dex_value.specs.Unique.{IsFunctionalByType}
 use Rattle.dex_value.proofs.FrontLaws.{SpellsArray-unique}
 use Rattle.file_needed.proofs.ClassNames.{values_kept}
-use Rattle.file_sections.specs.Named.{HasName, FewNames}
-use Rattle.file_sections.proofs.NumberLaws.{class_named, kept_left, kept_right}
+use Rattle.file_sections.specs.Named.{FewNames}
+use Rattle.file_sections.proofs.NumberLaws.{class_named}
 use Rattle.file_layout.proofs.SectionLaws.{not_none, gap_one}
 use Rattle.base_bytes.specs.Fields.{AreBytes}
 use Rattle.code_put.proofs.HandlerOnce.{ranks-injective}
-use Rattle.value_laws.proofs.ArrayOnce.{array_once}
+use Rattle.dex_value.proofs.ArrayOnce.{array_once}
 use Rattle.file_sections.specs.Arrays.{WritesArray}
+use Rattle.code_put.proofs.RankLaws.{keys-one}
+use Rattle.file_needed.proofs.Steps.{left, right}
 
-ranked : (s : Five) → FewNames s → (n : Name) → HasName s n → IsRanked s n
+ranked : (s : Five) → FewNames s → (n : Name) → HasIndex (NameRanks s) n → IsRanked s n
 ranked s k (OfText t) h = let w = slice_get_within s.strings h.0 _ h.1 in record { rank = h.0; small = omega (arith, w, k.strings); stands = h.1 }
 ranked s k (OfDesc t) h = let w = slice_get_within s.types h.0 _ h.1 in record { rank = h.0; small = omega (arith, w, k.types); stands = h.1 }
 ranked s k (OfField t) h = let w = slice_get_within s.fields h.0 _ h.1 in record { rank = h.0; small = omega (arith, w, k.fields); stands = h.1 }
 ranked s k (OfMethod t) h = let w = slice_get_within s.methods h.0 _ h.1 in record { rank = h.0; small = omega (arith, w, k.methods); stands = h.1 }
 
 mutual
-  value_ranked : (s : Five) → FewNames s → (v : Value) → AllByRecursion (HasName s) (names_of_value v) → NamesHold (IsRanked s) v
+  value_ranked : (s : Five) → FewNames s → (v : Value) → AllByRecursion (HasIndex (NameRanks s)) (names_of_value v) → NamesHold (IsRanked s) v
   value_ranked s k (Named n) h = ranked s k n h.0
   value_ranked s k (Enum f) h = ranked s k (OfField f) h.0
   value_ranked s k (Array vs) h = all_ranked s k vs h
@@ -54,12 +57,12 @@ mutual
   value_ranked s k Null h = tt
   value_ranked s k (Boolean b) h = tt
 
-  all_ranked : (s : Five) → FewNames s → (vs : Values) → AllByRecursion (HasName s) (names_of_values vs) → AllNamesHold (IsRanked s) vs
+  all_ranked : (s : Five) → FewNames s → (vs : Values) → AllByRecursion (HasIndex (NameRanks s)) (names_of_values vs) → AllNamesHold (IsRanked s) vs
   all_ranked s k no_values h = tt
-  all_ranked s k (more_values v vs) h = (value_ranked s k v (kept_left (HasName s) (names_of_value v) (names_of_values vs) h), all_ranked s k vs (kept_right (HasName s) (names_of_value v) (names_of_values vs) h))
+  all_ranked s k (more_values v vs) h = (value_ranked s k v (left (HasIndex (NameRanks s)) (names_of_value v) (names_of_values vs) h), all_ranked s k vs (right (HasIndex (NameRanks s)) (names_of_value v) (names_of_values vs) h))
 
 pub values_ranked : (s : Five) (p : Program) (cs : List class.Class) (k : ℕ) (d : class.Class) → s ≡ needed p → FewNames s → p ≡ map view.class cs → k < length cs → AllNamesHold (IsRanked s) (values (map view.value (get_or cs k d).values.now))
-values_ranked s p cs k d e f m lt = all_ranked s f _ (values_kept (HasName s) (view.class (get_or cs k d)) (class_named s p cs k d e m lt))
+values_ranked s p cs k d e f m lt = all_ranked s f _ (values_kept (HasIndex (NameRanks s)) (view.class (get_or cs k d)) (class_named s p cs k d e m lt))
 
 -- ---- an array that is written once
 
@@ -85,10 +88,6 @@ array_most s vs e bytes at p =
     let m = SpellsArray-most (NameRanks s) bytes vs p.packs.spelled in
     omega (arith, g, m)
 
--- in each table a rank is of one name
-key_one : (ks : List Key) (i : ℕ) (k l : Key) → IsAt ks i k → IsAt ks i l → k ≡ l
-key_one ks i k l p q = cc
-
 text_one : (s t : Units) → text_key s ≡ text_key t → s ≡ t
 text_one s t e = cc
 
@@ -101,11 +100,11 @@ method_one f g e =
     let r : f.proto.ret ≡ g.proto.ret = cc in let p : f.proto.params ≡ g.proto.params = cc in
     λ i. record { class = a i; name = b i; proto = record { ret = r i; params = p i } }
 
-ranks_functional : (s : Five) → IsFunctional (NameRanks s)
-ranks_functional s i (OfText m) (OfText n) e p q = ap OfText (text_one m n (key_one s.strings i _ _ p q))
-ranks_functional s i (OfDesc m) (OfDesc n) e p q = ap OfDesc (text_one m n (key_one s.types i _ _ p q))
-ranks_functional s i (OfField m) (OfField n) e p q = ap OfField (field_one m n (key_one s.fields i _ _ p q))
-ranks_functional s i (OfMethod m) (OfMethod n) e p q = ap OfMethod (method_one m n (key_one s.methods i _ _ p q))
+ranks_functional : (s : Five) → IsFunctionalByType (NameRanks s)
+ranks_functional s i (OfText m) (OfText n) e p q = ap OfText (text_one m n (keys-one s.strings i _ _ p q))
+ranks_functional s i (OfDesc m) (OfDesc n) e p q = ap OfDesc (text_one m n (keys-one s.types i _ _ p q))
+ranks_functional s i (OfField m) (OfField n) e p q = ap OfField (field_one m n (keys-one s.fields i _ _ p q))
+ranks_functional s i (OfMethod m) (OfMethod n) e p q = ap OfMethod (method_one m n (keys-one s.methods i _ _ p q))
 ranks_functional s i _ _ e p q = absurd (omega arith)
 
 -- the bytes of an array have one value

@@ -1,10 +1,10 @@
--- Bodies, one behind the other.
+-- Bodies, one after the other.
 use Rattle.std.proofs.Common.{◌≡◌, ℕ, zero, suc, ◌+◌, ◌%◌, ◌<◌, ◌≤◌, ◌==◌, if◌then◌else◌, Bool, true, false, List, [], ◌∷◌, ◌++◌, length, map, take, drop, get_or, refl, sym, ap, ◌∙◌, arith, subst, length-append, append_assoc, Option, Some, None}
 use Rattle.std.proofs.lemmas.List.{take_all, drop_all}
 use Rattle.std.specs.List.{AllByRecursion, flat_map}
-use Rattle.code_put_laws.proofs.PackedTries.{items-length}
-use Rattle.code_put_laws.proofs.WrittenLaws.{lowered-length}
-use Rattle.code_put_laws.proofs.PackedLaws.{length-head}
+use Rattle.code_put.proofs.PackedTries.{items-length}
+use Rattle.code_put.proofs.WrittenLaws.{lowered-length}
+use Rattle.code_put.proofs.PackedLaws.{length-head, few-padding}
 use Rattle.code_put.specs.Fits.{wide_code}
 use Rattle.code_put.specs.Packs.{PacksCode, head_bytes, padding, joined, items_bytes}
 use Rattle.file_layout.specs.Sections.{wide_all}
@@ -15,9 +15,9 @@ use Rattle.file_shared.proofs.SharingLaws.{sharing_more, sharing_bound}
 use Rattle.code_read.proofs.CodeLaws.{SpellsCode-unique}
 use Rattle.code_put.proofs.RankLaws.{ranks-functional}
 use Rattle.code_put.proofs.HandlerOnce.{ranks-injective}
-use Rattle.code_put_laws.proofs.CodeOnce.{code_once}
+use Rattle.code_put.proofs.CodeOnce.{code_once}
 use Rattle.base_bytes.specs.Fields.{AreBytes}
-use Rattle.code_put_laws.proofs.PackedLaws.{packed-spells}
+use Rattle.code_put.proofs.PackedLaws.{packed-spells}
 use Rattle.file_limits.specs.Wide.{bodies_in, bodies_of, wide_body}
 use Rattle.file_limits.proofs.SumLaws.{wide_all_append}
 use Rattle.tables_names.specs.Closure.{Five, AreRising, NameRanks}
@@ -28,10 +28,11 @@ use Rattle.program_types.specs.View as view
 use Rattle.program_types.specs.declared.class.Class as made
 use Rattle.program_types.specs.declared.class.Method as made_method
 use Rattle.file_sections.proofs.ListLaws.{gap_four}
-use Rattle.file_sections.proofs.Steps.{map_more, map_map}
 use Rattle.file_sections.proofs.RoomLaws.{map_drop}
 use Rattle.file_sections.specs.Codes.{PacksBody, WritesBody, is_bodiless}
 use Rattle.file_sections.specs.Named.{CanPut}
+use Rattle.base_bytes.proofs.ListFacts.{map_more}
+use Rattle.file_limits.proofs.PartLaws.{map_map}
 
 -- ---- how long a body is
 
@@ -39,9 +40,6 @@ at_most : (x y : Bool) → length {A = ℕ} (if x then [] else (if y then [] els
 at_most true y = omega arith
 at_most false true = omega arith
 at_most false false = omega arith
-
-few_padding : (s m : ℕ) → length (padding s m) ≤ 2
-few_padding s m = at_most (m == 0) (s % 2 == 0)
 
 -- with three zeros before it, it takes no more than its term of the sum
 pub packed_room : (N : ℕ → Name → Type 0) (c : Code) (bytes : List ℕ) → PacksCode N bytes c → (0 < length bytes) × (length bytes + 3 ≤ wide_code c)
@@ -51,7 +49,7 @@ packed_room N c bytes p =
     let pad = padding (length_of c.insns) (length c.tries) in
     let lh = length-head c (length_of c.insns) in
     let lj = lowered-length N c.insns p.raws p.lowered in
-    let lp = few_padding (length_of c.insns) (length c.tries) in
+    let lp = few-padding (length_of c.insns) (length c.tries) in
     let li = items-length (length_of c.insns) (addresses_of c.insns) c.tries p.offsets p.handlers.offsets.count in
     let short = p.handlers.short in
     let a = length-append h (joined p.raws ++ (pad ++ (i ++ p.list))) in

@@ -5,7 +5,7 @@ use Rattle.std.specs.Prelude.{◌&&◌}
 use Rattle.std.specs.List.{AllByRecursion, flat_map}
 use Rattle.base_bytes.specs.Grammar.{Appends, Each}
 use Rattle.base_bytes.specs.Leb128.{Spells, Shortest}
-use Rattle.file_classes.specs.ClassData.{FieldEntry, MethodEntry, SpellsCounts, SpellsField, SpellsMethod}
+use Rattle.file_classes.specs.ClassData.{FieldEntry, MethodEntry, SpellsCounts, SpellsFieldEntry, SpellsMethodEntry}
 use Rattle.file_layout.specs.Sections.{AddsSome, is_empty_list}
 use Rattle.file_layout.proofs.SectionLaws.{adds_some, gap_one, unpadded}
 use Rattle.tables_names.specs.Closure.{Five, NameRanks, method_of_class}
@@ -19,10 +19,12 @@ use Rattle.program_types.specs.Key.{Key, text_key}
 use Rattle.program_types.specs.Mentions.{field_of_class, names_of_method}
 use Rattle.program_types.specs.View as view
 use Rattle.program_types.specs.declared.class.Class as made
-use Rattle.file_sections.proofs.NumberLaws.{class_named, kept_right}
-use Rattle.file_sections.specs.Data.{PacksData, Sited, code_offs, has_no_members, wide_sited}
+use Rattle.program_types.specs.Kinds.{HasIndex}
+use Rattle.file_sections.proofs.NumberLaws.{class_named}
+use Rattle.file_sections.specs.Data.{PacksData, ClassWithCodes, code_offs, has_no_members, wide_with_codes}
 use Rattle.file_sections.specs.Growing.{AddsFields, AddsMethods}
-use Rattle.file_sections.specs.Named.{HasName, MembersHaveNames}
+use Rattle.file_sections.specs.Named.{MembersHaveNames}
+use Rattle.file_needed.proofs.Steps.{right}
 
 -- the text with an index
 pub text_is : (table : List Key) (i : ℕ) (t : Units) → IsAt table i (text_key t) → text_at table i ≡ t
@@ -37,13 +39,13 @@ fields_of_same s t u old new ms e a = subst (λ (d : Descriptor). AddsFields (Na
 pub methods_of_same : (s : Five) (t u : Descriptor) (codes old new : List ℕ) (ms : List Method) → t ≡ u → AddsMethods (NameRanks s) t codes old new ms → AddsMethods (NameRanks s) u codes old new ms
 methods_of_same s t u codes old new ms e a = subst (λ (d : Descriptor). AddsMethods (NameRanks s) d codes old new ms) e a
 
-fields_in : (s : Five) (class : Descriptor) (ms : List Member) → AllByRecursion (HasName s) (map (field_of_class class) ms) → AllByRecursion (λ m. HasName s (field_of_class class m)) ms
+fields_in : (s : Five) (class : Descriptor) (ms : List Member) → AllByRecursion (HasIndex (NameRanks s)) (map (field_of_class class) ms) → AllByRecursion (λ m. HasIndex (NameRanks s) (field_of_class class m)) ms
 fields_in s class [] h = tt
 fields_in s class (m ∷ ms) h = (h.0, fields_in s class ms h.1)
 
-methods_in : (s : Five) (class : Descriptor) (ms : List Method) → AllByRecursion (HasName s) (flat_map (names_of_method class) ms) → AllByRecursion (λ m. HasName s (method_of_class class m)) ms
+methods_in : (s : Five) (class : Descriptor) (ms : List Method) → AllByRecursion (HasIndex (NameRanks s)) (flat_map (names_of_method class) ms) → AllByRecursion (λ m. HasIndex (NameRanks s) (method_of_class class m)) ms
 methods_in s class [] h = tt
-methods_in s class (m ∷ ms) h = (h.0, methods_in s class ms (kept_right (HasName s) (names_of_method class m) (flat_map (names_of_method class) ms) h))
+methods_in s class (m ∷ ms) h = (h.0, methods_in s class ms (right (HasIndex (NameRanks s)) (names_of_method class m) (flat_map (names_of_method class) ms) h))
 
 pub class_held : (s : Five) (p : Program) (cs : List made.Class) (k : ℕ) (d : made.Class) → s ≡ needed p → p ≡ map view.class cs → k < length cs → HasPlace s.types (text_key (view.desc (get_or cs k d).ty))
 class_held s p cs k d e m lt = (class_named s p cs k d e m lt).0
@@ -53,10 +55,10 @@ members_named s p cs k d e m lt =
     let c = view.class (get_or cs k d) in
     let h = class_named s p cs k d e m lt in
     record {
-      statics = fields_in s c.ty c.statics (statics_named (HasName s) c h);
-      instances = fields_in s c.ty c.instances (instances_named (HasName s) c h);
-      directs = methods_in s c.ty c.directs (directs_kept (HasName s) c h);
-      virtuals = methods_in s c.ty c.virtuals (virtuals_kept (HasName s) c h);
+      statics = fields_in s c.ty c.statics (statics_named (HasIndex (NameRanks s)) c h);
+      instances = fields_in s c.ty c.instances (instances_named (HasIndex (NameRanks s)) c h);
+      directs = methods_in s c.ty c.directs (directs_kept (HasIndex (NameRanks s)) c h);
+      virtuals = methods_in s c.ty c.virtuals (virtuals_kept (HasIndex (NameRanks s)) c h);
     }
 
 -- four counts, then the four lists
@@ -106,7 +108,7 @@ some_sequence : (bytes : List ℕ) (n : ℕ) → Spells bytes n → 0 < length b
 some_sequence [] n s = absurd s.sequence
 some_sequence (b ∷ bytes) n s = omega arith
 
-tens : (bytes : List ℕ) (es : List FieldEntry) → Each (SpellsField (Shortest Spells)) bytes es → length bytes ≤ 10 * length es
+tens : (bytes : List ℕ) (es : List FieldEntry) → Each (SpellsFieldEntry (Shortest Spells)) bytes es → length bytes ≤ 10 * length es
 tens bytes [] e = let l = ap length e in omega (arith, l)
 tens bytes (x ∷ es) e =
     let l = ap length e.2 ∙ length-append e.0 e.1 in
@@ -116,7 +118,7 @@ tens bytes (x ∷ es) e =
     let r = tens e.1 es e.4 in
     omega (arith, l, p, a, b, r)
 
-fifteens : (bytes : List ℕ) (es : List MethodEntry) → Each (SpellsMethod (Shortest Spells)) bytes es → length bytes ≤ 15 * length es
+fifteens : (bytes : List ℕ) (es : List MethodEntry) → Each (SpellsMethodEntry (Shortest Spells)) bytes es → length bytes ≤ 15 * length es
 fifteens bytes [] e = let l = ap length e in omega (arith, l)
 fifteens bytes (x ∷ es) e =
     let l = ap length e.2 ∙ length-append e.0 e.1 in
@@ -128,7 +130,7 @@ fifteens bytes (x ∷ es) e =
     let r = fifteens e.1 es e.4 in
     omega (arith, l, p, q, a, b, c, r)
 
-pub data_length : (s : Five) (bytes : List ℕ) (v : Sited) → PacksData (NameRanks s) bytes v → (0 < length bytes) × (length bytes ≤ wide_sited v)
+pub data_length : (s : Five) (bytes : List ℕ) (v : ClassWithCodes) → PacksData (NameRanks s) bytes v → (0 < length bytes) × (length bytes ≤ wide_with_codes v)
 data_length s bytes v p =
     let k = p.spelled in
     let n = k.first in
@@ -155,7 +157,7 @@ data_length s bytes v p =
     let e4 = p.members.virtuals.count in
     (omega (arith, l, c1, some), omega (arith, l, l1, l2, l3, c1, c2, c3, u1, u2, u3, u4, t1, t2, t3, t4, e1, e2, e3, e4))
 
-some_members : (a b : List Member) (c d : List Method) → 0 < length a + length b + (length c + length d) → (is_empty_list a && is_empty_list b && is_empty_list c && is_empty_list d) ≡ false
+pub some_members : (a b : List Member) (c d : List Method) → 0 < length a + length b + (length c + length d) → (is_empty_list a && is_empty_list b && is_empty_list c && is_empty_list d) ≡ false
 some_members [] [] [] [] h = absurd (omega (arith, h))
 some_members [] [] [] (x ∷ d) h = refl
 some_members [] [] (x ∷ c) d h = refl
@@ -174,13 +176,13 @@ data_adds s old new c codes place some p a =
     (some_members (map view.member c.statics.now) (map view.member c.instances.now) (map view.method c.directs.now) (map view.method c.virtuals.now) (omega (arith, e1, e2, e3, e4, some)))
     (record { there = omega (arith, p, g); bytes = a.bytes; whole = a.joined ∙ ap (λ (l : List ℕ). l ++ a.bytes) (sym (unpadded old)); some = (data_length s a.bytes (record { class = view.class c; codes = codes }) a.spelled).0; spelled = a.spelled })
 
-pub data_bound : (s : Five) (old new : List ℕ) (v : Sited) → Appends (PacksData (NameRanks s)) old new v → length new ≤ length old + wide_sited v
+pub data_bound : (s : Five) (old new : List ℕ) (v : ClassWithCodes) → Appends (PacksData (NameRanks s)) old new v → length new ≤ length old + wide_with_codes v
 data_bound s old new v a =
     let e = ap length a.joined ∙ length-append old a.bytes in
     let m = (data_length s a.bytes v a.spelled).1 in
     omega (arith, e, m)
 
-adds_none : {V : Type 0} (none : V → Bool) (G : List ℕ → V → Type 0) (align : ℕ) (old : List ℕ) (v : V) → none v ≡ true → AddsSome none G align old old v 0
+pub adds_none : {V : Type 0} (none : V → Bool) (G : List ℕ → V → Type 0) (align : ℕ) (old : List ℕ) (v : V) → none v ≡ true → AddsSome none G align old old v 0
 adds_none none G align old v e = rw e (refl, refl)
 
 all_none : (a b : List Member) (c d : List Method) → length a ≡ 0 → length b ≡ 0 → length c ≡ 0 → length d ≡ 0 → (is_empty_list a && is_empty_list b && is_empty_list c && is_empty_list d) ≡ true

@@ -4,22 +4,22 @@ use Rattle.std.proofs.lemmas.List.{length-map}
 use Rattle.base_bytes.specs.Fields.{AreBytes}
 use Rattle.base_bytes.specs.Leb128.{Spells, Shortest}
 use Rattle.program_types.specs.Content.{Name, OfField, OfMethod, Descriptor, Member, Method}
-use Rattle.file_classes.specs.ClassData.{FieldEntry, MethodEntry, Entries, IsRun, SpellsEntries, code_off}
-use Rattle.file_sections.specs.Data.{PacksData, Sited, FieldRanks, MethodRanks, code_offs}
+use Rattle.file_classes.specs.ClassData.{FieldEntry, MethodEntry, Entries, EntriesAre, SpellsEntries, code_off}
+use Rattle.file_sections.specs.Data.{PacksData, ClassWithCodes, FieldRanks, MethodRanks, code_offs}
 use Rattle.code_put.proofs.HandlerOnce.{IsInjective}
-use Rattle.file_layout.proofs.PartLaws.{all_of}
 use Rattle.file_sections.proofs.GrammarOnce.{pairs_same}
 use Rattle.file_sections.proofs.EntryOnce.{entries_once, steps_same, marks_same, seconds_same, split_same}
+use Rattle.base_bytes.proofs.ListFacts.{all_of}
 
 module _ (N : ℕ → Name → Type 0) (inj : IsInjective N) where
-  fields_same : (class : Descriptor) (es fs : List FieldEntry) (ms : List Member) → IsRun (FieldRanks N class) es ms → IsRun (FieldRanks N class) fs ms → es ≡ fs
+  fields_same : (class : Descriptor) (es fs : List FieldEntry) (ms : List Member) → EntriesAre (FieldRanks N class) es ms → EntriesAre (FieldRanks N class) fs ms → es ≡ fs
   fields_same class es fs ms p q =
       pairs_same es fs
       (steps_same (FieldRanks N class) (λ i j d e m x y. inj i j (OfField (record { class = class; name = m.name; ty = m.ty })) x.field y.field) es fs ms p q)
       (marks_same (FieldRanks N class) (λ (r : ℕ). r) (λ (m : Member). m.flags) (λ i e m x. sym x.flags) es ms p
       ∙ sym (marks_same (FieldRanks N class) (λ (r : ℕ). r) (λ (m : Member). m.flags) (λ i e m x. sym x.flags) fs ms q))
 
-  methods_same : (class : Descriptor) (es fs : List MethodEntry) (ms : List Method) → IsRun (MethodRanks N class) es ms → IsRun (MethodRanks N class) fs ms → code_offs es ≡ code_offs fs → es ≡ fs
+  methods_same : (class : Descriptor) (es fs : List MethodEntry) (ms : List Method) → EntriesAre (MethodRanks N class) es ms → EntriesAre (MethodRanks N class) fs ms → code_offs es ≡ code_offs fs → es ≡ fs
   methods_same class es fs ms p q codes =
       seconds_same es fs
       (steps_same (MethodRanks N class) (λ i j d e m x y. inj i j (OfMethod (record { class = class; name = m.name; proto = m.proto })) x.method y.method) es fs ms p q)
@@ -27,7 +27,7 @@ module _ (N : ℕ → Name → Type 0) (inj : IsInjective N) where
       ∙ sym (marks_same (MethodRanks N class) (λ (r : ℕ × ℕ). r.0) (λ (m : Method). m.flags) (λ i e m x. sym x.flags) fs ms q))
       codes
 
-  pub data_once : (a b : List ℕ) (v : Sited) → AreBytes a → AreBytes b → PacksData N a v → PacksData N b v → a ≡ b
+  pub data_once : (a b : List ℕ) (v : ClassWithCodes) → AreBytes a → AreBytes b → PacksData N a v → PacksData N b v → a ≡ b
   data_once a b v i j p q =
       let x = p.members in let y = q.members in
       let d = x.directs.count in let f = y.directs.count in

@@ -4,28 +4,20 @@ use Rattle.std.specs.List.{slice_get}
 use Rattle.base_bytes.specs.Grammar.{Then, Pair, Each, Many}
 use Rattle.base_bytes.specs.Leb128.{Spells, Shortest}
 use Rattle.base_bytes.proofs.ShortestLaws.{AllBytes, shortest_one}
+use Rattle.file_classes.proofs.EntryLaws.{entry_at}
+use Rattle.code_put.proofs.HandlerOnce.{two-parts}
+use Rattle.dex_value.proofs.ArrayOnce.{back_all, front_all}
 
 -- Of all lists of bytes one at most spells a value.
 abbrev pub IsSpelledOnce : {V : Type 0} → (List ℕ → V → Type 0) → Type 0
 IsSpelledOnce {V} G = (a b : List ℕ) (v : V) → AllBytes a → AllBytes b → G a v → G b v → a ≡ b
-
-pub front_all : (xs ys : List ℕ) → AllBytes (xs ++ ys) → AllBytes xs
-front_all [] ys h = tt
-front_all (x ∷ xs) ys h = (h.0, front_all xs ys h.1)
-
-pub back_all : (xs ys : List ℕ) → AllBytes (xs ++ ys) → AllBytes ys
-back_all [] ys h = h
-back_all (x ∷ xs) ys h = back_all xs ys h.1
-
-pub parts : (a f b : List ℕ) → a ≡ f ++ b → AllBytes a → AllBytes f × AllBytes b
-parts a f b e h = let g = subst AllBytes e h in (front_all f b g, back_all f b g)
 
 pub number_once : IsSpelledOnce (Shortest Spells)
 number_once a b n i j p q = shortest_one a b n i j p q
 
 pub then_once : {V W : Type 0} (G : List ℕ → V → Type 0) (H : V → List ℕ → W → Type 0) → IsSpelledOnce G → ((v : V) → IsSpelledOnce (H v)) → IsSpelledOnce (Then G H)
 then_once G H g h a b v i j p q =
-    let x = parts a p.front p.back p.joined i in let y = parts b q.front q.back q.joined j in
+    let x = two-parts a p.front p.back p.joined i in let y = two-parts b q.front q.back q.joined j in
     let first = g p.front q.front v.0 x.0 y.0 p.first q.first in
     let second = h v.0 p.back q.back v.1 x.1 y.1 p.second q.second in
     p.joined ∙ (λ k. first k ++ second k) ∙ sym q.joined
@@ -36,7 +28,7 @@ pair_once {V} G H g h = then_once G (λ (v : V). H) g (λ v. h)
 pub each_once : {V : Type 0} (G : List ℕ → V → Type 0) → IsSpelledOnce G → IsSpelledOnce (Each G)
 each_once G g a b [] i j p q = p ∙ sym q
 each_once G g a b (v ∷ vs) i j p q =
-    let x = parts a p.0 p.1 p.2 i in let y = parts b q.0 q.1 q.2 j in
+    let x = two-parts a p.0 p.1 p.2 i in let y = two-parts b q.0 q.1 q.2 j in
     let one = g p.0 q.0 v x.0 y.0 p.3 q.3 in
     let rest = each_once G g p.1 q.1 vs x.1 y.1 p.4 q.4 in
     p.2 ∙ (λ k. one k ++ rest k) ∙ sym q.2
@@ -45,11 +37,6 @@ pub many_once : {V : Type 0} (G : List ℕ → V → Type 0) (n : ℕ) → IsSpe
 many_once G n g a b vs i j p q = each_once G g a b vs i j p.1 q.1
 
 -- ---- lists, element by element
-
-pub some_there : {A : Type 0} (xs : List A) (k : ℕ) → k < length xs → (x : A) × (slice_get xs k ≡ Some x)
-some_there [] k lt = absurd (omega arith)
-some_there (x ∷ xs) zero lt = (x, refl)
-some_there (x ∷ xs) (suc k) lt = some_there xs k (omega arith)
 
 pub mapped_same : {A B C : Type 0} (f : A → C) (g : B → C) (xs : List A) (ys : List B) → length xs ≡ length ys
     → ((k : ℕ) (x : A) (y : B) → slice_get xs k ≡ Some x → slice_get ys k ≡ Some y → f x ≡ g y) → map f xs ≡ map g ys
@@ -61,7 +48,7 @@ mapped_same f g (x ∷ xs) (y ∷ ys) n h =
     let rest = mapped_same f g xs ys (omega arith) (λ k u w. h (suc k) u w) in
     (λ k. here k ∷ rest k)
 
--- pairs are their parts
+-- pairs are their two-parts
 pub pairs_same : {A B : Type 0} (xs ys : List (A × B)) → map (λ (p : A × B). p.0) xs ≡ map (λ (p : A × B). p.0) ys → map (λ (p : A × B). p.1) xs ≡ map (λ (p : A × B). p.1) ys → xs ≡ ys
 pairs_same [] [] e f = refl
 pairs_same [] (y ∷ ys) e f = absurd cc

@@ -10,8 +10,8 @@ use Rattle.file_shared.specs.Once.{Entry}
 use Rattle.file_shared.specs.Sharing.{Sharing, UsesItem}
 use Rattle.file_shared.proofs.SharingLaws.{sharing_more, sharing_bound}
 use Rattle.file_sections.specs.Placing.{items_with}
-use Rattle.file_sections.proofs.Steps.{map_more}
 use Rattle.file_sections.proofs.RoomLaws.{map_drop}
+use Rattle.base_bytes.proofs.ListFacts.{map_more}
 
 Tiles_few : {V : Type 0} {G : List ℕ → V → Type 0} {align : ℕ} {b : List ℕ} {at end : ℕ} {items : List (ℕ × V)} → Tiles G align b at end items → at + length items ≤ end
 Tiles_few Done = omega arith

@@ -16,30 +16,28 @@ use Rattle.tables_names.specs.Rank.{IsAt}
 use Rattle.tables_rows.proofs.HalvesLaws.{length-halves_bytes}
 use Rattle.file_layout.specs.Tiles.{gap}
 use Rattle.file_layout.specs.Sections.{is_empty_list}
-use Rattle.file_layout.proofs.SectionLaws.{Zip-length, not_none}
+use Rattle.file_layout.proofs.SectionLaws.{not_none}
 use Rattle.file_shared.specs.Once.{Entry, PutsOnce}
 use Rattle.file_shared.specs.Sharing.{UsesItem}
 use Rattle.tables_names.specs.Indices.{AreIndices}
 use Rattle.program_types.specs.Key.{Key}
 use Rattle.tables_rows.proofs.HalvesLaws.{indexes_unique}
-use Rattle.file_layout.proofs.TileLaws.{Zip-push}
 use Rattle.file_sections.specs.Lists.{AddsIndices}
 use Rattle.file_sections.specs.Lists.{SpellsRanks}
 use Rattle.file_limits.specs.Wide.{wide_list}
-use Rattle.file_sections.proofs.Steps.{map_more}
+use Rattle.code_put.proofs.RankLaws.{keys-one}
+use Rattle.code_put.proofs.HandlerPacks.{alone}
+use Rattle.code_put.proofs.DistinctLaws.{all-more}
+use Rattle.base_bytes.proofs.ListFacts.{zip_length, zip_more, map_more}
 
 pub indices_none : (s : Five) (old : List ℕ) → AddsIndices s old old []
 unfolding halves_bytes
 indices_none s old = record { indexes = []; whole = sym (append-nil old); small = tt; named = tt }
 
-halves_push : (xs : List ℕ) (x : ℕ) → halves_bytes (xs ++ x ∷ []) ≡ halves_bytes xs ++ u16_bytes x
+pub halves_push : (xs : List ℕ) (x : ℕ) → halves_bytes (xs ++ x ∷ []) ≡ halves_bytes xs ++ u16_bytes x
 unfolding halves_bytes
 halves_push [] x = append-nil (u16_bytes x)
 halves_push (y ∷ xs) x = ap (λ l. u16_bytes y ++ l) (halves_push xs x) ∙ sym (append_assoc (u16_bytes y) (halves_bytes xs) (u16_bytes x))
-
-pub all_push : {V : Type 0} (P : V → Type 0) (xs : List V) (x : V) → AllByRecursion P xs → P x → AllByRecursion P (xs ++ x ∷ [])
-all_push P [] x h p = (p, tt)
-all_push P (y ∷ xs) x h p = (h.0, all_push P xs x h.1 p)
 
 pub indices_more : (s : Five) (old mid new bytes : List ℕ) (k : ℕ) (xs : List Desc) (i : ℕ) (d : Desc) → i < length xs → AddsIndices s old mid (map view.desc (take i xs)) → new ≡ mid ++ bytes → bytes ≡ u16_bytes k → k < 2 ^ 16 → IsAt s.types k (text_key (view.desc (get_or xs i d))) → AddsIndices s old new (map view.desc (take (i + 1) xs))
 indices_more s old mid new bytes k xs i d lt a n b small at =
@@ -47,13 +45,13 @@ indices_more s old mid new bytes k xs i d lt a n b small at =
     (record {
       indexes = a.indexes ++ k ∷ [];
       whole = n ∙ ap (λ (l : List ℕ). l ++ bytes) a.whole ∙ append_assoc old (halves_bytes a.indexes) bytes ∙ ap (λ (l : List ℕ). old ++ l) (ap (λ (l : List ℕ). halves_bytes a.indexes ++ l) b ∙ sym (halves_push a.indexes k));
-      small = all_push (λ (j : ℕ). j < 2 ^ 16) a.indexes k a.small small;
-      named = Zip-push (λ (j : ℕ) (t : Units). IsAt s.types j (text_key t)) a.indexes (map view.desc (take i xs)) k (view.desc (get_or xs i d)) a.named at;
+      small = all-more (λ (j : ℕ). j < 2 ^ 16) a.indexes k a.small small;
+      named = zip_more (λ (j : ℕ) (t : Units). IsAt s.types j (text_key t)) a.indexes (map view.desc (take i xs)) k (view.desc (get_or xs i d)) a.named at;
     })
 
 pub list_appends : (s : Five) (old mid new bytes : List ℕ) (xs : List Desc) → length xs < 2 ^ 32 → mid ≡ old ++ bytes → bytes ≡ u32_bytes (length xs) → AddsIndices s mid new (map view.desc xs) → Appends (SpellsRanks s) old new (map view.desc xs)
 list_appends s old mid new bytes xs few m b a =
-    let n : length a.indexes ≡ length xs = Zip-length (λ (j : ℕ) (t : Units). IsAt s.types j (text_key t)) a.indexes (map view.desc xs) a.named ∙ length-map xs view.desc in
+    let n : length a.indexes ≡ length xs = zip_length (λ (j : ℕ) (t : Units). IsAt s.types j (text_key t)) a.indexes (map view.desc xs) a.named ∙ length-map xs view.desc in
     record {
       bytes = bytes ++ halves_bytes a.indexes;
       joined = a.whole ∙ ap (λ (l : List ℕ). l ++ halves_bytes a.indexes) m ∙ append_assoc old bytes (halves_bytes a.indexes);
@@ -66,7 +64,7 @@ list_appends s old mid new bytes xs few m b a =
 
 pub list_length : (s : Five) (bytes : List ℕ) (ts : List Descriptor) → SpellsRanks s bytes ts → length bytes ≡ 4 + 2 * length ts
 list_length s bytes ts p =
-    let n = Zip-length (λ (j : ℕ) (t : Units). IsAt s.types j (text_key t)) p.indexes ts p.named in
+    let n = zip_length (λ (j : ℕ) (t : Units). IsAt s.types j (text_key t)) p.indexes ts p.named in
     let e = ap length p.spelled.spelled ∙ length-append (u32_bytes (length p.indexes)) (halves_bytes p.indexes) in
     let f = length-u32_bytes (length p.indexes) in
     let h = length-halves_bytes p.indexes in
@@ -83,10 +81,6 @@ pub list_room : (xs : List Desc) → 0 < length xs → wide_list (map view.desc 
 list_room xs some = let n = length-map xs view.desc in let w = wide_some (map view.desc xs) (omega (arith, n, some)) in omega (arith, n, w)
 
 -- ---- a list that is written once
-
--- what is appended to nothing is all of it
-pub all_of_it : {V : Type 0} (G : List ℕ → V → Type 0) (old new : List ℕ) (v : V) → old ≡ [] → Appends G old new v → G new v
-all_of_it {V} G old new v e a = subst (λ (l : List ℕ). G l v) (sym (a.joined ∙ ap (λ (l : List ℕ). l ++ a.bytes) e)) a.spelled
 
 pub list_some : (s : Five) (bytes : List ℕ) (ts : List Descriptor) → SpellsRanks s bytes ts → 0 < length bytes
 list_some s bytes ts p = let l = list_length s bytes ts p in omega (arith, l)
@@ -110,9 +104,6 @@ list_most s (t ∷ ts) e bytes at p =
 text_one : (t u : Units) → text_key t ≡ text_key u → t ≡ u
 text_one t u e = cc e
 
-key_one : (ks : List Key) (i : ℕ) (k l : Key) → IsAt ks i k → IsAt ks i l → k ≡ l
-key_one ks i k l p q = cc
-
 pub named_one : (s : Five) (is : List ℕ) (ts us : List Units) → AreIndices s.types is ts → AreIndices s.types is us → ts ≡ us
 named_one s [] [] [] p q = refl
 named_one s [] [] (u ∷ us) p q = absurd q
@@ -120,7 +111,7 @@ named_one s [] (t ∷ ts) us p q = absurd p
 named_one s (i ∷ is) [] us p q = absurd p
 named_one s (i ∷ is) (t ∷ ts) [] p q = absurd q
 named_one s (i ∷ is) (t ∷ ts) (u ∷ us) p q =
-    let a = text_one t u (key_one s.types i (text_key t) (text_key u) p.0 q.0) in
+    let a = text_one t u (keys-one s.types i (text_key t) (text_key u) p.0 q.0) in
     let b = named_one s is ts us p.1 q.1 in
     λ j. a j ∷ b j
 

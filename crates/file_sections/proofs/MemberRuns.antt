@@ -11,7 +11,7 @@ use Rattle.std.specs.declared.cmp.Ordering.{Ordering}
 use Rattle.base_bytes.proofs.GrammarLaws.{Each-push}
 use Rattle.base_bytes.specs.Grammar.{Appends}
 use Rattle.base_bytes.specs.Leb128.{Spells, Shortest}
-use Rattle.file_classes.specs.ClassData.{FieldEntry, MethodEntry, SpellsField, SpellsMethod}
+use Rattle.file_classes.specs.ClassData.{FieldEntry, MethodEntry, SpellsFieldEntry, SpellsMethodEntry}
 use Rattle.tables_names.proofs.RowLemmas.{keys_compare_as_places}
 use Rattle.tables_names.specs.Closure.{Five, NameRanks, method_of_class}
 use Rattle.tables_names.specs.Rank.{Rising, IsAt}
@@ -23,9 +23,11 @@ use Rattle.program_types.specs.declared.class.Member as made
 use Rattle.program_types.specs.declared.class.Method as made_method
 use Rattle.program_rules.specs.Rules.{KeysRise, member_key, method_key}
 use Rattle.file_sections.proofs.RunLaws.{total, total_push, no_run, run_push}
-use Rattle.file_sections.proofs.Steps.{map_more}
 use Rattle.file_sections.specs.Data.{FieldRanks, MethodRanks}
 use Rattle.file_sections.specs.Growing.{AddsFields, AddsMethods}
+use Rattle.program_rules.proofs.MemberLaws.{key-at}
+use Rattle.tables_names.proofs.IndexLemmas.{less_than}
+use Rattle.base_bytes.proofs.ListFacts.{map_more}
 
 abbrev some_or : {V : Type 0} → V → Option V → V
 some_or d None = d
@@ -37,27 +39,10 @@ units_same : (us : List ℕ) → slice_cmp nat_cmp us us ≡ Equal
 units_same [] = refl
 units_same (u ∷ us) = ap (λ (o : Ordering). ordering_then o (slice_cmp nat_cmp us us)) (sym (nat_cmp_is u u Equal refl)) ∙ units_same us
 
-less_than : (i j : ℕ) → nat_cmp i j ≡ Less → i < j
-less_than i j less =
-    ⊎_elim
-    (λ (lt : i < j). lt)
-    (λ (ge : j ≤ i).
-    ⊎_elim
-    (λ (gt : j < i). let e : Less ≡ Greater = sym less ∙ sym (nat_cmp_is i j Greater gt) in cc)
-    (λ (le : i ≤ j). let same : i ≡ j = omega arith in let e : Less ≡ Equal = sym less ∙ sym (nat_cmp_is i j Equal same) in cc)
-    (cases_lt j i))
-    (cases_lt i j)
-
 -- of one class the lesser key has the lower rank
 pub rank_rises : (table : List Key) (class : Units) (i j : ℕ) (k l : Key) → Rising table → IsAt table i (class ∷ k) → IsAt table j (class ∷ l) → key_cmp k l ≡ Less → i < j
 rank_rises table class i j k l up at_i at_j less =
     less_than i j (sym (keys_compare_as_places table i j (class ∷ k) (class ∷ l) up at_i at_j) ∙ ap (λ (o : Ordering). ordering_then o (key_cmp k l)) (units_same class) ∙ less)
-
--- the key at k of a list that is mapped twice
-key_at : {A V : Type 0} (key : V → Key) (g : A → V) (xs : List A) (k : ℕ) (d : A) → k < length xs → get_or (map key (map g xs)) k [] ≡ key (g (get_or xs k d))
-key_at key g [] k d lt = absurd (omega (arith, lt))
-key_at key g (x ∷ xs) zero d lt = refl
-key_at key g (x ∷ xs) (suc k) d lt = key_at key g xs k d (omega (arith, lt))
 
 -- the key at k is below the next
 next_above : {A V : Type 0} (key : V → Key) (g : A → V) (xs : List A) (k : ℕ) (d : A) → suc k < length xs → KeysRise (map key (map g xs)) → key_cmp (key (g (get_or xs k d))) (key (g (get_or xs (suc k) d))) ≡ Less
@@ -66,8 +51,8 @@ next_above key g xs k d lt rise =
     let m = length-map (map g xs) key in
     let s : k + 1 ≡ suc k = omega arith in
     let r = rise k (omega (arith, n, m, lt)) in
-    sym (ap (λ (x : Key). key_cmp x (key (g (get_or xs (suc k) d)))) (key_at key g xs k d (omega (arith, lt))) ∙ ap (key_cmp (key (g (get_or xs k d)))) refl)
-    ∙ sym (ap (key_cmp (get_or (map key (map g xs)) k [])) (ap (λ (j : ℕ). get_or (map key (map g xs)) j []) s ∙ key_at key g xs (suc k) d lt)) ∙ r
+    sym (ap (λ (x : Key). key_cmp x (key (g (get_or xs (suc k) d)))) (key-at key g xs k d (omega (arith, lt))) ∙ ap (key_cmp (key (g (get_or xs k d)))) refl)
+    ∙ sym (ap (key_cmp (get_or (map key (map g xs)) k [])) (ap (λ (j : ℕ). get_or (map key (map g xs)) j []) s ∙ key-at key g xs (suc k) d lt)) ∙ r
 
 -- ---- fields
 
@@ -75,13 +60,13 @@ next_above key g xs k d lt rise =
 pub record FieldsTo (s : Five) (class : Descriptor) (old new : List ℕ) (ms : List Member) (last : ℕ) : Type 0 where
   pub adds : AddsFields (NameRanks s) class old new ms
   pub sum : last ≡ total adds.entries
-  pub behind : (j : ℕ) (m : Member) → length ms ≡ j + 1 → slice_get ms j ≡ Some m → NameRanks s last (field_of_class class m)
+  pub after : (j : ℕ) (m : Member) → length ms ≡ j + 1 → slice_get ms j ≡ Some m → NameRanks s last (field_of_class class m)
 
 pub fields_start : (s : Five) (class : Descriptor) (old : List ℕ) → FieldsTo s class old old [] 0
 fields_start s class old = record {
   adds = record { bytes = []; entries = []; whole = sym (append-nil old); spelled = refl; run = no_run (FieldRanks (NameRanks s) class) };
   sum = refl;
-  behind = λ j m n at. absurd (omega (arith, n));
+  after = λ j m n at. absurd (omega (arith, n));
 }
 
 no_total : (s : Five) (class : Descriptor) (old new : List ℕ) (last : ℕ) → FieldsTo s class old new [] last → last ≡ 0
@@ -96,7 +81,7 @@ taken_field [] k d h = absurd (omega (arith, h))
 taken_field (y ∷ ys) zero d h = refl
 taken_field (y ∷ ys) (suc k) d h = taken_field ys k d (omega (arith, h))
 
--- the field at i comes behind those before it
+-- the field at i comes after those before it
 pub field_step : (s : Five) (class : Descriptor) (old new : List ℕ) (xs : List made.Member) (i : ℕ) (d : made.Member) (last index : ℕ) → Rising s.fields → i < length xs → KeysRise (map member_key (map view.member xs))
     → FieldsTo s class old new (map view.member (take i xs)) last → NameRanks s index (field_of_class class (view.member (get_or xs i d))) → (0 < i → last < index) × (last ≤ index)
 field_step s class old new xs zero d last index up lt rise f at =
@@ -104,7 +89,7 @@ field_step s class old new xs zero d last index up lt rise f at =
     (λ h. absurd (omega (arith, h)), omega (arith, e))
 field_step s class old new xs (suc i) d last index up lt rise f at =
     let n : length (map view.member (take (suc i) xs)) ≡ i + 1 = let a = length-map (take (suc i) xs) view.member in let b = length-take (suc i) xs in omega (arith, a, b, lt) in
-    let b = f.behind i (view.member (get_or xs i d)) n (taken_field xs i d lt) in
+    let b = f.after i (view.member (get_or xs i d)) n (taken_field xs i d lt) in
     let r = rank_rises s.fields class last index _ _ up b at (next_above member_key view.member xs i d lt rise) in
     (λ h. r, omega (arith, r))
 
@@ -116,7 +101,7 @@ last_field (x ∷ vs) v (suc j) w n e = last_field vs v j w (omega (arith, n)) e
 
 pub fields_more : (s : Five) (class : Descriptor) (old mid new : List ℕ) (xs : List made.Member) (i : ℕ) (d : made.Member) (last index : ℕ) → Rising s.fields → i < length xs → KeysRise (map member_key (map view.member xs))
     → FieldsTo s class old mid (map view.member (take i xs)) last → NameRanks s index (field_of_class class (view.member (get_or xs i d)))
-    → Appends (SpellsField (Shortest Spells)) mid new (index - last, (view.member (get_or xs i d)).flags) → FieldsTo s class old new (map view.member (take (i + 1) xs)) index
+    → Appends (SpellsFieldEntry (Shortest Spells)) mid new (index - last, (view.member (get_or xs i d)).flags) → FieldsTo s class old new (map view.member (take (i + 1) xs)) index
 fields_more s class old mid new xs i d last index up lt rise f at a =
     let p = field_step s class old mid xs i d last index up lt rise f at in
     let m = view.member (get_or xs i d) in
@@ -130,11 +115,11 @@ fields_more s class old mid new xs i d last index up lt rise f at a =
         bytes = f.adds.bytes ++ a.bytes;
         entries = f.adds.entries ++ (index - last, m.flags) ∷ [];
         whole = a.joined ∙ ap (λ (l : List ℕ). l ++ a.bytes) f.adds.whole ∙ append_assoc old f.adds.bytes a.bytes;
-        spelled = Each-push (SpellsField (Shortest Spells)) f.adds.bytes a.bytes f.adds.entries (index - last, m.flags) f.adds.spelled a.spelled;
+        spelled = Each-push (SpellsFieldEntry (Shortest Spells)) f.adds.bytes a.bytes f.adds.entries (index - last, m.flags) f.adds.spelled a.spelled;
         run = run_push (FieldRanks (NameRanks s) class) f.adds.entries (map view.member (take i xs)) (index - last, m.flags) m index f.adds.run (omega (arith, sum, low)) (record { field = at; flags = refl }) (λ h. let q = p.0 (omega (arith, h, n)) in omega (arith, q));
       };
       sum = omega (arith, t, sum, low);
-      behind = λ j v count there. subst (λ (w : Member). NameRanks s index (field_of_class class w)) (last_field (map view.member (take i xs)) m j v count there) at;
+      after = λ j v count there. subst (λ (w : Member). NameRanks s index (field_of_class class w)) (last_field (map view.member (take i xs)) m j v count there) at;
     })
 
 -- ---- methods
@@ -143,13 +128,13 @@ fields_more s class old mid new xs i d last index up lt rise f at a =
 pub record MethodsTo (s : Five) (class : Descriptor) (codes old new : List ℕ) (ms : List Method) (last : ℕ) : Type 0 where
   pub adds : AddsMethods (NameRanks s) class codes old new ms
   pub sum : last ≡ total adds.entries
-  pub behind : (j : ℕ) (m : Method) → length ms ≡ j + 1 → slice_get ms j ≡ Some m → NameRanks s last (method_of_class class m)
+  pub after : (j : ℕ) (m : Method) → length ms ≡ j + 1 → slice_get ms j ≡ Some m → NameRanks s last (method_of_class class m)
 
 pub methods_start : (s : Five) (class : Descriptor) (old : List ℕ) → MethodsTo s class [] old old [] 0
 methods_start s class old = record {
   adds = record { bytes = []; entries = []; whole = sym (append-nil old); spelled = refl; run = no_run (MethodRanks (NameRanks s) class); places = refl };
   sum = refl;
-  behind = λ j m n at. absurd (omega (arith, n));
+  after = λ j m n at. absurd (omega (arith, n));
 }
 
 no_method_total : (s : Five) (class : Descriptor) (codes old new : List ℕ) (last : ℕ) → MethodsTo s class codes old new [] last → last ≡ 0
@@ -164,7 +149,7 @@ taken_method [] k d h = absurd (omega (arith, h))
 taken_method (y ∷ ys) zero d h = refl
 taken_method (y ∷ ys) (suc k) d h = taken_method ys k d (omega (arith, h))
 
--- the method at i comes behind those before it
+-- the method at i comes after those before it
 pub method_step : (s : Five) (class : Descriptor) (codes old new : List ℕ) (xs : List made_method.Method) (i : ℕ) (d : made_method.Method) (last index : ℕ) → Rising s.methods → i < length xs → KeysRise (map method_key (map view.method xs))
     → MethodsTo s class codes old new (map view.method (take i xs)) last → NameRanks s index (method_of_class class (view.method (get_or xs i d))) → (0 < i → last < index) × (last ≤ index)
 method_step s class codes old new xs zero d last index up lt rise f at =
@@ -172,7 +157,7 @@ method_step s class codes old new xs zero d last index up lt rise f at =
     (λ h. absurd (omega (arith, h)), omega (arith, e))
 method_step s class codes old new xs (suc i) d last index up lt rise f at =
     let n : length (map view.method (take (suc i) xs)) ≡ i + 1 = let a = length-map (take (suc i) xs) view.method in let b = length-take (suc i) xs in omega (arith, a, b, lt) in
-    let b = f.behind i (view.method (get_or xs i d)) n (taken_method xs i d lt) in
+    let b = f.after i (view.method (get_or xs i d)) n (taken_method xs i d lt) in
     let r = rank_rises s.methods class last index _ _ up b at (next_above method_key view.method xs i d lt rise) in
     (λ h. r, omega (arith, r))
 
@@ -184,7 +169,7 @@ last_method (x ∷ vs) v (suc j) w n e = last_method vs v j w (omega (arith, n))
 
 pub methods_more : (s : Five) (class : Descriptor) (codes old mid new : List ℕ) (xs : List made_method.Method) (i : ℕ) (d : made_method.Method) (last index code : ℕ) → Rising s.methods → i < length xs → KeysRise (map method_key (map view.method xs))
     → MethodsTo s class codes old mid (map view.method (take i xs)) last → NameRanks s index (method_of_class class (view.method (get_or xs i d)))
-    → Appends (SpellsMethod (Shortest Spells)) mid new (index - last, ((view.method (get_or xs i d)).flags, code)) → MethodsTo s class (codes ++ code ∷ []) old new (map view.method (take (i + 1) xs)) index
+    → Appends (SpellsMethodEntry (Shortest Spells)) mid new (index - last, ((view.method (get_or xs i d)).flags, code)) → MethodsTo s class (codes ++ code ∷ []) old new (map view.method (take (i + 1) xs)) index
 methods_more s class codes old mid new xs i d last index code up lt rise f at a =
     let p = method_step s class codes old mid xs i d last index up lt rise f at in
     let m = view.method (get_or xs i d) in
@@ -198,10 +183,10 @@ methods_more s class codes old mid new xs i d last index code up lt rise f at a 
         bytes = f.adds.bytes ++ a.bytes;
         entries = f.adds.entries ++ (index - last, (m.flags, code)) ∷ [];
         whole = a.joined ∙ ap (λ (l : List ℕ). l ++ a.bytes) f.adds.whole ∙ append_assoc old f.adds.bytes a.bytes;
-        spelled = Each-push (SpellsMethod (Shortest Spells)) f.adds.bytes a.bytes f.adds.entries (index - last, (m.flags, code)) f.adds.spelled a.spelled;
+        spelled = Each-push (SpellsMethodEntry (Shortest Spells)) f.adds.bytes a.bytes f.adds.entries (index - last, (m.flags, code)) f.adds.spelled a.spelled;
         run = run_push (MethodRanks (NameRanks s) class) f.adds.entries (map view.method (take i xs)) (index - last, (m.flags, code)) m index f.adds.run (omega (arith, sum, low)) (record { method = at; flags = refl }) (λ h. let q = p.0 (omega (arith, h, n)) in omega (arith, q));
         places = map-append (λ (e : MethodEntry). e.1.1) f.adds.entries ((index - last, (m.flags, code)) ∷ []) ∙ ap (λ (l : List ℕ). l ++ code ∷ []) f.adds.places;
       };
       sum = omega (arith, t, sum, low);
-      behind = λ j v count there. subst (λ (w : Method). NameRanks s index (method_of_class class w)) (last_method (map view.method (take i xs)) m j v count there) at;
+      after = λ j v count there. subst (λ (w : Method). NameRanks s index (method_of_class class w)) (last_method (map view.method (take i xs)) m j v count there) at;
     })

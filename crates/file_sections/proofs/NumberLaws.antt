@@ -3,7 +3,7 @@ use Rattle.std.proofs.Common.{◌≡◌, ℕ, zero, suc, ◌+◌, ◌-◌, ◌<�
 use Rattle.std.proofs.lemmas.List.{length-map, get_or-append_right, get_or_append_left}
 use Rattle.std.specs.List.{AllByRecursion, slice_get}
 use Rattle.file_limits.specs.Wide.{params_of, list_values}
-use Rattle.tables_names.specs.Closure.{Five, IsClosed}
+use Rattle.tables_names.specs.Closure.{Five, IsClosed, NameRanks}
 use Rattle.tables_names.specs.Indices.{HasPlace, AreIndices}
 use Rattle.tables_names.specs.Keys.{key_of_proto}
 use Rattle.tables_names.specs.Needed.{needed}
@@ -11,15 +11,15 @@ use Rattle.tables_names.specs.Rank.{IsAt}
 use Rattle.tables_names.proofs.IndexLemmas.{closed_have_rows, mentions_have_indices}
 use Rattle.tables_names.proofs.NeededLemmas.{needed_is_least}
 use Rattle.file_needed.proofs.ClassNames.{interfaces_named}
-use Rattle.file_needed.proofs.Steps.{flat_kept}
+use Rattle.file_needed.proofs.Steps.{flat_kept, right, left}
 use Rattle.program_types.specs.Content.{Descriptor, Name, OfDesc, Class, Program, Units}
 use Rattle.program_types.specs.Key.{Key, text_key, proto_key}
 use Rattle.program_types.specs.Mentions.{mentions, names_of_class}
 use Rattle.program_types.specs.View as view
 use Rattle.program_types.specs.declared.class.Class as made
 use Rattle.program_types.specs.declared.names.Proto.{Proto}
+use Rattle.program_types.specs.Kinds.{HasIndex}
 use Rattle.file_sections.proofs.Steps.{mapped_at}
-use Rattle.file_sections.specs.Named.{HasName}
 
 placed_all : (s : Five) (ts : List Units) (row : List ℕ) → AreIndices s.types row ts → AllByRecursion (λ t. HasPlace s.types (text_key t)) ts
 placed_all s [] row a = tt
@@ -33,21 +33,13 @@ params_held s p qs k d e m lt =
     let row = (closed_have_rows s closed).protos k (view.proto (get_or qs k d)) at in
     (placed_all s (proto_key (view.proto (get_or qs k d))) row.0 row.1).1
 
-pub kept_left : (P : Name → Type 0) (xs ys : List Name) → AllByRecursion P (xs ++ ys) → AllByRecursion P xs
-kept_left P [] ys h = tt
-kept_left P (x ∷ xs) ys h = (h.0, kept_left P xs ys h.1)
-
-pub kept_right : (P : Name → Type 0) (xs ys : List Name) → AllByRecursion P (xs ++ ys) → AllByRecursion P ys
-kept_right P [] ys h = h
-kept_right P (x ∷ xs) ys h = kept_right P xs ys h.1
-
 -- what a class mentions has an index
-pub class_named : (s : Five) (p : Program) (cs : List made.Class) (k : ℕ) (d : made.Class) → s ≡ needed p → p ≡ map view.class cs → k < length cs → AllByRecursion (HasName s) (names_of_class (view.class (get_or cs k d)))
+pub class_named : (s : Five) (p : Program) (cs : List made.Class) (k : ℕ) (d : made.Class) → s ≡ needed p → p ≡ map view.class cs → k < length cs → AllByRecursion (HasIndex (NameRanks s)) (names_of_class (view.class (get_or cs k d)))
 class_named s p cs k d e m lt =
-    subst (λ (x : Five). AllByRecursion (HasName x) (names_of_class (view.class (get_or cs k d)))) (sym e)
-    (flat_kept (HasName (needed p)) names_of_class view.class cs k d lt (subst (λ (x : Program). AllByRecursion (HasName (needed p)) (mentions x)) m (mentions_have_indices p)))
+    subst (λ (x : Five). AllByRecursion (HasIndex (NameRanks x)) (names_of_class (view.class (get_or cs k d)))) (sym e)
+    (flat_kept (HasIndex (NameRanks (needed p))) names_of_class view.class cs k d lt (subst (λ (x : Program). AllByRecursion (HasIndex (NameRanks (needed p))) (mentions x)) m (mentions_have_indices p)))
 
-types_placed : (s : Five) (ts : List Descriptor) → AllByRecursion (HasName s) (map OfDesc ts) → AllByRecursion (λ t. HasPlace s.types (text_key t)) ts
+types_placed : (s : Five) (ts : List Descriptor) → AllByRecursion (HasIndex (NameRanks s)) (map OfDesc ts) → AllByRecursion (λ t. HasPlace s.types (text_key t)) ts
 types_placed s [] h = tt
 types_placed s (t ∷ ts) h = (h.0, types_placed s ts h.1)
 
@@ -81,7 +73,7 @@ list_second s qs cs k d m le lt =
     get_or-append_right (map params_of s.protos) (map (λ (c : Class). c.interfaces) (map view.class cs)) (length qs) k [] n le ∙ interfaces_at cs (k - length qs) d (omega (arith, le, lt))
 
 pub interfaces_held : (s : Five) (p : Program) (cs : List made.Class) (k : ℕ) (d : made.Class) → s ≡ needed p → p ≡ map view.class cs → k < length cs → AllByRecursion (λ t. HasPlace s.types (text_key t)) (map view.desc (get_or cs k d).interfaces.now)
-interfaces_held s p cs k d e m lt = types_placed s _ (interfaces_named (HasName s) (view.class (get_or cs k d)) (class_named s p cs k d e m lt))
+interfaces_held s p cs k d e m lt = types_placed s _ (interfaces_named (HasIndex (NameRanks s)) (view.class (get_or cs k d)) (class_named s p cs k d e m lt))
 
 abbrev pub no_proto : Proto
 no_proto = record { ret = record { text = record { units = record { ref_ptr = (0, 0); now = [] } } }; params = record { ref_ptr = (0, 0); now = [] } }

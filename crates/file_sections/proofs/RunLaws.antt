@@ -5,10 +5,10 @@ use Rattle.std.specs.List.{slice_get}
 use Rattle.std.proofs.lemmas.List.{take_all, take-append-le, map-append, length-map, get_or-append_right, get_or_append_left}
 use Rattle.std.proofs.lemmas.Option.{slice_get_within}
 use Rattle.std.proofs.lemmas.List.Sums.{sum_by-append}
-use Rattle.file_classes.specs.ClassData.{steps, index_of, IsRun}
-use Rattle.file_limits.proofs.BodyLaws.{get_split}
+use Rattle.file_classes.specs.ClassData.{steps, index_of, EntriesAre}
+use Rattle.base_bytes.proofs.ListFacts.{slice_split}
 
--- the index behind all entries
+-- the index after all entries
 abbrev pub total : {R : Type 0} → List (ℕ × R) → ℕ
 total es = sum (steps es)
 
@@ -45,7 +45,7 @@ step_last es e =
     let z : length es - length es ≡ 0 = omega arith in
     ap (λ (ds : List ℕ). get_or ds (length es) 0) (steps_push es e) ∙ get_or-append_right (steps es) (e.0 ∷ []) (length es) (length es) 0 n (omega arith) ∙ ap (λ (k : ℕ). get_or (e.0 ∷ []) k 0) z
 
-pub no_run : {R V : Type 0} (M : ℕ → ℕ × R → V → Type 0) → IsRun M [] []
+pub no_run : {R V : Type 0} (M : ℕ → ℕ × R → V → Type 0) → EntriesAre M [] []
 no_run M = record { count = refl; each = λ k e v at to. absurd (cc at); rises = λ k some lt. absurd (omega (arith, lt)) }
 
 within : {A : Type 0} (xs : List A) (k : ℕ) (x : A) → slice_get xs k ≡ Some x → k < length xs
@@ -58,19 +58,19 @@ split (suc k) zero h = absurd (omega (arith, h))
 split (suc k) (suc n) h = elim (split k n (omega (arith, h))) [ inl x ↦ inl (omega (arith, x)) | inr x ↦ inr (ap suc x) ]
 
 -- one more entry
-pub run_push : {R V : Type 0} (M : ℕ → ℕ × R → V → Type 0) (es : List (ℕ × R)) (vs : List V) (e : ℕ × R) (v : V) (i : ℕ) → IsRun M es vs → i ≡ total es + e.0 → M i e v → (0 < length vs → 0 < e.0) → IsRun M (es ++ e ∷ []) (vs ++ v ∷ [])
+pub run_push : {R V : Type 0} (M : ℕ → ℕ × R → V → Type 0) (es : List (ℕ × R)) (vs : List V) (e : ℕ × R) (v : V) (i : ℕ) → EntriesAre M es vs → i ≡ total es + e.0 → M i e v → (0 < length vs → 0 < e.0) → EntriesAre M (es ++ e ∷ []) (vs ++ v ∷ [])
 run_push {R} {V} M es vs e v i run is m some =
     let c = run.count in
     let le = length-append es (e ∷ []) in
     let lv = length-append vs (v ∷ []) in
     record {
       count = omega (arith, c, le, lv);
-      each = λ k x w at to. elim (get_split es e x k at) [
-        | inl before ↦ elim (get_split vs v w k to) [
+      each = λ k x w at to. elim (slice_split es e x k at) [
+        | inl before ↦ elim (slice_split vs v w k to) [
           | inl same ↦ (let lt = within es k x before in subst (λ (j : ℕ). M j x w) (sym (index_before es e k lt)) (run.each k x w before same))
           | inr last ↦ (let lt = within es k x before in let f = last.0 in absurd (omega (arith, lt, f, c)))
         ]
-        | inr last ↦ elim (get_split vs v w k to) [
+        | inr last ↦ elim (slice_split vs v w k to) [
           | inl same ↦ (let lt = within vs k w same in let f = last.0 in absurd (omega (arith, lt, f, c)))
           | inr end ↦ subst (λ (j : ℕ). M j x w) (is ∙ sym (index_last es e) ∙ ap (index_of (steps (es ++ e ∷ []))) (sym last.0)) (subst (λ (y : ℕ × R). M i y w) last.1 (subst (λ (y : V). M i e y) end.1 m))
         ]

@@ -7,17 +7,17 @@ use Rattle.file_limits.specs.Wide.{bodies_in, bodies_of, body_values, wide_data}
 use Rattle.program_types.specs.Content.{Class, Program}
 use Rattle.program_types.specs.View as view
 use Rattle.program_types.specs.declared.class.Class as made
-use Rattle.file_sections.specs.Data.{Sited, method_count, sited, wide_sited}
+use Rattle.file_sections.specs.Data.{ClassWithCodes, method_count, with_code_places, wide_with_codes}
 
-pub length-sited : (p : Program) (codes : List ℕ) → length (sited p codes) ≡ length p
+pub length-sited : (p : Program) (codes : List ℕ) → length (with_code_places p codes) ≡ length p
 length-sited [] codes = refl
 length-sited (c ∷ p) codes = ap suc (length-sited p (drop (method_count c) codes))
 
-pub room_of_sited : (p : Program) (codes : List ℕ) → wide_all wide_sited (sited p codes) ≡ wide_all wide_data p
+pub room_of_sited : (p : Program) (codes : List ℕ) → wide_all wide_with_codes (with_code_places p codes) ≡ wide_all wide_data p
 room_of_sited [] codes = refl
 room_of_sited (c ∷ p) codes = let r = room_of_sited p (drop (method_count c) codes) in omega (arith, r)
 
--- the places behind those of the first i classes
+-- the places after those of the first i classes
 abbrev pub rest_after : Program → List ℕ → ℕ → List ℕ
 rest_after p codes zero = codes
 rest_after [] codes (suc i) = codes
@@ -31,8 +31,8 @@ count_of_bodies c =
     omega (arith, a, d, v)
 
 -- class i with its places
-pub sited_at : (cs : List made.Class) (codes : List ℕ) (i : ℕ) (d : made.Class) (n : Sited) → i < length cs
-    → get_or (sited (map view.class cs) codes) i n ≡ record { class = view.class (get_or cs i d); codes = take (method_count (view.class (get_or cs i d))) (rest_after (map view.class cs) codes i) }
+pub sited_at : (cs : List made.Class) (codes : List ℕ) (i : ℕ) (d : made.Class) (n : ClassWithCodes) → i < length cs
+    → get_or (with_code_places (map view.class cs) codes) i n ≡ record { class = view.class (get_or cs i d); codes = take (method_count (view.class (get_or cs i d))) (rest_after (map view.class cs) codes i) }
 sited_at [] codes i d n lt = absurd (omega (arith, lt))
 sited_at (c ∷ cs) codes zero d n lt = refl
 sited_at (c ∷ cs) codes (suc i) d n lt = sited_at cs (drop (method_count (view.class c)) codes) i d n (omega (arith, lt))
@@ -59,5 +59,5 @@ rest_enough (c ∷ cs) codes (suc i) d lt e =
 pub count_in : (c : made.Class) → method_count (view.class c) ≡ length c.directs.now + length c.virtuals.now
 count_in c = let d = length-map c.directs.now view.method in let v = length-map c.virtuals.now view.method in omega (arith, d, v)
 
-abbrev pub no_sited : Sited
+abbrev pub no_sited : ClassWithCodes
 no_sited = record { class = record { ty = []; flags = 0; superclass = None; interfaces = []; source = None; statics = []; values = []; instances = []; directs = []; virtuals = [] }; codes = [] }

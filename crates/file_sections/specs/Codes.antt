@@ -18,14 +18,15 @@ abbrev pub PacksBody : (ℕ → Name → Type 0) → List ℕ → Option Code �
 PacksBody N bytes None = ⊥
 PacksBody N bytes (Some c) = PacksCode N bytes c
 
--- .. and they spell it, so that other bodies have other bytes; the code is well formed, so that no other bytes are written of it.
+-- The bytes are what is written of the code, and they spell it, so that other bodies have other bytes; the code is well
+-- formed, so that no other bytes are written of it.
 pub record WritesCode (s : Five) (bytes : List ℕ) (c : Code) : Type 0 where
   pub packs : PacksCode (NameRanks s) bytes c
   pub spells : SpellsCode (NameRanks s) bytes c
   pub formed : IsFormed c
   pub are : AreBytes bytes
 
--- The same, if there is a body.
+-- The bytes are what is written of a well-formed body, if there is one, and they spell it.
 abbrev pub WritesBody : Five → List ℕ → Option Code → Type 0
 WritesBody s bytes None = ⊥
 WritesBody s bytes (Some c) = WritesCode s bytes c

@@ -14,7 +14,7 @@ pub record SpellsRanks (s : Five) (bytes : List ℕ) (ts : List Descriptor) : Ty
   pub spelled : SpellsIndexes bytes indexes
   pub named : AreIndices s.types indexes ts
 
--- `new` is `old` and behind it the indices of these types.
+-- `new` is `old` and after it the indices of these types.
 pub record AddsIndices (s : Five) (old new : List ℕ) (ts : List Descriptor) : Type 0 where
   pub indexes : List ℕ
   pub whole : new ≡ old ++ halves_bytes indexes

@@ -1,23 +1,20 @@
 -- What has to be held of the names of a class, so that its items can be written.
 -- Page: "Dalvik Executable format", "class_data_item", "encoded_array".
-use Rattle.std.specs.Prelude.{ℕ, ◌≤◌, ◌^◌, length, Option, IfSome}
+use Rattle.std.specs.Prelude.{◌≤◌, ◌^◌, length, Option, IfSome}
 use Rattle.std.specs.List.{AllByRecursion}
 use Rattle.code_put.specs.Fits.{CanBePut, FitsCode}
 use Rattle.tables_names.specs.Closure.{Five, NameRanks, method_of_class}
-use Rattle.program_types.specs.Content.{Name, Code, Class}
+use Rattle.program_types.specs.Content.{Code, Class}
 use Rattle.program_types.specs.Formed.{IsFormed}
 use Rattle.program_types.specs.Mentions.{field_of_class}
-
--- the name has an index
-abbrev pub HasName : Five → Name → Type 0
-HasName s name = (i : ℕ) × NameRanks s i name
+use Rattle.program_types.specs.Kinds.{HasIndex}
 
 -- Each member has an index.
 pub record MembersHaveNames (s : Five) (c : Class) : Type 0 where
-  pub statics : AllByRecursion (λ m. HasName s (field_of_class c.ty m)) c.statics
-  pub instances : AllByRecursion (λ m. HasName s (field_of_class c.ty m)) c.instances
-  pub directs : AllByRecursion (λ m. HasName s (method_of_class c.ty m)) c.directs
-  pub virtuals : AllByRecursion (λ m. HasName s (method_of_class c.ty m)) c.virtuals
+  pub statics : AllByRecursion (λ m. HasIndex (NameRanks s) (field_of_class c.ty m)) c.statics
+  pub instances : AllByRecursion (λ m. HasIndex (NameRanks s) (field_of_class c.ty m)) c.instances
+  pub directs : AllByRecursion (λ m. HasIndex (NameRanks s) (method_of_class c.ty m)) c.directs
+  pub virtuals : AllByRecursion (λ m. HasIndex (NameRanks s) (method_of_class c.ty m)) c.virtuals
 
 -- A body can be put.
 pub record CanPut (s : Five) (c : Code) : Type 0 where
@@ -25,7 +22,7 @@ pub record CanPut (s : Five) (c : Code) : Type 0 where
   pub fits : FitsCode (NameRanks s) c
   pub ranked : CanBePut (NameRanks s) c
 
--- .. if there is one
+-- A body, if there is one, can be put.
 abbrev pub BodyCanBePut : Five → Option Code → Type 0
 BodyCanBePut s body = IfSome body (CanPut s)
 

@@ -5,7 +5,7 @@ use Rattle.base_bytes.specs.Fields.{AreBytes}
 use Rattle.tables_names.specs.Closure.{Five, AreRising, NameRanks}
 use Rattle.program_types.specs.Content.{Descriptor}
 use Rattle.file_sections.specs.Lists.{SpellsRanks}
-use Rattle.file_sections.specs.Data.{PacksData, Sited}
+use Rattle.file_sections.specs.Data.{PacksData, ClassWithCodes}
 
 -- by ranks types have one list
 abbrev pub TypeListIsOne : Type 0
@@ -14,5 +14,5 @@ TypeListIsOne = (s : Five) → AreRising s → (a b : List ℕ) (ts : List Descr
 -- and a class whose bodies have places has one class data
 abbrev pub ClassDataIsOne : Type 0
 ClassDataIsOne =
-    (s : Five) → AreRising s → (a b : List ℕ) (v : Sited) → AreBytes a → AreBytes b
+    (s : Five) → AreRising s → (a b : List ℕ) (v : ClassWithCodes) → AreBytes a → AreBytes b
     → PacksData (NameRanks s) a v → PacksData (NameRanks s) b v → a ≡ b

@@ -51,7 +51,7 @@ fn add_array(
 
 /// Appends the static values of each class that has some. Equal ones stand once.
 ///
-/// The only refusal is want of memory.
+/// It fails only when out of memory.
 pub fn put_arrays(
     alloc: Global,
     out: &mut Vec<u8>,

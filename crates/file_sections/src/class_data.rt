@@ -5,7 +5,7 @@ ghost use Rattle.std.specs.List.{AllByRecursion};
 ghost use Rattle.base_bytes.specs.Fault.{memory};
 ghost use Rattle.base_bytes.specs.Grammar.{Appends};
 ghost use Rattle.base_bytes.specs.Leb128.{Spells, Shortest};
-ghost use Rattle.file_classes.specs.ClassData.{SpellsCounts, SpellsField, SpellsMethod};
+ghost use Rattle.file_classes.specs.ClassData.{SpellsCounts, SpellsFieldEntry, SpellsMethodEntry};
 ghost use Rattle.file_layout.specs.Sections.{wide_all, AddsSome, Laid};
 ghost use Rattle.file_limits.specs.Wide.{body_values, wide_data};
 ghost use Rattle.tables_names.specs.Closure.{NameRanks, method_of_class};
@@ -17,10 +17,11 @@ ghost use Rattle.program_types.specs.Content.{Descriptor};
 ghost use Rattle.program_types.specs.Key.{text_key};
 ghost use Rattle.program_types.specs.Mentions.{field_of_class};
 ghost use Rattle.program_types.specs.View as view;
+ghost use Rattle.program_types.specs.Kinds.{HasIndex};
 ghost use Rattle.program_rules.specs.Rules.{KeysRise, MembersRise, member_key, method_key};
-ghost use Rattle.file_sections.specs.Data.{PacksData, has_no_members, method_count, sited, wide_sited};
+ghost use Rattle.file_sections.specs.Data.{PacksData, has_no_members, method_count, with_code_places, wide_with_codes};
 ghost use Rattle.file_sections.specs.Growing.{AddsFields, AddsMethods};
-ghost use Rattle.file_sections.specs.Named.{FewNames, HasName, MembersHaveNames};
+ghost use Rattle.file_sections.specs.Named.{FewNames, MembersHaveNames};
 
 use crate::placed::Placed;
 use dex_base::{Fault, put_uleb};
@@ -31,9 +32,9 @@ use tables_names::Ranks;
 
 /// Appends a field's entry: how far its index is from that of the entry before, and its flags.
 ///
-/// The only refusal is want of memory.
+/// It fails only when out of memory.
 pub fn put_field(out: &mut Vec<u8>, step: u32, flags: u32) -> Result<(), Fault>
-    ensures ok { OnOk result (Appends (SpellsField (Shortest Spells)) out.old.items out.new.items (step, flags)) }
+    ensures ok { OnOk result (Appends (SpellsFieldEntry (Shortest Spells)) out.old.items out.new.items (step, flags)) }
     ensures memory { IsOkUnless result memory }
 {
     put_uleb(out, step)?;
@@ -42,9 +43,9 @@ pub fn put_field(out: &mut Vec<u8>, step: u32, flags: u32) -> Result<(), Fault>
 
 /// Appends a method's entry: the same, and the place of its body.
 ///
-/// The only refusal is want of memory.
+/// It fails only when out of memory.
 pub fn put_method(out: &mut Vec<u8>, step: u32, flags: u32, code: u32) -> Result<(), Fault>
-    ensures ok { OnOk result (Appends (SpellsMethod (Shortest Spells)) out.old.items out.new.items (step, (flags, code))) }
+    ensures ok { OnOk result (Appends (SpellsMethodEntry (Shortest Spells)) out.old.items out.new.items (step, (flags, code))) }
     ensures memory { IsOkUnless result memory }
 {
     put_uleb(out, step)?;
@@ -61,7 +62,7 @@ fn put_fields(
 ) -> Result<(), Fault>
     ghost owner: { Descriptor }
     requires class { IsAt ranks.now.types class (text_key owner) }
-    requires named { AllByRecursion (λ m. HasName ranks.now (field_of_class owner m)) (map view.member members.now) }
+    requires named { AllByRecursion (λ m. HasIndex (NameRanks ranks.now) (field_of_class owner m)) (map view.member members.now) }
     requires few { length ranks.now.fields ≤ 2 ^ 32 }
     requires rise { KeysRise (map member_key (map view.member members.now)) }
     ensures ok { OnOk result (AddsFields (NameRanks ranks.now) owner out.old.items out.new.items (map view.member members.now)) }
@@ -87,7 +88,7 @@ fn put_methods(
 ) -> Result<(), Fault>
     ghost owner: { Descriptor }
     requires class { IsAt ranks.now.types class (text_key owner) }
-    requires named { AllByRecursion (λ m. HasName ranks.now (method_of_class owner m)) (map view.method methods.now) }
+    requires named { AllByRecursion (λ m. HasIndex (NameRanks ranks.now) (method_of_class owner m)) (map view.method methods.now) }
     requires few { length ranks.now.methods ≤ 2 ^ 32 }
     requires rise { KeysRise (map method_key (map view.method methods.now)) }
     requires codes { length codes.now ≡ length methods.now }
@@ -183,7 +184,7 @@ fn add_data(
 
 /// Appends the class data of each class that has members, where the bodies of all methods stand at these places.
 ///
-/// The only refusal is want of memory.
+/// It fails only when out of memory.
 pub fn put_datas(
     alloc: Global,
     out: &mut Vec<u8>,
@@ -197,7 +198,7 @@ pub fn put_datas(
     requires front { 0 < length out.old.items }
     requires codes { length codes.now ≡ length (body_values (view.program program.now)) }
     requires room { length out.old.items + wide_all wide_data (view.program program.now) < 2 ^ 32 }
-    ensures ok { IfOk result (λ r. Laid has_no_members (PacksData (NameRanks ranks.now)) 1 wide_sited out.old.items out.new.items (sited (view.program program.now) codes.now) r.places.items r.items) }
+    ensures ok { IfOk result (λ r. Laid has_no_members (PacksData (NameRanks ranks.now)) 1 wide_with_codes out.old.items out.new.items (with_code_places (view.program program.now) codes.now) r.places.items r.items) }
     ensures memory { IsOkUnless result memory }
 {
     let mut placed = Placed::new(alloc);

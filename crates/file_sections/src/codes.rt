@@ -46,7 +46,7 @@ fn add_body(
     }
 }
 
-// The places of the bodies of methods, behind others.
+// The places of the bodies of methods, after others.
 fn put_bodies(
     alloc: Global,
     out: &mut Vec<u8>,
@@ -72,7 +72,7 @@ fn put_bodies(
 /// Appends the bodies of all methods, each 4-aligned: by class, direct methods, then virtual ones. It answers the place of each
 /// method's body, 0 for a method without one. Equal bodies stand once.
 ///
-/// The only refusal is want of memory.
+/// It fails only when out of memory.
 pub fn put_codes(
     alloc: Global,
     out: &mut Vec<u8>,

@@ -26,7 +26,7 @@ impl Placed {
         }
     }
 
-    /// One more place: that of an item of its own, or 0 for none. The only refusal is want of memory.
+    /// One more place: that of an item of its own, or 0 for none. It fails only when out of memory.
     pub fn add(&mut self, place: u32) -> Result<(), Fault>
         requires { self.old.items + 1 < 2 ^ 32 }
         ensures places { OnOk result (self.new.places.items ≡ self.old.places.items ++ place ∷ []) }

@@ -26,9 +26,9 @@ fn add_string(out: &mut Vec<u8>, text: Str<'_>) -> Result<u32, Fault>
     Ok(place)
 }
 
-/// Appends the texts of all strings, one behind the other, and answers the byte at which each begins.
+/// Appends the texts of all strings, one after the other, and answers the byte at which each begins.
 ///
-/// The only refusal is want of memory.
+/// It fails only when out of memory.
 pub fn put_strings(alloc: Global, out: &mut Vec<u8>, ranks: &Ranks<'_>) -> Result<Placed, Fault>
     requires front { 0 < length out.old.items }
     requires room { length out.old.items + wide_all wide_text (text_values ranks.now) < 2 ^ 32 }

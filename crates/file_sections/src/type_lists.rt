@@ -82,7 +82,8 @@ fn add_list(
     Ok(items.put_aligned(out, bytes)?)
 }
 
-// The same of the list of this number: the parameters of each prototype, then the interfaces of each class.
+// The byte at which the type list of this number stands, to which it is appended unless an equal one stands already; 0
+// for no type. The lists are the parameters of each prototype, then the interfaces of each class.
 fn add_numbered(
     alloc: Global,
     out: &mut Vec<u8>,
@@ -115,7 +116,7 @@ fn add_numbered(
 /// Appends the type lists, each 4-aligned: the parameters of each prototype, then the interfaces of each class, where there are any.
 /// Equal lists stand once.
 ///
-/// The only refusal is want of memory.
+/// It fails only when out of memory.
 pub fn put_lists(
     alloc: Global,
     out: &mut Vec<u8>,

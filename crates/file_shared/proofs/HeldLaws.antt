@@ -4,25 +4,11 @@ use Rattle.std.specs.List.{AllZip, slice_get}
 use Rattle.std.proofs.lemmas.Option.{slice_get_within}
 use Rattle.file_layout.specs.Tiles.{AreShared, Refers}
 use Rattle.file_layout.proofs.TileLaws.{zip_there}
-use Rattle.file_shared.specs.Once.{Entry, IsKept}
+use Rattle.file_shared.specs.Once.{Entry, HasItemAt}
 use Rattle.file_shared.specs.Sharing.{AreApart, AreHeld}
+use Rattle.base_bytes.proofs.ListFacts.{slice_split, get_last, slice_left}
 
 -- ---- lists with one more at the end
-
-pub slice_left : {A : Type 0} (xs ys : List A) (k : ℕ) (x : A) → slice_get xs k ≡ Some x → slice_get (xs ++ ys) k ≡ Some x
-slice_left [] ys k x at = absurd (cc at)
-slice_left (y ∷ xs) ys zero x at = at
-slice_left (y ∷ xs) ys (suc k) x at = slice_left xs ys k x at
-
-pub slice_last : {A : Type 0} (xs : List A) (x : A) → slice_get (xs ++ x ∷ []) (length xs) ≡ Some x
-slice_last [] x = refl
-slice_last (y ∷ xs) x = slice_last xs x
-
-pub slice_split : {A : Type 0} (xs : List A) (x y : A) (k : ℕ) → slice_get (xs ++ x ∷ []) k ≡ Some y → (slice_get xs k ≡ Some y) ⊎ ((k ≡ length xs) × (x ≡ y))
-slice_split [] x y zero at = inr (refl, cc)
-slice_split [] x y (suc k) at = absurd (cc at)
-slice_split (z ∷ xs) x y zero at = inl at
-slice_split (z ∷ xs) x y (suc k) at = elim (slice_split xs x y k at) [ inl h ↦ inl h | inr h ↦ inr (ap suc h.0, h.1) ]
 
 -- ---- value by value
 
@@ -31,8 +17,8 @@ module _ {V : Type 0} (none : V → Bool) (K : List ℕ → V → Type 0) where
   held_start kept = record { counts = refl; each = λ turn v place a n b. absurd (cc a) }
 
   record Grown (v : V) (place : ℕ) (kept more : List Entry) : Type 0 where
-    keeps : (b : List ℕ) (p : ℕ) → IsKept kept b p → IsKept more b p
-    own : none v ≡ false → (bytes : List ℕ) × K bytes v × IsKept more bytes place
+    keeps : (b : List ℕ) (p : ℕ) → HasItemAt kept b p → HasItemAt more b p
+    own : none v ≡ false → (bytes : List ℕ) × K bytes v × HasItemAt more bytes place
 
   held_step : (done : List V) (v : V) (places : List ℕ) (place : ℕ) (kept more : List Entry) → AreHeld none K done places kept → Grown v place kept more → AreHeld none K (done ++ v ∷ []) (places ++ place ∷ []) more
   held_step done v places place kept more h g =
@@ -48,7 +34,7 @@ module _ {V : Type 0} (none : V → Bool) (K : List ℕ → V → Type 0) where
             | inl y ↦ (let l = slice_get_within places turn p y in let m = x.0 in absurd (omega (arith, l, m, n)))
             | inr y ↦ (
                 let r = g.own (ap none x.1 ∙ some) in
-                (r.0, subst (λ (w : V). K r.0 w) x.1 r.1, subst (λ (q : ℕ). IsKept more r.0 q) y.1 r.2))
+                (r.0, subst (λ (w : V). K r.0 w) x.1 r.1, subst (λ (q : ℕ). HasItemAt more r.0 q) y.1 r.2))
           ]
         ];
       }
@@ -56,13 +42,13 @@ module _ {V : Type 0} (none : V → Bool) (K : List ℕ → V → Type 0) where
   pub held_none : (done : List V) (v : V) (places : List ℕ) (place : ℕ) (kept : List Entry) → AreHeld none K done places kept → none v ≡ true → AreHeld none K (done ++ v ∷ []) (places ++ place ∷ []) kept
   held_none done v places place kept h e = held_step done v places place kept kept h (record { keeps = λ b p k. k; own = λ f. (let g : true ≡ false = sym e ∙ f in absurd cc) })
 
-  pub held_again : (done : List V) (v : V) (places : List ℕ) (place : ℕ) (kept : List Entry) (bytes : List ℕ) → AreHeld none K done places kept → K bytes v → IsKept kept bytes place → AreHeld none K (done ++ v ∷ []) (places ++ place ∷ []) kept
+  pub held_again : (done : List V) (v : V) (places : List ℕ) (place : ℕ) (kept : List Entry) (bytes : List ℕ) → AreHeld none K done places kept → K bytes v → HasItemAt kept bytes place → AreHeld none K (done ++ v ∷ []) (places ++ place ∷ []) kept
   held_again done v places place kept bytes h k there = held_step done v places place kept kept h (record { keeps = λ b p l. l; own = λ f. (bytes, k, there) })
 
   pub held_first : (done : List V) (v : V) (places : List ℕ) (place : ℕ) (kept : List Entry) (bytes : List ℕ) → AreHeld none K done places kept → K bytes v → AreHeld none K (done ++ v ∷ []) (places ++ place ∷ []) (kept ++ (bytes, place) ∷ [])
   held_first done v places place kept bytes h k =
       held_step done v places place kept (kept ++ (bytes, place) ∷ []) h
-      (record { keeps = λ b p l. (l.0, slice_left kept ((bytes, place) ∷ []) l.0 (b, p) l.1); own = λ f. (bytes, k, (length kept, slice_last kept (bytes, place))) })
+      (record { keeps = λ b p l. (l.0, slice_left kept ((bytes, place) ∷ []) l.0 (b, p) l.1); own = λ f. (bytes, k, (length kept, get_last kept (bytes, place))) })
 
   -- equal values have one place
   pub held_shared : ((a b : List ℕ) (v : V) → K a v → K b v → a ≡ b) → (done : List V) (places : List ℕ) (kept : List Entry) (items : List (ℕ × V))

@@ -10,44 +10,42 @@ use Rattle.indexmap.specs.IndexMap.{insert_entry}
 use Rattle.file_layout.specs.Tiles.{zeros, gap}
 use Rattle.file_layout.specs.Sections.{Adds, IsItself}
 use Rattle.file_layout.proofs.SectionLaws.{unpadded, gap_one, length-padded}
-use Rattle.file_shared.specs.Once.{Entry, entry_of, IsKept}
+use Rattle.file_shared.specs.Once.{Entry, kept_entry, HasItemAt}
+use Rattle.base_bytes.proofs.ListFacts.{some_inj}
 
 abbrev Held : Type 0
 Held = Vec ℕ Global × ℕ
 
-some_same : {V : Type 0} (a b : V) → Some a ≡ Some b → a ≡ b
-some_same a b e = cc
-
 -- what is found by a test of its bytes
 module _ (test : Vec ℕ Global → Bool) (bytes : List ℕ) where
-  pub found : ((v : Vec ℕ Global) → test v ≡ true → v.items ≡ bytes) → (es : List Held) (place : ℕ) → lookup test es ≡ Some place → IsKept (map entry_of es) bytes place
+  pub found : ((v : Vec ℕ Global) → test v ≡ true → v.items ≡ bytes) → (es : List Held) (place : ℕ) → lookup test es ≡ Some place → HasItemAt (map kept_entry es) bytes place
   found is [] place e = absurd (none-some place e)
   found is (x ∷ xs) place e = by (test x.0) refl (found is xs place) e
     where
-      by : (t : Bool) → test x.0 ≡ t → (lookup test xs ≡ Some place → IsKept (map entry_of xs) bytes place) → cond t (Some x.1) (lookup test xs) ≡ Some place → IsKept (map entry_of (x ∷ xs)) bytes place
+      by : (t : Bool) → test x.0 ≡ t → (lookup test xs ≡ Some place → HasItemAt (map kept_entry xs) bytes place) → cond t (Some x.1) (lookup test xs) ≡ Some place → HasItemAt (map kept_entry (x ∷ xs)) bytes place
       by true t rest e = let p : x.1 ≡ place = cc in (0, λ i. Some (is x.0 t i, p i))
       by false t rest e = let r = rest e in (suc r.0, r.1)
 
-  pub absent : ((v : Vec ℕ Global) → v.items ≡ bytes → test v ≡ true) → (es : List Held) → lookup test es ≡ None → (place : ℕ) → ¬ IsKept (map entry_of es) bytes place
+  pub absent : ((v : Vec ℕ Global) → v.items ≡ bytes → test v ≡ true) → (es : List Held) → lookup test es ≡ None → (place : ℕ) → ¬ HasItemAt (map kept_entry es) bytes place
   absent has [] e place kept = cc kept.1
   absent has (x ∷ xs) e place kept = by (test x.0) refl (λ e k. absent has xs e place k) e kept
     where
-      by : (t : Bool) → test x.0 ≡ t → (lookup test xs ≡ None → ¬ IsKept (map entry_of xs) bytes place) → cond t (Some x.1) (lookup test xs) ≡ None → IsKept (map entry_of (x ∷ xs)) bytes place → ⊥
+      by : (t : Bool) → test x.0 ≡ t → (lookup test xs ≡ None → ¬ HasItemAt (map kept_entry xs) bytes place) → cond t (Some x.1) (lookup test xs) ≡ None → HasItemAt (map kept_entry (x ∷ xs)) bytes place → ⊥
       by true t rest e kept = none-some x.1 (sym e)
-      by false t rest e (zero, at) = let b : x.0.items ≡ bytes = ap (λ (h : Entry). h.0) (some_same (entry_of x) (bytes, place) at) in true≢false (sym (has x.0 b) ∙ t)
+      by false t rest e (zero, at) = let b : x.0.items ≡ bytes = ap (λ (h : Entry). h.0) (some_inj (kept_entry x) (bytes, place) at) in true≢false (sym (has x.0 b) ∙ t)
       by false t rest e (suc k, at) = rest e (k, at)
 
 -- what a look-up answers
-pub told_some : (bytes : List ℕ) (es : List Held) (r : Option ℕ) → r ≡ lookup (λ k. bytes_eq bytes k.items) es → IfSome r (IsKept (map entry_of es) bytes)
+pub told_some : (bytes : List ℕ) (es : List Held) (r : Option ℕ) → r ≡ lookup (λ k. bytes_eq bytes k.items) es → IfSome r (HasItemAt (map kept_entry es) bytes)
 told_some bytes es None e = tt
 told_some bytes es (Some place) e = found (λ k. bytes_eq bytes k.items) bytes (λ v t. sym ((bytes_eq-Decides bytes v.items).0 t)) es place (sym e)
 
-pub told_none : (bytes : List ℕ) (es : List Held) (r : Option ℕ) → r ≡ lookup (λ k. bytes_eq bytes k.items) es → IfNone r ((place : ℕ) → ¬ IsKept (map entry_of es) bytes place)
+pub told_none : (bytes : List ℕ) (es : List Held) (r : Option ℕ) → r ≡ lookup (λ k. bytes_eq bytes k.items) es → IfNone r ((place : ℕ) → ¬ HasItemAt (map kept_entry es) bytes place)
 told_none bytes es None e = absent (λ k. bytes_eq bytes k.items) bytes (λ v s. (bytes_eq-Decides bytes v.items).1 (sym s)) es (sym e)
 told_none bytes es (Some place) e = tt
 
 -- a new item goes last
-pub insert_last : (es : List Held) (bytes : Vec ℕ Global) (place : ℕ) → ((other : ℕ) → ¬ IsKept (map entry_of es) bytes.items other) → insert_entry (λ x y. bytes_eq x.items y.items) es bytes place ≡ es ++ (bytes, place) ∷ []
+pub insert_last : (es : List Held) (bytes : Vec ℕ Global) (place : ℕ) → ((other : ℕ) → ¬ HasItemAt (map kept_entry es) bytes.items other) → insert_entry (λ x y. bytes_eq x.items y.items) es bytes place ≡ es ++ (bytes, place) ∷ []
 insert_last [] bytes place fresh = refl
 insert_last (x ∷ xs) bytes place fresh = by (bytes_eq bytes.items x.0.items) refl (insert_last xs bytes place (λ other k. fresh other (suc k.0, k.1)))
   where
@@ -56,10 +54,10 @@ insert_last (x ∷ xs) bytes place fresh = by (bytes_eq bytes.items x.0.items) r
     by true t rest = absurd (fresh x.1 (0, λ i. Some (sym ((bytes_eq-Decides bytes.items x.0.items).0 t) i, x.1)))
     by false t rest = ap (λ (l : List Held). x ∷ l) rest
 
-pub last_entry : (es new : List Held) (bytes : Vec ℕ Global) (place : ℕ) → new ≡ es ++ (bytes, place) ∷ [] → map entry_of new ≡ map entry_of es ++ (bytes.items, place) ∷ []
-last_entry es new bytes place e = ap (map entry_of) e ∙ map-append entry_of es ((bytes, place) ∷ [])
+pub last_entry : (es new : List Held) (bytes : Vec ℕ Global) (place : ℕ) → new ≡ es ++ (bytes, place) ∷ [] → map kept_entry new ≡ map kept_entry es ++ (bytes.items, place) ∷ []
+last_entry es new bytes place e = ap (map kept_entry) e ∙ map-append kept_entry es ((bytes, place) ∷ [])
 
--- an item behind others, with no zeros between
+-- an item after others, with no zeros between
 pub adds_here : (old new bytes : List ℕ) (place : ℕ) → 0 < length bytes → place ≡ length old → new ≡ old ++ bytes → Adds IsItself 1 old new bytes place
 adds_here old new bytes place some p e = let g = gap_one (length old) in record {
   there = omega (arith, p, g);

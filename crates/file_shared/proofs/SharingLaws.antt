@@ -4,14 +4,15 @@ use Rattle.std.proofs.lemmas.List.{take_more, drop_more, take_all, drop_all}
 use Rattle.std.specs.Prelude.{MatchBool}
 use Rattle.file_layout.specs.Tiles.{zeros, gap, AreShared, Refers}
 use Rattle.file_layout.specs.Sections.{Adds, Laying, Laid}
-use Rattle.file_layout.proofs.SectionLaws.{Laying-start, Laying-none, Laying-item, Laying-again, Zip-length, length-padded}
-use Rattle.file_shared.proofs.HeldLaws.{slice_left, slice_last, slice_split, held_start, held_none, held_again, held_first, held_shared}
-use Rattle.file_shared.specs.Once.{Entry, IsKept, IsAgain, IsAdded, PutsOnce}
-use Rattle.file_shared.specs.Sharing.{IsUse, AreApart, Sharing, UsesItem}
+use Rattle.file_layout.proofs.SectionLaws.{Laying-start, Laying-none, Laying-item, Laying-again, length-padded}
+use Rattle.file_shared.proofs.HeldLaws.{held_start, held_none, held_again, held_first, held_shared}
+use Rattle.file_shared.specs.Once.{Entry, HasItemAt, IsAgain, IsAdded, PutsOnce}
+use Rattle.file_shared.specs.Sharing.{IsItemOfDone, AreApart, Sharing, UsesItem}
+use Rattle.base_bytes.proofs.ListFacts.{zip_length, slice_left, get_last, slice_split}
 
 -- ---- uses
 
-use_more : {V : Type 0} (K : List ℕ → V → Type 0) (done : List V) (places bytes : List ℕ) (place : ℕ) (v : V) (last : ℕ) → IsUse K done places bytes place → IsUse K (done ++ v ∷ []) (places ++ last ∷ []) bytes place
+use_more : {V : Type 0} (K : List ℕ → V → Type 0) (done : List V) (places bytes : List ℕ) (place : ℕ) (v : V) (last : ℕ) → IsItemOfDone K done places bytes place → IsItemOfDone K (done ++ v ∷ []) (places ++ last ∷ []) bytes place
 use_more K done places bytes place v last u = record {
   turn = u.turn;
   value = u.value;
@@ -20,16 +21,16 @@ use_more K done places bytes place v last u = record {
   spelled = u.spelled;
 }
 
-use_last : {V : Type 0} (K : List ℕ → V → Type 0) (done : List V) (places bytes : List ℕ) (place : ℕ) (v : V) → length places ≡ length done → K bytes v → IsUse K (done ++ v ∷ []) (places ++ place ∷ []) bytes place
+use_last : {V : Type 0} (K : List ℕ → V → Type 0) (done : List V) (places bytes : List ℕ) (place : ℕ) (v : V) → length places ≡ length done → K bytes v → IsItemOfDone K (done ++ v ∷ []) (places ++ place ∷ []) bytes place
 use_last K done places bytes place v n k = record {
   turn = length done;
   value = v;
-  there = slice_last done v;
-  at = subst (λ (m : ℕ). slice_get (places ++ place ∷ []) m ≡ Some place) n (slice_last places place);
+  there = get_last done v;
+  at = subst (λ (m : ℕ). slice_get (places ++ place ∷ []) m ≡ Some place) n (get_last places place);
   spelled = k;
 }
 
-apart_more : (kept : List Entry) (bytes : List ℕ) (place : ℕ) → AreApart kept → ((other : ℕ) → ¬ IsKept kept bytes other) → AreApart (kept ++ (bytes, place) ∷ [])
+apart_more : (kept : List Entry) (bytes : List ℕ) (place : ℕ) → AreApart kept → ((other : ℕ) → ¬ HasItemAt kept bytes other) → AreApart (kept ++ (bytes, place) ∷ [])
 apart_more kept bytes place apart fresh j k x y at_j at_k same =
     elim (slice_split kept (bytes, place) x j at_j) [
       | inl a ↦ elim (slice_split kept (bytes, place) y k at_k) [
@@ -85,14 +86,14 @@ module _ {V : Type 0} (none : V → Bool) (G K : List ℕ → V → Type 0) (ali
   sharing_first old out new done rest all v places place kept more bytes packs s front e k f small =
       let a = f.adds in
       let adds : Adds G align out new v place = record { there = a.there; bytes = a.bytes; whole = a.whole; some = a.some; spelled = subst (λ (l : List ℕ). G l v) (sym a.spelled) (packs bytes v k) } in
-      let n : length places ≡ length done = Zip-length (Refers none s.laying.lays.items) places done s.laying.lays.each in
+      let n : length places ≡ length done = zip_length (Refers none s.laying.lays.items) places done s.laying.lays.each in
       let l : length kept + 1 ≡ length (kept ++ (bytes, place) ∷ []) = sym (length-append kept ((bytes, place) ∷ [])) in
       rw f.last
       (record {
         laying = subst (λ (c : ℕ). Laying none G align wide old new (done ++ v ∷ []) rest all (places ++ place ∷ []) c) l (Laying-item none G align wide old out new done rest all v places place (length kept) s.laying front e adds small);
         uses = λ j x at. elim (slice_split kept (bytes, place) x j at) [
           | inl b ↦ use_more K done places x.0 x.1 v place (s.uses j x b)
-          | inr b ↦ subst (λ (y : Entry). IsUse K (done ++ v ∷ []) (places ++ place ∷ []) y.0 y.1) b.1 (use_last K done places bytes place v n k)
+          | inr b ↦ subst (λ (y : Entry). IsItemOfDone K (done ++ v ∷ []) (places ++ place ∷ []) y.0 y.1) b.1 (use_last K done places bytes place v n k)
         ];
         apart = apart_more kept bytes place s.apart f.fresh;
         held = held_first none K done v places place kept bytes s.held k;

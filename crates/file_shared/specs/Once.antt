@@ -9,22 +9,22 @@ abbrev pub Entry : Type 0
 Entry = List ℕ × ℕ
 
 -- An entry in memory.
-abbrev pub entry_of : Vec ℕ Global × ℕ → Entry
-entry_of e = (e.0.items, e.1)
+abbrev pub kept_entry : Vec ℕ Global × ℕ → Entry
+kept_entry e = (e.0.items, e.1)
 
 -- An item of these bytes stands at this place.
-abbrev pub IsKept : List Entry → List ℕ → ℕ → Type 0
-IsKept kept bytes place = (k : ℕ) × (slice_get kept k ≡ Some (bytes, place))
+abbrev pub HasItemAt : List Entry → List ℕ → ℕ → Type 0
+HasItemAt kept bytes place = (k : ℕ) × (slice_get kept k ≡ Some (bytes, place))
 
 -- An equal item stands there already, and nothing changes.
 pub record IsAgain (kept more : List Entry) (old new bytes : List ℕ) (place : ℕ) : Type 0 where
-  pub there : IsKept kept bytes place
+  pub there : HasItemAt kept bytes place
   pub whole : new ≡ old
   pub same : more ≡ kept
 
--- None does; the item is added behind `old`, at the next place that `align` divides, and is kept.
+-- No equal item stands there; it is added after `old`, at the next place that `align` divides, and is kept.
 pub record IsAdded (align : ℕ) (kept more : List Entry) (old new bytes : List ℕ) (place : ℕ) : Type 0 where
-  pub fresh : (other : ℕ) → ¬ IsKept kept bytes other
+  pub fresh : (other : ℕ) → ¬ HasItemAt kept bytes other
   pub adds : Adds IsItself align old new bytes place
   pub last : more ≡ kept ++ (bytes, place) ∷ []
 

@@ -2,10 +2,10 @@
 -- Page: "Dalvik Executable format", "File layout".
 use Rattle.std.specs.Prelude.{◌≡◌, ℕ, List, Bool, false, length, slice_get, Some, MatchBool}
 use Rattle.file_layout.specs.Sections.{Laying}
-use Rattle.file_shared.specs.Once.{Entry, IsKept, PutsOnce}
+use Rattle.file_shared.specs.Once.{Entry, HasItemAt, PutsOnce}
 
 -- Some value that is done has these bytes, and its item stands at this place.
-pub record IsUse {V : Type 0} (K : List ℕ → V → Type 0) (done : List V) (places bytes : List ℕ) (place : ℕ) : Type 0 where
+pub record IsItemOfDone {V : Type 0} (K : List ℕ → V → Type 0) (done : List V) (places bytes : List ℕ) (place : ℕ) : Type 0 where
   pub turn : ℕ
   pub value : V
   pub there : slice_get done turn ≡ Some value
@@ -19,13 +19,13 @@ AreApart kept = (j k : ℕ) (x y : Entry) → slice_get kept j ≡ Some x → sl
 -- Each value that is done and takes an item has bytes (by K) whose item is kept at its place.
 pub record AreHeld {V : Type 0} (none : V → Bool) (K : List ℕ → V → Type 0) (done : List V) (places : List ℕ) (kept : List Entry) : Type 0 where
   pub counts : length places ≡ length done
-  pub each : (turn : ℕ) (v : V) (place : ℕ) → slice_get done turn ≡ Some v → none v ≡ false → slice_get places turn ≡ Some place → (bytes : List ℕ) × K bytes v × IsKept kept bytes place
+  pub each : (turn : ℕ) (v : V) (place : ℕ) → slice_get done turn ≡ Some v → none v ≡ false → slice_get places turn ≡ Some place → (bytes : List ℕ) × K bytes v × HasItemAt kept bytes place
 
--- Of all values some are done: they are laid behind `old`, those of equal bytes (by K) in one item. `kept` has each item.
+-- Of all values some are done: they are laid after `old`, those of equal bytes (by K) in one item. `kept` has each item.
 pub record Sharing {V : Type 0} (none : V → Bool) (G K : List ℕ → V → Type 0) (align : ℕ) (wide : V → ℕ)
     (old out : List ℕ) (done rest all : List V) (places : List ℕ) (kept : List Entry) : Type 0 where
   pub laying : Laying none G align wide old out done rest all places (length kept)
-  pub uses : (k : ℕ) (e : Entry) → slice_get kept k ≡ Some e → IsUse K done places e.0 e.1
+  pub uses : (k : ℕ) (e : Entry) → slice_get kept k ≡ Some e → IsItemOfDone K done places e.0 e.1
   pub apart : AreApart kept
   pub held : AreHeld none K done places kept
 

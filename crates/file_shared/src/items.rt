@@ -3,7 +3,7 @@
 ghost use Rattle.std.specs.Prelude.{◌≡◌, ℕ, ◌+◌, ◌<◌, ◌^◌, ◌∷◌, [], ◌++◌, IfOk, IfSome, IfNone, OnOk, IsOkUnless, length};
 ghost use Rattle.base_bytes.specs.Fault.{memory};
 ghost use Rattle.file_layout.specs.Sections.{Adds, IsItself};
-ghost use Rattle.file_shared.specs.Once.{IsKept, IsAdded, PutsOnce};
+ghost use Rattle.file_shared.specs.Once.{HasItemAt, IsAdded, PutsOnce};
 
 use base_bytes::Fault;
 use file_layout::pad;
@@ -19,12 +19,12 @@ pub struct Items {
 
 impl Model for Items {
     ghost use Rattle.std.specs.Prelude.{List};
-    ghost use Rattle.file_shared.specs.Once.{Entry, entry_of};
+    ghost use Rattle.file_shared.specs.Once.{Entry, kept_entry};
     ghost use Rattle.std.specs.Prelude.{map};
 
     ghost Value = { List Entry };
 
-    ghost view = { λ i. map entry_of i.places.entries };
+    ghost view = { λ i. map kept_entry i.places.entries };
 }
 
 impl Items {
@@ -37,7 +37,7 @@ impl Items {
         }
     }
 
-    /// How many there are.
+    /// How many items there are.
     pub fn count(&self) -> u32
         requires { length self.now < 2 ^ 32 }
         ensures { result ≡ length self.now }
@@ -47,15 +47,15 @@ impl Items {
 
     // Where the item of these bytes stands, if there is one.
     fn find(&self, bytes: &[u8]) -> Option<u32>
-        ensures some { IfSome result (IsKept self.now bytes.now) }
-        ensures none { IfNone result ((place : ℕ) → ¬ IsKept self.now bytes.now place) }
+        ensures some { IfSome result (HasItemAt self.now bytes.now) }
+        ensures none { IfNone result ((place : ℕ) → ¬ HasItemAt self.now bytes.now place) }
     {
         self.places.get(bytes).copied()
     }
 
     // Appends an item, and keeps it.
     fn append(&mut self, out: &mut Vec<u8>, bytes: Vec<u8>) -> Result<u32, Fault>
-        requires fresh { (place : ℕ) → ¬ IsKept self.old bytes.items place }
+        requires fresh { (place : ℕ) → ¬ HasItemAt self.old bytes.items place }
         requires room { length out.old.items < 2 ^ 32 }
         ensures place { IfOk result (λ place. place ≡ length out.old.items) }
         ensures out { OnOk result (out.new.items ≡ out.old.items ++ bytes.items) }
@@ -68,9 +68,9 @@ impl Items {
         Ok(place)
     }
 
-    /// Where the item of these bytes stands: where an equal one does, or else behind `out`, to which it is appended.
+    /// Where the item of these bytes stands: where an equal one does, or else after `out`, to which it is appended.
     ///
-    /// The only refusal is want of memory.
+    /// It fails only when out of memory.
     pub fn put(&mut self, out: &mut Vec<u8>, bytes: Vec<u8>) -> Result<u32, Fault>
         requires some { 0 < length bytes.items }
         requires room { length out.old.items < 2 ^ 32 }
@@ -83,9 +83,10 @@ impl Items {
         Ok(self.append(out, bytes)?)
     }
 
-    /// The same of items that are 4-aligned: zeros are appended before one that is new, up to the next place that 4 divides.
+    /// Where the item of these bytes stands, 4-aligned: where an equal one does, or else after `out`, to which zeros
+    /// are appended up to the next place that 4 divides, and then the item.
     ///
-    /// The only refusal is want of memory.
+    /// It fails only when out of memory.
     pub fn put_aligned(&mut self, out: &mut Vec<u8>, bytes: Vec<u8>) -> Result<u32, Fault>
         requires some { 0 < length bytes.items }
         requires room { length out.old.items + 3 < 2 ^ 32 }

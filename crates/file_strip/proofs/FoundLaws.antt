@@ -10,7 +10,7 @@ use Rattle.dex_value.specs.Spelling.{SpellsArray}
 use Rattle.dex_value.specs.Standing.{ArrayStands}
 use Rattle.dex_value.specs.Wide.{wide_values}
 use Rattle.dex_value.proofs.FrontLaws.{SpellsArray-unique}
-use Rattle.value_laws.proofs.Carrying.{NameStands-functional}
+use Rattle.dex_value.proofs.Carrying.{NameStands-functional}
 use Rattle.code_read.specs.Code.{CodeStands}
 use Rattle.code_read.proofs.CodeLaws.{code_one}
 use Rattle.code_put.specs.Fits.{wide_code}
@@ -22,7 +22,7 @@ use Rattle.program_types.specs.Content.{Name, Code, Units, Value, values}
 use Rattle.program_types.specs.Mentions.{names_of_code, names_of_value}
 use Rattle.tables_names.specs.Closure.{Five, AreRising, Holds, IsClosed, IsPart, closure_of, join, with_name, with_names}
 use Rattle.tables_names.proofs.FiveLemmas.{IsPart-refl, IsPart-trans, IsPart-right, part_adds_nothing}
-use Rattle.tables_names.proofs.NeededLemmas.{holds_part, names_append, with_names-grows, with_names-holds, with_names-least}
+use Rattle.tables_names.proofs.NeededLemmas.{holds_part, names_append, with_names-grows, with_names-holds, with_names-least, closure_part}
 use Rattle.tables_rows.specs.Kept.{AreKept}
 use Rattle.tables_numbers.specs.Marked.{AddsNames, HasMarks, Marked}
 use Rattle.file_strip.specs.Survey.{AreFound, ArrayIsFound, CodeIsFound, FindsNames, HasFound}
@@ -30,13 +30,9 @@ use Rattle.file_strip.specs.declared.survey.Found.{Found}
 
 -- ---- names that are held
 
-part_there : (s : Five) (n : Name) → IsClosed s → Holds s n → IsPart (closure_of n) s
-unfolding with_name
-part_there s n closed h = IsPart-trans (closure_of n) (join s (closure_of n)) s (IsPart-right s (closure_of n)) (with_names-least s s (n ∷ []) (IsPart-refl s) closed (h, tt))
-
 name_adds_nothing : (s : Five) (n : Name) → IsClosed s → AreRising s → Holds s n → s ≡ with_name s n
 unfolding with_name
-name_adds_nothing s n closed up h = part_adds_nothing s (closure_of n) up (part_there s n closed h)
+name_adds_nothing s n closed up h = part_adds_nothing s (closure_of n) up (closure_part s n closed h)
 
 -- names that are held add nothing
 pub held_add_nothing : (s : Five) (ns : List Name) → IsClosed s → AreRising s → AllByRecursion (Holds s) ns → s ≡ with_names s ns

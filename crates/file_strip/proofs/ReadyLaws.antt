@@ -5,19 +5,19 @@ use Rattle.std.specs.List.{AllByRecursion}
 use Rattle.std.proofs.lemmas.Bool.{cases_lt}
 use Rattle.base_bytes.specs.Fields.{AreBytes}
 use Rattle.base_bytes.specs.declared.fault.Fault.{Fault}
-use Rattle.code_put.specs.Fits.{CodeBreaks, FitsCode, HandlerTooFar}
+use Rattle.code_put.specs.Fits.{CodeBreaksLimit, FitsCode, HandlerTooFar}
 use Rattle.dex_insn.specs.declared.opcode.IndexKind.TheVariants as kind
 use Rattle.file_assemble.specs.Assembled.{rows_of}
-use Rattle.file_assemble.proofs.FitsLaws.{Behind, Room}
+use Rattle.file_assemble.proofs.FitsLaws.{After, Room}
 use Rattle.file_kept.specs.Keeping.{Keeps}
-use Rattle.file_laws.proofs.RangeLaws.{well_formed}
+use Rattle.file_read.proofs.RangeLaws.{well_formed}
 use Rattle.file_layout.specs.Plan.{tables_end}
 use Rattle.file_layout.specs.declared.plan.Rows.{Rows}
-use Rattle.file_least.specs.AtLeast.{FitsFields}
+use Rattle.file_least.specs.AtLeast.{FitsButHandlers}
 use Rattle.file_least.proofs.RowsFrom.{holds_at_least, no_further}
 use Rattle.file_least.proofs.VainLaws.{class_fits, only_late}
 use Rattle.file_limits.specs.Limits as limits
-use Rattle.file_limits.specs.Limits.{BodyBreaks, ClassBreaksLimit, Fits, IsFirstClass, IsLowestLimit, LimitBreaks, TooBig, TooManyProtos, TooManyTypes, codes_of}
+use Rattle.file_limits.specs.Limits.{BodyBreaks, ClassBreaksLimit, Fits, IsFirstToBreak, IsLowestLimit, LimitBreaks, TooBig, TooManyProtos, TooManyTypes, codes_of}
 use Rattle.file_limits.specs.Wide.{wide}
 use Rattle.file_limits.proofs.PartLaws.{by_parts}
 use Rattle.file_read.specs.Means.{Means}
@@ -26,11 +26,11 @@ use Rattle.program_types.specs.Content.{Code, Name, Program}
 use Rattle.tables_names.specs.Closure.{NameRanks}
 use Rattle.tables_names.specs.Needed.{needed}
 use Rattle.tables_numbers.specs.Marked.{Columns, Marked, AreMarks}
-use Rattle.tables_numbers.specs.Numbers.{AreNumbers}
+use Rattle.tables_numbers.specs.Numbers.{AreRowNumbers}
 
 -- ---- what is ready
 
-pub keeps_of : (b : List ℕ) (marks : Marked) (numbers : Columns) (p : Program) → Means b p → AreMarks b marks (needed p) → AreNumbers marks.columns numbers → Keeps b numbers p
+pub keeps_of : (b : List ℕ) (marks : Marked) (numbers : Columns) (p : Program) → Means b p → AreMarks b marks (needed p) → AreRowNumbers marks.columns numbers → Keeps b numbers p
 keeps_of b marks numbers p m marked numbered = record { tables = m.tables; classes = m.classes; marks = marks; marked = marked; numbered = numbered }
 
 pub ready_of : (b : List ℕ) (numbers : Columns) (p : Program) → AreBytes b → Means b p → Keeps b numbers p → wide p ≤ 4294967295 → IsReady b numbers p
@@ -65,8 +65,8 @@ module _ (b : List ℕ) (numbers : Columns) (p : Program) (r : IsReady b numbers
     few_protos = r.few_protos;
   }
 
-  pub behind : (rows : Rows) (n : ℕ) → rows ≡ rows_of (needed p) p → n ≡ tables_end rows → Behind (needed p) p n
-  behind rows n e m =
+  pub after : (rows : Rows) (n : ℕ) → rows ≡ rows_of (needed p) p → n ≡ tables_end rows → After (needed p) p n
+  after rows n e m =
       let t : n ≡ tables_end (rows_of (needed p) p) = m ∙ ap tables_end e in
       let w = room in
       record { some = omega (arith, t); small = omega (arith, t, w.rows_are, w.lists_are, w.codes_are, w.texts_are, w.arrays_are, w.datas_are, w.whole) }
@@ -74,7 +74,7 @@ module _ (b : List ℕ) (numbers : Columns) (p : Program) (r : IsReady b numbers
 -- ---- limits
 
 -- a code that fits its fields, and breaks no limit of handlers, fits
-fits_near : (N : ℕ → Name → Type 0) (c : Code) → FitsFields N c → (¬ CodeBreaks N c 89) → FitsCode N c
+fits_near : (N : ℕ → Name → Type 0) (c : Code) → FitsButHandlers N c → (¬ CodeBreaksLimit N c 89) → FitsCode N c
 fits_near N c fits near = record {
   strings = fits.names kind.String;
   fields = fits.names kind.Field;
@@ -89,7 +89,7 @@ fits_near N c fits near = record {
   ];
 }
 
-all_near : (N : ℕ → Name → Type 0) (cs : List Code) → AllByRecursion (FitsFields N) cs → ((k : ℕ) (c : Code) → slice_get cs k ≡ Some c → ¬ CodeBreaks N c 89) → AllByRecursion (FitsCode N) cs
+all_near : (N : ℕ → Name → Type 0) (cs : List Code) → AllByRecursion (FitsButHandlers N) cs → ((k : ℕ) (c : Code) → slice_get cs k ≡ Some c → ¬ CodeBreaksLimit N c 89) → AllByRecursion (FitsCode N) cs
 all_near N [] fits near = tt
 all_near N (c ∷ cs) fits near = (fits_near N c fits.0 (near 0 c refl), all_near N cs fits.1 (λ k d at. near (suc k) d at))
 
@@ -115,7 +115,7 @@ module _ (b : List ℕ) (p : Program) (are : AreBytes b) (m : Means b p) where
   pub too_big : 4294967295 < wide p → IsLowestLimit p (record { code = 90; place = 0 })
   too_big big = record { breaks = TooBig big; lowest = only_big big }
 
-  pub too_far : (e : Fault) → wide p ≤ 4294967295 → e.code ≡ 89 → IsFirstClass (NameRanks (needed p)) 89 p e.place → IsLowestLimit p e
+  pub too_far : (e : Fault) → wide p ≤ 4294967295 → e.code ≡ 89 → IsFirstToBreak (NameRanks (needed p)) 89 p e.place → IsLowestLimit p e
   too_far e small code first = record {
     breaks = subst (λ n. LimitBreaks p n e.place) (sym code) (limits.HandlerTooFar small first);
     lowest = λ n place broken. elim (only_late b p are m n place broken) [

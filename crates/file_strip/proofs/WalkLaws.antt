@@ -1,4 +1,4 @@
--- The members of a class, one behind the other.
+-- The members of a class, one after the other.
 use Rattle.std.proofs.Common.{◌≡◌, ℕ, ◌+◌, ◌<◌, ◌≤◌, ◌^◌, get_or, List, [], ◌∷◌, ◌++◌, length, map, take, sym, ap, ◌∙◌, subst, arith, Some, refl}
 use Rattle.std.specs.List.{flat_map, slice_get}
 use Rattle.std.specs.Prelude.{sum}
@@ -13,7 +13,7 @@ use Rattle.tables_numbers.proofs.MarkLemmas.{adds_more}
 use Rattle.file_layout.specs.Sections.{wide_all}
 use Rattle.file_limits.specs.Wide.{bodies_in, wide_body}
 use Rattle.file_limits.proofs.SumLaws.{wide_all_append}
-use Rattle.file_classes.specs.ClassData.{FieldEntry, MethodEntry, IsRun, index_of, steps}
+use Rattle.file_classes.specs.ClassData.{FieldEntry, MethodEntry, EntriesAre, index_of, steps}
 use Rattle.file_classes.specs.Classes.{IsField, IsMethod}
 use Rattle.file_classes.specs.declared.class_data.FieldEntry.{FieldEntry as Field}
 use Rattle.file_classes.specs.declared.class_data.MethodEntry.{MethodEntry as Entry}
@@ -28,7 +28,7 @@ pub take_next : {X : Type 0} (xs : List X) (k : ℕ) (x : X) → slice_get xs k 
 take_next xs k x at = take_more xs k x (slice_get_within xs k x at) ∙ ap (λ y. take k xs ++ y ∷ []) (get_or_from_slice_get xs k x x at)
 
 -- member k of a run stands for entry k
-pub member_at : {R V : Type 0} (M : ℕ → ℕ × R → V → Type 0) (es : List (ℕ × R)) (vs : List V) (k : ℕ) (e : ℕ × R) → IsRun M es vs → slice_get es k ≡ Some e
+pub member_at : {R V : Type 0} (M : ℕ → ℕ × R → V → Type 0) (es : List (ℕ × R)) (vs : List V) (k : ℕ) (e : ℕ × R) → EntriesAre M es vs → slice_get es k ≡ Some e
     → (v : V) × (slice_get vs k ≡ Some v) × M (index_of (steps es) k) e v
 member_at M es vs k e run there =
     let n = run.count in let l = slice_get_within es k e there in
@@ -73,20 +73,20 @@ next_body ms k m at =
     ∙ omega arith
 
 -- the field of entry k, whose index is the last one and the difference
-pub field_step : (b : List ℕ) (es : List Field) (k : ℕ) (d : Field) → k < length es → (index : ℕ) → index ≡ sum (take k (steps (map field_entry es))) → (class : Units) (ms : List Member) → IsRun (IsField b class) (map field_entry es) ms
+pub field_step : (b : List ℕ) (es : List Field) (k : ℕ) (d : Field) → k < length es → (index : ℕ) → index ≡ sum (take k (steps (map field_entry es))) → (class : Units) (ms : List Member) → EntriesAre (IsField b class) (map field_entry es) ms
     → (m : Member) × (slice_get ms k ≡ Some m) × IsField b class (index + (get_or es k d).step) (field_entry (get_or es k d)) m
 field_step b es k d lt index summed class ms run =
     let v = member_at (IsField b class) (map field_entry es) ms k (field_entry (get_or es k d)) run (there field_entry es k d lt) in
     (v.0, v.1, subst (λ (i : ℕ). IsField b class i (field_entry (get_or es k d)) v.0) (sym (next_index field_entry es k d lt index (get_or es k d).step summed refl)) v.2)
 
-pub method_step : (b : List ℕ) (es : List Entry) (k : ℕ) (d : Entry) → k < length es → (index : ℕ) → index ≡ sum (take k (steps (map method_entry es))) → (class : Units) (ms : List Method) → IsRun (IsMethod b class) (map method_entry es) ms
+pub method_step : (b : List ℕ) (es : List Entry) (k : ℕ) (d : Entry) → k < length es → (index : ℕ) → index ≡ sum (take k (steps (map method_entry es))) → (class : Units) (ms : List Method) → EntriesAre (IsMethod b class) (map method_entry es) ms
     → (m : Method) × (slice_get ms k ≡ Some m) × IsMethod b class (index + (get_or es k d).step) (method_entry (get_or es k d)) m
 method_step b es k d lt index summed class ms run =
     let v = member_at (IsMethod b class) (map method_entry es) ms k (method_entry (get_or es k d)) run (there method_entry es k d lt) in
     (v.0, v.1, subst (λ (i : ℕ). IsMethod b class i (method_entry (get_or es k d)) v.0) (sym (next_index method_entry es k d lt index (get_or es k d).step summed refl)) v.2)
 
 -- all of them
-pub all_of_run : {R V : Type 0} (M : ℕ → ℕ × R → V → Type 0) (es : List (ℕ × R)) (vs : List V) (k : ℕ) → IsRun M es vs → length es ≤ k → take k vs ≡ vs
+pub all_of_run : {R V : Type 0} (M : ℕ → ℕ × R → V → Type 0) (es : List (ℕ × R)) (vs : List V) (k : ℕ) → EntriesAre M es vs → length es ≤ k → take k vs ≡ vs
 all_of_run M es vs k run end = let n = run.count in take_all k vs (omega (arith, n, end))
 
 -- the name of a method of this class

@@ -9,7 +9,7 @@ ghost use Rattle.tables_numbers.specs.Marked.{HasMarks, AddsNames};
 ghost use Rattle.file_layout.specs.Sections.{wide_all};
 ghost use Rattle.file_limits.specs.Sum.{IsSum};
 ghost use Rattle.file_limits.specs.Wide.{bodies_in, wide_body};
-ghost use Rattle.file_classes.specs.ClassData.{IsRun};
+ghost use Rattle.file_classes.specs.ClassData.{EntriesAre};
 ghost use Rattle.file_classes.specs.Classes.{CodeAt, CodesAre, IsField, IsMethod};
 ghost use Rattle.file_classes.specs.Reading.{field_entry, method_entry};
 ghost use Rattle.file_strip.specs.Survey.{FindsNames, HasFound};
@@ -31,8 +31,8 @@ pub(crate) fn mark_fields(
     entries: &[FieldEntry],
 ) -> Result<(), Fault>
     requires marks { HasMarks sections.now marks.old }
-    requires run { (class : Units) × (ms : List Member) × IsRun (IsField sections.now class) (map field_entry entries.now) ms }
-    ensures marked { OnOk result ((class : Units) (ms : List Member) → IsRun (IsField sections.now class) (map field_entry entries.now) ms
+    requires run { (class : Units) × (ms : List Member) × EntriesAre (IsField sections.now class) (map field_entry entries.now) ms }
+    ensures marked { OnOk result ((class : Units) (ms : List Member) → EntriesAre (IsField sections.now class) (map field_entry entries.now) ms
         → AddsNames sections.now marks.old marks.new (map (field_of_class class) ms)) }
     ensures memory { IsOkUnless result memory }
 {
@@ -76,10 +76,10 @@ pub(crate) fn look_at_methods(
     entries: &[MethodEntry],
 ) -> Result<u64, Fault>
     requires found { HasFound sections.now found.old }
-    requires run { (class : Units) × (ms : List Method) × IsRun (IsMethod sections.now class) (map method_entry entries.now) ms × CodesAre sections.now (map method_entry entries.now) ms }
-    ensures found { OnOk result ((class : Units) (ms : List Method) → IsRun (IsMethod sections.now class) (map method_entry entries.now) ms → CodesAre sections.now (map method_entry entries.now) ms
+    requires run { (class : Units) × (ms : List Method) × EntriesAre (IsMethod sections.now class) (map method_entry entries.now) ms × CodesAre sections.now (map method_entry entries.now) ms }
+    ensures found { OnOk result ((class : Units) (ms : List Method) → EntriesAre (IsMethod sections.now class) (map method_entry entries.now) ms → CodesAre sections.now (map method_entry entries.now) ms
         → FindsNames sections.now found.old found.new (flat_map (names_of_method class) ms)) }
-    ensures wide { IfOk result (λ n. (class : Units) (ms : List Method) → IsRun (IsMethod sections.now class) (map method_entry entries.now) ms → CodesAre sections.now (map method_entry entries.now) ms
+    ensures wide { IfOk result (λ n. (class : Units) (ms : List Method) → EntriesAre (IsMethod sections.now class) (map method_entry entries.now) ms → CodesAre sections.now (map method_entry entries.now) ms
         → IsSum n (wide_all wide_body (bodies_in ms))) }
     ensures memory { IsOkUnless result memory }
 {

@@ -7,7 +7,7 @@ ghost use Rattle.tables_names.specs.Closure.{NameRanks};
 ghost use Rattle.tables_names.specs.Needed.{needed};
 ghost use Rattle.file_layout.specs.Plan.{tables_end};
 ghost use Rattle.file_layout.specs.Sections.{wide_all};
-ghost use Rattle.file_limits.specs.Limits.{ClassBreaksLimit, Fits, IsFirstClass, IsLowestLimit};
+ghost use Rattle.file_limits.specs.Limits.{ClassBreaksLimit, Fits, IsFirstToBreak, IsLowestLimit};
 ghost use Rattle.file_limits.specs.Sum.{IsSum};
 ghost use Rattle.file_limits.specs.Wide.{wide, wide_class};
 ghost use Rattle.file_read.specs.Means.{Means};
@@ -69,7 +69,7 @@ fn put_data(
     ensures ok { IfOk result (λ d. (p : Program) → IsReady sections.now numbers.now p → DataIsLaid out.new.items (needed p) p d.plan (places_of d)) }
     ensures near { OnOk result ((p : Program) → IsReady sections.now numbers.now p → (i : ℕ) → ¬ ClassBreaksLimit (NameRanks (needed p)) 89 p i) }
     ensures far { IfErr result (λ e. e ≢ memory → (e.code ≡ 89)
-        × ((p : Program) → IsReady sections.now numbers.now p → IsFirstClass (NameRanks (needed p)) 89 p e.place)) }
+        × ((p : Program) → IsReady sections.now numbers.now p → IsFirstToBreak (NameRanks (needed p)) 89 p e.place)) }
 {
     let tables = out.len() as u32;
     let lists = put_lists(alloc, out, numbers, sections)?;
@@ -140,7 +140,7 @@ fn assemble_kept(
     ensures ok { IfOk result (λ file. (p : Program) → IsReady sections.now numbers.now p → Assembled file.items (needed p) p) }
     ensures near { OnOk result ((p : Program) → IsReady sections.now numbers.now p → (i : ℕ) → ¬ ClassBreaksLimit (NameRanks (needed p)) 89 p i) }
     ensures far { IfErr result (λ e. e ≢ memory → (e.code ≡ 89)
-        × ((p : Program) → IsReady sections.now numbers.now p → IsFirstClass (NameRanks (needed p)) 89 p e.place)) }
+        × ((p : Program) → IsReady sections.now numbers.now p → IsFirstToBreak (NameRanks (needed p)) 89 p e.place)) }
 {
     let counts = counts_of(sections, numbers);
     let mut out = space(alloc, counts.tables_end(), sections.bytes().len())?;
@@ -154,7 +154,7 @@ fn assemble_kept(
 /// texts, static values, class data, map; equal items stand once.
 ///
 /// Refused are programs whose handlers are too far in the order of first use (89, at the first such class) or that are too big (90,
-/// at 0); no file means a program that breaks a limit before these. 255 is want of memory.
+/// at 0); no file means a program that breaks a limit before these. 255 is out of memory.
 ///
 /// ```
 /// let sections = open(&bytes)?;

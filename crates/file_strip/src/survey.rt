@@ -171,7 +171,7 @@ fn look_at_class(
 /// Looks at all classes of a file that means a program: the rows of the names that the program needs are marked, and the classes take at
 /// most so many bytes, which is exact as long as it is within the limit of a file.
 ///
-/// The only refusal is want of memory.
+/// It fails only when out of memory.
 pub fn look_at_classes(alloc: Global, sections: &Sections<'_>) -> Result<Survey, Fault>
     requires classes { IsFramed sections.now × ((p : Program) × AreRows SpellsClass sections.now section.class_defs p) }
     ensures ok { IfOk result (λ survey. (p : Program) → AreRows SpellsClass sections.now section.class_defs p → IsSurvey sections.now survey p) }

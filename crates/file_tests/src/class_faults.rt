@@ -167,7 +167,7 @@ fn entries_are_looked_at_one_by_one(rt: HostRuntime) -> Result<(), Fail> {
     none_wrong(first_class_data_otherwise(rt.alloc(), &TWO_OF_EACH, &CASES))
 }
 
-// Two methods of one body, of which the second is 4294967295 rows behind the first. The class row stands at 172.
+// Two methods of one body, of which the second is 4294967295 rows after the first. The class row stands at 172.
 static FAR_APART: Rows<'static> = Rows {
     strings: &[
         b"\x03LA;\0",

@@ -39,11 +39,11 @@ fn first_order_otherwise(alloc: Global, cases: &[Case]) -> Result<Option<&'stati
 
 #[rattlefmt::skip]
 #[test]
-fn a_class_stands_behind_what_it_stands_on(rt: HostRuntime) -> Result<(), Fail> {
+fn a_class_stands_after_what_it_stands_on(rt: HostRuntime) -> Result<(), Fail> {
     static CASES: [Case; 8] = [
         ("no superclass", [NONE, 0], [NONE, 0], (0, 0)),
         ("the class before", [NONE, 0], [0, 0], (0, 0)),
-        ("the class behind", [1, 0], [NONE, 0], (fault::CLASS_ORDER, 128)),
+        ("the class after", [1, 0], [NONE, 0], (fault::CLASS_ORDER, 128)),
         ("itself", [NONE, 0], [1, 0], (fault::CLASS_ORDER, 160)),
         ("an interface before", [NONE, 0], [NONE, 192], (0, 0)),
         ("itself as an interface", [NONE, 192], [NONE, 0], (fault::CLASS_ORDER, 128)),

@@ -6,7 +6,7 @@ use dex_samples::{CODED, NOTHING, Rows, file_of_item, item_of, none_wrong};
 use std::alloc::Global;
 use std::test::Fail;
 
-/// What it is, the tries, the units, what stands behind them, the fault, and its place: the item begins at 204, the
+/// What it is, the tries, the units, what stands after them, the fault, and its place: the item begins at 204, the
 /// units at 220.
 type Case = (&'static str, u8, &'static [u8], &'static [u8], (u16, u64));
 
@@ -14,15 +14,15 @@ fn fault_of_units(
     alloc: Global,
     tries: u8,
     units: &[u8],
-    behind: &[u8],
+    after: &[u8],
 ) -> Result<(u16, u64), Fault> {
-    let item = item_of(alloc, 256, tries, units, behind)?;
+    let item = item_of(alloc, 256, tries, units, after)?;
     Ok(fault_of(alloc, &file_of_item(alloc, &item)?))
 }
 
 fn first_otherwise(alloc: Global, cases: &[Case]) -> Result<Option<&'static str>, Fault> {
-    for (what, tries, units, behind, want) in cases {
-        if fault_of_units(alloc, *tries, units, behind)? != *want {
+    for (what, tries, units, after, want) in cases {
+        if fault_of_units(alloc, *tries, units, after)? != *want {
             return Ok(Some(*what));
         }
     }
@@ -144,7 +144,7 @@ static CASES: [Case; 54] = [
         (fault::PAYLOAD_USE, 226),
     ),
     (
-        "a switch that leads nowhere behind a payload that nothing uses", 0,
+        "a switch that leads nowhere after a payload that nothing uses", 0,
         &[0, 1, 0, 0, 0, 0, 0, 0, 0x2b, 0, 0xff, 0xff, 0xff, 0xff], &[],
         (fault::PAYLOAD_USE, 220),
     ),

@@ -84,7 +84,7 @@ fn each_rule_of_tables_and_sections_in_the_map_has_its_fault(rt: HostRuntime) ->
         ("a table without an entry", 0x50, &[1, 0, 0, 0, 0x70], (fault::MAP_MISSING, 80)),
         ("code items twice", 0x154, &[1], (fault::MAP_ENTRY, 340)),
         ("class data before the strings", 0x168, &[0xc1], (fault::MAP_ENTRY, 352)),
-        ("class rows that end behind the code's place", 0x150, &[0x9c], (fault::MAP_ENTRY, 316)),
+        ("class rows that end after the code's place", 0x150, &[0x9c], (fault::MAP_ENTRY, 316)),
         ("an entry of no item", 0x158, &[0], (fault::MAP_ENTRY, 340)),
     ];
     none_wrong(first_changed_otherwise(rt.alloc(), &ONE_CLASS, &CASES))
@@ -102,10 +102,10 @@ fn first_end_otherwise(alloc: Global, cases: &[Changed]) -> Result<Option<&'stat
 
 #[rattlefmt::skip]
 #[test]
-fn an_entry_of_data_begins_behind_the_map_and_within_the_data(rt: HostRuntime) -> Result<(), Fail> {
+fn an_entry_of_data_begins_after_the_map_and_within_the_data(rt: HostRuntime) -> Result<(), Fail> {
     static CASES: [Changed; 5] = [
         ("inside the map", 0x94, &[0x97], (fault::MAP_ENTRY, 128)),
-        ("right behind the map", 0x94, &[0x98], (0, 0)),
+        ("right after the map", 0x94, &[0x98], (0, 0)),
         ("one byte before the data section's end", 0x94, &[0x99], (0, 0)),
         ("at the data section's end", 0x94, &[0x9a], (fault::MAP_ENTRY, 140)),
         ("at the map's own place", 0x94, &[0x70], (fault::MAP_ENTRY, 128)),
@@ -113,7 +113,7 @@ fn an_entry_of_data_begins_behind_the_map_and_within_the_data(rt: HostRuntime) -
     none_wrong(first_end_otherwise(rt.alloc(), &CASES))
 }
 
-// A file of zeros behind the header, which names one table from 112 on, and neither data nor a map.
+// A file of zeros after the header, which names one table from 112 on, and neither data nor a map.
 fn of_many_rows(alloc: Global, size_at: usize, rows: u32, length: usize) -> Result<Vec<u8>, Fault> {
     let mut file = vec![in alloc; 0u8; length]?;
     put_bytes(&mut file, 0, &WITHOUT_CLASSES[..52]);

@@ -130,7 +130,7 @@ fn the_file_of_one_class_is_laid(rt: HostRuntime) -> Result<(), Fail> {
     is_so(is_laid_one_class(rt.alloc()))
 }
 
-// How many bytes, and how many with the zeros behind them.
+// How many bytes, and how many with the zeros after them.
 type Padded = (&'static str, usize, usize);
 
 // Whether so many ones are padded with zeros up to so many bytes.

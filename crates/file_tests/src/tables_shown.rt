@@ -8,7 +8,7 @@ use tables_rows::Tables;
 // More than any table of these tests has.
 const ROWS: u32 = 100;
 
-/// A line for each table, and each row behind a space, up to the first index that has none.
+/// A line for each table, and each row after a space, up to the first index that has none.
 pub fn shown_tables(alloc: Global, tables: &Tables<'_>) -> Result<String, Fault> {
     let mut text = String::new(alloc);
     put_string_rows(&mut text, tables)?;

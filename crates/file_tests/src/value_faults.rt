@@ -19,16 +19,16 @@ fn is_refused_at(alloc: Global, file: &[u8], off: u32, most: usize, want: Fault)
     }
 }
 
-// What is wrong, the arrays, how many values are wanted at most, the fault's number and its place behind the array's.
+// What is wrong, the arrays, how many values are wanted at most, the fault's number and its place after the array's.
 type Refused = (&'static str, &'static [u8], usize, u16, u32);
 
 fn is_refused_so(alloc: Global, case: &Refused) -> Result<bool, Fault> {
-    let (_, arrays, most, code, behind) = case;
+    let (_, arrays, most, code, after) = case;
     let rows = Rows { arrays, ..NOTHING };
     let file = file_of(alloc, &rows)?;
     let want = Fault {
         code: *code,
-        place: u64::from(ARRAYS_AT) + u64::from(*behind),
+        place: u64::from(ARRAYS_AT) + u64::from(*after),
     };
     Ok(is_refused_at(alloc, &file, ARRAYS_AT, *most, want))
 }
@@ -91,11 +91,11 @@ fn in_64_arrays(alloc: Global, inner: &[u8]) -> Result<Vec<u8>, Fault> {
     Ok(arrays)
 }
 
-// What the innermost array has, the fault's number, and its place behind the array's.
+// What the innermost array has, the fault's number, and its place after the array's.
 type Deep = (&'static str, &'static [u8], u16, u32);
 
 fn is_deep_refused_so(alloc: Global, case: &Deep) -> Result<bool, Fault> {
-    let (_, inner, code, behind) = case;
+    let (_, inner, code, after) = case;
     let arrays = in_64_arrays(alloc, inner)?;
     let rows = Rows {
         arrays: &arrays,
@@ -104,7 +104,7 @@ fn is_deep_refused_so(alloc: Global, case: &Deep) -> Result<bool, Fault> {
     let file = file_of(alloc, &rows)?;
     let want = Fault {
         code: *code,
-        place: u64::from(ARRAYS_AT) + u64::from(*behind),
+        place: u64::from(ARRAYS_AT) + u64::from(*after),
     };
     Ok(is_refused_at(alloc, &file, ARRAYS_AT, 1, want))
 }

@@ -9,7 +9,7 @@ use program_types::{Desc, FieldRef, MethodRef, Proto, Str, Value};
 use std::alloc::Global;
 use tables_rows::Tables;
 
-/// Where the arrays begin in a file that has nothing else: behind the header and a map of three entries.
+/// Where the arrays begin in a file that has nothing else: after the header and a map of three entries.
 pub const ARRAYS_AT: u32 = 0x98;
 
 /// Where they begin in a file of `NAMES`: the rows end at 0xac, the texts at 0xbd, the map stands at 0xc0.

@@ -114,8 +114,8 @@ fn ranks_of<'a>(alloc: Global, added: Added<'a>) -> Result<Ranks<'a>, Fault> {
 enum Asked<'a> {
     // each of these is written so
     Each(&'a [Put]),
-    // these values are written so behind a byte ff, as an array and then as an array in an array
-    Behind(&'a [Value<'a>], &'a [u8]),
+    // these values are written so after a byte ff, as an array and then as an array in an array
+    After(&'a [Value<'a>], &'a [u8]),
 }
 
 fn first_answered_otherwise(
@@ -125,8 +125,8 @@ fn first_answered_otherwise(
 ) -> Result<Option<&'static str>, Fault> {
     match asked {
         Asked::Each(cases) => first_by_ranks_otherwise(alloc, ranks, cases),
-        Asked::Behind(all, want) => {
-            if are_put_behind(alloc, ranks, all, want)? {
+        Asked::After(all, want) => {
+            if are_put_after(alloc, ranks, all, want)? {
                 return Ok(None);
             }
             Ok(Some("an array and the array of it"))
@@ -256,7 +256,7 @@ fn put_both(out: &mut Vec<u8>, ranks: &Ranks<'_>, all: &[Value<'_>]) -> Result<(
     Ok(())
 }
 
-fn are_put_behind(
+fn are_put_after(
     alloc: Global,
     ranks: &Ranks<'_>,
     all: &[Value<'_>],
@@ -267,28 +267,28 @@ fn are_put_behind(
     Ok(out.as_slice() == want)
 }
 
-fn first_behind_otherwise(
+fn first_after_otherwise(
     alloc: Global,
     all: &[Value<'_>],
     want: &[u8],
 ) -> Result<Option<&'static str>, Fault> {
-    first_put_otherwise(alloc, Added::None, Asked::Behind(all, want))
+    first_put_otherwise(alloc, Added::None, Asked::After(all, want))
 }
 
 #[test]
-fn no_value_is_written_behind_its_count(rt: HostRuntime) -> Result<(), Fail> {
+fn no_value_is_written_after_its_count(rt: HostRuntime) -> Result<(), Fail> {
     static WANT: [u8; 5] = [0xff, 0x00, 0x01, 0x1c, 0x00];
-    none_wrong(first_behind_otherwise(rt.alloc(), &[], &WANT))
+    none_wrong(first_after_otherwise(rt.alloc(), &[], &WANT))
 }
 
 #[test]
-fn null_and_true_are_written_behind_their_count(rt: HostRuntime) -> Result<(), Fail> {
+fn null_and_true_are_written_after_their_count(rt: HostRuntime) -> Result<(), Fail> {
     static VALUES: [Value<'static>; 2] = [Value::Null, Value::Bool(true)];
     static WANT: [u8; 9] = [0xff, 0x02, 0x1e, 0x3f, 0x01, 0x1c, 0x02, 0x1e, 0x3f];
-    none_wrong(first_behind_otherwise(rt.alloc(), &VALUES, &WANT))
+    none_wrong(first_after_otherwise(rt.alloc(), &VALUES, &WANT))
 }
 
-// So many times the int 300, and the bytes of its array, of an array of it, behind a byte ff.
+// So many times the int 300, and the bytes of its array, of an array of it, after a byte ff.
 fn put_ints(
     values: &mut Vec<Value<'static>>,
     bytes: &mut Vec<u8>,
@@ -309,7 +309,7 @@ fn first_of_1000_otherwise(alloc: Global) -> Result<Option<&'static str>, Fault>
     want.extend_from_slice(&ints)?;
     want.extend_from_slice(&[0x01, 0x1c, 0xe8, 0x07])?;
     want.extend_from_slice(&ints)?;
-    first_behind_otherwise(alloc, &values, &want)
+    first_after_otherwise(alloc, &values, &want)
 }
 
 #[test]

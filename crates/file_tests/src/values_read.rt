@@ -161,7 +161,7 @@ fn is_null_and_true(alloc: Global, arrays: &[u8], off: u32) -> Result<bool, Faul
 }
 
 #[test]
-fn bytes_behind_an_array_are_not_looked_at(rt: HostRuntime) -> Result<(), Fail> {
+fn bytes_after_an_array_are_not_looked_at(rt: HostRuntime) -> Result<(), Fail> {
     static ARRAYS: [u8; 6] = [0x01, 0x1c, 0x02, 0x1e, 0x3f, 0xff];
     is_so(is_null_and_true(rt.alloc(), &ARRAYS, ARRAYS_AT))
 }

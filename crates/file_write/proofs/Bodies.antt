@@ -6,7 +6,7 @@ use Rattle.file_classes.specs.Classes.{CodeAt, CodesAre, SomeCodeStands}
 use Rattle.file_classes.proofs.StaticsLaws.{at_none, at_other}
 use Rattle.code_read.specs.Code.{SpellsCode, CodeStands}
 use Rattle.code_read.proofs.CarryLaws.{SpellsCode-weaker}
-use Rattle.code_put_laws.proofs.PackedLaws.{packed-spells}
+use Rattle.code_put.proofs.PackedLaws.{packed-spells}
 use Rattle.file_layout.specs.declared.plan.Part.{Part}
 use Rattle.file_layout.specs.Parts.{HasPart}
 use Rattle.file_layout.specs.Tiles.{Among, Lays, Refers, gap}
@@ -34,7 +34,7 @@ module _ (b : List ℕ) (s : Five) (stand : (i : ℕ) (which : Name) → NameRan
   code_stands place c k among =
       let a = at_item is_bodiless (PacksBody (NameRanks s)) (SpellsBody (NameStands b)) 4 b 0x2001 part.begin begin part.end vs places part.items place (Some c) l has.stands (omega (arith, first)) even_four
       (body_spelled s (NameStands b) stand (Some c) k) among in
-      record { begin = a.begin; end = a.end; section = a.section; behind = a.behind; aligned = a.aligned; size = a.size; within = a.within; spelled = a.spelled }
+      record { begin = a.begin; end = a.end; section = a.section; after = a.after; aligned = a.aligned; size = a.size; within = a.within; spelled = a.spelled }
 
   -- a place that refers to a body has it
   pub body_at : (place : ℕ) (o : Option Code) → BodyCanBePut s o → Refers is_bodiless l.items place o → CodeAt b place o

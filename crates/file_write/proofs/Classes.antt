@@ -16,7 +16,6 @@ use Rattle.file_read.specs.Means.{Means}
 use Rattle.file_layout.specs.Sections.{is_empty_list}
 use Rattle.file_layout.specs.Tiles.{Refers}
 use Rattle.file_layout.proofs.FrameLaws.{arrays_part, codes_part, datas_part}
-use Rattle.file_layout.proofs.SectionLaws.{Zip-length}
 use Rattle.file_layout.proofs.StandLaws.{zip_at}
 use Rattle.file_limits.specs.Limits.{Fits}
 use Rattle.file_limits.specs.Wide.{array_values, bodies_in, bodies_of, body_values}
@@ -25,7 +24,7 @@ use Rattle.tables_names.specs.Needed.{needed}
 use Rattle.program_types.specs.Content.{Class, Name, Program}
 use Rattle.program_rules.specs.WellFormed.{WellFormed}
 use Rattle.file_sections.specs.Codes.{is_bodiless}
-use Rattle.file_sections.specs.Data.{code_offs, has_no_members, method_count, sited}
+use Rattle.file_sections.specs.Data.{code_offs, has_no_members, method_count, with_code_places}
 use Rattle.file_sections.specs.Named.{BodyCanBePut}
 use Rattle.file_sections.proofs.SitedLaws.{count_of_bodies, rest_after}
 use Rattle.tables_rows.specs.Names.{AreRows}
@@ -39,6 +38,7 @@ use Rattle.file_write.proofs.Statics.{statics_at}
 use Rattle.file_write.proofs.NameLaws.{class_list, list_at, name_stands, ranks_at, ranks_of, valid_of}
 use Rattle.file_write.proofs.RowLaws.{ClassRowIs, class_count, class_row, is_framed}
 use Rattle.file_write.proofs.TableLaws.{tables_hold}
+use Rattle.base_bytes.proofs.ListFacts.{zip_length}
 
 module _ (b : List ℕ) (p : Program) (a : Assembled b (needed p) p) (w : WellFormed p) (fits : Fits p) where
   pub stand : (i : ℕ) (which : Name) → NameRanks (needed p) i which → NameStands b i which
@@ -72,9 +72,9 @@ module _ (b : List ℕ) (p : Program) (a : Assembled b (needed p) p) (w : WellFo
 
   pub data_stands : (i : ℕ) (c : Class) → slice_get p i ≡ Some c → DataStands b (get_or a.at.datas i 0) (own_sited c (rest_after p a.at.codes i))
   data_stands i c at =
-      data_at b (needed p) stand a.plan.datas (sited p a.at.codes) a.at.datas (datas_part b a.plan a.map a.written) a.lies.datas (get_or a.at.datas i 0) (own_sited c (rest_after p a.at.codes i))
-      (Zip-length (Refers is_bodiless a.lies.codes.items) (own i c) (bodies_of c) (refer_to_bodies i c at) ∙ count_of_bodies c)
-      (zip_at (Refers has_no_members a.lies.datas.items) a.at.datas (sited p a.at.codes) i (own_sited c (rest_after p a.at.codes i)) a.lies.datas.each (sited_get p a.at.codes i c at))
+      data_at b (needed p) stand a.plan.datas (with_code_places p a.at.codes) a.at.datas (datas_part b a.plan a.map a.written) a.lies.datas (get_or a.at.datas i 0) (own_sited c (rest_after p a.at.codes i))
+      (zip_length (Refers is_bodiless a.lies.codes.items) (own i c) (bodies_of c) (refer_to_bodies i c at) ∙ count_of_bodies c)
+      (zip_at (Refers has_no_members a.lies.datas.items) a.at.datas (with_code_places p a.at.codes) i (own_sited c (rest_after p a.at.codes i)) a.lies.datas.each (sited_get p a.at.codes i c at))
 
   -- the bodies at the places of the entries
   entry_bodies : (i : ℕ) (c : Class) (at : slice_get p i ≡ Some c) (d : DataStands b (get_or a.at.datas i 0) (own_sited c (rest_after p a.at.codes i)))

@@ -4,7 +4,7 @@ use Rattle.base_bytes.specs.Leb128.{SpellsSigned, Shortest, Spells}
 use Rattle.base_bytes.proofs.PlacedLaws.{Placed-weaker}
 use Rattle.base_bytes.proofs.WeakerLaws.{Implies, Many-weaker, Pair-weaker, Then-weaker}
 use Rattle.code_read.specs.Handlers.{AllBy, Handler, PacksHandlers, PartsBy, TypeBy, catches_of}
-use Rattle.code_insns.specs.Symbols.{Names, Says, name_in}
+use Rattle.code_insns.specs.Symbols.{InsnNames, Says, name_in}
 use Rattle.code_put.specs.Packs.{AreLowered, PacksCatch, PacksCode, PacksHandler, PacksHandlersOf, PacksPlace}
 use Rattle.dex_insn.specs.Raw as raw
 use Rattle.dex_insn.specs.Raw.{Raw}
@@ -13,7 +13,7 @@ use Rattle.program_types.specs.Content.{Code, Insn, Name, OfDesc, Try}
 module _ (M N : ℕ → Name → Type 0) (f : (i : ℕ) (which : Name) → M i which → N i which) where
   -- ---- instructions
 
-  names-weaker : (r : Raw) (which : Name) → Names M r which → Names N r which
+  names-weaker : (r : Raw) (which : Name) → InsnNames M r which → InsnNames N r which
   names-weaker (raw.I21c op a i) w p = record { kind = p.kind; stands = f i w p.stands }
   names-weaker (raw.I22c op a b i) w p = record { kind = p.kind; stands = f i w p.stands }
   names-weaker (raw.I31c op a i) w p = record { kind = p.kind; stands = f i w p.stands }

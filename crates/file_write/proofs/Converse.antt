@@ -18,23 +18,22 @@ use Rattle.file_classes.specs.ClassData.{Entries}
 use Rattle.file_classes.specs.ClassRows.{class_data_off, interfaces_off, static_values_off}
 use Rattle.file_classes.specs.Classes.{CodeAt, CodesAre, MembersAre}
 use Rattle.file_classes.proofs.EntryLaws.{entries_one}
-use Rattle.file_laws.proofs.RangeLaws.{well_formed}
+use Rattle.file_read.proofs.RangeLaws.{well_formed}
 use Rattle.file_layout.specs.declared.plan.Plan.{Plan}
 use Rattle.file_layout.specs.Plan.{IsPlanned, IsWritten, spans_of, tables_end}
 use Rattle.file_layout.specs.Sections.{is_empty_list, never}
 use Rattle.file_layout.specs.Spans.{Span, has_items}
 use Rattle.file_layout.specs.Tiles.{gap}
-use Rattle.file_layout.proofs.PartLaws.{length_slice}
-use Rattle.file_layout.proofs.SectionLaws.{Zip-length}
+use Rattle.file_layout.proofs.PartLaws.{length_slice, slice_more}
 use Rattle.file_layout.proofs.StandLaws.{zip_weaker}
 use Rattle.file_layout.proofs.TileLaws.{Tiles-le}
 use Rattle.file_limits.specs.Wide.{array_values, bodies_in, bodies_of, body_values, list_values, params_of, text_values, wide_body, wide_list, wide_of, wide_text}
 use Rattle.file_limits.proofs.PartLaws.{by_parts}
 use Rattle.file_read.specs.Means.{Means}
-use Rattle.file_rows.specs.ClassDefs.{SpellsClassRow, seated}
+use Rattle.file_rows.specs.ClassDefs.{SpellsClassRow, with_places}
 use Rattle.file_rows.specs.Rows.{SpellsRows}
 use Rattle.file_sections.specs.Codes.{PacksBody, is_bodiless}
-use Rattle.file_sections.specs.Data.{PacksData, Sited, code_offs, has_no_members, method_count, sited, wide_sited}
+use Rattle.file_sections.specs.Data.{PacksData, ClassWithCodes, code_offs, has_no_members, method_count, with_code_places, wide_with_codes}
 use Rattle.file_sections.specs.Lists.{SpellsRanks}
 use Rattle.file_sections.proofs.CodeLaws.{packed_room}
 use Rattle.file_sections.proofs.DataLaws.{data_length}
@@ -49,16 +48,17 @@ use Rattle.tables_names.specs.Rank.{IsAt}
 use Rattle.tables_names.specs.Rows.{first_of}
 use Rattle.tables_names.proofs.NeededLemmas.{needed_is_least}
 use Rattle.tables_rows.specs.RowFields.{proto_parameters, string_place}
-use Rattle.value_laws.proofs.RankOnce.{rank_one}
+use Rattle.dex_value.proofs.RankOnce.{rank_one}
 use Rattle.file_write.specs.Least.{HoldsExactly}
-use Rattle.file_write.specs.Packed.{Packed, SomeCode, SomeMembers, SomeTypes, SomeValues, array_places, code_places, data_places, list_places, table_end, text_places, words_of}
+use Rattle.file_write.specs.Packed.{Packed, SomeCode, SomeMembers, SomeTypes, SomeValues, array_places, code_places, data_places, list_places, table_end, text_places, words_of_rows}
 use Rattle.file_write.proofs.MapNamed.{HasRows, follows, is_written, part_says}
 use Rattle.file_write.proofs.Readings.{AreEntriesOf, AreIndicesOf, IsBodyOf, members_told, types_told}
 use Rattle.file_write.proofs.Room.{laid_room}
 use Rattle.file_write.proofs.Retold.{IsTold, retold, retold_shared, zip_one}
-use Rattle.file_write.proofs.TableBytes.{length-words_of, slice_more, word_or, words_zip}
+use Rattle.file_write.proofs.TableBytes.{length-words_of, word_or, words_zip}
 use Rattle.file_write.proofs.TableRows.{class_rows, name_rows, names_size, same_key}
 use Rattle.file_write.proofs.Told.{all_bodies_zip, bodies_zip, body_is_told, map_was, members_are_told, text_is_told, types_are_told, values_are_told, was_sited, zip_both}
+use Rattle.base_bytes.proofs.ListFacts.{zip_length}
 
 -- ---- the file
 
@@ -107,7 +107,7 @@ module _ (b : List ℕ) (p : Program) (m : Means b p) (x : HoldsExactly b (neede
       (bodies_zip b e.virtuals c.virtuals r.virtuals.count (subst (λ (y : Entries). CodesAre b y.virtuals c.virtuals) q (m.classes.each i c at).virtuals))
 
   body_count : (i : ℕ) (e : Entries) (c : Class) → slice_get k.entries i ≡ Some e → slice_get p i ≡ Some c → length (code_places e) ≡ method_count c
-  body_count i e c by at = Zip-length (CodeAt b) (code_places e) (bodies_of c) (bodies i e c by at) ∙ count_of_bodies c
+  body_count i e c by at = zip_length (CodeAt b) (code_places e) (bodies_of c) (bodies i e c by at) ∙ count_of_bodies c
 
   -- ---- what is told of each place
 
@@ -126,12 +126,12 @@ module _ (b : List ℕ) (p : Program) (m : Means b p) (x : HoldsExactly b (neede
   abbrev ArrayTold : ℕ → List Value → Type 0
   ArrayTold = IsTold is_empty_list (Shortest (SpellsArray (NameRanks (needed p)))) (SomeValues b) (◌≡◌ {A = List Value}) b
 
-  abbrev DataTold : ℕ → Sited → Type 0
+  abbrev DataTold : ℕ → ClassWithCodes → Type 0
   DataTold = IsTold has_no_members (PacksData (NameRanks (needed p))) SomeMembers (AreEntriesOf (needed p)) b
 
   lists_told : AllZip ListTold (list_places b) (list_values (needed p) p)
   lists_told =
-      zip_both ListTold (words_of (proto_parameters b) (size_of b 2)) (words_of (λ i. interfaces_off b i) (size_of b 5)) (map params_of (needed p).protos) (map (λ (c : Class). c.interfaces) p)
+      zip_both ListTold (words_of_rows (proto_parameters b) (size_of b 2)) (words_of_rows (λ i. interfaces_off b i) (size_of b 5)) (map params_of (needed p).protos) (map (λ (c : Class). c.interfaces) p)
       (words_zip ListTold (proto_parameters b) (size_of b 2) (map params_of (needed p).protos) (x.protos ∙ sym (length-map (needed p).protos params_of)) (λ i ts lt at.
       let w = map_was params_of (needed p).protos i ts at in
       let r = m.tables.protos i lt in
@@ -149,13 +149,13 @@ module _ (b : List ℕ) (p : Program) (m : Means b p) (x : HoldsExactly b (neede
       zip_weaker (CodeAt b) BodyTold (body_is_told b (needed p) framed x.each x.only) (code_places e) (bodies_of c) (bodies i e c by at))
 
   -- no text stands at 0
-  text_behind : (place : ℕ) (t : Units) → At SpellsText b 0x2002 1 place t → place ≢ 0
-  text_behind place t a e =
+  text_after : (place : ℕ) (t : Units) → At SpellsText b 0x2002 1 place t → place ≢ 0
+  text_after place t a e =
       let c = a.section in
       let named = c.named in
       let inside = ((framed.map.each c.entry c.in_map).inside (omega (arith, named))).0 in
-      let begins = c.begins in let behind = a.behind in let l = low in
-      omega (arith, inside, begins, behind, l, e)
+      let begins = c.begins in let after = a.after in let l = low in
+      omega (arith, inside, begins, after, l, e)
 
   texts_told : AllZip TextTold (text_places b) (text_values (needed p))
   texts_told =
@@ -164,7 +164,7 @@ module _ (b : List ℕ) (p : Program) (m : Means b p) (x : HoldsExactly b (neede
       let r = m.tables.strings i lt in
       let e = same_key (needed p).strings i w.0 (text_key r.name) w.1 (x.only i (OfText r.name) r.stands) in
       subst (λ (u : Units). TextTold (string_place b i) u) (sym (ap first_of e) ∙ w.2)
-      (text_is_told b (needed p) framed x.each x.only (string_place b i) r.name (text_behind (string_place b i) r.name r.stands.text) r.stands.text))
+      (text_is_told b (needed p) framed x.each x.only (string_place b i) r.name (text_after (string_place b i) r.name r.stands.text) r.stands.text))
 
   arrays_told : AllZip ArrayTold (array_places b) (array_values p)
   arrays_told =
@@ -174,11 +174,11 @@ module _ (b : List ℕ) (p : Program) (m : Means b p) (x : HoldsExactly b (neede
       subst (λ (us : List Value). ArrayTold (static_values_off b i) us) w.2
       (values_are_told b (needed p) framed x.each x.only (static_values_off b i) (length r.entries.statics) w.0.values r.values))
 
-  datas_told : AllZip DataTold (data_places b) (sited p codes_at)
+  datas_told : AllZip DataTold (data_places b) (with_code_places p codes_at)
   datas_told =
-      words_zip DataTold (λ i. class_data_off b i) (size_of b 5) (sited p codes_at) (class_count ∙ sym (length-sited p codes_at)) (λ i v lt at.
+      words_zip DataTold (λ i. class_data_off b i) (size_of b 5) (with_code_places p codes_at) (class_count ∙ sym (length-sited p codes_at)) (λ i v lt at.
       let w = was_sited p k.entries i v entry_count_is body_count at in
-      subst (λ (y : Sited). DataTold (class_data_off b i) y) (sym w.is)
+      subst (λ (y : ClassWithCodes). DataTold (class_data_off b i) y) (sym w.is)
       (members_are_told b (needed p) framed x.each x.only (class_data_off b i) w.entries w.class (k.entries_are.each i w.entries w.by) (members i w.entries w.class w.by w.of)))
 
   -- ---- where the sections begin and end
@@ -229,7 +229,7 @@ module _ (b : List ℕ) (p : Program) (m : Means b p) (x : HoldsExactly b (neede
         texts_told (λ i j u v c of_i of_j some y z. y ∙ sym z) k.data_section.texts (let a = low in let c = second in let d = third in omega (arith, a, c, d));
     arrays = retold is_empty_list (Shortest (SpellsArray (NameRanks (needed p)))) (SomeValues b) (◌≡◌ {A = List Value}) 1 b 0x2005 k.ends.texts k.ends.arrays (array_values p) (array_places b)
         arrays_told (λ i j u v c of_i of_j some y z. y ∙ sym z) k.data_section.arrays (let a = low in let c = second in let d = third in let e = fourth in omega (arith, a, c, d, e));
-    datas = retold has_no_members (PacksData (NameRanks (needed p))) SomeMembers (AreEntriesOf (needed p)) 1 b 0x2000 k.ends.arrays k.ends.datas (sited p codes_at) (data_places b)
+    datas = retold has_no_members (PacksData (NameRanks (needed p))) SomeMembers (AreEntriesOf (needed p)) 1 b 0x2000 k.ends.arrays k.ends.datas (with_code_places p codes_at) (data_places b)
         datas_told (members_told (needed p) p codes_at well) k.data_section.datas (let a = low in let c = second in let d = third in let e = fourth in let f = fifth in omega (arith, a, c, d, e, f));
   }
 
@@ -264,16 +264,16 @@ module _ (b : List ℕ) (p : Program) (m : Means b p) (x : HoldsExactly b (neede
   tables =
       let n2 = x.protos in
       let l = length-words_of (proto_parameters b) (size_of b 2) in
-      let front = take_at (words_of (proto_parameters b) (size_of b 2)) (words_of (λ i. interfaces_off b i) (size_of b 5)) (length (needed p).protos) (l ∙ n2) in
-      let back = drop_at (words_of (proto_parameters b) (size_of b 2)) (words_of (λ i. interfaces_off b i) (size_of b 5)) (length (needed p).protos) (l ∙ n2) in
+      let front = take_at (words_of_rows (proto_parameters b) (size_of b 2)) (words_of_rows (λ i. interfaces_off b i) (size_of b 5)) (length (needed p).protos) (l ∙ n2) in
+      let back = drop_at (words_of_rows (proto_parameters b) (size_of b 2)) (words_of_rows (λ i. interfaces_off b i) (size_of b 5)) (length (needed p).protos) (l ∙ n2) in
       record {
         names = slice b 112 (names_size b (needed p) k.bytes x m.tables k.tables long);
         classes = slice b (table_end b 5) (32 * size_of b 5);
         whole = slice_more b 112 (names_size b (needed p) k.bytes x m.tables k.tables long) (32 * size_of b 5)
             ∙ ap (λ (at : ℕ). slice b 112 (names_size b (needed p) k.bytes x m.tables k.tables long) ++ slice b at (32 * size_of b 5)) (omega arith);
         name_rows = subst (λ (ls : List ℕ). SpellsRows (needed p) (text_places b) ls (slice b 112 (names_size b (needed p) k.bytes x m.tables k.tables long))) (sym front) (name_rows b (needed p) k.bytes x m.tables k.tables long);
-        class_rows = subst (λ (ls : List ℕ). Each (SpellsClassRow (needed p)) (slice b (table_end b 5) (32 * size_of b 5)) (seated p ls (data_places b) (array_places b))) (sym back)
-            (class_rows b (needed p) k.bytes x m.tables k.tables long p (words_of (λ i. interfaces_off b i) (size_of b 5)) (data_places b) (array_places b) class_count
+        class_rows = subst (λ (ls : List ℕ). Each (SpellsClassRow (needed p)) (slice b (table_end b 5) (32 * size_of b 5)) (with_places p ls (data_places b) (array_places b))) (sym back)
+            (class_rows b (needed p) k.bytes x m.tables k.tables long p (words_of_rows (λ i. interfaces_off b i) (size_of b 5)) (data_places b) (array_places b) class_count
             (λ i c got. (m.classes.each i c got).head.row)
             (λ i lt. word_or (λ i. interfaces_off b i) (size_of b 5) i lt) k.unused.annotations
             (λ i lt. word_or (λ i. class_data_off b i) (size_of b 5) i lt) (λ i lt. word_or (λ i. static_values_off b i) (size_of b 5) i lt));
@@ -330,7 +330,7 @@ module _ (b : List ℕ) (p : Program) (m : Means b p) (x : HoldsExactly b (neede
       (λ t some at bytes y. (let n = packed_length bytes t y in omega (arith, n))) in
       let r4 = laid_room is_empty_list (Shortest (SpellsArray (NameRanks (needed p)))) 1 wide_array b k.ends.texts k.ends.arrays (array_values p) (array_places b) (length k.data_section.arrays.items) lies.arrays (omega (arith, f, g, h))
       (λ vs some at bytes y. (let n = SpellsArray-most (NameRanks (needed p)) bytes vs y.spelled in omega (arith, n))) in
-      let r5 = laid_room has_no_members (PacksData (NameRanks (needed p))) 1 wide_sited b k.ends.arrays k.ends.datas (sited p codes_at) (data_places b) (length k.data_section.datas.items) lies.datas (omega (arith, g, h))
+      let r5 = laid_room has_no_members (PacksData (NameRanks (needed p))) 1 wide_with_codes b k.ends.arrays k.ends.datas (with_code_places p codes_at) (data_places b) (length k.data_section.datas.items) lies.datas (omega (arith, g, h))
       (λ v some at bytes y. (let n = (data_length (needed p) bytes v y).1 in omega (arith, n))) in
       let w = room_of_sited p codes_at in
       let parts = by_parts (needed p) p in

@@ -13,12 +13,12 @@ use Rattle.file_layout.specs.Tiles.{Among, Lays, Refers}
 use Rattle.file_layout.proofs.StandLaws.{at_item, even_one}
 use Rattle.tables_names.specs.Closure.{Five, NameRanks}
 use Rattle.program_types.specs.Content.{Name}
-use Rattle.file_sections.specs.Data.{PacksData, Sited, code_offs, has_no_members, method_count}
+use Rattle.file_sections.specs.Data.{PacksData, ClassWithCodes, code_offs, has_no_members, method_count}
 use Rattle.tables_rows.specs.Stands.{NameStands}
 use Rattle.file_write.proofs.Members.{empty_run, entries_spelled, members_stand}
 
 -- At this place stands the class data of a class, none at 0: its members, and its bodies by their places.
-pub record DataStands (b : List ℕ) (place : ℕ) (v : Sited) : Type 0 where
+pub record DataStands (b : List ℕ) (place : ℕ) (v : ClassWithCodes) : Type 0 where
   pub entries : Entries
   pub there : EntriesAt b place entries
   pub members : MembersAre b entries v.class
@@ -40,9 +40,9 @@ and_right : (x y : Bool) → (x && y) ≡ true → y ≡ true
 and_right true y e = e
 and_right false y e = absurd cc
 
-module _ (b : List ℕ) (s : Five) (stand : (i : ℕ) (which : Name) → NameRanks s i which → NameStands b i which) (part : Part) (vs : List Sited) (places : List ℕ)
+module _ (b : List ℕ) (s : Five) (stand : (i : ℕ) (which : Name) → NameRanks s i which → NameStands b i which) (part : Part) (vs : List ClassWithCodes) (places : List ℕ)
     (has : HasPart b 0x2000 part) (l : Lays has_no_members (PacksData (NameRanks s)) 1 part.begin part.end b vs places part.items) where
-  no_data : (place : ℕ) (v : Sited) → length v.codes ≡ method_count v.class → place ≡ 0 → has_no_members v ≡ true → DataStands b place v
+  no_data : (place : ℕ) (v : ClassWithCodes) → length v.codes ≡ method_count v.class → place ≡ 0 → has_no_members v ≡ true → DataStands b place v
   no_data place v n z e =
       let abc = and_left (is_empty_list v.class.statics && is_empty_list v.class.instances && is_empty_list v.class.directs) (is_empty_list v.class.virtuals) e in
       let ab = and_left (is_empty_list v.class.statics && is_empty_list v.class.instances) (is_empty_list v.class.directs) abc in
@@ -62,19 +62,19 @@ module _ (b : List ℕ) (s : Five) (stand : (i : ℕ) (which : Name) → NameRan
         codes = none_long v.codes (omega (arith, n, dn, wn));
       }
 
-  some_data : (place : ℕ) (v : Sited) → 0 < place → At (PacksData (NameRanks s)) b 0x2000 1 place v → DataStands b place v
+  some_data : (place : ℕ) (v : ClassWithCodes) → 0 < place → At (PacksData (NameRanks s)) b 0x2000 1 place v → DataStands b place v
   some_data place v some a =
       let q = a.spelled in
       record {
         entries = q.entries;
         there = at_other place (q.entries ≡ no_entries) (At (SpellsEntries Spells) b 0x2000 1 place q.entries) (λ z. omega (arith, z, some))
-            (record { begin = a.begin; end = a.end; section = a.section; behind = a.behind; aligned = a.aligned; size = a.size; within = a.within; spelled = entries_spelled _ q.entries q.spelled });
+            (record { begin = a.begin; end = a.end; section = a.section; after = a.after; aligned = a.aligned; size = a.size; within = a.within; spelled = entries_spelled _ q.entries q.spelled });
         members = members_stand b (NameRanks s) stand q.entries v.class q.members;
         codes = q.codes;
       }
 
   -- a place that refers to a class's data has it
-  pub data_at : (place : ℕ) (v : Sited) → length v.codes ≡ method_count v.class → Refers has_no_members l.items place v → DataStands b place v
+  pub data_at : (place : ℕ) (v : ClassWithCodes) → length v.codes ≡ method_count v.class → Refers has_no_members l.items place v → DataStands b place v
   data_at place v n r = by (has_no_members v) refl r
     where
       by : (z : Bool) → has_no_members v ≡ z → MatchBool z (place ≡ 0) ((0 < place) × Among l.items place v) → DataStands b place v

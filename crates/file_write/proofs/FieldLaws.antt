@@ -1,4 +1,4 @@
--- The fields of a row of a table that stands in a file, with other bytes before and behind it.
+-- The fields of a row of a table that stands in a file, with other bytes before and after it.
 use Rattle.std.proofs.Common.{◌≡◌, ℕ, zero, suc, ◌+◌, ◌*◌, ◌^◌, ◌<◌, ◌≤◌, List, [], ◌∷◌, ◌++◌, length, take, drop, get_or, refl, sym, ap, ◌∙◌, arith, lit<, append_assoc, append-nil, length-append, length-drop}
 use Rattle.std.proofs.lemmas.List.{drop_at}
 use Rattle.std.specs.List.{AllByRecursion, AllZip}
@@ -17,7 +17,7 @@ use Rattle.file_layout.proofs.FinishLaws.{row_u16, row_u32}
 u16_at-append : (xs ys : List ℕ) (p : ℕ) → u16_at (xs ++ ys) (length xs + p) ≡ u16_at ys p
 u16_at-append xs ys p = sym (u16_at-drop (xs ++ ys) (length xs) p) ∙ ap (λ (l : List ℕ). u16_at l p) (drop_at xs ys (length xs) refl)
 
--- a number of four bytes in the row that begins at `start` in a table, where the file has these rows behind its header
+-- a number of four bytes in the row that begins at `start` in a table, where the file has these rows after its header
 pub file_u32 : (b rows front table back : List ℕ) (size start j q : ℕ) → slice b 112 (length rows) ≡ rows → rows ≡ front ++ (table ++ back) → j + 4 ≤ size → start + size ≤ length table
     → q ≡ 112 + (length front + (start + j)) → u32_at b q ≡ u32_at (take size (drop start table)) j
 file_u32 b rows front table back size start j q are whole few inside e =
@@ -96,9 +96,9 @@ module _ (bytes : List ℕ) (x y z : ℕ) (whole : bytes ≡ u16_bytes x ++ (u16
   unfolding u16_at u16_bytes
   second_half h = ap (λ (l : List ℕ). u16_at l 2) whole ∙ little_number-reads_back 2 y (u32_bytes z) h
 
-  pub behind_halves : z < 2 ^ 32 → u32_at bytes 4 ≡ z
+  pub after_halves : z < 2 ^ 32 → u32_at bytes 4 ≡ z
   unfolding u32_at u32_bytes u16_bytes
-  behind_halves h = ap (λ (l : List ℕ). u32_at l 4) (whole ∙ ap (λ (l : List ℕ). u16_bytes x ++ (u16_bytes y ++ l)) (sym (append-nil (u32_bytes z)))) ∙ little_number-reads_back 4 z [] h
+  after_halves h = ap (λ (l : List ℕ). u32_at l 4) (whole ∙ ap (λ (l : List ℕ). u16_bytes x ++ (u16_bytes y ++ l)) (sym (append-nil (u32_bytes z)))) ∙ little_number-reads_back 4 z [] h
 
 -- ---- places
 

@@ -17,7 +17,6 @@ use Rattle.file_layout.specs.Plan.{class_defs_begin, field_ids_begin, method_ids
 use Rattle.file_layout.specs.Sections.{is_empty_list, never}
 use Rattle.file_layout.specs.Tiles.{IsNext, Refers}
 use Rattle.file_layout.proofs.FrameLaws.{arrays_part, codes_part, data_end_is, datas_part, header_of, kinds_known, lists_part, strings_part}
-use Rattle.file_layout.proofs.SectionLaws.{Zip-length}
 use Rattle.file_limits.specs.Limits.{Fits}
 use Rattle.file_limits.specs.Wide.{array_values, bodies_of, body_values, list_values, text_values}
 use Rattle.tables_names.specs.Closure.{NameRanks}
@@ -27,7 +26,7 @@ use Rattle.program_types.specs.Content.{Class, Program, Proto, Value}
 use Rattle.program_types.specs.Key.{proto_key}
 use Rattle.program_rules.specs.WellFormed.{WellFormed}
 use Rattle.file_sections.specs.Codes.{PacksBody, is_bodiless}
-use Rattle.file_sections.specs.Data.{PacksData, has_no_members, method_count, sited}
+use Rattle.file_sections.specs.Data.{PacksData, has_no_members, method_count, with_code_places}
 use Rattle.file_sections.specs.Lists.{SpellsRanks}
 use Rattle.file_sections.proofs.SitedLaws.{count_of_bodies, rest_after}
 use Rattle.tables_rows.specs.RowFields.{proto_parameters, string_place}
@@ -44,6 +43,7 @@ use Rattle.file_write.specs.Packed.{DataIsPacked, IsPackedSection, Packed, SomeC
 use Rattle.file_write.proofs.Readings.{AreEntriesOf, AreIndicesOf, IsBodyOf, bodies_can, codes_read, members_read, members_told, types_read, types_told, values_read}
 use Rattle.file_write.proofs.References.{all_words, both_words}
 use Rattle.file_write.proofs.Sections.{packed_section}
+use Rattle.base_bytes.proofs.ListFacts.{zip_length}
 
 -- ---- the class data of each class
 
@@ -172,7 +172,7 @@ module _ (b : List ℕ) (p : Program) (a : Assembled b (needed p) p) (w : WellFo
 
   data_of : AllData b (λ i. class_word b i 6) (length p) a.at.codes
   data_of =
-      all_data b (λ i. class_word b i 6) p a.at.codes (Zip-length (Refers is_bodiless a.lies.codes.items) a.at.codes (body_values p) a.lies.codes.each)
+      all_data b (λ i. class_word b i 6) p a.at.codes (zip_length (Refers is_bodiless a.lies.codes.items) a.at.codes (body_values p) a.lies.codes.each)
       (λ i c at. subst (λ (k : ℕ). DataStands b k (own_sited c (rest_after p a.at.codes i))) (sym (row b p a w fits i c at).class_data) (data_stands b p a w fits i c at))
 
   -- ---- sections
@@ -194,8 +194,8 @@ module _ (b : List ℕ) (p : Program) (a : Assembled b (needed p) p) (w : WellFo
             (packed_section is_empty_list (Shortest (SpellsArray (NameRanks (needed p)))) (SomeValues b) (◌≡◌ {A = List Value}) 1 b 0x2005 a.plan.arrays a.plan.arrays.begin (array_values p) a.at.arrays (array_places b)
             (values_read b (needed p) exact.each exact.only (array_values p)) (λ i j u v t at_i at_j some x y. x ∙ sym y) (arrays_part b a.plan a.map a.written) (omega arith) a.lies.arrays a.once.arrays arrays_are);
         datas = subst (λ (k : ℕ). IsPackedSection SomeMembers 1 b 0x2000 k a.plan.datas.end (data_places b)) a.lies.datas_begin
-            (packed_section has_no_members (PacksData (NameRanks (needed p))) SomeMembers (AreEntriesOf (needed p)) 1 b 0x2000 a.plan.datas a.plan.datas.begin (sited p a.at.codes) a.at.datas (data_places b)
-            (members_read (needed p) (sited p a.at.codes)) (members_told (needed p) p a.at.codes w) (datas_part b a.plan a.map a.written) (omega arith) a.lies.datas a.once.datas datas_are);
+            (packed_section has_no_members (PacksData (NameRanks (needed p))) SomeMembers (AreEntriesOf (needed p)) 1 b 0x2000 a.plan.datas a.plan.datas.begin (with_code_places p a.at.codes) a.at.datas (data_places b)
+            (members_read (needed p) (with_code_places p a.at.codes)) (members_told (needed p) p a.at.codes w) (datas_part b a.plan a.map a.written) (omega arith) a.lies.datas a.once.datas datas_are);
         map = subst (λ (k : ℕ). IsNext 4 b a.plan.datas.end k) (sym m) a.next;
         map_last = let e = a.written.ends in let c = a.written.named.count in omega (arith, e, c, m);
       }

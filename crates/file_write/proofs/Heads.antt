@@ -5,7 +5,7 @@ use Rattle.std.proofs.lemmas.Option.{slice_get_within}
 use Rattle.std.specs.Prelude.{IfSome}
 use Rattle.dex_base.specs.Descriptor.{IsClass}
 use Rattle.file_classes.specs.ClassRows.{IndexOrNone, class_word}
-use Rattle.file_classes.specs.Classes.{AreDistinct, InterfacesAt, RowIs}
+use Rattle.file_classes.specs.Classes.{NoTypeTwice, InterfacesAt, RowIs}
 use Rattle.tables_names.specs.Closure.{Five, NameRanks}
 use Rattle.program_types.specs.Content.{Class, Descriptor, Name, OfDesc, OfText, Units}
 use Rattle.program_rules.specs.Rules as rules
@@ -23,12 +23,12 @@ of_some P None h t e = absurd (cc e)
 of_some P (Some u) h t e = let same : u ≡ t = cc e in subst P same h
 
 -- types of which none stands before the same one stand once
-pub distinct_of : (ts : List Descriptor) → rules.AreDistinct ts → AreDistinct ts
+pub distinct_of : (ts : List Descriptor) → rules.AreDistinct ts → NoTypeTwice ts
 distinct_of ts d j k t at_j at_k = elim (cases_lt j k) [
   | inl before ↦ absurd (d k (slice_get_within ts k t at_k) j before (at_j ∙ sym at_k))
-  | inr behind ↦ elim (cases_lt k j) [
+  | inr after ↦ elim (cases_lt k j) [
     | inl before ↦ absurd (d j (slice_get_within ts j t at_j) k before (at_k ∙ sym at_j))
-    | inr same ↦ omega (arith, behind, same)
+    | inr same ↦ omega (arith, after, same)
   ]
 ]
 

@@ -5,21 +5,13 @@ use Rattle.std.specs.List.{AllByRecursion, AllZip, fold, list_any, slice_get}
 use Rattle.std.proofs.lemmas.Bool.{eq-eqb}
 use Rattle.file_layout.specs.Tiles.{Among, Done, Item, Lays, Refers, Tiles, add_place, distinct_places}
 use Rattle.file_layout.proofs.TileLaws.{Tiles-among}
+use Rattle.program_rules.proofs.AllLaws.{all-turned}
+use Rattle.code_put.proofs.DistinctLaws.{all-more}
+use Rattle.file_layout.proofs.LayingOnce.{one_there}
 
 -- ---- a place has one item
 
-pub Tiles-one : {V : Type 0} {G : List ℕ → V → Type 0} {align : ℕ} {b : List ℕ} {at end : ℕ} {items : List (ℕ × V)} (place : ℕ) (v w : V) → Tiles G align b at end items → Among items place v → Among items place w → v ≡ w
-Tiles-one place v w Done x y = absurd x
-Tiles-one place v w (Item next some spelled rest) (inl x) (inl y) = sym x.1 ∙ y.1
-Tiles-one place v w (Item next some spelled rest) (inl x) (inr y) = let l = (Tiles-among place w rest y).low in let e = x.0 in absurd (omega (arith, l, e, some))
-Tiles-one place v w (Item next some spelled rest) (inr x) (inl y) = let l = (Tiles-among place v rest x).low in let e = y.0 in absurd (omega (arith, l, e, some))
-Tiles-one place v w (Item next some spelled rest) (inr x) (inr y) = Tiles-one place v w rest x y
-
 -- ---- what holds of references holds of places
-
-all_push : {V : Type 0} (P : V → Type 0) (xs : List V) (x : V) → AllByRecursion P xs → P x → AllByRecursion P (xs ++ x ∷ [])
-all_push P [] x h p = (p, tt)
-all_push P (y ∷ xs) x h p = (h.0, all_push P xs x h.1 p)
 
 add_kept : (P : ℕ → Type 0) (seen : List ℕ) (place : ℕ) → AllByRecursion P seen → (place ≢ 0 → P place) → AllByRecursion P (add_place seen place)
 add_kept P seen place h f = by (place == 0) (list_any (λ q. q == place) seen) (λ e. eq-eqb place 0 e)
@@ -27,7 +19,7 @@ add_kept P seen place h f = by (place == 0) (list_any (λ q. q == place) seen) (
     by : (x y : Bool) → (place ≡ 0 → x ≡ true) → AllByRecursion P (if x || y then seen else seen ++ place ∷ [])
     by true y g = h
     by false true g = h
-    by false false g = all_push P seen place h (f (λ e. let z = g e in (cc z)))
+    by false false g = all-more P seen place h (f (λ e. let z = g e in (cc z)))
 
 fold_kept : (P : ℕ → Type 0) (places seen : List ℕ) → AllByRecursion P seen → AllByRecursion (λ q. q ≢ 0 → P q) places → AllByRecursion P (fold add_place seen places)
 fold_kept P [] seen h f = h
@@ -48,10 +40,6 @@ pub record HasItem {V : Type 0} (none : V → Bool) (items : List (ℕ × V)) (p
   pub some : none value ≡ false
   pub there : Among items place value
 
-pub all_weaker : {A : Type 0} (P Q : A → Type 0) → ((q : A) → P q → Q q) → (qs : List A) → AllByRecursion P qs → AllByRecursion Q qs
-all_weaker P Q f [] h = tt
-all_weaker P Q f (q ∷ qs) h = (f q h.0, all_weaker P Q f qs h.1)
-
 one_later : {V : Type 0} (none : V → Bool) (items : List (ℕ × V)) (places : List ℕ) (vs : List V) (p : ℕ) (v : V) (place : ℕ) → HasItem none items places vs place → HasItem none items (p ∷ places) (v ∷ vs) place
 one_later none items places vs p v place h = record { turn = suc h.turn; value = h.value; of = h.of; at = h.at; some = h.some; there = h.there }
 
@@ -61,7 +49,7 @@ refers_kept none items [] (v ∷ vs) z = absurd z
 refers_kept none items (place ∷ places) [] z = absurd z
 refers_kept {V = V} none items (place ∷ places) (v ∷ vs) z = (
   by (none v) refl z.0,
-  all_weaker (λ (q : ℕ). q ≢ 0 → HasItem none items places vs q) (λ (q : ℕ). q ≢ 0 → HasItem none items (place ∷ places) (v ∷ vs) q)
+  all-turned (λ (q : ℕ). q ≢ 0 → HasItem none items places vs q) (λ (q : ℕ). q ≢ 0 → HasItem none items (place ∷ places) (v ∷ vs) q)
       (λ q h n. one_later none items places vs place v q (h n)) places (refers_kept none items places vs z.1),
 )
   where

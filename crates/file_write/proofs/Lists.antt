@@ -3,8 +3,9 @@ use Rattle.std.proofs.Common.{◌≡◌, ℕ, zero, suc, List, [], ◌∷◌, �
 use Rattle.std.specs.List.{AllByRecursion, AllZip}
 use Rattle.file_limits.specs.Wide.{bodies_of, body_values}
 use Rattle.program_types.specs.Content.{Class, Code, Program}
-use Rattle.file_sections.specs.Data.{Sited, method_count, sited}
+use Rattle.file_sections.specs.Data.{ClassWithCodes, method_count, with_code_places}
 use Rattle.file_sections.proofs.SitedLaws.{count_of_bodies, rest_after}
+use Rattle.code_put.proofs.DistinctLaws.{all-get}
 
 -- ---- two lists, element by element
 
@@ -41,11 +42,6 @@ zip_kept R T P f (x ∷ xs) (y ∷ ys) h z = (f x y h.0 z.0, zip_kept R T P f xs
 
 -- ---- one element
 
-pub all_get : {V : Type 0} (P : V → Type 0) (xs : List V) (i : ℕ) (x : V) → AllByRecursion P xs → slice_get xs i ≡ Some x → P x
-all_get P [] i x h e = absurd (cc e)
-all_get P (y ∷ xs) zero x h e = let same : y ≡ x = cc e in subst P same h.0
-all_get P (y ∷ xs) (suc i) x h e = all_get P xs i x h.1 e
-
 -- ---- the places of a class's bodies
 
 -- each class's own places refer to its bodies
@@ -60,11 +56,11 @@ own_bodies R (d ∷ p) codes (suc i) c e z =
     own_bodies R p (drop (method_count d) codes) i c e
     (subst (λ (n : ℕ). AllZip R (drop n codes) (body_values p)) (count_of_bodies d) (zip_back R codes (bodies_of d) (body_values p) z))
 
-abbrev pub own_sited : Class → List ℕ → Sited
+abbrev pub own_sited : Class → List ℕ → ClassWithCodes
 own_sited c codes = record { class = c; codes = take (method_count c) codes }
 
 -- class i with its places
-pub sited_get : (p : Program) (codes : List ℕ) (i : ℕ) (c : Class) → slice_get p i ≡ Some c → slice_get (sited p codes) i ≡ Some (own_sited c (rest_after p codes i))
+pub sited_get : (p : Program) (codes : List ℕ) (i : ℕ) (c : Class) → slice_get p i ≡ Some c → slice_get (with_code_places p codes) i ≡ Some (own_sited c (rest_after p codes i))
 sited_get [] codes i c e = absurd (cc e)
 sited_get (d ∷ p) codes zero c e = let same : d ≡ c = cc e in ap (λ (x : Class). Some (own_sited x codes)) same
 sited_get (d ∷ p) codes (suc i) c e = sited_get p (drop (method_count d) codes) i c e

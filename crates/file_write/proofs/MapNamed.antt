@@ -28,7 +28,7 @@ record Says (b : List ℕ) (i : ℕ) (s : Span) : Type 0 where
   items : items_at b i ≡ s.items
   place : place_at b i ≡ s.begin
 
--- The spans stand one behind the other; those with items take bytes.
+-- The spans stand one after the other; those with items take bytes.
 abbrev Chain : ℕ → List Span → Type 0
 Chain at [] = Unit {0}
 Chain at (s ∷ ss) = (at ≤ s.end) × (0 < s.items → (at ≤ s.begin) × (s.begin < s.end)) × Chain s.end ss
@@ -99,8 +99,8 @@ module _ (b : List ℕ) (next : (i j : ℕ) → j + 1 ≡ i → i < entry_count 
         ],
       )
 
-  behind : (n at : ℕ) (s : Span) (ss : List Span) → Chain at (s ∷ ss) → 0 < s.items → Rest n (s ∷ ss) → n < entry_count b → Says b n s → Rest (suc n) ss
-  behind n at s ss c some r within is = record {
+  after : (n at : ℕ) (s : Span) (ss : List Span) → Chain at (s ∷ ss) → 0 < s.items → Rest n (s ∷ ss) → n < entry_count b → Says b n s → Rest (suc n) ss
+  after n at s ss c some r within is = record {
     each = λ i low lt. let k = r.each i (omega (arith, low)) lt in elim k.1 [
       | inl e ↦ (
           let z = ap (λ (x : Span). x.begin) e in let p = k.3.place in let q = is.place in let o = rises n i (omega (arith, low)) lt in
@@ -135,7 +135,7 @@ module _ (b : List ℕ) (next : (i j : ℕ) → j + 1 ≡ i → i < entry_count 
       by true e go =
           let some : 0 < s.items = grind (arith, e) in
           let h = here n at s ss c some r in
-          one_more n s (filter has_items ss) h.1 (go (suc n) (behind n at s ss c some r h.0 h.1))
+          one_more n s (filter has_items ss) h.1 (go (suc n) (after n at s ss c some r h.0 h.1))
       by false e go = let none : s.items ≡ 0 = grind (arith, e) in go n (without n s ss none r)
 
 -- ---- the words of the header
@@ -164,7 +164,7 @@ pub follows : {V : Type 0} (G : List ℕ → V → Type 0) (align : ℕ) (b : Li
 follows G align b at begin end first items tiled low is =
     let l = Tiles-le tiled in
     record {
-      behind = omega (arith, l, low);
+      after = omega (arith, l, low);
       begins = λ some. omega (arith, low, is);
       takes = λ some. let k = tiles_take tiled some in omega (arith, k, is);
     }
@@ -377,9 +377,9 @@ module _ (b : List ℕ) (p : Plan) (framed : IsFramed b) (packed : TablesArePack
                     omega arith,
                     λ h. (omega arith, omega arith),
                     (
-                      l.behind,
+                      l.after,
                       λ h. (l.begins h, l.takes h),
-                      (c.behind, λ h. (c.begins h, c.takes h), (t.behind, λ h. (t.begins h, t.takes h), (a.behind, λ h. (a.begins h, a.takes h), (d.behind, λ h. (d.begins h, d.takes h), (omega (arith, n, last), λ h. (omega (arith, n), omega (arith, last)), tt))))),
+                      (c.after, λ h. (c.begins h, c.takes h), (t.after, λ h. (t.begins h, t.takes h), (a.after, λ h. (a.begins h, a.takes h), (d.after, λ h. (d.begins h, d.takes h), (omega (arith, n, last), λ h. (omega (arith, n), omega (arith, last)), tt))))),
                     ),
                   ),
                 ),
@@ -449,7 +449,7 @@ module _ (b : List ℕ) (p : Plan) (framed : IsFramed b) (packed : TablesArePack
       let n = next.there in
       record {
         planned = planned;
-        behind = omega (arith, n);
+        after = omega (arith, n);
         aligned = framed.map.placed.aligned;
         named = m;
         ends = omega (arith, c, last);

@@ -30,13 +30,9 @@ use Rattle.tables_rows.specs.Stands.{FieldStands, MethodStands, NameStands, Prot
 use Rattle.file_assemble.specs.Assembled.{Assembled}
 use Rattle.file_assemble.proofs.NamedLaws.{mentions_hold}
 use Rattle.file_write.proofs.RowLaws.{field_count, field_row, method_count, method_row, proto_count, proto_row, string_count, string_row, type_count, type_row}
-use Rattle.file_write.proofs.ValidNames.{AreValid, IsFieldKey, IsMethodKey, IsProtoKey, IsTypeKey, field_same, member_is, method_same, needed_valid, proto_same, text_same}
-
--- an element of the first of two lists, and of the second
-pub front_get : {V : Type 0} (xs ys : List V) (i : ℕ) (v : V) → slice_get xs i ≡ Some v → slice_get (xs ++ ys) i ≡ Some v
-front_get [] ys i v e = absurd (cc e)
-front_get (x ∷ xs) ys zero v e = e
-front_get (x ∷ xs) ys (suc i) v e = front_get xs ys i v e
+use Rattle.file_write.proofs.ValidNames.{AreValid, IsFieldKey, IsMethodKey, IsProtoKey, IsTypeKey, field_same, member_is, method_same, needed_valid, text_same}
+use Rattle.base_bytes.proofs.ListFacts.{slice_left}
+use Rattle.file_rows.proofs.AtLaws.{proto_one}
 
 pub back_get : {V : Type 0} (xs ys : List V) (i : ℕ) (v : V) → slice_get ys i ≡ Some v → slice_get (xs ++ ys) (length xs + i) ≡ Some v
 back_get [] ys i v e = let k : 0 + i ≡ i = omega arith in rw k e
@@ -50,7 +46,7 @@ ranks_of b s place ts at = by (place == 0) at
     by true e = ([], refl, subst (λ (x : List Descriptor). AreIndices s.types [] x) (sym e) tt)
     by false q =
         let r = q.spelled in
-        (r.indexes, record { begin = q.begin; end = q.end; section = q.section; behind = q.behind; aligned = q.aligned; size = q.size; within = q.within; spelled = r.spelled }, r.named)
+        (r.indexes, record { begin = q.begin; end = q.end; section = q.section; after = q.after; aligned = q.aligned; size = q.size; within = q.within; spelled = r.spelled }, r.named)
 
 values_of : (ts : List Descriptor) → AllByRecursion IsValueType ts → AllByRecursion (λ t. t ≢ void) ts
 values_of [] h = tt
@@ -110,7 +106,7 @@ module _ (b : List ℕ) (s : Five) (p : Program) (a : Assembled b s p) (valid : 
 
   -- the parameters of a prototype, and the interfaces of a class, among all lists
   pub proto_list : (i : ℕ) (q : Proto) → IsAt s.protos i (proto_key q) → slice_get (list_values s p) i ≡ Some q.params
-  proto_list i q e = front_get (map params_of s.protos) (map (λ (c : Class). c.interfaces) p) i q.params (slice_get-map params_of s.protos i ∙ ap (option_map params_of) e)
+  proto_list i q e = slice_left (map params_of s.protos) (map (λ (c : Class). c.interfaces) p) i q.params (slice_get-map params_of s.protos i ∙ ap (option_map params_of) e)
 
   pub class_list : (i : ℕ) (c : Class) → slice_get p i ≡ Some c → slice_get (list_values s p) (length s.protos + i) ≡ Some c.interfaces
   class_list i c e =
@@ -126,7 +122,7 @@ module _ (b : List ℕ) (s : Five) (p : Program) (a : Assembled b s p) (valid : 
       let n = proto_count b s p a in
       let r = proto_row b s p a i q e in
       let k = member_is IsProtoKey s.protos i (proto_key q) valid.protos e in
-      let h = subst IsValidProto (proto_same k.0 q (sym k.1)) k.2 in
+      let h = subst IsValidProto (proto_one k.0 q (sym k.1)) k.2 in
       record {
         row = omega (arith, lt, n);
         ret = type_stands (proto_return b i) q.ret r.ret_is;

@@ -4,17 +4,15 @@ use Rattle.std.proofs.lemmas.Bool.{cases_lt}
 use Rattle.std.specs.Prelude.{◌&&◌}
 use Rattle.std.specs.List.{AllByRecursion, flat_map, slice_get}
 use Rattle.code_read.proofs.CarryLaws.{SpellsCode-weaker}
-use Rattle.code_put_laws.proofs.PackedLaws.{packed-spells}
+use Rattle.code_put.proofs.PackedLaws.{packed-spells}
 use Rattle.file_assemble.proofs.FitsLaws.{room_of}
 use Rattle.file_assemble.proofs.OnceLaws.{sited_class, types_apart}
 use Rattle.file_assemble.proofs.ReadyLaws.{class_can}
-use Rattle.file_classes.specs.ClassData.{Entries, FieldEntry, IsRun, MethodEntry, index_of, steps}
+use Rattle.file_classes.specs.ClassData.{Entries, FieldEntry, EntriesAre, MethodEntry, index_of, steps}
 use Rattle.file_limits.specs.Limits.{Fits}
 use Rattle.file_limits.specs.Wide.{bodies_of, body_values}
-use Rattle.file_limits.proofs.BodyLaws.{all_both}
-use Rattle.file_sections.specs.Data.{FieldRanks, MembersRank, MethodRanks, PacksData, Sited, has_no_members, sited}
+use Rattle.file_sections.specs.Data.{FieldRanks, MembersRank, MethodRanks, PacksData, ClassWithCodes, has_no_members, with_code_places}
 use Rattle.file_sections.specs.Named.{BodyCanBePut}
-use Rattle.file_sections.proofs.GrammarOnce.{some_there}
 use Rattle.file_sections.proofs.ListLaws.{named_one}
 use Rattle.program_rules.specs.WellFormed.{WellFormed}
 use Rattle.program_types.specs.Content.{Class, Code, Descriptor, FieldRef, Member, Method, MethodRef, Name, Program, Value}
@@ -23,11 +21,9 @@ use Rattle.tables_names.specs.Indices.{AreIndices}
 use Rattle.tables_names.specs.Needed.{needed}
 use Rattle.tables_names.specs.Rank.{IsAt}
 use Rattle.file_write.specs.Packed.{SomeCode, SomeMembers, SomeTypes, SomeValues}
-use Rattle.file_write.proofs.Lists.{all_get}
 use Rattle.file_write.proofs.Sections.{Reads, Tells}
 use Rattle.base_bytes.specs.Leb128.{Shortest}
 use Rattle.file_layout.specs.Sections.{is_empty_list}
-use Rattle.file_layout.proofs.SectionLaws.{Zip-length}
 use Rattle.tables_names.specs.Closure.{Five, NameRanks}
 use Rattle.file_sections.specs.Codes.{PacksBody, is_bodiless}
 use Rattle.file_sections.specs.Lists.{SpellsRanks}
@@ -35,6 +31,10 @@ use Rattle.tables_rows.specs.Stands.{NameStands}
 use Rattle.dex_value.specs.Spelling.{SpellsArray}
 use Rattle.dex_value.proofs.Weaker.{SpellsArray-weaker}
 use Rattle.file_write.proofs.Codes.{PacksCode-weaker}
+use Rattle.code_put.proofs.RankLaws.{keys-one}
+use Rattle.base_bytes.proofs.ListFacts.{all_append, zip_length}
+use Rattle.file_classes.proofs.EntryLaws.{entry_at}
+use Rattle.code_put.proofs.DistinctLaws.{all-get}
 
 -- ---- type lists
 
@@ -48,7 +48,7 @@ AreIndicesOf s ts indexes = AreIndices s.types indexes ts
 
 pub types_read : (s : Five) (vs : List (List Descriptor)) → Reads is_empty_list (SpellsRanks s) SomeTypes (AreIndicesOf s) vs
 types_read s vs k ts at some bytes r =
-    let n = Zip-length (λ (i : ℕ) (t : Descriptor). IsAt s.types i (text_key t)) r.indexes ts r.named in
+    let n = zip_length (λ (i : ℕ) (t : Descriptor). IsAt s.types i (text_key t)) r.indexes ts r.named in
     let m = some_list ts some in
     (r.indexes, (r.spelled, omega (arith, n, m)), r.named)
 
@@ -97,10 +97,10 @@ some_of [] (x ∷ xs) ys zs e = omega arith
 some_of (w ∷ ws) xs ys zs e = omega arith
 
 -- entries of its members
-abbrev pub AreEntriesOf : Five → Sited → Entries → Type 0
+abbrev pub AreEntriesOf : Five → ClassWithCodes → Entries → Type 0
 AreEntriesOf s v entries = MembersRank (NameRanks s) entries v.class
 
-pub members_read : (s : Five) (vs : List Sited) → Reads has_no_members (PacksData (NameRanks s)) SomeMembers (AreEntriesOf s) vs
+pub members_read : (s : Five) (vs : List ClassWithCodes) → Reads has_no_members (PacksData (NameRanks s)) SomeMembers (AreEntriesOf s) vs
 members_read s vs k v at some bytes r =
     let n = some_of v.class.statics v.class.instances v.class.directs v.class.virtuals some in
     let a = r.members.statics.count in
@@ -111,32 +111,29 @@ members_read s vs k v at some bytes r =
 
 -- ---- entries tell their class
 
-keys_same : (ks : List Key) (i : ℕ) (k l : Key) → IsAt ks i k → IsAt ks i l → k ≡ l
-keys_same ks i k l p q = cc
-
 field_class : (f g : FieldRef) → field_ref_key f ≡ field_ref_key g → f.class ≡ g.class
 field_class f g e = cc
 
 method_class : (f g : MethodRef) → method_ref_key f ≡ method_ref_key g → f.class ≡ g.class
 method_class f g e = cc
 
-fields_told : (s : Five) (c d : Descriptor) (es : List FieldEntry) (ms ns : List Member) → 0 < length ms → IsRun (FieldRanks (NameRanks s) c) es ms → IsRun (FieldRanks (NameRanks s) d) es ns → c ≡ d
+fields_told : (s : Five) (c d : Descriptor) (es : List FieldEntry) (ms ns : List Member) → 0 < length ms → EntriesAre (FieldRanks (NameRanks s) c) es ms → EntriesAre (FieldRanks (NameRanks s) d) es ns → c ≡ d
 fields_told s c d es ms ns some p q =
     let k = p.count in let l = q.count in
-    let e = some_there es 0 (omega (arith, some, k)) in let m = some_there ms 0 some in let n = some_there ns 0 (omega (arith, some, k, l)) in
+    let e = entry_at es 0 (omega (arith, some, k)) in let m = entry_at ms 0 some in let n = entry_at ns 0 (omega (arith, some, k, l)) in
     let f : FieldRef = record { class = c; name = m.0.name; ty = m.0.ty } in
     let g : FieldRef = record { class = d; name = n.0.name; ty = n.0.ty } in
     let x = p.each 0 e.0 m.0 e.1 m.1 in let y = q.each 0 e.0 n.0 e.1 n.1 in
-    field_class f g (keys_same s.fields (index_of (steps es) 0) (field_ref_key f) (field_ref_key g) x.field y.field)
+    field_class f g (keys-one s.fields (index_of (steps es) 0) (field_ref_key f) (field_ref_key g) x.field y.field)
 
-methods_told : (s : Five) (c d : Descriptor) (es : List MethodEntry) (ms ns : List Method) → 0 < length ms → IsRun (MethodRanks (NameRanks s) c) es ms → IsRun (MethodRanks (NameRanks s) d) es ns → c ≡ d
+methods_told : (s : Five) (c d : Descriptor) (es : List MethodEntry) (ms ns : List Method) → 0 < length ms → EntriesAre (MethodRanks (NameRanks s) c) es ms → EntriesAre (MethodRanks (NameRanks s) d) es ns → c ≡ d
 methods_told s c d es ms ns some p q =
     let k = p.count in let l = q.count in
-    let e = some_there es 0 (omega (arith, some, k)) in let m = some_there ms 0 some in let n = some_there ns 0 (omega (arith, some, k, l)) in
+    let e = entry_at es 0 (omega (arith, some, k)) in let m = entry_at ms 0 some in let n = entry_at ns 0 (omega (arith, some, k, l)) in
     let f : MethodRef = record { class = c; name = m.0.name; proto = m.0.proto } in
     let g : MethodRef = record { class = d; name = n.0.name; proto = n.0.proto } in
     let x = p.each 0 e.0 m.0 e.1 m.1 in let y = q.each 0 e.0 n.0 e.1 n.1 in
-    method_class f g (keys_same s.methods (index_of (steps es) 0) (method_ref_key f) (method_ref_key g) x.method y.method)
+    method_class f g (keys-one s.methods (index_of (steps es) 0) (method_ref_key f) (method_ref_key g) x.method y.method)
 
 class_told : (s : Five) (e : Entries) (c d : Class) → 0 < length c.statics + length c.instances + length c.directs + length c.virtuals
     → MembersRank (NameRanks s) e c → MembersRank (NameRanks s) e d → c.ty ≡ d.ty
@@ -151,20 +148,20 @@ class_told s e c d some p q = elim (cases_lt 0 (length c.statics)) [
   ]
 ]
 
-pub members_told : (s : Five) (p : Program) (codes : List ℕ) → WellFormed p → Tells has_no_members (AreEntriesOf s) (sited p codes)
+pub members_told : (s : Five) (p : Program) (codes : List ℕ) → WellFormed p → Tells has_no_members (AreEntriesOf s) (with_code_places p codes)
 members_told s p codes well i j u v entries at_i at_j some x y =
     let t = class_told s entries u.class v.class (some_of u.class.statics u.class.instances u.class.directs u.class.virtuals some) x y in
     let n = types_apart p well i j u.class v.class (sited_class p codes i u at_i) (sited_class p codes j v at_j) t in
-    let found : Some u ≡ Some v = sym at_i ∙ ap (λ (k : ℕ). slice_get (sited p codes) k) n ∙ at_j in
+    let found : Some u ≡ Some v = sym at_i ∙ ap (λ (k : ℕ). slice_get (with_code_places p codes) k) n ∙ at_j in
     cc
 
 -- ---- bodies can be written
 
 all_bodies : (P : Option Code → Type 0) (p : Program) → ((i : ℕ) (c : Class) → slice_get p i ≡ Some c → AllByRecursion P (bodies_of c)) → AllByRecursion P (flat_map bodies_of p)
 all_bodies P [] f = tt
-all_bodies P (c ∷ p) f = all_both P (bodies_of c) (flat_map bodies_of p) (f zero c refl) (all_bodies P p (λ i d e. f (suc i) d e))
+all_bodies P (c ∷ p) f = all_append P (bodies_of c) (flat_map bodies_of p) (f zero c refl) (all_bodies P p (λ i d e. f (suc i) d e))
 
 pub bodies_can : (p : Program) → WellFormed p → Fits p → (n : ℕ) (o : Option Code) → slice_get (body_values p) n ≡ Some o → BodyCanBePut (needed p) o
 bodies_can p w fits n o at =
-    all_get (BodyCanBePut (needed p)) (body_values p) n o
+    all-get (BodyCanBePut (needed p)) (body_values p) n o
     (all_bodies (BodyCanBePut (needed p)) p (λ i c e. class_can (needed p) p i c refl w fits (room_of (needed p) p refl fits) e)) at

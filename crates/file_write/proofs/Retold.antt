@@ -7,11 +7,11 @@ use Rattle.std.proofs.lemmas.Option.{slice_get_within}
 use Rattle.dex_container.specs.Where.{slice}
 use Rattle.file_classes.proofs.EntryLaws.{entry_at}
 use Rattle.file_layout.specs.Tiles.{Among, AreShared, Lays, Refers, add_place, distinct_places}
-use Rattle.file_layout.proofs.SectionLaws.{Zip-length}
 use Rattle.file_layout.proofs.TileLaws.{Tiles-among, refers_some, zip_there}
 use Rattle.file_write.specs.Packed.{IsPackedSection}
 use Rattle.file_write.proofs.Items.{among_kept, places_kept}
 use Rattle.file_write.proofs.Sections.{Reread, Tells, reread, same_length}
+use Rattle.base_bytes.proofs.ListFacts.{all_there, zip_length}
 
 -- ---- each place that isn't 0 is among the distinct ones
 
@@ -93,10 +93,6 @@ told_made none G H S b place v some f = let z : (place == 0) ≡ false = grind a
 
 -- ---- lists, element by element
 
-pub all_there : {A : Type 0} (P : A → Type 0) (us : List A) → ((i : ℕ) (u : A) → slice_get us i ≡ Some u → P u) → AllByRecursion P us
-all_there P [] f = tt
-all_there P (u ∷ us) f = (f zero u refl, all_there P us (λ i y e. f (suc i) y e))
-
 pub zip_of : {A B : Type 0} (R : A → B → Type 0) (xs : List A) (ys : List B) → length xs ≡ length ys → ((i : ℕ) (x : A) (y : B) → slice_get xs i ≡ Some x → slice_get ys i ≡ Some y → R x y) → AllZip R xs ys
 zip_of R [] [] n f = tt
 zip_of R [] (y ∷ ys) n f = absurd (omega (arith, n))
@@ -119,7 +115,7 @@ zip_one R one (x ∷ xs) (y ∷ ys) (b ∷ bs) p q =
 module _ {V W : Type 0} (none : V → Bool) (G : List ℕ → V → Type 0) (H : List ℕ → W → Type 0) (S : V → W → Type 0) (align : ℕ) (b : List ℕ) (kind begin end : ℕ) (vs : List V) (places : List ℕ)
     (all_told : AllZip (IsTold none G H S b) places vs) (tells : Tells none S vs) (x : IsPackedSection H align b kind begin end places) (low : 0 < begin) where
   same : length places ≡ length vs
-  same = Zip-length (IsTold none G H S b) places vs all_told
+  same = zip_length (IsTold none G H S b) places vs all_told
 
   told : (i place : ℕ) (v : V) → slice_get places i ≡ Some place → slice_get vs i ≡ Some v → IsTold none G H S b place v
   told i place v at of = zip_there (IsTold none G H S b) places vs i place v all_told at of

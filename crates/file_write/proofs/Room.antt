@@ -8,18 +8,7 @@ use Rattle.file_layout.specs.Sections.{wide_all}
 use Rattle.file_layout.specs.Tiles.{Among, Done, Item, Lays, Refers, Tiles, add_place, distinct_places, gap}
 use Rattle.file_layout.proofs.PartLaws.{length_slice}
 use Rattle.file_layout.proofs.TileLaws.{Tiles-le, refers_some}
-use Rattle.file_write.proofs.Items.{Tiles-one}
-
--- places are added at the end
-grows : (places seen : List ℕ) → (more : List ℕ) × (fold add_place seen places ≡ seen ++ more)
-grows [] seen = ([], sym (append-nil seen))
-grows (p ∷ ps) seen = by ((p == 0) || list_any (λ q. q == p) seen) refl (λ s. grows ps s)
-  where
-    by : (t : Bool) → ((p == 0) || list_any (λ q. q == p) seen) ≡ t → ((s : List ℕ) → (more : List ℕ) × (fold add_place s ps ≡ s ++ more)) → (more : List ℕ) × (fold add_place (add_place seen p) ps ≡ seen ++ more)
-    by true e more = let g = more seen in (g.0, ap (λ (s : List ℕ). fold add_place s ps) (rw e refl) ∙ g.1)
-    by false e more =
-        let g = more (seen ++ p ∷ []) in
-        (p ∷ g.0, ap (λ (s : List ℕ). fold add_place s ps) (rw e refl) ∙ g.1 ∙ append_assoc seen (p ∷ []) g.0)
+use Rattle.file_layout.proofs.LayingOnce.{grows, one_there}
 
 abbrev firsts : {V : Type 0} → List (ℕ × V) → List ℕ
 firsts {V} items = map (λ (x : ℕ × V). x.0) items
@@ -28,7 +17,7 @@ tiles_none : {V : Type 0} {G : List ℕ → V → Type 0} {align : ℕ} {b : Lis
 tiles_none Done e = refl
 tiles_none (Item next some spelled rest) e = absurd (cc e)
 
--- The first item, and what is behind it.
+-- The first item, and what is after it.
 record FirstOf {V : Type 0} (G : List ℕ → V → Type 0) (align : ℕ) (b : List ℕ) (at end place : ℕ) (ps : List ℕ) (items : List (ℕ × V)) : Type 0 where
   value : V
   size : ℕ
@@ -74,7 +63,7 @@ module _ {V : Type 0} (none : V → Bool) (G : List ℕ → V → Type 0) (align
   first_room p v at ps items x rest other z fit i h =
       let need = needs p v other z in
       let r = refers_some none all p v need z in
-      let one : x.value ≡ v = Tiles-one p x.value v tiled (i p x.value (subst (λ (us : List (ℕ × V)). Among us p x.value) (sym x.is) (inl (refl, refl)))) r.1 in
+      let one : x.value ≡ v = one_there p x.value v tiled (i p x.value (subst (λ (us : List (ℕ × V)). Among us p x.value) (sym x.is) (inl (refl, refl)))) r.1 in
       let le = Tiles-le x.tiled in
       let long = length_slice b p x.size (omega (arith, le, inside)) in
       let room = fit need at (slice b p x.size) (subst (λ (u : V). G (slice b p x.size) u) one x.spelled) in

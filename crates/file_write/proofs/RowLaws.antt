@@ -7,7 +7,7 @@ use Rattle.base_bytes.specs.Words.{words_bytes}
 use Rattle.base_bytes.proofs.FieldBounds.{u32_at-fits}
 use Rattle.base_bytes.specs.Fields.{u16_at, u32_at}
 use Rattle.file_classes.specs.ClassRows.{IndexOrNone, class_word}
-use Rattle.file_rows.specs.ClassDefs.{SpellsClassRow, StringRanks, TypeRanks, other_places, seated}
+use Rattle.file_rows.specs.ClassDefs.{SpellsClassRow, StringRanks, TypeRanks, all_but_first, with_places}
 use Rattle.file_rows.proofs.ClassRowLaws.{first_of, length-seated, others_of}
 use Rattle.dex_container.specs.Frame.{IsFramed}
 use Rattle.dex_container.specs.Layout.{offset_of, size_of}
@@ -28,18 +28,19 @@ use Rattle.file_rows.specs.Rows.{SpellsFieldRow, SpellsMethodRow, SpellsRows, Sp
 use Rattle.file_rows.proofs.AtLaws as at_index
 use Rattle.tables_rows.specs.RowFields.{member_class, member_kind, member_name, proto_parameters, proto_return, proto_shorty, row_place, string_place, type_string}
 use Rattle.file_assemble.specs.Assembled.{Assembled, rows_of}
-use Rattle.file_assemble.proofs.AssembledLaws.{class_long, each_long, field_long, method_long, protos_long, row_count, table_long, type_long}
-use Rattle.file_write.proofs.FieldLaws.{all_fit, behind_halves, file_u16, file_u32, first_half, from_classes, from_fields, from_methods, from_protos, from_strings, from_types, only_u32, places_below, second_half, word_is}
+use Rattle.file_assemble.proofs.AssembledLaws.{class_long, each_long, protos_long, row_count, table_long}
+use Rattle.file_write.proofs.FieldLaws.{all_fit, after_halves, file_u16, file_u32, first_half, from_classes, from_fields, from_methods, from_protos, from_strings, from_types, only_u32, places_below, second_half, word_is}
+use Rattle.file_rows.proofs.AtLaws.{field_size, method_size, type_size}
 
 -- class i with its places
 pub seated_is : (p : Program) (lists datas arrays : List ℕ) (i : ℕ) (c : Class) → slice_get p i ≡ Some c
-    → slice_get (seated p lists datas arrays) i ≡ Some (record { class = c; list = get_or lists i 0; datum = get_or datas i 0; array = get_or arrays i 0 })
+    → slice_get (with_places p lists datas arrays) i ≡ Some (record { class = c; list = get_or lists i 0; class_data = get_or datas i 0; array = get_or arrays i 0 })
 seated_is [] lists datas arrays i c e = absurd (cc e)
 seated_is (d ∷ p) lists datas arrays zero c e =
     let same : d ≡ c = cc e in
-    rw (first_of lists, first_of datas, first_of arrays) (ap (λ (x : Class). Some (record { class = x; list = get_or lists 0 0; datum = get_or datas 0 0; array = get_or arrays 0 0 })) same)
+    rw (first_of lists, first_of datas, first_of arrays) (ap (λ (x : Class). Some (record { class = x; list = get_or lists 0 0; class_data = get_or datas 0 0; array = get_or arrays 0 0 })) same)
 seated_is (d ∷ p) lists datas arrays (suc i) c e =
-    seated_is p (other_places lists) (other_places datas) (other_places arrays) i c e
+    seated_is p (all_but_first lists) (all_but_first datas) (all_but_first arrays) i c e
     ∙ rw (others_of lists i, others_of datas i, others_of arrays i) refl
 
 -- What row i of proto_ids says: the indices of the shorty and of the return type, and where the parameters stand.
@@ -128,16 +129,16 @@ module _ (b : List ℕ) (s : Five) (p : Program) (a : Assembled b s p) where
   texts_long = let n = length-words a.at.texts in let m = spelled.string_ids in omega (arith, n, m)
 
   types_long : length spelled.types ≡ 4 * length s.types
-  types_long = table_long _ (SpellsTypeRow s) 4 (type_long s) spelled.types s.types spelled.type_ids
+  types_long = table_long _ (SpellsTypeRow s) 4 (type_size s) spelled.types s.types spelled.type_ids
 
   protos_are_long : length spelled.protos ≡ 12 * length s.protos
   protos_are_long = protos_long s _ spelled.protos s.protos spelled.proto_ids
 
   fields_long : length spelled.fields ≡ 8 * length s.fields
-  fields_long = table_long _ (SpellsFieldRow s) 8 (field_long s) spelled.fields s.fields spelled.field_ids
+  fields_long = table_long _ (SpellsFieldRow s) 8 (field_size s) spelled.fields s.fields spelled.field_ids
 
   methods_long : length spelled.methods ≡ 8 * length s.methods
-  methods_long = table_long _ (SpellsMethodRow s) 8 (method_long s) spelled.methods s.methods spelled.method_ids
+  methods_long = table_long _ (SpellsMethodRow s) 8 (method_size s) spelled.methods s.methods spelled.method_ids
 
   classes_long : length a.tables.classes ≡ 32 * length p
   classes_long =
@@ -159,7 +160,7 @@ module _ (b : List ℕ) (s : Five) (p : Program) (a : Assembled b s p) where
   texts_below place v among =
       let t = Tiles-among place v a.lies.strings.tiled among in
       let high = t.high in let some = t.some in
-      let arrays = a.written.planned.arrays.behind in let datas = a.written.planned.datas.behind in let map = a.written.behind in let ends = a.written.ends in
+      let arrays = a.written.planned.arrays.after in let datas = a.written.planned.datas.after in let map = a.written.after in let ends = a.written.ends in
       let size = header.file_size in let fits = u32_at-fits b 32 a.bytes in
       omega (arith, high, some, arrays, datas, map, ends, size, fits)
 
@@ -242,7 +243,7 @@ module _ (b : List ℕ) (s : Five) (p : Program) (a : Assembled b s p) where
       ∙ second_half bytes row.class row.ty row.name row.whole row.small_ty in
       let name : u32_at b (row_place b 3 i + 4) ≡ row.name =
       file_u32 b a.rows front r.fields (r.methods ++ a.tables.classes) 8 (8 * i) 4 (row_place b 3 i + 4) a.rows_are there (lit≤ tt) (omega (arith, x, lt)) (omega (arith, o, w, l, m, n, k))
-      ∙ behind_halves bytes row.class row.ty row.name row.whole row.small_name in
+      ∙ after_halves bytes row.class row.ty row.name row.whole row.small_name in
       record {
         class_is = subst (λ (j : ℕ). IsAt s.types j (text_key f.class)) (sym class) row.class_is;
         name_is = subst (λ (j : ℕ). IsAt s.strings j (text_key f.name)) (sym name) row.name_is;
@@ -271,7 +272,7 @@ module _ (b : List ℕ) (s : Five) (p : Program) (a : Assembled b s p) where
       ∙ second_half bytes row.class row.proto row.name row.whole row.small_proto in
       let name : u32_at b (row_place b 4 i + 4) ≡ row.name =
       file_u32 b a.rows front r.methods a.tables.classes 8 (8 * i) 4 (row_place b 4 i + 4) a.rows_are there (lit≤ tt) (omega (arith, y, lt)) (omega (arith, o, w, l, m, x, n, k, h))
-      ∙ behind_halves bytes row.class row.proto row.name row.whole row.small_name in
+      ∙ after_halves bytes row.class row.proto row.name row.whole row.small_name in
       record {
         class_is = subst (λ (j : ℕ). IsAt s.types j (text_key q.class)) (sym class) row.class_is;
         name_is = subst (λ (j : ℕ). IsAt s.strings j (text_key q.name)) (sym name) row.name_is;
@@ -287,14 +288,14 @@ module _ (b : List ℕ) (s : Five) (p : Program) (a : Assembled b s p) where
       let o = classes_at (omega (arith, lt)) in
       let n = names_long in let m = classes_long in
       let lists : List ℕ = drop (length s.protos) a.at.lists in
-      let row = at_index.each_at (SpellsClassRow s) 32 (class_long s) a.tables.classes (seated p lists a.at.datas a.at.arrays) i
-      (record { class = c; list = get_or lists i 0; datum = get_or a.at.datas i 0; array = get_or a.at.arrays i 0 }) a.tables.class_rows (seated_is p lists a.at.datas a.at.arrays i c e) in
+      let row = at_index.each_at (SpellsClassRow s) 32 (class_long s) a.tables.classes (with_places p lists a.at.datas a.at.arrays) i
+      (record { class = c; list = get_or lists i 0; class_data = get_or a.at.datas i 0; array = get_or a.at.arrays i 0 }) a.tables.class_rows (seated_is p lists a.at.datas a.at.arrays i c e) in
       let words : List ℕ = row.class ∷ c.flags ∷ row.above ∷ get_or lists i 0 ∷ row.source ∷ 0 ∷ get_or a.at.datas i 0 ∷ get_or a.at.arrays i 0 ∷ [] in
       let word : (j : ℕ) → j < 8 → u32_at b (row_place b 5 i + 4 * j) ≡ get_or words j 0 = λ j few.
       file_u32 b a.rows a.tables.names a.tables.classes [] 32 (32 * i) (4 * j) (row_place b 5 i + 4 * j) a.rows_are
       (from_classes (words_bytes a.at.texts) spelled.types spelled.protos spelled.fields spelled.methods a.tables.classes a.tables.names a.rows a.tables.whole spelled.whole) (omega (arith, few)) (omega (arith, m, lt)) (omega (arith, o, n))
       ∙ word_is (take 32 (drop (32 * i) a.tables.classes)) words j row.whole
-      (all_fit words (row.small_class, (row.small_flags, (row.small_above, (row.small_list, (row.small_source, (lit< tt, (row.small_datum, (row.small_array, tt))))))))) few in
+      (all_fit words (row.small_class, (row.small_flags, (row.small_above, (row.small_list, (row.small_source, (lit< tt, (row.small_class_data, (row.small_array, tt))))))))) few in
       record {
         class_is = subst (λ (j : ℕ). TypeRanks s j c.ty) (sym (word 0 (lit< tt))) row.class_is;
         flags = word 1 (lit< tt);

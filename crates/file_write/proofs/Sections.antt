@@ -7,7 +7,8 @@ use Rattle.file_layout.specs.declared.plan.Part.{Part}
 use Rattle.file_layout.specs.Parts.{HasPart}
 use Rattle.file_layout.specs.Tiles.{Among, AreShared, Done, Item, Lays, Tiles, distinct_places, gap}
 use Rattle.file_write.specs.Packed.{IsPackedSection, MapSays}
-use Rattle.file_write.proofs.Items.{Tiles-one, items_used}
+use Rattle.file_write.proofs.Items.{items_used}
+use Rattle.file_layout.proofs.LayingOnce.{one_there}
 
 -- The same items, by what H reads in them; S says what is so of both.
 pub record Reread {V W : Type 0} (H : List ℕ → W → Type 0) (S : V → W → Type 0) (align : ℕ) (b : List ℕ) (at end : ℕ) (items : List (ℕ × V)) : Type 0 where
@@ -94,5 +95,5 @@ packed_section {V = V} {W = W} none G H S align b kind part begin vs places refe
     used : (place : ℕ) (v : V) → Among l.items place v → IsUsed none places vs place v
     used place v a =
         let k = items_used none G align begin part.end b vs places part.items l place v a in
-        let e = Tiles-one place k.value v l.tiled k.there a in
+        let e = one_there place k.value v l.tiled k.there a in
         record { turn = k.turn; of = k.of ∙ ap (λ (x : V). Some x) e; at = k.at; some = subst (λ (x : V). none x ≡ false) e k.some }

@@ -7,23 +7,22 @@ use Rattle.std.specs.List.{AllZip, slice_get}
 use Rattle.base_bytes.specs.Fields.{AreBytes, u16_at, u16_bytes, u32_at, u32_bytes}
 use Rattle.base_bytes.specs.Grammar.{Each}
 use Rattle.base_bytes.specs.Words.{words_bytes}
-use Rattle.base_bytes.proofs.FieldBounds.{u16_at-drop, u32_at-drop}
+use Rattle.base_bytes.proofs.FieldBounds.{u16_at-drop, u32_at-drop, drop-AreBytes}
 use Rattle.dex_container.specs.Where.{slice}
-use Rattle.file_layout.proofs.PartLaws.{drop_more}
+use Rattle.file_layout.proofs.PartLaws.{drop_more, slice_more}
 use Rattle.tables_rows.proofs.HalvesLaws.{u32_bytes-u32_at}
-use Rattle.file_write.specs.Packed.{words_of}
+use Rattle.file_write.specs.Packed.{words_of_rows}
 use Rattle.file_write.proofs.Retold.{zip_of}
+use Rattle.file_kept.proofs.ClassRowLaws.{same}
+use Rattle.base_bytes.proofs.WordsBytes.{words_bytes-push}
 
 -- ---- numbers
-
-pub drop_are : (b : List ℕ) (p : ℕ) → AreBytes b → AreBytes (drop p b)
-drop_are b p h i = rw (get_or-drop p b i 0) (h (p + i))
 
 pub word_bytes : (b : List ℕ) (place : ℕ) → AreBytes b → place + 4 ≤ length b → slice b place 4 ≡ u32_bytes (u32_at b place)
 unfolding slice
 word_bytes b place are low =
     let l = length-drop place b in
-    let e = u32_bytes-u32_at (drop place b) (drop_are b place are) (omega (arith, l, low)) in
+    let e = u32_bytes-u32_at (drop place b) (drop-AreBytes b place are) (omega (arith, l, low)) in
     let n : place + 0 ≡ place = omega arith in
     sym e ∙ ap u32_bytes (u32_at-drop b place 0 ∙ ap (u32_at b) n)
 
@@ -42,38 +41,29 @@ pub half_bytes : (b : List ℕ) (place : ℕ) → AreBytes b → place + 2 ≤ l
 unfolding slice
 half_bytes b place are low =
     let l = length-drop place b in
-    let e = first_half (drop place b) (drop_are b place are) (omega (arith, l, low)) in
+    let e = first_half (drop place b) (drop-AreBytes b place are) (omega (arith, l, low)) in
     let n : place + 0 ≡ place = omega arith in
     sym e ∙ ap u16_bytes (u16_at-drop b place 0 ∙ ap (u16_at b) n)
 
--- ---- one behind the other
-
-pub slice_more : (b : List ℕ) (at m n : ℕ) → slice b at (m + n) ≡ slice b at m ++ slice b (at + m) n
-unfolding slice
-slice_more b at m n = take-add m n (drop at b) ∙ ap (λ (t : List ℕ). take m (drop at b) ++ take n t) (drop_more at m b)
+-- ---- one after the other
 
 pub slice_none : (b : List ℕ) (at n : ℕ) → n ≡ 0 → slice b at n ≡ []
 unfolding slice
 slice_none b at n e = ap (λ (k : ℕ). take k (drop at b)) e
 
-words_push : (xs : List ℕ) (x : ℕ) → words_bytes (xs ++ x ∷ []) ≡ words_bytes xs ++ u32_bytes x
-unfolding words_bytes
-words_push [] x = append-nil (u32_bytes x)
-words_push (y ∷ ys) x = rw (words_push ys x, append_assoc (u32_bytes y) (words_bytes ys) (u32_bytes x)) refl
-
 no_words : words_bytes [] ≡ []
 unfolding words_bytes
 no_words = refl
 
-pub words_part : (b : List ℕ) (place n : ℕ) (word : ℕ → ℕ) → AreBytes b → place + 4 * n ≤ length b → ((j : ℕ) → j < n → word j ≡ u32_at b (place + 4 * j)) → slice b place (4 * n) ≡ words_bytes (words_of word n)
+pub words_part : (b : List ℕ) (place n : ℕ) (word : ℕ → ℕ) → AreBytes b → place + 4 * n ≤ length b → ((j : ℕ) → j < n → word j ≡ u32_at b (place + 4 * j)) → slice b place (4 * n) ≡ words_bytes (words_of_rows word n)
 words_part b place zero word are low is = slice_none b place (4 * 0) refl ∙ sym no_words
 words_part b place (suc n) word are low is =
     let e : 4 * suc n ≡ 4 * n + 4 = omega arith in
     ap (λ (k : ℕ). slice b place k) e
     ∙ slice_more b place (4 * n) 4
     ∙ ap (λ (t : List ℕ). t ++ slice b (place + 4 * n) 4) (words_part b place n word are (omega (arith, low)) (λ j lt. is j (omega (arith, lt))))
-    ∙ ap (λ (t : List ℕ). words_bytes (words_of word n) ++ t) (word_bytes b (place + 4 * n) are (omega (arith, low)) ∙ ap u32_bytes (sym (is n (omega arith))))
-    ∙ sym (words_push (words_of word n) (word n))
+    ∙ ap (λ (t : List ℕ). words_bytes (words_of_rows word n) ++ t) (word_bytes b (place + 4 * n) are (omega (arith, low)) ∙ ap u32_bytes (sym (is n (omega arith))))
+    ∙ sym (words_bytes-push (words_of_rows word n) (word n))
 
 -- rows of so many bytes each
 pub rows_part : {V : Type 0} (G : List ℕ → V → Type 0) (size : ℕ) (b : List ℕ) (begin : ℕ) (vs : List V) → ((i : ℕ) (v : V) → slice_get vs i ≡ Some v → G (slice b (begin + size * i) size) v)
@@ -91,9 +81,9 @@ rows_part {V} G size b begin (v ∷ vs) f =
 
 -- ---- words of rows
 
-pub length-words_of : (word : ℕ → ℕ) (n : ℕ) → length (words_of word n) ≡ n
+pub length-words_of : (word : ℕ → ℕ) (n : ℕ) → length (words_of_rows word n) ≡ n
 length-words_of word zero = refl
-length-words_of word (suc n) = let e = length-words_of word n in let a = length-append (words_of word n) (word n ∷ []) in omega (arith, e, a)
+length-words_of word (suc n) = let e = length-words_of word n in let a = length-append (words_of_rows word n) (word n ∷ []) in omega (arith, e, a)
 
 front_got : {V : Type 0} (xs ys : List V) (i : ℕ) → i < length xs → slice_get (xs ++ ys) i ≡ slice_get xs i
 front_got [] ys i lt = absurd (omega arith)
@@ -106,31 +96,28 @@ last_got [] y (suc i) e = absurd (omega (arith, e))
 last_got (x ∷ xs) y zero e = absurd (omega (arith, e))
 last_got (x ∷ xs) y (suc i) e = last_got xs y i (omega (arith, e))
 
-pub word_got : (word : ℕ → ℕ) (n i : ℕ) → i < n → slice_get (words_of word n) i ≡ Some (word i)
+pub word_got : (word : ℕ → ℕ) (n i : ℕ) → i < n → slice_get (words_of_rows word n) i ≡ Some (word i)
 word_got word zero i lt = absurd (omega arith)
 word_got word (suc n) i lt = elim (cases_lt i n) [
-  | inl l ↦ (let m = length-words_of word n in front_got (words_of word n) (word n ∷ []) i (omega (arith, l, m)) ∙ word_got word n i l)
+  | inl l ↦ (let m = length-words_of word n in front_got (words_of_rows word n) (word n ∷ []) i (omega (arith, l, m)) ∙ word_got word n i l)
   | inr l ↦ (
       let m = length-words_of word n in
       let e : i ≡ n = omega (arith, l, lt) in
-      last_got (words_of word n) (word n) i (omega (arith, m, e)) ∙ ap (λ (k : ℕ). Some (word k)) (sym e))
+      last_got (words_of_rows word n) (word n) i (omega (arith, m, e)) ∙ ap (λ (k : ℕ). Some (word k)) (sym e))
 ]
 
-pub same_number : (m n : ℕ) → Some m ≡ Some n → m ≡ n
-same_number m n e = cc
-
-pub words_zip : {V : Type 0} (R : ℕ → V → Type 0) (word : ℕ → ℕ) (n : ℕ) (vs : List V) → n ≡ length vs → ((i : ℕ) (v : V) → i < n → slice_get vs i ≡ Some v → R (word i) v) → AllZip R (words_of word n) vs
+pub words_zip : {V : Type 0} (R : ℕ → V → Type 0) (word : ℕ → ℕ) (n : ℕ) (vs : List V) → n ≡ length vs → ((i : ℕ) (v : V) → i < n → slice_get vs i ≡ Some v → R (word i) v) → AllZip R (words_of_rows word n) vs
 words_zip R word n vs e f =
     let l = length-words_of word n in
-    zip_of R (words_of word n) vs (l ∙ e) (λ i place v p q.
-    let w = slice_get_within (words_of word n) i place p in
+    zip_of R (words_of_rows word n) vs (l ∙ e) (λ i place v p q.
+    let w = slice_get_within (words_of_rows word n) i place p in
     let lt : i < n = omega (arith, w, l) in
-    subst (λ (k : ℕ). R k v) (same_number (word i) place (sym (word_got word n i lt) ∙ p)) (f i v lt q))
+    subst (λ (k : ℕ). R k v) (same (word i) place (sym (word_got word n i lt) ∙ p)) (f i v lt q))
 
-pub word_or : (word : ℕ → ℕ) (n i : ℕ) → i < n → word i ≡ get_or (words_of word n) i 0
+pub word_or : (word : ℕ → ℕ) (n i : ℕ) → i < n → word i ≡ get_or (words_of_rows word n) i 0
 word_or word n i lt =
     let l = length-words_of word n in
-    same_number (word i) (get_or (words_of word n) i 0) (sym (word_got word n i lt) ∙ slice_get-get_or (words_of word n) i 0 (omega (arith, l, lt)))
+    same (word i) (get_or (words_of_rows word n) i 0) (sym (word_got word n i lt) ∙ slice_get-get_or (words_of_rows word n) i 0 (omega (arith, l, lt)))
 
 -- ---- names by their keys
 

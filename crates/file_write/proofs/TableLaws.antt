@@ -20,7 +20,7 @@ use Rattle.program_types.specs.Key.{field_ref_key, method_ref_key, proto_key, te
 use Rattle.program_types.specs.KeyLaws.{ordering_then-equal}
 use Rattle.program_rules.specs.WellFormed.{WellFormed}
 use Rattle.file_sections.specs.Lists.{SpellsRanks}
-use Rattle.tables_rows.specs.RowFields.{member_class, member_key, member_kind, member_name, proto_parameters, proto_return, type_string}
+use Rattle.tables_rows.specs.RowFields.{member_class, member_indices, member_kind, member_name, proto_parameters, proto_return, type_string}
 use Rattle.tables_rows.specs.Sorted.{ProtoIsBelow, StringIsBelow, TablesHold, TypeIsBelow}
 use Rattle.tables_rows.specs.Stands.{NameStands, ProtoStands, SpellsIndexes}
 use Rattle.tables_rows.proofs.NameLaws.{field_one, method_one, proto_one}
@@ -82,7 +82,7 @@ module _ (b : List ℕ) (s : Five) (p : Program) (a : Assembled b s p) (valid : 
       (subst (λ (j : ℕ). AtOrNone (SpellsRanks s) b 0x1001 4 j q.params) (sym r.place) (ranks_at b s p a valid i q.params (proto_list b s p a valid i q e))) in
       (x.0, x.1, (r.ret_is, x.2))
 
-  field_indices : (i : ℕ) (f : FieldRef) → IsAt s.fields i (field_ref_key f) → IsFieldRow s f (member_key b 3 i)
+  field_indices : (i : ℕ) (f : FieldRef) → IsAt s.fields i (field_ref_key f) → IsFieldRow s f (member_indices b 3 i)
   field_indices i f e = let r = field_row b s p a i f e in record {
     class = member_class b 3 i;
     name = member_name b 3 i;
@@ -93,7 +93,7 @@ module _ (b : List ℕ) (s : Five) (p : Program) (a : Assembled b s p) (valid : 
     ty_is = r.ty_is;
   }
 
-  method_indices : (i : ℕ) (m : MethodRef) → IsAt s.methods i (method_ref_key m) → IsMethodRow s m (member_key b 4 i)
+  method_indices : (i : ℕ) (m : MethodRef) → IsAt s.methods i (method_ref_key m) → IsMethodRow s m (member_indices b 4 i)
   method_indices i m e = let r = method_row b s p a i m e in record {
     class = member_class b 4 i;
     name = member_name b 4 i;
@@ -147,13 +147,13 @@ module _ (b : List ℕ) (s : Five) (p : Program) (a : Assembled b s p) (valid : 
       name = x.0;
       stands = field_stands b s p a valid i x.0 x.1;
       rises = λ j e. let y = field_at j (omega (arith, e, h)) in
-          rise.fields j i y.0 x.0 (member_key b 3 j) (member_key b 3 i) (omega (arith, e)) y.1 x.1 (field_indices j y.0 y.1) (field_indices i x.0 x.1);
+          rise.fields j i y.0 x.0 (member_indices b 3 j) (member_indices b 3 i) (omega (arith, e)) y.1 x.1 (field_indices j y.0 y.1) (field_indices i x.0 x.1);
     };
     methods = λ i h. let x = method_at i h in record {
       name = x.0;
       stands = method_stands b s p a valid i x.0 x.1;
       rises = λ j e. let y = method_at j (omega (arith, e, h)) in
-          rise.methods j i y.0 x.0 (member_key b 4 j) (member_key b 4 i) (omega (arith, e)) y.1 x.1 (method_indices j y.0 y.1) (method_indices i x.0 x.1);
+          rise.methods j i y.0 x.0 (member_indices b 4 j) (member_indices b 4 i) (omega (arith, e)) y.1 x.1 (method_indices j y.0 y.1) (method_indices i x.0 x.1);
     };
   }
 

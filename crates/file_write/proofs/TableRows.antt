@@ -7,13 +7,13 @@ use Rattle.std.specs.List.{slice_get}
 use Rattle.base_bytes.specs.Fields.{AreBytes, u16_at, u16_bytes, u32_at, u32_bytes}
 use Rattle.base_bytes.specs.Grammar.{Each}
 use Rattle.base_bytes.specs.Words.{words_bytes}
-use Rattle.base_bytes.proofs.FieldBounds.{u32_at-fits}
+use Rattle.base_bytes.proofs.FieldBounds.{u32_at-fits, drop-AreBytes}
 use Rattle.dex_container.specs.Layout.{offset_of, size_of}
 use Rattle.dex_container.specs.Where.{slice}
 use Rattle.file_classes.specs.ClassRows.{IndexOrNone, class_word}
 use Rattle.file_classes.specs.Classes.{RowIs}
 use Rattle.file_classes.proofs.EntryLaws.{entry_at}
-use Rattle.file_rows.specs.ClassDefs.{Seated, SpellsClassRow, StringRanks, TypeRanks, seated}
+use Rattle.file_rows.specs.ClassDefs.{ClassWithPlaces, SpellsClassRow, StringRanks, TypeRanks, with_places}
 use Rattle.file_rows.specs.Rows.{SpellsFieldRow, SpellsMethodRow, SpellsProtoRow, SpellsProtos, SpellsRows, SpellsTable, SpellsTypeRow}
 use Rattle.file_rows.proofs.ClassRowLaws.{length-seated}
 use Rattle.program_types.specs.Content.{Class, Descriptor, FieldRef, MethodRef, OfDesc, OfField, OfMethod, OfText, Program, Proto, Units}
@@ -24,13 +24,15 @@ use Rattle.tables_rows.specs.RowFields.{member_class, member_kind, member_name, 
 use Rattle.tables_rows.specs.Sorted.{TablesHold}
 use Rattle.tables_rows.specs.Stands.{FieldStands, MethodStands, ProtoStands, StringStands, TypeStands}
 use Rattle.file_write.specs.Least.{HoldsExactly}
-use Rattle.file_write.specs.Packed.{TablesArePacked, table_end, text_places, words_of}
+use Rattle.file_write.specs.Packed.{TablesArePacked, table_end, text_places, words_of_rows}
 use Rattle.file_write.proofs.RowLaws.{seated_is}
-use Rattle.file_write.proofs.TableBytes.{beside, drop_are, beside_got, beside_keys, beside_places, half_bytes, key_got, length-words_of, names_from, rows_part, same_number, slice_more, word_bytes, word_got, words_part}
+use Rattle.file_write.proofs.TableBytes.{beside, beside_got, beside_keys, beside_places, half_bytes, key_got, length-words_of, names_from, rows_part, word_bytes, word_got, words_part}
+use Rattle.file_kept.proofs.ClassRowLaws.{same as same_number}
+use Rattle.file_layout.proofs.PartLaws.{slice_more}
 
 u16_fits : (b : List ℕ) (p : ℕ) → AreBytes b → u16_at b p < 2 ^ 16
 unfolding u16_at
-u16_fits b p are = let d = drop_are b p are in omega (arith, d 0, d 1)
+u16_fits b p are = let d = drop-AreBytes b p are in omega (arith, d 0, d 1)
 
 pub same_key : (ks : List Key) (i : ℕ) (u v : Key) → slice_get ks i ≡ Some u → slice_get ks i ≡ Some v → u ≡ v
 same_key ks i u v p q = cc
@@ -126,7 +128,7 @@ module _ (b : List ℕ) (s : Five) (are : AreBytes b) (x : HoldsExactly b s) (t 
       }
 
   class_row : (i list datum array : ℕ) (c : Class) → i < size_of b 5 → RowIs b i c.ty c.flags c.superclass c.source → class_word b i 3 ≡ list → class_word b i 5 ≡ 0 → class_word b i 6 ≡ datum → class_word b i 7 ≡ array
-      → SpellsClassRow s (slice b (table_end b 5 + 32 * i) 32) (record { class = c; list = list; datum = datum; array = array })
+      → SpellsClassRow s (slice b (table_end b 5 + 32 * i) 32) (record { class = c; list = list; class_data = datum; array = array })
   unfolding class_word
   class_row i list datum array c lt r l a d v =
       let o = begins 5 i (omega arith) lt in
@@ -143,7 +145,7 @@ module _ (b : List ℕ) (s : Five) (are : AreBytes b) (x : HoldsExactly b s) (t 
         small_above = fits 2;
         small_list = subst (λ (n : ℕ). n < 2 ^ 32) l (fits 3);
         small_source = fits 4;
-        small_datum = subst (λ (n : ℕ). n < 2 ^ 32) d (fits 6);
+        small_class_data = subst (λ (n : ℕ). n < 2 ^ 32) d (fits 6);
         small_array = subst (λ (n : ℕ). n < 2 ^ 32) v (fits 7);
         class_is = x.only (class_word b i 0) (OfDesc c.ty) r.named;
         above_is = index_or_none (TypeStands b) (TypeRanks s) (λ j n h. x.only j (OfDesc n) h) (class_word b i 2) c.superclass r.above;
@@ -207,10 +209,10 @@ module _ (b : List ℕ) (s : Five) (are : AreBytes b) (x : HoldsExactly b s) (t 
   methods_table : SpellsTable method_ref_key (SpellsMethodRow s) (slice b (table_end b 4) (8 * size_of b 4)) s.methods
   methods_table = table method_ref_key (SpellsMethodRow s) 8 (table_end b 4) (size_of b 4) s.methods x.methods method_named (λ i v at. method_row i v (x.each i (OfMethod v) at))
 
-  protos_table : SpellsProtos s (words_of (proto_parameters b) (size_of b 2)) (slice b (table_end b 2) (12 * size_of b 2)) s.protos
+  protos_table : SpellsProtos s (words_of_rows (proto_parameters b) (size_of b 2)) (slice b (table_end b 2) (12 * size_of b 2)) s.protos
   protos_table =
       let r = names_from proto_key s.protos proto_named in
-      let places = words_of (proto_parameters b) (size_of b 2) in
+      let places = words_of_rows (proto_parameters b) (size_of b 2) in
       let l = length-words_of (proto_parameters b) (size_of b 2) in
       let many = x.protos in
       let m : length r.0 ≡ size_of b 2 = sym (length-map r.0 proto_key) ∙ ap length r.1 ∙ sym many in
@@ -239,7 +241,7 @@ module _ (b : List ℕ) (s : Five) (are : AreBytes b) (x : HoldsExactly b s) (t 
   abbrev pub names_size : ℕ
   names_size = 4 * size_of b 0 + (4 * size_of b 1 + (12 * size_of b 2 + (8 * size_of b 3 + 8 * size_of b 4)))
 
-  pub name_rows : SpellsRows s (text_places b) (words_of (proto_parameters b) (size_of b 2)) (slice b 112 names_size)
+  pub name_rows : SpellsRows s (text_places b) (words_of_rows (proto_parameters b) (size_of b 2)) (slice b 112 names_size)
   name_rows = record {
     types = slice b (table_end b 1) (4 * size_of b 1);
     protos = slice b (table_end b 2) (12 * size_of b 2);
@@ -266,9 +268,9 @@ module _ (b : List ℕ) (s : Five) (are : AreBytes b) (x : HoldsExactly b s) (t 
       → ((i : ℕ) (c : Class) → slice_get p i ≡ Some c → RowIs b i c.ty c.flags c.superclass c.source)
       → ((i : ℕ) → i < size_of b 5 → class_word b i 3 ≡ get_or lists i 0) → ((i : ℕ) → i < size_of b 5 → class_word b i 5 ≡ 0)
       → ((i : ℕ) → i < size_of b 5 → class_word b i 6 ≡ get_or datas i 0) → ((i : ℕ) → i < size_of b 5 → class_word b i 7 ≡ get_or arrays i 0)
-      → Each (SpellsClassRow s) (slice b (table_end b 5) (32 * size_of b 5)) (seated p lists datas arrays)
+      → Each (SpellsClassRow s) (slice b (table_end b 5) (32 * size_of b 5)) (with_places p lists datas arrays)
   class_rows p lists datas arrays many row l a d v =
-      let vs = seated p lists datas arrays in
+      let vs = with_places p lists datas arrays in
       let n : length vs ≡ size_of b 5 = length-seated p lists datas arrays ∙ sym many in
       subst (λ (m : ℕ). Each (SpellsClassRow s) (slice b (table_end b 5) (32 * m)) vs) n
       (rows_part (SpellsClassRow s) 32 b (table_end b 5) vs (λ i w got.
@@ -276,9 +278,9 @@ module _ (b : List ℕ) (s : Five) (are : AreBytes b) (x : HoldsExactly b s) (t 
       let within : i < size_of b 5 = omega (arith, lt, n) in
       let c = entry_at p i (omega (arith, within, many)) in
       let is = seated_is p lists datas arrays i c.0 c.1 in
-      let same = same_seated (record { class = c.0; list = get_or lists i 0; datum = get_or datas i 0; array = get_or arrays i 0 }) w (sym is ∙ got) in
-      subst (λ (u : Seated). SpellsClassRow s (slice b (table_end b 5 + 32 * i) 32) u) same
+      let same = same_seated (record { class = c.0; list = get_or lists i 0; class_data = get_or datas i 0; array = get_or arrays i 0 }) w (sym is ∙ got) in
+      subst (λ (u : ClassWithPlaces). SpellsClassRow s (slice b (table_end b 5 + 32 * i) 32) u) same
       (class_row i (get_or lists i 0) (get_or datas i 0) (get_or arrays i 0) c.0 within (row i c.0 c.1) (l i within) (a i within) (d i within) (v i within))))
     where
-      same_seated : (u w : Seated) → Some u ≡ Some w → u ≡ w
+      same_seated : (u w : ClassWithPlaces) → Some u ≡ Some w → u ≡ w
       same_seated u w e = cc

@@ -12,7 +12,7 @@ use Rattle.dex_container.specs.Where.{At, slice}
 use Rattle.dex_value.specs.Spelling.{SpellsArray}
 use Rattle.dex_value.specs.Standing.{ArrayStands}
 use Rattle.dex_value.proofs.Weaker.{SpellsArray-weaker}
-use Rattle.value_laws.proofs.Carrying.{file_array_unique}
+use Rattle.dex_value.proofs.Carrying.{file_array_unique}
 use Rattle.code_read.specs.Code.{SpellsCode}
 use Rattle.code_read.proofs.CodeLaws.{SpellsCode-unique}
 use Rattle.file_classes.specs.ClassData.{Entries, EntriesAt, FieldEntry, MethodEntry, SpellsEntries, no_entries}
@@ -20,11 +20,11 @@ use Rattle.file_classes.specs.Classes.{CodeAt, CodesAre, IsField, IsMethod, Memb
 use Rattle.file_classes.proofs.EntryLaws.{entries_unique}
 use Rattle.file_classes.proofs.OnceLaws.{one_of_kind}
 use Rattle.file_layout.specs.Sections.{is_empty_list, never}
-use Rattle.file_layout.proofs.SectionLaws.{Zip-length, not_none}
+use Rattle.file_layout.proofs.SectionLaws.{not_none}
 use Rattle.file_layout.proofs.StandLaws.{zip_weaker}
 use Rattle.file_limits.specs.Wide.{bodies_in, bodies_of, body_values}
 use Rattle.file_sections.specs.Codes.{PacksBody, is_bodiless}
-use Rattle.file_sections.specs.Data.{FieldRanks, MembersRank, MethodRanks, PacksData, Sited, code_offs, has_no_members, method_count, sited}
+use Rattle.file_sections.specs.Data.{FieldRanks, MembersRank, MethodRanks, PacksData, ClassWithCodes, code_offs, has_no_members, method_count, with_code_places}
 use Rattle.file_sections.specs.Lists.{SpellsRanks}
 use Rattle.program_types.specs.Content.{Class, Code, Descriptor, Member, Method, Name, OfDesc, OfField, OfMethod, Program, Units, Value}
 use Rattle.program_types.specs.Key.{text_key}
@@ -38,6 +38,7 @@ use Rattle.file_write.proofs.Codes.{PacksCode-weaker}
 use Rattle.file_write.proofs.Members.{entries_spelled, run_weaker}
 use Rattle.file_write.proofs.Readings.{AreEntriesOf, AreIndicesOf, IsBodyOf, shortest_same}
 use Rattle.file_write.proofs.Retold.{IsTold, told_made, zip_of}
+use Rattle.base_bytes.proofs.ListFacts.{zip_length}
 
 -- two spellings that begin at one place are of one value
 one_at : {V : Type 0} (G : List ℕ → V → Type 0) → IsPrefixUnique G → (b : List ℕ) (place m n : ℕ) (v w : V) → G (slice b place m) v → G (slice b place n) w → w ≡ v
@@ -75,7 +76,7 @@ module _ (b : List ℕ) (s : Five) (framed : IsFramed b) (each : (i : ℕ) (whic
           let e = one_at SpellsIndexes indexes_unique b place a.size size r.indexes w r.spelled h.0 in
           let named : AreIndices s.types w ts =
           zip_weaker (TypeStands b) (λ i t. IsAt s.types i (text_key t)) (λ i t k. only i (OfDesc t) k) w ts (subst (λ (is : List ℕ). AllZip (TypeStands b) is ts) (sym e) r.named) in
-          let n = Zip-length (λ (i : ℕ) (t : Descriptor). IsAt s.types i (text_key t)) w ts named in
+          let n = zip_length (λ (i : ℕ) (t : Descriptor). IsAt s.types i (text_key t)) w ts named in
           let some = h.1 in
           (not_none ts (omega (arith, n, some)), record { indexes = w; spelled = h.0; named = named }, named)
 
@@ -191,16 +192,16 @@ all_bodies_zip R (e ∷ es) (c ∷ p) n f =
     zip_both R (code_places e) (flat_map code_places es) (bodies_of c) (body_values p) (f zero e c refl refl) (all_bodies_zip R es p (omega (arith, n)) (λ i d k x y. f (suc i) d k x y))
 
 -- A class with the places of its own bodies, which its entries have.
-pub record WasSited (p : Program) (es : List Entries) (i : ℕ) (v : Sited) : Type 0 where
+pub record WasSited (p : Program) (es : List Entries) (i : ℕ) (v : ClassWithCodes) : Type 0 where
   pub class : Class
   pub entries : Entries
   pub of : slice_get p i ≡ Some class
   pub by : slice_get es i ≡ Some entries
   pub is : v ≡ record { class = class; codes = code_places entries }
 
-pub was_sited : (p : Program) (es : List Entries) (i : ℕ) (v : Sited) → length es ≡ length p
+pub was_sited : (p : Program) (es : List Entries) (i : ℕ) (v : ClassWithCodes) → length es ≡ length p
     → ((k : ℕ) (e : Entries) (c : Class) → slice_get es k ≡ Some e → slice_get p k ≡ Some c → length (code_places e) ≡ method_count c)
-    → slice_get (sited p (flat_map code_places es)) i ≡ Some v → WasSited p es i v
+    → slice_get (with_code_places p (flat_map code_places es)) i ≡ Some v → WasSited p es i v
 was_sited [] es i v n f at = absurd (cc at)
 was_sited (c ∷ p) [] i v n f at = absurd (omega (arith, n))
 was_sited (c ∷ p) (e ∷ es) zero v n f at =
@@ -208,10 +209,10 @@ was_sited (c ∷ p) (e ∷ es) zero v n f at =
     let t = take_at (code_places e) (flat_map code_places es) (method_count c) m in
     record { class = c; entries = e; of = refl; by = refl; is = some_same v (record { class = c; codes = take (method_count c) (code_places e ++ flat_map code_places es) }) (sym at) ∙ ap (λ (xs : List ℕ). record { class = c; codes = xs }) t }
   where
-    some_same : (x y : Sited) → Some x ≡ Some y → x ≡ y
+    some_same : (x y : ClassWithCodes) → Some x ≡ Some y → x ≡ y
     some_same x y k = cc
 was_sited (c ∷ p) (e ∷ es) (suc i) v n f at =
     let m = f zero e c refl refl in
     let d = drop_at (code_places e) (flat_map code_places es) (method_count c) m in
-    let r = was_sited p es i v (omega (arith, n)) (λ k x y a z. f (suc k) x y a z) (subst (λ (cs : List ℕ). slice_get (sited p cs) i ≡ Some v) d at) in
+    let r = was_sited p es i v (omega (arith, n)) (λ k x y a z. f (suc k) x y a z) (subst (λ (cs : List ℕ). slice_get (with_code_places p cs) i ≡ Some v) d at) in
     record { class = r.class; entries = r.entries; of = r.of; by = r.by; is = r.is }

@@ -14,17 +14,12 @@ use Rattle.program_types.specs.Key.{Key, field_ref_key, key_cmp, method_ref_key,
 use Rattle.program_types.specs.KeyLaws.{key_cmp-same}
 use Rattle.program_types.specs.Mentions.{mentions}
 use Rattle.program_rules.specs.Valid.{IsValidField, IsValidMethod, IsValidName, IsValidProto, IsValueType}
+use Rattle.file_rows.proofs.AtLaws.{proto_one}
 
 -- ---- a name is told by its key
 
 pub text_same : (t u : Units) → text_key t ≡ text_key u → t ≡ u
 text_same t u e = cc e
-
-pub proto_same : (p q : Proto) → proto_key p ≡ proto_key q → p ≡ q
-proto_same p q e =
-    let ret : p.ret ≡ q.ret = cc e in
-    let params : p.params ≡ q.params = cc e in
-    λ i. record { ret = ret i; params = params i }
 
 pub field_same : (f g : FieldRef) → field_ref_key f ≡ field_ref_key g → f ≡ g
 field_same f g e =
@@ -38,7 +33,7 @@ method_same m n e =
     let class : m.class ≡ n.class = cc e in
     let name : m.name ≡ n.name = cc e in
     let key : proto_key m.proto ≡ proto_key n.proto = cc e in
-    let proto = proto_same m.proto n.proto key in
+    let proto = proto_one m.proto n.proto key in
     λ i. record { class = class i; name = name i; proto = proto i }
 
 -- ---- what holds of each key of a set

@@ -62,25 +62,25 @@ SomeMembers bytes e =
 -- ---- the references to them, in the order of the file
 
 -- one field of each row
-abbrev pub words_of : (ℕ → ℕ) → ℕ → List ℕ
-words_of word zero = []
-words_of word (suc n) = words_of word n ++ word n ∷ []
+abbrev pub words_of_rows : (ℕ → ℕ) → ℕ → List ℕ
+words_of_rows word zero = []
+words_of_rows word (suc n) = words_of_rows word n ++ word n ∷ []
 
 -- parameters_off of each prototype, then interfaces_off of each class
 abbrev pub list_places : List ℕ → List ℕ
-list_places b = words_of (proto_parameters b) (size_of b section.proto_ids) ++ words_of (λ i. interfaces_off b i) (size_of b section.class_defs)
+list_places b = words_of_rows (proto_parameters b) (size_of b section.proto_ids) ++ words_of_rows (λ i. interfaces_off b i) (size_of b section.class_defs)
 
 -- string_data_off of each string
 abbrev pub text_places : List ℕ → List ℕ
-text_places b = words_of (string_place b) (size_of b section.string_ids)
+text_places b = words_of_rows (string_place b) (size_of b section.string_ids)
 
 -- static_values_off of each class
 abbrev pub array_places : List ℕ → List ℕ
-array_places b = words_of (λ i. static_values_off b i) (size_of b section.class_defs)
+array_places b = words_of_rows (λ i. static_values_off b i) (size_of b section.class_defs)
 
 -- class_data_off of each class
 abbrev pub data_places : List ℕ → List ℕ
-data_places b = words_of (λ i. class_data_off b i) (size_of b section.class_defs)
+data_places b = words_of_rows (λ i. class_data_off b i) (size_of b section.class_defs)
 
 -- the class data of row i, no entries where it has none
 abbrev pub ClassDataIs : List ℕ → ℕ → Entries → Type 0
@@ -92,12 +92,12 @@ code_places e = code_offs e.directs ++ code_offs e.virtuals
 
 -- ---- the file
 
--- where the first k tables end, if they stand end to end behind the header
+-- where the first k tables end, if they stand end to end after the header
 abbrev pub table_end : List ℕ → ℕ → ℕ
 table_end b zero = 112
 table_end b (suc k) = table_end b k + row_bytes k * size_of b k
 
--- Tables stand end to end behind the header, and one without rows has the offset 0; the data section goes from where
+-- Tables stand end to end after the header, and one without rows has the offset 0; the data section goes from where
 -- they end to the file's end.
 pub record TablesArePacked (b : List ℕ) : Type 0 where
   pub offsets : (k : ℕ) → k < 6 → offset_of b k ≡ (if size_of b k == 0 then 0 else table_end b k)
@@ -112,7 +112,7 @@ pub record DataEnds : Type 0 where
   pub arrays : ℕ
   pub datas : ℕ
 
--- Type lists, code, texts, static values, class data and the map stand one behind the other.
+-- Type lists, code, texts, static values, class data and the map stand one after the other.
 pub record DataIsPacked (b : List ℕ) (ends : DataEnds) (entries : List Entries) : Type 0 where
   pub lists : IsPackedSection SomeTypes 4 b 0x1001 (data_begin b) ends.lists (list_places b)
   pub codes : IsPackedSection (SomeCode b) 4 b 0x2001 ends.lists ends.codes (flat_map code_places entries)
@@ -122,7 +122,7 @@ pub record DataIsPacked (b : List ℕ) (ends : DataEnds) (entries : List Entries
   pub map : IsNext 4 b ends.datas (map_place b)
   pub map_last : map_end b ≡ length b
 
--- What no reader looks at is 0: link_off, annotations_off, the half word behind the kind of a map entry.
+-- What no reader looks at is 0: link_off, annotations_off, the half word after the kind of a map entry.
 pub record UnusedIsZero (b : List ℕ) : Type 0 where
   pub link : u32_at b 48 ≡ 0
   pub annotations : (i : ℕ) → i < size_of b section.class_defs → annotations_off b i ≡ 0

@@ -27,7 +27,7 @@ pub fn assembled_tables_hold()
 {}
 
 /// The rows of class_defs of an assembled file spell the classes of its program, with their interfaces, static values, members and
-/// bodies, and each class comes behind what it stands on.
+/// bodies, and each class comes after what it stands on.
 pub fn assembled_classes_stand()
     ensures classes { (b : List ℕ) (p : Program) → WellFormed p → Fits p → Assembled b (needed p) p → AreRows SpellsClass b section.class_defs p }
     ensures order { (b : List ℕ) (p : Program) → WellFormed p → Fits p → Assembled b (needed p) p → (i : ℕ) → i < size_of b section.class_defs → InOrder b i }
@@ -38,14 +38,14 @@ pub fn assembled_means()
     ensures { (b : List ℕ) (p : Program) → WellFormed p → Fits p → Assembled b (needed p) p → Means b p }
 {}
 
-/// It is packed: its tables stand end to end, its data section holds the items that are referred to, no two of a section equal, in the
-/// order of their first references, and nothing else but the zeros that align them, numbers and values take the fewest bytes, and what no
-/// reader looks at is 0.
+/// An assembled file is packed: its tables stand end to end, its data section holds the items that are referred to, no two of a section
+/// equal, in the order of their first references, and nothing else but the zeros that align them, numbers and values take the fewest
+/// bytes, and what no reader looks at is 0.
 pub fn assembled_is_packed()
     ensures { (b : List ℕ) (p : Program) → WellFormed p → Fits p → Assembled b (needed p) p → Packed b }
 {}
 
-/// The converse: what means a program, holds exactly the names that the program needs and is packed is assembled of it, and is its file.
+/// What means a program, holds exactly the names that the program needs and is packed is assembled of it, and is its file.
 pub fn packed_is_assembled()
     ensures assembled { (b : List ℕ) (p : Program) → Means b p → HoldsExactly b (needed p) → Packed b → Assembled b (needed p) p }
     ensures file { (b : List ℕ) (p : Program) → Means b p → HoldsExactly b (needed p) → Packed b → IsFileOf p b }

@@ -22,7 +22,7 @@ use std::alloc::Global;
 /// exactly the names that the program needs.
 ///
 /// Refused are programs that break a limit of the format, by the lowest of 80 to 90 that stands, at its place: for 80 and 81 how many
-/// are needed, for 82 to 89 the class's number, for 90 it is 0. What is refused with 80 to 88 is meant by no file at all. 255 is want of
+/// are needed, for 82 to 89 the class's number, for 90 it is 0. What is refused with 80 to 88 is meant by no file at all. 255 is out of
 /// memory.
 ///
 /// ```

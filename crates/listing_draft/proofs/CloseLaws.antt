@@ -9,7 +9,7 @@ use Rattle.listing_draft.specs.Members.{Given, is_given, given_length, value_or_
 use Rattle.listing_draft.specs.View.{given}
 use Rattle.listing_draft.specs.declared.close.Given.{Given as Made}
 
--- behind i fields, of which the last with a value ends at n
+-- after i fields, of which the last with a value ends at n
 abbrev pub ends_at : ℕ → ℕ → ℕ → ℕ
 ends_at n i more = if ltb 0 more then i + more else n
 

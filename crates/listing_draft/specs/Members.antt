@@ -13,7 +13,7 @@ pub record Given : Type 0 where
   pub field : Member
   pub value : Option Value
 
--- It is told by its field.
+-- A static field is told by its field, whatever value the text gives it.
 abbrev pub given_key : Given → Key
 given_key g = member_key g.field
 
@@ -45,7 +45,7 @@ zero_of ty =
     if slice_index ty 0 == 68 then content.Double 0 else
     content.Null)))))))
 
--- Its value, or its type's zero.
+-- The value of a static field, or its type's zero where the text gives none.
 abbrev pub value_or_zero : Given → Value
 value_or_zero g = elim g.value [ None ↦ zero_of g.field.ty | Some v ↦ v ]
 

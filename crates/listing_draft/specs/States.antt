@@ -11,7 +11,7 @@ use Rattle.listing_lines.specs.Lines.{Line, first_line, open_class, end_class, s
 use Rattle.listing_shapes.specs.Shapes.{Shape}
 use Rattle.listing_slots.specs.Keys.{same}
 use Rattle.listing_lines.specs.declared.stage.Stage.{Stage}
-use Rattle.listing_lines.specs.declared.stage.Stage.TheVariants.{Start, Top, Heads, Members, Behind, Insns, Tries, Caught}
+use Rattle.listing_lines.specs.declared.stage.Stage.TheVariants.{Start, Top, Heads, Members, After, Insns, Tries, Caught}
 use Rattle.listing_lines.specs.Places.{may_stand, is_insn, is_start, is_top}
 use Rattle.listing_lines.specs.Needs.{Need, line_needs, with_need, first_late, earliest}
 use Rattle.listing_draft.specs.Members.{Given, given_key, with_member, values_of}
@@ -33,11 +33,11 @@ pub record Owner : Type 0 where
   pub direct : Bool
   pub method : Key
 
--- How far the lines of a class have come: before its members, among them, or behind a method, whose code may follow.
+-- How far the lines of a class have come: before its members, among them, or after a method, whose code may follow.
 pub data ClassPart : Type 0 where
   at_heads : ClassPart
   at_members : ClassPart
-  behind_method : Owner → ClassPart
+  after_method : Owner → ClassPart
 
 -- The code that is open: whose it is, and what it has so far. Its tries are those that are whole.
 pub record Body : Type 0 where
@@ -55,13 +55,13 @@ pub record OpenTry : Type 0 where
   pub to : ℕ
   pub catches : List Catch
 
--- How far the lines of a code have come: among its instructions, behind a whole try, or in a try.
+-- How far the lines of a code have come: among its instructions, after a whole try, or in a try.
 pub data CodePart : Type 0 where
   at_insns : CodePart
-  behind_try : CodePart
+  after_try : CodePart
   in_try : OpenTry → CodePart
 
--- The block that is open: none, before the first line or behind it; a class; or a code of a class.
+-- The block that is open: none, before the first line or after it; a class; or a code of a class.
 pub data Block : Type 0 where
   at_start : Block
   at_top : Block
@@ -86,12 +86,12 @@ start = record { done = []; block = at_start; lines = 0; late = None }
 abbrev pub class_stage : ClassPart → Stage
 class_stage at_heads = Heads
 class_stage at_members = Members
-class_stage (behind_method m) = Behind
+class_stage (after_method m) = After
 
 -- Where the next line of a code stands.
 abbrev pub code_stage : CodePart → Stage
 code_stage at_insns = Insns
-code_stage behind_try = Tries
+code_stage after_try = Tries
 code_stage (in_try t) = Caught
 
 -- Where the next line stands.
@@ -102,14 +102,14 @@ stage_of (in_class o p) = class_stage p
 stage_of (in_code o b p) = code_stage p
 
 -- How many instructions the open code has.
-abbrev pub count_of : Block → ℕ
-count_of (in_code o b p) = length b.insns
-count_of _ = 0
+abbrev pub insn_count : Block → ℕ
+insn_count (in_code o b p) = length b.insns
+insn_count _ = 0
 
 -- A line of this shape may stand there; an instruction gives itself the next number.
 abbrev pub stands : State → Shape → Bool
 stands s sh =
-    may_stand (stage_of s.block) sh.kind && (if is_insn sh.kind then is_number sh.label (count_of s.block) else true)
+    may_stand (stage_of s.block) sh.kind && (if is_insn sh.kind then is_number sh.label (insn_count s.block) else true)
 
 -- ---- the class
 
@@ -171,7 +171,7 @@ with_superclass o d = elim o.superclass [ None ↦ Some (record o { superclass =
 unfoldable pub with_source : Open → Units → Option Open
 with_source o us = elim o.source [ None ↦ Some (record o { source = Some us }) | Some e ↦ None ]
 
--- One interface more, behind the others: none where it is given already.
+-- One interface more, after the others: none where it is given already.
 unfoldable pub with_interface : Open → Descriptor → Option Open
 with_interface o d = if is_among o.interfaces d then None else Some (record o { interfaces = o.interfaces ++ d ∷ [] })
 
@@ -188,9 +188,9 @@ class_line o (source_line us) = at_part at_heads (with_source o us)
 class_line o (static_line m v) = at_part at_members (with_static o (record { field = m; value = v }))
 class_line o (instance_line m) = at_part at_members (with_instance o m)
 class_line o (direct_line m) =
-    at_part (behind_method (record { direct = true; method = method_key m })) (with_direct o m)
+    at_part (after_method (record { direct = true; method = method_key m })) (with_direct o m)
 class_line o (virtual_line m) =
-    at_part (behind_method (record { direct = false; method = method_key m })) (with_virtual o m)
+    at_part (after_method (record { direct = false; method = method_key m })) (with_virtual o m)
 class_line o _ = None
 
 -- ---- the code
@@ -239,7 +239,7 @@ abbrev pub code_line : Body → CodePart → Line → Option (Body × CodePart)
 code_line b p (insn_line i) = Some (with_insn b i, at_insns)
 code_line b p (try_line from to) = Some (with_tries b p None, in_try (record { from = from; to = to; catches = [] }))
 code_line b p (catch_line d k) = option_map (λ q. (b, q)) (with_catch p (record { ty = d; at = k }))
-code_line b p (catch_all_line k) = if is_in_try p then Some (with_tries b p (Some k), behind_try) else None
+code_line b p (catch_all_line k) = if is_in_try p then Some (with_tries b p (Some k), after_try) else None
 code_line b p _ = None
 
 -- ---- a line more
@@ -258,7 +258,7 @@ class_of _ = None
 
 -- The method whose code may follow.
 abbrev pub owner_of : Block → Option Owner
-owner_of (in_class o (behind_method m)) = Some m
+owner_of (in_class o (after_method m)) = Some m
 owner_of _ = None
 
 -- The code begins.

@@ -63,7 +63,7 @@ owner m = record { direct = m.direct; method = str m.name ∷ proto_key (proto m
 abbrev pub class_part : ClassPart → states.ClassPart
 class_part of_class.Heads = states.at_heads
 class_part of_class.Members = states.at_members
-class_part (of_class.Behind m) = states.behind_method (owner m)
+class_part (of_class.After m) = states.after_method (owner m)
 
 -- the code that is open
 unfoldable pub open_body : Body → states.Body
@@ -84,7 +84,7 @@ open_try t = record { from = t.from; to = t.to; catches = map catch t.catches.it
 -- how far the lines of a code have come
 abbrev pub code_part : CodePart → states.CodePart
 code_part of_code.Insns = states.at_insns
-code_part of_code.Tries = states.behind_try
+code_part of_code.Tries = states.after_try
 code_part (of_code.Caught t) = states.in_try (open_try t)
 
 -- the block that is open

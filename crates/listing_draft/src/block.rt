@@ -10,7 +10,7 @@ use dex_base::Fault;
 use listing_lines::{Line, Stage, first_late};
 use std::mem;
 
-/// The block that is open: none, before the first line or behind it; a class; or a code of a class.
+/// The block that is open: none, before the first line or after it; a class; or a code of a class.
 #[derive(Drop)]
 pub enum Block<'a> {
     Start,
@@ -22,7 +22,7 @@ pub enum Block<'a> {
 impl<'a> Block<'a> {
     ghost use Rattle.std.specs.Prelude.{option_map};
     ghost use Rattle.listing_lines.specs.LineView.{line};
-    ghost use Rattle.listing_draft.specs.States.{stage_of, count_of, owner_of, with_body, late_in};
+    ghost use Rattle.listing_draft.specs.States.{stage_of, insn_count, owner_of, with_body, late_in};
     ghost use Rattle.listing_draft.specs.States.{class_again, code_ended, inside};
     ghost use Rattle.listing_draft.specs.View.{owner, open_body, block};
 
@@ -38,7 +38,7 @@ impl<'a> Block<'a> {
             Block::Class(class) => match class.part {
                 ClassPart::Heads => Stage::Heads,
                 ClassPart::Members => Stage::Members,
-                ClassPart::Behind(_) => Stage::Behind,
+                ClassPart::After(_) => Stage::After,
             },
             Block::Code(code) => match &code.part {
                 CodePart::Insns => Stage::Insns,
@@ -51,7 +51,7 @@ impl<'a> Block<'a> {
     /// How many instructions the open code has.
     #[tactic(auto, unfolding(crate::specs::View::block, crate::specs::View::open_body))]
     pub(crate) fn count(&self) -> u64
-        ensures { result ≡ count_of (block self.now) }
+        ensures { result ≡ insn_count (block self.now) }
     {
         match self {
             Block::Code(code) => code.body.insns.len() as u64,
@@ -66,7 +66,7 @@ impl<'a> Block<'a> {
     {
         match self {
             Block::Class(class) => match class.part {
-                ClassPart::Behind(of) => Some(of),
+                ClassPart::After(of) => Some(of),
                 _ => None,
             },
             _ => None,

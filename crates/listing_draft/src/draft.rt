@@ -89,7 +89,7 @@ impl<'a> Draft<'a> {
         is_number(found.label, self.block.count())
     }
 
-    /// One line more was read.
+    /// Counts one line more as read.
     #[tactic(auto, unfolding(crate::specs::View::state))]
     pub fn count_line(&mut self)
         requires { self.old.lines + 1 < 2 ^ 64 }

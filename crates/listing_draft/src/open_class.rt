@@ -60,8 +60,8 @@ pub enum ClassPart<'a> {
     Heads,
     /// Among them.
     Members,
-    /// Behind a method, whose code may follow.
-    Behind(Owner<'a>),
+    /// After a method, whose code may follow.
+    After(Owner<'a>),
 }
 
 /// A class among whose lines the next one stands.
@@ -221,11 +221,11 @@ impl<'a> InClass<'a> {
             Line::Static(field, value) => { self.part = ClassPart::Members; self.open.put_static(field, value) }
             Line::Instance(field) => { self.part = ClassPart::Members; self.open.put_instance(field) }
             Line::Direct(new) => {
-                self.part = ClassPart::Behind(Owner { direct: true, name: new.name, proto: new.proto });
+                self.part = ClassPart::After(Owner { direct: true, name: new.name, proto: new.proto });
                 self.open.put_direct(new)
             }
             Line::Virtual(new) => {
-                self.part = ClassPart::Behind(Owner { direct: false, name: new.name, proto: new.proto });
+                self.part = ClassPart::After(Owner { direct: false, name: new.name, proto: new.proto });
                 self.open.put_virtual(new)
             }
             _ => Ok(false),

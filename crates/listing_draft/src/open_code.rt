@@ -36,9 +36,9 @@ pub struct OpenTry<'a> {
 pub enum CodePart<'a> {
     /// Among its instructions.
     Insns,
-    /// Behind a whole try.
+    /// After a whole try.
     Tries,
-    /// Behind a try, or a catch of it.
+    /// After a try, or a catch of it.
     Caught(OpenTry<'a>),
 }
 

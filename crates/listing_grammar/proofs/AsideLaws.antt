@@ -9,9 +9,10 @@ use Rattle.listing_slots.specs.declared.slot.Slot.{Slot}
 use Rattle.listing_slots.specs.Keys.{key_text, same, find_key, lead_keys, payload_keys}
 use Rattle.listing_slots.specs.Slots.{has_form, have_forms}
 use Rattle.listing_shapes.specs.Shapes.{Row, Shape, IsInsnRow, HasBareShape, key_row}
-use Rattle.listing_shapes.proofs.ShapeLaws.{same_eq}
 use Rattle.listing_labels.specs.Labels.{is_mark}
 use Rattle.listing_parse.specs.Text.{is_second, begins_mark}
+use Rattle.listing_shapes.proofs.ShapeLaws.{all_at}
+use Rattle.listing_slots.proofs.KeyLaws.{same_true}
 
 -- ---- keywords
 
@@ -35,17 +36,17 @@ found_same (j ∷ ks) text k e = by (found_same ks text k) (same (key_text j) te
 
 -- ---- the first line of the second form
 
-pub one_behind : (ss : List Slot) (w : Word) (ws : List Word) → length ss ≡ 1 → have_forms ss ws ≡ true → is_second (w ∷ ws) ≡ false
+pub one_after : (ss : List Slot) (w : Word) (ws : List Word) → length ss ≡ 1 → have_forms ss ws ≡ true → is_second (w ∷ ws) ≡ false
 unfolding have_forms
-one_behind [] w ws e h = absurd cc
-one_behind (s ∷ []) w [] e h = refl
-one_behind (s ∷ []) w (v ∷ []) e h = refl
-one_behind (s ∷ []) w (v ∷ (x ∷ ws)) e h = absurd (by (has_form s v) h)
+one_after [] w ws e h = absurd cc
+one_after (s ∷ []) w [] e h = refl
+one_after (s ∷ []) w (v ∷ []) e h = refl
+one_after (s ∷ []) w (v ∷ (x ∷ ws)) e h = absurd (by (has_form s v) h)
   where
     by : (b : Bool) → (b && false) ≡ true → ⊥
     by true k = cc
     by false k = cc
-one_behind (s ∷ (r ∷ ss)) w ws e h = absurd cc
+one_after (s ∷ (r ∷ ss)) w ws e h = absurd cc
 
 second_first : (text : List ℕ) (ws : List Word) → same (codes "dex") text ≡ false → is_second (plain_word text ∷ ws) ≡ false
 second_first text [] e = refl
@@ -58,24 +59,15 @@ one_slot : (r row : Row) → Some row ≡ Some r → length r.1 ≡ 1 → length
 one_slot r row e h = let q : r ≡ row = cc in subst (λ (x : Row). length x.1 ≡ 1) q h
 
 other_key : (lead : Key) (text : List ℕ) → same (key_text lead) text ≡ true → same (codes "dex") (key_text lead) ≡ false → same (codes "dex") text ≡ false
-other_key lead text e f = subst (λ t. same (codes "dex") t ≡ false) (same_eq (key_text lead) text e) f
+other_key lead text e f = subst (λ t. same (codes "dex") t ≡ false) (same_true (key_text lead) text e) f
 
-keyed_second : (lead : Key) (text : List ℕ) (behind : List Word) (row : Row) → same (key_text lead) text ≡ true → Some row ≡ key_row lead behind → have_forms row.1 behind ≡ true → is_second (plain_word text ∷ behind) ≡ false
+keyed_second : (lead : Key) (text : List ℕ) (after : List Word) (row : Row) → same (key_text lead) text ≡ true → Some row ≡ key_row lead after → have_forms row.1 after ≡ true → is_second (plain_word text ∷ after) ≡ false
 unfolding key_row key_text same
-keyed_second key.Dex text behind row e h f = one_behind row.1 (plain_word text) behind (one_slot _ row h refl) f
-keyed_second key.Class text behind row e h f = second_first text behind (other_key key.Class text e refl)
-keyed_second k text behind row e h f = second_first text behind (other_key k text e refl)
+keyed_second key.Dex text after row e h f = one_after row.1 (plain_word text) after (one_slot _ row h refl) f
+keyed_second key.Class text after row e h f = second_first text after (other_key key.Class text e refl)
+keyed_second k text after row e h f = second_first text after (other_key k text e refl)
 
 -- ---- a label
-
-all_at : (P : List ℕ → Bool) (xs : List (List ℕ)) (i : ℕ) (d : List ℕ) → list_all P xs ≡ true → P d ≡ true → P (get_or xs i d) ≡ true
-all_at P [] i d a e = e
-all_at P (x ∷ xs) i d a e = by (P x) refl (all_at P xs) i
-  where
-    by : (b : Bool) → P x ≡ b → ((i : ℕ) (d : List ℕ) → list_all P xs ≡ true → P d ≡ true → P (get_or xs i d) ≡ true) → (i : ℕ) → P (get_or (x ∷ xs) i d) ≡ true
-    by true h more zero = h
-    by true h more (suc i) = let k : list_all P xs ≡ true = rw h at a in more i d k e
-    by false h more i = let k : false ≡ true = rw h at a in absurd cc
 
 abbrev no_mark : List ℕ → Bool
 no_mark m = not (is_mark m)
@@ -97,7 +89,7 @@ key_free key.Dex = refl
 key_free k = refl
 
 found_free : (ks : List Key) (text : List ℕ) (k : Key) → Some k ≡ find_key ks text → is_mark text ≡ false
-found_free ks text k e = subst (λ t. is_mark t ≡ false) (same_eq (key_text k) text (found_same ks text k e)) (key_free k)
+found_free ks text k e = subst (λ t. is_mark t ≡ false) (same_true (key_text k) text (found_same ks text k e)) (key_free k)
 
 insn_free : (text : List ℕ) (ws : List Word) (row : Row) → IsInsnRow text ws row → is_mark text ≡ false
 insn_free text ws row (inl a) = named_free a.0 text a.1
@@ -107,8 +99,8 @@ pub no_aside : (ws : List Word) (sh : Shape) → HasBareShape ws sh → (is_seco
 unfolding key_text
 no_aside ws sh (inl b) =
     let n : same (codes "dex") b.text ≡ false = (none_each lead_keys b.text b.no_lead).0 in
-    (ap is_second b.words ∙ second_first b.text b.behind n, ap begins_mark b.insn.words ∙ insn_free b.insn.text b.insn.behind b.row b.insn.has_row)
+    (ap is_second b.words ∙ second_first b.text b.after n, ap begins_mark b.insn.words ∙ insn_free b.insn.text b.insn.after b.row b.insn.has_row)
 no_aside ws sh (inr b) = (
-  ap is_second b.words ∙ keyed_second b.keyed.lead b.text b.behind b.row (found_same lead_keys b.text b.keyed.lead b.keyed.found) b.keyed.has_row b.keyed.forms,
+  ap is_second b.words ∙ keyed_second b.keyed.lead b.text b.after b.row (found_same lead_keys b.text b.keyed.lead b.keyed.found) b.keyed.has_row b.keyed.forms,
   ap begins_mark b.words ∙ found_free lead_keys b.text b.keyed.lead b.keyed.found,
 )

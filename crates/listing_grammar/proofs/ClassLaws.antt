@@ -14,7 +14,7 @@ use Rattle.listing_grammar.specs.Runs.{at_line, Runs, with_class, with_classes, 
 use Rattle.listing_grammar.proofs.CodeLaws.{next, again}
 use Rattle.listing_grammar.proofs.HeldLaws.{ArePut, put_are_held, held_are_put}
 use Rattle.listing_grammar.proofs.ValueLaws.{values_one, values_there}
-use Rattle.listing_grammar.proofs.Numbering.{starts, splits, none_said, said_append, length_behind, within, behind_class}
+use Rattle.listing_grammar.proofs.Numbering.{starts, splits, none_said, said_append, length_after, within, after_class}
 use Rattle.listing_grammar.proofs.HeadLaws.{with_heads, heads_read, heads_go}
 use Rattle.listing_grammar.proofs.MemberLaws.{with_members, members_read, members_go}
 
@@ -34,15 +34,15 @@ pub class_read : (s t : State) (n fl : ℕ) (d : Descriptor) (ls : List Numbered
 unfolding add
 class_read s t n fl d ls top fine r =
     let h = heads_read ls s.done s.late (opened d fl) n t tt top (next r.0 (within at_heads s.done s.late (opened d fl) n) ls t r.1.added r.2) in
-    let m = members_read (length h.behind) h.behind (omega arith) s.done s.late h.final h.line t top fine h.runs in
+    let m = members_read (length h.after) h.after (omega arith) s.done s.late h.final h.line t top fine h.runs in
     let c = closed (with_members (with_heads (opened d fl) h.final.superclass h.final.interfaces h.final.source) m.final.statics m.final.instances m.final.directs m.final.virtuals) in
     let e : closed m.final ≡ c = read_class d fl h.final m.final h.same m.same in
     let none = none_yet d fl h.final h.same in
     record {
       class = c;
       text = (n, open_class d fl) ∷ (h.mine ++ m.mine);
-      behind = m.behind;
-      split = ap (λ y. (n, open_class d fl) ∷ y) (h.split ∙ ap (λ y. h.mine ++ y) m.split ∙ sym (append_assoc h.mine m.mine m.behind));
+      after = m.after;
+      split = ap (λ y. (n, open_class d fl) ∷ y) (h.split ∙ ap (λ y. h.mine ++ y) m.split ∙ sym (append_assoc h.mine m.mine m.after));
       is_text = record {
         heads = h.heads;
         entries = m.entries;
@@ -61,7 +61,7 @@ class_read s t n fl d ls top fine r =
         virtuals = held_from method_key h.final.virtuals (flat_map virtual_in m.entries) m.final.virtuals none.3 m.virtuals;
         targets = m.leads;
       };
-      runs = subst (λ x. Runs (with_class s x) m.behind t) e (again (behind_class s.done s.late m.final m.line) t m.behind s.lines m.runs);
+      runs = subst (λ x. Runs (with_class s x) m.after t) e (again (after_class s.done s.late m.final m.line) t m.after s.lines m.runs);
     }
 
 -- The class, made of its parts.
@@ -69,9 +69,9 @@ given_class : (c : Class) (gs : List Given) → map (λ (g : Given). g.field) gs
     → closed (with_members (with_heads (opened c.ty c.flags) c.superclass c.interfaces c.source) gs c.instances c.directs c.virtuals) ≡ c
 given_class c gs e f = ap (λ x. record c { statics = x; values = values_of gs }) e ∙ ap (λ x. record c { values = x }) (sym f)
 
-pub class_runs : (s t : State) (c : Class) (text behind : List Numbered) → ClassText (said text) c → Runs (with_class s c) behind t → Runs (with_block s at_top) (text ++ behind) t
+pub class_runs : (s t : State) (c : Class) (text after : List Numbered) → ClassText (said text) c → Runs (with_class s c) after t → Runs (with_block s at_top) (text ++ after) t
 unfolding add
-class_runs s t c text behind x r =
+class_runs s t c text after x r =
     let o = opened c.ty c.flags in
     let h = with_heads o c.superclass c.interfaces c.source in
     let f = with_members h x.statics c.instances c.directs c.virtuals in
@@ -79,35 +79,35 @@ class_runs s t c text behind x r =
     let st = starts text (open_class c.ty c.flags) (x.heads ++ more) x.lines in
     let sp = splits st.rest x.heads more st.says in
     let e : closed f ≡ c = given_class c x.statics x.fields (values_one x.statics c.values x.values) in
-    let r1 = subst (λ y. Runs (with_class s y) behind t) (sym e) r in
-    let m : (k : ℕ) → Runs (within at_heads s.done s.late h k) (sp.back ++ behind) t =
-    λ k. members_go x.entries at_heads s.done s.late h k behind t s.lines sp.back sp.behind f (held_are_put given_key (flat_map static_in x.entries) x.statics x.statics_held) (held_are_put member_key (flat_map instance_in x.entries) c.instances x.instances)
+    let r1 = subst (λ y. Runs (with_class s y) after t) (sym e) r in
+    let m : (k : ℕ) → Runs (within at_heads s.done s.late h k) (sp.back ++ after) t =
+    λ k. members_go x.entries at_heads s.done s.late h k after t s.lines sp.back sp.after f (held_are_put given_key (flat_map static_in x.entries) x.statics x.statics_held) (held_are_put member_key (flat_map instance_in x.entries) c.instances x.instances)
     (held_are_put method_key (flat_map direct_in x.entries) c.directs x.directs) (held_are_put method_key (flat_map virtual_in x.entries) c.virtuals x.virtuals) refl x.targets r1 in
-    let g = heads_go x.heads s.done s.late o st.number (sp.back ++ behind) t sp.front sp.in_front x.are_heads h x.superclass x.interfaces x.none_twice x.source refl m in
-    let g1 = subst (λ ys. Runs (within at_heads s.done s.late o st.number) ys t) (sym (append_assoc sp.front sp.back behind)) g in
-    let g2 = subst (λ ys. Runs (within at_heads s.done s.late o st.number) (ys ++ behind) t) (sym sp.is) g1 in
-    let g3 : Runs (with_block s at_top) ((st.number, open_class c.ty c.flags) ∷ (st.rest ++ behind)) t = (within at_heads s.done s.late o st.number, record { stands = refl; added = refl }, g2) in
-    subst (λ ys. Runs (with_block s at_top) (ys ++ behind) t) (sym st.is) g3
+    let g = heads_go x.heads s.done s.late o st.number (sp.back ++ after) t sp.front sp.in_front x.are_heads h x.superclass x.interfaces x.none_twice x.source refl m in
+    let g1 = subst (λ ys. Runs (within at_heads s.done s.late o st.number) ys t) (sym (append_assoc sp.front sp.back after)) g in
+    let g2 = subst (λ ys. Runs (within at_heads s.done s.late o st.number) (ys ++ after) t) (sym sp.is) g1 in
+    let g3 : Runs (with_block s at_top) ((st.number, open_class c.ty c.flags) ∷ (st.rest ++ after)) t = (within at_heads s.done s.late o st.number, record { stands = refl; added = refl }, g2) in
+    subst (λ ys. Runs (with_block s at_top) (ys ++ after) t) (sym st.is) g3
 
 pub class_goes : (s t : State) (ls : List Numbered) → RunsBehindClass s ls t → Runs (with_block s at_top) ls t
-class_goes s t ls x = subst (λ ys. Runs (with_block s at_top) ys t) (sym x.split) (class_runs s t x.class x.text x.behind x.is_text x.runs)
+class_goes s t ls x = subst (λ ys. Runs (with_block s at_top) ys t) (sym x.split) (class_runs s t x.class x.text x.after x.is_text x.runs)
 
 -- ---- all classes
 
-fewer : (l : Numbered) (ls text behind : List Numbered) (x : Line) (xs : List Line) (f : ℕ) → l ∷ ls ≡ text ++ behind → said text ≡ x ∷ xs → length (l ∷ ls) ≤ suc f → length behind ≤ f
-fewer l ls [] behind x xs f e h q = absurd cc
-fewer l ls (k ∷ text) behind x xs f e h q = let t : ls ≡ text ++ behind = cc in let m = length_behind ls text behind t in omega arith
+fewer : (l : Numbered) (ls text after : List Numbered) (x : Line) (xs : List Line) (f : ℕ) → l ∷ ls ≡ text ++ after → said text ≡ x ∷ xs → length (l ∷ ls) ≤ suc f → length after ≤ f
+fewer l ls [] after x xs f e h q = absurd cc
+fewer l ls (k ∷ text) after x xs f e h q = let t : ls ≡ text ++ after = cc in let m = length_after ls text after t in omega arith
 
 classes_by : (f : ℕ) (s t : State) (ls : List Numbered) → length ls ≤ f → t.block ≡ at_top → t.late ≡ None → Runs (with_block s at_top) ls t → RunsToClasses s ls t
 classes_by f s t [] q top fine r = record { classes = []; are_texts = refl; whole = r ∙ ap (λ x. record s { done = x; block = at_top; lines = t.lines }) (sym (append-nil s.done)) }
 classes_by zero s t (l ∷ ls) q top fine r = absurd (omega arith)
 classes_by (suc f) s t ((n, open_class d fl) ∷ ls) q top fine r =
     let x = class_read s t n fl d ls top fine r in
-    let few = fewer (n, open_class d fl) ls x.text x.behind (open_class x.class.ty x.class.flags) (x.is_text.heads ++ (flat_map entry_lines x.is_text.entries ++ end_class ∷ [])) f x.split x.is_text.lines q in
-    let y = classes_by f (with_class s x.class) t x.behind few top fine x.runs in
+    let few = fewer (n, open_class d fl) ls x.text x.after (open_class x.class.ty x.class.flags) (x.is_text.heads ++ (flat_map entry_lines x.is_text.entries ++ end_class ∷ [])) f x.split x.is_text.lines q in
+    let y = classes_by f (with_class s x.class) t x.after few top fine x.runs in
     record {
       classes = x.class ∷ y.classes;
-      are_texts = (said x.text, said x.behind, ap said x.split ∙ said_append x.text x.behind, x.is_text, y.are_texts);
+      are_texts = (said x.text, said x.after, ap said x.split ∙ said_append x.text x.after, x.is_text, y.are_texts);
       whole = y.whole ∙ ap (λ z. record s { done = z; block = at_top; lines = t.lines }) (append_assoc s.done (x.class ∷ []) y.classes);
     }
 classes_by (suc f) s t ((n, l) ∷ ls) q top fine r = let h = r.1.stands in absurd cc
@@ -122,7 +122,7 @@ classes_run [] s t ls x e =
 classes_run (c ∷ p) s t ls x e =
     let sp = splits ls x.0 x.1 x.2 in
     let h = e ∙ ap (λ z. record s { done = z; block = at_top; lines = t.lines }) (sym (append_assoc s.done (c ∷ []) p)) in
-    let y = classes_run p (with_class s c) t sp.back (subst (λ z. ClassesText z p) (sym sp.behind) x.4) h in
+    let y = classes_run p (with_class s c) t sp.back (subst (λ z. ClassesText z p) (sym sp.after) x.4) h in
     subst (λ ys. Runs (with_block s at_top) ys t) (sym sp.is) (class_runs s t c sp.front sp.back (subst (λ z. ClassText z c) (sym sp.in_front) x.3) y)
 
 pub classes_go : (s t : State) (ls : List Numbered) → RunsToClasses s ls t → Runs (with_block s at_top) ls t

@@ -6,9 +6,9 @@ use Rattle.program_types.specs.Content.{Insn, Catch, Try, Code, Class}
 use Rattle.listing_lines.specs.Lines.{Line, open_code, end_code, insn_line, try_line, catch_line, catch_all_line}
 use Rattle.listing_lines.specs.Places.{is_in_code}
 use Rattle.listing_lines.specs.Needs.{Need, first_late, earliest}
-use Rattle.listing_draft.specs.States.{Open, Owner, Body, OpenTry, at_members, CodePart, at_insns, behind_try, in_try, in_class, in_code, State, code_stage, begun, noted, with_insn, with_tries, try_of, whole_code, with_code_at, add, inside}
+use Rattle.listing_draft.specs.States.{Open, Owner, Body, OpenTry, at_members, CodePart, at_insns, after_try, in_try, in_class, in_code, State, code_stage, begun, noted, with_insn, with_tries, try_of, whole_code, with_code_at, add, inside}
 use Rattle.listing_grammar.specs.Codes.{Numbered, said, insn_lines, catch_lines, catch_all_lines, try_lines, inner_lines, code_lines, late_line}
-use Rattle.listing_grammar.specs.Runs.{at_line, Runs, is_outside, behind_its_method, with_its_code, RunsBehindCode}
+use Rattle.listing_grammar.specs.Runs.{at_line, Runs, is_outside, after_its_method, with_its_code, RunsBehindCode}
 use Rattle.listing_grammar.proofs.LateLaws.{needs_from, late_is}
 use Rattle.listing_grammar.proofs.Numbering.{none_said, more_split, more_said}
 
@@ -23,7 +23,7 @@ again s t ((k, l) ∷ ls) n r = (r.0, record { stands = r.1.stands; added = r.1.
 pub next : (u v : State) (ls : List Numbered) (t : State) → Some v ≡ Some u → Runs u ls t → Runs v ls t
 next u v ls t e r = let q : u ≡ v = cc in subst (λ x. Runs x ls t) q r
 
--- ---- what a code gets behind one of its parts
+-- ---- what a code gets after one of its parts
 
 record Rest : Type 0 where
   insns : List Insn
@@ -36,7 +36,7 @@ rest is cs all ts = record { insns = is; catches = cs; all = all; tries = ts }
 
 abbrev rest_lines : CodePart → Rest → List Line
 rest_lines at_insns r = insn_lines r.insns ++ flat_map try_lines r.tries
-rest_lines behind_try r = flat_map try_lines r.tries
+rest_lines after_try r = flat_map try_lines r.tries
 rest_lines (in_try t) r = (catch_lines r.catches ++ catch_all_lines r.all) ++ flat_map try_lines r.tries
 
 abbrev rest_insns : CodePart → Rest → List Insn
@@ -71,14 +71,14 @@ try_closed b is t all ts =
 
 all_there : (b : Body) (p : CodePart) → whole_code (with_tries b p None) ≡ whole b p (rest [] [] None [])
 all_there b at_insns = ap (λ y. made b y b.tries) (sym (append-nil b.insns)) ∙ ap (made b (b.insns ++ [])) (sym (append-nil b.tries))
-all_there b behind_try = ap (λ y. made b y b.tries) (sym (append-nil b.insns)) ∙ ap (made b (b.insns ++ [])) (sym (append-nil b.tries))
+all_there b after_try = ap (λ y. made b y b.tries) (sym (append-nil b.insns)) ∙ ap (made b (b.insns ++ [])) (sym (append-nil b.tries))
 all_there b (in_try t) =
     ap (λ y. made b y (b.tries ++ try_of t None ∷ [])) (sym (append-nil b.insns))
     ∙ ap (λ y. made b (b.insns ++ []) (b.tries ++ (record { from = t.from; to = t.to; catches = y; catch_all = None } ∷ []))) (sym (append-nil t.catches))
 
 no_more : (p : CodePart) → rest_lines p (rest [] [] None []) ≡ []
 no_more at_insns = refl
-no_more behind_try = refl
+no_more after_try = refl
 no_more (in_try t) = refl
 
 -- ---- states
@@ -92,7 +92,7 @@ ended done late o m c needs n = record { done = done; block = in_class (with_cod
 -- The code's end may stand wherever in it.
 code_goes_on : (p : CodePart) → is_in_code (code_stage p) ≡ true
 code_goes_on at_insns = refl
-code_goes_on behind_try = refl
+code_goes_on after_try = refl
 code_goes_on (in_try t) = refl
 
 -- ---- what is read is the text of a code
@@ -100,13 +100,13 @@ code_goes_on (in_try t) = refl
 record Read (done : List Class) (late : Option ℕ) (o : Open) (b : Body) (p : CodePart) (ls : List Numbered) (t : State) : Type 0 where
   more : Rest
   mine : List Numbered
-  behind : List Numbered
-  split : ls ≡ mine ++ behind
+  after : List Numbered
+  split : ls ≡ mine ++ after
   says : said mine ≡ rest_lines p more ++ end_code ∷ []
   code : Code
   is : code ≡ whole b p more
   line : ℕ
-  runs : Runs (ended done late o b.owner code (needs_from b.needs mine) line) behind t
+  runs : Runs (ended done late o b.owner code (needs_from b.needs mine) line) after t
 
 still_open : (done : List Class) (late : Option ℕ) (o : Open) (b : Body) (p : CodePart) (n : ℕ) (t : State) → is_outside t.block ≡ true → t ≡ at_line (coding p done late o b n) t.lines → true ≡ false
 still_open done late o b p n t e r = sym e ∙ ap (λ (x : State). is_outside x.block) r
@@ -117,7 +117,7 @@ read_back [] done late o b p k t e r = let h = still_open done late o b p k t e 
 read_back ((n, end_code) ∷ ls) done late o b p k t e r = record {
   more = rest [] [] None [];
   mine = (n, end_code) ∷ [];
-  behind = ls;
+  after = ls;
   split = refl;
   says = ap (λ y. y ++ end_code ∷ []) (sym (no_more p));
   code = whole_code (with_tries b p None);
@@ -131,8 +131,8 @@ read_back ((n, insn_line i) ∷ ls) done late o b at_insns k t e r =
     record {
       more = rest (i ∷ x.more.insns) x.more.catches x.more.all x.more.tries;
       mine = (n, insn_line i) ∷ x.mine;
-      behind = x.behind;
-      split = more_split (n, insn_line i) ls x.mine x.behind x.split;
+      after = x.after;
+      split = more_split (n, insn_line i) ls x.mine x.after x.split;
       says = more_said n (insn_line i) x.mine _ x.says;
       code = x.code;
       is = x.is ∙ insn_first b i x.more.insns (b.tries ++ x.more.tries);
@@ -146,23 +146,23 @@ read_back ((n, try_line from to) ∷ ls) done late o b at_insns k t e r =
     record {
       more = rest [] [] None (record { from = from; to = to; catches = x.more.catches; catch_all = x.more.all } ∷ x.more.tries);
       mine = (n, try_line from to) ∷ x.mine;
-      behind = x.behind;
-      split = more_split (n, try_line from to) ls x.mine x.behind x.split;
+      after = x.after;
+      split = more_split (n, try_line from to) ls x.mine x.after x.split;
       says = more_said n (try_line from to) x.mine _ x.says;
       code = x.code;
       is = x.is;
       line = x.line;
       runs = x.runs;
     }
-read_back ((n, try_line from to) ∷ ls) done late o b behind_try k t e r =
-    let c = with_tries (noted b n (try_line from to)) behind_try None in
+read_back ((n, try_line from to) ∷ ls) done late o b after_try k t e r =
+    let c = with_tries (noted b n (try_line from to)) after_try None in
     let q : CodePart = in_try (record { from = from; to = to; catches = [] }) in
     let x = read_back ls done late o c q n t e (next r.0 (coding q done late o c n) ls t r.1.added r.2) in
     record {
       more = rest [] [] None (record { from = from; to = to; catches = x.more.catches; catch_all = x.more.all } ∷ x.more.tries);
       mine = (n, try_line from to) ∷ x.mine;
-      behind = x.behind;
-      split = more_split (n, try_line from to) ls x.mine x.behind x.split;
+      after = x.after;
+      split = more_split (n, try_line from to) ls x.mine x.after x.split;
       says = more_said n (try_line from to) x.mine _ x.says;
       code = x.code;
       is = x.is;
@@ -177,8 +177,8 @@ read_back ((n, try_line from to) ∷ ls) done late o b (in_try f) k t e r =
     record {
       more = rest [] [] None (g ∷ x.more.tries);
       mine = (n, try_line from to) ∷ x.mine;
-      behind = x.behind;
-      split = more_split (n, try_line from to) ls x.mine x.behind x.split;
+      after = x.after;
+      split = more_split (n, try_line from to) ls x.mine x.after x.split;
       says = more_said n (try_line from to) x.mine _ x.says;
       code = x.code;
       is = x.is ∙ try_closed b (b.insns ++ []) f None (g ∷ x.more.tries);
@@ -193,8 +193,8 @@ read_back ((n, catch_line d h) ∷ ls) done late o b (in_try f) k t e r =
     record {
       more = rest [] (a ∷ x.more.catches) x.more.all x.more.tries;
       mine = (n, catch_line d h) ∷ x.mine;
-      behind = x.behind;
-      split = more_split (n, catch_line d h) ls x.mine x.behind x.split;
+      after = x.after;
+      split = more_split (n, catch_line d h) ls x.mine x.after x.split;
       says = more_said n (catch_line d h) x.mine _ x.says;
       code = x.code;
       is = x.is ∙ catch_first b (b.insns ++ []) f a x.more.catches x.more.all x.more.tries;
@@ -203,12 +203,12 @@ read_back ((n, catch_line d h) ∷ ls) done late o b (in_try f) k t e r =
     }
 read_back ((n, catch_all_line h) ∷ ls) done late o b (in_try f) k t e r =
     let c = with_tries (noted b n (catch_all_line h)) (in_try f) (Some h) in
-    let x = read_back ls done late o c behind_try n t e (next r.0 (coding behind_try done late o c n) ls t r.1.added r.2) in
+    let x = read_back ls done late o c after_try n t e (next r.0 (coding after_try done late o c n) ls t r.1.added r.2) in
     record {
       more = rest [] [] (Some h) x.more.tries;
       mine = (n, catch_all_line h) ∷ x.mine;
-      behind = x.behind;
-      split = more_split (n, catch_all_line h) ls x.mine x.behind x.split;
+      after = x.after;
+      split = more_split (n, catch_all_line h) ls x.mine x.after x.split;
       says = more_said n (catch_all_line h) x.mine _ x.says;
       code = x.code;
       is = x.is ∙ try_closed b (b.insns ++ []) f (Some h) x.more.tries;
@@ -216,26 +216,26 @@ read_back ((n, catch_all_line h) ∷ ls) done late o b (in_try f) k t e r =
       runs = x.runs;
     }
 read_back ((n, l) ∷ ls) done late o b at_insns k t e r = let h = r.1.stands in absurd cc
-read_back ((n, l) ∷ ls) done late o b behind_try k t e r = let h = r.1.stands in absurd cc
+read_back ((n, l) ∷ ls) done late o b after_try k t e r = let h = r.1.stands in absurd cc
 read_back ((n, l) ∷ ls) done late o b (in_try f) k t e r = let h = r.1.stands in absurd cc
 
 late_there : (c n : ℕ) (l : Line) (r i u : ℕ) (ls : List Numbered) → l ≡ open_code r i u → first_late c (needs_from [] ls) ≡ late_line c ((n, l) ∷ ls)
 unfolding first_late
 late_there c n l r i u ls e = late_is c [] ls ∙ sym (ap (λ x. late_line c ((n, x) ∷ ls)) e)
 
-pub code_read : (s t : State) (o : Open) (m : Owner) (n r i u : ℕ) (ls : List Numbered) → is_outside t.block ≡ true → Runs (behind_its_method s o m) ((n, open_code r i u) ∷ ls) t → RunsBehindCode s o m ((n, open_code r i u) ∷ ls) t
+pub code_read : (s t : State) (o : Open) (m : Owner) (n r i u : ℕ) (ls : List Numbered) → is_outside t.block ≡ true → Runs (after_its_method s o m) ((n, open_code r i u) ∷ ls) t → RunsBehindCode s o m ((n, open_code r i u) ∷ ls) t
 unfolding add
 code_read s t o m n r i u ls e h =
     let b = begun m r i u in
     let x = read_back ls s.done s.late o b at_insns n t e (next h.0 (coding at_insns s.done s.late o b n) ls t h.1.added h.2) in
-    let after = λ (late : Option ℕ). with_its_code s o m x.code late in
+    let with_code = λ (late : Option ℕ). with_its_code s o m x.code late in
     record {
       code = x.code;
       text = (n, open_code r i u) ∷ x.mine;
-      behind = x.behind;
-      split = more_split (n, open_code r i u) ls x.mine x.behind x.split;
+      after = x.after;
+      split = more_split (n, open_code r i u) ls x.mine x.after x.split;
       is_text = ap (λ y. open_code r i u ∷ y) x.says ∙ ap code_lines (sym x.is);
-      runs = subst (λ late. Runs (after late) x.behind t) (late_there (length x.code.insns) n (open_code r i u) r i u x.mine refl) (again (ended s.done s.late o m x.code (needs_from [] x.mine) x.line) t x.behind s.lines x.runs);
+      runs = subst (λ late. Runs (with_code late) x.after t) (late_there (length x.code.insns) n (open_code r i u) r i u x.mine refl) (again (ended s.done s.late o m x.code (needs_from [] x.mine) x.line) t x.after s.lines x.runs);
     }
 
 -- ---- the text of a code is read
@@ -244,99 +244,99 @@ never_empty : (xs : List Line) (l : Line) → [] ≡ xs ++ l ∷ [] → ⊥
 never_empty [] l e = cc
 never_empty (x ∷ xs) l e = cc
 
-end_goes : (p : CodePart) (n : ℕ) (l : Line) (ls : List Numbered) (done : List Class) (late : Option ℕ) (o : Open) (b : Body) (k : ℕ) (behind : List Numbered) (t : State) (m : ℕ) → l ≡ end_code → said ls ≡ [] → (c : Code) → c ≡ whole b p (rest [] [] None [])
-    → Runs (ended done late o b.owner c (needs_from b.needs ((n, l) ∷ ls)) m) behind t → Runs (coding p done late o b k) ((n, l) ∷ (ls ++ behind)) t
+end_goes : (p : CodePart) (n : ℕ) (l : Line) (ls : List Numbered) (done : List Class) (late : Option ℕ) (o : Open) (b : Body) (k : ℕ) (after : List Numbered) (t : State) (m : ℕ) → l ≡ end_code → said ls ≡ [] → (c : Code) → c ≡ whole b p (rest [] [] None [])
+    → Runs (ended done late o b.owner c (needs_from b.needs ((n, l) ∷ ls)) m) after t → Runs (coding p done late o b k) ((n, l) ∷ (ls ++ after)) t
 unfolding add
-end_goes p n l ls done late o b k behind t m el es c ec r =
+end_goes p n l ls done late o b k after t m el es c ec r =
     let d = whole_code (with_tries b p None) in
     let ed : c ≡ d = ec ∙ sym (all_there b p) in
-    let r1 = subst (λ x. Runs (ended done late o b.owner c (needs_from b.needs ((n, x) ∷ ls)) m) behind t) el r in
-    let r2 = subst (λ xs. Runs (ended done late o b.owner c (needs_from b.needs ((n, end_code) ∷ xs)) m) behind t) (none_said ls es) r1 in
-    let r3 = subst (λ x. Runs (ended done late o b.owner x b.needs m) behind t) ed r2 in
-    let g : Runs (coding p done late o b k) ((n, end_code) ∷ behind) t = (ended done late o b.owner d b.needs n, record { stands = code_goes_on p; added = refl }, again (ended done late o b.owner d b.needs m) t behind n r3) in
-    let g1 = subst (λ xs. Runs (coding p done late o b k) ((n, end_code) ∷ (xs ++ behind)) t) (sym (none_said ls es)) g in
-    subst (λ x. Runs (coding p done late o b k) ((n, x) ∷ (ls ++ behind)) t) (sym el) g1
+    let r1 = subst (λ x. Runs (ended done late o b.owner c (needs_from b.needs ((n, x) ∷ ls)) m) after t) el r in
+    let r2 = subst (λ xs. Runs (ended done late o b.owner c (needs_from b.needs ((n, end_code) ∷ xs)) m) after t) (none_said ls es) r1 in
+    let r3 = subst (λ x. Runs (ended done late o b.owner x b.needs m) after t) ed r2 in
+    let g : Runs (coding p done late o b k) ((n, end_code) ∷ after) t = (ended done late o b.owner d b.needs n, record { stands = code_goes_on p; added = refl }, again (ended done late o b.owner d b.needs m) t after n r3) in
+    let g1 = subst (λ xs. Runs (coding p done late o b k) ((n, end_code) ∷ (xs ++ after)) t) (sym (none_said ls es)) g in
+    subst (λ x. Runs (coding p done late o b k) ((n, x) ∷ (ls ++ after)) t) (sym el) g1
 
-go : (ls : List Numbered) (p : CodePart) (is : List Insn) (cs : List Catch) (all : Option ℕ) (ts : List Try) (done : List Class) (late : Option ℕ) (o : Open) (b : Body) (k : ℕ) (behind : List Numbered) (t : State) (m : ℕ)
-    → said ls ≡ rest_lines p (rest is cs all ts) ++ end_code ∷ [] → (c : Code) → c ≡ whole b p (rest is cs all ts) → Runs (ended done late o b.owner c (needs_from b.needs ls) m) behind t → Runs (coding p done late o b k) (ls ++ behind) t
+go : (ls : List Numbered) (p : CodePart) (is : List Insn) (cs : List Catch) (all : Option ℕ) (ts : List Try) (done : List Class) (late : Option ℕ) (o : Open) (b : Body) (k : ℕ) (after : List Numbered) (t : State) (m : ℕ)
+    → said ls ≡ rest_lines p (rest is cs all ts) ++ end_code ∷ [] → (c : Code) → c ≡ whole b p (rest is cs all ts) → Runs (ended done late o b.owner c (needs_from b.needs ls) m) after t → Runs (coding p done late o b k) (ls ++ after) t
 unfolding add inside
-go [] p is cs all ts done late o b k behind t m e c q r = absurd (never_empty (rest_lines p (rest is cs all ts)) end_code e)
-go ((n, l) ∷ ls) at_insns (i ∷ is) cs all ts done late o b k behind t m e c q r =
+go [] p is cs all ts done late o b k after t m e c q r = absurd (never_empty (rest_lines p (rest is cs all ts)) end_code e)
+go ((n, l) ∷ ls) at_insns (i ∷ is) cs all ts done late o b k after t m e c q r =
     let x = insn_line i in
     let el : x ≡ l = cc in
     let et : said ls ≡ rest_lines at_insns (rest is cs all ts) ++ end_code ∷ [] = cc in
     let d = with_insn (noted b n x) i in
-    let f = go ls at_insns is cs all ts done late o d n behind t m et c (q ∙ sym (insn_first b i is (b.tries ++ ts))) in
-    subst (λ y. Runs (ended done late o b.owner c (needs_from b.needs ((n, y) ∷ ls)) m) behind t → Runs (coding at_insns done late o b k) ((n, y) ∷ (ls ++ behind)) t) el (λ h. (coding at_insns done late o d n, record { stands = refl; added = refl }, f h)) r
-go ((n, l) ∷ ls) at_insns [] cs all (a ∷ ts) done late o b k behind t m e c q r =
+    let f = go ls at_insns is cs all ts done late o d n after t m et c (q ∙ sym (insn_first b i is (b.tries ++ ts))) in
+    subst (λ y. Runs (ended done late o b.owner c (needs_from b.needs ((n, y) ∷ ls)) m) after t → Runs (coding at_insns done late o b k) ((n, y) ∷ (ls ++ after)) t) el (λ h. (coding at_insns done late o d n, record { stands = refl; added = refl }, f h)) r
+go ((n, l) ∷ ls) at_insns [] cs all (a ∷ ts) done late o b k after t m e c q r =
     let x = try_line a.from a.to in
     let p : CodePart = in_try (record { from = a.from; to = a.to; catches = [] }) in
     let el : x ≡ l = cc in
     let et : said ls ≡ rest_lines p (rest [] a.catches a.catch_all ts) ++ end_code ∷ [] = cc in
     let d = with_tries (noted b n x) at_insns None in
-    let f = go ls p [] a.catches a.catch_all ts done late o d n behind t m et c q in
-    subst (λ y. Runs (ended done late o b.owner c (needs_from b.needs ((n, y) ∷ ls)) m) behind t → Runs (coding at_insns done late o b k) ((n, y) ∷ (ls ++ behind)) t) el (λ h. (coding p done late o d n, record { stands = refl; added = refl }, f h)) r
-go ((n, l) ∷ ls) at_insns [] cs all [] done late o b k behind t m e c q r =
+    let f = go ls p [] a.catches a.catch_all ts done late o d n after t m et c q in
+    subst (λ y. Runs (ended done late o b.owner c (needs_from b.needs ((n, y) ∷ ls)) m) after t → Runs (coding at_insns done late o b k) ((n, y) ∷ (ls ++ after)) t) el (λ h. (coding p done late o d n, record { stands = refl; added = refl }, f h)) r
+go ((n, l) ∷ ls) at_insns [] cs all [] done late o b k after t m e c q r =
     let el : l ≡ end_code = cc in
     let et : said ls ≡ [] = cc in
-    end_goes at_insns n l ls done late o b k behind t m el et c q r
-go ((n, l) ∷ ls) behind_try is cs all (a ∷ ts) done late o b k behind t m e c q r =
+    end_goes at_insns n l ls done late o b k after t m el et c q r
+go ((n, l) ∷ ls) after_try is cs all (a ∷ ts) done late o b k after t m e c q r =
     let x = try_line a.from a.to in
     let p : CodePart = in_try (record { from = a.from; to = a.to; catches = [] }) in
     let el : x ≡ l = cc in
     let et : said ls ≡ rest_lines p (rest [] a.catches a.catch_all ts) ++ end_code ∷ [] = cc in
-    let d = with_tries (noted b n x) behind_try None in
-    let f = go ls p [] a.catches a.catch_all ts done late o d n behind t m et c q in
-    subst (λ y. Runs (ended done late o b.owner c (needs_from b.needs ((n, y) ∷ ls)) m) behind t → Runs (coding behind_try done late o b k) ((n, y) ∷ (ls ++ behind)) t) el (λ h. (coding p done late o d n, record { stands = refl; added = refl }, f h)) r
-go ((n, l) ∷ ls) behind_try is cs all [] done late o b k behind t m e c q r =
+    let d = with_tries (noted b n x) after_try None in
+    let f = go ls p [] a.catches a.catch_all ts done late o d n after t m et c q in
+    subst (λ y. Runs (ended done late o b.owner c (needs_from b.needs ((n, y) ∷ ls)) m) after t → Runs (coding after_try done late o b k) ((n, y) ∷ (ls ++ after)) t) el (λ h. (coding p done late o d n, record { stands = refl; added = refl }, f h)) r
+go ((n, l) ∷ ls) after_try is cs all [] done late o b k after t m e c q r =
     let el : l ≡ end_code = cc in
     let et : said ls ≡ [] = cc in
-    end_goes behind_try n l ls done late o b k behind t m el et c q r
-go ((n, l) ∷ ls) (in_try w) is (a ∷ cs) all ts done late o b k behind t m e c q r =
+    end_goes after_try n l ls done late o b k after t m el et c q r
+go ((n, l) ∷ ls) (in_try w) is (a ∷ cs) all ts done late o b k after t m e c q r =
     let x = catch_line a.ty a.at in
     let p : CodePart = in_try (record w { catches = w.catches ++ a ∷ [] }) in
     let el : x ≡ l = cc in
     let et : said ls ≡ rest_lines p (rest [] cs all ts) ++ end_code ∷ [] = cc in
     let d = noted b n x in
-    let f = go ls p [] cs all ts done late o d n behind t m et c (q ∙ sym (catch_first b (b.insns ++ []) w a cs all ts)) in
-    subst (λ y. Runs (ended done late o b.owner c (needs_from b.needs ((n, y) ∷ ls)) m) behind t → Runs (coding (in_try w) done late o b k) ((n, y) ∷ (ls ++ behind)) t) el (λ h. (coding p done late o d n, record { stands = refl; added = refl }, f h)) r
-go ((n, l) ∷ ls) (in_try w) is [] (Some a) ts done late o b k behind t m e c q r =
+    let f = go ls p [] cs all ts done late o d n after t m et c (q ∙ sym (catch_first b (b.insns ++ []) w a cs all ts)) in
+    subst (λ y. Runs (ended done late o b.owner c (needs_from b.needs ((n, y) ∷ ls)) m) after t → Runs (coding (in_try w) done late o b k) ((n, y) ∷ (ls ++ after)) t) el (λ h. (coding p done late o d n, record { stands = refl; added = refl }, f h)) r
+go ((n, l) ∷ ls) (in_try w) is [] (Some a) ts done late o b k after t m e c q r =
     let x = catch_all_line a in
     let el : x ≡ l = cc in
-    let et : said ls ≡ rest_lines behind_try (rest [] [] None ts) ++ end_code ∷ [] = cc in
+    let et : said ls ≡ rest_lines after_try (rest [] [] None ts) ++ end_code ∷ [] = cc in
     let d = with_tries (noted b n x) (in_try w) (Some a) in
-    let f = go ls behind_try [] [] None ts done late o d n behind t m et c (q ∙ sym (try_closed b (b.insns ++ []) w (Some a) ts)) in
-    subst (λ y. Runs (ended done late o b.owner c (needs_from b.needs ((n, y) ∷ ls)) m) behind t → Runs (coding (in_try w) done late o b k) ((n, y) ∷ (ls ++ behind)) t) el (λ h. (coding behind_try done late o d n, record { stands = refl; added = refl }, f h)) r
-go ((n, l) ∷ ls) (in_try w) is [] None (a ∷ ts) done late o b k behind t m e c q r =
+    let f = go ls after_try [] [] None ts done late o d n after t m et c (q ∙ sym (try_closed b (b.insns ++ []) w (Some a) ts)) in
+    subst (λ y. Runs (ended done late o b.owner c (needs_from b.needs ((n, y) ∷ ls)) m) after t → Runs (coding (in_try w) done late o b k) ((n, y) ∷ (ls ++ after)) t) el (λ h. (coding after_try done late o d n, record { stands = refl; added = refl }, f h)) r
+go ((n, l) ∷ ls) (in_try w) is [] None (a ∷ ts) done late o b k after t m e c q r =
     let x = try_line a.from a.to in
     let p : CodePart = in_try (record { from = a.from; to = a.to; catches = [] }) in
     let el : x ≡ l = cc in
     let et : said ls ≡ rest_lines p (rest [] a.catches a.catch_all ts) ++ end_code ∷ [] = cc in
     let d = with_tries (noted b n x) (in_try w) None in
-    let f = go ls p [] a.catches a.catch_all ts done late o d n behind t m et c (q ∙ sym (try_closed b (b.insns ++ []) w None (a ∷ ts))) in
-    subst (λ y. Runs (ended done late o b.owner c (needs_from b.needs ((n, y) ∷ ls)) m) behind t → Runs (coding (in_try w) done late o b k) ((n, y) ∷ (ls ++ behind)) t) el (λ h. (coding p done late o d n, record { stands = refl; added = refl }, f h)) r
-go ((n, l) ∷ ls) (in_try w) is [] None [] done late o b k behind t m e c q r =
+    let f = go ls p [] a.catches a.catch_all ts done late o d n after t m et c (q ∙ sym (try_closed b (b.insns ++ []) w None (a ∷ ts))) in
+    subst (λ y. Runs (ended done late o b.owner c (needs_from b.needs ((n, y) ∷ ls)) m) after t → Runs (coding (in_try w) done late o b k) ((n, y) ∷ (ls ++ after)) t) el (λ h. (coding p done late o d n, record { stands = refl; added = refl }, f h)) r
+go ((n, l) ∷ ls) (in_try w) is [] None [] done late o b k after t m e c q r =
     let el : l ≡ end_code = cc in
     let et : said ls ≡ [] = cc in
-    end_goes (in_try w) n l ls done late o b k behind t m el et c q r
+    end_goes (in_try w) n l ls done late o b k after t m el et c q r
 
 -- From `code` on.
-code_on : (s t : State) (o : Open) (m : Owner) (n : ℕ) (c : Code) (text behind : List Numbered) → said text ≡ inner_lines c ++ end_code ∷ [] → Runs (with_its_code s o m c (late_line (length c.insns) ((n, open_code c.registers c.ins c.outs) ∷ text))) behind t
-    → Runs (behind_its_method s o m) ((n, open_code c.registers c.ins c.outs) ∷ (text ++ behind)) t
+code_on : (s t : State) (o : Open) (m : Owner) (n : ℕ) (c : Code) (text after : List Numbered) → said text ≡ inner_lines c ++ end_code ∷ [] → Runs (with_its_code s o m c (late_line (length c.insns) ((n, open_code c.registers c.ins c.outs) ∷ text))) after t
+    → Runs (after_its_method s o m) ((n, open_code c.registers c.ins c.outs) ∷ (text ++ after)) t
 unfolding add
-code_on s t o m n c text behind e h =
+code_on s t o m n c text after e h =
     let b = begun m c.registers c.ins c.outs in
     let late = late_there (length c.insns) n (open_code c.registers c.ins c.outs) c.registers c.ins c.outs text refl in
-    let k = subst (λ late. Runs (with_its_code s o m c late) behind t) (sym late) h in
-    (coding at_insns s.done s.late o b n, record { stands = refl; added = refl }, go text at_insns c.insns [] None c.tries s.done s.late o b n behind t s.lines e c refl k)
+    let k = subst (λ late. Runs (with_its_code s o m c late) after t) (sym late) h in
+    (coding at_insns s.done s.late o b n, record { stands = refl; added = refl }, go text at_insns c.insns [] None c.tries s.done s.late o b n after t s.lines e c refl k)
 
-pub text_runs : (s t : State) (o : Open) (m : Owner) (c : Code) (text behind : List Numbered) → said text ≡ code_lines c → Runs (with_its_code s o m c (late_line (length c.insns) text)) behind t → Runs (behind_its_method s o m) (text ++ behind) t
-text_runs s t o m c [] behind e h = absurd cc
-text_runs s t o m c ((n, l) ∷ text) behind e h =
+pub text_runs : (s t : State) (o : Open) (m : Owner) (c : Code) (text after : List Numbered) → said text ≡ code_lines c → Runs (with_its_code s o m c (late_line (length c.insns) text)) after t → Runs (after_its_method s o m) (text ++ after) t
+text_runs s t o m c [] after e h = absurd cc
+text_runs s t o m c ((n, l) ∷ text) after e h =
     let x = open_code c.registers c.ins c.outs in
     let el : x ≡ l = cc in
     let es : said text ≡ inner_lines c ++ end_code ∷ [] = cc in
-    subst (λ y. Runs (with_its_code s o m c (late_line (length c.insns) ((n, y) ∷ text))) behind t → Runs (behind_its_method s o m) ((n, y) ∷ (text ++ behind)) t) el (code_on s t o m n c text behind es) h
+    subst (λ y. Runs (with_its_code s o m c (late_line (length c.insns) ((n, y) ∷ text))) after t → Runs (after_its_method s o m) ((n, y) ∷ (text ++ after)) t) el (code_on s t o m n c text after es) h
 
-pub code_goes : (s t : State) (o : Open) (m : Owner) (ls : List Numbered) → RunsBehindCode s o m ls t → Runs (behind_its_method s o m) ls t
-code_goes s t o m ls x = subst (λ ys. Runs (behind_its_method s o m) ys t) (sym x.split) (text_runs s t o m x.code x.text x.behind x.is_text x.runs)
+pub code_goes : (s t : State) (o : Open) (m : Owner) (ls : List Numbered) → RunsBehindCode s o m ls t → Runs (after_its_method s o m) ls t
+code_goes s t o m ls x = subst (λ ys. Runs (after_its_method s o m) ys t) (sym x.split) (text_runs s t o m x.code x.text x.after x.is_text x.runs)

@@ -93,8 +93,8 @@ with_heads o d is us = record o { superclass = d; interfaces = is; source = us }
 pub record HeadsRead (done : List Class) (late : Option ℕ) (o : Open) (ls : List Numbered) (t : State) : Type 0 where
   pub heads : List Line
   pub mine : List Numbered
-  pub behind : List Numbered
-  pub split : ls ≡ mine ++ behind
+  pub after : List Numbered
+  pub split : ls ≡ mine ++ after
   pub says : said mine ≡ heads
   pub are_heads : list_all is_head heads ≡ true
   pub final : Open
@@ -104,7 +104,7 @@ pub record HeadsRead (done : List Class) (late : Option ℕ) (o : Open) (ls : Li
   pub source : at_most_one o.source ++ flat_map source_in heads ≡ at_most_one final.source
   pub same : final ≡ with_heads o final.superclass final.interfaces final.source
   pub line : ℕ
-  pub runs : Runs (within at_members done late final line) behind t
+  pub runs : Runs (within at_members done late final line) after t
 
 pub heads_read : (ls : List Numbered) (done : List Class) (late : Option ℕ) (o : Open) (k : ℕ) (t : State) → NoneTwice o.interfaces → t.block ≡ at_top → Runs (within at_heads done late o k) ls t → HeadsRead done late o ls t
 unfolding add inside
@@ -115,8 +115,8 @@ heads_read ((n, super_line d) ∷ ls) done late o k t i top r =
     record {
       heads = super_line d ∷ y.heads;
       mine = (n, super_line d) ∷ y.mine;
-      behind = y.behind;
-      split = more_split (n, super_line d) ls y.mine y.behind y.split;
+      after = y.after;
+      split = more_split (n, super_line d) ls y.mine y.after y.split;
       says = more_said n (super_line d) y.mine _ y.says;
       are_heads = y.are_heads;
       final = y.final;
@@ -134,8 +134,8 @@ heads_read ((n, implements_line d) ∷ ls) done late o k t i top r =
     record {
       heads = implements_line d ∷ y.heads;
       mine = (n, implements_line d) ∷ y.mine;
-      behind = y.behind;
-      split = more_split (n, implements_line d) ls y.mine y.behind y.split;
+      after = y.after;
+      split = more_split (n, implements_line d) ls y.mine y.after y.split;
       says = more_said n (implements_line d) y.mine _ y.says;
       are_heads = y.are_heads;
       final = y.final;
@@ -153,8 +153,8 @@ heads_read ((n, source_line us) ∷ ls) done late o k t i top r =
     record {
       heads = source_line us ∷ y.heads;
       mine = (n, source_line us) ∷ y.mine;
-      behind = y.behind;
-      split = more_split (n, source_line us) ls y.mine y.behind y.split;
+      after = y.after;
+      split = more_split (n, source_line us) ls y.mine y.after y.split;
       says = more_said n (source_line us) y.mine _ y.says;
       are_heads = y.are_heads;
       final = y.final;
@@ -169,7 +169,7 @@ heads_read ((n, source_line us) ∷ ls) done late o k t i top r =
 heads_read ((n, l) ∷ ls) done late o k t i top r = record {
   heads = [];
   mine = [];
-  behind = (n, l) ∷ ls;
+  after = (n, l) ∷ ls;
   split = refl;
   says = refl;
   are_heads = refl;
@@ -203,36 +203,36 @@ three o final e a b c =
     ∙ ap (λ x. with_heads o o.superclass x final.source) (sym b)
     ∙ ap (λ x. with_heads o o.superclass o.interfaces x) (sym c)
 
-pub heads_go : (hs : List Line) (done : List Class) (late : Option ℕ) (o : Open) (k : ℕ) (behind : List Numbered) (t : State) (ls : List Numbered) → said ls ≡ hs → list_all is_head hs ≡ true → (final : Open)
+pub heads_go : (hs : List Line) (done : List Class) (late : Option ℕ) (o : Open) (k : ℕ) (after : List Numbered) (t : State) (ls : List Numbered) → said ls ≡ hs → list_all is_head hs ≡ true → (final : Open)
     → at_most_one o.superclass ++ flat_map superclass_in hs ≡ at_most_one final.superclass → o.interfaces ++ flat_map interface_in hs ≡ final.interfaces → NoneTwice final.interfaces
     → at_most_one o.source ++ flat_map source_in hs ≡ at_most_one final.source → final ≡ with_heads o final.superclass final.interfaces final.source
-    → ((m : ℕ) → Runs (within at_heads done late final m) behind t) → Runs (within at_heads done late o k) (ls ++ behind) t
+    → ((m : ℕ) → Runs (within at_heads done late final m) after t) → Runs (within at_heads done late o k) (ls ++ after) t
 unfolding add inside
-heads_go [] done late o k behind t ls e h final a b i c same r =
+heads_go [] done late o k after t ls e h final a b i c same r =
     let f = three o final same (one_more o.superclass final.superclass (sym (append-nil (at_most_one o.superclass)) ∙ a)) (sym (append-nil o.interfaces) ∙ b) (one_more o.source final.source (sym (append-nil (at_most_one o.source)) ∙ c)) in
-    subst (λ xs. Runs (within at_heads done late o k) (xs ++ behind) t) (sym (none_said ls e)) (subst (λ x. Runs (within at_heads done late x k) behind t) f (r k))
-heads_go (super_line d ∷ hs) done late o k behind t ls e h final a b i c same r =
+    subst (λ xs. Runs (within at_heads done late o k) (xs ++ after) t) (sym (none_said ls e)) (subst (λ x. Runs (within at_heads done late x k) after t) f (r k))
+heads_go (super_line d ∷ hs) done late o k after t ls e h final a b i c same r =
     let st = starts ls (super_line d) hs e in
     let o1 = record o { superclass = Some d } in
     let none = none_before o.superclass final.superclass d (flat_map superclass_in hs) a in
     let a1 : at_most_one o1.superclass ++ flat_map superclass_in hs ≡ at_most_one final.superclass = ap (λ x. at_most_one x ++ (d ∷ flat_map superclass_in hs)) (sym none) ∙ a in
-    let y = heads_go hs done late o1 st.number behind t st.rest st.says h final a1 b i c same r in
-    let g : Runs (within at_heads done late o k) ((st.number, super_line d) ∷ (st.rest ++ behind)) t = (within at_heads done late o1 st.number, record { stands = refl; added = super_goes (at_line (within at_heads done late o k) st.number) o d none }, y) in
-    subst (λ xs. Runs (within at_heads done late o k) (xs ++ behind) t) (sym st.is) g
-heads_go (implements_line d ∷ hs) done late o k behind t ls e h final a b i c same r =
+    let y = heads_go hs done late o1 st.number after t st.rest st.says h final a1 b i c same r in
+    let g : Runs (within at_heads done late o k) ((st.number, super_line d) ∷ (st.rest ++ after)) t = (within at_heads done late o1 st.number, record { stands = refl; added = super_goes (at_line (within at_heads done late o k) st.number) o d none }, y) in
+    subst (λ xs. Runs (within at_heads done late o k) (xs ++ after) t) (sym st.is) g
+heads_go (implements_line d ∷ hs) done late o k after t ls e h final a b i c same r =
     let st = starts ls (implements_line d) hs e in
     let o1 = record o { interfaces = o.interfaces ++ d ∷ [] } in
     let none = distinct_last o.interfaces d (flat_map interface_in hs) (subst NoneTwice (sym b) i) in
     let b1 : o1.interfaces ++ flat_map interface_in hs ≡ final.interfaces = append_assoc o.interfaces (d ∷ []) (flat_map interface_in hs) ∙ b in
-    let y = heads_go hs done late o1 st.number behind t st.rest st.says h final a b1 i c same r in
-    let g : Runs (within at_heads done late o k) ((st.number, implements_line d) ∷ (st.rest ++ behind)) t = (within at_heads done late o1 st.number, record { stands = refl; added = interface_goes (at_line (within at_heads done late o k) st.number) o d none }, y) in
-    subst (λ xs. Runs (within at_heads done late o k) (xs ++ behind) t) (sym st.is) g
-heads_go (source_line us ∷ hs) done late o k behind t ls e h final a b i c same r =
+    let y = heads_go hs done late o1 st.number after t st.rest st.says h final a b1 i c same r in
+    let g : Runs (within at_heads done late o k) ((st.number, implements_line d) ∷ (st.rest ++ after)) t = (within at_heads done late o1 st.number, record { stands = refl; added = interface_goes (at_line (within at_heads done late o k) st.number) o d none }, y) in
+    subst (λ xs. Runs (within at_heads done late o k) (xs ++ after) t) (sym st.is) g
+heads_go (source_line us ∷ hs) done late o k after t ls e h final a b i c same r =
     let st = starts ls (source_line us) hs e in
     let o1 = record o { source = Some us } in
     let none = none_before o.source final.source us (flat_map source_in hs) c in
     let c1 : at_most_one o1.source ++ flat_map source_in hs ≡ at_most_one final.source = ap (λ x. at_most_one x ++ (us ∷ flat_map source_in hs)) (sym none) ∙ c in
-    let y = heads_go hs done late o1 st.number behind t st.rest st.says h final a b i c1 same r in
-    let g : Runs (within at_heads done late o k) ((st.number, source_line us) ∷ (st.rest ++ behind)) t = (within at_heads done late o1 st.number, record { stands = refl; added = source_goes (at_line (within at_heads done late o k) st.number) o us none }, y) in
-    subst (λ xs. Runs (within at_heads done late o k) (xs ++ behind) t) (sym st.is) g
-heads_go (l ∷ hs) done late o k behind t ls e h final a b i c same r = absurd cc
+    let y = heads_go hs done late o1 st.number after t st.rest st.says h final a b i c1 same r in
+    let g : Runs (within at_heads done late o k) ((st.number, source_line us) ∷ (st.rest ++ after)) t = (within at_heads done late o1 st.number, record { stands = refl; added = source_goes (at_line (within at_heads done late o k) st.number) o us none }, y) in
+    subst (λ xs. Runs (within at_heads done late o k) (xs ++ after) t) (sym st.is) g
+heads_go (l ∷ hs) done late o k after t ls e h final a b i c same r = absurd cc

@@ -16,6 +16,7 @@ use Rattle.program_rules.specs.Rules.{method_key}
 use Rattle.listing_draft.specs.Members.{is_held, put_in}
 use Rattle.listing_draft.specs.States.{with_code}
 use Rattle.listing_grammar.specs.Classes.{Rise, AreSorted}
+use Rattle.listing_labels.proofs.OrderLaws.{lt_less}
 
 -- ---- keys
 
@@ -24,11 +25,6 @@ tied k = tied_itself key_cmp-total k
 
 not_below_itself : (k : Key) → key_cmp k k ≡ Less → ⊥
 not_below_itself k e = let f = tied k in cc
-
-is_less : (o : Ordering) → is_lt o ≡ true → o ≡ Less
-is_less Less e = refl
-is_less Equal e = absurd cc
-is_less Greater e = absurd cc
 
 is_greater : (o : Ordering) → is_lt o ≡ false → is_eq o ≡ false → o ≡ Greater
 is_greater Less e f = absurd cc
@@ -69,7 +65,7 @@ module _ {X : Type 0} (key : X → Key) where
       by (put_rises x ys h.1 (second_false (is_eq o) (is_held key (key x) ys) n)) (is_lt o) refl
     where
       by : Rise (map key (put_in key x ys)) → (b : Bool) → is_lt (key_cmp (key x) (key y)) ≡ b → Rise (map key (put_in key x (y ∷ ys)))
-      by m true e = let l = is_less (key_cmp (key x) (key y)) e in rw e ((l, below_all (key x) (key y) (map key ys) l h.0), h)
+      by m true e = let l = lt_less (key_cmp (key x) (key y)) e in rw e ((l, below_all (key x) (key y) (map key ys) l h.0), h)
       by m false e =
           let f = first_false (is_eq (key_cmp (key x) (key y))) (is_held key (key x) ys) n in
           rw e (put_all (λ q. key_cmp (key y) q ≡ Less) x ys (is_above (key x) (key y) e f) h.0, m)

@@ -23,18 +23,19 @@ use Rattle.listing_labels.proofs.AheadLaws.{ahead_skips, ahead_stops, ahead_mark
 use Rattle.listing_parse.specs.Text.{begins_mark}
 use Rattle.listing_grammar.specs.Codes.{Numbered}
 use Rattle.listing_grammar.specs.Classes.{NoneTwice}
-use Rattle.listing_grammar.specs.Texts.{SaysLine, IsLabelLine, names, Where, outside, among, behind_insns, SayLines, no_lines, silent, one_line, code_line, label_line, one_insn, no_insn, of_try, code_end}
+use Rattle.listing_grammar.specs.Texts.{SaysLine, IsLabelLine, label_names, Where, outside, among, after_insns, SayLines, no_lines, silent, one_line, code_line, label_line, one_insn, no_insn, of_try, code_end}
 use Rattle.listing_grammar.proofs.AsideLaws.{none_each, found_same, no_aside}
 use Rattle.listing_grammar.proofs.HeadLaws.{same_true, distinct_last}
-use Rattle.listing_grammar.proofs.LineSteps.{both_true, insn_said, insn_as, labels_by}
+use Rattle.listing_grammar.proofs.LineSteps.{insn_said, insn_as, labels_by}
+use Rattle.dex_base.proofs.LowPoints.{both}
 
 -- ---- names of labels
 
-among_names : (w : List ℕ) (es : List Label) → is_some (lookup w es) ≡ is_among (names es) w
+among_names : (w : List ℕ) (es : List Label) → is_some (lookup w es) ≡ is_among (label_names es) w
 among_names w [] = refl
 among_names w (e ∷ es) = by (among_names w es) (same w e.name) refl
   where
-    by : is_some (lookup w es) ≡ is_among (names es) w → (b : Bool) → same w e.name ≡ b → is_some (lookup w (e ∷ es)) ≡ is_among (names (e ∷ es)) w
+    by : is_some (lookup w es) ≡ is_among (label_names es) w → (b : Bool) → same w e.name ≡ b → is_some (lookup w (e ∷ es)) ≡ is_among (label_names (e ∷ es)) w
     by h true f = rw f refl
     by h false f = rw f h
 
@@ -42,25 +43,25 @@ no_some : (o : Option Label) → is_some o ≡ false → o ≡ None
 no_some None e = refl
 no_some (Some l) e = absurd cc
 
-pub not_named : (w : List ℕ) (es : List Label) → lookup w es ≡ None → is_among (names es) w ≡ false
+pub not_named : (w : List ℕ) (es : List Label) → lookup w es ≡ None → is_among (label_names es) w ≡ false
 not_named w es e = sym (among_names w es) ∙ ap is_some e
 
-pub unknown : (w : List ℕ) (es : List Label) → is_among (names es) w ≡ false → lookup w es ≡ None
+pub unknown : (w : List ℕ) (es : List Label) → is_among (label_names es) w ≡ false → lookup w es ≡ None
 unknown w es e = no_some (lookup w es) (among_names w es ∙ e)
 
-pub names_append : (es fs : List Label) → names (es ++ fs) ≡ names es ++ names fs
+pub names_append : (es fs : List Label) → label_names (es ++ fs) ≡ label_names es ++ label_names fs
 names_append es fs = map-append (λ (l : Label). l.name) es fs
 
 pub with_new : (es : List Label) (l : Label) → lookup l.name es ≡ None → with_label es l ≡ es ++ l ∷ []
 with_new es l e = rw e refl
 
 -- None of those before has the name.
-pub new_name : (es : List Label) (l : Label) (fs : List Label) → NoneTwice (names (es ++ (l ∷ fs))) → lookup l.name es ≡ None
-new_name es l fs h = unknown l.name es (distinct_last (names es) l.name (names fs) (subst NoneTwice (names_append es (l ∷ fs)) h))
+pub new_name : (es : List Label) (l : Label) (fs : List Label) → NoneTwice (label_names (es ++ (l ∷ fs))) → lookup l.name es ≡ None
+new_name es l fs h = unknown l.name es (distinct_last (label_names es) l.name (label_names fs) (subst NoneTwice (names_append es (l ∷ fs)) h))
 
-look_behind : (w : List ℕ) (es fs : List Label) → lookup w es ≡ None → lookup w (es ++ fs) ≡ lookup w fs
-look_behind w [] fs h = refl
-look_behind w (e ∷ es) fs h = by (look_behind w es fs) (same w e.name) refl
+look_after : (w : List ℕ) (es fs : List Label) → lookup w es ≡ None → lookup w (es ++ fs) ≡ lookup w fs
+look_after w [] fs h = refl
+look_after w (e ∷ es) fs h = by (look_after w es fs) (same w e.name) refl
   where
     by : (lookup w es ≡ None → lookup w (es ++ fs) ≡ lookup w fs) → (b : Bool) → same w e.name ≡ b → lookup w ((e ∷ es) ++ fs) ≡ lookup w fs
     by k true f = let z : Some e ≡ None = rw f at h in absurd cc
@@ -74,8 +75,8 @@ look_front w (e ∷ es) fs l h = by (look_front w es fs l) (same w e.name) refl
     by k true f = let z : Some e ≡ Some l = rw f at h in rw f z
     by k false f = let z : lookup w es ≡ Some l = rw f at h in rw f (k z)
 
-pub look_there : (es : List Label) (l : Label) (fs : List Label) → NoneTwice (names (es ++ (l ∷ fs))) → lookup l.name (es ++ (l ∷ fs)) ≡ Some l
-look_there es l fs h = look_behind l.name es (l ∷ fs) (new_name es l fs h) ∙ rw (same_true l.name l.name refl) refl
+pub look_there : (es : List Label) (l : Label) (fs : List Label) → NoneTwice (label_names (es ++ (l ∷ fs))) → lookup l.name (es ++ (l ∷ fs)) ≡ Some l
+look_there es l fs h = look_after l.name es (l ∷ fs) (new_name es l fs h) ∙ rw (same_true l.name l.name refl) refl
 
 pub found_le : (w : List ℕ) (es : List Label) (n : ℕ) (l : Label) → AllByRecursion (λ (e : Label). e.line ≤ n) es → lookup w es ≡ Some l → l.line ≤ n
 found_le w [] n l a h = absurd cc
@@ -85,7 +86,7 @@ found_le w (e ∷ es) n l a h = by (found_le w es n l a.1) (same w e.name) refl
     by k true f = let z : Some e ≡ Some l = rw f at h in let q : e ≡ l = cc in subst (λ (x : Label). x.line ≤ n) q a.0
     by k false f = let z : lookup w es ≡ Some l = rw f at h in k z
 
--- Labels ahead stand behind those that are there.
+-- Labels ahead stand after those that are there.
 pub ahead_extends : (ls : List (List ℕ)) (es : List Label) (line k : ℕ) → (more : List Label) × (labels_ahead es line k ls ≡ es ++ more)
 unfolding labels_ahead
 ahead_extends [] es line k = ([], sym (append-nil es))
@@ -110,8 +111,8 @@ ahead_extends (l ∷ ls) es line k =
 
 -- ---- the first word of a line
 
-pub first_is : (l : List ℕ) (ws : List Word) (text : List ℕ) (behind : List Word) → HasWords l ws → ws ≡ plain_word text ∷ behind → first_word l ≡ text
-first_is l ws text behind h e = let k = subst (HasWords l) e h in sym (k.words.1.word)
+pub first_is : (l : List ℕ) (ws : List Word) (text : List ℕ) (after : List Word) → HasWords l ws → ws ≡ plain_word text ∷ after → first_word l ≡ text
+first_is l ws text after h e = let k = subst (HasWords l) e h in sym (k.words.1.word)
 
 leads_on : (text : List ℕ) → None ≡ find_key lead_keys text → is_stop text ≡ false
 leads_on text e = let a = none_each lead_keys text e in rw (a.1.1.1.1.1.1.1.1.1.1.1.0, a.1.1.0) refl
@@ -205,9 +206,9 @@ goes_on : (es : List Label) (k : ℕ) (l : List ℕ) (x : Line) → SaysLine Two
 goes_on es k l x s e = by s.has_shape
   where
     by : HasBareShape s.words s.shape → is_stop (first_word l) ≡ false
-    by (inl b) = ap is_stop (first_is l s.words b.text b.behind s.has_words b.words) ∙ leads_on b.text b.no_lead
+    by (inl b) = ap is_stop (first_is l s.words b.text b.after s.has_words b.words) ∙ leads_on b.text b.no_lead
     by (inr b) =
-        let h = keyed_kind b.keyed.lead b.behind b.row b.keyed.has_row in
+        let h = keyed_kind b.keyed.lead b.after b.row b.keyed.has_row in
         let i : is_insn s.shape.kind ≡ true = insn_as s.shape.kind s.says ∙ ap insn_said s.is ∙ e in
         let j : is_insn s.shape.kind ≡ false = ap (λ (z : Shape). is_insn z.kind) b.is ∙ h.0 in
         absurd cc
@@ -217,38 +218,38 @@ stops es k l x s e = by s.has_shape
   where
     by : HasBareShape s.words s.shape → is_stop (first_word l) ≡ true
     by (inl b) =
-        let i : is_insn s.shape.kind ≡ true = ap (λ (z : Shape). is_insn z.kind) b.is ∙ insn_kind b.insn.text b.insn.behind b.row b.insn.has_row in
+        let i : is_insn s.shape.kind ≡ true = ap (λ (z : Shape). is_insn z.kind) b.is ∙ insn_kind b.insn.text b.insn.after b.row b.insn.has_row in
         absurd (not_both s.shape.kind i (ends_as s.shape.kind s.says ∙ ap ends_insns s.is ∙ e))
     by (inr b) =
-        let h = keyed_kind b.keyed.lead b.behind b.row b.keyed.has_row in
+        let h = keyed_kind b.keyed.lead b.after b.row b.keyed.has_row in
         let i : kind_ends b.row.0 ≡ true = sym (ap (λ (z : Shape). kind_ends z.kind) b.is) ∙ ends_as s.shape.kind s.says ∙ ap ends_insns s.is ∙ e in
-        ap is_stop (first_is l s.words b.text b.behind s.has_words b.words) ∙ stop_is b.keyed.lead b.text (h.1 i) (found_same lead_keys b.text b.keyed.lead b.keyed.found)
+        ap is_stop (first_is l s.words b.text b.after s.has_words b.words) ∙ stop_is b.keyed.lead b.text (h.1 i) (found_same lead_keys b.text b.keyed.lead b.keyed.found)
 
 no_mark : (es : List Label) (k : ℕ) (l : List ℕ) (x : Line) → SaysLine Two es k l x → is_mark (first_word l) ≡ false
 no_mark es k l x s = by s.has_shape
   where
-    at : (text : List ℕ) (behind : List Word) → s.words ≡ plain_word text ∷ behind → is_mark (first_word l) ≡ false
-    at text behind e = ap is_mark (first_is l s.words text behind s.has_words e) ∙ sym (ap begins_mark e) ∙ (no_aside s.words s.shape s.has_shape).1
+    at : (text : List ℕ) (after : List Word) → s.words ≡ plain_word text ∷ after → is_mark (first_word l) ≡ false
+    at text after e = ap is_mark (first_is l s.words text after s.has_words e) ∙ sym (ap begins_mark e) ∙ (no_aside s.words s.shape s.has_shape).1
 
     by : HasBareShape s.words s.shape → is_mark (first_word l) ≡ false
-    by (inl b) = at b.text b.behind b.words
-    by (inr b) = at b.text b.behind b.words
+    by (inl b) = at b.text b.after b.words
+    by (inr b) = at b.text b.after b.words
 
 pub label_marks : (name : List ℕ) → is_label name ≡ true → is_mark name ≡ true
 label_marks [] e = absurd cc
-label_marks (c ∷ cs) e = (both_true (c == 58) _ e).0
+label_marks (c ∷ cs) e = (both (c == 58) _ e).0
 
 -- ---- labels ahead
 
 abbrev pub AheadIs : Where → List Label → ℕ → List (List ℕ) → Type 0
 AheadIs outside pre n ls = Unit {0}
-AheadIs (among labels ahead k) pre n ls = NoneTwice (names (pre ++ ahead)) → labels_ahead pre (n + 1) k ls ≡ pre ++ ahead
-AheadIs (behind_insns labels) pre n ls = (k : ℕ) → labels_ahead pre (n + 1) k ls ≡ pre
+AheadIs (among labels ahead k) pre n ls = NoneTwice (label_names (pre ++ ahead)) → labels_ahead pre (n + 1) k ls ≡ pre ++ ahead
+AheadIs (after_insns labels) pre n ls = (k : ℕ) → labels_ahead pre (n + 1) k ls ≡ pre
 
 label_stop : (name : List ℕ) → is_label name ≡ true → is_stop name ≡ false
 unfolding same key_text
 label_stop [] e = absurd cc
-label_stop (c ∷ cs) e = let h : c ≡ 58 = eqb-true c 58 (both_true (c == 58) _ e).0 in rw h refl
+label_stop (c ∷ cs) e = let h : c ≡ 58 = eqb-true c 58 (both (c == 58) _ e).0 in rw h refl
 
 -- A label's line, where labels are looked for ahead.
 pub label_ahead : (pre : List Label) (line k : ℕ) (form : Form) (l : List ℕ) (ls : List (List ℕ)) (name : List ℕ) → IsLabelLine form l name
@@ -270,14 +271,14 @@ ahead_is : {w : Where} {n : ℕ} {ls : List (List ℕ)} {xs : List Numbered} →
 ahead_is no_lines pre = tt
 ahead_is (silent {w = outside} e d) pre = tt
 ahead_is (silent {w = among labels ahead k} {n = n} {l = l} {ls = ls} e d) pre = λ h. ahead_skips pre (n + 1) k l ls e ∙ ahead_is d pre h
-ahead_is (silent {w = behind_insns labels} {n = n} {l = l} {ls = ls} e d) pre = λ k. ahead_skips pre (n + 1) k l ls e ∙ ahead_is d pre k
+ahead_is (silent {w = after_insns labels} {n = n} {l = l} {ls = ls} e d) pre = λ k. ahead_skips pre (n + 1) k l ls e ∙ ahead_is d pre k
 ahead_is (one_line s o d) pre = tt
 ahead_is (code_line s u d) pre = tt
 ahead_is (label_line {labels = labels} {ahead = ahead} {k = k} {n = n} {l = l} {name = name} {ls = ls} m d) pre = λ h.
     let new : Label = record { name = name; line = n + 1; number = k } in
     label_ahead pre (n + 1) k Two l ls name m
     ∙ ap (λ es. labels_ahead es (n + 1 + 1) k ls) (with_new pre new (new_name pre new ahead h))
-    ∙ ahead_is d (pre ++ new ∷ []) (subst (λ es. NoneTwice (names es)) (sym (append_assoc pre (new ∷ []) ahead)) h)
+    ∙ ahead_is d (pre ++ new ∷ []) (subst (λ es. NoneTwice (label_names es)) (sym (append_assoc pre (new ∷ []) ahead)) h)
     ∙ append_assoc pre (new ∷ []) ahead
 ahead_is (one_insn {labels = labels} {k = k} {n = n} {l = l} {ls = ls} {i = i} s d) pre = λ h. insn_ahead pre labels (n + 1) k k l ls _ s refl ∙ ahead_is d pre h
 ahead_is (no_insn {k = k} d) pre = λ h. ahead_is d pre k ∙ sym (append-nil pre)
@@ -311,7 +312,7 @@ abbrev pub NoLabels : Form → List Label → Type 0
 NoLabels One es = es ≡ []
 NoLabels Two es = Unit {0}
 
-pub ahead_there : (form : Form) (n r i o : ℕ) (labels : List Label) (ls : List (List ℕ)) (xs : List Numbered) → NoneTwice (names labels) → SayLines form (among labels labels 0) n ls xs → labels_by form (open_code r i o) (n + 1) ls [] ≡ labels
+pub ahead_there : (form : Form) (n r i o : ℕ) (labels : List Label) (ls : List (List ℕ)) (xs : List Numbered) → NoneTwice (label_names labels) → SayLines form (among labels labels 0) n ls xs → labels_by form (open_code r i o) (n + 1) ls [] ≡ labels
 ahead_there One n r i o labels ls xs h d = sym (none_ahead d)
 ahead_there Two n r i o labels ls xs h d = ahead_is d [] h
 

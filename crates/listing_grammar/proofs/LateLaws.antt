@@ -3,12 +3,13 @@ use Rattle.std.proofs.Common.{◌≡◌, ℕ, ◌+◌, ◌&&◌, Bool, true, fal
 use Rattle.std.specs.List.{list_all}
 use Rattle.std.proofs.lemmas.Bool.{cases_lt, lt-ltb, le-ltb, lt-leb, le-leb}
 use Rattle.program_types.specs.Content as content
+use Rattle.program_types.specs.Formed.{insn_leads}
 use Rattle.program_types.specs.Content.{Insn}
 use Rattle.listing_lines.specs.Lines.{Line, first_line, open_class, end_class, open_code, end_code, insn_line, try_line, catch_line, catch_all_line}
 use Rattle.listing_lines.specs.Places.{is_start, is_top}
 use Rattle.listing_lines.specs.Needs.{Need, most_needed, insn_needs, line_needs, with_need, first_late, earliest}
 use Rattle.listing_draft.specs.States.{State, at_top, at_heads, in_class, stage_of, opened, closed, begun, class_of, owner_of, with_body, code_ended, late_in, with_block, inside, add}
-use Rattle.listing_grammar.specs.Codes.{Numbered, said, targets_of, leads_into, late_line}
+use Rattle.listing_grammar.specs.Codes.{Numbered, said, leads_into, late_line}
 use Rattle.listing_grammar.specs.Runs.{at_line, Runs}
 
 -- What the targets of these lines need besides.
@@ -48,7 +49,7 @@ most_needs c (to ∷ ts) = elim (cases_lt to c) [
   | inr h ↦ rw (le-ltb to c h) (lt-ltb c (max (to + 1) (most_needed ts)) (omega arith))
 ]
 
-insn_lead : (c : ℕ) (i : Insn) → nat_lt c (insn_needs i) ≡ not (list_all (λ to. nat_lt to c) (targets_of i))
+insn_lead : (c : ℕ) (i : Insn) → nat_lt c (insn_needs i) ≡ not (list_all (λ to. nat_lt to c) (insn_leads i))
 insn_lead c (content.I10t op to) = one_needs c to
 insn_lead c (content.I20t op to) = one_needs c to
 insn_lead c (content.I30t op to) = one_needs c to

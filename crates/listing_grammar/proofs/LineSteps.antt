@@ -14,29 +14,23 @@ use Rattle.listing_lines.specs.declared.form.Form.{Form}
 use Rattle.listing_lines.specs.declared.form.Form.TheVariants.{One, Two}
 use Rattle.listing_lines.specs.declared.stage.Stage.{Stage}
 use Rattle.listing_lines.specs.declared.stage.Stage.TheVariants.{Insns, Tries, Caught}
-use Rattle.listing_draft.specs.States.{Open, ClassPart, at_heads, at_members, behind_method, at_insns, behind_try, in_try, Block, at_start, at_top, in_class, in_code, State, stage_of, count_of, opened, closed, begun, noted, with_insn, with_tries, whole_code, with_code_at, class_of, owner_of, with_body, code_ended, late_in, with_block, counted, inside, add}
+use Rattle.listing_draft.specs.States.{Open, ClassPart, at_heads, at_members, after_method, at_insns, after_try, in_try, Block, at_start, at_top, in_class, in_code, State, stage_of, insn_count, opened, closed, begun, noted, with_insn, with_tries, whole_code, with_code_at, class_of, owner_of, with_body, code_ended, late_in, with_block, counted, inside, add}
 use Rattle.listing_lines.specs.Needs.{first_late, earliest}
 use Rattle.listing_labels.specs.Lines.{is_skipped}
 use Rattle.listing_labels.specs.Labels.{Label, labels_ahead}
-use Rattle.listing_parse.specs.Forms.{Shapes, may_be}
-use Rattle.listing_parse.specs.Text.{Reading, is_second, aside, labels_behind, Says, Takes}
+use Rattle.listing_parse.specs.Forms.{HasShapeInForm, may_stand_in_form}
+use Rattle.listing_parse.specs.Text.{Reading, is_second, aside, labels_after, LineSays, TakesLine}
 use Rattle.listing_parse.specs.declared.aside.Aside.TheVariants.{Nothing}
 use Rattle.listing_grammar.specs.Texts.{is_numbered, SaysLine}
 use Rattle.listing_grammar.specs.Runs.{line_stands, Steps}
 use Rattle.listing_grammar.proofs.AsideLaws.{no_aside}
 use Rattle.listing_grammar.proofs.LateLaws.{mapped, chosen}
+use Rattle.base_bytes.proofs.ListFacts.{or_right}
+use Rattle.dex_base.proofs.LowPoints.{both}
 
 -- A listing that was read to this state.
 abbrev pub rd : Form → List Label → State → Reading
 rd form es s = record { form = form; labels = es; base = s }
-
-pub both_true : (a b : Bool) → (a && b) ≡ true → (a ≡ true) × (b ≡ true)
-both_true true b e = (refl, e)
-both_true false b e = absurd cc
-
-pub neither : (a b : Bool) → (a || b) ≡ false → (a ≡ false) × (b ≡ false)
-neither true b e = absurd cc
-neither false b e = (refl, e)
 
 -- ---- kinds of lines, and lines
 
@@ -75,13 +69,13 @@ insn_as kind.Sparse ds = refl
 insn_as kind.Elements ds = refl
 insn_as _ ds = refl
 
--- The labels behind this line.
+-- The labels after this line.
 abbrev pub labels_by : Form → Line → ℕ → List (List ℕ) → List Label → List Label
 labels_by Two (open_code r i o) line ls es = labels_ahead [] line 0 ls
 labels_by Two end_code line ls es = []
 labels_by _ _ line ls es = es
 
-labels_as : (form : Form) (k : Kind) (ds : List Datum) (line : ℕ) (ls : List (List ℕ)) (es : List Label) → labels_behind form k line ls es ≡ labels_by form (line_of k ds) line ls es
+labels_as : (form : Form) (k : Kind) (ds : List Datum) (line : ℕ) (ls : List (List ℕ)) (es : List Label) → labels_after form k line ls es ≡ labels_by form (line_of k ds) line ls es
 unfolding line_of
 labels_as One k ds line ls es = refl
 labels_as Two kind.OpenCode ds line ls es = refl
@@ -103,14 +97,14 @@ part_of (in_class o p) = out
 part_of (in_code o b at_insns) = insns (length b.insns)
 part_of (in_code o b p) = later
 
-abbrev pub part_behind : Line → Part → Part
-part_behind (open_code r i o) p = insns 0
-part_behind (insn_line i) (insns k) = insns (k + 1)
-part_behind (insn_line i) p = p
-part_behind (try_line from to) p = later
-part_behind (catch_line d k) p = later
-part_behind (catch_all_line k) p = later
-part_behind _ p = out
+abbrev pub part_after : Line → Part → Part
+part_after (open_code r i o) p = insns 0
+part_after (insn_line i) (insns k) = insns (k + 1)
+part_after (insn_line i) p = p
+part_after (try_line from to) p = later
+part_after (catch_line d k) p = later
+part_after (catch_all_line k) p = later
+part_after _ p = out
 
 made : (v u : State) → Some v ≡ Some u → part_of u.block ≡ part_of v.block
 made v u e = let h : u ≡ v = cc in ap (λ (x : State). part_of x.block) h
@@ -119,14 +113,14 @@ class_made : (s u : State) (z : Option (Open × ClassPart)) → option_map (λ b
 class_made s u None e = absurd cc
 class_made s u (Some c) e = made (with_block s (in_class c.0 c.1)) u e
 
-moves : (done : List Class) (late : Option ℕ) (k n : ℕ) (x : Line) (u : State) (b : Block) → Steps (record { done = done; block = b; lines = k; late = late }) n x u → part_of u.block ≡ part_behind x (part_of b)
+moves : (done : List Class) (late : Option ℕ) (k n : ℕ) (x : Line) (u : State) (b : Block) → Steps (record { done = done; block = b; lines = k; late = late }) n x u → part_of u.block ≡ part_after x (part_of b)
 unfolding add inside
 moves done late k n first_line u at_start r = made (record { done = done; block = at_top; lines = n; late = late }) u r.added
 moves done late k n x u at_start r = let h = r.stands in absurd cc
 moves done late k n (open_class d f) u at_top r = made (record { done = done; block = in_class (opened d f) at_heads; lines = n; late = late }) u r.added
 moves done late k n x u at_top r = let h = r.stands in absurd cc
 moves done late k n end_class u (in_class o p) r = made (record { done = done ++ closed o ∷ []; block = at_top; lines = n; late = late }) u r.added
-moves done late k n (open_code x i z) u (in_class o (behind_method m)) r = made (record { done = done; block = in_code o (begun m x i z) at_insns; lines = n; late = late }) u r.added
+moves done late k n (open_code x i z) u (in_class o (after_method m)) r = made (record { done = done; block = in_code o (begun m x i z) at_insns; lines = n; late = late }) u r.added
 moves done late k n (super_line d) u (in_class o p) r = class_made (record { done = done; block = in_class o p; lines = n; late = late }) u _ r.added
 moves done late k n (implements_line d) u (in_class o p) r = class_made (record { done = done; block = in_class o p; lines = n; late = late }) u _ r.added
 moves done late k n (source_line us) u (in_class o p) r = class_made (record { done = done; block = in_class o p; lines = n; late = late }) u _ r.added
@@ -136,7 +130,7 @@ moves done late k n (direct_line m) u (in_class o p) r = class_made (record { do
 moves done late k n (virtual_line m) u (in_class o p) r = class_made (record { done = done; block = in_class o p; lines = n; late = late }) u _ r.added
 moves done late k n x u (in_class o at_heads) r = let h = r.stands in absurd cc
 moves done late k n x u (in_class o at_members) r = let h = r.stands in absurd cc
-moves done late k n x u (in_class o (behind_method m)) r = let h = r.stands in absurd cc
+moves done late k n x u (in_class o (after_method m)) r = let h = r.stands in absurd cc
 moves done late k n end_code u (in_code o b p) r = made (record { done = done; block = in_class (with_code_at o b.owner (whole_code (with_tries b p None))) at_members; lines = n; late = earliest late (first_late (length b.insns) b.needs) }) u r.added
 moves done late k n (insn_line i) u (in_code o b at_insns) r =
     made (record { done = done; block = in_code o (with_insn (noted b n (insn_line i)) i) at_insns; lines = n; late = late }) u r.added ∙ ap insns (length-append b.insns (i ∷ []))
@@ -145,13 +139,13 @@ moves done late k n (try_line from to) u (in_code o b p) r =
 moves done late k n (catch_line d h) u (in_code o b (in_try t)) r =
     made (record { done = done; block = in_code o (noted b n (catch_line d h)) (in_try (record t { catches = t.catches ++ record { ty = d; at = h } ∷ [] })); lines = n; late = late }) u r.added
 moves done late k n (catch_all_line h) u (in_code o b (in_try t)) r =
-    made (record { done = done; block = in_code o (with_tries (noted b n (catch_all_line h)) (in_try t) (Some h)) behind_try; lines = n; late = late }) u r.added
+    made (record { done = done; block = in_code o (with_tries (noted b n (catch_all_line h)) (in_try t) (Some h)) after_try; lines = n; late = late }) u r.added
 moves done late k n x u (in_code o b at_insns) r = let h = r.stands in absurd cc
-moves done late k n x u (in_code o b behind_try) r = let h = r.stands in absurd cc
+moves done late k n x u (in_code o b after_try) r = let h = r.stands in absurd cc
 moves done late k n x u (in_code o b (in_try t)) r = let h = r.stands in absurd cc
 
--- Where the next line stands behind a line.
-pub part_moves : (s : State) (n : ℕ) (x : Line) (u : State) → Steps s n x u → part_of u.block ≡ part_behind x (part_of s.block)
+-- Where the next line stands after a line.
+pub part_moves : (s : State) (n : ℕ) (x : Line) (u : State) → Steps s n x u → part_of u.block ≡ part_after x (part_of s.block)
 part_moves s n x u r = moves s.done s.late s.lines n x u s.block r
 
 pub lines_kept : (s u : State) (l : Line) → add s l ≡ Some u → u.lines ≡ s.lines
@@ -165,22 +159,22 @@ lines_kept s u l e = sym (ap (λ (x : State). x.lines) (mapped (λ b. with_block
 
 -- ---- what the parts tell
 
-pub out_is : (b : Block) → part_of b ≡ out → (is_in_code (stage_of b) ≡ false) × (is_caught (stage_of b) ≡ false) × (is_insns (stage_of b) ≡ false) × (is_start (stage_of b) ≡ false) × (count_of b ≡ 0)
+pub out_is : (b : Block) → part_of b ≡ out → (is_in_code (stage_of b) ≡ false) × (is_caught (stage_of b) ≡ false) × (is_insns (stage_of b) ≡ false) × (is_start (stage_of b) ≡ false) × (insn_count b ≡ 0)
 out_is at_start e = absurd cc
 out_is at_top e = (refl, refl, refl, refl, refl)
 out_is (in_class o at_heads) e = (refl, refl, refl, refl, refl)
 out_is (in_class o at_members) e = (refl, refl, refl, refl, refl)
-out_is (in_class o (behind_method m)) e = (refl, refl, refl, refl, refl)
+out_is (in_class o (after_method m)) e = (refl, refl, refl, refl, refl)
 out_is (in_code o b at_insns) e = absurd cc
-out_is (in_code o b behind_try) e = absurd cc
+out_is (in_code o b after_try) e = absurd cc
 out_is (in_code o b (in_try t)) e = absurd cc
 
-pub insns_is : (b : Block) (k : ℕ) → part_of b ≡ insns k → (stage_of b ≡ Insns) × (count_of b ≡ k)
+pub insns_is : (b : Block) (k : ℕ) → part_of b ≡ insns k → (stage_of b ≡ Insns) × (insn_count b ≡ k)
 insns_is at_start k e = absurd cc
 insns_is at_top k e = absurd cc
 insns_is (in_class o p) k e = absurd cc
 insns_is (in_code o b at_insns) k e = (refl, cc)
-insns_is (in_code o b behind_try) k e = absurd cc
+insns_is (in_code o b after_try) k e = absurd cc
 insns_is (in_code o b (in_try t)) k e = absurd cc
 
 pub later_is : (b : Block) → part_of b ≡ later → (stage_of b ≡ Tries) ⊎ (stage_of b ≡ Caught)
@@ -188,13 +182,13 @@ later_is at_start e = absurd cc
 later_is at_top e = absurd cc
 later_is (in_class o p) e = absurd cc
 later_is (in_code o b at_insns) e = absurd cc
-later_is (in_code o b behind_try) e = inl refl
+later_is (in_code o b after_try) e = inl refl
 later_is (in_code o b (in_try t)) e = inr refl
 
 -- ---- lines that are read
 
 -- Words that say something of the program are no aside.
-pub aside_nothing : (form : Form) (es : List Label) (s : State) (ws : List Word) (sh : Shape) → Shapes form ws sh → is_start (stage_of s.block) ≡ false → aside (rd form es s) ws ≡ Nothing
+pub aside_nothing : (form : Form) (es : List Label) (s : State) (ws : List Word) (sh : Shape) → HasShapeInForm form ws sh → is_start (stage_of s.block) ≡ false → aside (rd form es s) ws ≡ Nothing
 unfolding aside
 aside_nothing One es s ws sh h f = by (is_second ws) refl
   where
@@ -203,15 +197,15 @@ aside_nothing One es s ws sh h f = by (is_second ws) refl
     by false p = rw p refl
 aside_nothing Two es s ws sh h f = let n = no_aside ws sh h in rw (n.0, n.1) refl
 
-numbered_here : (form : Form) (s : State) (sh : Shape) → may_be form s sh ≡ true → (may_stand (stage_of s.block) sh.kind ≡ true) × (is_numbered form (count_of s.block) sh ≡ true)
-numbered_here One s sh e = both_true (may_stand (stage_of s.block) sh.kind) (if is_insn sh.kind then is_number sh.label (count_of s.block) else true) e
+numbered_here : (form : Form) (s : State) (sh : Shape) → may_stand_in_form form s sh ≡ true → (may_stand (stage_of s.block) sh.kind ≡ true) × (is_numbered form (insn_count s.block) sh ≡ true)
+numbered_here One s sh e = both (may_stand (stage_of s.block) sh.kind) (if is_insn sh.kind then is_number sh.label (insn_count s.block) else true) e
 numbered_here Two s sh e = (e, refl)
 
-number_there : (k : ℕ) (s : State) (sh : Shape) (a : Bool) → is_insn sh.kind ≡ a → (a ≡ true → count_of s.block ≡ k) → is_numbered One k sh ≡ true → is_numbered One (count_of s.block) sh ≡ true
+number_there : (k : ℕ) (s : State) (sh : Shape) (a : Bool) → is_insn sh.kind ≡ a → (a ≡ true → insn_count s.block ≡ k) → is_numbered One k sh ≡ true → is_numbered One (insn_count s.block) sh ≡ true
 number_there k s sh false p c n = rw p refl
 number_there k s sh true p c n = let h : is_number sh.label k ≡ true = rw p at n in rw (p, c refl) h
 
-may_be_there : (form : Form) (k : ℕ) (s : State) (sh : Shape) → may_stand (stage_of s.block) sh.kind ≡ true → (is_insn sh.kind ≡ true → count_of s.block ≡ k) → is_numbered form k sh ≡ true → may_be form s sh ≡ true
+may_be_there : (form : Form) (k : ℕ) (s : State) (sh : Shape) → may_stand (stage_of s.block) sh.kind ≡ true → (is_insn sh.kind ≡ true → insn_count s.block ≡ k) → is_numbered form k sh ≡ true → may_stand_in_form form s sh ≡ true
 may_be_there One k s sh m c n = rw m (number_there k s sh (is_insn sh.kind) refl c n)
 may_be_there Two k s sh m c n = m
 
@@ -236,13 +230,13 @@ renumbered form es k j l x n s = record {
 -- What a line says, and where it leads.
 pub record LineStep (form : Form) (es : List Label) (s : State) (ls : List (List ℕ)) (l : List ℕ) (u : Reading) : Type 0 where
   pub x : Line
-  pub says : SaysLine form es (count_of s.block) l x
+  pub says : SaysLine form es (insn_count s.block) l x
   pub steps : Steps s (s.lines + 1) x u.base
   pub labels : u.labels ≡ labels_by form x (s.lines + 1 + 1) ls es
   pub form_is : u.form ≡ form
   pub lines : u.base.lines ≡ s.lines + 1
 
-pub line_step : (form : Form) (es : List Label) (s : State) (ls : List (List ℕ)) (l : List ℕ) (ws : List Word) (u : Reading) → is_skipped l ≡ false → HasWords l ws → Says (rd form es (counted s)) ls ws u → LineStep form es s ls l u
+pub line_step : (form : Form) (es : List Label) (s : State) (ls : List (List ℕ)) (l : List ℕ) (ws : List Word) (u : Reading) → is_skipped l ≡ false → HasWords l ws → LineSays (rd form es (counted s)) ls ws u → LineStep form es s ls l u
 line_step form es s ls l ws u e h m =
     let n = numbered_here form (counted s) m.shape m.may_stand in
     let x = line_of m.shape.kind m.says in
@@ -257,12 +251,12 @@ line_step form es s ls l ws u e h m =
     }
 
 -- The line is taken so, where it is no aside.
-pub step_by : (form : Form) (es : List Label) (s : State) (ls : List (List ℕ)) (l : List ℕ) (k : ℕ) (x : Line) (u : State) (y : SaysLine form es k l x) → (insn_said x ≡ true → count_of s.block ≡ k) → aside (rd form es (counted s)) y.words ≡ Nothing → Steps s (s.lines + 1) x u
-    → Takes (rd form es s) ls l (rd form (labels_by form x (s.lines + 1 + 1) ls es) u)
+pub step_by : (form : Form) (es : List Label) (s : State) (ls : List (List ℕ)) (l : List ℕ) (k : ℕ) (x : Line) (u : State) (y : SaysLine form es k l x) → (insn_said x ≡ true → insn_count s.block ≡ k) → aside (rd form es (counted s)) y.words ≡ Nothing → Steps s (s.lines + 1) x u
+    → TakesLine (rd form es s) ls l (rd form (labels_by form x (s.lines + 1 + 1) ls es) u)
 step_by form es s ls l k x u y c a p =
     let i : is_insn y.shape.kind ≡ insn_said x = insn_as y.shape.kind y.says ∙ ap insn_said y.is in
     let m : may_stand (stage_of s.block) y.shape.kind ≡ true = stands_as (stage_of s.block) y.shape.kind y.says ∙ ap (line_stands (stage_of s.block)) y.is ∙ p.stands in
-    let t : Says (rd form es (counted s)) ls y.words (rd form (labels_by form x (s.lines + 1 + 1) ls es) u) = record {
+    let t : LineSays (rd form es (counted s)) ls y.words (rd form (labels_by form x (s.lines + 1 + 1) ls es) u) = record {
       shape = y.shape;
       has_shape = y.has_shape;
       may_stand = may_be_there form k (counted s) y.shape m (λ z. c (sym i ∙ z)) y.numbered;
@@ -274,7 +268,7 @@ step_by form es s ls l k x u y c a p =
     } in
     inr (y.not_skipped, record { words = y.words; has_words = y.has_words; makes = inr (inr (a, t)) })
 
--- The line is taken so behind the first line.
-pub step_taken : (form : Form) (es : List Label) (s : State) (ls : List (List ℕ)) (l : List ℕ) (k : ℕ) (x : Line) (u : State) → SaysLine form es k l x → (insn_said x ≡ true → count_of s.block ≡ k) → is_start (stage_of s.block) ≡ false → Steps s (s.lines + 1) x u
-    → Takes (rd form es s) ls l (rd form (labels_by form x (s.lines + 1 + 1) ls es) u)
+-- The line is taken so after the first line.
+pub step_taken : (form : Form) (es : List Label) (s : State) (ls : List (List ℕ)) (l : List ℕ) (k : ℕ) (x : Line) (u : State) → SaysLine form es k l x → (insn_said x ≡ true → insn_count s.block ≡ k) → is_start (stage_of s.block) ≡ false → Steps s (s.lines + 1) x u
+    → TakesLine (rd form es s) ls l (rd form (labels_by form x (s.lines + 1 + 1) ls es) u)
 step_taken form es s ls l k x u y c b p = step_by form es s ls l k x u y c (aside_nothing form es (counted s) y.words y.shape y.has_shape b) p

@@ -18,14 +18,14 @@ use Rattle.listing_lines.specs.declared.form.Form.{Form}
 use Rattle.listing_lines.specs.declared.form.Form.TheVariants.{One, Two}
 use Rattle.listing_draft.specs.States.{Block, at_start, at_top, in_class, in_code, State, stage_of, add}
 use Rattle.listing_labels.specs.Lines.{lines, is_skipped}
-use Rattle.listing_parse.specs.Text.{Reading, is_second, aside, in_second, Says, Adds, Takes, Reads, IsListing}
+use Rattle.listing_parse.specs.Text.{Reading, is_second, aside, in_second, LineSays, AddsLine, TakesLine, Reads, IsListing}
 use Rattle.listing_parse.specs.declared.aside.Aside.TheVariants.{Nothing, First, Mark}
 use Rattle.listing_grammar.specs.Codes.{Numbered, said}
 use Rattle.listing_grammar.specs.Classes.{ClassesText}
 use Rattle.listing_grammar.specs.Reads.{AreRead, SayRun}
 use Rattle.listing_grammar.specs.Runs.{at_line, Steps, Runs, with_classes, is_outside}
 use Rattle.listing_grammar.specs.Texts.{SaysLine, outside, SayLines, BeginsForm, ListingText}
-use Rattle.listing_grammar.proofs.AsideLaws.{one_behind}
+use Rattle.listing_grammar.proofs.AsideLaws.{one_after}
 use Rattle.listing_grammar.proofs.ClassLaws.{classes_read, classes_go}
 use Rattle.listing_grammar.proofs.LineSteps.{rd, insn_said, insn_as, line_step, step_by, out, part_of}
 use Rattle.listing_grammar.proofs.LabelLaws.{insn_kind}
@@ -47,7 +47,7 @@ unfolding line_of
 first_as kind.First ds = refl
 first_as _ ds = refl
 
--- A first line has one word behind its keyword.
+-- A first line has one word after its keyword.
 abbrev FirstFits : Row → Type 0
 FirstFits row = first_kind row.0 ≡ true → length row.1 ≡ 1
 
@@ -86,12 +86,12 @@ not_second l y = by y.has_shape
   where
     by : HasShape y.words y.shape → is_second y.words ≡ false
     by (inl b) =
-        let i : is_insn y.shape.kind ≡ true = ap (λ (z : Shape). is_insn z.kind) b.is ∙ insn_kind b.insn.text b.insn.behind b.row b.insn.has_row in
+        let i : is_insn y.shape.kind ≡ true = ap (λ (z : Shape). is_insn z.kind) b.is ∙ insn_kind b.insn.text b.insn.after b.row b.insn.has_row in
         let j : is_insn y.shape.kind ≡ false = insn_as y.shape.kind y.says ∙ ap insn_said y.is in
         absurd cc
     by (inr b) =
         let i : first_kind b.row.0 ≡ true = sym (ap (λ (z : Shape). first_kind z.kind) b.is) ∙ first_as y.shape.kind y.says ∙ ap first_said y.is in
-        ap is_second b.words ∙ one_behind b.row.1 (plain_word b.text) b.behind (first_fits b.keyed.lead b.behind b.row b.keyed.has_row i) b.keyed.forms
+        ap is_second b.words ∙ one_after b.row.1 (plain_word b.text) b.after (first_fits b.keyed.lead b.after b.row b.keyed.has_row i) b.keyed.forms
 
 -- ---- up to the first line
 
@@ -105,13 +105,13 @@ record Headed (n : ℕ) (ls : List (List ℕ)) (t : Reading) : Type 0 where
   form : Form
   before : List (List ℕ)
   first : List ℕ
-  behind : List (List ℕ)
-  split : ls ≡ before ++ first ∷ behind
+  after : List (List ℕ)
+  split : ls ≡ before ++ first ∷ after
   silent : AllByRecursion (λ l. is_skipped l ≡ true) before
   begins : BeginsForm form first
   line : ℕ
   line_is : line ≡ n + length before + 1
-  runs : Reads (rd form [] (outside_at line)) behind [] t
+  runs : Reads (rd form [] (outside_at line)) after [] t
 
 first_headed : (n : ℕ) (l : List ℕ) (ls : List (List ℕ)) (u t : Reading) (x : Line) → SaysLine One [] 0 l x → Steps (begun_at n) (n + 1) x u.base → u.labels ≡ [] → u.form ≡ One → Reads u ls [] t → Headed n (l ∷ ls) t
 unfolding add
@@ -122,7 +122,7 @@ first_headed n l ls u t first_line y p e f r =
       form = One;
       before = [];
       first = l;
-      behind = ls;
+      after = ls;
       split = refl;
       silent = tt;
       begins = y;
@@ -132,16 +132,16 @@ first_headed n l ls u t first_line y p e f r =
     }
 first_headed n l ls u t x y p e f r = let h = p.stands in absurd cc
 
-adds_headed : (n : ℕ) (l : List ℕ) (ls : List (List ℕ)) (u t : Reading) → is_skipped l ≡ false → Adds (rd One [] (begun_at (n + 1))) ls l u → Reads u ls [] t → Headed n (l ∷ ls) t
+adds_headed : (n : ℕ) (l : List ℕ) (ls : List (List ℕ)) (u t : Reading) → is_skipped l ≡ false → AddsLine (rd One [] (begun_at (n + 1))) ls l u → Reads u ls [] t → Headed n (l ∷ ls) t
 adds_headed n l ls u t q a r = by a.makes
   where
-    by : ((aside (rd One [] (begun_at (n + 1))) a.words ≡ First) × (u ≡ in_second (rd One [] (begun_at (n + 1))))) ⊎ ((aside (rd One [] (begun_at (n + 1))) a.words ≡ Mark) × (u ≡ rd One [] (begun_at (n + 1)))) ⊎ ((aside (rd One [] (begun_at (n + 1))) a.words ≡ Nothing) × Says (rd One [] (begun_at (n + 1))) ls a.words u)
+    by : ((aside (rd One [] (begun_at (n + 1))) a.words ≡ First) × (u ≡ in_second (rd One [] (begun_at (n + 1))))) ⊎ ((aside (rd One [] (begun_at (n + 1))) a.words ≡ Mark) × (u ≡ rd One [] (begun_at (n + 1)))) ⊎ ((aside (rd One [] (begun_at (n + 1))) a.words ≡ Nothing) × LineSays (rd One [] (begun_at (n + 1))) ls a.words u)
         → Headed n (l ∷ ls) t
     by (inl m) = record {
       form = Two;
       before = [];
       first = l;
-      behind = ls;
+      after = ls;
       split = refl;
       silent = tt;
       begins = record { not_skipped = q; words = a.words; has_words = a.has_words; is_second = (first_means One [] (begun_at (n + 1)) a.words m.0).0 };
@@ -156,16 +156,16 @@ adds_headed n l ls u t q a r = by a.makes
 
 head_read : (ls : List (List ℕ)) (n : ℕ) (t : Reading) → t.base.block ≡ at_top → Reads (rd One [] (begun_at n)) ls [] t → Headed n ls t
 head_read [] n t top r = let h : at_start ≡ at_top = ap (λ (z : Reading). z.base.block) r ∙ top in absurd cc
-head_read (l ∷ ls) n t top r = by (subst (λ z. Takes (rd One [] (begun_at n)) z l r.0) (append-nil ls) r.1) (head_read ls (n + 1) t top)
+head_read (l ∷ ls) n t top r = by (subst (λ z. TakesLine (rd One [] (begun_at n)) z l r.0) (append-nil ls) r.1) (head_read ls (n + 1) t top)
   where
-    by : Takes (rd One [] (begun_at n)) ls l r.0 → (Reads (rd One [] (begun_at (n + 1))) ls [] t → Headed (n + 1) ls t) → Headed n (l ∷ ls) t
+    by : TakesLine (rd One [] (begun_at n)) ls l r.0 → (Reads (rd One [] (begun_at (n + 1))) ls [] t → Headed (n + 1) ls t) → Headed n (l ∷ ls) t
     by (inl k) hyp =
         let h = hyp (subst (λ z. Reads z ls [] t) k.1 r.2) in
         record {
           form = h.form;
           before = l ∷ h.before;
           first = h.first;
-          behind = h.behind;
+          after = h.after;
           split = ap (λ z. l ∷ z) h.split;
           silent = (k.0, h.silent);
           begins = h.begins;
@@ -175,27 +175,27 @@ head_read (l ∷ ls) n t top r = by (subst (λ z. Takes (rd One [] (begun_at n))
         }
     by (inr k) hyp = adds_headed n l ls r.0 t k.0 k.1 r.2
 
-first_on : (form : Form) (n : ℕ) (l : List ℕ) (ls : List (List ℕ)) → BeginsForm form l → Takes (rd One [] (begun_at n)) ls l (rd form [] (outside_at (n + 1)))
+first_on : (form : Form) (n : ℕ) (l : List ℕ) (ls : List (List ℕ)) → BeginsForm form l → TakesLine (rd One [] (begun_at n)) ls l (rd form [] (outside_at (n + 1)))
 unfolding aside add
 first_on One n l ls y = step_by One [] (begun_at n) ls l 0 first_line (outside_at (n + 1)) y (λ h. refl) (rw (not_second l y) refl) (record { stands = refl; added = refl })
 first_on Two n l ls y = inr (y.not_skipped, record { words = y.words; has_words = y.has_words; makes = inl (rw y.is_second refl, refl) })
 
-head_on : (before : List (List ℕ)) (first : List ℕ) (behind : List (List ℕ)) (form : Form) (n : ℕ) (t : Reading) → AllByRecursion (λ l. is_skipped l ≡ true) before → BeginsForm form first → Reads (rd form [] (outside_at (n + length before + 1))) behind [] t
-    → Reads (rd One [] (begun_at n)) (before ++ first ∷ behind) [] t
-head_on [] first behind form n t q y r =
+head_on : (before : List (List ℕ)) (first : List ℕ) (after : List (List ℕ)) (form : Form) (n : ℕ) (t : Reading) → AllByRecursion (λ l. is_skipped l ≡ true) before → BeginsForm form first → Reads (rd form [] (outside_at (n + length before + 1))) after [] t
+    → Reads (rd One [] (begun_at n)) (before ++ first ∷ after) [] t
+head_on [] first after form n t q y r =
     let e : n + length {A = List ℕ} [] + 1 ≡ n + 1 = omega arith in
-    read_on (rd One [] (begun_at n)) (rd form [] (outside_at (n + 1))) t first behind (first_on form n first behind y) (subst (λ z. Reads (rd form [] (outside_at z)) behind [] t) e r)
-head_on (l ∷ before) first behind form n t q y r =
+    read_on (rd One [] (begun_at n)) (rd form [] (outside_at (n + 1))) t first after (first_on form n first after y) (subst (λ z. Reads (rd form [] (outside_at z)) after [] t) e r)
+head_on (l ∷ before) first after form n t q y r =
     let e : n + length (l ∷ before) + 1 ≡ n + 1 + length before + 1 = omega arith in
-    let h = head_on before first behind form (n + 1) t q.1 y (subst (λ z. Reads (rd form [] (outside_at z)) behind [] t) e r) in
-    read_on (rd One [] (begun_at n)) (rd One [] (begun_at (n + 1))) t l (before ++ first ∷ behind) (inl (q.0, refl)) h
+    let h = head_on before first after form (n + 1) t q.1 y (subst (λ z. Reads (rd form [] (outside_at z)) after [] t) e r) in
+    read_on (rd One [] (begun_at n)) (rd One [] (begun_at (n + 1))) t l (before ++ first ∷ after) (inl (q.0, refl)) h
 
 -- ---- the law
 
 pub listing_read : (text : List ℕ) (p : Program) → IsListing text p → ListingText text p × WellFormed p
 listing_read text p x =
     let h = head_read (lines text) 0 x.end x.whole x.read in
-    let g = from_reads h.behind at_out h.form [] (outside_at h.line) x.end (refl, refl) (ap is_outside x.whole) h.runs in
+    let g = from_reads h.after at_out h.form [] (outside_at h.line) x.end (refl, refl) (ap is_outside x.whole) h.runs in
     let c = classes_read (outside_at h.line) x.end.base g.0 x.whole x.targets g.2 in
     let e : c.classes ≡ p = sym (ap (λ (z : State). z.done) c.whole) ∙ x.classes in
     let n : h.line ≡ length h.before + 1 = h.line_is ∙ (let q : 0 + length h.before + 1 ≡ length h.before + 1 = omega arith in q) in (
@@ -203,12 +203,12 @@ listing_read text p x =
         form = h.form;
         before = h.before;
         first = h.first;
-        behind = h.behind;
+        after = h.after;
         split = h.split;
         silent = h.silent;
         begins = h.begins;
         lines_said = g.0;
-        say = subst (λ z. SayLines h.form outside z h.behind g.0) n g.1;
+        say = subst (λ z. SayLines h.form outside z h.after g.0) n g.1;
         classes = subst (ClassesText (said g.0)) e c.are_texts;
       },
       x.formed,
@@ -222,7 +222,7 @@ listing_goes text p y =
     let r = classes_go s t x.lines_said (record { classes = p; are_texts = x.classes; whole = refl }) in
     let z = to_reads x.form x.say [] s t refl (refl, refl) r in
     let e : length x.before + 1 ≡ 0 + length x.before + 1 = omega arith in
-    let h = head_on x.before x.first x.behind x.form 0 (rd x.form [] (at_line t z.0)) x.silent x.begins (subst (λ n. Reads (rd x.form [] (outside_at n)) x.behind [] (rd x.form [] (at_line t z.0))) e z.1) in
+    let h = head_on x.before x.first x.after x.form 0 (rd x.form [] (at_line t z.0)) x.silent x.begins (subst (λ n. Reads (rd x.form [] (outside_at n)) x.after [] (rd x.form [] (at_line t z.0))) e z.1) in
     record {
       end = rd x.form [] (at_line t z.0);
       read = subst (λ ls. Reads (rd One [] (begun_at 0)) ls [] (rd x.form [] (at_line t z.0))) (sym x.split) h;

@@ -7,14 +7,14 @@ use Rattle.program_rules.specs.Rules.{member_key, method_key}
 use Rattle.listing_lines.specs.Lines.{Line, end_class, static_line, instance_line, direct_line, virtual_line, open_code}
 use Rattle.listing_lines.specs.Needs.{earliest}
 use Rattle.listing_draft.specs.Members.{Given, given_key, is_held, put_in, with_member}
-use Rattle.listing_draft.specs.States.{Open, Owner, ClassPart, at_members, behind_method, at_top, in_class, State, with_code_at, with_static, with_instance, with_direct, with_virtual, at_part, with_block, inside, add}
+use Rattle.listing_draft.specs.States.{Open, Owner, ClassPart, at_members, after_method, at_top, in_class, State, with_code_at, with_static, with_instance, with_direct, with_virtual, at_part, with_block, inside, add}
 use Rattle.listing_grammar.specs.Codes.{Numbered, said, code_lines, leads_into, late_line}
 use Rattle.listing_grammar.specs.Classes.{at_most_one, ListedMember, static_entry, instance_entry, direct_entry, virtual_entry, its_code, entry_lines, method_with, static_in, instance_in, direct_in, virtual_in, code_in, LeadsInside}
 use Rattle.listing_grammar.specs.Runs.{at_line, Runs, is_outside, with_its_code}
 use Rattle.listing_grammar.proofs.LateLaws.{earliest_none, none_late, all_lead, neither_late, runs_late}
 use Rattle.listing_grammar.proofs.CodeLaws.{again, code_read, text_runs}
 use Rattle.listing_grammar.proofs.HeldLaws.{ArePut, code_put}
-use Rattle.listing_grammar.proofs.Numbering.{more_split, more_said, starts, splits, none_said, said_append, length_behind, within, behind_class, class_goes_on, class_open}
+use Rattle.listing_grammar.proofs.Numbering.{more_split, more_said, starts, splits, none_said, said_append, length_after, within, after_class, class_goes_on, class_open}
 
 -- ---- one member more
 
@@ -33,7 +33,7 @@ put_step key x ys with q s u e = by (is_held key (key x) ys) refl
 put_goes : {X : Type 0} (key : X → Key) (x : X) (ys : List X) (with : List X → Open) (q : ClassPart) (s : State) → is_held key (key x) ys ≡ false → put_by key x ys with q s ≡ Some (with_block s (in_class (with (put_in key x ys)) q))
 put_goes key x ys with q s h = rw h refl
 
--- ---- the code behind a method
+-- ---- the code after a method
 
 -- The class, whose method has the code, if there is one.
 abbrev coded : Open → Owner → Option Code → Open
@@ -43,37 +43,37 @@ coded o m (Some c) = with_code_at o m c
 record Followed (done : List Class) (late : Option ℕ) (o : Open) (m : Owner) (ls : List Numbered) (t : State) : Type 0 where
   code : Option Code
   text : List Numbered
-  behind : List Numbered
-  split : ls ≡ text ++ behind
+  after : List Numbered
+  split : ls ≡ text ++ after
   says : said text ≡ its_code code
   leads : AllByRecursion LeadsInside (at_most_one code)
   line : ℕ
-  runs : Runs (within at_members done late (coded o m code) line) behind t
+  runs : Runs (within at_members done late (coded o m code) line) after t
 
-followed : (done : List Class) (late : Option ℕ) (o : Open) (m : Owner) (n : ℕ) (ls : List Numbered) (t : State) → t.block ≡ at_top → t.late ≡ None → Runs (within (behind_method m) done late o n) ls t → Followed done late o m ls t
+followed : (done : List Class) (late : Option ℕ) (o : Open) (m : Owner) (n : ℕ) (ls : List Numbered) (t : State) → t.block ≡ at_top → t.late ≡ None → Runs (within (after_method m) done late o n) ls t → Followed done late o m ls t
 unfolding add inside
-followed done late o m n [] t e f r = absurd (class_open (behind_method m) done late o n t e r)
+followed done late o m n [] t e f r = absurd (class_open (after_method m) done late o n t e r)
 followed done late o m n ((k, open_code x i u) ∷ ls) t e f r =
     let s : State = record { done = done; block = at_top; lines = n; late = late } in
     let y = code_read s t o m k x i u ls (ap is_outside e) r in
     let c = y.code in
-    let behind = with_its_code s o m c (late_line (length c.insns) y.text) in
-    let none = neither_late late (late_line (length c.insns) y.text) (runs_late behind t y.behind y.runs f) in
+    let after = with_its_code s o m c (late_line (length c.insns) y.text) in
+    let none = neither_late late (late_line (length c.insns) y.text) (runs_late after t y.after y.runs f) in
     let same : earliest late (late_line (length c.insns) y.text) ≡ late = ap (earliest late) none.1 ∙ earliest_none late in
     record {
       code = Some c;
       text = y.text;
-      behind = y.behind;
+      after = y.after;
       split = y.split;
       says = y.is_text;
       leads = (ap (list_all (leads_into (length c.insns))) (sym y.is_text) ∙ all_lead (length c.insns) y.text none.1, tt);
       line = n;
-      runs = subst (λ l. Runs (within at_members done l (with_code_at o m c) n) y.behind t) same y.runs;
+      runs = subst (λ l. Runs (within at_members done l (with_code_at o m c) n) y.after t) same y.runs;
     }
 followed done late o m n ((k, l) ∷ ls) t e f r = record {
   code = None;
   text = [];
-  behind = (k, l) ∷ ls;
+  after = (k, l) ∷ ls;
   split = refl;
   says = refl;
   leads = tt;
@@ -81,13 +81,13 @@ followed done late o m n ((k, l) ∷ ls) t e f r = record {
   runs = (r.0, record { stands = r.1.stands; added = r.1.added }, r.2);
 }
 
-code_follows : (done : List Class) (late : Option ℕ) (o : Open) (m : Owner) (n : ℕ) (c : Code) (text behind : List Numbered) (t : State) → said text ≡ code_lines c → LeadsInside c → Runs (within at_members done late (with_code_at o m c) n) behind t
-    → Runs (within (behind_method m) done late o n) (text ++ behind) t
-code_follows done late o m n c text behind t e h r =
+code_follows : (done : List Class) (late : Option ℕ) (o : Open) (m : Owner) (n : ℕ) (c : Code) (text after : List Numbered) (t : State) → said text ≡ code_lines c → LeadsInside c → Runs (within at_members done late (with_code_at o m c) n) after t
+    → Runs (within (after_method m) done late o n) (text ++ after) t
+code_follows done late o m n c text after t e h r =
     let s : State = record { done = done; block = at_top; lines = n; late = late } in
     let none = none_late (length c.insns) text (ap (list_all (leads_into (length c.insns))) e ∙ h) in
     let same : late ≡ earliest late (late_line (length c.insns) text) = sym (ap (earliest late) none ∙ earliest_none late) in
-    text_runs s t o m c text behind e (subst (λ l. Runs (within at_members done l (with_code_at o m c) n) behind t) same r)
+    text_runs s t o m c text after e (subst (λ l. Runs (within at_members done l (with_code_at o m c) n) after t) same r)
 
 -- ---- methods with their codes
 
@@ -134,8 +134,8 @@ with_members o gs is ds vs = record o { statics = gs; instances = is; directs = 
 pub record MembersRead (done : List Class) (late : Option ℕ) (o : Open) (ls : List Numbered) (t : State) : Type 0 where
   pub entries : List ListedMember
   pub mine : List Numbered
-  pub behind : List Numbered
-  pub split : ls ≡ mine ++ behind
+  pub after : List Numbered
+  pub split : ls ≡ mine ++ after
   pub says : said mine ≡ flat_map entry_lines entries ++ end_class ∷ []
   pub final : Open
   pub statics : ArePut given_key o.statics (flat_map static_in entries) final.statics
@@ -145,13 +145,13 @@ pub record MembersRead (done : List Class) (late : Option ℕ) (o : Open) (ls : 
   pub same : final ≡ with_members o final.statics final.instances final.directs final.virtuals
   pub leads : AllByRecursion LeadsInside (flat_map code_in entries)
   pub line : ℕ
-  pub runs : Runs (behind_class done late final line) behind t
+  pub runs : Runs (after_class done late final line) after t
 
 joined : (x : Line) (text mine : List Numbered) (c more : List Line) → said text ≡ c → said mine ≡ more ++ end_class ∷ [] → x ∷ said (text ++ mine) ≡ (x ∷ (c ++ more)) ++ end_class ∷ []
 joined x text mine c more e f = ap (λ y. x ∷ y) (said_append text mine ∙ ap (λ y. y ++ said mine) e ∙ ap (λ y. c ++ y) f ∙ sym (append_assoc c more (end_class ∷ [])))
 
-split_on : (l : Numbered) (ls text behind mine rest : List Numbered) → ls ≡ text ++ behind → behind ≡ mine ++ rest → l ∷ ls ≡ (l ∷ (text ++ mine)) ++ rest
-split_on l ls text behind mine rest e f = ap (λ y. l ∷ y) (e ∙ ap (λ y. text ++ y) f ∙ sym (append_assoc text mine rest))
+split_on : (l : Numbered) (ls text after mine rest : List Numbered) → ls ≡ text ++ after → after ≡ mine ++ rest → l ∷ ls ≡ (l ∷ (text ++ mine)) ++ rest
+split_on l ls text after mine rest e f = ap (λ y. l ∷ y) (e ∙ ap (λ y. text ++ y) f ∙ sym (append_assoc text mine rest))
 
 pub members_read : (f : ℕ) (ls : List Numbered) → length ls ≤ f → (done : List Class) (late : Option ℕ) (o : Open) (k : ℕ) (t : State) → t.block ≡ at_top → t.late ≡ None → Runs (within at_members done late o k) ls t → MembersRead done late o ls t
 unfolding add inside with_static with_instance with_direct with_virtual direct_owner virtual_owner
@@ -164,8 +164,8 @@ members_read (suc f) ((n, static_line m v) ∷ ls) q done late o k t top fine r 
     record {
       entries = static_entry g ∷ y.entries;
       mine = (n, static_line m v) ∷ y.mine;
-      behind = y.behind;
-      split = more_split (n, static_line m v) ls y.mine y.behind y.split;
+      after = y.after;
+      split = more_split (n, static_line m v) ls y.mine y.after y.split;
       says = more_said n (static_line m v) y.mine _ y.says;
       final = y.final;
       statics = (p.0, y.statics);
@@ -183,8 +183,8 @@ members_read (suc f) ((n, instance_line m) ∷ ls) q done late o k t top fine r 
     record {
       entries = instance_entry m ∷ y.entries;
       mine = (n, instance_line m) ∷ y.mine;
-      behind = y.behind;
-      split = more_split (n, instance_line m) ls y.mine y.behind y.split;
+      after = y.after;
+      split = more_split (n, instance_line m) ls y.mine y.after y.split;
       says = more_said n (instance_line m) y.mine _ y.says;
       final = y.final;
       statics = y.statics;
@@ -199,16 +199,16 @@ members_read (suc f) ((n, instance_line m) ∷ ls) q done late o k t top fine r 
 members_read (suc f) ((n, direct_line m) ∷ ls) q done late o k t top fine r =
     let w = direct_owner m in
     let o1 = record o { directs = put_in method_key m o.directs } in
-    let p = put_step method_key m o.directs (λ ms. record o { directs = ms }) (behind_method w) (at_line (within at_members done late o k) n) r.0 r.1.added in
+    let p = put_step method_key m o.directs (λ ms. record o { directs = ms }) (after_method w) (at_line (within at_members done late o k) n) r.0 r.1.added in
     let x = followed done late o1 w n ls t top fine (subst (λ u. Runs u ls t) (sym p.1) r.2) in
     let o2 = record o { directs = put_in method_key (method_with m x.code) o.directs } in
-    let fewer = length_behind ls x.text x.behind x.split in
-    let y = members_read f x.behind (omega arith) done late o2 x.line t top fine (subst (λ z. Runs (within at_members done late z x.line) x.behind t) (direct_coded o m x.code p.0) x.runs) in
+    let fewer = length_after ls x.text x.after x.split in
+    let y = members_read f x.after (omega arith) done late o2 x.line t top fine (subst (λ z. Runs (within at_members done late z x.line) x.after t) (direct_coded o m x.code p.0) x.runs) in
     record {
       entries = direct_entry m x.code ∷ y.entries;
       mine = (n, direct_line m) ∷ (x.text ++ y.mine);
-      behind = y.behind;
-      split = split_on (n, direct_line m) ls x.text x.behind y.mine y.behind x.split y.split;
+      after = y.after;
+      split = split_on (n, direct_line m) ls x.text x.after y.mine y.after x.split y.split;
       says = joined (direct_line m) x.text y.mine (its_code x.code) (flat_map entry_lines y.entries) x.says y.says;
       final = y.final;
       statics = y.statics;
@@ -223,16 +223,16 @@ members_read (suc f) ((n, direct_line m) ∷ ls) q done late o k t top fine r =
 members_read (suc f) ((n, virtual_line m) ∷ ls) q done late o k t top fine r =
     let w = virtual_owner m in
     let o1 = record o { virtuals = put_in method_key m o.virtuals } in
-    let p = put_step method_key m o.virtuals (λ ms. record o { virtuals = ms }) (behind_method w) (at_line (within at_members done late o k) n) r.0 r.1.added in
+    let p = put_step method_key m o.virtuals (λ ms. record o { virtuals = ms }) (after_method w) (at_line (within at_members done late o k) n) r.0 r.1.added in
     let x = followed done late o1 w n ls t top fine (subst (λ u. Runs u ls t) (sym p.1) r.2) in
     let o2 = record o { virtuals = put_in method_key (method_with m x.code) o.virtuals } in
-    let fewer = length_behind ls x.text x.behind x.split in
-    let y = members_read f x.behind (omega arith) done late o2 x.line t top fine (subst (λ z. Runs (within at_members done late z x.line) x.behind t) (virtual_coded o m x.code p.0) x.runs) in
+    let fewer = length_after ls x.text x.after x.split in
+    let y = members_read f x.after (omega arith) done late o2 x.line t top fine (subst (λ z. Runs (within at_members done late z x.line) x.after t) (virtual_coded o m x.code p.0) x.runs) in
     record {
       entries = virtual_entry m x.code ∷ y.entries;
       mine = (n, virtual_line m) ∷ (x.text ++ y.mine);
-      behind = y.behind;
-      split = split_on (n, virtual_line m) ls x.text x.behind y.mine y.behind x.split y.split;
+      after = y.after;
+      split = split_on (n, virtual_line m) ls x.text x.after y.mine y.after x.split y.split;
       says = joined (virtual_line m) x.text y.mine (its_code x.code) (flat_map entry_lines y.entries) x.says y.says;
       final = y.final;
       statics = y.statics;
@@ -245,11 +245,11 @@ members_read (suc f) ((n, virtual_line m) ∷ ls) q done late o k t top fine r =
       runs = y.runs;
     }
 members_read (suc f) ((n, end_class) ∷ ls) q done late o k t top fine r =
-    let e : r.0 ≡ behind_class done late o n = let h : Some (behind_class done late o n) ≡ Some r.0 = r.1.added in cc in
+    let e : r.0 ≡ after_class done late o n = let h : Some (after_class done late o n) ≡ Some r.0 = r.1.added in cc in
     record {
       entries = [];
       mine = (n, end_class) ∷ [];
-      behind = ls;
+      after = ls;
       split = refl;
       says = refl;
       final = o;
@@ -274,80 +274,80 @@ four o final e a b c d =
     ∙ ap (λ x. with_members o o.statics o.instances x final.virtuals) (sym c)
     ∙ ap (λ x. with_members o o.statics o.instances o.directs x) (sym d)
 
-pub members_go : (es : List ListedMember) (p : ClassPart) (done : List Class) (late : Option ℕ) (o : Open) (k : ℕ) (behind : List Numbered) (t : State) (m : ℕ) (ls : List Numbered) → said ls ≡ flat_map entry_lines es ++ end_class ∷ [] → (final : Open)
+pub members_go : (es : List ListedMember) (p : ClassPart) (done : List Class) (late : Option ℕ) (o : Open) (k : ℕ) (after : List Numbered) (t : State) (m : ℕ) (ls : List Numbered) → said ls ≡ flat_map entry_lines es ++ end_class ∷ [] → (final : Open)
     → ArePut given_key o.statics (flat_map static_in es) final.statics → ArePut member_key o.instances (flat_map instance_in es) final.instances → ArePut method_key o.directs (flat_map direct_in es) final.directs → ArePut method_key o.virtuals (flat_map virtual_in es) final.virtuals
-    → final ≡ with_members o final.statics final.instances final.directs final.virtuals → AllByRecursion LeadsInside (flat_map code_in es) → Runs (behind_class done late final m) behind t → Runs (within p done late o k) (ls ++ behind) t
+    → final ≡ with_members o final.statics final.instances final.directs final.virtuals → AllByRecursion LeadsInside (flat_map code_in es) → Runs (after_class done late final m) after t → Runs (within p done late o k) (ls ++ after) t
 unfolding add inside with_static with_instance with_direct with_virtual direct_owner virtual_owner
-members_go [] p done late o k behind t m ls e final a b c d same leads r =
+members_go [] p done late o k after t m ls e final a b c d same leads r =
     let st = starts ls end_class [] e in
-    let u = behind_class done late o st.number in
-    let h = subst (λ x. Runs (behind_class done late x m) behind t) (four o final same a b c d) r in
-    let g : Runs (within p done late o k) ((st.number, end_class) ∷ behind) t = (u, record { stands = class_goes_on p; added = refl }, again (behind_class done late o m) t behind st.number h) in
-    let g1 = subst (λ xs. Runs (within p done late o k) ((st.number, end_class) ∷ (xs ++ behind)) t) (sym (none_said st.rest st.says)) g in
-    subst (λ xs. Runs (within p done late o k) (xs ++ behind) t) (sym st.is) g1
-members_go (static_entry g ∷ es) p done late o k behind t m ls e final a b c d same leads r =
+    let u = after_class done late o st.number in
+    let h = subst (λ x. Runs (after_class done late x m) after t) (four o final same a b c d) r in
+    let g : Runs (within p done late o k) ((st.number, end_class) ∷ after) t = (u, record { stands = class_goes_on p; added = refl }, again (after_class done late o m) t after st.number h) in
+    let g1 = subst (λ xs. Runs (within p done late o k) ((st.number, end_class) ∷ (xs ++ after)) t) (sym (none_said st.rest st.says)) g in
+    subst (λ xs. Runs (within p done late o k) (xs ++ after) t) (sym st.is) g1
+members_go (static_entry g ∷ es) p done late o k after t m ls e final a b c d same leads r =
     let st = starts ls (static_line g.field g.value) (flat_map entry_lines es ++ end_class ∷ []) e in
     let s = at_line (within p done late o k) st.number in
     let o1 = record o { statics = put_in given_key g o.statics } in
-    let y = members_go es at_members done late o1 st.number behind t m st.rest st.says final a.1 b c d same leads r in
-    let g1 : Runs (within p done late o k) ((st.number, static_line g.field g.value) ∷ (st.rest ++ behind)) t =
+    let y = members_go es at_members done late o1 st.number after t m st.rest st.says final a.1 b c d same leads r in
+    let g1 : Runs (within p done late o k) ((st.number, static_line g.field g.value) ∷ (st.rest ++ after)) t =
     (within at_members done late o1 st.number, record { stands = class_goes_on p; added = put_goes given_key g o.statics (λ gs. record o { statics = gs }) at_members s a.0 }, y) in
-    subst (λ xs. Runs (within p done late o k) (xs ++ behind) t) (sym st.is) g1
-members_go (instance_entry x ∷ es) p done late o k behind t m ls e final a b c d same leads r =
+    subst (λ xs. Runs (within p done late o k) (xs ++ after) t) (sym st.is) g1
+members_go (instance_entry x ∷ es) p done late o k after t m ls e final a b c d same leads r =
     let st = starts ls (instance_line x) (flat_map entry_lines es ++ end_class ∷ []) e in
     let s = at_line (within p done late o k) st.number in
     let o1 = record o { instances = put_in member_key x o.instances } in
-    let y = members_go es at_members done late o1 st.number behind t m st.rest st.says final a b.1 c d same leads r in
-    let g1 : Runs (within p done late o k) ((st.number, instance_line x) ∷ (st.rest ++ behind)) t =
+    let y = members_go es at_members done late o1 st.number after t m st.rest st.says final a b.1 c d same leads r in
+    let g1 : Runs (within p done late o k) ((st.number, instance_line x) ∷ (st.rest ++ after)) t =
     (within at_members done late o1 st.number, record { stands = class_goes_on p; added = put_goes member_key x o.instances (λ ms. record o { instances = ms }) at_members s b.0 }, y) in
-    subst (λ xs. Runs (within p done late o k) (xs ++ behind) t) (sym st.is) g1
-members_go (direct_entry x None ∷ es) p done late o k behind t m ls e final a b c d same leads r =
+    subst (λ xs. Runs (within p done late o k) (xs ++ after) t) (sym st.is) g1
+members_go (direct_entry x None ∷ es) p done late o k after t m ls e final a b c d same leads r =
     let st = starts ls (direct_line x) (flat_map entry_lines es ++ end_class ∷ []) e in
     let s = at_line (within p done late o k) st.number in
-    let q : ClassPart = behind_method (direct_owner x) in
+    let q : ClassPart = after_method (direct_owner x) in
     let o1 = record o { directs = put_in method_key x o.directs } in
-    let y = members_go es q done late o1 st.number behind t m st.rest st.says final a b c.1 d same leads r in
-    let g1 : Runs (within p done late o k) ((st.number, direct_line x) ∷ (st.rest ++ behind)) t =
+    let y = members_go es q done late o1 st.number after t m st.rest st.says final a b c.1 d same leads r in
+    let g1 : Runs (within p done late o k) ((st.number, direct_line x) ∷ (st.rest ++ after)) t =
     (within q done late o1 st.number, record { stands = class_goes_on p; added = put_goes method_key x o.directs (λ ms. record o { directs = ms }) q s c.0 }, y) in
-    subst (λ xs. Runs (within p done late o k) (xs ++ behind) t) (sym st.is) g1
-members_go (direct_entry x (Some i) ∷ es) p done late o k behind t m ls e final a b c d same leads r =
+    subst (λ xs. Runs (within p done late o k) (xs ++ after) t) (sym st.is) g1
+members_go (direct_entry x (Some i) ∷ es) p done late o k after t m ls e final a b c d same leads r =
     let more = flat_map entry_lines es ++ end_class ∷ [] in
     let st = starts ls (direct_line x) ((code_lines i ++ flat_map entry_lines es) ++ end_class ∷ []) e in
     let sp = splits st.rest (code_lines i) more (st.says ∙ append_assoc (code_lines i) (flat_map entry_lines es) (end_class ∷ [])) in
     let s = at_line (within p done late o k) st.number in
     let w = direct_owner x in
-    let q : ClassPart = behind_method w in
+    let q : ClassPart = after_method w in
     let o1 = record o { directs = put_in method_key x o.directs } in
     let o2 = record o { directs = put_in method_key (method_with x (Some i)) o.directs } in
-    let y = members_go es at_members done late o2 st.number behind t m sp.back sp.behind final a b c.1 d same leads.1 r in
-    let z = code_follows done late o1 w st.number i sp.front (sp.back ++ behind) t sp.in_front leads.0 (subst (λ h. Runs (within at_members done late h st.number) (sp.back ++ behind) t) (sym (direct_coded o x (Some i) c.0)) y) in
-    let z1 = subst (λ xs. Runs (within q done late o1 st.number) xs t) (sym (append_assoc sp.front sp.back behind)) z in
-    let z2 = subst (λ xs. Runs (within q done late o1 st.number) (xs ++ behind) t) (sym sp.is) z1 in
-    let g1 : Runs (within p done late o k) ((st.number, direct_line x) ∷ (st.rest ++ behind)) t =
+    let y = members_go es at_members done late o2 st.number after t m sp.back sp.after final a b c.1 d same leads.1 r in
+    let z = code_follows done late o1 w st.number i sp.front (sp.back ++ after) t sp.in_front leads.0 (subst (λ h. Runs (within at_members done late h st.number) (sp.back ++ after) t) (sym (direct_coded o x (Some i) c.0)) y) in
+    let z1 = subst (λ xs. Runs (within q done late o1 st.number) xs t) (sym (append_assoc sp.front sp.back after)) z in
+    let z2 = subst (λ xs. Runs (within q done late o1 st.number) (xs ++ after) t) (sym sp.is) z1 in
+    let g1 : Runs (within p done late o k) ((st.number, direct_line x) ∷ (st.rest ++ after)) t =
     (within q done late o1 st.number, record { stands = class_goes_on p; added = put_goes method_key x o.directs (λ ms. record o { directs = ms }) q s c.0 }, z2) in
-    subst (λ xs. Runs (within p done late o k) (xs ++ behind) t) (sym st.is) g1
-members_go (virtual_entry x None ∷ es) p done late o k behind t m ls e final a b c d same leads r =
+    subst (λ xs. Runs (within p done late o k) (xs ++ after) t) (sym st.is) g1
+members_go (virtual_entry x None ∷ es) p done late o k after t m ls e final a b c d same leads r =
     let st = starts ls (virtual_line x) (flat_map entry_lines es ++ end_class ∷ []) e in
     let s = at_line (within p done late o k) st.number in
-    let q : ClassPart = behind_method (virtual_owner x) in
+    let q : ClassPart = after_method (virtual_owner x) in
     let o1 = record o { virtuals = put_in method_key x o.virtuals } in
-    let y = members_go es q done late o1 st.number behind t m st.rest st.says final a b c d.1 same leads r in
-    let g1 : Runs (within p done late o k) ((st.number, virtual_line x) ∷ (st.rest ++ behind)) t =
+    let y = members_go es q done late o1 st.number after t m st.rest st.says final a b c d.1 same leads r in
+    let g1 : Runs (within p done late o k) ((st.number, virtual_line x) ∷ (st.rest ++ after)) t =
     (within q done late o1 st.number, record { stands = class_goes_on p; added = put_goes method_key x o.virtuals (λ ms. record o { virtuals = ms }) q s d.0 }, y) in
-    subst (λ xs. Runs (within p done late o k) (xs ++ behind) t) (sym st.is) g1
-members_go (virtual_entry x (Some i) ∷ es) p done late o k behind t m ls e final a b c d same leads r =
+    subst (λ xs. Runs (within p done late o k) (xs ++ after) t) (sym st.is) g1
+members_go (virtual_entry x (Some i) ∷ es) p done late o k after t m ls e final a b c d same leads r =
     let more = flat_map entry_lines es ++ end_class ∷ [] in
     let st = starts ls (virtual_line x) ((code_lines i ++ flat_map entry_lines es) ++ end_class ∷ []) e in
     let sp = splits st.rest (code_lines i) more (st.says ∙ append_assoc (code_lines i) (flat_map entry_lines es) (end_class ∷ [])) in
     let s = at_line (within p done late o k) st.number in
     let w = virtual_owner x in
-    let q : ClassPart = behind_method w in
+    let q : ClassPart = after_method w in
     let o1 = record o { virtuals = put_in method_key x o.virtuals } in
     let o2 = record o { virtuals = put_in method_key (method_with x (Some i)) o.virtuals } in
-    let y = members_go es at_members done late o2 st.number behind t m sp.back sp.behind final a b c d.1 same leads.1 r in
-    let z = code_follows done late o1 w st.number i sp.front (sp.back ++ behind) t sp.in_front leads.0 (subst (λ h. Runs (within at_members done late h st.number) (sp.back ++ behind) t) (sym (virtual_coded o x (Some i) d.0)) y) in
-    let z1 = subst (λ xs. Runs (within q done late o1 st.number) xs t) (sym (append_assoc sp.front sp.back behind)) z in
-    let z2 = subst (λ xs. Runs (within q done late o1 st.number) (xs ++ behind) t) (sym sp.is) z1 in
-    let g1 : Runs (within p done late o k) ((st.number, virtual_line x) ∷ (st.rest ++ behind)) t =
+    let y = members_go es at_members done late o2 st.number after t m sp.back sp.after final a b c d.1 same leads.1 r in
+    let z = code_follows done late o1 w st.number i sp.front (sp.back ++ after) t sp.in_front leads.0 (subst (λ h. Runs (within at_members done late h st.number) (sp.back ++ after) t) (sym (virtual_coded o x (Some i) d.0)) y) in
+    let z1 = subst (λ xs. Runs (within q done late o1 st.number) xs t) (sym (append_assoc sp.front sp.back after)) z in
+    let z2 = subst (λ xs. Runs (within q done late o1 st.number) (xs ++ after) t) (sym sp.is) z1 in
+    let g1 : Runs (within p done late o k) ((st.number, virtual_line x) ∷ (st.rest ++ after)) t =
     (within q done late o1 st.number, record { stands = class_goes_on p; added = put_goes method_key x o.virtuals (λ ms. record o { virtuals = ms }) q s d.0 }, z2) in
-    subst (λ xs. Runs (within p done late o k) (xs ++ behind) t) (sym st.is) g1
+    subst (λ xs. Runs (within p done late o k) (xs ++ after) t) (sym st.is) g1

@@ -4,7 +4,7 @@ use Rattle.std.proofs.lemmas.List.{map-append, length-append}
 use Rattle.program_types.specs.Content.{Class}
 use Rattle.listing_lines.specs.Lines.{Line}
 use Rattle.listing_lines.specs.Places.{is_in_class}
-use Rattle.listing_draft.specs.States.{Open, ClassPart, at_heads, at_members, behind_method, at_top, in_class, class_stage, closed, State}
+use Rattle.listing_draft.specs.States.{Open, ClassPart, at_heads, at_members, after_method, at_top, in_class, class_stage, closed, State}
 use Rattle.listing_grammar.specs.Codes.{Numbered, said}
 use Rattle.listing_grammar.specs.Runs.{at_line}
 
@@ -19,16 +19,16 @@ pub starts : (ls : List Numbered) (x : Line) (xs : List Line) → said ls ≡ x 
 starts [] x xs e = absurd cc
 starts ((n, l) ∷ ls) x xs e = let h : l ≡ x = cc in record { number = n; rest = ls; is = ap (λ y. (n, y) ∷ ls) h; says = cc }
 
--- The lines are those in front and those behind.
+-- The lines are those in front and those after.
 pub record Splits (ls : List Numbered) (xs ys : List Line) : Type 0 where
   pub front : List Numbered
   pub back : List Numbered
   pub is : ls ≡ front ++ back
   pub in_front : said front ≡ xs
-  pub behind : said back ≡ ys
+  pub after : said back ≡ ys
 
 pub splits : (ls : List Numbered) (xs ys : List Line) → said ls ≡ xs ++ ys → Splits ls xs ys
-splits ls [] ys e = record { front = []; back = ls; is = refl; in_front = refl; behind = e }
+splits ls [] ys e = record { front = []; back = ls; is = refl; in_front = refl; after = e }
 splits [] (x ∷ xs) ys e = absurd cc
 splits ((n, l) ∷ ls) (x ∷ xs) ys e =
     let h : l ≡ x = cc in
@@ -39,7 +39,7 @@ splits ((n, l) ∷ ls) (x ∷ xs) ys e =
       back = k.back;
       is = ap (λ y. (n, l) ∷ y) k.is;
       in_front = ap (λ y. y ∷ said k.front) h ∙ ap (λ y. x ∷ y) k.in_front;
-      behind = k.behind;
+      after = k.after;
     }
 
 pub none_said : (ls : List Numbered) → said ls ≡ [] → ls ≡ []
@@ -49,12 +49,12 @@ none_said (l ∷ ls) e = absurd cc
 pub said_append : (xs ys : List Numbered) → said (xs ++ ys) ≡ said xs ++ said ys
 said_append xs ys = map-append (λ (l : Numbered). l.1) xs ys
 
-pub length_behind : (xs ys zs : List Numbered) → xs ≡ ys ++ zs → length zs ≤ length xs
-length_behind xs ys zs e = let h = ap length e in let k = length-append ys zs in omega arith
+pub length_after : (xs ys zs : List Numbered) → xs ≡ ys ++ zs → length zs ≤ length xs
+length_after xs ys zs e = let h = ap length e in let k = length-append ys zs in omega arith
 
 -- One line more in front.
-pub more_split : (l : Numbered) (ls mine behind : List Numbered) → ls ≡ mine ++ behind → l ∷ ls ≡ (l ∷ mine) ++ behind
-more_split l ls mine behind e = ap (λ z. l ∷ z) e
+pub more_split : (l : Numbered) (ls mine after : List Numbered) → ls ≡ mine ++ after → l ∷ ls ≡ (l ∷ mine) ++ after
+more_split l ls mine after e = ap (λ z. l ∷ z) e
 
 pub more_said : (n : ℕ) (x : Line) (mine : List Numbered) (xs : List Line) → said mine ≡ xs → said ((n, x) ∷ mine) ≡ x ∷ xs
 more_said n x mine xs e = ap (λ z. x ∷ z) e
@@ -65,15 +65,15 @@ more_said n x mine xs e = ap (λ z. x ∷ z) e
 abbrev pub within : ClassPart → List Class → Option ℕ → Open → ℕ → State
 within p done late o n = record { done = done; block = in_class o p; lines = n; late = late }
 
--- Behind a whole class.
-abbrev pub behind_class : List Class → Option ℕ → Open → ℕ → State
-behind_class done late o n = record { done = done ++ closed o ∷ []; block = at_top; lines = n; late = late }
+-- After a whole class.
+abbrev pub after_class : List Class → Option ℕ → Open → ℕ → State
+after_class done late o n = record { done = done ++ closed o ∷ []; block = at_top; lines = n; late = late }
 
 -- A member or the class's end may stand wherever in a class.
 pub class_goes_on : (p : ClassPart) → is_in_class (class_stage p) ≡ true
 class_goes_on at_heads = refl
 class_goes_on at_members = refl
-class_goes_on (behind_method m) = refl
+class_goes_on (after_method m) = refl
 
 -- A class that is open isn't whole.
 pub class_open : (p : ClassPart) (done : List Class) (late : Option ℕ) (o : Open) (n : ℕ) (t : State) → t.block ≡ at_top → t ≡ at_line (within p done late o n) t.lines → ⊥

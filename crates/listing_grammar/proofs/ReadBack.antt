@@ -10,19 +10,19 @@ use Rattle.listing_lines.specs.Forms.{is_two}
 use Rattle.listing_lines.specs.declared.form.Form.{Form}
 use Rattle.listing_lines.specs.declared.form.Form.TheVariants.{One, Two}
 use Rattle.listing_lines.specs.declared.stage.Stage.TheVariants.{Insns, Tries, Caught}
-use Rattle.listing_draft.specs.States.{Block, at_start, at_top, in_class, in_code, State, stage_of, count_of, counted}
+use Rattle.listing_draft.specs.States.{Block, at_start, at_top, in_class, in_code, State, stage_of, insn_count, counted}
 use Rattle.listing_labels.specs.Lines.{is_skipped}
 use Rattle.listing_labels.specs.Labels.{Label, is_label, lookup, with_label, labels_ahead}
 use Rattle.listing_labels.proofs.AheadLaws.{ahead_skips}
-use Rattle.listing_parse.specs.Text.{Reading, is_second, begins_mark, is_on, mark_aside, aside, in_second, Says, Adds, Takes, Reads}
+use Rattle.listing_parse.specs.Text.{Reading, is_second, begins_mark, is_on, mark_aside, aside, in_second, LineSays, AddsLine, TakesLine, Reads}
 use Rattle.listing_parse.specs.declared.aside.Aside.TheVariants.{Nothing, Refused, First, Mark}
 use Rattle.listing_grammar.specs.Codes.{Numbered}
 use Rattle.listing_grammar.specs.Classes.{NoneTwice}
 use Rattle.listing_grammar.specs.Runs.{line_stands, at_line, Steps, Runs, is_outside}
-use Rattle.listing_grammar.specs.Texts.{SaysLine, IsLabelLine, opens_code, is_of_try, names, Where, outside, among, behind_insns, SayLines, no_lines, silent, one_line, code_line, label_line, one_insn, no_insn, of_try, code_end}
+use Rattle.listing_grammar.specs.Texts.{SaysLine, IsLabelLine, opens_code, is_of_try, label_names, Where, outside, among, after_insns, SayLines, no_lines, silent, one_line, code_line, label_line, one_insn, no_insn, of_try, code_end}
 use Rattle.listing_grammar.proofs.CodeLaws.{again}
 use Rattle.listing_grammar.proofs.HeadLaws.{distinct_more}
-use Rattle.listing_grammar.proofs.LineSteps.{rd, insn_said, labels_by, out, insns, later, part_of, part_behind, part_moves, out_is, insns_is, later_is, renumbered, line_step}
+use Rattle.listing_grammar.proofs.LineSteps.{rd, insn_said, labels_by, out, insns, later, part_of, part_after, part_moves, out_is, insns_is, later_is, renumbered, line_step}
 use Rattle.listing_grammar.proofs.LabelLaws.{not_named, names_append, with_new, look_front, found_le, ahead_extends, label_ahead, insn_ahead, end_ahead, ends_insns, NoLabels}
 use Rattle.listing_grammar.proofs.ReadOn.{same_labels, within_place, none_by, end_by, out_goes}
 
@@ -105,7 +105,7 @@ first_means Two es s ws e = first_by es s ws (is_second ws) (begins_mark ws) ref
 
 -- ---- where a text is read
 
--- Outside of codes; among the instructions of one, behind these labels and so many instructions; or behind them.
+-- Outside of codes; among the instructions of one, after these labels and so many instructions; or after them.
 pub data Stand : Type 0 where
   at_out : Stand
   at_insn : (pre : List Label) (k : ℕ) → Stand
@@ -118,7 +118,7 @@ IsAhead Two pre line k ls es = labels_ahead pre line k ls ≡ es
 
 abbrev pub Fits : Stand → Form → List Label → State → List (List ℕ) → Type 0
 Fits at_out form es s ls = (es ≡ []) × (part_of s.block ≡ out)
-Fits (at_insn pre k) form es s ls = (part_of s.block ≡ insns k) × IsAhead form pre (s.lines + 1) k ls es × NoneTwice (names pre) × AllByRecursion (λ (l : Label). l.line ≤ s.lines) pre
+Fits (at_insn pre k) form es s ls = (part_of s.block ≡ insns k) × IsAhead form pre (s.lines + 1) k ls es × NoneTwice (label_names pre) × AllByRecursion (λ (l : Label). l.line ≤ s.lines) pre
 Fits at_later form es s ls = NoLabels form es × (part_of s.block ≡ later)
 
 -- The lines say some of a program, which make t of s.
@@ -127,10 +127,10 @@ Sayings form w n ls s t = (xs : List Numbered) × SayLines form w n ls xs × Run
 
 abbrev pub Gives : Stand → Form → List Label → ℕ → State → List (List ℕ) → State → Type 0
 Gives at_out form es n s ls t = Sayings form outside n ls s t
-Gives (at_insn pre k) form es n s ls t = (ahead : List Label) × (es ≡ pre ++ ahead) × NoneTwice (names es) × Sayings form (among es ahead k) n ls s t
-Gives at_later form es n s ls t = Sayings form (behind_insns es) n ls s t
+Gives (at_insn pre k) form es n s ls t = (ahead : List Label) × (es ≡ pre ++ ahead) × NoneTwice (label_names es) × Sayings form (among es ahead k) n ls s t
+Gives at_later form es n s ls t = Sayings form (after_insns es) n ls s t
 
--- What is known of the lines behind a line.
+-- What is known of the lines after a line.
 abbrev Hyp : List (List ℕ) → Reading → Type 0
 Hyp ls t = (st : Stand) (form : Form) (es : List Label) (s : State) → Fits st form es s ls → Reads (rd form es s) ls [] t → Gives st form es s.lines s ls t.base
 
@@ -180,7 +180,7 @@ label_gives pre k es s l ls t name f m on hyp r = by (lookup name pre) refl
         let new = label_at name s k in
         let a : labels_ahead (pre ++ new ∷ []) (s.lines + 1 + 1) k ls ≡ es =
         ap (λ z. labels_ahead z (s.lines + 1 + 1) k ls) (sym (with_new pre new e)) ∙ sym (label_ahead pre (s.lines + 1) k Two l ls name m) ∙ f.1 in
-        let d = subst NoneTwice (sym (names_append pre (new ∷ []))) (distinct_more (names pre) name f.2 (not_named name pre e)) in
+        let d = subst NoneTwice (sym (names_append pre (new ∷ []))) (distinct_more (label_names pre) name f.2 (not_named name pre e)) in
         let g = hyp (at_insn (pre ++ new ∷ []) k) Two es (counted s) (f.0, a, d, all_le_more pre s.lines new f.3 (omega arith)) r in
         (new ∷ g.0, g.1 ∙ append_assoc pre (new ∷ []) g.0, g.2, (g.3.0, label_line m g.3.1, again (counted s) t.base g.3.0 s.lines g.3.2))
     by (Some old) e =
@@ -204,7 +204,7 @@ mark_gives at_later form es s l ls t ws f q h m hyp r = by (later_is s.block f.1
 
 -- ---- a line of the program
 
--- What was read behind the line, as the form and the number of lines that are known.
+-- What was read after the line, as the form and the number of lines that are known.
 abbrev After : Form → List Label → State → List (List ℕ) → Reading → Type 0
 After form es s ls t = (st : Stand) → Fits st form es s ls → Gives st form es s.lines s ls t.base
 
@@ -212,12 +212,12 @@ renamed : (f g : Form) (w : Where) (n m : ℕ) (ls : List (List ℕ)) (xs : List
 renamed f g w n m ls xs e h d = subst (λ z. SayLines g w z ls xs) h (subst (λ z. SayLines z w n ls xs) e d)
 
 -- Outside of codes.
-plain_gives : (form : Form) (es : List Label) (s : State) (l : List ℕ) (ls : List (List ℕ)) (t : Reading) (x : Line) (u : State) → Fits at_out form es s (l ∷ ls) → SaysLine form es (count_of s.block) l x → Steps s (s.lines + 1) x u → u.lines ≡ s.lines + 1
+plain_gives : (form : Form) (es : List Label) (s : State) (l : List ℕ) (ls : List (List ℕ)) (t : Reading) (x : Line) (u : State) → Fits at_out form es s (l ∷ ls) → SaysLine form es (insn_count s.block) l x → Steps s (s.lines + 1) x u → u.lines ≡ s.lines + 1
     → After form (labels_by form x (s.lines + 1 + 1) ls es) u ls t → opens_code x ≡ false → Gives at_out form es s.lines s (l ∷ ls) t.base
 plain_gives form es s l ls t x u f y p e hyp o =
     let y1 : SaysLine form [] 0 l x = subst (λ z. SaysLine form z 0 l x) f.0 (subst (λ k. SaysLine form es k l x) (out_is s.block f.1).4 y) in
     let none = ap (labels_by form x (s.lines + 1 + 1) ls) f.0 ∙ none_by form x (s.lines + 1 + 1) ls o in
-    let part : part_of u.block ≡ out = part_moves s (s.lines + 1) x u p ∙ ap (part_behind x) f.1 ∙ out_goes x s.block f.1 p.stands o in
+    let part : part_of u.block ≡ out = part_moves s (s.lines + 1) x u p ∙ ap (part_after x) f.1 ∙ out_goes x s.block f.1 p.stands o in
     let g = hyp at_out (none, part) in
     ((s.lines + 1, x) ∷ g.0, one_line y1 o (subst (λ z. SayLines form outside z ls g.0) e g.1), (u, p, g.2))
 
@@ -225,7 +225,7 @@ code_begins : (form : Form) (es : List Label) (n m a b c : ℕ) (ls : List (List
 code_begins One es n m a b c ls h e = (refl, h)
 code_begins Two es n m a b c ls h e = ap (λ z. labels_ahead [] (z + 1) 0 ls) e
 
-out_gives : (form : Form) (es : List Label) (s : State) (l : List ℕ) (ls : List (List ℕ)) (t : Reading) (x : Line) (u : State) → Fits at_out form es s (l ∷ ls) → SaysLine form es (count_of s.block) l x → Steps s (s.lines + 1) x u → u.lines ≡ s.lines + 1
+out_gives : (form : Form) (es : List Label) (s : State) (l : List ℕ) (ls : List (List ℕ)) (t : Reading) (x : Line) (u : State) → Fits at_out form es s (l ∷ ls) → SaysLine form es (insn_count s.block) l x → Steps s (s.lines + 1) x u → u.lines ≡ s.lines + 1
     → After form (labels_by form x (s.lines + 1 + 1) ls es) u ls t → Gives at_out form es s.lines s (l ∷ ls) t.base
 out_gives form es s l ls t (open_code a b c) u f y p e hyp =
     let x = open_code a b c in
@@ -249,63 +249,63 @@ none_on : (form : Form) (pre es : List Label) (n k : ℕ) (ls : List (List ℕ))
 none_on One pre es n k ls h = h.1
 none_on Two pre es n k ls h = tt
 
-insn_gives : (pre : List Label) (k : ℕ) (form : Form) (es : List Label) (s : State) (l : List ℕ) (ls : List (List ℕ)) (t : Reading) (x : Line) (u : State) → Fits (at_insn pre k) form es s (l ∷ ls) → SaysLine form es (count_of s.block) l x → Steps s (s.lines + 1) x u
+insn_gives : (pre : List Label) (k : ℕ) (form : Form) (es : List Label) (s : State) (l : List ℕ) (ls : List (List ℕ)) (t : Reading) (x : Line) (u : State) → Fits (at_insn pre k) form es s (l ∷ ls) → SaysLine form es (insn_count s.block) l x → Steps s (s.lines + 1) x u
     → line_stands Insns x ≡ true → u.lines ≡ s.lines + 1 → After form (labels_by form x (s.lines + 1 + 1) ls es) u ls t → Gives (at_insn pre k) form es s.lines s (l ∷ ls) t.base
 insn_gives pre k form es s l ls t (insn_line i) u f y p w e hyp =
     let x = insn_line i in
     let es1 = labels_by form x (s.lines + 1 + 1) ls es in
     let same : es1 ≡ es = same_labels form x (s.lines + 1 + 1) ls es refl in
     let y1 = subst (λ z. SaysLine form es z l x) (insns_is s.block k f.0).1 y in
-    let part : part_of u.block ≡ insns (k + 1) = part_moves s (s.lines + 1) x u p ∙ ap (part_behind x) f.0 in
-    let a = insn_on form pre es (s.lines + 1) k (count_of s.block) l ls x y refl f.1 in
+    let part : part_of u.block ≡ insns (k + 1) = part_moves s (s.lines + 1) x u p ∙ ap (part_after x) f.0 in
+    let a = insn_on form pre es (s.lines + 1) k (insn_count s.block) l ls x y refl f.1 in
     let a1 = subst (λ z. IsAhead form pre (z + 1) (k + 1) ls es) (sym e) a in
     let a2 = subst (λ z. IsAhead form pre (u.lines + 1) (k + 1) ls z) (sym same) a1 in
     let le = subst (λ z. AllByRecursion (λ (l : Label). l.line ≤ z) pre) (sym e) (all_le pre s.lines f.3) in
     let g = hyp (at_insn pre (k + 1)) (part, a2, f.2, le) in
     let d = subst (λ z. SayLines form (among z g.0 (k + 1)) u.lines ls g.3.0) same g.3.1 in
-    (g.0, sym same ∙ g.1, subst (λ z. NoneTwice (names z)) same g.2, ((s.lines + 1, x) ∷ g.3.0, one_insn y1 (subst (λ z. SayLines form (among es g.0 (k + 1)) z ls g.3.0) e d), (u, p, g.3.2)))
+    (g.0, sym same ∙ g.1, subst (λ z. NoneTwice (label_names z)) same g.2, ((s.lines + 1, x) ∷ g.3.0, one_insn y1 (subst (λ z. SayLines form (among es g.0 (k + 1)) z ls g.3.0) e d), (u, p, g.3.2)))
 insn_gives pre k form es s l ls t (try_line from to) u f y p w e hyp =
     let x = try_line from to in
     let es1 = labels_by form x (s.lines + 1 + 1) ls es in
     let same : es1 ≡ es = same_labels form x (s.lines + 1 + 1) ls es refl in
-    let q : es ≡ pre = end_on form pre es (s.lines + 1) k (count_of s.block) l ls x y refl f.1 in
+    let q : es ≡ pre = end_on form pre es (s.lines + 1) k (insn_count s.block) l ls x y refl f.1 in
     let none = none_on form pre es (s.lines + 1) k (l ∷ ls) f.1 in
     let g = hyp at_later (subst (NoLabels form) (sym same) none, part_moves s (s.lines + 1) x u p) in
-    let d = subst (λ z. SayLines form (behind_insns z) u.lines ls g.0) same g.1 in
-    let y1 = renumbered form es (count_of s.block) 0 l x refl y in
-    ([], q ∙ sym (append-nil pre), subst (λ z. NoneTwice (names z)) (sym q) f.2, ((s.lines + 1, x) ∷ g.0, no_insn (of_try y1 refl (subst (λ z. SayLines form (behind_insns es) z ls g.0) e d)), (u, p, g.2)))
+    let d = subst (λ z. SayLines form (after_insns z) u.lines ls g.0) same g.1 in
+    let y1 = renumbered form es (insn_count s.block) 0 l x refl y in
+    ([], q ∙ sym (append-nil pre), subst (λ z. NoneTwice (label_names z)) (sym q) f.2, ((s.lines + 1, x) ∷ g.0, no_insn (of_try y1 refl (subst (λ z. SayLines form (after_insns es) z ls g.0) e d)), (u, p, g.2)))
 insn_gives pre k form es s l ls t end_code u f y p w e hyp =
-    let q : es ≡ pre = end_on form pre es (s.lines + 1) k (count_of s.block) l ls end_code y refl f.1 in
+    let q : es ≡ pre = end_on form pre es (s.lines + 1) k (insn_count s.block) l ls end_code y refl f.1 in
     let none = none_on form pre es (s.lines + 1) k (l ∷ ls) f.1 in
     let g = hyp at_out (end_by form (s.lines + 1 + 1) ls es none, part_moves s (s.lines + 1) end_code u p) in
-    let y1 = renumbered form es (count_of s.block) 0 l end_code refl y in
-    ([], q ∙ sym (append-nil pre), subst (λ z. NoneTwice (names z)) (sym q) f.2, ((s.lines + 1, end_code) ∷ g.0, no_insn (code_end y1 (subst (λ z. SayLines form outside z ls g.0) e g.1)), (u, p, g.2)))
+    let y1 = renumbered form es (insn_count s.block) 0 l end_code refl y in
+    ([], q ∙ sym (append-nil pre), subst (λ z. NoneTwice (label_names z)) (sym q) f.2, ((s.lines + 1, end_code) ∷ g.0, no_insn (code_end y1 (subst (λ z. SayLines form outside z ls g.0) e g.1)), (u, p, g.2)))
 insn_gives pre k form es s l ls t x u f y p w e hyp = absurd cc
 
--- Behind the instructions of a code.
-try_gives : (form : Form) (es : List Label) (s : State) (l : List ℕ) (ls : List (List ℕ)) (t : Reading) (x : Line) (u : State) → NoLabels form es → SaysLine form es (count_of s.block) l x → Steps s (s.lines + 1) x u → u.lines ≡ s.lines + 1
+-- After the instructions of a code.
+try_gives : (form : Form) (es : List Label) (s : State) (l : List ℕ) (ls : List (List ℕ)) (t : Reading) (x : Line) (u : State) → NoLabels form es → SaysLine form es (insn_count s.block) l x → Steps s (s.lines + 1) x u → u.lines ≡ s.lines + 1
     → After form (labels_by form x (s.lines + 1 + 1) ls es) u ls t → is_of_try x ≡ true → within_place x ≡ true → insn_said x ≡ false → part_of u.block ≡ later → Gives at_later form es s.lines s (l ∷ ls) t.base
 try_gives form es s l ls t x u f y p e hyp o v i part =
     let es1 = labels_by form x (s.lines + 1 + 1) ls es in
     let same : es1 ≡ es = same_labels form x (s.lines + 1 + 1) ls es v in
     let g = hyp at_later (subst (NoLabels form) (sym same) f, part) in
-    let d = subst (λ z. SayLines form (behind_insns z) u.lines ls g.0) same g.1 in
-    let y1 = renumbered form es (count_of s.block) 0 l x i y in
-    ((s.lines + 1, x) ∷ g.0, of_try y1 o (subst (λ z. SayLines form (behind_insns es) z ls g.0) e d), (u, p, g.2))
+    let d = subst (λ z. SayLines form (after_insns z) u.lines ls g.0) same g.1 in
+    let y1 = renumbered form es (insn_count s.block) 0 l x i y in
+    ((s.lines + 1, x) ∷ g.0, of_try y1 o (subst (λ z. SayLines form (after_insns es) z ls g.0) e d), (u, p, g.2))
 
-later_gives : (form : Form) (es : List Label) (s : State) (l : List ℕ) (ls : List (List ℕ)) (t : Reading) (x : Line) (u : State) → NoLabels form es → SaysLine form es (count_of s.block) l x → Steps s (s.lines + 1) x u
+later_gives : (form : Form) (es : List Label) (s : State) (l : List ℕ) (ls : List (List ℕ)) (t : Reading) (x : Line) (u : State) → NoLabels form es → SaysLine form es (insn_count s.block) l x → Steps s (s.lines + 1) x u
     → (line_stands Tries x ≡ true) ⊎ (line_stands Caught x ≡ true) → u.lines ≡ s.lines + 1 → After form (labels_by form x (s.lines + 1 + 1) ls es) u ls t → Gives at_later form es s.lines s (l ∷ ls) t.base
 later_gives form es s l ls t (try_line from to) u f y p w e hyp = try_gives form es s l ls t (try_line from to) u f y p e hyp refl refl refl (part_moves s (s.lines + 1) (try_line from to) u p)
 later_gives form es s l ls t (catch_line d h) u f y p w e hyp = try_gives form es s l ls t (catch_line d h) u f y p e hyp refl refl refl (part_moves s (s.lines + 1) (catch_line d h) u p)
 later_gives form es s l ls t (catch_all_line h) u f y p w e hyp = try_gives form es s l ls t (catch_all_line h) u f y p e hyp refl refl refl (part_moves s (s.lines + 1) (catch_all_line h) u p)
 later_gives form es s l ls t end_code u f y p w e hyp =
     let g = hyp at_out (end_by form (s.lines + 1 + 1) ls es f, part_moves s (s.lines + 1) end_code u p) in
-    let y1 = renumbered form es (count_of s.block) 0 l end_code refl y in
+    let y1 = renumbered form es (insn_count s.block) 0 l end_code refl y in
     ((s.lines + 1, end_code) ∷ g.0, code_end y1 (subst (λ z. SayLines form outside z ls g.0) e g.1), (u, p, g.2))
 later_gives form es s l ls t x u f y p (inl w) e hyp = absurd cc
 later_gives form es s l ls t x u f y p (inr w) e hyp = absurd cc
 
-line_gives : (st : Stand) (form : Form) (es : List Label) (s : State) (l : List ℕ) (ls : List (List ℕ)) (t : Reading) (x : Line) (u : State) → Fits st form es s (l ∷ ls) → SaysLine form es (count_of s.block) l x → Steps s (s.lines + 1) x u → u.lines ≡ s.lines + 1
+line_gives : (st : Stand) (form : Form) (es : List Label) (s : State) (l : List ℕ) (ls : List (List ℕ)) (t : Reading) (x : Line) (u : State) → Fits st form es s (l ∷ ls) → SaysLine form es (insn_count s.block) l x → Steps s (s.lines + 1) x u → u.lines ≡ s.lines + 1
     → After form (labels_by form x (s.lines + 1 + 1) ls es) u ls t → Gives st form es s.lines s (l ∷ ls) t.base
 line_gives at_out form es s l ls t x u f y p e hyp = out_gives form es s l ls t x u f y p e hyp
 line_gives (at_insn pre k) form es s l ls t x u f y p e hyp = insn_gives pre k form es s l ls t x u f y p (sym (ap (λ z. line_stands z x) (insns_is s.block k f.0).0) ∙ p.stands) e hyp
@@ -340,10 +340,10 @@ end_gives (at_insn pre k) form es s t f top r = absurd (no_insns t.base.block k 
 end_gives at_later form es s t f top r = absurd (not_later t.base.block top (sym (ap (λ (z : Reading). part_of z.base.block) r) ∙ f.1))
 
 -- A line that adds something.
-adds_gives : (st : Stand) (form : Form) (es : List Label) (s : State) (l : List ℕ) (ls : List (List ℕ)) (u t : Reading) → Fits st form es s (l ∷ ls) → Hyp ls t → is_skipped l ≡ false → Adds (rd form es (counted s)) ls l u → Reads u ls [] t → Gives st form es s.lines s (l ∷ ls) t.base
+adds_gives : (st : Stand) (form : Form) (es : List Label) (s : State) (l : List ℕ) (ls : List (List ℕ)) (u t : Reading) → Fits st form es s (l ∷ ls) → Hyp ls t → is_skipped l ≡ false → AddsLine (rd form es (counted s)) ls l u → Reads u ls [] t → Gives st form es s.lines s (l ∷ ls) t.base
 adds_gives st form es s l ls u t f hyp q a r = by a.makes
   where
-    by : ((aside (rd form es (counted s)) a.words ≡ First) × (u ≡ in_second (rd form es (counted s)))) ⊎ ((aside (rd form es (counted s)) a.words ≡ Mark) × (u ≡ rd form es (counted s))) ⊎ ((aside (rd form es (counted s)) a.words ≡ Nothing) × Says (rd form es (counted s)) ls a.words u)
+    by : ((aside (rd form es (counted s)) a.words ≡ First) × (u ≡ in_second (rd form es (counted s)))) ⊎ ((aside (rd form es (counted s)) a.words ≡ Mark) × (u ≡ rd form es (counted s))) ⊎ ((aside (rd form es (counted s)) a.words ≡ Nothing) × LineSays (rd form es (counted s)) ls a.words u)
         → Gives st form es s.lines s (l ∷ ls) t.base
     by (inl m) = let h = (first_means form es (counted s) a.words m.0).1 in let g : is_start (stage_of s.block) ≡ false = not_begun st form es s (l ∷ ls) f in absurd cc
     by (inr (inl m)) = mark_gives st form es s l ls t a.words f q a.has_words (mark_means form es (counted s) a.words m.0) hyp (subst (λ z. Reads z ls [] t) m.1 r)
@@ -355,8 +355,8 @@ adds_gives st form es s l ls u t f hyp q a r = by a.makes
 
 pub from_reads : (ls : List (List ℕ)) (st : Stand) (form : Form) (es : List Label) (s : State) (t : Reading) → Fits st form es s ls → is_outside t.base.block ≡ true → Reads (rd form es s) ls [] t → Gives st form es s.lines s ls t.base
 from_reads [] st form es s t f top r = end_gives st form es s t f top r
-from_reads (l ∷ ls) st form es s t f top r = by (subst (λ z. Takes (rd form es s) z l r.0) (append-nil ls) r.1) (λ sd fm fs x g h. from_reads ls sd fm fs x t g top h)
+from_reads (l ∷ ls) st form es s t f top r = by (subst (λ z. TakesLine (rd form es s) z l r.0) (append-nil ls) r.1) (λ sd fm fs x g h. from_reads ls sd fm fs x t g top h)
   where
-    by : Takes (rd form es s) ls l r.0 → Hyp ls t → Gives st form es s.lines s (l ∷ ls) t.base
+    by : TakesLine (rd form es s) ls l r.0 → Hyp ls t → Gives st form es s.lines s (l ∷ ls) t.base
     by (inl k) hyp = skip_gives st form es s t.base l ls k.0 (hyp st form es (counted s) (skip_fits st form es s l ls k.0 f) (subst (λ z. Reads z ls [] t) k.1 r.2))
     by (inr k) hyp = adds_gives st form es s l ls r.0 t f hyp k.0 k.1 r.2

@@ -10,14 +10,14 @@ use Rattle.listing_lines.specs.declared.form.Form.{Form}
 use Rattle.listing_lines.specs.declared.form.Form.TheVariants.{One, Two}
 use Rattle.listing_draft.specs.States.{Block, State, stage_of, counted}
 use Rattle.listing_labels.specs.Labels.{Label, is_label, lookup}
-use Rattle.listing_parse.specs.Text.{Reading, is_on, aside, Takes, Reads}
+use Rattle.listing_parse.specs.Text.{Reading, is_on, aside, TakesLine, Reads}
 use Rattle.listing_parse.specs.declared.aside.Aside.TheVariants.{Mark}
 use Rattle.listing_grammar.specs.Codes.{Numbered}
 use Rattle.listing_grammar.specs.Classes.{NoneTwice}
 use Rattle.listing_grammar.specs.Runs.{line_stands, at_line, Steps, Runs}
-use Rattle.listing_grammar.specs.Texts.{SaysLine, opens_code, is_of_try, names, Where, outside, among, behind_insns, SayLines, no_lines, silent, one_line, code_line, label_line, one_insn, no_insn, of_try, code_end}
+use Rattle.listing_grammar.specs.Texts.{SaysLine, opens_code, is_of_try, label_names, Where, outside, among, after_insns, SayLines, no_lines, silent, one_line, code_line, label_line, one_insn, no_insn, of_try, code_end}
 use Rattle.listing_grammar.proofs.CodeLaws.{again}
-use Rattle.listing_grammar.proofs.LineSteps.{rd, insn_said, labels_by, Part, out, insns, later, part_of, part_behind, part_moves, lines_kept, out_is, insns_is, later_is, step_taken}
+use Rattle.listing_grammar.proofs.LineSteps.{rd, insn_said, labels_by, Part, out, insns, later, part_of, part_after, part_moves, lines_kept, out_is, insns_is, later_is, step_taken}
 use Rattle.listing_grammar.proofs.LabelLaws.{look_there, label_marks, NoLabels, ahead_there, no_labels}
 
 -- ---- what a line leaves as it is
@@ -45,14 +45,14 @@ end_by One line ls es h = h
 end_by Two line ls es h = refl
 
 -- Outside of codes a line that opens none leads outside of them.
-pub out_goes : (x : Line) (b : Block) → part_of b ≡ out → line_stands (stage_of b) x ≡ true → opens_code x ≡ false → part_behind x out ≡ out
+pub out_goes : (x : Line) (b : Block) → part_of b ≡ out → line_stands (stage_of b) x ≡ true → opens_code x ≡ false → part_after x out ≡ out
 out_goes (open_code r i o) b p s e = absurd cc
 out_goes (try_line from to) b p s e = let h : is_in_code (stage_of b) ≡ false = (out_is b p).0 in absurd cc
 out_goes (catch_line d k) b p s e = let h : is_caught (stage_of b) ≡ false = (out_is b p).1 in absurd cc
 out_goes (catch_all_line k) b p s e = let h : is_caught (stage_of b) ≡ false = (out_is b p).1 in absurd cc
 out_goes x b p s e = refl
 
-try_goes : (x : Line) (p : Part) → is_of_try x ≡ true → part_behind x p ≡ later
+try_goes : (x : Line) (p : Part) → is_of_try x ≡ true → part_after x p ≡ later
 try_goes (try_line from to) p e = refl
 try_goes (catch_line d k) p e = refl
 try_goes (catch_all_line k) p e = refl
@@ -85,21 +85,21 @@ mark_there Two es s name e l i o = rw (label_marks name l, i, l, o) refl
 on_line : (n m : ℕ) (l : Label) (o : Option Label) → o ≡ Some l → l.line ≡ n → n ≡ m → is_on m o ≡ true
 on_line n m l o e f g = rw e (eq-eqb l.line m (f ∙ g))
 
-pub read_on : (r u t : Reading) (l : List ℕ) (ls : List (List ℕ)) → Takes r ls l u → Reads u ls [] t → Reads r (l ∷ ls) [] t
-read_on r u t l ls k h = (u, subst (λ z. Takes r z l u) (sym (append-nil ls)) k, h)
+pub read_on : (r u t : Reading) (l : List ℕ) (ls : List (List ℕ)) → TakesLine r ls l u → Reads u ls [] t → Reads r (l ∷ ls) [] t
+read_on r u t l ls k h = (u, subst (λ z. TakesLine r z l u) (sym (append-nil ls)) k, h)
 
 -- ---- lines that are read
 
 -- The state stands there, with these labels.
 abbrev Meets : Form → Where → List Label → State → Type 0
 Meets form outside es s = (es ≡ []) × (part_of s.block ≡ out)
-Meets form (among labels ahead k) es s = (es ≡ labels) × (part_of s.block ≡ insns k) × NoneTwice (names labels) × NoLabels form labels × ((pre : List Label) × (labels ≡ pre ++ ahead))
-Meets form (behind_insns labels) es s = (es ≡ labels) × InCode (part_of s.block) × NoLabels form labels
+Meets form (among labels ahead k) es s = (es ≡ labels) × (part_of s.block ≡ insns k) × NoneTwice (label_names labels) × NoLabels form labels × ((pre : List Label) × (labels ≡ pre ++ ahead))
+Meets form (after_insns labels) es s = (es ≡ labels) × InCode (part_of s.block) × NoLabels form labels
 
 meets_on : (form : Form) (w : Where) (es : List Label) (s : State) → Meets form w es s → Meets form w es (counted s)
 meets_on form outside es s m = m
 meets_on form (among labels ahead k) es s m = m
-meets_on form (behind_insns labels) es s m = m
+meets_on form (after_insns labels) es s m = m
 
 -- The lines are read to this state, however many they are.
 abbrev pub ReadTo : Form → List Label → State → List (List ℕ) → State → Type 0
@@ -118,7 +118,7 @@ to_reads form (one_line {n = n} {l = l} {ls = ls} {x = x} {xs = xs} y o d) es s 
     let k = step_taken form es s ls l 0 x u (subst (λ z. SaysLine form z 0 l x) (sym m.0) y) (λ h. i.4) i.3 p in
     let es1 = labels_by form x (s.lines + 1 + 1) ls es in
     let none : es1 ≡ [] = ap (labels_by form x (s.lines + 1 + 1) ls) m.0 ∙ none_by form x (s.lines + 1 + 1) ls o in
-    let part : part_of u.block ≡ out = part_moves s (s.lines + 1) x u p ∙ ap (part_behind x) m.1 ∙ out_goes x s.block m.1 p.stands o in
+    let part : part_of u.block ≡ out = part_moves s (s.lines + 1) x u p ∙ ap (part_after x) m.1 ∙ out_goes x s.block m.1 p.stands o in
     let z = to_reads form d es1 u t (lines_kept (at_line s (s.lines + 1)) u x p.added ∙ ap (λ v. v + 1) e) (none, part) r.2 in
     (z.0, read_on (rd form es s) (rd form es1 u) (rd form [] (at_line t z.0)) l ls k z.1)
 to_reads form (code_line {n = n} {l = l} {ls = ls} {r = a} {i = b} {o = c} {labels = labels} {xs = xs} y distinct d) es s t e m r =
@@ -136,10 +136,10 @@ to_reads form (label_line {labels = labels} {ahead = ahead} {k = k} {n = n} {l =
     let new : Label = record { name = name; line = n + 1; number = k } in
     let pre = m.4.0 in
     let split : labels ≡ pre ++ (new ∷ ahead) = m.4.1 in
-    let found : lookup name es ≡ Some new = ap (lookup name) (m.0 ∙ split) ∙ look_there pre new ahead (subst (λ z. NoneTwice (names z)) split m.2) in
+    let found : lookup name es ≡ Some new = ap (lookup name) (m.0 ∙ split) ∙ look_there pre new ahead (subst (λ z. NoneTwice (label_names z)) split m.2) in
     let stands : is_insns (stage_of s.block) ≡ true = ap is_insns (insns_is s.block k m.1).0 in
     let a = mark_there form es (counted s) name y.second y.is_label stands (on_line (n + 1) (s.lines + 1) new (lookup name es) found refl (ap (λ v. v + 1) (sym e))) in
-    let q : Takes (rd form es s) ls l (rd form es (counted s)) = inr (y.not_skipped, record { words = plain_word name ∷ []; has_words = y.alone; makes = inr (inl (a, refl)) }) in
+    let q : TakesLine (rd form es s) ls l (rd form es (counted s)) = inr (y.not_skipped, record { words = plain_word name ∷ []; has_words = y.alone; makes = inr (inl (a, refl)) }) in
     let z = to_reads form d es (counted s) t (ap (λ v. v + 1) e) (m.0, m.1, m.2, m.3, (pre ++ new ∷ [], split ∙ sym (append_assoc pre (new ∷ []) ahead))) (again s t xs (s.lines + 1) r) in
     (z.0, read_on (rd form es s) (rd form es (counted s)) (rd form [] (at_line t z.0)) l ls q z.1)
 to_reads form (one_insn {labels = labels} {ahead = ahead} {k = k} {n = n} {l = l} {ls = ls} {i = a} {xs = xs} y d) es s t e m r =
@@ -150,7 +150,7 @@ to_reads form (one_insn {labels = labels} {ahead = ahead} {k = k} {n = n} {l = l
     let q = step_taken form es s ls l k x u (subst (λ z. SaysLine form z k l x) (sym m.0) y) (λ h. i.1) (ap is_start i.0) p in
     let es1 = labels_by form x (s.lines + 1 + 1) ls es in
     let same : es1 ≡ labels = same_labels form x (s.lines + 1 + 1) ls es refl ∙ m.0 in
-    let part : part_of u.block ≡ insns (k + 1) = part_moves s (s.lines + 1) x u p ∙ ap (part_behind x) m.1 in
+    let part : part_of u.block ≡ insns (k + 1) = part_moves s (s.lines + 1) x u p ∙ ap (part_after x) m.1 in
     let z = to_reads form d es1 u t (lines_kept (at_line s (s.lines + 1)) u x p.added ∙ ap (λ v. v + 1) e) (same, part, m.2, m.3, m.4) r.2 in
     (z.0, read_on (rd form es s) (rd form es1 u) (rd form [] (at_line t z.0)) l ls q z.1)
 to_reads form (no_insn {labels = labels} {k = k} d) es s t e m r = to_reads form d es s t e (m.0, inr (k, m.1), m.3) r

@@ -6,6 +6,7 @@ use Rattle.program_types.specs.Content as content
 use Rattle.program_types.specs.Content.{Descriptor, Value}
 use Rattle.listing_draft.specs.Members.{Given, zero_of, value_or_zero, is_given, given_length, values_of}
 use Rattle.listing_grammar.specs.Classes.{IsZero, of_boolean, of_byte, of_short, of_char, of_int, of_long, of_float, of_double, of_reference, IsValue, HasNone, AreValues}
+use Rattle.listing_grammar.proofs.HeldLaws.{second_false, first_false}
 
 -- ---- zeros
 
@@ -49,14 +50,6 @@ zero_there ty =
                 ]
           ]
     ]
-
-tests_first : (a b : Bool) → (a || b) ≡ false → a ≡ false
-tests_first true b e = e
-tests_first false b e = refl
-
-tests_rest : (a b : Bool) → (a || b) ≡ false → b ≡ false
-tests_rest true b e = absurd cc
-tests_rest false b e = e
 
 -- No test of the row holds.
 reference_zero : (x : ℕ) (ty : Descriptor) → slice_index ty 0 ≡ x → (a b c d e f g h : Bool) → (x == 90) ≡ a → (x == 66) ≡ b → (x == 83) ≡ c → (x == 67) ≡ d → (x == 73) ≡ e → (x == 74) ≡ f → (x == 70) ≡ g → (x == 68) ≡ h

@@ -41,7 +41,7 @@ abbrev pub at_most_one : {X : Type 0} → Option X → List X
 at_most_one None = []
 at_most_one (Some x) = x ∷ []
 
--- Each differs from those behind it.
+-- Each differs from those after it.
 abbrev pub NoneTwice : List Descriptor → Type 0
 NoneTwice [] = Unit {0}
 NoneTwice (d ∷ ds) = AllByRecursion (λ e. d ≢ e) ds × NoneTwice ds
@@ -49,14 +49,14 @@ NoneTwice (d ∷ ds) = AllByRecursion (λ e. d ≢ e) ds × NoneTwice ds
 -- ---- members
 
 -- A member as the text has it: a field, of a static one its value too if the text gives one; or a method, and the code
--- behind it if there is one.
+-- after it if there is one.
 pub data ListedMember : Type 0 where
   static_entry : Given → ListedMember
   instance_entry : Member → ListedMember
   direct_entry : Method → Option Code → ListedMember
   virtual_entry : Method → Option Code → ListedMember
 
--- The code behind a method, if there is one.
+-- The code after a method, if there is one.
 abbrev pub its_code : Option Code → List Line
 its_code None = []
 its_code (Some c) = code_lines c
@@ -68,7 +68,7 @@ entry_lines (instance_entry m) = instance_line m ∷ []
 entry_lines (direct_entry m c) = direct_line m ∷ its_code c
 entry_lines (virtual_entry m c) = virtual_line m ∷ its_code c
 
--- The method with the code behind it.
+-- The method with the code after it.
 abbrev pub method_with : Method → Option Code → Method
 method_with m None = m
 method_with m (Some c) = record m { code = Some c }
@@ -83,12 +83,12 @@ abbrev pub instance_in : ListedMember → List Member
 instance_in (instance_entry m) = m ∷ []
 instance_in _ = []
 
--- The direct method, with the code behind it.
+-- The direct method, with the code after it.
 abbrev pub direct_in : ListedMember → List Method
 direct_in (direct_entry m c) = method_with m c ∷ []
 direct_in _ = []
 
--- The virtual method, with the code behind it.
+-- The virtual method, with the code after it.
 abbrev pub virtual_in : ListedMember → List Method
 virtual_in (virtual_entry m c) = method_with m c ∷ []
 virtual_in _ = []
@@ -103,7 +103,7 @@ code_in _ = []
 abbrev pub LeadsInside : Code → Type 0
 LeadsInside c = list_all (leads_into (length c.insns)) (code_lines c) ≡ true
 
--- Each key is below those behind it.
+-- Each key is below those after it.
 abbrev pub Rise : List Key → Type 0
 Rise [] = Unit {0}
 Rise (k ∷ ks) = AllByRecursion (λ q. key_cmp k q ≡ Less) ks × Rise ks
@@ -165,7 +165,7 @@ pub record ClassText (ls : List Line) (c : Class) : Type 0 where
   pub virtuals : AreSorted method_key (flat_map virtual_in entries) c.virtuals
   pub targets : AllByRecursion LeadsInside (flat_map code_in entries)
 
--- The lines are the texts of the classes, one behind the other.
+-- The lines are the texts of the classes, one after the other.
 abbrev pub ClassesText : List Line → Program → Type 0
 ClassesText ls [] = ls ≡ []
-ClassesText ls (c ∷ cs) = (text behind : List Line) × (ls ≡ text ++ behind) × ClassText text c × ClassesText behind cs
+ClassesText ls (c ∷ cs) = (text after : List Line) × (ls ≡ text ++ after) × ClassText text c × ClassesText after cs

@@ -2,7 +2,7 @@
 -- Page: docs/LISTING.md, "The lines", "A grammar", "Faults" (105).
 use Rattle.std.specs.Prelude.{ℕ, nat_lt, nat_le, ◌&&◌, Bool, true, if◌then◌else◌, List, [], ◌∷◌, ◌++◌, map, Option, Some, None}
 use Rattle.std.specs.List.{flat_map, list_all}
-use Rattle.program_types.specs.Content as content
+use Rattle.program_types.specs.Formed.{insn_leads}
 use Rattle.program_types.specs.Content.{Insn, Catch, Try, Code}
 use Rattle.listing_lines.specs.Lines.{Line, open_code, end_code, insn_line, try_line, catch_line, catch_all_line}
 
@@ -29,7 +29,7 @@ abbrev pub catch_all_lines : Option ℕ → List Line
 catch_all_lines None = []
 catch_all_lines (Some k) = catch_all_line k ∷ []
 
--- `try :FROM :TO`, its catches, and the one of all else behind them.
+-- `try :FROM :TO`, its catches, and the one of all else after them.
 abbrev pub try_lines : Try → List Line
 try_lines t = try_line t.from t.to ∷ (catch_lines t.catches ++ catch_all_lines t.catch_all)
 
@@ -43,21 +43,9 @@ code_lines c = open_code c.registers c.ins c.outs ∷ (inner_lines c ++ end_code
 
 -- ---- targets
 
--- The instructions that an instruction leads to.
-abbrev pub targets_of : Insn → List ℕ
-targets_of (content.I10t op to) = to ∷ []
-targets_of (content.I20t op to) = to ∷ []
-targets_of (content.I30t op to) = to ∷ []
-targets_of (content.I21t op a to) = to ∷ []
-targets_of (content.I31t op a to) = to ∷ []
-targets_of (content.I22t op a b to) = to ∷ []
-targets_of (content.Packed first targets) = targets
-targets_of (content.Sparse keys targets) = targets
-targets_of _ = []
-
--- Each target of the line is one of the n instructions of its code; what a try covers may end behind the last one.
+-- Each target of the line is one of the n instructions of its code; what a try covers may end after the last one.
 abbrev pub leads_into : ℕ → Line → Bool
-leads_into n (insn_line i) = list_all (λ to. nat_lt to n) (targets_of i)
+leads_into n (insn_line i) = list_all (λ to. nat_lt to n) (insn_leads i)
 leads_into n (try_line from to) = nat_lt from n && nat_le to n
 leads_into n (catch_line d k) = nat_lt k n
 leads_into n (catch_all_line k) = nat_lt k n

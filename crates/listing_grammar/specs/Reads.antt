@@ -16,7 +16,7 @@ abbrev pub AreRead : Form → State → List (List ℕ) → State → Type 0
 AreRead form s ls t =
     (n : ℕ) × Reads (outside_codes form s) ls [] (outside_codes form (at_line t n))
 
--- They say lines of a program, which lead from s to t.
+-- In a text of this form these say lines of a program, which lead from s to t.
 pub record SayRun (form : Form) (s : State) (ls : List (List ℕ)) (t : State) : Type 0 where
   pub lines_said : List Numbered
   pub say : SayLines form outside s.lines ls lines_said

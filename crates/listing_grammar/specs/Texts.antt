@@ -14,7 +14,7 @@ use Rattle.listing_lines.specs.declared.form.Form.{Form}
 use Rattle.listing_lines.specs.declared.form.Form.TheVariants.{One, Two}
 use Rattle.listing_labels.specs.Lines.{lines, is_skipped}
 use Rattle.listing_labels.specs.Labels.{Label, is_label}
-use Rattle.listing_parse.specs.Forms.{Shapes, Spells}
+use Rattle.listing_parse.specs.Forms.{HasShapeInForm, SpellsInForm}
 use Rattle.listing_parse.specs.Text.{is_second}
 use Rattle.listing_grammar.specs.Codes.{Numbered, said}
 use Rattle.listing_grammar.specs.Classes.{NoneTwice, ClassesText}
@@ -26,17 +26,17 @@ abbrev pub is_numbered : Form → ℕ → Shape → Bool
 is_numbered One k s = if is_insn s.kind then is_number s.label k else true
 is_numbered Two k s = true
 
--- A line of the text says this line of a program, where it stands in a code that has these labels, behind k of its
+-- A line of the text says this line of a program, where it stands in a code that has these labels, after k of its
 -- instructions.
 pub record SaysLine (form : Form) (labels : List Label) (k : ℕ) (text : List ℕ) (l : Line) : Type 0 where
   pub not_skipped : is_skipped text ≡ false
   pub words : List Word
   pub has_words : HasWords text words
   pub shape : Shape
-  pub has_shape : Shapes form words shape
+  pub has_shape : HasShapeInForm form words shape
   pub numbered : is_numbered form k shape ≡ true
   pub says : List Datum
-  pub spelled : Spells form labels shape.slots shape.words says
+  pub spelled : SpellsInForm form labels shape.slots shape.words says
   pub is : line_of shape.kind says ≡ l
 
 -- The line of a label: in the second form, the label alone.
@@ -61,17 +61,17 @@ is_of_try (catch_all_line k) = true
 is_of_try _ = false
 
 -- The names of labels.
-abbrev pub names : List Label → List (List ℕ)
-names ls = map (λ (l : Label). l.name) ls
+abbrev pub label_names : List Label → List (List ℕ)
+label_names ls = map (λ (l : Label). l.name) ls
 
--- Where lines stand: outside of codes; among the instructions of a code, behind k of them, which has these labels, some of
--- which are still ahead; or behind the instructions of a code that has these labels.
+-- Where lines stand: outside of codes; among the instructions of a code, after k of them, which has these labels, some of
+-- which are still ahead; or after the instructions of a code that has these labels.
 pub data Where : Type 0 where
   outside : Where
   among : (labels ahead : List Label) (k : ℕ) → Where
-  behind_insns : (labels : List Label) → Where
+  after_insns : (labels : List Label) → Where
 
--- The last lines of a text, which stand there and behind n others, say those of a program, each with its number in the
+-- The last lines of a text, which stand there and after n others, say those of a program, each with its number in the
 -- text. A code has the labels that stand among its instructions, no name twice; what a label marks is the number of
 -- instructions before it.
 pub data SayLines (form : Form) : Where → ℕ → List (List ℕ) → List Numbered → Type 0 where
@@ -87,7 +87,7 @@ pub data SayLines (form : Form) : Where → ℕ → List (List ℕ) → List Num
       → SayLines form outside n (l ∷ ls) ((n + 1, x) ∷ xs)
   -- `code REGISTERS INS OUTS`: all labels of the code are ahead
   code_line : {n : ℕ} {l : List ℕ} {ls : List (List ℕ)} {r i o : ℕ} {labels : List Label} {xs : List Numbered}
-      → SaysLine form [] 0 l (open_code r i o) → NoneTwice (names labels)
+      → SaysLine form [] 0 l (open_code r i o) → NoneTwice (label_names labels)
       → SayLines form (among labels labels 0) (n + 1) ls xs
       → SayLines form outside n (l ∷ ls) ((n + 1, open_code r i o) ∷ xs)
   -- `:LABEL`: it marks instruction k
@@ -100,16 +100,16 @@ pub data SayLines (form : Form) : Where → ℕ → List (List ℕ) → List Num
       → SayLines form (among labels ahead k) n (l ∷ ls) ((n + 1, insn_line i) ∷ xs)
   -- no instruction more, and no label
   no_insn : {labels : List Label} {k n : ℕ} {ls : List (List ℕ)} {xs : List Numbered}
-      → SayLines form (behind_insns labels) n ls xs
+      → SayLines form (after_insns labels) n ls xs
       → SayLines form (among labels [] k) n ls xs
   -- `try :FROM :TO`, `catch TYPE :K`, `catchall :K`
   of_try : {labels : List Label} {n : ℕ} {l : List ℕ} {ls : List (List ℕ)} {x : Line} {xs : List Numbered}
-      → SaysLine form labels 0 l x → is_of_try x ≡ true → SayLines form (behind_insns labels) (n + 1) ls xs
-      → SayLines form (behind_insns labels) n (l ∷ ls) ((n + 1, x) ∷ xs)
+      → SaysLine form labels 0 l x → is_of_try x ≡ true → SayLines form (after_insns labels) (n + 1) ls xs
+      → SayLines form (after_insns labels) n (l ∷ ls) ((n + 1, x) ∷ xs)
   -- `end code`
   code_end : {labels : List Label} {n : ℕ} {l : List ℕ} {ls : List (List ℕ)} {xs : List Numbered}
       → SaysLine form labels 0 l end_code → SayLines form outside (n + 1) ls xs
-      → SayLines form (behind_insns labels) n (l ∷ ls) ((n + 1, end_code) ∷ xs)
+      → SayLines form (after_insns labels) n (l ∷ ls) ((n + 1, end_code) ∷ xs)
 
 -- ---- a listing
 
@@ -125,16 +125,16 @@ abbrev pub BeginsForm : Form → List ℕ → Type 0
 BeginsForm One text = SaysLine One [] 0 text first_line
 BeginsForm Two text = IsSecond text
 
--- The text is the text of this program: the first line that says something tells the form, and the lines behind it say
+-- The text is the text of this program: the first line that says something tells the form, and the lines after it say
 -- those of the program's classes.
 pub record ListingText (text : List ℕ) (p : Program) : Type 0 where
   pub form : Form
   pub before : List (List ℕ)
   pub first : List ℕ
-  pub behind : List (List ℕ)
-  pub split : lines text ≡ before ++ first ∷ behind
+  pub after : List (List ℕ)
+  pub split : lines text ≡ before ++ first ∷ after
   pub silent : AllByRecursion (λ l. is_skipped l ≡ true) before
   pub begins : BeginsForm form first
   pub lines_said : List Numbered
-  pub say : SayLines form outside (length before + 1) behind lines_said
+  pub say : SayLines form outside (length before + 1) after lines_said
   pub classes : ClassesText (said lines_said) p

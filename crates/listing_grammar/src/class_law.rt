@@ -8,7 +8,7 @@ ghost use Rattle.listing_grammar.specs.Codes.{Numbered};
 ghost use Rattle.listing_grammar.specs.Runs.{Runs, RunsBehindClass, RunsToClasses};
 
 /// Where no class is open, lines that begin with `class` lead to where none is, with no target late, exactly if they are the
-/// text of a class and lines behind it, which lead there from where this class is whole behind the others.
+/// text of a class and lines after it, which lead there from where this class is whole after the others.
 pub fn a_class_is_its_lines()
     ensures { (s t : State) (n flags : ℕ) (ty : Descriptor) (ls : List Numbered) → t.block ≡ at_top → t.late ≡ None
         → Runs (with_block s at_top) ((n, open_class ty flags) ∷ ls) t
@@ -16,7 +16,7 @@ pub fn a_class_is_its_lines()
 {}
 
 /// Where no class is open, lines lead to where none is, with no target late, exactly if they are the texts of classes, one
-/// behind the other, which are whole then.
+/// after the other, which are whole then.
 pub fn classes_are_their_lines()
     ensures { (s t : State) (ls : List Numbered) → t.block ≡ at_top → t.late ≡ None
         → Runs (with_block s at_top) ls t ↔ RunsToClasses s ls t }

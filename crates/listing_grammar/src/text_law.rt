@@ -7,7 +7,7 @@ ghost use Rattle.listing_draft.specs.States.{State, stage_of};
 ghost use Rattle.listing_grammar.specs.Reads.{AreRead, SayRun};
 ghost use Rattle.listing_grammar.specs.Runs.{is_outside};
 
-/// In a text of either form, behind its first line and outside of codes, as behind a method, lines are read to where no code
+/// In a text of either form, after its first line and outside of codes, as after a method, lines are read to where no code
 /// is open exactly if they say lines of a program that lead there, in codes with their labels, whether a target is late or
 /// not.
 pub fn lines_are_read_as_they_say()

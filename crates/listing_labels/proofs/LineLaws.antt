@@ -17,13 +17,13 @@ lines_end : lines [] ≡ []
 unfolding lines
 lines_end = refl
 
--- a line behind which a line feed stands
+-- a line after which a line feed stands
 line_cut : (front rest : List ℕ) → ((k : ℕ) → k < length front → get_or front k 0 ≢ 10) → lines (front ++ 10 ∷ rest) ≡ front ∷ lines rest
 line_cut [] rest p = lines_feed rest
 line_cut (c ∷ front) rest p =
     rw (lines_more c (front ++ 10 ∷ rest) (p 0 (omega arith)), line_cut front rest (λ k h. p (suc k) (omega (arith, h)))) refl
 
--- the last line, behind which nothing stands
+-- the last line, after which nothing stands
 line_last : (front : List ℕ) → 0 < length front → ((k : ℕ) → k < length front → get_or front k 0 ≢ 10) → lines front ≡ front ∷ lines []
 line_last [] h p = absurd (omega arith)
 line_last (c ∷ []) h p = rw (lines_more c [] (p 0 (omega arith)), lines_end) refl
@@ -31,18 +31,18 @@ line_last (c ∷ d ∷ front) h p =
     rw (lines_more c (d ∷ front) (p 0 (omega arith)), line_last (d ∷ front) (omega arith) (λ k h. p (suc k) (omega (arith, h))), lines_end) refl
 
 -- the first line of a text that was cut at its first line feed
-pub line_found : (text line behind rest : List ℕ) → text ≡ line ++ behind → ((k : ℕ) → k < length line → get_or line k 0 ≢ 10)
-    → (0 < length behind → get_or behind 0 0 ≡ 10) → length behind ≢ 0 → rest ≡ drop 1 behind → lines text ≡ line ∷ lines rest
+pub line_found : (text line after rest : List ℕ) → text ≡ line ++ after → ((k : ℕ) → k < length line → get_or line k 0 ≢ 10)
+    → (0 < length after → get_or after 0 0 ≡ 10) → length after ≢ 0 → rest ≡ drop 1 after → lines text ≡ line ∷ lines rest
 line_found text line [] rest e p s n r = absurd (n refl)
-line_found text line (c ∷ behind) rest e p s n r = rw (e, r, s (omega arith)) (line_cut line behind p)
+line_found text line (c ∷ after) rest e p s n r = rw (e, r, s (omega arith)) (line_cut line after p)
 
 -- the only line of a text without a line feed
-pub line_alone : (text line behind : List ℕ) → text ≡ line ++ behind → ((k : ℕ) → k < length line → get_or line k 0 ≢ 10)
-    → length behind ≡ 0 → 0 < length text → lines text ≡ line ∷ lines behind
+pub line_alone : (text line after : List ℕ) → text ≡ line ++ after → ((k : ℕ) → k < length line → get_or line k 0 ≢ 10)
+    → length after ≡ 0 → 0 < length text → lines text ≡ line ∷ lines after
 line_alone text line [] e p n h =
     let t : text ≡ line = e ∙ append-nil line in
     rw t (line_last line (let l = ap length t in omega (arith, l, h)) p)
-line_alone text line (c ∷ behind) e p n h = absurd (omega (arith, n))
+line_alone text line (c ∷ after) e p n h = absurd (omega (arith, n))
 
 pub no_lines : (text : List ℕ) → length text ≡ 0 → lines text ≡ []
 no_lines [] h = lines_end

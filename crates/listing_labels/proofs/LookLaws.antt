@@ -8,10 +8,7 @@ use Rattle.listing_slots.proofs.KeyLaws.{same_true}
 use Rattle.listing_labels.specs.Labels.{Label, lookup, with_label}
 use Rattle.listing_labels.specs.View.{label, place_in}
 use Rattle.listing_labels.specs.declared.known.Place.{Place}
-
-cases_bool : (b : Bool) → (b ≡ true) ⊎ (b ≡ false)
-cases_bool true = inl refl
-cases_bool false = inr refl
+use Rattle.base_bytes.proofs.ListFacts.{by_kind}
 
 chosen : (b : Bool) (name : Bor (List ℕ)) (p : Place) (o : Option Place) (q : Option Label) → o ≡ place_in q → cond b (Some p) o ≡ place_in (if b then Some (label (name, p)) else q)
 chosen true name p o q e = refl
@@ -36,7 +33,7 @@ known o (Some l) e = ap is_some e
 goes_last : (same_key : Bor (List ℕ) → Bor (List ℕ) → Bool) → ((j k : Bor (List ℕ)) → same_key j k ≡ same j.now k.now) → (k : Bor (List ℕ)) (p : Place) (es : List (Bor (List ℕ) × Place)) → is_some (lookup k.now (map label es)) ≡ false
     → map label (insert_entry same_key es k p) ≡ map label es ++ label (k, p) ∷ []
 goes_last same_key t k p [] s = refl
-goes_last same_key t k p (e ∷ es) s = elim (cases_bool (same k.now e.0.now)) [
+goes_last same_key t k p (e ∷ es) s = elim (by_kind (same k.now e.0.now)) [
   | inl y ↦ let z : true ≡ false = rw y at s in absurd cc
   | inr n ↦ rw (t k e.0, n) (ap (λ x. label e ∷ x) (goes_last same_key t k p es (rw n at s)))
 ]
@@ -51,7 +48,7 @@ put same_key t k p es new e n =
 put_back : (same_key : Bor (List ℕ) → Bor (List ℕ) → Bool) (k : Bor (List ℕ)) (p first : Place) (es : List (Bor (List ℕ) × Place)) → Some first ≡ found_in (same_key k) es
     → insert_entry same_key (insert_entry same_key es k p) k first ≡ es
 put_back same_key k p first [] e = absurd cc
-put_back same_key k p first (x ∷ es) e = elim (cases_bool (same_key k x.0)) [
+put_back same_key k p first (x ∷ es) e = elim (by_kind (same_key k x.0)) [
   | inl y ↦ let f : Some first ≡ Some x.1 = rw y at e in let g : first ≡ x.1 = cc in rw (y, y, g) refl
   | inr n ↦ rw (n, n) (ap (λ ys. x ∷ ys) (put_back same_key k p first es (rw n at e)))
 ]

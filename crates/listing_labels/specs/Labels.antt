@@ -20,7 +20,7 @@ is_name_byte c = (nat_le 48 c && nat_le c 57) || (nat_le 65 c && nat_le c 90) ||
 abbrev pub are_name_bytes : List ℕ → Bool
 are_name_bytes name = list_all is_name_byte name
 
--- It begins with `:`.
+-- A word begins with `:`.
 abbrev pub is_mark : List ℕ → Bool
 is_mark [] = false
 is_mark (c ∷ cs) = c == 58

@@ -12,8 +12,8 @@ abbrev pub shortlex : List ℕ → List ℕ → Ordering
 shortlex a b = ordering_then (nat_cmp (length a) (length b)) (slice_cmp nat_cmp a b)
 
 -- Each label's name is less than the next one's.
-abbrev pub Rising : List Label → Type 0
-Rising ls = IsStrictlySortedBy (λ (a b : Label). shortlex a.name b.name) ls
+abbrev pub LabelsRise : List Label → Type 0
+LabelsRise ls = IsStrictlySortedBy (λ (a b : Label). shortlex a.name b.name) ls
 
 -- All names of the labels are less than this one.
 abbrev pub is_above : List Label → List ℕ → Bool

@@ -3,7 +3,7 @@
 ghost use Rattle.std.specs.Prelude.{◌≡◌, [], Some, map, IfSome, OnOk, IsOkUnless};
 ghost use Rattle.base_bytes.specs.Fault.{memory};
 ghost use Rattle.listing_labels.specs.Labels.{Label, lookup, with_label};
-ghost use Rattle.listing_labels.specs.Order.{shortlex, is_above, Rising};
+ghost use Rattle.listing_labels.specs.Order.{shortlex, is_above, LabelsRise};
 ghost use Rattle.listing_labels.specs.View.{label, place_in};
 
 use dex_base::Fault;
@@ -33,14 +33,14 @@ pub struct Labels<'t> {
 impl<'t> Model for Labels<'t> {
     ghost use Rattle.std.specs.Prelude.{List, ◌++◌, map};
     ghost use Rattle.listing_labels.specs.Labels.{Label};
-    ghost use Rattle.listing_labels.specs.Order.{Rising};
+    ghost use Rattle.listing_labels.specs.Order.{LabelsRise};
     ghost use Rattle.listing_labels.specs.View.{label};
 
     ghost Value = { List Label };
 
     ghost view = { λ l. map label l.front.items ++ map label l.rest.entries };
 
-    ghost invariant = { λ l. Rising (map label l.front.items) };
+    ghost invariant = { λ l. LabelsRise (map label l.front.items) };
 }
 
 /// How two names compare: a shorter one is less, and of one length they compare by their bytes.
@@ -55,7 +55,7 @@ fn compare(a: &[u8], b: &[u8]) -> Ordering
 
 /// Whether the name is above those of all these labels, which rise.
 fn is_above(front: &[(&[u8], Place)], name: &[u8]) -> bool
-    requires { Rising (map label front.now) }
+    requires { LabelsRise (map label front.now) }
     ensures { result ≡ is_above (map label front.now) name.now }
 {
     match front.last() {
@@ -66,7 +66,7 @@ fn is_above(front: &[(&[u8], Place)], name: &[u8]) -> bool
 
 /// The label of this name among labels that rise.
 fn search(front: &[(&[u8], Place)], name: &[u8]) -> Option<Place>
-    requires { Rising (map label front.now) }
+    requires { LabelsRise (map label front.now) }
     ensures { result ≡ place_in (lookup name.now (map label front.now)) }
 {
     if is_above(front, name) {
@@ -83,9 +83,9 @@ fn search(front: &[(&[u8], Place)], name: &[u8]) -> Option<Place>
     }
 }
 
-/// The same; the one at the index `near` is found without a search.
+/// The label of this name among labels that rise; the one at the index `near` is found without a search.
 fn find_rising(front: &[(&[u8], Place)], near: usize, name: &[u8]) -> Option<Place>
-    requires { Rising (map label front.now) }
+    requires { LabelsRise (map label front.now) }
     ensures { result ≡ place_in (lookup name.now (map label front.now)) }
 {
     if let Some((there, place)) = front.get(near) {

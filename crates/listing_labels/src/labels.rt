@@ -36,7 +36,7 @@ fn are_name_bytes(name: &[u8]) -> bool
     true
 }
 
-/// Whether it begins with `:`.
+/// Whether a word begins with `:`.
 pub fn is_mark(word: &[u8]) -> bool
     ensures { result ≡ says.is_mark word.now }
 {
@@ -46,7 +46,7 @@ pub fn is_mark(word: &[u8]) -> bool
     }
 }
 
-/// Whether it is `:` and 1 to 32 letters, digits or `_`.
+/// Whether a word is `:` and 1 to 32 letters, digits or `_`.
 pub fn is_label(word: &[u8]) -> bool
     ensures { result ≡ says.is_label word.now }
 {
@@ -61,11 +61,11 @@ fn after_spaces(text: &[u8]) -> &[u8]
     ensures { result.now ≡ after_spaces text.now }
 {
     let mut rest = text;
-    while let Some((first, behind)) = rest.split_first() {
+    while let Some((first, after)) = rest.split_first() {
         if *first != 32 {
             return rest;
         }
-        rest = behind;
+        rest = after;
     }
     rest
 }
@@ -119,7 +119,7 @@ pub fn look_ahead<'t>(labels: &mut Labels<'t>, text: &'t [u8], first: u64) -> Re
     let mut line = first;
     let mut number = 0u64;
     let mut rest = text;
-    while let Some((next, behind)) = split_line(rest) {
+    while let Some((next, after)) = split_line(rest) {
         let words = after_spaces(next);
         if !is_comment(words) {
             if is_stop(words) {
@@ -132,7 +132,7 @@ pub fn look_ahead<'t>(labels: &mut Labels<'t>, text: &'t [u8], first: u64) -> Re
             }
         }
         line += 1;
-        rest = behind;
+        rest = after;
     }
     Ok(())
 }

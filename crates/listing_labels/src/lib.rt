@@ -3,7 +3,7 @@
 //!
 //! ```text
 //! is_label(b":L12")                        // true
-//! look_ahead(&mut labels, behind, 6)?      // the labels of the code whose first line is the sixth
+//! look_ahead(&mut labels, after, 6)?      // the labels of the code whose first line is the sixth
 //! ```
 #![tactic(auto)]
 

@@ -15,11 +15,11 @@ pub fn split_line(text: &[u8]) -> Option<(&[u8], &[u8])>
     if text.is_empty() {
         return None;
     }
-    let (line, behind) = split_before(10, text);
-    if behind.is_empty() {
-        return Some((line, behind));
+    let (line, after) = split_before(10, text);
+    if after.is_empty() {
+        return Some((line, after));
     }
-    let (_, rest) = behind.split_at(1);
+    let (_, rest) = after.split_at(1);
     Some((line, rest))
 }
 

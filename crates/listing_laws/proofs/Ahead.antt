@@ -10,23 +10,25 @@ use Rattle.program_types.specs.Content.{Insn}
 use Rattle.listing_words.specs.Words.{Word, plain_word, after_spaces, up_to_space, IsGraphic, IsWritable, line_bytes}
 use Rattle.listing_slots.specs.Keys.{key_text, same}
 use Rattle.listing_slots.proofs.ShownLaws.{same_refl}
-use Rattle.listing_shapes.proofs.ShapeLaws.{same_eq}
 use Rattle.listing_lines.specs.declared.form.Form.TheVariants.{Two}
 use Rattle.listing_labels.specs.Lines.{lines}
 use Rattle.listing_labels.specs.Labels.{Label, lookup, with_label, first_word, is_stop, is_mark, labels_ahead}
 use Rattle.listing_labels.proofs.AheadLaws.{ahead_marks, ahead_counts}
 use Rattle.listing_print.specs.Operands.{insn_operands, label_name}
 use Rattle.listing_print.specs.Printed.{insn_word, insn_text, label_text}
-use Rattle.listing_print.specs.Canon.{is_named, mark_text, insns_text}
+use Rattle.listing_print.specs.Canon.{is_named, label_if_named, insns_text}
 use Rattle.listing_print.specs.Reading.{words_in, FitOperands, OpcodeFits}
 use Rattle.listing_laws.proofs.Printable.{InstructionsFit}
-use Rattle.listing_laws.proofs.RunLaws.{IsLine, line_first, line_is, graphic_line, behind_spaces}
+use Rattle.listing_laws.proofs.RunLaws.{IsLine, line_first, line_is, graphic_line, spaced_words}
 use Rattle.listing_laws.proofs.FormWords.{label_written}
 use Rattle.listing_laws.proofs.InsnRuns.{insn_words, insn_is, insn_is_other, insn_line_is, insn_written, insn_shown}
+use Rattle.listing_words.proofs.PrintLaws.{starts, up_to_end}
+use Rattle.base_bytes.proofs.ListFacts.{by_kind, by_truth}
+use Rattle.listing_slots.proofs.KeyLaws.{same_true}
 
 -- ---- the labels that are printed
 
--- The label of instruction k, behind n lines.
+-- The label of instruction k, after n lines.
 abbrev pub label_of : ℕ → ℕ → Label
 label_of n k = record { name = label_name k; line = n + 1; number = k }
 
@@ -38,7 +40,7 @@ marked ns n k = if is_named ns k then label_of n k ∷ [] else []
 abbrev pub past_mark : List ℕ → ℕ → ℕ → ℕ
 past_mark ns n k = if is_named ns k then n + 1 else n
 
--- The labels of these instructions, of which number k is the first, behind n lines.
+-- The labels of these instructions, of which number k is the first, after n lines.
 abbrev pub labels_from : List ℕ → ℕ → ℕ → List Insn → List Label
 labels_from ns n k [] = marked ns n k
 labels_from ns n k (i ∷ is) = marked ns n k ++ labels_from ns (past_mark ns n k + 1) (k + 1) is
@@ -49,45 +51,37 @@ AreBefore es k = (j : ℕ) → k ≤ j → j < 2 ^ 64 → lookup (label_name j) 
 
 -- ---- labels of different numbers differ
 
-behind_two : (c d : ℕ) (a b : List ℕ) → c ∷ d ∷ a ≡ c ∷ d ∷ b → a ≡ b
-behind_two c d a b e = cc
+after_two : (c d : ℕ) (a b : List ℕ) → c ∷ d ∷ a ≡ c ∷ d ∷ b → a ≡ b
+after_two c d a b e = cc
 
 names_same : (j k : ℕ) → j < 2 ^ 64 → k < 2 ^ 64 → label_name j ≡ label_name k → j ≡ k
 names_same j k h g e =
-    sym (decimal_is_IsNumeral j h).1 ∙ ap (digits_value 10) (behind_two 58 76 (decimal j) (decimal k) e) ∙ (decimal_is_IsNumeral k g).1
-
-by_truth : (b : Bool) → (b ≡ true → ⊥) → b ≡ false
-by_truth true h = absurd (h refl)
-by_truth false h = refl
+    sym (decimal_is_IsNumeral j h).1 ∙ ap (digits_value 10) (after_two 58 76 (decimal j) (decimal k) e) ∙ (decimal_is_IsNumeral k g).1
 
 names_differ : (j k : ℕ) → j < 2 ^ 64 → k < 2 ^ 64 → j ≢ k → same (label_name j) (label_name k) ≡ false
-names_differ j k h g n = by_truth (same (label_name j) (label_name k)) (λ e. n (names_same j k h g (same_eq (label_name j) (label_name k) e)))
+names_differ j k h g n = by_truth (same (label_name j) (label_name k)) (λ e. n (names_same j k h g (same_true (label_name j) (label_name k) e)))
 
-pub cases_bool : (b : Bool) → (b ≡ true) ⊎ (b ≡ false)
-cases_bool true = inl refl
-cases_bool false = inr refl
-
--- what isn't in front is looked for behind
-lookup_behind : (name : List ℕ) (es fs : List Label) → lookup name es ≡ None → lookup name (es ++ fs) ≡ lookup name fs
-lookup_behind name [] fs h = refl
-lookup_behind name (e ∷ es) fs h = elim (cases_bool (same name e.name)) [
+-- what isn't in front is looked for after
+lookup_after : (name : List ℕ) (es fs : List Label) → lookup name es ≡ None → lookup name (es ++ fs) ≡ lookup name fs
+lookup_after name [] fs h = refl
+lookup_after name (e ∷ es) fs h = elim (by_kind (same name e.name)) [
   | inl y ↦ let z : Some e ≡ None = rw y at h in absurd cc
-  | inr n ↦ let z : lookup name es ≡ None = rw n at h in rw n (lookup_behind name es fs z)
+  | inr n ↦ let z : lookup name es ≡ None = rw n at h in rw n (lookup_after name es fs z)
 ]
 
 pub none_before : (k : ℕ) → AreBefore [] k
 none_before k j l h = refl
 
 pub before_more : (ns : List ℕ) (es : List Label) (n k : ℕ) → AreBefore es k → k < 2 ^ 64 → AreBefore (es ++ marked ns n k) (k + 1)
-before_more ns es n k h g j l m = elim (cases_bool (is_named ns k)) [
-  | inl y ↦ rw y (lookup_behind (label_name j) es (label_of n k ∷ []) (h j (omega arith) m) ∙ rw (names_differ j k m g (λ e. omega arith)) refl)
+before_more ns es n k h g j l m = elim (by_kind (is_named ns k)) [
+  | inl y ↦ rw y (lookup_after (label_name j) es (label_of n k ∷ []) (h j (omega arith) m) ∙ rw (names_differ j k m g (λ e. omega arith)) refl)
   | inr x ↦ rw x (ap (lookup (label_name j)) (append-nil es) ∙ h j (omega arith) m)
 ]
 
 -- ---- the label of a named instruction is found
 
 pub found_here : (ns : List ℕ) (es fs : List Label) (n k : ℕ) → AreBefore es k → k < 2 ^ 64 → is_named ns k ≡ true → lookup (label_name k) (es ++ (marked ns n k ++ fs)) ≡ Some (label_of n k)
-found_here ns es fs n k h g y = rw y (lookup_behind (label_name k) es (label_of n k ∷ fs) (h k (omega arith) g) ∙ rw (same_refl (label_name k)) refl)
+found_here ns es fs n k h g y = rw y (lookup_after (label_name k) es (label_of n k ∷ fs) (h k (omega arith) g) ∙ rw (same_refl (label_name k)) refl)
 
 found_last : (ns : List ℕ) (es : List Label) (n k : ℕ) → AreBefore es k → k < 2 ^ 64 → is_named ns k ≡ true → lookup (label_name k) (es ++ marked ns n k) ≡ Some (label_of n k)
 found_last ns es n k h g y = ap (λ fs. lookup (label_name k) (es ++ fs)) (sym (append-nil (marked ns n k))) ∙ found_here ns es [] n k h g y
@@ -110,21 +104,13 @@ found_each ns (i ∷ is) es n k j h g y a b = elim (cases_eq j k) [
 
 -- ---- the first word of a line
 
-up_whole : (m rest : List ℕ) → AllByRecursion IsGraphic m → up_to_space rest ≡ [] → up_to_space (m ++ rest) ≡ m
-up_whole [] rest g e = e
-up_whole (c ∷ m) rest g e = let n : c ≢ 32 = λ i. (let h = g.0.0 in omega arith) in rw (ne_eqb c 32 n) (ap (λ l. c ∷ l) (up_whole m rest g.1 e))
-
-after_whole : (m rest : List ℕ) → 0 < length m → AllByRecursion IsGraphic m → after_spaces (m ++ rest) ≡ m ++ rest
-after_whole [] rest p g = absurd (omega arith)
-after_whole (c ∷ m) rest p g = let n : c ≢ 32 = λ i. (let h = g.0.0 in omega arith) in rw (ne_eqb c 32 n) refl
-
-spaces_stop : (ws : List Word) → up_to_space (behind_spaces ws) ≡ []
+spaces_stop : (ws : List Word) → up_to_space (spaced_words ws) ≡ []
 spaces_stop [] = refl
 spaces_stop (w ∷ ws) = refl
 
 pub word_first : (m : List ℕ) (ws : List Word) → IsWritable (plain_word m) → first_word (line_bytes (plain_word m ∷ ws)) ≡ m
 word_first m ws w =
-    ap first_word (line_is (plain_word m) ws) ∙ ap up_to_space (after_whole m (behind_spaces ws) w.0 w.2) ∙ up_whole m (behind_spaces ws) w.2 (spaces_stop ws)
+    ap first_word (line_is (plain_word m) ws) ∙ ap up_to_space (starts m (spaced_words ws) w.0 w.2) ∙ up_to_end m (spaced_words ws) w.2 (spaces_stop ws)
 
 -- ---- labels ahead, line by line
 
@@ -151,8 +137,8 @@ named_ahead es n k text h g =
     ∙ ap (λ fs. labels_ahead fs (n + 1 + 1) k (lines text)) (goes_last es (label_of n k) h)
 
 mark_ahead : (ns : List ℕ) (es : List Label) (n k : ℕ) (text : List ℕ) → lookup (label_name k) es ≡ None → k < 2 ^ 64
-    → labels_ahead es (n + 1) k (lines (mark_text Two ns k ++ text)) ≡ labels_ahead (es ++ marked ns n k) (past_mark ns n k + 1) k (lines text)
-mark_ahead ns es n k text h g = elim (cases_bool (is_named ns k)) [
+    → labels_ahead es (n + 1) k (lines (label_if_named Two ns k ++ text)) ≡ labels_ahead (es ++ marked ns n k) (past_mark ns n k + 1) k (lines text)
+mark_ahead ns es n k text h g = elim (by_kind (is_named ns k)) [
   | inl y ↦ rw y (named_ahead es n k text h g)
   | inr x ↦ rw x (ap (λ fs. labels_ahead fs (n + 1) k (lines text)) (sym (append-nil es)))
 ]
@@ -170,7 +156,7 @@ pub insns_ahead : (ns : List ℕ) (is : List Insn) (es : List Label) (n k c : �
     → labels_ahead es (n + 1) k (lines (insns_text Two ns k is ++ text)) ≡ es ++ labels_from ns n k is
 insns_ahead ns [] es n k c text h g f stop = mark_ahead ns es n k text (h k (omega arith) (omega arith)) (omega arith) ∙ stop (es ++ marked ns n k) (past_mark ns n k + 1) k
 insns_ahead ns (i ∷ is) es n k c text h g f stop =
-    let a = mark_text Two ns k in
+    let a = label_if_named Two ns k in
     let b = insn_text Two k i in
     let d = insns_text Two ns (k + 1) is in
     let p = past_mark ns n k in

@@ -8,7 +8,7 @@ use Rattle.program_rules.specs.Valid.{IsValidName}
 use Rattle.program_types.specs.Formed.{IsFormed}
 use Rattle.program_rules.proofs.FormedLaws.{class_formed}
 use Rattle.program_rules.specs.Rules.{ClassHolds, member_key, method_key}
-use Rattle.program_ranges.specs.Ranges.{NameInRange, ValueInRange, ValuesInRange, MemberInRange, DefinedInRange, ClassInRange}
+use Rattle.program_rules.specs.Ranges.{NameInRange, ValueInRange, ValuesInRange, MemberInRange, DefinedInRange, ClassInRange}
 use Rattle.program_rules.specs.WellFormed.{WellFormed}
 use Rattle.listing_slots.specs.declared.key.Key.TheVariants as key
 use Rattle.listing_print.specs.Operands.{keyword, value_operands, values_operands}
@@ -17,8 +17,9 @@ use Rattle.listing_print.specs.Reading.{FitOperands}
 use Rattle.listing_laws.proofs.Printable.{FieldFits, GivenFits, givens, BodyFits, MethodFits, SuperFits, SourceFits, InterfaceFits, ClassFits, IsPrintable}
 use Rattle.listing_laws.proofs.NameFits.{IsNamed, proto_fits, name_fits}
 use Rattle.listing_laws.proofs.InsnFits.{operands_append, signed8, signed16, signed32, signed64}
-use Rattle.listing_laws.proofs.CodeRules.{all_front, all_behind, code_fits}
+use Rattle.listing_laws.proofs.CodeRules.{code_fits}
 use Rattle.listing_laws.proofs.OrderRules.{keys_sorted}
+use Rattle.base_bytes.proofs.ListFacts.{all_front, all_back}
 
 names_of : (ns : List Name) → AllByRecursion IsValidName ns → AllByRecursion NameInRange ns → AllByRecursion IsNamed ns
 names_of [] v r = tt
@@ -51,7 +52,7 @@ mutual
   values_fit no_values r w = tt
   values_fit (more_values v vs) r w =
       let a = all_front IsNamed (names_of_value v) (names_of_values vs) w in
-      let b = all_behind IsNamed (names_of_value v) (names_of_values vs) w in
+      let b = all_back IsNamed (names_of_value v) (names_of_values vs) w in
       operands_append (value_operands v) (values_operands vs) (value_fits v r.0 a) (values_fit vs r.1 b)
 
 -- ---- members
@@ -69,7 +70,7 @@ givens_fit class [] vs r s w n = tt
 givens_fit class (m ∷ ms) [] r s w n = (field_fits class m r.0 w.0, givens_fit class ms [] r.1 s w.1 n)
 givens_fit class (m ∷ ms) (v ∷ vs) r s w n =
     let a = all_front IsNamed (names_of_value v) (flat_map names_of_value vs) n in
-    let b = all_behind IsNamed (names_of_value v) (flat_map names_of_value vs) n in
+    let b = all_back IsNamed (names_of_value v) (flat_map names_of_value vs) n in
     (operands_append (member_operands m) (keyword key.Equals ∷ value_operands v) (field_fits class m r.0 w.0) (refl, value_fits v s.0 a), givens_fit class ms vs r.1 s.1 w.1 b)
 
 body_fits : (o : Option Code) → IfSome o IsFormed → AllByRecursion IsNamed (if_any names_of_code o) → BodyFits o
@@ -85,7 +86,7 @@ methods_fit : (class : Descriptor) (ms : List Method) → AllByRecursion (λ m. 
 methods_fit class [] f r w = tt
 methods_fit class (m ∷ ms) f r w =
     let a = all_front IsNamed (names_of_method class m) (flat_map (names_of_method class) ms) w in
-    let b = all_behind IsNamed (names_of_method class m) (flat_map (names_of_method class) ms) w in
+    let b = all_back IsNamed (names_of_method class m) (flat_map (names_of_method class) ms) w in
     (method_fits class m f.0 r.0 a, methods_fit class ms f.1 r.1 b)
 
 -- ---- heads
@@ -142,13 +143,13 @@ mentioned c w =
     record {
       class = w1.0;
       superclass = w1.1;
-      interfaces = all_behind IsNamed l1 m2 w2;
-      source = all_behind IsNamed l2 m3 w3;
-      statics = all_behind IsNamed l3 m4 w4;
-      values = all_behind IsNamed l4 m5 w5;
-      instances = all_behind IsNamed l5 m6 w6;
-      directs = all_behind IsNamed l6 m7 w7;
-      virtuals = all_behind IsNamed l7 m8 w;
+      interfaces = all_back IsNamed l1 m2 w2;
+      source = all_back IsNamed l2 m3 w3;
+      statics = all_back IsNamed l3 m4 w4;
+      values = all_back IsNamed l4 m5 w5;
+      instances = all_back IsNamed l5 m6 w6;
+      directs = all_back IsNamed l6 m7 w7;
+      virtuals = all_back IsNamed l7 m8 w;
     }
 
 class_fits : (p : Program) (i : ℕ) (c : Class) → ClassHolds p i c → ClassInRange c → ClassFits c

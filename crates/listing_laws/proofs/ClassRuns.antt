@@ -1,4 +1,4 @@
--- A printed program is read again: its classes, one behind the other.
+-- A printed program is read again: its classes, one after the other.
 use Rattle.listing_slots.specs.Keys.{key_text, same}
 use Rattle.listing_lines.specs.declared.form.Form.{Form}
 use Rattle.listing_lines.specs.declared.form.Form.TheVariants.{One, Two}
@@ -59,8 +59,8 @@ members_run form done n c f =
 closed_again : (c : Class) → ClassFits c → closed (whole c) ≡ c
 closed_again c f = rw (fields_again c.statics c.values, values_again c.statics c.values f.values) refl
 
--- From state s, the text leads behind these classes.
-record Behind (form : Form) (s : State) (text : List ℕ) (cs : List Class) : Type 0 where
+-- From state s, the text leads after these classes.
+record After (form : Form) (s : State) (text : List ℕ) (cs : List Class) : Type 0 where
   lines : ℕ
   runs : RunsTo (bare form) s text (outside cs lines)
 
@@ -68,7 +68,7 @@ end_runs : (form : Form) (done : List Class) (s : State) (text : List ℕ) (o : 
 unfolding add may_stand
 end_runs form done s text o x = keyed_runs form (within x.part done o None x.lines) (outside (done ++ closed o ∷ []) (x.lines + 1)) end_class tt tt (refl, tt) (class_goes_on x.part) refl
 
-class_runs : (form : Form) (done : List Class) (n : ℕ) (c : Class) → ClassFits c → Behind form (outside done n) ((class_text form) c) (done ++ c ∷ [])
+class_runs : (form : Form) (done : List Class) (n : ℕ) (c : Class) → ClassFits c → After form (outside done n) ((class_text form) c) (done ++ c ∷ [])
 class_runs form done n c f =
     let s = outside done n in
     let h = heads_run form done n c f in
@@ -80,12 +80,12 @@ class_runs form done n c f =
     let r = runs_join (bare form) t u v (fields_text c ++ (methods_text form) c) (keyed_text end_class) x.runs e in
     let q = subst (λ (text : List ℕ). RunsTo (bare form) t text v) (append_assoc (fields_text c) ((methods_text form) c) (keyed_text end_class)) r in
     let w = runs_join (bare form) s t v (heads_text c) (fields_text c ++ ((methods_text form) c ++ keyed_text end_class)) h.1 q in
-    subst (λ (d : Class). Behind form s ((class_text form) c) (done ++ d ∷ [])) (closed_again c f) (record { lines = x.lines + 1; runs = w })
+    subst (λ (d : Class). After form s ((class_text form) c) (done ++ d ∷ [])) (closed_again c f) (record { lines = x.lines + 1; runs = w })
 
-classes_run : (form : Form) (cs done : List Class) (n : ℕ) → IsPrintable cs → Behind form (outside done n) (flat_map (class_text form) cs) (done ++ cs)
+classes_run : (form : Form) (cs done : List Class) (n : ℕ) → IsPrintable cs → After form (outside done n) (flat_map (class_text form) cs) (done ++ cs)
 classes_run form [] done n f =
     let s = outside done n in
-    subst (λ (ds : List Class). Behind form s [] ds) (sym (append-nil done)) (record { lines = n; runs = nothing_runs (bare form) s })
+    subst (λ (ds : List Class). After form s [] ds) (sym (append-nil done)) (record { lines = n; runs = nothing_runs (bare form) s })
 classes_run form (c ∷ cs) done n f =
     let s = outside done n in
     let x = class_runs form done n c f.0 in
@@ -93,7 +93,7 @@ classes_run form (c ∷ cs) done n f =
     let t = outside (done ++ c ∷ []) x.lines in
     let u = outside ((done ++ c ∷ []) ++ cs) y.lines in
     let r = runs_join (bare form) s t u ((class_text form) c) (flat_map (class_text form) cs) x.runs y.runs in
-    subst (λ (ds : List Class). Behind form s (flat_map (class_text form) (c ∷ cs)) ds) (append_assoc done (c ∷ []) cs) (record { lines = y.lines; runs = r })
+    subst (λ (ds : List Class). After form s (flat_map (class_text form) (c ∷ cs)) ds) (append_assoc done (c ∷ []) cs) (record { lines = y.lines; runs = r })
 
 -- ---- the first line
 

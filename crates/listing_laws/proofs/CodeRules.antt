@@ -8,16 +8,9 @@ use Rattle.program_types.specs.Operands.{IsOperand}
 use Rattle.listing_laws.proofs.Printable.{InstructionsFit, CatchFits, CatchAllFits, TryFits, CodeFits}
 use Rattle.listing_laws.proofs.NameFits.{IsNamed, name_fits}
 use Rattle.listing_laws.proofs.InsnFits.{target_fits, insn_fits}
+use Rattle.base_bytes.proofs.ListFacts.{all_back, all_front}
 
 -- ---- what holds of two lists
-
-pub all_front : {X : Type 0} (P : X → Type 0) (xs ys : List X) → AllByRecursion P (xs ++ ys) → AllByRecursion P xs
-all_front P [] ys h = tt
-all_front P (x ∷ xs) ys h = (h.0, all_front P xs ys h.1)
-
-pub all_behind : {X : Type 0} (P : X → Type 0) (xs ys : List X) → AllByRecursion P (xs ++ ys) → AllByRecursion P ys
-all_behind P [] ys h = h
-all_behind P (x ∷ xs) ys h = all_behind P xs ys h.1
 
 -- ---- instructions
 
@@ -26,7 +19,7 @@ insns_fit count [] l h w = tt
 insns_fit count (i ∷ is) l h w =
     let ns = names_of_insn i in
     let more = flat_map names_of_insn is in
-    (insn_fits count i l (h 0 (omega arith)) (all_front IsNamed ns more w), insns_fit count is l (λ k a. h (suc k) (omega arith)) (all_behind IsNamed ns more w))
+    (insn_fits count i l (h 0 (omega arith)) (all_front IsNamed ns more w), insns_fit count is l (λ k a. h (suc k) (omega arith)) (all_back IsNamed ns more w))
 
 -- ---- tries
 
@@ -51,7 +44,7 @@ each_fits count (t ∷ ts) h = (h 0 (omega arith), each_fits count ts (λ i a. h
 names_at : (ts : List Try) (i : ℕ) → AllByRecursion IsNamed (flat_map names_of_try ts) → AllByRecursion IsNamed (names_of_try (try_at ts i))
 names_at [] i w = tt
 names_at (t ∷ ts) zero w = all_front IsNamed (names_of_try t) (flat_map names_of_try ts) w
-names_at (t ∷ ts) (suc i) w = names_at ts i (all_behind IsNamed (names_of_try t) (flat_map names_of_try ts) w)
+names_at (t ∷ ts) (suc i) w = names_at ts i (all_back IsNamed (names_of_try t) (flat_map names_of_try ts) w)
 
 pub code_fits : (c : Code) → IsFormed c → AllByRecursion IsNamed (names_of_code c) → CodeFits c
 code_fits c f w =
@@ -62,5 +55,5 @@ code_fits c f w =
       ((omega arith, omega arith), ((omega arith, omega arith), ((omega arith, omega arith), tt))),
       omega arith,
       insns_fit (length c.insns) c.insns few f.operands (all_front IsNamed names caught w),
-      each_fits (length c.insns) c.tries (λ i a. try_fits (length c.insns) c.tries i few (f.tries i a) (names_at c.tries i (all_behind IsNamed names caught w))),
+      each_fits (length c.insns) c.tries (λ i a. try_fits (length c.insns) c.tries i few (f.tries i a) (names_at c.tries i (all_back IsNamed names caught w))),
     )

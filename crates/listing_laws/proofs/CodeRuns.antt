@@ -1,9 +1,10 @@
--- The printed instructions of a code, one behind the other, in both forms.
+-- The printed instructions of a code, one after the other, in both forms.
 use Rattle.std.proofs.Common.{◌≡◌, ℕ, ◌+◌, ◌<◌, ◌≤◌, ◌^◌, true, inl, inr, List, [], ◌∷◌, ◌++◌, length, Option, Some, refl, sym, ap, subst, ◌∙◌, append_assoc, arith}
 use Rattle.std.specs.List.{AllByRecursion}
 use Rattle.std.proofs.lemmas.Bool.{cases_lt, eq-eqb, lt-ltb, le-ltb}
 use Rattle.std.proofs.lemmas.List.{append-nil, length-append}
 use Rattle.program_types.specs.Content.{Insn, Class}
+use Rattle.program_types.specs.Formed.{insn_leads}
 use Rattle.listing_words.specs.Words.{plain_word}
 use Rattle.listing_words.proofs.PrintLaws.{line_again}
 use Rattle.listing_lines.specs.declared.form.Form.{Form}
@@ -16,15 +17,16 @@ use Rattle.listing_parse.specs.Text.{aside}
 use Rattle.listing_parse.specs.declared.aside.Aside.TheVariants.{Mark}
 use Rattle.listing_print.specs.Operands.{insn_operands, label_name}
 use Rattle.listing_print.specs.Printed.{insn_text, label_text}
-use Rattle.listing_print.specs.Canon.{insn_numbers, is_named, mark_text, insns_text}
+use Rattle.listing_print.specs.Canon.{is_named, label_if_named, insns_text}
 use Rattle.listing_print.specs.Reading.{FitOperands, OpcodeFits}
 use Rattle.listing_laws.proofs.Runs.{Frame, RunsTo, NeedsFit, among, frame, at}
 use Rattle.listing_laws.proofs.Printable.{InstructionsFit}
 use Rattle.listing_laws.proofs.RunLaws.{runs_join, line_runs}
 use Rattle.listing_laws.proofs.FormWords.{TargetsAreMarked, label_written, named_label}
 use Rattle.listing_laws.proofs.InsnRuns.{insn_runs}
-use Rattle.listing_laws.proofs.Ahead.{label_of, marked, past_mark, labels_from, AreBefore, cases_bool, before_more, found_first, label_is_line}
+use Rattle.listing_laws.proofs.Ahead.{label_of, marked, past_mark, labels_from, AreBefore, before_more, found_first, label_is_line}
 use Rattle.listing_laws.proofs.Targets.{MarkAll, AreNamed, insn_marked}
+use Rattle.base_bytes.proofs.ListFacts.{by_kind}
 
 pub nothing_runs : (f : Frame) (s : State) → RunsTo f s [] s
 nothing_runs f s rest u r = r
@@ -41,7 +43,7 @@ label_runs es s k h m e =
     line_runs f f s (counted s) (label_name k) (label_is_line k h)
     (λ ls. inr (refl, record { words = plain_word (label_name k) ∷ []; has_words = line_again (plain_word (label_name k) ∷ []) (label_written k h, tt); makes = inr (inl (label_is_mark es s k h m e, refl)) }))
 
--- ---- the labels of these instructions and of those behind them
+-- ---- the labels of these instructions and of those after them
 
 -- In the second form the labels are those so far, and those of these instructions.
 abbrev pub AreAhead : Form → List ℕ → List Label → ℕ → ℕ → List Insn → Type 0
@@ -54,9 +56,9 @@ before_insn One ns n k = n
 before_insn Two ns n k = past_mark ns n k
 
 mark_runs : (form : Form) (ns : List ℕ) (es : List Label) (done : List Class) (o : Open) (late : Option ℕ) (is : List Insn) (b : Body) (n k : ℕ) → k < 2 ^ 64 → AreAhead form ns es n k is
-    → RunsTo (frame form es) (among done o late b n) (mark_text form ns k) (among done o late b (before_insn form ns n k))
+    → RunsTo (frame form es) (among done o late b n) (label_if_named form ns k) (among done o late b (before_insn form ns n k))
 mark_runs One ns es done o late is b n k h a = nothing_runs (frame One es) (among done o late b n)
-mark_runs Two ns es done o late is b n k h a = elim (cases_bool (is_named ns k)) [
+mark_runs Two ns es done o late is b n k h a = elim (by_kind (is_named ns k)) [
   | inl y ↦ rw y (label_runs es (among done o late b n) k h refl (ap (lookup (label_name k)) a.2 ∙ found_first ns is a.0 n k a.1 h y))
   | inr x ↦ rw x (nothing_runs (frame Two es) (among done o late b n))
 ]
@@ -89,13 +91,13 @@ unfolding add inside with_insn_more
 step form es done o late b n k i h c f g e = insn_runs form es (among done o late b n) (among done o late (with_insn_more b i n) (n + 1)) k i h c f g refl e refl
 
 pub insns_run : (form : Form) (ns : List ℕ) (es : List Label) (done : List Class) (o : Open) (late : Option ℕ) (is : List Insn) (b : Body) (n k c : ℕ) → k + length is < 2 ^ 64 → InstructionsFit c is → MarkAll form ns es c
-    → AllByRecursion (λ i. AreNamed ns (insn_numbers i)) is → AreAhead form ns es n k is → length b.insns ≡ k → NeedsFit c b.needs
+    → AllByRecursion (λ i. AreNamed ns (insn_leads i)) is → AreAhead form ns es n k is → length b.insns ≡ k → NeedsFit c b.needs
     → (m : ℕ) × (needs : List Need) × RunsTo (frame form es) (among done o late b n) (insns_text form ns k is) (among done o late (record b { insns = b.insns ++ is; needs = needs }) m) × NeedsFit c needs
 unfolding with_insn_more
 insns_run form ns es done o late [] b n k c h f m y a e w =
     let p = before_insn form ns n k in
     let s = among done o late b n in
-    (p, b.needs, subst (λ (x : List Insn). RunsTo (frame form es) s (mark_text form ns k) (among done o late (record b { insns = x; needs = b.needs }) p)) (sym (append-nil b.insns)) (mark_runs form ns es done o late [] b n k (omega arith) a), w)
+    (p, b.needs, subst (λ (x : List Insn). RunsTo (frame form es) s (label_if_named form ns k) (among done o late (record b { insns = x; needs = b.needs }) p)) (sym (append-nil b.insns)) (mark_runs form ns es done o late [] b n k (omega arith) a), w)
 insns_run form ns es done o late (i ∷ is) b n k c h f m y a e w =
     let p = before_insn form ns n k in
     let g = frame form es in
@@ -107,5 +109,5 @@ insns_run form ns es done o late (i ∷ is) b n k c h f m y a e w =
     let x = step form es done o late b p k i (omega arith) f.0.0 f.0.1 (insn_marked form ns es c i m f.0.1 f.0.2 y.0) e in
     let z = insns_run form ns es done o late is d (p + 1) (k + 1) c (omega arith) f.1 m y.1 (ahead_next form ns es n k i is (omega arith) a) (one_more b.insns i k e) (need_fits c b.needs (p + 1) (insn_needs i) f.0.2 w) in
     let v = among done o late (record d { insns = d.insns ++ is; needs = z.1 }) z.0 in
-    let r = runs_join g s t v (mark_text form ns k) (insn_text form k i ++ insns_text form ns (k + 1) is) q (runs_join g t u v (insn_text form k i) (insns_text form ns (k + 1) is) x z.2) in
+    let r = runs_join g s t v (label_if_named form ns k) (insn_text form k i ++ insns_text form ns (k + 1) is) q (runs_join g t u v (insn_text form k i) (insns_text form ns (k + 1) is) x z.2) in
     (z.0, z.1, subst (λ (l : List Insn). RunsTo g s (insns_text form ns k (i ∷ is)) (among done o late (record b { insns = l; needs = z.1 }) z.0)) (append_assoc b.insns (i ∷ []) is) r, z.3)

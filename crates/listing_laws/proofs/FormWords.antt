@@ -17,11 +17,11 @@ use Rattle.listing_slots.proofs.ShownLaws.{shown_says, shown_written, number_wri
 use Rattle.listing_lines.specs.declared.form.Form.{Form}
 use Rattle.listing_lines.specs.declared.form.Form.TheVariants.{One, Two}
 use Rattle.listing_labels.specs.Labels.{Label, is_name_byte, are_name_bytes, is_label, lookup, marked_by, SpellsHere, SpellsAll}
-use Rattle.listing_parse.specs.Forms.{Spells}
+use Rattle.listing_parse.specs.Forms.{SpellsInForm}
 use Rattle.listing_print.specs.Operands.{Operand, label_name, operand_text, operand_text_in, shown_in}
 use Rattle.listing_print.specs.Reading.{slots_of, data_of, words_of, words_in, FitOperands}
 use Rattle.listing_print.proofs.PrintedLaws.{printed_spelled}
-use Rattle.listing_laws.proofs.RunLaws.{behind_spaces}
+use Rattle.listing_laws.proofs.RunLaws.{spaced_words}
 
 -- ---- a target's label is a label
 
@@ -53,11 +53,11 @@ pub words_written : (form : Form) (os : List Operand) → FitOperands os → All
 words_written form [] h = tt
 words_written form (o ∷ os) h = (written_in form o.slot o.says h.0, words_written form os h.1)
 
-pub text_is_in : (form : Form) (os : List Operand) → operand_text_in form os ≡ behind_spaces (words_in form os)
+pub text_is_in : (form : Form) (os : List Operand) → operand_text_in form os ≡ spaced_words (words_in form os)
 text_is_in form [] = refl
 text_is_in form (o ∷ os) = ap (λ t. (32 ∷ word_bytes (shown_in form o.slot o.says)) ++ t) (text_is_in form os)
 
-pub text_is : (os : List Operand) → operand_text os ≡ behind_spaces (words_of os)
+pub text_is : (os : List Operand) → operand_text os ≡ spaced_words (words_of os)
 text_is [] = refl
 text_is (o ∷ os) = ap (λ t. (32 ∷ word_bytes (shown o.slot o.says)) ++ t) (text_is os)
 
@@ -105,6 +105,6 @@ all_say : (es : List Label) (os : List Operand) → FitOperands os → TargetsAr
 all_say es [] h m = tt
 all_say es (o ∷ os) h m = (here_says es o.slot o.says h.0 m.0, all_say es os h.1 m.1)
 
-pub spelled_in : (form : Form) (es : List Label) (os : List Operand) → FitOperands os → TargetsAreMarked form es os → Spells form es (slots_of os) (words_in form os) (data_of os)
+pub spelled_in : (form : Form) (es : List Label) (os : List Operand) → FitOperands os → TargetsAreMarked form es os → SpellsInForm form es (slots_of os) (words_in form os) (data_of os)
 spelled_in One es os h m = rw (words_one os) (printed_spelled os h)
 spelled_in Two es os h m = all_say es os h m

@@ -13,7 +13,7 @@ use Rattle.listing_slots.specs.Keys.{key_text, same, find_key, value_keys}
 use Rattle.listing_slots.specs.Slots.{SpellsSlots}
 use Rattle.listing_shapes.specs.declared.due.Due.{Due}
 use Rattle.listing_shapes.specs.declared.due.Due.TheVariants as due
-use Rattle.listing_shapes.specs.Shapes.{Row, field_slots, given_row, slot_at, key_slot, due_after, due_behind, due_behind_close, due_behind_key, due_behind_word, is_whole, value_slots}
+use Rattle.listing_shapes.specs.Shapes.{Row, field_slots, given_row, slot_at, key_slot, due_after, due_of_key, due_after_close, due_after_key, due_after_word, is_whole, value_slots}
 use Rattle.listing_labels.specs.Labels.{Label, SpellsAll, SpellsBy, is_target}
 use Rattle.listing_laws.proofs.WordRuns.{whole_of, more_of}
 
@@ -45,45 +45,45 @@ free_after : (n : ℕ) → IsFree (due_after n)
 free_after zero = tt
 free_after (suc n) = tt
 
-free_behind_close : (n : ℕ) → IsFree (due_behind_close n)
-free_behind_close zero = tt
-free_behind_close (suc n) = free_after n
+free_after_close : (n : ℕ) → IsFree (due_after_close n)
+free_after_close zero = tt
+free_after_close (suc n) = free_after n
 
-free_behind : (n : ℕ) (k : Key) → IsFree (due_behind n k)
-free_behind n key.Array = refl
-free_behind n key.Byte = refl
-free_behind n key.Short = refl
-free_behind n key.Char = refl
-free_behind n key.Int = refl
-free_behind n key.Long = refl
-free_behind n key.Float = refl
-free_behind n key.Double = refl
-free_behind n key.Text = refl
-free_behind n key.Desc = refl
-free_behind n key.Field = refl
-free_behind n key.Method = refl
-free_behind n key.Enum = refl
-free_behind n _ = free_after n
+free_of_key : (n : ℕ) (k : Key) → IsFree (due_of_key n k)
+free_of_key n key.Array = refl
+free_of_key n key.Byte = refl
+free_of_key n key.Short = refl
+free_of_key n key.Char = refl
+free_of_key n key.Int = refl
+free_of_key n key.Long = refl
+free_of_key n key.Float = refl
+free_of_key n key.Double = refl
+free_of_key n key.Text = refl
+free_of_key n key.Desc = refl
+free_of_key n key.Field = refl
+free_of_key n key.Method = refl
+free_of_key n key.Enum = refl
+free_of_key n _ = free_after n
 
-free_behind_key : (n : ℕ) (b : Bool) (o : Option Key) → IsFree (if b then due_behind_close n else due_behind_key n o)
-free_behind_key n true o = free_behind_close n
-free_behind_key n false None = tt
-free_behind_key n false (Some k) = free_behind n k
+free_after_key : (n : ℕ) (b : Bool) (o : Option Key) → IsFree (if b then due_after_close n else due_after_key n o)
+free_after_key n true o = free_after_close n
+free_after_key n false None = tt
+free_after_key n false (Some k) = free_of_key n k
 
-free_behind_word : (d : Due) (w : Word) → IsFree (due_behind_word d w)
-unfolding due_behind_word
-free_behind_word (due.Word s n) w = free_after n
-free_behind_word (due.Value n) (plain_word w) = free_behind_key n (same (key_text key.Close) w) (find_key value_keys w)
-free_behind_word (due.Value n) (text_in_quotes us) = tt
-free_behind_word due.Nothing w = tt
-free_behind_word due.Refused w = tt
+free_after_word : (d : Due) (w : Word) → IsFree (due_after_word d w)
+unfolding due_after_word
+free_after_word (due.Word s n) w = free_after n
+free_after_word (due.Value n) (plain_word w) = free_after_key n (same (key_text key.Close) w) (find_key value_keys w)
+free_after_word (due.Value n) (text_in_quotes us) = tt
+free_after_word due.Nothing w = tt
+free_after_word due.Refused w = tt
 
 values_are_free : (ws : List Word) (d : Due) (ss : List Slot) → IsFree d → value_slots d ws ≡ Some ss → AreFree ss
 unfolding value_slots
 values_are_free [] d ss h e = subst AreFree (sym (whole_of (is_whole d) ss e).1) tt
 values_are_free (w ∷ ws) d ss h e =
-    let m = more_of (slot_at d w) (value_slots (due_behind_word d w) ws) ss e in
-    subst AreFree (sym m.2) (slot_is_free d w h, values_are_free ws (due_behind_word d w) m.0 (free_behind_word d w) m.1)
+    let m = more_of (slot_at d w) (value_slots (due_after_word d w) ws) ss e in
+    subst AreFree (sym m.2) (slot_is_free d w h, values_are_free ws (due_after_word d w) m.0 (free_after_word d w) m.1)
 
 pub value_is_free : (ws : List Word) (ss : List Slot) → value_slots (due.Value 0) ws ≡ Some ss → AreFree ss
 value_is_free ws ss e = values_are_free ws (due.Value 0) ss tt e

@@ -13,17 +13,18 @@ use Rattle.listing_slots.specs.Slots.{mark_text, SpellsNumber, SpellsNamed, IsMe
 use Rattle.listing_slots.specs.declared.slot.Mark.TheVariants.{Nothing}
 use Rattle.listing_shapes.specs.declared.due.Due.TheVariants as due
 use Rattle.listing_shapes.specs.Shapes.{Shape, Row, IsKeyed, key_row, given_row, field_slots, flags, value_slots}
-use Rattle.listing_shapes.proofs.ShapeLaws.{both, no_colon}
+use Rattle.listing_shapes.proofs.ShapeLaws.{no_colon}
 use Rattle.listing_lines.specs.Lines.{line_of, static_line, value_of, member_of}
 use Rattle.listing_print.proofs.RowLaws.{past_three}
 use Rattle.listing_lines.specs.declared.form.Form.{Form}
 use Rattle.listing_lines.specs.declared.form.Form.TheVariants.{One, Two}
 use Rattle.listing_labels.specs.Labels.{Label}
-use Rattle.listing_parse.specs.Forms.{Shapes, Spells}
+use Rattle.listing_parse.specs.Forms.{HasShapeInForm, SpellsInForm}
 use Rattle.listing_laws.proofs.FreeSlots.{AreFree, row_is_free, value_is_free, said_here, said_anywhere}
-use Rattle.listing_laws.specs.Values.{keyword, SayGiven, IsReadAsValue, IsReadAsLine}
+use Rattle.listing_laws.specs.Values.{word_of_key, SayGiven, IsReadAsValue, IsReadAsLine}
 use Rattle.listing_laws.proofs.SpelledValues.{spelled_is_read, plain_form}
 use Rattle.listing_laws.proofs.ReadValues.{read_is_spelled, key_is}
+use Rattle.dex_base.proofs.LowPoints.{both}
 
 -- the slots of such a line, whose value has these
 abbrev given_slots : List Slot → List Slot
@@ -91,32 +92,32 @@ row_says ws ds row false (Some ss) m v e r f g l =
     words_say ws ds ss m v (sym e) (subst (λ (q : Row). have_forms q.1 ws ≡ true) k f) (subst (λ (q : Row). SpellsSlots q.1 ws ds) k g) (subst (λ (q : Row). line_of q.0 ds ≡ static_line m (Some v)) k l)
 
 -- the row of such a line
-keyed_row : (ws : List Word) (s : Shape) (k : IsKeyed (keyword key.Static ∷ ws) s) → (Some k.row ≡ key_row key.Static ws) × (k.behind ≡ ws)
+keyed_row : (ws : List Word) (s : Shape) (k : IsKeyed (word_of_key key.Static ∷ ws) s) → (Some k.row ≡ key_row key.Static ws) × (k.after ≡ ws)
 unfolding key_text find_key same
 keyed_row ws s k =
     let w = k.words in
     let text : k.text ≡ key_text key.Static = cc in
-    let behind : k.behind ≡ ws = cc in
+    let after : k.after ≡ ws = cc in
     let found : Some k.keyed.lead ≡ Some key.Static = k.keyed.found ∙ ap (find_key lead_keys) text in
     let lead : k.keyed.lead ≡ key.Static = cc in
-    (k.keyed.has_row ∙ ap (λ q. key_row q k.behind) lead ∙ ap (key_row key.Static) behind, behind)
+    (k.keyed.has_row ∙ ap (λ q. key_row q k.after) lead ∙ ap (key_row key.Static) after, after)
 
-keyed_says : (ws : List Word) (s : Shape) (ds : List Datum) (m : Member) (v : Value) → IsKeyed (keyword key.Static ∷ ws) s → SpellsSlots s.slots s.words ds → line_of s.kind ds ≡ static_line m (Some v) → SayGiven ws m v
+keyed_says : (ws : List Word) (s : Shape) (ds : List Datum) (m : Member) (v : Value) → IsKeyed (word_of_key key.Static ∷ ws) s → SpellsSlots s.slots s.words ds → line_of s.kind ds ≡ static_line m (Some v) → SayGiven ws m v
 unfolding key_row
 keyed_says ws s ds m v k g l =
     let r = keyed_row ws s k in
-    let said : SpellsSlots k.row.1 k.behind ds = subst (λ (t : Shape). SpellsSlots t.slots t.words ds) k.is g in
+    let said : SpellsSlots k.row.1 k.after ds = subst (λ (t : Shape). SpellsSlots t.slots t.words ds) k.is g in
     row_says ws ds k.row (nat_le (length ws) 3) (value_slots (due.Value 0) (drop 4 ws)) m v refl r.0 (subst (λ us. have_forms k.row.1 us ≡ true) r.1 k.keyed.forms) (subst (λ us. SpellsSlots k.row.1 us ds) r.1 said)
     (subst (λ (t : Shape). line_of t.kind ds ≡ static_line m (Some v)) k.is l)
 
 -- no target stands in its slots
-keyed_is_free : (ws : List Word) (s : Shape) → IsKeyed (keyword key.Static ∷ ws) s → AreFree s.slots
+keyed_is_free : (ws : List Word) (s : Shape) → IsKeyed (word_of_key key.Static ∷ ws) s → AreFree s.slots
 unfolding key_row
 keyed_is_free ws s k =
     let r = keyed_row ws s k in
     subst (λ (t : Shape). AreFree t.slots) (sym k.is) (row_is_free k.row (nat_le (length ws) 3) (value_slots (due.Value 0) (drop 4 ws)) (λ ss e. value_is_free (drop 4 ws) ss e) r.0)
 
-pub line_is_spelled : (form : Form) (ls : List Label) (ws : List Word) (m : Member) (v : Value) → IsReadAsLine form ls (keyword key.Static ∷ ws) (static_line m (Some v)) → SayGiven ws m v
+pub line_is_spelled : (form : Form) (ls : List Label) (ws : List Word) (m : Member) (v : Value) → IsReadAsLine form ls (word_of_key key.Static ∷ ws) (static_line m (Some v)) → SayGiven ws m v
 unfolding key_text find_key same
 line_is_spelled One ls ws m v h = elim h.has_shape [
   | inl l ↦ absurd (no_colon (key_text key.Static) l.label key.Static refl (let w = l.words in cc))
@@ -133,29 +134,29 @@ line_is_spelled Two ls ws m v h = elim h.has_shape [
 
 -- ---- what is spelled is read
 
-shaped_in : (form : Form) (ws : List Word) (s : Shape) → IsKeyed ws s → Shapes form ws s
+shaped_in : (form : Form) (ws : List Word) (s : Shape) → IsKeyed ws s → HasShapeInForm form ws s
 shaped_in One ws s k = inr k
 shaped_in Two ws s k = inr k
 
-said_in : (form : Form) (ls : List Label) (ss : List Slot) (ws : List Word) (ds : List Datum) → AreFree ss → SpellsSlots ss ws ds → Spells form ls ss ws ds
+said_in : (form : Form) (ls : List Label) (ss : List Slot) (ws : List Word) (ds : List Datum) → AreFree ss → SpellsSlots ss ws ds → SpellsInForm form ls ss ws ds
 said_in One ls ss ws ds f h = h
 said_in Two ls ss ws ds f h = said_here ls ss ws ds f h
 
 parts_read : (form : Form) (ls : List Label) (a b c : Word) (rest : List Word) (m : Member) (v : Value) → SpellsNamed IsMember a m.name → SpellsNamed IsType b m.ty → SpellsNumber Nothing 4294967295 c m.flags → IsReadAsValue rest v
-    → IsReadAsLine form ls (keyword key.Static ∷ a ∷ b ∷ c ∷ keyword key.Equals ∷ rest) (static_line m (Some v))
+    → IsReadAsLine form ls (word_of_key key.Static ∷ a ∷ b ∷ c ∷ word_of_key key.Equals ∷ rest) (static_line m (Some v))
 unfolding line_of have_forms text_of type_of word_of key_row key_text find_key same
 parts_read form ls a b c rest m v n t f r =
-    let ws = a ∷ b ∷ c ∷ keyword key.Equals ∷ rest in
+    let ws = a ∷ b ∷ c ∷ word_of_key key.Equals ∷ rest in
     let forms : have_forms (given_slots r.slots) ws ≡ true =
     rw (plain_form slot.Member a n.0 n.2 refl, plain_form slot.Desc b t.0 t.2 refl, plain_form flags c (mark_text Nothing ++ f.digits) f.joined refl, r.forms) refl in
-    let row : Some (kind.Given, given_slots r.slots) ≡ key_row key.Static ws = rw (past_three rest a b c (keyword key.Equals), r.has_slots) refl in
+    let row : Some (kind.Given, given_slots r.slots) ≡ key_row key.Static ws = rw (past_three rest a b c (word_of_key key.Equals), r.has_slots) refl in
     let ds = named (OfText m.name) ∷ named (OfDesc m.ty) ∷ word m.flags ∷ said key.Equals ∷ r.says in
     let shape : Shape = record { kind = kind.Given; label = []; slots = given_slots r.slots; words = ws } in
     record {
       shape = shape;
-      has_shape = shaped_in form (keyword key.Static ∷ ws) shape (record {
+      has_shape = shaped_in form (word_of_key key.Static ∷ ws) shape (record {
         text = key_text key.Static;
-        behind = ws;
+        after = ws;
         words = refl;
         row = (kind.Given, given_slots r.slots);
         keyed = record { lead = key.Static; found = refl; has_row = row; forms = forms };
@@ -166,6 +167,6 @@ parts_read form ls a b c rest m v n t f r =
       made = ap (λ u. static_line m (Some u)) r.made;
     }
 
-pub spelled_line_is_read : (form : Form) (ls : List Label) (ws : List Word) (m : Member) (v : Value) → SayGiven ws m v → IsReadAsLine form ls (keyword key.Static ∷ ws) (static_line m (Some v))
+pub spelled_line_is_read : (form : Form) (ls : List Label) (ws : List Word) (m : Member) (v : Value) → SayGiven ws m v → IsReadAsLine form ls (word_of_key key.Static ∷ ws) (static_line m (Some v))
 spelled_line_is_read form ls ws m v h =
-    subst (λ us. IsReadAsLine form ls (keyword key.Static ∷ us) (static_line m (Some v))) (sym h.words) (parts_read form ls h.name h.ty h.flags h.value m v h.is_name h.is_type h.are_flags (spelled_is_read h.value v h.says))
+    subst (λ us. IsReadAsLine form ls (word_of_key key.Static ∷ us) (static_line m (Some v))) (sym h.words) (parts_read form ls h.name h.ty h.flags h.value m v h.is_name h.is_type h.are_flags (spelled_is_read h.value v h.says))

@@ -1,4 +1,4 @@
--- Printed heads of a class, one behind the other.
+-- Printed heads of a class, one after the other.
 use Rattle.std.proofs.Common.{◌≡◌, ℕ, zero, suc, ◌+◌, ◌<◌, ◌⊎◌, inl, inr, Bool, true, false, List, [], ◌∷◌, ◌++◌, length, Option, Some, None, refl, sym, ap, subst, ◌∙◌, append_assoc, arith}
 use Rattle.std.specs.List.{AllByRecursion, flat_map, slice_get}
 use Rattle.std.proofs.lemmas.List.{append-nil, length-append}
@@ -16,8 +16,8 @@ use Rattle.listing_laws.proofs.Runs.{bare, RunsTo, outside, within}
 use Rattle.listing_laws.proofs.Printable.{SuperFits, SourceFits, InterfaceFits, ClassFits}
 use Rattle.listing_laws.proofs.RunLaws.{runs_join}
 use Rattle.listing_laws.proofs.KeyedLaws.{keyed_runs}
-use Rattle.listing_shapes.proofs.ShapeLaws.{same_eq}
 use Rattle.listing_laws.proofs.CodeRuns.{nothing_runs}
+use Rattle.listing_slots.proofs.KeyLaws.{same_true}
 
 -- A class that has its heads so far, and no members.
 abbrev pub headed : Class → Option Descriptor → List Descriptor → Option Units → Open
@@ -48,7 +48,7 @@ any_more d e es false s h = inr (rw s at h)
 among_at : (es : List Descriptor) (d : Descriptor) → is_among es d ≡ true → (j : ℕ) × (j < length es) × (slice_get es j ≡ Some d)
 among_at [] d h = absurd cc
 among_at (e ∷ es) d h = elim (any_more d e es (same d e) refl h) [
-  | inl s ↦ (0, omega arith, ap Some (sym (same_eq d e s)))
+  | inl s ↦ (0, omega arith, ap Some (sym (same_true d e s)))
   | inr s ↦ let y = among_at es d s in (suc y.0, omega (arith, y.1), y.2)
 ]
 
@@ -57,16 +57,16 @@ get_front [] ys j t h = absurd cc
 get_front (x ∷ xs) ys zero t h = h
 get_front (x ∷ xs) ys (suc j) t h = get_front xs ys j t h
 
-get_behind : (xs : List Descriptor) (t : Descriptor) (ys : List Descriptor) → slice_get (xs ++ (t ∷ ys)) (length xs) ≡ Some t
-get_behind [] t ys = refl
-get_behind (x ∷ xs) t ys = get_behind xs t ys
+get_after : (xs : List Descriptor) (t : Descriptor) (ys : List Descriptor) → slice_get (xs ++ (t ∷ ys)) (length xs) ≡ Some t
+get_after [] t ys = refl
+get_after (x ∷ xs) t ys = get_after xs t ys
 
 -- what is distinct was not given before
 not_before : (before : List Descriptor) (d : Descriptor) (rest : List Descriptor) (b : Bool) → is_among before d ≡ b → AreDistinct (before ++ (d ∷ rest)) → is_among before d ≡ false
 not_before before d rest false e h = e
 not_before before d rest true e h =
     let y = among_at before d e in
-    absurd (h (length before) (omega (arith, length-append before (d ∷ rest))) y.0 y.1 (get_front before (d ∷ rest) y.0 d y.2 ∙ sym (get_behind before d rest)))
+    absurd (h (length before) (omega (arith, length-append before (d ∷ rest))) y.0 y.1 (get_front before (d ∷ rest) y.0 d y.2 ∙ sym (get_after before d rest)))
 
 interface_added : (done : List Class) (n : ℕ) (c : Class) (u : Option Descriptor) (before : List Descriptor) (d : Descriptor) → is_among before d ≡ false
     → add (counted (within at_heads done (headed c u before None) None n)) (implements_line d) ≡ Some (within at_heads done (headed c u (before ++ d ∷ []) None) None (n + 1))

@@ -21,7 +21,7 @@ pub record InClass (form : Form) (done : List Class) (s : State) (text : List �
   pub lines : ℕ
   pub runs : RunsTo (bare form) s text (within part done o None lines)
 
--- one text behind the other
+-- one text after the other
 pub in_then : (form : Form) (done : List Class) (s : State) (a t : List ℕ) (o p : Open) (x : InClass form done s a o) → InClass form done (within x.part done o None x.lines) t p → InClass form done s (a ++ t) p
 in_then form done s a t o p x y = record { part = y.part; lines = y.lines; runs = runs_join (bare form) s (within x.part done o None x.lines) (within y.part done p None y.lines) a t x.runs y.runs }
 
@@ -57,7 +57,7 @@ with_last key x ys h = rw (not_held key (key x) ys h, last_in key x ys h) refl
 pub code_skips : (q k : Key) → key_cmp q k ≡ ordering.Less → is_eq (key_cmp k q) ≡ false
 code_skips q k e = ap is_eq (above q k e)
 
--- Members of one list, one behind the other, where each goes last.
+-- Members of one list, one after the other, where each goes last.
 pub each_runs : {X : Type 0} (form : Form) (done : List Class) (text : X → List ℕ) (with : List X → Open) (Fits : X → Type 0) (key : X → Key)
     → ((p : ClassPart) (n : ℕ) (before : List X) (x : X) → Fits x → AllBelow (map key before) (key x) → InClass form done (within p done (with before) None n) (text x) (with (before ++ x ∷ [])))
     → (xs before : List X) (p : ClassPart) (n : ℕ) → AllByRecursion Fits xs → KeysAreSorted (map key (before ++ xs)) → InClass form done (within p done (with before) None n) (flat_map text xs) (with (before ++ xs))

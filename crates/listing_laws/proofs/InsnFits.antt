@@ -12,11 +12,11 @@ use Rattle.program_types.specs.Content as content
 use Rattle.program_types.specs.Content.{Insn, Name, OfText, OfDesc, OfField, OfMethod}
 use Rattle.program_types.specs.Mentions.{names_of_insn}
 use Rattle.program_types.specs.Operands.{IsOfIndexKind, IsOperand}
-use Rattle.listing_slots.specs.Slots.{IsWithin}
+use Rattle.listing_slots.specs.Slots.{IsSignedWithin}
 use Rattle.listing_shapes.specs.Shapes.{name_slot}
 use Rattle.listing_lines.specs.Needs.{insn_needs, most_needed}
 use Rattle.listing_print.specs.Operands.{Operand, insn_operands, name_operand, v4, to, keyword, pair_operands, element_operands}
-use Rattle.listing_print.specs.Reading.{FitOperands, OpcodeFits, NameFits}
+use Rattle.listing_print.specs.Reading.{FitOperands, OpcodeFits, IsNameOfOpcode}
 use Rattle.listing_slots.specs.declared.key.Key.TheVariants as key
 use Rattle.listing_laws.proofs.NameFits.{IsNamed, name_fits}
 
@@ -34,23 +34,23 @@ bits16 a h = (omega arith, omega arith)
 pub target_fits : (count k : ℕ) → count ≤ 2147483647 → k ≤ count → (k ≤ 4294967295) × (k < 2 ^ 64)
 target_fits count k l h = (omega arith, omega arith)
 
-nibble : (z : ℤ) → neg_ℤ (pos 8) ≤ℤ z → z <ℤ pos 8 → IsWithin 7 z
+nibble : (z : ℤ) → neg_ℤ (pos 8) ≤ℤ z → z <ℤ pos 8 → IsSignedWithin 7 z
 nibble (pos n) a b = omega (arith, ints)
 nibble (negsuc n) a b = omega (arith, ints)
 
-pub signed8 : (z : ℤ) → FitsSigned w8 z → IsWithin 127 z
+pub signed8 : (z : ℤ) → FitsSigned w8 z → IsSignedWithin 127 z
 signed8 (pos n) h = omega (arith, ints)
 signed8 (negsuc n) h = omega (arith, ints)
 
-pub signed16 : (z : ℤ) → FitsSigned w16 z → IsWithin 32767 z
+pub signed16 : (z : ℤ) → FitsSigned w16 z → IsSignedWithin 32767 z
 signed16 (pos n) h = omega (arith, ints)
 signed16 (negsuc n) h = omega (arith, ints)
 
-pub signed32 : (z : ℤ) → FitsSigned w32 z → IsWithin 2147483647 z
+pub signed32 : (z : ℤ) → FitsSigned w32 z → IsSignedWithin 2147483647 z
 signed32 (pos n) h = omega (arith, ints)
 signed32 (negsuc n) h = omega (arith, ints)
 
-pub signed64 : (z : ℤ) → FitsSigned w64 z → IsWithin 9223372036854775807 z
+pub signed64 : (z : ℤ) → FitsSigned w64 z → IsSignedWithin 9223372036854775807 z
 signed64 (pos n) h = omega (arith, ints)
 signed64 (negsuc n) h = omega (arith, ints)
 
@@ -75,7 +75,7 @@ kind_fits (Some index.Method) (OfText us) h = absurd h
 kind_fits (Some index.Method) (OfDesc d) h = absurd h
 kind_fits (Some index.Method) (OfField f) h = absurd h
 
-kind_is : (op : ℕ) (which : Name) → IsOfIndexKind (index_kind_of op) which → NameFits op which
+kind_is : (op : ℕ) (which : Name) → IsOfIndexKind (index_kind_of op) which → IsNameOfOpcode op which
 kind_is op which h = kind_fits (index_kind_of op) which h
 
 -- ---- lists of operands

@@ -23,32 +23,29 @@ use Rattle.listing_slots.specs.declared.slot.Mark.TheVariants.{Nothing}
 use Rattle.listing_slots.specs.declared.slot.Slot.TheVariants as slot
 use Rattle.listing_slots.specs.Keys.{key_text, same}
 use Rattle.listing_slots.specs.Data.{said}
-use Rattle.listing_slots.proofs.ShownLaws.{shown_written, number_written}
+use Rattle.listing_slots.proofs.ShownLaws.{shown_written, number_written, digit_range}
 use Rattle.listing_lines.specs.Lines.{insn_line}
 use Rattle.listing_lines.specs.declared.stage.Stage.{Stage}
-use Rattle.listing_lines.specs.declared.stage.Stage.TheVariants.{Start, Top, Heads, Members, Behind, Insns, Tries, Caught}
+use Rattle.listing_lines.specs.declared.stage.Stage.TheVariants.{Start, Top, Heads, Members, After, Insns, Tries, Caught}
 use Rattle.listing_lines.specs.declared.form.Form.{Form}
 use Rattle.listing_lines.specs.declared.form.Form.TheVariants.{One, Two}
 use Rattle.listing_lines.specs.Places.{may_stand, is_insn, is_insns, is_start}
-use Rattle.listing_draft.specs.States.{State, stage_of, count_of, counted, add}
+use Rattle.listing_draft.specs.States.{State, stage_of, insn_count, counted, add}
 use Rattle.listing_labels.specs.Lines.{is_skipped}
 use Rattle.listing_labels.specs.Labels.{Label, is_mark, is_stop}
 use Rattle.listing_parse.specs.declared.aside.Aside.TheVariants as aside
-use Rattle.listing_parse.specs.Text.{Takes, Says, is_second, aside, labels_behind}
+use Rattle.listing_parse.specs.Text.{TakesLine, LineSays, is_second, aside, labels_after}
 use Rattle.listing_print.specs.Operands.{insn_operands, operand_text_in}
 use Rattle.listing_print.specs.Printed.{insn_word, insn_text}
 use Rattle.listing_print.specs.Reading.{slots_of, data_of, words_in, FitOperands, insn_kind, OpcodeFits}
-use Rattle.listing_print.proofs.InsnLaws.{insn_has_shape, insn_has_bare_shape, number_printed, insn_says}
+use Rattle.listing_print.proofs.InsnLaws.{insn_has_shape, insn_has_bare_shape, number_printed, insn_says, all_at}
 use Rattle.listing_laws.proofs.Runs.{RunsTo, frame, at}
-use Rattle.listing_laws.proofs.RunLaws.{IsLine, line_runs, line_is, words_line, behind_spaces}
+use Rattle.listing_laws.proofs.RunLaws.{IsLine, line_runs, line_is, words_line, spaced_words}
 use Rattle.listing_laws.proofs.FormWords.{words_written, text_is_in, TargetsAreMarked, spelled_in}
 use Rattle.listing_laws.proofs.KeyedLaws.{not_aside, no_aside}
+use Rattle.dex_base.proofs.LowPoints.{both}
 
 -- ---- its words are written
-
-both : (a b : Bool) → (a && b) ≡ true → (a ≡ true) × (b ≡ true)
-both true b e = (refl, e)
-both false b e = absurd (cc)
 
 mnemonic_byte : (c : ℕ) → is_mnemonic_byte c ≡ true → (45 ≤ c) × (c < 127)
 mnemonic_byte c e = grind arith
@@ -93,28 +90,28 @@ insn_written (content.Packed first targets) h = shown_written (slot.Key key.Pack
 insn_written (content.Sparse keys targets) h = shown_written (slot.Key key.Sparse) (said key.Sparse) refl
 insn_written (content.Data width bytes) h = shown_written (slot.Key key.Elements) (said key.Elements) refl
 
-behind_colon : (w : List ℕ) → IsWritable (plain_word w) → IsWritable (plain_word (w ++ 58 ∷ []))
-behind_colon [] h = absurd (omega arith)
-behind_colon (c ∷ cs) h = (omega arith, h.1, all_append IsGraphic (c ∷ cs) (58 ∷ []) h.2 ((omega arith, omega arith), tt))
+after_colon : (w : List ℕ) → IsWritable (plain_word w) → IsWritable (plain_word (w ++ 58 ∷ []))
+after_colon [] h = absurd (omega arith)
+after_colon (c ∷ cs) h = (omega arith, h.1, all_append IsGraphic (c ∷ cs) (58 ∷ []) h.2 ((omega arith, omega arith), tt))
 
 -- ---- its line
 
--- the words behind its number, which it has in the first form alone
+-- the words after its number, which it has in the first form alone
 abbrev pub insn_words : Form → ℕ → Insn → List Word
 insn_words One k i = plain_word (decimal k ++ 58 ∷ []) ∷ plain_word (insn_word i) ∷ words_in One (insn_operands i)
 insn_words Two k i = plain_word (insn_word i) ∷ words_in Two (insn_operands i)
 
-plain_is : (form : Form) (i : Insn) → insn_word i ++ (operand_text_in form (insn_operands i) ++ 10 ∷ []) ≡ (insn_word i ++ behind_spaces (words_in form (insn_operands i))) ++ 10 ∷ []
+plain_is : (form : Form) (i : Insn) → insn_word i ++ (operand_text_in form (insn_operands i) ++ 10 ∷ []) ≡ (insn_word i ++ spaced_words (words_in form (insn_operands i))) ++ 10 ∷ []
 plain_is form i =
     let ws = words_in form (insn_operands i) in
-    ap (λ t. insn_word i ++ (t ++ 10 ∷ [])) (text_is_in form (insn_operands i)) ∙ sym (append_assoc (insn_word i) (behind_spaces ws) (10 ∷ []))
+    ap (λ t. insn_word i ++ (t ++ 10 ∷ [])) (text_is_in form (insn_operands i)) ∙ sym (append_assoc (insn_word i) (spaced_words ws) (10 ∷ []))
 
 pub insn_is : (form : Form) (k : ℕ) (i : Insn) → insn_text form k i ≡ line_bytes (insn_words form k i) ++ 10 ∷ []
 insn_is One k i =
     let d = decimal k in
     let w = insn_word i in
     let ws = words_in One (insn_operands i) in
-    let b = 32 ∷ (w ++ behind_spaces ws) in
+    let b = 32 ∷ (w ++ spaced_words ws) in
     ap (λ t. d ++ (58 ∷ 32 ∷ t)) (plain_is One i)
     ∙ sym (append_assoc d (58 ∷ b) (10 ∷ []))
     ∙ ap (λ t. t ++ 10 ∷ []) (sym (append_assoc d (58 ∷ []) b))
@@ -122,11 +119,8 @@ insn_is One k i =
 insn_is Two k i = plain_is Two i ∙ ap (λ t. t ++ 10 ∷ []) (sym (line_is (plain_word (insn_word i)) (words_in Two (insn_operands i))))
 
 insn_words_written : (form : Form) (k : ℕ) (i : Insn) → k < 2 ^ 64 → OpcodeFits i → FitOperands (insn_operands i) → AllByRecursion IsWritable (insn_words form k i)
-insn_words_written One k i h o f = (behind_colon (decimal k) (number_written Nothing k h), (insn_written i o, words_written One (insn_operands i) f))
+insn_words_written One k i h o f = (after_colon (decimal k) (number_written Nothing k h), (insn_written i o, words_written One (insn_operands i) f))
 insn_words_written Two k i h o f = (insn_written i o, words_written Two (insn_operands i) f)
-
-digit_range : (c : ℕ) → digit_value c < 10 → (48 ≤ c) × (c < 58)
-digit_range c h = grind arith
 
 digits_shown : (cs rest : List ℕ) → 0 < length cs → AllDigits 10 cs → is_skipped (cs ++ rest) ≡ false
 digits_shown [] rest s h = absurd (omega arith)
@@ -139,7 +133,7 @@ digits_shown (c ∷ cs) rest s h =
 numbered_shown : (k : ℕ) (i : Insn) → k < 2 ^ 64 → is_skipped (line_bytes (insn_words One k i)) ≡ false
 numbered_shown k i h =
     let d = decimal_is_IsNumeral k h in
-    let b = behind_spaces (plain_word (insn_word i) ∷ words_in One (insn_operands i)) in
+    let b = spaced_words (plain_word (insn_word i) ∷ words_in One (insn_operands i)) in
     ap is_skipped (line_is (plain_word (decimal k ++ 58 ∷ [])) (plain_word (insn_word i) ∷ words_in One (insn_operands i)) ∙ append_assoc (decimal k) (58 ∷ []) b) ∙ digits_shown (decimal k) (58 ∷ b) d.0.0 d.0.1
 
 -- ---- its first word in the second form: no comment, no label, no end of the instructions, and not that of the first line
@@ -162,11 +156,6 @@ mnemonics_other = refl
 empty_other : is_other [] ≡ true
 unfolding same key_text
 empty_other = refl
-
-all_at : (P : List ℕ → Bool) (xs : List (List ℕ)) (i : ℕ) → list_all P xs ≡ true → P [] ≡ true → P (get_or xs i []) ≡ true
-all_at P [] i a e = e
-all_at P (x ∷ xs) zero a e = (both (P x) (list_all P xs) a).0
-all_at P (x ∷ xs) (suc i) a e = all_at P xs i (both (P x) (list_all P xs) a).1 e
 
 mnemonic_other : (op : ℕ) → is_other (mnemonic_of op) ≡ true
 mnemonic_other op = all_at is_other mnemonics op mnemonics_other empty_other
@@ -231,7 +220,7 @@ insn_is_other i o = other_is (insn_word i) (insn_written i o).0 (insn_other i)
 
 pub insn_shown : (form : Form) (k : ℕ) (i : Insn) → k < 2 ^ 64 → OpcodeFits i → is_skipped (line_bytes (insn_words form k i)) ≡ false
 insn_shown One k i h o = numbered_shown k i h
-insn_shown Two k i h o = ap is_skipped (line_is (plain_word (insn_word i)) (words_in Two (insn_operands i))) ∙ (insn_is_other i o).shown (behind_spaces (words_in Two (insn_operands i)))
+insn_shown Two k i h o = ap is_skipped (line_is (plain_word (insn_word i)) (words_in Two (insn_operands i))) ∙ (insn_is_other i o).shown (spaced_words (words_in Two (insn_operands i)))
 
 -- ---- it may stand among instructions
 
@@ -266,7 +255,7 @@ kind_stands s (content.Sparse keys targets) = (refl, refl)
 kind_stands s (content.Data width bytes) = (refl, refl)
 
 -- and gives no labels
-kind_keeps : (i : Insn) (line : ℕ) (ls : List (List ℕ)) (es : List Label) → labels_behind Two (insn_kind i) line ls es ≡ es
+kind_keeps : (i : Insn) (line : ℕ) (ls : List (List ℕ)) (es : List Label) → labels_after Two (insn_kind i) line ls es ≡ es
 kind_keeps (content.I10x op) line ls es = refl
 kind_keeps (content.I12x op a b) line ls es = refl
 kind_keeps (content.I11n op a b) line ls es = refl
@@ -295,7 +284,7 @@ kind_keeps (content.Packed first targets) line ls es = refl
 kind_keeps (content.Sparse keys targets) line ls es = refl
 kind_keeps (content.Data width bytes) line ls es = refl
 
-keeps : (form : Form) (i : Insn) (line : ℕ) (ls : List (List ℕ)) (es : List Label) → labels_behind form (insn_kind i) line ls es ≡ es
+keeps : (form : Form) (i : Insn) (line : ℕ) (ls : List (List ℕ)) (es : List Label) → labels_after form (insn_kind i) line ls es ≡ es
 keeps One i line ls es = refl
 keeps Two i line ls es = kind_keeps i line ls es
 
@@ -305,7 +294,7 @@ not_start Start a = absurd cc
 not_start Top a = absurd cc
 not_start Heads a = absurd cc
 not_start Members a = absurd cc
-not_start Behind a = absurd cc
+not_start After a = absurd cc
 not_start Insns a = refl
 not_start Tries a = absurd cc
 not_start Caught a = absurd cc
@@ -328,11 +317,11 @@ insn_aside Two es s k i o h = let x = insn_is_other i o in no_aside (frame Two e
 -- ---- its shape
 
 insn_says_so : (form : Form) (es : List Label) (s t : State) (k : ℕ) (i : Insn) (ls : List (List ℕ)) → k < 2 ^ 64 → OpcodeFits i → FitOperands (insn_operands i) → TargetsAreMarked form es (insn_operands i) → is_insns (stage_of s.block) ≡ true
-    → count_of s.block ≡ k → add s (insn_line i) ≡ Some t → Says (at (frame form es) s) ls (insn_words form k i) (at (frame form es) t)
+    → insn_count s.block ≡ k → add s (insn_line i) ≡ Some t → LineSays (at (frame form es) s) ls (insn_words form k i) (at (frame form es) t)
 insn_says_so One es s t k i ls h o f g m e a =
     let os = insn_operands i in
     let ks = kind_stands (stage_of s.block) i in
-    let n : is_number (decimal k) (count_of s.block) ≡ true = ap (is_number (decimal k)) e ∙ number_printed k h in
+    let n : is_number (decimal k) (insn_count s.block) ≡ true = ap (is_number (decimal k)) e ∙ number_printed k h in
     record {
       shape = record { kind = insn_kind i; label = decimal k; slots = slots_of os; words = words_in One os };
       has_shape = insn_has_shape k i h o f;
@@ -357,7 +346,7 @@ insn_says_so Two es s t k i ls h o f g m e a =
     }
 
 insn_taken : (form : Form) (es : List Label) (s t : State) (k : ℕ) (i : Insn) → k < 2 ^ 64 → OpcodeFits i → FitOperands (insn_operands i) → TargetsAreMarked form es (insn_operands i) → is_insns (stage_of s.block) ≡ true
-    → count_of s.block ≡ k → add (counted s) (insn_line i) ≡ Some t → (ls : List (List ℕ)) → Takes (at (frame form es) s) ls (line_bytes (insn_words form k i)) (at (frame form es) t)
+    → insn_count s.block ≡ k → add (counted s) (insn_line i) ≡ Some t → (ls : List (List ℕ)) → TakesLine (at (frame form es) s) ls (line_bytes (insn_words form k i)) (at (frame form es) t)
 insn_taken form es s t k i h o f g m e a ls =
     inr (
       insn_shown form k i h o,
@@ -375,7 +364,7 @@ insn_is_line Two k i w = words_line (plain_word (insn_word i)) (words_in Two (in
 pub insn_line_is : (form : Form) (k : ℕ) (i : Insn) → k < 2 ^ 64 → OpcodeFits i → FitOperands (insn_operands i) → IsLine (line_bytes (insn_words form k i))
 insn_line_is form k i h o f = insn_is_line form k i (insn_words_written form k i h o f)
 
-pub insn_runs : (form : Form) (es : List Label) (s t : State) (k : ℕ) (i : Insn) → k < 2 ^ 64 → OpcodeFits i → FitOperands (insn_operands i) → TargetsAreMarked form es (insn_operands i) → is_insns (stage_of s.block) ≡ true → count_of s.block ≡ k
+pub insn_runs : (form : Form) (es : List Label) (s t : State) (k : ℕ) (i : Insn) → k < 2 ^ 64 → OpcodeFits i → FitOperands (insn_operands i) → TargetsAreMarked form es (insn_operands i) → is_insns (stage_of s.block) ≡ true → insn_count s.block ≡ k
     → add (counted s) (insn_line i) ≡ Some t → RunsTo (frame form es) s (insn_text form k i) t
 insn_runs form es s t k i h o f g m e a =
     let r = frame form es in

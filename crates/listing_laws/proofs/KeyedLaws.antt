@@ -21,8 +21,8 @@ use Rattle.listing_lines.specs.declared.form.Form.TheVariants.{One, Two}
 use Rattle.listing_draft.specs.States.{State, stage_of, counted, add}
 use Rattle.listing_labels.specs.Lines.{lines, is_skipped}
 use Rattle.listing_labels.specs.Labels.{Label}
-use Rattle.listing_parse.specs.Forms.{Shapes, may_be}
-use Rattle.listing_parse.specs.Text.{Reading, Takes, Reads, is_second, begins_mark, mark_aside, aside, labels_behind}
+use Rattle.listing_parse.specs.Forms.{HasShapeInForm, may_stand_in_form}
+use Rattle.listing_parse.specs.Text.{Reading, TakesLine, Reads, is_second, begins_mark, mark_aside, aside, labels_after}
 use Rattle.listing_parse.specs.declared.aside.Aside.{Aside}
 use Rattle.listing_parse.specs.declared.aside.Aside.TheVariants.{Nothing}
 use Rattle.listing_print.specs.Operands.{Operand, keyword, value_operands, values_operands}
@@ -31,8 +31,9 @@ use Rattle.listing_print.specs.Reading.{slots_of, data_of, words_of, words_in, F
 use Rattle.listing_print.proofs.PrintedLaws.{value_words}
 use Rattle.listing_print.proofs.RowLaws.{keyed_has_shape, keyed_says_line}
 use Rattle.listing_laws.proofs.Runs.{Frame, bare, at, RunsInto, RunsTo}
-use Rattle.listing_laws.proofs.RunLaws.{IsLine, line_reads, line_runs, line_is, words_line, behind_spaces}
+use Rattle.listing_laws.proofs.RunLaws.{IsLine, line_reads, line_runs, line_is, words_line, spaced_words}
 use Rattle.listing_laws.proofs.FormWords.{words_written, text_is_in, text_is, TargetIsMarked, TargetsAreMarked, first_marked, spelled_in}
+use Rattle.base_bytes.proofs.ListFacts.{all_append}
 
 -- ---- a line that begins with a keyword says something of the program
 
@@ -73,7 +74,7 @@ pub keyed_is : (form : Form) (l : Line) → keyed_text_in form l ≡ line_bytes 
 keyed_is form l =
     let k = key_text (line_key l) in
     let ws = words_in form (line_operands l) in
-    ap (λ t. k ++ (t ++ 10 ∷ [])) (text_is_in form (line_operands l)) ∙ sym (append_assoc k (behind_spaces ws) (10 ∷ [])) ∙ ap (λ t. t ++ 10 ∷ []) (sym (line_is (plain_word k) ws))
+    ap (λ t. k ++ (t ++ 10 ∷ [])) (text_is_in form (line_operands l)) ∙ sym (append_assoc k (spaced_words ws) (10 ∷ [])) ∙ ap (λ t. t ++ 10 ∷ []) (sym (line_is (plain_word k) ws))
 
 pub keyed_is_line : (form : Form) (l : Line) → FitOperands (line_operands l) → IsLine (line_bytes (keyed_words form l))
 keyed_is_line form l f = words_line (plain_word (key_text (line_key l))) (words_in form (line_operands l)) (shown_written (slot.Key (line_key l)) (said (line_key l)) refl) (words_written form (line_operands l) f)
@@ -117,17 +118,17 @@ no_number (try_line f t) = refl
 no_number (catch_line d k) = refl
 no_number (catch_all_line k) = refl
 
-keyed_shape : (form : Form) (l : Line) (k : IsKeyedLine l) → FitOperands (line_operands l) → Shapes form (keyed_words form l) (record { kind = line_kind l; label = []; slots = slots_of (line_operands l); words = words_in form (line_operands l) })
+keyed_shape : (form : Form) (l : Line) (k : IsKeyedLine l) → FitOperands (line_operands l) → HasShapeInForm form (keyed_words form l) (record { kind = line_kind l; label = []; slots = slots_of (line_operands l); words = words_in form (line_operands l) })
 keyed_shape One l k f = inr (keyed_has_shape One l k f)
 keyed_shape Two l k f = inr (keyed_has_shape Two l k f)
 
-may_stand_in : (form : Form) (s : State) (l : Line) (sh : Shape) → sh.kind ≡ line_kind l → may_stand (stage_of s.block) (line_kind l) ≡ true → may_be form s sh ≡ true
+may_stand_in : (form : Form) (s : State) (l : Line) (sh : Shape) → sh.kind ≡ line_kind l → may_stand (stage_of s.block) (line_kind l) ≡ true → may_stand_in_form form s sh ≡ true
 may_stand_in One s l sh e m = rw (e, m, no_number l) refl
 may_stand_in Two s l sh e m = rw (e, m) refl
 
--- It is read; the labels behind it are those that the lines behind it give.
+-- It is read; the labels after it are those that the lines after it give.
 pub keyed_taken : (f : Frame) (s t : State) (l : Line) → IsKeyedLine l → FitOperands (line_operands l) → TargetsAreMarked f.form f.labels (line_operands l) → may_stand (stage_of s.block) (line_kind l) ≡ true → add (counted s) l ≡ Some t
-    → (ls : List (List ℕ)) → Takes (at f s) ls (line_bytes (keyed_words f.form l)) (record { form = f.form; labels = labels_behind f.form (line_kind l) (s.lines + 1 + 1) ls f.labels; base = t })
+    → (ls : List (List ℕ)) → TakesLine (at f s) ls (line_bytes (keyed_words f.form l)) (record { form = f.form; labels = labels_after f.form (line_kind l) (s.lines + 1 + 1) ls f.labels; base = t })
 keyed_taken f s t l k h g m a ls =
     let os = line_operands l in
     let ws = words_in f.form os in
@@ -135,7 +136,7 @@ keyed_taken f s t l k h g m a ls =
     let sh : Shape = record { kind = line_kind l; label = []; slots = slots_of os; words = ws } in
     let p = keyed_plain f.form l k in
     inr (
-      ap is_skipped (line_is (plain_word (key_text (line_key l))) ws) ∙ key_shown l (behind_spaces ws),
+      ap is_skipped (line_is (plain_word (key_text (line_key l))) ws) ∙ key_shown l (spaced_words ws),
       record {
         words = keyed_words f.form l;
         has_words = line_again (keyed_words f.form l) w;
@@ -174,7 +175,7 @@ IsOfTry (catch_line d k) = Unit {0}
 IsOfTry (catch_all_line k) = Unit {0}
 IsOfTry _ = ⊥
 
-class_keeps : (form : Form) (l : Line) (line : ℕ) (ls : List (List ℕ)) (es : List Label) → IsOfClass l → labels_behind form (line_kind l) line ls es ≡ es
+class_keeps : (form : Form) (l : Line) (line : ℕ) (ls : List (List ℕ)) (es : List Label) → IsOfClass l → labels_after form (line_kind l) line ls es ≡ es
 class_keeps One l line ls es h = refl
 class_keeps Two first_line line ls es h = refl
 class_keeps Two (open_class d f) line ls es h = refl
@@ -194,7 +195,7 @@ class_keeps Two (try_line f t) line ls es h = absurd h
 class_keeps Two (catch_line d n) line ls es h = absurd h
 class_keeps Two (catch_all_line n) line ls es h = absurd h
 
-try_keeps : (form : Form) (l : Line) (line : ℕ) (ls : List (List ℕ)) (es : List Label) → IsOfTry l → labels_behind form (line_kind l) line ls es ≡ es
+try_keeps : (form : Form) (l : Line) (line : ℕ) (ls : List (List ℕ)) (es : List Label) → IsOfTry l → labels_after form (line_kind l) line ls es ≡ es
 try_keeps One l line ls es h = refl
 try_keeps Two (try_line f t) line ls es h = refl
 try_keeps Two (catch_line d n) line ls es h = refl
@@ -213,10 +214,6 @@ try_keeps Two (open_code r i o) line ls es h = absurd h
 try_keeps Two end_code line ls es h = absurd h
 try_keeps Two (insn_line i) line ls es h = absurd h
 
-pub all_then : {X : Type 0} (P : X → Type 0) (xs ys : List X) → AllByRecursion P xs → AllByRecursion P ys → AllByRecursion P (xs ++ ys)
-all_then {X} P [] ys h k = k
-all_then {X} P (x ∷ xs) ys h k = (h.0, all_then P xs ys h.1 k)
-
 -- no target stands in a value
 mutual
   value_marked : (es : List Label) (v : Value) → TargetsAreMarked Two es (value_operands v)
@@ -232,13 +229,13 @@ mutual
   value_marked es (content.Named (OfField f)) = (tt, (tt, tt))
   value_marked es (content.Named (OfMethod m)) = (tt, (tt, tt))
   value_marked es (content.Enum f) = (tt, (tt, tt))
-  value_marked es (content.Array vs) = (tt, (tt, all_then (λ (o : Operand). TargetIsMarked Two es o.slot o.says) (values_operands vs) (keyword key.Close ∷ []) (values_marked es vs) (tt, tt)))
+  value_marked es (content.Array vs) = (tt, (tt, all_append (λ (o : Operand). TargetIsMarked Two es o.slot o.says) (values_operands vs) (keyword key.Close ∷ []) (values_marked es vs) (tt, tt)))
   value_marked es content.Null = (tt, tt)
   value_marked es (content.Boolean b) = (tt, tt)
 
   values_marked : (es : List Label) (vs : Values) → TargetsAreMarked Two es (values_operands vs)
   values_marked es no_values = tt
-  values_marked es (more_values v vs) = all_then (λ (o : Operand). TargetIsMarked Two es o.slot o.says) (value_operands v) (values_operands vs) (value_marked es v) (values_marked es vs)
+  values_marked es (more_values v vs) = all_append (λ (o : Operand). TargetIsMarked Two es o.slot o.says) (value_operands v) (values_operands vs) (value_marked es v) (values_marked es vs)
 
 class_marked : (form : Form) (es : List Label) (l : Line) → IsOfClass l → TargetsAreMarked form es (line_operands l)
 class_marked One es l h = first_marked es (line_operands l)
@@ -281,13 +278,13 @@ class_words form (catch_all_line n) h = absurd h
 
 -- the text of such a line is the same in both forms
 pub text_same : (form : Form) (l : Line) → words_in form (line_operands l) ≡ words_of (line_operands l) → keyed_text_in form l ≡ keyed_text l
-text_same form l e = ap (λ t. key_text (line_key l) ++ (t ++ 10 ∷ [])) (text_is_in form (line_operands l) ∙ ap behind_spaces e ∙ sym (text_is (line_operands l)))
+text_same form l e = ap (λ t. key_text (line_key l) ++ (t ++ 10 ∷ [])) (text_is_in form (line_operands l) ∙ ap spaced_words e ∙ sym (text_is (line_operands l)))
 
 keyed_into : (f g : Frame) (s t : State) (l : Line) → IsKeyedLine l → FitOperands (line_operands l) → TargetsAreMarked f.form f.labels (line_operands l) → may_stand (stage_of s.block) (line_kind l) ≡ true → add (counted s) l ≡ Some t
-    → g.form ≡ f.form → ((ls : List (List ℕ)) → labels_behind f.form (line_kind l) (s.lines + 1 + 1) ls f.labels ≡ g.labels) → RunsInto f s (keyed_text_in f.form l) g t
+    → g.form ≡ f.form → ((ls : List (List ℕ)) → labels_after f.form (line_kind l) (s.lines + 1 + 1) ls f.labels ≡ g.labels) → RunsInto f s (keyed_text_in f.form l) g t
 keyed_into f g s t l k h w m a e b =
-    let q : (ls : List (List ℕ)) → Takes (at f s) ls (line_bytes (keyed_words f.form l)) (at g t) = λ ls.
-    subst (λ (r : Reading). Takes (at f s) ls (line_bytes (keyed_words f.form l)) r) (let b2 = b ls in cc) (keyed_taken f s t l k h w m a ls) in
+    let q : (ls : List (List ℕ)) → TakesLine (at f s) ls (line_bytes (keyed_words f.form l)) (at g t) = λ ls.
+    subst (λ (r : Reading). TakesLine (at f s) ls (line_bytes (keyed_words f.form l)) r) (let b2 = b ls in cc) (keyed_taken f s t l k h w m a ls) in
     subst (λ (text : List ℕ). RunsInto f s text g t) (sym (keyed_is f.form l)) (line_runs f g s t (line_bytes (keyed_words f.form l)) (keyed_is_line f.form l h) q)
 
 -- a line of a class
@@ -309,24 +306,24 @@ code_marked : (form : Form) (es : List Label) (r i o : ℕ) → TargetsAreMarked
 code_marked One es r i o = (tt, (tt, (tt, tt)))
 code_marked Two es r i o = (tt, (tt, (tt, tt)))
 
-end_empty : (form : Form) (es : List Label) (line : ℕ) (ls : List (List ℕ)) → (form ≡ One → es ≡ []) → labels_behind form kind.EndCode line ls es ≡ []
+end_empty : (form : Form) (es : List Label) (line : ℕ) (ls : List (List ℕ)) → (form ≡ One → es ≡ []) → labels_after form kind.EndCode line ls es ≡ []
 end_empty One es line ls h = h refl
 end_empty Two es line ls h = refl
 
--- the end of a code, behind which there are no labels
+-- the end of a code, after which there are no labels
 pub end_line_runs : (f : Frame) (s t : State) → (f.form ≡ One → f.labels ≡ []) → may_stand (stage_of s.block) kind.EndCode ≡ true → add (counted s) end_code ≡ Some t → RunsInto f s (keyed_text end_code) (bare f.form) t
 end_line_runs f s t e m a =
     subst (λ (text : List ℕ). RunsInto f s text (bare f.form) t) (text_same f.form end_code refl)
     (keyed_into f (bare f.form) s t end_code tt (refl, tt) (end_marked f.form f.labels) m a refl (λ ls. end_empty f.form f.labels (s.lines + 1 + 1) ls e))
 
--- the first line of a code, behind which stand the labels that the lines behind it give
+-- the first line of a code, after which stand the labels that the lines after it give
 pub code_line_reads : (f : Frame) (s t : State) (r i o : ℕ) (text rest : List ℕ) (u : Reading) → FitOperands (line_operands (open_code r i o)) → may_stand (stage_of s.block) kind.OpenCode ≡ true → add (counted s) (open_code r i o) ≡ Some t
-    → labels_behind f.form kind.OpenCode (s.lines + 1 + 1) (lines (text ++ rest)) [] ≡ f.labels → Reads (at f t) (lines (text ++ rest)) [] u → Reads (at (bare f.form) s) (lines ((keyed_text (open_code r i o) ++ text) ++ rest)) [] u
+    → labels_after f.form kind.OpenCode (s.lines + 1 + 1) (lines (text ++ rest)) [] ≡ f.labels → Reads (at f t) (lines (text ++ rest)) [] u → Reads (at (bare f.form) s) (lines ((keyed_text (open_code r i o) ++ text) ++ rest)) [] u
 code_line_reads f s t r i o text rest u h m a e x =
     let l = open_code r i o in
     let b = bare f.form in
     let k = line_bytes (keyed_words f.form l) in
-    let n : labels_behind f.form kind.OpenCode (s.lines + 1 + 1) (lines (text ++ rest) ++ []) [] ≡ f.labels = ap (λ ls. labels_behind f.form kind.OpenCode (s.lines + 1 + 1) ls []) (append-nil (lines (text ++ rest))) ∙ e in
-    let q : Takes (at b s) (lines (text ++ rest) ++ []) k (at f t) =
-    subst (λ (es : List Label). Takes (at b s) (lines (text ++ rest) ++ []) k (record { form = f.form; labels = es; base = t })) n (keyed_taken b s t l tt h (code_marked f.form [] r i o) m a (lines (text ++ rest) ++ [])) in
+    let n : labels_after f.form kind.OpenCode (s.lines + 1 + 1) (lines (text ++ rest) ++ []) [] ≡ f.labels = ap (λ ls. labels_after f.form kind.OpenCode (s.lines + 1 + 1) ls []) (append-nil (lines (text ++ rest))) ∙ e in
+    let q : TakesLine (at b s) (lines (text ++ rest) ++ []) k (at f t) =
+    subst (λ (es : List Label). TakesLine (at b s) (lines (text ++ rest) ++ []) k (record { form = f.form; labels = es; base = t })) n (keyed_taken b s t l tt h (code_marked f.form [] r i o) m a (lines (text ++ rest) ++ [])) in
     subst (λ (y : List ℕ). Reads (at b s) (lines ((y ++ text) ++ rest)) [] u) (sym (keyed_is f.form l) ∙ text_same f.form l refl) (line_reads (at b s) (at f t) k text rest u (keyed_is_line f.form l h) q x)

@@ -1,4 +1,4 @@
--- Printed methods of a class and their codes, one behind the other.
+-- Printed methods of a class and their codes, one after the other.
 use Rattle.listing_lines.specs.declared.form.Form.{Form}
 use Rattle.std.proofs.Common.{◌≡◌, ℕ, ◌+◌, Bool, true, false, List, [], ◌∷◌, ◌++◌, map, Option, Some, None, refl, ap, subst, ◌∙◌}
 use Rattle.std.specs.List.{AllByRecursion, flat_map}
@@ -11,7 +11,7 @@ use Rattle.program_rules.specs.Rules.{method_key}
 use Rattle.program_types.specs.Content.{Code, Method, Class}
 use Rattle.listing_lines.specs.Lines.{direct_line, virtual_line}
 use Rattle.listing_lines.specs.Places.{may_stand}
-use Rattle.listing_draft.specs.States.{Open, ClassPart, at_members, behind_method, add, inside, with_direct, with_virtual, with_code, with_code_at}
+use Rattle.listing_draft.specs.States.{Open, ClassPart, at_members, after_method, add, inside, with_direct, with_virtual, with_code, with_code_at}
 use Rattle.listing_print.specs.Printed.{keyed_text}
 use Rattle.listing_print.specs.Canon.{body_text, direct_text, virtual_text}
 use Rattle.listing_laws.proofs.Runs.{bare, within, class_goes_on}
@@ -37,21 +37,21 @@ code_last [] m c h = rw (itself (key_cmp (method_key m) (method_key m)) (key_cmp
 code_last (l ∷ ms) m c h = rw (code_skips (method_key l) (method_key m) h.0) (ap (λ t. l ∷ t) (code_last ms m c h.1))
 
 -- Its code follows it: that of a direct or a virtual method.
-abbrev behind : Bool → Method → ClassPart
-behind direct m = behind_method (record { direct = direct; method = method_key m })
+abbrev after : Bool → Method → ClassPart
+after direct m = after_method (record { direct = direct; method = method_key m })
 
 -- Where methods stand in the class, a code goes to the one with its key.
 abbrev pub PutsCode : (List Method → Open) → Bool → Type 0
 PutsCode with direct = (ms : List Method) (k : Key) (c : Code) → with_code_at (with ms) (record { direct = direct; method = k }) c ≡ with (with_code ms k c)
 
 body_runs : (form : Form) (done : List Class) (with : List Method → Open) (direct : Bool) (n : ℕ) (before : List Method) (m : Method) (o : Option Code) → PutsCode with direct → AllBelow (map method_key before) (method_key m) → BodyFits o
-    → InClass form done (within (behind direct m) done (with (before ++ coded m None ∷ [])) None n) ((body_text form) o) (with (before ++ coded m o ∷ []))
-body_runs form done with direct n before m None p h f = record { part = behind direct m; lines = n; runs = nothing_runs (bare form) (within (behind direct m) done (with (before ++ coded m None ∷ [])) None n) }
+    → InClass form done (within (after direct m) done (with (before ++ coded m None ∷ [])) None n) ((body_text form) o) (with (before ++ coded m o ∷ []))
+body_runs form done with direct n before m None p h f = record { part = after direct m; lines = n; runs = nothing_runs (bare form) (within (after direct m) done (with (before ++ coded m None ∷ [])) None n) }
 body_runs form done with direct n before m (Some c) p h f =
     let o = with (before ++ coded m None ∷ []) in
     let y = code_runs form done o (record { direct = direct; method = method_key m }) n c f in
     let e : with_code_at o (record { direct = direct; method = method_key m }) c ≡ with (before ++ coded m (Some c) ∷ []) = p (before ++ coded m None ∷ []) (method_key m) c ∙ ap with (code_last before m c h) in
-    subst (λ (q : Open). InClass form done (within (behind direct m) done o None n) ((body_text form) (Some c)) q) e (record { part = at_members; lines = y.0; runs = y.1 })
+    subst (λ (q : Open). InClass form done (within (after direct m) done o None n) ((body_text form) (Some c)) q) e (record { part = at_members; lines = y.0; runs = y.1 })
 
 -- ---- direct methods
 
@@ -59,7 +59,7 @@ abbrev with_directs : Open → List Method → Open
 with_directs o ms = record o { directs = ms }
 
 direct_goes_last : (p : ClassPart) (done : List Class) (o : Open) (n : ℕ) (m : Method) → AllBelow (map method_key o.directs) (method_key m)
-    → add (within p done o None n) (direct_line m) ≡ Some (within (behind true m) done (record o { directs = o.directs ++ m ∷ [] }) None n)
+    → add (within p done o None n) (direct_line m) ≡ Some (within (after true m) done (record o { directs = o.directs ++ m ∷ [] }) None n)
 unfolding add inside with_direct
 direct_goes_last p done o n m h = rw (with_last method_key m o.directs h) refl
 
@@ -68,8 +68,8 @@ direct_line_runs : (form : Form) (done : List Class) (o : Open) (p : ClassPart) 
 unfolding may_stand
 direct_line_runs form done o p n before m f h =
     let s = within p done (with_directs o before) None n in
-    let t = within (behind true m) done (with_directs o (before ++ coded m None ∷ [])) None (n + 1) in
-    record { part = behind true m; lines = n + 1; runs = keyed_runs form s t (direct_line (coded m None)) tt refl f.0 (class_goes_on p) (direct_goes_last p done (with_directs o before) (n + 1) (coded m None) h) }
+    let t = within (after true m) done (with_directs o (before ++ coded m None ∷ [])) None (n + 1) in
+    record { part = after true m; lines = n + 1; runs = keyed_runs form s t (direct_line (coded m None)) tt refl f.0 (class_goes_on p) (direct_goes_last p done (with_directs o before) (n + 1) (coded m None) h) }
 
 direct_step : (form : Form) (done : List Class) (o : Open) (p : ClassPart) (n : ℕ) (before : List Method) (m : Method) → MethodFits m → AllBelow (map method_key before) (method_key m)
     → InClass form done (within p done (with_directs o before) None n) ((direct_text form) m) (with_directs o (before ++ m ∷ []))
@@ -89,7 +89,7 @@ abbrev with_virtuals : Open → List Method → Open
 with_virtuals o ms = record o { virtuals = ms }
 
 virtual_goes_last : (p : ClassPart) (done : List Class) (o : Open) (n : ℕ) (m : Method) → AllBelow (map method_key o.virtuals) (method_key m)
-    → add (within p done o None n) (virtual_line m) ≡ Some (within (behind false m) done (record o { virtuals = o.virtuals ++ m ∷ [] }) None n)
+    → add (within p done o None n) (virtual_line m) ≡ Some (within (after false m) done (record o { virtuals = o.virtuals ++ m ∷ [] }) None n)
 unfolding add inside with_virtual
 virtual_goes_last p done o n m h = rw (with_last method_key m o.virtuals h) refl
 
@@ -98,8 +98,8 @@ virtual_line_runs : (form : Form) (done : List Class) (o : Open) (p : ClassPart)
 unfolding may_stand
 virtual_line_runs form done o p n before m f h =
     let s = within p done (with_virtuals o before) None n in
-    let t = within (behind false m) done (with_virtuals o (before ++ coded m None ∷ [])) None (n + 1) in
-    record { part = behind false m; lines = n + 1; runs = keyed_runs form s t (virtual_line (coded m None)) tt refl f.0 (class_goes_on p) (virtual_goes_last p done (with_virtuals o before) (n + 1) (coded m None) h) }
+    let t = within (after false m) done (with_virtuals o (before ++ coded m None ∷ [])) None (n + 1) in
+    record { part = after false m; lines = n + 1; runs = keyed_runs form s t (virtual_line (coded m None)) tt refl f.0 (class_goes_on p) (virtual_goes_last p done (with_virtuals o before) (n + 1) (coded m None) h) }
 
 virtual_step : (form : Form) (done : List Class) (o : Open) (p : ClassPart) (n : ℕ) (before : List Method) (m : Method) → MethodFits m → AllBelow (map method_key before) (method_key m)
     → InClass form done (within p done (with_virtuals o before) None n) ((virtual_text form) m) (with_virtuals o (before ++ m ∷ []))

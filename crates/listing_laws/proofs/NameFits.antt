@@ -3,11 +3,11 @@ use Rattle.std.proofs.Common.{ℕ, ◌<◌, ◌^◌, ◌⊎◌, inl, inr, List, 
 use Rattle.std.specs.List.{flat_map, AllByRecursion}
 use Rattle.dex_base.specs.Descriptor.{IsClass, IsArray, IsDescriptor}
 use Rattle.dex_base.proofs.NameUnits.{all_append}
-use Rattle.program_types.specs.Content.{Descriptor, Proto, Name, OfText, OfDesc, OfField, OfMethod}
+use Rattle.program_types.specs.Content.{Descriptor, Proto, Name, OfText, OfDesc, OfField, OfMethod, AreUnits}
 use Rattle.program_rules.specs.Valid.{IsValueType, IsValidProto, IsValidName}
-use Rattle.program_ranges.specs.Ranges.{ProtoInRange, NameInRange}
+use Rattle.program_rules.specs.Ranges.{ProtoInRange, NameInRange}
 use Rattle.listing_words.specs.Written.{proto_units}
-use Rattle.listing_slots.specs.Shown.{AreUnits, IsProto, FitsSlot}
+use Rattle.listing_slots.specs.Shown.{IsProto, FitsSlot}
 use Rattle.listing_print.specs.Operands.{name_operand}
 
 -- The name is one that a file can have, and its units are of 16 bits.

@@ -18,7 +18,7 @@ use Rattle.listing_print.specs.Reading.{FitOperands, OpcodeFits}
 abbrev pub IsBelowAll : Key → List Key → Type 0
 IsBelowAll k ks = AllByRecursion (λ q. key_cmp k q ≡ ordering.Less) ks
 
--- Each key is below those behind it.
+-- Each key is below those after it.
 abbrev pub KeysAreSorted : List Key → Type 0
 KeysAreSorted [] = Unit {0}
 KeysAreSorted (k ∷ ks) = IsBelowAll k ks × KeysAreSorted ks
@@ -41,7 +41,7 @@ abbrev pub CatchAllFits : ℕ → Option ℕ → Type 0
 CatchAllFits c None = Unit {0}
 CatchAllFits c (Some k) = FitOperands (line_operands (catch_all_line k)) × (k + 1 ≤ c)
 
--- A try and its catches; it may end behind the last instruction.
+-- A try and its catches; it may end after the last instruction.
 abbrev pub TryFits : ℕ → Try → Type 0
 TryFits c t = FitOperands (line_operands (try_line t.from t.to)) × (max (t.from + 1) t.to ≤ c) × AllByRecursion (CatchFits c) t.catches × CatchAllFits c t.catch_all
 

@@ -14,15 +14,16 @@ use Rattle.listing_slots.specs.Data.{Datum, said}
 use Rattle.listing_slots.specs.Keys.{key_text, same, find_key, value_keys}
 use Rattle.listing_slots.specs.Slots.{SpellsSlot, has_form}
 use Rattle.listing_shapes.specs.declared.due.Due.TheVariants as due
-use Rattle.listing_shapes.specs.Shapes.{slot_at, due_behind_word, due_after, due_behind, due_behind_close, due_behind_key, key_slot}
-use Rattle.listing_shapes.proofs.ShapeLaws.{same_eq, chosen}
+use Rattle.listing_shapes.specs.Shapes.{slot_at, due_after_word, due_after, due_of_key, due_after_close, due_after_key, key_slot}
+use Rattle.listing_shapes.proofs.ShapeLaws.{chosen}
 use Rattle.listing_lines.specs.Lines.{value_of}
 use Rattle.listing_print.specs.Operands.{value_operands, values_operands}
 use Rattle.listing_print.specs.Operands as print
 use Rattle.listing_print.specs.Reading.{data_of}
 use Rattle.listing_print.proofs.MadeLaws.{data_join, value_made}
-use Rattle.listing_laws.specs.Values.{keyword, SaysValue, SayValues, IsReadAsValue}
+use Rattle.listing_laws.specs.Values.{word_of_key, SaysValue, SayValues, IsReadAsValue}
 use Rattle.listing_laws.proofs.WordRuns.{Runs, run_of}
+use Rattle.listing_slots.proofs.KeyLaws.{same_true}
 
 -- A value stands at the front, in so many arrays.
 record Front (n : ℕ) (ws : List Word) (ds : List Datum) : Type 0 where
@@ -42,7 +43,7 @@ record Closes (n : ℕ) (ws : List Word) (ds : List Datum) : Type 0 where
   pub back : List Word
   pub left : List Datum
   pub is : n ≡ suc outside
-  pub words : ws ≡ keyword key.Close ∷ back
+  pub words : ws ≡ word_of_key key.Close ∷ back
   pub data_are : ds ≡ said key.Close ∷ left
   pub run : Runs (due_after outside) back left
 
@@ -52,7 +53,7 @@ record Inner (n : ℕ) (ws : List Word) (ds : List Datum) : Type 0 where
   pub inner : List Word
   pub back : List Word
   pub left : List Datum
-  pub words : ws ≡ inner ++ (keyword key.Close ∷ back)
+  pub words : ws ≡ inner ++ (word_of_key key.Close ∷ back)
   pub data_are : ds ≡ data_of (values_operands values) ++ (said key.Close ∷ left)
   pub says : SayValues inner values
   pub run : Runs (due_after n) back left
@@ -60,14 +61,14 @@ record Inner (n : ℕ) (ws : List Word) (ds : List Datum) : Type 0 where
 -- ---- words that end nothing
 
 refused_never : (ws : List Word) (ds : List Datum) → Runs due.Refused ws ds → ⊥
-unfolding due_behind_word
+unfolding due_after_word
 refused_never [] [] r = cc
 refused_never [] (x ∷ ds) r = r
 refused_never (w ∷ ws) [] r = r
 refused_never (w ∷ ws) (x ∷ ds) r = refused_never ws ds r.2
 
 nothing_more : (ws : List Word) (ds : List Datum) → Runs due.Nothing ws ds → (ws ≡ []) × (ds ≡ [])
-unfolding due_behind_word
+unfolding due_after_word
 nothing_more [] [] r = (refl, refl)
 nothing_more [] (x ∷ ds) r = absurd r
 nothing_more (w ∷ ws) [] r = absurd r
@@ -80,16 +81,16 @@ among : (P : Key → Type 0) (ks : List Key) (text : List ℕ) (k : Key) → Som
 unfolding find_key
 among P [] text k e all = absurd cc
 among P (j ∷ ks) text k e all = elim (chosen (same (key_text j) text) j (find_key ks text) k e) [
-  | inl f ↦ (subst (λ (i : Key). key_text i ≡ text) (sym f.1) (same_eq (key_text j) text f.0), subst P (sym f.1) all.0)
+  | inl f ↦ (subst (λ (i : Key). key_text i ≡ text) (sym f.1) (same_true (key_text j) text f.0), subst P (sym f.1) all.0)
   | inr f ↦ among P ks text k f.1 all.1
 ]
 
 -- a word of a keyword's form is the keyword
-pub key_is : (k : Key) (w : Word) → has_form (slot.Key k) w ≡ true → w ≡ keyword k
-key_is k (plain_word t) e = ap plain_word (sym (same_eq (key_text k) t e))
+pub key_is : (k : Key) (w : Word) → has_form (slot.Key k) w ≡ true → w ≡ word_of_key k
+key_is k (plain_word t) e = ap plain_word (sym (same_true (key_text k) t e))
 key_is k (text_in_quotes us) e = absurd cc
 
--- The word behind a keyword, and what follows it.
+-- The word after a keyword, and what follows it.
 record Operand (s : Slot) (n : ℕ) (ws : List Word) (ds : List Datum) : Type 0 where
   pub word : Word
   pub says : Datum
@@ -102,31 +103,31 @@ record Operand (s : Slot) (n : ℕ) (ws : List Word) (ds : List Datum) : Type 0 
   pub run : Runs (due_after n) back left
 
 operand_of : (s : Slot) (n : ℕ) (ws : List Word) (ds : List Datum) → Runs (due.Word s n) ws ds → Operand s n ws ds
-unfolding slot_at due_behind_word
+unfolding slot_at due_after_word
 operand_of s n [] [] r = absurd cc
 operand_of s n [] (x ∷ ds) r = absurd r
 operand_of s n (w ∷ ws) [] r = absurd r
 operand_of s n (w ∷ ws) (x ∷ ds) r = record { word = w; says = x; back = ws; left = ds; words = refl; data_are = refl; form = r.0; spelled = r.1; run = r.2 }
 
 -- a keyword and its operand
-before_front : (k : Key) (s : Slot) (n : ℕ) (ws : List Word) (ds : List Datum) (o : Operand s n ws ds) (v : Value) → said k ∷ o.says ∷ [] ≡ data_of (value_operands v) → SaysValue (keyword k ∷ o.word ∷ []) v → Front n (keyword k ∷ ws) (said k ∷ ds)
+before_front : (k : Key) (s : Slot) (n : ℕ) (ws : List Word) (ds : List Datum) (o : Operand s n ws ds) (v : Value) → said k ∷ o.says ∷ [] ≡ data_of (value_operands v) → SaysValue (word_of_key k ∷ o.word ∷ []) v → Front n (word_of_key k ∷ ws) (said k ∷ ds)
 before_front k s n ws ds o v e h = record {
   value = v;
-  front = keyword k ∷ o.word ∷ [];
+  front = word_of_key k ∷ o.word ∷ [];
   back = o.back;
   left = o.left;
   some = omega arith;
-  words = ap (λ us. keyword k ∷ us) o.words;
+  words = ap (λ us. word_of_key k ∷ us) o.words;
   data_are = ap (λ xs. said k ∷ xs) o.data_are ∙ ap (λ xs. xs ++ o.left) e;
   says = h;
   run = o.run;
 }
 
 -- a keyword alone
-alone_front : (k : Key) (n : ℕ) (ws : List Word) (ds : List Datum) (v : Value) → said k ∷ [] ≡ data_of (value_operands v) → SaysValue (keyword k ∷ []) v → Runs (due_after n) ws ds → Front n (keyword k ∷ ws) (said k ∷ ds)
+alone_front : (k : Key) (n : ℕ) (ws : List Word) (ds : List Datum) (v : Value) → said k ∷ [] ≡ data_of (value_operands v) → SaysValue (word_of_key k ∷ []) v → Runs (due_after n) ws ds → Front n (word_of_key k ∷ ws) (said k ∷ ds)
 alone_front k n ws ds v e h r = record {
   value = v;
-  front = keyword k ∷ [];
+  front = word_of_key k ∷ [];
   back = ws;
   left = ds;
   some = omega arith;
@@ -136,9 +137,9 @@ alone_front k n ws ds v e h r = record {
   run = r;
 }
 
--- what stands behind a keyword is a value's
+-- what stands after a keyword is a value's
 abbrev Step : ℕ → List Word → List Datum → Key → Type 0
-Step n ws ds k = Runs (due_behind n k) ws ds → Front n (keyword k ∷ ws) (said k ∷ ds)
+Step n ws ds k = Runs (due_of_key n k) ws ds → Front n (word_of_key k ∷ ws) (said k ∷ ds)
 
 byte_step : (n : ℕ) (ws : List Word) (ds : List Datum) → Step n ws ds key.Byte
 byte_step n ws ds r = let o = operand_of slot.Tiny n ws ds r in let h = o.spelled in before_front key.Byte slot.Tiny n ws ds o (content.Byte h.0) (ap (λ x. said key.Byte ∷ x ∷ []) h.2) (o.word, refl, h.1)
@@ -183,9 +184,9 @@ array_step n ws ds shorter r =
     let run : Runs (due.Value (suc n)) o.back o.left = subst (λ (m : ℕ). Runs (due_after m) o.back o.left) (add-one n) o.run in
     let less : length o.back < length ws = subst (λ (us : List Word). length o.back < length us) (sym o.words) (omega arith) in
     let i = shorter o.back o.left less run in
-    let close = keyword key.Close ∷ [] in
-    let words : ws ≡ keyword key.Open ∷ ((i.inner ++ close) ++ i.back) =
-    o.words ∙ ap (λ w. w ∷ o.back) (key_is key.Open o.word o.form) ∙ ap (λ us. keyword key.Open ∷ us) (i.words ∙ sym (append_assoc i.inner close i.back)) in
+    let close = word_of_key key.Close ∷ [] in
+    let words : ws ≡ word_of_key key.Open ∷ ((i.inner ++ close) ++ i.back) =
+    o.words ∙ ap (λ w. w ∷ o.back) (key_is key.Open o.word o.form) ∙ ap (λ us. word_of_key key.Open ∷ us) (i.words ∙ sym (append_assoc i.inner close i.back)) in
     let others = data_of (values_operands i.values) in
     let joined : others ++ (said key.Close ∷ i.left) ≡ data_of (values_operands i.values ++ (print.keyword key.Close ∷ [])) ++ i.left =
     sym (append_assoc others (said key.Close ∷ []) i.left) ∙ ap (λ xs. xs ++ i.left) (sym (data_join (values_operands i.values) (print.keyword key.Close ∷ []))) in
@@ -193,11 +194,11 @@ array_step n ws ds shorter r =
     o.data_are ∙ ap (λ x. x ∷ o.left) o.spelled ∙ ap (λ xs. said key.Open ∷ xs) (i.data_are ∙ joined) in
     record {
       value = content.Array i.values;
-      front = keyword key.Array ∷ keyword key.Open ∷ (i.inner ++ close);
+      front = word_of_key key.Array ∷ word_of_key key.Open ∷ (i.inner ++ close);
       back = i.back;
       left = i.left;
       some = omega arith;
-      words = ap (λ us. keyword key.Array ∷ us) words;
+      words = ap (λ us. word_of_key key.Array ∷ us) words;
       data_are = ap (λ xs. said key.Array ∷ xs) says;
       says = (i.inner, refl, i.says);
       run = i.run;
@@ -205,20 +206,20 @@ array_step n ws ds shorter r =
 
 -- ---- values
 
-close_front : (n : ℕ) (ws : List Word) (ds : List Datum) → Runs (due_behind_close n) ws ds → Closes n (keyword key.Close ∷ ws) (said key.Close ∷ ds)
+close_front : (n : ℕ) (ws : List Word) (ds : List Datum) → Runs (due_after_close n) ws ds → Closes n (word_of_key key.Close ∷ ws) (said key.Close ∷ ds)
 close_front zero ws ds r = absurd (refused_never ws ds r)
 close_front (suc n) ws ds r = record { outside = n; back = ws; left = ds; is = refl; words = refl; data_are = refl; run = r }
 
 -- by the word at the front
 plain_front : (n : ℕ) (text : List ℕ) (x : Datum) (ws : List Word) (ds : List Datum) (all : AllByRecursion (Step n ws ds) value_keys) (b : Bool) (o : Option Key) → same (key_text key.Close) text ≡ b → o ≡ find_key value_keys text
-    → SpellsSlot (if b then slot.Key key.Close else key_slot o) (plain_word text) x → Runs (if b then due_behind_close n else due_behind_key n o) ws ds → Front n (plain_word text ∷ ws) (x ∷ ds) ⊎ Closes n (plain_word text ∷ ws) (x ∷ ds)
+    → SpellsSlot (if b then slot.Key key.Close else key_slot o) (plain_word text) x → Runs (if b then due_after_close n else due_after_key n o) ws ds → Front n (plain_word text ∷ ws) (x ∷ ds) ⊎ Closes n (plain_word text ∷ ws) (x ∷ ds)
 plain_front n text x ws ds all true o e f h r =
     let c = close_front n ws ds r in
-    inr (subst (λ (t : List ℕ). Closes n (plain_word t ∷ ws) (x ∷ ds)) (same_eq (key_text key.Close) text e) (subst (λ (y : Datum). Closes n (keyword key.Close ∷ ws) (y ∷ ds)) (sym h) c))
+    inr (subst (λ (t : List ℕ). Closes n (plain_word t ∷ ws) (x ∷ ds)) (same_true (key_text key.Close) text e) (subst (λ (y : Datum). Closes n (word_of_key key.Close ∷ ws) (y ∷ ds)) (sym h) c))
 plain_front n text x ws ds all false None e f h r = absurd (refused_never ws ds r)
 plain_front n text x ws ds all false (Some k) e f h r =
     let step = among (Step n ws ds) value_keys text k f all in
-    inl (subst (λ (t : List ℕ). Front n (plain_word t ∷ ws) (x ∷ ds)) step.0 (subst (λ (y : Datum). Front n (keyword k ∷ ws) (y ∷ ds)) (sym h) (step.1 r)))
+    inl (subst (λ (t : List ℕ). Front n (plain_word t ∷ ws) (x ∷ ds)) step.0 (subst (λ (y : Datum). Front n (word_of_key k ∷ ws) (y ∷ ds)) (sym h) (step.1 r)))
 
 -- a value more in front of others
 more_inner : (n : ℕ) (ws : List Word) (ds : List Datum) (f : Front (suc n) ws ds) → Inner n f.back f.left → Inner n ws ds
@@ -231,7 +232,7 @@ more_inner n ws ds f i =
       inner = f.front ++ i.inner;
       back = i.back;
       left = i.left;
-      words = f.words ∙ ap (λ us. f.front ++ us) i.words ∙ sym (append_assoc f.front i.inner (keyword key.Close ∷ i.back));
+      words = f.words ∙ ap (λ us. f.front ++ us) i.words ∙ sym (append_assoc f.front i.inner (word_of_key key.Close ∷ i.back));
       data_are = f.data_are ∙ ap (λ xs. first ++ xs) i.data_are ∙ sym (append_assoc first others rest) ∙ ap (λ xs. xs ++ rest) (sym (data_join (value_operands f.value) (values_operands i.values)));
       says = (f.front, i.inner, refl, f.says, i.says);
       run = i.run;
@@ -257,7 +258,7 @@ shorter_back n fuel ws ds f l =
     omega (arith, e, some, l)
 
 mutual
-  unfolding slot_at due_behind_word
+  unfolding slot_at due_after_word
 
   front : (fuel n : ℕ) (ws : List Word) (ds : List Datum) → length ws ≤ fuel → Runs (due.Value n) ws ds → Front n ws ds ⊎ Closes n ws ds
   front fuel n [] [] l r = absurd cc

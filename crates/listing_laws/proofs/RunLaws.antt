@@ -1,4 +1,4 @@
--- Whole lines one behind the other.
+-- Whole lines one after the other.
 use Rattle.std.proofs.Common.{◌≡◌, ◌≢◌, ℕ, ◌/◌, ◌%◌, inl, inr, List, [], ◌∷◌, ◌++◌, None, refl, sym, ap, subst, ◌∙◌, append_assoc, arith}
 use Rattle.std.proofs.lemmas.Bool.{ne_eqb, cases_eq, cases_lt, lt-ltb, le-ltb}
 use Rattle.std.proofs.lemmas.List.{append-nil}
@@ -10,7 +10,7 @@ use Rattle.listing_words.specs.Words.{Word, plain_word, text_in_quotes, IsGraphi
 use Rattle.dex_base.proofs.NameUnits.{all_append}
 use Rattle.listing_draft.specs.States.{at_top, State, start}
 use Rattle.listing_labels.specs.Lines.{lines}
-use Rattle.listing_parse.specs.Text.{Reading, Takes, Reads, IsListing}
+use Rattle.listing_parse.specs.Text.{Reading, TakesLine, Reads, IsListing}
 use Rattle.listing_lines.specs.declared.form.Form.TheVariants.{One}
 use Rattle.listing_laws.proofs.Runs.{Frame, bare, at, RunsInto, RunsTo}
 
@@ -43,14 +43,14 @@ unfolding lines
 line_first [] rest h = refl
 line_first (c ∷ cs) rest h = rw (ne_eqb c 10 h.0, line_first cs rest h.1) refl
 
--- a line and its feed, and the text behind it
+-- a line and its feed, and the text after it
 pub line_is_first : (l text rest : List ℕ) → IsLine l → lines (((l ++ 10 ∷ []) ++ text) ++ rest) ≡ l ∷ lines (text ++ rest)
 line_is_first l text rest h = ap lines (append_assoc (l ++ 10 ∷ []) text rest ∙ append_assoc l (10 ∷ []) (text ++ rest)) ∙ line_first l (text ++ rest) h
 
-pub line_reads : (s t : Reading) (l text rest : List ℕ) (u : Reading) → IsLine l → Takes s (lines (text ++ rest) ++ []) l t → Reads t (lines (text ++ rest)) [] u → Reads s (lines (((l ++ 10 ∷ []) ++ text) ++ rest)) [] u
+pub line_reads : (s t : Reading) (l text rest : List ℕ) (u : Reading) → IsLine l → TakesLine s (lines (text ++ rest) ++ []) l t → Reads t (lines (text ++ rest)) [] u → Reads s (lines (((l ++ 10 ∷ []) ++ text) ++ rest)) [] u
 line_reads s t l text rest u h k r = subst (λ (ls : List (List ℕ)). Reads s ls [] u) (sym (line_is_first l text rest h)) (t, k, r)
 
-pub line_runs : (f g : Frame) (s t : State) (l : List ℕ) → IsLine l → ((ls : List (List ℕ)) → Takes (at f s) ls l (at g t)) → RunsInto f s (l ++ 10 ∷ []) g t
+pub line_runs : (f g : Frame) (s t : State) (l : List ℕ) → IsLine l → ((ls : List (List ℕ)) → TakesLine (at f s) ls l (at g t)) → RunsInto f s (l ++ 10 ∷ []) g t
 line_runs f g s t l h k rest u r =
     let e : lines ((l ++ 10 ∷ []) ++ rest) ≡ l ∷ lines rest = ap lines (append_assoc l (10 ∷ []) rest) ∙ line_first l rest h in
     subst (λ (ls : List (List ℕ)). Reads (at f s) ls [] u) (sym e) (at g t, k (lines rest ++ []), r)
@@ -93,17 +93,17 @@ pub word_line : (w : Word) → IsWritable w → IsLine (word_bytes w)
 word_line (plain_word w) h = graphic_line w h.2
 word_line (text_in_quotes us) h = ((λ e. omega arith), all_append (λ c. c ≢ 10) (flat_map unit_text us) (34 ∷ []) (units_line us) ((λ e. omega arith), tt))
 
--- each word but the first behind a space
-abbrev pub behind_spaces : List Word → List ℕ
-behind_spaces ws = flat_map (λ v. 32 ∷ word_bytes v) ws
+-- each word but the first after a space
+abbrev pub spaced_words : List Word → List ℕ
+spaced_words ws = flat_map (λ v. 32 ∷ word_bytes v) ws
 
-pub line_is : (w : Word) (ws : List Word) → line_bytes (w ∷ ws) ≡ word_bytes w ++ behind_spaces ws
+pub line_is : (w : Word) (ws : List Word) → line_bytes (w ∷ ws) ≡ word_bytes w ++ spaced_words ws
 line_is w [] = sym (append-nil (word_bytes w))
 line_is w (v ∷ ws) = ap (λ t. word_bytes w ++ (32 ∷ t)) (line_is v ws)
 
-spaces_line : (ws : List Word) → AllByRecursion IsWritable ws → IsLine (behind_spaces ws)
+spaces_line : (ws : List Word) → AllByRecursion IsWritable ws → IsLine (spaced_words ws)
 spaces_line [] h = tt
-spaces_line (w ∷ ws) h = ((λ e. omega arith), all_append (λ c. c ≢ 10) (word_bytes w) (behind_spaces ws) (word_line w h.0) (spaces_line ws h.1))
+spaces_line (w ∷ ws) h = ((λ e. omega arith), all_append (λ c. c ≢ 10) (word_bytes w) (spaced_words ws) (word_line w h.0) (spaces_line ws h.1))
 
 pub words_line : (w : Word) (ws : List Word) → IsWritable w → AllByRecursion IsWritable ws → IsLine (line_bytes (w ∷ ws))
-words_line w ws h k = rw (line_is w ws) (all_append (λ c. c ≢ 10) (word_bytes w) (behind_spaces ws) (word_line w h) (spaces_line ws k))
+words_line w ws h k = rw (line_is w ws) (all_append (λ c. c ≢ 10) (word_bytes w) (spaced_words ws) (word_line w h) (spaces_line ws k))

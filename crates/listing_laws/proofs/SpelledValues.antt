@@ -14,48 +14,48 @@ use Rattle.listing_slots.specs.Keys.{key_text, same, find_key}
 use Rattle.listing_slots.specs.Slots.{SpellsSlot, has_form}
 use Rattle.listing_slots.proofs.ShownLaws.{same_refl}
 use Rattle.listing_shapes.specs.declared.due.Due.TheVariants as due
-use Rattle.listing_shapes.specs.Shapes.{slot_at, due_behind_word, due_after}
+use Rattle.listing_shapes.specs.Shapes.{slot_at, due_after_word, due_after}
 use Rattle.listing_print.specs.Operands.{value_operands, values_operands}
 use Rattle.listing_print.specs.Operands as print
 use Rattle.listing_print.specs.Reading.{data_of}
 use Rattle.listing_print.proofs.MadeLaws.{data_join, value_made}
-use Rattle.listing_laws.specs.Values.{keyword, SaysValue, SayValues, IsReadAsValue}
+use Rattle.listing_laws.specs.Values.{word_of_key, SaysValue, SayValues, IsReadAsValue}
 use Rattle.listing_laws.proofs.WordRuns.{Runs, slots_of_run, carried}
 
 -- ---- keywords
 
 operand_run : (s : Slot) (n : ℕ) (w : Word) (x : Datum) (rest : List Word) (ds : List Datum) → has_form s w ≡ true → SpellsSlot s w x → Runs (due_after n) rest ds → Runs (due.Word s n) (w ∷ rest) (x ∷ ds)
-unfolding slot_at due_behind_word
+unfolding slot_at due_after_word
 operand_run s n w x rest ds f g r = (f, g, r)
 
 -- a keyword, and its operand
-before_run : (k : Key) (s : Slot) (n : ℕ) (w : Word) (x : Datum) (ws rest : List Word) (ds : List Datum) → slot_at (due.Value n) (keyword k) ≡ slot.Key k → due_behind_word (due.Value n) (keyword k) ≡ due.Word s n
-    → ws ≡ keyword k ∷ w ∷ [] → has_form s w ≡ true → SpellsSlot s w x → Runs (due_after n) rest ds → Runs (due.Value n) (ws ++ rest) (said k ∷ x ∷ ds)
+before_run : (k : Key) (s : Slot) (n : ℕ) (w : Word) (x : Datum) (ws rest : List Word) (ds : List Datum) → slot_at (due.Value n) (word_of_key k) ≡ slot.Key k → due_after_word (due.Value n) (word_of_key k) ≡ due.Word s n
+    → ws ≡ word_of_key k ∷ w ∷ [] → has_form s w ≡ true → SpellsSlot s w x → Runs (due_after n) rest ds → Runs (due.Value n) (ws ++ rest) (said k ∷ x ∷ ds)
 before_run k s n w x ws rest ds a b e f g r =
-    carried (due.Value n) {us = keyword k ∷ w ∷ rest} {xs = said k ∷ x ∷ ds} (ap (λ vs. vs ++ rest) (sym e)) refl (
+    carried (due.Value n) {us = word_of_key k ∷ w ∷ rest} {xs = said k ∷ x ∷ ds} (ap (λ vs. vs ++ rest) (sym e)) refl (
       rw a (same_refl (key_text k)),
-      subst (λ (t : Slot). SpellsSlot t (keyword k) (said k)) (sym a) refl,
+      subst (λ (t : Slot). SpellsSlot t (word_of_key k) (said k)) (sym a) refl,
       rw b (operand_run s n w x rest ds f g r),
     )
 
 -- a keyword alone
-alone_run : (k : Key) (n : ℕ) (ws rest : List Word) (ds : List Datum) → slot_at (due.Value n) (keyword k) ≡ slot.Key k → due_behind_word (due.Value n) (keyword k) ≡ due_after n
-    → ws ≡ keyword k ∷ [] → Runs (due_after n) rest ds → Runs (due.Value n) (ws ++ rest) (said k ∷ ds)
+alone_run : (k : Key) (n : ℕ) (ws rest : List Word) (ds : List Datum) → slot_at (due.Value n) (word_of_key k) ≡ slot.Key k → due_after_word (due.Value n) (word_of_key k) ≡ due_after n
+    → ws ≡ word_of_key k ∷ [] → Runs (due_after n) rest ds → Runs (due.Value n) (ws ++ rest) (said k ∷ ds)
 alone_run k n ws rest ds a b e r =
-    carried (due.Value n) {us = keyword k ∷ rest} {xs = said k ∷ ds} (ap (λ vs. vs ++ rest) (sym e)) refl (
+    carried (due.Value n) {us = word_of_key k ∷ rest} {xs = said k ∷ ds} (ap (λ vs. vs ++ rest) (sym e)) refl (
       rw a (same_refl (key_text k)),
-      subst (λ (t : Slot). SpellsSlot t (keyword k) (said k)) (sym a) refl,
+      subst (λ (t : Slot). SpellsSlot t (word_of_key k) (said k)) (sym a) refl,
       rw b r,
     )
 
 -- `array {`
-open_run : (n : ℕ) (rest : List Word) (ds : List Datum) → Runs (due.Value (suc n)) rest ds → Runs (due.Value n) (keyword key.Array ∷ keyword key.Open ∷ rest) (said key.Array ∷ said key.Open ∷ ds)
-unfolding slot_at due_behind_word key_text find_key same
+open_run : (n : ℕ) (rest : List Word) (ds : List Datum) → Runs (due.Value (suc n)) rest ds → Runs (due.Value n) (word_of_key key.Array ∷ word_of_key key.Open ∷ rest) (said key.Array ∷ said key.Open ∷ ds)
+unfolding slot_at due_after_word key_text find_key same
 open_run n rest ds r = (refl, refl, (refl, refl, rw (add-one n) r))
 
 -- `}`
-close_run : (n : ℕ) (rest : List Word) (ds : List Datum) → Runs (due_after n) rest ds → Runs (due.Value (suc n)) (keyword key.Close ∷ rest) (said key.Close ∷ ds)
-unfolding slot_at due_behind_word key_text find_key same
+close_run : (n : ℕ) (rest : List Word) (ds : List Datum) → Runs (due_after n) rest ds → Runs (due.Value (suc n)) (word_of_key key.Close ∷ rest) (said key.Close ∷ ds)
+unfolding slot_at due_after_word key_text find_key same
 close_run n rest ds r = (refl, refl, r)
 
 -- a word without quotes has the form of the slot
@@ -65,7 +65,7 @@ plain_form s w t e f = subst (λ (v : Word). has_form s v ≡ true) (sym e) f
 -- ---- values
 
 mutual
-  unfolding slot_at due_behind_word key_text find_key same
+  unfolding slot_at due_after_word key_text find_key same
 
   value_run : (v : Value) (ws : List Word) → SaysValue ws v → (n : ℕ) (rest : List Word) (ds : List Datum) → Runs (due_after n) rest ds → Runs (due.Value n) (ws ++ rest) (data_of (value_operands v) ++ ds)
   value_run (content.Byte z) ws h n rest ds r = before_run key.Byte slot.Tiny n h.0 (tiny z) ws rest ds refl refl h.1 (plain_form slot.Tiny h.0 h.2.digits h.2.joined refl) (z, h.2, refl) r
@@ -82,9 +82,9 @@ mutual
   value_run (content.Enum f) ws h n rest ds r = let s = h.2 in before_run key.Enum slot.Enum n h.0 (constant f) ws rest ds refl refl h.1 (plain_form slot.Enum h.0 s.0 s.2 refl) (f, s, refl) r
   value_run (content.Array vs) ws h n rest ds r =
       let inner = h.0 in
-      let close = keyword key.Close in
-      let words : keyword key.Array ∷ keyword key.Open ∷ (inner ++ (close ∷ rest)) ≡ ws ++ rest =
-      ap (λ us. keyword key.Array ∷ keyword key.Open ∷ us) (sym (append_assoc inner (close ∷ []) rest)) ∙ ap (λ us. us ++ rest) (sym h.1) in
+      let close = word_of_key key.Close in
+      let words : word_of_key key.Array ∷ word_of_key key.Open ∷ (inner ++ (close ∷ rest)) ≡ ws ++ rest =
+      ap (λ us. word_of_key key.Array ∷ word_of_key key.Open ∷ us) (sym (append_assoc inner (close ∷ []) rest)) ∙ ap (λ us. us ++ rest) (sym h.1) in
       let data_are : said key.Array ∷ said key.Open ∷ (data_of (values_operands vs) ++ (said key.Close ∷ ds)) ≡ data_of (value_operands (content.Array vs)) ++ ds =
       ap (λ xs. said key.Array ∷ said key.Open ∷ xs) (sym (append_assoc (data_of (values_operands vs)) (said key.Close ∷ []) ds) ∙ ap (λ xs. xs ++ ds) (sym (data_join (values_operands vs) (print.keyword key.Close ∷ [])))) in
       carried (due.Value n) words data_are (open_run n _ _ (values_run vs inner h.2 n (close ∷ rest) (said key.Close ∷ ds) (close_run n rest ds r)))

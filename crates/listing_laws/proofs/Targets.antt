@@ -5,6 +5,7 @@ use Rattle.std.proofs.Math.Nat.{min-eq_left, le-max_left, le-max_right}
 use Rattle.std.proofs.lemmas.Bool.{eq-eqb}
 use Rattle.std.proofs.lemmas.List.Folds.{list_any-append}
 use Rattle.program_types.specs.Content as content
+use Rattle.program_types.specs.Formed.{insn_leads}
 use Rattle.program_types.specs.Content.{Insn, Name, OfText, OfDesc, OfField, OfMethod, Catch, Try, Code}
 use Rattle.listing_slots.specs.declared.key.Key.TheVariants as key
 use Rattle.listing_slots.specs.Data.{word}
@@ -14,11 +15,11 @@ use Rattle.listing_lines.specs.declared.form.Form.{Form}
 use Rattle.listing_lines.specs.declared.form.Form.TheVariants.{One, Two}
 use Rattle.listing_labels.specs.Labels.{Label, lookup, marked_by}
 use Rattle.listing_print.specs.Operands.{Operand, keyword, v4, to, name_operand, label_name, pair_operands, element_operands, insn_operands}
-use Rattle.listing_print.specs.Canon.{insn_numbers, try_numbers, code_numbers, is_named}
+use Rattle.listing_print.specs.Canon.{try_numbers, code_numbers, is_named}
 use Rattle.listing_print.specs.Reading.{FitOperands}
 use Rattle.listing_laws.proofs.FormWords.{TargetIsMarked, TargetsAreMarked, first_marked}
-use Rattle.listing_laws.proofs.KeyedLaws.{all_then}
 use Rattle.listing_laws.proofs.Ahead.{labels_from, none_before, found_each}
+use Rattle.base_bytes.proofs.ListFacts.{or_right_2, or_left, all_append}
 
 -- Each named number up to the count is marked by its label.
 abbrev pub MarkAll : Form → List ℕ → List Label → ℕ → Type 0
@@ -69,7 +70,7 @@ elements_marked : (es : List Label) (bs : List ℕ) → TargetsAreMarked Two es 
 elements_marked es [] = tt
 elements_marked es (b ∷ bs) = (tt, tt)
 
-marked_in : (ns : List ℕ) (es : List Label) (c : ℕ) (i : Insn) → MarkAll Two ns es c → FitOperands (insn_operands i) → insn_needs i ≤ c → AreNamed ns (insn_numbers i) → TargetsAreMarked Two es (insn_operands i)
+marked_in : (ns : List ℕ) (es : List Label) (c : ℕ) (i : Insn) → MarkAll Two ns es c → FitOperands (insn_operands i) → insn_needs i ≤ c → AreNamed ns (insn_leads i) → TargetsAreMarked Two es (insn_operands i)
 marked_in ns es c (content.I10x op) m f h y = tt
 marked_in ns es c (content.I12x op a b) m f h y = (tt, (tt, tt))
 marked_in ns es c (content.I11n op a b) m f h y = (tt, (tt, tt))
@@ -92,30 +93,23 @@ marked_in ns es c (content.I22c op a b which) m f h y = (tt, (tt, name_marked es
 marked_in ns es c (content.I32x op a b) m f h y = (tt, (tt, tt))
 marked_in ns es c (content.I31i op a b) m f h y = (tt, (tt, tt))
 marked_in ns es c (content.I51l op a b) m f h y = (tt, (tt, tt))
-marked_in ns es c (content.I35c op n regs which) m f h y = (tt, all_then (λ (o : Operand). TargetIsMarked Two es o.slot o.says) (map v4 (take n regs)) (keyword key.Close ∷ name_operand which ∷ []) (regs_marked es (take n regs)) (tt, name_marked es which))
+marked_in ns es c (content.I35c op n regs which) m f h y = (tt, all_append (λ (o : Operand). TargetIsMarked Two es o.slot o.says) (map v4 (take n regs)) (keyword key.Close ∷ name_operand which ∷ []) (regs_marked es (take n regs)) (tt, name_marked es which))
 marked_in ns es c (content.I3rc op n first which) m f h y = (tt, (tt, name_marked es which))
 marked_in ns es c (content.Packed first targets) m f h y = (tt, targets_marked ns es c targets m f.1 h y)
 marked_in ns es c (content.Sparse keys targets) m f h y = pairs_marked ns es c keys targets m f h y
 marked_in ns es c (content.Data width bytes) m f h y = (tt, elements_marked es bytes)
 
-pub insn_marked : (form : Form) (ns : List ℕ) (es : List Label) (c : ℕ) (i : Insn) → MarkAll form ns es c → FitOperands (insn_operands i) → insn_needs i ≤ c → AreNamed ns (insn_numbers i) → TargetsAreMarked form es (insn_operands i)
+pub insn_marked : (form : Form) (ns : List ℕ) (es : List Label) (c : ℕ) (i : Insn) → MarkAll form ns es c → FitOperands (insn_operands i) → insn_needs i ≤ c → AreNamed ns (insn_leads i) → TargetsAreMarked form es (insn_operands i)
 insn_marked One ns es c i m f h y = first_marked es (insn_operands i)
 insn_marked Two ns es c i m f h y = marked_in ns es c i m f h y
 
 -- ---- what a code names is named
 
-or_left : (a b : Bool) → a ≡ true → (a || b) ≡ true
-or_left a b e = rw e refl
-
-or_right : (a b : Bool) → b ≡ true → (a || b) ≡ true
-or_right true b e = refl
-or_right false b e = e
-
 named_left : (xs ys : List ℕ) (j : ℕ) → is_named xs j ≡ true → is_named (xs ++ ys) j ≡ true
 named_left xs ys j e = list_any-append (λ n. n == j) xs ys ∙ or_left (is_named xs j) (is_named ys j) e
 
 named_right : (xs ys : List ℕ) (j : ℕ) → is_named ys j ≡ true → is_named (xs ++ ys) j ≡ true
-named_right xs ys j e = list_any-append (λ n. n == j) xs ys ∙ or_right (is_named xs j) (is_named ys j) e
+named_right xs ys j e = list_any-append (λ n. n == j) xs ys ∙ or_right_2 (is_named xs j) (is_named ys j) e
 
 -- All that these numbers name, those name.
 abbrev pub AreAmong : List ℕ → List ℕ → Type 0
@@ -123,15 +117,15 @@ AreAmong xs ns = (j : ℕ) → is_named xs j ≡ true → is_named ns j ≡ true
 
 pub each_named : (xs ns : List ℕ) → AreAmong xs ns → AreNamed ns xs
 each_named [] ns h = tt
-each_named (x ∷ xs) ns h = (h x (or_left (x == x) (is_named xs x) (eq-eqb x x refl)), each_named xs ns (λ j e. h j (or_right (x == j) (is_named xs j) e)))
+each_named (x ∷ xs) ns h = (h x (or_left (x == x) (is_named xs x) (eq-eqb x x refl)), each_named xs ns (λ j e. h j (or_right_2 (x == j) (is_named xs j) e)))
 
 -- Of all these, each names what is named.
 pub all_named : {X : Type 0} (f : X → List ℕ) (xs : List X) (ns : List ℕ) → AreAmong (flat_map f xs) ns → AllByRecursion (λ x. AreNamed ns (f x)) xs
 all_named {X} f [] ns h = tt
 all_named {X} f (x ∷ xs) ns h = (each_named (f x) ns (λ j e. h j (named_left (f x) (flat_map f xs) j e)), all_named f xs ns (λ j e. h j (named_right (f x) (flat_map f xs) j e)))
 
-pub insns_among : (c : Code) → AreAmong (flat_map insn_numbers c.insns) (code_numbers c)
-insns_among c j e = named_left (flat_map insn_numbers c.insns) (flat_map try_numbers c.tries) j e
+pub insns_among : (c : Code) → AreAmong (flat_map insn_leads c.insns) (code_numbers c)
+insns_among c j e = named_left (flat_map insn_leads c.insns) (flat_map try_numbers c.tries) j e
 
 pub tries_among : (c : Code) → AreAmong (flat_map try_numbers c.tries) (code_numbers c)
-tries_among c j e = named_right (flat_map insn_numbers c.insns) (flat_map try_numbers c.tries) j e
+tries_among c j e = named_right (flat_map insn_leads c.insns) (flat_map try_numbers c.tries) j e

@@ -1,4 +1,4 @@
--- The printed tries of a code, one behind the other, in both forms.
+-- The printed tries of a code, one after the other, in both forms.
 use Rattle.std.proofs.Common.{◌≡◌, ℕ, ◌+◌, ◌≤◌, true, List, [], ◌∷◌, ◌++◌, map, max, arith, Option, Some, None, refl, sym, ap, subst, ◌∙◌, append_assoc}
 use Rattle.std.specs.List.{AllByRecursion, flat_map}
 use Rattle.std.proofs.lemmas.List.{append-nil}
@@ -7,7 +7,7 @@ use Rattle.program_types.specs.Content.{Catch, Try, Class}
 use Rattle.listing_lines.specs.Lines.{catch_line, catch_all_line, try_line}
 use Rattle.listing_lines.specs.Places.{may_stand}
 use Rattle.listing_lines.specs.Needs.{Need, with_need}
-use Rattle.listing_draft.specs.States.{State, Open, Body, CodePart, behind_try, all_tries, add, inside}
+use Rattle.listing_draft.specs.States.{State, Open, Body, CodePart, after_try, all_tries, add, inside}
 use Rattle.listing_print.specs.Printed.{line_operands, keyed_text_in}
 use Rattle.listing_print.specs.Canon.{all_numbers, try_numbers, is_named, catches_text, catch_all_text, try_text}
 use Rattle.listing_print.specs.Reading.{FitOperands}
@@ -73,7 +73,7 @@ last_handler g ns done o late b ts from to xs needs n c (Some k) f m y a =
     let us = ts ++ record { from = from; to = to; catches = xs; catch_all = Some k } ∷ [] in
     let more = with_need needs (n + 1) (k + 1) in
     let s = coding (trying from to xs) done o late (with_handlers b ts needs) n in
-    record { part = behind_try; tries = us; needs = more; lines = n + 1; runs = try_line_runs g s (coding behind_try done o late (with_handlers b us more) (n + 1)) (catch_all_line k) tt tt f.0 (all_marked g.form ns g.labels c k m f y.0) refl refl; has = refl; fit = need_fits c needs (n + 1) (k + 1) f.1 a }
+    record { part = after_try; tries = us; needs = more; lines = n + 1; runs = try_line_runs g s (coding after_try done o late (with_handlers b us more) (n + 1)) (catch_all_line k) tt tt f.0 (all_marked g.form ns g.labels c k m f y.0) refl refl; has = refl; fit = need_fits c needs (n + 1) (k + 1) f.1 a }
 
 -- in front of what was tried
 in_front : (g : Frame) (c : ℕ) (done : List Class) (o : Open) (late : Option ℕ) (b : Body) (s t : State) (text more : List ℕ) (ts : List Try) → RunsTo g s text t → Tried g c done o late b t more ts → Tried g c done o late b s (text ++ more) ts

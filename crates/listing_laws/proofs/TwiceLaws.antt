@@ -8,11 +8,11 @@ use Rattle.program_rules.specs.Rules.{member_key, method_key}
 use Rattle.program_types.specs.Key.{Key}
 use Rattle.listing_lines.specs.Lines.{Line, first_line, end_class, super_line, implements_line, source_line, end_code, catch_line, catch_all_line, member_of, method_of, value_of, line_of}
 use Rattle.listing_lines.specs.declared.stage.Stage.{Stage}
-use Rattle.listing_lines.specs.declared.stage.Stage.TheVariants.{Start, Top, Heads, Members, Behind, Insns, Tries, Caught}
-use Rattle.listing_lines.specs.Places.{is_start, is_top, is_heads, is_in_class, is_behind, is_insns, is_in_code, is_caught, may_stand}
+use Rattle.listing_lines.specs.declared.stage.Stage.TheVariants.{Start, Top, Heads, Members, After, Insns, Tries, Caught}
+use Rattle.listing_lines.specs.Places.{is_start, is_top, is_heads, is_in_class, is_after, is_insns, is_in_code, is_caught, may_stand}
 use Rattle.listing_draft.specs.Members.{Given, given_key, is_held, with_member}
-use Rattle.listing_draft.specs.States.{Open, Body, at_heads, at_members, behind_method, CodePart, at_insns, behind_try, in_try, Block, at_start, at_top, in_class, in_code, State, stage_of, code_stage, is_among, with_superclass, with_source, with_interface, with_static, with_instance, with_direct, with_virtual, class_line, noted, code_line, inside, class_of, owner_of, code_ended, add}
-use Rattle.listing_laws.specs.Twice.{is_given, is_twice}
+use Rattle.listing_draft.specs.States.{Open, Body, at_heads, at_members, after_method, CodePart, at_insns, after_try, in_try, Block, at_start, at_top, in_class, in_code, State, stage_of, code_stage, is_among, with_superclass, with_source, with_interface, with_static, with_instance, with_direct, with_virtual, class_line, noted, code_line, inside, class_of, owner_of, code_ended, add}
+use Rattle.listing_laws.specs.Twice.{has_already, is_twice}
 
 some_map : {X Y : Type 0} (f : X → Y) (o : Option X) → is_some (option_map f o) ≡ is_some o
 some_map f None = refl
@@ -25,7 +25,7 @@ class_stands Start e = absurd cc
 class_stands Top e = absurd cc
 class_stands Heads e = refl
 class_stands Members e = absurd cc
-class_stands Behind e = absurd cc
+class_stands After e = absurd cc
 class_stands Insns e = absurd cc
 class_stands Tries e = absurd cc
 class_stands Caught e = absurd cc
@@ -35,7 +35,7 @@ insns_stand Start e = absurd cc
 insns_stand Top e = absurd cc
 insns_stand Heads e = absurd cc
 insns_stand Members e = absurd cc
-insns_stand Behind e = absurd cc
+insns_stand After e = absurd cc
 insns_stand Insns e = refl
 insns_stand Tries e = absurd cc
 insns_stand Caught e = absurd cc
@@ -45,7 +45,7 @@ catches_stand Start e = absurd cc
 catches_stand Top e = absurd cc
 catches_stand Heads e = absurd cc
 catches_stand Members e = absurd cc
-catches_stand Behind e = absurd cc
+catches_stand After e = absurd cc
 catches_stand Insns e = absurd cc
 catches_stand Tries e = absurd cc
 catches_stand Caught e = refl
@@ -56,7 +56,7 @@ class_is_open at_start e = absurd cc
 class_is_open at_top e = absurd cc
 class_is_open (in_class o p) e = refl
 class_is_open (in_code o b at_insns) e = absurd cc
-class_is_open (in_code o b behind_try) e = absurd cc
+class_is_open (in_code o b after_try) e = absurd cc
 class_is_open (in_code o b (in_try t)) e = absurd cc
 
 -- in a code one is open
@@ -65,35 +65,35 @@ code_is_open at_start e = absurd cc
 code_is_open at_top e = absurd cc
 code_is_open (in_class o at_heads) e = absurd cc
 code_is_open (in_class o at_members) e = absurd cc
-code_is_open (in_class o (behind_method m)) e = absurd cc
+code_is_open (in_class o (after_method m)) e = absurd cc
 code_is_open (in_code o b p) e = refl
 
--- behind a method its code may follow
-method_is_behind : (b : Block) → is_behind (stage_of b) ≡ true → is_some (owner_of b) ≡ true
-method_is_behind at_start e = absurd cc
-method_is_behind at_top e = absurd cc
-method_is_behind (in_class o at_heads) e = absurd cc
-method_is_behind (in_class o at_members) e = absurd cc
-method_is_behind (in_class o (behind_method m)) e = refl
-method_is_behind (in_code o b at_insns) e = absurd cc
-method_is_behind (in_code o b behind_try) e = absurd cc
-method_is_behind (in_code o b (in_try t)) e = absurd cc
+-- after a method its code may follow
+method_is_after : (b : Block) → is_after (stage_of b) ≡ true → is_some (owner_of b) ≡ true
+method_is_after at_start e = absurd cc
+method_is_after at_top e = absurd cc
+method_is_after (in_class o at_heads) e = absurd cc
+method_is_after (in_class o at_members) e = absurd cc
+method_is_after (in_class o (after_method m)) e = refl
+method_is_after (in_code o b at_insns) e = absurd cc
+method_is_after (in_code o b after_try) e = absurd cc
+method_is_after (in_code o b (in_try t)) e = absurd cc
 
 -- ---- a line of the open block alone
 
-never : (b : Block) (line : Line) → ((o : Open) → is_given o line ≡ false) → true ≡ not (is_twice b line)
+never : (b : Block) (line : Line) → ((o : Open) → has_already o line ≡ false) → true ≡ not (is_twice b line)
 never at_start line f = refl
 never at_top line f = refl
 never (in_class o p) line f = sym (ap not (f o))
 never (in_code o b p) line f = refl
 
-class_says : (b : Block) (n : ℕ) (line : Line) → is_in_class (stage_of b) ≡ true → ((o : Open) → is_some (class_line o line) ≡ not (is_given o line)) → is_some (inside b n line) ≡ not (is_twice b line)
+class_says : (b : Block) (n : ℕ) (line : Line) → is_in_class (stage_of b) ≡ true → ((o : Open) → is_some (class_line o line) ≡ not (has_already o line)) → is_some (inside b n line) ≡ not (is_twice b line)
 unfolding inside
 class_says at_start n line e f = absurd cc
 class_says at_top n line e f = absurd cc
 class_says (in_class o p) n line e f = rw some_map (f o)
 class_says (in_code o b at_insns) n line e f = absurd cc
-class_says (in_code o b behind_try) n line e f = absurd cc
+class_says (in_code o b after_try) n line e f = absurd cc
 class_says (in_code o b (in_try t)) n line e f = absurd cc
 
 code_says : (b : Block) (n : ℕ) (line : Line) → is_in_code (stage_of b) ≡ true → ((c : Body) (p : CodePart) → code_stage p ≡ stage_of b → is_some (code_line c p line) ≡ true) → is_some (inside b n line) ≡ not (is_twice b line)
@@ -102,22 +102,22 @@ code_says at_start n line e f = absurd cc
 code_says at_top n line e f = absurd cc
 code_says (in_class o at_heads) n line e f = absurd cc
 code_says (in_class o at_members) n line e f = absurd cc
-code_says (in_class o (behind_method m)) n line e f = absurd cc
+code_says (in_class o (after_method m)) n line e f = absurd cc
 code_says (in_code o b p) n line e f = rw some_map (f (noted b n line) p refl)
 
 -- ---- what a class has
 
-super_given : (o : Open) (d : Descriptor) (x : Option Descriptor) → o.superclass ≡ x → is_some (class_line o (super_line d)) ≡ not (is_given o (super_line d))
+super_given : (o : Open) (d : Descriptor) (x : Option Descriptor) → o.superclass ≡ x → is_some (class_line o (super_line d)) ≡ not (has_already o (super_line d))
 unfolding with_superclass
 super_given o d None e = rw e refl
 super_given o d (Some x) e = rw e refl
 
-source_given : (o : Open) (us : Units) (x : Option Units) → o.source ≡ x → is_some (class_line o (source_line us)) ≡ not (is_given o (source_line us))
+source_given : (o : Open) (us : Units) (x : Option Units) → o.source ≡ x → is_some (class_line o (source_line us)) ≡ not (has_already o (source_line us))
 unfolding with_source
 source_given o us None e = rw e refl
 source_given o us (Some x) e = rw e refl
 
-interface_given : (o : Open) (d : Descriptor) (b : Bool) → is_among o.interfaces d ≡ b → is_some (class_line o (implements_line d)) ≡ not (is_given o (implements_line d))
+interface_given : (o : Open) (d : Descriptor) (b : Bool) → is_among o.interfaces d ≡ b → is_some (class_line o (implements_line d)) ≡ not (has_already o (implements_line d))
 unfolding with_interface
 interface_given o d true e = rw e refl
 interface_given o d false e = rw e refl
@@ -149,12 +149,12 @@ virtual_given o m = rw some_map (member_given method_key m o.virtuals)
 
 catch_says : (b : Block) (c : Body) (p : CodePart) (d : Descriptor) (k : ℕ) → is_caught (stage_of b) ≡ true → code_stage p ≡ stage_of b → is_some (code_line c p (catch_line d k)) ≡ true
 catch_says b c at_insns d k e q = absurd cc
-catch_says b c behind_try d k e q = absurd cc
+catch_says b c after_try d k e q = absurd cc
 catch_says b c (in_try t) d k e q = refl
 
 catch_all_says : (b : Block) (c : Body) (p : CodePart) (k : ℕ) → is_caught (stage_of b) ≡ true → code_stage p ≡ stage_of b → is_some (code_line c p (catch_all_line k)) ≡ true
 catch_all_says b c at_insns k e q = absurd cc
-catch_all_says b c behind_try k e q = absurd cc
+catch_all_says b c after_try k e q = absurd cc
 catch_all_says b c (in_try t) k e q = refl
 
 -- ---- all kinds of lines
@@ -164,7 +164,7 @@ unfolding add may_stand line_of
 refused_if_twice s kind.First ds e = let h : is_start (stage_of s.block) ≡ true = e in rw h (never s.block first_line (λ o. refl))
 refused_if_twice s kind.OpenClass ds e = let h : is_top (stage_of s.block) ≡ true = e in rw h (never s.block (line_of kind.OpenClass ds) (λ o. refl))
 refused_if_twice s kind.EndClass ds e = rw some_map (class_is_open s.block e ∙ never s.block end_class (λ o. refl))
-refused_if_twice s kind.OpenCode ds e = rw some_map (method_is_behind s.block e ∙ never s.block (line_of kind.OpenCode ds) (λ o. refl))
+refused_if_twice s kind.OpenCode ds e = rw some_map (method_is_after s.block e ∙ never s.block (line_of kind.OpenCode ds) (λ o. refl))
 refused_if_twice s kind.EndCode ds e = rw some_map (code_is_open s.block e ∙ never s.block end_code (λ o. refl))
 refused_if_twice s kind.Super ds e = rw some_map (class_says s.block s.lines (line_of kind.Super ds) (class_stands (stage_of s.block) e) (λ o. super_given o (type_of (at ds 0)) o.superclass refl))
 refused_if_twice s kind.Implements ds e = rw some_map (class_says s.block s.lines (line_of kind.Implements ds) (class_stands (stage_of s.block) e) (λ o. interface_given o (type_of (at ds 0)) (is_among o.interfaces (type_of (at ds 0))) refl))

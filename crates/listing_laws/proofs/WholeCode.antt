@@ -1,8 +1,9 @@
--- A printed code block runs from behind its method to the class whose method has it, in both forms.
+-- A printed code block runs from the end of its method to the class whose method has it, in both forms.
 use Rattle.std.proofs.Common.{◌≡◌, ℕ, ◌+◌, ◌<◌, ◌^◌, true, List, [], ◌∷◌, ◌++◌, length, Option, None, refl, ap, subst, ◌∙◌, append_assoc, arith}
 use Rattle.std.specs.List.{AllByRecursion, flat_map}
 use Rattle.std.proofs.lemmas.Bool.{le-ltb}
 use Rattle.program_types.specs.Content.{Try, Code, Class}
+use Rattle.program_types.specs.Formed.{insn_leads}
 use Rattle.listing_words.specs.Words.{plain_word, line_bytes}
 use Rattle.listing_slots.specs.declared.key.Key.TheVariants as key
 use Rattle.listing_slots.specs.declared.slot.Slot.TheVariants as slot
@@ -15,17 +16,17 @@ use Rattle.listing_lines.specs.declared.form.Form.{Form}
 use Rattle.listing_lines.specs.declared.form.Form.TheVariants.{One, Two}
 use Rattle.listing_lines.specs.Places.{may_stand}
 use Rattle.listing_lines.specs.Needs.{Need, first_late}
-use Rattle.listing_draft.specs.States.{Open, Owner, Body, CodePart, behind_method, at_members, at_insns, add, all_tries, begun, with_tries, whole_code, with_code_at}
+use Rattle.listing_draft.specs.States.{Open, Owner, Body, CodePart, after_method, at_members, at_insns, add, all_tries, begun, with_tries, whole_code, with_code_at}
 use Rattle.listing_labels.specs.Lines.{lines, is_skipped}
 use Rattle.listing_labels.specs.Labels.{Label, first_word, is_stop, labels_ahead}
 use Rattle.listing_labels.proofs.AheadLaws.{ahead_stops}
-use Rattle.listing_parse.specs.Text.{Reading, Reads, labels_behind}
+use Rattle.listing_parse.specs.Text.{Reading, Reads, labels_after}
 use Rattle.listing_print.specs.Printed.{line_operands, keyed_text, keyed_text_in}
-use Rattle.listing_print.specs.Canon.{insn_numbers, try_numbers, code_numbers, insns_text, catches_text, catch_all_text, try_text, code_text}
+use Rattle.listing_print.specs.Canon.{try_numbers, code_numbers, insns_text, catches_text, catch_all_text, try_text, code_text}
 use Rattle.listing_print.specs.Reading.{words_in, FitOperands}
 use Rattle.listing_laws.proofs.Runs.{Frame, bare, frame, at, RunsInto, RunsTo, NeedsFit, within, coding, among, code_goes_on, with_handlers}
 use Rattle.listing_laws.proofs.Printable.{TryFits, CodeFits}
-use Rattle.listing_laws.proofs.RunLaws.{runs_joined, line_first, line_is, behind_spaces}
+use Rattle.listing_laws.proofs.RunLaws.{runs_joined, line_first, line_is, spaced_words}
 use Rattle.listing_laws.proofs.KeyedLaws.{keyed_words, keyed_is, keyed_is_line, key_shown, end_line_runs, code_line_reads}
 use Rattle.listing_laws.proofs.Ahead.{labels_from, none_before, word_first, insns_ahead}
 use Rattle.listing_laws.proofs.Targets.{MarkAll, labels_mark, all_named, insns_among, tries_among}
@@ -38,10 +39,10 @@ none_late c [] h = refl
 none_late c (n ∷ ns) h = rw (le-ltb c n.count h.0) (none_late c ns h.1)
 
 begin_code : (form : Form) (es : List Label) (done : List Class) (o : Open) (m : Owner) (n r i u : ℕ) (text rest : List ℕ) (v : Reading) → FitOperands (line_operands (open_code r i u))
-    → labels_behind form kind.OpenCode (n + 1 + 1) (lines (text ++ rest)) [] ≡ es → Reads (at (frame form es) (among done o None (begun m r i u) (n + 1))) (lines (text ++ rest)) [] v
-    → Reads (at (bare form) (within (behind_method m) done o None n)) (lines ((keyed_text (open_code r i u) ++ text) ++ rest)) [] v
+    → labels_after form kind.OpenCode (n + 1 + 1) (lines (text ++ rest)) [] ≡ es → Reads (at (frame form es) (among done o None (begun m r i u) (n + 1))) (lines (text ++ rest)) [] v
+    → Reads (at (bare form) (within (after_method m) done o None n)) (lines ((keyed_text (open_code r i u) ++ text) ++ rest)) [] v
 unfolding add may_stand
-begin_code form es done o m n r i u text rest v f e x = code_line_reads (frame form es) (within (behind_method m) done o None n) (among done o None (begun m r i u) (n + 1)) r i u text rest v f refl refl e x
+begin_code form es done o m n r i u text rest v f e x = code_line_reads (frame form es) (within (after_method m) done o None n) (among done o None (begun m r i u) (n + 1)) r i u text rest v f refl refl e x
 
 -- the code's end, as it is computed
 close_code : (g : Frame) (p : CodePart) (done : List Class) (o : Open) (b : Body) (n : ℕ) → (g.form ≡ One → g.labels ≡ [])
@@ -58,7 +59,7 @@ end_runs g p done o b n ts f e a =
 
 -- ---- the labels of a code
 
--- Those that are printed, behind so many lines.
+-- Those that are printed, after so many lines.
 abbrev labels_in : Form → ℕ → Code → List Label
 labels_in One n c = []
 labels_in Two n c = labels_from (code_numbers c) n 0 c.insns
@@ -75,7 +76,7 @@ in_mark : (form : Form) (n : ℕ) (c : Code) → length c.insns < 2 ^ 64 → Mar
 in_mark One n c h = tt
 in_mark Two n c h = labels_mark (code_numbers c) c.insns n h
 
--- what stands behind the instructions ends them: a try, or the code's end
+-- what stands after the instructions ends them: a try, or the code's end
 is_try : is_stop (key_text key.Try) ≡ true
 unfolding same key_text
 is_try = refl
@@ -87,7 +88,7 @@ try_stops form from to text fs line j f =
     let l = line_bytes (keyed_words form k) in
     let e : lines (keyed_text_in form k ++ text) ≡ l ∷ lines text = ap (λ t. lines (t ++ text)) (keyed_is form k) ∙ ap lines (append_assoc l (10 ∷ []) text) ∙ line_first l text (keyed_is_line form k f) in
     let w : first_word l ≡ key_text key.Try = word_first (key_text key.Try) ws (shown_written (slot.Key key.Try) (said key.Try) refl) in
-    ap (labels_ahead fs line j) e ∙ ahead_stops fs line j l (lines text) (ap is_skipped (line_is (plain_word (key_text key.Try)) ws) ∙ key_shown k (behind_spaces ws)) (ap is_stop w ∙ is_try)
+    ap (labels_ahead fs line j) e ∙ ahead_stops fs line j l (lines text) (ap is_skipped (line_is (plain_word (key_text key.Try)) ws) ∙ key_shown k (spaced_words ws)) (ap is_stop w ∙ is_try)
 
 in_front : (a b c d e : List ℕ) → (((a ++ b) ++ c) ++ d) ++ e ≡ a ++ (((b ++ c) ++ d) ++ e)
 in_front [] b c d e = refl
@@ -107,14 +108,14 @@ tail_stops form c (t ∷ ts) rest fs line j f =
 
 -- the labels ahead of a printed code
 code_ahead : (form : Form) (n : ℕ) (c : Code) (rest : List ℕ) → CodeFits c
-    → labels_behind form kind.OpenCode (n + 1) (lines ((insns_text form (code_numbers c) 0 c.insns ++ (flat_map (try_text form) c.tries ++ keyed_text end_code)) ++ rest)) [] ≡ labels_in form n c
+    → labels_after form kind.OpenCode (n + 1) (lines ((insns_text form (code_numbers c) 0 c.insns ++ (flat_map (try_text form) c.tries ++ keyed_text end_code)) ++ rest)) [] ≡ labels_in form n c
 code_ahead One n c rest f = refl
 code_ahead Two n c rest f =
     let tail = flat_map (try_text Two) c.tries ++ keyed_text end_code in
     ap (λ t. labels_ahead [] (n + 1) 0 (lines t)) (append_assoc (insns_text Two (code_numbers c) 0 c.insns) tail rest)
     ∙ insns_ahead (code_numbers c) c.insns [] n 0 (length c.insns) (tail ++ rest) (none_before 0) (omega (arith, f.1)) f.2 (λ fs line j. tail_stops Two (length c.insns) c.tries rest fs line j f.3)
 
-pub code_runs : (form : Form) (done : List Class) (o : Open) (m : Owner) (n : ℕ) (c : Code) → CodeFits c → (k : ℕ) × RunsTo (bare form) (within (behind_method m) done o None n) ((code_text form) c) (within at_members done (with_code_at o m c) None k)
+pub code_runs : (form : Form) (done : List Class) (o : Open) (m : Owner) (n : ℕ) (c : Code) → CodeFits c → (k : ℕ) × RunsTo (bare form) (within (after_method m) done o None n) ((code_text form) c) (within at_members done (with_code_at o m c) None k)
 code_runs form done o m n c f =
     let l = length c.insns in
     let ns = code_numbers c in
@@ -123,12 +124,12 @@ code_runs form done o m n c f =
     let b0 = begun m c.registers c.ins c.outs in
     let few = f.1 in
     let mk = in_mark form (n + 1) c few in
-    let y = insns_run form ns es done o None c.insns b0 (n + 1) 0 l (omega arith) f.2 mk (all_named insn_numbers c.insns ns (insns_among c)) (in_ahead form (n + 1) c) refl tt in
+    let y = insns_run form ns es done o None c.insns b0 (n + 1) 0 l (omega arith) f.2 mk (all_named insn_leads c.insns ns (insns_among c)) (in_ahead form (n + 1) c) refl tt in
     let b1 : Body = record b0 { insns = c.insns; needs = y.1 } in
     let x = tries_run g ns c.tries at_insns done o None b1 y.0 l f.3 mk (all_named try_numbers c.tries ns (tries_among c)) y.3 in
     let b2 = with_handlers b1 x.tries x.needs in
     let z = end_runs g x.part done o b2 x.lines c.tries (labels_none form (n + 1) c) x.has x.fit in
-    let s0 = within (behind_method m) done o None n in
+    let s0 = within (after_method m) done o None n in
     let s1 = among done o None b0 (n + 1) in
     let s2 = among done o None b1 y.0 in
     let s3 = coding x.part done o None b2 x.lines in

@@ -12,31 +12,31 @@ use Rattle.listing_slots.specs.declared.slot.Mark.TheVariants.{Nothing}
 use Rattle.listing_slots.specs.declared.slot.Slot.{Slot}
 use Rattle.listing_slots.specs.Data.{Datum}
 use Rattle.listing_slots.specs.Keys.{key_text}
-use Rattle.listing_slots.specs.Slots.{SpellsNumber, SpellsSigned, SpellsPlain, SpellsNamed, IsMember, IsType}
+use Rattle.listing_slots.specs.Slots.{SpellsNumber, SpellsInteger, SpellsPlain, SpellsNamed, IsMember, IsType}
 use Rattle.listing_slots.specs.Slots.{SpellsSlots, have_forms}
 use Rattle.listing_shapes.specs.declared.due.Due.TheVariants as due
 use Rattle.listing_shapes.specs.Shapes.{Shape, value_slots}
 use Rattle.listing_lines.specs.Lines.{Line, line_of, value_of}
 use Rattle.listing_lines.specs.declared.form.Form.{Form}
 use Rattle.listing_labels.specs.Labels.{Label}
-use Rattle.listing_parse.specs.Forms.{Shapes, Spells}
+use Rattle.listing_parse.specs.Forms.{HasShapeInForm, SpellsInForm}
 
 -- The word that a keyword is.
-abbrev pub keyword : Key → Word
-keyword k = plain_word (key_text k)
+abbrev pub word_of_key : Key → Word
+word_of_key k = plain_word (key_text k)
 
--- The keyword, and one word behind it, of which this holds.
+-- The keyword, and one word after it, of which this holds.
 abbrev pub IsBefore : Key → (Word → Type 0) → List Word → Type 0
-IsBefore k Says ws = (w : Word) × (ws ≡ keyword k ∷ w ∷ []) × Says w
+IsBefore k Says ws = (w : Word) × (ws ≡ word_of_key k ∷ w ∷ []) × Says w
 
 -- The words say the value: its keyword, and its operand; an array's values stand between braces.
 abbrev mutual
   pub SaysValue : List Word → Value → Type 0
-  SaysValue ws (content.Byte z) = IsBefore key.Byte (λ w. SpellsSigned 127 w z) ws
-  SaysValue ws (content.Short z) = IsBefore key.Short (λ w. SpellsSigned 32767 w z) ws
+  SaysValue ws (content.Byte z) = IsBefore key.Byte (λ w. SpellsInteger 127 w z) ws
+  SaysValue ws (content.Short z) = IsBefore key.Short (λ w. SpellsInteger 32767 w z) ws
   SaysValue ws (content.Char n) = IsBefore key.Char (λ w. SpellsNumber Nothing 65535 w n) ws
-  SaysValue ws (content.Int z) = IsBefore key.Int (λ w. SpellsSigned 2147483647 w z) ws
-  SaysValue ws (content.Long z) = IsBefore key.Long (λ w. SpellsSigned 9223372036854775807 w z) ws
+  SaysValue ws (content.Int z) = IsBefore key.Int (λ w. SpellsInteger 2147483647 w z) ws
+  SaysValue ws (content.Long z) = IsBefore key.Long (λ w. SpellsInteger 9223372036854775807 w z) ws
   SaysValue ws (content.Float n) = IsBefore key.Float (λ w. SpellsPlain (SpellsBits 8) w n) ws
   SaysValue ws (content.Double n) = IsBefore key.Double (λ w. SpellsPlain (SpellsBits 16) w n) ws
   SaysValue ws (content.Named (OfText us)) = IsBefore key.Text (λ w. w ≡ text_in_quotes us) ws
@@ -45,25 +45,25 @@ abbrev mutual
   SaysValue ws (content.Named (OfMethod m)) = IsBefore key.Method (λ w. SpellsNamed IsMethodText w m) ws
   SaysValue ws (content.Enum f) = IsBefore key.Enum (λ w. SpellsNamed IsFieldText w f) ws
   SaysValue ws (content.Array vs) =
-      (inner : List Word) × (ws ≡ keyword key.Array ∷ keyword key.Open ∷ (inner ++ keyword key.Close ∷ []))
+      (inner : List Word) × (ws ≡ word_of_key key.Array ∷ word_of_key key.Open ∷ (inner ++ word_of_key key.Close ∷ []))
       × SayValues inner vs
-  SaysValue ws content.Null = ws ≡ keyword key.Null ∷ []
-  SaysValue ws (content.Boolean true) = ws ≡ keyword key.True ∷ []
-  SaysValue ws (content.Boolean false) = ws ≡ keyword key.False ∷ []
+  SaysValue ws content.Null = ws ≡ word_of_key key.Null ∷ []
+  SaysValue ws (content.Boolean true) = ws ≡ word_of_key key.True ∷ []
+  SaysValue ws (content.Boolean false) = ws ≡ word_of_key key.False ∷ []
 
-  -- The words say the values, one behind the other.
+  -- The words say the values, one after the other.
   pub SayValues : List Word → Values → Type 0
   SayValues ws no_values = ws ≡ []
   SayValues ws (more_values v vs) =
       (front back : List Word) × (ws ≡ front ++ back) × SaysValue front v × SayValues back vs
 
--- The words behind `static` say a field and its value: a name, a type, flags, `=`, and the words of the value.
+-- The words after `static` say a field and its value: a name, a type, flags, `=`, and the words of the value.
 pub record SayGiven (ws : List Word) (m : Member) (v : Value) : Type 0 where
   pub name : Word
   pub ty : Word
   pub flags : Word
   pub value : List Word
-  pub words : ws ≡ name ∷ ty ∷ flags ∷ keyword key.Equals ∷ value
+  pub words : ws ≡ name ∷ ty ∷ flags ∷ word_of_key key.Equals ∷ value
   pub is_name : SpellsNamed IsMember name m.name
   pub is_type : SpellsNamed IsType ty m.ty
   pub are_flags : SpellsNumber Nothing 4294967295 flags m.flags
@@ -85,7 +85,7 @@ pub record IsReadAsValue (ws : List Word) (v : Value) : Type 0 where
 -- says something in its slot, and what they say makes the line.
 pub record IsReadAsLine (form : Form) (ls : List Label) (ws : List Word) (l : Line) : Type 0 where
   pub shape : Shape
-  pub has_shape : Shapes form ws shape
+  pub has_shape : HasShapeInForm form ws shape
   pub says : List Datum
-  pub spelled : Spells form ls shape.slots shape.words says
+  pub spelled : SpellsInForm form ls shape.slots shape.words says
   pub made : line_of shape.kind says ≡ l

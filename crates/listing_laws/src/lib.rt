@@ -2,7 +2,7 @@
 //! what may be given once.
 //!
 //! A text of whole lines leads from what was read so far to what is read then, whatever follows it; texts that lead one
-//! behind the other lead as one. So the lines of a code, of a class and of a program are taken one by one.
+//! after the other lead as one. So the lines of a code, of a class and of a program are taken one by one.
 #![tactic(auto)]
 
 mod law;

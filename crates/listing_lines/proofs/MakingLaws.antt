@@ -20,7 +20,7 @@ use Rattle.listing_lines.specs.declared.making.Making.{Making as InMaking}
 use Rattle.listing_lines.specs.MakingView.{making}
 use Rattle.listing_lines.specs.Lines.{Making, with_word, value_of, first_value}
 
-take_least : {X : Type 0} (n : ℕ) (xs : List X) → take (min n (length xs)) xs ≡ take n xs
+pub take_least : {X : Type 0} (n : ℕ) (xs : List X) → take (min n (length xs)) xs ≡ take n xs
 take_least n xs = elim (cases_lt n (length xs)) [
   | inl h ↦ let e : min n (length xs) ≡ n = omega arith in rw e refl
   | inr h ↦ let e : min n (length xs) ≡ length xs = omega arith in rw (e, take_all (length xs) xs (omega arith)) (sym (take_all n xs h))

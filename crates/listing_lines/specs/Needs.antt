@@ -22,7 +22,7 @@ insn_needs (content.Packed first targets) = most_needed targets
 insn_needs (content.Sparse keys targets) = most_needed targets
 insn_needs _ = 0
 
--- What a try covers may end behind the last instruction.
+-- What a try covers may end after the last instruction.
 abbrev pub line_needs : Line → ℕ
 line_needs (insn_line i) = insn_needs i
 line_needs (try_line from to) = max (from + 1) to

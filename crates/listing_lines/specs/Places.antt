@@ -4,7 +4,7 @@ use Rattle.std.specs.Prelude.{Bool, true, false}
 use Rattle.listing_slots.specs.declared.kind.Kind.{Kind}
 use Rattle.listing_slots.specs.declared.kind.Kind.TheVariants as kind
 use Rattle.listing_lines.specs.declared.stage.Stage.{Stage}
-use Rattle.listing_lines.specs.declared.stage.Stage.TheVariants.{Start, Top, Heads, Members, Behind, Insns, Tries, Caught}
+use Rattle.listing_lines.specs.declared.stage.Stage.TheVariants.{Start, Top, Heads, Members, After, Insns, Tries, Caught}
 
 -- Before the first line.
 abbrev pub is_start : Stage → Bool
@@ -25,13 +25,13 @@ is_heads _ = false
 abbrev pub is_in_class : Stage → Bool
 is_in_class Heads = true
 is_in_class Members = true
-is_in_class Behind = true
+is_in_class After = true
 is_in_class _ = false
 
 -- A code may stand there: the line before is a method.
-abbrev pub is_behind : Stage → Bool
-is_behind Behind = true
-is_behind _ = false
+abbrev pub is_after : Stage → Bool
+is_after After = true
+is_after _ = false
 
 -- An instruction may stand there.
 abbrev pub is_insns : Stage → Bool
@@ -71,7 +71,7 @@ may_stand s kind.Given = is_in_class s
 may_stand s kind.Instance = is_in_class s
 may_stand s kind.Direct = is_in_class s
 may_stand s kind.Virtual = is_in_class s
-may_stand s kind.OpenCode = is_behind s
+may_stand s kind.OpenCode = is_after s
 may_stand s (kind.Plain op) = is_insns s
 may_stand s kind.Packed = is_insns s
 may_stand s kind.Sparse = is_insns s

@@ -21,8 +21,8 @@ use listing_slots::{
 };
 use program_types::Insn;
 
-/// The words behind so many.
-fn behind<'b, 'a>(said: &'b [Datum<'a>], n: usize) -> &'b [Datum<'a>]
+/// The words after so many.
+fn after<'b, 'a>(said: &'b [Datum<'a>], n: usize) -> &'b [Datum<'a>]
     ensures { map datum result.now ≡ drop n (map datum said.now) }
 {
     let (_, rest) = said.split_at(n.min(said.len()));
@@ -122,17 +122,17 @@ pub fn make_line<'a>(bump: &'a Bump, kind: Kind, said: &[Datum<'a>]) -> Result<L
 {
     match kind {
         Kind::Given => {
-            let initial = make_value(bump, behind(said, 4))?;
+            let initial = make_value(bump, after(said, 4))?;
             Ok(Line::Static(make_member(said), Some(initial)))
         }
         Kind::Packed => {
             let first = int_of(datum_at(said, 0));
-            let targets = words_of(bump, behind(said, 1))?;
+            let targets = words_of(bump, after(said, 1))?;
             Ok(Line::Insn(Insn::Packed { first, targets }))
         }
         Kind::Sparse => {
             let keys = ints_between(bump, said)?;
-            let targets = words_between(bump, behind(said, 1))?;
+            let targets = words_between(bump, after(said, 1))?;
             Ok(Line::Insn(Insn::Sparse { keys, targets }))
         }
         _ => Ok(flat_line(kind, said)),

@@ -1,7 +1,7 @@
 //! Where a line stands.
 
 ghost use Rattle.std.specs.Prelude.{◌≡◌};
-ghost use Rattle.listing_lines.specs.Places.{may_stand, is_insn, is_start, is_top, is_heads, is_in_class, is_behind, is_insns, is_in_code, is_caught};
+ghost use Rattle.listing_lines.specs.Places.{may_stand, is_insn, is_start, is_top, is_heads, is_in_class, is_after, is_insns, is_in_code, is_caught};
 
 use listing_slots::Kind;
 
@@ -16,13 +16,13 @@ pub enum Stage {
     Heads,
     /// Among its members.
     Members,
-    /// Behind a method.
-    Behind,
+    /// After a method.
+    After,
     /// Among instructions.
     Insns,
-    /// Among tries, behind a whole one.
+    /// Among tries, after a whole one.
     Tries,
-    /// Behind a try, or a catch of it.
+    /// After a try, or a catch of it.
     Caught,
 }
 
@@ -61,17 +61,17 @@ pub fn is_in_class(stage: Stage) -> bool
     ensures { result ≡ is_in_class stage }
 {
     match stage {
-        Stage::Heads | Stage::Members | Stage::Behind => true,
+        Stage::Heads | Stage::Members | Stage::After => true,
         _ => false,
     }
 }
 
-/// Whether behind a method.
-pub fn is_behind(stage: Stage) -> bool
-    ensures { result ≡ is_behind stage }
+/// Whether after a method.
+pub fn is_after(stage: Stage) -> bool
+    ensures { result ≡ is_after stage }
 {
     match stage {
-        Stage::Behind => true,
+        Stage::After => true,
         _ => false,
     }
 }
@@ -96,7 +96,7 @@ pub fn is_in_code(stage: Stage) -> bool
     }
 }
 
-/// Whether behind a try or a catch.
+/// Whether after a try or a catch.
 pub fn is_caught(stage: Stage) -> bool
     ensures { result ≡ is_caught stage }
 {
@@ -127,7 +127,7 @@ pub fn may_stand(stage: Stage, kind: Kind) -> bool
         Kind::OpenClass => is_top(stage),
         Kind::Super | Kind::Implements | Kind::Source => is_heads(stage),
         Kind::EndClass | Kind::Static | Kind::Given | Kind::Instance | Kind::Direct | Kind::Virtual => is_in_class(stage),
-        Kind::OpenCode => is_behind(stage),
+        Kind::OpenCode => is_after(stage),
         Kind::Plain(_) | Kind::Packed | Kind::Sparse | Kind::Elements => is_insns(stage),
         Kind::Try | Kind::EndCode => is_in_code(stage),
         Kind::Catch | Kind::CatchAll => is_caught(stage),

@@ -13,6 +13,7 @@ use Rattle.listing_words.specs.declared.words.Word.{Word as Made}
 use Rattle.listing_parse.specs.Text.{Reading, is_on, is_second, label_aside, mark_aside, aside}
 use Rattle.listing_parse.specs.declared.aside.Aside.{Aside}
 use Rattle.listing_parse.specs.declared.aside.Aside.TheVariants.{Nothing, Refused, First, Mark}
+use Rattle.base_bytes.proofs.ListFacts.{or_last}
 
 -- the place is of this line
 abbrev place_on : ℕ → Option Place → Bool
@@ -30,10 +31,6 @@ pub label_there : (r : Reading) (w : List ℕ) (p : Place) → is_label w ≡ tr
 label_there r w p a b e = rw (a, on_place r.base.lines (lookup w r.labels), b, ne_eqb p.line r.base.lines e) refl
 
 -- ---- the first line of the second form
-
-or_last : (x : Bool) → x || true ≡ true
-or_last true = refl
-or_last false = refl
 
 pub second_first : (r : Reading) (ws : List Word) → is_second ws ≡ true → is_start (stage_of r.base.block) ≡ true → First ≡ aside r ws
 unfolding aside

@@ -16,9 +16,9 @@ use Rattle.listing_lines.specs.declared.form.Form.{Form}
 use Rattle.listing_lines.specs.declared.form.Form.TheVariants.{One, Two}
 use Rattle.listing_lines.specs.Lines.{line_of}
 use Rattle.listing_draft.specs.States.{add}
-use Rattle.listing_parse.specs.Forms.{Shapes, may_be, Misspells}
+use Rattle.listing_parse.specs.Forms.{HasShapeInForm, may_stand_in_form, MisspellsInForm}
 use Rattle.listing_parse.specs.declared.aside.Aside.TheVariants.{Nothing, Refused}
-use Rattle.listing_parse.specs.Text.{Reading, begin, tallied, aside, IsMisplaced, IsMisspelled, IsTwice, IsUnsaid, AreRefused, Reads, IsRefused, IsBadLine, ListingBreaks}
+use Rattle.listing_parse.specs.Text.{Reading, begin, line_counted, aside, IsMisplaced, IsMisspelled, IsTwice, IsUnsaid, AreRefused, Reads, LineIsRefused, IsBadLine, ListingBreaks}
 use Rattle.listing_parse.proofs.ExactLaws.{not_both, shape_one, says_none, reads_one, reads_over, refused_takes, bad_is_unread}
 
 -- ---- the first word that says nothing in its slot
@@ -39,26 +39,26 @@ here_one es (s ∷ ss) (w ∷ ws) c d (inl p) (inr q) = absurd (p.0 q.0 q.1)
 here_one es (s ∷ ss) (w ∷ ws) c d (inr p) (inl q) = absurd (q.0 p.0 p.1)
 here_one es (s ∷ ss) (w ∷ ws) c d (inr p) (inr q) = here_one es ss ws c d p.2 q.2
 
-misspells_one : (f : Form) (es : List Label) (ss : List Slot) (ws : List Word) (c d : ℕ) → Misspells f es ss ws c → Misspells f es ss ws d → c ≡ d
+misspells_one : (f : Form) (es : List Label) (ss : List Slot) (ws : List Word) (c d : ℕ) → MisspellsInForm f es ss ws c → MisspellsInForm f es ss ws d → c ≡ d
 misspells_one One es ss ws c d p q = slots_one ss ws c d p q
 misspells_one Two es ss ws c d p q = here_one es ss ws c d p q
 
 -- ---- why words are refused
 
-not_misplaced : (r : Reading) (ws : List Word) (s : Shape) → IsMisplaced r ws → Shapes r.form ws s → may_be r.form r.base s ≡ true → ⊥
+not_misplaced : (r : Reading) (ws : List Word) (s : Shape) → IsMisplaced r ws → HasShapeInForm r.form ws s → may_stand_in_form r.form r.base s ≡ true → ⊥
 not_misplaced r ws s m h stands =
     let e = shape_one r.form ws m.shape s m.has_shape h in
-    not_both (may_be r.form r.base s) stands (sym (ap (may_be r.form r.base) e) ∙ m.refused)
+    not_both (may_stand_in_form r.form r.base s) stands (sym (ap (may_stand_in_form r.form r.base) e) ∙ m.refused)
 
 not_misspelled : (r : Reading) (ws : List Word) (c : ℕ) → IsMisspelled r ws c → IsTwice r ws → ⊥
 not_misspelled r ws c m t =
     let e = shape_one r.form ws m.shape t.shape m.has_shape t.has_shape in
-    says_none r.form r.labels t.shape.slots t.shape.words t.says c t.spelled (subst (λ (x : Shape). Misspells r.form r.labels x.slots x.words c) e m.bad)
+    says_none r.form r.labels t.shape.slots t.shape.words t.says c t.spelled (subst (λ (x : Shape). MisspellsInForm r.form r.labels x.slots x.words c) e m.bad)
 
 misspelled_one : (r : Reading) (ws : List Word) (c d : ℕ) → IsMisspelled r ws c → IsMisspelled r ws d → c ≡ d
 misspelled_one r ws c d a b =
     let e = shape_one r.form ws a.shape b.shape a.has_shape b.has_shape in
-    misspells_one r.form r.labels b.shape.slots b.shape.words c d (subst (λ (x : Shape). Misspells r.form r.labels x.slots x.words c) e a.bad) b.bad
+    misspells_one r.form r.labels b.shape.slots b.shape.words c d (subst (λ (x : Shape). MisspellsInForm r.form r.labels x.slots x.words c) e a.bad) b.bad
 
 unsaid_one : (r : Reading) (ws : List Word) (c d : ℕ) → IsUnsaid r ws c → IsUnsaid r ws d → c ≡ d
 unsaid_one r ws c d (inl a) (inl b) = a.0 ∙ sym b.0
@@ -86,7 +86,7 @@ words_refused_one r ws c d (inr a) (inr b) = unsaid_one r ws c d a.1 b.1
 
 -- ---- the first line that is refused
 
-line_refused_one : (r : Reading) (l : List ℕ) (c d : ℕ) → IsRefused r l c → IsRefused r l d → c ≡ d
+line_refused_one : (r : Reading) (l : List ℕ) (c d : ℕ) → LineIsRefused r l c → LineIsRefused r l d → c ≡ d
 line_refused_one r l c d a b = by a.why b.why
   where
     by : ((c ≡ 100) × ((ws : List Word) → HasWords l ws → ⊥)) ⊎ ((ws : List Word) × HasWords l ws × AreRefused r ws c)
@@ -108,7 +108,7 @@ module _ {A : Type 0} where
       let m = h.1 in
       (h.0, cc, h.2)
 
-  -- At one place of a list one thing stands, before and behind it too.
+  -- At one place of a list one thing stands, before and after it too.
   stands_once : (xs ys : List A) (x y : A) (us vs : List A) → xs ++ x ∷ us ≡ ys ++ y ∷ vs → length xs ≡ length ys → (xs ≡ ys) × (x ≡ y) × (us ≡ vs)
   stands_once [] [] x y us vs e n = (refl, cc, cc)
   stands_once [] (z ∷ ys) x y us vs e n = absurd (omega (arith, n))
@@ -122,11 +122,11 @@ module _ {A : Type 0} where
 -- The bad line of the one isn't among those that the other accepts.
 not_earlier : (ls : List (List ℕ)) (c d p q : ℕ) (a : IsBadLine ls c p) (b : IsBadLine ls d q) → length a.before < length b.before → ⊥
 not_earlier ls c d p q a b less =
-    let s = lies_before a.before b.before a.bad b.bad a.behind b.behind (sym a.joined ∙ b.joined) less in
+    let s = lies_before a.before b.before a.bad b.bad a.after b.after (sym a.joined ∙ b.joined) less in
     let t = subst (λ (k : List (List ℕ)). Reads begin a.before (a.bad ∷ k) a.state) s.2 a.accepted in
-    let u = subst (λ (k : List (List ℕ)). Reads begin k (b.bad ∷ b.behind) b.state) s.1 b.accepted in
-    let o = reads_over a.before a.bad s.0 (b.bad ∷ b.behind) begin a.state b.state t u in
-    refused_takes a.state (s.0 ++ b.bad ∷ b.behind) a.bad o.0 c a.refused o.1
+    let u = subst (λ (k : List (List ℕ)). Reads begin k (b.bad ∷ b.after) b.state) s.1 b.accepted in
+    let o = reads_over a.before a.bad s.0 (b.bad ∷ b.after) begin a.state b.state t u in
+    refused_takes a.state (s.0 ++ b.bad ∷ b.after) a.bad o.0 c a.refused o.1
 
 bad_line_one : (ls : List (List ℕ)) (c d p q : ℕ) → IsBadLine ls c p → IsBadLine ls d q → (c ≡ d) × (p ≡ q)
 bad_line_one ls c d p q a b = elim (cases_lt (length a.before) (length b.before)) [
@@ -135,12 +135,12 @@ bad_line_one ls c d p q a b = elim (cases_lt (length a.before) (length b.before)
     | inl less ↦ absurd (not_earlier ls d c q p b a less)
     | inr least ↦
         let n : length a.before ≡ length b.before = omega (arith, most, least) in
-        let s = stands_once a.before b.before a.bad b.bad a.behind b.behind (sym a.joined ∙ b.joined) n in
-        let k : a.bad ∷ a.behind ≡ b.bad ∷ b.behind = let x = s.1 in let y = s.2 in cc in
-        let read = subst (λ (m : List (List ℕ)). Reads begin m (b.bad ∷ b.behind) a.state) s.0 (subst (λ (m : List (List ℕ)). Reads begin a.before m a.state) k a.accepted) in
-        let e = reads_one b.before (b.bad ∷ b.behind) begin a.state b.state read b.accepted in
-        let w = subst (λ (r : Reading). IsRefused (tallied r) b.bad c) e (subst (λ (l : List ℕ). IsRefused (tallied a.state) l c) s.1 a.refused) in
-        (line_refused_one (tallied b.state) b.bad c d w b.refused, a.number ∙ ap (λ (k : ℕ). k + 1) n ∙ sym b.number)
+        let s = stands_once a.before b.before a.bad b.bad a.after b.after (sym a.joined ∙ b.joined) n in
+        let k : a.bad ∷ a.after ≡ b.bad ∷ b.after = let x = s.1 in let y = s.2 in cc in
+        let read = subst (λ (m : List (List ℕ)). Reads begin m (b.bad ∷ b.after) a.state) s.0 (subst (λ (m : List (List ℕ)). Reads begin a.before m a.state) k a.accepted) in
+        let e = reads_one b.before (b.bad ∷ b.after) begin a.state b.state read b.accepted in
+        let w = subst (λ (r : Reading). LineIsRefused (line_counted r) b.bad c) e (subst (λ (l : List ℕ). LineIsRefused (line_counted a.state) l c) s.1 a.refused) in
+        (line_refused_one (line_counted b.state) b.bad c d w b.refused, a.number ∙ ap (λ (k : ℕ). k + 1) n ∙ sym b.number)
   ]
 ]
 

@@ -1,4 +1,4 @@
--- Lines one behind the other.
+-- Lines one after the other.
 use Rattle.std.proofs.Common.{◌≡◌, ℕ, ◌+◌, inl, inr, List, [], ◌∷◌, ◌++◌, length, Some, None, refl, sym, ap, subst, ◌∙◌, append_assoc}
 use Rattle.std.proofs.lemmas.List.{append-nil}
 use Rattle.base_bytes.specs.declared.fault.Fault.{Fault}
@@ -10,24 +10,24 @@ use Rattle.listing_draft.specs.declared.block.Block.TheVariants.{Start, Top, Cla
 use Rattle.listing_draft.specs.declared.draft.Draft.{Draft}
 use Rattle.listing_draft.specs.States.{at_top, State}
 use Rattle.listing_labels.specs.Lines.{lines}
-use Rattle.listing_parse.specs.Text.{Reading, begin, tallied, Takes, Reads, IsListing, IsRefused, IsBadLine, ListingBreaks, IsFinished, IsUnfinished}
+use Rattle.listing_parse.specs.Text.{Reading, begin, line_counted, TakesLine, Reads, IsListing, LineIsRefused, IsBadLine, ListingBreaks, IsFinished, IsUnfinished}
 use Rattle.listing_draft.specs.View.{block, state}
 use Rattle.listing_parse.specs.View.{reading}
 use Rattle.listing_parse.specs.declared.reading.Reading.{Reading as Made}
 
-pub Reads-push : (s t u : Reading) (ls : List (List ℕ)) (l : List ℕ) (rest : List (List ℕ)) → Reads s ls (l ∷ rest) t → Takes t rest l u → Reads s (ls ++ l ∷ []) rest u
-Reads-push s t u [] l rest e h = (u, subst (λ (x : Reading). Takes x rest l u) (sym e) h, refl)
-Reads-push s t u (k ∷ ks) l rest r h = (r.0, subst (λ (x : List (List ℕ)). Takes s x k r.0) (sym (append_assoc ks (l ∷ []) rest)) r.1, Reads-push r.0 t u ks l rest r.2 h)
+pub Reads-push : (s t u : Reading) (ls : List (List ℕ)) (l : List ℕ) (rest : List (List ℕ)) → Reads s ls (l ∷ rest) t → TakesLine t rest l u → Reads s (ls ++ l ∷ []) rest u
+Reads-push s t u [] l rest e h = (u, subst (λ (x : Reading). TakesLine x rest l u) (sym e) h, refl)
+Reads-push s t u (k ∷ ks) l rest r h = (r.0, subst (λ (x : List (List ℕ)). TakesLine s x k r.0) (sym (append_assoc ks (l ∷ []) rest)) r.1, Reads-push r.0 t u ks l rest r.2 h)
 
-pub lines_push : (all before behind rest : List (List ℕ)) (l : List ℕ) → all ≡ before ++ rest → rest ≡ l ∷ behind → all ≡ (before ++ l ∷ []) ++ behind
-lines_push all before behind rest l e f = e ∙ ap (λ x. before ++ x) f ∙ sym (append_assoc before (l ∷ []) behind)
+pub lines_push : (all before after rest : List (List ℕ)) (l : List ℕ) → all ≡ before ++ rest → rest ≡ l ∷ after → all ≡ (before ++ l ∷ []) ++ after
+lines_push all before after rest l e f = e ∙ ap (λ x. before ++ x) f ∙ sym (append_assoc before (l ∷ []) after)
 
-pub bad_line : (text : List ℕ) (before behind rest : List (List ℕ)) (l : List ℕ) (s : Reading) (code place : ℕ) → lines text ≡ before ++ rest → rest ≡ l ∷ behind → place ≡ length before + 1 → Reads begin before rest s → IsRefused (tallied s) l code
+pub bad_line : (text : List ℕ) (before after rest : List (List ℕ)) (l : List ℕ) (s : Reading) (code place : ℕ) → lines text ≡ before ++ rest → rest ≡ l ∷ after → place ≡ length before + 1 → Reads begin before rest s → LineIsRefused (line_counted s) l code
     → IsBadLine (lines text) code place
-bad_line text before behind rest l s code place e f n r h = record {
+bad_line text before after rest l s code place e f n r h = record {
   before = before;
   bad = l;
-  behind = behind;
+  after = after;
   joined = e ∙ ap (λ x. before ++ x) f;
   number = n;
   state = s;
@@ -53,7 +53,7 @@ pub lines_in : (r : Made) → (reading r).base.lines ≡ r.draft.lines
 unfolding reading state
 lines_in r = refl
 
--- ---- behind the last line
+-- ---- after the last line
 
 pub finished : (d : Draft) → d.block ≡ Top → d.late ≡ None → IsFinished (state d)
 unfolding state block

@@ -8,42 +8,42 @@ use Rattle.listing_shapes.specs.Shapes.{Shape}
 use Rattle.listing_lines.specs.Lines.{Line, line_of}
 use Rattle.listing_draft.specs.States.{State, add}
 use Rattle.listing_labels.specs.Lines.{is_skipped}
-use Rattle.listing_parse.specs.Forms.{Shapes, may_be, Spells, Misspells}
-use Rattle.listing_parse.specs.Text.{Reading, aside, in_second, labels_behind, Says, Adds, IsUnsaid, IsRefused}
+use Rattle.listing_parse.specs.Forms.{HasShapeInForm, may_stand_in_form, SpellsInForm, MisspellsInForm}
+use Rattle.listing_parse.specs.Text.{Reading, aside, in_second, labels_after, LineSays, AddsLine, IsUnsaid, LineIsRefused}
 use Rattle.listing_parse.specs.declared.aside.Aside.TheVariants.{Nothing, Refused, First, Mark}
 
-pub wordless : (r : Reading) (line : List ℕ) → is_skipped line ≡ false → ((ws : List Word) → HasWords line ws → ⊥) → IsRefused r line 100
+pub wordless : (r : Reading) (line : List ℕ) → is_skipped line ≡ false → ((ws : List Word) → HasWords line ws → ⊥) → LineIsRefused r line 100
 wordless r line k none = record { not_skipped = k; why = inl (refl, none) }
 
-pub aside_refused : (r : Reading) (line : List ℕ) (ws : List Word) (code : ℕ) → is_skipped line ≡ false → HasWords line ws → aside r ws ≡ Refused code → IsRefused r line code
+pub aside_refused : (r : Reading) (line : List ℕ) (ws : List Word) (code : ℕ) → is_skipped line ≡ false → HasWords line ws → aside r ws ≡ Refused code → LineIsRefused r line code
 aside_refused r line ws code k h e = record { not_skipped = k; why = inr (ws, h, inl e) }
 
-pub unsaid_refused : (r : Reading) (line : List ℕ) (ws : List Word) (code : ℕ) → is_skipped line ≡ false → HasWords line ws → aside r ws ≡ Nothing → IsUnsaid r ws code → IsRefused r line code
+pub unsaid_refused : (r : Reading) (line : List ℕ) (ws : List Word) (code : ℕ) → is_skipped line ≡ false → HasWords line ws → aside r ws ≡ Nothing → IsUnsaid r ws code → LineIsRefused r line code
 unsaid_refused r line ws code k h e u = record { not_skipped = k; why = inr (ws, h, inr (e, u)) }
 
-pub first_added : (r t : Reading) (ls : List (List ℕ)) (line : List ℕ) (ws : List Word) → HasWords line ws → aside r ws ≡ First → t ≡ in_second r → Adds r ls line t
+pub first_added : (r t : Reading) (ls : List (List ℕ)) (line : List ℕ) (ws : List Word) → HasWords line ws → aside r ws ≡ First → t ≡ in_second r → AddsLine r ls line t
 first_added r t ls line ws h e f = record { words = ws; has_words = h; makes = inl (e, f) }
 
-pub mark_added : (r : Reading) (ls : List (List ℕ)) (line : List ℕ) (ws : List Word) → HasWords line ws → aside r ws ≡ Mark → Adds r ls line r
+pub mark_added : (r : Reading) (ls : List (List ℕ)) (line : List ℕ) (ws : List Word) → HasWords line ws → aside r ws ≡ Mark → AddsLine r ls line r
 mark_added r ls line ws h e = record { words = ws; has_words = h; makes = inr (inl (e, refl)) }
 
-pub said_added : (r t : Reading) (ls : List (List ℕ)) (line : List ℕ) (ws : List Word) → HasWords line ws → aside r ws ≡ Nothing → Says r ls ws t → Adds r ls line t
+pub said_added : (r t : Reading) (ls : List (List ℕ)) (line : List ℕ) (ws : List Word) → HasWords line ws → aside r ws ≡ Nothing → LineSays r ls ws t → AddsLine r ls line t
 said_added r t ls line ws h e s = record { words = ws; has_words = h; makes = inr (inr (e, s)) }
 
-pub shapeless : (r : Reading) (ws : List Word) → ((sh : Shape) → Shapes r.form ws sh → ⊥) → IsUnsaid r ws 100
+pub shapeless : (r : Reading) (ws : List Word) → ((sh : Shape) → HasShapeInForm r.form ws sh → ⊥) → IsUnsaid r ws 100
 shapeless r ws none = inl (refl, none)
 
-pub misplaced : (r : Reading) (ws : List Word) (sh : Shape) → Shapes r.form ws sh → may_be r.form r.base sh ≡ false → IsUnsaid r ws 103
+pub misplaced : (r : Reading) (ws : List Word) (sh : Shape) → HasShapeInForm r.form ws sh → may_stand_in_form r.form r.base sh ≡ false → IsUnsaid r ws 103
 misplaced r ws sh g n = inr (inl (refl, record { shape = sh; has_shape = g; refused = n }))
 
-pub misspelled : (r : Reading) (ws : List Word) (sh : Shape) (code : ℕ) → Shapes r.form ws sh → may_be r.form r.base sh ≡ true → Misspells r.form r.labels sh.slots sh.words code → IsUnsaid r ws code
+pub misspelled : (r : Reading) (ws : List Word) (sh : Shape) (code : ℕ) → HasShapeInForm r.form ws sh → may_stand_in_form r.form r.base sh ≡ true → MisspellsInForm r.form r.labels sh.slots sh.words code → IsUnsaid r ws code
 misspelled r ws sh code g n b = inr (inr (inl (record { shape = sh; has_shape = g; may_stand = n; bad = b })))
 
-pub twice : (r : Reading) (ws : List Word) (sh : Shape) (ds : List Datum) (l : Line) → Shapes r.form ws sh → may_be r.form r.base sh ≡ true → Spells r.form r.labels sh.slots sh.words ds → l ≡ line_of sh.kind ds → add r.base l ≡ None → IsUnsaid r ws 104
+pub twice : (r : Reading) (ws : List Word) (sh : Shape) (ds : List Datum) (l : Line) → HasShapeInForm r.form ws sh → may_stand_in_form r.form r.base sh ≡ true → SpellsInForm r.form r.labels sh.slots sh.words ds → l ≡ line_of sh.kind ds → add r.base l ≡ None → IsUnsaid r ws 104
 twice r ws sh ds l g n p e a = inr (inr (inr (refl, record { shape = sh; has_shape = g; may_stand = n; says = ds; spelled = p; refused = rw (← e) a })))
 
-pub taken : (r t : Reading) (ls : List (List ℕ)) (ws : List Word) (sh : Shape) (ds : List Datum) (l : Line) (next : State) → Shapes r.form ws sh → may_be r.form r.base sh ≡ true → Spells r.form r.labels sh.slots sh.words ds → l ≡ line_of sh.kind ds
-    → add r.base l ≡ Some next → t ≡ record { form = r.form; labels = labels_behind r.form sh.kind (r.base.lines + 1) ls r.labels; base = next } → Says r ls ws t
+pub taken : (r t : Reading) (ls : List (List ℕ)) (ws : List Word) (sh : Shape) (ds : List Datum) (l : Line) (next : State) → HasShapeInForm r.form ws sh → may_stand_in_form r.form r.base sh ≡ true → SpellsInForm r.form r.labels sh.slots sh.words ds → l ≡ line_of sh.kind ds
+    → add r.base l ≡ Some next → t ≡ record { form = r.form; labels = labels_after r.form sh.kind (r.base.lines + 1) ls r.labels; base = next } → LineSays r ls ws t
 taken r t ls ws sh ds l next g n p e a is = record { shape = sh; has_shape = g; may_stand = n; says = ds; spelled = p; next = next; added = rw (← e) a; is = is }
 
 pub drop_map : (n : ℕ) (ws : List Made) → map word (drop n ws) ≡ drop n (map word ws)

@@ -12,22 +12,22 @@ use Rattle.listing_lines.specs.declared.form.Form.{Form}
 use Rattle.listing_lines.specs.declared.form.Form.TheVariants.{One, Two}
 use Rattle.listing_draft.specs.States.{State, stage_of, stands}
 
--- The words have this shape.
-abbrev pub Shapes : Form → List Word → Shape → Type 0
-Shapes One ws s = HasShape ws s
-Shapes Two ws s = HasBareShape ws s
+-- The words have this shape, in a listing of this form.
+abbrev pub HasShapeInForm : Form → List Word → Shape → Type 0
+HasShapeInForm One ws s = HasShape ws s
+HasShapeInForm Two ws s = HasBareShape ws s
 
--- A line of this shape may stand there.
-abbrev pub may_be : Form → State → Shape → Bool
-may_be One s sh = stands s sh
-may_be Two s sh = may_stand (stage_of s.block) sh.kind
+-- A line of this shape may stand after what was read, in a listing of this form.
+abbrev pub may_stand_in_form : Form → State → Shape → Bool
+may_stand_in_form One s sh = stands s sh
+may_stand_in_form Two s sh = may_stand (stage_of s.block) sh.kind
 
--- Each word says this in its slot.
-abbrev pub Spells : Form → List Label → List Slot → List Word → List Datum → Type 0
-Spells One ls ss ws ds = SpellsSlots ss ws ds
-Spells Two ls ss ws ds = SpellsAll ls ss ws ds
+-- Each word says this in its slot, in a listing of this form.
+abbrev pub SpellsInForm : Form → List Label → List Slot → List Word → List Datum → Type 0
+SpellsInForm One ls ss ws ds = SpellsSlots ss ws ds
+SpellsInForm Two ls ss ws ds = SpellsAll ls ss ws ds
 
--- One says nothing there.
-abbrev pub Misspells : Form → List Label → List Slot → List Word → ℕ → Type 0
-Misspells One ls ss ws code = MisspellsSlots ss ws code
-Misspells Two ls ss ws code = MisspellsAll ls ss ws code
+-- One of the words says nothing in its slot, in a listing of this form, and this is its fault.
+abbrev pub MisspellsInForm : Form → List Label → List Slot → List Word → ℕ → Type 0
+MisspellsInForm One ls ss ws code = MisspellsSlots ss ws code
+MisspellsInForm Two ls ss ws code = MisspellsAll ls ss ws code

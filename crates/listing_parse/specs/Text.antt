@@ -16,7 +16,7 @@ use Rattle.listing_lines.specs.Forms.{is_two}
 use Rattle.listing_draft.specs.States.{at_top, State, start, stage_of, counted, add}
 use Rattle.listing_labels.specs.Lines.{lines, is_skipped}
 use Rattle.listing_labels.specs.Labels.{Label, is_label, is_mark, lookup, labels_ahead}
-use Rattle.listing_parse.specs.Forms.{Shapes, may_be, Spells, Misspells}
+use Rattle.listing_parse.specs.Forms.{HasShapeInForm, may_stand_in_form, SpellsInForm, MisspellsInForm}
 use Rattle.listing_lines.specs.declared.form.Form.{Form}
 use Rattle.listing_lines.specs.declared.form.Form.TheVariants.{One, Two}
 use Rattle.listing_parse.specs.declared.aside.Aside.{Aside}
@@ -33,19 +33,19 @@ abbrev pub begin : Reading
 begin = record { form = One; labels = []; base = start }
 
 -- One line more was read.
-abbrev pub tallied : Reading → Reading
-tallied r = record r { base = counted r.base }
+abbrev pub line_counted : Reading → Reading
+line_counted r = record r { base = counted r.base }
 
 -- ---- lines that say nothing of the program
 
 -- The word is this one.
-abbrev pub is_plain : List ℕ → Word → Bool
-is_plain t (plain_word w) = same t w
-is_plain t (text_in_quotes us) = false
+abbrev pub word_is : List ℕ → Word → Bool
+word_is t (plain_word w) = same t w
+word_is t (text_in_quotes us) = false
 
 -- `dex 035 listing 2`
 abbrev pub is_second : List Word → Bool
-is_second (a ∷ b ∷ c ∷ d ∷ []) = is_plain (codes "dex") a && (is_plain (codes "035") b && (is_plain (codes "listing") c && is_plain (codes "2") d))
+is_second (a ∷ b ∷ c ∷ d ∷ []) = word_is (codes "dex") a && (word_is (codes "035") b && (word_is (codes "listing") c && word_is (codes "2") d))
 is_second _ = false
 
 -- The first word begins with `:`.
@@ -79,39 +79,39 @@ in_second r = record { form = Two; labels = []; base = record r.base { block = a
 
 -- ---- lines one by one
 
--- The labels behind a line of this kind: those of a code are of the lines that follow it, up to the code's end.
-abbrev pub labels_behind : Form → Kind → ℕ → List (List ℕ) → List Label → List Label
-labels_behind Two kind.OpenCode line ls es = labels_ahead [] line 0 ls
-labels_behind Two kind.EndCode line ls es = []
-labels_behind _ _ line ls es = es
+-- The labels after a line of this kind: those of a code are of the lines that follow it, up to the code's end.
+abbrev pub labels_after : Form → Kind → ℕ → List (List ℕ) → List Label → List Label
+labels_after Two kind.OpenCode line ls es = labels_ahead [] line 0 ls
+labels_after Two kind.EndCode line ls es = []
+labels_after _ _ line ls es = es
 
 -- The line says this of the program, and these lines follow it.
-pub record Says (r : Reading) (ls : List (List ℕ)) (ws : List Word) (t : Reading) : Type 0 where
+pub record LineSays (r : Reading) (ls : List (List ℕ)) (ws : List Word) (t : Reading) : Type 0 where
   pub shape : Shape
-  pub has_shape : Shapes r.form ws shape
-  pub may_stand : may_be r.form r.base shape ≡ true
+  pub has_shape : HasShapeInForm r.form ws shape
+  pub may_stand : may_stand_in_form r.form r.base shape ≡ true
   pub says : List Datum
-  pub spelled : Spells r.form r.labels shape.slots shape.words says
+  pub spelled : SpellsInForm r.form r.labels shape.slots shape.words says
   pub next : State
   pub added : add r.base (line_of shape.kind says) ≡ Some next
-  pub is : t ≡ record { form = r.form; labels = labels_behind r.form shape.kind (r.base.lines + 1) ls r.labels; base = next }
+  pub is : t ≡ record { form = r.form; labels = labels_after r.form shape.kind (r.base.lines + 1) ls r.labels; base = next }
 
--- Behind the lines that make r, and before these, this line makes it t.
-pub record Adds (r : Reading) (ls : List (List ℕ)) (line : List ℕ) (t : Reading) : Type 0 where
+-- After the lines that make r, and before these, this line makes it t.
+pub record AddsLine (r : Reading) (ls : List (List ℕ)) (line : List ℕ) (t : Reading) : Type 0 where
   pub words : List Word
   pub has_words : HasWords line words
-  pub makes : ((aside r words ≡ First) × (t ≡ in_second r)) ⊎ ((aside r words ≡ Mark) × (t ≡ r)) ⊎ ((aside r words ≡ Nothing) × Says r ls words t)
+  pub makes : ((aside r words ≡ First) × (t ≡ in_second r)) ⊎ ((aside r words ≡ Mark) × (t ≡ r)) ⊎ ((aside r words ≡ Nothing) × LineSays r ls words t)
 
 -- A line is read, whether it is skipped or says something: it counts in any case.
-abbrev pub Takes : Reading → List (List ℕ) → List ℕ → Reading → Type 0
-Takes r ls line t = ((is_skipped line ≡ true) × (t ≡ tallied r)) ⊎ ((is_skipped line ≡ false) × Adds (tallied r) ls line t)
+abbrev pub TakesLine : Reading → List (List ℕ) → List ℕ → Reading → Type 0
+TakesLine r ls line t = ((is_skipped line ≡ true) × (t ≡ line_counted r)) ⊎ ((is_skipped line ≡ false) × AddsLine (line_counted r) ls line t)
 
--- Lines one behind the other, and then these.
+-- Lines one after the other, and then these.
 abbrev pub Reads : Reading → List (List ℕ) → List (List ℕ) → Reading → Type 0
 Reads r [] rest t = r ≡ t
-Reads r (l ∷ ls) rest t = (u : Reading) × Takes r (ls ++ rest) l u × Reads u ls rest t
+Reads r (l ∷ ls) rest t = (u : Reading) × TakesLine r (ls ++ rest) l u × Reads u ls rest t
 
--- The text is a listing of this program: its lines, one behind the other, make the program's classes, no block is open at its
+-- The text is a listing of this program: its lines, one after the other, make the program's classes, no block is open at its
 -- end, each target is an instruction of its code, and the program is well formed.
 pub record IsListing (text : List ℕ) (p : Program) : Type 0 where
   pub end : Reading
@@ -127,38 +127,38 @@ pub record IsListing (text : List ℕ) (p : Program) : Type 0 where
 abbrev pub IsWordless : List ℕ → Type 0
 IsWordless line = (ws : List Word) → HasWords line ws → ⊥
 
--- 103 Order: it may not stand behind these lines.
+-- 103 Order: it may not stand after these lines.
 pub record IsMisplaced (r : Reading) (ws : List Word) : Type 0 where
   pub shape : Shape
-  pub has_shape : Shapes r.form ws shape
-  pub refused : may_be r.form r.base shape ≡ false
+  pub has_shape : HasShapeInForm r.form ws shape
+  pub refused : may_stand_in_form r.form r.base shape ≡ false
 
 -- 101 Name, 102 Number: from the left, a word says nothing in its slot.
 pub record IsMisspelled (r : Reading) (ws : List Word) (code : ℕ) : Type 0 where
   pub shape : Shape
-  pub has_shape : Shapes r.form ws shape
-  pub may_stand : may_be r.form r.base shape ≡ true
-  pub bad : Misspells r.form r.labels shape.slots shape.words code
+  pub has_shape : HasShapeInForm r.form ws shape
+  pub may_stand : may_stand_in_form r.form r.base shape ≡ true
+  pub bad : MisspellsInForm r.form r.labels shape.slots shape.words code
 
 -- 104 Twice: it gives again what may be given once.
 pub record IsTwice (r : Reading) (ws : List Word) : Type 0 where
   pub shape : Shape
-  pub has_shape : Shapes r.form ws shape
-  pub may_stand : may_be r.form r.base shape ≡ true
+  pub has_shape : HasShapeInForm r.form ws shape
+  pub may_stand : may_stand_in_form r.form r.base shape ≡ true
   pub says : List Datum
-  pub spelled : Spells r.form r.labels shape.slots shape.words says
+  pub spelled : SpellsInForm r.form r.labels shape.slots shape.words says
   pub refused : add r.base (line_of shape.kind says) ≡ None
 
 -- Why these words say nothing of the program: 100 Word where they have no shape, or one of the others.
 abbrev pub IsUnsaid : Reading → List Word → ℕ → Type 0
-IsUnsaid r ws code = ((code ≡ 100) × ((sh : Shape) → Shapes r.form ws sh → ⊥)) ⊎ ((code ≡ 103) × IsMisplaced r ws) ⊎ IsMisspelled r ws code ⊎ ((code ≡ 104) × IsTwice r ws)
+IsUnsaid r ws code = ((code ≡ 100) × ((sh : Shape) → HasShapeInForm r.form ws sh → ⊥)) ⊎ ((code ≡ 103) × IsMisplaced r ws) ⊎ IsMisspelled r ws code ⊎ ((code ≡ 104) × IsTwice r ws)
 
 -- Why these words are refused: as the first line of a form or as a label's line, or as any other.
 abbrev pub AreRefused : Reading → List Word → ℕ → Type 0
 AreRefused r ws code = (aside r ws ≡ Refused code) ⊎ ((aside r ws ≡ Nothing) × IsUnsaid r ws code)
 
--- Why a line is refused behind the lines that make r.
-pub record IsRefused (r : Reading) (line : List ℕ) (code : ℕ) : Type 0 where
+-- Why a line is refused after the lines that make r.
+pub record LineIsRefused (r : Reading) (line : List ℕ) (code : ℕ) : Type 0 where
   pub not_skipped : is_skipped line ≡ false
   pub why : ((code ≡ 100) × IsWordless line) ⊎ ((ws : List Word) × HasWords line ws × AreRefused r ws code)
 
@@ -166,12 +166,12 @@ pub record IsRefused (r : Reading) (line : List ℕ) (code : ℕ) : Type 0 where
 pub record IsBadLine (ls : List (List ℕ)) (code place : ℕ) : Type 0 where
   pub before : List (List ℕ)
   pub bad : List ℕ
-  pub behind : List (List ℕ)
-  pub joined : ls ≡ before ++ bad ∷ behind
+  pub after : List (List ℕ)
+  pub joined : ls ≡ before ++ bad ∷ after
   pub number : place ≡ length before + 1
   pub state : Reading
-  pub accepted : Reads begin before (bad ∷ behind) state
-  pub refused : IsRefused (tallied state) bad code
+  pub accepted : Reads begin before (bad ∷ after) state
+  pub refused : LineIsRefused (line_counted state) bad code
 
 -- 106 NotEnded: all lines are accepted, and a block is open or nothing was read.
 pub record IsOpen (ls : List (List ℕ)) : Type 0 where
@@ -205,7 +205,7 @@ ListingBreaks text code place =
 
 -- ---- what a private helper says
 
--- Behind all lines: no block is open, and each target is an instruction of its code.
+-- After all lines: no block is open, and each target is an instruction of its code.
 abbrev pub IsFinished : State → Type 0
 IsFinished s = (s.block ≡ at_top) × (s.late ≡ None)
 

@@ -9,9 +9,9 @@ ghost use Rattle.listing_shapes.specs.Shapes.{Shape};
 ghost use Rattle.listing_shapes.specs.ShapeView.{shape};
 ghost use Rattle.listing_draft.specs.View.{state};
 ghost use Rattle.listing_labels.specs.Lines.{lines, is_skipped};
-ghost use Rattle.listing_parse.specs.Forms.{Shapes, may_be, Spells, Misspells};
+ghost use Rattle.listing_parse.specs.Forms.{HasShapeInForm, may_stand_in_form, SpellsInForm, MisspellsInForm};
 ghost use Rattle.listing_parse.specs.Text as spec;
-ghost use Rattle.listing_parse.specs.Text.{begin, tallied, is_plain, is_second, begins_mark, labels_behind, Says, IsUnsaid, Adds, Takes, Reads, IsListing, IsRefused, IsBadLine, ListingBreaks, IsFinished, IsUnfinished};
+ghost use Rattle.listing_parse.specs.Text.{begin, line_counted, word_is, is_second, begins_mark, labels_after, LineSays, IsUnsaid, AddsLine, TakesLine, Reads, IsListing, LineIsRefused, IsBadLine, ListingBreaks, IsFinished, IsUnfinished};
 ghost use Rattle.listing_parse.specs.View.{reading};
 
 use crate::aside::Aside;
@@ -45,7 +45,7 @@ pub struct Reading<'a, 't> {
 
 /// Whether the word is this one.
 fn is_plain(text: &[u8], one: Word<'_, '_>) -> bool
-    ensures { result ≡ is_plain text.now (word one.entry) }
+    ensures { result ≡ word_is text.now (word one.entry) }
 {
     match one {
         Word::Plain(w) => is_same(text, w),
@@ -177,7 +177,7 @@ impl<'a, 't> Reading<'a, 't> {
     /// Whether a line of this shape may stand here.
     #[tactic(auto, unfolding(crate::specs::View::reading))]
     fn may_be(&self, found: Found<'_>) -> bool
-        ensures { (ss : List Slot) (ws : List words.Word) → result ≡ may_be self.now.form (state self.now.draft) (shape found.entry ss ws) }
+        ensures { (ss : List Slot) (ws : List words.Word) → result ≡ may_stand_in_form self.now.form (state self.now.draft) (shape found.entry ss ws) }
     {
         match self.form {
             Form::One => self.draft.stands(found),
@@ -187,16 +187,16 @@ impl<'a, 't> Reading<'a, 't> {
 
     /// The labels ahead of a line of this kind.
     #[tactic(auto, unfolding(crate::specs::View::reading))]
-    fn look(&mut self, kind: Kind, behind: &'t [u8]) -> Result<(), Fault>
-        requires { self.old.draft.lines + 1 + length behind.now < 2 ^ 64 }
-        ensures looked { OnOk result (reading self.new ≡ record (reading self.old) { labels = labels_behind self.old.form kind (self.old.draft.lines + 1) (lines behind.now) (reading self.old).labels }) }
+    fn find_labels(&mut self, kind: Kind, after: &'t [u8]) -> Result<(), Fault>
+        requires { self.old.draft.lines + 1 + length after.now < 2 ^ 64 }
+        ensures looked { OnOk result (reading self.new ≡ record (reading self.old) { labels = labels_after self.old.form kind (self.old.draft.lines + 1) (lines after.now) (reading self.old).labels }) }
         ensures lines { self.new.draft.lines ≡ self.old.draft.lines }
         ensures memory { IsOkUnless result memory }
     {
         match (self.form, kind) {
             (Form::Two, Kind::OpenCode) => {
                 self.passed = 0;
-                look_ahead(&mut self.labels, behind, self.draft.lines + 1)
+                look_ahead(&mut self.labels, after, self.draft.lines + 1)
             }
             (Form::Two, Kind::EndCode) => {
                 self.labels.clear();
@@ -213,9 +213,9 @@ fn read_form<'a, 'b>(
     words: &[Word<'a, 'b>],
     slots: &mut Vec<Slot, &'a Bump>,
 ) -> Result<Option<Found<'b>>, Fault>
-    ensures found { IfOk result (λ r. IfSome r (λ f. Shapes form (map word words.now) (shape f slots.new.items (map word words.now)))) }
+    ensures found { IfOk result (λ r. IfSome r (λ f. HasShapeInForm form (map word words.now) (shape f slots.new.items (map word words.now)))) }
     ensures lengths { IfOk result (λ r. IfSome r (λ f. f.lead + length slots.new.items ≡ length words.now)) }
-    ensures none { IfOk result (λ r. IfNone r ((s : Shape) → Shapes form (map word words.now) s → ⊥)) }
+    ensures none { IfOk result (λ r. IfNone r ((s : Shape) → HasShapeInForm form (map word words.now) s → ⊥)) }
     ensures memory { IsOkUnless result memory }
 {
     match form {
@@ -235,15 +235,15 @@ struct Scratch<'a, 'b> {
     spelled: Spelled<'a, 'b>,
 }
 
-/// What the words behind the first ones say in the slots; else the fault of the first that says nothing there.
+/// What the words after the first ones say in the slots; else the fault of the first that says nothing there.
 fn read_says<'a, 'b>(
     scratch: &mut Scratch<'a, 'b>,
     listing: &Reading<'a, 'b>,
     lead: usize,
 ) -> Result<Option<u16>, Fault>
     requires { lead + length scratch.old.slots.items ≡ length scratch.old.words.items }
-    ensures all { IfOk result (λ r. IfNone r (Spells listing.now.form listing.now.labels scratch.old.slots.items (drop lead (map word scratch.old.words.items)) (map datum scratch.new.says.items))) }
-    ensures bad { IfOk result (λ r. IfSome r (λ code. Misspells listing.now.form listing.now.labels scratch.old.slots.items (drop lead (map word scratch.old.words.items)) code)) }
+    ensures all { IfOk result (λ r. IfNone r (SpellsInForm listing.now.form listing.now.labels scratch.old.slots.items (drop lead (map word scratch.old.words.items)) (map datum scratch.new.says.items))) }
+    ensures bad { IfOk result (λ r. IfSome r (λ code. MisspellsInForm listing.now.form listing.now.labels scratch.old.slots.items (drop lead (map word scratch.old.words.items)) code)) }
     ensures memory { IsOkUnless result memory }
 {
     let (_, operands) = scratch.words.as_slice().split_at(lead);
@@ -272,10 +272,10 @@ fn read_says<'a, 'b>(
 fn add_says<'a, 'b>(
     scratch: &mut Scratch<'a, 'b>,
     listing: &mut Reading<'a, 'b>,
-    behind: &'b [u8],
+    after: &'b [u8],
 ) -> Result<(), Fault>
-    requires { listing.old.draft.lines + 1 + length behind.now < 2 ^ 64 }
-    ensures taken { OnOk result (Says (reading listing.old) (lines behind.now) (map word scratch.old.words.items) (reading listing.new)) }
+    requires { listing.old.draft.lines + 1 + length after.now < 2 ^ 64 }
+    ensures taken { OnOk result (LineSays (reading listing.old) (lines after.now) (map word scratch.old.words.items) (reading listing.new)) }
     ensures refused { IfErr result (λ e. e ≢ memory → IsUnsaid (reading listing.old) (map word scratch.old.words.items) e.code) }
     ensures place { IfErr result (λ e. e ≢ memory → e.place ≡ listing.old.draft.lines) }
     ensures lines { OnOk result (listing.new.draft.lines ≡ listing.old.draft.lines) }
@@ -294,7 +294,7 @@ fn add_says<'a, 'b>(
     if !listing.draft.add(scratch.arena, next)? {
         return Err(Fault::at(fault::LINE_TWICE, listing.draft.lines));
     }
-    listing.look(found.kind, behind)
+    listing.find_labels(found.kind, after)
 }
 
 /// Adds a line that isn't skipped; else it is refused: 100 to 104.
@@ -302,12 +302,12 @@ fn add_line<'a, 'b>(
     scratch: &mut Scratch<'a, 'b>,
     listing: &mut Reading<'a, 'b>,
     line: &'b [u8],
-    behind: &'b [u8],
+    after: &'b [u8],
 ) -> Result<(), Fault>
     requires says { is_skipped line.now ≡ false }
-    requires short { listing.old.draft.lines + 1 + length behind.now < 2 ^ 64 }
-    ensures taken { OnOk result (Adds (reading listing.old) (lines behind.now) line.now (reading listing.new)) }
-    ensures refused { IfErr result (λ e. e ≢ memory → IsRefused (reading listing.old) line.now e.code) }
+    requires short { listing.old.draft.lines + 1 + length after.now < 2 ^ 64 }
+    ensures taken { OnOk result (AddsLine (reading listing.old) (lines after.now) line.now (reading listing.new)) }
+    ensures refused { IfErr result (λ e. e ≢ memory → LineIsRefused (reading listing.old) line.now e.code) }
     ensures place { IfErr result (λ e. e ≢ memory → e.place ≡ listing.old.draft.lines) }
     ensures lines { OnOk result (listing.new.draft.lines ≡ listing.old.draft.lines) }
 {
@@ -315,7 +315,7 @@ fn add_line<'a, 'b>(
         return Err(Fault::at(fault::LINE_WORD, listing.draft.lines));
     }
     match listing.aside(scratch.words.as_slice()) {
-        Aside::Nothing => add_says(scratch, listing, behind),
+        Aside::Nothing => add_says(scratch, listing, after),
         Aside::Refused(code) => Err(Fault::at(code, listing.draft.lines)),
         Aside::First => {
             listing.begin_second();
@@ -328,11 +328,11 @@ fn add_line<'a, 'b>(
     }
 }
 
-/// One line more was read.
+/// Counts one line more as read.
 #[tactic(auto, unfolding(crate::specs::View::reading))]
-fn tally(listing: &mut Reading<'_, '_>)
+fn count_line(listing: &mut Reading<'_, '_>)
     requires { listing.old.draft.lines + 1 < 2 ^ 64 }
-    ensures state { reading listing.new ≡ tallied (reading listing.old) }
+    ensures state { reading listing.new ≡ line_counted (reading listing.old) }
     ensures lines { listing.new.draft.lines ≡ listing.old.draft.lines + 1 }
 {
     listing.draft.count_line();
@@ -343,19 +343,19 @@ fn read_line<'a, 'b>(
     scratch: &mut Scratch<'a, 'b>,
     listing: &mut Reading<'a, 'b>,
     line: &'b [u8],
-    behind: &'b [u8],
+    after: &'b [u8],
 ) -> Result<(), Fault>
-    requires { listing.old.draft.lines + 2 + length behind.now < 2 ^ 64 }
-    ensures taken { OnOk result (Takes (reading listing.old) (lines behind.now) line.now (reading listing.new)) }
-    ensures refused { IfErr result (λ e. e ≢ memory → IsRefused (tallied (reading listing.old)) line.now e.code) }
+    requires { listing.old.draft.lines + 2 + length after.now < 2 ^ 64 }
+    ensures taken { OnOk result (TakesLine (reading listing.old) (lines after.now) line.now (reading listing.new)) }
+    ensures refused { IfErr result (λ e. e ≢ memory → LineIsRefused (line_counted (reading listing.old)) line.now e.code) }
     ensures place { IfErr result (λ e. e ≢ memory → e.place ≡ listing.old.draft.lines + 1) }
     ensures lines { OnOk result (listing.new.draft.lines ≡ listing.old.draft.lines + 1) }
 {
-    tally(listing);
+    count_line(listing);
     if is_skipped(line) {
         return Ok(());
     }
-    add_line(scratch, listing, line, behind)
+    add_line(scratch, listing, line, after)
 }
 
 /// Nothing was read.
@@ -386,14 +386,14 @@ fn read_lines<'a>(alloc: Global, arena: &'a Bump, text: &[u8]) -> Result<Draft<'
     };
     let mut listing = begin(alloc, arena);
     let mut rest = text;
-    while let Some((line, behind)) = split_line(rest) {
-        read_line(&mut scratch, &mut listing, line, behind)?;
-        rest = behind;
+    while let Some((line, after)) = split_line(rest) {
+        read_line(&mut scratch, &mut listing, line, after)?;
+        rest = after;
     }
     Ok(listing.draft)
 }
 
-/// Whether a listing may end behind these lines; else 106 where a block is open, 105 where a target is no instruction of its code.
+/// Whether a listing may end after these lines; else 106 where a block is open, 105 where a target is no instruction of its code.
 fn check_end(draft: &Draft<'_>) -> Result<(), Fault>
     ensures ok { OnOk result (IsFinished (state draft.now)) }
     ensures err { IfErr result (λ e. IsUnfinished (state draft.now) e.code e.place) }

@@ -24,14 +24,16 @@ use Rattle.listing_slots.specs.declared.slot.Slot.TheVariants as slot
 use Rattle.listing_slots.specs.Keys.{key_text, same, find_key, lead_keys, payload_keys}
 use Rattle.listing_slots.specs.Data.{Datum, named, byte_of, half_of, word_of, tiny_of, short_of, int_of, long_of, elements_of, name_of}
 use Rattle.listing_shapes.specs.Shapes.{Row, HasShape, HasBareShape, BeginsWithInsn, IsInsnRow, payload_row, plain_slots, name_slot, before_close, pairs, target, register4, register8, register16}
-use Rattle.listing_shapes.proofs.ShapeLaws.{both, labelled_shape}
+use Rattle.listing_shapes.proofs.ShapeLaws.{labelled_shape}
 use Rattle.listing_lines.specs.declared.form.Form.{Form}
 use Rattle.listing_lines.specs.declared.form.Form.TheVariants.{One, Two}
 use Rattle.listing_lines.specs.Lines.{insn_line, line_of, insn_of, alternate}
 use Rattle.listing_print.specs.Operands.{Operand, keyword, v4, to, name_operand, pair_operands, insn_operands}
 use Rattle.listing_print.specs.Printed.{insn_word}
-use Rattle.listing_print.specs.Reading.{slots_of, data_of, words_in, FitOperands, insn_kind, NameFits, OpcodeFits}
+use Rattle.listing_print.specs.Reading.{slots_of, data_of, words_in, FitOperands, insn_kind, IsNameOfOpcode, OpcodeFits}
 use Rattle.listing_print.proofs.PrintedLaws.{forms_in, join_in, slots_join}
+use Rattle.listing_slots.proofs.ShownLaws.{natural_printed}
+use Rattle.dex_base.proofs.LowPoints.{both}
 
 -- the row of an opcode, where its operands are these
 plain_row : (op : ℕ) (f : Format) (ws : List Word) (ss : List Slot) → format_of op ≡ Some f → ss ≡ plain_slots (Some f) (index_kind_of op) ws → IsInsnRow (mnemonic_of op) ws (kind.Plain op, ss)
@@ -114,7 +116,7 @@ unfolding payload_row
 data_row form width [] = refl
 data_row form width (b ∷ bytes) = refl
 
-named_slots : (op : ℕ) (which : Name) (front : List Slot) → NameFits op which → front ++ ((name_operand which).slot ∷ []) ≡ front ++ (name_slot (index_kind_of op) ∷ [])
+named_slots : (op : ℕ) (which : Name) (front : List Slot) → IsNameOfOpcode op which → front ++ ((name_operand which).slot ∷ []) ≡ front ++ (name_slot (index_kind_of op) ∷ [])
 named_slots op which front e = ap (λ s. front ++ (s ∷ [])) e
 
 -- the row of an instruction, in both forms
@@ -226,14 +228,11 @@ insn_says (content.Data width bytes) h = data_says width bytes
 
 -- ---- the number of an instruction
 
-natural_printed : (k : ℕ) → k < 2 ^ 64 → SpellsNatural (decimal k) k
-natural_printed k h = let d = decimal_is_IsNumeral k h in inl (d.0, sym d.1)
-
 pub number_printed : (k : ℕ) → k < 2 ^ 64 → is_number (decimal k) k ≡ true
 number_printed k h = sym (number_found (decimal k) k k (natural_printed k h)) ∙ eq-eqb k k refl
 
 begins : (form : Form) (i : Insn) → OpcodeFits i → FitOperands (insn_operands i) → BeginsWithInsn (plain_word (insn_word i) ∷ words_in form (insn_operands i)) (insn_kind i, slots_of (insn_operands i))
-begins form i f o = record { text = insn_word i; behind = words_in form (insn_operands i); words = refl; has_row = insn_row form i f; forms = forms_in form (insn_operands i) o }
+begins form i f o = record { text = insn_word i; after = words_in form (insn_operands i); words = refl; has_row = insn_row form i f; forms = forms_in form (insn_operands i) o }
 
 pub insn_has_shape : (k : ℕ) (i : Insn) → k < 2 ^ 64 → OpcodeFits i → FitOperands (insn_operands i)
     → HasShape (plain_word (decimal k ++ 58 ∷ []) ∷ plain_word (insn_word i) ∷ words_in One (insn_operands i)) (record { kind = insn_kind i; label = decimal k; slots = slots_of (insn_operands i); words = words_in One (insn_operands i) })
@@ -251,7 +250,7 @@ none_is : (o : Option Key) → is_none o ≡ true → None ≡ o
 none_is None e = refl
 none_is (Some k) e = absurd cc
 
-all_at : (P : List ℕ → Bool) (xs : List (List ℕ)) (i : ℕ) → list_all P xs ≡ true → P [] ≡ true → P (get_or xs i []) ≡ true
+pub all_at : (P : List ℕ → Bool) (xs : List (List ℕ)) (i : ℕ) → list_all P xs ≡ true → P [] ≡ true → P (get_or xs i []) ≡ true
 all_at P [] i a e = e
 all_at P (x ∷ xs) zero a e = (both (P x) (list_all P xs) a).0
 all_at P (x ∷ xs) (suc i) a e = all_at P xs i (both (P x) (list_all P xs) a).1 e
@@ -300,4 +299,4 @@ insn_free (content.Data width bytes) = refl
 pub insn_has_bare_shape : (i : Insn) → OpcodeFits i → FitOperands (insn_operands i)
     → HasBareShape (plain_word (insn_word i) ∷ words_in Two (insn_operands i)) (record { kind = insn_kind i; label = []; slots = slots_of (insn_operands i); words = words_in Two (insn_operands i) })
 insn_has_bare_shape i f o =
-    inl (record { text = insn_word i; behind = words_in Two (insn_operands i); words = refl; no_lead = insn_free i; row = (insn_kind i, slots_of (insn_operands i)); insn = begins Two i f o; is = refl })
+    inl (record { text = insn_word i; after = words_in Two (insn_operands i); words = refl; no_lead = insn_free i; row = (insn_kind i, slots_of (insn_operands i)); insn = begins Two i f o; is = refl })

@@ -31,7 +31,7 @@ pub data_join : (os ps : List Operand) → data_of (os ++ ps) ≡ data_of os ++ 
 data_join [] ps = refl
 data_join (o ∷ os) ps = ap (λ ds. o.says ∷ ds) (data_join os ps)
 
--- behind these values
+-- after these values
 abbrev with_values : Making → List Value → Making
 with_values m vs = record { values = m.values ++ vs; begins = m.begins }
 

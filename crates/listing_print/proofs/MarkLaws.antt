@@ -6,6 +6,7 @@ use Rattle.std.proofs.lemmas.Grind.{flat_map-append}
 use Rattle.std.proofs.lemmas.List.{append-nil, map-append, take_more, take_all, drop_all}
 use Rattle.listing_print.specs.Canon.{is_named}
 use Rattle.listing_print.specs.Marks.{IsMarked}
+use Rattle.base_bytes.proofs.ListFacts.{or_last}
 
 or_join : (a b c : Bool) → a || (b || c) ≡ (a || b) || c
 or_join true b c = refl
@@ -15,22 +16,18 @@ or_false : (a : Bool) → a || false ≡ a
 or_false true = refl
 or_false false = refl
 
-or_true : (a : Bool) → a || true ≡ true
-or_true true = refl
-or_true false = refl
-
 -- among these and those
 pub named_append : (ns ms : List ℕ) (k : ℕ) → is_named (ns ++ ms) k ≡ is_named ns k || is_named ms k
 named_append [] ms k = refl
 named_append (n ∷ ns) ms k = ap (λ b. (n == k) || b) (named_append ns ms k) ∙ or_join (n == k) (is_named ns k) (is_named ms k)
 
 pub named_last : (ns : List ℕ) (n k : ℕ) → n ≡ k → true ≡ is_named (ns ++ n ∷ []) k
-named_last ns n k e = sym (named_append ns (n ∷ []) k ∙ rw (eq-eqb n k e) (or_true (is_named ns k)))
+named_last ns n k e = sym (named_append ns (n ∷ []) k ∙ rw (eq-eqb n k e) (or_last (is_named ns k)))
 
 pub named_other : (ns : List ℕ) (n k : ℕ) → n ≢ k → is_named ns k ≡ is_named (ns ++ n ∷ []) k
 named_other ns n k e = sym (named_append ns (n ∷ []) k ∙ rw (ne_eqb n k e) (or_false (is_named ns k)))
 
--- ---- one number more, and one behind the other
+-- ---- one number more, and one after the other
 
 -- these numbers, put otherwise
 pub marked_join : (ms : List Bool) (ns a b c : List ℕ) → c ≡ a ++ b → IsMarked ms ((ns ++ a) ++ b) → IsMarked ms (ns ++ c)
@@ -61,13 +58,13 @@ none_marked n k before items new e f g =
     let z : items ≡ replicate k false = f ∙ ap (λ (b : List Bool). take n b ++ replicate k false) e ∙ ap (λ (b : List Bool). b ++ replicate k false) (take_none n) in
     subst (λ (l : List Bool). IsMarked l []) (sym (g ∙ ap (λ (b : List Bool). b ++ false ∷ []) z)) (marked_none k)
 
--- what a try covers, its catches and what is for all others, one behind the other
+-- what a try covers, its catches and what is for all others, one after the other
 pub marked_try : (ms : List Bool) (ns : List ℕ) (from to : ℕ) (cs rest : List ℕ) → IsMarked ms ((((ns ++ from ∷ []) ++ to ∷ []) ++ cs) ++ rest) → IsMarked ms (ns ++ from ∷ to ∷ (cs ++ rest))
 marked_try ms ns from to cs rest m =
     subst (λ (l : List ℕ). IsMarked ms l)
     (append_assoc ((ns ++ from ∷ []) ++ to ∷ []) cs rest ∙ append_assoc (ns ++ from ∷ []) (to ∷ []) (cs ++ rest) ∙ append_assoc ns (from ∷ []) (to ∷ (cs ++ rest))) m
 
--- what stands in memory behind a whole list that was written over another one of its length
+-- what stands in memory after a whole list that was written over another one of its length
 pub whole_written : (xs ys : List Bool) (n : ℕ) → length xs ≡ n → length ys ≡ n → take n (xs ++ drop (length xs) ys) ≡ xs
 whole_written xs ys n e f =
     let d : drop (length xs) ys ≡ [] = drop_all (length xs) ys (omega (arith, e, f)) in

@@ -17,7 +17,7 @@ use Rattle.listing_slots.proofs.ShownLaws.{shown_form, shown_forms, shown_spelle
 use Rattle.listing_lines.specs.declared.form.Form.{Form}
 use Rattle.listing_lines.specs.declared.form.Form.TheVariants.{One, Two}
 use Rattle.listing_shapes.specs.declared.due.Due.TheVariants as due
-use Rattle.listing_shapes.specs.Shapes.{value_slots, slot_at, due_behind_word, due_after, due_behind}
+use Rattle.listing_shapes.specs.Shapes.{value_slots, slot_at, due_after_word, due_after, due_of_key}
 use Rattle.listing_print.specs.Reading.{slots_of, data_of, words_of, words_in, FitOperands}
 use Rattle.listing_print.specs.Operands.{Operand, shown_in, target_word, keyword, named_operands, truth_key, value_operands, values_operands}
 
@@ -95,69 +95,69 @@ mutual
 
 -- ---- the slots of a value
 
--- behind the words of a value, what is due behind it
-abbrev pub behind_slots : List Slot → Option (List Slot) → Option (List Slot)
-behind_slots done more = option_map (λ ss. done ++ ss) more
+-- after the words of a value, what is due after it
+abbrev pub after_slots : List Slot → Option (List Slot) → Option (List Slot)
+after_slots done more = option_map (λ ss. done ++ ss) more
 
-behind_one : (s : Slot) (done : List Slot) (more : Option (List Slot)) → option_map (λ ss. s ∷ ss) (behind_slots done more) ≡ behind_slots (s ∷ done) more
-behind_one s done None = refl
-behind_one s done (Some ss) = refl
+after_one : (s : Slot) (done : List Slot) (more : Option (List Slot)) → option_map (λ ss. s ∷ ss) (after_slots done more) ≡ after_slots (s ∷ done) more
+after_one s done None = refl
+after_one s done (Some ss) = refl
 
-behind_more : (a b : List Slot) (more : Option (List Slot)) → behind_slots a (behind_slots b more) ≡ behind_slots (a ++ b) more
-behind_more a b None = refl
-behind_more a b (Some ss) = ap Some (sym (append_assoc a b ss))
+after_more : (a b : List Slot) (more : Option (List Slot)) → after_slots a (after_slots b more) ≡ after_slots (a ++ b) more
+after_more a b None = refl
+after_more a b (Some ss) = ap Some (sym (append_assoc a b ss))
 
-behind_none : (more : Option (List Slot)) → behind_slots [] more ≡ more
-behind_none None = refl
-behind_none (Some ss) = refl
+after_none : (more : Option (List Slot)) → after_slots [] more ≡ more
+after_none None = refl
+after_none (Some ss) = refl
 
-behind_two : (a b : Slot) (more : Option (List Slot)) → option_map (λ ss. a ∷ ss) (option_map (λ ss. b ∷ ss) more) ≡ behind_slots (a ∷ b ∷ []) more
-behind_two a b None = refl
-behind_two a b (Some ss) = refl
+after_two : (a b : Slot) (more : Option (List Slot)) → option_map (λ ss. a ∷ ss) (option_map (λ ss. b ∷ ss) more) ≡ after_slots (a ∷ b ∷ []) more
+after_two a b None = refl
+after_two a b (Some ss) = refl
 
 -- a keyword, and its operand
-keyword_then : (k : Key) (s : Slot) (w : Word) (n : ℕ) (rest : List Word) → same (key_text key.Close) (key_text k) ≡ false → find_key value_keys (key_text k) ≡ Some k → due_behind n k ≡ due.Word s n
-    → value_slots (due.Value n) (plain_word (key_text k) ∷ w ∷ rest) ≡ behind_slots (slot.Key k ∷ s ∷ []) (value_slots (due_after n) rest)
-unfolding value_slots slot_at due_behind_word
-keyword_then k s w n rest c f d = rw (c, f, d) (behind_two (slot.Key k) s (value_slots (due_after n) rest))
+keyword_then : (k : Key) (s : Slot) (w : Word) (n : ℕ) (rest : List Word) → same (key_text key.Close) (key_text k) ≡ false → find_key value_keys (key_text k) ≡ Some k → due_of_key n k ≡ due.Word s n
+    → value_slots (due.Value n) (plain_word (key_text k) ∷ w ∷ rest) ≡ after_slots (slot.Key k ∷ s ∷ []) (value_slots (due_after n) rest)
+unfolding value_slots slot_at due_after_word
+keyword_then k s w n rest c f d = rw (c, f, d) (after_two (slot.Key k) s (value_slots (due_after n) rest))
 
 -- a keyword alone
-keyword_alone : (k : Key) (n : ℕ) (rest : List Word) → same (key_text key.Close) (key_text k) ≡ false → find_key value_keys (key_text k) ≡ Some k → due_behind n k ≡ due_after n
-    → value_slots (due.Value n) (plain_word (key_text k) ∷ rest) ≡ behind_slots (slot.Key k ∷ []) (value_slots (due_after n) rest)
-unfolding value_slots slot_at due_behind_word
+keyword_alone : (k : Key) (n : ℕ) (rest : List Word) → same (key_text key.Close) (key_text k) ≡ false → find_key value_keys (key_text k) ≡ Some k → due_of_key n k ≡ due_after n
+    → value_slots (due.Value n) (plain_word (key_text k) ∷ rest) ≡ after_slots (slot.Key k ∷ []) (value_slots (due_after n) rest)
+unfolding value_slots slot_at due_after_word
 keyword_alone k n rest c f d = rw (c, f, d) refl
 
 -- `}`
-close_then : (n : ℕ) (rest : List Word) → value_slots (due.Value (suc n)) (plain_word (key_text key.Close) ∷ rest) ≡ behind_slots (slot.Key key.Close ∷ []) (value_slots (due_after n) rest)
-unfolding value_slots slot_at due_behind_word same key_text
+close_then : (n : ℕ) (rest : List Word) → value_slots (due.Value (suc n)) (plain_word (key_text key.Close) ∷ rest) ≡ after_slots (slot.Key key.Close ∷ []) (value_slots (due_after n) rest)
+unfolding value_slots slot_at due_after_word same key_text
 close_then n rest = refl
 
 -- `array {`
-open_then : (n : ℕ) (rest : List Word) → value_slots (due.Value n) (plain_word (key_text key.Array) ∷ plain_word (key_text key.Open) ∷ rest) ≡ behind_slots (slot.Key key.Array ∷ slot.Key key.Open ∷ []) (value_slots (due.Value (suc n)) rest)
-unfolding value_slots slot_at due_behind_word same key_text find_key
-open_then n rest = rw (add-one n) (behind_two (slot.Key key.Array) (slot.Key key.Open) (value_slots (due.Value (suc n)) rest))
+open_then : (n : ℕ) (rest : List Word) → value_slots (due.Value n) (plain_word (key_text key.Array) ∷ plain_word (key_text key.Open) ∷ rest) ≡ after_slots (slot.Key key.Array ∷ slot.Key key.Open ∷ []) (value_slots (due.Value (suc n)) rest)
+unfolding value_slots slot_at due_after_word same key_text find_key
+open_then n rest = rw (add-one n) (after_two (slot.Key key.Array) (slot.Key key.Open) (value_slots (due.Value (suc n)) rest))
 
 pub slots_join : (os ps : List Operand) → slots_of (os ++ ps) ≡ slots_of os ++ slots_of ps
 slots_join [] ps = refl
 slots_join (o ∷ os) ps = ap (λ ss. o.slot ∷ ss) (slots_join os ps)
 
-truth_then : (b : Bool) (n : ℕ) (rest : List Word) → value_slots (due.Value n) (plain_word (key_text (truth_key b)) ∷ rest) ≡ behind_slots (slot.Key (truth_key b) ∷ []) (value_slots (due_after n) rest)
+truth_then : (b : Bool) (n : ℕ) (rest : List Word) → value_slots (due.Value n) (plain_word (key_text (truth_key b)) ∷ rest) ≡ after_slots (slot.Key (truth_key b) ∷ []) (value_slots (due_after n) rest)
 unfolding key_text find_key same
 truth_then true n rest = keyword_alone key.True n rest refl refl refl
 truth_then false n rest = keyword_alone key.False n rest refl refl refl
 
-named_then : (which : Name) (n : ℕ) (rest : List Word) → value_slots (due.Value n) (words_of (named_operands which) ++ rest) ≡ behind_slots (slots_of (named_operands which)) (value_slots (due_after n) rest)
+named_then : (which : Name) (n : ℕ) (rest : List Word) → value_slots (due.Value n) (words_of (named_operands which) ++ rest) ≡ after_slots (slots_of (named_operands which)) (value_slots (due_after n) rest)
 unfolding key_text find_key same
 named_then (OfText us) n rest = keyword_then key.Text slot.Text _ n rest refl refl refl
 named_then (OfDesc d) n rest = keyword_then key.Desc slot.Desc _ n rest refl refl refl
 named_then (OfField f) n rest = keyword_then key.Field slot.Field _ n rest refl refl refl
 named_then (OfMethod m) n rest = keyword_then key.Method slot.Method _ n rest refl refl refl
 
--- the words of a value have the slots of the value, and behind them stands what follows
+-- the words of a value have the slots of the value, and after them stands what follows
 mutual
   unfolding key_text find_key same
 
-  pub value_then : (v : Value) (n : ℕ) (rest : List Word) → value_slots (due.Value n) (words_of (value_operands v) ++ rest) ≡ behind_slots (slots_of (value_operands v)) (value_slots (due_after n) rest)
+  pub value_then : (v : Value) (n : ℕ) (rest : List Word) → value_slots (due.Value n) (words_of (value_operands v) ++ rest) ≡ after_slots (slots_of (value_operands v)) (value_slots (due_after n) rest)
   value_then (content.Byte z) n rest = keyword_then key.Byte slot.Tiny _ n rest refl refl refl
   value_then (content.Short z) n rest = keyword_then key.Short slot.Short _ n rest refl refl refl
   value_then (content.Char k) n rest = keyword_then key.Char _ _ n rest refl refl refl
@@ -172,21 +172,21 @@ mutual
       let w : words_of (values_operands vs ++ (keyword key.Close ∷ [])) ++ rest ≡ words_of (values_operands vs) ++ (plain_word (key_text key.Close) ∷ rest) = ap (λ ws. ws ++ rest) (words_join (values_operands vs) (keyword key.Close ∷ [])) ∙ append_assoc (words_of (values_operands vs)) (plain_word (key_text key.Close) ∷ []) rest in
       ap (λ ws. value_slots (due.Value n) (plain_word (key_text key.Array) ∷ plain_word (key_text key.Open) ∷ ws)) w
       ∙ open_then n (words_of (values_operands vs) ++ (plain_word (key_text key.Close) ∷ rest))
-      ∙ ap (behind_slots (slots_of a)) (values_then vs n (plain_word (key_text key.Close) ∷ rest) ∙ ap (behind_slots (slots_of (values_operands vs))) (close_then n rest) ∙ behind_more (slots_of (values_operands vs)) (slot.Key key.Close ∷ []) (value_slots (due_after n) rest))
-      ∙ behind_more (slots_of a) (slots_of (values_operands vs) ++ (slot.Key key.Close ∷ [])) (value_slots (due_after n) rest)
-      ∙ ap (λ ss. behind_slots (slots_of a ++ ss) (value_slots (due_after n) rest)) (sym (slots_join (values_operands vs) (keyword key.Close ∷ [])))
+      ∙ ap (after_slots (slots_of a)) (values_then vs n (plain_word (key_text key.Close) ∷ rest) ∙ ap (after_slots (slots_of (values_operands vs))) (close_then n rest) ∙ after_more (slots_of (values_operands vs)) (slot.Key key.Close ∷ []) (value_slots (due_after n) rest))
+      ∙ after_more (slots_of a) (slots_of (values_operands vs) ++ (slot.Key key.Close ∷ [])) (value_slots (due_after n) rest)
+      ∙ ap (λ ss. after_slots (slots_of a ++ ss) (value_slots (due_after n) rest)) (sym (slots_join (values_operands vs) (keyword key.Close ∷ [])))
   value_then content.Null n rest = keyword_alone key.Null n rest refl refl refl
   value_then (content.Boolean b) n rest = truth_then b n rest
 
-  pub values_then : (vs : Values) (n : ℕ) (rest : List Word) → value_slots (due.Value (suc n)) (words_of (values_operands vs) ++ rest) ≡ behind_slots (slots_of (values_operands vs)) (value_slots (due.Value (suc n)) rest)
-  values_then no_values n rest = sym (behind_none (value_slots (due.Value (suc n)) rest))
+  pub values_then : (vs : Values) (n : ℕ) (rest : List Word) → value_slots (due.Value (suc n)) (words_of (values_operands vs) ++ rest) ≡ after_slots (slots_of (values_operands vs)) (value_slots (due.Value (suc n)) rest)
+  values_then no_values n rest = sym (after_none (value_slots (due.Value (suc n)) rest))
   values_then (more_values v vs) n rest =
       ap (λ ws. value_slots (due.Value (suc n)) (ws ++ rest)) (words_join (value_operands v) (values_operands vs))
       ∙ ap (value_slots (due.Value (suc n))) (append_assoc (words_of (value_operands v)) (words_of (values_operands vs)) rest)
       ∙ value_then v (suc n) (words_of (values_operands vs) ++ rest)
-      ∙ ap (behind_slots (slots_of (value_operands v))) (values_then vs n rest)
-      ∙ behind_more (slots_of (value_operands v)) (slots_of (values_operands vs)) (value_slots (due.Value (suc n)) rest)
-      ∙ ap (λ ss. behind_slots ss (value_slots (due.Value (suc n)) rest)) (sym (slots_join (value_operands v) (values_operands vs)))
+      ∙ ap (after_slots (slots_of (value_operands v))) (values_then vs n rest)
+      ∙ after_more (slots_of (value_operands v)) (slots_of (values_operands vs)) (value_slots (due.Value (suc n)) rest)
+      ∙ ap (λ ss. after_slots ss (value_slots (due.Value (suc n)) rest)) (sym (slots_join (value_operands v) (values_operands vs)))
 
 value_end : value_slots due.Nothing [] ≡ Some []
 unfolding value_slots
@@ -194,4 +194,4 @@ value_end = refl
 
 pub value_whole : (v : Value) → value_slots (due.Value 0) (words_of (value_operands v)) ≡ Some (slots_of (value_operands v))
 value_whole v =
-    ap (value_slots (due.Value 0)) (sym (append-nil (words_of (value_operands v)))) ∙ value_then v 0 [] ∙ ap (behind_slots (slots_of (value_operands v))) value_end ∙ ap Some (append-nil (slots_of (value_operands v)))
+    ap (value_slots (due.Value 0)) (sym (append-nil (words_of (value_operands v)))) ∙ value_then v 0 [] ∙ ap (after_slots (slots_of (value_operands v))) value_end ∙ ap Some (append-nil (slots_of (value_operands v)))

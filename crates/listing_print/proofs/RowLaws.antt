@@ -62,7 +62,7 @@ pub keyed_has_shape : (form : Form) (l : Line) → IsKeyedLine l → FitOperands
     → IsKeyed (plain_word (key_text (line_key l)) ∷ words_in form (line_operands l)) (record { kind = line_kind l; label = []; slots = slots_of (line_operands l); words = words_in form (line_operands l) })
 keyed_has_shape form l k f = record {
   text = key_text (line_key l);
-  behind = words_in form (line_operands l);
+  after = words_in form (line_operands l);
   words = refl;
   row = (line_kind l, slots_of (line_operands l));
   keyed = record { lead = line_key l; found = lead_of l k; has_row = row_of form l k; forms = forms_in form (line_operands l) f };

@@ -21,7 +21,7 @@ use Rattle.listing_lines.specs.Lines.{static_line}
 use Rattle.listing_lines.specs.declared.form.Form.{Form}
 use Rattle.listing_print.specs.Operands.{Operand, operand, operand_text, operand_text_in, shown_in, keyword, v4, name_operand, to, pair_operands, value_operands, values_operands}
 use Rattle.listing_print.specs.Printed.{keyed_text, insn_text}
-use Rattle.listing_print.specs.Canon.{mark_text, insns_text, statics_text}
+use Rattle.listing_print.specs.Canon.{label_if_named, insns_text, statics_text}
 
 -- what follows from a clause of an answer
 pub followed : {T E P Q : Type 0} (r : Result T E) → (P → Q) → OnOk r P → OnOk r Q
@@ -33,12 +33,6 @@ text_append os ps = flat_map-append (λ (o : Operand). 32 ∷ word_bytes (shown 
 
 pub text_append_in : (form : Form) (os ps : List Operand) → operand_text_in form (os ++ ps) ≡ operand_text_in form os ++ operand_text_in form ps
 text_append_in form os ps = flat_map-append (λ (o : Operand). 32 ∷ word_bytes (shown_in form o.slot o.says)) os ps
-
-pub take_least : {X : Type 0} (n : ℕ) (xs : List X) → take (min n (length xs)) xs ≡ take n xs
-take_least n xs = elim (cases_lt n (length xs)) [
-  | inl h ↦ let e : min n (length xs) ≡ n = omega arith in rw e refl
-  | inr h ↦ let e : min n (length xs) ≡ length xs = omega arith in rw (e, take_all (length xs) xs (omega arith)) (sym (take_all n xs h))
-]
 
 -- ---- operands without targets, which both forms show alike
 
@@ -113,41 +107,41 @@ array_text old before new vs i h e f =
 -- instructions and the labels before them
 abbrev pub insns_front : Form → List ℕ → ℕ → List Insn → List ℕ
 insns_front form ns k [] = []
-insns_front form ns k (i ∷ is) = mark_text form ns k ++ (insn_text form k i ++ insns_front form ns (k + 1) is)
+insns_front form ns k (i ∷ is) = label_if_named form ns k ++ (insn_text form k i ++ insns_front form ns (k + 1) is)
 
-front_join : (form : Form) (ns : List ℕ) (k : ℕ) (is : List Insn) (i : Insn) → insns_front form ns k (is ++ i ∷ []) ≡ insns_front form ns k is ++ (mark_text form ns (k + length is) ++ insn_text form (k + length is) i)
-front_join form ns k [] i = let n : k + 0 ≡ k = omega arith in rw n (ap (λ t. mark_text form ns k ++ t) (append-nil (insn_text form k i)))
+front_join : (form : Form) (ns : List ℕ) (k : ℕ) (is : List Insn) (i : Insn) → insns_front form ns k (is ++ i ∷ []) ≡ insns_front form ns k is ++ (label_if_named form ns (k + length is) ++ insn_text form (k + length is) i)
+front_join form ns k [] i = let n : k + 0 ≡ k = omega arith in rw n (ap (λ t. label_if_named form ns k ++ t) (append-nil (insn_text form k i)))
 front_join form ns k (j ∷ is) i =
     let n : k + 1 + length is ≡ k + suc (length is) = omega arith in
-    let m = mark_text form ns k in let x = insn_text form k j in let f = insns_front form ns (k + 1) is in
-    let z = mark_text form ns (k + suc (length is)) ++ insn_text form (k + suc (length is)) i in
+    let m = label_if_named form ns k in let x = insn_text form k j in let f = insns_front form ns (k + 1) is in
+    let z = label_if_named form ns (k + suc (length is)) ++ insn_text form (k + suc (length is)) i in
     ap (λ t. m ++ (x ++ t)) (front_join form ns (k + 1) is i) ∙ rw n (sym (append_assoc m (x ++ f) z ∙ ap (λ t. m ++ t) (append_assoc x f z)))
 
-pub front_whole : (form : Form) (ns : List ℕ) (k : ℕ) (is : List Insn) → insns_text form ns k is ≡ insns_front form ns k is ++ mark_text form ns (k + length is)
+pub front_whole : (form : Form) (ns : List ℕ) (k : ℕ) (is : List Insn) → insns_text form ns k is ≡ insns_front form ns k is ++ label_if_named form ns (k + length is)
 front_whole form ns k [] = let n : k + 0 ≡ k = omega arith in rw n refl
 front_whole form ns k (j ∷ is) =
     let n : k + 1 + length is ≡ k + suc (length is) = omega arith in
-    let m = mark_text form ns k in let x = insn_text form k j in let f = insns_front form ns (k + 1) is in
-    let z = mark_text form ns (k + suc (length is)) in
+    let m = label_if_named form ns k in let x = insn_text form k j in let f = insns_front form ns (k + 1) is in
+    let z = label_if_named form ns (k + suc (length is)) in
     ap (λ t. m ++ (x ++ t)) (front_whole form ns (k + 1) is) ∙ rw n (sym (append_assoc m (x ++ f) z ∙ ap (λ t. m ++ t) (append_assoc x f z)))
 
-pub insn_more : (form : Form) (ns old before mid new : List ℕ) (is : List InInsn) (i : ℕ) (x : InInsn) → i < length is → before ≡ old ++ insns_front form ns 0 (map insn (take i is)) → mid ≡ before ++ mark_text form ns i → new ≡ mid ++ insn_text form i (insn (get_or is i x))
+pub insn_more : (form : Form) (ns old before mid new : List ℕ) (is : List InInsn) (i : ℕ) (x : InInsn) → i < length is → before ≡ old ++ insns_front form ns 0 (map insn (take i is)) → mid ≡ before ++ label_if_named form ns i → new ≡ mid ++ insn_text form i (insn (get_or is i x))
     → new ≡ old ++ insns_front form ns 0 (map insn (take (i + 1) is))
 insn_more form ns old before mid new is i x h e g f =
     let n : map insn (take (i + 1) is) ≡ map insn (take i is) ++ insn (get_or is i x) ∷ [] = ap (map insn) (take_more is i x h) ∙ map-append insn (take i is) (get_or is i x ∷ []) in
     let l : length (map insn (take i is)) ≡ i = (let a = length-map (take i is) insn in let b = length-take i is in omega arith) in
     let z : 0 + length (map insn (take i is)) ≡ i = omega arith in
-    let m = mark_text form ns i in let t = insn_text form i (insn (get_or is i x)) in let p = insns_front form ns 0 (map insn (take i is)) in
+    let m = label_if_named form ns i in let t = insn_text form i (insn (get_or is i x)) in let p = insns_front form ns 0 (map insn (take i is)) in
     f ∙ ap (λ y. y ++ t) (g ∙ ap (λ y. y ++ m) e) ∙ append_assoc (old ++ p) m t ∙ append_assoc old p (m ++ t)
-    ∙ ap (λ y. old ++ y) (sym (ap (insns_front form ns 0) n ∙ front_join form ns 0 (map insn (take i is)) (insn (get_or is i x)) ∙ ap (λ k. p ++ (mark_text form ns k ++ insn_text form k (insn (get_or is i x)))) z))
+    ∙ ap (λ y. old ++ y) (sym (ap (insns_front form ns 0) n ∙ front_join form ns 0 (map insn (take i is)) (insn (get_or is i x)) ∙ ap (λ k. p ++ (label_if_named form ns k ++ insn_text form k (insn (get_or is i x)))) z))
 
-pub insns_end : (form : Form) (ns old before new : List ℕ) (is : List InInsn) (i : ℕ) → length is ≤ i → before ≡ old ++ insns_front form ns 0 (map insn (take i is)) → new ≡ before ++ mark_text form ns (length is) → new ≡ old ++ insns_text form ns 0 (map insn is)
+pub insns_end : (form : Form) (ns old before new : List ℕ) (is : List InInsn) (i : ℕ) → length is ≤ i → before ≡ old ++ insns_front form ns 0 (map insn (take i is)) → new ≡ before ++ label_if_named form ns (length is) → new ≡ old ++ insns_text form ns 0 (map insn is)
 insns_end form ns old before new is i h e f =
     let n = take_all i is h in
     let l : 0 + length (map insn is) ≡ length is = (let a = length-map is insn in omega arith) in
-    let p = insns_front form ns 0 (map insn is) in let m = mark_text form ns (length is) in
+    let p = insns_front form ns 0 (map insn is) in let m = label_if_named form ns (length is) in
     f ∙ ap (λ y. y ++ m) (e ∙ ap (λ (x : List InInsn). old ++ insns_front form ns 0 (map insn x)) n) ∙ append_assoc old p m
-    ∙ ap (λ y. old ++ y) (sym (front_whole form ns 0 (map insn is) ∙ ap (λ k. p ++ mark_text form ns k) l))
+    ∙ ap (λ y. old ++ y) (sym (front_whole form ns 0 (map insn is) ∙ ap (λ k. p ++ label_if_named form ns k) l))
 
 -- ---- static fields
 

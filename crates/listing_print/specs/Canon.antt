@@ -2,7 +2,7 @@
 -- Page: docs/LISTING.md, "The lines".
 use Rattle.std.specs.Prelude.{ℕ, ◌+◌, ◌==◌, Bool, if◌then◌else◌, List, [], ◌∷◌, ◌++◌, map, Option, Some, None, codes}
 use Rattle.std.specs.List.{flat_map, list_any}
-use Rattle.program_types.specs.Content as content
+use Rattle.program_types.specs.Formed.{insn_leads}
 use Rattle.listing_lines.specs.declared.form.Form.{Form}
 use Rattle.listing_lines.specs.declared.form.Form.TheVariants.{One, Two}
 use Rattle.program_types.specs.Content.{Units, Descriptor, Value, Insn, Catch, Try, Code, Member, Method, Class, Program}
@@ -10,18 +10,6 @@ use Rattle.listing_lines.specs.Lines.{open_class, end_class, super_line, impleme
 use Rattle.listing_print.specs.Printed.{keyed_text, keyed_text_in, insn_text, label_text}
 
 -- ---- which instructions are named
-
--- Where an instruction may lead, if not to the next.
-abbrev pub insn_numbers : Insn → List ℕ
-insn_numbers (content.I10t op k) = k ∷ []
-insn_numbers (content.I20t op k) = k ∷ []
-insn_numbers (content.I30t op k) = k ∷ []
-insn_numbers (content.I21t op a k) = k ∷ []
-insn_numbers (content.I31t op a k) = k ∷ []
-insn_numbers (content.I22t op a b k) = k ∷ []
-insn_numbers (content.Packed first targets) = targets
-insn_numbers (content.Sparse keys targets) = targets
-insn_numbers _ = []
 
 -- The handler of all else, if there is one.
 abbrev pub all_numbers : Option ℕ → List ℕ
@@ -34,7 +22,7 @@ try_numbers t = t.from ∷ t.to ∷ (map (λ (c : Catch). c.at) t.catches ++ all
 
 -- All instructions that a code names.
 abbrev pub code_numbers : Code → List ℕ
-code_numbers c = flat_map insn_numbers c.insns ++ flat_map try_numbers c.tries
+code_numbers c = flat_map insn_leads c.insns ++ flat_map try_numbers c.tries
 
 -- The code names instruction k.
 abbrev pub is_named : List ℕ → ℕ → Bool
@@ -43,14 +31,14 @@ is_named ns k = list_any (λ n. n == k) ns
 -- ---- the text
 
 -- The label of instruction k if the code names it, in the second form.
-abbrev pub mark_text : Form → List ℕ → ℕ → List ℕ
-mark_text One ns k = []
-mark_text Two ns k = if is_named ns k then label_text k else []
+abbrev pub label_if_named : Form → List ℕ → ℕ → List ℕ
+label_if_named One ns k = []
+label_if_named Two ns k = if is_named ns k then label_text k else []
 
--- The instructions from number k on, each behind its label, and the label behind the last, where they are named.
+-- The instructions from number k on, each after its label, and the label after the last, where they are named.
 abbrev pub insns_text : Form → List ℕ → ℕ → List Insn → List ℕ
-insns_text form ns k [] = mark_text form ns k
-insns_text form ns k (i ∷ is) = mark_text form ns k ++ (insn_text form k i ++ insns_text form ns (k + 1) is)
+insns_text form ns k [] = label_if_named form ns k
+insns_text form ns k (i ∷ is) = label_if_named form ns k ++ (insn_text form k i ++ insns_text form ns (k + 1) is)
 
 -- Catches in their order.
 abbrev pub catches_text : Form → List Catch → List ℕ

@@ -1,4 +1,4 @@
--- Operands: what stands on a line behind its first words, each word in its slot.
+-- Operands: what stands on a line after its first words, each word in its slot.
 -- Page: docs/LISTING.md, "The lines", "Values".
 use Rattle.std.specs.Prelude.{ℕ, ℤ, Bool, true, false, List, [], ◌∷◌, ◌++◌, take, map}
 use Rattle.std.specs.List.{flat_map}
@@ -36,11 +36,11 @@ abbrev pub shown_in : Form → Slot → Datum → Word
 shown_in form (slot.Word Target most) (word n) = target_word form n
 shown_in form s d = shown s d
 
--- The words of operands, each behind one space.
+-- The words of operands, each after one space.
 abbrev pub operand_text : List Operand → List ℕ
 operand_text os = flat_map (λ o. 32 ∷ word_bytes (shown o.slot o.says)) os
 
--- The same of operands with targets.
+-- The words of operands with targets, in a form, each after one space.
 abbrev pub operand_text_in : Form → List Operand → List ℕ
 operand_text_in form os = flat_map (λ o. 32 ∷ word_bytes (shown_in form o.slot o.says)) os
 

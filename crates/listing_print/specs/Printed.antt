@@ -58,7 +58,7 @@ method_operands m = operand slot.Member (named (OfText m.name)) ∷ operand slot
 abbrev pub type_operand : Descriptor → Operand
 type_operand d = operand slot.Desc (named (OfDesc d))
 
--- The keyword of a line that is no instruction, and what stands behind it.
+-- The keyword of a line that is no instruction, and what stands after it.
 abbrev pub line_key : Line → Key
 line_key first_line = key.Dex
 line_key (open_class d f) = key.Class
@@ -77,7 +77,7 @@ line_key (try_line f t) = key.Try
 line_key (catch_line d k) = key.Catch
 line_key (catch_all_line k) = key.CatchAll
 
--- What stands behind a line's keyword.
+-- What stands after a line's keyword.
 abbrev pub line_operands : Line → List Operand
 line_operands first_line = keyword key.Version ∷ []
 line_operands (open_class d f) = type_operand d ∷ operand slot.Flags (word f) ∷ []
@@ -97,22 +97,22 @@ line_operands (try_line f t) = to f ∷ to t ∷ []
 line_operands (catch_line d k) = type_operand d ∷ to k ∷ []
 line_operands (catch_all_line k) = to k ∷ []
 
--- A line behind a keyword, and its line feed.
+-- A line after a keyword, and its line feed.
 abbrev pub keyed_text : Line → List ℕ
 keyed_text line = key_text (line_key line) ++ (operand_text (line_operands line) ++ 10 ∷ [])
 
--- The same of a line with targets.
+-- A line with targets after a keyword, in a form, and its line feed.
 abbrev pub keyed_text_in : Form → Line → List ℕ
 keyed_text_in form line = key_text (line_key line) ++ (operand_text_in form (line_operands line) ++ 10 ∷ [])
 
--- Behind the number that instruction k gives itself, which is in the first form alone.
-abbrev pub numbered : Form → ℕ → List ℕ → List ℕ
-numbered One k text = decimal k ++ (58 ∷ 32 ∷ text)
-numbered Two k text = text
+-- After the number that instruction k gives itself, which is in the first form alone.
+abbrev pub with_number : Form → ℕ → List ℕ → List ℕ
+with_number One k text = decimal k ++ (58 ∷ 32 ∷ text)
+with_number Two k text = text
 
 -- Instruction k, and its line feed.
 abbrev pub insn_text : Form → ℕ → Insn → List ℕ
-insn_text form k i = numbered form k (insn_word i ++ (operand_text_in form (insn_operands i) ++ 10 ∷ []))
+insn_text form k i = with_number form k (insn_word i ++ (operand_text_in form (insn_operands i) ++ 10 ∷ []))
 
 -- The line of instruction k's label.
 abbrev pub label_text : ℕ → List ℕ

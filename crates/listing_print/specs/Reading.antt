@@ -28,7 +28,7 @@ data_of os = map (λ (o : Operand). o.says) os
 abbrev pub words_of : List Operand → List Word
 words_of os = map (λ (o : Operand). shown o.slot o.says) os
 
--- The same in a form: targets by the form.
+-- The words of operands in a form, by which targets are written.
 abbrev pub words_in : Form → List Operand → List Word
 words_in form os = map (λ (o : Operand). shown_in form o.slot o.says) os
 
@@ -56,7 +56,7 @@ line_kind (try_line f t) = kind.Try
 line_kind (catch_line d k) = kind.Catch
 line_kind (catch_all_line k) = kind.CatchAll
 
--- It begins with a keyword; a method's line has no code.
+-- A line begins with a keyword; a method's line has no code.
 abbrev pub IsKeyedLine : Line → Type 0
 IsKeyedLine (insn_line i) = ⊥
 IsKeyedLine (direct_line m) = m.code ≡ None
@@ -94,8 +94,8 @@ insn_kind (content.Sparse keys targets) = kind.Sparse
 insn_kind (content.Data width bytes) = kind.Elements
 
 -- The name is of the kind that the opcode names.
-abbrev pub NameFits : ℕ → Name → Type 0
-NameFits op which = (name_operand which).slot ≡ name_slot (index_kind_of op)
+abbrev pub IsNameOfOpcode : ℕ → Name → Type 0
+IsNameOfOpcode op which = (name_operand which).slot ≡ name_slot (index_kind_of op)
 
 -- The opcode is one of its format, and what it names is of its kind; at most five registers are used in braces, and the others
 -- are 0; as many keys as targets.
@@ -112,18 +112,18 @@ OpcodeFits (content.I21t op a k) = format_of op ≡ Some format.F21t
 OpcodeFits (content.I31t op a k) = format_of op ≡ Some format.F31t
 OpcodeFits (content.I21s op a b) = format_of op ≡ Some format.F21s
 OpcodeFits (content.I21h op a b) = format_of op ≡ Some format.F21h
-OpcodeFits (content.I21c op a which) = (format_of op ≡ Some format.F21c) × NameFits op which
-OpcodeFits (content.I31c op a which) = (format_of op ≡ Some format.F31c) × NameFits op which
+OpcodeFits (content.I21c op a which) = (format_of op ≡ Some format.F21c) × IsNameOfOpcode op which
+OpcodeFits (content.I31c op a which) = (format_of op ≡ Some format.F31c) × IsNameOfOpcode op which
 OpcodeFits (content.I23x op a b c) = format_of op ≡ Some format.F23x
 OpcodeFits (content.I22b op a b c) = format_of op ≡ Some format.F22b
 OpcodeFits (content.I22t op a b k) = format_of op ≡ Some format.F22t
 OpcodeFits (content.I22s op a b c) = format_of op ≡ Some format.F22s
-OpcodeFits (content.I22c op a b which) = (format_of op ≡ Some format.F22c) × NameFits op which
+OpcodeFits (content.I22c op a b which) = (format_of op ≡ Some format.F22c) × IsNameOfOpcode op which
 OpcodeFits (content.I32x op a b) = format_of op ≡ Some format.F32x
 OpcodeFits (content.I31i op a b) = format_of op ≡ Some format.F31i
 OpcodeFits (content.I51l op a b) = format_of op ≡ Some format.F51l
-OpcodeFits (content.I35c op n regs which) = (format_of op ≡ Some format.F35c) × NameFits op which × (n ≤ 5) × (length regs ≡ 5) × (drop n regs ≡ replicate (5 - n) 0)
-OpcodeFits (content.I3rc op n first which) = (format_of op ≡ Some format.F3rc) × NameFits op which
+OpcodeFits (content.I35c op n regs which) = (format_of op ≡ Some format.F35c) × IsNameOfOpcode op which × (n ≤ 5) × (length regs ≡ 5) × (drop n regs ≡ replicate (5 - n) 0)
+OpcodeFits (content.I3rc op n first which) = (format_of op ≡ Some format.F3rc) × IsNameOfOpcode op which
 OpcodeFits (content.Packed first targets) = Unit {0}
 OpcodeFits (content.Sparse keys targets) = length keys ≡ length targets
 OpcodeFits (content.Data width bytes) = Unit {0}

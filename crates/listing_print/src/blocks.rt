@@ -6,7 +6,7 @@ ghost use Rattle.base_bytes.specs.Fault.{memory};
 ghost use Rattle.program_types.specs.View.{desc, str, member, method, value, insn, catch, try, code, class, program};
 ghost use Rattle.listing_lines.specs.Lines as says;
 ghost use Rattle.listing_print.specs.Printed.{keyed_text};
-ghost use Rattle.listing_print.specs.Canon.{super_text, source_text, insns_text, catches_text, try_text, code_text, direct_text, virtual_text, statics_text, heads_text, fields_text, methods_text, class_text, mark_text, first_text, text_in, canon, canon_1};
+ghost use Rattle.listing_print.specs.Canon.{super_text, source_text, insns_text, catches_text, try_text, code_text, direct_text, virtual_text, statics_text, heads_text, fields_text, methods_text, class_text, label_if_named, first_text, text_in, canon, canon_1};
 ghost use Rattle.listing_print.specs.Marks.{IsMarked};
 
 use crate::lines::{
@@ -19,14 +19,13 @@ use dex_base::Fault;
 use listing_lines::{Form, is_two};
 use listing_slots::Key;
 use program_types::{Catch, Class, Code, Desc, Insn, Member, Method, Program, Str, Try, Value};
-use std::alloc::Global;
+use std::alloc::{AllocError, Global};
 
 /// Appends the label of instruction k if it is named, in the second form.
 #[inline(always)]
-fn put_mark(out: &mut Vec<u8>, form: Form, marks: &[bool], k: usize) -> Result<(), Fault>
+fn put_mark(out: &mut Vec<u8>, form: Form, marks: &[bool], k: usize) -> Result<(), AllocError>
     requires { k < length marks.now }
-    ensures ok { OnOk result ((ns : List ℕ) → IsMarked marks.now ns → out.new.items ≡ out.old.items ++ mark_text form ns k) }
-    ensures memory { IsOkUnless result memory }
+    ensures ok { OnOk result ((ns : List ℕ) → IsMarked marks.now ns → out.new.items ≡ out.old.items ++ label_if_named form ns k) }
 {
     if is_two(form) && marks[k] {
         return put_label_line(out, k as u64);
@@ -35,10 +34,14 @@ fn put_mark(out: &mut Vec<u8>, form: Form, marks: &[bool], k: usize) -> Result<(
 }
 
 /// Appends instructions, numbered from 0, and the labels of those that are named.
-fn put_insns(out: &mut Vec<u8>, form: Form, marks: &[bool], insns: &[Insn<'_>]) -> Result<(), Fault>
+fn put_insns(
+    out: &mut Vec<u8>,
+    form: Form,
+    marks: &[bool],
+    insns: &[Insn<'_>],
+) -> Result<(), AllocError>
     requires { length marks.now ≡ length insns.now + 1 }
     ensures ok { OnOk result ((ns : List ℕ) → IsMarked marks.now ns → out.new.items ≡ out.old.items ++ insns_text form ns 0 (map insn insns.now)) }
-    ensures memory { IsOkUnless result memory }
 {
     for i in 0..insns.len() {
         put_mark(out, form, marks, i)?;
@@ -48,9 +51,8 @@ fn put_insns(out: &mut Vec<u8>, form: Form, marks: &[bool], insns: &[Insn<'_>]) 
 }
 
 /// Appends catches.
-fn put_catches(out: &mut Vec<u8>, form: Form, catches: &[Catch<'_>]) -> Result<(), Fault>
+fn put_catches(out: &mut Vec<u8>, form: Form, catches: &[Catch<'_>]) -> Result<(), AllocError>
     ensures ok { OnOk result (out.new.items ≡ out.old.items ++ catches_text form (map catch catches.now)) }
-    ensures memory { IsOkUnless result memory }
 {
     for one in catches {
         put_catch_line(out, form, one.ty, one.at)?;
@@ -59,9 +61,8 @@ fn put_catches(out: &mut Vec<u8>, form: Form, catches: &[Catch<'_>]) -> Result<(
 }
 
 /// Appends a try and its catches.
-fn put_try(out: &mut Vec<u8>, form: Form, one: &Try<'_>) -> Result<(), Fault>
+fn put_try(out: &mut Vec<u8>, form: Form, one: &Try<'_>) -> Result<(), AllocError>
     ensures ok { OnOk result (out.new.items ≡ out.old.items ++ try_text form (try one.now)) }
-    ensures memory { IsOkUnless result memory }
 {
     put_try_line(out, form, one.from, one.to)?;
     put_catches(out, form, one.catches)?;
@@ -72,9 +73,8 @@ fn put_try(out: &mut Vec<u8>, form: Form, one: &Try<'_>) -> Result<(), Fault>
 }
 
 /// Appends tries.
-fn put_tries(out: &mut Vec<u8>, form: Form, tries: &[Try<'_>]) -> Result<(), Fault>
+fn put_tries(out: &mut Vec<u8>, form: Form, tries: &[Try<'_>]) -> Result<(), AllocError>
     ensures ok { OnOk result (out.new.items ≡ out.old.items ++ flat_map (try_text form) (map try tries.now)) }
-    ensures memory { IsOkUnless result memory }
 {
     for one in tries {
         put_try(out, form, one)?;
@@ -83,9 +83,8 @@ fn put_tries(out: &mut Vec<u8>, form: Form, tries: &[Try<'_>]) -> Result<(), Fau
 }
 
 /// Appends a code block.
-fn put_code(alloc: Global, out: &mut Vec<u8>, form: Form, one: &Code<'_>) -> Result<(), Fault>
+fn put_code(alloc: Global, out: &mut Vec<u8>, form: Form, one: &Code<'_>) -> Result<(), AllocError>
     ensures ok { OnOk result (out.new.items ≡ out.old.items ++ code_text form (code one.now)) }
-    ensures memory { IsOkUnless result memory }
 {
     put_code_line(out, one.registers, one.ins, one.outs)?;
     let marks = marks_of(alloc, one)?;
@@ -100,9 +99,8 @@ fn put_directs(
     out: &mut Vec<u8>,
     form: Form,
     methods: &[Method<'_>],
-) -> Result<(), Fault>
+) -> Result<(), AllocError>
     ensures ok { OnOk result (out.new.items ≡ out.old.items ++ flat_map (direct_text form) (map method methods.now)) }
-    ensures memory { IsOkUnless result memory }
 {
     for one in methods {
         put_direct(alloc, out, form, one)?;
@@ -111,9 +109,13 @@ fn put_directs(
 }
 
 /// Appends a direct method with its code.
-fn put_direct(alloc: Global, out: &mut Vec<u8>, form: Form, one: &Method<'_>) -> Result<(), Fault>
+fn put_direct(
+    alloc: Global,
+    out: &mut Vec<u8>,
+    form: Form,
+    one: &Method<'_>,
+) -> Result<(), AllocError>
     ensures ok { OnOk result (out.new.items ≡ out.old.items ++ direct_text form (method one.now)) }
-    ensures memory { IsOkUnless result memory }
 {
     put_method_line(out, Key::Direct, one)?;
     match one.code {
@@ -128,9 +130,8 @@ fn put_virtuals(
     out: &mut Vec<u8>,
     form: Form,
     methods: &[Method<'_>],
-) -> Result<(), Fault>
+) -> Result<(), AllocError>
     ensures ok { OnOk result (out.new.items ≡ out.old.items ++ flat_map (virtual_text form) (map method methods.now)) }
-    ensures memory { IsOkUnless result memory }
 {
     for one in methods {
         put_virtual(alloc, out, form, one)?;
@@ -139,9 +140,13 @@ fn put_virtuals(
 }
 
 /// Appends a virtual method with its code.
-fn put_virtual(alloc: Global, out: &mut Vec<u8>, form: Form, one: &Method<'_>) -> Result<(), Fault>
+fn put_virtual(
+    alloc: Global,
+    out: &mut Vec<u8>,
+    form: Form,
+    one: &Method<'_>,
+) -> Result<(), AllocError>
     ensures ok { OnOk result (out.new.items ≡ out.old.items ++ virtual_text form (method one.now)) }
-    ensures memory { IsOkUnless result memory }
 {
     put_method_line(out, Key::Virtual, one)?;
     match one.code {
@@ -156,9 +161,8 @@ fn put_static(
     field: &Member<'_>,
     values: &[Value<'_>],
     i: usize,
-) -> Result<(), Fault>
+) -> Result<(), AllocError>
     ensures ok { OnOk result (out.new.items ≡ out.old.items ++ keyed_text (says.static_line (member field.now) (slice_get (map value values.now) i))) }
-    ensures memory { IsOkUnless result memory }
 {
     if i < values.len() {
         return put_given_line(out, field, &values[i]);
@@ -167,9 +171,12 @@ fn put_static(
 }
 
 /// Appends static fields, the first of them with the values.
-fn put_statics(out: &mut Vec<u8>, fields: &[Member<'_>], values: &[Value<'_>]) -> Result<(), Fault>
+fn put_statics(
+    out: &mut Vec<u8>,
+    fields: &[Member<'_>],
+    values: &[Value<'_>],
+) -> Result<(), AllocError>
     ensures ok { OnOk result (out.new.items ≡ out.old.items ++ statics_text (map member fields.now) (map value values.now)) }
-    ensures memory { IsOkUnless result memory }
 {
     for i in 0..fields.len() {
         put_static(out, &fields[i], values, i)?;
@@ -178,9 +185,8 @@ fn put_statics(out: &mut Vec<u8>, fields: &[Member<'_>], values: &[Value<'_>]) -
 }
 
 /// Appends instance fields.
-fn put_instances(out: &mut Vec<u8>, fields: &[Member<'_>]) -> Result<(), Fault>
+fn put_instances(out: &mut Vec<u8>, fields: &[Member<'_>]) -> Result<(), AllocError>
     ensures ok { OnOk result (out.new.items ≡ out.old.items ++ flat_map (λ m. keyed_text (says.instance_line m)) (map member fields.now)) }
-    ensures memory { IsOkUnless result memory }
 {
     for one in fields {
         put_member_line(out, Key::Instance, one)?;
@@ -189,9 +195,8 @@ fn put_instances(out: &mut Vec<u8>, fields: &[Member<'_>]) -> Result<(), Fault>
 }
 
 /// Appends interfaces.
-fn put_interfaces(out: &mut Vec<u8>, interfaces: &[Desc<'_>]) -> Result<(), Fault>
+fn put_interfaces(out: &mut Vec<u8>, interfaces: &[Desc<'_>]) -> Result<(), AllocError>
     ensures ok { OnOk result (out.new.items ≡ out.old.items ++ flat_map (λ d. keyed_text (says.implements_line d)) (map desc interfaces.now)) }
-    ensures memory { IsOkUnless result memory }
 {
     for one in interfaces {
         put_type_line(out, Key::Implements, *one)?;
@@ -200,9 +205,8 @@ fn put_interfaces(out: &mut Vec<u8>, interfaces: &[Desc<'_>]) -> Result<(), Faul
 }
 
 /// Appends the superclass.
-fn put_super(out: &mut Vec<u8>, superclass: Option<Desc<'_>>) -> Result<(), Fault>
+fn put_super(out: &mut Vec<u8>, superclass: Option<Desc<'_>>) -> Result<(), AllocError>
     ensures ok { OnOk result (out.new.items ≡ out.old.items ++ super_text (option_map desc superclass.entry)) }
-    ensures memory { IsOkUnless result memory }
 {
     match superclass {
         Some(ty) => put_type_line(out, Key::Super, ty),
@@ -211,9 +215,8 @@ fn put_super(out: &mut Vec<u8>, superclass: Option<Desc<'_>>) -> Result<(), Faul
 }
 
 /// Appends the source file.
-fn put_source(out: &mut Vec<u8>, source: Option<Str<'_>>) -> Result<(), Fault>
+fn put_source(out: &mut Vec<u8>, source: Option<Str<'_>>) -> Result<(), AllocError>
     ensures ok { OnOk result (out.new.items ≡ out.old.items ++ source_text (option_map str source.entry)) }
-    ensures memory { IsOkUnless result memory }
 {
     match source {
         Some(text) => put_source_line(out, text),
@@ -222,9 +225,8 @@ fn put_source(out: &mut Vec<u8>, source: Option<Str<'_>>) -> Result<(), Fault>
 }
 
 /// Appends the first line of a class, and what stands before its members.
-fn put_heads(out: &mut Vec<u8>, one: &Class<'_>) -> Result<(), Fault>
+fn put_heads(out: &mut Vec<u8>, one: &Class<'_>) -> Result<(), AllocError>
     ensures ok { OnOk result (out.new.items ≡ out.old.items ++ heads_text (class one.now)) }
-    ensures memory { IsOkUnless result memory }
 {
     put_class_line(out, one.ty, one.flags)?;
     put_super(out, one.superclass)?;
@@ -233,27 +235,34 @@ fn put_heads(out: &mut Vec<u8>, one: &Class<'_>) -> Result<(), Fault>
 }
 
 /// Appends the fields of a class.
-fn put_fields(out: &mut Vec<u8>, one: &Class<'_>) -> Result<(), Fault>
+fn put_fields(out: &mut Vec<u8>, one: &Class<'_>) -> Result<(), AllocError>
     ensures ok { OnOk result (out.new.items ≡ out.old.items ++ fields_text (class one.now)) }
-    ensures memory { IsOkUnless result memory }
 {
     put_statics(out, one.statics, one.values)?;
     put_instances(out, one.instances)
 }
 
 /// Appends the methods of a class.
-fn put_methods(alloc: Global, out: &mut Vec<u8>, form: Form, one: &Class<'_>) -> Result<(), Fault>
+fn put_methods(
+    alloc: Global,
+    out: &mut Vec<u8>,
+    form: Form,
+    one: &Class<'_>,
+) -> Result<(), AllocError>
     ensures ok { OnOk result (out.new.items ≡ out.old.items ++ methods_text form (class one.now)) }
-    ensures memory { IsOkUnless result memory }
 {
     put_directs(alloc, out, form, one.directs)?;
     put_virtuals(alloc, out, form, one.virtuals)
 }
 
 /// Appends a class.
-fn put_class(alloc: Global, out: &mut Vec<u8>, form: Form, one: &Class<'_>) -> Result<(), Fault>
+fn put_class(
+    alloc: Global,
+    out: &mut Vec<u8>,
+    form: Form,
+    one: &Class<'_>,
+) -> Result<(), AllocError>
     ensures ok { OnOk result (out.new.items ≡ out.old.items ++ class_text form (class one.now)) }
-    ensures memory { IsOkUnless result memory }
 {
     put_heads(out, one)?;
     put_fields(out, one)?;
@@ -262,9 +271,8 @@ fn put_class(alloc: Global, out: &mut Vec<u8>, form: Form, one: &Class<'_>) -> R
 }
 
 /// Appends the first line.
-fn put_opening(out: &mut Vec<u8>, form: Form) -> Result<(), Fault>
+fn put_opening(out: &mut Vec<u8>, form: Form) -> Result<(), AllocError>
     ensures ok { OnOk result (out.new.items ≡ out.old.items ++ first_text form) }
-    ensures memory { IsOkUnless result memory }
 {
     match form {
         Form::One => out.extend_from_slice(b"dex 035\n")?,
@@ -274,9 +282,8 @@ fn put_opening(out: &mut Vec<u8>, form: Form) -> Result<(), Fault>
 }
 
 /// The listing of a program in a form.
-fn print_in(alloc: Global, form: Form, whole: &Program<'_>) -> Result<Vec<u8>, Fault>
+fn print_in(alloc: Global, form: Form, whole: &Program<'_>) -> Result<Vec<u8>, AllocError>
     ensures text { IfOk result (λ text. text.items ≡ text_in form (program whole.now)) }
-    ensures memory { IsOkUnless result memory }
 {
     let mut out = Vec::new(alloc);
     put_opening(&mut out, form)?;
@@ -286,10 +293,10 @@ fn print_in(alloc: Global, form: Form, whole: &Program<'_>) -> Result<Vec<u8>, F
     Ok(out)
 }
 
-/// The canonical listing of a program, in ASCII: each word stands behind one space, each line has its line feed. Instructions that
-/// a code names stand behind a label, `:L` and their number.
+/// The canonical listing of a program, in ASCII: each word stands after one space, each line has its line feed. Instructions that
+/// a code names stand after a label, `:L` and their number.
 ///
-/// The only error is want of memory. The stack holds a call for each array that a value is in: at most 64 in a well-formed
+/// It fails only when out of memory. The stack holds a call for each array that a value is in: at most 64 in a well-formed
 /// program, and so in every program that `read` or `parse` answers. A value made by hand that is much deeper may end the stack:
 /// ask `well_formed` first, which refuses it (113). Page: docs/LISTING.md.
 ///
@@ -305,7 +312,7 @@ pub fn print(alloc: Global, whole: &Program<'_>) -> Result<Vec<u8>, Fault>
     ensures canonical { IfOk result (λ text. text.items ≡ canon (program whole.now)) }
     ensures memory { IsOkUnless result memory }
 {
-    print_in(alloc, Form::Two, whole)
+    Ok(print_in(alloc, Form::Two, whole)?)
 }
 
 /// The canonical listing of the first form, in which each instruction has its number; else as `print`.
@@ -322,5 +329,5 @@ pub fn print_1(alloc: Global, whole: &Program<'_>) -> Result<Vec<u8>, Fault>
     ensures canonical { IfOk result (λ text. text.items ≡ canon_1 (program whole.now)) }
     ensures memory { IsOkUnless result memory }
 {
-    print_in(alloc, Form::One, whole)
+    Ok(print_in(alloc, Form::One, whole)?)
 }

@@ -1,46 +1,42 @@
 //! Single lines, each with its line feed.
 
-ghost use Rattle.std.specs.Prelude.{◌≡◌, ℕ, List, ◌++◌, ◌∷◌, [], OnOk, IsOkUnless, Some};
-ghost use Rattle.base_bytes.specs.Fault.{memory};
+ghost use Rattle.std.specs.Prelude.{◌≡◌, ℕ, List, ◌++◌, ◌∷◌, [], OnOk, Some};
 ghost use Rattle.program_types.specs.View.{desc, str, member, method, value, insn};
 ghost use Rattle.listing_slots.specs.Keys.{key_text};
 ghost use Rattle.listing_slots.specs.declared.key.Key.TheVariants as Key;
 ghost use Rattle.listing_lines.specs.Lines as says;
 ghost use Rattle.listing_print.specs.Operands.{operand_text, keyword, to};
-ghost use Rattle.listing_print.specs.Printed.{type_operand, member_operands, method_operands, keyed_text, keyed_text_in, insn_word, numbered, insn_text, label_text};
+ghost use Rattle.listing_print.specs.Printed.{type_operand, member_operands, method_operands, keyed_text, keyed_text_in, insn_word, with_number, insn_text, label_text};
 
 use crate::operands::{put_operands, put_target};
 use crate::values::put_value;
-use dex_base::Fault;
 use dex_insn::mnemonic_of;
 use listing_lines::Form;
 use listing_slots::{
     Key, key_text, put_decimal, put_flags, put_key, put_name, put_number, put_proto, put_text,
 };
 use program_types::{Desc, Insn, Member, Method, Str, Value};
+use std::alloc::AllocError;
 
 /// Appends the first word of a line.
-fn put_first(out: &mut Vec<u8>, key: Key) -> Result<(), Fault>
+fn put_first(out: &mut Vec<u8>, key: Key) -> Result<(), AllocError>
     ensures ok { OnOk result (out.new.items ≡ out.old.items ++ key_text key) }
-    ensures memory { IsOkUnless result memory }
 {
     out.extend_from_slice(key_text(key).as_bytes())?;
     Ok(())
 }
 
 /// Ends a line.
-fn put_feed(out: &mut Vec<u8>) -> Result<(), Fault>
+fn put_feed(out: &mut Vec<u8>) -> Result<(), AllocError>
     ensures ok { OnOk result (out.new.items ≡ out.old.items ++ 10 ∷ []) }
-    ensures memory { IsOkUnless result memory }
 {
     out.push(10)?;
     Ok(())
 }
 
 /// Appends a line of two keywords.
-pub fn put_keys(out: &mut Vec<u8>, first: Key, second: Key) -> Result<(), Fault>
+pub fn put_keys(out: &mut Vec<u8>, first: Key, second: Key) -> Result<(), AllocError>
     ensures ok { OnOk result (out.new.items ≡ out.old.items ++ (key_text first ++ (operand_text (keyword second ∷ []) ++ 10 ∷ []))) }
-    ensures memory { IsOkUnless result memory }
 {
     put_first(out, first)?;
     put_key(out, second)?;
@@ -48,9 +44,8 @@ pub fn put_keys(out: &mut Vec<u8>, first: Key, second: Key) -> Result<(), Fault>
 }
 
 /// Appends the first line of a class.
-pub fn put_class_line(out: &mut Vec<u8>, ty: Desc<'_>, flags: u32) -> Result<(), Fault>
+pub fn put_class_line(out: &mut Vec<u8>, ty: Desc<'_>, flags: u32) -> Result<(), AllocError>
     ensures ok { OnOk result (out.new.items ≡ out.old.items ++ keyed_text (says.open_class (desc ty.entry) flags)) }
-    ensures memory { IsOkUnless result memory }
 {
     put_first(out, Key::Class)?;
     put_name(out, ty.text.units)?;
@@ -59,9 +54,8 @@ pub fn put_class_line(out: &mut Vec<u8>, ty: Desc<'_>, flags: u32) -> Result<(),
 }
 
 /// Appends a line of a keyword and a type.
-pub fn put_type_line(out: &mut Vec<u8>, key: Key, ty: Desc<'_>) -> Result<(), Fault>
+pub fn put_type_line(out: &mut Vec<u8>, key: Key, ty: Desc<'_>) -> Result<(), AllocError>
     ensures ok { OnOk result (out.new.items ≡ out.old.items ++ (key_text key ++ (operand_text (type_operand (desc ty.entry) ∷ []) ++ 10 ∷ []))) }
-    ensures memory { IsOkUnless result memory }
 {
     put_first(out, key)?;
     put_name(out, ty.text.units)?;
@@ -69,9 +63,8 @@ pub fn put_type_line(out: &mut Vec<u8>, key: Key, ty: Desc<'_>) -> Result<(), Fa
 }
 
 /// Appends the line of a source file.
-pub fn put_source_line(out: &mut Vec<u8>, text: Str<'_>) -> Result<(), Fault>
+pub fn put_source_line(out: &mut Vec<u8>, text: Str<'_>) -> Result<(), AllocError>
     ensures ok { OnOk result (out.new.items ≡ out.old.items ++ keyed_text (says.source_line (str text.entry))) }
-    ensures memory { IsOkUnless result memory }
 {
     put_first(out, Key::Source)?;
     put_text(out, text.units)?;
@@ -79,9 +72,8 @@ pub fn put_source_line(out: &mut Vec<u8>, text: Str<'_>) -> Result<(), Fault>
 }
 
 /// Appends a member's name, type and flags.
-fn put_member(out: &mut Vec<u8>, field: &Member<'_>) -> Result<(), Fault>
+fn put_member(out: &mut Vec<u8>, field: &Member<'_>) -> Result<(), AllocError>
     ensures ok { OnOk result (out.new.items ≡ out.old.items ++ operand_text (member_operands (member field.now))) }
-    ensures memory { IsOkUnless result memory }
 {
     put_name(out, field.name.units)?;
     put_name(out, field.ty.text.units)?;
@@ -89,9 +81,8 @@ fn put_member(out: &mut Vec<u8>, field: &Member<'_>) -> Result<(), Fault>
 }
 
 /// Appends the line of a field without a value.
-pub fn put_member_line(out: &mut Vec<u8>, key: Key, field: &Member<'_>) -> Result<(), Fault>
+pub fn put_member_line(out: &mut Vec<u8>, key: Key, field: &Member<'_>) -> Result<(), AllocError>
     ensures ok { OnOk result (out.new.items ≡ out.old.items ++ (key_text key ++ (operand_text (member_operands (member field.now)) ++ 10 ∷ []))) }
-    ensures memory { IsOkUnless result memory }
 {
     put_first(out, key)?;
     put_member(out, field)?;
@@ -103,9 +94,8 @@ pub fn put_given_line(
     out: &mut Vec<u8>,
     field: &Member<'_>,
     initial: &Value<'_>,
-) -> Result<(), Fault>
+) -> Result<(), AllocError>
     ensures ok { OnOk result (out.new.items ≡ out.old.items ++ keyed_text (says.static_line (member field.now) (Some (value initial.now)))) }
-    ensures memory { IsOkUnless result memory }
 {
     put_first(out, Key::Static)?;
     put_member(out, field)?;
@@ -115,9 +105,8 @@ pub fn put_given_line(
 }
 
 /// Appends the line of a method.
-pub fn put_method_line(out: &mut Vec<u8>, key: Key, one: &Method<'_>) -> Result<(), Fault>
+pub fn put_method_line(out: &mut Vec<u8>, key: Key, one: &Method<'_>) -> Result<(), AllocError>
     ensures ok { OnOk result (out.new.items ≡ out.old.items ++ (key_text key ++ (operand_text (method_operands (method one.now)) ++ 10 ∷ []))) }
-    ensures memory { IsOkUnless result memory }
 {
     put_first(out, key)?;
     put_name(out, one.name.units)?;
@@ -127,9 +116,13 @@ pub fn put_method_line(out: &mut Vec<u8>, key: Key, one: &Method<'_>) -> Result<
 }
 
 /// Appends the first line of a code block.
-pub fn put_code_line(out: &mut Vec<u8>, registers: u16, ins: u16, outs: u16) -> Result<(), Fault>
+pub fn put_code_line(
+    out: &mut Vec<u8>,
+    registers: u16,
+    ins: u16,
+    outs: u16,
+) -> Result<(), AllocError>
     ensures ok { OnOk result (out.new.items ≡ out.old.items ++ keyed_text (says.open_code registers ins outs)) }
-    ensures memory { IsOkUnless result memory }
 {
     put_first(out, Key::Code)?;
     put_number(out, registers as u64)?;
@@ -139,9 +132,8 @@ pub fn put_code_line(out: &mut Vec<u8>, registers: u16, ins: u16, outs: u16) -> 
 }
 
 /// Appends the first line of a try.
-pub fn put_try_line(out: &mut Vec<u8>, form: Form, from: u32, to: u32) -> Result<(), Fault>
+pub fn put_try_line(out: &mut Vec<u8>, form: Form, from: u32, to: u32) -> Result<(), AllocError>
     ensures ok { OnOk result (out.new.items ≡ out.old.items ++ keyed_text_in form (says.try_line from to)) }
-    ensures memory { IsOkUnless result memory }
 {
     put_first(out, Key::Try)?;
     put_target(out, form, from)?;
@@ -150,9 +142,13 @@ pub fn put_try_line(out: &mut Vec<u8>, form: Form, from: u32, to: u32) -> Result
 }
 
 /// Appends the line of a catch.
-pub fn put_catch_line(out: &mut Vec<u8>, form: Form, ty: Desc<'_>, at: u32) -> Result<(), Fault>
+pub fn put_catch_line(
+    out: &mut Vec<u8>,
+    form: Form,
+    ty: Desc<'_>,
+    at: u32,
+) -> Result<(), AllocError>
     ensures ok { OnOk result (out.new.items ≡ out.old.items ++ keyed_text_in form (says.catch_line (desc ty.entry) at)) }
-    ensures memory { IsOkUnless result memory }
 {
     put_first(out, Key::Catch)?;
     put_name(out, ty.text.units)?;
@@ -161,9 +157,8 @@ pub fn put_catch_line(out: &mut Vec<u8>, form: Form, ty: Desc<'_>, at: u32) -> R
 }
 
 /// Appends the line of a catch-all.
-pub fn put_catch_all_line(out: &mut Vec<u8>, form: Form, at: u32) -> Result<(), Fault>
+pub fn put_catch_all_line(out: &mut Vec<u8>, form: Form, at: u32) -> Result<(), AllocError>
     ensures ok { OnOk result (out.new.items ≡ out.old.items ++ keyed_text_in form (says.catch_all_line at)) }
-    ensures memory { IsOkUnless result memory }
 {
     put_first(out, Key::CatchAll)?;
     put_target(out, form, at)?;
@@ -207,9 +202,8 @@ fn insn_word(one: &Insn<'_>) -> &'static str
 }
 
 /// Appends the number that instruction k gives itself.
-fn put_numbered(out: &mut Vec<u8>, form: Form, k: u64) -> Result<(), Fault>
-    ensures ok { OnOk result ((text : List ℕ) → out.new.items ++ text ≡ out.old.items ++ numbered form k text) }
-    ensures memory { IsOkUnless result memory }
+fn put_numbered(out: &mut Vec<u8>, form: Form, k: u64) -> Result<(), AllocError>
+    ensures ok { OnOk result ((text : List ℕ) → out.new.items ++ text ≡ out.old.items ++ with_number form k text) }
 {
     match form {
         Form::One => {
@@ -222,9 +216,8 @@ fn put_numbered(out: &mut Vec<u8>, form: Form, k: u64) -> Result<(), Fault>
 }
 
 /// Appends the line of instruction k's label.
-pub fn put_label_line(out: &mut Vec<u8>, k: u64) -> Result<(), Fault>
+pub fn put_label_line(out: &mut Vec<u8>, k: u64) -> Result<(), AllocError>
     ensures ok { OnOk result (out.new.items ≡ out.old.items ++ label_text k) }
-    ensures memory { IsOkUnless result memory }
 {
     out.extend_from_slice(b":L")?;
     put_decimal(out, k)?;
@@ -232,9 +225,13 @@ pub fn put_label_line(out: &mut Vec<u8>, k: u64) -> Result<(), Fault>
 }
 
 /// Appends instruction k.
-pub fn put_insn_line(out: &mut Vec<u8>, form: Form, k: u64, one: &Insn<'_>) -> Result<(), Fault>
+pub fn put_insn_line(
+    out: &mut Vec<u8>,
+    form: Form,
+    k: u64,
+    one: &Insn<'_>,
+) -> Result<(), AllocError>
     ensures ok { OnOk result (out.new.items ≡ out.old.items ++ insn_text form k (insn one.now)) }
-    ensures memory { IsOkUnless result memory }
 {
     put_numbered(out, form, k)?;
     out.extend_from_slice(insn_word(one).as_bytes())?;

@@ -1,17 +1,16 @@
 //! Which instructions a code names.
 
-ghost use Rattle.std.specs.Prelude.{◌≡◌, ◌+◌, ◌++◌, ◌∷◌, [], ℕ, List, map, length, option_map, IfOk, IsOkUnless};
+ghost use Rattle.std.specs.Prelude.{◌≡◌, ◌+◌, ◌++◌, ◌∷◌, [], ℕ, List, map, length, option_map, IfOk};
 ghost use Rattle.std.specs.List.{flat_map};
-ghost use Rattle.base_bytes.specs.Fault.{memory};
 ghost use Rattle.program_types.specs.View.{insn, catch, try, code};
-ghost use Rattle.listing_print.specs.Canon.{insn_numbers, all_numbers, try_numbers, code_numbers};
+ghost use Rattle.program_types.specs.Formed.{insn_leads};
+ghost use Rattle.listing_print.specs.Canon.{all_numbers, try_numbers, code_numbers};
 ghost use Rattle.listing_print.specs.Marks.{IsMarked};
 
-use dex_base::Fault;
 use program_types::{Catch, Code, Insn, Try};
-use std::alloc::Global;
+use std::alloc::{AllocError, Global};
 
-/// This one is named too.
+/// Marks this instruction as named.
 fn mark(marks: &mut [bool], number: u32)
     ensures marked { (ns : List ℕ) → IsMarked marks.old ns → IsMarked marks.new (ns ++ number ∷ []) }
     ensures same { length marks.new ≡ length marks.old }
@@ -22,7 +21,7 @@ fn mark(marks: &mut [bool], number: u32)
     }
 }
 
-/// These are named too.
+/// Marks these instructions as named.
 fn mark_all(marks: &mut [bool], numbers: &[u32])
     ensures marked { (ns : List ℕ) → IsMarked marks.old ns → IsMarked marks.new (ns ++ numbers.now) }
     ensures same { length marks.new ≡ length marks.old }
@@ -32,9 +31,9 @@ fn mark_all(marks: &mut [bool], numbers: &[u32])
     }
 }
 
-/// What an instruction names.
+/// Marks what an instruction names.
 fn mark_insn(marks: &mut [bool], one: &Insn<'_>)
-    ensures marked { (ns : List ℕ) → IsMarked marks.old ns → IsMarked marks.new (ns ++ insn_numbers (insn one.now)) }
+    ensures marked { (ns : List ℕ) → IsMarked marks.old ns → IsMarked marks.new (ns ++ insn_leads (insn one.now)) }
     ensures same { length marks.new ≡ length marks.old }
 {
     match *one {
@@ -55,9 +54,9 @@ fn mark_insn(marks: &mut [bool], one: &Insn<'_>)
     }
 }
 
-/// What instructions name.
+/// Marks what instructions name.
 fn mark_insns(marks: &mut [bool], insns: &[Insn<'_>])
-    ensures marked { (ns : List ℕ) → IsMarked marks.old ns → IsMarked marks.new (ns ++ flat_map insn_numbers (map insn insns.now)) }
+    ensures marked { (ns : List ℕ) → IsMarked marks.old ns → IsMarked marks.new (ns ++ flat_map insn_leads (map insn insns.now)) }
     ensures same { length marks.new ≡ length marks.old }
 {
     for i in 0..insns.len() {
@@ -65,7 +64,7 @@ fn mark_insns(marks: &mut [bool], insns: &[Insn<'_>])
     }
 }
 
-/// What catches name.
+/// Marks what catches name.
 fn mark_catches(marks: &mut [bool], catches: &[Catch<'_>])
     ensures marked { (ns : List ℕ) → IsMarked marks.old ns → IsMarked marks.new (ns ++ map (λ c. c.at) (map catch catches.now)) }
     ensures same { length marks.new ≡ length marks.old }
@@ -75,7 +74,7 @@ fn mark_catches(marks: &mut [bool], catches: &[Catch<'_>])
     }
 }
 
-/// What a try names.
+/// Marks what a try names.
 fn mark_try(marks: &mut [bool], one: &Try<'_>)
     ensures marked { (ns : List ℕ) → IsMarked marks.old ns → IsMarked marks.new (ns ++ try_numbers (try one.now)) }
     ensures same { length marks.new ≡ length marks.old }
@@ -88,7 +87,7 @@ fn mark_try(marks: &mut [bool], one: &Try<'_>)
     }
 }
 
-/// What tries name.
+/// Marks what tries name.
 fn mark_tries(marks: &mut [bool], tries: &[Try<'_>])
     ensures marked { (ns : List ℕ) → IsMarked marks.old ns → IsMarked marks.new (ns ++ flat_map try_numbers (map try tries.now)) }
     ensures same { length marks.new ≡ length marks.old }
@@ -98,7 +97,7 @@ fn mark_tries(marks: &mut [bool], tries: &[Try<'_>])
     }
 }
 
-/// What a code names.
+/// Marks what a code names.
 fn mark_code(marks: &mut [bool], one: &Code<'_>)
     ensures marked { (ns : List ℕ) → IsMarked marks.old ns → IsMarked marks.new (ns ++ code_numbers (code one.now)) }
     ensures same { length marks.new ≡ length marks.old }
@@ -107,11 +106,10 @@ fn mark_code(marks: &mut [bool], one: &Code<'_>)
     mark_tries(marks, one.tries);
 }
 
-/// Which instructions a code names, and whether the one behind its last.
-pub fn marks_of(alloc: Global, one: &Code<'_>) -> Result<Vec<bool>, Fault>
+/// Which instructions a code names, and whether the one after its last.
+pub fn marks_of(alloc: Global, one: &Code<'_>) -> Result<Vec<bool>, AllocError>
     ensures marked { IfOk result (λ marks. IsMarked marks.items (code_numbers (code one.now))) }
     ensures count { IfOk result (λ marks. length marks.items ≡ length one.now.insns.now + 1) }
-    ensures memory { IsOkUnless result memory }
 {
     let mut marks = Vec::new(alloc);
     marks.resize(one.insns.len(), false)?;

@@ -1,7 +1,6 @@
-//! The operands of instructions, each behind one space.
+//! The operands of instructions, each after one space.
 
-ghost use Rattle.std.specs.Prelude.{◌≡◌, ◌++◌, ◌∷◌, [], map, take, OnOk, IsOkUnless};
-ghost use Rattle.base_bytes.specs.Fault.{memory};
+ghost use Rattle.std.specs.Prelude.{◌≡◌, ◌++◌, ◌∷◌, [], map, take, OnOk};
 ghost use Rattle.program_types.specs.View.{name, insn};
 ghost use Rattle.listing_slots.specs.declared.key.Key.TheVariants as Key;
 ghost use Rattle.listing_slots.specs.declared.slot.Mark.TheVariants.{Nothing};
@@ -10,18 +9,17 @@ ghost use Rattle.listing_slots.specs.Data.{byte, half, int, long};
 ghost use Rattle.listing_shapes.specs.Shapes.{size};
 ghost use Rattle.listing_print.specs.Operands.{operand, operand_text, operand_text_in, keyword, v4, to, name_operand, pair_operands, element_operands, insn_operands};
 
-use dex_base::Fault;
 use listing_lines::Form;
 use listing_slots::{
     put_decimal, put_elements, put_field, put_method, put_name, put_number, put_register,
     put_signed, put_text,
 };
 use program_types::{Insn, Name};
+use std::alloc::AllocError;
 
 /// Appends a name in the form of its kind.
-pub fn put_named(out: &mut Vec<u8>, which: Name<'_>) -> Result<(), Fault>
+pub fn put_named(out: &mut Vec<u8>, which: Name<'_>) -> Result<(), AllocError>
     ensures ok { OnOk result (out.new.items ≡ out.old.items ++ operand_text (name_operand (name which.entry) ∷ [])) }
-    ensures memory { IsOkUnless result memory }
 {
     match which {
         Name::Text(text) => put_text(out, text.units),
@@ -32,9 +30,8 @@ pub fn put_named(out: &mut Vec<u8>, which: Name<'_>) -> Result<(), Fault>
 }
 
 /// Appends registers of four bits.
-fn put_registers(out: &mut Vec<u8>, regs: &[u8]) -> Result<(), Fault>
+fn put_registers(out: &mut Vec<u8>, regs: &[u8]) -> Result<(), AllocError>
     ensures ok { OnOk result (out.new.items ≡ out.old.items ++ operand_text (map v4 regs.now)) }
-    ensures memory { IsOkUnless result memory }
 {
     for reg in regs {
         put_register(out, *reg as u16)?;
@@ -43,9 +40,8 @@ fn put_registers(out: &mut Vec<u8>, regs: &[u8]) -> Result<(), Fault>
 }
 
 /// Appends a space and a target: its number, or its label.
-pub fn put_target(out: &mut Vec<u8>, form: Form, n: u32) -> Result<(), Fault>
+pub fn put_target(out: &mut Vec<u8>, form: Form, n: u32) -> Result<(), AllocError>
     ensures ok { OnOk result (out.new.items ≡ out.old.items ++ operand_text_in form (to n ∷ [])) }
-    ensures memory { IsOkUnless result memory }
 {
     match form {
         Form::One => out.extend_from_slice(b" @")?,
@@ -55,9 +51,8 @@ pub fn put_target(out: &mut Vec<u8>, form: Form, n: u32) -> Result<(), Fault>
 }
 
 /// Appends targets.
-fn put_targets(out: &mut Vec<u8>, form: Form, targets: &[u32]) -> Result<(), Fault>
+fn put_targets(out: &mut Vec<u8>, form: Form, targets: &[u32]) -> Result<(), AllocError>
     ensures ok { OnOk result (out.new.items ≡ out.old.items ++ operand_text_in form (map to targets.now)) }
-    ensures memory { IsOkUnless result memory }
 {
     for target in targets {
         put_target(out, form, *target)?;
@@ -66,9 +61,8 @@ fn put_targets(out: &mut Vec<u8>, form: Form, targets: &[u32]) -> Result<(), Fau
 }
 
 /// Appends keys, each with its target.
-fn put_pairs(out: &mut Vec<u8>, form: Form, keys: &[i32], targets: &[u32]) -> Result<(), Fault>
+fn put_pairs(out: &mut Vec<u8>, form: Form, keys: &[i32], targets: &[u32]) -> Result<(), AllocError>
     ensures ok { OnOk result (out.new.items ≡ out.old.items ++ operand_text_in form (pair_operands keys.now targets.now)) }
-    ensures memory { IsOkUnless result memory }
 {
     let count = keys.len().min(targets.len());
     for i in 0..count {
@@ -79,9 +73,8 @@ fn put_pairs(out: &mut Vec<u8>, form: Form, keys: &[i32], targets: &[u32]) -> Re
 }
 
 /// Appends the bytes of an array, if it has some.
-fn put_bytes(out: &mut Vec<u8>, bytes: &[u8]) -> Result<(), Fault>
+fn put_bytes(out: &mut Vec<u8>, bytes: &[u8]) -> Result<(), AllocError>
     ensures ok { OnOk result (out.new.items ≡ out.old.items ++ operand_text (element_operands bytes.now)) }
-    ensures memory { IsOkUnless result memory }
 {
     if bytes.is_empty() {
         return Ok(());
@@ -91,9 +84,8 @@ fn put_bytes(out: &mut Vec<u8>, bytes: &[u8]) -> Result<(), Fault>
 
 /// Appends registers in braces, and a name.
 #[tactic(auto, unfolding(listing_slots::specs::Keys::key_text))]
-fn put_braces(out: &mut Vec<u8>, regs: &[u8], which: Name<'_>) -> Result<(), Fault>
+fn put_braces(out: &mut Vec<u8>, regs: &[u8], which: Name<'_>) -> Result<(), AllocError>
     ensures ok { OnOk result (out.new.items ≡ out.old.items ++ operand_text (keyword Key.Open ∷ (map v4 regs.now ++ (keyword Key.Close ∷ name_operand (name which.entry) ∷ [])))) }
-    ensures memory { IsOkUnless result memory }
 {
     out.extend_from_slice(b" {")?;
     put_registers(out, regs)?;
@@ -101,92 +93,82 @@ fn put_braces(out: &mut Vec<u8>, regs: &[u8], which: Name<'_>) -> Result<(), Fau
     put_named(out, which)
 }
 
-/// Appends those of the registers that are used in braces, and a name.
-#[tactic(auto, using(crate::proofs::TextLaws::take_least))]
-fn put_call(out: &mut Vec<u8>, n: u8, regs: [u8; 5], which: Name<'_>) -> Result<(), Fault>
+/// Appends the first `n` of the registers in braces, and a name.
+#[tactic(auto, using(listing_lines::proofs::MakingLaws::take_least))]
+fn put_call(out: &mut Vec<u8>, n: u8, regs: [u8; 5], which: Name<'_>) -> Result<(), AllocError>
     ensures ok { OnOk result (out.new.items ≡ out.old.items ++ operand_text (keyword Key.Open ∷ (map v4 (take n regs) ++ (keyword Key.Close ∷ name_operand (name which.entry) ∷ [])))) }
-    ensures memory { IsOkUnless result memory }
 {
     let (used, _) = regs.split_at((n as usize).min(5));
     put_braces(out, used, which)
 }
 
 /// Appends two registers.
-fn put_two(out: &mut Vec<u8>, a: u16, b: u16) -> Result<(), Fault>
+fn put_two(out: &mut Vec<u8>, a: u16, b: u16) -> Result<(), AllocError>
     ensures ok { OnOk result (out.new.items ≡ out.old.items ++ operand_text (v4 a ∷ v4 b ∷ [])) }
-    ensures memory { IsOkUnless result memory }
 {
     put_register(out, a)?;
     put_register(out, b)
 }
 
 /// Appends a register and a number.
-fn put_constant(out: &mut Vec<u8>, a: u16, n: i64) -> Result<(), Fault>
+fn put_constant(out: &mut Vec<u8>, a: u16, n: i64) -> Result<(), AllocError>
     ensures ok { OnOk result (out.new.items ≡ out.old.items ++ operand_text (v4 a ∷ operand slot.Long (long n) ∷ [])) }
-    ensures memory { IsOkUnless result memory }
 {
     put_register(out, a)?;
     put_signed(out, n)
 }
 
 /// Appends a register and a target.
-fn put_test(out: &mut Vec<u8>, form: Form, a: u16, at: u32) -> Result<(), Fault>
+fn put_test(out: &mut Vec<u8>, form: Form, a: u16, at: u32) -> Result<(), AllocError>
     ensures ok { OnOk result (out.new.items ≡ out.old.items ++ operand_text_in form (v4 a ∷ to at ∷ [])) }
-    ensures memory { IsOkUnless result memory }
 {
     put_register(out, a)?;
     put_target(out, form, at)
 }
 
 /// Appends a register and a name.
-fn put_access(out: &mut Vec<u8>, a: u16, which: Name<'_>) -> Result<(), Fault>
+fn put_access(out: &mut Vec<u8>, a: u16, which: Name<'_>) -> Result<(), AllocError>
     ensures ok { OnOk result (out.new.items ≡ out.old.items ++ operand_text (v4 a ∷ name_operand (name which.entry) ∷ [])) }
-    ensures memory { IsOkUnless result memory }
 {
     put_register(out, a)?;
     put_named(out, which)
 }
 
 /// Appends three registers.
-fn put_three(out: &mut Vec<u8>, a: u16, b: u16, c: u16) -> Result<(), Fault>
+fn put_three(out: &mut Vec<u8>, a: u16, b: u16, c: u16) -> Result<(), AllocError>
     ensures ok { OnOk result (out.new.items ≡ out.old.items ++ operand_text (v4 a ∷ v4 b ∷ v4 c ∷ [])) }
-    ensures memory { IsOkUnless result memory }
 {
     put_two(out, a, b)?;
     put_register(out, c)
 }
 
 /// Appends two registers and a number.
-fn put_two_constant(out: &mut Vec<u8>, a: u16, b: u16, n: i64) -> Result<(), Fault>
+fn put_two_constant(out: &mut Vec<u8>, a: u16, b: u16, n: i64) -> Result<(), AllocError>
     ensures ok { OnOk result (out.new.items ≡ out.old.items ++ operand_text (v4 a ∷ v4 b ∷ operand slot.Long (long n) ∷ [])) }
-    ensures memory { IsOkUnless result memory }
 {
     put_two(out, a, b)?;
     put_signed(out, n)
 }
 
 /// Appends two registers and a target.
-fn put_two_test(out: &mut Vec<u8>, form: Form, a: u16, b: u16, at: u32) -> Result<(), Fault>
+fn put_two_test(out: &mut Vec<u8>, form: Form, a: u16, b: u16, at: u32) -> Result<(), AllocError>
     ensures ok { OnOk result (out.new.items ≡ out.old.items ++ operand_text_in form (v4 a ∷ v4 b ∷ to at ∷ [])) }
-    ensures memory { IsOkUnless result memory }
 {
     put_two(out, a, b)?;
     put_target(out, form, at)
 }
 
 /// Appends two registers and a name.
-fn put_two_access(out: &mut Vec<u8>, a: u16, b: u16, which: Name<'_>) -> Result<(), Fault>
+fn put_two_access(out: &mut Vec<u8>, a: u16, b: u16, which: Name<'_>) -> Result<(), AllocError>
     ensures ok { OnOk result (out.new.items ≡ out.old.items ++ operand_text (v4 a ∷ v4 b ∷ name_operand (name which.entry) ∷ [])) }
-    ensures memory { IsOkUnless result memory }
 {
     put_two(out, a, b)?;
     put_named(out, which)
 }
 
 /// Appends the first register of a range, how many there are, and a name.
-fn put_range(out: &mut Vec<u8>, first: u16, n: u8, which: Name<'_>) -> Result<(), Fault>
+fn put_range(out: &mut Vec<u8>, first: u16, n: u8, which: Name<'_>) -> Result<(), AllocError>
     ensures ok { OnOk result (out.new.items ≡ out.old.items ++ operand_text (v4 first ∷ operand (slot.Byte Nothing 255) (byte n) ∷ name_operand (name which.entry) ∷ [])) }
-    ensures memory { IsOkUnless result memory }
 {
     put_register(out, first)?;
     put_number(out, n as u64)?;
@@ -194,18 +176,16 @@ fn put_range(out: &mut Vec<u8>, first: u16, n: u8, which: Name<'_>) -> Result<()
 }
 
 /// Appends the first key of a switch, and its targets.
-fn put_packed(out: &mut Vec<u8>, form: Form, first: i32, targets: &[u32]) -> Result<(), Fault>
+fn put_packed(out: &mut Vec<u8>, form: Form, first: i32, targets: &[u32]) -> Result<(), AllocError>
     ensures ok { OnOk result (out.new.items ≡ out.old.items ++ operand_text_in form (operand slot.Int (int first) ∷ map to targets.now)) }
-    ensures memory { IsOkUnless result memory }
 {
     put_signed(out, first as i64)?;
     put_targets(out, form, targets)
 }
 
 /// Appends how many bytes an element of an array has, and the bytes of all.
-fn put_data(out: &mut Vec<u8>, width: u16, bytes: &[u8]) -> Result<(), Fault>
+fn put_data(out: &mut Vec<u8>, width: u16, bytes: &[u8]) -> Result<(), AllocError>
     ensures ok { OnOk result (out.new.items ≡ out.old.items ++ operand_text (operand size (half width) ∷ element_operands bytes.now)) }
-    ensures memory { IsOkUnless result memory }
 {
     put_number(out, width as u64)?;
     put_bytes(out, bytes)
@@ -214,9 +194,8 @@ fn put_data(out: &mut Vec<u8>, width: u16, bytes: &[u8]) -> Result<(), Fault>
 /// Appends the operands of an instruction, in the order of its format. Each arm is one call: an answer that is looked into
 /// would take room, and time, for all others too.
 #[rattlefmt::skip]
-pub fn put_operands(out: &mut Vec<u8>, form: Form, one: &Insn<'_>) -> Result<(), Fault>
+pub fn put_operands(out: &mut Vec<u8>, form: Form, one: &Insn<'_>) -> Result<(), AllocError>
     ensures ok { OnOk result (out.new.items ≡ out.old.items ++ operand_text_in form (insn_operands (insn one.now))) }
-    ensures memory { IsOkUnless result memory }
 {
     match *one {
         Insn::I10x { op: _ } => Ok(()),

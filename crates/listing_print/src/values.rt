@@ -1,7 +1,6 @@
 //! The values of static fields.
 
-ghost use Rattle.std.specs.Prelude.{◌≡◌, ◌++◌, ◌∷◌, [], OnOk, IsOkUnless};
-ghost use Rattle.base_bytes.specs.Fault.{memory};
+ghost use Rattle.std.specs.Prelude.{◌≡◌, ◌++◌, ◌∷◌, [], OnOk};
 ghost use Rattle.program_types.specs.Content as content;
 ghost use Rattle.program_types.specs.View.{value};
 ghost use Rattle.std.specs.Fmt.{signed_decimal};
@@ -11,14 +10,13 @@ ghost use Rattle.listing_print.specs.Leaves.{IsLeaf};
 ghost use Rattle.program_types.specs.View.{name};
 
 use crate::operands::put_named;
-use dex_base::Fault;
 use listing_slots::{Key, put_bits, put_field, put_key, put_number, put_signed};
 use program_types::{Name, Value};
+use std::alloc::AllocError;
 
 /// Appends the keyword of a named value, and the name.
-fn put_naming(out: &mut Vec<u8>, which: Name<'_>) -> Result<(), Fault>
+fn put_naming(out: &mut Vec<u8>, which: Name<'_>) -> Result<(), AllocError>
     ensures ok { OnOk result (out.new.items ≡ out.old.items ++ operand_text (named_operands (name which.entry))) }
-    ensures memory { IsOkUnless result memory }
 {
     match which {
         Name::Text(_) => put_key(out, Key::Text)?,
@@ -30,9 +28,8 @@ fn put_naming(out: &mut Vec<u8>, which: Name<'_>) -> Result<(), Fault>
 }
 
 /// Appends a keyword and a signed number.
-fn put_whole(out: &mut Vec<u8>, key: Key, n: i64) -> Result<(), Fault>
+fn put_whole(out: &mut Vec<u8>, key: Key, n: i64) -> Result<(), AllocError>
     ensures ok { OnOk result (out.new.items ≡ out.old.items ++ (32 ∷ (key_text key ++ (32 ∷ signed_decimal n)))) }
-    ensures memory { IsOkUnless result memory }
 {
     put_key(out, key)?;
     put_signed(out, n)
@@ -40,9 +37,8 @@ fn put_whole(out: &mut Vec<u8>, key: Key, n: i64) -> Result<(), Fault>
 
 /// Appends a value that is no array.
 #[rattlefmt::skip]
-fn put_leaf(out: &mut Vec<u8>, one: Value<'_>) -> Result<(), Fault>
+fn put_leaf(out: &mut Vec<u8>, one: Value<'_>) -> Result<(), AllocError>
     ensures ok { OnOk result (IsLeaf (value one.entry) → out.new.items ≡ out.old.items ++ operand_text (value_operands (value one.entry))) }
-    ensures memory { IsOkUnless result memory }
 {
     match one {
         Value::Byte(n) => put_whole(out, Key::Byte, n as i64),
@@ -65,9 +61,8 @@ fn put_leaf(out: &mut Vec<u8>, one: Value<'_>) -> Result<(), Fault>
 }
 
 /// Appends a value. The stack holds a call for each array that a value is in.
-pub fn put_value(out: &mut Vec<u8>, one: &Value<'_>) -> Result<(), Fault>
+pub fn put_value(out: &mut Vec<u8>, one: &Value<'_>) -> Result<(), AllocError>
     ensures ok { OnOk result (out.new.items ≡ out.old.items ++ operand_text (value_operands (value one.now))) }
-    ensures memory { IsOkUnless result memory }
 {
     match one {
         Value::Array(all) => {

@@ -42,9 +42,9 @@ unfolding before_close
 close_empty [] h = refl
 close_empty (w ∷ ws) h = absurd (omega arith)
 
-pub close_behind : (ws behind : List Made) → behind ≡ drop 1 ws → before_close 5 (map word behind) ≡ before_close 5 (drop 1 (map word ws))
-close_behind [] behind e = ap (λ (l : List Made). before_close 5 (map word l)) e
-close_behind (w ∷ ws) behind e = ap (λ (l : List Made). before_close 5 (map word l)) e
+pub close_after : (ws after : List Made) → after ≡ drop 1 ws → before_close 5 (map word after) ≡ before_close 5 (drop 1 (map word ws))
+close_after [] after e = ap (λ (l : List Made). before_close 5 (map word l)) e
+close_after (w ∷ ws) after e = ap (λ (l : List Made). before_close 5 (map word l)) e
 
 pub forms_bad : (ss : List Slot) (ws : List Made) (i : ℕ) (x : Slot) (y : Made) → i < length ss → i < length ws → has_form (get_or ss i x) (word (get_or ws i y)) ≡ false → false ≡ have_forms (drop i ss) (map word (drop i ws))
 unfolding have_forms

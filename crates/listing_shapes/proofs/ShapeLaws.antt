@@ -20,18 +20,8 @@ use Rattle.listing_slots.specs.declared.slot.Slot.TheVariants as slot
 use Rattle.listing_slots.specs.Keys.{key_text, same, find_key, lead_keys, payload_keys}
 use Rattle.listing_slots.specs.Slots.{has_form, have_forms}
 use Rattle.listing_shapes.specs.Shapes.{Shape, Row, BeginsWithKey, BeginsWithInsn, IsPlainRow, IsInsnRow, HasShape, HasBareShape, key_row, payload_row, onto_row, pairs, target}
-
-pub both : (a b : Bool) → (a && b) ≡ true → (a ≡ true) × (b ≡ true)
-both true true e = (refl, refl)
-both true false e = absurd cc
-both false b e = absurd cc
-
-pub same_eq : (xs ys : List ℕ) → same xs ys ≡ true → xs ≡ ys
-unfolding same
-same_eq [] [] e = refl
-same_eq [] (y ∷ ys) e = absurd cc
-same_eq (x ∷ xs) [] e = absurd cc
-same_eq (x ∷ xs) (y ∷ ys) e = let b = both (x == y) (same xs ys) e in let i = eqb-true x y b.0 in let j = same_eq xs ys b.1 in cc
+use Rattle.listing_slots.proofs.KeyLaws.{same_true}
+use Rattle.dex_base.proofs.LowPoints.{both}
 
 -- ---- no keyword ends in `:`
 
@@ -54,7 +44,7 @@ free_of true e = absurd cc
 free_of false e = refl
 
 same_free : (a text : List ℕ) → same a text ≡ true → free (ends a) ≡ true → ends text ≡ false
-same_free a text e f = subst (λ (t : List ℕ). ends t ≡ false) (same_eq a text e) (free_of (ends a) f)
+same_free a text e f = subst (λ (t : List ℕ). ends t ≡ false) (same_true a text e) (free_of (ends a) f)
 
 pub chosen : (b : Bool) (j : Key) (more : Option Key) (k : Key) → Some k ≡ (if b then Some j else more) → ((b ≡ true) × (k ≡ j)) ⊎ ((b ≡ false) × (Some k ≡ more))
 chosen true j more k e = inl (refl, cc)
@@ -87,7 +77,7 @@ none_of : (k : Key) (o : Option Key) → no_key o ≡ true → Some k ≡ o → 
 none_of k None e f = cc
 none_of k (Some j) e f = cc
 
-all_at : (P : List ℕ → Bool) (xs : List (List ℕ)) (i : ℕ) (d : List ℕ) → list_all P xs ≡ true → P d ≡ true → P (get_or xs i d) ≡ true
+pub all_at : (P : List ℕ → Bool) (xs : List (List ℕ)) (i : ℕ) (d : List ℕ) → list_all P xs ≡ true → P d ≡ true → P (get_or xs i d) ≡ true
 all_at P [] i d a e = e
 all_at P (x ∷ xs) zero d a e = (both (P x) (list_all P xs) a).0
 all_at P (x ∷ xs) (suc i) d a e = all_at P xs i d (both (P x) (list_all P xs) a).1 e
@@ -126,8 +116,8 @@ label_is a b e = append_cancel_right a b (58 ∷ []) e
 insn_one : (ws : List Word) (r s : Row) → BeginsWithInsn ws r → BeginsWithInsn ws s → r ≡ s
 insn_one ws r s p q =
     let i = p.words in let j = q.words in
-    let m : p.text ≡ q.text = cc in let n : p.behind ≡ q.behind = cc in
-    row_one q.text q.behind r s (subst (λ (u : List ℕ). IsInsnRow u q.behind r) m (subst (λ (v : List Word). IsInsnRow p.text v r) n p.has_row)) q.has_row
+    let m : p.text ≡ q.text = cc in let n : p.after ≡ q.after = cc in
+    row_one q.text q.after r s (subst (λ (u : List ℕ). IsInsnRow u q.after r) m (subst (λ (v : List Word). IsInsnRow p.text v r) n p.has_row)) q.has_row
 
 keyed_one : (text : List ℕ) (ws : List Word) (r s : Row) → BeginsWithKey text ws r → BeginsWithKey text ws s → r ≡ s
 keyed_one text ws r s p q =
@@ -135,27 +125,27 @@ keyed_one text ws r s p q =
     let e : Some r ≡ Some s = p.has_row ∙ rw k (sym q.has_row) in cc
 
 -- a line with a number is no line with a keyword
-pub not_both : (ws : List Word) (label text : List ℕ) (behind more : List Word) (row : Row) → ws ≡ plain_word (label ++ 58 ∷ []) ∷ behind → ws ≡ plain_word text ∷ more → BeginsWithKey text more row → ⊥
-not_both ws label text behind more row e f k = let c : text ≡ label ++ 58 ∷ [] = cc in no_colon text label k.lead k.found c
+pub not_both : (ws : List Word) (label text : List ℕ) (after more : List Word) (row : Row) → ws ≡ plain_word (label ++ 58 ∷ []) ∷ after → ws ≡ plain_word text ∷ more → BeginsWithKey text more row → ⊥
+not_both ws label text after more row e f k = let c : text ≡ label ++ 58 ∷ [] = cc in no_colon text label k.lead k.found c
 
-pub labelled_only : (ws behind : List Word) (text label : List ℕ) → ws ≡ plain_word text ∷ behind → text ≡ label ++ 58 ∷ [] → (is_natural label ≡ true → (row : Row) → BeginsWithInsn behind row → ⊥) → (s : Shape) → HasShape ws s → ⊥
-labelled_only ws behind text label e f refuse s h = elim h [
+pub labelled_only : (ws after : List Word) (text label : List ℕ) → ws ≡ plain_word text ∷ after → text ≡ label ++ 58 ∷ [] → (is_natural label ≡ true → (row : Row) → BeginsWithInsn after row → ⊥) → (s : Shape) → HasShape ws s → ⊥
+labelled_only ws after text label e f refuse s h = elim h [
   | inl a ↦
       let w = a.words in
       let i : a.label ++ 58 ∷ [] ≡ text = cc in
-      let j : a.behind ≡ behind = cc in
+      let j : a.after ≡ after = cc in
       let k = label_is a.label label (i ∙ f) in
       refuse (subst (λ (t : List ℕ). is_natural t ≡ true) k a.natural) a.row (subst (λ (t : List Word). BeginsWithInsn t a.row) j a.insn)
-  | inr a ↦ not_both ws label a.text behind a.behind a.row (rw f at e) a.words a.keyed
+  | inr a ↦ not_both ws label a.text after a.after a.row (rw f at e) a.words a.keyed
 ]
 
-pub keyed_only : (ws behind : List Word) (text : List ℕ) → ws ≡ plain_word text ∷ behind → ((label : List ℕ) → text ≡ label ++ 58 ∷ [] → ⊥) → ((row : Row) → BeginsWithKey text behind row → ⊥) → (s : Shape) → HasShape ws s → ⊥
-keyed_only ws behind text e plain refuse s h = elim h [
+pub keyed_only : (ws after : List Word) (text : List ℕ) → ws ≡ plain_word text ∷ after → ((label : List ℕ) → text ≡ label ++ 58 ∷ [] → ⊥) → ((row : Row) → BeginsWithKey text after row → ⊥) → (s : Shape) → HasShape ws s → ⊥
+keyed_only ws after text e plain refuse s h = elim h [
   | inl a ↦ let w = a.words in let i : text ≡ a.label ++ 58 ∷ [] = cc in plain a.label i
   | inr a ↦
       let w = a.words in
-      let i : a.text ≡ text = cc in let j : a.behind ≡ behind = cc in
-      refuse a.row (subst (λ (t : List ℕ). BeginsWithKey t behind a.row) i (subst (λ (v : List Word). BeginsWithKey a.text v a.row) j a.keyed))
+      let i : a.text ≡ text = cc in let j : a.after ≡ after = cc in
+      refuse a.row (subst (λ (t : List ℕ). BeginsWithKey t after a.row) i (subst (λ (v : List Word). BeginsWithKey a.text v a.row) j a.keyed))
 ]
 
 pub no_words : (ws : List Word) → ws ≡ [] → (s : Shape) → HasShape ws s → ⊥
@@ -164,18 +154,18 @@ no_words ws e s h = elim h [
   | inr a ↦ let w = a.words in cc
 ]
 
-pub quoted_first : (ws behind : List Word) (us : List ℕ) → ws ≡ text_in_quotes us ∷ behind → (s : Shape) → HasShape ws s → ⊥
-quoted_first ws behind us e s h = elim h [
+pub quoted_first : (ws after : List Word) (us : List ℕ) → ws ≡ text_in_quotes us ∷ after → (s : Shape) → HasShape ws s → ⊥
+quoted_first ws after us e s h = elim h [
   | inl a ↦ let w = a.words in cc
   | inr a ↦ let w = a.words in cc
 ]
 
-pub labelled_shape : (ws behind : List Word) (text label : List ℕ) (row : Row) → ws ≡ plain_word text ∷ behind → text ≡ label ++ 58 ∷ [] → is_natural label ≡ true → BeginsWithInsn behind row
+pub labelled_shape : (ws after : List Word) (text label : List ℕ) (row : Row) → ws ≡ plain_word text ∷ after → text ≡ label ++ 58 ∷ [] → is_natural label ≡ true → BeginsWithInsn after row
     → HasShape ws (record { kind = row.0; label = label; slots = row.1; words = drop 2 ws })
-labelled_shape ws behind text label row e f n b = rw (e, f) (inl (record { label = label; behind = behind; words = refl; natural = n; row = row; insn = b; is = refl }))
+labelled_shape ws after text label row e f n b = rw (e, f) (inl (record { label = label; after = after; words = refl; natural = n; row = row; insn = b; is = refl }))
 
-pub keyed_shape : (ws behind : List Word) (text : List ℕ) (row : Row) → ws ≡ plain_word text ∷ behind → BeginsWithKey text behind row → HasShape ws (record { kind = row.0; label = []; slots = row.1; words = drop 1 ws })
-keyed_shape ws behind text row e b = rw e (inr (record { text = text; behind = behind; words = refl; row = row; keyed = b; is = refl }))
+pub keyed_shape : (ws after : List Word) (text : List ℕ) (row : Row) → ws ≡ plain_word text ∷ after → BeginsWithKey text after row → HasShape ws (record { kind = row.0; label = []; slots = row.1; words = drop 1 ws })
+keyed_shape ws after text row e b = rw e (inr (record { text = text; after = after; words = refl; row = row; keyed = b; is = refl }))
 
 pub shapes_one : (ws : List Word) (s t : Shape) → HasShape ws s → HasShape ws t → s ≡ t
 shapes_one ws s t p q = elim p [
@@ -184,17 +174,17 @@ shapes_one ws s t p q = elim p [
         let i = a.words in let j = b.words in
         let c : a.label ++ 58 ∷ [] ≡ b.label ++ 58 ∷ [] = cc in
         let l = label_is a.label b.label c in
-        let n : a.behind ≡ b.behind = cc in
-        let r = insn_one b.behind a.row b.row (subst (λ (v : List Word). BeginsWithInsn v a.row) n a.insn) b.insn in
+        let n : a.after ≡ b.after = cc in
+        let r = insn_one b.after a.row b.row (subst (λ (v : List Word). BeginsWithInsn v a.row) n a.insn) b.insn in
         a.is ∙ rw (l, n, r) (sym b.is)
-    | inr b ↦ absurd (not_both ws a.label b.text a.behind b.behind b.row a.words b.words b.keyed)
+    | inr b ↦ absurd (not_both ws a.label b.text a.after b.after b.row a.words b.words b.keyed)
   ]
   | inr a ↦ elim q [
-    | inl b ↦ absurd (not_both ws b.label a.text b.behind a.behind a.row b.words a.words a.keyed)
+    | inl b ↦ absurd (not_both ws b.label a.text b.after a.after a.row b.words a.words a.keyed)
     | inr b ↦
         let i = a.words in let j = b.words in
-        let m : a.text ≡ b.text = cc in let n : a.behind ≡ b.behind = cc in
-        let u = keyed_one b.text b.behind a.row b.row (subst (λ (t : List ℕ). BeginsWithKey t b.behind a.row) m (subst (λ (v : List Word). BeginsWithKey a.text v a.row) n a.keyed)) b.keyed in
+        let m : a.text ≡ b.text = cc in let n : a.after ≡ b.after = cc in
+        let u = keyed_one b.text b.after a.row b.row (subst (λ (t : List ℕ). BeginsWithKey t b.after a.row) m (subst (λ (v : List Word). BeginsWithKey a.text v a.row) n a.keyed)) b.keyed in
         a.is ∙ rw (n, u) (sym b.is)
   ]
 ]
@@ -228,22 +218,22 @@ leadless text ws e row b = let f = b.found ∙ sym e in cc
 pub insn_found : (ws rest : List Word) (text : List ℕ) (k : Kind) (ss old new : List Slot) → old ≡ [] → ws ≡ plain_word text ∷ rest → IsInsnRow text rest (k, ss) → new ≡ old ++ ss → true ≡ have_forms new rest → BeginsWithInsn ws (k, new)
 insn_found ws rest text k ss old new e f r n forms =
     let i : new ≡ ss = n ∙ rw e refl in
-    record { text = text; behind = rest; words = f; has_row = rw i r; forms = sym forms }
+    record { text = text; after = rest; words = f; has_row = rw i r; forms = sym forms }
 
 pub insn_none : (ws rest : List Word) (text : List ℕ) → ws ≡ plain_word text ∷ rest → ((row : Row) → IsInsnRow text rest row → ⊥) → (row : Row) → BeginsWithInsn ws row → ⊥
 insn_none ws rest text f none row b =
     let i = b.words in
-    let m : b.text ≡ text = cc in let n : b.behind ≡ rest = cc in
+    let m : b.text ≡ text = cc in let n : b.after ≡ rest = cc in
     none row (subst (λ (u : List ℕ). IsInsnRow u rest row) m (subst (λ (v : List Word). IsInsnRow b.text v row) n b.has_row))
 
 pub insn_formless : (ws rest : List Word) (text : List ℕ) (k : Kind) (ss old new : List Slot) → old ≡ [] → ws ≡ plain_word text ∷ rest → IsInsnRow text rest (k, ss) → new ≡ old ++ ss → false ≡ have_forms new rest → (row : Row) → BeginsWithInsn ws row → ⊥
 insn_formless ws rest text k ss old new e f r n forms row b =
     let i = b.words in
-    let m : b.text ≡ text = cc in let j : b.behind ≡ rest = cc in
+    let m : b.text ≡ text = cc in let j : b.after ≡ rest = cc in
     let h = subst (λ (u : List ℕ). IsInsnRow u rest row) m (subst (λ (v : List Word). IsInsnRow b.text v row) j b.has_row) in
     let s = row_one text rest row (k, ss) h r in
     let t : new ≡ ss = n ∙ rw e refl in
-    let u : have_forms ss rest ≡ true = rw (← j) (subst (λ (x : Row). have_forms x.1 b.behind ≡ true) s b.forms) in
+    let u : have_forms ss rest ≡ true = rw (← j) (subst (λ (x : Row). have_forms x.1 b.after ≡ true) s b.forms) in
     let v : false ≡ true = forms ∙ rw t u in cc
 
 pub insn_empty : (ws : List Word) → ws ≡ [] → (row : Row) → BeginsWithInsn ws row → ⊥
@@ -320,23 +310,23 @@ forms_length (s ∷ ss) (w ∷ ws) e = let i = forms_length ss ws (both (has_for
 
 -- ---- words in memory
 
-pub first_is : (ws behind : List Made) (x : Made) (v : Word) → ws ≡ x ∷ behind → word x ≡ v → map word ws ≡ v ∷ map word behind
-first_is ws behind x v e f = rw (e, f) refl
+pub first_is : (ws after : List Made) (x : Made) (v : Word) → ws ≡ x ∷ after → word x ≡ v → map word ws ≡ v ∷ map word after
+first_is ws after x v e f = rw (e, f) refl
 
 pub empty_is : (ws : List Made) → length ws ≡ 0 → map word ws ≡ []
 empty_is [] e = refl
 empty_is (w ∷ ws) e = absurd (omega arith)
 
-pub keyed_lengths : (text : List ℕ) (words behind : List Made) (x : Made) (k : Kind) (ss : List Slot) → words ≡ x ∷ behind → BeginsWithKey text (map word behind) (k, ss) → 1 + length ss ≡ length words
-keyed_lengths text words behind x k ss e b =
-    let l = forms_length ss (map word behind) b.forms in
-    let m = length-map behind word in
+pub keyed_lengths : (text : List ℕ) (words after : List Made) (x : Made) (k : Kind) (ss : List Slot) → words ≡ x ∷ after → BeginsWithKey text (map word after) (k, ss) → 1 + length ss ≡ length words
+keyed_lengths text words after x k ss e b =
+    let l = forms_length ss (map word after) b.forms in
+    let m = length-map after word in
     rw e (omega arith)
 
-pub insn_lengths : (words behind : List Made) (x : Made) (k : Kind) (ss : List Slot) → words ≡ x ∷ behind → BeginsWithInsn (map word behind) (k, ss) → 2 + length ss ≡ length words
-insn_lengths words behind x k ss e b =
-    let l = forms_length ss b.behind b.forms in
-    let m = length-map behind word in
+pub insn_lengths : (words after : List Made) (x : Made) (k : Kind) (ss : List Slot) → words ≡ x ∷ after → BeginsWithInsn (map word after) (k, ss) → 2 + length ss ≡ length words
+insn_lengths words after x k ss e b =
+    let l = forms_length ss b.after b.forms in
+    let m = length-map after word in
     let n = ap length b.words in
     rw e (omega arith)
 
@@ -351,23 +341,23 @@ bare_one ws s t p q = elim p [
   | inl a ↦ elim q [
     | inl b ↦
         let i = a.words in let j = b.words in
-        let n : a.behind ≡ b.behind = cc in
+        let n : a.after ≡ b.after = cc in
         let r = insn_one ws a.row b.row a.insn b.insn in
         a.is ∙ rw (n, r) (sym b.is)
     | inr b ↦
         let i = a.words in let j = b.words in
         let m : b.text ≡ a.text = cc in
-        absurd (no_key_row a.text b.behind b.row a.no_lead (subst (λ (u : List ℕ). BeginsWithKey u b.behind b.row) m b.keyed))
+        absurd (no_key_row a.text b.after b.row a.no_lead (subst (λ (u : List ℕ). BeginsWithKey u b.after b.row) m b.keyed))
   ]
   | inr a ↦ elim q [
     | inl b ↦
         let i = a.words in let j = b.words in
         let m : a.text ≡ b.text = cc in
-        absurd (no_key_row b.text a.behind a.row b.no_lead (subst (λ (u : List ℕ). BeginsWithKey u a.behind a.row) m a.keyed))
+        absurd (no_key_row b.text a.after a.row b.no_lead (subst (λ (u : List ℕ). BeginsWithKey u a.after a.row) m a.keyed))
     | inr b ↦
         let i = a.words in let j = b.words in
-        let m : a.text ≡ b.text = cc in let n : a.behind ≡ b.behind = cc in
-        let u = keyed_one b.text b.behind a.row b.row (subst (λ (t : List ℕ). BeginsWithKey t b.behind a.row) m (subst (λ (v : List Word). BeginsWithKey a.text v a.row) n a.keyed)) b.keyed in
+        let m : a.text ≡ b.text = cc in let n : a.after ≡ b.after = cc in
+        let u = keyed_one b.text b.after a.row b.row (subst (λ (t : List ℕ). BeginsWithKey t b.after a.row) m (subst (λ (v : List Word). BeginsWithKey a.text v a.row) n a.keyed)) b.keyed in
         a.is ∙ rw (n, u) (sym b.is)
   ]
 ]
@@ -378,43 +368,43 @@ bare_none ws e s h = elim h [
   | inr a ↦ let w = a.words in cc
 ]
 
-pub bare_quoted : (ws behind : List Word) (us : List ℕ) → ws ≡ text_in_quotes us ∷ behind → (s : Shape) → HasBareShape ws s → ⊥
-bare_quoted ws behind us e s h = elim h [
+pub bare_quoted : (ws after : List Word) (us : List ℕ) → ws ≡ text_in_quotes us ∷ after → (s : Shape) → HasBareShape ws s → ⊥
+bare_quoted ws after us e s h = elim h [
   | inl a ↦ let w = a.words in cc
   | inr a ↦ let w = a.words in cc
 ]
 
--- behind a keyword
-pub bare_keyed_only : (ws behind : List Word) (text : List ℕ) (k : Key) → ws ≡ plain_word text ∷ behind → Some k ≡ find_key lead_keys text → ((row : Row) → BeginsWithKey text behind row → ⊥) → (s : Shape) → HasBareShape ws s → ⊥
-bare_keyed_only ws behind text k e f refuse s h = elim h [
+-- after a keyword
+pub bare_keyed_only : (ws after : List Word) (text : List ℕ) (k : Key) → ws ≡ plain_word text ∷ after → Some k ≡ find_key lead_keys text → ((row : Row) → BeginsWithKey text after row → ⊥) → (s : Shape) → HasBareShape ws s → ⊥
+bare_keyed_only ws after text k e f refuse s h = elim h [
   | inl a ↦
       let w = a.words in let i : a.text ≡ text = cc in
       let g : None ≡ find_key lead_keys text = subst (λ (u : List ℕ). None ≡ find_key lead_keys u) i a.no_lead in
       let x = f ∙ sym g in cc
   | inr a ↦
       let w = a.words in
-      let i : a.text ≡ text = cc in let j : a.behind ≡ behind = cc in
-      refuse a.row (subst (λ (t : List ℕ). BeginsWithKey t behind a.row) i (subst (λ (v : List Word). BeginsWithKey a.text v a.row) j a.keyed))
+      let i : a.text ≡ text = cc in let j : a.after ≡ after = cc in
+      refuse a.row (subst (λ (t : List ℕ). BeginsWithKey t after a.row) i (subst (λ (v : List Word). BeginsWithKey a.text v a.row) j a.keyed))
 ]
 
--- behind any other word
-pub bare_only : (ws behind : List Word) (text : List ℕ) → ws ≡ plain_word text ∷ behind → None ≡ find_key lead_keys text → ((row : Row) → BeginsWithInsn ws row → ⊥) → (s : Shape) → HasBareShape ws s → ⊥
-bare_only ws behind text e f refuse s h = elim h [
+-- after any other word
+pub bare_only : (ws after : List Word) (text : List ℕ) → ws ≡ plain_word text ∷ after → None ≡ find_key lead_keys text → ((row : Row) → BeginsWithInsn ws row → ⊥) → (s : Shape) → HasBareShape ws s → ⊥
+bare_only ws after text e f refuse s h = elim h [
   | inl a ↦ refuse a.row a.insn
   | inr a ↦
       let w = a.words in let i : a.text ≡ text = cc in
-      no_key_row text a.behind a.row f (subst (λ (u : List ℕ). BeginsWithKey u a.behind a.row) i a.keyed)
+      no_key_row text a.after a.row f (subst (λ (u : List ℕ). BeginsWithKey u a.after a.row) i a.keyed)
 ]
 
-pub bare_keyed_shape : (ws behind : List Word) (text : List ℕ) (row : Row) → ws ≡ plain_word text ∷ behind → BeginsWithKey text behind row → HasBareShape ws (record { kind = row.0; label = []; slots = row.1; words = drop 1 ws })
-bare_keyed_shape ws behind text row e b = rw e (inr (record { text = text; behind = behind; words = refl; row = row; keyed = b; is = refl }))
+pub bare_keyed_shape : (ws after : List Word) (text : List ℕ) (row : Row) → ws ≡ plain_word text ∷ after → BeginsWithKey text after row → HasBareShape ws (record { kind = row.0; label = []; slots = row.1; words = drop 1 ws })
+bare_keyed_shape ws after text row e b = rw e (inr (record { text = text; after = after; words = refl; row = row; keyed = b; is = refl }))
 
-pub bare_shape : (ws behind : List Word) (text : List ℕ) (row : Row) → ws ≡ plain_word text ∷ behind → None ≡ find_key lead_keys text → BeginsWithInsn ws row → HasBareShape ws (record { kind = row.0; label = []; slots = row.1; words = drop 1 ws })
-bare_shape ws behind text row e f b = inl (record { text = text; behind = behind; words = e; no_lead = f; row = row; insn = b; is = rw e refl })
+pub bare_shape : (ws after : List Word) (text : List ℕ) (row : Row) → ws ≡ plain_word text ∷ after → None ≡ find_key lead_keys text → BeginsWithInsn ws row → HasBareShape ws (record { kind = row.0; label = []; slots = row.1; words = drop 1 ws })
+bare_shape ws after text row e f b = inl (record { text = text; after = after; words = e; no_lead = f; row = row; insn = b; is = rw e refl })
 
 pub bare_lengths : (words : List Made) (k : Kind) (ss : List Slot) → BeginsWithInsn (map word words) (k, ss) → 1 + length ss ≡ length words
 bare_lengths words k ss b =
-    let l = forms_length ss b.behind b.forms in
+    let l = forms_length ss b.after b.forms in
     let m = length-map words word in
     let n = ap length b.words in
     omega arith

@@ -5,7 +5,7 @@ use Rattle.listing_words.specs.View.{word}
 use Rattle.listing_words.specs.declared.words.Word.{Word as Made}
 use Rattle.listing_slots.specs.declared.slot.Slot.{Slot}
 use Rattle.listing_shapes.specs.declared.due.Due.{Due}
-use Rattle.listing_shapes.specs.Shapes.{slot_at, due_behind_word, is_whole, value_slots}
+use Rattle.listing_shapes.specs.Shapes.{slot_at, due_after_word, is_whole, value_slots}
 
 abbrev pub onto : List Slot → Option (List Slot) → Option (List Slot)
 onto done more = option_map (λ ss. done ++ ss) more
@@ -15,9 +15,9 @@ onto_push done s None = refl
 onto_push done s (Some ss) = ap Some (sym (append_assoc done (s ∷ []) ss))
 
 pub value_more : (done : List Slot) (d : Due) (ws : List Made) (i : ℕ) (x : Made) → i < length ws
-    → onto done (value_slots d (map word (drop i ws))) ≡ onto (done ++ slot_at d (word (get_or ws i x)) ∷ []) (value_slots (due_behind_word d (word (get_or ws i x))) (map word (drop (i + 1) ws)))
+    → onto done (value_slots d (map word (drop i ws))) ≡ onto (done ++ slot_at d (word (get_or ws i x)) ∷ []) (value_slots (due_after_word d (word (get_or ws i x))) (map word (drop (i + 1) ws)))
 unfolding value_slots
-value_more done d ws i x h = let e : drop i ws ≡ get_or ws i x ∷ drop (i + 1) ws = rw add-one (drop-cons ws i x h) in rw e (onto_push done (slot_at d (word (get_or ws i x))) (value_slots (due_behind_word d (word (get_or ws i x))) (map word (drop (i + 1) ws))))
+value_more done d ws i x h = let e : drop i ws ≡ get_or ws i x ∷ drop (i + 1) ws = rw add-one (drop-cons ws i x h) in rw e (onto_push done (slot_at d (word (get_or ws i x))) (value_slots (due_after_word d (word (get_or ws i x))) (map word (drop (i + 1) ws))))
 
 pub value_end : (d : Due) (ws : List Made) (i : ℕ) → length ws ≤ i → value_slots d (map word (drop i ws)) ≡ (if is_whole d then Some [] else None)
 unfolding value_slots

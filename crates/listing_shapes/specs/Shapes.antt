@@ -96,27 +96,27 @@ pairs (suc n) = slot.Int ∷ target ∷ pairs n
 
 -- ---- values
 
--- behind a whole value in so many arrays
+-- after a whole value in so many arrays
 abbrev pub due_after : ℕ → Due
 due_after zero = due.Nothing
 due_after (suc n) = due.Value (suc n)
 
--- behind a value's keyword
-abbrev pub due_behind : ℕ → Key → Due
-due_behind n key.Array = due.Word (slot.Key key.Open) (n + 1)
-due_behind n key.Byte = due.Word (slot.Tiny) n
-due_behind n key.Short = due.Word slot.Short n
-due_behind n key.Char = due.Word (slot.Half Nothing 65535) n
-due_behind n key.Int = due.Word slot.Int n
-due_behind n key.Long = due.Word slot.Long n
-due_behind n key.Float = due.Word slot.Float n
-due_behind n key.Double = due.Word slot.Double n
-due_behind n key.Text = due.Word slot.Text n
-due_behind n key.Desc = due.Word slot.Desc n
-due_behind n key.Field = due.Word slot.Field n
-due_behind n key.Method = due.Word slot.Method n
-due_behind n key.Enum = due.Word slot.Enum n
-due_behind n _ = due_after n
+-- after a value's keyword
+abbrev pub due_of_key : ℕ → Key → Due
+due_of_key n key.Array = due.Word (slot.Key key.Open) (n + 1)
+due_of_key n key.Byte = due.Word (slot.Tiny) n
+due_of_key n key.Short = due.Word slot.Short n
+due_of_key n key.Char = due.Word (slot.Half Nothing 65535) n
+due_of_key n key.Int = due.Word slot.Int n
+due_of_key n key.Long = due.Word slot.Long n
+due_of_key n key.Float = due.Word slot.Float n
+due_of_key n key.Double = due.Word slot.Double n
+due_of_key n key.Text = due.Word slot.Text n
+due_of_key n key.Desc = due.Word slot.Desc n
+due_of_key n key.Field = due.Word slot.Field n
+due_of_key n key.Method = due.Word slot.Method n
+due_of_key n key.Enum = due.Word slot.Enum n
+due_of_key n _ = due_after n
 
 -- In how many arrays.
 abbrev pub depth_of : Due → ℕ
@@ -124,32 +124,32 @@ depth_of (due.Value n) = n
 depth_of (due.Word s n) = n
 depth_of _ = 0
 
--- behind `}`
-abbrev pub due_behind_close : ℕ → Due
-due_behind_close zero = due.Refused
-due_behind_close (suc n) = due_after n
+-- after `}`
+abbrev pub due_after_close : ℕ → Due
+due_after_close zero = due.Refused
+due_after_close (suc n) = due_after n
 
--- Behind a keyword of values, if it is one.
-abbrev pub due_behind_key : ℕ → Option Key → Due
-due_behind_key n None = due.Refused
-due_behind_key n (Some k) = due_behind n k
+-- After a keyword of values, if it is one.
+abbrev pub due_after_key : ℕ → Option Key → Due
+due_after_key n None = due.Refused
+due_after_key n (Some k) = due_of_key n k
 
 -- The slot of a keyword; a text where it is none, which no plain word is.
 abbrev pub key_slot : Option Key → Slot
 key_slot None = slot.Text
 key_slot (Some k) = slot.Key k
 
--- The slot of a word, and what is due behind it.
+-- The slot of a word, and what is due after it.
 unfoldable pub slot_at : Due → Word → Slot
 slot_at (due.Word s n) w = s
 slot_at (due.Value n) (plain_word w) = if same (key_text key.Close) w then slot.Key key.Close else key_slot (find_key value_keys w)
 slot_at _ w = slot.Text
 
--- What is due behind a word.
-unfoldable pub due_behind_word : Due → Word → Due
-due_behind_word (due.Word s n) w = due_after n
-due_behind_word (due.Value n) (plain_word w) = if same (key_text key.Close) w then due_behind_close n else due_behind_key n (find_key value_keys w)
-due_behind_word _ w = due.Refused
+-- What is due after a word.
+unfoldable pub due_after_word : Due → Word → Due
+due_after_word (due.Word s n) w = due_after n
+due_after_word (due.Value n) (plain_word w) = if same (key_text key.Close) w then due_after_close n else due_after_key n (find_key value_keys w)
+due_after_word _ w = due.Refused
 
 -- Nothing is due: the value is whole.
 abbrev pub is_whole : Due → Bool
@@ -159,11 +159,11 @@ is_whole _ = false
 -- The slots of these words, where they are what is due.
 unfoldable pub value_slots : Due → List Word → Option (List Slot)
 value_slots d [] = if is_whole d then Some [] else None
-value_slots d (w ∷ ws) = option_map (λ ss. slot_at d w ∷ ss) (value_slots (due_behind_word d w) ws)
+value_slots d (w ∷ ws) = option_map (λ ss. slot_at d w ∷ ss) (value_slots (due_after_word d w) ws)
 
 -- ---- lines
 
--- What a line is, the number that it gives itself if it is an instruction, and a slot for each word behind its keywords.
+-- What a line is, the number that it gives itself if it is an instruction, and a slot for each word after its keywords.
 pub record Shape : Type 0 where
   pub kind : Kind
   pub label : List ℕ
@@ -200,7 +200,7 @@ abbrev pub is_first_key : Key → List Word → Bool
 is_first_key k [] = false
 is_first_key k (w ∷ ws) = is_key k w
 
--- Behind the keyword of a line.
+-- After the keyword of a line.
 unfoldable pub key_row : Key → List Word → Option Row
 key_row key.Dex ws = Some (kind.First, slot.Key key.Version ∷ [])
 key_row key.Class ws = Some (kind.OpenClass, slot.Desc ∷ flags ∷ [])
@@ -218,74 +218,74 @@ key_row key.Catch ws = Some (kind.Catch, slot.Desc ∷ target ∷ [])
 key_row key.CatchAll ws = Some (kind.CatchAll, target ∷ [])
 key_row _ ws = None
 
--- Behind the word of a payload.
+-- After the word of a payload.
 unfoldable pub payload_row : Key → List Word → Option Row
 payload_row key.Packed ws = Some (kind.Packed, slot.Int ∷ replicate (length ws - 1) target)
 payload_row key.Sparse ws = Some (kind.Sparse, pairs (length ws / 2))
 payload_row key.Elements ws = Some (kind.Elements, if nat_le (length ws) 1 then size ∷ [] else size ∷ slot.Elements ∷ [])
 payload_row _ ws = None
 
--- Behind a mnemonic.
+-- After a mnemonic.
 abbrev pub IsPlainRow : List ℕ → List Word → Row → Type 0
 IsPlainRow text ws row = (op : ℕ) × IsNamed op text × (row ≡ (kind.Plain op, plain_slots (format_of op) (index_kind_of op) ws))
 
--- Behind a mnemonic or the word of a payload.
+-- After a mnemonic or the word of a payload.
 abbrev pub IsInsnRow : List ℕ → List Word → Row → Type 0
 IsInsnRow text ws row = IsPlainRow text ws row ⊎ ((k : Key) × (Some k ≡ find_key payload_keys text) × (Some row ≡ payload_row k ws))
 
 -- A mnemonic or the word of a payload, and words of the forms of its slots.
 pub record BeginsWithInsn (ws : List Word) (row : Row) : Type 0 where
   pub text : List ℕ
-  pub behind : List Word
-  pub words : ws ≡ plain_word text ∷ behind
-  pub has_row : IsInsnRow text behind row
-  pub forms : have_forms row.1 behind ≡ true
+  pub after : List Word
+  pub words : ws ≡ plain_word text ∷ after
+  pub has_row : IsInsnRow text after row
+  pub forms : have_forms row.1 after ≡ true
 
 -- The keyword of a line, and words of the forms of its slots.
-pub record BeginsWithKey (text : List ℕ) (behind : List Word) (row : Row) : Type 0 where
+pub record BeginsWithKey (text : List ℕ) (after : List Word) (row : Row) : Type 0 where
   pub lead : Key
   pub found : Some lead ≡ find_key lead_keys text
-  pub has_row : Some row ≡ key_row lead behind
-  pub forms : have_forms row.1 behind ≡ true
+  pub has_row : Some row ≡ key_row lead after
+  pub forms : have_forms row.1 after ≡ true
 
 -- An instruction: `k:`, and what begins with a mnemonic.
 pub record IsLabelled (ws : List Word) (s : Shape) : Type 0 where
   pub label : List ℕ
-  pub behind : List Word
-  pub words : ws ≡ plain_word (label ++ 58 ∷ []) ∷ behind
+  pub after : List Word
+  pub words : ws ≡ plain_word (label ++ 58 ∷ []) ∷ after
   pub natural : is_natural label ≡ true
   pub row : Row
-  pub insn : BeginsWithInsn behind row
-  pub is : s ≡ record { kind = row.0; label = label; slots = row.1; words = drop 1 behind }
+  pub insn : BeginsWithInsn after row
+  pub is : s ≡ record { kind = row.0; label = label; slots = row.1; words = drop 1 after }
 
 -- Any other line: its keyword.
 pub record IsKeyed (ws : List Word) (s : Shape) : Type 0 where
   pub text : List ℕ
-  pub behind : List Word
-  pub words : ws ≡ plain_word text ∷ behind
+  pub after : List Word
+  pub words : ws ≡ plain_word text ∷ after
   pub row : Row
-  pub keyed : BeginsWithKey text behind row
-  pub is : s ≡ record { kind = row.0; label = []; slots = row.1; words = behind }
+  pub keyed : BeginsWithKey text after row
+  pub is : s ≡ record { kind = row.0; label = []; slots = row.1; words = after }
 
 -- The words have this shape.
 abbrev pub HasShape : List Word → Shape → Type 0
 HasShape ws s = IsLabelled ws s ⊎ IsKeyed ws s
 
 -- An instruction without a number: its first word is no keyword of a line.
-pub record IsBare (ws : List Word) (s : Shape) : Type 0 where
+pub record IsUnnumbered (ws : List Word) (s : Shape) : Type 0 where
   pub text : List ℕ
-  pub behind : List Word
-  pub words : ws ≡ plain_word text ∷ behind
+  pub after : List Word
+  pub words : ws ≡ plain_word text ∷ after
   pub no_lead : None ≡ find_key lead_keys text
   pub row : Row
   pub insn : BeginsWithInsn ws row
-  pub is : s ≡ record { kind = row.0; label = []; slots = row.1; words = behind }
+  pub is : s ≡ record { kind = row.0; label = []; slots = row.1; words = after }
 
 -- The words have this shape where instructions don't give themselves numbers.
 abbrev pub HasBareShape : List Word → Shape → Type 0
-HasBareShape ws s = IsBare ws s ⊎ IsKeyed ws s
+HasBareShape ws s = IsUnnumbered ws s ⊎ IsKeyed ws s
 
--- What a private helper says: behind slots that are there already.
+-- What a private helper says: after slots that are there already.
 abbrev pub onto_row : List Slot → Option Row → Option Row
 onto_row done None = None
 onto_row done (Some r) = Some (r.0, done ++ r.1)

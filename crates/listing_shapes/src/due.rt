@@ -2,7 +2,7 @@
 
 use listing_slots::Slot;
 
-/// What is due: another value or `}` in so many arrays, the word behind a keyword, nothing, or what can't come.
+/// What is due: another value or `}` in so many arrays, the word after a keyword, nothing, or what can't come.
 #[derive(Clone, Copy)]
 pub enum Due {
     Value(usize),

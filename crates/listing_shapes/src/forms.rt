@@ -1,4 +1,4 @@
-//! The shape of a line: what it is, and a slot for each word behind its keywords.
+//! The shape of a line: what it is, and a slot for each word after its keywords.
 
 ghost use Rattle.std.specs.Prelude.{◌≡◌, ◌≢◌, ◌≤◌, ◌<◌, ◌+◌, ◌++◌, ◌∷◌, [], ℕ, List, Option, Some, None, map, drop, length, replicate, option_map, IfOk, OnOk, IfSome, IfNone, IsOkUnless, IsTrue, ◌↔◌};
 ghost use Rattle.base_bytes.specs.Fault.{memory};
@@ -93,7 +93,7 @@ fn before_close(words: &[Word<'_, '_>]) -> usize
     n
 }
 
-/// Puts the slots of a format's operands behind those that are there.
+/// Puts the slots of a format's operands after those that are there.
 #[rattlefmt::skip]
 pub fn push_format<'a>(
     slots: &mut Vec<Slot, &'a Bump>,
@@ -135,8 +135,8 @@ fn registers_inside(words: &[Word<'_, '_>]) -> usize
     if words.is_empty() {
         return 0;
     }
-    let (_, behind) = words.split_at(1);
-    before_close(behind)
+    let (_, after) = words.split_at(1);
+    before_close(after)
 }
 
 fn push_registers<'a>(slots: &mut Vec<Slot, &'a Bump>, n: usize) -> Result<(), Fault>

@@ -1,4 +1,4 @@
-//! Shapes of the lines of a listing: what a line is, told by its first words, and a slot for each word behind them.
+//! Shapes of the lines of a listing: what a line is, told by its first words, and a slot for each word after them.
 //!
 //! A shape is a function of the words alone: neither what stands before the line nor what the words say in their slots
 //! changes it. The values of static fields may nest in any depth, and cost no stack.

@@ -27,41 +27,41 @@ const SIZE: Slot = Slot::Half(Mark::Nothing, 65535);
 #[tactic(auto, unfolding(crate::specs::Shapes::key_row))]
 fn push_static<'a>(
     slots: &mut Vec<Slot, &'a Bump>,
-    behind: &[Word<'_, '_>],
+    after: &[Word<'_, '_>],
 ) -> Result<Option<Kind>, Fault>
-    ensures some { IfOk result (λ r. IfSome r (λ kind. onto_row slots.old.items (key_row Key.Static (map word behind.now)) ≡ Some (kind, slots.new.items))) }
-    ensures none { IfOk result (λ r. IfNone r (key_row Key.Static (map word behind.now) ≡ None)) }
+    ensures some { IfOk result (λ r. IfSome r (λ kind. onto_row slots.old.items (key_row Key.Static (map word after.now)) ≡ Some (kind, slots.new.items))) }
+    ensures none { IfOk result (λ r. IfNone r (key_row Key.Static (map word after.now) ≡ None)) }
     ensures memory { IsOkUnless result memory }
 {
     slots.extend_from_slice(&[Slot::Member, Slot::Desc, FLAGS])?;
-    if behind.len() <= 3 {
+    if after.len() <= 3 {
         return Ok(Some(Kind::Static));
     }
     slots.push(Slot::Key(Key::Equals))?;
-    let (_, rest) = behind.split_at(4);
+    let (_, rest) = after.split_at(4);
     if !push_value(slots, rest)? {
         return Ok(None);
     }
     Ok(Some(Kind::Given))
 }
 
-/// The slots behind the keyword of a line, and what the line is.
+/// The slots after the keyword of a line, and what the line is.
 #[rattlefmt::skip]
 #[tactic(auto, unfolding(crate::specs::Shapes::key_row))]
 fn push_key<'a>(
     slots: &mut Vec<Slot, &'a Bump>,
     key: Key,
-    behind: &[Word<'_, '_>],
+    after: &[Word<'_, '_>],
 ) -> Result<Option<Kind>, Fault>
-    ensures some { IfOk result (λ r. IfSome r (λ kind. onto_row slots.old.items (key_row key (map word behind.now)) ≡ Some (kind, slots.new.items))) }
-    ensures none { IfOk result (λ r. IfNone r (key_row key (map word behind.now) ≡ None)) }
+    ensures some { IfOk result (λ r. IfSome r (λ kind. onto_row slots.old.items (key_row key (map word after.now)) ≡ Some (kind, slots.new.items))) }
+    ensures none { IfOk result (λ r. IfNone r (key_row key (map word after.now) ≡ None)) }
     ensures memory { IsOkUnless result memory }
 {
     match key {
         Key::Dex => { slots.push(Slot::Key(Key::Version))?; Ok(Some(Kind::First)) }
         Key::Class => { slots.extend_from_slice(&[Slot::Desc, FLAGS])?; Ok(Some(Kind::OpenClass)) }
         Key::End => {
-            if begins_with(Key::Code, behind) {
+            if begins_with(Key::Code, after) {
                 slots.push(Slot::Key(Key::Code))?;
                 return Ok(Some(Kind::EndCode));
             }
@@ -71,7 +71,7 @@ fn push_key<'a>(
         Key::Super => { slots.push(Slot::Desc)?; Ok(Some(Kind::Super)) }
         Key::Implements => { slots.push(Slot::Desc)?; Ok(Some(Kind::Implements)) }
         Key::Source => { slots.push(Slot::Text)?; Ok(Some(Kind::Source)) }
-        Key::Static => push_static(slots, behind),
+        Key::Static => push_static(slots, after),
         Key::Instance => { slots.extend_from_slice(&[Slot::Member, Slot::Desc, FLAGS])?; Ok(Some(Kind::Instance)) }
         Key::Direct => { slots.extend_from_slice(&[Slot::Member, Slot::Proto, FLAGS])?; Ok(Some(Kind::Direct)) }
         Key::Virtual => { slots.extend_from_slice(&[Slot::Member, Slot::Proto, FLAGS])?; Ok(Some(Kind::Virtual)) }
@@ -93,7 +93,7 @@ fn begins_with(key: Key, words: &[Word<'_, '_>]) -> bool
     }
 }
 
-/// So many targets.
+/// Appends so many slots of targets.
 fn push_targets<'a>(slots: &mut Vec<Slot, &'a Bump>, n: usize) -> Result<(), Fault>
     ensures ok { OnOk result (slots.new.items ≡ slots.old.items ++ replicate n target) }
     ensures memory { IsOkUnless result memory }
@@ -116,30 +116,30 @@ fn push_pairs<'a>(slots: &mut Vec<Slot, &'a Bump>, n: usize) -> Result<(), Fault
     Ok(())
 }
 
-/// The slots behind the word of a payload, and what the line is.
+/// The slots after the word of a payload, and what the line is.
 #[tactic(auto, unfolding(crate::specs::Shapes::payload_row))]
 fn push_payload<'a>(
     slots: &mut Vec<Slot, &'a Bump>,
     key: Key,
-    behind: &[Word<'_, '_>],
+    after: &[Word<'_, '_>],
 ) -> Result<Option<Kind>, Fault>
-    ensures some { IfOk result (λ r. IfSome r (λ kind. onto_row slots.old.items (payload_row key (map word behind.now)) ≡ Some (kind, slots.new.items))) }
-    ensures none { IfOk result (λ r. IfNone r (payload_row key (map word behind.now) ≡ None)) }
+    ensures some { IfOk result (λ r. IfSome r (λ kind. onto_row slots.old.items (payload_row key (map word after.now)) ≡ Some (kind, slots.new.items))) }
+    ensures none { IfOk result (λ r. IfNone r (payload_row key (map word after.now) ≡ None)) }
     ensures memory { IsOkUnless result memory }
 {
     match key {
         Key::Packed => {
             slots.push(Slot::Int)?;
-            push_targets(slots, behind.len().saturating_sub(1))?;
+            push_targets(slots, after.len().saturating_sub(1))?;
             Ok(Some(Kind::Packed))
         }
         Key::Sparse => {
-            push_pairs(slots, behind.len() / 2)?;
+            push_pairs(slots, after.len() / 2)?;
             Ok(Some(Kind::Sparse))
         }
         Key::Elements => {
             slots.push(SIZE)?;
-            if behind.len() > 1 {
+            if after.len() > 1 {
                 slots.push(Slot::Elements)?;
             }
             Ok(Some(Kind::Elements))
@@ -148,53 +148,53 @@ fn push_payload<'a>(
     }
 }
 
-/// Puts the slots of an opcode's operands behind those that are there.
+/// Puts the slots of an opcode's operands after those that are there.
 fn push_operands<'a>(
     slots: &mut Vec<Slot, &'a Bump>,
     op: u8,
-    behind: &[Word<'_, '_>],
+    after: &[Word<'_, '_>],
 ) -> Result<(), Fault>
-    ensures ok { OnOk result (slots.new.items ≡ slots.old.items ++ plain_slots (format_of op) (index_kind_of op) (map word behind.now)) }
+    ensures ok { OnOk result (slots.new.items ≡ slots.old.items ++ plain_slots (format_of op) (index_kind_of op) (map word after.now)) }
     ensures memory { IsOkUnless result memory }
 {
     match format_of(op) {
-        Some(format) => push_format(slots, format, index_kind_of(op), behind),
+        Some(format) => push_format(slots, format, index_kind_of(op), after),
         None => Ok(()),
     }
 }
 
-/// The slots behind a mnemonic, and what the line is.
+/// The slots after a mnemonic, and what the line is.
 fn push_plain<'a>(
     slots: &mut Vec<Slot, &'a Bump>,
     text: &[u8],
-    behind: &[Word<'_, '_>],
+    after: &[Word<'_, '_>],
 ) -> Result<Option<Kind>, Fault>
-    ensures some { IfOk result (λ r. IfSome r (λ kind. (ss : List Slot) × IsPlainRow text.now (map word behind.now) (kind, ss) × (slots.new.items ≡ slots.old.items ++ ss))) }
+    ensures some { IfOk result (λ r. IfSome r (λ kind. (ss : List Slot) × IsPlainRow text.now (map word after.now) (kind, ss) × (slots.new.items ≡ slots.old.items ++ ss))) }
     ensures none { IfOk result (λ r. IfNone r ((op : ℕ) → IsNamed op text.now → ⊥)) }
     ensures memory { IsOkUnless result memory }
 {
     match opcode_named(text) {
         Some(op) => {
-            push_operands(slots, op, behind)?;
+            push_operands(slots, op, after)?;
             Ok(Some(Kind::Plain(op)))
         }
         None => Ok(None),
     }
 }
 
-/// The slots behind the mnemonic of an instruction or the word of a payload, and what the line is.
+/// The slots after the mnemonic of an instruction or the word of a payload, and what the line is.
 fn push_insn<'a>(
     slots: &mut Vec<Slot, &'a Bump>,
     text: &[u8],
-    behind: &[Word<'_, '_>],
+    after: &[Word<'_, '_>],
 ) -> Result<Option<Kind>, Fault>
-    ensures some { IfOk result (λ r. IfSome r (λ kind. (ss : List Slot) × IsInsnRow text.now (map word behind.now) (kind, ss) × (slots.new.items ≡ slots.old.items ++ ss))) }
-    ensures none { IfOk result (λ r. IfNone r ((row : Row) → IsInsnRow text.now (map word behind.now) row → ⊥)) }
+    ensures some { IfOk result (λ r. IfSome r (λ kind. (ss : List Slot) × IsInsnRow text.now (map word after.now) (kind, ss) × (slots.new.items ≡ slots.old.items ++ ss))) }
+    ensures none { IfOk result (λ r. IfNone r ((row : Row) → IsInsnRow text.now (map word after.now) row → ⊥)) }
     ensures memory { IsOkUnless result memory }
 {
     match payload_key(text) {
-        Some(key) => push_payload(slots, key, behind),
-        None => push_plain(slots, text, behind),
+        Some(key) => push_payload(slots, key, after),
+        None => push_plain(slots, text, after),
     }
 }
 
@@ -219,37 +219,37 @@ fn label_of(text: &[u8]) -> Option<&[u8]>
 /// What a line is whose first word is a keyword, and its slots.
 fn read_keyed<'a>(
     text: &[u8],
-    behind: &[Word<'_, '_>],
+    after: &[Word<'_, '_>],
     slots: &mut Vec<Slot, &'a Bump>,
 ) -> Result<Option<Kind>, Fault>
     requires { slots.old.items ≡ [] }
-    ensures found { IfOk result (λ r. IfSome r (λ kind. BeginsWithKey text.now (map word behind.now) (kind, slots.new.items))) }
-    ensures none { IfOk result (λ r. IfNone r ((row : Row) → BeginsWithKey text.now (map word behind.now) row → ⊥)) }
+    ensures found { IfOk result (λ r. IfSome r (λ kind. BeginsWithKey text.now (map word after.now) (kind, slots.new.items))) }
+    ensures none { IfOk result (λ r. IfNone r ((row : Row) → BeginsWithKey text.now (map word after.now) row → ⊥)) }
     ensures memory { IsOkUnless result memory }
 {
     let Some(key) = lead_key(text) else {
         return Ok(None);
     };
-    let Some(kind) = push_key(slots, key, behind)? else {
+    let Some(kind) = push_key(slots, key, after)? else {
         return Ok(None);
     };
-    if have_forms(slots.as_slice(), behind) {
+    if have_forms(slots.as_slice(), after) {
         return Ok(Some(kind));
     }
     Ok(None)
 }
 
-/// What a line is behind the number that an instruction gives itself, and its slots.
+/// What a line is after the number that an instruction gives itself, and its slots.
 fn read_labelled<'a>(
-    behind: &[Word<'_, '_>],
+    after: &[Word<'_, '_>],
     slots: &mut Vec<Slot, &'a Bump>,
 ) -> Result<Option<Kind>, Fault>
     requires { slots.old.items ≡ [] }
-    ensures found { IfOk result (λ r. IfSome r (λ kind. BeginsWithInsn (map word behind.now) (kind, slots.new.items))) }
-    ensures none { IfOk result (λ r. IfNone r ((row : Row) → BeginsWithInsn (map word behind.now) row → ⊥)) }
+    ensures found { IfOk result (λ r. IfSome r (λ kind. BeginsWithInsn (map word after.now) (kind, slots.new.items))) }
+    ensures none { IfOk result (λ r. IfNone r ((row : Row) → BeginsWithInsn (map word after.now) row → ⊥)) }
     ensures memory { IsOkUnless result memory }
 {
-    let Some((first, operands)) = behind.split_first() else {
+    let Some((first, operands)) = after.split_first() else {
         return Ok(None);
     };
     let Word::Plain(mnemonic) = *first else {
@@ -275,14 +275,14 @@ pub fn read_shape<'a, 'b>(
     ensures memory { IsOkUnless result memory }
 {
     slots.clear();
-    let Some((first, behind)) = words.split_first() else {
+    let Some((first, after)) = words.split_first() else {
         return Ok(None);
     };
     let Word::Plain(text) = *first else {
         return Ok(None);
     };
     let Some(label) = label_of(text) else {
-        let Some(kind) = read_keyed(text, behind, slots)? else {
+        let Some(kind) = read_keyed(text, after, slots)? else {
             return Ok(None);
         };
         return Ok(Some(Found {
@@ -294,7 +294,7 @@ pub fn read_shape<'a, 'b>(
     if !is_natural(label) {
         return Ok(None);
     }
-    let Some(kind) = read_labelled(behind, slots)? else {
+    let Some(kind) = read_labelled(after, slots)? else {
         return Ok(None);
     };
     Ok(Some(Found {
@@ -316,7 +316,7 @@ pub fn read_bare_shape<'a, 'b>(
     ensures memory { IsOkUnless result memory }
 {
     slots.clear();
-    let Some((first, behind)) = words.split_first() else {
+    let Some((first, after)) = words.split_first() else {
         return Ok(None);
     };
     let Word::Plain(text) = *first else {
@@ -332,7 +332,7 @@ pub fn read_bare_shape<'a, 'b>(
             lead: 1,
         }));
     };
-    let Some(kind) = read_keyed(text, behind, slots)? else {
+    let Some(kind) = read_keyed(text, after, slots)? else {
         return Ok(None);
     };
     Ok(Some(Found {

@@ -12,7 +12,7 @@ use dex_base::Fault;
 use listing_slots::{Key, Mark, Slot, is_same, key_text, value_key};
 use listing_words::Word;
 
-/// Behind a whole value in so many arrays.
+/// After a whole value in so many arrays.
 fn due_after(inside: usize) -> Due
     ensures due { result ≡ said.due_after inside }
     ensures depth { depth_of result ≤ inside }
@@ -23,11 +23,11 @@ fn due_after(inside: usize) -> Due
     Due::Value(inside)
 }
 
-/// Behind a value's keyword.
+/// After a value's keyword.
 #[rattlefmt::skip]
-fn due_behind(inside: usize, key: Key) -> Due
+fn due_of_key(inside: usize, key: Key) -> Due
     requires { inside + 1 < 2 ^ 64 }
-    ensures due { result ≡ said.due_behind inside key }
+    ensures due { result ≡ said.due_of_key inside key }
     ensures depth { depth_of result ≤ inside + 1 }
 {
     match key {
@@ -48,9 +48,9 @@ fn due_behind(inside: usize, key: Key) -> Due
     }
 }
 
-/// Behind `}`.
-fn due_behind_close(inside: usize) -> Due
-    ensures due { result ≡ said.due_behind_close inside }
+/// After `}`.
+fn due_after_close(inside: usize) -> Due
+    ensures due { result ≡ said.due_after_close inside }
     ensures depth { depth_of result ≤ inside }
 {
     if inside == 0 {
@@ -59,22 +59,22 @@ fn due_behind_close(inside: usize) -> Due
     due_after(inside - 1)
 }
 
-/// The slot of a word, and what is due behind it.
-#[tactic(auto, unfolding(crate::specs::Shapes::slot_at, crate::specs::Shapes::due_behind_word))]
+/// The slot of a word, and what is due after it.
+#[tactic(auto, unfolding(crate::specs::Shapes::slot_at, crate::specs::Shapes::due_after_word))]
 fn next_due(due: Due, one: Word<'_, '_>) -> (Slot, Due)
     requires { depth_of due + 1 < 2 ^ 64 }
     ensures slot { result.0 ≡ said.slot_at due (word one.entry) }
-    ensures due { result.1 ≡ said.due_behind_word due (word one.entry) }
+    ensures due { result.1 ≡ said.due_after_word due (word one.entry) }
     ensures depth { depth_of result.1 ≤ depth_of due + 1 }
 {
     match (due, one) {
         (Due::Word(slot, inside), _) => (slot, due_after(inside)),
         (Due::Value(inside), Word::Plain(text)) => {
             if is_same(key_text(Key::Close).as_bytes(), text) {
-                return (Slot::Key(Key::Close), due_behind_close(inside));
+                return (Slot::Key(Key::Close), due_after_close(inside));
             }
             match value_key(text) {
-                Some(key) => (Slot::Key(key), due_behind(inside, key)),
+                Some(key) => (Slot::Key(key), due_of_key(inside, key)),
                 None => (Slot::Text, Due::Refused),
             }
         }
@@ -91,7 +91,7 @@ fn is_whole(due: Due) -> bool
     }
 }
 
-/// Puts the slots of a value behind those that are there; false where these words aren't one value.
+/// Puts the slots of a value after those that are there; false where these words aren't one value.
 pub fn push_value<'a>(
     slots: &mut Vec<Slot, &'a Bump>,
     words: &[Word<'_, '_>],

@@ -1,4 +1,4 @@
--- Numbers behind marks and signs.
+-- Numbers after marks and signs.
 use Rattle.std.proofs.Common.{◌≡◌, ℕ, ℤ, zero, suc, pos, ◌+◌, ◌^◌, ◌<◌, ◌≤◌, inl, inr, List, ◌∷◌, ◌++◌, refl, sym, ap, subst, ◌∙◌, arith}
 use Rattle.std.specs.Prelude.{neg_ℤ, Option, Some, None, IfNone}
 use Rattle.std.proofs.lemmas.Int.Digits.{digits_value-lt}
@@ -7,8 +7,8 @@ use Rattle.std.specs.Str.Parse.{AllDigits}
 use Rattle.listing_words.specs.Words.{Word, plain_word}
 use Rattle.listing_words.specs.Numbers.{SpellsNatural, SpellsWhole, SpellsBits}
 use Rattle.listing_slots.specs.declared.slot.Mark.{Mark}
-use Rattle.listing_slots.specs.Slots.{mark_text, SpellsPlain, SpellsNumber, SpellsSigned, IsWithin}
-use Rattle.listing_slots.proofs.SpellLaws.{natural_one}
+use Rattle.listing_slots.specs.Slots.{mark_text, SpellsPlain, SpellsNumber, SpellsInteger, IsSignedWithin}
+use Rattle.listing_words.proofs.NaturalLaws.{natural_one}
 
 pub plain_is : (a b : List ℕ) → plain_word a ≡ plain_word b → a ≡ b
 plain_is a b e = cc
@@ -25,36 +25,36 @@ no_sign w ds n e p = elim p [
   | inr a ↦ let i = a.1 in let k : ◌≡◌ {A = ℕ} 45 48 = cc in omega arith
 ]
 
-pub signed_plain : (most : ℕ) (text : List ℕ) (n : ℕ) → SpellsNatural text n → n ≤ most → SpellsSigned most (plain_word text) (pos n)
+pub signed_plain : (most : ℕ) (text : List ℕ) (n : ℕ) → SpellsNatural text n → n ≤ most → SpellsInteger most (plain_word text) (pos n)
 signed_plain most text n s h = record { digits = text; joined = refl; spelled = inl (n, s, refl); small = h }
 
-minus_within : (most n : ℕ) → n ≤ most + 1 → IsWithin most (neg_ℤ (pos n))
+minus_within : (most n : ℕ) → n ≤ most + 1 → IsSignedWithin most (neg_ℤ (pos n))
 minus_within most zero h = omega arith
 minus_within most (suc n) h = omega arith
 
-pub signed_minus : (most : ℕ) (text ds : List ℕ) (z : ℤ) → text ≡ 45 ∷ ds → (n : ℕ) × SpellsNatural ds n × (n ≤ most + 1) × (z ≡ neg_ℤ (pos n)) → SpellsSigned most (plain_word text) z
+pub signed_minus : (most : ℕ) (text ds : List ℕ) (z : ℤ) → text ≡ 45 ∷ ds → (n : ℕ) × SpellsNatural ds n × (n ≤ most + 1) × (z ≡ neg_ℤ (pos n)) → SpellsInteger most (plain_word text) z
 signed_minus most text ds z e h = record { digits = text; joined = refl; spelled = inr (ds, h.0, e, h.1, h.3); small = rw h.3 (minus_within most h.0 h.2) }
 
-minus_small : (most n : ℕ) → IsWithin most (neg_ℤ (pos n)) → n ≤ most + 1
+minus_small : (most n : ℕ) → IsSignedWithin most (neg_ℤ (pos n)) → n ≤ most + 1
 minus_small most zero h = omega arith
 minus_small most (suc n) h = omega arith
 
--- behind a minus
-pub minus_none : (most : ℕ) (text ds : List ℕ) → text ≡ 45 ∷ ds → ((n : ℕ) → SpellsNatural ds n → n ≤ most + 1 → ⊥) → (z : ℤ) → SpellsSigned most (plain_word text) z → ⊥
+-- after a minus
+pub minus_none : (most : ℕ) (text ds : List ℕ) → text ≡ 45 ∷ ds → ((n : ℕ) → SpellsNatural ds n → n ≤ most + 1 → ⊥) → (z : ℤ) → SpellsInteger most (plain_word text) z → ⊥
 minus_none most text ds e refuse z s =
     let i : s.digits ≡ text = sym (plain_is text s.digits s.joined) in
     elim s.spelled [
       | inl p ↦ no_sign text ds p.0 e (subst (λ (t : List ℕ). SpellsNatural t p.0) i p.1)
       | inr p ↦ let k : p.0 ≡ ds = (let a = p.2 in let b = e in cc) in
-          refuse p.1 (subst (λ (t : List ℕ). SpellsNatural t p.1) k p.3) (minus_small most p.1 (subst (IsWithin most) p.4 s.small))
+          refuse p.1 (subst (λ (t : List ℕ). SpellsNatural t p.1) k p.3) (minus_small most p.1 (subst (IsSignedWithin most) p.4 s.small))
     ]
 
 -- without one
-pub plain_none : (most : ℕ) (text : List ℕ) → ((ds : List ℕ) → text ≡ 45 ∷ ds → ⊥) → ((n : ℕ) → SpellsNatural text n → n ≤ most → ⊥) → (z : ℤ) → SpellsSigned most (plain_word text) z → ⊥
+pub plain_none : (most : ℕ) (text : List ℕ) → ((ds : List ℕ) → text ≡ 45 ∷ ds → ⊥) → ((n : ℕ) → SpellsNatural text n → n ≤ most → ⊥) → (z : ℤ) → SpellsInteger most (plain_word text) z → ⊥
 plain_none most text no_minus refuse z s =
     let i : s.digits ≡ text = sym (plain_is text s.digits s.joined) in
     elim s.spelled [
-      | inl p ↦ refuse p.0 (subst (λ (t : List ℕ). SpellsNatural t p.0) i p.1) (subst (IsWithin most) p.2 s.small)
+      | inl p ↦ refuse p.0 (subst (λ (t : List ℕ). SpellsNatural t p.0) i p.1) (subst (IsSignedWithin most) p.2 s.small)
       | inr p ↦ no_minus p.0 (sym i ∙ p.2)
     ]
 
@@ -73,7 +73,7 @@ whole_one w y z p q = elim p [
   ]
 ]
 
-pub signed_minus_none : (most : ℕ) (text ds : List ℕ) (r : Option ℤ) → text ≡ 45 ∷ ds → IfNone r ((n : ℕ) → SpellsNatural ds n → n ≤ most + 1 → ⊥) → IfNone r ((z : ℤ) → SpellsSigned most (plain_word text) z → ⊥)
+pub signed_minus_none : (most : ℕ) (text ds : List ℕ) (r : Option ℤ) → text ≡ 45 ∷ ds → IfNone r ((n : ℕ) → SpellsNatural ds n → n ≤ most + 1 → ⊥) → IfNone r ((z : ℤ) → SpellsInteger most (plain_word text) z → ⊥)
 signed_minus_none most text ds None e h = minus_none most text ds e h
 signed_minus_none most text ds (Some z) e h = tt
 

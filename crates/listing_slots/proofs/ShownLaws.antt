@@ -12,7 +12,6 @@ use Rattle.program_types.specs.Content.{OfText, OfDesc, OfField, OfMethod}
 use Rattle.listing_words.specs.Numbers.{SpellsNatural}
 use Rattle.listing_words.specs.Words.{IsGraphic, IsWritable, plain_word}
 use Rattle.listing_words.specs.Written.{hex_digits, hex_width, flags_text, elements_text, name_text, proto_units, field_units, method_units}
-use Rattle.listing_words.proofs.NameLaws.{some_descriptor}
 use Rattle.listing_words.proofs.WrittenLaws.{bits_again, flags_again, elements_again, name_again, name_writable, hex_graphic, hex_length}
 use Rattle.dex_base.proofs.NameUnits.{all_append}
 use Rattle.listing_slots.specs.declared.key.Key.{Key}
@@ -23,10 +22,13 @@ use Rattle.listing_slots.specs.declared.slot.Slot.{Slot}
 use Rattle.listing_slots.specs.declared.slot.Slot.TheVariants as slot
 use Rattle.listing_slots.specs.Keys.{key_text, same}
 use Rattle.listing_slots.specs.Data.{Datum, byte, half, word, wide, tiny, short, int, long, elements, named, constant, prototype, said}
-use Rattle.listing_slots.specs.Slots.{mark_text, SpellsNumber, SpellsSigned, IsWithin, SpellsSlot, SpellsSlots, has_form, have_forms}
+use Rattle.listing_slots.specs.Slots.{mark_text, SpellsNumber, SpellsInteger, IsSignedWithin, SpellsSlot, SpellsSlots, has_form, have_forms}
 use Rattle.listing_slots.specs.Shown.{shown, shown_all, FitsSlot, FitSlots}
+use Rattle.dex_base.proofs.NameLaws.{simple_some}
+use Rattle.dex_base.proofs.LowPoints.{both}
+use Rattle.program_types.proofs.Letters.{descriptor_some}
 
-natural_printed : (n : ℕ) → n < 2 ^ 64 → SpellsNatural (decimal n) n
+pub natural_printed : (n : ℕ) → n < 2 ^ 64 → SpellsNatural (decimal n) n
 natural_printed n h = let d = decimal_is_IsNumeral n h in inl (d.0, sym d.1)
 
 number_printed : (m : Mark) (most n : ℕ) → n ≤ most → n < 2 ^ 64 → SpellsNumber m most (plain_word (mark_text m ++ decimal n)) n
@@ -35,7 +37,7 @@ number_printed m most n h k = record { digits = decimal n; joined = refl; spelle
 flags_printed : (n : ℕ) → n < 2 ^ 32 → SpellsNumber mark.Nothing 4294967295 (plain_word (flags_text n)) n
 flags_printed n h = record { digits = flags_text n; joined = refl; spelled = flags_again n h; small = omega arith }
 
-signed_printed : (most : ℕ) (z : ℤ) → IsWithin most z → most < 2 ^ 63 → SpellsSigned most (plain_word (signed_decimal z)) z
+signed_printed : (most : ℕ) (z : ℤ) → IsSignedWithin most z → most < 2 ^ 63 → SpellsInteger most (plain_word (signed_decimal z)) z
 signed_printed most (pos n) h k = record { digits = decimal n; joined = refl; spelled = inl (n, natural_printed n (omega arith), refl); small = h }
 signed_printed most (negsuc n) h k = record { digits = 45 ∷ decimal (suc n); joined = refl; spelled = inr (decimal (suc n), suc n, refl, natural_printed (suc n) (omega arith), refl); small = h }
 
@@ -109,11 +111,6 @@ shown_spelled (s ∷ ss) (d ∷ ds) h = (shown_says s d h.0, shown_spelled ss ds
 
 -- ---- it can be written
 
-both : (a b : Bool) → (a && b) ≡ true → (a ≡ true) × (b ≡ true)
-both true true e = (refl, refl)
-both true false e = absurd cc
-both false b e = absurd cc
-
 -- a text of graphic characters that doesn't begin with a quote
 abbrev pub is_word : List ℕ → Bool
 is_word [] = false
@@ -175,7 +172,7 @@ key_is_word key.True = refl
 key_is_word key.False = refl
 
 -- a digit's byte is graphic, and no quote
-digit_range : (c : ℕ) → digit_value c < 10 → (48 ≤ c) × (c < 58)
+pub digit_range : (c : ℕ) → digit_value c < 10 → (48 ≤ c) × (c < 58)
 digit_range c h = grind arith
 
 digits_graphic : (cs : List ℕ) → AllDigits 10 cs → AllByRecursion IsGraphic cs
@@ -201,7 +198,7 @@ number_written mark.Nothing n h = decimal_written n h
 number_written mark.Register n h = front_written 118 (decimal n) (omega arith) (omega arith) (decimal_graphic n h)
 number_written mark.Target n h = front_written 64 (decimal n) (omega arith) (omega arith) (decimal_graphic n h)
 
-signed_written : (most : ℕ) (z : ℤ) → IsWithin most z → most < 2 ^ 63 → IsWritable (plain_word (signed_decimal z))
+signed_written : (most : ℕ) (z : ℤ) → IsSignedWithin most z → most < 2 ^ 63 → IsWritable (plain_word (signed_decimal z))
 signed_written most (pos n) h k = decimal_written n (omega arith)
 signed_written most (negsuc n) h k = front_written 45 (decimal (suc n)) (omega arith) (omega arith) (decimal_graphic (suc n) (omega arith))
 
@@ -236,9 +233,6 @@ points_some : (ps : List ℕ) → ps ≢ [] → 0 < length (flat_map point_units
 points_some [] n = absurd (n refl)
 points_some (p ∷ ps) n = let h = point_some p in rw length-append (omega arith)
 
-simple_some : (us : List ℕ) → IsSimpleName us → 0 < length us
-simple_some us h = rw h.spelled (points_some h.points h.some)
-
 member_some : (us : List ℕ) → IsMemberName us → 0 < length us
 member_some us h = elim h [
   | inl s ↦ simple_some us s
@@ -260,7 +254,7 @@ shown_written slot.Double (wide n) h = hex_written 16 n (omega arith) h
 shown_written slot.Elements (elements bs) h = elements_written bs h.0 h.1
 shown_written slot.Text (named (OfText us)) h = h
 shown_written slot.Member (named (OfText us)) h = name_writable us (member_some us h.0)
-shown_written slot.Desc (named (OfDesc d)) h = name_writable d (some_descriptor d h.0)
+shown_written slot.Desc (named (OfDesc d)) h = name_writable d (descriptor_some d h.0)
 shown_written slot.Field (named (OfField f)) h = name_writable (field_units f) (joined_some f.class (45 ∷ 62 ∷ (f.name ++ (58 ∷ f.ty))) (omega arith))
 shown_written slot.Method (named (OfMethod m)) h = name_writable (method_units m) (joined_some m.class (45 ∷ 62 ∷ (m.name ++ proto_units m.proto)) (omega arith))
 shown_written slot.Enum (constant f) h = name_writable (field_units f) (joined_some f.class (45 ∷ 62 ∷ (f.name ++ (58 ∷ f.ty))) (omega arith))

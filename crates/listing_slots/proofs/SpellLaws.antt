@@ -2,15 +2,12 @@
 use Rattle.std.proofs.Common.{◌≡◌, ℕ, inl, inr, List, [], ◌∷◌, ◌++◌, refl, sym, subst, ◌∙◌}
 use Rattle.listing_words.specs.Words.{Word}
 use Rattle.listing_words.specs.Numbers.{SpellsNatural}
-use Rattle.listing_words.proofs.NaturalLaws.{spelled_natural}
+use Rattle.listing_words.proofs.NaturalLaws.{spelled_natural, natural_one}
 use Rattle.listing_slots.specs.declared.slot.Mark.{Mark}
 use Rattle.listing_slots.specs.declared.slot.Mark.TheVariants as mark
 use Rattle.listing_slots.specs.declared.slot.Slot.{Slot}
 use Rattle.listing_slots.specs.Data.{Datum}
 use Rattle.listing_slots.specs.Slots.{mark_text, SpellsNumber, SpellsPlain, SpellsSlot, SpellsSlots, MisspellsSlots}
-
-pub natural_one : (w : List ℕ) (m n : ℕ) → SpellsNatural w m → SpellsNatural w n → m ≡ n
-natural_one w m n p q = sym (spelled_natural w m p).1 ∙ (spelled_natural w n q).1
 
 unmarked : (m : Mark) (a b : List ℕ) → mark_text m ++ a ≡ mark_text m ++ b → a ≡ b
 unmarked mark.Nothing a b e = e

@@ -10,11 +10,11 @@ use Rattle.listing_slots.specs.declared.slot.Mark.TheVariants as mark
 use Rattle.listing_slots.specs.declared.slot.Slot.{Slot}
 use Rattle.listing_slots.specs.declared.slot.Slot.TheVariants as slot
 use Rattle.listing_slots.specs.Data.{Datum, byte, half, word, wide, tiny, short, int, long, elements, named, constant, prototype}
-use Rattle.listing_slots.specs.Slots.{SpellsSigned, SpellsNamed, IsMember, IsType, SpellsSlot}
+use Rattle.listing_slots.specs.Slots.{SpellsInteger, SpellsNamed, IsMember, IsType, SpellsSlot}
 use Rattle.listing_slots.proofs.SpellLaws.{number_one, plain_one}
 use Rattle.listing_slots.proofs.NumberReadLaws.{whole_one}
 
-signed_one : (most : ℕ) (w : Word) (y z : ℤ) → SpellsSigned most w y → SpellsSigned most w z → y ≡ z
+signed_one : (most : ℕ) (w : Word) (y z : ℤ) → SpellsInteger most w y → SpellsInteger most w z → y ≡ z
 signed_one most w y z p q =
     let i = p.joined in let j = q.joined in
     let same : p.digits ≡ q.digits = cc in

@@ -27,16 +27,16 @@ pub record SpellsNumber (before : Mark) (most : ℕ) (w : Word) (n : ℕ) : Type
   pub small : n ≤ most
 
 -- From minus one more than the highest up to it.
-abbrev pub IsWithin : ℕ → ℤ → Type 0
-IsWithin most (pos n) = n ≤ most
-IsWithin most (negsuc n) = n ≤ most
+abbrev pub IsSignedWithin : ℕ → ℤ → Type 0
+IsSignedWithin most (pos n) = n ≤ most
+IsSignedWithin most (negsuc n) = n ≤ most
 
 -- A signed number in that range.
-pub record SpellsSigned (most : ℕ) (w : Word) (z : ℤ) : Type 0 where
+pub record SpellsInteger (most : ℕ) (w : Word) (z : ℤ) : Type 0 where
   pub digits : List ℕ
   pub joined : w ≡ plain_word digits
   pub spelled : SpellsWhole digits z
-  pub small : IsWithin most z
+  pub small : IsSignedWithin most z
 
 -- A word without quotes, whose bytes are as G says.
 abbrev pub SpellsPlain : {V : Type 0} → (List ℕ → V → Type 0) → Word → V → Type 0
@@ -59,11 +59,11 @@ abbrev pub SpellsSlot : Slot → Word → Datum → Type 0
 SpellsSlot (slot.Byte m most) w d = (n : ℕ) × SpellsNumber m most w n × (d ≡ byte n)
 SpellsSlot (slot.Half m most) w d = (n : ℕ) × SpellsNumber m most w n × (d ≡ half n)
 SpellsSlot (slot.Word m most) w d = (n : ℕ) × SpellsNumber m most w n × (d ≡ word n)
-SpellsSlot slot.Nibble w d = (z : ℤ) × SpellsSigned 7 w z × (d ≡ tiny z)
-SpellsSlot slot.Tiny w d = (z : ℤ) × SpellsSigned 127 w z × (d ≡ tiny z)
-SpellsSlot slot.Short w d = (z : ℤ) × SpellsSigned 32767 w z × (d ≡ short z)
-SpellsSlot slot.Int w d = (z : ℤ) × SpellsSigned 2147483647 w z × (d ≡ int z)
-SpellsSlot slot.Long w d = (z : ℤ) × SpellsSigned 9223372036854775807 w z × (d ≡ long z)
+SpellsSlot slot.Nibble w d = (z : ℤ) × SpellsInteger 7 w z × (d ≡ tiny z)
+SpellsSlot slot.Tiny w d = (z : ℤ) × SpellsInteger 127 w z × (d ≡ tiny z)
+SpellsSlot slot.Short w d = (z : ℤ) × SpellsInteger 32767 w z × (d ≡ short z)
+SpellsSlot slot.Int w d = (z : ℤ) × SpellsInteger 2147483647 w z × (d ≡ int z)
+SpellsSlot slot.Long w d = (z : ℤ) × SpellsInteger 9223372036854775807 w z × (d ≡ long z)
 SpellsSlot slot.Flags w d = (n : ℕ) × SpellsNumber mark.Nothing 4294967295 w n × (d ≡ word n)
 SpellsSlot slot.Float w d = (n : ℕ) × SpellsPlain (SpellsBits 8) w n × (d ≡ word n)
 SpellsSlot slot.Double w d = (n : ℕ) × SpellsPlain (SpellsBits 16) w n × (d ≡ wide n)

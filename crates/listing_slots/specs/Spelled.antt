@@ -11,6 +11,6 @@ use Rattle.listing_slots.specs.declared.spelled.Spelling.{Spelling}
 abbrev pub IsSpelled : Option Spelling → Type 0
 IsSpelled place = IfSome place (λ s. SpellsSlot s.slot (plain_word s.text.now) (datum s.name))
 
--- Each word that has a place does.
+-- Each word that has a place says its name in its slot.
 abbrev pub AreSpelled : List (Option Spelling) → Type 0
 AreSpelled = All IsSpelled

@@ -11,7 +11,7 @@ pub enum Key {
     Dex, Class, End, Super, Implements, Source, Static, Instance, Direct, Virtual, Code, Try, Catch, CatchAll,
     // the word of a payload
     Packed, Sparse, Elements,
-    // behind others
+    // after others
     Version, Equals, Open, Close,
     // the first word of a value
     Byte, Short, Char, Int, Long, Float, Double, Text, Desc, Field, Method, Enum, Array, Null, True, False,

@@ -1,6 +1,6 @@
 //! Slots of a line of a listing: what each word may stand for, what it says there, and how it is printed.
 //!
-//! A line is what it is (`Kind`) and a slot for each word behind its first ones. A word says one `Datum` in its slot, or
+//! A line is what it is (`Kind`) and a slot for each word after its first ones. A word says one `Datum` in its slot, or
 //! nothing there; what is printed of a datum says that datum again.
 //!
 //! ```text

@@ -3,7 +3,7 @@
 ghost use Rattle.std.specs.Prelude.{◌≡◌, ℕ, ℤ, ◌<◌, ◌≤◌, ◌^◌, ◌∷◌, [], ◌+◌, pos, neg_ℤ, List, IfSome, IfNone};
 ghost use Rattle.listing_words.specs.Numbers.{SpellsNatural};
 ghost use Rattle.listing_words.specs.Words.{plain_word};
-ghost use Rattle.listing_slots.specs.Slots.{mark_text, SpellsNumber, SpellsSigned};
+ghost use Rattle.listing_slots.specs.Slots.{mark_text, SpellsNumber, SpellsInteger};
 
 use crate::slot::Mark;
 use listing_words::read_natural;
@@ -20,7 +20,7 @@ fn mark_byte(mark: Mark) -> Option<u8>
     }
 }
 
-/// The number of at most `most` behind the mark.
+/// The number of at most `most` after the mark.
 pub fn read_number(mark: Mark, text: &[u8], most: u64) -> Option<u64>
     ensures found { IfSome result (λ n. SpellsNumber mark most (plain_word text.now) n) }
     ensures none { IfNone result ((n : ℕ) → SpellsNumber mark most (plain_word text.now) n → ⊥) }
@@ -38,7 +38,7 @@ pub fn read_number(mark: Mark, text: &[u8], most: u64) -> Option<u64>
 }
 
 /// What follows a minus.
-fn behind_minus(text: &[u8]) -> Option<&[u8]>
+fn after_minus(text: &[u8]) -> Option<&[u8]>
     ensures found { IfSome result (λ ds. text.now ≡ 45 ∷ ds.now) }
     ensures none { IfNone result ((ds : List ℕ) → text.now ≡ 45 ∷ ds → ⊥) }
 {
@@ -77,10 +77,10 @@ fn read_minus(digits: &[u8], most: u64) -> Option<i64>
 /// The number from minus one more than `most` up to `most`.
 pub fn read_signed(text: &[u8], most: u64) -> Option<i64>
     requires { most < 2 ^ 63 }
-    ensures found { IfSome result (λ z. SpellsSigned most (plain_word text.now) z) }
-    ensures none { IfNone result ((z : ℤ) → SpellsSigned most (plain_word text.now) z → ⊥) }
+    ensures found { IfSome result (λ z. SpellsInteger most (plain_word text.now) z) }
+    ensures none { IfNone result ((z : ℤ) → SpellsInteger most (plain_word text.now) z → ⊥) }
 {
-    match behind_minus(text) {
+    match after_minus(text) {
         Some(digits) => read_minus(digits, most + 1),
         None => match read_natural(text, most) {
             Some(n) => Some(n as i64),

@@ -1,25 +1,23 @@
-//! The words behind the first one of a line, as they are printed: each behind one space.
+//! The words after the first one of a line, as they are printed: each after one space.
 
-ghost use Rattle.std.specs.Prelude.{◌≡◌, ◌++◌, ◌∷◌, OnOk, IsOkUnless};
+ghost use Rattle.std.specs.Prelude.{◌≡◌, ◌++◌, ◌∷◌, OnOk};
 ghost use Rattle.std.specs.Fmt.{decimal, signed_decimal};
-ghost use Rattle.base_bytes.specs.Fault.{memory};
 ghost use Rattle.program_types.specs.View.{proto, field_ref, method_ref};
 ghost use Rattle.listing_words.specs.Texts.{text_word};
 ghost use Rattle.listing_words.specs.Written.{hex_digits, flags_text, elements_text, name_text, proto_units, field_units, method_units};
 ghost use Rattle.listing_slots.specs.Keys.{key_text};
 
 use crate::key::{Key, key_text};
-use dex_base::Fault;
 use itoa::Buffer;
 use listing_words as words;
 use program_types::{FieldRef, MethodRef, Proto};
+use std::alloc::AllocError;
 
 /// Appends a number in decimal, without a space before it.
 ///
-/// The only error of this and all others here is want of memory, behind which part of the word may stand in `out`.
-pub fn put_decimal(out: &mut Vec<u8>, n: u64) -> Result<(), Fault>
+/// This and all others here fail only when out of memory, after which part of the word may stand in `out`.
+pub fn put_decimal(out: &mut Vec<u8>, n: u64) -> Result<(), AllocError>
     ensures ok { OnOk result (out.new.items ≡ out.old.items ++ decimal n) }
-    ensures memory { IsOkUnless result memory }
 {
     if n < 10 {
         out.push(48 + n as u8)?;
@@ -35,9 +33,8 @@ pub fn put_decimal(out: &mut Vec<u8>, n: u64) -> Result<(), Fault>
 }
 
 /// Appends a space and a number.
-pub fn put_number(out: &mut Vec<u8>, n: u64) -> Result<(), Fault>
+pub fn put_number(out: &mut Vec<u8>, n: u64) -> Result<(), AllocError>
     ensures ok { OnOk result (out.new.items ≡ out.old.items ++ (32 ∷ decimal n)) }
-    ensures memory { IsOkUnless result memory }
 {
     out.push(b' ')?;
     put_decimal(out, n)
@@ -45,9 +42,8 @@ pub fn put_number(out: &mut Vec<u8>, n: u64) -> Result<(), Fault>
 
 /// Appends a space and a register.
 #[inline(always)]
-pub fn put_register(out: &mut Vec<u8>, n: u16) -> Result<(), Fault>
+pub fn put_register(out: &mut Vec<u8>, n: u16) -> Result<(), AllocError>
     ensures ok { OnOk result (out.new.items ≡ out.old.items ++ (32 ∷ 118 ∷ decimal n)) }
-    ensures memory { IsOkUnless result memory }
 {
     if n < 10 {
         out.extend_from_slice(&[32, 118, 48 + n as u8])?;
@@ -58,18 +54,16 @@ pub fn put_register(out: &mut Vec<u8>, n: u16) -> Result<(), Fault>
 }
 
 /// Appends a space and a target.
-pub fn put_target(out: &mut Vec<u8>, n: u32) -> Result<(), Fault>
+pub fn put_target(out: &mut Vec<u8>, n: u32) -> Result<(), AllocError>
     ensures ok { OnOk result (out.new.items ≡ out.old.items ++ (32 ∷ 64 ∷ decimal n)) }
-    ensures memory { IsOkUnless result memory }
 {
     out.extend_from_slice(b" @")?;
     put_decimal(out, n as u64)
 }
 
 /// Appends a space and a signed number.
-pub fn put_signed(out: &mut Vec<u8>, n: i64) -> Result<(), Fault>
+pub fn put_signed(out: &mut Vec<u8>, n: i64) -> Result<(), AllocError>
     ensures ok { OnOk result (out.new.items ≡ out.old.items ++ (32 ∷ signed_decimal n)) }
-    ensures memory { IsOkUnless result memory }
 {
     if n >= 0 {
         return put_number(out, n as u64);
@@ -81,81 +75,72 @@ pub fn put_signed(out: &mut Vec<u8>, n: i64) -> Result<(), Fault>
 }
 
 /// Appends a space and the bits of a number, in so many hexadecimal digits.
-pub fn put_bits(out: &mut Vec<u8>, width: usize, n: u64) -> Result<(), Fault>
+pub fn put_bits(out: &mut Vec<u8>, width: usize, n: u64) -> Result<(), AllocError>
     ensures ok { OnOk result (out.new.items ≡ out.old.items ++ (32 ∷ hex_digits width n)) }
-    ensures memory { IsOkUnless result memory }
 {
     out.push(b' ')?;
     words::put_hex(out, width, n)
 }
 
 /// Appends a space and flags.
-pub fn put_flags(out: &mut Vec<u8>, flags: u32) -> Result<(), Fault>
+pub fn put_flags(out: &mut Vec<u8>, flags: u32) -> Result<(), AllocError>
     ensures ok { OnOk result (out.new.items ≡ out.old.items ++ (32 ∷ flags_text flags)) }
-    ensures memory { IsOkUnless result memory }
 {
     out.push(b' ')?;
     words::put_flags(out, flags)
 }
 
 /// Appends a space and the bytes of an array.
-pub fn put_elements(out: &mut Vec<u8>, bytes: &[u8]) -> Result<(), Fault>
+pub fn put_elements(out: &mut Vec<u8>, bytes: &[u8]) -> Result<(), AllocError>
     ensures ok { OnOk result (out.new.items ≡ out.old.items ++ (32 ∷ elements_text bytes.now)) }
-    ensures memory { IsOkUnless result memory }
 {
     out.push(b' ')?;
     words::put_elements(out, bytes)
 }
 
 /// Appends a space and a text in quotes.
-pub fn put_text(out: &mut Vec<u8>, units: &[u16]) -> Result<(), Fault>
+pub fn put_text(out: &mut Vec<u8>, units: &[u16]) -> Result<(), AllocError>
     ensures ok { OnOk result (out.new.items ≡ out.old.items ++ (32 ∷ text_word units.now)) }
-    ensures memory { IsOkUnless result memory }
 {
     out.push(b' ')?;
     words::put_text(out, units)
 }
 
 /// Appends a space and a name or a descriptor.
-pub fn put_name(out: &mut Vec<u8>, units: &[u16]) -> Result<(), Fault>
+pub fn put_name(out: &mut Vec<u8>, units: &[u16]) -> Result<(), AllocError>
     ensures ok { OnOk result (out.new.items ≡ out.old.items ++ (32 ∷ name_text units.now)) }
-    ensures memory { IsOkUnless result memory }
 {
     out.push(b' ')?;
     words::put_name(out, units)
 }
 
 /// Appends a space and a prototype.
-pub fn put_proto(out: &mut Vec<u8>, one: &Proto<'_>) -> Result<(), Fault>
+pub fn put_proto(out: &mut Vec<u8>, one: &Proto<'_>) -> Result<(), AllocError>
     ensures ok { OnOk result (out.new.items ≡ out.old.items ++ (32 ∷ name_text (proto_units (proto one.now)))) }
-    ensures memory { IsOkUnless result memory }
 {
     out.push(b' ')?;
     words::put_proto(out, one)
 }
 
 /// Appends a space and a field.
-pub fn put_field(out: &mut Vec<u8>, field: &FieldRef<'_>) -> Result<(), Fault>
+pub fn put_field(out: &mut Vec<u8>, field: &FieldRef<'_>) -> Result<(), AllocError>
     ensures ok { OnOk result (out.new.items ≡ out.old.items ++ (32 ∷ name_text (field_units (field_ref field.now)))) }
-    ensures memory { IsOkUnless result memory }
 {
     out.push(b' ')?;
     words::put_field(out, field)
 }
 
 /// Appends a space and a method.
-pub fn put_method(out: &mut Vec<u8>, method: &MethodRef<'_>) -> Result<(), Fault>
+pub fn put_method(out: &mut Vec<u8>, method: &MethodRef<'_>) -> Result<(), AllocError>
     ensures ok { OnOk result (out.new.items ≡ out.old.items ++ (32 ∷ name_text (method_units (method_ref method.now)))) }
-    ensures memory { IsOkUnless result memory }
 {
     out.push(b' ')?;
     words::put_method(out, method)
 }
 
 /// Appends a space and a keyword.
-pub fn put_key(out: &mut Vec<u8>, key: Key) -> Result<(), Fault>
+pub fn put_key(out: &mut Vec<u8>, key: Key) -> Result<(), AllocError>
     ensures ok { OnOk result (out.new.items ≡ out.old.items ++ (32 ∷ key_text key)) }
-    ensures memory { IsOkUnless result memory }
 {
     out.push(b' ')?;
     out.extend_from_slice(key_text(key).as_bytes())?;

@@ -45,7 +45,7 @@ impl<'a, 'b> Model for Spelled<'a, 'b> {
     ghost invariant = { λ s. AreSpelled s.places.items };
 }
 
-/// Whether they are one slot, in which names stand.
+/// Whether both are the same slot, one in which names stand.
 fn is_same_slot(a: Slot, b: Slot) -> bool
     ensures { IsTrue result → a ≡ b }
 {
@@ -92,7 +92,7 @@ impl<'a, 'b> Spelled<'a, 'b> {
         Ok(Spelled { places: all })
     }
 
-    /// What the word said in the slot, if it is the one at this place.
+    /// What a word said in a slot, if the two are those kept at this place.
     fn find(&self, at: usize, slot: Slot, text: &[u8]) -> Option<Datum<'a>>
         ensures { IfSome result (λ d. SpellsSlot slot (plain_word text.now) (datum d)) }
     {

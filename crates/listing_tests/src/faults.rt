@@ -290,7 +290,7 @@ fn members_are_refused(rt: HostRuntime) -> Result<(), Fail> {
 
 #[rattlefmt::skip]
 #[test]
-fn rules_are_asked_behind_all_lines(rt: HostRuntime) -> Result<(), Fail> {
+fn rules_are_asked_after_all_lines(rt: HostRuntime) -> Result<(), Fail> {
     static CASES: [(&str, u16, u64); 21] = [
         ("dex 035\nclass I 0x1\nend class\n", fault::PROGRAM_NAME, 0),
         ("dex 035\nclass LA; 0x1\nend class\nclass [LB; 0x1\nend class\n", fault::PROGRAM_NAME, 1),

@@ -7,9 +7,10 @@ use Rattle.std.specs.List.{flat_map, AllByRecursion}
 use Rattle.dex_base.specs.Descriptor.{IsDescriptor, IsMemberName, NoFront}
 use Rattle.dex_base.proofs.NameUnits.{IsPlain, descriptor_prefix_free, member_units_plain, descriptor_not_close}
 use Rattle.program_types.specs.Content.{Proto, FieldRef, MethodRef}
-use Rattle.listing_words.specs.Taking.{NoneAt, IsDecided, Each}
+use Rattle.listing_words.specs.Taking.{NoneAt, IsDecided, EachTaken}
 use Rattle.listing_words.specs.Names.{HasNameUnit, TakesNameUnit, SpellsUnits, TakesDescriptor, IsMemberText, IsProtoText, IsFieldText, IsMethodText, up_to, from}
 use Rattle.listing_words.proofs.TakingLaws.{Each-one}
+use Rattle.program_types.proofs.Letters.{descriptor_some}
 
 takes_has : (text : List ℕ) (u : ℕ) (rest : List ℕ) → TakesNameUnit text u rest → (len : ℕ) × HasNameUnit text u len
 takes_has text u rest h = elim h [
@@ -44,30 +45,26 @@ name_end u more h = elim h [
 pub units_one : (text us vs : List ℕ) → SpellsUnits text us → SpellsUnits text vs → us ≡ vs
 units_one text us vs p q = (Each-one TakesNameUnit name_unit_decided us vs text [] [] p q name_end name_end).0
 
-pub units_none : (text us rest : List ℕ) → Each TakesNameUnit text us rest → NoneAt TakesNameUnit rest → length rest ≢ 0 → (vs : List ℕ) → SpellsUnits text vs → ⊥
+pub units_none : (text us rest : List ℕ) → EachTaken TakesNameUnit text us rest → NoneAt TakesNameUnit rest → length rest ≢ 0 → (vs : List ℕ) → SpellsUnits text vs → ⊥
 units_none text us rest p n some vs q = some (ap length (Each-one TakesNameUnit name_unit_decided us vs text rest [] p q n name_end).1)
 
-plain_taken : (plain rest : List ℕ) → ((k : ℕ) → k < length plain → get_or plain k 0 ≢ 92) → Each TakesNameUnit (plain ++ rest) plain rest
+plain_taken : (plain rest : List ℕ) → ((k : ℕ) → k < length plain → get_or plain k 0 ≢ 92) → EachTaken TakesNameUnit (plain ++ rest) plain rest
 plain_taken [] rest p = refl
 plain_taken (c ∷ plain) rest p = (plain ++ rest, inl (p 0 (omega arith), refl), plain_taken plain rest (λ k h. p (suc k) (omega (arith, h))))
 
 -- bytes that begin no escape are units as they stand
 pub read_taken : (word plain rest room more : List ℕ) (n : ℕ) → word ≡ plain ++ rest → ((k : ℕ) → k < length plain → get_or plain k 0 ≢ 92)
-    → room ≡ plain → n ≡ length plain → Each TakesNameUnit word (take n (room ++ more)) rest
+    → room ≡ plain → n ≡ length plain → EachTaken TakesNameUnit word (take n (room ++ more)) rest
 read_taken word plain rest room more n e p r l = rw (e, r, l, take-append_seam plain more) (plain_taken plain rest p)
 
-pub units_found : (text us rest : List ℕ) → Each TakesNameUnit text us rest → length rest ≡ 0 → SpellsUnits text us
+pub units_found : (text us rest : List ℕ) → EachTaken TakesNameUnit text us rest → length rest ≡ 0 → SpellsUnits text us
 units_found text us [] p e = p
 units_found text us (x ∷ rest) p e = absurd (omega arith)
 
--- ---- descriptors one behind the other
+-- ---- descriptors one after the other
 
 no_descriptor : (x : List ℕ) → IsDescriptor [] → ⊥
 no_descriptor x d = let one = descriptor_prefix_free [] (86 ∷ []) (86 ∷ []) [] d (inl refl) refl in let e = one.0 in cc
-
-pub some_descriptor : (d : List ℕ) → IsDescriptor d → 0 < length d
-some_descriptor [] h = absurd (no_descriptor [] h)
-some_descriptor (c ∷ d) h = omega arith
 
 pub descriptor_decided : IsDecided TakesDescriptor
 descriptor_decided text v w r s p q = descriptor_prefix_free v w r s p.0 q.0 (sym p.1 ∙ q.1)
@@ -79,28 +76,28 @@ close_stops : (rest : List ℕ) → NoneAt TakesDescriptor (41 ∷ rest)
 close_stops rest [] more h = no_descriptor [] h.0
 close_stops rest (c ∷ d) more h = let e = h.1 in let f : 41 ≡ c = cc in descriptor_not_close (c ∷ d) h.0 (sym f)
 
-pub params_each : (ps : List (List ℕ)) (rest : List ℕ) → AllByRecursion IsDescriptor ps → Each TakesDescriptor (flat_map (λ t. t) ps ++ rest) ps rest
+pub params_each : (ps : List (List ℕ)) (rest : List ℕ) → AllByRecursion IsDescriptor ps → EachTaken TakesDescriptor (flat_map (λ t. t) ps ++ rest) ps rest
 params_each [] rest h = refl
 params_each (p ∷ ps) rest h = (flat_map (λ t. t) ps ++ rest, (h.0, append_assoc p (flat_map (λ t. t) ps) rest), params_each ps rest h.1)
 
-pub each_params : (text : List ℕ) (ps : List (List ℕ)) (rest : List ℕ) → Each TakesDescriptor text ps rest → AllByRecursion IsDescriptor ps × (text ≡ flat_map (λ t. t) ps ++ rest)
+pub each_params : (text : List ℕ) (ps : List (List ℕ)) (rest : List ℕ) → EachTaken TakesDescriptor text ps rest → AllByRecursion IsDescriptor ps × (text ≡ flat_map (λ t. t) ps ++ rest)
 each_params text [] rest h = (tt, h)
 each_params text (p ∷ ps) rest h = let more = each_params h.0 ps rest h.2 in
     ((h.1.0, more.0), h.1.1 ∙ ap (λ t. p ++ t) more.1 ∙ sym (append_assoc p (flat_map (λ t. t) ps) rest))
 
-pub proto_found : (text : List ℕ) (ps : List (List ℕ)) (rest ret : List ℕ) (p : Proto) → Each TakesDescriptor text ps rest → rest ≡ 41 ∷ ret → IsDescriptor ret → p ≡ record { ret = ret; params = ps } → IsProtoText (40 ∷ text) p
+pub proto_found : (text : List ℕ) (ps : List (List ℕ)) (rest ret : List ℕ) (p : Proto) → EachTaken TakesDescriptor text ps rest → rest ≡ 41 ∷ ret → IsDescriptor ret → p ≡ record { ret = ret; params = ps } → IsProtoText (40 ∷ text) p
 proto_found text ps rest ret p h e d is = rw is (let m = each_params text ps rest h in record { params = m.0; ret = d; joined = ap (λ t. 40 ∷ t) (m.1 ∙ ap (λ t. flat_map (λ u. u) ps ++ t) e) })
 
 -- where the parameters end, `)` and the type stand
-pub proto_rest : (text : List ℕ) (ps : List (List ℕ)) (rest : List ℕ) → Each TakesDescriptor text ps rest → NoneAt TakesDescriptor rest → (p : Proto) → IsProtoText (40 ∷ text) p → (p.params ≡ ps) × (rest ≡ 41 ∷ p.ret)
+pub proto_rest : (text : List ℕ) (ps : List (List ℕ)) (rest : List ℕ) → EachTaken TakesDescriptor text ps rest → NoneAt TakesDescriptor rest → (p : Proto) → IsProtoText (40 ∷ text) p → (p.params ≡ ps) × (rest ≡ 41 ∷ p.ret)
 proto_rest text ps rest h n p q =
     let j = q.joined in
     let e : text ≡ flat_map (λ t. t) p.params ++ (41 ∷ p.ret) = cc in
-    let f : Each TakesDescriptor text p.params (41 ∷ p.ret) = rw e (params_each p.params (41 ∷ p.ret) q.params) in
+    let f : EachTaken TakesDescriptor text p.params (41 ∷ p.ret) = rw e (params_each p.params (41 ∷ p.ret) q.params) in
     let one = Each-one TakesDescriptor descriptor_decided p.params ps text (41 ∷ p.ret) rest f h (close_stops p.ret) n in
     (one.0, sym one.1)
 
-pub proto_none : (text : List ℕ) (ps : List (List ℕ)) (rest : List ℕ) → Each TakesDescriptor text ps rest → NoneAt TakesDescriptor rest → ((ret : List ℕ) → rest ≡ 41 ∷ ret → IsDescriptor ret → ⊥) → (p : Proto) → IsProtoText (40 ∷ text) p → ⊥
+pub proto_none : (text : List ℕ) (ps : List (List ℕ)) (rest : List ℕ) → EachTaken TakesDescriptor text ps rest → NoneAt TakesDescriptor rest → ((ret : List ℕ) → rest ≡ 41 ∷ ret → IsDescriptor ret → ⊥) → (p : Proto) → IsProtoText (40 ∷ text) p → ⊥
 proto_none text ps rest h n f p q = f p.ret (proto_rest text ps rest h n p q).1 q.ret
 
 pub proto_open : (us : List ℕ) (p : Proto) → IsProtoText us p → (text : List ℕ) × (us ≡ 40 ∷ text)

@@ -1,5 +1,5 @@
 -- Units that stand for themselves are their own text.
-use Rattle.std.proofs.Common.{◌≡◌, Bool, ℕ, suc, ◌+◌, ◌-◌, ◌*◌, ◌<◌, ◌≤◌, true, List, [], ◌∷◌, ◌++◌, length, take, drop, get_or, refl, sym, ap, subst, ◌∙◌, inl, inr, arith, append_assoc, below_more, get_or-take, get_or-drop, length-drop}
+use Rattle.std.proofs.Common.{◌≡◌, Bool, ℕ, suc, ◌+◌, ◌-◌, ◌<◌, ◌≤◌, true, List, [], ◌∷◌, ◌++◌, length, take, drop, get_or, refl, sym, ap, subst, ◌∙◌, inl, inr, arith, append_assoc, below_more, get_or-take, get_or-drop, length-drop}
 use Rattle.std.proofs.lemmas.Bool.{cases_lt}
 use Rattle.std.proofs.lemmas.Grind.{flat_map-append}
 use Rattle.std.proofs.lemmas.List.{append-nil, length-take, length-take-le, take-append-drop, take_more}
@@ -18,7 +18,7 @@ name_alone (u ∷ us) p =
     ap (λ l. l ++ name_text us) (name_plain u one.from one.plain.high one.plain.no_quote one.plain.no_escape)
     ∙ ap (λ l. u ∷ l) (name_alone us (λ k h. p (suc k) (omega (arith, h))))
 
--- the front of a name, and behind it all others as they are written
+-- the front of a name, and after it all others as they are written
 pub name_joined : (old front out us : List ℕ) (n : ℕ) → IsFront 35 us old front n → out ≡ front ++ name_text (drop n us) → out ≡ old ++ name_text us
 name_joined old front out us n p o =
     let alone : name_text (take n us) ≡ take n us = name_alone (take n us) (λ k h.
@@ -48,7 +48,7 @@ text_joined old front out us n p o =
 pub front_none : (least : ℕ) (us old : List ℕ) → IsFront least us old old 0
 front_none least us old = record { inside = omega arith; plain = λ k h. absurd (omega arith); appended = sym (append-nil old) }
 
--- a front, and the front of what is behind it
+-- a front, and the front of what is after it
 pub front_joined : (least : ℕ) (us old mid new : List ℕ) (n m : ℕ) → IsFront least us old mid n → IsFront least (drop n us) mid new m → IsFront least us old new (n + m)
 front_joined least us old mid new n m p q = record {
   inside = omega (arith, p.inside, q.inside, length-drop n us);
@@ -62,7 +62,14 @@ front_joined least us old mid new n m p q = record {
   appended = q.appended ∙ ap (λ l. l ++ take m (drop n us)) p.appended ∙ append_assoc old (take n us) (take m (drop n us)) ∙ ap (λ l. old ++ l) (sym (take-add n m us));
 }
 
--- one run more of what stands behind a front
+-- three fronts, each of what stands after the one before it
+pub three_joined : (least : ℕ) (us after last old one two new : List ℕ) (n m k : ℕ) → after ≡ drop n us → last ≡ drop m after
+    → IsFront least us old one n → IsFront least after one two m → IsFront least last two new k → IsFront least us old new (n + m + k)
+three_joined least us after last old one two new n m k e f p q r =
+    let both : IsFront least after one new (m + k) = front_joined least after one two new m k q (subst (λ l. IsFront least l two new k) f r) in
+    subst (λ i. IsFront least us old new i) (omega arith) (front_joined least us old one new n (m + k) p (subst (λ l. IsFront least l one new (m + k)) e both))
+
+-- one run more of what stands after a front
 pub run_more : (least size n : ℕ) (us old mid new : List ℕ) → n + size ≤ length us → IsFront least us old mid n
     → AllOrNone true least (take size (drop n us)) mid new → IsFront least us old new (n + size)
 run_more least size n us old mid new room p (plain, e) =
@@ -75,9 +82,9 @@ run_more least size n us old mid new room p (plain, e) =
     front_joined least us old mid new n size p q
 
 -- the same with the run as it was cut out
-pub run_cut : (least size n next : ℕ) (us old mid new behind run : List ℕ) (b : Bool) → n + size ≡ next → behind ≡ drop n us → run ≡ take size behind → b ≡ true
+pub run_cut : (least size n next : ℕ) (us old mid new after run : List ℕ) (b : Bool) → n + size ≡ next → after ≡ drop n us → run ≡ take size after → b ≡ true
     → n + size ≤ length us → IsFront least us old mid n → AllOrNone b least run mid new → IsFront least us old new next
-run_cut least size n next us old mid new behind run b s e f t room p h =
+run_cut least size n next us old mid new after run b s e f t room p h =
     let whole : AllOrNone true least run mid new = subst (λ v. AllOrNone v least run mid new) t h in
     subst (λ m. IsFront least us old new m) s
     (run_more least size n us old mid new room p (subst (λ v. AllOrNone true least v mid new) (f ∙ ap (λ l. take size l) e) whole))

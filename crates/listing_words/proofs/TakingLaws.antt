@@ -1,25 +1,25 @@
 -- Laws of `Each`.
 use Rattle.std.proofs.Common.{◌≡◌, List, [], ◌∷◌, ◌++◌, refl, sym, subst, ◌∙◌}
-use Rattle.listing_words.specs.Taking.{NoneAt, IsDecided, Each}
+use Rattle.listing_words.specs.Taking.{NoneAt, IsDecided, EachTaken}
 
 -- where no further value stands, the values are all that stand there
 pub Each-one : {X V : Type 0} (G : List X → V → List X → Type 0) → IsDecided G → (vs ws : List V) (text r s : List X)
-    → Each G text vs r → Each G text ws s → NoneAt G r → NoneAt G s → (vs ≡ ws) × (r ≡ s)
+    → EachTaken G text vs r → EachTaken G text ws s → NoneAt G r → NoneAt G s → (vs ≡ ws) × (r ≡ s)
 Each-one G g [] [] text r s p q n m = (refl, sym p ∙ q)
 Each-one {X} G g [] (w ∷ ws) text r s p q n m = absurd (n w q.0 (subst (λ (t : List X). G t w q.0) p q.1))
 Each-one {X} G g (v ∷ vs) [] text r s p q n m = absurd (m v p.0 (subst (λ (t : List X). G t v p.0) q p.1))
 Each-one {X} G g (v ∷ vs) (w ∷ ws) text r s p q n m =
     let one = g text v w p.0 q.0 p.1 q.1 in
-    let more = Each-one G g vs ws q.0 r s (subst (λ (t : List X). Each G t vs r) one.1 p.2) q.2 n m in
+    let more = Each-one G g vs ws q.0 r s (subst (λ (t : List X). EachTaken G t vs r) one.1 p.2) q.2 n m in
     let i = one.0 in let j = more.0 in
     (cc, more.1)
 
 pub Each-push : {X V : Type 0} (G : List X → V → List X → Type 0) (vs : List V) (v : V) (text m r : List X)
-    → Each G text vs m → G m v r → Each G text (vs ++ v ∷ []) r
+    → EachTaken G text vs m → G m v r → EachTaken G text (vs ++ v ∷ []) r
 Each-push {X} G [] v text m r p q = (r, subst (λ (t : List X). G t v r) (sym p) q, refl)
 Each-push G (w ∷ ws) v text m r p q = (p.0, p.1, Each-push G ws v p.0 m r p.2 q)
 
 pub Each-join : {X V : Type 0} (G : List X → V → List X → Type 0) (vs ws : List V) (text m r : List X)
-    → Each G text vs m → Each G m ws r → Each G text (vs ++ ws) r
-Each-join {X} G [] ws text m r p q = subst (λ (t : List X). Each G t ws r) (sym p) q
+    → EachTaken G text vs m → EachTaken G m ws r → EachTaken G text (vs ++ ws) r
+Each-join {X} G [] ws text m r p q = subst (λ (t : List X). EachTaken G t ws r) (sym p) q
 Each-join G (v ∷ vs) ws text m r p q = (p.0, p.1, Each-join G vs ws p.0 m r p.2 q)

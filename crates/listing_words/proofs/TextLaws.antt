@@ -3,18 +3,18 @@ use Rattle.std.proofs.Common.{◌≡◌, ◌≢◌, ℕ, ◌/◌, ◌%◌, ◌<�
 use Rattle.std.proofs.lemmas.Bool.{cases_lt, lt-ltb, le-ltb, ne_eqb, cases_eq}
 use Rattle.std.proofs.lemmas.Bool.Decides.{nat_tests}
 use Rattle.std.specs.List.{flat_map, AllByRecursion}
-use Rattle.listing_words.specs.Taking.{NoneAt, IsDecided, Each}
-use Rattle.listing_words.specs.Texts.{IsPlain, hex, TakesHex, TakesUnit, TakesUnits, HasUnit, glyph, unit_text}
+use Rattle.listing_words.specs.Taking.{NoneAt, IsDecided, EachTaken}
+use Rattle.listing_words.specs.Texts.{IsUnescaped, hex, TakesHex, TakesUnit, TakesUnits, HasQuotedUnit, glyph, unit_text}
 use Rattle.listing_words.proofs.TakingLaws.{Each-one}
 
-pub takes_has : (text : List ℕ) (u : ℕ) (rest : List ℕ) → TakesUnit text u rest → (len : ℕ) × HasUnit text u len
+pub takes_has : (text : List ℕ) (u : ℕ) (rest : List ℕ) → TakesUnit text u rest → (len : ℕ) × HasQuotedUnit text u len
 takes_has text u rest h = elim h [
   | inl p ↦ (1, rw p.1 (inl (p.0, refl, omega arith, refl)))
   | inr (inl p) ↦ (2, rw p.1 (inr (inl (p.0, refl, omega arith, refl, refl))))
   | inr (inr p) ↦ (6, rw p.joined (inr (inr (refl, omega arith, refl, refl, p.digits.0, p.digits.1, p.digits.2, p.digits.3, p.number))))
 ]
 
-pub unit_none : (text : List ℕ) → ((u len : ℕ) → HasUnit text u len → ⊥) → NoneAt TakesUnit text
+pub unit_none : (text : List ℕ) → ((u len : ℕ) → HasQuotedUnit text u len → ⊥) → NoneAt TakesUnit text
 unit_none text none u rest h = let x = takes_has text u rest h in none u x.0 x.1
 
 pub unit_decided : IsDecided TakesUnit
@@ -61,11 +61,11 @@ units_decided text v w r s p q =
     let i = one.1 in let j = p.quote in let k = q.quote in
     (one.0, cc)
 
-pub units_found : (text end rest : List ℕ) (us : List ℕ) → Each TakesUnit text us end → end ≡ 34 ∷ rest → TakesUnits text us rest
+pub units_found : (text end rest : List ℕ) (us : List ℕ) → EachTaken TakesUnit text us end → end ≡ 34 ∷ rest → TakesUnits text us rest
 units_found text end rest us h e = record { end = end; units = h; quote = e }
 
 -- the units end where a quote doesn't stand
-pub units_none : (text end : List ℕ) (us : List ℕ) → Each TakesUnit text us end → NoneAt TakesUnit end → ((rest : List ℕ) → end ≡ 34 ∷ rest → ⊥) → NoneAt TakesUnits text
+pub units_none : (text end : List ℕ) (us : List ℕ) → EachTaken TakesUnit text us end → NoneAt TakesUnit end → ((rest : List ℕ) → end ≡ 34 ∷ rest → ⊥) → NoneAt TakesUnits text
 units_none text end us h stop refuse ws rest t =
     let one = Each-one TakesUnit unit_decided us ws text end t.end h t.units stop (quote_at t.end rest t.quote) in
     refuse rest (one.1 ∙ t.quote)
@@ -82,7 +82,7 @@ text_hex u a b h = elim h [
   | inr l ↦ rw (ne_eqb u 34 a, ne_eqb u 92 b, lt-ltb 31 u (omega arith), le-ltb u 127 l) refl
 ]
 
-pub text_plain : (u : ℕ) → IsPlain u → unit_text u ≡ u ∷ []
+pub text_plain : (u : ℕ) → IsUnescaped u → unit_text u ≡ u ∷ []
 text_plain u p = rw (ne_eqb u 34 p.no_quote, ne_eqb u 92 p.no_escape, lt-ltb 31 u (omega (arith, p.low)), lt-ltb u 127 p.high) refl
 
 pub takes_hex : (u : ℕ) (rest : List ℕ) → u < 65536 → TakesHex (92 ∷ 117 ∷ glyph (u / 4096 % 16) ∷ glyph (u / 256 % 16) ∷ glyph (u / 16 % 16) ∷ glyph (u % 16) ∷ rest) u rest
@@ -109,15 +109,15 @@ unit_takes u rest h = elim (cases_eq u 34) [
     | inr b ↦ elim (cases_lt u 32) [
       | inl l ↦ rw (text_hex u a b (inl l)) (inr (inr (takes_hex u rest h)))
       | inr l ↦ elim (cases_lt u 127) [
-        | inl k ↦ let p : IsPlain u = record { low = l; high = k; no_quote = a; no_escape = b } in rw (text_plain u p) (inl (p, refl))
+        | inl k ↦ let p : IsUnescaped u = record { low = l; high = k; no_quote = a; no_escape = b } in rw (text_plain u p) (inl (p, refl))
         | inr k ↦ rw (text_hex u a b (inr k)) (inr (inr (takes_hex u rest h)))
       ]
     ]
   ]
 ]
 
--- the units of a text, written one behind the other
-pub units_take : (us rest : List ℕ) → AllByRecursion (λ u. u < 65536) us → Each TakesUnit (flat_map unit_text us ++ rest) us rest
+-- the units of a text, written one after the other
+pub units_take : (us rest : List ℕ) → AllByRecursion (λ u. u < 65536) us → EachTaken TakesUnit (flat_map unit_text us ++ rest) us rest
 units_take [] rest h = refl
 units_take (u ∷ us) rest h =
     (flat_map unit_text us ++ rest, subst (λ (t : List ℕ). TakesUnit t u (flat_map unit_text us ++ rest)) (sym (append_assoc (unit_text u) (flat_map unit_text us) rest)) (unit_takes u (flat_map unit_text us ++ rest) h.0), units_take us rest h.1)

@@ -1,9 +1,9 @@
 -- The words of a line: a line has its words in one way.
-use Rattle.std.proofs.Common.{◌≡◌, ◌≢◌, ℕ, suc, ◌+◌, ◌<◌, inl, inr, List, [], ◌∷◌, ◌++◌, length, get_or, map, refl, sym, ap, subst, ◌∙◌, arith}
+use Rattle.std.proofs.Common.{◌≡◌, ◌≢◌, ℕ, suc, ◌<◌, inl, inr, List, [], ◌∷◌, ◌++◌, length, get_or, map, refl, sym, ap, subst, ◌∙◌, arith}
 use Rattle.std.specs.Prelude.{Bool, false, ◌==◌, MatchBool}
 use Rattle.std.proofs.lemmas.Bool.{cases_eq, eq-eqb, ne_eqb}
 use Rattle.std.specs.List.{AllByRecursion}
-use Rattle.listing_words.specs.Taking.{NoneAt, IsDecided, Each}
+use Rattle.listing_words.specs.Taking.{NoneAt, IsDecided, EachTaken}
 use Rattle.listing_words.specs.Texts.{TakesUnits}
 use Rattle.listing_words.specs.Words.{Word, plain_word, text_in_quotes, after_spaces, up_to_space, from_space, IsGraphic, TakesPlain, TakesText, TakesWord, HasWords}
 use Rattle.listing_words.proofs.TakingLaws.{Each-one}
@@ -30,7 +30,7 @@ plain_or_text : (text v us r s : List ℕ) → TakesPlain text v r → TakesText
 plain_or_text text v us r s p q = p.no_quote (ap (λ w. get_or w 0 0) (p.word ∙ ap up_to_space q.quote))
 
 pub word_decided : IsDecided TakesWord
-word_decided text (plain_word v) (plain_word w) r s p q = let a = p.word in let b = q.word in let c = p.behind in let d = q.behind in (cc, cc)
+word_decided text (plain_word v) (plain_word w) r s p q = let a = p.word in let b = q.word in let c = p.after in let d = q.after in (cc, cc)
 word_decided text (plain_word v) (text_in_quotes us) r s p q = absurd (plain_or_text (after_spaces text) v us r s p q)
 word_decided text (text_in_quotes us) (plain_word v) r s p q = absurd (plain_or_text (after_spaces text) v us s r q p)
 word_decided text (text_in_quotes us) (text_in_quotes vs) r s p q =
@@ -46,13 +46,13 @@ end_stops end e (text_in_quotes us) rest p = let a = p.quote in cc
 pub words_one : (line : List ℕ) (vs ws : List Word) → HasWords line vs → HasWords line ws → vs ≡ ws
 words_one line vs ws p q = (Each-one TakesWord word_decided vs ws line p.end q.end p.words q.words (end_stops p.end p.spaces) (end_stops q.end q.spaces)).0
 
-pub words_none : (line end : List ℕ) (vs : List Word) → Each TakesWord line vs end → NoneAt TakesWord end → (after_spaces end ≢ []) → (ws : List Word) → HasWords line ws → ⊥
+pub words_none : (line end : List ℕ) (vs : List Word) → EachTaken TakesWord line vs end → NoneAt TakesWord end → (after_spaces end ≢ []) → (ws : List Word) → HasWords line ws → ⊥
 words_none line end vs p stop some ws q =
     let one = Each-one TakesWord word_decided vs ws line end q.end p q.words stop (end_stops q.end q.spaces) in
     some (ap after_spaces one.1 ∙ q.spaces)
 
--- behind all words only spaces stand, or the line can't be cut into words
-pub words_end : (line end rest : List ℕ) (vs : List Word) (b : Bool) → Each TakesWord line vs end → NoneAt TakesWord end → rest ≡ after_spaces end → b ≡ (length rest == 0) → MatchBool b (HasWords line vs) ((ws : List Word) → HasWords line ws → ⊥)
+-- after all words only spaces stand, or the line can't be cut into words
+pub words_end : (line end rest : List ℕ) (vs : List Word) (b : Bool) → EachTaken TakesWord line vs end → NoneAt TakesWord end → rest ≡ after_spaces end → b ≡ (length rest == 0) → MatchBool b (HasWords line vs) ((ws : List Word) → HasWords line ws → ⊥)
 words_end line end [] vs b h stop e f = rw f (record { end = end; words = h; spaces = sym e })
 words_end line end (x ∷ rest) vs b h stop e f = let n : (length (x ∷ rest) == 0) ≡ false = ne_eqb (length (x ∷ rest)) 0 (λ z. omega arith) in rw (f, n) (words_none line end vs h stop (λ g. let k = e ∙ g in cc))
 
@@ -70,12 +70,12 @@ plain_long line c cs e = rw (e, up_at_other c cs (after_not_space line c cs e)) 
 
 pub plain_found : (line : List ℕ) (c : ℕ) (cs w rest : List ℕ) → after_spaces line ≡ c ∷ cs → c ≢ 34 → w ≡ up_to_space (after_spaces line) → rest ≡ from_space (after_spaces line) → AllByRecursion IsGraphic w
     → TakesPlain (after_spaces line) w rest
-plain_found line c cs w rest e n word behind all = record {
+plain_found line c cs w rest e n word after all = record {
   some = rw word (plain_long line c cs e);
   no_quote = λ h. n (sym (ap (λ (l : List ℕ). get_or l 0 0) (word ∙ ap up_to_space e ∙ up_at_other c cs (after_not_space line c cs e))) ∙ h);
   bytes = all;
   word = word;
-  behind = behind;
+  after = after;
 }
 
 quoted_not_plain : (text inner w rest : List ℕ) → text ≡ 34 ∷ inner → TakesPlain text w rest → ⊥

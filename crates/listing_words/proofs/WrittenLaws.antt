@@ -12,6 +12,7 @@ use Rattle.listing_words.specs.Names.{TakesNameUnit, SpellsUnits}
 use Rattle.listing_words.specs.Words.{IsGraphic, IsWritable, plain_word}
 use Rattle.listing_words.specs.Written.{hex_digits, hex_width, flags_text, elements_text, name_unit, name_text}
 use Rattle.listing_words.proofs.TextLaws.{hex_glyph, takes_hex}
+use Rattle.dex_base.proofs.NameUnits.{all_append}
 
 -- ---- hexadecimal digits
 
@@ -137,10 +138,6 @@ graphic_glyph d h = elim (cases_lt d 10) [
   | inr l ↦ rw (le-ltb d 10 l) (omega arith, omega arith)
 ]
 
-all_joined : (P : ℕ → Type 0) (xs ys : List ℕ) → AllByRecursion P xs → AllByRecursion P ys → AllByRecursion P (xs ++ ys)
-all_joined P [] ys h k = k
-all_joined P (x ∷ xs) ys h k = (h.0, all_joined P xs ys h.1 k)
-
 escape_graphic : (u : ℕ) → AllByRecursion IsGraphic (escape_text u)
 escape_graphic u =
     ((omega arith, omega arith), ((omega arith, omega arith), (graphic_glyph (u / 4096 % 16) (omega arith), (graphic_glyph (u / 256 % 16) (omega arith), (graphic_glyph (u / 16 % 16) (omega arith), (graphic_glyph (u % 16) (omega arith), tt))))))
@@ -153,11 +150,11 @@ unit_graphic u = elim (name_cases u) [
 
 pub name_graphic : (us : List ℕ) → AllByRecursion IsGraphic (name_text us)
 name_graphic [] = tt
-name_graphic (u ∷ us) = all_joined IsGraphic (name_unit u) (name_text us) (unit_graphic u) (name_graphic us)
+name_graphic (u ∷ us) = all_append IsGraphic (name_unit u) (name_text us) (unit_graphic u) (name_graphic us)
 
 pub hex_graphic : (width n : ℕ) → AllByRecursion IsGraphic (hex_digits width n)
 hex_graphic zero n = tt
-hex_graphic (suc width) n = all_joined IsGraphic (hex_digits width (n / 16)) (glyph (n % 16) ∷ []) (hex_graphic width (n / 16)) (graphic_glyph (n % 16) (omega arith), tt)
+hex_graphic (suc width) n = all_append IsGraphic (hex_digits width (n / 16)) (glyph (n % 16) ∷ []) (hex_graphic width (n / 16)) (graphic_glyph (n % 16) (omega arith), tt)
 
 -- a name that isn't empty can be written
 pub name_writable : (us : List ℕ) → 0 < length us → IsWritable (plain_word (name_text us))

@@ -4,7 +4,7 @@ use Rattle.std.specs.Prelude.{◌≡◌, ◌≢◌, ℕ, ◌+◌, ◌*◌, ◌<�
 use Rattle.std.specs.List.{flat_map, AllByRecursion}
 use Rattle.dex_base.specs.Descriptor.{IsDescriptor, IsMemberName}
 use Rattle.program_types.specs.Content.{Proto, FieldRef, MethodRef}
-use Rattle.listing_words.specs.Taking.{Each}
+use Rattle.listing_words.specs.Taking.{EachTaken}
 use Rattle.listing_words.specs.Texts.{TakesHex, hex}
 
 -- One unit: itself, or `\uXXXX`.
@@ -13,7 +13,7 @@ TakesNameUnit text u rest = ((u ≢ 92) × (text ≡ u ∷ rest)) ⊎ TakesHex t
 
 -- The units of a whole word.
 abbrev pub SpellsUnits : List ℕ → List ℕ → Type 0
-SpellsUnits word us = Each TakesNameUnit word us []
+SpellsUnits word us = EachTaken TakesNameUnit word us []
 
 -- A prototype: `(P..)R`
 pub record IsProtoText (us : List ℕ) (p : Proto) : Type 0 where

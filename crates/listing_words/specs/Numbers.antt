@@ -11,7 +11,7 @@ SpellsNatural word n =
     (IsNumeral 10 word × (n ≡ digits_value 10 word))
     ⊎ ((ds : List ℕ) × (word ≡ 48 ∷ 120 ∷ ds) × IsNumeral 16 ds × (n ≡ digits_value 16 ds))
 
--- The same, or `-` before it.
+-- A whole number: decimal digits, or `0x` and hexadecimal digits, with `-` before them or without.
 abbrev pub SpellsWhole : List ℕ → ℤ → Type 0
 SpellsWhole word z =
     ((n : ℕ) × SpellsNatural word n × (z ≡ pos n))

@@ -1,11 +1,11 @@
 -- What private helpers say of units that stand for themselves.
 use Rattle.std.specs.Prelude.{◌≡◌, ℕ, ◌<◌, ◌≤◌, Bool, true, false, List, ◌++◌, take, length, slice_index, EachIndex}
-use Rattle.listing_words.specs.Texts.{IsPlain}
+use Rattle.listing_words.specs.Texts.{IsUnescaped}
 
 -- A unit that stands for itself where those from `least` on can: a name has no space, a text has.
 pub record IsPlainFrom (least u : ℕ) : Type 0 where
   pub from : least ≤ u
-  pub plain : IsPlain u
+  pub plain : IsUnescaped u
 
 -- So many units at the front stand for themselves, and are what was appended.
 pub record IsFront (least : ℕ) (us old new : List ℕ) (n : ℕ) : Type 0 where

@@ -3,12 +3,12 @@
 use Rattle.std.specs.Prelude.{◌≡◌, ◌≢◌, ℕ, ◌+◌, ◌*◌, ◌<◌, ◌≤◌, ◌⊎◌, ◌||◌, ◌&&◌, nat_lt, ◌==◌, if◌then◌else◌, List, [], ◌∷◌, ◌++◌, length, slice_index}
 use Rattle.std.specs.List.{flat_map}
 use Rattle.std.specs.Char.{digit_value}
-use Rattle.listing_words.specs.Taking.{Each}
+use Rattle.listing_words.specs.Taking.{EachTaken}
 -- An escape is written in a text as in a name.
 pub use Rattle.program_types.specs.Written.{glyph, escape_text}
 
 -- A unit that stands for itself.
-pub record IsPlain (u : ℕ) : Type 0 where
+pub record IsUnescaped (u : ℕ) : Type 0 where
   pub low : 32 ≤ u
   pub high : u < 127
   pub no_quote : u ≢ 34
@@ -31,19 +31,19 @@ pub record TakesHex (text : List ℕ) (u : ℕ) (rest : List ℕ) : Type 0 where
 -- One unit: itself, or an escape.
 abbrev pub TakesUnit : List ℕ → ℕ → List ℕ → Type 0
 TakesUnit text u rest =
-    (IsPlain u × (text ≡ u ∷ rest))
+    (IsUnescaped u × (text ≡ u ∷ rest))
     ⊎ (((u ≡ 34) ⊎ (u ≡ 92)) × (text ≡ 92 ∷ u ∷ rest))
     ⊎ TakesHex text u rest
 
 -- Units up to a quote.
 pub record TakesUnits (text : List ℕ) (us : List ℕ) (rest : List ℕ) : Type 0 where
   pub end : List ℕ
-  pub units : Each TakesUnit text us end
+  pub units : EachTaken TakesUnit text us end
   pub quote : end ≡ 34 ∷ rest
 
 -- ---- what is written
 
--- A unit of a text: a quote and a backslash behind a backslash, any other from 0x20 to 0x7e as itself, the rest escaped.
+-- A unit of a text: a quote and a backslash after a backslash, any other from 0x20 to 0x7e as itself, the rest escaped.
 abbrev pub unit_text : ℕ → List ℕ
 unit_text u =
     if (u == 34) || (u == 92) then 92 ∷ u ∷ []
@@ -57,9 +57,9 @@ text_word us = 34 ∷ (flat_map unit_text us ++ 34 ∷ [])
 -- ---- what a private helper says
 
 -- The unit at the front, byte by byte, and how many bytes it takes.
-abbrev pub HasUnit : List ℕ → ℕ → ℕ → Type 0
-HasUnit text u len =
-    (IsPlain u × (len ≡ 1) × (1 ≤ length text) × (slice_index text 0 ≡ u))
+abbrev pub HasQuotedUnit : List ℕ → ℕ → ℕ → Type 0
+HasQuotedUnit text u len =
+    (IsUnescaped u × (len ≡ 1) × (1 ≤ length text) × (slice_index text 0 ≡ u))
     ⊎ (((u ≡ 34) ⊎ (u ≡ 92)) × (len ≡ 2) × (2 ≤ length text) × (slice_index text 0 ≡ 92) × (slice_index text 1 ≡ u))
     ⊎ ((len ≡ 6) × (6 ≤ length text) × (slice_index text 0 ≡ 92) × (slice_index text 1 ≡ 117)
     × (hex (slice_index text 2) < 16) × (hex (slice_index text 3) < 16) × (hex (slice_index text 4) < 16) × (hex (slice_index text 5) < 16)

@@ -2,7 +2,7 @@
 -- Page: docs/LISTING.md, "Lines and words".
 use Rattle.std.specs.Prelude.{◌≡◌, ◌≢◌, ℕ, ◌<◌, ◌≤◌, ◌==◌, if◌then◌else◌, List, [], ◌∷◌, ◌++◌, length, slice_index}
 use Rattle.std.specs.List.{AllByRecursion}
-use Rattle.listing_words.specs.Taking.{Each}
+use Rattle.listing_words.specs.Taking.{EachTaken}
 use Rattle.listing_words.specs.Texts.{TakesUnits, text_word}
 
 -- A word: the bytes of one without quotes, or the units of a text in quotes.
@@ -35,16 +35,16 @@ pub record TakesPlain (text : List ℕ) (w : List ℕ) (rest : List ℕ) : Type 
   pub no_quote : slice_index w 0 ≢ 34
   pub bytes : AllByRecursion IsGraphic w
   pub word : w ≡ up_to_space text
-  pub behind : rest ≡ from_space text
+  pub after : rest ≡ from_space text
 
--- A text in quotes, behind which a space or the line's end stands.
+-- A text in quotes, after which a space or the line's end stands.
 pub record TakesText (text : List ℕ) (us : List ℕ) (rest : List ℕ) : Type 0 where
   pub inner : List ℕ
   pub quote : text ≡ 34 ∷ inner
   pub units : TakesUnits inner us rest
   pub ends : up_to_space rest ≡ []
 
--- A word, behind any number of spaces.
+-- A word, after any number of spaces.
 abbrev pub TakesWord : List ℕ → Word → List ℕ → Type 0
 TakesWord text (plain_word w) rest = TakesPlain (after_spaces text) w rest
 TakesWord text (text_in_quotes us) rest = TakesText (after_spaces text) us rest
@@ -52,7 +52,7 @@ TakesWord text (text_in_quotes us) rest = TakesText (after_spaces text) us rest
 -- The words of a line: between them and at both ends stand spaces.
 pub record HasWords (line : List ℕ) (ws : List Word) : Type 0 where
   pub end : List ℕ
-  pub words : Each TakesWord line ws end
+  pub words : EachTaken TakesWord line ws end
   pub spaces : after_spaces end ≡ []
 
 -- ---- how words are written

@@ -30,8 +30,8 @@ pub fn read_elements<'a>(bump: &'a Bump, word: &[u8]) -> Result<Option<&'a [u8]>
 {
     let mut bytes = Vec::with_capacity(bump, word.len() / 2)?;
     let mut rest = word;
-    while let Some((first, behind)) = rest.split_first() {
-        let Some((second, after)) = behind.split_first() else {
+    while let Some((first, tail)) = rest.split_first() {
+        let Some((second, after)) = tail.split_first() else {
             return Ok(None);
         };
         let high = digit(*first);

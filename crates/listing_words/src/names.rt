@@ -4,7 +4,7 @@ ghost use Rattle.std.specs.Prelude.{◌≡◌, ◌≢◌, ℕ, ◌+◌, ◌<◌,
 ghost use Rattle.base_bytes.specs.Fault.{memory};
 ghost use Rattle.program_types.specs.View.{desc, proto, field_ref, method_ref};
 ghost use Rattle.program_types.specs.Content.{Proto as SaidProto, FieldRef as SaidField, MethodRef as SaidMethod};
-ghost use Rattle.listing_words.specs.Taking.{NoneAt, Each};
+ghost use Rattle.listing_words.specs.Taking.{NoneAt, EachTaken};
 ghost use Rattle.listing_words.specs.Names.{HasNameUnit, TakesNameUnit, SpellsUnits, TakesDescriptor, IsMemberText, IsProtoText, IsFieldText, IsMethodText, up_to, from};
 
 use crate::cut::split_before;
@@ -59,7 +59,7 @@ fn read_plain<'a, 'b>(
     bump: &'a Bump,
     word: &'b [u8],
 ) -> Result<(Vec<u16, &'a Bump>, &'b [u8]), Fault>
-    ensures taken { IfOk result (λ f. Each TakesNameUnit word.now f.0.items f.1.now) }
+    ensures taken { IfOk result (λ f. EachTaken TakesNameUnit word.now f.0.items f.1.now) }
     ensures memory { IsOkUnless result memory }
 {
     let (plain, rest) = split_before(92, word);
@@ -91,7 +91,7 @@ fn read_params<'a>(
     bump: &'a Bump,
     units: &'a [u16],
 ) -> Result<(Vec<Desc<'a>, &'a Bump>, &'a [u16]), Fault>
-    ensures params { IfOk result (λ f. Each TakesDescriptor units.now (map desc f.0.items) f.1.now) }
+    ensures params { IfOk result (λ f. EachTaken TakesDescriptor units.now (map desc f.0.items) f.1.now) }
     ensures all { IfOk result (λ f. NoneAt TakesDescriptor f.1.now) }
     ensures memory { IsOkUnless result memory }
 {
@@ -107,7 +107,7 @@ fn read_params<'a>(
     Ok((params, rest))
 }
 
-/// The prototype behind its first parenthesis.
+/// The prototype after its first parenthesis.
 fn read_proto_tail<'a>(bump: &'a Bump, units: &'a [u16]) -> Result<Option<Proto<'a>>, Fault>
     ensures found { IfOk result (λ r. IfSome r (λ p. IsProtoText (40 ∷ units.now) (proto p))) }
     ensures none { IfOk result (λ r. IfNone r ((p : SaidProto) → IsProtoText (40 ∷ units.now) p → ⊥)) }
@@ -159,24 +159,24 @@ fn split_stop(units: &[u16], stop: u16) -> (&[u16], &[u16])
     units.split_at(units.len())
 }
 
-/// A class, a member's name, and what stands behind the unit that ends the name.
+/// A class, a member's name, and what stands after the unit that ends the name.
 fn split_member<'a>(units: &'a [u16], stop: u16) -> Option<(&'a [u16], &'a [u16], &'a [u16])>
     requires { (stop ≡ 58) ⊎ (stop ≡ 40) }
     ensures found { IfSome result (λ f. IsMemberText stop units.now f.0.now f.1.now f.2.now) }
     ensures none { IfNone result ((class name tail : List ℕ) → IsMemberText stop units.now class name tail → ⊥) }
 {
     let n = descriptor_length(units)?;
-    let (class, behind) = units.split_at(n);
-    if behind.len() < 2 {
+    let (class, after) = units.split_at(n);
+    if after.len() < 2 {
         return None;
     }
-    if behind[0] != 45 {
+    if after[0] != 45 {
         return None;
     }
-    if behind[1] != 62 {
+    if after[1] != 62 {
         return None;
     }
-    let (_, rest) = behind.split_at(2);
+    let (_, rest) = after.split_at(2);
     let (name, end) = split_stop(rest, stop);
     let Some((_, tail)) = end.split_first() else {
         return None;

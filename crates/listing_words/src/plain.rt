@@ -1,10 +1,9 @@
 //! Units that stand for themselves, many at a time.
 
-ghost use Rattle.std.specs.Prelude.{◌≡◌, ℕ, ◌+◌, ◌<◌, ◌≤◌, length, slice_index, vec_len, vec_capacity, if◌then◌else◌, IsTrue, EachIndex, IfOk, IsOkUnless};
-ghost use Rattle.base_bytes.specs.Fault.{memory};
+ghost use Rattle.std.specs.Prelude.{◌≡◌, ℕ, ◌<◌, ◌≤◌, length, slice_index, IsTrue, EachIndex, IfOk};
 ghost use Rattle.listing_words.specs.Plain.{IsPlainFrom, IsFront, AllOrNone};
 
-use dex_base::Fault;
+use std::alloc::AllocError;
 
 /// Whether a unit stands for itself, where those from `least` on can. Without a branch, as the loop below wants it.
 #[inline(always)]
@@ -28,68 +27,86 @@ fn are_plain(units: &[u16], least: u16) -> bool
     plain
 }
 
-/// Appends units, for which there is room, if all of them stand for themselves: whether they do.
+/// Appends eight units if all of them stand for themselves: whether they do.
 #[inline(always)]
-fn put_run(out: &mut Vec<u8>, run: &[u16], least: u16) -> bool
+fn put_eight(out: &mut Vec<u8>, run: &[u16], least: u16) -> Result<bool, AllocError>
     requires from { 32 ≤ least }
-    requires room { vec_len out.old + length run.now ≤ vec_capacity out.old }
-    ensures text { AllOrNone result least run.now out.old.items out.new.items }
-    ensures len { vec_len out.new ≡ (if result then vec_len out.old + length run.now else vec_len out.old) }
-    ensures capacity { vec_capacity out.new ≡ vec_capacity out.old }
+    requires eight { length run.now ≡ 8 }
+    ensures ok { IfOk result (λ done. AllOrNone done least run.now out.old.items out.new.items) }
 {
     if !are_plain(run, least) {
-        return false;
+        return Ok(false);
     }
-    for unit in run {
-        out.push_reserved(*unit as u8);
-    }
-    true
+    out.extend_from_slice(&[
+        run[0] as u8,
+        run[1] as u8,
+        run[2] as u8,
+        run[3] as u8,
+        run[4] as u8,
+        run[5] as u8,
+        run[6] as u8,
+        run[7] as u8,
+    ])?;
+    Ok(true)
 }
 
-/// Appends units at the front that stand for themselves, eight at a time: how many. There is room for all.
+/// Appends units at the front that stand for themselves, eight at a time: how many.
 #[inline(always)]
-fn put_eights(out: &mut Vec<u8>, units: &[u16], least: u16) -> usize
-    requires from { 32 ≤ least }
-    requires room { vec_len out.old + length units.now ≤ vec_capacity out.old }
-    ensures front { IsFront least units.now out.old.items out.new.items result }
-    ensures len { vec_len out.new ≡ vec_len out.old + result }
-    ensures capacity { vec_capacity out.new ≡ vec_capacity out.old }
+fn put_eights(out: &mut Vec<u8>, units: &[u16], least: u16) -> Result<usize, AllocError>
+    requires { 32 ≤ least }
+    ensures ok { IfOk result (λ n. IsFront least units.now out.old.items out.new.items n) }
 {
     for i in 0..units.len() / 8 {
-        let (_, behind) = units.split_at(8 * i);
-        let (run, _) = behind.split_at(8);
-        if !put_run(out, run, least) {
-            return 8 * i;
+        let (_, after) = units.split_at(8 * i);
+        let (run, _) = after.split_at(8);
+        if !put_eight(out, run, least)? {
+            return Ok(8 * i);
         }
     }
-    units.len() / 8 * 8
+    Ok(units.len() / 8 * 8)
 }
 
-/// Appends units at the front that stand for themselves, one by one: how many. There is room for all.
+/// Appends the four units at the front, if there are so many and all of them stand for themselves: how many.
 #[inline(always)]
-fn put_ones(out: &mut Vec<u8>, units: &[u16], least: u16) -> usize
-    requires from { 32 ≤ least }
-    requires room { vec_len out.old + length units.now ≤ vec_capacity out.old }
-    ensures { IsFront least units.now out.old.items out.new.items result }
+fn put_four(out: &mut Vec<u8>, units: &[u16], least: u16) -> Result<usize, AllocError>
+    requires { 32 ≤ least }
+    ensures ok { IfOk result (λ n. IsFront least units.now out.old.items out.new.items n) }
+{
+    if units.len() < 4 {
+        return Ok(0);
+    }
+    let (run, _) = units.split_at(4);
+    if !are_plain(run, least) {
+        return Ok(0);
+    }
+    out.extend_from_slice(&[run[0] as u8, run[1] as u8, run[2] as u8, run[3] as u8])?;
+    Ok(4)
+}
+
+/// Appends units at the front that stand for themselves, one by one: how many.
+#[inline(always)]
+fn put_ones(out: &mut Vec<u8>, units: &[u16], least: u16) -> Result<usize, AllocError>
+    requires { 32 ≤ least }
+    ensures ok { IfOk result (λ n. IsFront least units.now out.old.items out.new.items n) }
 {
     for i in 0..units.len() {
         if !is_plain(units[i], least) {
-            return i;
+            return Ok(i);
         }
-        out.push_reserved(units[i] as u8);
+        out.push(units[i] as u8)?;
     }
-    units.len()
+    Ok(units.len())
 }
 
 /// Appends the units at the front that stand for themselves, where those from `least` on can: how many.
 #[inline(always)]
-pub(crate) fn put_plain(out: &mut Vec<u8>, units: &[u16], least: u16) -> Result<usize, Fault>
+pub(crate) fn put_plain(out: &mut Vec<u8>, units: &[u16], least: u16) -> Result<usize, AllocError>
     requires { 32 ≤ least }
     ensures ok { IfOk result (λ n. IsFront least units.now out.old.items out.new.items n) }
-    ensures memory { IsOkUnless result memory }
 {
-    out.reserve(units.len())?;
-    let eights = put_eights(out, units, least);
-    let (_, behind) = units.split_at(eights);
-    Ok(eights + put_ones(out, behind, least))
+    let eights = put_eights(out, units, least)?;
+    let (_, after) = units.split_at(eights);
+    let four = put_four(out, after, least)?;
+    let (_, last) = after.split_at(four);
+    Ok(eights + four + put_ones(out, last, least)?)
 }

@@ -1,12 +1,11 @@
 //! Texts in quotes, as they are written.
 
-ghost use Rattle.std.specs.Prelude.{◌≡◌, ℕ, ◌<◌, ◌≤◌, ◌+◌, ◌++◌, [], ◌∷◌, List, OnOk, IsOkUnless, take};
+ghost use Rattle.std.specs.Prelude.{◌≡◌, ℕ, ◌<◌, ◌≤◌, ◌+◌, ◌++◌, [], ◌∷◌, List, OnOk, take};
 ghost use Rattle.std.specs.List.{flat_map};
 ghost use Rattle.listing_words.specs.Texts.{unit_text, escape_text, text_word, glyph};
-ghost use Rattle.base_bytes.specs.Fault.{memory};
 
 use crate::plain::put_plain;
-use dex_base::Fault;
+use std::alloc::AllocError;
 
 /// A hexadecimal digit in lower case.
 pub(crate) fn glyph(digit: u16) -> u8
@@ -20,9 +19,8 @@ pub(crate) fn glyph(digit: u16) -> u8
 }
 
 /// Appends `\uXXXX`.
-pub(crate) fn put_escape(out: &mut Vec<u8>, unit: u16) -> Result<(), Fault>
+pub(crate) fn put_escape(out: &mut Vec<u8>, unit: u16) -> Result<(), AllocError>
     ensures ok { OnOk result (out.new.items ≡ out.old.items ++ escape_text unit) }
-    ensures memory { IsOkUnless result memory }
 {
     out.extend_from_slice(&[
         92,
@@ -36,9 +34,8 @@ pub(crate) fn put_escape(out: &mut Vec<u8>, unit: u16) -> Result<(), Fault>
 }
 
 /// Appends a unit as it stands in a text.
-fn put_unit(out: &mut Vec<u8>, unit: u16) -> Result<(), Fault>
+fn put_unit(out: &mut Vec<u8>, unit: u16) -> Result<(), AllocError>
     ensures ok { OnOk result (out.new.items ≡ out.old.items ++ unit_text unit) }
-    ensures memory { IsOkUnless result memory }
 {
     if unit == 34 || unit == 92 {
         out.extend_from_slice(&[92, unit as u8])?;
@@ -51,9 +48,8 @@ fn put_unit(out: &mut Vec<u8>, unit: u16) -> Result<(), Fault>
 }
 
 /// Appends units one by one as they stand in a text.
-fn put_units(out: &mut Vec<u8>, units: &[u16]) -> Result<(), Fault>
+fn put_units(out: &mut Vec<u8>, units: &[u16]) -> Result<(), AllocError>
     ensures ok { OnOk result (out.new.items ≡ out.old.items ++ flat_map unit_text units.now) }
-    ensures memory { IsOkUnless result memory }
 {
     for unit in units {
         put_unit(out, *unit)?;
@@ -61,13 +57,12 @@ fn put_units(out: &mut Vec<u8>, units: &[u16]) -> Result<(), Fault>
     Ok(())
 }
 
-/// Appends a text in quotes: the units 0x20 to 0x7e stand for themselves, a quote and a backslash behind a backslash, all
+/// Appends a text in quotes: the units 0x20 to 0x7e stand for themselves, a quote and a backslash after a backslash, all
 /// others are escaped as `\uXXXX` in lower case.
 ///
-/// The only error is want of memory, behind which part of the text may stand in `out`.
-pub fn put_text(out: &mut Vec<u8>, units: &[u16]) -> Result<(), Fault>
+/// It fails only when out of memory, after which part of the text may stand in `out`.
+pub fn put_text(out: &mut Vec<u8>, units: &[u16]) -> Result<(), AllocError>
     ensures ok { OnOk result (out.new.items ≡ out.old.items ++ text_word units.now) }
-    ensures memory { IsOkUnless result memory }
 {
     out.push(34)?;
     let done = put_plain(out, units, 32)?;

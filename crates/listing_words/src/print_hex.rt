@@ -1,18 +1,16 @@
 //! Hexadecimal digits, as they are written.
 
-ghost use Rattle.std.specs.Prelude.{◌≡◌, ℕ, ◌<◌, ◌≤◌, ◌++◌, ◌^◌, take, OnOk, IsOkUnless};
-ghost use Rattle.base_bytes.specs.Fault.{memory};
+ghost use Rattle.std.specs.Prelude.{◌≡◌, ℕ, ◌<◌, ◌≤◌, ◌++◌, ◌^◌, take, OnOk};
 ghost use Rattle.listing_words.specs.Written.{hex_digits, hex_width, flags_text, elements_text};
 
 use crate::print::glyph;
-use dex_base::Fault;
+use std::alloc::AllocError;
 
 /// Appends the last `width` hexadecimal digits of a number, in lower case.
 ///
-/// The only error is want of memory, behind which some of the digits may stand in `out`.
-pub fn put_hex(out: &mut Vec<u8>, width: usize, n: u64) -> Result<(), Fault>
+/// It fails only when out of memory, after which some of the digits may stand in `out`.
+pub fn put_hex(out: &mut Vec<u8>, width: usize, n: u64) -> Result<(), AllocError>
     ensures ok { OnOk result (out.new.items ≡ out.old.items ++ hex_digits width n) }
-    ensures memory { IsOkUnless result memory }
 {
     if width == 0 {
         return Ok(());
@@ -51,9 +49,8 @@ fn hex_width(n: u32) -> usize
 }
 
 /// Appends flags: `0x` and their hexadecimal digits without leading zeros.
-pub fn put_flags(out: &mut Vec<u8>, flags: u32) -> Result<(), Fault>
+pub fn put_flags(out: &mut Vec<u8>, flags: u32) -> Result<(), AllocError>
     ensures ok { OnOk result (out.new.items ≡ out.old.items ++ flags_text flags) }
-    ensures memory { IsOkUnless result memory }
 {
     if flags < 16 {
         out.extend_from_slice(&[48, 120, glyph(flags as u16)])?;
@@ -64,9 +61,8 @@ pub fn put_flags(out: &mut Vec<u8>, flags: u32) -> Result<(), Fault>
 }
 
 /// Appends bytes as pairs of hexadecimal digits.
-pub fn put_elements(out: &mut Vec<u8>, bytes: &[u8]) -> Result<(), Fault>
+pub fn put_elements(out: &mut Vec<u8>, bytes: &[u8]) -> Result<(), AllocError>
     ensures ok { OnOk result (out.new.items ≡ out.old.items ++ elements_text bytes.now) }
-    ensures memory { IsOkUnless result memory }
 {
     for byte in bytes {
         out.extend_from_slice(&[glyph((byte / 16 % 16) as u16), glyph((byte % 16) as u16)])?;

@@ -1,20 +1,18 @@
 //! Names, as they are written.
 
-ghost use Rattle.std.specs.Prelude.{◌≡◌, ℕ, ◌<◌, ◌≤◌, ◌++◌, ◌∷◌, [], List, map, OnOk, IsOkUnless};
+ghost use Rattle.std.specs.Prelude.{◌≡◌, ℕ, ◌<◌, ◌≤◌, ◌++◌, ◌∷◌, [], List, map, OnOk};
 ghost use Rattle.std.specs.List.{flat_map};
-ghost use Rattle.base_bytes.specs.Fault.{memory};
 ghost use Rattle.program_types.specs.View.{desc, proto, field_ref, method_ref};
 ghost use Rattle.listing_words.specs.Written.{name_unit, name_text, proto_units, field_units, method_units};
 
 use crate::plain::put_plain;
 use crate::print::put_escape;
-use dex_base::Fault;
 use program_types::{Desc, FieldRef, MethodRef, Proto};
+use std::alloc::AllocError;
 
 /// Appends a unit as it stands in a name.
-fn put_name_unit(out: &mut Vec<u8>, unit: u16) -> Result<(), Fault>
+fn put_name_unit(out: &mut Vec<u8>, unit: u16) -> Result<(), AllocError>
     ensures ok { OnOk result (out.new.items ≡ out.old.items ++ name_unit unit) }
-    ensures memory { IsOkUnless result memory }
 {
     if unit <= 32 || unit >= 127 {
         return put_escape(out, unit);
@@ -27,9 +25,8 @@ fn put_name_unit(out: &mut Vec<u8>, unit: u16) -> Result<(), Fault>
 }
 
 /// Appends units one by one as they stand in a name.
-fn put_name_units(out: &mut Vec<u8>, units: &[u16]) -> Result<(), Fault>
+fn put_name_units(out: &mut Vec<u8>, units: &[u16]) -> Result<(), AllocError>
     ensures ok { OnOk result (out.new.items ≡ out.old.items ++ name_text units.now) }
-    ensures memory { IsOkUnless result memory }
 {
     for unit in units {
         put_name_unit(out, *unit)?;
@@ -39,10 +36,9 @@ fn put_name_units(out: &mut Vec<u8>, units: &[u16]) -> Result<(), Fault>
 
 /// Appends a name or a descriptor: an ASCII character stands for itself, any other unit is escaped as `\uXXXX`.
 ///
-/// The only error is want of memory, behind which part of the name may stand in `out`.
-pub fn put_name(out: &mut Vec<u8>, units: &[u16]) -> Result<(), Fault>
+/// It fails only when out of memory, after which part of the name may stand in `out`.
+pub fn put_name(out: &mut Vec<u8>, units: &[u16]) -> Result<(), AllocError>
     ensures ok { OnOk result (out.new.items ≡ out.old.items ++ name_text units.now) }
-    ensures memory { IsOkUnless result memory }
 {
     let done = put_plain(out, units, 35)?;
     let (_, rest) = units.split_at(done);
@@ -50,9 +46,8 @@ pub fn put_name(out: &mut Vec<u8>, units: &[u16]) -> Result<(), Fault>
 }
 
 /// Appends the descriptors of parameters.
-fn put_params(out: &mut Vec<u8>, params: &[Desc<'_>]) -> Result<(), Fault>
+fn put_params(out: &mut Vec<u8>, params: &[Desc<'_>]) -> Result<(), AllocError>
     ensures ok { OnOk result (out.new.items ≡ out.old.items ++ name_text (flat_map (λ t. t) (map desc params.now))) }
-    ensures memory { IsOkUnless result memory }
 {
     for param in params {
         put_name(out, param.text.units)?;
@@ -62,10 +57,9 @@ fn put_params(out: &mut Vec<u8>, params: &[Desc<'_>]) -> Result<(), Fault>
 
 /// Appends a prototype: `(P..)R`.
 ///
-/// The only error is want of memory, behind which part of it may stand in `out`; so it is of the two below.
-pub fn put_proto(out: &mut Vec<u8>, one: &Proto<'_>) -> Result<(), Fault>
+/// It fails only when out of memory, after which part of it may stand in `out`; so it is of the two below.
+pub fn put_proto(out: &mut Vec<u8>, one: &Proto<'_>) -> Result<(), AllocError>
     ensures ok { OnOk result (out.new.items ≡ out.old.items ++ name_text (proto_units (proto one.now))) }
-    ensures memory { IsOkUnless result memory }
 {
     out.push(b'(')?;
     put_params(out, one.params)?;
@@ -74,9 +68,8 @@ pub fn put_proto(out: &mut Vec<u8>, one: &Proto<'_>) -> Result<(), Fault>
 }
 
 /// Appends a field: `C->n:T`.
-pub fn put_field(out: &mut Vec<u8>, field: &FieldRef<'_>) -> Result<(), Fault>
+pub fn put_field(out: &mut Vec<u8>, field: &FieldRef<'_>) -> Result<(), AllocError>
     ensures ok { OnOk result (out.new.items ≡ out.old.items ++ name_text (field_units (field_ref field.now))) }
-    ensures memory { IsOkUnless result memory }
 {
     put_name(out, field.class.text.units)?;
     out.extend_from_slice(b"->")?;
@@ -86,9 +79,8 @@ pub fn put_field(out: &mut Vec<u8>, field: &FieldRef<'_>) -> Result<(), Fault>
 }
 
 /// Appends a method: `C->n(P..)R`.
-pub fn put_method(out: &mut Vec<u8>, method: &MethodRef<'_>) -> Result<(), Fault>
+pub fn put_method(out: &mut Vec<u8>, method: &MethodRef<'_>) -> Result<(), AllocError>
     ensures ok { OnOk result (out.new.items ≡ out.old.items ++ name_text (method_units (method_ref method.now))) }
-    ensures memory { IsOkUnless result memory }
 {
     put_name(out, method.class.text.units)?;
     out.extend_from_slice(b"->")?;

@@ -1,8 +1,8 @@
 //! Texts in quotes.
 
 ghost use Rattle.std.specs.Prelude.{◌≡◌, ℕ, ◌<◌, ◌≤◌, ◌+◌, ◌*◌, ◌++◌, [], ◌∷◌, List, length, slice_index, drop, IfOk, IfSome, IfNone, SomeIff, OnOk, OnErr, IsOkUnless, vec_len, vec_capacity};
-ghost use Rattle.listing_words.specs.Taking.{NoneAt, Each};
-ghost use Rattle.listing_words.specs.Texts.{HasUnit, TakesUnit, TakesUnits, hex, unit_text, text_word, glyph};
+ghost use Rattle.listing_words.specs.Taking.{NoneAt, EachTaken};
+ghost use Rattle.listing_words.specs.Texts.{HasQuotedUnit, TakesUnit, TakesUnits, hex, unit_text, text_word, glyph};
 ghost use Rattle.base_bytes.specs.Fault.{memory};
 ghost use Rattle.std.specs.List.{flat_map};
 
@@ -38,8 +38,8 @@ pub(crate) fn hex(c: u8) -> Option<u16>
 
 /// The unit at the front, and how many bytes it takes.
 fn unit_at(text: &[u8]) -> Option<(u16, usize)>
-    ensures found { IfSome result (λ f. HasUnit text.now f.0 f.1) }
-    ensures none { IfNone result ((u len : ℕ) → HasUnit text.now u len → ⊥) }
+    ensures found { IfSome result (λ f. HasQuotedUnit text.now f.0 f.1) }
+    ensures none { IfNone result ((u len : ℕ) → HasQuotedUnit text.now u len → ⊥) }
 {
     if text.len() == 0 {
         return None;
@@ -95,7 +95,7 @@ fn read_unit(text: &[u8]) -> Option<(u16, &[u8])>
 
 /// All units that stand at the front.
 fn read_run<'a, 'b>(bump: &'a Bump, text: &'b [u8]) -> Result<(Vec<u16, &'a Bump>, &'b [u8]), Fault>
-    ensures run { IfOk result (λ f. Each TakesUnit text.now f.0.items f.1.now) }
+    ensures run { IfOk result (λ f. EachTaken TakesUnit text.now f.0.items f.1.now) }
     ensures within { IfOk result (λ f. length f.1.now ≤ length text.now) }
     ensures all { IfOk result (λ f. NoneAt TakesUnit f.1.now) }
     ensures memory { IsOkUnless result memory }

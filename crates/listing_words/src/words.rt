@@ -2,7 +2,7 @@
 
 ghost use Rattle.std.specs.Prelude.{◌≡◌, ℕ, ◌<◌, ◌≤◌, ◌+◌, ◌↔◌, [], List, length, map, IfOk, IfSome, IfNone, IsTrue, IsOkUnless, MatchBool};
 ghost use Rattle.std.specs.List.{AllByRecursion};
-ghost use Rattle.listing_words.specs.Taking.{NoneAt, Each};
+ghost use Rattle.listing_words.specs.Taking.{NoneAt, EachTaken};
 ghost use Rattle.listing_words.specs.Words.{after_spaces, up_to_space, from_space, IsGraphic, TakesWord, HasWords, IsWritable, line_bytes};
 ghost use Rattle.listing_words.specs.View.{word};
 ghost use Rattle.listing_words.specs.Words.{Word as Spoken};
@@ -26,11 +26,11 @@ fn after_spaces(text: &[u8]) -> &[u8]
     ensures within { length result.now ≤ length text.now }
 {
     let mut rest = text;
-    while let Some((first, behind)) = rest.split_first() {
+    while let Some((first, after)) = rest.split_first() {
         if *first != 32 {
             return rest;
         }
-        rest = behind;
+        rest = after;
     }
     rest
 }

@@ -15,8 +15,8 @@ no_try = record { from = 0; to = 0; catches = record { ref_ptr = (0, 0); now = [
 pub try-at : (xs : List Try) (i : ℕ) → i < length xs → try_at (map try xs) i ≡ try (get_or xs i no_try)
 try-at xs i l = get_or-map try xs i no_try (record { from = 0; to = 0; catches = []; catch_all = None }) l
 
-pub behind-at : (xs : List Try) (i : ℕ) → 0 < i → i < length xs → ((get_or xs (i - 1) no_try).to ≤ (get_or xs i no_try).from) ↔ IsBehind (map try xs) i
-behind-at xs i s l =
+pub after-at : (xs : List Try) (i : ℕ) → 0 < i → i < length xs → ((get_or xs (i - 1) no_try).to ≤ (get_or xs i no_try).from) ↔ IsBehind (map try xs) i
+after-at xs i s l =
     let e : (try_at (map try xs) (i - 1)).to ≡ (get_or xs (i - 1) no_try).to = ap (λ (t : content.Try). t.to) (try-at xs (i - 1) (omega arith)) in
     let f : (try_at (map try xs) i).from ≡ (get_or xs i no_try).from = ap (λ (t : content.Try). t.from) (try-at xs i l) in (
       λ t j q.

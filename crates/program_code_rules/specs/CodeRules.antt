@@ -26,14 +26,14 @@ TargetsHold c = (k : ℕ) → k < length c.insns → TargetHolds c.insns k
 abbrev pub PayloadsHold : Code → Type 0
 PayloadsHold c = (k : ℕ) → k < length c.insns → PayloadHolds c.insns k
 
--- Tries cover instructions, one behind the other, and have handlers.
+-- Tries cover instructions, one after the other, and have handlers.
 abbrev pub TriesHold : Code → Type 0
 TriesHold c = (i : ℕ) → i < length c.tries → TryFormed (length c.insns) c.tries i
 
 -- What a rule asks of a code.
-abbrev pub Keeps : CodeRule → Code → Type 0
-Keeps rule.Operand c = OperandsHold c
-Keeps rule.Target c = TargetsHold c
-Keeps rule.PayloadUse c = PayloadsHold c
-Keeps rule.Try c = TriesHold c
-Keeps rule.Register c = RegistersHold c
+abbrev pub KeepsRule : CodeRule → Code → Type 0
+KeepsRule rule.Operand c = OperandsHold c
+KeepsRule rule.Target c = TargetsHold c
+KeepsRule rule.PayloadUse c = PayloadsHold c
+KeepsRule rule.Try c = TriesHold c
+KeepsRule rule.Register c = RegistersHold c

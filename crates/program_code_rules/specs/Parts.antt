@@ -2,7 +2,7 @@
 use Rattle.std.specs.Prelude.{◌≡◌, ◌≢◌, ◌<◌, ◌≤◌, ◌+◌, ◌<ℤ◌, ℕ, ℤ, pos, List, [], slice_index_or, IfSome, IfNone}
 use Rattle.std.specs.List.{AllByRecursion}
 use Rattle.program_types.specs.Content.{Insn, Try}
-use Rattle.program_types.specs.Formed.{try_at, Refers}
+use Rattle.program_types.specs.Formed.{try_at, RefersToPayload}
 
 -- Key k is below the next one.
 abbrev pub KeyIsBelow : List ℤ → ℕ → Type 0
@@ -11,10 +11,10 @@ KeyIsBelow keys k = slice_index_or keys k (pos 0) <ℤ slice_index_or keys (k + 
 -- Exactly one instruction refers to payload k.
 pub record IsUsedOnce (is : List Insn) (k : ℕ) : Type 0 where
   pub by : ℕ
-  pub refers : Refers is by k
-  pub only : (i : ℕ) → Refers is i k → i ≡ by
+  pub refers : RefersToPayload is by k
+  pub only : (i : ℕ) → RefersToPayload is i k → i ≡ by
 
--- A try begins where the one before it ends, or behind.
+-- A try begins where the one before it ends, or after.
 abbrev pub IsBehind : List Try → ℕ → Type 0
 IsBehind ts i = (j : ℕ) → j + 1 ≡ i → (try_at ts j).to ≤ (try_at ts i).from
 

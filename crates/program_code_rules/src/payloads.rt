@@ -1,7 +1,7 @@
 //! Payloads, and the instructions that refer to them.
 
 ghost use Rattle.std.specs.Prelude.{◌≡◌, ◌↔◌, ◌<◌, ◌≤◌, ℕ, length, map, IsTrue, IfOk, IfSome, IfNone};
-ghost use Rattle.program_types.specs.Formed.{insn_at, insn_payload, insn_wants, insn_reach, AreAlike, IsSwitch, Refers, PayloadHolds};
+ghost use Rattle.program_types.specs.Formed.{insn_at, insn_payload, insn_wants, insn_reach, AreAlike, WantsPayload, IsSwitch, RefersToPayload, PayloadHolds};
 ghost use Rattle.program_types.specs.View.{insn, code};
 ghost use Rattle.program_code_rules.specs.CodeRules.{PayloadsHold};
 ghost use Rattle.program_code_rules.specs.Parts.{IsUsedOnce};
@@ -24,7 +24,7 @@ fn wants_of(one: &Insn<'_>) -> Option<Payload>
     }
 }
 
-/// Where it refers to.
+/// The number of the instruction that an instruction refers to.
 #[tactic(auto, unfolding(program_types::specs::Formed::insn_reach))]
 fn reach_of(one: &Insn<'_>) -> u32
     ensures { result ≡ insn_reach (insn one.now) }
@@ -47,7 +47,7 @@ fn are_alike(one: Option<Payload>, other: Option<Payload>) -> bool
     }
 }
 
-/// Whether it is the payload of a switch.
+/// Whether a payload is that of a switch.
 fn is_switch(one: Option<Payload>) -> bool
     ensures { IsTrue result ↔ IsSwitch one }
 {
@@ -60,7 +60,7 @@ fn is_switch(one: Option<Payload>) -> bool
 /// Whether instruction `j` refers to payload `k`, which is of its kind.
 fn refers(insns: &[Insn<'_>], j: usize, k: usize) -> bool
     requires inside { j < length insns.now }
-    ensures { IsTrue result ↔ Refers (map insn insns.now) j k }
+    ensures { IsTrue result ↔ RefersToPayload (map insn insns.now) j k }
 {
     let one = &insns[j];
     if k >= insns.len() {
@@ -75,7 +75,7 @@ fn refers(insns: &[Insn<'_>], j: usize, k: usize) -> bool
 /// Whether instruction `k` refers to a payload of its kind, if it refers to one at all.
 fn reach_holds(insns: &[Insn<'_>], k: usize) -> bool
     requires inside { k < length insns.now }
-    ensures { IsTrue result ↔ (AreAlike (insn_wants (insn_at (map insn insns.now) k)) (insn_wants (insn_at (map insn insns.now) k)) → Refers (map insn insns.now) k (insn_reach (insn_at (map insn insns.now) k))) }
+    ensures { IsTrue result ↔ (WantsPayload (insn_wants (insn_at (map insn insns.now) k)) → RefersToPayload (map insn insns.now) k (insn_reach (insn_at (map insn insns.now) k))) }
 {
     let one = &insns[k];
     let kind = wants_of(one);
@@ -87,8 +87,8 @@ fn reach_holds(insns: &[Insn<'_>], k: usize) -> bool
 
 /// The first instruction from number `from` on that refers to payload `k`.
 fn user_from(insns: &[Insn<'_>], from: usize, k: usize) -> Option<usize>
-    ensures found { IfSome result (λ j. (from ≤ j) × Refers (map insn insns.now) j k × ((i : ℕ) → from ≤ i → i < j → ¬ Refers (map insn insns.now) i k)) }
-    ensures none { IfNone result ((i : ℕ) → from ≤ i → ¬ Refers (map insn insns.now) i k) }
+    ensures found { IfSome result (λ j. (from ≤ j) × RefersToPayload (map insn insns.now) j k × ((i : ℕ) → from ≤ i → i < j → ¬ RefersToPayload (map insn insns.now) i k)) }
+    ensures none { IfNone result ((i : ℕ) → from ≤ i → ¬ RefersToPayload (map insn insns.now) i k) }
 {
     for j in from..insns.len() {
         if refers(insns, j, k) {
@@ -125,7 +125,7 @@ fn payload_holds(insns: &[Insn<'_>], k: usize) -> bool
     is_used_once(insns, k)
 }
 
-/// Whether all payloads are.
+/// Whether all payloads of a code are used as they have to be.
 pub(crate) fn payloads_hold(one: &Code<'_>) -> bool
     ensures { IsTrue result ↔ PayloadsHold (code one.now) }
 {
@@ -145,7 +145,7 @@ enum Use {
     Shared,
 }
 
-/// With one instruction more that refers to it.
+/// How many instructions refer to a payload, with one more.
 fn used_again(so_far: Use) -> Use
     ensures { result ≡ used_again so_far }
 {
@@ -177,7 +177,7 @@ fn mark_users(all: &mut [Use], insns: &[Insn<'_>])
     }
 }
 
-/// How many instructions refer to each.
+/// How many instructions refer to each payload.
 fn uses_of(alloc: Global, insns: &[Insn<'_>]) -> Result<Vec<Use>, AllocError>
     ensures { IfOk result (λ all. AreUses (map insn insns.now) (length insns.now) all.items) }
 {
@@ -213,8 +213,8 @@ fn payload_holds_by(uses: &[Use], insns: &[Insn<'_>], k: usize) -> bool
     is_once(uses, insns, k)
 }
 
-/// Whether all payloads are, as `code_holds` of `PayloadUse` says it, in time that grows with the code: it takes a byte an
-/// instruction.
+/// Whether all payloads of a code are used as they have to be, as `code_holds` of `PayloadUse` says it, in time that grows with
+/// the code: it takes a byte an instruction.
 pub fn payloads_hold_in(alloc: Global, one: &Code<'_>) -> Result<bool, AllocError>
     ensures { IfOk result (λ hold. IsTrue hold ↔ PayloadsHold (code one.now)) }
 {

@@ -2,7 +2,7 @@
 
 ghost use Rattle.std.specs.Prelude.{◌↔◌, IsTrue};
 ghost use Rattle.program_types.specs.View.{code};
-ghost use Rattle.program_code_rules.specs.CodeRules.{Keeps};
+ghost use Rattle.program_code_rules.specs.CodeRules.{KeepsRule};
 
 use crate::operands::operands_hold;
 use crate::payloads::payloads_hold;
@@ -20,7 +20,7 @@ pub enum CodeRule {
     Target,
     /// 116: what refers to a payload finds one of its kind, and each switch's payload has one switch.
     PayloadUse,
-    /// 117: tries cover instructions, one behind the other, and have handlers that are instructions.
+    /// 117: tries cover instructions, one after the other, and have handlers that are instructions.
     Try,
     /// 118: ins are registers of the code, and so is every register that an instruction names.
     Register,
@@ -28,7 +28,7 @@ pub enum CodeRule {
 
 /// Whether the code keeps the rule. Takes no memory; `PayloadUse` looks through all instructions for each switch's payload.
 pub fn code_holds(rule: CodeRule, one: &Code<'_>) -> bool
-    ensures { IsTrue result ↔ Keeps rule (code one.now) }
+    ensures { IsTrue result ↔ KeepsRule rule (code one.now) }
 {
     match rule {
         CodeRule::Operand => operands_hold(one),

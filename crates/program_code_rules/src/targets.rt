@@ -36,7 +36,7 @@ fn branch_of(one: &Insn<'_>) -> Option<u32>
     }
 }
 
-/// The same, where it can't be the branch itself.
+/// The target of a branch that may not lead to itself: of all but goto/32.
 #[tactic(auto, unfolding(program_types::specs::Formed::insn_branch, program_types::specs::Formed::insn_short_branch))]
 fn short_branch_of(one: &Insn<'_>) -> Option<u32>
     ensures { result ≡ insn_short_branch (insn one.now) }
@@ -58,7 +58,7 @@ fn targets_of<'a>(one: &Insn<'a>) -> &'a [u32]
     }
 }
 
-/// Whether it is the number of an instruction that is no payload.
+/// Whether `to` is the number of an instruction that is no payload.
 fn is_target(insns: &[Insn<'_>], to: u32) -> bool
     ensures { IsTrue result ↔ IsTarget (map insn insns.now) to }
 {
@@ -72,7 +72,7 @@ fn is_target(insns: &[Insn<'_>], to: u32) -> bool
     }
 }
 
-/// Whether all of them are.
+/// Whether all targets are numbers of instructions that are no payloads.
 fn are_targets(insns: &[Insn<'_>], targets: &[u32]) -> bool
     ensures { IsTrue result ↔ AllByRecursion (IsTarget (map insn insns.now)) targets.now }
 {
@@ -119,7 +119,7 @@ fn target_holds(insns: &[Insn<'_>], k: usize) -> bool
     are_targets(insns, targets_of(one))
 }
 
-/// Whether those of all instructions are.
+/// Whether the targets of all instructions are as they have to be.
 pub(crate) fn targets_hold(one: &Code<'_>) -> bool
     ensures { IsTrue result ↔ TargetsHold (code one.now) }
 {

@@ -34,8 +34,8 @@ fn handlers_hold(count: usize, one: &Try<'_>) -> bool
     }
 }
 
-/// Whether try `i` begins where the one before it ends, or behind.
-fn is_behind(tries: &[Try<'_>], i: usize) -> bool
+/// Whether try `i` begins where the one before it ends, or after.
+fn is_after(tries: &[Try<'_>], i: usize) -> bool
     requires inside { i < length tries.now }
     ensures { IsTrue result ↔ IsBehind (map try tries.now) i }
 {
@@ -54,7 +54,7 @@ fn try_holds(count: usize, tries: &[Try<'_>], i: usize) -> bool
     if one.from >= one.to || one.to as usize > count {
         return false;
     }
-    if !is_behind(tries, i) {
+    if !is_after(tries, i) {
         return false;
     }
     handlers_hold(count, one)

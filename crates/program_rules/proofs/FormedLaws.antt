@@ -6,7 +6,7 @@ use Rattle.program_code_rules.proofs.OperandLaws.{operands_of}
 use Rattle.program_code_rules.specs.CodeRules.{OperandsHold, TargetsHold, PayloadsHold, TriesHold}
 use Rattle.program_types.specs.Content.{Code, Method, Class}
 use Rattle.program_types.specs.Formed.{IsFormed, RegistersHold}
-use Rattle.program_ranges.specs.Ranges.{CodeInRange, DefinedInRange, ClassInRange}
+use Rattle.program_rules.specs.Ranges.{CodeInRange, DefinedInRange, ClassInRange}
 use Rattle.program_rules.specs.Rules.{CodesHold}
 
 formed_of : (c : Code) → OperandsHold c → TargetsHold c → PayloadsHold c → TriesHold c → RegistersHold c → CodeInRange c → IsFormed c

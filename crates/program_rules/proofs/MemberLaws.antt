@@ -13,7 +13,8 @@ use Rattle.program_types.specs.Mentions.{if_any, names_of_value, names_of_values
 use Rattle.program_rules.specs.Valid.{IsValidName}
 use Rattle.program_rules.specs.Rules.{IsBelowNext, NamesAreValid}
 use Rattle.program_rules.specs.Parts.{FieldIsValid, MethodIsValid}
-use Rattle.program_ranges.proofs.AllLaws.{all-front, all-back, all-both, all-lists, all-joined, all-made, all-make, all-turned}
+use Rattle.program_rules.proofs.AllLaws.{all-lists, all-joined, all-made, all-turned}
+use Rattle.base_bytes.proofs.ListFacts.{all_front, all_back, all_append, all_map}
 
 -- ---- keys
 
@@ -38,7 +39,7 @@ mutual
 
   values-names : (vs : Values) → AllNamesHold IsValidName vs → AllByRecursion IsValidName (names_of_values vs)
   values-names no_values h = tt
-  values-names (more_values v vs) h = all-both IsValidName (names_of_value v) (names_of_values vs) (value-names v h.0) (values-names vs h.1)
+  values-names (more_values v vs) h = all_append IsValidName (names_of_value v) (names_of_values vs) (value-names v h.0) (values-names vs h.1)
 
 mutual
   names-value : (v : Value) → AllByRecursion IsValidName (names_of_value v) → NamesHold IsValidName v
@@ -49,7 +50,7 @@ mutual
 
   names-values : (vs : Values) → AllByRecursion IsValidName (names_of_values vs) → AllNamesHold IsValidName vs
   names-values no_values h = tt
-  names-values (more_values v vs) h = (names-value v (all-front IsValidName (names_of_value v) (names_of_values vs) h), names-values vs (all-back IsValidName (names_of_value v) (names_of_values vs) h))
+  names-values (more_values v vs) h = (names-value v (all_front IsValidName (names_of_value v) (names_of_values vs) h), names-values vs (all_back IsValidName (names_of_value v) (names_of_values vs) h))
 
 -- ---- members
 
@@ -98,7 +99,7 @@ fields-own : (class : Descriptor) (ms : List Member) → AllByRecursion IsValidN
 fields-own class ms h = all-turned (λ m. IsValidName (field_of_class class m)) FieldIsValid (field-own class) ms (all-made IsValidName (field_of_class class) ms h)
 
 fields-whole : (class : Descriptor) → IsClass class → (ms : List Member) → AllByRecursion FieldIsValid ms → AllByRecursion IsValidName (map (field_of_class class) ms)
-fields-whole class is ms h = all-make IsValidName (field_of_class class) ms (all-turned FieldIsValid (λ m. IsValidName (field_of_class class m)) (field-whole class is) ms h)
+fields-whole class is ms h = all_map IsValidName (field_of_class class) ms (all-turned FieldIsValid (λ m. IsValidName (field_of_class class m)) (field-whole class is) ms h)
 
 methods-own : (class : Descriptor) (ms : List Method) → AllByRecursion IsValidName (flat_map (names_of_method class) ms) → AllByRecursion MethodIsValid ms
 methods-own class ms h = all-turned (λ m. AllByRecursion IsValidName (names_of_method class m)) MethodIsValid (method-own class) ms (all-lists IsValidName (names_of_method class) ms h)
@@ -107,9 +108,9 @@ methods-whole : (class : Descriptor) → IsClass class → (ms : List Method) �
 methods-whole class is ms h = all-joined IsValidName (names_of_method class) ms (all-turned MethodIsValid (λ m. AllByRecursion IsValidName (names_of_method class m)) (method-whole class is) ms h)
 
 interfaces-whole : (ts : List Descriptor) → AllByRecursion IsClass ts → AllByRecursion IsValidName (map OfDesc ts)
-interfaces-whole ts h = all-make IsValidName OfDesc ts (all-turned IsClass IsDescriptor (λ t is. (class_is_descriptor t is).0) ts h)
+interfaces-whole ts h = all_map IsValidName OfDesc ts (all-turned IsClass IsDescriptor (λ t is. (class_is_descriptor t is).0) ts h)
 
--- the parts of the names of a class, in their order behind its type and superclass
+-- the parts of the names of a class, in their order after its type and superclass
 abbrev front_names : Class → List Name
 front_names c = if_any (λ t. OfDesc t ∷ []) c.superclass ++ map OfDesc c.interfaces ++ if_any (λ s. OfText s ∷ []) c.source
 
@@ -126,19 +127,19 @@ class-parts c h =
     let f6 = f5 ++ v6 in
     let f7 = f6 ++ v7 in
     let h8 = h.all.1 in
-    let h7 = all-front P f7 v8 h8 in
-    let h6 = all-front P f6 v7 h7 in
-    let h5 = all-front P f5 v6 h6 in
-    let h4 = all-front P f4 v5 h5 in
+    let h7 = all_front P f7 v8 h8 in
+    let h6 = all_front P f6 v7 h7 in
+    let h5 = all_front P f5 v6 h6 in
+    let h4 = all_front P f4 v5 h5 in
     record {
       class = h.class;
       superclass = h.superclass;
       interfaces = h.interfaces;
-      statics = fields-own c.ty c.statics (all-back P (front_names c) v4 h4);
-      values = all-turned (λ v. AllByRecursion P (names_of_value v)) (NamesHold P) names-value c.values (all-lists P names_of_value c.values (all-back P f4 v5 h5));
-      instances = fields-own c.ty c.instances (all-back P f5 v6 h6);
-      directs = methods-own c.ty c.directs (all-back P f6 v7 h7);
-      virtuals = methods-own c.ty c.virtuals (all-back P f7 v8 h8);
+      statics = fields-own c.ty c.statics (all_back P (front_names c) v4 h4);
+      values = all-turned (λ v. AllByRecursion P (names_of_value v)) (NamesHold P) names-value c.values (all-lists P names_of_value c.values (all_back P f4 v5 h5));
+      instances = fields-own c.ty c.instances (all_back P f5 v6 h6);
+      directs = methods-own c.ty c.directs (all_back P f6 v7 h7);
+      virtuals = methods-own c.ty c.virtuals (all_back P f7 v8 h8);
     }
 
 pub class-whole : (c : Class) → Parts c → NamesAreValid c
@@ -152,12 +153,12 @@ class-whole c p =
     let a = if_any (λ t. OfDesc t ∷ []) c.superclass in
     let b = map OfDesc c.interfaces in
     let s = if_any (λ s. OfText s ∷ []) c.source in
-    let f3 = all-both P (a ++ b) s (all-both P a b (above-whole c.superclass p.superclass) (interfaces-whole c.interfaces p.interfaces)) (source-whole c.source) in
-    let f4 = all-both P (front_names c) v4 f3 (fields-whole c.ty p.class c.statics p.statics) in
-    let f5 = all-both P (front_names c ++ v4) v5 f4 (all-joined P names_of_value c.values (all-turned (NamesHold P) (λ v. AllByRecursion P (names_of_value v)) value-names c.values p.values)) in
-    let f6 = all-both P (front_names c ++ v4 ++ v5) v6 f5 (fields-whole c.ty p.class c.instances p.instances) in
-    let f7 = all-both P (front_names c ++ v4 ++ v5 ++ v6) v7 f6 (methods-whole c.ty p.class c.directs p.directs) in
-    let f8 = all-both P (front_names c ++ v4 ++ v5 ++ v6 ++ v7) v8 f7 (methods-whole c.ty p.class c.virtuals p.virtuals) in
+    let f3 = all_append P (a ++ b) s (all_append P a b (above-whole c.superclass p.superclass) (interfaces-whole c.interfaces p.interfaces)) (source-whole c.source) in
+    let f4 = all_append P (front_names c) v4 f3 (fields-whole c.ty p.class c.statics p.statics) in
+    let f5 = all_append P (front_names c ++ v4) v5 f4 (all-joined P names_of_value c.values (all-turned (NamesHold P) (λ v. AllByRecursion P (names_of_value v)) value-names c.values p.values)) in
+    let f6 = all_append P (front_names c ++ v4 ++ v5) v6 f5 (fields-whole c.ty p.class c.instances p.instances) in
+    let f7 = all_append P (front_names c ++ v4 ++ v5 ++ v6) v7 f6 (methods-whole c.ty p.class c.directs p.directs) in
+    let f8 = all_append P (front_names c ++ v4 ++ v5 ++ v6 ++ v7) v8 f7 (methods-whole c.ty p.class c.virtuals p.virtuals) in
     record {
       all = ((class_is_descriptor c.ty p.class).0, f8);
       class = p.class;

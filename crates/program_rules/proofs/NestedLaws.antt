@@ -40,7 +40,7 @@ one-left xs i d left l h k m =
     let deep = deep-at xs i d l in
     ((λ a. let p = g.0 a in (k.0 p.0, p.1), λ p. g.1 (k.1 p.0, p.1)), omega arith)
 
--- one behind the other: what is left of what is left
+-- one after the other: what is left of what is left
 pub look-deeper : (v w : content.Value) (k : Look) → IsGood v ↔ IsGood w → depth w < depth v → IsLook w k → IsLook v k
 look-deeper v w look.Valid g l h = g.1 h
 look-deeper v w look.Invalid g l h = λ a. h (g.0 a)

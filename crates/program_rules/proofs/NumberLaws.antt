@@ -28,7 +28,7 @@ module _ (ts : List Descriptor) (n : ℕ) (key : Descriptor) (at : slice_get ts 
   last-more t (Some k) false is h = record {
     within = omega (arith, h.within);
     there = h.there;
-    none = λ j far less. none-more t (k + 1) (λ i behind near. h.none i (omega (arith, behind)) near) (λ e. true≢false (sym (is.1 e))) j (omega (arith, far)) less;
+    none = λ j far less. none-more t (k + 1) (λ i after near. h.none i (omega (arith, after)) near) (λ e. true≢false (sym (is.1 e))) j (omega (arith, far)) less;
   }
 
   -- type n stands before it too, or not
@@ -72,8 +72,8 @@ as-found ts n t found held e h = subst (λ (o : Option ℕ). MatchOption o (None
 pub none-from : (p : Program) (i : ℕ) (t : Descriptor) → NoneWithin (types p) (length p) t → NoneFrom p i t
 none-from p i t h j far there = let w = slice_get_within (types p) j t there in let l = length-map p (λ c. c.ty) in h j (omega (arith, w, l)) there
 
-pub none-behind : (p : Program) (i k : ℕ) (t : Descriptor) → IsLastWithin (types p) (length p) t k → k < i → NoneFrom p i t
-none-behind p i k t h less j far there = let w = slice_get_within (types p) j t there in let l = length-map p (λ c. c.ty) in h.none j (omega (arith, less, far)) (omega (arith, w, l)) there
+pub none-after : (p : Program) (i k : ℕ) (t : Descriptor) → IsLastWithin (types p) (length p) t k → k < i → NoneFrom p i t
+none-after p i k t h less j far there = let w = slice_get_within (types p) j t there in let l = length-map p (λ c. c.ty) in h.none j (omega (arith, less, far)) (omega (arith, w, l)) there
 
 pub last-before : (p : Program) (i k : ℕ) (t : Descriptor) → IsLastWithin (types p) (length p) t k → NoneFrom p i t → k < i
 last-before p i k t h none = elim (cases_lt k i) [
@@ -83,7 +83,7 @@ last-before p i k t h none = elim (cases_lt k i) [
 
 -- what was looked up says whether none is from number i on
 pub looked-up : (p : Program) (i : ℕ) (t : Descriptor) (k : ℕ) (held : Option ℕ) → MatchOption held (NoneWithin (types p) (length p) t) (IsLastWithin (types p) (length p) t) → Some k ≡ held → (k < i) ↔ NoneFrom p i t
-looked-up p i t k held h e = let last = subst (λ (o : Option ℕ). MatchOption o (NoneWithin (types p) (length p) t) (IsLastWithin (types p) (length p) t)) (sym e) h in (none-behind p i k t last, last-before p i k t last)
+looked-up p i t k held h e = let last = subst (λ (o : Option ℕ). MatchOption o (NoneWithin (types p) (length p) t) (IsLastWithin (types p) (length p) t)) (sym e) h in (none-after p i k t last, last-before p i k t last)
 
 pub not-found : (p : Program) (i : ℕ) (t : Descriptor) (held : Option ℕ) → MatchOption held (NoneWithin (types p) (length p) t) (IsLastWithin (types p) (length p) t) → None ≡ held → NoneFrom p i t
 not-found p i t held h e = none-from p i t (subst (λ (o : Option ℕ). MatchOption o (NoneWithin (types p) (length p) t) (IsLastWithin (types p) (length p) t)) (sym e) h)

@@ -11,10 +11,10 @@ use Rattle.program_types.specs.Content as content
 use Rattle.program_types.specs.View.{class, desc}
 use Rattle.program_types.specs.declared.class.Class.{Class}
 use Rattle.program_types.specs.declared.names.Desc.{Desc}
-use Rattle.program_ranges.proofs.AllLaws.{all-placed}
-use Rattle.program_ranges.specs.Ranges.{ClassInRange}
+use Rattle.program_rules.specs.Ranges.{ClassInRange}
 use Rattle.program_rules.specs.Rules.{ClassHolds, ClassBreaks, RuleBreaks}
 use Rattle.program_rules.specs.WellFormed.{WellFormed}
+use Rattle.base_bytes.proofs.ListFacts.{passed, all_there}
 
 -- what stands in two Somes that are one
 pub some-same : {A : Type 0} {x y : A} → Some x ≡ Some y → x ≡ y
@@ -41,10 +41,6 @@ all-step {A} P f W xs i d l h p =
 
 -- ---- the first class that breaks a rule
 
-pub passed : {T E : Type 0} (r : Result T E) (e : E) (P : E → Type 0) → IsErrAnd r (λ x. x ≡ e) → P e → IfErr r P
-passed (Ok v) e P h p = absurd h
-passed (Err x) e P h p = subst P (sym h) p
-
 -- classes before number i keep the rules, and are in range
 abbrev Kept : List content.Class → ℕ → Type 0
 Kept p n = (i : ℕ) (c : content.Class) → i < n → slice_get p i ≡ Some c → ClassHolds p i c × ClassInRange c
@@ -62,4 +58,4 @@ pub all-kept : (xs : List Class) (n : ℕ) → length xs ≤ n → Kept (map cla
 all-kept xs n l h =
     let each = λ (i : ℕ) (c : content.Class) (g : slice_get (map class xs) i ≡ Some c).
     let w = slice_get_within (map class xs) i c g in let m = length-map xs class in h i c (omega arith) g
-    in record { ranges = all-placed ClassInRange (map class xs) (λ i c g. (each i c g).1); rules = λ i c g. (each i c g).0 }
+    in record { ranges = all_there ClassInRange (map class xs) (λ i c g. (each i c g).1); rules = λ i c g. (each i c g).0 }

@@ -6,8 +6,9 @@ use Rattle.program_types.specs.Content.{OfDesc, Insn, Catch, Try}
 use Rattle.program_types.specs.View.{insn, try, code}
 use Rattle.program_types.specs.declared.code.Code.{Code}
 use Rattle.program_types.specs.Mentions.{names_of_insn, names_of_try, names_of_code}
-use Rattle.program_ranges.proofs.AllLaws.{all-front, all-back, all-both, all-lists, all-joined, all-made, all-make, all-turned}
+use Rattle.program_rules.proofs.AllLaws.{all-lists, all-joined, all-made, all-turned}
 use Rattle.program_rules.specs.Valid.{IsValidName}
+use Rattle.base_bytes.proofs.ListFacts.{all_front, all_back, all_append, all_map}
 
 -- what is asked of the names in a body, part by part
 abbrev InsnIsValid : Insn → Type 0
@@ -20,19 +21,19 @@ caught : (t : Try) → AllByRecursion IsValidName (names_of_try t) → CatchesAr
 caught t h = all-made IsValidName (λ (c : Catch). OfDesc c.ty) t.catches h
 
 catching : (t : Try) → CatchesAreValid t → AllByRecursion IsValidName (names_of_try t)
-catching t h = all-make IsValidName (λ (c : Catch). OfDesc c.ty) t.catches h
+catching t h = all_map IsValidName (λ (c : Catch). OfDesc c.ty) t.catches h
 
 pub code-parts : (c : Code) → AllByRecursion IsValidName (names_of_code (code c)) → AllByRecursion InsnIsValid (map insn c.insns.now) × AllByRecursion CatchesAreValid (map try c.tries.now)
 code-parts c h =
     let is = map insn c.insns.now in
     let ts = map try c.tries.now in (
-      all-lists IsValidName names_of_insn is (all-front IsValidName (flat_map names_of_insn is) (flat_map names_of_try ts) h),
-      all-turned (λ t. AllByRecursion IsValidName (names_of_try t)) CatchesAreValid caught ts (all-lists IsValidName names_of_try ts (all-back IsValidName (flat_map names_of_insn is) (flat_map names_of_try ts) h)),
+      all-lists IsValidName names_of_insn is (all_front IsValidName (flat_map names_of_insn is) (flat_map names_of_try ts) h),
+      all-turned (λ t. AllByRecursion IsValidName (names_of_try t)) CatchesAreValid caught ts (all-lists IsValidName names_of_try ts (all_back IsValidName (flat_map names_of_insn is) (flat_map names_of_try ts) h)),
     )
 
 pub code-whole : (c : Code) → AllByRecursion InsnIsValid (map insn c.insns.now) → AllByRecursion CatchesAreValid (map try c.tries.now) → AllByRecursion IsValidName (names_of_code (code c))
 code-whole c i t =
     let is = map insn c.insns.now in
     let ts = map try c.tries.now in
-    all-both IsValidName (flat_map names_of_insn is) (flat_map names_of_try ts) (all-joined IsValidName names_of_insn is i)
+    all_append IsValidName (flat_map names_of_insn is) (flat_map names_of_try ts) (all-joined IsValidName names_of_insn is i)
     (all-joined IsValidName names_of_try ts (all-turned CatchesAreValid (λ t. AllByRecursion IsValidName (names_of_try t)) catching ts t))

@@ -33,7 +33,7 @@ IsLook v look.Invalid = ¬ IsGood v
 IsLook v (look.One left) = (IsGood v ↔ IsGood (value left.now)) × (depth (value left.now) < depth v)
 IsLook v (look.Many left) = (IsGood v ↔ IsGood (value left.now)) × (depth (value left.now) ≤ depth v)
 
--- What is known of an array of these values behind the first i of them.
+-- What is known of an array of these values after the first i of them.
 abbrev pub IsSoFar : Value → List Held → ℕ → Look → Type 0
 IsSoFar v xs i look.Valid = AreGood (from xs 0) ↔ AreGood (from xs i)
 IsSoFar v xs i look.Invalid = ¬ AreGood (from xs 0)

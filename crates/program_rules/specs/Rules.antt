@@ -105,7 +105,7 @@ pub record ClassHolds (p : Program) (i : ℕ) (c : Class) : Type 0 where
   pub tries : CodesHold TriesHold c
   pub registers : CodesHold RegistersHold c
 
--- All classes do.
+-- All classes of the program keep all rules.
 abbrev pub RulesHold : Program → Type 0
 RulesHold p = (i : ℕ) (c : Class) → slice_get p i ≡ Some c → ClassHolds p i c
 
@@ -139,7 +139,7 @@ ClassBreaks p i c fault =
     ⊎ (ValuesFit c × CodesBreak i c fault)
     ))))))
 
--- It is that of the first class that breaks a rule.
+-- The fault is that of the first rule that is broken by the first class that breaks one.
 pub record RuleBreaks (p : Program) (e : Fault) : Type 0 where
   pub number : ℕ
   pub class : Class

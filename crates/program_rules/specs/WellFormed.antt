@@ -1,6 +1,6 @@
 -- Programs that are well formed, as `write` asks for one.
 use Rattle.program_types.specs.Content.{Program}
-use Rattle.program_ranges.specs.Ranges.{InRange}
+use Rattle.program_rules.specs.Ranges.{InRange}
 use Rattle.program_rules.specs.Rules.{RulesHold}
 
 -- A program is well formed: its numbers and units lie in the ranges of their types, and each class keeps the rules.

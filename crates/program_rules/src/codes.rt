@@ -4,15 +4,15 @@ ghost use Rattle.std.specs.Prelude.{◌↔◌, map, IfOk, IsTrue, IfSome};
 ghost use Rattle.std.specs.List.{AllByRecursion};
 ghost use Rattle.program_types.specs.View.{method, class};
 ghost use Rattle.program_rules.specs.Rules.{CodesHold};
-ghost use Rattle.program_code_rules.specs.CodeRules.{Keeps, PayloadsHold};
+ghost use Rattle.program_code_rules.specs.CodeRules.{KeepsRule, PayloadsHold};
 
 use program_code_rules::{CodeRule, code_holds, payloads_hold_in};
 use program_types::{Class, Method};
 use std::alloc::{AllocError, Global};
 
-/// Whether the method's body does, if it has one.
+/// Whether the method's body keeps the rule, if it has one.
 fn method_holds(rule: CodeRule, one: &Method<'_>) -> bool
-    ensures { IsTrue result ↔ IfSome (method one.now).code (Keeps rule) }
+    ensures { IsTrue result ↔ IfSome (method one.now).code (KeepsRule rule) }
 {
     match one.code {
         Some(body) => code_holds(rule, body),
@@ -20,9 +20,9 @@ fn method_holds(rule: CodeRule, one: &Method<'_>) -> bool
     }
 }
 
-/// Whether the bodies of all of the methods do.
+/// Whether the bodies of all of the methods keep the rule.
 fn methods_hold(rule: CodeRule, all: &[Method<'_>]) -> bool
-    ensures { IsTrue result ↔ AllByRecursion (λ m. IfSome m.code (Keeps rule)) (map method all.now) }
+    ensures { IsTrue result ↔ AllByRecursion (λ m. IfSome m.code (KeepsRule rule)) (map method all.now) }
 {
     for each in all {
         if !method_holds(rule, each) {
@@ -32,9 +32,9 @@ fn methods_hold(rule: CodeRule, all: &[Method<'_>]) -> bool
     true
 }
 
-/// Whether all bodies in the class do.
+/// Whether all bodies in the class keep the rule.
 pub(crate) fn codes_hold(rule: CodeRule, one: &Class<'_>) -> bool
-    ensures { IsTrue result ↔ CodesHold (Keeps rule) (class one.now) }
+    ensures { IsTrue result ↔ CodesHold (KeepsRule rule) (class one.now) }
 {
     if !methods_hold(rule, one.directs) {
         return false;
@@ -52,7 +52,7 @@ fn method_uses_hold(alloc: Global, one: &Method<'_>) -> Result<bool, AllocError>
     }
 }
 
-/// Whether those in the bodies of all of the methods are.
+/// Whether the payloads in the bodies of all of the methods are used as they have to be.
 fn methods_uses_hold(alloc: Global, all: &[Method<'_>]) -> Result<bool, AllocError>
     ensures { IfOk result (λ hold. IsTrue hold ↔ AllByRecursion (λ m. IfSome m.code PayloadsHold) (map method all.now)) }
 {
@@ -64,7 +64,8 @@ fn methods_uses_hold(alloc: Global, all: &[Method<'_>]) -> Result<bool, AllocErr
     Ok(true)
 }
 
-/// Whether those in all bodies in the class are, as `codes_hold` of `PayloadUse` says it.
+/// Whether the payloads in all bodies in the class are used as they have to be, as `codes_hold` of `PayloadUse` says
+/// it.
 pub(crate) fn payload_uses_hold(alloc: Global, one: &Class<'_>) -> Result<bool, AllocError>
     ensures { IfOk result (λ hold. IsTrue hold ↔ CodesHold PayloadsHold (class one.now)) }
 {

@@ -25,5 +25,5 @@ mod program;
 // What holds of the rules.
 mod laws;
 
-pub use laws::one_rule;
+pub use laws::{class_is_in_range, one_rule};
 pub use program::{well_formed, well_formed_in};

@@ -28,7 +28,7 @@ fn field_is_valid(one: &Member<'_>) -> bool
     is_value_type(one.ty)
 }
 
-/// Whether it can have all of the fields.
+/// Whether a file can have all of the fields.
 fn fields_are_valid(all: &[Member<'_>]) -> bool
     ensures { IsTrue result ↔ AllByRecursion FieldIsValid (map member all.now) }
 {
@@ -56,7 +56,7 @@ fn method_is_valid(one: &Method<'_>) -> bool
     }
 }
 
-/// Whether it can have all of the methods.
+/// Whether a file can have all of the methods.
 fn methods_are_valid(all: &[Method<'_>]) -> bool
     ensures { IsTrue result ↔ AllByRecursion MethodIsValid (map method all.now) }
 {

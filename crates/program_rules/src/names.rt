@@ -22,7 +22,7 @@ pub(crate) fn is_value_type(ty: Desc<'_>) -> bool
     !is_void(ty)
 }
 
-/// Whether they can have all of the types.
+/// Whether fields and parameters can have all of the types.
 fn are_value_types(types: &[Desc<'_>]) -> bool
     ensures { IsTrue result ↔ AllByRecursion IsValueType (map desc types.now) }
 {

@@ -22,7 +22,7 @@ enum Walked<'v, 'a> {
     Valid,
     /// There is one that it can't have.
     Invalid,
-    /// All of them but those in this value, which are left.
+    /// A file can have all of them, if it can have those in this value, which is left.
     Left(&'v Value<'a>),
 }
 
@@ -33,13 +33,13 @@ enum Look<'v, 'a> {
     Valid,
     /// There is one that it can't have.
     Invalid,
-    /// All of them but those in this value, deeper within.
+    /// A file can have all of them, if it can have those in this value, which lies deeper within.
     One(&'v Value<'a>),
     /// More than one value in this array is left.
     Many(&'v Value<'a>),
 }
 
-/// What is known of an array behind one value more in it.
+/// What is known of an array after one value more in it.
 fn joined<'v, 'a>(array: &'v Value<'a>, so_far: Look<'v, 'a>, next: Walked<'v, 'a>) -> Look<'v, 'a>
     ensures { (xs : List Held) (i : ℕ) (one : Held) → i < length xs → value array.now ≡ Array (values (map value xs)) → IsSoFar (value array.now) xs i so_far.entry → IsWalked (value (slice_index_or xs i one)) next.entry → IsSoFar (value array.now) xs (i + 1) result }
 {

@@ -87,7 +87,7 @@ fn is_first_again(numbers: &Numbers<'_>, i: usize) -> bool
     }
 }
 
-/// Whether class `i` is defined once, behind its superclass and its interfaces, each of which it gives once. All classes
+/// Whether class `i` is defined once, after its superclass and its interfaces, each of which it gives once. All classes
 /// before it are defined once.
 pub(crate) fn order_holds_in(
     alloc: Global,

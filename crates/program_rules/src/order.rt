@@ -89,7 +89,7 @@ pub(crate) fn are_distinct(types: &[Desc<'_>]) -> bool
     true
 }
 
-/// Whether class `i` is defined once, behind its superclass and its interfaces, each of which it gives once.
+/// Whether class `i` is defined once, after its superclass and its interfaces, each of which it gives once.
 pub(crate) fn order_holds(classes: &[Class<'_>], i: usize, one: &Class<'_>) -> bool
     requires inside { i < length classes.now }
     ensures { IsTrue result ↔ OrderHolds (map class classes.now) i (class one.now) }

@@ -7,18 +7,18 @@ ghost use Rattle.program_types.specs.Content as content;
 ghost use Rattle.program_types.specs.Formed.{RegistersHold};
 ghost use Rattle.program_types.specs.View.{class, desc, program};
 ghost use Rattle.program_rules.specs.Numbers.{AreNumbers, types};
-ghost use Rattle.program_ranges.specs.Ranges.{ClassInRange};
+ghost use Rattle.program_rules.specs.Ranges.{ClassInRange};
 ghost use Rattle.program_rules.specs.Rules.{ClassBreaks, ClassHolds, CodesBreak, CodesHold, OrderHolds, RuleBreaks};
 ghost use Rattle.program_rules.specs.WellFormed.{WellFormed};
 
 use crate::codes::{codes_hold, payload_uses_hold};
+use crate::laws::class_is_in_range;
 use crate::members::{members_rise, names_are_valid};
 use crate::numbers::{Numbers, numbers_of, order_holds_in};
 use crate::order::order_holds;
 use crate::values::values_fit;
 use dex_base::{Fault, fault};
 use program_code_rules::CodeRule;
-use program_ranges::class_is_in_range;
 use program_types::{Class, Desc, Program};
 use std::alloc::Global;
 
@@ -148,7 +148,7 @@ fn check_classes(alloc: Global, numbers: &Numbers<'_>, classes: &[Class<'_>]) ->
 }
 
 /// Whether a program is well formed, as `well_formed` says it. Types are looked up by hash and the users of payloads are noted in
-/// one walk, so that n classes or n switches take time that grows with n; want of memory is a refusal (255).
+/// one walk, so that n classes or n switches take time that grows with n; out of memory is a refusal (255).
 ///
 /// ```
 /// use dex_program::{Program, well_formed_in};

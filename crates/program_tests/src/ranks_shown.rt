@@ -8,7 +8,7 @@ use tables_names::Ranks;
 // More than any kind of these tests has.
 const NAMES: u32 = 100;
 
-/// A line for each kind, and each name behind a space, up to the first rank that has none.
+/// A line for each kind, and each name after a space, up to the first rank that has none.
 pub fn shown_ranks(alloc: Global, ranks: &Ranks<'_>) -> Result<String, Fault> {
     let mut text = String::new(alloc);
     put_strings(&mut text, ranks)?;

@@ -167,7 +167,7 @@ fn the_orders_of_members_and_classes_and_values_are_ruled(rt: HostRuntime) -> Re
         ("fields by name", &[Class { statics: &[FIELD, OTHER], ..EMPTY }], 0, 0),
         ("fields that fall", &[Class { statics: &[OTHER, FIELD], ..EMPTY }], fault::PROGRAM_MEMBER_ORDER, 0),
         ("a method given twice", &[Class { directs: &[METHOD, METHOD], ..EMPTY }], fault::PROGRAM_MEMBER_ORDER, 0),
-        ("a class behind its superclass", &[EMPTY, Class { superclass: Some(A), ..SECOND }], 0, 0),
+        ("a class after its superclass", &[EMPTY, Class { superclass: Some(A), ..SECOND }], 0, 0),
         ("a class before its superclass", &[Class { superclass: Some(B), ..EMPTY }, SECOND], fault::PROGRAM_CLASS_ORDER, 0),
         ("a class that is its own interface", &[EMPTY, Class { interfaces: &[B], ..SECOND }], fault::PROGRAM_CLASS_ORDER, 1),
         ("a class defined twice", &[EMPTY, EMPTY], fault::PROGRAM_CLASS_ORDER, 1),

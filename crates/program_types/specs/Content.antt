@@ -2,13 +2,18 @@
 -- Names are texts, and where a branch, a try or a handler leads to an instruction, that is its number in its code, from 0.
 -- Pages: "Dalvik Executable format", whose name of each item stands in parentheses below; for instructions "Dalvik Executable
 -- instruction formats" and "Dalvik bytecode".
-use Rattle.std.specs.Prelude.{ℕ, ℤ, Bool, List, [], ◌∷◌, Option}
+use Rattle.std.specs.Prelude.{ℕ, ℤ, ◌<◌, Bool, List, [], ◌∷◌, Option}
+use Rattle.std.specs.List.{AllByRecursion}
 
 -- ---- Names
 
 -- The UTF-16 units of a text (string_data_item).
 abbrev pub Units : Type 0
 Units = List ℕ
+
+-- UTF-16 units are numbers of 16 bits.
+abbrev pub AreUnits : Units → Type 0
+AreUnits units = AllByRecursion (λ u. u < 65536) units
 
 -- A type: the units of its descriptor (type_id_item).
 abbrev pub Descriptor : Type 0

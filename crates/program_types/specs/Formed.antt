@@ -22,6 +22,10 @@ AreAlike (Some payload.SparseSwitch) (Some payload.SparseSwitch) = ⊤
 AreAlike (Some payload.Array) (Some payload.Array) = ⊤
 AreAlike _ _ = ⊥
 
+-- what is wanted is some payload
+abbrev pub WantsPayload : Option Payload → Type 0
+WantsPayload wanted = AreAlike wanted wanted
+
 -- it is the payload of a switch
 abbrev pub IsSwitch : Option Payload → Type 0
 IsSwitch (Some payload.PackedSwitch) = ⊤
@@ -60,7 +64,7 @@ insn_branch (made.I21t op a to) = Some to
 insn_branch (made.I22t op a b to) = Some to
 insn_branch _ = None
 
--- the same, where it can't be the branch itself: all but goto/32
+-- the target of a branch that may not lead to itself: of all but goto/32
 unfoldable pub insn_short_branch : Insn → Option ℕ
 insn_short_branch (made.I30t op to) = None
 insn_short_branch i = insn_branch i
@@ -71,16 +75,28 @@ insn_targets (made.Packed first to) = to
 insn_targets (made.Sparse keys to) = to
 insn_targets _ = []
 
+-- the instructions that an instruction leads or refers to, but for the one after it
+abbrev pub insn_leads : Insn → List ℕ
+insn_leads (made.I10t op to) = to ∷ []
+insn_leads (made.I20t op to) = to ∷ []
+insn_leads (made.I30t op to) = to ∷ []
+insn_leads (made.I21t op a to) = to ∷ []
+insn_leads (made.I31t op a to) = to ∷ []
+insn_leads (made.I22t op a b to) = to ∷ []
+insn_leads (made.Packed first targets) = targets
+insn_leads (made.Sparse keys targets) = targets
+insn_leads _ = []
+
 -- ---- the rules of one instruction
 
 -- Instruction j refers to payload k, which is of its kind.
-pub record Refers (is : List Insn) (j k : ℕ) : Type 0 where
+pub record RefersToPayload (is : List Insn) (j k : ℕ) : Type 0 where
   pub there : j < length is
   pub payload : k < length is
   pub kind : AreAlike (insn_wants (insn_at is j)) (insn_payload (insn_at is k))
   pub leads : insn_reach (insn_at is j) ≡ k
 
--- It is the number of an instruction that is no payload.
+-- `to` is the number of an instruction that is no payload.
 pub record IsTarget (is : List Insn) (to : ℕ) : Type 0 where
   pub inside : to < length is
   pub plain : insn_payload (insn_at is to) ≡ None
@@ -93,8 +109,8 @@ pub record TargetHolds (is : List Insn) (k : ℕ) : Type 0 where
 
 -- What instruction k refers to is a payload of its kind, and a switch's payload has one switch.
 pub record PayloadHolds (is : List Insn) (k : ℕ) : Type 0 where
-  pub refers : AreAlike (insn_wants (insn_at is k)) (insn_wants (insn_at is k)) → Refers is k (insn_reach (insn_at is k))
-  pub used : IsSwitch (insn_payload (insn_at is k)) → (by : ℕ) × Refers is by k × ((i : ℕ) → Refers is i k → i ≡ by)
+  pub refers : WantsPayload (insn_wants (insn_at is k)) → RefersToPayload is k (insn_reach (insn_at is k))
+  pub used : IsSwitch (insn_payload (insn_at is k)) → (by : ℕ) × RefersToPayload is by k × ((i : ℕ) → RefersToPayload is i k → i ≡ by)
 
 -- ---- the rules of tries
 
@@ -107,7 +123,7 @@ try_at ts i = slice_index_or ts i (record { from = 0; to = 0; catches = []; catc
 pub record TryFormed (count : ℕ) (ts : List Try) (i : ℕ) : Type 0 where
   pub some : (try_at ts i).from < (try_at ts i).to
   pub within : (try_at ts i).to ≤ count
-  pub behind : (j : ℕ) → j + 1 ≡ i → (try_at ts j).to ≤ (try_at ts i).from
+  pub after : (j : ℕ) → j + 1 ≡ i → (try_at ts j).to ≤ (try_at ts i).from
   pub places : AllByRecursion (λ c. c.at < count) (try_at ts i).catches
   pub last : IfSome (try_at ts i).catch_all (λ k. k < count)
   pub handled : IfNone (try_at ts i).catch_all ((try_at ts i).catches ≢ [])

@@ -11,20 +11,20 @@ use Rattle.program_types.specs.declared.names.FieldRef.{FieldRef}
 use Rattle.program_types.specs.declared.names.MethodRef.{MethodRef}
 
 -- the four units from a place on as one number, the first in the lowest bits
-abbrev pub word : List ℕ → ℕ → ℕ
-word us at =
+abbrev pub packed_word : List ℕ → ℕ → ℕ
+packed_word us at =
     slice_index us at + slice_index us (at + 1) * 65536 + slice_index us (at + 2) * 4294967296 + slice_index us (at + 3) * 281474976710656
 
 -- so many of these numbers
 abbrev pub words : List ℕ → ℕ → List (List ℕ)
 words us zero = []
-words us (suc k) = words us k ++ fed.u64 (word us (4 * k))
+words us (suc k) = words us k ++ fed.u64 (packed_word us (4 * k))
 
 -- all that is fed
 abbrev pub units_input : List ℕ → List (List ℕ)
 units_input us = fed.usize (length us) ++ words us (length us / 4) ++ flat_map fed.u16 (drop (length us / 4 * 4) us)
 
--- the same for a string in memory
+-- all that is fed of a string in memory
 abbrev pub str_input : Str → List (List ℕ)
 str_input s = units_input s.units.now
 
@@ -34,7 +34,7 @@ abbrev pub part_input : List ℕ → List (List ℕ)
 part_input us =
     if nat_lt (length us) 16
     then units_input us
-    else (fed.usize (length us) ++ fed.u64 (word us (length us / 2)) ++ fed.u64 (word us (length us - length us / 4)) ++ fed.u64 (word us (length us - 4)))
+    else (fed.usize (length us) ++ fed.u64 (packed_word us (length us / 2)) ++ fed.u64 (packed_word us (length us - length us / 4)) ++ fed.u64 (packed_word us (length us - 4)))
 
 -- a field: its class, its name and its type
 abbrev pub field_input : FieldRef → List (List ℕ)

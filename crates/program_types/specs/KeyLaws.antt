@@ -55,7 +55,7 @@ module _ (R : Desc → Desc → Ordering) (same : (d e : Desc) → R d e ≡ uni
 abbrev pub derived_field_ref_cmp : FieldRef → FieldRef → Ordering
 derived_field_ref_cmp x y = ordering_then (units_cmp (desc x.class) (desc y.class)) (ordering_then (units_cmp (str x.name) (str y.name)) (units_cmp (desc x.ty) (desc y.ty)))
 
--- It is the order of the keys.
+-- The derived comparison of fields is the order of their keys.
 pub field_ref_cmp : (x y : FieldRef) → derived_field_ref_cmp x y ≡ key_cmp (field_ref_key (field_ref x)) (field_ref_key (field_ref y))
 field_ref_cmp x y =
     λ i. ordering_then (units_cmp (desc x.class) (desc y.class)) (ordering_then (units_cmp (str x.name) (str y.name)) (ordering_then-equal (units_cmp (desc x.ty) (desc y.ty)) i))

@@ -1,6 +1,6 @@
 -- What a type is asked to be where it is used, and the kinds of names.
 -- Page: "Dalvik Executable format", "String syntax": TypeDescriptor; string_ids, type_ids, field_ids and method_ids.
-use Rattle.std.specs.Prelude.{codes, ⊤}
+use Rattle.std.specs.Prelude.{ℕ, codes, ⊤}
 use Rattle.dex_insn.specs.declared.opcode.IndexKind.{IndexKind}
 use Rattle.dex_insn.specs.declared.opcode.IndexKind.TheVariants as kind
 use Rattle.program_types.specs.Content.{Units, Name, OfText, OfDesc, OfField, OfMethod}
@@ -16,3 +16,7 @@ IsOfKind kind.Type (OfDesc t) = ⊤
 IsOfKind kind.Field (OfField f) = ⊤
 IsOfKind kind.Method (OfMethod m) = ⊤
 IsOfKind _ _ = ⊥
+
+-- The name has an index, where N says which index stands for which name.
+abbrev pub HasIndex : (ℕ → Name → Type 0) → Name → Type 0
+HasIndex N which = (i : ℕ) × N i which

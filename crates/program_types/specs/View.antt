@@ -78,7 +78,7 @@ value = fold-Value content.Value value_step
 
 -- ---- Instructions
 
--- The same variant, with what its index names and where it branches to.
+-- An instruction's content: the same variant, with what its index names and where it branches to.
 abbrev pub insn : Insn → content.Insn
 insn (made.I10x op) = content.I10x op
 insn (made.I12x op a b) = content.I12x op a b

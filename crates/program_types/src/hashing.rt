@@ -5,7 +5,7 @@
 //! units alone would not: thousands of classes end as `$Builder;`, and each has a `build`.
 ghost use Rattle.std.specs.Prelude.{◌≡◌, ◌+◌, ◌/◌, ◌<◌, ◌≤◌, length};
 ghost use Rattle.std.specs.List.{fold, flat_map};
-ghost use Rattle.program_types.specs.Hashing.{word, words, units_input, part_input};
+ghost use Rattle.program_types.specs.Hashing.{packed_word, words, units_input, part_input};
 
 use crate::names::{Desc, FieldRef, MethodRef, Str};
 use std::hash::{Hash, Hasher};
@@ -16,7 +16,7 @@ const PART: usize = 16;
 // Four units as one number.
 fn word_at(units: &[u16], at: usize) -> u64
     requires { at + 4 ≤ length units.now }
-    ensures { result ≡ word units.now at }
+    ensures { result ≡ packed_word units.now at }
 {
     u64::from(units[at])
         + u64::from(units[at + 1]) * 65536
@@ -33,7 +33,7 @@ fn hash_words<H: Hasher>(units: &[u16], state: &mut H)
     }
 }
 
-// All units of a string, behind their number.
+// All units of a string, after their number.
 fn hash_units<H: Hasher>(units: &[u16], state: &mut H)
     ensures { state.new ≡ fold H.write state.old (units_input units.now) }
 {

@@ -9,7 +9,7 @@ use bumpalo::Bump;
 use bumpalo::collections::into_bump_slice;
 use dex_base::Fault;
 
-/// A string of these units, copied into the arena. Refused only for want of memory.
+/// A string of these units, copied into the arena. Fails only when out of memory.
 pub fn place_str<'a>(arena: &'a Bump, units: &[u16]) -> Result<Str<'a>, Fault>
     ensures ok { IfOk result (λ placed. str placed ≡ units.now) }
     ensures err { IsOkUnless result memory }
@@ -19,7 +19,7 @@ pub fn place_str<'a>(arena: &'a Bump, units: &[u16]) -> Result<Str<'a>, Fault>
     })
 }
 
-/// The types at these rows of a table, in the arena. Their texts are shared with the table. Refused only for want of memory.
+/// The types at these rows of a table, in the arena. Their texts are shared with the table. Fails only when out of memory.
 pub fn place_descs<'a>(
     arena: &'a Bump,
     table: &[Desc<'a>],
@@ -37,7 +37,7 @@ pub fn place_descs<'a>(
     Ok(into_bump_slice(found))
 }
 
-/// The prototype of these types, in the arena. Refused only for want of memory.
+/// The prototype of these types, in the arena. Fails only when out of memory.
 pub fn place_proto<'a>(
     arena: &'a Bump,
     ret: Desc<'a>,

@@ -33,7 +33,7 @@ pub fn letter(ty: Desc<'_>) -> u16
 }
 
 /// The shorty of a return type and parameters, in the arena: a letter for each, `L` for classes and arrays and else the
-/// descriptor itself. So the shorty of `(I[JLA;)V` is `VILL`. Refused only for want of memory.
+/// descriptor itself. So the shorty of `(I[JLA;)V` is `VILL`. Fails only when out of memory.
 ///
 /// ```
 /// use bumpalo::Bump;

@@ -24,8 +24,8 @@ pub enum Value<'a> {
     Bool(bool),
 }
 
-// A word, and what stands behind it.
-fn write_behind<W: fmt::Write, D: fmt::Display>(
+// A word, and what stands after it.
+fn write_after<W: fmt::Write, D: fmt::Display>(
     f: &mut fmt::Formatter<W>,
     word: &str,
     shown: &D,
@@ -36,18 +36,18 @@ fn write_behind<W: fmt::Write, D: fmt::Display>(
 // A value, of an array its word alone.
 fn write_front<W: fmt::Write>(f: &mut fmt::Formatter<W>, one: &Value<'_>) -> fmt::Result {
     match one {
-        Value::Byte(n) => write_behind(f, "byte", n),
-        Value::Short(n) => write_behind(f, "short", n),
-        Value::Char(unit) => write_behind(f, "char", unit),
-        Value::Int(n) => write_behind(f, "int", n),
-        Value::Long(n) => write_behind(f, "long", n),
+        Value::Byte(n) => write_after(f, "byte", n),
+        Value::Short(n) => write_after(f, "short", n),
+        Value::Char(unit) => write_after(f, "char", unit),
+        Value::Int(n) => write_after(f, "int", n),
+        Value::Long(n) => write_after(f, "long", n),
         Value::Float(bits) => write!(f, "float {bits:08x}"),
         Value::Double(bits) => write!(f, "double {bits:016x}"),
-        Value::Text(text) => write_behind(f, "string", text),
-        Value::Desc(ty) => write_behind(f, "type", ty),
-        Value::Field(field) => write_behind(f, "field", field),
-        Value::Method(method) => write_behind(f, "method", method),
-        Value::Enum(field) => write_behind(f, "enum", field),
+        Value::Text(text) => write_after(f, "string", text),
+        Value::Desc(ty) => write_after(f, "type", ty),
+        Value::Field(field) => write_after(f, "field", field),
+        Value::Method(method) => write_after(f, "method", method),
+        Value::Enum(field) => write_after(f, "enum", field),
         Value::Array(_) => f.write_str("array"),
         Value::Null => f.write_str("null"),
         Value::Bool(truth) => fmt::Display::fmt(truth, f),

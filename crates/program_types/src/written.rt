@@ -57,7 +57,7 @@ impl fmt::Display for Str<'_> {
     }
 }
 
-/// Its descriptor.
+/// A type is written as its descriptor.
 impl fmt::Display for Desc<'_> {
     ghost output = { λ d. Some (name_text (desc d)) };
 

@@ -37,11 +37,11 @@ use Rattle.tables_laws.specs.FileNames.{five_of, TablesHaveNames, NamesRise, Nam
 -- ---- rows and their keys
 
 -- the key of a row
-key_at : {V : Type 0} (key : V → Key) (names : List V) (i : ℕ) (v : V) → slice_get names i ≡ Some v → IsAt (map key names) i (key v)
+pub key_at : {V : Type 0} (key : V → Key) (names : List V) (i : ℕ) (v : V) → slice_get names i ≡ Some v → IsAt (map key names) i (key v)
 key_at key names i v e = slice_get-map key names i ∙ ap (option_map key) e
 
 -- the row of a key
-row_of : {V : Type 0} (key : V → Key) (names : List V) (i : ℕ) (k : Key) → IsAt (map key names) i k → (v : V) × (slice_get names i ≡ Some v) × (k ≡ key v)
+pub row_of : {V : Type 0} (key : V → Key) (names : List V) (i : ℕ) (k : Key) → IsAt (map key names) i k → (v : V) × (slice_get names i ≡ Some v) × (k ≡ key v)
 row_of key [] i k e = absurd cc
 row_of key (v ∷ vs) zero k e = let same : k ≡ key v = cc in (v, refl, same)
 row_of key (v ∷ vs) (suc i) k e = row_of key vs i k e
@@ -369,7 +369,7 @@ needed_has_rows b p framed hold rows =
 
 -- ---- a name has one row
 
-one_place : (table : List Key) (i j : ℕ) (k : Key) → Rising table → IsAt table i k → IsAt table j k → i ≡ j
+pub one_place : (table : List Key) (i j : ℕ) (k : Key) → Rising table → IsAt table i k → IsAt table j k → i ≡ j
 one_place table i j k up at_i at_j = sym (rank_at table i k up at_i) ∙ rank_at table j k up at_j
 
 module _ (b : List ℕ) (framed : IsFramed b) (hold : TablesHold b) (i j : ℕ) where

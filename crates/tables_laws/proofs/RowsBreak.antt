@@ -9,7 +9,7 @@ use Rattle.dex_container.specs.Frame.{IsFramed}
 use Rattle.dex_container.specs.Layout.{size_of}
 use Rattle.program_types.specs.Content.{Units, Proto, FieldRef, MethodRef}
 use Rattle.program_types.specs.Shorty.{shorty}
-use Rattle.tables_rows.specs.RowFields.{row_place, string_place, type_string, proto_shorty, proto_return, proto_parameters, member_class, member_kind, member_name, member_key}
+use Rattle.tables_rows.specs.RowFields.{row_place, string_place, type_string, proto_shorty, proto_return, proto_parameters, member_class, member_kind, member_name, member_indices}
 use Rattle.tables_rows.specs.Sorted.{IsBelow, RowRises, StringIsBelow, TypeIsBelow, ProtoIsBelow, MemberIsBelow, StringHolds, TypeHolds, ProtoHolds, FieldHolds, MethodHolds, RowsHold, StringsHold, TypesHold, ProtosHold, TablesHold}
 use Rattle.program_types.specs.Kinds.{void}
 use Rattle.tables_rows.specs.Stands.{TypeStands, ProtoStands, FieldStands, MethodStands}
@@ -140,7 +140,7 @@ module _ (b : List ℕ) (framed : IsFramed b) (i : ℕ) where
                 | inr value ↦ elim (decide_member n.name) [
                   | inl named ↦
                       let stands : FieldStands b i f = record { row = lt; class = c.stands; ty = t.stands; name = n.stands; of_class = is_class; value = value; named = named } in
-                      elim (decide_rises (MemberIsBelow 3) b i (λ j. decide_less (slice_cmp nat_cmp (member_key b 3 j) (member_key b 3 i)))) [
+                      elim (decide_rises (MemberIsBelow 3) b i (λ j. decide_less (slice_cmp nat_cmp (member_indices b 3 j) (member_indices b 3 i)))) [
                         | inl up ↦ inl (record { name = f; stands = stands; rises = up })
                         | inr down ↦ inr (32, FieldOrder (record { name = f; stands = stands; falls = down }))
                       ]
@@ -170,7 +170,7 @@ module _ (b : List ℕ) (framed : IsFramed b) (i : ℕ) where
               | inl of_class ↦ elim (decide_member n.name) [
                 | inl named ↦
                     let stands : MethodStands b i m = record { row = lt; class = c.stands; proto = p.stands; name = n.stands; of_class = of_class; named = named } in
-                    elim (decide_rises (MemberIsBelow 4) b i (λ j. decide_less (slice_cmp nat_cmp (member_key b 4 j) (member_key b 4 i)))) [
+                    elim (decide_rises (MemberIsBelow 4) b i (λ j. decide_less (slice_cmp nat_cmp (member_indices b 4 j) (member_indices b 4 i)))) [
                       | inl up ↦ inl (record { name = m; stands = stands; rises = up })
                       | inr down ↦ inr (35, MethodOrder (record { name = m; stands = stands; falls = down }))
                     ]

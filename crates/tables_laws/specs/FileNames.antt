@@ -62,7 +62,7 @@ pub record AreNoShorter (b : List ℕ) (s : Five) : Type 0 where
 abbrev pub FilesHoldNeeded : Type 0
 FilesHoldNeeded = (b : List ℕ) (names : Names) (p : Program) → IsFramed b → AreNamesOf b names → IsMentionedIn p b → IsPart (needed p) (five_of names)
 
--- So its tables are no shorter than what is needed.
+-- The tables of a file that has a row for each name that a program mentions are no shorter than what the program needs.
 abbrev pub FilesAreNoShorter : Type 0
 FilesAreNoShorter = (b : List ℕ) (p : Program) → IsFramed b → TablesHold b → IsMentionedIn p b → AreNoShorter b (needed p)
 
@@ -71,6 +71,6 @@ pub record HaveRowsIn (b : List ℕ) (s : Five) : Type 0 where
   pub names : (name : Name) → Holds s name → HasRow b name
   pub protos : (p : Proto) → is_member s.protos (proto_key p) ≡ true → (i : ℕ) × ProtoStands b i p
 
--- Such a file has a row for each name that the program needs.
+-- A file that has a row for each name that a program mentions has one for each name that the program needs.
 abbrev pub NeededHasRows : Type 0
 NeededHasRows = (b : List ℕ) (p : Program) → IsFramed b → TablesHold b → IsMentionedIn p b → HaveRowsIn b (needed p)

@@ -71,7 +71,7 @@ pub fn names_rise()
     ensures { NamesRise }
 {}
 
-/// With each name its parts are in the tables.
+/// With each name in a file's tables its parts are there too.
 pub fn names_are_closed()
     ensures { NamesAreClosed }
 {}
@@ -81,7 +81,8 @@ pub fn files_hold_needed()
     ensures { FilesHoldNeeded }
 {}
 
-/// Its tables are no shorter than what is needed.
+/// The tables of a file that has a row for each name that a program mentions are no shorter than what the program
+/// needs.
 pub fn files_are_no_shorter()
     ensures { FilesAreNoShorter }
 {}
@@ -101,7 +102,7 @@ pub fn clear_rows_hold()
     ensures method { (b : List ℕ) → IsFramed b → (i : ℕ) → StringsHold b → TypesHold b → ProtosHold b → i < size_of b section.method_ids → ((code : ℕ) → ¬ MethodBreaks b i code) → MethodHolds b i }
 {}
 
-/// Such a file has a row for each name that the program needs.
+/// A file that has a row for each name that a program mentions has one for each name that the program needs.
 pub fn needed_has_rows()
     ensures { NeededHasRows }
 {}

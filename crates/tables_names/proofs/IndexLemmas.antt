@@ -16,10 +16,11 @@ use Rattle.tables_names.specs.Closure.{Five, NameRanks, Holds, proto_closure}
 use Rattle.program_types.specs.Mentions.{mentions}
 use Rattle.tables_names.specs.Needed.{needed}
 use Rattle.tables_names.specs.Indices.{HasPlace, AreIndices, ClosedHaveRows, RisingTablesRise, LookUpsAnswer, MentionsHaveIndices}
-use Rattle.tables_names.proofs.SubsetLemmas.{member_here, or_right}
+use Rattle.tables_names.proofs.SubsetLemmas.{member_here}
 use Rattle.tables_names.proofs.RowLemmas.{keys_compare_as_places}
 use Rattle.tables_names.proofs.PlaceLemmas.{member_at, place_of, rank_at, index_none}
 use Rattle.tables_names.proofs.NeededLemmas.{needed_is_least}
+use Rattle.base_bytes.proofs.ListFacts.{or_right_2}
 
 -- ---- look-ups
 
@@ -35,7 +36,7 @@ first_place : (k : Key) (ks table : List Key) → IsSubset (k ∷ ks) table → 
 first_place k ks table part = place_of table k (part.each k (member_here k ks))
 
 others : (k : Key) (ks table : List Key) → IsSubset (k ∷ ks) table → IsSubset ks table
-others k ks table part = record { each = λ j h. part.each j (or_right (eq_by_cmp key_cmp j k) (is_member ks j) h) }
+others k ks table part = record { each = λ j h. part.each j (or_right_2 (eq_by_cmp key_cmp j k) (is_member ks j) h) }
 
 -- texts that a table has, have indices
 indices_of : (table : List Key) (texts : List Units) → IsSubset (map text_key texts) table → (row : List ℕ) × AreIndices table row texts
@@ -88,7 +89,7 @@ texts_by_index table up xs [] ts (u ∷ us) a b = absurd b
 texts_by_index table up xs (y ∷ ys) ts [] a b = absurd b
 
 -- numbers that compare as less are
-less_than : (i j : ℕ) → nat_cmp i j ≡ Less → i < j
+pub less_than : (i j : ℕ) → nat_cmp i j ≡ Less → i < j
 less_than i j less =
     ⊎_elim
     (λ (lt : i < j). lt)

@@ -120,7 +120,7 @@ unfolding with_name
 holds_with s name = holds_part (closure_of name) (join s (closure_of name)) name (IsPart-right s (closure_of name)) (holds_itself name)
 
 -- a closed set that holds a name holds its closure
-closure_part : (t : Five) (name : Name) → IsClosed t → Holds t name → IsPart (closure_of name) t
+pub closure_part : (t : Five) (name : Name) → IsClosed t → Holds t name → IsPart (closure_of name) t
 closure_part t (OfText x) f h =
     record { strings = sub.IsSubset-one (text_key x) t.strings h; types = sub.IsSubset-nil t.types; protos = sub.IsSubset-nil t.protos; fields = sub.IsSubset-nil t.fields; methods = sub.IsSubset-nil t.methods }
 closure_part t (OfDesc x) f h = f.of_types (text_key x) h

@@ -6,7 +6,7 @@ use Rattle.program_types.specs.Key.{Key, text_key}
 use Rattle.program_types.specs.KeyLaws.{key_cmp-total, key_cmp-same}
 use Rattle.tables_names.specs.Rank.{insert_key, is_member, IsAt}
 use Rattle.tables_names.specs.Closure.{Five, AreRising, IsPart, type_closure, proto_closure, field_closure, method_closure}
-use Rattle.tables_names.specs.Numbers.{TypeAt, ProtoAt, FieldAt, MethodAt, Order, set_of, sets, IsNumbered, with_last, Grows, AllGrow, RanksOf, FieldLeads, MethodLeads}
+use Rattle.tables_names.specs.Numbers.{TypeAt, ProtoAt, FieldAt, MethodAt, Order, set_of, sets, InOrderOfNeed, with_last, Grows, AllGrow, RanksOf, FieldLeads, MethodLeads}
 use Rattle.tables_names.specs.declared.parts.TypeParts.{TypeParts}
 use Rattle.tables_names.specs.declared.parts.ProtoParts.{ProtoParts}
 use Rattle.tables_names.specs.declared.parts.FieldParts.{FieldParts}
@@ -14,14 +14,9 @@ use Rattle.tables_names.specs.declared.parts.MethodParts.{MethodParts}
 use Rattle.tables_names.proofs.RisingLemmas.{insert_key-member}
 use Rattle.tables_names.proofs.UnionLemmas.{rising-add_all, is_member-add_all, rising-none}
 use Rattle.tables_names.proofs.FiveLemmas.{closed-strings, closed-types, closed-protos, closed-fields, closed-methods}
+use Rattle.base_bytes.proofs.ListFacts.{slice_left}
 
 -- ---- lists
-
--- what has a place keeps it
-pub at_before : {A : Type 0} (xs ys : List A) (i : ℕ) (x : A) → slice_get xs i ≡ Some x → slice_get (xs ++ ys) i ≡ Some x
-at_before [] ys i x e = absurd (cc e)
-at_before (y ∷ xs) ys zero x e = e
-at_before (y ∷ xs) ys (suc i) x e = at_before xs ys i x e
 
 module _ {A B : Type 0} where
   pub zip_push : (R : A → B → Type 0) (xs : List A) (ys : List B) (x : A) (y : B) → AllZip R xs ys → R x y → AllZip R (xs ++ x ∷ []) (ys ++ y ∷ [])
@@ -73,7 +68,7 @@ pub Grows-refl : (ks : List Key) → Grows ks ks
 Grows-refl ks = record { each = λ i k e. e }
 
 pub Grows-pushed : (ks : List Key) (k : Key) → Grows ks (ks ++ k ∷ [])
-Grows-pushed ks k = record { each = λ i q e. at_before ks (k ∷ []) i q e }
+Grows-pushed ks k = record { each = λ i q e. slice_left ks (k ∷ []) i q e }
 
 pub Grows-trans : (ks js ls : List Key) → Grows ks js → Grows js ls → Grows ks ls
 Grows-trans ks js ls f g = record { each = λ i k e. g.each i k (f.each i k e) }
@@ -118,12 +113,12 @@ methods_stay types types' strings strings' protos protos' f g h (class ∷ name 
 methods_stay types types' strings strings' protos protos' f g h (class ∷ name ∷ ret ∷ params) p at =
     (f.each p.class (text_key class) at.0, g.each p.name (text_key name) at.1, h.each p.proto (ret ∷ params) at.2)
 
-module _ (o : Order) (is : IsNumbered o) (k : Key) where
+module _ (o : Order) (is : InOrderOfNeed o) (k : Key) where
   abbrev s : Five
   s = o.names
 
   -- one more string
-  pub numbered-strings : IsNumbered (record o { names = record o.names { strings = with_last o.names.strings k } })
+  pub numbered-strings : InOrderOfNeed (record o { names = record o.names { strings = with_last o.names.strings k } })
   numbered-strings =
       let strings = with_last s.strings k in
       let g = Grows-with_last s.strings k in
@@ -139,7 +134,7 @@ module _ (o : Order) (is : IsNumbered o) (k : Key) where
       }
 
   -- one more type, with its text
-  pub numbered-types : (p : TypeParts) → TypeAt s.strings k p → IsPart (type_closure k) (record (sets s) { types = insert_key (set_of s.types) k }) → IsNumbered (record o { names = record o.names { types = o.names.types ++ k ∷ [] }; types = o.types ++ p ∷ [] })
+  pub numbered-types : (p : TypeParts) → TypeAt s.strings k p → IsPart (type_closure k) (record (sets s) { types = insert_key (set_of s.types) k }) → InOrderOfNeed (record o { names = record o.names { types = o.names.types ++ k ∷ [] }; types = o.types ++ p ∷ [] })
   numbered-types p at there =
       let types = s.types ++ k ∷ [] in
       let g = Grows-pushed s.types k in
@@ -155,7 +150,7 @@ module _ (o : Order) (is : IsNumbered o) (k : Key) where
       }
 
   -- one more prototype, with its return type
-  pub numbered-protos : (p : ProtoParts) → ProtoAt s.types k p → IsPart (proto_closure k) (record (sets s) { protos = insert_key (set_of s.protos) k }) → IsNumbered (record o { names = record o.names { protos = o.names.protos ++ k ∷ [] }; protos = o.protos ++ p ∷ [] })
+  pub numbered-protos : (p : ProtoParts) → ProtoAt s.types k p → IsPart (proto_closure k) (record (sets s) { protos = insert_key (set_of s.protos) k }) → InOrderOfNeed (record o { names = record o.names { protos = o.names.protos ++ k ∷ [] }; protos = o.protos ++ p ∷ [] })
   numbered-protos p at there =
       let protos = s.protos ++ k ∷ [] in
       let g = Grows-pushed s.protos k in
@@ -170,7 +165,7 @@ module _ (o : Order) (is : IsNumbered o) (k : Key) where
       }
 
   -- one more field, with its parts
-  pub numbered-fields : (p : FieldParts) → FieldAt s.types s.strings k p → IsPart (field_closure k) (record (sets s) { fields = insert_key (set_of s.fields) k }) → IsNumbered (record o { names = record o.names { fields = o.names.fields ++ k ∷ [] }; fields = o.fields ++ p ∷ [] })
+  pub numbered-fields : (p : FieldParts) → FieldAt s.types s.strings k p → IsPart (field_closure k) (record (sets s) { fields = insert_key (set_of s.fields) k }) → InOrderOfNeed (record o { names = record o.names { fields = o.names.fields ++ k ∷ [] }; fields = o.fields ++ p ∷ [] })
   numbered-fields p at there =
       record {
         closed = rw set_pushed (closed-fields (sets s) is.closed k there);
@@ -183,7 +178,7 @@ module _ (o : Order) (is : IsNumbered o) (k : Key) where
       }
 
   -- one more method, with its parts
-  pub numbered-methods : (p : MethodParts) → MethodAt s.types s.strings s.protos k p → IsPart (method_closure k) (record (sets s) { methods = insert_key (set_of s.methods) k }) → IsNumbered (record o { names = record o.names { methods = o.names.methods ++ k ∷ [] }; methods = o.methods ++ p ∷ [] })
+  pub numbered-methods : (p : MethodParts) → MethodAt s.types s.strings s.protos k p → IsPart (method_closure k) (record (sets s) { methods = insert_key (set_of s.methods) k }) → InOrderOfNeed (record o { names = record o.names { methods = o.names.methods ++ k ∷ [] }; methods = o.methods ++ p ∷ [] })
   numbered-methods p at there =
       record {
         closed = rw set_pushed (closed-methods (sets s) is.closed k there);

@@ -5,7 +5,7 @@ use Rattle.tables_names.specs.Rank.{insert_key, is_member, add_all, IsAt}
 use Rattle.std.proofs.lemmas.List.{map-append, map_more}
 use Rattle.std.proofs.lemmas.List.Sums.{fold_push}
 use Rattle.tables_names.specs.Closure.{Five, IsPart, join, proto_parts, type_closure, string_closure, proto_closure, field_closure, method_closure}
-use Rattle.tables_names.specs.Numbers.{Order, set_of, sets, IsNumbered}
+use Rattle.tables_names.specs.Numbers.{Order, set_of, sets, InOrderOfNeed}
 use Rattle.tables_names.specs.declared.numbered.Numbered.TheInside.{Inside}
 use Rattle.tables_names.proofs.PlaceLemmas.{member_at}
 use Rattle.tables_names.proofs.FiveLemmas.{part_adds_nothing, parts_of_proto, field_parts, method_parts, IsPart-right}
@@ -27,7 +27,7 @@ pub still_absent : (old new : List Key) (k : Key) → set_of new ≡ set_of old 
 still_absent old new k same absent = sym (member_of_set new k) ∙ ap (λ l. is_member l k) same ∙ member_of_set old k ∙ absent
 
 -- what is there comes with its parts
-module _ (o : Order) (is : IsNumbered o) (k : Key) where
+module _ (o : Order) (is : InOrderOfNeed o) (k : Key) where
   held : (ks : List Key) → is_member ks k ≡ true → is_member (set_of ks) k ≡ true
   held ks h = member_of_set ks k ∙ h
 
@@ -44,10 +44,10 @@ module _ (o : Order) (is : IsNumbered o) (k : Key) where
   method_is_there h = part_adds_nothing (sets o.names) (method_closure k) (sets_rise o.names) (is.closed.of_methods k (held o.names.methods h))
 
 -- so does a class that has a number
-pub class_is_held : (o now : Order) → o ≡ now → IsNumbered o → (k : Key) (n : ℕ) → IsAt now.names.types n k → sets now.names ≡ join (sets now.names) (type_closure k)
-class_is_held o now same is k n at = type_is_there now (subst IsNumbered same is) k n at
+pub class_is_held : (o now : Order) → o ≡ now → InOrderOfNeed o → (k : Key) (n : ℕ) → IsAt now.names.types n k → sets now.names ≡ join (sets now.names) (type_closure k)
+class_is_held o now same is k n at = type_is_there now (subst InOrderOfNeed same is) k n at
 
--- a name behind its parts is added with all of them
+-- a name after its parts is added with all of them
 module _ (S : Five) (o : Order) where
   module _ (k : Key) where
     pub type_added : sets o.names ≡ join S (string_closure k) → record (sets o.names) { types = insert_key (set_of o.names.types) k } ≡ join S (type_closure k)

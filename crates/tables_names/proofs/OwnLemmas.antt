@@ -16,14 +16,11 @@ use Rattle.tables_names.proofs.HeldLemmas.{searched_key}
 use Rattle.tables_names.proofs.NumberLemmas.{zip_get, zip_length}
 use Rattle.tables_names.proofs.PlaceLemmas.{member_at, place_of}
 use Rattle.tables_names.proofs.SortingLemmas.{field_cmp, field_ranks_cmp, method_cmp, method_ranks_cmp}
+use Rattle.base_bytes.proofs.ListFacts.{by_truth}
 
 map_same : (xs : List Key) → map (λ q. q) xs ≡ xs
 map_same [] = refl
 map_same (x ∷ xs) = ap (λ l. x ∷ l) (map_same xs)
-
-false_if : (b : Bool) → (b ≡ true → ⊥) → b ≡ false
-false_if true f = absurd (f refl)
-false_if false f = refl
 
 -- ---- rows that compare as the names beside them do
 
@@ -64,7 +61,7 @@ module _ {P : Type 0} (At : Key → P → Type 0) (ord : P → Ordering) (k : Ke
 module _ {P : Type 0} (At : Key → P → Type 0) (k : Key) (p : P) (names : List Key) (rows : List P) (all : AllZip At names rows) (table : List Key) (part : Key) (is_part : (q : P) → At k q → (i : ℕ) × IsAt table i part) where
   part_missing : is_member table part ≡ false → is_member names k ≡ false
   part_missing missing =
-      false_if (is_member names k)
+      by_truth (is_member names k)
       (λ h.
       let at = place_of names k h in
       let there = is_part (get_or rows at.0 p) (zip_get At names rows at.0 k p all at.1) in

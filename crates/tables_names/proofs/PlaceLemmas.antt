@@ -5,7 +5,7 @@ use Rattle.std.specs.Prelude.{IfSome, IfNone}
 use Rattle.std.specs.Ordering.{eq_by_cmp}
 use Rattle.program_types.specs.Key.{Key, key_cmp}
 use Rattle.program_types.specs.KeyLaws.{key_cmp-total, key_cmp-same}
-use Rattle.tables_names.specs.Rank.{Rising, is_member, rank_of, HasIndex}
+use Rattle.tables_names.specs.Rank.{Rising, is_member, rank_of, LookUpAnswers}
 use Rattle.tables_names.proofs.RisingLemmas.{rank-at}
 use Rattle.tables_names.proofs.SubsetLemmas.{member_here, or_cases}
 use Rattle.std.specs.Cmp.{Equal-is}
@@ -33,23 +33,23 @@ pub rank_at : (ks : List Key) (i : ℕ) (k : Key) → Rising ks → slice_get ks
 rank_at ks i k up e = rank-at key_cmp-total key_cmp-same ks i k up (slice_get_within ks i k e) (get_or_from_slice_get ks i k k e)
 
 -- what a look-up by name answers is the place of the name
-pub index_some : (ks : List Key) (k : Key) (i : ℕ) → Rising ks → HasIndex ks k (Some i) → slice_get ks i ≡ Some k
+pub index_some : (ks : List Key) (k : Key) (i : ℕ) → Rising ks → LookUpAnswers ks k (Some i) → slice_get ks i ≡ Some k
 index_some ks k i up has =
     let p = place_of ks k has.0.0 in
     let same : p.0 ≡ i = sym (rank_at ks p.0 k up p.1) ∙ sym has.1 in
     subst (λ (n : ℕ). slice_get ks n ≡ Some k) same p.1
 
 -- and where it answers nothing, the name has no place of 32 bits
-pub index_none : (ks : List Key) (k : Key) (i : ℕ) → Rising ks → HasIndex ks k None → i < 2 ^ 32 → slice_get ks i ≡ Some k → ⊥
+pub index_none : (ks : List Key) (k : Key) (i : ℕ) → Rising ks → LookUpAnswers ks k None → i < 2 ^ 32 → slice_get ks i ≡ Some k → ⊥
 index_none ks k i up has fits e =
     let same = rank_at ks i k up e in
     has (member_at ks i k e, omega (arith, same, fits))
 
 -- the same of whatever a look-up answers
-pub some_of : (ks : List Key) (k : Key) (r : Option ℕ) → Rising ks → HasIndex ks k r → IfSome r (λ i. slice_get ks i ≡ Some k)
+pub some_of : (ks : List Key) (k : Key) (r : Option ℕ) → Rising ks → LookUpAnswers ks k r → IfSome r (λ i. slice_get ks i ≡ Some k)
 some_of ks k (Some i) up has = index_some ks k i up has
 some_of ks k None up has = tt
 
-pub none_of : (ks : List Key) (k : Key) (r : Option ℕ) → Rising ks → HasIndex ks k r → IfNone r ((i : ℕ) → i < 2 ^ 32 → slice_get ks i ≡ Some k → ⊥)
+pub none_of : (ks : List Key) (k : Key) (r : Option ℕ) → Rising ks → LookUpAnswers ks k r → IfNone r ((i : ℕ) → i < 2 ^ 32 → slice_get ks i ≡ Some k → ⊥)
 none_of ks k (Some i) up has = tt
 none_of ks k None up has = λ i fits e. index_none ks k i up has fits e

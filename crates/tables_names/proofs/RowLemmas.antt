@@ -8,7 +8,7 @@ use Rattle.std.proofs.lemmas.Option.{slice_get_within, slice_get-get_or}
 use Rattle.program_types.specs.Key.{Key, key_cmp, units_cmp}
 use Rattle.program_types.specs.KeyLaws.{ordering_then-equal, key_cmp-total, key_cmp-same}
 use Rattle.tables_names.specs.Rank.{Rising, rank_of, is_member, add_all, PlaceIsAtLeastRank, KeysCompareAsPlaces, SetsAreTheirMembers}
-use Rattle.tables_names.specs.Rows.{first_of, text_at, AreTexts, field_of, method_of, row_cmp, TypesRise, ProtosRise, FieldsRise, MethodsRise}
+use Rattle.tables_names.specs.Rows.{first_of, text_at, AreTexts, field_of_row, method_of_row, row_cmp, TypesRise, ProtosRise, FieldsRise, MethodsRise}
 use Rattle.tables_names.proofs.RisingLemmas.{rank-at, count-subset, places_cmp, rows_rise, same_rising}
 use Rattle.std.specs.Cmp.{both_ways}
 use Rattle.tables_names.proofs.UnionLemmas.{rising-add_all, is_member-add_all, rising-none}
@@ -53,21 +53,21 @@ protos_rise types rows up texts valid sorted =
     rows_rise key_cmp-total key_cmp-same (slice_cmp nat_cmp) (λ row. map (text_at types) row) (AllByRecursion (λ i. i < length types)) (lists_cmp types up texts) rows valid sorted
 
 module _ (strings types : List Key) (s_up : Rising strings) (s_texts : AreTexts strings) (t_up : Rising types) (t_texts : AreTexts types) where
-  pub field_row_cmp : (r s : ℕ × ℕ × ℕ) → (r.0 < length types) × (r.1 < length strings) × (r.2 < length types) → (s.0 < length types) × (s.1 < length strings) × (s.2 < length types) → key_cmp (field_of strings types r) (field_of strings types s) ≡ row_cmp r s
+  pub field_row_cmp : (r s : ℕ × ℕ × ℕ) → (r.0 < length types) × (r.1 < length strings) × (r.2 < length types) → (s.0 < length types) × (s.1 < length strings) × (s.2 < length types) → key_cmp (field_of_row strings types r) (field_of_row strings types s) ≡ row_cmp r s
   field_row_cmp r s a b =
       λ t. ordering_then (texts_cmp types r.0 s.0 t_up t_texts a.0 b.0 t) (ordering_then (texts_cmp strings r.1 s.1 s_up s_texts a.1 b.1 t) ((sym (ordering_then-equal (units_cmp (text_at types r.2) (text_at types s.2))) ∙ texts_cmp types r.2 s.2 t_up t_texts a.2 b.2) t))
 
-  pub method_row_cmp : (protos : List Key) → Rising protos → (r s : ℕ × ℕ × ℕ) → (r.0 < length types) × (r.1 < length strings) × (r.2 < length protos) → (s.0 < length types) × (s.1 < length strings) × (s.2 < length protos) → key_cmp (method_of strings types protos r) (method_of strings types protos s) ≡ row_cmp r s
+  pub method_row_cmp : (protos : List Key) → Rising protos → (r s : ℕ × ℕ × ℕ) → (r.0 < length types) × (r.1 < length strings) × (r.2 < length protos) → (s.0 < length types) × (s.1 < length strings) × (s.2 < length protos) → key_cmp (method_of_row strings types protos r) (method_of_row strings types protos s) ≡ row_cmp r s
   method_row_cmp protos p_up r s a b =
       λ t. ordering_then (texts_cmp types r.0 s.0 t_up t_texts a.0 b.0 t) (ordering_then (texts_cmp strings r.1 s.1 s_up s_texts a.1 b.1 t) (places_cmp key_cmp-total key_cmp-same protos r.2 s.2 [] p_up a.2 b.2 t))
 
 pub fields_rise : FieldsRise
 fields_rise strings types rows s_up s_texts t_up t_texts valid sorted =
-    rows_rise key_cmp-total key_cmp-same row_cmp (field_of strings types) _ (field_row_cmp strings types s_up s_texts t_up t_texts) rows valid sorted
+    rows_rise key_cmp-total key_cmp-same row_cmp (field_of_row strings types) _ (field_row_cmp strings types s_up s_texts t_up t_texts) rows valid sorted
 
 pub methods_rise : MethodsRise
 methods_rise strings types protos rows s_up s_texts t_up t_texts p_up valid sorted =
-    rows_rise key_cmp-total key_cmp-same row_cmp (method_of strings types protos) _ (method_row_cmp strings types s_up s_texts t_up t_texts protos p_up) rows valid sorted
+    rows_rise key_cmp-total key_cmp-same row_cmp (method_of_row strings types protos) _ (method_row_cmp strings types s_up s_texts t_up t_texts protos p_up) rows valid sorted
 
 pub sets_are_their_members : SetsAreTheirMembers
 sets_are_their_members ks js f g =

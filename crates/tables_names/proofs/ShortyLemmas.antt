@@ -17,9 +17,9 @@ letter_of_param (x ∷ xs) (suc k) d lt = letter_of_param xs k d (omega (arith, 
 pub length-letters : (params : List Desc) → length (letters params) ≡ length params
 length-letters params = length-map (map desc params) letter_of ∙ length-map params desc
 
--- behind the first letter, the parameter's
-pub letter_behind : (first : ℕ) (params : List Desc) (i : ℕ) (d : Desc) → i ≢ 0 → i - 1 < length params → get_or (first ∷ letters params) i 0 ≡ letter_of (desc (get_or params (i - 1) d))
-letter_behind first params zero d some lt = absurd (some refl)
-letter_behind first params (suc k) d some lt =
+-- after the first letter, the parameter's
+pub letter_after : (first : ℕ) (params : List Desc) (i : ℕ) (d : Desc) → i ≢ 0 → i - 1 < length params → get_or (first ∷ letters params) i 0 ≡ letter_of (desc (get_or params (i - 1) d))
+letter_after first params zero d some lt = absurd (some refl)
+letter_after first params (suc k) d some lt =
     let e : suc k - 1 ≡ k = omega arith in
     rw e (letter_of_param params k d (rw e at lt))

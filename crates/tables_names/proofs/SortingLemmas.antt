@@ -15,7 +15,7 @@ use Rattle.indexmap.specs.IndexSet.{insert_all, insert_key as insert_last}
 use Rattle.indexmap.proofs.SetLemmas.{set_all_push}
 use Rattle.program_types.specs.Key.{Key, key_cmp, units_cmp}
 use Rattle.program_types.specs.KeyLaws.{ordering_then-equal}
-use Rattle.tables_names.specs.Rank.{Rising, IsAt, Leads, is_member, add_all}
+use Rattle.tables_names.specs.Rank.{Rising, IsAt, RanksDecide, is_member, add_all}
 use Rattle.tables_names.specs.Numbers.{set_of, TypeAt, ProtoAt, FieldAt, MethodAt, RanksOf}
 use Rattle.tables_names.specs.declared.parts.TypeParts.{TypeParts}
 use Rattle.tables_names.specs.declared.parts.ProtoParts.{ProtoParts}
@@ -28,13 +28,13 @@ use Rattle.tables_names.proofs.PlaceLemmas.{member_at}
 use Rattle.tables_names.proofs.NumberLemmas.{zip_push, zip_length, zip_get, member_of_set}
 
 -- what the names answer is what their ranks do
-same_leads : (ranks names : Ordering) → ranks ≡ names → Leads ranks names
+same_leads : (ranks names : Ordering) → ranks ≡ names → RanksDecide ranks names
 same_leads ranks Less e = rw e refl
 same_leads ranks Equal e = rw e refl
 same_leads ranks Greater e = rw e refl
 
 -- or what they begin with
-first_leads : (ranks first rest : Ordering) → ranks ≡ first → Leads ranks (ordering_then first rest)
+first_leads : (ranks first rest : Ordering) → ranks ≡ first → RanksDecide ranks (ordering_then first rest)
 first_leads ranks Less rest e = rw e refl
 first_leads ranks Equal rest e = rw e refl
 first_leads ranks Greater rest e = rw e refl
@@ -42,7 +42,7 @@ first_leads ranks Greater rest e = rw e refl
 -- ---- pairs of ranks and a name
 
 module _ {N R : Type 0} where
-  -- the next name goes behind its ranks
+  -- the next name goes after its ranks
   pub names_pushed : (names : List N) (pairs new : List (R × N)) (i : ℕ) (name : N) (ranks : R) → i < length names → name ≡ get_or names i name → new ≡ pairs ++ (ranks, name) ∷ [] → map (λ p. p.1) pairs ≡ take i names → map (λ p. p.1) new ≡ take (i + 1) names
   names_pushed names pairs new i name ranks lt at pushed so_far =
       ap (map (λ p. p.1)) pushed ∙ map_push (λ p. p.1) pairs (ranks, name) ∙ (λ t. so_far t ++ at t ∷ []) ∙ sym (take_more names i name lt)
@@ -66,7 +66,7 @@ module _ {N R : Type 0} where
   names_moved : (names : List N) (xs ys : List (R × N)) → map (λ p. p.1) xs ≡ names → IsPermutation xs ys → IsPermutation names (map (λ p. p.1) ys)
   names_moved names xs ys are moved = rw (← are) (IsPermutation-map (λ p. p.1) xs ys moved)
 
-  module _ (key : N → Key) (cmp : N → N → Ordering) (cmp_by_key : (x y : N) → cmp x y ≡ key_cmp (key x) (key y)) (ranks_cmp : R → R → Ordering) (Has : N → R → Type 0) (alike : (x y : N) (r s : R) → Has x r → Has y s → Leads (ranks_cmp r s) (key_cmp (key x) (key y))) where
+  module _ (key : N → Key) (cmp : N → N → Ordering) (cmp_by_key : (x y : N) → cmp x y ≡ key_cmp (key x) (key y)) (ranks_cmp : R → R → Ordering) (Has : N → R → Type 0) (alike : (x y : N) (r s : R) → Has x r → Has y s → RanksDecide (ranks_cmp r s) (key_cmp (key x) (key y))) where
     -- pairs that are sorted have names that are
     names_sorted : (ys : List (R × N)) → All (λ p. Has p.1 p.0) ys → IsSorted (λ p q. ordering_then (ranks_cmp p.0 q.0) (cmp p.1 q.1)) ys → IsSorted cmp (map (λ p. p.1) ys)
     names_sorted [] has up i d low high = absurd (omega arith)
@@ -123,7 +123,7 @@ module _ {N : Type 0} (key : N → Key) where
 
 -- ---- the ranks of each kind
 
-pub text_ranks : (strings : List Key) → Rising strings → (j k : Key) (p q : TypeParts) → TypeAt strings j p → TypeAt strings k q → Leads (nat_cmp p.text q.text) (key_cmp j k)
+pub text_ranks : (strings : List Key) → Rising strings → (j k : Key) (p q : TypeParts) → TypeAt strings j p → TypeAt strings k q → RanksDecide (nat_cmp p.text q.text) (key_cmp j k)
 text_ranks strings up [] k p q a b = absurd a
 text_ranks strings up (x ∷ o ∷ j) k p q a b = absurd a
 text_ranks strings up (x ∷ []) [] p q a b = absurd b
@@ -131,7 +131,7 @@ text_ranks strings up (x ∷ []) (y ∷ o ∷ k) p q a b = absurd b
 text_ranks strings up (x ∷ []) (y ∷ []) p q a b =
     same_leads (nat_cmp p.text q.text) (key_cmp (x ∷ []) (y ∷ [])) (sym (keys_compare_as_places strings p.text q.text (x ∷ []) (y ∷ []) up a b))
 
-pub ret_ranks : (types : List Key) → Rising types → (j k : Key) (p q : ProtoParts) → ProtoAt types j p → ProtoAt types k q → Leads (nat_cmp p.ret q.ret) (key_cmp j k)
+pub ret_ranks : (types : List Key) → Rising types → (j k : Key) (p q : ProtoParts) → ProtoAt types j p → ProtoAt types k q → RanksDecide (nat_cmp p.ret q.ret) (key_cmp j k)
 ret_ranks types up [] k p q a b = absurd a
 ret_ranks types up (x ∷ j) [] p q a b = absurd b
 ret_ranks types up (x ∷ j) (y ∷ k) p q a b = first_leads (nat_cmp p.ret q.ret) (units_cmp x y) (key_cmp j k) (sym (units_by_index types p.ret q.ret x y up a b))
@@ -154,7 +154,7 @@ module _ (strings types : List Key) (s_up : Rising strings) (t_up : Rising types
   field_ranks_cmp (c ∷ n ∷ t ∷ []) (d ∷ m ∷ u ∷ []) p q a b =
       λ i. ordering_then (sym (units_by_index types p.class q.class c d t_up a.0 b.0) i) (ordering_then (sym (units_by_index strings p.name q.name n m s_up a.1 b.1) i) ((sym (units_by_index types p.ty q.ty t u t_up a.2 b.2) ∙ ordering_then-equal (units_cmp t u)) i))
 
-  pub field_ranks_lead : (j k : Key) (p q : FieldParts) → FieldAt types strings j p → FieldAt types strings k q → Leads (field_cmp p q) (key_cmp j k)
+  pub field_ranks_lead : (j k : Key) (p q : FieldParts) → FieldAt types strings j p → FieldAt types strings k q → RanksDecide (field_cmp p q) (key_cmp j k)
   field_ranks_lead j k p q a b = same_leads (field_cmp p q) (key_cmp j k) (field_ranks_cmp j k p q a b)
 
   module _ (protos : List Key) (p_up : Rising protos) where
@@ -171,5 +171,5 @@ module _ (strings types : List Key) (s_up : Rising strings) (t_up : Rising types
     method_ranks_cmp (c ∷ n ∷ x ∷ j) (d ∷ m ∷ y ∷ k) p q a b =
         λ i. ordering_then (sym (units_by_index types p.class q.class c d t_up a.0 b.0) i) (ordering_then (sym (units_by_index strings p.name q.name n m s_up a.1 b.1) i) (sym (keys_compare_as_places protos p.proto q.proto (x ∷ j) (y ∷ k) p_up a.2 b.2) i))
 
-    pub method_ranks_lead : (j k : Key) (p q : MethodParts) → MethodAt types strings protos j p → MethodAt types strings protos k q → Leads (method_cmp p q) (key_cmp j k)
+    pub method_ranks_lead : (j k : Key) (p q : MethodParts) → MethodAt types strings protos j p → MethodAt types strings protos k q → RanksDecide (method_cmp p q) (key_cmp j k)
     method_ranks_lead j k p q a b = same_leads (method_cmp p q) (key_cmp j k) (method_ranks_cmp j k p q a b)

@@ -10,7 +10,7 @@ use Rattle.std.specs.List.{AllZip, AllByRecursion}
 use Rattle.program_types.specs.Content.{Units, Descriptor, Proto, FieldRef, MethodRef, Program}
 use Rattle.program_types.specs.Key.{Key, text_key, proto_key, field_ref_key, method_ref_key}
 use Rattle.program_types.specs.Shorty.{shorty}
-use Rattle.tables_names.specs.Rank.{Rising, HasIndex, IsAt}
+use Rattle.tables_names.specs.Rank.{Rising, LookUpAnswers, IsAt}
 use Rattle.tables_names.specs.Closure.{Five, IsClosed, AreRising, NameRanks}
 use Rattle.program_types.specs.Mentions.{mentions}
 use Rattle.tables_names.specs.Needed.{needed}
@@ -77,7 +77,7 @@ RisingTablesRise = (s : Five) → AreRising s → TablesRise s
 
 -- A look-up of a key that is held answers its index, where all indices have 32 bits.
 abbrev pub LookUpsAnswer : Type 0
-LookUpsAnswer = (table : List Key) (i : ℕ) (k : Key) (r : Option ℕ) → Rising table → length table ≤ 2 ^ 32 → IsAt table i k → HasIndex table k r → r ≡ Some i
+LookUpsAnswer = (table : List Key) (i : ℕ) (k : Key) (r : Option ℕ) → Rising table → length table ≤ 2 ^ 32 → IsAt table i k → LookUpAnswers table k r → r ≡ Some i
 
 -- Each name that a program mentions has an index among those that it needs.
 abbrev pub MentionsHaveIndices : Type 0

@@ -62,7 +62,7 @@ sets s =
     record { strings = set_of s.strings; types = set_of s.types; protos = set_of s.protos; fields = set_of s.fields; methods = set_of s.methods }
 
 -- what holds of names in the order of first need
-pub record IsNumbered (o : Order) : Type 0 where
+pub record InOrderOfNeed (o : Order) : Type 0 where
   pub closed : IsClosed (sets o.names)
   pub parts : HaveParts o
 
@@ -71,7 +71,7 @@ pub record IsTables (o : Order) : Type 0 where
   pub closed : IsClosed o.names
   pub parts : HaveParts o
 
--- the list with k behind it, unless k is there
+-- the list with k after it, unless k is there
 abbrev pub with_last : List Key → Key → List Key
 with_last names k = if is_member names k then names else names ++ k ∷ []
 

@@ -48,12 +48,12 @@ KeysCompareAsPlaces =
     (table : List Key) (i j : ℕ) (a b : Key) → Rising table → IsAt table i a → IsAt table j b → key_cmp a b ≡ nat_cmp i j
 
 -- two names compare as these ranks of their parts do, unless the ranks tie
-abbrev pub Leads : Ordering → Ordering → Type 0
-Leads ranks names = ordering_then ranks names ≡ names
+abbrev pub RanksDecide : Ordering → Ordering → Type 0
+RanksDecide ranks names = ordering_then ranks names ≡ names
 
 -- what a look-up of k answers: the rank, where k is held and the rank has 32 bits
-abbrev pub HasIndex : List Key → Key → Option ℕ → Type 0
-HasIndex ks k r = SomeIff r (IsTrue (is_member ks k) × (rank_of ks k < 2 ^ 32)) (rank_of ks k)
+abbrev pub LookUpAnswers : List Key → Key → Option ℕ → Type 0
+LookUpAnswers ks k r = SomeIff r (IsTrue (is_member ks k) × (rank_of ks k < 2 ^ 32)) (rank_of ks k)
 
 -- a set is made by any list of its members, in any order
 abbrev pub SetsAreTheirMembers : Type 0

@@ -3,7 +3,7 @@
 ghost use Rattle.std.specs.Prelude.{◌≡◌, ◌<◌, ◌^◌, ℕ, List, [], ◌∷◌, ◌++◌, map, false, true, OnOk, OnErr, IfOk, IfSome, IfNone, option_map, slice_get};
 ghost use Rattle.std.specs.List.{AllZip, IsDistinct};
 ghost use Rattle.program_types.specs.Key.{Key, key_cmp};
-ghost use Rattle.tables_names.specs.Rank.{Rising, is_member, HasIndex, IsAt, Leads};
+ghost use Rattle.tables_names.specs.Rank.{Rising, is_member, LookUpAnswers, IsAt, RanksDecide};
 ghost use Rattle.tables_names.specs.Numbers.{set_of, with_last};
 
 use crate::row::Row;
@@ -52,7 +52,7 @@ impl<N: Row> Held<N> {
         self.items.get_index_of(name)
     }
 
-    /// Adds a name behind the others, if it isn't there yet, and gives its number.
+    /// Adds a name after the others, if it isn't there yet, and gives its number.
     pub(crate) fn add(&mut self, name: N) -> Result<usize, AllocError>
         ensures added { OnOk result (self.new ≡ with_last self.old (N.key name)) }
         ensures number { IfOk result (λ n. IsAt self.new n (N.key name)) }
@@ -99,7 +99,7 @@ impl<N: Row, P: Copy> Made<N, P> {
         }
     }
 
-    /// Adds a name that isn't there yet behind the others, with the numbers of its parts, and gives its number.
+    /// Adds a name that isn't there yet after the others, with the numbers of its parts, and gives its number.
     pub(crate) fn add(&mut self, name: N, parts: P) -> Result<usize, AllocError>
         requires { is_member self.old.names (N.key name) ≡ false }
         ensures names { OnOk result (self.new.names ≡ self.old.names ++ N.key name ∷ []) }
@@ -123,7 +123,7 @@ pub(crate) fn ranked_by<T, P: Numbers<T>, N: Row>(
     sorted: &T,
 ) -> Result<Table<N, P>, AllocError>
     requires parts { AllZip (λ k p. P.within sorted.now p × P.has sorted.now k (P.ranked sorted.now p)) made.names made.parts.items }
-    requires leads { (j k : Key) (p q : P) → P.has sorted.now j p → P.has sorted.now k q → Leads (P.cmp p q) (key_cmp j k) }
+    requires leads { (j k : Key) (p q : P) → P.has sorted.now j p → P.has sorted.now k q → RanksDecide (P.cmp p q) (key_cmp j k) }
     ensures same { IfOk result (λ r. r.names ≡ set_of made.names) }
     ensures rows { IfOk result (λ r. AllZip (P.has sorted.now) r.names r.parts.items) }
 {
@@ -168,7 +168,7 @@ impl<N: Row> Model for Ranked<N> {
 impl<N: Row> Ranked<N> {
     /// The rank of a name, where it is held and its rank fits 32 bits.
     pub(crate) fn index_of(&self, name: N) -> Option<u32>
-        ensures rank { HasIndex self.now (N.key name) result }
+        ensures rank { LookUpAnswers self.now (N.key name) result }
         ensures some { IfSome result (λ i. IsAt self.now i (N.key name)) }
         ensures none { IfNone result ((i : ℕ) → i < 2 ^ 32 → ¬ IsAt self.now i (N.key name)) }
     {

@@ -21,7 +21,7 @@ use std::marker::Model;
 /// The names that are needed so far: a set of each of the five kinds, with each name its parts. It stands for the five
 /// sets (`specs/Closure.antt`).
 ///
-/// Each kind is kept in the order of first need and sorted once, by `freeze`. A name that was refused for want of memory
+/// Each kind is kept in the order of first need and sorted once, by `freeze`. A name for which memory ran out
 /// may have left some of its parts; all that was held is held.
 #[derive(Drop)]
 pub struct Needed<'a> {
@@ -63,7 +63,7 @@ impl<'a> Needed<'a> {
         self.numbered.has_parts();
     }
 
-    /// Adds a string. Refused only for want of memory, as all additions are: what was held is held then, and beyond it,
+    /// Adds a string. Fails only when out of memory, as all additions are: what was held is held then, and beyond it,
     /// where one name is added, at most parts of the name, never the name itself.
     ///
     /// ```
@@ -249,7 +249,7 @@ impl<'a> Needed<'a> {
         }
     }
 
-    /// The names that are held, with their ranks. No name is added from here on. Refused only for want of memory, and
+    /// The names that are held, with their ranks. No name is added from here on. Fails only when out of memory, and
     /// then nothing is given back.
     ///
     /// ```

@@ -1,6 +1,6 @@
 //! Names of all five kinds in the order of first need, and beside each the numbers of its parts.
 //!
-//! A name is added behind its parts, so their numbers are at hand then, and no part is looked up again to sort a kind or to
+//! A name is added after its parts, so their numbers are at hand then, and no part is looked up again to sort a kind or to
 //! write its rows.
 ghost use Rattle.std.specs.Prelude.{◌≡◌, ◌∷◌, OnOk, OnErr, IfOk, IsOkUnless, All, map};
 ghost use Rattle.std.specs.List.{AllByRecursion, AllZip};
@@ -12,7 +12,7 @@ ghost use Rattle.program_types.specs.View.{str, desc, proto, field_ref, method_r
 ghost use Rattle.tables_names.specs.Keys.{key_of_str, key_of_desc, key_of_proto};
 ghost use Rattle.tables_names.specs.Rank.{IsAt};
 ghost use Rattle.tables_names.specs.Closure.{nothing, with_name, with_names, with_proto, with_parts, with_proto_parts, method_of_class, AddsPart, HasShorty};
-ghost use Rattle.tables_names.specs.Numbers.{sets, set_of, AllGrow, IsNumbered, RanksOf, TypeAt, ProtoAt, FieldAt, MethodAt, FieldLeads, MethodLeads};
+ghost use Rattle.tables_names.specs.Numbers.{sets, set_of, AllGrow, InOrderOfNeed, RanksOf, TypeAt, ProtoAt, FieldAt, MethodAt, FieldLeads, MethodLeads};
 
 use crate::held::{Held, Made, Table, ranked_by};
 use crate::parts::{FieldParts, MethodParts, ProtoParts, TypeParts};
@@ -27,7 +27,7 @@ use std::marker::Model;
 /// Names of each of the five kinds, with each name its parts. It stands for the lists and the numbers
 /// (`specs/Numbers.antt`).
 ///
-/// A name that was refused for want of memory may have left some of its parts; all that was held is held.
+/// A name for which memory ran out may have left some of its parts; all that was held is held.
 #[derive(Drop)]
 pub(crate) struct Numbered<'a> {
     alloc: Global,
@@ -39,7 +39,7 @@ pub(crate) struct Numbered<'a> {
 }
 
 impl<'a> Model for Numbered<'a> {
-    ghost use Rattle.tables_names.specs.Numbers.{Order, IsNumbered};
+    ghost use Rattle.tables_names.specs.Numbers.{Order, InOrderOfNeed};
 
     ghost Value = { Order };
 
@@ -51,7 +51,7 @@ impl<'a> Model for Numbered<'a> {
       methods = n.methods.parts.items;
     } };
 
-    ghost invariant = { λ n. IsNumbered record {
+    ghost invariant = { λ n. InOrderOfNeed record {
       names = record { strings = n.strings; types = n.types.names; protos = n.protos.names; fields = n.fields.names; methods = n.methods.names };
       types = n.types.parts.items;
       protos = n.protos.parts.items;
@@ -78,7 +78,7 @@ impl<'a> Numbered<'a> {
 
     /// Beside each name its parts are held, and their numbers.
     pub(crate) fn has_parts(&self)
-        ensures { IsNumbered self.now }
+        ensures { InOrderOfNeed self.now }
     {
         // Only for the proof: what holds of each value of its type.
         let _ = &self.strings;
@@ -255,7 +255,7 @@ impl<'a> Numbered<'a> {
         Ok(())
     }
 
-    /// The names with their ranks. Refused only for want of memory.
+    /// The names with their ranks. Fails only when out of memory.
     pub(crate) fn freeze(self) -> Result<Ranks<'a>, AllocError>
         ensures { IfOk result (λ r. r ≡ sets self.entry.names) }
     {

@@ -8,7 +8,7 @@ ghost use Rattle.program_types.specs.Shorty.{shorty};
 ghost use Rattle.program_types.specs.View as view;
 ghost use Rattle.program_types.specs.View.{proto};
 ghost use Rattle.tables_names.specs.Keys.{key_of_str, key_of_desc, key_of_proto, key_of_field, key_of_method, own_field, own_method};
-ghost use Rattle.tables_names.specs.Rank.{HasIndex, IsAt};
+ghost use Rattle.tables_names.specs.Rank.{LookUpAnswers, IsAt};
 ghost use Rattle.tables_names.specs.Closure.{IsClosed, AreRising, NameRanks};
 ghost use Rattle.tables_names.specs.Numbers.{IsTables, TypeAt, ProtoAt, FieldAt, MethodAt};
 
@@ -129,7 +129,7 @@ impl<'a> Ranks<'a> {
     /// assert_eq!(rt; needed.freeze()?.index_of_string(name), Some(0));
     /// ```
     pub fn index_of_string(&self, name: Str<'a>) -> Option<u32>
-        ensures rank { HasIndex self.now.strings (key_of_str name.entry) result }
+        ensures rank { LookUpAnswers self.now.strings (key_of_str name.entry) result }
         ensures some { IfSome result (λ i. IsAt self.now.strings i (key_of_str name.entry)) }
         ensures none { IfNone result ((i : ℕ) → i < 2 ^ 32 → ¬ IsAt self.now.strings i (key_of_str name.entry)) }
     {
@@ -148,7 +148,7 @@ impl<'a> Ranks<'a> {
     /// assert_eq!(rt; needed.freeze()?.index_of_type(int), Some(0));
     /// ```
     pub fn index_of_type(&self, name: Desc<'a>) -> Option<u32>
-        ensures rank { HasIndex self.now.types (key_of_desc name.entry) result }
+        ensures rank { LookUpAnswers self.now.types (key_of_desc name.entry) result }
         ensures some { IfSome result (λ i. IsAt self.now.types i (key_of_desc name.entry)) }
         ensures none { IfNone result ((i : ℕ) → i < 2 ^ 32 → ¬ IsAt self.now.types i (key_of_desc name.entry)) }
     {
@@ -170,7 +170,7 @@ impl<'a> Ranks<'a> {
     /// assert_eq!(rt; needed.freeze()?.index_of_proto(&proto), Some(0));
     /// ```
     pub fn index_of_proto(&self, name: &Proto<'a>) -> Option<u32>
-        ensures rank { HasIndex self.now.protos (key_of_proto name.now) result }
+        ensures rank { LookUpAnswers self.now.protos (key_of_proto name.now) result }
         ensures some { IfSome result (λ i. IsAt self.now.protos i (key_of_proto name.now)) }
         ensures none { IfNone result ((i : ℕ) → i < 2 ^ 32 → ¬ IsAt self.now.protos i (key_of_proto name.now)) }
     {
@@ -179,7 +179,7 @@ impl<'a> Ranks<'a> {
 
     /// The rank of the shorty of a prototype. A prototype that is held has one, unless it is above 4294967295. Spells none.
     pub fn index_of_shorty(&self, name: &Proto<'a>) -> Option<u32>
-        ensures rank { HasIndex self.now.strings (text_key (shorty (proto name.now))) result }
+        ensures rank { LookUpAnswers self.now.strings (text_key (shorty (proto name.now))) result }
         ensures some { IfSome result (λ i. IsAt self.now.strings i (text_key (shorty (proto name.now)))) }
         ensures none { IfNone result ((i : ℕ) → i < 2 ^ 32 → ¬ IsAt self.now.strings i (text_key (shorty (proto name.now)))) }
     {
@@ -201,7 +201,7 @@ impl<'a> Ranks<'a> {
     /// assert_eq!(rt; needed.freeze()?.index_of_field(&field), Some(0));
     /// ```
     pub fn index_of_field(&self, name: &FieldRef<'a>) -> Option<u32>
-        ensures rank { HasIndex self.now.fields (key_of_field name.now) result }
+        ensures rank { LookUpAnswers self.now.fields (key_of_field name.now) result }
         ensures some { IfSome result (λ i. IsAt self.now.fields i (key_of_field name.now)) }
         ensures none { IfNone result ((i : ℕ) → i < 2 ^ 32 → ¬ IsAt self.now.fields i (key_of_field name.now)) }
     {
@@ -225,7 +225,7 @@ impl<'a> Ranks<'a> {
     /// assert_eq!(rt; needed.freeze()?.index_of_method(&method), Some(0));
     /// ```
     pub fn index_of_method(&self, name: &MethodRef<'a>) -> Option<u32>
-        ensures rank { HasIndex self.now.methods (key_of_method name.now) result }
+        ensures rank { LookUpAnswers self.now.methods (key_of_method name.now) result }
         ensures some { IfSome result (λ i. IsAt self.now.methods i (key_of_method name.now)) }
         ensures none { IfNone result ((i : ℕ) → i < 2 ^ 32 → ¬ IsAt self.now.methods i (key_of_method name.now)) }
     {
@@ -248,7 +248,7 @@ impl<'a> Ranks<'a> {
     pub fn index_of_own_field(&self, class: usize, name: Str<'a>, ty: Desc<'a>) -> Option<u32>
         ghost owner: { Units }
         requires { IsAt self.now.types class (text_key owner) }
-        ensures rank { HasIndex self.now.fields (own_field owner (view.str name.entry) (view.desc ty.entry)) result }
+        ensures rank { LookUpAnswers self.now.fields (own_field owner (view.str name.entry) (view.desc ty.entry)) result }
         ensures some { IfSome result (λ i. IsAt self.now.fields i (own_field owner (view.str name.entry) (view.desc ty.entry))) }
         ensures none { IfNone result ((i : ℕ) → i < 2 ^ 32 → ¬ IsAt self.now.fields i (own_field owner (view.str name.entry) (view.desc ty.entry))) }
     {
@@ -281,7 +281,7 @@ impl<'a> Ranks<'a> {
     pub fn index_of_own_method(&self, class: usize, name: Str<'a>, proto: &Proto<'a>) -> Option<u32>
         ghost owner: { Units }
         requires { IsAt self.now.types class (text_key owner) }
-        ensures rank { HasIndex self.now.methods (own_method owner (view.str name.entry) (view.proto proto.now)) result }
+        ensures rank { LookUpAnswers self.now.methods (own_method owner (view.str name.entry) (view.proto proto.now)) result }
         ensures some { IfSome result (λ i. IsAt self.now.methods i (own_method owner (view.str name.entry) (view.proto proto.now))) }
         ensures none { IfNone result ((i : ℕ) → i < 2 ^ 32 → ¬ IsAt self.now.methods i (own_method owner (view.str name.entry) (view.proto proto.now))) }
     {

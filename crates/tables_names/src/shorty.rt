@@ -6,7 +6,7 @@ ghost use Rattle.program_types.specs.Key.{text_key};
 ghost use Rattle.program_types.specs.Shorty.{shorty};
 ghost use Rattle.program_types.specs.View.{str, proto};
 ghost use Rattle.tables_names.specs.Keys.{key_of_str};
-ghost use Rattle.tables_names.specs.Rank.{Rising, HasIndex};
+ghost use Rattle.tables_names.specs.Rank.{Rising, LookUpAnswers};
 
 use program_types::{Proto, Str, letter};
 use std::cmp::Ordering;
@@ -40,7 +40,7 @@ fn cmp_shorty(text: Str<'_>, name: &Proto<'_>) -> Ordering
 /// The index of a prototype's shorty among strings that rise. Takes no memory.
 pub(crate) fn index_of_shorty(strings: &[Str<'_>], name: &Proto<'_>) -> Option<u32>
     requires { Rising (map key_of_str strings.now) }
-    ensures { HasIndex (map key_of_str strings.now) (text_key (shorty (proto name.now))) result }
+    ensures { LookUpAnswers (map key_of_str strings.now) (text_key (shorty (proto name.now))) result }
 {
     let found = strings.binary_search_by(
         |text: &Str<'_>| -> Ordering

@@ -7,7 +7,7 @@
 ghost use Rattle.std.specs.Prelude.{◌≡◌, ◌<◌, ℕ, [], All, IfOk, OnOk, length, map, slice_index};
 ghost use Rattle.std.specs.List.{AllZip, IsDistinct};
 ghost use Rattle.program_types.specs.Key.{Key, key_cmp};
-ghost use Rattle.tables_names.specs.Rank.{IsAt, Leads};
+ghost use Rattle.tables_names.specs.Rank.{IsAt, RanksDecide};
 ghost use Rattle.tables_names.specs.Numbers.{set_of, TypeAt, ProtoAt, FieldAt, MethodAt, RanksOf, FieldWithin, MethodWithin, field_ranks, method_ranks};
 
 use crate::held::{Held, Made, Ranked, Table, ranked_by};
@@ -110,7 +110,7 @@ impl<'a> Numbers<Parts<'a>> for MethodParts {
     }
 }
 
-/// The names, each behind the ranks of its parts.
+/// The names, each after the ranks of its parts.
 pub(crate) fn with_ranks<T, P: Numbers<T>, N: Row>(
     alloc: Global,
     names: &[N],
@@ -197,7 +197,7 @@ pub(crate) fn sorted_by<T, P: Numbers<T>, N: Row>(
     sorted: &T,
 ) -> Result<(Sorted<N>, Vec<P>), AllocError>
     requires parts { AllZip (λ k p. P.within sorted.now p × P.has sorted.now k (P.ranked sorted.now p)) made.names made.parts.items }
-    requires leads { (j k : Key) (p q : P) → P.has sorted.now j p → P.has sorted.now k q → Leads (P.cmp p q) (key_cmp j k) }
+    requires leads { (j k : Key) (p q : P) → P.has sorted.now j p → P.has sorted.now k q → RanksDecide (P.cmp p q) (key_cmp j k) }
     ensures same { IfOk result (λ r. r.0.names ≡ set_of made.names) }
     ensures ranks { IfOk result (λ r. RanksOf made.names r.0.names r.0.ranks.items) }
     ensures rows { IfOk result (λ r. AllZip (P.has sorted.now) r.0.names r.1.items) }

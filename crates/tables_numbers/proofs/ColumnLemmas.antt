@@ -80,13 +80,13 @@ marks_none n Stands key column few is = rw is (record {
 pub before-cons : (n : ℕ) (c : List ℕ) (i : ℕ) → before (n ∷ c) (suc i) ≡ n + before c i
 before-cons n c i = sum_by-cons (λ x. x) n (take i c)
 
-before_few : (c : List ℕ) (i : ℕ) → ((k : ℕ) → get_or c k 0 ≤ 1) → before c i ≤ i
+pub before_few : (c : List ℕ) (i : ℕ) → ((k : ℕ) → get_or c k 0 ≤ 1) → before c i ≤ i
 before_few c zero small = omega arith
 before_few [] (suc i) small = omega arith
 before_few (x ∷ c) (suc i) small =
     let e = before-cons x c i in let first = small zero in let rest = before_few c i (λ k. small (suc k)) in omega (arith, e, first, rest)
 
--- the sum behind a row has 32 bits
+-- the sum after a row has 32 bits
 pub before_fits : (n : ℕ) (c : List ℕ) (i : ℕ) → IsColumn n c → i < length c → before c i + get_or c i 0 < 2 ^ 32
 before_fits n c i s lt = elim (cases_lt i n) [
   | inl before_last ↦

@@ -57,7 +57,7 @@ module _ (b : List ℕ) (m : Marked) (s : Five) (a : AreMarks b m s) where
       subst (AreMarks b m) (part_adds_nothing s (closure_of (OfMethod r)) a.rise (a.closed.of_methods (method_ref_key r) (a.methods.held i r st at))) a
 
 -- types that are held add nothing
-type_adds_nothing : (s : Five) (t : Units) → IsClosed s → AreRising s → Holds s (OfDesc t) → s ≡ with_name s (OfDesc t)
+pub type_adds_nothing : (s : Five) (t : Units) → IsClosed s → AreRising s → Holds s (OfDesc t) → s ≡ with_name s (OfDesc t)
 unfolding with_name
 type_adds_nothing s t closed up h = part_adds_nothing s (type_closure (text_key t)) up (closed.of_types (text_key t) h)
 
@@ -85,7 +85,7 @@ string_marked b m s i t xs is st a = record {
   lists = a.lists;
 }
 
--- each of the others behind its parts
+-- each of the others after its parts
 module _ (b : List ℕ) (m : Marked) (s : Five) (closed : IsClosed s) (up : AreRising s) (i : ℕ) where
   pub type_marked : (t : Units) (xs : List ℕ) → xs ≡ set m.columns.types i 1 → TypeStands b i t → AreMarks b m (with_name s (OfText t)) → AreMarks b (record m { columns = record m.columns { types = xs } }) (with_name s (OfDesc t))
   unfolding with_name
@@ -173,7 +173,7 @@ kept_cases offsets more off other is h = by (list_any (nat_eq off) offsets) (sub
     by false h = last (nat_eq other off) refl (sym (list_any-append (nat_eq other) offsets (off ∷ [])) ∙ h)
 
 -- the types of a list are held once they are marked
-all_held : (s : Five) (ts : List Units) → AllByRecursion (Holds s) (map OfDesc ts) → AllByRecursion (λ t. Holds s (OfDesc t)) ts
+pub all_held : (s : Five) (ts : List Units) → AllByRecursion (Holds s) (map OfDesc ts) → AllByRecursion (λ t. Holds s (OfDesc t)) ts
 all_held s [] all = tt
 all_held s (t ∷ ts) all = (all.0, all_held s ts all.1)
 

@@ -21,10 +21,10 @@ use Rattle.tables_rows.specs.Stands.{StringStands, TypeStands, ProtoStands, Fiel
 use Rattle.tables_rows.specs.Sorted.{TablesHold}
 use Rattle.tables_rows.proofs.NameLaws.{proto_one, row_is, stands_names}
 use Rattle.tables_laws.specs.FileNames.{five_of}
-use Rattle.tables_laws.proofs.FileLemmas.{tables_have_names, names_rise}
+use Rattle.tables_laws.proofs.FileLemmas.{tables_have_names, names_rise, row_of, key_at}
 use Rattle.tables_numbers.proofs.ColumnLemmas.{before-cons}
 use Rattle.tables_numbers.specs.Marked.{Columns, Marked, MarksOf, AreMarks, kind_of}
-use Rattle.tables_numbers.specs.Numbers.{before, Counts, AreNumbers, IsKept, Carries, column_of, KeptRowsAreRanks, KeptProtosAreRanks, KeptRowsAreHeld, HaveLengths, TotalsAreLengths}
+use Rattle.tables_numbers.specs.Numbers.{before, Counts, AreRowNumbers, IsKept, Carries, column_of, KeptRowsAreRanks, KeptProtosAreRanks, KeptRowsAreHeld, HaveLengths, TotalsAreLengths}
 
 -- ---- the kept ones of a list, and how many stand before each
 
@@ -36,7 +36,7 @@ kept (x ∷ xs) (zero ∷ c) = kept xs c
 kept (x ∷ xs) (suc n ∷ c) = x ∷ kept xs c
 
 module _ {A : Type 0} where
-  -- what is marked stands, among the kept ones, behind as many as are marked before it
+  -- what is marked stands, among the kept ones, after as many as are marked before it
   kept_at : (xs : List A) (c : List ℕ) (i : ℕ) (x : A) → ((k : ℕ) → get_or c k 0 ≤ 1) → get_or c i 0 ≡ 1 → slice_get xs i ≡ Some x → slice_get (kept xs c) (before c i) ≡ Some x
   kept_at [] c i x s m e = absurd (none-some x e)
   kept_at (y ∷ ys) [] i x s m e = let h : 0 ≡ 1 = m in absurd (omega arith)
@@ -89,16 +89,6 @@ both_ways false false f g = refl
 
 -- ---- one table
 
--- the key of a row
-key_at : {V : Type 0} (key : V → Key) (names : List V) (i : ℕ) (v : V) → slice_get names i ≡ Some v → IsAt (map key names) i (key v)
-key_at key names i v e = slice_get-map key names i ∙ ap (option_map key) e
-
--- the row of a key
-row_of : {V : Type 0} (key : V → Key) (names : List V) (i : ℕ) (k : Key) → IsAt (map key names) i k → (v : V) × (slice_get names i ≡ Some v) × (k ≡ key v)
-row_of key [] i k e = absurd cc
-row_of key (v ∷ vs) zero k e = let same : k ≡ key v = cc in (v, refl, same)
-row_of key (v ∷ vs) (suc i) k e = row_of key vs i k e
-
 module _ {V : Type 0} (n : ℕ) (Stands : ℕ → V → Type 0) (key : V → Key) (held : List Key) (column numbers : List ℕ) (names : List V) (long : length names ≡ n) (is : (i : ℕ) (v : V) → Stands i v → slice_get names i ≡ Some v) (each : (i : ℕ) (v : V) → slice_get names i ≡ Some v → Stands i v) (high : Rising (map key names)) (up : Rising held) (m : MarksOf n Stands key held column) (counts : Counts column numbers) where
   -- the kept keys are the set
   kept_are : kept (map key names) column ≡ held
@@ -142,7 +132,7 @@ module _ {V : Type 0} (n : ℕ) (Stands : ℕ → V → Type 0) (key : V → Key
       let rank : IsAt (kept (map key names) column) (before column i) (key v) = kept_at (map key names) column i (key v) m.shape.small at (key_at key names i v (is i v st)) in
       (get_or numbers i 0, here, subst (λ (j : ℕ). IsAt held j (key v)) (sym (counts.each i lt)) (subst (λ (ks : List Key). IsAt ks (before column i) (key v)) kept_are rank))
 
-  -- one number more behind it
+  -- one number more after it
   step : (i : ℕ) → i < n → get_or numbers (i + 1) 0 ≡ get_or numbers i 0 + get_or column i 0
   step i lt =
       let size = m.shape.long in
@@ -166,7 +156,7 @@ module _ {V : Type 0} (n : ℕ) (Stands : ℕ → V → Type 0) (key : V → Key
 
 -- ---- the five tables
 
-module _ (b : List ℕ) (m : Marked) (s : Five) (numbers : Columns) (hold : TablesHold b) (a : AreMarks b m s) (counts : AreNumbers m.columns numbers) where
+module _ (b : List ℕ) (m : Marked) (s : Five) (numbers : Columns) (hold : TablesHold b) (a : AreMarks b m s) (counts : AreRowNumbers m.columns numbers) where
   -- the names of the file's rows, which rise
   rows_of : (names : Names) × AreNamesOf b names
   rows_of = tables_have_names b hold

@@ -14,7 +14,7 @@ use Rattle.tables_names.specs.Closure.{Five, IsClosed, AreRising, Holds, with_na
 use Rattle.tables_names.specs.Rank.{is_member}
 use Rattle.tables_rows.specs.Stands.{StringStands, TypeStands, ProtoStands, FieldStands, MethodStands, NameStands, TypesAt}
 
--- A number for each row of the five tables, and one behind the last.
+-- A number for each row of the five tables, and one after the last.
 pub record Columns : Type 0 where
   pub strings : List ℕ
   pub types : List ℕ
@@ -27,7 +27,7 @@ pub record Marked : Type 0 where
   pub columns : Columns
   pub lists : List ℕ
 
--- A mark for each of n rows, 1 or 0, and a 0 behind the last.
+-- A mark for each of n rows, 1 or 0, and a 0 after the last.
 pub record IsColumn (n : ℕ) (column : List ℕ) : Type 0 where
   pub long : length column ≡ n + 1
   pub few : n < 2 ^ 32

@@ -22,8 +22,8 @@ pub record Counts (column numbers : List ℕ) : Type 0 where
   pub long : length numbers ≡ length column
   pub each : (i : ℕ) → i < length column → slice_index numbers i ≡ before column i
 
--- So in each of the five tables.
-pub record AreNumbers (marks numbers : Columns) : Type 0 where
+-- In each of the five tables, of each row how many marked ones stand before it.
+pub record AreRowNumbers (marks numbers : Columns) : Type 0 where
   pub strings : Counts marks.strings numbers.strings
   pub types : Counts marks.types numbers.types
   pub protos : Counts marks.protos numbers.protos
@@ -50,24 +50,24 @@ Carries N M numbers which =
 -- The numbers of a file's marked rows are the ranks of their names.
 abbrev pub KeptRowsAreRanks : Type 0
 KeptRowsAreRanks =
-    (b : List ℕ) (m : Marked) (s : Five) (numbers : Columns) → TablesHold b → AreMarks b m s → AreNumbers m.columns numbers
+    (b : List ℕ) (m : Marked) (s : Five) (numbers : Columns) → TablesHold b → AreMarks b m s → AreRowNumbers m.columns numbers
     → (which : Name) → Holds s which → Carries (NameStands b) (NameRanks s) numbers which
 
--- So with prototypes.
+-- The numbers of a file's marked rows of proto_ids are the ranks of their prototypes.
 abbrev pub KeptProtosAreRanks : Type 0
 KeptProtosAreRanks =
-    (b : List ℕ) (m : Marked) (s : Five) (numbers : Columns) → TablesHold b → AreMarks b m s → AreNumbers m.columns numbers
+    (b : List ℕ) (m : Marked) (s : Five) (numbers : Columns) → TablesHold b → AreMarks b m s → AreRowNumbers m.columns numbers
     → (p : Proto) → is_member s.protos (proto_key p) ≡ true
     → (i : ℕ) → ProtoStands b i p → (number : ℕ) × (slice_get numbers.protos i ≡ Some number) × IsAt s.protos number (proto_key p)
 
 -- The rows that are counted are those of the names.
 abbrev pub KeptRowsAreHeld : Type 0
 KeptRowsAreHeld =
-    (b : List ℕ) (m : Marked) (s : Five) (numbers : Columns) → TablesHold b → AreMarks b m s → AreNumbers m.columns numbers
+    (b : List ℕ) (m : Marked) (s : Five) (numbers : Columns) → TablesHold b → AreMarks b m s → AreRowNumbers m.columns numbers
     → ((which : Name) (i : ℕ) → NameStands b i which → IsKept (column_of numbers (kind_of which)) i ↔ Holds s which)
     × ((p : Proto) (i : ℕ) → ProtoStands b i p → IsKept numbers.protos i ↔ (is_member s.protos (proto_key p) ≡ true))
 
--- There are as many as names.
+-- The last number of each table says how many names of its kind there are.
 pub record HaveLengths (b : List ℕ) (numbers : Columns) (s : Five) : Type 0 where
   pub strings : slice_index numbers.strings (size_of b section.string_ids) ≡ length s.strings
   pub types : slice_index numbers.types (size_of b section.type_ids) ≡ length s.types
@@ -75,8 +75,8 @@ pub record HaveLengths (b : List ℕ) (numbers : Columns) (s : Five) : Type 0 wh
   pub fields : slice_index numbers.fields (size_of b section.field_ids) ≡ length s.fields
   pub methods : slice_index numbers.methods (size_of b section.method_ids) ≡ length s.methods
 
--- So each table's last number says.
+-- The last numbers of a file's tables say how many names are marked.
 abbrev pub TotalsAreLengths : Type 0
 TotalsAreLengths =
-    (b : List ℕ) (m : Marked) (s : Five) (numbers : Columns) → TablesHold b → AreMarks b m s → AreNumbers m.columns numbers
+    (b : List ℕ) (m : Marked) (s : Five) (numbers : Columns) → TablesHold b → AreMarks b m s → AreRowNumbers m.columns numbers
     → HaveLengths b numbers s

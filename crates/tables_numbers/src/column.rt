@@ -7,7 +7,7 @@ ghost use Rattle.tables_numbers.specs.Numbers.{Counts, IsKept};
 use dex_base::Fault;
 use std::alloc::Global;
 
-/// So many rows, none of them marked, and a place behind the last.
+/// So many rows, none of them marked, and a place after the last.
 pub(crate) fn unmarked(alloc: Global, count: u32) -> Result<Vec<u32>, Fault>
     ensures ok { IfOk result (λ rows. rows.items ≡ replicate (count + 1) 0) }
     ensures few { count < 2 ^ 32 }

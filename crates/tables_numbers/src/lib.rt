@@ -1,5 +1,5 @@
 //! The rows of a file's five tables that are kept, and their numbers. A row is marked where something mentions it, and
-//! with it the rows of its parts; behind that each kept row has as its number how many kept rows stand before it. A
+//! with it the rows of its parts; after that each kept row has as its number how many kept rows stand before it. A
 //! table rises, so that this is the rank of the row's name among the kept names, and no text is read.
 //!
 //! ```text

@@ -5,7 +5,7 @@ ghost use Rattle.program_types.specs.Content.{Name, OfText, OfDesc, OfField, OfM
 ghost use Rattle.tables_names.specs.Closure.{Five, nothing, with_proto};
 ghost use Rattle.tables_rows.specs.Stands.{StringStands, TypeStands, ProtoStands, FieldStands, MethodStands, TypesAt};
 ghost use Rattle.tables_numbers.specs.Marked.{AreMarks, HasMarks, AddsNames, IsRowOf};
-ghost use Rattle.tables_numbers.specs.Numbers.{AreNumbers};
+ghost use Rattle.tables_numbers.specs.Numbers.{AreRowNumbers};
 
 use crate::column::{count_before, is_marked, mark, unmarked};
 use crate::numbers::Numbers;
@@ -23,7 +23,7 @@ use tables_rows::{
 /// The marked rows of the five tables of a file: where a row is marked, the rows of its parts are. It stands for the
 /// marks and for the offsets of the lists whose types are marked (`specs/Marked.antt`).
 ///
-/// A row that was refused for want of memory isn't marked, but some of its parts may be.
+/// A row for which memory ran out isn't marked, but some of its parts may be.
 #[derive(Drop)]
 pub struct Marks {
     strings: Vec<u32>,
@@ -46,7 +46,7 @@ impl Model for Marks {
 }
 
 impl Marks {
-    /// No row of the file's tables is marked. Takes four bytes a row, and is refused only for want of memory.
+    /// No row of the file's tables is marked. Takes four bytes a row, and fails only when out of memory.
     ///
     /// ```
     /// let sections = open(&bytes)?;
@@ -92,7 +92,7 @@ impl Marks {
 
     /// Marks the types of the list at an offset, 0 for none. A list that comes again is looked at once.
     ///
-    /// The only refusal is want of memory, and then some of the types may be marked.
+    /// It fails only when out of memory, and then some of the types may be marked.
     ///
     /// ```
     /// marks.mark_list(&sections, proto_parameters(&sections, 3))?; // the parameters of prototype 3
@@ -173,7 +173,7 @@ impl Marks {
 
     /// Marks a row of the table of these names, and the rows of its parts. Of a row that is marked nothing is read.
     ///
-    /// The only refusal is want of memory: then the row isn't marked, but some of its parts may be.
+    /// It fails only when out of memory: then the row isn't marked, but some of its parts may be.
     ///
     /// ```
     /// marks.mark(&sections, IndexKind::Method, 7)?; // row 7 of method_ids, its class, name and prototype, and their parts
@@ -215,7 +215,7 @@ impl Marks {
     /// ```
     pub fn number(self) -> Numbers
         requires { (b : _) × HasMarks b self }
-        ensures { AreNumbers self.columns result }
+        ensures { AreRowNumbers self.columns result }
     {
         let Marks {
             mut strings,

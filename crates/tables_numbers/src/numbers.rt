@@ -6,7 +6,7 @@ use crate::column::is_kept;
 use dex_insn::IndexKind;
 use std::marker::Model;
 
-/// Of each row of the five tables how many kept ones stand before it, and behind the last row of a table how many there
+/// Of each row of the five tables how many kept ones stand before it, and after the last row of a table how many there
 /// are. It stands for these numbers.
 #[derive(Drop)]
 pub struct Numbers {

@@ -109,7 +109,7 @@ method_clear b framed i code h (MethodOrder flaw) = flaw.falls h.rises
 pub no_first : (Breaks : List ℕ → ℕ → ℕ → Type 0) (Holds : List ℕ → ℕ → Type 0) (b : List ℕ) (k : ℕ) (e : Fault) → ((i code : ℕ) → Holds b i → Breaks b i code → ⊥) → RowsHold Holds b (size_of b k) → IsFirstRow Breaks Holds b k e → ⊥
 no_first Breaks Holds b k e clear all first = clear first.row e.code (all first.row first.within) first.broken.breaks
 
--- a fault that is not other than want of memory
+-- a fault that is not other than out of memory
 pub only_memory : (e : Fault) → ((e ≢ memory) → ⊥) → e ≡ memory
 only_memory e not = elim (cases_lt e.code 255) [
   | inl lt ↦ absurd (not (λ is. let c : e.code ≡ 255 = ap (λ (x : Fault). x.code) is in omega (arith, c, lt)))

@@ -14,6 +14,7 @@ use Rattle.std.specs.Prelude.{MatchBool, ◌==◌}
 use Rattle.tables_rows.specs.Stands.{SpellsIndexes}
 use Rattle.dex_container.specs.Where.{slice, At, AtOrNone, IsInSection}
 use Rattle.dex_container.proofs.Standing.{at_place, At-one}
+use Rattle.base_bytes.proofs.ListFacts.{take_bytes}
 
 -- ---- numbers and their bytes
 
@@ -98,20 +99,14 @@ spelled_numbers bytes indexes s =
       numbers = rw (s.spelled, back) (sym (halves-halves_bytes indexes [] s.small));
     }
 
-take_are : (n : ℕ) (b : List ℕ) → AreBytes b → AreBytes (take n b)
-take_are n b are i = elim (cases_lt i n) [
-  | inl lt ↦ rw (get_or-take n b i 0 lt) (are i)
-  | inr ge ↦ let short = length-take n b in rw (get_or_past (take n b) i 0 (omega (arith, short, ge))) (lit< tt)
-]
-
-drop_are : (n : ℕ) (b : List ℕ) → AreBytes b → AreBytes (drop n b)
+pub drop_are : (n : ℕ) (b : List ℕ) → AreBytes b → AreBytes (drop n b)
 drop_are n b are i = rw (get_or-drop n b i 0) (are (n + i))
 
 -- the list at the front of these bytes
 pub list_begins : (rest : List ℕ) (count : ℕ) → AreBytes rest → count ≡ u32_at rest 0 → 4 + 2 * count ≤ length rest → Begins SpellsIndexes rest (halves (take (2 * count) (drop 4 rest))) (4 + 2 * count)
 list_begins rest count are is long =
     let tail = take (2 * count) (drop 4 rest) in
-    let below : AreBytes tail = take_are (2 * count) (drop 4 rest) (drop_are 4 rest are) in
+    let below : AreBytes tail = take_bytes (2 * count) (drop 4 rest) (drop_are 4 rest are) in
     let even : length tail ≡ 2 * count = simp (length-take, length-drop) (omega (arith, long)) in
     let n : length (halves tail) ≡ count = length-halves count tail even in
     record {

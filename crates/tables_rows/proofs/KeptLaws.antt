@@ -5,9 +5,7 @@ use Rattle.std.proofs.lemmas.Option.{none-some}
 use Rattle.std.specs.Map.{lookup}
 use Rattle.indexmap.specs.IndexMap.{IndexMap, get, IsEmpty, Updates}
 use Rattle.tables_rows.specs.Kept.{AreKept}
-
-some_same : {V : Type 0} (a b : V) → Some a ≡ Some b → a ≡ b
-some_same a b e = cc
+use Rattle.base_bytes.proofs.ListFacts.{some_inj}
 
 -- nothing is kept yet
 pub kept_none : {V S : Type 0} (Stands : ℕ → V → Type 0) (m : IndexMap ℕ V S) → IsEmpty m → AreKept Stands m
@@ -18,5 +16,5 @@ pub kept_more : {V S : Type 0} (Stands : ℕ → V → Type 0) (m n : IndexMap �
 kept_more {V} Stands m n off v kept stands u other w at = by (eqb off other) refl (sym (u.0 other) ∙ at)
   where
     by : (t : Bool) → eqb off other ≡ t → cond t (Some v) (get nat_eq m other) ≡ Some w → Stands other w
-    by true t e = subst (λ (k : ℕ). Stands k w) (eqb-true off other t) (subst (λ (x : V). Stands off x) (some_same v w e) stands)
+    by true t e = subst (λ (k : ℕ). Stands k w) (eqb-true off other t) (subst (λ (x : V). Stands off x) (some_inj v w e) stands)
     by false t e = kept other w e

@@ -9,7 +9,7 @@ use Rattle.std.proofs.lemmas.Option.{slice_get-map, slice_get-get_or, slice_get_
 use Rattle.dex_base.specs.Descriptor.{IsMemberName}
 use Rattle.program_types.specs.View.{str}
 use Rattle.program_types.specs.declared.names.Str.{Str}
-use Rattle.tables_rows.specs.Reading.{AreMarks}
+use Rattle.tables_rows.specs.Reading.{AreNameMarks}
 
 -- the first n marks say of their texts whether these are member names
 pub record MarkFirst (texts : List (List ℕ)) (marks : List Bool) (n : ℕ) : Type 0 where
@@ -42,7 +42,7 @@ pub here_is : (xs : List Str) (i : ℕ) (d : Str) → i < length xs → slice_ge
 here_is xs i d lt = slice_get-map str xs i ∙ ap (option_map str) (slice_get-get_or xs i d lt)
 
 -- and when all are marked
-pub marks_all : (xs : List Str) (marks : List Bool) (n : ℕ) → length xs ≤ n → n ≤ length xs → MarkFirst (map str xs) marks n → AreMarks (map str xs) marks
+pub marks_all : (xs : List Str) (marks : List Bool) (n : ℕ) → length xs ≤ n → n ≤ length xs → MarkFirst (map str xs) marks n → AreNameMarks (map str xs) marks
 marks_all xs marks n most least first = record {
   count = let c = first.count in let m = length-map xs str in omega (arith, c, m);
   each = λ i text got. first.each i text (let w = slice_get_within (map str xs) i text got in let m = length-map xs str in omega (arith, w, m)) got;

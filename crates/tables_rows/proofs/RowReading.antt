@@ -23,16 +23,7 @@ use Rattle.dex_container.specs.declared.section.Section.{Section}
 use Rattle.base_bytes.specs.Grammar.{Begins, NoneBegins}
 use Rattle.program_types.specs.View.{str}
 use Rattle.program_types.specs.declared.names.Str.{Str}
-
--- an element of a list that one more was added to
-pub slice_get-push : {V : Type 0} (xs : List V) (y v : V) (i : ℕ) → slice_get (xs ++ y ∷ []) i ≡ Some v → (slice_get xs i ≡ Some v) ⊎ ((i ≡ length xs) × (y ≡ v))
-slice_get-push [] y v zero e = inr (refl, cc)
-slice_get-push [] y v (suc i) e = absurd cc
-slice_get-push (x ∷ xs) y v zero e = inl e
-slice_get-push (x ∷ xs) y v (suc i) e = elim (slice_get-push xs y v i e) [
-  | inl at ↦ inl at
-  | inr p ↦ inr (ap suc p.0, p.1)
-]
+use Rattle.base_bytes.proofs.ListFacts.{passed, slice_split}
 
 module _ {V : Type 0} (S : List ℕ → ℕ → V → Type 0) (H : List ℕ → ℕ → Type 0) (b : List ℕ) where
   pub first_none : AreFirst S H b 0 []
@@ -41,7 +32,7 @@ module _ {V : Type 0} (S : List ℕ → ℕ → V → Type 0) (H : List ℕ → 
   pub first_more : (n : ℕ) (names : List V) (v : V) → AreFirst S H b n names → S b n v → H b n → AreFirst S H b (n + 1) (names ++ v ∷ [])
   first_more n names v f stands holds = record {
     count = length_push names v ∙ ap (λ k. k + 1) f.count;
-    each = λ i w e. elim (slice_get-push names v w i e) [
+    each = λ i w e. elim (slice_split names v w i e) [
       | inl at ↦ f.each i w at
       | inr p ↦ let same : n ≡ i = sym (p.0 ∙ f.count) in subst (λ (x : V). S b i x) p.1 (subst (λ (k : ℕ). S b k v) same stands)
     ];
@@ -116,11 +107,6 @@ pub string_none : (b rest : List ℕ) (s : Section) (i place : ℕ) → IsSectio
     → NoneBegins SpellsText rest → (text : List ℕ) → StringStands b i text → ⊥
 string_none b rest s i place is same at none text st =
     stands_not SpellsText b rest 0x2002 1 s place is same text none (subst (λ (q : ℕ). At SpellsText b 0x2002 1 q text) (sym at) st.text)
-
--- what a `?` passes on
-pub passed : {T E : Type 0} (r : Result T E) (e : E) (P : E → Type 0) → IsErrAnd r (λ x. x ≡ e) → P e → IfErr r P
-passed (Ok x) e P is p = tt
-passed (Err y) e P is p = subst P (sym is) p
 
 -- the fault of a row, where the rows before hold
 pub first_row : (Breaks : List ℕ → ℕ → ℕ → Type 0) (Holds : List ℕ → ℕ → Type 0) (b : List ℕ) (k i : ℕ) (e : Fault) → i < size_of b k → RowsHold Holds b i → BreaksAt Breaks b k i e → IsFirstRow Breaks Holds b k e

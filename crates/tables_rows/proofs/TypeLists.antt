@@ -30,7 +30,7 @@ module _ (T : ℕ → Units → Type 0) (b : List ℕ) (off : ℕ) where
       by true e = ([], (refl, subst (λ (x : List Units). AllZip T [] x) (sym e) tt))
       by false a =
           let s = a.spelled in
-          (s.indexes, (record { begin = a.begin; end = a.end; section = a.section; behind = a.behind; aligned = a.aligned; size = a.size; within = a.within; spelled = s.spelled }, s.named))
+          (s.indexes, (record { begin = a.begin; end = a.end; section = a.section; after = a.after; aligned = a.aligned; size = a.size; within = a.within; spelled = s.spelled }, s.named))
 
   -- and back
   pub list_of : (indexes : List ℕ) (ts : List Units) → AtOrNone SpellsIndexes b 0x1001 4 off indexes → AllZip T indexes ts → ListAt T b off ts
@@ -44,7 +44,7 @@ module _ (T : ℕ → Units → Type 0) (b : List ℕ) (off : ℕ) where
       by : (z : Bool) → MatchBool z (indexes ≡ []) (At SpellsIndexes b 0x1001 4 off indexes) → MatchBool z (ts ≡ []) (At (SpellsTypes T) b 0x1001 4 off ts)
       by true e = none indexes ts e named
       by false a =
-          record { begin = a.begin; end = a.end; section = a.section; behind = a.behind; aligned = a.aligned; size = a.size; within = a.within; spelled = record { indexes = indexes; spelled = a.spelled; named = named } }
+          record { begin = a.begin; end = a.end; section = a.section; after = a.after; aligned = a.aligned; size = a.size; within = a.within; spelled = record { indexes = indexes; spelled = a.spelled; named = named } }
 
   -- no list of indices, no list of types
   pub no_list : ((indexes : List ℕ) → AtOrNone SpellsIndexes b 0x1001 4 off indexes → ⊥) → (ts : List Units) → ListAt T b off ts → ⊥

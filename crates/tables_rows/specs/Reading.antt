@@ -15,6 +15,6 @@ abbrev pub LastIsBelow : List (List ℕ) → List ℕ → Type 0
 LastIsBelow texts next = (j : ℕ) (last : List ℕ) → j + 1 ≡ length texts → slice_get texts j ≡ Some last → IsBelow last next
 
 -- Of each text, whether it is a member name.
-pub record AreMarks (texts : List (List ℕ)) (marks : List Bool) : Type 0 where
+pub record AreNameMarks (texts : List (List ℕ)) (marks : List Bool) : Type 0 where
   pub count : length marks ≡ length texts
   pub each : (i : ℕ) (text : List ℕ) → slice_get texts i ≡ Some text → IsTrue (get_or marks i false) ↔ IsMemberName text

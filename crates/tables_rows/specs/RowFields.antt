@@ -49,5 +49,5 @@ unfoldable pub member_name : List ℕ → ℕ → ℕ → ℕ
 member_name b k i = u32_at b (row_place b k i + 4)
 
 -- the indices by which such rows are ordered: class, name, type or proto
-abbrev pub member_key : List ℕ → ℕ → ℕ → List ℕ
-member_key b k i = member_class b k i ∷ member_name b k i ∷ member_kind b k i ∷ []
+abbrev pub member_indices : List ℕ → ℕ → ℕ → List ℕ
+member_indices b k i = member_class b k i ∷ member_name b k i ∷ member_kind b k i ∷ []

@@ -8,7 +8,7 @@ use Rattle.dex_container.specs.Layout.{size_of}
 use Rattle.program_types.specs.Content.{Units}
 use Rattle.dex_container.specs.Where.{AtOrNone}
 use Rattle.dex_container.specs.Section as section
-use Rattle.tables_rows.specs.RowFields.{type_string, proto_return, proto_parameters, member_key}
+use Rattle.tables_rows.specs.RowFields.{type_string, proto_return, proto_parameters, member_indices}
 use Rattle.tables_rows.specs.Stands.{StringStands, TypeStands, ProtoStands, FieldStands, MethodStands, SpellsIndexes}
 
 -- the order of lists of numbers: the first that differs decides
@@ -35,7 +35,7 @@ ProtoIsBelow b i j = (x y : List ℕ) → ProtoIndexes b i x → ProtoIndexes b 
 
 -- Fields (k = 3) and methods (k = 4) are in the order of class, name, type or proto, by index.
 abbrev pub MemberIsBelow : ℕ → List ℕ → ℕ → ℕ → Type 0
-MemberIsBelow k b i j = IsBelow (member_key b k i) (member_key b k j)
+MemberIsBelow k b i j = IsBelow (member_indices b k i) (member_indices b k j)
 
 -- The row before row i, if there is one, is below it.
 abbrev pub RowRises : (List ℕ → ℕ → ℕ → Type 0) → List ℕ → ℕ → Type 0

@@ -23,14 +23,14 @@ pub record IsOutOfOrder {V : Type 0} (Stands : List ℕ → ℕ → V → Type 0
   pub falls : ¬ RowRises Below b i
 
 -- Row i names a place among the texts, and no text stands there.
-pub record IsMisspelled (b : List ℕ) (i : ℕ) : Type 0 where
+pub record HasNoText (b : List ℕ) (i : ℕ) : Type 0 where
   pub inside : IsInSection b 0x2002 (string_place b i)
   pub none : (s : Units) → ¬ StringStands b i s
 
 -- The rule that row i of string_ids breaks: the first, since each is asked only where those before it hold.
 pub data StringBreaks (b : List ℕ) (i : ℕ) : ℕ → Type 0 where
   StringPlace : ¬ IsInSection b 0x2002 (string_place b i) → StringBreaks b i 20
-  StringSpelling : IsMisspelled b i → StringBreaks b i 21
+  StringSpelling : HasNoText b i → StringBreaks b i 21
   StringOrder : IsOutOfOrder StringStands StringIsBelow b i → StringBreaks b i 22
 
 -- Row i has a string, and that is no descriptor.
@@ -54,7 +54,7 @@ pub record ParametersAt (b : List ℕ) (place : ℕ) (ts : List Units) : Type 0 
 abbrev pub ProtoIsOut : List ℕ → ℕ → Type 0
 ProtoIsOut b i = (size_of b section.string_ids ≤ proto_shorty b i) ⊎ (size_of b section.type_ids ≤ proto_return b i)
 
--- Both are in their tables, and no list of parameters stands.
+-- The indices of shorty and return type are in their tables, and no list of parameters stands.
 pub record HasNoParameters (b : List ℕ) (i : ℕ) : Type 0 where
   pub shorty : proto_shorty b i < size_of b section.string_ids
   pub ret : proto_return b i < size_of b section.type_ids

@@ -5,7 +5,7 @@ ghost use Rattle.dex_container.specs.Layout.{size_of};
 ghost use Rattle.dex_container.specs.Section as section;
 ghost use Rattle.program_types.specs.View.{str, desc, field_ref};
 ghost use Rattle.tables_rows.specs.Names.{AreRows};
-ghost use Rattle.tables_rows.specs.Reading.{AreMarks};
+ghost use Rattle.tables_rows.specs.Reading.{AreNameMarks};
 ghost use Rattle.tables_rows.specs.Sorted.{FieldHolds, FieldsHold};
 ghost use Rattle.tables_rows.specs.Stands.{StringStands, TypeStands, FieldStands};
 ghost use Rattle.tables_rows.specs.TableFaults.{FieldBreaks, BreaksAt, IsFirstRow};
@@ -32,7 +32,7 @@ pub(crate) fn read_fields<'a>(
     types: &[Desc<'a>],
 ) -> Result<&'a [FieldRef<'a>], Fault>
     requires strings { AreRows StringStands sections.now section.string_ids (map str strings.now) }
-    requires names { AreMarks (map str strings.now) names.now }
+    requires names { AreNameMarks (map str strings.now) names.now }
     requires types { AreRows TypeStands sections.now section.type_ids (map desc types.now) }
     ensures rows { IfOk result (λ fields. AreRows FieldStands sections.now section.field_ids (map field_ref fields.now)) }
     ensures hold { IfOk result (λ _. FieldsHold sections.now) }
@@ -57,7 +57,7 @@ fn next_field<'a>(
     i: u32,
 ) -> Result<FieldRef<'a>, Fault>
     requires strings { AreRows StringStands sections.now section.string_ids (map str strings.now) }
-    requires names { AreMarks (map str strings.now) names.now }
+    requires names { AreNameMarks (map str strings.now) names.now }
     requires types { AreRows TypeStands sections.now section.type_ids (map desc types.now) }
     requires row { i < size_of sections.now section.field_ids }
     ensures ok { IfOk result (λ f. FieldStands sections.now i (field_ref f)) }
@@ -81,7 +81,7 @@ fn read_field<'a>(
     i: u32,
 ) -> Result<FieldRef<'a>, Fault>
     requires strings { AreRows StringStands sections.now section.string_ids (map str strings.now) }
-    requires names { AreMarks (map str strings.now) names.now }
+    requires names { AreNameMarks (map str strings.now) names.now }
     requires types { AreRows TypeStands sections.now section.type_ids (map desc types.now) }
     requires row { i < size_of sections.now section.field_ids }
     ensures ok { IfOk result (λ f. FieldStands sections.now i (field_ref f)) }

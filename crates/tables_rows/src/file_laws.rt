@@ -17,7 +17,7 @@ pub fn names_of_a_file_are_its_rows()
     ensures one { (b : List ℕ) (x y : _) → IsFramed b → AreNamesOf b x → AreNamesOf b y → x ≡ y }
 {}
 
-/// So with the lists of types: one stands in the file exactly if it does by the types of the file's tables.
+/// A list of types stands in a file exactly if it does by the types of the file's tables.
 pub fn lists_of_a_file_are_of_its_rows()
     ensures there { (b : List ℕ) (names : _) (off : ℕ) (ts : _) → AreNamesOf b names → ListAt (TypeIsAt names.types) b off ts → TypesAt b off ts }
     ensures only { (b : List ℕ) (names : _) (off : ℕ) (ts : _) → IsFramed b → AreNamesOf b names → TypesAt b off ts → ListAt (TypeIsAt names.types) b off ts }

@@ -5,7 +5,7 @@ ghost use Rattle.dex_container.specs.Layout.{size_of};
 ghost use Rattle.dex_container.specs.Section as section;
 ghost use Rattle.program_types.specs.View.{str, desc, proto, method_ref};
 ghost use Rattle.tables_rows.specs.Names.{AreRows};
-ghost use Rattle.tables_rows.specs.Reading.{AreMarks};
+ghost use Rattle.tables_rows.specs.Reading.{AreNameMarks};
 ghost use Rattle.tables_rows.specs.Sorted.{MethodHolds, MethodsHold};
 ghost use Rattle.tables_rows.specs.Stands.{StringStands, TypeStands, ProtoStands, MethodStands};
 ghost use Rattle.tables_rows.specs.TableFaults.{MethodBreaks, BreaksAt, IsFirstRow};
@@ -34,7 +34,7 @@ pub(crate) fn read_methods<'a>(
     protos: &'a [Proto<'a>],
 ) -> Result<&'a [MethodRef<'a>], Fault>
     requires strings { AreRows StringStands sections.now section.string_ids (map str strings.now) }
-    requires names { AreMarks (map str strings.now) names.now }
+    requires names { AreNameMarks (map str strings.now) names.now }
     requires types { AreRows TypeStands sections.now section.type_ids (map desc types.now) }
     requires protos { AreRows ProtoStands sections.now section.proto_ids (map proto protos.now) }
     ensures rows { IfOk result (λ methods. AreRows MethodStands sections.now section.method_ids (map method_ref methods.now)) }
@@ -61,7 +61,7 @@ fn next_method<'a>(
     i: u32,
 ) -> Result<MethodRef<'a>, Fault>
     requires strings { AreRows StringStands sections.now section.string_ids (map str strings.now) }
-    requires names { AreMarks (map str strings.now) names.now }
+    requires names { AreNameMarks (map str strings.now) names.now }
     requires types { AreRows TypeStands sections.now section.type_ids (map desc types.now) }
     requires protos { AreRows ProtoStands sections.now section.proto_ids (map proto protos.now) }
     requires row { i < size_of sections.now section.method_ids }
@@ -87,7 +87,7 @@ fn read_method<'a>(
     i: u32,
 ) -> Result<MethodRef<'a>, Fault>
     requires strings { AreRows StringStands sections.now section.string_ids (map str strings.now) }
-    requires names { AreMarks (map str strings.now) names.now }
+    requires names { AreNameMarks (map str strings.now) names.now }
     requires types { AreRows TypeStands sections.now section.type_ids (map desc types.now) }
     requires protos { AreRows ProtoStands sections.now section.proto_ids (map proto protos.now) }
     requires row { i < size_of sections.now section.method_ids }

@@ -3,7 +3,7 @@
 ghost use Rattle.std.specs.Prelude.{◌≡◌, IfOk, IsOkUnless, get_or, map, false};
 ghost use Rattle.base_bytes.specs.Fault.{memory};
 ghost use Rattle.program_types.specs.View.{str};
-ghost use Rattle.tables_rows.specs.Reading.{AreMarks};
+ghost use Rattle.tables_rows.specs.Reading.{AreNameMarks};
 
 use dex_base::{Fault, is_member_name};
 use program_types::Str;
@@ -11,7 +11,7 @@ use std::alloc::Global;
 
 /// For each string whether it is a member name.
 pub(crate) fn mark_names(alloc: Global, strings: &[Str<'_>]) -> Result<Vec<bool>, Fault>
-    ensures marks { IfOk result (λ names. AreMarks (map str strings.now) names.items) }
+    ensures marks { IfOk result (λ names. AreNameMarks (map str strings.now) names.items) }
     ensures memory { IsOkUnless result memory }
 {
     let mut names = Vec::with_capacity(alloc, strings.len())?;

@@ -171,7 +171,8 @@ fn read_parameters<'a>(
     Ok(Some(params))
 }
 
-// The same, with what is known of it: what is kept of the offset, or the list that is read now.
+// The parameters of the list at an offset, none of them void, with what is known of the list: what is kept of the
+// offset, or the list that is read now.
 fn parameters_at<'a>(
     arena: &'a Bump,
     sections: &Sections<'_>,
@@ -194,7 +195,7 @@ fn parameters_at<'a>(
     let Some(params) = read_parameters(arena, sections, lists, types, off)? else {
         return Ok(None);
     };
-    // (no row of string_ids: that behind the last one)
+    // (no row of string_ids: that after the last one)
     let (shorty, _) = sections.table(kind::STRING_ID_ITEM);
     Ok(Some(Known {
         params,

@@ -15,7 +15,7 @@ pub enum MemberTable {
 }
 
 impl MemberTable {
-    // Its kind in the map.
+    // The kind of the table in the map.
     fn kind(self) -> u16
         ensures { result ≡ number_of self + 1 }
     {
@@ -34,7 +34,7 @@ pub(crate) fn string_row(sections: &Sections<'_>, i: u32) -> u64
     u64::from(sections.table(kind::STRING_ID_ITEM).1) + 4 * u64::from(i)
 }
 
-/// Its string_data_off.
+/// string_data_off of row i of string_ids.
 #[tactic(auto, unfolding(crate::specs::RowFields::string_place))]
 pub(crate) fn string_place(sections: &Sections<'_>, i: u32) -> u32
     requires { i < size_of sections.now section.string_ids }
@@ -52,7 +52,7 @@ pub(crate) fn type_row(sections: &Sections<'_>, i: u32) -> u64
     u64::from(sections.table(kind::TYPE_ID_ITEM).1) + 4 * u64::from(i)
 }
 
-/// Its descriptor_idx.
+/// descriptor_idx of row i of type_ids.
 #[tactic(auto, unfolding(crate::specs::RowFields::type_string))]
 pub fn type_string(sections: &Sections<'_>, i: u32) -> u32
     requires { i < size_of sections.now section.type_ids }
@@ -70,7 +70,7 @@ pub(crate) fn proto_row(sections: &Sections<'_>, i: u32) -> u64
     u64::from(sections.table(kind::PROTO_ID_ITEM).1) + 12 * u64::from(i)
 }
 
-/// Its shorty_idx.
+/// shorty_idx of row i of proto_ids.
 #[tactic(auto, unfolding(crate::specs::RowFields::proto_shorty))]
 pub fn proto_shorty(sections: &Sections<'_>, i: u32) -> u32
     requires { i < size_of sections.now section.proto_ids }
@@ -80,7 +80,7 @@ pub fn proto_shorty(sections: &Sections<'_>, i: u32) -> u32
     u32_at(sections.bytes(), place as usize)
 }
 
-/// Its return_type_idx.
+/// return_type_idx of row i of proto_ids.
 #[tactic(auto, unfolding(crate::specs::RowFields::proto_return))]
 pub fn proto_return(sections: &Sections<'_>, i: u32) -> u32
     requires { i < size_of sections.now section.proto_ids }
@@ -90,7 +90,7 @@ pub fn proto_return(sections: &Sections<'_>, i: u32) -> u32
     u32_at(sections.bytes(), place as usize + 4)
 }
 
-/// Its parameters_off.
+/// parameters_off of row i of proto_ids.
 #[tactic(auto, unfolding(crate::specs::RowFields::proto_parameters))]
 pub fn proto_parameters(sections: &Sections<'_>, i: u32) -> u32
     requires { i < size_of sections.now section.proto_ids }
@@ -118,7 +118,7 @@ pub fn member_class(sections: &Sections<'_>, table: MemberTable, i: u32) -> u16
     u16_at(sections.bytes(), place as usize)
 }
 
-/// Its type_idx or proto_idx.
+/// type_idx of row i of field_ids, or proto_idx of row i of method_ids.
 #[tactic(auto, unfolding(crate::specs::RowFields::member_kind))]
 pub fn member_kind(sections: &Sections<'_>, table: MemberTable, i: u32) -> u16
     requires { i < size_of sections.now (number_of table) }
@@ -128,7 +128,7 @@ pub fn member_kind(sections: &Sections<'_>, table: MemberTable, i: u32) -> u16
     u16_at(sections.bytes(), place as usize + 2)
 }
 
-/// Its name_idx.
+/// name_idx of row i of field_ids or method_ids.
 #[tactic(auto, unfolding(crate::specs::RowFields::member_name))]
 pub fn member_name(sections: &Sections<'_>, table: MemberTable, i: u32) -> u32
     requires { i < size_of sections.now (number_of table) }

@@ -56,7 +56,7 @@ impl<'a> Model for Tables<'a> {
 impl<'a> Tables<'a> {
     /// The names of the five tables of a file, every row of which must denote a name, used or not, and be above the row
     /// before it. The faults are 20 to 35, in the order of the tables; in each the lowest row is answered, at its place
-    /// in bytes, and in a row the first fault in the order 20 to 25, 26, 28, 27, 29, 30 to 35. 255 is want of memory.
+    /// in bytes, and in a row the first fault in the order 20 to 25, 26, 28, 27, 29, 30 to 35. 255 is out of memory.
     ///
     /// ```
     /// use bumpalo::Bump;
@@ -85,7 +85,7 @@ impl<'a> Tables<'a> {
 
     /// The types of the list at an offset of this file: the empty list for 0, else the list that stands there (a
     /// type_list in its section, 4-aligned), and None exactly where none stands or an index has no row. Placed in the
-    /// arena. The only refusal is want of memory.
+    /// arena. It fails only when out of memory.
     ///
     /// ```
     /// use bumpalo::Bump;

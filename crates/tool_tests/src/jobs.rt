@@ -12,7 +12,7 @@ const ASSEMBLE: Job = Job::Assemble { align: false };
 
 const ALIGN: Job = Job::Assemble { align: true };
 
-// What a run writes; a failure, want of memory too, as nothing.
+// What a run writes; a failure, out of memory too, as nothing.
 fn made(alloc: Global, job: Job, given: &[u8]) -> Vec<u8> {
     let mut input = Watched::new(given);
     let mut output = Watched::new(Vec::new(alloc));
@@ -167,7 +167,7 @@ fn what_is_assembled_is_listed(rt: HostRuntime) -> Result<(), Fail> {
             Given::Escapes,
         ),
         (
-            "a payload behind a nop",
+            "a payload after a nop",
             ASSEMBLE,
             Given::EvenPayload,
             Given::EvenPayload,

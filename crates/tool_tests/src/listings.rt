@@ -54,7 +54,7 @@ end code
 end class
 ";
 
-/// The same program with its payload behind a nop.
+/// The same program with its payload after a nop.
 pub static EVEN_PAYLOAD: &[u8] = b"\
 dex 035 listing 2
 class LA; 0x1

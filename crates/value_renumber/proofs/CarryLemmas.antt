@@ -14,23 +14,25 @@ use Rattle.tables_rows.specs.Stands.{NameStands}
 use Rattle.dex_value.specs.declared.types.NameType.{NameType}
 use Rattle.std.proofs.lemmas.Option.{slice_get_within}
 use Rattle.dex_value.specs.Named.{IsPlain}
-use Rattle.dex_value.specs.Reading.{name_code, kind_of as table_of, IsNumber, ValueStands}
-use Rattle.dex_value.specs.Spelling.{unsigned_of, type_of, SpellsValue, SpellsArray, count_of}
+use Rattle.dex_value.specs.Reading.{name_code, table_of_type, IsNumber, ValueStands}
+use Rattle.dex_value.specs.Spelling.{unsigned_of, value_type_of, SpellsValue, SpellsArray, count_of}
 use Rattle.dex_value.specs.Writing.{UnsignedAs, IndexAs}
 use Rattle.dex_value.proofs.Appending.{index_appends, array_appends, array_value_appends}
 use Rattle.dex_value.proofs.FrontLaws.{stands_one}
 use Rattle.dex_value.proofs.Fronts.{LoneFront, BareNull, BareFalse, BareTrue}
 use Rattle.dex_value.proofs.Lists.{listed, length-listed, values-listed}
 use Rattle.dex_value.proofs.Namings.{number_stands}
-use Rattle.value_laws.proofs.Carrying.{NameStands-functional}
+use Rattle.dex_value.proofs.Carrying.{NameStands-functional}
 use Rattle.tables_numbers.specs.Marked.{Columns, kind_of}
 use Rattle.tables_numbers.specs.Numbers.{Carries, column_of}
 use Rattle.value_renumber.specs.Walks.{IsLow, IsCarriedLow, IsCarriedValue, AreCarriedValues}
 use Rattle.value_renumber.proofs.FrontLemmas.{TakenArray, next_value, values_due}
 use Rattle.value_renumber.specs.Carried.{IsCarriedArray, IsItemOf}
 use Rattle.value_renumber.proofs.NameLemmas.{NamedRow, row_of_low}
+use Rattle.base_bytes.proofs.ListFacts.{some_inj}
+use Rattle.value_renumber.proofs.MarkLemmas.{drop_none, none_left}
 
--- ---- a value of bytes behind its head
+-- ---- a value of bytes after its head
 
 pub number_plain : (t : ℕ) (low : List ℕ) (v : Value) → IsNumber t low v → IsPlain v
 number_plain t low (Named which) s = s
@@ -48,7 +50,7 @@ pub record CarriedName (numbers : Columns) (s : Five) (table : IndexKind) (i t :
   pub at : slice_get (column_of numbers table) i ≡ Some number
   pub appends : (old new : List ℕ) → Appends (Shortest (UnsignedAs t 4)) old new number → Appends (Shortest (SpellsValue (NameRanks s))) old new v
 
-named_appends : (N : ℕ → Name → Type 0) (which : Name) (old new : List ℕ) → Appends (Shortest (IndexAs N (type_of which))) old new which → Appends (Shortest (SpellsValue N)) old new (Named which)
+named_appends : (N : ℕ → Name → Type 0) (which : Name) (old new : List ℕ) → Appends (Shortest (IndexAs N (value_type_of which))) old new which → Appends (Shortest (SpellsValue N)) old new (Named which)
 named_appends N which old new a = record { bytes = a.bytes; joined = a.joined; spelled = record { spelled = a.spelled.spelled; least = a.spelled.least } }
 
 enum_appends : (N : ℕ → Name → Type 0) (f : _) (old new : List ℕ) → Appends (Shortest (IndexAs N 27)) old new (OfField f) → Appends (Shortest (SpellsValue N)) old new (Enum f)
@@ -58,22 +60,22 @@ module _ (b : List ℕ) (numbers : Columns) (s : Five) (ty : NameType) (t : ℕ)
   column_at : (which : Name) (table : IndexKind) (number : ℕ) → kind_of which ≡ table → slice_get (column_of numbers (kind_of which)) (unsigned_of low) ≡ Some number → slice_get (column_of numbers table) (unsigned_of low) ≡ Some number
   column_at which table number e at = subst (λ (k : IndexKind). slice_get (column_of numbers k) (unsigned_of low) ≡ Some number) e at
 
-  of_row : (v : Value) (which : Name) → NamedRow b (table_of ty) (unsigned_of low) v → names_of_value v ≡ which ∷ [] → kind_of which ≡ table_of ty
+  of_row : (v : Value) (which : Name) → NamedRow b (table_of_type ty) (unsigned_of low) v → names_of_value v ≡ which ∷ [] → kind_of which ≡ table_of_type ty
   of_row v which r names = let same : r.which ≡ which = (let e = r.names in cc) in ap kind_of (sym same) ∙ r.row.kind
 
-  by : (v : Value) → AreRising s → NamedRow b (table_of ty) (unsigned_of low) v → ValueStands (NameStands b) t low v → NamesHold (Carries (NameStands b) (NameRanks s) numbers) v → CarriedName numbers s (table_of ty) (unsigned_of low) t v
+  by : (v : Value) → AreRising s → NamedRow b (table_of_type ty) (unsigned_of low) v → ValueStands (NameStands b) t low v → NamesHold (Carries (NameStands b) (NameRanks s) numbers) v → CarriedName numbers s (table_of_type ty) (unsigned_of low) t v
   by (Named which) up r st c =
       let x = c (unsigned_of low) st.1 in
       record {
         number = x.0;
-        at = column_at which (table_of ty) x.0 (of_row (Named which) which r refl) x.1;
-        appends = λ old new a. named_appends (NameRanks s) which old new (index_appends s (type_of which) x.0 which old new up x.2 (subst (λ (k : ℕ). Appends (Shortest (UnsignedAs k 4)) old new x.0) st.0 a));
+        at = column_at which (table_of_type ty) x.0 (of_row (Named which) which r refl) x.1;
+        appends = λ old new a. named_appends (NameRanks s) which old new (index_appends s (value_type_of which) x.0 which old new up x.2 (subst (λ (k : ℕ). Appends (Shortest (UnsignedAs k 4)) old new x.0) st.0 a));
       }
   by (Enum f) up r st c =
       let x = c (unsigned_of low) st.1 in
       record {
         number = x.0;
-        at = column_at (OfField f) (table_of ty) x.0 (of_row (Enum f) (OfField f) r refl) x.1;
+        at = column_at (OfField f) (table_of_type ty) x.0 (of_row (Enum f) (OfField f) r refl) x.1;
         appends = λ old new a. enum_appends (NameRanks s) f old new (index_appends s 27 x.0 (OfField f) old new up x.2 (subst (λ (k : ℕ). Appends (Shortest (UnsignedAs k 4)) old new x.0) st.0 a));
       }
   by (Array vs) up r st c = absurd st
@@ -87,7 +89,7 @@ module _ (b : List ℕ) (numbers : Columns) (s : Five) (ty : NameType) (t : ℕ)
   by Null up r st c = absurd st
   by (Boolean x) up r st c = absurd st
 
-  pub carried_name : (v : Value) → IsCarriedLow b numbers s t low v → CarriedName numbers s (table_of ty) (unsigned_of low) t v
+  pub carried_name : (v : Value) → IsCarriedLow b numbers s t low v → CarriedName numbers s (table_of_type ty) (unsigned_of low) t v
   carried_name v c = by v c.rise (row_of_low b ty t low v is c.low) c.low.stands c.carried
 
 -- ---- a head alone
@@ -106,7 +108,7 @@ lone_appends N h old new v joined (BareTrue e i) = alone N h 63 old new v (Boole
 
 -- ---- an array
 
--- the values of an array value, as they are due behind its count
+-- the values of an array value, as they are due after its count
 pub inner_carried : (b : List ℕ) (numbers : Columns) (s : Five) (tail rest : List ℕ) (v : Value) (n : ℕ) (left : List ℕ) → IsFramed b → AreRising s → NamesHold (Carries (NameStands b) (NameRanks s) numbers) v → (t : TakenArray (NameStands b) tail v rest) → count_of t.vs ≡ n → t.mid ≡ left → AreCarriedValues b numbers s n left (listed t.vs) rest
 inner_carried b numbers s tail rest v n left framed up c t count mid = record {
   framed = framed;
@@ -120,7 +122,7 @@ array_spelled N start one two new v vs n is count head c a =
     subst (λ (x : Value). Appends (Shortest (SpellsValue N)) start new x) (ap Array (values-listed vs) ∙ sym is)
     (array_value_appends N one two new n (listed vs) start (length-listed vs ∙ count) head c a)
 
--- ---- values one behind the other
+-- ---- values one after the other
 
 -- what holds of the names of all holds of those of one
 all_at : (P : Name → Type 0) (vs : List Value) (i : ℕ) → i < length vs → AllNamesHold P (values vs) → NamesHold P (get_or vs i Null)
@@ -164,16 +166,6 @@ renumbered_next b numbers s n bytes left after turn vs rest old out new lt c r d
       due = subst (λ (l : List ℕ). Takes (Each (SpellsValue (NameStands b))) l (drop (turn + 1) vs) rest) (sym follows) d.more;
     }
 
-none_left : (N : ℕ → Name → Type 0) (left rest : List ℕ) (vs : List Value) → vs ≡ [] → Takes (Each (SpellsValue N)) left vs rest → left ≡ rest
-none_left N left rest [] e t = t.whole ∙ ap (λ l. l ++ rest) t.spelled
-none_left N left rest (v ∷ vs) e t = absurd cc
-
-drop_none : (vs : List Value) (i : ℕ) → length vs ≤ i → drop i vs ≡ []
-drop_none [] zero le = refl
-drop_none [] (suc i) le = refl
-drop_none (v ∷ vs) zero le = absurd (omega (arith, le))
-drop_none (v ∷ vs) (suc i) le = drop_none vs i (omega (arith, le))
-
 pub renumbered_end : (b : List ℕ) (numbers : Columns) (s : Five) (n : ℕ) (bytes left : List ℕ) (turn : ℕ) (vs : List Value) (rest old out : List ℕ) → n ≤ turn → AreCarriedValues b numbers s n bytes vs rest → Renumbered b s old out left turn vs rest → Appends (Each (Shortest (SpellsValue (NameRanks s)))) old out vs × (left ≡ rest)
 renumbered_end b numbers s n bytes left turn vs rest old out le c r =
     let count = c.taken.spelled.0 in
@@ -184,13 +176,10 @@ renumbered_end b numbers s n bytes left turn vs rest old out le c r =
 
 -- ---- indices
 
-some_same : {V : Type 0} (x y : V) → Some x ≡ Some y → x ≡ y
-some_same x y e = cc
-
 -- the number that was looked up
 pub number_at : (numbers : Columns) (table asked : IndexKind) (i j n m : ℕ) → asked ≡ table → j ≡ i → slice_get (column_of numbers asked) j ≡ Some m → slice_get (column_of numbers table) i ≡ Some n → m ≡ n
 number_at numbers table asked i j n m same at there here =
-    some_same m n (sym (subst (λ (k : IndexKind). slice_get (column_of numbers k) i ≡ Some m) same (subst (λ (k : ℕ). slice_get (column_of numbers asked) k ≡ Some m) at there)) ∙ here)
+    some_inj m n (sym (subst (λ (k : IndexKind). slice_get (column_of numbers k) i ≡ Some m) same (subst (λ (k : ℕ). slice_get (column_of numbers asked) k ≡ Some m) at there)) ∙ here)
 
 -- it can be looked up
 pub index_within : (numbers : Columns) (table asked : IndexKind) (i j n : ℕ) → asked ≡ table → j ≡ i → slice_get (column_of numbers table) i ≡ Some n → j < length (column_of numbers asked)

@@ -15,8 +15,9 @@ use Rattle.dex_value.specs.Spelling.{SpellsValue, SpellsValues, SpellsArray, cou
 use Rattle.dex_value.proofs.Fronts.{SizedFront, LoneFront, Front, front}
 use Rattle.dex_value.proofs.FrontLaws.{cons_head, first_of_lone, sized_not_array, sized_not_lone}
 use Rattle.dex_value.proofs.Lists.{listed, length-listed}
+use Rattle.base_bytes.proofs.ListFacts.{number_one}
 
--- the head of a value without bytes behind it
+-- the head of a value without bytes after it
 abbrev pub IsLone : ℕ → Type 0
 IsLone h = (h ≡ 30) ⊎ (h ≡ 31) ⊎ (h ≡ 63)
 
@@ -28,7 +29,7 @@ pub record TakenArray (N : ℕ → Name → Type 0) (tail : List ℕ) (v : Value
   pub counted : Takes Spells tail (count_of vs) mid
   pub values : Takes (Many (SpellsValue N) (count_of vs)) mid (listed vs) rest
 
--- a value of bytes behind its head
+-- a value of bytes after its head
 pub record TakenLow (N : ℕ → Name → Type 0) (h : ℕ) (tail : List ℕ) (v : Value) (rest : List ℕ) : Type 0 where
   pub long : h / 32 + 1 ≤ length tail
   pub few : h / 32 + 1 ≤ widest_of (h % 32)
@@ -51,7 +52,7 @@ module _ (N : ℕ → Name → Type 0) (h : ℕ) (bytes tail rest : List ℕ) (v
       by : Front N t.front v → TakenArray N tail v rest
       by (inl p) = absurd (sized_not_array (length p.low - 1) p.type p.small (sym (heads (32 * (length p.low - 1) + p.type) p.low p.joined).0 ∙ is))
       by (inr (inl p)) =
-          let b = p.behind in
+          let b = p.after in
           let e = (heads 28 p.text p.joined).1 in
           record {
             vs = p.vs;
@@ -117,10 +118,6 @@ taken_some N bytes rest v t none = by (front N t.front v t.spelled)
     by (inr (inl p)) = empty 28 p.text p.joined
     by (inr (inr p)) = let f = first_of_lone t.front v p in empty f.0 [] f.1
 
--- the number at the front is one
-pub number_one : (bytes : List ℕ) (m n : ℕ) (a b : List ℕ) → Takes Spells bytes m a → Takes Spells bytes n b → (m ≡ n) × (a ≡ b)
-number_one bytes m n a b p q = Takes-unique Spells bytes m n a b spells_unique p q
-
 -- the next of the values that are due
 pub next_value : (N : ℕ → Name → Type 0) (n : ℕ) (bytes : List ℕ) (v : Value) (vs : List Value) (rest : List ℕ) → Takes (Each (SpellsValue N)) bytes (v ∷ vs) rest → (mid : List ℕ) × Takes (SpellsValue N) bytes v mid × Takes (Each (SpellsValue N)) mid vs rest
 next_value N n bytes v vs rest t =
@@ -130,7 +127,7 @@ next_value N n bytes v vs rest t =
       record { front = s.1; whole = refl; spelled = s.4 },
     )
 
--- the bytes behind the head of such a value
+-- the bytes after the head of such a value
 pub low_of : (b : List ℕ) (h : ℕ) (tail low : List ℕ) (v : Value) (rest : List ℕ) → IsFramed b → low ≡ take (h / 32 + 1) tail → TakenLow (NameStands b) h tail v rest → IsLow b (h % 32) low v
 low_of b h tail low v rest framed is t =
     let long = t.long in
@@ -147,7 +144,7 @@ low_of b h tail low v rest framed is t =
 pub array_parts : (N : ℕ → Name → Type 0) (bytes : List ℕ) (vs : List Value) (rest : List ℕ) → Takes (SpellsArray N) bytes vs rest → (mid : List ℕ) × Takes Spells bytes (length vs) mid × Takes (Many (SpellsValue N) (length vs)) mid vs rest
 array_parts N bytes vs rest t = Then-takes Spells (Many (SpellsValue N)) bytes rest (length vs, vs) (record { front = t.front; whole = t.whole; spelled = t.spelled })
 
--- the values that are due behind a number that was read
+-- the values that are due after a number that was read
 pub values_due : (N : ℕ → Name → Type 0) (bytes : List ℕ) (m n : ℕ) (mid left : List ℕ) (vs : List Value) (rest : List ℕ) → Takes Spells bytes m mid → Takes Spells bytes n left → Takes (Many (SpellsValue N) m) mid vs rest → Takes (Many (SpellsValue N) n) left vs rest
 values_due N bytes m n mid left vs rest p q t =
     let one = number_one bytes m n mid left p q in

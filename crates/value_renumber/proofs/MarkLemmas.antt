@@ -35,7 +35,7 @@ array_marked b old new tail rest v t wide after m = record {
   marked = subst (λ (ns : List Name). AddsNames b old new ns) (names-listed t.vs ∙ sym (ap names_of_value t.value)) m.marked;
 }
 
--- ---- values one behind the other
+-- ---- values one after the other
 
 -- those before a place are marked, and those from it on are due
 pub record Walked (b : List ℕ) (old new : Marked) (sum : ℕ) (left : List ℕ) (turn : ℕ) (vs : List Value) (rest : List ℕ) : Type 0 where
@@ -92,11 +92,11 @@ walked_few b n bytes left turn vs rest old new sum t w =
     let g : wide_values (values (take turn vs ++ drop turn vs)) ≡ wide_values (values vs) = ap (λ (ws : List Value). wide_values (values ws)) (take-append-drop turn vs) in
     omega (arith, all, size, e, f, g)
 
-none_left : (N : ℕ → Name → Type 0) (left rest : List ℕ) (vs : List Value) → vs ≡ [] → Takes (Each (SpellsValue N)) left vs rest → left ≡ rest
+pub none_left : (N : ℕ → Name → Type 0) (left rest : List ℕ) (vs : List Value) → vs ≡ [] → Takes (Each (SpellsValue N)) left vs rest → left ≡ rest
 none_left N left rest [] e t = t.whole ∙ ap (λ l. l ++ rest) t.spelled
 none_left N left rest (v ∷ vs) e t = absurd cc
 
-drop_none : (vs : List Value) (i : ℕ) → length vs ≤ i → drop i vs ≡ []
+pub drop_none : (vs : List Value) (i : ℕ) → length vs ≤ i → drop i vs ≡ []
 drop_none [] zero le = refl
 drop_none [] (suc i) le = refl
 drop_none (v ∷ vs) zero le = absurd (omega (arith, le))
@@ -127,7 +127,7 @@ next_wide b n bytes vs rest turn lt t =
     let e = ap (λ (ws : List Value). wide_values (values ws)) (drop-cons vs turn Null (omega (arith, lt, count))) in
     omega (arith, e)
 
--- ---- a value without bytes behind its head
+-- ---- a value without bytes after its head
 
 pub lone_marked : (b : List ℕ) (m : Marked) (h : ℕ) (bytes tail rest : List ℕ) (v : Value) → bytes ≡ h ∷ tail → Takes (SpellsValue (NameStands b)) bytes v rest → IsLone h → MarksValue b m m v rest 9 tail
 lone_marked b m h bytes tail rest v first t lone =

@@ -10,9 +10,9 @@ use Rattle.dex_value.specs.declared.types.NameType.{NameType}
 use Rattle.dex_value.specs.declared.types.NameType.TheVariants as named
 use Rattle.dex_value.specs.declared.types.NumberType.{NumberType}
 use Rattle.dex_value.specs.declared.types.NumberType.TheVariants as number
-use Rattle.dex_value.specs.Faults.{widest_of, IsOfType}
-use Rattle.dex_value.specs.Reading.{name_code, number_code, kind_of as table_of, ValueStands}
-use Rattle.dex_value.specs.Spelling.{unsigned_of, type_of, Sized, SpellsValue, SpellsValues}
+use Rattle.dex_value.specs.Faults.{widest_of, IsNameOfType}
+use Rattle.dex_value.specs.Reading.{name_code, number_code, table_of_type, ValueStands}
+use Rattle.dex_value.specs.Spelling.{unsigned_of, value_type_of, Sized, SpellsValue, SpellsValues}
 use Rattle.dex_value.specs.Wide.{wide_value, wide_values}
 use Rattle.dex_value.proofs.Fronts.{LoneFront, BareNull, BareFalse, BareTrue}
 use Rattle.dex_value.proofs.Lists.{listed, each-values}
@@ -20,18 +20,18 @@ use Rattle.tables_rows.specs.Stands.{NameStands}
 use Rattle.tables_numbers.specs.Marked.{kind_of, IsRowOf}
 use Rattle.value_renumber.specs.Walks.{IsLow}
 
--- ---- the name of a value of bytes behind its head
+-- ---- the name of a value of bytes after its head
 
 record LowName (N : ℕ → Name → Type 0) (t : ℕ) (low : List ℕ) (v : Value) : Type 0 where
   which : Name
   names : names_of_value v ≡ which ∷ []
-  of : IsOfType t which
+  of : IsNameOfType t which
   big : 23 ≤ t
   stands : N (unsigned_of low) which
 
-low_name : (N : ℕ → Name → Type 0) (t k : ℕ) (low : List ℕ) (v : Value) (which : Name) → t ≡ k → names_of_value v ≡ which ∷ [] → IsOfType k which → 23 ≤ k → N (unsigned_of low) which → LowName N t low v ⊎ ((t < 23) × (names_of_value v ≡ []))
+low_name : (N : ℕ → Name → Type 0) (t k : ℕ) (low : List ℕ) (v : Value) (which : Name) → t ≡ k → names_of_value v ≡ which ∷ [] → IsNameOfType k which → 23 ≤ k → N (unsigned_of low) which → LowName N t low v ⊎ ((t < 23) × (names_of_value v ≡ []))
 low_name N t k low v which e names of big n =
-    inl (record { which = which; names = names; of = subst (λ (j : ℕ). IsOfType j which) (sym e) of; big = omega (arith, e, big); stands = n })
+    inl (record { which = which; names = names; of = subst (λ (j : ℕ). IsNameOfType j which) (sym e) of; big = omega (arith, e, big); stands = n })
 
 low_names : (N : ℕ → Name → Type 0) (t : ℕ) (low : List ℕ) (v : Value) → ValueStands N t low v → LowName N t low v ⊎ ((t < 23) × (names_of_value v ≡ []))
 low_names N t low (Byte n) s = let e = s.0 in inr (omega (arith, e), refl)
@@ -49,7 +49,7 @@ low_names N t low (Enum f) s = low_name N t 27 low (Enum f) (OfField f) s.0 refl
 low_names N t low _ s = absurd s
 
 -- names of a type are in its table
-kind_is : (ty : NameType) (which : Name) → IsOfType (name_code ty) which → kind_of which ≡ table_of ty
+kind_is : (ty : NameType) (which : Name) → IsNameOfType (name_code ty) which → kind_of which ≡ table_of_type ty
 kind_is named.String (OfText n) e = refl
 kind_is named.Type (OfDesc n) e = refl
 kind_is named.Field (OfField n) e = refl
@@ -79,9 +79,9 @@ pub record NamedRow (b : List ℕ) (table : IndexKind) (i : ℕ) (v : Value) : T
   pub names : names_of_value v ≡ which ∷ []
   pub row : IsRowOf b table i which
 
-pub row_of_low : (b : List ℕ) (ty : NameType) (t : ℕ) (low : List ℕ) (v : Value) → name_code ty ≡ t → IsLow b t low v → NamedRow b (table_of ty) (unsigned_of low) v
+pub row_of_low : (b : List ℕ) (ty : NameType) (t : ℕ) (low : List ℕ) (v : Value) → name_code ty ≡ t → IsLow b t low v → NamedRow b (table_of_type ty) (unsigned_of low) v
 row_of_low b ty t low v is l = elim (low_names (NameStands b) t low v l.stands) [
-  | inl n ↦ record { which = n.which; names = n.names; row = record { kind = kind_is ty n.which (subst (λ (k : ℕ). IsOfType k n.which) (sym is) n.of); stands = n.stands } }
+  | inl n ↦ record { which = n.which; names = n.names; row = record { kind = kind_is ty n.which (subst (λ (k : ℕ). IsNameOfType k n.which) (sym is) n.of); stands = n.stands } }
   | inr x ↦ let big = named_big ty in let small = x.0 in absurd (omega (arith, is, big, small))
 ]
 
@@ -127,7 +127,7 @@ module _ (N : ℕ → Name → Type 0) where
     value_wide bytes (Long n) s = sized_wide 6 8 _ bytes s
     value_wide bytes (Float n) s = sized_wide 16 4 _ bytes s
     value_wide bytes (Double n) s = sized_wide 17 8 _ bytes s
-    value_wide bytes (Named which) s = sized_wide (type_of which) 4 _ bytes s
+    value_wide bytes (Named which) s = sized_wide (value_type_of which) 4 _ bytes s
     value_wide bytes (Enum f) s = sized_wide 27 4 _ bytes s
     value_wide bytes (Array vs) s =
         let b = s.2 in

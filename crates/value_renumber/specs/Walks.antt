@@ -20,33 +20,35 @@ pub record MarksValue (b : List ℕ) (old new : Marked) (v : Value) (rest : List
   pub wide : most ≡ wide_value v
   pub marked : AddsNames b old new (names_of_value v)
 
--- The same of values.
+-- Of these values the names are marked, they take so many bytes at most, and this follows them.
 pub record MarksValues (b : List ℕ) (old new : Marked) (vs : List Value) (rest : List ℕ) (most : ℕ) (after : List ℕ) : Type 0 where
   pub follows : after ≡ rest
   pub wide : most ≡ wide_values (values vs)
   pub marked : AddsNames b old new (flat_map names_of_value vs)
 
--- Behind a head of this type these bytes stand for a value of the file.
+-- After a head of this type these bytes stand for a value of the file.
 pub record IsLow (b : List ℕ) (type : ℕ) (low : List ℕ) (v : Value) : Type 0 where
   pub framed : IsFramed b
   pub some : 0 < length low
   pub few : length low ≤ widest_of type
   pub stands : ValueStands (NameStands b) type low v
 
--- The same of a value whose names have ranks among the names s.
+-- After a head of this type these bytes stand for a value of the file, and by these numbers each name in it has its
+-- rank among the names s.
 pub record IsCarriedLow (b : List ℕ) (numbers : Columns) (s : Five) (type : ℕ) (bytes : List ℕ) (v : Value) : Type 0 where
   pub low : IsLow b type bytes v
   pub rise : AreRising s
   pub carried : NamesHold (Carries (NameStands b) (NameRanks s) numbers) v
 
--- At the front of these bytes such a value is spelled.
+-- At the front of these bytes a value is spelled, and by these numbers each name in it has its rank among the names s.
 pub record IsCarriedValue (b : List ℕ) (numbers : Columns) (s : Five) (bytes : List ℕ) (v : Value) (rest : List ℕ) : Type 0 where
   pub framed : IsFramed b
   pub rise : AreRising s
   pub taken : Takes (SpellsValue (NameStands b)) bytes v rest
   pub carried : NamesHold (Carries (NameStands b) (NameRanks s) numbers) v
 
--- So many such values are.
+-- At the front of these bytes n values are spelled, and by these numbers each name in them has its rank among the names
+-- s.
 pub record AreCarriedValues (b : List ℕ) (numbers : Columns) (s : Five) (n : ℕ) (bytes : List ℕ) (vs : List Value) (rest : List ℕ) : Type 0 where
   pub framed : IsFramed b
   pub rise : AreRising s

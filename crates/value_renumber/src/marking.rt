@@ -18,7 +18,7 @@ use dex_container::Sections;
 use dex_value::{SizedType, name_kind, sized_type, unsigned};
 use tables_numbers::Marks;
 
-// Marks the name that these bytes behind a head stand for, if they stand for one.
+// Marks the name that these bytes after a head stand for, if they stand for one.
 fn mark_low(marks: &mut Marks, sections: &Sections<'_>, head: u8, low: &[u8]) -> Result<(), Fault>
     requires marks { HasMarks sections.now marks.old }
     requires low { (v : Value) × IsLow sections.now (head % 32) low.now v }
@@ -72,7 +72,7 @@ fn mark_value<'b>(
     }
 }
 
-// The same of so many values.
+// Marks what so many values at the front of the bytes name; how many bytes they take at most, and what follows them.
 #[cycle(marked)]
 fn mark_values<'b>(
     marks: &mut Marks,
@@ -100,7 +100,7 @@ fn mark_values<'b>(
 /// Marks the rows that the values of the array at an offset name, and those of their parts, and answers how many bytes
 /// the values take at most, in a file of any rows: nine each, and six for an array besides its values.
 ///
-/// An array has to stand at the offset. The only refusal is want of memory, and then some of the rows may be marked.
+/// An array has to stand at the offset. It fails only when out of memory, and then some of the rows may be marked.
 ///
 /// ```
 /// let mut marks = Marks::new(alloc, &sections)?;

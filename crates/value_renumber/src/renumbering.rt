@@ -16,7 +16,7 @@ use dex_value::{SizedType, name_kind, number, put_plain, put_unsigned, sized_typ
 use std::alloc::Global;
 use tables_numbers::Numbers;
 
-// Appends the value that these bytes behind a head stand for.
+// Appends the value that these bytes after a head stand for.
 fn renumber_low(out: &mut Vec<u8>, numbers: &Numbers, head: u8, low: &[u8]) -> Result<(), Fault>
     requires { (b : List ℕ) × (s : Five) × (v : Value) × IsCarriedLow b numbers.now s (head % 32) low.now v }
     ensures ok { OnOk result ((b : List ℕ) (s : Five) (v : Value) → IsCarriedLow b numbers.now s (head % 32) low.now v
@@ -82,7 +82,7 @@ fn renumber_value<'b>(
     }
 }
 
-// The same of so many values.
+// Appends so many values at the front of the bytes; what follows them.
 #[cycle(renumbered)]
 fn renumber_values<'b>(
     out: &mut Vec<u8>,
@@ -107,7 +107,7 @@ fn renumber_values<'b>(
 /// The bytes of the array at an offset in a file of the kept rows, each value in the fewest. No byte where the array
 /// has no value.
 ///
-/// An array has to stand at the offset, and each row that its values name has to be kept. The only refusal is want of
+/// An array has to stand at the offset, and each row that its values name has to be kept. It fails only when out of
 /// memory.
 ///
 /// ```

@@ -11,7 +11,7 @@ use program_types::{Insn, Program};
 use std::alloc::Global;
 use std::test::Fail;
 
-// A packed-switch of three units and its payload right behind it.
+// A packed-switch of three units and its payload right after it.
 fn switch<'a>(arena: &'a Bump) -> Result<Program<'a>, Fault> {
     let mut insns = Vec::new(arena);
     insns.push(Insn::I31t {

@@ -1,6 +1,6 @@
 //! As far as branches reach, as much as tries cover, as many of them as an item can have, and one more.
 
-use crate::codes::stands_behind;
+use crate::codes::stands_after;
 use crate::kept::{fault_of, file_of};
 use crate::many::{alike, body, program, two_classes};
 use crate::small::RETURN;
@@ -23,7 +23,7 @@ enum Body {
     If(u32),
     // a switch whose payload is at an odd address
     Odd,
-    // a try over so many nops, with return-void behind them
+    // a try over so many nops, with return-void after them
     Nops(u32),
     // a try over so many nops and a const-wide
     Wide(u32),
@@ -50,7 +50,7 @@ fn nops<'a>(
     arena: &'a Bump,
     before: Option<Insn<'a>>,
     count: u32,
-    behind: Insn<'a>,
+    after: Insn<'a>,
 ) -> Result<&'a [Insn<'a>], Fault> {
     let mut insns = Vec::new(arena);
     match before {
@@ -60,7 +60,7 @@ fn nops<'a>(
     for _turn in 0..count {
         insns.push(Insn::I10x { op: 0 })?;
     }
-    insns.push(behind)?;
+    insns.push(after)?;
     Ok(into_bump_slice(insns))
 }
 
@@ -185,29 +185,29 @@ fn an_if_reaches_32767_units_ahead(rt: HostRuntime) -> Result<(), Fail> {
     none_wrong(first_otherwise(rt.alloc(), &CASES))
 }
 
-// What it is, a body, and bytes that stand so far behind the begin of the file's data, where its item begins.
+// What it is, a body, and bytes that stand so far after the begin of the file's data, where its item begins.
 type Written = (&'static str, Body, usize, &'static [u8]);
 
-fn is_written_so(alloc: Global, one: Body, behind: usize, bytes: &[u8]) -> Result<bool, Fault> {
+fn is_written_so(alloc: Global, one: Body, after: usize, bytes: &[u8]) -> Result<bool, Fault> {
     let arena = Bump::new(alloc);
     let program = made(&arena, one)?;
     let file = file_of(alloc, &program)?;
-    Ok(stands_behind(&file, behind, bytes))
+    Ok(stands_after(&file, after, bytes))
 }
 
 fn first_written_otherwise(
     alloc: Global,
     cases: &[Written],
 ) -> Result<Option<&'static str>, Fault> {
-    for (what, one, behind, bytes) in cases {
-        if !is_written_so(alloc, *one, *behind, bytes)? {
+    for (what, one, after, bytes) in cases {
+        if !is_written_so(alloc, *one, *after, bytes)? {
             return Ok(Some(*what));
         }
     }
     Ok(None)
 }
 
-// The units stand 16 bytes behind the item; the count of the one try 4 bytes behind the units, two more where they are odd.
+// The units stand 16 bytes after the item; the count of the one try 4 bytes after the units, two more where they are odd.
 #[rattlefmt::skip]
 #[test]
 fn the_greatest_offsets_and_counts_are_written(rt: HostRuntime) -> Result<(), Fail> {

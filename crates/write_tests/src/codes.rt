@@ -6,7 +6,7 @@ use file_write::strip;
 use std::alloc::Global;
 use std::test::Fail;
 
-/// What it is, the tries, the units, what stands behind them, and what is written behind them.
+/// What it is, the tries, the units, what stands after them, and what is written after them.
 type Case = (
     &'static str,
     u8,
@@ -20,27 +20,27 @@ fn left_of(alloc: Global, item: &[u8]) -> Result<Vec<u8>, Fault> {
     strip(alloc, &file_of_item(alloc, item)?)
 }
 
-/// Whether these bytes stand so far behind the begin of the file's data.
-pub fn stands_behind(file: &[u8], behind: usize, bytes: &[u8]) -> bool {
+/// Whether these bytes stand so far after the begin of the file's data.
+pub fn stands_after(file: &[u8], after: usize, bytes: &[u8]) -> bool {
     if file.len() < 112 {
         return false;
     }
     let data = u32_at(file, 108) as usize;
-    if data > file.len() || behind > file.len() - data {
+    if data > file.len() || after > file.len() - data {
         return false;
     }
-    let begin = data + behind;
+    let begin = data + after;
     bytes.len() <= file.len() - begin && &file[begin..begin + bytes.len()] == bytes
 }
 
 /// Whether the file's data begins with the item.
 pub fn begins_with(file: &[u8], item: &[u8]) -> bool {
-    stands_behind(file, 0, item)
+    stands_after(file, 0, item)
 }
 
 fn first_otherwise(alloc: Global, cases: &[Case]) -> Result<Option<&'static str>, Fault> {
-    for (what, tries, units, behind, want) in cases {
-        let left = left_of(alloc, &item_of(alloc, 2, *tries, units, behind)?)?;
+    for (what, tries, units, after, want) in cases {
+        let left = left_of(alloc, &item_of(alloc, 2, *tries, units, after)?)?;
         if !begins_with(&left, &item_of(alloc, 2, *tries, units, want)?) {
             return Ok(Some(*what));
         }

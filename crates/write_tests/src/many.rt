@@ -38,7 +38,7 @@ fn units_of(number: u32) -> [u16; 2] {
     ]
 }
 
-/// The name of this number: names rise with their numbers, and stand behind those of ASCII letters.
+/// The name of this number: names rise with their numbers, and stand after those of ASCII letters.
 pub fn name_of<'a>(arena: &'a Bump, number: u32) -> Result<Str<'a>, Fault> {
     place_str(arena, &units_of(number))
 }

@@ -22,15 +22,15 @@ enum Many {
     Fields(u32),
     // 65537 fields, and an iget of the one of this number
     Field(u32),
-    // `m`, 65536 methods behind it, and in `m` an invoke-static of the one of this number
+    // `m`, 65536 methods after it, and in `m` an invoke-static of the one of this number
     Method(u32),
-    // so many names of fields, and a const-string of the text behind them all
+    // so many names of fields, and a const-string of the text after them all
     Text(u32),
     // .. a const-string/jumbo
     Jumbo(u32),
 }
 
-// The text behind all names of fields.
+// The text after all names of fields.
 const LAST: Str<'static> = Str { units: &[0xffff] };
 
 // A class with these fields, in whose method the instruction stands.

@@ -14,7 +14,7 @@ const SPELLED: [&[u8]; 5] = [
     b"\x06~~D8{}\0",
 ];
 
-/// File S with a fifth string that nothing uses, and with debugging information behind the class data, at 261.
+/// File S with a fifth string that nothing uses, and with debugging information after the class data, at 261.
 const SPARE: Rows<'static> = Rows {
     strings: &SPELLED,
     types: &[0, 1, 2],

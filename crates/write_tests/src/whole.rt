@@ -53,7 +53,7 @@ static WITH_PARAMETER: [Class<'static>; 1] = [Class {
 // Its class data, whose method has its code item at 212.
 static CODE_AT_212: [u8; 8] = [0x00, 0x00, 0x01, 0x00, 0x00, 0x09, 0xd4, 0x01];
 
-// The list of the one parameter stands from 204 to 210, behind it two zeros and the code item. The map stands at 276: its seventh
+// The list of the one parameter stands from 204 to 210, after it two zeros and the code item. The map stands at 276: its seventh
 // entry names the list, its eighth, from 364 to 376, the code item.
 fn is_named_where_it_stands(alloc: Global, program: &Program<'_>) -> Result<bool, Fault> {
     let file = file_of(alloc, program)?;

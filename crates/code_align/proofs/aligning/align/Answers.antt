@@ -4,13 +4,13 @@ use Rattle.std.proofs.lemmas.List.{length-map}
 use Rattle.program_types.specs.View as view
 use Rattle.program_types.specs.View.{insn, try}
 use Rattle.program_types.specs.Formed.{insn_at}
-use Rattle.tables_rows.proofs.RowReading.{passed}
 use Rattle.code_align.specs.Aligned.{moved, moved_insn, moved_try, with_nops}
 use Rattle.code_align.specs.Aligning.{pads_from}
 use Rattle.code_align.proofs.PadLaws.{length-pads, aligned-length, same-moved, pads-good, pads-even, length-with_nops}
 use Rattle.code_align.proofs.AlignedFormed.{aligned-formed}
 use Rattle.code_align.proofs.MoveLaws.{operand-more, try-below, insns-same, tries-same}
 use Rattle.code_align.proofs.aligning.align.Goals as goal
+use Rattle.base_bytes.proofs.ListFacts.{passed}
 
 pub numbers_of-requires : goal.numbers_of-requires
 numbers_of-requires c =

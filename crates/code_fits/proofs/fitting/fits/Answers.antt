@@ -6,8 +6,8 @@ use Rattle.program_types.specs.View as view
 use Rattle.program_types.specs.View.{insn, try}
 use Rattle.program_types.specs.Formed.{insn_at}
 use Rattle.program_types.specs.Sizes.{addresses_of}
+use Rattle.program_types.specs.Kinds.{HasIndex}
 use Rattle.tables_names.specs.Closure.{NameRanks}
-use Rattle.code_fits.specs.Ranked.{HasIndex}
 use Rattle.code_put.specs.Fits.{ShortFits, OffsetsFit, IsEven}
 use Rattle.code_fits.proofs.BreakLaws.{unfit82, unfit83, unfit84, unfit85, unfit86}
 use Rattle.code_fits.proofs.FitLaws.{by-count, count-of, insns-ranked}

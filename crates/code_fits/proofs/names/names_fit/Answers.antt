@@ -2,8 +2,8 @@ use Rattle.std.proofs.Common.{sym, subst, rules, below_more}
 use Rattle.program_types.specs.Content.{Insn}
 use Rattle.std.specs.List.{AllByRecursion}
 use Rattle.program_types.specs.Mentions.{names_of_insn}
+use Rattle.program_types.specs.Kinds.{HasIndex}
 use Rattle.tables_names.specs.Closure.{NameRanks}
-use Rattle.code_fits.specs.Ranked.{HasIndex}
 use Rattle.code_put.specs.Fits.{ShortFits}
 use Rattle.code_put.proofs.SizeLaws.{insn-at}
 use Rattle.code_fits.proofs.names.names_fit.Goals as goal

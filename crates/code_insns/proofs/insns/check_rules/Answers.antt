@@ -1,11 +1,11 @@
 use Rattle.std.proofs.Common.{map, inl, inr}
 use Rattle.dex_insn.specs.Raw.{raw}
 use Rattle.tables_rows.specs.Names.{NameIsAt}
-use Rattle.tables_rows.proofs.RowReading.{passed}
 use Rattle.code_insns.specs.Payloads.{UseHolds}
 use Rattle.code_insns.specs.Insns.{NameHolds, BranchHolds}
 use Rattle.code_insns.proofs.RuleLaws.{all-raw}
 use Rattle.code_insns.proofs.insns.check_rules.Goals as goal
+use Rattle.base_bytes.proofs.ListFacts.{passed}
 
 pub returns-in_err-check_uses-clause-err : goal.returns-in_err-check_uses-clause-err
 returns-in_err-check_uses-clause-err c =

@@ -4,10 +4,10 @@ use Rattle.dex_insn.specs.Raw.{raw}
 use Rattle.dex_insn.specs.declared.raw.RawInsn.{RawInsn}
 use Rattle.program_types.specs.View.{insn}
 use Rattle.tables_rows.specs.Names.{NameIsAt}
-use Rattle.tables_rows.proofs.RowReading.{passed}
 use Rattle.code_insns.specs.InsnFaults.{RulesBreak}
 use Rattle.code_insns.proofs.SaidRegisters.{among_given, past_given}
 use Rattle.code_insns.proofs.insns.read_insns.Goals as goal
+use Rattle.base_bytes.proofs.ListFacts.{passed}
 
 pub returns-in_err-insns-clause-err : goal.returns-in_err-insns-clause-err
 returns-in_err-insns-clause-err c =

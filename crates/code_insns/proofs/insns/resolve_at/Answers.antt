@@ -4,7 +4,7 @@ use Rattle.dex_insn.specs.Raw.{Raw, raw, is_payload}
 use Rattle.program_types.specs.View.{insn}
 use Rattle.tables_rows.specs.Names.{NameIsAt}
 use Rattle.code_insns.specs.Places.{place}
-use Rattle.code_insns.specs.Symbols.{places, ints, HasName}
+use Rattle.code_insns.specs.Symbols.{places, ints, InsnHasName}
 use Rattle.code_insns.specs.Insns.{targets, IsBase}
 use Rattle.code_insns.specs.Walk.{raw_at}
 use Rattle.code_insns.proofs.PayloadLaws.{at_raw}
@@ -25,7 +25,7 @@ returns-then-is_payload-clause-ok c =
 pub unreachable-requires : goal.unreachable-requires
 unreachable-requires c =
     c.in-None.ensures.none
-    (subst (λ (r : Raw). HasName (NameIsAt c.args.tables.now) r) (at_raw c.args.insns.now c.args.k) (c.requires.names c.args.k c.requires.inside))
+    (subst (λ (r : Raw). InsnHasName (NameIsAt c.args.tables.now) r) (at_raw c.args.insns.now c.args.k) (c.requires.names c.args.k c.requires.inside))
     (reaches-at c.args.insns.now c.args.begins.now c.args.k c.requires.table (c.requires.branches c.args.k c.requires.inside) (c.requires.uses c.args.k c.requires.inside))
 
 pub returns-clause-ok : goal.returns-clause-ok

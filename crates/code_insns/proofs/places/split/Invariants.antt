@@ -6,7 +6,7 @@ invariant-loop-low l = record {
   order : l.low ≤ l.high;
   within : l.high ≤ length l.starts;
   before : (k : ℕ) → k < l.low → get_or l.starts k 0 < l.x;
-  behind : (k : ℕ) → l.high ≤ k → k < length l.starts → l.x ≤ get_or l.starts k 0;
+  after : (k : ℕ) → l.high ≤ k → k < length l.starts → l.x ≤ get_or l.starts k 0;
 }
 
 abbrev pub decreases-loop-low : goal.decreases-loop-low

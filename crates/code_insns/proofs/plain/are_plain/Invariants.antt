@@ -1,8 +1,11 @@
-use Rattle.std.proofs.Common.{map}
-use Rattle.dex_insn.specs.Raw.{raw}
-use Rattle.code_insns.specs.Places.{AllHold}
-use Rattle.code_insns.specs.Reading.{IsPlain}
+use Rattle.std.proofs.Common.{List, ◌*◌, ◌≤◌, length}
+use Rattle.program_types.specs.Content.{Insn}
+use Rattle.tables_rows.specs.Names.{NameIsAt}
+use Rattle.code_insns.specs.Plain.{PlainRun}
 use Rattle.code_insns.proofs.plain.are_plain.Given as goal
 
-abbrev pub invariant-loop-k : goal.invariant-loop-k
-invariant-loop-k l = AllHold (IsPlain (map raw l.insns)) l.k
+abbrev pub invariant-loop-start : goal.invariant-loop-start
+invariant-loop-start l = record {
+  run : (is : List Insn) × PlainRun (NameIsAt l.tables) l.units l.starts l.registers is l.start-index l.at;
+  within : 2 * l.at ≤ length l.units;
+}

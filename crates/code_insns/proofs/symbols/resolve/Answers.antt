@@ -5,10 +5,10 @@ use Rattle.program_types.specs.Content.{Name}
 use Rattle.program_types.specs.View.{insn}
 use Rattle.tables_rows.specs.Names.{NameIsAt}
 use Rattle.code_insns.specs.Places.{place}
-use Rattle.code_insns.specs.Symbols.{Names, has_index, name_in}
+use Rattle.code_insns.specs.Symbols.{InsnNames, has_index, name_in}
 use Rattle.code_insns.proofs.symbols.resolve.Goals as goal
 
-nameless : (N : ℕ → Name → Type 0) (r : Raw) (which : Name) → has_index r ≡ false → Names N r which
+nameless : (N : ℕ → Name → Type 0) (r : Raw) (which : Name) → has_index r ≡ false → InsnNames N r which
 unfolding has_index
 nameless N (raw.I21c op a index) which e = absurd cc
 nameless N (raw.I22c op a b index) which e = absurd cc

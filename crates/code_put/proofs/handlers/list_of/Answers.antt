@@ -1,6 +1,6 @@
 use Rattle.std.proofs.Common.{◌≡◌, ◌++◌, ◌∙◌, ℕ, List, length, [], ◌∷◌, refl, arith, ap, length-append}
 use Rattle.base_bytes.specs.Leb128.{Spells, Shortest}
-use Rattle.code_put.specs.Writing.{places_of}
+use Rattle.code_put.specs.Writing.{places_from}
 use Rattle.code_put.proofs.HandlerPacks.{alone}
 use Rattle.code_put.proofs.ListedLaws.{seen, key-at, bytes-turn, places-turn, bytes-few, listed}
 use Rattle.code_put.proofs.handlers.list_of.Goals as goal
@@ -9,7 +9,7 @@ pub unreachable-requires : goal.unreachable-requires
 unreachable-requires c = let f = c.in_default.ensures.found.1 (let e = c.len-k-end.ensures.len in let t = c.loop-k-test.true in omega arith) in cc
 
 pub loop-k-init : goal.loop-k-init
-loop-k-init c = record { is = refl; places_are = ap (λ (z : List ℕ). z ++ places_of (length c.put_uleb.new.out.items) (seen c.args.handlers.now.keys)) c.in_ok-places.ensures.items }
+loop-k-init c = record { is = refl; places_are = ap (λ (z : List ℕ). z ++ places_from (length c.put_uleb.new.out.items) (seen c.args.handlers.now.keys)) c.in_ok-places.ensures.items }
 
 pub overflow_cast-len-in-loop-k : goal.overflow_cast-len-in-loop-k
 overflow_cast-len-in-loop-k c =

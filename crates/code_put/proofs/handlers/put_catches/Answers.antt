@@ -7,8 +7,8 @@ use Rattle.tables_names.specs.Closure.{NameRanks}
 use Rattle.code_put.specs.Fits.{HasIndexBelow}
 use Rattle.code_put.specs.Packs.{PacksCatch}
 use Rattle.code_put.proofs.ListLaws.{all-view, take-view, take-whole}
-use Rattle.code_put.proofs.HandlerPacks.{each-none, each-more}
 use Rattle.code_put.proofs.handlers.put_catches.Goals as goal
+use Rattle.base_bytes.proofs.GrammarLaws.{Each-appends_none, Each-appends_more}
 
 pub put_catch-requires-clause-inside : goal.put_catch-requires-clause-inside
 put_catch-requires-clause-inside c = all-view (λ (x : Catch). x.at < length c.args.starts.now) catch c.args.catches.now c.loop-one.one-index _ c.requires.inside c.loop-one-test.true
@@ -17,13 +17,13 @@ pub put_catch-requires-clause-ranked : goal.put_catch-requires-clause-ranked
 put_catch-requires-clause-ranked c = all-view (λ (x : Catch). HasIndexBelow (NameRanks c.args.ranks.now) 4294967296 (OfDesc x.ty)) catch c.args.catches.now c.loop-one.one-index _ c.requires.ranked c.loop-one-test.true
 
 pub loop-one-init : goal.loop-one-init
-loop-one-init c = each-none (PacksCatch (NameRanks c.args.ranks.now) c.args.starts.now) c.args.out.now.items
+loop-one-init c = Each-appends_none (PacksCatch (NameRanks c.args.ranks.now) c.args.starts.now) c.args.out.now.items
 
 pub loop-one-preserved : goal.loop-one-preserved
 loop-one-preserved c =
     let G = PacksCatch (NameRanks c.args.ranks.now) c.args.starts.now in
     subst (λ (cs : List Catch). Appends (Each G) c.args.out.now.items c.put_catch.new.out.items cs) (sym (take-view catch c.args.catches.now c.loop-one.one-index _ c.loop-one-test.true))
-    (each-more G c.args.out.now.items c.loop-one.out.items c.put_catch.new.out.items (take c.loop-one.one-index (map catch c.args.catches.now)) _ c.loop-one.invariant c.in_ok-put_catch.ensures.ok)
+    (Each-appends_more G c.args.out.now.items c.loop-one.out.items c.put_catch.new.out.items (take c.loop-one.one-index (map catch c.args.catches.now)) _ c.loop-one.invariant c.in_ok-put_catch.ensures.ok)
 
 pub returns-clause-ok : goal.returns-clause-ok
 returns-clause-ok c =

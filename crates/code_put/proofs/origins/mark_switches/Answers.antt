@@ -1,7 +1,7 @@
 use Rattle.std.proofs.Common.{◌≡◌, ℕ, map, length, arith, sym, ◌∙◌, Some, ap, subst}
 use Rattle.program_types.specs.View.{insn}
 use Rattle.program_types.specs.Formed.{insn_at}
-use Rattle.code_put.specs.Writing.{switched_by, AreSome}
+use Rattle.code_put.specs.Writing.{switched_by, AreLastSwitches}
 use Rattle.code_put.proofs.SizeLaws.{insn-at}
 use Rattle.code_put.proofs.OriginLaws.{switch-refers, some-same, some-set}
 use Rattle.code_put.proofs.origins.mark_switches.Goals as goal
@@ -31,4 +31,4 @@ loop-j-preserved c =
 pub returns : goal.returns
 returns c =
     let e : c.loop-j.j ≡ length c.args.insns.now = omega arith in
-    subst (λ (n : ℕ). AreSome (map insn c.args.insns.now) n c.loop-j.all) e c.loop-j.invariant
+    subst (λ (n : ℕ). AreLastSwitches (map insn c.args.insns.now) n c.loop-j.all) e c.loop-j.invariant

@@ -3,7 +3,7 @@ use Rattle.std.proofs.lemmas.Bool.{cases_lt}
 use Rattle.std.proofs.lemmas.List.{length-map, take_at}
 use Rattle.program_types.specs.View.{insn}
 use Rattle.code_insns.proofs.ResolveLaws.{at-old, at-new}
-use Rattle.code_put.specs.Writing.{AreSome, AreOrigins}
+use Rattle.code_put.specs.Writing.{AreLastSwitches, AreOrigins}
 use Rattle.code_put.proofs.OriginLaws.{some-none, origins-all}
 use Rattle.code_put.proofs.origins.origins_of.Goals as goal
 
@@ -24,7 +24,7 @@ pub mark_switches-requires-clause-none : goal.mark_switches-requires-clause-none
 mark_switches-requires-clause-none c =
     let m = length-map c.args.insns.now insn in
     let n = c.loop-k.invariant.count in
-    subst (λ (ys : List ℕ). AreSome (map insn c.args.insns.now) 0 ys) (sym c.deref_mut.ensures.value)
+    subst (λ (ys : List ℕ). AreLastSwitches (map insn c.args.insns.now) 0 ys) (sym c.deref_mut.ensures.value)
     (some-none (map insn c.args.insns.now) c.loop-k.all.items (omega arith) (λ k l. c.loop-k.invariant.each k (omega arith)))
 
 pub returns-clause-ok : goal.returns-clause-ok
@@ -35,4 +35,4 @@ returns-clause-ok c =
     let o = c.loop-k.invariant.count in
     subst (λ (ys : List ℕ). AreOrigins (map insn c.args.insns.now) ys) (sym (take_at c.mark_switches.new.all _ c.loop-k.all.len (omega arith)))
     (origins-all (map insn c.args.insns.now) c.mark_switches.new.all (λ k l. c.requires.payloads k (omega arith))
-    (subst (λ (k : ℕ). AreSome (map insn c.args.insns.now) k c.mark_switches.new.all) (sym m) a))
+    (subst (λ (k : ℕ). AreLastSwitches (map insn c.args.insns.now) k c.mark_switches.new.all) (sym m) a))

@@ -1,19 +1,19 @@
 use Rattle.std.proofs.Common.{◌≡◌, ◌∙◌, ◌+◌, ◌*◌, subst, ap, ℕ, List, length, map, arith, length-drop}
 use Rattle.program_types.specs.View.{try}
 use Rattle.tables_rows.specs.Names.{NameIsAt}
-use Rattle.tables_rows.proofs.RowReading.{passed}
-use Rattle.code_read.specs.Item.{size_of, list_begin}
+use Rattle.code_read.specs.Item.{insns_size, list_begin}
 use Rattle.code_read.specs.Reading.{ReadTries}
 use Rattle.code_read.specs.Faults.{TriesBreak}
 use Rattle.code_read.proofs.ItemLaws.{item-read, code_with}
 use Rattle.code_read.proofs.PastLaws.{named_of, past_of}
 use Rattle.code_read.proofs.FaultLaws.{insns-break, tries-break, units-even}
 use Rattle.code_read.proofs.checking.check_item.Goals as goal
+use Rattle.base_bytes.proofs.ListFacts.{passed}
 
 pub check_insns-requires-clause-even : goal.check_insns-requires-clause-even
 check_insns-requires-clause-even c =
     let i = c.in-Some.ensures.some in
-    let e : length c.in-Some.item.units.now ≡ 2 * size_of c.args.bytes.now = ap length i.units ∙ units-even c.args.bytes.now i.whole in
+    let e : length c.in-Some.item.units.now ≡ 2 * insns_size c.args.bytes.now = ap length i.units ∙ units-even c.args.bytes.now i.whole in
     omega arith
 
 pub returns-in_err-insns-clause-err : goal.returns-in_err-insns-clause-err

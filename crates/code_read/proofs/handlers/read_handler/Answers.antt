@@ -4,12 +4,12 @@ use mir.Val.{SFits}
 use mir.Syntax.{w32}
 use Rattle.program_types.specs.View.{catch}
 use Rattle.tables_rows.specs.Names.{NameIsAt}
-use Rattle.tables_rows.proofs.RowReading.{passed}
 use Rattle.base_bytes.specs.Grammar.{Takes, NoneBegins, Many}
 use Rattle.code_read.specs.Handlers.{SpellsCatch, catches_of}
 use Rattle.code_read.proofs.StandLaws.{NameIsAt-functional}
 use Rattle.code_read.proofs.HandlerReading.{handler-none-number, handler-none-catches, handler-none-all, handler-takes, all-none, all-some, has-all, lacks-all}
 use Rattle.code_read.proofs.handlers.read_handler.Goals as goal
+use Rattle.base_bytes.proofs.ListFacts.{passed}
 
 pub returns-in_default-clause-err : goal.returns-in_default-clause-err
 returns-in_default-clause-err c = λ other. handler-none-number (NameIsAt c.args.tables.now) c.args.starts.now c.args.bytes.now c.in_default.ensures.none
@@ -18,8 +18,8 @@ pub returns-in_err-catches-clause-err : goal.returns-in_err-catches-clause-err
 returns-in_err-catches-clause-err c =
     let fits : SFits w32 c.in-Some.n = search rules in
     let count : c.unsigned_abs.result ≡ catches_of c.in-Some.n = simp to_z-of_z at c.unsigned_abs.ensures.value in
-    passed _ _ _ c.from_residual.ensures.1 (λ other. handler-none-catches (NameIsAt c.args.tables.now) c.args.starts.now c.in-Some.n c.args.bytes.now c.in-Some.behind.now c.in-Some.ensures.some
-    (subst (λ (k : ℕ). NoneBegins (Many (SpellsCatch (NameIsAt c.args.tables.now) c.args.starts.now) k) c.in-Some.behind.now) count (c.in_err-catches.ensures.err other)))
+    passed _ _ _ c.from_residual.ensures.1 (λ other. handler-none-catches (NameIsAt c.args.tables.now) c.args.starts.now c.in-Some.n c.args.bytes.now c.in-Some.pairs.now c.in-Some.ensures.some
+    (subst (λ (k : ℕ). NoneBegins (Many (SpellsCatch (NameIsAt c.args.tables.now) c.args.starts.now) k) c.in-Some.pairs.now) count (c.in_err-catches.ensures.err other)))
 
 pub returns-then-n-gt0-clause-ok : goal.returns-then-n-gt0-clause-ok
 returns-then-n-gt0-clause-ok c =
@@ -28,8 +28,8 @@ returns-then-n-gt0-clause-ok c =
     let N = NameIsAt c.args.tables.now in let ss = c.args.starts.now in
     let above : pos 0 <ℤ c.in-Some.n = omega (arith, ints, c.if-n-gt0.true) in
     let cs = map catch c.in_ok-catches.catches.now in
-    handler-takes N ss c.in-Some.n c.args.bytes.now c.in-Some.behind.now c.in_ok-catches.rest.now c.in_ok-catches.rest.now _ c.in-Some.ensures.some
-    (subst (λ (k : ℕ). Takes (Many (SpellsCatch N ss) k) c.in-Some.behind.now cs c.in_ok-catches.rest.now) count c.in_ok-catches.ensures.ok)
+    handler-takes N ss c.in-Some.n c.args.bytes.now c.in-Some.pairs.now c.in_ok-catches.rest.now c.in_ok-catches.rest.now _ c.in-Some.ensures.some
+    (subst (λ (k : ℕ). Takes (Many (SpellsCatch N ss) k) c.in-Some.pairs.now cs c.in_ok-catches.rest.now) count c.in_ok-catches.ensures.ok)
     (all-none N ss c.in-Some.n c.in_ok-catches.rest.now (lacks-all c.in-Some.n above))
 
 pub returns-in_default-read_place-clause-err : goal.returns-in_default-read_place-clause-err
@@ -38,8 +38,8 @@ returns-in_default-read_place-clause-err c = λ other.
     let count : c.unsigned_abs.result ≡ catches_of c.in-Some.n = simp to_z-of_z at c.unsigned_abs.ensures.value in
     let N = NameIsAt c.args.tables.now in let ss = c.args.starts.now in
     let cs = map catch c.in_ok-catches.catches.now in
-    handler-none-all N ss (NameIsAt-functional c.args.tables.now) c.in-Some.n c.args.bytes.now c.in-Some.behind.now c.in_ok-catches.rest.now cs c.in-Some.ensures.some
-    (subst (λ (k : ℕ). Takes (Many (SpellsCatch N ss) k) c.in-Some.behind.now cs c.in_ok-catches.rest.now) count c.in_ok-catches.ensures.ok)
+    handler-none-all N ss (NameIsAt-functional c.args.tables.now) c.in-Some.n c.args.bytes.now c.in-Some.pairs.now c.in_ok-catches.rest.now cs c.in-Some.ensures.some
+    (subst (λ (k : ℕ). Takes (Many (SpellsCatch N ss) k) c.in-Some.pairs.now cs c.in_ok-catches.rest.now) count c.in_ok-catches.ensures.ok)
     (has-all c.in-Some.n (λ h. omega (arith, ints, c.if-n-gt0.false))) c.in_default-read_place.ensures.none
 
 pub returns-clause-ok : goal.returns-clause-ok
@@ -48,6 +48,6 @@ returns-clause-ok c =
     let count : c.unsigned_abs.result ≡ catches_of c.in-Some.n = simp to_z-of_z at c.unsigned_abs.ensures.value in
     let N = NameIsAt c.args.tables.now in let ss = c.args.starts.now in
     let cs = map catch c.in_ok-catches.catches.now in
-    handler-takes N ss c.in-Some.n c.args.bytes.now c.in-Some.behind.now c.in_ok-catches.rest.now c.in-Some-read_place.after.now _ c.in-Some.ensures.some
-    (subst (λ (k : ℕ). Takes (Many (SpellsCatch N ss) k) c.in-Some.behind.now cs c.in_ok-catches.rest.now) count c.in_ok-catches.ensures.ok)
+    handler-takes N ss c.in-Some.n c.args.bytes.now c.in-Some.pairs.now c.in_ok-catches.rest.now c.in-Some-read_place.after.now _ c.in-Some.ensures.some
+    (subst (λ (k : ℕ). Takes (Many (SpellsCatch N ss) k) c.in-Some.pairs.now cs c.in_ok-catches.rest.now) count c.in_ok-catches.ensures.ok)
     (all-some N ss c.in-Some.n c.in_ok-catches.rest.now c.in-Some-read_place.after.now c.in-Some-read_place.at (has-all c.in-Some.n (λ h. omega (arith, ints, c.if-n-gt0.false))) c.in-Some-read_place.ensures.some)

@@ -3,12 +3,12 @@ use Rattle.std.specs.List.{AllByRecursion}
 use Rattle.base_bytes.specs.Fields.{AreBytes}
 use Rattle.program_types.specs.Sizes.{addresses_of}
 use Rattle.tables_rows.specs.Stands.{NameStands}
-use Rattle.tables_rows.proofs.RowReading.{passed}
 use Rattle.code_insns.specs.Places.{Rises}
 use Rattle.code_put.specs.Packs.{items_bytes, padding}
 use Rattle.code_renumber.proofs.CodeLemmas.{cover_with, items_with, can_renumber_all, addresses_are, carried_tries, cover_tries, packed_code}
 use Rattle.code_renumber.proofs.WideLemmas.{count_same}
 use Rattle.code_renumber.proofs.codes.renumber_code.Goals as goal
+use Rattle.base_bytes.proofs.ListFacts.{passed}
 
 pub item_at-item-requires-clause-stands : goal.item_at-item-requires-clause-stands
 item_at-item-requires-clause-stands c = (c.requires.carried.1, c.requires.carried.2.stands)

@@ -1,6 +1,6 @@
 use Rattle.std.proofs.Common.{◌≡◌, ◌*◌, ◌∙◌, ap, length, length-drop, arith}
 use Rattle.tables_rows.specs.Stands.{NameStands}
-use Rattle.code_read.specs.Item.{size_of, list_begin}
+use Rattle.code_read.specs.Item.{insns_size, list_begin}
 use Rattle.code_read.proofs.FaultLaws.{units-even}
 use Rattle.code_read.proofs.ItemLaws.{read-from_takes}
 use Rattle.code_read.proofs.StandLaws.{outside_none, at_takes, code_body}
@@ -28,7 +28,7 @@ returns-clause-spelled c = λ code a.
 pub returns-clause-units : goal.returns-clause-units
 returns-clause-units c =
     let i = c.in-Some-item_of.ensures.some in
-    let e : length c.in-Some-item_of.item.units.now ≡ 2 * size_of c.in-Some.bytes.now = ap length i.units ∙ units-even c.in-Some.bytes.now i.whole in
+    let e : length c.in-Some-item_of.item.units.now ≡ 2 * insns_size c.in-Some.bytes.now = ap length i.units ∙ units-even c.in-Some.bytes.now i.whole in
     let s = i.size in
     omega (arith, e, s)
 

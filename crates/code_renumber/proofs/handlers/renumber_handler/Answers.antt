@@ -7,9 +7,10 @@ use Rattle.base_bytes.specs.Grammar.{Appends, Takes}
 use Rattle.tables_rows.specs.Stands.{NameStands}
 use Rattle.code_read.specs.Handlers.{catches_of}
 use Rattle.code_read.proofs.HandlerReading.{has-all, lacks-all}
-use Rattle.code_renumber.proofs.HandlerLemmas.{handler_parts, parts_from, last_place, no_last, number_one}
+use Rattle.code_renumber.proofs.HandlerLemmas.{handler_parts, parts_from, last_place, no_last}
 use Rattle.code_renumber.proofs.CatchLemmas.{carried_catches, place_read, written_without, written_with}
 use Rattle.code_renumber.proofs.handlers.renumber_handler.Goals as goal
+use Rattle.base_bytes.proofs.ListFacts.{number_one}
 
 pub take_signed-n-requires : goal.take_signed-n-requires
 take_signed-n-requires c =

@@ -1,5 +1,5 @@
 use Rattle.std.proofs.Common.{◌≡◌, ◌/◌, ◌+◌, ◌*◌, ℕ, length, sym, subst, arith}
-use Rattle.code_renumber.proofs.WrittenLemmas.{BegunTo, rest_is, next_in, begun_start, begun_more, begun_table}
+use Rattle.code_renumber.proofs.WrittenLemmas.{rest_is, BegunTo, next_in, begun_start, begun_more, begun_table}
 use Rattle.code_renumber.proofs.insns.starts_of.Goals as goal
 
 pub loop-at-init : goal.loop-at-init

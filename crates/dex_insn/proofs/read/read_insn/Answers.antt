@@ -14,7 +14,7 @@ returns-then-units-begin-clause-err c = record {
 }
 
 -- what a slice from k on holds
-rest : (k : ℕ) (xs : List ℕ) → take (length xs - k) (drop k xs) ≡ drop k xs
+pub rest : (k : ℕ) (xs : List ℕ) → take (length xs - k) (drop k xs) ≡ drop k xs
 rest k xs = take_all (length xs - k) (drop k xs) (omega (arith, length-drop k xs))
 
 pub returns-in-Ok-clause-only : goal.returns-in-Ok-clause-only

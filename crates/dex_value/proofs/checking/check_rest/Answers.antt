@@ -8,7 +8,7 @@ use Rattle.dex_value.proofs.checking.check_rest.Goals as goal
 pub returns-then-count-most-clause-err : goal.returns-then-count-most-clause-err
 returns-then-count-most-clause-err c =
     inr (inl (
-      record { n = c.in-Some.count; behind = drop c.in-Some.length c.args.bytes.now; counted = Takes-from_begins Spells c.args.bytes.now c.in-Some.count c.in-Some.length c.in-Some.ensures.found; above = c.if-count-most.true },
+      record { n = c.in-Some.count; after = drop c.in-Some.length c.args.bytes.now; counted = Takes-from_begins Spells c.args.bytes.now c.in-Some.count c.in-Some.length c.in-Some.ensures.found; above = c.if-count-most.true },
       c.at.ensures ∙ ap (λ p. record { code = 49; place = p }) c.from.ensures,
     ))
 

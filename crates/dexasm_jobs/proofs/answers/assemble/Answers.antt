@@ -1,8 +1,8 @@
 use Rattle.std.proofs.Common.{inl, inr}
 use Rattle.std.proofs.lemmas.Result.{IfErr-weaker}
-use Rattle.program_rules.proofs.OrderLaws.{passed}
 use Rattle.dexasm_jobs.proofs.MadeLaws.{made_and}
 use Rattle.dexasm_jobs.proofs.answers.assemble.Goals as goal
+use Rattle.base_bytes.proofs.ListFacts.{passed}
 
 pub returns-in_err-program-clause-refused : goal.returns-in_err-program-clause-refused
 returns-in_err-program-clause-refused c = passed _ _ _ c.from_residual.ensures.1 (λ ne. inl (c.in_err-program.ensures.err ne))

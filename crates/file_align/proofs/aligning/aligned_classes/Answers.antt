@@ -1,11 +1,11 @@
 use Rattle.std.proofs.Common.{rules}
 use Rattle.file_align.specs.Programs.{AlignedClass, IsShort}
-use Rattle.file_align.proofs.PairLaws.{pair_step, pair_done, none_paired, all_at, all_more}
+use Rattle.file_align.proofs.PairLaws.{pair_step, pair_done, none_paired, all_more}
 use Rattle.program_types.specs.Formed.{IsFormed}
 use Rattle.program_types.specs.View.{class}
 use Rattle.program_rules.specs.Rules.{CodesHold}
-use Rattle.tables_rows.proofs.RowReading.{passed}
 use Rattle.file_align.proofs.aligning.aligned_classes.Goals as goal
+use Rattle.base_bytes.proofs.ListFacts.{all_at, passed}
 
 pub aligned_class-requires : goal.aligned_class-requires
 aligned_class-requires c = record { formed = all_at (CodesHold IsFormed) class c.args.all.now c.loop-one.one-index _ c.loop-one-test.true c.requires.formed }

@@ -1,31 +1,31 @@
 use Rattle.std.proofs.Common.{◌≡◌, length, ap, ◌∙◌, arith}
 use Rattle.file_layout.specs.Plan.{tables_end}
 use Rattle.file_layout.specs.Tiles.{Refers}
-use Rattle.file_layout.proofs.SectionLaws.{Zip-length}
 use Rattle.file_limits.specs.Wide.{body_values}
 use Rattle.program_types.specs.View as view
 use Rattle.file_sections.specs.Codes.{is_bodiless}
 use Rattle.file_sections.proofs.SitedLaws.{room_of_sited}
 use Rattle.file_assemble.specs.Assembled.{Places, rows_of}
 use Rattle.file_assemble.proofs.DataLaws.{laid, longer}
-use Rattle.file_assemble.proofs.FitsLaws.{behind, few_of, room_of}
+use Rattle.file_assemble.proofs.FitsLaws.{after, few_of, room_of}
 use Rattle.file_assemble.proofs.OnceLaws.{datas_shared}
 use Rattle.file_assemble.proofs.ReadyLaws.{class_can}
 use Rattle.file_assemble.proofs.assembling.put_data.Goals as goal
+use Rattle.base_bytes.proofs.ListFacts.{zip_length}
 
 pub overflow_cast-tables : goal.overflow_cast-tables
 overflow_cast-tables c =
-    let n = behind c.args.ranks.now (view.program c.args.program.now) c.args.counts _ c.requires.needed c.requires.fits c.requires.counts c.requires.front in
+    let n = after c.args.ranks.now (view.program c.args.program.now) c.args.counts _ c.requires.needed c.requires.fits c.requires.counts c.requires.front in
     omega (arith, n.small, c.len-tables.ensures, c.args.out.now.ok.0)
 
 pub put_lists-requires-clause-front : goal.put_lists-requires-clause-front
 put_lists-requires-clause-front c =
-    let n = behind c.args.ranks.now (view.program c.args.program.now) c.args.counts _ c.requires.needed c.requires.fits c.requires.counts c.requires.front in
+    let n = after c.args.ranks.now (view.program c.args.program.now) c.args.counts _ c.requires.needed c.requires.fits c.requires.counts c.requires.front in
     n.some
 
 pub put_lists-requires-clause-room : goal.put_lists-requires-clause-room
 put_lists-requires-clause-room c =
-    let n = behind c.args.ranks.now (view.program c.args.program.now) c.args.counts _ c.requires.needed c.requires.fits c.requires.counts c.requires.front in
+    let n = after c.args.ranks.now (view.program c.args.program.now) c.args.counts _ c.requires.needed c.requires.fits c.requires.counts c.requires.front in
     omega (arith, n.small)
 
 pub put_lists-requires-clause-few : goal.put_lists-requires-clause-few
@@ -34,18 +34,18 @@ put_lists-requires-clause-few c =
 
 pub overflow_cast-lists_end : goal.overflow_cast-lists_end
 overflow_cast-lists_end c =
-    let n = behind c.args.ranks.now (view.program c.args.program.now) c.args.counts _ c.requires.needed c.requires.fits c.requires.counts c.requires.front in
+    let n = after c.args.ranks.now (view.program c.args.program.now) c.args.counts _ c.requires.needed c.requires.fits c.requires.counts c.requires.front in
     omega (arith, n.small, c.in_ok-lists.ensures.ok.bound, c.len-lists_end.ensures, c.put_lists.new.out.ok.0)
 
 pub put_codes-requires-clause-front : goal.put_codes-requires-clause-front
 put_codes-requires-clause-front c =
-    let n = behind c.args.ranks.now (view.program c.args.program.now) c.args.counts _ c.requires.needed c.requires.fits c.requires.counts c.requires.front in
+    let n = after c.args.ranks.now (view.program c.args.program.now) c.args.counts _ c.requires.needed c.requires.fits c.requires.counts c.requires.front in
     let g0 = longer _ _ c.in_ok-lists.ensures.ok.grown in
     omega (arith, n.some, g0)
 
 pub put_codes-requires-clause-room : goal.put_codes-requires-clause-room
 put_codes-requires-clause-room c =
-    let n = behind c.args.ranks.now (view.program c.args.program.now) c.args.counts _ c.requires.needed c.requires.fits c.requires.counts c.requires.front in
+    let n = after c.args.ranks.now (view.program c.args.program.now) c.args.counts _ c.requires.needed c.requires.fits c.requires.counts c.requires.front in
     omega (arith, n.small, c.in_ok-lists.ensures.ok.bound)
 
 pub put_codes-requires-clause-can : goal.put_codes-requires-clause-can
@@ -54,29 +54,29 @@ put_codes-requires-clause-can c =
 
 pub overflow_cast-codes_end : goal.overflow_cast-codes_end
 overflow_cast-codes_end c =
-    let n = behind c.args.ranks.now (view.program c.args.program.now) c.args.counts _ c.requires.needed c.requires.fits c.requires.counts c.requires.front in
+    let n = after c.args.ranks.now (view.program c.args.program.now) c.args.counts _ c.requires.needed c.requires.fits c.requires.counts c.requires.front in
     omega (arith, n.small, c.in_ok-lists.ensures.ok.bound, c.in_ok-codes.ensures.ok.bound, c.len-codes_end.ensures, c.put_codes.new.out.ok.0)
 
 pub put_strings-requires-clause-front : goal.put_strings-requires-clause-front
 put_strings-requires-clause-front c =
-    let n = behind c.args.ranks.now (view.program c.args.program.now) c.args.counts _ c.requires.needed c.requires.fits c.requires.counts c.requires.front in
+    let n = after c.args.ranks.now (view.program c.args.program.now) c.args.counts _ c.requires.needed c.requires.fits c.requires.counts c.requires.front in
     let g0 = longer _ _ c.in_ok-lists.ensures.ok.grown in
     let g1 = longer _ _ c.in_ok-codes.ensures.ok.grown in
     omega (arith, n.some, g0, g1)
 
 pub put_strings-requires-clause-room : goal.put_strings-requires-clause-room
 put_strings-requires-clause-room c =
-    let n = behind c.args.ranks.now (view.program c.args.program.now) c.args.counts _ c.requires.needed c.requires.fits c.requires.counts c.requires.front in
+    let n = after c.args.ranks.now (view.program c.args.program.now) c.args.counts _ c.requires.needed c.requires.fits c.requires.counts c.requires.front in
     omega (arith, n.small, c.in_ok-lists.ensures.ok.bound, c.in_ok-codes.ensures.ok.bound)
 
 pub overflow_cast-texts_end : goal.overflow_cast-texts_end
 overflow_cast-texts_end c =
-    let n = behind c.args.ranks.now (view.program c.args.program.now) c.args.counts _ c.requires.needed c.requires.fits c.requires.counts c.requires.front in
+    let n = after c.args.ranks.now (view.program c.args.program.now) c.args.counts _ c.requires.needed c.requires.fits c.requires.counts c.requires.front in
     omega (arith, n.small, c.in_ok-lists.ensures.ok.bound, c.in_ok-codes.ensures.ok.bound, c.in_ok-texts.ensures.ok.bound, c.len-texts_end.ensures, c.put_strings.new.out.ok.0)
 
 pub put_arrays-requires-clause-front : goal.put_arrays-requires-clause-front
 put_arrays-requires-clause-front c =
-    let n = behind c.args.ranks.now (view.program c.args.program.now) c.args.counts _ c.requires.needed c.requires.fits c.requires.counts c.requires.front in
+    let n = after c.args.ranks.now (view.program c.args.program.now) c.args.counts _ c.requires.needed c.requires.fits c.requires.counts c.requires.front in
     let g0 = longer _ _ c.in_ok-lists.ensures.ok.grown in
     let g1 = longer _ _ c.in_ok-codes.ensures.ok.grown in
     let g2 = longer _ _ c.in_ok-texts.ensures.ok.grown in
@@ -84,7 +84,7 @@ put_arrays-requires-clause-front c =
 
 pub put_arrays-requires-clause-room : goal.put_arrays-requires-clause-room
 put_arrays-requires-clause-room c =
-    let n = behind c.args.ranks.now (view.program c.args.program.now) c.args.counts _ c.requires.needed c.requires.fits c.requires.counts c.requires.front in
+    let n = after c.args.ranks.now (view.program c.args.program.now) c.args.counts _ c.requires.needed c.requires.fits c.requires.counts c.requires.front in
     omega (arith, n.small, c.in_ok-lists.ensures.ok.bound, c.in_ok-codes.ensures.ok.bound, c.in_ok-texts.ensures.ok.bound)
 
 pub put_arrays-requires-clause-few : goal.put_arrays-requires-clause-few
@@ -93,12 +93,12 @@ put_arrays-requires-clause-few c =
 
 pub overflow_cast-arrays_end : goal.overflow_cast-arrays_end
 overflow_cast-arrays_end c =
-    let n = behind c.args.ranks.now (view.program c.args.program.now) c.args.counts _ c.requires.needed c.requires.fits c.requires.counts c.requires.front in
+    let n = after c.args.ranks.now (view.program c.args.program.now) c.args.counts _ c.requires.needed c.requires.fits c.requires.counts c.requires.front in
     omega (arith, n.small, c.in_ok-lists.ensures.ok.bound, c.in_ok-codes.ensures.ok.bound, c.in_ok-texts.ensures.ok.bound, c.in_ok-arrays.ensures.ok.bound, c.len-arrays_end.ensures, c.put_arrays.new.out.ok.0)
 
 pub put_datas-requires-clause-front : goal.put_datas-requires-clause-front
 put_datas-requires-clause-front c =
-    let n = behind c.args.ranks.now (view.program c.args.program.now) c.args.counts _ c.requires.needed c.requires.fits c.requires.counts c.requires.front in
+    let n = after c.args.ranks.now (view.program c.args.program.now) c.args.counts _ c.requires.needed c.requires.fits c.requires.counts c.requires.front in
     let g0 = longer _ _ c.in_ok-lists.ensures.ok.grown in
     let g1 = longer _ _ c.in_ok-codes.ensures.ok.grown in
     let g2 = longer _ _ c.in_ok-texts.ensures.ok.grown in
@@ -107,7 +107,7 @@ put_datas-requires-clause-front c =
 
 pub put_datas-requires-clause-room : goal.put_datas-requires-clause-room
 put_datas-requires-clause-room c =
-    let n = behind c.args.ranks.now (view.program c.args.program.now) c.args.counts _ c.requires.needed c.requires.fits c.requires.counts c.requires.front in
+    let n = after c.args.ranks.now (view.program c.args.program.now) c.args.counts _ c.requires.needed c.requires.fits c.requires.counts c.requires.front in
     omega (arith, n.small, c.in_ok-lists.ensures.ok.bound, c.in_ok-codes.ensures.ok.bound, c.in_ok-texts.ensures.ok.bound, c.in_ok-arrays.ensures.ok.bound)
 
 pub put_datas-requires-clause-few : goal.put_datas-requires-clause-few
@@ -120,11 +120,11 @@ put_datas-requires-clause-rise c =
 
 pub put_datas-requires-clause-codes : goal.put_datas-requires-clause-codes
 put_datas-requires-clause-codes c =
-    ap length c.deref.ensures.value ∙ Zip-length (Refers is_bodiless c.in_ok-codes.ensures.ok.lays.items) _ (body_values (view.program c.args.program.now)) c.in_ok-codes.ensures.ok.lays.each
+    ap length c.deref.ensures.value ∙ zip_length (Refers is_bodiless c.in_ok-codes.ensures.ok.lays.items) _ (body_values (view.program c.args.program.now)) c.in_ok-codes.ensures.ok.lays.each
 
 pub overflow_cast-datas_end : goal.overflow_cast-datas_end
 overflow_cast-datas_end c =
-    let n = behind c.args.ranks.now (view.program c.args.program.now) c.args.counts _ c.requires.needed c.requires.fits c.requires.counts c.requires.front in
+    let n = after c.args.ranks.now (view.program c.args.program.now) c.args.counts _ c.requires.needed c.requires.fits c.requires.counts c.requires.front in
     let d = rw c.deref.ensures.value at c.in_ok-datas.ensures.ok in
     let w = room_of_sited (view.program c.args.program.now) c.in_ok-codes.codes.places.items in
     omega (arith, n.small, c.in_ok-lists.ensures.ok.bound, c.in_ok-codes.ensures.ok.bound, c.in_ok-texts.ensures.ok.bound, c.in_ok-arrays.ensures.ok.bound, d.bound, w, c.len-datas_end.ensures, c.put_datas.new.out.ok.0)
@@ -149,5 +149,5 @@ returns-clause-ok c =
 
 pub codes_part-requires : goal.codes_part-requires
 codes_part-requires c =
-    let n = behind c.args.ranks.now (view.program c.args.program.now) c.args.counts _ c.requires.needed c.requires.fits c.requires.counts c.requires.front in
+    let n = after c.args.ranks.now (view.program c.args.program.now) c.args.counts _ c.requires.needed c.requires.fits c.requires.counts c.requires.front in
     omega (arith, n.small, c.in_ok-lists.ensures.ok.bound, c.len-lists_end.ensures, c.put_lists.new.out.ok.0)

@@ -1,7 +1,7 @@
 use Rattle.std.proofs.Common.{sym}
 use Rattle.file_classes.specs.Reading.{IsChecked}
-use Rattle.file_classes.proofs.KeptLaws.{kept_more}
 use Rattle.file_classes.proofs.checking.check_code_at.Goals as goal
+use Rattle.tables_rows.proofs.KeptLaws.{kept_more}
 
 pub returns-in-Some-clause-ok : goal.returns-in-Some-clause-ok
 returns-in-Some-clause-ok c = c.requires.kept c.args.off c.in-Some.past.now (sym c.in-Some.ensures.value)

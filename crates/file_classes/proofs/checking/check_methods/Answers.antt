@@ -1,9 +1,9 @@
 use Rattle.std.proofs.Common.{ℕ, ◌≡◌, length, refl, subst, arith, get_or}
-use Rattle.tables_rows.proofs.RowReading.{passed}
 use Rattle.file_classes.specs.ClassFaults.{BodyHolds, BodyFails, CodeHolds, RegistersFail}
-use Rattle.file_classes.specs.Reading.{BaresHold, BaresUpTo}
+use Rattle.file_classes.specs.Reading.{CodesHoldUpTo, CodesUpTo}
 use Rattle.file_classes.proofs.MethodLaws.{no_bare, bares_more, bares_break, up_turn}
 use Rattle.file_classes.proofs.checking.check_methods.Goals as goal
+use Rattle.base_bytes.proofs.ListFacts.{passed}
 
 pub loop-bare-preserved : goal.loop-bare-preserved
 loop-bare-preserved c =
@@ -23,9 +23,9 @@ returns-in_err-next-clause-err c =
 pub returns-clause-ok : goal.returns-clause-ok
 returns-clause-ok c =
     let all : c.loop-bare.bare-index ≡ length c.args.bares.now = omega (arith, c.loop-bare.auto.bare-index-end, c.loop-bare-test.false) in
-    subst (λ (n : ℕ). BaresHold BodyHolds c.args.sections.now c.args.bares.now n) all c.loop-bare.invariant.hold
+    subst (λ (n : ℕ). CodesHoldUpTo BodyHolds c.args.sections.now c.args.bares.now n) all c.loop-bare.invariant.hold
 
 pub returns-clause-past : goal.returns-clause-past
 returns-clause-past c =
     let all : c.loop-bare.bare-index ≡ length c.args.bares.now = omega (arith, c.loop-bare.auto.bare-index-end, c.loop-bare-test.false) in
-    subst (λ (n : ℕ). BaresUpTo CodeHolds RegistersFail c.args.sections.now c.args.bares.now n c.loop-bare.past) all c.loop-bare.invariant.past
+    subst (λ (n : ℕ). CodesUpTo CodeHolds RegistersFail c.args.sections.now c.args.bares.now n c.loop-bare.past) all c.loop-bare.invariant.past

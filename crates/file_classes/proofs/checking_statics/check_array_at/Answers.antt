@@ -1,8 +1,9 @@
 use Rattle.std.proofs.Common.{sym, arith}
 use Rattle.tables_rows.specs.Names.{NameIsAt}
 use Rattle.file_classes.specs.Kept.{CountsOnce}
-use Rattle.file_classes.proofs.KeptLaws.{kept_more, array_fewer, array_above}
+use Rattle.file_classes.proofs.KeptLaws.{array_fewer, array_above}
 use Rattle.file_classes.proofs.checking_statics.check_array_at.Goals as goal
+use Rattle.tables_rows.proofs.KeptLaws.{kept_more}
 
 pub returns-then-found-most-clause-broken : goal.returns-then-found-most-clause-broken
 returns-then-found-most-clause-broken c =

@@ -1,9 +1,9 @@
 use Rattle.std.proofs.Common.{below_more, arith}
-use Rattle.tables_rows.proofs.RowReading.{passed}
 use Rattle.file_classes.specs.ClassFaults.{ValuesBreak, ValuesHold}
-use Rattle.file_classes.proofs.KeptLaws.{kept_none}
 use Rattle.file_classes.proofs.StaticsLaws.{first_class}
 use Rattle.file_classes.proofs.checking_statics.check_statics.Goals as goal
+use Rattle.base_bytes.proofs.ListFacts.{passed}
+use Rattle.tables_rows.proofs.KeptLaws.{kept_none}
 
 pub loop-i-init : goal.loop-i-init
 loop-i-init c = record { hold = λ i lt. absurd (omega (arith, lt)); kept = kept_none _ c.new-kept.result c.new-kept.ensures.empty }

@@ -1,7 +1,7 @@
 use Rattle.std.proofs.Common.{map, arith}
 use Rattle.std.proofs.lemmas.List.{map-append}
 use Rattle.base_bytes.specs.Leb128.{Spells}
-use Rattle.file_classes.specs.ClassData.{SpellsField}
+use Rattle.file_classes.specs.ClassData.{SpellsFieldEntry}
 use Rattle.file_classes.specs.Reading.{field_entry}
 use Rattle.file_classes.proofs.EntryLaws.{field_unique}
 use Rattle.file_classes.proofs.TakingLaws.{taken_more, taken_all, taken_short}
@@ -9,13 +9,13 @@ use Rattle.file_classes.proofs.class_data.take_fields.Goals as goal
 
 pub returns-in_default-clause-none : goal.returns-in_default-clause-none
 returns-in_default-clause-none c =
-    taken_short (SpellsField Spells) c.args.bytes.now c.loop-turn._turn c.args.count (map field_entry c.loop-turn.all.items) c.loop-turn.left.now field_unique c.loop-turn-test.true c.loop-turn.invariant c.in_default.ensures.none
+    taken_short (SpellsFieldEntry Spells) c.args.bytes.now c.loop-turn._turn c.args.count (map field_entry c.loop-turn.all.items) c.loop-turn.left.now field_unique c.loop-turn-test.true c.loop-turn.invariant c.in_default.ensures.none
 
 pub loop-turn-preserved : goal.loop-turn-preserved
 loop-turn-preserved c =
     rw (c.in_ok-push.ensures.items, map-append)
-    (taken_more (SpellsField Spells) c.args.bytes.now c.loop-turn._turn (map field_entry c.loop-turn.all.items) (field_entry c.in-Some.entry) c.loop-turn.left.now c.in-Some.rest.now c.loop-turn.invariant c.in-Some.ensures.found)
+    (taken_more (SpellsFieldEntry Spells) c.args.bytes.now c.loop-turn._turn (map field_entry c.loop-turn.all.items) (field_entry c.in-Some.entry) c.loop-turn.left.now c.in-Some.rest.now c.loop-turn.invariant c.in-Some.ensures.found)
 
 pub returns-clause-found : goal.returns-clause-found
 returns-clause-found c =
-    taken_all (SpellsField Spells) c.args.bytes.now c.loop-turn._turn c.args.count (map field_entry c.loop-turn.all.items) c.loop-turn.left.now (omega (arith, c.loop-turn-test.false, c.loop-turn.auto._turn-end)) c.loop-turn.invariant
+    taken_all (SpellsFieldEntry Spells) c.args.bytes.now c.loop-turn._turn c.args.count (map field_entry c.loop-turn.all.items) c.loop-turn.left.now (omega (arith, c.loop-turn-test.false, c.loop-turn.auto._turn-end)) c.loop-turn.invariant

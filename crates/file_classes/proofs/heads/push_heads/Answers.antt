@@ -1,9 +1,10 @@
 use Rattle.file_classes.proofs.KeptLaws.{refused}
 use Rattle.std.proofs.Common.{rules, arith}
-use Rattle.tables_rows.proofs.RowReading.{passed, first_row, first_more}
+use Rattle.tables_rows.proofs.RowReading.{first_row, first_more}
 use Rattle.file_classes.specs.ClassFaults.{ClassRowBreaks, ClassRowHolds}
 use Rattle.file_classes.specs.Reading.{IsHead}
 use Rattle.file_classes.proofs.heads.push_heads.Goals as goal
+use Rattle.base_bytes.proofs.ListFacts.{passed}
 
 pub returns-in_err-head-clause-err : goal.returns-in_err-head-clause-err
 returns-in_err-head-clause-err c =

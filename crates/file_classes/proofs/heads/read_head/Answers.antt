@@ -1,10 +1,10 @@
 use Rattle.std.proofs.Common.{refl, map, option_map}
 use Rattle.program_types.specs.View.{str, desc}
-use Rattle.tables_rows.proofs.RowReading.{passed}
 use Rattle.file_classes.specs.Reading.{entries}
 use Rattle.file_classes.proofs.MemberLaws.{head_stands, head_holds, member_breaks}
 use Rattle.file_classes.proofs.PlaceLaws.{types_have_rows}
 use Rattle.file_classes.proofs.heads.read_head.Goals as goal
+use Rattle.base_bytes.proofs.ListFacts.{passed}
 
 pub returns-clause-ok : goal.returns-clause-ok
 returns-clause-ok c =

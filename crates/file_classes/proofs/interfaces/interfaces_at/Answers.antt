@@ -1,8 +1,8 @@
 use Rattle.std.proofs.Common.{sym, map}
 use Rattle.program_types.specs.View.{desc}
 use Rattle.file_classes.specs.Classes.{InterfacesAt}
-use Rattle.file_classes.proofs.KeptLaws.{kept_more}
 use Rattle.file_classes.proofs.interfaces.interfaces_at.Goals as goal
+use Rattle.tables_rows.proofs.KeptLaws.{kept_more}
 
 pub returns-in-Some-clause-found : goal.returns-in-Some-clause-found
 returns-in-Some-clause-found c = c.requires.kept c.args.off c.in-Some.list.now (sym c.in-Some.ensures.value)

@@ -1,7 +1,6 @@
 use Rattle.std.proofs.Common.{◌≡◌, ◌+◌, ◌<◌, map, get_or, length, refl, arith}
 use Rattle.std.proofs.lemmas.List.{length-map}
 use Rattle.dex_container.specs.Layout.{size_of}
-use Rattle.tables_rows.proofs.RowReading.{passed}
 use Rattle.program_types.specs.View.{desc, method_ref}
 use Rattle.file_classes.specs.ClassFaults.{MethodOwner}
 use Rattle.file_classes.specs.Reading.{IsBare}
@@ -14,6 +13,7 @@ use Rattle.file_classes.proofs.EntryFaults.{bares_before}
 use Rattle.file_classes.proofs.MemberLaws.{there, next_index, index_fails, step_fails, step_rises, all_run}
 use Rattle.file_classes.proofs.members.read_bares.Goals as goal
 use Rattle.file_classes.proofs.members.read_bares.Goals.{else-entry-eq0-via-then-entry-eq0+else-len-gt0, else-entry-eq0-via-else-entry-eq0}
+use Rattle.base_bytes.proofs.ListFacts.{passed}
 
 pub loop-entry-preserved : goal.loop-entry-preserved
 loop-entry-preserved c =

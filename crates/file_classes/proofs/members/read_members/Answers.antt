@@ -1,9 +1,9 @@
 use Rattle.std.proofs.Common.{inl, inr, ◌∙◌}
 use Rattle.program_types.specs.View.{desc}
-use Rattle.tables_rows.proofs.RowReading.{passed}
 use Rattle.file_classes.specs.Reading.{entries}
 use Rattle.file_classes.proofs.EntryFaults.{fields_hold, bares_hold}
 use Rattle.file_classes.proofs.members.read_members.Goals as goal
+use Rattle.base_bytes.proofs.ListFacts.{passed}
 
 pub returns-in_err-statics-clause-err : goal.returns-in_err-statics-clause-err
 returns-in_err-statics-clause-err c =

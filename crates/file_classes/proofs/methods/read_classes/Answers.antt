@@ -1,4 +1,3 @@
-use Rattle.file_classes.proofs.KeptLaws.{kept_none}
 use Rattle.std.proofs.Common.{ℕ, ◌≡◌, rules, arith, inl, inr, map, subst, Option}
 use Rattle.std.specs.Prelude.{IfSome, IfNone}
 use Rattle.base_bytes.specs.declared.fault.Fault.{Fault}
@@ -6,12 +5,14 @@ use Rattle.dex_container.specs.Layout.{size_of}
 use Rattle.tables_rows.specs.Sorted.{RowsHold}
 use Rattle.std.proofs.lemmas.List.{map-append}
 use Rattle.program_types.specs.View.{class}
-use Rattle.tables_rows.proofs.RowReading.{passed, first_more}
+use Rattle.tables_rows.proofs.RowReading.{first_more}
 use Rattle.file_classes.specs.ClassFaults.{BodiesBreak, BodiesHold, RowRegistersBreak, RowRegistersHold, IsFirstClass}
 use Rattle.file_classes.specs.Reading.{SpellsBodies}
 use Rattle.file_classes.proofs.StaticsLaws.{first_class}
 use Rattle.file_classes.proofs.MethodLaws.{bodies_hold, rows_none, rows_turn, all_spelled}
 use Rattle.file_classes.proofs.methods.read_classes.Goals as goal
+use Rattle.tables_rows.proofs.KeptLaws.{kept_none}
+use Rattle.base_bytes.proofs.ListFacts.{passed}
 
 pub returns-in_err-found-clause-err : goal.returns-in_err-found-clause-err
 returns-in_err-found-clause-err c =

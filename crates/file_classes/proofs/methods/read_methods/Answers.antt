@@ -1,11 +1,11 @@
 use Rattle.std.proofs.Common.{ℕ, ◌≡◌, length, refl, subst, arith, map, get_or}
 use Rattle.std.proofs.lemmas.List.{map-append}
-use Rattle.tables_rows.proofs.RowReading.{passed}
 use Rattle.program_types.specs.View.{method}
 use Rattle.file_classes.specs.ClassFaults.{CodeHolds, RegistersFail}
-use Rattle.file_classes.specs.Reading.{BaresUpTo}
+use Rattle.file_classes.specs.Reading.{CodesUpTo}
 use Rattle.file_classes.proofs.MethodLaws.{no_bare, done_at, breaks_at, up_turn}
 use Rattle.file_classes.proofs.methods.read_methods.Goals as goal
+use Rattle.base_bytes.proofs.ListFacts.{passed}
 
 pub loop-bare-preserved : goal.loop-bare-preserved
 loop-bare-preserved c = record {
@@ -25,4 +25,4 @@ returns-clause-past c =
     let end = c.loop-bare.auto.bare-index-end in
     let over = c.loop-bare-test.false in
     let all : c.loop-bare.bare-index ≡ length c.args.bares.now = omega (arith, end, over) in
-    subst (λ (n : ℕ). BaresUpTo CodeHolds RegistersFail c.args.sections.now c.args.bares.now n c.loop-bare.past) all c.loop-bare.invariant.past
+    subst (λ (n : ℕ). CodesUpTo CodeHolds RegistersFail c.args.sections.now c.args.bares.now n c.loop-bare.past) all c.loop-bare.invariant.past

@@ -3,8 +3,9 @@ use Rattle.std.proofs.lemmas.List.{length-map}
 use Rattle.program_types.specs.View.{value}
 use Rattle.tables_rows.specs.Names.{NameIsAt}
 use Rattle.file_classes.specs.Kept.{StandsOnce}
-use Rattle.file_classes.proofs.KeptLaws.{kept_more, array_fewer, array_above}
+use Rattle.file_classes.proofs.KeptLaws.{array_fewer, array_above}
 use Rattle.file_classes.proofs.statics.array_at.Goals as goal
+use Rattle.tables_rows.proofs.KeptLaws.{kept_more}
 
 pub returns-then-values-most-clause-broken : goal.returns-then-values-most-clause-broken
 returns-then-values-most-clause-broken c =

@@ -1,11 +1,12 @@
-use Rattle.file_classes.proofs.KeptLaws.{kept_none}
 use Rattle.std.proofs.Common.{rules, arith, map}
 use Rattle.program_types.specs.View.{value}
-use Rattle.tables_rows.proofs.RowReading.{passed, first_more}
+use Rattle.tables_rows.proofs.RowReading.{first_more}
 use Rattle.file_classes.specs.ClassFaults.{ValuesBreak, ValuesHold}
 use Rattle.file_classes.specs.Reading.{AreStatics}
 use Rattle.file_classes.proofs.StaticsLaws.{first_class}
 use Rattle.file_classes.proofs.statics.read_statics.Goals as goal
+use Rattle.tables_rows.proofs.KeptLaws.{kept_none}
+use Rattle.base_bytes.proofs.ListFacts.{passed}
 
 pub returns-in_err-statics-clause-err : goal.returns-in_err-statics-clause-err
 returns-in_err-statics-clause-err c =

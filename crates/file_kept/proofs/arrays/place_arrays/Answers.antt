@@ -3,7 +3,6 @@ use Rattle.std.proofs.lemmas.List.{take_all}
 use Rattle.program_types.specs.Content.{Value}
 use Rattle.file_layout.specs.Sections.{is_empty_list}
 use Rattle.file_layout.specs.Tiles.{AreShared}
-use Rattle.file_layout.proofs.SectionLaws.{Zip-length}
 use Rattle.base_bytes.specs.Leb128.{Shortest}
 use Rattle.dex_value.specs.Spelling.{SpellsArray}
 use Rattle.dex_value.specs.Wide.{wide_array}
@@ -16,6 +15,7 @@ use Rattle.file_kept.specs.Statics.{IsCarriedStatics, WritesStatics}
 use Rattle.file_kept.proofs.ListLaws.{zip_at}
 use Rattle.file_kept.proofs.MovedLaws.{moved_none}
 use Rattle.file_kept.proofs.arrays.place_arrays.Goals as goal
+use Rattle.base_bytes.proofs.ListFacts.{zip_length}
 
 pub loop-off-init : goal.loop-off-init
 loop-off-init c = (
@@ -42,7 +42,7 @@ pub loop-off-preserved : goal.loop-off-preserved
 loop-off-preserved c = (
   λ s arrays z.
       let i = c.loop-off.off-index in
-      let n = Zip-length (IsCarriedStatics c.args.sections.now c.args.numbers.now s) c.args.offs.now arrays z in
+      let n = zip_length (IsCarriedStatics c.args.sections.now c.args.numbers.now s) c.args.offs.now arrays z in
       sharing_next is_empty_list (Shortest (SpellsArray (NameRanks s))) (WritesArray s) 1 wide_array _ _ _ arrays i [] _ _ _ _ _ (array_packs s) (array_one s) (array_most s _) (omega (arith, n, c.loop-off-test.true)) (c.loop-off.invariant.0 s arrays z) c.requires.front
       (c.in_ok-place.ensures.ok s (get_or arrays i []) (zip_at (IsCarriedStatics c.args.sections.now c.args.numbers.now s) c.args.offs.now arrays i [] c.loop-off-test.true z)) c.in_ok-push.ensures.items,
   c.in_ok-place.ensures.kept,
@@ -58,11 +58,11 @@ count-requires c =
 
 pub returns-clause-ok : goal.returns-clause-ok
 returns-clause-ok c = λ s arrays z.
-    let n = Zip-length (IsCarriedStatics c.args.sections.now c.args.numbers.now s) c.args.offs.now arrays z in
+    let n = zip_length (IsCarriedStatics c.args.sections.now c.args.numbers.now s) c.args.offs.now arrays z in
     sharing_end is_empty_list (Shortest (SpellsArray (NameRanks s))) (WritesArray s) 1 wide_array _ _ arrays c.loop-off.off-index _ _ _ (omega (arith, n, c.loop-off-test.false)) (c.loop-off.invariant.0 s arrays z) c.count.ensures
 
 pub returns-clause-once : goal.returns-clause-once
 returns-clause-once c = λ s arrays rise z.
-    let n = Zip-length (IsCarriedStatics c.args.sections.now c.args.numbers.now s) c.args.offs.now arrays z in
+    let n = zip_length (IsCarriedStatics c.args.sections.now c.args.numbers.now s) c.args.offs.now arrays z in
     subst (λ (done : List (List Value)). AreShared c.loop-off.places.items done) (take_all c.loop-off.off-index arrays (omega (arith, n, c.loop-off-test.false)))
     (sharing_shared is_empty_list (Shortest (SpellsArray (NameRanks s))) (WritesArray s) 1 wide_array (arrays_once s rise) _ _ _ _ _ _ _ (c.loop-off.invariant.0 s arrays z))

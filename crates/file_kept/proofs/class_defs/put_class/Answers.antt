@@ -3,7 +3,7 @@ use Rattle.std.proofs.lemmas.Result.{on_ok_weaker}
 use Rattle.base_bytes.specs.Words.{words_bytes}
 use Rattle.file_kept.specs.Names.{StringOrNone, TypeOrNone}
 use Rattle.tables_names.specs.Needed.{needed}
-use Rattle.file_kept.proofs.SeatLaws.{class_at, class_within, superclass, source, class_row}
+use Rattle.file_kept.proofs.ClassRowLaws.{class_at, class_within, superclass, source, class_row}
 use Rattle.file_kept.proofs.class_defs.put_class.Goals as goal
 
 pub of-requires : goal.of-requires
@@ -40,8 +40,8 @@ returns-clause-ok c =
     let above = c.type_or_none.ensures b (needed p) x.superclass (subst (λ (i : ℕ). TypeOrNone b c.args.numbers.now (needed p) i x.superclass) (sym c.class_word-3.ensures) (superclass b c.args.numbers.now p k c.args.i x at)) in
     let written = c.string_or_none.ensures b (needed p) x.source (subst (λ (i : ℕ). StringOrNone b c.args.numbers.now (needed p) i x.source) (sym c.class_word-4.ensures) (source b c.args.numbers.now p k c.args.i x at)) in
     let there = subst (λ (i : ℕ). slice_get c.args.numbers.now.types i ≡ Some c.of.result) c.class_word.ensures c.of.ensures in
-    let words = w ∙ ap (λ (f : ℕ). c.args.rows.now.items ++ words_bytes (c.of.result ∷ f ∷ c.type_or_none.result ∷ c.args.seats.list ∷ c.string_or_none.result ∷ 0 ∷ c.args.seats.datum ∷ c.args.seats.array ∷ [])) c.class_word-2.ensures in
+    let words = w ∙ ap (λ (f : ℕ). c.args.rows.now.items ++ words_bytes (c.of.result ∷ f ∷ c.type_or_none.result ∷ c.args.places.list ∷ c.string_or_none.result ∷ 0 ∷ c.args.places.class_data ∷ c.args.places.array ∷ [])) c.class_word-2.ensures in
     let flags : c.class_word-2.result < 2 ^ 32 = omega arith in
-    class_row b c.args.numbers.now p k c.args.i x at c.of.result c.type_or_none.result c.string_or_none.result c.args.seats.list c.args.seats.datum c.args.seats.array c.args.rows.now.items c.push_words.new.out.items there above written
+    class_row b c.args.numbers.now p k c.args.i x at c.of.result c.type_or_none.result c.string_or_none.result c.args.places.list c.args.places.class_data c.args.places.array c.args.rows.now.items c.push_words.new.out.items there above written
     (omega arith) (subst (λ (f : ℕ). f < 2 ^ 32) c.class_word-2.ensures flags) (omega arith) (omega arith) (omega arith) (omega arith) (omega arith) words)
     c.push_words.ensures.ok

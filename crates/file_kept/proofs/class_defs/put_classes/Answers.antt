@@ -1,5 +1,5 @@
 use Rattle.std.proofs.Common.{arith}
-use Rattle.file_kept.proofs.SeatLaws.{seated_start, seated_next, seated_end}
+use Rattle.file_kept.proofs.ClassRowLaws.{seated_start, seated_next, seated_end}
 use Rattle.file_kept.proofs.class_defs.put_classes.Goals as goal
 
 pub loop-i-init : goal.loop-i-init

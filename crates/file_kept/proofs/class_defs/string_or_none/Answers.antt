@@ -1,5 +1,5 @@
 use Rattle.std.proofs.Common.{arith}
-use Rattle.file_kept.proofs.SeatLaws.{no_string, string_within, some_string}
+use Rattle.file_kept.proofs.ClassRowLaws.{no_string, string_within, some_string}
 use Rattle.file_kept.proofs.class_defs.string_or_none.Goals as goal
 
 pub returns-then-index-eq-NO_INDEX : goal.returns-then-index-eq-NO_INDEX

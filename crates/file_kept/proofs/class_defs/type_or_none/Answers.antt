@@ -1,5 +1,5 @@
 use Rattle.std.proofs.Common.{arith}
-use Rattle.file_kept.proofs.SeatLaws.{no_type, type_within, some_type}
+use Rattle.file_kept.proofs.ClassRowLaws.{no_type, type_within, some_type}
 use Rattle.file_kept.proofs.class_defs.type_or_none.Goals as goal
 
 pub returns-then-index-eq-NO_INDEX : goal.returns-then-index-eq-NO_INDEX

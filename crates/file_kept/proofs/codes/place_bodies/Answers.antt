@@ -2,7 +2,6 @@ use Rattle.std.proofs.Common.{List, Option, None, get_or, sym, ap, subst, ◌∙
 use Rattle.std.proofs.lemmas.List.{take_all}
 use Rattle.program_types.specs.Content.{Code}
 use Rattle.tables_names.specs.Closure.{NameRanks}
-use Rattle.tables_rows.proofs.RowReading.{passed}
 use Rattle.file_layout.specs.Tiles.{AreShared}
 use Rattle.file_limits.specs.Wide.{wide_body}
 use Rattle.file_sections.specs.Codes.{PacksBody, WritesBody, is_bodiless}
@@ -13,6 +12,7 @@ use Rattle.file_kept.specs.Bodies.{AreNear, IsFar, WritesCarried, bodies_alone}
 use Rattle.file_kept.proofs.BodyLaws.{carried_at, first_far, near_body, near_more, owned_long, turn_of}
 use Rattle.file_kept.proofs.MovedLaws.{moved_none}
 use Rattle.file_kept.proofs.codes.place_bodies.Goals as goal
+use Rattle.base_bytes.proofs.ListFacts.{passed}
 
 pub loop-body-init : goal.loop-body-init
 loop-body-init c = (

@@ -6,12 +6,12 @@ use Rattle.file_sections.specs.Codes.{PacksBody, is_bodiless}
 use Rattle.program_types.specs.Content.{Code}
 use Rattle.tables_names.specs.Closure.{NameRanks}
 use Rattle.tables_names.specs.Needed.{needed}
-use Rattle.tables_rows.proofs.RowReading.{passed}
 use Rattle.file_kept.specs.Bodies.{AreOwned, numbered}
 use Rattle.file_kept.specs.declared.codes.Body.{Body}
 use Rattle.file_kept.proofs.FarLaws.{first_class, none_far}
 use Rattle.file_kept.proofs.GatherLaws.{alone, short_of}
 use Rattle.file_kept.proofs.codes.put_codes.Goals as goal
+use Rattle.base_bytes.proofs.ListFacts.{passed}
 
 pub place_bodies-requires-clause-bodies : goal.place_bodies-requires-clause-bodies
 place_bodies-requires-clause-bodies c =

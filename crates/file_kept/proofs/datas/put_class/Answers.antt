@@ -6,8 +6,9 @@ use Rattle.file_layout.specs.Sections.{AddsSome}
 use Rattle.file_sections.specs.Data.{PacksData, has_no_members, method_count}
 use Rattle.tables_names.specs.Closure.{NameRanks}
 use Rattle.tables_names.specs.Needed.{needed}
-use Rattle.file_kept.proofs.SiteLaws.{class_at, entries_carried}
+use Rattle.file_kept.proofs.SiteLaws.{entries_carried}
 use Rattle.file_kept.proofs.datas.put_class.Goals as goal
+use Rattle.file_kept.proofs.ClassRowLaws.{class_at}
 
 pub unreachable-requires : goal.unreachable-requires
 unreachable-requires c =

@@ -1,5 +1,5 @@
 use Rattle.std.proofs.Common.{arith}
-use Rattle.file_sections.specs.Data.{PacksData, has_no_members, wide_sited}
+use Rattle.file_sections.specs.Data.{PacksData, has_no_members, wide_with_codes}
 use Rattle.file_sections.proofs.LayingLaws.{items_few}
 use Rattle.file_sections.proofs.SitedLaws.{room_of_sited}
 use Rattle.tables_names.specs.Closure.{NameRanks}
@@ -31,7 +31,7 @@ pub add-requires : goal.add-requires
 add-requires c =
     let p = c.requires.kept.0 in
     let s = c.loop-i.invariant p c.requires.kept.1 in
-    let f = items_few has_no_members (PacksData (NameRanks (needed p))) 1 wide_sited _ _ _ _ _ _ _ s.0 in
+    let f = items_few has_no_members (PacksData (NameRanks (needed p))) 1 wide_with_codes _ _ _ _ _ _ _ s.0 in
     let a = room_of_sited p c.args.codes.now in
     let b = s.0.bound in
     omega (arith, f, a, b, c.requires.kept.3, c.requires.front)

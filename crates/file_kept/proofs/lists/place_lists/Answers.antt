@@ -3,7 +3,6 @@ use Rattle.std.proofs.lemmas.List.{take_all}
 use Rattle.program_types.specs.Content.{Units}
 use Rattle.file_layout.specs.Sections.{is_empty_list}
 use Rattle.file_layout.specs.Tiles.{AreShared}
-use Rattle.file_layout.proofs.SectionLaws.{Zip-length}
 use Rattle.file_limits.specs.Wide.{wide_list}
 use Rattle.file_sections.specs.Lists.{SpellsRanks}
 use Rattle.file_sections.proofs.LayingLaws.{items_few, room_at}
@@ -13,6 +12,7 @@ use Rattle.file_kept.specs.Lists.{IsCarriedList, WritesList}
 use Rattle.file_kept.proofs.ListLaws.{zip_at}
 use Rattle.file_kept.proofs.MovedLaws.{moved_none}
 use Rattle.file_kept.proofs.lists.place_lists.Goals as goal
+use Rattle.base_bytes.proofs.ListFacts.{zip_length}
 
 pub loop-off-init : goal.loop-off-init
 loop-off-init c = (
@@ -26,7 +26,7 @@ add_list-requires-clause-list c =
     let lists = c.requires.lists.1 in
     let z = c.requires.lists.2 in
     let i = c.loop-off.off-index in
-    let n = Zip-length (IsCarriedList c.args.sections.now c.args.numbers.now s) c.args.offs.now lists z in
+    let n = zip_length (IsCarriedList c.args.sections.now c.args.numbers.now s) c.args.offs.now lists z in
     let w = room_at wide_list lists i [] (omega (arith, n, c.loop-off-test.true)) in
     let b = (c.loop-off.invariant.0 s lists z).laying.bound in
     (s, get_or lists i [], zip_at (IsCarriedList c.args.sections.now c.args.numbers.now s) c.args.offs.now lists i [] c.loop-off-test.true z, omega (arith, w, b, c.requires.lists.3))
@@ -38,7 +38,7 @@ pub loop-off-preserved : goal.loop-off-preserved
 loop-off-preserved c = (
   λ s lists z.
       let i = c.loop-off.off-index in
-      let n = Zip-length (IsCarriedList c.args.sections.now c.args.numbers.now s) c.args.offs.now lists z in
+      let n = zip_length (IsCarriedList c.args.sections.now c.args.numbers.now s) c.args.offs.now lists z in
       sharing_next is_empty_list (SpellsRanks s) (SpellsRanks s) 4 wide_list _ _ _ lists i [] _ _ _ _ _ (list_packs s) (list_one s) (list_most s _) (omega (arith, n, c.loop-off-test.true)) (c.loop-off.invariant.0 s lists z) c.requires.front
       (c.in_ok-place.ensures.ok s (get_or lists i []) (zip_at (IsCarriedList c.args.sections.now c.args.numbers.now s) c.args.offs.now lists i [] c.loop-off-test.true z)) c.in_ok-push.ensures.items,
   c.in_ok-place.ensures.kept,
@@ -54,11 +54,11 @@ count-requires c =
 
 pub returns-clause-ok : goal.returns-clause-ok
 returns-clause-ok c = λ s lists z.
-    let n = Zip-length (IsCarriedList c.args.sections.now c.args.numbers.now s) c.args.offs.now lists z in
+    let n = zip_length (IsCarriedList c.args.sections.now c.args.numbers.now s) c.args.offs.now lists z in
     sharing_end is_empty_list (SpellsRanks s) (SpellsRanks s) 4 wide_list _ _ lists c.loop-off.off-index _ _ _ (omega (arith, n, c.loop-off-test.false)) (c.loop-off.invariant.0 s lists z) c.count.ensures
 
 pub returns-clause-once : goal.returns-clause-once
 returns-clause-once c = λ s lists rise z.
-    let n = Zip-length (IsCarriedList c.args.sections.now c.args.numbers.now s) c.args.offs.now lists z in
+    let n = zip_length (IsCarriedList c.args.sections.now c.args.numbers.now s) c.args.offs.now lists z in
     subst (λ (done : List (List Units)). AreShared c.loop-off.places.items done) (take_all c.loop-off.off-index lists (omega (arith, n, c.loop-off-test.false)))
     (sharing_shared is_empty_list (SpellsRanks s) (SpellsRanks s) 4 wide_list (lists_once s rise) _ _ _ _ _ _ _ (c.loop-off.invariant.0 s lists z))

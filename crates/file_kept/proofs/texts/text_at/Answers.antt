@@ -1,8 +1,9 @@
 use Rattle.std.proofs.Common.{ℕ, sym, subst}
 use Rattle.dex_base.specs.Mutf8.{SpellsText}
 use Rattle.dex_container.specs.Where.{At}
-use Rattle.file_kept.proofs.TextLaws.{text_in, text_taken}
+use Rattle.file_kept.proofs.TextLaws.{text_taken}
 use Rattle.file_kept.proofs.texts.text_at.Goals as goal
+use Rattle.tables_rows.proofs.ClearRows.{text_placed}
 
 pub string_place-requires : goal.string_place-requires
 string_place-requires c = c.requires.text.1.row
@@ -10,7 +11,7 @@ string_place-requires c = c.requires.text.1.row
 pub unreachable-requires : goal.unreachable-requires
 unreachable-requires c =
     let b = c.args.sections.now in
-    c.in-None.ensures.none (text_in b c.string_place.result c.requires.text.0 (subst (λ (o : ℕ). At SpellsText b 0x2002 1 o c.requires.text.0) (sym c.string_place.ensures) c.requires.text.1.text))
+    c.in-None.ensures.none (text_placed b c.string_place.result c.requires.text.0 (subst (λ (o : ℕ). At SpellsText b 0x2002 1 o c.requires.text.0) (sym c.string_place.ensures) c.requires.text.1.text))
 
 pub returns : goal.returns
 returns c = λ t st.

@@ -1,8 +1,8 @@
 use Rattle.std.proofs.Common.{inl, inr}
-use Rattle.tables_rows.proofs.RowReading.{passed}
 use Rattle.tables_rows.proofs.ClearRows.{only_memory}
 use Rattle.file_read.proofs.PassLaws.{no_class_fault, no_value_fault, no_last_fault, last_refused, program_meant}
 use Rattle.file_read.proofs.checking.check_framed.Goals as goal
+use Rattle.base_bytes.proofs.ListFacts.{passed}
 
 pub returns-in_err-tables-clause-refused : goal.returns-in_err-tables-clause-refused
 returns-in_err-tables-clause-refused c =

@@ -1,10 +1,12 @@
 use Rattle.std.proofs.Common.{subst, inl, inr, ◌⊎◌, List, ℕ}
 use Rattle.tables_rows.specs.TableFaults.{IsTableFault}
-use Rattle.tables_rows.proofs.RowReading.{passed}
 use Rattle.tables_rows.proofs.ClearRows.{only_memory}
 use Rattle.file_classes.specs.ClassFaults.{IsClassFault, IsValueFault, IsCodeFault, IsRegisterFault}
-use Rattle.file_read.proofs.PassLaws.{no_class_fault, no_value_fault, no_last_fault, last_refused, means_these}
+use Rattle.program_types.specs.View as view
+use Rattle.file_read.proofs.PassLaws.{no_class_fault, no_value_fault, no_last_fault, last_refused, means_these, program_one}
+use Rattle.file_read.proofs.RangeLaws.{well_formed}
 use Rattle.file_read.proofs.reading.read.Goals as goal
+use Rattle.base_bytes.proofs.ListFacts.{passed}
 
 pub returns-in_err-tables-clause-refused : goal.returns-in_err-tables-clause-refused
 returns-in_err-tables-clause-refused c =
@@ -48,3 +50,13 @@ pub returns-clause-means : goal.returns-clause-means
 returns-clause-means c =
     let same = c.in_ok-sections.ensures.framed.0 in
     rw (← same) (means_these _ _ (rw same c.in_ok-sections.ensures.framed.1) c.in_ok-tables.ensures.hold c.in_ok-heads.ensures.hold c.in_ok-classes.ensures.rows)
+
+pub returns-clause-one : goal.returns-clause-one
+returns-clause-one c =
+    let same = c.in_ok-sections.ensures.framed.0 in
+    λ q n. program_one c.args.bytes.now q _ n (rw (← same) (means_these _ _ (rw same c.in_ok-sections.ensures.framed.1) c.in_ok-tables.ensures.hold c.in_ok-heads.ensures.hold c.in_ok-classes.ensures.rows))
+
+pub returns-clause-formed : goal.returns-clause-formed
+returns-clause-formed c =
+    let same = c.in_ok-sections.ensures.framed.0 in
+    well_formed c.args.bytes.now c.are_bytes.ensures _ (rw (← same) (means_these _ _ (rw same c.in_ok-sections.ensures.framed.1) c.in_ok-tables.ensures.hold c.in_ok-heads.ensures.hold c.in_ok-classes.ensures.rows))

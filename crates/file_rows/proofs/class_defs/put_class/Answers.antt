@@ -7,7 +7,7 @@ pub returns-clause-ok : goal.returns-clause-ok
 returns-clause-ok c =
     on_ok_weaker c.push_words.result
     (λ v. record {
-      bytes = words_bytes (c.from.result ∷ c.args.class.now.flags ∷ c.type_or_none.result ∷ c.args.seats.list ∷ c.string_or_none.result ∷ 0 ∷ c.args.seats.datum ∷ c.args.seats.array ∷ []);
+      bytes = words_bytes (c.from.result ∷ c.args.class.now.flags ∷ c.type_or_none.result ∷ c.args.places.list ∷ c.string_or_none.result ∷ 0 ∷ c.args.places.class_data ∷ c.args.places.array ∷ []);
       joined = v;
       spelled = record {
         class = c.from.result;
@@ -19,7 +19,7 @@ returns-clause-ok c =
         small_above = omega arith;
         small_list = omega arith;
         small_source = omega arith;
-        small_datum = omega arith;
+        small_class_data = omega arith;
         small_array = omega arith;
         class_is = rw c.from.ensures c.type_index.ensures;
         above_is = c.type_or_none.ensures;

@@ -13,9 +13,9 @@ use Rattle.tables_names.specs.Closure.{NameRanks}
 use Rattle.program_types.specs.Content as content
 use Rattle.dex_value.specs.Spelling.{SpellsArray}
 use Rattle.dex_value.specs.Wide.{wide_array}
-use Rattle.file_sections.proofs.Steps.{map_map}
 use Rattle.file_sections.proofs.ArrayLaws.{values_ranked, array_packs, array_one, array_most, arrays_once}
 use Rattle.file_sections.proofs.arrays.put_arrays.Goals as goal
+use Rattle.file_limits.proofs.PartLaws.{map_map}
 
 pub loop-class-init : goal.loop-class-init
 loop-class-init c = rw (c.new-places.ensures.items, c.new-items.ensures) (sharing_start is_empty_list (Shortest (SpellsArray (NameRanks c.args.ranks.now))) (WritesArray c.args.ranks.now) 1 wide_array c.args.out.now.items (map (λ (x : Class). map view.value x.values.now) c.args.program.now.classes.now))

@@ -9,12 +9,12 @@ use Rattle.file_sections.proofs.LayingLaws.{items_few, laid_all, placed_more, ro
 use Rattle.file_sections.proofs.NumberLaws.{no_class}
 use Rattle.file_sections.proofs.SitedLaws.{count_in, length-sited, rest_after, rest_enough, rest_next, room_of_sited, sited_at, no_sited}
 use Rattle.file_sections.proofs.Steps.{mapped_at}
-use Rattle.file_sections.specs.Data.{PacksData, Sited, has_no_members, sited, wide_sited}
+use Rattle.file_sections.specs.Data.{PacksData, ClassWithCodes, has_no_members, with_code_places, wide_with_codes}
 use Rattle.file_sections.proofs.class_data.put_datas.Goals as goal
 
 pub loop-class-init : goal.loop-class-init
 loop-class-init c = (
-  rw (c.new-placed.ensures.places, c.new-placed.ensures.items) (Laying-start has_no_members (PacksData (NameRanks c.args.ranks.now)) 1 wide_sited c.args.out.now.items (sited (map view.class c.args.program.now.classes.now) c.args.codes.now)),
+  rw (c.new-placed.ensures.places, c.new-placed.ensures.items) (Laying-start has_no_members (PacksData (NameRanks c.args.ranks.now)) 1 wide_with_codes c.args.out.now.items (with_code_places (map view.class c.args.program.now.classes.now) c.args.codes.now)),
   refl,
 )
 
@@ -42,15 +42,15 @@ add_data-requires-clause-room c =
     let i = c.loop-class.class-index in
     let n = length-sited (map view.class cs) codes in
     let m = length-map cs view.class in
-    let w = room_at wide_sited (sited (map view.class cs) codes) i no_sited (omega (arith, n, m, c.loop-class-test.true)) in
-    let e = ap wide_sited (sited_at cs codes i no_class no_sited c.loop-class-test.true) in
+    let w = room_at wide_with_codes (with_code_places (map view.class cs) codes) i no_sited (omega (arith, n, m, c.loop-class-test.true)) in
+    let e = ap wide_with_codes (sited_at cs codes i no_class no_sited c.loop-class-test.true) in
     let a = room_of_sited (map view.class cs) codes in
     let b = c.loop-class.invariant.0.bound in
     omega (arith, w, e, a, b, c.requires.room)
 
 pub add-requires : goal.add-requires
 add-requires c =
-    let f = items_few has_no_members (PacksData (NameRanks c.args.ranks.now)) 1 wide_sited _ _ _ _ _ _ _ c.loop-class.invariant.0 in
+    let f = items_few has_no_members (PacksData (NameRanks c.args.ranks.now)) 1 wide_with_codes _ _ _ _ _ _ _ c.loop-class.invariant.0 in
     let a = room_of_sited (map view.class c.args.program.now.classes.now) c.args.codes.now in
     let b = c.loop-class.invariant.0.bound in
     omega (arith, f, a, b, c.requires.room, c.requires.front)
@@ -65,11 +65,11 @@ loop-class-preserved c =
     let m = length-map cs view.class in
     let count = count_in (get_or cs i no_class) in
     let own = sited_at cs codes i no_class no_sited c.loop-class-test.true in
-    let same : record { class = view.class (get_or cs i no_class); codes = c.split_at.result.0.now } ≡ get_or (sited (map view.class cs) codes) i no_sited =
+    let same : record { class = view.class (get_or cs i no_class); codes = c.split_at.result.0.now } ≡ get_or (with_code_places (map view.class cs) codes) i no_sited =
     sym (own ∙ ap (λ l. record { class = view.class (get_or cs i no_class); codes = l }) (ap (λ k. take k (rest_after (map view.class cs) codes i)) count ∙ ap (take _) (sym c.loop-class.invariant.1) ∙ sym c.split_at.ensures.front)) in
-    let adds = subst (λ (v : Sited). AddsSome has_no_members (PacksData (NameRanks c.args.ranks.now)) 1 c.loop-class.out.items c.add_data.new.out.items v c.in_ok-place.place) same c.in_ok-place.ensures.ok in
-    let bound = subst (λ (v : Sited). length c.add_data.new.out.items ≤ length c.loop-class.out.items + wide_sited v) same c.in_ok-place.ensures.bound in (
-      placed_more has_no_members (PacksData (NameRanks c.args.ranks.now)) 1 wide_sited _ _ _ (sited (map view.class cs) codes) i no_sited _ _ _ _ _ (omega (arith, n, m, c.loop-class-test.true)) c.loop-class.invariant.0 c.requires.front
+    let adds = subst (λ (v : ClassWithCodes). AddsSome has_no_members (PacksData (NameRanks c.args.ranks.now)) 1 c.loop-class.out.items c.add_data.new.out.items v c.in_ok-place.place) same c.in_ok-place.ensures.ok in
+    let bound = subst (λ (v : ClassWithCodes). length c.add_data.new.out.items ≤ length c.loop-class.out.items + wide_with_codes v) same c.in_ok-place.ensures.bound in (
+      placed_more has_no_members (PacksData (NameRanks c.args.ranks.now)) 1 wide_with_codes _ _ _ (with_code_places (map view.class cs) codes) i no_sited _ _ _ _ _ (omega (arith, n, m, c.loop-class-test.true)) c.loop-class.invariant.0 c.requires.front
           adds bound c.in_ok-add.ensures.places c.in_ok-add.ensures.items,
       c.split_at.ensures.back ∙ ap (drop _) c.loop-class.invariant.1 ∙ ap (λ k. drop k (rest_after (map view.class cs) codes i)) (sym count) ∙ sym (rest_next cs codes i no_class c.loop-class-test.true) ∙ ap (rest_after (map view.class cs) codes) (sym s),
     )
@@ -79,4 +79,4 @@ returns-clause-ok c =
     let cs = c.args.program.now.classes.now in
     let n = length-sited (map view.class cs) c.args.codes.now in
     let m = length-map cs view.class in
-    laid_all has_no_members (PacksData (NameRanks c.args.ranks.now)) 1 wide_sited _ _ (sited (map view.class cs) c.args.codes.now) c.loop-class.class-index _ _ (omega (arith, n, m, c.loop-class-test.false)) c.loop-class.invariant.0
+    laid_all has_no_members (PacksData (NameRanks c.args.ranks.now)) 1 wide_with_codes _ _ (with_code_places (map view.class cs) c.args.codes.now) c.loop-class.class-index _ _ (omega (arith, n, m, c.loop-class-test.false)) c.loop-class.invariant.0

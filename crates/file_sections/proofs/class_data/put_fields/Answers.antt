@@ -4,18 +4,18 @@ use Rattle.tables_names.specs.Closure.{NameRanks}
 use Rattle.program_types.specs.Mentions.{field_of_class}
 use Rattle.program_types.specs.View as view
 use Rattle.program_types.specs.declared.class.Member.{Member}
+use Rattle.program_types.specs.Kinds.{HasIndex}
 use Rattle.file_sections.proofs.MemberRuns.{fields_start, field_step, fields_more}
-use Rattle.file_sections.proofs.Steps.{all_kept_at}
 use Rattle.file_sections.specs.Growing.{AddsFields}
-use Rattle.file_sections.specs.Named.{HasName}
 use Rattle.file_sections.proofs.class_data.put_fields.Goals as goal
+use Rattle.base_bytes.proofs.ListFacts.{all_at}
 
 pub loop-member-init : goal.loop-member-init
 loop-member-init g c = fields_start _ _ _
 
 pub own_field_index-index-requires : goal.own_field_index-index-requires
 own_field_index-index-requires g c =
-    let held = all_kept_at (λ m. HasName c.args.ranks.now (field_of_class g.owner m)) view.member c.args.members.now c.loop-member.member-index _ c.loop-member-test.true c.requires.1.0 in
+    let held = all_at (λ m. HasIndex (NameRanks c.args.ranks.now) (field_of_class g.owner m)) view.member c.args.members.now c.loop-member.member-index _ c.loop-member-test.true c.requires.1.0 in
     (c.requires.0, (held, c.requires.1.1.0))
 
 pub overflow_sub-index : goal.overflow_sub-index

@@ -7,9 +7,9 @@ use Rattle.program_types.specs.Content.{Descriptor}
 use Rattle.program_types.specs.Key.{text_key}
 use Rattle.program_types.specs.Mentions.{field_of_class}
 use Rattle.program_types.specs.View as view
-use Rattle.tables_names.specs.Closure.{method_of_class}
+use Rattle.program_types.specs.Kinds.{HasIndex}
+use Rattle.tables_names.specs.Closure.{method_of_class, NameRanks}
 use Rattle.file_sections.proofs.DataLaws.{members_append, text_is, fields_of_same, methods_of_same}
-use Rattle.file_sections.specs.Named.{HasName}
 use Rattle.file_sections.proofs.class_data.put_members.Goals as goal
 
 pub put_fields-requires : goal.put_fields-requires
@@ -17,7 +17,7 @@ put_fields-requires c =
     let s = c.args.ranks.now in
     let e = text_is s.types c.class_index-own.result (view.desc c.args.class.now.ty) c.class_index-own.ensures in
     let held = subst (λ (t : Descriptor). IsAt s.types c.class_index-own.result (text_key t)) (sym e) c.class_index-own.ensures in
-    let named = subst (λ (t : Descriptor). AllByRecursion (λ m. HasName s (field_of_class t m)) (map view.member c.args.class.now.statics.now)) (sym e) c.requires.named.statics in
+    let named = subst (λ (t : Descriptor). AllByRecursion (λ m. HasIndex (NameRanks s) (field_of_class t m)) (map view.member c.args.class.now.statics.now)) (sym e) c.requires.named.statics in
     (held, (named, (c.requires.few.fields, c.requires.rise.statics)))
 
 pub put_fields-requires-2 : goal.put_fields-requires-2
@@ -25,7 +25,7 @@ put_fields-requires-2 c =
     let s = c.args.ranks.now in
     let e = text_is s.types c.class_index-own.result (view.desc c.args.class.now.ty) c.class_index-own.ensures in
     let held = subst (λ (t : Descriptor). IsAt s.types c.class_index-own.result (text_key t)) (sym e) c.class_index-own.ensures in
-    let named = subst (λ (t : Descriptor). AllByRecursion (λ m. HasName s (field_of_class t m)) (map view.member c.args.class.now.instances.now)) (sym e) c.requires.named.instances in
+    let named = subst (λ (t : Descriptor). AllByRecursion (λ m. HasIndex (NameRanks s) (field_of_class t m)) (map view.member c.args.class.now.instances.now)) (sym e) c.requires.named.instances in
     (held, (named, (c.requires.few.fields, c.requires.rise.instances)))
 
 pub put_methods-requires : goal.put_methods-requires
@@ -33,7 +33,7 @@ put_methods-requires c =
     let s = c.args.ranks.now in
     let e = text_is s.types c.class_index-own.result (view.desc c.args.class.now.ty) c.class_index-own.ensures in
     let held = subst (λ (t : Descriptor). IsAt s.types c.class_index-own.result (text_key t)) (sym e) c.class_index-own.ensures in
-    let named = subst (λ (t : Descriptor). AllByRecursion (λ m. HasName s (method_of_class t m)) (map view.method c.args.class.now.directs.now)) (sym e) c.requires.named.directs in
+    let named = subst (λ (t : Descriptor). AllByRecursion (λ m. HasIndex (NameRanks s) (method_of_class t m)) (map view.method c.args.class.now.directs.now)) (sym e) c.requires.named.directs in
     let l = length-take (length c.args.class.now.directs.now) c.args.codes.now in
     (held, (named, (c.requires.few.methods, (c.requires.rise.directs, omega (arith, l, c.requires.codes)))))
 
@@ -42,7 +42,7 @@ put_methods-requires-2 c =
     let s = c.args.ranks.now in
     let e = text_is s.types c.class_index-own.result (view.desc c.args.class.now.ty) c.class_index-own.ensures in
     let held = subst (λ (t : Descriptor). IsAt s.types c.class_index-own.result (text_key t)) (sym e) c.class_index-own.ensures in
-    let named = subst (λ (t : Descriptor). AllByRecursion (λ m. HasName s (method_of_class t m)) (map view.method c.args.class.now.virtuals.now)) (sym e) c.requires.named.virtuals in
+    let named = subst (λ (t : Descriptor). AllByRecursion (λ m. HasIndex (NameRanks s) (method_of_class t m)) (map view.method c.args.class.now.virtuals.now)) (sym e) c.requires.named.virtuals in
     let codes : List ℕ = c.args.codes.now in
     let n : ℕ = length c.args.class.now.directs.now in
     let l = length-drop n codes in

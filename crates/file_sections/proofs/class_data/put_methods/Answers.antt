@@ -3,18 +3,18 @@ use Rattle.std.proofs.lemmas.List.{take_all, take_more}
 use Rattle.tables_names.specs.Closure.{NameRanks, method_of_class}
 use Rattle.program_types.specs.View as view
 use Rattle.program_types.specs.declared.class.Method.{Method}
+use Rattle.program_types.specs.Kinds.{HasIndex}
 use Rattle.file_sections.proofs.MemberRuns.{MethodsTo, methods_start, method_step, methods_more}
-use Rattle.file_sections.proofs.Steps.{all_kept_at}
 use Rattle.file_sections.specs.Growing.{AddsMethods}
-use Rattle.file_sections.specs.Named.{HasName}
 use Rattle.file_sections.proofs.class_data.put_methods.Goals as goal
+use Rattle.base_bytes.proofs.ListFacts.{all_at}
 
 pub loop-i-init : goal.loop-i-init
 loop-i-init g c = methods_start _ _ _
 
 pub own_method_index-index-requires : goal.own_method_index-index-requires
 own_method_index-index-requires g c =
-    let held = all_kept_at (λ m. HasName c.args.ranks.now (method_of_class g.owner m)) view.method c.args.methods.now c.loop-i.i _ c.loop-i-test.true c.requires.1.0 in
+    let held = all_at (λ m. HasIndex (NameRanks c.args.ranks.now) (method_of_class g.owner m)) view.method c.args.methods.now c.loop-i.i _ c.loop-i-test.true c.requires.1.0 in
     (c.requires.0, (held, c.requires.1.1.0))
 
 pub overflow_sub-index : goal.overflow_sub-index

@@ -3,7 +3,6 @@ use Rattle.std.proofs.lemmas.List.{take_all, drop_all}
 use Rattle.std.specs.List.{flat_map}
 use Rattle.file_shared.proofs.SharingLaws.{sharing_start, sharing_shared}
 use Rattle.file_layout.specs.Sections.{wide_all}
-use Rattle.file_limits.proofs.RankLaws.{front_all, back_all}
 use Rattle.file_limits.proofs.SumLaws.{wide_all_append}
 use Rattle.file_limits.specs.Wide.{bodies_in, bodies_of, body_values, wide_body}
 use Rattle.tables_names.specs.Closure.{NameRanks}
@@ -18,13 +17,14 @@ use Rattle.file_sections.proofs.Steps.{mapped_at}
 use Rattle.file_sections.specs.Codes.{PacksBody, WritesBody, is_bodiless}
 use Rattle.file_sections.specs.Named.{BodyCanBePut}
 use Rattle.file_sections.proofs.codes.put_codes.Goals as goal
+use Rattle.base_bytes.proofs.ListFacts.{all_front, all_back}
 
 pub loop-class-init : goal.loop-class-init
 loop-class-init c = rw (c.new-places.ensures.items, c.new-items.ensures) (sharing_start is_bodiless (PacksBody (NameRanks c.args.ranks.now)) (WritesBody c.args.ranks.now) 4 wide_body c.args.out.now.items (body_values (map view.class c.args.program.now.classes.now)))
 
 pub put_bodies-requires-clause-can : goal.put_bodies-requires-clause-can
 put_bodies-requires-clause-can c =
-    front_all (BodyCanBePut c.args.ranks.now) _ _ (c.requires.can c.loop-class.class-index _ (mapped_at view.class c.args.program.now.classes.now c.loop-class.class-index _ c.loop-class-test.true))
+    all_front (BodyCanBePut c.args.ranks.now) _ _ (c.requires.can c.loop-class.class-index _ (mapped_at view.class c.args.program.now.classes.now c.loop-class.class-index _ c.loop-class-test.true))
 
 pub put_bodies-requires-clause-room : goal.put_bodies-requires-clause-room
 put_bodies-requires-clause-room c =
@@ -35,7 +35,7 @@ put_bodies-requires-clause-room c =
 
 pub put_bodies-requires-in-loop-class-clause-can : goal.put_bodies-requires-in-loop-class-clause-can
 put_bodies-requires-in-loop-class-clause-can c =
-    back_all (BodyCanBePut c.args.ranks.now) (bodies_in (map view.method (get_or c.args.program.now.classes.now c.loop-class.class-index no_class).directs.now)) (bodies_in (map view.method (get_or c.args.program.now.classes.now c.loop-class.class-index no_class).virtuals.now))
+    all_back (BodyCanBePut c.args.ranks.now) (bodies_in (map view.method (get_or c.args.program.now.classes.now c.loop-class.class-index no_class).directs.now)) (bodies_in (map view.method (get_or c.args.program.now.classes.now c.loop-class.class-index no_class).virtuals.now))
     (c.requires.can c.loop-class.class-index _ (mapped_at view.class c.args.program.now.classes.now c.loop-class.class-index no_class c.loop-class-test.true))
 
 pub put_bodies-requires-in-loop-class-clause-room : goal.put_bodies-requires-in-loop-class-clause-room

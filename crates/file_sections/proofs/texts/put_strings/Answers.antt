@@ -9,9 +9,11 @@ use Rattle.file_limits.specs.Wide.{wide_text}
 use Rattle.program_types.specs.Key.{text_key}
 use Rattle.file_layout.specs.Tiles.{AreShared}
 use Rattle.file_sections.proofs.ApartLaws.{texts_shared}
-use Rattle.file_sections.proofs.Steps.{map_map, map_more, no_str}
+use Rattle.file_sections.proofs.Steps.{no_str}
 use Rattle.file_sections.proofs.RoomLaws.{texts_of_keys, map_drop, strings_room}
 use Rattle.file_sections.proofs.texts.put_strings.Goals as goal
+use Rattle.file_limits.proofs.PartLaws.{map_map}
+use Rattle.base_bytes.proofs.ListFacts.{map_more}
 
 pub loop-text-init : goal.loop-text-init
 loop-text-init c = rw c.in_ok-places.ensures.items (Laying-start never PacksText 1 wide_text _ _)

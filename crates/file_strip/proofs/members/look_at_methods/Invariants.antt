@@ -6,7 +6,7 @@ use Rattle.program_types.specs.Mentions.{names_of_method}
 use Rattle.file_layout.specs.Sections.{wide_all}
 use Rattle.file_limits.specs.Sum.{IsSum}
 use Rattle.file_limits.specs.Wide.{bodies_in, wide_body}
-use Rattle.file_classes.specs.ClassData.{IsRun, steps}
+use Rattle.file_classes.specs.ClassData.{EntriesAre, steps}
 use Rattle.file_classes.specs.Classes.{CodesAre, IsMethod}
 use Rattle.file_classes.specs.Reading.{method_entry}
 use Rattle.file_strip.specs.Survey.{FindsNames, HasFound}
@@ -17,8 +17,8 @@ invariant-loop-entry l = record {
   summed : l.index ≡ sum (take l.entry-index (steps (map method_entry l.entries)));
   small : l.index < 2 ^ 32;
   known : HasFound l.sections l.found;
-  found : (class : Units) (ms : List Method) → IsRun (IsMethod l.sections class) (map method_entry l.entries) ms → CodesAre l.sections (map method_entry l.entries) ms
+  found : (class : Units) (ms : List Method) → EntriesAre (IsMethod l.sections class) (map method_entry l.entries) ms → CodesAre l.sections (map method_entry l.entries) ms
       → FindsNames l.sections l.fn.found l.found (flat_map (names_of_method class) (take l.entry-index ms));
-  wide : (class : Units) (ms : List Method) → IsRun (IsMethod l.sections class) (map method_entry l.entries) ms → CodesAre l.sections (map method_entry l.entries) ms
+  wide : (class : Units) (ms : List Method) → EntriesAre (IsMethod l.sections class) (map method_entry l.entries) ms → CodesAre l.sections (map method_entry l.entries) ms
       → IsSum l.sum (wide_all wide_body (bodies_in (take l.entry-index ms)));
 }

@@ -3,7 +3,7 @@ use Rattle.std.specs.Prelude.{sum}
 use Rattle.program_types.specs.Content.{Units, Member}
 use Rattle.program_types.specs.Mentions.{field_of_class}
 use Rattle.tables_numbers.specs.Marked.{AddsNames, HasMarks}
-use Rattle.file_classes.specs.ClassData.{IsRun, steps}
+use Rattle.file_classes.specs.ClassData.{EntriesAre, steps}
 use Rattle.file_classes.specs.Classes.{IsField}
 use Rattle.file_classes.specs.Reading.{field_entry}
 use Rattle.file_strip.proofs.members.mark_fields.Given as goal
@@ -13,5 +13,5 @@ invariant-loop-entry l = record {
   summed : l.index ≡ sum (take l.entry-index (steps (map field_entry l.entries)));
   small : l.index < 2 ^ 32;
   marks : HasMarks l.sections l.marks;
-  marked : (class : Units) (ms : List Member) → IsRun (IsField l.sections class) (map field_entry l.entries) ms → AddsNames l.sections l.fn.marks l.marks (map (field_of_class class) (take l.entry-index ms));
+  marked : (class : Units) (ms : List Member) → EntriesAre (IsField l.sections class) (map field_entry l.entries) ms → AddsNames l.sections l.fn.marks l.marks (map (field_of_class class) (take l.entry-index ms));
 }

@@ -4,9 +4,9 @@ use Rattle.file_layout.proofs.TileLaws.{length-zeros}
 use Rattle.file_assemble.specs.Making.{places_of}
 use Rattle.file_assemble.proofs.AssembledLaws.{array_count, assembled, data_count, list_count, row_count, text_count}
 use Rattle.tables_names.specs.Needed.{needed}
-use Rattle.tables_rows.proofs.RowReading.{passed}
 use Rattle.file_strip.proofs.ReadyLaws.{room}
 use Rattle.file_strip.proofs.stripping.assemble_kept.Goals as goal
+use Rattle.base_bytes.proofs.ListFacts.{passed}
 
 pub counts_of-counts-requires : goal.counts_of-counts-requires
 counts_of-counts-requires c = record { kept = (c.requires.ready.0, c.requires.ready.1.keeps) }

@@ -1,7 +1,6 @@
 use Rattle.std.proofs.Common.{◌≡◌, length, ap, ◌∙◌, arith}
 use Rattle.file_layout.specs.Plan.{tables_end}
 use Rattle.file_layout.specs.Tiles.{Refers}
-use Rattle.file_layout.proofs.SectionLaws.{Zip-length}
 use Rattle.file_limits.specs.Wide.{body_values}
 use Rattle.file_sections.specs.Codes.{is_bodiless}
 use Rattle.file_sections.proofs.SitedLaws.{room_of_sited}
@@ -9,35 +8,35 @@ use Rattle.file_assemble.specs.Assembled.{Places, rows_of}
 use Rattle.file_assemble.proofs.DataLaws.{laid, longer}
 use Rattle.file_assemble.proofs.OnceLaws.{datas_shared}
 use Rattle.tables_names.specs.Needed.{needed}
-use Rattle.tables_rows.proofs.RowReading.{passed}
-use Rattle.file_strip.proofs.ReadyLaws.{behind, room}
+use Rattle.file_strip.proofs.ReadyLaws.{after, room}
 use Rattle.file_strip.proofs.stripping.put_data.Goals as goal
+use Rattle.base_bytes.proofs.ListFacts.{zip_length, passed}
 
 pub overflow_cast-tables : goal.overflow_cast-tables
 overflow_cast-tables c =
     let p = c.requires.ready.0 in
     let r = c.requires.ready.1 in
-    let n = behind c.args.sections.now c.args.numbers.now p r c.args.counts _ (c.requires.counts p r) c.requires.front in
+    let n = after c.args.sections.now c.args.numbers.now p r c.args.counts _ (c.requires.counts p r) c.requires.front in
     omega (arith, n.small, c.len-tables.ensures, c.args.out.now.ok.0)
 
 pub put_lists-requires-clause-front : goal.put_lists-requires-clause-front
 put_lists-requires-clause-front c =
     let p = c.requires.ready.0 in
     let r = c.requires.ready.1 in
-    (behind c.args.sections.now c.args.numbers.now p r c.args.counts _ (c.requires.counts p r) c.requires.front).some
+    (after c.args.sections.now c.args.numbers.now p r c.args.counts _ (c.requires.counts p r) c.requires.front).some
 
 pub put_lists-requires-clause-kept : goal.put_lists-requires-clause-kept
 put_lists-requires-clause-kept c =
     let p = c.requires.ready.0 in
     let r = c.requires.ready.1 in
-    let n = behind c.args.sections.now c.args.numbers.now p r c.args.counts _ (c.requires.counts p r) c.requires.front in
+    let n = after c.args.sections.now c.args.numbers.now p r c.args.counts _ (c.requires.counts p r) c.requires.front in
     (p, r.keeps, omega (arith, n.small))
 
 pub overflow_cast-lists_end : goal.overflow_cast-lists_end
 overflow_cast-lists_end c =
     let p = c.requires.ready.0 in
     let r = c.requires.ready.1 in
-    let n = behind c.args.sections.now c.args.numbers.now p r c.args.counts _ (c.requires.counts p r) c.requires.front in
+    let n = after c.args.sections.now c.args.numbers.now p r c.args.counts _ (c.requires.counts p r) c.requires.front in
     let b1 = (c.in_ok-lists.ensures.ok p r.keeps).bound in
     omega (arith, n.small, b1, c.len-lists_end.ensures, c.put_lists.new.out.ok.0)
 
@@ -45,7 +44,7 @@ pub put_codes-requires-clause-front : goal.put_codes-requires-clause-front
 put_codes-requires-clause-front c =
     let p = c.requires.ready.0 in
     let r = c.requires.ready.1 in
-    let n = behind c.args.sections.now c.args.numbers.now p r c.args.counts _ (c.requires.counts p r) c.requires.front in
+    let n = after c.args.sections.now c.args.numbers.now p r c.args.counts _ (c.requires.counts p r) c.requires.front in
     let g0 = longer _ _ (c.in_ok-lists.ensures.ok p r.keeps).grown in
     omega (arith, n.some, g0)
 
@@ -53,7 +52,7 @@ pub put_codes-requires-clause-kept : goal.put_codes-requires-clause-kept
 put_codes-requires-clause-kept c =
     let p = c.requires.ready.0 in
     let r = c.requires.ready.1 in
-    let n = behind c.args.sections.now c.args.numbers.now p r c.args.counts _ (c.requires.counts p r) c.requires.front in
+    let n = after c.args.sections.now c.args.numbers.now p r c.args.counts _ (c.requires.counts p r) c.requires.front in
     let b1 = (c.in_ok-lists.ensures.ok p r.keeps).bound in
     (p, r.keeps, omega (arith, n.small, b1))
 
@@ -61,7 +60,7 @@ pub overflow_cast-codes_end : goal.overflow_cast-codes_end
 overflow_cast-codes_end c =
     let p = c.requires.ready.0 in
     let r = c.requires.ready.1 in
-    let n = behind c.args.sections.now c.args.numbers.now p r c.args.counts _ (c.requires.counts p r) c.requires.front in
+    let n = after c.args.sections.now c.args.numbers.now p r c.args.counts _ (c.requires.counts p r) c.requires.front in
     let b1 = (c.in_ok-lists.ensures.ok p r.keeps).bound in
     let b2 = (c.in_ok-codes.ensures.ok p r.keeps).bound in
     omega (arith, n.small, b1, b2, c.len-codes_end.ensures, c.put_codes.new.out.ok.0)
@@ -70,7 +69,7 @@ pub put_texts-requires-clause-front : goal.put_texts-requires-clause-front
 put_texts-requires-clause-front c =
     let p = c.requires.ready.0 in
     let r = c.requires.ready.1 in
-    let n = behind c.args.sections.now c.args.numbers.now p r c.args.counts _ (c.requires.counts p r) c.requires.front in
+    let n = after c.args.sections.now c.args.numbers.now p r c.args.counts _ (c.requires.counts p r) c.requires.front in
     let g0 = longer _ _ (c.in_ok-lists.ensures.ok p r.keeps).grown in
     let g1 = longer _ _ (c.in_ok-codes.ensures.ok p r.keeps).grown in
     omega (arith, n.some, g0, g1)
@@ -79,7 +78,7 @@ pub put_texts-requires-clause-kept : goal.put_texts-requires-clause-kept
 put_texts-requires-clause-kept c =
     let p = c.requires.ready.0 in
     let r = c.requires.ready.1 in
-    let n = behind c.args.sections.now c.args.numbers.now p r c.args.counts _ (c.requires.counts p r) c.requires.front in
+    let n = after c.args.sections.now c.args.numbers.now p r c.args.counts _ (c.requires.counts p r) c.requires.front in
     let b1 = (c.in_ok-lists.ensures.ok p r.keeps).bound in
     let b2 = (c.in_ok-codes.ensures.ok p r.keeps).bound in
     (p, r.keeps, omega (arith, n.small, b1, b2))
@@ -88,7 +87,7 @@ pub overflow_cast-texts_end : goal.overflow_cast-texts_end
 overflow_cast-texts_end c =
     let p = c.requires.ready.0 in
     let r = c.requires.ready.1 in
-    let n = behind c.args.sections.now c.args.numbers.now p r c.args.counts _ (c.requires.counts p r) c.requires.front in
+    let n = after c.args.sections.now c.args.numbers.now p r c.args.counts _ (c.requires.counts p r) c.requires.front in
     let b1 = (c.in_ok-lists.ensures.ok p r.keeps).bound in
     let b2 = (c.in_ok-codes.ensures.ok p r.keeps).bound in
     let b3 = (c.in_ok-texts.ensures.ok p r.keeps).bound in
@@ -98,7 +97,7 @@ pub put_arrays-requires-clause-front : goal.put_arrays-requires-clause-front
 put_arrays-requires-clause-front c =
     let p = c.requires.ready.0 in
     let r = c.requires.ready.1 in
-    let n = behind c.args.sections.now c.args.numbers.now p r c.args.counts _ (c.requires.counts p r) c.requires.front in
+    let n = after c.args.sections.now c.args.numbers.now p r c.args.counts _ (c.requires.counts p r) c.requires.front in
     let g0 = longer _ _ (c.in_ok-lists.ensures.ok p r.keeps).grown in
     let g1 = longer _ _ (c.in_ok-codes.ensures.ok p r.keeps).grown in
     let g2 = longer _ _ (c.in_ok-texts.ensures.ok p r.keeps).grown in
@@ -108,7 +107,7 @@ pub put_arrays-requires-clause-kept : goal.put_arrays-requires-clause-kept
 put_arrays-requires-clause-kept c =
     let p = c.requires.ready.0 in
     let r = c.requires.ready.1 in
-    let n = behind c.args.sections.now c.args.numbers.now p r c.args.counts _ (c.requires.counts p r) c.requires.front in
+    let n = after c.args.sections.now c.args.numbers.now p r c.args.counts _ (c.requires.counts p r) c.requires.front in
     let b1 = (c.in_ok-lists.ensures.ok p r.keeps).bound in
     let b2 = (c.in_ok-codes.ensures.ok p r.keeps).bound in
     let b3 = (c.in_ok-texts.ensures.ok p r.keeps).bound in
@@ -118,7 +117,7 @@ pub overflow_cast-arrays_end : goal.overflow_cast-arrays_end
 overflow_cast-arrays_end c =
     let p = c.requires.ready.0 in
     let r = c.requires.ready.1 in
-    let n = behind c.args.sections.now c.args.numbers.now p r c.args.counts _ (c.requires.counts p r) c.requires.front in
+    let n = after c.args.sections.now c.args.numbers.now p r c.args.counts _ (c.requires.counts p r) c.requires.front in
     let b1 = (c.in_ok-lists.ensures.ok p r.keeps).bound in
     let b2 = (c.in_ok-codes.ensures.ok p r.keeps).bound in
     let b3 = (c.in_ok-texts.ensures.ok p r.keeps).bound in
@@ -129,7 +128,7 @@ pub put_datas-requires-clause-front : goal.put_datas-requires-clause-front
 put_datas-requires-clause-front c =
     let p = c.requires.ready.0 in
     let r = c.requires.ready.1 in
-    let n = behind c.args.sections.now c.args.numbers.now p r c.args.counts _ (c.requires.counts p r) c.requires.front in
+    let n = after c.args.sections.now c.args.numbers.now p r c.args.counts _ (c.requires.counts p r) c.requires.front in
     let g0 = longer _ _ (c.in_ok-lists.ensures.ok p r.keeps).grown in
     let g1 = longer _ _ (c.in_ok-codes.ensures.ok p r.keeps).grown in
     let g2 = longer _ _ (c.in_ok-texts.ensures.ok p r.keeps).grown in
@@ -140,19 +139,19 @@ pub put_datas-requires-clause-kept : goal.put_datas-requires-clause-kept
 put_datas-requires-clause-kept c =
     let p = c.requires.ready.0 in
     let r = c.requires.ready.1 in
-    let n = behind c.args.sections.now c.args.numbers.now p r c.args.counts _ (c.requires.counts p r) c.requires.front in
+    let n = after c.args.sections.now c.args.numbers.now p r c.args.counts _ (c.requires.counts p r) c.requires.front in
     let b1 = (c.in_ok-lists.ensures.ok p r.keeps).bound in
     let b2 = (c.in_ok-codes.ensures.ok p r.keeps).bound in
     let b3 = (c.in_ok-texts.ensures.ok p r.keeps).bound in
     let b4 = (c.in_ok-arrays.ensures.ok p r.keeps).bound in
-    let z = ap length c.deref.ensures.value ∙ Zip-length (Refers is_bodiless (c.in_ok-codes.ensures.ok p r.keeps).lays.items) _ (body_values p) (c.in_ok-codes.ensures.ok p r.keeps).lays.each in
+    let z = ap length c.deref.ensures.value ∙ zip_length (Refers is_bodiless (c.in_ok-codes.ensures.ok p r.keeps).lays.items) _ (body_values p) (c.in_ok-codes.ensures.ok p r.keeps).lays.each in
     (p, r.keeps, z, omega (arith, n.small, b1, b2, b3, b4))
 
 pub overflow_cast-datas_end : goal.overflow_cast-datas_end
 overflow_cast-datas_end c =
     let p = c.requires.ready.0 in
     let r = c.requires.ready.1 in
-    let n = behind c.args.sections.now c.args.numbers.now p r c.args.counts _ (c.requires.counts p r) c.requires.front in
+    let n = after c.args.sections.now c.args.numbers.now p r c.args.counts _ (c.requires.counts p r) c.requires.front in
     let b1 = (c.in_ok-lists.ensures.ok p r.keeps).bound in
     let b2 = (c.in_ok-codes.ensures.ok p r.keeps).bound in
     let b3 = (c.in_ok-texts.ensures.ok p r.keeps).bound in
@@ -165,7 +164,7 @@ pub codes_part-requires : goal.codes_part-requires
 codes_part-requires c =
     let p = c.requires.ready.0 in
     let r = c.requires.ready.1 in
-    let n = behind c.args.sections.now c.args.numbers.now p r c.args.counts _ (c.requires.counts p r) c.requires.front in
+    let n = after c.args.sections.now c.args.numbers.now p r c.args.counts _ (c.requires.counts p r) c.requires.front in
     let b1 = (c.in_ok-lists.ensures.ok p r.keeps).bound in
     omega (arith, n.small, b1, c.len-lists_end.ensures, c.put_lists.new.out.ok.0)
 

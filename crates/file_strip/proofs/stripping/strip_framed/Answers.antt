@@ -4,9 +4,9 @@ use Rattle.base_bytes.specs.declared.fault.Fault.{Fault}
 use Rattle.file_limits.specs.Limits.{IsLowestLimit}
 use Rattle.file_limits.specs.Wide.{wide}
 use Rattle.file_limits.proofs.LimitLaws.{small_of}
-use Rattle.tables_rows.proofs.RowReading.{passed}
 use Rattle.file_strip.proofs.ReadyLaws.{fits_of, keeps_of, ready_of, too_big, too_far}
 use Rattle.file_strip.proofs.stripping.strip_framed.Goals as goal
+use Rattle.base_bytes.proofs.ListFacts.{passed}
 
 pub is_too_big-requires : goal.is_too_big-requires
 is_too_big-requires c =

@@ -1,11 +1,11 @@
 use Rattle.std.proofs.Common.{inl, subst, sym}
-use Rattle.file_laws.proofs.RangeLaws as law
+use Rattle.file_read.proofs.RangeLaws as law
 use Rattle.file_read.specs.Means.{Means}
 use Rattle.file_read.specs.Refused.{IsRefused}
-use Rattle.tables_rows.proofs.RowReading.{passed}
 use Rattle.tables_rows.proofs.ClearRows.{only_memory}
 use Rattle.file_write.proofs.FileLaws.{file_of, late_limit, none_broken, stripped}
 use Rattle.file_write.proofs.writing.strip.Goals as goal
+use Rattle.base_bytes.proofs.ListFacts.{passed}
 
 pub returns-clause-ok : goal.returns-clause-ok
 returns-clause-ok c =

@@ -1,8 +1,8 @@
 use Rattle.program_types.specs.View as view
-use Rattle.tables_rows.proofs.RowReading.{passed}
 use Rattle.tables_rows.proofs.ClearRows.{only_memory}
 use Rattle.file_write.proofs.FileLaws.{file_of, none_broken, vain}
 use Rattle.file_write.proofs.writing.write.Goals as goal
+use Rattle.base_bytes.proofs.ListFacts.{passed}
 
 pub returns-clause-file : goal.returns-clause-file
 returns-clause-file c = file_of c.in_ok-assemble.field-0.items (view.program c.args.program.now) c.requires.kept c.in_ok-assemble.ensures.fits c.in_ok-assemble.ensures.assembled

@@ -8,7 +8,7 @@ use Rattle.listing_lines.specs.Lines.{line_of}
 use Rattle.listing_lines.specs.LineView.{line}
 use Rattle.listing_draft.specs.View.{state}
 use Rattle.listing_labels.specs.Lines.{lines}
-use Rattle.listing_parse.specs.Text.{labels_behind}
+use Rattle.listing_parse.specs.Text.{labels_after}
 use Rattle.listing_parse.specs.View.{reading}
 use Rattle.listing_parse.proofs.RefusedLaws.{shapeless, misplaced, misspelled, twice, taken}
 use Rattle.listing_parse.proofs.reading.add_says.Goals as goal
@@ -44,13 +44,13 @@ pub returns-clause-taken : goal.returns-clause-taken
 unfolding reading state
 returns-clause-taken c =
     let ws = map word c.args.scratch.now.words.items in
-    let ls = lines c.args.behind.now in
+    let ls = lines c.args.after.now in
     let es = c.args.listing.now.labels in
     let form = c.args.listing.now.form in
-    on_ok_weaker c.look.result (λ looked. taken (reading c.args.listing.now) (reading c.look.new.self) ls ws (shape c.in-Some.found c.read_form.new.slots.items ws) (map datum c.read_says.new.scratch.says.items) (line c.in_ok-next.next) (state c.add.new.self)
+    on_ok_weaker c.find_labels.result (λ looked. taken (reading c.args.listing.now) (reading c.find_labels.new.self) ls ws (shape c.in-Some.found c.read_form.new.slots.items ws) (map datum c.read_says.new.scratch.says.items) (line c.in_ok-next.next) (state c.add.new.self)
     (rw (c.in-Some.is, c.as_slice-words.ensures.value) at c.in_ok-found.ensures.found) (sym (c.may_be.ensures c.read_form.new.slots.items ws) ∙ c.if-not-may_be.false)
     (rw c.in_default-2.is at c.in_ok-code.ensures.all)
     (c.in_ok-next.ensures.ok ∙ ap (λ (ds : List Datum). line_of c.in-Some.found.kind (map datum ds)) c.as_slice.ensures.value)
     (rw c.if-not-branch.false at c.in_ok-add.ensures.added)
-    (looked ∙ ap (λ (n : ℕ). record { form = form; labels = labels_behind form c.in-Some.found.kind (n + 1) ls es; base = state c.add.new.self }) c.in_ok-add.ensures.lines))
-    c.look.ensures.looked
+    (looked ∙ ap (λ (n : ℕ). record { form = form; labels = labels_after form c.in-Some.found.kind (n + 1) ls es; base = state c.add.new.self }) c.in_ok-add.ensures.lines))
+    c.find_labels.ensures.looked

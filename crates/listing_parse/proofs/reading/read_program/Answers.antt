@@ -1,8 +1,8 @@
 use Rattle.std.proofs.Common.{◌∙◌}
-use Rattle.program_rules.proofs.OrderLaws.{passed}
 use Rattle.listing_draft.specs.View.{state}
 use Rattle.listing_parse.proofs.ReadingLaws.{lines_of, whole_text, unfinished_text, unruly_text}
 use Rattle.listing_parse.proofs.reading.read_program.Goals as goal
+use Rattle.base_bytes.proofs.ListFacts.{passed}
 
 pub returns-in_err-check_end-clause-err : goal.returns-in_err-check_end-clause-err
 returns-in_err-check_end-clause-err c =

@@ -4,13 +4,13 @@ use Rattle.listing_shapes.proofs.ShapeLaws.{payload_found, payload_none, plain_f
 use Rattle.listing_shapes.proofs.shape.push_insn.Goals as goal
 
 pub returns-in-Some-clause-some : goal.returns-in-Some-clause-some
-returns-in-Some-clause-some c = payload_found c.args.text.now (map word c.args.behind.now) c.in-Some.key c.push_payload.result c.args.slots.now.items _ c.in-Some.ensures c.push_payload.ensures.some
+returns-in-Some-clause-some c = payload_found c.args.text.now (map word c.args.after.now) c.in-Some.key c.push_payload.result c.args.slots.now.items _ c.in-Some.ensures c.push_payload.ensures.some
 
 pub returns-in-Some-clause-none : goal.returns-in-Some-clause-none
-returns-in-Some-clause-none c = payload_none c.args.text.now (map word c.args.behind.now) c.in-Some.key c.push_payload.result c.in-Some.ensures c.push_payload.ensures.none
+returns-in-Some-clause-none c = payload_none c.args.text.now (map word c.args.after.now) c.in-Some.key c.push_payload.result c.in-Some.ensures c.push_payload.ensures.none
 
 pub returns-in-None-clause-some : goal.returns-in-None-clause-some
-returns-in-None-clause-some c = plain_found c.args.text.now (map word c.args.behind.now) c.push_plain.result c.args.slots.now.items _ c.push_plain.ensures.some
+returns-in-None-clause-some c = plain_found c.args.text.now (map word c.args.after.now) c.push_plain.result c.args.slots.now.items _ c.push_plain.ensures.some
 
 pub returns-in-None-clause-none : goal.returns-in-None-clause-none
-returns-in-None-clause-none c = plain_none c.args.text.now (map word c.args.behind.now) c.push_plain.result c.in-None.ensures c.push_plain.ensures.none
+returns-in-None-clause-none c = plain_none c.args.text.now (map word c.args.after.now) c.push_plain.result c.in-None.ensures c.push_plain.ensures.none

@@ -1,5 +1,5 @@
 use Rattle.std.proofs.Common.{◌≡◌, ◌∷◌, ◌∙◌, ap, ℕ}
-use Rattle.listing_slots.proofs.NumberNoneLaws.{unmarked_none, behind_none}
+use Rattle.listing_slots.proofs.NumberNoneLaws.{unmarked_none, after_none}
 use Rattle.listing_slots.proofs.numbers.read_number.Goals as goal
 
 pub returns-in_default-clause-none : goal.returns-in_default-clause-none
@@ -8,4 +8,4 @@ returns-in_default-clause-none c = unmarked_none c.args.mark c.args.most c.args.
 pub returns-clause-none : goal.returns-clause-none
 returns-clause-none c =
     let e : c.args.text.now ≡ c.in-Some.before ∷ c.in-Some-split_first.digits.now = c.in-Some-split_first.ensures.cases.0 ∙ ap (λ (x : ℕ). x ∷ c.in-Some-split_first.digits.now) c.if-first-before.false in
-    behind_none c.args.mark c.args.most c.in-Some.before c.args.text.now c.in-Some-split_first.digits.now c.read_natural-2.result c.in-Some.ensures.some e c.read_natural-2.ensures.none
+    after_none c.args.mark c.args.most c.in-Some.before c.args.text.now c.in-Some-split_first.digits.now c.read_natural-2.result c.in-Some.ensures.some e c.read_natural-2.ensures.none

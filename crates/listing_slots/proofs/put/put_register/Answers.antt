@@ -2,5 +2,7 @@ use Rattle.std.proofs.Common.{ap, sym, ◌∙◌, ◌++◌, ◌∷◌}
 use Rattle.std.proofs.lemmas.Fmt.{decimal_digit}
 use Rattle.listing_slots.proofs.put.put_register.Goals as goal
 
-pub returns-then-n-lt10-clause-ok : goal.returns-then-n-lt10-clause-ok
-returns-then-n-lt10-clause-ok c = c.in_ok-extend_from_slice.ensures.items ∙ ap (λ l. c.args.out.now.items ++ (32 ∷ 118 ∷ l)) (sym (decimal_digit c.args.n c.if-n-lt10.true))
+pub returns-then-n-lt10 : goal.returns-then-n-lt10
+returns-then-n-lt10 c = record {
+  ok = c.in_ok-extend_from_slice.ensures.items ∙ ap (λ l. c.args.out.now.items ++ (32 ∷ 118 ∷ l)) (sym (decimal_digit c.args.n c.if-n-lt10.true));
+}

@@ -2,20 +2,20 @@ use Rattle.std.proofs.Common.{rules, arith, ap, length, get_or, ◌∙◌, List,
 use Rattle.listing_words.proofs.NameLaws.{member_rest, member_none, member_found}
 use Rattle.listing_words.proofs.names.split_member.Goals as goal
 
-pub returns-then-behind-lt2-clause-none : goal.returns-then-behind-lt2-clause-none
-returns-then-behind-lt2-clause-none c class name tail m =
+pub returns-then-after-lt2-clause-none : goal.returns-then-after-lt2-clause-none
+returns-then-after-lt2-clause-none c class name tail m =
     let x = member_rest c.args.stop c.requires c.args.units.now c.split_at.result.1.now c.in_ok-n.n c.in_ok-n.ensures.found c.split_at.ensures.back class name tail m in
-    let e = ap length x.1 in omega (arith, c.if-behind-lt2.true)
+    let e = ap length x.1 in omega (arith, c.if-after-lt2.true)
 
-pub returns-then-behind-ne45-clause-none : goal.returns-then-behind-ne45-clause-none
-returns-then-behind-ne45-clause-none c class name tail m =
+pub returns-then-after-ne45-clause-none : goal.returns-then-after-ne45-clause-none
+returns-then-after-ne45-clause-none c class name tail m =
     let x = member_rest c.args.stop c.requires c.args.units.now c.split_at.result.1.now c.in_ok-n.n c.in_ok-n.ensures.found c.split_at.ensures.back class name tail m in
-    c.if-behind-ne45.true (ap (λ (l : List ℕ). get_or l 0 0) x.1)
+    c.if-after-ne45.true (ap (λ (l : List ℕ). get_or l 0 0) x.1)
 
-pub returns-then-behind-ne62-clause-none : goal.returns-then-behind-ne62-clause-none
-returns-then-behind-ne62-clause-none c class name tail m =
+pub returns-then-after-ne62-clause-none : goal.returns-then-after-ne62-clause-none
+returns-then-after-ne62-clause-none c class name tail m =
     let x = member_rest c.args.stop c.requires c.args.units.now c.split_at.result.1.now c.in_ok-n.n c.in_ok-n.ensures.found c.split_at.ensures.back class name tail m in
-    c.if-behind-ne62.true (ap (λ (l : List ℕ). get_or l 1 0) x.1)
+    c.if-after-ne62.true (ap (λ (l : List ℕ). get_or l 1 0) x.1)
 
 pub returns-in_default-clause-none : goal.returns-in_default-clause-none
 returns-in_default-clause-none c =
@@ -30,5 +30,5 @@ returns-then-not-is_member_name-clause-none c =
 pub returns-clause-found : goal.returns-clause-found
 returns-clause-found c =
     member_found c.args.stop c.args.units.now c.split_at.result.0.now c.split_at.result.1.now c.split_at-2.result.1.now c.split_stop.result.0.now c.split_stop.result.1.now c.in-Some.tail.now c.in_ok-n.n _
-    c.in_ok-n.ensures.found c.split_at.ensures.front c.split_at.ensures.back c.if-behind-lt2.false (search rules) (search rules) c.split_at-2.ensures.back c.split_stop.ensures.front c.split_stop.ensures.back c.in-Some.ensures.cases.0
+    c.in_ok-n.ensures.found c.split_at.ensures.front c.split_at.ensures.back c.if-after-lt2.false (search rules) (search rules) c.split_at-2.ensures.back c.split_stop.ensures.front c.split_stop.ensures.back c.in-Some.ensures.cases.0
     (c.if-not-is_member_name.ensures.0 refl)

@@ -1,7 +1,7 @@
 use Rattle.std.proofs.Common.{rules}
 use Rattle.dex_base.specs.Descriptor.{IsClass}
 use Rattle.program_types.specs.View.{desc}
-use Rattle.program_ranges.proofs.AllLaws.{all-here}
+use Rattle.program_rules.proofs.AllLaws.{all-here}
 use Rattle.program_rules.proofs.names.are_classes.Goals as goal
 
 pub returns-then-not-is_class_type : goal.returns-then-not-is_class_type

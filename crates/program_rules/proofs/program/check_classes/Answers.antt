@@ -1,8 +1,9 @@
 use Rattle.std.proofs.Common.{map}
 use Rattle.program_types.specs.View.{class}
 use Rattle.program_rules.proofs.NumberLaws.{not-yet}
-use Rattle.program_rules.proofs.OrderLaws.{passed, class-at, first-broken, one-more, all-kept}
+use Rattle.program_rules.proofs.OrderLaws.{class-at, first-broken, one-more, all-kept}
 use Rattle.program_rules.proofs.program.check_classes.Goals as goal
+use Rattle.base_bytes.proofs.ListFacts.{passed}
 
 pub returns-in_err-check_class-clause-err : goal.returns-in_err-check_class-clause-err
 returns-in_err-check_class-clause-err c =

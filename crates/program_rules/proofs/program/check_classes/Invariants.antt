@@ -2,7 +2,7 @@ use Rattle.std.proofs.Common.{ℕ, ◌<◌, ◌≡◌, map, Some}
 use Rattle.std.specs.List.{slice_get}
 use Rattle.program_types.specs.Content as content
 use Rattle.program_types.specs.View.{class}
-use Rattle.program_ranges.specs.Ranges.{ClassInRange}
+use Rattle.program_rules.specs.Ranges.{ClassInRange}
 use Rattle.program_rules.specs.Rules.{ClassHolds}
 use Rattle.program_rules.proofs.program.check_classes.Given as goal
 

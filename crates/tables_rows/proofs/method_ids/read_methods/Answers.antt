@@ -5,8 +5,9 @@ use Rattle.program_types.specs.View.{method_ref}
 use Rattle.tables_rows.specs.Sorted.{MethodHolds}
 use Rattle.tables_rows.specs.Stands.{MethodStands}
 use Rattle.tables_rows.specs.TableFaults.{MethodBreaks}
-use Rattle.tables_rows.proofs.RowReading.{passed, first_row, first_more, first_rows}
+use Rattle.tables_rows.proofs.RowReading.{first_row, first_more, first_rows}
 use Rattle.tables_rows.proofs.method_ids.read_methods.Goals as goal
+use Rattle.base_bytes.proofs.ListFacts.{passed}
 
 pub returns-in_err-method-clause-err : goal.returns-in_err-method-clause-err
 returns-in_err-method-clause-err c =

@@ -6,8 +6,9 @@ use Rattle.program_types.specs.View.{proto}
 use Rattle.tables_rows.specs.Sorted.{ProtoHolds}
 use Rattle.tables_rows.specs.Stands.{ProtoStands}
 use Rattle.tables_rows.specs.TableFaults.{ProtoBreaks}
-use Rattle.tables_rows.proofs.RowReading.{passed, first_row, first_more, first_rows}
+use Rattle.tables_rows.proofs.RowReading.{first_row, first_more, first_rows}
 use Rattle.tables_rows.proofs.proto_ids.read_protos.Goals as goal
+use Rattle.base_bytes.proofs.ListFacts.{passed}
 
 pub returns-in_err-proto-clause-err : goal.returns-in_err-proto-clause-err
 returns-in_err-proto-clause-err c =

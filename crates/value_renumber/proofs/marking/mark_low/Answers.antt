@@ -2,7 +2,7 @@ use Rattle.std.proofs.Common.{List, ap, sym, subst, ◌∙◌, arith}
 use Rattle.std.proofs.lemmas.Result.{on_ok_weaker}
 use Rattle.program_types.specs.Content.{Name}
 use Rattle.dex_value.specs.Faults.{widest_of}
-use Rattle.dex_value.specs.Reading.{sized_code, kind_of as table_of}
+use Rattle.dex_value.specs.Reading.{sized_code, table_of_type}
 use Rattle.dex_value.specs.Spelling.{unsigned_of}
 use Rattle.tables_numbers.specs.Marked.{AddsNames}
 use Rattle.tables_numbers.proofs.MarkLemmas.{adds_none}
@@ -14,7 +14,7 @@ mark-requires-clause-row c =
     let b = c.args.sections.now in
     let ty = c.in-Name.ty in
     let r = row_of_low b ty _ c.args.low.now c.requires.low.0 (sym (ap sized_code c.in-Name.is) ∙ c.in-Some.ensures.some) c.requires.low.1 in
-    (r.which, row_for b (table_of ty) c.name_kind.result (unsigned_of c.args.low.now) c.unsigned-index.result r.which c.name_kind.ensures c.unsigned-index.ensures.value r.row)
+    (r.which, row_for b (table_of_type ty) c.name_kind.result (unsigned_of c.args.low.now) c.unsigned-index.result r.which c.name_kind.ensures c.unsigned-index.ensures.value r.row)
 
 pub returns-in-Name-clause-marked : goal.returns-in-Name-clause-marked
 returns-in-Name-clause-marked c =
@@ -24,7 +24,7 @@ returns-in-Name-clause-marked c =
     (λ f v l.
     let r = row_of_low b ty _ c.args.low.now v (sym (ap sized_code c.in-Name.is) ∙ c.in-Some.ensures.some) l in
     subst (λ (ns : List Name). AddsNames b c.args.marks.now c.mark.new.self ns) (sym r.names)
-    (f r.which (row_for b (table_of ty) c.name_kind.result (unsigned_of c.args.low.now) c.unsigned-index.result r.which c.name_kind.ensures c.unsigned-index.ensures.value r.row)))
+    (f r.which (row_for b (table_of_type ty) c.name_kind.result (unsigned_of c.args.low.now) c.unsigned-index.result r.which c.name_kind.ensures c.unsigned-index.ensures.value r.row)))
     c.mark.ensures.marked
 
 pub returns-in-Number-clause-marked : goal.returns-in-Number-clause-marked

@@ -6,9 +6,10 @@ use Rattle.tables_rows.specs.Stands.{NameStands}
 use Rattle.dex_value.specs.Spelling.{SpellsValue, count_of}
 use Rattle.dex_value.proofs.Fronts.{LoneFront}
 use Rattle.dex_value.proofs.Lists.{listed}
-use Rattle.value_renumber.proofs.FrontLemmas.{taken_some, taken_array, taken_lone, taken_low, low_of, number_one, taken_short}
+use Rattle.value_renumber.proofs.FrontLemmas.{taken_some, taken_array, taken_lone, taken_low, low_of, taken_short}
 use Rattle.value_renumber.proofs.CarryLemmas.{inner_carried, array_spelled, lone_appends, renumbered_start, next_due, renumbered_next, renumbered_end}
 use Rattle.value_renumber.proofs.renumbering.+renumbered.Goals as goal
+use Rattle.base_bytes.proofs.ListFacts.{number_one}
 
 pub renumber_value-unreachable-requires : goal.renumber_value-unreachable-requires
 renumber_value-unreachable-requires t c =

@@ -1,9 +1,10 @@
 use Rattle.std.proofs.Common.{rules, ◌≡◌, [], length, ◌∙◌}
 use Rattle.tables_names.specs.Closure.{NameRanks}
 use Rattle.tables_rows.specs.Stands.{NameStands}
-use Rattle.value_renumber.proofs.FrontLemmas.{array_parts, number_one}
+use Rattle.value_renumber.proofs.FrontLemmas.{array_parts}
 use Rattle.value_renumber.proofs.CarryLemmas.{values_carried, no_item, item_is}
 use Rattle.value_renumber.proofs.renumbering.renumber_array.Goals as goal
+use Rattle.base_bytes.proofs.ListFacts.{number_one}
 
 pub array_at-requires : goal.array_at-requires
 array_at-requires c = (c.requires.2.most, c.requires.1, c.requires.2.stands)

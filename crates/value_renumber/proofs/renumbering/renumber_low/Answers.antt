@@ -6,7 +6,7 @@ use Rattle.program_types.specs.Content.{Value}
 use Rattle.program_types.specs.View.{value}
 use Rattle.tables_names.specs.Closure.{NameRanks}
 use Rattle.dex_value.specs.Faults.{widest_of}
-use Rattle.dex_value.specs.Reading.{number_code, sized_code, kind_of as table_of, IsNumber}
+use Rattle.dex_value.specs.Reading.{number_code, sized_code, table_of_type, IsNumber}
 use Rattle.dex_value.specs.Spelling.{unsigned_of, SpellsValue}
 use Rattle.dex_value.specs.Writing.{UnsignedAs}
 use Rattle.value_renumber.proofs.CarryLemmas.{number_plain, number_is, carried_name, number_at, index_within}
@@ -53,7 +53,7 @@ pub of-row-requires : goal.of-row-requires
 of-row-requires c =
     let ty = c.in-Name.ty in
     let n = carried_name c.requires.0 c.args.numbers.now c.requires.1 ty _ c.args.low.now (sym (ap sized_code c.in-Name.is) ∙ c.in-Some.ensures.some) c.requires.2 c.requires.3 in
-    index_within c.args.numbers.now (table_of ty) c.name_kind.result (unsigned_of c.args.low.now) c.unsigned-index.result n.number c.name_kind.ensures c.unsigned-index.ensures.value n.at
+    index_within c.args.numbers.now (table_of_type ty) c.name_kind.result (unsigned_of c.args.low.now) c.unsigned-index.result n.number c.name_kind.ensures c.unsigned-index.ensures.value n.at
 
 pub returns-in-Name-clause-ok : goal.returns-in-Name-clause-ok
 returns-in-Name-clause-ok c =
@@ -66,7 +66,7 @@ returns-in-Name-clause-ok c =
     let n = carried_name b c.args.numbers.now s ty _ low (sym (ap sized_code c.in-Name.is) ∙ c.in-Some.ensures.some) v x in
     n.appends old new
     (subst (λ (m : ℕ). Appends (Shortest (UnsignedAs (c.args.head % 32) 4)) old new m)
-    (c.from.ensures ∙ number_at c.args.numbers.now (table_of ty) c.name_kind.result (unsigned_of low) c.unsigned-index.result n.number c.of-row.result c.name_kind.ensures c.unsigned-index.ensures.value c.of-row.ensures n.at) a))
+    (c.from.ensures ∙ number_at c.args.numbers.now (table_of_type ty) c.name_kind.result (unsigned_of low) c.unsigned-index.result n.number c.of-row.result c.name_kind.ensures c.unsigned-index.ensures.value c.of-row.ensures n.at) a))
     c.put_unsigned.ensures.ok
 
 pub unreachable-requires : goal.unreachable-requires

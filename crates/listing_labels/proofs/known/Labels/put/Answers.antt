@@ -2,7 +2,7 @@ use Rattle.std.proofs.Common.{◌∙◌, sym, ap, map, ◌≡◌, []}
 use Rattle.std.proofs.lemmas.List.{map-append, nil_from_length}
 use Rattle.std.proofs.lemmas.Result.{on_ok_weaker}
 use Rattle.listing_labels.specs.View.{label}
-use Rattle.listing_labels.proofs.OrderLaws.{rising_push, goes_above, stays, goes_behind}
+use Rattle.listing_labels.proofs.OrderLaws.{rising_push, goes_above, stays, goes_after}
 use Rattle.listing_labels.proofs.known.Labels.put.Goals as goal
 
 pub invariant_of-self-then-is_above : goal.invariant_of-self-then-is_above
@@ -23,5 +23,5 @@ returns-then-is_some-clause-put c =
 
 pub returns-clause-put : goal.returns-clause-put
 returns-clause-put c =
-    rw (← c.self.view_is) (on_ok_weaker c.put_hashed.result (goes_behind (map label c.self.inside.front.items) (map label c.self.inside.rest.entries) (map label c.put_hashed.new.rest.entries) (label (c.args.name, c.args.place)) c.search.result
+    rw (← c.self.view_is) (on_ok_weaker c.put_hashed.result (goes_after (map label c.self.inside.front.items) (map label c.self.inside.rest.entries) (map label c.put_hashed.new.rest.entries) (label (c.args.name, c.args.place)) c.search.result
     (rw c.as_slice-2.ensures.value at c.search.ensures) (sym c.is_some.ensures ∙ c.if-is_some.false)) c.put_hashed.ensures.put)

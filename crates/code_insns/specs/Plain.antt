@@ -1,0 +1,44 @@
+-- Codes that have nothing to do with payloads, and what the private functions say that read them at once.
+use Rattle.std.specs.Prelude.{ℕ, pos, ◌≡◌, ◌≢◌, ◌<◌, List, length, take, slice_index, IfSome, Bool, true, false}
+use Rattle.std.specs.List.{AllByRecursion}
+use Rattle.dex_insn.specs.Raw as raw
+use Rattle.dex_insn.specs.Raw.{Raw}
+use Rattle.dex_insn.specs.Registers.{named_registers}
+use Rattle.program_types.specs.Content.{Name, Insn}
+use Rattle.program_types.specs.Formed.{insn_at}
+use Rattle.code_insns.specs.Places.{place, AllHold}
+use Rattle.code_insns.specs.Walk.{Run, starts, raw_at}
+use Rattle.code_insns.specs.Symbols.{Says}
+use Rattle.code_insns.specs.Insns.{short_branch}
+use Rattle.code_insns.specs.Reading.{ReadInsns}
+use Rattle.code_insns.specs.Registers.{AmongAt}
+
+-- it neither is a payload nor refers to one
+unfoldable pub is_plain : Raw → Bool
+is_plain (raw.I31t op a offset) = false
+is_plain (raw.Packed first offsets) = false
+is_plain (raw.Sparse keys offsets) = false
+is_plain (raw.Data width bytes) = false
+is_plain _ = true
+
+-- The raw instruction at this unit has nothing to do with payloads, doesn't branch to itself, names registers of the code alone, and says
+-- this, where instructions begin at these units.
+pub record SaysAtOnce (N : ℕ → Name → Type 0) (begins : List ℕ) (count at : ℕ) (r : Raw) (i : Insn) : Type 0 where
+  pub plain : is_plain r ≡ true
+  pub moves : IfSome (short_branch r) (λ z. z ≢ pos 0)
+  pub among : AllByRecursion (λ v. v < count) (named_registers r)
+  pub says : Says N (place begins at) r i
+
+-- From the first unit to this one such instructions stand, which begin at the first k of these units, and say these.
+pub record PlainRun (N : ℕ → Name → Type 0) (us begins : List ℕ) (count : ℕ) (is : List Insn) (k at : ℕ) : Type 0 where
+  pub raws : List Raw
+  pub count_is : length raws ≡ k
+  pub said : length is ≡ k
+  pub run : Run us 0 raws at
+  pub begins_are : take k begins ≡ starts raws
+  pub each : AllHold (λ j. SaysAtOnce N begins count (slice_index begins j) (raw_at raws j) (insn_at is j)) k
+
+-- The units spell these instructions, which begin at these units and name registers of the code alone.
+pub record ArePlain (N : ℕ → Name → Type 0) (us begins : List ℕ) (count : ℕ) (is : List Insn) : Type 0 where
+  pub read : ReadInsns N us begins is
+  pub among : AllHold (AmongAt count is) (length is)

@@ -1,0 +1,84 @@
+-- Numbers of 32 bits, one after the other, are spelled in one way.
+use Rattle.std.proofs.Common.{◌≡◌, ℕ, pos, zero, suc, ◌+◌, ◌*◌, ◌/◌, ◌%◌, ◌^◌, ◌<◌, ◌-ℤ◌, nat_lt, if◌then◌else◌, List, [], ◌∷◌, length, drop, get_or, refl, sym, ap, ◌∙◌, arith, subst}
+use Rattle.std.proofs.lemmas.List.{get_or-drop}
+use Rattle.std.proofs.lemmas.Bool.Decides.{nat_tests}
+use Rattle.std.proofs.lemmas.Int.{ints}
+use Rattle.byteorder.specs.Endian.{little_number}
+use Rattle.base_bytes.specs.Fields.{AreBytes, u32_at}
+use Rattle.base_bytes.proofs.FieldBounds.{u32_at-fits}
+use Rattle.base_bytes.proofs.ShortestLaws.{AllBytes}
+use Rattle.dex_insn.specs.Fields.{number, int_at, signed}
+use Rattle.code_insns.specs.Symbols as symbols
+use Rattle.code_insns.specs.Symbols.{ints_from}
+use Rattle.base_bytes.proofs.ListFacts.{by_half, four_bytes, all_of}
+use Rattle.code_put.proofs.IntLaws.{number-u32}
+
+are_of : (b : List ℕ) → AllBytes b → AreBytes b
+are_of [] h i = omega arith
+are_of (x ∷ xs) h zero = h.0
+are_of (x ∷ xs) h (suc i) = are_of xs h.1 i
+
+pub same_bytes : (b c : List ℕ) → length b ≡ length c → ((i : ℕ) → i < length b → get_or b i 0 ≡ get_or c i 0) → b ≡ c
+same_bytes [] [] n h = refl
+same_bytes [] (y ∷ ys) n h = absurd (omega arith)
+same_bytes (x ∷ xs) [] n h = absurd (omega arith)
+same_bytes (x ∷ xs) (y ∷ ys) n h =
+    let here = h zero (omega arith) in
+    let rest = same_bytes xs ys (omega arith) (λ i lt. h (suc i) (omega arith)) in
+    (λ k. here k ∷ rest k)
+
+module _ (b c : List ℕ) (bytes_b : AreBytes b) (bytes_c : AreBytes c) where
+  here_b : (p k : ℕ) → get_or (drop p b) k 0 < 256
+  here_b p k = rw (get_or-drop p b k 0) (bytes_b (p + k))
+
+  here_c : (p k : ℕ) → get_or (drop p c) k 0 < 256
+  here_c p k = rw (get_or-drop p c k 0) (bytes_c (p + k))
+
+  same_word : (p : ℕ) → u32_at b p ≡ u32_at c p → (k : ℕ) → k < 4 → get_or b (p + k) 0 ≡ get_or c (p + k) 0
+  unfolding u32_at
+  same_word p e k lt =
+      let r = four_bytes (get_or (drop p b) 0 0) (get_or (drop p b) 1 0) (get_or (drop p b) 2 0) (get_or (drop p b) 3 0) (get_or (drop p c) 0 0) (get_or (drop p c) 1 0) (get_or (drop p c) 2 0) (get_or (drop p c) 3 0)
+      (here_b p 0) (here_b p 1) (here_b p 2) (here_b p 3) (here_c p 0) (here_c p 1) (here_c p 2) (here_c p 3) e in
+      sym (get_or-drop p b k 0) ∙ pick k lt r ∙ get_or-drop p c k 0
+    where
+      pick : (k : ℕ) → k < 4
+          → (get_or (drop p b) 0 0 ≡ get_or (drop p c) 0 0) × (get_or (drop p b) 1 0 ≡ get_or (drop p c) 1 0) × (get_or (drop p b) 2 0 ≡ get_or (drop p c) 2 0) × (get_or (drop p b) 3 0 ≡ get_or (drop p c) 3 0)
+          → get_or (drop p b) k 0 ≡ get_or (drop p c) k 0
+      pick zero lt r = r.0
+      pick (suc zero) lt r = r.1
+      pick (suc (suc zero)) lt r = r.2
+      pick (suc (suc (suc zero))) lt r = r.3
+      pick (suc (suc (suc (suc k)))) lt r = absurd (omega arith)
+
+int_word : (b c : List ℕ) (i : ℕ) → AreBytes b → AreBytes c → int_at b i ≡ int_at c i → u32_at b (4 * i) ≡ u32_at c (4 * i)
+int_word b c i p q e =
+    let f : signed 32 (u32_at b (4 * i)) ≡ signed 32 (u32_at c (4 * i)) = ap (λ (n : ℕ). signed 32 n) (sym (number-u32 b i)) ∙ e ∙ ap (λ (n : ℕ). signed 32 n) (number-u32 c i) in
+    by_half (u32_at b (4 * i)) (u32_at c (4 * i)) (2 ^ 31) (2 ^ 32) (u32_at-fits b (4 * i) p) (u32_at-fits c (4 * i) q) f
+
+-- the numbers from number i on, one by one
+from_same : (b c : List ℕ) (i n m : ℕ) → ints_from b i n ≡ ints_from c i m → (n ≡ m) × ((k : ℕ) → k < n → int_at b (i + k) ≡ int_at c (i + k))
+from_same b c i zero zero e = (refl, λ k lt. absurd (omega arith))
+from_same b c i zero (suc m) e = absurd cc
+from_same b c i (suc n) zero e = absurd cc
+from_same b c i (suc n) (suc m) e =
+    let head : int_at b i ≡ int_at c i = cc in
+    let tail : ints_from b (i + 1) n ≡ ints_from c (i + 1) m = cc in
+    let r = from_same b c (i + 1) n m tail in
+    (ap suc r.0, λ k lt. by_number k lt head r.1)
+  where
+    by_number : (k : ℕ) → k < suc n → int_at b i ≡ int_at c i → ((k : ℕ) → k < n → int_at b (i + 1 + k) ≡ int_at c (i + 1 + k)) → int_at b (i + k) ≡ int_at c (i + k)
+    by_number zero lt head more = let m : i ≡ i + 0 = omega arith in subst (λ (j : ℕ). int_at b j ≡ int_at c j) m head
+    by_number (suc k) lt head more = let m : i + 1 + k ≡ i + suc k = omega arith in subst (λ (j : ℕ). int_at b j ≡ int_at c j) m (more k (omega arith))
+
+pub ints_once : (b c : List ℕ) → AllBytes b → AllBytes c → length b % 4 ≡ 0 → length c % 4 ≡ 0 → symbols.ints b ≡ symbols.ints c → b ≡ c
+unfolding symbols.ints
+ints_once b c p q m n e =
+    let r = from_same b c 0 (length b / 4) (length c / 4) e in
+    let l : length b ≡ length c = let s = r.0 in omega (arith, s, m, n) in
+    same_bytes b c l (λ i lt.
+    (let k = i / 4 in
+    let j = i % 4 in
+    let there : 4 * k + j ≡ i = omega arith in
+    let zero_more : 0 + k ≡ k = omega arith in
+    let word = int_word b c k (are_of b p) (are_of c q) (subst (λ (x : ℕ). int_at b x ≡ int_at c x) zero_more (r.1 k (omega (arith, lt, m)))) in
+    subst (λ (x : ℕ). get_or b x 0 ≡ get_or c x 0) there (same_word b c (are_of b p) (are_of c q) (4 * k) word j (omega arith))))

@@ -1,6 +1,0 @@
-use Rattle.tables_names.specs.Closure.{NameRanks}
-use Rattle.code_put_laws.proofs.PackedLaws.{packed-length}
-use Rattle.code_put_laws.proofs.packed_is_short.Goals as goal
-
-pub returns : goal.returns
-returns c = λ ranks code bytes packed. packed-length (NameRanks ranks) code bytes packed

@@ -1,0 +1,174 @@
+-- At a place of a file a code stands, or a fault does.
+use Rattle.std.proofs.Common.{◌≡◌, ℕ, zero, suc, ◌+◌, ◌*◌, ◌≤◌, ◌-◌, ◌%◌, ◌<◌, ◌⊎◌, inl, inr, None, List, [], ◌∷◌, length, take, drop, get_or, refl, subst, arith}
+use Rattle.std.specs.Prelude.{slice_get}
+use Rattle.std.specs.List.{AllByRecursion}
+use Rattle.std.proofs.lemmas.Bool.{cases_eq, cases_lt}
+use Rattle.base_bytes.specs.Deciding.{Decided}
+use Rattle.base_bytes.specs.Fields.{AreBytes}
+use Rattle.base_bytes.specs.Grammar.{Takes}
+use Rattle.base_bytes.specs.declared.fault.Fault.{Fault}
+use Rattle.base_bytes.proofs.Deciding.{decide_like, decide_both, decide_le}
+use Rattle.base_bytes.proofs.FieldBounds.{u32_at-fits, drop-AreBytes}
+use Rattle.dex_container.specs.Frame.{IsFramed}
+use Rattle.dex_container.proofs.PlacesDecided.{decide_in, found_at}
+use Rattle.dex_insn.specs.Raw.{Raw}
+use Rattle.dex_insn.specs.declared.opcode.IndexKind.TheVariants as kind
+use Rattle.program_types.specs.Content.{Name, OfText, OfDesc, OfField, OfMethod, Insn, Code}
+use Rattle.program_types.specs.Kinds.{IsOfKind}
+use Rattle.tables_rows.specs.Names.{Names, NameIsAt}
+use Rattle.code_insns.specs.Walk.{starts}
+use Rattle.code_insns.specs.Insns.{SpellsInsns}
+use Rattle.code_insns.specs.Symbols.{IsFunctional}
+use Rattle.code_insns.proofs.InsnFaultLaws.{rules-hold}
+use Rattle.code_read.specs.Item.{insns_size, tries_of, registers_of, ins_of, outs_of, insns_bytes, items_of, units_end, tries_begin, list_begin, HasFixedParts}
+use Rattle.code_read.specs.Code.{SpellsBody, BodyStands, CodeStands}
+use Rattle.code_read.specs.Faults.{ItemBreaks, CodeBreaks, RegistersBreak, CodeOverruns}
+use Rattle.program_types.specs.Formed.{RegistersHold, insn_at, insn_registers}
+use Rattle.program_types.specs.Sizes.{addresses_of}
+use Rattle.code_insns.specs.Places.{AllHold, IsFirstBroken}
+use Rattle.code_insns.specs.Registers.{AmongAt}
+use Rattle.code_read.proofs.StandLaws.{body_code}
+use Rattle.code_read.proofs.FaultLaws.{units-even}
+use Rattle.code_read.proofs.ItemLaws.{takes-from_read}
+use Rattle.code_read.proofs.StandLaws.{NameIsAt-functional}
+use Rattle.code_read.proofs.Deciding.{option-cases}
+use Rattle.code_read.proofs.RulesDecided.{AreNamesDecided}
+use Rattle.code_read.proofs.InsnsDecided.{insns-decided}
+use Rattle.code_read.proofs.TriesDecided.{tries-decided}
+use Rattle.base_bytes.proofs.ListFacts.{take_bytes}
+
+-- ---- names
+
+-- among the names of the tables each index stands for a name, or for none
+pub names-decided : (names : Names) → AreNamesDecided (NameIsAt names)
+names-decided names kind.String i = elim (option-cases (slice_get names.strings i)) [
+  | inl none ↦ inr (λ x. nowhere x.0 x.1 x.2 none)
+  | inr s ↦ inl (OfText s.0, tt, s.1)
+]
+  where
+    nowhere : (which : Name) → IsOfKind kind.String which → NameIsAt names i which → slice_get names.strings i ≡ None → ⊥
+    nowhere (OfText s) k n e = absurd cc
+    nowhere _ k n e = absurd k
+names-decided names kind.Type i = elim (option-cases (slice_get names.types i)) [
+  | inl none ↦ inr (λ x. nowhere x.0 x.1 x.2 none)
+  | inr s ↦ inl (OfDesc s.0, tt, s.1)
+]
+  where
+    nowhere : (which : Name) → IsOfKind kind.Type which → NameIsAt names i which → slice_get names.types i ≡ None → ⊥
+    nowhere (OfDesc s) k n e = absurd cc
+    nowhere _ k n e = absurd k
+names-decided names kind.Field i = elim (option-cases (slice_get names.fields i)) [
+  | inl none ↦ inr (λ x. nowhere x.0 x.1 x.2 none)
+  | inr s ↦ inl (OfField s.0, tt, s.1)
+]
+  where
+    nowhere : (which : Name) → IsOfKind kind.Field which → NameIsAt names i which → slice_get names.fields i ≡ None → ⊥
+    nowhere (OfField s) k n e = absurd cc
+    nowhere _ k n e = absurd k
+names-decided names kind.Method i = elim (option-cases (slice_get names.methods i)) [
+  | inl none ↦ inr (λ x. nowhere x.0 x.1 x.2 none)
+  | inr s ↦ inl (OfMethod s.0, tt, s.1)
+]
+  where
+    nowhere : (which : Name) → IsOfKind kind.Method which → NameIsAt names i which → slice_get names.methods i ≡ None → ⊥
+    nowhere (OfMethod s) k n e = absurd cc
+    nowhere _ k n e = absurd k
+
+-- ---- the item
+
+decide-whole : (bytes : List ℕ) → Decided (HasFixedParts bytes)
+decide-whole bytes = decide_like (λ x. record { head = x.0; fixed = x.1 }) (λ (w : HasFixedParts bytes). (w.head, w.fixed)) (decide_both (decide_le 16 (length bytes)) (decide_le (list_begin bytes) (length bytes)))
+
+units-are : (bytes : List ℕ) → AreBytes bytes → AreBytes (insns_bytes bytes)
+units-are bytes are = take_bytes (units_end bytes - 16) (drop 16 bytes) (drop-AreBytes bytes 16 are)
+
+module _ (N : ℕ → Name → Type 0) (names : AreNamesDecided N) (functional : IsFunctional N) (off : ℕ) (bytes : List ℕ) (are : AreBytes bytes) where
+  abbrev IsItemDecided : Type 0
+  IsItemDecided = ((c : Code) × (rest : List ℕ) × Takes (SpellsBody N) bytes c rest) ⊎ ((e : Fault) × ItemBreaks N off bytes e)
+
+  with-insns : HasFixedParts bytes → 0 < insns_size bytes → (rs : List Raw) (is : List Insn) → SpellsInsns N (insns_bytes bytes) rs is → IsItemDecided
+  with-insns whole some rs is s = elim (tries-decided N names functional (starts rs) (insns_size bytes) (tries_of bytes) (items_of bytes) (drop (list_begin bytes) bytes) (off + tries_begin bytes)) [
+    | inr f ↦ inr (f.0, inr (inr (inr (whole, some, rs, s.walk, rules-hold N (insns_bytes bytes) rs is s, f.1))))
+    | inl x ↦
+        let c : Code = record { registers = registers_of bytes; ins = ins_of bytes; outs = outs_of bytes; insns = is; tries = x.0 } in
+        inl (c, x.1.after, takes-from_read N bytes x.1.after c (record { whole = whole; some = some; registers = refl; ins = refl; outs = refl; raws = rs; insns = s; list = x.1.list; joined = x.1.joined; tries = x.1.tries }))
+  ]
+
+  item-decided : IsItemDecided
+  item-decided = elim (decide-whole bytes) [
+    | inr broken ↦ inr (record { code = 60; place = off }, inl (broken, refl))
+    | inl whole ↦ elim (cases_eq (insns_size bytes) 0) [
+      | inl none ↦ inr (record { code = 61; place = off }, inr (inl (whole, none, refl)))
+      | inr some ↦
+          let u = units-even bytes whole in
+          let f = u32_at-fits bytes 12 are in
+          elim (insns-decided N names (insns_bytes bytes) (off + 16) (units-are bytes are) (omega (arith, u)) (omega (arith, u, f))) [
+            | inr e ↦ inr (e.0, inr (inr (inl (whole, omega (arith, some), e.1))))
+            | inl x ↦ with-insns whole (omega (arith, some)) x.0 x.1 x.2
+          ]
+    ]
+  ]
+
+-- ---- the file
+
+pub body-decided : (b : List ℕ) → AreBytes b → IsFramed b → (names : Names) (off : ℕ) → ((c : Code) × BodyStands (NameIsAt names) b off c) ⊎ ((e : Fault) × CodeBreaks (NameIsAt names) b off e)
+body-decided b are framed names off = elim (cases_eq (off % 4) 0) [
+  | inr odd ↦ inr (record { code = 60; place = off }, inl (odd, refl))
+  | inl even ↦ elim (decide_in b framed 0x2001 off) [
+    | inr outside ↦ inr (record { code = 60; place = off }, inr (inl (outside, refl)))
+    | inl s ↦
+        let N = NameIsAt names in
+        let bytes = take (s.end - off) (drop off b) in
+        let low = s.after in let high = s.before in
+        elim (item-decided N (names-decided names) (NameIsAt-functional names) off bytes (take_bytes (s.end - off) (drop off b) (drop-AreBytes b off are))) [
+          | inr e ↦ inr (e.0, inr (inr (even, s.end, bytes, record { begin = s.begin; section = s.section; after = low; before = high; same = refl }, e.1)))
+          | inl x ↦ inl (x.0, found_at (SpellsBody N) b framed 0x2001 4 off (record { begin = s.begin; end = s.end; section = s.section }) low (omega (arith, high)) even x.0 x.1 x.2)
+        ]
+  ]
+]
+
+-- ---- registers
+
+numbers-decided : (count : ℕ) (vs : List ℕ) → Decided (AllByRecursion (λ v. v < count) vs)
+numbers-decided count [] = inl tt
+numbers-decided count (v ∷ vs) = elim (cases_lt v count) [
+  | inl here ↦ elim (numbers-decided count vs) [
+    | inl rest ↦ inl (here, rest)
+    | inr not ↦ inr (λ h. not h.1)
+  ]
+  | inr not ↦ inr (λ h. let l = h.0 in omega (arith, l, not))
+]
+
+-- the first n instructions name registers of the code, or there is a first that doesn't
+first-decided : (c : Code) (n : ℕ) → n ≤ length c.insns → AllHold (AmongAt c.registers c.insns) n ⊎ ((k : ℕ) × IsFirstBroken (AmongAt c.registers c.insns) (AmongAt c.registers c.insns) (length c.insns) k)
+first-decided c zero le = inl (λ k l. absurd (omega (arith, l)))
+first-decided c (suc n) le = elim (first-decided c n (omega (arith, le))) [
+  | inl before ↦ elim (numbers-decided c.registers (insn_registers (insn_at c.insns n))) [
+    | inl here ↦ inl (λ k l. elim (cases_lt k n) [
+      | inl less ↦ before k less
+      | inr ge ↦ let e : n ≡ k = omega (arith, ge, l) in subst (λ (j : ℕ). AmongAt c.registers c.insns j) e here
+    ])
+    | inr not ↦ inr (n, record { inside = omega (arith, le); broken = not; before = before })
+  ]
+  | inr first ↦ inr first
+]
+
+pub registers-decided : (off : ℕ) (c : Code) → RegistersHold c ⊎ ((e : Fault) × RegistersBreak off c e)
+registers-decided off c = elim (cases_lt c.registers c.ins) [
+  | inl many ↦ inr (record { code = 73; place = off }, inl (many, refl))
+  | inr few ↦ elim (first-decided c (length c.insns) (omega arith)) [
+    | inl all ↦ inl (record { ins = few; each = all })
+    | inr f ↦
+        let at = get_or (addresses_of c.insns) f.0 0 in
+        inr (record { code = 73; place = off + 16 + 2 * at }, inr (few, at, record { first = f.0; breaks = f.1; is_at = refl }, refl))
+  ]
+]
+
+pub code-decided : (b : List ℕ) → AreBytes b → IsFramed b → (names : Names) (off : ℕ) → ((c : Code) × CodeStands (NameIsAt names) b off c) ⊎ (((e : Fault) × CodeBreaks (NameIsAt names) b off e) ⊎ ((e : Fault) × CodeOverruns (NameIsAt names) b off e))
+code-decided b are framed names off = elim (body-decided b are framed names off) [
+  | inr f ↦ inr (inl f)
+  | inl x ↦ elim (registers-decided off x.0) [
+    | inl h ↦ inl (x.0, body_code (NameIsAt names) b off x.0 h x.1)
+    | inr f ↦ inr (inr (f.0, record { code = x.0; body = x.1; breaks = f.1 }))
+  ]
+]

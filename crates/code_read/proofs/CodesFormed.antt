@@ -1,0 +1,360 @@
+-- A code that stands in a file is well formed.
+use Rattle.std.proofs.Common.{◌≡◌, ◌≢◌, ℕ, ℤ, zero, suc, pos, negsuc, ◌+ℤ◌, ◌+◌, ◌-◌, ◌*◌, ◌/◌, ◌<◌, ◌≤◌, inl, inr, Option, Some, None, List, [], ◌∷◌, length, drop, map, get_or, refl, sym, ap, ◌∙◌, subst, arith, length-take, length-drop, false}
+use Rattle.std.specs.Prelude.{IfSome, IfNone}
+use Rattle.std.specs.List.{AllByRecursion}
+use Rattle.std.proofs.lemmas.Bool.{cases_lt}
+use Rattle.std.proofs.lemmas.Bool.Decides.{nat_tests}
+use Rattle.std.proofs.lemmas.Int.{ints}
+use Rattle.std.proofs.lemmas.List.{length-map}
+use Rattle.base_bytes.specs.Fields.{AreBytes, u16_at}
+use Rattle.base_bytes.specs.Grammar.{Each}
+use Rattle.base_bytes.proofs.FieldBounds.{u32_at-fits, drop-AreBytes}
+use Rattle.dex_container.specs.Frame.{IsFramed}
+use Rattle.dex_container.specs.Where.{slice}
+use Rattle.dex_insn.specs.Fields.{int_at}
+use Rattle.dex_insn.specs.Raw as raw
+use Rattle.dex_insn.specs.Raw.{Raw, is_payload, units}
+use Rattle.dex_insn.specs.RawInsns.{InsnStands}
+use Rattle.dex_insn.proofs.Fits.{stands_fits}
+use Rattle.dex_insn.proofs.Laws.{stands-whole}
+use Rattle.program_types.specs.Content.{Name, Catch, Insn, Try, Code}
+use Rattle.program_types.specs.Formed.{AreAlike, IsSwitch, insn_at, try_at, insn_payload, insn_wants, insn_reach, insn_branch, insn_short_branch, insn_targets, RefersToPayload, IsTarget, PayloadHolds, TryFormed, RegistersHold, IsFormed}
+use Rattle.program_types.specs.Operands.{IsOperand}
+use Rattle.program_types.specs.declared.payload.Payload.{Payload}
+use Rattle.tables_rows.specs.Stands.{NameStands}
+use Rattle.code_insns.specs.Places.{place, count_below, Rises}
+use Rattle.code_insns.specs.Walk.{Run, starts, raw_at, address}
+use Rattle.code_insns.specs.Symbols.{name_in}
+use Rattle.code_insns.specs.Payloads.{payload_of, wants, reach, Uses}
+use Rattle.code_insns.specs.Insns.{branch, short_branch, targets, Lands, IsBase, SpellsInsns}
+use Rattle.code_insns.proofs.PlaceLaws.{place-there, position-there}
+use Rattle.code_insns.proofs.Runs.{run-at, length-starts, table-of, run-few}
+use Rattle.code_insns.proofs.SaidRegisters.{said}
+use Rattle.code_insns.proofs.Saying.{wants-says, reach-says, wants-plain, switch-no_branch, switch-no_short}
+use Rattle.code_read.specs.Item.{insns_size, tries_of, insns_bytes, items_of, list_begin, units_end, try_start, try_count}
+use Rattle.code_read.specs.Handlers.{Handler, catches_of, SpellsPlace, SpellsCatch, SpellsCatchAll, SpellsHandler, SpellsHandlers, handler_at}
+use Rattle.code_read.specs.Tries.{SpellsTries, handler_of}
+use Rattle.code_read.specs.Code.{SpellsBody, CodeStands}
+use Rattle.code_read.proofs.FaultLaws.{units-even}
+use Rattle.code_read.proofs.ItemLaws.{begins_late}
+use Rattle.code_read.proofs.NamesHaveRows.{at-offset}
+use Rattle.code_read.proofs.SaidLaws.{kind-said, Leads, branch-said, short-said, AllLed, targets-said, raw-bytes, operand-said}
+use Rattle.code_insns.proofs.PlainLaws.{weaker}
+use Rattle.base_bytes.proofs.ListFacts.{some_inj, take_bytes}
+
+pub all-weaker : {A : Type 0} (P Q : A → Type 0) (xs : List A) → ((x : A) → P x → Q x) → AllByRecursion P xs → AllByRecursion Q xs
+all-weaker P Q [] f h = tt
+all-weaker P Q (x ∷ xs) f h = (f x h.0, all-weaker P Q xs f h.1)
+
+-- ---- instructions
+
+run-some : (us : List ℕ) (rs : List Raw) (e : ℕ) → Run us 0 rs e → 0 < e → 0 < length rs
+run-some us [] e h l = omega (arith, h, l)
+run-some us (r ∷ rs) e h l = omega arith
+
+plain-none : (r : Raw) → is_payload r ≡ false → payload_of r ≡ None
+unfolding is_payload payload_of
+plain-none (raw.Packed first offsets) e = absurd cc
+plain-none (raw.Sparse keys offsets) e = absurd cc
+plain-none (raw.Data width bytes) e = absurd cc
+plain-none _ e = refl
+
+module _ (N : ℕ → Name → Type 0) (us : List ℕ) (rs : List Raw) (is : List Insn) (s : SpellsInsns N us rs is) where
+  -- of an instruction
+  pub kind-at : (k : ℕ) → k < length rs → payload_of (raw_at rs k) ≡ insn_payload (insn_at is k)
+  kind-at k l = let x = s.each k l in said (λ i. payload_of (raw_at rs k) ≡ insn_payload i) _ (insn_at is k) (kind-said (place (starts rs) x.base) (name_in (insn_at is k)) (raw_at rs k)) x.says.symbol
+
+  wants-at : (k : ℕ) → k < length rs → wants (raw_at rs k) ≡ insn_wants (insn_at is k)
+  wants-at k l = let x = s.each k l in wants-says (place (starts rs) x.base) (name_in (insn_at is k)) (raw_at rs k) (insn_at is k) x.says.symbol
+
+  -- where an offset leads is the number of an instruction
+  there : (base n : ℕ) (z : ℤ) → place (starts rs) base z ≡ Some n → n < length is
+  there base n z e =
+      let p = (place-there (starts rs) base z n e).0 in
+      let a = length-starts 0 (map units rs) in let b = length-map rs units in let c = s.count in
+      omega (arith, p, a, b, c)
+
+  target : (base n : ℕ) (z : ℤ) → place (starts rs) base z ≡ Some n → Lands rs base z → IsTarget is n
+  target base n z e l =
+      let f = l.leads in
+      let same : l.number ≡ n = cc in
+      let i = there base n z e in
+      let c = s.count in
+      record {
+        inside = i;
+        plain = sym (kind-at n (omega (arith, i, c))) ∙ plain-none (raw_at rs n) (subst (λ (m : ℕ). is_payload (raw_at rs m) ≡ false) same l.plain);
+      }
+
+  -- from where a branch's offset counts
+  base-of : (k base : ℕ) → IsBase rs k base → (IsSwitch (payload_of (raw_at rs k)) → base ≡ address rs k) → base ≡ address rs k
+  base-of k base (inl b) f = f b.0
+  base-of k base (inr b) f = b.1
+
+  lands-at : (k : ℕ) → k < length rs → IfSome (insn_branch (insn_at is k)) (IsTarget is)
+  lands-at k l =
+      let x = s.each k l in
+      let T = place (starts rs) x.base in
+      let Q : ℤ → Type 0 = Lands rs x.base in
+      let q : IfSome (branch (raw_at rs k)) (Lands rs x.base) = by x.base x.counts in
+      weaker (Leads T Q) (IsTarget is) (insn_branch (insn_at is k)) (λ n h. target x.base n h.0 h.1 h.2)
+      (said (λ i. IfSome (insn_branch i) (Leads T Q)) _ (insn_at is k) (branch-said T (name_in (insn_at is k)) (raw_at rs k) Q q) x.says.symbol)
+    where
+      by : (base : ℕ) → IsBase rs k base → IfSome (branch (raw_at rs k)) (Lands rs base)
+      by base (inl b) = switch-no_branch (raw_at rs k) (Lands rs base) b.0
+      by base (inr b) = subst (λ (a : ℕ). IfSome (branch (raw_at rs k)) (Lands rs a)) (sym b.1) (s.branches k l).lands
+
+  -- an offset other than 0 leads elsewhere
+  abbrev Moves : ℕ → ℕ → ℤ → Type 0
+  Moves k base z = (z ≢ pos 0) × (base ≡ address rs k)
+
+  elsewhere : (k base n : ℕ) (z : ℤ) → place (starts rs) base z ≡ Some n → Moves k base z → n ≢ k
+  elsewhere k base n z e m same =
+      let p = (place-there (starts rs) base z n e).1 in
+      let a : get_or (starts rs) n 0 ≡ base = ap (λ (j : ℕ). get_or (starts rs) j 0) same ∙ sym m.1 in
+      let q : pos base ≡ (pos base +ℤ z) = ap (λ (j : ℕ). pos j) (sym a) ∙ p in
+      m.0 (omega (arith, ints, q))
+
+  moves-at : (k : ℕ) → k < length rs → IfSome (insn_short_branch (insn_at is k)) (λ to. to ≢ k)
+  moves-at k l =
+      let x = s.each k l in
+      let T = place (starts rs) x.base in
+      let Q : ℤ → Type 0 = Moves k x.base in
+      let q : IfSome (short_branch (raw_at rs k)) (Moves k x.base) = by x.base x.counts in
+      weaker (Leads T Q) (λ to. to ≢ k) (insn_short_branch (insn_at is k)) (λ n h. elsewhere k x.base n h.0 h.1 h.2)
+      (said (λ i. IfSome (insn_short_branch i) (Leads T Q)) _ (insn_at is k) (short-said T (name_in (insn_at is k)) (raw_at rs k) Q q) x.says.symbol)
+    where
+      by : (base : ℕ) → IsBase rs k base → IfSome (short_branch (raw_at rs k)) (Moves k base)
+      by base (inl b) = switch-no_short (raw_at rs k) (Moves k base) b.0
+      by base (inr b) = weaker (λ z. z ≢ pos 0) (Moves k base) (short_branch (raw_at rs k)) (λ z h. (h, b.1)) (s.branches k l).moves
+
+  pub no-targets : (r : Raw) → (IsSwitch (payload_of r) → ⊥) → targets r ≡ []
+  unfolding payload_of targets
+  no-targets (raw.Packed first offsets) h = absurd (h tt)
+  no-targets (raw.Sparse keys offsets) h = absurd (h tt)
+  no-targets _ h = refl
+
+  targets-at : (k : ℕ) → k < length rs → AllByRecursion (IsTarget is) (insn_targets (insn_at is k))
+  targets-at k l =
+      let x = s.each k l in
+      let T = place (starts rs) x.base in
+      let led : AllLed T (targets (raw_at rs k)) (length (targets (raw_at rs k)) / 4) (insn_targets (insn_at is k)) =
+      said (λ i. AllLed T (targets (raw_at rs k)) (length (targets (raw_at rs k)) / 4) (insn_targets i)) _ (insn_at is k) (targets-said T (name_in (insn_at is k)) (raw_at rs k)) x.says.symbol in
+      all-weaker _ (IsTarget is) (insn_targets (insn_at is k)) (λ n h. target x.base n (int_at (targets (raw_at rs k)) h.0) h.2 (land x.base x.counts h.0 h.1)) led
+    where
+      land : (base : ℕ) → IsBase rs k base → (y : ℕ) → y < length (targets (raw_at rs k)) / 4 → Lands rs base (int_at (targets (raw_at rs k)) y)
+      land base (inl b) y m = subst (λ (a : ℕ). Lands rs a (int_at (targets (raw_at rs k)) y)) (sym b.3) (s.targets k l b.0 b.1 b.2 y m)
+      land base (inr b) y m = absurd (let e = ap length (no-targets (raw_at rs k) b.0) in omega (arith, e, m))
+
+  -- ---- what refers to payloads
+
+  reach-at : (j : ℕ) (p : Option Payload) → j < length rs → AreAlike (wants (raw_at rs j)) p → place (starts rs) (address rs j) (reach (raw_at rs j)) ≡ Some (insn_reach (insn_at is j))
+  reach-at j p l h =
+      let x = s.each j l in
+      let r = reach-says (place (starts rs) x.base) (name_in (insn_at is j)) (raw_at rs j) (insn_at is j) p h x.says.symbol in
+      subst (λ (b : ℕ). place (starts rs) b (reach (raw_at rs j)) ≡ Some (insn_reach (insn_at is j))) (own x.base x.counts) r
+    where
+      own : (base : ℕ) → IsBase rs j base → base ≡ address rs j
+      own base (inl b) = absurd (wants-plain (insn_at is j) p (subst (λ (q : Option Payload). AreAlike q p) (wants-at j l) h) (subst (λ (q : Option Payload). IsSwitch q) (kind-at j l) b.0))
+      own base (inr b) = b.1
+
+  refers-of : (j k : ℕ) → Uses rs j k → RefersToPayload is j k
+  refers-of j k u =
+      let c = s.count in let a = u.there in let b = u.payload in
+      record {
+        there = omega (arith, a, c);
+        payload = omega (arith, b, c);
+        kind = subst (λ (q : Option Payload). AreAlike q (insn_payload (insn_at is k))) (wants-at j a) (subst (λ (q : Option Payload). AreAlike (wants (raw_at rs j)) q) (kind-at k b) u.kind);
+        leads = some_inj (insn_reach (insn_at is j)) k (sym (reach-at j (payload_of (raw_at rs k)) a u.kind) ∙ u.leads);
+      }
+
+  pub uses-of : (j k : ℕ) → RefersToPayload is j k → Uses rs j k
+  uses-of j k f =
+      let c = s.count in let a = f.there in let b = f.payload in
+      let i : j < length rs = omega (arith, a, c) in
+      let m : k < length rs = omega (arith, b, c) in
+      let alike : AreAlike (wants (raw_at rs j)) (insn_payload (insn_at is k)) = subst (λ (q : Option Payload). AreAlike q (insn_payload (insn_at is k))) (sym (wants-at j i)) f.kind in
+      record {
+        there = i;
+        payload = m;
+        kind = subst (λ (q : Option Payload). AreAlike (wants (raw_at rs j)) q) (sym (kind-at k m)) alike;
+        leads = reach-at j (insn_payload (insn_at is k)) i alike ∙ ap (λ (n : ℕ). Some n) f.leads;
+      }
+
+  payload-at : (k : ℕ) → k < length rs → PayloadHolds is k
+  payload-at k l =
+      let h = s.uses k l in
+      record {
+        refers = λ w.
+            let r = h.refers (subst (λ (q : Option Payload). AreAlike q q) (sym (wants-at k l)) w) in
+            let f = refers-of k r.0 r.1 in
+            subst (λ (n : ℕ). RefersToPayload is k n) (sym f.leads) f;
+        used = λ w.
+            let u = h.used (subst (λ (q : Option Payload). IsSwitch q) (sym (kind-at k l)) w) in
+            (u.by, refers-of u.by k u.uses, λ i f. u.only i (uses-of i k f));
+      }
+
+  -- ---- operands
+
+  operand-at : AreBytes us → length us ≤ 4294967295 → (k : ℕ) → k < length rs → IsOperand (length is) (insn_at is k)
+  unfolding raw_at
+  operand-at are short k l =
+      let x = s.each k l in
+      let st : InsnStands us (address rs k) (raw_at rs k) = run-at us 0 rs (length us / 2) k (raw.I10x 0) s.walk.run l in
+      let T = place (starts rs) x.base in
+      said (IsOperand (length is)) _ (insn_at is k)
+      (operand-said N T (name_in (insn_at is k)) (length is) (raw_at rs k) (λ z n e. there x.base n z e) (stands_fits us (address rs k) (raw_at rs k) are st)
+      (raw-bytes (drop (2 * address rs k) us) (raw_at rs k) (drop-AreBytes us (2 * address rs k) are) (omega (arith, short, length-drop (2 * address rs k) us)) st.spelled) x.says.named) x.says.symbol
+
+-- ---- tries
+
+pub count-most : (ss : List ℕ) (x n : ℕ) → ((k : ℕ) → n ≤ k → k < length ss → x ≤ get_or ss k 0) → count_below x ss ≤ n
+unfolding count_below
+count-most [] x n h = omega arith
+count-most (s ∷ ss) x zero h =
+    let r = count-most ss x zero (λ k l m. h (suc k) (omega arith) (omega (arith, m))) in
+    let q : x ≤ s = h zero (omega arith) (omega arith) in
+    grind (arith, nat_tests)
+count-most (s ∷ ss) x (suc n) h =
+    let r = count-most ss x n (λ k l m. h (suc k) (omega (arith, l)) (omega (arith, m))) in
+    elim (cases_lt s x) [ inl a ↦ grind (arith, nat_tests) | inr a ↦ grind (arith, nat_tests) ]
+
+count-least : (ss : List ℕ) (x n : ℕ) → n ≤ length ss → ((k : ℕ) → k < n → get_or ss k 0 < x) → n ≤ count_below x ss
+unfolding count_below
+count-least ss x zero l h = omega arith
+count-least [] x (suc n) l h = omega (arith, l)
+count-least (s ∷ ss) x (suc n) l h =
+    let r = count-least ss x n (omega (arith, l)) (λ k m. h (suc k) (omega (arith, m))) in
+    let q : s < x = h zero (omega arith) in
+    grind (arith, nat_tests)
+
+-- what begins at an address is not below it, and nothing drop-AreBytes it is
+pub not-below : (ss : List ℕ) (n k x : ℕ) → Rises ss → n ≤ k → k < length ss → x ≤ get_or ss n 0 → x ≤ get_or ss k 0
+not-below ss n k x r l m h = elim (cases_lt n k) [
+  | inl a ↦ let q = r.each n k a m in omega (arith, q, h)
+  | inr a ↦ let e : n ≡ k = omega (arith, l, a) in subst (λ (j : ℕ). x ≤ get_or ss j 0) e h
+]
+
+up-to : (ss : List ℕ) (n k x : ℕ) → Rises ss → k < n + 1 → n < length ss → get_or ss n 0 < x → get_or ss k 0 < x
+up-to ss n k x r l m h = elim (cases_lt k n) [
+  | inl a ↦ let q = r.each k n a m in omega (arith, q, h)
+  | inr a ↦ let e : n ≡ k = omega (arith, l, a) in subst (λ (j : ℕ). get_or ss j 0 < x) e h
+]
+
+-- what a handler of a code of so many instructions is like
+record HandlerFormed (count : ℕ) (h : Handler) : Type 0 where
+  places : AllByRecursion (λ c. c.at < count) h.catches
+  last : IfSome h.all (λ k. k < count)
+  handled : IfNone h.all (h.catches ≢ [])
+
+module _ (N : ℕ → Name → Type 0) (ss : List ℕ) where
+  place-below : (bytes : List ℕ) (n : ℕ) → SpellsPlace N ss bytes n → n < length ss
+  place-below bytes n s = (position-there ss s.raw n s.means).0
+
+  catches-below : (bytes : List ℕ) (cs : List Catch) → Each (SpellsCatch N ss) bytes cs → AllByRecursion (λ c. c.at < length ss) cs
+  catches-below bytes [] s = tt
+  catches-below bytes (c ∷ cs) s = (place-below s.3.back c.at s.3.second, catches-below s.1 cs s.4)
+
+  all-below : (z : ℤ) (bytes : List ℕ) (o : Option ℕ) → SpellsCatchAll N ss z bytes o → IfSome o (λ k. k < length ss)
+  all-below z bytes None s = tt
+  all-below z bytes (Some n) s = place-below bytes n s.1
+
+  some-caught : (z : ℤ) (bytes : List ℕ) (o : Option ℕ) (cs : List Catch) → length cs ≡ catches_of z → SpellsCatchAll N ss z bytes o → IfNone o (cs ≢ [])
+  some-caught (pos zero) bytes None cs e s = absurd (s.0 tt)
+  some-caught (pos (suc n)) bytes None cs e s = λ f. let l = ap length f in omega (arith, l, e)
+  some-caught (negsuc n) bytes None cs e s = absurd (s.0 tt)
+  some-caught z bytes (Some n) cs e s = tt
+
+  handler-formed : (front : List ℕ) (h : Handler) → SpellsHandler N ss front h → HandlerFormed (length ss) h
+  handler-formed front h s =
+      let z = s.raw.0 in
+      let p = s.spelled.second in
+      let made : HandlerFormed (length ss) (record { catches = s.raw.1.0; all = s.raw.1.1 }) = record {
+        places = catches-below p.front s.raw.1.0 p.first.1;
+        last = all-below z p.back s.raw.1.1 p.second;
+        handled = some-caught z p.back s.raw.1.1 s.raw.1.0 p.first.0 p.second;
+      } in
+      subst (HandlerFormed (length ss)) (λ i. record { catches = (s.means i).0; all = (s.means i).1 }) made
+
+  handlers-formed : (list : List ℕ) (n : ℕ) (hs : List (ℕ × Handler)) → SpellsHandlers N ss n list hs → (off : ℕ) (h : Handler) → handler_at hs off ≡ Some h → HandlerFormed (length ss) h
+  unfolding handler_at
+  handlers-formed list zero hs s off h e = absurd (let f : handler_at [] off ≡ Some h = subst (λ (l : List (ℕ × Handler)). handler_at l off ≡ Some h) s.1 e in cc)
+  handlers-formed list (suc n) hs s off h e = at-offset (SpellsHandler N ss) (HandlerFormed (length ss)) handler-formed (length s.front) s.back hs s.each off h e
+
+  module _ (rises : Rises ss) (size n : ℕ) (items list : List ℕ) (ts : List Try) (s : SpellsTries N ss size n items list ts) where
+    pub from-at : (i : ℕ) → i < n → ((try_at ts i).from < length ss) × (get_or ss (try_at ts i).from 0 ≡ try_start items i)
+    from-at i l = position-there ss (try_start items i) (try_at ts i).from (s.each i l).from
+
+    try-formed : (i : ℕ) → i < n → TryFormed (length ss) ts i
+    try-formed i l =
+        let x = s.each i l in
+        let t = s.hold i l in
+        let f = from-at i l in
+        let h = handlers-formed list n s.handlers s.spelled _ (handler_of (try_at ts i)) x.handler in
+        let inside = f.0 in let begins = f.1 in let covers = t.some in
+        let below : get_or ss (try_at ts i).from 0 < try_start items i + try_count items i = omega (arith, begins, covers) in
+        let to = x.to in
+        let some : (try_at ts i).from + 1 ≤ count_below (try_start items i + try_count items i) ss =
+        count-least ss (try_start items i + try_count items i) ((try_at ts i).from + 1) (omega (arith, inside)) (λ k m. up-to ss (try_at ts i).from k _ rises m inside below) in
+        let most : count_below (try_start items i + try_count items i) ss ≤ length ss = count-most ss (try_start items i + try_count items i) (length ss) (λ k a b. absurd (omega (arith, a, b))) in
+        record {
+          some = omega (arith, to, some);
+          within = omega (arith, to, most);
+          after = λ j e. later j e (omega (arith, l, e)) inside begins (t.after j e);
+          places = h.places;
+          last = h.last;
+          handled = h.handled;
+        }
+      where
+        later : (j : ℕ) → j + 1 ≡ i → j < n → (try_at ts i).from < length ss → get_or ss (try_at ts i).from 0 ≡ try_start items i → try_start items j + try_count items j ≤ try_start items i → (try_at ts j).to ≤ (try_at ts i).from
+        later j e m inside begins ends =
+            let to = (s.each j m).to in
+            let most = count-most ss (try_start items j + try_count items j) (try_at ts i).from (λ k a b. not-below ss (try_at ts i).from k _ rises a b (omega (arith, begins, ends))) in
+            omega (arith, to, most)
+
+-- ---- a code
+
+pub u16-fits : (b : List ℕ) (p : ℕ) → AreBytes b → u16_at b p < 65536
+unfolding u16_at
+u16-fits b p are = let d = drop-AreBytes b p are in omega (arith, d 0, d 1)
+
+pub spelled-formed : (N : ℕ → Name → Type 0) (bytes : List ℕ) (c : Code) → AreBytes bytes → length bytes ≤ 4294967295 → SpellsBody N bytes c → RegistersHold c → IsFormed c
+spelled-formed N bytes c are short s named =
+    let us = insns_bytes bytes in
+    let even = units-even bytes s.whole in
+    let late = begins_late bytes in let fixed = s.whole.fixed in
+    let size : 16 + 2 * insns_size bytes ≤ 4294967295 = omega (arith, late, fixed, short) in
+    let units-are : AreBytes (insns_bytes bytes) = take_bytes (units_end bytes - 16) (drop 16 bytes) (drop-AreBytes bytes 16 are) in
+    let run = s.insns.walk.run in
+    let count = s.insns.count in
+    let few = run-few us 0 s.raws (length us / 2) run in
+    let positive = s.some in
+    let some = run-some us s.raws (length us / 2) run (omega (arith, even, positive)) in
+    let small : length us ≤ 8589934590 = omega (arith, even, size) in
+    let table = table-of us (starts s.raws) s.raws small run refl in
+    let same : length (starts s.raws) ≡ length c.insns = table.count ∙ sym count in
+    let tries = s.tries.count in
+    record {
+      some = omega (arith, count, some);
+      few = omega (arith, few, count, even, size);
+      operands = λ k l. operand-at N us s.raws c.insns s.insns units-are (omega (arith, even, size)) k (omega (arith, l, count));
+      targets = λ k l. record {
+        lands = lands-at N us s.raws c.insns s.insns k (omega (arith, l, count));
+        moves = moves-at N us s.raws c.insns s.insns k (omega (arith, l, count));
+        all = targets-at N us s.raws c.insns s.insns k (omega (arith, l, count));
+      };
+      payloads = λ k l. payload-at N us s.raws c.insns s.insns k (omega (arith, l, count));
+      tries = λ i l. subst (λ (m : ℕ). TryFormed m c.tries i) same
+          (try-formed N (starts s.raws) table.rises (insns_size bytes) (tries_of bytes) (items_of bytes) (drop (list_begin bytes) bytes) c.tries s.tries i (omega (arith, l, tries)));
+      registers = subst (λ (n : ℕ). n < 65536) (sym s.registers) (u16-fits bytes 0 are);
+      ins = subst (λ (n : ℕ). n < 65536) (sym s.ins) (u16-fits bytes 2 are);
+      outs = subst (λ (n : ℕ). n < 65536) (sym s.outs) (u16-fits bytes 4 are);
+      named = named;
+    }
+
+pub standing-formed : (b : List ℕ) → AreBytes b → IsFramed b → (off : ℕ) (c : Code) → CodeStands (NameStands b) b off c → IsFormed c
+unfolding slice
+standing-formed b are framed off c a =
+    let whole = framed.header.file_size in
+    let fits = u32_at-fits b 32 are in
+    spelled-formed (NameStands b) (slice b off a.size) c (take_bytes a.size (drop off b) (drop-AreBytes b off are))
+    (omega (arith, whole, fits, length-take a.size (drop off b), length-drop off b)) a.spelled.body a.spelled.named

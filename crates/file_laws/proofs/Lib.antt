@@ -1,5 +1,0 @@
-pub mod DataDecided
-pub mod ClassesDecided
-pub mod FileDecided
-pub mod WellLaws
-pub mod RangeLaws

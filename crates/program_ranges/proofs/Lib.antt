@@ -1,2 +1,0 @@
-pub mod AllLaws
-mod PartRanges
