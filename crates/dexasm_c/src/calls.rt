@@ -11,7 +11,7 @@ use std::alloc::Global;
 // No fault.
 const NONE: CFault = CFault { code: 0, place: 0 };
 
-// Want of memory.
+// Out of memory.
 const MEMORY: CFault = CFault {
     code: 255,
     place: 0,
@@ -65,7 +65,7 @@ pub(crate) fn put(made: &[u8], out: &mut [u8], needed: &mut usize) -> Ending
     Ending::Answered
 }
 
-// The fault for C. Want of memory is no refusal of the bytes.
+// The fault for C. Out of memory is no refusal of the bytes.
 fn tell(refused: Fault, fault: &mut CFault) -> Ending
     ensures { Tells result refused fault.new }
 {

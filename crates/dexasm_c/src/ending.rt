@@ -9,7 +9,7 @@ pub enum Ending {
     Answered,
     /// The bytes are refused.
     Refused,
-    /// Want of memory.
+    /// Out of memory.
     Memory,
     /// The caller's memory is too small for the answer.
     TooSmall,

@@ -1,6 +1,8 @@
 // The answer to each job.
 ghost use Rattle.std.specs.Prelude.{◌≢◌, IfOk, IfErr, false, true};
 ghost use Rattle.base_bytes.specs.Fault.{memory};
+ghost use Rattle.program_types.specs.View.{program};
+ghost use Rattle.listing_parse.specs.Text.{IsListing, ListingBreaks};
 ghost use Rattle.dexasm_jobs.specs.Answers.{Answer, Refusal};
 
 use bumpalo::Bump;
@@ -11,6 +13,7 @@ use file_read::{check, read};
 use file_write::{strip, write};
 use listing_parse::parse;
 use listing_print::print;
+use program_types::Program;
 use std::alloc::Global;
 
 /// The whole answer to a job on these bytes, or the fault of the call that refused them.
@@ -39,6 +42,27 @@ pub fn answer(alloc: Global, job: Job, given: &[u8]) -> Result<Vec<u8>, Fault>
         Job::Assemble { align: false } => assemble(alloc, given),
         Job::Assemble { align: true } => assemble_aligned(alloc, given),
         Job::Strip => strip(alloc, given),
+    }
+}
+
+/// The same answer to bytes that are given away: a listing is let go before its file is written, so that both are never held.
+///
+/// ```
+/// use dexasm_job::Job;
+/// use dexasm_jobs::answer_owned;
+///
+/// let listing = Vec::from_slice(alloc, b"dex 035 listing 2\n")?;
+/// let file = answer_owned(alloc, Job::Assemble { align: false }, listing)?;
+/// assert_eq!(rt; file.len(), 140);
+/// ```
+pub fn answer_owned(alloc: Global, job: Job, given: Vec<u8>) -> Result<Vec<u8>, Fault>
+    ensures answered { IfOk result (λ made. Answer job given.items made.items) }
+    ensures refused { IfErr result (λ fault. fault ≢ memory → Refusal job given.items fault) }
+{
+    match job {
+        Job::Assemble { align: false } => assemble_owned(alloc, given),
+        Job::Assemble { align: true } => assemble_owned_aligned(alloc, given),
+        _ => answer(alloc, job, &given),
     }
 }
 
@@ -78,6 +102,35 @@ fn assemble_aligned(alloc: Global, given: &[u8]) -> Result<Vec<u8>, Fault>
 {
     let arena = Bump::new(alloc);
     let program = parse(alloc, &arena, given)?;
+    let aligned = align_all(alloc, &arena, &program)?;
+    write(alloc, &aligned)
+}
+
+// The program of a listing, which is let go.
+fn parse_owned<'a>(alloc: Global, arena: &'a Bump, given: Vec<u8>) -> Result<Program<'a>, Fault>
+    ensures ok { IfOk result (λ p. IsListing given.items (program p)) }
+    ensures err { IfErr result (λ e. e ≢ memory → ListingBreaks given.items e.code e.place) }
+{
+    parse(alloc, arena, &given)
+}
+
+// The file of the listed program, as `assemble` answers it.
+fn assemble_owned(alloc: Global, given: Vec<u8>) -> Result<Vec<u8>, Fault>
+    ensures answered { IfOk result (λ made. Answer (Job.Assemble false) given.items made.items) }
+    ensures refused { IfErr result (λ fault. fault ≢ memory → Refusal (Job.Assemble false) given.items fault) }
+{
+    let arena = Bump::new(alloc);
+    let program = parse_owned(alloc, &arena, given)?;
+    write(alloc, &program)
+}
+
+// The file of the listed program with each code aligned, as `assemble_aligned` answers it.
+fn assemble_owned_aligned(alloc: Global, given: Vec<u8>) -> Result<Vec<u8>, Fault>
+    ensures answered { IfOk result (λ made. Answer (Job.Assemble true) given.items made.items) }
+    ensures refused { IfErr result (λ fault. fault ≢ memory → Refusal (Job.Assemble true) given.items fault) }
+{
+    let arena = Bump::new(alloc);
+    let program = parse_owned(alloc, &arena, given)?;
     let aligned = align_all(alloc, &arena, &program)?;
     write(alloc, &aligned)
 }

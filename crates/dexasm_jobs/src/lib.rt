@@ -12,5 +12,5 @@ mod answers;
 // What holds of answers.
 mod laws;
 
-pub use answers::answer;
+pub use answers::{answer, answer_owned};
 pub use laws::{listed_and_assembled_is_stripped, one_answer, one_outcome};

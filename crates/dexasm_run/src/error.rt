@@ -17,7 +17,7 @@ pub enum RunFault {
     Input,
     /// The sink failed.
     Output,
-    /// Want of memory.
+    /// Out of memory.
     Memory,
 }
 

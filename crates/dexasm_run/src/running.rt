@@ -7,7 +7,7 @@ use crate::ends::{Sink, Source};
 use crate::error::RunFault;
 use dex_base::Fault;
 use dexasm_job::Job;
-use dexasm_jobs::answer;
+use dexasm_jobs::answer_owned;
 use std::alloc::{AllocError, Global};
 
 /// How many bytes one `take` may give.
@@ -51,14 +51,14 @@ pub fn run<R: Source, W: Sink>(
         (Keeps (W.contents output.old) (W.contents output.new)) }
 {
     let given = read_all(alloc, input)?;
-    let made = match answer(alloc, job, given.as_slice()) {
+    let made = match answer_owned(alloc, job, given) {
         Ok(made) => made,
         Err(fault) => return Err(refusal(fault)),
     };
     write_all(made.as_slice(), output)
 }
 
-// Want of memory is no refusal of the bytes.
+// Out of memory is no refusal of the bytes.
 fn refusal(fault: Fault) -> RunFault
     ensures memory { fault.code ≡ 255 → result ≡ RunFault.Memory }
     ensures refused { fault.code ≢ 255 → result ≡ RunFault.Refused fault }
