@@ -10,30 +10,35 @@ use Rattle.std.specs.Borrow.{Bor}
 abbrev pub memory : Fault
 memory = record { code = 255; place = 0 }
 
--- the name of a number that has none, and its sentence
+-- the name of a number that has none
 abbrev pub unknown : List ℕ
 unknown = codes "Unknown"
 
+-- the sentence of a number that has none
 abbrev pub no_fault : List ℕ
 no_fault = codes "no fault has this number"
 
--- the columns of a row
+-- the number in a row
 abbrev pub row_number : Row (Bor (List ℕ)) → ℕ
 row_number row = row.number
 
+-- the name in a row
 abbrev pub row_name : Row (Bor (List ℕ)) → List ℕ
 row_name row = row.name.now
 
+-- the sentence in a row
 abbrev pub row_sentence : Row (Bor (List ℕ)) → List ℕ
 row_sentence row = row.says.now
 
--- the columns of the table
+-- all numbers of the table
 unfoldable pub numbers : List ℕ
 numbers = map (λ row. row.number) FAULTS
 
+-- all names of the table
 unfoldable pub names : List (List ℕ)
 names = map (λ row. row.name.now) FAULTS
 
+-- all sentences of the table
 unfoldable pub sentences : List (List ℕ)
 sentences = map (λ row. row.says.now) FAULTS
 

@@ -190,7 +190,7 @@ pub struct Fault {
 }
 
 impl Fault {
-    /// Want of memory, which is answered only where a growth was refused.
+    /// Out of memory, which is answered only where a growth was refused.
     pub const MEMORY: Fault = Fault {
         code: 255,
         place: 0,

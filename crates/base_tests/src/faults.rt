@@ -55,7 +55,7 @@ fn the_greatest_number_has_no_name() -> Result<(), Fail> {
 }
 
 #[test]
-fn a_failed_allocation_is_want_of_memory() -> Result<(), Fail> {
+fn a_failed_allocation_is_out_of_memory() -> Result<(), Fail> {
     let fault = Fault::from(AllocError);
     is_so(Ok(fault.code == 255 && fault.place == 0))
 }

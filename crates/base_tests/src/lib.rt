@@ -1,4 +1,6 @@
 //! Tests of dex_base and dex_insn: bytes in, values out, and back.
+//!
+//! docs/MAP.md says where this crate stands among the others.
 #![tactic(auto)]
 
 // dex_base

@@ -1,6 +1,8 @@
 //! The work that `bench/*/run` time beside plain Rust: `bench NAME WORD ..`, where NAME is `codecs`, `insns`, `needed`,
 //! `tables`, `code` or `listing`, and the words are those of the file of that name. `bench all` does each once, on little;
 //! `tables` and `code` read the file on standard input.
+//!
+//! docs/MAP.md says where this crate stands among the others.
 #![tactic(auto)]
 
 mod code;

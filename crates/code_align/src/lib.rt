@@ -3,6 +3,8 @@
 //! ```text
 //! let code = align(alloc, &arena, &code)?; // a nop before each payload that would stand at an odd address
 //! ```
+//!
+//! docs/MAP.md says where this crate stands among the others.
 #![tactic(auto)]
 
 mod aligning;

@@ -3,6 +3,8 @@
 //! ```text
 //! fits(alloc, &ranks, &code)?; // 82 to 89 where an index, an offset or a count is too large for its field
 //! ```
+//!
+//! docs/MAP.md says where this crate stands among the others.
 #![tactic(auto)]
 
 mod fitting;

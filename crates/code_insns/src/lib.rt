@@ -5,6 +5,8 @@
 //! let insns = read_insns(alloc, &arena, &tables, units, base, registers)?; // 28 fe: goto -2 is `I10t { op: 0x28, to: .. }`
 //! let n = number_at(&insns.starts, 7); // the number of the instruction whose address is 7
 //! ```
+//!
+//! docs/MAP.md says where this crate stands among the others.
 #![tactic(auto)]
 
 // From addresses to numbers of instructions.

@@ -187,7 +187,7 @@ fn list_of(alloc: Global, handlers: &IndexSet<Vec<u8>>) -> Result<Listed, Fault>
     Ok(Listed { bytes, places })
 }
 
-/// The handlers of a code, and where that of each try begins.
+/// A code's handlers, and where that of each try begins.
 #[derive(Drop)]
 pub struct Laid {
     pub bytes: Vec<u8>,

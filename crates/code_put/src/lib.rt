@@ -5,6 +5,8 @@
 //! let all = addresses(alloc, &code)?; // [0, 1, 3]: two instructions, of one and of two units
 //! put_code(&mut out, &ranks, &code)?; // appends the code item
 //! ```
+//!
+//! docs/MAP.md says where this crate stands among the others.
 #![tactic(auto)]
 
 // Where the instructions begin.

@@ -1,19 +1,21 @@
 //! Reading a code item.
 
-ghost use Rattle.std.specs.Prelude.{◌≡◌, ◌≢◌, ℕ, ◌≤◌, ◌<◌, ◌+◌, ◌*◌, ◌⊎◌, List, length, map, IfOk, IfErr, IfSome, IfNone, Some, None};
+ghost use Rattle.std.specs.Prelude.{◌≡◌, ◌≢◌, ℕ, ◌≤◌, ◌<◌, ◌+◌, ◌*◌, ◌%◌, ◌^◌, ◌⊎◌, IsTrue, length, map, IfOk, IfErr, IfSome, IfNone, Some, None};
 ghost use Rattle.base_bytes.specs.Fault.{memory};
-ghost use Rattle.base_bytes.specs.Grammar.{Takes};
 ghost use Rattle.program_types.specs.Content as content;
-ghost use Rattle.program_types.specs.View.{code};
+ghost use Rattle.program_types.specs.View.{code, insn};
 ghost use Rattle.tables_rows.specs.Names.{NameIsAt};
 ghost use Rattle.program_types.specs.Formed.{RegistersHold};
-ghost use Rattle.code_read.specs.Code.{SpellsBody, BodyStands, CodeStands};
+ghost use Rattle.code_insns.specs.Checking.{AreChecked};
+ghost use Rattle.code_insns.specs.InsnFaults.{InsnsBreak};
+ghost use Rattle.code_read.specs.Checking.{HoldsItem, HoldsBody};
+ghost use Rattle.code_read.specs.Code.{BodyStands, CodeStands};
 ghost use Rattle.code_read.specs.Faults.{ItemBreaks, CodeBreaks, RegistersBreak, CodeOverruns};
 
-use crate::item::item_of;
+use crate::item::{Item, item_of};
 use crate::tries::read_tries;
 use bumpalo::Bump;
-use code_insns::read_insns;
+use code_insns::{Insns, check_insns, read_insns};
 use dex_base::{Fault, fault};
 use dex_container::{Sections, bytes_from, section_of};
 use program_types::Code;
@@ -21,7 +23,7 @@ use std::alloc::Global;
 use tables_rows::Tables;
 
 /// The kind of the section of code items (TYPE_CODE_ITEM).
-pub(crate) const CODE_ITEMS: u16 = 0x2001;
+const CODE_ITEMS: u16 = 0x2001;
 
 /// A code as its item spells it, and what is wrong with its registers, if anything is.
 #[derive(Clone, Copy)]
@@ -32,7 +34,7 @@ pub struct Body<'a> {
 }
 
 /// What is wrong with the registers of the code at `off`, where the first instruction that names one past them is at this unit.
-pub(crate) fn register_fault(off: u32, registers: u16, ins: u16, past: Option<u32>) -> Option<Fault>
+fn register_fault(off: u32, registers: u16, ins: u16, past: Option<u32>) -> Option<Fault>
     ensures none { IfNone result ((ins ≤ registers) × (past ≡ None)) }
     ensures some { IfSome result (λ e. ((registers < ins) × (e ≡ record { code = 73; place = off }))
         ⊎ ((ins ≤ registers) × (at : ℕ) × (past ≡ Some at) × (e ≡ record { code = 73; place = off + 16 + 2 * at }))) }
@@ -46,18 +48,47 @@ pub(crate) fn register_fault(off: u32, registers: u16, ins: u16, past: Option<u3
     }
 }
 
-/// Reads the item at the front of these bytes, which go to the section's end.
+/// The instructions of an item: read into the arena, or only looked at, and then none are answered.
+#[inline(always)]
+fn insns_of<'a>(
+    alloc: Global,
+    arena: &'a Bump,
+    tables: &Tables<'a>,
+    item: &Item<'_>,
+    base: u64,
+    keep: bool,
+) -> Result<Insns<'a>, Fault>
+    requires even { length item.now.units.now % 2 ≡ 0 }
+    requires short { length item.now.units.now ≤ 8589934590 }
+    requires base { base < 2 ^ 40 }
+    ensures ok { IfOk result (λ i. (found : AreChecked (NameIsAt tables.now) item.now.units.now i.starts.items item.now.registers i.past)
+        × (IsTrue keep → map insn i.insns.now ≡ found.insns)) }
+    ensures err { IfErr result (λ e. e ≢ memory → InsnsBreak (NameIsAt tables.now) item.now.units.now base e) }
+{
+    if keep {
+        let read = read_insns(alloc, arena, tables, item.units, base, item.registers)?;
+        return Ok(read);
+    }
+    let found = check_insns(alloc, arena, tables, item.units, base, item.registers)?;
+    Ok(Insns {
+        insns: &[],
+        starts: found.starts,
+        past: found.past,
+    })
+}
+
+/// Reads the item at the front of these bytes, which go to the section's end. Its instructions are left out unless they are to be kept.
+#[inline(always)]
 fn read_item<'a>(
     alloc: Global,
     arena: &'a Bump,
     tables: &Tables<'a>,
     off: u32,
     bytes: &[u8],
+    keep: bool,
 ) -> Result<Body<'a>, Fault>
     requires { length bytes.now < 4294967296 }
-    ensures ok { IfOk result (λ x. (rest : List ℕ) × Takes (SpellsBody (NameIsAt tables.now)) bytes.now (code x.code) rest) }
-    ensures named { IfOk result (λ x. IfNone x.past (RegistersHold (code x.code))) }
-    ensures past { IfOk result (λ x. IfSome x.past (RegistersBreak off (code x.code))) }
+    ensures ok { IfOk result (λ x. (found : HoldsItem (NameIsAt tables.now) off bytes.now x.past) × (IsTrue keep → code x.code ≡ found.code)) }
     ensures err { IfErr result (λ e. e ≢ memory → ItemBreaks (NameIsAt tables.now) off bytes.now e) }
 {
     let Some(item) = item_of(bytes) else {
@@ -66,14 +97,7 @@ fn read_item<'a>(
     if item.size == 0 {
         return Err(Fault::at(fault::EMPTY_CODE, u64::from(off)));
     }
-    let insns = read_insns(
-        alloc,
-        arena,
-        tables,
-        item.units,
-        u64::from(off) + 16,
-        item.registers,
-    )?;
+    let insns = insns_of(alloc, arena, tables, &item, u64::from(off) + 16, keep)?;
     let tries = read_tries(
         alloc,
         arena,
@@ -94,6 +118,33 @@ fn read_item<'a>(
     })
 }
 
+/// The code item at this byte offset of the file. Its instructions are left out unless they are to be kept.
+#[inline(always)]
+fn body_at<'a>(
+    alloc: Global,
+    arena: &'a Bump,
+    tables: &Tables<'a>,
+    sections: &Sections<'_>,
+    off: u32,
+    keep: bool,
+) -> Result<Body<'a>, Fault>
+    ensures ok { IfOk result (λ x. (found : HoldsBody (NameIsAt tables.now) sections.now off x.past) × (IsTrue keep → code x.code ≡ found.code)) }
+    ensures only { IfOk result (λ x. IsTrue keep → (d : content.Code) →
+        BodyStands (NameIsAt tables.now) sections.now off d → d ≡ code x.code) }
+    ensures broken { IfErr result (λ e. e ≢ memory → CodeBreaks (NameIsAt tables.now) sections.now off e) }
+    ensures refused { IfErr result (λ e. e ≢ memory →
+        (c : content.Code) → ¬ BodyStands (NameIsAt tables.now) sections.now off c) }
+{
+    if off % 4 != 0 {
+        return Err(Fault::at(fault::CODE_PLACE, u64::from(off)));
+    }
+    let section = section_of(sections, CODE_ITEMS);
+    let Some(bytes) = bytes_from(sections, CODE_ITEMS, section, off) else {
+        return Err(Fault::at(fault::CODE_PLACE, u64::from(off)));
+    };
+    read_item(alloc, arena, tables, off, bytes, keep)
+}
+
 /// The code of the code item at this byte offset of the file, and what is wrong with its registers, if anything is: a caller that
 /// reads many codes looks at that when all of them are read.
 pub fn read_body<'a>(
@@ -112,14 +163,25 @@ pub fn read_body<'a>(
     ensures refused { IfErr result (λ e. e ≢ memory →
         (c : content.Code) → ¬ BodyStands (NameIsAt tables.now) sections.now off c) }
 {
-    if off % 4 != 0 {
-        return Err(Fault::at(fault::CODE_PLACE, u64::from(off)));
-    }
-    let section = section_of(sections, CODE_ITEMS);
-    let Some(bytes) = bytes_from(sections, CODE_ITEMS, section, off) else {
-        return Err(Fault::at(fault::CODE_PLACE, u64::from(off)));
-    };
-    read_item(alloc, arena, tables, off, bytes)
+    body_at(alloc, arena, tables, sections, off, true)
+}
+
+/// What is wrong with the registers of the code item at this byte offset of the file, if anything is: refuses what `read_body` refuses,
+/// with a fault that stands there as well. Instructions of a code without payloads aren't kept; what is lies in the arena.
+pub fn check_body(
+    alloc: Global,
+    arena: &Bump,
+    tables: &Tables<'_>,
+    sections: &Sections<'_>,
+    off: u32,
+) -> Result<Option<Fault>, Fault>
+    ensures ok { IfOk result (HoldsBody (NameIsAt tables.now) sections.now off) }
+    ensures broken { IfErr result (λ e. e ≢ memory → CodeBreaks (NameIsAt tables.now) sections.now off e) }
+    ensures refused { IfErr result (λ e. e ≢ memory →
+        (c : content.Code) → ¬ BodyStands (NameIsAt tables.now) sections.now off c) }
+{
+    let body = body_at(alloc, arena, tables, sections, off, false)?;
+    Ok(body.past)
 }
 
 /// The code of the code item at this byte offset of the file. Its registers are looked at last (73).

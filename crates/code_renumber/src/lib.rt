@@ -5,6 +5,8 @@
 //! let most = mark_code(alloc, &mut marks, &sections, 0x1c0)?; // the rows that the code at byte 448 names are marked
 //! let item = renumber_code(alloc, &numbers, &sections, 0x1c0)?; // its bytes in a file of the kept rows
 //! ```
+//!
+//! docs/MAP.md says where this crate stands among the others.
 #![tactic(auto)]
 
 // The fixed parts of an item, and the numbers in its list of handlers.

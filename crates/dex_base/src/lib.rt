@@ -6,6 +6,8 @@
 //! put_mutf8(&mut out, &[0x56])?; // 01 56 00
 //! let text = read_mutf8(alloc, &arena, &out)?; // Some(([0x56], 3))
 //! ```
+//!
+//! docs/MAP.md says where this crate stands among the others.
 #![tactic(auto)]
 
 // Strings.

@@ -9,6 +9,8 @@
 //! ```
 //!
 //! Its rooms: `code_insns` and `code_read` (read), `code_put` and `code_fits` (written, and whether it fits), `code_align`.
+//!
+//! docs/MAP.md says where this crate stands among the others.
 #![tactic(auto)]
 
 pub use code_align::align;

@@ -10,6 +10,8 @@
 //!
 //! Its rooms: `listing_words`, `listing_slots`, `listing_shapes`, `listing_lines` and `listing_labels` (a line), `listing_draft` and
 //! `listing_parse` (read), `listing_print` (printed), `listing_laws`.
+//!
+//! docs/MAP.md says where this crate stands among the others.
 #![tactic(auto)]
 
 pub use listing_parse::parse;

@@ -12,6 +12,8 @@
 //! let get = method(&arena, "LHello;->get(Z)I")?; // Some: a class, a name and a prototype
 //! let none = ty(&arena, "java.lang.Object")?; // None: no descriptor
 //! ```
+//!
+//! docs/MAP.md says where this crate stands among the others.
 #![tactic(auto)]
 
 mod law;

@@ -10,6 +10,8 @@
 //!
 //! Its rooms: `program_types` (the types, their content, comparisons and shorties), `program_rules` over `program_code_rules` (what
 //! a program has to keep: the faults 110 to 118).
+//!
+//! docs/MAP.md says where this crate stands among the others.
 #![tactic(auto)]
 
 pub use program_rules::{well_formed, well_formed_in};

@@ -9,6 +9,8 @@
 //!     none_wrong(Ok(first_read_otherwise(&CASES)))
 //! }
 //! ```
+//!
+//! docs/MAP.md says where this crate stands among the others.
 #![tactic(auto)]
 
 // How a test is told.

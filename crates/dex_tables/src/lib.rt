@@ -10,6 +10,8 @@
 //! ```
 //!
 //! Its rooms: `tables_rows` (a file's tables), `tables_names` (needed names and ranks), `tables_laws`.
+//!
+//! docs/MAP.md says where this crate stands among the others.
 #![tactic(auto)]
 
 pub use tables_names::{FieldParts, MethodParts, Needed, ProtoParts, Ranks, Row, TypeParts};

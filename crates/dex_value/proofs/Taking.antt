@@ -1,18 +1,16 @@
 -- What is read is spelled so.
-use Rattle.std.proofs.Common.{◌≡◌, ℕ, zero, suc, inl, ◌+◌, ◌*◌, ◌-◌, ◌/◌, ◌%◌, ◌<◌, ◌≤◌, List, [], ◌∷◌, ◌++◌, length, slice_index, lit<, map, take, drop, refl, sym, ap, subst, ◌∙◌, arith, append_assoc}
-use Rattle.std.proofs.lemmas.List.{take-append-drop, length-take-le, length-map, map-append}
+use Rattle.std.proofs.Common.{◌≡◌, ℕ, zero, suc, inl, ◌+◌, ◌*◌, ◌-◌, ◌/◌, ◌%◌, ◌<◌, ◌≤◌, List, [], ◌∷◌, ◌++◌, length, slice_index, lit<, take, drop, refl, sym, ap, subst, ◌∙◌, arith, append_assoc}
+use Rattle.std.proofs.lemmas.List.{take-append-drop, length-take-le}
 use Rattle.std.specs.List.{AllByRecursion}
 use Rattle.base_bytes.specs.Grammar.{Begins, Takes, Each, Many}
 use Rattle.base_bytes.specs.Leb128.{Spells}
 use Rattle.base_bytes.specs.declared.fault.Fault.{Fault}
-use Rattle.base_bytes.proofs.TakesLaws.{Takes-from_begins, Takes-each_push, Takes-counted}
+use Rattle.base_bytes.proofs.TakesLaws.{Takes-from_begins, Takes-counted}
 use Rattle.program_types.specs.Content.{Name, Value, Array, values}
-use Rattle.program_types.specs.declared.value.Value as made
-use Rattle.program_types.specs.View.{value}
 use Rattle.program_types.specs.Depth.{depth}
 use Rattle.dex_value.specs.Spelling.{SpellsValue, SpellsArray}
 use Rattle.dex_value.specs.Standing.{Shallow}
-use Rattle.dex_value.specs.Faults.{widest_of, OwnBreaks, NextBreaks, ValueBreaks}
+use Rattle.dex_value.specs.Faults.{widest_of, OwnBreaks, ValueBreaks}
 use Rattle.dex_value.specs.Reading.{ValueStands}
 use Rattle.dex_value.proofs.Lists.{each-values, each-depth, each-deep, each-spelled, count_of-values}
 use Rattle.dex_value.proofs.Fronts.{stands_spells}
@@ -87,18 +85,6 @@ module _ (N : ℕ → Name → Type 0) where
 -- so many values, one after the other
 pub takes_many : {V : Type 0} (G : List ℕ → V → Type 0) (n : ℕ) (bytes left : List ℕ) (vs : List V) → length vs ≡ n → Takes (Each G) bytes vs left → Takes (Many G n) bytes vs left
 takes_many G n bytes left vs len t = record { front = t.front; whole = t.whole; spelled = (len, t.spelled) }
-
--- of the values that are due the next one breaks
-pub next_breaks : (G : List ℕ → Value → Type 0) (ArrayBreaksAt : List ℕ → Fault → Type 0) (n turn : ℕ) (bytes left : List ℕ) (fault : Fault) (items : List made.Value)
-    → Takes (Each G) bytes (map value items) left → length items ≡ turn → turn < n → ArrayBreaksAt left fault → NextBreaks G ArrayBreaksAt n bytes fault
-next_breaks G ArrayBreaksAt n turn bytes left fault items t len more breaks =
-    record { before = map value items; left = left; spelled = t; more = let l = length-map items value in omega (arith, l, len, more); breaks = breaks }
-
--- one value more is read
-pub next_taken : (G : List ℕ → Value → Type 0) (bytes mid left : List ℕ) (items new : List made.Value) (one : made.Value) → Takes (Each G) bytes (map value items) mid → Takes G mid (value one) left → new ≡ items ++ one ∷ []
-    → Takes (Each G) bytes (map value new) left
-next_taken G bytes mid left items new one t s e =
-    subst (λ (vs : List Value). Takes (Each G) bytes vs left) (sym (ap (map value) e ∙ map-append value items (one ∷ []))) (Takes-each_push G bytes mid left (map value items) (value one) t s)
 
 -- what is wrong with the value itself
 pub own_breaks : (N : ℕ → Name → Type 0) (off end limit : ℕ) (bytes : List ℕ) (fault : Fault) → OwnBreaks N off end limit bytes fault → ValueBreaks N off end limit bytes fault

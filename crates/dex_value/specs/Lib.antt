@@ -1,4 +1,3 @@
-pub mod Checking
 pub mod Counts
 pub mod Faults
 pub mod FileArrays

@@ -1,9 +1,12 @@
 -- What the private functions of reading say.
-use Rattle.std.specs.Prelude.{◌≡◌, ℕ, List}
+use Rattle.std.specs.Prelude.{◌≡◌, ℕ, ◌≤◌, List, length}
+use Rattle.std.specs.List.{AllByRecursion}
+use Rattle.base_bytes.specs.Grammar.{Takes}
 use Rattle.program_types.specs.Content.{Name, OfField, Value, Byte, Short, Char, Int, Long, Float, Double, Named, Enum}
 use Rattle.dex_insn.specs.declared.opcode.IndexKind.{IndexKind}
 use Rattle.dex_insn.specs.declared.opcode.IndexKind.TheVariants as kind
-use Rattle.dex_value.specs.Spelling.{unsigned_of, signed_of, high_of, value_type_of}
+use Rattle.program_types.specs.Depth.{depth}
+use Rattle.dex_value.specs.Spelling.{unsigned_of, signed_of, high_of, value_type_of, SpellsArray}
 use Rattle.dex_value.specs.declared.types.NumberType.{NumberType}
 use Rattle.dex_value.specs.declared.types.NumberType.TheVariants as number
 use Rattle.dex_value.specs.declared.types.NameType.{NameType}
@@ -64,3 +67,10 @@ abbrev pub ValueStands : (ℕ → Name → Type 0) → ℕ → List ℕ → Valu
 ValueStands N type low (Named which) = (type ≡ value_type_of which) × N (unsigned_of low) which
 ValueStands N type low (Enum constant) = (type ≡ 0x1b) × N (unsigned_of low) (OfField constant)
 ValueStands N type low v = IsNumber type low v
+
+-- At the front of the bytes stands an array of these values, at most so many, each at most 64 deep.
+pub record TakesArray (N : ℕ → Name → Type 0) (most : ℕ) (bytes : List ℕ) (vs : List Value) : Type 0 where
+  pub rest : List ℕ
+  pub spelled : Takes (SpellsArray N) bytes vs rest
+  pub few : length vs ≤ most
+  pub deep : AllByRecursion (λ v. depth v ≤ 64) vs

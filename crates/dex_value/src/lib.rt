@@ -3,6 +3,8 @@
 //! `read_array` reads the encoded_array at an offset of a file, `check_array` looks at it and keeps nothing; `put_array` appends one, in
 //! the fewest bytes. All meet one relation, `specs/Spelling.antt`, in which the names that indices stand for are a parameter: for a file those of its
 //! tables, for a writer the names by rank.
+//!
+//! docs/MAP.md says where this crate stands among the others.
 #![tactic(auto)]
 
 // The bytes of one value: its head, its number or its name.
@@ -12,6 +14,7 @@ mod types;
 
 // Values in values, from a file: kept, or only looked at.
 mod checking;
+mod keeping;
 mod reading;
 
 // Values to bytes, in the fewest.

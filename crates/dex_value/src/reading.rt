@@ -1,16 +1,15 @@
 // Values in the order of their bytes.
-ghost use Rattle.std.specs.Prelude.{◌≡◌, ◌≢◌, ℕ, ◌≤◌, ◌-◌, ◌∷◌, List, length, map, IfOk, IfErr};
+ghost use Rattle.std.specs.Prelude.{◌≡◌, ◌≢◌, ℕ, ◌-◌, ◌∷◌, List, length, map, slice_index, IfOk, IfErr};
 ghost use Rattle.base_bytes.specs.Fault.{memory};
 ghost use Rattle.base_bytes.specs.Grammar.{Takes, Many};
 ghost use Rattle.program_types.specs.Content as content;
 ghost use Rattle.program_types.specs.View.{value};
 ghost use Rattle.tables_rows.specs.Names.{NameIsAt};
-ghost use Rattle.std.specs.List.{AllByRecursion};
-ghost use Rattle.program_types.specs.Depth.{depth};
-ghost use Rattle.dex_value.specs.Spelling.{SpellsArray};
+ghost use Rattle.dex_value.specs.Reading.{TakesArray};
 ghost use Rattle.dex_value.specs.Standing.{Shallow, ArrayStands};
 ghost use Rattle.dex_value.specs.Faults.{IsLoneHead, OwnBreaks, ValueBreaks, NextBreaks, InsideBreaks, ArrayBreaks, ArrayBreaksAt, values_fault, kind_fault, depth_fault};
 
+use crate::keeping::{InArena, Keep};
 use crate::names::named;
 use crate::numbers::number;
 use crate::types::{SizedType, sized_type, widest};
@@ -22,21 +21,21 @@ use std::alloc::Global;
 use tables_rows::Tables;
 
 /// How deep an array value may lie.
-pub(crate) const DEPTH: u32 = 64;
+const DEPTH: u32 = 64;
 
 /// The head of an array: its type, without an argument.
-pub(crate) const ARRAY: u8 = 0x1c;
+const ARRAY: u8 = 0x1c;
 
 /// Where the array of static values begins, and where its section ends, in bytes.
 #[derive(Clone, Copy)]
 pub(crate) struct Span {
-    pub(crate) off: u32,
-    pub(crate) end: u32,
+    off: u32,
+    end: u32,
 }
 
 impl Span {
     /// The bytes run past the section, or a count is misspelled.
-    pub(crate) fn cut(self) -> Fault
+    fn cut(self) -> Fault
         ensures { result ≡ values_fault self.off }
     {
         Fault::at(fault::VALUES, u64::from(self.off))
@@ -50,7 +49,7 @@ impl Span {
     }
 
     /// The value at the front of the bytes is an array that lies too deep.
-    pub(crate) fn too_deep(self, bytes: &[u8]) -> Fault
+    fn too_deep(self, bytes: &[u8]) -> Fault
         ensures { result ≡ depth_fault self.end bytes.now }
     {
         Fault::at(fault::VALUE_DEPTH, self.place_of(bytes))
@@ -65,7 +64,7 @@ impl Span {
 }
 
 /// A value with bytes after its head, and what follows it.
-pub(crate) fn read_sized<'a, 'b>(
+fn read_sized<'a, 'b>(
     tables: &Tables<'a>,
     span: Span,
     bytes: &'b [u8],
@@ -99,20 +98,42 @@ pub(crate) fn read_sized<'a, 'b>(
     }
 }
 
-/// The value at the front of the bytes, at most `limit` deep, and what follows it.
-#[cycle(values)]
-fn read_value<'a, 'b>(
-    alloc: Global,
-    arena: &'a Bump,
+/// A value that is no array, and what follows it.
+#[inline(always)]
+pub(crate) fn read_leaf<'a, 'b>(
     tables: &Tables<'a>,
+    span: Span,
+    bytes: &'b [u8],
+) -> Result<(Value<'a>, &'b [u8]), Fault>
+    requires flat { slice_index bytes.now 0 ≢ 0x1c }
+    ensures ok { IfOk result (λ x. (limit : ℕ) →
+        Takes (Shallow (NameIsAt tables.now) limit) bytes.now (value x.0) x.1.now) }
+    ensures err { IfErr result (λ e. (limit : ℕ) →
+        OwnBreaks (NameIsAt tables.now) span.off span.end limit bytes.now e) }
+{
+    let Some((head, rest)) = bytes.split_first() else {
+        return Err(span.cut());
+    };
+    match *head {
+        0x1e => Ok((Value::Null, rest)),
+        0x1f => Ok((Value::Bool(false), rest)),
+        0x3f => Ok((Value::Bool(true), rest)),
+        head => read_sized(tables, span, bytes, head, rest),
+    }
+}
+
+/// What is kept of the value at the front of the bytes, at most `limit` deep, and what follows it.
+#[cycle(values)]
+fn read_value<'b, K: Keep>(
+    keep: K,
     span: Span,
     limit: u32,
     bytes: &'b [u8],
-) -> Result<(Value<'a>, &'b [u8]), Fault>
+) -> Result<(K::One, &'b [u8]), Fault>
     ensures ok { IfOk result (λ x.
-        Takes (Shallow (NameIsAt tables.now) limit) bytes.now (value x.0) x.1.now) }
-    ensures err { IfErr result (λ e. e ≢ memory →
-        ValueBreaks (NameIsAt tables.now) span.off span.end limit bytes.now e) }
+        (v : content.Value) × Takes (Shallow (NameIsAt (K.names keep)) limit) bytes.now v x.1.now × K.one x.0 v) }
+    ensures err { IfErr result (λ e. ¬ K.fails e →
+        ValueBreaks (NameIsAt (K.names keep)) span.off span.end limit bytes.now e) }
 {
     let Some((head, rest)) = bytes.split_first() else {
         return Err(span.cut());
@@ -126,56 +147,47 @@ fn read_value<'a, 'b>(
                 return Err(span.cut());
             };
             let (_, left) = rest.split_at(length);
-            let (values, after) = read_values(alloc, arena, tables, span, limit - 1, count, left)?;
-            Ok((Value::Array(values), after))
+            let (many, after) = read_values(keep, span, limit - 1, count, left)?;
+            Ok((keep.array(many)?, after))
         }
-        0x1e => Ok((Value::Null, rest)),
-        0x1f => Ok((Value::Bool(false), rest)),
-        0x3f => Ok((Value::Bool(true), rest)),
-        head => read_sized(tables, span, bytes, head, rest),
+        _ => keep.leaf(span, bytes),
     }
 }
 
-/// So many values, each at most `limit` deep, placed in the arena, and what follows them. Memory is asked for as values
-/// come.
+/// What is kept of so many values, each at most `limit` deep, and what follows them.
 #[cycle(values)]
-fn read_values<'a, 'b>(
-    alloc: Global,
-    arena: &'a Bump,
-    tables: &Tables<'a>,
+fn read_values<'b, K: Keep>(
+    keep: K,
     span: Span,
     limit: u32,
     count: u32,
     bytes: &'b [u8],
-) -> Result<(&'a [Value<'a>], &'b [u8]), Fault>
+) -> Result<(K::Many, &'b [u8]), Fault>
     ensures ok { IfOk result (λ x.
-        Takes (Many (Shallow (NameIsAt tables.now) limit) count) bytes.now (map value x.0.now) x.1.now) }
-    ensures err { IfErr result (λ e. e ≢ memory →
-        NextBreaks (Shallow (NameIsAt tables.now) limit) (ValueBreaks (NameIsAt tables.now) span.off span.end limit) count bytes.now e) }
+        (vs : List content.Value) × Takes (Many (Shallow (NameIsAt (K.names keep)) limit) count) bytes.now vs x.1.now × K.many x.0 vs) }
+    ensures err { IfErr result (λ e. ¬ K.fails e →
+        NextBreaks (Shallow (NameIsAt (K.names keep)) limit) (ValueBreaks (NameIsAt (K.names keep)) span.off span.end limit) count bytes.now e) }
 {
-    let mut all = Vec::new(alloc);
+    let mut many = keep.none();
     let mut left = bytes;
     for _turn in 0..count {
-        let (one, after) = read_value(alloc, arena, tables, span, limit, left)?;
-        all.push(one)?;
+        let (one, after) = read_value(keep, span, limit, left)?;
+        keep.add(&mut many, one)?;
         left = after;
     }
-    Ok((arena.try_alloc_slice_copy(&all)?, left))
+    Ok((many, left))
 }
 
-/// The array whose section has these bytes from it on.
-fn read_rest<'a>(
-    alloc: Global,
-    arena: &'a Bump,
-    tables: &Tables<'a>,
+/// How many values the array has whose section has these bytes from it on, and what is kept of them.
+fn read_rest<K: Keep>(
+    keep: K,
     span: Span,
     most: usize,
     bytes: &[u8],
-) -> Result<&'a [Value<'a>], Fault>
-    ensures ok { IfOk result (λ x. (rest : List ℕ) × Takes (SpellsArray (NameIsAt tables.now)) bytes.now (map value x.now) rest) }
-    ensures few { IfOk result (λ x. length x.now ≤ most) }
-    ensures deep { IfOk result (λ x. AllByRecursion (λ v. depth v ≤ 64) (map value x.now)) }
-    ensures err { IfErr result (λ e. e ≢ memory → ArrayBreaks (NameIsAt tables.now) span.off span.end most bytes.now e) }
+) -> Result<(u32, K::Many), Fault>
+    ensures ok { IfOk result (λ x.
+        (vs : List content.Value) × TakesArray (NameIsAt (K.names keep)) most bytes.now vs × (length vs ≡ x.0) × K.many x.1 vs) }
+    ensures err { IfErr result (λ e. ¬ K.fails e → ArrayBreaks (NameIsAt (K.names keep)) span.off span.end most bytes.now e) }
 {
     let Some((count, length)) = read_uleb(bytes) else {
         return Err(span.cut());
@@ -184,8 +196,34 @@ fn read_rest<'a>(
         return Err(Fault::at(fault::TOO_MANY_VALUES, u64::from(span.off)));
     }
     let (_, left) = bytes.split_at(length);
-    let (values, _) = read_values(alloc, arena, tables, span, DEPTH, count, left)?;
-    Ok(values)
+    let (many, _) = read_values(keep, span, DEPTH, count, left)?;
+    Ok((count, many))
+}
+
+/// How many values the encoded_array at this byte offset of the file has, and what is kept of them.
+pub(crate) fn read_at<K: Keep>(
+    keep: K,
+    sections: &Sections<'_>,
+    off: u32,
+    most: usize,
+) -> Result<(u32, K::Many), Fault>
+    ensures ok { IfOk result (λ x.
+        (vs : List content.Value) × ArrayStands (NameIsAt (K.names keep)) sections.now off most vs × (length vs ≡ x.0) × K.many x.1 vs) }
+    ensures only { IfOk result (λ x. (vs : List content.Value) →
+        ArrayStands (NameIsAt (K.names keep)) sections.now off most vs → (length vs ≡ x.0) × K.many x.1 vs) }
+    ensures broken { IfErr result (λ e. ¬ K.fails e → ArrayBreaksAt (NameIsAt (K.names keep)) sections.now off most e) }
+    ensures refused { IfErr result (λ e. ¬ K.fails e →
+        (vs : List content.Value) → ¬ ArrayStands (NameIsAt (K.names keep)) sections.now off most vs) }
+{
+    let section = section_of(sections, kind::ENCODED_ARRAY_ITEM);
+    let Some(bytes) = bytes_from(sections, kind::ENCODED_ARRAY_ITEM, section, off) else {
+        return Err(Fault::at(fault::VALUES, u64::from(off)));
+    };
+    let span = Span {
+        off,
+        end: section.end,
+    };
+    read_rest(keep, span, most, bytes)
 }
 
 /// The values of the encoded_array at this byte offset of the file, at most `most`, each at most 64 deep. They are
@@ -229,13 +267,11 @@ pub fn read_array<'a>(
     ensures refused { IfErr result (λ e. e ≢ memory →
         (vs : List content.Value) → ¬ ArrayStands (NameIsAt tables.now) sections.now off most vs) }
 {
-    let section = section_of(sections, kind::ENCODED_ARRAY_ITEM);
-    let Some(bytes) = bytes_from(sections, kind::ENCODED_ARRAY_ITEM, section, off) else {
-        return Err(Fault::at(fault::VALUES, u64::from(off)));
+    let keep = InArena {
+        alloc,
+        arena,
+        tables,
     };
-    let span = Span {
-        off,
-        end: section.end,
-    };
-    read_rest(alloc, arena, tables, span, most, bytes)
+    let (_, values) = read_at(keep, sections, off, most)?;
+    Ok(arena.try_alloc_slice_copy(&values)?)
 }

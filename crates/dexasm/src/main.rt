@@ -3,6 +3,8 @@
 //! Without FILE standard input is read, without `--output` the answer goes to standard output; a failure is one line on
 //! standard error. The exit status is 0 where the answer was written or help was asked for, 1 for a refused file or listing, 2
 //! for wrong words, 3 where reading or writing failed, and 4 when out of memory.
+//!
+//! docs/MAP.md says where this crate stands among the others.
 #![tactic(auto)]
 
 ghost use Rattle.std.specs.Prelude.{◌≡◌, false};

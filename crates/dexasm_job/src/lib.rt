@@ -3,6 +3,8 @@
 //! ```
 //! let job = Job::Assemble { align: true };
 //! ```
+//!
+//! docs/MAP.md says where this crate stands among the others.
 #![tactic(auto)]
 
 mod job;

@@ -45,7 +45,8 @@ pub fn answer(alloc: Global, job: Job, given: &[u8]) -> Result<Vec<u8>, Fault>
     }
 }
 
-/// The same answer to bytes that are given away: a listing is let go before its file is written, so that both are never held.
+/// The answer to a job on bytes that are given away, as `answer` gives it. A listing is let go before its file is written, so that
+/// both are never held.
 ///
 /// ```
 /// use dexasm_job::Job;

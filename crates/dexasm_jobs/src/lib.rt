@@ -5,6 +5,8 @@
 //! answer(alloc, Job::List, bytes)?                      // the listing of the file's program
 //! answer(alloc, Job::Assemble { align: false }, text)?  // the file of the listed program
 //! ```
+//!
+//! docs/MAP.md says where this crate stands among the others.
 #![tactic(auto)]
 
 mod answers;

@@ -4,6 +4,8 @@
 //! plan(alloc, &["dexasm", "assemble", "a.txt", "--align", "--output", "a.dex"])?
 //! // Plan { job: Job::Assemble { align: true }, file: Some("a.txt"), output: Some("a.dex") }
 //! ```
+//!
+//! docs/MAP.md says where this crate stands among the others.
 #![tactic(auto)]
 
 mod command;

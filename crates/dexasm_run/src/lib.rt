@@ -1,4 +1,6 @@
 //! A job run over any reader and any writer: all is read, the whole answer is made, and then it is written.
+//!
+//! docs/MAP.md says where this crate stands among the others.
 #![tactic(auto)]
 
 mod ends;

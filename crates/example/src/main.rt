@@ -1,5 +1,7 @@
 //! `example FILE OUT` reads a .dex file, prints its classes, with how many instructions each method has, and writes the program anew, with
 //! the constant 41 made 42.
+//!
+//! docs/MAP.md says where this crate stands among the others.
 #![tactic(auto)]
 
 mod patch;

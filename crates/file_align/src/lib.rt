@@ -3,6 +3,8 @@
 //! ```
 //! let program = align_all(alloc, &arena, &program)?; // so that 86 can't be what `write` refuses
 //! ```
+//!
+//! docs/MAP.md says where this crate stands among the others.
 #![tactic(auto)]
 
 // Bodies, methods, classes.

@@ -3,6 +3,8 @@
 //! ```
 //! let file = assemble(alloc, &program)?; // 80 to 90 where a limit is broken
 //! ```
+//!
+//! docs/MAP.md says where this crate stands among the others.
 #![tactic(auto)]
 
 // The data, and all of it.

@@ -8,6 +8,8 @@
 //! check_statics(alloc, &sections, &tables, heads)?; // faults 48 to 51, where no program is asked for
 //! check_codes(alloc, &sections, &tables, heads)?; // faults 60 to 73
 //! ```
+//!
+//! docs/MAP.md says where this crate stands among the others.
 #![tactic(auto)]
 
 // A row of class_defs and what it refers to, in the order in which it is checked.

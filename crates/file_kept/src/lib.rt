@@ -12,6 +12,8 @@
 //! let datas = put_datas(alloc, &mut out, &numbers, &sections, &codes.places)?;
 //! let rows = name_rows(alloc, &numbers, &sections, &texts.places, &lists.places[..protos])?;
 //! ```
+//!
+//! docs/MAP.md says where this crate stands among the others.
 #![tactic(auto)]
 
 // Where what stood at an offset stands.

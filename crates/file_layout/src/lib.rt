@@ -10,6 +10,8 @@
 //! finish(alloc, &mut out, &plan, &rows)?; // `rows` has the rows of the tables
 //! let sections = open(&out)?; // what is finished is framed
 //! ```
+//!
+//! docs/MAP.md says where this crate stands among the others.
 #![tactic(auto)]
 
 // What a file holds, and where.

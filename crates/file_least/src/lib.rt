@@ -4,6 +4,8 @@
 //! ```
 //! no_refusal_in_vain(); // what some file means breaks none of the limits 80 to 88
 //! ```
+//!
+//! docs/MAP.md says where this crate stands among the others.
 #![tactic(auto)]
 
 ghost use Rattle.std.specs.Prelude.{◌≡◌, ◌≤◌, ◌⊎◌, ℕ, List};

@@ -4,6 +4,8 @@
 //! let ranks = needed_names(alloc, &arena, &program)?;
 //! check_limits(alloc, &ranks, &program)?; // 80 to 90 where a limit is broken
 //! ```
+//!
+//! docs/MAP.md says where this crate stands among the others.
 #![tactic(auto)]
 
 // How many bytes a file takes at most.

@@ -4,6 +4,8 @@
 //! let arena = Bump::new(alloc); // holds the shorties
 //! let ranks = needed_names(alloc, &arena, &program)?;
 //! ```
+//!
+//! docs/MAP.md says where this crate stands among the others.
 #![tactic(auto)]
 
 // The names in a body.

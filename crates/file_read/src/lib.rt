@@ -4,6 +4,8 @@
 //! let program = read(alloc, &arena, &bytes)?; // 1 to 73, the first fault
 //! check(alloc, &bytes)?; // the same fault, and no program is held
 //! ```
+//!
+//! docs/MAP.md says where this crate stands among the others.
 #![tactic(auto)]
 
 mod checking;

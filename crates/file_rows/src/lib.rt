@@ -6,6 +6,8 @@
 //! let rows = name_rows(alloc, &ranks, &texts, &lists)?; // the places of texts and of parameter lists in, bytes out
 //! put_classes(&mut rows, &ranks, program.classes, &lists, &datas, &arrays)?; // the places of the classes' items, 0 for none
 //! ```
+//!
+//! docs/MAP.md says where this crate stands among the others.
 #![tactic(auto)]
 
 // The indices of names that are held.

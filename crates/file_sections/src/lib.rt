@@ -8,6 +8,8 @@
 //! let arrays = put_arrays(alloc, &mut out, &ranks, &program)?;
 //! let datas = put_datas(alloc, &mut out, &ranks, &program, &codes.places)?;
 //! ```
+//!
+//! docs/MAP.md says where this crate stands among the others.
 #![tactic(auto)]
 
 // Where items stand.

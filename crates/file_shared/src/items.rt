@@ -1,13 +1,13 @@
 // The items of a part, each once, and where they stand.
 // Page: "Dalvik Executable format", "File layout".
-ghost use Rattle.std.specs.Prelude.{◌≡◌, ℕ, ◌+◌, ◌<◌, ◌^◌, ◌∷◌, [], ◌++◌, IfOk, IfSome, IfNone, OnOk, IsOkUnless, length};
+ghost use Rattle.std.specs.Prelude.{◌≡◌, ◌+◌, ◌<◌, ◌^◌, [], ◌++◌, IfOk, OnOk, IsOkUnless, length};
 ghost use Rattle.base_bytes.specs.Fault.{memory};
-ghost use Rattle.file_layout.specs.Sections.{Adds, IsItself};
-ghost use Rattle.file_shared.specs.Once.{HasItemAt, IsAdded, PutsOnce};
+ghost use Rattle.file_shared.specs.Once.{PutsOnce};
 
 use base_bytes::Fault;
 use file_layout::pad;
 use indexmap::IndexMap;
+use indexmap::map::Entry;
 use std::alloc::Global;
 use std::marker::Model;
 
@@ -45,29 +45,6 @@ impl Items {
         self.places.len() as u32
     }
 
-    // Where the item of these bytes stands, if there is one.
-    fn find(&self, bytes: &[u8]) -> Option<u32>
-        ensures some { IfSome result (HasItemAt self.now bytes.now) }
-        ensures none { IfNone result ((place : ℕ) → ¬ HasItemAt self.now bytes.now place) }
-    {
-        self.places.get(bytes).copied()
-    }
-
-    // Appends an item, and keeps it.
-    fn append(&mut self, out: &mut Vec<u8>, bytes: Vec<u8>) -> Result<u32, Fault>
-        requires fresh { (place : ℕ) → ¬ HasItemAt self.old bytes.items place }
-        requires room { length out.old.items < 2 ^ 32 }
-        ensures place { IfOk result (λ place. place ≡ length out.old.items) }
-        ensures out { OnOk result (out.new.items ≡ out.old.items ++ bytes.items) }
-        ensures kept { IfOk result (λ place. self.new ≡ self.old ++ (bytes.items, place) ∷ []) }
-        ensures memory { IsOkUnless result memory }
-    {
-        let place = out.len() as u32;
-        out.extend_from_slice(&bytes)?;
-        self.places.insert(bytes, place)?;
-        Ok(place)
-    }
-
     /// Where the item of these bytes stands: where an equal one does, or else after `out`, to which it is appended.
     ///
     /// It fails only when out of memory.
@@ -77,10 +54,14 @@ impl Items {
         ensures ok { IfOk result (PutsOnce 1 self.old self.new out.old.items out.new.items bytes.items) }
         ensures memory { IsOkUnless result memory }
     {
-        if let Some(place) = self.find(&bytes) {
-            return Ok(place);
+        match self.places.entry(bytes)? {
+            Entry::Occupied(entry) => Ok(*entry.into_mut()), // after `get` a proof would not know the map
+            Entry::Vacant(entry) => {
+                let place = append(out, entry.key())?;
+                entry.insert(place);
+                Ok(place)
+            }
         }
-        Ok(self.append(out, bytes)?)
     }
 
     /// Where the item of these bytes stands, 4-aligned: where an equal one does, or else after `out`, to which zeros
@@ -93,10 +74,26 @@ impl Items {
         ensures ok { IfOk result (PutsOnce 4 self.old self.new out.old.items out.new.items bytes.items) }
         ensures memory { IsOkUnless result memory }
     {
-        if let Some(place) = self.find(&bytes) {
-            return Ok(place);
+        match self.places.entry(bytes)? {
+            Entry::Occupied(entry) => Ok(*entry.into_mut()),
+            Entry::Vacant(entry) => {
+                pad(out)?;
+                let place = append(out, entry.key())?;
+                entry.insert(place);
+                Ok(place)
+            }
         }
-        pad(out)?;
-        Ok(self.append(out, bytes)?)
     }
+}
+
+// Appends an item, and tells where it stands.
+fn append(out: &mut Vec<u8>, bytes: &[u8]) -> Result<u32, Fault>
+    requires room { length out.old.items < 2 ^ 32 }
+    ensures place { IfOk result (λ place. place ≡ length out.old.items) }
+    ensures out { OnOk result (out.new.items ≡ out.old.items ++ bytes.now) }
+    ensures memory { IsOkUnless result memory }
+{
+    let place = out.len() as u32;
+    out.extend_from_slice(bytes)?;
+    Ok(place)
 }

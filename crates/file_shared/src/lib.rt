@@ -5,6 +5,8 @@
 //! let mut items = Items::new(alloc);
 //! let place = items.put_aligned(&mut out, bytes)?; // appended here, or where an equal item stands
 //! ```
+//!
+//! docs/MAP.md says where this crate stands among the others.
 #![tactic(auto)]
 
 mod items;

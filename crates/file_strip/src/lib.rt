@@ -4,6 +4,8 @@
 //! ```text
 //! let small = strip_framed(alloc, &sections)?; // of a file that means a program
 //! ```
+//!
+//! docs/MAP.md says where this crate stands among the others.
 #![tactic(auto)]
 
 // What is needed, and how many bytes it takes at most.

@@ -1,4 +1,6 @@
 //! Tests of files: their frame, their tables, their values, whole files.
+//!
+//! docs/MAP.md says where this crate stands among the others.
 #![tactic(auto)]
 
 // dex_container

@@ -4,6 +4,8 @@
 //! let file = write(alloc, &program)?; // 80 to 90 where a limit is broken
 //! let small = strip(alloc, &bytes)?;
 //! ```
+//!
+//! docs/MAP.md says where this crate stands among the others.
 #![tactic(auto)]
 
 // What holds of each file that is assembled.

@@ -8,6 +8,7 @@ use crate::open_code::{Body, CodePart, InCode};
 use bumpalo::Bump;
 use dex_base::Fault;
 use listing_lines::{Line, Stage, first_late};
+use program_types::Insn;
 use std::mem;
 
 /// The block that is open: none, before the first line or after it; a class; or a code of a class.
@@ -22,6 +23,8 @@ pub enum Block<'a> {
 impl<'a> Block<'a> {
     ghost use Rattle.std.specs.Prelude.{option_map};
     ghost use Rattle.listing_lines.specs.LineView.{line};
+    ghost use Rattle.listing_lines.specs.Lines.{insn_line};
+    ghost use Rattle.program_types.specs.View.{insn};
     ghost use Rattle.listing_draft.specs.States.{stage_of, insn_count, owner_of, with_body, late_in};
     ghost use Rattle.listing_draft.specs.States.{class_again, code_ended, inside};
     ghost use Rattle.listing_draft.specs.View.{owner, open_body, block};
@@ -183,6 +186,35 @@ impl<'a> Block<'a> {
             Block::Class(class) => class.add(next),
             Block::Code(code) => code.add(arena, number, next),
             _ => Ok(false),
+        }
+    }
+
+    /// An instruction is added to the open code, on the line with this number; false where no code is open.
+    #[tactic(auto, unfolding(crate::specs::View::block, crate::specs::States::inside))]
+    pub(crate) fn add_insn(&mut self, number: u64, new: Insn<'a>) -> Result<bool, Fault>
+        ensures added { IfOk result (λ yes. MatchBool yes
+            (inside (block self.old) number (insn_line (insn new.entry)) ≡ Some (block self.new))
+            (inside (block self.old) number (insn_line (insn new.entry)) ≡ None)) }
+        ensures memory { IsOkUnless result memory }
+    {
+        match self {
+            Block::Code(code) => {
+                code.add_insn(number, new)?;
+                Ok(true)
+            }
+            _ => Ok(false),
+        }
+    }
+
+    /// Room for so many instructions more in the open code, if one is open.
+    #[tactic(auto, unfolding(crate::specs::View::block))]
+    pub(crate) fn make_room(&mut self, count: usize) -> Result<(), Fault>
+        ensures same { block self.new ≡ block self.old }
+        ensures memory { IsOkUnless result memory }
+    {
+        match self {
+            Block::Code(code) => code.body.make_room(count),
+            _ => Ok(()),
         }
     }
 }

@@ -13,8 +13,11 @@ use dex_base::Fault;
 use listing_lines::{Line, Stage, is_insn, may_stand};
 use listing_shapes::Found;
 use listing_words::is_number;
-use program_types::{Class, Desc};
+use program_types::{Class, Desc, Insn};
 use std::alloc::Global;
+
+/// Room is taken ahead for no more instructions than these: a code of more takes it as it grows.
+const MOST_ROOM: usize = 4096;
 
 /// What is whole so far, in the arena, and the block that is open, outside of it.
 #[derive(Drop)]
@@ -30,7 +33,7 @@ impl<'a> Draft<'a> {
     ghost use Rattle.std.specs.Prelude.{List, map, ◌+◌, ◌<◌, ◌^◌};
     ghost use Rattle.listing_words.specs.Words.{Word};
     ghost use Rattle.listing_slots.specs.declared.slot.Slot.{Slot};
-    ghost use Rattle.program_types.specs.View.{desc, class};
+    ghost use Rattle.program_types.specs.View.{desc, class, insn};
     ghost use Rattle.listing_lines.specs.Lines as says;
     ghost use Rattle.listing_lines.specs.LineView.{line};
     ghost use Rattle.listing_lines.specs.Needs.{earliest};
@@ -216,5 +219,28 @@ impl<'a> Draft<'a> {
             Line::EndCode => self.end_code(arena),
             _ => self.block.add(arena, self.lines, next),
         }
+    }
+
+    /// An instruction is added to the open code, as `add` does it with its line; false where no code is open.
+    #[tactic(auto, unfolding(crate::specs::View::state, crate::specs::States::add))]
+    pub fn add_insn(&mut self, new: Insn<'a>) -> Result<bool, Fault>
+        ensures added { IfOk result (λ yes. MatchBool yes
+            (add (state self.old) (says.insn_line (insn new.entry)) ≡ Some (state self.new))
+            (add (state self.old) (says.insn_line (insn new.entry)) ≡ None)) }
+        ensures lines { self.new.lines ≡ self.old.lines }
+        ensures memory { IsOkUnless result memory }
+    {
+        self.block.add_insn(self.lines, new)
+    }
+
+    /// Room for so many instructions more in the open code, if one is open, so that they are added without moving those
+    /// before them. It is taken for `MOST_ROOM` at most, whatever a listing says.
+    #[tactic(auto, unfolding(crate::specs::View::state))]
+    pub fn make_room(&mut self, count: usize) -> Result<(), Fault>
+        ensures same { state self.new ≡ state self.old }
+        ensures lines { self.new.lines ≡ self.old.lines }
+        ensures memory { IsOkUnless result memory }
+    {
+        self.block.make_room(count.min(MOST_ROOM))
     }
 }

@@ -4,7 +4,10 @@
 //! let mut draft = Draft::new(alloc, bump);
 //! draft.stands(found)            // whether a line of this shape may stand here
 //! draft.add(bump, next)?         // false where the line gives again what may be given once
+//! draft.add_insn(insn)?          // the same for the line of an instruction, which isn't made
 //! ```
+//!
+//! docs/MAP.md says where this crate stands among the others.
 #![tactic(auto)]
 
 mod block;

@@ -6,7 +6,7 @@ ghost use Rattle.base_bytes.specs.Fault.{memory};
 use crate::open_class::{Open, Owner};
 use bumpalo::Bump;
 use dex_base::Fault;
-use listing_lines::{Line, Need, line_needs};
+use listing_lines::{Line, Need, insn_needs, line_needs};
 use program_types::{Catch, Code, Insn, Try};
 use std::alloc::Global;
 
@@ -170,6 +170,16 @@ impl<'a> Body<'a> {
         Ok(())
     }
 
+    /// Room for so many instructions more.
+    #[tactic(auto, unfolding(crate::specs::View::open_body))]
+    pub(crate) fn make_room(&mut self, count: usize) -> Result<(), Fault>
+        ensures same { open_body self.new ≡ open_body self.old }
+        ensures memory { IsOkUnless result memory }
+    {
+        self.insns.reserve(count)?;
+        Ok(())
+    }
+
     /// The code, when its tries are whole.
     #[tactic(auto, unfolding(crate::specs::View::open_body))]
     pub(crate) fn place_code(&self, arena: &'a Bump) -> Result<Code<'a>, Fault>
@@ -190,8 +200,9 @@ impl<'a> Body<'a> {
 
 impl<'a> InCode<'a> {
     ghost use Rattle.listing_lines.specs.LineView.{line};
-    ghost use Rattle.program_types.specs.View.{code};
-    ghost use Rattle.listing_draft.specs.States.{noted, with_tries, whole_code, with_code_at, code_line};
+    ghost use Rattle.listing_lines.specs.Lines.{insn_line};
+    ghost use Rattle.program_types.specs.View.{insn, code};
+    ghost use Rattle.listing_draft.specs.States.{at_insns, noted, with_insn, with_tries, whole_code, with_code_at, code_line};
     ghost use Rattle.listing_draft.specs.View.{owner, open_class, open_body, code_part};
 
     /// A line of the code alone, whose needs are noted; false where it is of another kind, or a catch where no try is
@@ -241,6 +252,20 @@ impl<'a> InCode<'a> {
     {
         self.body.note(number, line_needs(&next))?;
         self.put(arena, next)
+    }
+
+    /// An instruction, on the line with this number.
+    pub(crate) fn add_insn(&mut self, number: u64, new: Insn<'a>) -> Result<(), Fault>
+        ensures body { OnOk result (open_body self.new.body
+            ≡ with_insn (noted (open_body self.old.body) number (insn_line (insn new.entry))) (insn new.entry)) }
+        ensures part { OnOk result (code_part self.new.part ≡ at_insns) }
+        ensures class { self.new.class ≡ self.old.class }
+        ensures memory { IsOkUnless result memory }
+    {
+        self.body.note(number, insn_needs(&new))?;
+        self.body.put_insn(new)?;
+        self.part = CodePart::Insns;
+        Ok(())
     }
 
     /// The method that the code belongs to has it.

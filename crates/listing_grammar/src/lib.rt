@@ -3,6 +3,8 @@
 //!
 //! specs/Codes.antt and specs/Classes.antt say which code and which classes lines mean, specs/Texts.antt which lines of a
 //! program those of a text say, and when a text is the text of a program. The other two files have the reader's side.
+//!
+//! docs/MAP.md says where this crate stands among the others.
 #![tactic(auto)]
 
 mod class_law;

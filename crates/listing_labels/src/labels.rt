@@ -6,6 +6,8 @@ ghost use Rattle.listing_words.specs.Words.{after_spaces, up_to_space};
 ghost use Rattle.listing_words.specs.View.{word};
 ghost use Rattle.listing_slots.specs.Data.{Datum as Said};
 ghost use Rattle.listing_slots.specs.View.{datum};
+ghost use Rattle.listing_slots.specs.Slots.{SpellsSlot};
+ghost use Rattle.listing_slots.specs.declared.slot.Slot.TheVariants as Slot;
 ghost use Rattle.listing_labels.specs.Lines.{lines, is_comment};
 ghost use Rattle.listing_labels.specs.Labels as says;
 ghost use Rattle.listing_labels.specs.Labels.{SpellsHere, SpellsAll, MisspellsAll};
@@ -14,7 +16,9 @@ use crate::known::{Labels, Place};
 use crate::pieces::split_line;
 use bumpalo::Bump;
 use dex_base::{Fault, fault};
-use listing_slots::{Datum, Key, Mark, Slot, Spelled, fault_of, is_same, key_text, read_datum};
+use listing_slots::{
+    Datum, Key, Mark, Slot, Spelled, fault_of, is_same, key_text, read_datum, read_marked,
+};
 use listing_words::Word;
 
 /// Whether a byte can stand in a label.
@@ -109,24 +113,28 @@ fn is_stop(words: &[u8]) -> bool
 }
 
 /// Puts the labels of the code whose first line begins the text, which is the line of this number, in place of those that
-/// are there.
-pub fn look_ahead<'t>(labels: &mut Labels<'t>, text: &'t [u8], first: u64) -> Result<(), Fault>
+/// are there. It answers how many instructions the code has, for a caller that takes room for them.
+pub fn look_ahead<'t>(labels: &mut Labels<'t>, text: &'t [u8], first: u64) -> Result<usize, Fault>
     requires { first + length text.now < 2 ^ 64 }
     ensures ahead { OnOk result (labels.new ≡ says.labels_ahead [] first 0 (lines text.now)) }
     ensures memory { IsOkUnless result memory }
 {
     labels.clear();
     let mut line = first;
-    let mut number = 0u64;
+    let mut number = 0;
     let mut rest = text;
     while let Some((next, after)) = split_line(rest) {
         let words = after_spaces(next);
         if !is_comment(words) {
             if is_stop(words) {
-                return Ok(());
+                return Ok(number);
             }
             if is_mark(words) {
-                labels.put(up_to_space(words), Place { line, number })?;
+                let place = Place {
+                    line,
+                    number: number as u64,
+                };
+                labels.put(up_to_space(words), place)?;
             } else {
                 number += 1;
             }
@@ -134,7 +142,7 @@ pub fn look_ahead<'t>(labels: &mut Labels<'t>, text: &'t [u8], first: u64) -> Re
         line += 1;
         rest = after;
     }
-    Ok(())
+    Ok(number)
 }
 
 /// The instruction that the label of this name marks.
@@ -170,7 +178,18 @@ fn read_label<'a>(labels: &Labels<'_>, near: usize, one: Word<'a, '_>) -> Option
     }
 }
 
-/// What a word says in a slot of the second form.
+/// What a word says where a number of eight bits stands.
+fn read_byte<'a>(mark: Mark, most: u8, one: Word<'_, '_>) -> Option<Datum<'a>>
+    ensures found { IfSome result (λ d. SpellsSlot (Slot.Byte mark most) (word one.entry) (datum d)) }
+    ensures none { IfNone result ((d : Said) → SpellsSlot (Slot.Byte mark most) (word one.entry) d → ⊥) }
+{
+    match read_marked(mark, one, most as u64) {
+        Some(n) => Some(Datum::Byte(n as u8)),
+        None => None,
+    }
+}
+
+/// What a word says in a slot of the second form. Most slots are of labels, keywords and short numbers: these come first.
 fn read_here<'a, 'b>(
     spelled: &mut Spelled<'a, 'b>,
     bump: &'a Bump,
@@ -186,7 +205,11 @@ fn read_here<'a, 'b>(
     if is_target(slot) {
         return Ok(read_label(labels, near, one));
     }
-    read_datum(spelled, bump, slot, one)
+    match slot {
+        Slot::Key(key) => Ok(Some(Datum::Key(key))),
+        Slot::Byte(mark, most) => Ok(read_byte(mark, most, one)),
+        _ => read_datum(spelled, bump, slot, one),
+    }
 }
 
 /// The fault of a word that says nothing there.
@@ -216,11 +239,12 @@ pub fn read_all<'a, 'b>(
     ensures memory { IsOkUnless result memory }
 {
     says.clear();
+    says.reserve(slots.len())?;
     for i in 0..slots.len() {
         let Some(said) = read_here(spelled, bump, labels, near, slots[i], words[i])? else {
             return Ok(Some(fault_here(slots[i])));
         };
-        says.push(said)?;
+        says.push_reserved(said);
     }
     Ok(None)
 }

@@ -5,6 +5,8 @@
 //! is_label(b":L12")                        // true
 //! look_ahead(&mut labels, after, 6)?      // the labels of the code whose first line is the sixth
 //! ```
+//!
+//! docs/MAP.md says where this crate stands among the others.
 #![tactic(auto)]
 
 mod known;

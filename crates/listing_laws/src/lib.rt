@@ -3,6 +3,8 @@
 //!
 //! A text of whole lines leads from what was read so far to what is read then, whatever follows it; texts that lead one
 //! after the other lead as one. So the lines of a code, of a class and of a program are taken one by one.
+//!
+//! docs/MAP.md says where this crate stands among the others.
 #![tactic(auto)]
 
 mod law;

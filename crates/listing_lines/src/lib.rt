@@ -6,6 +6,8 @@
 //! may_stand(Stage::Top, Kind::Try)                                 // false: a try stands in code alone
 //! line_needs(&Line::Try(0, 5))                                     // 5
 //! ```
+//!
+//! docs/MAP.md says where this crate stands among the others.
 #![tactic(auto)]
 
 mod form;
@@ -18,6 +20,6 @@ mod stage;
 
 pub use form::{Form, is_two};
 pub use line::Line;
-pub use lines::make_line;
-pub use needs::{Need, first_late, line_needs};
+pub use lines::{make_insn, make_line};
+pub use needs::{Need, first_late, insn_needs, line_needs};
 pub use stage::{Stage, is_caught, is_insn, is_insns, is_start, may_stand};

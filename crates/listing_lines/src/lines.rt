@@ -30,7 +30,7 @@ fn after<'b, 'a>(said: &'b [Datum<'a>], n: usize) -> &'b [Datum<'a>]
 }
 
 /// The instruction of this opcode.
-fn make_insn<'a>(op: u8, said: &[Datum<'a>]) -> Insn<'a>
+pub fn make_insn<'a>(op: u8, said: &[Datum<'a>]) -> Insn<'a>
     ensures { insn result ≡ insn_of (format_of op) op (map datum said.now) }
 {
     match format_of(op) {

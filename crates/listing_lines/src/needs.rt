@@ -28,7 +28,7 @@ fn most_needed(targets: &[u32]) -> u64
 }
 
 /// How many instructions the targets of an instruction ask for.
-fn insn_needs(one: &Insn<'_>) -> u64
+pub fn insn_needs(one: &Insn<'_>) -> u64
     ensures { result ≡ said.insn_needs (insn one.now) }
 {
     match *one {

@@ -5,7 +5,7 @@ use Rattle.listing_words.specs.View.{word}
 use Rattle.listing_words.specs.declared.words.Word.{Word as Made}
 use Rattle.listing_slots.specs.Data.{Datum}
 use Rattle.listing_shapes.specs.Shapes.{Shape}
-use Rattle.listing_lines.specs.Lines.{Line, line_of}
+use Rattle.listing_lines.specs.Lines.{line_of}
 use Rattle.listing_draft.specs.States.{State, add}
 use Rattle.listing_labels.specs.Lines.{is_skipped}
 use Rattle.listing_parse.specs.Forms.{HasShapeInForm, may_stand_in_form, SpellsInForm, MisspellsInForm}
@@ -39,12 +39,12 @@ misplaced r ws sh g n = inr (inl (refl, record { shape = sh; has_shape = g; refu
 pub misspelled : (r : Reading) (ws : List Word) (sh : Shape) (code : ℕ) → HasShapeInForm r.form ws sh → may_stand_in_form r.form r.base sh ≡ true → MisspellsInForm r.form r.labels sh.slots sh.words code → IsUnsaid r ws code
 misspelled r ws sh code g n b = inr (inr (inl (record { shape = sh; has_shape = g; may_stand = n; bad = b })))
 
-pub twice : (r : Reading) (ws : List Word) (sh : Shape) (ds : List Datum) (l : Line) → HasShapeInForm r.form ws sh → may_stand_in_form r.form r.base sh ≡ true → SpellsInForm r.form r.labels sh.slots sh.words ds → l ≡ line_of sh.kind ds → add r.base l ≡ None → IsUnsaid r ws 104
-twice r ws sh ds l g n p e a = inr (inr (inr (refl, record { shape = sh; has_shape = g; may_stand = n; says = ds; spelled = p; refused = rw (← e) a })))
+pub twice : (r : Reading) (ws : List Word) (sh : Shape) (ds : List Datum) → HasShapeInForm r.form ws sh → may_stand_in_form r.form r.base sh ≡ true → SpellsInForm r.form r.labels sh.slots sh.words ds → add r.base (line_of sh.kind ds) ≡ None → IsUnsaid r ws 104
+twice r ws sh ds g n p a = inr (inr (inr (refl, record { shape = sh; has_shape = g; may_stand = n; says = ds; spelled = p; refused = a })))
 
-pub taken : (r t : Reading) (ls : List (List ℕ)) (ws : List Word) (sh : Shape) (ds : List Datum) (l : Line) (next : State) → HasShapeInForm r.form ws sh → may_stand_in_form r.form r.base sh ≡ true → SpellsInForm r.form r.labels sh.slots sh.words ds → l ≡ line_of sh.kind ds
-    → add r.base l ≡ Some next → t ≡ record { form = r.form; labels = labels_after r.form sh.kind (r.base.lines + 1) ls r.labels; base = next } → LineSays r ls ws t
-taken r t ls ws sh ds l next g n p e a is = record { shape = sh; has_shape = g; may_stand = n; says = ds; spelled = p; next = next; added = rw (← e) a; is = is }
+pub taken : (r t : Reading) (ls : List (List ℕ)) (ws : List Word) (sh : Shape) (ds : List Datum) (next : State) → HasShapeInForm r.form ws sh → may_stand_in_form r.form r.base sh ≡ true → SpellsInForm r.form r.labels sh.slots sh.words ds
+    → add r.base (line_of sh.kind ds) ≡ Some next → t ≡ record { form = r.form; labels = labels_after r.form sh.kind (r.base.lines + 1) ls r.labels; base = next } → LineSays r ls ws t
+taken r t ls ws sh ds next g n p a is = record { shape = sh; has_shape = g; may_stand = n; says = ds; spelled = p; next = next; added = a; is = is }
 
 pub drop_map : (n : ℕ) (ws : List Made) → map word (drop n ws) ≡ drop n (map word ws)
 drop_map zero ws = refl

@@ -1,4 +1,6 @@
 //! Listings: a program as text, and back.
+//!
+//! docs/MAP.md says where this crate stands among the others.
 #![tactic(auto)]
 
 mod aside;

@@ -1,12 +1,14 @@
 //! Reading a listing, line by line.
 
-ghost use Rattle.std.specs.Prelude.{◌≡◌, ◌≢◌, false, ◌+◌, ◌<◌, ◌^◌, [], map, length, drop, IfOk, IfErr, IfSome, IfNone, OnOk, IsOkUnless};
+ghost use Rattle.std.specs.Prelude.{◌≡◌, ◌≢◌, false, ◌+◌, ◌<◌, ◌^◌, [], map, length, drop, IfOk, IfErr, IfSome, IfNone, OnOk, IsOkUnless, MatchBool, Some, None};
 ghost use Rattle.base_bytes.specs.Fault.{memory};
 ghost use Rattle.program_types.specs.View.{program};
 ghost use Rattle.listing_words.specs.View.{word};
 ghost use Rattle.listing_slots.specs.View.{datum};
 ghost use Rattle.listing_shapes.specs.Shapes.{Shape};
 ghost use Rattle.listing_shapes.specs.ShapeView.{shape};
+ghost use Rattle.listing_lines.specs.Lines.{line_of};
+ghost use Rattle.listing_draft.specs.States.{add};
 ghost use Rattle.listing_draft.specs.View.{state};
 ghost use Rattle.listing_labels.specs.Lines.{lines, is_skipped};
 ghost use Rattle.listing_parse.specs.Forms.{HasShapeInForm, may_stand_in_form, SpellsInForm, MisspellsInForm};
@@ -19,7 +21,7 @@ use bumpalo::Bump;
 use dex_base::{Fault, fault};
 use listing_draft::{Block, Draft};
 use listing_labels::{Labels, is_label, is_mark, is_skipped, look_ahead, read_all, split_line};
-use listing_lines::{Form, is_insns, is_start, is_two, make_line, may_stand};
+use listing_lines::{Form, is_insns, is_start, is_two, make_insn, make_line, may_stand};
 use listing_shapes::{Found, read_bare_shape, read_shape};
 use listing_slots::{Datum, Kind, Slot, Spelled, is_same, read_operands};
 use listing_words::{Word, read_words};
@@ -196,7 +198,8 @@ impl<'a, 't> Reading<'a, 't> {
         match (self.form, kind) {
             (Form::Two, Kind::OpenCode) => {
                 self.passed = 0;
-                look_ahead(&mut self.labels, after, self.draft.lines + 1)
+                let count = look_ahead(&mut self.labels, after, self.draft.lines + 1)?;
+                self.draft.make_room(count)
             }
             (Form::Two, Kind::EndCode) => {
                 self.labels.clear();
@@ -268,6 +271,27 @@ fn read_says<'a, 'b>(
     }
 }
 
+/// Adds the line of this kind whose slots say this; false where it gives again what may be given once. Most lines are
+/// instructions: they are added without a line made of them.
+fn add_said<'a>(
+    arena: &'a Bump,
+    draft: &mut Draft<'a>,
+    kind: Kind,
+    said: &[Datum<'a>],
+) -> Result<bool, Fault>
+    ensures added { IfOk result (λ yes. MatchBool yes
+        (add (state draft.old) (line_of kind (map datum said.now)) ≡ Some (state draft.new))
+        (add (state draft.old) (line_of kind (map datum said.now)) ≡ None)) }
+    ensures lines { draft.new.lines ≡ draft.old.lines }
+    ensures memory { IsOkUnless result memory }
+{
+    if let Kind::Plain(op) = kind {
+        return draft.add_insn(make_insn(op, said));
+    }
+    let next = make_line(arena, kind, said)?;
+    draft.add(arena, next)
+}
+
 /// Adds a line that says something of the program; else it is refused: 100 to 104.
 fn add_says<'a, 'b>(
     scratch: &mut Scratch<'a, 'b>,
@@ -290,8 +314,8 @@ fn add_says<'a, 'b>(
     if let Some(code) = read_says(scratch, listing, found.lead)? {
         return Err(Fault::at(code, listing.draft.lines));
     }
-    let next = make_line(scratch.arena, found.kind, scratch.says.as_slice())?;
-    if !listing.draft.add(scratch.arena, next)? {
+    let said = scratch.says.as_slice();
+    if !add_said(scratch.arena, &mut listing.draft, found.kind, said)? {
         return Err(Fault::at(fault::LINE_TWICE, listing.draft.lines));
     }
     listing.find_labels(found.kind, after)

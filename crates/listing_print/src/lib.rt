@@ -4,6 +4,8 @@
 //! print(alloc, &program)?   // `dex 035 listing 2`, a line feed, then a block for each class; targets are labels
 //! print_1(alloc, &program)? // `dex 035`, the same with a number before each instruction
 //! ```
+//!
+//! docs/MAP.md says where this crate stands among the others.
 #![tactic(auto)]
 
 mod blocks;

@@ -7,6 +7,8 @@
 //! read_shape(words of `try @0 @5`, &mut slots)?   // Found { kind: Kind::Try, lead: 1, .. }, and slots for two targets
 //! read_shape(words of `try @0`, &mut slots)?      // None
 //! ```
+//!
+//! docs/MAP.md says where this crate stands among the others.
 #![tactic(auto)]
 
 mod due;

@@ -81,11 +81,14 @@ fn leads_with(first: u8) -> &'static [Key]
     }
 }
 
-/// The keyword of a line.
+/// The keyword of a line. The longest is `implements`; most mnemonics are longer.
 #[tactic(auto, unfolding(crate::specs::Keys::find_key, crate::specs::Keys::key_text, crate::specs::Keys::same))]
 pub fn lead_key(text: &[u8]) -> Option<Key>
     ensures { result ≡ find_key lead_keys text.now }
 {
+    if text.len() > 10 {
+        return None;
+    }
     match text.split_first() {
         Some((first, _)) => find_key(leads_with(*first), text),
         None => None,
@@ -106,11 +109,14 @@ pub fn is_same_text(a: &[u16], b: &[u16]) -> bool
     a == b
 }
 
-/// The word of a payload. The shortest is `array-payload`.
+/// The word of a payload. The shortest is `array-payload`, and all end with `d`, which no mnemonic as long does.
 pub fn payload_key(text: &[u8]) -> Option<Key>
     ensures { result ≡ find_key payload_keys text.now }
 {
     if text.len() < 13 {
+        return None;
+    }
+    if text[text.len() - 1] != 100 {
         return None;
     }
     find_key(&PAYLOADS, text)

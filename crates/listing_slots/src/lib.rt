@@ -7,6 +7,8 @@
 //! read_operands(spelled, bump, &[Slot::Byte(Mark::Register, 15), Slot::Short], words, &mut data)?
 //! // None, and data is [Byte(3), Short(-1)], for the words `v3 -1`; Some(102), Number, for `v16 -1`
 //! ```
+//!
+//! docs/MAP.md says where this crate stands among the others.
 #![tactic(auto)]
 
 mod datum;
@@ -26,6 +28,7 @@ pub use datum::{
 pub use key::{Key, is_same, is_same_text, key_text, lead_key, payload_key, value_key};
 pub use kind::Kind;
 pub use law::{printed_words_are_read_again, words_say_one_thing};
+pub use numbers::read_marked;
 pub use put::{
     put_bits, put_decimal, put_elements, put_field, put_flags, put_key, put_method, put_name,
     put_number, put_proto, put_register, put_signed, put_target, put_text,

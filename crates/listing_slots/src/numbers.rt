@@ -3,10 +3,11 @@
 ghost use Rattle.std.specs.Prelude.{◌≡◌, ℕ, ℤ, ◌<◌, ◌≤◌, ◌^◌, ◌∷◌, [], ◌+◌, pos, neg_ℤ, List, IfSome, IfNone};
 ghost use Rattle.listing_words.specs.Numbers.{SpellsNatural};
 ghost use Rattle.listing_words.specs.Words.{plain_word};
+ghost use Rattle.listing_words.specs.View.{word};
 ghost use Rattle.listing_slots.specs.Slots.{mark_text, SpellsNumber, SpellsInteger};
 
 use crate::slot::Mark;
-use listing_words::read_natural;
+use listing_words::{Word, read_natural};
 
 /// The byte of a mark.
 fn mark_byte(mark: Mark) -> Option<u8>
@@ -35,6 +36,17 @@ pub fn read_number(mark: Mark, text: &[u8], most: u64) -> Option<u64>
         return None;
     }
     read_natural(digits, most)
+}
+
+/// The number of at most `most` after the mark, which a word spells.
+pub fn read_marked(mark: Mark, one: Word<'_, '_>, most: u64) -> Option<u64>
+    ensures found { IfSome result (λ n. SpellsNumber mark most (word one.entry) n) }
+    ensures none { IfNone result ((n : ℕ) → SpellsNumber mark most (word one.entry) n → ⊥) }
+{
+    match one {
+        Word::Plain(text) => read_number(mark, text, most),
+        Word::Text(_) => None,
+    }
 }
 
 /// What follows a minus.

@@ -1,4 +1,6 @@
 //! Tests of listings: texts in, programs and faults out, and back.
+//!
+//! docs/MAP.md says where this crate stands among the others.
 #![tactic(auto)]
 
 #[cfg(test)]

@@ -9,6 +9,8 @@
 //! read_natural(b"0x1f", 255)                              // Some(31)
 //! put_flags(&mut out, 31)?                                // appends `0x1f`
 //! ```
+//!
+//! docs/MAP.md says where this crate stands among the others.
 #![tactic(auto)]
 
 mod bits;

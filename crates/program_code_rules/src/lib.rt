@@ -4,6 +4,8 @@
 //! code_holds(CodeRule::Target, code) // whether all branches and switches lead to instructions
 //! payloads_hold_in(alloc, code)? // the rule of payloads, in time that grows with the code
 //! ```
+//!
+//! docs/MAP.md says where this crate stands among the others.
 #![tactic(auto)]
 
 mod operands;

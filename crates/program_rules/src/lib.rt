@@ -5,6 +5,8 @@
 //! well_formed(&program)?; // 110 to 118, with the number of the first class that breaks a rule
 //! well_formed_in(alloc, &program)?; // the same, in time that grows with the program
 //! ```
+//!
+//! docs/MAP.md says where this crate stands among the others.
 #![tactic(auto)]
 
 // Names, wherever they stand.

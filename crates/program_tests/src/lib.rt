@@ -1,4 +1,6 @@
 //! Tests of program_types and tables_names: names in arenas, their orders and ranks, and values.
+//!
+//! docs/MAP.md says where this crate stands among the others.
 #![tactic(auto)]
 
 // program_types

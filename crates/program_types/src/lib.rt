@@ -15,6 +15,8 @@
 //! `{}` shows a name as a listing writes it, `LA;->m(I)V`, and `{:?}` all types, names in the same way.
 //!
 //! Pages of the Android Open Source Project: "Dalvik Executable format", "Dalvik Executable instruction formats".
+//!
+//! docs/MAP.md says where this crate stands among the others.
 #![tactic(auto)]
 
 // Names, and how they are hashed.

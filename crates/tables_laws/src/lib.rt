@@ -1,4 +1,6 @@
 //! Laws of the five tables of a file, each the contract of a function that does nothing.
+//!
+//! docs/MAP.md says where this crate stands among the others.
 #![tactic(auto)]
 
 ghost use Rattle.std.specs.Prelude.{◌≡◌, ℕ, ◌<◌, ◌⊎◌, List, ◌↔◌, true};

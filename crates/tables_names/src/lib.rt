@@ -5,6 +5,8 @@
 //! needed.add_type(ty)?; // and its descriptor as a string
 //! let rank = needed.freeze()?.index_of_type(ty); // its index in the written file
 //! ```
+//!
+//! docs/MAP.md says where this crate stands among the others.
 #![tactic(auto)]
 
 // What the five kinds of names have in common.

@@ -8,6 +8,8 @@
 //! let numbers = marks.number();
 //! let index = numbers.of(IndexKind::Method, 7); // its row in a file of the kept ones alone
 //! ```
+//!
+//! docs/MAP.md says where this crate stands among the others.
 #![tactic(auto)]
 
 // One table.

@@ -4,6 +4,8 @@
 //! let tables = Tables::read(alloc, &arena, &open(bytes)?)?;
 //! let name = tables.string(3); // the text of row 3
 //! ```
+//!
+//! docs/MAP.md says where this crate stands among the others.
 #![tactic(auto)]
 
 // The fields of a row.

@@ -5,6 +5,8 @@
 //! let most = mark_array(&mut marks, &sections, 0x1c0)?; // the rows that the values at byte 448 name are marked
 //! let item = renumber_array(alloc, &numbers, &sections, 0x1c0)?; // their bytes in a file of the kept rows
 //! ```
+//!
+//! docs/MAP.md says where this crate stands among the others.
 #![tactic(auto)]
 
 // Where an array begins.

@@ -1,42 +1,24 @@
-use Rattle.std.proofs.Common.{◌≡◌, ◌%◌, arith}
-use Rattle.std.proofs.lemmas.Result.{IfErr-weaker, IfOk-weaker}
-use Rattle.program_types.specs.View.{code}
+use Rattle.std.proofs.Common.{refl, sym, subst}
+use Rattle.std.specs.Prelude.{IfNone, IfSome}
+use Rattle.std.proofs.lemmas.Result.{IfOk-weaker}
+use Rattle.program_types.specs.Content.{Code}
+use Rattle.program_types.specs.Formed.{RegistersHold}
 use Rattle.tables_rows.specs.Names.{NameIsAt}
-use Rattle.dex_container.specs.Where.{IsSectionOf}
-use Rattle.code_read.proofs.StandLaws.{NameIsAt-functional, outside_none, code_stands, code_only, broken_none, broken}
+use Rattle.code_read.specs.Code.{BodyStands}
+use Rattle.code_read.specs.Faults.{RegistersBreak}
 use Rattle.code_read.proofs.reading.read_body.Goals as goal
-
-pub returns-in_default-clause-refused : goal.returns-in_default-clause-refused
-returns-in_default-clause-refused c = λ other d a. outside_none (NameIsAt c.args.tables.now) c.args.sections.now c.args.off d c.in_default.ensures.none a
 
 pub returns-clause-ok : goal.returns-clause-ok
 returns-clause-ok c =
-    let is : IsSectionOf c.args.sections.now 8193 c.section_of-section.result = assumption c.section_of-section.ensures in
-    let even : c.args.off % 4 ≡ 0 = omega (arith, c.if-off-ne0.false) in
-    IfOk-weaker c.read_item.result _ _
-    (λ x t. code_stands (NameIsAt c.args.tables.now) c.args.sections.now c.in-Some.bytes.now c.section_of-section.result c.args.off is c.in-Some.ensures.value (code x.code)
-    c.in-Some.ensures.low c.in-Some.ensures.high even t)
-    c.read_item.ensures.ok
+    IfOk-weaker c.body_at.result _ _ (λ x t. subst (BodyStands (NameIsAt c.args.tables.now) c.args.sections.now c.args.off) (sym (t.1 refl)) t.0.stands) c.body_at.ensures.ok
+
+pub returns-clause-named : goal.returns-clause-named
+returns-clause-named c =
+    IfOk-weaker c.body_at.result _ _ (λ x t. subst (λ (z : Code). IfNone x.past (RegistersHold z)) (sym (t.1 refl)) t.0.named) c.body_at.ensures.ok
+
+pub returns-clause-past : goal.returns-clause-past
+returns-clause-past c =
+    IfOk-weaker c.body_at.result _ _ (λ x t. subst (λ (z : Code). IfSome x.past (RegistersBreak c.args.off z)) (sym (t.1 refl)) t.0.breaks) c.body_at.ensures.ok
 
 pub returns-clause-only : goal.returns-clause-only
-returns-clause-only c =
-    let is : IsSectionOf c.args.sections.now 8193 c.section_of-section.result = assumption c.section_of-section.ensures in
-    IfOk-weaker c.read_item.result _ _
-    (λ x t d a. code_only (NameIsAt c.args.tables.now) c.args.sections.now c.in-Some.bytes.now c.section_of-section.result c.args.off is c.in-Some.ensures.value (NameIsAt-functional c.args.tables.now) (code x.code) d t a)
-    c.read_item.ensures.ok
-
-pub returns-clause-broken : goal.returns-clause-broken
-returns-clause-broken c =
-    let even : c.args.off % 4 ≡ 0 = omega (arith, c.if-off-ne0.false) in
-    let is : IsSectionOf c.args.sections.now 8193 c.section_of-section.result = assumption c.section_of-section.ensures in
-    IfErr-weaker c.read_item.result _ _
-    (λ e breaks other. broken (NameIsAt c.args.tables.now) c.args.sections.now c.in-Some.bytes.now c.section_of-section.result c.args.off is c.in-Some.ensures.value e
-    c.in-Some.ensures.low c.in-Some.ensures.high even (breaks other))
-    c.read_item.ensures.err
-
-pub returns-clause-refused : goal.returns-clause-refused
-returns-clause-refused c =
-    let is : IsSectionOf c.args.sections.now 8193 c.section_of-section.result = assumption c.section_of-section.ensures in
-    IfErr-weaker c.read_item.result _ _
-    (λ e breaks other d a. broken_none (NameIsAt c.args.tables.now) c.args.sections.now c.in-Some.bytes.now c.section_of-section.result c.args.off is c.in-Some.ensures.value e (breaks other) d a)
-    c.read_item.ensures.err
+returns-clause-only c = IfOk-weaker c.body_at.result _ _ (λ x only. only refl) c.body_at.ensures.only

@@ -1,5 +1,5 @@
-use Rattle.std.proofs.Common.{◌≡◌, ◌∙◌, ◌*◌, ◌+◌, subst, ap, ℕ, List, length, map, arith, length-drop}
-use Rattle.program_types.specs.View.{insn, try}
+use Rattle.std.proofs.Common.{◌≡◌, ◌∙◌, ◌+◌, ◌*◌, subst, ap, ℕ, List, length, map, arith, length-drop}
+use Rattle.program_types.specs.View.{try}
 use Rattle.tables_rows.specs.Names.{NameIsAt}
 use Rattle.code_read.specs.Item.{insns_size, list_begin}
 use Rattle.code_read.specs.Reading.{ReadTries}
@@ -10,8 +10,8 @@ use Rattle.code_read.proofs.FaultLaws.{insns-break, tries-break, units-even}
 use Rattle.code_read.proofs.reading.read_item.Goals as goal
 use Rattle.base_bytes.proofs.ListFacts.{passed}
 
-pub read_insns-requires-clause-even : goal.read_insns-requires-clause-even
-read_insns-requires-clause-even c =
+pub insns_of-requires-clause-even : goal.insns_of-requires-clause-even
+insns_of-requires-clause-even c =
     let i = c.in-Some.ensures.some in
     let e : length c.in-Some.item.units.now ≡ 2 * insns_size c.args.bytes.now = ap length i.units ∙ units-even c.args.bytes.now i.whole in
     omega arith
@@ -30,25 +30,33 @@ read_tries-requires-clause-short c =
     let r = c.requires in
     omega arith
 
+pub read_tries-requires-clause-rises : goal.read_tries-requires-clause-rises
+read_tries-requires-clause-rises c = rw c.deref.ensures.value c.in_ok-insns.ensures.ok.0.read.table.rises
+
+pub read_tries-requires-clause-few : goal.read_tries-requires-clause-few
+read_tries-requires-clause-few c = rw c.deref.ensures.value c.in_ok-insns.ensures.ok.0.read.table.few
+
 pub returns-in_err-tries-clause-err : goal.returns-in_err-tries-clause-err
 returns-in_err-tries-clause-err c =
     let i = c.in-Some.item in
     passed _ _ _ c.from_residual-in_err-tries.ensures.1 (λ ne.
-    tries-break (NameIsAt c.args.tables.now) c.args.off c.from-3.result c.args.bytes.now c.in_ok-insns.insns.starts.items i _ _ c.in-Some.ensures.some (let e = c.in-Some.ensures.some.size in let n = c.if-item-eq0.false in omega arith) c.from-3.ensures c.in_ok-insns.ensures.ok
+    tries-break (NameIsAt c.args.tables.now) c.args.off c.from-3.result c.args.bytes.now c.in_ok-insns.insns.starts.items i _ _ c.in-Some.ensures.some (let e = c.in-Some.ensures.some.size in let n = c.if-item-eq0.false in omega arith) c.from-3.ensures c.in_ok-insns.ensures.ok.0.read
     (subst (λ (z : List ℕ). TriesBreak (NameIsAt c.args.tables.now) z i.size i.tries i.items.now i.list.now (c.from-3.result + i.items_at) c.in_err-tries.field-0.0) c.deref.ensures.value (c.in_err-tries.ensures.err ne)))
 
 pub returns-clause-ok : goal.returns-clause-ok
 returns-clause-ok c =
     let i = c.in-Some.item in
     let N = NameIsAt c.args.tables.now in
+    let checked = c.in_ok-insns.ensures.ok.0 in
     let ts = map try c.in_ok-tries.tries.now in
-    item-read N c.args.bytes.now c.in_ok-insns.insns.starts.items i (map insn c.in_ok-insns.insns.insns.now) ts c.in-Some.ensures.some c.if-item-eq0.false c.in_ok-insns.ensures.ok
-    (subst (λ (z : List ℕ). ReadTries N z i.size i.tries i.items.now i.list.now ts) c.deref.ensures.value c.in_ok-tries.ensures.ok)
-
-pub returns-clause-named : goal.returns-clause-named
-returns-clause-named c =
-    named_of (code_with c.in-Some.item (map insn c.in_ok-insns.insns.insns.now) (map try c.in_ok-tries.tries.now)) c.register_fault.result c.in_ok-insns.insns.past c.register_fault.ensures.none c.in_ok-insns.ensures.among
-
-pub returns-clause-past : goal.returns-clause-past
-returns-clause-past c =
-    past_of c.args.off (code_with c.in-Some.item (map insn c.in_ok-insns.insns.insns.now) (map try c.in_ok-tries.tries.now)) c.register_fault.result c.in_ok-insns.insns.past c.register_fault.ensures.some c.in_ok-insns.ensures.past
+    let read = item-read N c.args.bytes.now c.in_ok-insns.insns.starts.items i checked.insns ts c.in-Some.ensures.some c.if-item-eq0.false checked.read
+    (subst (λ (z : List ℕ). ReadTries N z i.size i.tries i.items.now i.list.now ts) c.deref.ensures.value c.in_ok-tries.ensures.ok) in (
+      record {
+        code = code_with i checked.insns ts;
+        rest = read.0;
+        takes = read.1;
+        named = named_of (code_with i checked.insns ts) c.register_fault.result c.in_ok-insns.insns.past c.register_fault.ensures.none checked.among;
+        breaks = past_of c.args.off (code_with i checked.insns ts) c.register_fault.result c.in_ok-insns.insns.past c.register_fault.ensures.some checked.first;
+      },
+      λ keep. ap (λ is. code_with i is ts) (c.in_ok-insns.ensures.ok.1 keep),
+    )

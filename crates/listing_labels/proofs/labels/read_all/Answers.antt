@@ -16,7 +16,8 @@ loop-i-preserved c =
     let es = c.args.labels.now in
     let found = rw c.in-Some.is at c.in_ok-said.ensures.found in
     record {
-      all = λ more m. rw (c.in_ok-push.ensures.items, data_push c.loop-i.says.items c.in-Some.said more)
+      all = λ more m. rw (c.push_reserved.ensures.items, data_push c.loop-i.says.items c.in-Some.said more)
           (c.loop-i.invariant.all (datum c.in-Some.said ∷ more) (all_more es c.args.slots.now c.args.words.now c.loop-i.i _ _ (datum c.in-Some.said) more c.loop-i-test.true c.requires found m));
       bad = λ code b. c.loop-i.invariant.bad code (bad_more es c.args.slots.now c.args.words.now c.loop-i.i _ _ (datum c.in-Some.said) code c.loop-i-test.true c.requires found b);
+      room = omega arith;
     }

@@ -35,10 +35,9 @@ pub returns-then-not-branch-clause-refused : goal.returns-then-not-branch-clause
 unfolding reading
 returns-then-not-branch-clause-refused c = λ ne.
     let ws = map word c.args.scratch.now.words.items in
-    rw c.at-then-not-branch.ensures (twice (reading c.args.listing.now) ws (shape c.in-Some.found c.read_form.new.slots.items ws) (map datum c.read_says.new.scratch.says.items) (line c.in_ok-next.next) (rw (c.in-Some.is, c.as_slice-words.ensures.value) at c.in_ok-found.ensures.found) (sym (c.may_be.ensures c.read_form.new.slots.items ws) ∙ c.if-not-may_be.false)
+    rw c.at-then-not-branch.ensures (twice (reading c.args.listing.now) ws (shape c.in-Some.found c.read_form.new.slots.items ws) (map datum c.read_says.new.scratch.says.items) (rw (c.in-Some.is, c.as_slice-words.ensures.value) at c.in_ok-found.ensures.found) (sym (c.may_be.ensures c.read_form.new.slots.items ws) ∙ c.if-not-may_be.false)
     (rw c.in_default-2.is at c.in_ok-code.ensures.all)
-    (c.in_ok-next.ensures.ok ∙ ap (λ (ds : List Datum). line_of c.in-Some.found.kind (map datum ds)) c.as_slice.ensures.value)
-    (rw c.if-not-branch.true at c.in_ok-add.ensures.added))
+    (rw (c.if-not-branch.true, c.as_slice-said.ensures.value) at c.in_ok-add_said.ensures.added))
 
 pub returns-clause-taken : goal.returns-clause-taken
 unfolding reading state
@@ -47,10 +46,9 @@ returns-clause-taken c =
     let ls = lines c.args.after.now in
     let es = c.args.listing.now.labels in
     let form = c.args.listing.now.form in
-    on_ok_weaker c.find_labels.result (λ looked. taken (reading c.args.listing.now) (reading c.find_labels.new.self) ls ws (shape c.in-Some.found c.read_form.new.slots.items ws) (map datum c.read_says.new.scratch.says.items) (line c.in_ok-next.next) (state c.add.new.self)
+    on_ok_weaker c.find_labels.result (λ looked. taken (reading c.args.listing.now) (reading c.find_labels.new.self) ls ws (shape c.in-Some.found c.read_form.new.slots.items ws) (map datum c.read_says.new.scratch.says.items) (state c.add_said.new.draft)
     (rw (c.in-Some.is, c.as_slice-words.ensures.value) at c.in_ok-found.ensures.found) (sym (c.may_be.ensures c.read_form.new.slots.items ws) ∙ c.if-not-may_be.false)
     (rw c.in_default-2.is at c.in_ok-code.ensures.all)
-    (c.in_ok-next.ensures.ok ∙ ap (λ (ds : List Datum). line_of c.in-Some.found.kind (map datum ds)) c.as_slice.ensures.value)
-    (rw c.if-not-branch.false at c.in_ok-add.ensures.added)
-    (looked ∙ ap (λ (n : ℕ). record { form = form; labels = labels_after form c.in-Some.found.kind (n + 1) ls es; base = state c.add.new.self }) c.in_ok-add.ensures.lines))
+    (rw (c.if-not-branch.false, c.as_slice-said.ensures.value) at c.in_ok-add_said.ensures.added)
+    (looked ∙ ap (λ (n : ℕ). record { form = form; labels = labels_after form c.in-Some.found.kind (n + 1) ls es; base = state c.add_said.new.draft }) c.in_ok-add_said.ensures.lines))
     c.find_labels.ensures.looked
