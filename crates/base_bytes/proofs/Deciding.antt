@@ -24,11 +24,6 @@ decide_either (inl p) d = inl (inl p)
 decide_either (inr nay) (inl q) = inl (inr q)
 decide_either (inr nay) (inr nor) = inr (λ x. elim x [ inl p ↦ nay p | inr q ↦ nor q ])
 
--- what is not refused holds
-pub stable : {P : Type 0} → Decided P → ((P → ⊥) → ⊥) → P
-stable (inl p) nn = p
-stable (inr nay) nn = absurd (nn nay)
-
 pub decide_lt : (a b : ℕ) → Decided (a < b)
 decide_lt a b = elim (cases_lt a b) [ inl lt ↦ inl lt | inr ge ↦ inr (λ lt. omega (arith, lt, ge)) ]
 

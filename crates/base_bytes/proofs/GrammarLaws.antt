@@ -1,5 +1,5 @@
 -- Laws of grammars made of others, proved once for all of them.
-use Rattle.std.proofs.Common.{◌≡◌, ℕ, suc, ◌+◌, ◌-◌, ◌<◌, ◌≤◌, List, [], ◌∷◌, ◌++◌, length, take, drop, get_or, map, ◌⊎◌, inl, inr, add-zero, refl, sym, ap, subst, ◌∙◌, append_assoc, arith}
+use Rattle.std.proofs.Common.{◌≡◌, ℕ, suc, ◌+◌, ◌-◌, ◌<◌, ◌≤◌, List, [], ◌∷◌, ◌++◌, length, take, drop, get_or, ◌⊎◌, inl, inr, add-zero, refl, sym, ap, subst, ◌∙◌, append_assoc, arith}
 use Rattle.std.proofs.Math.Seq.{take-add}
 use Rattle.std.proofs.lemmas.List.{append_cancel_left, append-nil, take-append-drop, length-drop, take_more, get_or-drop}
 use Rattle.base_bytes.specs.Grammar.{Begins, NoneBegins, Appends, IsPrefixUnique, Then, Pair, Each, Many, Counted, Seen, Ended}
@@ -83,26 +83,6 @@ pub Each-push : {V : Type 0} (G : List ℕ → V → Type 0) (a b : List ℕ) (v
 Each-push G a b [] v p q = (b, [], rw p (sym (append-nil b)), q, refl)
 Each-push G a b (u ∷ us) v p q = (p.0, p.1 ++ b, ap (λ l. l ++ b) p.2 ∙ append_assoc p.0 p.1 b, p.3, Each-push G p.1 b us v p.4 q)
 
--- values, and after them others
-pub Each-append : {V : Type 0} (G : List ℕ → V → Type 0) (a b : List ℕ) (vs ws : List V) → Each G a vs → Each G b ws → Each G (a ++ b) (vs ++ ws)
-Each-append {V} G a b [] ws p q = subst (λ (l : List ℕ). Each G (l ++ b) ws) (sym p) q
-Each-append G a b (v ∷ vs) ws p q = (p.0, p.1 ++ b, ap (λ l. l ++ b) p.2 ∙ append_assoc p.0 p.1 b, p.3, Each-append G p.1 b vs ws p.4 q)
-
-pub Each-split : {V : Type 0} (G : List ℕ → V → Type 0) (bytes : List ℕ) (vs ws : List V) → Each G bytes (vs ++ ws) → (a : List ℕ) × (b : List ℕ) × (bytes ≡ a ++ b) × Each G a vs × Each G b ws
-Each-split G bytes [] ws p = ([], bytes, refl, refl, p)
-Each-split G bytes (v ∷ vs) ws p =
-    let r = Each-split G p.1 vs ws p.4 in
-    (p.0 ++ r.0, r.1, p.2 ∙ ap (λ l. p.0 ++ l) r.2 ∙ sym (append_assoc p.0 r.0 r.1), (p.0, r.0, refl, p.3, r.3), r.4)
-
--- spellings of what values stand for
-pub Each-seen : {U V : Type 0} (view : U → V) (G : List ℕ → V → Type 0) (bytes : List ℕ) (us : List U) → Each (Seen view G) bytes us → Each G bytes (map view us)
-Each-seen view G bytes [] p = p
-Each-seen view G bytes (u ∷ us) p = (p.0, p.1, p.2, p.3, Each-seen view G p.1 us p.4)
-
-pub Each-to_seen : {U V : Type 0} (view : U → V) (G : List ℕ → V → Type 0) (bytes : List ℕ) (us : List U) → Each G bytes (map view us) → Each (Seen view G) bytes us
-Each-to_seen view G bytes [] p = p
-Each-to_seen view G bytes (u ∷ us) p = (p.0, p.1, p.2, p.3, Each-to_seen view G p.1 us p.4)
-
 pub Each-none : {V : Type 0} (G : List ℕ → V → Type 0) (bytes : List ℕ) (vs : List V) → vs ≡ [] → Begins (Each G) bytes vs 0
 Each-none G bytes [] e = record { inside = omega arith; spelled = refl }
 Each-none G bytes (v ∷ vs) e = absurd cc
@@ -133,9 +113,6 @@ Many-none G n bytes vs m g p short none front rest ws e s =
     let next = Each-next G g vs ws (take m bytes) front (drop m bytes) rest (omega arith) p.spelled s.1 (take-append-drop m bytes ∙ e) in
     none next.0 next.1 next.2 next.3 next.4
 
-pub Many-found : {V : Type 0} (G : List ℕ → V → Type 0) (n : ℕ) (bytes : List ℕ) (vs : List V) (m : ℕ) → Begins (Each G) bytes vs m → length vs ≡ n → Begins (Many G n) bytes vs m
-Many-found G n bytes vs m p e = record { inside = p.inside; spelled = (e, p.spelled) }
-
 -- `Counted` is a `Then` at a list and its length
 pub Counted-found : {V : Type 0} (C : List ℕ → ℕ → Type 0) (G : List ℕ → V → Type 0) (bytes : List ℕ) (count m n : ℕ) (vs : List V)
     → Begins C bytes count m → Begins (Many G count) (drop m bytes) vs n → Begins (Counted C G) bytes vs (m + n)
@@ -143,9 +120,6 @@ Counted-found {V} C G bytes count m n vs p q =
     let e = q.spelled.0 in
     let r = Then-found C (Many G) bytes count vs m n p q in
     record { inside = r.inside; spelled = subst (λ (k : ℕ). Then C (Many G) (take (m + n) bytes) (k, vs)) (sym e) r.spelled }
-
-pub Counted-none : {V : Type 0} (C : List ℕ → ℕ → Type 0) (G : List ℕ → V → Type 0) (bytes : List ℕ) → NoneBegins C bytes → NoneBegins (Counted C G) bytes
-Counted-none C G bytes none front rest vs e s = Then-none_first C (Many G) bytes none front rest (length vs, vs) e s
 
 pub Counted-none_many : {V : Type 0} (C : List ℕ → ℕ → Type 0) (G : List ℕ → V → Type 0) (bytes : List ℕ) (count m : ℕ)
     → IsPrefixUnique C → Begins C bytes count m → NoneBegins (Many G count) (drop m bytes) → NoneBegins (Counted C G) bytes
@@ -172,23 +146,7 @@ Each-appends_more G old mid new vs v p q = record {
   spelled = Each-push G p.bytes q.bytes vs v p.spelled q.spelled;
 }
 
-pub Counted-appends : {V : Type 0} (C : List ℕ → ℕ → Type 0) (G : List ℕ → V → Type 0) (old mid new : List ℕ) (vs : List V)
-    → Appends C old mid (length vs) → Appends (Each G) mid new vs → Appends (Counted C G) old new vs
-Counted-appends C G old mid new vs p q =
-    let many : Appends (Many G (length vs)) mid new vs = record { bytes = q.bytes; joined = q.joined; spelled = (refl, q.spelled) } in
-    let r = Then-appends C (Many G) old mid new (length vs) vs p many in
-    record { bytes = r.bytes; joined = r.joined; spelled = r.spelled }
-
 -- ---- a value of the program for the grammar's value
-
-pub Seen-found : {U V : Type 0} (view : U → V) (G : List ℕ → V → Type 0) (bytes : List ℕ) (u : U) (n : ℕ) → Begins G bytes (view u) n → Begins (Seen view G) bytes u n
-Seen-found view G bytes u n p = record { inside = p.inside; spelled = p.spelled }
-
-pub Seen-none : {U V : Type 0} (view : U → V) (G : List ℕ → V → Type 0) (bytes : List ℕ) → NoneBegins G bytes → NoneBegins (Seen view G) bytes
-Seen-none view G bytes none front rest u e s = none front rest (view u) e s
-
-pub Seen-appends : {U V : Type 0} (view : U → V) (G : List ℕ → V → Type 0) (old new : List ℕ) (u : U) → Appends G old new (view u) → Appends (Seen view G) old new u
-Seen-appends view G old new u p = record { bytes = p.bytes; joined = p.joined; spelled = p.spelled }
 
 -- ---- a zero at the end
 
@@ -214,10 +172,3 @@ Ended-unique G g a b x y v w p q e =
     let l : p.front ++ (0 ∷ x) ≡ q.front ++ (0 ∷ y) = sym (append_assoc p.front (0 ∷ []) x) ∙ ap (λ l. l ++ x) (sym p.joined) ∙ e ∙ ap (λ l. l ++ y) q.joined ∙ append_assoc q.front (0 ∷ []) y in
     let r = g p.front q.front (0 ∷ x) (0 ∷ y) v w p.spelled q.spelled l in
     (p.joined ∙ ap (λ l. l ++ 0 ∷ []) r.0 ∙ sym q.joined, r.1)
-
-pub Ended-appends : {V : Type 0} (G : List ℕ → V → Type 0) (old mid new : List ℕ) (v : V) → Appends G old mid v → new ≡ mid ++ 0 ∷ [] → Appends (Ended G) old new v
-Ended-appends G old mid new v p e = record {
-  bytes = p.bytes ++ 0 ∷ [];
-  joined = e ∙ ap (λ l. l ++ 0 ∷ []) p.joined ∙ append_assoc old p.bytes (0 ∷ []);
-  spelled = record { front = p.bytes; joined = refl; spelled = p.spelled };
-}

@@ -28,15 +28,6 @@ pub low_first_below : (xs : List ℕ) → low_first xs < 128 ^ length xs
 low_first_below [] = omega arith
 low_first_below (x ∷ xs) = omega (arith, low_first_below xs, pow-suc 128 (length xs))
 
--- a sequence in bytes that begin with open bytes is longer than these
-pub open_shorter : (xs tail front rest : List ℕ) → IsOpen xs → IsSequence front → xs ++ tail ≡ front ++ rest → length xs < length front
-open_shorter xs tail [] rest o c e = absurd c
-open_shorter [] tail (b ∷ bs) rest o c e = omega arith
-open_shorter (x ∷ xs) tail (b ∷ []) rest o c e = let same : x ≡ b = cc in absurd (omega arith)
-open_shorter (x ∷ xs) tail (b ∷ d ∷ bs) rest o c e =
-    let others : xs ++ tail ≡ (d ∷ bs) ++ rest = cc in
-    omega (arith, open_shorter xs tail (d ∷ bs) rest o.1 c.1 others)
-
 -- the loop has read i bytes
 pub record IsRead (bytes : List ℕ) (i number scale : ℕ) : Type 0 where
   pub inside : i ≤ length bytes

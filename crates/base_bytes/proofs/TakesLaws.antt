@@ -1,7 +1,7 @@
 -- The two ways to say that a spelling stands at the front: how many bytes it takes, or which bytes follow it.
 use Rattle.std.proofs.Common.{◌≡◌, ℕ, ◌+◌, List, [], ◌∷◌, ◌++◌, length, take, drop, refl, sym, ap, subst, ◌∙◌, append_assoc, arith}
-use Rattle.std.proofs.lemmas.List.{length-append, append-nil, take-append-drop, take_at, drop_at}
-use Rattle.base_bytes.specs.Grammar.{Begins, NoneBegins, Takes, Appends, IsPrefixUnique, Then, Each, Counted, Ended}
+use Rattle.std.proofs.lemmas.List.{length-append, take-append-drop, take_at, drop_at}
+use Rattle.base_bytes.specs.Grammar.{Begins, NoneBegins, Takes, IsPrefixUnique, Then, Each, Counted, Ended}
 use Rattle.base_bytes.proofs.GrammarLaws.{rest_same, Each-push}
 
 -- ---- from one to the other
@@ -24,20 +24,6 @@ Takes-none G bytes v rest none t = none t.front rest v t.whole t.spelled
 
 pub NoneBegins-from_takes : {V : Type 0} (G : List ℕ → V → Type 0) (bytes : List ℕ) → ((v : V) (rest : List ℕ) → Takes G bytes v rest → ⊥) → NoneBegins G bytes
 NoneBegins-from_takes G bytes none front rest v e s = none v rest (record { front = front; whole = e; spelled = s })
-
-pub Takes-from_appends : {V : Type 0} (G : List ℕ → V → Type 0) (old new : List ℕ) (v : V) → Appends G old new v → Takes G (drop (length old) new) v []
-Takes-from_appends G old new v p = record {
-  front = p.bytes;
-  whole = ap (drop (length old)) p.joined ∙ drop_at old p.bytes (length old) refl ∙ sym (append-nil p.bytes);
-  spelled = p.spelled;
-}
-
--- all of the bytes
-pub Takes-all : {V : Type 0} (G : List ℕ → V → Type 0) (bytes : List ℕ) (v : V) → G bytes v → Takes G bytes v []
-Takes-all G bytes v s = record { front = bytes; whole = sym (append-nil bytes); spelled = s }
-
-pub Takes-to_all : {V : Type 0} (G : List ℕ → V → Type 0) (bytes : List ℕ) (v : V) → Takes G bytes v [] → G bytes v
-Takes-to_all {V} G bytes v t = subst (λ (l : List ℕ). G l v) (sym (t.whole ∙ append-nil t.front)) t.spelled
 
 pub Takes-unique : {V : Type 0} (G : List ℕ → V → Type 0) (bytes : List ℕ) (v w : V) (r s : List ℕ) → IsPrefixUnique G → Takes G bytes v r → Takes G bytes w s → (v ≡ w) × (r ≡ s)
 Takes-unique G bytes v w r s g p q =

@@ -1,9 +1,9 @@
 -- Grammars through a relation, and what stands after a front that is known.
-use Rattle.std.proofs.Common.{◌≡◌, ℕ, List, length, drop, sym, subst}
-use Rattle.base_bytes.specs.Grammar.{IsPrefixUnique, Begins, Takes, NoneBegins, Then}
+use Rattle.std.proofs.Common.{◌≡◌, ℕ, List, length, sym, subst}
+use Rattle.base_bytes.specs.Grammar.{IsPrefixUnique, Takes, NoneBegins, Then}
 use Rattle.base_bytes.specs.Via.{Via}
 use Rattle.base_bytes.proofs.GrammarLaws.{Then-none_second}
-use Rattle.base_bytes.proofs.TakesLaws.{Takes-from_begins, Begins-from_takes, Takes-unique}
+use Rattle.base_bytes.proofs.TakesLaws.{Begins-from_takes, Takes-unique}
 
 pub Via-unique : {U V : Type 0} (G : List ℕ → U → Type 0) (R : U → V → Type 0) → IsPrefixUnique G → ((u : U) (v w : V) → R u v → R u w → v ≡ w) → IsPrefixUnique (Via G R)
 Via-unique {U} {V} G R g f a b x y v w p q e =
@@ -26,6 +26,3 @@ pub second-none : {V W : Type 0} (G : List ℕ → V → Type 0) (H : V → List
 second-none G H bytes mid v g t none =
     let b = Begins-from_takes G bytes v mid t in
     Then-none_second G H bytes v (length t.front) g b.0 (subst (λ (l : List ℕ). NoneBegins (H v) l) (sym b.1) none)
-
-pub takes-rest : {V : Type 0} (G : List ℕ → V → Type 0) (bytes rest : List ℕ) (v : V) (n : ℕ) → Begins G bytes v n → rest ≡ drop n bytes → Takes G bytes v rest
-takes-rest {V} G bytes rest v n b e = subst (λ (r : List ℕ). Takes G bytes v r) (sym e) (Takes-from_begins G bytes v n b)

@@ -1,6 +1,6 @@
 -- A grammar that implies another: what is said of its spellings carries over.
 use Rattle.std.proofs.Common.{ℕ, List, [], ◌∷◌}
-use Rattle.base_bytes.specs.Grammar.{Begins, NoneBegins, Takes, Appends, IsPrefixUnique, Then, Pair, Each, Many, Counted, Seen, Ended}
+use Rattle.base_bytes.specs.Grammar.{Takes, IsPrefixUnique, Then, Pair, Each, Many, Counted, Ended}
 use Rattle.base_bytes.specs.Leb128.{Shortest}
 
 -- every spelling of the first is one of the second, of the same value
@@ -9,17 +9,8 @@ Implies {V} G H = (bytes : List ℕ) (v : V) → G bytes v → H bytes v
 
 -- ---- where a spelling stands
 
-pub Begins-weaker : {V : Type 0} (G H : List ℕ → V → Type 0) → Implies G H → (bytes : List ℕ) (v : V) (n : ℕ) → Begins G bytes v n → Begins H bytes v n
-Begins-weaker G H f bytes v n p = record { inside = p.inside; spelled = f _ v p.spelled }
-
-pub NoneBegins-weaker : {V : Type 0} (G H : List ℕ → V → Type 0) → Implies G H → (bytes : List ℕ) → NoneBegins H bytes → NoneBegins G bytes
-NoneBegins-weaker G H f bytes none front rest v e s = none front rest v e (f front v s)
-
 pub Takes-weaker : {V : Type 0} (G H : List ℕ → V → Type 0) → Implies G H → (bytes : List ℕ) (v : V) (rest : List ℕ) → Takes G bytes v rest → Takes H bytes v rest
 Takes-weaker G H f bytes v rest p = record { front = p.front; whole = p.whole; spelled = f p.front v p.spelled }
-
-pub Appends-weaker : {V : Type 0} (G H : List ℕ → V → Type 0) → Implies G H → (old new : List ℕ) (v : V) → Appends G old new v → Appends H old new v
-Appends-weaker G H f old new v p = record { bytes = p.bytes; joined = p.joined; spelled = f p.bytes v p.spelled }
 
 pub IsPrefixUnique-weaker : {V : Type 0} (G H : List ℕ → V → Type 0) → Implies G H → IsPrefixUnique H → IsPrefixUnique G
 IsPrefixUnique-weaker G H f h a b x y v w p q e = h a b x y v w (f a v p) (f b w q) e
@@ -44,9 +35,6 @@ Many-weaker G H n f bytes vs p = (p.0, Each-weaker G H f bytes vs p.1)
 
 pub Counted-weaker : {V : Type 0} (C D : List ℕ → ℕ → Type 0) (G H : List ℕ → V → Type 0) → Implies C D → Implies G H → Implies (Counted C G) (Counted D H)
 Counted-weaker C D G H f g bytes vs p = Then-weaker C D (Many G) (Many H) f (λ n. Many-weaker G H n g) bytes _ p
-
-pub Seen-weaker : {U V : Type 0} (view : U → V) (G H : List ℕ → V → Type 0) → Implies G H → Implies (Seen view G) (Seen view H)
-Seen-weaker view G H f bytes u p = f bytes (view u) p
 
 pub Ended-weaker : {V : Type 0} (G H : List ℕ → V → Type 0) → Implies G H → Implies (Ended G) (Ended H)
 Ended-weaker G H f bytes v p = record { front = p.front; joined = p.joined; spelled = f p.front v p.spelled }

@@ -1,5 +1,5 @@
 -- The faults: a number, a place, and the name and the sentence of each number.
-use Rattle.std.specs.Prelude.{ℕ, List, [], ◌∷◌, map, ◌++◌, ◌==◌, if◌then◌else◌, codes}
+use Rattle.std.specs.Prelude.{ℕ, List, ◌∷◌, map, ◌++◌, ◌==◌, if◌then◌else◌, codes}
 use Rattle.std.specs.Fmt.{decimal}
 use Rattle.base_bytes.specs.declared.fault.Fault.{Fault}
 use Rattle.base_bytes.specs.declared.fault_names.Row.{Row}

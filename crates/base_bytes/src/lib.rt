@@ -7,6 +7,8 @@
 //! let number = read_uleb(&out); // Some((300, 2))
 //! let refusal = Fault::at(fault::MAP_PLACE, 52);
 //! ```
+//!
+//! docs/MAP.md says where this crate stands among the others.
 #![tactic(auto)]
 
 // Refusals.

@@ -2,7 +2,7 @@
 //! is `rising`, `falling`, `random` or `mentions` (each of COUNT / 100 names a hundred times, one after another). It prints how many
 //! names there are of all five kinds. bench/needed/run times it beside bench/needed/plain.rs.
 
-ghost use Rattle.std.specs.Prelude.{IfOk, IsTrue, All, map};
+ghost use Rattle.std.specs.Prelude.{IsTrue, All, map};
 ghost use Rattle.dex_base.specs.Descriptor.{IsDescriptor};
 ghost use Rattle.program_types.specs.View.{desc};
 

@@ -87,13 +87,6 @@ module _ (f : ℕ → ℕ) where
   payload-same : (i : Insn) → insn_payload (moved_insn f i) ≡ insn_payload i
   unfolding insn_payload
   payload-same (made.I10t op to) = refl
-  payload-same (made.I20t op to) = refl
-  payload-same (made.I21t op a to) = refl
-  payload-same (made.I22t op a b to) = refl
-  payload-same (made.I30t op to) = refl
-  payload-same (made.I31t op a to) = refl
-  payload-same (made.Packed first to) = refl
-  payload-same (made.Sparse keys to) = refl
   payload-same _ = refl
 
   wants-same : (i : Insn) → insn_wants (moved_insn f i) ≡ insn_wants i
@@ -104,19 +97,11 @@ module _ (f : ℕ → ℕ) where
   branch-same : (i : Insn) → insn_branch (moved_insn f i) ≡ option_map f (insn_branch i)
   unfolding insn_branch
   branch-same (made.I10t op to) = refl
-  branch-same (made.I20t op to) = refl
-  branch-same (made.I21t op a to) = refl
-  branch-same (made.I22t op a b to) = refl
-  branch-same (made.I30t op to) = refl
   branch-same _ = refl
 
   short-same : (i : Insn) → insn_short_branch (moved_insn f i) ≡ option_map f (insn_short_branch i)
   unfolding insn_branch insn_short_branch
   short-same (made.I10t op to) = refl
-  short-same (made.I20t op to) = refl
-  short-same (made.I21t op a to) = refl
-  short-same (made.I22t op a b to) = refl
-  short-same (made.I30t op to) = refl
   short-same _ = refl
 
   targets-same : (i : Insn) → insn_targets (moved_insn f i) ≡ map f (insn_targets i)
@@ -128,13 +113,6 @@ module _ (f : ℕ → ℕ) where
   registers-same : (i : Insn) → insn_registers (moved_insn f i) ≡ insn_registers i
   unfolding insn_registers
   registers-same (made.I10t op to) = refl
-  registers-same (made.I20t op to) = refl
-  registers-same (made.I21t op a to) = refl
-  registers-same (made.I22t op a b to) = refl
-  registers-same (made.I30t op to) = refl
-  registers-same (made.I31t op a to) = refl
-  registers-same (made.Packed first to) = refl
-  registers-same (made.Sparse keys to) = refl
   registers-same _ = refl
 
   -- only what refers to a payload has a reach
@@ -197,9 +175,6 @@ some-moved f P Q (Some t) g h = g t h
 module _ (c : Code) (ps : List Bool) (good : PadsPayloads ps c.insns) (formed : IsFormed c) where
   is : List Insn
   is = c.insns
-
-  new : List Insn
-  new = map (moved_insn (moved ps)) (with_nops ps c.insns)
 
   count : length ps ≡ length c.insns
   count = pads-count ps c.insns good

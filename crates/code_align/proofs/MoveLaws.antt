@@ -7,7 +7,7 @@ use Rattle.program_types.specs.View.{insn, catch, try}
 use Rattle.program_types.specs.declared.insn.Insn.{Insn as Held}
 use Rattle.program_types.specs.declared.code.Catch.{Catch as HeldCatch}
 use Rattle.program_types.specs.declared.code.Try.{Try as HeldTry}
-use Rattle.program_types.specs.Content.{Insn, Code, Try, Catch}
+use Rattle.program_types.specs.Content.{Insn, Try, Catch}
 use Rattle.program_types.specs.Content as made
 use Rattle.program_types.specs.Formed.{insn_at, try_at, TryFormed}
 use Rattle.program_types.specs.Operands.{IsOperand}

@@ -1,5 +1,5 @@
 -- Nops before payloads at odd addresses.
-use Rattle.std.proofs.Common.{◌≡◌, ◌≢◌, ℕ, ◌+◌, ◌%◌, ◌<◌, ◌≤◌, ◌++◌, List, [], ◌∷◌, length, get_or, drop, take, refl, ap, sym, ◌∙◌, arith, zero, suc, subst, Bool, true, false, Option, Some, None, inl, inr, append_assoc, append-nil, length-append, ◌==◌, if◌then◌else◌}
+use Rattle.std.proofs.Common.{◌≡◌, ◌≢◌, ℕ, ◌+◌, ◌%◌, ◌<◌, ◌≤◌, ◌++◌, List, [], ◌∷◌, length, get_or, drop, take, refl, ap, sym, ◌∙◌, arith, zero, suc, subst, Bool, true, false, Option, Some, None, inl, inr, append_assoc, length-append, ◌==◌, if◌then◌else◌}
 use Rattle.std.proofs.lemmas.Bool.{cases_lt}
 use Rattle.std.proofs.lemmas.Bool.Decides.{nat_tests}
 use Rattle.std.proofs.lemmas.List.{drop_more, length-map}
@@ -77,15 +77,6 @@ pads-turn is k at i pads new whole l e h n =
     let rest = pads_from (at + (if is_odd at i then 1 else 0) + insn_units i) (drop (k + 1) is) in
     let d : drop k is ≡ i ∷ drop (k + 1) is = drop_more is k (made.I10x 0) l ∙ ap (λ (j : Insn). j ∷ drop (k + 1) is) (sym e) in
     ap (λ (ps : List Bool). ps ++ rest) n ∙ append_assoc pads (is_odd at i ∷ []) rest ∙ ap (λ (js : List Insn). pads ++ pads_from at js) (sym d) ∙ h
-
-pub pads-end : (is : List Insn) (k at : ℕ) (pads whole : List Bool) → length is ≤ k → pads ++ pads_from at (drop k is) ≡ whole → pads ≡ whole
-pads-end is k at pads whole l h = sym (append-nil pads) ∙ ap (λ (js : List Insn). pads ++ pads_from at js) (sym (none is k l)) ∙ h
-  where
-    none : (xs : List Insn) (j : ℕ) → length xs ≤ j → drop j xs ≡ []
-    none [] zero m = refl
-    none [] (suc j) m = refl
-    none (x ∷ xs) zero m = absurd (omega arith)
-    none (x ∷ xs) (suc j) m = none xs j (omega arith)
 
 pub length-pads : (at : ℕ) (is : List Insn) → length (pads_from at is) ≡ length is
 length-pads at [] = refl

@@ -6,9 +6,6 @@ use Rattle.program_types.specs.Content as made
 use Rattle.code_align.specs.Aligned.{PayloadsEven, with_nops, PadsPayloads, nops_to, moved, moved_insn, moved_catch, moved_try, padded, Aligned}
 use Rattle.code_align.proofs.PadLaws.{pads-one}
 
-falses : List Insn → List Bool
-falses is = map (λ (i : Insn). false) is
-
 falses-good : (is : List Insn) → PadsPayloads (map (λ (i : Insn). false) is) is
 falses-good [] = tt
 falses-good (i ∷ is) = (λ e. absurd cc, falses-good is)

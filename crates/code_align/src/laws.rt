@@ -1,6 +1,6 @@
 //! Laws of aligned codes: functions that do nothing, whose contracts are the laws.
 
-ghost use Rattle.std.specs.Prelude.{◌≡◌, ◌≤◌, length};
+ghost use Rattle.std.specs.Prelude.{◌≡◌};
 ghost use Rattle.program_types.specs.Content.{Code};
 ghost use Rattle.code_align.specs.Aligned.{Aligned, PayloadsEven};
 

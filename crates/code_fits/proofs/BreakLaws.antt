@@ -8,7 +8,7 @@ use Rattle.std.specs.List.{AllByRecursion}
 use Rattle.base_bytes.specs.declared.fault.Fault.{Fault}
 use Rattle.dex_insn.specs.declared.opcode.IndexKind.{IndexKind}
 use Rattle.dex_insn.specs.declared.opcode.IndexKind.TheVariants as kind
-use Rattle.program_types.specs.Content.{Name, Insn, Code, Try}
+use Rattle.program_types.specs.Content.{Name, Insn, Code}
 use Rattle.program_types.specs.Content as made
 use Rattle.program_types.specs.Formed.{insn_at, insn_targets}
 use Rattle.program_types.specs.Kinds.{IsOfKind}
@@ -23,13 +23,7 @@ IsCodeLimit m = (82 ≤ m) × (m ≤ 89)
 
 pub breaks_range : (N : ℕ → Name → Type 0) (c : Code) (m : ℕ) → CodeBreaksLimit N c m → IsCodeLimit m
 breaks_range N c m (StringOutOfReach broken) = (omega arith, omega arith)
-breaks_range N c m (FieldOutOfReach broken) = (omega arith, omega arith)
-breaks_range N c m (MethodOutOfReach broken) = (omega arith, omega arith)
-breaks_range N c m (BranchOutOfReach broken) = (omega arith, omega arith)
-breaks_range N c m (Misaligned broken) = (omega arith, omega arith)
-breaks_range N c m (TryTooLong broken) = (omega arith, omega arith)
-breaks_range N c m (TooManyTries many) = (omega arith, omega arith)
-breaks_range N c m (HandlerTooFar short far) = (omega arith, omega arith)
+breaks_range N c m _ = (omega arith, omega arith)
 
 -- ---- the lowest that is broken
 

@@ -6,7 +6,7 @@ use Rattle.std.specs.List.{AllByRecursion, flat_map}
 use Rattle.std.proofs.lemmas.Bool.{cases_lt}
 use Rattle.std.proofs.lemmas.List.{length-map}
 use Rattle.std.proofs.lemmas.List.Folds.{length-flat_map-take}
-use Rattle.program_types.specs.Content.{Name, Insn, Code, Try}
+use Rattle.program_types.specs.Content.{Name, Insn, Try}
 use Rattle.program_types.specs.Content as made
 use Rattle.program_types.specs.View.{try, catch, insn}
 use Rattle.program_types.specs.declared.code.Try.{Try as Held}
@@ -21,7 +21,7 @@ use Rattle.code_put.proofs.ItemPieces.{seen-at}
 use Rattle.code_put.proofs.SizeLaws.{units-small}
 use Rattle.code_put.proofs.FormLaws.{length-addresses, names-at}
 use Rattle.code_put.proofs.PutLaws.{no-targets}
-use Rattle.base_bytes.proofs.ListFacts.{all_front, all_back}
+use Rattle.base_bytes.proofs.ListFacts.{all_front}
 
 -- ---- offsets
 
@@ -70,9 +70,6 @@ pub insns-ranked : (P : Name → Type 0) (xs : List HeldInsn) (ts : List Try) �
 insns-ranked P xs ts h k l =
     let n = length-map xs insn in
     names-at P (map insn xs) k (all_front P (flat_map names_of_insn (map insn xs)) (flat_map names_of_try ts) h) (omega arith)
-
-pub tries-ranked : (P : Name → Type 0) (is : List Insn) (ts : List Try) → AllByRecursion P (flat_map names_of_insn is ++ flat_map names_of_try ts) → AllByRecursion P (flat_map names_of_try ts)
-tries-ranked P is ts h = all_back P (flat_map names_of_insn is) (flat_map names_of_try ts) h
 
 -- ---- addresses are small
 

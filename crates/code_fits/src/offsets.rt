@@ -1,6 +1,6 @@
 //! Whether offsets fit their fields, and payloads have even addresses.
 
-ghost use Rattle.std.specs.Prelude.{◌≡◌, ◌≢◌, ◌<◌, ◌≤◌, ◌+◌, ◌↔◌, ℕ, List, None, length, map, slice_index, IsTrue, FitsSigned};
+ghost use Rattle.std.specs.Prelude.{◌≡◌, ◌≢◌, ◌<◌, ◌≤◌, ◌+◌, ◌↔◌, ℕ, None, length, map, slice_index, IsTrue, FitsSigned};
 ghost use Rattle.std.specs.Int.{w8, w16, w32};
 ghost use Rattle.program_types.specs.Formed.{insn_at, insn_payload, insn_targets, PayloadHolds};
 ghost use Rattle.program_types.specs.Operands.{IsOperand};

@@ -1,6 +1,6 @@
 -- Where numbers stand.
 use Rattle.std.proofs.Common.{◌≡◌, ◌≢◌, ℕ, ◌+◌, ◌<◌, ◌≤◌, List, [], ◌∷◌, length, get_or, refl, ap, sym, ◌∙◌, arith, zero, suc, Option, Some, None, if◌then◌else◌, ◌==◌, add-one, subst, inl, inr, ◌⊎◌, ℤ, pos, negsuc, ◌+ℤ◌, ◌<ℤ◌}
-use Rattle.std.specs.Prelude.{option_map, IfSome}
+use Rattle.std.specs.Prelude.{option_map}
 use Rattle.std.proofs.lemmas.Bool.{cases_lt}
 use Rattle.std.proofs.lemmas.Bool.Decides.{nat_tests}
 use Rattle.code_insns.specs.Places.{Rises, position, position_at, place, count_below, IsCountBelow}
@@ -102,8 +102,3 @@ pub place-to : (ss : List ℕ) (base n : ℕ) (offset : ℤ) → Rises ss → n 
 place-to ss base n offset r l e =
     place-pos ss base offset (get_or ss n 0) (sym e)
     ∙ position-is ss (get_or ss n 0) n l refl (λ k m f. let q = r.each k n m l in absurd (omega arith))
-
--- the same, of what a function answers
-pub leads-some : (o : Option ℤ) (ss : List ℕ) (base n : ℕ) → Rises ss → n < length ss → IfSome o (λ z. (pos base +ℤ z) ≡ pos (get_or ss n 0)) → IfSome o (λ z. place ss base z ≡ Some n)
-leads-some None ss base n r l h = h
-leads-some (Some z) ss base n r l h = place-to ss base n z r l h

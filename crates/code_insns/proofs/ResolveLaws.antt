@@ -13,14 +13,13 @@ use Rattle.dex_insn.specs.declared.raw.RawInsn.{RawInsn}
 use Rattle.dex_insn.specs.declared.raw.RawInsn.TheVariants as made
 use Rattle.program_types.specs.declared.payload.Payload.{Payload}
 use Rattle.program_types.specs.declared.payload.Payload.TheVariants as payload
-use Rattle.program_types.specs.Formed.{wanted_by}
+use Rattle.program_types.specs.Formed.{wanted_by, AreAlike, IsSwitch}
 use Rattle.code_insns.specs.declared.uses.Use.TheVariants as users
 use Rattle.program_types.specs.Content.{Name, Insn}
 use Rattle.code_insns.specs.Places.{place}
 use Rattle.code_insns.specs.Walk.{IsTable, raw_at, address, starts}
 use Rattle.code_insns.specs.Symbols.{places, both, ints, ints_from, Says}
 use Rattle.code_insns.specs.Payloads.{payload_of, wants, reach, IsUse, UseHolds}
-use Rattle.program_types.specs.Formed.{AreAlike, IsSwitch}
 use Rattle.code_insns.specs.Insns.{branch, Reaches, Lands, AllLand, OffsetsLand, BranchHolds, IsBase, SpellsInsnAt, targets}
 use Rattle.code_insns.specs.Reading.{AreResolved}
 use Rattle.code_insns.proofs.PayloadLaws.{at_raw}

@@ -1,10 +1,9 @@
 -- Instructions end to end.
 use Rattle.std.proofs.Common.{◌≡◌, ℕ, ◌+◌, ◌*◌, ◌/◌, ◌<◌, ◌≤◌, ◌++◌, List, [], ◌∷◌, length, map, get_or, refl, ap, sym, ◌∙◌, subst, arith, zero, suc}
-use Rattle.dex_insn.specs.Raw.{Raw, units}
+use Rattle.dex_insn.specs.Raw.{Raw, units, raw}
 use Rattle.dex_insn.specs.RawInsns.{InsnStands}
 use Rattle.base_bytes.specs.declared.fault.Fault.{Fault}
 use Rattle.dex_insn.specs.declared.raw.RawInsn.{RawInsn}
-use Rattle.dex_insn.specs.Raw.{raw}
 use Rattle.dex_insn.proofs.Laws.{stands-whole, one-stands, stands-clear}
 use Rattle.code_insns.specs.Places.{Rises}
 use Rattle.code_insns.specs.Walk.{Run, Walks, starts, IsWalkFault, IsTable}

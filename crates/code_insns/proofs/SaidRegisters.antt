@@ -105,11 +105,6 @@ pub top-below : (count top : ℕ) (xs : List ℕ) → reduce max xs ≡ Some top
 top-below count top [] e h = absurd cc
 top-below count top (x ∷ xs) e h = let s : fold max x xs ≡ top = cc in let f = fold-below count x xs h.0 h.1 in omega (arith, s, f)
 
--- there is none
-pub none-below : (count : ℕ) (xs : List ℕ) → reduce max xs ≡ None → AllByRecursion (λ v. v < count) xs
-none-below count [] e = tt
-none-below count (x ∷ xs) e = absurd cc
-
 -- ---- the instructions of a code
 
 module _ (N : ℕ → Name → Type 0) (us : List ℕ) (rs : List Raw) (is : List Insn) (s : SpellsInsns N us rs is) where

@@ -9,7 +9,6 @@ use Rattle.program_types.specs.Content.{Name, Insn}
 use Rattle.program_types.specs.Content as made
 use Rattle.program_types.specs.Formed.{AreAlike, IsSwitch, insn_payload, insn_wants, insn_reach, insn_branch, insn_short_branch, insn_targets}
 use Rattle.program_types.specs.declared.payload.Payload.{Payload}
-use Rattle.program_types.specs.declared.payload.Payload.TheVariants as payload
 use Rattle.code_insns.specs.Symbols.{resolved, places, both, ints, ints_from}
 use Rattle.code_insns.specs.Payloads.{payload_of, wants, reach}
 use Rattle.code_insns.specs.Insns.{branch, short_branch, targets}
@@ -23,39 +22,19 @@ from-map f (Some x) y e = (x, refl, some_inj (f x) y e)
 
 pub wants-says : (T : ℤ → Option ℕ) (w : Name) (r : Raw) (i : Insn) → resolved T w r ≡ Some i → wants r ≡ insn_wants i
 unfolding resolved wants insn_wants
-wants-says T w (raw.I10x op) i e = ap insn_wants (some_inj (made.I10x op) i e)
-wants-says T w (raw.I12x op a b) i e = ap insn_wants (some_inj (made.I12x op a b) i e)
-wants-says T w (raw.I11n op a b) i e = ap insn_wants (some_inj (made.I11n op a b) i e)
-wants-says T w (raw.I11x op a) i e = ap insn_wants (some_inj (made.I11x op a) i e)
-wants-says T w (raw.I22x op a b) i e = ap insn_wants (some_inj (made.I22x op a b) i e)
-wants-says T w (raw.I21s op a b) i e = ap insn_wants (some_inj (made.I21s op a b) i e)
-wants-says T w (raw.I21h op a b) i e = ap insn_wants (some_inj (made.I21h op a b) i e)
-wants-says T w (raw.I21c op a index) i e = ap insn_wants (some_inj (made.I21c op a w) i e)
-wants-says T w (raw.I23x op a b c) i e = ap insn_wants (some_inj (made.I23x op a b c) i e)
-wants-says T w (raw.I22b op a b c) i e = ap insn_wants (some_inj (made.I22b op a b c) i e)
-wants-says T w (raw.I22s op a b c) i e = ap insn_wants (some_inj (made.I22s op a b c) i e)
-wants-says T w (raw.I22c op a b index) i e = ap insn_wants (some_inj (made.I22c op a b w) i e)
-wants-says T w (raw.I32x op a b) i e = ap insn_wants (some_inj (made.I32x op a b) i e)
-wants-says T w (raw.I31i op a b) i e = ap insn_wants (some_inj (made.I31i op a b) i e)
-wants-says T w (raw.I31c op a index) i e = ap insn_wants (some_inj (made.I31c op a w) i e)
-wants-says T w (raw.I35c op n regs index) i e = ap insn_wants (some_inj (made.I35c op n regs w) i e)
-wants-says T w (raw.I3rc op n first index) i e = ap insn_wants (some_inj (made.I3rc op n first w) i e)
-wants-says T w (raw.I51l op a b) i e = ap insn_wants (some_inj (made.I51l op a b) i e)
-wants-says T w (raw.Data width bytes) i e = ap insn_wants (some_inj (made.Data width bytes) i e)
-wants-says T w (raw.I10t op z) i e = ap insn_wants (from-map (λ (to : ℕ). made.I10t op to) (T z) i e).2
-wants-says T w (raw.I20t op z) i e = ap insn_wants (from-map (λ (to : ℕ). made.I20t op to) (T z) i e).2
-wants-says T w (raw.I21t op a z) i e = ap insn_wants (from-map (λ (to : ℕ). made.I21t op a to) (T z) i e).2
-wants-says T w (raw.I22t op a b z) i e = ap insn_wants (from-map (λ (to : ℕ). made.I22t op a b to) (T z) i e).2
-wants-says T w (raw.I30t op z) i e = ap insn_wants (from-map (λ (to : ℕ). made.I30t op to) (T z) i e).2
-wants-says T w (raw.I31t op a z) i e = ap insn_wants (from-map (λ (to : ℕ). made.I31t op a to) (T z) i e).2
-wants-says T w (raw.Packed first offsets) i e = ap insn_wants (from-map (λ (to : List ℕ). made.Packed first to) (places T (ints offsets)) i e).2
-wants-says T w (raw.Sparse keys offsets) i e = ap insn_wants (from-map (λ (to : List ℕ). made.Sparse (ints keys) to) (places T (ints offsets)) i e).2
+wants-says T w (raw.I10t op z) i e = ap insn_wants (from-map _ _ i e).2
+wants-says T w (raw.I20t op z) i e = ap insn_wants (from-map _ _ i e).2
+wants-says T w (raw.I21t op a z) i e = ap insn_wants (from-map _ _ i e).2
+wants-says T w (raw.I22t op a b z) i e = ap insn_wants (from-map _ _ i e).2
+wants-says T w (raw.I30t op z) i e = ap insn_wants (from-map _ _ i e).2
+wants-says T w (raw.I31t op a z) i e = ap insn_wants (from-map _ _ i e).2
+wants-says T w (raw.Packed first offsets) i e = ap insn_wants (from-map _ _ i e).2
+wants-says T w (raw.Sparse keys offsets) i e = ap insn_wants (from-map _ _ i e).2
+wants-says T w _ i e = ap insn_wants (some_inj _ i e)
 
 pub none-alike : (p : Option Payload) → AreAlike None p → ⊥
 none-alike None h = h
-none-alike (Some payload.PackedSwitch) h = h
-none-alike (Some payload.SparseSwitch) h = h
-none-alike (Some payload.Array) h = h
+none-alike _ h = h
 
 pub reach-says : (T : ℤ → Option ℕ) (w : Name) (r : Raw) (i : Insn) (p : Option Payload) → AreAlike (wants r) p → resolved T w r ≡ Some i → T (reach r) ≡ Some (insn_reach i)
 unfolding resolved wants reach insn_reach

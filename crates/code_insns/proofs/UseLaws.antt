@@ -1,7 +1,6 @@
 -- What is known of users.
 use Rattle.std.proofs.Common.{◌≡◌, ◌≢◌, ℕ, ◌+◌, ◌<◌, List, length, get_or, refl, ◌∙◌, arith, subst, inl, inr, get_or-set_other, get_or-set_same, length-set, set}
 use Rattle.std.proofs.lemmas.Bool.{cases_lt}
-use Rattle.std.specs.Prelude.{Bool, true, false}
 use Rattle.dex_insn.specs.Raw.{Raw}
 use Rattle.code_insns.specs.Payloads.{Uses, IsUse, AreUsers, with_user, UsedOnce}
 use Rattle.code_insns.specs.declared.uses.Use.{Use}
@@ -45,13 +44,6 @@ users-some rs j k us a u =
             ]
           ];
     }
-
-is_by : Use → Bool
-is_by (users.By j) = true
-is_by _ = false
-
-pub once-by : (rs : List Raw) (k j : ℕ) → IsUse rs (length rs) k (users.By j) → UsedOnce rs k
-once-by rs k j h = record { by = j; uses = h.1; only = λ i u. h.2 i u.there u }
 
 pub once-not : (rs : List Raw) (k : ℕ) (u : Use) → IsUse rs (length rs) k u → ((j : ℕ) → u ≡ users.By j → ⊥) → UsedOnce rs k → ⊥
 once-not rs k users.Unused h differ o = h o.by o.uses.there o.uses

@@ -1,11 +1,11 @@
 //! The instructions of a code, stage by stage.
 
-ghost use Rattle.std.specs.Prelude.{◌≡◌, ◌≢◌, ◌^◌, ◌<◌, ◌≤◌, ◌%◌, length, map, None, IfOk, IfErr, IfNone, IfSome, IsOkUnless, IsTrue};
+ghost use Rattle.std.specs.Prelude.{◌≡◌, ◌≢◌, ◌^◌, ◌<◌, ◌≤◌, ◌%◌, length, map, None, IfOk, IfErr, IfNone, IfSome, IsOkUnless};
 ghost use Rattle.base_bytes.specs.Fault.{memory};
 ghost use Rattle.program_types.specs.View.{insn};
 ghost use Rattle.tables_rows.specs.Names.{NameIsAt};
 ghost use Rattle.dex_insn.specs.Raw.{raw};
-ghost use Rattle.code_insns.specs.Walk.{IsTable, raw_at};
+ghost use Rattle.code_insns.specs.Walk.{IsTable};
 ghost use Rattle.code_insns.specs.Places.{AllHold};
 ghost use Rattle.code_insns.specs.Payloads.{AreUsers, UseHolds};
 ghost use Rattle.code_insns.specs.Insns.{BranchHolds, OffsetsLand, NameHolds, SpellsInsnAt, IsBase};

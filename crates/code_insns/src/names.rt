@@ -1,6 +1,6 @@
 //! Names by the index of an instruction.
 
-ghost use Rattle.std.specs.Prelude.{◌≡◌, IfSome, IfNone, IsTrue, ◌↔◌, map, length, ◌<◌};
+ghost use Rattle.std.specs.Prelude.{IfSome, IfNone, IsTrue, ◌↔◌, ◌<◌};
 ghost use Rattle.program_types.specs.Content as content;
 ghost use Rattle.program_types.specs.View.{name};
 ghost use Rattle.tables_rows.specs.Names.{NameIsAt};

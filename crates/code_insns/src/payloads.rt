@@ -3,7 +3,6 @@
 ghost use Rattle.std.specs.Prelude.{◌≡◌, ◌<◌, ◌↔◌, IsTrue, length, map, IfSome, IfNone, ℕ};
 ghost use Rattle.dex_insn.specs.Raw.{raw};
 ghost use Rattle.code_insns.specs.Walk.{IsTable, raw_at};
-ghost use Rattle.code_insns.specs.Places.{place};
 ghost use Rattle.code_insns.specs.Payloads.{payload_of, wants, reach, Uses};
 ghost use Rattle.program_types.specs.Formed.{AreAlike, IsSwitch};
 

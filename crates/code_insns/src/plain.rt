@@ -1,6 +1,6 @@
 //! The instructions of a code that has nothing to do with payloads, as nearly all have none: each is read and resolved at once.
 
-ghost use Rattle.std.specs.Prelude.{◌≡◌, ◌<◌, ◌≤◌, ◌%◌, ◌↔◌, length, map, pos, ◌≢◌, IfOk, IfSome, IsOkUnless, IsTrue};
+ghost use Rattle.std.specs.Prelude.{◌≡◌, ◌<◌, ◌≤◌, ◌%◌, length, map, pos, ◌≢◌, IfOk, IfSome, IsOkUnless, IsTrue};
 ghost use Rattle.base_bytes.specs.Fault.{memory};
 ghost use Rattle.program_types.specs.View.{insn};
 ghost use Rattle.tables_rows.specs.Names.{NameIsAt};

@@ -1,9 +1,9 @@
 //! The rules of indices, branches and switch targets.
 
-ghost use Rattle.std.specs.Prelude.{◌≡◌, ◌^◌, ◌<◌, ◌≤◌, ◌⊎◌, ◌≢◌, pos, length, map, IfErr, OnOk, IsTrue, ◌↔◌, ℕ, option_map};
+ghost use Rattle.std.specs.Prelude.{◌≡◌, ◌^◌, ◌<◌, ◌⊎◌, ◌≢◌, pos, length, map, IfErr, OnOk, IsTrue, ◌↔◌};
 ghost use Rattle.tables_rows.specs.Names.{NameIsAt};
 ghost use Rattle.dex_insn.specs.Raw.{raw, is_payload};
-ghost use Rattle.code_insns.specs.Walk.{IsTable, raw_at, address};
+ghost use Rattle.code_insns.specs.Walk.{IsTable};
 ghost use Rattle.code_insns.specs.Places.{AllHold};
 ghost use Rattle.code_insns.specs.Payloads.{AreUsers, UseHolds};
 ghost use Rattle.code_insns.specs.Insns.{branch, short_branch, Lands, BranchLands, BranchMoves, BranchHolds, OffsetsLand, NameHolds, AllLand, targets};

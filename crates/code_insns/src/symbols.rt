@@ -8,7 +8,7 @@ ghost use Rattle.program_types.specs.View as view;
 ghost use Rattle.tables_rows.specs.Names.{NameIsAt};
 ghost use Rattle.dex_insn.specs.Raw.{raw, is_payload};
 ghost use Rattle.code_insns.specs.Places.{Rises, place};
-ghost use Rattle.code_insns.specs.Symbols.{resolved, has_offset, has_index, name_in, Says, InsnHasName};
+ghost use Rattle.code_insns.specs.Symbols.{resolved, has_offset, has_index, Says, InsnHasName};
 ghost use Rattle.code_insns.specs.Insns.{Reaches};
 
 use crate::names::named;

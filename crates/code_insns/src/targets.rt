@@ -1,6 +1,6 @@
 //! The targets of a switch's payload.
 
-ghost use Rattle.std.specs.Prelude.{◌≡◌, ◌≤◌, ◌<◌, ◌+◌, ◌*◌, ◌/◌, ◌≢◌, ◌%◌, ℕ, None, length, option_map, IfOk, IfErr, IsOkUnless, true};
+ghost use Rattle.std.specs.Prelude.{◌≡◌, ◌≤◌, ◌<◌, ◌+◌, ◌*◌, ◌/◌, ◌≢◌, None, length, option_map, IfOk, IsOkUnless, true};
 ghost use Rattle.base_bytes.specs.Fault.{memory};
 ghost use Rattle.dex_insn.specs.Fields.{int_at};
 ghost use Rattle.code_insns.specs.Places.{Rises, place};

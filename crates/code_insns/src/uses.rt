@@ -1,13 +1,13 @@
 //! Which payloads are used.
 
-ghost use Rattle.std.specs.Prelude.{◌≡◌, ◌^◌, ◌<◌, ◌≤◌, length, map, IfOk, IfErr, OnOk, IsOkUnless, IsTrue, ◌↔◌, ℕ};
+ghost use Rattle.std.specs.Prelude.{◌≡◌, ◌^◌, ◌<◌, length, map, IfOk, IfErr, OnOk, IsOkUnless, IsTrue, ◌↔◌, ℕ};
 ghost use Rattle.base_bytes.specs.Fault.{memory};
 ghost use Rattle.dex_insn.specs.Raw.{raw};
 ghost use Rattle.code_insns.specs.Walk.{IsTable, raw_at};
 ghost use Rattle.code_insns.specs.Places.{AllHold};
 ghost use Rattle.code_insns.specs.InsnFaults.{BreaksIn};
-ghost use Rattle.code_insns.specs.Payloads.{AreUsers, with_user, UseHolds, UsedOnce, payload_of, Uses, wants};
-ghost use Rattle.program_types.specs.Formed.{IsSwitch, WantsPayload};
+ghost use Rattle.code_insns.specs.Payloads.{AreUsers, with_user, UseHolds, UsedOnce, Uses, wants};
+ghost use Rattle.program_types.specs.Formed.{WantsPayload};
 
 use crate::payloads::{are_alike, is_switch, payload_at, used_by, wants_at};
 use dex_base::{Fault, fault};

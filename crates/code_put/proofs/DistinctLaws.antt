@@ -16,7 +16,6 @@ use Rattle.code_insns.specs.Places.{Rises}
 use Rattle.code_put.specs.Packs.{IsFirstUse, PacksHandler, PacksCatch}
 use Rattle.code_put.specs.Writing.{Numbers, IsDistinct, joined_keys}
 use Rattle.code_put.proofs.ListLaws.{all-at}
-use Rattle.code_insns.proofs.InsnsOnce.{some-one}
 use Rattle.base_bytes.proofs.ListFacts.{zip_length, zip_more, get_last}
 
 -- ---- elements

@@ -1,8 +1,8 @@
 -- What a code that is well formed and fits gives to each part of writing.
-use Rattle.std.proofs.Common.{◌≡◌, ℕ, ◌+◌, ◌<◌, ◌≤◌, ◌++◌, List, [], ◌∷◌, map, length, get_or, refl, ap, sym, ◌∙◌, arith, zero, suc, subst}
+use Rattle.std.proofs.Common.{◌≡◌, ℕ, ◌+◌, ◌<◌, ◌≤◌, List, [], ◌∷◌, map, length, get_or, refl, ap, sym, ◌∙◌, arith, zero, suc, subst}
 use Rattle.std.specs.List.{AllByRecursion, flat_map}
 use Rattle.dex_insn.specs.declared.opcode.IndexKind.TheVariants as kind
-use Rattle.program_types.specs.Content.{Name, OfText, OfDesc, OfField, OfMethod, Insn, Code, Try}
+use Rattle.program_types.specs.Content.{Name, OfText, OfDesc, OfField, OfMethod, Insn, Code}
 use Rattle.program_types.specs.Content as made
 use Rattle.program_types.specs.View.{insn}
 use Rattle.program_types.specs.declared.insn.Insn.{Insn as Held}

@@ -1,13 +1,12 @@
 -- What is written of a handler is one list of bytes.
-use Rattle.std.proofs.Common.{◌≡◌, ℕ, ℤ, pos, negsuc, ◌<◌, ◌++◌, List, [], ◌∷◌, length, refl, ap, sym, ◌∙◌, arith, zero, suc, subst, Option, Some, None}
-use Rattle.base_bytes.specs.Grammar.{Each}
+use Rattle.std.proofs.Common.{◌≡◌, ℕ, ℤ, pos, negsuc, ◌<◌, ◌++◌, List, [], ◌∷◌, length, ap, sym, ◌∙◌, arith, zero, suc, subst, Option, Some, None}
+use Rattle.base_bytes.specs.Grammar.{Each, IsPrefixUnique}
 use Rattle.base_bytes.specs.Leb128.{Spells, SpellsSigned, Shortest}
 use Rattle.base_bytes.proofs.ShortestLaws.{AllBytes, shortest_one, shortest_signed_one}
 use Rattle.program_types.specs.Content.{Name, OfDesc, Catch}
 use Rattle.code_insns.proofs.PlaceLaws.{position-there}
 use Rattle.code_read.specs.Handlers.{Handler, HasAll, catches_of, AllBy}
 use Rattle.code_put.specs.Packs.{PlaceAt, PacksCatch, PacksHandler}
-use Rattle.base_bytes.specs.Grammar.{IsPrefixUnique}
 use Rattle.base_bytes.proofs.WeakerLaws.{IsPrefixUnique-weaker, Shortest-weaker}
 use Rattle.base_bytes.proofs.Numbers.{spells_unique}
 use Rattle.base_bytes.proofs.Signed.{signed_unique}
@@ -22,11 +21,6 @@ IsInjective N = (i j : ℕ) (which : Name) → N i which → N j which → i ≡
 
 pub two-parts : (a f b : List ℕ) → a ≡ f ++ b → AllBytes a → AllBytes f × AllBytes b
 two-parts a f b e h = let g = subst AllBytes e h in (all_front (λ (x : ℕ). x < 256) f b g, all_back (λ (x : ℕ). x < 256) f b g)
-
--- the number before catches is told by how many they are, and whether an address for all others follows
-no-all : (z : ℤ) → (HasAll z → ⊥) → z ≡ pos (catches_of z)
-no-all (pos n) h = refl
-no-all (negsuc n) h = absurd (h tt)
 
 z-one : (y z : ℤ) → catches_of y ≡ catches_of z → (HasAll y → HasAll z) → (HasAll z → HasAll y) → y ≡ z
 z-one (pos m) (pos n) e p q = ap (λ (k : ℕ). pos k) e

@@ -1,5 +1,5 @@
 -- Handlers, appended piece by piece.
-use Rattle.std.proofs.Common.{◌≡◌, ◌≢◌, ℕ, ℤ, pos, ◌<◌, ◌≤◌, ◌++◌, List, [], ◌∷◌, length, get_or, refl, ap, sym, ◌∙◌, arith, zero, suc, subst, Option, Some, None, append_assoc, append-nil}
+use Rattle.std.proofs.Common.{◌≡◌, ◌≢◌, ℕ, ℤ, pos, ◌<◌, ◌≤◌, ◌++◌, List, [], ◌∷◌, length, get_or, refl, ap, sym, ◌∙◌, arith, zero, suc, subst, Option, Some, None, append-nil}
 use Rattle.std.specs.Prelude.{neg_ℤ, ◌-ℤ◌, IfSome, IfNone}
 use Rattle.std.proofs.lemmas.Int.{ints}
 use mir.Val.{to_z, of_z}
@@ -7,7 +7,7 @@ use mir.Syntax.{w32}
 use Rattle.base_bytes.specs.Grammar.{Appends, Then, Many, Each}
 use Rattle.base_bytes.specs.Via.{Via}
 use Rattle.base_bytes.specs.Leb128.{Spells, SpellsSigned, Shortest}
-use Rattle.base_bytes.proofs.GrammarLaws.{Each-push, Each-appends_more, Each-appends_none, Then-appends}
+use Rattle.base_bytes.proofs.GrammarLaws.{Then-appends}
 use Rattle.program_types.specs.Content.{Name, OfDesc, Catch}
 use Rattle.code_insns.specs.Places.{Rises, position}
 use Rattle.code_insns.proofs.PlaceLaws.{position-is}

@@ -62,10 +62,6 @@ ints-turn b new n z all k g l f e h =
 
 -- ---- where offsets lead
 
-both-more : (n : ℕ) (os : Option (List ℕ)) (m : ℕ) (ns : List ℕ) → both (Some n) os ≡ Some (m ∷ ns) → (n ≡ m) × (os ≡ Some ns)
-both-more n None m ns e = cc
-both-more n (Some x) m ns e = (cc, cc)
-
 pub places-more : (T : ℤ → Option ℕ) (zs : List ℤ) (ns : List ℕ) (z : ℤ) (n : ℕ) → places T zs ≡ Some ns → T z ≡ Some n → places T (zs ++ z ∷ []) ≡ Some (ns ++ n ∷ [])
 places-more T [] ns z n e f = let q : ns ≡ [] = cc in ap (λ (o : Option ℕ). both o (Some [])) f ∙ ap (λ (l : List ℕ). Some (l ++ n ∷ [])) (sym q)
 places-more T (y ∷ ys) ns z n e f = step (T y) (places T ys) ns e (λ ms g. places-more T ys ms z n g f)

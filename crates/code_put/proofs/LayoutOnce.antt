@@ -2,7 +2,6 @@
 use Rattle.std.proofs.Common.{◌≡◌, ℕ, ◌+◌, ◌<◌, ◌++◌, List, [], ◌∷◌, map, length, get_or, refl, ap, sym, ◌∙◌, arith, zero, suc, subst, Some, Bool, true, false, inl, inr, ◌==◌, if◌then◌else◌}
 use Rattle.std.specs.Prelude.{slice_get}
 use Rattle.std.proofs.lemmas.Bool.{cases_lt}
-use Rattle.std.proofs.lemmas.Bool.Decides.{nat_tests}
 use Rattle.std.proofs.lemmas.Option.{slice_get_within, slice_get-get_or}
 use Rattle.base_bytes.specs.Grammar.{Placed}
 use Rattle.base_bytes.specs.Leb128.{Spells, Shortest}
@@ -84,12 +83,6 @@ rise-at xs k l x y r lt a b =
     let p : get_or xs k 0 ≡ x = some-one (slice_get xs k) _ _ (slice_get-get_or xs k 0 (omega (arith, lt, inside))) a in
     let q : get_or xs l 0 ≡ y = some-one (slice_get xs l) _ _ (slice_get-get_or xs l 0 inside) b in
     omega (arith, less, p, q)
-
-second : ℕ × Handler → Handler
-second p = p.1
-
-seconds : List (ℕ × Handler) → List Handler
-seconds hs = map (λ (p : ℕ × Handler). p.1) hs
 
 second-get : (hs : List (ℕ × Handler)) (k : ℕ) (r : ℕ × Handler) → slice_get hs k ≡ Some r → slice_get (map (λ (p : ℕ × Handler). p.1) hs) k ≡ Some r.1
 second-get [] k r e = absurd cc

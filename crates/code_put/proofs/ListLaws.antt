@@ -1,7 +1,6 @@
 -- Elements of lists.
-use Rattle.std.proofs.Common.{◌≡◌, ℕ, ◌+◌, ◌<◌, ◌≤◌, ◌++◌, subst, List, [], ◌∷◌, map, length, get_or, drop, take, refl, ap, sym, ◌∙◌, arith, zero, suc}
+use Rattle.std.proofs.Common.{◌≡◌, ℕ, ◌+◌, ◌<◌, ◌≤◌, ◌++◌, subst, List, [], ◌∷◌, map, length, get_or, drop, take, refl, ap, arith, zero, suc}
 use Rattle.std.specs.List.{AllByRecursion}
-use Rattle.std.proofs.lemmas.List.{get_or-map}
 
 pub all-at : {A : Type 0} (P : A → Type 0) (xs : List A) (k : ℕ) (d : A) → AllByRecursion P xs → k < length xs → P (get_or xs k d)
 all-at P [] k d h l = absurd (omega arith)
@@ -11,10 +10,6 @@ all-at P (x ∷ xs) (suc k) d h l = all-at P xs k d h.1 (omega arith)
 pub all-from : {A : Type 0} (P : A → Type 0) (xs : List A) (d : A) → ((k : ℕ) → k < length xs → P (get_or xs k d)) → AllByRecursion P xs
 all-from P [] d h = tt
 all-from P (x ∷ xs) d h = (h zero (omega arith), all-from P xs d (λ k l. h (suc k) (omega arith)))
-
--- element k of a list that is seen through a view
-pub view-at : {A B : Type 0} (f : A → B) (xs : List A) (k : ℕ) (x : A) (d : B) → k < length xs → x ≡ get_or xs k x → f x ≡ get_or (map f xs) k d
-view-at f xs k x d l e = ap f e ∙ sym (get_or-map f xs k x d l)
 
 pub take-whole : {A : Type 0} (xs : List A) (k : ℕ) → length xs ≤ k → take k xs ≡ xs
 take-whole [] zero l = refl

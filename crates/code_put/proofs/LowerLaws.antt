@@ -2,11 +2,11 @@
 use Rattle.std.proofs.Common.{◌≡◌, ℕ, ℤ, ◌+◌, ◌*◌, ◌/◌, ◌<◌, ◌≤◌, ◌++◌, List, length, refl, ap, sym, ◌∙◌, arith, zero, suc, subst, Option, Some, inl, inr}
 use Rattle.std.specs.Prelude.{option_map, slice_get}
 use Rattle.dex_insn.specs.Raw as raw
-use Rattle.dex_insn.specs.Raw.{Raw, units}
+use Rattle.dex_insn.specs.Raw.{units}
 use Rattle.dex_insn.specs.Fields.{int_at, SwitchKeysRise}
 use Rattle.dex_insn.specs.RawInsns.{IsElementWidth}
 use Rattle.dex_insn.specs.Written.{written}
-use Rattle.program_types.specs.Content.{Name, Insn}
+use Rattle.program_types.specs.Content.{Name}
 use Rattle.program_types.specs.Content as made
 use Rattle.program_types.specs.Operands.{IsOperand}
 use Rattle.program_types.specs.Formed.{insn_payload}

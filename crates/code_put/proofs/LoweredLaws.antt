@@ -1,6 +1,5 @@
 -- What is written of well formed instructions keeps the rules of what is read.
-use Rattle.std.proofs.Common.{◌≡◌, ◌≢◌, ℕ, ℤ, pos, ◌<◌, List, length, get_or, refl, ap, sym, ◌∙◌, arith, subst, Option, Some, None, inl, inr}
-use Rattle.std.specs.Prelude.{IfSome}
+use Rattle.std.proofs.Common.{◌≡◌, ◌≢◌, ℕ, ℤ, pos, ◌<◌, List, length, get_or, refl, ap, sym, ◌∙◌, arith, subst, Option, Some, inl, inr}
 use Rattle.std.proofs.lemmas.Int.{ints}
 use Rattle.dex_insn.specs.Fields.{int_at}
 use Rattle.dex_insn.specs.Raw.{Raw}

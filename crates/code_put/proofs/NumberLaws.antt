@@ -1,5 +1,5 @@
 -- Byte strings that are held once each.
-use Rattle.std.proofs.Common.{◌≡◌, ℕ, ◌++◌, List, [], ◌∷◌, map, length, refl, ap, sym, ◌∙◌, arith, zero, suc, Some, inl, inr, ◌⊎◌, Bool, true, false, if◌then◌else◌, ◌||◌, Vec, Global}
+use Rattle.std.proofs.Common.{◌≡◌, ℕ, ◌++◌, List, [], ◌∷◌, map, length, refl, ap, sym, ◌∙◌, arith, zero, suc, Some, inl, inr, ◌⊎◌, Bool, true, false, if◌then◌else◌, Vec, Global}
 use Rattle.std.specs.Prelude.{slice_get, option_map}
 use Rattle.std.specs.List.{list_any, position_or_len}
 use Rattle.std.specs.Str.{bytes_eq}

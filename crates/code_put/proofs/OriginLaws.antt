@@ -51,18 +51,12 @@ alike-switch (Some payload.PackedSwitch) (Some payload.PackedSwitch) h s = tt
 alike-switch (Some payload.SparseSwitch) (Some payload.SparseSwitch) h s = tt
 alike-switch None q h s = absurd s
 alike-switch (Some payload.Array) q h s = absurd s
-alike-switch (Some payload.PackedSwitch) None h s = absurd h
-alike-switch (Some payload.PackedSwitch) (Some payload.SparseSwitch) h s = absurd h
-alike-switch (Some payload.PackedSwitch) (Some payload.Array) h s = absurd h
-alike-switch (Some payload.SparseSwitch) None h s = absurd h
-alike-switch (Some payload.SparseSwitch) (Some payload.PackedSwitch) h s = absurd h
-alike-switch (Some payload.SparseSwitch) (Some payload.Array) h s = absurd h
+alike-switch _ _ h s = absurd h
 
 switch-cases : (p : Option Payload) → IsSwitch p ⊎ (IsSwitch p → ⊥)
-switch-cases None = inr (λ s. s)
 switch-cases (Some payload.PackedSwitch) = inl tt
 switch-cases (Some payload.SparseSwitch) = inl tt
-switch-cases (Some payload.Array) = inr (λ s. s)
+switch-cases _ = inr (λ s. s)
 
 -- in a code that is well formed a switch refers to a payload
 pub switch-refers : (is : List Insn) (j k : ℕ) → PayloadHolds is j → switched_by (insn_at is j) ≡ Some k → RefersToPayload is j k

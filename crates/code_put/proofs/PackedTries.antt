@@ -1,9 +1,8 @@
 -- What is written of tries keeps the rules of what is read, and spells them.
-use Rattle.std.proofs.Common.{◌≡◌, ◌≢◌, ℕ, ◌+◌, ◌-◌, ◌*◌, ◌<◌, ◌≤◌, ◌++◌, List, [], ◌∷◌, length, get_or, refl, ap, sym, ◌∙◌, arith, zero, suc, subst, Some, None, inl, inr, length-append}
+use Rattle.std.proofs.Common.{◌≡◌, ◌≢◌, ℕ, ◌+◌, ◌-◌, ◌*◌, ◌<◌, ◌≤◌, ◌++◌, List, [], ◌∷◌, length, get_or, refl, ap, sym, ◌∙◌, arith, zero, suc, subst, Some, None, inl, inr, length-append, ℤ}
 use Rattle.std.proofs.lemmas.Bool.{cases_lt}
 use Rattle.std.proofs.lemmas.Bool.Decides.{nat_tests}
 use Rattle.std.proofs.lemmas.List.{drop_at, get_or_past}
-use Rattle.std.proofs.Common.{ℤ}
 use Rattle.base_bytes.specs.Leb128.{Spells, SpellsSigned, Shortest}
 use Rattle.base_bytes.specs.Fields.{u16_at, u32_at, u16_bytes, u32_bytes}
 use Rattle.base_bytes.proofs.FieldBounds.{u32_at-append, u16_at-drop, length-u32_bytes}
@@ -27,10 +26,6 @@ use Rattle.code_put.proofs.FormLaws.{addresses-rise, length-addresses, address-l
 pub length-u16_bytes : (n : ℕ) → length (u16_bytes n) ≡ 2
 unfolding u16_bytes
 length-u16_bytes n = refl
-
-pub u16_at-bytes : (n : ℕ) (rest : List ℕ) → n < 65536 → u16_at (u16_bytes n ++ rest) 0 ≡ n
-unfolding u16_at u16_bytes
-u16_at-bytes n rest l = omega arith
 
 pub u16_at-append : (xs ys : List ℕ) (k p : ℕ) → length xs ≡ k → u16_at (xs ++ ys) (k + p) ≡ u16_at ys p
 u16_at-append xs ys k p e = sym (u16_at-drop (xs ++ ys) k p) ∙ ap (λ (l : List ℕ). u16_at l p) (drop_at xs ys k e)

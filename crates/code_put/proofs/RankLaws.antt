@@ -1,12 +1,11 @@
 -- Ranks are indices.
-use Rattle.std.proofs.Common.{◌≡◌, ℕ, ◌<◌, List, ap, sym, ◌∙◌, arith}
+use Rattle.std.proofs.Common.{◌≡◌, ℕ, ◌<◌, List, ap, arith}
 use Rattle.dex_insn.specs.declared.opcode.IndexKind.TheVariants as kind
 use Rattle.code_insns.specs.Symbols.{IsFunctional}
 use Rattle.program_types.specs.Content.{Units, FieldRef, MethodRef, Name, OfText, OfDesc, OfField, OfMethod}
 use Rattle.program_types.specs.Key.{Key, text_key, field_ref_key, method_ref_key}
-use Rattle.tables_names.specs.Rank.{Rising, IsAt}
+use Rattle.tables_names.specs.Rank.{IsAt}
 use Rattle.tables_names.specs.Closure.{Five, AreRising, NameRanks}
-use Rattle.tables_names.proofs.PlaceLemmas.{rank_at}
 use Rattle.code_put.specs.Fits.{HasIndexBelow}
 use Rattle.tables_laws.proofs.FileLemmas.{one_place}
 

@@ -1,5 +1,5 @@
 -- A raw instruction that says a symbolic one is one.
-use Rattle.std.proofs.Common.{◌≡◌, ℕ, ℤ, pos, ◌%◌, ◌/◌, ◌<◌, ◌++◌, List, [], ◌∷◌, length, get_or, refl, ap, sym, ◌∙◌, arith, subst, Option, Some, None}
+use Rattle.std.proofs.Common.{◌≡◌, ℕ, ℤ, pos, ◌%◌, ◌/◌, ◌<◌, ◌++◌, List, [], ◌∷◌, length, get_or, refl, ap, sym, ◌∙◌, arith, subst, Option, Some}
 use Rattle.std.specs.Prelude.{option_map}
 use Rattle.std.specs.Int.{cast_unsigned, w32}
 use Rattle.base_bytes.proofs.ShortestLaws.{AllBytes}
@@ -62,25 +62,11 @@ built_by i j x z k o e = record { index = x; offset = z; keys = k; offsets = o; 
 
 built : (T : ℤ → Option ℕ) (w : Name) (r : Raw) (i : Insn) → resolved T w r ≡ Some i → IsBuilt r i
 unfolding resolved
-built T w (raw.I10x op) i e = built_by (made.I10x op) i 0 (pos 0) [] [] (some_inj (made.I10x op) i e)
-built T w (raw.I12x op a b) i e = built_by (made.I12x op a b) i 0 (pos 0) [] [] (some_inj (made.I12x op a b) i e)
-built T w (raw.I11n op a b) i e = built_by (made.I11n op a b) i 0 (pos 0) [] [] (some_inj (made.I11n op a b) i e)
-built T w (raw.I11x op a) i e = built_by (made.I11x op a) i 0 (pos 0) [] [] (some_inj (made.I11x op a) i e)
-built T w (raw.I22x op a b) i e = built_by (made.I22x op a b) i 0 (pos 0) [] [] (some_inj (made.I22x op a b) i e)
-built T w (raw.I21s op a b) i e = built_by (made.I21s op a b) i 0 (pos 0) [] [] (some_inj (made.I21s op a b) i e)
-built T w (raw.I21h op a b) i e = built_by (made.I21h op a b) i 0 (pos 0) [] [] (some_inj (made.I21h op a b) i e)
 built T w (raw.I21c op a index) i e = built_by (made.I21c op a w) i index (pos 0) [] [] (some_inj (made.I21c op a w) i e)
-built T w (raw.I23x op a b c) i e = built_by (made.I23x op a b c) i 0 (pos 0) [] [] (some_inj (made.I23x op a b c) i e)
-built T w (raw.I22b op a b c) i e = built_by (made.I22b op a b c) i 0 (pos 0) [] [] (some_inj (made.I22b op a b c) i e)
-built T w (raw.I22s op a b c) i e = built_by (made.I22s op a b c) i 0 (pos 0) [] [] (some_inj (made.I22s op a b c) i e)
 built T w (raw.I22c op a b index) i e = built_by (made.I22c op a b w) i index (pos 0) [] [] (some_inj (made.I22c op a b w) i e)
-built T w (raw.I32x op a b) i e = built_by (made.I32x op a b) i 0 (pos 0) [] [] (some_inj (made.I32x op a b) i e)
-built T w (raw.I31i op a b) i e = built_by (made.I31i op a b) i 0 (pos 0) [] [] (some_inj (made.I31i op a b) i e)
 built T w (raw.I31c op a index) i e = built_by (made.I31c op a w) i index (pos 0) [] [] (some_inj (made.I31c op a w) i e)
 built T w (raw.I35c op n regs index) i e = built_by (made.I35c op n regs w) i index (pos 0) [] [] (some_inj (made.I35c op n regs w) i e)
 built T w (raw.I3rc op n first index) i e = built_by (made.I3rc op n first w) i index (pos 0) [] [] (some_inj (made.I3rc op n first w) i e)
-built T w (raw.I51l op a b) i e = built_by (made.I51l op a b) i 0 (pos 0) [] [] (some_inj (made.I51l op a b) i e)
-built T w (raw.Data width bytes) i e = built_by (made.Data width bytes) i 0 (pos 0) [] [] (some_inj (made.Data width bytes) i e)
 built T w (raw.I10t op z) i e = let m = from-map (λ (to : ℕ). made.I10t op to) (T z) i e in built_by (made.I10t op m.0) i 0 z [] [] m.2
 built T w (raw.I20t op z) i e = let m = from-map (λ (to : ℕ). made.I20t op to) (T z) i e in built_by (made.I20t op m.0) i 0 z [] [] m.2
 built T w (raw.I21t op a z) i e = let m = from-map (λ (to : ℕ). made.I21t op a to) (T z) i e in built_by (made.I21t op a m.0) i 0 z [] [] m.2
@@ -89,6 +75,7 @@ built T w (raw.I30t op z) i e = let m = from-map (λ (to : ℕ). made.I30t op to
 built T w (raw.I31t op a z) i e = let m = from-map (λ (to : ℕ). made.I31t op a to) (T z) i e in built_by (made.I31t op a m.0) i 0 z [] [] m.2
 built T w (raw.Packed first offsets) i e = let m = from-map (λ (to : List ℕ). made.Packed first to) (places T (symbols.ints offsets)) i e in built_by (made.Packed first m.0) i 0 (pos 0) [] offsets m.2
 built T w (raw.Sparse keys offsets) i e = let m = from-map (λ (to : List ℕ). made.Sparse (symbols.ints keys) to) (places T (symbols.ints offsets)) i e in built_by (made.Sparse (symbols.ints keys) m.0) i 0 (pos 0) keys offsets m.2
+built T w _ i e = built_by _ i 0 (pos 0) [] [] (some_inj _ i e)
 
 -- ---- offsets
 
@@ -135,20 +122,6 @@ module _ (N : ℕ → Name → Type 0) (inj : IsInjective N) (ss : List ℕ) (at
   same : (i : Insn) (x y : ℕ) (z w : ℤ) (k l o p : List ℕ) → Says N (place ss at) (rebuild i x z k o) i → Says N (place ss at) (rebuild i y w l p) i
       → IsRaw (rebuild i x z k o) → IsRaw (rebuild i y w l p) → AllBytes (written (rebuild i x z k o)) → AllBytes (written (rebuild i y w l p)) → rebuild i x z k o ≡ rebuild i y w l p
   unfolding resolved
-  same (made.I10x op) x y z w k l o p s t a b f g = refl
-  same (made.I12x op q r) x y z w k l o p s t a b f g = refl
-  same (made.I11n op q r) x y z w k l o p s t a b f g = refl
-  same (made.I11x op q) x y z w k l o p s t a b f g = refl
-  same (made.I22x op q r) x y z w k l o p s t a b f g = refl
-  same (made.I21s op q r) x y z w k l o p s t a b f g = refl
-  same (made.I21h op q r) x y z w k l o p s t a b f g = refl
-  same (made.I23x op q r u) x y z w k l o p s t a b f g = refl
-  same (made.I22b op q r u) x y z w k l o p s t a b f g = refl
-  same (made.I22s op q r u) x y z w k l o p s t a b f g = refl
-  same (made.I32x op q r) x y z w k l o p s t a b f g = refl
-  same (made.I31i op q r) x y z w k l o p s t a b f g = refl
-  same (made.I51l op q r) x y z w k l o p s t a b f g = refl
-  same (made.Data width bytes) x y z w k l o p s t a b f g = refl
   same (made.I21c op q which) x y z w k l o p s t a b f g = ap (λ (n : ℕ). raw.I21c op q n) (inj x y which s.named.stands t.named.stands)
   same (made.I22c op q r which) x y z w k l o p s t a b f g = ap (λ (n : ℕ). raw.I22c op q r n) (inj x y which s.named.stands t.named.stands)
   same (made.I31c op q which) x y z w k l o p s t a b f g = ap (λ (n : ℕ). raw.I31c op q n) (inj x y which s.named.stands t.named.stands)
@@ -180,6 +153,7 @@ module _ (N : ℕ → Name → Type 0) (inj : IsInjective N) (ss : List ℕ) (at
       let n : length p % 4 ≡ 0 = let h = b.1 in let j = b.0 in omega (arith, h, j) in
       let os = ints_once o p (all_back (λ (n : ℕ). n < 256) k o f1) (all_back (λ (n : ℕ). n < 256) l p g1) m n e in
       (λ j. raw.Sparse (ks j) (os j))
+  same _ x y z w k l o p s t a b f g = refl
 
   pub raw_once : (i : Insn) (r t : Raw) → Says N (place ss at) r i → Says N (place ss at) t i → IsRaw r → IsRaw t → AllBytes (written r) → AllBytes (written t) → r ≡ t
   raw_once i r t p q a b f g =

@@ -1,16 +1,14 @@
 -- Numbers of 32 bits, one after the other, are spelled in one way.
-use Rattle.std.proofs.Common.{◌≡◌, ℕ, pos, zero, suc, ◌+◌, ◌*◌, ◌/◌, ◌%◌, ◌^◌, ◌<◌, ◌-ℤ◌, nat_lt, if◌then◌else◌, List, [], ◌∷◌, length, drop, get_or, refl, sym, ap, ◌∙◌, arith, subst}
+use Rattle.std.proofs.Common.{◌≡◌, ℕ, zero, suc, ◌+◌, ◌*◌, ◌/◌, ◌%◌, ◌^◌, ◌<◌, List, [], ◌∷◌, length, drop, get_or, refl, sym, ap, ◌∙◌, arith, subst}
 use Rattle.std.proofs.lemmas.List.{get_or-drop}
-use Rattle.std.proofs.lemmas.Bool.Decides.{nat_tests}
 use Rattle.std.proofs.lemmas.Int.{ints}
-use Rattle.byteorder.specs.Endian.{little_number}
 use Rattle.base_bytes.specs.Fields.{AreBytes, u32_at}
 use Rattle.base_bytes.proofs.FieldBounds.{u32_at-fits}
 use Rattle.base_bytes.proofs.ShortestLaws.{AllBytes}
-use Rattle.dex_insn.specs.Fields.{number, int_at, signed}
+use Rattle.dex_insn.specs.Fields.{int_at, signed}
 use Rattle.code_insns.specs.Symbols as symbols
 use Rattle.code_insns.specs.Symbols.{ints_from}
-use Rattle.base_bytes.proofs.ListFacts.{by_half, four_bytes, all_of}
+use Rattle.base_bytes.proofs.ListFacts.{by_half, four_bytes}
 use Rattle.code_put.proofs.IntLaws.{number-u32}
 
 are_of : (b : List ℕ) → AllBytes b → AreBytes b

@@ -1,6 +1,6 @@
 //! Writing handlers ("Dalvik Executable format", "encoded_catch_handler_list", "encoded_catch_handler").
 
-ghost use Rattle.std.specs.Prelude.{◌≡◌, ◌≤◌, ◌<◌, ◌+◌, ◌*◌, ℕ, List, length, map, OnOk, IfOk, IsOkUnless, IfSome, IfNone, ◌≢◌, [], slice_index};
+ghost use Rattle.std.specs.Prelude.{◌≤◌, ◌<◌, ◌+◌, ◌*◌, ℕ, List, length, map, OnOk, IfOk, IsOkUnless, IfSome, IfNone, ◌≢◌, [], slice_index};
 ghost use Rattle.std.specs.List.{AllByRecursion, flat_map};
 ghost use Rattle.base_bytes.specs.Fault.{memory};
 ghost use Rattle.base_bytes.specs.Grammar.{Appends, Each};

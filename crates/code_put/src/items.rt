@@ -1,11 +1,10 @@
 //! The pieces of a code item beside its instructions and handlers ("Dalvik Executable format", "code_item", "try_item").
 
-ghost use Rattle.std.specs.Prelude.{◌≡◌, ◌++◌, ◌<◌, ◌≤◌, ◌^◌, ℕ, length, map, OnOk, IsOkUnless, slice_index};
+ghost use Rattle.std.specs.Prelude.{◌≡◌, ◌++◌, ◌<◌, ◌≤◌, ℕ, length, map, OnOk, IsOkUnless, slice_index};
 ghost use Rattle.base_bytes.specs.Fault.{memory};
 ghost use Rattle.base_bytes.specs.Fields.{u16_bytes, u32_bytes};
 ghost use Rattle.program_types.specs.View as view;
 ghost use Rattle.program_types.specs.Formed.{TryFormed};
-ghost use Rattle.code_insns.specs.Places.{Rises};
 ghost use Rattle.code_put.specs.Packs.{head_bytes, padding, bound_of, item_bytes, items_bytes};
 
 use dex_base::Fault;

@@ -1,10 +1,9 @@
 //! From where the targets of an instruction count.
 
-ghost use Rattle.std.specs.Prelude.{◌≡◌, ◌≤◌, ◌<◌, ◌↔◌, ℕ, length, map, IfOk, IsOkUnless, IsTrue};
+ghost use Rattle.std.specs.Prelude.{◌≡◌, ◌≤◌, ◌<◌, ℕ, length, map, IfOk, IsOkUnless};
 ghost use Rattle.base_bytes.specs.Fault.{memory};
 ghost use Rattle.program_types.specs.View.{insn};
-ghost use Rattle.program_types.specs.Formed.{insn_at, insn_payload, PayloadHolds};
-ghost use Rattle.code_put.specs.Packs.{IsOrigin};
+ghost use Rattle.program_types.specs.Formed.{PayloadHolds};
 ghost use Rattle.code_put.specs.Writing.{switched_by, AreOrigins, AreLastSwitches};
 
 use dex_base::Fault;

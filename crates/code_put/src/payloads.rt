@@ -1,6 +1,6 @@
 //! Writing payloads: the offsets of switches, and keys, as bytes.
 
-ghost use Rattle.std.specs.Prelude.{◌≡◌, ◌≤◌, ◌<◌, ◌++◌, ◌*◌, ◌%◌, Some, ℕ, ℤ, length, map, FitsSigned, OnOk, IfOk, IsOkUnless, slice_index};
+ghost use Rattle.std.specs.Prelude.{◌≡◌, ◌≤◌, ◌<◌, ◌*◌, Some, ℕ, length, FitsSigned, IfOk, IsOkUnless, slice_index};
 ghost use Rattle.std.specs.Int.{w32};
 ghost use Rattle.std.specs.List.{AllByRecursion};
 ghost use Rattle.base_bytes.specs.Fault.{memory};

@@ -27,10 +27,9 @@ use Rattle.program_types.specs.Formed.{RegistersHold, insn_at, insn_registers}
 use Rattle.program_types.specs.Sizes.{addresses_of}
 use Rattle.code_insns.specs.Places.{AllHold, IsFirstBroken}
 use Rattle.code_insns.specs.Registers.{AmongAt}
-use Rattle.code_read.proofs.StandLaws.{body_code}
+use Rattle.code_read.proofs.StandLaws.{body_code, NameIsAt-functional}
 use Rattle.code_read.proofs.FaultLaws.{units-even}
 use Rattle.code_read.proofs.ItemLaws.{takes-from_read}
-use Rattle.code_read.proofs.StandLaws.{NameIsAt-functional}
 use Rattle.code_read.proofs.Deciding.{option-cases}
 use Rattle.code_read.proofs.RulesDecided.{AreNamesDecided}
 use Rattle.code_read.proofs.InsnsDecided.{insns-decided}

@@ -16,7 +16,6 @@ use Rattle.dex_insn.specs.Raw as raw
 use Rattle.dex_insn.specs.Raw.{Raw, is_payload, units}
 use Rattle.dex_insn.specs.RawInsns.{InsnStands}
 use Rattle.dex_insn.proofs.Fits.{stands_fits}
-use Rattle.dex_insn.proofs.Laws.{stands-whole}
 use Rattle.program_types.specs.Content.{Name, Catch, Insn, Try, Code}
 use Rattle.program_types.specs.Formed.{AreAlike, IsSwitch, insn_at, try_at, insn_payload, insn_wants, insn_reach, insn_branch, insn_short_branch, insn_targets, RefersToPayload, IsTarget, PayloadHolds, TryFormed, RegistersHold, IsFormed}
 use Rattle.program_types.specs.Operands.{IsOperand}
@@ -84,11 +83,6 @@ module _ (N : ℕ → Name → Type 0) (us : List ℕ) (rs : List Raw) (is : Lis
         inside = i;
         plain = sym (kind-at n (omega (arith, i, c))) ∙ plain-none (raw_at rs n) (subst (λ (m : ℕ). is_payload (raw_at rs m) ≡ false) same l.plain);
       }
-
-  -- from where a branch's offset counts
-  base-of : (k base : ℕ) → IsBase rs k base → (IsSwitch (payload_of (raw_at rs k)) → base ≡ address rs k) → base ≡ address rs k
-  base-of k base (inl b) f = f b.0
-  base-of k base (inr b) f = b.1
 
   lands-at : (k : ℕ) → k < length rs → IfSome (insn_branch (insn_at is k)) (IsTarget is)
   lands-at k l =

@@ -5,9 +5,9 @@ use Rattle.std.proofs.lemmas.Bool.{cases_lt}
 use Rattle.std.proofs.lemmas.Int.{ints, by_lt_z}
 use Rattle.base_bytes.specs.Deciding.{Decided, DecidedFront}
 use Rattle.base_bytes.specs.Grammar.{Takes, IsPrefixUnique, Then, Many}
-use Rattle.base_bytes.specs.Leb128.{IsSequence, SpellsSigned, signed_low_first}
+use Rattle.base_bytes.specs.Leb128.{SpellsSigned, signed_low_first}
 use Rattle.base_bytes.specs.Via.{Via}
-use Rattle.base_bytes.proofs.Deciding.{decide_like, decide_both, decide_lt, decide_le, decide_eq, decide_by, DecidedEach, decide_each, decide_sequence}
+use Rattle.base_bytes.proofs.Deciding.{decide_like, decide_both, decide_le, decide_eq, decide_by, DecidedEach, decide_each, decide_sequence}
 use Rattle.base_bytes.proofs.TakesLaws.{Takes-then, Then-takes, Takes-unique, Takes-none, NoneBegins-from_takes}
 use Rattle.base_bytes.proofs.ViaLaws.{via-takes, via-none, via-nothing}
 use Rattle.code_insns.specs.Places.{AllHold, IsFirstBroken}

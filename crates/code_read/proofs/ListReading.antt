@@ -2,13 +2,12 @@
 use Rattle.std.proofs.Common.{◌≡◌, ℕ, ◌+◌, ◌-◌, ◌<◌, ◌≤◌, ◌++◌, List, [], ◌∷◌, length, map, get_or, refl, ap, sym, ◌∙◌, arith, zero, suc, subst, append_assoc, length-append}
 use Rattle.std.proofs.lemmas.List.{map-append, length-map}
 use Rattle.base_bytes.specs.Grammar.{Takes, NoneBegins, Placed}
-use Rattle.base_bytes.specs.Leb128.{Spells}
+use Rattle.base_bytes.specs.Leb128.{Spells, SpellsSigned}
 use Rattle.base_bytes.proofs.TakesLaws.{Takes-unique, Takes-length}
 use Rattle.base_bytes.proofs.GrammarLaws.{Each-next}
 use Rattle.base_bytes.proofs.PlacedLaws.{Placed-push, Placed-each}
 use Rattle.base_bytes.proofs.Numbers.{spells_unique, some_byte}
 use Rattle.base_bytes.proofs.Signed.{signed_unique}
-use Rattle.base_bytes.specs.Leb128.{SpellsSigned}
 use Rattle.program_types.specs.Content.{Name}
 use Rattle.code_insns.specs.Symbols.{IsFunctional}
 use Rattle.code_insns.specs.Places.{Rises}
@@ -58,9 +57,6 @@ module _ (N : ℕ → Name → Type 0) (ss : List ℕ) where
         offsets_are = s.offsets_are;
         handlers_are = s.handlers_are;
       }
-
-  pub list-none-count : (bytes : List ℕ) → NoneBegins Spells bytes → NoneBegins (SpellsList N ss) bytes
-  list-none-count bytes none front rest hs e s = none s.front (s.back ++ rest) (length hs) (e ∙ ap (λ (z : List ℕ). z ++ rest) s.joined ∙ append_assoc s.front s.back rest) s.count
 
   pub list-none : IsFunctional N → (bytes entries left offsets : List ℕ) (hs : List Handler) (n turn : ℕ) → Takes Spells bytes n entries → ReadSome N ss bytes entries left offsets hs turn → turn < n → NoneBegins (SpellsHandler N ss) left → NoneBegins (SpellsList N ss) bytes
   list-none f bytes entries left offsets hs n turn t s l none front rest gs e q =

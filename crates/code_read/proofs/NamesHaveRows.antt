@@ -1,5 +1,5 @@
 -- For each name in a code that stands an index stands.
-use Rattle.std.proofs.Common.{◌≡◌, ℕ, zero, suc, ◌+◌, ◌<◌, List, [], ◌∷◌, ◌++◌, Option, Some, None, length, get_or, map, subst, arith, if◌then◌else◌, ◌==◌, Bool, true, false}
+use Rattle.std.proofs.Common.{◌≡◌, ℕ, zero, suc, ◌+◌, ◌<◌, List, [], ◌∷◌, Option, Some, None, length, get_or, subst, arith, if◌then◌else◌, ◌==◌, Bool, true, false}
 use Rattle.std.specs.List.{AllByRecursion, flat_map}
 use Rattle.base_bytes.specs.Grammar.{Each, Placed}
 use Rattle.dex_insn.specs.Raw.{Raw}

@@ -1,5 +1,5 @@
 -- A code item has one fault: the first that is asked.
-use Rattle.std.proofs.Common.{◌≡◌, ℕ, ◌+◌, ◌-◌, ◌*◌, ◌<◌, ◌≤◌, List, length, take, drop, sym, ap, ◌∙◌, subst, arith, inl, inr}
+use Rattle.std.proofs.Common.{◌≡◌, ℕ, ◌+◌, ◌-◌, ◌*◌, List, length, take, drop, sym, ap, ◌∙◌, subst, arith, inl, inr}
 use Rattle.std.specs.Prelude.{slice_index}
 use Rattle.base_bytes.specs.declared.fault.Fault.{Fault}
 use Rattle.dex_container.specs.Frame.{IsFramed}
@@ -8,7 +8,6 @@ use Rattle.dex_container.proofs.Framed.{IsSection-one}
 use Rattle.dex_insn.specs.Raw.{Raw}
 use Rattle.program_types.specs.Content.{Name, Code}
 use Rattle.program_types.specs.Sizes.{addresses_of}
-use Rattle.code_insns.specs.Places.{IsFirstBroken}
 use Rattle.code_insns.specs.Walk.{starts}
 use Rattle.code_insns.specs.Symbols.{IsFunctional}
 use Rattle.code_insns.specs.Registers.{AmongAt}

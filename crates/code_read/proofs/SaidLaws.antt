@@ -10,7 +10,7 @@ use Rattle.dex_insn.specs.Raw.{Raw}
 use Rattle.dex_insn.specs.RawInsns.{SpellsInsn}
 use Rattle.dex_insn.specs.Written.{IsRaw}
 use Rattle.dex_insn.proofs.Fits.{number-2, signed-32}
-use Rattle.program_types.specs.Content.{Name, Insn}
+use Rattle.program_types.specs.Content.{Name}
 use Rattle.program_types.specs.Content as made
 use Rattle.program_types.specs.Formed.{insn_payload, insn_branch, insn_short_branch, insn_targets}
 use Rattle.program_types.specs.Mentions.{names_of_insn}

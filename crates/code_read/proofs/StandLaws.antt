@@ -1,12 +1,11 @@
 -- What stands at a place of the section is what its bytes from there on begin with.
-use Rattle.std.proofs.Common.{◌≡◌, ℕ, ◌-◌, ◌%◌, ◌<◌, ◌≤◌, List, length, take, drop, sym, subst, ap, ◌∙◌, arith, length-take, inr, Option, Some}
+use Rattle.std.proofs.Common.{◌≡◌, ℕ, ◌-◌, ◌%◌, ◌<◌, ◌≤◌, List, length, take, drop, sym, subst, ap, ◌∙◌, arith, length-take, inr}
 use Rattle.std.proofs.lemmas.List.{take-take, take-append-drop}
 use Rattle.base_bytes.specs.Grammar.{Takes}
 use Rattle.base_bytes.specs.declared.fault.Fault.{Fault}
 use Rattle.base_bytes.proofs.TakesLaws.{Begins-from_takes, Takes-unique}
 use Rattle.dex_container.specs.declared.section.Section.{Section}
-use Rattle.dex_container.specs.Where.{slice, IsInSection}
-use Rattle.dex_container.specs.Where.{IsSectionOf}
+use Rattle.dex_container.specs.Where.{slice, IsInSection, IsSectionOf}
 use Rattle.tables_rows.specs.Names.{Names, NameIsAt}
 use Rattle.dex_container.proofs.Standing.{stands_at, at_place}
 use Rattle.program_types.specs.Content.{Name, Code, OfText, OfDesc, OfField, OfMethod}

@@ -1,13 +1,13 @@
 //! Handlers, from the front of the bytes.
 
-ghost use Rattle.std.specs.Prelude.{◌≡◌, ◌≢◌, ℕ, ◌≤◌, ◌<◌, ◌^◌, length, map, IfSome, IfNone, IfOk, IfErr};
+ghost use Rattle.std.specs.Prelude.{◌≡◌, ◌≢◌, ◌≤◌, ◌<◌, length, map, IfSome, IfNone, IfOk, IfErr};
 ghost use Rattle.base_bytes.specs.Fault.{memory};
 ghost use Rattle.base_bytes.specs.Grammar.{Takes, NoneBegins, Many};
 ghost use Rattle.base_bytes.specs.Leb128.{Spells, SpellsSigned};
 ghost use Rattle.program_types.specs.View.{desc, catch};
 ghost use Rattle.tables_rows.specs.Names.{NameIsAt};
 ghost use Rattle.code_insns.specs.Places.{Rises};
-ghost use Rattle.code_read.specs.Handlers.{SpellsPlace, SpellsCatchType, SpellsCatch, SpellsHandler, SpellsList};
+ghost use Rattle.code_read.specs.Handlers.{SpellsPlace, SpellsCatchType, SpellsCatch, SpellsHandler};
 ghost use Rattle.code_read.specs.Faults.{list_fault};
 ghost use Rattle.code_read.specs.HandlerViews.{handler};
 

@@ -1,6 +1,6 @@
 //! The fixed parts of a code item.
 
-ghost use Rattle.std.specs.Prelude.{◌≡◌, ◌<◌, ◌^◌, IfSome, IfNone};
+ghost use Rattle.std.specs.Prelude.{◌<◌, ◌^◌, IfSome, IfNone};
 ghost use Rattle.code_read.specs.Item.{HasFixedParts};
 ghost use Rattle.code_read.specs.Reading.{IsCodeItem};
 

@@ -1,5 +1,5 @@
 -- By formats: what is written of an instruction whose index is replaced is its units, with the index replaced.
-use Rattle.std.proofs.Common.{◌≡◌, ℕ, zero, suc, ◌+◌, ◌-◌, ◌*◌, ◌/◌, ◌%◌, ◌<◌, ◌≤◌, ◌++◌, List, [], ◌∷◌, length, take, drop, Some, refl, sym, ap, subst, ◌∙◌, arith, append_assoc, if◌then◌else◌, ◌==◌, false, true, Bool, ◌⊎◌, inl, inr, ⊎_elim}
+use Rattle.std.proofs.Common.{◌≡◌, ℕ, zero, suc, ◌+◌, ◌-◌, ◌*◌, ◌/◌, ◌%◌, ◌<◌, ◌≤◌, ◌++◌, List, [], ◌∷◌, length, take, drop, Some, refl, sym, ap, subst, ◌∙◌, arith, append_assoc, if◌then◌else◌, ◌==◌, false, true, ◌⊎◌, ⊎_elim}
 use Rattle.std.specs.Prelude.{set}
 use Rattle.std.specs.Int.{cast_unsigned, w8, w16, w32, w64}
 use Rattle.std.proofs.Math.Seq.{take-add}
@@ -21,7 +21,6 @@ use Rattle.code_renumber.specs.Shapes.{shape_in, shape_of}
 use Rattle.code_renumber.specs.InPlace.{with_named, is_padded, with_pad, IsRenumbered}
 use Rattle.code_renumber.proofs.BytesLemmas.{nibble_bits, byte_bits, wide_byte_bits, half_bits, wide_half_bits, word_bits, long_bits, kept_1, kept_2, kept_3, kept_long, kept_wide, short_2, short_3, long_3, five_3, head_4, head_8, joined_again, replaced, by_width}
 use Rattle.base_bytes.proofs.ListFacts.{by_kind}
-use Rattle.base_bytes.proofs.FieldBounds.{drop-AreBytes}
 
 -- ---- no index
 
@@ -237,30 +236,7 @@ unfolding is_payload units
 plain_shape us (raw.Packed first offsets) s e = absurd cc
 plain_shape us (raw.Sparse keys offsets) s e = absurd cc
 plain_shape us (raw.Data width bytes) s e = absurd cc
-plain_shape us (raw.I10x op) s e = by_format us op _ s.0
-plain_shape us (raw.I12x op a b) s e = by_format us op _ s.0
-plain_shape us (raw.I11n op a b) s e = by_format us op _ s.0
-plain_shape us (raw.I11x op a) s e = by_format us op _ s.0
-plain_shape us (raw.I10t op offset) s e = by_format us op _ s.0
-plain_shape us (raw.I20t op offset) s e = by_format us op _ s.0
-plain_shape us (raw.I22x op a b) s e = by_format us op _ s.0
-plain_shape us (raw.I21t op a offset) s e = by_format us op _ s.0
-plain_shape us (raw.I21s op a b) s e = by_format us op _ s.0
-plain_shape us (raw.I21h op a b) s e = by_format us op _ s.0
-plain_shape us (raw.I21c op a index) s e = by_format us op _ s.0
-plain_shape us (raw.I23x op a b c) s e = by_format us op _ s.0
-plain_shape us (raw.I22b op a b c) s e = by_format us op _ s.0
-plain_shape us (raw.I22t op a b offset) s e = by_format us op _ s.0
-plain_shape us (raw.I22s op a b c) s e = by_format us op _ s.0
-plain_shape us (raw.I22c op a b index) s e = by_format us op _ s.0
-plain_shape us (raw.I30t op offset) s e = by_format us op _ s.0
-plain_shape us (raw.I32x op a b) s e = by_format us op _ s.0
-plain_shape us (raw.I31i op a b) s e = by_format us op _ s.0
-plain_shape us (raw.I31t op a offset) s e = by_format us op _ s.0
-plain_shape us (raw.I31c op a index) s e = by_format us op _ s.0
-plain_shape us (raw.I35c op n regs index) s e = by_format us op _ s.0
-plain_shape us (raw.I3rc op n first index) s e = by_format us op _ s.0
-plain_shape us (raw.I51l op a b) s e = by_format us op _ s.0
+plain_shape us _ s e = by_format us _ _ s.0
 
 pub of_payload : (us : List ℕ) (r : Raw) → SpellsInsn us r → IsPayload us → shape_of r ≡ Payload
 of_payload us r s p = ⊎_elim (λ (e : is_payload r ≡ true). payload_shape r e) (λ (e : is_payload r ≡ false). absurd (not-payload us r s e p)) (by_kind (is_payload r))

@@ -4,7 +4,6 @@ use Rattle.std.proofs.Math.Seq.{drop-cons}
 use Rattle.std.proofs.lemmas.List.{take_more, take_all, map-append}
 use Rattle.base_bytes.specs.Grammar.{Takes, Each, Many}
 use Rattle.base_bytes.specs.Leb128.{Spells, SpellsSigned}
-use Rattle.base_bytes.proofs.Numbers.{spells_unique}
 use Rattle.base_bytes.proofs.Signed.{signed_unique}
 use Rattle.base_bytes.proofs.TakesLaws.{Takes-unique, Each-takes_first}
 use Rattle.dex_insn.specs.declared.opcode.IndexKind.TheVariants as kind

@@ -1,8 +1,8 @@
 -- One instruction: what it names, and its units.
-use Rattle.std.proofs.Common.{◌≡◌, ℕ, ℤ, ◌+◌, ◌*◌, ◌/◌, List, [], ◌∷◌, length, Option, Some, None, refl, sym, ap, subst, ◌∙◌, arith, false}
+use Rattle.std.proofs.Common.{◌≡◌, ℕ, ℤ, List, [], ◌∷◌, Option, Some, None, refl, sym, ap, subst, ◌∙◌, false}
 use Rattle.std.specs.Prelude.{IfSome}
 use Rattle.dex_insn.specs.Raw as raw
-use Rattle.dex_insn.specs.Raw.{Raw, units}
+use Rattle.dex_insn.specs.Raw.{Raw}
 use Rattle.dex_insn.specs.Opcodes.{index_kind_of}
 use Rattle.dex_insn.specs.declared.opcode.IndexKind.{IndexKind}
 use Rattle.dex_insn.specs.declared.opcode.IndexKind.TheVariants as kind
@@ -11,11 +11,10 @@ use Rattle.program_types.specs.Content as made
 use Rattle.program_types.specs.Kinds.{IsOfKind}
 use Rattle.program_types.specs.Operands.{IsOfIndexKind}
 use Rattle.program_types.specs.Mentions.{names_of_insn}
-use Rattle.program_types.specs.Sizes.{insn_units}
 use Rattle.tables_rows.specs.Stands.{NameStands}
 use Rattle.tables_numbers.specs.Marked.{kind_of, IsRowOf}
-use Rattle.code_insns.specs.Symbols.{Says, IndexStandsFor, resolved, name_in, has_index, places, ints, ints_from}
-use Rattle.code_insns.proofs.SaidRegisters.{mapped, said, length-ints_from, length-places, units-said}
+use Rattle.code_insns.specs.Symbols.{Says, IndexStandsFor, resolved, name_in, has_index, places, ints}
+use Rattle.code_insns.proofs.SaidRegisters.{mapped, said}
 use Rattle.code_renumber.specs.Indices.{IsIndex}
 use Rattle.base_bytes.proofs.ListFacts.{some_inj}
 
@@ -26,18 +25,7 @@ kind_is kind.String (OfText t) h = refl
 kind_is kind.Type (OfDesc t) h = refl
 kind_is kind.Field (OfField t) h = refl
 kind_is kind.Method (OfMethod t) h = refl
-kind_is kind.String (OfDesc t) h = absurd h
-kind_is kind.String (OfField t) h = absurd h
-kind_is kind.String (OfMethod t) h = absurd h
-kind_is kind.Type (OfText t) h = absurd h
-kind_is kind.Type (OfField t) h = absurd h
-kind_is kind.Type (OfMethod t) h = absurd h
-kind_is kind.Field (OfText t) h = absurd h
-kind_is kind.Field (OfDesc t) h = absurd h
-kind_is kind.Field (OfMethod t) h = absurd h
-kind_is kind.Method (OfText t) h = absurd h
-kind_is kind.Method (OfDesc t) h = absurd h
-kind_is kind.Method (OfField t) h = absurd h
+kind_is _ _ h = absurd h
 
 pub of_kind : (o : Option IndexKind) (table : IndexKind) (which : Name) → o ≡ Some table → IsOfIndexKind o which → IsOfKind table which
 of_kind o table which e h = let k : IsOfIndexKind (Some table) which = subst (λ (p : Option IndexKind). IsOfIndexKind p which) e h in k

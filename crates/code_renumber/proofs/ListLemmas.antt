@@ -6,7 +6,7 @@ use Rattle.std.proofs.lemmas.List.{take_more, take_all, map-append, drop_at}
 use Rattle.std.specs.List.{AllByRecursion, flat_map}
 use Rattle.base_bytes.specs.Grammar.{Takes, Placed}
 use Rattle.base_bytes.specs.Leb128.{Spells}
-use Rattle.program_types.specs.Content.{Name}
+use Rattle.program_types.specs.Content.{Name, Try}
 use Rattle.code_insns.specs.Places.{Rises, position}
 use Rattle.code_read.specs.Handlers.{Handler, SpellsHandler, SpellsList, SpellsHandlers, handler_at}
 use Rattle.code_read.specs.Item.{try_handler}
@@ -14,7 +14,6 @@ use Rattle.code_read.specs.Reading.{ReadSome, ReadTries}
 use Rattle.code_read.specs.Tries.{handler_of}
 use Rattle.code_read.proofs.ListReading.{offsets-rise}
 use Rattle.program_types.specs.Formed.{try_at}
-use Rattle.program_types.specs.Content.{Try}
 use Rattle.code_renumber.specs.Walks.{AreListed}
 use Rattle.base_bytes.proofs.ListFacts.{all_front, all_back, number_one}
 

@@ -4,7 +4,7 @@ use Rattle.std.specs.List.{AllByRecursion, flat_map}
 use Rattle.std.proofs.lemmas.List.{length-map, get_or-map}
 use Rattle.base_bytes.specs.Fields.{AreBytes}
 use Rattle.dex_insn.specs.Raw as raw
-use Rattle.dex_insn.specs.Raw.{Raw, units, is_payload}
+use Rattle.dex_insn.specs.Raw.{Raw}
 use Rattle.dex_insn.specs.RawInsns.{InsnStands}
 use Rattle.dex_insn.specs.Written.{IsRaw}
 use Rattle.dex_insn.specs.declared.opcode.IndexKind.{IndexKind}

@@ -83,26 +83,14 @@ module _ (N M : ℕ → Name → Type 0) (numbers : Columns) where
 pub renumbered_units : (numbers : Columns) (r : Raw) → units (renumbered numbers r) ≡ units r
 unfolding units
 renumbered_units numbers (raw.I21c op a x) = refl
-renumbered_units numbers (raw.I22c op a b x) = refl
-renumbered_units numbers (raw.I31c op a x) = refl
-renumbered_units numbers (raw.I35c op n regs x) = refl
-renumbered_units numbers (raw.I3rc op n first x) = refl
 renumbered_units numbers _ = refl
 
 pub renumbered_payload : (numbers : Columns) (r : Raw) → payload_of (renumbered numbers r) ≡ payload_of r
 unfolding payload_of
 renumbered_payload numbers (raw.I21c op a x) = refl
-renumbered_payload numbers (raw.I22c op a b x) = refl
-renumbered_payload numbers (raw.I31c op a x) = refl
-renumbered_payload numbers (raw.I35c op n regs x) = refl
-renumbered_payload numbers (raw.I3rc op n first x) = refl
 renumbered_payload numbers _ = refl
 
 pub renumbered_kind : (numbers : Columns) (r : Raw) → is_payload (renumbered numbers r) ≡ is_payload r
 unfolding is_payload
 renumbered_kind numbers (raw.I21c op a x) = refl
-renumbered_kind numbers (raw.I22c op a b x) = refl
-renumbered_kind numbers (raw.I31c op a x) = refl
-renumbered_kind numbers (raw.I35c op n regs x) = refl
-renumbered_kind numbers (raw.I3rc op n first x) = refl
 renumbered_kind numbers _ = refl

@@ -23,9 +23,6 @@ unit_long us r s = let w = spelled-whole us r s in let some = w.0 in let there =
 pub stands_in_front : (us : List ℕ) (r : Raw) → SpellsInsn us r → InsnStands us 0 r
 stands_in_front us r s = record { spelled = s; even = λ p. refl }
 
-pub spelled_in_front : (us : List ℕ) (r : Raw) → InsnStands us 0 r → SpellsInsn us r
-spelled_in_front us r s = s.spelled
-
 -- ---- numbers of units, by their bytes
 
 pub first_unit : (us : List ℕ) → u16_at us 0 ≡ number us 0 1

@@ -1,17 +1,15 @@
 -- Tries, one by one.
-use Rattle.std.proofs.Common.{◌≡◌, ℕ, zero, suc, ◌+◌, ◌<◌, ◌≤◌, inl, inr, List, [], ◌∷◌, ◌++◌, length, take, drop, get_or, set, Option, Some, None, refl, sym, ap, subst, ◌∙◌, arith, append_assoc, length-append}
+use Rattle.std.proofs.Common.{◌≡◌, ℕ, zero, suc, ◌+◌, ◌<◌, ◌≤◌, inl, inr, List, [], ◌∷◌, ◌++◌, length, take, drop, get_or, set, Some, None, refl, sym, ap, subst, ◌∙◌, arith, append_assoc, length-append}
 use Rattle.std.specs.Prelude.{replicate}
 use Rattle.std.specs.List.{AllByRecursion, flat_map}
 use Rattle.std.proofs.lemmas.Bool.{cases_lt}
 use Rattle.std.proofs.lemmas.List.{take_more, take_all, append-nil, get_or-take, get_or-set_other, length-map}
 use Rattle.base_bytes.specs.Grammar.{Takes}
 use Rattle.base_bytes.proofs.Numbers.{some_byte}
-use Rattle.program_types.specs.Content.{Name, OfDesc, Catch, Try, Units}
+use Rattle.program_types.specs.Content.{Name, Catch, Try}
 use Rattle.program_types.specs.Formed.{try_at}
-use Rattle.program_types.specs.Key.{text_key}
 use Rattle.program_types.specs.Mentions.{names_of_try}
-use Rattle.tables_names.specs.Closure.{Five, IsClosed, AreRising, Holds, with_name, with_names, type_closure}
-use Rattle.tables_names.proofs.FiveLemmas.{part_adds_nothing}
+use Rattle.tables_names.specs.Closure.{Five, IsClosed, AreRising, Holds, with_names}
 use Rattle.tables_names.proofs.NeededLemmas.{names_append, with_names-holds}
 use Rattle.tables_rows.specs.Stands.{NameStands}
 use Rattle.tables_numbers.specs.Marked.{Marked, AreMarks, AddsNames}

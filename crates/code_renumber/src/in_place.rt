@@ -1,11 +1,11 @@
 //! One instruction with another index, which is put in place of the one that stands in its units.
-ghost use Rattle.std.specs.Prelude.{◌≡◌, ◌+◌, ◌*◌, ◌/◌, ◌%◌, ◌<◌, ◌≤◌, ◌^◌, ℕ, length, set};
+ghost use Rattle.std.specs.Prelude.{◌≡◌, ◌+◌, ◌*◌, ◌/◌, ◌%◌, ◌<◌, ◌≤◌, ◌^◌, length, set};
 ghost use Rattle.base_bytes.specs.Fields.{u16_at, u32_at};
 ghost use Rattle.dex_insn.specs.Fields.{field};
 ghost use Rattle.dex_insn.specs.Opcodes.{index_kind_of};
 ghost use Rattle.dex_insn.specs.Raw.{raw, Raw, units};
 ghost use Rattle.dex_insn.specs.RawInsns.{SpellsInsn, register};
-ghost use Rattle.code_renumber.specs.InPlace.{named_unit, with_named, is_padded, with_pad, IsRenumbered};
+ghost use Rattle.code_renumber.specs.InPlace.{with_named, is_padded, with_pad, IsRenumbered};
 ghost use Rattle.code_renumber.specs.Renumbered.{number_in, HasNumber, HasShortNumber, CanBeRenumbered};
 
 use crate::shapes::{Shape, insn_at, opcode_at, shape_at};

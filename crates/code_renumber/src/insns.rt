@@ -8,7 +8,6 @@ ghost use Rattle.program_types.specs.Content.{Insn};
 ghost use Rattle.program_types.specs.Mentions.{names_of_insn};
 ghost use Rattle.tables_rows.specs.Stands.{NameStands};
 ghost use Rattle.tables_numbers.specs.Marked.{HasMarks, AddsNames};
-ghost use Rattle.code_insns.specs.Places.{Rises};
 ghost use Rattle.code_insns.specs.Symbols.{Says};
 ghost use Rattle.code_insns.specs.Walk.{Walks, IsTable};
 ghost use Rattle.code_insns.specs.Insns.{SpellsInsns};

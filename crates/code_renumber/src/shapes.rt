@@ -1,5 +1,5 @@
 //! What a walk over instructions knows of one by its first unit: its size, and where its index stands.
-ghost use Rattle.std.specs.Prelude.{◌≡◌, ◌≤◌, ℕ, List, length, false, IfSome, IfNone};
+ghost use Rattle.std.specs.Prelude.{◌≡◌, ◌≤◌, length, false, IfSome, IfNone};
 ghost use Rattle.dex_insn.specs.Fields.{field};
 ghost use Rattle.dex_insn.specs.Raw.{raw, Raw, units};
 ghost use Rattle.dex_insn.specs.RawInsns.{SpellsInsn};

@@ -1,4 +1,5 @@
 pub mod LowPoints
+pub mod LowRows
 pub mod DescriptorLaws
 pub mod NameLaws
 pub mod NameUnits

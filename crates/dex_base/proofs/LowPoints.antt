@@ -6,10 +6,10 @@ use Rattle.dex_base.specs.Descriptor.{IsNamePoint}
 use Rattle.dex_base.specs.declared.simple_name.TheConstants.{LOW_POINTS}
 
 -- a letter, a digit, `$`, `-` or `_`
-abbrev is_low : ℕ → Bool
+abbrev pub is_low : ℕ → Bool
 is_low c = (nat_le 65 c && nat_le c 90) || ((nat_le 97 c && nat_le c 122) || ((nat_le 48 c && nat_le c 57) || (nat_eq c 36 || (nat_eq c 45 || nat_eq c 95))))
 
-is_low-decides : (c : ℕ) → c < 128 → Decides (is_low c) (IsNamePoint c)
+pub is_low-decides : (c : ℕ) → c < 128 → Decides (is_low c) (IsNamePoint c)
 is_low-decides c lt = grind (arith, nat_tests)
 
 abbrev same : Bool → Bool → Bool

@@ -5,8 +5,8 @@ use Rattle.std.proofs.lemmas.List.{length-append, take-append-drop, length-take-
 use Rattle.std.specs.List.{flat_map, AllByRecursion}
 use Rattle.base_bytes.specs.Grammar.{Begins, NoneBegins, IsPrefixUnique, Each}
 use Rattle.dex_base.specs.Descriptor.{IsNamePoint, point_units, IsSimpleName, IsMemberName}
-use Rattle.dex_base.specs.Names.{SpellsPoint, HasPoint, IsRun}
-use Rattle.base_bytes.proofs.GrammarLaws.{Each-more, Each-next, Each-unique}
+use Rattle.dex_base.specs.Names.{SpellsPoint, AreLowPoints, HasPoint, IsRun}
+use Rattle.base_bytes.proofs.GrammarLaws.{Each-none, Each-more, Each-next, Each-unique}
 use Rattle.dex_base.proofs.UnitLaws.{take_one, take_two}
 
 pub units_one : (c : ℕ) → c < 0x10000 → point_units c ≡ c ∷ []
@@ -42,6 +42,18 @@ pub low_more : (units points : List ℕ) (at : ℕ) → at < length units → ge
 low_more units points at lt low name p =
     Each-more SpellsPoint units points (get_or units at 0) at 1 p
     (rw (drop_more units at 0 lt) (point_found (get_or units at 0 ∷ drop (at + 1) units) (get_or units at 0) 1 (inl (name, omega (arith, low), refl, omega arith, refl))))
+
+-- what was seen up to a place, and units from one before it on
+pub low_joined : (units : List ℕ) (seen from to : ℕ) → from ≤ seen → AreLowPoints units 0 seen → AreLowPoints units from to → AreLowPoints units 0 to
+low_joined units seen from to over front back k low under = elim (cases_lt k seen) [ inl early ↦ front k low early | inr late ↦ back k (omega arith) under ]
+
+pub low_run_points : (units : List ℕ) (n : ℕ) → n ≤ length units → AreLowPoints units 0 n → (points : List ℕ) × Begins (Each SpellsPoint) units points n
+low_run_points units zero inside low = ([], Each-none SpellsPoint units [] refl)
+low_run_points units (suc n) inside low =
+    let before = low_run_points units n (omega arith) (λ k from under. low k from (omega (arith, under))) in
+    let here = low n (omega arith) (omega arith) in
+    let next : n + 1 ≡ suc n = omega arith in
+    (before.0 ++ get_or units n 0 ∷ [], subst (λ m. Begins (Each SpellsPoint) units (before.0 ++ get_or units n 0 ∷ []) m) next (low_more units before.0 n (omega arith) here.0 here.1 before.1))
 
 pub point_front : (c : ℕ) (front rest : List ℕ) → SpellsPoint front c → HasPoint (front ++ rest) c (length front)
 point_front c front rest s = elim (cases_lt c 0x10000) [

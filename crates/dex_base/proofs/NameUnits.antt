@@ -132,13 +132,6 @@ before_first_same c (a ∷ xs) (b ∷ ys) x y p q e =
     let s = r.0 in
     (cc, r.1)
 
--- two member names, each before a `(`, or each before a `:`
-pub member_before_same : (c : ℕ) (a b x y : List ℕ) → (c ≡ 40) ⊎ (c ≡ 58) → IsMemberName a → IsMemberName b → a ++ c ∷ x ≡ b ++ c ∷ y → (a ≡ b) × (x ≡ y)
-member_before_same c a b x y stop p q e = before_first_same c a b x y (never a p) (never b q) e
-  where
-    never : (n : List ℕ) → IsMemberName n → AllByRecursion (λ u. u ≢ c) n
-    never n m = all_weaker IsPlain (λ u. u ≢ c) (λ u h f. elim stop [ inl i ↦ h.1 (f ∙ i) | inr i ↦ h.3 (f ∙ i) ]) n (member_units_plain n m)
-
 not_end : (u : ℕ) → IsClassUnit u → u ≢ 59
 not_end u h e = grind arith
 

@@ -27,15 +27,12 @@ take_one [] h = absurd (omega (arith, h))
 take_one (a ∷ bytes) h = refl
 
 pub take_two : (bytes : List ℕ) → 2 ≤ length bytes → take 2 bytes ≡ get_or bytes 0 0 ∷ get_or bytes 1 0 ∷ []
-take_two [] h = absurd (omega (arith, h))
-take_two (a ∷ []) h = absurd (omega (arith, h))
 take_two (a ∷ b ∷ bytes) h = refl
+take_two _ h = absurd (omega (arith, h))
 
 take_three : (bytes : List ℕ) → 3 ≤ length bytes → take 3 bytes ≡ get_or bytes 0 0 ∷ get_or bytes 1 0 ∷ get_or bytes 2 0 ∷ []
-take_three [] h = absurd (omega (arith, h))
-take_three (a ∷ []) h = absurd (omega (arith, h))
-take_three (a ∷ b ∷ []) h = absurd (omega (arith, h))
 take_three (a ∷ b ∷ c ∷ bytes) h = refl
+take_three _ h = absurd (omega (arith, h))
 
 pub unit_found : (bytes : List ℕ) (u len : ℕ) → HasUnit bytes u len → Begins SpellsUnit bytes u len
 unit_found bytes u len h = elim h [

@@ -14,6 +14,10 @@ HasUnit bytes u len =
 abbrev pub SpellsPoint : List ℕ → ℕ → Type 0
 SpellsPoint units c = IsNamePoint c × (units ≡ point_units c)
 
+-- From one place up to another all units are code points of names below 128.
+abbrev pub AreLowPoints : List ℕ → ℕ → ℕ → Type 0
+AreLowPoints units from to = (k : ℕ) → from ≤ k → k < to → (slice_index units k < 128) × IsNamePoint (slice_index units k)
+
 -- The front of the units is that of the code point.
 abbrev pub HasPoint : List ℕ → ℕ → ℕ → Type 0
 HasPoint units c len =

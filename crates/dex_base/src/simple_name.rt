@@ -1,10 +1,15 @@
 //! Names of members, and the simple names that they and class names are made of ("Dalvik Executable format",
 //! section "String syntax").
 
-ghost use Rattle.std.specs.Prelude.{◌≡◌, ℕ, ◌<◌, ◌≤◌, [], ◌∷◌, ◌++◌, ◌↔◌, List, length, IsTrue, IfSome, IfNone};
+ghost use Rattle.std.specs.Prelude.{◌≡◌, ℕ, ◌+◌, ◌<◌, ◌≤◌, [], ◌∷◌, ◌++◌, ◌↔◌, List, length, IsTrue, IfSome, IfNone};
 ghost use Rattle.base_bytes.specs.Grammar.{Begins, NoneBegins, Each};
 ghost use Rattle.dex_base.specs.Descriptor.{IsNamePoint, IsSimpleName, IsMemberName};
-ghost use Rattle.dex_base.specs.Names.{HasPoint, SpellsPoint, IsRun};
+ghost use Rattle.dex_base.specs.Names.{HasPoint, SpellsPoint, AreLowPoints, IsRun};
+
+use std::simd::prelude::*;
+
+/// How many units are looked at at once.
+const LANES: usize = 8;
 
 const LESS: u16 = b'<' as u16;
 
@@ -74,8 +79,32 @@ fn read_point(units: &[u16]) -> Option<(u32, usize)>
     point_at(units)
 }
 
-/// How many units at the front are code points below 128 of names.
-fn low_run(units: &[u16]) -> usize
+/// How many of the eight units from a place on are code points below 128 of names, up to the first that isn't.
+#[inline(always)]
+fn low_among(units: &[u16], at: usize) -> usize
+    requires { at + 8 ≤ length units.now }
+    ensures few { result ≤ 8 }
+    ensures low { AreLowPoints units.now at (at + result) }
+{
+    let row = u16x8::from_slice(&units[at..]);
+    // With this bit a letter is a small one, and nothing else becomes one.
+    let from_a = (row | u16x8::splat(0x20)) - u16x8::splat(b'a' as u16);
+    let from_0 = row - u16x8::splat(b'0' as u16);
+    let others = from_a.simd_ge(u16x8::splat(26))
+        & from_0.simd_ge(u16x8::splat(10))
+        & row.simd_ne(u16x8::splat(b'$' as u16))
+        & row.simd_ne(u16x8::splat(b'-' as u16))
+        & row.simd_ne(u16x8::splat(b'_' as u16));
+    let marks = others.to_bitmask();
+    if marks == 0 {
+        return LANES;
+    }
+    marks.trailing_zeros() as usize
+}
+
+/// How many units at the front are code points below 128 of names, looked at one by one.
+#[inline(always)]
+fn low_ones(units: &[u16]) -> usize
     ensures { (points : List ℕ) × Begins (Each SpellsPoint) units.now points result }
 {
     for at in 0..units.len() {
@@ -85,6 +114,25 @@ fn low_run(units: &[u16]) -> usize
         }
     }
     units.len()
+}
+
+/// How many units at the front are code points below 128 of names.
+fn low_run(units: &[u16]) -> usize
+    ensures { (points : List ℕ) × Begins (Each SpellsPoint) units.now points result }
+{
+    if units.len() < LANES {
+        return low_ones(units);
+    }
+    let last = units.len() - LANES;
+    let mut at = 0;
+    while at < last {
+        let here = low_among(units, at);
+        if here < LANES {
+            return at + here;
+        }
+        at += LANES;
+    }
+    last + low_among(units, last)
 }
 
 /// The length of the longest front that is made of code points of names.

@@ -1,5 +1,5 @@
 -- Whether something stands at a place of a file is decided.
-use Rattle.std.proofs.Common.{◌≡◌, ℕ, ◌-◌, ◌%◌, ◌<◌, ◌≤◌, inl, inr, List, length, take, drop, refl, sym, ◌∙◌, subst, arith, length-take}
+use Rattle.std.proofs.Common.{◌≡◌, ℕ, ◌-◌, ◌%◌, ◌≤◌, inl, inr, List, length, take, drop, refl, sym, ◌∙◌, subst, arith, length-take}
 use Rattle.std.proofs.lemmas.List.{take-append-drop, take-take}
 use Rattle.std.proofs.lemmas.Bool.{cases_eq}
 use Rattle.base_bytes.specs.Deciding.{Decided, DecidedFront}

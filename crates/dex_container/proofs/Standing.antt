@@ -5,8 +5,7 @@ use Rattle.base_bytes.specs.Grammar.{Begins, NoneBegins, IsPrefixUnique}
 use Rattle.dex_container.specs.Frame.{IsFramed, IsSection}
 use Rattle.dex_container.proofs.Framed.{IsSection-one}
 use Rattle.dex_container.specs.declared.section.Section.{Section}
-use Rattle.dex_container.specs.Where.{slice, At, IsInSection}
-use Rattle.dex_container.specs.Where.{IsSectionOf}
+use Rattle.dex_container.specs.Where.{slice, At, IsInSection, IsSectionOf}
 
 module _ {V : Type 0} (G : List ℕ → V → Type 0) (b : List ℕ) (kind align : ℕ) (s : Section) (place : ℕ) where
   -- a front of what the section has from `place` on
@@ -51,11 +50,6 @@ unfolding slice
 At-one G unique b framed kind align place v w x y =
     (unique (take x.size (drop place b)) (take y.size (drop place b)) (drop x.size (drop place b)) (drop y.size (drop place b)) v w x.spelled y.spelled
     (take-append-drop x.size (drop place b) ∙ sym (take-append-drop y.size (drop place b)))).1
-
--- a place lies in the section exactly where its numbers say so
-pub placed : (b : List ℕ) (kind : ℕ) (s : Section) (place : ℕ) → IsSectionOf b kind s → s.begin ≤ place → place < s.end → IsInSection b kind place
-placed b kind s place is low high =
-    record { begin = s.begin; end = s.end; section = is.some (omega arith); after = low; before = high }
 
 pub placed_low : (b : List ℕ) (kind : ℕ) (s : Section) (place : ℕ) → IsSectionOf b kind s → IsInSection b kind place → s.begin ≤ place
 placed_low b kind s place is p = let e = (is.only p.begin p.end p.section).0 in let l = p.after in omega (arith, e, l)

@@ -1,8 +1,7 @@
 // The section of one kind of data item, looked up once, and what it has from a place on.
 ghost use Rattle.std.specs.Prelude.{◌≡◌, ◌-◌, ◌+◌, ◌<◌, ◌≤◌, IfSome, IfNone, take, drop, length};
 ghost use Rattle.dex_container.specs.Frame.{IsFramed};
-ghost use Rattle.dex_container.specs.Where.{IsSectionOf};
-ghost use Rattle.dex_container.specs.Where.{IsInSection};
+ghost use Rattle.dex_container.specs.Where.{IsSectionOf, IsInSection};
 
 use crate::opening::Sections;
 

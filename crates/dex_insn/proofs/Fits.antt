@@ -1,5 +1,5 @@
 -- What stands in bytes can be written: its operands fit their fields.
-use Rattle.std.proofs.Common.{◌≡◌, ℕ, zero, suc, ◌+◌, ◌*◌, ◌/◌, ◌%◌, ◌<◌, ◌≤◌, List, [], ◌∷◌, length, drop, get_or-drop, ⊎_elim, slice_index, refl, ap, ◌∙◌, ℤ, pos, neg_ℤ, ◌≤ℤ◌, ◌<ℤ◌, arith}
+use Rattle.std.proofs.Common.{◌≡◌, ℕ, zero, suc, ◌+◌, ◌*◌, ◌/◌, ◌%◌, ◌<◌, ◌≤◌, List, [], ◌∷◌, length, drop, ⊎_elim, slice_index, refl, ap, ◌∙◌, ℤ, pos, neg_ℤ, ◌≤ℤ◌, ◌<ℤ◌, arith}
 use Rattle.std.proofs.lemmas.Int.{ints}
 use Rattle.std.proofs.lemmas.Bool.Decides.{nat_tests}
 use Rattle.std.specs.Prelude.{FitsSigned}
@@ -72,78 +72,6 @@ named us n = record {
   unused = λ k h. five-free n (field us 2 0 4) (field us 2 4 4) (field us 2 8 4) (field us 2 12 4) (field us 0 8 4) k h;
 }
 
-fits-10x : (us : List ℕ) (op : ℕ) → AreBytes us → SpellsInsn us (I10x op) → IsRaw (I10x op)
-fits-10x us op bytes h = h.0.kind
-
-fits-12x : (us : List ℕ) (op : ℕ) (a : ℕ) (b : ℕ) → AreBytes us → SpellsInsn us (I12x op a b) → IsRaw (I12x op a b)
-fits-12x us op a b bytes h = (h.0.kind, (let e = h.1 in omega arith), (let e = h.2 in omega arith))
-
-fits-11n : (us : List ℕ) (op : ℕ) (a : ℕ) (b : ℤ) → AreBytes us → SpellsInsn us (I11n op a b) → IsRaw (I11n op a b)
-fits-11n us op a b bytes h = (h.0.kind, (let e = h.1 in omega arith), (nibble b (field us 0 12 4) h.2 (omega arith)).0, (nibble b (field us 0 12 4) h.2 (omega arith)).1)
-
-fits-11x : (us : List ℕ) (op : ℕ) (a : ℕ) → AreBytes us → SpellsInsn us (I11x op a) → IsRaw (I11x op a)
-fits-11x us op a bytes h = (h.0.kind, (let e = h.1 in omega arith))
-
-fits-10t : (us : List ℕ) (op : ℕ) (offset : ℤ) → AreBytes us → SpellsInsn us (I10t op offset) → IsRaw (I10t op offset)
-fits-10t us op offset bytes h = (h.0.kind, signed-8 offset (field us 0 8 8) h.1 (omega arith))
-
-fits-20t : (us : List ℕ) (op : ℕ) (offset : ℤ) → AreBytes us → SpellsInsn us (I20t op offset) → IsRaw (I20t op offset)
-fits-20t us op offset bytes h = (h.0.kind, signed-16 offset (number us 1 1) h.2 (number-1 us 1 bytes))
-
-fits-22x : (us : List ℕ) (op : ℕ) (a : ℕ) (b : ℕ) → AreBytes us → SpellsInsn us (I22x op a b) → IsRaw (I22x op a b)
-fits-22x us op a b bytes h = (h.0.kind, (let e = h.1 in omega arith), rw h.2 (number-1 us 1 bytes))
-
-fits-21t : (us : List ℕ) (op : ℕ) (a : ℕ) (offset : ℤ) → AreBytes us → SpellsInsn us (I21t op a offset) → IsRaw (I21t op a offset)
-fits-21t us op a offset bytes h = (h.0.kind, signed-16 offset (number us 1 1) h.2 (number-1 us 1 bytes), (let e = h.1 in omega arith))
-
-fits-21s : (us : List ℕ) (op : ℕ) (a : ℕ) (b : ℤ) → AreBytes us → SpellsInsn us (I21s op a b) → IsRaw (I21s op a b)
-fits-21s us op a b bytes h = (h.0.kind, (let e = h.1 in omega arith), signed-16 b (number us 1 1) h.2 (number-1 us 1 bytes))
-
-fits-21h : (us : List ℕ) (op : ℕ) (a : ℕ) (b : ℤ) → AreBytes us → SpellsInsn us (I21h op a b) → IsRaw (I21h op a b)
-fits-21h us op a b bytes h = (h.0.kind, (let e = h.1 in omega arith), signed-16 b (number us 1 1) h.2 (number-1 us 1 bytes))
-
-fits-21c : (us : List ℕ) (op : ℕ) (a : ℕ) (index : ℕ) → AreBytes us → SpellsInsn us (I21c op a index) → IsRaw (I21c op a index)
-fits-21c us op a index bytes h = (h.0.kind, rw h.2 (number-1 us 1 bytes), (let e = h.1 in omega arith))
-
-fits-23x : (us : List ℕ) (op : ℕ) (a : ℕ) (b : ℕ) (c : ℕ) → AreBytes us → SpellsInsn us (I23x op a b c) → IsRaw (I23x op a b c)
-fits-23x us op a b c bytes h = (h.0.kind, (let e = h.1 in omega arith), (let e = h.2 in omega arith), (let e = h.3 in omega arith))
-
-fits-22b : (us : List ℕ) (op : ℕ) (a : ℕ) (b : ℕ) (c : ℤ) → AreBytes us → SpellsInsn us (I22b op a b c) → IsRaw (I22b op a b c)
-fits-22b us op a b c bytes h = (h.0.kind, (let e = h.1 in omega arith), (let e = h.2 in omega arith), signed-8 c (field us 1 8 8) h.3 (omega arith))
-
-fits-22t : (us : List ℕ) (op : ℕ) (a : ℕ) (b : ℕ) (offset : ℤ) → AreBytes us → SpellsInsn us (I22t op a b offset) → IsRaw (I22t op a b offset)
-fits-22t us op a b offset bytes h = (h.0.kind, (let e = h.1 in omega arith), (let e = h.2 in omega arith), signed-16 offset (number us 1 1) h.3 (number-1 us 1 bytes))
-
-fits-22s : (us : List ℕ) (op : ℕ) (a : ℕ) (b : ℕ) (c : ℤ) → AreBytes us → SpellsInsn us (I22s op a b c) → IsRaw (I22s op a b c)
-fits-22s us op a b c bytes h = (h.0.kind, (let e = h.1 in omega arith), (let e = h.2 in omega arith), signed-16 c (number us 1 1) h.3 (number-1 us 1 bytes))
-
-fits-22c : (us : List ℕ) (op : ℕ) (a : ℕ) (b : ℕ) (index : ℕ) → AreBytes us → SpellsInsn us (I22c op a b index) → IsRaw (I22c op a b index)
-fits-22c us op a b index bytes h = (h.0.kind, (let e = h.1 in omega arith), (let e = h.2 in omega arith), rw h.3 (number-1 us 1 bytes))
-
-fits-30t : (us : List ℕ) (op : ℕ) (offset : ℤ) → AreBytes us → SpellsInsn us (I30t op offset) → IsRaw (I30t op offset)
-fits-30t us op offset bytes h = (h.0.kind, signed-32 offset (number us 1 2) h.2 (number-2 us 1 bytes))
-
-fits-32x : (us : List ℕ) (op : ℕ) (a : ℕ) (b : ℕ) → AreBytes us → SpellsInsn us (I32x op a b) → IsRaw (I32x op a b)
-fits-32x us op a b bytes h = (h.0.kind, rw h.2 (number-1 us 1 bytes), rw h.3 (number-1 us 2 bytes))
-
-fits-31i : (us : List ℕ) (op : ℕ) (a : ℕ) (b : ℤ) → AreBytes us → SpellsInsn us (I31i op a b) → IsRaw (I31i op a b)
-fits-31i us op a b bytes h = (h.0.kind, (let e = h.1 in omega arith), signed-32 b (number us 1 2) h.2 (number-2 us 1 bytes))
-
-fits-31t : (us : List ℕ) (op : ℕ) (a : ℕ) (offset : ℤ) → AreBytes us → SpellsInsn us (I31t op a offset) → IsRaw (I31t op a offset)
-fits-31t us op a offset bytes h = (h.0.kind, (let e = h.1 in omega arith), signed-32 offset (number us 1 2) h.2 (number-2 us 1 bytes))
-
-fits-31c : (us : List ℕ) (op : ℕ) (a : ℕ) (index : ℕ) → AreBytes us → SpellsInsn us (I31c op a index) → IsRaw (I31c op a index)
-fits-31c us op a index bytes h = (h.0.kind, (let e = h.1 in omega arith), rw h.2 (number-2 us 1 bytes))
-
-fits-35c : (us : List ℕ) (op : ℕ) (n : ℕ) (regs : List ℕ) (index : ℕ) → AreBytes us → SpellsInsn us (I35c op n regs index) → IsRaw (I35c op n regs index)
-fits-35c us op n regs index bytes h = (h.0.kind, h.2, rw h.3 (number-1 us 1 bytes), rw h.4 (named us n))
-
-fits-3rc : (us : List ℕ) (op : ℕ) (n : ℕ) (first : ℕ) (index : ℕ) → AreBytes us → SpellsInsn us (I3rc op n first index) → IsRaw (I3rc op n first index)
-fits-3rc us op n first index bytes h = (h.0.kind, rw h.2 (number-1 us 1 bytes), (let e = h.1 in omega arith), rw h.3 (number-1 us 2 bytes))
-
-fits-51l : (us : List ℕ) (op : ℕ) (a : ℕ) (b : ℤ) → AreBytes us → SpellsInsn us (I51l op a b) → IsRaw (I51l op a b)
-fits-51l us op a b bytes h = (h.0.kind, (let e = h.1 in omega arith), signed-64 b (number us 1 4) h.2 (number-4 us 1 bytes))
-
 by-width : (n width : ℕ) → IsElementWidth width → ((n * width) % width ≡ 0) × ((n * width) / width ≡ n)
 by-width n width h = ⊎_elim
     (λ (e : width ≡ 1). rw e (omega arith, omega arith))
@@ -153,22 +81,6 @@ by-width n width h = ⊎_elim
     (λ (e : width ≡ 4). rw e (omega arith, omega arith))
     (λ (e : width ≡ 8). rw e (omega arith, omega arith))))
     h
-
-fits-packed : (us : List ℕ) (first : ℤ) (offsets : List ℕ) → AreBytes us → SpellsInsn us (Packed first offsets) → IsRaw (Packed first offsets)
-fits-packed us first offsets bytes h =
-    let there = h.1 in
-    let n1 = number-1 us 1 bytes in
-    let long = ap length h.3 ∙ slice-length us 8 (8 + 4 * number us 1 1) (omega arith) (omega arith) in
-    (signed-32 first (number us 2 2) h.2 (number-2 us 2 bytes), omega arith, omega arith)
-
-fits-sparse : (us : List ℕ) (keys offsets : List ℕ) → AreBytes us → SpellsInsn us (Sparse keys offsets) → IsRaw (Sparse keys offsets)
-fits-sparse us keys offsets bytes h =
-    let there = h.1 in
-    let n1 = number-1 us 1 bytes in
-    let long = ap length h.2 ∙ slice-length us 4 (4 + 4 * number us 1 1) (omega arith) (omega arith) in
-    let far = ap length h.3 ∙ slice-length us (4 + 4 * number us 1 1) (4 + 8 * number us 1 1) (omega arith) (omega arith) in
-    let count : length keys / 4 ≡ number us 1 1 = omega arith in
-    (omega arith, omega arith, omega arith, rw count h.4)
 
 fits-data : (us : List ℕ) (width : ℕ) (bytes : List ℕ) → AreBytes us → SpellsInsn us (Data width bytes) → IsRaw (Data width bytes)
 fits-data us width bytes are h =
@@ -180,32 +92,42 @@ fits-data us width bytes are h =
 
 -- what is spelled in bytes can be written
 pub fits : (r : Raw) (us : List ℕ) → AreBytes us → SpellsInsn us r → IsRaw r
-fits (I10x op) us bytes h = fits-10x us op bytes h
-fits (I12x op a b) us bytes h = fits-12x us op a b bytes h
-fits (I11n op a b) us bytes h = fits-11n us op a b bytes h
-fits (I11x op a) us bytes h = fits-11x us op a bytes h
-fits (I10t op offset) us bytes h = fits-10t us op offset bytes h
-fits (I20t op offset) us bytes h = fits-20t us op offset bytes h
-fits (I22x op a b) us bytes h = fits-22x us op a b bytes h
-fits (I21t op a offset) us bytes h = fits-21t us op a offset bytes h
-fits (I21s op a b) us bytes h = fits-21s us op a b bytes h
-fits (I21h op a b) us bytes h = fits-21h us op a b bytes h
-fits (I21c op a index) us bytes h = fits-21c us op a index bytes h
-fits (I23x op a b c) us bytes h = fits-23x us op a b c bytes h
-fits (I22b op a b c) us bytes h = fits-22b us op a b c bytes h
-fits (I22t op a b offset) us bytes h = fits-22t us op a b offset bytes h
-fits (I22s op a b c) us bytes h = fits-22s us op a b c bytes h
-fits (I22c op a b index) us bytes h = fits-22c us op a b index bytes h
-fits (I30t op offset) us bytes h = fits-30t us op offset bytes h
-fits (I32x op a b) us bytes h = fits-32x us op a b bytes h
-fits (I31i op a b) us bytes h = fits-31i us op a b bytes h
-fits (I31t op a offset) us bytes h = fits-31t us op a offset bytes h
-fits (I31c op a index) us bytes h = fits-31c us op a index bytes h
-fits (I35c op n regs index) us bytes h = fits-35c us op n regs index bytes h
-fits (I3rc op n first index) us bytes h = fits-3rc us op n first index bytes h
-fits (I51l op a b) us bytes h = fits-51l us op a b bytes h
-fits (Packed first offsets) us bytes h = fits-packed us first offsets bytes h
-fits (Sparse keys offsets) us bytes h = fits-sparse us keys offsets bytes h
+fits (I10x op) us bytes h = h.0.kind
+fits (I12x op a b) us bytes h = (h.0.kind, (let e = h.1 in omega arith), (let e = h.2 in omega arith))
+fits (I11n op a b) us bytes h = (h.0.kind, (let e = h.1 in omega arith), (nibble b (field us 0 12 4) h.2 (omega arith)).0, (nibble b (field us 0 12 4) h.2 (omega arith)).1)
+fits (I11x op a) us bytes h = (h.0.kind, (let e = h.1 in omega arith))
+fits (I10t op offset) us bytes h = (h.0.kind, signed-8 offset (field us 0 8 8) h.1 (omega arith))
+fits (I20t op offset) us bytes h = (h.0.kind, signed-16 offset (number us 1 1) h.2 (number-1 us 1 bytes))
+fits (I22x op a b) us bytes h = (h.0.kind, (let e = h.1 in omega arith), rw h.2 (number-1 us 1 bytes))
+fits (I21t op a offset) us bytes h = (h.0.kind, signed-16 offset (number us 1 1) h.2 (number-1 us 1 bytes), (let e = h.1 in omega arith))
+fits (I21s op a b) us bytes h = (h.0.kind, (let e = h.1 in omega arith), signed-16 b (number us 1 1) h.2 (number-1 us 1 bytes))
+fits (I21h op a b) us bytes h = (h.0.kind, (let e = h.1 in omega arith), signed-16 b (number us 1 1) h.2 (number-1 us 1 bytes))
+fits (I21c op a index) us bytes h = (h.0.kind, rw h.2 (number-1 us 1 bytes), (let e = h.1 in omega arith))
+fits (I23x op a b c) us bytes h = (h.0.kind, (let e = h.1 in omega arith), (let e = h.2 in omega arith), (let e = h.3 in omega arith))
+fits (I22b op a b c) us bytes h = (h.0.kind, (let e = h.1 in omega arith), (let e = h.2 in omega arith), signed-8 c (field us 1 8 8) h.3 (omega arith))
+fits (I22t op a b offset) us bytes h = (h.0.kind, (let e = h.1 in omega arith), (let e = h.2 in omega arith), signed-16 offset (number us 1 1) h.3 (number-1 us 1 bytes))
+fits (I22s op a b c) us bytes h = (h.0.kind, (let e = h.1 in omega arith), (let e = h.2 in omega arith), signed-16 c (number us 1 1) h.3 (number-1 us 1 bytes))
+fits (I22c op a b index) us bytes h = (h.0.kind, (let e = h.1 in omega arith), (let e = h.2 in omega arith), rw h.3 (number-1 us 1 bytes))
+fits (I30t op offset) us bytes h = (h.0.kind, signed-32 offset (number us 1 2) h.2 (number-2 us 1 bytes))
+fits (I32x op a b) us bytes h = (h.0.kind, rw h.2 (number-1 us 1 bytes), rw h.3 (number-1 us 2 bytes))
+fits (I31i op a b) us bytes h = (h.0.kind, (let e = h.1 in omega arith), signed-32 b (number us 1 2) h.2 (number-2 us 1 bytes))
+fits (I31t op a offset) us bytes h = (h.0.kind, (let e = h.1 in omega arith), signed-32 offset (number us 1 2) h.2 (number-2 us 1 bytes))
+fits (I31c op a index) us bytes h = (h.0.kind, (let e = h.1 in omega arith), rw h.2 (number-2 us 1 bytes))
+fits (I35c op n regs index) us bytes h = (h.0.kind, h.2, rw h.3 (number-1 us 1 bytes), rw h.4 (named us n))
+fits (I3rc op n first index) us bytes h = (h.0.kind, rw h.2 (number-1 us 1 bytes), (let e = h.1 in omega arith), rw h.3 (number-1 us 2 bytes))
+fits (I51l op a b) us bytes h = (h.0.kind, (let e = h.1 in omega arith), signed-64 b (number us 1 4) h.2 (number-4 us 1 bytes))
+fits (Packed first offsets) us bytes h =
+    let there = h.1 in
+    let n1 = number-1 us 1 bytes in
+    let long = ap length h.3 ∙ slice-length us 8 (8 + 4 * number us 1 1) (omega arith) (omega arith) in
+    (signed-32 first (number us 2 2) h.2 (number-2 us 2 bytes), omega arith, omega arith)
+fits (Sparse keys offsets) us bytes h =
+    let there = h.1 in
+    let n1 = number-1 us 1 bytes in
+    let long = ap length h.2 ∙ slice-length us 4 (4 + 4 * number us 1 1) (omega arith) (omega arith) in
+    let far = ap length h.3 ∙ slice-length us (4 + 4 * number us 1 1) (4 + 8 * number us 1 1) (omega arith) (omega arith) in
+    let count : length keys / 4 ≡ number us 1 1 = omega arith in
+    (omega arith, omega arith, omega arith, rw count h.4)
 fits (Data width elements) us bytes h = fits-data us width elements bytes h
 
 -- what stands in bytes can be written

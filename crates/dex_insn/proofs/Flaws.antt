@@ -1,5 +1,5 @@
 -- Where an instruction stands, each rule is kept, and so none is broken.
-use Rattle.std.proofs.Common.{◌≡◌, ℕ, ◌*◌, ◌%◌, ◌<◌, ◌≤◌, List, drop, Some, sym, ap, ◌∙◌, arith, ⊎_elim, if◌then◌else◌, ◌==◌}
+use Rattle.std.proofs.Common.{◌≡◌, ℕ, ◌*◌, ◌%◌, ◌≤◌, List, drop, Some, sym, ap, ◌∙◌, arith, ⊎_elim, if◌then◌else◌, ◌==◌}
 use Rattle.std.proofs.lemmas.Bool.Decides.{nat_tests}
 use Rattle.dex_insn.specs.Fields.{field}
 use Rattle.dex_insn.specs.Opcodes.{format_of, units_of}
@@ -7,7 +7,7 @@ use Rattle.dex_insn.specs.RawInsns.{InsnStands, IsPayload}
 use Rattle.dex_insn.specs.Flaws.{InsnBreaks, KeepsRules, format_at, has_zero_byte}
 use Rattle.dex_insn.specs.Raw.{Raw}
 use Rattle.dex_insn.specs.declared.opcode.Format.{Format}
-use Rattle.dex_insn.specs.declared.opcode.Format.TheVariants.{F10x, F12x, F11n, F11x, F10t, F20t, F22x, F21t, F21s, F21h, F21c, F23x, F22b, F22t, F22s, F22c, F30t, F32x, F31i, F31t, F31c, F35c, F3rc, F51l}
+use Rattle.dex_insn.specs.declared.opcode.Format.TheVariants.{F10x, F35c}
 use Rattle.dex_insn.specs.declared.flaw.Flaw.{Flaw}
 use Rattle.dex_insn.specs.declared.flaw.Flaw.TheVariants.{Missing, Opcode, Cut, NonZero, RegisterCount, OddPayload, CutHead, Width, CutPayload, KeyOrder}
 use Rattle.dex_insn.proofs.Unique.{Plain, Load, known, zero_row}
@@ -19,29 +19,7 @@ format_is us it p g e =
 
 pub some_unit : (f : Format) → 1 ≤ units_of f
 some_unit F10x = omega arith
-some_unit F12x = omega arith
-some_unit F11n = omega arith
-some_unit F11x = omega arith
-some_unit F10t = omega arith
-some_unit F20t = omega arith
-some_unit F22x = omega arith
-some_unit F21t = omega arith
-some_unit F21s = omega arith
-some_unit F21h = omega arith
-some_unit F21c = omega arith
-some_unit F23x = omega arith
-some_unit F22b = omega arith
-some_unit F22t = omega arith
-some_unit F22s = omega arith
-some_unit F22c = omega arith
-some_unit F30t = omega arith
-some_unit F32x = omega arith
-some_unit F31i = omega arith
-some_unit F31t = omega arith
-some_unit F31c = omega arith
-some_unit F35c = omega arith
-some_unit F3rc = omega arith
-some_unit F51l = omega arith
+some_unit _ = omega arith
 
 two_heads : (h n : ℕ) → 2 * (if h == 3 then 4 else 2) ≤ n → 2 ≤ n
 two_heads h n p = grind (arith, nat_tests)

@@ -9,8 +9,7 @@ use Rattle.dex_insn.specs.Flaws.{IsFaultAt}
 use Rattle.dex_insn.specs.Written.{IsRaw, written}
 use Rattle.dex_insn.proofs.Unique.{Plain, Load, known, once}
 use Rattle.dex_insn.proofs.Flaws.{no_flaw, some_unit}
-use Rattle.dex_insn.proofs.More.{more}
-use Rattle.dex_insn.proofs.Less.{less}
+use Rattle.dex_insn.proofs.More.{more, less}
 use Rattle.dex_insn.proofs.Spelled.{spells}
 
 -- one instruction stands
@@ -66,7 +65,7 @@ stands-before bytes after at r s =
     let w = stands-whole bytes at r s in
     let there = w.1 in
     let d : drop (2 * at) (bytes ++ after) ≡ drop (2 * at) bytes ++ after = drop-append-le (2 * at) bytes after (omega arith) in
-    let here : SpellsInsn (drop (2 * at) (bytes ++ after)) r = rw d (more r (drop (2 * at) bytes) after s.spelled) in
+    let here : SpellsInsn (drop (2 * at) (bytes ++ after)) r = rw d (more r (drop (2 * at) bytes) after (spelled-whole (drop (2 * at) bytes) r s.spelled).1 s.spelled) in
     record {
       spelled = here;
       even = λ i. even-of bytes at r s (payload-of (drop (2 * at) (bytes ++ after)) r here i);
@@ -87,5 +86,5 @@ pub written-stands : (before after : List ℕ) (at : ℕ) (r : Raw) → IsRaw r 
     → InsnStands (before ++ (written r ++ after)) at r
 written-stands before after at r fits e even =
     let d : drop (2 * at) (before ++ (written r ++ after)) ≡ written r ++ after = rw (← e) (drop-append_seam before (written r ++ after)) in
-    let here : SpellsInsn (drop (2 * at) (before ++ (written r ++ after))) r = rw d (more r (written r) after (spells r fits)) in
+    let here : SpellsInsn (drop (2 * at) (before ++ (written r ++ after))) r = rw d (more r (written r) after (spelled-whole (written r) r (spells r fits)).1 (spells r fits)) in
     record { spelled = here; even = λ i. even (payload-of (drop (2 * at) (before ++ (written r ++ after))) r here i) }

@@ -5,7 +5,6 @@ pub mod Spelled
 pub mod Unique
 pub mod Flaws
 pub mod More
-pub mod Less
 pub mod Fits
 pub mod Laws
 pub mod Mnemonics

@@ -1,5 +1,5 @@
 -- The mnemonics of the table: each has a slot of its own, so no two are the same.
-use Rattle.std.proofs.Common.{◌≡◌, ◌≢◌, ℕ, zero, suc, ◌+◌, Bool, true, false, ◌&&◌, ◌==◌, refl, get_or, List, [], ◌∷◌, sym, ◌∙◌, arith}
+use Rattle.std.proofs.Common.{◌≡◌, ◌≢◌, ℕ, zero, suc, ◌+◌, Bool, true, ◌&&◌, ◌==◌, refl, get_or, List, [], ◌∷◌, sym, ◌∙◌, arith}
 use Rattle.std.proofs.lemmas.Bool.Decides.{nat_tests}
 use Rattle.dex_insn.specs.Mnemonics.{mnemonics, IsNamed}
 use Rattle.dex_insn.specs.Named.{candidate}

@@ -99,42 +99,31 @@ module _ (at : ℕ) (us : List ℕ) where
   one_flaw x Cut a b = sym (cut x b a)
   one_flaw x CutHead a b = sym (head x b a)
   one_flaw x CutPayload a b = sym (whole x b a)
-  one_flaw Opcode Opcode a b = refl
   one_flaw Opcode NonZero a b = absurd (named b.0 a.1 b.1.1)
   one_flaw Opcode RegisterCount a b = absurd (named F35c a.1 b.0.1)
   one_flaw Opcode OddPayload a b = absurd (unnamed a.1 b.1)
   one_flaw Opcode Width a b = absurd (unnamed a.1 b.0.0)
   one_flaw Opcode KeyOrder a b = absurd (unnamed a.1 b.0.0)
   one_flaw NonZero Opcode a b = absurd (named a.0 b.1 a.1.1)
-  one_flaw NonZero NonZero a b = refl
   one_flaw NonZero RegisterCount a b = absurd (counted a.0 a.1.1 b.0.1 a.3)
   one_flaw NonZero OddPayload a b = absurd (a.1.0 b.1)
   one_flaw NonZero Width a b = absurd (a.1.0 b.0.0)
   one_flaw NonZero KeyOrder a b = absurd (a.1.0 b.0.0)
   one_flaw RegisterCount Opcode a b = absurd (named F35c b.1 a.0.1)
   one_flaw RegisterCount NonZero a b = absurd (counted b.0 b.1.1 a.0.1 b.3)
-  one_flaw RegisterCount RegisterCount a b = refl
   one_flaw RegisterCount OddPayload a b = absurd (a.0.0 b.1)
   one_flaw RegisterCount Width a b = absurd (a.0.0 b.0.0)
   one_flaw RegisterCount KeyOrder a b = absurd (a.0.0 b.0.0)
   one_flaw OddPayload Opcode a b = absurd (unnamed b.1 a.1)
   one_flaw OddPayload NonZero a b = absurd (b.1.0 a.1)
   one_flaw OddPayload RegisterCount a b = absurd (b.0.0 a.1)
-  one_flaw OddPayload OddPayload a b = refl
-  one_flaw OddPayload Width a b = refl
-  one_flaw OddPayload KeyOrder a b = refl
   one_flaw Width Opcode a b = absurd (unnamed b.1 a.0.0)
   one_flaw Width NonZero a b = absurd (b.1.0 a.0.0)
   one_flaw Width RegisterCount a b = absurd (b.0.0 a.0.0)
-  one_flaw Width OddPayload a b = refl
-  one_flaw Width Width a b = refl
-  one_flaw Width KeyOrder a b = refl
   one_flaw KeyOrder Opcode a b = absurd (unnamed b.1 a.0.0)
   one_flaw KeyOrder NonZero a b = absurd (b.1.0 a.0.0)
   one_flaw KeyOrder RegisterCount a b = absurd (b.0.0 a.0.0)
-  one_flaw KeyOrder OddPayload a b = refl
-  one_flaw KeyOrder Width a b = refl
-  one_flaw KeyOrder KeyOrder a b = refl
+  one_flaw _ _ a b = refl
 
 -- and so one fault
 pub one_fault : (bytes : List ℕ) (at : ℕ) (e f : Fault) → IsFaultAt bytes at e → IsFaultAt bytes at f → e ≡ f

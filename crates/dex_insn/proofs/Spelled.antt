@@ -1,15 +1,14 @@
 -- What is written spells the instruction.
-use Rattle.std.proofs.Common.{◌≡◌, ℕ, ◌+◌, ◌*◌, ◌/◌, ◌%◌, ◌<◌, ◌≤◌, ◌++◌, List, [], ◌∷◌, length, slice_index, arith, refl, sym, ap, ◌∙◌, ℤ, length-append, ⊎_elim, take, drop, ◌-◌, take_all, zero, suc, if◌then◌else◌, ◌==◌}
+use Rattle.std.proofs.Common.{◌≡◌, ℕ, ◌+◌, ◌*◌, ◌/◌, ◌%◌, ◌<◌, ◌≤◌, ◌++◌, List, [], ◌∷◌, length, slice_index, arith, refl, sym, ap, ◌∙◌, length-append, ⊎_elim, take, drop, ◌-◌, take_all, zero, suc, if◌then◌else◌, ◌==◌}
 use Rattle.std.proofs.lemmas.Nat.{div-add-mod'}
 use Rattle.std.proofs.Math.Nat.{div-le_self}
-use Rattle.dex_insn.specs.RawInsns.{IsElementWidth}
+use Rattle.dex_insn.specs.RawInsns.{IsElementWidth, SpellsInsn, register}
 use Rattle.std.specs.Prelude.{slice_range}
 use Rattle.std.proofs.Math.Seq.{take-append_seam, drop-append_seam, drop-append-add}
 use Rattle.std.specs.Int.{cast_unsigned, w8, w16, w32, w64}
 use Rattle.std.proofs.lemmas.Bool.{cases_lt}
 use Rattle.std.proofs.lemmas.Bool.Decides.{nat_tests}
 use Rattle.dex_insn.specs.Fields.{number, field, signed}
-use Rattle.dex_insn.specs.RawInsns.{SpellsInsn, register}
 use Rattle.dex_insn.specs.Written.{IsRaw, written, bytes_of, AreRegisters}
 use Rattle.dex_insn.specs.declared.opcode.Format.TheVariants.{F10x, F12x, F11n, F11x, F10t, F20t, F22x, F21t, F21s, F21h, F21c, F23x, F22b, F22t, F22s, F22c, F30t, F32x, F31i, F31t, F31c, F35c, F3rc, F51l}
 use Rattle.dex_insn.specs.Raw.{Raw, units, I10x, I12x, I11n, I11x, I10t, I20t, I22x, I21t, I21s, I21h, I21c, I23x, I22b, I22t, I22s, I22c, I30t, I32x, I31i, I31t, I31c, I35c, I3rc, I51l, Packed, Sparse, Data}
@@ -17,217 +16,10 @@ use Rattle.dex_insn.proofs.Signs.{signed_8, signed_16, signed_32, signed_64, sig
 use Rattle.dex_insn.proofs.Numbers.{at0, at1, at2, two1, two2, four1}
 use Rattle.dex_insn.proofs.Table.{op_fits}
 
-spells_10x : (op : ℕ) → IsRaw (I10x op) → SpellsInsn (written (I10x op)) (I10x op)
-unfolding written
-spells_10x op h =
-    let fits = op_fits op F10x h in
-    let e0 = at0 op ([]) (omega arith) in
-    (record { opcode = omega arith; kind = h; whole = omega arith }, omega arith)
-
-spells_12x : (op : ℕ) (a : ℕ) (b : ℕ) → IsRaw (I12x op a b) → SpellsInsn (written (I12x op a b)) (I12x op a b)
-unfolding written
-spells_12x op a b h =
-    let fits = op_fits op F12x h.0 in
-    let e0 = at0 (op + 256 * a + 4096 * b) ([]) (omega arith) in
-    (record { opcode = omega arith; kind = h.0; whole = omega arith }, omega arith, omega arith)
-
-spells_11n : (op : ℕ) (a : ℕ) (b : ℤ) → IsRaw (I11n op a b) → SpellsInsn (written (I11n op a b)) (I11n op a b)
-unfolding written
-spells_11n op a b h =
-    let fits = op_fits op F11n h.0 in
-    let e0 = at0 (op + 256 * a + 4096 * (cast_unsigned w8 b % 16)) ([]) (omega arith) in
-    let f : field (bytes_of ((op + 256 * a + 4096 * (cast_unsigned w8 b % 16)) ∷ [])) 0 12 4 ≡ cast_unsigned w8 b % 16 = omega arith in
-    (record { opcode = omega arith; kind = h.0; whole = omega arith }, omega arith, sym (signed_nibble b h.2 h.3) ∙ ap (signed 4) (sym f))
-
-spells_11x : (op : ℕ) (a : ℕ) → IsRaw (I11x op a) → SpellsInsn (written (I11x op a)) (I11x op a)
-unfolding written
-spells_11x op a h =
-    let fits = op_fits op F11x h.0 in
-    let e0 = at0 (op + 256 * a) ([]) (omega arith) in
-    (record { opcode = omega arith; kind = h.0; whole = omega arith }, omega arith)
-
-spells_10t : (op : ℕ) (offset : ℤ) → IsRaw (I10t op offset) → SpellsInsn (written (I10t op offset)) (I10t op offset)
-unfolding written
-spells_10t op offset h =
-    let fits = op_fits op F10t h.0 in
-    let e0 = at0 (op + 256 * (cast_unsigned w32 offset % 256)) ([]) (omega arith) in
-    let f : field (bytes_of ((op + 256 * (cast_unsigned w32 offset % 256)) ∷ [])) 0 8 8 ≡ cast_unsigned w32 offset % 256 = omega arith in
-    (record { opcode = omega arith; kind = h.0; whole = omega arith }, sym (signed_byte offset h.1) ∙ ap (signed 8) (sym f))
-
-spells_20t : (op : ℕ) (offset : ℤ) → IsRaw (I20t op offset) → SpellsInsn (written (I20t op offset)) (I20t op offset)
-unfolding written
-spells_20t op offset h =
-    let fits = op_fits op F20t h.0 in
-    let e0 = at0 op (((cast_unsigned w32 offset % 65536) % 256) ∷ ((cast_unsigned w32 offset % 65536) / 256 % 256) ∷ []) (omega arith) in
-    let e1 = at1 (op % 256) (op / 256 % 256) (cast_unsigned w32 offset % 65536) ([]) (omega arith) in
-    let f : number (bytes_of (op ∷ (cast_unsigned w32 offset % 65536) ∷ [])) 1 1 ≡ cast_unsigned w32 offset % 65536 = omega arith in
-    (record { opcode = omega arith; kind = h.0; whole = omega arith }, omega arith, sym (signed_half offset h.1) ∙ ap (signed 16) (sym f))
-
-spells_22x : (op : ℕ) (a : ℕ) (b : ℕ) → IsRaw (I22x op a b) → SpellsInsn (written (I22x op a b)) (I22x op a b)
-unfolding written
-spells_22x op a b h =
-    let fits = op_fits op F22x h.0 in
-    let e0 = at0 (op + 256 * a) ((b % 256) ∷ (b / 256 % 256) ∷ []) (omega arith) in
-    let e1 = at1 ((op + 256 * a) % 256) ((op + 256 * a) / 256 % 256) b ([]) (omega arith) in
-    (record { opcode = omega arith; kind = h.0; whole = omega arith }, omega arith, omega arith)
-
-spells_21t : (op : ℕ) (a : ℕ) (offset : ℤ) → IsRaw (I21t op a offset) → SpellsInsn (written (I21t op a offset)) (I21t op a offset)
-unfolding written
-spells_21t op a offset h =
-    let fits = op_fits op F21t h.0 in
-    let e0 = at0 (op + 256 * a) (((cast_unsigned w32 offset % 65536) % 256) ∷ ((cast_unsigned w32 offset % 65536) / 256 % 256) ∷ []) (omega arith) in
-    let e1 = at1 ((op + 256 * a) % 256) ((op + 256 * a) / 256 % 256) (cast_unsigned w32 offset % 65536) ([]) (omega arith) in
-    let f : number (bytes_of ((op + 256 * a) ∷ (cast_unsigned w32 offset % 65536) ∷ [])) 1 1 ≡ cast_unsigned w32 offset % 65536 = omega arith in
-    (record { opcode = omega arith; kind = h.0; whole = omega arith }, omega arith, sym (signed_half offset h.1) ∙ ap (signed 16) (sym f))
-
-spells_21s : (op : ℕ) (a : ℕ) (b : ℤ) → IsRaw (I21s op a b) → SpellsInsn (written (I21s op a b)) (I21s op a b)
-unfolding written
-spells_21s op a b h =
-    let fits = op_fits op F21s h.0 in
-    let bound = unsigned_16 b h.2 in
-    let e0 = at0 (op + 256 * a) (((cast_unsigned w16 b) % 256) ∷ ((cast_unsigned w16 b) / 256 % 256) ∷ []) (omega arith) in
-    let e1 = at1 ((op + 256 * a) % 256) ((op + 256 * a) / 256 % 256) (cast_unsigned w16 b) ([]) (omega arith) in
-    let f : number (bytes_of ((op + 256 * a) ∷ (cast_unsigned w16 b) ∷ [])) 1 1 ≡ cast_unsigned w16 b = omega arith in
-    (record { opcode = omega arith; kind = h.0; whole = omega arith }, omega arith, sym (signed_16 b h.2) ∙ ap (signed 16) (sym f))
-
-spells_21h : (op : ℕ) (a : ℕ) (b : ℤ) → IsRaw (I21h op a b) → SpellsInsn (written (I21h op a b)) (I21h op a b)
-unfolding written
-spells_21h op a b h =
-    let fits = op_fits op F21h h.0 in
-    let bound = unsigned_16 b h.2 in
-    let e0 = at0 (op + 256 * a) (((cast_unsigned w16 b) % 256) ∷ ((cast_unsigned w16 b) / 256 % 256) ∷ []) (omega arith) in
-    let e1 = at1 ((op + 256 * a) % 256) ((op + 256 * a) / 256 % 256) (cast_unsigned w16 b) ([]) (omega arith) in
-    let f : number (bytes_of ((op + 256 * a) ∷ (cast_unsigned w16 b) ∷ [])) 1 1 ≡ cast_unsigned w16 b = omega arith in
-    (record { opcode = omega arith; kind = h.0; whole = omega arith }, omega arith, sym (signed_16 b h.2) ∙ ap (signed 16) (sym f))
-
-spells_21c : (op : ℕ) (a : ℕ) (index : ℕ) → IsRaw (I21c op a index) → SpellsInsn (written (I21c op a index)) (I21c op a index)
-unfolding written
-spells_21c op a index h =
-    let fits = op_fits op F21c h.0 in
-    let e0 = at0 (op + 256 * a) ((index % 256) ∷ (index / 256 % 256) ∷ []) (omega arith) in
-    let e1 = at1 ((op + 256 * a) % 256) ((op + 256 * a) / 256 % 256) index ([]) (omega arith) in
-    (record { opcode = omega arith; kind = h.0; whole = omega arith }, omega arith, omega arith)
-
-spells_23x : (op : ℕ) (a : ℕ) (b : ℕ) (c : ℕ) → IsRaw (I23x op a b c) → SpellsInsn (written (I23x op a b c)) (I23x op a b c)
-unfolding written
-spells_23x op a b c h =
-    let fits = op_fits op F23x h.0 in
-    let e0 = at0 (op + 256 * a) (((b + 256 * c) % 256) ∷ ((b + 256 * c) / 256 % 256) ∷ []) (omega arith) in
-    let e1 = at1 ((op + 256 * a) % 256) ((op + 256 * a) / 256 % 256) (b + 256 * c) ([]) (omega arith) in
-    (record { opcode = omega arith; kind = h.0; whole = omega arith }, omega arith, omega arith, omega arith)
-
-spells_22b : (op : ℕ) (a : ℕ) (b : ℕ) (c : ℤ) → IsRaw (I22b op a b c) → SpellsInsn (written (I22b op a b c)) (I22b op a b c)
-unfolding written
-spells_22b op a b c h =
-    let fits = op_fits op F22b h.0 in
-    let bound = unsigned_8 c h.3 in
-    let e0 = at0 (op + 256 * a) (((b + 256 * cast_unsigned w8 c) % 256) ∷ ((b + 256 * cast_unsigned w8 c) / 256 % 256) ∷ []) (omega arith) in
-    let e1 = at1 ((op + 256 * a) % 256) ((op + 256 * a) / 256 % 256) (b + 256 * cast_unsigned w8 c) ([]) (omega arith) in
-    let f : field (bytes_of ((op + 256 * a) ∷ (b + 256 * cast_unsigned w8 c) ∷ [])) 1 8 8 ≡ cast_unsigned w8 c = omega arith in
-    (record { opcode = omega arith; kind = h.0; whole = omega arith }, omega arith, omega arith, sym (signed_8 c h.3) ∙ ap (signed 8) (sym f))
-
-spells_22t : (op : ℕ) (a : ℕ) (b : ℕ) (offset : ℤ) → IsRaw (I22t op a b offset) → SpellsInsn (written (I22t op a b offset)) (I22t op a b offset)
-unfolding written
-spells_22t op a b offset h =
-    let fits = op_fits op F22t h.0 in
-    let e0 = at0 (op + 256 * a + 4096 * b) (((cast_unsigned w32 offset % 65536) % 256) ∷ ((cast_unsigned w32 offset % 65536) / 256 % 256) ∷ []) (omega arith) in
-    let e1 = at1 ((op + 256 * a + 4096 * b) % 256) ((op + 256 * a + 4096 * b) / 256 % 256) (cast_unsigned w32 offset % 65536) ([]) (omega arith) in
-    let f : number (bytes_of ((op + 256 * a + 4096 * b) ∷ (cast_unsigned w32 offset % 65536) ∷ [])) 1 1 ≡ cast_unsigned w32 offset % 65536 = omega arith in
-    (record { opcode = omega arith; kind = h.0; whole = omega arith }, omega arith, omega arith, sym (signed_half offset h.3) ∙ ap (signed 16) (sym f))
-
-spells_22s : (op : ℕ) (a : ℕ) (b : ℕ) (c : ℤ) → IsRaw (I22s op a b c) → SpellsInsn (written (I22s op a b c)) (I22s op a b c)
-unfolding written
-spells_22s op a b c h =
-    let fits = op_fits op F22s h.0 in
-    let bound = unsigned_16 c h.3 in
-    let e0 = at0 (op + 256 * a + 4096 * b) (((cast_unsigned w16 c) % 256) ∷ ((cast_unsigned w16 c) / 256 % 256) ∷ []) (omega arith) in
-    let e1 = at1 ((op + 256 * a + 4096 * b) % 256) ((op + 256 * a + 4096 * b) / 256 % 256) (cast_unsigned w16 c) ([]) (omega arith) in
-    let f : number (bytes_of ((op + 256 * a + 4096 * b) ∷ (cast_unsigned w16 c) ∷ [])) 1 1 ≡ cast_unsigned w16 c = omega arith in
-    (record { opcode = omega arith; kind = h.0; whole = omega arith }, omega arith, omega arith, sym (signed_16 c h.3) ∙ ap (signed 16) (sym f))
-
-spells_22c : (op : ℕ) (a : ℕ) (b : ℕ) (index : ℕ) → IsRaw (I22c op a b index) → SpellsInsn (written (I22c op a b index)) (I22c op a b index)
-unfolding written
-spells_22c op a b index h =
-    let fits = op_fits op F22c h.0 in
-    let e0 = at0 (op + 256 * a + 4096 * b) ((index % 256) ∷ (index / 256 % 256) ∷ []) (omega arith) in
-    let e1 = at1 ((op + 256 * a + 4096 * b) % 256) ((op + 256 * a + 4096 * b) / 256 % 256) index ([]) (omega arith) in
-    (record { opcode = omega arith; kind = h.0; whole = omega arith }, omega arith, omega arith, omega arith)
-
-spells_30t : (op : ℕ) (offset : ℤ) → IsRaw (I30t op offset) → SpellsInsn (written (I30t op offset)) (I30t op offset)
-unfolding written
-spells_30t op offset h =
-    let fits = op_fits op F30t h.0 in
-    let bound = unsigned_32 offset h.1 in
-    let e0 = at0 op (((cast_unsigned w32 offset % 65536) % 256) ∷ ((cast_unsigned w32 offset % 65536) / 256 % 256) ∷ ((cast_unsigned w32 offset / 65536) % 256) ∷ ((cast_unsigned w32 offset / 65536) / 256 % 256) ∷ []) (omega arith) in
-    let e1 = two1 (op % 256) (op / 256 % 256) (cast_unsigned w32 offset) [] (omega arith) in
-    let f : number (bytes_of (op ∷ (cast_unsigned w32 offset % 65536) ∷ (cast_unsigned w32 offset / 65536) ∷ [])) 1 2 ≡ cast_unsigned w32 offset = omega arith in
-    (record { opcode = omega arith; kind = h.0; whole = omega arith }, omega arith, sym (signed_32 offset h.1) ∙ ap (signed 32) (sym f))
-
-spells_32x : (op : ℕ) (a : ℕ) (b : ℕ) → IsRaw (I32x op a b) → SpellsInsn (written (I32x op a b)) (I32x op a b)
-unfolding written
-spells_32x op a b h =
-    let fits = op_fits op F32x h.0 in
-    let e0 = at0 op ((a % 256) ∷ (a / 256 % 256) ∷ (b % 256) ∷ (b / 256 % 256) ∷ []) (omega arith) in
-    let e1 = at1 (op % 256) (op / 256 % 256) a ((b % 256) ∷ (b / 256 % 256) ∷ []) (omega arith) in
-    let e2 = at2 (op % 256) (op / 256 % 256) (a % 256) (a / 256 % 256) b [] (omega arith) in
-    (record { opcode = omega arith; kind = h.0; whole = omega arith }, omega arith, omega arith, omega arith)
-
-spells_31i : (op : ℕ) (a : ℕ) (b : ℤ) → IsRaw (I31i op a b) → SpellsInsn (written (I31i op a b)) (I31i op a b)
-unfolding written
-spells_31i op a b h =
-    let fits = op_fits op F31i h.0 in
-    let bound = unsigned_32 b h.2 in
-    let e0 = at0 (op + 256 * a) (((cast_unsigned w32 b % 65536) % 256) ∷ ((cast_unsigned w32 b % 65536) / 256 % 256) ∷ ((cast_unsigned w32 b / 65536) % 256) ∷ ((cast_unsigned w32 b / 65536) / 256 % 256) ∷ []) (omega arith) in
-    let e1 = two1 ((op + 256 * a) % 256) ((op + 256 * a) / 256 % 256) (cast_unsigned w32 b) [] (omega arith) in
-    let f : number (bytes_of ((op + 256 * a) ∷ (cast_unsigned w32 b % 65536) ∷ (cast_unsigned w32 b / 65536) ∷ [])) 1 2 ≡ cast_unsigned w32 b = omega arith in
-    (record { opcode = omega arith; kind = h.0; whole = omega arith }, omega arith, sym (signed_32 b h.2) ∙ ap (signed 32) (sym f))
-
-spells_31t : (op : ℕ) (a : ℕ) (offset : ℤ) → IsRaw (I31t op a offset) → SpellsInsn (written (I31t op a offset)) (I31t op a offset)
-unfolding written
-spells_31t op a offset h =
-    let fits = op_fits op F31t h.0 in
-    let bound = unsigned_32 offset h.2 in
-    let e0 = at0 (op + 256 * a) (((cast_unsigned w32 offset % 65536) % 256) ∷ ((cast_unsigned w32 offset % 65536) / 256 % 256) ∷ ((cast_unsigned w32 offset / 65536) % 256) ∷ ((cast_unsigned w32 offset / 65536) / 256 % 256) ∷ []) (omega arith) in
-    let e1 = two1 ((op + 256 * a) % 256) ((op + 256 * a) / 256 % 256) (cast_unsigned w32 offset) [] (omega arith) in
-    let f : number (bytes_of ((op + 256 * a) ∷ (cast_unsigned w32 offset % 65536) ∷ (cast_unsigned w32 offset / 65536) ∷ [])) 1 2 ≡ cast_unsigned w32 offset = omega arith in
-    (record { opcode = omega arith; kind = h.0; whole = omega arith }, omega arith, sym (signed_32 offset h.2) ∙ ap (signed 32) (sym f))
-
-spells_31c : (op : ℕ) (a : ℕ) (index : ℕ) → IsRaw (I31c op a index) → SpellsInsn (written (I31c op a index)) (I31c op a index)
-unfolding written
-spells_31c op a index h =
-    let fits = op_fits op F31c h.0 in
-    let e0 = at0 (op + 256 * a) (((index % 65536) % 256) ∷ ((index % 65536) / 256 % 256) ∷ ((index / 65536) % 256) ∷ ((index / 65536) / 256 % 256) ∷ []) (omega arith) in
-    let e1 = two1 ((op + 256 * a) % 256) ((op + 256 * a) / 256 % 256) index [] (omega arith) in
-    (record { opcode = omega arith; kind = h.0; whole = omega arith }, omega arith, omega arith)
-
-spells_3rc : (op : ℕ) (n : ℕ) (first : ℕ) (index : ℕ) → IsRaw (I3rc op n first index) → SpellsInsn (written (I3rc op n first index)) (I3rc op n first index)
-unfolding written
-spells_3rc op n first index h =
-    let fits = op_fits op F3rc h.0 in
-    let e0 = at0 (op + 256 * n) ((index % 256) ∷ (index / 256 % 256) ∷ (first % 256) ∷ (first / 256 % 256) ∷ []) (omega arith) in
-    let e1 = at1 ((op + 256 * n) % 256) ((op + 256 * n) / 256 % 256) index ((first % 256) ∷ (first / 256 % 256) ∷ []) (omega arith) in
-    let e2 = at2 ((op + 256 * n) % 256) ((op + 256 * n) / 256 % 256) (index % 256) (index / 256 % 256) first [] (omega arith) in
-    (record { opcode = omega arith; kind = h.0; whole = omega arith }, omega arith, omega arith, omega arith)
-
-spells_51l : (op : ℕ) (a : ℕ) (b : ℤ) → IsRaw (I51l op a b) → SpellsInsn (written (I51l op a b)) (I51l op a b)
-unfolding written
-spells_51l op a b h =
-    let fits = op_fits op F51l h.0 in
-    let bound = unsigned_64 b h.2 in
-    let e0 = at0 (op + 256 * a) (((cast_unsigned w64 b % 65536) % 256) ∷ ((cast_unsigned w64 b % 65536) / 256 % 256) ∷ ((cast_unsigned w64 b / 65536 % 65536) % 256) ∷ ((cast_unsigned w64 b / 65536 % 65536) / 256 % 256) ∷ ((cast_unsigned w64 b / 4294967296 % 65536) % 256) ∷ ((cast_unsigned w64 b / 4294967296 % 65536) / 256 % 256) ∷ ((cast_unsigned w64 b / 281474976710656) % 256) ∷ ((cast_unsigned w64 b / 281474976710656) / 256 % 256) ∷ []) (omega arith) in
-    let e1 = four1 ((op + 256 * a) % 256) ((op + 256 * a) / 256 % 256) (cast_unsigned w64 b) [] (omega arith) in
-    let f : number (bytes_of ((op + 256 * a) ∷ (cast_unsigned w64 b % 65536) ∷ (cast_unsigned w64 b / 65536 % 65536) ∷ (cast_unsigned w64 b / 4294967296 % 65536) ∷ (cast_unsigned w64 b / 281474976710656) ∷ [])) 1 4 ≡ cast_unsigned w64 b = omega arith in
-    (record { opcode = omega arith; kind = h.0; whole = omega arith }, omega arith, sym (signed_64 b h.2) ∙ ap (signed 64) (sym f))
-
 -- a list of five is its elements
 five : (xs : List ℕ) → length xs ≡ 5 → slice_index xs 0 ∷ slice_index xs 1 ∷ slice_index xs 2 ∷ slice_index xs 3 ∷ slice_index xs 4 ∷ [] ≡ xs
-five [] h = absurd (omega arith)
-five (a ∷ []) h = absurd (omega arith)
-five (a ∷ b ∷ []) h = absurd (omega arith)
-five (a ∷ b ∷ c ∷ []) h = absurd (omega arith)
-five (a ∷ b ∷ c ∷ d ∷ []) h = absurd (omega arith)
 five (a ∷ b ∷ c ∷ d ∷ e ∷ []) h = refl
-five (a ∷ b ∷ c ∷ d ∷ e ∷ f ∷ xs) h = absurd (omega arith)
+five _ h = absurd (omega arith)
 
 below_16 : (n : ℕ) (regs : List ℕ) → AreRegisters n regs → (k : ℕ) → slice_index regs k < 16
 below_16 n regs h k = ⊎_elim (λ (p : k < n). h.fit k p) (λ (p : n ≤ k). let z = h.unused k p in omega arith) (cases_lt k n)
@@ -242,9 +34,155 @@ one_register n k bits regs h e = kept n k bits (slice_index regs k) e (h.unused 
 same_five : (a b c d e a' b' c' d' e' : ℕ) → a ≡ a' → b ≡ b' → c ≡ c' → d ≡ d' → e ≡ e' → a ∷ b ∷ c ∷ d ∷ e ∷ [] ≡ a' ∷ b' ∷ c' ∷ d' ∷ e' ∷ []
 same_five a b c d e a' b' c' d' e' p q r s t = cc
 
-spells_35c : (op n : ℕ) (regs : List ℕ) (index : ℕ) → IsRaw (I35c op n regs index) → SpellsInsn (written (I35c op n regs index)) (I35c op n regs index)
+-- a part of bytes that ends with them
+whole : (xs : List ℕ) (n : ℕ) → n ≡ length xs → xs ≡ take n xs
+whole xs n e = sym (take_all n xs (omega arith))
+
+-- the first of two parts
+first_part : (xs ys : List ℕ) (n : ℕ) → n ≡ length xs → xs ≡ take n (xs ++ ys)
+first_part xs ys n e = rw e (sym (take-append_seam xs ys))
+
+-- the second of two parts, after four bytes
+second_part : (a b c d : ℕ) (xs ys : List ℕ) (n m : ℕ) → n ≡ 4 + length xs → m ≡ n + length ys → ys ≡ slice_range (a ∷ b ∷ c ∷ d ∷ (xs ++ ys)) n m
+second_part a b c d xs ys n m e f =
+    let head : List ℕ = a ∷ b ∷ c ∷ d ∷ [] in
+    let dropped : drop n (a ∷ b ∷ c ∷ d ∷ (xs ++ ys)) ≡ ys = rw e (drop-append-add head (xs ++ ys) (length xs) ∙ drop-append_seam xs ys) in
+    rw dropped (whole ys (m - n) (omega arith))
+
+by_parity : (r : ℕ) → r < 2 → length {A = ℕ} (if r == 0 then [] else 0 ∷ []) ≡ r
+by_parity zero h = refl
+by_parity (suc zero) h = refl
+by_parity (suc (suc r)) h = absurd (omega arith)
+
+width_fits : (width : ℕ) → IsElementWidth width → width < 65536
+width_fits width h = grind arith
+
+pad_length : (n : ℕ) → length {A = ℕ} (if n % 2 == 0 then [] else 0 ∷ []) ≡ n % 2
+pad_length n = by_parity (n % 2) (omega arith)
+
+pub spells : (insn : Raw) → IsRaw insn → SpellsInsn (written insn) insn
 unfolding written
-spells_35c op n regs index h =
+spells (I10x op) h =
+    let fits = op_fits op F10x h in
+    let e0 = at0 op ([]) (omega arith) in
+    (record { opcode = omega arith; kind = h; whole = omega arith }, omega arith)
+spells (I12x op a b) h =
+    let fits = op_fits op F12x h.0 in
+    let e0 = at0 (op + 256 * a + 4096 * b) ([]) (omega arith) in
+    (record { opcode = omega arith; kind = h.0; whole = omega arith }, omega arith, omega arith)
+spells (I11n op a b) h =
+    let fits = op_fits op F11n h.0 in
+    let e0 = at0 (op + 256 * a + 4096 * (cast_unsigned w8 b % 16)) ([]) (omega arith) in
+    let f : field (bytes_of ((op + 256 * a + 4096 * (cast_unsigned w8 b % 16)) ∷ [])) 0 12 4 ≡ cast_unsigned w8 b % 16 = omega arith in
+    (record { opcode = omega arith; kind = h.0; whole = omega arith }, omega arith, sym (signed_nibble b h.2 h.3) ∙ ap (signed 4) (sym f))
+spells (I11x op a) h =
+    let fits = op_fits op F11x h.0 in
+    let e0 = at0 (op + 256 * a) ([]) (omega arith) in
+    (record { opcode = omega arith; kind = h.0; whole = omega arith }, omega arith)
+spells (I10t op offset) h =
+    let fits = op_fits op F10t h.0 in
+    let e0 = at0 (op + 256 * (cast_unsigned w32 offset % 256)) ([]) (omega arith) in
+    let f : field (bytes_of ((op + 256 * (cast_unsigned w32 offset % 256)) ∷ [])) 0 8 8 ≡ cast_unsigned w32 offset % 256 = omega arith in
+    (record { opcode = omega arith; kind = h.0; whole = omega arith }, sym (signed_byte offset h.1) ∙ ap (signed 8) (sym f))
+spells (I20t op offset) h =
+    let fits = op_fits op F20t h.0 in
+    let e0 = at0 op (((cast_unsigned w32 offset % 65536) % 256) ∷ ((cast_unsigned w32 offset % 65536) / 256 % 256) ∷ []) (omega arith) in
+    let e1 = at1 (op % 256) (op / 256 % 256) (cast_unsigned w32 offset % 65536) ([]) (omega arith) in
+    let f : number (bytes_of (op ∷ (cast_unsigned w32 offset % 65536) ∷ [])) 1 1 ≡ cast_unsigned w32 offset % 65536 = omega arith in
+    (record { opcode = omega arith; kind = h.0; whole = omega arith }, omega arith, sym (signed_half offset h.1) ∙ ap (signed 16) (sym f))
+spells (I22x op a b) h =
+    let fits = op_fits op F22x h.0 in
+    let e0 = at0 (op + 256 * a) ((b % 256) ∷ (b / 256 % 256) ∷ []) (omega arith) in
+    let e1 = at1 ((op + 256 * a) % 256) ((op + 256 * a) / 256 % 256) b ([]) (omega arith) in
+    (record { opcode = omega arith; kind = h.0; whole = omega arith }, omega arith, omega arith)
+spells (I21t op a offset) h =
+    let fits = op_fits op F21t h.0 in
+    let e0 = at0 (op + 256 * a) (((cast_unsigned w32 offset % 65536) % 256) ∷ ((cast_unsigned w32 offset % 65536) / 256 % 256) ∷ []) (omega arith) in
+    let e1 = at1 ((op + 256 * a) % 256) ((op + 256 * a) / 256 % 256) (cast_unsigned w32 offset % 65536) ([]) (omega arith) in
+    let f : number (bytes_of ((op + 256 * a) ∷ (cast_unsigned w32 offset % 65536) ∷ [])) 1 1 ≡ cast_unsigned w32 offset % 65536 = omega arith in
+    (record { opcode = omega arith; kind = h.0; whole = omega arith }, omega arith, sym (signed_half offset h.1) ∙ ap (signed 16) (sym f))
+spells (I21s op a b) h =
+    let fits = op_fits op F21s h.0 in
+    let bound = unsigned_16 b h.2 in
+    let e0 = at0 (op + 256 * a) (((cast_unsigned w16 b) % 256) ∷ ((cast_unsigned w16 b) / 256 % 256) ∷ []) (omega arith) in
+    let e1 = at1 ((op + 256 * a) % 256) ((op + 256 * a) / 256 % 256) (cast_unsigned w16 b) ([]) (omega arith) in
+    let f : number (bytes_of ((op + 256 * a) ∷ (cast_unsigned w16 b) ∷ [])) 1 1 ≡ cast_unsigned w16 b = omega arith in
+    (record { opcode = omega arith; kind = h.0; whole = omega arith }, omega arith, sym (signed_16 b h.2) ∙ ap (signed 16) (sym f))
+spells (I21h op a b) h =
+    let fits = op_fits op F21h h.0 in
+    let bound = unsigned_16 b h.2 in
+    let e0 = at0 (op + 256 * a) (((cast_unsigned w16 b) % 256) ∷ ((cast_unsigned w16 b) / 256 % 256) ∷ []) (omega arith) in
+    let e1 = at1 ((op + 256 * a) % 256) ((op + 256 * a) / 256 % 256) (cast_unsigned w16 b) ([]) (omega arith) in
+    let f : number (bytes_of ((op + 256 * a) ∷ (cast_unsigned w16 b) ∷ [])) 1 1 ≡ cast_unsigned w16 b = omega arith in
+    (record { opcode = omega arith; kind = h.0; whole = omega arith }, omega arith, sym (signed_16 b h.2) ∙ ap (signed 16) (sym f))
+spells (I21c op a index) h =
+    let fits = op_fits op F21c h.0 in
+    let e0 = at0 (op + 256 * a) ((index % 256) ∷ (index / 256 % 256) ∷ []) (omega arith) in
+    let e1 = at1 ((op + 256 * a) % 256) ((op + 256 * a) / 256 % 256) index ([]) (omega arith) in
+    (record { opcode = omega arith; kind = h.0; whole = omega arith }, omega arith, omega arith)
+spells (I23x op a b c) h =
+    let fits = op_fits op F23x h.0 in
+    let e0 = at0 (op + 256 * a) (((b + 256 * c) % 256) ∷ ((b + 256 * c) / 256 % 256) ∷ []) (omega arith) in
+    let e1 = at1 ((op + 256 * a) % 256) ((op + 256 * a) / 256 % 256) (b + 256 * c) ([]) (omega arith) in
+    (record { opcode = omega arith; kind = h.0; whole = omega arith }, omega arith, omega arith, omega arith)
+spells (I22b op a b c) h =
+    let fits = op_fits op F22b h.0 in
+    let bound = unsigned_8 c h.3 in
+    let e0 = at0 (op + 256 * a) (((b + 256 * cast_unsigned w8 c) % 256) ∷ ((b + 256 * cast_unsigned w8 c) / 256 % 256) ∷ []) (omega arith) in
+    let e1 = at1 ((op + 256 * a) % 256) ((op + 256 * a) / 256 % 256) (b + 256 * cast_unsigned w8 c) ([]) (omega arith) in
+    let f : field (bytes_of ((op + 256 * a) ∷ (b + 256 * cast_unsigned w8 c) ∷ [])) 1 8 8 ≡ cast_unsigned w8 c = omega arith in
+    (record { opcode = omega arith; kind = h.0; whole = omega arith }, omega arith, omega arith, sym (signed_8 c h.3) ∙ ap (signed 8) (sym f))
+spells (I22t op a b offset) h =
+    let fits = op_fits op F22t h.0 in
+    let e0 = at0 (op + 256 * a + 4096 * b) (((cast_unsigned w32 offset % 65536) % 256) ∷ ((cast_unsigned w32 offset % 65536) / 256 % 256) ∷ []) (omega arith) in
+    let e1 = at1 ((op + 256 * a + 4096 * b) % 256) ((op + 256 * a + 4096 * b) / 256 % 256) (cast_unsigned w32 offset % 65536) ([]) (omega arith) in
+    let f : number (bytes_of ((op + 256 * a + 4096 * b) ∷ (cast_unsigned w32 offset % 65536) ∷ [])) 1 1 ≡ cast_unsigned w32 offset % 65536 = omega arith in
+    (record { opcode = omega arith; kind = h.0; whole = omega arith }, omega arith, omega arith, sym (signed_half offset h.3) ∙ ap (signed 16) (sym f))
+spells (I22s op a b c) h =
+    let fits = op_fits op F22s h.0 in
+    let bound = unsigned_16 c h.3 in
+    let e0 = at0 (op + 256 * a + 4096 * b) (((cast_unsigned w16 c) % 256) ∷ ((cast_unsigned w16 c) / 256 % 256) ∷ []) (omega arith) in
+    let e1 = at1 ((op + 256 * a + 4096 * b) % 256) ((op + 256 * a + 4096 * b) / 256 % 256) (cast_unsigned w16 c) ([]) (omega arith) in
+    let f : number (bytes_of ((op + 256 * a + 4096 * b) ∷ (cast_unsigned w16 c) ∷ [])) 1 1 ≡ cast_unsigned w16 c = omega arith in
+    (record { opcode = omega arith; kind = h.0; whole = omega arith }, omega arith, omega arith, sym (signed_16 c h.3) ∙ ap (signed 16) (sym f))
+spells (I22c op a b index) h =
+    let fits = op_fits op F22c h.0 in
+    let e0 = at0 (op + 256 * a + 4096 * b) ((index % 256) ∷ (index / 256 % 256) ∷ []) (omega arith) in
+    let e1 = at1 ((op + 256 * a + 4096 * b) % 256) ((op + 256 * a + 4096 * b) / 256 % 256) index ([]) (omega arith) in
+    (record { opcode = omega arith; kind = h.0; whole = omega arith }, omega arith, omega arith, omega arith)
+spells (I30t op offset) h =
+    let fits = op_fits op F30t h.0 in
+    let bound = unsigned_32 offset h.1 in
+    let e0 = at0 op (((cast_unsigned w32 offset % 65536) % 256) ∷ ((cast_unsigned w32 offset % 65536) / 256 % 256) ∷ ((cast_unsigned w32 offset / 65536) % 256) ∷ ((cast_unsigned w32 offset / 65536) / 256 % 256) ∷ []) (omega arith) in
+    let e1 = two1 (op % 256) (op / 256 % 256) (cast_unsigned w32 offset) [] (omega arith) in
+    let f : number (bytes_of (op ∷ (cast_unsigned w32 offset % 65536) ∷ (cast_unsigned w32 offset / 65536) ∷ [])) 1 2 ≡ cast_unsigned w32 offset = omega arith in
+    (record { opcode = omega arith; kind = h.0; whole = omega arith }, omega arith, sym (signed_32 offset h.1) ∙ ap (signed 32) (sym f))
+spells (I32x op a b) h =
+    let fits = op_fits op F32x h.0 in
+    let e0 = at0 op ((a % 256) ∷ (a / 256 % 256) ∷ (b % 256) ∷ (b / 256 % 256) ∷ []) (omega arith) in
+    let e1 = at1 (op % 256) (op / 256 % 256) a ((b % 256) ∷ (b / 256 % 256) ∷ []) (omega arith) in
+    let e2 = at2 (op % 256) (op / 256 % 256) (a % 256) (a / 256 % 256) b [] (omega arith) in
+    (record { opcode = omega arith; kind = h.0; whole = omega arith }, omega arith, omega arith, omega arith)
+spells (I31i op a b) h =
+    let fits = op_fits op F31i h.0 in
+    let bound = unsigned_32 b h.2 in
+    let e0 = at0 (op + 256 * a) (((cast_unsigned w32 b % 65536) % 256) ∷ ((cast_unsigned w32 b % 65536) / 256 % 256) ∷ ((cast_unsigned w32 b / 65536) % 256) ∷ ((cast_unsigned w32 b / 65536) / 256 % 256) ∷ []) (omega arith) in
+    let e1 = two1 ((op + 256 * a) % 256) ((op + 256 * a) / 256 % 256) (cast_unsigned w32 b) [] (omega arith) in
+    let f : number (bytes_of ((op + 256 * a) ∷ (cast_unsigned w32 b % 65536) ∷ (cast_unsigned w32 b / 65536) ∷ [])) 1 2 ≡ cast_unsigned w32 b = omega arith in
+    (record { opcode = omega arith; kind = h.0; whole = omega arith }, omega arith, sym (signed_32 b h.2) ∙ ap (signed 32) (sym f))
+spells (I31t op a offset) h =
+    let fits = op_fits op F31t h.0 in
+    let bound = unsigned_32 offset h.2 in
+    let e0 = at0 (op + 256 * a) (((cast_unsigned w32 offset % 65536) % 256) ∷ ((cast_unsigned w32 offset % 65536) / 256 % 256) ∷ ((cast_unsigned w32 offset / 65536) % 256) ∷ ((cast_unsigned w32 offset / 65536) / 256 % 256) ∷ []) (omega arith) in
+    let e1 = two1 ((op + 256 * a) % 256) ((op + 256 * a) / 256 % 256) (cast_unsigned w32 offset) [] (omega arith) in
+    let f : number (bytes_of ((op + 256 * a) ∷ (cast_unsigned w32 offset % 65536) ∷ (cast_unsigned w32 offset / 65536) ∷ [])) 1 2 ≡ cast_unsigned w32 offset = omega arith in
+    (record { opcode = omega arith; kind = h.0; whole = omega arith }, omega arith, sym (signed_32 offset h.2) ∙ ap (signed 32) (sym f))
+spells (I31c op a index) h =
+    let fits = op_fits op F31c h.0 in
+    let e0 = at0 (op + 256 * a) (((index % 65536) % 256) ∷ ((index % 65536) / 256 % 256) ∷ ((index / 65536) % 256) ∷ ((index / 65536) / 256 % 256) ∷ []) (omega arith) in
+    let e1 = two1 ((op + 256 * a) % 256) ((op + 256 * a) / 256 % 256) index [] (omega arith) in
+    (record { opcode = omega arith; kind = h.0; whole = omega arith }, omega arith, omega arith)
+spells (I35c op n regs index) h =
     let fits = op_fits op F35c h.0 in
     let r0 = below_16 n regs h.3 0 in
     let r1 = below_16 n regs h.3 1 in
@@ -262,25 +200,20 @@ spells_35c op n regs index h =
       omega arith,
       sym (same_five _ _ _ _ _ _ _ _ _ _ (one_register n 0 _ regs h.3 (omega arith)) (one_register n 1 _ regs h.3 (omega arith)) (one_register n 2 _ regs h.3 (omega arith)) (one_register n 3 _ regs h.3 (omega arith)) (one_register n 4 _ regs h.3 (omega arith)) ∙ five regs h.3.count),
     )
-
--- a part of bytes that ends with them
-whole : (xs : List ℕ) (n : ℕ) → n ≡ length xs → xs ≡ take n xs
-whole xs n e = sym (take_all n xs (omega arith))
-
--- the first of two parts
-first_part : (xs ys : List ℕ) (n : ℕ) → n ≡ length xs → xs ≡ take n (xs ++ ys)
-first_part xs ys n e = rw e (sym (take-append_seam xs ys))
-
--- the second of two parts, after four bytes
-second_part : (a b c d : ℕ) (xs ys : List ℕ) (n m : ℕ) → n ≡ 4 + length xs → m ≡ n + length ys → ys ≡ slice_range (a ∷ b ∷ c ∷ d ∷ (xs ++ ys)) n m
-second_part a b c d xs ys n m e f =
-    let head : List ℕ = a ∷ b ∷ c ∷ d ∷ [] in
-    let dropped : drop n (a ∷ b ∷ c ∷ d ∷ (xs ++ ys)) ≡ ys = rw e (drop-append-add head (xs ++ ys) (length xs) ∙ drop-append_seam xs ys) in
-    rw dropped (whole ys (m - n) (omega arith))
-
-pub spells_packed : (first : ℤ) (offsets : List ℕ) → IsRaw (Packed first offsets) → SpellsInsn (written (Packed first offsets)) (Packed first offsets)
-unfolding written
-spells_packed first offsets h =
+spells (I3rc op n first index) h =
+    let fits = op_fits op F3rc h.0 in
+    let e0 = at0 (op + 256 * n) ((index % 256) ∷ (index / 256 % 256) ∷ (first % 256) ∷ (first / 256 % 256) ∷ []) (omega arith) in
+    let e1 = at1 ((op + 256 * n) % 256) ((op + 256 * n) / 256 % 256) index ((first % 256) ∷ (first / 256 % 256) ∷ []) (omega arith) in
+    let e2 = at2 ((op + 256 * n) % 256) ((op + 256 * n) / 256 % 256) (index % 256) (index / 256 % 256) first [] (omega arith) in
+    (record { opcode = omega arith; kind = h.0; whole = omega arith }, omega arith, omega arith, omega arith)
+spells (I51l op a b) h =
+    let fits = op_fits op F51l h.0 in
+    let bound = unsigned_64 b h.2 in
+    let e0 = at0 (op + 256 * a) (((cast_unsigned w64 b % 65536) % 256) ∷ ((cast_unsigned w64 b % 65536) / 256 % 256) ∷ ((cast_unsigned w64 b / 65536 % 65536) % 256) ∷ ((cast_unsigned w64 b / 65536 % 65536) / 256 % 256) ∷ ((cast_unsigned w64 b / 4294967296 % 65536) % 256) ∷ ((cast_unsigned w64 b / 4294967296 % 65536) / 256 % 256) ∷ ((cast_unsigned w64 b / 281474976710656) % 256) ∷ ((cast_unsigned w64 b / 281474976710656) / 256 % 256) ∷ []) (omega arith) in
+    let e1 = four1 ((op + 256 * a) % 256) ((op + 256 * a) / 256 % 256) (cast_unsigned w64 b) [] (omega arith) in
+    let f : number (bytes_of ((op + 256 * a) ∷ (cast_unsigned w64 b % 65536) ∷ (cast_unsigned w64 b / 65536 % 65536) ∷ (cast_unsigned w64 b / 4294967296 % 65536) ∷ (cast_unsigned w64 b / 281474976710656) ∷ [])) 1 4 ≡ cast_unsigned w64 b = omega arith in
+    (record { opcode = omega arith; kind = h.0; whole = omega arith }, omega arith, sym (signed_64 b h.2) ∙ ap (signed 64) (sym f))
+spells (Packed first offsets) h =
     let bound = unsigned_32 first h.0 in
     let size = length offsets / 4 in
     let low = cast_unsigned w32 first % 65536 in
@@ -290,31 +223,14 @@ spells_packed first offsets h =
     let e1 = at1 0 1 size tail (omega arith) in
     let e2 = two2 0 1 (size % 256) (size / 256 % 256) (cast_unsigned w32 first) offsets (omega arith) in
     (e0, omega arith, sym (signed_32 first h.0) ∙ ap (signed 32) (sym e2), whole offsets _ (omega arith))
-
-pub spells_sparse : (keys offsets : List ℕ) → IsRaw (Sparse keys offsets) → SpellsInsn (written (Sparse keys offsets)) (Sparse keys offsets)
-unfolding written
-spells_sparse keys offsets h =
+spells (Sparse keys offsets) h =
     let size = length keys / 4 in
     let tail = keys ++ offsets in
     let e0 = at0 0x0200 ((size % 256) ∷ (size / 256 % 256) ∷ tail) (omega arith) in
     let e1 = at1 0 2 size tail (omega arith) in
     let len = length-append keys offsets in
     (e0, omega arith, first_part keys offsets _ (omega arith), second_part 0 2 (size % 256) (size / 256 % 256) keys offsets _ _ (omega arith) (omega arith), rw e1 h.3)
-
-by_parity : (r : ℕ) → r < 2 → length {A = ℕ} (if r == 0 then [] else 0 ∷ []) ≡ r
-by_parity zero h = refl
-by_parity (suc zero) h = refl
-by_parity (suc (suc r)) h = absurd (omega arith)
-
-width_fits : (width : ℕ) → IsElementWidth width → width < 65536
-width_fits width h = grind arith
-
-pad_length : (n : ℕ) → length {A = ℕ} (if n % 2 == 0 then [] else 0 ∷ []) ≡ n % 2
-pad_length n = by_parity (n % 2) (omega arith)
-
-pub spells_data : (width : ℕ) (bytes : List ℕ) → IsRaw (Data width bytes) → SpellsInsn (written (Data width bytes)) (Data width bytes)
-unfolding written
-spells_data width bytes h =
+spells (Data width bytes) h =
     let size = length bytes in
     let count = size / width in
     let pad : List ℕ = if size % 2 == 0 then [] else 0 ∷ [] in
@@ -330,64 +246,11 @@ spells_data width bytes h =
     let pads = pad_length size in
     (e0, omega arith, sym e1, h.0, first_part bytes pad _ (omega arith))
 
-pub spells : (insn : Raw) → IsRaw insn → SpellsInsn (written insn) insn
-spells (I10x op) h = spells_10x op h
-spells (I12x op a b) h = spells_12x op a b h
-spells (I11n op a b) h = spells_11n op a b h
-spells (I11x op a) h = spells_11x op a h
-spells (I10t op offset) h = spells_10t op offset h
-spells (I20t op offset) h = spells_20t op offset h
-spells (I22x op a b) h = spells_22x op a b h
-spells (I21t op a offset) h = spells_21t op a offset h
-spells (I21s op a b) h = spells_21s op a b h
-spells (I21h op a b) h = spells_21h op a b h
-spells (I21c op a index) h = spells_21c op a index h
-spells (I23x op a b c) h = spells_23x op a b c h
-spells (I22b op a b c) h = spells_22b op a b c h
-spells (I22t op a b offset) h = spells_22t op a b offset h
-spells (I22s op a b c) h = spells_22s op a b c h
-spells (I22c op a b index) h = spells_22c op a b index h
-spells (I30t op offset) h = spells_30t op offset h
-spells (I32x op a b) h = spells_32x op a b h
-spells (I31i op a b) h = spells_31i op a b h
-spells (I31t op a offset) h = spells_31t op a offset h
-spells (I31c op a index) h = spells_31c op a index h
-spells (I35c op n regs index) h = spells_35c op n regs index h
-spells (I3rc op n first index) h = spells_3rc op n first index h
-spells (I51l op a b) h = spells_51l op a b h
-spells (Packed first offsets) h = spells_packed first offsets h
-spells (Sparse keys offsets) h = spells_sparse keys offsets h
-spells (Data width bytes) h = spells_data width bytes h
-
 -- the written bytes are the units of the instruction
 pub length_written : (insn : Raw) → IsRaw insn → length (written insn) ≡ 2 * units insn
 unfolding written units
-length_written (I10x op) h = omega arith
-length_written (I12x op a b) h = omega arith
-length_written (I11n op a b) h = omega arith
-length_written (I11x op a) h = omega arith
-length_written (I10t op offset) h = omega arith
-length_written (I20t op offset) h = omega arith
-length_written (I22x op a b) h = omega arith
-length_written (I21t op a offset) h = omega arith
-length_written (I21s op a b) h = omega arith
-length_written (I21h op a b) h = omega arith
-length_written (I21c op a index) h = omega arith
-length_written (I23x op a b c) h = omega arith
-length_written (I22b op a b c) h = omega arith
-length_written (I22t op a b offset) h = omega arith
-length_written (I22s op a b c) h = omega arith
-length_written (I22c op a b index) h = omega arith
-length_written (I30t op offset) h = omega arith
-length_written (I32x op a b) h = omega arith
-length_written (I31i op a b) h = omega arith
-length_written (I31t op a offset) h = omega arith
-length_written (I31c op a index) h = omega arith
-length_written (I35c op n regs index) h = omega arith
-length_written (I3rc op n first index) h = omega arith
-length_written (I51l op a b) h = omega arith
-length_written (Packed first offsets) h = omega arith
 length_written (Sparse keys offsets) h = let e = length-append keys offsets in omega arith
 length_written (Data width bytes) h =
     let pad : List ℕ = if length bytes % 2 == 0 then [] else 0 ∷ [] in
     let e = length-append bytes pad in let p = pad_length (length bytes) in omega arith
+length_written _ h = omega arith

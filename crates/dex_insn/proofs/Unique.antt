@@ -65,102 +65,6 @@ pub record Plain (us : List ℕ) (r : Raw) : Type 0 where
   pub size : units r ≡ units_of f
   pub kind : is_payload r ≡ false
 
-plain_10x : (us : List ℕ) (op : ℕ) → SpellsInsn us (I10x op) → Plain us (I10x op)
-unfolding units is_payload
-plain_10x us op h = record { f = F10x; op = op; begins = h.0; not_payload = λ p. omega (arith, p.1); zero = λ _. h.1; count = λ e. cc; same = let o = h.0.opcode in plain_is us F10x op _ h.0 (cc); size = refl; kind = refl }
-
-plain_12x : (us : List ℕ) (op : ℕ) (a : ℕ) (b : ℕ) → SpellsInsn us (I12x op a b) → Plain us (I12x op a b)
-unfolding units is_payload
-plain_12x us op a b h = record { f = F12x; op = op; begins = h.0; not_payload = λ p. let e = zero_is us F12x op h.0 p.0 in cc; zero = λ t. cc; count = λ e. cc; same = let o = h.0.opcode in plain_is us F12x op _ h.0 (cc); size = refl; kind = refl }
-
-plain_11n : (us : List ℕ) (op : ℕ) (a : ℕ) (b : ℤ) → SpellsInsn us (I11n op a b) → Plain us (I11n op a b)
-unfolding units is_payload
-plain_11n us op a b h = record { f = F11n; op = op; begins = h.0; not_payload = λ p. let e = zero_is us F11n op h.0 p.0 in cc; zero = λ t. cc; count = λ e. cc; same = let o = h.0.opcode in plain_is us F11n op _ h.0 (cc); size = refl; kind = refl }
-
-plain_11x : (us : List ℕ) (op : ℕ) (a : ℕ) → SpellsInsn us (I11x op a) → Plain us (I11x op a)
-unfolding units is_payload
-plain_11x us op a h = record { f = F11x; op = op; begins = h.0; not_payload = λ p. let e = zero_is us F11x op h.0 p.0 in cc; zero = λ t. cc; count = λ e. cc; same = let o = h.0.opcode in plain_is us F11x op _ h.0 (cc); size = refl; kind = refl }
-
-plain_10t : (us : List ℕ) (op : ℕ) (offset : ℤ) → SpellsInsn us (I10t op offset) → Plain us (I10t op offset)
-unfolding units is_payload
-plain_10t us op offset h = record { f = F10t; op = op; begins = h.0; not_payload = λ p. let e = zero_is us F10t op h.0 p.0 in cc; zero = λ t. cc; count = λ e. cc; same = let o = h.0.opcode in plain_is us F10t op _ h.0 (cc); size = refl; kind = refl }
-
-plain_20t : (us : List ℕ) (op : ℕ) (offset : ℤ) → SpellsInsn us (I20t op offset) → Plain us (I20t op offset)
-unfolding units is_payload
-plain_20t us op offset h = record { f = F20t; op = op; begins = h.0; not_payload = λ p. let e = zero_is us F20t op h.0 p.0 in cc; zero = λ _. h.1; count = λ e. cc; same = let o = h.0.opcode in plain_is us F20t op _ h.0 (cc); size = refl; kind = refl }
-
-plain_22x : (us : List ℕ) (op : ℕ) (a : ℕ) (b : ℕ) → SpellsInsn us (I22x op a b) → Plain us (I22x op a b)
-unfolding units is_payload
-plain_22x us op a b h = record { f = F22x; op = op; begins = h.0; not_payload = λ p. let e = zero_is us F22x op h.0 p.0 in cc; zero = λ t. cc; count = λ e. cc; same = let o = h.0.opcode in plain_is us F22x op _ h.0 (cc); size = refl; kind = refl }
-
-plain_21t : (us : List ℕ) (op : ℕ) (a : ℕ) (offset : ℤ) → SpellsInsn us (I21t op a offset) → Plain us (I21t op a offset)
-unfolding units is_payload
-plain_21t us op a offset h = record { f = F21t; op = op; begins = h.0; not_payload = λ p. let e = zero_is us F21t op h.0 p.0 in cc; zero = λ t. cc; count = λ e. cc; same = let o = h.0.opcode in plain_is us F21t op _ h.0 (cc); size = refl; kind = refl }
-
-plain_21s : (us : List ℕ) (op : ℕ) (a : ℕ) (b : ℤ) → SpellsInsn us (I21s op a b) → Plain us (I21s op a b)
-unfolding units is_payload
-plain_21s us op a b h = record { f = F21s; op = op; begins = h.0; not_payload = λ p. let e = zero_is us F21s op h.0 p.0 in cc; zero = λ t. cc; count = λ e. cc; same = let o = h.0.opcode in plain_is us F21s op _ h.0 (cc); size = refl; kind = refl }
-
-plain_21h : (us : List ℕ) (op : ℕ) (a : ℕ) (b : ℤ) → SpellsInsn us (I21h op a b) → Plain us (I21h op a b)
-unfolding units is_payload
-plain_21h us op a b h = record { f = F21h; op = op; begins = h.0; not_payload = λ p. let e = zero_is us F21h op h.0 p.0 in cc; zero = λ t. cc; count = λ e. cc; same = let o = h.0.opcode in plain_is us F21h op _ h.0 (cc); size = refl; kind = refl }
-
-plain_21c : (us : List ℕ) (op : ℕ) (a : ℕ) (index : ℕ) → SpellsInsn us (I21c op a index) → Plain us (I21c op a index)
-unfolding units is_payload
-plain_21c us op a index h = record { f = F21c; op = op; begins = h.0; not_payload = λ p. let e = zero_is us F21c op h.0 p.0 in cc; zero = λ t. cc; count = λ e. cc; same = let o = h.0.opcode in plain_is us F21c op _ h.0 (cc); size = refl; kind = refl }
-
-plain_23x : (us : List ℕ) (op : ℕ) (a : ℕ) (b : ℕ) (c : ℕ) → SpellsInsn us (I23x op a b c) → Plain us (I23x op a b c)
-unfolding units is_payload
-plain_23x us op a b c h = record { f = F23x; op = op; begins = h.0; not_payload = λ p. let e = zero_is us F23x op h.0 p.0 in cc; zero = λ t. cc; count = λ e. cc; same = let o = h.0.opcode in plain_is us F23x op _ h.0 (cc); size = refl; kind = refl }
-
-plain_22b : (us : List ℕ) (op : ℕ) (a : ℕ) (b : ℕ) (c : ℤ) → SpellsInsn us (I22b op a b c) → Plain us (I22b op a b c)
-unfolding units is_payload
-plain_22b us op a b c h = record { f = F22b; op = op; begins = h.0; not_payload = λ p. let e = zero_is us F22b op h.0 p.0 in cc; zero = λ t. cc; count = λ e. cc; same = let o = h.0.opcode in plain_is us F22b op _ h.0 (cc); size = refl; kind = refl }
-
-plain_22t : (us : List ℕ) (op : ℕ) (a : ℕ) (b : ℕ) (offset : ℤ) → SpellsInsn us (I22t op a b offset) → Plain us (I22t op a b offset)
-unfolding units is_payload
-plain_22t us op a b offset h = record { f = F22t; op = op; begins = h.0; not_payload = λ p. let e = zero_is us F22t op h.0 p.0 in cc; zero = λ t. cc; count = λ e. cc; same = let o = h.0.opcode in plain_is us F22t op _ h.0 (cc); size = refl; kind = refl }
-
-plain_22s : (us : List ℕ) (op : ℕ) (a : ℕ) (b : ℕ) (c : ℤ) → SpellsInsn us (I22s op a b c) → Plain us (I22s op a b c)
-unfolding units is_payload
-plain_22s us op a b c h = record { f = F22s; op = op; begins = h.0; not_payload = λ p. let e = zero_is us F22s op h.0 p.0 in cc; zero = λ t. cc; count = λ e. cc; same = let o = h.0.opcode in plain_is us F22s op _ h.0 (cc); size = refl; kind = refl }
-
-plain_22c : (us : List ℕ) (op : ℕ) (a : ℕ) (b : ℕ) (index : ℕ) → SpellsInsn us (I22c op a b index) → Plain us (I22c op a b index)
-unfolding units is_payload
-plain_22c us op a b index h = record { f = F22c; op = op; begins = h.0; not_payload = λ p. let e = zero_is us F22c op h.0 p.0 in cc; zero = λ t. cc; count = λ e. cc; same = let o = h.0.opcode in plain_is us F22c op _ h.0 (cc); size = refl; kind = refl }
-
-plain_30t : (us : List ℕ) (op : ℕ) (offset : ℤ) → SpellsInsn us (I30t op offset) → Plain us (I30t op offset)
-unfolding units is_payload
-plain_30t us op offset h = record { f = F30t; op = op; begins = h.0; not_payload = λ p. let e = zero_is us F30t op h.0 p.0 in cc; zero = λ _. h.1; count = λ e. cc; same = let o = h.0.opcode in plain_is us F30t op _ h.0 (cc); size = refl; kind = refl }
-
-plain_32x : (us : List ℕ) (op : ℕ) (a : ℕ) (b : ℕ) → SpellsInsn us (I32x op a b) → Plain us (I32x op a b)
-unfolding units is_payload
-plain_32x us op a b h = record { f = F32x; op = op; begins = h.0; not_payload = λ p. let e = zero_is us F32x op h.0 p.0 in cc; zero = λ _. h.1; count = λ e. cc; same = let o = h.0.opcode in plain_is us F32x op _ h.0 (cc); size = refl; kind = refl }
-
-plain_31i : (us : List ℕ) (op : ℕ) (a : ℕ) (b : ℤ) → SpellsInsn us (I31i op a b) → Plain us (I31i op a b)
-unfolding units is_payload
-plain_31i us op a b h = record { f = F31i; op = op; begins = h.0; not_payload = λ p. let e = zero_is us F31i op h.0 p.0 in cc; zero = λ t. cc; count = λ e. cc; same = let o = h.0.opcode in plain_is us F31i op _ h.0 (cc); size = refl; kind = refl }
-
-plain_31t : (us : List ℕ) (op : ℕ) (a : ℕ) (offset : ℤ) → SpellsInsn us (I31t op a offset) → Plain us (I31t op a offset)
-unfolding units is_payload
-plain_31t us op a offset h = record { f = F31t; op = op; begins = h.0; not_payload = λ p. let e = zero_is us F31t op h.0 p.0 in cc; zero = λ t. cc; count = λ e. cc; same = let o = h.0.opcode in plain_is us F31t op _ h.0 (cc); size = refl; kind = refl }
-
-plain_31c : (us : List ℕ) (op : ℕ) (a : ℕ) (index : ℕ) → SpellsInsn us (I31c op a index) → Plain us (I31c op a index)
-unfolding units is_payload
-plain_31c us op a index h = record { f = F31c; op = op; begins = h.0; not_payload = λ p. let e = zero_is us F31c op h.0 p.0 in cc; zero = λ t. cc; count = λ e. cc; same = let o = h.0.opcode in plain_is us F31c op _ h.0 (cc); size = refl; kind = refl }
-
-plain_35c : (us : List ℕ) (op : ℕ) (n : ℕ) (regs : List ℕ) (index : ℕ) → SpellsInsn us (I35c op n regs index) → Plain us (I35c op n regs index)
-unfolding units is_payload
-plain_35c us op n regs index h = record { f = F35c; op = op; begins = h.0; not_payload = λ p. let e = zero_is us F35c op h.0 p.0 in cc; zero = λ t. cc; count = λ e. omega arith; same = let o = h.0.opcode in plain_is us F35c op _ h.0 (cc); size = refl; kind = refl }
-
-plain_3rc : (us : List ℕ) (op : ℕ) (n : ℕ) (first : ℕ) (index : ℕ) → SpellsInsn us (I3rc op n first index) → Plain us (I3rc op n first index)
-unfolding units is_payload
-plain_3rc us op n first index h = record { f = F3rc; op = op; begins = h.0; not_payload = λ p. let e = zero_is us F3rc op h.0 p.0 in cc; zero = λ t. cc; count = λ e. cc; same = let o = h.0.opcode in plain_is us F3rc op _ h.0 (cc); size = refl; kind = refl }
-
-plain_51l : (us : List ℕ) (op : ℕ) (a : ℕ) (b : ℤ) → SpellsInsn us (I51l op a b) → Plain us (I51l op a b)
-unfolding units is_payload
-plain_51l us op a b h = record { f = F51l; op = op; begins = h.0; not_payload = λ p. let e = zero_is us F51l op h.0 p.0 in cc; zero = λ t. cc; count = λ e. cc; same = let o = h.0.opcode in plain_is us F51l op _ h.0 (cc); size = refl; kind = refl }
-
 -- the payloads that the units spell, if they spell one
 abbrev packed_at : List ℕ → Raw
 packed_at us = Packed (signed 32 (number us 2 2)) (slice_range us 8 (8 + 4 * number us 1 1))
@@ -280,35 +184,36 @@ load_data us width bytes h =
       kind = refl;
     }
 
+-- an opcode of another format is no payload's first byte
+not_zero : (us : List ℕ) (f : Format) (op : ℕ) → BeginsInsn us f op → f ≢ F10x → ¬ IsPayload us
+not_zero us f op b other p = let e = zero_is us f op b p.0 in other cc
+
+plain : (us : List ℕ) (f : Format) (op : ℕ) (r : Raw) → (¬ IsPayload us) → BeginsInsn us f op → (IsTrue (has_zero_byte f) → field us 0 8 8 ≡ 0) → (f ≡ F35c → field us 0 12 4 ≤ 5)
+    → r ≡ in_format us f → units r ≡ units_of f → is_payload r ≡ false → Plain us r ⊎ Load us r
+plain us f op r not_payload b zero count same size kind = inl (record {
+  f = f;
+  op = op;
+  begins = b;
+  not_payload = not_payload;
+  zero = zero;
+  count = count;
+  same = plain_is us f op r b same;
+  size = size;
+  kind = kind;
+})
+
 -- each instruction is one or the other
 pub known : (us : List ℕ) (r : Raw) → SpellsInsn us r → Plain us r ⊎ Load us r
-known us (I10x op) h = inl (plain_10x us op h)
-known us (I12x op a b) h = inl (plain_12x us op a b h)
-known us (I11n op a b) h = inl (plain_11n us op a b h)
-known us (I11x op a) h = inl (plain_11x us op a h)
-known us (I10t op offset) h = inl (plain_10t us op offset h)
-known us (I20t op offset) h = inl (plain_20t us op offset h)
-known us (I22x op a b) h = inl (plain_22x us op a b h)
-known us (I21t op a offset) h = inl (plain_21t us op a offset h)
-known us (I21s op a b) h = inl (plain_21s us op a b h)
-known us (I21h op a b) h = inl (plain_21h us op a b h)
-known us (I21c op a index) h = inl (plain_21c us op a index h)
-known us (I23x op a b c) h = inl (plain_23x us op a b c h)
-known us (I22b op a b c) h = inl (plain_22b us op a b c h)
-known us (I22t op a b offset) h = inl (plain_22t us op a b offset h)
-known us (I22s op a b c) h = inl (plain_22s us op a b c h)
-known us (I22c op a b index) h = inl (plain_22c us op a b index h)
-known us (I30t op offset) h = inl (plain_30t us op offset h)
-known us (I32x op a b) h = inl (plain_32x us op a b h)
-known us (I31i op a b) h = inl (plain_31i us op a b h)
-known us (I31t op a offset) h = inl (plain_31t us op a offset h)
-known us (I31c op a index) h = inl (plain_31c us op a index h)
-known us (I35c op n regs index) h = inl (plain_35c us op n regs index h)
-known us (I3rc op n first index) h = inl (plain_3rc us op n first index h)
-known us (I51l op a b) h = inl (plain_51l us op a b h)
+unfolding units is_payload
+known us (I10x op) h = plain us F10x op _ (λ p. omega (arith, p.1)) h.0 (λ _. h.1) (λ e. cc) (let o = h.0.opcode in cc) refl refl
+known us (I20t op offset) h = plain us F20t op _ (not_zero us F20t op h.0 (λ e. cc)) h.0 (λ _. h.1) (λ e. cc) (let o = h.0.opcode in cc) refl refl
+known us (I30t op offset) h = plain us F30t op _ (not_zero us F30t op h.0 (λ e. cc)) h.0 (λ _. h.1) (λ e. cc) (let o = h.0.opcode in cc) refl refl
+known us (I32x op a b) h = plain us F32x op _ (not_zero us F32x op h.0 (λ e. cc)) h.0 (λ _. h.1) (λ e. cc) (let o = h.0.opcode in cc) refl refl
+known us (I35c op n regs index) h = plain us F35c op _ (not_zero us F35c op h.0 (λ e. cc)) h.0 (λ t. cc) (λ e. omega arith) (let o = h.0.opcode in cc) refl refl
 known us (Packed first offsets) h = inr (load_packed us first offsets h)
 known us (Sparse keys offsets) h = inr (load_sparse us keys offsets h)
 known us (Data width bytes) h = inr (load_data us width bytes h)
+known us _ h = plain us _ _ _ (not_zero us _ _ h.0 (λ e. cc)) h.0 (λ t. cc) (λ e. cc) (let o = h.0.opcode in cc) refl refl
 
 plain_raw : (us : List ℕ) (r : Raw) → Plain us r → r ≡ raw_at us
 plain_raw us r p =

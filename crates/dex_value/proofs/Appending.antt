@@ -1,10 +1,10 @@
 -- What writing appends.
 use Rattle.std.proofs.Common.{◌≡◌, ℕ, ◌+◌, ◌^◌, ◌<◌, ◌≤◌, List, [], ◌∷◌, ◌++◌, length, take, drop, get_or, map, refl, sym, ap, subst, ◌∙◌, append_assoc, arith, add-one, Result, Ok, Err, OnErr}
 use Rattle.std.proofs.Math.Seq.{drop-cons}
-use Rattle.std.proofs.lemmas.List.{length-append, length-map, map-append, take_more, take_all}
+use Rattle.std.proofs.lemmas.List.{length-append, length-map, map-append, take_more}
 use Rattle.base_bytes.specs.Grammar.{Appends, Each}
 use Rattle.base_bytes.specs.Leb128.{Spells, Shortest}
-use Rattle.base_bytes.proofs.GrammarLaws.{Each-appends_none, Each-appends_more}
+use Rattle.base_bytes.proofs.GrammarLaws.{Each-appends_more}
 use Rattle.program_types.specs.Content.{Name, OfText, OfDesc, OfField, OfMethod, FieldRef, Value, Float, Enum, Array, Values, more_values, values}
 use Rattle.program_types.specs.declared.value.Value as made
 use Rattle.program_types.specs.View.{value}
@@ -72,9 +72,6 @@ next_counts xs i d some h = let t : AllCountsFit (more_values (value (get_or xs 
 pub next_wide : (xs : List made.Value) (i : ℕ) (d : made.Value) → i < length xs → wide_values (from xs i) ≡ wide_value (value (get_or xs i d)) + wide_values (from xs (i + 1))
 next_wide xs i d some = ap wide_values (from_next xs i d some)
 
-pub writing_start : (s : Five) (old : List ℕ) (xs : List made.Value) → AllNamesHold (IsRanked s) (values (map value xs)) → AllCountsFit (values (map value xs)) → Writing s old old xs 0
-writing_start s old xs named counts = record { done = Each-appends_none (Shortest (SpellsValue (NameRanks s))) old; named = named; counts = counts; less = omega arith }
-
 pub writing_next : (s : Five) (old mid new : List ℕ) (xs : List made.Value) (i : ℕ) (d : made.Value) → i < length xs → Writing s old mid xs i → Appends (Shortest (SpellsValue (NameRanks s))) mid new (value (get_or xs i d)) → Writing s old new xs (i + 1)
 writing_next s old mid new xs i d some w a = record {
   done = subst (λ (vs : List Value). Appends (Each (Shortest (SpellsValue (NameRanks s)))) old new vs) (sym (map-append value (take i xs) (get_or xs i d ∷ [])) ∙ ap (map value) (sym (take_more xs i d some)))
@@ -83,9 +80,6 @@ writing_next s old mid new xs i d some w a = record {
   counts = (next_counts xs i d some w.counts).1;
   less = let e = next_wide xs i d some in let h = w.less in omega (arith, e, h);
 }
-
-pub writing_end : (s : Five) (old new : List ℕ) (xs : List made.Value) (i : ℕ) → length xs ≤ i → Writing s old new xs i → Appends (Each (Shortest (SpellsValue (NameRanks s)))) old new (map value xs)
-writing_end s old new xs i all w = subst (λ (ys : List made.Value). Appends (Each (Shortest (SpellsValue (NameRanks s)))) old new (map value ys)) (take_all i xs all) w.done
 
 -- a value of the list takes at most what all take
 pub one_wide : (s : Five) (old out : List ℕ) (xs : List made.Value) (i : ℕ) (d : made.Value) → i < length xs → Writing s old out xs i → wide_value (value (get_or xs i d)) ≤ wide_values (values (map value xs))

@@ -1,5 +1,5 @@
 -- The shortest spelling of values is one.
-use Rattle.std.proofs.Common.{◌≡◌, ℕ, suc, ◌+◌, ◌*◌, ◌-◌, ◌≤◌, List, [], ◌∷◌, ◌++◌, length, refl, sym, ap, ◌∙◌, arith, subst, true, false, length-append}
+use Rattle.std.proofs.Common.{◌≡◌, ℕ, ◌+◌, ◌*◌, ◌-◌, ◌≤◌, List, [], ◌∷◌, ◌++◌, length, refl, sym, ap, ◌∙◌, arith, subst, true, false, length-append}
 use Rattle.base_bytes.specs.Fields.{AreBytes}
 use Rattle.base_bytes.specs.Leb128.{Spells, Shortest}
 use Rattle.base_bytes.proofs.ShortestLaws.{AllBytes, shortest_one}

@@ -72,9 +72,7 @@ module _ (N : ℕ → Name → Type 0) where
 
   names_type : (t : ℕ) (which : Name) → IsNameOfType t which → 23 ≤ t
   names_type t (OfText n) e = grind (arith, nat_tests)
-  names_type t (OfDesc n) e = grind (arith, nat_tests)
-  names_type t (OfField n) e = grind (arith, nat_tests)
-  names_type t (OfMethod n) e = grind (arith, nat_tests)
+  names_type t _ e = grind (arith, nat_tests)
 
   pub stands_one : IsFunctionalByType N → (v w : Value) (t : ℕ) (low : List ℕ) → ValueStands N t low v → ValueStands N t low w → v ≡ w
   stands_one one v w t low s r =

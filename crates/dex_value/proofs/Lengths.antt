@@ -2,7 +2,7 @@
 use Rattle.std.proofs.Common.{ℕ, ◌≤◌, List, length, ap, true, false, arith, lit≤}
 use Rattle.std.proofs.lemmas.List.{length-append}
 use Rattle.base_bytes.proofs.LengthLaws.{IsAtMost, Spells-most}
-use Rattle.program_types.specs.Content.{Name, Value, Byte, Short, Char, Int, Long, Float, Double, Named, Enum, Array, Null, Boolean, Values, no_values, more_values, values}
+use Rattle.program_types.specs.Content.{Name, Value, Array, Null, Boolean, Values, no_values, more_values, values}
 use Rattle.dex_value.specs.Spelling.{Sized, SpellsValue, SpellsValues, SpellsArray, count_of}
 use Rattle.dex_value.specs.Wide.{wide_value, wide_values, wide_array}
 use Rattle.dex_value.proofs.Lists.{each-values}
@@ -13,15 +13,6 @@ sized_most type widest Means bytes few s = let f = s.few in let e = ap length s.
 module _ (N : ℕ → Name → Type 0) where
   mutual
     pub value_most : (v : Value) (bytes : List ℕ) → SpellsValue N bytes v → length bytes ≤ wide_value v
-    value_most (Byte n) bytes s = sized_most _ _ _ bytes (lit≤ tt) s
-    value_most (Short n) bytes s = sized_most _ _ _ bytes (lit≤ tt) s
-    value_most (Char n) bytes s = sized_most _ _ _ bytes (lit≤ tt) s
-    value_most (Int n) bytes s = sized_most _ _ _ bytes (lit≤ tt) s
-    value_most (Long n) bytes s = sized_most _ _ _ bytes (lit≤ tt) s
-    value_most (Float n) bytes s = sized_most _ _ _ bytes (lit≤ tt) s
-    value_most (Double n) bytes s = sized_most _ _ _ bytes (lit≤ tt) s
-    value_most (Named n) bytes s = sized_most _ _ _ bytes (lit≤ tt) s
-    value_most (Enum n) bytes s = sized_most _ _ _ bytes (lit≤ tt) s
     value_most (Array vs) bytes s =
         let b = s.2 in
         let count = Spells-most b.count (count_of vs) b.counted in
@@ -33,6 +24,7 @@ module _ (N : ℕ → Name → Type 0) where
     value_most Null bytes s = let e = ap length s in omega (arith, e)
     value_most (Boolean false) bytes s = let e = ap length s in omega (arith, e)
     value_most (Boolean true) bytes s = let e = ap length s in omega (arith, e)
+    value_most _ bytes s = sized_most _ _ _ bytes (lit≤ tt) s
 
     pub values_most : (vs : Values) (bytes : List ℕ) → SpellsValues N bytes vs → length bytes ≤ wide_values vs
     values_most no_values bytes s = let e = ap length s in omega (arith, e)

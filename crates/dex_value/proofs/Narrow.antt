@@ -23,9 +23,6 @@ above j k n low high = elim (cases_lt j k) [
   | inr more ↦ let p = power_most k j more in absurd (omega (arith, low, high, p))
 ]
 
-pub width_one : (n : ℕ) → n < 256 → IsNumberWidth n 1
-width_one n h = record { some = lit< tt; few = lit≤ tt; fits = h; least = λ k some fits. some }
-
 pub width_more : (n j : ℕ) → suc j ≤ 8 → 256 ^ j ≤ n → n < 256 ^ suc j → IsNumberWidth n (suc j)
 width_more n j few low high = record { some = omega arith; few = few; fits = high; least = λ k some fits. above j k n low fits }
 

@@ -1,5 +1,5 @@
 -- An encoded_array has one fault: the first that is met in the order of its bytes.
-use Rattle.std.proofs.Common.{◌≡◌, ℕ, zero, suc, ◌+◌, ◌-◌, ◌/◌, ◌<◌, ◌≤◌, ◌⊎◌, inl, inr, List, [], ◌∷◌, length, take, drop, sym, ap, subst, ◌∙◌, arith}
+use Rattle.std.proofs.Common.{◌≡◌, ℕ, zero, suc, ◌+◌, ◌-◌, ◌/◌, ◌<◌, ◌⊎◌, inl, inr, List, [], ◌∷◌, length, take, drop, sym, ap, subst, ◌∙◌, arith}
 use Rattle.std.proofs.lemmas.Bool.{cases_lt}
 use Rattle.base_bytes.specs.Grammar.{NoneBegins, IsPrefixUnique, Takes}
 use Rattle.base_bytes.specs.Leb128.{Spells}

@@ -7,8 +7,7 @@ use Rattle.base_bytes.specs.declared.fault.Fault.{Fault}
 use Rattle.base_bytes.proofs.LengthLaws.{IsAtLeast, Spells-least}
 use Rattle.base_bytes.proofs.TakesLaws.{Begins-from_takes, Takes-unique}
 use Rattle.dex_container.specs.declared.section.Section.{Section}
-use Rattle.dex_container.specs.Where.{slice, At, IsInSection}
-use Rattle.dex_container.specs.Where.{IsSectionOf}
+use Rattle.dex_container.specs.Where.{slice, At, IsInSection, IsSectionOf}
 use Rattle.dex_container.proofs.Standing.{stands_at, at_place, mod_one}
 use Rattle.program_types.specs.Content.{Name, Value}
 use Rattle.program_types.specs.Depth.{depth}

@@ -37,17 +37,6 @@ high_below n len w h few =
 abbrev pub IsWithin : ℤ → ℕ → Type 0
 IsWithin z half = (pos 0 ≤ℤ (z +ℤ pos half)) × (z <ℤ pos half)
 
-pub twos_byte : (n x : ℕ) → 0 < n → n ≤ 1 → x < 256 ^ n → IsWithin (twos_complement n x) 128
-twos_byte zero x some few h = absurd (omega arith)
-twos_byte (suc zero) x some few h = grind (arith, nat_tests, ints)
-twos_byte (suc (suc n)) x some few h = absurd (omega arith)
-
-pub twos_short : (n x : ℕ) → 0 < n → n ≤ 2 → x < 256 ^ n → IsWithin (twos_complement n x) 32768
-twos_short zero x some few h = absurd (omega arith)
-twos_short (suc zero) x some few h = grind (arith, nat_tests, ints)
-twos_short (suc (suc zero)) x some few h = grind (arith, nat_tests, ints)
-twos_short (suc (suc (suc n))) x some few h = absurd (omega arith)
-
 pub twos_int : (n x : ℕ) → 0 < n → n ≤ 4 → x < 256 ^ n → IsWithin (twos_complement n x) 2147483648
 twos_int zero x some few h = absurd (omega arith)
 twos_int (suc zero) x some few h = grind (arith, nat_tests, ints)

@@ -1,10 +1,7 @@
 -- A name has one rank.
-use Rattle.std.proofs.Common.{◌≡◌, ℕ, List, sym, ◌∙◌}
+use Rattle.std.proofs.Common.{◌≡◌, ℕ}
 use Rattle.program_types.specs.Content.{Name, OfText, OfDesc, OfField, OfMethod}
-use Rattle.program_types.specs.Key.{Key}
-use Rattle.tables_names.specs.Rank.{Rising, IsAt}
 use Rattle.tables_names.specs.Closure.{Five, AreRising, NameRanks}
-use Rattle.tables_names.proofs.PlaceLemmas.{rank_at}
 use Rattle.tables_laws.proofs.FileLemmas.{one_place}
 
 pub rank_one : (s : Five) (i j : ℕ) (which : Name) → AreRising s → NameRanks s i which → NameRanks s j which → i ≡ j

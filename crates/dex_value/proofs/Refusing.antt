@@ -53,9 +53,6 @@ stands_name N t low (Array vs) h s = absurd s
 stands_name N t low _ h s = absurd (omega arith)
 
 module _ (N : ℕ → Name → Type 0) where
-  head_of_sized : (a : List ℕ) (v : Value) → SizedFront N a v → ℕ
-  head_of_sized a v p = 32 * (length p.low - 1) + p.type
-
   sized_is : (a : List ℕ) (v : Value) (p : SizedFront N a v) → IsSizedHead (32 * (length p.low - 1) + p.type)
   sized_is a v p = let s = p.some in let f = p.few in sized_head (length p.low - 1) p.type p.small (omega (arith, s, f))
 

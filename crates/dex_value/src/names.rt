@@ -1,5 +1,5 @@
 // Names by their index.
-ghost use Rattle.std.specs.Prelude.{◌≡◌, ℕ, ◌<◌, ◌≤◌, length, IfSome, IfNone};
+ghost use Rattle.std.specs.Prelude.{◌<◌, ◌≤◌, length, IfSome, IfNone};
 ghost use Rattle.program_types.specs.Content as content;
 ghost use Rattle.program_types.specs.View as view;
 ghost use Rattle.program_types.specs.View.{value};

@@ -1,5 +1,5 @@
 // Numbers of one to eight bytes, the low byte first.
-ghost use Rattle.std.specs.Prelude.{◌≡◌, ℕ, ℤ, pos, ◌+ℤ◌, ◌≤ℤ◌, ◌<ℤ◌, ◌+◌, ◌*◌, ◌^◌, ◌<◌, ◌≤◌, length};
+ghost use Rattle.std.specs.Prelude.{◌≡◌, ℤ, pos, ◌+ℤ◌, ◌≤ℤ◌, ◌<ℤ◌, ◌+◌, ◌*◌, ◌^◌, ◌<◌, ◌≤◌, length};
 ghost use Rattle.program_types.specs.View.{value};
 ghost use Rattle.dex_value.specs.Spelling.{unsigned_of, signed_of, high_of};
 ghost use Rattle.dex_value.specs.Faults.{widest_of};

@@ -7,7 +7,7 @@ ghost use Rattle.program_types.specs.View.{value};
 ghost use Rattle.tables_rows.specs.Names.{NameIsAt};
 ghost use Rattle.dex_value.specs.Reading.{TakesArray};
 ghost use Rattle.dex_value.specs.Standing.{Shallow, ArrayStands};
-ghost use Rattle.dex_value.specs.Faults.{IsLoneHead, OwnBreaks, ValueBreaks, NextBreaks, InsideBreaks, ArrayBreaks, ArrayBreaksAt, values_fault, kind_fault, depth_fault};
+ghost use Rattle.dex_value.specs.Faults.{IsLoneHead, OwnBreaks, ValueBreaks, NextBreaks, ArrayBreaks, ArrayBreaksAt, values_fault, kind_fault, depth_fault};
 
 use crate::keeping::{InArena, Keep};
 use crate::names::named;

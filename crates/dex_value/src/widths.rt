@@ -1,5 +1,5 @@
 // The fewest bytes that a number takes.
-ghost use Rattle.std.specs.Prelude.{◌≡◌, ℕ, ◌+◌, ◌*◌, ◌^◌, ◌<◌, ◌≤◌};
+ghost use Rattle.std.specs.Prelude.{◌≡◌, ◌+◌, ◌*◌, ◌^◌, ◌<◌, ◌≤◌};
 ghost use Rattle.dex_value.specs.Writing.{IsNumberWidth, IsHighWidth, magnitude_of};
 
 /// The fewest bytes that hold the number, one at least.

@@ -1,5 +1,5 @@
 // Values as bytes, in the fewest.
-ghost use Rattle.std.specs.Prelude.{◌≡◌, ℕ, ◌+◌, ◌*◌, ◌-◌, ◌^◌, ◌<◌, ◌≤◌, ◌∷◌, ◌++◌, List, length, map, OnOk, OnErr, IsOkUnless};
+ghost use Rattle.std.specs.Prelude.{◌≡◌, ◌+◌, ◌*◌, ◌-◌, ◌^◌, ◌<◌, ◌≤◌, ◌++◌, length, map, OnOk, OnErr, IsOkUnless};
 ghost use Rattle.base_bytes.specs.Fault.{memory};
 ghost use Rattle.base_bytes.specs.Grammar.{Appends, Each};
 ghost use Rattle.base_bytes.specs.Leb128.{Shortest};
@@ -8,7 +8,7 @@ ghost use Rattle.program_types.specs.View.{value};
 ghost use Rattle.program_types.specs.Content as content;
 ghost use Rattle.program_types.specs.Depth.{depth};
 ghost use Rattle.tables_names.specs.Closure.{Five, NameRanks};
-ghost use Rattle.dex_value.specs.Spelling.{Sized, unsigned_of, value_type_of, SpellsValue, SpellsArray};
+ghost use Rattle.dex_value.specs.Spelling.{SpellsValue, SpellsArray};
 ghost use Rattle.program_types.specs.Mentions.{NamesHold, AllNamesHold};
 ghost use Rattle.dex_value.specs.Named.{IsRanked, IsPlain};
 ghost use Rattle.dex_value.specs.Counts.{CountsFit, AllCountsFit, ArrayFits};

@@ -1,5 +1,4 @@
 // What the calls do, with the ending as a word.
-ghost use Rattle.std.specs.Prelude.{◌≡◌, ◌≤◌, ◌++◌, length, drop};
 ghost use Rattle.dexasm_c.specs.Calls.{Checks, Ends, Puts, Tells};
 
 use crate::ending::{CFault, Ending};

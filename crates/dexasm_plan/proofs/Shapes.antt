@@ -1,16 +1,14 @@
 -- What is known of `dexasm`'s command line, whatever the words.
 use Rattle.std.proofs.Common.{◌≡◌, Bool, true, false, List, [], ◌∷◌, Option, Some, None, IsSome, IfSome, refl, sym, ◌∙◌, ap₂, subst, is_some}
-use Rattle.std.specs.Prelude.{Box}
+use Rattle.std.specs.Prelude.{Box, ⊤, find, option_map}
 use Rattle.std.specs.Box.{box_value}
 use Rattle.dexasm_job.specs.declared.job.Job.{Job}
-use Rattle.clap.specs.Words.{subcommand_name_of, subcommand_rows, subcommand_rows_of}
+use Rattle.clap.specs.Words.{subcommand_name_of, subcommand_rows, subcommand_rows_of, subcommand_of, is_simple_and_free}
 use Rattle.clap.specs.declared.parser.matches.ArgMatches.{ArgMatches}
 use Rattle.clap.specs.declared.parser.matches.ArgMatches.TheViews.{out-ArgMatches, out-SubCommand}
 use Rattle.clap.specs.declared.parser.matches.SubCommand.{SubCommand}
-use Rattle.std.specs.Prelude.{⊤, find, option_map}
 use Rattle.clap.specs.Simple.{Shape, App, entered, is_simple, label_of, built, names_of, rows_at, argument_words}
 use Rattle.clap.specs.Walk.{answers_to, Text, Row, stop_after}
-use Rattle.clap.specs.Words.{subcommand_of, is_simple_and_free}
 use Rattle.clap.proofs.OnLiterals.{clap_on_literals}
 use Rattle.dexasm_plan.specs.Commands.{dexasm}
 use Rattle.dexasm_plan.specs.Plans.{job_named}

@@ -1,8 +1,7 @@
 -- Two reads, or two writes, in a row.
-use Rattle.std.proofs.Common.{◌≡◌, ℕ, ◌+◌, List, ◌++◌, Option, None, Some, take, drop, sym, ap, ◌∙◌, append_assoc}
+use Rattle.std.proofs.Common.{◌≡◌, ℕ, ◌+◌, List, ◌++◌, Option, None, Some, take, drop, sym, ap, ◌∙◌, append_assoc, Bool, true, ◌||◌, ◌&&◌, ◌==◌, nat_lt, ◌<◌, arith}
 use Rattle.std.specs.Io.KnownBytes.{Appends, Consumes}
 use Rattle.std.proofs.Math.Seq.{take-add}
-use Rattle.std.proofs.Common.{Bool, true, ◌||◌, ◌&&◌, ◌==◌, nat_lt, ◌<◌, arith}
 use Rattle.std.proofs.lemmas.Bool.Decides.{nat_tests}
 
 pub Consumes-trans : (a b c : Option (List ℕ)) (front rest : List ℕ) → Consumes a b front

@@ -4,20 +4,13 @@ use Rattle.std.specs.List.{flat_map}
 use Rattle.file_align.specs.Programs.{Pairwise, AlignedBody, AlignedMethod, AlignedClass}
 use Rattle.file_align.proofs.PairLaws.{paired_lists}
 use Rattle.code_align.specs.Aligned.{with_nops, PadsPayloads, moved, moved_insn, moved_catch, moved_try, Aligned}
-use Rattle.program_types.specs.Content.{Descriptor, Name, OfText, OfDesc, OfMethod, Insn, Catch, Try, Code, Method, Class}
+use Rattle.program_types.specs.Content.{Descriptor, OfText, OfDesc, OfMethod, Insn, Catch, Try, Code, Method, Class}
 use Rattle.program_types.specs.Content as made
 use Rattle.program_types.specs.Mentions.{if_any, names_of_value, names_of_insn, names_of_try, names_of_code, field_of_class, names_of_method, names_of_class}
 
 module _ (f : ℕ → ℕ) where
   insn_names : (i : Insn) → names_of_insn (moved_insn f i) ≡ names_of_insn i
   insn_names (made.I10t op to) = refl
-  insn_names (made.I20t op to) = refl
-  insn_names (made.I21t op a to) = refl
-  insn_names (made.I22t op a b to) = refl
-  insn_names (made.I30t op to) = refl
-  insn_names (made.I31t op a to) = refl
-  insn_names (made.Packed first to) = refl
-  insn_names (made.Sparse keys to) = refl
   insn_names _ = refl
 
   catch_names : (cs : List Catch) → map (λ (c : Catch). OfDesc c.ty) (map (moved_catch f) cs) ≡ map (λ (c : Catch). OfDesc c.ty) cs

@@ -1,7 +1,6 @@
 -- A finished file is assembled.
 use Rattle.std.proofs.Common.{◌≡◌, ℕ, ◌+◌, ◌*◌, ◌≤◌, List, [], ◌∷◌, ◌++◌, length, map, drop, sym, ap, ◌∙◌, arith, subst, length-append}
 use Rattle.std.proofs.lemmas.List.{length-map}
-use Rattle.base_bytes.specs.Fields.{u16_bytes, u32_bytes}
 use Rattle.base_bytes.specs.Grammar.{Each}
 use Rattle.base_bytes.specs.Words.{words_bytes}
 use Rattle.file_layout.specs.Finished.{Finishes}
@@ -13,7 +12,7 @@ use Rattle.file_layout.proofs.FinishLaws.{length-words}
 use Rattle.file_limits.specs.Wide.{array_values, list_values, params_of, text_values}
 use Rattle.tables_names.specs.Closure.{Five}
 use Rattle.tables_names.specs.Rows.{first_of}
-use Rattle.program_types.specs.Content.{Class, Descriptor, FieldRef, MethodRef, Program, Proto}
+use Rattle.program_types.specs.Content.{Class, Program}
 use Rattle.program_types.specs.Key.{Key}
 use Rattle.file_rows.specs.Rows.{SpellsFieldRow, SpellsMethodRow, SpellsProtoRow, SpellsProtos, SpellsTable, SpellsTypeRow}
 use Rattle.file_sections.specs.Data.{has_no_members, with_code_places}

@@ -36,9 +36,6 @@ lists_unique n =
 abbrev Whole : Type 0
 Whole = (ℕ × (ℕ × (ℕ × ℕ))) × (List FieldEntry × (List FieldEntry × (List MethodEntry × List MethodEntry)))
 
-whole : Entries → Whole
-whole e = (counts_of e, lists_of e)
-
 same_whole : (d e : Entries) → lists_of d ≡ lists_of e → d ≡ e
 same_whole d e s = λ k. record { statics = (s k).0; instances = (s k).1.0; directs = (s k).1.1.0; virtuals = (s k).1.1.1 }
 

@@ -70,9 +70,6 @@ distinct_from ts n all new j k t at_j at_k =
       ]
     ]
 
-pub distinct_new : (ts : List Units) (n : ℕ) → NoTypeTwice ts → IsNotAmong ts n n
-distinct_new ts n distinct j t lt at_j at_n = let e = distinct j n t at_j at_n in absurd (omega arith)
-
 module _ (b : List ℕ) (framed : IsFramed b) (off : ℕ) (here : List Units) (types : TypesAt b off here) where
   pub no_classes : (AllByRecursion IsClass here → ⊥) → (ts : List Units) → InterfacesAt b off ts → ⊥
   no_classes not ts at = not (subst (λ (x : List Units). AllByRecursion IsClass x) (types_one b off ts here framed at.types types) at.classes)

@@ -1,23 +1,14 @@
 -- What is kept by its offset.
-use Rattle.std.proofs.Common.{◌≡◌, ℕ, Bool, true, false, cond, eqb, nat_eq, ap, sym, subst, ◌∙◌, Some, refl}
-use Rattle.std.proofs.lemmas.Bool.{eqb-true}
-use Rattle.std.proofs.lemmas.Option.{none-some}
-use Rattle.std.specs.Map.{lookup}
-use Rattle.indexmap.specs.IndexMap.{IndexMap, get, IsEmpty, Updates}
-use Rattle.tables_rows.specs.Kept.{AreKept}
-use Rattle.std.proofs.Common.{◌≢◌, Result, Ok, Err}
+use Rattle.std.proofs.Common.{◌≡◌, ℕ, ap, sym, ◌∙◌, refl, ◌≢◌, Result, Ok, Err, ◌-◌, ◌<◌, ◌≤◌, List, ◌++◌, length, take, drop, arith, length-take, append_assoc, inl, inr}
 use Rattle.std.specs.Prelude.{IfErr, IsErrAnd}
 use Rattle.base_bytes.specs.Fault.{memory}
 use Rattle.base_bytes.specs.declared.fault.Fault.{Fault}
-use Rattle.std.proofs.Common.{◌-◌, ◌<◌, ◌≤◌, List, ◌++◌, length, take, drop, arith, length-take, append_assoc, inl, inr}
 use Rattle.std.proofs.lemmas.List.{take-take, take-append-drop}
 use Rattle.dex_container.specs.Where.{slice}
 use Rattle.program_types.specs.Content.{Name, Value}
 use Rattle.dex_value.specs.Standing.{ArrayStands}
 use Rattle.dex_value.specs.Faults.{ArrayBreaksAt}
 use Rattle.dex_value.proofs.Places.{SpellsArray-least}
-use Rattle.tables_rows.proofs.KeptLaws.{kept_more, kept_none}
-use Rattle.base_bytes.proofs.ListFacts.{some_inj}
 
 -- ---- arrays that are used again
 

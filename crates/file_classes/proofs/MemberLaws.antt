@@ -5,22 +5,18 @@ use Rattle.std.proofs.lemmas.Grind.{common_steps}
 use Rattle.std.proofs.lemmas.List.{length-map}
 use Rattle.std.proofs.lemmas.Option.{slice_get-get_or, slice_get-map, slice_get_within, same_Some}
 use Rattle.base_bytes.specs.declared.fault.Fault.{Fault}
-use Rattle.program_types.specs.Content.{Units, FieldRef}
-use Rattle.tables_rows.specs.Stands.{TypeStands, FieldStands, MethodStands}
+use Rattle.program_types.specs.Content.{Units, FieldRef, Method}
+use Rattle.tables_rows.specs.Stands.{FieldStands, MethodStands}
 use Rattle.file_classes.specs.ClassData.{FieldEntry, MethodEntry, Entries, EntriesAt, steps, index_of, FirstEntriesAre, EntriesAre}
-use Rattle.program_types.specs.Content.{Method}
 use Rattle.tables_rows.specs.RowFields.{row_place}
 use Rattle.tables_rows.specs.TableFaults.{BreaksAt}
-use Rattle.file_classes.specs.ClassRows.{class_word}
-use Rattle.file_classes.specs.ClassFaults.{HasHead, MemberEntryHolds, IsForeign, EntryBreaks, MemberIndex, MemberOwner, MemberOrder, ClassRowBreaks, Member}
+use Rattle.file_classes.specs.ClassRows.{class_word, InOrder}
+use Rattle.file_classes.specs.ClassFaults.{HasHead, MemberEntryHolds, IsForeign, EntryBreaks, MemberIndex, MemberOwner, MemberOrder, ClassRowBreaks, Member, ClassRowHolds}
 use Rattle.file_classes.proofs.EntryLaws.{entry_at}
-use Rattle.file_classes.specs.Reading.{bare, HaveCodes, IsBare, IndexBreaks, IndexIsOut, IndexIsForeign, IndexFails, EntriesFail, MembersFail}
+use Rattle.file_classes.specs.Reading.{bare, HaveCodes, IsBare, IndexBreaks, IndexIsOut, IndexIsForeign, IndexFails, EntriesFail, MembersFail, head, IsHead}
 use Rattle.file_classes.specs.declared.members.Bare.{Bare}
 use Rattle.file_classes.specs.Classes.{IsField, IsMethod, RowIs, InterfacesAt, HeadIs}
 use Rattle.file_classes.specs.declared.heads.Head.{Head}
-use Rattle.file_classes.specs.Reading.{head, IsHead}
-use Rattle.file_classes.specs.ClassRows.{InOrder}
-use Rattle.file_classes.specs.ClassFaults.{ClassRowHolds}
 use Rattle.program_types.specs.View.{desc, str, member, method_ref}
 
 -- what the row at the index of an entry breaks, the entry breaks

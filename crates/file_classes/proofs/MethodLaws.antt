@@ -34,9 +34,6 @@ use Rattle.file_classes.proofs.OnceLaws.{one_of_kind}
 use Rattle.base_bytes.proofs.ListFacts.{slice_split}
 
 module _ (b : List ℕ) (ms : List Bare) where
-  pub done_none : AreDone b ms 0 []
-  done_none = record { count = refl; each = λ k m v p q. absurd cc; hold = λ k m lt. absurd (omega arith) }
-
   pub done_more : (n : ℕ) (vs : List Method) (m : Bare) (v : Method) → AreDone b ms n vs → slice_get ms n ≡ Some m → IsDone b m v → AreDone b ms (n + 1) (vs ++ v ∷ [])
   done_more n vs m v done there is = record {
     count = length_push vs v ∙ ap (λ k. k + 1) done.count;
@@ -217,9 +214,6 @@ breaks_at b ms n vs m e done lt is fails = done_breaks b ms n vs m e done (slice
 
 -- one more method, whose registers hold or are the first that don't
 module _ (b : List ℕ) (ms : List Bare) where
-  pub up_none : CodesUpTo CodeHolds RegistersFail b ms 0 None
-  up_none = record { none = λ k m lt. absurd (omega (arith, lt)); some = tt }
-
   -- where there is a fault already, it stays
   pub up_same : (n : ℕ) (e : Fault) → CodesUpTo CodeHolds RegistersFail b ms n (Some e) → CodesUpTo CodeHolds RegistersFail b ms (n + 1) (Some e)
   up_same n e u = record { none = tt; some = u.some }

@@ -22,10 +22,6 @@ zero_at zero t = refl
 zero_at (suc m) zero = refl
 zero_at (suc m) (suc t) = zero_at m t
 
-zeros : (m : ℕ) → length (zero_list m) ≡ m
-zeros zero = refl
-zeros (suc m) = ap suc (zeros m)
-
 set_size : (xs : List ℕ) (i y : ℕ) → length (set xs i y) ≡ length xs
 set_size [] i y = refl
 set_size (x ∷ xs) zero y = refl
@@ -48,15 +44,6 @@ none_less : (b : List ℕ) (i n t : ℕ) → NoneDefines b i (n + 1) t → NoneD
 none_less b i n t none j low high = none j low (omega (arith, high))
 
 module _ (b : List ℕ) where
-  pub places_none : (m : ℕ) (first last : List ℕ) → m ≡ size_of b 1 → first ≡ replicate m 0 → last ≡ replicate m 0 → ArePlaces b 0 first last
-  places_none m first last size f l = rw (f, l) (record {
-    firsts = zeros m ∙ size;
-    lasts = zeros m ∙ size;
-    none = λ t lt is j low high. absurd (omega (arith, high));
-    lowest = λ t k lt is. let z = zero_at m t in absurd (omega (arith, is, z));
-    highest = λ t i lt. (λ le j low high. absurd (omega (arith, high)), λ none. let z = zero_at m t in omega (arith, z));
-  })
-
   -- a row of a type that has no row of its own
   pub places_pass : (n : ℕ) (first last : List ℕ) → size_of b 1 ≤ class_word b n 0 → ArePlaces b n first last → ArePlaces b (n + 1) first last
   places_pass n first last past p =
@@ -149,12 +136,6 @@ module _ (b : List ℕ) where
               | inr le ↦ omega (arith, e, ge, le)
             ]
           ]
-
--- the element of a vector, whatever stands for none
-pub any_default : (xs : List ℕ) (i d e : ℕ) → i < length xs → get_or xs i d ≡ get_or xs i e
-any_default [] i d e lt = absurd (omega (arith, lt))
-any_default (x ∷ xs) zero d e lt = refl
-any_default (x ∷ xs) (suc i) d e lt = any_default xs i d e (omega (arith, lt))
 
 -- ---- what a row names has rows
 

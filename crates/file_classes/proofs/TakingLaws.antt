@@ -5,13 +5,12 @@ use Rattle.std.proofs.lemmas.List.{length_push}
 use Rattle.std.proofs.lemmas.Bool.{eqb-true}
 use Rattle.base_bytes.proofs.LengthLaws.{Spells-least}
 use Rattle.dex_container.specs.declared.section.Section.{Section}
-use Rattle.dex_container.specs.Where.{slice, At, IsInSection}
-use Rattle.dex_container.specs.Where.{IsSectionOf}
+use Rattle.dex_container.specs.Where.{slice, At, IsInSection, IsSectionOf}
 use Rattle.dex_container.proofs.Standing.{at_place, stands_at, stands_not, mod_one}
 use Rattle.base_bytes.specs.Grammar.{NoneBegins, Takes, IsPrefixUnique, Then, Pair, Each, Many}
 use Rattle.base_bytes.specs.Leb128.{Spells}
 use Rattle.base_bytes.proofs.GrammarLaws.{Then-none_first, Many-none, Many-unique}
-use Rattle.base_bytes.proofs.TakesLaws.{Begins-from_takes, Takes-unique, Takes-then, Then-takes, NoneBegins-from_takes, Takes-each_none, Takes-each_push}
+use Rattle.base_bytes.proofs.TakesLaws.{Begins-from_takes, Takes-unique, Takes-then, Then-takes, NoneBegins-from_takes, Takes-each_push}
 use Rattle.file_classes.specs.ClassData.{FieldEntry, MethodEntry, Entries, counts_of, lists_of, SpellsFieldEntry, SpellsMethodEntry, SpellsCounts, SpellsLists, SpellsEntries, no_entries, EntriesAt}
 use Rattle.file_classes.proofs.EntryLaws.{at_some, field_unique, method_unique, counts_unique}
 
@@ -30,9 +29,6 @@ module _ {V : Type 0} (G : List ℕ → V → Type 0) (bytes : List ℕ) where
   pub record Taken (n : ℕ) (vs : List V) (left : List ℕ) : Type 0 where
     pub count : length vs ≡ n
     pub taken : Takes (Each G) bytes vs left
-
-  pub taken_none : Taken 0 [] bytes
-  taken_none = record { count = refl; taken = Takes-each_none G bytes }
 
   pub taken_more : (n : ℕ) (vs : List V) (v : V) (left rest : List ℕ) → Taken n vs left → Takes G left v rest → Taken (n + 1) (vs ++ v ∷ []) rest
   taken_more n vs v left rest t u = record { count = length_push vs v ∙ ap (λ k. k + 1) t.count; taken = Takes-each_push G bytes left rest vs v t.taken u }

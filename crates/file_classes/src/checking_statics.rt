@@ -1,6 +1,6 @@
 // The second pass over class_defs where no program is asked for: the faults of `read_statics`. Of an array nothing is kept but how many
 // values it has.
-ghost use Rattle.std.specs.Prelude.{◌≡◌, ◌≢◌, ◌<◌, List, IfOk, IfErr, OnOk};
+ghost use Rattle.std.specs.Prelude.{◌≢◌, ◌<◌, List, IfErr, OnOk};
 ghost use Rattle.base_bytes.specs.Fault.{memory};
 ghost use Rattle.dex_container.specs.Layout.{size_of};
 ghost use Rattle.dex_container.specs.Section as section;

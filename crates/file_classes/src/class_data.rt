@@ -1,5 +1,5 @@
 // What a class defines, as numbers ("class_data_item"): fault 44.
-ghost use Rattle.std.specs.Prelude.{◌≡◌, ◌≢◌, ℕ, List, IfOk, IfSome, IfNone, IsOkUnless, map};
+ghost use Rattle.std.specs.Prelude.{ℕ, List, IfOk, IfSome, IfNone, IsOkUnless, map};
 ghost use Rattle.base_bytes.specs.Fault.{memory};
 ghost use Rattle.base_bytes.specs.Grammar.{Takes, NoneBegins, Many};
 ghost use Rattle.base_bytes.specs.Leb128.{Spells};

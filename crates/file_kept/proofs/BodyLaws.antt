@@ -1,5 +1,5 @@
 -- Bodies that are written by the numbers of kept rows.
-use Rattle.std.proofs.Common.{◌≡◌, ℕ, zero, suc, ◌+◌, ◌<◌, ◌≤◌, Bool, true, false, List, [], ◌∷◌, ◌++◌, length, take, get_or, refl, sym, ap, subst, ◌∙◌, arith, Some, None, Option, inl, inr}
+use Rattle.std.proofs.Common.{◌≡◌, ℕ, zero, suc, ◌+◌, ◌<◌, Bool, true, false, List, [], ◌∷◌, ◌++◌, length, take, get_or, refl, sym, subst, ◌∙◌, arith, Some, None, Option, inl, inr}
 use Rattle.std.specs.Prelude.{MatchBool, ◌==◌}
 use Rattle.std.specs.List.{AllByRecursion}
 use Rattle.std.proofs.lemmas.List.{take_more, length-map}
@@ -12,7 +12,6 @@ use Rattle.code_put.proofs.PackedLaws.{packed-spells}
 use Rattle.code_renumber.specs.Carried.{IsCarriedCode}
 use Rattle.dex_insn.specs.declared.opcode.IndexKind.TheVariants as kind
 use Rattle.file_least.specs.AtLeast.{FitsButHandlers}
-use Rattle.file_limits.specs.Wide.{wide_body}
 use Rattle.file_sections.specs.Codes.{WritesBody, is_bodiless}
 use Rattle.file_sections.proofs.CodeLaws.{packed_room}
 use Rattle.file_shared.specs.Once.{Entry}
@@ -86,19 +85,6 @@ near_used s rise align kept more old new (Some c) place u f = near_written s ris
 -- after an offset other than 0 a code stands
 pub some_carried : (b : List ℕ) (numbers : Columns) (s : Five) (off : ℕ) (v : Option Code) → (off == 0) ≡ false → IsCarriedBody b numbers s off v → IsCarriedSome b numbers s off v
 some_carried b numbers s off v e x = subst (λ (t : Bool). MatchBool t (v ≡ None) (IsCarriedSome b numbers s off v)) e x
-
-none_carried : (b : List ℕ) (numbers : Columns) (s : Five) (off : ℕ) (v : Option Code) → (off == 0) ≡ true → IsCarriedBody b numbers s off v → v ≡ None
-none_carried b numbers s off v e x = subst (λ (t : Bool). MatchBool t (v ≡ None) (IsCarriedSome b numbers s off v)) e x
-
--- at 0 there is none, which takes no item
-pub no_body : (b : List ℕ) (numbers : Columns) (s : Five) (off : ℕ) (v : Option Code) (kept : List Entry) (out : List ℕ) → (off == 0) ≡ true → IsCarriedBody b numbers s off v → UsesItem is_bodiless (WritesBody s) 4 kept kept out out v 0
-no_body b numbers s off v kept out e x =
-    subst (λ (o : Option Code). UsesItem is_bodiless (WritesBody s) 4 kept kept out out o 0) (sym (none_carried b numbers s off v e x)) (refl, refl, refl)
-
--- with three zeros before it, it takes no more than its term of the sum
-pub room_of_body : (s : Five) (bytes : List ℕ) (v : Option Code) → IsItem is_bodiless (WritesBody s) bytes v → 0 < length bytes → 3 ≤ wide_body v
-room_of_body s bytes None w some = let n = ap length w in absurd (omega (arith, n, some))
-room_of_body s bytes (Some c) w some = let r = (packed_room (NameRanks s) c bytes w.1.packs).1 in omega (arith, r)
 
 pub near_body : (b : List ℕ) (numbers : Columns) (s : Five) (off : ℕ) (v : Option Code) (align : ℕ) (kept more : List Entry) (old new : List ℕ) (place : ℕ) → IsCarriedBody b numbers s off v
     → UsesItem is_bodiless (WritesBody s) align kept more old new v place → ¬ IsFar s v

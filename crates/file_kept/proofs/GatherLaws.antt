@@ -24,11 +24,9 @@ use Rattle.file_limits.proofs.SumLaws.{wide_all_append}
 use Rattle.file_needed.proofs.ClassNames.{directs_kept, virtuals_kept}
 use Rattle.file_needed.proofs.Steps.{left, right}
 use Rattle.program_types.specs.Content.{Class, Code, Descriptor, Method, Name, OfDesc, OfField, OfMethod, OfText, Program}
-use Rattle.program_types.specs.Key.{field_ref_key, method_ref_key, text_key}
 use Rattle.program_types.specs.Mentions.{if_any, names_of_code, names_of_method}
 use Rattle.tables_names.specs.Closure.{Five, Holds, NameRanks}
 use Rattle.tables_names.specs.Needed.{needed}
-use Rattle.tables_names.proofs.PlaceLemmas.{member_at}
 use Rattle.tables_numbers.specs.Marked.{Columns, IsColumn, kind_of}
 use Rattle.tables_numbers.specs.Numbers.{Carries, Counts, column_of}
 use Rattle.tables_rows.specs.Stands.{NameStands}

@@ -10,8 +10,8 @@ use Rattle.tables_names.specs.Closure.{Holds, NameRanks}
 use Rattle.tables_names.specs.Needed.{needed}
 use Rattle.tables_names.proofs.NeededLemmas.{needed_is_least}
 use Rattle.tables_numbers.specs.Marked.{Columns, IsColumn}
-use Rattle.tables_numbers.specs.Numbers.{before, Counts, IsKept, Carries}
-use Rattle.tables_numbers.proofs.ColumnLemmas.{before_next, before-cons, before_few}
+use Rattle.tables_numbers.specs.Numbers.{Counts, IsKept, Carries}
+use Rattle.tables_numbers.proofs.ColumnLemmas.{before_next, before_few}
 use Rattle.tables_numbers.proofs.RankLemmas.{kept_rows_are_ranks, totals_are_lengths}
 use Rattle.tables_rows.specs.Stands.{NameStands}
 use Rattle.file_needed.proofs.Steps.{left, right}

@@ -1,6 +1,6 @@
 -- The class data of classes, one by one.
 use Rattle.std.proofs.Common.{◌≡◌, ℕ, zero, suc, ◌+◌, ◌^◌, ◌<◌, ◌≤◌, Bool, true, false, List, [], ◌∷◌, ◌++◌, length, take, drop, get_or, refl, sym, ap, subst, ◌∙◌, arith, slice_get, Some, append_assoc, length-append, length-drop}
-use Rattle.std.specs.Prelude.{◌&&◌, MatchBool}
+use Rattle.std.specs.Prelude.{MatchBool}
 use Rattle.std.specs.List.{flat_map}
 use Rattle.std.proofs.lemmas.List.{take_more, take_all, drop_more, drop_all}
 use Rattle.base_bytes.specs.Grammar.{Appends}
@@ -9,17 +9,17 @@ use Rattle.file_classes.specs.ClassData.{Entries, EntriesAt, SpellsCounts}
 use Rattle.file_classes.specs.Classes.{MembersAre}
 use Rattle.file_classes.specs.ClassRows.{class_word}
 use Rattle.file_classes.proofs.EntryLaws.{entries_one}
-use Rattle.file_layout.specs.Sections.{Adds, AddsSome, Laid, Laying, is_empty_list, wide_all}
+use Rattle.file_layout.specs.Sections.{Adds, AddsSome, Laid, Laying, wide_all}
 use Rattle.file_layout.proofs.SectionLaws.{adds_some, gap_one, unpadded, length-padded, Laying-start}
 use Rattle.file_layout.specs.Tiles.{gap, zeros}
 use Rattle.file_limits.specs.Wide.{bodies_of, body_values, wide_data}
 use Rattle.file_sections.specs.Data.{PacksData, ClassWithCodes, code_offs, has_no_members, method_count, with_code_places, wide_with_codes}
 use Rattle.file_sections.specs.Growing.{AddsFields, AddsMethods}
 use Rattle.file_sections.specs.Placing.{items_with}
-use Rattle.file_sections.proofs.DataLaws.{data_length, adds_none, some_members}
+use Rattle.file_sections.proofs.DataLaws.{data_length, some_members}
 use Rattle.file_sections.proofs.LayingLaws.{one_more}
 use Rattle.file_sections.proofs.SitedLaws.{length-sited, room_of_sited, count_of_bodies}
-use Rattle.program_types.specs.Content.{Class, Member, Method, Program}
+use Rattle.program_types.specs.Content.{Class, Program}
 use Rattle.tables_names.specs.Closure.{Five, NameRanks}
 use Rattle.tables_names.specs.Needed.{needed}
 use Rattle.tables_numbers.specs.Marked.{Columns}
@@ -71,23 +71,12 @@ members_append s c n1 n2 n3 n4 codes first last old m0 m1 m2 m3 new f1 f2 f3 f4 
       };
     }
 
-all_none : (a b : List Member) (c d : List Method) → length a + length b ≡ 0 → length c + length d ≡ 0 → (is_empty_list a && is_empty_list b && is_empty_list c && is_empty_list d) ≡ true
-all_none [] [] [] [] e f = refl
-all_none (x ∷ a) b c d e f = absurd (omega (arith, e))
-all_none [] (x ∷ b) c d e f = absurd (omega (arith, e))
-all_none [] [] (x ∷ c) d e f = absurd (omega (arith, f))
-all_none [] [] [] (x ∷ d) e f = absurd (omega (arith, f))
-
 pub data_adds : (s : Five) (old new : List ℕ) (c : Class) (codes : List ℕ) (place : ℕ) → 0 < length c.statics + length c.instances + (length c.directs + length c.virtuals) → place ≡ length old
     → Appends (PacksData (NameRanks s)) old new (record { class = c; codes = codes }) → AddsSome has_no_members (PacksData (NameRanks s)) 1 old new (record { class = c; codes = codes }) place
 data_adds s old new c codes place some p a =
     let g = gap_one (length old) in
     adds_some has_no_members (PacksData (NameRanks s)) 1 old new (record { class = c; codes = codes }) place (some_members c.statics c.instances c.directs c.virtuals some)
     (record { there = omega (arith, p, g); bytes = a.bytes; whole = a.joined ∙ ap (λ (l : List ℕ). l ++ a.bytes) (sym (unpadded old)); some = (data_length s a.bytes (record { class = c; codes = codes }) a.spelled).0; spelled = a.spelled })
-
-pub data_none : (s : Five) (old : List ℕ) (c : Class) (codes : List ℕ) → length c.statics + length c.instances ≡ 0 → length c.directs + length c.virtuals ≡ 0
-    → AddsSome has_no_members (PacksData (NameRanks s)) 1 old old (record { class = c; codes = codes }) 0
-data_none s old c codes f m = adds_none has_no_members (PacksData (NameRanks s)) 1 old (record { class = c; codes = codes }) (all_none c.statics c.instances c.directs c.virtuals f m)
 
 -- the counts of the lists are those of the members
 pub record Counted (e : Entries) (c : Class) : Type 0 where

@@ -5,9 +5,7 @@ use Rattle.std.proofs.lemmas.List.Sums.{sum_by-cons}
 use Rattle.std.proofs.lemmas.Option.{slice_get_within, slice_get-get_or}
 use Rattle.base_bytes.specs.Grammar.{Each, Ended, Many}
 use Rattle.dex_base.specs.Mutf8.{SpellsUnit, mutf8_length, unit_bytes}
-use Rattle.dex_container.specs.Frame.{IsFramed}
 use Rattle.dex_container.specs.Layout.{size_of}
-use Rattle.dex_container.specs.Where.{AtOrNone}
 use Rattle.file_layout.specs.Sections.{wide_all}
 use Rattle.file_limits.specs.Sum.{IsSum}
 use Rattle.file_limits.specs.Wide.{wide_list, wide_proto, wide_string, wide_text}
@@ -20,13 +18,10 @@ use Rattle.tables_numbers.specs.Marked.{Columns, IsColumn}
 use Rattle.tables_numbers.specs.Numbers.{Counts, HaveLengths, IsKept}
 use Rattle.tables_numbers.proofs.RankLemmas.{kept_rows_are_held, kept_protos_are_ranks, totals_are_lengths}
 use Rattle.tables_rows.specs.RowFields.{proto_parameters}
-use Rattle.tables_rows.specs.Stands.{StringStands, TypeStands, TypesAt, SpellsIndexes}
-use Rattle.tables_rows.proofs.HalvesLaws.{list_or_none_one}
-use Rattle.tables_rows.proofs.TypeLists.{indexes_of}
+use Rattle.tables_rows.specs.Stands.{StringStands, TypesAt}
 use Rattle.file_kept.specs.Keeping.{Keeps}
 use Rattle.file_kept.specs.Sizes.{IsFirstSum}
 use Rattle.file_kept.proofs.KeepLaws.{number_is, numbers_long, next_kept, next_not_kept, first_number, carried}
-use Rattle.base_bytes.proofs.ListFacts.{zip_length}
 
 -- ---- a text
 

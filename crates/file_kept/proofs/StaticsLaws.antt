@@ -16,7 +16,7 @@ use Rattle.file_sections.specs.Arrays.{WritesArray}
 use Rattle.file_sections.proofs.ArrayLaws.{array_some}
 use Rattle.file_shared.specs.Once.{Entry}
 use Rattle.file_shared.specs.Sharing.{UsesItem}
-use Rattle.program_types.specs.Content.{Name, OfField, Class, Program, Value, Values, Named, Enum, Array, Byte, Short, Char, Int, Long, Float, Double, Null, Boolean, no_values, more_values, values}
+use Rattle.program_types.specs.Content.{Name, OfField, Class, Program, Value, Values, Named, Enum, Array, no_values, more_values, values}
 use Rattle.program_types.specs.Mentions.{NamesHold, AllNamesHold, names_of_value, names_of_values}
 use Rattle.tables_names.specs.Closure.{Five, Holds, NameRanks}
 use Rattle.tables_names.specs.Needed.{needed}
@@ -59,15 +59,7 @@ mutual
   value_hold P Q f (Named n) h = f n h.0
   value_hold P Q f (Enum c) h = f (OfField c) h.0
   value_hold P Q f (Array vs) h = values_hold P Q f vs h
-  value_hold P Q f (Byte n) h = tt
-  value_hold P Q f (Short n) h = tt
-  value_hold P Q f (Char n) h = tt
-  value_hold P Q f (Int n) h = tt
-  value_hold P Q f (Long n) h = tt
-  value_hold P Q f (Float n) h = tt
-  value_hold P Q f (Double n) h = tt
-  value_hold P Q f Null h = tt
-  value_hold P Q f (Boolean b) h = tt
+  value_hold P Q f _ h = tt
 
   values_hold : (P Q : Name → Type 0) → ((n : Name) → P n → Q n) → (vs : Values) → AllByRecursion P (names_of_values vs) → AllNamesHold Q vs
   values_hold P Q f no_values h = tt

@@ -1,5 +1,5 @@
 -- Texts of kept rows.
-use Rattle.std.proofs.Common.{◌≡◌, ℕ, zero, suc, ◌+◌, ◌-◌, ◌<◌, ◌≤◌, true, List, [], ◌∷◌, ◌++◌, length, map, take, drop, get_or, refl, sym, ap, subst, ◌∙◌, arith, slice_get, Some, None, option_map, inl, inr, append_assoc, length-append, length-take}
+use Rattle.std.proofs.Common.{◌≡◌, ℕ, zero, suc, ◌+◌, ◌-◌, ◌<◌, ◌≤◌, true, List, [], ◌∷◌, ◌++◌, length, map, take, drop, get_or, refl, sym, ap, subst, ◌∙◌, arith, slice_get, Some, None, option_map, inl, inr, append_assoc, length-append}
 use Rattle.std.specs.Prelude.{◌==◌}
 use Rattle.std.specs.List.{AllByRecursion}
 use Rattle.std.proofs.lemmas.Bool.{cases_lt, eqb-true}
@@ -14,9 +14,8 @@ use Rattle.dex_base.specs.Mutf8.{PacksText, SpellsText, SpellsUnit, unit_bytes}
 use Rattle.dex_base.proofs.UnitLaws.{bytes_one, bytes_zero, bytes_two, bytes_three}
 use Rattle.dex_base.proofs.TextLaws.{packed_length}
 use Rattle.dex_container.specs.Layout.{size_of}
-use Rattle.dex_container.specs.Where.{slice, At, IsInSection, IsSectionOf}
+use Rattle.dex_container.specs.Where.{slice, At, IsSectionOf}
 use Rattle.dex_container.specs.declared.section.Section.{Section}
-use Rattle.dex_container.proofs.Standing.{at_place}
 use Rattle.file_layout.specs.Sections.{Adds, Laying, never}
 use Rattle.file_layout.proofs.SectionLaws.{Laying-start, Laying-more, gap_one, unpadded}
 use Rattle.file_limits.specs.Wide.{text_values, wide_text}
@@ -33,7 +32,6 @@ use Rattle.tables_rows.specs.Stands.{StringStands}
 use Rattle.file_kept.specs.Keeping.{Keeps}
 use Rattle.file_kept.specs.Texts.{AreFirstTexts}
 use Rattle.file_kept.proofs.KeepLaws.{number_is, numbers_long, next_kept, next_not_kept, first_number, carried}
-use Rattle.tables_rows.proofs.ClearRows.{text_placed}
 use Rattle.dex_base.proofs.NameUnits.{all_append}
 
 -- ---- no unit has a zero byte
@@ -87,9 +85,6 @@ no_zero bytes t rest a none =
     let passes : (get_or bytes (length e.front) 0 == 0) ≡ true = ap (λ (m : ℕ). m == 0) zero in
     none (length e.front) (omega arith) (omega (arith, n)) passes
 
-pub zero_within : (bytes : List ℕ) (k : ℕ) → IsFirstByte (is_byte 0) bytes (Some k) → k < length bytes
-zero_within bytes k f = f.0.high
-
 pub units_ended : (bytes : List ℕ) (t : Units) (rest : List ℕ) (k : ℕ) → Takes (Ended (Many SpellsUnit (length t))) bytes t rest → IsFirstByte (is_byte 0) bytes (Some k) → Ended (Many SpellsUnit (length t)) (take (k + 1) bytes) t
 units_ended bytes t rest k a f =
     let e = Ended-takes (Many SpellsUnit (length t)) bytes rest t a in
@@ -102,13 +97,6 @@ units_ended bytes t rest k a f =
     }
 
 -- ---- where a text stands
-
-slice_some : (b : List ℕ) (place size : ℕ) (t : Units) → SpellsText (slice b place size) t → 0 < size
-unfolding slice
-slice_some b place size t s =
-    let n = ap length s.joined ∙ length-append s.front (0 ∷ []) in
-    let l = length-take size (drop place b) in
-    omega (arith, n, l)
 
 pub text_taken : (b rest : List ℕ) (s : Section) (place : ℕ) (t : Units) → IsSectionOf b 0x2002 s → rest ≡ take (s.end - place) (drop place b) → At SpellsText b 0x2002 1 place t → (after : List ℕ) × Takes SpellsText rest t after
 unfolding slice

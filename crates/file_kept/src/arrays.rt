@@ -1,5 +1,5 @@
 //! Static values ("encoded_array_item").
-ghost use Rattle.std.specs.Prelude.{◌≡◌, ℕ, ◌+◌, ◌<◌, ◌^◌, List, IfOk, OnOk, IsOkUnless, length};
+ghost use Rattle.std.specs.Prelude.{◌+◌, ◌<◌, ◌^◌, List, IfOk, OnOk, IsOkUnless, length};
 ghost use Rattle.base_bytes.specs.Fault.{memory};
 ghost use Rattle.base_bytes.specs.Leb128.{Shortest};
 ghost use Rattle.dex_value.specs.Spelling.{SpellsArray};

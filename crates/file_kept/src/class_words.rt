@@ -1,5 +1,5 @@
 //! The rows of class_defs, word by word ("class_def_item").
-ghost use Rattle.std.specs.Prelude.{◌≡◌, ◌<◌, IfOk, IsOkUnless};
+ghost use Rattle.std.specs.Prelude.{◌<◌, IfOk, IsOkUnless};
 ghost use Rattle.base_bytes.specs.Fault.{memory};
 ghost use Rattle.file_kept.specs.Words.{AreClassWords};
 

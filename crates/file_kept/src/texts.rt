@@ -1,12 +1,12 @@
 //! Texts ("string_data_item"). A unit has one spelling, so that only the count of units is spelled anew.
-ghost use Rattle.std.specs.Prelude.{◌≡◌, ℕ, ◌+◌, ◌<◌, ◌≤◌, ◌^◌, List, IfOk, OnOk, IsOkUnless, length};
+ghost use Rattle.std.specs.Prelude.{◌≡◌, ℕ, ◌+◌, ◌<◌, ◌^◌, List, IfOk, OnOk, IsOkUnless, length};
 ghost use Rattle.base_bytes.specs.Fault.{memory};
 ghost use Rattle.base_bytes.specs.Grammar.{Appends, Takes, Ended, Many};
 ghost use Rattle.dex_base.specs.Mutf8.{PacksText, SpellsText, SpellsUnit};
 ghost use Rattle.dex_container.specs.Layout.{size_of};
 ghost use Rattle.dex_container.specs.Section as section;
 ghost use Rattle.dex_container.specs.Where.{IsSectionOf};
-ghost use Rattle.file_layout.specs.Sections.{never, wide_all, Adds, Laid};
+ghost use Rattle.file_layout.specs.Sections.{never, wide_all, Laid};
 ghost use Rattle.file_layout.specs.Tiles.{AreShared};
 ghost use Rattle.file_limits.specs.Wide.{text_values, wide_text};
 ghost use Rattle.program_types.specs.Content.{Program, Units};

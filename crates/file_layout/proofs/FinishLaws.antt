@@ -1,5 +1,5 @@
 -- What is known of a finished file.
-use Rattle.std.proofs.Common.{◌≡◌, ℕ, zero, suc, ◌+◌, ◌-◌, ◌*◌, ◌^◌, ◌<◌, ◌≤◌, List, [], ◌∷◌, ◌++◌, length, map, take, drop, get_or, refl, sym, ap, ◌∙◌, subst, arith, append_assoc, length-append, length-drop, length-take, lit<}
+use Rattle.std.proofs.Common.{◌≡◌, ℕ, zero, ◌+◌, ◌-◌, ◌*◌, ◌^◌, ◌<◌, ◌≤◌, List, [], ◌∷◌, ◌++◌, length, map, take, drop, get_or, refl, sym, ap, ◌∙◌, subst, arith, append_assoc, length-append, length-drop, length-take, lit<}
 use Rattle.std.proofs.lemmas.List.{drop-drop, drop_at, take_at, drop-append-le, take-append-le, take_all}
 use Rattle.std.proofs.lemmas.List.Sums.{count_by-le-length, length-filter}
 use Rattle.std.specs.List.{filter, flat_map, AllByRecursion}
@@ -36,10 +36,6 @@ length-words (x ∷ xs) =
 magic_of : (r : Rows) (q n : ℕ) (rest : List ℕ) → HasMagic (words_bytes (header_words r q n) ++ rest) × HasVersion (words_bytes (header_words r q n) ++ rest)
 unfolding words_bytes u32_bytes u32_at u16_at
 magic_of r q n rest = (record { dex = refl; zero = refl }, record { front = refl; back = refl })
-
-pub fits_cons : (n : ℕ) (xs : List ℕ) → n < 2 ^ 32 → ((j : ℕ) → get_or xs j 0 < 2 ^ 32) → (j : ℕ) → get_or (n ∷ xs) j 0 < 2 ^ 32
-fits_cons n xs h f zero = h
-fits_cons n xs h f (suc j) = f j
 
 -- all is written
 pub put_end : (old new ws : List ℕ) (n : ℕ) → length ws ≤ n → n ≤ length ws → new ≡ words_bytes (take n ws) ++ drop (4 * n) old → new ≡ words_bytes ws ++ drop (4 * length ws) old
@@ -238,10 +234,6 @@ module _ (old padded out front b : List ℕ) (p : Plan) (rows : List ℕ) (place
     where
       magic_closed : HasMagic b × HasVersion b
       magic_closed = IsClosed-magic front b closed (let f = front_length in let l = out_low in omega (arith, f, l)) front_magic.0 front_magic.1
-
-pub words_both : (x : ℕ) (xs : List ℕ) → words_bytes (x ∷ []) ++ words_bytes xs ≡ words_bytes (x ∷ xs)
-unfolding words_bytes
-words_both x xs = append_assoc (u32_bytes x) [] (words_bytes xs)
 
 -- a slice of a Vec that was written through
 pub written_back : (new old : List ℕ) (n : ℕ) → length new ≡ length old → n ≡ length old → take n (new ++ drop (length new) old) ≡ new

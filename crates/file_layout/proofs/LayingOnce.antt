@@ -7,7 +7,7 @@ use Rattle.base_bytes.specs.Fields.{AreBytes}
 use Rattle.dex_container.specs.Where.{slice}
 use Rattle.file_layout.specs.Once.{HasOneSpelling, HaveOneSpelling, part_of, AreSame}
 use Rattle.file_layout.specs.Tiles.{gap, Tiles, Done, Item, add_place, distinct_places, Among, AreShared, Refers, Lays}
-use Rattle.file_layout.proofs.TileLaws.{Tiles-le, Tiles-among, refers_some, zip_there, add_place-fresh, add_place-known, or_true}
+use Rattle.file_layout.proofs.TileLaws.{Tiles-le, Tiles-among, refers_some, zip_there, add_place-fresh, add_place-known}
 use Rattle.file_layout.proofs.PartLaws.{slice_are, length_slice, part_item, part_none}
 
 -- ---- places that are seen

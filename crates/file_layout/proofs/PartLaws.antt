@@ -3,10 +3,9 @@ use Rattle.std.proofs.Common.{◌≡◌, ℕ, zero, suc, ◌+◌, ◌-◌, ◌�
 use Rattle.std.proofs.Math.Seq.{take-add}
 use Rattle.std.proofs.lemmas.List.{get_or-drop, length-drop}
 use Rattle.base_bytes.specs.Fields.{AreBytes}
-use Rattle.base_bytes.proofs.ShortestLaws.{AllBytes}
 use Rattle.dex_container.specs.Where.{slice}
 use Rattle.file_layout.specs.Once.{part_of}
-use Rattle.base_bytes.proofs.ListFacts.{take_bytes, all_of}
+use Rattle.base_bytes.proofs.ListFacts.{take_bytes}
 
 -- a part of bytes is bytes
 pub slice_are : (b : List ℕ) (place size : ℕ) → AreBytes b → AreBytes (slice b place size)
@@ -56,11 +55,3 @@ part_item b at place size end g here le =
 pub part_none : (b : List ℕ) (at : ℕ) → part_of b at at ≡ []
 unfolding slice
 part_none b at = let n : at - at ≡ 0 = omega arith in ap (λ (k : ℕ). take k (drop at b)) n
-
-pub part_whole : (b : List ℕ) → part_of b 0 (length b) ≡ b
-unfolding slice
-part_whole b = let e : length b - 0 ≡ length b = omega arith in ap (λ (k : ℕ). take k b) e ∙ all_taken b
-  where
-    all_taken : (xs : List ℕ) → take (length xs) xs ≡ xs
-    all_taken [] = refl
-    all_taken (x ∷ xs) = ap (λ (t : List ℕ). x ∷ t) (all_taken xs)

@@ -1,11 +1,10 @@
 -- A section, item by item.
-use Rattle.std.proofs.Common.{◌≡◌, ℕ, suc, ◌+◌, ◌<◌, ◌≤◌, List, [], ◌∷◌, ◌++◌, length, refl, sym, ap, ◌∙◌, arith, append_assoc, append-nil, length-append, Bool, true, false, Some}
-use Rattle.std.specs.List.{slice_get, AllZip}
+use Rattle.std.proofs.Common.{◌≡◌, ℕ, ◌+◌, ◌<◌, ◌≤◌, List, [], ◌∷◌, ◌++◌, length, refl, sym, ap, ◌∙◌, arith, append_assoc, append-nil, length-append, Bool, true, false, Some}
+use Rattle.std.specs.List.{slice_get}
 use Rattle.std.specs.Prelude.{MatchBool}
 use Rattle.file_layout.specs.Tiles.{zeros, gap}
 use Rattle.file_layout.specs.Sections.{Adds, AddsSome, Laying, wide_bytes, IsItself, is_empty_list, count_with}
 use Rattle.file_layout.proofs.TileLaws.{Lays-start, Lays-none, Lays-item, Lays-again, length-zeros}
-use Rattle.base_bytes.proofs.ListFacts.{zip_length}
 
 pub Laying-start : {V : Type 0} (none : V → Bool) (G : List ℕ → V → Type 0) (align : ℕ) (wide : V → ℕ) (old : List ℕ) (all : List V) → Laying none G align wide old old [] all all [] 0
 Laying-start none G align wide old all = record { lays = Lays-start none G align old; grown = ([], sym (append-nil old)); bound = omega arith }

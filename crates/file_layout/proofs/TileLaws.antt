@@ -1,6 +1,6 @@
 -- Laws of items that stand one after the other.
 use Rattle.std.proofs.Common.{◌≡◌, ℕ, zero, suc, ◌+◌, ◌<◌, ◌≤◌, Bool, true, false, eqb, Some, List, [], ◌∷◌, ◌++◌, length, take, drop, map, refl, sym, ap, ◌∙◌, subst, arith, append_assoc, append-nil, length-append, inl, inr}
-use Rattle.std.proofs.lemmas.List.{take_at, drop_at, take-append-le, drop-append-le, length-drop, map-append, length-replicate, replicate_more}
+use Rattle.std.proofs.lemmas.List.{take_at, drop_at, take-append-le, drop-append-le, length-drop, map-append, length-replicate}
 use Rattle.std.proofs.lemmas.List.Sums.{fold_push}
 use Rattle.std.proofs.lemmas.Bool.{eq-eqb}
 use Rattle.std.specs.List.{list_any, slice_get, AllZip}
@@ -117,9 +117,6 @@ distinct_places-push : (places : List ℕ) (place : ℕ) → distinct_places (pl
 unfolding distinct_places
 distinct_places-push places place = fold_push add_place [] places place
 
-add_place-zero : (seen : List ℕ) → add_place seen 0 ≡ seen
-add_place-zero seen = refl
-
 -- a place that is above all others is new
 above : (at : ℕ) (seen : List ℕ) → AllBelow at seen → list_any (λ q. eqb q at) seen ≡ false
 above at [] h = refl
@@ -234,6 +231,3 @@ Lays-agree none G align begin end b c from vs places count l low same = record {
   order = l.order;
   counted = l.counted;
 }
-
-pub zeros_push : (n : ℕ) → zeros n ++ 0 ∷ [] ≡ zeros (n + 1)
-zeros_push n = replicate_more n 0

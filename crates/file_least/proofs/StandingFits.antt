@@ -10,7 +10,7 @@ use Rattle.dex_container.specs.Frame.{IsFramed}
 use Rattle.dex_container.specs.Where.{slice}
 use Rattle.dex_insn.specs.Fields.{number, int_at}
 use Rattle.dex_insn.specs.Raw as raw
-use Rattle.dex_insn.specs.Raw.{Raw, units, is_payload}
+use Rattle.dex_insn.specs.Raw.{Raw, is_payload}
 use Rattle.dex_insn.specs.RawInsns.{InsnStands, SpellsInsn}
 use Rattle.dex_insn.specs.Written.{IsRaw}
 use Rattle.dex_insn.specs.declared.opcode.IndexKind.{IndexKind}

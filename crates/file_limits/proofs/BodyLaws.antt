@@ -1,12 +1,12 @@
 -- The lowest limit that bodies break.
-use Rattle.std.proofs.Common.{◌≡◌, ◌≢◌, Bool, true, false, ℕ, zero, suc, ◌<◌, ◌≤◌, ◌⊎◌, inl, inr, ⊎_elim, List, [], ◌∷◌, ◌++◌, length, min, refl, sym, ap, subst, arith, Option, Some, None}
+use Rattle.std.proofs.Common.{◌≡◌, Bool, true, false, ℕ, zero, suc, ◌<◌, ◌≤◌, ◌⊎◌, inl, inr, ⊎_elim, List, [], ◌∷◌, ◌++◌, length, min, refl, sym, ap, subst, arith, Option, Some, None}
 use Rattle.std.proofs.lemmas.Bool.{cases_lt, leb-true, leb-false}
 use Rattle.std.proofs.lemmas.Option.{slice_get_within}
 use Rattle.std.specs.Prelude.{nat_le, if◌then◌else◌}
 use Rattle.std.specs.List.{AllByRecursion, slice_get}
 use Rattle.base_bytes.specs.declared.fault.Fault.{Fault}
 use Rattle.code_put.specs.Fits.{CodeBreaksLimit, FitsCode, IsUnfit}
-use Rattle.code_fits.proofs.BreakLaws.{breaks_range, fits_clear}
+use Rattle.code_fits.proofs.BreakLaws.{fits_clear}
 use Rattle.program_types.specs.Content.{Name, Code, Class, Program}
 use Rattle.file_limits.specs.Limits.{SomeBreaks, ClassBreaksLimit, IsFirstToBreak, codes_of}
 use Rattle.file_limits.specs.Lowest.{IsLowestBroken, IsLowestOf, lower, earlier}
@@ -31,9 +31,6 @@ one_breaks N c f h = record {
   some = record { index = 0; code = c; there = refl; breaks = h.breaks };
   least = λ m s. (f.code, refl, h.lowest m (subst (λ (d : Code). CodeBreaksLimit N d m) (sym (one_there c s.code s.index s.there)) s.breaks));
 }
-
-pub unfit_is_no_memory : (N : ℕ → Name → Type 0) (c : Code) (f : Fault) → IsUnfit N c f → f.code ≢ 255
-unfit_is_no_memory N c f h e = let high = (breaks_range N c f.code h.breaks).1 in omega (arith, high, e)
 
 -- ---- bodies, one after the other
 

@@ -21,21 +21,16 @@ pub class_range : (p : Program) (n i : ℕ) → ClassBreaksLimit (N p) n p i →
 class_range p n i h = breaks_range (N p) h.body.code n h.body.breaks
 
 at_least_80 : (p : Program) (n place : ℕ) → LimitBreaks p n place → 80 ≤ n
-at_least_80 p n place (TooManyTypes many) = omega arith
-at_least_80 p n place (TooManyProtos many) = omega arith
-at_least_80 p n place (TooBig big) = omega arith
-at_least_80 p n place (HandlerTooFar small f) = omega arith
 at_least_80 p n place (BodyBreaks most f) = let r = class_range p n place f.here in let low = r.0 in omega (arith, low)
+at_least_80 p n place _ = omega arith
 
 pub types_lowest : (p : Program) (n : ℕ) → n ≡ length (needed p).types → 65535 < n → IsLowestLimit p (record { code = 80; place = n })
 types_lowest p n e many = record { breaks = subst (LimitBreaks p 80) (sym e) (TooManyTypes (omega (arith, e, many))); lowest = at_least_80 p }
 
 at_least_81 : (p : Program) (n place : ℕ) → length (needed p).types ≤ 65535 → LimitBreaks p n place → 81 ≤ n
 at_least_81 p n place few (TooManyTypes many) = absurd (omega (arith, few, many))
-at_least_81 p n place few (TooManyProtos many) = omega arith
-at_least_81 p n place few (TooBig big) = omega arith
-at_least_81 p n place few (HandlerTooFar small f) = omega arith
 at_least_81 p n place few (BodyBreaks most f) = let r = class_range p n place f.here in let low = r.0 in omega (arith, low)
+at_least_81 p n place few _ = omega arith
 
 pub protos_lowest : (p : Program) (n : ℕ) → n ≡ length (needed p).protos → length (needed p).types ≤ 65535 → 65535 < n → IsLowestLimit p (record { code = 81; place = n })
 protos_lowest p n e few many = record { breaks = subst (LimitBreaks p 81) (sym e) (TooManyProtos (omega (arith, e, many))); lowest = λ k place b. at_least_81 p k place few b }
@@ -99,9 +94,6 @@ module _ (p : Program) (few_types : length (needed p).types ≤ 65535) (few_prot
     ] refl;
     lowest = small_least f x small;
   }
-
-  pub none_fits : IsLowestOf (N p) p None → wide p ≤ 4294967295 → Fits p
-  none_fits x small = record { few_types = few_types; few_protos = few_protos; bodies = x.none; small = small }
 
 -- ---- a program that fits
 

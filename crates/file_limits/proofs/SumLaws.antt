@@ -1,5 +1,5 @@
 -- Sums of sizes.
-use Rattle.std.proofs.Common.{◌≡◌, ℕ, zero, suc, ◌+◌, ◌-◌, ◌*◌, ◌^◌, ◌<◌, ◌≤◌, List, [], ◌∷◌, ◌++◌, map, take, get_or, length, sym, ap, ◌∙◌, arith, subst, inl, inr, ◌⊎◌}
+use Rattle.std.proofs.Common.{◌≡◌, ℕ, zero, suc, ◌+◌, ◌-◌, ◌*◌, ◌<◌, ◌≤◌, List, [], ◌∷◌, ◌++◌, map, take, get_or, length, sym, ap, ◌∙◌, arith, subst, inl, inr}
 use Rattle.std.proofs.lemmas.List.{take_more, map-append, length-map}
 use Rattle.std.proofs.lemmas.List.Sums.{sum_by-append}
 use Rattle.dex_base.specs.Mutf8.{mutf8_length, unit_bytes}
@@ -16,12 +16,6 @@ use Rattle.dex_value.specs.Wide.{wide_value, wide_values}
 use Rattle.file_limits.specs.Sum.{IsSum}
 use Rattle.file_limits.specs.Wide.{wide_list}
 use Rattle.base_bytes.proofs.ListFacts.{map_more}
-
-pub sum_is : (a b r n m : ℕ) → ((a + b < 2 ^ 64) × (r ≡ a + b)) ⊎ (r ≡ 2 ^ 64 - 1) × (2 ^ 64 ≤ a + b) → IsSum a n → IsSum b m → IsSum r (n + m)
-sum_is a b r n m h s t = elim h [
-  | inl e ↦ elim s [ inl p ↦ elim t [ inl q ↦ inl (omega (arith, e, p, q)) | inr q ↦ inr (omega (arith, e, p, q), omega (arith, e, p, q)) ] | inr p ↦ elim t [ inl q ↦ inr (omega (arith, e, p, q), omega (arith, e, p, q)) | inr q ↦ inr (omega (arith, e, p, q), omega (arith, e, p, q)) ] ]
-  | inr e ↦ elim s [ inl p ↦ elim t [ inl q ↦ inr (omega (arith, e, p, q), omega (arith, e, p, q)) | inr q ↦ inr (omega (arith, e, p, q), omega (arith, e, p, q)) ] | inr p ↦ elim t [ inl q ↦ inr (omega (arith, e, p, q), omega (arith, e, p, q)) | inr q ↦ inr (omega (arith, e, p, q), omega (arith, e, p, q)) ] ]
-]
 
 -- what `plus` says
 abbrev pub Adds : ℕ → ℕ → ℕ → Type 0
@@ -57,9 +51,6 @@ text_more sum more new xs i d lt add s m =
 pub some_list : (xs : List Desc) (r : ℕ) → 0 < length xs → IsSum r (7 + 2 * length xs) → IsSum r (wide_list (map desc xs))
 some_list [] r e s = absurd (omega (arith, e))
 some_list (x ∷ xs) r e s = let n = length-map xs desc in subst (IsSum r) (omega (arith, n)) s
-
-pub over : (r n m : ℕ) → n ≡ m → IsSum r n → ((4294967295 < r → 4294967295 < m) × (4294967295 < m → 4294967295 < r))
-over r n m e s = limit_of r m (subst (IsSum r) e s)
 
 pub value_less : (xs : List made.Value) (i : ℕ) (d : made.Value) → i < length xs → depth (value (get_or xs i d)) ≤ greatest_depth (values (map value xs))
 value_less [] i d lt = absurd (omega (arith, lt))

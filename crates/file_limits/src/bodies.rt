@@ -1,6 +1,6 @@
 // Which limit the bodies of a program break.
 // Page: "Dalvik Executable format", "code_item"; "Dalvik Executable instruction formats", the widths of fields.
-ghost use Rattle.std.specs.Prelude.{◌≡◌, ℕ, ◌≤◌, ◌∷◌, ◌++◌, [], Some, IfOk, IsOkUnless, length, map, option_map, slice_get};
+ghost use Rattle.std.specs.Prelude.{◌≡◌, ℕ, ◌≤◌, ◌∷◌, [], Some, IfOk, IsOkUnless, length, map, option_map, slice_get};
 ghost use Rattle.std.specs.List.{AllByRecursion};
 ghost use Rattle.std.specs.Option.{option_to_list};
 ghost use Rattle.base_bytes.specs.Fault.{memory};

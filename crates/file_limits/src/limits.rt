@@ -1,6 +1,6 @@
 // The limits of a file: faults 80 to 90.
 // Page: "Dalvik Executable format", "header_item": type_ids_size and proto_ids_size are at most 65535, file_size has four bytes.
-ghost use Rattle.std.specs.Prelude.{◌≡◌, ◌≢◌, ℕ, Some, IfErr, OnOk, map, slice_get};
+ghost use Rattle.std.specs.Prelude.{◌≡◌, ◌≢◌, ℕ, Some, IfErr, OnOk, slice_get};
 ghost use Rattle.std.specs.List.{AllByRecursion};
 ghost use Rattle.base_bytes.specs.Fault.{memory};
 ghost use Rattle.file_limits.specs.Limits.{Fits, IsLowestLimit, BodyIsReady, codes_of};

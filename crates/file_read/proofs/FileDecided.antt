@@ -1,12 +1,11 @@
 -- A file means a program, or a fault refuses it.
-use Rattle.std.proofs.Common.{◌≡◌, ◌≢◌, ℕ, zero, suc, ◌<◌, ◌≤◌, ◌⊎◌, inl, inr, Bool, true, false, List, [], ◌∷◌, length, Option, Some, None, refl, sym, ap, ◌∙◌, subst, arith, slice_get}
-use Rattle.std.specs.Prelude.{MatchBool, ◌==◌}
-use Rattle.std.proofs.lemmas.Bool.{cases_lt, cases_eq, eqb-true}
+use Rattle.std.proofs.Common.{◌≡◌, ℕ, zero, suc, ◌<◌, ◌≤◌, ◌⊎◌, inl, inr, List, [], length, Option, Some, None, refl, sym, ap, ◌∙◌, subst, arith, slice_get}
+use Rattle.std.proofs.lemmas.Bool.{cases_lt, cases_eq}
 use Rattle.std.proofs.lemmas.Option.{slice_get_within}
 use Rattle.base_bytes.specs.declared.fault.Fault.{Fault}
 use Rattle.dex_container.specs.Frame.{IsFramed}
 use Rattle.dex_container.specs.Layout.{size_of}
-use Rattle.program_types.specs.Content.{Units, Code, Method, Class, Program}
+use Rattle.program_types.specs.Content.{Code, Program}
 use Rattle.tables_rows.specs.Names.{Names, AreNamesOf, NameIsAt}
 use Rattle.tables_rows.specs.RowFields.{row_place}
 use Rattle.tables_rows.specs.Sorted.{RowsHold, TablesHold}
@@ -23,12 +22,11 @@ use Rattle.code_read.proofs.CarryLaws.{body_weaker}
 use Rattle.code_read.proofs.StandLaws.{body_code}
 use Rattle.file_read.specs.Broken.{Broken}
 use Rattle.file_classes.specs.ClassRows.{class_word}
-use Rattle.file_classes.specs.ClassData.{MethodEntry, Entries, EntriesAt, steps, index_of, EntriesAre}
-use Rattle.file_classes.specs.Classes.{IsMethod, StaticsAt, CodeAt, CodesAre, SpellsClass}
-use Rattle.file_classes.specs.ClassFaults.{ClassRowHolds, ClassRowsHold, ValuesHold, ValuesBreak, at_row, SomeBodyStands, BodyHolds, BodyFails, CodeHolds, RegistersFail, EachCodeHolds, SomeCodeFails, ClassCodesHold, MethodsBreak, BodiesHold, BodiesBreak, RowRegistersHold, RowRegistersBreak, IsFirstClass}
+use Rattle.file_classes.specs.ClassData.{MethodEntry, Entries, EntriesAt}
+use Rattle.file_classes.specs.ClassFaults.{ClassRowHolds, ValuesHold, ValuesBreak, at_row, SomeBodyStands, BodyHolds, BodyFails, CodeHolds, RegistersFail, EachCodeHolds, SomeCodeFails, ClassCodesHold, MethodsBreak, BodiesHold, BodiesBreak, RowRegistersHold, RowRegistersBreak, IsFirstClass}
 use Rattle.file_read.specs.Means.{Means}
 use Rattle.file_read.specs.Refused.{IsRefused}
-use Rattle.file_classes.proofs.EntryLaws.{entry_at, entries_one, at_some}
+use Rattle.file_classes.proofs.EntryLaws.{entry_at, at_some}
 use Rattle.file_read.proofs.PassLaws.{program_meant}
 use Rattle.file_read.proofs.FirstLaws.{string_first, type_first, proto_first, field_first, method_first, class_first, value_first, code_first, register_first, means_clear}
 use Rattle.code_read.proofs.CodesDecided.{body-decided, registers-decided}

@@ -11,7 +11,7 @@ use Rattle.base_bytes.proofs.FieldBounds.{u32_at-fits}
 use Rattle.dex_base.specs.Mutf8.{SpellsUnit}
 use Rattle.dex_container.specs.Frame.{IsFramed}
 use Rattle.dex_container.specs.Where.{At}
-use Rattle.program_types.specs.Content.{Units, Proto, Name, OfText, OfDesc, OfField, OfMethod, Value, Values, no_values, more_values, Code, Member, Method, Class, Program, AreUnits}
+use Rattle.program_types.specs.Content.{Units, Proto, Name, OfText, OfDesc, OfField, OfMethod, Value, Values, no_values, more_values, Member, Method, Class, Program, AreUnits}
 use Rattle.program_types.specs.Content as made
 use Rattle.program_types.specs.Formed.{IsFormed}
 use Rattle.program_types.specs.Mentions.{names_of_class}

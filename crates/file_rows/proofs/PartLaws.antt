@@ -89,49 +89,37 @@ module _ (strings : List Key) where
 -- ---- places fit
 
 pub type_fits : (strings : List Key) (k : Key) (p : TypeParts) → TypeAt strings k p → p.text < length strings
-type_fits strings [] p at = absurd at
 type_fits strings (text ∷ []) p at = slice_get_within strings p.text (text_key text) at
-type_fits strings (text ∷ other ∷ more) p at = absurd at
+type_fits strings _ p at = absurd at
 
 pub field_fits : (types strings : List Key) (k : Key) (p : FieldParts) → FieldAt types strings k p → (p.class < length types) × (p.name < length strings) × (p.ty < length types)
-field_fits types strings [] p at = absurd at
-field_fits types strings (class ∷ []) p at = absurd at
-field_fits types strings (class ∷ name ∷ []) p at = absurd at
 field_fits types strings (class ∷ name ∷ ty ∷ []) p at =
     (slice_get_within types p.class (text_key class) at.0, slice_get_within strings p.name (text_key name) at.1, slice_get_within types p.ty (text_key ty) at.2)
-field_fits types strings (class ∷ name ∷ ty ∷ other ∷ more) p at = absurd at
+field_fits types strings _ p at = absurd at
 
 pub method_fits : (types strings protos : List Key) (k : Key) (p : MethodParts) → MethodAt types strings protos k p → (p.class < length types) × (p.name < length strings) × (p.proto < length protos)
-method_fits types strings protos [] p at = absurd at
-method_fits types strings protos (class ∷ []) p at = absurd at
-method_fits types strings protos (class ∷ name ∷ []) p at = absurd at
 method_fits types strings protos (class ∷ name ∷ ret ∷ params) p at =
     (slice_get_within types p.class (text_key class) at.0, slice_get_within strings p.name (text_key name) at.1, slice_get_within protos p.proto (ret ∷ params) at.2)
+method_fits types strings protos _ p at = absurd at
 
 -- ---- one row
 
 module _ (s : Five) where
   pub type_row : (k : Key) (p : TypeParts) → length s.strings ≤ 2 ^ 32 → TypeAt s.strings k p → SpellsTypeRow s (u32_bytes p.text) (type_of k)
-  type_row [] p few at = absurd at
   type_row (text ∷ []) p few at =
       let lt = slice_get_within s.strings p.text (text_key text) at in
       record { descriptor = p.text; whole = refl; small = omega (arith, lt, few); descriptor_is = at }
-  type_row (text ∷ other ∷ more) p few at = absurd at
+  type_row _ p few at = absurd at
 
   pub field_row : (k : Key) (p : FieldParts) → p.class < 2 ^ 16 → p.ty < 2 ^ 16 → p.name < 2 ^ 32 → FieldAt s.types s.strings k p → SpellsFieldRow s (u16_bytes p.class ++ (u16_bytes p.ty ++ u32_bytes p.name)) (field_of k)
-  field_row [] p a b d at = absurd at
-  field_row (class ∷ []) p a b d at = absurd at
-  field_row (class ∷ name ∷ []) p a b d at = absurd at
   field_row (class ∷ name ∷ ty ∷ []) p a b d at =
       record { class = p.class; ty = p.ty; name = p.name; whole = refl; small_class = a; small_ty = b; small_name = d; class_is = at.0; ty_is = at.2; name_is = at.1 }
-  field_row (class ∷ name ∷ ty ∷ other ∷ more) p a b d at = absurd at
+  field_row _ p a b d at = absurd at
 
   pub method_row : (k : Key) (p : MethodParts) → p.class < 2 ^ 16 → p.proto < 2 ^ 16 → p.name < 2 ^ 32 → MethodAt s.types s.strings s.protos k p → SpellsMethodRow s (u16_bytes p.class ++ (u16_bytes p.proto ++ u32_bytes p.name)) (method_of k)
-  method_row [] p a b d at = absurd at
-  method_row (class ∷ []) p a b d at = absurd at
-  method_row (class ∷ name ∷ []) p a b d at = absurd at
   method_row (class ∷ name ∷ ret ∷ params) p a b d at =
       record { class = p.class; proto = p.proto; name = p.name; whole = refl; small_class = a; small_proto = b; small_name = d; class_is = at.0; proto_is = at.2; name_is = at.1 }
+  method_row _ p a b d at = absurd at
 
 -- ---- rows so far
 

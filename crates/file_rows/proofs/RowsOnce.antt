@@ -8,7 +8,6 @@ use Rattle.program_types.specs.Key.{Key, text_key, proto_key, field_ref_key, met
 use Rattle.program_types.specs.Shorty.{shorty}
 use Rattle.tables_names.specs.Rank.{Rising, IsAt}
 use Rattle.tables_names.specs.Closure.{Five, AreRising}
-use Rattle.tables_names.proofs.PlaceLemmas.{rank_at}
 use Rattle.file_classes.specs.ClassRows.{IndexOrNone}
 use Rattle.file_rows.specs.Rows.{SpellsTypeRow, SpellsProtoRow, SpellsFieldRow, SpellsMethodRow, SpellsTable, SpellsRows}
 use Rattle.file_rows.specs.ClassDefs.{ClassWithPlaces, SpellsClassRow}

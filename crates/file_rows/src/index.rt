@@ -1,7 +1,7 @@
 // The indices of names that are held: never a refusal.
 ghost use Rattle.std.specs.Prelude.{◌≤◌, ◌^◌, length};
 ghost use Rattle.tables_names.specs.Indices.{HasPlace};
-ghost use Rattle.tables_names.specs.Keys.{key_of_str, key_of_desc, key_of_proto, own_field, own_method};
+ghost use Rattle.tables_names.specs.Keys.{key_of_str, key_of_desc, own_field, own_method};
 ghost use Rattle.tables_names.specs.Rank.{IsAt};
 ghost use Rattle.program_types.specs.Content.{Units};
 ghost use Rattle.program_types.specs.Key.{text_key};
@@ -42,18 +42,6 @@ pub fn type_index(ranks: &Ranks<'_>, name: Desc<'_>) -> u16
     ensures { IsAt ranks.now.types result (key_of_desc name.entry) }
 {
     match ranks.index_of_type(name) {
-        Some(index) => index as u16,
-        None => unreachable!(),
-    }
-}
-
-/// The index of a prototype that is held, where there are at most 65535.
-pub fn proto_index(ranks: &Ranks<'_>, name: &Proto<'_>) -> u16
-    requires held { HasPlace ranks.now.protos (key_of_proto name.now) }
-    requires few { length ranks.now.protos ≤ 65535 }
-    ensures { IsAt ranks.now.protos result (key_of_proto name.now) }
-{
-    match ranks.index_of_proto(name) {
         Some(index) => index as u16,
         None => unreachable!(),
     }

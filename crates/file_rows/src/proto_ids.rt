@@ -1,6 +1,6 @@
 // The rows of proto_ids.
 // Page: "Dalvik Executable format", "proto_id_item".
-ghost use Rattle.std.specs.Prelude.{◌≡◌, ℕ, ◌≤◌, ◌^◌, List, OnOk, IsOkUnless, length};
+ghost use Rattle.std.specs.Prelude.{◌≡◌, ◌≤◌, ◌^◌, OnOk, IsOkUnless, length};
 ghost use Rattle.base_bytes.specs.Fault.{memory};
 ghost use Rattle.base_bytes.specs.Grammar.{Appends};
 ghost use Rattle.tables_names.specs.Indices.{HasPlace};

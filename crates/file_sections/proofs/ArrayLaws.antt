@@ -4,7 +4,7 @@ use Rattle.std.proofs.lemmas.List.{length-map}
 use Rattle.std.proofs.lemmas.Option.{slice_get_within}
 use Rattle.std.specs.List.{AllByRecursion}
 use Rattle.base_bytes.specs.Leb128.{Shortest}
-use Rattle.program_types.specs.Content.{Units, FieldRef, MethodRef, Name, OfText, OfDesc, OfField, OfMethod, Program, Value, Values, Named, Enum, Array, no_values, more_values, values, Byte, Short, Char, Int, Long, Float, Double, Null, Boolean}
+use Rattle.program_types.specs.Content.{Units, FieldRef, MethodRef, Name, OfText, OfDesc, OfField, OfMethod, Program, Value, Values, Named, Enum, Array, no_values, more_values, values}
 use Rattle.program_types.specs.View as view
 use Rattle.program_types.specs.declared.value.Value as made
 use Rattle.program_types.specs.declared.class.Class as class
@@ -18,8 +18,7 @@ use Rattle.dex_value.proofs.Lengths.{SpellsArray-most}
 use Rattle.dex_value.proofs.Places.{SpellsArray-least}
 use Rattle.file_layout.specs.Sections.{is_empty_list}
 use Rattle.file_layout.specs.Tiles.{gap}
-use Rattle.tables_names.specs.Rank.{IsAt}
-use Rattle.program_types.specs.Key.{Key, text_key, field_ref_key, method_ref_key}
+use Rattle.program_types.specs.Key.{text_key, field_ref_key, method_ref_key}
 use Rattle.program_types.specs.Kinds.{HasIndex}
 use Rattle.file_shared.specs.Once.{Entry, PutsOnce}
 use Rattle.file_shared.specs.Sharing.{UsesItem}
@@ -47,15 +46,7 @@ mutual
   value_ranked s k (Named n) h = ranked s k n h.0
   value_ranked s k (Enum f) h = ranked s k (OfField f) h.0
   value_ranked s k (Array vs) h = all_ranked s k vs h
-  value_ranked s k (Byte n) h = tt
-  value_ranked s k (Short n) h = tt
-  value_ranked s k (Char n) h = tt
-  value_ranked s k (Int n) h = tt
-  value_ranked s k (Long n) h = tt
-  value_ranked s k (Float n) h = tt
-  value_ranked s k (Double n) h = tt
-  value_ranked s k Null h = tt
-  value_ranked s k (Boolean b) h = tt
+  value_ranked s k _ h = tt
 
   all_ranked : (s : Five) → FewNames s → (vs : Values) → AllByRecursion (HasIndex (NameRanks s)) (names_of_values vs) → AllNamesHold (IsRanked s) vs
   all_ranked s k no_values h = tt

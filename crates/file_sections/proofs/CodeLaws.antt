@@ -1,10 +1,10 @@
 -- Bodies, one after the other.
-use Rattle.std.proofs.Common.{◌≡◌, ℕ, zero, suc, ◌+◌, ◌%◌, ◌<◌, ◌≤◌, ◌==◌, if◌then◌else◌, Bool, true, false, List, [], ◌∷◌, ◌++◌, length, map, take, drop, get_or, refl, sym, ap, ◌∙◌, arith, subst, length-append, append_assoc, Option, Some, None}
+use Rattle.std.proofs.Common.{◌≡◌, ℕ, zero, suc, ◌+◌, ◌<◌, ◌≤◌, false, List, [], ◌∷◌, ◌++◌, length, map, take, drop, get_or, refl, sym, ap, ◌∙◌, arith, subst, length-append, append_assoc, Option, Some, None}
 use Rattle.std.proofs.lemmas.List.{take_all, drop_all}
 use Rattle.std.specs.List.{AllByRecursion, flat_map}
 use Rattle.code_put.proofs.PackedTries.{items-length}
 use Rattle.code_put.proofs.WrittenLaws.{lowered-length}
-use Rattle.code_put.proofs.PackedLaws.{length-head, few-padding}
+use Rattle.code_put.proofs.PackedLaws.{length-head, few-padding, packed-spells}
 use Rattle.code_put.specs.Fits.{wide_code}
 use Rattle.code_put.specs.Packs.{PacksCode, head_bytes, padding, joined, items_bytes}
 use Rattle.file_layout.specs.Sections.{wide_all}
@@ -17,9 +17,7 @@ use Rattle.code_put.proofs.RankLaws.{ranks-functional}
 use Rattle.code_put.proofs.HandlerOnce.{ranks-injective}
 use Rattle.code_put.proofs.CodeOnce.{code_once}
 use Rattle.base_bytes.specs.Fields.{AreBytes}
-use Rattle.code_put.proofs.PackedLaws.{packed-spells}
 use Rattle.file_limits.specs.Wide.{bodies_in, bodies_of, wide_body}
-use Rattle.file_limits.proofs.SumLaws.{wide_all_append}
 use Rattle.tables_names.specs.Closure.{Five, AreRising, NameRanks}
 use Rattle.program_types.specs.Content.{Name, Code, Class}
 use Rattle.program_types.specs.Content as content
@@ -35,11 +33,6 @@ use Rattle.base_bytes.proofs.ListFacts.{map_more}
 use Rattle.file_limits.proofs.PartLaws.{map_map}
 
 -- ---- how long a body is
-
-at_most : (x y : Bool) → length {A = ℕ} (if x then [] else (if y then [] else 0 ∷ 0 ∷ [])) ≤ 2
-at_most true y = omega arith
-at_most false true = omega arith
-at_most false false = omega arith
 
 -- with three zeros before it, it takes no more than its term of the sum
 pub packed_room : (N : ℕ → Name → Type 0) (c : Code) (bytes : List ℕ) → PacksCode N bytes c → (0 < length bytes) × (length bytes + 3 ≤ wide_code c)
@@ -172,10 +165,6 @@ pub class_done : (cs : List made.Class) (i : ℕ) (d : made.Class) → i < lengt
 class_done cs i d lt =
     ap (flat_map bodies_of) (map_more view.class cs i d lt) ∙ flat_one (map view.class (take i cs)) (view.class (get_or cs i d))
     ∙ sym (append_assoc (flat_map bodies_of (map view.class (take i cs))) (bodies_in (map view.method (get_or cs i d).directs.now)) (bodies_in (map view.method (get_or cs i d).virtuals.now)))
-
--- room for one of two lists of bodies
-pub room_first : (xs ys : List (Option Code)) → wide_all wide_body xs ≤ wide_all wide_body (xs ++ ys)
-room_first xs ys = let a = wide_all_append wide_body xs ys in omega (arith, a)
 
 -- the body of one of the methods
 pub body_at : (P : Option Code → Type 0) (ms : List made_method.Method) (i : ℕ) (d : made_method.Method) → i < length ms → AllByRecursion P (bodies_in (map view.method ms)) → P (view.method (get_or ms i d)).code

@@ -1,5 +1,5 @@
 -- Class data, as a whole.
-use Rattle.std.proofs.Common.{◌≡◌, ℕ, zero, suc, ◌+◌, ◌*◌, ◌<◌, ◌≤◌, List, [], ◌∷◌, ◌++◌, length, map, get_or, refl, sym, ap, ◌∙◌, arith, length-append, append_assoc, Bool, true, false, subst}
+use Rattle.std.proofs.Common.{◌≡◌, ℕ, zero, suc, ◌+◌, ◌*◌, ◌<◌, ◌≤◌, List, [], ◌∷◌, ◌++◌, length, map, get_or, refl, sym, ap, ◌∙◌, arith, length-append, append_assoc, false, subst}
 use Rattle.std.proofs.lemmas.List.{length-map}
 use Rattle.std.specs.Prelude.{◌&&◌}
 use Rattle.std.specs.List.{AllByRecursion, flat_map}
@@ -181,22 +181,3 @@ data_bound s old new v a =
     let e = ap length a.joined ∙ length-append old a.bytes in
     let m = (data_length s a.bytes v a.spelled).1 in
     omega (arith, e, m)
-
-pub adds_none : {V : Type 0} (none : V → Bool) (G : List ℕ → V → Type 0) (align : ℕ) (old : List ℕ) (v : V) → none v ≡ true → AddsSome none G align old old v 0
-adds_none none G align old v e = rw e (refl, refl)
-
-all_none : (a b : List Member) (c d : List Method) → length a ≡ 0 → length b ≡ 0 → length c ≡ 0 → length d ≡ 0 → (is_empty_list a && is_empty_list b && is_empty_list c && is_empty_list d) ≡ true
-all_none [] [] [] [] e f g h = refl
-all_none (x ∷ a) b c d e f g h = absurd (omega (arith, e))
-all_none [] (x ∷ b) c d e f g h = absurd (omega (arith, f))
-all_none [] [] (x ∷ c) d e f g h = absurd (omega (arith, g))
-all_none [] [] [] (x ∷ d) e f g h = absurd (omega (arith, h))
-
--- no member at all
-pub data_none : (s : Five) (old : List ℕ) (c : made.Class) (codes : List ℕ) → length c.statics.now + length c.instances.now ≡ 0 → length c.directs.now + length c.virtuals.now ≡ 0
-    → AddsSome has_no_members (PacksData (NameRanks s)) 1 old old (record { class = view.class c; codes = codes }) 0
-data_none s old c codes f m =
-    let e : has_no_members (record { class = view.class c; codes = codes }) ≡ true =
-    all_none (map view.member c.statics.now) (map view.member c.instances.now) (map view.method c.directs.now) (map view.method c.virtuals.now)
-    (length-map c.statics.now view.member ∙ omega (arith, f)) (length-map c.instances.now view.member ∙ omega (arith, f)) (length-map c.directs.now view.method ∙ omega (arith, m)) (length-map c.virtuals.now view.method ∙ omega (arith, m)) in
-    adds_none has_no_members (PacksData (NameRanks s)) 1 old (record { class = view.class c; codes = codes }) e

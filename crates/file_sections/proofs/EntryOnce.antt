@@ -1,9 +1,9 @@
 -- Entries of class data: what they stand for decides them.
-use Rattle.std.proofs.Common.{◌≡◌, ℕ, zero, suc, ◌+◌, ◌<◌, List, [], ◌∷◌, ◌++◌, length, map, take, sum, refl, sym, ap, ◌∙◌, subst, arith}
+use Rattle.std.proofs.Common.{◌≡◌, ℕ, zero, suc, ◌+◌, ◌<◌, List, [], ◌∷◌, ◌++◌, length, map, take, sum, refl, sym, ◌∙◌, subst, arith}
 use Rattle.std.proofs.lemmas.List.{length-map}
 use Rattle.base_bytes.specs.Grammar.{Pair, Many}
 use Rattle.base_bytes.specs.Leb128.{Spells, Shortest}
-use Rattle.base_bytes.proofs.AdlerSums.{sum-append, sum-cons}
+use Rattle.base_bytes.proofs.AdlerSums.{sum-cons}
 use Rattle.file_classes.specs.ClassData.{Entries, SpellsFieldEntry, SpellsMethodEntry, SpellsCounts, SpellsLists, SpellsEntries, EntriesAre, steps, index_of, counts_of, lists_of}
 use Rattle.base_bytes.proofs.ShortestLaws.{AllBytes}
 use Rattle.file_sections.proofs.GrammarOnce.{IsSpelledOnce, number_once, then_once, pair_once, many_once, mapped_same}

@@ -1,12 +1,10 @@
 -- What is made of grammars of one spelling is one.
-use Rattle.std.proofs.Common.{◌≡◌, ℕ, zero, suc, ◌<◌, List, [], ◌∷◌, ◌++◌, length, map, refl, sym, ◌∙◌, subst, arith, Some}
+use Rattle.std.proofs.Common.{◌≡◌, ℕ, zero, suc, List, [], ◌∷◌, ◌++◌, length, map, refl, sym, ◌∙◌, arith, Some}
 use Rattle.std.specs.List.{slice_get}
 use Rattle.base_bytes.specs.Grammar.{Then, Pair, Each, Many}
 use Rattle.base_bytes.specs.Leb128.{Spells, Shortest}
 use Rattle.base_bytes.proofs.ShortestLaws.{AllBytes, shortest_one}
-use Rattle.file_classes.proofs.EntryLaws.{entry_at}
 use Rattle.code_put.proofs.HandlerOnce.{two-parts}
-use Rattle.dex_value.proofs.ArrayOnce.{back_all, front_all}
 
 -- Of all lists of bytes one at most spells a value.
 abbrev pub IsSpelledOnce : {V : Type 0} → (List ℕ → V → Type 0) → Type 0

@@ -2,10 +2,9 @@
 use Rattle.std.proofs.Common.{◌≡◌, ℕ, zero, suc, ◌+◌, ◌<◌, ◌≤◌, List, [], ◌∷◌, ◌++◌, length, map, take, drop, get_or, refl, sym, ap, ◌∙◌, arith, subst, Bool, true, false}
 use Rattle.std.proofs.lemmas.List.{take_more, drop_more, take_all, drop_all}
 use Rattle.std.specs.Prelude.{MatchBool}
-use Rattle.file_layout.specs.Tiles.{Tiles, Done, Item}
+use Rattle.file_layout.specs.Tiles.{Tiles, Done, Item, gap}
 use Rattle.file_layout.specs.Sections.{Adds, AddsSome, Laying, Laid, wide_all, count_with}
 use Rattle.file_layout.proofs.SectionLaws.{Laying-more}
-use Rattle.file_layout.specs.Tiles.{gap}
 use Rattle.file_shared.specs.Once.{Entry}
 use Rattle.file_shared.specs.Sharing.{Sharing, UsesItem}
 use Rattle.file_shared.proofs.SharingLaws.{sharing_more, sharing_bound}
@@ -54,17 +53,6 @@ placed_more {V = V} none G align wide old out new vs i d places more place count
     let after = Laying-more none G align wide old out new (take i vs) (drop (i + 1) vs) vs (get_or vs i d) places place count items before front a small (n ∙ counted none G align out new (get_or vs i d) place count (longer none G align wide old out (take i vs) (drop i vs) vs places count l front) a) in
     subst (λ (ps : List ℕ). Laying none G align wide old new (take (i + 1) vs) (drop (i + 1) vs) vs ps items) (sym m)
     (subst (λ (done : List V). Laying none G align wide old new done (drop (i + 1) vs) vs (places ++ place ∷ []) items) (sym (take_more vs i d lt)) after)
-
--- one more value, of an element
-pub placed_of : {A V : Type 0} (g : A → V) (none : V → Bool) (G : List ℕ → V → Type 0) (align : ℕ) (wide : V → ℕ) (old out new : List ℕ) (xs : List A) (i : ℕ) (d : A) (places more : List ℕ) (place count items : ℕ)
-    → i < length xs → Laying none G align wide old out (map g (take i xs)) (map g (drop i xs)) (map g xs) places count → 0 < length old → AddsSome none G align out new (g (get_or xs i d)) place → length new ≤ length out + wide (g (get_or xs i d))
-    → more ≡ places ++ place ∷ [] → items ≡ items_with place count
-    → Laying none G align wide old new (map g (take (i + 1) xs)) (map g (drop (i + 1) xs)) (map g xs) more items
-placed_of {V = V} g none G align wide old out new xs i d places more place count items lt l front a small m n =
-    let before = subst (λ (rest : List V). Laying none G align wide old out (map g (take i xs)) rest (map g xs) places count) (map_drop g xs i d lt) l in
-    let after = Laying-more none G align wide old out new (map g (take i xs)) (map g (drop (i + 1) xs)) (map g xs) (g (get_or xs i d)) places place count items before front a small (n ∙ counted none G align out new (g (get_or xs i d)) place count (longer none G align wide old out (map g (take i xs)) (map g (drop i xs)) (map g xs) places count l front) a) in
-    subst (λ (ps : List ℕ). Laying none G align wide old new (map g (take (i + 1) xs)) (map g (drop (i + 1) xs)) (map g xs) ps items) (sym m)
-    (subst (λ (done : List V). Laying none G align wide old new done (map g (drop (i + 1) xs)) (map g xs) (places ++ place ∷ []) items) (sym (map_more g xs i d lt)) after)
 
 -- the room that is left, where one value stands at i
 pub room_at : {V : Type 0} (wide : V → ℕ) (vs : List V) (i : ℕ) (d : V) → i < length vs → wide (get_or vs i d) ≤ wide_all wide (drop i vs)

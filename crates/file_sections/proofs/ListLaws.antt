@@ -1,7 +1,6 @@
 -- Type lists by rank.
 use Rattle.std.proofs.Common.{◌≡◌, ℕ, ◌+◌, ◌*◌, ◌^◌, ◌<◌, ◌≤◌, List, [], ◌∷◌, ◌++◌, length, map, take, get_or, refl, sym, ap, ◌∙◌, arith, subst, true≢false, false, length-append, append-nil, append_assoc}
 use Rattle.std.proofs.lemmas.List.{length-map}
-use Rattle.std.specs.List.{AllByRecursion}
 use Rattle.base_bytes.specs.Fields.{u16_bytes, u32_bytes}
 use Rattle.base_bytes.specs.Grammar.{Appends}
 use Rattle.base_bytes.specs.Words.{halves_bytes}
@@ -13,20 +12,16 @@ use Rattle.program_types.specs.declared.names.Desc.{Desc}
 use Rattle.tables_names.specs.Closure.{AreRising, Five}
 use Rattle.tables_names.proofs.PlaceLemmas.{rank_at}
 use Rattle.tables_names.specs.Rank.{IsAt}
-use Rattle.tables_rows.proofs.HalvesLaws.{length-halves_bytes}
+use Rattle.tables_rows.proofs.HalvesLaws.{length-halves_bytes, indexes_unique}
 use Rattle.file_layout.specs.Tiles.{gap}
 use Rattle.file_layout.specs.Sections.{is_empty_list}
 use Rattle.file_layout.proofs.SectionLaws.{not_none}
 use Rattle.file_shared.specs.Once.{Entry, PutsOnce}
 use Rattle.file_shared.specs.Sharing.{UsesItem}
 use Rattle.tables_names.specs.Indices.{AreIndices}
-use Rattle.program_types.specs.Key.{Key}
-use Rattle.tables_rows.proofs.HalvesLaws.{indexes_unique}
-use Rattle.file_sections.specs.Lists.{AddsIndices}
-use Rattle.file_sections.specs.Lists.{SpellsRanks}
+use Rattle.file_sections.specs.Lists.{AddsIndices, SpellsRanks}
 use Rattle.file_limits.specs.Wide.{wide_list}
 use Rattle.code_put.proofs.RankLaws.{keys-one}
-use Rattle.code_put.proofs.HandlerPacks.{alone}
 use Rattle.code_put.proofs.DistinctLaws.{all-more}
 use Rattle.base_bytes.proofs.ListFacts.{zip_length, zip_more, map_more}
 

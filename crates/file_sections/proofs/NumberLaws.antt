@@ -1,5 +1,5 @@
 -- Which type list has which number, and that its types are held.
-use Rattle.std.proofs.Common.{◌≡◌, ℕ, zero, suc, ◌+◌, ◌-◌, ◌<◌, ◌≤◌, List, [], ◌∷◌, ◌++◌, length, map, get_or, refl, sym, ap, ◌∙◌, arith, subst, length-append, Some, None}
+use Rattle.std.proofs.Common.{◌≡◌, ℕ, zero, suc, ◌+◌, ◌-◌, ◌<◌, ◌≤◌, List, [], ◌∷◌, length, map, get_or, refl, sym, ap, ◌∙◌, arith, subst, length-append, Some, None}
 use Rattle.std.proofs.lemmas.List.{length-map, get_or-append_right, get_or_append_left}
 use Rattle.std.specs.List.{AllByRecursion, slice_get}
 use Rattle.file_limits.specs.Wide.{params_of, list_values}
@@ -11,8 +11,8 @@ use Rattle.tables_names.specs.Rank.{IsAt}
 use Rattle.tables_names.proofs.IndexLemmas.{closed_have_rows, mentions_have_indices}
 use Rattle.tables_names.proofs.NeededLemmas.{needed_is_least}
 use Rattle.file_needed.proofs.ClassNames.{interfaces_named}
-use Rattle.file_needed.proofs.Steps.{flat_kept, right, left}
-use Rattle.program_types.specs.Content.{Descriptor, Name, OfDesc, Class, Program, Units}
+use Rattle.file_needed.proofs.Steps.{flat_kept}
+use Rattle.program_types.specs.Content.{Descriptor, OfDesc, Class, Program, Units}
 use Rattle.program_types.specs.Key.{Key, text_key, proto_key}
 use Rattle.program_types.specs.Mentions.{mentions, names_of_class}
 use Rattle.program_types.specs.View as view

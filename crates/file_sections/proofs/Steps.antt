@@ -1,10 +1,7 @@
 -- Steps of loops over names.
-use Rattle.std.proofs.Common.{◌≡◌, ℕ, zero, suc, ◌+◌, ◌<◌, List, [], ◌∷◌, ◌++◌, map, take, get_or, length, arith, refl, Some}
-use Rattle.std.proofs.lemmas.List.{take_more, map-append}
-use Rattle.std.specs.List.{AllByRecursion, slice_get}
+use Rattle.std.proofs.Common.{◌≡◌, ℕ, zero, suc, ◌<◌, List, [], ◌∷◌, map, get_or, length, arith, refl, Some}
+use Rattle.std.specs.List.{slice_get}
 use Rattle.program_types.specs.declared.names.Str.{Str}
-use Rattle.file_limits.proofs.PartLaws.{map_map}
-use Rattle.base_bytes.proofs.ListFacts.{all_at, map_more}
 
 abbrev pub no_str : Str
 no_str = record { units = record { ref_ptr = (0, 0); now = [] } }

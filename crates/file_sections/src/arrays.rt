@@ -1,6 +1,6 @@
 // Static values.
 // Page: "Dalvik Executable format", "encoded_array_item".
-ghost use Rattle.std.specs.Prelude.{◌≡◌, ◌+◌, ◌<◌, ◌≤◌, ◌^◌, IfOk, OnOk, IsOkUnless, length, map};
+ghost use Rattle.std.specs.Prelude.{◌≡◌, ◌+◌, ◌<◌, ◌^◌, IfOk, IsOkUnless, length, map};
 ghost use Rattle.base_bytes.specs.Fault.{memory};
 ghost use Rattle.base_bytes.specs.Leb128.{Shortest};
 ghost use Rattle.file_layout.specs.Sections.{is_empty_list, wide_all, Laid};

@@ -19,7 +19,7 @@ ghost use Rattle.program_types.specs.Mentions.{field_of_class};
 ghost use Rattle.program_types.specs.View as view;
 ghost use Rattle.program_types.specs.Kinds.{HasIndex};
 ghost use Rattle.program_rules.specs.Rules.{KeysRise, MembersRise, member_key, method_key};
-ghost use Rattle.file_sections.specs.Data.{PacksData, has_no_members, method_count, with_code_places, wide_with_codes};
+ghost use Rattle.file_sections.specs.Data.{PacksData, has_no_members, with_code_places, wide_with_codes};
 ghost use Rattle.file_sections.specs.Growing.{AddsFields, AddsMethods};
 ghost use Rattle.file_sections.specs.Named.{FewNames, MembersHaveNames};
 

@@ -1,6 +1,6 @@
 // Bodies.
 // Page: "Dalvik Executable format", "code_item".
-ghost use Rattle.std.specs.Prelude.{◌≡◌, ℕ, ◌+◌, ◌<◌, ◌≤◌, ◌^◌, ◌++◌, List, Option, Some, IfOk, OnOk, IsOkUnless, length, map, option_map, slice_get};
+ghost use Rattle.std.specs.Prelude.{◌≡◌, ℕ, ◌+◌, ◌<◌, ◌^◌, ◌++◌, List, Option, Some, IfOk, OnOk, IsOkUnless, length, map, option_map, slice_get};
 ghost use Rattle.std.specs.List.{AllByRecursion};
 ghost use Rattle.base_bytes.specs.Fault.{memory};
 ghost use Rattle.file_layout.specs.Sections.{wide_all, Laid};
@@ -10,7 +10,6 @@ ghost use Rattle.program_types.specs.Content as content;
 ghost use Rattle.program_types.specs.View as view;
 ghost use Rattle.file_sections.specs.Codes.{is_bodiless, PacksBody, WritesBody};
 ghost use Rattle.file_sections.specs.Named.{BodyCanBePut};
-ghost use Rattle.file_shared.specs.Once.{Entry};
 ghost use Rattle.file_layout.specs.Tiles.{AreShared};
 ghost use Rattle.file_shared.specs.Sharing.{Sharing, UsesItem};
 

@@ -1,6 +1,6 @@
 // Texts.
 // Page: "Dalvik Executable format", "string_data_item".
-ghost use Rattle.std.specs.Prelude.{◌≡◌, ◌+◌, ◌<◌, ◌≤◌, ◌^◌, IfOk, OnOk, IsOkUnless, length};
+ghost use Rattle.std.specs.Prelude.{◌+◌, ◌<◌, ◌≤◌, ◌^◌, IfOk, OnOk, IsOkUnless, length};
 ghost use Rattle.base_bytes.specs.Fault.{memory};
 ghost use Rattle.dex_base.specs.Mutf8.{PacksText};
 ghost use Rattle.program_types.specs.View as view;

@@ -20,9 +20,9 @@ use Rattle.file_classes.proofs.OnceLaws.{one_of_kind}
 use Rattle.tables_rows.specs.Stands.{NameStands}
 use Rattle.program_types.specs.Content.{Name, Code, Units, Value, values}
 use Rattle.program_types.specs.Mentions.{names_of_code, names_of_value}
-use Rattle.tables_names.specs.Closure.{Five, AreRising, Holds, IsClosed, IsPart, closure_of, join, with_name, with_names}
-use Rattle.tables_names.proofs.FiveLemmas.{IsPart-refl, IsPart-trans, IsPart-right, part_adds_nothing}
-use Rattle.tables_names.proofs.NeededLemmas.{holds_part, names_append, with_names-grows, with_names-holds, with_names-least, closure_part}
+use Rattle.tables_names.specs.Closure.{Five, AreRising, Holds, IsClosed, closure_of, with_name, with_names}
+use Rattle.tables_names.proofs.FiveLemmas.{part_adds_nothing}
+use Rattle.tables_names.proofs.NeededLemmas.{holds_part, names_append, with_names-grows, with_names-holds, closure_part}
 use Rattle.tables_rows.specs.Kept.{AreKept}
 use Rattle.tables_numbers.specs.Marked.{AddsNames, HasMarks, Marked}
 use Rattle.file_strip.specs.Survey.{AreFound, ArrayIsFound, CodeIsFound, FindsNames, HasFound}
@@ -55,9 +55,6 @@ arrays_stay b s more m kept off n at = let c = kept off n at in record { wide = 
 
 pub finds_marked : (b : List ℕ) (old : Found) (marks : Marked) (ns : List Name) → AddsNames b old.marks marks ns → FindsNames b old (record old { marks = marks }) ns
 finds_marked b old marks ns f s a = record { marks = f s a.marks; codes = codes_stay b s ns old.codes a.codes; arrays = arrays_stay b s ns old.arrays a.arrays; section = a.section }
-
-pub finds_none : (b : List ℕ) (f : Found) → FindsNames b f f []
-finds_none b f s a = a
 
 pub finds_more : (b : List ℕ) (old mid new : Found) (xs ys : List Name) → FindsNames b old mid xs → FindsNames b mid new ys → FindsNames b old new (xs ++ ys)
 finds_more b old mid new xs ys f g s a = subst (AreFound b new) (sym (names_append s xs ys)) (g (with_names s xs) (f s a))

@@ -1,19 +1,17 @@
 // What the classes of a file mention, and how many bytes they take at most.
 // Page: "Dalvik Executable format", "class_def_item".
-ghost use Rattle.std.specs.Prelude.{◌≡◌, ◌∷◌, ◌++◌, ◌<◌, ℕ, List, Option, [], map, IfOk, OnOk, IsOkUnless};
+ghost use Rattle.std.specs.Prelude.{◌≡◌, ◌∷◌, ◌<◌, ℕ, List, Option, [], IfOk, OnOk, IsOkUnless};
 ghost use Rattle.std.specs.List.{flat_map};
 ghost use Rattle.base_bytes.specs.Fault.{memory};
 ghost use Rattle.dex_container.specs.Frame.{IsFramed};
 ghost use Rattle.dex_container.specs.Layout.{size_of};
 ghost use Rattle.dex_container.specs.Section as section;
 ghost use Rattle.program_types.specs.Content.{Class, OfDesc, OfText, Program, Units, Value, values};
-ghost use Rattle.program_types.specs.Mentions.{field_of_class, if_any, mentions, names_of_class, names_of_method, names_of_value};
-ghost use Rattle.tables_names.specs.Needed.{needed};
+ghost use Rattle.program_types.specs.Mentions.{if_any, names_of_class, names_of_value};
 ghost use Rattle.tables_rows.specs.Names.{AreRows};
 ghost use Rattle.tables_rows.specs.Stands.{StringStands, TypeStands};
-ghost use Rattle.tables_numbers.specs.Marked.{AddsNames, AreMarks, HasMarks};
+ghost use Rattle.tables_numbers.specs.Marked.{AddsNames, HasMarks};
 ghost use Rattle.dex_value.specs.Wide.{wide_values};
-ghost use Rattle.file_layout.specs.Sections.{wide_all};
 ghost use Rattle.file_limits.specs.Sum.{IsSum};
 ghost use Rattle.file_limits.specs.Wide.{wide_class};
 ghost use Rattle.file_classes.specs.ClassRows.{IndexOrNone};

@@ -1,6 +1,5 @@
 -- What is assembled is the file of its program.
 use Rattle.std.proofs.Common.{◌≡◌, ◌≢◌, ℕ, zero, suc, ◌≤◌, List, ap, arith, inr}
-use Rattle.std.specs.Prelude.{Err, IfOk, Ok, OnOk, Result}
 use Rattle.file_assemble.specs.Assembled.{Assembled}
 use Rattle.base_bytes.specs.Fault.{memory}
 use Rattle.base_bytes.specs.Fields.{AreBytes}
@@ -44,11 +43,6 @@ packed_file b p meant exactly whole = record {
 
 pub file_of : (b : List ℕ) (p : Program) → WellFormed p → Fits p → Assembled b (needed p) p → IsFileOf p b
 file_of b p well fits file = packed_file b p (means b p well fits file) (holds_exactly b p well file) (packed b p file well fits)
-
--- a value that is so where a fact holds
-pub with_fact : {A E : Type 0} (r : Result A E) (P : A → Type 0) (fact : Type 0) → OnOk r fact → IfOk r P → IfOk r (λ x. fact × P x)
-with_fact (Ok x) P fact f h = (f, h)
-with_fact (Err e) P fact f h = tt
 
 -- the file of what a file means
 pub stripped : (given made : List ℕ) (p : Program) → Means given p → Fits p → IsFileOf p made → IsStripped given made

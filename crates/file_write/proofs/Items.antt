@@ -1,13 +1,11 @@
 -- Items that are laid take values that have items.
-use Rattle.std.proofs.Common.{◌≡◌, ◌≢◌, ℕ, suc, ◌<◌, Bool, true, false, List, [], ◌∷◌, ◌++◌, map, refl, sym, ◌∙◌, subst, arith, Some, inl, inr}
+use Rattle.std.proofs.Common.{◌≡◌, ◌≢◌, ℕ, suc, ◌<◌, Bool, true, false, List, [], ◌∷◌, ◌++◌, map, refl, sym, subst, Some, inl, inr}
 use Rattle.std.specs.Prelude.{MatchBool, ◌==◌, ◌||◌, if◌then◌else◌}
 use Rattle.std.specs.List.{AllByRecursion, AllZip, fold, list_any, slice_get}
 use Rattle.std.proofs.lemmas.Bool.{eq-eqb}
-use Rattle.file_layout.specs.Tiles.{Among, Done, Item, Lays, Refers, Tiles, add_place, distinct_places}
-use Rattle.file_layout.proofs.TileLaws.{Tiles-among}
+use Rattle.file_layout.specs.Tiles.{Among, Lays, Refers, add_place, distinct_places}
 use Rattle.program_rules.proofs.AllLaws.{all-turned}
 use Rattle.code_put.proofs.DistinctLaws.{all-more}
-use Rattle.file_layout.proofs.LayingOnce.{one_there}
 
 -- ---- a place has one item
 

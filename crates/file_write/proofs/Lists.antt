@@ -5,7 +5,6 @@ use Rattle.file_limits.specs.Wide.{bodies_of, body_values}
 use Rattle.program_types.specs.Content.{Class, Code, Program}
 use Rattle.file_sections.specs.Data.{ClassWithCodes, method_count, with_code_places}
 use Rattle.file_sections.proofs.SitedLaws.{count_of_bodies, rest_after}
-use Rattle.code_put.proofs.DistinctLaws.{all-get}
 
 -- ---- two lists, element by element
 

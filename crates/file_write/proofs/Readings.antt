@@ -16,7 +16,7 @@ use Rattle.file_sections.specs.Named.{BodyCanBePut}
 use Rattle.file_sections.proofs.ListLaws.{named_one}
 use Rattle.program_rules.specs.WellFormed.{WellFormed}
 use Rattle.program_types.specs.Content.{Class, Code, Descriptor, FieldRef, Member, Method, MethodRef, Name, Program, Value}
-use Rattle.program_types.specs.Key.{Key, field_ref_key, method_ref_key, text_key}
+use Rattle.program_types.specs.Key.{field_ref_key, method_ref_key, text_key}
 use Rattle.tables_names.specs.Indices.{AreIndices}
 use Rattle.tables_names.specs.Needed.{needed}
 use Rattle.tables_names.specs.Rank.{IsAt}

@@ -1,7 +1,7 @@
 -- Items that are laid once each take no more room than all values would.
 use Rattle.std.proofs.Common.{◌≡◌, ◌≢◌, ℕ, ◌+◌, ◌<◌, ◌≤◌, Bool, true, false, List, [], ◌∷◌, ◌++◌, length, map, refl, sym, ap, ◌∙◌, subst, arith, append_assoc, append-nil, inl, inr}
 use Rattle.std.proofs.lemmas.List.{append_cancel_left}
-use Rattle.std.specs.Prelude.{MatchBool, ◌==◌, ◌||◌}
+use Rattle.std.specs.Prelude.{MatchBool, ◌==◌}
 use Rattle.std.specs.List.{AllByRecursion, AllZip, fold, list_any}
 use Rattle.dex_container.specs.Where.{slice}
 use Rattle.file_layout.specs.Sections.{wide_all}

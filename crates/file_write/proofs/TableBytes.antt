@@ -1,15 +1,14 @@
 -- Bytes are those of the numbers that they say, row by row.
-use Rattle.std.proofs.Common.{◌≡◌, ℕ, zero, suc, ◌+◌, ◌*◌, ◌/◌, ◌%◌, ◌<◌, ◌≤◌, List, [], ◌∷◌, ◌++◌, length, map, take, drop, get_or, refl, sym, ap, ◌∙◌, subst, arith, Some, append_assoc, append-nil, get_or-drop, length-append, length-drop, option_map, inl, inr}
+use Rattle.std.proofs.Common.{◌≡◌, ℕ, zero, suc, ◌+◌, ◌*◌, ◌/◌, ◌%◌, ◌<◌, ◌≤◌, List, [], ◌∷◌, ◌++◌, length, map, take, drop, get_or, refl, sym, ap, ◌∙◌, subst, arith, Some, length-append, length-drop, option_map, inl, inr}
 use Rattle.std.proofs.lemmas.Bool.{cases_lt}
 use Rattle.std.proofs.lemmas.Option.{slice_get-get_or, slice_get-map, slice_get_within}
-use Rattle.std.proofs.Math.Seq.{take-add}
 use Rattle.std.specs.List.{AllZip, slice_get}
 use Rattle.base_bytes.specs.Fields.{AreBytes, u16_at, u16_bytes, u32_at, u32_bytes}
 use Rattle.base_bytes.specs.Grammar.{Each}
 use Rattle.base_bytes.specs.Words.{words_bytes}
 use Rattle.base_bytes.proofs.FieldBounds.{u16_at-drop, u32_at-drop, drop-AreBytes}
 use Rattle.dex_container.specs.Where.{slice}
-use Rattle.file_layout.proofs.PartLaws.{drop_more, slice_more}
+use Rattle.file_layout.proofs.PartLaws.{slice_more}
 use Rattle.tables_rows.proofs.HalvesLaws.{u32_bytes-u32_at}
 use Rattle.file_write.specs.Packed.{words_of_rows}
 use Rattle.file_write.proofs.Retold.{zip_of}
@@ -28,14 +27,13 @@ word_bytes b place are low =
 
 first_half : (bytes : List ℕ) → AreBytes bytes → 2 ≤ length bytes → u16_bytes (u16_at bytes 0) ≡ take 2 bytes
 unfolding u16_bytes u16_at
-first_half [] are long = absurd (omega (arith, long))
-first_half (x ∷ []) are long = absurd (omega (arith, long))
 first_half (x ∷ y ∷ rest) are long =
     let a = are 0 in let c = are 1 in
     let n : ℕ = x + 256 * (y + 256 * 0) in
     let e0 : n % 256 ≡ x = omega (arith, a, c) in
     let e1 : n / 256 % 256 ≡ y = omega (arith, a, c) in
     (cc)
+first_half _ are long = absurd (omega (arith, long))
 
 pub half_bytes : (b : List ℕ) (place : ℕ) → AreBytes b → place + 2 ≤ length b → slice b place 2 ≡ u16_bytes (u16_at b place)
 unfolding slice

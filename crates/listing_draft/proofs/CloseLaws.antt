@@ -1,36 +1,16 @@
 -- Values of the static fields.
-use Rattle.std.proofs.Common.{◌≡◌, ℕ, zero, suc, ◌+◌, ◌<◌, ◌≤◌, Bool, true, false, ltb, if◌then◌else◌, List, [], ◌∷◌, ◌++◌, length, get_or, drop, take, map, refl, sym, ap, ◌∙◌, arith, add-one, drop-cons, drop_of_length-le}
-use Rattle.std.proofs.lemmas.Bool.{lt-ltb}
+use Rattle.std.proofs.Common.{◌≡◌, ℕ, zero, suc, ◌+◌, ◌<◌, ◌≤◌, ltb, if◌then◌else◌, List, [], ◌∷◌, ◌++◌, length, get_or, take, map, refl, sym, ap, ◌∙◌, arith}
 use Rattle.std.proofs.lemmas.List.{map-append, take_all, take_more, length-map}
 use Rattle.program_types.specs.View.{member, value}
 use Rattle.program_types.specs.declared.class.Member.{Member as Field}
 use Rattle.program_types.specs.declared.value.Value.{Value as Put}
-use Rattle.listing_draft.specs.Members.{Given, is_given, given_length, value_or_zero}
+use Rattle.listing_draft.specs.Members.{Given, value_or_zero}
 use Rattle.listing_draft.specs.View.{given}
 use Rattle.listing_draft.specs.declared.close.Given.{Given as Made}
 
 -- after i fields, of which the last with a value ends at n
 abbrev pub ends_at : ℕ → ℕ → ℕ → ℕ
 ends_at n i more = if ltb 0 more then i + more else n
-
-split : (more : ℕ) (b : Bool) (i n : ℕ) → ends_at n i (if ltb 0 more then more + 1 else (if b then 1 else 0)) ≡ ends_at (if b then i + 1 else n) (i + 1) more
-split zero true i n = refl
-split zero false i n = refl
-split (suc more) b i n =
-    let t : ltb 0 (suc more) ≡ true = lt-ltb 0 (suc more) (omega arith) in
-    let u : ltb 0 (suc more + 1) ≡ true = lt-ltb 0 (suc more + 1) (omega arith) in
-    rw (t, u) (omega arith)
-
-pub given_more : (all : List Made) (i n : ℕ) (x : Made) → i < length all
-    → ends_at n i (given_length (map given (drop i all))) ≡ ends_at (if is_given (given (get_or all i x)) then i + 1 else n) (i + 1) (given_length (map given (drop (i + 1) all)))
-unfolding given_length
-given_more all i n x h =
-    let d : drop i all ≡ get_or all i x ∷ drop (i + 1) all = rw add-one (drop-cons all i x h) in
-    rw d (split (given_length (map given (drop (i + 1) all))) (is_given (given (get_or all i x))) i n)
-
-pub given_end : (all : List Made) (i n : ℕ) → length all ≤ i → ends_at n i (given_length (map given (drop i all))) ≡ n
-unfolding given_length
-given_end all i n h = rw (drop_of_length-le all {i = i} h) refl
 
 -- ---- what is placed
 

@@ -1,6 +1,6 @@
 //! What is whole is placed in the arena.
 
-ghost use Rattle.std.specs.Prelude.{◌≡◌, ◌∷◌, ◌≤◌, length, map, take, IfOk, OnOk, IsOkUnless, Some};
+ghost use Rattle.std.specs.Prelude.{◌≡◌, ◌∷◌, ◌≤◌, length, map, IfOk, IsOkUnless, Some};
 ghost use Rattle.base_bytes.specs.Fault.{memory};
 ghost use Rattle.program_types.specs.Key.{proto_key};
 ghost use Rattle.program_types.specs.View.{desc, str, proto, member, method, value, class, code};
@@ -72,7 +72,7 @@ fn place_values<'a>(alloc: &'a Bump, all: &[Given<'a>]) -> Result<&'a [Value<'a>
     ensures memory { IsOkUnless result memory }
 {
     let n = given_length(all);
-    let mut values = Vec::new(alloc);
+    let mut values = Vec::with_capacity(alloc, n)?;
     for i in 0..n {
         values.push(value_or_zero(&all[i]))?;
     }
@@ -83,7 +83,7 @@ fn place_fields<'a>(alloc: &'a Bump, all: &[Given<'a>]) -> Result<&'a [Member<'a
     ensures ok { IfOk result (λ ms. map member ms.now ≡ map (λ g. g.field) (map given all.now)) }
     ensures memory { IsOkUnless result memory }
 {
-    let mut fields = Vec::new(alloc);
+    let mut fields = Vec::with_capacity(alloc, all.len())?;
     for i in 0..all.len() {
         fields.push(all[i].field)?;
     }
@@ -98,7 +98,7 @@ fn givens_of<'a>(
     ensures ok { IfOk result (λ gs. map given gs.now ≡ map held_static all.now.entries) }
     ensures memory { IsOkUnless result memory }
 {
-    let mut fields = Vec::new(alloc);
+    let mut fields = Vec::with_capacity(alloc, all.len())?;
     for (key, held) in all {
         let field = Member {
             name: key.0,
@@ -121,7 +121,7 @@ fn instances_of<'a>(
     ensures ok { IfOk result (λ ms. map member ms.now ≡ map held_instance all.now.entries) }
     ensures memory { IsOkUnless result memory }
 {
-    let mut fields = Vec::new(alloc);
+    let mut fields = Vec::with_capacity(alloc, all.len())?;
     for (key, flags) in all {
         fields.push(Member {
             name: key.0,
@@ -140,7 +140,7 @@ fn methods_of<'a>(
     ensures ok { IfOk result (λ ms. map method ms.now ≡ map held_method all.now.entries) }
     ensures memory { IsOkUnless result memory }
 {
-    let mut methods = Vec::new(alloc);
+    let mut methods = Vec::with_capacity(alloc, all.len())?;
     for (key, held) in all {
         methods.push(Method {
             name: key.0,

@@ -1,6 +1,6 @@
 //! A listing that is being read.
 
-ghost use Rattle.std.specs.Prelude.{◌≡◌, Option, Some, None, Bool, IfOk, IsOkUnless, MatchBool};
+ghost use Rattle.std.specs.Prelude.{◌≡◌, Option, Some, None, IfOk, IsOkUnless, MatchBool};
 ghost use Rattle.base_bytes.specs.Fault.{memory};
 
 use crate::block::Block;

@@ -1,5 +1,5 @@
 -- Words that have a shape in the second form are neither its first line nor a label's line.
-use Rattle.std.proofs.Common.{◌≡◌, ℕ, zero, suc, ◌&&◌, Bool, true, false, not, inl, inr, List, [], ◌∷◌, length, get_or, Some, None, refl, ap, subst, ◌∙◌, codes}
+use Rattle.std.proofs.Common.{◌≡◌, ℕ, ◌&&◌, Bool, true, false, not, inl, inr, List, [], ◌∷◌, length, Some, None, refl, ap, subst, ◌∙◌, codes}
 use Rattle.std.specs.List.{AllByRecursion, list_all}
 use Rattle.dex_insn.specs.Mnemonics.{IsNamed, mnemonics}
 use Rattle.listing_words.specs.Words.{Word, plain_word}

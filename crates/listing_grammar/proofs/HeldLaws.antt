@@ -27,9 +27,8 @@ not_below_itself : (k : Key) → key_cmp k k ≡ Less → ⊥
 not_below_itself k e = let f = tied k in cc
 
 is_greater : (o : Ordering) → is_lt o ≡ false → is_eq o ≡ false → o ≡ Greater
-is_greater Less e f = absurd cc
-is_greater Equal e f = absurd cc
 is_greater Greater e f = refl
+is_greater _ e f = absurd cc
 
 -- k isn't below q nor equal to it.
 is_above : (k q : Key) → is_lt (key_cmp k q) ≡ false → is_eq (key_cmp k q) ≡ false → key_cmp q k ≡ Less

@@ -295,15 +295,11 @@ NoneAhead (among labels ahead k) = ahead ≡ []
 NoneAhead _ = Unit {0}
 
 none_ahead : {w : Where} {n : ℕ} {ls : List (List ℕ)} {xs : List Numbered} → SayLines One w n ls xs → NoneAhead w
-none_ahead no_lines = tt
 none_ahead (silent e d) = none_ahead d
-none_ahead (one_line s o d) = tt
-none_ahead (code_line s u d) = tt
 none_ahead (label_line m d) = let h = m.second in absurd cc
 none_ahead (one_insn s d) = none_ahead d
 none_ahead (no_insn d) = refl
-none_ahead (of_try s t d) = tt
-none_ahead (code_end s d) = tt
+none_ahead _ = tt
 
 -- ---- the labels of a code that begins
 

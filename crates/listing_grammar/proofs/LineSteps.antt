@@ -1,5 +1,5 @@
 -- A line of a text, as the reader takes it, and what it says of the program.
-use Rattle.std.proofs.Common.{◌≡◌, ℕ, ◌+◌, ◌&&◌, ◌||◌, Bool, true, false, ◌⊎◌, inl, inr, if◌then◌else◌, List, [], ◌∷◌, ◌++◌, length, Option, Some, None, option_map, refl, sym, ap, ◌∙◌}
+use Rattle.std.proofs.Common.{◌≡◌, ℕ, ◌+◌, Bool, true, false, ◌⊎◌, inl, inr, if◌then◌else◌, List, [], ◌∷◌, ◌++◌, length, Option, Some, None, option_map, refl, sym, ap, ◌∙◌}
 use Rattle.std.proofs.lemmas.List.{length-append}
 use Rattle.program_types.specs.Content.{Class}
 use Rattle.listing_words.specs.Words.{Word, HasWords}
@@ -25,7 +25,6 @@ use Rattle.listing_grammar.specs.Texts.{is_numbered, SaysLine}
 use Rattle.listing_grammar.specs.Runs.{line_stands, Steps}
 use Rattle.listing_grammar.proofs.AsideLaws.{no_aside}
 use Rattle.listing_grammar.proofs.LateLaws.{mapped, chosen}
-use Rattle.base_bytes.proofs.ListFacts.{or_right}
 use Rattle.dex_base.proofs.LowPoints.{both}
 
 -- A listing that was read to this state.
@@ -41,32 +40,11 @@ insn_said _ = false
 stands_as : (st : Stage) (k : Kind) (ds : List Datum) → may_stand st k ≡ line_stands st (line_of k ds)
 unfolding may_stand line_of
 stands_as st kind.First ds = refl
-stands_as st kind.OpenClass ds = refl
-stands_as st kind.EndClass ds = refl
-stands_as st kind.Super ds = refl
-stands_as st kind.Implements ds = refl
-stands_as st kind.Source ds = refl
-stands_as st kind.Static ds = refl
-stands_as st kind.Given ds = refl
-stands_as st kind.Instance ds = refl
-stands_as st kind.Direct ds = refl
-stands_as st kind.Virtual ds = refl
-stands_as st kind.OpenCode ds = refl
-stands_as st kind.EndCode ds = refl
-stands_as st (kind.Plain op) ds = refl
-stands_as st kind.Packed ds = refl
-stands_as st kind.Sparse ds = refl
-stands_as st kind.Elements ds = refl
-stands_as st kind.Try ds = refl
-stands_as st kind.Catch ds = refl
-stands_as st kind.CatchAll ds = refl
+stands_as st _ ds = refl
 
 pub insn_as : (k : Kind) (ds : List Datum) → is_insn k ≡ insn_said (line_of k ds)
 unfolding line_of
 insn_as (kind.Plain op) ds = refl
-insn_as kind.Packed ds = refl
-insn_as kind.Sparse ds = refl
-insn_as kind.Elements ds = refl
 insn_as _ ds = refl
 
 -- The labels after this line.
@@ -170,12 +148,9 @@ out_is (in_code o b after_try) e = absurd cc
 out_is (in_code o b (in_try t)) e = absurd cc
 
 pub insns_is : (b : Block) (k : ℕ) → part_of b ≡ insns k → (stage_of b ≡ Insns) × (insn_count b ≡ k)
-insns_is at_start k e = absurd cc
-insns_is at_top k e = absurd cc
-insns_is (in_class o p) k e = absurd cc
 insns_is (in_code o b at_insns) k e = (refl, cc)
 insns_is (in_code o b after_try) k e = absurd cc
-insns_is (in_code o b (in_try t)) k e = absurd cc
+insns_is _ k e = absurd cc
 
 pub later_is : (b : Block) → part_of b ≡ later → (stage_of b ≡ Tries) ⊎ (stage_of b ≡ Caught)
 later_is at_start e = absurd cc

@@ -117,14 +117,6 @@ all_joined : (P : Code → Type 0) (xs ys : List Code) → AllByRecursion P xs �
 all_joined P [] ys h k = k
 all_joined P (x ∷ xs) ys h k = (h.0, all_joined P xs ys h.1 k)
 
-all_front : (P : Code → Type 0) (xs ys : List Code) → AllByRecursion P (xs ++ ys) → AllByRecursion P xs
-all_front P [] ys h = tt
-all_front P (x ∷ xs) ys h = (h.0, all_front P xs ys h.1)
-
-all_back : (P : Code → Type 0) (xs ys : List Code) → AllByRecursion P (xs ++ ys) → AllByRecursion P ys
-all_back P [] ys h = h
-all_back P (x ∷ xs) ys h = all_back P xs ys h.1
-
 -- ---- what is read is the text of members
 
 -- The class with these members.

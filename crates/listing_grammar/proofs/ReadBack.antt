@@ -163,10 +163,6 @@ skip_gives at_later form es s t l ls q g = (g.0, silent q g.1, again (counted s)
 off_line : (n : ℕ) (l : Label) (o : Option Label) → o ≡ Some l → l.line ≤ n → is_on (n + 1) o ≡ true → ⊥
 off_line n l o e h q = let z : (l.line == n + 1) ≡ true = rw e at q in let y : l.line ≡ n + 1 = eqb-true l.line (n + 1) z in omega arith
 
-no_second : (form : Form) → is_two form ≡ true → form ≡ Two
-no_second One e = absurd cc
-no_second Two e = refl
-
 -- The label on the next line.
 abbrev label_at : List ℕ → State → ℕ → Label
 label_at name s k = record { name = name; line = s.lines + 1; number = k }
@@ -207,9 +203,6 @@ mark_gives at_later form es s l ls t ws f q h m hyp r = by (later_is s.block f.1
 -- What was read after the line, as the form and the number of lines that are known.
 abbrev After : Form → List Label → State → List (List ℕ) → Reading → Type 0
 After form es s ls t = (st : Stand) → Fits st form es s ls → Gives st form es s.lines s ls t.base
-
-renamed : (f g : Form) (w : Where) (n m : ℕ) (ls : List (List ℕ)) (xs : List Numbered) → f ≡ g → n ≡ m → SayLines f w n ls xs → SayLines g w m ls xs
-renamed f g w n m ls xs e h d = subst (λ z. SayLines g w z ls xs) h (subst (λ z. SayLines z w n ls xs) e d)
 
 -- Outside of codes.
 plain_gives : (form : Form) (es : List Label) (s : State) (l : List ℕ) (ls : List (List ℕ)) (t : Reading) (x : Line) (u : State) → Fits at_out form es s (l ∷ ls) → SaysLine form es (insn_count s.block) l x → Steps s (s.lines + 1) x u → u.lines ≡ s.lines + 1

@@ -1,8 +1,7 @@
 -- Lines of a text, and what reading them makes.
-use Rattle.std.proofs.Common.{◌≡◌, ◌≢◌, ℕ, suc, ◌+◌, ◌<◌, ◌≤◌, List, [], ◌∷◌, ◌++◌, length, get_or, drop, refl, ap, ◌∙◌, arith, add-one, drop-cons, drop_of_length-le}
+use Rattle.std.proofs.Common.{◌≡◌, ◌≢◌, ℕ, suc, ◌+◌, ◌<◌, List, [], ◌∷◌, ◌++◌, length, get_or, drop, refl, ap, ◌∙◌, arith}
 use Rattle.std.proofs.lemmas.List.{append-nil}
-use Rattle.std.proofs.lemmas.Bool.{eq-eqb, ne_eqb}
-use Rattle.listing_words.specs.Words.{after_spaces}
+use Rattle.std.proofs.lemmas.Bool.{ne_eqb}
 use Rattle.listing_labels.specs.Lines.{with_byte, lines}
 
 lines_more : (c : ℕ) (cs : List ℕ) → c ≢ 10 → lines (c ∷ cs) ≡ with_byte c (lines cs)
@@ -47,16 +46,3 @@ line_alone text line (c ∷ after) e p n h = absurd (omega (arith, n))
 pub no_lines : (text : List ℕ) → length text ≡ 0 → lines text ≡ []
 no_lines [] h = lines_end
 no_lines (c ∷ cs) h = absurd (omega arith)
-
-pub spaces_more : (line : List ℕ) (i : ℕ) → i < length line → get_or line i 0 ≡ 32 → after_spaces (drop i line) ≡ after_spaces (drop (i + 1) line)
-spaces_more line i h e =
-    let d : drop i line ≡ get_or line i 0 ∷ drop (i + 1) line = rw add-one (drop-cons line i 0 h) in
-    rw (d, eq-eqb (get_or line i 0) 32 e) refl
-
-pub spaces_end : (line : List ℕ) (i : ℕ) → i < length line → get_or line i 0 ≢ 32 → after_spaces (drop i line) ≡ get_or line i 0 ∷ drop (i + 1) line
-spaces_end line i h n =
-    let d : drop i line ≡ get_or line i 0 ∷ drop (i + 1) line = rw add-one (drop-cons line i 0 h) in
-    rw (d, ne_eqb (get_or line i 0) 32 n) refl
-
-pub spaces_all : (line : List ℕ) (i : ℕ) → length line ≤ i → after_spaces (drop i line) ≡ []
-spaces_all line i h = rw (drop_of_length-le line {i = i} h) refl

@@ -2,13 +2,13 @@
 use Rattle.std.proofs.Common.{◌≡◌, ℕ, zero, suc, ◌+◌, ◌-◌, ◌<◌, true, false, inl, inr, List, [], ◌∷◌, ◌++◌, length, map, get_or, slice_get, Option, Some, None, is_some, Result, Ok, Err, MatchResult, refl, sym, ap, ◌∙◌, arith, true≢false, nat_cmp}
 use Rattle.std.specs.Borrow.{Bor}
 use Rattle.std.specs.declared.cmp.Ordering.{Ordering}
-use Rattle.std.specs.declared.cmp.Ordering.TheVariants.{Less, Equal, Greater}
+use Rattle.std.specs.declared.cmp.Ordering.TheVariants.{Less, Equal}
 use Rattle.std.specs.Ordering.{is_lt, is_eq, ordering_reverse, ordering_then}
 use Rattle.std.specs.Cmp.{IsTotalOrder}
 use Rattle.std.specs.Cmp.Lexicographic.{slice_cmp}
 use Rattle.std.specs.List.{AllByRecursion}
 use Rattle.std.specs.List.Sorted.{IsStrictlySortedBy, IsSortedBy, IsBinarySearchResult, IsSearchInRange}
-use Rattle.std.proofs.lemmas.Bool.{eq-eqb, and_parts, and_from, and_right, cases_Bool, cases_lt}
+use Rattle.std.proofs.lemmas.Bool.{and_parts, and_from, and_right, cases_Bool, cases_lt}
 use Rattle.std.proofs.Math.Bool.{and-true}
 use Rattle.std.proofs.lemmas.Cmp.{then_total, on_total, nat_cmp_total, nat_list_cmp_total, tied_itself}
 use Rattle.std.proofs.lemmas.List.{get_or-map, length-map, append-nil, append_assoc}
@@ -30,9 +30,6 @@ shortlex_total = then_total (on_total (λ (n : List ℕ). length n) nat_cmp_tota
 abbrev by_name : Label → Label → Ordering
 by_name a b = shortlex a.name b.name
 
-by_name_total : IsTotalOrder by_name
-by_name_total = on_total (λ (l : Label). l.name) shortlex_total
-
 -- ---- names that are apart
 
 apart : (n m : List ℕ) → is_eq (shortlex m n) ≡ false → same n m ≡ false
@@ -45,13 +42,11 @@ apart n m h = elim (cases_Bool (same n m)) [
 
 pub lt_less : (o : Ordering) → is_lt o ≡ true → o ≡ Less
 lt_less Less e = refl
-lt_less Equal e = absurd cc
-lt_less Greater e = absurd cc
+lt_less _ e = absurd cc
 
 then_equal : (o p : Ordering) → ordering_then o p ≡ Equal → p ≡ Equal
-then_equal Less p e = absurd cc
 then_equal Equal p e = e
-then_equal Greater p e = absurd cc
+then_equal _ p e = absurd cc
 
 equal_same : (m n : List ℕ) → shortlex m n ≡ Equal → m ≡ n
 equal_same m n e = exact_bytes m n (then_equal (nat_cmp (length m) (length n)) (slice_cmp nat_cmp m n) e)
@@ -86,10 +81,6 @@ above_by_last (x ∷ xs) n e up s =
     let g : get_or (x ∷ xs) i e ≡ e = get_or_from_slice_get (x ∷ xs) i e e (sym s) in
     let m : get_or (map label (x ∷ xs)) i (label e) ≡ label e = get_or-map label (x ∷ xs) i e (label e) (omega arith) ∙ ap label g in
     ap (λ (l : Label). is_lt (shortlex l.name n)) (sym m) ∙ above_last (map label (x ∷ xs)) n i (label e) up (rw length-map (omega arith))
-
-pub above_none : (xs : List (Bor (List ℕ) × Place)) (n : List ℕ) → None ≡ slice_get xs (length xs - 1) → true ≡ is_above (map label xs) n
-above_none [] n s = refl
-above_none (x ∷ xs) n s = let t : None ≡ Some (get_or (x ∷ xs) (length (x ∷ xs) - 1) x) = s ∙ slice_get-get_or (x ∷ xs) (length (x ∷ xs) - 1) x (omega arith) in absurd cc
 
 all_push : (ls : List Label) (l m : Label) → AllByRecursion (λ (x : Label). shortlex l.name x.name ≡ Less) ls → shortlex l.name m.name ≡ Less → AllByRecursion (λ (x : Label). shortlex l.name x.name ≡ Less) (ls ++ m ∷ [])
 all_push [] l m a e = (e, tt)

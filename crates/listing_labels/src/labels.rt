@@ -1,10 +1,11 @@
 //! Labels: how they are spelled, what they mark, and what words say where they stand.
 
-ghost use Rattle.std.specs.Prelude.{◌≡◌, ◌<◌, ◌≤◌, ◌+◌, ◌^◌, [], List, Some, map, length, IfOk, IfSome, IfNone, OnOk, IsOkUnless, option_map};
+ghost use Rattle.std.specs.Prelude.{◌≡◌, ◌<◌, ◌+◌, ◌^◌, ◌∷◌, [], Some, map, length, IfOk, IfSome, IfNone, OnOk, IsOkUnless};
 ghost use Rattle.base_bytes.specs.Fault.{memory};
 ghost use Rattle.listing_words.specs.Words.{after_spaces, up_to_space};
 ghost use Rattle.listing_words.specs.View.{word};
 ghost use Rattle.listing_slots.specs.Data.{Datum as Said};
+ghost use Rattle.listing_slots.specs.ValidNames.{IsValidDatum, StayValid};
 ghost use Rattle.listing_slots.specs.View.{datum};
 ghost use Rattle.listing_slots.specs.Slots.{SpellsSlot};
 ghost use Rattle.listing_slots.specs.declared.slot.Slot.TheVariants as Slot;
@@ -166,6 +167,7 @@ fn is_target(slot: Slot) -> bool
 fn read_label<'a>(labels: &Labels<'_>, near: usize, one: Word<'a, '_>) -> Option<Datum<'a>>
     ensures found { IfSome result (λ d. says.SpellsLabel labels.now (word one.entry) (datum d)) }
     ensures none { IfNone result ((d : Said) → says.SpellsLabel labels.now (word one.entry) d → ⊥) }
+    ensures valid { IfSome result (λ d. IsValidDatum (datum d)) }
 {
     match one {
         Word::Plain(text) => {
@@ -182,6 +184,7 @@ fn read_label<'a>(labels: &Labels<'_>, near: usize, one: Word<'a, '_>) -> Option
 fn read_byte<'a>(mark: Mark, most: u8, one: Word<'_, '_>) -> Option<Datum<'a>>
     ensures found { IfSome result (λ d. SpellsSlot (Slot.Byte mark most) (word one.entry) (datum d)) }
     ensures none { IfNone result ((d : Said) → SpellsSlot (Slot.Byte mark most) (word one.entry) d → ⊥) }
+    ensures valid { IfSome result (λ d. IsValidDatum (datum d)) }
 {
     match read_marked(mark, one, most as u64) {
         Some(n) => Some(Datum::Byte(n as u8)),
@@ -200,6 +203,7 @@ fn read_here<'a, 'b>(
 ) -> Result<Option<Datum<'a>>, Fault>
     ensures found { IfOk result (λ r. IfSome r (λ d. SpellsHere labels.now slot (word one.entry) (datum d))) }
     ensures none { IfOk result (λ r. IfNone r ((d : Said) → SpellsHere labels.now slot (word one.entry) d → ⊥)) }
+    ensures valid { IfOk result (λ r. IfSome r (λ d. StayValid spelled.old spelled.new (datum d ∷ []))) }
     ensures memory { IsOkUnless result memory }
 {
     if is_target(slot) {
@@ -236,6 +240,7 @@ pub fn read_all<'a, 'b>(
     requires { length slots.now ≡ length words.now }
     ensures all { IfOk result (λ r. IfNone r (SpellsAll labels.now slots.now (map word words.now) (map datum says.new.items))) }
     ensures bad { IfOk result (λ r. IfSome r (λ code. MisspellsAll labels.now slots.now (map word words.now) code)) }
+    ensures valid { IfOk result (λ r. IfNone r (StayValid spelled.old spelled.new (map datum says.new.items))) }
     ensures memory { IsOkUnless result memory }
 {
     says.clear();

@@ -1,8 +1,7 @@
 //! Lines of a text.
 
-ghost use Rattle.std.specs.Prelude.{◌≡◌, ◌<◌, ◌∷◌, [], List, ℕ, length, IfSome, IfNone};
+ghost use Rattle.std.specs.Prelude.{◌≡◌, ◌<◌, ◌∷◌, [], length, IfSome, IfNone};
 ghost use Rattle.listing_labels.specs.Lines.{lines, is_skipped};
-ghost use Rattle.listing_words.specs.Words.{after_spaces};
 
 use listing_words::split_before;
 

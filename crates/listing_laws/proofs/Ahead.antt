@@ -1,13 +1,12 @@
 -- The labels ahead of the printed instructions of a code are those that were printed.
-use Rattle.std.proofs.Common.{◌≡◌, ◌≢◌, ℕ, ◌+◌, ◌<◌, ◌≤◌, ◌^◌, if◌then◌else◌, Bool, true, false, ◌⊎◌, inl, inr, List, [], ◌∷◌, ◌++◌, length, Some, None, refl, sym, ap, ◌∙◌, append_assoc, arith}
-use Rattle.std.specs.List.{AllByRecursion}
+use Rattle.std.proofs.Common.{◌≡◌, ◌≢◌, ℕ, ◌+◌, ◌<◌, ◌≤◌, ◌^◌, if◌then◌else◌, true, false, inl, inr, List, [], ◌∷◌, ◌++◌, length, Some, None, refl, sym, ap, ◌∙◌, append_assoc, arith}
 use Rattle.std.specs.Fmt.{decimal}
 use Rattle.std.specs.Str.Parse.{digits_value}
 use Rattle.std.proofs.lemmas.Fmt.{decimal_is_IsNumeral}
-use Rattle.std.proofs.lemmas.Bool.{cases_eq, ne_eqb}
+use Rattle.std.proofs.lemmas.Bool.{cases_eq}
 use Rattle.std.proofs.lemmas.List.{append-nil}
 use Rattle.program_types.specs.Content.{Insn}
-use Rattle.listing_words.specs.Words.{Word, plain_word, after_spaces, up_to_space, IsGraphic, IsWritable, line_bytes}
+use Rattle.listing_words.specs.Words.{Word, plain_word, up_to_space, IsWritable, line_bytes}
 use Rattle.listing_slots.specs.Keys.{key_text, same}
 use Rattle.listing_slots.proofs.ShownLaws.{same_refl}
 use Rattle.listing_lines.specs.declared.form.Form.TheVariants.{Two}

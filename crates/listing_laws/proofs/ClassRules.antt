@@ -40,13 +40,12 @@ mutual
   value_fits (content.Char n) r w = (refl, ((omega arith, omega arith), tt))
   value_fits (content.Int z) r w = (refl, (signed32 z r, tt))
   value_fits (content.Long z) r w = (refl, (signed64 z r, tt))
-  value_fits (content.Float n) r w = (refl, (r, tt))
-  value_fits (content.Double n) r w = (refl, (r, tt))
   value_fits (content.Named n) r w = named_fits n w.0
   value_fits (content.Enum f) r w = (refl, (name_fits (OfField f) w.0, tt))
   value_fits (content.Array vs) r w = (refl, (refl, operands_append (values_operands vs) (keyword key.Close ∷ []) (values_fit vs r w) (refl, tt)))
   value_fits content.Null r w = (refl, tt)
   value_fits (content.Boolean b) r w = (refl, tt)
+  value_fits _ r w = (refl, (r, tt))
 
   values_fit : (vs : Values) → ValuesInRange vs → AllByRecursion IsNamed (names_of_values vs) → FitOperands (values_operands vs)
   values_fit no_values r w = tt

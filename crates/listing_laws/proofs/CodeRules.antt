@@ -1,5 +1,5 @@
 -- A well-formed code is written.
-use Rattle.std.proofs.Common.{ℕ, zero, suc, ◌<◌, ◌≤◌, List, [], ◌∷◌, ◌++◌, length, map, Option, Some, None, IfSome, arith}
+use Rattle.std.proofs.Common.{ℕ, zero, suc, ◌<◌, ◌≤◌, List, [], ◌∷◌, length, map, Option, Some, None, IfSome, arith}
 use Rattle.std.specs.List.{AllByRecursion, flat_map}
 use Rattle.program_types.specs.Content.{OfDesc, Insn, Catch, Try, Code}
 use Rattle.program_types.specs.Formed.{insn_at, try_at, TryFormed, IsFormed}

@@ -1,5 +1,5 @@
 -- Instructions whose operands fit their formats are written.
-use Rattle.std.proofs.Common.{◌≡◌, ℕ, zero, suc, ◌+◌, ◌-◌, ◌<◌, ◌≤◌, ◌^◌, ℤ, pos, negsuc, neg_ℤ, ◌≤ℤ◌, ◌<ℤ◌, List, [], ◌∷◌, ◌++◌, length, get_or, take, drop, replicate, map, Option, Some, None, refl, ap, arith}
+use Rattle.std.proofs.Common.{◌≡◌, ℕ, zero, suc, ◌+◌, ◌-◌, ◌<◌, ◌≤◌, ◌^◌, ℤ, pos, negsuc, neg_ℤ, ◌≤ℤ◌, ◌<ℤ◌, List, [], ◌∷◌, ◌++◌, length, get_or, take, drop, replicate, map, Option, Some, refl, ap, arith}
 use Rattle.std.specs.Prelude.{FitsSigned}
 use Rattle.std.specs.Int.{w8, w16, w32, w64}
 use Rattle.std.specs.List.{AllByRecursion}
@@ -57,23 +57,11 @@ signed64 (negsuc n) h = omega (arith, ints)
 -- ---- names of a kind
 
 kind_fits : (o : Option IndexKind) (which : Name) → IsOfIndexKind o which → (name_operand which).slot ≡ name_slot o
-kind_fits None which h = absurd h
 kind_fits (Some index.String) (OfText us) h = refl
 kind_fits (Some index.Type) (OfDesc d) h = refl
 kind_fits (Some index.Field) (OfField f) h = refl
 kind_fits (Some index.Method) (OfMethod m) h = refl
-kind_fits (Some index.String) (OfDesc d) h = absurd h
-kind_fits (Some index.String) (OfField f) h = absurd h
-kind_fits (Some index.String) (OfMethod m) h = absurd h
-kind_fits (Some index.Type) (OfText us) h = absurd h
-kind_fits (Some index.Type) (OfField f) h = absurd h
-kind_fits (Some index.Type) (OfMethod m) h = absurd h
-kind_fits (Some index.Field) (OfText us) h = absurd h
-kind_fits (Some index.Field) (OfDesc d) h = absurd h
-kind_fits (Some index.Field) (OfMethod m) h = absurd h
-kind_fits (Some index.Method) (OfText us) h = absurd h
-kind_fits (Some index.Method) (OfDesc d) h = absurd h
-kind_fits (Some index.Method) (OfField f) h = absurd h
+kind_fits _ _ h = absurd h
 
 kind_is : (op : ℕ) (which : Name) → IsOfIndexKind (index_kind_of op) which → IsNameOfOpcode op which
 kind_is op which h = kind_fits (index_kind_of op) which h

@@ -1,9 +1,8 @@
 -- A printed instruction is read as that instruction, in both forms.
-use Rattle.std.proofs.Common.{◌≡◌, ◌≢◌, ℕ, zero, suc, ◌+◌, ◌<◌, ◌≤◌, ◌^◌, ◌==◌, ◌&&◌, Bool, true, false, inr, List, [], ◌∷◌, ◌++◌, length, get_or, Some, refl, sym, ap, subst, ◌∙◌, append_assoc, arith}
+use Rattle.std.proofs.Common.{◌≡◌, ◌≢◌, ℕ, ◌+◌, ◌<◌, ◌≤◌, ◌^◌, ◌==◌, ◌&&◌, Bool, true, false, inr, List, [], ◌∷◌, ◌++◌, length, Some, refl, sym, ap, subst, ◌∙◌, append_assoc, arith}
 use Rattle.std.specs.Prelude.{codes}
 use Rattle.std.specs.List.{AllByRecursion, list_all}
 use Rattle.std.specs.Fmt.{decimal}
-use Rattle.std.specs.Char.{digit_value}
 use Rattle.std.specs.Str.Parse.{AllDigits}
 use Rattle.std.proofs.lemmas.Fmt.{decimal_is_IsNumeral}
 use Rattle.std.proofs.lemmas.Bool.{ne_eqb}
@@ -26,7 +25,7 @@ use Rattle.listing_slots.specs.Data.{said}
 use Rattle.listing_slots.proofs.ShownLaws.{shown_written, number_written, digit_range}
 use Rattle.listing_lines.specs.Lines.{insn_line}
 use Rattle.listing_lines.specs.declared.stage.Stage.{Stage}
-use Rattle.listing_lines.specs.declared.stage.Stage.TheVariants.{Start, Top, Heads, Members, After, Insns, Tries, Caught}
+use Rattle.listing_lines.specs.declared.stage.Stage.TheVariants.{Insns}
 use Rattle.listing_lines.specs.declared.form.Form.{Form}
 use Rattle.listing_lines.specs.declared.form.Form.TheVariants.{One, Two}
 use Rattle.listing_lines.specs.Places.{may_stand, is_insn, is_insns, is_start}
@@ -62,33 +61,15 @@ mnemonic_written : (op : ℕ) (f : Format) → format_of op ≡ Some f → IsWri
 mnemonic_written op f e = plain_written (mnemonic_of op) (used_named op f e) (mnemonic_plain op)
 
 pub insn_written : (i : Insn) → OpcodeFits i → IsWritable (plain_word (insn_word i))
-insn_written (content.I10x op) h = mnemonic_written op format.F10x h
-insn_written (content.I12x op a b) h = mnemonic_written op format.F12x h
-insn_written (content.I11n op a b) h = mnemonic_written op format.F11n h
-insn_written (content.I11x op a) h = mnemonic_written op format.F11x h
-insn_written (content.I10t op k) h = mnemonic_written op format.F10t h
-insn_written (content.I20t op k) h = mnemonic_written op format.F20t h
-insn_written (content.I30t op k) h = mnemonic_written op format.F30t h
-insn_written (content.I22x op a b) h = mnemonic_written op format.F22x h
-insn_written (content.I21t op a k) h = mnemonic_written op format.F21t h
-insn_written (content.I31t op a k) h = mnemonic_written op format.F31t h
-insn_written (content.I21s op a b) h = mnemonic_written op format.F21s h
-insn_written (content.I21h op a b) h = mnemonic_written op format.F21h h
 insn_written (content.I21c op a which) h = mnemonic_written op format.F21c h.0
 insn_written (content.I31c op a which) h = mnemonic_written op format.F31c h.0
-insn_written (content.I23x op a b c) h = mnemonic_written op format.F23x h
-insn_written (content.I22b op a b c) h = mnemonic_written op format.F22b h
-insn_written (content.I22t op a b k) h = mnemonic_written op format.F22t h
-insn_written (content.I22s op a b c) h = mnemonic_written op format.F22s h
 insn_written (content.I22c op a b which) h = mnemonic_written op format.F22c h.0
-insn_written (content.I32x op a b) h = mnemonic_written op format.F32x h
-insn_written (content.I31i op a b) h = mnemonic_written op format.F31i h
-insn_written (content.I51l op a b) h = mnemonic_written op format.F51l h
 insn_written (content.I35c op n regs which) h = mnemonic_written op format.F35c h.0
 insn_written (content.I3rc op n first which) h = mnemonic_written op format.F3rc h.0
 insn_written (content.Packed first targets) h = shown_written (slot.Key key.Packed) (said key.Packed) refl
 insn_written (content.Sparse keys targets) h = shown_written (slot.Key key.Sparse) (said key.Sparse) refl
 insn_written (content.Data width bytes) h = shown_written (slot.Key key.Elements) (said key.Elements) refl
+insn_written _ h = mnemonic_written _ _ h
 
 after_colon : (w : List ℕ) → IsWritable (plain_word w) → IsWritable (plain_word (w ++ 58 ∷ []))
 after_colon [] h = absurd (omega arith)
@@ -162,33 +143,10 @@ mnemonic_other op = all_at is_other mnemonics op mnemonics_other empty_other
 
 insn_other : (i : Insn) → is_other (insn_word i) ≡ true
 unfolding same key_text
-insn_other (content.I10x op) = mnemonic_other op
-insn_other (content.I12x op a b) = mnemonic_other op
-insn_other (content.I11n op a b) = mnemonic_other op
-insn_other (content.I11x op a) = mnemonic_other op
-insn_other (content.I10t op k) = mnemonic_other op
-insn_other (content.I20t op k) = mnemonic_other op
-insn_other (content.I30t op k) = mnemonic_other op
-insn_other (content.I22x op a b) = mnemonic_other op
-insn_other (content.I21t op a k) = mnemonic_other op
-insn_other (content.I31t op a k) = mnemonic_other op
-insn_other (content.I21s op a b) = mnemonic_other op
-insn_other (content.I21h op a b) = mnemonic_other op
-insn_other (content.I21c op a which) = mnemonic_other op
-insn_other (content.I31c op a which) = mnemonic_other op
-insn_other (content.I23x op a b c) = mnemonic_other op
-insn_other (content.I22b op a b c) = mnemonic_other op
-insn_other (content.I22t op a b k) = mnemonic_other op
-insn_other (content.I22s op a b c) = mnemonic_other op
-insn_other (content.I22c op a b which) = mnemonic_other op
-insn_other (content.I32x op a b) = mnemonic_other op
-insn_other (content.I31i op a b) = mnemonic_other op
-insn_other (content.I51l op a b) = mnemonic_other op
-insn_other (content.I35c op n regs which) = mnemonic_other op
-insn_other (content.I3rc op n first which) = mnemonic_other op
 insn_other (content.Packed first targets) = refl
 insn_other (content.Sparse keys targets) = refl
 insn_other (content.Data width bytes) = refl
+insn_other _ = mnemonic_other _
 
 not_true : (b : Bool) → not b ≡ true → b ≡ false
 not_true false e = refl
@@ -227,88 +185,25 @@ insn_shown Two k i h o = ap is_skipped (line_is (plain_word (insn_word i)) (word
 kind_stands : (s : Stage) (i : Insn) → (is_insn (insn_kind i) ≡ true) × (may_stand s (insn_kind i) ≡ is_insns s)
 unfolding may_stand
 kind_stands s (content.I10x op) = (refl, refl)
-kind_stands s (content.I12x op a b) = (refl, refl)
-kind_stands s (content.I11n op a b) = (refl, refl)
-kind_stands s (content.I11x op a) = (refl, refl)
-kind_stands s (content.I10t op k) = (refl, refl)
-kind_stands s (content.I20t op k) = (refl, refl)
-kind_stands s (content.I30t op k) = (refl, refl)
-kind_stands s (content.I22x op a b) = (refl, refl)
-kind_stands s (content.I21t op a k) = (refl, refl)
-kind_stands s (content.I31t op a k) = (refl, refl)
-kind_stands s (content.I21s op a b) = (refl, refl)
-kind_stands s (content.I21h op a b) = (refl, refl)
-kind_stands s (content.I21c op a which) = (refl, refl)
-kind_stands s (content.I31c op a which) = (refl, refl)
-kind_stands s (content.I23x op a b c) = (refl, refl)
-kind_stands s (content.I22b op a b c) = (refl, refl)
-kind_stands s (content.I22t op a b k) = (refl, refl)
-kind_stands s (content.I22s op a b c) = (refl, refl)
-kind_stands s (content.I22c op a b which) = (refl, refl)
-kind_stands s (content.I32x op a b) = (refl, refl)
-kind_stands s (content.I31i op a b) = (refl, refl)
-kind_stands s (content.I51l op a b) = (refl, refl)
-kind_stands s (content.I35c op n regs which) = (refl, refl)
-kind_stands s (content.I3rc op n first which) = (refl, refl)
-kind_stands s (content.Packed first targets) = (refl, refl)
-kind_stands s (content.Sparse keys targets) = (refl, refl)
-kind_stands s (content.Data width bytes) = (refl, refl)
+kind_stands s _ = (refl, refl)
 
 -- and gives no labels
 kind_keeps : (i : Insn) (line : ℕ) (ls : List (List ℕ)) (es : List Label) → labels_after Two (insn_kind i) line ls es ≡ es
 kind_keeps (content.I10x op) line ls es = refl
-kind_keeps (content.I12x op a b) line ls es = refl
-kind_keeps (content.I11n op a b) line ls es = refl
-kind_keeps (content.I11x op a) line ls es = refl
-kind_keeps (content.I10t op k) line ls es = refl
-kind_keeps (content.I20t op k) line ls es = refl
-kind_keeps (content.I30t op k) line ls es = refl
-kind_keeps (content.I22x op a b) line ls es = refl
-kind_keeps (content.I21t op a k) line ls es = refl
-kind_keeps (content.I31t op a k) line ls es = refl
-kind_keeps (content.I21s op a b) line ls es = refl
-kind_keeps (content.I21h op a b) line ls es = refl
-kind_keeps (content.I21c op a which) line ls es = refl
-kind_keeps (content.I31c op a which) line ls es = refl
-kind_keeps (content.I23x op a b c) line ls es = refl
-kind_keeps (content.I22b op a b c) line ls es = refl
-kind_keeps (content.I22t op a b k) line ls es = refl
-kind_keeps (content.I22s op a b c) line ls es = refl
-kind_keeps (content.I22c op a b which) line ls es = refl
-kind_keeps (content.I32x op a b) line ls es = refl
-kind_keeps (content.I31i op a b) line ls es = refl
-kind_keeps (content.I51l op a b) line ls es = refl
-kind_keeps (content.I35c op n regs which) line ls es = refl
-kind_keeps (content.I3rc op n first which) line ls es = refl
-kind_keeps (content.Packed first targets) line ls es = refl
-kind_keeps (content.Sparse keys targets) line ls es = refl
-kind_keeps (content.Data width bytes) line ls es = refl
-
-keeps : (form : Form) (i : Insn) (line : ℕ) (ls : List (List ℕ)) (es : List Label) → labels_after form (insn_kind i) line ls es ≡ es
-keeps One i line ls es = refl
-keeps Two i line ls es = kind_keeps i line ls es
+kind_keeps _ line ls es = refl
 
 -- among instructions something was read before
 not_start : (st : Stage) → is_insns st ≡ true → is_start st ≡ false
-not_start Start a = absurd cc
-not_start Top a = absurd cc
-not_start Heads a = absurd cc
-not_start Members a = absurd cc
-not_start After a = absurd cc
 not_start Insns a = refl
-not_start Tries a = absurd cc
-not_start Caught a = absurd cc
+not_start _ a = absurd cc
 
 plain_aside : (es : List Label) (s : State) (ws : List Word) → is_start (stage_of s.block) ≡ false → aside (at (frame One es) s) ws ≡ aside.Nothing
 unfolding aside
 plain_aside es s ws h = rw h (not_aside (is_second ws) (aside.Refused 103))
 
 not_second : (m : List ℕ) (ws : List Word) → same (codes "dex") m ≡ false → is_second (plain_word m ∷ ws) ≡ false
-not_second m [] h = refl
-not_second m (a ∷ []) h = refl
-not_second m (a ∷ b ∷ []) h = refl
 not_second m (a ∷ b ∷ c ∷ []) h = rw h refl
-not_second m (a ∷ b ∷ c ∷ d ∷ ws) h = refl
+not_second m _ h = refl
 
 insn_aside : (form : Form) (es : List Label) (s : State) (k : ℕ) (i : Insn) → OpcodeFits i → is_start (stage_of s.block) ≡ false → aside (at (frame form es) s) (insn_words form k i) ≡ aside.Nothing
 insn_aside One es s k i o h = plain_aside es s (insn_words One k i) h

@@ -52,23 +52,10 @@ no_aside f s ws h k = rw (h, k) (not_aside (is_two f.form) (mark_aside (at f s) 
 
 keyed_plain : (form : Form) (l : Line) → IsKeyedLine l → (is_second (keyed_words form l) ≡ false) × (begins_mark (keyed_words form l) ≡ false)
 unfolding key_text same
-keyed_plain form first_line k = (refl, refl)
-keyed_plain form (open_class d f) k = (refl, refl)
-keyed_plain form end_class k = (refl, refl)
-keyed_plain form (super_line d) k = (refl, refl)
-keyed_plain form (implements_line d) k = (refl, refl)
-keyed_plain form (source_line us) k = (refl, refl)
 keyed_plain form (static_line m None) k = (refl, refl)
 keyed_plain form (static_line m (Some v)) k = (refl, refl)
-keyed_plain form (instance_line m) k = (refl, refl)
-keyed_plain form (direct_line m) k = (refl, refl)
-keyed_plain form (virtual_line m) k = (refl, refl)
-keyed_plain form (open_code r i o) k = (refl, refl)
-keyed_plain form end_code k = (refl, refl)
 keyed_plain form (insn_line i) k = absurd k
-keyed_plain form (try_line f t) k = (refl, refl)
-keyed_plain form (catch_line d n) k = (refl, refl)
-keyed_plain form (catch_all_line n) k = (refl, refl)
+keyed_plain form _ k = (refl, refl)
 
 pub keyed_is : (form : Form) (l : Line) → keyed_text_in form l ≡ line_bytes (keyed_words form l) ++ 10 ∷ []
 keyed_is form l =
@@ -83,40 +70,12 @@ keyed_is_line form l f = words_line (plain_word (key_text (line_key l))) (words_
 pub key_shown : (l : Line) (rest : List ℕ) → is_skipped (key_text (line_key l) ++ rest) ≡ false
 unfolding key_text
 key_shown first_line rest = refl
-key_shown (open_class d f) rest = refl
-key_shown end_class rest = refl
-key_shown (super_line d) rest = refl
-key_shown (implements_line d) rest = refl
-key_shown (source_line us) rest = refl
-key_shown (static_line m v) rest = refl
-key_shown (instance_line m) rest = refl
-key_shown (direct_line m) rest = refl
-key_shown (virtual_line m) rest = refl
-key_shown (open_code r i o) rest = refl
-key_shown end_code rest = refl
-key_shown (insn_line i) rest = refl
-key_shown (try_line f t) rest = refl
-key_shown (catch_line d k) rest = refl
-key_shown (catch_all_line k) rest = refl
+key_shown _ rest = refl
 
 no_number : (l : Line) → is_insn (line_kind l) ≡ false
-no_number first_line = refl
-no_number (open_class d f) = refl
-no_number end_class = refl
-no_number (super_line d) = refl
-no_number (implements_line d) = refl
-no_number (source_line us) = refl
 no_number (static_line m None) = refl
 no_number (static_line m (Some v)) = refl
-no_number (instance_line m) = refl
-no_number (direct_line m) = refl
-no_number (virtual_line m) = refl
-no_number (open_code r i o) = refl
-no_number end_code = refl
-no_number (insn_line i) = refl
-no_number (try_line f t) = refl
-no_number (catch_line d k) = refl
-no_number (catch_all_line k) = refl
+no_number _ = refl
 
 keyed_shape : (form : Form) (l : Line) (k : IsKeyedLine l) → FitOperands (line_operands l) → HasShapeInForm form (keyed_words form l) (record { kind = line_kind l; label = []; slots = slots_of (line_operands l); words = words_in form (line_operands l) })
 keyed_shape One l k f = inr (keyed_has_shape One l k f)
@@ -176,62 +135,34 @@ IsOfTry (catch_all_line k) = Unit {0}
 IsOfTry _ = ⊥
 
 class_keeps : (form : Form) (l : Line) (line : ℕ) (ls : List (List ℕ)) (es : List Label) → IsOfClass l → labels_after form (line_kind l) line ls es ≡ es
-class_keeps One l line ls es h = refl
-class_keeps Two first_line line ls es h = refl
-class_keeps Two (open_class d f) line ls es h = refl
-class_keeps Two end_class line ls es h = refl
-class_keeps Two (super_line d) line ls es h = refl
-class_keeps Two (implements_line d) line ls es h = refl
-class_keeps Two (source_line us) line ls es h = refl
 class_keeps Two (static_line m None) line ls es h = refl
 class_keeps Two (static_line m (Some v)) line ls es h = refl
-class_keeps Two (instance_line m) line ls es h = refl
-class_keeps Two (direct_line m) line ls es h = refl
-class_keeps Two (virtual_line m) line ls es h = refl
 class_keeps Two (open_code r i o) line ls es h = absurd h
 class_keeps Two end_code line ls es h = absurd h
 class_keeps Two (insn_line i) line ls es h = absurd h
 class_keeps Two (try_line f t) line ls es h = absurd h
 class_keeps Two (catch_line d n) line ls es h = absurd h
 class_keeps Two (catch_all_line n) line ls es h = absurd h
+class_keeps _ _ line ls es h = refl
 
 try_keeps : (form : Form) (l : Line) (line : ℕ) (ls : List (List ℕ)) (es : List Label) → IsOfTry l → labels_after form (line_kind l) line ls es ≡ es
 try_keeps One l line ls es h = refl
 try_keeps Two (try_line f t) line ls es h = refl
 try_keeps Two (catch_line d n) line ls es h = refl
 try_keeps Two (catch_all_line n) line ls es h = refl
-try_keeps Two first_line line ls es h = absurd h
-try_keeps Two (open_class d f) line ls es h = absurd h
-try_keeps Two end_class line ls es h = absurd h
-try_keeps Two (super_line d) line ls es h = absurd h
-try_keeps Two (implements_line d) line ls es h = absurd h
-try_keeps Two (source_line us) line ls es h = absurd h
-try_keeps Two (static_line m v) line ls es h = absurd h
-try_keeps Two (instance_line m) line ls es h = absurd h
-try_keeps Two (direct_line m) line ls es h = absurd h
-try_keeps Two (virtual_line m) line ls es h = absurd h
-try_keeps Two (open_code r i o) line ls es h = absurd h
-try_keeps Two end_code line ls es h = absurd h
-try_keeps Two (insn_line i) line ls es h = absurd h
+try_keeps Two _ line ls es h = absurd h
 
 -- no target stands in a value
 mutual
   value_marked : (es : List Label) (v : Value) → TargetsAreMarked Two es (value_operands v)
-  value_marked es (content.Byte z) = (tt, (tt, tt))
-  value_marked es (content.Short z) = (tt, (tt, tt))
-  value_marked es (content.Char n) = (tt, (tt, tt))
-  value_marked es (content.Int z) = (tt, (tt, tt))
-  value_marked es (content.Long z) = (tt, (tt, tt))
-  value_marked es (content.Float n) = (tt, (tt, tt))
-  value_marked es (content.Double n) = (tt, (tt, tt))
   value_marked es (content.Named (OfText us)) = (tt, (tt, tt))
   value_marked es (content.Named (OfDesc d)) = (tt, (tt, tt))
   value_marked es (content.Named (OfField f)) = (tt, (tt, tt))
   value_marked es (content.Named (OfMethod m)) = (tt, (tt, tt))
-  value_marked es (content.Enum f) = (tt, (tt, tt))
   value_marked es (content.Array vs) = (tt, (tt, all_append (λ (o : Operand). TargetIsMarked Two es o.slot o.says) (values_operands vs) (keyword key.Close ∷ []) (values_marked es vs) (tt, tt)))
   value_marked es content.Null = (tt, tt)
   value_marked es (content.Boolean b) = (tt, tt)
+  value_marked es _ = (tt, (tt, tt))
 
   values_marked : (es : List Label) (vs : Values) → TargetsAreMarked Two es (values_operands vs)
   values_marked es no_values = tt
@@ -250,31 +181,18 @@ class_marked Two es (static_line m (Some v)) h = (tt, (tt, (tt, (tt, value_marke
 class_marked Two es (instance_line m) h = (tt, (tt, (tt, tt)))
 class_marked Two es (direct_line m) h = (tt, (tt, (tt, tt)))
 class_marked Two es (virtual_line m) h = (tt, (tt, (tt, tt)))
-class_marked Two es (open_code r i o) h = absurd h
-class_marked Two es end_code h = absurd h
-class_marked Two es (insn_line i) h = absurd h
-class_marked Two es (try_line f t) h = absurd h
-class_marked Two es (catch_line d n) h = absurd h
-class_marked Two es (catch_all_line n) h = absurd h
+class_marked Two es _ h = absurd h
 
 class_words : (form : Form) (l : Line) → IsOfClass l → words_in form (line_operands l) ≡ words_of (line_operands l)
-class_words form first_line h = refl
-class_words form (open_class d f) h = refl
-class_words form end_class h = refl
-class_words form (super_line d) h = refl
-class_words form (implements_line d) h = refl
-class_words form (source_line us) h = refl
 class_words form (static_line m None) h = refl
 class_words form (static_line m (Some v)) h = rw (value_words form v) refl
-class_words form (instance_line m) h = refl
-class_words form (direct_line m) h = refl
-class_words form (virtual_line m) h = refl
 class_words form (open_code r i o) h = absurd h
 class_words form end_code h = absurd h
 class_words form (insn_line i) h = absurd h
 class_words form (try_line f t) h = absurd h
 class_words form (catch_line d n) h = absurd h
 class_words form (catch_all_line n) h = absurd h
+class_words form _ h = refl
 
 -- the text of such a line is the same in both forms
 pub text_same : (form : Form) (l : Line) → words_in form (line_operands l) ≡ words_of (line_operands l) → keyed_text_in form l ≡ keyed_text l

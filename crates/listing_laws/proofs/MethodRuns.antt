@@ -28,9 +28,8 @@ abbrev pub coded : Method → Option Code → Method
 coded m o = record m { code = o }
 
 itself : (o : Ordering) → o ≡ ordering_reverse o → is_eq o ≡ true
-itself ordering.Less e = absurd cc
 itself ordering.Equal e = refl
-itself ordering.Greater e = absurd cc
+itself _ e = absurd cc
 
 code_last : (ms : List Method) (m : Method) (c : Code) → AllBelow (map method_key ms) (method_key m) → with_code (ms ++ coded m None ∷ []) (method_key m) c ≡ ms ++ coded m (Some c) ∷ []
 code_last [] m c h = rw (itself (key_cmp (method_key m) (method_key m)) (key_cmp-total.antisymm (method_key m) (method_key m))) refl

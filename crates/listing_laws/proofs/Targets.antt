@@ -1,15 +1,13 @@
 -- The labels of a code mark its targets.
-use Rattle.std.proofs.Common.{◌≡◌, ℕ, ◌+◌, ◌<◌, ◌≤◌, ◌^◌, ◌||◌, ◌==◌, Bool, true, false, List, [], ◌∷◌, ◌++◌, length, map, take, ℤ, Option, Some, refl, ◌∙◌, arith}
+use Rattle.std.proofs.Common.{◌≡◌, ℕ, ◌+◌, ◌<◌, ◌≤◌, ◌^◌, ◌==◌, true, List, [], ◌∷◌, ◌++◌, length, map, take, ℤ, Option, Some, refl, ◌∙◌, arith}
 use Rattle.std.specs.List.{AllByRecursion, flat_map}
 use Rattle.std.proofs.Math.Nat.{min-eq_left, le-max_left, le-max_right}
 use Rattle.std.proofs.lemmas.Bool.{eq-eqb}
 use Rattle.std.proofs.lemmas.List.Folds.{list_any-append}
 use Rattle.program_types.specs.Content as content
 use Rattle.program_types.specs.Formed.{insn_leads}
-use Rattle.program_types.specs.Content.{Insn, Name, OfText, OfDesc, OfField, OfMethod, Catch, Try, Code}
+use Rattle.program_types.specs.Content.{Insn, Name, OfText, Code}
 use Rattle.listing_slots.specs.declared.key.Key.TheVariants as key
-use Rattle.listing_slots.specs.Data.{word}
-use Rattle.listing_shapes.specs.Shapes.{target}
 use Rattle.listing_lines.specs.Needs.{most_needed, insn_needs}
 use Rattle.listing_lines.specs.declared.form.Form.{Form}
 use Rattle.listing_lines.specs.declared.form.Form.TheVariants.{One, Two}
@@ -39,15 +37,9 @@ labels_mark ns is n h j y a b = let r = found_each ns is [] n 0 j (none_before 0
 
 -- ---- operands
 
-pub to_marked : (form : Form) (ns : List ℕ) (es : List Label) (c j : ℕ) → MarkAll form ns es c → is_named ns j ≡ true → j ≤ c → j ≤ 4294967295 → TargetIsMarked form es target (word j)
-to_marked One ns es c j m y a b = tt
-to_marked Two ns es c j m y a b = m j y a b
-
 name_marked : (es : List Label) (which : Name) → TargetsAreMarked Two es (name_operand which ∷ [])
 name_marked es (OfText us) = (tt, tt)
-name_marked es (OfDesc d) = (tt, tt)
-name_marked es (OfField f) = (tt, tt)
-name_marked es (OfMethod m) = (tt, tt)
+name_marked es _ = (tt, tt)
 
 regs_marked : (es : List Label) (rs : List ℕ) → TargetsAreMarked Two es (map v4 rs)
 regs_marked es [] = tt
@@ -72,17 +64,12 @@ elements_marked es (b ∷ bs) = (tt, tt)
 
 marked_in : (ns : List ℕ) (es : List Label) (c : ℕ) (i : Insn) → MarkAll Two ns es c → FitOperands (insn_operands i) → insn_needs i ≤ c → AreNamed ns (insn_leads i) → TargetsAreMarked Two es (insn_operands i)
 marked_in ns es c (content.I10x op) m f h y = tt
-marked_in ns es c (content.I12x op a b) m f h y = (tt, (tt, tt))
-marked_in ns es c (content.I11n op a b) m f h y = (tt, (tt, tt))
 marked_in ns es c (content.I11x op a) m f h y = (tt, tt)
 marked_in ns es c (content.I10t op k) m f h y = (m k y.0 (omega arith) f.0.0, tt)
 marked_in ns es c (content.I20t op k) m f h y = (m k y.0 (omega arith) f.0.0, tt)
 marked_in ns es c (content.I30t op k) m f h y = (m k y.0 (omega arith) f.0.0, tt)
-marked_in ns es c (content.I22x op a b) m f h y = (tt, (tt, tt))
 marked_in ns es c (content.I21t op a k) m f h y = (tt, (m k y.0 (omega arith) f.1.0.0, tt))
 marked_in ns es c (content.I31t op a k) m f h y = (tt, (m k y.0 (omega arith) f.1.0.0, tt))
-marked_in ns es c (content.I21s op a b) m f h y = (tt, (tt, tt))
-marked_in ns es c (content.I21h op a b) m f h y = (tt, (tt, tt))
 marked_in ns es c (content.I21c op a which) m f h y = (tt, name_marked es which)
 marked_in ns es c (content.I31c op a which) m f h y = (tt, name_marked es which)
 marked_in ns es c (content.I23x op a b d) m f h y = (tt, (tt, (tt, tt)))
@@ -90,14 +77,12 @@ marked_in ns es c (content.I22b op a b d) m f h y = (tt, (tt, (tt, tt)))
 marked_in ns es c (content.I22t op a b k) m f h y = (tt, (tt, (m k y.0 (omega arith) f.1.1.0.0, tt)))
 marked_in ns es c (content.I22s op a b d) m f h y = (tt, (tt, (tt, tt)))
 marked_in ns es c (content.I22c op a b which) m f h y = (tt, (tt, name_marked es which))
-marked_in ns es c (content.I32x op a b) m f h y = (tt, (tt, tt))
-marked_in ns es c (content.I31i op a b) m f h y = (tt, (tt, tt))
-marked_in ns es c (content.I51l op a b) m f h y = (tt, (tt, tt))
 marked_in ns es c (content.I35c op n regs which) m f h y = (tt, all_append (λ (o : Operand). TargetIsMarked Two es o.slot o.says) (map v4 (take n regs)) (keyword key.Close ∷ name_operand which ∷ []) (regs_marked es (take n regs)) (tt, name_marked es which))
 marked_in ns es c (content.I3rc op n first which) m f h y = (tt, (tt, name_marked es which))
 marked_in ns es c (content.Packed first targets) m f h y = (tt, targets_marked ns es c targets m f.1 h y)
 marked_in ns es c (content.Sparse keys targets) m f h y = pairs_marked ns es c keys targets m f h y
 marked_in ns es c (content.Data width bytes) m f h y = (tt, elements_marked es bytes)
+marked_in ns es c _ m f h y = (tt, (tt, tt))
 
 pub insn_marked : (form : Form) (ns : List ℕ) (es : List Label) (c : ℕ) (i : Insn) → MarkAll form ns es c → FitOperands (insn_operands i) → insn_needs i ≤ c → AreNamed ns (insn_leads i) → TargetsAreMarked form es (insn_operands i)
 insn_marked One ns es c i m f h y = first_marked es (insn_operands i)

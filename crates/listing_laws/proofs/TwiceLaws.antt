@@ -8,7 +8,7 @@ use Rattle.program_rules.specs.Rules.{member_key, method_key}
 use Rattle.program_types.specs.Key.{Key}
 use Rattle.listing_lines.specs.Lines.{Line, first_line, end_class, super_line, implements_line, source_line, end_code, catch_line, catch_all_line, member_of, method_of, value_of, line_of}
 use Rattle.listing_lines.specs.declared.stage.Stage.{Stage}
-use Rattle.listing_lines.specs.declared.stage.Stage.TheVariants.{Start, Top, Heads, Members, After, Insns, Tries, Caught}
+use Rattle.listing_lines.specs.declared.stage.Stage.TheVariants.{Heads, Insns, Caught}
 use Rattle.listing_lines.specs.Places.{is_start, is_top, is_heads, is_in_class, is_after, is_insns, is_in_code, is_caught, may_stand}
 use Rattle.listing_draft.specs.Members.{Given, given_key, is_held, with_member}
 use Rattle.listing_draft.specs.States.{Open, Body, at_heads, at_members, after_method, CodePart, at_insns, after_try, in_try, Block, at_start, at_top, in_class, in_code, State, stage_of, code_stage, is_among, with_superclass, with_source, with_interface, with_static, with_instance, with_direct, with_virtual, class_line, noted, code_line, inside, class_of, owner_of, code_ended, add}
@@ -21,34 +21,16 @@ some_map f (Some x) = refl
 -- ---- where lines stand
 
 class_stands : (st : Stage) → is_heads st ≡ true → is_in_class st ≡ true
-class_stands Start e = absurd cc
-class_stands Top e = absurd cc
 class_stands Heads e = refl
-class_stands Members e = absurd cc
-class_stands After e = absurd cc
-class_stands Insns e = absurd cc
-class_stands Tries e = absurd cc
-class_stands Caught e = absurd cc
+class_stands _ e = absurd cc
 
 insns_stand : (st : Stage) → is_insns st ≡ true → is_in_code st ≡ true
-insns_stand Start e = absurd cc
-insns_stand Top e = absurd cc
-insns_stand Heads e = absurd cc
-insns_stand Members e = absurd cc
-insns_stand After e = absurd cc
 insns_stand Insns e = refl
-insns_stand Tries e = absurd cc
-insns_stand Caught e = absurd cc
+insns_stand _ e = absurd cc
 
 catches_stand : (st : Stage) → is_caught st ≡ true → is_in_code st ≡ true
-catches_stand Start e = absurd cc
-catches_stand Top e = absurd cc
-catches_stand Heads e = absurd cc
-catches_stand Members e = absurd cc
-catches_stand After e = absurd cc
-catches_stand Insns e = absurd cc
-catches_stand Tries e = absurd cc
 catches_stand Caught e = refl
+catches_stand _ e = absurd cc
 
 -- in a class one is open
 class_is_open : (b : Block) → is_in_class (stage_of b) ≡ true → is_some (class_of b) ≡ true

@@ -1,7 +1,5 @@
 -- Every other word.
-use Rattle.std.proofs.Common.{◌≡◌, ℕ, ◌+◌, ◌<◌, ◌≤◌, Bool, true, false, List, [], ◌∷◌, ◌++◌, length, get_or, drop, map, refl, sym, ap, ◌∙◌, append_assoc, add-one, drop-cons, drop_of_length-le}
-use Rattle.std.proofs.Common.{not, inl, inr, ◌⊎◌}
-use Rattle.std.proofs.lemmas.List.{append-nil}
+use Rattle.std.proofs.Common.{◌≡◌, ℕ, ◌+◌, ◌<◌, Bool, true, false, List, [], ◌∷◌, ◌++◌, length, get_or, drop, map, refl, sym, ap, ◌∙◌, append_assoc, add-one, drop-cons, not, inl, inr, ◌⊎◌}
 use Rattle.listing_slots.specs.Data.{Datum}
 use Rattle.listing_slots.specs.View.{datum}
 use Rattle.listing_slots.specs.declared.datum.Datum.{Datum as Made}
@@ -15,9 +13,8 @@ between false (x ∷ xs) = between true xs
 
 pub between_is : {A : Type 0} (xs : List A) → alternate xs ≡ between true xs
 unfolding alternate
-between_is [] = refl
-between_is (x ∷ []) = refl
 between_is (x ∷ y ∷ xs) = ap (λ t. x ∷ t) (between_is xs)
+between_is _ = refl
 
 pub between_due : {B : Type 0} (f : Datum → B) (ds : List Made) (i : ℕ) (x : Made) (done : List B) → i < length ds
     → done ++ map f (between true (map datum (drop i ds))) ≡ (done ++ f (datum (get_or ds i x)) ∷ []) ++ map f (between false (map datum (drop (i + 1) ds)))
@@ -30,9 +27,6 @@ pub between_not : {B : Type 0} (f : Datum → B) (ds : List Made) (i : ℕ) (x :
 between_not f ds i x done h =
     let d : drop i ds ≡ get_or ds i x ∷ drop (i + 1) ds = rw add-one (drop-cons ds i x h) in
     rw d refl
-
-pub between_end : {B : Type 0} (f : Datum → B) (b : Bool) (ds : List Made) (i : ℕ) (done : List B) → length ds ≤ i → done ++ map f (between b (map datum (drop i ds))) ≡ done
-between_end f b ds i done h = rw (drop_of_length-le ds {i = i} h) (append-nil done)
 
 pub between_start : {B : Type 0} (f : Datum → B) (ds : List Made) (done : List B) → done ≡ [] → map f (alternate (map datum ds)) ≡ done ++ map f (between true (map datum ds))
 between_start f ds done e = rw (e, between_is (map datum ds)) refl

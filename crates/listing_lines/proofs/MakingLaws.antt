@@ -1,20 +1,17 @@
 -- Values in the making.
-use Rattle.std.proofs.Common.{◌≡◌, ℕ, ◌+◌, ◌<◌, ◌≤◌, List, [], ◌∷◌, ◌++◌, length, get_or, drop, take, map, refl, sym, ap, ◌∙◌, arith, add-one, drop-cons, drop_of_length-le}
-use Rattle.std.specs.Prelude.{fold}
-use Rattle.listing_slots.specs.Data.{Datum}
+use Rattle.std.proofs.Common.{◌≡◌, ℕ, ◌+◌, ◌<◌, ◌≤◌, List, [], ◌∷◌, ◌++◌, length, get_or, drop, take, map, refl, sym, ap, ◌∙◌, arith, drop_of_length-le, min, inl, inr}
+use Rattle.std.specs.Prelude.{fold, reverse}
+use Rattle.listing_slots.specs.Data.{Datum, said}
 use Rattle.listing_slots.specs.View.{datum}
 use Rattle.listing_slots.specs.declared.datum.Datum.{Datum as Made}
-use Rattle.std.proofs.Common.{min, inl, inr}
 use Rattle.std.proofs.lemmas.Bool.{cases_lt}
 use Rattle.std.proofs.lemmas.List.{reverse-append, take-map, drop-map, take_all}
-use Rattle.std.specs.Prelude.{reverse}
 use Rattle.program_types.specs.Content as content
 use Rattle.program_types.specs.Content.{Value}
 use Rattle.program_types.specs.View.{value}
 use Rattle.program_types.proofs.ValueViews.{value_null}
 use Rattle.program_types.specs.declared.value.Value.{Value as Put}
 use Rattle.program_types.specs.declared.value.Value.TheVariants as made
-use Rattle.listing_slots.specs.Data.{said}
 use Rattle.listing_slots.specs.declared.key.Key.TheVariants as key
 use Rattle.listing_lines.specs.declared.making.Making.{Making as InMaking}
 use Rattle.listing_lines.specs.MakingView.{making}
@@ -31,9 +28,6 @@ drop_least n xs = elim (cases_lt n (length xs)) [
   | inl h ↦ let e : min n (length xs) ≡ n = omega arith in rw e refl
   | inr h ↦ let e : min n (length xs) ≡ length xs = omega arith in rw (e, drop_of_length-le xs {i = length xs} (omega arith)) (sym (drop_of_length-le xs {i = n} h))
 ]
-
-pub fold_more : (m : Making) (ds : List Made) (i : ℕ) (x : Made) → i < length ds → fold with_word m (map datum (drop i ds)) ≡ fold with_word (with_word m (datum (get_or ds i x))) (map datum (drop (i + 1) ds))
-fold_more m ds i x h = let d : drop i ds ≡ get_or ds i x ∷ drop (i + 1) ds = rw add-one (drop-cons ds i x h) in rw d refl
 
 pub fold_end : (m : Making) (ds : List Made) (i : ℕ) → length ds ≤ i → fold with_word m (map datum (drop i ds)) ≡ m
 fold_end m ds i h = rw (drop_of_length-le ds {i = i} h) refl

@@ -1,7 +1,6 @@
 //! Lines made of what their slots say.
 
-ghost use Rattle.std.specs.Prelude.{◌≡◌, map, length, Some, option_map};
-ghost use Rattle.dex_insn.specs.Opcodes.{format_of};
+ghost use Rattle.std.specs.Prelude.{◌≡◌, map, Some};
 ghost use Rattle.program_types.specs.View.{insn, member, method};
 ghost use Rattle.listing_slots.specs.View.{datum};
 ghost use Rattle.listing_lines.specs.Lines.{insn_of, member_of, method_of};

@@ -1,6 +1,6 @@
 //! How many instructions a code must have for the targets of its lines.
 
-ghost use Rattle.std.specs.Prelude.{◌≡◌, ◌+◌, ◌<◌, ◌≤◌, ◌^◌, map, max};
+ghost use Rattle.std.specs.Prelude.{◌≡◌, ◌+◌, ◌<◌, map, max};
 ghost use Rattle.program_types.specs.View.{insn};
 ghost use Rattle.listing_lines.specs.LineView.{line};
 ghost use Rattle.listing_lines.specs.Needs as said;

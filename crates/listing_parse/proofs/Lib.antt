@@ -3,3 +3,4 @@ pub mod ReadingLaws
 pub mod AsideLaws
 pub mod ExactLaws
 pub mod OneFault
+pub mod NamedLaws

@@ -1,5 +1,5 @@
 -- A listing has one fault, at one place.
-use Rattle.std.proofs.Common.{◌≡◌, ◌⊎◌, ℕ, zero, suc, ◌+◌, ◌<◌, true, inl, inr, List, [], ◌∷◌, ◌++◌, length, Some, None, refl, sym, ap, subst, ◌∙◌, arith}
+use Rattle.std.proofs.Common.{◌≡◌, ◌⊎◌, ℕ, ◌+◌, ◌<◌, true, inl, inr, List, [], ◌∷◌, ◌++◌, length, Some, None, refl, sym, ap, subst, ◌∙◌, arith}
 use Rattle.std.proofs.lemmas.Bool.{cases_lt}
 use Rattle.base_bytes.specs.declared.fault.Fault.{Fault}
 use Rattle.program_types.specs.Content.{Program}
@@ -14,11 +14,9 @@ use Rattle.listing_labels.specs.Lines.{lines}
 use Rattle.listing_labels.specs.Labels.{Label, MisspellsAll}
 use Rattle.listing_lines.specs.declared.form.Form.{Form}
 use Rattle.listing_lines.specs.declared.form.Form.TheVariants.{One, Two}
-use Rattle.listing_lines.specs.Lines.{line_of}
-use Rattle.listing_draft.specs.States.{add}
 use Rattle.listing_parse.specs.Forms.{HasShapeInForm, may_stand_in_form, MisspellsInForm}
 use Rattle.listing_parse.specs.declared.aside.Aside.TheVariants.{Nothing, Refused}
-use Rattle.listing_parse.specs.Text.{Reading, begin, line_counted, aside, IsMisplaced, IsMisspelled, IsTwice, IsUnsaid, AreRefused, Reads, LineIsRefused, IsBadLine, ListingBreaks}
+use Rattle.listing_parse.specs.Text.{Reading, begin, line_counted, IsMisplaced, IsMisspelled, IsTwice, IsUnsaid, AreRefused, Reads, LineIsRefused, IsBadLine, ListingBreaks}
 use Rattle.listing_parse.proofs.ExactLaws.{not_both, shape_one, says_none, reads_one, reads_over, refused_takes, bad_is_unread}
 
 -- ---- the first word that says nothing in its slot

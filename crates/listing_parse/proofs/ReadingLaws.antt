@@ -6,7 +6,7 @@ use Rattle.program_rules.specs.Rules.{RuleBreaks}
 use Rattle.program_rules.specs.WellFormed.{WellFormed}
 use Rattle.program_types.specs.Content.{Program}
 use Rattle.listing_draft.specs.declared.block.Block.{Block}
-use Rattle.listing_draft.specs.declared.block.Block.TheVariants.{Start, Top, Class as Within, Code}
+use Rattle.listing_draft.specs.declared.block.Block.TheVariants.{Top}
 use Rattle.listing_draft.specs.declared.draft.Draft.{Draft}
 use Rattle.listing_draft.specs.States.{at_top, State}
 use Rattle.listing_labels.specs.Lines.{lines}
@@ -65,10 +65,8 @@ late_end d n t l = inr (refl, ap block t, l)
 
 outside : (b : Block) → block b ≡ at_top → b ≡ Top
 unfolding block
-outside Start e = absurd cc
 outside Top e = refl
-outside (Within c) e = absurd cc
-outside (Code c) e = absurd cc
+outside _ e = absurd cc
 
 pub open_end : (d : Draft) → (d.block ≡ Top → ⊥) → IsUnfinished (state d) 106 d.lines
 unfolding state

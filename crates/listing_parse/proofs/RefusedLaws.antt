@@ -1,34 +1,17 @@
 -- A line is added, or why it is refused.
-use Rattle.std.proofs.Common.{◌≡◌, ℕ, ◌+◌, zero, suc, true, false, inl, inr, List, [], ◌∷◌, map, drop, Some, None, refl}
+use Rattle.std.proofs.Common.{◌≡◌, ℕ, ◌+◌, true, false, inl, inr, List, Some, None, refl}
 use Rattle.listing_words.specs.Words.{Word, HasWords}
-use Rattle.listing_words.specs.View.{word}
-use Rattle.listing_words.specs.declared.words.Word.{Word as Made}
 use Rattle.listing_slots.specs.Data.{Datum}
 use Rattle.listing_shapes.specs.Shapes.{Shape}
 use Rattle.listing_lines.specs.Lines.{line_of}
 use Rattle.listing_draft.specs.States.{State, add}
 use Rattle.listing_labels.specs.Lines.{is_skipped}
 use Rattle.listing_parse.specs.Forms.{HasShapeInForm, may_stand_in_form, SpellsInForm, MisspellsInForm}
-use Rattle.listing_parse.specs.Text.{Reading, aside, in_second, labels_after, LineSays, AddsLine, IsUnsaid, LineIsRefused}
-use Rattle.listing_parse.specs.declared.aside.Aside.TheVariants.{Nothing, Refused, First, Mark}
-
-pub wordless : (r : Reading) (line : List ℕ) → is_skipped line ≡ false → ((ws : List Word) → HasWords line ws → ⊥) → LineIsRefused r line 100
-wordless r line k none = record { not_skipped = k; why = inl (refl, none) }
-
-pub aside_refused : (r : Reading) (line : List ℕ) (ws : List Word) (code : ℕ) → is_skipped line ≡ false → HasWords line ws → aside r ws ≡ Refused code → LineIsRefused r line code
-aside_refused r line ws code k h e = record { not_skipped = k; why = inr (ws, h, inl e) }
+use Rattle.listing_parse.specs.Text.{Reading, aside, labels_after, LineSays, IsUnsaid, LineIsRefused}
+use Rattle.listing_parse.specs.declared.aside.Aside.TheVariants.{Nothing}
 
 pub unsaid_refused : (r : Reading) (line : List ℕ) (ws : List Word) (code : ℕ) → is_skipped line ≡ false → HasWords line ws → aside r ws ≡ Nothing → IsUnsaid r ws code → LineIsRefused r line code
 unsaid_refused r line ws code k h e u = record { not_skipped = k; why = inr (ws, h, inr (e, u)) }
-
-pub first_added : (r t : Reading) (ls : List (List ℕ)) (line : List ℕ) (ws : List Word) → HasWords line ws → aside r ws ≡ First → t ≡ in_second r → AddsLine r ls line t
-first_added r t ls line ws h e f = record { words = ws; has_words = h; makes = inl (e, f) }
-
-pub mark_added : (r : Reading) (ls : List (List ℕ)) (line : List ℕ) (ws : List Word) → HasWords line ws → aside r ws ≡ Mark → AddsLine r ls line r
-mark_added r ls line ws h e = record { words = ws; has_words = h; makes = inr (inl (e, refl)) }
-
-pub said_added : (r t : Reading) (ls : List (List ℕ)) (line : List ℕ) (ws : List Word) → HasWords line ws → aside r ws ≡ Nothing → LineSays r ls ws t → AddsLine r ls line t
-said_added r t ls line ws h e s = record { words = ws; has_words = h; makes = inr (inr (e, s)) }
 
 pub shapeless : (r : Reading) (ws : List Word) → ((sh : Shape) → HasShapeInForm r.form ws sh → ⊥) → IsUnsaid r ws 100
 shapeless r ws none = inl (refl, none)
@@ -45,8 +28,3 @@ twice r ws sh ds g n p a = inr (inr (inr (refl, record { shape = sh; has_shape =
 pub taken : (r t : Reading) (ls : List (List ℕ)) (ws : List Word) (sh : Shape) (ds : List Datum) (next : State) → HasShapeInForm r.form ws sh → may_stand_in_form r.form r.base sh ≡ true → SpellsInForm r.form r.labels sh.slots sh.words ds
     → add r.base (line_of sh.kind ds) ≡ Some next → t ≡ record { form = r.form; labels = labels_after r.form sh.kind (r.base.lines + 1) ls r.labels; base = next } → LineSays r ls ws t
 taken r t ls ws sh ds next g n p a is = record { shape = sh; has_shape = g; may_stand = n; says = ds; spelled = p; next = next; added = a; is = is }
-
-pub drop_map : (n : ℕ) (ws : List Made) → map word (drop n ws) ≡ drop n (map word ws)
-drop_map zero ws = refl
-drop_map (suc n) [] = refl
-drop_map (suc n) (w ∷ ws) = drop_map n ws

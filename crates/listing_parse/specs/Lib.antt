@@ -1,3 +1,4 @@
 pub mod Forms
 pub mod Text
 pub mod View
+pub mod Named

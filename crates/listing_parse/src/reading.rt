@@ -1,9 +1,10 @@
 //! Reading a listing, line by line.
 
-ghost use Rattle.std.specs.Prelude.{◌≡◌, ◌≢◌, false, ◌+◌, ◌<◌, ◌^◌, [], map, length, drop, IfOk, IfErr, IfSome, IfNone, OnOk, IsOkUnless, MatchBool, Some, None};
+ghost use Rattle.std.specs.Prelude.{◌≡◌, ◌≢◌, false, ◌+◌, ◌<◌, ◌^◌, [], map, length, drop, IsTrue, IfOk, IfErr, IfSome, IfNone, OnOk, IsOkUnless, MatchBool, Some, None};
 ghost use Rattle.base_bytes.specs.Fault.{memory};
 ghost use Rattle.program_types.specs.View.{program};
 ghost use Rattle.listing_words.specs.View.{word};
+ghost use Rattle.listing_slots.specs.ValidNames.{StayValid};
 ghost use Rattle.listing_slots.specs.View.{datum};
 ghost use Rattle.listing_shapes.specs.Shapes.{Shape};
 ghost use Rattle.listing_shapes.specs.ShapeView.{shape};
@@ -12,6 +13,7 @@ ghost use Rattle.listing_draft.specs.States.{add};
 ghost use Rattle.listing_draft.specs.View.{state};
 ghost use Rattle.listing_labels.specs.Lines.{lines, is_skipped};
 ghost use Rattle.listing_parse.specs.Forms.{HasShapeInForm, may_stand_in_form, SpellsInForm, MisspellsInForm};
+ghost use Rattle.listing_parse.specs.Named.{ReadingIsNamed, StateIsNamed};
 ghost use Rattle.listing_parse.specs.Text as spec;
 ghost use Rattle.listing_parse.specs.Text.{begin, line_counted, word_is, is_second, begins_mark, labels_after, LineSays, IsUnsaid, AddsLine, TakesLine, Reads, IsListing, LineIsRefused, IsBadLine, ListingBreaks, IsFinished, IsUnfinished};
 ghost use Rattle.listing_parse.specs.View.{reading};
@@ -25,7 +27,7 @@ use listing_lines::{Form, is_insns, is_start, is_two, make_insn, make_line, may_
 use listing_shapes::{Found, read_bare_shape, read_shape};
 use listing_slots::{Datum, Kind, Slot, Spelled, is_same, read_operands};
 use listing_words::{Word, read_words};
-use program_rules::well_formed_in;
+use program_rules::well_formed_named_in;
 use program_types::Program;
 use std::alloc::Global;
 
@@ -247,6 +249,7 @@ fn read_says<'a, 'b>(
     requires { lead + length scratch.old.slots.items ≡ length scratch.old.words.items }
     ensures all { IfOk result (λ r. IfNone r (SpellsInForm listing.now.form listing.now.labels scratch.old.slots.items (drop lead (map word scratch.old.words.items)) (map datum scratch.new.says.items))) }
     ensures bad { IfOk result (λ r. IfSome r (λ code. MisspellsInForm listing.now.form listing.now.labels scratch.old.slots.items (drop lead (map word scratch.old.words.items)) code)) }
+    ensures valid { IfOk result (λ r. IfNone r (StayValid scratch.old.spelled scratch.new.spelled (map datum scratch.new.says.items))) }
     ensures memory { IsOkUnless result memory }
 {
     let (_, operands) = scratch.words.as_slice().split_at(lead);
@@ -300,6 +303,7 @@ fn add_says<'a, 'b>(
 ) -> Result<(), Fault>
     requires { listing.old.draft.lines + 1 + length after.now < 2 ^ 64 }
     ensures taken { OnOk result (LineSays (reading listing.old) (lines after.now) (map word scratch.old.words.items) (reading listing.new)) }
+    ensures named { OnOk result (ReadingIsNamed scratch.old.spelled (reading listing.old) → ReadingIsNamed scratch.new.spelled (reading listing.new)) }
     ensures refused { IfErr result (λ e. e ≢ memory → IsUnsaid (reading listing.old) (map word scratch.old.words.items) e.code) }
     ensures place { IfErr result (λ e. e ≢ memory → e.place ≡ listing.old.draft.lines) }
     ensures lines { OnOk result (listing.new.draft.lines ≡ listing.old.draft.lines) }
@@ -331,6 +335,7 @@ fn add_line<'a, 'b>(
     requires says { is_skipped line.now ≡ false }
     requires short { listing.old.draft.lines + 1 + length after.now < 2 ^ 64 }
     ensures taken { OnOk result (AddsLine (reading listing.old) (lines after.now) line.now (reading listing.new)) }
+    ensures named { OnOk result (ReadingIsNamed scratch.old.spelled (reading listing.old) → ReadingIsNamed scratch.new.spelled (reading listing.new)) }
     ensures refused { IfErr result (λ e. e ≢ memory → LineIsRefused (reading listing.old) line.now e.code) }
     ensures place { IfErr result (λ e. e ≢ memory → e.place ≡ listing.old.draft.lines) }
     ensures lines { OnOk result (listing.new.draft.lines ≡ listing.old.draft.lines) }
@@ -371,6 +376,7 @@ fn read_line<'a, 'b>(
 ) -> Result<(), Fault>
     requires { listing.old.draft.lines + 2 + length after.now < 2 ^ 64 }
     ensures taken { OnOk result (TakesLine (reading listing.old) (lines after.now) line.now (reading listing.new)) }
+    ensures named { OnOk result (ReadingIsNamed scratch.old.spelled (reading listing.old) → ReadingIsNamed scratch.new.spelled (reading listing.new)) }
     ensures refused { IfErr result (λ e. e ≢ memory → LineIsRefused (line_counted (reading listing.old)) line.now e.code) }
     ensures place { IfErr result (λ e. e ≢ memory → e.place ≡ listing.old.draft.lines + 1) }
     ensures lines { OnOk result (listing.new.draft.lines ≡ listing.old.draft.lines + 1) }
@@ -395,10 +401,18 @@ fn begin<'a, 't>(alloc: Global, arena: &'a Bump) -> Reading<'a, 't>
     }
 }
 
+/// What the lines of a text make, and whether it is known that a file can have what its instructions name.
+#[derive(Drop)]
+struct Listed<'a> {
+    draft: Draft<'a>,
+    named: bool,
+}
+
 /// Reads all lines of a text; else the lowest that is refused: 100 to 104.
-fn read_lines<'a>(alloc: Global, arena: &'a Bump, text: &[u8]) -> Result<Draft<'a>, Fault>
-    ensures ok { IfOk result (λ d. (r : spec.Reading) × Reads begin (lines text.now) [] r × (r.base ≡ state d)) }
-    ensures number { IfOk result (λ d. d.lines ≡ length (lines text.now)) }
+fn read_lines<'a>(alloc: Global, arena: &'a Bump, text: &[u8]) -> Result<Listed<'a>, Fault>
+    ensures ok { IfOk result (λ l. (r : spec.Reading) × Reads begin (lines text.now) [] r × (r.base ≡ state l.draft)) }
+    ensures number { IfOk result (λ l. l.draft.lines ≡ length (lines text.now)) }
+    ensures named { IfOk result (λ l. IsTrue l.named → StateIsNamed (state l.draft)) }
     ensures err { IfErr result (λ e. e ≢ memory → IsBadLine (lines text.now) e.code e.place) }
 {
     let mut scratch = Scratch {
@@ -414,7 +428,10 @@ fn read_lines<'a>(alloc: Global, arena: &'a Bump, text: &[u8]) -> Result<Draft<'
         read_line(&mut scratch, &mut listing, line, after)?;
         rest = after;
     }
-    Ok(listing.draft)
+    Ok(Listed {
+        draft: listing.draft,
+        named: scratch.spelled.is_valid(),
+    })
 }
 
 /// Whether a listing may end after these lines; else 106 where a block is open, 105 where a target is no instruction of its code.
@@ -436,12 +453,13 @@ fn read_program<'a>(alloc: Global, arena: &'a Bump, text: &[u8]) -> Result<Progr
     ensures ok { IfOk result (λ p. IsListing text.now (program p)) }
     ensures err { IfErr result (λ e. e ≢ memory → ListingBreaks text.now e.code e.place) }
 {
-    let draft = read_lines(alloc, arena, text)?;
+    let listed = read_lines(alloc, arena, text)?;
+    let Listed { draft, named } = listed;
     check_end(&draft)?;
     let whole = Program {
         classes: draft.into_classes(),
     };
-    well_formed_in(alloc, &whole)?;
+    well_formed_named_in(alloc, &whole, named)?;
     Ok(whole)
 }
 

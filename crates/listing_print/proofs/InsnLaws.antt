@@ -2,7 +2,6 @@
 use Rattle.std.proofs.Common.{◌≡◌, ℕ, ℤ, zero, suc, ◌-◌, ◌*◌, ◌<◌, ◌≤◌, ◌^◌, Bool, true, false, inl, inr, List, [], ◌∷◌, ◌++◌, length, get_or, map, take, drop, replicate, Option, Some, None, refl, sym, ap, ◌∙◌, arith}
 use Rattle.std.specs.List.{list_all}
 use Rattle.std.specs.Fmt.{decimal}
-use Rattle.std.proofs.lemmas.Fmt.{decimal_is_IsNumeral}
 use Rattle.std.proofs.lemmas.Bool.{eq-eqb}
 use Rattle.std.proofs.lemmas.List.{length-take}
 use Rattle.dex_insn.specs.declared.opcode.Format.{Format}
@@ -11,9 +10,9 @@ use Rattle.dex_insn.specs.Opcodes.{format_of, index_kind_of}
 use Rattle.dex_insn.specs.Mnemonics.{mnemonics, mnemonic_of}
 use Rattle.dex_insn.proofs.Rows.{used_named}
 use Rattle.program_types.specs.Content as content
-use Rattle.program_types.specs.Content.{Insn, Name, OfText, OfDesc, OfField, OfMethod}
+use Rattle.program_types.specs.Content.{Insn, Name, OfText}
 use Rattle.listing_words.specs.Words.{Word, plain_word}
-use Rattle.listing_words.specs.Numbers.{SpellsNatural, is_number}
+use Rattle.listing_words.specs.Numbers.{is_number}
 use Rattle.listing_words.proofs.NaturalLaws.{spelled_natural, number_found}
 use Rattle.listing_slots.specs.declared.kind.Kind.TheVariants as kind
 use Rattle.listing_slots.specs.declared.key.Key.{Key}
@@ -122,25 +121,6 @@ named_slots op which front e = ap (λ s. front ++ (s ∷ [])) e
 -- the row of an instruction, in both forms
 pub insn_row : (form : Form) (i : Insn) → OpcodeFits i → IsInsnRow (insn_word i) (words_in form (insn_operands i)) (insn_kind i, slots_of (insn_operands i))
 unfolding payload_row find_key same key_text
-insn_row form (content.I10x op) h = plain_row op format.F10x _ _ h refl
-insn_row form (content.I12x op a b) h = plain_row op format.F12x _ _ h refl
-insn_row form (content.I11n op a b) h = plain_row op format.F11n _ _ h refl
-insn_row form (content.I11x op a) h = plain_row op format.F11x _ _ h refl
-insn_row form (content.I10t op k) h = plain_row op format.F10t _ _ h refl
-insn_row form (content.I20t op k) h = plain_row op format.F20t _ _ h refl
-insn_row form (content.I30t op k) h = plain_row op format.F30t _ _ h refl
-insn_row form (content.I22x op a b) h = plain_row op format.F22x _ _ h refl
-insn_row form (content.I21t op a k) h = plain_row op format.F21t _ _ h refl
-insn_row form (content.I31t op a k) h = plain_row op format.F31t _ _ h refl
-insn_row form (content.I21s op a b) h = plain_row op format.F21s _ _ h refl
-insn_row form (content.I21h op a b) h = plain_row op format.F21h _ _ h refl
-insn_row form (content.I23x op a b c) h = plain_row op format.F23x _ _ h refl
-insn_row form (content.I22b op a b c) h = plain_row op format.F22b _ _ h refl
-insn_row form (content.I22t op a b k) h = plain_row op format.F22t _ _ h refl
-insn_row form (content.I22s op a b c) h = plain_row op format.F22s _ _ h refl
-insn_row form (content.I32x op a b) h = plain_row op format.F32x _ _ h refl
-insn_row form (content.I31i op a b) h = plain_row op format.F31i _ _ h refl
-insn_row form (content.I51l op a b) h = plain_row op format.F51l _ _ h refl
 insn_row form (content.I21c op a which) h = plain_row op format.F21c _ _ h.0 (named_slots op which (register8 ∷ []) h.1)
 insn_row form (content.I31c op a which) h = plain_row op format.F31c _ _ h.0 (named_slots op which (register8 ∷ []) h.1)
 insn_row form (content.I22c op a b which) h = plain_row op format.F22c _ _ h.0 (named_slots op which (register4 ∷ register4 ∷ []) h.1)
@@ -151,6 +131,7 @@ insn_row form (content.I35c op n regs which) h =
 insn_row form (content.Packed first targets) h = key_row_of key.Packed _ _ refl (ap (λ ss. Some (kind.Packed, slot.Int ∷ ss)) (targets_slots form targets ∙ ap (λ n. replicate n target) (let z : length (words_in form (map to targets)) ≡ suc (length (words_in form (map to targets))) - 1 = omega arith in z)))
 insn_row form (content.Sparse keys targets) h = key_row_of key.Sparse _ _ refl (ap (λ ss. Some (kind.Sparse, ss)) (pairs_slots keys targets h ∙ ap pairs (let z = pairs_length form keys targets h in omega arith)))
 insn_row form (content.Data width bytes) h = key_row_of key.Elements _ _ refl (data_row form width bytes)
+insn_row form _ h = plain_row _ _ _ _ h refl
 
 -- ---- what the slots say
 
@@ -160,9 +141,7 @@ plain_says op f ds i e g = ap (λ (o : Option Format). insn_line (insn_of o op d
 
 name_says : (which : Name) → (name_operand which).says ≡ named which
 name_says (OfText us) = refl
-name_says (OfDesc d) = refl
-name_says (OfField f) = refl
-name_says (OfMethod m) = refl
+name_says _ = refl
 
 brace_says : (op n a b c d e : ℕ) (which : Name) → n ≤ 5 → drop n (a ∷ b ∷ c ∷ d ∷ e ∷ []) ≡ replicate (5 - n) 0 → insn_of (Some format.F35c) op (data_of (braces (take n (a ∷ b ∷ c ∷ d ∷ e ∷ [])) (name_operand which))) ≡ content.I35c op n (a ∷ b ∷ c ∷ d ∷ e ∷ []) which
 unfolding insn_of byte_of name_of
@@ -176,12 +155,7 @@ brace_says op (suc (suc (suc (suc (suc (suc n)))))) a b c d e which l h = absurd
 
 call_says : (op n : ℕ) (regs : List ℕ) (which : Name) → n ≤ 5 → length regs ≡ 5 → drop n regs ≡ replicate (5 - n) 0 → insn_of (Some format.F35c) op (data_of (braces (take n regs) (name_operand which))) ≡ content.I35c op n regs which
 call_says op n (a ∷ b ∷ c ∷ d ∷ e ∷ []) which l f h = brace_says op n a b c d e which l h
-call_says op n [] which l f h = absurd (omega arith)
-call_says op n (a ∷ []) which l f h = absurd (omega arith)
-call_says op n (a ∷ b ∷ []) which l f h = absurd (omega arith)
-call_says op n (a ∷ b ∷ c ∷ []) which l f h = absurd (omega arith)
-call_says op n (a ∷ b ∷ c ∷ d ∷ []) which l f h = absurd (omega arith)
-call_says op n (a ∷ b ∷ c ∷ d ∷ e ∷ x ∷ rs) which l f h = absurd (omega arith)
+call_says op n _ which l f h = absurd (omega arith)
 
 data_says : (width : ℕ) (bytes : List ℕ) → line_of kind.Elements (data_of (insn_operands (content.Data width bytes))) ≡ insn_line (content.Data width bytes)
 unfolding line_of half_of elements_of
@@ -198,25 +172,6 @@ sparse_says keys targets e = ap (λ ks. insn_line (content.Sparse ks (map word_o
 
 pub insn_says : (i : Insn) → OpcodeFits i → line_of (insn_kind i) (data_of (insn_operands i)) ≡ insn_line i
 unfolding insn_of byte_of half_of word_of tiny_of short_of int_of long_of name_of
-insn_says (content.I10x op) h = plain_says op format.F10x _ _ h refl
-insn_says (content.I12x op a b) h = plain_says op format.F12x _ _ h refl
-insn_says (content.I11n op a b) h = plain_says op format.F11n _ _ h refl
-insn_says (content.I11x op a) h = plain_says op format.F11x _ _ h refl
-insn_says (content.I10t op k) h = plain_says op format.F10t _ _ h refl
-insn_says (content.I20t op k) h = plain_says op format.F20t _ _ h refl
-insn_says (content.I30t op k) h = plain_says op format.F30t _ _ h refl
-insn_says (content.I22x op a b) h = plain_says op format.F22x _ _ h refl
-insn_says (content.I21t op a k) h = plain_says op format.F21t _ _ h refl
-insn_says (content.I31t op a k) h = plain_says op format.F31t _ _ h refl
-insn_says (content.I21s op a b) h = plain_says op format.F21s _ _ h refl
-insn_says (content.I21h op a b) h = plain_says op format.F21h _ _ h refl
-insn_says (content.I23x op a b c) h = plain_says op format.F23x _ _ h refl
-insn_says (content.I22b op a b c) h = plain_says op format.F22b _ _ h refl
-insn_says (content.I22t op a b k) h = plain_says op format.F22t _ _ h refl
-insn_says (content.I22s op a b c) h = plain_says op format.F22s _ _ h refl
-insn_says (content.I32x op a b) h = plain_says op format.F32x _ _ h refl
-insn_says (content.I31i op a b) h = plain_says op format.F31i _ _ h refl
-insn_says (content.I51l op a b) h = plain_says op format.F51l _ _ h refl
 insn_says (content.I21c op a which) h = plain_says op format.F21c _ _ h.0 (rw (name_says which) refl)
 insn_says (content.I31c op a which) h = plain_says op format.F31c _ _ h.0 (rw (name_says which) refl)
 insn_says (content.I22c op a b which) h = plain_says op format.F22c _ _ h.0 (rw (name_says which) refl)
@@ -225,6 +180,7 @@ insn_says (content.I35c op n regs which) h = plain_says op format.F35c _ _ h.0 (
 insn_says (content.Packed first targets) h = packed_says first targets
 insn_says (content.Sparse keys targets) h = sparse_says keys targets h
 insn_says (content.Data width bytes) h = data_says width bytes
+insn_says _ h = plain_says _ _ _ _ h refl
 
 -- ---- the number of an instruction
 
@@ -268,33 +224,10 @@ mnemonic_free op = none_is (find_key lead_keys (mnemonic_of op)) (all_at (λ m. 
 
 pub insn_free : (i : Insn) → None ≡ find_key lead_keys (insn_word i)
 unfolding find_key same key_text
-insn_free (content.I10x op) = mnemonic_free op
-insn_free (content.I12x op a b) = mnemonic_free op
-insn_free (content.I11n op a b) = mnemonic_free op
-insn_free (content.I11x op a) = mnemonic_free op
-insn_free (content.I10t op k) = mnemonic_free op
-insn_free (content.I20t op k) = mnemonic_free op
-insn_free (content.I30t op k) = mnemonic_free op
-insn_free (content.I22x op a b) = mnemonic_free op
-insn_free (content.I21t op a k) = mnemonic_free op
-insn_free (content.I31t op a k) = mnemonic_free op
-insn_free (content.I21s op a b) = mnemonic_free op
-insn_free (content.I21h op a b) = mnemonic_free op
-insn_free (content.I21c op a which) = mnemonic_free op
-insn_free (content.I31c op a which) = mnemonic_free op
-insn_free (content.I23x op a b c) = mnemonic_free op
-insn_free (content.I22b op a b c) = mnemonic_free op
-insn_free (content.I22t op a b k) = mnemonic_free op
-insn_free (content.I22s op a b c) = mnemonic_free op
-insn_free (content.I22c op a b which) = mnemonic_free op
-insn_free (content.I32x op a b) = mnemonic_free op
-insn_free (content.I31i op a b) = mnemonic_free op
-insn_free (content.I51l op a b) = mnemonic_free op
-insn_free (content.I35c op n regs which) = mnemonic_free op
-insn_free (content.I3rc op n first which) = mnemonic_free op
 insn_free (content.Packed first targets) = refl
 insn_free (content.Sparse keys targets) = refl
 insn_free (content.Data width bytes) = refl
+insn_free _ = mnemonic_free _
 
 pub insn_has_bare_shape : (i : Insn) → OpcodeFits i → FitOperands (insn_operands i)
     → HasBareShape (plain_word (insn_word i) ∷ words_in Two (insn_operands i)) (record { kind = insn_kind i; label = []; slots = slots_of (insn_operands i); words = words_in Two (insn_operands i) })

@@ -3,7 +3,7 @@ use Rattle.std.proofs.Common.{◌≡◌, Bool, true, false, List, [], ◌∷◌,
 use Rattle.std.specs.Prelude.{fold}
 use Rattle.std.proofs.lemmas.List.{append-nil}
 use Rattle.program_types.specs.Content as content
-use Rattle.program_types.specs.Content.{Value, Values, no_values, more_values, Name, OfText, OfDesc, OfField, OfMethod}
+use Rattle.program_types.specs.Content.{Value, Values, no_values, more_values, Name, OfText}
 use Rattle.listing_slots.specs.declared.key.Key.TheVariants as key
 use Rattle.listing_slots.specs.Data.{Datum, said}
 use Rattle.listing_lines.specs.Lines.{Making, with_word, with_value, value_of, first_value}
@@ -47,9 +47,7 @@ array_made m vs = rw (take_front m.values (list_of vs), drop_front m.values (lis
 
 named_fold : (which : Name) (m : Making) (rest : List Datum) → fold with_word m (data_of (named_operands which) ++ rest) ≡ fold with_word (with_value m (content.Named which)) rest
 named_fold (OfText us) m rest = refl
-named_fold (OfDesc d) m rest = refl
-named_fold (OfField f) m rest = refl
-named_fold (OfMethod k) m rest = refl
+named_fold _ m rest = refl
 
 truth_fold : (b : Bool) (m : Making) (rest : List Datum) → fold with_word m (data_of (value_operands (content.Boolean b)) ++ rest) ≡ fold with_word (with_value m (content.Boolean b)) rest
 truth_fold true m rest = refl
@@ -57,21 +55,13 @@ truth_fold false m rest = refl
 
 mutual
   pub value_fold : (v : Value) (m : Making) (rest : List Datum) → fold with_word m (data_of (value_operands v) ++ rest) ≡ fold with_word (with_value m v) rest
-  value_fold (content.Byte z) m rest = refl
-  value_fold (content.Short z) m rest = refl
-  value_fold (content.Char k) m rest = refl
-  value_fold (content.Int z) m rest = refl
-  value_fold (content.Long z) m rest = refl
-  value_fold (content.Float k) m rest = refl
-  value_fold (content.Double k) m rest = refl
   value_fold (content.Named which) m rest = named_fold which m rest
-  value_fold (content.Enum f) m rest = refl
   value_fold (content.Array vs) m rest =
       let d : data_of (values_operands vs ++ (keyword key.Close ∷ [])) ++ rest ≡ data_of (values_operands vs) ++ (said key.Close ∷ rest) = ap (λ ds. ds ++ rest) (data_join (values_operands vs) (keyword key.Close ∷ [])) ∙ append_assoc (data_of (values_operands vs)) (said key.Close ∷ []) rest in
       let n : Making = record { values = m.values; begins = length m.values ∷ m.begins } in
       ap (fold with_word n) d ∙ values_fold vs n (said key.Close ∷ rest) ∙ ap (λ x. fold with_word x rest) (array_made m vs)
-  value_fold content.Null m rest = refl
   value_fold (content.Boolean b) m rest = truth_fold b m rest
+  value_fold _ m rest = refl
 
   pub values_fold : (vs : Values) (m : Making) (rest : List Datum) → fold with_word m (data_of (values_operands vs) ++ rest) ≡ fold with_word (with_values m (list_of vs)) rest
   values_fold no_values m rest = ap (λ x. fold with_word x rest) (no_more m)

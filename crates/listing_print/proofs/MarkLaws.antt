@@ -1,31 +1,9 @@
 -- Which instructions are named.
-use Rattle.std.proofs.Common.{◌≡◌, ◌≢◌, ℕ, zero, suc, ◌+◌, ◌<◌, ◌||◌, ◌==◌, Bool, true, false, List, [], ◌∷◌, ◌++◌, length, get_or, take, map, refl, sym, ap, subst, ◌∙◌, append_assoc, arith, drop, replicate}
+use Rattle.std.proofs.Common.{◌≡◌, ℕ, zero, suc, ◌+◌, ◌<◌, Bool, false, List, [], ◌∷◌, ◌++◌, length, get_or, take, map, refl, sym, ap, subst, ◌∙◌, append_assoc, arith, drop, replicate}
 use Rattle.std.specs.List.{flat_map}
-use Rattle.std.proofs.lemmas.Bool.{eq-eqb, ne_eqb}
 use Rattle.std.proofs.lemmas.Grind.{flat_map-append}
 use Rattle.std.proofs.lemmas.List.{append-nil, map-append, take_more, take_all, drop_all}
-use Rattle.listing_print.specs.Canon.{is_named}
 use Rattle.listing_print.specs.Marks.{IsMarked}
-use Rattle.base_bytes.proofs.ListFacts.{or_last}
-
-or_join : (a b c : Bool) → a || (b || c) ≡ (a || b) || c
-or_join true b c = refl
-or_join false b c = refl
-
-or_false : (a : Bool) → a || false ≡ a
-or_false true = refl
-or_false false = refl
-
--- among these and those
-pub named_append : (ns ms : List ℕ) (k : ℕ) → is_named (ns ++ ms) k ≡ is_named ns k || is_named ms k
-named_append [] ms k = refl
-named_append (n ∷ ns) ms k = ap (λ b. (n == k) || b) (named_append ns ms k) ∙ or_join (n == k) (is_named ns k) (is_named ms k)
-
-pub named_last : (ns : List ℕ) (n k : ℕ) → n ≡ k → true ≡ is_named (ns ++ n ∷ []) k
-named_last ns n k e = sym (named_append ns (n ∷ []) k ∙ rw (eq-eqb n k e) (or_last (is_named ns k)))
-
-pub named_other : (ns : List ℕ) (n k : ℕ) → n ≢ k → is_named ns k ≡ is_named (ns ++ n ∷ []) k
-named_other ns n k e = sym (named_append ns (n ∷ []) k ∙ rw (ne_eqb n k e) (or_false (is_named ns k)))
 
 -- ---- one number more, and one after the other
 

@@ -13,7 +13,7 @@ use Rattle.listing_slots.specs.declared.slot.Mark.TheVariants.{Target}
 use Rattle.listing_slots.specs.Data.{Datum, word}
 use Rattle.listing_slots.specs.Slots.{SpellsSlots, has_form, have_forms}
 use Rattle.listing_slots.specs.Shown.{shown, shown_all, FitsSlot, FitSlots}
-use Rattle.listing_slots.proofs.ShownLaws.{shown_form, shown_forms, shown_spelled}
+use Rattle.listing_slots.proofs.ShownLaws.{shown_form, shown_spelled}
 use Rattle.listing_lines.specs.declared.form.Form.{Form}
 use Rattle.listing_lines.specs.declared.form.Form.TheVariants.{One, Two}
 use Rattle.listing_shapes.specs.declared.due.Due.TheVariants as due
@@ -30,9 +30,6 @@ words_all (o ∷ os) = ap (λ ws. shown o.slot o.says ∷ ws) (words_all os)
 fits_all : (os : List Operand) → FitOperands os → FitSlots (slots_of os) (data_of os)
 fits_all [] h = tt
 fits_all (o ∷ os) h = (h.0, fits_all os h.1)
-
-pub printed_forms : (os : List Operand) → FitOperands os → have_forms (slots_of os) (words_of os) ≡ true
-printed_forms os h = subst (λ (ws : List Word). have_forms (slots_of os) ws ≡ true) (words_all os) (shown_forms (slots_of os) (data_of os) (fits_all os h))
 
 pub printed_spelled : (os : List Operand) → FitOperands os → SpellsSlots (slots_of os) (words_of os) (data_of os)
 printed_spelled os h = subst (λ (ws : List Word). SpellsSlots (slots_of os) ws (data_of os)) (words_all os) (shown_spelled (slots_of os) (data_of os) (fits_all os h))
@@ -62,28 +59,17 @@ join_in form (o ∷ os) ps = ap (λ ws. shown_in form o.slot o.says ∷ ws) (joi
 
 named_words : (form : Form) (which : Name) → words_in form (named_operands which) ≡ words_of (named_operands which)
 named_words form (OfText us) = refl
-named_words form (OfDesc d) = refl
-named_words form (OfField f) = refl
-named_words form (OfMethod m) = refl
+named_words form _ = refl
 
 -- no target stands in a value
 mutual
   pub value_words : (form : Form) (v : Value) → words_in form (value_operands v) ≡ words_of (value_operands v)
-  value_words form (content.Byte z) = refl
-  value_words form (content.Short z) = refl
-  value_words form (content.Char n) = refl
-  value_words form (content.Int z) = refl
-  value_words form (content.Long z) = refl
-  value_words form (content.Float n) = refl
-  value_words form (content.Double n) = refl
   value_words form (content.Named which) = named_words form which
-  value_words form (content.Enum f) = refl
   value_words form (content.Array vs) =
       let c = keyword key.Close ∷ [] in
       let e : words_in form (values_operands vs ++ c) ≡ words_of (values_operands vs ++ c) = join_in form (values_operands vs) c ∙ ap (λ ws. ws ++ words_of c) (values_words form vs) ∙ sym (words_join (values_operands vs) c) in
       ap (λ ws. plain_word (key_text key.Array) ∷ plain_word (key_text key.Open) ∷ ws) e
-  value_words form content.Null = refl
-  value_words form (content.Boolean b) = refl
+  value_words form _ = refl
 
   values_words : (form : Form) (vs : Values) → words_in form (values_operands vs) ≡ words_of (values_operands vs)
   values_words form no_values = refl
@@ -98,10 +84,6 @@ mutual
 -- after the words of a value, what is due after it
 abbrev pub after_slots : List Slot → Option (List Slot) → Option (List Slot)
 after_slots done more = option_map (λ ss. done ++ ss) more
-
-after_one : (s : Slot) (done : List Slot) (more : Option (List Slot)) → option_map (λ ss. s ∷ ss) (after_slots done more) ≡ after_slots (s ∷ done) more
-after_one s done None = refl
-after_one s done (Some ss) = refl
 
 after_more : (a b : List Slot) (more : Option (List Slot)) → after_slots a (after_slots b more) ≡ after_slots (a ++ b) more
 after_more a b None = refl

@@ -7,7 +7,7 @@ use Rattle.listing_words.specs.Words.{Word, plain_word}
 use Rattle.listing_slots.specs.Keys.{key_text, same, find_key, lead_keys}
 use Rattle.listing_slots.specs.Data.{byte_of, half_of, word_of, tiny_of, short_of, int_of, long_of, elements_of, name_of, text_of, type_of, proto_of}
 use Rattle.listing_shapes.specs.Shapes.{IsKeyed, key_row}
-use Rattle.listing_lines.specs.Lines.{Line, first_line, open_class, end_class, super_line, implements_line, source_line, static_line, instance_line, direct_line, virtual_line, open_code, end_code, insn_line, try_line, catch_line, catch_all_line, line_of}
+use Rattle.listing_lines.specs.Lines.{Line, static_line, direct_line, virtual_line, insn_line, line_of}
 use Rattle.listing_print.specs.Operands.{value_operands}
 use Rattle.listing_print.specs.Printed.{line_key, line_operands}
 use Rattle.listing_lines.specs.declared.form.Form.{Form}
@@ -17,45 +17,18 @@ use Rattle.listing_print.proofs.MadeLaws.{value_made}
 
 lead_of : (l : Line) → IsKeyedLine l → Some (line_key l) ≡ find_key lead_keys (key_text (line_key l))
 unfolding find_key same key_text
-lead_of first_line h = refl
-lead_of (open_class d f) h = refl
-lead_of end_class h = refl
-lead_of (super_line d) h = refl
-lead_of (implements_line d) h = refl
-lead_of (source_line us) h = refl
-lead_of (static_line m v) h = refl
-lead_of (instance_line m) h = refl
-lead_of (direct_line m) h = refl
-lead_of (virtual_line m) h = refl
-lead_of (open_code r i o) h = refl
-lead_of end_code h = refl
 lead_of (insn_line i) h = absurd h
-lead_of (try_line f t) h = refl
-lead_of (catch_line d k) h = refl
-lead_of (catch_all_line k) h = refl
+lead_of _ h = refl
 
 pub past_three : (ws : List Word) (a b c d : Word) → nat_le (length (a ∷ b ∷ c ∷ d ∷ ws)) 3 ≡ false
 past_three ws a b c d = lt-leb (length (a ∷ b ∷ c ∷ d ∷ ws)) 3 (omega arith)
 
 row_of : (form : Form) (l : Line) → IsKeyedLine l → Some (line_kind l, slots_of (line_operands l)) ≡ key_row (line_key l) (words_in form (line_operands l))
 unfolding key_row same key_text
-row_of form first_line h = refl
-row_of form (open_class d f) h = refl
-row_of form end_class h = refl
-row_of form (super_line d) h = refl
-row_of form (implements_line d) h = refl
-row_of form (source_line us) h = refl
 row_of form (static_line m None) h = refl
 row_of form (static_line m (Some v)) h = rw (past_three (words_in form (value_operands v)) _ _ _ _, value_words form v, value_whole v) refl
-row_of form (instance_line m) h = refl
-row_of form (direct_line m) h = refl
-row_of form (virtual_line m) h = refl
-row_of form (open_code r i o) h = refl
-row_of form end_code h = refl
 row_of form (insn_line i) h = absurd h
-row_of form (try_line f t) h = refl
-row_of form (catch_line d k) h = refl
-row_of form (catch_all_line k) h = refl
+row_of form _ h = refl
 
 -- its words have its shape, in both forms
 pub keyed_has_shape : (form : Form) (l : Line) → IsKeyedLine l → FitOperands (line_operands l)
@@ -75,20 +48,9 @@ without_code m e = ap (λ c. record { name = m.name; proto = m.proto; flags = m.
 -- its slots say the line
 pub keyed_says_line : (l : Line) → IsKeyedLine l → line_of (line_kind l) (data_of (line_operands l)) ≡ l
 unfolding line_of byte_of half_of word_of tiny_of short_of int_of long_of elements_of name_of text_of type_of proto_of
-keyed_says_line first_line h = refl
-keyed_says_line (open_class d f) h = refl
-keyed_says_line end_class h = refl
-keyed_says_line (super_line d) h = refl
-keyed_says_line (implements_line d) h = refl
-keyed_says_line (source_line us) h = refl
 keyed_says_line (static_line m None) h = refl
 keyed_says_line (static_line m (Some v)) h = ap (λ x. static_line m (Some x)) (value_made v)
-keyed_says_line (instance_line m) h = refl
 keyed_says_line (direct_line m) h = ap direct_line (without_code m h)
 keyed_says_line (virtual_line m) h = ap virtual_line (without_code m h)
-keyed_says_line (open_code r i o) h = refl
-keyed_says_line end_code h = refl
 keyed_says_line (insn_line i) h = absurd h
-keyed_says_line (try_line f t) h = refl
-keyed_says_line (catch_line d k) h = refl
-keyed_says_line (catch_all_line k) h = refl
+keyed_says_line _ h = refl

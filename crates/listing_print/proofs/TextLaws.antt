@@ -1,12 +1,11 @@
 -- Texts that grow by a piece.
-use Rattle.std.proofs.Common.{◌≡◌, ℕ, ℤ, zero, suc, min, ◌+◌, ◌<◌, ◌≤◌, inl, inr, List, [], ◌∷◌, ◌++◌, length, get_or, take, map, Some, None, slice_get, refl, sym, ap, ◌∙◌, append_assoc, arith, Result, Ok, Err}
-use Rattle.std.proofs.lemmas.Bool.{cases_lt}
+use Rattle.std.proofs.Common.{◌≡◌, ℕ, ℤ, zero, suc, min, ◌+◌, ◌<◌, ◌≤◌, List, [], ◌∷◌, ◌++◌, length, get_or, take, map, Some, None, slice_get, refl, sym, ap, ◌∙◌, append_assoc, arith, Result, Ok, Err}
 use Rattle.std.proofs.lemmas.List.{append-nil, map-append, take_all, take_more, length-map, length-take}
 use Rattle.std.proofs.lemmas.Grind.{flat_map-append}
 use Rattle.std.specs.Result.{OnOk}
 use Rattle.std.specs.Fmt.{signed_decimal}
 use Rattle.program_types.specs.Content as content
-use Rattle.program_types.specs.Content.{Name, OfText, OfDesc, OfField, OfMethod, Value, Insn, Member}
+use Rattle.program_types.specs.Content.{Name, OfText, Value, Insn, Member}
 use Rattle.program_types.specs.View.{value, insn, member}
 use Rattle.program_types.specs.declared.value.Value.{Value as InValue}
 use Rattle.program_types.specs.declared.insn.Insn.{Insn as InInsn}
@@ -42,9 +41,7 @@ registers_text form (r ∷ rs) = ap (λ t. (32 ∷ word_bytes (shown register4 (
 
 close_text : (form : Form) (which : Name) → operand_text_in form (keyword key.Close ∷ name_operand which ∷ []) ≡ operand_text (keyword key.Close ∷ name_operand which ∷ [])
 close_text form (OfText us) = refl
-close_text form (OfDesc d) = refl
-close_text form (OfField f) = refl
-close_text form (OfMethod m) = refl
+close_text form _ = refl
 
 pub call_text : (form : Form) (rs : List ℕ) (which : Name) → operand_text_in form (keyword key.Open ∷ (map v4 rs ++ (keyword key.Close ∷ name_operand which ∷ []))) ≡ operand_text (keyword key.Open ∷ (map v4 rs ++ (keyword key.Close ∷ name_operand which ∷ [])))
 call_text form rs which =
@@ -93,14 +90,6 @@ value_text old before new vs i x h e f =
     let b = value_operands (value (get_or vs i x)) in
     let n : map value (take (i + 1) vs) ≡ map value (take i vs) ++ value (get_or vs i x) ∷ [] = ap (map value) (take_more vs i x h) ∙ map-append value (take i vs) (get_or vs i x ∷ []) in
     f ∙ ap (λ t. t ++ operand_text b) e ∙ append_assoc old (operand_text a) (operand_text b) ∙ ap (λ t. old ++ t) (sym (text_append a b)) ∙ ap (λ os. old ++ operand_text (keyword key.Array ∷ keyword key.Open ∷ os)) (sym (ap (λ l. values_operands (content.values l)) n ∙ values_join (map value (take i vs)) (value (get_or vs i x))))
-
-pub array_text : (old before new : List ℕ) (vs : List InValue) (i : ℕ) → length vs ≤ i → before ≡ old ++ operand_text (keyword key.Array ∷ keyword key.Open ∷ values_operands (content.values (map value (take i vs))))
-    → new ≡ before ++ operand_text (keyword key.Close ∷ []) → new ≡ old ++ operand_text (value_operands (content.Array (content.values (map value vs))))
-array_text old before new vs i h e f =
-    let n = take_all i vs h in
-    let a = keyword key.Array ∷ keyword key.Open ∷ values_operands (content.values (map value vs)) in
-    let g : before ≡ old ++ operand_text a = e ∙ ap (λ l. old ++ operand_text (keyword key.Array ∷ keyword key.Open ∷ values_operands (content.values (map value l)))) n in
-    f ∙ ap (λ t. t ++ operand_text (keyword key.Close ∷ [])) g ∙ append_assoc old (operand_text a) (operand_text (keyword key.Close ∷ [])) ∙ ap (λ t. old ++ t) (sym (text_append a (keyword key.Close ∷ [])))
 
 -- ---- instructions
 

@@ -4,7 +4,7 @@ use Rattle.std.specs.Prelude.{ℕ, List, [], ◌∷◌, ◌++◌, Some, None}
 use Rattle.std.specs.Fmt.{decimal}
 use Rattle.dex_insn.specs.Mnemonics.{mnemonic_of}
 use Rattle.program_types.specs.Content as content
-use Rattle.program_types.specs.Content.{Units, Descriptor, Proto, Value, Insn, Member, Method, OfText, OfDesc}
+use Rattle.program_types.specs.Content.{Descriptor, Proto, Insn, Member, Method, OfText, OfDesc}
 use Rattle.listing_slots.specs.declared.key.Key.{Key}
 use Rattle.listing_slots.specs.declared.key.Key.TheVariants as key
 use Rattle.listing_slots.specs.declared.slot.Slot.TheVariants as slot

@@ -1,18 +1,17 @@
 //! Laws of what is printed. None has code: each says of the definitions what its contract says.
 
-ghost use Rattle.std.specs.Prelude.{◌≡◌, ℕ, ◌<◌, ◌^◌, ◌++◌, ◌∷◌, [], true, List, map, Some};
+ghost use Rattle.std.specs.Prelude.{◌≡◌, ℕ, ◌<◌, ◌^◌, ◌++◌, ◌∷◌, [], true, map, Some};
 ghost use Rattle.std.specs.Fmt.{decimal};
 ghost use Rattle.listing_words.specs.Words.{plain_word};
 ghost use Rattle.listing_words.specs.Numbers.{is_number};
 ghost use Rattle.listing_slots.specs.Keys.{key_text};
-ghost use Rattle.listing_shapes.specs.Shapes.{HasShape, HasBareShape, IsKeyed};
+ghost use Rattle.listing_shapes.specs.Shapes.{HasShape, HasBareShape, IsKeyed, value_slots};
 ghost use Rattle.listing_lines.specs.declared.form.Form.{Form};
 ghost use Rattle.listing_lines.specs.declared.form.Form.TheVariants.{One, Two};
 ghost use Rattle.listing_print.specs.Printed.{line_key, line_operands, insn_word};
 ghost use Rattle.listing_print.specs.Reading.{slots_of, data_of, words_in, FitOperands, line_kind, IsKeyedLine, insn_kind, OpcodeFits};
 ghost use Rattle.program_types.specs.Content.{Value, Insn};
 ghost use Rattle.listing_shapes.specs.declared.due.Due.TheVariants as due;
-ghost use Rattle.listing_shapes.specs.Shapes.{value_slots};
 ghost use Rattle.listing_slots.specs.Shown.{shown};
 ghost use Rattle.listing_lines.specs.Lines.{Line, insn_line, line_of, value_of};
 ghost use Rattle.listing_print.specs.Operands.{value_operands, insn_operands};

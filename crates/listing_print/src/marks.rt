@@ -1,10 +1,10 @@
 //! Which instructions a code names.
 
-ghost use Rattle.std.specs.Prelude.{◌≡◌, ◌+◌, ◌++◌, ◌∷◌, [], ℕ, List, map, length, option_map, IfOk};
+ghost use Rattle.std.specs.Prelude.{◌≡◌, ◌+◌, ◌++◌, ◌∷◌, [], ℕ, List, map, length, IfOk};
 ghost use Rattle.std.specs.List.{flat_map};
 ghost use Rattle.program_types.specs.View.{insn, catch, try, code};
 ghost use Rattle.program_types.specs.Formed.{insn_leads};
-ghost use Rattle.listing_print.specs.Canon.{all_numbers, try_numbers, code_numbers};
+ghost use Rattle.listing_print.specs.Canon.{try_numbers, code_numbers};
 ghost use Rattle.listing_print.specs.Marks.{IsMarked};
 
 use program_types::{Catch, Code, Insn, Try};

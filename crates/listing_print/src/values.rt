@@ -1,13 +1,11 @@
 //! The values of static fields.
 
-ghost use Rattle.std.specs.Prelude.{◌≡◌, ◌++◌, ◌∷◌, [], OnOk};
-ghost use Rattle.program_types.specs.Content as content;
-ghost use Rattle.program_types.specs.View.{value};
+ghost use Rattle.std.specs.Prelude.{◌≡◌, ◌++◌, ◌∷◌, OnOk};
+ghost use Rattle.program_types.specs.View.{value, name};
 ghost use Rattle.std.specs.Fmt.{signed_decimal};
 ghost use Rattle.listing_slots.specs.Keys.{key_text};
 ghost use Rattle.listing_print.specs.Operands.{operand_text, named_operands, value_operands};
 ghost use Rattle.listing_print.specs.Leaves.{IsLeaf};
-ghost use Rattle.program_types.specs.View.{name};
 
 use crate::operands::put_named;
 use listing_slots::{Key, put_bits, put_field, put_key, put_number, put_signed};

@@ -1,17 +1,14 @@
 -- Words have one shape.
-use Rattle.std.proofs.Common.{◌≡◌, ℕ, zero, suc, ◌+◌, Bool, true, false, ◌&&◌, inl, inr, ◌⊎◌, List, [], ◌∷◌, ◌++◌, length, get_or, drop, map, Option, Some, None, refl, sym, ap, subst, ◌∙◌, append_assoc, arith}
+use Rattle.std.proofs.Common.{◌≡◌, ℕ, zero, suc, ◌+◌, Bool, true, false, inl, inr, ◌⊎◌, List, [], ◌∷◌, ◌++◌, length, get_or, drop, map, Option, Some, None, refl, sym, ap, subst, ◌∙◌, append_assoc, arith, add-one}
 use Rattle.std.specs.Prelude.{◌==◌, if◌then◌else◌, Result, Ok, Err, IfOk, IfSome, IfNone}
-use Rattle.std.proofs.Common.{add-one}
 use Rattle.base_bytes.specs.declared.fault.Fault.{Fault}
 use Rattle.std.specs.List.{list_all}
-use Rattle.std.proofs.lemmas.Bool.{eqb-true}
-use Rattle.std.proofs.lemmas.List.{append_cancel_right}
+use Rattle.std.proofs.lemmas.List.{append_cancel_right, length-map}
 use Rattle.dex_insn.proofs.Mnemonics.{named_once}
 use Rattle.dex_insn.specs.Mnemonics.{IsNamed, mnemonics}
-use Rattle.std.proofs.lemmas.List.{length-map}
 use Rattle.listing_words.specs.View.{word}
 use Rattle.listing_words.specs.declared.words.Word.{Word as Made}
-use Rattle.listing_words.specs.Words.{Word, plain_word, text_in_quotes}
+use Rattle.listing_words.specs.Words.{Word, plain_word}
 use Rattle.listing_words.specs.Numbers.{is_natural}
 use Rattle.listing_slots.specs.declared.key.Key.{Key}
 use Rattle.listing_slots.specs.declared.kind.Kind.{Kind}
@@ -31,9 +28,8 @@ ends (c ∷ []) = c == 58
 ends (c ∷ d ∷ cs) = ends (d ∷ cs)
 
 ends_label : (label : List ℕ) → ends (label ++ 58 ∷ []) ≡ true
-ends_label [] = refl
-ends_label (c ∷ []) = refl
 ends_label (c ∷ d ∷ cs) = ends_label (d ∷ cs)
+ends_label _ = refl
 
 abbrev free : Bool → Bool
 free true = false
@@ -154,18 +150,9 @@ no_words ws e s h = elim h [
   | inr a ↦ let w = a.words in cc
 ]
 
-pub quoted_first : (ws after : List Word) (us : List ℕ) → ws ≡ text_in_quotes us ∷ after → (s : Shape) → HasShape ws s → ⊥
-quoted_first ws after us e s h = elim h [
-  | inl a ↦ let w = a.words in cc
-  | inr a ↦ let w = a.words in cc
-]
-
 pub labelled_shape : (ws after : List Word) (text label : List ℕ) (row : Row) → ws ≡ plain_word text ∷ after → text ≡ label ++ 58 ∷ [] → is_natural label ≡ true → BeginsWithInsn after row
     → HasShape ws (record { kind = row.0; label = label; slots = row.1; words = drop 2 ws })
 labelled_shape ws after text label row e f n b = rw (e, f) (inl (record { label = label; after = after; words = refl; natural = n; row = row; insn = b; is = refl }))
-
-pub keyed_shape : (ws after : List Word) (text : List ℕ) (row : Row) → ws ≡ plain_word text ∷ after → BeginsWithKey text after row → HasShape ws (record { kind = row.0; label = []; slots = row.1; words = drop 1 ws })
-keyed_shape ws after text row e b = rw e (inr (record { text = text; after = after; words = refl; row = row; keyed = b; is = refl }))
 
 pub shapes_one : (ws : List Word) (s t : Shape) → HasShape ws s → HasShape ws t → s ≡ t
 shapes_one ws s t p q = elim p [
@@ -238,9 +225,6 @@ insn_formless ws rest text k ss old new e f r n forms row b =
 
 pub insn_empty : (ws : List Word) → ws ≡ [] → (row : Row) → BeginsWithInsn ws row → ⊥
 insn_empty ws e row b = let i = b.words in cc
-
-pub insn_quoted : (ws rest : List Word) (us : List ℕ) → ws ≡ text_in_quotes us ∷ rest → (row : Row) → BeginsWithInsn ws row → ⊥
-insn_quoted ws rest us e row b = let i = b.words in cc
 
 -- ---- rows of instructions
 
@@ -368,12 +352,6 @@ bare_none ws e s h = elim h [
   | inr a ↦ let w = a.words in cc
 ]
 
-pub bare_quoted : (ws after : List Word) (us : List ℕ) → ws ≡ text_in_quotes us ∷ after → (s : Shape) → HasBareShape ws s → ⊥
-bare_quoted ws after us e s h = elim h [
-  | inl a ↦ let w = a.words in cc
-  | inr a ↦ let w = a.words in cc
-]
-
 -- after a keyword
 pub bare_keyed_only : (ws after : List Word) (text : List ℕ) (k : Key) → ws ≡ plain_word text ∷ after → Some k ≡ find_key lead_keys text → ((row : Row) → BeginsWithKey text after row → ⊥) → (s : Shape) → HasBareShape ws s → ⊥
 bare_keyed_only ws after text k e f refuse s h = elim h [
@@ -395,9 +373,6 @@ bare_only ws after text e f refuse s h = elim h [
       let w = a.words in let i : a.text ≡ text = cc in
       no_key_row text a.after a.row f (subst (λ (u : List ℕ). BeginsWithKey u a.after a.row) i a.keyed)
 ]
-
-pub bare_keyed_shape : (ws after : List Word) (text : List ℕ) (row : Row) → ws ≡ plain_word text ∷ after → BeginsWithKey text after row → HasBareShape ws (record { kind = row.0; label = []; slots = row.1; words = drop 1 ws })
-bare_keyed_shape ws after text row e b = rw e (inr (record { text = text; after = after; words = refl; row = row; keyed = b; is = refl }))
 
 pub bare_shape : (ws after : List Word) (text : List ℕ) (row : Row) → ws ≡ plain_word text ∷ after → None ≡ find_key lead_keys text → BeginsWithInsn ws row → HasBareShape ws (record { kind = row.0; label = []; slots = row.1; words = drop 1 ws })
 bare_shape ws after text row e f b = inl (record { text = text; after = after; words = e; no_lead = f; row = row; insn = b; is = rw e refl })

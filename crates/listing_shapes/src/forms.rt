@@ -1,15 +1,14 @@
 //! The shape of a line: what it is, and a slot for each word after its keywords.
 
-ghost use Rattle.std.specs.Prelude.{◌≡◌, ◌≢◌, ◌≤◌, ◌<◌, ◌+◌, ◌++◌, ◌∷◌, [], ℕ, List, Option, Some, None, map, drop, length, replicate, option_map, IfOk, OnOk, IfSome, IfNone, IsOkUnless, IsTrue, ◌↔◌};
+ghost use Rattle.std.specs.Prelude.{◌≡◌, ◌<◌, ◌+◌, ◌++◌, ◌∷◌, [], Option, Some, map, drop, replicate, OnOk, IsOkUnless};
 ghost use Rattle.base_bytes.specs.Fault.{memory};
-ghost use Rattle.dex_insn.specs.Opcodes.{format_of, index_kind_of};
 ghost use Rattle.listing_words.specs.View.{word};
-ghost use Rattle.listing_slots.specs.Keys.{key_text, same};
+ghost use Rattle.listing_slots.specs.Keys.{key_text};
 ghost use Rattle.listing_slots.specs.declared.key.Key.TheVariants as Key;
 ghost use Rattle.listing_slots.specs.declared.slot.Slot.TheVariants as Slot;
 ghost use Rattle.listing_slots.specs.Slots.{has_form, have_forms};
 ghost use Rattle.listing_shapes.specs.Shapes as said;
-ghost use Rattle.listing_shapes.specs.Shapes.{is_key, name_slot, before_close, plain_slots, format_slots};
+ghost use Rattle.listing_shapes.specs.Shapes.{is_key, name_slot, before_close, format_slots};
 
 use bumpalo::Bump;
 use dex_base::Fault;

@@ -1,6 +1,6 @@
 //! The shape of a line.
 
-ghost use Rattle.std.specs.Prelude.{◌≡◌, ◌+◌, ◌∷◌, [], ◌++◌, true, false, List, Some, None, map, drop, replicate, ℕ, length, IfOk, IfSome, IfNone, OnOk, IsOkUnless, MatchBool};
+ghost use Rattle.std.specs.Prelude.{◌≡◌, ◌+◌, ◌∷◌, [], ◌++◌, false, List, Some, None, map, replicate, ℕ, length, IfOk, IfSome, IfNone, OnOk, IsOkUnless};
 ghost use Rattle.base_bytes.specs.Fault.{memory};
 ghost use Rattle.dex_insn.specs.Opcodes.{format_of, index_kind_of};
 ghost use Rattle.dex_insn.specs.Mnemonics.{IsNamed};

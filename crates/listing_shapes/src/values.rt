@@ -1,6 +1,6 @@
 //! The slots of a value.
 
-ghost use Rattle.std.specs.Prelude.{◌≡◌, ◌≤◌, ◌+◌, ◌^◌, ◌<◌, Some, None, map, option_map, IfOk, IfSome, IfNone, IsOkUnless, IsTrue, ◌++◌, MatchBool};
+ghost use Rattle.std.specs.Prelude.{◌≡◌, ◌≤◌, ◌+◌, ◌^◌, ◌<◌, Some, None, map, option_map, IfOk, IsOkUnless, ◌++◌, MatchBool};
 ghost use Rattle.base_bytes.specs.Fault.{memory};
 ghost use Rattle.listing_words.specs.View.{word};
 ghost use Rattle.listing_shapes.specs.Shapes as said;

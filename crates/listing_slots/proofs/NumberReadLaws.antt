@@ -4,17 +4,14 @@ use Rattle.std.specs.Prelude.{neg_ℤ, Option, Some, None, IfNone}
 use Rattle.std.proofs.lemmas.Int.Digits.{digits_value-lt}
 use Rattle.std.specs.Char.{digit_value}
 use Rattle.std.specs.Str.Parse.{AllDigits}
-use Rattle.listing_words.specs.Words.{Word, plain_word}
+use Rattle.listing_words.specs.Words.{plain_word}
 use Rattle.listing_words.specs.Numbers.{SpellsNatural, SpellsWhole, SpellsBits}
 use Rattle.listing_slots.specs.declared.slot.Mark.{Mark}
-use Rattle.listing_slots.specs.Slots.{mark_text, SpellsPlain, SpellsNumber, SpellsInteger, IsSignedWithin}
+use Rattle.listing_slots.specs.Slots.{mark_text, SpellsNumber, SpellsInteger, IsSignedWithin}
 use Rattle.listing_words.proofs.NaturalLaws.{natural_one}
 
 pub plain_is : (a b : List ℕ) → plain_word a ≡ plain_word b → a ≡ b
 plain_is a b e = cc
-
-pub marked_found : (m : Mark) (most : ℕ) (before text digits : List ℕ) (n : ℕ) → mark_text m ≡ before → text ≡ before ++ digits → SpellsNatural digits n → n ≤ most → SpellsNumber m most (plain_word text) n
-marked_found m most before text digits n e f s h = record { digits = digits; joined = ap plain_word (f ∙ rw e refl); spelled = s; small = h }
 
 pub marked_none : (m : Mark) (most : ℕ) (before text : List ℕ) → mark_text m ≡ before → ((digits : List ℕ) (n : ℕ) → text ≡ before ++ digits → SpellsNatural digits n → n ≤ most → ⊥) → (n : ℕ) → SpellsNumber m most (plain_word text) n → ⊥
 marked_none m most before text e refuse n s = refuse s.digits n (plain_is text (mark_text m ++ s.digits) s.joined ∙ rw e refl) s.spelled s.small
@@ -24,16 +21,6 @@ no_sign w ds n e p = elim p [
   | inl a ↦ let b = subst (AllDigits 10) e a.0.1 in let c : digit_value 45 < 10 = b.0 in omega arith
   | inr a ↦ let i = a.1 in let k : ◌≡◌ {A = ℕ} 45 48 = cc in omega arith
 ]
-
-pub signed_plain : (most : ℕ) (text : List ℕ) (n : ℕ) → SpellsNatural text n → n ≤ most → SpellsInteger most (plain_word text) (pos n)
-signed_plain most text n s h = record { digits = text; joined = refl; spelled = inl (n, s, refl); small = h }
-
-minus_within : (most n : ℕ) → n ≤ most + 1 → IsSignedWithin most (neg_ℤ (pos n))
-minus_within most zero h = omega arith
-minus_within most (suc n) h = omega arith
-
-pub signed_minus : (most : ℕ) (text ds : List ℕ) (z : ℤ) → text ≡ 45 ∷ ds → (n : ℕ) × SpellsNatural ds n × (n ≤ most + 1) × (z ≡ neg_ℤ (pos n)) → SpellsInteger most (plain_word text) z
-signed_minus most text ds z e h = record { digits = text; joined = refl; spelled = inr (ds, h.0, e, h.1, h.3); small = rw h.3 (minus_within most h.0 h.2) }
 
 minus_small : (most n : ℕ) → IsSignedWithin most (neg_ℤ (pos n)) → n ≤ most + 1
 minus_small most zero h = omega arith
@@ -80,6 +67,3 @@ signed_minus_none most text ds (Some z) e h = tt
 -- so many digits write a number below that power of 16
 pub bits_fit : (count : ℕ) (w : List ℕ) (n : ℕ) → SpellsBits count w n → n < 16 ^ count
 bits_fit count w n b = rw (b.number, ← b.many) (digits_value-lt 16 w b.digits)
-
-pub plain_bits_fit : (count : ℕ) (w : Word) (n : ℕ) → SpellsPlain (SpellsBits count) w n → n < 16 ^ count
-plain_bits_fit count w n b = bits_fit count b.0 n b.2

@@ -1,19 +1,21 @@
 -- Words in slots, one after the other.
-use Rattle.std.proofs.Common.{true, ◌≡◌, ℕ, ◌+◌, ◌<◌, ◌≤◌, inl, inr, List, [], ◌∷◌, ◌++◌, length, get_or, drop, map, refl, ap, subst, ◌∙◌, arith, add-one, drop-cons, drop_of_length-le}
+use Rattle.std.proofs.Common.{true, ◌≡◌, ℕ, ◌+◌, ◌<◌, ◌≤◌, inr, List, [], ◌∷◌, ◌++◌, length, get_or, drop, map, refl, ap, subst, ◌∙◌, arith, add-one, drop-cons, drop_of_length-le}
 use Rattle.listing_words.specs.View.{word}
 use Rattle.listing_words.specs.declared.words.Word.{Word as Made}
 use Rattle.listing_slots.specs.declared.slot.Slot.{Slot}
 use Rattle.listing_slots.specs.Data.{Datum, named}
 use Rattle.std.specs.Prelude.{Option, Some, None, Result, Ok, Err, IfOk, IfSome, IfNone}
 use Rattle.base_bytes.specs.declared.fault.Fault.{Fault}
+use Rattle.base_bytes.proofs.ListFacts.{all_append}
 use Rattle.program_types.specs.Content.{OfText, OfDesc}
 use Rattle.listing_words.specs.Words.{plain_word}
 use Rattle.listing_words.specs.Names.{SpellsUnits, IsProtoText, IsFieldText, IsMethodText}
 use Rattle.listing_words.proofs.NameLaws.{units_one}
 use Rattle.listing_slots.specs.declared.slot.Slot.TheVariants as slot
 use Rattle.listing_slots.specs.declared.datum.Datum.{Datum as Put}
+use Rattle.listing_slots.specs.ValidNames.{IsValidDatum, Spellings, StayValid}
 use Rattle.listing_slots.specs.View.{datum}
-use Rattle.listing_slots.specs.Slots.{SpellsNamed, IsMember, IsType, SpellsUnitsIn, is_name_slot, SpellsSlot, SpellsSlots, MisspellsSlots, fault_of}
+use Rattle.listing_slots.specs.Slots.{SpellsNamed, IsMember, IsType, SpellsUnitsIn, is_name_slot, SpellsSlot, SpellsSlots, MisspellsSlots}
 
 pub all_end : (ss : List Slot) (ws : List Made) (i : ℕ) → length ss ≤ i → length ss ≡ length ws → SpellsSlots (drop i ss) (map word (drop i ws)) []
 all_end ss ws i h e = rw (drop_of_length-le ss {i = i} h, drop_of_length-le ws {i = i} (omega arith)) tt
@@ -32,12 +34,12 @@ bad_more ss ws i x y d code h e s more =
     let g : drop i ws ≡ get_or ws i y ∷ drop (i + 1) ws = rw add-one (drop-cons ws i y (omega arith)) in
     rw (f, g) (inr (d, s, more))
 
-pub bad_here : (ss : List Slot) (ws : List Made) (i : ℕ) (x : Slot) (y : Made) (code : ℕ) → i < length ss → length ss ≡ length ws → ((d : Datum) → SpellsSlot (get_or ss i x) (word (get_or ws i y)) d → ⊥)
-    → code ≡ fault_of (get_or ss i x) → MisspellsSlots (drop i ss) (map word (drop i ws)) code
-bad_here ss ws i x y code h e none c =
-    let f : drop i ss ≡ get_or ss i x ∷ drop (i + 1) ss = rw add-one (drop-cons ss i x h) in
-    let g : drop i ws ≡ get_or ws i y ∷ drop (i + 1) ws = rw add-one (drop-cons ws i y (omega arith)) in
-    rw (f, g) (inl (none, c))
+-- what is kept of the names, after one word more
+pub stay_more : (old now new : Spellings) (ds : List Datum) (d : Datum) → StayValid old now ds → StayValid now new (d ∷ []) → StayValid old new (ds ++ d ∷ [])
+stay_more old now new ds d before here = λ valid.
+    let h = here valid in
+    let b = before h.0 in
+    (b.0, all_append IsValidDatum ds (d ∷ []) b.1 h.1)
 
 -- a datum more
 pub data_push : (ds : List Put) (d : Put) (more : List Datum) → map datum (ds ++ d ∷ []) ++ more ≡ map datum ds ++ (datum d ∷ more)

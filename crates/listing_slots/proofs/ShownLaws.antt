@@ -1,13 +1,12 @@
 -- Words that are printed in their slots are read again.
 use Rattle.std.proofs.Common.{◌≡◌, ◌≢◌, ℕ, ℤ, pos, negsuc, suc, ◌^◌, ◌<◌, ◌≤◌, Bool, true, false, ◌&&◌, ltb, inl, inr, List, [], ◌∷◌, ◌++◌, length, get_or, refl, sym, ap, arith}
-use Rattle.std.specs.List.{list_all, flat_map, AllByRecursion}
+use Rattle.std.specs.List.{list_all, AllByRecursion}
 use Rattle.std.specs.Char.{digit_value}
 use Rattle.std.specs.Str.Parse.{AllDigits}
 use Rattle.std.specs.Fmt.{decimal, signed_decimal}
 use Rattle.std.proofs.lemmas.Fmt.{decimal_is_IsNumeral}
-use Rattle.std.proofs.lemmas.Bool.{ltb-true, eq-eqb, cases_lt, lt-ltb, le-ltb}
-use Rattle.std.proofs.lemmas.List.{length-append}
-use Rattle.dex_base.specs.Descriptor.{IsMemberName, IsSimpleName, point_units}
+use Rattle.std.proofs.lemmas.Bool.{ltb-true, eq-eqb}
+use Rattle.dex_base.specs.Descriptor.{IsMemberName}
 use Rattle.program_types.specs.Content.{OfText, OfDesc, OfField, OfMethod}
 use Rattle.listing_words.specs.Numbers.{SpellsNatural}
 use Rattle.listing_words.specs.Words.{IsGraphic, IsWritable, plain_word}
@@ -22,7 +21,7 @@ use Rattle.listing_slots.specs.declared.slot.Slot.{Slot}
 use Rattle.listing_slots.specs.declared.slot.Slot.TheVariants as slot
 use Rattle.listing_slots.specs.Keys.{key_text, same}
 use Rattle.listing_slots.specs.Data.{Datum, byte, half, word, wide, tiny, short, int, long, elements, named, constant, prototype, said}
-use Rattle.listing_slots.specs.Slots.{mark_text, SpellsNumber, SpellsInteger, IsSignedWithin, SpellsSlot, SpellsSlots, has_form, have_forms}
+use Rattle.listing_slots.specs.Slots.{mark_text, SpellsNumber, SpellsInteger, IsSignedWithin, SpellsSlot, SpellsSlots, has_form}
 use Rattle.listing_slots.specs.Shown.{shown, shown_all, FitsSlot, FitSlots}
 use Rattle.dex_base.proofs.NameLaws.{simple_some}
 use Rattle.dex_base.proofs.LowPoints.{both}
@@ -96,13 +95,6 @@ shown_form slot.Proto (prototype p) h = refl
 shown_form (slot.Key k) (said l) h = same_refl (key_text k)
 shown_form _ _ h = absurd h
 
-pub shown_forms : (ss : List Slot) (ds : List Datum) → FitSlots ss ds → have_forms ss (shown_all ss ds) ≡ true
-unfolding have_forms
-shown_forms [] [] h = refl
-shown_forms [] (d ∷ ds) h = absurd h
-shown_forms (s ∷ ss) [] h = absurd h
-shown_forms (s ∷ ss) (d ∷ ds) h = rw (shown_form s d h.0) (shown_forms ss ds h.1)
-
 pub shown_spelled : (ss : List Slot) (ds : List Datum) → FitSlots ss ds → SpellsSlots ss (shown_all ss ds) ds
 shown_spelled [] [] h = tt
 shown_spelled [] (d ∷ ds) h = absurd h
@@ -134,42 +126,7 @@ word_written (c ∷ cs) e =
 key_is_word : (k : Key) → is_word (key_text k) ≡ true
 unfolding key_text
 key_is_word key.Dex = refl
-key_is_word key.Class = refl
-key_is_word key.End = refl
-key_is_word key.Super = refl
-key_is_word key.Implements = refl
-key_is_word key.Source = refl
-key_is_word key.Static = refl
-key_is_word key.Instance = refl
-key_is_word key.Direct = refl
-key_is_word key.Virtual = refl
-key_is_word key.Code = refl
-key_is_word key.Try = refl
-key_is_word key.Catch = refl
-key_is_word key.CatchAll = refl
-key_is_word key.Packed = refl
-key_is_word key.Sparse = refl
-key_is_word key.Elements = refl
-key_is_word key.Version = refl
-key_is_word key.Equals = refl
-key_is_word key.Open = refl
-key_is_word key.Close = refl
-key_is_word key.Byte = refl
-key_is_word key.Short = refl
-key_is_word key.Char = refl
-key_is_word key.Int = refl
-key_is_word key.Long = refl
-key_is_word key.Float = refl
-key_is_word key.Double = refl
-key_is_word key.Text = refl
-key_is_word key.Desc = refl
-key_is_word key.Field = refl
-key_is_word key.Method = refl
-key_is_word key.Enum = refl
-key_is_word key.Array = refl
-key_is_word key.Null = refl
-key_is_word key.True = refl
-key_is_word key.False = refl
+key_is_word _ = refl
 
 -- a digit's byte is graphic, and no quote
 pub digit_range : (c : ℕ) → digit_value c < 10 → (48 ≤ c) × (c < 58)
@@ -223,16 +180,6 @@ joined_some : (xs ys : List ℕ) → 0 < length ys → 0 < length (xs ++ ys)
 joined_some [] ys h = h
 joined_some (x ∷ xs) ys h = omega arith
 
-point_some : (c : ℕ) → 0 < length (point_units c)
-point_some c = elim (cases_lt c 65536) [
-  | inl l ↦ rw (lt-ltb c 65536 l) (omega arith)
-  | inr l ↦ rw (le-ltb c 65536 l) (omega arith)
-]
-
-points_some : (ps : List ℕ) → ps ≢ [] → 0 < length (flat_map point_units ps)
-points_some [] n = absurd (n refl)
-points_some (p ∷ ps) n = let h = point_some p in rw length-append (omega arith)
-
 member_some : (us : List ℕ) → IsMemberName us → 0 < length us
 member_some us h = elim h [
   | inl s ↦ simple_some us s
@@ -261,9 +208,3 @@ shown_written slot.Enum (constant f) h = name_writable (field_units f) (joined_s
 shown_written slot.Proto (prototype p) h = name_writable (proto_units p) (omega arith)
 shown_written (slot.Key k) (said l) h = word_written (key_text k) (key_is_word k)
 shown_written _ _ h = absurd h
-
-pub shown_all_written : (ss : List Slot) (ds : List Datum) → FitSlots ss ds → AllByRecursion IsWritable (shown_all ss ds)
-shown_all_written [] [] h = tt
-shown_all_written [] (d ∷ ds) h = absurd h
-shown_all_written (s ∷ ss) [] h = absurd h
-shown_all_written (s ∷ ss) (d ∷ ds) h = (shown_written s d h.0, shown_all_written ss ds h.1)

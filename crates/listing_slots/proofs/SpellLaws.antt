@@ -1,8 +1,8 @@
 -- A word says one thing in a slot, and words that say something have no first bad one.
-use Rattle.std.proofs.Common.{◌≡◌, ℕ, inl, inr, List, [], ◌∷◌, ◌++◌, refl, sym, subst, ◌∙◌}
+use Rattle.std.proofs.Common.{◌≡◌, ℕ, inl, inr, List, [], ◌∷◌, ◌++◌, refl, subst}
 use Rattle.listing_words.specs.Words.{Word}
 use Rattle.listing_words.specs.Numbers.{SpellsNatural}
-use Rattle.listing_words.proofs.NaturalLaws.{spelled_natural, natural_one}
+use Rattle.listing_words.proofs.NaturalLaws.{natural_one}
 use Rattle.listing_slots.specs.declared.slot.Mark.{Mark}
 use Rattle.listing_slots.specs.declared.slot.Mark.TheVariants as mark
 use Rattle.listing_slots.specs.declared.slot.Slot.{Slot}
@@ -11,8 +11,7 @@ use Rattle.listing_slots.specs.Slots.{mark_text, SpellsNumber, SpellsPlain, Spel
 
 unmarked : (m : Mark) (a b : List ℕ) → mark_text m ++ a ≡ mark_text m ++ b → a ≡ b
 unmarked mark.Nothing a b e = e
-unmarked mark.Register a b e = cc
-unmarked mark.Target a b e = cc
+unmarked _ a b e = cc
 
 pub number_one : (b : Mark) (most : ℕ) (w : Word) (m n : ℕ) → SpellsNumber b most w m → SpellsNumber b most w n → m ≡ n
 number_one b most w m n p q =

@@ -1,6 +1,6 @@
 //! The words that are always the same.
 
-ghost use Rattle.std.specs.Prelude.{◌≡◌, ◌↔◌, ◌∷◌, ℕ, List, IsTrue};
+ghost use Rattle.std.specs.Prelude.{◌≡◌, ◌∷◌, ℕ, List};
 ghost use Rattle.listing_slots.specs.Keys.{key_text, same, find_key, lead_keys, value_keys, payload_keys};
 
 /// A keyword.
@@ -100,13 +100,6 @@ pub fn value_key(text: &[u8]) -> Option<Key>
     ensures { result ≡ find_key value_keys text.now }
 {
     find_key(&VALUES, text)
-}
-
-/// Whether the texts are equal.
-pub fn is_same_text(a: &[u16], b: &[u16]) -> bool
-    ensures { result ≡ same a.now b.now }
-{
-    a == b
 }
 
 /// The word of a payload. The shortest is `array-payload`, and all end with `d`, which no mnemonic as long does.

@@ -1,6 +1,6 @@
 //! Laws of slots. None has code: each says of the definitions what its contract says.
 
-ghost use Rattle.std.specs.Prelude.{◌≡◌, List, true};
+ghost use Rattle.std.specs.Prelude.{◌≡◌, true};
 ghost use Rattle.listing_words.specs.Words.{Word, IsWritable};
 ghost use Rattle.listing_slots.specs.declared.slot.Slot.{Slot};
 ghost use Rattle.listing_slots.specs.Data.{Datum};

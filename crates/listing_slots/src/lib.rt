@@ -25,7 +25,7 @@ pub use datum::{
     Datum, byte_of, datum_at, elements_of, half_of, int_of, long_of, name_of, proto_of, short_of,
     text_of, tiny_of, type_of, word_of,
 };
-pub use key::{Key, is_same, is_same_text, key_text, lead_key, payload_key, value_key};
+pub use key::{Key, is_same, key_text, lead_key, payload_key, value_key};
 pub use kind::Kind;
 pub use law::{printed_words_are_read_again, words_say_one_thing};
 pub use numbers::read_marked;

@@ -1,11 +1,12 @@
 //! What the words of a line say.
 
-ghost use Rattle.std.specs.Prelude.{◌≡◌, true, ℕ, List, map, length, IfOk, IfSome, IfNone, IsOkUnless};
+ghost use Rattle.std.specs.Prelude.{◌≡◌, true, ◌∷◌, [], map, length, IfOk, IfSome, IfNone, IsOkUnless};
 ghost use Rattle.base_bytes.specs.Fault.{memory};
 ghost use Rattle.listing_words.specs.Words.{plain_word, text_in_quotes};
 ghost use Rattle.listing_words.specs.View.{word};
 ghost use Rattle.listing_slots.specs.Slots.{SpellsSlot, SpellsSlots, MisspellsSlots, SpellsUnitsIn, is_name_slot, is_number_slot, is_signed_slot, fault_of};
 ghost use Rattle.listing_slots.specs.Data.{Datum as Said};
+ghost use Rattle.listing_slots.specs.ValidNames.{IsValidDatum, StayValid};
 ghost use Rattle.listing_slots.specs.View.{datum};
 
 use crate::datum::Datum;
@@ -24,6 +25,7 @@ fn read_plain(slot: Slot, text: &[u8]) -> Option<Datum<'static>>
     requires { is_number_slot slot ≡ true }
     ensures found { IfSome result (λ d. SpellsSlot slot (plain_word text.now) (datum d)) }
     ensures none { IfNone result ((d : Said) → SpellsSlot slot (plain_word text.now) d → ⊥) }
+    ensures valid { IfSome result (λ d. IsValidDatum (datum d)) }
 {
     match slot {
         Slot::Byte(mark, most) => match read_number(mark, text, most as u64) {
@@ -59,6 +61,7 @@ fn read_whole(slot: Slot, text: &[u8]) -> Option<Datum<'static>>
     requires { is_signed_slot slot ≡ true }
     ensures found { IfSome result (λ d. SpellsSlot slot (plain_word text.now) (datum d)) }
     ensures none { IfNone result ((d : Said) → SpellsSlot slot (plain_word text.now) d → ⊥) }
+    ensures valid { IfSome result (λ d. IsValidDatum (datum d)) }
 {
     match slot {
         Slot::Nibble => match read_signed(text, 7) {
@@ -182,6 +185,7 @@ fn read_unquoted<'a, 'b>(
 ) -> Result<Option<Datum<'a>>, Fault>
     ensures found { IfOk result (λ r. IfSome r (λ d. SpellsSlot slot (plain_word text.now) (datum d))) }
     ensures none { IfOk result (λ r. IfNone r ((d : Said) → SpellsSlot slot (plain_word text.now) d → ⊥)) }
+    ensures valid { IfOk result (λ r. IfSome r (λ d. StayValid spelled.old spelled.new (datum d ∷ []))) }
     ensures memory { IsOkUnless result memory }
 {
     if is_number_slot(slot) {
@@ -204,6 +208,7 @@ fn read_unquoted<'a, 'b>(
 fn read_quoted<'a>(slot: Slot, units: &'a [u16]) -> Option<Datum<'a>>
     ensures found { IfSome result (λ d. SpellsSlot slot (text_in_quotes units.now) (datum d)) }
     ensures none { IfNone result ((d : Said) → SpellsSlot slot (text_in_quotes units.now) d → ⊥) }
+    ensures valid { IfSome result (λ d. IsValidDatum (datum d)) }
 {
     match slot {
         Slot::Key(key) => Some(Datum::Key(key)),
@@ -221,6 +226,7 @@ pub fn read_datum<'a, 'b>(
 ) -> Result<Option<Datum<'a>>, Fault>
     ensures found { IfOk result (λ r. IfSome r (λ d. SpellsSlot slot (word one.entry) (datum d))) }
     ensures none { IfOk result (λ r. IfNone r ((d : Said) → SpellsSlot slot (word one.entry) d → ⊥)) }
+    ensures valid { IfOk result (λ r. IfSome r (λ d. StayValid spelled.old spelled.new (datum d ∷ []))) }
     ensures memory { IsOkUnless result memory }
 {
     match one {
@@ -250,6 +256,7 @@ pub fn read_operands<'a, 'b>(
     requires { length slots.now ≡ length words.now }
     ensures all { IfOk result (λ r. IfNone r (SpellsSlots slots.now (map word words.now) (map datum says.new.items))) }
     ensures bad { IfOk result (λ r. IfSome r (λ code. MisspellsSlots slots.now (map word words.now) code)) }
+    ensures valid { IfOk result (λ r. IfNone r (StayValid spelled.old spelled.new (map datum says.new.items))) }
     ensures memory { IsOkUnless result memory }
 {
     says.clear();

@@ -1,10 +1,11 @@
 //! Names that words have spelled: a listing spells most of its names many times.
 
-ghost use Rattle.std.specs.Prelude.{◌≡◌, true, IfOk, IfSome, IfNone, IsTrue, IsOkUnless};
+ghost use Rattle.std.specs.Prelude.{◌≡◌, ◌↔◌, ◌∷◌, [], true, IfOk, IfSome, IfNone, IsTrue, IsOkUnless};
 ghost use Rattle.base_bytes.specs.Fault.{memory};
 ghost use Rattle.listing_words.specs.Words.{plain_word};
 ghost use Rattle.listing_slots.specs.Slots.{SpellsSlot, is_name_slot};
 ghost use Rattle.listing_slots.specs.Data.{Datum as Said};
+ghost use Rattle.listing_slots.specs.ValidNames.{IsValidDatum, StayValid};
 ghost use Rattle.listing_slots.specs.View.{datum};
 
 use crate::datum::Datum;
@@ -14,6 +15,8 @@ use crate::slot::Slot;
 use base_bytes::u32_at;
 use bumpalo::Bump;
 use dex_base::Fault;
+use program_rules::is_valid_name;
+use program_types::Name;
 use std::alloc::Global;
 use std::marker::Model;
 
@@ -28,21 +31,25 @@ struct Spelling<'a, 'b> {
 /// Words that spelled names, with their names: a word that has its place here isn't read again, nor its name stored again.
 ///
 /// Each word has one place, by its bytes, and takes it from the word that was there. So a word is compared with one other,
-/// whatever the listing, and the places take the memory that they took at first. It stands for the number of places.
+/// whatever the listing, and the places take the memory that they took at first. Whether a file can have a name is asked
+/// where it is read, so not for each word. It stands for the number of places, and whether a file can have all of the names.
 #[derive(Drop)]
 pub struct Spelled<'a, 'b> {
     places: Vec<Option<Spelling<'a, 'b>>>,
+    valid: bool,
 }
 
 impl<'a, 'b> Model for Spelled<'a, 'b> {
-    ghost use Rattle.std.specs.Prelude.{ℕ, length};
+    ghost use Rattle.std.specs.Prelude.{length};
+    ghost use Rattle.listing_slots.specs.ValidNames.{Spellings};
+
+    ghost Value = { Spellings };
+
     ghost use Rattle.listing_slots.specs.Spelled.{AreSpelled};
 
-    ghost Value = { ℕ };
+    ghost view = { λ s. record { places = length s.places.items; valid = s.valid } };
 
-    ghost view = { λ s. length s.places.items };
-
-    ghost invariant = { λ s. AreSpelled s.places.items };
+    ghost invariant = { λ s. AreSpelled s.valid s.places.items };
 }
 
 /// Whether both are the same slot, one in which names stand.
@@ -81,20 +88,42 @@ fn place_of(text: &[u8], places: usize) -> usize {
     (sum_of(text) >> 32) as usize % places
 }
 
+/// Whether a file can have what a word names.
+fn is_valid_datum(said: Datum<'_>) -> bool
+    ensures { IsTrue result ↔ IsValidDatum (datum said.entry) }
+{
+    match said {
+        Datum::Name(name) => is_valid_name(name),
+        Datum::Enum(field) => is_valid_name(Name::Field(field)),
+        _ => true,
+    }
+}
+
 impl<'a, 'b> Spelled<'a, 'b> {
     /// No word, and so many places.
     pub fn new(alloc: Global, places: usize) -> Result<Self, Fault>
-        ensures none { IfOk result (λ s. s ≡ places) }
+        ensures none { IfOk result (λ s. s ≡ record { places = places; valid = true }) }
         ensures memory { IsOkUnless result memory }
     {
         let mut all: Vec<Option<Spelling<'a, 'b>>> = Vec::new(alloc);
         all.resize(places, None)?;
-        Ok(Spelled { places: all })
+        Ok(Spelled {
+            places: all,
+            valid: true,
+        })
+    }
+
+    /// Whether a file can have all names that words said.
+    pub fn is_valid(&self) -> bool
+        ensures { result ≡ self.now.valid }
+    {
+        self.valid
     }
 
     /// What a word said in a slot, if the two are those kept at this place.
     fn find(&self, at: usize, slot: Slot, text: &[u8]) -> Option<Datum<'a>>
-        ensures { IfSome result (λ d. SpellsSlot slot (plain_word text.now) (datum d)) }
+        ensures said { IfSome result (λ d. SpellsSlot slot (plain_word text.now) (datum d)) }
+        ensures valid { IfSome result (λ d. IsTrue self.now.valid → IsValidDatum (datum d)) }
     {
         if at >= self.places.len() {
             return None;
@@ -108,10 +137,21 @@ impl<'a, 'b> Spelled<'a, 'b> {
 
     /// Puts a word at a place, where it says this in the slot.
     fn keep(&mut self, at: usize, slot: Slot, text: &'b [u8], name: Datum<'a>)
-        requires { SpellsSlot slot (plain_word text.now) (datum name) }
+        requires said { SpellsSlot slot (plain_word text.now) (datum name) }
+        requires valid { IsTrue self.old.valid → IsValidDatum (datum name) }
+        ensures { self.new ≡ self.old }
     {
         if at < self.places.len() {
             self.places[at] = Some(Spelling { slot, text, name });
+        }
+    }
+
+    /// Notes whether a file can have what a word names.
+    fn note(&mut self, name: Datum<'a>)
+        ensures { StayValid self.old self.new (datum name.entry ∷ []) }
+    {
+        if !is_valid_datum(name) {
+            self.valid = false;
         }
     }
 
@@ -125,6 +165,7 @@ impl<'a, 'b> Spelled<'a, 'b> {
         requires { is_name_slot slot ≡ true }
         ensures found { IfOk result (λ r. IfSome r (λ d. SpellsSlot slot (plain_word text.now) (datum d))) }
         ensures none { IfOk result (λ r. IfNone r ((d : Said) → SpellsSlot slot (plain_word text.now) d → ⊥)) }
+        ensures valid { IfOk result (λ r. IfSome r (λ d. StayValid self.old self.new (datum d ∷ []))) }
         ensures memory { IsOkUnless result memory }
     {
         let at = place_of(text, self.places.len());
@@ -134,6 +175,7 @@ impl<'a, 'b> Spelled<'a, 'b> {
         let Some(name) = read_encoded(bump, slot, text)? else {
             return Ok(None);
         };
+        self.note(name);
         self.keep(at, slot, text, name);
         Ok(Some(name))
     }

@@ -8,3 +8,4 @@ pub mod NameLaws
 pub mod BitLaws
 pub mod WrittenLaws
 pub mod PlainLaws
+pub mod RunLaws

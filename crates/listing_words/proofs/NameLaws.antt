@@ -10,7 +10,6 @@ use Rattle.program_types.specs.Content.{Proto, FieldRef, MethodRef}
 use Rattle.listing_words.specs.Taking.{NoneAt, IsDecided, EachTaken}
 use Rattle.listing_words.specs.Names.{HasNameUnit, TakesNameUnit, SpellsUnits, TakesDescriptor, IsMemberText, IsProtoText, IsFieldText, IsMethodText, up_to, from}
 use Rattle.listing_words.proofs.TakingLaws.{Each-one}
-use Rattle.program_types.proofs.Letters.{descriptor_some}
 
 takes_has : (text : List ℕ) (u : ℕ) (rest : List ℕ) → TakesNameUnit text u rest → (len : ℕ) × HasNameUnit text u len
 takes_has text u rest h = elim h [
@@ -57,10 +56,6 @@ pub read_taken : (word plain rest room more : List ℕ) (n : ℕ) → word ≡ p
     → room ≡ plain → n ≡ length plain → EachTaken TakesNameUnit word (take n (room ++ more)) rest
 read_taken word plain rest room more n e p r l = rw (e, r, l, take-append_seam plain more) (plain_taken plain rest p)
 
-pub units_found : (text us rest : List ℕ) → EachTaken TakesNameUnit text us rest → length rest ≡ 0 → SpellsUnits text us
-units_found text us [] p e = p
-units_found text us (x ∷ rest) p e = absurd (omega arith)
-
 -- ---- descriptors one after the other
 
 no_descriptor : (x : List ℕ) → IsDescriptor [] → ⊥
@@ -99,9 +94,6 @@ proto_rest text ps rest h n p q =
 
 pub proto_none : (text : List ℕ) (ps : List (List ℕ)) (rest : List ℕ) → EachTaken TakesDescriptor text ps rest → NoneAt TakesDescriptor rest → ((ret : List ℕ) → rest ≡ 41 ∷ ret → IsDescriptor ret → ⊥) → (p : Proto) → IsProtoText (40 ∷ text) p → ⊥
 proto_none text ps rest h n f p q = f p.ret (proto_rest text ps rest h n p q).1 q.ret
-
-pub proto_open : (us : List ℕ) (p : Proto) → IsProtoText us p → (text : List ℕ) × (us ≡ 40 ∷ text)
-proto_open us p q = (_, q.joined)
 
 pub proto_one : (us : List ℕ) (p q : Proto) → IsProtoText us p → IsProtoText us q → p ≡ q
 proto_one us p q a b =
@@ -185,8 +177,6 @@ member_none stop s us rest more n d e f refuse class name tail m =
 
 pub member_found : (stop : ℕ) (us class rest more name end tail : List ℕ) (n c : ℕ) → IsDescriptor (take n us) → class ≡ take n us → rest ≡ drop n us → 2 ≤ length rest → get_or rest 0 0 ≡ 45 → get_or rest 1 0 ≡ 62
     → more ≡ drop 2 rest → name ≡ up_to stop more → end ≡ from stop more → end ≡ c ∷ tail → IsMemberName name → IsMemberText stop us class name tail
-member_found stop us class [] more name end tail n c d a e l x y f g h i m = absurd (omega arith)
-member_found stop us class (p ∷ []) more name end tail n c d a e l x y f g h i m = absurd (omega arith)
 member_found stop us class (p ∷ q ∷ rest) more name end tail n c d a e l x y f g h i m =
     let k : c ≡ stop = stop_first stop more c tail (sym h ∙ i) in
     let j : more ≡ name ++ (stop ∷ tail) = stop_joined stop more ∙ rw (← g, ← h, i, k) refl in
@@ -195,6 +185,7 @@ member_found stop us class (p ∷ q ∷ rest) more name end tail n c d a e l x y
       is_name = m;
       joined = sym (take-append-drop n us) ∙ rw (← a, ← e, x, y, ← f, j) refl;
     }
+member_found stop us class _ more name end tail n c d a e l x y f g h i m = absurd (omega arith)
 
 pub front_taken : (text front rest : List ℕ) (n : ℕ) → IsDescriptor (take n text) → front ≡ take n text → rest ≡ drop n text → TakesDescriptor text front rest
 front_taken text front rest n d e f = (rw e d, rw (e, f) (sym (take-append-drop n text)))

@@ -1,8 +1,8 @@
 -- Units that stand for themselves are their own text.
-use Rattle.std.proofs.Common.{◌≡◌, Bool, ℕ, suc, ◌+◌, ◌-◌, ◌<◌, ◌≤◌, true, List, [], ◌∷◌, ◌++◌, length, take, drop, get_or, refl, sym, ap, subst, ◌∙◌, inl, inr, arith, append_assoc, below_more, get_or-take, get_or-drop, length-drop}
+use Rattle.std.proofs.Common.{◌≡◌, Bool, ℕ, suc, ◌+◌, ◌-◌, ◌<◌, ◌≤◌, true, List, [], ◌∷◌, ◌++◌, length, take, drop, get_or, refl, sym, ap, subst, ◌∙◌, inl, inr, arith, append_assoc, get_or-take, get_or-drop, length-drop}
 use Rattle.std.proofs.lemmas.Bool.{cases_lt}
 use Rattle.std.proofs.lemmas.Grind.{flat_map-append}
-use Rattle.std.proofs.lemmas.List.{append-nil, length-take, length-take-le, take-append-drop, take_more}
+use Rattle.std.proofs.lemmas.List.{length-take, length-take-le, take-append-drop}
 use Rattle.std.proofs.Math.Seq.{take-add}
 use Rattle.std.specs.List.{flat_map}
 use Rattle.listing_words.specs.Plain.{IsPlainFrom, IsFront, AllOrNone}
@@ -45,9 +45,6 @@ text_joined old front out us n p o =
     ap (λ l. flat_map unit_text l) (sym (take-append-drop n us)) ∙ flat_map-append unit_text (take n us) (drop n us) ∙ ap (λ l. l ++ flat_map unit_text (drop n us)) alone in
     rw (o, p.appended, both) (simp append_assoc)
 
-pub front_none : (least : ℕ) (us old : List ℕ) → IsFront least us old old 0
-front_none least us old = record { inside = omega arith; plain = λ k h. absurd (omega arith); appended = sym (append-nil old) }
-
 -- a front, and the front of what is after it
 pub front_joined : (least : ℕ) (us old mid new : List ℕ) (n m : ℕ) → IsFront least us old mid n → IsFront least (drop n us) mid new m → IsFront least us old new (n + m)
 front_joined least us old mid new n m p q = record {
@@ -88,11 +85,3 @@ run_cut least size n next us old mid new after run b s e f t room p h =
     let whole : AllOrNone true least run mid new = subst (λ v. AllOrNone v least run mid new) t h in
     subst (λ m. IsFront least us old new m) s
     (run_more least size n us old mid new room p (subst (λ v. AllOrNone true least v mid new) (f ∙ ap (λ l. take size l) e) whole))
-
-pub ones_more : (least : ℕ) (us old mid new : List ℕ) (i : ℕ) → i < length us → IsFront least us old mid i → IsPlainFrom least (get_or us i 0)
-    → new ≡ mid ++ get_or us i 0 ∷ [] → IsFront least us old new (i + 1)
-ones_more least us old mid new i room p one e = record {
-  inside = omega arith;
-  plain = below_more _ i p.plain one;
-  appended = e ∙ ap (λ l. l ++ get_or us i 0 ∷ []) p.appended ∙ append_assoc old (take i us) (get_or us i 0 ∷ []) ∙ ap (λ l. old ++ l) (sym (take_more us i 0 room));
-}

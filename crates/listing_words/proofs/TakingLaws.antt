@@ -18,8 +18,3 @@ pub Each-push : {X V : Type 0} (G : List X → V → List X → Type 0) (vs : Li
     → EachTaken G text vs m → G m v r → EachTaken G text (vs ++ v ∷ []) r
 Each-push {X} G [] v text m r p q = (r, subst (λ (t : List X). G t v r) (sym p) q, refl)
 Each-push G (w ∷ ws) v text m r p q = (p.0, p.1, Each-push G ws v p.0 m r p.2 q)
-
-pub Each-join : {X V : Type 0} (G : List X → V → List X → Type 0) (vs ws : List V) (text m r : List X)
-    → EachTaken G text vs m → EachTaken G m ws r → EachTaken G text (vs ++ ws) r
-Each-join {X} G [] ws text m r p q = subst (λ (t : List X). EachTaken G t ws r) (sym p) q
-Each-join G (v ∷ vs) ws text m r p q = (p.0, p.1, Each-join G vs ws p.0 m r p.2 q)

@@ -45,13 +45,6 @@ quote_stops rest u more h = elim h [
   | inr (inr p) ↦ let e = p.joined in let k : ◌≡◌ {A = ℕ} 34 92 = cc in omega arith
 ]
 
-pub end_stops : NoneAt TakesUnit []
-end_stops u more h = elim h [
-  | inl p ↦ let e = p.1 in cc
-  | inr (inl p) ↦ let e = p.1 in cc
-  | inr (inr p) ↦ let e = p.joined in cc
-]
-
 quote_at : (t r : List ℕ) → t ≡ 34 ∷ r → NoneAt TakesUnit t
 quote_at t r e u more h = quote_stops r u more (subst (λ (s : List ℕ). TakesUnit s u more) e h)
 
@@ -60,9 +53,6 @@ units_decided text v w r s p q =
     let one = Each-one TakesUnit unit_decided v w text p.end q.end p.units q.units (quote_at p.end r p.quote) (quote_at q.end s q.quote) in
     let i = one.1 in let j = p.quote in let k = q.quote in
     (one.0, cc)
-
-pub units_found : (text end rest : List ℕ) (us : List ℕ) → EachTaken TakesUnit text us end → end ≡ 34 ∷ rest → TakesUnits text us rest
-units_found text end rest us h e = record { end = end; units = h; quote = e }
 
 -- the units end where a quote doesn't stand
 pub units_none : (text end : List ℕ) (us : List ℕ) → EachTaken TakesUnit text us end → NoneAt TakesUnit end → ((rest : List ℕ) → end ≡ 34 ∷ rest → ⊥) → NoneAt TakesUnits text

@@ -1,5 +1,5 @@
 -- The words of a line: a line has its words in one way.
-use Rattle.std.proofs.Common.{◌≡◌, ◌≢◌, ℕ, suc, ◌<◌, inl, inr, List, [], ◌∷◌, ◌++◌, length, get_or, map, refl, sym, ap, subst, ◌∙◌, arith}
+use Rattle.std.proofs.Common.{◌≡◌, ◌≢◌, ℕ, ◌<◌, inl, inr, List, [], ◌∷◌, ◌++◌, length, get_or, map, refl, sym, ap, subst, ◌∙◌, arith}
 use Rattle.std.specs.Prelude.{Bool, false, ◌==◌, MatchBool}
 use Rattle.std.proofs.lemmas.Bool.{cases_eq, eq-eqb, ne_eqb}
 use Rattle.std.specs.List.{AllByRecursion}
@@ -17,14 +17,29 @@ up_at_other c cs e = rw (ne_eqb c 32 e) refl
 pub from_at_other : (c : ℕ) (cs : List ℕ) → c ≢ 32 → from_space (c ∷ cs) ≡ from_space cs
 from_at_other c cs e = rw (ne_eqb c 32 e) refl
 
--- bytes before the first space, and what stands from it on
-pub space_split : (front rest : List ℕ) → ((k : ℕ) → k < length front → get_or front k 0 ≢ 32) → (0 < length rest → get_or rest 0 0 ≡ 32)
+-- graphic bytes up to a space or the end
+graphic_split : (front rest : List ℕ) → AllByRecursion IsGraphic front → up_to_space rest ≡ []
     → (up_to_space (front ++ rest) ≡ front) × (from_space (front ++ rest) ≡ rest)
-space_split [] [] p e = (refl, refl)
-space_split [] (c ∷ rest) p e = rw (eq-eqb c 32 (e (omega arith))) (refl, refl)
-space_split (c ∷ front) rest p e =
-    let m = space_split front rest (λ k h. p (suc k) (omega (arith, h))) e in
-    rw (ne_eqb c 32 (p 0 (omega arith))) (ap (λ t. c ∷ t) m.0, m.1)
+graphic_split [] [] g e = (refl, refl)
+graphic_split [] (c ∷ rest) g e = elim (cases_eq c 32) [
+  | inl h ↦ rw (eq-eqb c 32 h) (refl, refl)
+  | inr h ↦ let f = rw (ne_eqb c 32 h) at e in absurd cc
+]
+graphic_split (c ∷ front) rest g e =
+    let m = graphic_split front rest g.1 e in
+    rw (ne_eqb c 32 (λ h. omega (arith, g.0.0))) (ap (λ t. c ∷ t) m.0, m.1)
+
+-- and up to another byte: what stands before the next space isn't graphic
+graphic_cut : (front rest : List ℕ) → AllByRecursion IsGraphic front → (0 < length rest → IsGraphic (get_or rest 0 0) → ⊥) → up_to_space rest ≢ []
+    → AllByRecursion IsGraphic (up_to_space (front ++ rest)) → ⊥
+graphic_cut [] [] g stops some all = some refl
+graphic_cut [] (c ∷ rest) g stops some all = elim (cases_eq c 32) [
+  | inl h ↦ some (rw (eq-eqb c 32 h) refl)
+  | inr h ↦ let a = rw (ne_eqb c 32 h) at all in stops (omega arith) a.0
+]
+graphic_cut (c ∷ front) rest g stops some all =
+    let a = rw (ne_eqb c 32 (λ h. omega (arith, g.0.0))) at all in
+    graphic_cut front rest g.1 stops some a.1
 
 plain_or_text : (text v us r s : List ℕ) → TakesPlain text v r → TakesText text us s → ⊥
 plain_or_text text v us r s p q = p.no_quote (ap (λ w. get_or w 0 0) (p.word ∙ ap up_to_space q.quote))
@@ -65,18 +80,33 @@ after_not_space (d ∷ ds) c cs e = elim (cases_eq d 32) [
   | inr h ↦ let f = rw (ne_eqb d 32 h) at e in let g : d ≡ c = cc in λ i. h (g ∙ i)
 ]
 
-pub plain_long : (line : List ℕ) (c : ℕ) (cs : List ℕ) → after_spaces line ≡ c ∷ cs → 0 < length (up_to_space (after_spaces line))
+plain_long : (line : List ℕ) (c : ℕ) (cs : List ℕ) → after_spaces line ≡ c ∷ cs → 0 < length (up_to_space (after_spaces line))
 plain_long line c cs e = rw (e, up_at_other c cs (after_not_space line c cs e)) (omega arith)
 
-pub plain_found : (line : List ℕ) (c : ℕ) (cs w rest : List ℕ) → after_spaces line ≡ c ∷ cs → c ≢ 34 → w ≡ up_to_space (after_spaces line) → rest ≡ from_space (after_spaces line) → AllByRecursion IsGraphic w
-    → TakesPlain (after_spaces line) w rest
-plain_found line c cs w rest e n word after all = record {
-  some = rw word (plain_long line c cs e);
-  no_quote = λ h. n (sym (ap (λ (l : List ℕ). get_or l 0 0) (word ∙ ap up_to_space e ∙ up_at_other c cs (after_not_space line c cs e))) ∙ h);
-  bytes = all;
-  word = word;
-  after = after;
-}
+pub plain_found : (line : List ℕ) (c : ℕ) (cs w rest : List ℕ) → after_spaces line ≡ c ∷ cs → c ≢ 34 → after_spaces line ≡ w ++ rest → AllByRecursion IsGraphic w
+    → up_to_space rest ≡ [] → TakesPlain (after_spaces line) w rest
+plain_found line c cs w rest e n joined all ends =
+    let both = graphic_split w rest all ends in
+    let word : w ≡ up_to_space (after_spaces line) = sym (ap up_to_space joined ∙ both.0) in
+    record {
+      some = rw word (plain_long line c cs e);
+      no_quote = λ h. n (sym (ap (λ (l : List ℕ). get_or l 0 0) (word ∙ ap up_to_space e ∙ up_at_other c cs (after_not_space line c cs e))) ∙ h);
+      bytes = all;
+      word = word;
+      after = sym (ap from_space joined ∙ both.1);
+    }
+
+pub plain_some : (line : List ℕ) (c : ℕ) (cs w rest : List ℕ) → after_spaces line ≡ c ∷ cs → after_spaces line ≡ w ++ rest → AllByRecursion IsGraphic w → up_to_space rest ≡ []
+    → 0 < length w
+plain_some line c cs w rest e joined all ends =
+    omega (arith, plain_long line c cs e, ap length (ap up_to_space joined ∙ (graphic_split w rest all ends).0))
+
+pub plain_cut : (line : List ℕ) (c : ℕ) (cs front rest : List ℕ) → after_spaces line ≡ c ∷ cs → c ≢ 34 → after_spaces line ≡ front ++ rest → AllByRecursion IsGraphic front
+    → (0 < length rest → IsGraphic (get_or rest 0 0) → ⊥) → up_to_space rest ≢ [] → NoneAt TakesWord line
+plain_cut line c cs front rest e n joined all stops some (plain_word w) more p =
+    graphic_cut front rest all stops some (subst (λ t. AllByRecursion IsGraphic t) (p.word ∙ ap up_to_space joined) p.bytes)
+plain_cut line c cs front rest e n joined all stops some (text_in_quotes us) more p =
+    let q = p.quote in let f : c ≡ 34 = cc in n f
 
 quoted_not_plain : (text inner w rest : List ℕ) → text ≡ 34 ∷ inner → TakesPlain text w rest → ⊥
 quoted_not_plain text inner w rest e p = p.no_quote (ap (λ (l : List ℕ). get_or l 0 0) (p.word ∙ ap up_to_space e))

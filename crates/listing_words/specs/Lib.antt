@@ -6,3 +6,4 @@ pub mod Numbers
 pub mod Names
 pub mod Written
 pub mod Plain
+pub mod Runs

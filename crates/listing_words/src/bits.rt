@@ -1,6 +1,6 @@
 //! The bits of a number and the bytes of an array, in hexadecimal digits of either case.
 
-ghost use Rattle.std.specs.Prelude.{◌≡◌, ℕ, ◌<◌, ◌≤◌, List, IfOk, IfSome, IfNone, IsOkUnless};
+ghost use Rattle.std.specs.Prelude.{ℕ, ◌<◌, ◌≤◌, List, IfOk, IfSome, IfNone, IsOkUnless};
 ghost use Rattle.base_bytes.specs.Fault.{memory};
 ghost use Rattle.listing_words.specs.Numbers.{SpellsBits, SpellsElements};
 

@@ -1,6 +1,6 @@
 //! Numbers that instructions give themselves.
 
-ghost use Rattle.std.specs.Prelude.{◌≡◌, ◌<◌, ◌≤◌, drop};
+ghost use Rattle.std.specs.Prelude.{◌≡◌};
 ghost use Rattle.listing_words.specs.Numbers as said;
 
 use crate::numbers::{digit, read_natural};

@@ -1,8 +1,8 @@
 //! Laws of words. None has code: each says of the definitions what its contract says.
 
-ghost use Rattle.std.specs.Prelude.{◌≡◌, ℕ, ◌<◌, ◌^◌, ◌∷◌, [], List};
+ghost use Rattle.std.specs.Prelude.{◌≡◌, ℕ, ◌<◌, ◌^◌, List};
 ghost use Rattle.std.specs.List.{AllByRecursion};
-ghost use Rattle.listing_words.specs.Words.{Word, HasWords, IsWritable, plain_word, line_bytes};
+ghost use Rattle.listing_words.specs.Words.{Word, HasWords, IsWritable, line_bytes};
 ghost use Rattle.listing_words.specs.Numbers.{SpellsNatural, SpellsBits, SpellsElements};
 ghost use Rattle.listing_words.specs.Names.{SpellsUnits};
 ghost use Rattle.listing_words.specs.Written.{hex_digits, flags_text, elements_text, name_text};

@@ -23,6 +23,7 @@ mod plain;
 mod print;
 mod print_hex;
 mod print_names;
+mod runs;
 mod texts;
 mod words;
 

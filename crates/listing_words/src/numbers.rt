@@ -1,11 +1,9 @@
 //! Numbers in decimal or hexadecimal digits.
 
-ghost use Rattle.std.specs.Prelude.{◌≡◌, ℕ, ◌<◌, ◌≤◌, ◌⊎◌, ◌++◌, List, IfSome, IfNone, SomeIff, OnOk, OnErr, IsOkUnless, ◌==◌, true};
+ghost use Rattle.std.specs.Prelude.{◌≡◌, ℕ, ◌<◌, ◌≤◌, ◌⊎◌, IfSome, IfNone, SomeIff, ◌==◌};
 ghost use Rattle.std.specs.Str.Parse.{IsNumeral, digits_value};
 ghost use Rattle.std.specs.Char.{digit_value};
-ghost use Rattle.std.specs.Fmt.{decimal};
 ghost use Rattle.listing_words.specs.Numbers.{SpellsNatural};
-ghost use Rattle.base_bytes.specs.Fault.{memory};
 
 use dex_base::Fault;
 

@@ -1,6 +1,6 @@
 //! Units that stand for themselves, many at a time.
 
-ghost use Rattle.std.specs.Prelude.{◌≡◌, ℕ, ◌<◌, ◌≤◌, length, slice_index, IsTrue, EachIndex, IfOk};
+ghost use Rattle.std.specs.Prelude.{◌≡◌, ◌<◌, ◌≤◌, length, slice_index, IsTrue, EachIndex, IfOk};
 ghost use Rattle.listing_words.specs.Plain.{IsPlainFrom, IsFront, AllOrNone};
 
 use std::alloc::AllocError;

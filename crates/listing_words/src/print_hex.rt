@@ -1,6 +1,6 @@
 //! Hexadecimal digits, as they are written.
 
-ghost use Rattle.std.specs.Prelude.{◌≡◌, ℕ, ◌<◌, ◌≤◌, ◌++◌, ◌^◌, take, OnOk};
+ghost use Rattle.std.specs.Prelude.{◌≡◌, ◌<◌, ◌++◌, OnOk};
 ghost use Rattle.listing_words.specs.Written.{hex_digits, hex_width, flags_text, elements_text};
 
 use crate::print::glyph;

@@ -1,6 +1,6 @@
 //! Names, as they are written.
 
-ghost use Rattle.std.specs.Prelude.{◌≡◌, ℕ, ◌<◌, ◌≤◌, ◌++◌, ◌∷◌, [], List, map, OnOk};
+ghost use Rattle.std.specs.Prelude.{◌≡◌, ◌<◌, ◌++◌, map, OnOk};
 ghost use Rattle.std.specs.List.{flat_map};
 ghost use Rattle.program_types.specs.View.{desc, proto, field_ref, method_ref};
 ghost use Rattle.listing_words.specs.Written.{name_unit, name_text, proto_units, field_units, method_units};

@@ -1,10 +1,9 @@
 //! Texts in quotes.
 
-ghost use Rattle.std.specs.Prelude.{◌≡◌, ℕ, ◌<◌, ◌≤◌, ◌+◌, ◌*◌, ◌++◌, [], ◌∷◌, List, length, slice_index, drop, IfOk, IfSome, IfNone, SomeIff, OnOk, OnErr, IsOkUnless, vec_len, vec_capacity};
+ghost use Rattle.std.specs.Prelude.{ℕ, ◌<◌, ◌≤◌, ◌+◌, ◌*◌, length, IfOk, IfSome, IfNone, SomeIff, IsOkUnless};
 ghost use Rattle.listing_words.specs.Taking.{NoneAt, EachTaken};
-ghost use Rattle.listing_words.specs.Texts.{HasQuotedUnit, TakesUnit, TakesUnits, hex, unit_text, text_word, glyph};
+ghost use Rattle.listing_words.specs.Texts.{HasQuotedUnit, TakesUnit, TakesUnits, hex};
 ghost use Rattle.base_bytes.specs.Fault.{memory};
-ghost use Rattle.std.specs.List.{flat_map};
 
 use bumpalo::Bump;
 use bumpalo::collections::into_bump_slice;

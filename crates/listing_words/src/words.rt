@@ -1,17 +1,23 @@
 //! The words of a line.
 
-ghost use Rattle.std.specs.Prelude.{◌≡◌, ℕ, ◌<◌, ◌≤◌, ◌+◌, ◌↔◌, [], List, length, map, IfOk, IfSome, IfNone, IsTrue, IsOkUnless, MatchBool};
+ghost use Rattle.std.specs.Prelude.{◌≡◌, ◌<◌, ◌≤◌, ◌↔◌, ◌++◌, [], List, length, slice_index, map, IfOk, IfSome, IfNone, IsTrue, IsOkUnless, MatchBool};
 ghost use Rattle.std.specs.List.{AllByRecursion};
-ghost use Rattle.listing_words.specs.Taking.{NoneAt, EachTaken};
-ghost use Rattle.listing_words.specs.Words.{after_spaces, up_to_space, from_space, IsGraphic, TakesWord, HasWords, IsWritable, line_bytes};
+ghost use Rattle.listing_words.specs.Taking.{NoneAt};
+ghost use Rattle.listing_words.specs.Words.{after_spaces, up_to_space, IsGraphic, TakesWord, HasWords};
 ghost use Rattle.listing_words.specs.View.{word};
 ghost use Rattle.listing_words.specs.Words.{Word as Spoken};
 ghost use Rattle.base_bytes.specs.Fault.{memory};
 
-use crate::cut::split_before;
+use crate::runs::{Kind, run};
 use crate::texts::read_units;
 use bumpalo::Bump;
 use dex_base::Fault;
+
+/// The bytes that can stand in a word: `!` to `~`.
+const GRAPHIC: Kind = Kind {
+    first: b'!',
+    count: 94,
+};
 
 /// A word of a line: a slice of the line, or the units of a text in quotes.
 #[derive(Clone, Copy)]
@@ -35,13 +41,13 @@ fn after_spaces(text: &[u8]) -> &[u8]
     rest
 }
 
-/// What stands before the first space, and the rest.
-fn split_word(text: &[u8]) -> (&[u8], &[u8])
-    ensures front { result.0.now ≡ up_to_space text.now }
-    ensures back { result.1.now ≡ from_space text.now }
-    ensures within { length result.1.now + length result.0.now ≡ length text.now }
+/// The bytes at the front that can stand in a word, and the rest.
+fn split_graphic(text: &[u8]) -> (&[u8], &[u8])
+    ensures joined { text.now ≡ result.0.now ++ result.1.now }
+    ensures graphic { AllByRecursion IsGraphic result.0.now }
+    ensures stops { 0 < length result.1.now → IsGraphic (slice_index result.1.now 0) → ⊥ }
 {
-    split_before(32, text)
+    text.split_at(run(GRAPHIC, text))
 }
 
 /// Whether a space or nothing stands at the front.
@@ -52,24 +58,6 @@ fn is_end(text: &[u8]) -> bool
         Some((first, _)) => *first == 32,
         None => true,
     }
-}
-
-/// Whether the byte can stand in a word.
-fn is_graphic_byte(c: u8) -> bool
-    ensures { IsTrue result ↔ IsGraphic c }
-{
-    (c >= 33) & (c < 127)
-}
-
-/// Whether all bytes can stand in a word. All are looked at, many at a time.
-fn is_graphic(word: &[u8]) -> bool
-    ensures { IsTrue result ↔ AllByRecursion IsGraphic word.now }
-{
-    let mut graphic = true;
-    for c in word {
-        graphic &= is_graphic_byte(*c);
-    }
-    graphic
 }
 
 /// The word at the front, and what follows it.
@@ -95,8 +83,8 @@ fn read_word<'a, 'b>(
         }
         return Ok(Some((Word::Text(units), rest)));
     }
-    let (plain, rest) = split_word(text);
-    if !is_graphic(plain) {
+    let (plain, rest) = split_graphic(text);
+    if !is_end(rest) {
         return Ok(None);
     }
     Ok(Some((Word::Plain(plain), rest)))

@@ -14,8 +14,7 @@ use Rattle.program_code_rules.specs.CodeRules.{FitsFields, OperandsHold, Targets
 
 alike_itself : (p : Payload) → AreAlike (Some p) (Some p)
 alike_itself payload.PackedSwitch = tt
-alike_itself payload.SparseSwitch = tt
-alike_itself payload.Array = tt
+alike_itself _ = tt
 
 all_inside : (is : List Insn) (ts : List ℕ) → AllByRecursion (IsTarget is) ts → AllByRecursion (λ to. to < length is) ts
 all_inside is [] h = tt

@@ -1,6 +1,6 @@
 //! The operands of instructions ("Dalvik Executable instruction formats", "The formats").
 
-ghost use Rattle.std.specs.Prelude.{◌≡◌, ◌↔◌, ◌<◌, ◌≤◌, ◌+◌, ◌%◌, ℕ, ℤ, ◌<ℤ◌, length, map, IsTrue, Some, FitsSigned};
+ghost use Rattle.std.specs.Prelude.{◌≡◌, ◌↔◌, ◌<◌, ◌≤◌, ◌+◌, ◌%◌, length, map, IsTrue, Some, FitsSigned};
 ghost use Rattle.std.specs.List.{AllByRecursion};
 ghost use Rattle.std.specs.Int.{w8, w16, w32, w64};
 ghost use Rattle.dex_insn.specs.Written.{AreRegisters};

@@ -1,7 +1,7 @@
 //! Payloads, and the instructions that refer to them.
 
 ghost use Rattle.std.specs.Prelude.{◌≡◌, ◌↔◌, ◌<◌, ◌≤◌, ℕ, length, map, IsTrue, IfOk, IfSome, IfNone};
-ghost use Rattle.program_types.specs.Formed.{insn_at, insn_payload, insn_wants, insn_reach, AreAlike, WantsPayload, IsSwitch, RefersToPayload, PayloadHolds};
+ghost use Rattle.program_types.specs.Formed.{insn_at, insn_wants, insn_reach, AreAlike, WantsPayload, IsSwitch, RefersToPayload, PayloadHolds};
 ghost use Rattle.program_types.specs.View.{insn, code};
 ghost use Rattle.program_code_rules.specs.CodeRules.{PayloadsHold};
 ghost use Rattle.program_code_rules.specs.Parts.{IsUsedOnce};

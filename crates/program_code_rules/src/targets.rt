@@ -1,8 +1,8 @@
 //! Where branches and switches lead to.
 
-ghost use Rattle.std.specs.Prelude.{◌≡◌, ◌≢◌, ◌↔◌, ◌<◌, ℕ, length, map, IsTrue, IfSome, None};
+ghost use Rattle.std.specs.Prelude.{◌≡◌, ◌≢◌, ◌↔◌, ◌<◌, length, map, IsTrue, IfSome, None};
 ghost use Rattle.std.specs.List.{AllByRecursion};
-ghost use Rattle.program_types.specs.Formed.{insn_at, insn_payload, insn_branch, insn_short_branch, insn_targets, IsTarget, TargetHolds};
+ghost use Rattle.program_types.specs.Formed.{insn_payload, insn_branch, insn_short_branch, insn_targets, IsTarget, TargetHolds};
 ghost use Rattle.program_types.specs.View.{insn, code};
 ghost use Rattle.program_code_rules.specs.CodeRules.{TargetsHold};
 

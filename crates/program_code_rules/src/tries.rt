@@ -1,8 +1,8 @@
 //! Tries and their handlers.
 
-ghost use Rattle.std.specs.Prelude.{◌≡◌, ◌≢◌, ◌↔◌, ◌<◌, ◌≤◌, ◌+◌, ℕ, [], length, map, IsTrue, IfSome, IfNone};
+ghost use Rattle.std.specs.Prelude.{◌↔◌, ◌<◌, length, map, IsTrue};
 ghost use Rattle.std.specs.List.{AllByRecursion};
-ghost use Rattle.program_types.specs.Formed.{try_at, TryFormed};
+ghost use Rattle.program_types.specs.Formed.{TryFormed};
 ghost use Rattle.program_types.specs.View.{catch, try, code};
 ghost use Rattle.program_code_rules.specs.CodeRules.{TriesHold};
 ghost use Rattle.program_code_rules.specs.Parts.{HandlersHold, IsBehind};

@@ -44,7 +44,6 @@ each_unit (u ∷ us) h = (h 0 u (omega arith), each_unit us (λ i d l. h (suc i)
 abbrev pub declared : (T : Declared) → Known (Struct (shape T)) → Known (row T)
 declared T k = recorded_known (Struct (shape T)) k T.D T.to T.to_one
 
--- of the fields one after another, or of the variants, to the end `tt`
 infixr 5 ◌&◌
 abbrev pub ◌&◌ : {A B : Type 2} → A → B → A × B
 ◌&◌ x y = (x, y)
@@ -89,9 +88,7 @@ module _ (a : NamedLft) where
 
   pub name_told : (n : named.the_data) → name.Fact ((Name.the_type a).to n) → NameInRange (view.name n)
   name_told (named.Text s) f = f.0
-  name_told (named.Desc d) f = f.0
-  name_told (named.Field r) f = f.0
-  name_told (named.Method r) f = f.0
+  name_told _ f = f.0
 
   abbrev pub formats : Known (Insn.the_row a)
   formats = declared_enum_known (Insn.the_type a) (one & three & three & two & two & two & three & three & three & three & (no & no & name & tt) & four & four & four & four & (no & no & no & name & tt)

@@ -3,7 +3,7 @@ use Rattle.std.proofs.Common.{◌≡◌, ℕ, ◌+◌, ◌<◌, ◌≤◌, List,
 use Rattle.std.specs.Prelude.{◌↔◌}
 use Rattle.std.proofs.Math.Seq.{drop-cons}
 use Rattle.program_types.specs.Content as content
-use Rattle.program_types.specs.Content.{Values, Array, no_values, more_values, values}
+use Rattle.program_types.specs.Content.{Values, Array, more_values, values}
 use Rattle.program_types.specs.Depth.{depth, greatest_depth}
 use Rattle.program_types.specs.View.{value}
 use Rattle.program_types.specs.declared.value.Value.{Value as Held}
@@ -44,8 +44,7 @@ one-left xs i d left l h k m =
 pub look-deeper : (v w : content.Value) (k : Look) → IsGood v ↔ IsGood w → depth w < depth v → IsLook w k → IsLook v k
 look-deeper v w look.Valid g l h = g.1 h
 look-deeper v w look.Invalid g l h = λ a. h (g.0 a)
-look-deeper v w (look.One left) g l h = ((λ a. h.0.0 (g.0 a), λ b. g.1 (h.0.1 b)), omega arith)
-look-deeper v w (look.Many left) g l h = ((λ a. h.0.0 (g.0 a), λ b. g.1 (h.0.1 b)), omega arith)
+look-deeper v w _ g l h = ((λ a. h.0.0 (g.0 a), λ b. g.1 (h.0.1 b)), omega arith)
 
 pub walked-deeper : (v w : content.Value) (k : Walked) → IsGood v ↔ IsGood w → depth w ≤ depth v → IsWalked w k → IsWalked v k
 walked-deeper v w walked.Valid g l h = g.1 h

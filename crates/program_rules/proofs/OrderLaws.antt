@@ -1,9 +1,8 @@
 -- Classes and types by their numbers.
-use Rattle.std.proofs.Common.{◌≡◌, ℕ, ◌+◌, ◌<◌, ◌≤◌, List, ◌∷◌, map, length, get_or, drop, ap, sym, subst, ◌∙◌, arith, add-one, Some, Result, Ok, Err, below_more}
+use Rattle.std.proofs.Common.{◌≡◌, ℕ, ◌+◌, ◌<◌, ◌≤◌, List, ◌∷◌, map, length, get_or, drop, ap, sym, subst, ◌∙◌, arith, add-one, Some, below_more}
 use Rattle.std.proofs.Math.Seq.{drop-cons}
 use Rattle.std.specs.List.{AllByRecursion, slice_get}
-use Rattle.std.specs.Prelude.{option_map, ◌↔◌, IfErr}
-use Rattle.std.specs.Result.{IsErrAnd}
+use Rattle.std.specs.Prelude.{option_map, ◌↔◌}
 use Rattle.std.proofs.lemmas.List.{length-map}
 use Rattle.std.proofs.lemmas.Option.{slice_get-map, slice_get-get_or, slice_get_within}
 use Rattle.base_bytes.specs.declared.fault.Fault.{Fault}
@@ -14,7 +13,7 @@ use Rattle.program_types.specs.declared.names.Desc.{Desc}
 use Rattle.program_rules.specs.Ranges.{ClassInRange}
 use Rattle.program_rules.specs.Rules.{ClassHolds, ClassBreaks, RuleBreaks}
 use Rattle.program_rules.specs.WellFormed.{WellFormed}
-use Rattle.base_bytes.proofs.ListFacts.{passed, all_there}
+use Rattle.base_bytes.proofs.ListFacts.{all_there}
 
 -- what stands in two Somes that are one
 pub some-same : {A : Type 0} {x y : A} → Some x ≡ Some y → x ≡ y

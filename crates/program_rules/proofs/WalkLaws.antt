@@ -2,18 +2,15 @@
 use Rattle.std.proofs.Common.{map}
 use Rattle.std.specs.List.{AllByRecursion, flat_map}
 use Rattle.dex_base.specs.Descriptor.{IsDescriptor}
-use Rattle.program_types.specs.Content.{OfDesc, Insn, Catch, Try}
+use Rattle.program_types.specs.Content.{OfDesc, Catch, Try}
 use Rattle.program_types.specs.View.{insn, try, code}
 use Rattle.program_types.specs.declared.code.Code.{Code}
 use Rattle.program_types.specs.Mentions.{names_of_insn, names_of_try, names_of_code}
 use Rattle.program_rules.proofs.AllLaws.{all-lists, all-joined, all-made, all-turned}
-use Rattle.program_rules.specs.Valid.{IsValidName}
+use Rattle.program_rules.specs.Valid.{IsValidName, InsnsAreNamed}
 use Rattle.base_bytes.proofs.ListFacts.{all_front, all_back, all_append, all_map}
 
--- what is asked of the names in a body, part by part
-abbrev InsnIsValid : Insn → Type 0
-InsnIsValid i = AllByRecursion IsValidName (names_of_insn i)
-
+-- what is asked of the names in a body's tries
 abbrev CatchesAreValid : Try → Type 0
 CatchesAreValid t = AllByRecursion (λ c. IsDescriptor c.ty) t.catches
 
@@ -23,7 +20,7 @@ caught t h = all-made IsValidName (λ (c : Catch). OfDesc c.ty) t.catches h
 catching : (t : Try) → CatchesAreValid t → AllByRecursion IsValidName (names_of_try t)
 catching t h = all_map IsValidName (λ (c : Catch). OfDesc c.ty) t.catches h
 
-pub code-parts : (c : Code) → AllByRecursion IsValidName (names_of_code (code c)) → AllByRecursion InsnIsValid (map insn c.insns.now) × AllByRecursion CatchesAreValid (map try c.tries.now)
+pub code-parts : (c : Code) → AllByRecursion IsValidName (names_of_code (code c)) → InsnsAreNamed (code c) × AllByRecursion CatchesAreValid (map try c.tries.now)
 code-parts c h =
     let is = map insn c.insns.now in
     let ts = map try c.tries.now in (
@@ -31,7 +28,7 @@ code-parts c h =
       all-turned (λ t. AllByRecursion IsValidName (names_of_try t)) CatchesAreValid caught ts (all-lists IsValidName names_of_try ts (all_back IsValidName (flat_map names_of_insn is) (flat_map names_of_try ts) h)),
     )
 
-pub code-whole : (c : Code) → AllByRecursion InsnIsValid (map insn c.insns.now) → AllByRecursion CatchesAreValid (map try c.tries.now) → AllByRecursion IsValidName (names_of_code (code c))
+pub code-whole : (c : Code) → InsnsAreNamed (code c) → AllByRecursion CatchesAreValid (map try c.tries.now) → AllByRecursion IsValidName (names_of_code (code c))
 code-whole c i t =
     let is = map insn c.insns.now in
     let ts = map try c.tries.now in

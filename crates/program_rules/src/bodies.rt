@@ -1,11 +1,11 @@
 //! The names in bodies.
 
-ghost use Rattle.std.specs.Prelude.{◌↔◌, map, option_map, IsTrue, IfSome};
+ghost use Rattle.std.specs.Prelude.{◌↔◌, map, IsTrue};
 ghost use Rattle.std.specs.List.{AllByRecursion};
 ghost use Rattle.dex_base.specs.Descriptor.{IsDescriptor};
 ghost use Rattle.program_types.specs.View.{insn, catch, try, code};
-ghost use Rattle.program_types.specs.Mentions.{names_of_insn, names_of_try, names_of_code};
-ghost use Rattle.program_rules.specs.Valid.{IsValidName};
+ghost use Rattle.program_types.specs.Mentions.{names_of_code};
+ghost use Rattle.program_rules.specs.Valid.{IsValidName, InsnIsNamed, InsnsAreNamed};
 
 use crate::names::is_valid_name;
 use dex_base::is_descriptor;
@@ -13,7 +13,7 @@ use program_types::{Catch, Code, Insn, Try};
 
 /// Whether a file can have the name in the instruction, if there is one.
 fn insn_is_valid(one: &Insn<'_>) -> bool
-    ensures { IsTrue result ↔ AllByRecursion IsValidName (names_of_insn (insn one.now)) }
+    ensures { IsTrue result ↔ InsnIsNamed (insn one.now) }
 {
     match *one {
         Insn::I21c { name, .. }
@@ -27,7 +27,7 @@ fn insn_is_valid(one: &Insn<'_>) -> bool
 
 /// Whether a file can have the names in all instructions.
 fn insns_are_valid(all: &[Insn<'_>]) -> bool
-    ensures { IsTrue result ↔ AllByRecursion (λ i. AllByRecursion IsValidName (names_of_insn i)) (map insn all.now) }
+    ensures { IsTrue result ↔ AllByRecursion InsnIsNamed (map insn all.now) }
 {
     for each in all {
         if !insn_is_valid(each) {
@@ -61,11 +61,23 @@ fn tries_are_valid(all: &[Try<'_>]) -> bool
     true
 }
 
-/// Whether a file can have all names in the body.
-pub(crate) fn code_is_valid(one: &Code<'_>) -> bool
+/// Whether a file can have the names in all instructions of the body: they are looked at unless that is known already.
+fn are_named(one: &Code<'_>, known: bool) -> bool
+    requires { IsTrue known → InsnsAreNamed (code one.now) }
+    ensures { IsTrue result ↔ InsnsAreNamed (code one.now) }
+{
+    if known {
+        return true;
+    }
+    insns_are_valid(one.insns)
+}
+
+/// Whether a file can have all names in the body, if it may be known that it can have those in its instructions.
+pub(crate) fn code_is_valid(one: &Code<'_>, known: bool) -> bool
+    requires { IsTrue known → InsnsAreNamed (code one.now) }
     ensures { IsTrue result ↔ AllByRecursion IsValidName (names_of_code (code one.now)) }
 {
-    if !insns_are_valid(one.insns) {
+    if !are_named(one, known) {
         return false;
     }
     tries_are_valid(one.tries)

@@ -2,13 +2,11 @@
 
 ghost use Rattle.std.specs.Prelude.{◌≡◌, ◌↔◌, ◌<◌, ◌+◌, length, map, IsTrue, IfSome};
 ghost use Rattle.std.specs.List.{AllByRecursion};
-ghost use Rattle.dex_base.specs.Descriptor.{IsClass, IsMemberName};
-ghost use Rattle.program_types.specs.Content.{Units};
-ghost use Rattle.program_types.specs.View.{member, method, class, desc, code};
+ghost use Rattle.dex_base.specs.Descriptor.{IsClass};
+ghost use Rattle.program_types.specs.View.{member, method, class, code};
 ghost use Rattle.program_types.specs.Key.{key_cmp};
-ghost use Rattle.program_types.specs.Mentions.{names_of_class, field_of_class, names_of_method, names_of_code};
-ghost use Rattle.program_rules.specs.Valid.{IsValueType, IsValidName, IsValidProto};
-ghost use Rattle.program_rules.specs.Rules.{member_key, method_key, IsBelowNext, KeysRise, MembersRise, NamesAreValid};
+ghost use Rattle.program_rules.specs.Valid.{InsnsAreNamed};
+ghost use Rattle.program_rules.specs.Rules.{member_key, method_key, CodesHold, IsBelowNext, KeysRise, MembersRise, NamesAreValid};
 ghost use Rattle.program_rules.specs.Parts.{FieldIsValid, MethodIsValid};
 
 use crate::bodies::code_is_valid;
@@ -40,8 +38,10 @@ fn fields_are_valid(all: &[Member<'_>]) -> bool
     true
 }
 
-/// Whether a file can have the method, if its class is one, and all names in its body.
-fn method_is_valid(one: &Method<'_>) -> bool
+/// Whether a file can have the method, if its class is one, and all names in its body, if it may be known that it can have those
+/// in its instructions.
+fn method_is_valid(one: &Method<'_>, known: bool) -> bool
+    requires { IsTrue known → IfSome (method one.now).code InsnsAreNamed }
     ensures { IsTrue result ↔ MethodIsValid (method one.now) }
 {
     if !is_member_name(one.name.units) {
@@ -51,17 +51,18 @@ fn method_is_valid(one: &Method<'_>) -> bool
         return false;
     }
     match one.code {
-        Some(body) => code_is_valid(body),
+        Some(body) => code_is_valid(body, known),
         None => true,
     }
 }
 
 /// Whether a file can have all of the methods.
-fn methods_are_valid(all: &[Method<'_>]) -> bool
+fn methods_are_valid(all: &[Method<'_>], known: bool) -> bool
+    requires { IsTrue known → AllByRecursion (λ m. IfSome m.code InsnsAreNamed) (map method all.now) }
     ensures { IsTrue result ↔ AllByRecursion MethodIsValid (map method all.now) }
 {
     for each in all {
-        if !method_is_valid(each) {
+        if !method_is_valid(each, known) {
             return false;
         }
     }
@@ -84,8 +85,9 @@ fn types_are_classes(one: &Class<'_>) -> bool
     }
 }
 
-/// Whether a file can have all names in the class.
-pub(crate) fn names_are_valid(one: &Class<'_>) -> bool
+/// Whether a file can have all names in the class, if it may be known that it can have those in its instructions.
+pub(crate) fn names_are_valid(one: &Class<'_>, known: bool) -> bool
+    requires { IsTrue known → CodesHold InsnsAreNamed (class one.now) }
     ensures { IsTrue result ↔ NamesAreValid (class one.now) }
 {
     if !types_are_classes(one) {
@@ -100,10 +102,10 @@ pub(crate) fn names_are_valid(one: &Class<'_>) -> bool
     if !fields_are_valid(one.instances) {
         return false;
     }
-    if !methods_are_valid(one.directs) {
+    if !methods_are_valid(one.directs, known) {
         return false;
     }
-    methods_are_valid(one.virtuals)
+    methods_are_valid(one.virtuals, known)
 }
 
 /// The order of fields of one class.

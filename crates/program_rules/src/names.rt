@@ -83,7 +83,7 @@ fn is_valid_method(method: &MethodRef<'_>) -> bool
 }
 
 /// Whether a file can have the name.
-pub(crate) fn is_valid_name(name: Name<'_>) -> bool
+pub fn is_valid_name(name: Name<'_>) -> bool
     ensures { IsTrue result ↔ IsValidName (view.name name.entry) }
 {
     match name {

@@ -1,6 +1,7 @@
 //! Whether a program keeps its rules.
 
 ghost use Rattle.std.specs.Prelude.{◌≡◌, ◌≢◌, ◌↔◌, length, map, IsTrue, IfOk, OnOk, IfErr, IsOkUnless};
+ghost use Rattle.std.specs.List.{AllByRecursion};
 ghost use Rattle.base_bytes.specs.Fault.{memory};
 ghost use Rattle.program_code_rules.specs.CodeRules.{OperandsHold, PayloadsHold, TargetsHold, TriesHold};
 ghost use Rattle.program_types.specs.Content as content;
@@ -9,6 +10,7 @@ ghost use Rattle.program_types.specs.View.{class, desc, program};
 ghost use Rattle.program_rules.specs.Numbers.{AreNumbers, types};
 ghost use Rattle.program_rules.specs.Ranges.{ClassInRange};
 ghost use Rattle.program_rules.specs.Rules.{ClassBreaks, ClassHolds, CodesBreak, CodesHold, OrderHolds, RuleBreaks};
+ghost use Rattle.program_rules.specs.Valid.{InsnsAreNamed};
 ghost use Rattle.program_rules.specs.WellFormed.{WellFormed};
 
 use crate::codes::{codes_hold, payload_uses_hold};
@@ -51,15 +53,22 @@ fn check_codes(place: u64, one: &Class<'_>, uses_hold: bool) -> Result<(), Fault
 }
 
 /// Whether class `i` of a program keeps all rules, if it is known whether it is in order and its payloads are used as they have to
-/// be; then its numbers are in range.
-fn check_class(i: usize, one: &Class<'_>, is_in_order: bool, uses_hold: bool) -> Result<(), Fault>
+/// be, and may be known that a file can have the names in its instructions; then its numbers are in range.
+fn check_class(
+    i: usize,
+    one: &Class<'_>,
+    named: bool,
+    is_in_order: bool,
+    uses_hold: bool,
+) -> Result<(), Fault>
+    requires named { IsTrue named → CodesHold InsnsAreNamed (class one.now) }
     requires uses { IsTrue uses_hold ↔ CodesHold PayloadsHold (class one.now) }
     ensures ok { (p : content.Program) → IsTrue is_in_order ↔ OrderHolds p i (class one.now) → OnOk result (ClassHolds p i (class one.now)) }
     ensures ranges { OnOk result (ClassInRange (class one.now)) }
     ensures err { (p : content.Program) → IsTrue is_in_order ↔ OrderHolds p i (class one.now) → IfErr result (ClassBreaks p i (class one.now)) }
 {
     let place = i as u64;
-    if !names_are_valid(one) {
+    if !names_are_valid(one, named) {
         return Err(Fault::at(fault::PROGRAM_NAME, place));
     }
     if !members_rise(one) {
@@ -115,7 +124,7 @@ pub fn well_formed(all: &Program<'_>) -> Result<(), Fault>
         let one = &all.classes[i];
         let is_in_order = order_holds(all.classes, i, one);
         let uses_hold = codes_hold(CodeRule::PayloadUse, one);
-        check_class(i, one, is_in_order, uses_hold)?;
+        check_class(i, one, false, is_in_order, uses_hold)?;
     }
     Ok(())
 }
@@ -132,8 +141,14 @@ fn types_of<'a>(alloc: Global, classes: &[Class<'a>]) -> Result<Vec<Desc<'a>>, F
     Ok(list)
 }
 
-/// Whether all classes keep all rules.
-fn check_classes(alloc: Global, numbers: &Numbers<'_>, classes: &[Class<'_>]) -> Result<(), Fault>
+/// Whether all classes keep all rules, if it may be known that a file can have the names in their instructions.
+fn check_classes(
+    alloc: Global,
+    numbers: &Numbers<'_>,
+    classes: &[Class<'_>],
+    named: bool,
+) -> Result<(), Fault>
+    requires named { IsTrue named → AllByRecursion (CodesHold InsnsAreNamed) (map class classes.now) }
     requires numbers { AreNumbers (types (map class classes.now)) (length (map class classes.now)) numbers.now }
     ensures formed { OnOk result (WellFormed (map class classes.now)) }
     ensures err { IfErr result (λ e. e ≢ memory → RuleBreaks (map class classes.now) e) }
@@ -142,7 +157,7 @@ fn check_classes(alloc: Global, numbers: &Numbers<'_>, classes: &[Class<'_>]) ->
         let one = &classes[i];
         let is_in_order = order_holds_in(alloc, numbers, i, one)?;
         let uses_hold = payload_uses_hold(alloc, one)?;
-        check_class(i, one, is_in_order, uses_hold)?;
+        check_class(i, one, named, is_in_order, uses_hold)?;
     }
     Ok(())
 }
@@ -159,7 +174,17 @@ pub fn well_formed_in(alloc: Global, all: &Program<'_>) -> Result<(), Fault>
     ensures formed { OnOk result (WellFormed (program all.now)) }
     ensures err { IfErr result (λ e. e ≢ memory → RuleBreaks (program all.now) e) }
 {
+    well_formed_named_in(alloc, all, false)
+}
+
+/// Whether a program is well formed, as `well_formed_in` says it. Where a file is known to have all names that instructions
+/// mention, these aren't looked at again.
+pub fn well_formed_named_in(alloc: Global, all: &Program<'_>, named: bool) -> Result<(), Fault>
+    requires { IsTrue named → AllByRecursion (CodesHold InsnsAreNamed) (program all.now) }
+    ensures formed { OnOk result (WellFormed (program all.now)) }
+    ensures err { IfErr result (λ e. e ≢ memory → RuleBreaks (program all.now) e) }
+{
     let list = types_of(alloc, all.classes)?;
     let numbers = numbers_of(alloc, list.as_slice())?;
-    check_classes(alloc, &numbers, all.classes)
+    check_classes(alloc, &numbers, all.classes, named)
 }

@@ -1,6 +1,6 @@
 //! The values of static fields.
 
-ghost use Rattle.std.specs.Prelude.{◌↔◌, ◌≤◌, length, map, IsTrue};
+ghost use Rattle.std.specs.Prelude.{◌↔◌, ◌≤◌, map, IsTrue};
 ghost use Rattle.std.specs.List.{AllByRecursion};
 ghost use Rattle.program_types.specs.View.{value, class};
 ghost use Rattle.program_types.specs.Depth.{depth};

@@ -1,11 +1,8 @@
 -- The letters of descriptors, by their first unit.
-use Rattle.std.proofs.Common.{◌≡◌, ◌≢◌, ◌∙◌, inl, inr, ap, sym, refl, ℕ, zero, suc, ◌<◌, ◌≤◌, List, [], ◌∷◌, ◌++◌, length, get_or, map, arith, length-append}
-use Rattle.std.proofs.lemmas.List.{length-map, get_or-map}
-use Rattle.std.specs.Prelude.{replicate, slice_index, All}
+use Rattle.std.proofs.Common.{◌≡◌, ◌≢◌, ◌∙◌, inl, inr, ap, sym, refl, ℕ, zero, suc, ◌<◌, ◌≤◌, List, [], ◌∷◌, ◌++◌, length, arith, length-append}
+use Rattle.std.specs.Prelude.{replicate, slice_index}
 use Rattle.dex_base.specs.Descriptor.{IsPrimitive, IsElement, IsDescriptor}
 use Rattle.program_types.specs.Shorty.{StandsFor, letter_of}
-use Rattle.program_types.specs.View.{desc}
-use Rattle.program_types.specs.declared.names.Desc.{Desc}
 
 -- a primitive type's letter is no `[`
 primitive_other : (c : ℕ) → IsPrimitive c → c ≢ 91
@@ -28,12 +25,6 @@ field_some (suc n) element units is e = rw e (omega arith)
 pub descriptor_some : (units : List ℕ) → IsDescriptor units → 0 < length units
 descriptor_some units (inl void) = rw void (omega arith)
 descriptor_some units (inr field) = field_some field.0 field.1 units field.3 field.4
-
--- each parameter has units
-pub param_some : (params : List Desc) (i : ℕ) (d : Desc) → All IsDescriptor (map desc params) → i < length params → 0 < length (desc (get_or params i d))
-param_some params i d are some =
-    let is : IsDescriptor (get_or (map desc params) i (desc d)) = are i (desc d) (rw length-map some) in
-    descriptor_some (desc (get_or params i d)) (rw (get_or-map desc params i d (desc d) some) at is)
 
 -- `[` alone is no descriptor
 field_of_one : (n : ℕ) (element : List ℕ) (one : ℕ) → IsElement element → one ∷ [] ≡ replicate n 91 ++ element → one ≢ 91

@@ -3,7 +3,7 @@
 -- encoded_catch_handler.
 use Rattle.std.specs.Prelude.{ℕ, ◌≡◌, ◌≢◌, ◌≤◌, ◌<◌, ◌+◌, ◌==◌, if◌then◌else◌, List, [], ◌∷◌, take, length, Option, Some, None, IfSome, IfNone, slice_index_or, ⊤}
 use Rattle.std.specs.List.{AllByRecursion, range_with_len}
-use Rattle.program_types.specs.Content.{Insn, Code, Try, Catch}
+use Rattle.program_types.specs.Content.{Insn, Code, Try}
 use Rattle.program_types.specs.Content as made
 use Rattle.program_types.specs.Operands.{IsOperand}
 use Rattle.program_types.specs.declared.payload.Payload.{Payload}

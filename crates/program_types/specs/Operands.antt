@@ -1,6 +1,6 @@
 -- Which operands an instruction of a code can have: each fits its format, and a payload keeps its rules.
 -- Pages: "Dalvik Executable instruction formats", "The formats"; "Dalvik bytecode", the formats of the payloads.
-use Rattle.std.specs.Prelude.{ℕ, ℤ, pos, neg_ℤ, ◌≡◌, ◌≤◌, ◌<◌, ◌+◌, ◌%◌, ◌≤ℤ◌, ◌<ℤ◌, Option, Some, None, List, length, FitsSigned, ⊤}
+use Rattle.std.specs.Prelude.{ℕ, ℤ, pos, neg_ℤ, ◌≡◌, ◌≤◌, ◌<◌, ◌+◌, ◌%◌, ◌≤ℤ◌, ◌<ℤ◌, Option, Some, None, List, length, FitsSigned}
 use Rattle.std.specs.List.{AllByRecursion, slice_get}
 use Rattle.std.specs.Int.{w8, w16, w32, w64}
 use Rattle.dex_insn.specs.Written.{AreRegisters}

@@ -1,5 +1,5 @@
 -- A row that holds keeps each rule of its table, also asked alone.
-use Rattle.std.proofs.Common.{ℕ, ◌<◌, ◌⊎◌, List, sym, subst, inl, inr, arith}
+use Rattle.std.proofs.Common.{ℕ, ◌<◌, ◌⊎◌, List, subst}
 use Rattle.dex_base.specs.Descriptor.{IsDescriptor, IsClass, IsArray, IsMemberName}
 use Rattle.dex_container.specs.Frame.{IsFramed}
 use Rattle.dex_container.specs.Layout.{size_of}

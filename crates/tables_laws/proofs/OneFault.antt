@@ -35,22 +35,19 @@ module _ (b : List ℕ) (framed : IsFramed b) (i : ℕ) where
   type_number m n (TypeOrder p) (TypeOrder q) = refl
 
   pub proto_number : (m n : ℕ) → ProtoBreaks b i m → ProtoBreaks b i n → m ≡ n
-  proto_number m n (ProtoIndex p) (ProtoIndex q) = refl
   proto_number m n (ProtoIndex p) (ParameterList q) = absurd (proto_placed b i p q.shorty q.ret)
   proto_number m n (ProtoIndex p) (Shorty q) = absurd (proto_placed b i p q.string.row q.ret.row)
   proto_number m n (ProtoIndex p) (ProtoOrder q) = absurd (proto_placed b i p q.stands.shorty.row q.stands.ret.row)
   proto_number m n (ParameterList p) (ProtoIndex q) = absurd (proto_placed b i q p.shorty p.ret)
-  proto_number m n (ParameterList p) (ParameterList q) = refl
   proto_number m n (ParameterList p) (Shorty q) = absurd (p.none q.proto.params q.params)
   proto_number m n (ParameterList p) (ProtoOrder q) = absurd (list_clear b i q.name q.stands p)
   proto_number m n (Shorty p) (ProtoIndex q) = absurd (proto_placed b i q p.string.row p.ret.row)
   proto_number m n (Shorty p) (ParameterList q) = absurd (q.none p.proto.params p.params)
-  proto_number m n (Shorty p) (Shorty q) = refl
   proto_number m n (Shorty p) (ProtoOrder q) = absurd (shorty_clear b framed i q.name q.stands p)
   proto_number m n (ProtoOrder p) (ProtoIndex q) = absurd (proto_placed b i q p.stands.shorty.row p.stands.ret.row)
   proto_number m n (ProtoOrder p) (ParameterList q) = absurd (list_clear b i p.name p.stands q)
   proto_number m n (ProtoOrder p) (Shorty q) = absurd (shorty_clear b framed i p.name p.stands q)
-  proto_number m n (ProtoOrder p) (ProtoOrder q) = refl
+  proto_number m n _ _ = refl
 
   pub field_number : (m n : ℕ) → FieldBreaks b i m → FieldBreaks b i n → m ≡ n
   field_number m n (FieldIndex p) (FieldIndex q) = refl

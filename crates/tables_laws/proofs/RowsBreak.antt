@@ -2,7 +2,7 @@
 use Rattle.std.proofs.Common.{◌≡◌, ℕ, zero, suc, ◌<◌, ◌≤◌, ◌⊎◌, inl, inr, List, ◌∷◌, refl, subst, arith, nat_cmp}
 use Rattle.std.proofs.lemmas.Bool.{cases_lt}
 use Rattle.std.specs.declared.cmp.Ordering.{Ordering}
-use Rattle.std.specs.declared.cmp.Ordering.TheVariants.{Less, Equal, Greater}
+use Rattle.std.specs.declared.cmp.Ordering.TheVariants.{Less}
 use Rattle.std.specs.Cmp.Lexicographic.{slice_cmp}
 use Rattle.base_bytes.specs.declared.fault.Fault.{Fault}
 use Rattle.dex_container.specs.Frame.{IsFramed}
@@ -26,8 +26,7 @@ use Rattle.tables_laws.proofs.RowsDecided.{decide_string, decide_list_at, decide
 
 decide_less : (o : Ordering) → Decided (o ≡ Less)
 decide_less Less = inl refl
-decide_less Equal = inr (λ e. absurd cc)
-decide_less Greater = inr (λ e. absurd cc)
+decide_less _ = inr (λ e. absurd cc)
 
 decide_rises : (Below : List ℕ → ℕ → ℕ → Type 0) (b : List ℕ) (i : ℕ) → ((j : ℕ) → Decided (Below b j i)) → Decided (RowRises Below b i)
 decide_rises Below b zero d = inl (λ j is. absurd (omega (arith, is)))

@@ -2,9 +2,8 @@
 use Rattle.std.proofs.Common.{◌<◌, zero, suc, length, take, drop, get_or, ap, arith, ◌≡◌, ℕ, true, List, [], ◌∷◌, ◌++◌, map, refl, ◌⊎◌, inl, inr, Result, Ok, Err, OnErr}
 use Rattle.std.proofs.lemmas.List.{map-append}
 use Rattle.program_types.specs.Key.{text_key, Key}
-use Rattle.tables_names.specs.Closure.{shorty_of_texts}
+use Rattle.tables_names.specs.Closure.{shorty_of_texts, Five, nothing, AreRising, join, IsPart, AddsPart, IsClosed, type_closure, proto_parts, proto_closure, field_closure, method_closure}
 use Rattle.tables_names.specs.Rank.{insert_key, is_member, IsSubset}
-use Rattle.tables_names.specs.Closure.{Five, nothing, AreRising, join, IsPart, AddsPart, IsClosed, type_closure, proto_parts, proto_closure, field_closure, method_closure}
 use Rattle.tables_names.proofs.SubsetLemmas as sub
 
 pub IsPart-refl : (s : Five) → IsPart s s
@@ -84,9 +83,6 @@ more_added s a u t new first second left =
       keeps = IsPart-trans s (join s a) new (IsPart-left s a) left.keeps;
       adds = IsPart-trans new (join (join s a) u) (join s t) left.adds (IsPart-join (join s a) u (join s t) (join_grows s a t first) (IsPart-trans u t (join s t) second (IsPart-right s t)));
     }
-
-pub part_added : (s a t : Five) → IsPart a t → AddsPart s (join s a) (join s t)
-part_added s a t first = record { keeps = IsPart-left s a; adds = join_grows s a t first }
 
 -- a part of what is held adds nothing
 pub part_adds_nothing : (s t : Five) → AreRising s → IsPart t s → s ≡ join s t

@@ -90,28 +90,22 @@ AllGrow-trans s t u f g =
 -- ---- parts stay
 
 types_stay : (strings new : List Key) → Grows strings new → (k : Key) (p : TypeParts) → TypeAt strings k p → TypeAt new k p
-types_stay strings new f [] p at = absurd at
 types_stay strings new f (text ∷ []) p at = f.each p.text (text_key text) at
-types_stay strings new f (text ∷ other ∷ more) p at = absurd at
+types_stay strings new f _ p at = absurd at
 
 protos_stay : (types new : List Key) → Grows types new → (k : Key) (p : ProtoParts) → ProtoAt types k p → ProtoAt new k p
 protos_stay types new f [] p at = at
 protos_stay types new f (ret ∷ params) p at = f.each p.ret (text_key ret) at
 
 fields_stay : (types types' strings strings' : List Key) → Grows types types' → Grows strings strings' → (k : Key) (p : FieldParts) → FieldAt types strings k p → FieldAt types' strings' k p
-fields_stay types types' strings strings' f g [] p at = absurd at
-fields_stay types types' strings strings' f g (class ∷ []) p at = absurd at
-fields_stay types types' strings strings' f g (class ∷ name ∷ []) p at = absurd at
 fields_stay types types' strings strings' f g (class ∷ name ∷ ty ∷ []) p at =
     (f.each p.class (text_key class) at.0, g.each p.name (text_key name) at.1, f.each p.ty (text_key ty) at.2)
-fields_stay types types' strings strings' f g (class ∷ name ∷ ty ∷ other ∷ more) p at = absurd at
+fields_stay types types' strings strings' f g _ p at = absurd at
 
 methods_stay : (types types' strings strings' protos protos' : List Key) → Grows types types' → Grows strings strings' → Grows protos protos' → (k : Key) (p : MethodParts) → MethodAt types strings protos k p → MethodAt types' strings' protos' k p
-methods_stay types types' strings strings' protos protos' f g h [] p at = absurd at
-methods_stay types types' strings strings' protos protos' f g h (class ∷ []) p at = absurd at
-methods_stay types types' strings strings' protos protos' f g h (class ∷ name ∷ []) p at = absurd at
 methods_stay types types' strings strings' protos protos' f g h (class ∷ name ∷ ret ∷ params) p at =
     (f.each p.class (text_key class) at.0, g.each p.name (text_key name) at.1, h.each p.proto (ret ∷ params) at.2)
+methods_stay types types' strings strings' protos protos' f g h _ p at = absurd at
 
 module _ (o : Order) (is : InOrderOfNeed o) (k : Key) where
   abbrev s : Five
@@ -201,9 +195,8 @@ rank_there (j ∷ names) table (r ∷ ranks) (suc n) k all at =
     let rest = rank_there names table ranks n k all.1 at in (omega (arith, rest.0), rest.1)
 
 pub text_leads : (strings strings' : List Key) (ranks : List ℕ) → RanksOf strings strings' ranks → (k : Key) (p : TypeParts) → TypeAt strings k p → (p.text < length ranks) × TypeAt strings' k (record { text = get_or ranks p.text 0 })
-text_leads strings strings' ranks all [] p at = absurd at
 text_leads strings strings' ranks all (text ∷ []) p at = rank_there strings strings' ranks p.text (text_key text) all at
-text_leads strings strings' ranks all (text ∷ other ∷ more) p at = absurd at
+text_leads strings strings' ranks all _ p at = absurd at
 
 pub ret_leads : (types types' : List Key) (ranks : List ℕ) → RanksOf types types' ranks → (k : Key) (p : ProtoParts) → ProtoAt types k p → (p.ret < length ranks) × ProtoAt types' k (record { ret = get_or ranks p.ret 0 })
 ret_leads types types' ranks all [] p at = absurd at
@@ -211,23 +204,18 @@ ret_leads types types' ranks all (ret ∷ params) p at = rank_there types types'
 
 module _ (types types' : List Key) (type_ranks : List ℕ) (ts : RanksOf types types' type_ranks) (strings strings' : List Key) (string_ranks : List ℕ) (ss : RanksOf strings strings' string_ranks) where
   pub field_leads : (k : Key) (p : FieldParts) → FieldAt types strings k p → FieldLeads types' type_ranks strings' string_ranks k p
-  field_leads [] p at = absurd at
-  field_leads (class ∷ []) p at = absurd at
-  field_leads (class ∷ name ∷ []) p at = absurd at
   field_leads (class ∷ name ∷ ty ∷ []) p at =
       let a = rank_there types types' type_ranks p.class (text_key class) ts at.0 in
       let b = rank_there strings strings' string_ranks p.name (text_key name) ss at.1 in
       let d = rank_there types types' type_ranks p.ty (text_key ty) ts at.2 in
       ((a.0, b.0, d.0), (a.1, b.1, d.1))
-  field_leads (class ∷ name ∷ ty ∷ other ∷ more) p at = absurd at
+  field_leads _ p at = absurd at
 
   module _ (protos protos' : List Key) (proto_ranks : List ℕ) (ps : RanksOf protos protos' proto_ranks) where
     pub method_leads : (k : Key) (p : MethodParts) → MethodAt types strings protos k p → MethodLeads types' type_ranks strings' string_ranks protos' proto_ranks k p
-    method_leads [] p at = absurd at
-    method_leads (class ∷ []) p at = absurd at
-    method_leads (class ∷ name ∷ []) p at = absurd at
     method_leads (class ∷ name ∷ ret ∷ params) p at =
         let a = rank_there types types' type_ranks p.class (text_key class) ts at.0 in
         let b = rank_there strings strings' string_ranks p.name (text_key name) ss at.1 in
         let d = rank_there protos protos' proto_ranks p.proto (ret ∷ params) ps at.2 in
         ((a.0, b.0, d.0), (a.1, b.1, d.1))
+    method_leads _ p at = absurd at

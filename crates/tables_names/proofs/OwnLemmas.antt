@@ -1,5 +1,5 @@
 -- A member of a class is found by the ranks of its parts, which stand beside the names.
-use Rattle.std.proofs.Common.{◌≡◌, ℕ, ◌<◌, Bool, true, false, List, [], ◌∷◌, map, length, get_or, refl, sym, ap, ◌∙◌, arith, MatchResult, Result, Ok, Err, subst, true≢false}
+use Rattle.std.proofs.Common.{◌≡◌, ℕ, ◌<◌, true, false, List, [], ◌∷◌, map, length, get_or, refl, sym, ap, ◌∙◌, arith, MatchResult, Result, Ok, Err, subst, true≢false}
 use Rattle.std.specs.declared.cmp.Ordering.{Ordering}
 use Rattle.std.specs.Ordering.{ordering_index}
 use Rattle.std.specs.List.{AllZip}

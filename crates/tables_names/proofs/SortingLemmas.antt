@@ -1,7 +1,7 @@
 -- Names that are sorted by the ranks of their parts.
 use Rattle.std.proofs.Common.{◌≡◌, ℕ, ◌+◌, ◌<◌, Bool, List, [], ◌∷◌, ◌++◌, map, take, length, get_or, refl, sym, ap, ◌∙◌, arith, All, true, zero, suc, Some, subst, option_map}
 use Rattle.std.specs.declared.cmp.Ordering.{Ordering}
-use Rattle.std.specs.declared.cmp.Ordering.TheVariants.{Less, Equal, Greater}
+use Rattle.std.specs.declared.cmp.Ordering.TheVariants.{Less}
 use Rattle.std.specs.Ordering.{nat_cmp, is_eq, is_lt, ordering_then}
 use Rattle.std.specs.Cmp.{IsEquivalence}
 use Rattle.std.specs.List.{IsDistinct, AllZip}
@@ -30,14 +30,12 @@ use Rattle.tables_names.proofs.NumberLemmas.{zip_push, zip_length, zip_get, memb
 -- what the names answer is what their ranks do
 same_leads : (ranks names : Ordering) → ranks ≡ names → RanksDecide ranks names
 same_leads ranks Less e = rw e refl
-same_leads ranks Equal e = rw e refl
-same_leads ranks Greater e = rw e refl
+same_leads ranks _ e = rw e refl
 
 -- or what they begin with
 first_leads : (ranks first rest : Ordering) → ranks ≡ first → RanksDecide ranks (ordering_then first rest)
 first_leads ranks Less rest e = rw e refl
-first_leads ranks Equal rest e = rw e refl
-first_leads ranks Greater rest e = rw e refl
+first_leads ranks _ rest e = rw e refl
 
 -- ---- pairs of ranks and a name
 

@@ -32,7 +32,7 @@ pub struct Ranks<'a> {
 
 impl<'a> Model for Ranks<'a> {
     ghost use Rattle.tables_names.specs.Closure.{Five, IsClosed};
-    ghost use Rattle.tables_names.specs.Numbers.{Order, IsTables};
+    ghost use Rattle.tables_names.specs.Numbers.{IsTables};
 
     ghost Value = { Five };
 

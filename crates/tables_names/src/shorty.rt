@@ -1,5 +1,5 @@
 //! The index of a prototype's shorty ("Dalvik Executable format": shorty_idx of proto_id_item), found without spelling it.
-ghost use Rattle.std.specs.Prelude.{◌≡◌, ◌<◌, ◌^◌, ℕ, IfSome, IfNone, length, map};
+ghost use Rattle.std.specs.Prelude.{◌≡◌, ◌<◌, length, map};
 ghost use Rattle.std.proofs.Common.{get_or, nat_cmp};
 ghost use Rattle.std.specs.Cmp.Lexicographic.{slice_cmp};
 ghost use Rattle.program_types.specs.Key.{text_key};

@@ -4,10 +4,10 @@
 //!
 //! Numbers compare faster than texts, which begin alike in neighbours of a sorted table. No part is looked up: its number
 //! is at hand, and a table has the rank of each number.
-ghost use Rattle.std.specs.Prelude.{◌≡◌, ◌<◌, ℕ, [], All, IfOk, OnOk, length, map, slice_index};
+ghost use Rattle.std.specs.Prelude.{◌≡◌, ◌<◌, [], All, IfOk, OnOk, length, map, slice_index};
 ghost use Rattle.std.specs.List.{AllZip, IsDistinct};
 ghost use Rattle.program_types.specs.Key.{Key, key_cmp};
-ghost use Rattle.tables_names.specs.Rank.{IsAt, RanksDecide};
+ghost use Rattle.tables_names.specs.Rank.{RanksDecide};
 ghost use Rattle.tables_names.specs.Numbers.{set_of, TypeAt, ProtoAt, FieldAt, MethodAt, RanksOf, FieldWithin, MethodWithin, field_ranks, method_ranks};
 
 use crate::held::{Held, Made, Ranked, Table, ranked_by};

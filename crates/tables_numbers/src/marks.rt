@@ -1,5 +1,5 @@
 //! Which rows are kept.
-ghost use Rattle.std.specs.Prelude.{◌≡◌, ℕ, OnOk, OnErr, IfOk, IsOkUnless, ◌∷◌, [], map};
+ghost use Rattle.std.specs.Prelude.{OnOk, OnErr, IfOk, IsOkUnless, ◌∷◌, [], map};
 ghost use Rattle.base_bytes.specs.Fault.{memory};
 ghost use Rattle.program_types.specs.Content.{Name, OfText, OfDesc, OfField, OfMethod, Proto};
 ghost use Rattle.tables_names.specs.Closure.{Five, nothing, with_proto};

@@ -1,7 +1,6 @@
 -- Numbers of two bytes, and the bytes of a type_list.
-use Rattle.std.proofs.Common.{Bool, true, false, ◌≡◌, ℕ, zero, suc, ◌+◌, ◌*◌, ◌-◌, ◌^◌, ◌%◌, ◌/◌, ◌<◌, ◌≤◌, List, [], ◌∷◌, ◌++◌, length, take, drop, get_or, refl, sym, ap, ◌∙◌, arith, lit<, length-take, length-drop, length-append, get_or-take, get_or-drop, inl, inr}
-use Rattle.std.proofs.lemmas.Bool.{cases_lt}
-use Rattle.std.proofs.lemmas.List.{take_at, drop_at, get_or_past}
+use Rattle.std.proofs.Common.{Bool, true, false, ◌≡◌, ℕ, zero, suc, ◌+◌, ◌*◌, ◌-◌, ◌^◌, ◌%◌, ◌/◌, ◌<◌, ◌≤◌, List, [], ◌∷◌, ◌++◌, length, take, drop, get_or, refl, sym, ap, ◌∙◌, arith, length-take, length-drop, length-append, get_or-drop}
+use Rattle.std.proofs.lemmas.List.{take_at, drop_at}
 use Rattle.std.proofs.Math.Seq.{take-add}
 use Rattle.std.specs.List.{AllByRecursion}
 use Rattle.base_bytes.specs.Fields.{AreBytes, u16_at, u32_at, u16_bytes, u32_bytes}
@@ -50,9 +49,8 @@ length-halves zero (x ∷ y ∷ rest) even = absurd (omega (arith, even))
 length-halves (suc n) (x ∷ y ∷ rest) even = ap suc (length-halves n rest (omega (arith, even)))
 
 pub small-halves : (bytes : List ℕ) → AreBytes bytes → AllByRecursion (λ i. i < 2 ^ 16) (halves bytes)
-small-halves [] are = tt
-small-halves (x ∷ []) are = tt
 small-halves (x ∷ y ∷ rest) are = (let a = are 0 in let c = are 1 in omega (arith, a, c), small-halves rest (λ i. are (suc (suc i))))
+small-halves _ are = tt
 
 -- the number at place 2 i is the i-th
 pub u16_at-halves : (bytes : List ℕ) (i : ℕ) → i < length (halves bytes) → u16_at bytes (2 * i) ≡ get_or (halves bytes) i 0
@@ -69,10 +67,6 @@ u16_at-halves (x ∷ y ∷ rest) (suc i) lt =
 -- a count and its bytes
 pub u32_bytes-u32_at : (bytes : List ℕ) → AreBytes bytes → 4 ≤ length bytes → u32_bytes (u32_at bytes 0) ≡ take 4 bytes
 unfolding u32_bytes u32_at
-u32_bytes-u32_at [] are long = absurd (omega (arith, long))
-u32_bytes-u32_at (x ∷ []) are long = absurd (omega (arith, long))
-u32_bytes-u32_at (x ∷ y ∷ []) are long = absurd (omega (arith, long))
-u32_bytes-u32_at (x ∷ y ∷ z ∷ []) are long = absurd (omega (arith, long))
 u32_bytes-u32_at (x ∷ y ∷ z ∷ w ∷ rest) are long =
     let a = are 0 in let b = are 1 in let c = are 2 in let d = are 3 in
     let n : ℕ = x + 256 * (y + 256 * (z + 256 * (w + 256 * 0))) in
@@ -81,6 +75,7 @@ u32_bytes-u32_at (x ∷ y ∷ z ∷ w ∷ rest) are long =
     let e2 : n / 65536 % 256 ≡ z = omega (arith, a, b, c, d) in
     let e3 : n / 16777216 % 256 ≡ w = omega (arith, a, b, c, d) in
     (cc)
+u32_bytes-u32_at _ are long = absurd (omega (arith, long))
 
 -- what a spelling says in numbers
 pub record IsListOf (bytes indexes : List ℕ) : Type 0 where

@@ -1,5 +1,5 @@
 -- Tables that are read row by row.
-use Rattle.std.proofs.Common.{◌≡◌, ℕ, ◌+◌, ◌-◌, take, drop, ◌<◌, ◌≤◌, zero, suc, List, [], ◌∷◌, ◌++◌, length, map, Option, Some, None, option_map, sym, subst, ap, ◌∙◌, refl, arith, slice_get, get_or, ◌⊎◌, inl, inr, Result, Ok, Err, IfErr}
+use Rattle.std.proofs.Common.{◌≡◌, ℕ, ◌+◌, ◌-◌, take, drop, ◌<◌, ◌≤◌, List, [], ◌∷◌, ◌++◌, length, map, Option, Some, None, option_map, sym, subst, ap, ◌∙◌, arith, slice_get, get_or, inl, inr}
 use Rattle.std.specs.Prelude.{IfSome, IfNone}
 use Rattle.std.proofs.lemmas.List.{length-map, length_push}
 use Rattle.std.proofs.lemmas.Option.{slice_get-get_or, slice_get-map, slice_get_within}
@@ -9,26 +9,21 @@ use Rattle.dex_base.proofs.TextLaws.{text_unique}
 use Rattle.dex_container.specs.Frame.{IsFramed}
 use Rattle.dex_container.specs.Layout.{size_of}
 use Rattle.tables_rows.specs.Names.{AreRows}
-use Rattle.dex_container.specs.Where.{IsSectionOf}
+use Rattle.dex_container.specs.Where.{IsSectionOf, At}
 use Rattle.tables_rows.specs.Reading.{AreFirst, LastIsBelow}
 use Rattle.tables_rows.specs.RowFields.{string_place}
 use Rattle.tables_rows.specs.Sorted.{RowRises, IsBelow, StringIsBelow, RowsHold}
 use Rattle.tables_rows.specs.Stands.{StringStands}
 use Rattle.tables_rows.specs.TableFaults.{BreaksAt, IsFirstRow}
 use Rattle.base_bytes.specs.declared.fault.Fault.{Fault}
-use Rattle.std.specs.Result.{IsErrAnd}
 use Rattle.dex_container.proofs.Standing.{At-one, stands_at, stands_not, mod_one}
-use Rattle.dex_container.specs.Where.{At}
 use Rattle.dex_container.specs.declared.section.Section.{Section}
 use Rattle.base_bytes.specs.Grammar.{Begins, NoneBegins}
 use Rattle.program_types.specs.View.{str}
 use Rattle.program_types.specs.declared.names.Str.{Str}
-use Rattle.base_bytes.proofs.ListFacts.{passed, slice_split}
+use Rattle.base_bytes.proofs.ListFacts.{slice_split}
 
 module _ {V : Type 0} (S : List ℕ → ℕ → V → Type 0) (H : List ℕ → ℕ → Type 0) (b : List ℕ) where
-  pub first_none : AreFirst S H b 0 []
-  first_none = record { count = refl; each = λ i v e. absurd cc; hold = λ i h. absurd (omega arith) }
-
   pub first_more : (n : ℕ) (names : List V) (v : V) → AreFirst S H b n names → S b n v → H b n → AreFirst S H b (n + 1) (names ++ v ∷ [])
   first_more n names v f stands holds = record {
     count = length_push names v ∙ ap (λ k. k + 1) f.count;
@@ -48,17 +43,6 @@ module _ {V : Type 0} (S : List ℕ → ℕ → V → Type 0) (H : List ℕ → 
 -- the name at an index of a table in memory, whose rows are these
 pub row_some : {A V : Type 0} (S : List ℕ → ℕ → V → Type 0) (b : List ℕ) (k : ℕ) (f : A → V) (xs : List A) (i : ℕ) (x : A) → AreRows S b k (map f xs) → slice_get xs i ≡ Some x → S b i (f x)
 row_some S b k f xs i x rows e = rows.each i (f x) (slice_get-map f xs i ∙ ap (option_map f) e)
-
-pub row_none : {A V : Type 0} (S : List ℕ → ℕ → V → Type 0) (b : List ℕ) (k : ℕ) (f : A → V) (xs : List A) (i : ℕ) → AreRows S b k (map f xs) → slice_get xs i ≡ None → size_of b k ≤ i
-row_none S b k f xs i rows e = elim (cases_lt i (length xs)) [
-  | inl lt ↦ absurd (none_past xs i lt e)
-  | inr ge ↦ let n = length-map xs f in let c = rows.count in omega (arith, n, c)
-]
-  where
-    none_past : {A : Type 0} (xs : List A) (i : ℕ) → i < length xs → slice_get xs i ≡ None → ⊥
-    none_past [] i lt e = absurd (omega arith)
-    none_past (x ∷ xs) zero lt e = absurd cc
-    none_past (x ∷ xs) (suc i) lt e = none_past xs i (omega arith) e
 
 -- a row of strings is one text
 pub string_one : (b : List ℕ) (i : ℕ) (s t : List ℕ) → IsFramed b → StringStands b i s → StringStands b i t → s ≡ t

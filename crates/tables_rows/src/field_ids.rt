@@ -1,5 +1,5 @@
 // The table field_ids: each row has a class, a type and a name ("field_id_item").
-ghost use Rattle.std.specs.Prelude.{◌≡◌, ◌≢◌, ◌<◌, IfOk, IfErr, map};
+ghost use Rattle.std.specs.Prelude.{◌≢◌, ◌<◌, IfOk, IfErr, map};
 ghost use Rattle.base_bytes.specs.Fault.{memory};
 ghost use Rattle.dex_container.specs.Layout.{size_of};
 ghost use Rattle.dex_container.specs.Section as section;

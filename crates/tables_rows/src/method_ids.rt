@@ -1,5 +1,5 @@
 // The table method_ids: each row has a class, a proto and a name ("method_id_item").
-ghost use Rattle.std.specs.Prelude.{◌≡◌, ◌≢◌, ◌<◌, IfOk, IfErr, map};
+ghost use Rattle.std.specs.Prelude.{◌≢◌, ◌<◌, IfOk, IfErr, map};
 ghost use Rattle.base_bytes.specs.Fault.{memory};
 ghost use Rattle.dex_container.specs.Layout.{size_of};
 ghost use Rattle.dex_container.specs.Section as section;

@@ -13,7 +13,7 @@ ghost use Rattle.tables_rows.specs.Known.{IsKnown};
 ghost use Rattle.tables_rows.specs.Names.{AreRows};
 ghost use Rattle.dex_container.specs.Where.{IsSectionOf};
 ghost use Rattle.dex_container.specs.Section as section;
-ghost use Rattle.tables_rows.specs.Sorted.{RowRises, ProtoHolds, ProtosHold, ProtoIsBelow, ProtoIndexes};
+ghost use Rattle.tables_rows.specs.Sorted.{RowRises, ProtoHolds, ProtosHold, ProtoIsBelow};
 ghost use Rattle.tables_rows.specs.Stands.{StringStands, TypeStands, ProtoStands};
 ghost use Rattle.tables_rows.specs.TableFaults.{ProtoBreaks, ParametersAt, BreaksAt, IsFirstRow};
 

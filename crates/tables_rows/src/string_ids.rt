@@ -1,5 +1,5 @@
 // The table string_ids: each row is the offset of a string_data_item ("string_id_item", "string_data_item").
-ghost use Rattle.std.specs.Prelude.{◌≡◌, ◌≢◌, ◌↔◌, ◌<◌, IfOk, IfErr, IsTrue, map};
+ghost use Rattle.std.specs.Prelude.{◌≢◌, ◌↔◌, ◌<◌, IfOk, IfErr, IsTrue, map};
 ghost use Rattle.base_bytes.specs.Fault.{memory};
 ghost use Rattle.dex_container.specs.Layout.{size_of};
 ghost use Rattle.dex_container.specs.Frame.{IsFramed};

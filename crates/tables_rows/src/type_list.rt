@@ -8,9 +8,8 @@ ghost use Rattle.dex_container.specs.Frame.{IsFramed};
 ghost use Rattle.program_types.specs.View.{desc};
 ghost use Rattle.tables_rows.specs.Halves.{halves};
 ghost use Rattle.tables_rows.specs.Names.{TypeIsAt};
-ghost use Rattle.dex_container.specs.Where.{IsSectionOf};
+ghost use Rattle.dex_container.specs.Where.{IsSectionOf, At, AtOrNone};
 ghost use Rattle.tables_rows.specs.Stands.{ListAt, SpellsIndexes};
-ghost use Rattle.dex_container.specs.Where.{At, AtOrNone};
 
 use crate::look_up::type_in;
 use bumpalo::Bump;

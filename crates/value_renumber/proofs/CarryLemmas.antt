@@ -7,7 +7,7 @@ use Rattle.base_bytes.specs.Leb128.{Spells, Shortest}
 use Rattle.base_bytes.proofs.GrammarLaws.{Each-appends_none, Each-appends_more}
 use Rattle.dex_container.specs.Frame.{IsFramed}
 use Rattle.dex_insn.specs.declared.opcode.IndexKind.{IndexKind}
-use Rattle.program_types.specs.Content.{Name, OfField, Value, Byte, Short, Char, Int, Long, Float, Double, Named, Enum, Array, Null, Boolean, Values, values}
+use Rattle.program_types.specs.Content.{Name, OfField, Value, Named, Enum, Array, Null, Boolean, Values, values}
 use Rattle.program_types.specs.Mentions.{NamesHold, AllNamesHold, names_of_value}
 use Rattle.tables_names.specs.Closure.{Five, AreRising, NameRanks}
 use Rattle.tables_rows.specs.Stands.{NameStands}
@@ -79,15 +79,9 @@ module _ (b : List ℕ) (numbers : Columns) (s : Five) (ty : NameType) (t : ℕ)
         appends = λ old new a. enum_appends (NameRanks s) f old new (index_appends s 27 x.0 (OfField f) old new up x.2 (subst (λ (k : ℕ). Appends (Shortest (UnsignedAs k 4)) old new x.0) st.0 a));
       }
   by (Array vs) up r st c = absurd st
-  by (Byte n) up r st c = let e = r.names in absurd cc
-  by (Short n) up r st c = let e = r.names in absurd cc
-  by (Char n) up r st c = let e = r.names in absurd cc
-  by (Int n) up r st c = let e = r.names in absurd cc
-  by (Long n) up r st c = let e = r.names in absurd cc
-  by (Float n) up r st c = let e = r.names in absurd cc
-  by (Double n) up r st c = let e = r.names in absurd cc
   by Null up r st c = absurd st
   by (Boolean x) up r st c = absurd st
+  by _ up r st c = let e = r.names in absurd cc
 
   pub carried_name : (v : Value) → IsCarriedLow b numbers s t low v → CarriedName numbers s (table_of_type ty) (unsigned_of low) t v
   carried_name v c = by v c.rise (row_of_low b ty t low v is c.low) c.low.stands c.carried

@@ -3,8 +3,7 @@ use Rattle.std.proofs.Common.{◌≡◌, ℕ, suc, ◌+◌, ◌*◌, ◌-◌, �
 use Rattle.std.proofs.lemmas.List.{take_at, drop_at, length-append, length-take-le}
 use Rattle.base_bytes.specs.Grammar.{Takes, Each, Many}
 use Rattle.base_bytes.specs.Leb128.{Spells}
-use Rattle.base_bytes.proofs.Numbers.{spells_unique}
-use Rattle.base_bytes.proofs.TakesLaws.{Takes-unique, Then-takes}
+use Rattle.base_bytes.proofs.TakesLaws.{Then-takes}
 use Rattle.dex_container.specs.Frame.{IsFramed}
 use Rattle.tables_rows.specs.Stands.{NameStands}
 use Rattle.value_renumber.specs.Walks.{IsLow}

@@ -1,4 +1,4 @@
-use Rattle.std.proofs.Common.{sym, ◌∙◌, rules}
+use Rattle.std.proofs.Common.{sym, ◌∙◌}
 use Rattle.base_bytes.specs.Fault.{row_name, row_sentence, unknown, no_fault}
 use Rattle.base_bytes.proofs.FaultLaws.{row_here, row_after}
 use Rattle.base_bytes.proofs.fault_names.row_in.Goals as goal

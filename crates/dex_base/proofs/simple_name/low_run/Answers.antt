@@ -1,14 +1,14 @@
-use Rattle.std.proofs.Common.{[], ◌∷◌, ◌++◌, refl, arith, rules}
-use Rattle.dex_base.specs.Names.{SpellsPoint}
-use Rattle.base_bytes.proofs.GrammarLaws.{Each-none}
-use Rattle.dex_base.proofs.NameLaws.{low_more}
+use Rattle.std.proofs.Common.{arith}
+use Rattle.dex_base.proofs.NameLaws.{low_run_points, low_joined}
 use Rattle.dex_base.proofs.simple_name.low_run.Goals as goal
 
-pub loop-at-init : goal.loop-at-init
-loop-at-init c = ([], Each-none SpellsPoint c.args.units.now [] refl)
+pub returns-then-here-lt-LANES : goal.returns-then-here-lt-LANES
+returns-then-here-lt-LANES c =
+    low_run_points c.args.units.now _ (omega (arith, c.low_among-here.ensures.few)) (low_joined c.args.units.now _ _ _ (omega arith) c.loop-at.invariant c.low_among-here.ensures.low)
 
 pub loop-at-preserved : goal.loop-at-preserved
-loop-at-preserved c =
-    let i = c.loop-at.invariant in
-    let low = c.if-unit-ge128.false in
-    (i.0 ++ _ ∷ [], low_more c.args.units.now i.0 c.loop-at.at c.loop-at-test.true (omega (arith, low)) (search rules) i.1)
+loop-at-preserved c = low_joined c.args.units.now _ _ _ (omega arith) c.loop-at.invariant (λ k from under. c.low_among-here.ensures.low k from (omega arith))
+
+pub returns : goal.returns
+returns c =
+    low_run_points c.args.units.now _ (omega (arith, c.low_among.ensures.few)) (low_joined c.args.units.now _ _ _ (omega arith) c.loop-at.invariant c.low_among.ensures.low)

@@ -1,7 +1,9 @@
-use Rattle.std.proofs.Common.{ℕ, List}
-use Rattle.base_bytes.specs.Grammar.{Begins, Each}
-use Rattle.dex_base.specs.Names.{SpellsPoint}
+use Rattle.std.proofs.Common.{◌-◌}
+use Rattle.dex_base.specs.Names.{AreLowPoints}
 use Rattle.dex_base.proofs.simple_name.low_run.Given as goal
 
 abbrev pub invariant-loop-at : goal.invariant-loop-at
-invariant-loop-at l = (points : List ℕ) × Begins (Each SpellsPoint) l.units points l.at
+invariant-loop-at l = AreLowPoints l.units 0 l.at
+
+abbrev pub decreases-loop-at : goal.decreases-loop-at
+decreases-loop-at l = l.last - l.at

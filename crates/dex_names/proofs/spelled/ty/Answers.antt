@@ -1,4 +1,3 @@
-use Rattle.std.proofs.Common.{◌≡◌}
 use Rattle.listing_words.proofs.NameLaws.{units_one}
 use Rattle.dex_names.proofs.spelled.ty.Goals as goal
 

@@ -1,4 +1,4 @@
-use Rattle.std.proofs.Common.{List, refl, subst, inl, inr, true≢false, sym, option_map}
+use Rattle.std.proofs.Common.{refl, subst, inl, inr, true≢false, sym, option_map}
 use Rattle.std.specs.Prelude.{IfSome}
 use Rattle.dex_base.specs.Descriptor.{IsClass}
 use Rattle.program_types.specs.Content.{Units}

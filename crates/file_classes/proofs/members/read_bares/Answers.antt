@@ -3,14 +3,12 @@ use Rattle.std.proofs.lemmas.List.{length-map}
 use Rattle.dex_container.specs.Layout.{size_of}
 use Rattle.program_types.specs.View.{desc, method_ref}
 use Rattle.file_classes.specs.ClassFaults.{MethodOwner}
-use Rattle.file_classes.specs.Reading.{IsBare}
-use Rattle.file_classes.proofs.MemberLaws.{bare_stands}
+use Rattle.file_classes.specs.Reading.{IsBare, method_entry}
+use Rattle.file_classes.proofs.MemberLaws.{bare_stands, there, next_index, index_fails, step_fails, step_rises, all_run}
 use Rattle.file_classes.specs.ClassData.{steps, index_of}
-use Rattle.file_classes.specs.Reading.{method_entry}
 use Rattle.file_classes.specs.declared.class_data.MethodEntry.{MethodEntry}
 use Rattle.file_classes.proofs.EntryLaws.{runs_more}
 use Rattle.file_classes.proofs.EntryFaults.{bares_before}
-use Rattle.file_classes.proofs.MemberLaws.{there, next_index, index_fails, step_fails, step_rises, all_run}
 use Rattle.file_classes.proofs.members.read_bares.Goals as goal
 use Rattle.file_classes.proofs.members.read_bares.Goals.{else-entry-eq0-via-then-entry-eq0+else-len-gt0, else-entry-eq0-via-else-entry-eq0}
 use Rattle.base_bytes.proofs.ListFacts.{passed}

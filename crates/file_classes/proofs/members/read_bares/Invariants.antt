@@ -1,9 +1,8 @@
 use Rattle.std.proofs.Common.{◌≡◌, ◌<◌, ◌^◌, map, take}
 use Rattle.std.specs.Prelude.{sum}
 use Rattle.program_types.specs.View.{desc}
-use Rattle.file_classes.specs.Reading.{IsBare}
+use Rattle.file_classes.specs.Reading.{IsBare, method_entry}
 use Rattle.file_classes.specs.ClassData.{steps, FirstEntriesAre}
-use Rattle.file_classes.specs.Reading.{method_entry}
 use Rattle.file_classes.proofs.members.read_bares.Given as goal
 
 abbrev pub invariant-loop-entry : goal.invariant-loop-entry

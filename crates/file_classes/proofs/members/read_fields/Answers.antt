@@ -4,13 +4,12 @@ use Rattle.dex_container.specs.Layout.{size_of}
 use Rattle.program_types.specs.View.{str, desc, field_ref, member}
 use Rattle.file_classes.specs.Classes.{IsField}
 use Rattle.file_classes.specs.ClassFaults.{FieldOwner}
-use Rattle.file_classes.proofs.MemberLaws.{field_stands}
+use Rattle.file_classes.proofs.MemberLaws.{field_stands, there, next_index, index_fails, step_fails, step_rises, all_run}
 use Rattle.file_classes.specs.ClassData.{steps, index_of}
 use Rattle.file_classes.specs.Reading.{field_entry}
 use Rattle.file_classes.specs.declared.class_data.FieldEntry.{FieldEntry}
 use Rattle.file_classes.proofs.EntryLaws.{runs_more}
 use Rattle.file_classes.proofs.EntryFaults.{fields_before}
-use Rattle.file_classes.proofs.MemberLaws.{there, next_index, index_fails, step_fails, step_rises, all_run}
 use Rattle.file_classes.proofs.members.read_fields.Goals as goal
 use Rattle.file_classes.proofs.members.read_fields.Goals.{else-entry-eq0-via-then-entry-eq0+else-len-gt0, else-entry-eq0-via-else-entry-eq0}
 use Rattle.base_bytes.proofs.ListFacts.{passed}

@@ -2,7 +2,6 @@ use Rattle.std.proofs.Common.{subst, inl, inr, ◌⊎◌, List, ℕ}
 use Rattle.tables_rows.specs.TableFaults.{IsTableFault}
 use Rattle.tables_rows.proofs.ClearRows.{only_memory}
 use Rattle.file_classes.specs.ClassFaults.{IsClassFault, IsValueFault, IsCodeFault, IsRegisterFault}
-use Rattle.program_types.specs.View as view
 use Rattle.file_read.proofs.PassLaws.{no_class_fault, no_value_fault, no_last_fault, last_refused, means_these, program_one}
 use Rattle.file_read.proofs.RangeLaws.{well_formed}
 use Rattle.file_read.proofs.reading.read.Goals as goal

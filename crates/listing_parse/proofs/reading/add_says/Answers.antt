@@ -1,15 +1,13 @@
-use Rattle.std.proofs.Common.{◌∙◌, sym, ap, ℕ, ◌+◌, List, map}
+use Rattle.std.proofs.Common.{◌∙◌, sym, ap, ℕ, ◌+◌, map, Some}
 use Rattle.std.proofs.lemmas.Result.{on_ok_weaker}
 use Rattle.listing_words.specs.View.{word}
 use Rattle.listing_slots.specs.View.{datum}
-use Rattle.listing_slots.specs.declared.datum.Datum.{Datum}
 use Rattle.listing_shapes.specs.ShapeView.{shape}
-use Rattle.listing_lines.specs.Lines.{line_of}
-use Rattle.listing_lines.specs.LineView.{line}
 use Rattle.listing_draft.specs.View.{state}
 use Rattle.listing_labels.specs.Lines.{lines}
-use Rattle.listing_parse.specs.Text.{labels_after}
+use Rattle.listing_parse.specs.Text.{Reading, labels_after}
 use Rattle.listing_parse.specs.View.{reading}
+use Rattle.listing_parse.proofs.NamedLaws.{said_named}
 use Rattle.listing_parse.proofs.RefusedLaws.{shapeless, misplaced, misspelled, twice, taken}
 use Rattle.listing_parse.proofs.reading.add_says.Goals as goal
 
@@ -51,4 +49,12 @@ returns-clause-taken c =
     (rw c.in_default-2.is at c.in_ok-code.ensures.all)
     (rw (c.if-not-branch.false, c.as_slice-said.ensures.value) at c.in_ok-add_said.ensures.added)
     (looked ∙ ap (λ (n : ℕ). record { form = form; labels = labels_after form c.in-Some.found.kind (n + 1) ls es; base = state c.add_said.new.draft }) c.in_ok-add_said.ensures.lines))
+    c.find_labels.ensures.looked
+
+pub returns-clause-named : goal.returns-clause-named
+unfolding reading state
+returns-clause-named c =
+    on_ok_weaker c.find_labels.result (λ looked. said_named c.args.scratch.now.spelled c.read_says.new.scratch.spelled (reading c.args.listing.now) (reading c.find_labels.new.self) c.in-Some.found.kind (map datum c.read_says.new.scratch.says.items)
+    (rw c.in_default-2.is at c.in_ok-code.ensures.valid)
+    ((rw (c.if-not-branch.false, c.as_slice-said.ensures.value) at c.in_ok-add_said.ensures.added) ∙ ap Some (sym (ap (λ (r : Reading). r.base) looked))))
     c.find_labels.ensures.looked

@@ -1,8 +1,10 @@
 use Rattle.std.proofs.Common.{◌≡◌, ◌∙◌, ◌+◌, refl, sym, ap, subst, arith, List, ℕ, length, ◌++◌, ◌∷◌, []}
 use Rattle.std.proofs.lemmas.List.{length_push}
 use Rattle.listing_labels.specs.Lines.{lines}
+use Rattle.listing_parse.specs.Named.{StateIsNamed}
 use Rattle.listing_parse.specs.Text.{Reading, begin, Reads}
 use Rattle.listing_parse.specs.View.{reading}
+use Rattle.listing_parse.proofs.NamedLaws.{first_named}
 use Rattle.listing_parse.proofs.ReadingLaws.{Reads-push, lines_push, bad_line, lines_in, base_of, all_read, read_whole}
 use Rattle.listing_parse.proofs.reading.read_lines.Goals as goal
 use Rattle.base_bytes.proofs.ListFacts.{passed}
@@ -14,12 +16,13 @@ loop-line-preserved c = let i = c.loop-line.invariant in let n = length_push i.0
   omega (arith, i.2, c.in_ok-read_line.ensures.lines),
   Reads-push begin (reading c.loop-line.listing) (reading c.read_line.new.listing) i.0 c.in-Some.line.now (lines c.in-Some.after.now) (subst (λ (ls : List (List ℕ)). Reads begin i.0 ls (reading c.loop-line.listing)) c.in-Some.ensures.found i.3) c.in_ok-read_line.ensures.taken,
   omega (arith, i.4, c.in-Some.ensures.shorter, c.in_ok-read_line.ensures.lines),
+  c.in_ok-read_line.ensures.named i.5,
 )
 
 pub loop-line-init : goal.loop-line-init
 loop-line-init c =
     let e : c.begin-listing.result.draft.lines ≡ 0 = sym (lines_in c.begin-listing.result) ∙ ap (λ (r : Reading). r.base.lines) c.begin-listing.ensures in
-    ([], refl, e, sym c.begin-listing.ensures, omega arith)
+    ([], refl, e, sym c.begin-listing.ensures, omega arith, λ valid. first_named (reading c.begin-listing.result) c.begin-listing.ensures)
 
 pub returns-in_err-read_line-clause-err : goal.returns-in_err-read_line-clause-err
 returns-in_err-read_line-clause-err c =
@@ -32,3 +35,6 @@ returns-clause-ok c = let i = c.loop-line.invariant in (reading c.loop-line.list
 
 pub returns-clause-number : goal.returns-clause-number
 returns-clause-number c = let i = c.loop-line.invariant in i.2 ∙ ap length (sym (all_read _ i.0 _ i.1 c.in_default.ensures.none))
+
+pub returns-clause-named : goal.returns-clause-named
+returns-clause-named c = λ named. subst StateIsNamed (base_of c.loop-line.listing) (c.loop-line.invariant.5 (sym c.is_valid.ensures ∙ named))

@@ -1,6 +1,5 @@
-use Rattle.std.proofs.Common.{refl}
+use Rattle.std.proofs.Common.{refl, map}
 use Rattle.std.specs.List.{flat_map}
-use Rattle.std.proofs.Common.{map}
 use Rattle.program_types.specs.View.{insn, try, code}
 use Rattle.program_types.specs.Formed.{insn_leads}
 use Rattle.listing_print.specs.Canon.{try_numbers, code_numbers}

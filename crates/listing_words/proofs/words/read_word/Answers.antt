@@ -1,6 +1,5 @@
-use Rattle.std.proofs.Common.{rules, arith, ap, length, ◌≡◌}
-use Rattle.listing_words.specs.Words.{up_to_space, after_spaces}
-use Rattle.listing_words.proofs.WordLaws.{quoted_none, quoted_open, plain_found, plain_long}
+use Rattle.std.proofs.Common.{arith, ap, length, length-append}
+use Rattle.listing_words.proofs.WordLaws.{quoted_none, quoted_open, plain_found, plain_some, plain_cut}
 use Rattle.listing_words.proofs.words.read_word.Goals as goal
 
 pub returns-in_default-2-clause-none : goal.returns-in_default-2-clause-none
@@ -12,11 +11,25 @@ returns-then-not-is_end-clause-none c = quoted_open c.args.line.now c.in-Some.in
 pub returns-then-first-eq34-clause-shorter : goal.returns-then-first-eq34-clause-shorter
 returns-then-first-eq34-clause-shorter c = let s = rw c.in-Some-2.is at c.in_ok-units.ensures.shorter in let e = c.in-Some.ensures.cases.1 in omega (arith, s)
 
+pub returns-then-not-is_end-2-clause-none : goal.returns-then-not-is_end-2-clause-none
+returns-then-not-is_end-2-clause-none c =
+    let cut = c.split_graphic.ensures in
+    plain_cut c.args.line.now c.in-Some.first.now c.in-Some.inner.now c.split_graphic.result.0.now c.split_graphic.result.1.now
+    (let e = c.in-Some.ensures.cases.0 in let f = c.after_spaces-text.ensures.rest in cc) c.if-first-eq34.false
+    (let j = cut.joined in let f = c.after_spaces-text.ensures.rest in cc) cut.graphic cut.stops
+    (λ e. let k = c.is_end-2.ensures.1 e in let l = c.if-not-is_end-2.true in absurd cc)
+
 pub returns-clause-found : goal.returns-clause-found
-returns-clause-found c = plain_found c.args.line.now c.in-Some.first.now c.in-Some.inner.now _ _ (let e = c.in-Some.ensures.cases.0 in let f = c.after_spaces-text.ensures.rest in cc) c.if-first-eq34.false (search rules) (search rules) (search rules)
+returns-clause-found c =
+    let cut = c.split_graphic.ensures in
+    plain_found c.args.line.now c.in-Some.first.now c.in-Some.inner.now c.split_graphic.result.0.now c.split_graphic.result.1.now
+    (let e = c.in-Some.ensures.cases.0 in let f = c.after_spaces-text.ensures.rest in cc) c.if-first-eq34.false
+    (let j = cut.joined in let f = c.after_spaces-text.ensures.rest in cc) cut.graphic (c.is_end-2.ensures.0 c.if-not-is_end-2.false)
 
 pub returns-clause-shorter : goal.returns-clause-shorter
 returns-clause-shorter c =
-    let l = plain_long c.args.line.now c.in-Some.first.now c.in-Some.inner.now (let e = c.in-Some.ensures.cases.0 in let f = c.after_spaces-text.ensures.rest in cc) in
-    let k : length c.split_word.result.0.now ≡ length (up_to_space (after_spaces c.args.line.now)) = ap length (search rules) in
-    omega (arith, c.split_word.ensures.within, c.after_spaces-text.ensures.within)
+    let cut = c.split_graphic.ensures in
+    let some = plain_some c.args.line.now c.in-Some.first.now c.in-Some.inner.now c.split_graphic.result.0.now c.split_graphic.result.1.now
+    (let e = c.in-Some.ensures.cases.0 in let f = c.after_spaces-text.ensures.rest in cc)
+    (let j = cut.joined in let f = c.after_spaces-text.ensures.rest in cc) cut.graphic (c.is_end-2.ensures.0 c.if-not-is_end-2.false) in
+    omega (arith, some, ap length cut.joined, length-append c.split_graphic.result.0.now c.split_graphic.result.1.now, c.after_spaces-text.ensures.within)

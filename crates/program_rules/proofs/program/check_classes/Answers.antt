@@ -2,8 +2,10 @@ use Rattle.std.proofs.Common.{map}
 use Rattle.program_types.specs.View.{class}
 use Rattle.program_rules.proofs.NumberLaws.{not-yet}
 use Rattle.program_rules.proofs.OrderLaws.{class-at, first-broken, one-more, all-kept}
+use Rattle.program_rules.specs.Rules.{CodesHold}
+use Rattle.program_rules.specs.Valid.{InsnsAreNamed}
 use Rattle.program_rules.proofs.program.check_classes.Goals as goal
-use Rattle.base_bytes.proofs.ListFacts.{passed}
+use Rattle.base_bytes.proofs.ListFacts.{passed, all_at}
 
 pub returns-in_err-check_class-clause-err : goal.returns-in_err-check_class-clause-err
 returns-in_err-check_class-clause-err c =
@@ -21,3 +23,6 @@ loop-i-preserved c =
 
 pub returns-clause-formed : goal.returns-clause-formed
 returns-clause-formed c = all-kept c.args.classes.now c.loop-i.i c.loop-i-test.false c.loop-i.invariant
+
+pub check_class-requires-clause-named : goal.check_class-requires-clause-named
+check_class-requires-clause-named c = λ known. all_at (CodesHold InsnsAreNamed) class c.args.classes.now c.loop-i.i _ c.loop-i-test.true (c.requires.named known)

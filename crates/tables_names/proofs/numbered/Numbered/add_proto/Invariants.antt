@@ -2,8 +2,7 @@ use Rattle.std.proofs.Common.{◌≡◌, ◌∷◌, map, take}
 use Rattle.tables_names.specs.Keys.{key_of_proto, key_of_desc}
 use Rattle.tables_names.specs.Rank.{IsAt}
 use Rattle.program_types.specs.View.{desc}
-use Rattle.tables_names.specs.Closure.{shorty_of_texts}
-use Rattle.tables_names.specs.Closure.{join, proto_parts}
+use Rattle.tables_names.specs.Closure.{shorty_of_texts, join, proto_parts}
 use Rattle.tables_names.specs.Numbers.{sets, AllGrow}
 use Rattle.tables_names.proofs.numbered.Numbered.add_proto.Given as goal
 
