@@ -15,7 +15,7 @@ ghost use Rattle.dex_insn.specs.declared.opcode.IndexKind.TheVariants as kind;
 use crate::names::names_fit;
 use crate::offsets::{are_even, offsets_fit};
 use crate::tries::{handlers_fit, is_short, tries_fit};
-use code_put::{Starts, origins_of, starts_of};
+use code_put::{Begins, Starts, origins_of, starts_of};
 use dex_base::{Fault, fault};
 use dex_insn::IndexKind;
 use program_types::Code;
@@ -45,7 +45,8 @@ fn check_tries(alloc: Global, ranks: &Ranks<'_>, all: &Starts, code: &Code<'_>) 
     if !is_short(all.end, code.tries) {
         return Ok(());
     }
-    if !handlers_fit(alloc, ranks, &all.starts, code.tries)? {
+    let starts = Begins { list: &all.starts };
+    if !handlers_fit(alloc, ranks, &starts, code.tries)? {
         return Err(Fault::at(fault::HANDLER_TOO_FAR, 0));
     }
     Ok(())

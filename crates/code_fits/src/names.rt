@@ -32,13 +32,13 @@ fn short_name<'a>(one: &Insn<'a>) -> Option<Name<'a>>
 fn is_of_kind(kind: IndexKind, name: Name<'_>) -> bool
     ensures { IsTrue result ↔ IsOfKind kind (view.name name.entry) }
 {
-    match (kind, name) {
-        (IndexKind::String, Name::Text(_)) => true,
-        (IndexKind::Type, Name::Desc(_)) => true,
-        (IndexKind::Field, Name::Field(_)) => true,
-        (IndexKind::Method, Name::Method(_)) => true,
-        _ => false,
-    }
+    matches!(
+        (kind, name),
+        (IndexKind::String, Name::Text(_))
+            | (IndexKind::Type, Name::Desc(_))
+            | (IndexKind::Field, Name::Field(_))
+            | (IndexKind::Method, Name::Method(_))
+    )
 }
 
 /// Whether the index of a name fits 16 bits.

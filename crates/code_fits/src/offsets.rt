@@ -1,14 +1,14 @@
 //! Whether offsets fit their fields, and payloads have even addresses.
 
-ghost use Rattle.std.specs.Prelude.{◌≡◌, ◌≢◌, ◌<◌, ◌≤◌, ◌+◌, ◌↔◌, ℕ, None, length, map, slice_index, IsTrue, FitsSigned};
+ghost use Rattle.std.specs.Prelude.{◌≡◌, ◌<◌, ◌≤◌, ◌+◌, ◌↔◌, ℕ, length, map, slice_index, IsTrue, FitsSigned};
 ghost use Rattle.std.specs.Int.{w8, w16, w32};
-ghost use Rattle.program_types.specs.Formed.{insn_at, insn_payload, insn_targets, PayloadHolds};
+ghost use Rattle.program_types.specs.Formed.{insn_at, PayloadHolds};
 ghost use Rattle.program_types.specs.Operands.{IsOperand};
 ghost use Rattle.program_types.specs.View.{insn};
 ghost use Rattle.code_put.specs.Fits.{distance_of, BranchFits, TargetsFit, OffsetsFit, IsEven};
 ghost use Rattle.code_put.specs.Writing.{AreOrigins};
 
-use program_types::Insn;
+use program_types::{Insn, payload_of, targets_of};
 
 /// Whether `begin` is at most `most` after `at`, or `most` and one before it.
 fn is_near(begin: u64, at: u64, most: u64) -> bool
@@ -57,17 +57,6 @@ fn branch_fits(starts: &[u64], at: u64, one: &Insn<'_>) -> bool
         }
         Insn::I30t { to, .. } | Insn::I31t { to, .. } => fits_32(starts, at, to),
         _ => true,
-    }
-}
-
-/// The targets of a switch's payload.
-#[tactic(auto, unfolding(program_types::specs::Formed::insn_targets))]
-fn targets_of<'a>(one: &Insn<'a>) -> &'a [u32]
-    ensures { result.now ≡ insn_targets (insn one.now) }
-{
-    match *one {
-        Insn::Packed { targets, .. } | Insn::Sparse { targets, .. } => targets,
-        _ => &[],
     }
 }
 
@@ -124,27 +113,16 @@ pub(crate) fn offsets_fit(starts: &[u64], origins: &[u32], insns: &[Insn<'_>]) -
     true
 }
 
-/// Whether an instruction is a payload.
-#[tactic(auto, unfolding(program_types::specs::Formed::insn_payload))]
-fn is_payload(one: &Insn<'_>) -> bool
-    ensures { IsTrue result ↔ (insn_payload (insn one.now) ≢ None) }
-{
-    match *one {
-        Insn::Packed { .. } | Insn::Sparse { .. } | Insn::Data { .. } => true,
-        _ => false,
-    }
-}
-
 /// Whether instruction k, if it is a payload, has an even address.
 fn is_even(starts: &[u64], insns: &[Insn<'_>], k: usize) -> bool
     requires count { length starts.now ≡ length insns.now }
     requires inside { k < length insns.now }
     ensures { IsTrue result ↔ IsEven (map insn insns.now) starts.now k }
 {
-    if !is_payload(&insns[k]) {
-        return true;
+    match payload_of(&insns[k]) {
+        Some(_) => starts[k] % 2 == 0,
+        None => true,
     }
-    starts[k] % 2 == 0
 }
 
 /// Whether all payloads have even addresses.

@@ -7,10 +7,9 @@ ghost use Rattle.program_types.specs.Formed.{try_at, TryFormed};
 ghost use Rattle.program_types.specs.Mentions.{names_of_try};
 ghost use Rattle.program_types.specs.View.{try};
 ghost use Rattle.tables_names.specs.Closure.{NameRanks};
-ghost use Rattle.code_insns.specs.Places.{Rises};
 ghost use Rattle.code_put.specs.Fits.{TryFits, HandlersAreNear, HasIndexBelow, SomeHandlerIsFar, catches_in};
 
-use code_put::lay_handlers;
+use code_put::{Begins, lay_handlers};
 use dex_base::Fault;
 use program_types::Try;
 use std::alloc::Global;
@@ -84,11 +83,9 @@ fn are_near(offsets: &[u32]) -> bool
 pub(crate) fn handlers_fit(
     alloc: Global,
     ranks: &Ranks<'_>,
-    starts: &[u64],
+    starts: &Begins<'_>,
     tries: &[Try<'_>],
 ) -> Result<bool, Fault>
-    requires rises { Rises starts.now }
-    requires low { (k : ℕ) → k < length starts.now → slice_index starts.now k ≤ 4294967295 }
     requires formed { (i : ℕ) → i < length tries.now → TryFormed (length starts.now) (map try tries.now) i }
     requires ranked { AllByRecursion (HasIndexBelow (NameRanks ranks.now) 4294967296) (flat_map names_of_try (map try tries.now)) }
     requires few { length tries.now ≤ 65535 }

@@ -14,7 +14,7 @@ ghost use Rattle.code_insns.specs.Registers.{AmongAt, IsPast};
 ghost use Rattle.code_insns.specs.Reading.{AreResolved, HoldAndResolve, ReadInsns};
 ghost use Rattle.code_insns.specs.Plain.{ArePlain};
 
-use crate::payloads::{is_switch, payload_at};
+use crate::payloads::payload_at;
 use crate::plain::{insns_at, starts_of};
 use crate::registers::past_registers;
 use crate::rules::{check_branches, check_names, check_targets, is_payload};
@@ -26,7 +26,7 @@ use bumpalo::Bump;
 use bumpalo::collections::into_bump_slice;
 use dex_base::Fault;
 use dex_insn::RawInsn;
-use program_types::Insn;
+use program_types::{Insn, is_switch};
 use std::alloc::Global;
 use tables_rows::Tables;
 

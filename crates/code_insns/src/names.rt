@@ -27,10 +27,7 @@ pub(crate) fn named<'a>(tables: &Tables<'a>, op: u8, index: u32) -> Option<Name<
 fn is_named(tables: &Tables<'_>, op: u8, index: u32) -> bool
     ensures { IsTrue result ↔ SomeName (NameIsAt tables.now) op index }
 {
-    match named(tables, op, index) {
-        Some(_) => true,
-        None => false,
-    }
+    named(tables, op, index).is_some()
 }
 
 /// Whether the index of an instruction, if it has one, stands for a name.

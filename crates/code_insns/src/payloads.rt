@@ -1,14 +1,13 @@
 //! Payloads, and the instructions that refer to them.
 
-ghost use Rattle.std.specs.Prelude.{◌≡◌, ◌<◌, ◌↔◌, IsTrue, length, map, IfSome, IfNone, ℕ};
+ghost use Rattle.std.specs.Prelude.{◌≡◌, ◌<◌, length, map, IfSome, IfNone, ℕ};
 ghost use Rattle.dex_insn.specs.Raw.{raw};
 ghost use Rattle.code_insns.specs.Walk.{IsTable, raw_at};
 ghost use Rattle.code_insns.specs.Payloads.{payload_of, wants, reach, Uses};
-ghost use Rattle.program_types.specs.Formed.{AreAlike, IsSwitch};
 
 use crate::places::find;
 use dex_insn::RawInsn;
-use program_types::Payload;
+use program_types::{Payload, are_alike};
 
 /// Which payload an instruction is.
 #[tactic(auto, unfolding(crate::specs::Payloads::payload_of, dex_insn::specs::Raw::raw))]
@@ -44,18 +43,6 @@ fn reach_of(one: &RawInsn<'_>) -> i32
     match one {
         RawInsn::I31t { offset, .. } => *offset,
         _ => 0,
-    }
-}
-
-/// Whether both are one kind of payload.
-pub(crate) fn are_alike(one: Option<Payload>, other: Option<Payload>) -> bool
-    ensures { IsTrue result ↔ AreAlike one other }
-{
-    match (one, other) {
-        (Some(Payload::PackedSwitch), Some(Payload::PackedSwitch)) => true,
-        (Some(Payload::SparseSwitch), Some(Payload::SparseSwitch)) => true,
-        (Some(Payload::Array), Some(Payload::Array)) => true,
-        _ => false,
     }
 }
 
@@ -99,15 +86,5 @@ pub fn used_by(insns: &[RawInsn<'_>], begins: &[u32], j: usize) -> Option<usize>
                 None
             }
         }
-    }
-}
-
-/// Whether a payload is that of a switch.
-pub(crate) fn is_switch(one: Option<Payload>) -> bool
-    ensures { IsTrue result ↔ IsSwitch one }
-{
-    match one {
-        Some(Payload::PackedSwitch) | Some(Payload::SparseSwitch) => true,
-        _ => false,
     }
 }

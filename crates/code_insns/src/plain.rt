@@ -36,13 +36,13 @@ struct Seen<'a> {
 fn is_plain(one: &RawInsn<'_>) -> bool
     ensures { result ≡ is_plain (raw one.now) }
 {
-    match one {
+    !matches!(
+        one,
         RawInsn::Packed { .. }
-        | RawInsn::Sparse { .. }
-        | RawInsn::Data { .. }
-        | RawInsn::I31t { .. } => false,
-        _ => true,
-    }
+            | RawInsn::Sparse { .. }
+            | RawInsn::Data { .. }
+            | RawInsn::I31t { .. }
+    )
 }
 
 /// Whether a branch leads to another instruction, where it has to.

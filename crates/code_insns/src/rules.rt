@@ -10,12 +10,13 @@ ghost use Rattle.code_insns.specs.Insns.{branch, short_branch, Lands, BranchLand
 ghost use Rattle.code_insns.specs.InsnFaults.{BreaksIn};
 
 use crate::names::has_name;
-use crate::payloads::{is_switch, payload_at};
+use crate::payloads::payload_at;
 use crate::places::find;
 use crate::targets::int_at;
 use crate::uses::Use;
 use dex_base::{Fault, fault};
 use dex_insn::RawInsn;
+use program_types::is_switch;
 use tables_rows::Tables;
 
 /// The offset of a branch.
@@ -51,10 +52,10 @@ pub(crate) fn short_branch_of(one: &RawInsn<'_>) -> Option<i32>
 pub(crate) fn is_payload(one: &RawInsn<'_>) -> bool
     ensures { result ≡ is_payload (raw one.now) }
 {
-    match one {
-        RawInsn::Packed { .. } | RawInsn::Sparse { .. } | RawInsn::Data { .. } => true,
-        _ => false,
-    }
+    matches!(
+        one,
+        RawInsn::Packed { .. } | RawInsn::Sparse { .. } | RawInsn::Data { .. }
+    )
 }
 
 /// Whether the offset leads to an instruction that is no payload.
@@ -63,13 +64,7 @@ fn lands(insns: &[RawInsn<'_>], begins: &[u32], at: u32, offset: i32) -> bool
     ensures { IsTrue result ↔ Lands (map raw insns.now) at offset }
 {
     match find(begins, at, offset) {
-        Some(n) => {
-            if is_payload(&insns[n as usize]) {
-                false
-            } else {
-                true
-            }
-        }
+        Some(n) => !is_payload(&insns[n as usize]),
         None => false,
     }
 }

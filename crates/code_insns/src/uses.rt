@@ -9,9 +9,10 @@ ghost use Rattle.code_insns.specs.InsnFaults.{BreaksIn};
 ghost use Rattle.code_insns.specs.Payloads.{AreUsers, with_user, UseHolds, UsedOnce, Uses, wants};
 ghost use Rattle.program_types.specs.Formed.{WantsPayload};
 
-use crate::payloads::{are_alike, is_switch, payload_at, used_by, wants_at};
+use crate::payloads::{payload_at, used_by, wants_at};
 use dex_base::{Fault, fault};
 use dex_insn::RawInsn;
+use program_types::{are_alike, is_switch};
 use std::alloc::Global;
 
 /// The users of a payload.
@@ -67,10 +68,7 @@ fn refers(insns: &[RawInsn<'_>], begins: &[u32], k: usize) -> bool
 {
     let kind = wants_at(insns, k);
     if are_alike(kind, kind) {
-        match used_by(insns, begins, k) {
-            Some(_) => true,
-            None => false,
-        }
+        used_by(insns, begins, k).is_some()
     } else {
         true
     }
@@ -82,10 +80,7 @@ fn is_used_once(all: &[Use], insns: &[RawInsn<'_>], k: usize) -> bool
     requires inside { k < length insns.now }
     ensures { IsTrue result ↔ UsedOnce (map raw insns.now) k }
 {
-    match all[k] {
-        Use::By(_) => true,
-        _ => false,
-    }
+    matches!(all[k], Use::By(_))
 }
 
 /// Whether the payload that instruction `k` is or refers to is used as it must be.

@@ -24,3 +24,4 @@ pub mod SizeLaws
 pub mod TryParts
 pub mod WordOnce
 pub mod WrittenLaws
+pub mod MentionLaws

@@ -1,6 +1,6 @@
 //! Writing handlers ("Dalvik Executable format", "encoded_catch_handler_list", "encoded_catch_handler").
 
-ghost use Rattle.std.specs.Prelude.{◌≤◌, ◌<◌, ◌+◌, ◌*◌, ℕ, List, length, map, OnOk, IfOk, IsOkUnless, IfSome, IfNone, ◌≢◌, [], slice_index};
+ghost use Rattle.std.specs.Prelude.{◌≤◌, ◌<◌, ◌+◌, ◌*◌, ℕ, List, length, map, OnOk, IfOk, IsOkUnless, IfSome, IfNone, ◌≢◌, []};
 ghost use Rattle.std.specs.List.{AllByRecursion, flat_map};
 ghost use Rattle.base_bytes.specs.Fault.{memory};
 ghost use Rattle.base_bytes.specs.Grammar.{Appends, Each};
@@ -10,12 +10,12 @@ ghost use Rattle.program_types.specs.View.{desc, catch, try};
 ghost use Rattle.program_types.specs.Formed.{TryFormed};
 ghost use Rattle.program_types.specs.Mentions.{names_of_try};
 ghost use Rattle.tables_names.specs.Closure.{Five, NameRanks};
-ghost use Rattle.code_insns.specs.Places.{Rises};
 ghost use Rattle.code_read.specs.Tries.{handler_of};
 ghost use Rattle.code_put.specs.Packs.{PlaceAt, PacksCatch, PacksHandler, PacksHandlersOf};
 ghost use Rattle.code_put.specs.Writing.{Numbers, IsDistinct, IsDistinctOf, IsListed, joined_keys};
 ghost use Rattle.code_put.specs.Fits.{HasIndexBelow, catches_in};
 
+use crate::begins::Begins;
 use dex_base::{Fault, put_sleb, put_uleb};
 use indexmap::IndexSet;
 use program_types::{Catch, Name, Try};
@@ -23,25 +23,21 @@ use std::alloc::Global;
 use tables_names::Ranks;
 
 /// Appends the address of an instruction.
-fn put_place(out: &mut Vec<u8>, starts: &[u64], at: u32) -> Result<(), Fault>
-    requires rises { Rises starts.now }
-    requires low { (k : ℕ) → k < length starts.now → slice_index starts.now k ≤ 4294967295 }
+fn put_place(out: &mut Vec<u8>, starts: &Begins<'_>, at: u32) -> Result<(), Fault>
     requires inside { at < length starts.now }
     ensures ok { OnOk result (Appends (PlaceAt starts.now) out.old.items out.new.items at) }
     ensures memory { IsOkUnless result memory }
 {
-    put_uleb(out, starts[at as usize] as u32)
+    put_uleb(out, starts.at(at))
 }
 
 /// Appends a catch: its type's index, and the address of its handler.
 fn put_catch(
     out: &mut Vec<u8>,
     ranks: &Ranks<'_>,
-    starts: &[u64],
+    starts: &Begins<'_>,
     one: &Catch<'_>,
 ) -> Result<(), Fault>
-    requires rises { Rises starts.now }
-    requires low { (k : ℕ) → k < length starts.now → slice_index starts.now k ≤ 4294967295 }
     requires inside { one.now.at < length starts.now }
     requires ranked { HasIndexBelow (NameRanks ranks.now) 4294967296 (OfDesc (desc one.now.ty)) }
     ensures ok { OnOk result (Appends (PacksCatch (NameRanks ranks.now) starts.now) out.old.items out.new.items (catch one.now)) }
@@ -59,11 +55,9 @@ fn put_catch(
 fn put_catches(
     out: &mut Vec<u8>,
     ranks: &Ranks<'_>,
-    starts: &[u64],
+    starts: &Begins<'_>,
     catches: &[Catch<'_>],
 ) -> Result<(), Fault>
-    requires rises { Rises starts.now }
-    requires low { (k : ℕ) → k < length starts.now → slice_index starts.now k ≤ 4294967295 }
     requires inside { AllByRecursion (λ c. c.at < length starts.now) (map catch catches.now) }
     requires ranked { AllByRecursion (λ c. HasIndexBelow (NameRanks ranks.now) 4294967296 (OfDesc c.ty)) (map catch catches.now) }
     ensures ok { OnOk result (Appends (Each (PacksCatch (NameRanks ranks.now) starts.now)) out.old.items out.new.items (map catch catches.now)) }
@@ -79,11 +73,9 @@ fn put_catches(
 fn put_handler(
     out: &mut Vec<u8>,
     ranks: &Ranks<'_>,
-    starts: &[u64],
+    starts: &Begins<'_>,
     one: &Try<'_>,
 ) -> Result<(), Fault>
-    requires rises { Rises starts.now }
-    requires low { (k : ℕ) → k < length starts.now → slice_index starts.now k ≤ 4294967295 }
     requires few { length one.now.catches.now ≤ 2147483647 }
     requires inside { AllByRecursion (λ c. c.at < length starts.now) (map catch one.now.catches.now) }
     requires ranked { AllByRecursion (λ c. HasIndexBelow (NameRanks ranks.now) 4294967296 (OfDesc c.ty)) (map catch one.now.catches.now) }
@@ -136,11 +128,9 @@ pub struct Distinct {
 fn distinct_of(
     alloc: Global,
     ranks: &Ranks<'_>,
-    starts: &[u64],
+    starts: &Begins<'_>,
     tries: &[Try<'_>],
 ) -> Result<Distinct, Fault>
-    requires rises { Rises starts.now }
-    requires low { (k : ℕ) → k < length starts.now → slice_index starts.now k ≤ 4294967295 }
     requires formed { (i : ℕ) → i < length tries.now → TryFormed (length starts.now) (map try tries.now) i }
     requires ranked { AllByRecursion (HasIndexBelow (NameRanks ranks.now) 4294967296) (flat_map names_of_try (map try tries.now)) }
     requires few { length tries.now ≤ 65535 }
@@ -217,11 +207,9 @@ pub fn lay_distinct(alloc: Global, distinct: &Distinct) -> Result<Laid, Fault>
 pub fn lay_handlers(
     alloc: Global,
     ranks: &Ranks<'_>,
-    starts: &[u64],
+    starts: &Begins<'_>,
     tries: &[Try<'_>],
 ) -> Result<Laid, Fault>
-    requires rises { Rises starts.now }
-    requires low { (k : ℕ) → k < length starts.now → slice_index starts.now k ≤ 4294967295 }
     requires formed { (i : ℕ) → i < length tries.now → TryFormed (length starts.now) (map try tries.now) i }
     requires ranked { AllByRecursion (HasIndexBelow (NameRanks ranks.now) 4294967296) (flat_map names_of_try (map try tries.now)) }
     requires few { length tries.now ≤ 65535 }

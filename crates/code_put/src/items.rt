@@ -7,6 +7,7 @@ ghost use Rattle.program_types.specs.View as view;
 ghost use Rattle.program_types.specs.Formed.{TryFormed};
 ghost use Rattle.code_put.specs.Packs.{head_bytes, padding, bound_of, item_bytes, items_bytes};
 
+use crate::begins::Begins;
 use dex_base::Fault;
 use program_types::{Code, Try};
 
@@ -60,34 +61,33 @@ pub fn put_padding(out: &mut Vec<u8>, size: u32, tries: usize) -> Result<(), Fau
 }
 
 /// Where an instruction begins, or where the last one ends.
-fn bound_at(starts: &[u64], size: u32, k: u32) -> u64
+fn bound_at(starts: &Begins<'_>, size: u32, k: u32) -> u32
     requires { k ≤ length starts.now }
     ensures { result ≡ bound_of size starts.now k }
 {
-    if (k as usize) == starts.len() {
-        return u64::from(size);
+    if (k as usize) == starts.list.len() {
+        return size;
     }
-    starts[k as usize]
+    starts.at(k)
 }
 
 /// Appends a try_item.
 fn put_item(
     out: &mut Vec<u8>,
-    starts: &[u64],
+    starts: &Begins<'_>,
     size: u32,
     one: &Try<'_>,
     offset: u32,
 ) -> Result<(), Fault>
     requires some { one.now.from < one.now.to }
     requires within { one.now.to ≤ length starts.now }
-    requires low { (k : ℕ) → k < length starts.now → slice_index starts.now k ≤ 4294967295 }
     requires offset { offset < 65536 }
     ensures ok { OnOk result (out.new.items ≡ out.old.items ++ item_bytes size starts.now (view.try one.now) offset) }
     ensures memory { IsOkUnless result memory }
 {
-    let begin = starts[one.from as usize];
+    let begin = starts.at(one.from);
     let covered = bound_at(starts, size, one.to).saturating_sub(begin);
-    put_u32(out, begin as u32)?;
+    put_u32(out, begin)?;
     put_u16(out, covered.min(65535) as u16)?;
     put_u16(out, offset as u16)
 }
@@ -95,13 +95,12 @@ fn put_item(
 /// Appends the try_items, whose handlers begin at these offsets.
 pub(crate) fn put_items(
     out: &mut Vec<u8>,
-    starts: &[u64],
+    starts: &Begins<'_>,
     size: u32,
     tries: &[Try<'_>],
     offsets: &[u32],
 ) -> Result<(), Fault>
     requires formed { (i : ℕ) → i < length tries.now → TryFormed (length starts.now) (map view.try tries.now) i }
-    requires low { (k : ℕ) → k < length starts.now → slice_index starts.now k ≤ 4294967295 }
     requires count { length offsets.now ≡ length tries.now }
     requires offsets { (i : ℕ) → i < length offsets.now → slice_index offsets.now i < 65536 }
     ensures ok { OnOk result (out.new.items ≡ out.old.items ++ items_bytes size starts.now (map view.try tries.now) offsets.now) }

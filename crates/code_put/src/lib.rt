@@ -10,12 +10,14 @@
 #![tactic(auto)]
 
 // Where the instructions begin.
+mod begins;
 mod origins;
 mod sizes;
 
 // The instructions, from symbolic ones to units.
 mod insns;
 mod lowering;
+mod mentioned;
 mod payloads;
 
 // Tries and handlers.
@@ -28,11 +30,13 @@ mod writing;
 // What holds of what is written.
 mod code_laws;
 
+pub use begins::Begins;
 pub use code_laws::{
     lowered_is_spelled, packed_is_one, packed_is_short, packed_is_spelled, packed_tries_are_spelled,
 };
 pub use handlers::{Distinct, Laid, lay_distinct, lay_handlers, number_of};
 pub use items::{put_padding, put_u16, put_u32};
+pub use mentioned::mentions_in;
 pub use origins::origins_of;
 pub use sizes::{Starts, addresses, starts_of, units_of};
 pub use writing::{make_item, put_code};

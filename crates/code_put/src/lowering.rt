@@ -1,26 +1,30 @@
 //! From symbolic instructions to raw ones.
 
-ghost use Rattle.std.specs.Prelude.{◌≡◌, ◌<◌, ◌≤◌, None, Some, length, FitsSigned, ℕ, slice_index, pos, ◌-ℤ◌, ◌+ℤ◌};
+ghost use Rattle.std.specs.Prelude.{◌≡◌, ◌<◌, ◌≤◌, ◌∷◌, [], None, Some, length, FitsSigned, pos, ◌-ℤ◌, ◌+ℤ◌};
 ghost use Rattle.std.specs.Int.{w32};
 ghost use Rattle.program_types.specs.View.{insn};
 ghost use Rattle.program_types.specs.View as view;
 ghost use Rattle.program_types.specs.Formed.{insn_payload};
 ghost use Rattle.program_types.specs.Operands.{IsOperand};
 ghost use Rattle.program_types.specs.Sizes.{insn_units};
+ghost use Rattle.program_types.specs.Mentions.{names_of_insn};
 ghost use Rattle.tables_names.specs.Closure.{NameRanks};
+ghost use Rattle.tables_names.specs.Noted.{AreRanks};
 ghost use Rattle.dex_insn.specs.Raw.{raw, units};
 ghost use Rattle.dex_insn.specs.Written.{IsRaw};
-ghost use Rattle.code_insns.specs.Places.{Rises, place};
+ghost use Rattle.code_insns.specs.Places.{place};
 ghost use Rattle.code_insns.specs.Symbols.{resolved, Says};
 ghost use Rattle.code_insns.specs.Payloads.{payload_of};
 ghost use Rattle.code_put.specs.Fits.{HasIndexBelow, NameFits, BranchFits, distance_of};
 
+use crate::begins::Begins;
 use dex_insn::RawInsn;
 use program_types::{Insn, Name};
 use tables_names::Ranks;
 
-/// The index of a name that has one below the limit.
-fn rank(ranks: &Ranks<'_>, name: Name<'_>, limit: u64) -> u32
+/// The only one of these indices, that of a name that has one below the limit.
+fn only(ranks: &Ranks<'_>, indices: &[usize], name: Name<'_>, limit: u64) -> u32
+    requires index { AreRanks ranks.now (view.name name ∷ []) indices.now }
     requires fits { HasIndexBelow (NameRanks ranks.now) limit (view.name name) }
     requires limit { limit ≤ 4294967296 }
     ensures stands { NameRanks ranks.now result (view.name name.entry) }
@@ -29,10 +33,7 @@ fn rank(ranks: &Ranks<'_>, name: Name<'_>, limit: u64) -> u32
     ranks.rise();
     // Only for the proof: what holds of each value of its type.
     let _limit = limit;
-    match ranks.index_of(name) {
-        Some(index) => index,
-        None => unreachable!(),
-    }
+    indices[0] as u32
 }
 
 /// How far `begin` is from `at`.
@@ -44,26 +45,21 @@ fn gap(begin: u32, at: u32) -> i32
 }
 
 /// How far instruction `to` is from the address, in units.
-pub(crate) fn distance(starts: &[u64], at: u64, to: u32) -> i32
-    requires rises { Rises starts.now }
+pub(crate) fn distance(starts: &Begins<'_>, at: u32, to: u32) -> i32
     requires inside { to < length starts.now }
-    requires at { at ≤ 4294967295 }
-    requires low { (k : ℕ) → k < length starts.now → slice_index starts.now k ≤ 4294967295 }
     requires fits { FitsSigned w32 (distance_of starts.now at to) }
     ensures value { result ≡ distance_of starts.now at to }
     ensures leads { place starts.now at result ≡ Some to }
 {
-    gap(starts[to as usize] as u32, at as u32)
+    gap(starts.at(to), at)
 }
 
-/// The raw instruction of an instruction that is no payload.
+/// The raw instruction of an instruction that is no payload. The index of what it names, if it names anything, is given.
 #[rattlefmt::skip]
 #[tactic(auto, unfolding(code_insns::specs::Symbols::resolved, code_insns::specs::Payloads::payload_of, program_types::specs::Formed::insn_payload, program_types::specs::Sizes::insn_units, dex_insn::specs::Raw::raw, dex_insn::specs::Raw::units))]
-pub(crate) fn lower(ranks: &Ranks<'_>, starts: &[u64], at: u64, one: &Insn<'_>) -> RawInsn<'static>
+pub(crate) fn lower(ranks: &Ranks<'_>, indices: &[usize], starts: &Begins<'_>, at: u32, one: &Insn<'_>) -> RawInsn<'static>
+    requires indices { AreRanks ranks.now (names_of_insn (insn one.now)) indices.now }
     requires plain { insn_payload (insn one.now) ≡ None }
-    requires rises { Rises starts.now }
-    requires at { at ≤ 4294967295 }
-    requires low { (k : ℕ) → k < length starts.now → slice_index starts.now k ≤ 4294967295 }
     requires operand { IsOperand (length starts.now) (insn one.now) }
     requires name { NameFits (NameRanks ranks.now) (insn one.now) }
     requires branch { BranchFits starts.now at (insn one.now) }
@@ -83,19 +79,19 @@ pub(crate) fn lower(ranks: &Ranks<'_>, starts: &[u64], at: u64, one: &Insn<'_>) 
         Insn::I21t { op, a, to } => RawInsn::I21t { op, a, offset: distance(starts, at, to) },
         Insn::I21s { op, a, b } => RawInsn::I21s { op, a, b },
         Insn::I21h { op, a, b } => RawInsn::I21h { op, a, b },
-        Insn::I21c { op, a, name } => RawInsn::I21c { op, a, index: rank(ranks, name, 65536) },
+        Insn::I21c { op, a, name } => RawInsn::I21c { op, a, index: only(ranks, indices, name, 65536) },
         Insn::I23x { op, a, b, c } => RawInsn::I23x { op, a, b, c },
         Insn::I22b { op, a, b, c } => RawInsn::I22b { op, a, b, c },
         Insn::I22t { op, a, b, to } => RawInsn::I22t { op, a, b, offset: distance(starts, at, to) },
         Insn::I22s { op, a, b, c } => RawInsn::I22s { op, a, b, c },
-        Insn::I22c { op, a, b, name } => RawInsn::I22c { op, a, b, index: rank(ranks, name, 65536) },
+        Insn::I22c { op, a, b, name } => RawInsn::I22c { op, a, b, index: only(ranks, indices, name, 65536) },
         Insn::I30t { op, to } => RawInsn::I30t { op, offset: distance(starts, at, to) },
         Insn::I32x { op, a, b } => RawInsn::I32x { op, a, b },
         Insn::I31i { op, a, b } => RawInsn::I31i { op, a, b },
         Insn::I31t { op, a, to } => RawInsn::I31t { op, a, offset: distance(starts, at, to) },
-        Insn::I31c { op, a, name } => RawInsn::I31c { op, a, index: rank(ranks, name, 4294967296) },
-        Insn::I35c { op, n, regs, name } => RawInsn::I35c { op, n, regs, index: rank(ranks, name, 65536) },
-        Insn::I3rc { op, n, first, name } => RawInsn::I3rc { op, n, first, index: rank(ranks, name, 65536) },
+        Insn::I31c { op, a, name } => RawInsn::I31c { op, a, index: only(ranks, indices, name, 4294967296) },
+        Insn::I35c { op, n, regs, name } => RawInsn::I35c { op, n, regs, index: only(ranks, indices, name, 65536) },
+        Insn::I3rc { op, n, first, name } => RawInsn::I3rc { op, n, first, index: only(ranks, indices, name, 65536) },
         Insn::I51l { op, a, b } => RawInsn::I51l { op, a, b },
         Insn::Packed { .. } | Insn::Sparse { .. } | Insn::Data { .. } => unreachable!(),
     }

@@ -1,13 +1,14 @@
 //! Writing payloads: the offsets of switches, and keys, as bytes.
 
-ghost use Rattle.std.specs.Prelude.{◌≡◌, ◌≤◌, ◌<◌, ◌*◌, Some, ℕ, length, FitsSigned, IfOk, IsOkUnless, slice_index};
+ghost use Rattle.std.specs.Prelude.{◌≡◌, ◌<◌, ◌*◌, Some, length, FitsSigned, IfOk, IsOkUnless};
 ghost use Rattle.std.specs.Int.{w32};
 ghost use Rattle.std.specs.List.{AllByRecursion};
 ghost use Rattle.base_bytes.specs.Fault.{memory};
-ghost use Rattle.code_insns.specs.Places.{Rises, place};
+ghost use Rattle.code_insns.specs.Places.{place};
 ghost use Rattle.code_insns.specs.Symbols.{ints, places};
 ghost use Rattle.code_put.specs.Fits.{distance_of};
 
+use crate::begins::Begins;
 use crate::items::put_u32;
 use crate::lowering::distance;
 use dex_base::Fault;
@@ -29,13 +30,10 @@ pub(crate) fn int_bytes(alloc: Global, numbers: &[i32]) -> Result<Vec<u8>, Fault
 /// How far each target is from the address, in units.
 pub(crate) fn distances(
     alloc: Global,
-    starts: &[u64],
-    at: u64,
+    starts: &Begins<'_>,
+    at: u32,
     targets: &[u32],
 ) -> Result<Vec<i32>, Fault>
-    requires rises { Rises starts.now }
-    requires at { at ≤ 4294967295 }
-    requires low { (k : ℕ) → k < length starts.now → slice_index starts.now k ≤ 4294967295 }
     requires inside { AllByRecursion (λ to. to < length starts.now) targets.now }
     requires fits { AllByRecursion (λ to. FitsSigned w32 (distance_of starts.now at to)) targets.now }
     ensures ok { IfOk result (λ zs. places (place starts.now at) zs.items ≡ Some targets.now) }

@@ -5,13 +5,18 @@ ghost use Rattle.base_bytes.specs.Fault.{memory};
 ghost use Rattle.base_bytes.specs.Grammar.{Appends};
 ghost use Rattle.program_types.specs.View as view;
 ghost use Rattle.program_types.specs.Formed.{IsFormed};
+ghost use Rattle.program_types.specs.Mentions.{names_of_insn};
+ghost use Rattle.std.specs.List.{flat_map};
 ghost use Rattle.tables_names.specs.Closure.{NameRanks};
+ghost use Rattle.tables_names.specs.Noted.{AreRanks};
 ghost use Rattle.code_put.specs.Fits.{FitsCode, CanBePut};
 ghost use Rattle.code_put.specs.Packs.{PacksCode};
 
+use crate::begins::Begins;
 use crate::handlers::lay_handlers;
 use crate::insns::put_insns;
 use crate::items::{put_head, put_items, put_padding};
+use crate::mentioned::indices_of;
 use crate::origins::origins_of;
 use crate::sizes::starts_of;
 use dex_base::Fault;
@@ -19,8 +24,15 @@ use program_types::Code;
 use std::alloc::Global;
 use tables_names::Ranks;
 
-/// The bytes of the code item of a code, as [`put_code`] appends them. It fails only when out of memory.
-pub fn make_item(alloc: Global, ranks: &Ranks<'_>, code: &Code<'_>) -> Result<Vec<u8>, Fault>
+/// The bytes of the code item of a code, as [`put_code`] appends them, where what its instructions name has these indices, one
+/// by one. It fails only when out of memory.
+pub fn make_item(
+    alloc: Global,
+    ranks: &Ranks<'_>,
+    indices: &[usize],
+    code: &Code<'_>,
+) -> Result<Vec<u8>, Fault>
+    requires indices { AreRanks ranks.now (flat_map names_of_insn (view.code code.now).insns) indices.now }
     requires formed { IsFormed (view.code code.now) }
     requires fits { FitsCode (NameRanks ranks.now) (view.code code.now) }
     requires ranked { CanBePut (NameRanks ranks.now) (view.code code.now) }
@@ -30,12 +42,13 @@ pub fn make_item(alloc: Global, ranks: &Ranks<'_>, code: &Code<'_>) -> Result<Ve
     let all = starts_of(alloc, code.insns)?;
     let size = all.end as u32;
     let origins = origins_of(alloc, code.insns)?;
-    let laid = lay_handlers(alloc, ranks, &all.starts, code.tries)?;
+    let starts = Begins { list: &all.starts };
+    let laid = lay_handlers(alloc, ranks, &starts, code.tries)?;
     let mut item = Vec::with_capacity(alloc, 16 + 2 * size as usize)?;
     put_head(&mut item, code, size)?;
-    put_insns(&mut item, ranks, &all.starts, &origins, code.insns)?;
+    put_insns(&mut item, ranks, indices, &starts, &origins, code.insns)?;
     put_padding(&mut item, size, code.tries.len())?;
-    put_items(&mut item, &all.starts, size, code.tries, &laid.offsets)?;
+    put_items(&mut item, &starts, size, code.tries, &laid.offsets)?;
     item.extend_from_slice(&laid.bytes)?;
     Ok(item)
 }
@@ -66,7 +79,8 @@ pub fn put_code(out: &mut Vec<u8>, ranks: &Ranks<'_>, code: &Code<'_>) -> Result
     ensures memory { IsOkUnless result memory }
 {
     let alloc = *out.allocator();
-    let item = make_item(alloc, ranks, code)?;
+    let indices = indices_of(alloc, ranks, code.insns)?;
+    let item = make_item(alloc, ranks, &indices, code)?;
     out.extend_from_slice(&item)?;
     Ok(())
 }

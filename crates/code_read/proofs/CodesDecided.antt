@@ -1,5 +1,5 @@
 -- At a place of a file a code stands, or a fault does.
-use Rattle.std.proofs.Common.{◌≡◌, ℕ, zero, suc, ◌+◌, ◌*◌, ◌≤◌, ◌-◌, ◌%◌, ◌<◌, ◌⊎◌, inl, inr, None, List, [], ◌∷◌, length, take, drop, get_or, refl, subst, arith}
+use Rattle.std.proofs.Common.{◌≡◌, ℕ, zero, suc, ◌+◌, ◌*◌, ◌≤◌, ◌-◌, ◌%◌, ◌<◌, ◌⊎◌, inl, inr, Option, Some, None, List, [], ◌∷◌, length, take, drop, get_or, refl, subst, arith}
 use Rattle.std.specs.Prelude.{slice_get}
 use Rattle.std.specs.List.{AllByRecursion}
 use Rattle.std.proofs.lemmas.Bool.{cases_eq, cases_lt}
@@ -12,6 +12,7 @@ use Rattle.base_bytes.proofs.FieldBounds.{u32_at-fits, drop-AreBytes}
 use Rattle.dex_container.specs.Frame.{IsFramed}
 use Rattle.dex_container.proofs.PlacesDecided.{decide_in, found_at}
 use Rattle.dex_insn.specs.Raw.{Raw}
+use Rattle.dex_insn.specs.declared.opcode.IndexKind.{IndexKind}
 use Rattle.dex_insn.specs.declared.opcode.IndexKind.TheVariants as kind
 use Rattle.program_types.specs.Content.{Name, OfText, OfDesc, OfField, OfMethod, Insn, Code}
 use Rattle.program_types.specs.Kinds.{IsOfKind}
@@ -30,7 +31,6 @@ use Rattle.code_insns.specs.Registers.{AmongAt}
 use Rattle.code_read.proofs.StandLaws.{body_code, NameIsAt-functional}
 use Rattle.code_read.proofs.FaultLaws.{units-even}
 use Rattle.code_read.proofs.ItemLaws.{takes-from_read}
-use Rattle.code_read.proofs.Deciding.{option-cases}
 use Rattle.code_read.proofs.RulesDecided.{AreNamesDecided}
 use Rattle.code_read.proofs.InsnsDecided.{insns-decided}
 use Rattle.code_read.proofs.TriesDecided.{tries-decided}
@@ -38,40 +38,31 @@ use Rattle.base_bytes.proofs.ListFacts.{take_bytes}
 
 -- ---- names
 
+-- the table of the kind has no row i
+abbrev Lacks : Names → IndexKind → ℕ → Type 0
+Lacks names kind.String i = slice_get names.strings i ≡ None
+Lacks names kind.Type i = slice_get names.types i ≡ None
+Lacks names kind.Field i = slice_get names.fields i ≡ None
+Lacks names kind.Method i = slice_get names.methods i ≡ None
+
+nowhere : (names : Names) (k : IndexKind) (which : Name) (i : ℕ) → IsOfKind k which → NameIsAt names i which → Lacks names k i → ⊥
+nowhere names kind.String (OfText s) i k n e = absurd cc
+nowhere names kind.Type (OfDesc s) i k n e = absurd cc
+nowhere names kind.Field (OfField s) i k n e = absurd cc
+nowhere names kind.Method (OfMethod s) i k n e = absurd cc
+nowhere names _ _ i k n e = absurd k
+
+in_column : {A : Type 0} (names : Names) (k : IndexKind) (i : ℕ) (o : Option A) → (o ≡ None → Lacks names k i) → ((x : A) → o ≡ Some x → (which : Name) × IsOfKind k which × NameIsAt names i which)
+    → Decided ((which : Name) × IsOfKind k which × NameIsAt names i which)
+in_column names k i None out row = inr (λ x. nowhere names k x.0 i x.1 x.2 (out refl))
+in_column names k i (Some x) out row = inl (row x refl)
+
 -- among the names of the tables each index stands for a name, or for none
 pub names-decided : (names : Names) → AreNamesDecided (NameIsAt names)
-names-decided names kind.String i = elim (option-cases (slice_get names.strings i)) [
-  | inl none ↦ inr (λ x. nowhere x.0 x.1 x.2 none)
-  | inr s ↦ inl (OfText s.0, tt, s.1)
-]
-  where
-    nowhere : (which : Name) → IsOfKind kind.String which → NameIsAt names i which → slice_get names.strings i ≡ None → ⊥
-    nowhere (OfText s) k n e = absurd cc
-    nowhere _ k n e = absurd k
-names-decided names kind.Type i = elim (option-cases (slice_get names.types i)) [
-  | inl none ↦ inr (λ x. nowhere x.0 x.1 x.2 none)
-  | inr s ↦ inl (OfDesc s.0, tt, s.1)
-]
-  where
-    nowhere : (which : Name) → IsOfKind kind.Type which → NameIsAt names i which → slice_get names.types i ≡ None → ⊥
-    nowhere (OfDesc s) k n e = absurd cc
-    nowhere _ k n e = absurd k
-names-decided names kind.Field i = elim (option-cases (slice_get names.fields i)) [
-  | inl none ↦ inr (λ x. nowhere x.0 x.1 x.2 none)
-  | inr s ↦ inl (OfField s.0, tt, s.1)
-]
-  where
-    nowhere : (which : Name) → IsOfKind kind.Field which → NameIsAt names i which → slice_get names.fields i ≡ None → ⊥
-    nowhere (OfField s) k n e = absurd cc
-    nowhere _ k n e = absurd k
-names-decided names kind.Method i = elim (option-cases (slice_get names.methods i)) [
-  | inl none ↦ inr (λ x. nowhere x.0 x.1 x.2 none)
-  | inr s ↦ inl (OfMethod s.0, tt, s.1)
-]
-  where
-    nowhere : (which : Name) → IsOfKind kind.Method which → NameIsAt names i which → slice_get names.methods i ≡ None → ⊥
-    nowhere (OfMethod s) k n e = absurd cc
-    nowhere _ k n e = absurd k
+names-decided names kind.String i = in_column names kind.String i (slice_get names.strings i) (λ e. e) (λ x e. (OfText x, tt, e))
+names-decided names kind.Type i = in_column names kind.Type i (slice_get names.types i) (λ e. e) (λ x e. (OfDesc x, tt, e))
+names-decided names kind.Field i = in_column names kind.Field i (slice_get names.fields i) (λ e. e) (λ x e. (OfField x, tt, e))
+names-decided names kind.Method i = in_column names kind.Method i (slice_get names.methods i) (λ e. e) (λ x e. (OfMethod x, tt, e))
 
 -- ---- the item
 

@@ -30,9 +30,7 @@ pub fn read_number(bytes: &[u8]) -> Option<(u32, &[u8])>
     ensures some { IfSome result (λ x. Takes Spells bytes.now x.0 x.1.now) }
     ensures none { IfNone result (NoneBegins Spells bytes.now) }
 {
-    let Some((n, length)) = read_uleb(bytes) else {
-        return None;
-    };
+    let (n, length) = read_uleb(bytes)?;
     let (_, rest) = bytes.split_at(length);
     Some((n, rest))
 }
@@ -42,9 +40,7 @@ pub fn read_signed(bytes: &[u8]) -> Option<(i32, &[u8])>
     ensures some { IfSome result (λ x. Takes SpellsSigned bytes.now x.0 x.1.now) }
     ensures none { IfNone result (NoneBegins SpellsSigned bytes.now) }
 {
-    let Some((n, length)) = read_sleb(bytes) else {
-        return None;
-    };
+    let (n, length) = read_sleb(bytes)?;
     let (_, rest) = bytes.split_at(length);
     Some((n, rest))
 }
@@ -58,12 +54,8 @@ fn read_place<'b>(tables: &Tables<'_>, starts: &[u32], bytes: &'b [u8]) -> Optio
 {
     // Only for the proof: what holds of each value of its type.
     let _tables = tables;
-    let Some((address, rest)) = read_number(bytes) else {
-        return None;
-    };
-    let Some(n) = number_at(starts, u64::from(address)) else {
-        return None;
-    };
+    let (address, rest) = read_number(bytes)?;
+    let n = number_at(starts, u64::from(address))?;
     Some((n, rest))
 }
 
@@ -78,12 +70,8 @@ fn read_type<'a, 'b>(
 {
     // Only for the proof: what holds of each value of its type.
     let _starts = starts;
-    let Some((index, rest)) = read_number(bytes) else {
-        return None;
-    };
-    let Some(ty) = tables.type_(index) else {
-        return None;
-    };
+    let (index, rest) = read_number(bytes)?;
+    let ty = tables.type_(index)?;
     Some((ty, rest))
 }
 
@@ -98,12 +86,8 @@ fn read_catch<'a, 'b>(
     ensures some { IfSome result (λ x. Takes (SpellsCatch (NameIsAt tables.now) starts.now) bytes.now (catch x.0) x.1.now) }
     ensures none { IfNone result (NoneBegins (SpellsCatch (NameIsAt tables.now) starts.now) bytes.now) }
 {
-    let Some((ty, mid)) = read_type(tables, starts, bytes) else {
-        return None;
-    };
-    let Some((at, rest)) = read_place(tables, starts, mid) else {
-        return None;
-    };
+    let (ty, mid) = read_type(tables, starts, bytes)?;
+    let (at, rest) = read_place(tables, starts, mid)?;
     Some((Catch { ty, at }, rest))
 }
 

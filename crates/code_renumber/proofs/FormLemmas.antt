@@ -16,7 +16,7 @@ use Rattle.dex_insn.proofs.Laws.{not-payload, is-payload}
 use Rattle.dex_insn.proofs.Unique.{slice-length}
 use Rattle.tables_numbers.specs.Marked.{Columns}
 use Rattle.code_renumber.specs.declared.shapes.Shape.TheVariants.{Plain, Short, Long, Five, Payload}
-use Rattle.code_renumber.specs.Renumbered.{number_in, HasNumber, HasShortNumber, IsNumbered, CanBeRenumbered}
+use Rattle.code_renumber.specs.Renumbered.{number_in, renumbered, HasNumber, HasShortNumber, IsNumbered, CanBeRenumbered}
 use Rattle.code_renumber.specs.Shapes.{shape_in, shape_of}
 use Rattle.code_renumber.specs.InPlace.{with_named, is_padded, with_pad, IsRenumbered}
 use Rattle.code_renumber.proofs.BytesLemmas.{nibble_bits, byte_bits, wide_byte_bits, half_bits, wide_half_bits, word_bits, long_bits, kept_1, kept_2, kept_3, kept_long, kept_wide, short_2, short_3, long_3, five_3, head_4, head_8, joined_again, replaced, by_width}
@@ -24,47 +24,49 @@ use Rattle.base_bytes.proofs.ListFacts.{by_kind}
 
 -- ---- no index
 
-pub plain_done : (numbers : Columns) (us : List ℕ) (n : ℕ) (r : Raw) → AreBytes us → SpellsInsn us r → IsRaw r → shape_of r ≡ Plain n → IsRenumbered numbers us us n r
+-- what is written of an instruction without an index is its units
+plain_kept : (us : List ℕ) (n : ℕ) (r : Raw) → AreBytes us → SpellsInsn us r → shape_of r ≡ Plain n → written r ++ drop (2 * units r) us ≡ us
 unfolding written units
-plain_done numbers us n (raw.I10x op) are s fits e =
-    let low = number-1 us 0 are in let w = s.0.whole in let o = s.0.opcode in record { size = cc; is_new = sym (kept_1 us op are (omega (arith, w)) (let z = s.1 in omega (arith, low, o, z))); fits = fits }
-plain_done numbers us n (raw.I12x op a b) are s fits e =
-    let low = number-1 us 0 are in let w = s.0.whole in let o = s.0.opcode in record { size = cc; is_new = sym (kept_1 us (op + 256 * a + 4096 * b) are (omega (arith, w)) (let x = s.1 in let y = s.2 in omega (arith, low, o, x, y))); fits = fits }
-plain_done numbers us n (raw.I11n op a b) are s fits e =
-    let low = number-1 us 0 are in let w = s.0.whole in let o = s.0.opcode in record { size = cc; is_new = sym (let k : cast_unsigned w8 b % 16 ≡ field us 0 12 4 = ap (λ z. cast_unsigned w8 z % 16) s.2 ∙ nibble_bits (field us 0 12 4) (omega arith) in kept_1 us (op + 256 * a + 4096 * (cast_unsigned w8 b % 16)) are (omega (arith, w)) (let x = s.1 in omega (arith, low, o, x, k))); fits = fits }
-plain_done numbers us n (raw.I11x op a) are s fits e =
-    let low = number-1 us 0 are in let w = s.0.whole in let o = s.0.opcode in record { size = cc; is_new = sym (kept_1 us (op + 256 * a) are (omega (arith, w)) (let x = s.1 in omega (arith, low, o, x))); fits = fits }
-plain_done numbers us n (raw.I10t op offset) are s fits e =
-    let low = number-1 us 0 are in let w = s.0.whole in let o = s.0.opcode in record { size = cc; is_new = sym (let k : cast_unsigned w32 offset % 256 ≡ field us 0 8 8 = ap (λ z. cast_unsigned w32 z % 256) s.1 ∙ wide_byte_bits (field us 0 8 8) (omega arith) in kept_1 us (op + 256 * (cast_unsigned w32 offset % 256)) are (omega (arith, w)) (omega (arith, low, o, k))); fits = fits }
-plain_done numbers us n (raw.I20t op offset) are s fits e =
-    let low = number-1 us 0 are in let w = s.0.whole in let o = s.0.opcode in record { size = cc; is_new = sym (kept_2 us op (cast_unsigned w32 offset % 65536) are (omega (arith, w)) (let z = s.1 in omega (arith, low, o, z)) (ap (λ z. cast_unsigned w32 z % 65536) s.2 ∙ wide_half_bits (number us 1 1) (number-1 us 1 are))); fits = fits }
-plain_done numbers us n (raw.I22x op a b) are s fits e =
-    let low = number-1 us 0 are in let w = s.0.whole in let o = s.0.opcode in record { size = cc; is_new = sym (kept_2 us (op + 256 * a) b are (omega (arith, w)) (let x = s.1 in omega (arith, low, o, x)) s.2); fits = fits }
-plain_done numbers us n (raw.I21t op a offset) are s fits e =
-    let low = number-1 us 0 are in let w = s.0.whole in let o = s.0.opcode in record { size = cc; is_new = sym (kept_2 us (op + 256 * a) (cast_unsigned w32 offset % 65536) are (omega (arith, w)) (let x = s.1 in omega (arith, low, o, x)) (ap (λ z. cast_unsigned w32 z % 65536) s.2 ∙ wide_half_bits (number us 1 1) (number-1 us 1 are))); fits = fits }
-plain_done numbers us n (raw.I21s op a b) are s fits e =
-    let low = number-1 us 0 are in let w = s.0.whole in let o = s.0.opcode in record { size = cc; is_new = sym (kept_2 us (op + 256 * a) (cast_unsigned w16 b) are (omega (arith, w)) (let x = s.1 in omega (arith, low, o, x)) (ap (cast_unsigned w16) s.2 ∙ half_bits (number us 1 1) (number-1 us 1 are))); fits = fits }
-plain_done numbers us n (raw.I21h op a b) are s fits e =
-    let low = number-1 us 0 are in let w = s.0.whole in let o = s.0.opcode in record { size = cc; is_new = sym (kept_2 us (op + 256 * a) (cast_unsigned w16 b) are (omega (arith, w)) (let x = s.1 in omega (arith, low, o, x)) (ap (cast_unsigned w16) s.2 ∙ half_bits (number us 1 1) (number-1 us 1 are))); fits = fits }
-plain_done numbers us n (raw.I23x op a b c) are s fits e =
-    let low = number-1 us 0 are in let w = s.0.whole in let o = s.0.opcode in record { size = cc; is_new = sym (kept_2 us (op + 256 * a) (b + 256 * c) are (omega (arith, w)) (let x = s.1 in omega (arith, low, o, x)) (let y = s.2 in let z = s.3 in let m = number-1 us 1 are in omega (arith, y, z, m))); fits = fits }
-plain_done numbers us n (raw.I22b op a b c) are s fits e =
-    let low = number-1 us 0 are in let w = s.0.whole in let o = s.0.opcode in record { size = cc; is_new = sym (let k : cast_unsigned w8 c ≡ field us 1 8 8 = ap (cast_unsigned w8) s.3 ∙ byte_bits (field us 1 8 8) (omega arith) in kept_2 us (op + 256 * a) (b + 256 * cast_unsigned w8 c) are (omega (arith, w)) (let x = s.1 in omega (arith, low, o, x)) (let y = s.2 in let m = number-1 us 1 are in omega (arith, y, k, m))); fits = fits }
-plain_done numbers us n (raw.I22t op a b offset) are s fits e =
-    let low = number-1 us 0 are in let w = s.0.whole in let o = s.0.opcode in record { size = cc; is_new = sym (kept_2 us (op + 256 * a + 4096 * b) (cast_unsigned w32 offset % 65536) are (omega (arith, w)) (let x = s.1 in let y = s.2 in omega (arith, low, o, x, y)) (ap (λ z. cast_unsigned w32 z % 65536) s.3 ∙ wide_half_bits (number us 1 1) (number-1 us 1 are))); fits = fits }
-plain_done numbers us n (raw.I22s op a b c) are s fits e =
-    let low = number-1 us 0 are in let w = s.0.whole in let o = s.0.opcode in record { size = cc; is_new = sym (kept_2 us (op + 256 * a + 4096 * b) (cast_unsigned w16 c) are (omega (arith, w)) (let x = s.1 in let y = s.2 in omega (arith, low, o, x, y)) (ap (cast_unsigned w16) s.3 ∙ half_bits (number us 1 1) (number-1 us 1 are))); fits = fits }
-plain_done numbers us n (raw.I30t op offset) are s fits e =
-    let low = number-1 us 0 are in let w = s.0.whole in let o = s.0.opcode in record { size = cc; is_new = sym (kept_long us op (cast_unsigned w32 offset) are (omega (arith, w)) (let z = s.1 in omega (arith, low, o, z)) (ap (cast_unsigned w32) s.2 ∙ word_bits (number us 1 2) (number-2 us 1 are))); fits = fits }
-plain_done numbers us n (raw.I32x op a b) are s fits e =
-    let low = number-1 us 0 are in let w = s.0.whole in let o = s.0.opcode in record { size = cc; is_new = sym (kept_3 us op a b are (omega (arith, w)) (let z = s.1 in omega (arith, low, o, z)) s.2 s.3); fits = fits }
-plain_done numbers us n (raw.I31i op a b) are s fits e =
-    let low = number-1 us 0 are in let w = s.0.whole in let o = s.0.opcode in record { size = cc; is_new = sym (kept_long us (op + 256 * a) (cast_unsigned w32 b) are (omega (arith, w)) (let x = s.1 in omega (arith, low, o, x)) (ap (cast_unsigned w32) s.2 ∙ word_bits (number us 1 2) (number-2 us 1 are))); fits = fits }
-plain_done numbers us n (raw.I31t op a offset) are s fits e =
-    let low = number-1 us 0 are in let w = s.0.whole in let o = s.0.opcode in record { size = cc; is_new = sym (kept_long us (op + 256 * a) (cast_unsigned w32 offset) are (omega (arith, w)) (let x = s.1 in omega (arith, low, o, x)) (ap (cast_unsigned w32) s.2 ∙ word_bits (number us 1 2) (number-2 us 1 are))); fits = fits }
-plain_done numbers us n (raw.I51l op a b) are s fits e =
-    let low = number-1 us 0 are in let w = s.0.whole in let o = s.0.opcode in record { size = cc; is_new = sym (kept_wide us (op + 256 * a) (cast_unsigned w64 b) are (omega (arith, w)) (let x = s.1 in omega (arith, low, o, x)) (ap (cast_unsigned w64) s.2 ∙ long_bits (number us 1 4) (number-4 us 1 are))); fits = fits }
-plain_done numbers us n _ are s fits e = absurd cc
+plain_kept us n (raw.I10x op) are s e = kept_1 us op are (omega (arith, s.0.whole)) (omega (arith, number-1 us 0 are, s.0.opcode, s.1))
+plain_kept us n (raw.I12x op a b) are s e = kept_1 us (op + 256 * a + 4096 * b) are (omega (arith, s.0.whole)) (omega (arith, number-1 us 0 are, s.0.opcode, s.1, s.2))
+plain_kept us n (raw.I11n op a b) are s e =
+    let k : cast_unsigned w8 b % 16 ≡ field us 0 12 4 = ap (λ z. cast_unsigned w8 z % 16) s.2 ∙ nibble_bits (field us 0 12 4) (omega arith) in
+    kept_1 us (op + 256 * a + 4096 * (cast_unsigned w8 b % 16)) are (omega (arith, s.0.whole)) (omega (arith, number-1 us 0 are, s.0.opcode, s.1, k))
+plain_kept us n (raw.I11x op a) are s e = kept_1 us (op + 256 * a) are (omega (arith, s.0.whole)) (omega (arith, number-1 us 0 are, s.0.opcode, s.1))
+plain_kept us n (raw.I10t op offset) are s e =
+    let k : cast_unsigned w32 offset % 256 ≡ field us 0 8 8 = ap (λ z. cast_unsigned w32 z % 256) s.1 ∙ wide_byte_bits (field us 0 8 8) (omega arith) in
+    kept_1 us (op + 256 * (cast_unsigned w32 offset % 256)) are (omega (arith, s.0.whole)) (omega (arith, number-1 us 0 are, s.0.opcode, k))
+plain_kept us n (raw.I20t op offset) are s e = kept_2 us op (cast_unsigned w32 offset % 65536) are (omega (arith, s.0.whole)) (omega (arith, number-1 us 0 are, s.0.opcode, s.1)) (ap (λ z. cast_unsigned w32 z % 65536) s.2 ∙ wide_half_bits (number us 1 1) (number-1 us 1 are))
+plain_kept us n (raw.I22x op a b) are s e = kept_2 us (op + 256 * a) b are (omega (arith, s.0.whole)) (omega (arith, number-1 us 0 are, s.0.opcode, s.1)) s.2
+plain_kept us n (raw.I21t op a offset) are s e = kept_2 us (op + 256 * a) (cast_unsigned w32 offset % 65536) are (omega (arith, s.0.whole)) (omega (arith, number-1 us 0 are, s.0.opcode, s.1)) (ap (λ z. cast_unsigned w32 z % 65536) s.2 ∙ wide_half_bits (number us 1 1) (number-1 us 1 are))
+plain_kept us n (raw.I21s op a b) are s e = kept_2 us (op + 256 * a) (cast_unsigned w16 b) are (omega (arith, s.0.whole)) (omega (arith, number-1 us 0 are, s.0.opcode, s.1)) (ap (cast_unsigned w16) s.2 ∙ half_bits (number us 1 1) (number-1 us 1 are))
+plain_kept us n (raw.I21h op a b) are s e = kept_2 us (op + 256 * a) (cast_unsigned w16 b) are (omega (arith, s.0.whole)) (omega (arith, number-1 us 0 are, s.0.opcode, s.1)) (ap (cast_unsigned w16) s.2 ∙ half_bits (number us 1 1) (number-1 us 1 are))
+plain_kept us n (raw.I23x op a b c) are s e = kept_2 us (op + 256 * a) (b + 256 * c) are (omega (arith, s.0.whole)) (omega (arith, number-1 us 0 are, s.0.opcode, s.1)) (omega (arith, s.2, s.3, number-1 us 1 are))
+plain_kept us n (raw.I22b op a b c) are s e =
+    let k : cast_unsigned w8 c ≡ field us 1 8 8 = ap (cast_unsigned w8) s.3 ∙ byte_bits (field us 1 8 8) (omega arith) in
+    kept_2 us (op + 256 * a) (b + 256 * cast_unsigned w8 c) are (omega (arith, s.0.whole)) (omega (arith, number-1 us 0 are, s.0.opcode, s.1)) (omega (arith, s.2, k, number-1 us 1 are))
+plain_kept us n (raw.I22t op a b offset) are s e = kept_2 us (op + 256 * a + 4096 * b) (cast_unsigned w32 offset % 65536) are (omega (arith, s.0.whole)) (omega (arith, number-1 us 0 are, s.0.opcode, s.1, s.2)) (ap (λ z. cast_unsigned w32 z % 65536) s.3 ∙ wide_half_bits (number us 1 1) (number-1 us 1 are))
+plain_kept us n (raw.I22s op a b c) are s e = kept_2 us (op + 256 * a + 4096 * b) (cast_unsigned w16 c) are (omega (arith, s.0.whole)) (omega (arith, number-1 us 0 are, s.0.opcode, s.1, s.2)) (ap (cast_unsigned w16) s.3 ∙ half_bits (number us 1 1) (number-1 us 1 are))
+plain_kept us n (raw.I30t op offset) are s e = kept_long us op (cast_unsigned w32 offset) are (omega (arith, s.0.whole)) (omega (arith, number-1 us 0 are, s.0.opcode, s.1)) (ap (cast_unsigned w32) s.2 ∙ word_bits (number us 1 2) (number-2 us 1 are))
+plain_kept us n (raw.I32x op a b) are s e = kept_3 us op a b are (omega (arith, s.0.whole)) (omega (arith, number-1 us 0 are, s.0.opcode, s.1)) s.2 s.3
+plain_kept us n (raw.I31i op a b) are s e = kept_long us (op + 256 * a) (cast_unsigned w32 b) are (omega (arith, s.0.whole)) (omega (arith, number-1 us 0 are, s.0.opcode, s.1)) (ap (cast_unsigned w32) s.2 ∙ word_bits (number us 1 2) (number-2 us 1 are))
+plain_kept us n (raw.I31t op a offset) are s e = kept_long us (op + 256 * a) (cast_unsigned w32 offset) are (omega (arith, s.0.whole)) (omega (arith, number-1 us 0 are, s.0.opcode, s.1)) (ap (cast_unsigned w32) s.2 ∙ word_bits (number us 1 2) (number-2 us 1 are))
+plain_kept us n (raw.I51l op a b) are s e = kept_wide us (op + 256 * a) (cast_unsigned w64 b) are (omega (arith, s.0.whole)) (omega (arith, number-1 us 0 are, s.0.opcode, s.1)) (ap (cast_unsigned w64) s.2 ∙ long_bits (number us 1 4) (number-4 us 1 are))
+plain_kept us n _ are s e = absurd cc
+
+pub plain_size : (r : Raw) (n : ℕ) → shape_of r ≡ Plain n → n ≡ units r
+unfolding units
+plain_size (raw.I21c op a index) n e = absurd cc
+plain_size _ n e = cc
+
+plain_same : (numbers : Columns) (r : Raw) (n : ℕ) → shape_of r ≡ Plain n → renumbered numbers r ≡ r
+plain_same numbers (raw.I21c op a index) n e = absurd cc
+plain_same numbers _ n e = cc
+
+pub plain_done : (numbers : Columns) (us : List ℕ) (n : ℕ) (r : Raw) → AreBytes us → SpellsInsn us r → IsRaw r → shape_of r ≡ Plain n → IsRenumbered numbers us us n r
+plain_done numbers us n r are s fits e =
+    let same = plain_same numbers r n e in
+    record { size = plain_size r n e; is_new = sym (ap (λ (x : Raw). written x ++ drop (2 * units r) us) same ∙ plain_kept us n r are s e); fits = subst IsRaw (sym same) fits }
 
 -- ---- an index in the second unit
 
@@ -93,24 +95,21 @@ module _ (numbers : Columns) (us : List ℕ) (o i : ℕ) (low_is : o ≡ field u
   pub short_done : (n : ℕ) (r : Raw) → i ≡ number us 1 1 → AreBytes us → SpellsInsn us r → CanBeRenumbered numbers r → shape_of r ≡ Short n → IsRenumbered numbers us (with_short us (number_in numbers (index_kind_of o) i)) n r
   unfolding written units
   short_done n (raw.I21c op a index) at are s can e =
-      let low = number-1 us 0 are in let w = s.0.whole in let p = s.0.opcode in let x = s.1 in
       record {
         size = cc;
-        is_new = ap (with_short us) (same_number numbers o i op index (p ∙ sym low_is) (s.2 ∙ sym at)) ∙ sym (short_2 us (op + 256 * a) (number_in numbers (index_kind_of op) index) are (omega (arith, w)) (omega (arith, low, p, x)) can.numbered.short);
+        is_new = ap (with_short us) (same_number numbers o i op index (s.0.opcode ∙ sym low_is) (s.2 ∙ sym at)) ∙ sym (short_2 us (op + 256 * a) (number_in numbers (index_kind_of op) index) are (omega (arith, s.0.whole)) (omega (arith, number-1 us 0 are, s.0.opcode, s.1)) can.numbered.short);
         fits = (can.fits.0, can.numbered.short, can.fits.2);
       }
   short_done n (raw.I22c op a b index) at are s can e =
-      let low = number-1 us 0 are in let w = s.0.whole in let p = s.0.opcode in let x = s.1 in let y = s.2 in
       record {
         size = cc;
-        is_new = ap (with_short us) (same_number numbers o i op index (p ∙ sym low_is) (s.3 ∙ sym at)) ∙ sym (short_2 us (op + 256 * a + 4096 * b) (number_in numbers (index_kind_of op) index) are (omega (arith, w)) (omega (arith, low, p, x, y)) can.numbered.short);
+        is_new = ap (with_short us) (same_number numbers o i op index (s.0.opcode ∙ sym low_is) (s.3 ∙ sym at)) ∙ sym (short_2 us (op + 256 * a + 4096 * b) (number_in numbers (index_kind_of op) index) are (omega (arith, s.0.whole)) (omega (arith, number-1 us 0 are, s.0.opcode, s.1, s.2)) can.numbered.short);
         fits = (can.fits.0, can.fits.1, can.fits.2, can.numbered.short);
       }
   short_done n (raw.I3rc op k first index) at are s can e =
-      let low = number-1 us 0 are in let w = s.0.whole in let p = s.0.opcode in let x = s.1 in
       record {
         size = cc;
-        is_new = ap (with_short us) (same_number numbers o i op index (p ∙ sym low_is) (s.2 ∙ sym at)) ∙ sym (short_3 us (op + 256 * k) (number_in numbers (index_kind_of op) index) first are (omega (arith, w)) (omega (arith, low, p, x)) can.numbered.short s.3);
+        is_new = ap (with_short us) (same_number numbers o i op index (s.0.opcode ∙ sym low_is) (s.2 ∙ sym at)) ∙ sym (short_3 us (op + 256 * k) (number_in numbers (index_kind_of op) index) first are (omega (arith, s.0.whole)) (omega (arith, number-1 us 0 are, s.0.opcode, s.1)) can.numbered.short s.3);
         fits = (can.fits.0, can.numbered.short, can.fits.2, can.fits.3);
       }
   short_done n _ at are s can e = absurd cc
@@ -119,19 +118,17 @@ module _ (numbers : Columns) (us : List ℕ) (o i : ℕ) (low_is : o ≡ field u
 
   pub long_has : (r : Raw) → i ≡ number us 1 2 → SpellsInsn us r → IsNumbered numbers r → shape_of r ≡ Long → (6 ≤ length us) × HasNumber numbers o i
   long_has (raw.I31c op a index) at s can e =
-      let w = s.0.whole in
-      (omega (arith, w), subst (λ (x : ℕ). HasNumber numbers o x) (s.2 ∙ sym at) (subst (λ (x : ℕ). HasNumber numbers x index) (s.0.opcode ∙ sym low_is) can))
+      (omega (arith, s.0.whole), subst (λ (x : ℕ). HasNumber numbers o x) (s.2 ∙ sym at) (subst (λ (x : ℕ). HasNumber numbers x index) (s.0.opcode ∙ sym low_is) can))
   long_has _ at s can e = absurd cc
 
   pub long_done : (r : Raw) → i ≡ number us 1 2 → AreBytes us → SpellsInsn us r → CanBeRenumbered numbers r → shape_of r ≡ Long → (x : ℕ) → x ≡ number_in numbers (index_kind_of o) i → x < 4294967296
       → IsRenumbered numbers us (take 2 us ++ (u32_bytes x ++ drop 6 us)) 3 r
   unfolding written units
   long_done (raw.I31c op a index) at are s can e x is fits =
-      let low = number-1 us 0 are in let w = s.0.whole in let p = s.0.opcode in let y = s.1 in
-      let same : x ≡ number_in numbers (index_kind_of op) index = is ∙ same_number numbers o i op index (p ∙ sym low_is) (s.2 ∙ sym at) in
+      let same : x ≡ number_in numbers (index_kind_of op) index = is ∙ same_number numbers o i op index (s.0.opcode ∙ sym low_is) (s.2 ∙ sym at) in
       record {
         size = refl;
-        is_new = sym (long_3 us (op + 256 * a) x are (omega (arith, w)) (omega (arith, low, p, y)) fits) ∙ ap (λ (z : ℕ). bytes_of ((op + 256 * a) ∷ z % 65536 ∷ z / 65536 ∷ []) ++ drop 6 us) same;
+        is_new = sym (long_3 us (op + 256 * a) x are (omega (arith, s.0.whole)) (omega (arith, number-1 us 0 are, s.0.opcode, s.1)) fits) ∙ ap (λ (z : ℕ). bytes_of ((op + 256 * a) ∷ z % 65536 ∷ z / 65536 ∷ []) ++ drop 6 us) same;
         fits = (can.fits.0, can.fits.1, subst (λ (z : ℕ). z < 4294967296) same fits);
       }
   long_done _ at are s can e x is fits = absurd cc
@@ -146,9 +143,8 @@ module _ (numbers : Columns) (us : List ℕ) (o i : ℕ) (low_is : o ≡ field u
       → IsRenumbered numbers us (with_short (with_named us (field us 0 12 4)) (number_in numbers (index_kind_of o) i)) 3 r
   unfolding written units
   five_done (raw.I35c op n regs index) at are s can e =
-      let w = s.0.whole in
       let y = number_in numbers (index_kind_of op) index in
-      let base = five_3 us op n y are (omega (arith, w)) s.0.opcode s.2 can.numbered.short in
+      let base = five_3 us op n y are (omega (arith, s.0.whole)) s.0.opcode s.2 can.numbered.short in
       let named : with_named us (field us 0 12 4) ≡ with_named us n = ap (with_named us) (sym s.1) in
       let number_is = same_number numbers o i op index (s.0.opcode ∙ sym low_is) (s.3 ∙ sym at) in
       record {
@@ -224,9 +220,7 @@ payload_done numbers us n _ are s fits e size = absurd cc
 payload_shape : (r : Raw) → is_payload r ≡ true → shape_of r ≡ Payload
 unfolding is_payload
 payload_shape (raw.Packed first offsets) e = refl
-payload_shape (raw.Sparse keys offsets) e = refl
-payload_shape (raw.Data width bytes) e = refl
-payload_shape _ e = absurd cc
+payload_shape _ e = cc
 
 by_format : (us : List ℕ) (op : ℕ) (f : Format) → BeginsInsn us f op → shape_in (format_of (field us 0 0 8)) ≡ shape_in (Some f)
 by_format us op f b = ap shape_in (ap format_of (sym b.opcode) ∙ b.kind)

@@ -1,5 +1,5 @@
 -- Where an instruction's index stands, by its shape.
-use Rattle.std.proofs.Common.{◌≡◌, ℕ, ◌≤◌, List, length, false, refl, sym, ◌∙◌, arith}
+use Rattle.std.proofs.Common.{◌≡◌, ℕ, ◌≤◌, List, length, false, sym, ◌∙◌, arith}
 use Rattle.dex_insn.specs.Fields.{number, field}
 use Rattle.dex_insn.specs.Raw as raw
 use Rattle.dex_insn.specs.Raw.{Raw}
@@ -12,20 +12,12 @@ use Rattle.code_renumber.specs.Shapes.{shape_of}
 pub plain_unindexed : (r : Raw) (n : ℕ) → shape_of r ≡ Plain n → has_index r ≡ false
 unfolding has_index
 plain_unindexed (raw.I21c op a index) n e = absurd cc
-plain_unindexed (raw.I22c op a b index) n e = absurd cc
-plain_unindexed (raw.I31c op a index) n e = absurd cc
-plain_unindexed (raw.I35c op k regs index) n e = absurd cc
-plain_unindexed (raw.I3rc op k first index) n e = absurd cc
-plain_unindexed _ n e = refl
+plain_unindexed _ n e = cc
 
 pub payload_unindexed : (r : Raw) → shape_of r ≡ Payload → has_index r ≡ false
 unfolding has_index
 payload_unindexed (raw.I21c op a index) e = absurd cc
-payload_unindexed (raw.I22c op a b index) e = absurd cc
-payload_unindexed (raw.I31c op a index) e = absurd cc
-payload_unindexed (raw.I35c op k regs index) e = absurd cc
-payload_unindexed (raw.I3rc op k first index) e = absurd cc
-payload_unindexed _ e = refl
+payload_unindexed _ e = cc
 
 module _ (us : List ℕ) where
   pub short_index : (r : Raw) (n i : ℕ) → i ≡ number us 1 1 → SpellsInsn us r → shape_of r ≡ Short n → IsIndex r (field us 0 0 8) i

@@ -62,11 +62,6 @@ named_of N T _ i op index h s = absurd h
 
 names_none : (T : ℤ → Option ℕ) (w : Name) (r : Raw) → has_index r ≡ false → IfSome (resolved T w r) (λ i. names_of_insn i ≡ [])
 unfolding resolved has_index
-names_none T w (raw.I21c op a index) h = absurd cc
-names_none T w (raw.I22c op a b index) h = absurd cc
-names_none T w (raw.I31c op a index) h = absurd cc
-names_none T w (raw.I35c op n regs index) h = absurd cc
-names_none T w (raw.I3rc op n first index) h = absurd cc
 names_none T w (raw.I10t op z) h = mapped (λ i. names_of_insn i ≡ []) (λ to. made.I10t op to) (T z) (λ to e. refl)
 names_none T w (raw.I20t op z) h = mapped (λ i. names_of_insn i ≡ []) (λ to. made.I20t op to) (T z) (λ to e. refl)
 names_none T w (raw.I21t op a z) h = mapped (λ i. names_of_insn i ≡ []) (λ to. made.I21t op a to) (T z) (λ to e. refl)
@@ -75,7 +70,7 @@ names_none T w (raw.I30t op z) h = mapped (λ i. names_of_insn i ≡ []) (λ to.
 names_none T w (raw.I31t op a z) h = mapped (λ i. names_of_insn i ≡ []) (λ to. made.I31t op a to) (T z) (λ to e. refl)
 names_none T w (raw.Packed first offsets) h = mapped (λ i. names_of_insn i ≡ []) (λ to. made.Packed first to) (places T (ints offsets)) (λ to e. refl)
 names_none T w (raw.Sparse keys offsets) h = mapped (λ i. names_of_insn i ≡ []) (λ to. made.Sparse (ints keys) to) (places T (ints offsets)) (λ to e. refl)
-names_none T w _ h = refl
+names_none T w _ h = cc
 
 pub unnamed : (N : ℕ → Name → Type 0) (T : ℤ → Option ℕ) (r : Raw) (i : Insn) → has_index r ≡ false → Says N T r i → names_of_insn i ≡ []
 unnamed N T r i h s = said (λ i. names_of_insn i ≡ []) _ i (names_none T (name_in i) r h) s.symbol

@@ -10,7 +10,7 @@ use Rattle.dex_insn.specs.Raw.{Raw, units}
 use Rattle.dex_insn.specs.RawInsns.{SpellsInsn, InsnStands, IsPayload, register}
 use Rattle.dex_insn.proofs.Laws.{spelled-whole}
 use Rattle.tables_numbers.specs.Marked.{Columns}
-use Rattle.code_renumber.specs.declared.shapes.Shape.TheVariants.{Plain, Short, Long, Five}
+use Rattle.code_renumber.specs.declared.shapes.Shape.TheVariants.{Short, Long, Five}
 use Rattle.code_renumber.specs.Renumbered.{number_in, HasShortNumber}
 use Rattle.code_renumber.specs.Shapes.{shape_of}
 use Rattle.code_renumber.specs.InPlace.{named_unit, with_named, IsRenumbered}
@@ -58,24 +58,10 @@ no_payload_op us first e some p = let u = first_unit us in some (omega (arith, e
 
 -- ---- sizes
 
-pub plain_size : (r : Raw) (n : ℕ) → shape_of r ≡ Plain n → n ≡ units r
-unfolding units
-plain_size (raw.I21c op a index) n e = absurd cc
-plain_size (raw.I22c op a b index) n e = absurd cc
-plain_size (raw.I3rc op k first index) n e = absurd cc
-plain_size (raw.I31c op a index) n e = absurd cc
-plain_size (raw.I35c op k regs index) n e = absurd cc
-plain_size (raw.Packed first offsets) n e = absurd cc
-plain_size (raw.Sparse keys offsets) n e = absurd cc
-plain_size (raw.Data width bytes) n e = absurd cc
-plain_size _ n e = cc
-
 pub short_size : (r : Raw) (n : ℕ) → shape_of r ≡ Short n → n ≡ units r
 unfolding units
 short_size (raw.I21c op a index) n e = cc
-short_size (raw.I22c op a b index) n e = cc
-short_size (raw.I3rc op k first index) n e = cc
-short_size _ n e = absurd cc
+short_size _ n e = cc
 
 pub long_size : (r : Raw) → shape_of r ≡ Long → 3 ≡ units r
 unfolding units

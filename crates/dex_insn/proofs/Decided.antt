@@ -1,5 +1,5 @@
 -- At each unit of bytes that are two to a unit an instruction stands, or it breaks a rule.
-use Rattle.std.proofs.Common.{◌≡◌, ℕ, zero, suc, ◌+◌, ◌*◌, ◌%◌, ◌<◌, ◌≤◌, ◌⊎◌, inl, inr, Bool, true, false, Option, Some, None, List, length, drop, refl, ap, ◌∙◌, subst, arith, length-drop, if◌then◌else◌, ◌==◌, ◌<ℤ◌}
+use Rattle.std.proofs.Common.{◌≡◌, ℕ, zero, suc, ◌+◌, ◌*◌, ◌%◌, ◌<◌, ◌≤◌, ◌⊎◌, inl, inr, Bool, true, false, Option, Some, None, List, length, drop, refl, ap, ◌∙◌, subst, arith, length-drop, ◌<ℤ◌}
 use Rattle.std.specs.Prelude.{IsTrue, slice_range}
 use Rattle.std.proofs.lemmas.Bool.{cases_lt, cases_eq}
 use Rattle.std.proofs.lemmas.Int.{ints, by_lt_z}
@@ -8,44 +8,35 @@ use Rattle.base_bytes.specs.Fields.{AreBytes}
 use Rattle.base_bytes.specs.declared.fault.Fault.{Fault}
 use Rattle.dex_insn.specs.Fields.{number, field, signed, int_at, SwitchKeysRise}
 use Rattle.dex_insn.specs.Opcodes.{units_of}
-use Rattle.dex_insn.specs.Raw.{Raw, packed_units, sparse_units, data_units, I10x, I12x, I11n, I11x, I10t, I20t, I22x, I21t, I21s, I21h, I21c, I23x, I22b, I22t, I22s, I22c, I30t, I32x, I31i, I31t, I31c, I35c, I3rc, I51l, Packed, Sparse, Data}
-use Rattle.dex_insn.specs.RawInsns.{SpellsInsn, BeginsInsn, registers, IsPayload, IsElementWidth, InsnStands}
+use Rattle.dex_insn.specs.Raw.{Raw, packed_units, sparse_units, data_units, Packed, Sparse, Data}
+use Rattle.dex_insn.specs.RawInsns.{SpellsInsn, BeginsInsn, IsPayload, IsElementWidth, InsnStands}
 use Rattle.dex_insn.specs.Flaws.{InsnBreaks, format_at, has_zero_byte, head_units, payload_units, code_of, IsFaultAt}
 use Rattle.dex_insn.specs.declared.opcode.Format.{Format}
-use Rattle.dex_insn.specs.declared.opcode.Format.TheVariants.{F10x, F12x, F11n, F11x, F10t, F20t, F22x, F21t, F21s, F21h, F21c, F23x, F22b, F22t, F22s, F22c, F30t, F32x, F31i, F31t, F31c, F35c, F3rc, F51l}
+use Rattle.dex_insn.specs.declared.opcode.Format.TheVariants.{F10x, F11x, F10t, F20t, F23x, F22b, F22t, F22s, F22c, F30t, F32x, F35c, F3rc}
 use Rattle.dex_insn.specs.declared.flaw.Flaw.{Flaw}
 use Rattle.dex_insn.proofs.Fits.{number-1}
+use Rattle.dex_insn.proofs.Unique.{in_format, head-of, units-by}
 use Rattle.dex_insn.specs.declared.flaw.Flaw.TheVariants.{Opcode, Cut, NonZero, RegisterCount, OddPayload, CutHead, Width, CutPayload, KeyOrder}
 use Rattle.base_bytes.proofs.FieldBounds.{drop-AreBytes}
 
 -- ---- what is no payload
 
--- the instruction that the units spell in a format
-in-format : (us : List ℕ) (f : Format) → BeginsInsn us f (field us 0 0 8) → (IsTrue (has_zero_byte f) → field us 0 8 8 ≡ 0) → (f ≡ F35c → field us 0 12 4 ≤ 5) → (r : Raw) × SpellsInsn us r
-in-format us F10x b z c = (I10x (field us 0 0 8), (b, z refl))
-in-format us F12x b z c = (I12x (field us 0 0 8) (field us 0 8 4) (field us 0 12 4), (b, refl, refl))
-in-format us F11n b z c = (I11n (field us 0 0 8) (field us 0 8 4) (signed 4 (field us 0 12 4)), (b, refl, refl))
-in-format us F11x b z c = (I11x (field us 0 0 8) (field us 0 8 8), (b, refl))
-in-format us F10t b z c = (I10t (field us 0 0 8) (signed 8 (field us 0 8 8)), (b, refl))
-in-format us F20t b z c = (I20t (field us 0 0 8) (signed 16 (number us 1 1)), (b, z refl, refl))
-in-format us F22x b z c = (I22x (field us 0 0 8) (field us 0 8 8) (number us 1 1), (b, refl, refl))
-in-format us F21t b z c = (I21t (field us 0 0 8) (field us 0 8 8) (signed 16 (number us 1 1)), (b, refl, refl))
-in-format us F21s b z c = (I21s (field us 0 0 8) (field us 0 8 8) (signed 16 (number us 1 1)), (b, refl, refl))
-in-format us F21h b z c = (I21h (field us 0 0 8) (field us 0 8 8) (signed 16 (number us 1 1)), (b, refl, refl))
-in-format us F21c b z c = (I21c (field us 0 0 8) (field us 0 8 8) (number us 1 1), (b, refl, refl))
-in-format us F23x b z c = (I23x (field us 0 0 8) (field us 0 8 8) (field us 1 0 8) (field us 1 8 8), (b, refl, refl, refl))
-in-format us F22b b z c = (I22b (field us 0 0 8) (field us 0 8 8) (field us 1 0 8) (signed 8 (field us 1 8 8)), (b, refl, refl, refl))
-in-format us F22t b z c = (I22t (field us 0 0 8) (field us 0 8 4) (field us 0 12 4) (signed 16 (number us 1 1)), (b, refl, refl, refl))
-in-format us F22s b z c = (I22s (field us 0 0 8) (field us 0 8 4) (field us 0 12 4) (signed 16 (number us 1 1)), (b, refl, refl, refl))
-in-format us F22c b z c = (I22c (field us 0 0 8) (field us 0 8 4) (field us 0 12 4) (number us 1 1), (b, refl, refl, refl))
-in-format us F30t b z c = (I30t (field us 0 0 8) (signed 32 (number us 1 2)), (b, z refl, refl))
-in-format us F32x b z c = (I32x (field us 0 0 8) (number us 1 1) (number us 2 1), (b, z refl, refl, refl))
-in-format us F31i b z c = (I31i (field us 0 0 8) (field us 0 8 8) (signed 32 (number us 1 2)), (b, refl, refl))
-in-format us F31t b z c = (I31t (field us 0 0 8) (field us 0 8 8) (signed 32 (number us 1 2)), (b, refl, refl))
-in-format us F31c b z c = (I31c (field us 0 0 8) (field us 0 8 8) (number us 1 2), (b, refl, refl))
-in-format us F35c b z c = (I35c (field us 0 0 8) (field us 0 12 4) (registers us (field us 0 12 4)) (number us 1 1), (b, refl, c refl, refl, refl))
-in-format us F3rc b z c = (I3rc (field us 0 0 8) (field us 0 8 8) (number us 2 1) (number us 1 1), (b, refl, refl, refl))
-in-format us F51l b z c = (I51l (field us 0 0 8) (field us 0 8 8) (signed 64 (number us 1 4)), (b, refl, refl))
+-- the units spell the instruction of a format
+spelled-in-format : (us : List ℕ) (f : Format) → BeginsInsn us f (field us 0 0 8) → (IsTrue (has_zero_byte f) → field us 0 8 8 ≡ 0) → (f ≡ F35c → field us 0 12 4 ≤ 5) → SpellsInsn us (in_format us f)
+spelled-in-format us F10x b z c = (b, z refl)
+spelled-in-format us F20t b z c = (b, z refl, refl)
+spelled-in-format us F30t b z c = (b, z refl, refl)
+spelled-in-format us F32x b z c = (b, z refl, refl, refl)
+spelled-in-format us F35c b z c = (b, refl, c refl, refl, refl)
+spelled-in-format us F11x b z c = (b, refl)
+spelled-in-format us F10t b z c = (b, refl)
+spelled-in-format us F23x b z c = (b, refl, refl, refl)
+spelled-in-format us F22b b z c = (b, refl, refl, refl)
+spelled-in-format us F22t b z c = (b, refl, refl, refl)
+spelled-in-format us F22s b z c = (b, refl, refl, refl)
+spelled-in-format us F22c b z c = (b, refl, refl, refl)
+spelled-in-format us F3rc b z c = (b, refl, refl, refl)
+spelled-in-format us _ b z c = (b, refl, refl)
 
 is-35c : (f : Format) → (f ≡ F35c) ⊎ (f ≡ F35c → ⊥)
 is-35c F35c = inl refl
@@ -64,10 +55,10 @@ module _ (us : List ℕ) (at : ℕ) (long : 2 ≤ length us) (plain : IsPayload 
     where
       counted : BeginsInsn us f (field us 0 0 8) → (IsTrue (has_zero_byte f) → field us 0 8 8 ≡ 0) → Front us at
       counted b z = elim (is-35c f) [
-        | inr other ↦ let r = in-format us f b z (λ g. absurd (other g)) in inl (r.0, r.1, λ p. absurd (plain p))
+        | inr other ↦ inl (in_format us f, spelled-in-format us f b z (λ g. absurd (other g)), λ p. absurd (plain p))
         | inl g ↦ elim (cases_lt 5 (field us 0 12 4)) [
           | inl many ↦ inr (RegisterCount, ((plain, e ∙ ap Some g), subst (λ (k : Format). 2 * units_of k ≤ length us) g b.whole, many))
-          | inr few ↦ let r = in-format us f b z (λ _. few) in inl (r.0, r.1, λ p. absurd (plain p))
+          | inr few ↦ inl (in_format us f, spelled-in-format us f b z (λ _. few), λ p. absurd (plain p))
         ]
       ]
 
@@ -114,13 +105,6 @@ decide-width width = elim (cases_eq width 1) [
     ]
   ]
 ]
-
--- the units of a payload's head, and of all of it, by its kind
-pub head-of : (k h a b : ℕ) → h ≡ k → (if h == 3 then a else b) ≡ (if k == 3 then a else b)
-head-of k h a b e = rw e refl
-
-pub units-by : (k h p s d : ℕ) → h ≡ k → (if h == 1 then p else (if h == 2 then s else d)) ≡ (if k == 1 then p else (if k == 2 then s else d))
-units-by k h p s d e = rw e refl
 
 module _ (us : List ℕ) (at : ℕ) (are : AreBytes us) (payload : IsPayload us) (even : at % 2 ≡ 0) where
   packed-front : field us 0 8 8 ≡ 1 → Front us at

@@ -47,29 +47,20 @@ register-fits n k bits h = grind (arith, nat_tests)
 register-free : (n k bits : ℕ) → n ≤ k → register n k bits ≡ 0
 register-free n k bits h = grind (arith, nat_tests)
 
-five-fit : (n c d e f g : ℕ) → c < 16 → d < 16 → e < 16 → f < 16 → g < 16 → (k : ℕ)
-    → slice_index (register n 0 c ∷ register n 1 d ∷ register n 2 e ∷ register n 3 f ∷ register n 4 g ∷ []) k < 16
-five-fit n c d e f g c' d' e' f' g' zero = register-fits n 0 c c'
-five-fit n c d e f g c' d' e' f' g' (suc zero) = register-fits n 1 d d'
-five-fit n c d e f g c' d' e' f' g' (suc (suc zero)) = register-fits n 2 e e'
-five-fit n c d e f g c' d' e' f' g' (suc (suc (suc zero))) = register-fits n 3 f f'
-five-fit n c d e f g c' d' e' f' g' (suc (suc (suc (suc zero)))) = register-fits n 4 g g'
-five-fit n c d e f g c' d' e' f' g' (suc (suc (suc (suc (suc k))))) = omega arith
-
-five-free : (n c d e f g k : ℕ) → n ≤ k
-    → slice_index (register n 0 c ∷ register n 1 d ∷ register n 2 e ∷ register n 3 f ∷ register n 4 g ∷ []) k ≡ 0
-five-free n c d e f g zero h = register-free n 0 c h
-five-free n c d e f g (suc zero) h = register-free n 1 d h
-five-free n c d e f g (suc (suc zero)) h = register-free n 2 e h
-five-free n c d e f g (suc (suc (suc zero))) h = register-free n 3 f h
-five-free n c d e f g (suc (suc (suc (suc zero)))) h = register-free n 4 g h
-five-free n c d e f g (suc (suc (suc (suc (suc k))))) h = refl
+-- what holds of each of five, and of 0 after them, holds wherever is looked
+each-five : (P : ℕ → ℕ → Type 0) (a b c d e : ℕ) → P 0 a → P 1 b → P 2 c → P 3 d → P 4 e → ((k : ℕ) → P k 0) → (k : ℕ) → P k (slice_index (a ∷ b ∷ c ∷ d ∷ e ∷ []) k)
+each-five P a b c d e p q r s t past zero = p
+each-five P a b c d e p q r s t past (suc zero) = q
+each-five P a b c d e p q r s t past (suc (suc zero)) = r
+each-five P a b c d e p q r s t past (suc (suc (suc zero))) = s
+each-five P a b c d e p q r s t past (suc (suc (suc (suc zero)))) = t
+each-five P a b c d e p q r s t past (suc (suc (suc (suc (suc k))))) = past (suc (suc (suc (suc (suc k)))))
 
 named : (us : List ℕ) (n : ℕ) → AreRegisters n (registers us n)
 named us n = record {
   count = refl;
-  fit = λ k h. five-fit n (field us 2 0 4) (field us 2 4 4) (field us 2 8 4) (field us 2 12 4) (field us 0 8 4) (omega arith) (omega arith) (omega arith) (omega arith) (omega arith) k;
-  unused = λ k h. five-free n (field us 2 0 4) (field us 2 4 4) (field us 2 8 4) (field us 2 12 4) (field us 0 8 4) k h;
+  fit = λ k h. each-five (λ k r. r < 16) (register n 0 (field us 2 0 4)) (register n 1 (field us 2 4 4)) (register n 2 (field us 2 8 4)) (register n 3 (field us 2 12 4)) (register n 4 (field us 0 8 4)) (register-fits n 0 (field us 2 0 4) (omega arith)) (register-fits n 1 (field us 2 4 4) (omega arith)) (register-fits n 2 (field us 2 8 4) (omega arith)) (register-fits n 3 (field us 2 12 4) (omega arith)) (register-fits n 4 (field us 0 8 4) (omega arith)) (λ k. omega arith) k;
+  unused = λ k h. each-five (λ k r. n ≤ k → r ≡ 0) (register n 0 (field us 2 0 4)) (register n 1 (field us 2 4 4)) (register n 2 (field us 2 8 4)) (register n 3 (field us 2 12 4)) (register n 4 (field us 0 8 4)) (register-free n 0 (field us 2 0 4)) (register-free n 1 (field us 2 4 4)) (register-free n 2 (field us 2 8 4)) (register-free n 3 (field us 2 12 4)) (register-free n 4 (field us 0 8 4)) (λ k h. refl) k h;
 }
 
 by-width : (n width : ℕ) → IsElementWidth width → ((n * width) % width ≡ 0) × ((n * width) / width ≡ n)

@@ -12,9 +12,8 @@ use Rattle.dex_insn.specs.declared.opcode.Format.{Format}
 use Rattle.dex_insn.specs.declared.opcode.Format.TheVariants.{F10x, F35c}
 use Rattle.dex_insn.specs.declared.flaw.Flaw.{Flaw}
 use Rattle.dex_insn.specs.declared.flaw.Flaw.TheVariants.{Missing, Opcode, Cut, NonZero, RegisterCount, OddPayload, CutHead, Width, CutPayload, KeyOrder}
-use Rattle.dex_insn.proofs.Unique.{zero_row}
+use Rattle.dex_insn.proofs.Unique.{zero_row, head-of, units-by}
 use Rattle.dex_insn.proofs.Flaws.{some_unit}
-use Rattle.dex_insn.proofs.Decided.{head-of, units-by}
 
 head_most : (h n : ℕ) → n < 2 * (if h == 3 then 4 else 2) → 8 ≤ n → ⊥
 head_most h n p q = grind (arith, nat_tests)

@@ -15,8 +15,7 @@ same_bool _ _ = false
 same-is : (a b : Bool) → same_bool a b ≡ true → a ≡ b
 same-is true true e = refl
 same-is false false e = refl
-same-is true false e = absurd (cc)
-same-is false true e = absurd (cc)
+same-is _ _ e = absurd (cc)
 
 -- each used row names a table exactly if its format has an index
 abbrev kinds_agree : List (Option Format) → List (Option IndexKind) → Bool

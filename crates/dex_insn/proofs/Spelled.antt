@@ -1,8 +1,9 @@
 -- What is written spells the instruction.
-use Rattle.std.proofs.Common.{◌≡◌, ℕ, ◌+◌, ◌*◌, ◌/◌, ◌%◌, ◌<◌, ◌≤◌, ◌++◌, List, [], ◌∷◌, length, slice_index, arith, refl, sym, ap, ◌∙◌, length-append, ⊎_elim, take, drop, ◌-◌, take_all, zero, suc, if◌then◌else◌, ◌==◌}
+use Rattle.std.proofs.Common.{◌≡◌, ℕ, Some, ◌+◌, ◌*◌, ◌/◌, ◌%◌, ◌<◌, ◌≤◌, ◌++◌, List, [], ◌∷◌, length, slice_index, arith, refl, sym, ap, ◌∙◌, length-append, ⊎_elim, take, drop, ◌-◌, take_all, zero, suc, if◌then◌else◌, ◌==◌}
 use Rattle.std.proofs.lemmas.Nat.{div-add-mod'}
 use Rattle.std.proofs.Math.Nat.{div-le_self}
-use Rattle.dex_insn.specs.RawInsns.{IsElementWidth, SpellsInsn, register}
+use Rattle.dex_insn.specs.Opcodes.{format_of, units_of}
+use Rattle.dex_insn.specs.RawInsns.{BeginsInsn, IsElementWidth, SpellsInsn, register}
 use Rattle.std.specs.Prelude.{slice_range}
 use Rattle.std.proofs.Math.Seq.{take-append_seam, drop-append_seam, drop-append-add}
 use Rattle.std.specs.Int.{cast_unsigned, w8, w16, w32, w64}
@@ -10,6 +11,7 @@ use Rattle.std.proofs.lemmas.Bool.{cases_lt}
 use Rattle.std.proofs.lemmas.Bool.Decides.{nat_tests}
 use Rattle.dex_insn.specs.Fields.{number, field, signed}
 use Rattle.dex_insn.specs.Written.{IsRaw, written, bytes_of, AreRegisters}
+use Rattle.dex_insn.specs.declared.opcode.Format.{Format}
 use Rattle.dex_insn.specs.declared.opcode.Format.TheVariants.{F10x, F12x, F11n, F11x, F10t, F20t, F22x, F21t, F21s, F21h, F21c, F23x, F22b, F22t, F22s, F22c, F30t, F32x, F31i, F31t, F31c, F35c, F3rc, F51l}
 use Rattle.dex_insn.specs.Raw.{Raw, units, I10x, I12x, I11n, I11x, I10t, I20t, I22x, I21t, I21s, I21h, I21c, I23x, I22b, I22t, I22s, I22c, I30t, I32x, I31i, I31t, I31c, I35c, I3rc, I51l, Packed, Sparse, Data}
 use Rattle.dex_insn.proofs.Signs.{signed_8, signed_16, signed_32, signed_64, signed_nibble, signed_byte, signed_half, unsigned_8, unsigned_16, unsigned_32, unsigned_64}
@@ -60,130 +62,105 @@ width_fits width h = grind arith
 pad_length : (n : ℕ) → length {A = ℕ} (if n % 2 == 0 then [] else 0 ∷ []) ≡ n % 2
 pad_length n = by_parity (n % 2) (omega arith)
 
+-- the first unit has the opcode in its low byte
+one : (f : Format) (op u x : ℕ) (rest : List ℕ) → format_of op ≡ Some f → u ≡ op + 256 * x → x < 256 → 2 * units_of f ≤ 2 + length rest
+    → BeginsInsn (bytes_of (u ∷ []) ++ rest) f op × (number (bytes_of (u ∷ []) ++ rest) 0 1 ≡ u)
+one f op u x rest kind is fits long =
+    let byte = op_fits op f kind in
+    let unit = at0 u rest (omega arith) in
+    (record { opcode = omega arith; kind = kind; whole = omega arith }, unit)
+
+-- and a unit after it
+two : (f : Format) (op u x v : ℕ) (rest : List ℕ) → format_of op ≡ Some f → u ≡ op + 256 * x → x < 256 → v < 65536 → 2 * units_of f ≤ 4 + length rest
+    → BeginsInsn (bytes_of (u ∷ v ∷ []) ++ rest) f op × (number (bytes_of (u ∷ v ∷ []) ++ rest) 0 1 ≡ u) × (number (bytes_of (u ∷ v ∷ []) ++ rest) 1 1 ≡ v)
+two f op u x v rest kind is fits small long =
+    let s = one f op u x (v % 256 ∷ v / 256 % 256 ∷ rest) kind is fits (omega arith) in
+    (s.0, s.1, at1 (u % 256) (u / 256 % 256) v rest small)
+
+-- and one more
+three : (f : Format) (op u x v w : ℕ) → format_of op ≡ Some f → u ≡ op + 256 * x → x < 256 → v < 65536 → w < 65536 → units_of f ≤ 3
+    → BeginsInsn (bytes_of (u ∷ v ∷ w ∷ [])) f op × (number (bytes_of (u ∷ v ∷ w ∷ [])) 0 1 ≡ u) × (number (bytes_of (u ∷ v ∷ w ∷ [])) 1 1 ≡ v) × (number (bytes_of (u ∷ v ∷ w ∷ [])) 2 1 ≡ w)
+three f op u x v w kind is fits small last long =
+    let s = two f op u x v (w % 256 ∷ w / 256 % 256 ∷ []) kind is fits small (omega arith) in
+    (s.0, s.1, s.2, at2 (u % 256) (u / 256 % 256) (v % 256) (v / 256 % 256) w [] last)
+
+-- two units after the first are one number
+wide : (f : Format) (op u x n : ℕ) → format_of op ≡ Some f → u ≡ op + 256 * x → x < 256 → n < 4294967296 → units_of f ≤ 3
+    → BeginsInsn (bytes_of (u ∷ n % 65536 ∷ n / 65536 ∷ [])) f op × (number (bytes_of (u ∷ n % 65536 ∷ n / 65536 ∷ [])) 0 1 ≡ u) × (number (bytes_of (u ∷ n % 65536 ∷ n / 65536 ∷ [])) 1 2 ≡ n)
+wide f op u x n kind is fits small long =
+    let s = one f op u x (bytes_of (n % 65536 ∷ n / 65536 ∷ [])) kind is fits (omega arith) in
+    (s.0, s.1, two1 (u % 256) (u / 256 % 256) n [] small)
+
 pub spells : (insn : Raw) → IsRaw insn → SpellsInsn (written insn) insn
 unfolding written
 spells (I10x op) h =
-    let fits = op_fits op F10x h in
-    let e0 = at0 op ([]) (omega arith) in
-    (record { opcode = omega arith; kind = h; whole = omega arith }, omega arith)
+    let s = one F10x op op 0 [] h (omega arith) (omega arith) (omega arith) in
+    (s.0, omega arith)
 spells (I12x op a b) h =
-    let fits = op_fits op F12x h.0 in
-    let e0 = at0 (op + 256 * a + 4096 * b) ([]) (omega arith) in
-    (record { opcode = omega arith; kind = h.0; whole = omega arith }, omega arith, omega arith)
+    let s = one F12x op (op + 256 * a + 4096 * b) (a + 16 * b) [] h.0 (omega arith) (omega arith) (omega arith) in
+    (s.0, omega arith, omega arith)
 spells (I11n op a b) h =
-    let fits = op_fits op F11n h.0 in
-    let e0 = at0 (op + 256 * a + 4096 * (cast_unsigned w8 b % 16)) ([]) (omega arith) in
+    let s = one F11n op (op + 256 * a + 4096 * (cast_unsigned w8 b % 16)) (a + 16 * (cast_unsigned w8 b % 16)) [] h.0 (omega arith) (omega arith) (omega arith) in
     let f : field (bytes_of ((op + 256 * a + 4096 * (cast_unsigned w8 b % 16)) ∷ [])) 0 12 4 ≡ cast_unsigned w8 b % 16 = omega arith in
-    (record { opcode = omega arith; kind = h.0; whole = omega arith }, omega arith, sym (signed_nibble b h.2 h.3) ∙ ap (signed 4) (sym f))
+    (s.0, omega arith, sym (signed_nibble b h.2 h.3) ∙ ap (signed 4) (sym f))
 spells (I11x op a) h =
-    let fits = op_fits op F11x h.0 in
-    let e0 = at0 (op + 256 * a) ([]) (omega arith) in
-    (record { opcode = omega arith; kind = h.0; whole = omega arith }, omega arith)
+    let s = one F11x op (op + 256 * a) a [] h.0 refl (omega arith) (omega arith) in
+    (s.0, omega arith)
 spells (I10t op offset) h =
-    let fits = op_fits op F10t h.0 in
-    let e0 = at0 (op + 256 * (cast_unsigned w32 offset % 256)) ([]) (omega arith) in
+    let s = one F10t op (op + 256 * (cast_unsigned w32 offset % 256)) (cast_unsigned w32 offset % 256) [] h.0 refl (omega arith) (omega arith) in
     let f : field (bytes_of ((op + 256 * (cast_unsigned w32 offset % 256)) ∷ [])) 0 8 8 ≡ cast_unsigned w32 offset % 256 = omega arith in
-    (record { opcode = omega arith; kind = h.0; whole = omega arith }, sym (signed_byte offset h.1) ∙ ap (signed 8) (sym f))
+    (s.0, sym (signed_byte offset h.1) ∙ ap (signed 8) (sym f))
 spells (I20t op offset) h =
-    let fits = op_fits op F20t h.0 in
-    let e0 = at0 op (((cast_unsigned w32 offset % 65536) % 256) ∷ ((cast_unsigned w32 offset % 65536) / 256 % 256) ∷ []) (omega arith) in
-    let e1 = at1 (op % 256) (op / 256 % 256) (cast_unsigned w32 offset % 65536) ([]) (omega arith) in
-    let f : number (bytes_of (op ∷ (cast_unsigned w32 offset % 65536) ∷ [])) 1 1 ≡ cast_unsigned w32 offset % 65536 = omega arith in
-    (record { opcode = omega arith; kind = h.0; whole = omega arith }, omega arith, sym (signed_half offset h.1) ∙ ap (signed 16) (sym f))
+    let s = two F20t op op 0 (cast_unsigned w32 offset % 65536) [] h.0 (omega arith) (omega arith) (omega arith) (omega arith) in
+    (s.0, omega arith, sym (signed_half offset h.1) ∙ ap (signed 16) (sym s.2))
 spells (I22x op a b) h =
-    let fits = op_fits op F22x h.0 in
-    let e0 = at0 (op + 256 * a) ((b % 256) ∷ (b / 256 % 256) ∷ []) (omega arith) in
-    let e1 = at1 ((op + 256 * a) % 256) ((op + 256 * a) / 256 % 256) b ([]) (omega arith) in
-    (record { opcode = omega arith; kind = h.0; whole = omega arith }, omega arith, omega arith)
+    let s = two F22x op (op + 256 * a) a b [] h.0 refl (omega arith) (omega arith) (omega arith) in
+    (s.0, omega arith, sym s.2)
 spells (I21t op a offset) h =
-    let fits = op_fits op F21t h.0 in
-    let e0 = at0 (op + 256 * a) (((cast_unsigned w32 offset % 65536) % 256) ∷ ((cast_unsigned w32 offset % 65536) / 256 % 256) ∷ []) (omega arith) in
-    let e1 = at1 ((op + 256 * a) % 256) ((op + 256 * a) / 256 % 256) (cast_unsigned w32 offset % 65536) ([]) (omega arith) in
-    let f : number (bytes_of ((op + 256 * a) ∷ (cast_unsigned w32 offset % 65536) ∷ [])) 1 1 ≡ cast_unsigned w32 offset % 65536 = omega arith in
-    (record { opcode = omega arith; kind = h.0; whole = omega arith }, omega arith, sym (signed_half offset h.1) ∙ ap (signed 16) (sym f))
+    let s = two F21t op (op + 256 * a) a (cast_unsigned w32 offset % 65536) [] h.0 refl (omega arith) (omega arith) (omega arith) in
+    (s.0, omega arith, sym (signed_half offset h.1) ∙ ap (signed 16) (sym s.2))
 spells (I21s op a b) h =
-    let fits = op_fits op F21s h.0 in
-    let bound = unsigned_16 b h.2 in
-    let e0 = at0 (op + 256 * a) (((cast_unsigned w16 b) % 256) ∷ ((cast_unsigned w16 b) / 256 % 256) ∷ []) (omega arith) in
-    let e1 = at1 ((op + 256 * a) % 256) ((op + 256 * a) / 256 % 256) (cast_unsigned w16 b) ([]) (omega arith) in
-    let f : number (bytes_of ((op + 256 * a) ∷ (cast_unsigned w16 b) ∷ [])) 1 1 ≡ cast_unsigned w16 b = omega arith in
-    (record { opcode = omega arith; kind = h.0; whole = omega arith }, omega arith, sym (signed_16 b h.2) ∙ ap (signed 16) (sym f))
+    let s = two F21s op (op + 256 * a) a (cast_unsigned w16 b) [] h.0 refl (omega arith) (unsigned_16 b h.2) (omega arith) in
+    (s.0, omega arith, sym (signed_16 b h.2) ∙ ap (signed 16) (sym s.2))
 spells (I21h op a b) h =
-    let fits = op_fits op F21h h.0 in
-    let bound = unsigned_16 b h.2 in
-    let e0 = at0 (op + 256 * a) (((cast_unsigned w16 b) % 256) ∷ ((cast_unsigned w16 b) / 256 % 256) ∷ []) (omega arith) in
-    let e1 = at1 ((op + 256 * a) % 256) ((op + 256 * a) / 256 % 256) (cast_unsigned w16 b) ([]) (omega arith) in
-    let f : number (bytes_of ((op + 256 * a) ∷ (cast_unsigned w16 b) ∷ [])) 1 1 ≡ cast_unsigned w16 b = omega arith in
-    (record { opcode = omega arith; kind = h.0; whole = omega arith }, omega arith, sym (signed_16 b h.2) ∙ ap (signed 16) (sym f))
+    let s = two F21h op (op + 256 * a) a (cast_unsigned w16 b) [] h.0 refl (omega arith) (unsigned_16 b h.2) (omega arith) in
+    (s.0, omega arith, sym (signed_16 b h.2) ∙ ap (signed 16) (sym s.2))
 spells (I21c op a index) h =
-    let fits = op_fits op F21c h.0 in
-    let e0 = at0 (op + 256 * a) ((index % 256) ∷ (index / 256 % 256) ∷ []) (omega arith) in
-    let e1 = at1 ((op + 256 * a) % 256) ((op + 256 * a) / 256 % 256) index ([]) (omega arith) in
-    (record { opcode = omega arith; kind = h.0; whole = omega arith }, omega arith, omega arith)
+    let s = two F21c op (op + 256 * a) a index [] h.0 refl (omega arith) (omega arith) (omega arith) in
+    (s.0, omega arith, sym s.2)
 spells (I23x op a b c) h =
-    let fits = op_fits op F23x h.0 in
-    let e0 = at0 (op + 256 * a) (((b + 256 * c) % 256) ∷ ((b + 256 * c) / 256 % 256) ∷ []) (omega arith) in
-    let e1 = at1 ((op + 256 * a) % 256) ((op + 256 * a) / 256 % 256) (b + 256 * c) ([]) (omega arith) in
-    (record { opcode = omega arith; kind = h.0; whole = omega arith }, omega arith, omega arith, omega arith)
+    let s = two F23x op (op + 256 * a) a (b + 256 * c) [] h.0 refl (omega arith) (omega arith) (omega arith) in
+    (s.0, omega arith, omega arith, omega arith)
 spells (I22b op a b c) h =
-    let fits = op_fits op F22b h.0 in
     let bound = unsigned_8 c h.3 in
-    let e0 = at0 (op + 256 * a) (((b + 256 * cast_unsigned w8 c) % 256) ∷ ((b + 256 * cast_unsigned w8 c) / 256 % 256) ∷ []) (omega arith) in
-    let e1 = at1 ((op + 256 * a) % 256) ((op + 256 * a) / 256 % 256) (b + 256 * cast_unsigned w8 c) ([]) (omega arith) in
+    let s = two F22b op (op + 256 * a) a (b + 256 * cast_unsigned w8 c) [] h.0 refl (omega arith) (omega arith) (omega arith) in
     let f : field (bytes_of ((op + 256 * a) ∷ (b + 256 * cast_unsigned w8 c) ∷ [])) 1 8 8 ≡ cast_unsigned w8 c = omega arith in
-    (record { opcode = omega arith; kind = h.0; whole = omega arith }, omega arith, omega arith, sym (signed_8 c h.3) ∙ ap (signed 8) (sym f))
+    (s.0, omega arith, omega arith, sym (signed_8 c h.3) ∙ ap (signed 8) (sym f))
 spells (I22t op a b offset) h =
-    let fits = op_fits op F22t h.0 in
-    let e0 = at0 (op + 256 * a + 4096 * b) (((cast_unsigned w32 offset % 65536) % 256) ∷ ((cast_unsigned w32 offset % 65536) / 256 % 256) ∷ []) (omega arith) in
-    let e1 = at1 ((op + 256 * a + 4096 * b) % 256) ((op + 256 * a + 4096 * b) / 256 % 256) (cast_unsigned w32 offset % 65536) ([]) (omega arith) in
-    let f : number (bytes_of ((op + 256 * a + 4096 * b) ∷ (cast_unsigned w32 offset % 65536) ∷ [])) 1 1 ≡ cast_unsigned w32 offset % 65536 = omega arith in
-    (record { opcode = omega arith; kind = h.0; whole = omega arith }, omega arith, omega arith, sym (signed_half offset h.3) ∙ ap (signed 16) (sym f))
+    let s = two F22t op (op + 256 * a + 4096 * b) (a + 16 * b) (cast_unsigned w32 offset % 65536) [] h.0 (omega arith) (omega arith) (omega arith) (omega arith) in
+    (s.0, omega arith, omega arith, sym (signed_half offset h.3) ∙ ap (signed 16) (sym s.2))
 spells (I22s op a b c) h =
-    let fits = op_fits op F22s h.0 in
-    let bound = unsigned_16 c h.3 in
-    let e0 = at0 (op + 256 * a + 4096 * b) (((cast_unsigned w16 c) % 256) ∷ ((cast_unsigned w16 c) / 256 % 256) ∷ []) (omega arith) in
-    let e1 = at1 ((op + 256 * a + 4096 * b) % 256) ((op + 256 * a + 4096 * b) / 256 % 256) (cast_unsigned w16 c) ([]) (omega arith) in
-    let f : number (bytes_of ((op + 256 * a + 4096 * b) ∷ (cast_unsigned w16 c) ∷ [])) 1 1 ≡ cast_unsigned w16 c = omega arith in
-    (record { opcode = omega arith; kind = h.0; whole = omega arith }, omega arith, omega arith, sym (signed_16 c h.3) ∙ ap (signed 16) (sym f))
+    let s = two F22s op (op + 256 * a + 4096 * b) (a + 16 * b) (cast_unsigned w16 c) [] h.0 (omega arith) (omega arith) (unsigned_16 c h.3) (omega arith) in
+    (s.0, omega arith, omega arith, sym (signed_16 c h.3) ∙ ap (signed 16) (sym s.2))
 spells (I22c op a b index) h =
-    let fits = op_fits op F22c h.0 in
-    let e0 = at0 (op + 256 * a + 4096 * b) ((index % 256) ∷ (index / 256 % 256) ∷ []) (omega arith) in
-    let e1 = at1 ((op + 256 * a + 4096 * b) % 256) ((op + 256 * a + 4096 * b) / 256 % 256) index ([]) (omega arith) in
-    (record { opcode = omega arith; kind = h.0; whole = omega arith }, omega arith, omega arith, omega arith)
+    let s = two F22c op (op + 256 * a + 4096 * b) (a + 16 * b) index [] h.0 (omega arith) (omega arith) (omega arith) (omega arith) in
+    (s.0, omega arith, omega arith, sym s.2)
 spells (I30t op offset) h =
-    let fits = op_fits op F30t h.0 in
-    let bound = unsigned_32 offset h.1 in
-    let e0 = at0 op (((cast_unsigned w32 offset % 65536) % 256) ∷ ((cast_unsigned w32 offset % 65536) / 256 % 256) ∷ ((cast_unsigned w32 offset / 65536) % 256) ∷ ((cast_unsigned w32 offset / 65536) / 256 % 256) ∷ []) (omega arith) in
-    let e1 = two1 (op % 256) (op / 256 % 256) (cast_unsigned w32 offset) [] (omega arith) in
-    let f : number (bytes_of (op ∷ (cast_unsigned w32 offset % 65536) ∷ (cast_unsigned w32 offset / 65536) ∷ [])) 1 2 ≡ cast_unsigned w32 offset = omega arith in
-    (record { opcode = omega arith; kind = h.0; whole = omega arith }, omega arith, sym (signed_32 offset h.1) ∙ ap (signed 32) (sym f))
+    let s = wide F30t op op 0 (cast_unsigned w32 offset) h.0 (omega arith) (omega arith) (unsigned_32 offset h.1) (omega arith) in
+    (s.0, omega arith, sym (signed_32 offset h.1) ∙ ap (signed 32) (sym s.2))
 spells (I32x op a b) h =
-    let fits = op_fits op F32x h.0 in
-    let e0 = at0 op ((a % 256) ∷ (a / 256 % 256) ∷ (b % 256) ∷ (b / 256 % 256) ∷ []) (omega arith) in
-    let e1 = at1 (op % 256) (op / 256 % 256) a ((b % 256) ∷ (b / 256 % 256) ∷ []) (omega arith) in
-    let e2 = at2 (op % 256) (op / 256 % 256) (a % 256) (a / 256 % 256) b [] (omega arith) in
-    (record { opcode = omega arith; kind = h.0; whole = omega arith }, omega arith, omega arith, omega arith)
+    let s = three F32x op op 0 a b h.0 (omega arith) (omega arith) (omega arith) (omega arith) (omega arith) in
+    (s.0, omega arith, sym s.2, sym s.3)
 spells (I31i op a b) h =
-    let fits = op_fits op F31i h.0 in
-    let bound = unsigned_32 b h.2 in
-    let e0 = at0 (op + 256 * a) (((cast_unsigned w32 b % 65536) % 256) ∷ ((cast_unsigned w32 b % 65536) / 256 % 256) ∷ ((cast_unsigned w32 b / 65536) % 256) ∷ ((cast_unsigned w32 b / 65536) / 256 % 256) ∷ []) (omega arith) in
-    let e1 = two1 ((op + 256 * a) % 256) ((op + 256 * a) / 256 % 256) (cast_unsigned w32 b) [] (omega arith) in
-    let f : number (bytes_of ((op + 256 * a) ∷ (cast_unsigned w32 b % 65536) ∷ (cast_unsigned w32 b / 65536) ∷ [])) 1 2 ≡ cast_unsigned w32 b = omega arith in
-    (record { opcode = omega arith; kind = h.0; whole = omega arith }, omega arith, sym (signed_32 b h.2) ∙ ap (signed 32) (sym f))
+    let s = wide F31i op (op + 256 * a) a (cast_unsigned w32 b) h.0 refl (omega arith) (unsigned_32 b h.2) (omega arith) in
+    (s.0, omega arith, sym (signed_32 b h.2) ∙ ap (signed 32) (sym s.2))
 spells (I31t op a offset) h =
-    let fits = op_fits op F31t h.0 in
-    let bound = unsigned_32 offset h.2 in
-    let e0 = at0 (op + 256 * a) (((cast_unsigned w32 offset % 65536) % 256) ∷ ((cast_unsigned w32 offset % 65536) / 256 % 256) ∷ ((cast_unsigned w32 offset / 65536) % 256) ∷ ((cast_unsigned w32 offset / 65536) / 256 % 256) ∷ []) (omega arith) in
-    let e1 = two1 ((op + 256 * a) % 256) ((op + 256 * a) / 256 % 256) (cast_unsigned w32 offset) [] (omega arith) in
-    let f : number (bytes_of ((op + 256 * a) ∷ (cast_unsigned w32 offset % 65536) ∷ (cast_unsigned w32 offset / 65536) ∷ [])) 1 2 ≡ cast_unsigned w32 offset = omega arith in
-    (record { opcode = omega arith; kind = h.0; whole = omega arith }, omega arith, sym (signed_32 offset h.2) ∙ ap (signed 32) (sym f))
+    let s = wide F31t op (op + 256 * a) a (cast_unsigned w32 offset) h.0 refl (omega arith) (unsigned_32 offset h.2) (omega arith) in
+    (s.0, omega arith, sym (signed_32 offset h.2) ∙ ap (signed 32) (sym s.2))
 spells (I31c op a index) h =
-    let fits = op_fits op F31c h.0 in
-    let e0 = at0 (op + 256 * a) (((index % 65536) % 256) ∷ ((index % 65536) / 256 % 256) ∷ ((index / 65536) % 256) ∷ ((index / 65536) / 256 % 256) ∷ []) (omega arith) in
-    let e1 = two1 ((op + 256 * a) % 256) ((op + 256 * a) / 256 % 256) index [] (omega arith) in
-    (record { opcode = omega arith; kind = h.0; whole = omega arith }, omega arith, omega arith)
+    let s = wide F31c op (op + 256 * a) a index h.0 refl (omega arith) (omega arith) (omega arith) in
+    (s.0, omega arith, sym s.2)
 spells (I35c op n regs index) h =
-    let fits = op_fits op F35c h.0 in
     let r0 = below_16 n regs h.3 0 in
     let r1 = below_16 n regs h.3 1 in
     let r2 = below_16 n regs h.3 2 in
@@ -191,28 +168,21 @@ spells (I35c op n regs index) h =
     let r4 = below_16 n regs h.3 4 in
     let u0 = op + 256 * slice_index regs 4 + 4096 * n in
     let u2 = slice_index regs 0 + 16 * slice_index regs 1 + 256 * slice_index regs 2 + 4096 * slice_index regs 3 in
-    let e0 = at0 u0 ((index % 256) ∷ (index / 256 % 256) ∷ (u2 % 256) ∷ (u2 / 256 % 256) ∷ []) (omega arith) in
-    let e1 = at1 (u0 % 256) (u0 / 256 % 256) index ((u2 % 256) ∷ (u2 / 256 % 256) ∷ []) (omega arith) in
-    let e2 = at2 (u0 % 256) (u0 / 256 % 256) (index % 256) (index / 256 % 256) u2 [] (omega arith) in (
-      record { opcode = omega arith; kind = h.0; whole = omega arith },
+    let s = three F35c op u0 (slice_index regs 4 + 16 * n) index u2 h.0 (omega arith) (omega arith) (omega arith) (omega arith) (omega arith) in (
+      s.0,
       omega arith,
       h.1,
-      omega arith,
+      sym s.2,
       sym (same_five _ _ _ _ _ _ _ _ _ _ (one_register n 0 _ regs h.3 (omega arith)) (one_register n 1 _ regs h.3 (omega arith)) (one_register n 2 _ regs h.3 (omega arith)) (one_register n 3 _ regs h.3 (omega arith)) (one_register n 4 _ regs h.3 (omega arith)) ∙ five regs h.3.count),
     )
 spells (I3rc op n first index) h =
-    let fits = op_fits op F3rc h.0 in
-    let e0 = at0 (op + 256 * n) ((index % 256) ∷ (index / 256 % 256) ∷ (first % 256) ∷ (first / 256 % 256) ∷ []) (omega arith) in
-    let e1 = at1 ((op + 256 * n) % 256) ((op + 256 * n) / 256 % 256) index ((first % 256) ∷ (first / 256 % 256) ∷ []) (omega arith) in
-    let e2 = at2 ((op + 256 * n) % 256) ((op + 256 * n) / 256 % 256) (index % 256) (index / 256 % 256) first [] (omega arith) in
-    (record { opcode = omega arith; kind = h.0; whole = omega arith }, omega arith, omega arith, omega arith)
+    let s = three F3rc op (op + 256 * n) n index first h.0 refl (omega arith) (omega arith) (omega arith) (omega arith) in
+    (s.0, omega arith, sym s.2, sym s.3)
 spells (I51l op a b) h =
-    let fits = op_fits op F51l h.0 in
-    let bound = unsigned_64 b h.2 in
-    let e0 = at0 (op + 256 * a) (((cast_unsigned w64 b % 65536) % 256) ∷ ((cast_unsigned w64 b % 65536) / 256 % 256) ∷ ((cast_unsigned w64 b / 65536 % 65536) % 256) ∷ ((cast_unsigned w64 b / 65536 % 65536) / 256 % 256) ∷ ((cast_unsigned w64 b / 4294967296 % 65536) % 256) ∷ ((cast_unsigned w64 b / 4294967296 % 65536) / 256 % 256) ∷ ((cast_unsigned w64 b / 281474976710656) % 256) ∷ ((cast_unsigned w64 b / 281474976710656) / 256 % 256) ∷ []) (omega arith) in
-    let e1 = four1 ((op + 256 * a) % 256) ((op + 256 * a) / 256 % 256) (cast_unsigned w64 b) [] (omega arith) in
-    let f : number (bytes_of ((op + 256 * a) ∷ (cast_unsigned w64 b % 65536) ∷ (cast_unsigned w64 b / 65536 % 65536) ∷ (cast_unsigned w64 b / 4294967296 % 65536) ∷ (cast_unsigned w64 b / 281474976710656) ∷ [])) 1 4 ≡ cast_unsigned w64 b = omega arith in
-    (record { opcode = omega arith; kind = h.0; whole = omega arith }, omega arith, sym (signed_64 b h.2) ∙ ap (signed 64) (sym f))
+    let n = cast_unsigned w64 b in
+    let s = one F51l op (op + 256 * a) a (bytes_of (n % 65536 ∷ n / 65536 % 65536 ∷ n / 4294967296 % 65536 ∷ n / 281474976710656 ∷ [])) h.0 refl (omega arith) (omega arith) in
+    let e = four1 ((op + 256 * a) % 256) ((op + 256 * a) / 256 % 256) n [] (unsigned_64 b h.2) in
+    (s.0, omega arith, sym (signed_64 b h.2) ∙ ap (signed 64) (sym e))
 spells (Packed first offsets) h =
     let bound = unsigned_32 first h.0 in
     let size = length offsets / 4 in

@@ -11,7 +11,7 @@ use Rattle.dex_insn.specs.declared.opcode.Format.{Format}
 use Rattle.dex_insn.specs.declared.opcode.Format.TheVariants.{F10x, F12x, F11n, F11x, F10t, F20t, F22x, F21t, F21s, F21h, F21c, F23x, F22b, F22t, F22s, F22c, F30t, F32x, F31i, F31t, F31c, F35c, F3rc, F51l}
 
 -- the instruction that the units spell in a format
-abbrev in_format : List ℕ → Format → Raw
+abbrev pub in_format : List ℕ → Format → Raw
 in_format us F10x = I10x (field us 0 0 8)
 in_format us F12x = I12x (field us 0 0 8) (field us 0 8 4) (field us 0 12 4)
 in_format us F11n = I11n (field us 0 0 8) (field us 0 8 4) (signed 4 (field us 0 12 4))
@@ -109,20 +109,20 @@ by_3 a b c d n e = grind (arith, nat_tests)
 by_0 : (a b c d : Raw) (n : ℕ) → n ≢ 0x0100 → n ≢ 0x0200 → n ≢ 0x0300 → by_unit n a b c d ≡ d
 by_0 a b c d n p q r = grind (arith, nat_tests)
 
--- the units of a payload, by the second byte
-sizes : (k h p s d : ℕ) → h ≡ k → 2 * (if h == 1 then p else (if h == 2 then s else d)) ≡ 2 * (if k == 1 then p else (if k == 2 then s else d))
-sizes k h p s d e = rw e refl
+-- the units of a payload's head, and of all of it, by its kind
+pub head-of : (k h a b : ℕ) → h ≡ k → (if h == 3 then a else b) ≡ (if k == 3 then a else b)
+head-of k h a b e = rw e refl
 
-head_size : (k h : ℕ) → h ≡ k → 2 * (if h == 3 then 4 else 2) ≡ 2 * (if k == 3 then 4 else 2)
-head_size k h e = rw e refl
+pub units-by : (k h p s d : ℕ) → h ≡ k → (if h == 1 then p else (if h == 2 then s else d)) ≡ (if k == 1 then p else (if k == 2 then s else d))
+units-by k h p s d e = rw e refl
 
 load_packed : (us : List ℕ) (first : ℤ) (offsets : List ℕ) → SpellsInsn us (Packed first offsets) → Load us (Packed first offsets)
 unfolding units is_payload
 load_packed us first offsets h =
     let n = h.0 in
     let high : field us 0 8 8 ≡ 1 = omega arith in
-    let w = sizes 1 (field us 0 8 8) (packed_units (number us 1 1)) (sparse_units (number us 1 1)) (data_units (number us 2 2 * number us 1 1)) high in
-    let hd = head_size 1 (field us 0 8 8) high in
+    let w : payload_units us ≡ packed_units (number us 1 1) = units-by 1 (field us 0 8 8) (packed_units (number us 1 1)) (sparse_units (number us 1 1)) (data_units (number us 2 2 * number us 1 1)) high in
+    let hd : head_units us ≡ 2 = head-of 1 (field us 0 8 8) 4 2 high in
     let first_is = h.2 in let offsets_are = h.3 in let w0 = h.1 in
     let part = slice-length us 8 (8 + 4 * number us 1 1) (omega arith) (omega arith) in let long = ap length h.3 in
     let branch = by_1 (packed_at us) (sparse_at us) (data_at us) (plain_at us (format_at us)) (number us 0 1) n in
@@ -143,8 +143,8 @@ unfolding units is_payload
 load_sparse us keys offsets h =
     let n = h.0 in
     let high : field us 0 8 8 ≡ 2 = omega arith in
-    let w = sizes 2 (field us 0 8 8) (packed_units (number us 1 1)) (sparse_units (number us 1 1)) (data_units (number us 2 2 * number us 1 1)) high in
-    let hd = head_size 2 (field us 0 8 8) high in
+    let w : payload_units us ≡ sparse_units (number us 1 1) = units-by 2 (field us 0 8 8) (packed_units (number us 1 1)) (sparse_units (number us 1 1)) (data_units (number us 2 2 * number us 1 1)) high in
+    let hd : head_units us ≡ 2 = head-of 2 (field us 0 8 8) 4 2 high in
     let keys_are = h.2 in let offsets_are = h.3 in let w0 = h.1 in
     let part = slice-length us 4 (4 + 4 * number us 1 1) (omega arith) (omega arith) in let long = ap length h.2 in
     let branch = by_2 (packed_at us) (sparse_at us) (data_at us) (plain_at us (format_at us)) (number us 0 1) n in
@@ -165,8 +165,8 @@ unfolding units is_payload
 load_data us width bytes h =
     let n = h.0 in
     let high : field us 0 8 8 ≡ 3 = omega arith in
-    let w = sizes 3 (field us 0 8 8) (packed_units (number us 1 1)) (sparse_units (number us 1 1)) (data_units (number us 2 2 * number us 1 1)) high in
-    let hd = head_size 3 (field us 0 8 8) high in
+    let w : payload_units us ≡ data_units (number us 2 2 * number us 1 1) = units-by 3 (field us 0 8 8) (packed_units (number us 1 1)) (sparse_units (number us 1 1)) (data_units (number us 2 2 * number us 1 1)) high in
+    let hd : head_units us ≡ 4 = head-of 3 (field us 0 8 8) 4 2 high in
     let width_is = h.2 in let w0 = h.1 in
     let part = slice-length us 8 (8 + number us 2 2 * width) (omega arith) (omega arith) in let long = ap length h.4 in
     let bytes_are : bytes ≡ slice_range us 8 (8 + number us 2 2 * number us 1 1) = h.4 ∙ ap (λ v. slice_range us 8 (8 + number us 2 2 * v)) h.2 in

@@ -14,5 +14,5 @@
 //! docs/MAP.md says where this crate stands among the others.
 #![tactic(auto)]
 
-pub use tables_names::{FieldParts, MethodParts, Needed, ProtoParts, Ranks, Row, TypeParts};
+pub use tables_names::{FieldParts, MethodParts, Needed, Noted, ProtoParts, Ranks, Row, TypeParts};
 pub use tables_rows::Tables;

@@ -42,50 +42,22 @@ rest_are G bytes rest v t are = after_are t.front rest (subst AreBytes t.whole a
 IsNameDecided : (ℕ → Name → Type 0) → ℕ → ℕ → Type 0
 IsNameDecided N i t = ((which : Name) × (value_type_of which ≡ t) × N i which) ⊎ ((which : Name) → value_type_of which ≡ t → N i which → ⊥)
 
-module _ (b : List ℕ) (hold : TablesHold b) (i : ℕ) where
-  text_there : IsNameDecided (NameStands b) i 23
-  unfolding IsNameDecided
-  text_there = elim (cases_lt i (size_of b 0)) [
-    | inl lt ↦ let row = hold.strings i lt in inl (OfText row.name, refl, row.stands)
-    | inr ge ↦ inr (past ge)
-  ]
-    where
-      past : size_of b 0 ≤ i → (which : Name) → value_type_of which ≡ 23 → NameStands b i which → ⊥
-      past ge (OfText s) e st = let row = st.row in omega (arith, row, ge)
-      past ge _ e st = omega (arith, e)
+-- the rows of the table of a type's names
+abbrev rows_of_type : List ℕ → ℕ → ℕ
+rows_of_type b t = size_of b (if t == 23 then 0 else (if t == 24 then 1 else (if t == 25 then 3 else 4)))
 
-  type_there : IsNameDecided (NameStands b) i 24
-  unfolding IsNameDecided
-  type_there = elim (cases_lt i (size_of b 1)) [
-    | inl lt ↦ let row = hold.types i lt in inl (OfDesc row.name, refl, row.stands)
-    | inr ge ↦ inr (past ge)
-  ]
-    where
-      past : size_of b 1 ≤ i → (which : Name) → value_type_of which ≡ 24 → NameStands b i which → ⊥
-      past ge (OfDesc s) e st = let row = st.row in omega (arith, row, ge)
-      past ge _ e st = omega (arith, e)
+module _ (b : List ℕ) (i : ℕ) where
+  within : (which : Name) → NameStands b i which → i < rows_of_type b (value_type_of which)
+  within (OfText s) st = st.row
+  within _ st = st.row
 
-  field_there : IsNameDecided (NameStands b) i 25
+  -- where each row stands for a name
+  by_rows : (t : ℕ) → (i < rows_of_type b t → (which : Name) × (value_type_of which ≡ t) × NameStands b i which) → IsNameDecided (NameStands b) i t
   unfolding IsNameDecided
-  field_there = elim (cases_lt i (size_of b 3)) [
-    | inl lt ↦ let row = hold.fields i lt in inl (OfField row.name, refl, row.stands)
-    | inr ge ↦ inr (past ge)
+  by_rows t row = elim (cases_lt i (rows_of_type b t)) [
+    | inl lt ↦ inl (row lt)
+    | inr ge ↦ inr (λ which e st. let lt : i < rows_of_type b t = subst (λ (k : ℕ). i < rows_of_type b k) e (within which st) in omega (arith, lt, ge))
   ]
-    where
-      past : size_of b 3 ≤ i → (which : Name) → value_type_of which ≡ 25 → NameStands b i which → ⊥
-      past ge (OfField s) e st = let row = st.row in omega (arith, row, ge)
-      past ge _ e st = omega (arith, e)
-
-  method_there : IsNameDecided (NameStands b) i 26
-  unfolding IsNameDecided
-  method_there = elim (cases_lt i (size_of b 4)) [
-    | inl lt ↦ let row = hold.methods i lt in inl (OfMethod row.name, refl, row.stands)
-    | inr ge ↦ inr (past ge)
-  ]
-    where
-      past : size_of b 4 ≤ i → (which : Name) → value_type_of which ≡ 26 → NameStands b i which → ⊥
-      past ge (OfMethod s) e st = let row = st.row in omega (arith, row, ge)
-      past ge _ e st = omega (arith, e)
 
 -- ---- a value with bytes after its head
 
@@ -93,13 +65,13 @@ module _ (b : List ℕ) (hold : TablesHold b) (i : ℕ) where
 IsSizedDecided : (ℕ → Name → Type 0) → ℕ → List ℕ → Type 0
 IsSizedDecided N t low = ((v : Value) × ValueStands N t low v) ⊎ ((23 ≤ t) × ((which : Name) → IsNameOfType t which → N (unsigned_of low) which → ⊥))
 
--- a type of which the table of widths knows more
-pick : (t k w rest : ℕ) → 0 < (if t == k then w else rest) → (t ≡ k) ⊎ (0 < rest)
-pick t k w rest h = by (t == k) (Decides-eqb t k).0 h
+-- of type k, or of those of which the table of widths knows more
+pick : (G : Type 0) (t k w rest : ℕ) → 0 < (if t == k then w else rest) → (t ≡ k → G) → (0 < rest → G) → G
+pick G t k w rest h here past = by (t == k) (Decides-eqb t k).0 h
   where
-    by : (z : Bool) → (z ≡ true → t ≡ k) → 0 < (if z then w else rest) → (t ≡ k) ⊎ (0 < rest)
-    by true e h = inl (e refl)
-    by false e h = inr h
+    by : (z : Bool) → (z ≡ true → t ≡ k) → 0 < (if z then w else rest) → G
+    by true e h = here (e refl)
+    by false e h = past h
 
 module _ (N : ℕ → Name → Type 0) (names : (i t : ℕ) → (23 ≤ t) × (t ≤ 26) → IsNameDecided N i t) (low : List ℕ) where
   at_type : (t : ℕ) → 23 ≤ t → t ≤ 26 → (t == 27) ≡ false → IsSizedDecided N t low
@@ -127,51 +99,18 @@ module _ (N : ℕ → Name → Type 0) (names : (i t : ℕ) → (23 ≤ t) × (t
   sized_value : (t : ℕ) → 0 < widest_of t → IsSizedDecided N t low
   sized_value t h0 =
       let G = λ (k : ℕ). IsSizedDecided N k low in
-      elim (pick t 0 1 _ h0) [
-        | inl e ↦ number t (Byte (signed_of low)) (e, refl)
-        | inr h1 ↦
-            elim (pick t 2 2 _ h1) [
-              | inl e ↦ number t (Short (signed_of low)) (e, refl)
-              | inr h2 ↦
-                  elim (pick t 3 2 _ h2) [
-                    | inl e ↦ number t (Char (unsigned_of low)) (e, refl)
-                    | inr h3 ↦
-                        elim (pick t 4 4 _ h3) [
-                          | inl e ↦ number t (Int (signed_of low)) (e, refl)
-                          | inr h4 ↦
-                              elim (pick t 6 8 _ h4) [
-                                | inl e ↦ number t (Long (signed_of low)) (e, refl)
-                                | inr h5 ↦
-                                    elim (pick t 16 4 _ h5) [
-                                      | inl e ↦ number t (Float (high_of 4 low)) (e, refl)
-                                      | inr h6 ↦
-                                          elim (pick t 17 8 _ h6) [
-                                            | inl e ↦ number t (Double (high_of 8 low)) (e, refl)
-                                            | inr h7 ↦
-                                                elim (pick t 23 4 _ h7) [
-                                                  | inl e ↦ subst G (sym e) (at_type 23 (lit≤ tt) (lit≤ tt) refl)
-                                                  | inr h8 ↦
-                                                      elim (pick t 24 4 _ h8) [
-                                                        | inl e ↦ subst G (sym e) (at_type 24 (lit≤ tt) (lit≤ tt) refl)
-                                                        | inr h9 ↦
-                                                            elim (pick t 25 4 _ h9) [
-                                                              | inl e ↦ subst G (sym e) (at_type 25 (lit≤ tt) (lit≤ tt) refl)
-                                                              | inr h10 ↦
-                                                                  elim (pick t 26 4 _ h10) [
-                                                                    | inl e ↦ subst G (sym e) (at_type 26 (lit≤ tt) (lit≤ tt) refl)
-                                                                    | inr h11 ↦
-                                                                        elim (pick t 27 4 _ h11) [ inl e ↦ subst G (sym e) at_enum | inr h12 ↦ absurd (omega (arith, h12)) ]
-                                                                  ]
-                                                            ]
-                                                      ]
-                                                ]
-                                          ]
-                                    ]
-                              ]
-                        ]
-                  ]
-            ]
-      ]
+      pick (G t) t 0 1 _ h0 (λ e. number t (Byte (signed_of low)) (e, refl)) (λ h1.
+      pick (G t) t 2 2 _ h1 (λ e. number t (Short (signed_of low)) (e, refl)) (λ h2.
+      pick (G t) t 3 2 _ h2 (λ e. number t (Char (unsigned_of low)) (e, refl)) (λ h3.
+      pick (G t) t 4 4 _ h3 (λ e. number t (Int (signed_of low)) (e, refl)) (λ h4.
+      pick (G t) t 6 8 _ h4 (λ e. number t (Long (signed_of low)) (e, refl)) (λ h5.
+      pick (G t) t 16 4 _ h5 (λ e. number t (Float (high_of 4 low)) (e, refl)) (λ h6.
+      pick (G t) t 17 8 _ h6 (λ e. number t (Double (high_of 8 low)) (e, refl)) (λ h7.
+      pick (G t) t 23 4 _ h7 (λ e. subst G (sym e) (at_type 23 (lit≤ tt) (lit≤ tt) refl)) (λ h8.
+      pick (G t) t 24 4 _ h8 (λ e. subst G (sym e) (at_type 24 (lit≤ tt) (lit≤ tt) refl)) (λ h9.
+      pick (G t) t 25 4 _ h9 (λ e. subst G (sym e) (at_type 25 (lit≤ tt) (lit≤ tt) refl)) (λ h10.
+      pick (G t) t 26 4 _ h10 (λ e. subst G (sym e) (at_type 26 (lit≤ tt) (lit≤ tt) refl)) (λ h11.
+      pick (G t) t 27 4 _ h11 (λ e. subst G (sym e) at_enum) (λ h12. absurd (omega (arith, h12))))))))))))))
 
 -- ---- values
 
@@ -286,16 +225,16 @@ module _ (N : ℕ → Name → Type 0) (names : (i t : ℕ) → (23 ≤ t) × (t
 
 file_names : (b : List ℕ) → TablesHold b → (i t : ℕ) → (23 ≤ t) × (t ≤ 26) → IsNameDecided (NameStands b) i t
 file_names b hold i t is = elim (cases_eq t 23) [
-  | inl e ↦ subst (IsNameDecided (NameStands b) i) (sym e) (text_there b hold i)
+  | inl e ↦ subst (IsNameDecided (NameStands b) i) (sym e) (by_rows b i 23 (λ lt. let row = hold.strings i lt in (OfText row.name, refl, row.stands)))
   | inr a ↦
       elim (cases_eq t 24) [
-        | inl e ↦ subst (IsNameDecided (NameStands b) i) (sym e) (type_there b hold i)
+        | inl e ↦ subst (IsNameDecided (NameStands b) i) (sym e) (by_rows b i 24 (λ lt. let row = hold.types i lt in (OfDesc row.name, refl, row.stands)))
         | inr c ↦
             elim (cases_eq t 25) [
-              | inl e ↦ subst (IsNameDecided (NameStands b) i) (sym e) (field_there b hold i)
+              | inl e ↦ subst (IsNameDecided (NameStands b) i) (sym e) (by_rows b i 25 (λ lt. let row = hold.fields i lt in (OfField row.name, refl, row.stands)))
               | inr d ↦
                   elim (cases_eq t 26) [
-                    | inl e ↦ subst (IsNameDecided (NameStands b) i) (sym e) (method_there b hold i)
+                    | inl e ↦ subst (IsNameDecided (NameStands b) i) (sym e) (by_rows b i 26 (λ lt. let row = hold.methods i lt in (OfMethod row.name, refl, row.stands)))
                     | inr k ↦
                         let low = is.0 in let high = is.1 in absurd (omega (arith, a, c, d, k, low, high))
                   ]

@@ -12,7 +12,7 @@ use Rattle.std.specs.Int.{bytes_low_first}
 use Rattle.byteorder.specs.Endian.{twos_complement, little_number, little_bytes}
 use Rattle.byteorder.specs.Numbers.{little_from-lt, little_number-reads_back, length-bytes_low_first}
 use Rattle.base_bytes.specs.Leb128.{Shortest}
-use Rattle.dex_value.specs.Spelling.{unsigned_of, signed_of, high_of}
+use Rattle.dex_value.specs.Spelling.{Sized, unsigned_of, signed_of, high_of}
 use Rattle.dex_value.specs.Writing.{IsNumberWidth, IsHighWidth, magnitude_of, sized, SignedAs, UnsignedAs, HighAs}
 use Rattle.dex_value.proofs.Ranges.{power_most, power_some}
 
@@ -130,48 +130,44 @@ high_means bits q x w z low len scale small zeros is e =
 -- ---- the shortest spellings
 
 module _ (code widest w : ℕ) where
+  -- the bytes of x, where they mean it and no fewer do
+  shortest_sized : {V : Type 0} (Means : V → List ℕ → Type 0) (v : V) (x : ℕ) (low : List ℕ) → 0 < w → w ≤ widest → low ≡ little_bytes w x → Means v (little_bytes w x)
+      → ((other : List ℕ) → ((i : ℕ) → slice_index other i < 256) → 0 < length other → length other ≤ widest → Means v other → w ≤ length other)
+      → Shortest (λ bytes u. Sized code widest (Means u) bytes) (sized code low) v
+  shortest_sized Means v x low some few e means least =
+      let len = little_length w x in
+      subst (λ (l : List ℕ). Shortest (λ bytes u. Sized code widest (Means u) bytes) (sized code l) v) (sym e) (record {
+        spelled = record {
+          low = little_bytes w x;
+          some = omega (arith, len, some);
+          few = omega (arith, len, few);
+          bytes = little_small w x;
+          joined = refl;
+          means = means;
+        };
+        least = λ other o.
+            let k = least o.low o.bytes o.some o.few o.means in
+            let j = ap length o.joined in
+            omega (arith, k, len, j);
+      })
+
   pub shortest_unsigned : (n : ℕ) (low : List ℕ) → IsNumberWidth n w → 0 < widest → n < 256 ^ widest → low ≡ little_bytes w n → Shortest (UnsignedAs code widest) (sized code low) n
   unfolding unsigned_of
-  shortest_unsigned n low is some fits e = subst (λ (l : List ℕ). Shortest (UnsignedAs code widest) (sized code l) n) (sym e) (record {
-    spelled = record {
-      low = little_bytes w n;
-      some = let l = little_length w n in let s = is.some in omega (arith, l, s);
-      few = let l = little_length w n in let s = is.least widest some fits in omega (arith, l, s);
-      bytes = little_small w n;
-      joined = refl;
-      means = sym (unsigned_low w n is.fits);
-    };
-    least = λ other o.
-        let b = little_from-lt 0 (length o.low) o.low o.bytes in
-        let m = o.means in
-        let k = is.least (length o.low) o.some (omega (arith, b, m)) in
-        let l = little_length w n in
-        let j = ap length o.joined in
-        omega (arith, k, l, j);
-  })
+  shortest_unsigned n low is some fits e =
+      shortest_sized (λ v bytes. v ≡ unsigned_of bytes) n n low is.some (is.least widest some fits) e (sym (unsigned_low w n is.fits))
+      (λ other are more few m.
+      let b = little_from-lt 0 (length other) other are in
+      is.least (length other) more (omega (arith, b, m)))
 
   pub shortest_signed : (n : ℤ) (low : List ℕ) → IsNumberWidth (2 * magnitude_of n) w → 0 < widest → 2 * magnitude_of n < 256 ^ widest → low ≡ little_bytes w (of_z w64 n % 2 ^ (8 * w)) → Shortest (SignedAs code widest) (sized code low) n
   unfolding signed_of
   shortest_signed n low is some fits e =
-      let x = of_z w64 n % 2 ^ (8 * w) in
-      subst (λ (l : List ℕ). Shortest (SignedAs code widest) (sized code l) n) (sym e) (record {
-        spelled = record {
-          low = little_bytes w x;
-          some = let l = little_length w x in let s = is.some in omega (arith, l, s);
-          few = let l = little_length w x in let s = is.least widest some fits in omega (arith, l, s);
-          bytes = little_small w x;
-          joined = refl;
-          means = sym (signed_low w n is.some is.few is.fits);
-        };
-        least = λ other o.
-            let b = little_from-lt 0 (length o.low) o.low o.bytes in
-            let s = twos_size (length o.low) (little_number (length o.low) o.low) o.some b in
-            let m : magnitude_of n ≡ magnitude_of (twos_complement (length o.low) (little_number (length o.low) o.low)) = ap magnitude_of o.means in
-            let k = is.least (length o.low) o.some (omega (arith, s, m)) in
-            let l = little_length w x in
-            let j = ap length o.joined in
-            omega (arith, k, l, j);
-      })
+      shortest_sized (λ v bytes. v ≡ signed_of bytes) n (of_z w64 n % 2 ^ (8 * w)) low is.some (is.least widest some fits) e (sym (signed_low w n is.some is.few is.fits))
+      (λ other are more few m.
+      let b = little_from-lt 0 (length other) other are in
+      let s = twos_size (length other) (little_number (length other) other) more b in
+      let size : magnitude_of n ≡ magnitude_of (twos_complement (length other) (little_number (length other) other)) = ap magnitude_of m in
+      is.least (length other) more (omega (arith, s, size)))
 
   pub shortest_high : (bits : ℕ) (low : List ℕ) → IsHighWidth bits widest w → bits < 256 ^ widest → low ≡ little_bytes w (bits / 256 ^ (widest - w)) → Shortest (HighAs code widest) (sized code low) bits
   unfolding high_of
@@ -182,22 +178,11 @@ module _ (code widest w : ℕ) where
       let whole : 256 ^ w * q ≡ 256 ^ widest = sym (pow-add 256 w (widest - w)) ∙ ap (λ k. 256 ^ k) (omega (arith, few)) in
       let small : x < 256 ^ w = div_below bits q (256 ^ w) (power_some (widest - w)) (let c = mul_comm (256 ^ w) q in omega (arith, fits, whole, c)) in
       let len = little_length w x in
-      subst (λ (l : List ℕ). Shortest (HighAs code widest) (sized code l) bits) (sym e) (record {
-        spelled = record {
-          low = little_bytes w x;
-          some = let s = is.some in omega (arith, len, s);
-          few = omega (arith, len, few);
-          bytes = little_small w x;
-          joined = refl;
-          means = high_means bits q x w (widest - length (little_bytes w x)) (little_bytes w x) len (ap (λ k. 256 ^ (widest - k)) (sym len)) small is.zeros refl refl;
-        };
-        least = λ other o.
-            let h = mul-mod_left (little_number (length o.low) o.low) (256 ^ (widest - length o.low)) in
-            let m : bits % 256 ^ (widest - length o.low) ≡ 0 = ap (λ k. k % 256 ^ (widest - length o.low)) o.means ∙ h in
-            let k = is.least (length o.low) o.some o.few m in
-            let j = ap length o.joined in
-            omega (arith, k, len, j);
-      })
+      shortest_sized (λ v high. v ≡ high_of widest high) bits x low is.some few e
+      (high_means bits q x w (widest - length (little_bytes w x)) (little_bytes w x) len (ap (λ k. 256 ^ (widest - k)) (sym len)) small is.zeros refl refl)
+      (λ other are more few m.
+      let h = mul-mod_left (little_number (length other) other) (256 ^ (widest - length other)) in
+      is.least (length other) more few (ap (λ k. k % 256 ^ (widest - length other)) m ∙ h))
 
 -- the bytes of a number at the front of a buffer
 pub low_is : (w x : ℕ) (buffer rest : List ℕ) → buffer ≡ little_bytes w x ++ rest → take w buffer ≡ little_bytes w x

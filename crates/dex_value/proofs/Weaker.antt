@@ -2,7 +2,7 @@
 use Rattle.std.proofs.Common.{ℕ, List, true, false}
 use Rattle.base_bytes.specs.Leb128.{Spells}
 use Rattle.base_bytes.proofs.WeakerLaws.{Implies, Counted-weaker}
-use Rattle.program_types.specs.Content.{Name, OfField, Value, Byte, Short, Char, Int, Long, Float, Double, Named, Enum, Array, Null, Boolean, Values, no_values, more_values}
+use Rattle.program_types.specs.Content.{Name, OfField, Value, Named, Enum, Array, Boolean, Values, no_values, more_values}
 use Rattle.dex_value.specs.Spelling.{Sized, SpellsValue, SpellsValues, SpellsArray, unsigned_of}
 
 sized_weaker : (type widest : ℕ) (M P : List ℕ → Type 0) (all : List ℕ) → ((low : List ℕ) → M low → P low) → Sized type widest M all → Sized type widest P all
@@ -16,16 +16,9 @@ module _ (N M : ℕ → Name → Type 0) (f : (i : ℕ) (which : Name) → N i w
     value_weaker (Array vs) bytes s =
         let b = s.2 in
         (s.0, s.1, record { count = b.count; back = b.back; joined = b.joined; counted = b.counted; means = values_weaker vs b.back b.means })
-    value_weaker (Byte n) bytes s = s
-    value_weaker (Short n) bytes s = s
-    value_weaker (Char n) bytes s = s
-    value_weaker (Int n) bytes s = s
-    value_weaker (Long n) bytes s = s
-    value_weaker (Float n) bytes s = s
-    value_weaker (Double n) bytes s = s
-    value_weaker Null bytes s = s
     value_weaker (Boolean false) bytes s = s
     value_weaker (Boolean true) bytes s = s
+    value_weaker _ bytes s = s
 
     values_weaker : (vs : Values) (bytes : List ℕ) → SpellsValues N bytes vs → SpellsValues M bytes vs
     values_weaker no_values bytes s = s

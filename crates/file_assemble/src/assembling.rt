@@ -6,7 +6,9 @@ ghost use Rattle.file_layout.specs.Plan.{tables_end};
 ghost use Rattle.file_layout.specs.Tiles.{gap, zeros};
 ghost use Rattle.file_limits.specs.Limits.{Fits, IsLowestLimit};
 ghost use Rattle.file_limits.specs.Wide.{wide_rows};
+ghost use Rattle.file_needed.specs.Bodies.{named_in_code};
 ghost use Rattle.tables_names.specs.Needed.{needed};
+ghost use Rattle.tables_names.specs.Noted.{AreRanks};
 ghost use Rattle.program_types.specs.View as view;
 ghost use Rattle.program_rules.specs.WellFormed.{WellFormed};
 ghost use Rattle.file_assemble.specs.Assembled.{Assembled, DataIsLaid, SpellsTables, rows_of};
@@ -48,20 +50,26 @@ fn assemble_in<'a, 'p: 'a>(
     ensures fits { OnOk result (Fits (view.program program.now)) }
     ensures refused { IfErr result (λ e. e ≢ memory → IsLowestLimit (view.program program.now) e) }
 {
-    let ranks = needed_names(alloc, arena, program)?;
-    assemble_named(alloc, &ranks, program)
+    let (ranks, indices) = needed_names(alloc, arena, program)?;
+    assemble_named(alloc, &ranks, &indices, program)
 }
 
-// With the names that it needs.
-fn assemble_named(alloc: Global, ranks: &Ranks<'_>, program: &Program<'_>) -> Result<Vec<u8>, Fault>
+// With the names that it needs, and the indices of what its instructions name.
+fn assemble_named(
+    alloc: Global,
+    ranks: &Ranks<'_>,
+    indices: &[usize],
+    program: &Program<'_>,
+) -> Result<Vec<u8>, Fault>
     requires kept { WellFormed (view.program program.now) }
     requires needed { ranks.now ≡ needed (view.program program.now) }
+    requires indices { AreRanks ranks.now (named_in_code (view.program program.now)) indices.now }
     ensures assembled { IfOk result (λ file. Assembled file.items (needed (view.program program.now)) (view.program program.now)) }
     ensures fits { OnOk result (Fits (view.program program.now)) }
     ensures refused { IfErr result (λ e. e ≢ memory → IsLowestLimit (view.program program.now) e) }
 {
     check_limits(alloc, ranks, program)?;
-    Ok(assemble_ranked(alloc, ranks, program)?)
+    Ok(assemble_ranked(alloc, ranks, indices, program)?)
 }
 
 // How many rows each table has.
@@ -136,11 +144,13 @@ fn put_data(
     alloc: Global,
     out: &mut Vec<u8>,
     ranks: &Ranks<'_>,
+    indices: &[usize],
     program: &Program<'_>,
     counts: Rows,
 ) -> Result<Data, Fault>
     requires kept { WellFormed (view.program program.now) }
     requires needed { ranks.now ≡ needed (view.program program.now) }
+    requires indices { AreRanks ranks.now (named_in_code (view.program program.now)) indices.now }
     requires fits { Fits (view.program program.now) }
     requires counts { counts ≡ rows_of ranks.now (view.program program.now) }
     requires front { length out.old.items ≡ tables_end counts }
@@ -150,7 +160,7 @@ fn put_data(
     let tables = out.len() as u32;
     let lists = put_lists(alloc, out, ranks, program)?;
     let lists_end = out.len() as u32;
-    let codes = put_codes(alloc, out, ranks, program)?;
+    let codes = put_codes(alloc, out, ranks, indices, program)?;
     let codes_end = out.len() as u32;
     let texts = put_strings(alloc, out, ranks)?;
     let texts_end = out.len() as u32;
@@ -208,17 +218,19 @@ fn table_rows(
 fn assemble_ranked(
     alloc: Global,
     ranks: &Ranks<'_>,
+    indices: &[usize],
     program: &Program<'_>,
 ) -> Result<Vec<u8>, Fault>
     requires kept { WellFormed (view.program program.now) }
     requires needed { ranks.now ≡ needed (view.program program.now) }
+    requires indices { AreRanks ranks.now (named_in_code (view.program program.now)) indices.now }
     requires fits { Fits (view.program program.now) }
     ensures assembled { IfOk result (λ file. Assembled file.items ranks.now (view.program program.now)) }
     ensures memory { IsOkUnless result memory }
 {
     let counts = counts_of(ranks, program);
     let mut out = space(alloc, counts.tables_end(), 0)?;
-    let data = put_data(alloc, &mut out, ranks, program, counts)?;
+    let data = put_data(alloc, &mut out, ranks, indices, program, counts)?;
     let rows = table_rows(alloc, ranks, program, &data)?;
     finish(alloc, &mut out, &data.plan, &rows)?;
     Ok(out)

@@ -17,6 +17,7 @@ ghost use Rattle.file_classes.specs.Reading.{IsHead};
 use crate::class_row::{class_count, class_place, class_word};
 use crate::heads::Head;
 use crate::statics::{at_row, head_at};
+use crate::word;
 use dex_base::{Fault, fault};
 use dex_container::Sections;
 use dex_value::check_array;
@@ -64,7 +65,7 @@ fn check_row(
     ensures kept { OnOk result (AreKept (CountsOnce (NameIsAt tables.now) sections.now) kept.new) }
     ensures err { IfErr result (λ e. e ≢ memory → ValuesBreak sections.now i e) }
 {
-    let off = class_word(sections, i, 7);
+    let off = class_word(sections, i, word::STATIC_VALUES_OFF);
     if off == 0 {
         return Ok(());
     }

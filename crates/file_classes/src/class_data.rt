@@ -48,9 +48,7 @@ fn take_number(bytes: &[u8]) -> Option<(u32, &[u8])>
     ensures found { IfSome result (λ x. Takes Spells bytes.now x.0 x.1.now) }
     ensures none { IfNone result (NoneBegins Spells bytes.now) }
 {
-    let Some((number, length)) = read_uleb(bytes) else {
-        return None;
-    };
+    let (number, length) = read_uleb(bytes)?;
     let (_, rest) = bytes.split_at(length);
     Some((number, rest))
 }
@@ -59,12 +57,8 @@ fn take_field(bytes: &[u8]) -> Option<(FieldEntry, &[u8])>
     ensures found { IfSome result (λ x. Takes (SpellsFieldEntry Spells) bytes.now (field_entry x.0) x.1.now) }
     ensures none { IfNone result (NoneBegins (SpellsFieldEntry Spells) bytes.now) }
 {
-    let Some((step, after)) = take_number(bytes) else {
-        return None;
-    };
-    let Some((flags, rest)) = take_number(after) else {
-        return None;
-    };
+    let (step, after) = take_number(bytes)?;
+    let (flags, rest) = take_number(after)?;
     Some((FieldEntry { step, flags }, rest))
 }
 
@@ -72,12 +66,8 @@ fn take_method(bytes: &[u8]) -> Option<(MethodEntry, &[u8])>
     ensures found { IfSome result (λ x. Takes (SpellsMethodEntry Spells) bytes.now (method_entry x.0) x.1.now) }
     ensures none { IfNone result (NoneBegins (SpellsMethodEntry Spells) bytes.now) }
 {
-    let Some((step, after)) = take_number(bytes) else {
-        return None;
-    };
-    let Some((field, rest)) = take_field(after) else {
-        return None;
-    };
+    let (step, after) = take_number(bytes)?;
+    let (field, rest) = take_field(after)?;
     Some((
         MethodEntry {
             step,
@@ -92,12 +82,8 @@ fn take_counts(bytes: &[u8]) -> Option<(Counts, &[u8])>
     ensures found { IfSome result (λ x. Takes (SpellsCounts Spells) bytes.now (counts x.0) x.1.now) }
     ensures none { IfNone result (NoneBegins (SpellsCounts Spells) bytes.now) }
 {
-    let Some((statics, after)) = take_number(bytes) else {
-        return None;
-    };
-    let Some((others, rest)) = take_method(after) else {
-        return None;
-    };
+    let (statics, after) = take_number(bytes)?;
+    let (others, rest) = take_method(after)?;
     Some((
         Counts {
             statics,

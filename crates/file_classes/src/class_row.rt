@@ -12,6 +12,7 @@ ghost use Rattle.file_classes.specs.ClassRows.{class_word, no_index, IndexOrNone
 ghost use Rattle.file_classes.specs.Classes.{RowIs};
 ghost use Rattle.file_classes.specs.ClassFaults.{ClassRowBreaks};
 
+use crate::word;
 use dex_base::{Fault, fault, is_class, u32_at};
 use dex_container::{Sections, kind};
 use program_types::{Desc, Str};
@@ -139,13 +140,21 @@ pub(crate) fn read_row<'a>(
     ensures err { IfErr result (BreaksAt ClassRowBreaks sections.now section.class_defs i) }
 {
     let place = class_place(sections, i);
-    let Some(ty) = type_at(sections, tables, class_word(sections, i, 0)) else {
+    let Some(ty) = type_at(sections, tables, class_word(sections, i, word::CLASS_IDX)) else {
         return Err(Fault::at(fault::CLASS_INDEX, place));
     };
-    let Some(superclass) = type_or_none(sections, tables, class_word(sections, i, 2)) else {
+    let Some(superclass) = type_or_none(
+        sections,
+        tables,
+        class_word(sections, i, word::SUPERCLASS_IDX),
+    ) else {
         return Err(Fault::at(fault::CLASS_INDEX, place));
     };
-    let Some(source) = string_or_none(sections, tables, class_word(sections, i, 4)) else {
+    let Some(source) = string_or_none(
+        sections,
+        tables,
+        class_word(sections, i, word::SOURCE_FILE_IDX),
+    ) else {
         return Err(Fault::at(fault::CLASS_INDEX, place));
     };
     if !is_class_type(ty) {
@@ -154,7 +163,7 @@ pub(crate) fn read_row<'a>(
     if !is_class_or_none(superclass) {
         return Err(Fault::at(fault::CLASS_KIND, place));
     }
-    let flags = class_word(sections, i, 1);
+    let flags = class_word(sections, i, word::ACCESS_FLAGS);
     Ok(Row {
         ty,
         flags,

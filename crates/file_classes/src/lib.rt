@@ -20,6 +20,7 @@ mod members;
 mod order;
 mod owners;
 mod places;
+pub mod word;
 
 // The passes over all rows.
 mod checking;

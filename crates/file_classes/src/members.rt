@@ -17,6 +17,7 @@ ghost use Rattle.file_classes.specs.Reading.{MembersStand, field_entry, method_e
 use crate::class_data::{Entries, FieldEntry, MethodEntry};
 use crate::class_row::{class_place, class_word};
 use crate::owners::is_member_of;
+use crate::word;
 use bumpalo::Bump;
 use bumpalo::collections::into_bump_slice;
 use dex_base::{Fault, fault};
@@ -186,7 +187,7 @@ pub(crate) fn read_members<'a, 's>(
     ensures err { IfErr result (λ e. e ≢ memory → MembersFail sections.now (desc class.entry) (numbers.entries entries.now) (row_place sections.now section.class_defs i) e) }
 {
     let owner = Owner {
-        row: class_word(sections, i, 0),
+        row: class_word(sections, i, word::CLASS_IDX),
         class,
         place: class_place(sections, i),
     };

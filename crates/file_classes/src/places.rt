@@ -7,6 +7,7 @@ ghost use Rattle.file_classes.specs.ClassRows.{NoneDefines, class_idx};
 ghost use Rattle.file_classes.specs.Places.{ArePlaces};
 
 use crate::class_row::{class_count, class_word};
+use crate::word;
 use dex_base::Fault;
 use dex_container::{Sections, kind};
 use std::alloc::Global;
@@ -78,7 +79,7 @@ pub(crate) fn read_places(alloc: Global, sections: &Sections<'_>) -> Result<Plac
     let mut first = zeros(alloc, types)?;
     let mut last = zeros(alloc, types)?;
     for i in 0..count {
-        let ty = class_word(sections, i, 0);
+        let ty = class_word(sections, i, word::CLASS_IDX);
         if ty < types {
             mark(&mut first, &mut last, ty, i);
         }

@@ -15,6 +15,7 @@ ghost use Rattle.file_classes.specs.Reading.{IsHead, AreStatics};
 
 use crate::class_row::{class_count, class_place, class_word};
 use crate::heads::Head;
+use crate::word;
 use bumpalo::Bump;
 use bumpalo::collections::into_bump_slice;
 use dex_base::{Fault, fault};
@@ -87,7 +88,7 @@ fn row_statics<'a>(
     ensures kept { OnOk result (AreKept (λ off values. StandsOnce (NameIsAt tables.now) sections.now off (map value values.now)) kept.new) }
     ensures err { IfErr result (λ e. e ≢ memory → ValuesBreak sections.now i e) }
 {
-    let off = class_word(sections, i, 7);
+    let off = class_word(sections, i, word::STATIC_VALUES_OFF);
     if off == 0 {
         return Ok(Statics { values: &[] });
     }

@@ -1,7 +1,7 @@
 -- Bytes that are written by a plan are framed.
-use Rattle.std.proofs.Common.{◌≡◌, ℕ, zero, suc, ◌+◌, ◌*◌, ◌<◌, ◌≤◌, false, eqb, List, length, get_or, refl, sym, ap, ◌∙◌, subst, arith, inl, inr}
+use Rattle.std.proofs.Common.{◌≡◌, ℕ, zero, suc, ◌+◌, ◌*◌, ◌%◌, ◌<◌, ◌≤◌, false, eqb, List, length, get_or, refl, sym, ap, ◌∙◌, subst, arith, inl, inr}
 use Rattle.std.specs.List.{filter, AllByRecursion}
-use Rattle.dex_container.specs.Layout.{size_of, offset_of, map_place, map_end, entry_count, kind_at, items_at, data_begin, data_end, row_bytes}
+use Rattle.dex_container.specs.Layout.{size_of, offset_of, map_place, map_end, entry_count, kind_at, data_begin, data_end, row_bytes}
 use Rattle.dex_container.specs.Frame.{HeaderHolds, SectionHolds, SectionsHold, MapIsPlaced, MapHolds, IsFramed, IsKind}
 use Rattle.file_layout.specs.declared.plan.Part.{Part}
 use Rattle.file_layout.specs.declared.plan.Plan.{Plan}
@@ -9,8 +9,8 @@ use Rattle.file_layout.specs.Spans.{Span, has_items, no_span, MapNames}
 use Rattle.file_layout.specs.Parts.{SectionReaches, HasPart, IsWrittenKind}
 use Rattle.file_layout.specs.Header.{HasHeader}
 use Rattle.file_layout.specs.Plan.{type_ids_begin, proto_ids_begin, field_ids_begin, method_ids_begin, class_defs_begin, tables_end, table_offset, part_span, spans_of, Follows, IsPlanned, IsWritten}
-use Rattle.file_layout.proofs.Named.{Follow, IsNamed, rank}
-use Rattle.file_layout.proofs.MapLaws.{map_holds, section, Has, all_kept, all_at}
+use Rattle.file_layout.proofs.Named.{Follow, follows, IsNamed, rank, ◌&◌}
+use Rattle.file_layout.proofs.MapLaws.{counted, map_holds, section, Has, all_kept, all_at}
 
 pub placed : (size place : ℕ) → 0 < size → table_offset size place ≡ place
 placed size place h = let z : eqb size 0 ≡ false = grind arith in rw z refl
@@ -25,20 +25,23 @@ data_named b kind items begin end high known low last = record {
   inside = λ _. (low, last);
 }
 
-table_named : (b : List ℕ) (kind items begin end k : ℕ) → kind ≡ k + 1 → k < 6 → items ≡ size_of b k → begin ≡ offset_of b k → end ≡ begin + row_bytes k * items
-    → IsNamed b (record { kind = kind; items = items; begin = begin; end = end })
-table_named b kind items begin end k is lt n o e = record {
+table_named : (b : List ℕ) (kind items begin end k : ℕ) → kind ≡ k + 1 → k < 6 → items ≡ size_of b k → offset_of b k ≡ table_offset items begin → end ≡ begin + row_bytes k * items
+    → 0 < items → IsNamed b (record { kind = kind; items = items; begin = begin; end = end })
+table_named b kind items begin end k is lt n off e some = record {
   known = inl (omega arith);
   header = λ z. absurd (omega arith);
-  table = λ j h q. let same : k ≡ j = omega arith in subst (λ (i : ℕ). (items ≡ size_of b i) × (begin ≡ offset_of b i) × (end ≡ offset_of b i + row_bytes i * size_of b i)) same
+  table = λ j h q.
+      let same : k ≡ j = omega arith in
+      let o = sym (off ∙ placed items begin some) in
+      subst (λ (i : ℕ). (items ≡ size_of b i) × (begin ≡ offset_of b i) × (end ≡ offset_of b i + row_bytes i * size_of b i)) same
       (n, o, e ∙ ap (λ x. x + row_bytes k * items) o ∙ ap (λ x. offset_of b k + row_bytes k * x) n);
   map = λ z. absurd (omega arith);
   inside = λ z. absurd (omega arith);
 }
 
 -- a part with items, after where the data begin
-part_named : (b : List ℕ) (kind at : ℕ) (q : Part) → 0x1001 ≤ kind → IsKind kind → Follows at q → 0 < q.items → data_begin b ≤ at → q.end ≤ data_end b → IsNamed b (part_span kind q)
-part_named b kind at q high known f some low last = let g = f.begins some in data_named b kind q.items q.begin q.end high known (omega (arith, g, low)) last
+part_named : (b : List ℕ) (kind at : ℕ) (q : Part) → 0x1001 ≤ kind → IsKind kind → Follows at q → data_begin b ≤ at → q.end ≤ data_end b → 0 < q.items → IsNamed b (part_span kind q)
+part_named b kind at q high known f low last some = let g = f.begins some in data_named b kind q.items q.begin q.end high known (omega (arith, g, low)) last
 
 -- the tables end at or before the data
 pub planned_low : (p : Plan) → IsPlanned p → tables_end p.rows ≤ p.datas.end
@@ -110,25 +113,19 @@ module _ (b : List ℕ) (p : Plan) (place : ℕ) (w : IsWritten b p place) where
     unlinked = f.link_size;
   }
 
+  -- a table of n rows, which begins here if it has some
+  table_holds : (k n at : ℕ) → size_of b k ≡ n → offset_of b k ≡ table_offset n at → at % 4 ≡ 0 → 112 ≤ at → at + row_bytes k * n ≤ length b → SectionHolds b k
+  table_holds k n at m e aligned after within some =
+      let o = e ∙ placed n at (omega (arith, m, some)) in
+      record { aligned = λ _. rw o aligned; after = omega (arith, o, after); within = rw (m, o) within }
+
   section_holds : (k : ℕ) → k < 7 → SectionHolds b k
-  section_holds zero h some =
-      let f = header_of in let l = low in let n = f.string_ids_size in let o = f.string_ids_off ∙ placed p.rows.strings 112 (omega (arith, n, some)) in
-      record { aligned = λ _. omega (arith, o); after = omega (arith, o); within = omega (arith, o, n, l) }
-  section_holds (suc zero) h some =
-      let f = header_of in let l = low in let n = f.type_ids_size in let o = f.type_ids_off ∙ placed p.rows.types (type_ids_begin p.rows) (omega (arith, n, some)) in
-      record { aligned = λ _. omega (arith, o); after = omega (arith, o); within = omega (arith, o, n, l) }
-  section_holds (suc (suc zero)) h some =
-      let f = header_of in let l = low in let n = f.proto_ids_size in let o = f.proto_ids_off ∙ placed p.rows.protos (proto_ids_begin p.rows) (omega (arith, n, some)) in
-      record { aligned = λ _. omega (arith, o); after = omega (arith, o); within = omega (arith, o, n, l) }
-  section_holds (suc (suc (suc zero))) h some =
-      let f = header_of in let l = low in let n = f.field_ids_size in let o = f.field_ids_off ∙ placed p.rows.fields (field_ids_begin p.rows) (omega (arith, n, some)) in
-      record { aligned = λ _. omega (arith, o); after = omega (arith, o); within = omega (arith, o, n, l) }
-  section_holds (suc (suc (suc (suc zero)))) h some =
-      let f = header_of in let l = low in let n = f.method_ids_size in let o = f.method_ids_off ∙ placed p.rows.methods (method_ids_begin p.rows) (omega (arith, n, some)) in
-      record { aligned = λ _. omega (arith, o); after = omega (arith, o); within = omega (arith, o, n, l) }
-  section_holds (suc (suc (suc (suc (suc zero))))) h some =
-      let f = header_of in let l = low in let n = f.class_defs_size in let o = f.class_defs_off ∙ placed p.rows.classes (class_defs_begin p.rows) (omega (arith, n, some)) in
-      record { aligned = λ _. omega (arith, o); after = omega (arith, o); within = omega (arith, o, n, l) }
+  section_holds zero h some = table_holds 0 p.rows.strings 112 header_of.string_ids_size header_of.string_ids_off (omega arith) (omega arith) (let l = low in omega (arith, l)) some
+  section_holds (suc zero) h some = table_holds 1 p.rows.types (type_ids_begin p.rows) header_of.type_ids_size header_of.type_ids_off (omega arith) (omega arith) (let l = low in omega (arith, l)) some
+  section_holds (suc (suc zero)) h some = table_holds 2 p.rows.protos (proto_ids_begin p.rows) header_of.proto_ids_size header_of.proto_ids_off (omega arith) (omega arith) (let l = low in omega (arith, l)) some
+  section_holds (suc (suc (suc zero))) h some = table_holds 3 p.rows.fields (field_ids_begin p.rows) header_of.field_ids_size header_of.field_ids_off (omega arith) (omega arith) (let l = low in omega (arith, l)) some
+  section_holds (suc (suc (suc (suc zero)))) h some = table_holds 4 p.rows.methods (method_ids_begin p.rows) header_of.method_ids_size header_of.method_ids_off (omega arith) (omega arith) (let l = low in omega (arith, l)) some
+  section_holds (suc (suc (suc (suc (suc zero))))) h some = table_holds 5 p.rows.classes (class_defs_begin p.rows) header_of.class_defs_size header_of.class_defs_off (omega arith) (omega arith) (let l = low in omega (arith, l)) some
   section_holds (suc (suc (suc (suc (suc (suc zero)))))) h some =
       let f = header_of in let l = low in let n = f.data_size in let o = f.data_off in record { aligned = λ q. absurd (omega (arith, q)); after = omega (arith, o); within = omega (arith, o, n, l) }
   section_holds (suc (suc (suc (suc (suc (suc (suc k))))))) h some = absurd (omega arith)
@@ -146,118 +143,50 @@ module _ (b : List ℕ) (p : Plan) (place : ℕ) (w : IsWritten b p place) where
   follow : Follow rank 0 0 spans
   unfolding spans
   follow =
-      let e0 = ends.lists in let e1 = ends.codes in let e2 = ends.strings in let e3 = ends.arrays in let e4 = ends.datas in let e5 = ends.map in let m = w.after in let e6 = ends.last in (
-        omega arith,
-        λ _. (omega arith, omega arith),
-        omega arith,
-        (
-          omega arith,
-          λ h. (omega arith, omega arith),
-          omega arith,
-          (
-            omega arith,
-            λ h. (omega arith, omega arith),
-            omega arith,
-            (
-              omega arith,
-              λ h. (omega arith, omega arith),
-              omega arith,
-              (
-                omega arith,
-                λ h. (omega arith, omega arith),
-                omega arith,
-                (
-                  omega arith,
-                  λ h. (omega arith, omega arith),
-                  omega arith,
-                  (
-                    omega arith,
-                    λ h. (omega arith, omega arith),
-                    omega arith,
-                    (
-                      omega (arith, e0),
-                      λ h. (w.planned.lists.begins h, w.planned.lists.takes h),
-                      omega arith,
-                      (
-                        omega (arith, e1),
-                        λ h. (w.planned.codes.begins h, w.planned.codes.takes h),
-                        omega arith,
-                        (
-                          omega (arith, e2),
-                          λ h. (w.planned.strings.begins h, w.planned.strings.takes h),
-                          omega arith,
-                          (
-                            omega (arith, e3),
-                            λ h. (w.planned.arrays.begins h, w.planned.arrays.takes h),
-                            omega arith,
-                            (
-                              omega (arith, e4),
-                              λ h. (w.planned.datas.begins h, w.planned.datas.takes h),
-                              omega arith,
-                              (omega (arith, e5, m, e6), λ h. (omega (arith, m), omega (arith, e6)), omega arith, tt),
-                            ),
-                          ),
-                        ),
-                      ),
-                    ),
-                  ),
-                ),
-              ),
-            ),
-          ),
-        ),
-      )
+      let e0 = ends.lists in let e1 = ends.codes in let e2 = ends.strings in let e3 = ends.arrays in let e4 = ends.datas in let e5 = ends.map in let m = w.after in let e6 = ends.last in
+      follows 0 0 0 1 0 112 (omega arith) (λ _. (omega arith, omega arith)) (omega arith)
+      (follows 112 1 1 p.rows.strings 112 (type_ids_begin p.rows) (omega arith) (λ h. (omega arith, omega arith)) (omega arith)
+      (follows (type_ids_begin p.rows) 2 2 p.rows.types (type_ids_begin p.rows) (proto_ids_begin p.rows) (omega arith) (λ h. (omega arith, omega arith)) (omega arith)
+      (follows (proto_ids_begin p.rows) 3 3 p.rows.protos (proto_ids_begin p.rows) (field_ids_begin p.rows) (omega arith) (λ h. (omega arith, omega arith)) (omega arith)
+      (follows (field_ids_begin p.rows) 4 4 p.rows.fields (field_ids_begin p.rows) (method_ids_begin p.rows) (omega arith) (λ h. (omega arith, omega arith)) (omega arith)
+      (follows (method_ids_begin p.rows) 5 5 p.rows.methods (method_ids_begin p.rows) (class_defs_begin p.rows) (omega arith) (λ h. (omega arith, omega arith)) (omega arith)
+      (follows (class_defs_begin p.rows) 6 6 p.rows.classes (class_defs_begin p.rows) (tables_end p.rows) (omega arith) (λ h. (omega arith, omega arith)) (omega arith)
+      (follows (tables_end p.rows) 7 0x1001 p.lists.items p.lists.begin p.lists.end (omega (arith, e0)) (λ h. (w.planned.lists.begins h, w.planned.lists.takes h)) (omega arith)
+      (follows p.lists.end 8 0x2001 p.codes.items p.codes.begin p.codes.end (omega (arith, e1)) (λ h. (w.planned.codes.begins h, w.planned.codes.takes h)) (omega arith)
+      (follows p.codes.end 9 0x2002 p.strings.items p.strings.begin p.strings.end (omega (arith, e2)) (λ h. (w.planned.strings.begins h, w.planned.strings.takes h)) (omega arith)
+      (follows p.strings.end 10 0x2005 p.arrays.items p.arrays.begin p.arrays.end (omega (arith, e3)) (λ h. (w.planned.arrays.begins h, w.planned.arrays.takes h)) (omega arith)
+      (follows p.arrays.end 11 0x2000 p.datas.items p.datas.begin p.datas.end (omega (arith, e4)) (λ h. (w.planned.datas.begins h, w.planned.datas.takes h)) (omega arith)
+      (follows p.datas.end 12 0x1000 1 place (length b) (omega (arith, e5, m, e6)) (λ h. (omega (arith, m), omega (arith, e6))) (omega arith) tt))))))))))))
 
   named : AllByRecursion (λ s. 0 < s.items → IsNamed b s) spans
   unfolding spans
   named =
       let f = header_of in let e0 = ends.lists in let e1 = ends.codes in let e2 = ends.strings in let e3 = ends.arrays in let e4 = ends.datas in let e5 = ends.map in let m = w.after in let e6 = ends.last in let we = w.ends in
-      let d = data_end_is in let o6 = f.data_off in (
-        λ _. record { known = inl (omega arith); header = λ _. (refl, refl); table = λ k h e. absurd (omega arith); map = λ e. absurd (omega arith); inside = λ e. absurd (omega arith) },
-        (
-          λ h. table_named b 1 p.rows.strings 112 (type_ids_begin p.rows) 0 (omega arith) (omega arith) (sym f.string_ids_size) (sym (f.string_ids_off ∙ placed p.rows.strings 112 h)) (omega arith),
-          (
-            λ h. table_named b 2 p.rows.types (type_ids_begin p.rows) (proto_ids_begin p.rows) 1 (omega arith) (omega arith) (sym f.type_ids_size) (sym (f.type_ids_off ∙ placed p.rows.types (type_ids_begin p.rows) h)) (omega arith),
-            (
-              λ h. table_named b 3 p.rows.protos (proto_ids_begin p.rows) (field_ids_begin p.rows) 2 (omega arith) (omega arith) (sym f.proto_ids_size) (sym (f.proto_ids_off ∙ placed p.rows.protos (proto_ids_begin p.rows) h)) (omega arith),
-              (
-                λ h. table_named b 4 p.rows.fields (field_ids_begin p.rows) (method_ids_begin p.rows) 3 (omega arith) (omega arith) (sym f.field_ids_size) (sym (f.field_ids_off ∙ placed p.rows.fields (field_ids_begin p.rows) h)) (omega arith),
-                (
-                  λ h. table_named b 5 p.rows.methods (method_ids_begin p.rows) (class_defs_begin p.rows) 4 (omega arith) (omega arith) (sym f.method_ids_size) (sym (f.method_ids_off ∙ placed p.rows.methods (method_ids_begin p.rows) h)) (omega arith),
-                  (
-                    λ h. table_named b 6 p.rows.classes (class_defs_begin p.rows) (tables_end p.rows) 5 (omega arith) (omega arith) (sym f.class_defs_size) (sym (f.class_defs_off ∙ placed p.rows.classes (class_defs_begin p.rows) h)) (omega arith),
-                    (
-                      λ h. part_named b 0x1001 (tables_end p.rows) p.lists (omega arith) (inr (inl (omega arith, omega arith))) w.planned.lists h (omega (arith, o6)) (omega (arith, d, e1, e2, e3, e4, e5)),
-                      (
-                        λ h. part_named b 0x2001 p.lists.end p.codes (omega arith) (inr (inr (inl (omega arith, omega arith)))) w.planned.codes h (omega (arith, o6, e0)) (omega (arith, d, e2, e3, e4, e5)),
-                        (
-                          λ h. part_named b 0x2002 p.codes.end p.strings (omega arith) (inr (inr (inl (omega arith, omega arith)))) w.planned.strings h (omega (arith, o6, e0, e1)) (omega (arith, d, e3, e4, e5)),
-                          (
-                            λ h. part_named b 0x2005 p.strings.end p.arrays (omega arith) (inr (inr (inl (omega arith, omega arith)))) w.planned.arrays h (omega (arith, o6, e0, e1, e2)) (omega (arith, d, e4, e5)),
-                            (
-                              λ h. part_named b 0x2000 p.arrays.end p.datas (omega arith) (inr (inr (inl (omega arith, omega arith)))) w.planned.datas h (omega (arith, o6, e0, e1, e2, e3)) (omega (arith, d, e5)),
-                              (
-                                λ h. record {
-                                  known = inr (inl (omega arith, omega arith));
-                                  header = λ e. absurd (omega arith);
-                                  table = λ k h e. absurd (omega arith);
-                                  map = λ _. (refl, sym f.map_off, map_ends);
-                                  inside = λ _. (omega (arith, o6, e0, e1, e2, e3, e4, m), omega (arith, d));
-                                },
-                                tt,
-                              ),
-                            ),
-                          ),
-                        ),
-                      ),
-                    ),
-                  ),
-                ),
-              ),
-            ),
-          ),
-        ),
-      )
+      let d = data_end_is in let o6 = f.data_off in
+      let head : 0 < 1 → IsNamed b (record { kind = 0; items = 1; begin = 0; end = 112 }) =
+      λ _. record { known = inl (omega arith); header = λ _. (refl, refl); table = λ k h e. absurd (omega arith); map = λ e. absurd (omega arith); inside = λ e. absurd (omega arith) } in
+      let last : 0 < 1 → IsNamed b (record { kind = 0x1000; items = 1; begin = place; end = length b }) =
+      λ _. record {
+        known = inr (inl (omega arith, omega arith));
+        header = λ e. absurd (omega arith);
+        table = λ k h e. absurd (omega arith);
+        map = λ _. (refl, sym f.map_off, map_ends);
+        inside = λ _. (omega (arith, o6, e0, e1, e2, e3, e4, m), omega (arith, d));
+      } in
+      head
+      & table_named b 1 p.rows.strings 112 (type_ids_begin p.rows) 0 (omega arith) (omega arith) (sym f.string_ids_size) f.string_ids_off (omega arith)
+      & table_named b 2 p.rows.types (type_ids_begin p.rows) (proto_ids_begin p.rows) 1 (omega arith) (omega arith) (sym f.type_ids_size) f.type_ids_off (omega arith)
+      & table_named b 3 p.rows.protos (proto_ids_begin p.rows) (field_ids_begin p.rows) 2 (omega arith) (omega arith) (sym f.proto_ids_size) f.proto_ids_off (omega arith)
+      & table_named b 4 p.rows.fields (field_ids_begin p.rows) (method_ids_begin p.rows) 3 (omega arith) (omega arith) (sym f.field_ids_size) f.field_ids_off (omega arith)
+      & table_named b 5 p.rows.methods (method_ids_begin p.rows) (class_defs_begin p.rows) 4 (omega arith) (omega arith) (sym f.method_ids_size) f.method_ids_off (omega arith)
+      & table_named b 6 p.rows.classes (class_defs_begin p.rows) (tables_end p.rows) 5 (omega arith) (omega arith) (sym f.class_defs_size) f.class_defs_off (omega arith)
+      & part_named b 0x1001 (tables_end p.rows) p.lists (omega arith) (inr (inl (omega arith, omega arith))) w.planned.lists (omega (arith, o6)) (omega (arith, d, e1, e2, e3, e4, e5))
+      & part_named b 0x2001 p.lists.end p.codes (omega arith) (inr (inr (inl (omega arith, omega arith)))) w.planned.codes (omega (arith, o6, e0)) (omega (arith, d, e2, e3, e4, e5))
+      & part_named b 0x2002 p.codes.end p.strings (omega arith) (inr (inr (inl (omega arith, omega arith)))) w.planned.strings (omega (arith, o6, e0, e1)) (omega (arith, d, e3, e4, e5))
+      & part_named b 0x2005 p.strings.end p.arrays (omega arith) (inr (inr (inl (omega arith, omega arith)))) w.planned.arrays (omega (arith, o6, e0, e1, e2)) (omega (arith, d, e4, e5))
+      & part_named b 0x2000 p.arrays.end p.datas (omega arith) (inr (inr (inl (omega arith, omega arith)))) w.planned.datas (omega (arith, o6, e0, e1, e2, e3)) (omega (arith, d, e5))
+      & last
+      & tt
     where
       map_ends : length b ≡ map_end b
       map_ends = let f = header_of in let g = f.map_off in let c = w.named.count in let e = w.ends in omega (arith, g, c, e)
@@ -303,79 +232,31 @@ module _ (b : List ℕ) (p : Plan) (place : ℕ) (w : IsWritten b p place) where
   section_of : (s : Span) → Has spans s → 0 < s.items → 0x1000 ≤ s.kind → SectionReaches b s.kind s.begin s.end
   section_of s h some kind = section rank b spans follow named map_is' first_kind s h some kind
 
-  -- the map's counts
-  abbrev Counts : Span → Type 0
-  Counts s = (s.kind ≡ 0x1001 → s.items ≡ p.lists.items) × (s.kind ≡ 0x2001 → s.items ≡ p.codes.items) × (s.kind ≡ 0x2002 → s.items ≡ p.strings.items) × (s.kind ≡ 0x2005 → s.items ≡ p.arrays.items) × (s.kind ≡ 0x2000 → s.items ≡ p.datas.items)
-
-  counts : AllByRecursion (λ s. 0 < s.items → Counts s) spans
-  unfolding spans
-  counts = (
-    λ _. (λ e. absurd (omega arith), λ e. absurd (omega arith), λ e. absurd (omega arith), λ e. absurd (omega arith), λ e. absurd (omega arith)),
-    (
-      λ _. (λ e. absurd (omega arith), λ e. absurd (omega arith), λ e. absurd (omega arith), λ e. absurd (omega arith), λ e. absurd (omega arith)),
-      (
-        λ _. (λ e. absurd (omega arith), λ e. absurd (omega arith), λ e. absurd (omega arith), λ e. absurd (omega arith), λ e. absurd (omega arith)),
-        (
-          λ _. (λ e. absurd (omega arith), λ e. absurd (omega arith), λ e. absurd (omega arith), λ e. absurd (omega arith), λ e. absurd (omega arith)),
-          (
-            λ _. (λ e. absurd (omega arith), λ e. absurd (omega arith), λ e. absurd (omega arith), λ e. absurd (omega arith), λ e. absurd (omega arith)),
-            (
-              λ _. (λ e. absurd (omega arith), λ e. absurd (omega arith), λ e. absurd (omega arith), λ e. absurd (omega arith), λ e. absurd (omega arith)),
-              (
-                λ _. (λ e. absurd (omega arith), λ e. absurd (omega arith), λ e. absurd (omega arith), λ e. absurd (omega arith), λ e. absurd (omega arith)),
-                (
-                  λ _. (λ e. refl, λ e. absurd (omega arith), λ e. absurd (omega arith), λ e. absurd (omega arith), λ e. absurd (omega arith)),
-                  (
-                    λ _. (λ e. absurd (omega arith), λ e. refl, λ e. absurd (omega arith), λ e. absurd (omega arith), λ e. absurd (omega arith)),
-                    (
-                      λ _. (λ e. absurd (omega arith), λ e. absurd (omega arith), λ e. refl, λ e. absurd (omega arith), λ e. absurd (omega arith)),
-                      (
-                        λ _. (λ e. absurd (omega arith), λ e. absurd (omega arith), λ e. absurd (omega arith), λ e. refl, λ e. absurd (omega arith)),
-                        (
-                          λ _. (λ e. absurd (omega arith), λ e. absurd (omega arith), λ e. absurd (omega arith), λ e. absurd (omega arith), λ e. refl),
-                          (λ _. (λ e. absurd (omega arith), λ e. absurd (omega arith), λ e. absurd (omega arith), λ e. absurd (omega arith), λ e. absurd (omega arith)), tt),
-                        ),
-                      ),
-                    ),
-                  ),
-                ),
-              ),
-            ),
-          ),
-        ),
-      ),
-    ),
-  )
-
-  counts_at : (i : ℕ) → i < entry_count b → Counts (record { kind = kind_at b i; items = items_at b i; begin = 0; end = 0 })
-  counts_at i h =
-      let m = map_is' in
-      let c = m.count in
-      let lt : i < length (filter has_items spans) = omega (arith, c, h) in
-      let r = all_at Counts (filter has_items spans) i (all_kept Counts spans counts) lt in
-      let k = m.kinds i lt in
-      let n = m.items i lt in
-      (λ e. n ∙ r.0 (sym k ∙ e), λ e. n ∙ r.1 (sym k ∙ e), λ e. n ∙ r.2 (sym k ∙ e), λ e. n ∙ r.3 (sym k ∙ e), λ e. n ∙ r.4 (sym k ∙ e))
+  part_of : (kind : ℕ) (q : Part) → Has spans (part_span kind q) → 0x1000 ≤ kind → HasPart b kind q
+  part_of kind q h high = record {
+    counted = counted rank b spans follow named map_is' first_kind (part_span kind q) h;
+    stands = λ some. section_of (part_span kind q) h some high;
+  }
 
   pub lists_part : HasPart b 0x1001 p.lists
   unfolding spans
-  lists_part = record { counted = λ i h. (counts_at i h).0; stands = λ some. section_of (part_span 0x1001 p.lists) (inr (inr (inr (inr (inr (inr (inr (inl refl)))))))) some (omega arith) }
+  lists_part = part_of 0x1001 p.lists (inr (inr (inr (inr (inr (inr (inr (inl refl)))))))) (omega arith)
 
   pub codes_part : HasPart b 0x2001 p.codes
   unfolding spans
-  codes_part = record { counted = λ i h. (counts_at i h).1; stands = λ some. section_of (part_span 0x2001 p.codes) (inr (inr (inr (inr (inr (inr (inr (inr (inl refl))))))))) some (omega arith) }
+  codes_part = part_of 0x2001 p.codes (inr (inr (inr (inr (inr (inr (inr (inr (inl refl))))))))) (omega arith)
 
   pub strings_part : HasPart b 0x2002 p.strings
   unfolding spans
-  strings_part = record { counted = λ i h. (counts_at i h).2; stands = λ some. section_of (part_span 0x2002 p.strings) (inr (inr (inr (inr (inr (inr (inr (inr (inr (inl refl)))))))))) some (omega arith) }
+  strings_part = part_of 0x2002 p.strings (inr (inr (inr (inr (inr (inr (inr (inr (inr (inl refl)))))))))) (omega arith)
 
   pub arrays_part : HasPart b 0x2005 p.arrays
   unfolding spans
-  arrays_part = record { counted = λ i h. (counts_at i h).3; stands = λ some. section_of (part_span 0x2005 p.arrays) (inr (inr (inr (inr (inr (inr (inr (inr (inr (inr (inl refl))))))))))) some (omega arith) }
+  arrays_part = part_of 0x2005 p.arrays (inr (inr (inr (inr (inr (inr (inr (inr (inr (inr (inl refl))))))))))) (omega arith)
 
   pub datas_part : HasPart b 0x2000 p.datas
   unfolding spans
-  datas_part = record { counted = λ i h. (counts_at i h).4; stands = λ some. section_of (part_span 0x2000 p.datas) (inr (inr (inr (inr (inr (inr (inr (inr (inr (inr (inr (inl refl)))))))))))) some (omega arith) }
+  datas_part = part_of 0x2000 p.datas (inr (inr (inr (inr (inr (inr (inr (inr (inr (inr (inr (inl refl)))))))))))) (omega arith)
 
   written_kinds : AllByRecursion (λ (s : Span). 0 < s.items → IsWrittenKind s.kind) spans
   unfolding spans

@@ -2,7 +2,7 @@
 use Rattle.std.proofs.Common.{◌≡◌, ℕ, zero, suc, ◌+◌, ◌<◌, ◌≤◌, Bool, true, false, cond, ltb, List, [], ◌∷◌, length, get_or, refl, sym, ap, ◌∙◌, subst, arith, inl, inr, ◌⊎◌}
 use Rattle.std.proofs.lemmas.Bool.{cases_lt}
 use Rattle.std.specs.List.{filter, AllByRecursion}
-use Rattle.dex_container.specs.Layout.{size_of, entry_count, kind_at, place_at, data_end}
+use Rattle.dex_container.specs.Layout.{size_of, entry_count, items_at, kind_at, place_at, data_end}
 use Rattle.dex_container.specs.Frame.{IsKind, EntryHolds, MapIsPlaced, HasKind, MapHolds, end_at}
 use Rattle.file_layout.specs.Parts.{SectionReaches}
 use Rattle.file_layout.specs.Spans.{Span, has_items, no_span, MapNames}
@@ -69,6 +69,29 @@ stays (t ∷ ss) s (inr h) some = elim (ltb 0 t.items) as (λ (u : Bool). Has (c
   | false ↦ stays ss s h some
 ]
 
+-- spans that follow one another have higher ranks, so that those of one kind are one
+rank_low : (rank : ℕ → ℕ) (at n : ℕ) (ss : List Span) (t : Span) → Follow rank at n ss → Has ss t → n ≤ rank t.kind
+rank_low rank at n [] t f h = absurd h
+rank_low rank at n (s ∷ ss) t f (inl e) = subst (λ (x : Span). n ≤ rank x.kind) e f.2
+rank_low rank at n (s ∷ ss) t f (inr h) = let l = rank_low rank s.end (suc (rank s.kind)) ss t f.3 h in let k = f.2 in omega (arith, l, k)
+
+no_twin : (rank : ℕ → ℕ) (at n : ℕ) (s : Span) (ss : List Span) (t u : Span) → Follow rank at n (s ∷ ss) → s ≡ t → Has ss u → t.kind ≡ u.kind → t ≡ u
+no_twin rank at n s ss t u f e h k =
+    let l = rank_low rank s.end (suc (rank s.kind)) ss u f.3 h in
+    let r = ap (λ (x : Span). rank x.kind) e ∙ ap rank k in
+    absurd (omega (arith, l, r))
+
+one_of_kind : (rank : ℕ → ℕ) (at n : ℕ) (ss : List Span) (t u : Span) → Follow rank at n ss → Has ss t → Has ss u → t.kind ≡ u.kind → t ≡ u
+one_of_kind rank at n [] t u f h k e = absurd h
+one_of_kind rank at n (s ∷ ss) t u f (inl h) (inl k) e = sym h ∙ k
+one_of_kind rank at n (s ∷ ss) t u f (inl h) (inr k) e = no_twin rank at n s ss t u f h k e
+one_of_kind rank at n (s ∷ ss) t u f (inr h) (inl k) e = sym (no_twin rank at n s ss u t f k h (sym e))
+one_of_kind rank at n (s ∷ ss) t u f (inr h) (inr k) e = one_of_kind rank s.end (suc (rank s.kind)) ss t u f.3 h k e
+
+all_are_in : (ss all : List Span) → ((s : Span) → Has ss s → Has all s) → AllByRecursion (λ s. 0 < s.items → Has all s) ss
+all_are_in [] all f = tt
+all_are_in (s ∷ ss) all f = (λ _. f s (inl refl), all_are_in ss all (λ t h. f t (inr h)))
+
 pub record IsIn (ss : List Span) (s : Span) : Type 0 where
   pub place : ℕ
   pub within : place < length ss
@@ -80,6 +103,14 @@ is_in (t ∷ ss) s (inl e) = record { place = 0; within = omega arith; same = e 
 is_in (t ∷ ss) s (inr h) = let r = is_in ss s h in let w = r.within in record { place = suc r.place; within = omega (arith, w); same = r.same }
 
 module _ (rank : ℕ → ℕ) (b : List ℕ) (spans : List Span) (follow : Follow rank 0 0 spans) (named : AllByRecursion (λ s. 0 < s.items → IsNamed b s) spans) (is : MapNames b (filter has_items spans)) (first : (get_or (filter has_items spans) 0 no_span).kind ≡ 0) where
+  -- where the next entry begins
+  next : (i : ℕ) → i < length (filter has_items spans) → i + 1 < entry_count b → (get_or (filter has_items spans) i no_span).end ≤ place_at b (i + 1)
+  next i l m =
+      let c = is.count in
+      let l1 : i + 1 < length (filter has_items spans) = omega (arith, c, m) in
+      let o = before rank 0 0 (filter has_items spans) i (i + 1) (kept rank 0 0 spans follow) l1 (omega arith) in
+      let o1 = o.1 in let p = is.places (i + 1) l1 in omega (arith, o1, p)
+
   pub entry : (i : ℕ) → i < entry_count b → EntryHolds b i
   entry i h =
       let ss = filter has_items spans in
@@ -105,15 +136,17 @@ module _ (rank : ℕ → ℕ) (b : List ℕ) (spans : List Span) (follow : Follo
         map = λ e. let r = n.map (sym kind ∙ e) in record { items = items ∙ r.0; place = place ∙ r.1; ends = λ m. let x = next i l m in let r2 = r.2 in omega (arith, x, r2) };
         inside = λ e. let lo : 0x1000 ≤ s.kind = omega (arith, kind, e) in let r = n.inside lo in let r0 = r.0 in let r1 = r.1 in let s1 = some.1 in (omega (arith, r0, place), omega (arith, r1, s1, place));
       } where
-        next : (i : ℕ) → i < length (filter has_items spans) → i + 1 < entry_count b → (get_or (filter has_items spans) i no_span).end ≤ place_at b (i + 1)
-        next i l m =
-            let c = is.count in
-            let l1 : i + 1 < length (filter has_items spans) = omega (arith, c, m) in
-            let o = before rank 0 0 (filter has_items spans) i (i + 1) (kept rank 0 0 spans follow) l1 (omega arith) in
-            let o1 = o.1 in let p = is.places (i + 1) l1 in omega (arith, o1, p)
-
         first_is : (i : ℕ) → i ≡ 0 → i < entry_count b → kind_at b i ≡ 0
         first_is i e h = let c = is.count in rw e (is.kinds 0 (omega (arith, c, h)) ∙ first)
+
+  -- an entry of a span's kind has its items
+  pub counted : (s : Span) → Has spans s → (i : ℕ) → i < entry_count b → kind_at b i ≡ s.kind → items_at b i ≡ s.items
+  counted s h i lt e =
+      let ss = filter has_items spans in
+      let c = is.count in
+      let l : i < length ss = omega (arith, c, lt) in
+      let here = all_at (Has spans) ss i (all_kept (Has spans) spans (all_are_in spans spans (λ t k. k))) l in
+      is.items i l ∙ ap (λ (x : Span). x.items) (one_of_kind rank 0 0 spans (get_or ss i no_span) s follow here h (sym (is.kinds i l) ∙ e))
 
   pub has_kind : (s : Span) → Has spans s → 0 < s.items → HasKind b s.kind
   has_kind s h some =
@@ -145,15 +178,8 @@ module _ (rank : ℕ → ℕ) (b : List ℕ) (spans : List Span) (follow : Follo
         section = record { entry = r.place; in_map = lt; of_data = kind; named = is.kinds r.place r.within ∙ kind_is; begins = sym (is.places r.place r.within ∙ ap (λ (x : Span). x.begin) r.same); ends = refl };
         reaches = reach r.place r.within s.end (omega (arith, i, end_is)) end_is;
       } where
-        next' : (i : ℕ) → i < length (filter has_items spans) → i + 1 < entry_count b → (get_or (filter has_items spans) i no_span).end ≤ place_at b (i + 1)
-        next' i l m =
-            let c = is.count in
-            let l1 : i + 1 < length (filter has_items spans) = omega (arith, c, m) in
-            let o = before rank 0 0 (filter has_items spans) i (i + 1) (kept rank 0 0 spans follow) l1 (omega arith) in
-            let o1 = o.1 in let p = is.places (i + 1) l1 in omega (arith, o1, p)
-
         reach : (i : ℕ) → i < length (filter has_items spans) → (end : ℕ) → end ≤ data_end b → (get_or (filter has_items spans) i no_span).end ≡ end → end ≤ end_at b i
         reach i l end inside is_end = elim (cases_lt (i + 1) (entry_count b)) [
-          | inl m ↦ let x = next' i l m in let on : ltb (i + 1) (entry_count b) ≡ true = grind arith in rw on (omega (arith, x, inside, is_end))
+          | inl m ↦ let x = next i l m in let on : ltb (i + 1) (entry_count b) ≡ true = grind arith in rw on (omega (arith, x, inside, is_end))
           | inr m ↦ let off : ltb (i + 1) (entry_count b) ≡ false = grind arith in rw off inside
         ]

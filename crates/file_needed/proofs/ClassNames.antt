@@ -1,12 +1,12 @@
 -- The names of a class, part by part.
-use Rattle.std.proofs.Common.{◌≡◌, List, [], ◌∷◌, ◌++◌, map, refl, sym, ap, ◌∙◌, subst}
+use Rattle.std.proofs.Common.{◌≡◌, List, [], ◌∷◌, ◌++◌, Option, None, Some, map, refl, sym, ap, ◌∙◌, subst}
 use Rattle.std.specs.List.{AllByRecursion, flat_map}
-use Rattle.file_needed.specs.Bodies.{names_of_body}
+use Rattle.file_needed.specs.Bodies.{names_of_body, named_in_body, caught_in_body, named_in_class, named_in_code, methods_added, names_but_in_code}
 use Rattle.tables_names.specs.Closure.{Five, AreRising, IsClosed, method_of_class, with_names}
 use Rattle.tables_names.proofs.NeededLemmas.{names_append, same_names}
 use Rattle.program_types.specs.Content as content
 use Rattle.program_types.specs.Content.{Name, OfText, OfDesc, values}
-use Rattle.program_types.specs.Mentions.{names_of_value, names_of_values, names_of_class, names_of_method, field_of_class, if_any}
+use Rattle.program_types.specs.Mentions.{names_of_value, names_of_values, names_of_class, names_of_code, names_of_insn, names_of_method, names_of_try, field_of_class, if_any, mentions}
 use Rattle.file_needed.proofs.Steps.{left, right}
 
 pub next : (s a b : Five) (xs ys : List Name) → a ≡ with_names s xs → b ≡ with_names a ys → b ≡ with_names s (xs ++ ys)
@@ -77,22 +77,35 @@ both : (P : Name → Type 0) (xs ys : List Name) → AllByRecursion P xs → All
 both P [] ys a b = b
 both P (x ∷ xs) ys a b = (a.0, both P xs ys a.1 b)
 
-module _ (P : Name → Type 0) (class : content.Descriptor) where
-  pub methods_apart : (ms : List content.Method) → AllByRecursion P (flat_map (names_of_method class) ms) → AllByRecursion P (map (method_of_class class) ms) × AllByRecursion P (flat_map names_of_body ms)
-  methods_apart [] h = (tt, tt)
-  methods_apart (m ∷ ms) h =
-      let rest = methods_apart ms (right P (names_of_body m) (flat_map (names_of_method class) ms) h.1) in
-      ((h.0, rest.0), both P (names_of_body m) (flat_map names_of_body ms) (left P (names_of_body m) (flat_map (names_of_method class) ms) h.1) rest.1)
+module _ (P : Name → Type 0) where
+  body_apart : (m : content.Method) → AllByRecursion P (names_of_body m) → AllByRecursion P (caught_in_body m) × AllByRecursion P (named_in_body m)
+  body_apart m h = code_apart m.code h
+    where
+      code_apart : (o : Option content.Code) → AllByRecursion P (if_any names_of_code o) → AllByRecursion P (if_any (λ c. flat_map names_of_try c.tries) o) × AllByRecursion P (if_any (λ c. flat_map names_of_insn c.insns) o)
+      code_apart None h = (tt, tt)
+      code_apart (Some c) h = (right P (flat_map names_of_insn c.insns) (flat_map names_of_try c.tries) h, left P (flat_map names_of_insn c.insns) (flat_map names_of_try c.tries) h)
 
-  methods_together : (ms : List content.Method) → AllByRecursion P (map (method_of_class class) ms) → AllByRecursion P (flat_map names_of_body ms) → AllByRecursion P (flat_map (names_of_method class) ms)
-  methods_together [] own bodies = tt
-  methods_together (m ∷ ms) own bodies =
-      let rest = methods_together ms own.1 (right P (names_of_body m) (flat_map names_of_body ms) bodies) in
-      (own.0, both P (names_of_body m) (flat_map (names_of_method class) ms) (left P (names_of_body m) (flat_map names_of_body ms) bodies) rest)
+  body_together : (m : content.Method) → AllByRecursion P (caught_in_body m) → AllByRecursion P (named_in_body m) → AllByRecursion P (names_of_body m)
+  body_together m caught named = code_together m.code caught named
+    where
+      code_together : (o : Option content.Code) → AllByRecursion P (if_any (λ c. flat_map names_of_try c.tries) o) → AllByRecursion P (if_any (λ c. flat_map names_of_insn c.insns) o) → AllByRecursion P (if_any names_of_code o)
+      code_together None caught named = tt
+      code_together (Some c) caught named = both P (flat_map names_of_insn c.insns) (flat_map names_of_try c.tries) named caught
 
--- what is added for methods
-abbrev pub methods_added : content.Descriptor → List content.Method → List Name
-methods_added class ms = OfDesc class ∷ map (method_of_class class) ms ++ flat_map names_of_body ms
+  module _ (class : content.Descriptor) where
+    pub methods_apart : (ms : List content.Method) → AllByRecursion P (flat_map (names_of_method class) ms) → AllByRecursion P (map (method_of_class class) ms) × AllByRecursion P (flat_map caught_in_body ms) × AllByRecursion P (flat_map named_in_body ms)
+    methods_apart [] h = (tt, tt, tt)
+    methods_apart (m ∷ ms) h =
+        let rest = methods_apart ms (right P (names_of_body m) (flat_map (names_of_method class) ms) h.1) in
+        let body = body_apart m (left P (names_of_body m) (flat_map (names_of_method class) ms) h.1) in
+        ((h.0, rest.0), both P (caught_in_body m) (flat_map caught_in_body ms) body.0 rest.1, both P (named_in_body m) (flat_map named_in_body ms) body.1 rest.2)
+
+    methods_together : (ms : List content.Method) → AllByRecursion P (map (method_of_class class) ms) → AllByRecursion P (flat_map caught_in_body ms) → AllByRecursion P (flat_map named_in_body ms) → AllByRecursion P (flat_map (names_of_method class) ms)
+    methods_together [] own caught named = tt
+    methods_together (m ∷ ms) own caught named =
+        let rest = methods_together ms own.1 (right P (caught_in_body m) (flat_map caught_in_body ms) caught) (right P (named_in_body m) (flat_map named_in_body ms) named) in
+        let body = body_together m (left P (caught_in_body m) (flat_map caught_in_body ms) caught) (left P (named_in_body m) (flat_map named_in_body ms) named) in
+        (own.0, both P (names_of_body m) (flat_map (names_of_method class) ms) body rest)
 
 abbrev added3 : content.Class → List Name
 added3 c = if_any (λ t. OfDesc t ∷ []) c.superclass ++ map OfDesc c.interfaces ++ if_any (λ t. OfText t ∷ []) c.source
@@ -103,22 +116,24 @@ added5 c = added3 c ++ (OfDesc c.ty ∷ map (field_of_class c.ty) c.statics) ++ 
 abbrev added7 : content.Class → List Name
 added7 c = added5 c ++ (OfDesc c.ty ∷ map (field_of_class c.ty) c.instances) ++ methods_added c.ty c.directs
 
-abbrev added : content.Class → List Name
-added c = added7 c ++ methods_added c.ty c.virtuals
-
 module _ (P : Name → Type 0) (c : content.Class) where
   methods_there : (ms : List content.Method) → P (OfDesc c.ty) → AllByRecursion P (flat_map (names_of_method c.ty) ms) → AllByRecursion P (methods_added c.ty ms)
   methods_there ms here h =
-      let apart = methods_apart P c.ty ms h in both P (OfDesc c.ty ∷ map (method_of_class c.ty) ms) (flat_map names_of_body ms) (here, apart.0) apart.1
+      let apart = methods_apart P c.ty ms h in both P (OfDesc c.ty ∷ map (method_of_class c.ty) ms) (flat_map caught_in_body ms) (here, apart.0) apart.1
 
-  methods_back : (ms : List content.Method) → AllByRecursion P (methods_added c.ty ms) → AllByRecursion P (flat_map (names_of_method c.ty) ms)
-  methods_back ms h =
+  methods_back : (ms : List content.Method) → AllByRecursion P (methods_added c.ty ms) → AllByRecursion P (flat_map named_in_body ms) → AllByRecursion P (flat_map (names_of_method c.ty) ms)
+  methods_back ms h named =
       let own = OfDesc c.ty ∷ map (method_of_class c.ty) ms in
-      methods_together P c.ty ms (left P own (flat_map names_of_body ms) h).1 (right P own (flat_map names_of_body ms) h)
+      methods_together P c.ty ms (left P own (flat_map caught_in_body ms) h).1 (right P own (flat_map caught_in_body ms) h) named
 
-  -- each name of the class is added
-  there : AllByRecursion P (names_of_class c) → AllByRecursion P (added c)
-  there h =
+  -- what the instructions of the class name
+  pub class_named : AllByRecursion P (names_of_class c) → AllByRecursion P (named_in_class c)
+  class_named h =
+      both P (flat_map named_in_body c.directs) (flat_map named_in_body c.virtuals) (methods_apart P c.ty c.directs (directs_kept P c h)).2 (methods_apart P c.ty c.virtuals (virtuals_kept P c h)).2
+
+  -- each other name of the class is added
+  class_there : AllByRecursion P (names_of_class c) → AllByRecursion P (names_but_in_code c)
+  class_there h =
       let types = type_named P c h in
       let h6 = left P (part6 c) (flat_map (names_of_method c.ty) c.directs) (left P (part7 c) (flat_map (names_of_method c.ty) c.virtuals) h) in
       let h5 = left P (part4 c ++ flat_map names_of_value c.values) (map (field_of_class c.ty) c.instances) h6 in
@@ -135,8 +150,10 @@ module _ (P : Name → Type 0) (c : content.Class) where
       both P (added7 c) (methods_added c.ty c.virtuals) a7 (methods_there c.virtuals types.0 (virtuals_kept P c h))
 
   -- and no other
-  back : AllByRecursion P (added c) → AllByRecursion P (names_of_class c)
-  back h =
+  class_back : AllByRecursion P (names_but_in_code c) → AllByRecursion P (named_in_class c) → AllByRecursion P (names_of_class c)
+  class_back h named =
+      let directs_named = left P (flat_map named_in_body c.directs) (flat_map named_in_body c.virtuals) named in
+      let virtuals_named = right P (flat_map named_in_body c.directs) (flat_map named_in_body c.virtuals) named in
       let superclass = if_any (λ t. OfDesc t ∷ []) c.superclass in
       let interfaces = map OfDesc c.interfaces in
       let source = if_any (λ t. OfText t ∷ []) c.source in
@@ -156,15 +173,16 @@ module _ (P : Name → Type 0) (c : content.Class) where
       let n4 = both P (part1 c ++ interfaces ++ source) (map (field_of_class c.ty) c.statics) n3 own.1 in
       let n5 = both P (part4 c) values n4 (right P (added3 c ++ statics) values h5) in
       let n6 = both P (part4 c ++ values) (map (field_of_class c.ty) c.instances) n5 (right P (added5 c) instances h6).1 in
-      let n7 = both P (part6 c) (flat_map (names_of_method c.ty) c.directs) n6 (methods_back c.directs (right P (added5 c ++ instances) (methods_added c.ty c.directs) h7)) in
-      both P (part7 c) (flat_map (names_of_method c.ty) c.virtuals) n7 (methods_back c.virtuals (right P (added7 c) (methods_added c.ty c.virtuals) h))
+      let n7 = both P (part6 c) (flat_map (names_of_method c.ty) c.directs) n6 (methods_back c.directs (right P (added5 c ++ instances) (methods_added c.ty c.directs) h7) directs_named) in
+      both P (part7 c) (flat_map (names_of_method c.ty) c.virtuals) n7 (methods_back c.virtuals (right P (added7 c) (methods_added c.ty c.virtuals) h) virtuals_named)
 
-pub class_names : (s s1 s2 s3 s4 s5 s6 s7 s8 : Five) (c : content.Class) → IsClosed s → AreRising s
+-- a class's names are added part by part
+pub class_names : (s s1 s2 s3 s4 s5 s6 s7 s8 : Five) (c : content.Class)
     → s1 ≡ with_names s (if_any (λ t. OfDesc t ∷ []) c.superclass) → s2 ≡ with_names s1 (map OfDesc c.interfaces)
     → s3 ≡ with_names s2 (if_any (λ t. OfText t ∷ []) c.source) → s4 ≡ with_names s3 (OfDesc c.ty ∷ map (field_of_class c.ty) c.statics) → s5 ≡ with_names s4 (names_of_values (values c.values))
     → s6 ≡ with_names s5 (OfDesc c.ty ∷ map (field_of_class c.ty) c.instances) → s7 ≡ with_names s6 (methods_added c.ty c.directs) → s8 ≡ with_names s7 (methods_added c.ty c.virtuals)
-    → s8 ≡ with_names s (names_of_class c)
-class_names s s1 s2 s3 s4 s5 s6 s7 s8 c closed up e1 e2 e3 e4 e5 e6 e7 e8 =
+    → s8 ≡ with_names s (names_but_in_code c)
+class_names s s1 s2 s3 s4 s5 s6 s7 s8 c e1 e2 e3 e4 e5 e6 e7 e8 =
     let superclass = if_any (λ t. OfDesc t ∷ []) c.superclass in
     let interfaces = map OfDesc c.interfaces in
     let statics = OfDesc c.ty ∷ map (field_of_class c.ty) c.statics in
@@ -176,4 +194,29 @@ class_names s s1 s2 s3 s4 s5 s6 s7 s8 c closed up e1 e2 e3 e4 e5 e6 e7 e8 =
     let p6 = next s s5 s6 (added5 c) instances p5 e6 in
     let p7 = next s s6 s7 (added5 c ++ instances) (methods_added c.ty c.directs) p6 e7 in
     next s s7 s8 (added7 c) (methods_added c.ty c.virtuals) p7 e8
-    ∙ same_names s (added c) (names_of_class c) closed up (λ P. back P c) (λ P. there P c)
+
+-- ---- of all classes: those that instructions name come last
+
+module _ (P : Name → Type 0) where
+  pub code_named : (cs : List content.Class) → AllByRecursion P (flat_map names_of_class cs) → AllByRecursion P (named_in_code cs)
+  code_named [] h = tt
+  code_named (c ∷ cs) h =
+      both P (named_in_class c) (named_in_code cs) (class_named P c (left P (names_of_class c) (flat_map names_of_class cs) h)) (code_named cs (right P (names_of_class c) (flat_map names_of_class cs) h))
+
+  others_there : (cs : List content.Class) → AllByRecursion P (flat_map names_of_class cs) → AllByRecursion P (flat_map names_but_in_code cs)
+  others_there [] h = tt
+  others_there (c ∷ cs) h =
+      both P (names_but_in_code c) (flat_map names_but_in_code cs) (class_there P c (left P (names_of_class c) (flat_map names_of_class cs) h)) (others_there cs (right P (names_of_class c) (flat_map names_of_class cs) h))
+
+  all_back : (cs : List content.Class) → AllByRecursion P (flat_map names_but_in_code cs) → AllByRecursion P (named_in_code cs) → AllByRecursion P (flat_map names_of_class cs)
+  all_back [] h named = tt
+  all_back (c ∷ cs) h named =
+      let own = class_back P c (left P (names_but_in_code c) (flat_map names_but_in_code cs) h) (left P (named_in_class c) (named_in_code cs) named) in
+      both P (names_of_class c) (flat_map names_of_class cs) own (all_back cs (right P (names_but_in_code c) (flat_map names_but_in_code cs) h) (right P (named_in_class c) (named_in_code cs) named))
+
+pub all_names : (s : Five) (cs : List content.Class) (others all : Five) → IsClosed s → AreRising s → others ≡ with_names s (flat_map names_but_in_code cs) → all ≡ with_names others (named_in_code cs) → all ≡ with_names s (mentions cs)
+all_names s cs others all closed up e f =
+    let A = flat_map names_but_in_code cs in
+    let B = named_in_code cs in
+    next s others all A B e f
+    ∙ same_names s (A ++ B) (mentions cs) closed up (λ P h. all_back P cs (left P A B h) (right P A B h)) (λ P h. both P A B (others_there P cs h) (code_named P cs h))

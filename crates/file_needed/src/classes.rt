@@ -1,22 +1,23 @@
 // The names that classes mention.
 // Page: "Dalvik Executable format", "class_def_item", "class_data_item".
-ghost use Rattle.std.specs.Prelude.{◌≡◌, ◌∷◌, ◌++◌, [], map, option_map, IfOk, OnOk, IsOkUnless};
+ghost use Rattle.std.specs.Prelude.{◌≡◌, ◌∷◌, [], map, option_map, IfOk, OnOk, IsOkUnless};
 ghost use Rattle.std.specs.List.{AllByRecursion, flat_map};
 ghost use Rattle.base_bytes.specs.Fault.{memory};
-ghost use Rattle.file_needed.specs.Bodies.{names_of_body};
-ghost use Rattle.tables_names.specs.Closure.{HasShorty, method_of_class, with_names};
+ghost use Rattle.file_needed.specs.Bodies.{AddsNoted, caught_in_body, methods_added, named_in_body, named_in_class, named_in_code, names_but_in_code};
+ghost use Rattle.tables_names.specs.Closure.{HasShorty, with_names};
 ghost use Rattle.tables_names.specs.Needed.{needed};
+ghost use Rattle.tables_names.specs.Noted.{AreRanks};
 ghost use Rattle.program_types.specs.Content.{OfText, OfDesc};
 ghost use Rattle.program_types.specs.Mentions.{if_any, mentions, names_of_class, names_of_method};
 ghost use Rattle.program_types.specs.View as view;
 
-use crate::bodies::add_body;
+use crate::bodies::{add_caught, note_body};
 use crate::values::add_values;
 use bumpalo::Bump;
 use dex_base::Fault;
 use program_types::{Class, Desc, Method, Program, Str};
 use std::alloc::Global;
-use tables_names::{Needed, Ranks};
+use tables_names::{Needed, Noted, Ranks};
 
 // Adds the types, the interfaces of a class.
 fn add_types<'a, 'p: 'a>(needed: &mut Needed<'a>, types: &[Desc<'p>]) -> Result<(), Fault>
@@ -29,23 +30,18 @@ fn add_types<'a, 'p: 'a>(needed: &mut Needed<'a>, types: &[Desc<'p>]) -> Result<
     Ok(())
 }
 
-// Adds the names in the bodies of the methods that a class defines.
-fn add_bodies<'a, 'p: 'a>(
-    needed: &mut Needed<'a>,
-    arena: &'a Bump,
-    methods: &[Method<'p>],
-) -> Result<(), Fault>
-    requires { AllByRecursion HasShorty (flat_map names_of_body (map view.method methods.now)) }
-    ensures added { OnOk result (needed.new ≡ with_names needed.old (flat_map names_of_body (map view.method methods.now))) }
+// Adds the types that the bodies of methods catch.
+fn add_all_caught<'a, 'p: 'a>(needed: &mut Needed<'a>, methods: &[Method<'p>]) -> Result<(), Fault>
+    ensures added { OnOk result (needed.new ≡ with_names needed.old (flat_map caught_in_body (map view.method methods.now))) }
     ensures memory { IsOkUnless result memory }
 {
     for method in methods {
-        add_body(needed, arena, method.code)?;
+        add_caught(needed, method.code)?;
     }
     Ok(())
 }
 
-// Adds the methods that a class defines, and the names in their bodies.
+// Adds the methods that a class defines, and the types that their bodies catch.
 fn add_methods<'a, 'p: 'a>(
     needed: &mut Needed<'a>,
     arena: &'a Bump,
@@ -53,11 +49,11 @@ fn add_methods<'a, 'p: 'a>(
     methods: &[Method<'p>],
 ) -> Result<(), Fault>
     requires { AllByRecursion HasShorty (flat_map (names_of_method (view.desc class)) (map view.method methods.now)) }
-    ensures added { OnOk result (needed.new ≡ with_names needed.old (OfDesc (view.desc class.entry) ∷ map (method_of_class (view.desc class.entry)) (map view.method methods.now) ++ flat_map names_of_body (map view.method methods.now))) }
+    ensures added { OnOk result (needed.new ≡ with_names needed.old (methods_added (view.desc class.entry) (map view.method methods.now))) }
     ensures memory { IsOkUnless result memory }
 {
     needed.add_methods_of(arena, class, methods)?;
-    add_bodies(needed, arena, methods)
+    add_all_caught(needed, methods)
 }
 
 // Adds the superclass of a class, if it has one.
@@ -85,17 +81,16 @@ fn add_source<'a, 'p: 'a>(needed: &mut Needed<'a>, source: Option<Str<'p>>) -> R
     }
 }
 
-// Adds the names that a class mentions.
+// Adds the names that a class mentions, but those that its instructions name.
 fn add_class<'a, 'p: 'a>(
     needed: &mut Needed<'a>,
     arena: &'a Bump,
     class: &Class<'p>,
 ) -> Result<(), Fault>
     requires { AllByRecursion HasShorty (names_of_class (view.class class.now)) }
-    ensures added { OnOk result (needed.new ≡ with_names needed.old (names_of_class (view.class class.now))) }
+    ensures added { OnOk result (needed.new ≡ with_names needed.old (names_but_in_code (view.class class.now))) }
     ensures memory { IsOkUnless result memory }
 {
-    needed.holds_parts();
     add_superclass(needed, class.superclass)?;
     add_types(needed, class.interfaces)?;
     add_source(needed, class.source)?;
@@ -106,34 +101,100 @@ fn add_class<'a, 'p: 'a>(
     add_methods(needed, arena, class.ty, class.virtuals)
 }
 
-/// The names that a program needs, with their ranks. The arena holds the shorties.
+// Adds the names that classes mention, but those that instructions name.
+fn add_classes<'a, 'p: 'a>(
+    needed: &mut Needed<'a>,
+    arena: &'a Bump,
+    classes: &[Class<'p>],
+) -> Result<(), Fault>
+    requires { AllByRecursion HasShorty (flat_map names_of_class (map view.class classes.now)) }
+    ensures added { OnOk result (needed.new ≡ with_names needed.old (flat_map names_but_in_code (map view.class classes.now))) }
+    ensures memory { IsOkUnless result memory }
+{
+    for class in classes {
+        add_class(needed, arena, class)?;
+    }
+    Ok(())
+}
+
+// Notes what the instructions of methods name.
+fn note_bodies<'a, 'p: 'a>(
+    noted: &mut Noted<'a>,
+    arena: &'a Bump,
+    methods: &[Method<'p>],
+) -> Result<(), Fault>
+    requires { AllByRecursion HasShorty (flat_map named_in_body (map view.method methods.now)) }
+    ensures added { OnOk result (AddsNoted noted.old noted.new (flat_map named_in_body (map view.method methods.now))) }
+    ensures memory { IsOkUnless result memory }
+{
+    for method in methods {
+        note_body(noted, arena, method.code)?;
+    }
+    Ok(())
+}
+
+// Notes what the instructions of a class name.
+fn note_class<'a, 'p: 'a>(
+    noted: &mut Noted<'a>,
+    arena: &'a Bump,
+    class: &Class<'p>,
+) -> Result<(), Fault>
+    requires { AllByRecursion HasShorty (named_in_class (view.class class.now)) }
+    ensures added { OnOk result (AddsNoted noted.old noted.new (named_in_class (view.class class.now))) }
+    ensures memory { IsOkUnless result memory }
+{
+    note_bodies(noted, arena, class.directs)?;
+    note_bodies(noted, arena, class.virtuals)
+}
+
+// Notes what the instructions of classes name.
+fn note_classes<'a, 'p: 'a>(
+    noted: &mut Noted<'a>,
+    arena: &'a Bump,
+    classes: &[Class<'p>],
+) -> Result<(), Fault>
+    requires { AllByRecursion HasShorty (named_in_code (map view.class classes.now)) }
+    ensures added { OnOk result (AddsNoted noted.old noted.new (named_in_code (map view.class classes.now))) }
+    ensures memory { IsOkUnless result memory }
+{
+    for class in classes {
+        note_class(noted, arena, class)?;
+    }
+    Ok(())
+}
+
+/// The names that a program needs, with their ranks; and the ranks of what its instructions name, in the order in which its bodies
+/// are written. The arena holds the shorties.
 ///
 /// The types in the prototypes of the methods that it mentions have to be descriptors. It fails only when out of memory.
 pub fn needed_names<'a, 'p: 'a>(
     alloc: Global,
     arena: &'a Bump,
     program: &Program<'p>,
-) -> Result<Ranks<'a>, Fault>
+) -> Result<(Ranks<'a>, Vec<usize>), Fault>
     requires { AllByRecursion HasShorty (mentions (view.program program.now)) }
-    ensures ok { IfOk result (λ r. r ≡ needed (view.program program.now)) }
+    ensures ok { IfOk result (λ r. r.0 ≡ needed (view.program program.now)) }
+    ensures ranks { IfOk result (λ r. AreRanks r.0 (named_in_code (view.program program.now)) r.1.items) }
     ensures memory { IsOkUnless result memory }
 {
     gathered(alloc, arena, program)
 }
 
-// The names of each class, gathered and frozen.
+// The names of each class, gathered and frozen: those in instructions last, since these are noted.
 fn gathered<'a, 'p: 'a>(
     alloc: Global,
     arena: &'a Bump,
     program: &Program<'p>,
-) -> Result<Ranks<'a>, Fault>
+) -> Result<(Ranks<'a>, Vec<usize>), Fault>
     requires { AllByRecursion HasShorty (mentions (view.program program.now)) }
-    ensures ok { IfOk result (λ r. r ≡ needed (view.program program.now)) }
+    ensures ok { IfOk result (λ r. r.0 ≡ needed (view.program program.now)) }
+    ensures ranks { IfOk result (λ r. AreRanks r.0 (named_in_code (view.program program.now)) r.1.items) }
     ensures memory { IsOkUnless result memory }
 {
     let mut names = Needed::new(alloc);
-    for class in program.classes {
-        add_class(&mut names, arena, class)?;
-    }
-    names.freeze()
+    names.holds_parts();
+    add_classes(&mut names, arena, program.classes)?;
+    let mut noted = names.noting();
+    note_classes(&mut noted, arena, program.classes)?;
+    noted.freeze()
 }

@@ -13,3 +13,4 @@ pub mod ApartLaws
 pub mod GrammarOnce
 pub mod EntryOnce
 pub mod DataOnce
+pub mod MentionLaws

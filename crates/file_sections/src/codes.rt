@@ -1,11 +1,14 @@
 // Bodies.
 // Page: "Dalvik Executable format", "code_item".
-ghost use Rattle.std.specs.Prelude.{◌≡◌, ℕ, ◌+◌, ◌<◌, ◌^◌, ◌++◌, List, Option, Some, IfOk, OnOk, IsOkUnless, length, map, option_map, slice_get};
-ghost use Rattle.std.specs.List.{AllByRecursion};
+ghost use Rattle.std.specs.Prelude.{◌≡◌, ℕ, ◌+◌, ◌<◌, ◌≤◌, ◌^◌, ◌++◌, List, Option, Some, IfOk, OnOk, IsOkUnless, length, map, option_map, slice_get};
+ghost use Rattle.std.specs.List.{AllByRecursion, flat_map};
 ghost use Rattle.base_bytes.specs.Fault.{memory};
 ghost use Rattle.file_layout.specs.Sections.{wide_all, Laid};
 ghost use Rattle.file_limits.specs.Wide.{bodies_in, bodies_of, body_values, wide_body};
+ghost use Rattle.file_needed.specs.Bodies.{named_in_body, named_in_code};
+ghost use Rattle.program_types.specs.Mentions.{if_any, names_of_insn};
 ghost use Rattle.tables_names.specs.Closure.{NameRanks};
+ghost use Rattle.tables_names.specs.Noted.{AreRanks};
 ghost use Rattle.program_types.specs.Content as content;
 ghost use Rattle.program_types.specs.View as view;
 ghost use Rattle.file_sections.specs.Codes.{is_bodiless, PacksBody, WritesBody};
@@ -15,21 +18,34 @@ ghost use Rattle.file_shared.specs.Sharing.{Sharing, UsesItem};
 
 use crate::placed::Placed;
 use base_bytes::are_bytes;
-use code_put::make_item;
+use code_put::{make_item, mentions_in};
 use dex_base::Fault;
 use file_shared::Items;
 use program_types::{Code, Method, Program};
 use std::alloc::Global;
 use tables_names::Ranks;
 
+// How many names the instructions of a body have, if there is one.
+fn named_in(body: Option<&Code<'_>>) -> usize
+    ensures { result ≡ length (if_any (λ c. flat_map names_of_insn c.insns) (option_map (λ c. view.code c.now) body.entry)) }
+{
+    match body {
+        Some(code) => mentions_in(code.insns),
+        None => 0,
+    }
+}
+
 // The byte at which a body stands, 4-aligned, to which it is appended unless an equal one stands already; 0 where there is none.
+// What its instructions name has these indices.
 fn add_body(
     alloc: Global,
     out: &mut Vec<u8>,
     items: &mut Items,
     ranks: &Ranks<'_>,
+    indices: &[usize],
     body: Option<&Code<'_>>,
 ) -> Result<u32, Fault>
+    requires indices { AreRanks ranks.now (if_any (λ c. flat_map names_of_insn c.insns) (option_map (λ c. view.code c.now) body)) indices.now }
     requires can { BodyCanBePut ranks.now (option_map (λ c. view.code c.now) body) }
     requires room { length out.old.items + wide_body (option_map (λ c. view.code c.now) body) < 2 ^ 32 }
     ensures ok { IfOk result (UsesItem is_bodiless (WritesBody ranks.now) 4 items.old items.new out.old.items out.new.items (option_map (λ c. view.code c.now) body.entry)) }
@@ -38,46 +54,54 @@ fn add_body(
     match body {
         None => Ok(0),
         Some(code) => {
-            let item = make_item(alloc, ranks, code)?;
+            let item = make_item(alloc, ranks, indices, code)?;
             are_bytes(&item);
             Ok(items.put_aligned(out, item)?)
         }
     }
 }
 
-// The places of the bodies of methods, after others.
-fn put_bodies(
+// The places of the bodies of methods, after others. What they name has the first of these indices; it answers those after them.
+fn put_bodies<'r>(
     alloc: Global,
     out: &mut Vec<u8>,
     items: &mut Items,
     ranks: &Ranks<'_>,
+    indices: &'r [usize],
     methods: &[Method<'_>],
     places: &mut Vec<u32>,
-) -> Result<(), Fault>
+) -> Result<&'r [usize], Fault>
+    requires indices { (more : List content.Name) × AreRanks ranks.now (flat_map named_in_body (map view.method methods.now) ++ more) indices.now }
     requires can { AllByRecursion (BodyCanBePut ranks.now) (bodies_in (map view.method methods.now)) }
     requires room { length out.old.items + wide_all wide_body (bodies_in (map view.method methods.now)) < 2 ^ 32 }
     ensures ok { OnOk result ((old : List ℕ) (done rest all : List (Option content.Code)) → 0 < length old
         → Sharing is_bodiless (PacksBody (NameRanks ranks.now)) (WritesBody ranks.now) 4 wide_body old out.old.items done (bodies_in (map view.method methods.now) ++ rest) all places.old.items items.old
         → Sharing is_bodiless (PacksBody (NameRanks ranks.now)) (WritesBody ranks.now) 4 wide_body old out.new.items (done ++ bodies_in (map view.method methods.now)) rest all places.new.items items.new) }
+    ensures left { IfOk result (λ left. (more : List content.Name) → AreRanks ranks.now (flat_map named_in_body (map view.method methods.now) ++ more) indices.now → AreRanks ranks.now more left.now) }
     ensures memory { IsOkUnless result memory }
 {
+    let mut rest = indices;
     for method in methods {
-        let place = add_body(alloc, out, items, ranks, method.code)?;
+        let (own, others) = rest.split_at(named_in(method.code));
+        let place = add_body(alloc, out, items, ranks, own, method.code)?;
         places.push(place)?;
+        rest = others;
     }
-    Ok(())
+    Ok(rest)
 }
 
 /// Appends the bodies of all methods, each 4-aligned: by class, direct methods, then virtual ones. It answers the place of each
-/// method's body, 0 for a method without one. Equal bodies stand once.
+/// method's body, 0 for a method without one. Equal bodies stand once. What their instructions name has these indices, in this order.
 ///
 /// It fails only when out of memory.
 pub fn put_codes(
     alloc: Global,
     out: &mut Vec<u8>,
     ranks: &Ranks<'_>,
+    indices: &[usize],
     program: &Program<'_>,
 ) -> Result<Placed, Fault>
+    requires indices { AreRanks ranks.now (named_in_code (view.program program.now)) indices.now }
     requires can { (i : ℕ) (c : _) → slice_get (view.program program.now) i ≡ Some c → AllByRecursion (BodyCanBePut ranks.now) (bodies_of c) }
     requires front { 0 < length out.old.items }
     requires room { length out.old.items + wide_all wide_body (body_values (view.program program.now)) < 2 ^ 32 }
@@ -88,9 +112,26 @@ pub fn put_codes(
     ranks.rise();
     let mut items = Items::new(alloc);
     let mut places = Vec::new(alloc);
+    let mut rest = indices;
     for class in program.classes {
-        put_bodies(alloc, out, &mut items, ranks, class.directs, &mut places)?;
-        put_bodies(alloc, out, &mut items, ranks, class.virtuals, &mut places)?;
+        let left = put_bodies(
+            alloc,
+            out,
+            &mut items,
+            ranks,
+            rest,
+            class.directs,
+            &mut places,
+        )?;
+        rest = put_bodies(
+            alloc,
+            out,
+            &mut items,
+            ranks,
+            left,
+            class.virtuals,
+            &mut places,
+        )?;
     }
     Ok(Placed {
         places,

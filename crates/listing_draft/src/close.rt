@@ -31,14 +31,14 @@ fn zero_of<'a>(ty: Desc<'_>) -> Value<'a>
         return Value::Null;
     }
     let first = ty.text.units[0];
-    if first == 90 { return Value::Bool(false); }
-    if first == 66 { return Value::Byte(0); }
-    if first == 83 { return Value::Short(0); }
-    if first == 67 { return Value::Char(0); }
-    if first == 73 { return Value::Int(0); }
-    if first == 74 { return Value::Long(0); }
-    if first == 70 { return Value::Float(0); }
-    if first == 68 { return Value::Double(0); }
+    if first == u16::from(b'Z') { return Value::Bool(false); }
+    if first == u16::from(b'B') { return Value::Byte(0); }
+    if first == u16::from(b'S') { return Value::Short(0); }
+    if first == u16::from(b'C') { return Value::Char(0); }
+    if first == u16::from(b'I') { return Value::Int(0); }
+    if first == u16::from(b'J') { return Value::Long(0); }
+    if first == u16::from(b'F') { return Value::Float(0); }
+    if first == u16::from(b'D') { return Value::Double(0); }
     Value::Null
 }
 

@@ -90,10 +90,7 @@ impl<'a> CodePart<'a> {
     fn is_in_try(&self) -> bool
         ensures { result ≡ is_in_try (code_part self.now) }
     {
-        match self {
-            CodePart::Caught(_) => true,
-            _ => false,
-        }
+        matches!(self, CodePart::Caught(_))
     }
 }
 

@@ -13,26 +13,25 @@ use Rattle.listing_labels.specs.Labels.{is_mark}
 use Rattle.listing_parse.specs.Text.{is_second, begins_mark}
 use Rattle.listing_shapes.proofs.ShapeLaws.{all_at}
 use Rattle.listing_slots.proofs.KeyLaws.{same_true}
+use Rattle.base_bytes.proofs.ListFacts.{by_kind}
 
 -- ---- keywords
 
 pub none_each : (ks : List Key) (text : List ℕ) → None ≡ find_key ks text → AllByRecursion (λ k. same (key_text k) text ≡ false) ks
 unfolding find_key
 none_each [] text e = tt
-none_each (k ∷ ks) text e = by (none_each ks text) (same (key_text k) text) refl
-  where
-    by : (None ≡ find_key ks text → AllByRecursion (λ k. same (key_text k) text ≡ false) ks) → (b : Bool) → same (key_text k) text ≡ b → AllByRecursion (λ k. same (key_text k) text ≡ false) (k ∷ ks)
-    by h true f = let z : None ≡ Some k = rw f at e in absurd cc
-    by h false f = let z : None ≡ find_key ks text = rw f at e in (f, h z)
+none_each (k ∷ ks) text e = elim (by_kind (same (key_text k) text)) [
+  | inl f ↦ let z : None ≡ Some k = rw f at e in absurd cc
+  | inr f ↦ let z : None ≡ find_key ks text = rw f at e in (f, none_each ks text z)
+]
 
 pub found_same : (ks : List Key) (text : List ℕ) (k : Key) → Some k ≡ find_key ks text → same (key_text k) text ≡ true
 unfolding find_key
 found_same [] text k e = absurd cc
-found_same (j ∷ ks) text k e = by (found_same ks text k) (same (key_text j) text) refl
-  where
-    by : (Some k ≡ find_key ks text → same (key_text k) text ≡ true) → (b : Bool) → same (key_text j) text ≡ b → same (key_text k) text ≡ true
-    by h true f = let z : Some k ≡ Some j = rw f at e in let q : j ≡ k = cc in subst (λ (x : Key). same (key_text x) text ≡ true) q f
-    by h false f = let z : Some k ≡ find_key ks text = rw f at e in h z
+found_same (j ∷ ks) text k e = elim (by_kind (same (key_text j) text)) [
+  | inl f ↦ let z : Some k ≡ Some j = rw f at e in let q : j ≡ k = cc in subst (λ (x : Key). same (key_text x) text ≡ true) q f
+  | inr f ↦ let z : Some k ≡ find_key ks text = rw f at e in found_same ks text k z
+]
 
 -- ---- the first line of the second form
 
@@ -49,11 +48,8 @@ one_after (s ∷ []) w (v ∷ (x ∷ ws)) e h = absurd (by (has_form s v) h)
 one_after (s ∷ (r ∷ ss)) w ws e h = absurd cc
 
 second_first : (text : List ℕ) (ws : List Word) → same (codes "dex") text ≡ false → is_second (plain_word text ∷ ws) ≡ false
-second_first text [] e = refl
-second_first text (a ∷ []) e = refl
-second_first text (a ∷ (b ∷ [])) e = refl
 second_first text (a ∷ (b ∷ (c ∷ []))) e = rw e refl
-second_first text (a ∷ (b ∷ (c ∷ (d ∷ ws)))) e = refl
+second_first text _ e = refl
 
 one_slot : (r row : Row) → Some row ≡ Some r → length r.1 ≡ 1 → length row.1 ≡ 1
 one_slot r row e h = let q : r ≡ row = cc in subst (λ (x : Row). length x.1 ≡ 1) q h

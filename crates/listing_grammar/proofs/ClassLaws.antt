@@ -14,7 +14,7 @@ use Rattle.listing_grammar.specs.Runs.{at_line, Runs, with_class, with_classes, 
 use Rattle.listing_grammar.proofs.CodeLaws.{next, again}
 use Rattle.listing_grammar.proofs.HeldLaws.{ArePut, put_are_held, held_are_put}
 use Rattle.listing_grammar.proofs.ValueLaws.{values_one, values_there}
-use Rattle.listing_grammar.proofs.Numbering.{starts, splits, none_said, said_append, length_after, within, after_class}
+use Rattle.listing_grammar.proofs.Numbering.{more_front, front_then, goes, starts, splits, none_said, said_append, length_after, within, after_class}
 use Rattle.listing_grammar.proofs.HeadLaws.{with_heads, heads_read, heads_go}
 use Rattle.listing_grammar.proofs.MemberLaws.{with_members, members_read, members_go}
 
@@ -34,34 +34,37 @@ pub class_read : (s t : State) (n fl : ℕ) (d : Descriptor) (ls : List Numbered
 unfolding add
 class_read s t n fl d ls top fine r =
     let h = heads_read ls s.done s.late (opened d fl) n t tt top (next r.0 (within at_heads s.done s.late (opened d fl) n) ls t r.1.added r.2) in
-    let m = members_read (length h.after) h.after (omega arith) s.done s.late h.final h.line t top fine h.runs in
-    let c = closed (with_members (with_heads (opened d fl) h.final.superclass h.final.interfaces h.final.source) m.final.statics m.final.instances m.final.directs m.final.virtuals) in
-    let e : closed m.final ≡ c = read_class d fl h.final m.final h.same m.same in
-    let none = none_yet d fl h.final h.same in
+    let head = h.behind.final in
+    let m = members_read (length h.front.after) h.front.after (omega arith) s.done s.late head h.behind.line t top fine h.behind.runs in
+    let o = m.behind.final in
+    let c = closed (with_members (with_heads (opened d fl) head.superclass head.interfaces head.source) o.statics o.instances o.directs o.virtuals) in
+    let e : closed o ≡ c = read_class d fl head o h.same m.same in
+    let none = none_yet d fl head h.same in
+    let f = more_front n (open_class d fl) (front_then h.front m.front refl) in
     record {
       class = c;
-      text = (n, open_class d fl) ∷ (h.mine ++ m.mine);
-      after = m.after;
-      split = ap (λ y. (n, open_class d fl) ∷ y) (h.split ∙ ap (λ y. h.mine ++ y) m.split ∙ sym (append_assoc h.mine m.mine m.after));
+      text = f.mine;
+      after = f.after;
+      split = f.split;
       is_text = record {
         heads = h.heads;
         entries = m.entries;
-        lines = ap (λ y. open_class d fl ∷ y) (said_append h.mine m.mine ∙ ap (λ y. y ++ said m.mine) h.says ∙ ap (λ y. h.heads ++ y) m.says);
+        lines = f.says;
         are_heads = h.are_heads;
         superclass = h.superclass;
         interfaces = h.interfaces;
         none_twice = h.none_twice;
         source = h.source;
-        statics = m.final.statics;
-        statics_held = held_from given_key h.final.statics (flat_map static_in m.entries) m.final.statics none.0 m.statics;
+        statics = o.statics;
+        statics_held = held_from given_key head.statics (flat_map static_in m.entries) o.statics none.0 m.statics;
         fields = refl;
-        values = values_there m.final.statics;
-        instances = held_from member_key h.final.instances (flat_map instance_in m.entries) m.final.instances none.1 m.instances;
-        directs = held_from method_key h.final.directs (flat_map direct_in m.entries) m.final.directs none.2 m.directs;
-        virtuals = held_from method_key h.final.virtuals (flat_map virtual_in m.entries) m.final.virtuals none.3 m.virtuals;
+        values = values_there o.statics;
+        instances = held_from member_key head.instances (flat_map instance_in m.entries) o.instances none.1 m.instances;
+        directs = held_from method_key head.directs (flat_map direct_in m.entries) o.directs none.2 m.directs;
+        virtuals = held_from method_key head.virtuals (flat_map virtual_in m.entries) o.virtuals none.3 m.virtuals;
         targets = m.leads;
       };
-      runs = subst (λ x. Runs (with_class s x) m.after t) e (again (after_class s.done s.late m.final m.line) t m.after s.lines m.runs);
+      runs = subst (λ x. Runs (with_class s x) f.after t) e (again (after_class s.done s.late o m.behind.line) t f.after s.lines m.behind.runs);
     }
 
 -- The class, made of its parts.
@@ -86,8 +89,7 @@ class_runs s t c text after x r =
     let g = heads_go x.heads s.done s.late o st.number (sp.back ++ after) t sp.front sp.in_front x.are_heads h x.superclass x.interfaces x.none_twice x.source refl m in
     let g1 = subst (λ ys. Runs (within at_heads s.done s.late o st.number) ys t) (sym (append_assoc sp.front sp.back after)) g in
     let g2 = subst (λ ys. Runs (within at_heads s.done s.late o st.number) (ys ++ after) t) (sym sp.is) g1 in
-    let g3 : Runs (with_block s at_top) ((st.number, open_class c.ty c.flags) ∷ (st.rest ++ after)) t = (within at_heads s.done s.late o st.number, record { stands = refl; added = refl }, g2) in
-    subst (λ ys. Runs (with_block s at_top) (ys ++ after) t) (sym st.is) g3
+    goes (with_block s at_top) (within at_heads s.done s.late o st.number) text after t (open_class c.ty c.flags) (x.heads ++ more) st (record { stands = refl; added = refl }) g2
 
 pub class_goes : (s t : State) (ls : List Numbered) → RunsBehindClass s ls t → Runs (with_block s at_top) ls t
 class_goes s t ls x = subst (λ ys. Runs (with_block s at_top) ys t) (sym x.split) (class_runs s t x.class x.text x.after x.is_text x.runs)

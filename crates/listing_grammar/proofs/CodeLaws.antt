@@ -10,7 +10,7 @@ use Rattle.listing_draft.specs.States.{Open, Owner, Body, OpenTry, at_members, C
 use Rattle.listing_grammar.specs.Codes.{Numbered, said, insn_lines, catch_lines, catch_all_lines, try_lines, inner_lines, code_lines, late_line}
 use Rattle.listing_grammar.specs.Runs.{at_line, Runs, is_outside, after_its_method, with_its_code, RunsBehindCode}
 use Rattle.listing_grammar.proofs.LateLaws.{needs_from, late_is}
-use Rattle.listing_grammar.proofs.Numbering.{none_said, more_split, more_said}
+use Rattle.listing_grammar.proofs.Numbering.{none_said, Front, more_front, Behind}
 
 -- ---- runs
 
@@ -78,8 +78,7 @@ all_there b (in_try t) =
 
 no_more : (p : CodePart) → rest_lines p (rest [] [] None []) ≡ []
 no_more at_insns = refl
-no_more after_try = refl
-no_more (in_try t) = refl
+no_more _ = refl
 
 -- ---- states
 
@@ -92,21 +91,15 @@ ended done late o m c needs n = record { done = done; block = in_class (with_cod
 -- The code's end may stand wherever in it.
 code_goes_on : (p : CodePart) → is_in_code (code_stage p) ≡ true
 code_goes_on at_insns = refl
-code_goes_on after_try = refl
-code_goes_on (in_try t) = refl
+code_goes_on _ = refl
 
 -- ---- what is read is the text of a code
 
 record Read (done : List Class) (late : Option ℕ) (o : Open) (b : Body) (p : CodePart) (ls : List Numbered) (t : State) : Type 0 where
   more : Rest
-  mine : List Numbered
-  after : List Numbered
-  split : ls ≡ mine ++ after
-  says : said mine ≡ rest_lines p more ++ end_code ∷ []
-  code : Code
-  is : code ≡ whole b p more
-  line : ℕ
-  runs : Runs (ended done late o b.owner code (needs_from b.needs mine) line) after t
+  front : Front ls (rest_lines p more ++ end_code ∷ [])
+  behind : Behind (λ (c : Code) (n : ℕ). ended done late o b.owner c (needs_from b.needs front.mine) n) front.after t
+  is : behind.final ≡ whole b p more
 
 still_open : (done : List Class) (late : Option ℕ) (o : Open) (b : Body) (p : CodePart) (n : ℕ) (t : State) → is_outside t.block ≡ true → t ≡ at_line (coding p done late o b n) t.lines → true ≡ false
 still_open done late o b p n t e r = sym e ∙ ap (λ (x : State). is_outside x.block) r
@@ -116,58 +109,18 @@ unfolding add inside
 read_back [] done late o b p k t e r = let h = still_open done late o b p k t e r in absurd cc
 read_back ((n, end_code) ∷ ls) done late o b p k t e r = record {
   more = rest [] [] None [];
-  mine = (n, end_code) ∷ [];
-  after = ls;
-  split = refl;
-  says = ap (λ y. y ++ end_code ∷ []) (sym (no_more p));
-  code = whole_code (with_tries b p None);
+  front = record { mine = (n, end_code) ∷ []; after = ls; split = refl; says = ap (λ y. y ++ end_code ∷ []) (sym (no_more p)) };
+  behind = record { final = whole_code (with_tries b p None); line = n; runs = next r.0 (ended done late o b.owner (whole_code (with_tries b p None)) b.needs n) ls t r.1.added r.2 };
   is = all_there b p;
-  line = n;
-  runs = next r.0 (ended done late o b.owner (whole_code (with_tries b p None)) b.needs n) ls t r.1.added r.2;
 }
 read_back ((n, insn_line i) ∷ ls) done late o b at_insns k t e r =
     let c = with_insn (noted b n (insn_line i)) i in
     let x = read_back ls done late o c at_insns n t e (next r.0 (coding at_insns done late o c n) ls t r.1.added r.2) in
     record {
       more = rest (i ∷ x.more.insns) x.more.catches x.more.all x.more.tries;
-      mine = (n, insn_line i) ∷ x.mine;
-      after = x.after;
-      split = more_split (n, insn_line i) ls x.mine x.after x.split;
-      says = more_said n (insn_line i) x.mine _ x.says;
-      code = x.code;
+      front = more_front n (insn_line i) x.front;
+      behind = x.behind;
       is = x.is ∙ insn_first b i x.more.insns (b.tries ++ x.more.tries);
-      line = x.line;
-      runs = x.runs;
-    }
-read_back ((n, try_line from to) ∷ ls) done late o b at_insns k t e r =
-    let c = with_tries (noted b n (try_line from to)) at_insns None in
-    let q : CodePart = in_try (record { from = from; to = to; catches = [] }) in
-    let x = read_back ls done late o c q n t e (next r.0 (coding q done late o c n) ls t r.1.added r.2) in
-    record {
-      more = rest [] [] None (record { from = from; to = to; catches = x.more.catches; catch_all = x.more.all } ∷ x.more.tries);
-      mine = (n, try_line from to) ∷ x.mine;
-      after = x.after;
-      split = more_split (n, try_line from to) ls x.mine x.after x.split;
-      says = more_said n (try_line from to) x.mine _ x.says;
-      code = x.code;
-      is = x.is;
-      line = x.line;
-      runs = x.runs;
-    }
-read_back ((n, try_line from to) ∷ ls) done late o b after_try k t e r =
-    let c = with_tries (noted b n (try_line from to)) after_try None in
-    let q : CodePart = in_try (record { from = from; to = to; catches = [] }) in
-    let x = read_back ls done late o c q n t e (next r.0 (coding q done late o c n) ls t r.1.added r.2) in
-    record {
-      more = rest [] [] None (record { from = from; to = to; catches = x.more.catches; catch_all = x.more.all } ∷ x.more.tries);
-      mine = (n, try_line from to) ∷ x.mine;
-      after = x.after;
-      split = more_split (n, try_line from to) ls x.mine x.after x.split;
-      says = more_said n (try_line from to) x.mine _ x.says;
-      code = x.code;
-      is = x.is;
-      line = x.line;
-      runs = x.runs;
     }
 read_back ((n, try_line from to) ∷ ls) done late o b (in_try f) k t e r =
     let c = with_tries (noted b n (try_line from to)) (in_try f) None in
@@ -176,14 +129,19 @@ read_back ((n, try_line from to) ∷ ls) done late o b (in_try f) k t e r =
     let g : Try = record { from = from; to = to; catches = x.more.catches; catch_all = x.more.all } in
     record {
       more = rest [] [] None (g ∷ x.more.tries);
-      mine = (n, try_line from to) ∷ x.mine;
-      after = x.after;
-      split = more_split (n, try_line from to) ls x.mine x.after x.split;
-      says = more_said n (try_line from to) x.mine _ x.says;
-      code = x.code;
+      front = more_front n (try_line from to) x.front;
+      behind = x.behind;
       is = x.is ∙ try_closed b (b.insns ++ []) f None (g ∷ x.more.tries);
-      line = x.line;
-      runs = x.runs;
+    }
+read_back ((n, try_line from to) ∷ ls) done late o b p k t e r =
+    let c = with_tries (noted b n (try_line from to)) p None in
+    let q : CodePart = in_try (record { from = from; to = to; catches = [] }) in
+    let x = read_back ls done late o c q n t e (next r.0 (coding q done late o c n) ls t r.1.added r.2) in
+    record {
+      more = rest [] [] None (record { from = from; to = to; catches = x.more.catches; catch_all = x.more.all } ∷ x.more.tries);
+      front = more_front n (try_line from to) x.front;
+      behind = x.behind;
+      is = x.is;
     }
 read_back ((n, catch_line d h) ∷ ls) done late o b (in_try f) k t e r =
     let c = noted b n (catch_line d h) in
@@ -192,32 +150,21 @@ read_back ((n, catch_line d h) ∷ ls) done late o b (in_try f) k t e r =
     let x = read_back ls done late o c q n t e (next r.0 (coding q done late o c n) ls t r.1.added r.2) in
     record {
       more = rest [] (a ∷ x.more.catches) x.more.all x.more.tries;
-      mine = (n, catch_line d h) ∷ x.mine;
-      after = x.after;
-      split = more_split (n, catch_line d h) ls x.mine x.after x.split;
-      says = more_said n (catch_line d h) x.mine _ x.says;
-      code = x.code;
+      front = more_front n (catch_line d h) x.front;
+      behind = x.behind;
       is = x.is ∙ catch_first b (b.insns ++ []) f a x.more.catches x.more.all x.more.tries;
-      line = x.line;
-      runs = x.runs;
     }
 read_back ((n, catch_all_line h) ∷ ls) done late o b (in_try f) k t e r =
     let c = with_tries (noted b n (catch_all_line h)) (in_try f) (Some h) in
     let x = read_back ls done late o c after_try n t e (next r.0 (coding after_try done late o c n) ls t r.1.added r.2) in
     record {
       more = rest [] [] (Some h) x.more.tries;
-      mine = (n, catch_all_line h) ∷ x.mine;
-      after = x.after;
-      split = more_split (n, catch_all_line h) ls x.mine x.after x.split;
-      says = more_said n (catch_all_line h) x.mine _ x.says;
-      code = x.code;
+      front = more_front n (catch_all_line h) x.front;
+      behind = x.behind;
       is = x.is ∙ try_closed b (b.insns ++ []) f (Some h) x.more.tries;
-      line = x.line;
-      runs = x.runs;
     }
 read_back ((n, l) ∷ ls) done late o b at_insns k t e r = let h = r.1.stands in absurd cc
-read_back ((n, l) ∷ ls) done late o b after_try k t e r = let h = r.1.stands in absurd cc
-read_back ((n, l) ∷ ls) done late o b (in_try f) k t e r = let h = r.1.stands in absurd cc
+read_back ((n, l) ∷ ls) done late o b _ k t e r = let h = r.1.stands in absurd cc
 
 late_there : (c n : ℕ) (l : Line) (r i u : ℕ) (ls : List Numbered) → l ≡ open_code r i u → first_late c (needs_from [] ls) ≡ late_line c ((n, l) ∷ ls)
 unfolding first_late
@@ -228,14 +175,15 @@ unfolding add
 code_read s t o m n r i u ls e h =
     let b = begun m r i u in
     let x = read_back ls s.done s.late o b at_insns n t e (next h.0 (coding at_insns s.done s.late o b n) ls t h.1.added h.2) in
-    let with_code = λ (late : Option ℕ). with_its_code s o m x.code late in
+    let code = x.behind.final in
+    let f = more_front n (open_code r i u) x.front in
     record {
-      code = x.code;
-      text = (n, open_code r i u) ∷ x.mine;
-      after = x.after;
-      split = more_split (n, open_code r i u) ls x.mine x.after x.split;
-      is_text = ap (λ y. open_code r i u ∷ y) x.says ∙ ap code_lines (sym x.is);
-      runs = subst (λ late. Runs (with_code late) x.after t) (late_there (length x.code.insns) n (open_code r i u) r i u x.mine refl) (again (ended s.done s.late o m x.code (needs_from [] x.mine) x.line) t x.after s.lines x.runs);
+      code = code;
+      text = f.mine;
+      after = f.after;
+      split = f.split;
+      is_text = f.says ∙ ap code_lines (sym x.is);
+      runs = subst (λ late. Runs (with_its_code s o m code late) f.after t) (late_there (length code.insns) n (open_code r i u) r i u x.front.mine refl) (again (ended s.done s.late o m code (needs_from [] x.front.mine) x.behind.line) t f.after s.lines x.behind.runs);
     }
 
 -- ---- the text of a code is read
@@ -264,61 +212,37 @@ go [] p is cs all ts done late o b k after t m e c q r = absurd (never_empty (re
 go ((n, l) ∷ ls) at_insns (i ∷ is) cs all ts done late o b k after t m e c q r =
     let x = insn_line i in
     let el : x ≡ l = cc in
-    let et : said ls ≡ rest_lines at_insns (rest is cs all ts) ++ end_code ∷ [] = cc in
     let d = with_insn (noted b n x) i in
-    let f = go ls at_insns is cs all ts done late o d n after t m et c (q ∙ sym (insn_first b i is (b.tries ++ ts))) in
+    let f = go ls at_insns is cs all ts done late o d n after t m (cc) c (q ∙ sym (insn_first b i is (b.tries ++ ts))) in
     subst (λ y. Runs (ended done late o b.owner c (needs_from b.needs ((n, y) ∷ ls)) m) after t → Runs (coding at_insns done late o b k) ((n, y) ∷ (ls ++ after)) t) el (λ h. (coding at_insns done late o d n, record { stands = refl; added = refl }, f h)) r
-go ((n, l) ∷ ls) at_insns [] cs all (a ∷ ts) done late o b k after t m e c q r =
-    let x = try_line a.from a.to in
-    let p : CodePart = in_try (record { from = a.from; to = a.to; catches = [] }) in
-    let el : x ≡ l = cc in
-    let et : said ls ≡ rest_lines p (rest [] a.catches a.catch_all ts) ++ end_code ∷ [] = cc in
-    let d = with_tries (noted b n x) at_insns None in
-    let f = go ls p [] a.catches a.catch_all ts done late o d n after t m et c q in
-    subst (λ y. Runs (ended done late o b.owner c (needs_from b.needs ((n, y) ∷ ls)) m) after t → Runs (coding at_insns done late o b k) ((n, y) ∷ (ls ++ after)) t) el (λ h. (coding p done late o d n, record { stands = refl; added = refl }, f h)) r
-go ((n, l) ∷ ls) at_insns [] cs all [] done late o b k after t m e c q r =
-    let el : l ≡ end_code = cc in
-    let et : said ls ≡ [] = cc in
-    end_goes at_insns n l ls done late o b k after t m el et c q r
-go ((n, l) ∷ ls) after_try is cs all (a ∷ ts) done late o b k after t m e c q r =
-    let x = try_line a.from a.to in
-    let p : CodePart = in_try (record { from = a.from; to = a.to; catches = [] }) in
-    let el : x ≡ l = cc in
-    let et : said ls ≡ rest_lines p (rest [] a.catches a.catch_all ts) ++ end_code ∷ [] = cc in
-    let d = with_tries (noted b n x) after_try None in
-    let f = go ls p [] a.catches a.catch_all ts done late o d n after t m et c q in
-    subst (λ y. Runs (ended done late o b.owner c (needs_from b.needs ((n, y) ∷ ls)) m) after t → Runs (coding after_try done late o b k) ((n, y) ∷ (ls ++ after)) t) el (λ h. (coding p done late o d n, record { stands = refl; added = refl }, f h)) r
-go ((n, l) ∷ ls) after_try is cs all [] done late o b k after t m e c q r =
-    let el : l ≡ end_code = cc in
-    let et : said ls ≡ [] = cc in
-    end_goes after_try n l ls done late o b k after t m el et c q r
 go ((n, l) ∷ ls) (in_try w) is (a ∷ cs) all ts done late o b k after t m e c q r =
     let x = catch_line a.ty a.at in
     let p : CodePart = in_try (record w { catches = w.catches ++ a ∷ [] }) in
     let el : x ≡ l = cc in
-    let et : said ls ≡ rest_lines p (rest [] cs all ts) ++ end_code ∷ [] = cc in
     let d = noted b n x in
-    let f = go ls p [] cs all ts done late o d n after t m et c (q ∙ sym (catch_first b (b.insns ++ []) w a cs all ts)) in
+    let f = go ls p [] cs all ts done late o d n after t m (cc) c (q ∙ sym (catch_first b (b.insns ++ []) w a cs all ts)) in
     subst (λ y. Runs (ended done late o b.owner c (needs_from b.needs ((n, y) ∷ ls)) m) after t → Runs (coding (in_try w) done late o b k) ((n, y) ∷ (ls ++ after)) t) el (λ h. (coding p done late o d n, record { stands = refl; added = refl }, f h)) r
 go ((n, l) ∷ ls) (in_try w) is [] (Some a) ts done late o b k after t m e c q r =
     let x = catch_all_line a in
     let el : x ≡ l = cc in
-    let et : said ls ≡ rest_lines after_try (rest [] [] None ts) ++ end_code ∷ [] = cc in
     let d = with_tries (noted b n x) (in_try w) (Some a) in
-    let f = go ls after_try [] [] None ts done late o d n after t m et c (q ∙ sym (try_closed b (b.insns ++ []) w (Some a) ts)) in
+    let f = go ls after_try [] [] None ts done late o d n after t m (cc) c (q ∙ sym (try_closed b (b.insns ++ []) w (Some a) ts)) in
     subst (λ y. Runs (ended done late o b.owner c (needs_from b.needs ((n, y) ∷ ls)) m) after t → Runs (coding (in_try w) done late o b k) ((n, y) ∷ (ls ++ after)) t) el (λ h. (coding after_try done late o d n, record { stands = refl; added = refl }, f h)) r
 go ((n, l) ∷ ls) (in_try w) is [] None (a ∷ ts) done late o b k after t m e c q r =
     let x = try_line a.from a.to in
     let p : CodePart = in_try (record { from = a.from; to = a.to; catches = [] }) in
     let el : x ≡ l = cc in
-    let et : said ls ≡ rest_lines p (rest [] a.catches a.catch_all ts) ++ end_code ∷ [] = cc in
     let d = with_tries (noted b n x) (in_try w) None in
-    let f = go ls p [] a.catches a.catch_all ts done late o d n after t m et c (q ∙ sym (try_closed b (b.insns ++ []) w None (a ∷ ts))) in
+    let f = go ls p [] a.catches a.catch_all ts done late o d n after t m (cc) c (q ∙ sym (try_closed b (b.insns ++ []) w None (a ∷ ts))) in
     subst (λ y. Runs (ended done late o b.owner c (needs_from b.needs ((n, y) ∷ ls)) m) after t → Runs (coding (in_try w) done late o b k) ((n, y) ∷ (ls ++ after)) t) el (λ h. (coding p done late o d n, record { stands = refl; added = refl }, f h)) r
-go ((n, l) ∷ ls) (in_try w) is [] None [] done late o b k after t m e c q r =
-    let el : l ≡ end_code = cc in
-    let et : said ls ≡ [] = cc in
-    end_goes (in_try w) n l ls done late o b k after t m el et c q r
+go ((n, l) ∷ ls) p is cs all (a ∷ ts) done late o b k after t m e c q r =
+    let x = try_line a.from a.to in
+    let v : CodePart = in_try (record { from = a.from; to = a.to; catches = [] }) in
+    let el : x ≡ l = cc in
+    let d = with_tries (noted b n x) p None in
+    let f = go ls v [] a.catches a.catch_all ts done late o d n after t m (cc) c q in
+    subst (λ y. Runs (ended done late o b.owner c (needs_from b.needs ((n, y) ∷ ls)) m) after t → Runs (coding p done late o b k) ((n, y) ∷ (ls ++ after)) t) el (λ h. (coding v done late o d n, record { stands = refl; added = refl }, f h)) r
+go ((n, l) ∷ ls) p is cs all [] done late o b k after t m e c q r = end_goes p n l ls done late o b k after t m (cc) (cc) c q r
 
 -- From `code` on.
 code_on : (s t : State) (o : Open) (m : Owner) (n : ℕ) (c : Code) (text after : List Numbered) → said text ≡ inner_lines c ++ end_code ∷ [] → Runs (with_its_code s o m c (late_line (length c.insns) ((n, open_code c.registers c.ins c.outs) ∷ text))) after t

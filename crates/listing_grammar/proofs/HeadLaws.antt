@@ -11,7 +11,7 @@ use Rattle.listing_grammar.specs.Codes.{Numbered, said}
 use Rattle.listing_grammar.specs.Classes.{is_head, superclass_in, interface_in, source_in, at_most_one, NoneTwice}
 use Rattle.listing_grammar.specs.Runs.{at_line, Runs}
 use Rattle.listing_grammar.proofs.HeldLaws.{first_false, second_false}
-use Rattle.listing_grammar.proofs.Numbering.{more_split, more_said, starts, none_said, within, class_open}
+use Rattle.listing_grammar.proofs.Numbering.{Front, more_front, Behind, goes, starts, none_said, within, class_open}
 
 -- ---- types that are the same
 
@@ -92,19 +92,14 @@ with_heads o d is us = record o { superclass = d; interfaces = is; source = us }
 
 pub record HeadsRead (done : List Class) (late : Option ℕ) (o : Open) (ls : List Numbered) (t : State) : Type 0 where
   pub heads : List Line
-  pub mine : List Numbered
-  pub after : List Numbered
-  pub split : ls ≡ mine ++ after
-  pub says : said mine ≡ heads
+  pub front : Front ls heads
   pub are_heads : list_all is_head heads ≡ true
-  pub final : Open
-  pub superclass : at_most_one o.superclass ++ flat_map superclass_in heads ≡ at_most_one final.superclass
-  pub interfaces : o.interfaces ++ flat_map interface_in heads ≡ final.interfaces
-  pub none_twice : NoneTwice final.interfaces
-  pub source : at_most_one o.source ++ flat_map source_in heads ≡ at_most_one final.source
-  pub same : final ≡ with_heads o final.superclass final.interfaces final.source
-  pub line : ℕ
-  pub runs : Runs (within at_members done late final line) after t
+  pub behind : Behind (within at_members done late) front.after t
+  pub superclass : at_most_one o.superclass ++ flat_map superclass_in heads ≡ at_most_one behind.final.superclass
+  pub interfaces : o.interfaces ++ flat_map interface_in heads ≡ behind.final.interfaces
+  pub none_twice : NoneTwice behind.final.interfaces
+  pub source : at_most_one o.source ++ flat_map source_in heads ≡ at_most_one behind.final.source
+  pub same : behind.final ≡ with_heads o behind.final.superclass behind.final.interfaces behind.final.source
 
 pub heads_read : (ls : List Numbered) (done : List Class) (late : Option ℕ) (o : Open) (k : ℕ) (t : State) → NoneTwice o.interfaces → t.block ≡ at_top → Runs (within at_heads done late o k) ls t → HeadsRead done late o ls t
 unfolding add inside
@@ -114,82 +109,61 @@ heads_read ((n, super_line d) ∷ ls) done late o k t i top r =
     let y = heads_read ls done late (record o { superclass = Some d }) n t i top (subst (λ u. Runs u ls t) (sym p.1) r.2) in
     record {
       heads = super_line d ∷ y.heads;
-      mine = (n, super_line d) ∷ y.mine;
-      after = y.after;
-      split = more_split (n, super_line d) ls y.mine y.after y.split;
-      says = more_said n (super_line d) y.mine _ y.says;
+      front = more_front n (super_line d) y.front;
       are_heads = y.are_heads;
-      final = y.final;
+      behind = y.behind;
       superclass = ap (λ x. at_most_one x ++ (d ∷ flat_map superclass_in y.heads)) p.0 ∙ y.superclass;
       interfaces = y.interfaces;
       none_twice = y.none_twice;
       source = y.source;
       same = y.same;
-      line = y.line;
-      runs = y.runs;
     }
 heads_read ((n, implements_line d) ∷ ls) done late o k t i top r =
     let p = interface_step (at_line (within at_heads done late o k) n) r.0 o d (is_among o.interfaces d) refl r.1.added in
     let y = heads_read ls done late (record o { interfaces = o.interfaces ++ d ∷ [] }) n t (distinct_more o.interfaces d i p.0) top (subst (λ u. Runs u ls t) (sym p.1) r.2) in
     record {
       heads = implements_line d ∷ y.heads;
-      mine = (n, implements_line d) ∷ y.mine;
-      after = y.after;
-      split = more_split (n, implements_line d) ls y.mine y.after y.split;
-      says = more_said n (implements_line d) y.mine _ y.says;
+      front = more_front n (implements_line d) y.front;
       are_heads = y.are_heads;
-      final = y.final;
+      behind = y.behind;
       superclass = y.superclass;
       interfaces = sym (append_assoc o.interfaces (d ∷ []) (flat_map interface_in y.heads)) ∙ y.interfaces;
       none_twice = y.none_twice;
       source = y.source;
       same = y.same;
-      line = y.line;
-      runs = y.runs;
     }
 heads_read ((n, source_line us) ∷ ls) done late o k t i top r =
     let p = source_step (at_line (within at_heads done late o k) n) r.0 o us o.source refl r.1.added in
     let y = heads_read ls done late (record o { source = Some us }) n t i top (subst (λ u. Runs u ls t) (sym p.1) r.2) in
     record {
       heads = source_line us ∷ y.heads;
-      mine = (n, source_line us) ∷ y.mine;
-      after = y.after;
-      split = more_split (n, source_line us) ls y.mine y.after y.split;
-      says = more_said n (source_line us) y.mine _ y.says;
+      front = more_front n (source_line us) y.front;
       are_heads = y.are_heads;
-      final = y.final;
+      behind = y.behind;
       superclass = y.superclass;
       interfaces = y.interfaces;
       none_twice = y.none_twice;
       source = ap (λ x. at_most_one x ++ (us ∷ flat_map source_in y.heads)) p.0 ∙ y.source;
       same = y.same;
-      line = y.line;
-      runs = y.runs;
     }
 heads_read ((n, l) ∷ ls) done late o k t i top r = record {
   heads = [];
-  mine = [];
-  after = (n, l) ∷ ls;
-  split = refl;
-  says = refl;
+  front = record { mine = []; after = (n, l) ∷ ls; split = refl; says = refl };
   are_heads = refl;
-  final = o;
+  behind = record { final = o; line = k; runs = (r.0, record { stands = r.1.stands; added = r.1.added }, r.2) };
   superclass = append-nil (at_most_one o.superclass);
   interfaces = append-nil o.interfaces;
   none_twice = i;
   source = append-nil (at_most_one o.source);
   same = refl;
-  line = k;
-  runs = (r.0, record { stands = r.1.stands; added = r.1.added }, r.2);
 }
 
 -- ---- what stands before the members is read
 
 one_more : {X : Type 0} (a b : Option X) → at_most_one a ≡ at_most_one b → a ≡ b
 one_more None None e = refl
-one_more None (Some y) e = absurd cc
-one_more (Some x) None e = absurd cc
 one_more (Some x) (Some y) e = cc
+one_more _ _ e = absurd cc
 
 none_before : {X : Type 0} (a b : Option X) (x : X) (xs : List X) → at_most_one a ++ (x ∷ xs) ≡ at_most_one b → a ≡ None
 none_before None b x xs e = refl
@@ -217,22 +191,19 @@ heads_go (super_line d ∷ hs) done late o k after t ls e h final a b i c same r
     let none = none_before o.superclass final.superclass d (flat_map superclass_in hs) a in
     let a1 : at_most_one o1.superclass ++ flat_map superclass_in hs ≡ at_most_one final.superclass = ap (λ x. at_most_one x ++ (d ∷ flat_map superclass_in hs)) (sym none) ∙ a in
     let y = heads_go hs done late o1 st.number after t st.rest st.says h final a1 b i c same r in
-    let g : Runs (within at_heads done late o k) ((st.number, super_line d) ∷ (st.rest ++ after)) t = (within at_heads done late o1 st.number, record { stands = refl; added = super_goes (at_line (within at_heads done late o k) st.number) o d none }, y) in
-    subst (λ xs. Runs (within at_heads done late o k) (xs ++ after) t) (sym st.is) g
+    goes (within at_heads done late o k) (within at_heads done late o1 st.number) ls after t (super_line d) hs st (record { stands = refl; added = super_goes (at_line (within at_heads done late o k) st.number) o d none }) y
 heads_go (implements_line d ∷ hs) done late o k after t ls e h final a b i c same r =
     let st = starts ls (implements_line d) hs e in
     let o1 = record o { interfaces = o.interfaces ++ d ∷ [] } in
     let none = distinct_last o.interfaces d (flat_map interface_in hs) (subst NoneTwice (sym b) i) in
     let b1 : o1.interfaces ++ flat_map interface_in hs ≡ final.interfaces = append_assoc o.interfaces (d ∷ []) (flat_map interface_in hs) ∙ b in
     let y = heads_go hs done late o1 st.number after t st.rest st.says h final a b1 i c same r in
-    let g : Runs (within at_heads done late o k) ((st.number, implements_line d) ∷ (st.rest ++ after)) t = (within at_heads done late o1 st.number, record { stands = refl; added = interface_goes (at_line (within at_heads done late o k) st.number) o d none }, y) in
-    subst (λ xs. Runs (within at_heads done late o k) (xs ++ after) t) (sym st.is) g
+    goes (within at_heads done late o k) (within at_heads done late o1 st.number) ls after t (implements_line d) hs st (record { stands = refl; added = interface_goes (at_line (within at_heads done late o k) st.number) o d none }) y
 heads_go (source_line us ∷ hs) done late o k after t ls e h final a b i c same r =
     let st = starts ls (source_line us) hs e in
     let o1 = record o { source = Some us } in
     let none = none_before o.source final.source us (flat_map source_in hs) c in
     let c1 : at_most_one o1.source ++ flat_map source_in hs ≡ at_most_one final.source = ap (λ x. at_most_one x ++ (us ∷ flat_map source_in hs)) (sym none) ∙ c in
     let y = heads_go hs done late o1 st.number after t st.rest st.says h final a b i c1 same r in
-    let g : Runs (within at_heads done late o k) ((st.number, source_line us) ∷ (st.rest ++ after)) t = (within at_heads done late o1 st.number, record { stands = refl; added = source_goes (at_line (within at_heads done late o k) st.number) o us none }, y) in
-    subst (λ xs. Runs (within at_heads done late o k) (xs ++ after) t) (sym st.is) g
+    goes (within at_heads done late o k) (within at_heads done late o1 st.number) ls after t (source_line us) hs st (record { stands = refl; added = source_goes (at_line (within at_heads done late o k) st.number) o us none }) y
 heads_go (l ∷ hs) done late o k after t ls e h final a b i c same r = absurd cc

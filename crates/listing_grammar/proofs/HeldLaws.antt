@@ -17,6 +17,7 @@ use Rattle.listing_draft.specs.Members.{is_held, put_in}
 use Rattle.listing_draft.specs.States.{with_code}
 use Rattle.listing_grammar.specs.Classes.{Rise, AreSorted}
 use Rattle.listing_labels.proofs.OrderLaws.{lt_less}
+use Rattle.base_bytes.proofs.ListFacts.{by_kind}
 
 -- ---- keys
 
@@ -47,11 +48,10 @@ second_false false b e = e
 module _ {X : Type 0} (key : X → Key) where
   put_all : (P : Key → Type 0) (x : X) (ys : List X) → P (key x) → AllByRecursion P (map key ys) → AllByRecursion P (map key (put_in key x ys))
   put_all P x [] h a = (h, tt)
-  put_all P x (y ∷ ys) h a = by (put_all P x ys h a.1) (is_lt (key_cmp (key x) (key y))) refl
-    where
-      by : AllByRecursion P (map key (put_in key x ys)) → (b : Bool) → is_lt (key_cmp (key x) (key y)) ≡ b → AllByRecursion P (map key (put_in key x (y ∷ ys)))
-      by m true e = rw e (h, a)
-      by m false e = rw e (a.0, m)
+  put_all P x (y ∷ ys) h a = elim (by_kind (is_lt (key_cmp (key x) (key y)))) [
+    | inl e ↦ rw e (h, a)
+    | inr e ↦ rw e (a.0, put_all P x ys h a.1)
+  ]
 
   below_all : (k q : Key) (ks : List Key) → key_cmp k q ≡ Less → AllByRecursion (λ r. key_cmp q r ≡ Less) ks → AllByRecursion (λ r. key_cmp k r ≡ Less) ks
   below_all k q [] e a = tt
@@ -71,11 +71,10 @@ module _ {X : Type 0} (key : X → Key) where
 
   put_permutes : (x : X) (ys : List X) → IsPermutation (x ∷ ys) (put_in key x ys)
   put_permutes x [] = IsPermutation-refl (x ∷ [])
-  put_permutes x (y ∷ ys) = by (put_permutes x ys) (is_lt (key_cmp (key x) (key y))) refl
-    where
-      by : IsPermutation (x ∷ ys) (put_in key x ys) → (b : Bool) → is_lt (key_cmp (key x) (key y)) ≡ b → IsPermutation (x ∷ (y ∷ ys)) (put_in key x (y ∷ ys))
-      by m true e = rw e (IsPermutation-refl (x ∷ (y ∷ ys)))
-      by m false e = rw e (IsPermutation-trans (x ∷ (y ∷ ys)) (y ∷ (x ∷ ys)) (y ∷ put_in key x ys) (IsPermutation-sym (y ∷ (x ∷ ys)) (x ∷ (y ∷ ys)) (IsPermutation-middle (y ∷ []) x ys)) (IsPermutation-cons y (x ∷ ys) (put_in key x ys) m))
+  put_permutes x (y ∷ ys) = elim (by_kind (is_lt (key_cmp (key x) (key y)))) [
+    | inl e ↦ rw e (IsPermutation-refl (x ∷ (y ∷ ys)))
+    | inr e ↦ rw e (IsPermutation-trans (x ∷ (y ∷ ys)) (y ∷ (x ∷ ys)) (y ∷ put_in key x ys) (IsPermutation-sym (y ∷ (x ∷ ys)) (x ∷ (y ∷ ys)) (IsPermutation-middle (y ∷ []) x ys)) (IsPermutation-cons y (x ∷ ys) (put_in key x ys) (put_permutes x ys)))
+  ]
 
   -- ---- what rises and has the same members is the same
 
@@ -176,9 +175,7 @@ pub code_put : (m : Method) (c : Code) (ms : List Method) → is_held method_key
 code_put m c [] n = rw (tied (method_key m)) refl
 code_put m c (y ∷ ms) n =
     let o = key_cmp (method_key m) (method_key y) in
-    by (code_put m c ms (second_false (is_eq o) (is_held method_key (method_key m) ms) n)) (is_lt o) refl
-  where
-    by : with_code (put_in method_key m ms) (method_key m) c ≡ put_in method_key (record m { code = Some c }) ms → (b : Bool) → is_lt (key_cmp (method_key m) (method_key y)) ≡ b
-        → with_code (put_in method_key m (y ∷ ms)) (method_key m) c ≡ put_in method_key (record m { code = Some c }) (y ∷ ms)
-    by h true e = rw (e, tied (method_key m)) refl
-    by h false e = rw (e, first_false (is_eq (key_cmp (method_key m) (method_key y))) (is_held method_key (method_key m) ms) n) (ap (λ l. y ∷ l) h)
+    elim (by_kind (is_lt o)) [
+      | inl e ↦ rw (e, tied (method_key m)) refl
+      | inr e ↦ rw (e, first_false (is_eq (key_cmp (method_key m) (method_key y))) (is_held method_key (method_key m) ms) n) (ap (λ l. y ∷ l) (code_put m c ms (second_false (is_eq o) (is_held method_key (method_key m) ms) n)))
+    ]

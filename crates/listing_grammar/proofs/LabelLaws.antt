@@ -1,5 +1,5 @@
 -- The labels of a code are those that stand among its instructions.
-use Rattle.std.proofs.Common.{◌≡◌, ℕ, ◌+◌, ◌≤◌, ◌==◌, Bool, true, false, inl, inr, if◌then◌else◌, List, [], ◌∷◌, ◌++◌, Option, Some, None, is_some, refl, sym, ap, subst, ◌∙◌, append_assoc}
+use Rattle.std.proofs.Common.{◌≡◌, ℕ, ◌+◌, ◌≤◌, ◌==◌, Bool, true, false, inl, inr, if◌then◌else◌, List, [], ◌∷◌, ◌++◌, Option, Some, None, IfSome, is_some, refl, sym, ap, subst, ◌∙◌, append_assoc, rules}
 use Rattle.std.specs.List.{AllByRecursion}
 use Rattle.std.proofs.lemmas.Bool.{eqb-true}
 use Rattle.std.proofs.lemmas.List.{append-nil, map-append}
@@ -28,16 +28,16 @@ use Rattle.listing_grammar.proofs.AsideLaws.{none_each, found_same, no_aside}
 use Rattle.listing_grammar.proofs.HeadLaws.{same_true, distinct_last}
 use Rattle.listing_grammar.proofs.LineSteps.{insn_said, insn_as, labels_by}
 use Rattle.dex_base.proofs.LowPoints.{both}
+use Rattle.base_bytes.proofs.ListFacts.{by_kind}
 
 -- ---- names of labels
 
 among_names : (w : List ℕ) (es : List Label) → is_some (lookup w es) ≡ is_among (label_names es) w
 among_names w [] = refl
-among_names w (e ∷ es) = by (among_names w es) (same w e.name) refl
-  where
-    by : is_some (lookup w es) ≡ is_among (label_names es) w → (b : Bool) → same w e.name ≡ b → is_some (lookup w (e ∷ es)) ≡ is_among (label_names (e ∷ es)) w
-    by h true f = rw f refl
-    by h false f = rw f h
+among_names w (e ∷ es) = elim (by_kind (same w e.name)) [
+  | inl f ↦ rw f refl
+  | inr f ↦ rw f (among_names w es)
+]
 
 no_some : (o : Option Label) → is_some o ≡ false → o ≡ None
 no_some None e = refl
@@ -61,30 +61,27 @@ new_name es l fs h = unknown l.name es (distinct_last (label_names es) l.name (l
 
 look_after : (w : List ℕ) (es fs : List Label) → lookup w es ≡ None → lookup w (es ++ fs) ≡ lookup w fs
 look_after w [] fs h = refl
-look_after w (e ∷ es) fs h = by (look_after w es fs) (same w e.name) refl
-  where
-    by : (lookup w es ≡ None → lookup w (es ++ fs) ≡ lookup w fs) → (b : Bool) → same w e.name ≡ b → lookup w ((e ∷ es) ++ fs) ≡ lookup w fs
-    by k true f = let z : Some e ≡ None = rw f at h in absurd cc
-    by k false f = let z : lookup w es ≡ None = rw f at h in rw f (k z)
+look_after w (e ∷ es) fs h = elim (by_kind (same w e.name)) [
+  | inl f ↦ let z : Some e ≡ None = rw f at h in absurd cc
+  | inr f ↦ let z : lookup w es ≡ None = rw f at h in rw f (look_after w es fs z)
+]
 
 pub look_front : (w : List ℕ) (es fs : List Label) (l : Label) → lookup w es ≡ Some l → lookup w (es ++ fs) ≡ Some l
 look_front w [] fs l h = absurd cc
-look_front w (e ∷ es) fs l h = by (look_front w es fs l) (same w e.name) refl
-  where
-    by : (lookup w es ≡ Some l → lookup w (es ++ fs) ≡ Some l) → (b : Bool) → same w e.name ≡ b → lookup w ((e ∷ es) ++ fs) ≡ Some l
-    by k true f = let z : Some e ≡ Some l = rw f at h in rw f z
-    by k false f = let z : lookup w es ≡ Some l = rw f at h in rw f (k z)
+look_front w (e ∷ es) fs l h = elim (by_kind (same w e.name)) [
+  | inl f ↦ let z : Some e ≡ Some l = rw f at h in rw f z
+  | inr f ↦ let z : lookup w es ≡ Some l = rw f at h in rw f (look_front w es fs l z)
+]
 
 pub look_there : (es : List Label) (l : Label) (fs : List Label) → NoneTwice (label_names (es ++ (l ∷ fs))) → lookup l.name (es ++ (l ∷ fs)) ≡ Some l
 look_there es l fs h = look_after l.name es (l ∷ fs) (new_name es l fs h) ∙ rw (same_true l.name l.name refl) refl
 
 pub found_le : (w : List ℕ) (es : List Label) (n : ℕ) (l : Label) → AllByRecursion (λ (e : Label). e.line ≤ n) es → lookup w es ≡ Some l → l.line ≤ n
 found_le w [] n l a h = absurd cc
-found_le w (e ∷ es) n l a h = by (found_le w es n l a.1) (same w e.name) refl
-  where
-    by : (lookup w es ≡ Some l → l.line ≤ n) → (b : Bool) → same w e.name ≡ b → l.line ≤ n
-    by k true f = let z : Some e ≡ Some l = rw f at h in let q : e ≡ l = cc in subst (λ (x : Label). x.line ≤ n) q a.0
-    by k false f = let z : lookup w es ≡ Some l = rw f at h in k z
+found_le w (e ∷ es) n l a h = elim (by_kind (same w e.name)) [
+  | inl f ↦ let z : Some e ≡ Some l = rw f at h in let q : e ≡ l = cc in subst (λ (x : Label). x.line ≤ n) q a.0
+  | inr f ↦ let z : lookup w es ≡ Some l = rw f at h in found_le w es n l a.1 z
+]
 
 -- Labels ahead stand after those that are there.
 pub ahead_extends : (ls : List (List ℕ)) (es : List Label) (line k : ℕ) → (more : List Label) × (labels_ahead es line k ls ≡ es ++ more)
@@ -132,7 +129,6 @@ kind_ends _ = false
 ends_as : (k : Kind) (ds : List Datum) → kind_ends k ≡ ends_insns (line_of k ds)
 unfolding line_of
 ends_as kind.Try ds = refl
-ends_as kind.EndCode ds = refl
 ends_as _ ds = refl
 
 abbrev stop_key : Key → Bool
@@ -153,45 +149,33 @@ stop_is _ text e f = absurd cc
 abbrev KindFits : Key → Kind → Type 0
 KindFits lead k = (is_insn k ≡ false) × (kind_ends k ≡ true → stop_key lead ≡ true)
 
-at_row : (lead : Key) (r row : Row) → Some row ≡ Some r → KindFits lead r.0 → KindFits lead row.0
-at_row lead r row e h = let q : r ≡ row = cc in subst (λ (x : Row). KindFits lead x.0) q h
+at_row : (lead : Key) (o : Option Row) (row : Row) → Some row ≡ o → IfSome o (λ r. KindFits lead r.0) → KindFits lead row.0
+at_row lead None row e h = absurd cc
+at_row lead (Some r) row e h = let q : r ≡ row = cc in subst (λ (x : Row). KindFits lead x.0) q h
 
 end_row : (b : Bool) (row r s : Row) → Some row ≡ (if b then Some r else Some s) → KindFits key.End r.0 → KindFits key.End s.0 → KindFits key.End row.0
-end_row true row r s e h k = at_row key.End r row e h
-end_row false row r s e h k = at_row key.End s row e k
+end_row true row r s e h k = at_row key.End (Some r) row e h
+end_row false row r s e h k = at_row key.End (Some s) row e k
 
 static_row : (b : Bool) (o : Option (List Slot)) (row r : Row) → Some row ≡ (if b then Some r else given_row o) → KindFits key.Static r.0 → KindFits key.Static row.0
-static_row true o row r e h = at_row key.Static r row e h
+static_row true o row r e h = at_row key.Static (Some r) row e h
 static_row false None row r e h = absurd cc
-static_row false (Some ss) row r e h = at_row key.Static _ row e (refl, λ z. z)
+static_row false (Some ss) row r e h = at_row key.Static (Some _) row e (refl, λ z. z)
 
 keyed_kind : (lead : Key) (ws : List Word) (row : Row) → Some row ≡ key_row lead ws → KindFits lead row.0
 unfolding key_row
-keyed_kind key.Dex ws row e = at_row key.Dex _ row e (refl, λ z. z)
-keyed_kind key.Class ws row e = at_row key.Class _ row e (refl, λ z. z)
 keyed_kind key.End ws row e = end_row (is_first_key key.Code ws) row _ _ e (refl, λ z. z) (refl, λ z. refl)
-keyed_kind key.Super ws row e = at_row key.Super _ row e (refl, λ z. z)
-keyed_kind key.Implements ws row e = at_row key.Implements _ row e (refl, λ z. z)
-keyed_kind key.Source ws row e = at_row key.Source _ row e (refl, λ z. z)
 keyed_kind key.Static ws row e = static_row _ _ row _ e (refl, λ z. z)
-keyed_kind key.Instance ws row e = at_row key.Instance _ row e (refl, λ z. z)
-keyed_kind key.Direct ws row e = at_row key.Direct _ row e (refl, λ z. z)
-keyed_kind key.Virtual ws row e = at_row key.Virtual _ row e (refl, λ z. z)
-keyed_kind key.Code ws row e = at_row key.Code _ row e (refl, λ z. z)
-keyed_kind key.Try ws row e = at_row key.Try _ row e (refl, λ z. z)
-keyed_kind key.Catch ws row e = at_row key.Catch _ row e (refl, λ z. z)
-keyed_kind key.CatchAll ws row e = at_row key.CatchAll _ row e (refl, λ z. z)
-keyed_kind _ ws row e = absurd cc
+keyed_kind k ws row e = at_row k _ row e (search rules)
 
-insn_at : (r row : Row) → Some row ≡ Some r → is_insn r.0 ≡ true → is_insn row.0 ≡ true
-insn_at r row e h = let q : r ≡ row = cc in subst (λ (x : Row). is_insn x.0 ≡ true) q h
+insn_at : (o : Option Row) (row : Row) → Some row ≡ o → IfSome o (λ r. is_insn r.0 ≡ true) → is_insn row.0 ≡ true
+insn_at None row e h = absurd cc
+insn_at (Some r) row e h = let q : r ≡ row = cc in subst (λ (x : Row). is_insn x.0 ≡ true) q h
 
 payload_kind : (k : Key) (ws : List Word) (row : Row) → Some row ≡ payload_row k ws → is_insn row.0 ≡ true
 unfolding payload_row
 payload_kind key.Packed ws row e = insn_at _ row e refl
-payload_kind key.Sparse ws row e = insn_at _ row e refl
-payload_kind key.Elements ws row e = insn_at _ row e refl
-payload_kind _ ws row e = absurd cc
+payload_kind _ ws row e = insn_at _ row e (search rules)
 
 pub insn_kind : (text : List ℕ) (ws : List Word) (row : Row) → IsInsnRow text ws row → is_insn row.0 ≡ true
 insn_kind text ws row (inl a) = ap (λ (x : Row). is_insn x.0) a.2
@@ -199,7 +183,6 @@ insn_kind text ws row (inr a) = payload_kind a.0 ws row a.2
 
 not_both : (k : Kind) → is_insn k ≡ true → kind_ends k ≡ true → ⊥
 not_both kind.Try e f = cc
-not_both kind.EndCode e f = cc
 not_both _ e f = cc
 
 goes_on : (es : List Label) (k : ℕ) (l : List ℕ) (x : Line) → SaysLine Two es k l x → insn_said x ≡ true → is_stop (first_word l) ≡ false

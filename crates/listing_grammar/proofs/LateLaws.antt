@@ -2,7 +2,6 @@
 use Rattle.std.proofs.Common.{◌≡◌, ℕ, ◌+◌, ◌&&◌, Bool, true, false, not, nat_lt, nat_le, max, inl, inr, List, [], ◌∷◌, ◌++◌, Option, Some, None, option_map, if◌then◌else◌, refl, sym, ap, ◌∙◌, arith}
 use Rattle.std.specs.List.{list_all}
 use Rattle.std.proofs.lemmas.Bool.{cases_lt, lt-ltb, le-ltb, lt-leb, le-leb}
-use Rattle.program_types.specs.Content as content
 use Rattle.program_types.specs.Formed.{insn_leads}
 use Rattle.program_types.specs.Content.{Insn}
 use Rattle.listing_lines.specs.Lines.{Line, first_line, open_class, end_class, open_code, end_code, insn_line, try_line, catch_line, catch_all_line}
@@ -11,6 +10,7 @@ use Rattle.listing_lines.specs.Needs.{Need, most_needed, insn_needs, line_needs,
 use Rattle.listing_draft.specs.States.{State, at_top, at_heads, in_class, stage_of, opened, closed, begun, class_of, owner_of, with_body, code_ended, late_in, with_block, inside, add}
 use Rattle.listing_grammar.specs.Codes.{Numbered, said, leads_into, late_line}
 use Rattle.listing_grammar.specs.Runs.{at_line, Runs}
+use Rattle.base_bytes.proofs.ListFacts.{by_kind}
 
 -- What the targets of these lines need besides.
 abbrev pub needs_from : List Need → List Numbered → List Need
@@ -33,12 +33,6 @@ target_needs c to = elim (cases_lt to c) [
   | inr h ↦ rw (le-ltb to c h) (lt-ltb c (to + 1) (omega arith))
 ]
 
-one_needs : (c to : ℕ) → nat_lt c (to + 1) ≡ not (nat_lt to c && true)
-one_needs c to = elim (cases_lt to c) [
-  | inl h ↦ rw (lt-ltb to c h) (le-ltb c (to + 1) (omega arith))
-  | inr h ↦ rw (le-ltb to c h) (lt-ltb c (to + 1) (omega arith))
-]
-
 most_needs : (c : ℕ) (ts : List ℕ) → nat_lt c (most_needed ts) ≡ not (list_all (λ to. nat_lt to c) ts)
 most_needs c [] = le-ltb c 0 (omega arith)
 most_needs c (to ∷ ts) = elim (cases_lt to c) [
@@ -50,15 +44,7 @@ most_needs c (to ∷ ts) = elim (cases_lt to c) [
 ]
 
 insn_lead : (c : ℕ) (i : Insn) → nat_lt c (insn_needs i) ≡ not (list_all (λ to. nat_lt to c) (insn_leads i))
-insn_lead c (content.I10t op to) = one_needs c to
-insn_lead c (content.I20t op to) = one_needs c to
-insn_lead c (content.I30t op to) = one_needs c to
-insn_lead c (content.I21t op a to) = one_needs c to
-insn_lead c (content.I31t op a to) = one_needs c to
-insn_lead c (content.I22t op a b to) = one_needs c to
-insn_lead c (content.Packed first targets) = most_needs c targets
-insn_lead c (content.Sparse keys targets) = most_needs c targets
-insn_lead c _ = le-ltb c 0 (omega arith)
+insn_lead c i = most_needs c (insn_leads i)
 
 try_lead : (c from to : ℕ) → nat_lt c (max (from + 1) to) ≡ not (nat_lt from c && nat_le to c)
 try_lead c from to = elim (cases_lt from c) [
@@ -84,20 +70,18 @@ abbrev if_late : ℕ → ℕ → Line → Option ℕ
 if_late c n l = if leads_into c l then None else Some n
 
 late_cons : (c n : ℕ) (l : Line) (ls : List Numbered) → late_line c ((n, l) ∷ ls) ≡ earliest (if_late c n l) (late_line c ls)
-late_cons c n l ls = by (leads_into c l) refl
-  where
-    by : (b : Bool) → leads_into c l ≡ b → late_line c ((n, l) ∷ ls) ≡ earliest (if_late c n l) (late_line c ls)
-    by true e = rw e refl
-    by false e = rw e refl
+late_cons c n l ls = elim (by_kind (leads_into c l)) [
+  | inl e ↦ rw e refl
+  | inr e ↦ rw e refl
+]
 
 late_last : (c : ℕ) (needs : List Need) (m : Need) → first_late c (needs ++ m ∷ []) ≡ earliest (first_late c needs) (if nat_lt c m.count then Some m.line else None)
 unfolding first_late
 late_last c [] m = refl
-late_last c (k ∷ needs) m = by (late_last c needs m) (nat_lt c k.count) refl
-  where
-    by : first_late c (needs ++ m ∷ []) ≡ earliest (first_late c needs) (if nat_lt c m.count then Some m.line else None) → (b : Bool) → nat_lt c k.count ≡ b → first_late c ((k ∷ needs) ++ m ∷ []) ≡ earliest (first_late c (k ∷ needs)) (if nat_lt c m.count then Some m.line else None)
-    by h true e = rw e refl
-    by h false e = rw e h
+late_last c (k ∷ needs) m = elim (by_kind (nat_lt c k.count)) [
+  | inl e ↦ rw e refl
+  | inr e ↦ rw e (late_last c needs m)
+]
 
 late_more : (c : ℕ) (needs : List Need) (n k : ℕ) → first_late c (with_need needs n k) ≡ earliest (first_late c needs) (if nat_lt c k then Some n else None)
 late_more c needs n k = elim (cases_lt 0 k) [
@@ -106,11 +90,10 @@ late_more c needs n k = elim (cases_lt 0 k) [
 ]
 
 if_lead : (c n : ℕ) (l : Line) → (if nat_lt c (line_needs l) then Some n else None) ≡ if_late c n l
-if_lead c n l = by (leads_into c l) refl
-  where
-    by : (b : Bool) → leads_into c l ≡ b → (if nat_lt c (line_needs l) then Some n else None) ≡ if_late c n l
-    by true e = rw (line_lead c l, e) refl
-    by false e = rw (line_lead c l, e) refl
+if_lead c n l = elim (by_kind (leads_into c l)) [
+  | inl e ↦ rw (line_lead c l, e) refl
+  | inr e ↦ rw (line_lead c l, e) refl
+]
 
 pub late_is : (c : ℕ) (needs : List Need) (ls : List Numbered) → first_late c (needs_from needs ls) ≡ earliest (first_late c needs) (late_line c ls)
 late_is c needs [] = sym (earliest_none (first_late c needs))
@@ -124,19 +107,17 @@ late_is c needs ((n, l) ∷ ls) =
 
 pub none_late : (c : ℕ) (ls : List Numbered) → list_all (leads_into c) (said ls) ≡ true → late_line c ls ≡ None
 none_late c [] e = refl
-none_late c ((n, l) ∷ ls) e = by (none_late c ls) (leads_into c l) refl
-  where
-    by : (list_all (leads_into c) (said ls) ≡ true → late_line c ls ≡ None) → (b : Bool) → leads_into c l ≡ b → late_line c ((n, l) ∷ ls) ≡ None
-    by h true f = let g : list_all (leads_into c) (said ls) ≡ true = rw f at e in rw f (h g)
-    by h false f = let g : false ≡ true = rw f at e in absurd cc
+none_late c ((n, l) ∷ ls) e = elim (by_kind (leads_into c l)) [
+  | inl f ↦ let g : list_all (leads_into c) (said ls) ≡ true = rw f at e in rw f (none_late c ls g)
+  | inr f ↦ let g : false ≡ true = rw f at e in absurd cc
+]
 
 pub all_lead : (c : ℕ) (ls : List Numbered) → late_line c ls ≡ None → list_all (leads_into c) (said ls) ≡ true
 all_lead c [] e = refl
-all_lead c ((n, l) ∷ ls) e = by (all_lead c ls) (leads_into c l) refl
-  where
-    by : (late_line c ls ≡ None → list_all (leads_into c) (said ls) ≡ true) → (b : Bool) → leads_into c l ≡ b → list_all (leads_into c) (said ((n, l) ∷ ls)) ≡ true
-    by h true f = let g : late_line c ls ≡ None = rw f at e in rw f (h g)
-    by h false f = let g : Some n ≡ None = rw f at e in absurd cc
+all_lead c ((n, l) ∷ ls) e = elim (by_kind (leads_into c l)) [
+  | inl f ↦ let g : late_line c ls ≡ None = rw f at e in rw f (all_lead c ls g)
+  | inr f ↦ let g : Some n ≡ None = rw f at e in absurd cc
+]
 
 pub neither_late : (a b : Option ℕ) → earliest a b ≡ None → (a ≡ None) × (b ≡ None)
 neither_late None b e = (refl, e)

@@ -57,7 +57,6 @@ labels_as : (form : Form) (k : Kind) (ds : List Datum) (line : ℕ) (ls : List (
 unfolding line_of
 labels_as One k ds line ls es = refl
 labels_as Two kind.OpenCode ds line ls es = refl
-labels_as Two kind.EndCode ds line ls es = refl
 labels_as Two _ ds line ls es = refl
 
 -- ---- where a block's next line stands
@@ -94,9 +93,7 @@ class_made s u (Some c) e = made (with_block s (in_class c.0 c.1)) u e
 moves : (done : List Class) (late : Option ℕ) (k n : ℕ) (x : Line) (u : State) (b : Block) → Steps (record { done = done; block = b; lines = k; late = late }) n x u → part_of u.block ≡ part_after x (part_of b)
 unfolding add inside
 moves done late k n first_line u at_start r = made (record { done = done; block = at_top; lines = n; late = late }) u r.added
-moves done late k n x u at_start r = let h = r.stands in absurd cc
 moves done late k n (open_class d f) u at_top r = made (record { done = done; block = in_class (opened d f) at_heads; lines = n; late = late }) u r.added
-moves done late k n x u at_top r = let h = r.stands in absurd cc
 moves done late k n end_class u (in_class o p) r = made (record { done = done ++ closed o ∷ []; block = at_top; lines = n; late = late }) u r.added
 moves done late k n (open_code x i z) u (in_class o (after_method m)) r = made (record { done = done; block = in_code o (begun m x i z) at_insns; lines = n; late = late }) u r.added
 moves done late k n (super_line d) u (in_class o p) r = class_made (record { done = done; block = in_class o p; lines = n; late = late }) u _ r.added
@@ -107,8 +104,6 @@ moves done late k n (instance_line m) u (in_class o p) r = class_made (record { 
 moves done late k n (direct_line m) u (in_class o p) r = class_made (record { done = done; block = in_class o p; lines = n; late = late }) u _ r.added
 moves done late k n (virtual_line m) u (in_class o p) r = class_made (record { done = done; block = in_class o p; lines = n; late = late }) u _ r.added
 moves done late k n x u (in_class o at_heads) r = let h = r.stands in absurd cc
-moves done late k n x u (in_class o at_members) r = let h = r.stands in absurd cc
-moves done late k n x u (in_class o (after_method m)) r = let h = r.stands in absurd cc
 moves done late k n end_code u (in_code o b p) r = made (record { done = done; block = in_class (with_code_at o b.owner (whole_code (with_tries b p None))) at_members; lines = n; late = earliest late (first_late (length b.insns) b.needs) }) u r.added
 moves done late k n (insn_line i) u (in_code o b at_insns) r =
     made (record { done = done; block = in_code o (with_insn (noted b n (insn_line i)) i) at_insns; lines = n; late = late }) u r.added ∙ ap insns (length-append b.insns (i ∷ []))
@@ -119,8 +114,7 @@ moves done late k n (catch_line d h) u (in_code o b (in_try t)) r =
 moves done late k n (catch_all_line h) u (in_code o b (in_try t)) r =
     made (record { done = done; block = in_code o (with_tries (noted b n (catch_all_line h)) (in_try t) (Some h)) after_try; lines = n; late = late }) u r.added
 moves done late k n x u (in_code o b at_insns) r = let h = r.stands in absurd cc
-moves done late k n x u (in_code o b after_try) r = let h = r.stands in absurd cc
-moves done late k n x u (in_code o b (in_try t)) r = let h = r.stands in absurd cc
+moves done late k n x u _ r = let h = r.stands in absurd cc
 
 -- Where the next line stands after a line.
 pub part_moves : (s : State) (n : ℕ) (x : Line) (u : State) → Steps s n x u → part_of u.block ≡ part_after x (part_of s.block)
@@ -139,26 +133,19 @@ lines_kept s u l e = sym (ap (λ (x : State). x.lines) (mapped (λ b. with_block
 
 pub out_is : (b : Block) → part_of b ≡ out → (is_in_code (stage_of b) ≡ false) × (is_caught (stage_of b) ≡ false) × (is_insns (stage_of b) ≡ false) × (is_start (stage_of b) ≡ false) × (insn_count b ≡ 0)
 out_is at_start e = absurd cc
-out_is at_top e = (refl, refl, refl, refl, refl)
-out_is (in_class o at_heads) e = (refl, refl, refl, refl, refl)
-out_is (in_class o at_members) e = (refl, refl, refl, refl, refl)
-out_is (in_class o (after_method m)) e = (refl, refl, refl, refl, refl)
 out_is (in_code o b at_insns) e = absurd cc
-out_is (in_code o b after_try) e = absurd cc
-out_is (in_code o b (in_try t)) e = absurd cc
+out_is (in_code o b _) e = absurd cc
+out_is (in_class o at_heads) e = (refl, refl, refl, refl, refl)
+out_is _ e = (refl, refl, refl, refl, refl)
 
 pub insns_is : (b : Block) (k : ℕ) → part_of b ≡ insns k → (stage_of b ≡ Insns) × (insn_count b ≡ k)
 insns_is (in_code o b at_insns) k e = (refl, cc)
-insns_is (in_code o b after_try) k e = absurd cc
 insns_is _ k e = absurd cc
 
 pub later_is : (b : Block) → part_of b ≡ later → (stage_of b ≡ Tries) ⊎ (stage_of b ≡ Caught)
-later_is at_start e = absurd cc
-later_is at_top e = absurd cc
-later_is (in_class o p) e = absurd cc
-later_is (in_code o b at_insns) e = absurd cc
 later_is (in_code o b after_try) e = inl refl
 later_is (in_code o b (in_try t)) e = inr refl
+later_is _ e = absurd cc
 
 -- ---- lines that are read
 

@@ -16,7 +16,7 @@ use Rattle.listing_lines.specs.Lines.{Line, first_line, line_of}
 use Rattle.listing_lines.specs.Places.{is_insn, is_start}
 use Rattle.listing_lines.specs.declared.form.Form.{Form}
 use Rattle.listing_lines.specs.declared.form.Form.TheVariants.{One, Two}
-use Rattle.listing_draft.specs.States.{Block, at_start, at_top, in_class, in_code, State, stage_of, add}
+use Rattle.listing_draft.specs.States.{Block, at_start, at_top, in_code, State, stage_of, add}
 use Rattle.listing_labels.specs.Lines.{lines, is_skipped}
 use Rattle.listing_parse.specs.Text.{Reading, is_second, aside, in_second, LineSays, AddsLine, TakesLine, Reads, IsListing}
 use Rattle.listing_parse.specs.declared.aside.Aside.TheVariants.{Nothing, First, Mark}
@@ -66,20 +66,9 @@ static_fits false (Some ss) row r e h = row_fits _ row e (λ z. absurd cc)
 first_fits : (lead : Key) (ws : List Word) (row : Row) → Some row ≡ key_row lead ws → FirstFits row
 unfolding key_row
 first_fits key.Dex ws row e = row_fits _ row e (λ z. refl)
-first_fits key.Class ws row e = row_fits _ row e (λ z. absurd cc)
 first_fits key.End ws row e = end_fits (is_first_key key.Code ws) row _ _ e (λ z. refl) (λ z. refl)
-first_fits key.Super ws row e = row_fits _ row e (λ z. absurd cc)
-first_fits key.Implements ws row e = row_fits _ row e (λ z. absurd cc)
-first_fits key.Source ws row e = row_fits _ row e (λ z. absurd cc)
 first_fits key.Static ws row e = static_fits _ _ row _ e (λ z. absurd cc)
-first_fits key.Instance ws row e = row_fits _ row e (λ z. absurd cc)
-first_fits key.Direct ws row e = row_fits _ row e (λ z. absurd cc)
-first_fits key.Virtual ws row e = row_fits _ row e (λ z. absurd cc)
-first_fits key.Code ws row e = row_fits _ row e (λ z. absurd cc)
-first_fits key.Try ws row e = row_fits _ row e (λ z. absurd cc)
-first_fits key.Catch ws row e = row_fits _ row e (λ z. absurd cc)
-first_fits key.CatchAll ws row e = row_fits _ row e (λ z. absurd cc)
-first_fits _ ws row e = absurd cc
+first_fits _ ws row e = λ z. absurd cc
 
 not_second : (l : List ℕ) (y : SaysLine One [] 0 l first_line) → is_second y.words ≡ false
 not_second l y = by y.has_shape
@@ -240,9 +229,8 @@ runs_end ((n, x) ∷ xs) s t m r = (r.0, r.1, runs_end xs r.0 t m r.2)
 
 outside_is : (b : Block) → is_start (stage_of b) ≡ false → is_outside b ≡ true → part_of b ≡ out
 outside_is at_start e h = absurd cc
-outside_is at_top e h = refl
-outside_is (in_class o p) e h = refl
 outside_is (in_code o b p) e h = absurd cc
+outside_is _ e h = refl
 
 pub lines_read : (form : Form) (s t : State) (ls : List (List ℕ)) → is_start (stage_of s.block) ≡ false → is_outside s.block ≡ true → is_outside t.block ≡ true → AreRead form s ls t → SayRun form s ls t
 lines_read form s t ls e h top r =

@@ -1,5 +1,5 @@
 -- The members of a class, in any order, as the reader adds them.
-use Rattle.std.proofs.Common.{◌≡◌, ℕ, zero, suc, ◌≤◌, Bool, true, false, List, [], ◌∷◌, ◌++◌, length, Option, Some, None, option_map, refl, sym, ap, subst, ◌∙◌, append_assoc, arith}
+use Rattle.std.proofs.Common.{◌≡◌, ℕ, zero, suc, ◌≤◌, true, false, List, [], ◌∷◌, ◌++◌, length, Option, Some, None, option_map, refl, sym, ap, subst, ◌∙◌, append_assoc, arith, inl, inr}
 use Rattle.std.specs.List.{AllByRecursion, flat_map, list_all}
 use Rattle.program_types.specs.Content.{Code, Member, Method, Class}
 use Rattle.program_types.specs.Key.{Key}
@@ -8,13 +8,14 @@ use Rattle.listing_lines.specs.Lines.{Line, end_class, static_line, instance_lin
 use Rattle.listing_lines.specs.Needs.{earliest}
 use Rattle.listing_draft.specs.Members.{Given, given_key, is_held, put_in, with_member}
 use Rattle.listing_draft.specs.States.{Open, Owner, ClassPart, at_members, after_method, at_top, in_class, State, with_code_at, with_static, with_instance, with_direct, with_virtual, at_part, with_block, inside, add}
+use Rattle.base_bytes.proofs.ListFacts.{all_append, all_back, all_front, by_kind}
 use Rattle.listing_grammar.specs.Codes.{Numbered, said, code_lines, leads_into, late_line}
 use Rattle.listing_grammar.specs.Classes.{at_most_one, ListedMember, static_entry, instance_entry, direct_entry, virtual_entry, its_code, entry_lines, method_with, static_in, instance_in, direct_in, virtual_in, code_in, LeadsInside}
-use Rattle.listing_grammar.specs.Runs.{at_line, Runs, is_outside, with_its_code}
+use Rattle.listing_grammar.specs.Runs.{at_line, Steps, Runs, is_outside, with_its_code}
 use Rattle.listing_grammar.proofs.LateLaws.{earliest_none, none_late, all_lead, neither_late, runs_late}
 use Rattle.listing_grammar.proofs.CodeLaws.{again, code_read, text_runs}
 use Rattle.listing_grammar.proofs.HeldLaws.{ArePut, code_put}
-use Rattle.listing_grammar.proofs.Numbering.{more_split, more_said, starts, splits, none_said, said_append, length_after, within, after_class, class_goes_on, class_open}
+use Rattle.listing_grammar.proofs.Numbering.{Splits, Front, more_front, front_then, Behind, goes, starts, splits, none_said, length_after, within, after_class, class_goes_on, class_open}
 
 -- ---- one member more
 
@@ -24,11 +25,10 @@ put_by key x ys with q s = option_map (λ b. with_block s b) (option_map (λ (c 
 
 put_step : {X : Type 0} (key : X → Key) (x : X) (ys : List X) (with : List X → Open) (q : ClassPart) (s u : State) → put_by key x ys with q s ≡ Some u
     → (is_held key (key x) ys ≡ false) × (with_block s (in_class (with (put_in key x ys)) q) ≡ u)
-put_step key x ys with q s u e = by (is_held key (key x) ys) refl
-  where
-    by : (b : Bool) → is_held key (key x) ys ≡ b → (is_held key (key x) ys ≡ false) × (with_block s (in_class (with (put_in key x ys)) q) ≡ u)
-    by true h = let k : None ≡ Some u = rw h at e in absurd cc
-    by false h = let k : Some (with_block s (in_class (with (put_in key x ys)) q)) ≡ Some u = rw h at e in (h, cc)
+put_step key x ys with q s u e = elim (by_kind (is_held key (key x) ys)) [
+  | inl h ↦ let k : None ≡ Some u = rw h at e in absurd cc
+  | inr h ↦ let k : Some (with_block s (in_class (with (put_in key x ys)) q)) ≡ Some u = rw h at e in (h, cc)
+]
 
 put_goes : {X : Type 0} (key : X → Key) (x : X) (ys : List X) (with : List X → Open) (q : ClassPart) (s : State) → is_held key (key x) ys ≡ false → put_by key x ys with q s ≡ Some (with_block s (in_class (with (put_in key x ys)) q))
 put_goes key x ys with q s h = rw h refl
@@ -42,13 +42,10 @@ coded o m (Some c) = with_code_at o m c
 
 record Followed (done : List Class) (late : Option ℕ) (o : Open) (m : Owner) (ls : List Numbered) (t : State) : Type 0 where
   code : Option Code
-  text : List Numbered
-  after : List Numbered
-  split : ls ≡ text ++ after
-  says : said text ≡ its_code code
+  front : Front ls (its_code code)
   leads : AllByRecursion LeadsInside (at_most_one code)
   line : ℕ
-  runs : Runs (within at_members done late (coded o m code) line) after t
+  runs : Runs (within at_members done late (coded o m code) line) front.after t
 
 followed : (done : List Class) (late : Option ℕ) (o : Open) (m : Owner) (n : ℕ) (ls : List Numbered) (t : State) → t.block ≡ at_top → t.late ≡ None → Runs (within (after_method m) done late o n) ls t → Followed done late o m ls t
 unfolding add inside
@@ -62,32 +59,27 @@ followed done late o m n ((k, open_code x i u) ∷ ls) t e f r =
     let same : earliest late (late_line (length c.insns) y.text) ≡ late = ap (earliest late) none.1 ∙ earliest_none late in
     record {
       code = Some c;
-      text = y.text;
-      after = y.after;
-      split = y.split;
-      says = y.is_text;
+      front = record { mine = y.text; after = y.after; split = y.split; says = y.is_text };
       leads = (ap (list_all (leads_into (length c.insns))) (sym y.is_text) ∙ all_lead (length c.insns) y.text none.1, tt);
       line = n;
       runs = subst (λ l. Runs (within at_members done l (with_code_at o m c) n) y.after t) same y.runs;
     }
 followed done late o m n ((k, l) ∷ ls) t e f r = record {
   code = None;
-  text = [];
-  after = (k, l) ∷ ls;
-  split = refl;
-  says = refl;
+  front = record { mine = []; after = (k, l) ∷ ls; split = refl; says = refl };
   leads = tt;
   line = n;
   runs = (r.0, record { stands = r.1.stands; added = r.1.added }, r.2);
 }
 
-code_follows : (done : List Class) (late : Option ℕ) (o : Open) (m : Owner) (n : ℕ) (c : Code) (text after : List Numbered) (t : State) → said text ≡ code_lines c → LeadsInside c → Runs (within at_members done late (with_code_at o m c) n) after t
-    → Runs (within (after_method m) done late o n) (text ++ after) t
-code_follows done late o m n c text after t e h r =
+code_follows : (done : List Class) (late : Option ℕ) (o : Open) (m : Owner) (n : ℕ) (c : Code) (ls : List Numbered) (more : List Line) (sp : Splits ls (code_lines c) more) (after : List Numbered) (t : State) → LeadsInside c
+    → Runs (within at_members done late (with_code_at o m c) n) (sp.back ++ after) t → Runs (within (after_method m) done late o n) (ls ++ after) t
+code_follows done late o m n c ls more sp after t h r =
     let s : State = record { done = done; block = at_top; lines = n; late = late } in
-    let none = none_late (length c.insns) text (ap (list_all (leads_into (length c.insns))) e ∙ h) in
-    let same : late ≡ earliest late (late_line (length c.insns) text) = sym (ap (earliest late) none ∙ earliest_none late) in
-    text_runs s t o m c text after e (subst (λ l. Runs (within at_members done l (with_code_at o m c) n) after t) same r)
+    let none = none_late (length c.insns) sp.front (ap (list_all (leads_into (length c.insns))) sp.in_front ∙ h) in
+    let same : late ≡ earliest late (late_line (length c.insns) sp.front) = sym (ap (earliest late) none ∙ earliest_none late) in
+    let all = text_runs s t o m c sp.front (sp.back ++ after) sp.in_front (subst (λ l. Runs (within at_members done l (with_code_at o m c) n) (sp.back ++ after) t) same r) in
+    subst (λ xs. Runs (within (after_method m) done late o n) xs t) (sym (ap (λ xs. xs ++ after) sp.is ∙ append_assoc sp.front sp.back after)) all
 
 -- ---- methods with their codes
 
@@ -113,10 +105,6 @@ unfolding virtual_owner
 virtual_coded o m None h = refl
 virtual_coded o m (Some c) h = ap (λ ms. record o { virtuals = ms }) (code_put m c o.virtuals h)
 
-all_joined : (P : Code → Type 0) (xs ys : List Code) → AllByRecursion P xs → AllByRecursion P ys → AllByRecursion P (xs ++ ys)
-all_joined P [] ys h k = k
-all_joined P (x ∷ xs) ys h k = (h.0, all_joined P xs ys h.1 k)
-
 -- ---- what is read is the text of members
 
 -- The class with these members.
@@ -125,25 +113,14 @@ with_members o gs is ds vs = record o { statics = gs; instances = is; directs = 
 
 pub record MembersRead (done : List Class) (late : Option ℕ) (o : Open) (ls : List Numbered) (t : State) : Type 0 where
   pub entries : List ListedMember
-  pub mine : List Numbered
-  pub after : List Numbered
-  pub split : ls ≡ mine ++ after
-  pub says : said mine ≡ flat_map entry_lines entries ++ end_class ∷ []
-  pub final : Open
-  pub statics : ArePut given_key o.statics (flat_map static_in entries) final.statics
-  pub instances : ArePut member_key o.instances (flat_map instance_in entries) final.instances
-  pub directs : ArePut method_key o.directs (flat_map direct_in entries) final.directs
-  pub virtuals : ArePut method_key o.virtuals (flat_map virtual_in entries) final.virtuals
-  pub same : final ≡ with_members o final.statics final.instances final.directs final.virtuals
+  pub front : Front ls (flat_map entry_lines entries ++ end_class ∷ [])
+  pub behind : Behind (after_class done late) front.after t
+  pub statics : ArePut given_key o.statics (flat_map static_in entries) behind.final.statics
+  pub instances : ArePut member_key o.instances (flat_map instance_in entries) behind.final.instances
+  pub directs : ArePut method_key o.directs (flat_map direct_in entries) behind.final.directs
+  pub virtuals : ArePut method_key o.virtuals (flat_map virtual_in entries) behind.final.virtuals
+  pub same : behind.final ≡ with_members o behind.final.statics behind.final.instances behind.final.directs behind.final.virtuals
   pub leads : AllByRecursion LeadsInside (flat_map code_in entries)
-  pub line : ℕ
-  pub runs : Runs (after_class done late final line) after t
-
-joined : (x : Line) (text mine : List Numbered) (c more : List Line) → said text ≡ c → said mine ≡ more ++ end_class ∷ [] → x ∷ said (text ++ mine) ≡ (x ∷ (c ++ more)) ++ end_class ∷ []
-joined x text mine c more e f = ap (λ y. x ∷ y) (said_append text mine ∙ ap (λ y. y ++ said mine) e ∙ ap (λ y. c ++ y) f ∙ sym (append_assoc c more (end_class ∷ [])))
-
-split_on : (l : Numbered) (ls text after mine rest : List Numbered) → ls ≡ text ++ after → after ≡ mine ++ rest → l ∷ ls ≡ (l ∷ (text ++ mine)) ++ rest
-split_on l ls text after mine rest e f = ap (λ y. l ∷ y) (e ∙ ap (λ y. text ++ y) f ∙ sym (append_assoc text mine rest))
 
 pub members_read : (f : ℕ) (ls : List Numbered) → length ls ≤ f → (done : List Class) (late : Option ℕ) (o : Open) (k : ℕ) (t : State) → t.block ≡ at_top → t.late ≡ None → Runs (within at_members done late o k) ls t → MembersRead done late o ls t
 unfolding add inside with_static with_instance with_direct with_virtual direct_owner virtual_owner
@@ -155,38 +132,28 @@ members_read (suc f) ((n, static_line m v) ∷ ls) q done late o k t top fine r 
     let y = members_read f ls (omega arith) done late (record o { statics = put_in given_key g o.statics }) n t top fine (subst (λ u. Runs u ls t) (sym p.1) r.2) in
     record {
       entries = static_entry g ∷ y.entries;
-      mine = (n, static_line m v) ∷ y.mine;
-      after = y.after;
-      split = more_split (n, static_line m v) ls y.mine y.after y.split;
-      says = more_said n (static_line m v) y.mine _ y.says;
-      final = y.final;
+      front = more_front {xs = flat_map entry_lines y.entries ++ end_class ∷ []} n (static_line m v) y.front;
+      behind = y.behind;
       statics = (p.0, y.statics);
       instances = y.instances;
       directs = y.directs;
       virtuals = y.virtuals;
       same = y.same;
       leads = y.leads;
-      line = y.line;
-      runs = y.runs;
     }
 members_read (suc f) ((n, instance_line m) ∷ ls) q done late o k t top fine r =
     let p = put_step member_key m o.instances (λ ms. record o { instances = ms }) at_members (at_line (within at_members done late o k) n) r.0 r.1.added in
     let y = members_read f ls (omega arith) done late (record o { instances = put_in member_key m o.instances }) n t top fine (subst (λ u. Runs u ls t) (sym p.1) r.2) in
     record {
       entries = instance_entry m ∷ y.entries;
-      mine = (n, instance_line m) ∷ y.mine;
-      after = y.after;
-      split = more_split (n, instance_line m) ls y.mine y.after y.split;
-      says = more_said n (instance_line m) y.mine _ y.says;
-      final = y.final;
+      front = more_front {xs = flat_map entry_lines y.entries ++ end_class ∷ []} n (instance_line m) y.front;
+      behind = y.behind;
       statics = y.statics;
       instances = (p.0, y.instances);
       directs = y.directs;
       virtuals = y.virtuals;
       same = y.same;
       leads = y.leads;
-      line = y.line;
-      runs = y.runs;
     }
 members_read (suc f) ((n, direct_line m) ∷ ls) q done late o k t top fine r =
     let w = direct_owner m in
@@ -194,23 +161,18 @@ members_read (suc f) ((n, direct_line m) ∷ ls) q done late o k t top fine r =
     let p = put_step method_key m o.directs (λ ms. record o { directs = ms }) (after_method w) (at_line (within at_members done late o k) n) r.0 r.1.added in
     let x = followed done late o1 w n ls t top fine (subst (λ u. Runs u ls t) (sym p.1) r.2) in
     let o2 = record o { directs = put_in method_key (method_with m x.code) o.directs } in
-    let fewer = length_after ls x.text x.after x.split in
-    let y = members_read f x.after (omega arith) done late o2 x.line t top fine (subst (λ z. Runs (within at_members done late z x.line) x.after t) (direct_coded o m x.code p.0) x.runs) in
+    let fewer = length_after ls x.front.mine x.front.after x.front.split in
+    let y = members_read f x.front.after (omega arith) done late o2 x.line t top fine (subst (λ z. Runs (within at_members done late z x.line) x.front.after t) (direct_coded o m x.code p.0) x.runs) in
     record {
       entries = direct_entry m x.code ∷ y.entries;
-      mine = (n, direct_line m) ∷ (x.text ++ y.mine);
-      after = y.after;
-      split = split_on (n, direct_line m) ls x.text x.after y.mine y.after x.split y.split;
-      says = joined (direct_line m) x.text y.mine (its_code x.code) (flat_map entry_lines y.entries) x.says y.says;
-      final = y.final;
+      front = more_front {xs = (its_code x.code ++ flat_map entry_lines y.entries) ++ end_class ∷ []} n (direct_line m) (front_then x.front y.front (sym (append_assoc (its_code x.code) (flat_map entry_lines y.entries) (end_class ∷ []))));
+      behind = y.behind;
       statics = y.statics;
       instances = y.instances;
       directs = (held_with m x.code o.directs ∙ p.0, y.directs);
       virtuals = y.virtuals;
       same = y.same;
-      leads = all_joined LeadsInside (at_most_one x.code) (flat_map code_in y.entries) x.leads y.leads;
-      line = y.line;
-      runs = y.runs;
+      leads = all_append LeadsInside (at_most_one x.code) (flat_map code_in y.entries) x.leads y.leads;
     }
 members_read (suc f) ((n, virtual_line m) ∷ ls) q done late o k t top fine r =
     let w = virtual_owner m in
@@ -218,41 +180,31 @@ members_read (suc f) ((n, virtual_line m) ∷ ls) q done late o k t top fine r =
     let p = put_step method_key m o.virtuals (λ ms. record o { virtuals = ms }) (after_method w) (at_line (within at_members done late o k) n) r.0 r.1.added in
     let x = followed done late o1 w n ls t top fine (subst (λ u. Runs u ls t) (sym p.1) r.2) in
     let o2 = record o { virtuals = put_in method_key (method_with m x.code) o.virtuals } in
-    let fewer = length_after ls x.text x.after x.split in
-    let y = members_read f x.after (omega arith) done late o2 x.line t top fine (subst (λ z. Runs (within at_members done late z x.line) x.after t) (virtual_coded o m x.code p.0) x.runs) in
+    let fewer = length_after ls x.front.mine x.front.after x.front.split in
+    let y = members_read f x.front.after (omega arith) done late o2 x.line t top fine (subst (λ z. Runs (within at_members done late z x.line) x.front.after t) (virtual_coded o m x.code p.0) x.runs) in
     record {
       entries = virtual_entry m x.code ∷ y.entries;
-      mine = (n, virtual_line m) ∷ (x.text ++ y.mine);
-      after = y.after;
-      split = split_on (n, virtual_line m) ls x.text x.after y.mine y.after x.split y.split;
-      says = joined (virtual_line m) x.text y.mine (its_code x.code) (flat_map entry_lines y.entries) x.says y.says;
-      final = y.final;
+      front = more_front {xs = (its_code x.code ++ flat_map entry_lines y.entries) ++ end_class ∷ []} n (virtual_line m) (front_then x.front y.front (sym (append_assoc (its_code x.code) (flat_map entry_lines y.entries) (end_class ∷ []))));
+      behind = y.behind;
       statics = y.statics;
       instances = y.instances;
       directs = y.directs;
       virtuals = (held_with m x.code o.virtuals ∙ p.0, y.virtuals);
       same = y.same;
-      leads = all_joined LeadsInside (at_most_one x.code) (flat_map code_in y.entries) x.leads y.leads;
-      line = y.line;
-      runs = y.runs;
+      leads = all_append LeadsInside (at_most_one x.code) (flat_map code_in y.entries) x.leads y.leads;
     }
 members_read (suc f) ((n, end_class) ∷ ls) q done late o k t top fine r =
     let e : r.0 ≡ after_class done late o n = let h : Some (after_class done late o n) ≡ Some r.0 = r.1.added in cc in
     record {
       entries = [];
-      mine = (n, end_class) ∷ [];
-      after = ls;
-      split = refl;
-      says = refl;
-      final = o;
+      front = record { mine = (n, end_class) ∷ []; after = ls; split = refl; says = refl };
+      behind = record { final = o; line = n; runs = subst (λ u. Runs u ls t) e r.2 };
       statics = refl;
       instances = refl;
       directs = refl;
       virtuals = refl;
       same = refl;
       leads = tt;
-      line = n;
-      runs = subst (λ u. Runs u ls t) e r.2;
     }
 members_read (suc f) ((n, l) ∷ ls) q done late o k t top fine r = let h = r.1.stands in absurd cc
 
@@ -266,6 +218,21 @@ four o final e a b c d =
     ∙ ap (λ x. with_members o o.statics o.instances x final.virtuals) (sym c)
     ∙ ap (λ x. with_members o o.statics o.instances o.directs x) (sym d)
 
+-- A method and its code, and what is read after them.
+method_goes : (i : Option Code) (l : Line) (w : Owner) (es : List ListedMember) (p : ClassPart) (done : List Class) (late : Option ℕ) (o o1 o2 : Open) (k : ℕ) (after : List Numbered) (t : State) (ls : List Numbered)
+    → said ls ≡ l ∷ ((its_code i ++ flat_map entry_lines es) ++ end_class ∷ []) → ((n : ℕ) → Steps (within p done late o k) n l (within (after_method w) done late o1 n)) → coded o1 w i ≡ o2 → AllByRecursion LeadsInside (at_most_one i)
+    → ((q : ClassPart) (n : ℕ) (ns : List Numbered) → said ns ≡ flat_map entry_lines es ++ end_class ∷ [] → Runs (within q done late o2 n) (ns ++ after) t) → Runs (within p done late o k) (ls ++ after) t
+method_goes None l w es p done late o o1 o2 k after t ls e step same leads rest =
+    let st = starts ls l (flat_map entry_lines es ++ end_class ∷ []) e in
+    goes (within p done late o k) (within (after_method w) done late o1 st.number) ls after t l (flat_map entry_lines es ++ end_class ∷ []) st (step st.number)
+    (subst (λ h. Runs (within (after_method w) done late h st.number) (st.rest ++ after) t) (sym same) (rest (after_method w) st.number st.rest st.says))
+method_goes (Some i) l w es p done late o o1 o2 k after t ls e step same leads rest =
+    let more = flat_map entry_lines es ++ end_class ∷ [] in
+    let st = starts ls l ((code_lines i ++ flat_map entry_lines es) ++ end_class ∷ []) e in
+    let sp = splits st.rest (code_lines i) more (st.says ∙ append_assoc (code_lines i) (flat_map entry_lines es) (end_class ∷ [])) in
+    let z = subst (λ h. Runs (within at_members done late h st.number) (sp.back ++ after) t) (sym same) (rest at_members st.number sp.back sp.after) in
+    goes (within p done late o k) (within (after_method w) done late o1 st.number) ls after t l ((code_lines i ++ flat_map entry_lines es) ++ end_class ∷ []) st (step st.number) (code_follows done late o1 w st.number i st.rest more sp after t leads.0 z)
+
 pub members_go : (es : List ListedMember) (p : ClassPart) (done : List Class) (late : Option ℕ) (o : Open) (k : ℕ) (after : List Numbered) (t : State) (m : ℕ) (ls : List Numbered) → said ls ≡ flat_map entry_lines es ++ end_class ∷ [] → (final : Open)
     → ArePut given_key o.statics (flat_map static_in es) final.statics → ArePut member_key o.instances (flat_map instance_in es) final.instances → ArePut method_key o.directs (flat_map direct_in es) final.directs → ArePut method_key o.virtuals (flat_map virtual_in es) final.virtuals
     → final ≡ with_members o final.statics final.instances final.directs final.virtuals → AllByRecursion LeadsInside (flat_map code_in es) → Runs (after_class done late final m) after t → Runs (within p done late o k) (ls ++ after) t
@@ -274,72 +241,29 @@ members_go [] p done late o k after t m ls e final a b c d same leads r =
     let st = starts ls end_class [] e in
     let u = after_class done late o st.number in
     let h = subst (λ x. Runs (after_class done late x m) after t) (four o final same a b c d) r in
-    let g : Runs (within p done late o k) ((st.number, end_class) ∷ after) t = (u, record { stands = class_goes_on p; added = refl }, again (after_class done late o m) t after st.number h) in
-    let g1 = subst (λ xs. Runs (within p done late o k) ((st.number, end_class) ∷ (xs ++ after)) t) (sym (none_said st.rest st.says)) g in
-    subst (λ xs. Runs (within p done late o k) (xs ++ after) t) (sym st.is) g1
+    let g = again (after_class done late o m) t after st.number h in
+    goes (within p done late o k) u ls after t end_class [] st (record { stands = class_goes_on p; added = refl }) (subst (λ xs. Runs u (xs ++ after) t) (sym (none_said st.rest st.says)) g)
 members_go (static_entry g ∷ es) p done late o k after t m ls e final a b c d same leads r =
     let st = starts ls (static_line g.field g.value) (flat_map entry_lines es ++ end_class ∷ []) e in
     let s = at_line (within p done late o k) st.number in
     let o1 = record o { statics = put_in given_key g o.statics } in
     let y = members_go es at_members done late o1 st.number after t m st.rest st.says final a.1 b c d same leads r in
-    let g1 : Runs (within p done late o k) ((st.number, static_line g.field g.value) ∷ (st.rest ++ after)) t =
-    (within at_members done late o1 st.number, record { stands = class_goes_on p; added = put_goes given_key g o.statics (λ gs. record o { statics = gs }) at_members s a.0 }, y) in
-    subst (λ xs. Runs (within p done late o k) (xs ++ after) t) (sym st.is) g1
+    goes (within p done late o k) (within at_members done late o1 st.number) ls after t (static_line g.field g.value) (flat_map entry_lines es ++ end_class ∷ []) st (record { stands = class_goes_on p; added = put_goes given_key g o.statics (λ gs. record o { statics = gs }) at_members s a.0 }) y
 members_go (instance_entry x ∷ es) p done late o k after t m ls e final a b c d same leads r =
     let st = starts ls (instance_line x) (flat_map entry_lines es ++ end_class ∷ []) e in
     let s = at_line (within p done late o k) st.number in
     let o1 = record o { instances = put_in member_key x o.instances } in
     let y = members_go es at_members done late o1 st.number after t m st.rest st.says final a b.1 c d same leads r in
-    let g1 : Runs (within p done late o k) ((st.number, instance_line x) ∷ (st.rest ++ after)) t =
-    (within at_members done late o1 st.number, record { stands = class_goes_on p; added = put_goes member_key x o.instances (λ ms. record o { instances = ms }) at_members s b.0 }, y) in
-    subst (λ xs. Runs (within p done late o k) (xs ++ after) t) (sym st.is) g1
-members_go (direct_entry x None ∷ es) p done late o k after t m ls e final a b c d same leads r =
-    let st = starts ls (direct_line x) (flat_map entry_lines es ++ end_class ∷ []) e in
-    let s = at_line (within p done late o k) st.number in
-    let q : ClassPart = after_method (direct_owner x) in
-    let o1 = record o { directs = put_in method_key x o.directs } in
-    let y = members_go es q done late o1 st.number after t m st.rest st.says final a b c.1 d same leads r in
-    let g1 : Runs (within p done late o k) ((st.number, direct_line x) ∷ (st.rest ++ after)) t =
-    (within q done late o1 st.number, record { stands = class_goes_on p; added = put_goes method_key x o.directs (λ ms. record o { directs = ms }) q s c.0 }, y) in
-    subst (λ xs. Runs (within p done late o k) (xs ++ after) t) (sym st.is) g1
-members_go (direct_entry x (Some i) ∷ es) p done late o k after t m ls e final a b c d same leads r =
-    let more = flat_map entry_lines es ++ end_class ∷ [] in
-    let st = starts ls (direct_line x) ((code_lines i ++ flat_map entry_lines es) ++ end_class ∷ []) e in
-    let sp = splits st.rest (code_lines i) more (st.says ∙ append_assoc (code_lines i) (flat_map entry_lines es) (end_class ∷ [])) in
-    let s = at_line (within p done late o k) st.number in
-    let w = direct_owner x in
-    let q : ClassPart = after_method w in
-    let o1 = record o { directs = put_in method_key x o.directs } in
-    let o2 = record o { directs = put_in method_key (method_with x (Some i)) o.directs } in
-    let y = members_go es at_members done late o2 st.number after t m sp.back sp.after final a b c.1 d same leads.1 r in
-    let z = code_follows done late o1 w st.number i sp.front (sp.back ++ after) t sp.in_front leads.0 (subst (λ h. Runs (within at_members done late h st.number) (sp.back ++ after) t) (sym (direct_coded o x (Some i) c.0)) y) in
-    let z1 = subst (λ xs. Runs (within q done late o1 st.number) xs t) (sym (append_assoc sp.front sp.back after)) z in
-    let z2 = subst (λ xs. Runs (within q done late o1 st.number) (xs ++ after) t) (sym sp.is) z1 in
-    let g1 : Runs (within p done late o k) ((st.number, direct_line x) ∷ (st.rest ++ after)) t =
-    (within q done late o1 st.number, record { stands = class_goes_on p; added = put_goes method_key x o.directs (λ ms. record o { directs = ms }) q s c.0 }, z2) in
-    subst (λ xs. Runs (within p done late o k) (xs ++ after) t) (sym st.is) g1
-members_go (virtual_entry x None ∷ es) p done late o k after t m ls e final a b c d same leads r =
-    let st = starts ls (virtual_line x) (flat_map entry_lines es ++ end_class ∷ []) e in
-    let s = at_line (within p done late o k) st.number in
-    let q : ClassPart = after_method (virtual_owner x) in
-    let o1 = record o { virtuals = put_in method_key x o.virtuals } in
-    let y = members_go es q done late o1 st.number after t m st.rest st.says final a b c d.1 same leads r in
-    let g1 : Runs (within p done late o k) ((st.number, virtual_line x) ∷ (st.rest ++ after)) t =
-    (within q done late o1 st.number, record { stands = class_goes_on p; added = put_goes method_key x o.virtuals (λ ms. record o { virtuals = ms }) q s d.0 }, y) in
-    subst (λ xs. Runs (within p done late o k) (xs ++ after) t) (sym st.is) g1
-members_go (virtual_entry x (Some i) ∷ es) p done late o k after t m ls e final a b c d same leads r =
-    let more = flat_map entry_lines es ++ end_class ∷ [] in
-    let st = starts ls (virtual_line x) ((code_lines i ++ flat_map entry_lines es) ++ end_class ∷ []) e in
-    let sp = splits st.rest (code_lines i) more (st.says ∙ append_assoc (code_lines i) (flat_map entry_lines es) (end_class ∷ [])) in
-    let s = at_line (within p done late o k) st.number in
-    let w = virtual_owner x in
-    let q : ClassPart = after_method w in
-    let o1 = record o { virtuals = put_in method_key x o.virtuals } in
-    let o2 = record o { virtuals = put_in method_key (method_with x (Some i)) o.virtuals } in
-    let y = members_go es at_members done late o2 st.number after t m sp.back sp.after final a b c d.1 same leads.1 r in
-    let z = code_follows done late o1 w st.number i sp.front (sp.back ++ after) t sp.in_front leads.0 (subst (λ h. Runs (within at_members done late h st.number) (sp.back ++ after) t) (sym (virtual_coded o x (Some i) d.0)) y) in
-    let z1 = subst (λ xs. Runs (within q done late o1 st.number) xs t) (sym (append_assoc sp.front sp.back after)) z in
-    let z2 = subst (λ xs. Runs (within q done late o1 st.number) (xs ++ after) t) (sym sp.is) z1 in
-    let g1 : Runs (within p done late o k) ((st.number, virtual_line x) ∷ (st.rest ++ after)) t =
-    (within q done late o1 st.number, record { stands = class_goes_on p; added = put_goes method_key x o.virtuals (λ ms. record o { virtuals = ms }) q s d.0 }, z2) in
-    subst (λ xs. Runs (within p done late o k) (xs ++ after) t) (sym st.is) g1
+    goes (within p done late o k) (within at_members done late o1 st.number) ls after t (instance_line x) (flat_map entry_lines es ++ end_class ∷ []) st (record { stands = class_goes_on p; added = put_goes member_key x o.instances (λ ms. record o { instances = ms }) at_members s b.0 }) y
+members_go (direct_entry x i ∷ es) p done late o k after t m ls e final a b c d same leads r =
+    let n = sym (held_with x i o.directs) ∙ c.0 in
+    let step = λ (j : ℕ). put_goes method_key x o.directs (λ ms. record o { directs = ms }) (after_method (direct_owner x)) (at_line (within p done late o k) j) n in
+    method_goes i (direct_line x) (direct_owner x) es p done late o (record o { directs = put_in method_key x o.directs }) _ k after t ls e (λ j. record { stands = class_goes_on p; added = step j }) (direct_coded o x i n)
+    (all_front LeadsInside (at_most_one i) (flat_map code_in es) leads)
+    (λ q j ns says. members_go es q done late _ j after t m ns says final a b c.1 d same (all_back LeadsInside (at_most_one i) (flat_map code_in es) leads) r)
+members_go (virtual_entry x i ∷ es) p done late o k after t m ls e final a b c d same leads r =
+    let n = sym (held_with x i o.virtuals) ∙ d.0 in
+    let step = λ (j : ℕ). put_goes method_key x o.virtuals (λ ms. record o { virtuals = ms }) (after_method (virtual_owner x)) (at_line (within p done late o k) j) n in
+    method_goes i (virtual_line x) (virtual_owner x) es p done late o (record o { virtuals = put_in method_key x o.virtuals }) _ k after t ls e (λ j. record { stands = class_goes_on p; added = step j }) (virtual_coded o x i n)
+    (all_front LeadsInside (at_most_one i) (flat_map code_in es) leads)
+    (λ q j ns says. members_go es q done late _ j after t m ns says final a b c d.1 same (all_back LeadsInside (at_most_one i) (flat_map code_in es) leads) r)

@@ -1,12 +1,12 @@
 -- Lines and their numbers.
-use Rattle.std.proofs.Common.{◌≡◌, ℕ, ◌≤◌, true, List, [], ◌∷◌, ◌++◌, length, Option, refl, sym, ap, ◌∙◌, arith}
+use Rattle.std.proofs.Common.{◌≡◌, ℕ, ◌≤◌, true, List, [], ◌∷◌, ◌++◌, length, Option, refl, sym, ap, subst, ◌∙◌, append_assoc, arith}
 use Rattle.std.proofs.lemmas.List.{map-append, length-append}
 use Rattle.program_types.specs.Content.{Class}
 use Rattle.listing_lines.specs.Lines.{Line}
 use Rattle.listing_lines.specs.Places.{is_in_class}
-use Rattle.listing_draft.specs.States.{Open, ClassPart, at_heads, at_members, after_method, at_top, in_class, class_stage, closed, State}
+use Rattle.listing_draft.specs.States.{Open, ClassPart, at_heads, at_top, in_class, class_stage, closed, State}
 use Rattle.listing_grammar.specs.Codes.{Numbered, said}
-use Rattle.listing_grammar.specs.Runs.{at_line}
+use Rattle.listing_grammar.specs.Runs.{at_line, Runs, Steps}
 
 -- The lines begin with this one.
 pub record Starts (ls : List Numbered) (x : Line) (xs : List Line) : Type 0 where
@@ -52,12 +52,35 @@ said_append xs ys = map-append (λ (l : Numbered). l.1) xs ys
 pub length_after : (xs ys zs : List Numbered) → xs ≡ ys ++ zs → length zs ≤ length xs
 length_after xs ys zs e = let h = ap length e in let k = length-append ys zs in omega arith
 
--- One line more in front.
-pub more_split : (l : Numbered) (ls mine after : List Numbered) → ls ≡ mine ++ after → l ∷ ls ≡ (l ∷ mine) ++ after
-more_split l ls mine after e = ap (λ z. l ∷ z) e
+-- The lines are mine, which say xs, and those after.
+pub record Front (ls : List Numbered) (xs : List Line) : Type 0 where
+  pub mine : List Numbered
+  pub after : List Numbered
+  pub split : ls ≡ mine ++ after
+  pub says : said mine ≡ xs
 
-pub more_said : (n : ℕ) (x : Line) (mine : List Numbered) (xs : List Line) → said mine ≡ xs → said ((n, x) ∷ mine) ≡ x ∷ xs
-more_said n x mine xs e = ap (λ z. x ∷ z) e
+-- one line more in front
+abbrev pub more_front : {ls : List Numbered} {xs : List Line} (n : ℕ) (l : Line) → Front ls xs → Front ((n, l) ∷ ls) (l ∷ xs)
+more_front n l f = record { mine = (n, l) ∷ f.mine; after = f.after; split = ap (λ z. (n, l) ∷ z) f.split; says = ap (λ z. l ∷ z) f.says }
+
+-- the lines, and of those after them the next
+abbrev pub front_then : {ls : List Numbered} {xs ys zs : List Line} (f : Front ls xs) → Front f.after ys → xs ++ ys ≡ zs → Front ls zs
+front_then {xs = xs} f g e = record {
+  mine = f.mine ++ g.mine;
+  after = g.after;
+  split = f.split ∙ ap (λ z. f.mine ++ z) g.split ∙ sym (append_assoc f.mine g.mine g.after);
+  says = said_append f.mine g.mine ∙ ap (λ z. z ++ said g.mine) f.says ∙ ap (λ z. xs ++ z) g.says ∙ e;
+}
+
+-- What was read, up to a line from where the lines after it run on.
+pub record Behind {X : Type 0} (state : X → ℕ → State) (after : List Numbered) (t : State) : Type 0 where
+  pub final : X
+  pub line : ℕ
+  pub runs : Runs (state final line) after t
+
+-- a line that may stand there, and those after it
+pub goes : (s u : State) (ls after : List Numbered) (t : State) (l : Line) (xs : List Line) (st : Starts ls l xs) → Steps s st.number l u → Runs u (st.rest ++ after) t → Runs s (ls ++ after) t
+goes s u ls after t l xs st step r = subst (λ ys. Runs s (ys ++ after) t) (sym st.is) (u, step, r)
 
 -- ---- states of a class
 
@@ -72,8 +95,7 @@ after_class done late o n = record { done = done ++ closed o ∷ []; block = at_
 -- A member or the class's end may stand wherever in a class.
 pub class_goes_on : (p : ClassPart) → is_in_class (class_stage p) ≡ true
 class_goes_on at_heads = refl
-class_goes_on at_members = refl
-class_goes_on (after_method m) = refl
+class_goes_on _ = refl
 
 -- A class that is open isn't whole.
 pub class_open : (p : ClassPart) (done : List Class) (late : Option ℕ) (o : Open) (n : ℕ) (t : State) → t.block ≡ at_top → t ≡ at_line (within p done late o n) t.lines → ⊥

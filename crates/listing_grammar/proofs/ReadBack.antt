@@ -3,14 +3,14 @@ use Rattle.std.proofs.Common.{◌≡◌, ℕ, ◌+◌, ◌≤◌, ◌==◌, ◌&
 use Rattle.std.specs.List.{AllByRecursion}
 use Rattle.std.proofs.lemmas.Bool.{eqb-true}
 use Rattle.std.proofs.lemmas.List.{append-nil}
-use Rattle.listing_words.specs.Words.{Word, plain_word, text_in_quotes, HasWords}
+use Rattle.listing_words.specs.Words.{Word, plain_word, HasWords}
 use Rattle.listing_lines.specs.Lines.{Line, open_code, end_code, insn_line, try_line, catch_line, catch_all_line}
 use Rattle.listing_lines.specs.Places.{is_start, is_insns}
 use Rattle.listing_lines.specs.Forms.{is_two}
 use Rattle.listing_lines.specs.declared.form.Form.{Form}
 use Rattle.listing_lines.specs.declared.form.Form.TheVariants.{One, Two}
 use Rattle.listing_lines.specs.declared.stage.Stage.TheVariants.{Insns, Tries, Caught}
-use Rattle.listing_draft.specs.States.{Block, at_start, at_top, in_class, in_code, State, stage_of, insn_count, counted}
+use Rattle.listing_draft.specs.States.{Block, at_start, State, stage_of, insn_count, counted}
 use Rattle.listing_labels.specs.Lines.{is_skipped}
 use Rattle.listing_labels.specs.Labels.{Label, is_label, lookup, with_label, labels_ahead}
 use Rattle.listing_labels.proofs.AheadLaws.{ahead_skips}
@@ -43,17 +43,13 @@ start_no_mark false e = cc
 
 three_true : (a b c : Bool) → (if a then (if b then (if c then Mark else Refused 104) else Refused 101) else Refused 103) ≡ Mark → (a ≡ true) × (b ≡ true) × (c ≡ true)
 three_true true true true e = (refl, refl, refl)
-three_true true true false e = absurd cc
-three_true true false c e = absurd cc
-three_true false b c e = absurd cc
+three_true _ _ _ e = absurd cc
 
 mark_aside_is : (es : List Label) (s : State) (ws : List Word) → mark_aside (rd Two es s) ws ≡ Mark → MarkIs Two es s ws
-mark_aside_is es s [] e = absurd cc
-mark_aside_is es s (text_in_quotes us ∷ ws) e = absurd cc
 mark_aside_is es s (plain_word w ∷ []) e =
     let h = three_true (is_insns (stage_of s.block)) (is_label w) (is_on s.lines (lookup w es)) e in
     record { name = w; alone = refl; second = refl; stands = h.0; label = h.1; on = h.2 }
-mark_aside_is es s (plain_word w ∷ (v ∷ ws)) e = absurd cc
+mark_aside_is es s _ e = absurd cc
 
 mark_by : (es : List Label) (s : State) (ws : List Word) (a b : Bool) → is_second ws ≡ a → begins_mark ws ≡ b → aside (rd Two es s) ws ≡ Mark → MarkIs Two es s ws
 unfolding aside
@@ -63,8 +59,7 @@ mark_by es s ws false false p q e = let h : Nothing ≡ Mark = rw (p, q) at e in
 
 no_mark_one : (a b : Bool) → (if a && b then (if b then First else Refused 103) else Nothing) ≡ Mark → ⊥
 no_mark_one true true e = cc
-no_mark_one true false e = cc
-no_mark_one false b e = cc
+no_mark_one _ _ e = cc
 
 pub mark_means : (form : Form) (es : List Label) (s : State) (ws : List Word) → aside (rd form es s) ws ≡ Mark → MarkIs form es s ws
 unfolding aside
@@ -73,15 +68,11 @@ mark_means Two es s ws e = mark_by es s ws (is_second ws) (begins_mark ws) refl 
 
 never_first : (a b c : Bool) → (if a then (if b then (if c then Mark else Refused 104) else Refused 101) else Refused 103) ≡ First → ⊥
 never_first true true true e = cc
-never_first true true false e = cc
-never_first true false c e = cc
-never_first false b c e = cc
+never_first _ _ _ e = cc
 
 mark_never_first : (r : Reading) (ws : List Word) → mark_aside r ws ≡ First → ⊥
-mark_never_first r [] e = cc
-mark_never_first r (text_in_quotes us ∷ ws) e = cc
 mark_never_first r (plain_word w ∷ []) e = never_first (is_insns (stage_of r.base.block)) (is_label w) (is_on r.base.lines (lookup w r.labels)) e
-mark_never_first r (plain_word w ∷ (v ∷ ws)) e = cc
+mark_never_first r _ e = cc
 
 start_first : (b : Bool) → (if b then First else Refused 103) ≡ First → b ≡ true
 start_first true e = refl
@@ -89,8 +80,7 @@ start_first false e = absurd cc
 
 first_one : (a b : Bool) → (if a && b then (if b then First else Refused 103) else Nothing) ≡ First → (a ≡ true) × (b ≡ true)
 first_one true true e = (refl, refl)
-first_one true false e = absurd cc
-first_one false b e = absurd cc
+first_one _ _ e = absurd cc
 
 first_by : (es : List Label) (s : State) (ws : List Word) (a b : Bool) → is_second ws ≡ a → begins_mark ws ≡ b → aside (rd Two es s) ws ≡ First → (is_second ws ≡ true) × (is_start (stage_of s.block) ≡ true)
 unfolding aside
@@ -317,15 +307,11 @@ not_begun at_later form es s ls f = elim (later_is s.block f.1) [ inl h ↦ ap i
 
 no_insns : (b : Block) (k : ℕ) → is_outside b ≡ true → part_of b ≡ insns k → ⊥
 no_insns at_start k h e = cc
-no_insns at_top k h e = cc
-no_insns (in_class o p) k h e = cc
-no_insns (in_code o b p) k h e = cc
+no_insns _ k h e = cc
 
 not_later : (b : Block) → is_outside b ≡ true → part_of b ≡ later → ⊥
 not_later at_start h e = cc
-not_later at_top h e = cc
-not_later (in_class o p) h e = cc
-not_later (in_code o b p) h e = cc
+not_later _ h e = cc
 
 end_gives : (st : Stand) (form : Form) (es : List Label) (s : State) (t : Reading) → Fits st form es s [] → is_outside t.base.block ≡ true → rd form es s ≡ t → Gives st form es s.lines s [] t.base
 end_gives at_out form es s t f top r = ([], no_lines, subst (λ (z : Reading). z.base ≡ at_line s z.base.lines) r refl)

@@ -8,7 +8,7 @@ use Rattle.listing_lines.specs.Places.{is_start, is_insns, is_in_code, is_caught
 use Rattle.listing_lines.specs.Forms.{is_two}
 use Rattle.listing_lines.specs.declared.form.Form.{Form}
 use Rattle.listing_lines.specs.declared.form.Form.TheVariants.{One, Two}
-use Rattle.listing_draft.specs.States.{Block, State, stage_of, counted}
+use Rattle.listing_draft.specs.States.{Block, State, stage_of, insn_count, counted}
 use Rattle.listing_labels.specs.Labels.{Label, is_label, lookup}
 use Rattle.listing_parse.specs.Text.{Reading, is_on, aside, TakesLine, Reads}
 use Rattle.listing_parse.specs.declared.aside.Aside.TheVariants.{Mark}
@@ -29,16 +29,12 @@ within_place end_code = false
 within_place _ = true
 
 pub same_labels : (form : Form) (x : Line) (line : ℕ) (ls : List (List ℕ)) (es : List Label) → within_place x ≡ true → labels_by form x line ls es ≡ es
-same_labels One x line ls es e = refl
 same_labels Two (open_code r i o) line ls es e = absurd cc
-same_labels Two end_code line ls es e = absurd cc
-same_labels Two x line ls es e = refl
+same_labels _ _ line ls es e = cc
 
 pub none_by : (form : Form) (x : Line) (line : ℕ) (ls : List (List ℕ)) → opens_code x ≡ false → labels_by form x line ls [] ≡ []
-none_by One x line ls e = refl
 none_by Two (open_code r i o) line ls e = absurd cc
-none_by Two end_code line ls e = refl
-none_by Two x line ls e = refl
+none_by _ _ line ls e = refl
 
 pub end_by : (form : Form) (line : ℕ) (ls : List (List ℕ)) (es : List Label) → NoLabels form es → labels_by form end_code line ls es ≡ []
 end_by One line ls es h = h
@@ -54,9 +50,7 @@ out_goes x b p s e = refl
 
 try_goes : (x : Line) (p : Part) → is_of_try x ≡ true → part_after x p ≡ later
 try_goes (try_line from to) p e = refl
-try_goes (catch_line d k) p e = refl
-try_goes (catch_all_line k) p e = refl
-try_goes x p e = absurd cc
+try_goes _ p e = cc
 
 try_no_insn : (x : Line) → is_of_try x ≡ true → insn_said x ≡ false
 try_no_insn (insn_line i) e = absurd cc
@@ -64,8 +58,7 @@ try_no_insn x e = refl
 
 try_within : (x : Line) → is_of_try x ≡ true → within_place x ≡ true
 try_within (open_code r i o) e = absurd cc
-try_within end_code e = absurd cc
-try_within x e = refl
+try_within _ e = cc
 
 -- A part of a code.
 abbrev InCode : Part → Type 0
@@ -98,12 +91,19 @@ Meets form (after_insns labels) es s = (es ≡ labels) × InCode (part_of s.bloc
 
 meets_on : (form : Form) (w : Where) (es : List Label) (s : State) → Meets form w es s → Meets form w es (counted s)
 meets_on form outside es s m = m
-meets_on form (among labels ahead k) es s m = m
-meets_on form (after_insns labels) es s m = m
+meets_on form _ es s m = m
 
 -- The lines are read to this state, however many they are.
 abbrev pub ReadTo : Form → List Label → State → List (List ℕ) → State → Type 0
 ReadTo form es s ls t = (m : ℕ) × Reads (rd form es s) ls [] (rd form [] (at_line t m))
+
+-- A line of the program, and what is read after it.
+step_on : (form : Form) (es : List Label) (s t : State) (l : List ℕ) (ls : List (List ℕ)) (n k : ℕ) (x : Line) (xs : List Numbered) → s.lines ≡ n → SaysLine form es k l x → (insn_said x ≡ true → insn_count s.block ≡ k) → is_start (stage_of s.block) ≡ false
+    → Runs s ((n + 1, x) ∷ xs) t → ((u : State) → Steps s (s.lines + 1) x u → u.lines ≡ n + 1 → Runs u xs t → ReadTo form (labels_by form x (s.lines + 1 + 1) ls es) u ls t) → ReadTo form es s (l ∷ ls) t
+step_on form es s t l ls n k x xs e y c b r after =
+    let p : Steps s (s.lines + 1) x r.0 = subst (λ z. Steps s (z + 1) x r.0) (sym e) r.1 in
+    let z = after r.0 p (lines_kept (at_line s (s.lines + 1)) r.0 x p.added ∙ ap (λ v. v + 1) e) r.2 in
+    (z.0, read_on (rd form es s) (rd form (labels_by form x (s.lines + 1 + 1) ls es) r.0) (rd form [] (at_line t z.0)) l ls (step_taken form es s ls l k x r.0 y c b p) z.1)
 
 pub to_reads : (form : Form) {w : Where} {n : ℕ} {ls : List (List ℕ)} {xs : List Numbered} → SayLines form w n ls xs → (es : List Label) (s t : State) → s.lines ≡ n → Meets form w es s → Runs s xs t → ReadTo form es s ls t
 to_reads form no_lines es s t e m r =
@@ -112,26 +112,17 @@ to_reads form (silent {w = w} {l = l} {ls = ls} q d) es s t e m r =
     let y = to_reads form d es (counted s) t (ap (λ z. z + 1) e) (meets_on form w es s m) (again s t _ (s.lines + 1) r) in
     (y.0, read_on (rd form es s) (rd form es (counted s)) (rd form [] (at_line t y.0)) l ls (inl (q, refl)) y.1)
 to_reads form (one_line {n = n} {l = l} {ls = ls} {x = x} {xs = xs} y o d) es s t e m r =
-    let u = r.0 in
-    let p : Steps s (s.lines + 1) x u = subst (λ z. Steps s (z + 1) x u) (sym e) r.1 in
     let i = out_is s.block m.1 in
-    let k = step_taken form es s ls l 0 x u (subst (λ z. SaysLine form z 0 l x) (sym m.0) y) (λ h. i.4) i.3 p in
-    let es1 = labels_by form x (s.lines + 1 + 1) ls es in
-    let none : es1 ≡ [] = ap (labels_by form x (s.lines + 1 + 1) ls) m.0 ∙ none_by form x (s.lines + 1 + 1) ls o in
+    step_on form es s t l ls n 0 x xs e (subst (λ z. SaysLine form z 0 l x) (sym m.0) y) (λ h. i.4) i.3 r (λ u p f more.
+    let none = ap (labels_by form x (s.lines + 1 + 1) ls) m.0 ∙ none_by form x (s.lines + 1 + 1) ls o in
     let part : part_of u.block ≡ out = part_moves s (s.lines + 1) x u p ∙ ap (part_after x) m.1 ∙ out_goes x s.block m.1 p.stands o in
-    let z = to_reads form d es1 u t (lines_kept (at_line s (s.lines + 1)) u x p.added ∙ ap (λ v. v + 1) e) (none, part) r.2 in
-    (z.0, read_on (rd form es s) (rd form es1 u) (rd form [] (at_line t z.0)) l ls k z.1)
+    to_reads form d _ u t f (none, part) more)
 to_reads form (code_line {n = n} {l = l} {ls = ls} {r = a} {i = b} {o = c} {labels = labels} {xs = xs} y distinct d) es s t e m r =
     let x = open_code a b c in
-    let u = r.0 in
-    let p : Steps s (s.lines + 1) x u = subst (λ z. Steps s (z + 1) x u) (sym e) r.1 in
     let i = out_is s.block m.1 in
-    let k = step_taken form es s ls l 0 x u (subst (λ z. SaysLine form z 0 l x) (sym m.0) y) (λ h. i.4) i.3 p in
-    let es1 = labels_by form x (s.lines + 1 + 1) ls es in
-    let there : es1 ≡ labels = ap (labels_by form x (s.lines + 1 + 1) ls) m.0 ∙ ap (λ v. labels_by form x (v + 1 + 1) ls []) e ∙ ahead_there form (n + 1) a b c labels ls xs distinct d in
-    let part : part_of u.block ≡ insns 0 = part_moves s (s.lines + 1) x u p in
-    let z = to_reads form d es1 u t (lines_kept (at_line s (s.lines + 1)) u x p.added ∙ ap (λ v. v + 1) e) (there, part, distinct, no_labels form 0 (n + 1) labels ls xs d, ([], refl)) r.2 in
-    (z.0, read_on (rd form es s) (rd form es1 u) (rd form [] (at_line t z.0)) l ls k z.1)
+    step_on form es s t l ls n 0 x xs e (subst (λ z. SaysLine form z 0 l x) (sym m.0) y) (λ h. i.4) i.3 r (λ u p f more.
+    let there = ap (labels_by form x (s.lines + 1 + 1) ls) m.0 ∙ ap (λ v. labels_by form x (v + 1 + 1) ls []) e ∙ ahead_there form (n + 1) a b c labels ls xs distinct d in
+    to_reads form d _ u t f (there, part_moves s (s.lines + 1) x u p, distinct, no_labels form 0 (n + 1) labels ls xs d, ([], refl)) more)
 to_reads form (label_line {labels = labels} {ahead = ahead} {k = k} {n = n} {l = l} {name = name} {ls = ls} {xs = xs} y d) es s t e m r =
     let new : Label = record { name = name; line = n + 1; number = k } in
     let pre = m.4.0 in
@@ -144,33 +135,19 @@ to_reads form (label_line {labels = labels} {ahead = ahead} {k = k} {n = n} {l =
     (z.0, read_on (rd form es s) (rd form es (counted s)) (rd form [] (at_line t z.0)) l ls q z.1)
 to_reads form (one_insn {labels = labels} {ahead = ahead} {k = k} {n = n} {l = l} {ls = ls} {i = a} {xs = xs} y d) es s t e m r =
     let x = insn_line a in
-    let u = r.0 in
-    let p : Steps s (s.lines + 1) x u = subst (λ z. Steps s (z + 1) x u) (sym e) r.1 in
     let i = insns_is s.block k m.1 in
-    let q = step_taken form es s ls l k x u (subst (λ z. SaysLine form z k l x) (sym m.0) y) (λ h. i.1) (ap is_start i.0) p in
-    let es1 = labels_by form x (s.lines + 1 + 1) ls es in
-    let same : es1 ≡ labels = same_labels form x (s.lines + 1 + 1) ls es refl ∙ m.0 in
+    step_on form es s t l ls n k x xs e (subst (λ z. SaysLine form z k l x) (sym m.0) y) (λ h. i.1) (ap is_start i.0) r (λ u p f more.
+    let same = same_labels form x (s.lines + 1 + 1) ls es refl ∙ m.0 in
     let part : part_of u.block ≡ insns (k + 1) = part_moves s (s.lines + 1) x u p ∙ ap (part_after x) m.1 in
-    let z = to_reads form d es1 u t (lines_kept (at_line s (s.lines + 1)) u x p.added ∙ ap (λ v. v + 1) e) (same, part, m.2, m.3, m.4) r.2 in
-    (z.0, read_on (rd form es s) (rd form es1 u) (rd form [] (at_line t z.0)) l ls q z.1)
+    to_reads form d _ u t f (same, part, m.2, m.3, m.4) more)
 to_reads form (no_insn {labels = labels} {k = k} d) es s t e m r = to_reads form d es s t e (m.0, inr (k, m.1), m.3) r
 to_reads form (of_try {labels = labels} {n = n} {l = l} {ls = ls} {x = x} {xs = xs} y o d) es s t e m r =
-    let u = r.0 in
-    let p : Steps s (s.lines + 1) x u = subst (λ z. Steps s (z + 1) x u) (sym e) r.1 in
     let no = try_no_insn x o in
-    let q = step_taken form es s ls l 0 x u (subst (λ z. SaysLine form z 0 l x) (sym m.0) y) (λ h. absurd cc) (begun_by s.block m.1) p in
-    let es1 = labels_by form x (s.lines + 1 + 1) ls es in
-    let same : es1 ≡ labels = same_labels form x (s.lines + 1 + 1) ls es (try_within x o) ∙ m.0 in
+    step_on form es s t l ls n 0 x xs e (subst (λ z. SaysLine form z 0 l x) (sym m.0) y) (λ h. absurd cc) (begun_by s.block m.1) r (λ u p f more.
+    let same = same_labels form x (s.lines + 1 + 1) ls es (try_within x o) ∙ m.0 in
     let part : part_of u.block ≡ later = part_moves s (s.lines + 1) x u p ∙ try_goes x (part_of s.block) o in
-    let z = to_reads form d es1 u t (lines_kept (at_line s (s.lines + 1)) u x p.added ∙ ap (λ v. v + 1) e) (same, inl part, m.2) r.2 in
-    (z.0, read_on (rd form es s) (rd form es1 u) (rd form [] (at_line t z.0)) l ls q z.1)
+    to_reads form d _ u t f (same, inl part, m.2) more)
 to_reads form (code_end {labels = labels} {n = n} {l = l} {ls = ls} {xs = xs} y d) es s t e m r =
-    let x = end_code in
-    let u = r.0 in
-    let p : Steps s (s.lines + 1) x u = subst (λ z. Steps s (z + 1) x u) (sym e) r.1 in
-    let q = step_taken form es s ls l 0 x u (subst (λ z. SaysLine form z 0 l x) (sym m.0) y) (λ h. absurd cc) (begun_by s.block m.1) p in
-    let es1 = labels_by form x (s.lines + 1 + 1) ls es in
-    let none : es1 ≡ [] = end_by form (s.lines + 1 + 1) ls es (subst (NoLabels form) (sym m.0) m.2) in
-    let part : part_of u.block ≡ out = part_moves s (s.lines + 1) x u p in
-    let z = to_reads form d es1 u t (lines_kept (at_line s (s.lines + 1)) u x p.added ∙ ap (λ v. v + 1) e) (none, part) r.2 in
-    (z.0, read_on (rd form es s) (rd form es1 u) (rd form [] (at_line t z.0)) l ls q z.1)
+    step_on form es s t l ls n 0 end_code xs e (subst (λ z. SaysLine form z 0 l end_code) (sym m.0) y) (λ h. absurd cc) (begun_by s.block m.1) r (λ u p f more.
+    let none = end_by form (s.lines + 1 + 1) ls es (subst (NoLabels form) (sym m.0) m.2) in
+    to_reads form d _ u t f (none, part_moves s (s.lines + 1) end_code u p) more)

@@ -26,7 +26,7 @@ use listing_words::Word;
 fn is_name_byte(c: u8) -> bool
     ensures { result ≡ says.is_name_byte c }
 {
-    (48 <= c && c <= 57) || (65 <= c && c <= 90) || (97 <= c && c <= 122) || c == 95
+    matches!(c, b'0'..=b'9' | b'A'..=b'Z' | b'a'..=b'z' | b'_')
 }
 
 /// Whether all bytes can.
@@ -46,7 +46,7 @@ pub fn is_mark(word: &[u8]) -> bool
     ensures { result ≡ says.is_mark word.now }
 {
     match word.split_first() {
-        Some((first, _)) => *first == 58,
+        Some((first, _)) => *first == b':',
         None => false,
     }
 }
@@ -58,7 +58,7 @@ pub fn is_label(word: &[u8]) -> bool
     let Some((first, name)) = word.split_first() else {
         return false;
     };
-    *first == 58 && 0 < name.len() && name.len() <= 32 && are_name_bytes(name)
+    *first == b':' && 0 < name.len() && name.len() <= 32 && are_name_bytes(name)
 }
 
 /// The text without the spaces at its front.
@@ -67,7 +67,7 @@ fn after_spaces(text: &[u8]) -> &[u8]
 {
     let mut rest = text;
     while let Some((first, after)) = rest.split_first() {
-        if *first != 32 {
+        if *first != b' ' {
             return rest;
         }
         rest = after;
@@ -80,7 +80,7 @@ fn up_to_space(text: &[u8]) -> &[u8]
     ensures { result.now ≡ up_to_space text.now }
 {
     for end in 0..text.len() {
-        if text[end] == 32 {
+        if text[end] == b' ' {
             let (front, _) = text.split_at(end);
             return front;
         }
@@ -93,7 +93,7 @@ fn is_comment(words: &[u8]) -> bool
     ensures { result ≡ is_comment words.now }
 {
     match words.split_first() {
-        Some((first, _)) => *first == 35,
+        Some((first, _)) => *first == b'#',
         None => true,
     }
 }
@@ -106,7 +106,7 @@ fn is_stop(words: &[u8]) -> bool
     let Some((first, _)) = words.split_first() else {
         return false;
     };
-    if *first != 116 && *first != 101 {
+    if *first != b't' && *first != b'e' {
         return false;
     }
     let word = up_to_space(words);

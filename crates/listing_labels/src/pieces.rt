@@ -14,7 +14,7 @@ pub fn split_line(text: &[u8]) -> Option<(&[u8], &[u8])>
     if text.is_empty() {
         return None;
     }
-    let (line, after) = split_before(10, text);
+    let (line, after) = split_before(b'\n', text);
     if after.is_empty() {
         return Some((line, after));
     }
@@ -27,8 +27,8 @@ pub fn is_skipped(line: &[u8]) -> bool
     ensures { result ≡ is_skipped line.now }
 {
     for i in 0..line.len() {
-        if line[i] != 32 {
-            return line[i] == 35;
+        if line[i] != b' ' {
+            return line[i] == b'#';
         }
     }
     true

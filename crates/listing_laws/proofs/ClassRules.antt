@@ -1,8 +1,8 @@
 -- A program that keeps the rules, and whose numbers lie in their ranges, is written.
-use Rattle.std.proofs.Common.{◌≡◌, ℕ, suc, List, [], ◌∷◌, ◌++◌, map, Option, Some, None, IfSome, refl, arith}
+use Rattle.std.proofs.Common.{◌≡◌, ℕ, suc, List, [], ◌∷◌, map, Option, Some, None, IfSome, refl, arith}
 use Rattle.std.specs.List.{AllByRecursion, flat_map, slice_get}
 use Rattle.program_types.specs.Content as content
-use Rattle.program_types.specs.Content.{Units, Descriptor, Name, OfText, OfDesc, OfField, OfMethod, Value, Values, no_values, more_values, Code, Member, Method, Class, Program}
+use Rattle.program_types.specs.Content.{Units, Descriptor, Name, OfText, OfDesc, OfField, Value, Values, no_values, more_values, Code, Member, Method, Class, Program}
 use Rattle.program_types.specs.Mentions.{if_any, names_of_value, names_of_values, names_of_code, field_of_class, names_of_method, names_of_class}
 use Rattle.program_rules.specs.Valid.{IsValidName}
 use Rattle.program_types.specs.Formed.{IsFormed}
@@ -29,9 +29,7 @@ names_of (n ∷ ns) v r = ((v.0, r.0), names_of ns v.1 r.1)
 
 named_fits : (n : Name) → IsNamed n → FitOperands (value_operands (content.Named n))
 named_fits (OfText us) w = (refl, (name_fits (OfText us) w, tt))
-named_fits (OfDesc d) w = (refl, (name_fits (OfDesc d) w, tt))
-named_fits (OfField f) w = (refl, (name_fits (OfField f) w, tt))
-named_fits (OfMethod m) w = (refl, (name_fits (OfMethod m) w, tt))
+named_fits n w = (refl, (name_fits n w, tt))
 
 mutual
   value_fits : (v : Value) → ValueInRange v → AllByRecursion IsNamed (names_of_value v) → FitOperands (value_operands v)
@@ -118,37 +116,22 @@ record Mentioned (c : Class) : Type 0 where
 
 mentioned : (c : Class) → AllByRecursion IsNamed (names_of_class c) → Mentioned c
 mentioned c w =
-    let l1 = OfDesc c.ty ∷ if_any (λ t. OfDesc t ∷ []) c.superclass in
-    let m2 = map OfDesc c.interfaces in
-    let m3 = if_any (λ s. OfText s ∷ []) c.source in
-    let m4 = map (field_of_class c.ty) c.statics in
-    let m5 = flat_map names_of_value c.values in
-    let m6 = map (field_of_class c.ty) c.instances in
-    let m7 = flat_map (names_of_method c.ty) c.directs in
-    let m8 = flat_map (names_of_method c.ty) c.virtuals in
-    let l2 = l1 ++ m2 in
-    let l3 = l2 ++ m3 in
-    let l4 = l3 ++ m4 in
-    let l5 = l4 ++ m5 in
-    let l6 = l5 ++ m6 in
-    let l7 = l6 ++ m7 in
-    let w7 = all_front IsNamed l7 m8 w in
-    let w6 = all_front IsNamed l6 m7 w7 in
-    let w5 = all_front IsNamed l5 m6 w6 in
-    let w4 = all_front IsNamed l4 m5 w5 in
-    let w3 = all_front IsNamed l3 m4 w4 in
-    let w2 = all_front IsNamed l2 m3 w3 in
-    let w1 = all_front IsNamed l1 m2 w2 in
+    let w7 = all_front IsNamed _ _ w.1 in
+    let w6 = all_front IsNamed _ _ w7 in
+    let w5 = all_front IsNamed _ _ w6 in
+    let w4 = all_front IsNamed _ _ w5 in
+    let w3 = all_front IsNamed _ _ w4 in
+    let w2 = all_front IsNamed _ _ w3 in
     record {
-      class = w1.0;
-      superclass = w1.1;
-      interfaces = all_back IsNamed l1 m2 w2;
-      source = all_back IsNamed l2 m3 w3;
-      statics = all_back IsNamed l3 m4 w4;
-      values = all_back IsNamed l4 m5 w5;
-      instances = all_back IsNamed l5 m6 w6;
-      directs = all_back IsNamed l6 m7 w7;
-      virtuals = all_back IsNamed l7 m8 w;
+      class = w.0;
+      superclass = all_front IsNamed _ _ w2;
+      interfaces = all_back IsNamed _ _ w2;
+      source = all_back IsNamed _ _ w3;
+      statics = all_back IsNamed _ _ w4;
+      values = all_back IsNamed _ _ w5;
+      instances = all_back IsNamed _ _ w6;
+      directs = all_back IsNamed _ _ w7;
+      virtuals = all_back IsNamed _ _ w.1;
     }
 
 class_fits : (p : Program) (i : ℕ) (c : Class) → ClassHolds p i c → ClassInRange c → ClassFits c

@@ -16,7 +16,7 @@ use Rattle.listing_words.specs.Words.{Word, plain_word, IsWritable, line_bytes}
 use Rattle.listing_words.proofs.PrintLaws.{line_again}
 use Rattle.listing_slots.proofs.ShownLaws.{word_written}
 use Rattle.listing_print.specs.Printed.{keyed_text}
-use Rattle.listing_print.specs.Canon.{statics_text, direct_text, virtual_text, heads_text, fields_text, methods_text, class_text, first_text, text_in}
+use Rattle.listing_print.specs.Canon.{statics_text, fields_text, methods_text, class_text, first_text, text_in}
 use Rattle.listing_laws.proofs.Runs.{bare, RunsInto, RunsTo, outside, within, class_goes_on}
 use Rattle.listing_laws.proofs.Printable.{givens, ClassFits, IsPrintable}
 use Rattle.listing_laws.proofs.ClassRules.{printable}
@@ -47,13 +47,10 @@ fields_run form done n c f =
 
 members_run : (form : Form) (done : List Class) (n : ℕ) (c : Class) → ClassFits c → InClass form done (within at_heads done (heads_of c) None n) (fields_text c ++ (methods_text form) c) (whole c)
 members_run form done n c f =
-    let s = within at_heads done (heads_of c) None n in
     let x = fields_run form done n c f in
     let y = directs_run form done (fields_of c) c.directs x.part x.lines f.directs f.directs_rise in
     let o = record (fields_of c) { directs = c.directs } in
-    let z = virtuals_run form done o c.virtuals y.part y.lines f.virtuals f.virtuals_rise in
-    in_then form done s (fields_text c) ((methods_text form) c) (fields_of c) (whole c) x
-    (in_then form done (within x.part done (fields_of c) None x.lines) (flat_map (direct_text form) c.directs) (flat_map (virtual_text form) c.virtuals) o (whole c) y z)
+    in_then form done _ _ _ _ _ x (in_then form done _ _ _ _ _ y (virtuals_run form done o c.virtuals y.part y.lines f.virtuals f.virtuals_rise))
 
 -- what is closed is the class
 closed_again : (c : Class) → ClassFits c → closed (whole c) ≡ c
@@ -74,12 +71,11 @@ class_runs form done n c f =
     let h = heads_run form done n c f in
     let t = within at_heads done (heads_of c) None h.0 in
     let x = members_run form done h.0 c f in
-    let u = within x.part done (whole c) None x.lines in
     let v = outside (done ++ closed (whole c) ∷ []) (x.lines + 1) in
     let e = end_runs form done t (fields_text c ++ (methods_text form) c) (whole c) x in
-    let r = runs_join (bare form) t u v (fields_text c ++ (methods_text form) c) (keyed_text end_class) x.runs e in
+    let r = runs_join (bare form) _ _ _ _ _ x.runs e in
     let q = subst (λ (text : List ℕ). RunsTo (bare form) t text v) (append_assoc (fields_text c) ((methods_text form) c) (keyed_text end_class)) r in
-    let w = runs_join (bare form) s t v (heads_text c) (fields_text c ++ ((methods_text form) c ++ keyed_text end_class)) h.1 q in
+    let w = runs_join (bare form) _ _ _ _ _ h.1 q in
     subst (λ (d : Class). After form s ((class_text form) c) (done ++ d ∷ [])) (closed_again c f) (record { lines = x.lines + 1; runs = w })
 
 classes_run : (form : Form) (cs done : List Class) (n : ℕ) → IsPrintable cs → After form (outside done n) (flat_map (class_text form) cs) (done ++ cs)
@@ -90,9 +86,7 @@ classes_run form (c ∷ cs) done n f =
     let s = outside done n in
     let x = class_runs form done n c f.0 in
     let y = classes_run form cs (done ++ c ∷ []) x.lines f.1 in
-    let t = outside (done ++ c ∷ []) x.lines in
-    let u = outside ((done ++ c ∷ []) ++ cs) y.lines in
-    let r = runs_join (bare form) s t u ((class_text form) c) (flat_map (class_text form) cs) x.runs y.runs in
+    let r = runs_join (bare form) _ _ _ _ _ x.runs y.runs in
     subst (λ (ds : List Class). After form s (flat_map (class_text form) (c ∷ cs)) ds) (append_assoc done (c ∷ []) cs) (record { lines = y.lines; runs = r })
 
 -- ---- the first line
@@ -114,7 +108,4 @@ first_runs Two =
 pub printed_again : (form : Form) (p : Program) → WellFormed p → IsListing (text_in form p) p
 printed_again form p h =
     let x = classes_run form p [] 1 (printable p h) in
-    let s = outside [] 1 in
-    let t = outside p x.lines in
-    let r = runs_joined (bare One) (bare form) (bare form) start s t (first_text form) (flat_map (class_text form) p) (first_runs form) x.runs in
-    runs_whole (bare form) (text_in form p) p t r refl refl refl h
+    runs_whole (bare form) (text_in form p) p (outside p x.lines) (runs_joined (bare One) (bare form) (bare form) _ _ _ _ _ (first_runs form) x.runs) refl refl refl h

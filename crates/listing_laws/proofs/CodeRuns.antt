@@ -102,12 +102,9 @@ insns_run form ns es done o late (i ∷ is) b n k c h f m y a e w =
     let p = before_insn form ns n k in
     let g = frame form es in
     let s = among done o late b n in
-    let t = among done o late b p in
     let d = with_insn_more b i p in
-    let u = among done o late d (p + 1) in
     let q = mark_runs form ns es done o late (i ∷ is) b n k (omega arith) a in
     let x = step form es done o late b p k i (omega arith) f.0.0 f.0.1 (insn_marked form ns es c i m f.0.1 f.0.2 y.0) e in
     let z = insns_run form ns es done o late is d (p + 1) (k + 1) c (omega arith) f.1 m y.1 (ahead_next form ns es n k i is (omega arith) a) (one_more b.insns i k e) (need_fits c b.needs (p + 1) (insn_needs i) f.0.2 w) in
-    let v = among done o late (record d { insns = d.insns ++ is; needs = z.1 }) z.0 in
-    let r = runs_join g s t v (label_if_named form ns k) (insn_text form k i ++ insns_text form ns (k + 1) is) q (runs_join g t u v (insn_text form k i) (insns_text form ns (k + 1) is) x z.2) in
+    let r = runs_join g _ _ _ _ _ q (runs_join g _ _ _ _ _ x z.2) in
     (z.0, z.1, subst (λ (l : List Insn). RunsTo g s (insns_text form ns k (i ∷ is)) (among done o late (record b { insns = l; needs = z.1 }) z.0)) (append_assoc b.insns (i ∷ []) is) r, z.3)

@@ -23,18 +23,11 @@ use Rattle.listing_laws.proofs.InClass.{InClass, with_last, each_runs}
 abbrev with_instances : Open → List Member → Open
 with_instances o ms = record o { instances = ms }
 
-instance_goes_last : (p : ClassPart) (done : List Class) (o : Open) (n : ℕ) (m : Member) → AllBelow (map member_key o.instances) (member_key m)
-    → add (within p done o None n) (instance_line m) ≡ Some (within at_members done (record o { instances = o.instances ++ m ∷ [] }) None n)
-unfolding add inside with_instance
-instance_goes_last p done o n m h = rw (with_last member_key m o.instances h) refl
-
 instance_step : (form : Form) (done : List Class) (o : Open) (p : ClassPart) (n : ℕ) (before : List Member) (m : Member) → FieldFits m → AllBelow (map member_key before) (member_key m)
     → InClass form done (within p done (with_instances o before) None n) (keyed_text (instance_line m)) (with_instances o (before ++ m ∷ []))
-unfolding may_stand
+unfolding may_stand add inside with_instance
 instance_step form done o p n before m f h =
-    let s = within p done (with_instances o before) None n in
-    let t = within at_members done (with_instances o (before ++ m ∷ [])) None (n + 1) in
-    record { part = at_members; lines = n + 1; runs = keyed_runs form s t (instance_line m) tt tt f (class_goes_on p) (instance_goes_last p done (with_instances o before) (n + 1) m h) }
+    record { part = at_members; lines = n + 1; runs = keyed_runs form _ _ (instance_line m) tt tt f (class_goes_on p) (rw (with_last member_key m before h) refl) }
 
 pub instances_run : (form : Form) (done : List Class) (o : Open) (ms : List Member) (p : ClassPart) (n : ℕ) → AllByRecursion FieldFits ms → KeysAreSorted (map member_key ms)
     → InClass form done (within p done (with_instances o []) None n) (flat_map (λ m. keyed_text (instance_line m)) ms) (with_instances o ms)
@@ -45,11 +38,6 @@ instances_run form done o ms p n f s = each_runs form done (λ (m : Member). key
 abbrev with_statics : Open → List Given → Open
 with_statics o gs = record o { statics = gs }
 
-static_goes_last : (p : ClassPart) (done : List Class) (o : Open) (n : ℕ) (g : Given) → AllBelow (map given_key o.statics) (given_key g)
-    → add (within p done o None n) (static_line g.field g.value) ≡ Some (within at_members done (record o { statics = o.statics ++ g ∷ [] }) None n)
-unfolding add inside with_static
-static_goes_last p done o n g h = rw (with_last given_key g o.statics h) refl
-
 given_runs : (form : Form) (s t : State) (m : Member) (v : Option Value) → FitOperands (line_operands (static_line m v)) → is_in_class (stage_of s.block) ≡ true → add (counted s) (static_line m v) ≡ Some t → RunsTo (bare form) s (keyed_text (static_line m v)) t
 unfolding may_stand
 given_runs form s t m None f k a = keyed_runs form s t (static_line m None) tt tt f k a
@@ -57,10 +45,9 @@ given_runs form s t m (Some v) f k a = keyed_runs form s t (static_line m (Some 
 
 static_step : (form : Form) (done : List Class) (o : Open) (p : ClassPart) (n : ℕ) (before : List Given) (g : Given) → GivenFits g → AllBelow (map given_key before) (given_key g)
     → InClass form done (within p done (with_statics o before) None n) (keyed_text (static_line g.field g.value)) (with_statics o (before ++ g ∷ []))
+unfolding add inside with_static
 static_step form done o p n before g f h =
-    let s = within p done (with_statics o before) None n in
-    let t = within at_members done (with_statics o (before ++ g ∷ [])) None (n + 1) in
-    record { part = at_members; lines = n + 1; runs = given_runs form s t g.field g.value f (class_goes_on p) (static_goes_last p done (with_statics o before) (n + 1) g h) }
+    record { part = at_members; lines = n + 1; runs = given_runs form _ _ g.field g.value f (class_goes_on p) (rw (with_last given_key g before h) refl) }
 
 -- the text of the fields, one by one
 statics_each : (ms : List Member) (vs : List Value) → flat_map (λ (g : Given). keyed_text (static_line g.field g.value)) (givens ms vs) ≡ statics_text ms vs

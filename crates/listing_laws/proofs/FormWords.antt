@@ -11,7 +11,7 @@ use Rattle.listing_slots.specs.declared.slot.Mark.TheVariants as mark
 use Rattle.listing_slots.specs.declared.slot.Mark.TheVariants.{Target}
 use Rattle.listing_slots.specs.declared.slot.Slot.{Slot}
 use Rattle.listing_slots.specs.declared.slot.Slot.TheVariants as slot
-use Rattle.listing_slots.specs.Data.{Datum, byte, half, word, wide, tiny, short, int, long, elements, named, constant, prototype, said}
+use Rattle.listing_slots.specs.Data.{Datum, word}
 use Rattle.listing_slots.specs.Shown.{shown, FitsSlot}
 use Rattle.listing_slots.proofs.ShownLaws.{shown_says, shown_written, number_written}
 use Rattle.listing_lines.specs.declared.form.Form.{Form}
@@ -87,18 +87,7 @@ words_one (o ∷ os) = rw (shown_one o.slot o.says, words_one os) refl
 
 here_says : (es : List Label) (s : Slot) (d : Datum) → FitsSlot s d → TargetIsMarked Two es s d → SpellsHere es s (shown_in Two s d) d
 here_says es (slot.Word Target most) (word n) h m = (label_name n, refl, named_label n h.1, ap word (sym m))
-here_says es (slot.Word Target most) (byte n) h m = absurd h
-here_says es (slot.Word Target most) (half n) h m = absurd h
-here_says es (slot.Word Target most) (wide n) h m = absurd h
-here_says es (slot.Word Target most) (tiny z) h m = absurd h
-here_says es (slot.Word Target most) (short z) h m = absurd h
-here_says es (slot.Word Target most) (int z) h m = absurd h
-here_says es (slot.Word Target most) (long z) h m = absurd h
-here_says es (slot.Word Target most) (elements bs) h m = absurd h
-here_says es (slot.Word Target most) (named n) h m = absurd h
-here_says es (slot.Word Target most) (constant f) h m = absurd h
-here_says es (slot.Word Target most) (prototype p) h m = absurd h
-here_says es (slot.Word Target most) (said k) h m = absurd h
+here_says es (slot.Word Target most) _ h m = absurd h
 here_says es s d h m = shown_says s d h
 
 all_say : (es : List Label) (os : List Operand) → FitOperands os → TargetsAreMarked Two es os → SpellsAll es (slots_of os) (words_in Two os) (data_of os)

@@ -1,8 +1,8 @@
 -- No target stands in the slots of a static field's line: both forms read its words alike.
-use Rattle.std.proofs.Common.{◌≡◌, ℕ, Bool, true, false, if◌then◌else◌, List, [], ◌∷◌, Option, Some, None, refl, sym, subst}
+use Rattle.std.proofs.Common.{◌≡◌, ℕ, Bool, true, false, if◌then◌else◌, List, [], ◌∷◌, Option, Some, None, refl, sym, subst, rules}
 use Rattle.std.specs.Prelude.{zero, suc}
 use Rattle.std.specs.List.{AllByRecursion}
-use Rattle.listing_words.specs.Words.{Word, plain_word, text_in_quotes}
+use Rattle.listing_words.specs.Words.{Word, plain_word}
 use Rattle.listing_slots.specs.declared.key.Key.{Key}
 use Rattle.listing_slots.specs.declared.key.Key.TheVariants as key
 use Rattle.listing_slots.specs.declared.kind.Kind.TheVariants as kind
@@ -37,9 +37,7 @@ slot_is_free : (d : Due) (w : Word) → IsFree d → is_target (slot_at d w) ≡
 unfolding slot_at
 slot_is_free (due.Word s n) w h = h
 slot_is_free (due.Value n) (plain_word w) h = key_is_free (same (key_text key.Close) w) (find_key value_keys w)
-slot_is_free (due.Value n) (text_in_quotes us) h = refl
-slot_is_free due.Nothing w h = refl
-slot_is_free due.Refused w h = refl
+slot_is_free _ w h = refl
 
 free_after : (n : ℕ) → IsFree (due_after n)
 free_after zero = tt
@@ -51,19 +49,7 @@ free_after_close (suc n) = free_after n
 
 free_of_key : (n : ℕ) (k : Key) → IsFree (due_of_key n k)
 free_of_key n key.Array = refl
-free_of_key n key.Byte = refl
-free_of_key n key.Short = refl
-free_of_key n key.Char = refl
-free_of_key n key.Int = refl
-free_of_key n key.Long = refl
-free_of_key n key.Float = refl
-free_of_key n key.Double = refl
-free_of_key n key.Text = refl
-free_of_key n key.Desc = refl
-free_of_key n key.Field = refl
-free_of_key n key.Method = refl
-free_of_key n key.Enum = refl
-free_of_key n _ = free_after n
+free_of_key n _ = search (rules, free_after)
 
 free_after_key : (n : ℕ) (b : Bool) (o : Option Key) → IsFree (if b then due_after_close n else due_after_key n o)
 free_after_key n true o = free_after_close n
@@ -74,9 +60,7 @@ free_after_word : (d : Due) (w : Word) → IsFree (due_after_word d w)
 unfolding due_after_word
 free_after_word (due.Word s n) w = free_after n
 free_after_word (due.Value n) (plain_word w) = free_after_key n (same (key_text key.Close) w) (find_key value_keys w)
-free_after_word (due.Value n) (text_in_quotes us) = tt
-free_after_word due.Nothing w = tt
-free_after_word due.Refused w = tt
+free_after_word _ w = tt
 
 values_are_free : (ws : List Word) (d : Due) (ss : List Slot) → IsFree d → value_slots d ws ≡ Some ss → AreFree ss
 unfolding value_slots
@@ -100,16 +84,10 @@ row_is_free row false (Some ss) f e =
 
 pub said_here : (ls : List Label) (ss : List Slot) (ws : List Word) (ds : List Datum) → AreFree ss → SpellsSlots ss ws ds → SpellsAll ls ss ws ds
 said_here ls [] [] [] f h = tt
-said_here ls [] [] (d ∷ ds) f h = absurd h
-said_here ls [] (w ∷ ws) ds f h = absurd h
-said_here ls (s ∷ ss) [] ds f h = absurd h
-said_here ls (s ∷ ss) (w ∷ ws) [] f h = absurd h
 said_here ls (s ∷ ss) (w ∷ ws) (d ∷ ds) f h = (subst (λ b. SpellsBy b ls s w d) (sym f.0) h.0, said_here ls ss ws ds f.1 h.1)
+said_here ls _ _ _ f h = absurd h
 
 pub said_anywhere : (ls : List Label) (ss : List Slot) (ws : List Word) (ds : List Datum) → AreFree ss → SpellsAll ls ss ws ds → SpellsSlots ss ws ds
 said_anywhere ls [] [] [] f h = tt
-said_anywhere ls [] [] (d ∷ ds) f h = absurd h
-said_anywhere ls [] (w ∷ ws) ds f h = absurd h
-said_anywhere ls (s ∷ ss) [] ds f h = absurd h
-said_anywhere ls (s ∷ ss) (w ∷ ws) [] f h = absurd h
 said_anywhere ls (s ∷ ss) (w ∷ ws) (d ∷ ds) f h = (subst (λ b. SpellsBy b ls s w d) f.0 h.0, said_anywhere ls ss ws ds f.1 h.1)
+said_anywhere ls _ _ _ f h = absurd h

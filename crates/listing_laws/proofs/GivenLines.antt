@@ -59,10 +59,8 @@ parts_say a b c d rest x y z e es ss m v h f g l =
 
 -- a word for the first slot
 first_word : (s : Slot) (ss : List Slot) (ws : List Word) (ds : List Datum) → SpellsSlots (s ∷ ss) ws ds → (w : Word) × (rest : List Word) × (x : Datum) × (more : List Datum) × (ws ≡ w ∷ rest) × (ds ≡ x ∷ more) × SpellsSlots ss rest more
-first_word s ss [] [] g = absurd g
-first_word s ss [] (x ∷ ds) g = absurd g
-first_word s ss (w ∷ ws) [] g = absurd g
 first_word s ss (w ∷ ws) (x ∷ ds) g = (w, ws, x, ds, refl, refl, g.1)
+first_word s ss _ _ g = absurd g
 
 words_say : (ws : List Word) (ds : List Datum) (ss : List Slot) (m : Member) (v : Value) → value_slots (due.Value 0) (drop 4 ws) ≡ Some ss → have_forms (given_slots ss) ws ≡ true
     → SpellsSlots (given_slots ss) ws ds → line_of kind.Given ds ≡ static_line m (Some v) → SayGiven ws m v

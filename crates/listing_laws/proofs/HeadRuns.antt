@@ -7,7 +7,7 @@ use Rattle.program_rules.specs.Rules.{AreDistinct}
 use Rattle.listing_lines.specs.Lines.{open_class, super_line, implements_line, source_line}
 use Rattle.listing_slots.specs.Keys.{same}
 use Rattle.listing_lines.specs.Places.{may_stand}
-use Rattle.listing_draft.specs.States.{Open, at_heads, with_superclass, with_interface, with_source, counted, add, inside, opened, is_among}
+use Rattle.listing_draft.specs.States.{Open, at_heads, with_superclass, with_interface, with_source, add, inside, opened, is_among}
 use Rattle.listing_print.specs.Printed.{line_operands, keyed_text}
 use Rattle.listing_print.specs.Canon.{super_text, source_text, heads_text}
 use Rattle.listing_print.specs.Reading.{FitOperands}
@@ -68,15 +68,10 @@ not_before before d rest true e h =
     let y = among_at before d e in
     absurd (h (length before) (omega (arith, length-append before (d ∷ rest))) y.0 y.1 (get_front before (d ∷ rest) y.0 d y.2 ∙ sym (get_after before d rest)))
 
-interface_added : (done : List Class) (n : ℕ) (c : Class) (u : Option Descriptor) (before : List Descriptor) (d : Descriptor) → is_among before d ≡ false
-    → add (counted (within at_heads done (headed c u before None) None n)) (implements_line d) ≡ Some (within at_heads done (headed c u (before ++ d ∷ []) None) None (n + 1))
-unfolding add inside with_interface
-interface_added done n c u before d h = rw h refl
-
 interface_step : (form : Form) (done : List Class) (n : ℕ) (c : Class) (u : Option Descriptor) (before : List Descriptor) (d : Descriptor) → InterfaceFits d → is_among before d ≡ false
     → RunsTo (bare form) (within at_heads done (headed c u before None) None n) (keyed_text (implements_line d)) (within at_heads done (headed c u (before ++ d ∷ []) None) None (n + 1))
-unfolding may_stand
-interface_step form done n c u before d f h = keyed_runs form (within at_heads done (headed c u before None) None n) (within at_heads done (headed c u (before ++ d ∷ []) None) None (n + 1)) (implements_line d) tt tt f refl (interface_added done n c u before d h)
+unfolding add inside may_stand with_interface
+interface_step form done n c u before d f h = keyed_runs form _ _ (implements_line d) tt tt f refl (rw h refl)
 
 interfaces_run : (form : Form) (done : List Class) (c : Class) (u : Option Descriptor) (ds before : List Descriptor) (n : ℕ) → AllByRecursion InterfaceFits ds → AreDistinct (before ++ ds)
     → (l : ℕ) × RunsTo (bare form) (within at_heads done (headed c u before None) None n) (flat_map (λ d. keyed_text (implements_line d)) ds) (within at_heads done (headed c u (before ++ ds) None) None l)
@@ -87,9 +82,8 @@ interfaces_run form done c u (d ∷ ds) before n f h =
     let e : (before ++ d ∷ []) ++ ds ≡ before ++ (d ∷ ds) = append_assoc before (d ∷ []) ds in
     let y = interfaces_run form done c u ds (before ++ d ∷ []) (n + 1) f.1 (subst AreDistinct (sym e) h) in
     let s = within at_heads done (headed c u before None) None n in
-    let t = within at_heads done (headed c u (before ++ d ∷ []) None) None (n + 1) in
     let x = interface_step form done n c u before d f.0 (not_before before d ds (is_among before d) refl h) in
-    let r = runs_join (bare form) s t (within at_heads done (headed c u ((before ++ d ∷ []) ++ ds) None) None y.0) (keyed_text (implements_line d)) (flat_map (λ i. keyed_text (implements_line i)) ds) x y.1 in
+    let r = runs_join (bare form) _ _ _ _ _ x y.1 in
     (y.0, subst (λ (is : List Descriptor). RunsTo (bare form) s (flat_map (λ i. keyed_text (implements_line i)) (d ∷ ds)) (within at_heads done (headed c u is None) None y.0)) e r)
 
 -- ---- all of them
@@ -101,13 +95,4 @@ heads_run form done n c f =
     let y = super_runs form done (n + 1) c c.superclass f.above in
     let z = interfaces_run form done c c.superclass c.interfaces [] y.0 f.interfaces f.distinct in
     let w = source_runs form done z.0 c c.superclass c.interfaces c.source f.source in
-    let s0 = outside done n in
-    let s1 = within at_heads done (headed c None [] None) None (n + 1) in
-    let s2 = within at_heads done (headed c c.superclass [] None) None y.0 in
-    let s3 = within at_heads done (headed c c.superclass c.interfaces None) None z.0 in
-    let s4 = within at_heads done (headed c c.superclass c.interfaces c.source) None w.0 in
-    let is = flat_map (λ d. keyed_text (implements_line d)) c.interfaces in (
-      w.0,
-      runs_join (bare form) s0 s1 s4 (keyed_text (open_class c.ty c.flags)) (super_text c.superclass ++ (is ++ source_text c.source)) x
-          (runs_join (bare form) s1 s2 s4 (super_text c.superclass) (is ++ source_text c.source) y.1 (runs_join (bare form) s2 s3 s4 is (source_text c.source) z.1 w.1)),
-    )
+    (w.0, runs_join (bare form) _ _ _ _ _ x (runs_join (bare form) _ _ _ _ _ y.1 (runs_join (bare form) _ _ _ _ _ z.1 w.1)))

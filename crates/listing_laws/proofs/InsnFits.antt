@@ -79,11 +79,9 @@ registers_fit (suc n) (r ∷ rs) h = (bits4 r (h 0 (omega arith)), registers_fit
 
 zeros : (m n : ℕ) (regs : List ℕ) → ((k : ℕ) → n ≤ k → get_or regs k 0 ≡ 0) → m + n ≡ length regs → drop n regs ≡ replicate m 0
 zeros zero zero [] h e = refl
-zeros zero zero (r ∷ rs) h e = absurd (omega arith)
-zeros (suc m) zero [] h e = absurd (omega arith)
 zeros (suc m) zero (r ∷ rs) h e = rw (h 0 (omega arith)) (ap (λ t. 0 ∷ t) (zeros m zero rs (λ k l. h (suc k) (omega arith)) (omega arith)))
-zeros m (suc n) [] h e = absurd (omega arith)
 zeros m (suc n) (r ∷ rs) h e = zeros m n rs (λ k l. h (suc k) (omega arith)) (omega arith)
+zeros _ _ _ h e = absurd (omega arith)
 
 targets_fit : (count : ℕ) (ts : List ℕ) → count ≤ 2147483647 → AllByRecursion (λ to. to < count) ts → FitOperands (map to ts)
 targets_fit count [] l h = tt

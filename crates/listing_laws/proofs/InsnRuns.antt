@@ -1,5 +1,5 @@
 -- A printed instruction is read as that instruction, in both forms.
-use Rattle.std.proofs.Common.{◌≡◌, ◌≢◌, ℕ, ◌+◌, ◌<◌, ◌≤◌, ◌^◌, ◌==◌, ◌&&◌, Bool, true, false, inr, List, [], ◌∷◌, ◌++◌, length, Some, refl, sym, ap, subst, ◌∙◌, append_assoc, arith}
+use Rattle.std.proofs.Common.{◌≡◌, ◌≢◌, ℕ, ◌+◌, ◌<◌, ◌≤◌, ◌^◌, ◌==◌, ◌&&◌, Bool, true, false, inr, List, [], ◌∷◌, ◌++◌, length, Some, refl, sym, ap, subst, ◌∙◌, append_assoc, arith, rules}
 use Rattle.std.specs.Prelude.{codes}
 use Rattle.std.specs.List.{AllByRecursion, list_all}
 use Rattle.std.specs.Fmt.{decimal}
@@ -144,9 +144,7 @@ mnemonic_other op = all_at is_other mnemonics op mnemonics_other empty_other
 insn_other : (i : Insn) → is_other (insn_word i) ≡ true
 unfolding same key_text
 insn_other (content.Packed first targets) = refl
-insn_other (content.Sparse keys targets) = refl
-insn_other (content.Data width bytes) = refl
-insn_other _ = mnemonic_other _
+insn_other _ = search (rules, mnemonic_other)
 
 not_true : (b : Bool) → not b ≡ true → b ≡ false
 not_true false e = refl

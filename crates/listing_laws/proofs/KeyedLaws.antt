@@ -1,5 +1,5 @@
 -- A printed line that begins with a keyword is read as that line, in both forms.
-use Rattle.std.proofs.Common.{◌≡◌, ℕ, ◌+◌, ◌&&◌, if◌then◌else◌, Bool, true, false, inr, List, [], ◌∷◌, ◌++◌, Some, None, refl, sym, ap, subst, ◌∙◌, append_assoc}
+use Rattle.std.proofs.Common.{◌≡◌, ℕ, ◌+◌, ◌&&◌, if◌then◌else◌, Bool, true, false, inr, List, [], ◌∷◌, ◌++◌, Some, None, refl, sym, ap, subst, ◌∙◌, append_assoc, rules}
 use Rattle.std.specs.List.{AllByRecursion}
 use Rattle.std.proofs.lemmas.List.{append-nil}
 use Rattle.program_types.specs.Content as content
@@ -13,7 +13,7 @@ use Rattle.listing_slots.specs.Keys.{key_text, same}
 use Rattle.listing_slots.specs.Data.{said}
 use Rattle.listing_slots.proofs.ShownLaws.{shown_written}
 use Rattle.listing_shapes.specs.Shapes.{Shape}
-use Rattle.listing_lines.specs.Lines.{Line, first_line, open_class, end_class, super_line, implements_line, source_line, static_line, instance_line, direct_line, virtual_line, open_code, end_code, insn_line, try_line, catch_line, catch_all_line}
+use Rattle.listing_lines.specs.Lines.{Line, first_line, static_line, open_code, end_code, insn_line, try_line, catch_line, catch_all_line}
 use Rattle.listing_lines.specs.Places.{may_stand, is_insn}
 use Rattle.listing_lines.specs.Forms.{is_two}
 use Rattle.listing_lines.specs.declared.form.Form.{Form}
@@ -53,9 +53,7 @@ no_aside f s ws h k = rw (h, k) (not_aside (is_two f.form) (mark_aside (at f s) 
 keyed_plain : (form : Form) (l : Line) → IsKeyedLine l → (is_second (keyed_words form l) ≡ false) × (begins_mark (keyed_words form l) ≡ false)
 unfolding key_text same
 keyed_plain form (static_line m None) k = (refl, refl)
-keyed_plain form (static_line m (Some v)) k = (refl, refl)
-keyed_plain form (insn_line i) k = absurd k
-keyed_plain form _ k = (refl, refl)
+keyed_plain form _ k = search rules
 
 pub keyed_is : (form : Form) (l : Line) → keyed_text_in form l ≡ line_bytes (keyed_words form l) ++ 10 ∷ []
 keyed_is form l =
@@ -74,7 +72,6 @@ key_shown _ rest = refl
 
 no_number : (l : Line) → is_insn (line_kind l) ≡ false
 no_number (static_line m None) = refl
-no_number (static_line m (Some v)) = refl
 no_number _ = refl
 
 keyed_shape : (form : Form) (l : Line) (k : IsKeyedLine l) → FitOperands (line_operands l) → HasShapeInForm form (keyed_words form l) (record { kind = line_kind l; label = []; slots = slots_of (line_operands l); words = words_in form (line_operands l) })
@@ -136,21 +133,11 @@ IsOfTry _ = ⊥
 
 class_keeps : (form : Form) (l : Line) (line : ℕ) (ls : List (List ℕ)) (es : List Label) → IsOfClass l → labels_after form (line_kind l) line ls es ≡ es
 class_keeps Two (static_line m None) line ls es h = refl
-class_keeps Two (static_line m (Some v)) line ls es h = refl
-class_keeps Two (open_code r i o) line ls es h = absurd h
-class_keeps Two end_code line ls es h = absurd h
-class_keeps Two (insn_line i) line ls es h = absurd h
-class_keeps Two (try_line f t) line ls es h = absurd h
-class_keeps Two (catch_line d n) line ls es h = absurd h
-class_keeps Two (catch_all_line n) line ls es h = absurd h
-class_keeps _ _ line ls es h = refl
+class_keeps _ _ line ls es h = search rules
 
 try_keeps : (form : Form) (l : Line) (line : ℕ) (ls : List (List ℕ)) (es : List Label) → IsOfTry l → labels_after form (line_kind l) line ls es ≡ es
-try_keeps One l line ls es h = refl
 try_keeps Two (try_line f t) line ls es h = refl
-try_keeps Two (catch_line d n) line ls es h = refl
-try_keeps Two (catch_all_line n) line ls es h = refl
-try_keeps Two _ line ls es h = absurd h
+try_keeps _ _ line ls es h = search rules
 
 -- no target stands in a value
 mutual
@@ -160,9 +147,7 @@ mutual
   value_marked es (content.Named (OfField f)) = (tt, (tt, tt))
   value_marked es (content.Named (OfMethod m)) = (tt, (tt, tt))
   value_marked es (content.Array vs) = (tt, (tt, all_append (λ (o : Operand). TargetIsMarked Two es o.slot o.says) (values_operands vs) (keyword key.Close ∷ []) (values_marked es vs) (tt, tt)))
-  value_marked es content.Null = (tt, tt)
-  value_marked es (content.Boolean b) = (tt, tt)
-  value_marked es _ = (tt, (tt, tt))
+  value_marked es _ = search rules
 
   values_marked : (es : List Label) (vs : Values) → TargetsAreMarked Two es (values_operands vs)
   values_marked es no_values = tt
@@ -170,29 +155,12 @@ mutual
 
 class_marked : (form : Form) (es : List Label) (l : Line) → IsOfClass l → TargetsAreMarked form es (line_operands l)
 class_marked One es l h = first_marked es (line_operands l)
-class_marked Two es first_line h = (tt, tt)
-class_marked Two es (open_class d f) h = (tt, (tt, tt))
-class_marked Two es end_class h = (tt, tt)
-class_marked Two es (super_line d) h = (tt, tt)
-class_marked Two es (implements_line d) h = (tt, tt)
-class_marked Two es (source_line us) h = (tt, tt)
-class_marked Two es (static_line m None) h = (tt, (tt, (tt, tt)))
 class_marked Two es (static_line m (Some v)) h = (tt, (tt, (tt, (tt, value_marked es v))))
-class_marked Two es (instance_line m) h = (tt, (tt, (tt, tt)))
-class_marked Two es (direct_line m) h = (tt, (tt, (tt, tt)))
-class_marked Two es (virtual_line m) h = (tt, (tt, (tt, tt)))
-class_marked Two es _ h = absurd h
+class_marked Two es _ h = search rules
 
 class_words : (form : Form) (l : Line) → IsOfClass l → words_in form (line_operands l) ≡ words_of (line_operands l)
-class_words form (static_line m None) h = refl
 class_words form (static_line m (Some v)) h = rw (value_words form v) refl
-class_words form (open_code r i o) h = absurd h
-class_words form end_code h = absurd h
-class_words form (insn_line i) h = absurd h
-class_words form (try_line f t) h = absurd h
-class_words form (catch_line d n) h = absurd h
-class_words form (catch_all_line n) h = absurd h
-class_words form _ h = refl
+class_words form _ h = search rules
 
 -- the text of such a line is the same in both forms
 pub text_same : (form : Form) (l : Line) → words_in form (line_operands l) ≡ words_of (line_operands l) → keyed_text_in form l ≡ keyed_text l

@@ -14,7 +14,7 @@ use Rattle.listing_lines.specs.Places.{may_stand}
 use Rattle.listing_draft.specs.States.{Open, ClassPart, at_members, after_method, add, inside, with_direct, with_virtual, with_code, with_code_at}
 use Rattle.listing_print.specs.Printed.{keyed_text}
 use Rattle.listing_print.specs.Canon.{body_text, direct_text, virtual_text}
-use Rattle.listing_laws.proofs.Runs.{bare, within, class_goes_on}
+use Rattle.listing_laws.proofs.Runs.{bare, RunsTo, within, class_goes_on}
 use Rattle.listing_laws.proofs.Printable.{KeysAreSorted, AllBelow, BodyFits, MethodFits}
 use Rattle.listing_laws.proofs.KeyedLaws.{keyed_runs}
 use Rattle.listing_laws.proofs.CodeRuns.{nothing_runs}
@@ -52,62 +52,46 @@ body_runs form done with direct n before m (Some c) p h f =
     let e : with_code_at o (record { direct = direct; method = method_key m }) c ≡ with (before ++ coded m (Some c) ∷ []) = p (before ++ coded m None ∷ []) (method_key m) c ∙ ap with (code_last before m c h) in
     subst (λ (q : Open). InClass form done (within (after direct m) done o None n) ((body_text form) (Some c)) q) e (record { part = at_members; lines = y.0; runs = y.1 })
 
+-- ---- methods of one list
+
+-- Where a method's line leads to a class that ends with it, methods with their codes lead to the class that has them all.
+methods_run : (form : Form) (done : List Class) (direct : Bool) (with : List Method → Open) (text : Method → List ℕ) → PutsCode with direct
+    → ((p : ClassPart) (n : ℕ) (before : List Method) (m : Method) → MethodFits m → AllBelow (map method_key before) (method_key m)
+    → RunsTo (bare form) (within p done (with before) None n) (text m) (within (after direct m) done (with (before ++ coded m None ∷ [])) None (n + 1)))
+    → (ms : List Method) (p : ClassPart) (n : ℕ) → AllByRecursion MethodFits ms → KeysAreSorted (map method_key ms)
+    → InClass form done (within p done (with []) None n) (flat_map (λ (m : Method). text m ++ body_text form m.code) ms) (with ms)
+methods_run form done direct with text puts line ms p n f s = each_runs form done (λ (m : Method). text m ++ body_text form m.code) with MethodFits method_key step ms [] p n f s
+  where
+    step : (p : ClassPart) (n : ℕ) (before : List Method) (m : Method) → MethodFits m → AllBelow (map method_key before) (method_key m) → InClass form done (within p done (with before) None n) (text m ++ body_text form m.code) (with (before ++ m ∷ []))
+    step p n before m f h =
+        let x : InClass form done (within p done (with before) None n) (text m) (with (before ++ coded m None ∷ [])) = record { part = after direct m; lines = n + 1; runs = line p n before m f h } in
+        in_then form done (within p done (with before) None n) (text m) (body_text form m.code) (with (before ++ coded m None ∷ [])) (with (before ++ m ∷ [])) x
+        (body_runs form done with direct (n + 1) before m m.code puts h f.1)
+
 -- ---- direct methods
 
 abbrev with_directs : Open → List Method → Open
 with_directs o ms = record o { directs = ms }
 
-direct_goes_last : (p : ClassPart) (done : List Class) (o : Open) (n : ℕ) (m : Method) → AllBelow (map method_key o.directs) (method_key m)
-    → add (within p done o None n) (direct_line m) ≡ Some (within (after true m) done (record o { directs = o.directs ++ m ∷ [] }) None n)
-unfolding add inside with_direct
-direct_goes_last p done o n m h = rw (with_last method_key m o.directs h) refl
-
 direct_line_runs : (form : Form) (done : List Class) (o : Open) (p : ClassPart) (n : ℕ) (before : List Method) (m : Method) → MethodFits m → AllBelow (map method_key before) (method_key m)
-    → InClass form done (within p done (with_directs o before) None n) (keyed_text (direct_line m)) (with_directs o (before ++ coded m None ∷ []))
-unfolding may_stand
-direct_line_runs form done o p n before m f h =
-    let s = within p done (with_directs o before) None n in
-    let t = within (after true m) done (with_directs o (before ++ coded m None ∷ [])) None (n + 1) in
-    record { part = after true m; lines = n + 1; runs = keyed_runs form s t (direct_line (coded m None)) tt refl f.0 (class_goes_on p) (direct_goes_last p done (with_directs o before) (n + 1) (coded m None) h) }
-
-direct_step : (form : Form) (done : List Class) (o : Open) (p : ClassPart) (n : ℕ) (before : List Method) (m : Method) → MethodFits m → AllBelow (map method_key before) (method_key m)
-    → InClass form done (within p done (with_directs o before) None n) ((direct_text form) m) (with_directs o (before ++ m ∷ []))
-unfolding direct_line_runs
-direct_step form done o p n before m f h =
-    in_then form done (within p done (with_directs o before) None n) (keyed_text (direct_line m)) ((body_text form) m.code) (with_directs o (before ++ coded m None ∷ [])) (with_directs o (before ++ m ∷ []))
-    (direct_line_runs form done o p n before m f h)
-    (body_runs form done (with_directs o) true (n + 1) before m m.code (λ ms k c. refl) h f.1)
+    → RunsTo (bare form) (within p done (with_directs o before) None n) (keyed_text (direct_line m)) (within (after true m) done (with_directs o (before ++ coded m None ∷ [])) None (n + 1))
+unfolding may_stand add inside with_direct
+direct_line_runs form done o p n before m f h = keyed_runs form _ _ (direct_line (coded m None)) tt refl f.0 (class_goes_on p) (rw (with_last method_key (coded m None) before h) refl)
 
 pub directs_run : (form : Form) (done : List Class) (o : Open) (ms : List Method) (p : ClassPart) (n : ℕ) → AllByRecursion MethodFits ms → KeysAreSorted (map method_key ms)
     → InClass form done (within p done (with_directs o []) None n) (flat_map (direct_text form) ms) (with_directs o ms)
-directs_run form done o ms p n f s = each_runs form done (direct_text form) (with_directs o) MethodFits method_key (direct_step form done o) ms [] p n f s
+directs_run form done o ms p n f s = methods_run form done true (with_directs o) (λ (m : Method). keyed_text (direct_line m)) (λ ms k c. refl) (direct_line_runs form done o) ms p n f s
 
 -- ---- virtual methods
 
 abbrev with_virtuals : Open → List Method → Open
 with_virtuals o ms = record o { virtuals = ms }
 
-virtual_goes_last : (p : ClassPart) (done : List Class) (o : Open) (n : ℕ) (m : Method) → AllBelow (map method_key o.virtuals) (method_key m)
-    → add (within p done o None n) (virtual_line m) ≡ Some (within (after false m) done (record o { virtuals = o.virtuals ++ m ∷ [] }) None n)
-unfolding add inside with_virtual
-virtual_goes_last p done o n m h = rw (with_last method_key m o.virtuals h) refl
-
 virtual_line_runs : (form : Form) (done : List Class) (o : Open) (p : ClassPart) (n : ℕ) (before : List Method) (m : Method) → MethodFits m → AllBelow (map method_key before) (method_key m)
-    → InClass form done (within p done (with_virtuals o before) None n) (keyed_text (virtual_line m)) (with_virtuals o (before ++ coded m None ∷ []))
-unfolding may_stand
-virtual_line_runs form done o p n before m f h =
-    let s = within p done (with_virtuals o before) None n in
-    let t = within (after false m) done (with_virtuals o (before ++ coded m None ∷ [])) None (n + 1) in
-    record { part = after false m; lines = n + 1; runs = keyed_runs form s t (virtual_line (coded m None)) tt refl f.0 (class_goes_on p) (virtual_goes_last p done (with_virtuals o before) (n + 1) (coded m None) h) }
-
-virtual_step : (form : Form) (done : List Class) (o : Open) (p : ClassPart) (n : ℕ) (before : List Method) (m : Method) → MethodFits m → AllBelow (map method_key before) (method_key m)
-    → InClass form done (within p done (with_virtuals o before) None n) ((virtual_text form) m) (with_virtuals o (before ++ m ∷ []))
-unfolding virtual_line_runs
-virtual_step form done o p n before m f h =
-    in_then form done (within p done (with_virtuals o before) None n) (keyed_text (virtual_line m)) ((body_text form) m.code) (with_virtuals o (before ++ coded m None ∷ [])) (with_virtuals o (before ++ m ∷ []))
-    (virtual_line_runs form done o p n before m f h)
-    (body_runs form done (with_virtuals o) false (n + 1) before m m.code (λ ms k c. refl) h f.1)
+    → RunsTo (bare form) (within p done (with_virtuals o before) None n) (keyed_text (virtual_line m)) (within (after false m) done (with_virtuals o (before ++ coded m None ∷ [])) None (n + 1))
+unfolding may_stand add inside with_virtual
+virtual_line_runs form done o p n before m f h = keyed_runs form _ _ (virtual_line (coded m None)) tt refl f.0 (class_goes_on p) (rw (with_last method_key (coded m None) before h) refl)
 
 pub virtuals_run : (form : Form) (done : List Class) (o : Open) (ms : List Method) (p : ClassPart) (n : ℕ) → AllByRecursion MethodFits ms → KeysAreSorted (map method_key ms)
     → InClass form done (within p done (with_virtuals o []) None n) (flat_map (virtual_text form) ms) (with_virtuals o ms)
-virtuals_run form done o ms p n f s = each_runs form done (virtual_text form) (with_virtuals o) MethodFits method_key (virtual_step form done o) ms [] p n f s
+virtuals_run form done o ms p n f s = methods_run form done false (with_virtuals o) (λ (m : Method). keyed_text (virtual_line m)) (λ ms k c. refl) (virtual_line_runs form done o) ms p n f s

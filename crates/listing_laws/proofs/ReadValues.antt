@@ -63,16 +63,14 @@ record Inner (n : ℕ) (ws : List Word) (ds : List Datum) : Type 0 where
 refused_never : (ws : List Word) (ds : List Datum) → Runs due.Refused ws ds → ⊥
 unfolding due_after_word
 refused_never [] [] r = cc
-refused_never [] (x ∷ ds) r = r
-refused_never (w ∷ ws) [] r = r
 refused_never (w ∷ ws) (x ∷ ds) r = refused_never ws ds r.2
+refused_never _ _ r = r
 
 nothing_more : (ws : List Word) (ds : List Datum) → Runs due.Nothing ws ds → (ws ≡ []) × (ds ≡ [])
 unfolding due_after_word
 nothing_more [] [] r = (refl, refl)
-nothing_more [] (x ∷ ds) r = absurd r
-nothing_more (w ∷ ws) [] r = absurd r
 nothing_more (w ∷ ws) (x ∷ ds) r = absurd (refused_never ws ds r.2)
+nothing_more _ _ r = absurd r
 
 -- ---- keywords
 
@@ -105,23 +103,27 @@ record Operand (s : Slot) (n : ℕ) (ws : List Word) (ds : List Datum) : Type 0 
 operand_of : (s : Slot) (n : ℕ) (ws : List Word) (ds : List Datum) → Runs (due.Word s n) ws ds → Operand s n ws ds
 unfolding slot_at due_after_word
 operand_of s n [] [] r = absurd cc
-operand_of s n [] (x ∷ ds) r = absurd r
-operand_of s n (w ∷ ws) [] r = absurd r
 operand_of s n (w ∷ ws) (x ∷ ds) r = record { word = w; says = x; back = ws; left = ds; words = refl; data_are = refl; form = r.0; spelled = r.1; run = r.2 }
+operand_of s n _ _ r = absurd r
 
--- a keyword and its operand
-before_front : (k : Key) (s : Slot) (n : ℕ) (ws : List Word) (ds : List Datum) (o : Operand s n ws ds) (v : Value) → said k ∷ o.says ∷ [] ≡ data_of (value_operands v) → SaysValue (word_of_key k ∷ o.word ∷ []) v → Front n (word_of_key k ∷ ws) (said k ∷ ds)
-before_front k s n ws ds o v e h = record {
-  value = v;
-  front = word_of_key k ∷ o.word ∷ [];
-  back = o.back;
-  left = o.left;
-  some = omega arith;
-  words = ap (λ us. word_of_key k ∷ us) o.words;
-  data_are = ap (λ xs. said k ∷ xs) o.data_are ∙ ap (λ xs. xs ++ o.left) e;
-  says = h;
-  run = o.run;
-}
+-- a keyword and its operand, of which each thing said makes a value
+before_front : {X : Type 0} (Says : Word → X → Type 0) (d : X → Datum) (k : Key) (s : Slot) (v : X → Value) (n : ℕ) (ws : List Word) (ds : List Datum)
+    → ((w : Word) (x : Datum) → SpellsSlot s w x → (y : X) × Says w y × (x ≡ d y)) → ((y : X) → said k ∷ d y ∷ [] ≡ data_of (value_operands (v y)))
+    → ((w : Word) (y : X) → Says w y → SaysValue (word_of_key k ∷ w ∷ []) (v y)) → Runs (due.Word s n) ws ds → Front n (word_of_key k ∷ ws) (said k ∷ ds)
+before_front Says d k s v n ws ds spells makes says r =
+    let o = operand_of s n ws ds r in
+    let h = spells o.word o.says o.spelled in
+    record {
+      value = v h.0;
+      front = word_of_key k ∷ o.word ∷ [];
+      back = o.back;
+      left = o.left;
+      some = omega arith;
+      words = ap (λ us. word_of_key k ∷ us) o.words;
+      data_are = ap (λ xs. said k ∷ xs) (o.data_are ∙ ap (λ x. x ∷ o.left) h.2) ∙ ap (λ xs. xs ++ o.left) (makes h.0);
+      says = says o.word h.0 h.1;
+      run = o.run;
+    }
 
 -- a keyword alone
 alone_front : (k : Key) (n : ℕ) (ws : List Word) (ds : List Datum) (v : Value) → said k ∷ [] ≡ data_of (value_operands v) → SaysValue (word_of_key k ∷ []) v → Runs (due_after n) ws ds → Front n (word_of_key k ∷ ws) (said k ∷ ds)
@@ -140,42 +142,6 @@ alone_front k n ws ds v e h r = record {
 -- what stands after a keyword is a value's
 abbrev Step : ℕ → List Word → List Datum → Key → Type 0
 Step n ws ds k = Runs (due_of_key n k) ws ds → Front n (word_of_key k ∷ ws) (said k ∷ ds)
-
-byte_step : (n : ℕ) (ws : List Word) (ds : List Datum) → Step n ws ds key.Byte
-byte_step n ws ds r = let o = operand_of slot.Tiny n ws ds r in let h = o.spelled in before_front key.Byte slot.Tiny n ws ds o (content.Byte h.0) (ap (λ x. said key.Byte ∷ x ∷ []) h.2) (o.word, refl, h.1)
-
-short_step : (n : ℕ) (ws : List Word) (ds : List Datum) → Step n ws ds key.Short
-short_step n ws ds r = let o = operand_of slot.Short n ws ds r in let h = o.spelled in before_front key.Short slot.Short n ws ds o (content.Short h.0) (ap (λ x. said key.Short ∷ x ∷ []) h.2) (o.word, refl, h.1)
-
-char_step : (n : ℕ) (ws : List Word) (ds : List Datum) → Step n ws ds key.Char
-char_step n ws ds r = let o = operand_of (slot.Half Nothing 65535) n ws ds r in let h = o.spelled in before_front key.Char (slot.Half Nothing 65535) n ws ds o (content.Char h.0) (ap (λ x. said key.Char ∷ x ∷ []) h.2) (o.word, refl, h.1)
-
-int_step : (n : ℕ) (ws : List Word) (ds : List Datum) → Step n ws ds key.Int
-int_step n ws ds r = let o = operand_of slot.Int n ws ds r in let h = o.spelled in before_front key.Int slot.Int n ws ds o (content.Int h.0) (ap (λ x. said key.Int ∷ x ∷ []) h.2) (o.word, refl, h.1)
-
-long_step : (n : ℕ) (ws : List Word) (ds : List Datum) → Step n ws ds key.Long
-long_step n ws ds r = let o = operand_of slot.Long n ws ds r in let h = o.spelled in before_front key.Long slot.Long n ws ds o (content.Long h.0) (ap (λ x. said key.Long ∷ x ∷ []) h.2) (o.word, refl, h.1)
-
-float_step : (n : ℕ) (ws : List Word) (ds : List Datum) → Step n ws ds key.Float
-float_step n ws ds r = let o = operand_of slot.Float n ws ds r in let h = o.spelled in before_front key.Float slot.Float n ws ds o (content.Float h.0) (ap (λ x. said key.Float ∷ x ∷ []) h.2) (o.word, refl, h.1)
-
-double_step : (n : ℕ) (ws : List Word) (ds : List Datum) → Step n ws ds key.Double
-double_step n ws ds r = let o = operand_of slot.Double n ws ds r in let h = o.spelled in before_front key.Double slot.Double n ws ds o (content.Double h.0) (ap (λ x. said key.Double ∷ x ∷ []) h.2) (o.word, refl, h.1)
-
-text_step : (n : ℕ) (ws : List Word) (ds : List Datum) → Step n ws ds key.Text
-text_step n ws ds r = let o = operand_of slot.Text n ws ds r in let h = o.spelled in before_front key.Text slot.Text n ws ds o (content.Named (OfText h.0)) (ap (λ x. said key.Text ∷ x ∷ []) h.2) (o.word, refl, h.1)
-
-type_step : (n : ℕ) (ws : List Word) (ds : List Datum) → Step n ws ds key.Desc
-type_step n ws ds r = let o = operand_of slot.Desc n ws ds r in let h = o.spelled in before_front key.Desc slot.Desc n ws ds o (content.Named (OfDesc h.0)) (ap (λ x. said key.Desc ∷ x ∷ []) h.2) (o.word, refl, h.1)
-
-field_step : (n : ℕ) (ws : List Word) (ds : List Datum) → Step n ws ds key.Field
-field_step n ws ds r = let o = operand_of slot.Field n ws ds r in let h = o.spelled in before_front key.Field slot.Field n ws ds o (content.Named (OfField h.0)) (ap (λ x. said key.Field ∷ x ∷ []) h.2) (o.word, refl, h.1)
-
-method_step : (n : ℕ) (ws : List Word) (ds : List Datum) → Step n ws ds key.Method
-method_step n ws ds r = let o = operand_of slot.Method n ws ds r in let h = o.spelled in before_front key.Method slot.Method n ws ds o (content.Named (OfMethod h.0)) (ap (λ x. said key.Method ∷ x ∷ []) h.2) (o.word, refl, h.1)
-
-enum_step : (n : ℕ) (ws : List Word) (ds : List Datum) → Step n ws ds key.Enum
-enum_step n ws ds r = let o = operand_of slot.Enum n ws ds r in let h = o.spelled in before_front key.Enum slot.Enum n ws ds o (content.Enum h.0) (ap (λ x. said key.Enum ∷ x ∷ []) h.2) (o.word, refl, h.1)
 
 -- the same of `array`, where the values of shorter lists of words are known
 array_step : (n : ℕ) (ws : List Word) (ds : List Datum) → ((us : List Word) (xs : List Datum) → length us < length ws → Runs (due.Value (suc n)) us xs → Inner n us xs) → Step n ws ds key.Array
@@ -262,17 +228,28 @@ mutual
 
   front : (fuel n : ℕ) (ws : List Word) (ds : List Datum) → length ws ≤ fuel → Runs (due.Value n) ws ds → Front n ws ds ⊎ Closes n ws ds
   front fuel n [] [] l r = absurd cc
-  front fuel n [] (x ∷ ds) l r = absurd r
-  front fuel n (w ∷ ws) [] l r = absurd r
   front zero n (w ∷ ws) (x ∷ ds) l r = absurd (omega (arith, l))
   front (suc fuel) n (text_in_quotes us ∷ ws) (x ∷ ds) l r = absurd (refused_never ws ds r.2)
   front (suc fuel) n (plain_word text ∷ ws) (x ∷ ds) l r =
       let array = array_step n ws ds (λ us xs short s. inner fuel n us xs (omega (arith, l, short)) s) in
       let P = Step n ws ds in
+      let byte : P key.Byte = before_front _ _ key.Byte slot.Tiny content.Byte n ws ds (λ w x h. h) (λ y. refl) (λ w y h. (w, refl, h)) in
+      let short : P key.Short = before_front _ _ key.Short slot.Short content.Short n ws ds (λ w x h. h) (λ y. refl) (λ w y h. (w, refl, h)) in
+      let char : P key.Char = before_front _ _ key.Char (slot.Half Nothing 65535) content.Char n ws ds (λ w x h. h) (λ y. refl) (λ w y h. (w, refl, h)) in
+      let int : P key.Int = before_front _ _ key.Int slot.Int content.Int n ws ds (λ w x h. h) (λ y. refl) (λ w y h. (w, refl, h)) in
+      let long : P key.Long = before_front _ _ key.Long slot.Long content.Long n ws ds (λ w x h. h) (λ y. refl) (λ w y h. (w, refl, h)) in
+      let float : P key.Float = before_front _ _ key.Float slot.Float content.Float n ws ds (λ w x h. h) (λ y. refl) (λ w y h. (w, refl, h)) in
+      let double : P key.Double = before_front _ _ key.Double slot.Double content.Double n ws ds (λ w x h. h) (λ y. refl) (λ w y h. (w, refl, h)) in
+      let string : P key.Text = before_front _ _ key.Text slot.Text (λ us. content.Named (OfText us)) n ws ds (λ w x h. h) (λ y. refl) (λ w y h. (w, refl, h)) in
+      let type : P key.Desc = before_front _ _ key.Desc slot.Desc (λ t. content.Named (OfDesc t)) n ws ds (λ w x h. h) (λ y. refl) (λ w y h. (w, refl, h)) in
+      let field : P key.Field = before_front _ _ key.Field slot.Field (λ f. content.Named (OfField f)) n ws ds (λ w x h. h) (λ y. refl) (λ w y h. (w, refl, h)) in
+      let method : P key.Method = before_front _ _ key.Method slot.Method (λ m. content.Named (OfMethod m)) n ws ds (λ w x h. h) (λ y. refl) (λ w y h. (w, refl, h)) in
+      let enum : P key.Enum = before_front _ _ key.Enum slot.Enum content.Enum n ws ds (λ w x h. h) (λ y. refl) (λ w y h. (w, refl, h)) in
       let alone : AllByRecursion P (drop 13 value_keys) = (alone_front key.Null n ws ds content.Null refl refl, (alone_front key.True n ws ds (content.Boolean true) refl refl, (alone_front key.False n ws ds (content.Boolean false) refl refl, tt))) in
-      let named : AllByRecursion P (drop 7 value_keys) = (text_step n ws ds, (type_step n ws ds, (field_step n ws ds, (method_step n ws ds, (enum_step n ws ds, (array, alone)))))) in
-      let all : AllByRecursion P value_keys = (byte_step n ws ds, (short_step n ws ds, (char_step n ws ds, (int_step n ws ds, (long_step n ws ds, (float_step n ws ds, (double_step n ws ds, named))))))) in
+      let named : AllByRecursion P (drop 7 value_keys) = (string, (type, (field, (method, (enum, (array, alone)))))) in
+      let all : AllByRecursion P value_keys = (byte, (short, (char, (int, (long, (float, (double, named))))))) in
       plain_front n text x ws ds all (same (key_text key.Close) text) (find_key value_keys text) refl refl r.1 r.2
+  front fuel n _ _ l r = absurd r
 
   inner : (fuel n : ℕ) (ws : List Word) (ds : List Datum) → length ws < fuel → Runs (due.Value (suc n)) ws ds → Inner n ws ds
   inner zero n ws ds l r = absurd (omega (arith, l))

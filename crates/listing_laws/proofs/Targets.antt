@@ -1,5 +1,5 @@
 -- The labels of a code mark its targets.
-use Rattle.std.proofs.Common.{◌≡◌, ℕ, ◌+◌, ◌<◌, ◌≤◌, ◌^◌, ◌==◌, true, List, [], ◌∷◌, ◌++◌, length, map, take, ℤ, Option, Some, refl, ◌∙◌, arith}
+use Rattle.std.proofs.Common.{◌≡◌, ℕ, ◌+◌, ◌<◌, ◌≤◌, ◌^◌, ◌==◌, true, List, [], ◌∷◌, ◌++◌, length, map, take, ℤ, Option, Some, refl, ◌∙◌, arith, rules}
 use Rattle.std.specs.List.{AllByRecursion, flat_map}
 use Rattle.std.proofs.Math.Nat.{min-eq_left, le-max_left, le-max_right}
 use Rattle.std.proofs.lemmas.Bool.{eq-eqb}
@@ -63,8 +63,6 @@ elements_marked es [] = tt
 elements_marked es (b ∷ bs) = (tt, tt)
 
 marked_in : (ns : List ℕ) (es : List Label) (c : ℕ) (i : Insn) → MarkAll Two ns es c → FitOperands (insn_operands i) → insn_needs i ≤ c → AreNamed ns (insn_leads i) → TargetsAreMarked Two es (insn_operands i)
-marked_in ns es c (content.I10x op) m f h y = tt
-marked_in ns es c (content.I11x op a) m f h y = (tt, tt)
 marked_in ns es c (content.I10t op k) m f h y = (m k y.0 (omega arith) f.0.0, tt)
 marked_in ns es c (content.I20t op k) m f h y = (m k y.0 (omega arith) f.0.0, tt)
 marked_in ns es c (content.I30t op k) m f h y = (m k y.0 (omega arith) f.0.0, tt)
@@ -72,17 +70,14 @@ marked_in ns es c (content.I21t op a k) m f h y = (tt, (m k y.0 (omega arith) f.
 marked_in ns es c (content.I31t op a k) m f h y = (tt, (m k y.0 (omega arith) f.1.0.0, tt))
 marked_in ns es c (content.I21c op a which) m f h y = (tt, name_marked es which)
 marked_in ns es c (content.I31c op a which) m f h y = (tt, name_marked es which)
-marked_in ns es c (content.I23x op a b d) m f h y = (tt, (tt, (tt, tt)))
-marked_in ns es c (content.I22b op a b d) m f h y = (tt, (tt, (tt, tt)))
 marked_in ns es c (content.I22t op a b k) m f h y = (tt, (tt, (m k y.0 (omega arith) f.1.1.0.0, tt)))
-marked_in ns es c (content.I22s op a b d) m f h y = (tt, (tt, (tt, tt)))
 marked_in ns es c (content.I22c op a b which) m f h y = (tt, (tt, name_marked es which))
 marked_in ns es c (content.I35c op n regs which) m f h y = (tt, all_append (λ (o : Operand). TargetIsMarked Two es o.slot o.says) (map v4 (take n regs)) (keyword key.Close ∷ name_operand which ∷ []) (regs_marked es (take n regs)) (tt, name_marked es which))
 marked_in ns es c (content.I3rc op n first which) m f h y = (tt, (tt, name_marked es which))
 marked_in ns es c (content.Packed first targets) m f h y = (tt, targets_marked ns es c targets m f.1 h y)
 marked_in ns es c (content.Sparse keys targets) m f h y = pairs_marked ns es c keys targets m f h y
 marked_in ns es c (content.Data width bytes) m f h y = (tt, elements_marked es bytes)
-marked_in ns es c _ m f h y = (tt, (tt, tt))
+marked_in ns es c _ m f h y = search rules
 
 pub insn_marked : (form : Form) (ns : List ℕ) (es : List Label) (c : ℕ) (i : Insn) → MarkAll form ns es c → FitOperands (insn_operands i) → insn_needs i ≤ c → AreNamed ns (insn_leads i) → TargetsAreMarked form es (insn_operands i)
 insn_marked One ns es c i m f h y = first_marked es (insn_operands i)

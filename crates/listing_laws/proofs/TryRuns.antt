@@ -41,9 +41,8 @@ catches_run g ns done o late from to xs [] b n c f m k a = (n, b.needs, subst (�
 catches_run g ns done o late from to xs (x ∷ ys) b n c f m k a =
     let d = need_more b x n in
     let s = coding (trying from to xs) done o late b n in
-    let u = coding (trying from to (xs ++ x ∷ [])) done o late d (n + 1) in
     let y = catches_run g ns done o late from to (xs ++ x ∷ []) ys d (n + 1) c f.1 m k.1 (need_fits c b.needs (n + 1) (x.at + 1) f.0.1 a) in
-    let r = runs_join g s u (coding (trying from to ((xs ++ x ∷ []) ++ ys)) done o late (record d { needs = y.1 }) y.0) (keyed_text_in g.form (catch_line x.ty x.at)) ((catches_text g.form) ys) (catch_step g done o late from to xs b n x f.0.0 (catch_marked g.form ns g.labels c x m f.0 k.0)) y.2 in
+    let r = runs_join g _ _ _ _ _ (catch_step g done o late from to xs b n x f.0.0 (catch_marked g.form ns g.labels c x m f.0 k.0)) y.2 in
     (y.0, y.1, subst (λ (zs : List Catch). RunsTo g s ((catches_text g.form) (x ∷ ys)) (coding (trying from to zs) done o late (record b { needs = y.1 }) y.0)) (append_assoc xs (x ∷ []) ys) r, y.3)
 
 -- the instructions that it names are marked
@@ -72,8 +71,7 @@ last_handler g ns done o late b ts from to xs needs n c None f m y a = record { 
 last_handler g ns done o late b ts from to xs needs n c (Some k) f m y a =
     let us = ts ++ record { from = from; to = to; catches = xs; catch_all = Some k } ∷ [] in
     let more = with_need needs (n + 1) (k + 1) in
-    let s = coding (trying from to xs) done o late (with_handlers b ts needs) n in
-    record { part = after_try; tries = us; needs = more; lines = n + 1; runs = try_line_runs g s (coding after_try done o late (with_handlers b us more) (n + 1)) (catch_all_line k) tt tt f.0 (all_marked g.form ns g.labels c k m f y.0) refl refl; has = refl; fit = need_fits c needs (n + 1) (k + 1) f.1 a }
+    record { part = after_try; tries = us; needs = more; lines = n + 1; runs = try_line_runs g _ _ (catch_all_line k) tt tt f.0 (all_marked g.form ns g.labels c k m f y.0) refl refl; has = refl; fit = need_fits c needs (n + 1) (k + 1) f.1 a }
 
 -- in front of what was tried
 in_front : (g : Frame) (c : ℕ) (done : List Class) (o : Open) (late : Option ℕ) (b : Body) (s t : State) (text more : List ℕ) (ts : List Try) → RunsTo g s text t → Tried g c done o late b t more ts → Tried g c done o late b s (text ++ more) ts
@@ -100,10 +98,8 @@ try_runs g ns p done o late b n c t f m z a =
     let d = with_handlers b ts more in
     let y = catches_run g ns done o late t.from t.to [] t.catches d (n + 1) c f.2 m h.0 (need_fits c b.needs (n + 1) (max (t.from + 1) t.to) f.1 a) in
     let l = last_handler g ns done o late b ts t.from t.to t.catches y.1 y.0 c t.catch_all f.3 m h.1 y.3 in
-    let u = coding (trying t.from t.to t.catches) done o late (with_handlers b ts y.1) y.0 in
-    let v = coding (trying t.from t.to []) done o late d (n + 1) in
-    in_front g c done o late b (coding p done o late b n) v (keyed_text_in g.form (try_line t.from t.to)) ((catches_text g.form) t.catches ++ (catch_all_text g.form) t.catch_all) (ts ++ t ∷ []) (opened_try g p done o late b n t.from t.to f.0 (try_marked g.form ns g.labels c t.from t.to m f.0 f.1 z.0 z.1.0))
-    (in_front g c done o late b v u ((catches_text g.form) t.catches) ((catch_all_text g.form) t.catch_all) (ts ++ t ∷ []) y.2 l)
+    in_front g c done o late b _ _ _ _ _ (opened_try g p done o late b n t.from t.to f.0 (try_marked g.form ns g.labels c t.from t.to m f.0 f.1 z.0 z.1.0))
+    (in_front g c done o late b _ _ _ _ _ y.2 l)
 
 pub tries_run : (g : Frame) (ns : List ℕ) (ts : List Try) (p : CodePart) (done : List Class) (o : Open) (late : Option ℕ) (b : Body) (n c : ℕ) → AllByRecursion (TryFits c) ts → MarkAll g.form ns g.labels c → AllByRecursion (λ t. AreNamed ns (try_numbers t)) ts → NeedsFit c b.needs
     → Tried g c done o late b (coding p done o late b n) (flat_map (try_text g.form) ts) (all_tries p None b.tries ++ ts)
@@ -113,13 +109,12 @@ tries_run g ns (t ∷ ts) p done o late b n c f m z a =
     let d = with_handlers b x.tries x.needs in
     let y = tries_run g ns ts x.part done o late d x.lines c f.1 m z.1 x.fit in
     let e : all_tries x.part None x.tries ++ ts ≡ all_tries p None b.tries ++ (t ∷ ts) = ap (λ (us : List Try). us ++ ts) x.has ∙ append_assoc (all_tries p None b.tries) (t ∷ []) ts in
-    let s = coding p done o late b n in
     record {
       part = y.part;
       tries = y.tries;
       needs = y.needs;
       lines = y.lines;
-      runs = runs_join g s (coding x.part done o late d x.lines) (coding y.part done o late (with_handlers b y.tries y.needs) y.lines) ((try_text g.form) t) (flat_map (try_text g.form) ts) x.runs y.runs;
+      runs = runs_join g _ _ _ _ _ x.runs y.runs;
       has = y.has ∙ e;
       fit = y.fit;
     }

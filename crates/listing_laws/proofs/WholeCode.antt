@@ -130,13 +130,10 @@ code_runs form done o m n c f =
     let b2 = with_handlers b1 x.tries x.needs in
     let z = end_runs g x.part done o b2 x.lines c.tries (labels_none form (n + 1) c) x.has x.fit in
     let s0 = within (after_method m) done o None n in
-    let s1 = among done o None b0 (n + 1) in
-    let s2 = among done o None b1 y.0 in
-    let s3 = coding x.part done o None b2 x.lines in
     let t = within at_members done (with_code_at o m c) None (x.lines + 1) in
     let ti = insns_text form ns 0 c.insns in
     let tt = flat_map (try_text form) c.tries in
-    let r3 = runs_joined g g (bare form) s2 s3 t tt (keyed_text end_code) x.runs z in
-    let r2 = runs_joined g g (bare form) s1 s2 t ti (tt ++ keyed_text end_code) y.2 r3 in
+    let r3 = runs_joined g g (bare form) _ _ _ _ _ x.runs z in
+    let r2 = runs_joined g g (bare form) _ _ _ _ _ y.2 r3 in
     let r1 : RunsTo (bare form) s0 ((code_text form) c) t = λ rest u r. begin_code form es done o m n c.registers c.ins c.outs (ti ++ (tt ++ keyed_text end_code)) rest u f.0 (code_ahead form (n + 1) c rest f) (r2 rest u r) in
     (x.lines + 1, r1)

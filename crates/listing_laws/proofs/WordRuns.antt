@@ -36,11 +36,10 @@ run_of d (w ∷ ws) ss (x ∷ ds) e f g =
 pub slots_of_run : (d : Due) (ws : List Word) (ds : List Datum) → Runs d ws ds → (ss : List Slot) × (value_slots d ws ≡ Some ss) × (have_forms ss ws ≡ true) × SpellsSlots ss ws ds
 unfolding value_slots have_forms
 slots_of_run d [] [] r = ([], rw r refl, refl, tt)
-slots_of_run d [] (x ∷ ds) r = absurd r
-slots_of_run d (w ∷ ws) [] r = absurd r
 slots_of_run d (w ∷ ws) (x ∷ ds) r =
     let h = slots_of_run (due_after_word d w) ws ds r.2 in
     (slot_at d w ∷ h.0, ap (option_map (λ more. slot_at d w ∷ more)) h.1, rw r.0 h.2, (r.1, h.3))
+slots_of_run d _ _ r = absurd r
 
 -- the same words and data, put otherwise
 pub carried : (d : Due) {us ws : List Word} {xs ds : List Datum} → us ≡ ws → xs ≡ ds → Runs d us xs → Runs d ws ds

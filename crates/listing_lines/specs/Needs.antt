@@ -1,7 +1,7 @@
 -- How many instructions a code must have for the targets of its lines.
 -- Page: docs/LISTING.md, "Faults" (105).
 use Rattle.std.specs.Prelude.{ℕ, ◌+◌, max, nat_lt, if◌then◌else◌, List, [], ◌∷◌, ◌++◌, Option, Some, None}
-use Rattle.program_types.specs.Content as content
+use Rattle.program_types.specs.Formed.{insn_leads}
 use Rattle.program_types.specs.Content.{Insn}
 use Rattle.listing_lines.specs.Lines.{Line, insn_line, try_line, catch_line, catch_all_line}
 
@@ -12,15 +12,7 @@ most_needed (t ∷ ts) = max (t + 1) (most_needed ts)
 
 -- A target leads to one of the instructions.
 abbrev pub insn_needs : Insn → ℕ
-insn_needs (content.I10t op to) = to + 1
-insn_needs (content.I20t op to) = to + 1
-insn_needs (content.I30t op to) = to + 1
-insn_needs (content.I21t op a to) = to + 1
-insn_needs (content.I31t op a to) = to + 1
-insn_needs (content.I22t op a b to) = to + 1
-insn_needs (content.Packed first targets) = most_needed targets
-insn_needs (content.Sparse keys targets) = most_needed targets
-insn_needs _ = 0
+insn_needs i = most_needed (insn_leads i)
 
 -- What a try covers may end after the last instruction.
 abbrev pub line_needs : Line → ℕ

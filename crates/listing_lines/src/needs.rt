@@ -7,7 +7,7 @@ ghost use Rattle.listing_lines.specs.Needs as said;
 ghost use Rattle.listing_lines.specs.NeedView.{need};
 
 use crate::line::Line;
-use program_types::Insn;
+use program_types::{Insn, leads_of};
 
 /// The number of a line, and how many instructions its code must have.
 #[derive(Clone, Copy)]
@@ -31,22 +31,7 @@ fn most_needed(targets: &[u32]) -> u64
 pub fn insn_needs(one: &Insn<'_>) -> u64
     ensures { result ≡ said.insn_needs (insn one.now) }
 {
-    match *one {
-        Insn::I10t { op: _, to } => to as u64 + 1,
-        Insn::I20t { op: _, to } => to as u64 + 1,
-        Insn::I30t { op: _, to } => to as u64 + 1,
-        Insn::I21t { op: _, a: _, to } => to as u64 + 1,
-        Insn::I31t { op: _, a: _, to } => to as u64 + 1,
-        Insn::I22t {
-            op: _,
-            a: _,
-            b: _,
-            to,
-        } => to as u64 + 1,
-        Insn::Packed { first: _, targets } => most_needed(targets),
-        Insn::Sparse { keys: _, targets } => most_needed(targets),
-        _ => 0,
-    }
+    most_needed(leads_of(one))
 }
 
 /// How many instructions the targets of a line ask for.

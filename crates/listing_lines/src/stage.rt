@@ -30,90 +30,66 @@ pub enum Stage {
 pub fn is_start(stage: Stage) -> bool
     ensures { result ≡ is_start stage }
 {
-    match stage {
-        Stage::Start => true,
-        _ => false,
-    }
+    matches!(stage, Stage::Start)
 }
 
 /// Whether outside of classes.
 pub fn is_top(stage: Stage) -> bool
     ensures { result ≡ is_top stage }
 {
-    match stage {
-        Stage::Top => true,
-        _ => false,
-    }
+    matches!(stage, Stage::Top)
 }
 
 /// Whether before the members of a class.
 pub fn is_heads(stage: Stage) -> bool
     ensures { result ≡ is_heads stage }
 {
-    match stage {
-        Stage::Heads => true,
-        _ => false,
-    }
+    matches!(stage, Stage::Heads)
 }
 
 /// Whether in a class, outside of code.
 pub fn is_in_class(stage: Stage) -> bool
     ensures { result ≡ is_in_class stage }
 {
-    match stage {
-        Stage::Heads | Stage::Members | Stage::After => true,
-        _ => false,
-    }
+    matches!(stage, Stage::Heads | Stage::Members | Stage::After)
 }
 
 /// Whether after a method.
 pub fn is_after(stage: Stage) -> bool
     ensures { result ≡ is_after stage }
 {
-    match stage {
-        Stage::After => true,
-        _ => false,
-    }
+    matches!(stage, Stage::After)
 }
 
 /// Whether among instructions.
 pub fn is_insns(stage: Stage) -> bool
     ensures { result ≡ is_insns stage }
 {
-    match stage {
-        Stage::Insns => true,
-        _ => false,
-    }
+    matches!(stage, Stage::Insns)
 }
 
 /// Whether in code.
 pub fn is_in_code(stage: Stage) -> bool
     ensures { result ≡ is_in_code stage }
 {
-    match stage {
-        Stage::Insns | Stage::Tries | Stage::Caught => true,
-        _ => false,
-    }
+    matches!(stage, Stage::Insns | Stage::Tries | Stage::Caught)
 }
 
 /// Whether after a try or a catch.
 pub fn is_caught(stage: Stage) -> bool
     ensures { result ≡ is_caught stage }
 {
-    match stage {
-        Stage::Caught => true,
-        _ => false,
-    }
+    matches!(stage, Stage::Caught)
 }
 
 /// Whether an instruction or a payload.
 pub fn is_insn(kind: Kind) -> bool
     ensures { result ≡ is_insn kind }
 {
-    match kind {
-        Kind::Plain(_) | Kind::Packed | Kind::Sparse | Kind::Elements => true,
-        _ => false,
-    }
+    matches!(
+        kind,
+        Kind::Plain(_) | Kind::Packed | Kind::Sparse | Kind::Elements
+    )
 }
 
 /// Whether such a line may stand there.

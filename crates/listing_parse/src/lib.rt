@@ -5,8 +5,11 @@
 
 mod aside;
 mod law;
+mod lines;
+mod listing;
 mod reading;
 
 pub use aside::Aside;
 pub use law::{one_fault, one_program};
-pub use reading::{Reading, parse};
+pub use listing::parse;
+pub use reading::Reading;

@@ -7,7 +7,7 @@ ghost use Rattle.program_types.specs.Formed.{insn_leads};
 ghost use Rattle.listing_print.specs.Canon.{try_numbers, code_numbers};
 ghost use Rattle.listing_print.specs.Marks.{IsMarked};
 
-use program_types::{Catch, Code, Insn, Try};
+use program_types::{Catch, Code, Insn, Try, leads_of};
 use std::alloc::{AllocError, Global};
 
 /// Marks this instruction as named.
@@ -36,22 +36,7 @@ fn mark_insn(marks: &mut [bool], one: &Insn<'_>)
     ensures marked { (ns : List ℕ) → IsMarked marks.old ns → IsMarked marks.new (ns ++ insn_leads (insn one.now)) }
     ensures same { length marks.new ≡ length marks.old }
 {
-    match *one {
-        Insn::I10t { op: _, to } => mark(marks, to),
-        Insn::I20t { op: _, to } => mark(marks, to),
-        Insn::I30t { op: _, to } => mark(marks, to),
-        Insn::I21t { op: _, a: _, to } => mark(marks, to),
-        Insn::I31t { op: _, a: _, to } => mark(marks, to),
-        Insn::I22t {
-            op: _,
-            a: _,
-            b: _,
-            to,
-        } => mark(marks, to),
-        Insn::Packed { first: _, targets } => mark_all(marks, targets),
-        Insn::Sparse { keys: _, targets } => mark_all(marks, targets),
-        _ => {}
-    }
+    mark_all(marks, leads_of(one));
 }
 
 /// Marks what instructions name.

@@ -210,7 +210,7 @@ fn label_of(text: &[u8]) -> Option<&[u8]>
     if last.len() != 1 {
         return None;
     }
-    if last[0] != 58 {
+    if last[0] != b':' {
         return None;
     }
     Some(label)

@@ -85,10 +85,7 @@ fn next_due(due: Due, one: Word<'_, '_>) -> (Slot, Due)
 fn is_whole(due: Due) -> bool
     ensures { result ≡ said.is_whole due }
 {
-    match due {
-        Due::Nothing => true,
-        _ => false,
-    }
+    matches!(due, Due::Nothing)
 }
 
 /// Puts the slots of a value after those that are there; false where these words aren't one value.

@@ -109,7 +109,7 @@ pub fn payload_key(text: &[u8]) -> Option<Key>
     if text.len() < 13 {
         return None;
     }
-    if text[text.len() - 1] != 100 {
+    if text[text.len() - 1] != b'd' {
         return None;
     }
     find_key(&PAYLOADS, text)

@@ -16,8 +16,8 @@ fn mark_byte(mark: Mark) -> Option<u8>
 {
     match mark {
         Mark::Nothing => None,
-        Mark::Register => Some(118),
-        Mark::Target => Some(64),
+        Mark::Register => Some(b'v'),
+        Mark::Target => Some(b'@'),
     }
 }
 
@@ -29,9 +29,7 @@ pub fn read_number(mark: Mark, text: &[u8], most: u64) -> Option<u64>
     let Some(before) = mark_byte(mark) else {
         return read_natural(text, most);
     };
-    let Some((first, digits)) = text.split_first() else {
-        return None;
-    };
+    let (first, digits) = text.split_first()?;
     if *first != before {
         return None;
     }
@@ -54,10 +52,8 @@ fn after_minus(text: &[u8]) -> Option<&[u8]>
     ensures found { IfSome result (λ ds. text.now ≡ 45 ∷ ds.now) }
     ensures none { IfNone result ((ds : List ℕ) → text.now ≡ 45 ∷ ds → ⊥) }
 {
-    let Some((first, digits)) = text.split_first() else {
-        return None;
-    };
-    if *first != 45 {
+    let (first, digits) = text.split_first()?;
+    if *first != b'-' {
         return None;
     }
     Some(digits)

@@ -20,11 +20,11 @@ pub fn put_decimal(out: &mut Vec<u8>, n: u64) -> Result<(), AllocError>
     ensures ok { OnOk result (out.new.items ≡ out.old.items ++ decimal n) }
 {
     if n < 10 {
-        out.push(48 + n as u8)?;
+        out.push(b'0' + n as u8)?;
         return Ok(());
     }
     if n < 100 {
-        out.extend_from_slice(&[48 + (n / 10) as u8, 48 + (n % 10) as u8])?;
+        out.extend_from_slice(&[b'0' + (n / 10) as u8, b'0' + (n % 10) as u8])?;
         return Ok(());
     }
     let mut digits = Buffer::new();
@@ -46,7 +46,7 @@ pub fn put_register(out: &mut Vec<u8>, n: u16) -> Result<(), AllocError>
     ensures ok { OnOk result (out.new.items ≡ out.old.items ++ (32 ∷ 118 ∷ decimal n)) }
 {
     if n < 10 {
-        out.extend_from_slice(&[32, 118, 48 + n as u8])?;
+        out.extend_from_slice(&[b' ', b'v', b'0' + n as u8])?;
         return Ok(());
     }
     out.extend_from_slice(b" v")?;

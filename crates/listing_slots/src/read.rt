@@ -96,20 +96,12 @@ fn read_named<'a>(bump: &'a Bump, slot: Slot, units: &'a [u16]) -> Result<Option
     ensures memory { IsOkUnless result memory }
 {
     match slot {
-        Slot::Member => {
-            if is_member_name(units) {
-                return Ok(Some(Datum::Name(Name::Text(Str { units }))));
-            }
-            Ok(None)
+        Slot::Member if is_member_name(units) => {
+            Ok(Some(Datum::Name(Name::Text(Str { units }))))
         }
-        Slot::Desc => {
-            if is_descriptor(units) {
-                return Ok(Some(Datum::Name(Name::Desc(Desc {
-                    text: Str { units },
-                }))));
-            }
-            Ok(None)
-        }
+        Slot::Desc if is_descriptor(units) => Ok(Some(Datum::Name(Name::Desc(Desc {
+            text: Str { units },
+        })))),
         Slot::Field => {
             let Some(field) = read_field(units) else {
                 return Ok(None);
@@ -152,11 +144,20 @@ fn is_name_slot(slot: Slot) -> bool
 fn is_number_slot(slot: Slot) -> bool
     ensures { result ≡ is_number_slot slot }
 {
-    match slot {
-        Slot::Byte(_, _) | Slot::Half(_, _) | Slot::Word(_, _) | Slot::Nibble | Slot::Tiny => true,
-        Slot::Short | Slot::Int | Slot::Long | Slot::Flags | Slot::Float | Slot::Double => true,
-        _ => false,
-    }
+    matches!(
+        slot,
+        Slot::Byte(_, _)
+            | Slot::Half(_, _)
+            | Slot::Word(_, _)
+            | Slot::Nibble
+            | Slot::Tiny
+            | Slot::Short
+            | Slot::Int
+            | Slot::Long
+            | Slot::Flags
+            | Slot::Float
+            | Slot::Double
+    )
 }
 
 /// What a word without quotes says in a name's slot: it is decoded first, and then read.

@@ -56,13 +56,15 @@ impl<'a, 'b> Model for Spelled<'a, 'b> {
 fn is_same_slot(a: Slot, b: Slot) -> bool
     ensures { IsTrue result → a ≡ b }
 {
-    match (a, b) {
-        (Slot::Member, Slot::Member) | (Slot::Desc, Slot::Desc) | (Slot::Field, Slot::Field) =>
-            true,
-        (Slot::Method, Slot::Method) | (Slot::Enum, Slot::Enum) | (Slot::Proto, Slot::Proto) =>
-            true,
-        _ => false,
-    }
+    matches!(
+        (a, b),
+        (Slot::Member, Slot::Member)
+            | (Slot::Desc, Slot::Desc)
+            | (Slot::Field, Slot::Field)
+            | (Slot::Method, Slot::Method)
+            | (Slot::Enum, Slot::Enum)
+            | (Slot::Proto, Slot::Proto)
+    )
 }
 
 /// The factor of Fibonacci hashing, 2 to the 64th divided by the golden ratio: it spreads each byte over the bits above it.

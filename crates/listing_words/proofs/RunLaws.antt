@@ -5,7 +5,7 @@ use Rattle.std.proofs.lemmas.List.{length-map}
 use Rattle.std.proofs.lemmas.Simd.{map-map, mask_l-mod, length-chunk, tops_compared, zip2_splat, zip2_splat_left, first_set_mask_l, run_in_chunk_le, run_in_chunk_fails, run_in_chunk_stops}
 use Rattle.std.specs.List.{prefix_len}
 use Rattle.std.specs.Simd.Lanes.{chunk, zip2, mask_l, top}
-use Rattle.listing_words.specs.Runs.{IsOf, IsRun, first_mark}
+use Rattle.listing_words.specs.Runs.{IsOf, IsRunEnd, first_mark}
 
 -- a byte that isn't of the kind, as a lane says it
 abbrev is_other : (ℕ → ℕ → ℕ) → ℕ → ℕ → ℕ → Bool
@@ -23,7 +23,7 @@ marks_are minus first count v long =
 
 pub run_marked : (minus : ℕ → ℕ → ℕ) (first count : ℕ) (text : List ℕ) (at run : ℕ) → at + 16 ≤ length text
     → run ≡ first_mark (mask_l (map (top 7) (zip2 (λ a b. cond (leb a b) 255 0) (replicate 16 count) (zip2 minus (chunk at 16 text) (replicate 16 first)))) % 2 ^ 64) 16
-    → ((c : ℕ) → minus c first ≡ (c + 256 - first) % 256) → IsRun first count text at (at + 16) (at + run)
+    → ((c : ℕ) → minus c first ≡ (c + 256 - first) % 256) → IsRunEnd first count text at (at + 16) (at + run)
 run_marked minus first count text at run room found same =
     let p = is_other minus first count in
     let v = chunk at 16 text in
@@ -39,7 +39,7 @@ run_marked minus first count text at run room found same =
 
 -- what was seen from the front on, and what stands from a place in it on
 pub run_front : (first count : ℕ) (text : List ℕ) (seen from to stop : ℕ) → ((k : ℕ) → k < seen → IsOf first count (get_or text k 0))
-    → from ≤ seen → to ≤ length text → (stop ≡ to → to ≡ length text) → IsRun first count text from to stop → IsRun first count text 0 (length text) stop
+    → from ≤ seen → to ≤ length text → (stop ≡ to → to ≡ length text) → IsRunEnd first count text from to stop → IsRunEnd first count text 0 (length text) stop
 run_front first count text seen from to stop front over inside end run = record {
   within = omega (arith, run.within);
   all = λ k low high. elim (cases_lt k seen) [ inl early ↦ front k early | inr late ↦ run.all k (omega arith) high ];
@@ -50,6 +50,6 @@ run_front first count text seen from to stop front over inside end run = record 
 }
 
 pub run_more : (first count : ℕ) (text : List ℕ) (seen to stop : ℕ) → ((k : ℕ) → k < seen → IsOf first count (get_or text k 0))
-    → to ≤ stop → IsRun first count text seen to stop → (k : ℕ) → k < to → IsOf first count (get_or text k 0)
+    → to ≤ stop → IsRunEnd first count text seen to stop → (k : ℕ) → k < to → IsOf first count (get_or text k 0)
 run_more first count text seen to stop front whole run k under =
     elim (cases_lt k seen) [ inl early ↦ front k early | inr late ↦ run.all k late (omega arith) ]

@@ -7,7 +7,7 @@ abbrev pub IsOf : ℕ → ℕ → ℕ → Type 0
 IsOf first count c = (c + 256 - first) % 256 < count
 
 -- From one place to another, the first whose byte isn't of the kind, or the end.
-pub record IsRun (first count : ℕ) (text : List ℕ) (from to stop : ℕ) : Type 0 where
+pub record IsRunEnd (first count : ℕ) (text : List ℕ) (from to stop : ℕ) : Type 0 where
   pub within : stop ≤ to
   pub all : (k : ℕ) → from ≤ k → k < stop → IsOf first count (slice_index text k)
   pub stops : stop < to → IsOf first count (slice_index text stop) → ⊥

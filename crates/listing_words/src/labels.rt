@@ -35,8 +35,8 @@ pub fn is_natural(word: &[u8]) -> bool
     ensures { result ≡ said.is_natural word.now }
 {
     if word.len() >= 2 {
-        if word[0] == 48 {
-            if word[1] == 120 {
+        if word[0] == b'0' {
+            if word[1] == b'x' {
                 let (_, digits) = word.split_at(2);
                 return all_digits(16, digits);
             }

@@ -15,6 +15,18 @@ use bumpalo::collections::into_bump_slice;
 use dex_base::{Fault, descriptor_length, is_descriptor, is_member_name};
 use program_types::{Desc, FieldRef, MethodRef, Proto, Str};
 
+// The units between the parts of a name.
+
+const OPEN: u16 = b'(' as u16;
+
+const CLOSE: u16 = b')' as u16;
+
+const COLON: u16 = b':' as u16;
+
+const HYPHEN: u16 = b'-' as u16;
+
+const GREATER: u16 = b'>' as u16;
+
 /// The unit at the front, and how many bytes it takes.
 fn name_unit_at(text: &[u8]) -> Option<(u16, usize)>
     ensures found { IfSome result (λ f. HasNameUnit text.now f.0 f.1) }
@@ -23,13 +35,13 @@ fn name_unit_at(text: &[u8]) -> Option<(u16, usize)>
     if text.len() == 0 {
         return None;
     }
-    if text[0] != 92 {
+    if text[0] != b'\\' {
         return Some((text[0] as u16, 1));
     }
     if text.len() < 6 {
         return None;
     }
-    if text[1] != 117 {
+    if text[1] != b'u' {
         return None;
     }
     let a = hex(text[2])?;
@@ -62,7 +74,7 @@ fn read_plain<'a, 'b>(
     ensures taken { IfOk result (λ f. EachTaken TakesNameUnit word.now f.0.items f.1.now) }
     ensures memory { IsOkUnless result memory }
 {
-    let (plain, rest) = split_before(92, word);
+    let (plain, rest) = split_before(b'\\', word);
     let mut units = Vec::with_capacity(bump, word.len())?;
     units.resize(plain.len(), 0)?;
     widen(&mut units[..], plain);
@@ -117,7 +129,7 @@ fn read_proto_tail<'a>(bump: &'a Bump, units: &'a [u16]) -> Result<Option<Proto<
     let Some((close, ret)) = rest.split_first() else {
         return Ok(None);
     };
-    if *close != 41 {
+    if *close != CLOSE {
         return Ok(None);
     }
     if !is_descriptor(ret) {
@@ -140,7 +152,7 @@ pub fn read_proto<'a>(bump: &'a Bump, units: &'a [u16]) -> Result<Option<Proto<'
     let Some((open, inner)) = units.split_first() else {
         return Ok(None);
     };
-    if *open != 40 {
+    if *open != OPEN {
         return Ok(None);
     }
     read_proto_tail(bump, inner)
@@ -170,10 +182,10 @@ fn split_member<'a>(units: &'a [u16], stop: u16) -> Option<(&'a [u16], &'a [u16]
     if after.len() < 2 {
         return None;
     }
-    if after[0] != 45 {
+    if after[0] != HYPHEN {
         return None;
     }
-    if after[1] != 62 {
+    if after[1] != GREATER {
         return None;
     }
     let (_, rest) = after.split_at(2);
@@ -192,7 +204,7 @@ pub fn read_field<'a>(units: &'a [u16]) -> Option<FieldRef<'a>>
     ensures found { IfSome result (λ f. IsFieldText units.now (field_ref f)) }
     ensures none { IfNone result ((f : SaidField) → IsFieldText units.now f → ⊥) }
 {
-    let (class, name, ty) = split_member(units, 58)?;
+    let (class, name, ty) = split_member(units, COLON)?;
     if !is_descriptor(ty) {
         return None;
     }
@@ -213,7 +225,7 @@ pub fn read_method<'a>(bump: &'a Bump, units: &'a [u16]) -> Result<Option<Method
     ensures none { IfOk result (λ r. IfNone r ((m : SaidMethod) → IsMethodText units.now m → ⊥)) }
     ensures memory { IsOkUnless result memory }
 {
-    let Some((class, name, tail)) = split_member(units, 40) else {
+    let Some((class, name, tail)) = split_member(units, OPEN) else {
         return Ok(None);
     };
     let Some(proto) = read_proto_tail(bump, tail)? else {

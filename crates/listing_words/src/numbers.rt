@@ -12,25 +12,12 @@ pub(crate) fn digit(c: u8) -> u64
     ensures value { result ≡ digit_value c }
     ensures small { result ≤ 36 }
 {
-    if c < 48 {
-        return 36;
+    match c {
+        b'0'..=b'9' => (c - b'0') as u64,
+        b'A'..=b'Z' => (c - b'A' + 10) as u64,
+        b'a'..=b'z' => (c - b'a' + 10) as u64,
+        _ => 36,
     }
-    if c < 58 {
-        return (c - 48) as u64;
-    }
-    if c < 65 {
-        return 36;
-    }
-    if c < 91 {
-        return (c - 55) as u64;
-    }
-    if c < 97 {
-        return 36;
-    }
-    if c < 123 {
-        return (c - 87) as u64;
-    }
-    36
 }
 
 /// The number that the digits write, if it is at most `most`.
@@ -62,8 +49,8 @@ pub fn read_natural(word: &[u8], most: u64) -> Option<u64>
     ensures none { IfNone result ((n : ℕ) → SpellsNatural word.now n → n ≤ most → ⊥) }
 {
     if word.len() >= 2 {
-        if word[0] == 48 {
-            if word[1] == 120 {
+        if word[0] == b'0' {
+            if word[1] == b'x' {
                 let (_, digits) = word.split_at(2);
                 return read_digits(16, digits, most);
             }

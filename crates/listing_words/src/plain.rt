@@ -5,13 +5,18 @@ ghost use Rattle.listing_words.specs.Plain.{IsPlainFrom, IsFront, AllOrNone};
 
 use std::alloc::AllocError;
 
+/// The units that a text has only after a backslash.
+pub(crate) const QUOTE: u16 = b'"' as u16;
+
+pub(crate) const BACKSLASH: u16 = b'\\' as u16;
+
 /// Whether a unit stands for itself, where those from `least` on can. Without a branch, as the loop below wants it.
 #[inline(always)]
 fn is_plain(unit: u16, least: u16) -> bool
     requires { 32 ≤ least }
     ensures { IsTrue result → IsPlainFrom least unit }
 {
-    (unit >= least) & (unit < 127) & (unit != 34) & (unit != 92)
+    (unit >= least) & (unit < 127) & (unit != QUOTE) & (unit != BACKSLASH)
 }
 
 /// Whether all units stand for themselves. All are looked at, many at a time.

@@ -4,7 +4,7 @@ ghost use Rattle.std.specs.Prelude.{◌≡◌, ◌<◌, ◌+◌, ◌++◌, OnOk}
 ghost use Rattle.std.specs.List.{flat_map};
 ghost use Rattle.listing_words.specs.Texts.{unit_text, escape_text, text_word, glyph};
 
-use crate::plain::put_plain;
+use crate::plain::{BACKSLASH, QUOTE, put_plain};
 use std::alloc::AllocError;
 
 /// A hexadecimal digit in lower case.
@@ -13,9 +13,9 @@ pub(crate) fn glyph(digit: u16) -> u8
     ensures { result ≡ glyph digit }
 {
     if digit < 10 {
-        return (48 + digit) as u8;
+        return b'0' + digit as u8;
     }
-    (87 + digit) as u8
+    b'a' + (digit - 10) as u8
 }
 
 /// Appends `\uXXXX`.
@@ -23,8 +23,8 @@ pub(crate) fn put_escape(out: &mut Vec<u8>, unit: u16) -> Result<(), AllocError>
     ensures ok { OnOk result (out.new.items ≡ out.old.items ++ escape_text unit) }
 {
     out.extend_from_slice(&[
-        92,
-        117,
+        b'\\',
+        b'u',
         glyph(unit / 4096 % 16),
         glyph(unit / 256 % 16),
         glyph(unit / 16 % 16),
@@ -37,8 +37,8 @@ pub(crate) fn put_escape(out: &mut Vec<u8>, unit: u16) -> Result<(), AllocError>
 fn put_unit(out: &mut Vec<u8>, unit: u16) -> Result<(), AllocError>
     ensures ok { OnOk result (out.new.items ≡ out.old.items ++ unit_text unit) }
 {
-    if unit == 34 || unit == 92 {
-        out.extend_from_slice(&[92, unit as u8])?;
+    if unit == QUOTE || unit == BACKSLASH {
+        out.extend_from_slice(&[b'\\', unit as u8])?;
     } else if 31 < unit && unit < 127 {
         out.extend_from_slice(&[unit as u8])?;
     } else {
@@ -64,10 +64,10 @@ fn put_units(out: &mut Vec<u8>, units: &[u16]) -> Result<(), AllocError>
 pub fn put_text(out: &mut Vec<u8>, units: &[u16]) -> Result<(), AllocError>
     ensures ok { OnOk result (out.new.items ≡ out.old.items ++ text_word units.now) }
 {
-    out.push(34)?;
+    out.push(b'"')?;
     let done = put_plain(out, units, 32)?;
     let (_, rest) = units.split_at(done);
     put_units(out, rest)?;
-    out.push(34)?;
+    out.push(b'"')?;
     Ok(())
 }

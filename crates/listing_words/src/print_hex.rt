@@ -53,7 +53,7 @@ pub fn put_flags(out: &mut Vec<u8>, flags: u32) -> Result<(), AllocError>
     ensures ok { OnOk result (out.new.items ≡ out.old.items ++ flags_text flags) }
 {
     if flags < 16 {
-        out.extend_from_slice(&[48, 120, glyph(flags as u16)])?;
+        out.extend_from_slice(&[b'0', b'x', glyph(flags as u16)])?;
         return Ok(());
     }
     out.extend_from_slice(b"0x")?;

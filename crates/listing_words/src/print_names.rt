@@ -5,7 +5,7 @@ ghost use Rattle.std.specs.List.{flat_map};
 ghost use Rattle.program_types.specs.View.{desc, proto, field_ref, method_ref};
 ghost use Rattle.listing_words.specs.Written.{name_unit, name_text, proto_units, field_units, method_units};
 
-use crate::plain::put_plain;
+use crate::plain::{BACKSLASH, QUOTE, put_plain};
 use crate::print::put_escape;
 use program_types::{Desc, FieldRef, MethodRef, Proto};
 use std::alloc::AllocError;
@@ -17,7 +17,7 @@ fn put_name_unit(out: &mut Vec<u8>, unit: u16) -> Result<(), AllocError>
     if unit <= 32 || unit >= 127 {
         return put_escape(out, unit);
     }
-    if unit == 34 || unit == 92 {
+    if unit == QUOTE || unit == BACKSLASH {
         return put_escape(out, unit);
     }
     out.push(unit as u8)?;

@@ -1,7 +1,7 @@
 //! How many bytes at the front of a text are of one kind, sixteen at a time.
 
 ghost use Rattle.std.specs.Prelude.{◌≡◌, ◌+◌, ◌≤◌, length};
-ghost use Rattle.listing_words.specs.Runs.{IsRun, first_mark};
+ghost use Rattle.listing_words.specs.Runs.{IsRunEnd, first_mark};
 
 use std::simd::prelude::*;
 
@@ -31,7 +31,7 @@ fn first_mark(marks: u64) -> usize
 #[inline(always)]
 fn run_among(kind: Kind, text: &[u8], at: usize) -> usize
     requires { at + 16 ≤ length text.now }
-    ensures { IsRun kind.first kind.count text.now at (at + 16) (at + result) }
+    ensures { IsRunEnd kind.first kind.count text.now at (at + 16) (at + result) }
 {
     let from_first = u8x16::from_slice(&text[at..]) - u8x16::splat(kind.first);
     first_mark(from_first.simd_ge(u8x16::splat(kind.count)).to_bitmask())
@@ -40,7 +40,7 @@ fn run_among(kind: Kind, text: &[u8], at: usize) -> usize
 /// How many bytes are of the kind, up to the first that isn't, looked at one by one.
 #[inline(always)]
 fn short_run(kind: Kind, text: &[u8]) -> usize
-    ensures { IsRun kind.first kind.count text.now 0 (length text.now) result }
+    ensures { IsRunEnd kind.first kind.count text.now 0 (length text.now) result }
 {
     for at in 0..text.len() {
         if text[at].wrapping_sub(kind.first) >= kind.count {
@@ -53,7 +53,7 @@ fn short_run(kind: Kind, text: &[u8]) -> usize
 /// How many bytes are of the kind, up to the first that isn't; all, where there is none.
 #[inline(always)]
 pub(crate) fn run(kind: Kind, text: &[u8]) -> usize
-    ensures { IsRun kind.first kind.count text.now 0 (length text.now) result }
+    ensures { IsRunEnd kind.first kind.count text.now 0 (length text.now) result }
 {
     if text.len() < LANES {
         return short_run(kind, text);

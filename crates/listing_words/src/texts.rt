@@ -5,6 +5,7 @@ ghost use Rattle.listing_words.specs.Taking.{NoneAt, EachTaken};
 ghost use Rattle.listing_words.specs.Texts.{HasQuotedUnit, TakesUnit, TakesUnits, hex};
 ghost use Rattle.base_bytes.specs.Fault.{memory};
 
+use crate::plain::{BACKSLASH, QUOTE};
 use bumpalo::Bump;
 use bumpalo::collections::into_bump_slice;
 use dex_base::Fault;
@@ -14,25 +15,12 @@ use dex_base::Fault;
 pub(crate) fn hex(c: u8) -> Option<u16>
     ensures { SomeIff result (hex c < 16) (hex c) }
 {
-    if c < 48 {
-        return None;
+    match c {
+        b'0'..=b'9' => Some((c - b'0') as u16),
+        b'A'..=b'F' => Some((c - b'A' + 10) as u16),
+        b'a'..=b'f' => Some((c - b'a' + 10) as u16),
+        _ => None,
     }
-    if c < 58 {
-        return Some((c - 48) as u16);
-    }
-    if c < 65 {
-        return None;
-    }
-    if c < 71 {
-        return Some((c - 55) as u16);
-    }
-    if c < 97 {
-        return None;
-    }
-    if c < 103 {
-        return Some((c - 87) as u16);
-    }
-    None
 }
 
 /// The unit at the front, and how many bytes it takes.
@@ -43,14 +31,14 @@ fn unit_at(text: &[u8]) -> Option<(u16, usize)>
     if text.len() == 0 {
         return None;
     }
-    if text[0] != 92 {
-        if text[0] < 32 {
+    if text[0] != b'\\' {
+        if text[0] < b' ' {
             return None;
         }
-        if text[0] >= 127 {
+        if text[0] > b'~' {
             return None;
         }
-        if text[0] == 34 {
+        if text[0] == b'"' {
             return None;
         }
         return Some((text[0] as u16, 1));
@@ -58,12 +46,12 @@ fn unit_at(text: &[u8]) -> Option<(u16, usize)>
     if text.len() < 2 {
         return None;
     }
-    if text[1] != 117 {
-        if text[1] == 34 {
-            return Some((34, 2));
+    if text[1] != b'u' {
+        if text[1] == b'"' {
+            return Some((QUOTE, 2));
         }
-        if text[1] == 92 {
-            return Some((92, 2));
+        if text[1] == b'\\' {
+            return Some((BACKSLASH, 2));
         }
         return None;
     }
@@ -122,7 +110,7 @@ pub(crate) fn read_units<'a, 'b>(
     let Some((first, rest)) = end.split_first() else {
         return Ok(None);
     };
-    if *first != 34 {
+    if *first != b'"' {
         return Ok(None);
     }
     Ok(Some((into_bump_slice(units), rest)))

@@ -33,7 +33,7 @@ fn after_spaces(text: &[u8]) -> &[u8]
 {
     let mut rest = text;
     while let Some((first, after)) = rest.split_first() {
-        if *first != 32 {
+        if *first != b' ' {
             return rest;
         }
         rest = after;
@@ -55,7 +55,7 @@ fn is_end(text: &[u8]) -> bool
     ensures { IsTrue result ↔ (up_to_space text.now ≡ []) }
 {
     match text.split_first() {
-        Some((first, _)) => *first == 32,
+        Some((first, _)) => *first == b' ',
         None => true,
     }
 }
@@ -74,7 +74,7 @@ fn read_word<'a, 'b>(
     let Some((first, inner)) = text.split_first() else {
         return Ok(None);
     };
-    if *first == 34 {
+    if *first == b'"' {
         let Some((units, rest)) = read_units(bump, inner)? else {
             return Ok(None);
         };

@@ -70,10 +70,7 @@ fn fits_i64(b: i64) -> bool
 fn is_of(op: u8, format: Format) -> bool
     ensures { IsTrue result ↔ (format_of op ≡ Some format) }
 {
-    match format_of(op) {
-        Some(other) => other == format,
-        None => false,
-    }
+    format_of(op) == Some(format)
 }
 
 /// Whether the opcode is of the format, one with a field of eight bits.
@@ -94,13 +91,13 @@ fn are_low(op: u8, format: Format, a: u8, b: u8) -> bool
 fn is_named(op: u8, name: Name<'_>) -> bool
     ensures { IsTrue result ↔ IsOfIndexKind (index_kind_of op) (view.name name.entry) }
 {
-    match (index_kind_of(op), name) {
-        (Some(IndexKind::String), Name::Text(_)) => true,
-        (Some(IndexKind::Type), Name::Desc(_)) => true,
-        (Some(IndexKind::Field), Name::Field(_)) => true,
-        (Some(IndexKind::Method), Name::Method(_)) => true,
-        _ => false,
-    }
+    matches!(
+        (index_kind_of(op), name),
+        (Some(IndexKind::String), Name::Text(_))
+            | (Some(IndexKind::Type), Name::Desc(_))
+            | (Some(IndexKind::Field), Name::Field(_))
+            | (Some(IndexKind::Method), Name::Method(_))
+    )
 }
 
 /// Whether the first `n` registers fit four bits, and the others are 0.

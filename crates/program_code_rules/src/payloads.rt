@@ -1,14 +1,13 @@
 //! Payloads, and the instructions that refer to them.
 
 ghost use Rattle.std.specs.Prelude.{◌≡◌, ◌↔◌, ◌<◌, ◌≤◌, ℕ, length, map, IsTrue, IfOk, IfSome, IfNone};
-ghost use Rattle.program_types.specs.Formed.{insn_at, insn_wants, insn_reach, AreAlike, WantsPayload, IsSwitch, RefersToPayload, PayloadHolds};
+ghost use Rattle.program_types.specs.Formed.{insn_at, insn_wants, insn_reach, WantsPayload, RefersToPayload, PayloadHolds};
 ghost use Rattle.program_types.specs.View.{insn, code};
 ghost use Rattle.program_code_rules.specs.CodeRules.{PayloadsHold};
 ghost use Rattle.program_code_rules.specs.Parts.{IsUsedOnce};
 ghost use Rattle.program_code_rules.specs.Uses.{AreUses, used_again};
 
-use crate::targets::payload_of;
-use program_types::{Code, Insn, Payload};
+use program_types::{Code, Insn, Payload, are_alike, is_switch, payload_of};
 use std::alloc::{AllocError, Global};
 
 /// Which payload an instruction refers to.
@@ -32,28 +31,6 @@ fn reach_of(one: &Insn<'_>) -> u32
     match *one {
         Insn::I31t { to, .. } => to,
         _ => 0,
-    }
-}
-
-/// Whether both are one kind of payload.
-fn are_alike(one: Option<Payload>, other: Option<Payload>) -> bool
-    ensures { IsTrue result ↔ AreAlike one other }
-{
-    match (one, other) {
-        (Some(Payload::PackedSwitch), Some(Payload::PackedSwitch)) => true,
-        (Some(Payload::SparseSwitch), Some(Payload::SparseSwitch)) => true,
-        (Some(Payload::Array), Some(Payload::Array)) => true,
-        _ => false,
-    }
-}
-
-/// Whether a payload is that of a switch.
-fn is_switch(one: Option<Payload>) -> bool
-    ensures { IsTrue result ↔ IsSwitch one }
-{
-    match one {
-        Some(Payload::PackedSwitch) | Some(Payload::SparseSwitch) => true,
-        _ => false,
     }
 }
 
@@ -103,10 +80,7 @@ fn is_used_once(insns: &[Insn<'_>], k: usize) -> bool
     ensures { IsTrue result ↔ IsUsedOnce (map insn insns.now) k }
 {
     match user_from(insns, 0, k) {
-        Some(j) => match user_from(insns, j + 1, k) {
-            Some(_) => false,
-            None => true,
-        },
+        Some(j) => user_from(insns, j + 1, k).is_none(),
         None => false,
     }
 }
@@ -192,10 +166,7 @@ fn is_once(uses: &[Use], insns: &[Insn<'_>], k: usize) -> bool
     requires inside { k < length insns.now }
     ensures { IsTrue result ↔ IsUsedOnce (map insn insns.now) k }
 {
-    match uses[k] {
-        Use::Once => true,
-        _ => false,
-    }
+    matches!(uses[k], Use::Once)
 }
 
 /// Whether the payload that instruction `k` is or refers to is used as it has to be, where this is known.

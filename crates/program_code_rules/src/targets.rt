@@ -2,24 +2,11 @@
 
 ghost use Rattle.std.specs.Prelude.{◌≡◌, ◌≢◌, ◌↔◌, ◌<◌, length, map, IsTrue, IfSome, None};
 ghost use Rattle.std.specs.List.{AllByRecursion};
-ghost use Rattle.program_types.specs.Formed.{insn_payload, insn_branch, insn_short_branch, insn_targets, IsTarget, TargetHolds};
+ghost use Rattle.program_types.specs.Formed.{insn_branch, insn_short_branch, IsTarget, TargetHolds};
 ghost use Rattle.program_types.specs.View.{insn, code};
 ghost use Rattle.program_code_rules.specs.CodeRules.{TargetsHold};
 
-use program_types::{Code, Insn, Payload};
-
-/// Which payload an instruction is.
-#[tactic(auto, unfolding(program_types::specs::Formed::insn_payload))]
-pub(crate) fn payload_of(one: &Insn<'_>) -> Option<Payload>
-    ensures { result ≡ insn_payload (insn one.now) }
-{
-    match *one {
-        Insn::Packed { .. } => Some(Payload::PackedSwitch),
-        Insn::Sparse { .. } => Some(Payload::SparseSwitch),
-        Insn::Data { .. } => Some(Payload::Array),
-        _ => None,
-    }
-}
+use program_types::{Code, Insn, payload_of, targets_of};
 
 /// The target of a branch.
 #[tactic(auto, unfolding(program_types::specs::Formed::insn_branch))]
@@ -44,17 +31,6 @@ fn short_branch_of(one: &Insn<'_>) -> Option<u32>
     match *one {
         Insn::I30t { .. } => None,
         _ => branch_of(one),
-    }
-}
-
-/// The targets of a switch's payload.
-#[tactic(auto, unfolding(program_types::specs::Formed::insn_targets))]
-fn targets_of<'a>(one: &Insn<'a>) -> &'a [u32]
-    ensures { result.now ≡ insn_targets (insn one.now) }
-{
-    match *one {
-        Insn::Packed { targets, .. } | Insn::Sparse { targets, .. } => targets,
-        _ => &[],
     }
 }
 

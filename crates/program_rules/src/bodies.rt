@@ -9,19 +9,15 @@ ghost use Rattle.program_rules.specs.Valid.{IsValidName, InsnIsNamed, InsnsAreNa
 
 use crate::names::is_valid_name;
 use dex_base::is_descriptor;
-use program_types::{Catch, Code, Insn, Try};
+use program_types::{Catch, Code, Insn, Try, name_of};
 
 /// Whether a file can have the name in the instruction, if there is one.
 fn insn_is_valid(one: &Insn<'_>) -> bool
     ensures { IsTrue result ↔ InsnIsNamed (insn one.now) }
 {
-    match *one {
-        Insn::I21c { name, .. }
-        | Insn::I22c { name, .. }
-        | Insn::I31c { name, .. }
-        | Insn::I35c { name, .. }
-        | Insn::I3rc { name, .. } => is_valid_name(name),
-        _ => true,
+    match name_of(one) {
+        Some(name) => is_valid_name(name),
+        None => true,
     }
 }
 

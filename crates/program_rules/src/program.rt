@@ -179,6 +179,13 @@ pub fn well_formed_in(alloc: Global, all: &Program<'_>) -> Result<(), Fault>
 
 /// Whether a program is well formed, as `well_formed_in` says it. Where a file is known to have all names that instructions
 /// mention, these aren't looked at again.
+///
+/// ```
+/// use dex_program::{Program, well_formed_named_in};
+///
+/// // no instruction, and so none whose name a file can't have
+/// assert!(rt; well_formed_named_in(alloc, &Program { classes: &[] }, true).is_ok());
+/// ```
 pub fn well_formed_named_in(alloc: Global, all: &Program<'_>, named: bool) -> Result<(), Fault>
     requires { IsTrue named → AllByRecursion (CodesHold InsnsAreNamed) (program all.now) }
     ensures formed { OnOk result (WellFormed (program all.now)) }

@@ -7,7 +7,7 @@ use dex_samples::{field, method, none_wrong, proto, text, ty};
 use program_types::{Member, Method, Name};
 use std::alloc::Global;
 use std::test::Fail;
-use tables_names::{Needed, Ranks};
+use tables_names::{Needed, Noted, Ranks};
 
 // A name, and its rank.
 type Ranked = (&'static str, Option<u32>);
@@ -366,4 +366,28 @@ fn the_members_of_a_class_are_found_by_the_ranks_of_their_parts(rt: HostRuntime)
         ("one of each kind", Added::Members, Asked::Own),
     ];
     none_wrong(first_otherwise(rt.alloc(), &CASES))
+}
+
+// x, LA;->f:I, and x once more.
+fn note_three<'a>(noted: &mut Noted<'a>, arena: &'a Bump) -> Result<(), Fault> {
+    noted.add_name(arena, Name::Text(text(arena, "x")?))?;
+    noted.add_name(arena, Name::Field(field(arena, "LA;", "f", "I")?))?;
+    noted.add_name(arena, Name::Text(text(arena, "x")?))
+}
+
+// The strings are I, LA;, f and x; there is one field.
+fn noted_elsewhere(alloc: Global) -> Result<Option<&'static str>, Fault> {
+    let arena = Bump::new(alloc);
+    let mut noted = Needed::new(alloc).noting();
+    note_three(&mut noted, &arena)?;
+    let (_, ranks) = noted.freeze()?;
+    match ranks.as_slice() {
+        [3, 0, 3] => Ok(None),
+        _ => Ok(Some("ranks of what was noted")),
+    }
+}
+
+#[test]
+fn what_is_noted_has_its_ranks_in_the_order_of_mention(rt: HostRuntime) -> Result<(), Fail> {
+    none_wrong(noted_elsewhere(rt.alloc()))
 }

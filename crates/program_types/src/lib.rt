@@ -25,6 +25,7 @@ mod names;
 
 // What has names in it: instructions and values.
 mod insn;
+mod parts;
 mod payload;
 mod value;
 
@@ -52,6 +53,7 @@ pub use depth::is_within_depth;
 pub use insn::Insn;
 pub use kinds::{is_class_or_array, is_class_type, is_void};
 pub use names::{Desc, FieldRef, MethodRef, Name, Proto, Str};
+pub use parts::{are_alike, is_switch, leads_of, name_of, payload_of, targets_of};
 pub use payload::Payload;
 pub use place::{place_descs, place_proto, place_str};
 pub use shorty::{letter, shorty_laws, shorty_of};

@@ -12,3 +12,4 @@ pub mod SortingLemmas
 pub mod OwnLemmas
 pub mod NumberLemmas
 pub mod NumberedLemmas
+pub mod NotedLemmas

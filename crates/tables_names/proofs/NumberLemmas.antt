@@ -81,11 +81,17 @@ Grows-with_last ks k = by (is_member ks k)
     by false = Grows-pushed ks k
 
 pub AllGrow-refl : (s : Five) → AllGrow s s
-AllGrow-refl s = record { strings = Grows-refl s.strings; types = Grows-refl s.types; protos = Grows-refl s.protos }
+AllGrow-refl s = record { strings = Grows-refl s.strings; types = Grows-refl s.types; protos = Grows-refl s.protos; fields = Grows-refl s.fields; methods = Grows-refl s.methods }
 
 pub AllGrow-trans : (s t u : Five) → AllGrow s t → AllGrow t u → AllGrow s u
 AllGrow-trans s t u f g =
-    record { strings = Grows-trans s.strings t.strings u.strings f.strings g.strings; types = Grows-trans s.types t.types u.types f.types g.types; protos = Grows-trans s.protos t.protos u.protos f.protos g.protos }
+    record {
+      strings = Grows-trans s.strings t.strings u.strings f.strings g.strings;
+      types = Grows-trans s.types t.types u.types f.types g.types;
+      protos = Grows-trans s.protos t.protos u.protos f.protos g.protos;
+      fields = Grows-trans s.fields t.fields u.fields f.fields g.fields;
+      methods = Grows-trans s.methods t.methods u.methods f.methods g.methods;
+    }
 
 -- ---- parts stay
 

@@ -1,7 +1,7 @@
 -- Names that are sorted by the ranks of their parts.
-use Rattle.std.proofs.Common.{◌≡◌, ℕ, ◌+◌, ◌<◌, Bool, List, [], ◌∷◌, ◌++◌, map, take, length, get_or, refl, sym, ap, ◌∙◌, arith, All, true, zero, suc, Some, subst, option_map}
+use Rattle.std.proofs.Common.{◌≡◌, ℕ, ◌+◌, ◌<◌, Bool, false, List, [], ◌∷◌, ◌++◌, map, take, length, get_or, refl, sym, ap, ◌∙◌, arith, All, true, zero, suc, Some, subst, option_map}
 use Rattle.std.specs.declared.cmp.Ordering.{Ordering}
-use Rattle.std.specs.declared.cmp.Ordering.TheVariants.{Less}
+use Rattle.std.specs.declared.cmp.Ordering.TheVariants.{Less, Equal, Greater}
 use Rattle.std.specs.Ordering.{nat_cmp, is_eq, is_lt, ordering_then}
 use Rattle.std.specs.Cmp.{IsEquivalence}
 use Rattle.std.specs.List.{IsDistinct, AllZip}
@@ -32,41 +32,46 @@ same_leads : (ranks names : Ordering) → ranks ≡ names → RanksDecide ranks 
 same_leads ranks Less e = rw e refl
 same_leads ranks _ e = rw e refl
 
+-- what is not less is not so before the numbers compare
+first_not_less : (a b : Ordering) → is_lt (ordering_then a b) ≡ false → is_lt a ≡ false
+first_not_less Less b h = h
+first_not_less Equal b h = refl
+first_not_less Greater b h = refl
+
 -- or what they begin with
 first_leads : (ranks first rest : Ordering) → ranks ≡ first → RanksDecide ranks (ordering_then first rest)
 first_leads ranks Less rest e = rw e refl
 first_leads ranks _ rest e = rw e refl
 
--- ---- pairs of ranks and a name
+-- ---- rows: the ranks of a name's parts, the name, its number
 
 module _ {N R : Type 0} where
-  -- the next name goes after its ranks
-  pub names_pushed : (names : List N) (pairs new : List (R × N)) (i : ℕ) (name : N) (ranks : R) → i < length names → name ≡ get_or names i name → new ≡ pairs ++ (ranks, name) ∷ [] → map (λ p. p.1) pairs ≡ take i names → map (λ p. p.1) new ≡ take (i + 1) names
-  names_pushed names pairs new i name ranks lt at pushed so_far =
-      ap (map (λ p. p.1)) pushed ∙ map_push (λ p. p.1) pairs (ranks, name) ∙ (λ t. so_far t ++ at t ∷ []) ∙ sym (take_more names i name lt)
+  -- one more row
+  pub names_pushed : (names : List N) (rows new : List (R × N × ℕ)) (i : ℕ) (name : N) (ranks : R) (number : ℕ) → i < length names → name ≡ get_or names i name → new ≡ rows ++ (ranks, name, number) ∷ [] → map (λ r. r.1) rows ≡ take i names → map (λ r. r.1) new ≡ take (i + 1) names
+  names_pushed names rows new i name ranks number lt at pushed so_far =
+      ap (map (λ r. r.1)) pushed ∙ map_push (λ r. r.1) rows (ranks, name, number) ∙ (λ t. so_far t ++ at t ∷ []) ∙ sym (take_more names i name lt)
 
-  pub ranks_pushed : (Has : N → R → Type 0) (pairs new : List (R × N)) (name : N) (ranks : R) → new ≡ pairs ++ (ranks, name) ∷ [] → All (λ p. Has p.1 p.0) pairs → Has name ranks → All (λ p. Has p.1 p.0) new
-  ranks_pushed Has pairs new name ranks pushed so_far here =
-      All-same (λ p. Has p.1 p.0) new (pairs ++ (ranks, name) ∷ []) pushed (All-push (λ p. Has p.1 p.0) pairs (ranks, name) so_far here)
+  pub row_pushed : (P : R × N × ℕ → Type 0) (rows new : List (R × N × ℕ)) (row : R × N × ℕ) → new ≡ rows ++ row ∷ [] → All P rows → P row → All P new
+  row_pushed P rows new row pushed so_far here = All-same P new (rows ++ row ∷ []) pushed (All-push P rows row so_far here)
 
   -- the next name is put into the set
-  pub names_put : (eq : N → N → Bool) (pairs : List (R × N)) (i : ℕ) (pair : R × N) (old new : List N) → i < length pairs → pair ≡ get_or pairs i pair → new ≡ insert_last eq old pair.1 → old ≡ insert_all eq [] (map (λ p. p.1) (take i pairs)) → new ≡ insert_all eq [] (map (λ p. p.1) (take (i + 1) pairs))
+  pub names_put : (eq : N → N → Bool) (pairs : List (R × N × ℕ)) (i : ℕ) (pair : R × N × ℕ) (old new : List N) → i < length pairs → pair ≡ get_or pairs i pair → new ≡ insert_last eq old pair.1 → old ≡ insert_all eq [] (map (λ p. p.1) (take i pairs)) → new ≡ insert_all eq [] (map (λ p. p.1) (take (i + 1) pairs))
   names_put eq pairs i pair old new lt at put so_far =
       let done = map (λ p. p.1) (take i pairs) in
       put ∙ ap (λ l. insert_last eq l pair.1) so_far ∙ sym (set_all_push eq [] done pair.1) ∙ ap (insert_all eq []) ((λ t. done ++ (at t).1 ∷ []) ∙ sym (map_more (λ p. p.1) pairs i pair lt))
 
   -- names in another order still differ
-  pub names_distinct : (eq : N → N → Bool) → IsEquivalence eq → (names : List N) (xs ys : List (R × N)) → map (λ p. p.1) xs ≡ names → IsPermutation xs ys → IsDistinct eq names → IsDistinct eq (map (λ p. p.1) ys)
+  pub names_distinct : (eq : N → N → Bool) → IsEquivalence eq → (names : List N) (xs ys : List (R × N × ℕ)) → map (λ p. p.1) xs ≡ names → IsPermutation xs ys → IsDistinct eq names → IsDistinct eq (map (λ p. p.1) ys)
   names_distinct eq laws names xs ys are moved apart =
       IsDistinct-IsPermutation eq laws.symm (map (λ p. p.1) xs) (map (λ p. p.1) ys) (IsPermutation-map (λ p. p.1) xs ys moved) (rw are apart)
 
   -- and are the same names
-  names_moved : (names : List N) (xs ys : List (R × N)) → map (λ p. p.1) xs ≡ names → IsPermutation xs ys → IsPermutation names (map (λ p. p.1) ys)
+  names_moved : (names : List N) (xs ys : List (R × N × ℕ)) → map (λ p. p.1) xs ≡ names → IsPermutation xs ys → IsPermutation names (map (λ p. p.1) ys)
   names_moved names xs ys are moved = rw (← are) (IsPermutation-map (λ p. p.1) xs ys moved)
 
   module _ (key : N → Key) (cmp : N → N → Ordering) (cmp_by_key : (x y : N) → cmp x y ≡ key_cmp (key x) (key y)) (ranks_cmp : R → R → Ordering) (Has : N → R → Type 0) (alike : (x y : N) (r s : R) → Has x r → Has y s → RanksDecide (ranks_cmp r s) (key_cmp (key x) (key y))) where
     -- pairs that are sorted have names that are
-    names_sorted : (ys : List (R × N)) → All (λ p. Has p.1 p.0) ys → IsSorted (λ p q. ordering_then (ranks_cmp p.0 q.0) (cmp p.1 q.1)) ys → IsSorted cmp (map (λ p. p.1) ys)
+    names_sorted : (ys : List (R × N × ℕ)) → All (λ p. Has p.1 p.0) ys → IsSorted (λ p q. ordering_then (ordering_then (ranks_cmp p.0 q.0) (cmp p.1 q.1)) (nat_cmp p.2 q.2)) ys → IsSorted cmp (map (λ p. p.1) ys)
     names_sorted [] has up i d low high = absurd (omega arith)
     names_sorted (y ∷ ys) has up i d low high =
         let all = y ∷ ys in
@@ -76,9 +81,9 @@ module _ {N R : Type 0} where
         let q = get_or all (i + 1) y in
         let leads : ordering_then (ranks_cmp q.0 p.0) (key_cmp (key q.1) (key p.1)) ≡ key_cmp (key q.1) (key p.1) = alike q.1 p.1 q.0 p.0 (has (i + 1) y b) (has i y a) in
         let whole : cmp q.1 p.1 ≡ ordering_then (ranks_cmp q.0 p.0) (cmp q.1 p.1) = cmp_by_key q.1 p.1 ∙ sym leads ∙ (λ t. ordering_then (ranks_cmp q.0 p.0) (sym (cmp_by_key q.1 p.1) t)) in
-        (λ t. is_lt (cmp (get_or-map (λ p. p.1) all (i + 1) y d b t) (get_or-map (λ p. p.1) all i y d a t))) ∙ ap is_lt whole ∙ up i y low b
+        (λ t. is_lt (cmp (get_or-map (λ p. p.1) all (i + 1) y d b t) (get_or-map (λ p. p.1) all i y d a t))) ∙ ap is_lt whole ∙ first_not_less (ordering_then (ranks_cmp q.0 p.0) (cmp q.1 p.1)) (nat_cmp q.2 p.2) (up i y low b)
 
-    module _ (eq : N → N → Bool) (laws : IsEquivalence eq) (by_key : (x y : N) → eq x y ≡ is_eq (key_cmp (key x) (key y))) (names : List N) (old new : List (R × N)) (are : map (λ p. p.1) old ≡ names) (moved : IsPermutation old new) (apart : IsDistinct eq names) (has : All (λ p. Has p.1 p.0) old) (up : IsSorted (λ p q. ordering_then (ranks_cmp p.0 q.0) (cmp p.1 q.1)) new) where
+    module _ (eq : N → N → Bool) (laws : IsEquivalence eq) (by_key : (x y : N) → eq x y ≡ is_eq (key_cmp (key x) (key y))) (names : List N) (old new : List (R × N × ℕ)) (are : map (λ p. p.1) old ≡ names) (moved : IsPermutation old new) (apart : IsDistinct eq names) (has : All (λ p. Has p.1 p.0) old) (up : IsSorted (λ p q. ordering_then (ordering_then (ranks_cmp p.0 q.0) (cmp p.1 q.1)) (nat_cmp p.2 q.2)) new) where
       -- their keys rise
       pub names_rise : Rising (map key (map (λ p. p.1) new))
       names_rise =
@@ -114,10 +119,27 @@ module _ {N : Type 0} (key : N → Key) where
   name_in_set table names i x is lt at =
       rw is (member_of_set (map key names) (key x) ∙ member_at (map key names) i (key x) (name_at names i x lt at))
 
-  -- the rows of sorted pairs
-  pub rows_stand : {P : Type 0} (Has : Key → P → Type 0) (ys : List (P × N)) → All (λ p. Has (key p.1) p.0) ys → AllZip Has (map key (map (λ p. p.1) ys)) (map (λ p. p.0) ys)
+  -- what stands beside sorted names
+  pub rows_stand : {P : Type 0} (Has : Key → P → Type 0) (ys : List (P × N × ℕ)) → All (λ r. Has (key r.1) r.0) ys → AllZip Has (map key (map (λ r. r.1) ys)) (map (λ r. r.0) ys)
   rows_stand Has [] all = tt
   rows_stand Has (y ∷ ys) all = (all zero y (omega arith), rows_stand Has ys (λ i d lt. all (suc i) d (omega (arith, lt))))
+
+  pub numbers_stand : {P : Type 0} (Has : Key → ℕ → Type 0) (ys : List (P × N × ℕ)) → All (λ r. Has (key r.1) r.2) ys → AllZip Has (map key (map (λ r. r.1) ys)) (map (λ r. r.2) ys)
+  numbers_stand Has [] all = tt
+  numbers_stand Has (y ∷ ys) all = (all zero y (omega arith), numbers_stand Has ys (λ i d lt. all (suc i) d (omega (arith, lt))))
+
+-- one place has one name
+pub one_name : (names : List Key) (i : ℕ) (j k : Key) → IsAt names i j → IsAt names i k → j ≡ k
+one_name names i j k p q = cc
+
+-- a name whose number stands at a place has this rank
+pub place_is_rank : (table names : List Key) (numbers : List ℕ) (place number : ℕ) (k : Key) → RanksOf table names numbers → place < length numbers → get_or numbers place 0 ≡ number → IsAt names number k → IsAt table place k
+place_is_rank [] names [] place number k all lt is at = absurd (omega (arith, lt))
+place_is_rank [] names (n ∷ numbers) place number k all lt is at = absurd all
+place_is_rank (j ∷ table) names [] place number k all lt is at = absurd all
+place_is_rank (j ∷ table) names (n ∷ numbers) zero number k all lt is at =
+    ap Some (one_name names number j k (subst (λ (m : ℕ). IsAt names m j) is all.0) at)
+place_is_rank (j ∷ table) names (n ∷ numbers) (suc place) number k all lt is at = place_is_rank table names numbers place number k all.1 (omega (arith, lt)) is at
 
 -- ---- the ranks of each kind
 

@@ -79,11 +79,13 @@ with_last names k = if is_member names k then names else names ++ k ∷ []
 pub record Grows (old new : List Key) : Type 0 where
   pub each : (i : ℕ) (k : Key) → IsAt old i k → IsAt new i k
 
--- each name that is part of others does
+-- each name of the five kinds does
 pub record AllGrow (old new : Five) : Type 0 where
   pub strings : Grows old.strings new.strings
   pub types : Grows old.types new.types
   pub protos : Grows old.protos new.protos
+  pub fields : Grows old.fields new.fields
+  pub methods : Grows old.methods new.methods
 
 -- ---- numbers to ranks
 

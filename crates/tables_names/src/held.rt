@@ -4,10 +4,10 @@ ghost use Rattle.std.specs.Prelude.{◌≡◌, ◌<◌, ◌^◌, ℕ, List, [], 
 ghost use Rattle.std.specs.List.{AllZip, IsDistinct};
 ghost use Rattle.program_types.specs.Key.{Key, key_cmp};
 ghost use Rattle.tables_names.specs.Rank.{Rising, is_member, LookUpAnswers, IsAt, RanksDecide};
-ghost use Rattle.tables_names.specs.Numbers.{set_of, with_last};
+ghost use Rattle.tables_names.specs.Numbers.{set_of, with_last, RanksOf};
 
 use crate::row::Row;
-use crate::sorting::{Numbers, put_all, rows_of, with_ranks};
+use crate::sorting::{Numbers, numbers_of, parts_of, put_all, with_ranks};
 use indexmap::IndexSet;
 use std::alloc::{AllocError, Global};
 use std::marker::Model;
@@ -35,13 +35,6 @@ impl<N: Row> Held<N> {
         Held {
             items: IndexSet::new(alloc),
         }
-    }
-
-    /// Whether a name is there.
-    pub(crate) fn holds(&self, name: &N) -> bool
-        ensures { result ≡ is_member self.now (N.key name.now) }
-    {
-        self.items.contains(name)
     }
 
     /// The number of a name, where it is there.
@@ -115,29 +108,32 @@ impl<N: Row, P: Copy> Made<N, P> {
     }
 }
 
-/// The names with their ranks, sorted by the ranks of their parts, and by themselves where these tie; and the ranks of the
-/// parts of each.
+/// The names with their ranks, sorted by the ranks of their parts, and by themselves where these tie; the ranks of the parts of
+/// each; and its number.
 pub(crate) fn ranked_by<T, P: Numbers<T>, N: Row>(
     alloc: Global,
     made: Made<N, P>,
     sorted: &T,
-) -> Result<Table<N, P>, AllocError>
+) -> Result<(Table<N, P>, Vec<usize>), AllocError>
     requires parts { AllZip (λ k p. P.within sorted.now p × P.has sorted.now k (P.ranked sorted.now p)) made.names made.parts.items }
     requires leads { (j k : Key) (p q : P) → P.has sorted.now j p → P.has sorted.now k q → RanksDecide (P.cmp p q) (key_cmp j k) }
-    ensures same { IfOk result (λ r. r.names ≡ set_of made.names) }
-    ensures rows { IfOk result (λ r. AllZip (P.has sorted.now) r.names r.parts.items) }
+    ensures same { IfOk result (λ r. r.0.names ≡ set_of made.names) }
+    ensures rows { IfOk result (λ r. AllZip (P.has sorted.now) r.0.names r.0.parts.items) }
+    ensures numbers { IfOk result (λ r. RanksOf r.0.names made.names r.1.items) }
 {
     let Made { names, parts } = made;
-    let mut pairs = with_ranks(alloc, names.in_order(), &parts, sorted)?;
-    pairs.sort_unstable();
-    let parts = rows_of(alloc, &pairs)?;
+    let mut rows = with_ranks(alloc, names.in_order(), &parts, sorted)?;
+    rows.sort_unstable();
+    let parts = parts_of(alloc, &rows)?;
+    let numbers = numbers_of(alloc, &rows)?;
     let Held { mut items } = names;
     items.clear();
-    put_all(&mut items, &pairs)?;
-    Ok(Table {
+    put_all(&mut items, &rows)?;
+    let table = Table {
         names: Ranked { items },
         parts,
-    })
+    };
+    Ok((table, numbers))
 }
 
 /// A set of names that stays, and beside each the ranks of its parts.

@@ -15,6 +15,7 @@ mod row;
 // The names that a program needs, and their ranks.
 mod held;
 mod needed;
+mod noted;
 mod numbered;
 mod parts;
 mod ranks;
@@ -30,6 +31,7 @@ pub use laws::{
     sets_are_their_members, types_rise,
 };
 pub use needed::Needed;
+pub use noted::Noted;
 pub use parts::{FieldParts, MethodParts, ProtoParts, TypeParts};
 pub use ranks::Ranks;
 pub use row::Row;

@@ -1,6 +1,6 @@
 //! The names that a program needs, of all five kinds, each with its parts ("Dalvik Executable format": the indices in
 //! type_id_item, proto_id_item, field_id_item and method_id_item).
-ghost use Rattle.std.specs.Prelude.{◌≡◌, ◌∷◌, OnOk, OnErr, IfOk, IsOkUnless, All, map};
+ghost use Rattle.std.specs.Prelude.{◌≡◌, ◌∷◌, [], OnOk, OnErr, IfOk, IsOkUnless, All, map};
 ghost use Rattle.std.specs.List.{AllByRecursion};
 ghost use Rattle.base_bytes.specs.Fault.{memory};
 ghost use Rattle.dex_base.specs.Descriptor.{IsDescriptor};
@@ -9,7 +9,9 @@ ghost use Rattle.program_types.specs.Mentions.{field_of_class};
 ghost use Rattle.program_types.specs.View.{str, desc, proto, field_ref, method_ref, member, method};
 ghost use Rattle.program_types.specs.View as view;
 ghost use Rattle.tables_names.specs.Closure.{nothing, with_name, with_names, with_proto, with_parts, with_proto_parts, method_of_class, AddsPart, AreRising, IsClosed, HasShorty};
+ghost use Rattle.tables_names.specs.Numbers.{sets};
 
+use crate::noted::Noted;
 use crate::numbered::Numbered;
 use crate::ranks::Ranks;
 use bumpalo::Bump;
@@ -151,7 +153,8 @@ impl<'a> Needed<'a> {
         ensures partly { OnErr result (AddsPart self.old self.new (with_parts self.old (OfMethod (method_ref name.now)))) }
         ensures memory { IsOkUnless result memory }
     {
-        self.numbered.add_method(arena, name)
+        self.numbered.add_method(arena, name)?;
+        Ok(())
     }
 
     /// Adds a field, its class, its name and its type.
@@ -249,6 +252,15 @@ impl<'a> Needed<'a> {
         }
     }
 
+    /// The same names, and from here on a note of each that is added.
+    pub fn noting(self) -> Noted<'a>
+        ensures names { sets result.names ≡ self.entry }
+        ensures numbers { result.numbers ≡ [] }
+    {
+        let Needed { numbered } = self;
+        Noted::new(numbered)
+    }
+
     /// The names that are held, with their ranks. No name is added from here on. Fails only when out of memory, and
     /// then nothing is given back.
     ///
@@ -269,6 +281,7 @@ impl<'a> Needed<'a> {
         ensures memory { IsOkUnless result memory }
     {
         let Needed { numbered } = self;
-        Ok(numbered.freeze()?)
+        let (ranks, _) = numbered.freeze()?;
+        Ok(ranks)
     }
 }

@@ -9,18 +9,21 @@ ghost use Rattle.dex_base.specs.Descriptor.{IsDescriptor};
 ghost use Rattle.program_types.specs.Content.{OfText, OfDesc, OfField, OfMethod};
 ghost use Rattle.program_types.specs.Mentions.{field_of_class};
 ghost use Rattle.program_types.specs.View.{str, desc, proto, field_ref, method_ref, member, method};
-ghost use Rattle.tables_names.specs.Keys.{key_of_str, key_of_desc, key_of_proto};
+ghost use Rattle.program_types.specs.View as view;
+ghost use Rattle.tables_names.specs.Keys.{key_of_str, key_of_desc, key_of_proto, key_of_field, key_of_method};
 ghost use Rattle.tables_names.specs.Rank.{IsAt};
 ghost use Rattle.tables_names.specs.Closure.{nothing, with_name, with_names, with_proto, with_parts, with_proto_parts, method_of_class, AddsPart, HasShorty};
+ghost use Rattle.tables_names.specs.Noted.{NumberIs, LeadsTo};
 ghost use Rattle.tables_names.specs.Numbers.{sets, set_of, AllGrow, InOrderOfNeed, RanksOf, TypeAt, ProtoAt, FieldAt, MethodAt, FieldLeads, MethodLeads};
 
-use crate::held::{Held, Made, Table, ranked_by};
+use crate::held::{Held, Made};
+use crate::noted::{Number, RankOf};
 use crate::parts::{FieldParts, MethodParts, ProtoParts, TypeParts};
 use crate::ranks::Ranks;
-use crate::sorting::{Parts, sorted_by, sorted_strings};
+use crate::sorting::{Members, Parts, sorted_by, sorted_strings};
 use bumpalo::Bump;
 use dex_base::Fault;
-use program_types::{Desc, FieldRef, Member, Method, MethodRef, Proto, Str, shorty_of};
+use program_types::{Desc, FieldRef, Member, Method, MethodRef, Name, Proto, Str, shorty_of};
 use std::alloc::{AllocError, Global};
 use std::marker::Model;
 
@@ -74,6 +77,11 @@ impl<'a> Numbered<'a> {
             fields: Made::new(alloc),
             methods: Made::new(alloc),
         }
+    }
+
+    /// What its memory comes from.
+    pub(crate) fn allocator(&self) -> Global {
+        self.alloc
     }
 
     /// Beside each name its parts are held, and their numbers.
@@ -134,41 +142,50 @@ impl<'a> Numbered<'a> {
     }
 
     /// Adds a method, its class, its name and its prototype. The arena holds the shorty.
-    pub(crate) fn add_method(&mut self, arena: &'a Bump, name: &MethodRef<'a>) -> Result<(), Fault>
+    pub(crate) fn add_method(
+        &mut self,
+        arena: &'a Bump,
+        name: &MethodRef<'a>,
+    ) -> Result<usize, Fault>
         requires ret { IsDescriptor (desc name.now.proto.now.ret) }
         requires params { All IsDescriptor (map desc name.now.proto.now.params.now) }
         ensures added { OnOk result (sets self.new.names ≡ with_name (sets self.old.names) (OfMethod (method_ref name.now))) }
+        ensures number { IfOk result (λ n. IsAt self.new.names.methods n (key_of_method name.now)) }
+        ensures grows { OnOk result (AllGrow self.old.names self.new.names) }
         ensures partly { OnErr result (AddsPart (sets self.old.names) (sets self.new.names) (with_parts (sets self.old.names) (OfMethod (method_ref name.now)))) }
         ensures memory { IsOkUnless result memory }
     {
-        if self.methods.names.holds(name) {
-            return Ok(());
+        if let Some(number) = self.methods.names.number_of(name) {
+            return Ok(number);
         }
         let class = self.add_type(name.class)?;
         self.add_method_in(arena, class, name)
     }
 
     /// Adds a field, its class, its name and its type.
-    pub(crate) fn add_field(&mut self, name: &FieldRef<'a>) -> Result<(), AllocError>
+    pub(crate) fn add_field(&mut self, name: &FieldRef<'a>) -> Result<usize, AllocError>
         ensures added { OnOk result (sets self.new.names ≡ with_name (sets self.old.names) (OfField (field_ref name.now))) }
+        ensures number { IfOk result (λ n. IsAt self.new.names.fields n (key_of_field name.now)) }
+        ensures grows { OnOk result (AllGrow self.old.names self.new.names) }
         ensures partly { OnErr result (AddsPart (sets self.old.names) (sets self.new.names) (with_parts (sets self.old.names) (OfField (field_ref name.now)))) }
     {
-        if self.fields.names.holds(name) {
-            return Ok(());
+        if let Some(number) = self.fields.names.number_of(name) {
+            return Ok(number);
         }
         let class = self.add_type(name.class)?;
         self.add_field_in(class, name)
     }
 
     // Adds a field of the class with this number, its name and its type.
-    fn add_field_in(&mut self, class: usize, name: &FieldRef<'a>) -> Result<(), AllocError>
+    fn add_field_in(&mut self, class: usize, name: &FieldRef<'a>) -> Result<usize, AllocError>
         requires { IsAt self.old.names.types class (key_of_desc name.now.class) }
         ensures added { OnOk result (sets self.new.names ≡ with_name (sets self.old.names) (OfField (field_ref name.now))) }
+        ensures number { IfOk result (λ n. IsAt self.new.names.fields n (key_of_field name.now)) }
         ensures grows { OnOk result (AllGrow self.old.names self.new.names) }
         ensures partly { OnErr result (AddsPart (sets self.old.names) (sets self.new.names) (with_parts (sets self.old.names) (OfField (field_ref name.now)))) }
     {
-        if self.fields.names.holds(name) {
-            return Ok(());
+        if let Some(number) = self.fields.names.number_of(name) {
+            return Ok(number);
         }
         let text = self.add_string(name.name)?;
         let ty = self.add_type(name.ty)?;
@@ -177,8 +194,8 @@ impl<'a> Numbered<'a> {
             name: text,
             ty,
         };
-        self.fields.add(*name, parts)?;
-        Ok(())
+        let number = self.fields.add(*name, parts)?;
+        Ok(number)
     }
 
     // Adds a method of the class with this number, its name and its prototype.
@@ -187,17 +204,18 @@ impl<'a> Numbered<'a> {
         arena: &'a Bump,
         class: usize,
         name: &MethodRef<'a>,
-    ) -> Result<(), Fault>
+    ) -> Result<usize, Fault>
         requires class { IsAt self.old.names.types class (key_of_desc name.now.class) }
         requires ret { IsDescriptor (desc name.now.proto.now.ret) }
         requires params { All IsDescriptor (map desc name.now.proto.now.params.now) }
         ensures added { OnOk result (sets self.new.names ≡ with_name (sets self.old.names) (OfMethod (method_ref name.now))) }
+        ensures number { IfOk result (λ n. IsAt self.new.names.methods n (key_of_method name.now)) }
         ensures grows { OnOk result (AllGrow self.old.names self.new.names) }
         ensures partly { OnErr result (AddsPart (sets self.old.names) (sets self.new.names) (with_parts (sets self.old.names) (OfMethod (method_ref name.now)))) }
         ensures memory { IsOkUnless result memory }
     {
-        if self.methods.names.holds(name) {
-            return Ok(());
+        if let Some(number) = self.methods.names.number_of(name) {
+            return Ok(number);
         }
         let text = self.add_string(name.name)?;
         let proto = self.add_proto(arena, name.proto)?;
@@ -206,8 +224,24 @@ impl<'a> Numbered<'a> {
             name: text,
             proto,
         };
-        self.methods.add(*name, parts)?;
-        Ok(())
+        let number = self.methods.add(*name, parts)?;
+        Ok(number)
+    }
+
+    /// Adds a name of any kind, with its parts. The arena holds a method's shorty.
+    pub(crate) fn add_name(&mut self, arena: &'a Bump, name: Name<'a>) -> Result<Number, Fault>
+        requires { HasShorty (view.name name) }
+        ensures added { OnOk result (sets self.new.names ≡ with_name (sets self.old.names) (view.name name.entry)) }
+        ensures number { IfOk result (λ n. NumberIs self.new.names (view.name name.entry) n) }
+        ensures grows { OnOk result (AllGrow self.old.names self.new.names) }
+        ensures memory { IsOkUnless result memory }
+    {
+        match name {
+            Name::Text(text) => Ok(Number::Text(self.add_string(text)?)),
+            Name::Desc(desc) => Ok(Number::Desc(self.add_type(desc)?)),
+            Name::Field(field) => Ok(Number::Field(self.add_field(field)?)),
+            Name::Method(method) => Ok(Number::Method(self.add_method(arena, method)?)),
+        }
     }
 
     /// Adds a class and the fields that it defines. The class is looked up once.
@@ -255,9 +289,10 @@ impl<'a> Numbered<'a> {
         Ok(())
     }
 
-    /// The names with their ranks. Fails only when out of memory.
-    pub(crate) fn freeze(self) -> Result<Ranks<'a>, AllocError>
-        ensures { IfOk result (λ r. r ≡ sets self.entry.names) }
+    /// The names with their ranks, and of each name, by its number, the rank. Fails only when out of memory.
+    pub(crate) fn freeze(self) -> Result<(Ranks<'a>, RankOf), AllocError>
+        ensures same { IfOk result (λ r. r.0 ≡ sets self.entry.names) }
+        ensures ranks { IfOk result (λ r. LeadsTo self.entry.names r.0 r.1) }
     {
         let Numbered {
             alloc,
@@ -268,8 +303,8 @@ impl<'a> Numbered<'a> {
             methods,
         } = self;
         let (parts, types, protos) = ranked_parts(alloc, strings, types, protos)?;
-        let (fields, methods) = ranked_members(alloc, &parts, fields, methods)?;
-        Ok(Ranks::new(parts, types, protos, fields, methods))
+        let members = ranked_members(alloc, &parts, fields, methods)?;
+        Ok(Ranks::from_sorted(parts, types, protos, members))
     }
 }
 
@@ -305,22 +340,22 @@ fn ranked_members<'a>(
     parts: &Parts<'a>,
     fields: Made<FieldRef<'a>, FieldParts>,
     methods: Made<MethodRef<'a>, MethodParts>,
-) -> Result<
-    (
-        Table<FieldRef<'a>, FieldParts>,
-        Table<MethodRef<'a>, MethodParts>,
-    ),
-    AllocError,
->
+) -> Result<Members<'a>, AllocError>
     requires fields { AllZip (FieldLeads parts.now.types.names parts.now.types.ranks.items parts.now.strings.names parts.now.strings.ranks.items) fields.names fields.parts.items }
     requires methods { AllZip (MethodLeads parts.now.types.names parts.now.types.ranks.items parts.now.strings.names parts.now.strings.ranks.items parts.now.protos.names parts.now.protos.ranks.items) methods.names methods.parts.items }
-    ensures names { IfOk result (λ r. (r.0.names ≡ set_of fields.entry.names) × (r.1.names ≡ set_of methods.entry.names)) }
-    ensures rows { IfOk result (λ r. AllZip (FieldAt parts.now.types.names parts.now.strings.names) r.0.names r.0.parts.items × AllZip (MethodAt parts.now.types.names parts.now.strings.names parts.now.protos.names) r.1.names r.1.parts.items) }
+    ensures names { IfOk result (λ r. (r.fields.names ≡ set_of fields.entry.names) × (r.methods.names ≡ set_of methods.entry.names)) }
+    ensures ranks { IfOk result (λ r. RanksOf fields.entry.names r.fields.names r.fields.ranks.items × RanksOf methods.entry.names r.methods.names r.methods.ranks.items) }
+    ensures rows { IfOk result (λ r. AllZip (FieldAt parts.now.types.names parts.now.strings.names) r.fields.names r.field_rows.items × AllZip (MethodAt parts.now.types.names parts.now.strings.names parts.now.protos.names) r.methods.names r.method_rows.items) }
 {
     parts.strings.names.rises();
     parts.types.names.rises();
     parts.protos.names.rises();
-    let fields = ranked_by(alloc, fields, parts)?;
-    let methods = ranked_by(alloc, methods, parts)?;
-    Ok((fields, methods))
+    let (fields, field_rows) = sorted_by(alloc, fields, parts)?;
+    let (methods, method_rows) = sorted_by(alloc, methods, parts)?;
+    Ok(Members {
+        fields,
+        field_rows,
+        methods,
+        method_rows,
+    })
 }

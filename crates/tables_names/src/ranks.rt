@@ -13,9 +13,10 @@ ghost use Rattle.tables_names.specs.Closure.{IsClosed, AreRising, NameRanks};
 ghost use Rattle.tables_names.specs.Numbers.{IsTables, TypeAt, ProtoAt, FieldAt, MethodAt};
 
 use crate::held::{Ranked, Table};
+use crate::noted::RankOf;
 use crate::parts::{FieldParts, MethodParts, ProtoParts, TypeParts};
 use crate::shorty::index_of_shorty;
-use crate::sorting::Parts;
+use crate::sorting::{Members, Parts};
 use program_types::{Desc, FieldRef, MethodRef, Name, Proto, Str};
 use std::marker::Model;
 
@@ -48,41 +49,64 @@ impl<'a> Model for Ranks<'a> {
 }
 
 impl<'a> Ranks<'a> {
-    // Five sets that hold each name's parts, and the ranks of these.
-    pub(crate) fn new(
+    // Five sets that hold each name's parts, with the ranks of these; and of each name, by its number, the rank.
+    pub(crate) fn from_sorted(
         parts: Parts<'a>,
         types: Vec<TypeParts>,
         protos: Vec<ProtoParts>,
-        fields: Table<FieldRef<'a>, FieldParts>,
-        methods: Table<MethodRef<'a>, MethodParts>,
-    ) -> Self
+        members: Members<'a>,
+    ) -> (Self, RankOf)
         requires { IsTables record {
-          names = record { strings = parts.strings.names; types = parts.types.names; protos = parts.protos.names; fields = fields.names; methods = methods.names };
+          names = record { strings = parts.strings.names; types = parts.types.names; protos = parts.protos.names; fields = members.fields.names; methods = members.methods.names };
           types = types.items;
           protos = protos.items;
-          fields = fields.parts.items;
-          methods = methods.parts.items;
+          fields = members.field_rows.items;
+          methods = members.method_rows.items;
         } }
-        ensures { result ≡ record { strings = parts.entry.strings.names; types = parts.entry.types.names; protos = parts.entry.protos.names; fields = fields.entry.names; methods = methods.entry.names } }
+        ensures names { result.0 ≡ record { strings = parts.entry.strings.names; types = parts.entry.types.names; protos = parts.entry.protos.names; fields = members.entry.fields.names; methods = members.entry.methods.names } }
+        ensures ranks { result.1 ≡ record { strings = parts.entry.strings.ranks; types = parts.entry.types.ranks; fields = members.entry.fields.ranks; methods = members.entry.methods.ranks } }
     {
         let Parts {
             strings,
             types: sorted_types,
             protos: sorted_protos,
         } = parts;
-        Ranks {
-            strings: strings.names,
+        let Members {
+            fields: sorted_fields,
+            field_rows,
+            methods: sorted_methods,
+            method_rows,
+        } = members;
+        let (strings, string_ranks) = strings.apart();
+        let (type_names, type_ranks) = sorted_types.apart();
+        let (field_names, field_ranks) = sorted_fields.apart();
+        let (method_names, method_ranks) = sorted_methods.apart();
+        let ranks = Ranks {
+            strings,
             types: Table {
-                names: sorted_types.names,
+                names: type_names,
                 parts: types,
             },
             protos: Table {
                 names: sorted_protos.names,
                 parts: protos,
             },
-            fields,
-            methods,
-        }
+            fields: Table {
+                names: field_names,
+                parts: field_rows,
+            },
+            methods: Table {
+                names: method_names,
+                parts: method_rows,
+            },
+        };
+        let rank_of = RankOf {
+            strings: string_ranks,
+            types: type_ranks,
+            fields: field_ranks,
+            methods: method_ranks,
+        };
+        (ranks, rank_of)
     }
 
     /// Beside each name its parts are held.

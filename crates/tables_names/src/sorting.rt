@@ -7,14 +7,14 @@
 ghost use Rattle.std.specs.Prelude.{◌≡◌, ◌<◌, [], All, IfOk, OnOk, length, map, slice_index};
 ghost use Rattle.std.specs.List.{AllZip, IsDistinct};
 ghost use Rattle.program_types.specs.Key.{Key, key_cmp};
-ghost use Rattle.tables_names.specs.Rank.{RanksDecide};
+ghost use Rattle.tables_names.specs.Rank.{IsAt, RanksDecide};
 ghost use Rattle.tables_names.specs.Numbers.{set_of, TypeAt, ProtoAt, FieldAt, MethodAt, RanksOf, FieldWithin, MethodWithin, field_ranks, method_ranks};
 
 use crate::held::{Held, Made, Ranked, Table, ranked_by};
 use crate::parts::{FieldParts, MethodParts, ProtoParts, TypeParts};
 use crate::row::Row;
 use indexmap::IndexSet;
-use program_types::{Desc, Proto, Str};
+use program_types::{Desc, FieldRef, MethodRef, Proto, Str};
 use std::alloc::{AllocError, Global};
 
 /// Numbers of the parts of a name, whose ranks `T` has.
@@ -34,11 +34,31 @@ pub(crate) trait Numbers<T>: Copy + Ord {
         ensures { result ≡ ranked sorted.now self.now };
 }
 
-/// A kind that is part of others, sorted: the names with their ranks, and of each number the rank.
+/// A kind, sorted: the names with their ranks, and of each number the rank.
 #[derive(Drop)]
 pub(crate) struct Sorted<N: Row> {
     pub(crate) names: Ranked<N>,
     pub(crate) ranks: Vec<usize>,
+}
+
+impl<N: Row> Sorted<N> {
+    /// The names, and the ranks.
+    pub(crate) fn apart(self) -> (Ranked<N>, Vec<usize>)
+        ensures names { result.0 ≡ self.names }
+        ensures ranks { result.1 ≡ self.ranks }
+    {
+        let Sorted { names, ranks } = self;
+        (names, ranks)
+    }
+}
+
+/// Fields and methods, sorted, and the ranks of the parts of each.
+#[derive(Drop)]
+pub(crate) struct Members<'a> {
+    pub(crate) fields: Sorted<FieldRef<'a>>,
+    pub(crate) field_rows: Vec<FieldParts>,
+    pub(crate) methods: Sorted<MethodRef<'a>>,
+    pub(crate) method_rows: Vec<MethodParts>,
 }
 
 /// What fields and methods are made of.
@@ -110,54 +130,69 @@ impl<'a> Numbers<Parts<'a>> for MethodParts {
     }
 }
 
-/// The names, each after the ranks of its parts.
+/// The names, each after the ranks of its parts and before its number.
 pub(crate) fn with_ranks<T, P: Numbers<T>, N: Row>(
     alloc: Global,
     names: &[N],
     parts: &[P],
     sorted: &T,
-) -> Result<Vec<(P, N)>, AllocError>
+) -> Result<Vec<(P, N, usize)>, AllocError>
     requires { AllZip (λ k p. P.within sorted.now p × P.has sorted.now k (P.ranked sorted.now p)) (map N.key names.now) parts.now }
-    ensures names { IfOk result (λ pairs. map (λ p. p.1) pairs.items ≡ names.now) }
-    ensures ranks { IfOk result (λ pairs. All (λ p. P.has sorted.now (N.key p.1) p.0) pairs.items) }
+    ensures names { IfOk result (λ rows. map (λ r. r.1) rows.items ≡ names.now) }
+    ensures ranks { IfOk result (λ rows. All (λ r. P.has sorted.now (N.key r.1) r.0) rows.items) }
+    ensures numbers { IfOk result (λ rows. All (λ r. IsAt (map N.key names.now) r.2 (N.key r.1)) rows.items) }
 {
-    let mut pairs = Vec::with_capacity(alloc, names.len())?;
+    let mut rows = Vec::with_capacity(alloc, names.len())?;
     for (i, name) in names.iter().enumerate() {
-        pairs.push((parts[i].ranks(sorted), *name))?;
-    }
-    Ok(pairs)
-}
-
-/// The ranks of the parts of each name.
-pub(crate) fn rows_of<N: Copy, P: Copy>(
-    alloc: Global,
-    pairs: &[(P, N)],
-) -> Result<Vec<P>, AllocError>
-    ensures { IfOk result (λ rows. rows.items ≡ map (λ p. p.0) pairs.now) }
-{
-    let mut rows = Vec::with_capacity(alloc, pairs.len())?;
-    for pair in pairs {
-        rows.push(pair.0)?;
+        rows.push((parts[i].ranks(sorted), *name, i))?;
     }
     Ok(rows)
 }
 
+/// The ranks of the parts of each name.
+pub(crate) fn parts_of<N: Copy, P: Copy>(
+    alloc: Global,
+    rows: &[(P, N, usize)],
+) -> Result<Vec<P>, AllocError>
+    ensures { IfOk result (λ parts. parts.items ≡ map (λ r. r.0) rows.now) }
+{
+    let mut parts = Vec::with_capacity(alloc, rows.len())?;
+    for row in rows {
+        parts.push(row.0)?;
+    }
+    Ok(parts)
+}
+
+/// The number of each name.
+pub(crate) fn numbers_of<N: Copy, P: Copy>(
+    alloc: Global,
+    rows: &[(P, N, usize)],
+) -> Result<Vec<usize>, AllocError>
+    ensures { IfOk result (λ numbers. numbers.items ≡ map (λ r. r.2) rows.now) }
+{
+    let mut numbers = Vec::with_capacity(alloc, rows.len())?;
+    for row in rows {
+        numbers.push(row.2)?;
+    }
+    Ok(numbers)
+}
+
 /// Puts names into a set that has none, in their order.
-pub(crate) fn put_all<N: Row, R: Copy>(
+pub(crate) fn put_all<N: Row, P: Copy>(
     items: &mut IndexSet<N>,
-    pairs: &[(R, N)],
+    rows: &[(P, N, usize)],
 ) -> Result<(), AllocError>
     requires none { items.old.keys ≡ [] }
-    requires distinct { IsDistinct N.eq (map (λ p. p.1) pairs.now) }
-    ensures { OnOk result (items.new.keys ≡ map (λ p. p.1) pairs.now) }
+    requires distinct { IsDistinct N.eq (map (λ r. r.1) rows.now) }
+    ensures { OnOk result (items.new.keys ≡ map (λ r. r.1) rows.now) }
 {
-    for pair in pairs {
-        items.insert(pair.1)?;
+    for row in rows {
+        items.insert(row.1)?;
     }
     Ok(())
 }
 
-// Of each name, by its number, the rank.
+// Of each name, by its number, the rank, which is looked up.
 fn ranks_of<N: Row>(
     alloc: Global,
     names: &[N],
@@ -169,6 +204,67 @@ fn ranks_of<N: Row>(
     let mut ranks = Vec::with_capacity(alloc, names.len())?;
     for name in names {
         ranks.push(ranked.rank_of(name))?;
+    }
+    Ok(ranks)
+}
+
+/// The number that stands at a place, or 0 where none does.
+pub(crate) fn at(numbers: &[usize], place: usize) -> usize
+    ensures { result ≡ slice_index numbers.now place }
+{
+    if place < numbers.len() {
+        numbers[place]
+    } else {
+        0
+    }
+}
+
+// Of each number the place where it stands, as far as it goes: for the numbers from 0 on, in any order, it is so.
+fn places_of(alloc: Global, numbers: &[usize]) -> Result<Vec<usize>, AllocError> {
+    let mut places = Vec::new(alloc);
+    places.resize(numbers.len(), 0)?;
+    for (place, number) in numbers.iter().enumerate() {
+        if *number < places.len() {
+            places[*number] = place;
+        }
+    }
+    Ok(places)
+}
+
+// The rank of the name with this number: the place, if its number stands there. No name is looked up then.
+fn rank_at<N: Row>(
+    ranked: &Ranked<N>,
+    numbers: &[usize],
+    names: &[N],
+    number: usize,
+    place: usize,
+) -> usize
+    requires inside { number < length names.now }
+    requires same { ranked.now ≡ set_of (map N.key names.now) }
+    requires numbers { RanksOf ranked.now (map N.key names.now) numbers.now }
+    ensures { (k : Key) → IsAt (map N.key names.now) number k → IsAt ranked.now result k }
+{
+    if place < numbers.len() && numbers[place] == number {
+        return place;
+    }
+    ranked.rank_of(&names[number])
+}
+
+// Of each name, by its number, the rank, where the numbers stand in the order of the ranks.
+fn ranks_by<N: Row>(
+    alloc: Global,
+    names: &[N],
+    ranked: &Ranked<N>,
+    numbers: &[usize],
+) -> Result<Vec<usize>, AllocError>
+    requires same { ranked.now ≡ set_of (map N.key names.now) }
+    requires numbers { RanksOf ranked.now (map N.key names.now) numbers.now }
+    ensures { IfOk result (λ ranks. RanksOf (map N.key names.now) ranked.now ranks.items) }
+{
+    let places = places_of(alloc, numbers)?;
+    let mut ranks = Vec::with_capacity(alloc, names.len())?;
+    for (i, _) in names.iter().enumerate() {
+        ranks.push(rank_at(ranked, numbers, names, i, at(&places, i)))?;
     }
     Ok(ranks)
 }
@@ -190,7 +286,7 @@ pub(crate) fn sorted_strings<'a>(
     })
 }
 
-/// A kind that is part of others, sorted by the ranks of its own parts, and the ranks of these.
+/// A kind, sorted by the ranks of its own parts, and the ranks of these.
 pub(crate) fn sorted_by<T, P: Numbers<T>, N: Row>(
     alloc: Global,
     made: Made<N, P>,
@@ -203,11 +299,12 @@ pub(crate) fn sorted_by<T, P: Numbers<T>, N: Row>(
     ensures rows { IfOk result (λ r. AllZip (P.has sorted.now) r.0.names r.1.items) }
 {
     let names = Vec::from_slice(alloc, made.names.in_order())?;
+    let (table, numbers) = ranked_by(alloc, made, sorted)?;
     let Table {
         names: ranked,
         parts,
-    } = ranked_by(alloc, made, sorted)?;
-    let ranks = ranks_of(alloc, &names, &ranked)?;
+    } = table;
+    let ranks = ranks_by(alloc, &names, &ranked, &numbers)?;
     let sorted = Sorted {
         names: ranked,
         ranks,

@@ -1,5 +1,5 @@
 -- Values that are spelled anew.
-use Rattle.std.proofs.Common.{◌≡◌, ℕ, zero, suc, ◌+◌, ◌<◌, ◌≤◌, List, [], ◌∷◌, ◌++◌, length, take, drop, get_or, Some, slice_get, refl, sym, ap, subst, ◌∙◌, arith, true, false}
+use Rattle.std.proofs.Common.{◌≡◌, ℕ, zero, suc, ◌+◌, ◌<◌, ◌≤◌, List, [], ◌∷◌, ◌++◌, length, take, drop, get_or, Some, slice_get, refl, sym, ap, subst, ◌∙◌, arith, true, false, rules}
 use Rattle.std.proofs.Math.Seq.{drop-cons}
 use Rattle.std.proofs.lemmas.List.{take_more, take_all}
 use Rattle.base_bytes.specs.Grammar.{Appends, Takes, Each, Many}
@@ -36,9 +36,7 @@ use Rattle.value_renumber.proofs.MarkLemmas.{drop_none, none_left}
 
 pub number_plain : (t : ℕ) (low : List ℕ) (v : Value) → IsNumber t low v → IsPlain v
 number_plain t low (Named which) s = s
-number_plain t low (Enum f) s = s
-number_plain t low (Array vs) s = s
-number_plain t low _ s = tt
+number_plain t low _ s = search rules
 
 pub number_is : (b : List ℕ) (t : ℕ) (low : List ℕ) (v w : Value) → IsLow b t low v → IsNumber t low w → w ≡ v
 number_is b t low v w l n =
@@ -79,8 +77,6 @@ module _ (b : List ℕ) (numbers : Columns) (s : Five) (ty : NameType) (t : ℕ)
         appends = λ old new a. enum_appends (NameRanks s) f old new (index_appends s 27 x.0 (OfField f) old new up x.2 (subst (λ (k : ℕ). Appends (Shortest (UnsignedAs k 4)) old new x.0) st.0 a));
       }
   by (Array vs) up r st c = absurd st
-  by Null up r st c = absurd st
-  by (Boolean x) up r st c = absurd st
   by _ up r st c = let e = r.names in absurd cc
 
   pub carried_name : (v : Value) → IsCarriedLow b numbers s t low v → CarriedName numbers s (table_of_type ty) (unsigned_of low) t v

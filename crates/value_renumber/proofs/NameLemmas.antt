@@ -3,7 +3,7 @@ use Rattle.std.proofs.Common.{◌≡◌, ℕ, ◌*◌, ◌<◌, ◌≤◌, ◌�
 use Rattle.std.specs.List.{flat_map}
 use Rattle.std.proofs.lemmas.List.{length-append}
 use Rattle.base_bytes.specs.Grammar.{Each}
-use Rattle.program_types.specs.Content.{Name, OfText, OfDesc, OfField, OfMethod, Value, Byte, Short, Char, Int, Long, Float, Double, Named, Enum, Array, Null, Boolean, Values, no_values, more_values, values}
+use Rattle.program_types.specs.Content.{Name, OfText, OfDesc, OfField, OfMethod, Value, Byte, Named, Enum, Array, Null, Boolean, Values, no_values, more_values, values}
 use Rattle.program_types.specs.Mentions.{names_of_value, names_of_values}
 use Rattle.dex_insn.specs.declared.opcode.IndexKind.{IndexKind}
 use Rattle.dex_value.specs.declared.types.NameType.{NameType}
@@ -12,7 +12,7 @@ use Rattle.dex_value.specs.declared.types.NumberType.{NumberType}
 use Rattle.dex_value.specs.declared.types.NumberType.TheVariants as number
 use Rattle.dex_value.specs.Faults.{widest_of, IsNameOfType}
 use Rattle.dex_value.specs.Reading.{name_code, number_code, table_of_type, ValueStands}
-use Rattle.dex_value.specs.Spelling.{unsigned_of, value_type_of, Sized, SpellsValue, SpellsValues}
+use Rattle.dex_value.specs.Spelling.{unsigned_of, Sized, SpellsValue, SpellsValues}
 use Rattle.dex_value.specs.Wide.{wide_value, wide_values}
 use Rattle.dex_value.proofs.Fronts.{LoneFront, BareNull, BareFalse, BareTrue}
 use Rattle.dex_value.proofs.Lists.{listed, each-values}
@@ -34,19 +34,15 @@ low_name N t k low v which e names of big n =
     inl (record { which = which; names = names; of = subst (λ (j : ℕ). IsNameOfType j which) (sym e) of; big = omega (arith, e, big); stands = n })
 
 low_names : (N : ℕ → Name → Type 0) (t : ℕ) (low : List ℕ) (v : Value) → ValueStands N t low v → LowName N t low v ⊎ ((t < 23) × (names_of_value v ≡ []))
-low_names N t low (Byte n) s = let e = s.0 in inr (omega (arith, e), refl)
-low_names N t low (Short n) s = let e = s.0 in inr (omega (arith, e), refl)
-low_names N t low (Char n) s = let e = s.0 in inr (omega (arith, e), refl)
-low_names N t low (Int n) s = let e = s.0 in inr (omega (arith, e), refl)
-low_names N t low (Long n) s = let e = s.0 in inr (omega (arith, e), refl)
-low_names N t low (Float n) s = let e = s.0 in inr (omega (arith, e), refl)
-low_names N t low (Double n) s = let e = s.0 in inr (omega (arith, e), refl)
 low_names N t low (Named (OfText n)) s = low_name N t 23 low (Named (OfText n)) (OfText n) s.0 refl refl (omega arith) s.1
 low_names N t low (Named (OfDesc n)) s = low_name N t 24 low (Named (OfDesc n)) (OfDesc n) s.0 refl refl (omega arith) s.1
 low_names N t low (Named (OfField n)) s = low_name N t 25 low (Named (OfField n)) (OfField n) s.0 refl refl (omega arith) s.1
 low_names N t low (Named (OfMethod n)) s = low_name N t 26 low (Named (OfMethod n)) (OfMethod n) s.0 refl refl (omega arith) s.1
 low_names N t low (Enum f) s = low_name N t 27 low (Enum f) (OfField f) s.0 refl refl (omega arith) s.1
-low_names N t low _ s = absurd s
+low_names N t low (Array vs) s = absurd s
+low_names N t low Null s = absurd s
+low_names N t low (Boolean b) s = absurd s
+low_names N t low _ s = inr (omega (arith, s.0), refl)
 
 -- names of a type are in its table
 kind_is : (ty : NameType) (which : Name) → IsNameOfType (name_code ty) which → kind_of which ≡ table_of_type ty
@@ -59,19 +55,11 @@ kind_is _ _ e = absurd (omega (arith, e))
 
 named_big : (ty : NameType) → 23 ≤ name_code ty
 named_big named.String = omega arith
-named_big named.Type = omega arith
-named_big named.Field = omega arith
-named_big named.Method = omega arith
-named_big named.Enum = omega arith
+named_big _ = omega arith
 
 number_small : (ty : NumberType) → number_code ty < 23
 number_small number.Byte = omega arith
-number_small number.Short = omega arith
-number_small number.Char = omega arith
-number_small number.Int = omega arith
-number_small number.Long = omega arith
-number_small number.Float = omega arith
-number_small number.Double = omega arith
+number_small _ = omega arith
 
 -- the row that a value's name has
 pub record NamedRow (b : List ℕ) (table : IndexKind) (i : ℕ) (v : Value) : Type 0 where
@@ -120,15 +108,6 @@ sized_wide type widest Means bytes s = let e = ap length s.joined in omega (arit
 module _ (N : ℕ → Name → Type 0) where
   mutual
     pub value_wide : (bytes : List ℕ) (v : Value) → SpellsValue N bytes v → wide_value v ≤ 9 * length bytes
-    value_wide bytes (Byte n) s = sized_wide 0 1 _ bytes s
-    value_wide bytes (Short n) s = sized_wide 2 2 _ bytes s
-    value_wide bytes (Char n) s = sized_wide 3 2 _ bytes s
-    value_wide bytes (Int n) s = sized_wide 4 4 _ bytes s
-    value_wide bytes (Long n) s = sized_wide 6 8 _ bytes s
-    value_wide bytes (Float n) s = sized_wide 16 4 _ bytes s
-    value_wide bytes (Double n) s = sized_wide 17 8 _ bytes s
-    value_wide bytes (Named which) s = sized_wide (value_type_of which) 4 _ bytes s
-    value_wide bytes (Enum f) s = sized_wide 27 4 _ bytes s
     value_wide bytes (Array vs) s =
         let b = s.2 in
         let inner = values_wide b.back vs b.means in
@@ -138,6 +117,7 @@ module _ (N : ℕ → Name → Type 0) where
     value_wide bytes Null s = let e = ap length s in omega (arith, e)
     value_wide bytes (Boolean false) s = let e = ap length s in omega (arith, e)
     value_wide bytes (Boolean true) s = let e = ap length s in omega (arith, e)
+    value_wide bytes _ s = sized_wide _ _ _ bytes s
 
     pub values_wide : (bytes : List ℕ) (vs : Values) → SpellsValues N bytes vs → wide_values vs ≤ 9 * length bytes
     values_wide bytes no_values s = omega arith
@@ -157,7 +137,4 @@ row_for b table asked i j which same at r =
 
 pub named_four : (ty : NameType) → widest_of (name_code ty) ≡ 4
 named_four named.String = refl
-named_four named.Type = refl
-named_four named.Field = refl
-named_four named.Method = refl
-named_four named.Enum = refl
+named_four _ = refl

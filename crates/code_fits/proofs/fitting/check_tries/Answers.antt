@@ -18,17 +18,11 @@ tries_fit-requires-clause-low c =
 pub tries_fit-requires-clause-formed : goal.tries_fit-requires-clause-formed
 tries_fit-requires-clause-formed c = tries-there c.args.code.now.insns.now c.args.code.now.tries.now c.deref.result.now (c.deref.ensures.value ∙ c.requires.starts) c.requires.formed.tries
 
-pub handlers_fit-requires-clause-rises : goal.handlers_fit-requires-clause-rises
-handlers_fit-requires-clause-rises c =
+pub invariant_of-starts : goal.invariant_of-starts
+invariant_of-starts c =
     let e = c.requires.end in
     let w = c.is_short.ensures.0 (search rules) in
-    (good c.args.code.now.insns.now c.deref-2.result.now (c.deref-2.ensures.value ∙ c.requires.starts) (omega arith)).rises
-
-pub handlers_fit-requires-clause-low : goal.handlers_fit-requires-clause-low
-handlers_fit-requires-clause-low c =
-    let e = c.requires.end in
-    let w = c.is_short.ensures.0 (search rules) in
-    (good c.args.code.now.insns.now c.deref-2.result.now (c.deref-2.ensures.value ∙ c.requires.starts) (omega arith)).low
+    let g = good c.args.code.now.insns.now c.deref-2.result.now (c.deref-2.ensures.value ∙ c.requires.starts) (omega arith) in (g.rises, g.low)
 
 pub handlers_fit-requires-clause-formed : goal.handlers_fit-requires-clause-formed
 handlers_fit-requires-clause-formed c = tries-there c.args.code.now.insns.now c.args.code.now.tries.now c.deref-2.result.now (c.deref-2.ensures.value ∙ c.requires.starts) c.requires.formed.tries

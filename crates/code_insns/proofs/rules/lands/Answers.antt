@@ -1,4 +1,5 @@
-use Rattle.std.proofs.Common.{◌∙◌, sym, rules}
+use Rattle.std.proofs.Common.{◌∙◌, sym}
+use Rattle.std.proofs.lemmas.Bool.{not-true, not_from_false, false_from_ne_true}
 use Rattle.std.proofs.lemmas.Int.{to_z-of_z}
 use Rattle.code_insns.proofs.RuleLaws.{lands-inside, lands-some, lands-payload, lands-none}
 use Rattle.code_insns.proofs.rules.lands.Goals as goal
@@ -6,16 +7,10 @@ use Rattle.code_insns.proofs.rules.lands.Goals as goal
 pub bounds-insns-n : goal.bounds-insns-n
 bounds-insns-n c = lands-inside c.args.begins.now c.args.insns.now c.args.at c.in-Some.n c.args.offset c.requires.table (simp (to_z-of_z, c.ranges.offset) at c.in-Some.ensures)
 
-pub returns-then-is_payload : goal.returns-then-is_payload
-returns-then-is_payload c = (
-  λ h. absurd cc,
-  λ l. absurd (lands-payload c.args.begins.now c.args.insns.now c.args.at c.in-Some.n c.args.offset c.requires.table (simp (to_z-of_z, c.ranges.offset) at c.in-Some.ensures) (sym c.is_payload.ensures ∙ c.if-is_payload.true) l),
-)
-
-pub returns-else-is_payload : goal.returns-else-is_payload
-returns-else-is_payload c = (
-  λ h. lands-some c.args.begins.now c.args.insns.now c.args.at c.in-Some.n c.args.offset c.requires.table (simp (to_z-of_z, c.ranges.offset) at c.in-Some.ensures) (sym c.is_payload.ensures ∙ c.if-is_payload.false),
-  λ l. search rules,
+pub returns-in-Some : goal.returns-in-Some
+returns-in-Some c = (
+  λ h. lands-some c.args.begins.now c.args.insns.now c.args.at c.in-Some.n c.args.offset c.requires.table (simp (to_z-of_z, c.ranges.offset) at c.in-Some.ensures) (sym c.is_payload.ensures ∙ not-true _ h),
+  λ l. not_from_false _ (false_from_ne_true _ (λ p. lands-payload c.args.begins.now c.args.insns.now c.args.at c.in-Some.n c.args.offset c.requires.table (simp (to_z-of_z, c.ranges.offset) at c.in-Some.ensures) (sym c.is_payload.ensures ∙ p) l)),
 )
 
 pub returns-in-None : goal.returns-in-None

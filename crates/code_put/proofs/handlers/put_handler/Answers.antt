@@ -10,8 +10,8 @@ use Rattle.code_read.specs.Tries.{handler_of}
 use Rattle.code_put.proofs.HandlerPacks.{handler-without, handler-with, small, minus, if-some, if-none}
 use Rattle.code_put.proofs.handlers.put_handler.Goals as goal
 
-pub put_place-requires-clause-inside : goal.put_place-requires-clause-inside
-put_place-requires-clause-inside c = if-some (λ (k : ℕ). k < length c.args.starts.now) c.args.one.now.catch_all c.in-Some.at c.in-Some.is c.requires.last
+pub put_place-requires : goal.put_place-requires
+put_place-requires c = record { inside = if-some (λ (k : ℕ). k < length c.args.starts.now) c.args.one.now.catch_all c.in-Some.at c.in-Some.is c.requires.last }
 
 pub returns-in_ok-put_sleb-in-None-clause-ok : goal.returns-in_ok-put_sleb-in-None-clause-ok
 returns-in_ok-put_sleb-in-None-clause-ok c =

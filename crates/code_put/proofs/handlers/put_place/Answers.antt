@@ -8,5 +8,5 @@ use Rattle.code_put.proofs.handlers.put_place.Goals as goal
 pub returns-clause-ok : goal.returns-clause-ok
 returns-clause-ok c =
     on_ok_weaker c.put_uleb.result
-    (λ a. via-appends (Shortest Spells) (λ address n. position c.args.starts.now address ≡ Some n) _ _ _ c.args.at a (position-own c.args.starts.now c.args.at c.requires.rises c.requires.inside))
+    (λ a. via-appends (Shortest Spells) (λ address n. position c.args.starts.now address ≡ Some n) _ _ _ c.args.at (rw c.at.ensures.value at a) (position-own c.args.starts.now c.args.at c.at.ensures.rises c.requires.inside))
     c.put_uleb.ensures.ok

@@ -8,9 +8,9 @@ use Rattle.code_put.proofs.lowering.distance.Goals as goal
 pub returns-clause-value : goal.returns-clause-value
 returns-clause-value c =
     let fits : SFits w32 c.gap.result = search rules in
-    simp to_z-of_z (gap-is _ c.args.at c.gap.result c.gap.ensures)
+    simp to_z-of_z (rw c.at.ensures.value at (gap-is _ c.args.at c.gap.result c.gap.ensures))
 
 pub returns-clause-leads : goal.returns-clause-leads
 returns-clause-leads c =
     let fits : SFits w32 c.gap.result = search rules in
-    simp to_z-of_z (distance-leads c.args.starts.now c.args.at c.args.to c.gap.result c.requires.rises c.requires.inside (gap-is _ c.args.at c.gap.result c.gap.ensures))
+    simp to_z-of_z (distance-leads c.args.starts.now c.args.at c.args.to c.gap.result c.at.ensures.rises c.requires.inside (rw c.at.ensures.value at (gap-is _ c.args.at c.gap.result c.gap.ensures)))

@@ -12,21 +12,9 @@ use Rattle.code_put.proofs.ListLaws.{all-from}
 use Rattle.code_put.proofs.PackLaws.{packed}
 use Rattle.code_put.proofs.writing.make_item.Goals as goal
 
-pub lay_handlers-requires-clause-rises : goal.lay_handlers-requires-clause-rises
-lay_handlers-requires-clause-rises c =
-    let g = good c.args.code.now.insns.now c.deref.result.now (c.deref.ensures.value ∙ c.in_ok-all.ensures.ok) (let w = c.requires.ranked.short in omega arith) in g.rises
-
-pub lay_handlers-requires-clause-low : goal.lay_handlers-requires-clause-low
-lay_handlers-requires-clause-low c =
-    let g = good c.args.code.now.insns.now c.deref.result.now (c.deref.ensures.value ∙ c.in_ok-all.ensures.ok) (let w = c.requires.ranked.short in omega arith) in g.low
-
-pub put_insns-requires-clause-rises : goal.put_insns-requires-clause-rises
-put_insns-requires-clause-rises c =
-    let g = good c.args.code.now.insns.now c.deref-2.result.now (c.deref-2.ensures.value ∙ c.in_ok-all.ensures.ok) (let w = c.requires.ranked.short in omega arith) in g.rises
-
-pub put_insns-requires-clause-low : goal.put_insns-requires-clause-low
-put_insns-requires-clause-low c =
-    let g = good c.args.code.now.insns.now c.deref-2.result.now (c.deref-2.ensures.value ∙ c.in_ok-all.ensures.ok) (let w = c.requires.ranked.short in omega arith) in g.low
+pub invariant_of-starts : goal.invariant_of-starts
+invariant_of-starts c =
+    let g = good c.args.code.now.insns.now c.deref.result.now (c.deref.ensures.value ∙ c.in_ok-all.ensures.ok) (let w = c.requires.ranked.short in omega arith) in (g.rises, g.low)
 
 pub lay_handlers-requires-clause-formed : goal.lay_handlers-requires-clause-formed
 lay_handlers-requires-clause-formed c =
@@ -46,7 +34,7 @@ lay_handlers-requires-clause-short c =
 
 pub put_insns-requires-clause-count : goal.put_insns-requires-clause-count
 put_insns-requires-clause-count c =
-    let g = good c.args.code.now.insns.now c.deref-2.result.now (c.deref-2.ensures.value ∙ c.in_ok-all.ensures.ok) (let w = c.requires.ranked.short in omega arith) in g.count
+    let g = good c.args.code.now.insns.now c.deref.result.now (c.deref.ensures.value ∙ c.in_ok-all.ensures.ok) (let w = c.requires.ranked.short in omega arith) in g.count
 
 pub put_insns-requires-clause-names : goal.put_insns-requires-clause-names
 put_insns-requires-clause-names c =
@@ -55,41 +43,37 @@ put_insns-requires-clause-names c =
 pub put_insns-requires-clause-offsets : goal.put_insns-requires-clause-offsets
 put_insns-requires-clause-offsets c =
     let m = length-map c.args.code.now.insns.now view.insn in
-    λ k l. subst (λ (ss : List ℕ). OffsetsFit (map view.insn c.args.code.now.insns.now) ss k) (sym (c.deref-2.ensures.value ∙ c.in_ok-all.ensures.ok)) (c.requires.fits.offsets k (omega arith))
+    λ k l. subst (λ (ss : List ℕ). OffsetsFit (map view.insn c.args.code.now.insns.now) ss k) (sym (c.deref.ensures.value ∙ c.in_ok-all.ensures.ok)) (c.requires.fits.offsets k (omega arith))
 
 pub put_insns-requires-clause-even : goal.put_insns-requires-clause-even
 put_insns-requires-clause-even c =
     let m = length-map c.args.code.now.insns.now view.insn in
-    λ k l. subst (λ (ss : List ℕ). IsEven (map view.insn c.args.code.now.insns.now) ss k) (sym (c.deref-2.ensures.value ∙ c.in_ok-all.ensures.ok)) (c.requires.fits.even k (omega arith))
+    λ k l. subst (λ (ss : List ℕ). IsEven (map view.insn c.args.code.now.insns.now) ss k) (sym (c.deref.ensures.value ∙ c.in_ok-all.ensures.ok)) (c.requires.fits.even k (omega arith))
 
 pub put_insns-requires-clause-origins : goal.put_insns-requires-clause-origins
 put_insns-requires-clause-origins c =
-    subst (λ (js : List ℕ). AreOrigins (map view.insn c.args.code.now.insns.now) js) (sym c.deref-3.ensures.value) c.in_ok-origins.ensures.ok
+    subst (λ (js : List ℕ). AreOrigins (map view.insn c.args.code.now.insns.now) js) (sym c.deref-2.ensures.value) c.in_ok-origins.ensures.ok
 
 pub put_items-requires-clause-formed : goal.put_items-requires-clause-formed
 put_items-requires-clause-formed c =
-    let g = good c.args.code.now.insns.now c.deref-4.result.now (c.deref-4.ensures.value ∙ c.in_ok-all.ensures.ok) (let w = c.requires.ranked.short in omega arith) in
+    let g = good c.args.code.now.insns.now c.deref.result.now (c.deref.ensures.value ∙ c.in_ok-all.ensures.ok) (let w = c.requires.ranked.short in omega arith) in
     let m = length-map c.args.code.now.insns.now view.insn in
     let n = length-map c.args.code.now.tries.now view.try in
-    let e : length (map view.insn c.args.code.now.insns.now) ≡ length c.deref-4.result.now = m ∙ sym g.count in
+    let e : length (map view.insn c.args.code.now.insns.now) ≡ length c.deref.result.now = m ∙ sym g.count in
     λ i l. subst (λ (k : ℕ). TryFormed k (map view.try c.args.code.now.tries.now) i) e (c.requires.formed.tries i (omega arith))
-
-pub put_items-requires-clause-low : goal.put_items-requires-clause-low
-put_items-requires-clause-low c =
-    let g = good c.args.code.now.insns.now c.deref-4.result.now (c.deref-4.ensures.value ∙ c.in_ok-all.ensures.ok) (let w = c.requires.ranked.short in omega arith) in g.low
 
 pub put_items-requires-clause-count : goal.put_items-requires-clause-count
 put_items-requires-clause-count c =
     let n = length-map c.args.code.now.tries.now view.try in
     let o = c.in_ok-laid.ensures.ok.offsets.count in
-    ap length c.deref-5.ensures.value ∙ o ∙ n
+    ap length c.deref-3.ensures.value ∙ o ∙ n
 
 pub put_items-requires-clause-offsets : goal.put_items-requires-clause-offsets
 put_items-requires-clause-offsets c =
     let h : PacksHandlersOf (NameRanks c.args.ranks.now) (addresses_of (map view.insn c.args.code.now.insns.now)) (map view.try c.args.code.now.tries.now) c.in_ok-laid.laid.bytes.items c.in_ok-laid.laid.offsets.items =
     subst (λ (z : List ℕ). PacksHandlersOf (NameRanks c.args.ranks.now) z (map view.try c.args.code.now.tries.now) c.in_ok-laid.laid.bytes.items c.in_ok-laid.laid.offsets.items) (c.deref.ensures.value ∙ c.in_ok-all.ensures.ok) c.in_ok-laid.ensures.ok in
     let near = c.requires.fits.handlers c.requires.ranked.short _ _ h in
-    subst (λ (z : List ℕ). (i : ℕ) → i < length z → get_or z i 0 < 65536) (sym c.deref-5.ensures.value) near
+    subst (λ (z : List ℕ). (i : ℕ) → i < length z → get_or z i 0 < 65536) (sym c.deref-3.ensures.value) near
 
 pub returns-clause-ok : goal.returns-clause-ok
 returns-clause-ok c =
@@ -106,9 +90,9 @@ returns-clause-ok c =
     laid.bytes.items laid.offsets.items c.in_ok-all.all.end (length c.args.code.now.tries.now)
     c.in_ok-all.ensures.ok size (sym (length-map c.args.code.now.tries.now view.try))
     c.in_ok-item.ensures.items c.in_ok-put_head.ensures.ok
-    (subst (λ (z : List ℕ). PutInsns N (map view.insn c.args.code.now.insns.now) z c.put_head.new.out.items c.put_insns.new.out.items) c.deref-2.ensures.value c.in_ok-put_insns.ensures.ok)
+    (subst (λ (z : List ℕ). PutInsns N (map view.insn c.args.code.now.insns.now) z c.put_head.new.out.items c.put_insns.new.out.items) c.deref.ensures.value c.in_ok-put_insns.ensures.ok)
     c.in_ok-put_padding.ensures.ok
-    (rw (c.deref-4.ensures.value, c.deref-5.ensures.value) at c.in_ok-put_items.ensures.ok)
-    (c.in_ok-extend_from_slice.ensures.items ∙ ap (λ (z : List ℕ). c.put_items.new.out.items ++ z) c.deref-6.ensures.value)
+    (rw (c.deref.ensures.value, c.deref-3.ensures.value) at c.in_ok-put_items.ensures.ok)
+    (c.in_ok-extend_from_slice.ensures.items ∙ ap (λ (z : List ℕ). c.put_items.new.out.items ++ z) c.deref-4.ensures.value)
     (subst (λ (z : List ℕ). PacksHandlersOf N z ts laid.bytes.items laid.offsets.items) c.deref.ensures.value c.in_ok-laid.ensures.ok)
     (omega arith) (all-from (λ (off : ℕ). off < 65536) laid.offsets.items 0 (c.requires.fits.handlers w laid.bytes.items laid.offsets.items hs)) (omega arith)

@@ -1,3 +1,4 @@
+use Rattle.base_bytes.proofs.OptionLaws.{IfNone-always}
 use Rattle.program_types.specs.View.{desc}
 use Rattle.tables_rows.specs.Names.{NameIsAt}
 use Rattle.base_bytes.proofs.GrammarLaws.{Then-none_first}
@@ -11,18 +12,18 @@ use Rattle.code_read.proofs.HandlerReading.{catch-takes, catch-none}
 use Rattle.base_bytes.proofs.ViaLaws.{second-none}
 use Rattle.code_read.proofs.handlers.read_catch.Goals as goal
 
-pub returns-in_default-clause-none : goal.returns-in_default-clause-none
-returns-in_default-clause-none c =
+pub returns-in_err-ty-clause-none : goal.returns-in_err-ty-clause-none
+returns-in_err-ty-clause-none c =
     let N = NameIsAt c.args.tables.now in let ss = c.args.starts.now in
-    catch-none N ss c.args.bytes.now (Then-none_first (SpellsCatchType N ss) (λ _. SpellsPlace N ss) c.args.bytes.now c.in_default.ensures.none)
+    IfNone-always _ (catch-none N ss c.args.bytes.now (Then-none_first (SpellsCatchType N ss) (λ _. SpellsPlace N ss) c.args.bytes.now c.in_err-ty.ensures.none))
 
-pub returns-in_default-read_place-clause-none : goal.returns-in_default-read_place-clause-none
-returns-in_default-read_place-clause-none c =
+pub returns-in_err-at-clause-none : goal.returns-in_err-at-clause-none
+returns-in_err-at-clause-none c =
     let N = NameIsAt c.args.tables.now in let ss = c.args.starts.now in
-    catch-none N ss c.args.bytes.now
-    (second-none (SpellsCatchType N ss) (λ _. SpellsPlace N ss) c.args.bytes.now c.in-Some.mid.now (desc c.in-Some.ty)
-    (type-unique Spells SpellsSigned N ss spells_unique signed_unique (NameIsAt-functional c.args.tables.now)) c.in-Some.ensures.some c.in_default-read_place.ensures.none)
+    IfNone-always _ (catch-none N ss c.args.bytes.now
+    (second-none (SpellsCatchType N ss) (λ _. SpellsPlace N ss) c.args.bytes.now c.in_ok-ty.mid.now (desc c.in_ok-ty.ty)
+    (type-unique Spells SpellsSigned N ss spells_unique signed_unique (NameIsAt-functional c.args.tables.now)) c.in_ok-ty.ensures.some c.in_err-at.ensures.none))
 
 pub returns-clause-some : goal.returns-clause-some
 returns-clause-some c =
-    catch-takes (NameIsAt c.args.tables.now) c.args.starts.now c.args.bytes.now c.in-Some.mid.now c.in-Some-read_place.rest.now _ c.in-Some.ensures.some c.in-Some-read_place.ensures.some
+    catch-takes (NameIsAt c.args.tables.now) c.args.starts.now c.args.bytes.now c.in_ok-ty.mid.now c.in_ok-at.rest.now _ c.in_ok-ty.ensures.some c.in_ok-at.ensures.some

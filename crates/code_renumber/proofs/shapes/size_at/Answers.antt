@@ -1,7 +1,8 @@
 use Rattle.std.proofs.Common.{◌∙◌, ap, ⊎_elim}
 use Rattle.dex_insn.proofs.Unique.{once}
 use Rattle.dex_insn.specs.Raw.{raw, units}
-use Rattle.code_renumber.proofs.ShapeLemmas.{plain_size, short_size, long_size, five_size}
+use Rattle.code_renumber.proofs.FormLemmas.{plain_size}
+use Rattle.code_renumber.proofs.ShapeLemmas.{short_size, long_size, five_size}
 use Rattle.code_renumber.proofs.shapes.size_at.Goals as goal
 
 pub insn_at-requires : goal.insn_at-requires

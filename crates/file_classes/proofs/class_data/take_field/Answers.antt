@@ -1,3 +1,4 @@
+use Rattle.base_bytes.proofs.OptionLaws.{IfNone-always}
 use Rattle.base_bytes.specs.Leb128.{Spells}
 use Rattle.base_bytes.proofs.Numbers.{spells_unique}
 use Rattle.base_bytes.proofs.TakesLaws.{Takes-then}
@@ -5,10 +6,10 @@ use Rattle.file_classes.proofs.TakingLaws.{then_none}
 use Rattle.file_classes.proofs.class_data.take_field.Goals as goal
 use Rattle.std.proofs.Common.{ℕ}
 
-pub returns-in_default-take_number-clause-none : goal.returns-in_default-take_number-clause-none
-returns-in_default-take_number-clause-none c =
-    then_none Spells (λ (_ : ℕ). Spells) spells_unique c.args.bytes.now c.in-Some.after.now c.in-Some.step c.in-Some.ensures.found c.in_default-take_number.ensures.none
+pub returns-in_err-flags-clause-none : goal.returns-in_err-flags-clause-none
+returns-in_err-flags-clause-none c =
+    IfNone-always _ (then_none Spells (λ (_ : ℕ). Spells) spells_unique c.args.bytes.now c.in_ok-step.after.now c.in_ok-step.step c.in_ok-step.ensures.found c.in_err-flags.ensures.none)
 
 pub returns-clause-found : goal.returns-clause-found
 returns-clause-found c =
-    Takes-then Spells (λ (_ : ℕ). Spells) c.args.bytes.now c.in-Some.after.now c.in-Some-take_number.rest.now c.in-Some.step c.in-Some-take_number.flags c.in-Some.ensures.found c.in-Some-take_number.ensures.found
+    Takes-then Spells (λ (_ : ℕ). Spells) c.args.bytes.now c.in_ok-step.after.now c.in_ok-flags.rest.now c.in_ok-step.step c.in_ok-flags.flags c.in_ok-step.ensures.found c.in_ok-flags.ensures.found

@@ -16,6 +16,6 @@ add_methods-requires-2 c = virtuals_kept HasShorty (view.class c.args.class.now)
 pub returns-clause-added : goal.returns-clause-added
 returns-clause-added c =
     on_ok_weaker c.add_methods-2.result
-    (λ a. class_names _ _ _ _ _ _ _ _ _ (view.class c.args.class.now) c.holds_parts.ensures.closed c.holds_parts.ensures.rise c.in_ok-add_superclass.ensures.added c.in_ok-add_types.ensures.added c.in_ok-add_source.ensures.added
+    (λ a. class_names _ _ _ _ _ _ _ _ _ (view.class c.args.class.now) c.in_ok-add_superclass.ensures.added c.in_ok-add_types.ensures.added c.in_ok-add_source.ensures.added
     c.in_ok-add_fields_of.ensures.added c.in_ok-add_values.ensures.added c.in_ok-add_fields_of-2.ensures.added c.in_ok-add_methods.ensures.added a)
     c.add_methods-2.ensures.added

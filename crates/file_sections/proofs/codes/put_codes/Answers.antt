@@ -1,4 +1,4 @@
-use Rattle.std.proofs.Common.{◌+◌, ◌++◌, map, take, drop, get_or, ap, arith, subst, List, [], Option}
+use Rattle.std.proofs.Common.{◌+◌, ◌++◌, add-one, suc, map, take, drop, get_or, ap, arith, subst, List, [], Option}
 use Rattle.std.proofs.lemmas.List.{take_all, drop_all}
 use Rattle.std.specs.List.{flat_map}
 use Rattle.file_shared.proofs.SharingLaws.{sharing_start, sharing_shared}
@@ -13,6 +13,8 @@ use Rattle.file_sections.proofs.CodeLaws.{Bodies, bodies_once, class_left, first
 use Rattle.file_layout.specs.Tiles.{AreShared}
 use Rattle.file_sections.proofs.LayingLaws.{items_few}
 use Rattle.file_sections.proofs.NumberLaws.{no_class}
+use Rattle.file_needed.specs.Bodies.{named_in_body, named_in_code}
+use Rattle.file_sections.proofs.MentionLaws.{next_class}
 use Rattle.file_sections.proofs.Steps.{mapped_at}
 use Rattle.file_sections.specs.Codes.{PacksBody, WritesBody, is_bodiless}
 use Rattle.file_sections.specs.Named.{BodyCanBePut}
@@ -20,7 +22,11 @@ use Rattle.file_sections.proofs.codes.put_codes.Goals as goal
 use Rattle.base_bytes.proofs.ListFacts.{all_front, all_back}
 
 pub loop-class-init : goal.loop-class-init
-loop-class-init c = rw (c.new-places.ensures.items, c.new-items.ensures) (sharing_start is_bodiless (PacksBody (NameRanks c.args.ranks.now)) (WritesBody c.args.ranks.now) 4 wide_body c.args.out.now.items (body_values (map view.class c.args.program.now.classes.now)))
+loop-class-init c =
+    record {
+      put = rw (c.new-places.ensures.items, c.new-items.ensures) (sharing_start is_bodiless (PacksBody (NameRanks c.args.ranks.now)) (WritesBody c.args.ranks.now) 4 wide_body c.args.out.now.items (body_values (map view.class c.args.program.now.classes.now)));
+      rest = c.requires.indices;
+    }
 
 pub put_bodies-requires-clause-can : goal.put_bodies-requires-clause-can
 put_bodies-requires-clause-can c =
@@ -28,7 +34,7 @@ put_bodies-requires-clause-can c =
 
 pub put_bodies-requires-clause-room : goal.put_bodies-requires-clause-room
 put_bodies-requires-clause-room c =
-    let b = c.loop-class.invariant.laying.bound in
+    let b = c.loop-class.invariant.put.laying.bound in
     let e = ap (wide_all wide_body) (class_left c.args.program.now.classes.now c.loop-class.class-index no_class c.loop-class-test.true) in
     let w = wide_all_append wide_body (bodies_in (map view.method (get_or c.args.program.now.classes.now c.loop-class.class-index no_class).directs.now)) (bodies_in (map view.method (get_or c.args.program.now.classes.now c.loop-class.class-index no_class).virtuals.now) ++ flat_map bodies_of (map view.class (drop (c.loop-class.class-index + 1) c.args.program.now.classes.now))) in
     omega (arith, b, e, w, c.requires.room)
@@ -42,20 +48,41 @@ pub put_bodies-requires-in-loop-class-clause-room : goal.put_bodies-requires-in-
 put_bodies-requires-in-loop-class-clause-room c =
     let cs = c.args.program.now.classes.now in
     let i = c.loop-class.class-index in
-    let l = first_part c.args.ranks.now cs i no_class _ _ _ _ _ _ _ c.loop-class-test.true c.requires.front c.loop-class.invariant c.in_ok-put_bodies.ensures.ok in
+    let l = first_part c.args.ranks.now cs i no_class _ _ _ _ _ _ _ c.loop-class-test.true c.requires.front c.loop-class.invariant.put c.in_ok-left.ensures.ok in
     let b = l.laying.bound in
     let w = wide_all_append wide_body (bodies_in (map view.method (get_or cs i no_class).virtuals.now)) (flat_map bodies_of (map view.class (drop (i + 1) cs))) in
     omega (arith, b, w, c.requires.room)
 
 pub loop-class-preserved : goal.loop-class-preserved
 loop-class-preserved c =
-    both_parts c.args.ranks.now c.args.program.now.classes.now c.loop-class.class-index no_class _ _ _ _ _ _ _ _ _ _ c.loop-class-test.true c.requires.front c.loop-class.invariant
-    c.in_ok-put_bodies.ensures.ok c.in_ok-put_bodies-2.ensures.ok
+    let cs = c.args.program.now.classes.now in
+    let i = c.loop-class.class-index in
+    let own = get_or cs i no_class in
+    let others = named_in_code (map view.class (drop (suc i) cs)) in
+    record {
+      put = both_parts c.args.ranks.now cs i no_class _ _ _ _ _ _ _ _ _ _ c.loop-class-test.true c.requires.front c.loop-class.invariant.put
+          c.in_ok-left.ensures.ok c.in_ok-rest.ensures.ok;
+      rest = rw add-one (c.in_ok-rest.ensures.left others (c.in_ok-left.ensures.left (flat_map named_in_body (map view.method own.virtuals.now) ++ others) (next_class c.args.ranks.now cs i no_class c.loop-class.rest.now c.loop-class-test.true c.loop-class.invariant.rest)));
+    }
+
+pub put_bodies-requires-clause-indices : goal.put_bodies-requires-clause-indices
+put_bodies-requires-clause-indices c =
+    let cs = c.args.program.now.classes.now in
+    let i = c.loop-class.class-index in
+    let others = named_in_code (map view.class (drop (suc i) cs)) in
+    (flat_map named_in_body (map view.method (get_or cs i no_class).virtuals.now) ++ others, next_class c.args.ranks.now cs i no_class c.loop-class.rest.now c.loop-class-test.true c.loop-class.invariant.rest)
+
+pub put_bodies-requires-in-loop-class-clause-indices : goal.put_bodies-requires-in-loop-class-clause-indices
+put_bodies-requires-in-loop-class-clause-indices c =
+    let cs = c.args.program.now.classes.now in
+    let i = c.loop-class.class-index in
+    let others = named_in_code (map view.class (drop (suc i) cs)) in
+    (others, c.in_ok-left.ensures.left (flat_map named_in_body (map view.method (get_or cs i no_class).virtuals.now) ++ others) (next_class c.args.ranks.now cs i no_class c.loop-class.rest.now c.loop-class-test.true c.loop-class.invariant.rest))
 
 pub count-requires : goal.count-requires
 count-requires c =
-    let f = items_few is_bodiless (PacksBody (NameRanks c.args.ranks.now)) 4 wide_body _ _ _ _ _ _ _ c.loop-class.invariant.laying in
-    let b = c.loop-class.invariant.laying.bound in
+    let f = items_few is_bodiless (PacksBody (NameRanks c.args.ranks.now)) 4 wide_body _ _ _ _ _ _ _ c.loop-class.invariant.put.laying in
+    let b = c.loop-class.invariant.put.laying.bound in
     omega (arith, f, b, c.requires.room)
 
 pub returns-clause-ok : goal.returns-clause-ok
@@ -66,7 +93,7 @@ returns-clause-ok c =
     let none = ap (λ (xs : List Class). body_values (map view.class xs)) (drop_all i cs c.loop-class-test.false) in
     let all =
     subst (λ (d : List (Option content.Code)). Bodies c.args.ranks.now c.args.out.now.items c.loop-class.out.items d [] (body_values (map view.class cs)) c.loop-class.places.items c.loop-class.items) done
-    (subst (λ (r : List (Option content.Code)). Bodies c.args.ranks.now c.args.out.now.items c.loop-class.out.items (body_values (map view.class (take i cs))) r (body_values (map view.class cs)) c.loop-class.places.items c.loop-class.items) none c.loop-class.invariant) in
+    (subst (λ (r : List (Option content.Code)). Bodies c.args.ranks.now c.args.out.now.items c.loop-class.out.items (body_values (map view.class (take i cs))) r (body_values (map view.class cs)) c.loop-class.places.items c.loop-class.items) none c.loop-class.invariant.put) in
     rw c.count.ensures all.laying
 
 pub returns-clause-once : goal.returns-clause-once
@@ -76,4 +103,4 @@ returns-clause-once c =
     let s = c.args.ranks.now in
     let done = ap (λ (xs : List Class). body_values (map view.class xs)) (take_all i cs c.loop-class-test.false) in
     subst (λ (d : List (Option content.Code)). AreShared c.loop-class.places.items d) done
-    (sharing_shared is_bodiless (PacksBody (NameRanks s)) (WritesBody s) 4 wide_body (bodies_once s c.rise.ensures) _ _ _ _ _ _ _ c.loop-class.invariant)
+    (sharing_shared is_bodiless (PacksBody (NameRanks s)) (WritesBody s) 4 wide_body (bodies_once s c.rise.ensures) _ _ _ _ _ _ _ c.loop-class.invariant.put)

@@ -7,5 +7,5 @@ returns-in_default-clause-none c = unmarked_none c.args.mark c.args.most c.args.
 
 pub returns-clause-none : goal.returns-clause-none
 returns-clause-none c =
-    let e : c.args.text.now ≡ c.in-Some.before ∷ c.in-Some-split_first.digits.now = c.in-Some-split_first.ensures.cases.0 ∙ ap (λ (x : ℕ). x ∷ c.in-Some-split_first.digits.now) c.if-first-before.false in
-    after_none c.args.mark c.args.most c.in-Some.before c.args.text.now c.in-Some-split_first.digits.now c.read_natural-2.result c.in-Some.ensures.some e c.read_natural-2.ensures.none
+    let e : c.args.text.now ≡ c.in-Some.before ∷ c.in_ok-first.digits.now = c.in_ok-first.ensures.cases.0 ∙ ap (λ (x : ℕ). x ∷ c.in_ok-first.digits.now) c.if-first-before.false in
+    after_none c.args.mark c.args.most c.in-Some.before c.args.text.now c.in_ok-first.digits.now c.read_natural-2.result c.in-Some.ensures.some e c.read_natural-2.ensures.none

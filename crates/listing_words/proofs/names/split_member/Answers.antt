@@ -7,15 +7,15 @@ returns-then-after-lt2-clause-none c class name tail m =
     let x = member_rest c.args.stop c.requires c.args.units.now c.split_at.result.1.now c.in_ok-n.n c.in_ok-n.ensures.found c.split_at.ensures.back class name tail m in
     let e = ap length x.1 in omega (arith, c.if-after-lt2.true)
 
-pub returns-then-after-ne45-clause-none : goal.returns-then-after-ne45-clause-none
-returns-then-after-ne45-clause-none c class name tail m =
+pub returns-then-after-ne-HYPHEN-clause-none : goal.returns-then-after-ne-HYPHEN-clause-none
+returns-then-after-ne-HYPHEN-clause-none c class name tail m =
     let x = member_rest c.args.stop c.requires c.args.units.now c.split_at.result.1.now c.in_ok-n.n c.in_ok-n.ensures.found c.split_at.ensures.back class name tail m in
-    c.if-after-ne45.true (ap (λ (l : List ℕ). get_or l 0 0) x.1)
+    c.if-after-ne-HYPHEN.true (ap (λ (l : List ℕ). get_or l 0 0) x.1)
 
-pub returns-then-after-ne62-clause-none : goal.returns-then-after-ne62-clause-none
-returns-then-after-ne62-clause-none c class name tail m =
+pub returns-then-after-ne-GREATER-clause-none : goal.returns-then-after-ne-GREATER-clause-none
+returns-then-after-ne-GREATER-clause-none c class name tail m =
     let x = member_rest c.args.stop c.requires c.args.units.now c.split_at.result.1.now c.in_ok-n.n c.in_ok-n.ensures.found c.split_at.ensures.back class name tail m in
-    c.if-after-ne62.true (ap (λ (l : List ℕ). get_or l 1 0) x.1)
+    c.if-after-ne-GREATER.true (ap (λ (l : List ℕ). get_or l 1 0) x.1)
 
 pub returns-in_default-clause-none : goal.returns-in_default-clause-none
 returns-in_default-clause-none c =

@@ -1,7 +1,8 @@
+use Rattle.tables_names.proofs.FiveLemmas.{refused}
 use Rattle.tables_names.proofs.needed.Needed.add_method.Goals as goal
 
-pub returns-clause-added : goal.returns-clause-added
-returns-clause-added c = rw (← c.self.view_is) c.add_method.ensures.added
+pub returns-in_err-add_method-clause-partly : goal.returns-in_err-add_method-clause-partly
+returns-in_err-add_method-clause-partly c = rw (← c.self.view_is) (refused c.from_residual.result c.in_err-add_method.ensures.partly)
 
-pub returns-clause-partly : goal.returns-clause-partly
-returns-clause-partly c = rw (← c.self.view_is) c.add_method.ensures.partly
+pub returns-clause-added : goal.returns-clause-added
+returns-clause-added c = rw (← c.self.view_is) c.in_ok-add_method.ensures.added

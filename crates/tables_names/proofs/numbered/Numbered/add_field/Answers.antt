@@ -1,20 +1,24 @@
 use Rattle.program_types.specs.Key.{text_key}
-use Rattle.std.proofs.Common.{subst, sym, ◌∙◌, ap}
+use Rattle.std.proofs.Common.{subst, ◌∙◌, ap}
 use Rattle.tables_names.specs.Keys.{key_of_field}
 use Rattle.program_types.specs.View.{desc, str}
 use Rattle.tables_names.specs.Closure.{Five, AddsPart, IsPart, field_closure, join, type_closure, with_name, with_parts}
 use Rattle.tables_names.specs.Numbers.{sets}
 use Rattle.tables_names.proofs.FiveLemmas.{refused, wider, more_added, type_parts, member_front, class_in_front, class_text_in_front, front_in_field, parts_in_field, field_parts, IsPart-refl, IsPart-trans}
-use Rattle.tables_names.proofs.NumberLemmas.{sets_rise}
+use Rattle.tables_names.proofs.PlaceLemmas.{member_at}
+use Rattle.tables_names.proofs.NumberLemmas.{sets_rise, AllGrow-refl, AllGrow-trans}
 use Rattle.tables_names.proofs.NeededLemmas.{absorbed}
 use Rattle.std.proofs.lemmas.Result.{on_ok_weaker, on_err_weaker}
 use Rattle.tables_names.proofs.NumberedLemmas.{order_of, field_is_there}
 use Rattle.tables_names.proofs.numbered.Numbered.add_field.Goals as goal
 
-pub returns-then-holds-clause-added : goal.returns-then-holds-clause-added
+pub returns-in-Some-clause-added : goal.returns-in-Some-clause-added
 unfolding with_name
-returns-then-holds-clause-added c =
-    rw (← c.self.view_is) (field_is_there (order_of c.self.inside) c.self.invariant (key_of_field c.args.name.now) (sym c.if-holds.ensures))
+returns-in-Some-clause-added c =
+    rw (← c.self.view_is) (field_is_there (order_of c.self.inside) c.self.invariant (key_of_field c.args.name.now) (member_at c.self.inside.fields.names c.in-Some.number (key_of_field c.args.name.now) c.in-Some.ensures.some))
+
+pub returns-in-Some-clause-grows : goal.returns-in-Some-clause-grows
+returns-in-Some-clause-grows c = AllGrow-refl c.args.self.now.names
 
 pub returns-in_err-class-clause-partly : goal.returns-in_err-class-clause-partly
 unfolding with_name with_parts
@@ -44,3 +48,7 @@ returns-clause-partly c =
     let parts = field_parts class name (desc c.args.name.now.ty) in
     let first : IsPart (type_closure (text_key class)) parts = IsPart-trans (type_closure (text_key class)) (member_front class name) parts (class_in_front class name) (front_in_field class name _) in
     on_err_weaker c.add_field_in.result (λ a. more_added old (type_closure (text_key class)) parts parts new first (IsPart-refl parts) (subst (λ (s : Five). AddsPart s new (join s parts)) c.in_ok-class.ensures.added a)) c.add_field_in.ensures.partly
+
+pub returns-clause-grows : goal.returns-clause-grows
+returns-clause-grows c =
+    on_ok_weaker c.add_field_in.result (λ g. AllGrow-trans c.args.self.now.names c.add_type.new.self.names c.add_field_in.new.self.names c.in_ok-class.ensures.grows g) c.add_field_in.ensures.grows

@@ -103,7 +103,7 @@ returns-clause-grows c =
     let o = order_of c.self-3.inside in
     let first : AllGrow c.args.self.now.names o.names = subst (λ (x : Order). AllGrow c.args.self.now.names x.names) (sym c.self-3.view_is) c.loop-param.invariant.grows in
     rw c.in_ok-number.ensures.names
-    (AllGrow-trans c.args.self.now.names o.names (record o.names { protos = o.names.protos ++ k ∷ [] }) first (record { strings = Grows-refl _; types = Grows-refl _; protos = Grows-pushed o.names.protos k }))
+    (AllGrow-trans c.args.self.now.names o.names (record o.names { protos = o.names.protos ++ k ∷ [] }) first (record { strings = Grows-refl _; types = Grows-refl _; protos = Grows-pushed o.names.protos k; fields = Grows-refl _; methods = Grows-refl _ }))
 
 pub loop-param-preserved : goal.loop-param-preserved
 unfolding with_name

@@ -14,7 +14,7 @@ pub returns-clause-grows : goal.returns-clause-grows
 returns-clause-grows c =
     let o = order_of c.self.inside in
     rw (c.in_ok-number.ensures.added, ← c.self.view_is)
-    (record { strings = Grows-with_last o.names.strings (key_of_str c.args.name); types = Grows-refl o.names.types; protos = Grows-refl o.names.protos })
+    (record { strings = Grows-with_last o.names.strings (key_of_str c.args.name); types = Grows-refl o.names.types; protos = Grows-refl o.names.protos; fields = Grows-refl o.names.fields; methods = Grows-refl o.names.methods })
 
 pub invariant_of-self-2 : goal.invariant_of-self-2
 invariant_of-self-2 c = rw c.in_ok-number.ensures.added (numbered-strings (order_of c.self.inside) c.self.invariant (key_of_str c.args.name))

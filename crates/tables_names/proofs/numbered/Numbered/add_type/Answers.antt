@@ -61,4 +61,4 @@ returns-clause-grows c =
     let o = order_of c.self-2.inside in
     let first : AllGrow c.args.self.now.names o.names = subst (λ (x : Order). AllGrow c.args.self.now.names x.names) (sym c.self-2.view_is) c.in_ok-text.ensures.grows in
     rw c.in_ok-number.ensures.names
-    (AllGrow-trans c.args.self.now.names o.names (record o.names { types = o.names.types ++ k ∷ [] }) first (record { strings = Grows-refl _; types = Grows-pushed o.names.types k; protos = Grows-refl _ }))
+    (AllGrow-trans c.args.self.now.names o.names (record o.names { types = o.names.types ++ k ∷ [] }) first (record { strings = Grows-refl _; types = Grows-pushed o.names.types k; protos = Grows-refl _; fields = Grows-refl _; methods = Grows-refl _ }))

@@ -1,0 +1,21 @@
+use Rattle.std.proofs.Common.{◌∙◌, sym, subst, map}
+use Rattle.std.proofs.lemmas.Result.{IfErr-weaker}
+use Rattle.listing_words.specs.View.{word}
+use Rattle.listing_parse.specs.Named.{ReadingIsNamed}
+use Rattle.listing_parse.specs.View.{reading}
+use Rattle.listing_parse.proofs.NamedLaws.{second_named}
+use Rattle.listing_parse.proofs.RefusedLaws.{unsaid_refused}
+use Rattle.listing_parse.proofs.lines.add_line.Goals as goal
+
+pub returns-in-Nothing-clause-refused : goal.returns-in-Nothing-clause-refused
+returns-in-Nothing-clause-refused c =
+    IfErr-weaker c.add_says.result _ _
+    (λ e said ne. unsaid_refused (reading c.args.listing.now) c.args.line.now (map word c.read_words.new.words.items) e.code c.requires.says (rw c.if-not-branch.false at c.in_ok-read_words.ensures.read)
+    (sym (rw c.as_slice.ensures.value at c.aside.ensures) ∙ c.in-Nothing.is) (said ne))
+    c.add_says.ensures.refused
+
+pub returns-in-First-clause-named : goal.returns-in-First-clause-named
+returns-in-First-clause-named c = second_named c.args.scratch.now.spelled (reading c.args.listing.now) (reading c.begin_second.new.self) c.begin_second.ensures.second
+
+pub returns-in-Mark-clause-named : goal.returns-in-Mark-clause-named
+returns-in-Mark-clause-named c = λ named. subst (ReadingIsNamed c.args.scratch.now.spelled) (sym c.pass_label.ensures.same) named

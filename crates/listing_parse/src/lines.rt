@@ -1,0 +1,204 @@
+//! A line of a listing, read and added to what the lines before it make.
+
+ghost use Rattle.std.specs.Prelude.{◌≡◌, ◌≢◌, false, ◌+◌, ◌<◌, ◌^◌, map, length, drop, IfOk, IfErr, IfSome, IfNone, OnOk, IsOkUnless, MatchBool, Some, None};
+ghost use Rattle.base_bytes.specs.Fault.{memory};
+ghost use Rattle.listing_words.specs.View.{word};
+ghost use Rattle.listing_slots.specs.ValidNames.{StayValid};
+ghost use Rattle.listing_slots.specs.View.{datum};
+ghost use Rattle.listing_shapes.specs.Shapes.{Shape};
+ghost use Rattle.listing_shapes.specs.ShapeView.{shape};
+ghost use Rattle.listing_lines.specs.Lines.{line_of};
+ghost use Rattle.listing_draft.specs.States.{add};
+ghost use Rattle.listing_draft.specs.View.{state};
+ghost use Rattle.listing_labels.specs.Lines.{lines, is_skipped};
+ghost use Rattle.listing_parse.specs.Forms.{HasShapeInForm, SpellsInForm, MisspellsInForm};
+ghost use Rattle.listing_parse.specs.Named.{ReadingIsNamed};
+ghost use Rattle.listing_parse.specs.Text.{line_counted, LineSays, IsUnsaid, AddsLine, TakesLine, LineIsRefused};
+ghost use Rattle.listing_parse.specs.View.{reading};
+
+use crate::aside::Aside;
+use crate::reading::Reading;
+use bumpalo::Bump;
+use dex_base::{Fault, fault};
+use listing_draft::Draft;
+use listing_labels::{is_skipped, read_all};
+use listing_lines::{Form, make_insn, make_line};
+use listing_shapes::{Found, read_bare_shape, read_shape};
+use listing_slots::{Datum, Kind, Slot, Spelled, read_operands};
+use listing_words::{Word, read_words};
+
+/// The shape of a line of these words.
+fn read_form<'a, 'b>(
+    form: Form,
+    words: &[Word<'a, 'b>],
+    slots: &mut Vec<Slot, &'a Bump>,
+) -> Result<Option<Found<'b>>, Fault>
+    ensures found { IfOk result (λ r. IfSome r (λ f. HasShapeInForm form (map word words.now) (shape f slots.new.items (map word words.now)))) }
+    ensures lengths { IfOk result (λ r. IfSome r (λ f. f.lead + length slots.new.items ≡ length words.now)) }
+    ensures none { IfOk result (λ r. IfNone r ((s : Shape) → HasShapeInForm form (map word words.now) s → ⊥)) }
+    ensures memory { IsOkUnless result memory }
+{
+    match form {
+        Form::One => read_shape(words, slots),
+        Form::Two => read_bare_shape(words, slots),
+    }
+}
+
+/// Where a line's words, the slots of its shape and what they say are put: each line fills them anew. And the names that
+/// words have spelled.
+#[derive(Drop)]
+pub(crate) struct Scratch<'a, 'b> {
+    pub(crate) arena: &'a Bump,
+    pub(crate) words: Vec<Word<'a, 'b>, &'a Bump>,
+    pub(crate) slots: Vec<Slot, &'a Bump>,
+    pub(crate) says: Vec<Datum<'a>, &'a Bump>,
+    pub(crate) spelled: Spelled<'a, 'b>,
+}
+
+/// What the words after the first ones say in the slots; else the fault of the first that says nothing there.
+fn read_says<'a, 'b>(
+    scratch: &mut Scratch<'a, 'b>,
+    listing: &Reading<'a, 'b>,
+    lead: usize,
+) -> Result<Option<u16>, Fault>
+    requires { lead + length scratch.old.slots.items ≡ length scratch.old.words.items }
+    ensures all { IfOk result (λ r. IfNone r (SpellsInForm listing.now.form listing.now.labels scratch.old.slots.items (drop lead (map word scratch.old.words.items)) (map datum scratch.new.says.items))) }
+    ensures bad { IfOk result (λ r. IfSome r (λ code. MisspellsInForm listing.now.form listing.now.labels scratch.old.slots.items (drop lead (map word scratch.old.words.items)) code)) }
+    ensures valid { IfOk result (λ r. IfNone r (StayValid scratch.old.spelled scratch.new.spelled (map datum scratch.new.says.items))) }
+    ensures memory { IsOkUnless result memory }
+{
+    let (_, operands) = scratch.words.as_slice().split_at(lead);
+    let slots = scratch.slots.as_slice();
+    match listing.form {
+        Form::One => read_operands(
+            &mut scratch.spelled,
+            scratch.arena,
+            slots,
+            operands,
+            &mut scratch.says,
+        ),
+        Form::Two => read_all(
+            &mut scratch.spelled,
+            scratch.arena,
+            &listing.labels,
+            listing.passed,
+            slots,
+            operands,
+            &mut scratch.says,
+        ),
+    }
+}
+
+/// Adds the line of this kind whose slots say this; false where it gives again what may be given once. Most lines are
+/// instructions: they are added without a line made of them.
+fn add_said<'a>(
+    arena: &'a Bump,
+    draft: &mut Draft<'a>,
+    kind: Kind,
+    said: &[Datum<'a>],
+) -> Result<bool, Fault>
+    ensures added { IfOk result (λ yes. MatchBool yes
+        (add (state draft.old) (line_of kind (map datum said.now)) ≡ Some (state draft.new))
+        (add (state draft.old) (line_of kind (map datum said.now)) ≡ None)) }
+    ensures lines { draft.new.lines ≡ draft.old.lines }
+    ensures memory { IsOkUnless result memory }
+{
+    if let Kind::Plain(op) = kind {
+        return draft.add_insn(make_insn(op, said));
+    }
+    let next = make_line(arena, kind, said)?;
+    draft.add(arena, next)
+}
+
+/// Adds a line that says something of the program; else it is refused: 100 to 104.
+fn add_says<'a, 'b>(
+    scratch: &mut Scratch<'a, 'b>,
+    listing: &mut Reading<'a, 'b>,
+    after: &'b [u8],
+) -> Result<(), Fault>
+    requires { listing.old.draft.lines + 1 + length after.now < 2 ^ 64 }
+    ensures taken { OnOk result (LineSays (reading listing.old) (lines after.now) (map word scratch.old.words.items) (reading listing.new)) }
+    ensures named { OnOk result (ReadingIsNamed scratch.old.spelled (reading listing.old) → ReadingIsNamed scratch.new.spelled (reading listing.new)) }
+    ensures refused { IfErr result (λ e. e ≢ memory → IsUnsaid (reading listing.old) (map word scratch.old.words.items) e.code) }
+    ensures place { IfErr result (λ e. e ≢ memory → e.place ≡ listing.old.draft.lines) }
+    ensures lines { OnOk result (listing.new.draft.lines ≡ listing.old.draft.lines) }
+{
+    let words = scratch.words.as_slice();
+    let Some(found) = read_form(listing.form, words, &mut scratch.slots)? else {
+        return Err(Fault::at(fault::LINE_WORD, listing.draft.lines));
+    };
+    if !listing.may_be(found) {
+        return Err(Fault::at(fault::LINE_ORDER, listing.draft.lines));
+    }
+    if let Some(code) = read_says(scratch, listing, found.lead)? {
+        return Err(Fault::at(code, listing.draft.lines));
+    }
+    let said = scratch.says.as_slice();
+    if !add_said(scratch.arena, &mut listing.draft, found.kind, said)? {
+        return Err(Fault::at(fault::LINE_TWICE, listing.draft.lines));
+    }
+    listing.find_labels(found.kind, after)
+}
+
+/// Adds a line that isn't skipped; else it is refused: 100 to 104.
+fn add_line<'a, 'b>(
+    scratch: &mut Scratch<'a, 'b>,
+    listing: &mut Reading<'a, 'b>,
+    line: &'b [u8],
+    after: &'b [u8],
+) -> Result<(), Fault>
+    requires says { is_skipped line.now ≡ false }
+    requires short { listing.old.draft.lines + 1 + length after.now < 2 ^ 64 }
+    ensures taken { OnOk result (AddsLine (reading listing.old) (lines after.now) line.now (reading listing.new)) }
+    ensures named { OnOk result (ReadingIsNamed scratch.old.spelled (reading listing.old) → ReadingIsNamed scratch.new.spelled (reading listing.new)) }
+    ensures refused { IfErr result (λ e. e ≢ memory → LineIsRefused (reading listing.old) line.now e.code) }
+    ensures place { IfErr result (λ e. e ≢ memory → e.place ≡ listing.old.draft.lines) }
+    ensures lines { OnOk result (listing.new.draft.lines ≡ listing.old.draft.lines) }
+{
+    if !read_words(scratch.arena, line, &mut scratch.words)? {
+        return Err(Fault::at(fault::LINE_WORD, listing.draft.lines));
+    }
+    match listing.aside(scratch.words.as_slice()) {
+        Aside::Nothing => add_says(scratch, listing, after),
+        Aside::Refused(code) => Err(Fault::at(code, listing.draft.lines)),
+        Aside::First => {
+            listing.begin_second();
+            Ok(())
+        }
+        Aside::Mark => {
+            listing.pass_label();
+            Ok(())
+        }
+    }
+}
+
+/// Counts one line more as read.
+#[tactic(auto, unfolding(crate::specs::View::reading))]
+fn count_line(listing: &mut Reading<'_, '_>)
+    requires { listing.old.draft.lines + 1 < 2 ^ 64 }
+    ensures state { reading listing.new ≡ line_counted (reading listing.old) }
+    ensures lines { listing.new.draft.lines ≡ listing.old.draft.lines + 1 }
+{
+    listing.draft.count_line();
+}
+
+/// Reads a line; else it is refused: 100 to 104, at its number.
+pub(crate) fn read_line<'a, 'b>(
+    scratch: &mut Scratch<'a, 'b>,
+    listing: &mut Reading<'a, 'b>,
+    line: &'b [u8],
+    after: &'b [u8],
+) -> Result<(), Fault>
+    requires { listing.old.draft.lines + 2 + length after.now < 2 ^ 64 }
+    ensures taken { OnOk result (TakesLine (reading listing.old) (lines after.now) line.now (reading listing.new)) }
+    ensures named { OnOk result (ReadingIsNamed scratch.old.spelled (reading listing.old) → ReadingIsNamed scratch.new.spelled (reading listing.new)) }
+    ensures refused { IfErr result (λ e. e ≢ memory → LineIsRefused (line_counted (reading listing.old)) line.now e.code) }
+    ensures place { IfErr result (λ e. e ≢ memory → e.place ≡ listing.old.draft.lines + 1) }
+    ensures lines { OnOk result (listing.new.draft.lines ≡ listing.old.draft.lines + 1) }
+{
+    count_line(listing);
+    if is_skipped(line) {
+        return Ok(());
+    }
+    add_line(scratch, listing, line, after)
+}
