@@ -4,7 +4,7 @@ use Rattle.dex_base.specs.Mutf8.{PacksText}
 use Rattle.base_bytes.specs.Leb128.{Shortest}
 use Rattle.dex_container.specs.Where.{slice}
 use Rattle.file_layout.specs.Plan.{tables_end, Follows}
-use Rattle.file_layout.specs.Sections.{is_empty_list, never, Laid}
+use Rattle.file_layout.specs.Sections.{is_empty_list, never, wide_all, Laid}
 use Rattle.file_layout.specs.Tiles.{Agree, Tiles, Done, Item, gap, Lays}
 use Rattle.file_layout.specs.declared.plan.Plan.{Plan}
 use Rattle.file_layout.proofs.TileLaws.{Tiles-le, Lays-agree, agree-append}
@@ -18,7 +18,7 @@ use Rattle.file_sections.proofs.SitedLaws.{room_of_sited}
 use Rattle.dex_value.specs.Spelling.{SpellsArray}
 use Rattle.dex_value.specs.Wide.{wide_array}
 use Rattle.file_assemble.specs.Assembled.{Places, DataLies, DataIsLaid, StandOnce, rows_of}
-use Rattle.file_assemble.proofs.FitsLaws.{Room}
+use Rattle.file_assemble.proofs.FitsLaws.{HasRoom, Room}
 
 -- items take bytes
 pub tiles_take : {V : Type 0} {G : List ℕ → V → Type 0} {align : ℕ} {b : List ℕ} {at end : ℕ} {items : List (ℕ × V)} → Tiles G align b at end items → 0 < length items → at + gap align at < end
@@ -31,8 +31,16 @@ agree_trans a b c from mid to x y le = record { each = λ place size lo hi. x.ea
 agree_more : (a b : List ℕ) (from : ℕ) → ((more : List ℕ) × (b ≡ a ++ more)) → Agree a b from (length a)
 agree_more a b from m = record { each = λ place size lo hi. subst (λ (c : List ℕ). slice a place size ≡ slice c place size) (sym m.1) ((agree-append a m.0).each place size (omega arith) hi) }
 
-pub longer : (a b : List ℕ) → ((more : List ℕ) × (b ≡ a ++ more)) → length a ≤ length b
+longer : (a b : List ℕ) → ((more : List ℕ) × (b ≡ a ++ more)) → length a ≤ length b
 longer a b m = let e = ap length m.1 ∙ length-append a m.0 in omega (arith, e)
+
+-- a part that is laid takes no more than its room
+pub next : {V : Type 0} {none : V → Bool} {G : List ℕ → V → Type 0} {align : ℕ} {wide : V → ℕ} {o o1 : List ℕ} {vs : List V} {places : List ℕ} {count more : ℕ}
+    → HasRoom (length o) (wide_all wide vs + more) → Laid none G align wide o o1 vs places count → HasRoom (length o1) more
+next {o = o} {o1 = o1} r l =
+    let g = longer o o1 l.grown in
+    let b = l.bound in
+    record { some = omega (arith, r.some, g); small = omega (arith, r.small, b) }
 
 -- a part that is laid, and begins at its first item or where that is aligned
 part_follows : {V : Type 0} (none : V → Bool) (G : List ℕ → V → Type 0) (align at begin first end : ℕ) (b : List ℕ) (vs : List V) (places : List ℕ) (count : ℕ)

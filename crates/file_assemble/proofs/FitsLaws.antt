@@ -62,16 +62,23 @@ few_of s p r = record {
   methods = omega (arith, r.rows_are, r.whole);
 }
 
--- Header and tables, which take n bytes, have room after them for all parts of the data and the map.
-pub record After (s : Five) (p : Program) (n : ℕ) : Type 0 where
+-- So many bytes stand, and there is room after them for so many more and the map.
+pub record HasRoom (n more : ℕ) : Type 0 where
   pub some : 0 < n
-  pub small : n + wide_all wide_list (list_values s p) + wide_all wide_body (body_values p) + wide_all wide_text (text_values s) + wide_all wide_array (array_values p) + wide_all wide_data p + 163 ≤ 4294967295
+  pub small : n + more + 163 ≤ 4294967295
 
-pub after : (s : Five) (p : Program) (rows : Rows) (n : ℕ) → s ≡ needed p → Fits p → rows ≡ rows_of s p → n ≡ tables_end rows → After s p n
-after s p rows n e f r m =
-    let w = room_of s p e f in
+-- how much all parts of the data take at most, in their order
+abbrev pub all_parts : Five → Program → ℕ
+all_parts s p = wide_all wide_list (list_values s p) + (wide_all wide_body (body_values p) + (wide_all wide_text (text_values s) + (wide_all wide_array (array_values p) + wide_all wide_data p)))
+
+-- header and tables have room after them for these
+pub after_tables : (s : Five) (p : Program) (rows : Rows) (n : ℕ) → Room s p → rows ≡ rows_of s p → n ≡ tables_end rows → HasRoom n (all_parts s p)
+after_tables s p rows n w r m =
     let t : n ≡ tables_end (rows_of s p) = m ∙ ap tables_end r in
     record { some = omega (arith, t); small = omega (arith, t, w.rows_are, w.lists_are, w.codes_are, w.texts_are, w.arrays_are, w.datas_are, w.whole) }
+
+pub after : {s : Five} {p : Program} {rows : Rows} {n : ℕ} → s ≡ needed p → Fits p → rows ≡ rows_of s p → n ≡ tables_end rows → HasRoom n (all_parts s p)
+after {s = s} {p = p} {rows = rows} {n = n} e f r m = after_tables s p rows n (room_of s p e f) r m
 
 -- a part of a sum is no greater
 pub front_small : {V : Type 0} (w : V → ℕ) (xs ys : List V) (n : ℕ) → wide_all w (xs ++ ys) ≤ n → wide_all w xs ≤ n

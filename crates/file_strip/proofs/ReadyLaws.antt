@@ -1,5 +1,5 @@
 -- What a file that is ready has room for, and which limits its program breaks.
-use Rattle.std.proofs.Common.{◌≡◌, ℕ, suc, ◌≤◌, ◌<◌, List, [], ◌∷◌, refl, sym, ap, subst, arith, slice_get, Some, inl, inr, ◌∙◌}
+use Rattle.std.proofs.Common.{◌≡◌, ℕ, suc, ◌+◌, ◌≤◌, ◌<◌, Bool, List, [], ◌∷◌, length, refl, sym, subst, arith, slice_get, Some, inl, inr}
 use Rattle.std.specs.Prelude.{slice_index}
 use Rattle.std.specs.List.{AllByRecursion}
 use Rattle.std.proofs.lemmas.Bool.{cases_lt}
@@ -8,10 +8,12 @@ use Rattle.base_bytes.specs.declared.fault.Fault.{Fault}
 use Rattle.code_put.specs.Fits.{CodeBreaksLimit, FitsCode, HandlerTooFar}
 use Rattle.dex_insn.specs.declared.opcode.IndexKind.TheVariants as kind
 use Rattle.file_assemble.specs.Assembled.{rows_of}
-use Rattle.file_assemble.proofs.FitsLaws.{After, Room}
+use Rattle.file_assemble.proofs.FitsLaws.{all_parts, after_tables, HasRoom, Room}
+use Rattle.file_assemble.proofs.DataLaws.{next}
 use Rattle.file_kept.specs.Keeping.{Keeps}
 use Rattle.file_read.proofs.RangeLaws.{well_formed}
 use Rattle.file_layout.specs.Plan.{tables_end}
+use Rattle.file_layout.specs.Sections.{wide_all, Laid}
 use Rattle.file_layout.specs.declared.plan.Rows.{Rows}
 use Rattle.file_least.specs.AtLeast.{FitsButHandlers}
 use Rattle.file_least.proofs.RowsFrom.{holds_at_least, no_further}
@@ -65,11 +67,21 @@ module _ (b : List ℕ) (numbers : Columns) (p : Program) (r : IsReady b numbers
     few_protos = r.few_protos;
   }
 
-  pub after : (rows : Rows) (n : ℕ) → rows ≡ rows_of (needed p) p → n ≡ tables_end rows → After (needed p) p n
-  after rows n e m =
-      let t : n ≡ tables_end (rows_of (needed p) p) = m ∙ ap tables_end e in
-      let w = room in
-      record { some = omega (arith, t); small = omega (arith, t, w.rows_are, w.lists_are, w.codes_are, w.texts_are, w.arrays_are, w.datas_are, w.whole) }
+-- So many bytes stand for a program that is ready, and there is room after them for so many more.
+pub record Stands (b : List ℕ) (numbers : Columns) (n : ℕ) (more : Program → ℕ) : Type 0 where
+  pub program : Program
+  pub ready : IsReady b numbers program
+  pub room : HasRoom n (more program)
+
+-- header and tables stand
+pub first : {b : List ℕ} {numbers : Columns} {rows : Rows} {n : ℕ} → ((p : Program) × IsReady b numbers p) → ((p : Program) → IsReady b numbers p → rows ≡ rows_of (needed p) p) → n ≡ tables_end rows
+    → Stands b numbers n (λ p. all_parts (needed p) p)
+first {b = b} {numbers = numbers} {rows = rows} {n = n} r counts front = record { program = r.0; ready = r.1; room = after_tables (needed r.0) r.0 rows n (room b numbers r.0 r.1) (counts r.0 r.1) front }
+
+-- one part more is laid
+pub and_laid : {V : Type 0} {none : V → Bool} {align : ℕ} {wide : V → ℕ} {b o o1 places : List ℕ} {numbers : Columns} {count : ℕ} {G : Program → List ℕ → V → Type 0} {vs : Program → List V} {more : Program → ℕ}
+    → Stands b numbers (length o) (λ p. wide_all wide (vs p) + more p) → ((p : Program) → Keeps b numbers p → Laid none (G p) align wide o o1 (vs p) places count) → Stands b numbers (length o1) more
+and_laid s laid = record { program = s.program; ready = s.ready; room = next s.room (laid s.program s.ready.keeps) }
 
 -- ---- limits
 

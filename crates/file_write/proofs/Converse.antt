@@ -1,7 +1,8 @@
 -- A packed file whose tables hold exactly the names that its program needs is one that is assembled of the program.
-use Rattle.std.proofs.Common.{◌≡◌, ◌≢◌, ℕ, suc, ◌+◌, ◌*◌, ◌≤◌, Bool, true, false, cond, ltb, List, [], ◌∷◌, ◌++◌, length, map, refl, sym, ap, ◌∙◌, subst, arith, Option, Some, None}
+use Rattle.std.proofs.Common.{◌≡◌, ◌≢◌, ℕ, ◌+◌, ◌*◌, ◌≤◌, false, List, ◌++◌, length, map, refl, sym, ap, ◌∙◌, subst, arith, Option, Some, None}
 use Rattle.std.proofs.lemmas.List.{drop_at, length-map, take_at}
-use Rattle.std.specs.List.{AllZip, filter, flat_map, slice_get}
+use Rattle.std.proofs.lemmas.List.Sums.{count_by-le-length, length-filter}
+use Rattle.std.specs.List.{AllZip, flat_map, slice_get}
 use Rattle.base_bytes.specs.Grammar.{Each}
 use Rattle.base_bytes.specs.Leb128.{Shortest}
 use Rattle.dex_base.specs.Mutf8.{PacksText, SpellsText}
@@ -22,7 +23,7 @@ use Rattle.file_read.proofs.RangeLaws.{well_formed}
 use Rattle.file_layout.specs.declared.plan.Plan.{Plan}
 use Rattle.file_layout.specs.Plan.{IsPlanned, IsWritten, spans_of, tables_end}
 use Rattle.file_layout.specs.Sections.{is_empty_list, never}
-use Rattle.file_layout.specs.Spans.{Span, has_items}
+use Rattle.file_layout.specs.Spans.{has_items}
 use Rattle.file_layout.specs.Tiles.{gap}
 use Rattle.file_layout.proofs.PartLaws.{length_slice, slice_more}
 use Rattle.file_layout.proofs.StandLaws.{zip_weaker}
@@ -337,19 +338,13 @@ module _ (b : List ℕ) (p : Program) (m : Means b p) (x : HoldsExactly b (neede
       let begins = begin_is in
       let there = k.data_section.map.there in
       let ends = written.ends in
-      let few = few_kept (spans_of plan (map_place b) (length b)) in
-      omega (arith, r1, r2, r3, r4, r5, w, parts, begins, there, ends, few)
+      let few = length-filter has_items (spans_of plan (map_place b) (length b)) in
+      let all = count_by-le-length has_items (spans_of plan (map_place b) (length b)) in
+      omega (arith, r1, r2, r3, r4, r5, w, parts, begins, there, ends, few, all)
     where
       body_most : (o : Option Code) → is_bodiless o ≡ false → (at : ℕ) (bytes : List ℕ) → PacksBody (NameRanks (needed p)) bytes o → gap 4 at + length bytes ≤ wide_body o
       body_most None some at bytes y = absurd y
       body_most (Some c) some at bytes y = let n = (packed_room (NameRanks (needed p)) c bytes y).1 in let g = gap_four at in omega (arith, n, g)
-
-      few_kept : (ss : List Span) → length (filter has_items ss) ≤ length ss
-      few_kept [] = omega arith
-      few_kept (s ∷ ss) = elim (ltb 0 s.items) as (λ (t : Bool). length (cond t (s ∷ filter has_items ss) (filter has_items ss)) ≤ suc (length ss)) [
-        | true ↦ (let n = few_kept ss in omega (arith, n))
-        | false ↦ (let n = few_kept ss in omega (arith, n))
-      ]
 
   -- ---- all of it
 

@@ -20,6 +20,11 @@ use Rattle.file_assemble.proofs.DataLaws.{tiles_take}
 use Rattle.file_write.specs.Packed.{IsPackedSection, MapIsPacked, MapSays, TablesArePacked, table_end}
 use Rattle.file_write.proofs.Sections.{first_place}
 
+-- the first of a list of facts, and the others
+infixr 5 ◌&◌
+◌&◌ : {A B : Type 0} → A → B → A × B
+◌&◌ x y = (x, y)
+
 -- ---- entries that rise name spans that do
 
 -- Entry i says what the span has.
@@ -32,6 +37,9 @@ record Says (b : List ℕ) (i : ℕ) (s : Span) : Type 0 where
 abbrev Chain : ℕ → List Span → Type 0
 Chain at [] = Unit {0}
 Chain at (s ∷ ss) = (at ≤ s.end) × (0 < s.items → (at ≤ s.begin) × (s.begin < s.end)) × Chain s.end ss
+
+chained : {X : Type 0} (at items begin end : ℕ) → at ≤ end → (0 < items → (at ≤ begin) × (begin < end)) → X → (at ≤ end) × (0 < items → (at ≤ begin) × (begin < end)) × X
+chained at items begin end a b x = (a, b, x)
 
 chain_low : (at : ℕ) (ss : List Span) (t : Span) → Chain at ss → Has ss t → 0 < t.items → at ≤ t.begin
 chain_low at [] t c h some = absurd h
@@ -234,39 +242,33 @@ module _ (b : List ℕ) (p : Plan) (framed : IsFramed b) (packed : TablesArePack
 
   words : Words b 8 later
   unfolding size_of offset_of map_place
-  words = (
-    framed.header.file_size,
-    (
-      framed.header.header_size,
-      (
-        framed.header.endian,
-        (
-          framed.header.unlinked,
-          (
-            link,
-            (
-              refl,
-              (rows.strings, (offset_is 0 p.rows.strings 112 (omega arith) rows.strings refl, (rows.types, (offset_is 1 p.rows.types (type_ids_begin p.rows) (omega arith) rows.types end1, (rows.protos, (offset_is 2 p.rows.protos (proto_ids_begin p.rows) (omega arith) rows.protos end2, (rows.fields, (offset_is 3 p.rows.fields (field_ids_begin p.rows) (omega arith) rows.fields end3, (rows.methods, (offset_is 4 p.rows.methods (method_ids_begin p.rows) (omega arith) rows.methods end4, (rows.classes, (offset_is 5 p.rows.classes (class_defs_begin p.rows) (omega arith) rows.classes end5, data_words)))))))))))),
-            ),
-          ),
-        ),
-      ),
-    ),
-  )
+  words =
+      let there : u32_at b 52 ≡ map_place b = refl in
+      framed.header.file_size
+      & framed.header.header_size
+      & framed.header.endian
+      & framed.header.unlinked
+      & link
+      & there
+      & rows.strings & offset_is 0 p.rows.strings 112 (omega arith) rows.strings refl
+      & rows.types & offset_is 1 p.rows.types (type_ids_begin p.rows) (omega arith) rows.types end1
+      & rows.protos & offset_is 2 p.rows.protos (proto_ids_begin p.rows) (omega arith) rows.protos end2
+      & rows.fields & offset_is 3 p.rows.fields (field_ids_begin p.rows) (omega arith) rows.fields end3
+      & rows.methods & offset_is 4 p.rows.methods (method_ids_begin p.rows) (omega arith) rows.methods end4
+      & rows.classes & offset_is 5 p.rows.classes (class_defs_begin p.rows) (omega arith) rows.classes end5
+      & data_words
     where
       data_words : Words b 26 ((length b - tables_end p.rows) ∷ tables_end p.rows ∷ [])
       data_words = let a = packed.data_first in let c = packed.data_last in let e = end6 in (omega (arith, a, c, e), (a ∙ e, tt))
 
+  fields_from : (k : ℕ) → k < 20 → u32_at b (4 * (8 + k)) ≡ slice_index (header_words p.rows (map_place b) (length b)) (suc (suc (suc (suc (suc (suc (suc (suc k))))))))
+  fields_from k h = words_at b 8 later words k (omega arith)
+
   fields : (j : ℕ) → 8 ≤ j → j < 28 → u32_at b (4 * j) ≡ slice_index (header_words p.rows (map_place b) (length b)) j
-  fields zero low high = absurd (omega arith)
-  fields (suc zero) low high = absurd (omega arith)
-  fields (suc (suc zero)) low high = absurd (omega arith)
-  fields (suc (suc (suc zero))) low high = absurd (omega arith)
-  fields (suc (suc (suc (suc zero)))) low high = absurd (omega arith)
-  fields (suc (suc (suc (suc (suc zero))))) low high = absurd (omega arith)
-  fields (suc (suc (suc (suc (suc (suc zero)))))) low high = absurd (omega arith)
-  fields (suc (suc (suc (suc (suc (suc (suc zero))))))) low high = absurd (omega arith)
-  fields (suc (suc (suc (suc (suc (suc (suc (suc k)))))))) low high = ap (λ (m : ℕ). u32_at b m) (omega arith) ∙ words_at b 8 later words k (omega arith)
+  fields j low high =
+      let f = fields_from (j - 8) (omega arith) in
+      let e : suc (suc (suc (suc (suc (suc (suc (suc (j - 8)))))))) ≡ j = omega arith in
+      ap (λ (m : ℕ). u32_at b m) (omega arith) ∙ f ∙ ap (slice_index (header_words p.rows (map_place b) (length b))) e
 
   -- ---- the map
 
@@ -328,66 +330,40 @@ module _ (b : List ℕ) (p : Plan) (framed : IsFramed b) (packed : TablesArePack
 
   all_are : AllByRecursion Is spans
   unfolding spans
-  all_are = (
-    header_is 112,
-    (
-      table_is 0 p.rows.strings 112 (type_ids_begin p.rows) (omega arith) rows.strings refl,
-      (
-        table_is 1 p.rows.types (type_ids_begin p.rows) (proto_ids_begin p.rows) (omega arith) rows.types end1,
-        (
-          table_is 2 p.rows.protos (proto_ids_begin p.rows) (field_ids_begin p.rows) (omega arith) rows.protos end2,
-          (
-            table_is 3 p.rows.fields (field_ids_begin p.rows) (method_ids_begin p.rows) (omega arith) rows.fields end3,
-            (
-              table_is 4 p.rows.methods (method_ids_begin p.rows) (class_defs_begin p.rows) (omega arith) rows.methods end4,
-              (
-                table_is 5 p.rows.classes (class_defs_begin p.rows) (tables_end p.rows) (omega arith) rows.classes end5,
-                (part_is 0x1001 p.lists lists, (part_is 0x2001 p.codes codes, (part_is 0x2002 p.strings texts, (part_is 0x2005 p.arrays arrays, (part_is 0x2000 p.datas datas, (map_is, tt)))))),
-              ),
-            ),
-          ),
-        ),
-      ),
-    ),
-  )
+  all_are =
+      header_is 112
+      & table_is 0 p.rows.strings 112 (type_ids_begin p.rows) (omega arith) rows.strings refl
+      & table_is 1 p.rows.types (type_ids_begin p.rows) (proto_ids_begin p.rows) (omega arith) rows.types end1
+      & table_is 2 p.rows.protos (proto_ids_begin p.rows) (field_ids_begin p.rows) (omega arith) rows.protos end2
+      & table_is 3 p.rows.fields (field_ids_begin p.rows) (method_ids_begin p.rows) (omega arith) rows.fields end3
+      & table_is 4 p.rows.methods (method_ids_begin p.rows) (class_defs_begin p.rows) (omega arith) rows.methods end4
+      & table_is 5 p.rows.classes (class_defs_begin p.rows) (tables_end p.rows) (omega arith) rows.classes end5
+      & part_is 0x1001 p.lists lists
+      & part_is 0x2001 p.codes codes
+      & part_is 0x2002 p.strings texts
+      & part_is 0x2005 p.arrays arrays
+      & part_is 0x2000 p.datas datas
+      & map_is
+      & tt
 
   chain : Chain 0 spans
   unfolding spans
   chain =
       let l = planned.lists in let c = planned.codes in let t = planned.strings in let a = planned.arrays in let d = planned.datas in
-      let n = next.there in (
-        omega arith,
-        λ _. (omega arith, omega arith),
-        (
-          omega arith,
-          λ h. (omega arith, omega arith),
-          (
-            omega arith,
-            λ h. (omega arith, omega arith),
-            (
-              omega arith,
-              λ h. (omega arith, omega arith),
-              (
-                omega arith,
-                λ h. (omega arith, omega arith),
-                (
-                  omega arith,
-                  λ h. (omega arith, omega arith),
-                  (
-                    omega arith,
-                    λ h. (omega arith, omega arith),
-                    (
-                      l.after,
-                      λ h. (l.begins h, l.takes h),
-                      (c.after, λ h. (c.begins h, c.takes h), (t.after, λ h. (t.begins h, t.takes h), (a.after, λ h. (a.begins h, a.takes h), (d.after, λ h. (d.begins h, d.takes h), (omega (arith, n, last), λ h. (omega (arith, n), omega (arith, last)), tt))))),
-                    ),
-                  ),
-                ),
-              ),
-            ),
-          ),
-        ),
-      )
+      let n = next.there in
+      chained 0 1 0 112 (omega arith) (λ _. (omega arith, omega arith))
+      (chained 112 p.rows.strings 112 (type_ids_begin p.rows) (omega arith) (λ h. (omega arith, omega arith))
+      (chained (type_ids_begin p.rows) p.rows.types (type_ids_begin p.rows) (proto_ids_begin p.rows) (omega arith) (λ h. (omega arith, omega arith))
+      (chained (proto_ids_begin p.rows) p.rows.protos (proto_ids_begin p.rows) (field_ids_begin p.rows) (omega arith) (λ h. (omega arith, omega arith))
+      (chained (field_ids_begin p.rows) p.rows.fields (field_ids_begin p.rows) (method_ids_begin p.rows) (omega arith) (λ h. (omega arith, omega arith))
+      (chained (method_ids_begin p.rows) p.rows.methods (method_ids_begin p.rows) (class_defs_begin p.rows) (omega arith) (λ h. (omega arith, omega arith))
+      (chained (class_defs_begin p.rows) p.rows.classes (class_defs_begin p.rows) (tables_end p.rows) (omega arith) (λ h. (omega arith, omega arith))
+      (chained (tables_end p.rows) p.lists.items p.lists.begin p.lists.end l.after (λ h. (l.begins h, l.takes h))
+      (chained p.lists.end p.codes.items p.codes.begin p.codes.end c.after (λ h. (c.begins h, c.takes h))
+      (chained p.codes.end p.strings.items p.strings.begin p.strings.end t.after (λ h. (t.begins h, t.takes h))
+      (chained p.strings.end p.arrays.items p.arrays.begin p.arrays.end a.after (λ h. (a.begins h, a.takes h))
+      (chained p.arrays.end p.datas.items p.datas.begin p.datas.end d.after (λ h. (d.begins h, d.takes h))
+      (chained p.datas.end 1 (map_place b) (length b) (omega (arith, n, last)) (λ h. (omega (arith, n), omega (arith, last))) tt))))))))))))
 
   -- one of these by its kind
   pick : (kind : ℕ) → IsWrittenKind kind → (s : Span) × Has spans s × (s.kind ≡ kind)

@@ -21,7 +21,7 @@ use Rattle.program_types.specs.Key.{Key, field_ref_key, method_ref_key, proto_ke
 use Rattle.program_types.specs.Shorty.{shorty}
 use Rattle.tables_names.specs.Closure.{Five}
 use Rattle.tables_rows.specs.RowFields.{member_class, member_kind, member_name, proto_parameters, proto_return, proto_shorty, string_place, type_string}
-use Rattle.tables_rows.specs.Sorted.{TablesHold}
+use Rattle.tables_rows.specs.Sorted.{MemberIsBelow, ProtoIsBelow, RowHolds, RowsHold, TablesHold, TypeIsBelow}
 use Rattle.tables_rows.specs.Stands.{FieldStands, MethodStands, ProtoStands, StringStands, TypeStands}
 use Rattle.file_write.specs.Least.{HoldsExactly}
 use Rattle.file_write.specs.Packed.{TablesArePacked, table_end, text_places, words_of_rows}
@@ -158,33 +158,12 @@ module _ (b : List ℕ) (s : Five) (are : AreBytes b) (x : HoldsExactly b s) (t 
 
   -- ---- the names of the rows
 
-  type_named : (i : ℕ) (key : Key) → slice_get s.types i ≡ Some key → (v : Descriptor) × (text_key v ≡ key)
-  type_named i key at =
-      let n = x.types in let l = slice_get_within s.types i key at in
-      let r = t.types i (omega (arith, n, l)) in
-      let e = x.only i (OfDesc r.name) r.stands in
-      (r.name, same_key s.types i (text_key r.name) key e at)
-
-  proto_named : (i : ℕ) (key : Key) → slice_get s.protos i ≡ Some key → (v : Proto) × (proto_key v ≡ key)
-  proto_named i key at =
-      let n = x.protos in let l = slice_get_within s.protos i key at in
-      let r = t.protos i (omega (arith, n, l)) in
-      let e = x.only_proto i r.name r.stands in
-      (r.name, same_key s.protos i (proto_key r.name) key e at)
-
-  field_named : (i : ℕ) (key : Key) → slice_get s.fields i ≡ Some key → (v : FieldRef) × (field_ref_key v ≡ key)
-  field_named i key at =
-      let n = x.fields in let l = slice_get_within s.fields i key at in
-      let r = t.fields i (omega (arith, n, l)) in
-      let e = x.only i (OfField r.name) r.stands in
-      (r.name, same_key s.fields i (field_ref_key r.name) key e at)
-
-  method_named : (i : ℕ) (key : Key) → slice_get s.methods i ≡ Some key → (v : MethodRef) × (method_ref_key v ≡ key)
-  method_named i key at =
-      let n = x.methods in let l = slice_get_within s.methods i key at in
-      let r = t.methods i (omega (arith, n, l)) in
-      let e = x.only i (OfMethod r.name) r.stands in
-      (r.name, same_key s.methods i (method_ref_key r.name) key e at)
+  named : {V : Type 0} (key : V → Key) (Stands : List ℕ → ℕ → V → Type 0) (Below : List ℕ → ℕ → ℕ → Type 0) (n : ℕ) (keys : List Key) → n ≡ length keys → RowsHold (RowHolds Stands Below) b n
+      → ((i : ℕ) (v : V) → Stands b i v → slice_get keys i ≡ Some (key v)) → (i : ℕ) (k : Key) → slice_get keys i ≡ Some k → (v : V) × (key v ≡ k)
+  named key Stands Below n keys many rows only i k at =
+      let l = slice_get_within keys i k at in
+      let r = rows i (omega (arith, many, l)) in
+      (r.name, same_key keys i (key r.name) k (only i r.name r.stands) at)
 
   -- ---- the tables of names
 
@@ -201,17 +180,17 @@ module _ (b : List ℕ) (s : Five) (are : AreBytes b) (x : HoldsExactly b s) (t 
       }
 
   types_table : SpellsTable text_key (SpellsTypeRow s) (slice b (table_end b 1) (4 * size_of b 1)) s.types
-  types_table = table text_key (SpellsTypeRow s) 4 (table_end b 1) (size_of b 1) s.types x.types type_named (λ i v at. type_row i v (x.each i (OfDesc v) at))
+  types_table = table text_key (SpellsTypeRow s) 4 (table_end b 1) (size_of b 1) s.types x.types (named text_key TypeStands TypeIsBelow (size_of b 1) s.types x.types t.types (λ i v. x.only i (OfDesc v))) (λ i v at. type_row i v (x.each i (OfDesc v) at))
 
   fields_table : SpellsTable field_ref_key (SpellsFieldRow s) (slice b (table_end b 3) (8 * size_of b 3)) s.fields
-  fields_table = table field_ref_key (SpellsFieldRow s) 8 (table_end b 3) (size_of b 3) s.fields x.fields field_named (λ i v at. field_row i v (x.each i (OfField v) at))
+  fields_table = table field_ref_key (SpellsFieldRow s) 8 (table_end b 3) (size_of b 3) s.fields x.fields (named field_ref_key FieldStands (MemberIsBelow 3) (size_of b 3) s.fields x.fields t.fields (λ i v. x.only i (OfField v))) (λ i v at. field_row i v (x.each i (OfField v) at))
 
   methods_table : SpellsTable method_ref_key (SpellsMethodRow s) (slice b (table_end b 4) (8 * size_of b 4)) s.methods
-  methods_table = table method_ref_key (SpellsMethodRow s) 8 (table_end b 4) (size_of b 4) s.methods x.methods method_named (λ i v at. method_row i v (x.each i (OfMethod v) at))
+  methods_table = table method_ref_key (SpellsMethodRow s) 8 (table_end b 4) (size_of b 4) s.methods x.methods (named method_ref_key MethodStands (MemberIsBelow 4) (size_of b 4) s.methods x.methods t.methods (λ i v. x.only i (OfMethod v))) (λ i v at. method_row i v (x.each i (OfMethod v) at))
 
   protos_table : SpellsProtos s (words_of_rows (proto_parameters b) (size_of b 2)) (slice b (table_end b 2) (12 * size_of b 2)) s.protos
   protos_table =
-      let r = names_from proto_key s.protos proto_named in
+      let r = names_from proto_key s.protos (named proto_key ProtoStands ProtoIsBelow (size_of b 2) s.protos x.protos t.protos x.only_proto) in
       let places = words_of_rows (proto_parameters b) (size_of b 2) in
       let l = length-words_of (proto_parameters b) (size_of b 2) in
       let many = x.protos in

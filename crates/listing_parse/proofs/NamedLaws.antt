@@ -1,5 +1,5 @@
 -- What the instructions name, after a line more.
-use Rattle.std.proofs.Common.{◌≡◌, ℕ, ◌-◌, Bool, true, false, if◌then◌else◌, List, [], ◌∷◌, ◌++◌, length, Option, Some, None, zero, suc, sym, subst}
+use Rattle.std.proofs.Common.{◌≡◌, ℕ, Bool, true, false, if◌then◌else◌, List, [], ◌∷◌, ◌++◌, Option, Some, None, zero, suc, sym, subst, rules}
 use Rattle.std.specs.Prelude.{⊤, IfSome, option_map}
 use Rattle.std.specs.List.{AllByRecursion}
 use Rattle.std.specs.Ordering.{is_eq, is_lt}
@@ -53,11 +53,7 @@ at_valid (d ∷ ds) (suc i) h = at_valid ds i h.1
 insn_named : (f : Option Format) (op : ℕ) (ds : List Datum) → AllByRecursion IsValidDatum ds → InsnIsNamed (insn_of f op ds)
 unfolding insn_of
 insn_named (Some format.F21c) op ds h = (at_valid ds 1 h, tt)
-insn_named (Some format.F22c) op ds h = (at_valid ds 2 h, tt)
-insn_named (Some format.F31c) op ds h = (at_valid ds 1 h, tt)
-insn_named (Some format.F35c) op ds h = (at_valid ds (length ds - 1) h, tt)
-insn_named (Some format.F3rc) op ds h = (at_valid ds 2 h, tt)
-insn_named _ op ds h = tt
+insn_named _ op ds h = search (rules, at_valid)
 
 abbrev LineIsNamed : Line → Type 0
 LineIsNamed (insn_line i) = InsnIsNamed i

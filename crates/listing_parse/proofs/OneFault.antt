@@ -22,20 +22,18 @@ use Rattle.listing_parse.proofs.ExactLaws.{not_both, shape_one, says_none, reads
 -- ---- the first word that says nothing in its slot
 
 slots_one : (ss : List Slot) (ws : List Word) (c d : ℕ) → MisspellsSlots ss ws c → MisspellsSlots ss ws d → c ≡ d
-slots_one [] ws c d p q = absurd p
-slots_one (s ∷ ss) [] c d p q = absurd p
 slots_one (s ∷ ss) (w ∷ ws) c d (inl p) (inl q) = p.1 ∙ sym q.1
 slots_one (s ∷ ss) (w ∷ ws) c d (inl p) (inr q) = absurd (p.0 q.0 q.1)
 slots_one (s ∷ ss) (w ∷ ws) c d (inr p) (inl q) = absurd (q.0 p.0 p.1)
 slots_one (s ∷ ss) (w ∷ ws) c d (inr p) (inr q) = slots_one ss ws c d p.2 q.2
+slots_one _ _ c d p q = absurd p
 
 here_one : (es : List Label) (ss : List Slot) (ws : List Word) (c d : ℕ) → MisspellsAll es ss ws c → MisspellsAll es ss ws d → c ≡ d
-here_one es [] ws c d p q = absurd p
-here_one es (s ∷ ss) [] c d p q = absurd p
 here_one es (s ∷ ss) (w ∷ ws) c d (inl p) (inl q) = p.1 ∙ sym q.1
 here_one es (s ∷ ss) (w ∷ ws) c d (inl p) (inr q) = absurd (p.0 q.0 q.1)
 here_one es (s ∷ ss) (w ∷ ws) c d (inr p) (inl q) = absurd (q.0 p.0 p.1)
 here_one es (s ∷ ss) (w ∷ ws) c d (inr p) (inr q) = here_one es ss ws c d p.2 q.2
+here_one es _ _ c d p q = absurd p
 
 misspells_one : (f : Form) (es : List Label) (ss : List Slot) (ws : List Word) (c d : ℕ) → MisspellsInForm f es ss ws c → MisspellsInForm f es ss ws d → c ≡ d
 misspells_one One es ss ws c d p q = slots_one ss ws c d p q
@@ -97,25 +95,23 @@ line_refused_one r l c d a b = by a.why b.why
 module _ {A : Type 0} where
   -- Of two places in a list the first lies in what is before the second.
   lies_before : (xs ys : List A) (x y : A) (us vs : List A) → xs ++ x ∷ us ≡ ys ++ y ∷ vs → length xs < length ys → (mid : List A) × (ys ≡ xs ++ x ∷ mid) × (us ≡ mid ++ y ∷ vs)
-  lies_before [] [] x y us vs e less = absurd (omega (arith, less))
   lies_before [] (z ∷ ys) x y us vs e less = (ys, cc, cc)
-  lies_before (w ∷ xs) [] x y us vs e less = absurd (omega (arith, less))
   lies_before (w ∷ xs) (z ∷ ys) x y us vs e less =
       let tails : xs ++ x ∷ us ≡ ys ++ y ∷ vs = cc in
       let h = lies_before xs ys x y us vs tails (omega (arith, less)) in
       let m = h.1 in
       (h.0, cc, h.2)
+  lies_before _ _ x y us vs e less = absurd (omega (arith, less))
 
   -- At one place of a list one thing stands, before and after it too.
   stands_once : (xs ys : List A) (x y : A) (us vs : List A) → xs ++ x ∷ us ≡ ys ++ y ∷ vs → length xs ≡ length ys → (xs ≡ ys) × (x ≡ y) × (us ≡ vs)
   stands_once [] [] x y us vs e n = (refl, cc, cc)
-  stands_once [] (z ∷ ys) x y us vs e n = absurd (omega (arith, n))
-  stands_once (w ∷ xs) [] x y us vs e n = absurd (omega (arith, n))
   stands_once (w ∷ xs) (z ∷ ys) x y us vs e n =
       let tails : xs ++ x ∷ us ≡ ys ++ y ∷ vs = cc in
       let h = stands_once xs ys x y us vs tails (omega (arith, n)) in
       let m = h.0 in
       (cc, h.1, h.2)
+  stands_once _ _ x y us vs e n = absurd (omega (arith, n))
 
 -- The bad line of the one isn't among those that the other accepts.
 not_earlier : (ls : List (List ℕ)) (c d p q : ℕ) (a : IsBadLine ls c p) (b : IsBadLine ls d q) → length a.before < length b.before → ⊥

@@ -1,5 +1,5 @@
 -- A printed instruction has its shape, and its slots say the instruction.
-use Rattle.std.proofs.Common.{◌≡◌, ℕ, ℤ, zero, suc, ◌-◌, ◌*◌, ◌<◌, ◌≤◌, ◌^◌, Bool, true, false, inl, inr, List, [], ◌∷◌, ◌++◌, length, get_or, map, take, drop, replicate, Option, Some, None, refl, sym, ap, ◌∙◌, arith}
+use Rattle.std.proofs.Common.{◌≡◌, ℕ, ℤ, zero, suc, ◌-◌, ◌*◌, ◌<◌, ◌≤◌, ◌^◌, Bool, true, false, inl, inr, List, [], ◌∷◌, ◌++◌, length, get_or, map, take, drop, replicate, Option, Some, None, refl, sym, ap, ◌∙◌, arith, rules}
 use Rattle.std.specs.List.{list_all}
 use Rattle.std.specs.Fmt.{decimal}
 use Rattle.std.proofs.lemmas.Bool.{eq-eqb}
@@ -77,22 +77,19 @@ targets_say (t ∷ ts) = ap (λ ns. t ∷ ns) (targets_say ts)
 pairs_slots : (ks : List ℤ) (ts : List ℕ) → length ks ≡ length ts → slots_of (pair_operands ks ts) ≡ pairs (length ks)
 unfolding pairs
 pairs_slots [] [] e = refl
-pairs_slots [] (t ∷ ts) e = absurd (omega arith)
-pairs_slots (k ∷ ks) [] e = absurd (omega arith)
 pairs_slots (k ∷ ks) (t ∷ ts) e = ap (λ ss. slot.Int ∷ target ∷ ss) (pairs_slots ks ts (omega arith))
+pairs_slots _ _ e = absurd (omega arith)
 
 pairs_length : (form : Form) (ks : List ℤ) (ts : List ℕ) → length ks ≡ length ts → length (words_in form (pair_operands ks ts)) ≡ 2 * length ks
 pairs_length form [] [] e = refl
-pairs_length form [] (t ∷ ts) e = absurd (omega arith)
-pairs_length form (k ∷ ks) [] e = absurd (omega arith)
 pairs_length form (k ∷ ks) (t ∷ ts) e = let i = pairs_length form ks ts (omega arith) in omega arith
+pairs_length form _ _ e = absurd (omega arith)
 
 keys_say : (ks : List ℤ) (ts : List ℕ) → length ks ≡ length ts → map int_of (alternate (data_of (pair_operands ks ts))) ≡ ks
 unfolding alternate int_of
 keys_say [] [] e = refl
-keys_say [] (t ∷ ts) e = absurd (omega arith)
-keys_say (k ∷ ks) [] e = absurd (omega arith)
 keys_say (k ∷ ks) (t ∷ ts) e = ap (λ zs. k ∷ zs) (keys_say ks ts (omega arith))
+keys_say _ _ e = absurd (omega arith)
 
 next_alternate : (d : Datum) (ds : List Datum) → alternate (d ∷ ds) ≡ d ∷ alternate (drop 1 ds)
 unfolding alternate
@@ -102,9 +99,8 @@ next_alternate d (x ∷ ds) = refl
 pair_targets_say : (ks : List ℤ) (ts : List ℕ) → length ks ≡ length ts → map word_of (alternate (drop 1 (data_of (pair_operands ks ts)))) ≡ ts
 unfolding alternate word_of
 pair_targets_say [] [] e = refl
-pair_targets_say [] (t ∷ ts) e = absurd (omega arith)
-pair_targets_say (k ∷ ks) [] e = absurd (omega arith)
 pair_targets_say (k ∷ ks) (t ∷ ts) e = ap (map word_of) (next_alternate _ (data_of (pair_operands ks ts))) ∙ ap (λ ns. t ∷ ns) (pair_targets_say ks ts (omega arith))
+pair_targets_say _ _ e = absurd (omega arith)
 
 -- the row of a payload
 key_row_of : (k : Key) (ws : List Word) (r : Row) → Some k ≡ find_key payload_keys (key_text k) → Some r ≡ payload_row k ws → IsInsnRow (key_text k) ws r
@@ -225,9 +221,7 @@ mnemonic_free op = none_is (find_key lead_keys (mnemonic_of op)) (all_at (λ m. 
 pub insn_free : (i : Insn) → None ≡ find_key lead_keys (insn_word i)
 unfolding find_key same key_text
 insn_free (content.Packed first targets) = refl
-insn_free (content.Sparse keys targets) = refl
-insn_free (content.Data width bytes) = refl
-insn_free _ = mnemonic_free _
+insn_free _ = search (rules, mnemonic_free)
 
 pub insn_has_bare_shape : (i : Insn) → OpcodeFits i → FitOperands (insn_operands i)
     → HasBareShape (plain_word (insn_word i) ∷ words_in Two (insn_operands i)) (record { kind = insn_kind i; label = []; slots = slots_of (insn_operands i); words = words_in Two (insn_operands i) })

@@ -2,7 +2,7 @@
 use Rattle.std.proofs.Common.{◌≡◌, ℕ, suc, Bool, true, false, List, [], ◌∷◌, ◌++◌, Option, Some, None, option_map, refl, sym, ap, subst, ◌∙◌, append_assoc, add-one}
 use Rattle.std.proofs.lemmas.List.{append-nil}
 use Rattle.program_types.specs.Content as content
-use Rattle.program_types.specs.Content.{Value, Values, no_values, more_values, Name, OfText, OfDesc, OfField, OfMethod}
+use Rattle.program_types.specs.Content.{Value, Values, no_values, more_values, Name, OfText}
 use Rattle.listing_words.specs.Words.{Word, plain_word}
 use Rattle.listing_slots.specs.declared.key.Key.{Key}
 use Rattle.listing_slots.specs.declared.key.Key.TheVariants as key
@@ -131,24 +131,14 @@ truth_then false n rest = keyword_alone key.False n rest refl refl refl
 named_then : (which : Name) (n : ℕ) (rest : List Word) → value_slots (due.Value n) (words_of (named_operands which) ++ rest) ≡ after_slots (slots_of (named_operands which)) (value_slots (due_after n) rest)
 unfolding key_text find_key same
 named_then (OfText us) n rest = keyword_then key.Text slot.Text _ n rest refl refl refl
-named_then (OfDesc d) n rest = keyword_then key.Desc slot.Desc _ n rest refl refl refl
-named_then (OfField f) n rest = keyword_then key.Field slot.Field _ n rest refl refl refl
-named_then (OfMethod m) n rest = keyword_then key.Method slot.Method _ n rest refl refl refl
+named_then _ n rest = keyword_then _ _ _ n rest refl refl refl
 
 -- the words of a value have the slots of the value, and after them stands what follows
 mutual
   unfolding key_text find_key same
 
   pub value_then : (v : Value) (n : ℕ) (rest : List Word) → value_slots (due.Value n) (words_of (value_operands v) ++ rest) ≡ after_slots (slots_of (value_operands v)) (value_slots (due_after n) rest)
-  value_then (content.Byte z) n rest = keyword_then key.Byte slot.Tiny _ n rest refl refl refl
-  value_then (content.Short z) n rest = keyword_then key.Short slot.Short _ n rest refl refl refl
-  value_then (content.Char k) n rest = keyword_then key.Char _ _ n rest refl refl refl
-  value_then (content.Int z) n rest = keyword_then key.Int slot.Int _ n rest refl refl refl
-  value_then (content.Long z) n rest = keyword_then key.Long slot.Long _ n rest refl refl refl
-  value_then (content.Float k) n rest = keyword_then key.Float slot.Float _ n rest refl refl refl
-  value_then (content.Double k) n rest = keyword_then key.Double slot.Double _ n rest refl refl refl
   value_then (content.Named which) n rest = named_then which n rest
-  value_then (content.Enum f) n rest = keyword_then key.Enum slot.Enum _ n rest refl refl refl
   value_then (content.Array vs) n rest =
       let a = keyword key.Array ∷ keyword key.Open ∷ [] in
       let w : words_of (values_operands vs ++ (keyword key.Close ∷ [])) ++ rest ≡ words_of (values_operands vs) ++ (plain_word (key_text key.Close) ∷ rest) = ap (λ ws. ws ++ rest) (words_join (values_operands vs) (keyword key.Close ∷ [])) ∙ append_assoc (words_of (values_operands vs)) (plain_word (key_text key.Close) ∷ []) rest in
@@ -159,6 +149,7 @@ mutual
       ∙ ap (λ ss. after_slots (slots_of a ++ ss) (value_slots (due_after n) rest)) (sym (slots_join (values_operands vs) (keyword key.Close ∷ [])))
   value_then content.Null n rest = keyword_alone key.Null n rest refl refl refl
   value_then (content.Boolean b) n rest = truth_then b n rest
+  value_then _ n rest = keyword_then _ _ _ n rest refl refl refl
 
   pub values_then : (vs : Values) (n : ℕ) (rest : List Word) → value_slots (due.Value (suc n)) (words_of (values_operands vs) ++ rest) ≡ after_slots (slots_of (values_operands vs)) (value_slots (due.Value (suc n)) rest)
   values_then no_values n rest = sym (after_none (value_slots (due.Value (suc n)) rest))

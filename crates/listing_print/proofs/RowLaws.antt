@@ -1,5 +1,5 @@
 -- A printed line has its shape, and its slots say the line.
-use Rattle.std.proofs.Common.{◌≡◌, false, List, [], ◌∷◌, length, Some, None, refl, sym, ap, arith}
+use Rattle.std.proofs.Common.{◌≡◌, false, List, [], ◌∷◌, length, Some, None, refl, sym, ap, arith, rules}
 use Rattle.std.specs.Prelude.{nat_le}
 use Rattle.std.proofs.lemmas.Bool.{lt-leb}
 use Rattle.program_types.specs.Content.{Method}
@@ -25,10 +25,8 @@ past_three ws a b c d = lt-leb (length (a ∷ b ∷ c ∷ d ∷ ws)) 3 (omega ar
 
 row_of : (form : Form) (l : Line) → IsKeyedLine l → Some (line_kind l, slots_of (line_operands l)) ≡ key_row (line_key l) (words_in form (line_operands l))
 unfolding key_row same key_text
-row_of form (static_line m None) h = refl
 row_of form (static_line m (Some v)) h = rw (past_three (words_in form (value_operands v)) _ _ _ _, value_words form v, value_whole v) refl
-row_of form (insn_line i) h = absurd h
-row_of form _ h = refl
+row_of form _ h = search rules
 
 -- its words have its shape, in both forms
 pub keyed_has_shape : (form : Form) (l : Line) → IsKeyedLine l → FitOperands (line_operands l)
@@ -48,9 +46,7 @@ without_code m e = ap (λ c. record { name = m.name; proto = m.proto; flags = m.
 -- its slots say the line
 pub keyed_says_line : (l : Line) → IsKeyedLine l → line_of (line_kind l) (data_of (line_operands l)) ≡ l
 unfolding line_of byte_of half_of word_of tiny_of short_of int_of long_of elements_of name_of text_of type_of proto_of
-keyed_says_line (static_line m None) h = refl
 keyed_says_line (static_line m (Some v)) h = ap (λ x. static_line m (Some x)) (value_made v)
 keyed_says_line (direct_line m) h = ap direct_line (without_code m h)
 keyed_says_line (virtual_line m) h = ap virtual_line (without_code m h)
-keyed_says_line (insn_line i) h = absurd h
-keyed_says_line _ h = refl
+keyed_says_line _ h = search rules

@@ -71,11 +71,10 @@ pair_text form old before mid new ks ts i k t h l e f g =
 
 pub pairs_whole : (ks : List ℤ) (ts : List ℕ) (i : ℕ) → min (length ks) (length ts) ≤ i → pair_operands (take i ks) (take i ts) ≡ pair_operands ks ts
 pairs_whole [] ts zero h = refl
-pairs_whole [] ts (suc i) h = refl
 pairs_whole (a ∷ ks) [] zero h = refl
-pairs_whole (a ∷ ks) [] (suc i) h = refl
 pairs_whole (a ∷ ks) (b ∷ ts) zero h = absurd (omega arith)
 pairs_whole (a ∷ ks) (b ∷ ts) (suc i) h = ap (λ os. operand slot.Int (int a) ∷ to b ∷ os) (pairs_whole ks ts i (omega arith))
+pairs_whole _ _ _ h = refl
 
 -- ---- values
 

@@ -141,6 +141,11 @@ place_is_rank (j ∷ table) names (n ∷ numbers) zero number k all lt is at =
     ap Some (one_name names number j k (subst (λ (m : ℕ). IsAt names m j) is all.0) at)
 place_is_rank (j ∷ table) names (n ∷ numbers) (suc place) number k all lt is at = place_is_rank table names numbers place number k all.1 (omega (arith, lt)) is at
 
+-- and so where its row does
+pub row_is_rank : {N R : Type 0} (table names : List Key) (rows : List (R × N × ℕ)) (place number : ℕ) (row : R × N × ℕ) (k : Key) → RanksOf table names (map (λ r. r.2) rows) → place < length rows → (get_or rows place row).2 ≡ number → IsAt names number k → IsAt table place k
+row_is_rank table names rows place number row k all lt is at =
+    place_is_rank table names (map (λ r. r.2) rows) place number k all (rw length-map lt) (get_or-map (λ r. r.2) rows place row 0 lt ∙ is) at
+
 -- ---- the ranks of each kind
 
 pub text_ranks : (strings : List Key) → Rising strings → (j k : Key) (p q : TypeParts) → TypeAt strings j p → TypeAt strings k q → RanksDecide (nat_cmp p.text q.text) (key_cmp j k)

@@ -7,7 +7,7 @@ ghost use Rattle.tables_names.specs.Rank.{Rising, is_member, LookUpAnswers, IsAt
 ghost use Rattle.tables_names.specs.Numbers.{set_of, with_last, RanksOf};
 
 use crate::row::Row;
-use crate::sorting::{Numbers, numbers_of, parts_of, put_all, with_ranks};
+use crate::sorting::put_all;
 use indexmap::IndexSet;
 use std::alloc::{AllocError, Global};
 use std::marker::Model;
@@ -106,34 +106,19 @@ impl<N: Row, P: Copy> Made<N, P> {
         self.parts.push(parts)?;
         Ok(number)
     }
-}
 
-/// The names with their ranks, sorted by the ranks of their parts, and by themselves where these tie; the ranks of the parts of
-/// each; and its number.
-pub(crate) fn ranked_by<T, P: Numbers<T>, N: Row>(
-    alloc: Global,
-    made: Made<N, P>,
-    sorted: &T,
-) -> Result<(Table<N, P>, Vec<usize>), AllocError>
-    requires parts { AllZip (λ k p. P.within sorted.now p × P.has sorted.now k (P.ranked sorted.now p)) made.names made.parts.items }
-    requires leads { (j k : Key) (p q : P) → P.has sorted.now j p → P.has sorted.now k q → RanksDecide (P.cmp p q) (key_cmp j k) }
-    ensures same { IfOk result (λ r. r.0.names ≡ set_of made.names) }
-    ensures rows { IfOk result (λ r. AllZip (P.has sorted.now) r.0.names r.0.parts.items) }
-    ensures numbers { IfOk result (λ r. RanksOf r.0.names made.names r.1.items) }
-{
-    let Made { names, parts } = made;
-    let mut rows = with_ranks(alloc, names.in_order(), &parts, sorted)?;
-    rows.sort_unstable();
-    let parts = parts_of(alloc, &rows)?;
-    let numbers = numbers_of(alloc, &rows)?;
-    let Held { mut items } = names;
-    items.clear();
-    put_all(&mut items, &rows)?;
-    let table = Table {
-        names: Ranked { items },
-        parts,
-    };
-    Ok((table, numbers))
+    /// The names of these rows with their ranks, in the place of its own.
+    pub(crate) fn replaced<R: Copy>(self, rows: &[(R, N, usize)]) -> Result<Ranked<N>, AllocError>
+        requires distinct { IsDistinct N.eq (map (λ r. r.1) rows.now) }
+        requires rising { Rising (map N.key (map (λ r. r.1) rows.now)) }
+        ensures { IfOk result (λ r. r ≡ map N.key (map (λ r. r.1) rows.now)) }
+    {
+        let Made { names, parts: _ } = self;
+        let Held { mut items } = names;
+        items.clear();
+        put_all(&mut items, rows)?;
+        Ok(Ranked { items })
+    }
 }
 
 /// A set of names that stays, and beside each the ranks of its parts.

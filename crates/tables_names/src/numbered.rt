@@ -302,36 +302,35 @@ impl<'a> Numbered<'a> {
             fields,
             methods,
         } = self;
-        let (parts, types, protos) = ranked_parts(alloc, strings, types, protos)?;
+        let parts = ranked_parts(alloc, strings, types, protos)?;
         let members = ranked_members(alloc, &parts, fields, methods)?;
-        Ok(Ranks::from_sorted(parts, types, protos, members))
+        Ok(Ranks::from_sorted(parts, members))
     }
 }
 
-// Three kinds with their ranks, and the ranks of the parts of two.
+// Three kinds with their ranks.
 fn ranked_parts<'a>(
     alloc: Global,
     strings: Held<Str<'a>>,
     types: Made<Desc<'a>, TypeParts>,
     protos: Made<Proto<'a>, ProtoParts>,
-) -> Result<(Parts<'a>, Vec<TypeParts>, Vec<ProtoParts>), AllocError>
+) -> Result<Parts<'a>, AllocError>
     requires types { AllZip (TypeAt strings) types.names types.parts.items }
     requires protos { AllZip (ProtoAt types.names) protos.names protos.parts.items }
-    ensures names { IfOk result (λ r. (r.0.strings.names ≡ set_of strings.entry) × (r.0.types.names ≡ set_of types.entry.names) × (r.0.protos.names ≡ set_of protos.entry.names)) }
-    ensures ranks { IfOk result (λ r. RanksOf strings.entry r.0.strings.names r.0.strings.ranks.items × RanksOf types.entry.names r.0.types.names r.0.types.ranks.items × RanksOf protos.entry.names r.0.protos.names r.0.protos.ranks.items) }
-    ensures rows { IfOk result (λ r. AllZip (TypeAt r.0.strings.names) r.0.types.names r.1.items × AllZip (ProtoAt r.0.types.names) r.0.protos.names r.2.items) }
+    ensures names { IfOk result (λ r. (r.strings.names ≡ set_of strings.entry) × (r.types.table.names ≡ set_of types.entry.names) × (r.protos.table.names ≡ set_of protos.entry.names)) }
+    ensures ranks { IfOk result (λ r. RanksOf strings.entry r.strings.names r.strings.ranks.items × RanksOf types.entry.names r.types.table.names r.types.ranks.items × RanksOf protos.entry.names r.protos.table.names r.protos.ranks.items) }
+    ensures rows { IfOk result (λ r. AllZip (TypeAt r.strings.names) r.types.table.names r.types.table.parts.items × AllZip (ProtoAt r.types.table.names) r.protos.table.names r.protos.table.parts.items) }
 {
     let strings = sorted_strings(alloc, strings)?;
     strings.names.rises();
-    let (types, type_rows) = sorted_by(alloc, types, &strings)?;
-    types.names.rises();
-    let (protos, proto_rows) = sorted_by(alloc, protos, &types)?;
-    let parts = Parts {
+    let types = sorted_by(alloc, types, &strings)?;
+    types.table.names.rises();
+    let protos = sorted_by(alloc, protos, &types)?;
+    Ok(Parts {
         strings,
         types,
         protos,
-    };
-    Ok((parts, type_rows, proto_rows))
+    })
 }
 
 // Two kinds with their ranks.
@@ -341,21 +340,16 @@ fn ranked_members<'a>(
     fields: Made<FieldRef<'a>, FieldParts>,
     methods: Made<MethodRef<'a>, MethodParts>,
 ) -> Result<Members<'a>, AllocError>
-    requires fields { AllZip (FieldLeads parts.now.types.names parts.now.types.ranks.items parts.now.strings.names parts.now.strings.ranks.items) fields.names fields.parts.items }
-    requires methods { AllZip (MethodLeads parts.now.types.names parts.now.types.ranks.items parts.now.strings.names parts.now.strings.ranks.items parts.now.protos.names parts.now.protos.ranks.items) methods.names methods.parts.items }
-    ensures names { IfOk result (λ r. (r.fields.names ≡ set_of fields.entry.names) × (r.methods.names ≡ set_of methods.entry.names)) }
-    ensures ranks { IfOk result (λ r. RanksOf fields.entry.names r.fields.names r.fields.ranks.items × RanksOf methods.entry.names r.methods.names r.methods.ranks.items) }
-    ensures rows { IfOk result (λ r. AllZip (FieldAt parts.now.types.names parts.now.strings.names) r.fields.names r.field_rows.items × AllZip (MethodAt parts.now.types.names parts.now.strings.names parts.now.protos.names) r.methods.names r.method_rows.items) }
+    requires fields { AllZip (FieldLeads parts.now.types.table.names parts.now.types.ranks.items parts.now.strings.names parts.now.strings.ranks.items) fields.names fields.parts.items }
+    requires methods { AllZip (MethodLeads parts.now.types.table.names parts.now.types.ranks.items parts.now.strings.names parts.now.strings.ranks.items parts.now.protos.table.names parts.now.protos.ranks.items) methods.names methods.parts.items }
+    ensures names { IfOk result (λ r. (r.fields.table.names ≡ set_of fields.entry.names) × (r.methods.table.names ≡ set_of methods.entry.names)) }
+    ensures ranks { IfOk result (λ r. RanksOf fields.entry.names r.fields.table.names r.fields.ranks.items × RanksOf methods.entry.names r.methods.table.names r.methods.ranks.items) }
+    ensures rows { IfOk result (λ r. AllZip (FieldAt parts.now.types.table.names parts.now.strings.names) r.fields.table.names r.fields.table.parts.items × AllZip (MethodAt parts.now.types.table.names parts.now.strings.names parts.now.protos.table.names) r.methods.table.names r.methods.table.parts.items) }
 {
     parts.strings.names.rises();
-    parts.types.names.rises();
-    parts.protos.names.rises();
-    let (fields, field_rows) = sorted_by(alloc, fields, parts)?;
-    let (methods, method_rows) = sorted_by(alloc, methods, parts)?;
-    Ok(Members {
-        fields,
-        field_rows,
-        methods,
-        method_rows,
-    })
+    parts.types.table.names.rises();
+    parts.protos.table.names.rises();
+    let fields = sorted_by(alloc, fields, parts)?;
+    let methods = sorted_by(alloc, methods, parts)?;
+    Ok(Members { fields, methods })
 }

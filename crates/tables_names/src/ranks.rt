@@ -50,61 +50,35 @@ impl<'a> Model for Ranks<'a> {
 
 impl<'a> Ranks<'a> {
     // Five sets that hold each name's parts, with the ranks of these; and of each name, by its number, the rank.
-    pub(crate) fn from_sorted(
-        parts: Parts<'a>,
-        types: Vec<TypeParts>,
-        protos: Vec<ProtoParts>,
-        members: Members<'a>,
-    ) -> (Self, RankOf)
+    pub(crate) fn from_sorted(parts: Parts<'a>, members: Members<'a>) -> (Self, RankOf)
         requires { IsTables record {
-          names = record { strings = parts.strings.names; types = parts.types.names; protos = parts.protos.names; fields = members.fields.names; methods = members.methods.names };
-          types = types.items;
-          protos = protos.items;
-          fields = members.field_rows.items;
-          methods = members.method_rows.items;
+          names = record { strings = parts.strings.names; types = parts.types.table.names; protos = parts.protos.table.names; fields = members.fields.table.names; methods = members.methods.table.names };
+          types = parts.types.table.parts.items;
+          protos = parts.protos.table.parts.items;
+          fields = members.fields.table.parts.items;
+          methods = members.methods.table.parts.items;
         } }
-        ensures names { result.0 ≡ record { strings = parts.entry.strings.names; types = parts.entry.types.names; protos = parts.entry.protos.names; fields = members.entry.fields.names; methods = members.entry.methods.names } }
+        ensures names { result.0 ≡ record { strings = parts.entry.strings.names; types = parts.entry.types.table.names; protos = parts.entry.protos.table.names; fields = members.entry.fields.table.names; methods = members.entry.methods.table.names } }
         ensures ranks { result.1 ≡ record { strings = parts.entry.strings.ranks; types = parts.entry.types.ranks; fields = members.entry.fields.ranks; methods = members.entry.methods.ranks } }
     {
         let Parts {
             strings,
-            types: sorted_types,
-            protos: sorted_protos,
+            types,
+            protos,
         } = parts;
-        let Members {
-            fields: sorted_fields,
-            field_rows,
-            methods: sorted_methods,
-            method_rows,
-        } = members;
-        let (strings, string_ranks) = strings.apart();
-        let (type_names, type_ranks) = sorted_types.apart();
-        let (field_names, field_ranks) = sorted_fields.apart();
-        let (method_names, method_ranks) = sorted_methods.apart();
+        let Members { fields, methods } = members;
         let ranks = Ranks {
-            strings,
-            types: Table {
-                names: type_names,
-                parts: types,
-            },
-            protos: Table {
-                names: sorted_protos.names,
-                parts: protos,
-            },
-            fields: Table {
-                names: field_names,
-                parts: field_rows,
-            },
-            methods: Table {
-                names: method_names,
-                parts: method_rows,
-            },
+            strings: strings.names,
+            types: types.table,
+            protos: protos.table,
+            fields: fields.table,
+            methods: methods.table,
         };
         let rank_of = RankOf {
-            strings: string_ranks,
-            types: type_ranks,
-            fields: field_ranks,
-            methods: method_ranks,
+            strings: strings.ranks,
+            types: types.ranks,
+            fields: fields.ranks,
+            methods: methods.ranks,
         };
         (ranks, rank_of)
     }

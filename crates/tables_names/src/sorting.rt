@@ -7,10 +7,10 @@
 ghost use Rattle.std.specs.Prelude.{◌≡◌, ◌<◌, [], All, IfOk, OnOk, length, map, slice_index};
 ghost use Rattle.std.specs.List.{AllZip, IsDistinct};
 ghost use Rattle.program_types.specs.Key.{Key, key_cmp};
-ghost use Rattle.tables_names.specs.Rank.{IsAt, RanksDecide};
+ghost use Rattle.tables_names.specs.Rank.{IsAt, RanksDecide, Rising};
 ghost use Rattle.tables_names.specs.Numbers.{set_of, TypeAt, ProtoAt, FieldAt, MethodAt, RanksOf, FieldWithin, MethodWithin, field_ranks, method_ranks};
 
-use crate::held::{Held, Made, Ranked, Table, ranked_by};
+use crate::held::{Held, Made, Ranked, Table};
 use crate::parts::{FieldParts, MethodParts, ProtoParts, TypeParts};
 use crate::row::Row;
 use indexmap::IndexSet;
@@ -34,49 +34,43 @@ pub(crate) trait Numbers<T>: Copy + Ord {
         ensures { result ≡ ranked sorted.now self.now };
 }
 
-/// A kind, sorted: the names with their ranks, and of each number the rank.
+/// Strings, sorted: each with its rank, and of each number the rank.
 #[derive(Drop)]
-pub(crate) struct Sorted<N: Row> {
-    pub(crate) names: Ranked<N>,
+pub(crate) struct Texts<'a> {
+    pub(crate) names: Ranked<Str<'a>>,
     pub(crate) ranks: Vec<usize>,
 }
 
-impl<N: Row> Sorted<N> {
-    /// The names, and the ranks.
-    pub(crate) fn apart(self) -> (Ranked<N>, Vec<usize>)
-        ensures names { result.0 ≡ self.names }
-        ensures ranks { result.1 ≡ self.ranks }
-    {
-        let Sorted { names, ranks } = self;
-        (names, ranks)
-    }
+/// Another kind, sorted: each name with its rank and the ranks of its parts, and of each number the rank.
+#[derive(Drop)]
+pub(crate) struct Sorted<N: Row, P: Copy> {
+    pub(crate) table: Table<N, P>,
+    pub(crate) ranks: Vec<usize>,
 }
 
-/// Fields and methods, sorted, and the ranks of the parts of each.
+/// Fields and methods, sorted.
 #[derive(Drop)]
 pub(crate) struct Members<'a> {
-    pub(crate) fields: Sorted<FieldRef<'a>>,
-    pub(crate) field_rows: Vec<FieldParts>,
-    pub(crate) methods: Sorted<MethodRef<'a>>,
-    pub(crate) method_rows: Vec<MethodParts>,
+    pub(crate) fields: Sorted<FieldRef<'a>, FieldParts>,
+    pub(crate) methods: Sorted<MethodRef<'a>, MethodParts>,
 }
 
-/// What fields and methods are made of.
+/// What fields and methods are made of, sorted.
 #[derive(Drop)]
 pub(crate) struct Parts<'a> {
-    pub(crate) strings: Sorted<Str<'a>>,
-    pub(crate) types: Sorted<Desc<'a>>,
-    pub(crate) protos: Sorted<Proto<'a>>,
+    pub(crate) strings: Texts<'a>,
+    pub(crate) types: Sorted<Desc<'a>, TypeParts>,
+    pub(crate) protos: Sorted<Proto<'a>, ProtoParts>,
 }
 
-impl<'a> Numbers<Sorted<Str<'a>>> for TypeParts {
+impl<'a> Numbers<Texts<'a>> for TypeParts {
     ghost has = { λ t k p. TypeAt t.names k p };
 
     ghost within = { λ t p. p.text < length t.ranks.items };
 
     ghost ranked = { λ t p. record { text = slice_index t.ranks.items p.text } };
 
-    fn ranks(&self, strings: &Sorted<Str<'a>>) -> Self {
+    fn ranks(&self, strings: &Texts<'a>) -> Self {
         TypeParts {
             text: strings.ranks[self.text],
         }
@@ -84,14 +78,14 @@ impl<'a> Numbers<Sorted<Str<'a>>> for TypeParts {
 }
 
 // Parameters are compared themselves, where return types tie.
-impl<'a> Numbers<Sorted<Desc<'a>>> for ProtoParts {
-    ghost has = { λ t k p. ProtoAt t.names k p };
+impl<'a> Numbers<Sorted<Desc<'a>, TypeParts>> for ProtoParts {
+    ghost has = { λ t k p. ProtoAt t.table.names k p };
 
     ghost within = { λ t p. p.ret < length t.ranks.items };
 
     ghost ranked = { λ t p. record { ret = slice_index t.ranks.items p.ret } };
 
-    fn ranks(&self, types: &Sorted<Desc<'a>>) -> Self {
+    fn ranks(&self, types: &Sorted<Desc<'a>, TypeParts>) -> Self {
         ProtoParts {
             ret: types.ranks[self.ret],
         }
@@ -99,7 +93,7 @@ impl<'a> Numbers<Sorted<Desc<'a>>> for ProtoParts {
 }
 
 impl<'a> Numbers<Parts<'a>> for FieldParts {
-    ghost has = { λ t k p. FieldAt t.types.names t.strings.names k p };
+    ghost has = { λ t k p. FieldAt t.types.table.names t.strings.names k p };
 
     ghost within = { λ t p. FieldWithin t.types.ranks.items t.strings.ranks.items p };
 
@@ -115,7 +109,7 @@ impl<'a> Numbers<Parts<'a>> for FieldParts {
 }
 
 impl<'a> Numbers<Parts<'a>> for MethodParts {
-    ghost has = { λ t k p. MethodAt t.types.names t.strings.names t.protos.names k p };
+    ghost has = { λ t k p. MethodAt t.types.table.names t.strings.names t.protos.table.names k p };
 
     ghost within = { λ t p. MethodWithin t.types.ranks.items t.strings.ranks.items t.protos.ranks.items p };
 
@@ -130,8 +124,8 @@ impl<'a> Numbers<Parts<'a>> for MethodParts {
     }
 }
 
-/// The names, each after the ranks of its parts and before its number.
-pub(crate) fn with_ranks<T, P: Numbers<T>, N: Row>(
+// The names, each after the ranks of its parts and before its number.
+fn with_ranks<T, P: Numbers<T>, N: Row>(
     alloc: Global,
     names: &[N],
     parts: &[P],
@@ -149,11 +143,28 @@ pub(crate) fn with_ranks<T, P: Numbers<T>, N: Row>(
     Ok(rows)
 }
 
-/// The ranks of the parts of each name.
-pub(crate) fn parts_of<N: Copy, P: Copy>(
+// The names of a kind, sorted by the ranks of their parts, and by themselves where these tie; each after these ranks and before
+// its number.
+fn sorted_rows<T, P: Numbers<T>, N: Row>(
     alloc: Global,
-    rows: &[(P, N, usize)],
-) -> Result<Vec<P>, AllocError>
+    made: &Made<N, P>,
+    sorted: &T,
+) -> Result<Vec<(P, N, usize)>, AllocError>
+    requires parts { AllZip (λ k p. P.within sorted.now p × P.has sorted.now k (P.ranked sorted.now p)) made.now.names made.now.parts.items }
+    requires leads { (j k : Key) (p q : P) → P.has sorted.now j p → P.has sorted.now k q → RanksDecide (P.cmp p q) (key_cmp j k) }
+    ensures distinct { IfOk result (λ rows. IsDistinct N.eq (map (λ r. r.1) rows.items)) }
+    ensures rising { IfOk result (λ rows. Rising (map N.key (map (λ r. r.1) rows.items))) }
+    ensures same { IfOk result (λ rows. map N.key (map (λ r. r.1) rows.items) ≡ set_of made.now.names) }
+    ensures parts { IfOk result (λ rows. AllZip (P.has sorted.now) (map N.key (map (λ r. r.1) rows.items)) (map (λ r. r.0) rows.items)) }
+    ensures numbers { IfOk result (λ rows. RanksOf (map N.key (map (λ r. r.1) rows.items)) made.now.names (map (λ r. r.2) rows.items)) }
+{
+    let mut rows = with_ranks(alloc, made.names.in_order(), &made.parts, sorted)?;
+    rows.sort_unstable();
+    Ok(rows)
+}
+
+// The ranks of the parts of each name.
+fn parts_of<N: Copy, P: Copy>(alloc: Global, rows: &[(P, N, usize)]) -> Result<Vec<P>, AllocError>
     ensures { IfOk result (λ parts. parts.items ≡ map (λ r. r.0) rows.now) }
 {
     let mut parts = Vec::with_capacity(alloc, rows.len())?;
@@ -161,20 +172,6 @@ pub(crate) fn parts_of<N: Copy, P: Copy>(
         parts.push(row.0)?;
     }
     Ok(parts)
-}
-
-/// The number of each name.
-pub(crate) fn numbers_of<N: Copy, P: Copy>(
-    alloc: Global,
-    rows: &[(P, N, usize)],
-) -> Result<Vec<usize>, AllocError>
-    ensures { IfOk result (λ numbers. numbers.items ≡ map (λ r. r.2) rows.now) }
-{
-    let mut numbers = Vec::with_capacity(alloc, rows.len())?;
-    for row in rows {
-        numbers.push(row.2)?;
-    }
-    Ok(numbers)
 }
 
 /// Puts names into a set that has none, in their order.
@@ -219,95 +216,127 @@ pub(crate) fn at(numbers: &[usize], place: usize) -> usize
     }
 }
 
-// Of each number the place where it stands, as far as it goes: for the numbers from 0 on, in any order, it is so.
-fn places_of(alloc: Global, numbers: &[usize]) -> Result<Vec<usize>, AllocError> {
+// Of each number the place of its row, as far as it goes: for the numbers from 0 on, in any order, it is so.
+fn places_of<N: Copy, P: Copy>(
+    alloc: Global,
+    rows: &[(P, N, usize)],
+) -> Result<Vec<usize>, AllocError> {
     let mut places = Vec::new(alloc);
-    places.resize(numbers.len(), 0)?;
-    for (place, number) in numbers.iter().enumerate() {
-        if *number < places.len() {
-            places[*number] = place;
+    places.resize(rows.len(), 0)?;
+    for (place, row) in rows.iter().enumerate() {
+        if row.2 < places.len() {
+            places[row.2] = place;
         }
     }
     Ok(places)
 }
 
-// The rank of the name with this number: the place, if its number stands there. No name is looked up then.
-fn rank_at<N: Row>(
+// The rank of the name with this number: the place, if its row stands there. No name is looked up then.
+fn rank_at<N: Row, P: Copy>(
     ranked: &Ranked<N>,
-    numbers: &[usize],
+    rows: &[(P, N, usize)],
     names: &[N],
     number: usize,
     place: usize,
 ) -> usize
     requires inside { number < length names.now }
     requires same { ranked.now ≡ set_of (map N.key names.now) }
-    requires numbers { RanksOf ranked.now (map N.key names.now) numbers.now }
+    requires numbers { RanksOf ranked.now (map N.key names.now) (map (λ r. r.2) rows.now) }
     ensures { (k : Key) → IsAt (map N.key names.now) number k → IsAt ranked.now result k }
 {
-    if place < numbers.len() && numbers[place] == number {
+    if place < rows.len() && rows[place].2 == number {
         return place;
     }
     ranked.rank_of(&names[number])
 }
 
-// Of each name, by its number, the rank, where the numbers stand in the order of the ranks.
-fn ranks_by<N: Row>(
+// Of each name, by its number, the rank, where the rows stand in the order of the ranks.
+fn ranks_by<N: Row, P: Copy>(
     alloc: Global,
     names: &[N],
     ranked: &Ranked<N>,
-    numbers: &[usize],
+    rows: &[(P, N, usize)],
 ) -> Result<Vec<usize>, AllocError>
     requires same { ranked.now ≡ set_of (map N.key names.now) }
-    requires numbers { RanksOf ranked.now (map N.key names.now) numbers.now }
+    requires numbers { RanksOf ranked.now (map N.key names.now) (map (λ r. r.2) rows.now) }
     ensures { IfOk result (λ ranks. RanksOf (map N.key names.now) ranked.now ranks.items) }
 {
-    let places = places_of(alloc, numbers)?;
+    let places = places_of(alloc, rows)?;
     let mut ranks = Vec::with_capacity(alloc, names.len())?;
     for (i, _) in names.iter().enumerate() {
-        ranks.push(rank_at(ranked, numbers, names, i, at(&places, i)))?;
+        ranks.push(rank_at(ranked, rows, names, i, at(&places, i)))?;
     }
     Ok(ranks)
+}
+
+// Names with their ranks, beside each the ranks of its parts, as the rows have them; and of each name, by its number, the rank.
+fn with_columns<N: Row, P: Copy>(
+    alloc: Global,
+    names: &[N],
+    ranked: Ranked<N>,
+    rows: &[(P, N, usize)],
+) -> Result<Sorted<N, P>, AllocError>
+    requires same { ranked ≡ set_of (map N.key names.now) }
+    requires numbers { RanksOf ranked (map N.key names.now) (map (λ r. r.2) rows.now) }
+    ensures table { IfOk result (λ r. (r.table.names ≡ ranked) × (r.table.parts.items ≡ map (λ r. r.0) rows.now)) }
+    ensures ranks { IfOk result (λ r. RanksOf (map N.key names.now) r.table.names r.ranks.items) }
+{
+    let parts = parts_of(alloc, rows)?;
+    let ranks = ranks_by(alloc, names, &ranked, rows)?;
+    let table = Table {
+        names: ranked,
+        parts,
+    };
+    Ok(Sorted { table, ranks })
+}
+
+// A kind in the order of these rows, which are its own and rise.
+fn in_order_of<N: Row, P: Copy>(
+    alloc: Global,
+    made: Made<N, P>,
+    rows: &[(P, N, usize)],
+) -> Result<Sorted<N, P>, AllocError>
+    requires distinct { IsDistinct N.eq (map (λ r. r.1) rows.now) }
+    requires rising { Rising (map N.key (map (λ r. r.1) rows.now)) }
+    requires same { map N.key (map (λ r. r.1) rows.now) ≡ set_of made.names }
+    requires numbers { RanksOf (map N.key (map (λ r. r.1) rows.now)) made.names (map (λ r. r.2) rows.now) }
+    ensures table { IfOk result (λ r. (r.table.names ≡ map N.key (map (λ r. r.1) rows.now)) × (r.table.parts.items ≡ map (λ r. r.0) rows.now)) }
+    ensures ranks { IfOk result (λ r. RanksOf made.names r.table.names r.ranks.items) }
+{
+    let names = Vec::from_slice(alloc, made.names.in_order())?;
+    let ranked = made.replaced(rows)?;
+    with_columns(alloc, &names, ranked, rows)
 }
 
 /// Strings, sorted by content.
 pub(crate) fn sorted_strings<'a>(
     alloc: Global,
     held: Held<Str<'a>>,
-) -> Result<Sorted<Str<'a>>, AllocError>
+) -> Result<Texts<'a>, AllocError>
     ensures same { IfOk result (λ r. r.names ≡ set_of held.entry) }
     ensures ranks { IfOk result (λ r. RanksOf held.entry r.names r.ranks.items) }
 {
     let names = Vec::from_slice(alloc, held.in_order())?;
     let ranked = held.ranked()?;
     let ranks = ranks_of(alloc, &names, &ranked)?;
-    Ok(Sorted {
+    Ok(Texts {
         names: ranked,
         ranks,
     })
 }
 
-/// A kind, sorted by the ranks of its own parts, and the ranks of these.
+/// A kind, sorted by the ranks of its parts.
 pub(crate) fn sorted_by<T, P: Numbers<T>, N: Row>(
     alloc: Global,
     made: Made<N, P>,
     sorted: &T,
-) -> Result<(Sorted<N>, Vec<P>), AllocError>
+) -> Result<Sorted<N, P>, AllocError>
     requires parts { AllZip (λ k p. P.within sorted.now p × P.has sorted.now k (P.ranked sorted.now p)) made.names made.parts.items }
     requires leads { (j k : Key) (p q : P) → P.has sorted.now j p → P.has sorted.now k q → RanksDecide (P.cmp p q) (key_cmp j k) }
-    ensures same { IfOk result (λ r. r.0.names ≡ set_of made.names) }
-    ensures ranks { IfOk result (λ r. RanksOf made.names r.0.names r.0.ranks.items) }
-    ensures rows { IfOk result (λ r. AllZip (P.has sorted.now) r.0.names r.1.items) }
+    ensures same { IfOk result (λ r. r.table.names ≡ set_of made.names) }
+    ensures ranks { IfOk result (λ r. RanksOf made.names r.table.names r.ranks.items) }
+    ensures rows { IfOk result (λ r. AllZip (P.has sorted.now) r.table.names r.table.parts.items) }
 {
-    let names = Vec::from_slice(alloc, made.names.in_order())?;
-    let (table, numbers) = ranked_by(alloc, made, sorted)?;
-    let Table {
-        names: ranked,
-        parts,
-    } = table;
-    let ranks = ranks_by(alloc, &names, &ranked, &numbers)?;
-    let sorted = Sorted {
-        names: ranked,
-        ranks,
-    };
-    Ok((sorted, parts))
+    let rows = sorted_rows(alloc, &made, sorted)?;
+    in_order_of(alloc, made, &rows)
 }

@@ -6,7 +6,7 @@ use Rattle.program_types.specs.View as view
 use Rattle.file_sections.specs.Codes.{is_bodiless}
 use Rattle.file_sections.proofs.SitedLaws.{room_of_sited}
 use Rattle.file_assemble.specs.Assembled.{Places, rows_of}
-use Rattle.file_assemble.proofs.DataLaws.{laid, longer}
+use Rattle.file_assemble.proofs.DataLaws.{laid, next}
 use Rattle.file_assemble.proofs.FitsLaws.{after, few_of, room_of}
 use Rattle.file_assemble.proofs.OnceLaws.{datas_shared}
 use Rattle.file_assemble.proofs.ReadyLaws.{class_can}
@@ -15,18 +15,16 @@ use Rattle.base_bytes.proofs.ListFacts.{zip_length}
 
 pub overflow_cast-tables : goal.overflow_cast-tables
 overflow_cast-tables c =
-    let n = after c.args.ranks.now (view.program c.args.program.now) c.args.counts _ c.requires.needed c.requires.fits c.requires.counts c.requires.front in
-    omega (arith, n.small, c.len-tables.ensures, c.args.out.now.ok.0)
+    let r = (after c.requires.needed c.requires.fits c.requires.counts c.requires.front).small in
+    omega (arith, r, c.len-tables.ensures, c.args.out.now.ok.0)
 
 pub put_lists-requires-clause-front : goal.put_lists-requires-clause-front
-put_lists-requires-clause-front c =
-    let n = after c.args.ranks.now (view.program c.args.program.now) c.args.counts _ c.requires.needed c.requires.fits c.requires.counts c.requires.front in
-    n.some
+put_lists-requires-clause-front c = (after c.requires.needed c.requires.fits c.requires.counts c.requires.front).some
 
 pub put_lists-requires-clause-room : goal.put_lists-requires-clause-room
 put_lists-requires-clause-room c =
-    let n = after c.args.ranks.now (view.program c.args.program.now) c.args.counts _ c.requires.needed c.requires.fits c.requires.counts c.requires.front in
-    omega (arith, n.small)
+    let r = (after c.requires.needed c.requires.fits c.requires.counts c.requires.front).small in
+    omega (arith, r)
 
 pub put_lists-requires-clause-few : goal.put_lists-requires-clause-few
 put_lists-requires-clause-few c =
@@ -34,19 +32,16 @@ put_lists-requires-clause-few c =
 
 pub overflow_cast-lists_end : goal.overflow_cast-lists_end
 overflow_cast-lists_end c =
-    let n = after c.args.ranks.now (view.program c.args.program.now) c.args.counts _ c.requires.needed c.requires.fits c.requires.counts c.requires.front in
-    omega (arith, n.small, c.in_ok-lists.ensures.ok.bound, c.len-lists_end.ensures, c.put_lists.new.out.ok.0)
+    let r = (next (after c.requires.needed c.requires.fits c.requires.counts c.requires.front) c.in_ok-lists.ensures.ok).small in
+    omega (arith, r, c.len-lists_end.ensures, c.put_lists.new.out.ok.0)
 
 pub put_codes-requires-clause-front : goal.put_codes-requires-clause-front
-put_codes-requires-clause-front c =
-    let n = after c.args.ranks.now (view.program c.args.program.now) c.args.counts _ c.requires.needed c.requires.fits c.requires.counts c.requires.front in
-    let g0 = longer _ _ c.in_ok-lists.ensures.ok.grown in
-    omega (arith, n.some, g0)
+put_codes-requires-clause-front c = (next (after c.requires.needed c.requires.fits c.requires.counts c.requires.front) c.in_ok-lists.ensures.ok).some
 
 pub put_codes-requires-clause-room : goal.put_codes-requires-clause-room
 put_codes-requires-clause-room c =
-    let n = after c.args.ranks.now (view.program c.args.program.now) c.args.counts _ c.requires.needed c.requires.fits c.requires.counts c.requires.front in
-    omega (arith, n.small, c.in_ok-lists.ensures.ok.bound)
+    let r = (next (after c.requires.needed c.requires.fits c.requires.counts c.requires.front) c.in_ok-lists.ensures.ok).small in
+    omega (arith, r)
 
 pub put_codes-requires-clause-can : goal.put_codes-requires-clause-can
 put_codes-requires-clause-can c =
@@ -54,38 +49,29 @@ put_codes-requires-clause-can c =
 
 pub overflow_cast-codes_end : goal.overflow_cast-codes_end
 overflow_cast-codes_end c =
-    let n = after c.args.ranks.now (view.program c.args.program.now) c.args.counts _ c.requires.needed c.requires.fits c.requires.counts c.requires.front in
-    omega (arith, n.small, c.in_ok-lists.ensures.ok.bound, c.in_ok-codes.ensures.ok.bound, c.len-codes_end.ensures, c.put_codes.new.out.ok.0)
+    let r = (next (next (after c.requires.needed c.requires.fits c.requires.counts c.requires.front) c.in_ok-lists.ensures.ok) c.in_ok-codes.ensures.ok).small in
+    omega (arith, r, c.len-codes_end.ensures, c.put_codes.new.out.ok.0)
 
 pub put_strings-requires-clause-front : goal.put_strings-requires-clause-front
-put_strings-requires-clause-front c =
-    let n = after c.args.ranks.now (view.program c.args.program.now) c.args.counts _ c.requires.needed c.requires.fits c.requires.counts c.requires.front in
-    let g0 = longer _ _ c.in_ok-lists.ensures.ok.grown in
-    let g1 = longer _ _ c.in_ok-codes.ensures.ok.grown in
-    omega (arith, n.some, g0, g1)
+put_strings-requires-clause-front c = (next (next (after c.requires.needed c.requires.fits c.requires.counts c.requires.front) c.in_ok-lists.ensures.ok) c.in_ok-codes.ensures.ok).some
 
 pub put_strings-requires-clause-room : goal.put_strings-requires-clause-room
 put_strings-requires-clause-room c =
-    let n = after c.args.ranks.now (view.program c.args.program.now) c.args.counts _ c.requires.needed c.requires.fits c.requires.counts c.requires.front in
-    omega (arith, n.small, c.in_ok-lists.ensures.ok.bound, c.in_ok-codes.ensures.ok.bound)
+    let r = (next (next (after c.requires.needed c.requires.fits c.requires.counts c.requires.front) c.in_ok-lists.ensures.ok) c.in_ok-codes.ensures.ok).small in
+    omega (arith, r)
 
 pub overflow_cast-texts_end : goal.overflow_cast-texts_end
 overflow_cast-texts_end c =
-    let n = after c.args.ranks.now (view.program c.args.program.now) c.args.counts _ c.requires.needed c.requires.fits c.requires.counts c.requires.front in
-    omega (arith, n.small, c.in_ok-lists.ensures.ok.bound, c.in_ok-codes.ensures.ok.bound, c.in_ok-texts.ensures.ok.bound, c.len-texts_end.ensures, c.put_strings.new.out.ok.0)
+    let r = (next (next (next (after c.requires.needed c.requires.fits c.requires.counts c.requires.front) c.in_ok-lists.ensures.ok) c.in_ok-codes.ensures.ok) c.in_ok-texts.ensures.ok).small in
+    omega (arith, r, c.len-texts_end.ensures, c.put_strings.new.out.ok.0)
 
 pub put_arrays-requires-clause-front : goal.put_arrays-requires-clause-front
-put_arrays-requires-clause-front c =
-    let n = after c.args.ranks.now (view.program c.args.program.now) c.args.counts _ c.requires.needed c.requires.fits c.requires.counts c.requires.front in
-    let g0 = longer _ _ c.in_ok-lists.ensures.ok.grown in
-    let g1 = longer _ _ c.in_ok-codes.ensures.ok.grown in
-    let g2 = longer _ _ c.in_ok-texts.ensures.ok.grown in
-    omega (arith, n.some, g0, g1, g2)
+put_arrays-requires-clause-front c = (next (next (next (after c.requires.needed c.requires.fits c.requires.counts c.requires.front) c.in_ok-lists.ensures.ok) c.in_ok-codes.ensures.ok) c.in_ok-texts.ensures.ok).some
 
 pub put_arrays-requires-clause-room : goal.put_arrays-requires-clause-room
 put_arrays-requires-clause-room c =
-    let n = after c.args.ranks.now (view.program c.args.program.now) c.args.counts _ c.requires.needed c.requires.fits c.requires.counts c.requires.front in
-    omega (arith, n.small, c.in_ok-lists.ensures.ok.bound, c.in_ok-codes.ensures.ok.bound, c.in_ok-texts.ensures.ok.bound)
+    let r = (next (next (next (after c.requires.needed c.requires.fits c.requires.counts c.requires.front) c.in_ok-lists.ensures.ok) c.in_ok-codes.ensures.ok) c.in_ok-texts.ensures.ok).small in
+    omega (arith, r)
 
 pub put_arrays-requires-clause-few : goal.put_arrays-requires-clause-few
 put_arrays-requires-clause-few c =
@@ -93,22 +79,16 @@ put_arrays-requires-clause-few c =
 
 pub overflow_cast-arrays_end : goal.overflow_cast-arrays_end
 overflow_cast-arrays_end c =
-    let n = after c.args.ranks.now (view.program c.args.program.now) c.args.counts _ c.requires.needed c.requires.fits c.requires.counts c.requires.front in
-    omega (arith, n.small, c.in_ok-lists.ensures.ok.bound, c.in_ok-codes.ensures.ok.bound, c.in_ok-texts.ensures.ok.bound, c.in_ok-arrays.ensures.ok.bound, c.len-arrays_end.ensures, c.put_arrays.new.out.ok.0)
+    let r = (next (next (next (next (after c.requires.needed c.requires.fits c.requires.counts c.requires.front) c.in_ok-lists.ensures.ok) c.in_ok-codes.ensures.ok) c.in_ok-texts.ensures.ok) c.in_ok-arrays.ensures.ok).small in
+    omega (arith, r, c.len-arrays_end.ensures, c.put_arrays.new.out.ok.0)
 
 pub put_datas-requires-clause-front : goal.put_datas-requires-clause-front
-put_datas-requires-clause-front c =
-    let n = after c.args.ranks.now (view.program c.args.program.now) c.args.counts _ c.requires.needed c.requires.fits c.requires.counts c.requires.front in
-    let g0 = longer _ _ c.in_ok-lists.ensures.ok.grown in
-    let g1 = longer _ _ c.in_ok-codes.ensures.ok.grown in
-    let g2 = longer _ _ c.in_ok-texts.ensures.ok.grown in
-    let g3 = longer _ _ c.in_ok-arrays.ensures.ok.grown in
-    omega (arith, n.some, g0, g1, g2, g3)
+put_datas-requires-clause-front c = (next (next (next (next (after c.requires.needed c.requires.fits c.requires.counts c.requires.front) c.in_ok-lists.ensures.ok) c.in_ok-codes.ensures.ok) c.in_ok-texts.ensures.ok) c.in_ok-arrays.ensures.ok).some
 
 pub put_datas-requires-clause-room : goal.put_datas-requires-clause-room
 put_datas-requires-clause-room c =
-    let n = after c.args.ranks.now (view.program c.args.program.now) c.args.counts _ c.requires.needed c.requires.fits c.requires.counts c.requires.front in
-    omega (arith, n.small, c.in_ok-lists.ensures.ok.bound, c.in_ok-codes.ensures.ok.bound, c.in_ok-texts.ensures.ok.bound, c.in_ok-arrays.ensures.ok.bound)
+    let r = (next (next (next (next (after c.requires.needed c.requires.fits c.requires.counts c.requires.front) c.in_ok-lists.ensures.ok) c.in_ok-codes.ensures.ok) c.in_ok-texts.ensures.ok) c.in_ok-arrays.ensures.ok).small in
+    omega (arith, r)
 
 pub put_datas-requires-clause-few : goal.put_datas-requires-clause-few
 put_datas-requires-clause-few c =
@@ -124,10 +104,9 @@ put_datas-requires-clause-codes c =
 
 pub overflow_cast-datas_end : goal.overflow_cast-datas_end
 overflow_cast-datas_end c =
-    let n = after c.args.ranks.now (view.program c.args.program.now) c.args.counts _ c.requires.needed c.requires.fits c.requires.counts c.requires.front in
     let d = rw c.deref.ensures.value at c.in_ok-datas.ensures.ok in
     let w = room_of_sited (view.program c.args.program.now) c.in_ok-codes.codes.places.items in
-    omega (arith, n.small, c.in_ok-lists.ensures.ok.bound, c.in_ok-codes.ensures.ok.bound, c.in_ok-texts.ensures.ok.bound, c.in_ok-arrays.ensures.ok.bound, d.bound, w, c.len-datas_end.ensures, c.put_datas.new.out.ok.0)
+    omega (arith, (next (next (next (next (after c.requires.needed c.requires.fits c.requires.counts c.requires.front) c.in_ok-lists.ensures.ok) c.in_ok-codes.ensures.ok) c.in_ok-texts.ensures.ok) c.in_ok-arrays.ensures.ok).small, d.bound, w, c.len-datas_end.ensures, c.put_datas.new.out.ok.0)
 
 pub returns-clause-ok : goal.returns-clause-ok
 returns-clause-ok c =
@@ -149,5 +128,5 @@ returns-clause-ok c =
 
 pub codes_part-requires : goal.codes_part-requires
 codes_part-requires c =
-    let n = after c.args.ranks.now (view.program c.args.program.now) c.args.counts _ c.requires.needed c.requires.fits c.requires.counts c.requires.front in
-    omega (arith, n.small, c.in_ok-lists.ensures.ok.bound, c.len-lists_end.ensures, c.put_lists.new.out.ok.0)
+    let r = (next (after c.requires.needed c.requires.fits c.requires.counts c.requires.front) c.in_ok-lists.ensures.ok).small in
+    omega (arith, r, c.len-lists_end.ensures, c.put_lists.new.out.ok.0)

@@ -5,168 +5,90 @@ use Rattle.file_limits.specs.Wide.{body_values}
 use Rattle.file_sections.specs.Codes.{is_bodiless}
 use Rattle.file_sections.proofs.SitedLaws.{room_of_sited}
 use Rattle.file_assemble.specs.Assembled.{Places, rows_of}
-use Rattle.file_assemble.proofs.DataLaws.{laid, longer}
+use Rattle.file_assemble.proofs.DataLaws.{laid}
 use Rattle.file_assemble.proofs.OnceLaws.{datas_shared}
 use Rattle.tables_names.specs.Needed.{needed}
-use Rattle.file_strip.proofs.ReadyLaws.{after, room}
+use Rattle.file_strip.proofs.ReadyLaws.{and_laid, first, room}
 use Rattle.file_strip.proofs.stripping.put_data.Goals as goal
 use Rattle.base_bytes.proofs.ListFacts.{zip_length, passed}
 
 pub overflow_cast-tables : goal.overflow_cast-tables
 overflow_cast-tables c =
-    let p = c.requires.ready.0 in
-    let r = c.requires.ready.1 in
-    let n = after c.args.sections.now c.args.numbers.now p r c.args.counts _ (c.requires.counts p r) c.requires.front in
-    omega (arith, n.small, c.len-tables.ensures, c.args.out.now.ok.0)
+    let s = first c.requires.ready c.requires.counts c.requires.front in
+    omega (arith, s.room.small, c.len-tables.ensures, c.args.out.now.ok.0)
 
 pub put_lists-requires-clause-front : goal.put_lists-requires-clause-front
-put_lists-requires-clause-front c =
-    let p = c.requires.ready.0 in
-    let r = c.requires.ready.1 in
-    (after c.args.sections.now c.args.numbers.now p r c.args.counts _ (c.requires.counts p r) c.requires.front).some
+put_lists-requires-clause-front c = (first c.requires.ready c.requires.counts c.requires.front).room.some
 
 pub put_lists-requires-clause-kept : goal.put_lists-requires-clause-kept
 put_lists-requires-clause-kept c =
-    let p = c.requires.ready.0 in
-    let r = c.requires.ready.1 in
-    let n = after c.args.sections.now c.args.numbers.now p r c.args.counts _ (c.requires.counts p r) c.requires.front in
-    (p, r.keeps, omega (arith, n.small))
+    let s = first c.requires.ready c.requires.counts c.requires.front in
+    (s.program, s.ready.keeps, omega (arith, s.room.small))
 
 pub overflow_cast-lists_end : goal.overflow_cast-lists_end
 overflow_cast-lists_end c =
-    let p = c.requires.ready.0 in
-    let r = c.requires.ready.1 in
-    let n = after c.args.sections.now c.args.numbers.now p r c.args.counts _ (c.requires.counts p r) c.requires.front in
-    let b1 = (c.in_ok-lists.ensures.ok p r.keeps).bound in
-    omega (arith, n.small, b1, c.len-lists_end.ensures, c.put_lists.new.out.ok.0)
+    let s = and_laid (first c.requires.ready c.requires.counts c.requires.front) c.in_ok-lists.ensures.ok in
+    omega (arith, s.room.small, c.len-lists_end.ensures, c.put_lists.new.out.ok.0)
 
 pub put_codes-requires-clause-front : goal.put_codes-requires-clause-front
-put_codes-requires-clause-front c =
-    let p = c.requires.ready.0 in
-    let r = c.requires.ready.1 in
-    let n = after c.args.sections.now c.args.numbers.now p r c.args.counts _ (c.requires.counts p r) c.requires.front in
-    let g0 = longer _ _ (c.in_ok-lists.ensures.ok p r.keeps).grown in
-    omega (arith, n.some, g0)
+put_codes-requires-clause-front c = (and_laid (first c.requires.ready c.requires.counts c.requires.front) c.in_ok-lists.ensures.ok).room.some
 
 pub put_codes-requires-clause-kept : goal.put_codes-requires-clause-kept
 put_codes-requires-clause-kept c =
-    let p = c.requires.ready.0 in
-    let r = c.requires.ready.1 in
-    let n = after c.args.sections.now c.args.numbers.now p r c.args.counts _ (c.requires.counts p r) c.requires.front in
-    let b1 = (c.in_ok-lists.ensures.ok p r.keeps).bound in
-    (p, r.keeps, omega (arith, n.small, b1))
+    let s = and_laid (first c.requires.ready c.requires.counts c.requires.front) c.in_ok-lists.ensures.ok in
+    (s.program, s.ready.keeps, omega (arith, s.room.small))
 
 pub overflow_cast-codes_end : goal.overflow_cast-codes_end
 overflow_cast-codes_end c =
-    let p = c.requires.ready.0 in
-    let r = c.requires.ready.1 in
-    let n = after c.args.sections.now c.args.numbers.now p r c.args.counts _ (c.requires.counts p r) c.requires.front in
-    let b1 = (c.in_ok-lists.ensures.ok p r.keeps).bound in
-    let b2 = (c.in_ok-codes.ensures.ok p r.keeps).bound in
-    omega (arith, n.small, b1, b2, c.len-codes_end.ensures, c.put_codes.new.out.ok.0)
+    let s = and_laid (and_laid (first c.requires.ready c.requires.counts c.requires.front) c.in_ok-lists.ensures.ok) c.in_ok-codes.ensures.ok in
+    omega (arith, s.room.small, c.len-codes_end.ensures, c.put_codes.new.out.ok.0)
 
 pub put_texts-requires-clause-front : goal.put_texts-requires-clause-front
-put_texts-requires-clause-front c =
-    let p = c.requires.ready.0 in
-    let r = c.requires.ready.1 in
-    let n = after c.args.sections.now c.args.numbers.now p r c.args.counts _ (c.requires.counts p r) c.requires.front in
-    let g0 = longer _ _ (c.in_ok-lists.ensures.ok p r.keeps).grown in
-    let g1 = longer _ _ (c.in_ok-codes.ensures.ok p r.keeps).grown in
-    omega (arith, n.some, g0, g1)
+put_texts-requires-clause-front c = (and_laid (and_laid (first c.requires.ready c.requires.counts c.requires.front) c.in_ok-lists.ensures.ok) c.in_ok-codes.ensures.ok).room.some
 
 pub put_texts-requires-clause-kept : goal.put_texts-requires-clause-kept
 put_texts-requires-clause-kept c =
-    let p = c.requires.ready.0 in
-    let r = c.requires.ready.1 in
-    let n = after c.args.sections.now c.args.numbers.now p r c.args.counts _ (c.requires.counts p r) c.requires.front in
-    let b1 = (c.in_ok-lists.ensures.ok p r.keeps).bound in
-    let b2 = (c.in_ok-codes.ensures.ok p r.keeps).bound in
-    (p, r.keeps, omega (arith, n.small, b1, b2))
+    let s = and_laid (and_laid (first c.requires.ready c.requires.counts c.requires.front) c.in_ok-lists.ensures.ok) c.in_ok-codes.ensures.ok in
+    (s.program, s.ready.keeps, omega (arith, s.room.small))
 
 pub overflow_cast-texts_end : goal.overflow_cast-texts_end
 overflow_cast-texts_end c =
-    let p = c.requires.ready.0 in
-    let r = c.requires.ready.1 in
-    let n = after c.args.sections.now c.args.numbers.now p r c.args.counts _ (c.requires.counts p r) c.requires.front in
-    let b1 = (c.in_ok-lists.ensures.ok p r.keeps).bound in
-    let b2 = (c.in_ok-codes.ensures.ok p r.keeps).bound in
-    let b3 = (c.in_ok-texts.ensures.ok p r.keeps).bound in
-    omega (arith, n.small, b1, b2, b3, c.len-texts_end.ensures, c.put_texts.new.out.ok.0)
+    let s = and_laid (and_laid (and_laid (first c.requires.ready c.requires.counts c.requires.front) c.in_ok-lists.ensures.ok) c.in_ok-codes.ensures.ok) c.in_ok-texts.ensures.ok in
+    omega (arith, s.room.small, c.len-texts_end.ensures, c.put_texts.new.out.ok.0)
 
 pub put_arrays-requires-clause-front : goal.put_arrays-requires-clause-front
-put_arrays-requires-clause-front c =
-    let p = c.requires.ready.0 in
-    let r = c.requires.ready.1 in
-    let n = after c.args.sections.now c.args.numbers.now p r c.args.counts _ (c.requires.counts p r) c.requires.front in
-    let g0 = longer _ _ (c.in_ok-lists.ensures.ok p r.keeps).grown in
-    let g1 = longer _ _ (c.in_ok-codes.ensures.ok p r.keeps).grown in
-    let g2 = longer _ _ (c.in_ok-texts.ensures.ok p r.keeps).grown in
-    omega (arith, n.some, g0, g1, g2)
+put_arrays-requires-clause-front c = (and_laid (and_laid (and_laid (first c.requires.ready c.requires.counts c.requires.front) c.in_ok-lists.ensures.ok) c.in_ok-codes.ensures.ok) c.in_ok-texts.ensures.ok).room.some
 
 pub put_arrays-requires-clause-kept : goal.put_arrays-requires-clause-kept
 put_arrays-requires-clause-kept c =
-    let p = c.requires.ready.0 in
-    let r = c.requires.ready.1 in
-    let n = after c.args.sections.now c.args.numbers.now p r c.args.counts _ (c.requires.counts p r) c.requires.front in
-    let b1 = (c.in_ok-lists.ensures.ok p r.keeps).bound in
-    let b2 = (c.in_ok-codes.ensures.ok p r.keeps).bound in
-    let b3 = (c.in_ok-texts.ensures.ok p r.keeps).bound in
-    (p, r.keeps, omega (arith, n.small, b1, b2, b3))
+    let s = and_laid (and_laid (and_laid (first c.requires.ready c.requires.counts c.requires.front) c.in_ok-lists.ensures.ok) c.in_ok-codes.ensures.ok) c.in_ok-texts.ensures.ok in
+    (s.program, s.ready.keeps, omega (arith, s.room.small))
 
 pub overflow_cast-arrays_end : goal.overflow_cast-arrays_end
 overflow_cast-arrays_end c =
-    let p = c.requires.ready.0 in
-    let r = c.requires.ready.1 in
-    let n = after c.args.sections.now c.args.numbers.now p r c.args.counts _ (c.requires.counts p r) c.requires.front in
-    let b1 = (c.in_ok-lists.ensures.ok p r.keeps).bound in
-    let b2 = (c.in_ok-codes.ensures.ok p r.keeps).bound in
-    let b3 = (c.in_ok-texts.ensures.ok p r.keeps).bound in
-    let b4 = (c.in_ok-arrays.ensures.ok p r.keeps).bound in
-    omega (arith, n.small, b1, b2, b3, b4, c.len-arrays_end.ensures, c.put_arrays.new.out.ok.0)
+    let s = and_laid (and_laid (and_laid (and_laid (first c.requires.ready c.requires.counts c.requires.front) c.in_ok-lists.ensures.ok) c.in_ok-codes.ensures.ok) c.in_ok-texts.ensures.ok) c.in_ok-arrays.ensures.ok in
+    omega (arith, s.room.small, c.len-arrays_end.ensures, c.put_arrays.new.out.ok.0)
 
 pub put_datas-requires-clause-front : goal.put_datas-requires-clause-front
-put_datas-requires-clause-front c =
-    let p = c.requires.ready.0 in
-    let r = c.requires.ready.1 in
-    let n = after c.args.sections.now c.args.numbers.now p r c.args.counts _ (c.requires.counts p r) c.requires.front in
-    let g0 = longer _ _ (c.in_ok-lists.ensures.ok p r.keeps).grown in
-    let g1 = longer _ _ (c.in_ok-codes.ensures.ok p r.keeps).grown in
-    let g2 = longer _ _ (c.in_ok-texts.ensures.ok p r.keeps).grown in
-    let g3 = longer _ _ (c.in_ok-arrays.ensures.ok p r.keeps).grown in
-    omega (arith, n.some, g0, g1, g2, g3)
+put_datas-requires-clause-front c = (and_laid (and_laid (and_laid (and_laid (first c.requires.ready c.requires.counts c.requires.front) c.in_ok-lists.ensures.ok) c.in_ok-codes.ensures.ok) c.in_ok-texts.ensures.ok) c.in_ok-arrays.ensures.ok).room.some
 
 pub put_datas-requires-clause-kept : goal.put_datas-requires-clause-kept
 put_datas-requires-clause-kept c =
-    let p = c.requires.ready.0 in
-    let r = c.requires.ready.1 in
-    let n = after c.args.sections.now c.args.numbers.now p r c.args.counts _ (c.requires.counts p r) c.requires.front in
-    let b1 = (c.in_ok-lists.ensures.ok p r.keeps).bound in
-    let b2 = (c.in_ok-codes.ensures.ok p r.keeps).bound in
-    let b3 = (c.in_ok-texts.ensures.ok p r.keeps).bound in
-    let b4 = (c.in_ok-arrays.ensures.ok p r.keeps).bound in
-    let z = ap length c.deref.ensures.value ∙ zip_length (Refers is_bodiless (c.in_ok-codes.ensures.ok p r.keeps).lays.items) _ (body_values p) (c.in_ok-codes.ensures.ok p r.keeps).lays.each in
-    (p, r.keeps, z, omega (arith, n.small, b1, b2, b3, b4))
+    let s = and_laid (and_laid (and_laid (and_laid (first c.requires.ready c.requires.counts c.requires.front) c.in_ok-lists.ensures.ok) c.in_ok-codes.ensures.ok) c.in_ok-texts.ensures.ok) c.in_ok-arrays.ensures.ok in
+    let codes = c.in_ok-codes.ensures.ok s.program s.ready.keeps in
+    (s.program, s.ready.keeps, ap length c.deref.ensures.value ∙ zip_length (Refers is_bodiless codes.lays.items) _ (body_values s.program) codes.lays.each, omega (arith, s.room.small))
 
 pub overflow_cast-datas_end : goal.overflow_cast-datas_end
 overflow_cast-datas_end c =
-    let p = c.requires.ready.0 in
-    let r = c.requires.ready.1 in
-    let n = after c.args.sections.now c.args.numbers.now p r c.args.counts _ (c.requires.counts p r) c.requires.front in
-    let b1 = (c.in_ok-lists.ensures.ok p r.keeps).bound in
-    let b2 = (c.in_ok-codes.ensures.ok p r.keeps).bound in
-    let b3 = (c.in_ok-texts.ensures.ok p r.keeps).bound in
-    let b4 = (c.in_ok-arrays.ensures.ok p r.keeps).bound in
-    let d = rw c.deref.ensures.value at (c.in_ok-datas.ensures.ok p r.keeps) in
-    let w = room_of_sited p c.in_ok-codes.codes.places.items in
-    omega (arith, n.small, b1, b2, b3, b4, d.bound, w, c.len-datas_end.ensures, c.put_datas.new.out.ok.0)
+    let s = and_laid (and_laid (and_laid (and_laid (first c.requires.ready c.requires.counts c.requires.front) c.in_ok-lists.ensures.ok) c.in_ok-codes.ensures.ok) c.in_ok-texts.ensures.ok) c.in_ok-arrays.ensures.ok in
+    let d = rw c.deref.ensures.value at (c.in_ok-datas.ensures.ok s.program s.ready.keeps) in
+    let w = room_of_sited s.program c.in_ok-codes.codes.places.items in
+    omega (arith, s.room.small, d.bound, w, c.len-datas_end.ensures, c.put_datas.new.out.ok.0)
 
 pub codes_part-requires : goal.codes_part-requires
 codes_part-requires c =
-    let p = c.requires.ready.0 in
-    let r = c.requires.ready.1 in
-    let n = after c.args.sections.now c.args.numbers.now p r c.args.counts _ (c.requires.counts p r) c.requires.front in
-    let b1 = (c.in_ok-lists.ensures.ok p r.keeps).bound in
-    omega (arith, n.small, b1, c.len-lists_end.ensures, c.put_lists.new.out.ok.0)
+    let s = and_laid (first c.requires.ready c.requires.counts c.requires.front) c.in_ok-lists.ensures.ok in
+    omega (arith, s.room.small, c.len-lists_end.ensures, c.put_lists.new.out.ok.0)
 
 pub returns-clause-ok : goal.returns-clause-ok
 returns-clause-ok c = λ p r.

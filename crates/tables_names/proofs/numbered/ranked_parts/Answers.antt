@@ -12,7 +12,7 @@ sorted_by-requires-clause-parts c =
 
 pub sorted_by-requires-2-clause-parts : goal.sorted_by-requires-2-clause-parts
 sorted_by-requires-2-clause-parts c =
-    zip_weaker (ProtoAt c.args.types.names) _ (ret_leads c.args.types.names c.in_ok-types.types.names c.in_ok-types.types.ranks.items c.in_ok-types.ensures.ranks) c.args.protos.names c.args.protos.parts.items c.requires.protos
+    zip_weaker (ProtoAt c.args.types.names) _ (ret_leads c.args.types.names c.in_ok-types.types.table.names c.in_ok-types.types.ranks.items c.in_ok-types.ensures.ranks) c.args.protos.names c.args.protos.parts.items c.requires.protos
 
 pub sorted_by-requires-2-clause-leads : goal.sorted_by-requires-2-clause-leads
-sorted_by-requires-2-clause-leads c = λ j k p q a b. ret_ranks c.in_ok-types.types.names c.rises-2.ensures j k p q a b
+sorted_by-requires-2-clause-leads c = λ j k p q a b. ret_ranks c.in_ok-types.types.table.names c.rises-2.ensures j k p q a b

@@ -13,8 +13,8 @@ ranked_members-requires c =
     let p = c.in_ok-parts.parts in
     let ranks = c.in_ok-parts.ensures.ranks in
     record {
-      fields = zip_weaker (FieldAt o.names.types o.names.strings) _ (field_leads o.names.types p.types.names p.types.ranks.items ranks.1 o.names.strings p.strings.names p.strings.ranks.items ranks.0) o.names.fields o.fields c.self.invariant.parts.fields;
-      methods = zip_weaker (MethodAt o.names.types o.names.strings o.names.protos) _ (method_leads o.names.types p.types.names p.types.ranks.items ranks.1 o.names.strings p.strings.names p.strings.ranks.items ranks.0 o.names.protos p.protos.names p.protos.ranks.items ranks.2) o.names.methods o.methods c.self.invariant.parts.methods;
+      fields = zip_weaker (FieldAt o.names.types o.names.strings) _ (field_leads o.names.types p.types.table.names p.types.ranks.items ranks.1 o.names.strings p.strings.names p.strings.ranks.items ranks.0) o.names.fields o.fields c.self.invariant.parts.fields;
+      methods = zip_weaker (MethodAt o.names.types o.names.strings o.names.protos) _ (method_leads o.names.types p.types.table.names p.types.ranks.items ranks.1 o.names.strings p.strings.names p.strings.ranks.items ranks.0 o.names.protos p.protos.table.names p.protos.ranks.items ranks.2) o.names.methods o.methods c.self.invariant.parts.methods;
     }
 
 pub from_sorted-requires : goal.from_sorted-requires
