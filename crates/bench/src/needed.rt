@@ -153,22 +153,20 @@ fn count_of(ranks: &Ranks<'_>) -> u64 {
         .wrapping_add(members)
 }
 
-// The names, frozen.
+// How many names there are once they are frozen. What is owned is let go by a call, since that proves in a tenth of the time.
 fn frozen<'a>(needed: Needed<'a>) -> Result<u64, Fault> {
-    match needed.freeze() {
-        Ok(ranks) => Ok(count_of(&ranks)),
-        Err(fault) => Err(fault),
-    }
+    let ranks = needed.freeze()?;
+    let count = count_of(&ranks);
+    drop(ranks);
+    Ok(count)
 }
 
 /// Adds all names and freezes them.
 fn work(alloc: Global, kind: Kind, count: u32, order: Order) -> Result<u64, Fault> {
     let arena = Bump::new(alloc);
     let mut needed = Needed::new(alloc);
-    match add_all(&mut needed, &arena, kind, count, order) {
-        Ok(()) => frozen(needed),
-        Err(fault) => Err(fault),
-    }
+    let added = add_all(&mut needed, &arena, kind, count, order);
+    added.and(frozen(needed))
 }
 
 /// What the words ask for.

@@ -159,7 +159,9 @@ fn item_of(alloc: Global, code: &Code<'_>) -> Result<Vec<u8>, Fault>
     requires short { wide_code (view.code code.now) ≤ 4294967295 }
 {
     let ranks = no_ranks(alloc)?;
-    put_nameless(alloc, &ranks, code)
+    let item = put_nameless(alloc, &ranks, code);
+    drop(ranks);
+    item
 }
 
 #[tactic(auto, unfolding(program_types::specs::Sizes::insn_units, program_types::specs::Sizes::total))]

@@ -102,11 +102,11 @@ fn add<'a>(needed: &mut Needed<'a>, added: Added<'a>) -> Result<(), Fault> {
     }
 }
 
-// Alone owns what is needed, since that is dear to prove.
+// Alone owns what is needed. A call takes it on every path, since letting it go at each `?` is dear to prove; so below.
 fn ranks_of<'a>(alloc: Global, added: Added<'a>) -> Result<Ranks<'a>, Fault> {
     let mut needed = Needed::new(alloc);
-    add(&mut needed, added)?;
-    needed.freeze()
+    let all = add(&mut needed, added);
+    all.and(needed.freeze())
 }
 
 // What is asked of the ranks.
@@ -141,7 +141,9 @@ fn first_put_otherwise<'a>(
     asked: Asked<'_>,
 ) -> Result<Option<&'static str>, Fault> {
     let ranks = ranks_of(alloc, added)?;
-    first_answered_otherwise(alloc, &ranks, asked)
+    let first = first_answered_otherwise(alloc, &ranks, asked);
+    drop(ranks);
+    first
 }
 
 #[rattlefmt::skip]

@@ -165,7 +165,7 @@ fn add<'a>(
     }
 }
 
-// Alone owns what is needed, since that is dear to prove.
+// Alone owns what is needed. A call takes it on every path, since letting it go at each `?` is dear to prove; so below.
 fn ranks_of<'a>(
     alloc: Global,
     here: &'a Bump,
@@ -173,9 +173,9 @@ fn ranks_of<'a>(
     added: Added,
 ) -> Result<Ranks<'a>, Fault> {
     let mut needed = Needed::new(alloc);
-    add(&mut needed, here, there, added)?;
+    let all = add(&mut needed, here, there, added);
     needed.holds_parts();
-    needed.freeze()
+    all.and(needed.freeze())
 }
 
 fn first_proto_elsewhere<'a>(
@@ -193,14 +193,22 @@ fn first_proto_elsewhere<'a>(
 fn are_members_found<'a>(arena: &'a Bump, ranks: &Ranks<'a>) -> Result<bool, Fault> {
     let f = field(arena, "LA;", "f", "I")?;
     let m = method(arena, "LA;", "m", "V", &[])?;
-    let is_named = ranks.index_of(Name::Field(f)) == Some(0)
-        && ranks.index_of(Name::Method(m)) == Some(0);
-    Ok(is_named && ranks.index_of_field(f) == Some(0) && ranks.index_of_method(m) == Some(0))
+    let found = [
+        ranks.index_of(Name::Field(f)),
+        ranks.index_of(Name::Method(m)),
+        ranks.index_of_field(f),
+        ranks.index_of_method(m),
+    ];
+    Ok(found == [Some(0); 4])
 }
 
 fn are_texts_found<'a>(arena: &'a Bump, ranks: &Ranks<'a>) -> Result<bool, Fault> {
     let (x, array) = (text(arena, "x")?, ty(arena, "[I")?);
-    Ok(ranks.index_of(Name::Text(x)) == Some(8) && ranks.index_of(Name::Desc(array)) == Some(4))
+    let found = [
+        ranks.index_of(Name::Text(x)),
+        ranks.index_of(Name::Desc(array)),
+    ];
+    Ok(found == [Some(8), Some(4)])
 }
 
 fn are_parts_beside(ranks: &Ranks<'_>) -> bool {
@@ -234,7 +242,7 @@ fn are_own_members_found<'a>(arena: &'a Bump, ranks: &Ranks<'a>) -> Result<bool,
     let field = ranks.index_of_own_field(class as usize, g, ty(arena, "J")?);
     let none = ranks.index_of_own_field(class as usize, g, ty(arena, "I")?);
     let method = ranks.index_of_own_method(class as usize, m, proto(arena, "V", &["J"])?);
-    Ok(field == Some(1) && none.is_none() && method == Some(1))
+    Ok([field, none, method] == [Some(1), None, Some(1)])
 }
 
 fn are_shown_so(alloc: Global, ranks: &Ranks<'_>, want: &str) -> Result<bool, Fault> {
@@ -272,12 +280,24 @@ fn is_answered<'a>(
 }
 
 // Alone owns ranks.
-fn is_ranked_so(alloc: Global, added: Added, asked: Asked) -> Result<bool, Fault> {
-    let (here, there) = (Bump::new(alloc), Bump::new(alloc));
-    let ranks = ranks_of(alloc, &here, &there, added)?;
+fn is_ranked_in<'a>(
+    alloc: Global,
+    here: &'a Bump,
+    there: &'a Bump,
+    added: Added,
+    asked: Asked,
+) -> Result<bool, Fault> {
+    let ranks = ranks_of(alloc, here, there, added)?;
     ranks.holds_parts();
     ranks.rise();
-    is_answered(alloc, &here, &there, &ranks, asked)
+    let is_so = is_answered(alloc, here, there, &ranks, asked);
+    drop(ranks);
+    is_so
+}
+
+fn is_ranked_so(alloc: Global, added: Added, asked: Asked) -> Result<bool, Fault> {
+    let (here, there) = (Bump::new(alloc), Bump::new(alloc));
+    is_ranked_in(alloc, &here, &there, added, asked)
 }
 
 fn first_otherwise(alloc: Global, cases: &[Case]) -> Result<Option<&'static str>, Fault> {
@@ -375,12 +395,18 @@ fn note_three<'a>(noted: &mut Noted<'a>, arena: &'a Bump) -> Result<(), Fault> {
     noted.add_name(arena, Name::Text(text(arena, "x")?))
 }
 
+fn noted_ranks<'a>(alloc: Global, arena: &'a Bump) -> Result<Vec<usize>, Fault> {
+    let mut noted = Needed::new(alloc).noting();
+    let all = note_three(&mut noted, arena);
+    let (ranks, numbers) = noted.freeze()?;
+    drop(ranks);
+    all.and(Ok(numbers))
+}
+
 // The strings are I, LA;, f and x; there is one field.
 fn noted_elsewhere(alloc: Global) -> Result<Option<&'static str>, Fault> {
     let arena = Bump::new(alloc);
-    let mut noted = Needed::new(alloc).noting();
-    note_three(&mut noted, &arena)?;
-    let (_, ranks) = noted.freeze()?;
+    let ranks = noted_ranks(alloc, &arena)?;
     match ranks.as_slice() {
         [3, 0, 3] => Ok(None),
         _ => Ok(Some("ranks of what was noted")),

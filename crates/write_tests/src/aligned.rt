@@ -4,7 +4,6 @@ use crate::codes::begins_with;
 use crate::kept::{aligned_file_of, fault_of};
 use crate::many::{body, program};
 use bumpalo::Bump;
-use bumpalo::collections::into_bump_slice;
 use dex_base::{Fault, fault};
 use dex_samples::none_wrong;
 use program_types::{Insn, Program};
@@ -12,18 +11,20 @@ use std::alloc::Global;
 use std::test::Fail;
 
 // A packed-switch of three units and its payload right after it.
-fn switch<'a>(arena: &'a Bump) -> Result<Program<'a>, Fault> {
-    let mut insns = Vec::new(arena);
-    insns.push(Insn::I31t {
+static SWITCH: [Insn<'static>; 2] = [
+    Insn::I31t {
         op: 0x2b,
         a: 0,
         to: 1,
-    })?;
-    insns.push(Insn::Packed {
+    },
+    Insn::Packed {
         first: 0,
         targets: &[0],
-    })?;
-    let code = body(arena, into_bump_slice(insns), &[])?;
+    },
+];
+
+fn switch<'a>(arena: &'a Bump) -> Result<Program<'a>, Fault> {
+    let code = body(arena, &SWITCH, &[])?;
     program(arena, &[], &[], Some(code))
 }
 

@@ -64,24 +64,19 @@ fn nops<'a>(
     Ok(into_bump_slice(insns))
 }
 
-// A try over so many instructions, at whose begin exceptions are handled.
-fn one_try<'a>(
-    arena: &'a Bump,
-    insns: &'a [Insn<'a>],
-    covered: u32,
-) -> Result<&'a Code<'a>, Fault> {
-    let mut tries = Vec::new(arena);
-    tries.push(Try {
+// A try over so many units, at whose begin exceptions are handled.
+fn one_try<'a>(arena: &'a Bump, covered: u32) -> Result<&'a [Try<'a>], Fault> {
+    let one = Try {
         from: 0,
         to: covered,
         catches: &[],
         catch_all: Some(0),
-    })?;
-    body(arena, insns, into_bump_slice(tries))
+    };
+    Ok(arena.try_alloc_slice_copy(&[one])?)
 }
 
 // So many tries of one nop each, whose handlers are one or all different.
-fn tried<'a>(arena: &'a Bump, count: u32, alike: bool) -> Result<&'a Code<'a>, Fault> {
+fn tried<'a>(arena: &'a Bump, count: u32, alike: bool) -> Result<&'a [Try<'a>], Fault> {
     let mut tries = Vec::new(arena);
     for i in 0..count {
         let at = if alike { 0 } else { i };
@@ -92,52 +87,63 @@ fn tried<'a>(arena: &'a Bump, count: u32, alike: bool) -> Result<&'a Code<'a>, F
             catch_all: Some(at),
         })?;
     }
-    body(
-        arena,
-        nops(arena, None, 65536, RETURN)?,
-        into_bump_slice(tries),
-    )
+    Ok(into_bump_slice(tries))
 }
 
-fn body_of<'a>(arena: &'a Bump, one: Body) -> Result<&'a Code<'a>, Fault> {
+// What stands before so many nops.
+fn before(one: Body) -> Option<Insn<'static>> {
     match one {
-        Body::Over(count) => {
-            let goto = Insn::I10t {
-                op: 0x28,
-                to: count.saturating_add(1),
-            };
-            body(arena, nops(arena, Some(goto), count, RETURN)?, &[])
-        }
-        Body::Back(count) => body(
-            arena,
-            nops(arena, None, count, Insn::I10t { op: 0x28, to: 0 })?,
-            &[],
-        ),
-        Body::If(count) => {
-            let test = Insn::I21t {
-                op: 0x38,
-                a: 0,
-                to: count.saturating_add(1),
-            };
-            body(arena, nops(arena, Some(test), count, RETURN)?, &[])
-        }
-        Body::Odd => body(arena, &ODD, &[]),
-        Body::Nops(count) => one_try(arena, nops(arena, None, count, RETURN)?, count),
-        Body::Wide(count) => {
-            let wide = Insn::I51l {
+        Body::Over(count) => Some(Insn::I10t {
+            op: 0x28,
+            to: count.saturating_add(1),
+        }),
+        Body::If(count) => Some(Insn::I21t {
+            op: 0x38,
+            a: 0,
+            to: count.saturating_add(1),
+        }),
+        _ => None,
+    }
+}
+
+// How many nops there are, and what stands after them.
+fn after(one: Body) -> (u32, Insn<'static>) {
+    match one {
+        Body::Over(count) | Body::If(count) | Body::Nops(count) => (count, RETURN),
+        Body::Back(count) => (count, Insn::I10t { op: 0x28, to: 0 }),
+        Body::Wide(count) => (
+            count,
+            Insn::I51l {
                 op: 0x18,
                 a: 0,
                 b: 0,
-            };
-            one_try(
-                arena,
-                nops(arena, None, count, wide)?,
-                count.saturating_add(1),
-            )
-        }
+            },
+        ),
+        Body::Odd | Body::Tries(_) | Body::Handlers(_) => (65536, RETURN),
+    }
+}
+
+fn insns_of<'a>(arena: &'a Bump, one: Body) -> Result<&'a [Insn<'a>], Fault> {
+    if matches!(one, Body::Odd) {
+        return Ok(&ODD);
+    }
+    let (count, last) = after(one);
+    nops(arena, before(one), count, last)
+}
+
+fn tries_of<'a>(arena: &'a Bump, one: Body) -> Result<&'a [Try<'a>], Fault> {
+    match one {
+        Body::Nops(count) => one_try(arena, count),
+        Body::Wide(count) => one_try(arena, count.saturating_add(1)),
         Body::Tries(count) => tried(arena, count, true),
         Body::Handlers(count) => tried(arena, count, false),
+        _ => Ok(&[]),
     }
+}
+
+fn body_of<'a>(arena: &'a Bump, one: Body) -> Result<&'a Code<'a>, Fault> {
+    let insns = insns_of(arena, one)?;
+    body(arena, insns, tries_of(arena, one)?)
 }
 
 fn made<'a>(arena: &'a Bump, one: Body) -> Result<Program<'a>, Fault> {
@@ -279,18 +285,17 @@ fn zeros<'a>(arena: &'a Bump, count: usize) -> Result<&'a [u8], Fault> {
 
 // 256 methods with one body in memory, whose array is of 2 ^ 24 bytes.
 fn arrays<'a>(arena: &'a Bump) -> Result<Program<'a>, Fault> {
-    let mut insns = Vec::new(arena);
-    insns.push(Insn::I31t {
+    let fill = Insn::I31t {
         op: 0x26,
         a: 0,
         to: 2,
-    })?;
-    insns.push(RETURN)?;
-    insns.push(Insn::Data {
+    };
+    let data = Insn::Data {
         width: 1,
         bytes: zeros(arena, 16777216)?,
-    })?;
-    let code = body(arena, into_bump_slice(insns), &[])?;
+    };
+    let insns = arena.try_alloc_slice_copy(&[fill, RETURN, data])?;
+    let code = body(arena, insns, &[])?;
     program(arena, &[], alike(arena, 256, Some(code))?, None)
 }
 

@@ -98,13 +98,10 @@ pub fn alike<'a>(
 
 // A prototype of its own for each number: two of 300 types.
 fn proto_of<'a>(arena: &'a Bump, number: u32) -> Result<&'a Proto<'a>, Fault> {
-    let mut params = Vec::new(arena);
-    params.push(type_of(arena, number / 300)?)?;
-    params.push(type_of(arena, number % 300)?)?;
-    Ok(arena.try_alloc(Proto {
-        ret: VOID,
-        params: into_bump_slice(params),
-    })?)
+    let first = type_of(arena, number / 300)?;
+    let second = type_of(arena, number % 300)?;
+    let params = arena.try_alloc_slice_copy(&[first, second])?;
+    Ok(arena.try_alloc(Proto { ret: VOID, params })?)
 }
 
 /// So many methods, each of a prototype of its own.
@@ -159,16 +156,16 @@ pub fn body<'a>(
 
 // The method `m()V` with this body, if there is one.
 fn with_body<'a>(arena: &'a Bump, code: Option<&'a Code<'a>>) -> Result<&'a [Method<'a>], Fault> {
-    let mut methods = Vec::new(arena);
-    if code.is_some() {
-        methods.push(Method {
-            name: M,
-            proto: to_void(arena)?,
-            flags: 9,
-            code,
-        })?;
+    if code.is_none() {
+        return Ok(&[]);
     }
-    Ok(into_bump_slice(methods))
+    let method = Method {
+        name: M,
+        proto: to_void(arena)?,
+        flags: 9,
+        code,
+    };
+    Ok(arena.try_alloc_slice_copy(&[method])?)
 }
 
 /// The program of the class `LA;` with these members, and the method `m()V` with this body, if there is one.
@@ -178,21 +175,13 @@ pub fn program<'a>(
     virtuals: &'a [Method<'a>],
     code: Option<&'a Code<'a>>,
 ) -> Result<Program<'a>, Fault> {
-    let mut classes = Vec::new(arena);
-    classes.push(Class {
-        ty: A,
-        flags: 1,
-        superclass: None,
-        interfaces: &[],
-        source: None,
-        statics: &[],
-        values: &[],
+    let class = Class {
         instances,
-        directs: with_body(arena, code)?,
         virtuals,
-    })?;
+        ..with_methods(A, with_body(arena, code)?)
+    };
     Ok(Program {
-        classes: into_bump_slice(classes),
+        classes: arena.try_alloc_slice_copy(&[class])?,
     })
 }
 
@@ -220,10 +209,8 @@ pub fn two_classes<'a>(
 ) -> Result<Program<'a>, Fault> {
     let one = with_body(arena, Some(first))?;
     let other = with_body(arena, Some(second))?;
-    let mut classes = Vec::new(arena);
-    classes.push(with_methods(A, one))?;
-    classes.push(with_methods(B, other))?;
+    let classes = [with_methods(A, one), with_methods(B, other)];
     Ok(Program {
-        classes: into_bump_slice(classes),
+        classes: arena.try_alloc_slice_copy(&classes)?,
     })
 }

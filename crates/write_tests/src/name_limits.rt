@@ -4,10 +4,9 @@ use crate::kept::fault_of;
 use crate::many::{alike, body, field_named, ints, method_named, objects, program, unlike};
 use crate::small::RETURN;
 use bumpalo::Bump;
-use bumpalo::collections::into_bump_slice;
 use dex_base::{Fault, fault};
 use dex_samples::none_wrong;
-use program_types::{Insn, Name, Program, Str};
+use program_types::{Code, Insn, Member, Method, Name, Program, Str};
 use std::alloc::Global;
 use std::test::Fail;
 
@@ -33,79 +32,69 @@ enum Many {
 // The text after all names of fields.
 const LAST: Str<'static> = Str { units: &[0xffff] };
 
-// A class with these fields, in whose method the instruction stands.
-fn with_insn<'a>(
-    arena: &'a Bump,
-    fields: u32,
-    methods: u32,
-    insn: Insn<'a>,
-) -> Result<Program<'a>, Fault> {
-    let mut insns = Vec::new(arena);
-    insns.push(insn)?;
-    insns.push(RETURN)?;
-    let code = body(arena, into_bump_slice(insns), &[])?;
-    program(
-        arena,
-        ints(arena, fields)?,
-        alike(arena, methods, None)?,
-        Some(code),
-    )
+fn fields_of<'a>(arena: &'a Bump, many: Many) -> Result<&'a [Member<'a>], Fault> {
+    match many {
+        Many::Types(count) => objects(arena, count),
+        Many::Fields(count) | Many::Text(count) | Many::Jumbo(count) => ints(arena, count),
+        Many::Field(_) => ints(arena, 65537),
+        Many::Protos(_) | Many::Method(_) => Ok(&[]),
+    }
+}
+
+fn methods_of<'a>(arena: &'a Bump, many: Many) -> Result<&'a [Method<'a>], Fault> {
+    match many {
+        Many::Protos(count) => unlike(arena, count),
+        Many::Method(_) => alike(arena, 65536, None),
+        _ => Ok(&[]),
+    }
+}
+
+// The instruction that names one of them.
+fn insn_of<'a>(arena: &'a Bump, many: Many) -> Result<Option<Insn<'a>>, Fault> {
+    let (a, b) = (0, 0);
+    let one = match many {
+        Many::Types(_) | Many::Protos(_) | Many::Fields(_) => return Ok(None),
+        Many::Field(number) => Insn::I22c {
+            op: 0x52,
+            a,
+            b,
+            name: field_named(arena, number)?,
+        },
+        Many::Method(number) => Insn::I35c {
+            op: 0x71,
+            n: 0,
+            regs: [0; 5],
+            name: method_named(arena, number)?,
+        },
+        Many::Text(_) => Insn::I21c {
+            op: 0x1a,
+            a,
+            name: Name::Text(LAST),
+        },
+        Many::Jumbo(_) => Insn::I31c {
+            op: 0x1b,
+            a,
+            name: Name::Text(LAST),
+        },
+    };
+    Ok(Some(one))
+}
+
+// The body in which it stands.
+fn code_of<'a>(arena: &'a Bump, many: Many) -> Result<Option<&'a Code<'a>>, Fault> {
+    match insn_of(arena, many)? {
+        Some(insn) => {
+            let insns = arena.try_alloc_slice_copy(&[insn, RETURN])?;
+            Ok(Some(body(arena, insns, &[])?))
+        }
+        None => Ok(None),
+    }
 }
 
 fn made<'a>(arena: &'a Bump, many: Many) -> Result<Program<'a>, Fault> {
-    match many {
-        Many::Types(count) => program(arena, objects(arena, count)?, &[], None),
-        Many::Protos(count) => program(arena, &[], unlike(arena, count)?, None),
-        Many::Fields(count) => program(arena, ints(arena, count)?, &[], None),
-        Many::Field(number) => {
-            let name = field_named(arena, number)?;
-            with_insn(
-                arena,
-                65537,
-                0,
-                Insn::I22c {
-                    op: 0x52,
-                    a: 0,
-                    b: 0,
-                    name,
-                },
-            )
-        }
-        Many::Method(number) => {
-            let name = method_named(arena, number)?;
-            with_insn(
-                arena,
-                0,
-                65536,
-                Insn::I35c {
-                    op: 0x71,
-                    n: 0,
-                    regs: [0; 5],
-                    name,
-                },
-            )
-        }
-        Many::Text(count) => with_insn(
-            arena,
-            count,
-            0,
-            Insn::I21c {
-                op: 0x1a,
-                a: 0,
-                name: Name::Text(LAST),
-            },
-        ),
-        Many::Jumbo(count) => with_insn(
-            arena,
-            count,
-            0,
-            Insn::I31c {
-                op: 0x1b,
-                a: 0,
-                name: Name::Text(LAST),
-            },
-        ),
-    }
+    let fields = fields_of(arena, many)?;
+    let methods = methods_of(arena, many)?;
+    program(arena, fields, methods, code_of(arena, many)?)
 }
 
 fn is_limited_so(alloc: Global, many: Many, want: (u16, u64)) -> Result<bool, Fault> {
