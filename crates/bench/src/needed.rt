@@ -153,7 +153,7 @@ fn count_of(ranks: &Ranks<'_>) -> u64 {
         .wrapping_add(members)
 }
 
-// How many names there are once they are frozen. What is owned is let go by a call, since that proves in a tenth of the time.
+// How many names there are once they are frozen. What is owned is let go by a call, since that is proved sooner.
 fn frozen<'a>(needed: Needed<'a>) -> Result<u64, Fault> {
     let ranks = needed.freeze()?;
     let count = count_of(&ranks);

@@ -3,25 +3,13 @@
 use crate::codes::begins_with;
 use crate::kept::{aligned_file_of, fault_of};
 use crate::many::{body, program};
+use crate::small::SWITCH;
 use bumpalo::Bump;
 use dex_base::{Fault, fault};
 use dex_samples::none_wrong;
-use program_types::{Insn, Program};
+use program_types::Program;
 use std::alloc::Global;
 use std::test::Fail;
-
-// A packed-switch of three units and its payload right after it.
-static SWITCH: [Insn<'static>; 2] = [
-    Insn::I31t {
-        op: 0x2b,
-        a: 0,
-        to: 1,
-    },
-    Insn::Packed {
-        first: 0,
-        targets: &[0],
-    },
-];
 
 fn switch<'a>(arena: &'a Bump) -> Result<Program<'a>, Fault> {
     let code = body(arena, &SWITCH, &[])?;

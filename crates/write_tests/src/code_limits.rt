@@ -3,7 +3,7 @@
 use crate::codes::stands_after;
 use crate::kept::{fault_of, file_of};
 use crate::many::{alike, body, program, two_classes};
-use crate::small::RETURN;
+use crate::small::{RETURN, SWITCH};
 use bumpalo::Bump;
 use bumpalo::collections::into_bump_slice;
 use dex_base::{Fault, fault};
@@ -32,19 +32,6 @@ enum Body {
     // so many tries, each with a handler of its own
     Handlers(u32),
 }
-
-// The switch takes three units.
-static ODD: [Insn<'static>; 2] = [
-    Insn::I31t {
-        op: 0x2b,
-        a: 0,
-        to: 1,
-    },
-    Insn::Packed {
-        first: 0,
-        targets: &[0],
-    },
-];
 
 fn nops<'a>(
     arena: &'a Bump,
@@ -125,7 +112,7 @@ fn after(one: Body) -> (u32, Insn<'static>) {
 
 fn insns_of<'a>(arena: &'a Bump, one: Body) -> Result<&'a [Insn<'a>], Fault> {
     if matches!(one, Body::Odd) {
-        return Ok(&ODD);
+        return Ok(&SWITCH);
     }
     let (count, last) = after(one);
     nops(arena, before(one), count, last)

@@ -26,6 +26,19 @@ pub const VOID: Desc<'static> = Desc {
 /// Return-void.
 pub const RETURN: Insn<'static> = Insn::I10x { op: 0x0e };
 
+/// A packed-switch of three units, and its payload right after it, at an odd address.
+pub static SWITCH: [Insn<'static>; 2] = [
+    Insn::I31t {
+        op: 0x2b,
+        a: 0,
+        to: 1,
+    },
+    Insn::Packed {
+        first: 0,
+        targets: &[0],
+    },
+];
+
 /// Return-void alone, in one register.
 pub const BODY: Code<'static> = Code {
     registers: 1,
