@@ -153,20 +153,18 @@ fn count_of(ranks: &Ranks<'_>) -> u64 {
         .wrapping_add(members)
 }
 
-// How many names there are once they are frozen. What is owned is let go by a call, since that is proved sooner.
+// How many names there are once they are frozen.
 fn frozen<'a>(needed: Needed<'a>) -> Result<u64, Fault> {
     let ranks = needed.freeze()?;
-    let count = count_of(&ranks);
-    drop(ranks);
-    Ok(count)
+    Ok(count_of(&ranks))
 }
 
 /// Adds all names and freezes them.
 fn work(alloc: Global, kind: Kind, count: u32, order: Order) -> Result<u64, Fault> {
     let arena = Bump::new(alloc);
     let mut needed = Needed::new(alloc);
-    let added = add_all(&mut needed, &arena, kind, count, order);
-    added.and(frozen(needed))
+    add_all(&mut needed, &arena, kind, count, order)?;
+    frozen(needed)
 }
 
 /// What the words ask for.

@@ -118,10 +118,19 @@ pub fn number_of(handlers: &mut IndexSet<Vec<u8>>, bytes: Vec<u8>) -> Result<u32
 
 /// The distinct handlers of tries, in the order of their first use, each as its bytes, and of each try the number of its
 /// handler.
-#[derive(Drop)]
 pub struct Distinct {
     pub handlers: IndexSet<Vec<u8>>,
     pub numbers: Vec<u32>,
+}
+
+// Each place where handlers are let go is proved: here it is one call, and derived it would be all that they own.
+impl Drop for Distinct {
+    fn drop(self) {
+        let Distinct {
+            handlers: _,
+            numbers: _,
+        } = self;
+    }
 }
 
 /// The handlers of the tries, each once.

@@ -131,7 +131,7 @@ fn begins_at(alloc: Global, code: &Code<'_>, want: &[u64]) -> Result<bool, Fault
     Ok(all.as_slice() == want)
 }
 
-// Alone owns ranks, since that is dear to prove.
+// The ranks of no names.
 fn no_ranks<'a>(alloc: Global) -> Result<Ranks<'a>, Fault>
     ensures { IfOk result (λ r. r ≡ nothing) }
 {
@@ -159,9 +159,7 @@ fn item_of(alloc: Global, code: &Code<'_>) -> Result<Vec<u8>, Fault>
     requires short { wide_code (view.code code.now) ≤ 4294967295 }
 {
     let ranks = no_ranks(alloc)?;
-    let item = put_nameless(alloc, &ranks, code);
-    drop(ranks);
-    item
+    put_nameless(alloc, &ranks, code)
 }
 
 #[tactic(auto, unfolding(program_types::specs::Sizes::insn_units, program_types::specs::Sizes::total))]

@@ -19,6 +19,7 @@ use crate::interfaces::interfaces_at;
 use crate::members::{Bare, read_members};
 use crate::order::is_in_order;
 use crate::places::{Places, read_places};
+use crate::word;
 use bumpalo::Bump;
 use bumpalo::collections::into_bump_slice;
 use dex_base::{Fault, fault};
@@ -67,14 +68,15 @@ fn read_head<'a, 's>(
     let _file = sections.bytes();
     let place = class_place(sections, i);
     let row = read_row(sections, tables, i)?;
-    let list = class_word(sections, i, 3);
+    let list = class_word(sections, i, word::INTERFACES_OFF);
     let Some(interfaces) = interfaces_at(alloc, arena, sections, tables, kept, list)? else {
         return Err(Fault::at(fault::INTERFACE_LIST, place));
     };
     if !is_in_order(sections, places, i) {
         return Err(Fault::at(fault::CLASS_ORDER, place));
     }
-    let Some(entries) = entries_at(alloc, sections, class_word(sections, i, 6))? else {
+    let data = class_word(sections, i, word::CLASS_DATA_OFF);
+    let Some(entries) = entries_at(alloc, sections, data)? else {
         return Err(Fault::at(fault::CLASS_DATA, place));
     };
     let members = read_members(arena, scratch, sections, tables, i, row.ty, &entries)?;

@@ -8,6 +8,7 @@ ghost use Rattle.file_classes.specs.Places.{ArePlaces, TypesHaveRows};
 
 use crate::class_row::class_word;
 use crate::places::{Places, is_first, is_undefined};
+use crate::word;
 use dex_base::u16_at;
 use dex_container::{Sections, kind, section_of};
 use tables_rows::indexes_or_none;
@@ -19,7 +20,7 @@ fn superclass_is_before(sections: &Sections<'_>, places: &Places, i: u32) -> boo
     requires within { superclass_idx sections.now i ≢ no_index → superclass_idx sections.now i < size_of sections.now section.type_ids }
     ensures { IsTrue result ↔ (superclass_idx sections.now i ≢ no_index → NoneDefines sections.now i (size_of sections.now section.class_defs) (superclass_idx sections.now i)) }
 {
-    let above = class_word(sections, i, 2);
+    let above = class_word(sections, i, word::SUPERCLASS_IDX);
     if above == 0xffffffff {
         return true;
     }
@@ -51,7 +52,8 @@ fn interfaces_are_before(sections: &Sections<'_>, places: &Places, i: u32) -> bo
     // Only for the proof: what holds of each value of its type.
     let _file = sections.bytes();
     let lists = section_of(sections, kind::TYPE_LIST);
-    match indexes_or_none(sections, lists, class_word(sections, i, 3)) {
+    let list = class_word(sections, i, word::INTERFACES_OFF);
+    match indexes_or_none(sections, lists, list) {
         Some(types) => all_are_before(sections, places, i, types),
         None => true,
     }
@@ -64,7 +66,8 @@ pub(crate) fn is_in_order(sections: &Sections<'_>, places: &Places, i: u32) -> b
     requires within { TypesHaveRows sections.now i }
     ensures { IsTrue result ↔ InOrder sections.now i }
 {
-    if !is_first(sections, places, i, class_word(sections, i, 0)) {
+    let class = class_word(sections, i, word::CLASS_IDX);
+    if !is_first(sections, places, i, class) {
         return false;
     }
     if !superclass_is_before(sections, places, i) {

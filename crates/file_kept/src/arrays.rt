@@ -21,6 +21,7 @@ use crate::moved::Moved;
 use base_bytes::are_bytes;
 use dex_base::Fault;
 use dex_container::Sections;
+use file_classes::word;
 use file_sections::Placed;
 use std::alloc::Global;
 use tables_numbers::Numbers;
@@ -103,6 +104,6 @@ pub fn put_arrays(
     ensures once { IfOk result (λ r. (p : Program) → Keeps sections.now numbers.now p → AreShared r.places.items (array_values p)) }
     ensures memory { IsOkUnless result memory }
 {
-    let offs = class_words(alloc, sections, 7)?;
+    let offs = class_words(alloc, sections, word::STATIC_VALUES_OFF)?;
     Ok(place_arrays(alloc, out, numbers, sections, &offs)?)
 }

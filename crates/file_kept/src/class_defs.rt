@@ -16,7 +16,7 @@ ghost use Rattle.file_kept.specs.ClassRow.{IsRowWithPlaces};
 use dex_base::{Fault, push_words};
 use dex_container::Sections;
 use dex_insn::IndexKind;
-use file_classes::{class_count, class_word};
+use file_classes::{class_count, class_word, word};
 use tables_numbers::Numbers;
 
 // The index that stands for none.
@@ -68,11 +68,11 @@ fn put_class(
     push_words(
         rows,
         &[
-            numbers.of(IndexKind::Type, class_word(sections, i, 0)),
-            class_word(sections, i, 1),
-            type_or_none(numbers, class_word(sections, i, 2)),
+            numbers.of(IndexKind::Type, class_word(sections, i, word::CLASS_IDX)),
+            class_word(sections, i, word::ACCESS_FLAGS),
+            type_or_none(numbers, class_word(sections, i, word::SUPERCLASS_IDX)),
             places.list,
-            string_or_none(numbers, class_word(sections, i, 4)),
+            string_or_none(numbers, class_word(sections, i, word::SOURCE_FILE_IDX)),
             0,
             places.class_data,
             places.array,

@@ -24,7 +24,7 @@ use base_bytes::are_bytes;
 use code_renumber::renumber_code;
 use dex_base::{Fault, fault};
 use dex_container::{Section, Sections, kind, section_of};
-use file_classes::{MethodEntry, class_count, class_word, entries_at};
+use file_classes::{MethodEntry, class_count, class_word, entries_at, word};
 use file_sections::Placed;
 use std::alloc::Global;
 use tables_numbers::Numbers;
@@ -152,7 +152,8 @@ fn push_class(
     ensures memory { IsOkUnless result memory }
 {
     are_bytes(sections.bytes());
-    let Some(all) = entries_at(alloc, sections, class_word(sections, i, 6))? else {
+    let data = class_word(sections, i, word::CLASS_DATA_OFF);
+    let Some(all) = entries_at(alloc, sections, data)? else {
         unreachable!()
     };
     push_bodies(bodies, i, &all.directs)?;

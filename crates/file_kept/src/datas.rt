@@ -21,7 +21,7 @@ ghost use Rattle.file_kept.specs.Sites.{AddsClassData, HasRoom};
 use dex_base::{Fault, put_uleb};
 use dex_container::Sections;
 use dex_insn::IndexKind;
-use file_classes::{Entries, FieldEntry, MethodEntry, class_count, class_word, entries_at};
+use file_classes::{Entries, FieldEntry, MethodEntry, class_count, class_word, entries_at, word};
 use file_sections::{Placed, put_field, put_method};
 use std::alloc::Global;
 use tables_numbers::Numbers;
@@ -143,7 +143,8 @@ fn put_class<'c>(
     ensures ok { IfOk result (λ x. (p : Program) → Keeps sections.now numbers.now p → AddsClassData p i codes.now x.1.now out.old.items out.new.items x.0) }
     ensures memory { IsOkUnless result memory }
 {
-    let Some(all) = entries_at(alloc, sections, class_word(sections, i, 6))? else {
+    let data = class_word(sections, i, word::CLASS_DATA_OFF);
+    let Some(all) = entries_at(alloc, sections, data)? else {
         unreachable!()
     };
     let (own, others) = codes.split_at(all.directs.len() + all.virtuals.len());

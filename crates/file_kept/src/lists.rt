@@ -21,6 +21,7 @@ use crate::moved::Moved;
 use dex_base::{Fault, push_words, u16_at};
 use dex_container::{Sections, kind, section_of};
 use dex_insn::IndexKind;
+use file_classes::word;
 use file_sections::Placed;
 use std::alloc::Global;
 use tables_numbers::Numbers;
@@ -176,7 +177,7 @@ pub fn put_lists(
     ensures memory { IsOkUnless result memory }
 {
     let mut offs = parameter_offsets(alloc, numbers, sections)?;
-    let interfaces = class_words(alloc, sections, 3)?;
+    let interfaces = class_words(alloc, sections, word::INTERFACES_OFF)?;
     offs.extend_from_slice(&interfaces)?;
     Ok(place_lists(alloc, out, numbers, sections, &offs)?)
 }

@@ -12,10 +12,19 @@ use indexmap::IndexMap;
 use std::alloc::Global;
 
 /// The items of a part, by their bytes and by where they stood.
-#[derive(Drop)]
 pub(crate) struct Moved {
     pub items: Items,
     pub places: IndexMap<u32, u32>,
+}
+
+// As that of `Items`.
+impl Drop for Moved {
+    fn drop(self) {
+        let Moved {
+            items: _,
+            places: _,
+        } = self;
+    }
 }
 
 // The byte at which the item of these bytes stands, to which it is appended unless an equal one stands already; 0 for

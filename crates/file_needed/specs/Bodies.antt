@@ -8,6 +8,7 @@ use Rattle.tables_names.specs.Closure.{method_of_class, with_names}
 use Rattle.tables_names.specs.Noted.{Notes, AreNoted}
 use Rattle.tables_names.specs.Numbers.{sets}
 
+-- all that it names
 abbrev pub names_of_body : Method → List Name
 names_of_body m = if_any names_of_code m.code
 
@@ -33,6 +34,7 @@ named_in_code p = flat_map named_in_class p
 abbrev pub methods_added : Descriptor → List Method → List Name
 methods_added class ms = OfDesc class ∷ map (method_of_class class) ms ++ flat_map caught_in_body ms
 
+-- of a class: its superclass, interfaces and source file, its fields and static values, its methods
 abbrev pub names_but_in_code : Class → List Name
 names_but_in_code c =
     if_any (λ t. OfDesc t ∷ []) c.superclass

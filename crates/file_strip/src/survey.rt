@@ -23,7 +23,7 @@ use crate::members::{look_at_methods, mark_fields};
 use dex_base::Fault;
 use dex_container::{Section, Sections, kind, section_of};
 use dex_insn::IndexKind;
-use file_classes::{Entries, class_count, class_word, entries_at};
+use file_classes::{Entries, class_count, class_word, entries_at, word};
 use file_kept::list_size;
 use file_limits::{plus, times};
 use indexmap::IndexMap;
@@ -134,10 +134,14 @@ fn mark_head(marks: &mut Marks, sections: &Sections<'_>, i: u32) -> Result<(), F
     ensures marked { OnOk result ((c : Class) → SpellsClass sections.now i c → AddsNames sections.now marks.old marks.new (names_of_head c)) }
     ensures memory { IsOkUnless result memory }
 {
-    marks.mark(sections, IndexKind::Type, class_word(sections, i, 0))?;
-    mark_superclass(marks, sections, class_word(sections, i, 2))?;
-    marks.mark_list(sections, class_word(sections, i, 3))?;
-    mark_source(marks, sections, class_word(sections, i, 4))?;
+    let class = class_word(sections, i, word::CLASS_IDX);
+    let superclass = class_word(sections, i, word::SUPERCLASS_IDX);
+    let interfaces = class_word(sections, i, word::INTERFACES_OFF);
+    let source = class_word(sections, i, word::SOURCE_FILE_IDX);
+    marks.mark(sections, IndexKind::Type, class)?;
+    mark_superclass(marks, sections, superclass)?;
+    marks.mark_list(sections, interfaces)?;
+    mark_source(marks, sections, source)?;
     Ok(())
 }
 
@@ -158,11 +162,13 @@ fn look_at_class(
     // Only for the proof: what holds of each value of its type.
     let _file = sections.bytes();
     mark_head(&mut found.marks, sections, i)?;
-    let Some(all) = entries_at(alloc, sections, class_word(sections, i, 6))? else {
+    let data = class_word(sections, i, word::CLASS_DATA_OFF);
+    let Some(all) = entries_at(alloc, sections, data)? else {
         unreachable!()
     };
-    let members = look_at_members(alloc, found, sections, &all, class_word(sections, i, 7))?;
-    let interfaces = list_size(sections, class_word(sections, i, 3));
+    let values = class_word(sections, i, word::STATIC_VALUES_OFF);
+    let members = look_at_members(alloc, found, sections, &all, values)?;
+    let interfaces = list_size(sections, class_word(sections, i, word::INTERFACES_OFF));
     Ok(plus(plus(32, interfaces), members))
 }
 

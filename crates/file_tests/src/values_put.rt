@@ -102,11 +102,10 @@ fn add<'a>(needed: &mut Needed<'a>, added: Added<'a>) -> Result<(), Fault> {
     }
 }
 
-// Alone owns what is needed. A call takes it on every path, since letting it go at each `?` is dear to prove; so below.
 fn ranks_of<'a>(alloc: Global, added: Added<'a>) -> Result<Ranks<'a>, Fault> {
     let mut needed = Needed::new(alloc);
-    let all = add(&mut needed, added);
-    all.and(needed.freeze())
+    add(&mut needed, added)?;
+    needed.freeze()
 }
 
 // What is asked of the ranks.
@@ -134,16 +133,13 @@ fn first_answered_otherwise(
     }
 }
 
-// Alone owns ranks.
 fn first_put_otherwise<'a>(
     alloc: Global,
     added: Added<'a>,
     asked: Asked<'_>,
 ) -> Result<Option<&'static str>, Fault> {
     let ranks = ranks_of(alloc, added)?;
-    let first = first_answered_otherwise(alloc, &ranks, asked);
-    drop(ranks);
-    first
+    first_answered_otherwise(alloc, &ranks, asked)
 }
 
 #[rattlefmt::skip]

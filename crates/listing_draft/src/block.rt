@@ -12,12 +12,22 @@ use program_types::Insn;
 use std::mem;
 
 /// The block that is open: none, before the first line or after it; a class; or a code of a class.
-#[derive(Drop)]
 pub enum Block<'a> {
     Start,
     Top,
     Class(InClass<'a>),
     Code(InCode<'a>),
+}
+
+// Each place where a block is let go is proved: here it is one call, and derived it would be all that a class and a code own.
+impl<'a> Drop for Block<'a> {
+    fn drop(self) {
+        match self {
+            Block::Start | Block::Top => {}
+            Block::Class(class) => drop(class),
+            Block::Code(code) => drop(code),
+        }
+    }
 }
 
 impl<'a> Block<'a> {

@@ -32,7 +32,6 @@ pub struct OpenTry<'a> {
 }
 
 /// How far the lines of a code have come.
-#[derive(Drop)]
 pub enum CodePart<'a> {
     /// Among its instructions.
     Insns,
@@ -40,6 +39,16 @@ pub enum CodePart<'a> {
     Tries,
     /// After a try, or a catch of it.
     Caught(OpenTry<'a>),
+}
+
+// As that of `Block`.
+impl<'a> Drop for CodePart<'a> {
+    fn drop(self) {
+        match self {
+            CodePart::Insns | CodePart::Tries => {}
+            CodePart::Caught(open) => drop(open),
+        }
+    }
 }
 
 /// A code among whose lines the next one stands, and its class.

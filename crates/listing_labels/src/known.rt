@@ -24,10 +24,16 @@ pub struct Place {
 ///
 /// The names of a listing that was printed rise: shorter ones come first, and those of one length by their bytes. As long as
 /// names do, they are put without a hash.
-#[derive(Drop)]
 pub struct Labels<'t> {
     front: Vec<(&'t [u8], Place)>,
     rest: IndexMap<&'t [u8], Place>,
+}
+
+// Each place where labels are let go is proved: here it is one call, and derived it would be all that they own.
+impl<'t> Drop for Labels<'t> {
+    fn drop(self) {
+        let Labels { front: _, rest: _ } = self;
+    }
 }
 
 impl<'t> Model for Labels<'t> {

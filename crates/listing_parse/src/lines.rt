@@ -46,13 +46,25 @@ fn read_form<'a, 'b>(
 
 /// Where a line's words, the slots of its shape and what they say are put: each line fills them anew. And the names that
 /// words have spelled.
-#[derive(Drop)]
 pub(crate) struct Scratch<'a, 'b> {
     pub(crate) arena: &'a Bump,
     pub(crate) words: Vec<Word<'a, 'b>, &'a Bump>,
     pub(crate) slots: Vec<Slot, &'a Bump>,
     pub(crate) says: Vec<Datum<'a>, &'a Bump>,
     pub(crate) spelled: Spelled<'a, 'b>,
+}
+
+// Each place where it is let go is proved: here it is one call, and derived it would be four.
+impl<'a, 'b> Drop for Scratch<'a, 'b> {
+    fn drop(self) {
+        let Scratch {
+            arena: _,
+            words: _,
+            slots: _,
+            says: _,
+            spelled: _,
+        } = self;
+    }
 }
 
 /// What the words after the first ones say in the slots; else the fault of the first that says nothing there.

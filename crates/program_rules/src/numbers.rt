@@ -81,10 +81,7 @@ fn are_distinct_in(alloc: Global, list: &[Desc<'_>]) -> Result<bool, Fault>
 fn is_first_again(numbers: &Numbers<'_>, i: usize) -> bool
     ensures { IsTrue result ↔ (numbers.now.again ≡ Some i) }
 {
-    match numbers.again {
-        Some(k) => k == i,
-        None => false,
-    }
+    numbers.again == Some(i)
 }
 
 /// Whether class `i` is defined once, after its superclass and its interfaces, each of which it gives once. All classes

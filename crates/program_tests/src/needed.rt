@@ -165,7 +165,6 @@ fn add<'a>(
     }
 }
 
-// Alone owns what is needed. A call takes it on every path, since letting it go at each `?` is dear to prove; so below.
 fn ranks_of<'a>(
     alloc: Global,
     here: &'a Bump,
@@ -173,9 +172,9 @@ fn ranks_of<'a>(
     added: Added,
 ) -> Result<Ranks<'a>, Fault> {
     let mut needed = Needed::new(alloc);
-    let all = add(&mut needed, here, there, added);
+    add(&mut needed, here, there, added)?;
     needed.holds_parts();
-    all.and(needed.freeze())
+    needed.freeze()
 }
 
 fn first_proto_elsewhere<'a>(
@@ -279,7 +278,6 @@ fn is_answered<'a>(
     }
 }
 
-// Alone owns ranks.
 fn is_ranked_in<'a>(
     alloc: Global,
     here: &'a Bump,
@@ -290,9 +288,7 @@ fn is_ranked_in<'a>(
     let ranks = ranks_of(alloc, here, there, added)?;
     ranks.holds_parts();
     ranks.rise();
-    let is_so = is_answered(alloc, here, there, &ranks, asked);
-    drop(ranks);
-    is_so
+    is_answered(alloc, here, there, &ranks, asked)
 }
 
 fn is_ranked_so(alloc: Global, added: Added, asked: Asked) -> Result<bool, Fault> {
@@ -397,10 +393,9 @@ fn note_three<'a>(noted: &mut Noted<'a>, arena: &'a Bump) -> Result<(), Fault> {
 
 fn noted_ranks<'a>(alloc: Global, arena: &'a Bump) -> Result<Vec<usize>, Fault> {
     let mut noted = Needed::new(alloc).noting();
-    let all = note_three(&mut noted, arena);
-    let (ranks, numbers) = noted.freeze()?;
-    drop(ranks);
-    all.and(Ok(numbers))
+    note_three(&mut noted, arena)?;
+    let (_, numbers) = noted.freeze()?;
+    Ok(numbers)
 }
 
 // The strings are I, LA;, f and x; there is one field.

@@ -1,5 +1,5 @@
 pub mod FiveLemmas
-pub mod HeldLemmas
+pub mod NameSetLemmas
 pub mod RisingLemmas
 pub mod RowLemmas
 pub mod SubsetLemmas
@@ -11,5 +11,5 @@ pub mod ShortyLemmas
 pub mod SortingLemmas
 pub mod OwnLemmas
 pub mod NumberLemmas
-pub mod NumberedLemmas
+pub mod NumberedNamesLemmas
 pub mod NotedLemmas

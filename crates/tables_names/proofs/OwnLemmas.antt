@@ -12,7 +12,7 @@ use Rattle.tables_names.specs.Closure.{Five, AreRising}
 use Rattle.tables_names.specs.Numbers.{FieldAt, MethodAt}
 use Rattle.tables_names.specs.declared.parts.FieldParts.{FieldParts}
 use Rattle.tables_names.specs.declared.parts.MethodParts.{MethodParts}
-use Rattle.tables_names.proofs.HeldLemmas.{searched_key}
+use Rattle.tables_names.proofs.NameSetLemmas.{searched_key}
 use Rattle.tables_names.proofs.NumberLemmas.{zip_get, zip_length}
 use Rattle.tables_names.proofs.PlaceLemmas.{member_at, place_of}
 use Rattle.tables_names.proofs.SortingLemmas.{field_cmp, field_ranks_cmp, method_cmp, method_ranks_cmp}

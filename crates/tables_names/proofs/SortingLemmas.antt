@@ -21,7 +21,7 @@ use Rattle.tables_names.specs.declared.parts.TypeParts.{TypeParts}
 use Rattle.tables_names.specs.declared.parts.ProtoParts.{ProtoParts}
 use Rattle.tables_names.specs.declared.parts.FieldParts.{FieldParts}
 use Rattle.tables_names.specs.declared.parts.MethodParts.{MethodParts}
-use Rattle.tables_names.proofs.HeldLemmas.{sorted_keys, same_keys}
+use Rattle.tables_names.proofs.NameSetLemmas.{sorted_keys, same_keys}
 use Rattle.tables_names.proofs.IndexLemmas.{units_by_index}
 use Rattle.tables_names.proofs.RowLemmas.{keys_compare_as_places}
 use Rattle.tables_names.proofs.PlaceLemmas.{member_at}

@@ -13,7 +13,7 @@
 mod row;
 
 // The names that a program needs, and their ranks.
-mod held;
+mod name_set;
 mod needed;
 mod noted;
 mod numbered;

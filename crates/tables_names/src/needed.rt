@@ -12,7 +12,7 @@ ghost use Rattle.tables_names.specs.Closure.{nothing, with_name, with_names, wit
 ghost use Rattle.tables_names.specs.Numbers.{sets};
 
 use crate::noted::Noted;
-use crate::numbered::Numbered;
+use crate::numbered::NumberedNames;
 use crate::ranks::Ranks;
 use bumpalo::Bump;
 use dex_base::Fault;
@@ -27,7 +27,7 @@ use std::marker::Model;
 /// may have left some of its parts; all that was held is held.
 #[derive(Drop)]
 pub struct Needed<'a> {
-    numbered: Numbered<'a>,
+    numbered: NumberedNames<'a>,
 }
 
 impl<'a> Model for Needed<'a> {
@@ -53,7 +53,7 @@ impl<'a> Needed<'a> {
         ensures { result ≡ nothing }
     {
         Needed {
-            numbered: Numbered::new(alloc),
+            numbered: NumberedNames::new(alloc),
         }
     }
 

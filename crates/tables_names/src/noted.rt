@@ -9,7 +9,7 @@ ghost use Rattle.tables_names.specs.Closure.{HasShorty, with_name};
 ghost use Rattle.tables_names.specs.Noted.{AreNoted, AreRanks, NumberIs, rank_by};
 ghost use Rattle.tables_names.specs.Numbers.{sets};
 
-use crate::numbered::Numbered;
+use crate::numbered::NumberedNames;
 use crate::ranks::Ranks;
 use crate::sorting::at;
 use bumpalo::Bump;
@@ -65,7 +65,7 @@ impl RankOf {
 /// lists of names and the numbers of those that were mentioned (`specs/Noted.antt`).
 #[derive(Drop)]
 pub struct Noted<'a> {
-    numbered: Numbered<'a>,
+    numbered: NumberedNames<'a>,
     numbers: Vec<Number>,
 }
 
@@ -79,7 +79,7 @@ impl<'a> Model for Noted<'a> {
 
 impl<'a> Noted<'a> {
     /// Names without a note.
-    pub(crate) fn new(numbered: Numbered<'a>) -> Self
+    pub(crate) fn new(numbered: NumberedNames<'a>) -> Self
         ensures names { result.names ≡ numbered.entry.names }
         ensures numbers { result.numbers ≡ [] }
     {
@@ -125,7 +125,7 @@ impl<'a> Noted<'a> {
 
 // The names with their ranks, and the ranks of those with these numbers.
 fn ranked<'a>(
-    numbered: Numbered<'a>,
+    numbered: NumberedNames<'a>,
     numbers: &[Number],
 ) -> Result<(Ranks<'a>, Vec<usize>), AllocError>
     ensures same { IfOk result (λ r. r.0 ≡ sets numbered.entry.names) }

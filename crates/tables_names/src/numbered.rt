@@ -16,7 +16,7 @@ ghost use Rattle.tables_names.specs.Closure.{nothing, with_name, with_names, wit
 ghost use Rattle.tables_names.specs.Noted.{NumberIs, LeadsTo};
 ghost use Rattle.tables_names.specs.Numbers.{sets, set_of, AllGrow, InOrderOfNeed, RanksOf, TypeAt, ProtoAt, FieldAt, MethodAt, FieldLeads, MethodLeads};
 
-use crate::held::{Held, Made};
+use crate::name_set::{NameSet, NamesWithParts};
 use crate::noted::{Number, RankOf};
 use crate::parts::{FieldParts, MethodParts, ProtoParts, TypeParts};
 use crate::ranks::Ranks;
@@ -31,17 +31,30 @@ use std::marker::Model;
 /// (`specs/Numbers.antt`).
 ///
 /// A name for which memory ran out may have left some of its parts; all that was held is held.
-#[derive(Drop)]
-pub(crate) struct Numbered<'a> {
+pub(crate) struct NumberedNames<'a> {
     alloc: Global,
-    strings: Held<Str<'a>>,
-    types: Made<Desc<'a>, TypeParts>,
-    protos: Made<Proto<'a>, ProtoParts>,
-    fields: Made<FieldRef<'a>, FieldParts>,
-    methods: Made<MethodRef<'a>, MethodParts>,
+    strings: NameSet<Str<'a>>,
+    types: NamesWithParts<Desc<'a>, TypeParts>,
+    protos: NamesWithParts<Proto<'a>, ProtoParts>,
+    fields: NamesWithParts<FieldRef<'a>, FieldParts>,
+    methods: NamesWithParts<MethodRef<'a>, MethodParts>,
 }
 
-impl<'a> Model for Numbered<'a> {
+// As that of `NameSet`.
+impl<'a> Drop for NumberedNames<'a> {
+    fn drop(self) {
+        let NumberedNames {
+            alloc: _,
+            strings: _,
+            types: _,
+            protos: _,
+            fields: _,
+            methods: _,
+        } = self;
+    }
+}
+
+impl<'a> Model for NumberedNames<'a> {
     ghost use Rattle.tables_names.specs.Numbers.{Order, InOrderOfNeed};
 
     ghost Value = { Order };
@@ -64,18 +77,18 @@ impl<'a> Model for Numbered<'a> {
 }
 
 #[tactic(auto, unfolding(crate::specs::Closure::with_name, crate::specs::Closure::with_proto, crate::specs::Closure::with_parts, crate::specs::Closure::with_proto_parts))]
-impl<'a> Numbered<'a> {
+impl<'a> NumberedNames<'a> {
     /// No name. Takes no memory.
     pub(crate) fn new(alloc: Global) -> Self
         ensures { result.names ≡ nothing }
     {
-        Numbered {
+        NumberedNames {
             alloc,
-            strings: Held::new(alloc),
-            types: Made::new(alloc),
-            protos: Made::new(alloc),
-            fields: Made::new(alloc),
-            methods: Made::new(alloc),
+            strings: NameSet::new(alloc),
+            types: NamesWithParts::new(alloc),
+            protos: NamesWithParts::new(alloc),
+            fields: NamesWithParts::new(alloc),
+            methods: NamesWithParts::new(alloc),
         }
     }
 
@@ -294,7 +307,7 @@ impl<'a> Numbered<'a> {
         ensures same { IfOk result (λ r. r.0 ≡ sets self.entry.names) }
         ensures ranks { IfOk result (λ r. LeadsTo self.entry.names r.0 r.1) }
     {
-        let Numbered {
+        let NumberedNames {
             alloc,
             strings,
             types,
@@ -311,9 +324,9 @@ impl<'a> Numbered<'a> {
 // Three kinds with their ranks.
 fn ranked_parts<'a>(
     alloc: Global,
-    strings: Held<Str<'a>>,
-    types: Made<Desc<'a>, TypeParts>,
-    protos: Made<Proto<'a>, ProtoParts>,
+    strings: NameSet<Str<'a>>,
+    types: NamesWithParts<Desc<'a>, TypeParts>,
+    protos: NamesWithParts<Proto<'a>, ProtoParts>,
 ) -> Result<Parts<'a>, AllocError>
     requires types { AllZip (TypeAt strings) types.names types.parts.items }
     requires protos { AllZip (ProtoAt types.names) protos.names protos.parts.items }
@@ -337,8 +350,8 @@ fn ranked_parts<'a>(
 fn ranked_members<'a>(
     alloc: Global,
     parts: &Parts<'a>,
-    fields: Made<FieldRef<'a>, FieldParts>,
-    methods: Made<MethodRef<'a>, MethodParts>,
+    fields: NamesWithParts<FieldRef<'a>, FieldParts>,
+    methods: NamesWithParts<MethodRef<'a>, MethodParts>,
 ) -> Result<Members<'a>, AllocError>
     requires fields { AllZip (FieldLeads parts.now.types.table.names parts.now.types.ranks.items parts.now.strings.names parts.now.strings.ranks.items) fields.names fields.parts.items }
     requires methods { AllZip (MethodLeads parts.now.types.table.names parts.now.types.ranks.items parts.now.strings.names parts.now.strings.ranks.items parts.now.protos.table.names parts.now.protos.ranks.items) methods.names methods.parts.items }

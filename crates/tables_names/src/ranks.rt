@@ -12,7 +12,7 @@ ghost use Rattle.tables_names.specs.Rank.{LookUpAnswers, IsAt};
 ghost use Rattle.tables_names.specs.Closure.{IsClosed, AreRising, NameRanks};
 ghost use Rattle.tables_names.specs.Numbers.{IsTables, TypeAt, ProtoAt, FieldAt, MethodAt};
 
-use crate::held::{Ranked, Table};
+use crate::name_set::{Ranked, Table};
 use crate::noted::RankOf;
 use crate::parts::{FieldParts, MethodParts, ProtoParts, TypeParts};
 use crate::shorty::index_of_shorty;
@@ -22,13 +22,25 @@ use std::marker::Model;
 
 /// The needed names of each of the five kinds, each with its rank: how many of its kind are less. It stands for the
 /// five sets, and takes no memory.
-#[derive(Drop)]
 pub struct Ranks<'a> {
     strings: Ranked<Str<'a>>,
     types: Table<Desc<'a>, TypeParts>,
     protos: Table<Proto<'a>, ProtoParts>,
     fields: Table<FieldRef<'a>, FieldParts>,
     methods: Table<MethodRef<'a>, MethodParts>,
+}
+
+// Each place where ranks are let go is proved: here it is one call, and derived it would be all that they own.
+impl<'a> Drop for Ranks<'a> {
+    fn drop(self) {
+        let Ranks {
+            strings: _,
+            types: _,
+            protos: _,
+            fields: _,
+            methods: _,
+        } = self;
+    }
 }
 
 impl<'a> Model for Ranks<'a> {

@@ -10,7 +10,7 @@ ghost use Rattle.program_types.specs.Key.{Key, key_cmp};
 ghost use Rattle.tables_names.specs.Rank.{IsAt, RanksDecide, Rising};
 ghost use Rattle.tables_names.specs.Numbers.{set_of, TypeAt, ProtoAt, FieldAt, MethodAt, RanksOf, FieldWithin, MethodWithin, field_ranks, method_ranks};
 
-use crate::held::{Held, Made, Ranked, Table};
+use crate::name_set::{NameSet, NamesWithParts, Ranked, Table};
 use crate::parts::{FieldParts, MethodParts, ProtoParts, TypeParts};
 use crate::row::Row;
 use indexmap::IndexSet;
@@ -147,7 +147,7 @@ fn with_ranks<T, P: Numbers<T>, N: Row>(
 // its number.
 fn sorted_rows<T, P: Numbers<T>, N: Row>(
     alloc: Global,
-    made: &Made<N, P>,
+    made: &NamesWithParts<N, P>,
     sorted: &T,
 ) -> Result<Vec<(P, N, usize)>, AllocError>
     requires parts { AllZip (λ k p. P.within sorted.now p × P.has sorted.now k (P.ranked sorted.now p)) made.now.names made.now.parts.items }
@@ -293,7 +293,7 @@ fn with_columns<N: Row, P: Copy>(
 // A kind in the order of these rows, which are its own and rise.
 fn in_order_of<N: Row, P: Copy>(
     alloc: Global,
-    made: Made<N, P>,
+    made: NamesWithParts<N, P>,
     rows: &[(P, N, usize)],
 ) -> Result<Sorted<N, P>, AllocError>
     requires distinct { IsDistinct N.eq (map (λ r. r.1) rows.now) }
@@ -311,7 +311,7 @@ fn in_order_of<N: Row, P: Copy>(
 /// Strings, sorted by content.
 pub(crate) fn sorted_strings<'a>(
     alloc: Global,
-    held: Held<Str<'a>>,
+    held: NameSet<Str<'a>>,
 ) -> Result<Texts<'a>, AllocError>
     ensures same { IfOk result (λ r. r.names ≡ set_of held.entry) }
     ensures ranks { IfOk result (λ r. RanksOf held.entry r.names r.ranks.items) }
@@ -328,7 +328,7 @@ pub(crate) fn sorted_strings<'a>(
 /// A kind, sorted by the ranks of its parts.
 pub(crate) fn sorted_by<T, P: Numbers<T>, N: Row>(
     alloc: Global,
-    made: Made<N, P>,
+    made: NamesWithParts<N, P>,
     sorted: &T,
 ) -> Result<Sorted<N, P>, AllocError>
     requires parts { AllZip (λ k p. P.within sorted.now p × P.has sorted.now k (P.ranked sorted.now p)) made.names made.parts.items }

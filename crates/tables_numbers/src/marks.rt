@@ -24,7 +24,6 @@ use tables_rows::{
 /// marks and for the offsets of the lists whose types are marked (`specs/Marked.antt`).
 ///
 /// A row for which memory ran out isn't marked, but some of its parts may be.
-#[derive(Drop)]
 pub struct Marks {
     strings: Vec<u32>,
     types: Vec<u32>,
@@ -32,6 +31,20 @@ pub struct Marks {
     fields: Vec<u32>,
     methods: Vec<u32>,
     lists: IndexSet<u32>,
+}
+
+// Each place where marks are let go is proved: here it is one call, and derived it would be all that they own.
+impl Drop for Marks {
+    fn drop(self) {
+        let Marks {
+            strings: _,
+            types: _,
+            protos: _,
+            fields: _,
+            methods: _,
+            lists: _,
+        } = self;
+    }
 }
 
 impl Model for Marks {

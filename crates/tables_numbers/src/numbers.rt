@@ -8,13 +8,25 @@ use std::marker::Model;
 
 /// Of each row of the five tables how many kept ones stand before it, and after the last row of a table how many there
 /// are. It stands for these numbers.
-#[derive(Drop)]
 pub struct Numbers {
     pub(crate) strings: Vec<u32>,
     pub(crate) types: Vec<u32>,
     pub(crate) protos: Vec<u32>,
     pub(crate) fields: Vec<u32>,
     pub(crate) methods: Vec<u32>,
+}
+
+// As that of `Marks`.
+impl Drop for Numbers {
+    fn drop(self) {
+        let Numbers {
+            strings: _,
+            types: _,
+            protos: _,
+            fields: _,
+            methods: _,
+        } = self;
+    }
 }
 
 impl Model for Numbers {

@@ -10,7 +10,7 @@ pub returns-clause-ok : goal.returns-clause-ok
 returns-clause-ok c =
     let b = c.args.sections.now in
     head_stands b c.args.i (entries c.in-Some-2.entries) _ c.in_ok-row.ensures.ok
-    (rw (← c.class_word-list.ensures) (rw c.in-Some.is at c.in_ok-interfaces.ensures.found)) (rw (← c.class_word.ensures) (rw c.in-Some-2.is at c.in_ok-entries.ensures.found))
+    (rw (← c.class_word-list.ensures) (rw c.in-Some.is at c.in_ok-interfaces.ensures.found)) (rw (← c.class_word-data.ensures) (rw c.in-Some-2.is at c.in_ok-entries.ensures.found))
     (record { statics = c.in_ok-members.ensures.ok.statics; instances = c.in_ok-members.ensures.ok.instances; directs = c.in_ok-members.ensures.ok.directs; virtuals = c.in_ok-members.ensures.ok.virtuals })
 
 pub returns-clause-holds : goal.returns-clause-holds
@@ -27,7 +27,7 @@ returns-clause-holds c =
       directs = c.in_ok-members.members.directs;
       virtuals = c.in_ok-members.members.virtuals;
     }) c.in_ok-row.ensures.ok
-    (rw (← c.class_word-list.ensures) (rw c.in-Some.is at c.in_ok-interfaces.ensures.found)) (rw (← c.class_word.ensures) (rw c.in-Some-2.is at c.in_ok-entries.ensures.found))
+    (rw (← c.class_word-list.ensures) (rw c.in-Some.is at c.in_ok-interfaces.ensures.found)) (rw (← c.class_word-data.ensures) (rw c.in-Some-2.is at c.in_ok-entries.ensures.found))
     (record { statics = c.in_ok-members.ensures.ok.statics; instances = c.in_ok-members.ensures.ok.instances; directs = c.in_ok-members.ensures.ok.directs; virtuals = c.in_ok-members.ensures.ok.virtuals }) (c.if-not-is_in_order.ensures.0 refl)
 
 pub is_in_order-requires-clause-within : goal.is_in_order-requires-clause-within
@@ -44,4 +44,4 @@ returns-in_err-members-clause-err c =
       interfaces = map desc c.in-Some.interfaces.now;
       row = c.in_ok-row.ensures.ok;
       list = rw (← c.class_word-list.ensures) (rw c.in-Some.is at c.in_ok-interfaces.ensures.found);
-    }) (c.if-not-is_in_order.ensures.0 refl) (rw (← c.class_word.ensures) (rw c.in-Some-2.is at c.in_ok-entries.ensures.found)) (c.in_err-members.ensures.err ne))
+    }) (c.if-not-is_in_order.ensures.0 refl) (rw (← c.class_word-data.ensures) (rw c.in-Some-2.is at c.in_ok-entries.ensures.found)) (c.in_err-members.ensures.err ne))

@@ -16,7 +16,7 @@ unreachable-requires c =
     let n = k.classes.count in
     let x = class_at c.requires.kept.0 c.args.i (omega (arith, n, c.requires.row)) in
     let st = k.classes.each c.args.i x.0 x.1 in
-    (rw c.in_default.is at c.in_ok-all.ensures.none) st.entries (subst (λ (o : ℕ). EntriesAt c.args.sections.now o st.entries) (sym c.class_word.ensures) st.head.class_data)
+    (rw c.in_default.is at c.in_ok-all.ensures.none) st.entries (subst (λ (o : ℕ). EntriesAt c.args.sections.now o st.entries) (sym c.class_word-data.ensures) st.head.class_data)
 
 pub split_at-requires : goal.split_at-requires
 split_at-requires c =
@@ -26,7 +26,7 @@ split_at-requires c =
     let n = k.classes.count in
     let x = class_at p c.args.i (omega (arith, n, c.requires.row)) in
     let all = c.in-Some.all in
-    let m = entries_carried b c.args.numbers.now p k c.args.i x.0 (entries all) x.1 (rw c.class_word.ensures at (rw c.in-Some.is at c.in_ok-all.ensures.found)) in
+    let m = entries_carried b c.args.numbers.now p k c.args.i x.0 (entries all) x.1 (rw c.class_word-data.ensures at (rw c.in-Some.is at c.in_ok-all.ensures.found)) in
     let d = m.directs.count in let v = m.virtuals.count in
     let f = length-map all.directs.items method_entry in let g = length-map all.virtuals.items method_entry in
     let room = (c.requires.kept.2 x.0 x.1).1 in
@@ -39,7 +39,7 @@ add_data-requires-clause-members c =
     let k = c.requires.kept.1 in
     let n = k.classes.count in
     let x = class_at p c.args.i (omega (arith, n, c.requires.row)) in
-    let m = entries_carried b c.args.numbers.now p k c.args.i x.0 (entries c.in-Some.all) x.1 (rw c.class_word.ensures at (rw c.in-Some.is at c.in_ok-all.ensures.found)) in
+    let m = entries_carried b c.args.numbers.now p k c.args.i x.0 (entries c.in-Some.all) x.1 (rw c.class_word-data.ensures at (rw c.in-Some.is at c.in_ok-all.ensures.found)) in
     (needed p, x.0, m, (c.requires.kept.2 x.0 x.1).0)
 
 pub add_data-requires-clause-codes : goal.add_data-requires-clause-codes
@@ -50,7 +50,7 @@ add_data-requires-clause-codes c =
     let n = k.classes.count in
     let x = class_at p c.args.i (omega (arith, n, c.requires.row)) in
     let all = c.in-Some.all in
-    let m = entries_carried b c.args.numbers.now p k c.args.i x.0 (entries all) x.1 (rw c.class_word.ensures at (rw c.in-Some.is at c.in_ok-all.ensures.found)) in
+    let m = entries_carried b c.args.numbers.now p k c.args.i x.0 (entries all) x.1 (rw c.class_word-data.ensures at (rw c.in-Some.is at c.in_ok-all.ensures.found)) in
     let d = m.directs.count in let v = m.virtuals.count in
     let f = length-map all.directs.items method_entry in let g = length-map all.virtuals.items method_entry in
     let room = (c.requires.kept.2 x.0 x.1).1 in
@@ -63,7 +63,7 @@ returns-clause-ok c = λ p k x at.
     let b = c.args.sections.now in
     let codes : List ℕ = c.args.codes.now in
     let all = c.in-Some.all in
-    let m = entries_carried b c.args.numbers.now p k c.args.i x (entries all) at (rw c.class_word.ensures at (rw c.in-Some.is at c.in_ok-all.ensures.found)) in
+    let m = entries_carried b c.args.numbers.now p k c.args.i x (entries all) at (rw c.class_word-data.ensures at (rw c.in-Some.is at c.in_ok-all.ensures.found)) in
     let d = m.directs.count in let v = m.virtuals.count in
     let f = length-map all.directs.items method_entry in let g = length-map all.virtuals.items method_entry in
     let count : c.len.result + c.len-2.result ≡ method_count x = omega (arith, d, v, f, g, c.len.ensures, c.len-2.ensures, all.directs.ok.0, all.virtuals.ok.0) in

@@ -6,7 +6,7 @@ use Rattle.program_types.specs.KeyLaws.{ordering_then-equal}
 use Rattle.program_types.specs.Shorty.{shorty}
 use Rattle.program_types.specs.View.{str, proto}
 use Rattle.tables_names.specs.Keys.{key_of_str}
-use Rattle.tables_names.proofs.HeldLemmas.{searched_key, index_fits}
+use Rattle.tables_names.proofs.NameSetLemmas.{searched_key, index_fits}
 use Rattle.tables_names.proofs.shorty.index_of_shorty.Goals as goal
 
 pub returns-in-Ok : goal.returns-in-Ok

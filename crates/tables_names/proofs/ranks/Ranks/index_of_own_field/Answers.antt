@@ -2,7 +2,7 @@ use Rattle.std.proofs.Common.{None, sym, ◌∙◌, true≢false}
 use Rattle.program_types.specs.View as view
 use Rattle.tables_names.specs.Keys.{own_field}
 use Rattle.tables_names.specs.declared.parts.FieldParts.{FieldParts}
-use Rattle.tables_names.proofs.HeldLemmas.{index_fits}
+use Rattle.tables_names.proofs.NameSetLemmas.{index_fits}
 use Rattle.tables_names.proofs.OwnLemmas.{field_searched, field_name_missing, field_type_missing}
 use Rattle.tables_names.proofs.PlaceLemmas.{some_of, none_of}
 use Rattle.tables_names.proofs.ranks.Ranks.index_of_own_field.Goals as goal

@@ -2,7 +2,7 @@ use Rattle.std.proofs.Common.{None, sym, ◌∙◌, true≢false}
 use Rattle.program_types.specs.View as view
 use Rattle.tables_names.specs.Keys.{own_method}
 use Rattle.tables_names.specs.declared.parts.MethodParts.{MethodParts}
-use Rattle.tables_names.proofs.HeldLemmas.{index_fits}
+use Rattle.tables_names.proofs.NameSetLemmas.{index_fits}
 use Rattle.tables_names.proofs.OwnLemmas.{method_searched, method_name_missing, proto_missing}
 use Rattle.tables_names.proofs.PlaceLemmas.{some_of, none_of}
 use Rattle.tables_names.proofs.ranks.Ranks.index_of_own_method.Goals as goal
