@@ -24,7 +24,7 @@ use Rattle.listing_parse.specs.Text.{begins_mark}
 use Rattle.listing_grammar.specs.Codes.{Numbered}
 use Rattle.listing_grammar.specs.Classes.{NoneTwice}
 use Rattle.listing_grammar.specs.Texts.{SaysLine, IsLabelLine, label_names, Where, outside, among, after_insns, SayLines, no_lines, silent, one_line, code_line, label_line, one_insn, no_insn, of_try, code_end}
-use Rattle.listing_grammar.proofs.AsideLaws.{none_each, found_same, no_aside}
+use Rattle.listing_grammar.proofs.FormLineLaws.{none_each, found_same, no_line_of_form}
 use Rattle.listing_grammar.proofs.HeadLaws.{same_true, distinct_last}
 use Rattle.listing_grammar.proofs.LineSteps.{insn_said, insn_as, labels_by}
 use Rattle.dex_base.proofs.LowPoints.{both}
@@ -212,7 +212,7 @@ no_mark : (es : List Label) (k : ℕ) (l : List ℕ) (x : Line) → SaysLine Two
 no_mark es k l x s = by s.has_shape
   where
     at : (text : List ℕ) (after : List Word) → s.words ≡ plain_word text ∷ after → is_mark (first_word l) ≡ false
-    at text after e = ap is_mark (first_is l s.words text after s.has_words e) ∙ sym (ap begins_mark e) ∙ (no_aside s.words s.shape s.has_shape).1
+    at text after e = ap is_mark (first_is l s.words text after s.has_words e) ∙ sym (ap begins_mark e) ∙ (no_line_of_form s.words s.shape s.has_shape).1
 
     by : HasBareShape s.words s.shape → is_mark (first_word l) ≡ false
     by (inl b) = at b.text b.after b.words

@@ -6,7 +6,7 @@ pub mod Numbering
 pub mod HeadLaws
 pub mod MemberLaws
 pub mod ClassLaws
-pub mod AsideLaws
+pub mod FormLineLaws
 pub mod LineSteps
 pub mod LabelLaws
 pub mod ReadOn

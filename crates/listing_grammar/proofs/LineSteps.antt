@@ -19,11 +19,11 @@ use Rattle.listing_lines.specs.Needs.{first_late, earliest}
 use Rattle.listing_labels.specs.Lines.{is_skipped}
 use Rattle.listing_labels.specs.Labels.{Label, labels_ahead}
 use Rattle.listing_parse.specs.Forms.{HasShapeInForm, may_stand_in_form}
-use Rattle.listing_parse.specs.Text.{Reading, is_second, aside, labels_after, LineSays, TakesLine}
-use Rattle.listing_parse.specs.declared.aside.Aside.TheVariants.{Nothing}
+use Rattle.listing_parse.specs.Text.{Reading, is_second, line_of_form, labels_after, LineSays, TakesLine}
+use Rattle.listing_parse.specs.declared.form_line.FormLine.TheVariants.{Nothing}
 use Rattle.listing_grammar.specs.Texts.{is_numbered, SaysLine}
 use Rattle.listing_grammar.specs.Runs.{line_stands, Steps}
-use Rattle.listing_grammar.proofs.AsideLaws.{no_aside}
+use Rattle.listing_grammar.proofs.FormLineLaws.{no_line_of_form}
 use Rattle.listing_grammar.proofs.LateLaws.{mapped, chosen}
 use Rattle.dex_base.proofs.LowPoints.{both}
 
@@ -149,15 +149,15 @@ later_is _ e = absurd cc
 
 -- ---- lines that are read
 
--- Words that say something of the program are no aside.
-pub aside_nothing : (form : Form) (es : List Label) (s : State) (ws : List Word) (sh : Shape) → HasShapeInForm form ws sh → is_start (stage_of s.block) ≡ false → aside (rd form es s) ws ≡ Nothing
-unfolding aside
-aside_nothing One es s ws sh h f = by (is_second ws) refl
+-- Words that say something of the program are no line_of_form.
+pub line_of_form_nothing : (form : Form) (es : List Label) (s : State) (ws : List Word) (sh : Shape) → HasShapeInForm form ws sh → is_start (stage_of s.block) ≡ false → line_of_form (rd form es s) ws ≡ Nothing
+unfolding line_of_form
+line_of_form_nothing One es s ws sh h f = by (is_second ws) refl
   where
-    by : (a : Bool) → is_second ws ≡ a → aside (rd One es s) ws ≡ Nothing
+    by : (a : Bool) → is_second ws ≡ a → line_of_form (rd One es s) ws ≡ Nothing
     by true p = rw (p, f) refl
     by false p = rw p refl
-aside_nothing Two es s ws sh h f = let n = no_aside ws sh h in rw (n.0, n.1) refl
+line_of_form_nothing Two es s ws sh h f = let n = no_line_of_form ws sh h in rw (n.0, n.1) refl
 
 numbered_here : (form : Form) (s : State) (sh : Shape) → may_stand_in_form form s sh ≡ true → (may_stand (stage_of s.block) sh.kind ≡ true) × (is_numbered form (insn_count s.block) sh ≡ true)
 numbered_here One s sh e = both (may_stand (stage_of s.block) sh.kind) (if is_insn sh.kind then is_number sh.label (insn_count s.block) else true) e
@@ -212,8 +212,8 @@ line_step form es s ls l ws u e h m =
       lines = ap (λ (y : State). y.lines) b ∙ lines_kept (counted s) m.next x m.added;
     }
 
--- The line is taken so, where it is no aside.
-pub step_by : (form : Form) (es : List Label) (s : State) (ls : List (List ℕ)) (l : List ℕ) (k : ℕ) (x : Line) (u : State) (y : SaysLine form es k l x) → (insn_said x ≡ true → insn_count s.block ≡ k) → aside (rd form es (counted s)) y.words ≡ Nothing → Steps s (s.lines + 1) x u
+-- The line is taken so, where it is no line_of_form.
+pub step_by : (form : Form) (es : List Label) (s : State) (ls : List (List ℕ)) (l : List ℕ) (k : ℕ) (x : Line) (u : State) (y : SaysLine form es k l x) → (insn_said x ≡ true → insn_count s.block ≡ k) → line_of_form (rd form es (counted s)) y.words ≡ Nothing → Steps s (s.lines + 1) x u
     → TakesLine (rd form es s) ls l (rd form (labels_by form x (s.lines + 1 + 1) ls es) u)
 step_by form es s ls l k x u y c a p =
     let i : is_insn y.shape.kind ≡ insn_said x = insn_as y.shape.kind y.says ∙ ap insn_said y.is in
@@ -233,4 +233,4 @@ step_by form es s ls l k x u y c a p =
 -- The line is taken so after the first line.
 pub step_taken : (form : Form) (es : List Label) (s : State) (ls : List (List ℕ)) (l : List ℕ) (k : ℕ) (x : Line) (u : State) → SaysLine form es k l x → (insn_said x ≡ true → insn_count s.block ≡ k) → is_start (stage_of s.block) ≡ false → Steps s (s.lines + 1) x u
     → TakesLine (rd form es s) ls l (rd form (labels_by form x (s.lines + 1 + 1) ls es) u)
-step_taken form es s ls l k x u y c b p = step_by form es s ls l k x u y c (aside_nothing form es (counted s) y.words y.shape y.has_shape b) p
+step_taken form es s ls l k x u y c b p = step_by form es s ls l k x u y c (line_of_form_nothing form es (counted s) y.words y.shape y.has_shape b) p

@@ -18,14 +18,14 @@ use Rattle.listing_lines.specs.declared.form.Form.{Form}
 use Rattle.listing_lines.specs.declared.form.Form.TheVariants.{One, Two}
 use Rattle.listing_draft.specs.States.{Block, at_start, at_top, in_code, State, stage_of, add}
 use Rattle.listing_labels.specs.Lines.{lines, is_skipped}
-use Rattle.listing_parse.specs.Text.{Reading, is_second, aside, in_second, LineSays, AddsLine, TakesLine, Reads, IsListing}
-use Rattle.listing_parse.specs.declared.aside.Aside.TheVariants.{Nothing, First, Mark}
+use Rattle.listing_parse.specs.Text.{Reading, is_second, line_of_form, in_second, LineSays, AddsLine, TakesLine, Reads, IsListing}
+use Rattle.listing_parse.specs.declared.form_line.FormLine.TheVariants.{Nothing, First, Mark}
 use Rattle.listing_grammar.specs.Codes.{Numbered, said}
 use Rattle.listing_grammar.specs.Classes.{ClassesText}
 use Rattle.listing_grammar.specs.Reads.{AreRead, SayRun}
 use Rattle.listing_grammar.specs.Runs.{at_line, Steps, Runs, with_classes, is_outside}
 use Rattle.listing_grammar.specs.Texts.{SaysLine, outside, SayLines, BeginsForm, ListingText}
-use Rattle.listing_grammar.proofs.AsideLaws.{one_after}
+use Rattle.listing_grammar.proofs.FormLineLaws.{one_after}
 use Rattle.listing_grammar.proofs.ClassLaws.{classes_read, classes_go}
 use Rattle.listing_grammar.proofs.LineSteps.{rd, insn_said, insn_as, line_step, step_by, out, part_of}
 use Rattle.listing_grammar.proofs.LabelLaws.{insn_kind}
@@ -124,7 +124,7 @@ first_headed n l ls u t x y p e f r = let h = p.stands in absurd cc
 adds_headed : (n : ℕ) (l : List ℕ) (ls : List (List ℕ)) (u t : Reading) → is_skipped l ≡ false → AddsLine (rd One [] (begun_at (n + 1))) ls l u → Reads u ls [] t → Headed n (l ∷ ls) t
 adds_headed n l ls u t q a r = by a.makes
   where
-    by : ((aside (rd One [] (begun_at (n + 1))) a.words ≡ First) × (u ≡ in_second (rd One [] (begun_at (n + 1))))) ⊎ ((aside (rd One [] (begun_at (n + 1))) a.words ≡ Mark) × (u ≡ rd One [] (begun_at (n + 1)))) ⊎ ((aside (rd One [] (begun_at (n + 1))) a.words ≡ Nothing) × LineSays (rd One [] (begun_at (n + 1))) ls a.words u)
+    by : ((line_of_form (rd One [] (begun_at (n + 1))) a.words ≡ First) × (u ≡ in_second (rd One [] (begun_at (n + 1))))) ⊎ ((line_of_form (rd One [] (begun_at (n + 1))) a.words ≡ Mark) × (u ≡ rd One [] (begun_at (n + 1)))) ⊎ ((line_of_form (rd One [] (begun_at (n + 1))) a.words ≡ Nothing) × LineSays (rd One [] (begun_at (n + 1))) ls a.words u)
         → Headed n (l ∷ ls) t
     by (inl m) = record {
       form = Two;
@@ -165,7 +165,7 @@ head_read (l ∷ ls) n t top r = by (subst (λ z. TakesLine (rd One [] (begun_at
     by (inr k) hyp = adds_headed n l ls r.0 t k.0 k.1 r.2
 
 first_on : (form : Form) (n : ℕ) (l : List ℕ) (ls : List (List ℕ)) → BeginsForm form l → TakesLine (rd One [] (begun_at n)) ls l (rd form [] (outside_at (n + 1)))
-unfolding aside add
+unfolding line_of_form add
 first_on One n l ls y = step_by One [] (begun_at n) ls l 0 first_line (outside_at (n + 1)) y (λ h. refl) (rw (not_second l y) refl) (record { stands = refl; added = refl })
 first_on Two n l ls y = inr (y.not_skipped, record { words = y.words; has_words = y.has_words; makes = inl (rw y.is_second refl, refl) })
 

@@ -14,8 +14,8 @@ use Rattle.listing_draft.specs.States.{Block, at_start, State, stage_of, insn_co
 use Rattle.listing_labels.specs.Lines.{is_skipped}
 use Rattle.listing_labels.specs.Labels.{Label, is_label, lookup, with_label, labels_ahead}
 use Rattle.listing_labels.proofs.AheadLaws.{ahead_skips}
-use Rattle.listing_parse.specs.Text.{Reading, is_second, begins_mark, is_on, mark_aside, aside, in_second, LineSays, AddsLine, TakesLine, Reads}
-use Rattle.listing_parse.specs.declared.aside.Aside.TheVariants.{Nothing, Refused, First, Mark}
+use Rattle.listing_parse.specs.Text.{Reading, is_second, begins_mark, is_on, line_of_mark, line_of_form, in_second, LineSays, AddsLine, TakesLine, Reads}
+use Rattle.listing_parse.specs.declared.form_line.FormLine.TheVariants.{Nothing, Refused, First, Mark}
 use Rattle.listing_grammar.specs.Codes.{Numbered}
 use Rattle.listing_grammar.specs.Classes.{NoneTwice}
 use Rattle.listing_grammar.specs.Runs.{line_stands, at_line, Steps, Runs, is_outside}
@@ -26,7 +26,7 @@ use Rattle.listing_grammar.proofs.LineSteps.{rd, insn_said, labels_by, out, insn
 use Rattle.listing_grammar.proofs.LabelLaws.{not_named, names_append, with_new, look_front, found_le, ahead_extends, label_ahead, insn_ahead, end_ahead, ends_insns, NoLabels}
 use Rattle.listing_grammar.proofs.ReadOn.{same_labels, within_place, none_by, end_by, out_goes}
 
--- ---- what an aside tells
+-- ---- what an line_of_form tells
 
 -- The line of a label.
 pub record MarkIs (form : Form) (es : List Label) (s : State) (ws : List Word) : Type 0 where
@@ -45,24 +45,24 @@ three_true : (a b c : Bool) → (if a then (if b then (if c then Mark else Refus
 three_true true true true e = (refl, refl, refl)
 three_true _ _ _ e = absurd cc
 
-mark_aside_is : (es : List Label) (s : State) (ws : List Word) → mark_aside (rd Two es s) ws ≡ Mark → MarkIs Two es s ws
-mark_aside_is es s (plain_word w ∷ []) e =
+line_of_mark_is : (es : List Label) (s : State) (ws : List Word) → line_of_mark (rd Two es s) ws ≡ Mark → MarkIs Two es s ws
+line_of_mark_is es s (plain_word w ∷ []) e =
     let h = three_true (is_insns (stage_of s.block)) (is_label w) (is_on s.lines (lookup w es)) e in
     record { name = w; alone = refl; second = refl; stands = h.0; label = h.1; on = h.2 }
-mark_aside_is es s _ e = absurd cc
+line_of_mark_is es s _ e = absurd cc
 
-mark_by : (es : List Label) (s : State) (ws : List Word) (a b : Bool) → is_second ws ≡ a → begins_mark ws ≡ b → aside (rd Two es s) ws ≡ Mark → MarkIs Two es s ws
-unfolding aside
+mark_by : (es : List Label) (s : State) (ws : List Word) (a b : Bool) → is_second ws ≡ a → begins_mark ws ≡ b → line_of_form (rd Two es s) ws ≡ Mark → MarkIs Two es s ws
+unfolding line_of_form
 mark_by es s ws true b p q e = absurd (start_no_mark (is_start (stage_of s.block)) (rw p at e))
-mark_by es s ws false true p q e = mark_aside_is es s ws (rw (p, q) at e)
+mark_by es s ws false true p q e = line_of_mark_is es s ws (rw (p, q) at e)
 mark_by es s ws false false p q e = let h : Nothing ≡ Mark = rw (p, q) at e in absurd cc
 
 no_mark_one : (a b : Bool) → (if a && b then (if b then First else Refused 103) else Nothing) ≡ Mark → ⊥
 no_mark_one true true e = cc
 no_mark_one _ _ e = cc
 
-pub mark_means : (form : Form) (es : List Label) (s : State) (ws : List Word) → aside (rd form es s) ws ≡ Mark → MarkIs form es s ws
-unfolding aside
+pub mark_means : (form : Form) (es : List Label) (s : State) (ws : List Word) → line_of_form (rd form es s) ws ≡ Mark → MarkIs form es s ws
+unfolding line_of_form
 mark_means One es s ws e = absurd (no_mark_one (is_second ws) (is_start (stage_of s.block)) e)
 mark_means Two es s ws e = mark_by es s ws (is_second ws) (begins_mark ws) refl refl e
 
@@ -70,7 +70,7 @@ never_first : (a b c : Bool) → (if a then (if b then (if c then Mark else Refu
 never_first true true true e = cc
 never_first _ _ _ e = cc
 
-mark_never_first : (r : Reading) (ws : List Word) → mark_aside r ws ≡ First → ⊥
+mark_never_first : (r : Reading) (ws : List Word) → line_of_mark r ws ≡ First → ⊥
 mark_never_first r (plain_word w ∷ []) e = never_first (is_insns (stage_of r.base.block)) (is_label w) (is_on r.base.lines (lookup w r.labels)) e
 mark_never_first r _ e = cc
 
@@ -82,14 +82,14 @@ first_one : (a b : Bool) → (if a && b then (if b then First else Refused 103) 
 first_one true true e = (refl, refl)
 first_one _ _ e = absurd cc
 
-first_by : (es : List Label) (s : State) (ws : List Word) (a b : Bool) → is_second ws ≡ a → begins_mark ws ≡ b → aside (rd Two es s) ws ≡ First → (is_second ws ≡ true) × (is_start (stage_of s.block) ≡ true)
-unfolding aside
+first_by : (es : List Label) (s : State) (ws : List Word) (a b : Bool) → is_second ws ≡ a → begins_mark ws ≡ b → line_of_form (rd Two es s) ws ≡ First → (is_second ws ≡ true) × (is_start (stage_of s.block) ≡ true)
+unfolding line_of_form
 first_by es s ws true b p q e = (p, start_first (is_start (stage_of s.block)) (rw p at e))
 first_by es s ws false true p q e = absurd (mark_never_first (rd Two es s) ws (rw (p, q) at e))
 first_by es s ws false false p q e = let h : Nothing ≡ First = rw (p, q) at e in absurd cc
 
-pub first_means : (form : Form) (es : List Label) (s : State) (ws : List Word) → aside (rd form es s) ws ≡ First → (is_second ws ≡ true) × (is_start (stage_of s.block) ≡ true)
-unfolding aside
+pub first_means : (form : Form) (es : List Label) (s : State) (ws : List Word) → line_of_form (rd form es s) ws ≡ First → (is_second ws ≡ true) × (is_start (stage_of s.block) ≡ true)
+unfolding line_of_form
 first_means One es s ws e = first_one (is_second ws) (is_start (stage_of s.block)) e
 first_means Two es s ws e = first_by es s ws (is_second ws) (begins_mark ws) refl refl e
 
@@ -322,7 +322,7 @@ end_gives at_later form es s t f top r = absurd (not_later t.base.block top (sym
 adds_gives : (st : Stand) (form : Form) (es : List Label) (s : State) (l : List ℕ) (ls : List (List ℕ)) (u t : Reading) → Fits st form es s (l ∷ ls) → Hyp ls t → is_skipped l ≡ false → AddsLine (rd form es (counted s)) ls l u → Reads u ls [] t → Gives st form es s.lines s (l ∷ ls) t.base
 adds_gives st form es s l ls u t f hyp q a r = by a.makes
   where
-    by : ((aside (rd form es (counted s)) a.words ≡ First) × (u ≡ in_second (rd form es (counted s)))) ⊎ ((aside (rd form es (counted s)) a.words ≡ Mark) × (u ≡ rd form es (counted s))) ⊎ ((aside (rd form es (counted s)) a.words ≡ Nothing) × LineSays (rd form es (counted s)) ls a.words u)
+    by : ((line_of_form (rd form es (counted s)) a.words ≡ First) × (u ≡ in_second (rd form es (counted s)))) ⊎ ((line_of_form (rd form es (counted s)) a.words ≡ Mark) × (u ≡ rd form es (counted s))) ⊎ ((line_of_form (rd form es (counted s)) a.words ≡ Nothing) × LineSays (rd form es (counted s)) ls a.words u)
         → Gives st form es s.lines s (l ∷ ls) t.base
     by (inl m) = let h = (first_means form es (counted s) a.words m.0).1 in let g : is_start (stage_of s.block) ≡ false = not_begun st form es s (l ∷ ls) f in absurd cc
     by (inr (inl m)) = mark_gives st form es s l ls t a.words f q a.has_words (mark_means form es (counted s) a.words m.0) hyp (subst (λ z. Reads z ls [] t) m.1 r)

@@ -10,8 +10,8 @@ use Rattle.listing_lines.specs.declared.form.Form.{Form}
 use Rattle.listing_lines.specs.declared.form.Form.TheVariants.{One, Two}
 use Rattle.listing_draft.specs.States.{Block, State, stage_of, insn_count, counted}
 use Rattle.listing_labels.specs.Labels.{Label, is_label, lookup}
-use Rattle.listing_parse.specs.Text.{Reading, is_on, aside, TakesLine, Reads}
-use Rattle.listing_parse.specs.declared.aside.Aside.TheVariants.{Mark}
+use Rattle.listing_parse.specs.Text.{Reading, is_on, line_of_form, TakesLine, Reads}
+use Rattle.listing_parse.specs.declared.form_line.FormLine.TheVariants.{Mark}
 use Rattle.listing_grammar.specs.Codes.{Numbered}
 use Rattle.listing_grammar.specs.Classes.{NoneTwice}
 use Rattle.listing_grammar.specs.Runs.{line_stands, at_line, Steps, Runs}
@@ -70,8 +70,8 @@ begun_by b (inr e) = ap is_start (insns_is b e.0 e.1).0
 
 -- ---- the label's line
 
-mark_there : (form : Form) (es : List Label) (s : State) (name : List ℕ) → is_two form ≡ true → is_label name ≡ true → is_insns (stage_of s.block) ≡ true → is_on s.lines (lookup name es) ≡ true → aside (rd form es s) (plain_word name ∷ []) ≡ Mark
-unfolding aside
+mark_there : (form : Form) (es : List Label) (s : State) (name : List ℕ) → is_two form ≡ true → is_label name ≡ true → is_insns (stage_of s.block) ≡ true → is_on s.lines (lookup name es) ≡ true → line_of_form (rd form es s) (plain_word name ∷ []) ≡ Mark
+unfolding line_of_form
 mark_there One es s name e l i o = absurd cc
 mark_there Two es s name e l i o = rw (label_marks name l, i, l, o) refl
 

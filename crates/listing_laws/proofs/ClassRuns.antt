@@ -11,7 +11,7 @@ use Rattle.program_rules.specs.WellFormed.{WellFormed}
 use Rattle.listing_lines.specs.Lines.{first_line, end_class, instance_line}
 use Rattle.listing_lines.specs.Places.{may_stand}
 use Rattle.listing_draft.specs.States.{State, Open, at_heads, start, add, closed}
-use Rattle.listing_parse.specs.Text.{aside, IsListing}
+use Rattle.listing_parse.specs.Text.{line_of_form, IsListing}
 use Rattle.listing_words.specs.Words.{Word, plain_word, IsWritable, line_bytes}
 use Rattle.listing_words.proofs.PrintLaws.{line_again}
 use Rattle.listing_slots.proofs.ShownLaws.{word_written}
@@ -95,7 +95,7 @@ second_first : List Word
 second_first = plain_word (codes "dex") ∷ plain_word (codes "035") ∷ plain_word (codes "listing") ∷ plain_word (codes "2") ∷ []
 
 first_runs : (form : Form) → RunsInto (bare One) start (first_text form) (bare form) (outside [] 1)
-unfolding add may_stand key_text same aside second_first
+unfolding add may_stand key_text same line_of_form second_first
 first_runs One = keyed_runs One start (outside [] 1) first_line tt tt (refl, tt) refl refl
 first_runs Two =
     let t = outside [] 1 in

@@ -13,8 +13,8 @@ use Rattle.listing_lines.specs.Needs.{Need, with_need, insn_needs}
 use Rattle.listing_lines.specs.Places.{is_insns}
 use Rattle.listing_draft.specs.States.{State, Open, Body, stage_of, counted, add, inside}
 use Rattle.listing_labels.specs.Labels.{Label, lookup}
-use Rattle.listing_parse.specs.Text.{aside}
-use Rattle.listing_parse.specs.declared.aside.Aside.TheVariants.{Mark}
+use Rattle.listing_parse.specs.Text.{line_of_form}
+use Rattle.listing_parse.specs.declared.form_line.FormLine.TheVariants.{Mark}
 use Rattle.listing_print.specs.Operands.{insn_operands, label_name}
 use Rattle.listing_print.specs.Printed.{insn_text, label_text}
 use Rattle.listing_print.specs.Canon.{is_named, label_if_named, insns_text}
@@ -33,8 +33,8 @@ nothing_runs f s rest u r = r
 
 -- ---- the line of a label
 
-label_is_mark : (es : List Label) (s : State) (k : ℕ) → k < 2 ^ 64 → is_insns (stage_of s.block) ≡ true → lookup (label_name k) es ≡ Some (label_of s.lines k) → aside (at (frame Two es) (counted s)) (plain_word (label_name k) ∷ []) ≡ Mark
-unfolding aside
+label_is_mark : (es : List Label) (s : State) (k : ℕ) → k < 2 ^ 64 → is_insns (stage_of s.block) ≡ true → lookup (label_name k) es ≡ Some (label_of s.lines k) → line_of_form (at (frame Two es) (counted s)) (plain_word (label_name k) ∷ []) ≡ Mark
+unfolding line_of_form
 label_is_mark es s k h m e = rw (m, named_label k h, e, eq-eqb (s.lines + 1) (s.lines + 1) refl) refl
 
 label_runs : (es : List Label) (s : State) (k : ℕ) → k < 2 ^ 64 → is_insns (stage_of s.block) ≡ true → lookup (label_name k) es ≡ Some (label_of s.lines k) → RunsTo (frame Two es) s (label_text k) (counted s)

@@ -32,8 +32,8 @@ use Rattle.listing_lines.specs.Places.{may_stand, is_insn, is_insns, is_start}
 use Rattle.listing_draft.specs.States.{State, stage_of, insn_count, counted, add}
 use Rattle.listing_labels.specs.Lines.{is_skipped}
 use Rattle.listing_labels.specs.Labels.{Label, is_mark, is_stop}
-use Rattle.listing_parse.specs.declared.aside.Aside.TheVariants as aside
-use Rattle.listing_parse.specs.Text.{TakesLine, LineSays, is_second, aside, labels_after}
+use Rattle.listing_parse.specs.declared.form_line.FormLine.TheVariants as line_of_form
+use Rattle.listing_parse.specs.Text.{TakesLine, LineSays, is_second, line_of_form, labels_after}
 use Rattle.listing_print.specs.Operands.{insn_operands, operand_text_in}
 use Rattle.listing_print.specs.Printed.{insn_word, insn_text}
 use Rattle.listing_print.specs.Reading.{slots_of, data_of, words_in, FitOperands, insn_kind, OpcodeFits}
@@ -41,7 +41,7 @@ use Rattle.listing_print.proofs.InsnLaws.{insn_has_shape, insn_has_bare_shape, n
 use Rattle.listing_laws.proofs.Runs.{RunsTo, frame, at}
 use Rattle.listing_laws.proofs.RunLaws.{IsLine, line_runs, line_is, words_line, spaced_words}
 use Rattle.listing_laws.proofs.FormWords.{words_written, text_is_in, TargetsAreMarked, spelled_in}
-use Rattle.listing_laws.proofs.KeyedLaws.{not_aside, no_aside}
+use Rattle.listing_laws.proofs.KeyedLaws.{not_line_of_form, no_line_of_form}
 use Rattle.dex_base.proofs.LowPoints.{both}
 
 -- ---- its words are written
@@ -195,17 +195,17 @@ not_start : (st : Stage) → is_insns st ≡ true → is_start st ≡ false
 not_start Insns a = refl
 not_start _ a = absurd cc
 
-plain_aside : (es : List Label) (s : State) (ws : List Word) → is_start (stage_of s.block) ≡ false → aside (at (frame One es) s) ws ≡ aside.Nothing
-unfolding aside
-plain_aside es s ws h = rw h (not_aside (is_second ws) (aside.Refused 103))
+plain_line_of_form : (es : List Label) (s : State) (ws : List Word) → is_start (stage_of s.block) ≡ false → line_of_form (at (frame One es) s) ws ≡ line_of_form.Nothing
+unfolding line_of_form
+plain_line_of_form es s ws h = rw h (not_line_of_form (is_second ws) (line_of_form.Refused 103))
 
 not_second : (m : List ℕ) (ws : List Word) → same (codes "dex") m ≡ false → is_second (plain_word m ∷ ws) ≡ false
 not_second m (a ∷ b ∷ c ∷ []) h = rw h refl
 not_second m _ h = refl
 
-insn_aside : (form : Form) (es : List Label) (s : State) (k : ℕ) (i : Insn) → OpcodeFits i → is_start (stage_of s.block) ≡ false → aside (at (frame form es) s) (insn_words form k i) ≡ aside.Nothing
-insn_aside One es s k i o h = plain_aside es s (insn_words One k i) h
-insn_aside Two es s k i o h = let x = insn_is_other i o in no_aside (frame Two es) s (insn_words Two k i) (not_second (insn_word i) (words_in Two (insn_operands i)) x.first) x.mark
+insn_line_of_form : (form : Form) (es : List Label) (s : State) (k : ℕ) (i : Insn) → OpcodeFits i → is_start (stage_of s.block) ≡ false → line_of_form (at (frame form es) s) (insn_words form k i) ≡ line_of_form.Nothing
+insn_line_of_form One es s k i o h = plain_line_of_form es s (insn_words One k i) h
+insn_line_of_form Two es s k i o h = let x = insn_is_other i o in no_line_of_form (frame Two es) s (insn_words Two k i) (not_second (insn_word i) (words_in Two (insn_operands i)) x.first) x.mark
 
 -- ---- its shape
 
@@ -246,7 +246,7 @@ insn_taken form es s t k i h o f g m e a ls =
       record {
         words = insn_words form k i;
         has_words = line_again (insn_words form k i) (insn_words_written form k i h o f);
-        makes = inr (inr (insn_aside form es (counted s) k i o (not_start (stage_of s.block) m), insn_says_so form es (counted s) t k i ls h o f g m e a));
+        makes = inr (inr (insn_line_of_form form es (counted s) k i o (not_start (stage_of s.block) m), insn_says_so form es (counted s) t k i ls h o f g m e a));
       },
     )
 

@@ -22,9 +22,9 @@ use Rattle.listing_draft.specs.States.{State, stage_of, counted, add}
 use Rattle.listing_labels.specs.Lines.{lines, is_skipped}
 use Rattle.listing_labels.specs.Labels.{Label}
 use Rattle.listing_parse.specs.Forms.{HasShapeInForm, may_stand_in_form}
-use Rattle.listing_parse.specs.Text.{Reading, TakesLine, Reads, is_second, begins_mark, mark_aside, aside, labels_after}
-use Rattle.listing_parse.specs.declared.aside.Aside.{Aside}
-use Rattle.listing_parse.specs.declared.aside.Aside.TheVariants.{Nothing}
+use Rattle.listing_parse.specs.Text.{Reading, TakesLine, Reads, is_second, begins_mark, line_of_mark, line_of_form, labels_after}
+use Rattle.listing_parse.specs.declared.form_line.FormLine.{FormLine}
+use Rattle.listing_parse.specs.declared.form_line.FormLine.TheVariants.{Nothing}
 use Rattle.listing_print.specs.Operands.{Operand, keyword, value_operands, values_operands}
 use Rattle.listing_print.specs.Printed.{line_key, line_operands, keyed_text, keyed_text_in}
 use Rattle.listing_print.specs.Reading.{slots_of, data_of, words_of, words_in, FitOperands, line_kind, IsKeyedLine}
@@ -41,14 +41,14 @@ use Rattle.base_bytes.proofs.ListFacts.{all_append}
 abbrev pub keyed_words : Form → Line → List Word
 keyed_words form l = plain_word (key_text (line_key l)) ∷ words_in form (line_operands l)
 
-pub not_aside : (b : Bool) (x : Aside) → (if b && false then x else Nothing) ≡ Nothing
-not_aside true x = refl
-not_aside false x = refl
+pub not_line_of_form : (b : Bool) (x : FormLine) → (if b && false then x else Nothing) ≡ Nothing
+not_line_of_form true x = refl
+not_line_of_form false x = refl
 
 -- it begins neither as the first line of the second form nor as a label's line
-pub no_aside : (f : Frame) (s : State) (ws : List Word) → is_second ws ≡ false → begins_mark ws ≡ false → aside (at f s) ws ≡ Nothing
-unfolding aside
-no_aside f s ws h k = rw (h, k) (not_aside (is_two f.form) (mark_aside (at f s) ws))
+pub no_line_of_form : (f : Frame) (s : State) (ws : List Word) → is_second ws ≡ false → begins_mark ws ≡ false → line_of_form (at f s) ws ≡ Nothing
+unfolding line_of_form
+no_line_of_form f s ws h k = rw (h, k) (not_line_of_form (is_two f.form) (line_of_mark (at f s) ws))
 
 keyed_plain : (form : Form) (l : Line) → IsKeyedLine l → (is_second (keyed_words form l) ≡ false) × (begins_mark (keyed_words form l) ≡ false)
 unfolding key_text same
@@ -97,7 +97,7 @@ keyed_taken f s t l k h g m a ls =
         words = keyed_words f.form l;
         has_words = line_again (keyed_words f.form l) w;
         makes = inr (inr (
-          no_aside f (counted s) (keyed_words f.form l) p.0 p.1,
+          no_line_of_form f (counted s) (keyed_words f.form l) p.0 p.1,
           record {
             shape = sh;
             has_shape = keyed_shape f.form l k h;

@@ -16,11 +16,11 @@ use Rattle.listing_labels.proofs.SpellLaws.{here_one, here_bad}
 use Rattle.listing_lines.specs.declared.form.Form.{Form}
 use Rattle.listing_lines.specs.declared.form.Form.TheVariants.{One, Two}
 use Rattle.listing_parse.specs.Forms.{HasShapeInForm, may_stand_in_form, SpellsInForm, MisspellsInForm}
-use Rattle.listing_parse.specs.declared.aside.Aside.TheVariants.{Nothing, Refused, First, Mark}
+use Rattle.listing_parse.specs.declared.form_line.FormLine.TheVariants.{Nothing, Refused, First, Mark}
 use Rattle.listing_lines.specs.Lines.{line_of}
 use Rattle.listing_slots.proofs.SpellLaws.{all_one, none_bad}
 use Rattle.listing_draft.specs.States.{add}
-use Rattle.listing_parse.specs.Text.{Reading, begin, line_counted, aside, in_second, LineSays, AddsLine, IsUnsaid, AreRefused, TakesLine, Reads, IsListing, LineIsRefused, IsBadLine, ListingBreaks}
+use Rattle.listing_parse.specs.Text.{Reading, begin, line_counted, line_of_form, in_second, LineSays, AddsLine, IsUnsaid, AreRefused, TakesLine, Reads, IsListing, LineIsRefused, IsBadLine, ListingBreaks}
 use Rattle.listing_slots.proofs.SpellsOneLaws.{spells_one}
 use Rattle.listing_shapes.proofs.ShapeLaws.{shapes_one, bare_one}
 
@@ -57,7 +57,7 @@ line_is_one r ls ws t u a b =
     a.is ∙ rw (k, n) (sym b.is)
 
 abbrev Makes : Reading → List (List ℕ) → List Word → Reading → Type 0
-Makes r ls ws t = ((aside r ws ≡ First) × (t ≡ in_second r)) ⊎ ((aside r ws ≡ Mark) × (t ≡ r)) ⊎ ((aside r ws ≡ Nothing) × LineSays r ls ws t)
+Makes r ls ws t = ((line_of_form r ws ≡ First) × (t ≡ in_second r)) ⊎ ((line_of_form r ws ≡ Mark) × (t ≡ r)) ⊎ ((line_of_form r ws ≡ Nothing) × LineSays r ls ws t)
 
 makes_one : (r : Reading) (ls : List (List ℕ)) (ws : List Word) (t u : Reading) → Makes r ls ws t → Makes r ls ws u → t ≡ u
 makes_one r ls ws t u (inl a) (inl b) = a.1 ∙ sym b.1

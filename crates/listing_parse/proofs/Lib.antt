@@ -1,6 +1,6 @@
 pub mod RefusedLaws
 pub mod ReadingLaws
-pub mod AsideLaws
+pub mod FormLineLaws
 pub mod ExactLaws
 pub mod OneFault
 pub mod NamedLaws

@@ -15,7 +15,7 @@ use Rattle.listing_labels.specs.Labels.{Label, MisspellsAll}
 use Rattle.listing_lines.specs.declared.form.Form.{Form}
 use Rattle.listing_lines.specs.declared.form.Form.TheVariants.{One, Two}
 use Rattle.listing_parse.specs.Forms.{HasShapeInForm, may_stand_in_form, MisspellsInForm}
-use Rattle.listing_parse.specs.declared.aside.Aside.TheVariants.{Nothing, Refused}
+use Rattle.listing_parse.specs.declared.form_line.FormLine.TheVariants.{Nothing, Refused}
 use Rattle.listing_parse.specs.Text.{Reading, begin, line_counted, IsMisplaced, IsMisspelled, IsTwice, IsUnsaid, AreRefused, Reads, LineIsRefused, IsBadLine, ListingBreaks}
 use Rattle.listing_parse.proofs.ExactLaws.{not_both, shape_one, says_none, reads_one, reads_over, refused_takes, bad_is_unread}
 

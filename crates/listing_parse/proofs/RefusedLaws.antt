@@ -7,10 +7,10 @@ use Rattle.listing_lines.specs.Lines.{line_of}
 use Rattle.listing_draft.specs.States.{State, add}
 use Rattle.listing_labels.specs.Lines.{is_skipped}
 use Rattle.listing_parse.specs.Forms.{HasShapeInForm, may_stand_in_form, SpellsInForm, MisspellsInForm}
-use Rattle.listing_parse.specs.Text.{Reading, aside, labels_after, LineSays, IsUnsaid, LineIsRefused}
-use Rattle.listing_parse.specs.declared.aside.Aside.TheVariants.{Nothing}
+use Rattle.listing_parse.specs.Text.{Reading, line_of_form, labels_after, LineSays, IsUnsaid, LineIsRefused}
+use Rattle.listing_parse.specs.declared.form_line.FormLine.TheVariants.{Nothing}
 
-pub unsaid_refused : (r : Reading) (line : List ℕ) (ws : List Word) (code : ℕ) → is_skipped line ≡ false → HasWords line ws → aside r ws ≡ Nothing → IsUnsaid r ws code → LineIsRefused r line code
+pub unsaid_refused : (r : Reading) (line : List ℕ) (ws : List Word) (code : ℕ) → is_skipped line ≡ false → HasWords line ws → line_of_form r ws ≡ Nothing → IsUnsaid r ws code → LineIsRefused r line code
 unsaid_refused r line ws code k h e u = record { not_skipped = k; why = inr (ws, h, inr (e, u)) }
 
 pub shapeless : (r : Reading) (ws : List Word) → ((sh : Shape) → HasShapeInForm r.form ws sh → ⊥) → IsUnsaid r ws 100

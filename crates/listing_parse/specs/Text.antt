@@ -19,8 +19,8 @@ use Rattle.listing_labels.specs.Labels.{Label, is_label, is_mark, lookup, labels
 use Rattle.listing_parse.specs.Forms.{HasShapeInForm, may_stand_in_form, SpellsInForm, MisspellsInForm}
 use Rattle.listing_lines.specs.declared.form.Form.{Form}
 use Rattle.listing_lines.specs.declared.form.Form.TheVariants.{One, Two}
-use Rattle.listing_parse.specs.declared.aside.Aside.{Aside}
-use Rattle.listing_parse.specs.declared.aside.Aside.TheVariants.{Nothing, Refused, First, Mark}
+use Rattle.listing_parse.specs.declared.form_line.FormLine.{FormLine}
+use Rattle.listing_parse.specs.declared.form_line.FormLine.TheVariants.{Nothing, Refused, First, Mark}
 
 -- A listing that is being read: its form, the labels of the open code, and what its lines make.
 pub record Reading : Type 0 where
@@ -59,19 +59,19 @@ is_on line None = true
 is_on line (Some l) = l.line == line
 
 -- A label alone: well formed, and not defined before.
-abbrev pub label_aside : Reading → List ℕ → Aside
-label_aside r w = if is_label w then (if is_on r.base.lines (lookup w r.labels) then Mark else Refused 104) else Refused 101
+abbrev pub line_of_label : Reading → List ℕ → FormLine
+line_of_label r w = if is_label w then (if is_on r.base.lines (lookup w r.labels) then Mark else Refused 104) else Refused 101
 
 -- The line of a label: one word, among instructions.
-abbrev pub mark_aside : Reading → List Word → Aside
-mark_aside r (plain_word w ∷ []) = if is_insns (stage_of r.base.block) then label_aside r w else Refused 103
-mark_aside r _ = Refused 100
+abbrev pub line_of_mark : Reading → List Word → FormLine
+line_of_mark r (plain_word w ∷ []) = if is_insns (stage_of r.base.block) then line_of_label r w else Refused 103
+line_of_mark r _ = Refused 100
 
 -- What a line is that says nothing of the program: the first line of the second form, or a label's line, or why neither.
-unfoldable pub aside : Reading → List Word → Aside
-aside r ws =
+unfoldable pub line_of_form : Reading → List Word → FormLine
+line_of_form r ws =
     if is_second ws && (is_two r.form || is_start (stage_of r.base.block)) then (if is_start (stage_of r.base.block) then First else Refused 103)
-    else (if is_two r.form && begins_mark ws then mark_aside r ws else Nothing)
+    else (if is_two r.form && begins_mark ws then line_of_mark r ws else Nothing)
 
 -- The listing is of the second form.
 abbrev pub in_second : Reading → Reading
@@ -100,7 +100,7 @@ pub record LineSays (r : Reading) (ls : List (List ℕ)) (ws : List Word) (t : R
 pub record AddsLine (r : Reading) (ls : List (List ℕ)) (line : List ℕ) (t : Reading) : Type 0 where
   pub words : List Word
   pub has_words : HasWords line words
-  pub makes : ((aside r words ≡ First) × (t ≡ in_second r)) ⊎ ((aside r words ≡ Mark) × (t ≡ r)) ⊎ ((aside r words ≡ Nothing) × LineSays r ls words t)
+  pub makes : ((line_of_form r words ≡ First) × (t ≡ in_second r)) ⊎ ((line_of_form r words ≡ Mark) × (t ≡ r)) ⊎ ((line_of_form r words ≡ Nothing) × LineSays r ls words t)
 
 -- A line is read, whether it is skipped or says something: it counts in any case.
 abbrev pub TakesLine : Reading → List (List ℕ) → List ℕ → Reading → Type 0
@@ -155,7 +155,7 @@ IsUnsaid r ws code = ((code ≡ 100) × ((sh : Shape) → HasShapeInForm r.form 
 
 -- Why these words are refused: as the first line of a form or as a label's line, or as any other.
 abbrev pub AreRefused : Reading → List Word → ℕ → Type 0
-AreRefused r ws code = (aside r ws ≡ Refused code) ⊎ ((aside r ws ≡ Nothing) × IsUnsaid r ws code)
+AreRefused r ws code = (line_of_form r ws ≡ Refused code) ⊎ ((line_of_form r ws ≡ Nothing) × IsUnsaid r ws code)
 
 -- Why a line is refused after the lines that make r.
 pub record LineIsRefused (r : Reading) (line : List ℕ) (code : ℕ) : Type 0 where

@@ -3,13 +3,13 @@
 //! docs/MAP.md says where this crate stands among the others.
 #![tactic(auto)]
 
-mod aside;
+mod form_line;
 mod law;
 mod lines;
 mod listing;
 mod reading;
 
-pub use aside::Aside;
+pub use form_line::FormLine;
 pub use law::{one_fault, one_program};
 pub use listing::parse;
 pub use reading::Reading;

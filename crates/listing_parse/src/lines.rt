@@ -16,7 +16,7 @@ ghost use Rattle.listing_parse.specs.Named.{ReadingIsNamed};
 ghost use Rattle.listing_parse.specs.Text.{line_counted, LineSays, IsUnsaid, AddsLine, TakesLine, LineIsRefused};
 ghost use Rattle.listing_parse.specs.View.{reading};
 
-use crate::aside::Aside;
+use crate::form_line::FormLine;
 use crate::reading::Reading;
 use bumpalo::Bump;
 use dex_base::{Fault, fault};
@@ -170,14 +170,14 @@ fn add_line<'a, 'b>(
     if !read_words(scratch.arena, line, &mut scratch.words)? {
         return Err(Fault::at(fault::LINE_WORD, listing.draft.lines));
     }
-    match listing.aside(scratch.words.as_slice()) {
-        Aside::Nothing => add_says(scratch, listing, after),
-        Aside::Refused(code) => Err(Fault::at(code, listing.draft.lines)),
-        Aside::First => {
+    match listing.line_of_form(scratch.words.as_slice()) {
+        FormLine::Nothing => add_says(scratch, listing, after),
+        FormLine::Refused(code) => Err(Fault::at(code, listing.draft.lines)),
+        FormLine::First => {
             listing.begin_second();
             Ok(())
         }
-        Aside::Mark => {
+        FormLine::Mark => {
             listing.pass_label();
             Ok(())
         }

@@ -11,7 +11,7 @@ ghost use Rattle.listing_parse.specs.Forms.{may_stand_in_form};
 ghost use Rattle.listing_parse.specs.Text.{word_is, is_second, begins_mark, labels_after};
 ghost use Rattle.listing_parse.specs.View.{reading};
 
-use crate::aside::Aside;
+use crate::form_line::FormLine;
 use dex_base::{Fault, fault};
 use listing_draft::{Block, Draft};
 use listing_labels::{Labels, is_label, is_mark, look_ahead};
@@ -80,65 +80,65 @@ impl<'a, 't> Reading<'a, 't> {
     ghost use Rattle.listing_slots.specs.declared.slot.Slot.{Slot};
     ghost use Rattle.listing_words.specs.Words as words;
     ghost use Rattle.listing_shapes.specs.ShapeView.{shape};
-    ghost use Rattle.listing_parse.specs.Text.{label_aside, mark_aside, aside, in_second};
+    ghost use Rattle.listing_parse.specs.Text.{line_of_label, line_of_mark, line_of_form, in_second};
 
     /// What the line of a label is.
     #[tactic(auto, unfolding(crate::specs::View::reading))]
-    fn label_aside(&self, name: &[u8]) -> Aside
-        ensures { result ≡ label_aside (reading self.now) name.now }
+    fn line_of_label(&self, name: &[u8]) -> FormLine
+        ensures { result ≡ line_of_label (reading self.now) name.now }
     {
         if !is_label(name) {
-            return Aside::Refused(fault::LINE_NAME);
+            return FormLine::Refused(fault::LINE_NAME);
         }
         match self.labels.place_of(self.passed, name) {
             Some(place) => {
                 if place.line == self.draft.lines {
-                    return Aside::Mark;
+                    return FormLine::Mark;
                 }
-                Aside::Refused(fault::LINE_TWICE)
+                FormLine::Refused(fault::LINE_TWICE)
             }
-            None => Aside::Mark,
+            None => FormLine::Mark,
         }
     }
 
     /// What a line is that begins with a label.
     #[tactic(auto, unfolding(crate::specs::View::reading))]
-    fn mark_aside(&self, words: &[Word<'_, '_>]) -> Aside
-        ensures { result ≡ mark_aside (reading self.now) (map word words.now) }
+    fn line_of_mark(&self, words: &[Word<'_, '_>]) -> FormLine
+        ensures { result ≡ line_of_mark (reading self.now) (map word words.now) }
     {
         let Some((Word::Plain(name), rest)) = words.split_first() else {
-            return Aside::Refused(fault::LINE_WORD);
+            return FormLine::Refused(fault::LINE_WORD);
         };
         if rest.len() > 0 {
-            return Aside::Refused(fault::LINE_WORD);
+            return FormLine::Refused(fault::LINE_WORD);
         }
         if !is_insns(self.draft.stage()) {
-            return Aside::Refused(fault::LINE_ORDER);
+            return FormLine::Refused(fault::LINE_ORDER);
         }
-        self.label_aside(name)
+        self.line_of_label(name)
     }
 
     /// What a line of these words is if it says nothing of the program.
-    #[tactic(auto, unfolding(crate::specs::View::reading, crate::specs::Text::aside))]
-    pub(crate) fn aside(&self, words: &[Word<'_, '_>]) -> Aside
-        ensures { result ≡ aside (reading self.now) (map word words.now) }
+    #[tactic(auto, unfolding(crate::specs::View::reading, crate::specs::Text::line_of_form))]
+    pub(crate) fn line_of_form(&self, words: &[Word<'_, '_>]) -> FormLine
+        ensures { result ≡ line_of_form (reading self.now) (map word words.now) }
     {
         if is_second(words) {
             if is_start(self.draft.stage()) {
-                return Aside::First;
+                return FormLine::First;
             }
             if is_two(self.form) {
-                return Aside::Refused(fault::LINE_ORDER);
+                return FormLine::Refused(fault::LINE_ORDER);
             }
-            return Aside::Nothing;
+            return FormLine::Nothing;
         }
         if !is_two(self.form) {
-            return Aside::Nothing;
+            return FormLine::Nothing;
         }
         if begins_mark(words) {
-            return self.mark_aside(words);
+            return self.line_of_mark(words);
         }
-        Aside::Nothing
+        FormLine::Nothing
     }
 
     /// The listing is of the second form.

@@ -11,7 +11,7 @@ pub returns-in-Nothing-clause-refused : goal.returns-in-Nothing-clause-refused
 returns-in-Nothing-clause-refused c =
     IfErr-weaker c.add_says.result _ _
     (λ e said ne. unsaid_refused (reading c.args.listing.now) c.args.line.now (map word c.read_words.new.words.items) e.code c.requires.says (rw c.if-not-branch.false at c.in_ok-read_words.ensures.read)
-    (sym (rw c.as_slice.ensures.value at c.aside.ensures) ∙ c.in-Nothing.is) (said ne))
+    (sym (rw c.as_slice.ensures.value at c.line_of_form.ensures) ∙ c.in-Nothing.is) (said ne))
     c.add_says.ensures.refused
 
 pub returns-in-First-clause-named : goal.returns-in-First-clause-named

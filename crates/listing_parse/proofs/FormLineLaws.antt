@@ -10,9 +10,9 @@ use Rattle.listing_lines.specs.Places.{is_start, is_insns}
 use Rattle.listing_words.specs.Words.{Word, plain_word}
 use Rattle.listing_words.specs.View.{word}
 use Rattle.listing_words.specs.declared.words.Word.{Word as Made}
-use Rattle.listing_parse.specs.Text.{Reading, is_on, is_second, label_aside, mark_aside, aside}
-use Rattle.listing_parse.specs.declared.aside.Aside.{Aside}
-use Rattle.listing_parse.specs.declared.aside.Aside.TheVariants.{Nothing, Refused, First, Mark}
+use Rattle.listing_parse.specs.Text.{Reading, is_on, is_second, line_of_label, line_of_mark, line_of_form}
+use Rattle.listing_parse.specs.declared.form_line.FormLine.{FormLine}
+use Rattle.listing_parse.specs.declared.form_line.FormLine.TheVariants.{Nothing, Refused, First, Mark}
 use Rattle.base_bytes.proofs.ListFacts.{or_last}
 
 -- the place is of this line
@@ -24,24 +24,24 @@ on_place : (line : ℕ) (o : Option Label) → is_on line o ≡ place_on line (p
 on_place line None = refl
 on_place line (Some l) = refl
 
-pub label_here : (r : Reading) (w : List ℕ) (p : Place) → is_label w ≡ true → place_in (lookup w r.labels) ≡ Some p → p.line ≡ r.base.lines → Mark ≡ label_aside r w
+pub label_here : (r : Reading) (w : List ℕ) (p : Place) → is_label w ≡ true → place_in (lookup w r.labels) ≡ Some p → p.line ≡ r.base.lines → Mark ≡ line_of_label r w
 label_here r w p a b e = rw (a, on_place r.base.lines (lookup w r.labels), b, eq-eqb p.line r.base.lines e) refl
 
-pub label_there : (r : Reading) (w : List ℕ) (p : Place) → is_label w ≡ true → place_in (lookup w r.labels) ≡ Some p → p.line ≢ r.base.lines → Refused 104 ≡ label_aside r w
+pub label_there : (r : Reading) (w : List ℕ) (p : Place) → is_label w ≡ true → place_in (lookup w r.labels) ≡ Some p → p.line ≢ r.base.lines → Refused 104 ≡ line_of_label r w
 label_there r w p a b e = rw (a, on_place r.base.lines (lookup w r.labels), b, ne_eqb p.line r.base.lines e) refl
 
 -- ---- the first line of the second form
 
-pub second_first : (r : Reading) (ws : List Word) → is_second ws ≡ true → is_start (stage_of r.base.block) ≡ true → First ≡ aside r ws
-unfolding aside
+pub second_first : (r : Reading) (ws : List Word) → is_second ws ≡ true → is_start (stage_of r.base.block) ≡ true → First ≡ line_of_form r ws
+unfolding line_of_form
 second_first r ws a b = rw (a, b, or_last (is_two r.form)) refl
 
-pub second_late : (r : Reading) (ws : List Word) → is_second ws ≡ true → is_start (stage_of r.base.block) ≡ false → is_two r.form ≡ true → Refused 103 ≡ aside r ws
-unfolding aside
+pub second_late : (r : Reading) (ws : List Word) → is_second ws ≡ true → is_start (stage_of r.base.block) ≡ false → is_two r.form ≡ true → Refused 103 ≡ line_of_form r ws
+unfolding line_of_form
 second_late r ws a b d = rw (a, b, d) refl
 
-pub second_elsewhere : (r : Reading) (ws : List Word) → is_second ws ≡ true → is_start (stage_of r.base.block) ≡ false → is_two r.form ≡ false → Nothing ≡ aside r ws
-unfolding aside
+pub second_elsewhere : (r : Reading) (ws : List Word) → is_second ws ≡ true → is_start (stage_of r.base.block) ≡ false → is_two r.form ≡ false → Nothing ≡ line_of_form r ws
+unfolding line_of_form
 second_elsewhere r ws a b d = rw (a, b, d) refl
 
 -- ---- a word that begins with `:`
@@ -50,8 +50,8 @@ pub lone : (ws rest : List Made) (x : Made) (name : List ℕ) → ws ≡ x ∷ r
 lone ws [] x name e l f = ap (map word) e ∙ ap (λ (w : Word). w ∷ []) f
 lone ws (y ∷ rest) x name e l f = absurd (omega (arith, l))
 
-pub mark_misplaced : (r : Reading) (ws : List Word) (name : List ℕ) → ws ≡ plain_word name ∷ [] → is_insns (stage_of r.base.block) ≡ false → Refused 103 ≡ mark_aside r ws
+pub mark_misplaced : (r : Reading) (ws : List Word) (name : List ℕ) → ws ≡ plain_word name ∷ [] → is_insns (stage_of r.base.block) ≡ false → Refused 103 ≡ line_of_mark r ws
 mark_misplaced r ws name e a = rw (e, a) refl
 
-pub mark_placed : (r : Reading) (ws : List Word) (name : List ℕ) (x : Aside) → ws ≡ plain_word name ∷ [] → is_insns (stage_of r.base.block) ≡ true → x ≡ label_aside r name → x ≡ mark_aside r ws
+pub mark_placed : (r : Reading) (ws : List Word) (name : List ℕ) (x : FormLine) → ws ≡ plain_word name ∷ [] → is_insns (stage_of r.base.block) ≡ true → x ≡ line_of_label r name → x ≡ line_of_mark r ws
 mark_placed r ws name x e a l = rw (e, a) l

@@ -1,8 +1,8 @@
 use Rattle.std.proofs.Common.{◌∙◌, sym}
 use Rattle.listing_draft.specs.View.{state}
 use Rattle.listing_parse.specs.View.{reading}
-use Rattle.listing_parse.proofs.AsideLaws.{label_here, label_there}
-use Rattle.listing_parse.proofs.reading.Reading.label_aside.Goals as goal
+use Rattle.listing_parse.proofs.FormLineLaws.{label_here, label_there}
+use Rattle.listing_parse.proofs.reading.Reading.line_of_label.Goals as goal
 
 pub returns-then-place-self : goal.returns-then-place-self
 unfolding reading state

@@ -91,12 +91,12 @@ insn_free : (text : List ℕ) (ws : List Word) (row : Row) → IsInsnRow text ws
 insn_free text ws row (inl a) = named_free a.0 text a.1
 insn_free text ws row (inr a) = found_free payload_keys text a.0 a.1
 
-pub no_aside : (ws : List Word) (sh : Shape) → HasBareShape ws sh → (is_second ws ≡ false) × (begins_mark ws ≡ false)
+pub no_line_of_form : (ws : List Word) (sh : Shape) → HasBareShape ws sh → (is_second ws ≡ false) × (begins_mark ws ≡ false)
 unfolding key_text
-no_aside ws sh (inl b) =
+no_line_of_form ws sh (inl b) =
     let n : same (codes "dex") b.text ≡ false = (none_each lead_keys b.text b.no_lead).0 in
     (ap is_second b.words ∙ second_first b.text b.after n, ap begins_mark b.insn.words ∙ insn_free b.insn.text b.insn.after b.row b.insn.has_row)
-no_aside ws sh (inr b) = (
+no_line_of_form ws sh (inr b) = (
   ap is_second b.words ∙ keyed_second b.keyed.lead b.text b.after b.row (found_same lead_keys b.text b.keyed.lead b.keyed.found) b.keyed.has_row b.keyed.forms,
   ap begins_mark b.words ∙ found_free lead_keys b.text b.keyed.lead b.keyed.found,
 )
