@@ -34,7 +34,7 @@ named_in_code p = flat_map named_in_class p
 abbrev pub methods_added : Descriptor → List Method → List Name
 methods_added class ms = OfDesc class ∷ map (method_of_class class) ms ++ flat_map caught_in_body ms
 
--- of a class: its superclass, interfaces and source file, its fields and static values, its methods
+-- of a class: its superclass, interfaces and source file, its own type, fields and static values, its methods and what they catch
 abbrev pub names_but_in_code : Class → List Name
 names_but_in_code c =
     if_any (λ t. OfDesc t ∷ []) c.superclass
