@@ -1,2 +1,16 @@
 pub mod FitLaws
 pub mod BreakLaws
+-- What stands below, for the crates above.
+pub use Rattle.code_put.proofs.CodesFormed
+pub use Rattle.code_put.proofs.FaultLaws
+pub use Rattle.code_put.proofs.ItemLaws
+pub use Rattle.code_put.proofs.SaidLaws
+pub use Rattle.code_put.proofs.CodeOnce
+pub use Rattle.code_put.proofs.DistinctLaws
+pub use Rattle.code_put.proofs.HandlerOnce
+pub use Rattle.code_put.proofs.HandlerPacks
+pub use Rattle.code_put.proofs.MentionLaws
+pub use Rattle.code_put.proofs.PackedLaws
+pub use Rattle.code_put.proofs.PackedTries
+pub use Rattle.code_put.proofs.RankLaws
+pub use Rattle.code_put.proofs.WrittenLaws

@@ -15,3 +15,6 @@ mod tries;
 
 pub use fitting::fits;
 pub use laws::code_limits_are_decided;
+
+// What stands below, for the crates above.
+pub use code_put::{make_item, mentions_in, units_of};

@@ -11,3 +11,5 @@ pub mod Saying
 pub mod SaidRegisters
 pub mod PlainLaws
 pub mod OneFault
+-- What stands below, for the crates above.
+pub use Rattle.tables_rows.proofs.NameLaws

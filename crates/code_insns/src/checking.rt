@@ -9,7 +9,7 @@ ghost use Rattle.code_insns.specs.Checking.{AreChecked};
 use crate::insns::read_insns;
 use crate::plain::{are_plain, starts_of};
 use bumpalo::Bump;
-use dex_base::Fault;
+use dex_insn::Fault;
 use std::alloc::Global;
 use tables_rows::Tables;
 

@@ -38,3 +38,6 @@ pub use checking::{Checked, check_insns};
 pub use insns::{Insns, read_insns};
 pub use laws::{one_fault, registers_are_said};
 pub use places::{below, number_at};
+
+// What stands below, for the crates above.
+pub use tables_rows::Tables;

@@ -14,8 +14,7 @@ use crate::payloads::payload_at;
 use crate::places::find;
 use crate::targets::int_at;
 use crate::uses::Use;
-use dex_base::{Fault, fault};
-use dex_insn::RawInsn;
+use dex_insn::{Fault, RawInsn, fault};
 use program_types::is_switch;
 use tables_rows::Tables;
 

@@ -14,8 +14,7 @@ use crate::places::find;
 use bumpalo::Bump;
 use bumpalo::collections::into_bump_slice;
 use byteorder::{ByteOrder, LittleEndian};
-use dex_base::Fault;
-use dex_insn::RawInsn;
+use dex_insn::{Fault, RawInsn};
 use program_types::Insn;
 use tables_rows::Tables;
 

@@ -10,8 +10,7 @@ ghost use Rattle.code_insns.specs.Payloads.{AreUsers, with_user, UseHolds, UsedO
 ghost use Rattle.program_types.specs.Formed.{WantsPayload};
 
 use crate::payloads::{payload_at, used_by, wants_at};
-use dex_base::{Fault, fault};
-use dex_insn::RawInsn;
+use dex_insn::{Fault, RawInsn, fault};
 use program_types::{are_alike, is_switch};
 use std::alloc::Global;
 

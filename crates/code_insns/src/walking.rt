@@ -5,8 +5,7 @@ ghost use Rattle.base_bytes.specs.Fault.{memory};
 ghost use Rattle.dex_insn.specs.Raw.{raw};
 ghost use Rattle.code_insns.specs.Walk.{Walks, IsTable, IsWalkFault};
 
-use dex_base::Fault;
-use dex_insn::{RawInsn, read_insn, size_of};
+use dex_insn::{Fault, RawInsn, read_insn, size_of};
 use std::alloc::Global;
 
 /// The instructions, and the unit at which each begins.

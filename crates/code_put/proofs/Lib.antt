@@ -25,3 +25,10 @@ pub mod TryParts
 pub mod WordOnce
 pub mod WrittenLaws
 pub mod MentionLaws
+-- What stands below, for the crates above.
+pub use Rattle.code_insns.proofs.PayloadLaws
+pub use Rattle.code_insns.proofs.ResolveLaws
+pub use Rattle.code_read.proofs.CodesFormed
+pub use Rattle.code_read.proofs.FaultLaws
+pub use Rattle.code_read.proofs.ItemLaws
+pub use Rattle.code_read.proofs.SaidLaws

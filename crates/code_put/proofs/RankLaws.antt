@@ -7,7 +7,7 @@ use Rattle.program_types.specs.Key.{Key, text_key, field_ref_key, method_ref_key
 use Rattle.tables_names.specs.Rank.{IsAt}
 use Rattle.tables_names.specs.Closure.{Five, AreRising, NameRanks}
 use Rattle.code_put.specs.Fits.{HasIndexBelow}
-use Rattle.tables_laws.proofs.FileLemmas.{one_place}
+use Rattle.code_read.proofs.FileLemmas.{one_place}
 
 -- a name has one index
 pub rank-one : (s : Five) (i j : ℕ) (which : Name) → AreRising s → NameRanks s i which → NameRanks s j which → i ≡ j

@@ -1,3 +1,7 @@
 pub mod Fits
 pub mod Packs
 pub mod Writing
+-- What stands below, for the crates above.
+pub use Rattle.code_read.specs.Code
+pub use Rattle.code_read.specs.Item
+pub use Rattle.code_read.specs.Tries

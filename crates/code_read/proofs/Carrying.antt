@@ -6,9 +6,9 @@ use Rattle.dex_container.specs.Frame.{IsFramed}
 use Rattle.dex_insn.specs.Raw as raw
 use Rattle.dex_insn.specs.Raw.{Raw}
 use Rattle.program_types.specs.Content.{Name, Code}
-use Rattle.tables_rows.specs.Names.{Names, AreNamesOf, NameIsAt}
-use Rattle.tables_rows.specs.Stands.{NameStands}
-use Rattle.tables_rows.proofs.NameLaws.{names_stand, stands_names}
+use Rattle.code_insns.specs.Names.{Names, AreNamesOf, NameIsAt}
+use Rattle.code_insns.specs.Stands.{NameStands}
+use Rattle.code_insns.proofs.NameLaws.{names_stand, stands_names}
 use Rattle.code_insns.specs.InsnFaults.{BreaksIn, AllKeep, InsnRulesHold, RulesBreak, InsnsBreak}
 use Rattle.code_insns.specs.Insns.{NameHolds}
 use Rattle.code_insns.specs.Symbols.{SomeName, InsnHasName}

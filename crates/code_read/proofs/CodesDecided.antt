@@ -16,7 +16,7 @@ use Rattle.dex_insn.specs.declared.opcode.IndexKind.{IndexKind}
 use Rattle.dex_insn.specs.declared.opcode.IndexKind.TheVariants as kind
 use Rattle.program_types.specs.Content.{Name, OfText, OfDesc, OfField, OfMethod, Insn, Code}
 use Rattle.program_types.specs.Kinds.{IsOfKind}
-use Rattle.tables_rows.specs.Names.{Names, NameIsAt}
+use Rattle.code_insns.specs.Names.{Names, NameIsAt}
 use Rattle.code_insns.specs.Walk.{starts}
 use Rattle.code_insns.specs.Insns.{SpellsInsns}
 use Rattle.code_insns.specs.Symbols.{IsFunctional}

@@ -20,7 +20,7 @@ use Rattle.program_types.specs.Content.{Name, Catch, Insn, Try, Code}
 use Rattle.program_types.specs.Formed.{AreAlike, IsSwitch, insn_at, try_at, insn_payload, insn_wants, insn_reach, insn_branch, insn_short_branch, insn_targets, RefersToPayload, IsTarget, PayloadHolds, TryFormed, RegistersHold, IsFormed}
 use Rattle.program_types.specs.Operands.{IsOperand}
 use Rattle.program_types.specs.declared.payload.Payload.{Payload}
-use Rattle.tables_rows.specs.Stands.{NameStands}
+use Rattle.code_insns.specs.Stands.{NameStands}
 use Rattle.code_insns.specs.Places.{place, count_below, Rises}
 use Rattle.code_insns.specs.Walk.{Run, starts, raw_at, address}
 use Rattle.code_insns.specs.Symbols.{name_in}

@@ -7,7 +7,7 @@ use Rattle.program_types.specs.Content.{Name, OfDesc, Catch, Insn, Try, Code}
 use Rattle.program_types.specs.Content as made
 use Rattle.program_types.specs.Formed.{insn_at, try_at}
 use Rattle.program_types.specs.Mentions.{names_of_insn, names_of_try, names_of_code}
-use Rattle.tables_rows.specs.Stands.{NameStands}
+use Rattle.code_insns.specs.Stands.{NameStands}
 use Rattle.tables_laws.specs.FileNames.{HasRow}
 use Rattle.code_insns.specs.Walk.{starts, raw_at}
 use Rattle.code_insns.specs.Places.{place}

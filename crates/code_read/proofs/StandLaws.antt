@@ -6,7 +6,7 @@ use Rattle.base_bytes.specs.declared.fault.Fault.{Fault}
 use Rattle.base_bytes.proofs.TakesLaws.{Begins-from_takes, Takes-unique}
 use Rattle.dex_container.specs.declared.section.Section.{Section}
 use Rattle.dex_container.specs.Where.{slice, IsInSection, IsSectionOf}
-use Rattle.tables_rows.specs.Names.{Names, NameIsAt}
+use Rattle.code_insns.specs.Names.{Names, NameIsAt}
 use Rattle.dex_container.proofs.Standing.{stands_at, at_place}
 use Rattle.program_types.specs.Content.{Name, Code, OfText, OfDesc, OfField, OfMethod}
 use Rattle.dex_insn.specs.declared.opcode.IndexKind.TheVariants as kind

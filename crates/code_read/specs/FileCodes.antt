@@ -5,8 +5,8 @@ use Rattle.std.specs.List.{AllByRecursion}
 use Rattle.base_bytes.specs.declared.fault.Fault.{Fault}
 use Rattle.program_types.specs.Content.{Code}
 use Rattle.program_types.specs.Mentions.{names_of_code}
-use Rattle.tables_rows.specs.Names.{Names, NameIsAt}
-use Rattle.tables_rows.specs.Stands.{NameStands}
+use Rattle.code_insns.specs.Names.{Names, NameIsAt}
+use Rattle.code_insns.specs.Stands.{NameStands}
 use Rattle.tables_laws.specs.FileNames.{HasRow}
 use Rattle.code_read.specs.Code.{CodeStands}
 use Rattle.code_read.specs.Faults.{CodeBreaks, CodeOverruns}

@@ -7,3 +7,5 @@ pub mod Handlers
 pub mod Item
 pub mod Reading
 pub mod Tries
+-- What stands below, for the crates above.
+pub use Rattle.code_insns.specs.Symbols

@@ -5,18 +5,17 @@ ghost use Rattle.base_bytes.specs.Fault.{memory};
 ghost use Rattle.base_bytes.specs.Grammar.{Takes, NoneBegins, Many};
 ghost use Rattle.base_bytes.specs.Leb128.{Spells, SpellsSigned};
 ghost use Rattle.program_types.specs.View.{desc, catch};
-ghost use Rattle.tables_rows.specs.Names.{NameIsAt};
+ghost use Rattle.code_insns.specs.Names.{NameIsAt};
 ghost use Rattle.code_insns.specs.Places.{Rises};
 ghost use Rattle.code_read.specs.Handlers.{SpellsPlace, SpellsCatchType, SpellsCatch, SpellsHandler};
 ghost use Rattle.code_read.specs.Faults.{list_fault};
 ghost use Rattle.code_read.specs.HandlerViews.{handler};
 
 use bumpalo::Bump;
-use code_insns::number_at;
-use dex_base::{Fault, fault, read_sleb, read_uleb};
+use code_insns::{Tables, number_at};
+use dex_insn::{Fault, fault, read_sleb, read_uleb};
 use program_types::{Catch, Desc};
 use std::alloc::Global;
-use tables_rows::Tables;
 
 /// The catches of a handler, and where all other exceptions go.
 #[derive(Clone, Copy)]

@@ -4,7 +4,7 @@ ghost use Rattle.std.specs.Prelude.{◌≡◌, ◌≢◌, ℕ, ◌≤◌, ◌<�
 ghost use Rattle.base_bytes.specs.Fault.{memory};
 ghost use Rattle.program_types.specs.Content as content;
 ghost use Rattle.program_types.specs.View.{code, insn};
-ghost use Rattle.tables_rows.specs.Names.{NameIsAt};
+ghost use Rattle.code_insns.specs.Names.{NameIsAt};
 ghost use Rattle.program_types.specs.Formed.{RegistersHold};
 ghost use Rattle.code_insns.specs.Checking.{AreChecked};
 ghost use Rattle.code_insns.specs.InsnFaults.{InsnsBreak};
@@ -15,12 +15,11 @@ ghost use Rattle.code_read.specs.Faults.{ItemBreaks, CodeBreaks, RegistersBreak,
 use crate::item::{Item, item_of};
 use crate::tries::read_tries;
 use bumpalo::Bump;
-use code_insns::{Insns, check_insns, read_insns};
-use dex_base::{Fault, fault};
+use code_insns::{Insns, Tables, check_insns, read_insns};
 use dex_container::{Sections, bytes_from, section_of};
+use dex_insn::{Fault, fault};
 use program_types::Code;
 use std::alloc::Global;
-use tables_rows::Tables;
 
 /// The kind of the section of code items (TYPE_CODE_ITEM).
 const CODE_ITEMS: u16 = 0x2001;

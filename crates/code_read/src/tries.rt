@@ -4,7 +4,7 @@ ghost use Rattle.std.specs.Prelude.{◌≡◌, ◌≢◌, ℕ, ◌^◌, ◌+◌,
 ghost use Rattle.base_bytes.specs.Fault.{memory};
 ghost use Rattle.base_bytes.specs.Grammar.{NoneBegins};
 ghost use Rattle.program_types.specs.View.{try};
-ghost use Rattle.tables_rows.specs.Names.{NameIsAt};
+ghost use Rattle.code_insns.specs.Names.{NameIsAt};
 ghost use Rattle.code_insns.specs.Places.{Rises, AllHold, IsFirstBroken, position};
 ghost use Rattle.code_read.specs.Tries.{TryHolds};
 ghost use Rattle.code_read.specs.Item.{try_start, try_count, try_handler};
@@ -17,11 +17,10 @@ use crate::handlers::{Caught, read_handler, read_number};
 use crate::item::Item;
 use bumpalo::Bump;
 use bumpalo::collections::into_bump_slice;
-use code_insns::{below, number_at};
-use dex_base::{Fault, fault, u16_at, u32_at};
+use code_insns::{Tables, below, number_at};
+use dex_insn::{Fault, fault, u16_at, u32_at};
 use program_types::Try;
 use std::alloc::Global;
-use tables_rows::Tables;
 
 /// Where what try_item `i` covers ends.
 fn end_of(items: &[u8], i: usize) -> u64

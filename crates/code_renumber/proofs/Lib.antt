@@ -16,3 +16,8 @@ pub mod CatchLemmas
 pub mod KnownLemmas
 pub mod LoweredLemmas
 pub mod CodeLemmas
+-- What stands below, for the crates above.
+pub use Rattle.code_put.proofs.DistinctLaws
+pub use Rattle.code_put.proofs.HandlerOnce
+pub use Rattle.code_put.proofs.LayoutOnce
+pub use Rattle.code_put.proofs.PackedLaws

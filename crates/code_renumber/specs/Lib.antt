@@ -5,3 +5,6 @@ pub mod Shapes
 pub mod InPlace
 pub mod Carried
 pub mod Walks
+-- What stands below, for the crates above.
+pub use Rattle.code_put.specs.Fits
+pub use Rattle.code_put.specs.Packs

@@ -35,3 +35,6 @@ pub use laws::{
 pub use mutf8::{put_mutf8, read_mutf8};
 pub use simple_name::is_member_name;
 pub use units::cmp_units;
+
+// What stands below, for the crates above.
+pub use base_bytes::widen;

@@ -1,12 +1,12 @@
 use Rattle.std.proofs.Common.{◌≡◌, ℕ, ◌+◌, ◌*◌, ◌/◌, ◌-◌, ◌<◌, ◌≤◌, zero, suc, List, ◌++◌, length, take, drop, refl, sym, ap, ◌∙◌, arith, lit≤, lit<, get_or-take, length-drop, length-take, length-append}
 use Rattle.std.proofs.lemmas.List.{take_all, take-take, drop-drop, drop_at, take_at, take-append-le}
 use borrow.Rule.Slice.PartMut.{put_mid}
-use Rattle.base_bytes.specs.Fields.{u32_bytes, u16_at, u32_at}
-use Rattle.base_bytes.specs.Adler32.{adler32}
+use Rattle.dex_base.specs.Fields.{u32_bytes, u16_at, u32_at}
+use Rattle.dex_base.specs.Adler32.{adler32}
 use Rattle.std.specs.Prelude.{slice_index}
 use Rattle.std.specs.Int.{w32, to_be_bytes}
-use Rattle.base_bytes.proofs.AdlerSums.{adler32-fits}
-use Rattle.base_bytes.proofs.FieldBounds.{u32_at-bytes, u32_at-append, length-u32_bytes, u32_at-drop, u32_at-take, u16_at-take}
+use Rattle.dex_base.proofs.AdlerSums.{adler32-fits}
+use Rattle.dex_base.proofs.FieldBounds.{u32_at-bytes, u32_at-append, length-u32_bytes, u32_at-drop, u32_at-take, u16_at-take}
 use Rattle.sha1.specs.Sha1.{sha1, digest_bytes, hash_after, padded_message}
 use Rattle.dex_container.specs.Frame.{HasChecksum, HasSignature, HasMagic, HasVersion}
 use Rattle.dex_container.specs.Closed.{with_signature, with_sums, SetsSums}

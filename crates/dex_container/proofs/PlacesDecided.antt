@@ -2,10 +2,10 @@
 use Rattle.std.proofs.Common.{◌≡◌, ℕ, ◌-◌, ◌%◌, ◌≤◌, inl, inr, List, length, take, drop, refl, sym, ◌∙◌, subst, arith, length-take}
 use Rattle.std.proofs.lemmas.List.{take-append-drop, take-take}
 use Rattle.std.proofs.lemmas.Bool.{cases_eq}
-use Rattle.base_bytes.specs.Deciding.{Decided, DecidedFront}
-use Rattle.base_bytes.specs.Grammar.{Takes}
-use Rattle.base_bytes.proofs.Deciding.{decide_like, decide_both, decide_lt, decide_le, decide_below, front_is}
-use Rattle.base_bytes.proofs.TakesLaws.{Takes-length}
+use Rattle.dex_base.specs.Deciding.{Decided, DecidedFront}
+use Rattle.dex_base.specs.Grammar.{Takes}
+use Rattle.dex_base.proofs.Deciding.{decide_like, decide_both, decide_lt, decide_le, decide_below, front_is}
+use Rattle.dex_base.proofs.TakesLaws.{Takes-length}
 use Rattle.dex_container.specs.Frame.{IsFramed, IsSection, end_at}
 use Rattle.dex_container.specs.Layout.{entry_count, kind_at, place_at}
 use Rattle.dex_container.specs.Where.{slice, At, IsInSection}

@@ -1,7 +1,7 @@
 -- What stands at a place of a section.
 use Rattle.std.proofs.Common.{◌≡◌, ℕ, ◌-◌, ◌%◌, ◌<◌, ◌≤◌, List, length, take, drop, sym, subst, ◌∙◌, arith, length-take}
 use Rattle.std.proofs.lemmas.List.{take-take, take-append-drop}
-use Rattle.base_bytes.specs.Grammar.{Begins, NoneBegins, IsPrefixUnique}
+use Rattle.dex_base.specs.Grammar.{Begins, NoneBegins, IsPrefixUnique}
 use Rattle.dex_container.specs.Frame.{IsFramed, IsSection}
 use Rattle.dex_container.proofs.Framed.{IsSection-one}
 use Rattle.dex_container.specs.declared.section.Section.{Section}

@@ -1,7 +1,7 @@
 -- A file whose signature and checksum are filled in (Dalvik Executable format, "header_item").
 use Rattle.std.specs.Prelude.{◌≡◌, ℕ, ◌++◌, List, take, drop}
-use Rattle.base_bytes.specs.Fields.{u32_bytes}
-use Rattle.base_bytes.specs.Adler32.{adler32}
+use Rattle.dex_base.specs.Fields.{u32_bytes}
+use Rattle.dex_base.specs.Adler32.{adler32}
 use Rattle.dex_container.specs.Frame.{SumsHold}
 use Rattle.sha1.specs.Sha1.{sha1}
 

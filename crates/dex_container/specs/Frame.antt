@@ -1,8 +1,8 @@
 -- Which bytes have a header and a map as the format asks (Dalvik Executable format, "header_item" and "map_list"),
 -- with the rules that this library adds: docs/FORMAT.md has them all in words.
 use Rattle.std.specs.Prelude.{◌⊎◌, ◌-◌, nat_lt, min, ◌&&◌, if◌then◌else◌, ◌≡◌, ◌≢◌, ℕ, ◌+◌, ◌*◌, ◌%◌, ◌<◌, ◌≤◌, List, length, take, drop, slice_index}
-use Rattle.base_bytes.specs.Fields.{u16_at, u32_at}
-use Rattle.base_bytes.specs.Adler32.{adler32}
+use Rattle.dex_base.specs.Fields.{u16_at, u32_at}
+use Rattle.dex_base.specs.Adler32.{adler32}
 use Rattle.sha1.specs.Sha1.{sha1}
 use Rattle.dex_container.specs.Layout.{row_bytes, size_of, offset_of, data_begin, data_end, map_place, entry_count, map_end, kind_at, items_at, place_at}
 use Rattle.dex_container.specs.Section as section

@@ -1,7 +1,7 @@
 -- Where the fields of header_item and the entries of map_list stand, and what they say
 -- (Dalvik Executable format, "header_item" and "map_list").
 use Rattle.std.specs.Prelude.{ℕ, ◌+◌, ◌*◌, List, ◌∷◌, [], slice_index}
-use Rattle.base_bytes.specs.Fields.{u16_at, u32_at}
+use Rattle.dex_base.specs.Fields.{u16_at, u32_at}
 
 -- The seven sections that the header names, in its order: the tables string_ids, type_ids, proto_ids, field_ids,
 -- method_ids and class_defs, and the data section. So many bytes does a row of section k take; the data

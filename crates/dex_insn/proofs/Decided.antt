@@ -3,9 +3,9 @@ use Rattle.std.proofs.Common.{◌≡◌, ℕ, zero, suc, ◌+◌, ◌*◌, ◌%�
 use Rattle.std.specs.Prelude.{IsTrue, slice_range}
 use Rattle.std.proofs.lemmas.Bool.{cases_lt, cases_eq}
 use Rattle.std.proofs.lemmas.Int.{ints, by_lt_z}
-use Rattle.base_bytes.specs.Deciding.{Decided}
-use Rattle.base_bytes.specs.Fields.{AreBytes}
-use Rattle.base_bytes.specs.declared.fault.Fault.{Fault}
+use Rattle.dex_base.specs.Deciding.{Decided}
+use Rattle.dex_base.specs.Fields.{AreBytes}
+use Rattle.dex_base.specs.declared_Fault.{Fault}
 use Rattle.dex_insn.specs.Fields.{number, field, signed, int_at, SwitchKeysRise}
 use Rattle.dex_insn.specs.Opcodes.{units_of}
 use Rattle.dex_insn.specs.Raw.{Raw, packed_units, sparse_units, data_units, Packed, Sparse, Data}
@@ -17,7 +17,7 @@ use Rattle.dex_insn.specs.declared.flaw.Flaw.{Flaw}
 use Rattle.dex_insn.proofs.Fits.{number-1}
 use Rattle.dex_insn.proofs.Unique.{in_format, head-of, units-by}
 use Rattle.dex_insn.specs.declared.flaw.Flaw.TheVariants.{Opcode, Cut, NonZero, RegisterCount, OddPayload, CutHead, Width, CutPayload, KeyOrder}
-use Rattle.base_bytes.proofs.FieldBounds.{drop-AreBytes}
+use Rattle.dex_base.proofs.FieldBounds.{drop-AreBytes}
 
 -- ---- what is no payload
 

@@ -7,10 +7,10 @@ use Rattle.std.specs.Int.{w8, w16, w32, w64}
 use Rattle.dex_insn.specs.Fields.{number, field, signed}
 use Rattle.dex_insn.specs.Raw.{Raw, I10x, I12x, I11n, I11x, I10t, I20t, I22x, I21t, I21s, I21h, I21c, I23x, I22b, I22t, I22s, I22c, I30t, I32x, I31i, I31t, I31c, I35c, I3rc, I51l, Packed, Sparse, Data}
 use Rattle.dex_insn.specs.RawInsns.{SpellsInsn, InsnStands, IsElementWidth, registers, register}
-use Rattle.base_bytes.specs.Fields.{AreBytes}
+use Rattle.dex_base.specs.Fields.{AreBytes}
 use Rattle.dex_insn.specs.Written.{IsRaw, AreRegisters}
 use Rattle.dex_insn.proofs.Unique.{slice-length}
-use Rattle.base_bytes.proofs.FieldBounds.{drop-AreBytes}
+use Rattle.dex_base.proofs.FieldBounds.{drop-AreBytes}
 
 -- a number is below 2 to its bits
 pub number-1 : (us : List ℕ) (k : ℕ) → AreBytes us → number us k 1 < 65536

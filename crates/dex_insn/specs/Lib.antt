@@ -7,3 +7,7 @@ pub mod RawInsns
 pub mod Registers
 pub mod Flaws
 pub mod Written
+-- What stands below, for the crates above.
+pub use Rattle.dex_base.specs.Fault
+pub use Rattle.dex_base.specs.Descriptor
+pub use Rattle.dex_base.specs.Mutf8

@@ -1,11 +1,11 @@
 //! Laws of what stands at a unit. None has code: each says of the definitions what its contract says.
 
 ghost use Rattle.std.specs.Prelude.{ℕ, List, ◌≡◌, ◌≤◌, ◌<◌, ◌+◌, ◌*◌, ◌%◌, ◌++◌, ◌⊎◌, length, drop, true, false};
-ghost use Rattle.base_bytes.specs.declared.fault.Fault.{Fault};
+ghost use Rattle.dex_base.specs.declared_Fault.{Fault};
 ghost use Rattle.dex_insn.specs.Raw.{Raw, units, is_payload};
 ghost use Rattle.dex_insn.specs.RawInsns.{SpellsInsn, InsnStands, IsPayload};
 ghost use Rattle.dex_insn.specs.Flaws.{IsFaultAt, KeepsRules};
-ghost use Rattle.base_bytes.specs.Fields.{AreBytes};
+ghost use Rattle.dex_base.specs.Fields.{AreBytes};
 ghost use Rattle.dex_insn.specs.Written.{IsRaw, written};
 
 /// At a unit stands one instruction at most.

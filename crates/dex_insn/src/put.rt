@@ -1,7 +1,7 @@
 //! Writing one instruction.
 
 ghost use Rattle.std.specs.Prelude.{◌≡◌, ◌*◌, ◌/◌, ◌%◌, ◌++◌, [], ◌∷◌, OnOk, OnErr, IsOk, IsOkUnless, length, vec_len, vec_capacity, ◌+◌, ◌≤◌};
-ghost use Rattle.base_bytes.specs.Fault.{memory};
+ghost use Rattle.dex_base.specs.Fault.{memory};
 ghost use Rattle.dex_insn.specs.Raw.{raw, units};
 ghost use Rattle.dex_insn.specs.RawInsns.{SpellsInsn};
 ghost use Rattle.dex_insn.specs.Written.{IsRaw, written, bytes_of};

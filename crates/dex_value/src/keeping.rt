@@ -11,7 +11,7 @@ ghost use Rattle.dex_value.specs.Faults.{OwnBreaks};
 
 use crate::reading::{Span, read_leaf};
 use bumpalo::Bump;
-use dex_base::Fault;
+use dex_container::Fault;
 use program_types::Value;
 use std::alloc::Global;
 use tables_rows::Tables;

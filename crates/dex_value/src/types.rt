@@ -3,7 +3,7 @@ ghost use Rattle.std.specs.Prelude.{◌≡◌, IfSome, IfNone};
 ghost use Rattle.dex_value.specs.Faults.{widest_of};
 ghost use Rattle.dex_value.specs.Reading.{sized_code, table_of_type};
 
-use dex_insn::IndexKind;
+use program_types::IndexKind;
 
 /// The types whose bytes are a number.
 #[derive(Clone, Copy)]

@@ -16,7 +16,7 @@ ghost use Rattle.dex_value.specs.Writing.{SignedAs, UnsignedAs, HighAs, IndexAs,
 
 use crate::widths::{high_width, signed_width, unsigned_width};
 use byteorder::{ByteOrder, LittleEndian};
-use dex_base::{Fault, put_uleb};
+use dex_container::{Fault, put_uleb};
 use program_types::{Name, Value};
 use tables_names::Ranks;
 

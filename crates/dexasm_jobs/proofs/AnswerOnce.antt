@@ -4,17 +4,17 @@ use Rattle.dexasm_job.specs.declared.job.Job.{Job}
 use Rattle.dexasm_job.specs.declared.job.Job.TheVariants.{Check, List as Listing, Assemble, Strip}
 use Rattle.dexasm_jobs.specs.Answers.{Answer}
 use Rattle.file_align.specs.Programs.{AlignedProgram}
-use Rattle.file_read.proofs.RangeLaws.{well_formed}
-use Rattle.file_read.proofs.PassLaws.{program_one}
+use Rattle.file_write.proofs.RangeLaws.{well_formed}
+use Rattle.file_write.proofs.PassLaws.{program_one}
 use Rattle.file_write.proofs.OneFile.{file_one, stripped_same}
 use Rattle.file_write.specs.Written.{IsFileOf}
-use Rattle.listing_parse.proofs.ExactLaws.{listing_one}
-use Rattle.listing_parse.specs.Text.{IsListing}
-use Rattle.listing_print.specs.Canon.{canon}
+use Rattle.listing_laws.proofs.ExactLaws.{listing_one}
+use Rattle.listing_laws.specs.Text.{IsListing}
+use Rattle.listing_laws.specs.Canon.{canon}
 use Rattle.program_rules.specs.WellFormed.{WellFormed}
 use Rattle.program_types.specs.Content.{Program}
 use Rattle.listing_laws.proofs.ClassRuns.{printed_again}
-use Rattle.listing_lines.specs.declared.form.Form.TheVariants.{Two}
+use Rattle.listing_laws.specs.declared_Form_TheVariants.{Two}
 use Rattle.file_align.proofs.OneAligned.{program_aligned_one}
 
 pub answer_once : (job : Job) (given a b : List ℕ) → Answer job given a → Answer job given b → a ≡ b

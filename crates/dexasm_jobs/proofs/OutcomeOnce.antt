@@ -7,14 +7,14 @@ use Rattle.dexasm_jobs.specs.Answers.{Answer, IsAligned, IsAlignedUnwritten, Out
 use Rattle.dexasm_jobs.proofs.AnswerOnce.{answer_once}
 use Rattle.file_align.specs.Programs.{AlignedProgram}
 use Rattle.file_align.proofs.OneAligned.{program_aligned_one, too_long_unformed}
-use Rattle.file_limits.specs.Limits.{Fits, IsLowestLimit}
-use Rattle.file_limits.proofs.LimitLaws.{fits_breaks_none}
-use Rattle.file_limits.proofs.OneLimit.{limit_one}
-use Rattle.file_read.proofs.OneRefusal.{none_meant, one_refusal}
-use Rattle.file_read.proofs.PassLaws.{program_one}
-use Rattle.listing_parse.proofs.ExactLaws.{listing_none, listing_one}
-use Rattle.listing_parse.proofs.OneFault.{fault_one}
-use Rattle.listing_parse.specs.Text.{ListingBreaks}
+use Rattle.file_write.specs.Limits.{Fits, IsLowestLimit}
+use Rattle.file_write.proofs.LimitLaws.{fits_breaks_none}
+use Rattle.file_write.proofs.OneLimit.{limit_one}
+use Rattle.file_write.proofs.OneRefusal.{none_meant, one_refusal}
+use Rattle.file_write.proofs.PassLaws.{program_one}
+use Rattle.listing_laws.proofs.ExactLaws.{listing_none, listing_one}
+use Rattle.listing_laws.proofs.OneFault.{fault_one}
+use Rattle.listing_laws.specs.Text.{ListingBreaks}
 use Rattle.program_types.specs.Content.{Program}
 
 -- a program that fits breaks no limit

@@ -3,11 +3,11 @@
 use Rattle.std.specs.Prelude.{◌≡◌, ℕ, true, false, ◌⊎◌, List, codes, Result, Ok, Err}
 use Rattle.file_align.specs.Programs.{AlignedProgram, IsTooLong}
 use Rattle.base_bytes.specs.declared.fault.Fault.{Fault}
-use Rattle.file_read.specs.Means.{Means}
-use Rattle.file_read.specs.Refused.{IsRefused}
-use Rattle.file_limits.specs.Limits.{Fits, IsLowestLimit}
-use Rattle.listing_parse.specs.Text.{IsListing, ListingBreaks}
-use Rattle.listing_print.specs.Canon.{canon}
+use Rattle.file_write.specs.Means.{Means}
+use Rattle.file_write.specs.Refused.{IsRefused}
+use Rattle.file_write.specs.Limits.{Fits, IsLowestLimit}
+use Rattle.listing_laws.specs.Text.{IsListing, ListingBreaks}
+use Rattle.listing_laws.specs.Canon.{canon}
 use Rattle.program_rules.specs.WellFormed.{WellFormed}
 use Rattle.program_types.specs.Content.{Program}
 use Rattle.file_write.specs.Written.{IsFileOf, IsStripped, IsStripRefused}

@@ -2,17 +2,15 @@
 ghost use Rattle.std.specs.Prelude.{◌≢◌, IfOk, IfErr, false, true};
 ghost use Rattle.base_bytes.specs.Fault.{memory};
 ghost use Rattle.program_types.specs.View.{program};
-ghost use Rattle.listing_parse.specs.Text.{IsListing, ListingBreaks};
+ghost use Rattle.listing_laws.specs.Text.{IsListing, ListingBreaks};
 ghost use Rattle.dexasm_jobs.specs.Answers.{Answer, Refusal};
 
 use bumpalo::Bump;
 use dex_base::Fault;
 use dexasm_job::Job;
 use file_align::align_all;
-use file_read::{check, read};
-use file_write::{strip, write};
-use listing_parse::parse;
-use listing_print::print;
+use file_write::{check, read, strip, write};
+use listing_laws::{parse, print};
 use program_types::Program;
 use std::alloc::Global;
 

@@ -8,15 +8,15 @@ use Rattle.file_layout.specs.Sections.{is_empty_list, never, wide_all, Laid}
 use Rattle.file_layout.specs.Tiles.{Agree, Tiles, Done, Item, gap, Lays}
 use Rattle.file_layout.specs.declared.plan.Plan.{Plan}
 use Rattle.file_layout.proofs.TileLaws.{Tiles-le, Lays-agree, agree-append}
-use Rattle.file_limits.specs.Wide.{array_values, body_values, list_values, text_values, wide_body, wide_list, wide_of, wide_text}
+use Rattle.file_sections.specs.file_limits_Wide.{array_values, body_values, list_values, text_values, wide_body, wide_list, wide_of, wide_text}
 use Rattle.tables_names.specs.Closure.{Five, NameRanks}
 use Rattle.program_types.specs.Content.{Program}
 use Rattle.file_sections.specs.Codes.{PacksBody, is_bodiless}
 use Rattle.file_sections.specs.Data.{PacksData, has_no_members, with_code_places, wide_with_codes}
 use Rattle.file_sections.specs.Lists.{SpellsRanks}
 use Rattle.file_sections.proofs.SitedLaws.{room_of_sited}
-use Rattle.dex_value.specs.Spelling.{SpellsArray}
-use Rattle.dex_value.specs.Wide.{wide_array}
+use Rattle.file_sections.specs.Spelling.{SpellsArray}
+use Rattle.file_sections.specs.dex_value_Wide.{wide_array}
 use Rattle.file_assemble.specs.Assembled.{Places, DataLies, DataIsLaid, StandOnce, rows_of}
 use Rattle.file_assemble.proofs.FitsLaws.{HasRoom, Room}
 

@@ -6,7 +6,7 @@ use Rattle.std.specs.List.{AllByRecursion, slice_get}
 use Rattle.std.specs.Option.{ForSome}
 use Rattle.dex_base.specs.Descriptor.{IsDescriptor}
 use Rattle.dex_insn.specs.declared.opcode.IndexKind.TheVariants as kind
-use Rattle.code_put.specs.Fits.{HasIndexBelow, ShortFits, short_name}
+use Rattle.file_sections.specs.Fits.{HasIndexBelow, ShortFits, short_name}
 use Rattle.tables_names.specs.Closure.{Five, HasShorty, NameRanks}
 use Rattle.tables_names.specs.Indices.{HasPlace}
 use Rattle.tables_names.specs.Needed.{needed}
@@ -19,7 +19,7 @@ use Rattle.program_types.specs.Mentions.{if_any, mentions, names_of_class}
 use Rattle.program_rules.specs.Rules.{RulesHold}
 use Rattle.program_rules.specs.Valid.{IsValidName, IsValueType}
 use Rattle.file_sections.specs.Named.{FewNames}
-use Rattle.file_rows.specs.Held.{RowNamesHeld}
+use Rattle.file_sections.specs.Held.{RowNamesHeld}
 use Rattle.base_bytes.proofs.ListFacts.{all_append, all_back, all_front}
 
 -- what holds of all names in each class holds of all names in the program

@@ -3,11 +3,11 @@ use Rattle.std.proofs.Common.{◌≡◌, ℕ, ◌≤◌, List, [], ◌∷◌, le
 use Rattle.std.specs.Prelude.{IfSome}
 use Rattle.std.specs.List.{AllByRecursion, flat_map, slice_get}
 use Rattle.std.specs.Option.{option_to_list}
-use Rattle.code_put.specs.Fits.{FitsCode}
-use Rattle.code_put.proofs.DistinctLaws.{all-get}
+use Rattle.file_sections.specs.Fits.{FitsCode}
+use Rattle.file_sections.proofs.DistinctLaws.{all-get}
 use Rattle.file_layout.specs.Sections.{wide_all}
-use Rattle.file_limits.specs.Limits.{Fits, BodyIsReady, method_code, codes_in, codes_of}
-use Rattle.file_limits.specs.Wide.{bodies_in, bodies_of, wide_body}
+use Rattle.file_sections.specs.Limits.{Fits, BodyIsReady, method_code, codes_in, codes_of}
+use Rattle.file_sections.specs.file_limits_Wide.{bodies_in, bodies_of, wide_body}
 use Rattle.tables_names.specs.Closure.{Five, NameRanks}
 use Rattle.tables_names.specs.Needed.{needed}
 use Rattle.file_needed.proofs.ClassNames.{directs_kept, virtuals_kept}

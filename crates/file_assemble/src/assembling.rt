@@ -4,8 +4,8 @@ ghost use Rattle.std.specs.Prelude.{◌≡◌, ◌≢◌, ◌+◌, ◌<◌, ◌^
 ghost use Rattle.base_bytes.specs.Fault.{memory};
 ghost use Rattle.file_layout.specs.Plan.{tables_end};
 ghost use Rattle.file_layout.specs.Tiles.{gap, zeros};
-ghost use Rattle.file_limits.specs.Limits.{Fits, IsLowestLimit};
-ghost use Rattle.file_limits.specs.Wide.{wide_rows};
+ghost use Rattle.file_sections.specs.Limits.{Fits, IsLowestLimit};
+ghost use Rattle.file_sections.specs.file_limits_Wide.{wide_rows};
 ghost use Rattle.file_needed.specs.Bodies.{named_in_code};
 ghost use Rattle.tables_names.specs.Needed.{needed};
 ghost use Rattle.tables_names.specs.Noted.{AreRanks};
@@ -17,10 +17,10 @@ ghost use Rattle.file_assemble.specs.Making.{places_of};
 use bumpalo::Bump;
 use dex_base::Fault;
 use file_layout::{Part, Plan, Rows, finish, gap_after};
-use file_limits::check_limits;
 use file_needed::needed_names;
-use file_rows::{name_rows, put_classes};
-use file_sections::{put_arrays, put_codes, put_datas, put_lists, put_strings};
+use file_sections::{
+    check_limits, name_rows, put_arrays, put_classes, put_codes, put_datas, put_lists, put_strings,
+};
 use program_types::Program;
 use std::alloc::Global;
 use tables_names::Ranks;

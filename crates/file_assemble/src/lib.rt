@@ -15,3 +15,6 @@ mod laws;
 
 pub use assembling::{Data, assemble, codes_part, part, space};
 pub use laws::assembled_is_one;
+
+// What stands below, for the crates above.
+pub use file_sections::{plus, times};

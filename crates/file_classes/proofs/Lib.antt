@@ -13,3 +13,24 @@ pub mod SeenLaws
 pub mod KeptLaws
 pub mod MeantLaws
 pub mod OneFault
+-- What stands below, for the crates above.
+pub use Rattle.tables_rows.proofs.HalvesLaws
+pub use Rattle.dex_value.proofs.ArraysDecided
+pub use Rattle.dex_value.proofs.Carrying
+pub use Rattle.dex_value.proofs.FileFaults
+pub use Rattle.dex_value.proofs.FrontLaws
+pub use Rattle.dex_value.proofs.Narrow
+pub use Rattle.dex_value.proofs.Ranges
+pub use Rattle.code_read.proofs.PlainLaws
+pub use Rattle.code_read.proofs.CarryLaws
+pub use Rattle.code_read.proofs.CodeLaws
+pub use Rattle.code_read.proofs.CodesDecided
+pub use Rattle.code_read.proofs.CodesFormed
+pub use Rattle.code_read.proofs.Deciding
+pub use Rattle.code_read.proofs.NamesHaveRows
+pub use Rattle.code_read.proofs.StandLaws
+pub use Rattle.dex_value.proofs.FileLemmas
+pub use Rattle.dex_value.proofs.NoFault
+pub use Rattle.dex_value.proofs.tables_laws_OneFault
+pub use Rattle.dex_value.proofs.RowsBreak
+pub use Rattle.dex_value.proofs.RowsDecided

@@ -4,11 +4,11 @@ use Rattle.std.specs.Prelude.{MatchBool, ◌==◌}
 use Rattle.std.specs.List.{AllByRecursion}
 use Rattle.std.proofs.lemmas.List.{take_more, length-map}
 use Rattle.base_bytes.specs.Fields.{AreBytes}
-use Rattle.code_put.specs.Fits.{CodeBreaksLimit, FitsCode, HandlersAreNear, HandlerTooFar}
-use Rattle.code_put.specs.Packs.{PacksCode}
-use Rattle.code_put.proofs.HandlerOnce.{ranks-injective}
-use Rattle.code_put.proofs.LayoutOnce.{layout-once}
-use Rattle.code_put.proofs.PackedLaws.{packed-spells}
+use Rattle.code_renumber.specs.Fits.{CodeBreaksLimit, FitsCode, HandlersAreNear, HandlerTooFar}
+use Rattle.code_renumber.specs.Packs.{PacksCode}
+use Rattle.code_renumber.proofs.HandlerOnce.{ranks-injective}
+use Rattle.code_renumber.proofs.LayoutOnce.{layout-once}
+use Rattle.code_renumber.proofs.PackedLaws.{packed-spells}
 use Rattle.code_renumber.specs.Carried.{IsCarriedCode}
 use Rattle.dex_insn.specs.declared.opcode.IndexKind.TheVariants as kind
 use Rattle.file_least.specs.AtLeast.{FitsButHandlers}

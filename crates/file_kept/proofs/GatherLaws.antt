@@ -5,8 +5,8 @@ use Rattle.std.specs.List.{AllByRecursion, flat_map}
 use Rattle.std.proofs.lemmas.List.{take_all, map-append}
 use Rattle.std.proofs.lemmas.Option.{slice_get_within}
 use Rattle.base_bytes.specs.Fields.{AreBytes}
-use Rattle.code_put.proofs.HandlerOnce.{ranks-injective}
-use Rattle.code_read.proofs.CodesFormed.{standing-formed}
+use Rattle.code_renumber.proofs.HandlerOnce.{ranks-injective}
+use Rattle.file_classes.proofs.CodesFormed.{standing-formed}
 use Rattle.dex_container.specs.Layout.{size_of}
 use Rattle.file_classes.specs.ClassData.{Entries, EntriesAt}
 use Rattle.file_classes.specs.Classes.{CodeAt, CodesAre, SomeCodeStands}
@@ -19,8 +19,8 @@ use Rattle.file_classes.proofs.OnceLaws.{class_one}
 use Rattle.file_least.specs.AtLeast.{AreNoFurther}
 use Rattle.file_least.proofs.StandingFits.{codes-fit}
 use Rattle.file_layout.specs.Sections.{wide_all}
-use Rattle.file_limits.specs.Wide.{bodies_in, bodies_of, body_values, wide_body}
-use Rattle.file_limits.proofs.SumLaws.{wide_all_append}
+use Rattle.file_sections.specs.file_limits_Wide.{bodies_in, bodies_of, body_values, wide_body}
+use Rattle.file_sections.proofs.SumLaws.{wide_all_append}
 use Rattle.file_needed.proofs.ClassNames.{directs_kept, virtuals_kept}
 use Rattle.file_needed.proofs.Steps.{left, right}
 use Rattle.program_types.specs.Content.{Class, Code, Descriptor, Method, Name, OfDesc, OfField, OfMethod, OfText, Program}

@@ -12,3 +12,7 @@ pub mod SizeLaws
 pub mod BodyLaws
 pub mod FarLaws
 pub mod GatherLaws
+-- What stands below, for the crates above.
+pub use Rattle.file_least.proofs.RangeLaws
+pub use Rattle.file_least.proofs.RowsFrom
+pub use Rattle.file_least.proofs.VainLaws

@@ -26,7 +26,7 @@ use Rattle.tables_rows.proofs.HalvesLaws.{list_or_none_one}
 use Rattle.tables_rows.proofs.TypeLists.{indexes_of}
 use Rattle.file_layout.proofs.SectionLaws.{not_none}
 use Rattle.file_layout.specs.Sections.{is_empty_list}
-use Rattle.file_limits.specs.Wide.{list_values, params_of, wide_list}
+use Rattle.file_sections.specs.file_limits_Wide.{list_values, params_of, wide_list}
 use Rattle.file_needed.proofs.ClassNames.{interfaces_named}
 use Rattle.file_sections.specs.Lists.{AddsIndices, SpellsRanks}
 use Rattle.file_sections.proofs.ListLaws.{list_some, halves_push}
@@ -37,7 +37,7 @@ use Rattle.file_kept.specs.Words.{AreClassWords}
 use Rattle.file_kept.proofs.KeepLaws.{number_is, numbers_long, next_kept, next_not_kept, first_number, few_types, all_carried, class_holds}
 use Rattle.tables_numbers.proofs.MarkLemmas.{all_held}
 use Rattle.base_bytes.proofs.ListFacts.{zip_length, zip_more}
-use Rattle.code_put.proofs.DistinctLaws.{all-more}
+use Rattle.code_renumber.proofs.DistinctLaws.{all-more}
 
 -- ---- the numbers of types
 

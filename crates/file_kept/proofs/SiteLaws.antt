@@ -12,7 +12,7 @@ use Rattle.file_classes.proofs.EntryLaws.{entries_one}
 use Rattle.file_layout.specs.Sections.{Adds, AddsSome, Laid, Laying, wide_all}
 use Rattle.file_layout.proofs.SectionLaws.{adds_some, gap_one, unpadded, length-padded, Laying-start}
 use Rattle.file_layout.specs.Tiles.{gap, zeros}
-use Rattle.file_limits.specs.Wide.{bodies_of, body_values, wide_data}
+use Rattle.file_sections.specs.file_limits_Wide.{bodies_of, body_values, wide_data}
 use Rattle.file_sections.specs.Data.{PacksData, ClassWithCodes, code_offs, has_no_members, method_count, with_code_places, wide_with_codes}
 use Rattle.file_sections.specs.Growing.{AddsFields, AddsMethods}
 use Rattle.file_sections.specs.Placing.{items_with}

@@ -6,10 +6,10 @@ use Rattle.std.proofs.lemmas.List.{length-map}
 use Rattle.std.proofs.lemmas.Option.{slice_get_within}
 use Rattle.std.proofs.lemmas.Bool.{ne_eqb}
 use Rattle.base_bytes.specs.Fields.{AreBytes}
-use Rattle.dex_value.specs.Standing.{ArrayStands}
+use Rattle.value_renumber.specs.Standing.{ArrayStands}
 use Rattle.file_classes.specs.Classes.{StaticsAt}
 use Rattle.file_layout.specs.Sections.{is_empty_list}
-use Rattle.file_limits.specs.Wide.{array_values}
+use Rattle.file_sections.specs.file_limits_Wide.{array_values}
 use Rattle.file_needed.proofs.ClassNames.{values_kept}
 use Rattle.file_needed.proofs.Steps.{left, right}
 use Rattle.file_sections.specs.Arrays.{WritesArray}

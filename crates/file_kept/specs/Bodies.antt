@@ -2,11 +2,11 @@
 -- Page: "Dalvik Executable format", "encoded_method": code_off, 0 for a method without a body; "code_item".
 use Rattle.std.specs.Prelude.{◌≡◌, ℕ, ◌+◌, ◌==◌, List, [], ◌∷◌, ◌++◌, ◌⊎◌, MatchBool, Option, None, Some, map, take}
 use Rattle.std.specs.List.{AllByRecursion, AllZip}
-use Rattle.code_put.specs.Fits.{CodeBreaksLimit}
+use Rattle.code_renumber.specs.Fits.{CodeBreaksLimit}
 use Rattle.code_renumber.specs.Carried.{IsCarriedCode}
 use Rattle.file_classes.specs.declared.class_data.MethodEntry.{MethodEntry}
 use Rattle.file_least.specs.AtLeast.{FitsButHandlers}
-use Rattle.file_limits.specs.Wide.{bodies_of}
+use Rattle.file_sections.specs.file_limits_Wide.{bodies_of}
 use Rattle.file_sections.specs.Codes.{WritesBody, is_bodiless}
 use Rattle.program_types.specs.Content.{Code, Program}
 use Rattle.program_types.specs.Formed.{IsFormed}

@@ -11,3 +11,6 @@ pub mod Members
 pub mod Sites
 pub mod Sizes
 pub mod Bodies
+-- What stands below, for the crates above.
+pub use Rattle.file_least.specs.Means
+pub use Rattle.file_least.specs.AtLeast

@@ -4,7 +4,7 @@ use Rattle.std.specs.Prelude.{◌≡◌, ℕ, ◌≤◌, List, Some, length, map
 use Rattle.std.specs.List.{AllByRecursion, AllZip}
 use Rattle.file_layout.specs.Sections.{is_empty_list}
 use Rattle.file_sections.specs.Lists.{SpellsRanks}
-use Rattle.file_limits.specs.Wide.{params_of}
+use Rattle.file_sections.specs.file_limits_Wide.{params_of}
 use Rattle.program_types.specs.Content.{Program, Units, OfDesc}
 use Rattle.program_types.specs.Key.{text_key}
 use Rattle.tables_names.specs.Closure.{Five, NameRanks}

@@ -2,7 +2,7 @@
 -- Page: "Dalvik Executable format", "class_data_item": code_off.
 use Rattle.std.specs.Prelude.{◌≡◌, ℕ, zero, suc, ◌+◌, ◌<◌, ◌≤◌, ◌^◌, List, [], ◌∷◌, Some, drop, length, slice_get, take}
 use Rattle.file_layout.specs.Sections.{AddsSome, Laying}
-use Rattle.file_limits.specs.Wide.{wide_data}
+use Rattle.file_sections.specs.file_limits_Wide.{wide_data}
 use Rattle.file_sections.specs.Data.{PacksData, has_no_members, method_count, with_code_places, wide_with_codes}
 use Rattle.program_types.specs.Content.{Class, Program}
 use Rattle.tables_names.specs.Closure.{NameRanks}

@@ -2,11 +2,11 @@
 ghost use Rattle.std.specs.Prelude.{◌+◌, ◌<◌, ◌^◌, List, IfOk, OnOk, IsOkUnless, length};
 ghost use Rattle.base_bytes.specs.Fault.{memory};
 ghost use Rattle.base_bytes.specs.Leb128.{Shortest};
-ghost use Rattle.dex_value.specs.Spelling.{SpellsArray};
-ghost use Rattle.dex_value.specs.Wide.{wide_array};
+ghost use Rattle.value_renumber.specs.Spelling.{SpellsArray};
+ghost use Rattle.value_renumber.specs.Wide.{wide_array};
 ghost use Rattle.file_layout.specs.Sections.{is_empty_list, wide_all, Laid};
 ghost use Rattle.file_layout.specs.Tiles.{AreShared};
-ghost use Rattle.file_limits.specs.Wide.{array_values};
+ghost use Rattle.file_sections.specs.file_limits_Wide.{array_values};
 ghost use Rattle.file_sections.specs.Arrays.{WritesArray};
 ghost use Rattle.file_shared.specs.Sharing.{UsesItem};
 ghost use Rattle.program_types.specs.Content.{Program, Value};

@@ -8,7 +8,7 @@ ghost use Rattle.dex_container.specs.Section as section;
 ghost use Rattle.file_classes.specs.ClassData.{SpellsCounts};
 ghost use Rattle.file_classes.specs.Reading.{entries, field_entry, method_entry};
 ghost use Rattle.file_layout.specs.Sections.{wide_all, AddsSome, Laid};
-ghost use Rattle.file_limits.specs.Wide.{body_values, wide_data};
+ghost use Rattle.file_sections.specs.file_limits_Wide.{body_values, wide_data};
 ghost use Rattle.file_sections.specs.Data.{FieldRanks, MethodRanks, PacksData, has_no_members, with_code_places, wide_with_codes};
 ghost use Rattle.file_sections.specs.Growing.{AddsFields, AddsMethods};
 ghost use Rattle.program_types.specs.Content.{Class, Descriptor, Member, Method, Program};

@@ -44,3 +44,7 @@ pub use lists::put_lists;
 pub use sizes::{list_size, names_size};
 pub use tables::name_rows;
 pub use texts::put_texts;
+
+// What stands below, for the crates above.
+pub use code_renumber::mark_code;
+pub use value_renumber::mark_array;

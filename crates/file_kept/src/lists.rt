@@ -5,7 +5,7 @@ ghost use Rattle.dex_container.specs.Layout.{size_of};
 ghost use Rattle.dex_container.specs.Section as section;
 ghost use Rattle.file_layout.specs.Sections.{is_empty_list, wide_all, Laid};
 ghost use Rattle.file_layout.specs.Tiles.{AreShared};
-ghost use Rattle.file_limits.specs.Wide.{list_values, params_of, wide_list};
+ghost use Rattle.file_sections.specs.file_limits_Wide.{list_values, params_of, wide_list};
 ghost use Rattle.file_sections.specs.Lists.{AddsIndices, SpellsRanks};
 ghost use Rattle.file_shared.specs.Sharing.{UsesItem};
 ghost use Rattle.program_types.specs.Content.{Program, Units};

@@ -8,7 +8,7 @@ ghost use Rattle.dex_container.specs.Section as section;
 ghost use Rattle.dex_container.specs.Where.{IsSectionOf};
 ghost use Rattle.file_layout.specs.Sections.{never, wide_all, Laid};
 ghost use Rattle.file_layout.specs.Tiles.{AreShared};
-ghost use Rattle.file_limits.specs.Wide.{text_values, wide_text};
+ghost use Rattle.file_sections.specs.file_limits_Wide.{text_values, wide_text};
 ghost use Rattle.program_types.specs.Content.{Program, Units};
 ghost use Rattle.tables_names.specs.Needed.{needed};
 ghost use Rattle.tables_rows.specs.RowFields.{string_place};

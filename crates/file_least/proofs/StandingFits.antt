@@ -21,7 +21,7 @@ use Rattle.program_types.specs.Content as made
 use Rattle.program_types.specs.Formed.{IsSwitch, insn_at, try_at, insn_payload, insn_targets, RefersToPayload}
 use Rattle.program_types.specs.Kinds.{IsOfKind}
 use Rattle.program_types.specs.Sizes.{addresses_of}
-use Rattle.tables_rows.specs.Stands.{NameStands}
+use Rattle.code_insns.specs.Stands.{NameStands}
 use Rattle.code_insns.specs.Places.{place, count_below, Rises}
 use Rattle.code_insns.specs.Walk.{starts, raw_at, address}
 use Rattle.code_insns.specs.Symbols.{resolved, places, ints, InsnNames, name_in}
@@ -30,16 +30,16 @@ use Rattle.code_insns.specs.Insns.{targets, IsBase, SpellsInsns}
 use Rattle.code_insns.proofs.PlaceLaws.{place-there}
 use Rattle.code_insns.proofs.Runs.{run-at, table-of}
 use Rattle.code_insns.proofs.SaidRegisters.{mapped, said, addresses-same}
-use Rattle.code_read.specs.Item.{insns_size, tries_of, insns_bytes, items_of, units_end, tries_begin, list_begin, try_start, try_count}
-use Rattle.code_read.specs.Tries.{SpellsTries}
-use Rattle.code_read.specs.Code.{SpellsBody, CodeStands}
-use Rattle.code_read.proofs.FaultLaws.{units-even}
-use Rattle.code_read.proofs.ItemLaws.{begins_late}
-use Rattle.code_put.specs.Fits.{short_name, ShortFits, distance_of, BranchFits, TargetsFit, OffsetsFit, IsEven, TryFits}
+use Rattle.file_limits.specs.Item.{insns_size, tries_of, insns_bytes, items_of, units_end, tries_begin, list_begin, try_start, try_count}
+use Rattle.file_limits.specs.Tries.{SpellsTries}
+use Rattle.file_limits.specs.Code.{SpellsBody, CodeStands}
+use Rattle.file_limits.proofs.FaultLaws.{units-even}
+use Rattle.file_limits.proofs.ItemLaws.{begins_late}
+use Rattle.file_limits.specs.Fits.{short_name, ShortFits, distance_of, BranchFits, TargetsFit, OffsetsFit, IsEven, TryFits}
 use Rattle.file_least.specs.AtLeast.{AreNoFurther, CodesFit, FitsButHandlers}
 use Rattle.tables_names.specs.Closure.{Five, NameRanks}
-use Rattle.code_read.proofs.SaidLaws.{AllLed, targets-said, slice-bytes}
-use Rattle.code_read.proofs.CodesFormed.{all-weaker, kind-at, uses-of, no-targets, count-most, not-below, from-at, u16-fits}
+use Rattle.file_limits.proofs.SaidLaws.{AllLed, targets-said, slice-bytes}
+use Rattle.file_limits.proofs.CodesFormed.{all-weaker, kind-at, uses-of, no-targets, count-most, not-below, from-at, u16-fits}
 use Rattle.base_bytes.proofs.ListFacts.{take_bytes}
 use Rattle.code_insns.proofs.PlainLaws.{weaker}
 

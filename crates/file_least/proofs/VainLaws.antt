@@ -5,9 +5,9 @@ use Rattle.std.specs.Option.{option_to_list}
 use Rattle.std.specs.List.{AllByRecursion}
 use Rattle.base_bytes.specs.Fields.{AreBytes}
 use Rattle.base_bytes.specs.declared.fault.Fault.{Fault}
-use Rattle.file_classes.specs.ClassData.{EntriesAre, MethodEntry}
-use Rattle.file_classes.specs.Classes.{CodeAt, CodesAre, IsMethod, SomeCodeStands, SpellsClass}
-use Rattle.code_put.specs.Fits.{BranchOutOfReach, CodeBreaksLimit, FieldOutOfReach, HandlerTooFar, MethodOutOfReach, Misaligned, StringOutOfReach, TooManyTries, TryTooLong}
+use Rattle.file_read.specs.ClassData.{EntriesAre, MethodEntry}
+use Rattle.file_read.specs.Classes.{CodeAt, CodesAre, IsMethod, SomeCodeStands, SpellsClass}
+use Rattle.file_limits.specs.Fits.{BranchOutOfReach, CodeBreaksLimit, FieldOutOfReach, HandlerTooFar, MethodOutOfReach, Misaligned, StringOutOfReach, TooManyTries, TryTooLong}
 use Rattle.dex_container.specs.Frame.{IsFramed}
 use Rattle.dex_insn.specs.declared.opcode.IndexKind.TheVariants as kind
 use Rattle.file_limits.specs.Limits as limits
@@ -20,7 +20,7 @@ use Rattle.file_read.proofs.WellLaws.{all_from, run_entry}
 use Rattle.file_least.specs.AtLeast.{AreNoFurther, FitsButHandlers}
 use Rattle.file_least.proofs.RowsFrom.{holds_at_least, no_further}
 use Rattle.file_least.proofs.StandingFits.{standing-fits}
-use Rattle.code_put.proofs.DistinctLaws.{all-get}
+use Rattle.file_limits.proofs.DistinctLaws.{all-get}
 use Rattle.base_bytes.proofs.ListFacts.{all_append}
 
 -- ---- a code

@@ -2,8 +2,8 @@
 -- Page: "Dalvik Executable format", "File layout": string_ids to method_ids; "code_item".
 use Rattle.std.specs.Prelude.{ℕ, ◌≤◌, List, length}
 use Rattle.base_bytes.specs.Fields.{AreBytes}
-use Rattle.code_read.specs.Code.{CodeStands}
-use Rattle.code_put.specs.Fits.{AllInsns, AllNumbers, AllTries, IsEven, OffsetsFit, ShortFits, TryFits}
+use Rattle.file_limits.specs.Code.{CodeStands}
+use Rattle.file_limits.specs.Fits.{AllInsns, AllNumbers, AllTries, IsEven, OffsetsFit, ShortFits, TryFits}
 use Rattle.dex_container.specs.Frame.{IsFramed}
 use Rattle.dex_container.specs.Layout.{size_of}
 use Rattle.dex_container.specs.Section as section
@@ -12,7 +12,7 @@ use Rattle.tables_names.specs.Closure.{Five, NameRanks}
 use Rattle.tables_names.specs.Rank.{IsAt}
 use Rattle.program_types.specs.Content.{Code, Name, Proto}
 use Rattle.program_types.specs.Key.{proto_key}
-use Rattle.tables_rows.specs.Stands.{NameStands, ProtoStands}
+use Rattle.code_insns.specs.Stands.{NameStands, ProtoStands}
 
 -- Some row from row i on stands for the name.
 pub record NameStandsFrom (b : List ℕ) (i : ℕ) (name : Name) : Type 0 where

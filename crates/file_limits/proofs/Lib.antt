@@ -4,3 +4,23 @@ pub mod BodyLaws
 pub mod LimitLaws
 pub mod OneLimit
 pub mod RankLaws
+-- What stands below, for the crates above.
+pub use Rattle.dex_value.proofs.ArrayOnce
+pub use Rattle.dex_value.proofs.Fitting
+pub use Rattle.dex_value.proofs.FrontLaws
+pub use Rattle.dex_value.proofs.Lengths
+pub use Rattle.dex_value.proofs.Places
+pub use Rattle.code_fits.proofs.CodesFormed
+pub use Rattle.code_fits.proofs.FaultLaws
+pub use Rattle.code_fits.proofs.ItemLaws
+pub use Rattle.code_fits.proofs.SaidLaws
+pub use Rattle.code_fits.proofs.CodeOnce
+pub use Rattle.code_fits.proofs.DistinctLaws
+pub use Rattle.code_fits.proofs.HandlerOnce
+pub use Rattle.code_fits.proofs.HandlerPacks
+pub use Rattle.code_fits.proofs.MentionLaws
+pub use Rattle.code_fits.proofs.PackedLaws
+pub use Rattle.code_fits.proofs.PackedTries
+pub use Rattle.code_fits.proofs.RankLaws as code_put_RankLaws
+pub use Rattle.code_fits.proofs.WrittenLaws
+pub use Rattle.dex_value.proofs.FileLemmas

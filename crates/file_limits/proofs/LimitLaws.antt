@@ -5,7 +5,7 @@ use Rattle.std.specs.Prelude.{if◌then◌else◌, IsTrue}
 use Rattle.std.specs.List.{AllByRecursion, slice_get}
 use Rattle.base_bytes.specs.declared.fault.Fault.{Fault}
 use Rattle.code_fits.proofs.BreakLaws.{breaks_range, clear_fits, fits_clear}
-use Rattle.code_put.specs.Fits.{FitsCode}
+use Rattle.code_fits.specs.Fits.{FitsCode}
 use Rattle.tables_names.specs.Closure.{NameRanks}
 use Rattle.tables_names.specs.Needed.{needed}
 use Rattle.program_types.specs.Content.{Name, Code, Program}

@@ -6,7 +6,7 @@ use Rattle.std.specs.Prelude.{option_map}
 use Rattle.std.specs.Option.{option_to_list}
 use Rattle.std.specs.List.{AllByRecursion, flat_map, slice_get}
 use Rattle.base_bytes.specs.declared.fault.Fault.{Fault}
-use Rattle.code_put.specs.Fits.{HasIndexBelow}
+use Rattle.code_fits.specs.Fits.{HasIndexBelow}
 use Rattle.tables_names.specs.Closure.{Five, NameRanks}
 use Rattle.program_types.specs.Content as content
 use Rattle.program_types.specs.Content.{Name, OfDesc, Code, Catch, Try}

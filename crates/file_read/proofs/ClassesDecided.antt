@@ -14,8 +14,8 @@ use Rattle.tables_rows.specs.Stands.{StringStands, TypeStands, MethodStands}
 use Rattle.base_bytes.specs.Deciding.{Decided}
 use Rattle.base_bytes.proofs.Deciding.{decide_like, decide_both, decide_le, decide_eq, decide_list, decide_all, decide_below}
 use Rattle.dex_base.proofs.NamesDecided.{decide_class}
-use Rattle.tables_laws.proofs.RowsDecided.{decide_list_at, decide_types, decide_not}
-use Rattle.tables_laws.proofs.RowsBreak.{HoldsOrBreaks, first_break}
+use Rattle.file_classes.proofs.RowsDecided.{decide_list_at, decide_types, decide_not}
+use Rattle.file_classes.proofs.RowsBreak.{HoldsOrBreaks, first_break}
 use Rattle.file_classes.specs.ClassRows.{class_word, no_index, IndexOrNone, InterfaceIndexes, NoneDefines, InOrder}
 use Rattle.file_classes.specs.ClassData.{FieldEntry, MethodEntry, Entries, EntriesAt, steps, index_of, FirstEntriesAre, EntriesAre}
 use Rattle.file_classes.specs.Classes.{NoTypeTwice, InterfacesAt, RowIs, IsField, IsMethod}
@@ -24,7 +24,7 @@ use Rattle.file_classes.proofs.EntryFaults.{run_holds, field_owned, method_owned
 use Rattle.file_classes.proofs.EntryLaws.{entry_at, runs_none, runs_more}
 use Rattle.file_classes.proofs.HeadLaws.{to_each, no_classes, not_distinct}
 use Rattle.file_classes.proofs.MemberLaws.{field_stands}
-use Rattle.code_read.proofs.Deciding.{decide-all-below, decide-implied}
+use Rattle.file_classes.proofs.Deciding.{decide-all-below, decide-implied}
 use Rattle.file_read.proofs.DataDecided.{decide_entries_at}
 
 -- ---- interfaces

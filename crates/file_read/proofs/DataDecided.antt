@@ -9,7 +9,7 @@ use Rattle.dex_container.specs.Frame.{IsFramed}
 use Rattle.dex_container.specs.Where.{At}
 use Rattle.base_bytes.specs.Deciding.{Decided, DecidedFront}
 use Rattle.base_bytes.proofs.Deciding.{decide_uleb}
-use Rattle.code_read.proofs.Deciding.{decide-then, decide-many}
+use Rattle.file_classes.proofs.Deciding.{decide-then, decide-many}
 use Rattle.dex_container.proofs.PlacesDecided.{decide_at}
 use Rattle.file_classes.specs.ClassData.{FieldEntry, MethodEntry, Entries, no_entries, counts_of, lists_of, SpellsFieldEntry, SpellsMethodEntry, SpellsCounts, SpellsLists, SpellsEntries, EntriesAt}
 use Rattle.file_classes.proofs.EntryLaws.{field_unique, method_unique, counts_unique}

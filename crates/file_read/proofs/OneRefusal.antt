@@ -9,8 +9,8 @@ use Rattle.dex_container.proofs.OneFault.{one_fault}
 use Rattle.program_types.specs.Content.{Program}
 use Rattle.tables_rows.specs.Sorted.{RowsHold, TablesHold}
 use Rattle.tables_rows.specs.TableFaults.{IsTableFault}
-use Rattle.tables_laws.proofs.NoFault.{with_tables}
-use Rattle.tables_laws.proofs.OneFault.{first_one, one_table_fault}
+use Rattle.file_classes.proofs.NoFault.{with_tables}
+use Rattle.file_classes.proofs.tables_laws_OneFault.{first_one, one_table_fault}
 use Rattle.file_classes.specs.ClassFaults.{ClassRowBreaks, ClassRowHolds, ClassRowsHold, ValuesBreak, ValuesHold, BodiesBreak, BodiesHold, RowRegistersBreak, RowRegistersHold, IsClassFault, IsValueFault, IsCodeFault, IsRegisterFault}
 use Rattle.file_classes.proofs.RowFaults.{class_clear, class_number}
 use Rattle.file_classes.proofs.ClearLaws.{values_clear, bodies_clear, methods_clear}

@@ -19,18 +19,18 @@ use Rattle.program_rules.specs.Ranges.{ProtoInRange, NameInRange, ValueInRange, 
 use Rattle.program_rules.specs.WellFormed.{WellFormed}
 use Rattle.tables_rows.specs.Stands.{StringStands, TypeStands, ProtoStands, NameStands}
 use Rattle.tables_rows.proofs.TypeLists.{indexes_of}
-use Rattle.tables_laws.specs.FileNames.{HasRow}
-use Rattle.dex_value.specs.Spelling.{SpellsValue, SpellsValues, unsigned_of, signed_of, high_of}
-use Rattle.dex_value.specs.Standing.{ArrayStands}
-use Rattle.dex_value.specs.Writing.{magnitude_of}
-use Rattle.dex_value.proofs.Ranges.{power_most, unsigned_below, high_below}
-use Rattle.dex_value.proofs.Narrow.{twos_size}
+use Rattle.file_classes.specs.FileNames.{HasRow}
+use Rattle.file_classes.specs.Spelling.{SpellsValue, SpellsValues, unsigned_of, signed_of, high_of}
+use Rattle.file_classes.specs.Standing.{ArrayStands}
+use Rattle.file_classes.specs.Writing.{magnitude_of}
+use Rattle.file_classes.proofs.Ranges.{power_most, unsigned_below, high_below}
+use Rattle.file_classes.proofs.Narrow.{twos_size}
 use Rattle.file_classes.specs.ClassRows.{class_word}
 use Rattle.file_classes.specs.ClassData.{FieldEntry, MethodEntry, Entries, no_entries, SpellsFieldEntry, SpellsMethodEntry, SpellsEntries, EntriesAt, EntriesAre}
 use Rattle.file_classes.specs.Classes.{IsField, IsMethod, StaticsAt, CodesAre, SpellsClass}
 use Rattle.file_read.specs.Means.{Means}
 use Rattle.file_read.proofs.WellLaws.{all_from, run_entry, class_rows, code_formed, rules_hold}
-use Rattle.code_insns.proofs.PlainLaws.{weaker}
+use Rattle.file_classes.proofs.PlainLaws.{weaker}
 
 -- ---- names
 

@@ -11,7 +11,7 @@ use Rattle.tables_names.specs.Closure.{Five, AreRising}
 use Rattle.file_classes.specs.ClassRows.{IndexOrNone}
 use Rattle.file_rows.specs.Rows.{SpellsTypeRow, SpellsProtoRow, SpellsFieldRow, SpellsMethodRow, SpellsTable, SpellsRows}
 use Rattle.file_rows.specs.ClassDefs.{ClassWithPlaces, SpellsClassRow}
-use Rattle.tables_laws.proofs.FileLemmas.{one_place}
+use Rattle.file_classes.proofs.FileLemmas.{one_place}
 
 -- the same of two keys that are equal
 place_same : (ks : List Key) (i j : ℕ) (k l : Key) → Rising ks → k ≡ l → IsAt ks i k → IsAt ks j l → i ≡ j

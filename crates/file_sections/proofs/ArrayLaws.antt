@@ -11,28 +11,28 @@ use Rattle.program_types.specs.declared.class.Class as class
 use Rattle.tables_names.specs.Closure.{AreRising, Five, NameRanks}
 use Rattle.tables_names.specs.Needed.{needed}
 use Rattle.program_types.specs.Mentions.{names_of_value, names_of_values, NamesHold, AllNamesHold}
-use Rattle.dex_value.specs.Named.{IsRanked}
-use Rattle.dex_value.specs.Spelling.{SpellsArray}
-use Rattle.dex_value.specs.Wide.{wide_array}
-use Rattle.dex_value.proofs.Lengths.{SpellsArray-most}
-use Rattle.dex_value.proofs.Places.{SpellsArray-least}
+use Rattle.file_limits.specs.Named.{IsRanked}
+use Rattle.file_limits.specs.Spelling.{SpellsArray}
+use Rattle.file_limits.specs.dex_value_Wide.{wide_array}
+use Rattle.file_limits.proofs.Lengths.{SpellsArray-most}
+use Rattle.file_limits.proofs.Places.{SpellsArray-least}
 use Rattle.file_layout.specs.Sections.{is_empty_list}
 use Rattle.file_layout.specs.Tiles.{gap}
 use Rattle.program_types.specs.Key.{text_key, field_ref_key, method_ref_key}
 use Rattle.program_types.specs.Kinds.{HasIndex}
 use Rattle.file_shared.specs.Once.{Entry, PutsOnce}
 use Rattle.file_shared.specs.Sharing.{UsesItem}
-use Rattle.dex_value.specs.Unique.{IsFunctionalByType}
-use Rattle.dex_value.proofs.FrontLaws.{SpellsArray-unique}
+use Rattle.file_limits.specs.Unique.{IsFunctionalByType}
+use Rattle.file_limits.proofs.FrontLaws.{SpellsArray-unique}
 use Rattle.file_needed.proofs.ClassNames.{values_kept}
 use Rattle.file_sections.specs.Named.{FewNames}
 use Rattle.file_sections.proofs.NumberLaws.{class_named}
 use Rattle.file_layout.proofs.SectionLaws.{not_none, gap_one}
 use Rattle.base_bytes.specs.Fields.{AreBytes}
-use Rattle.code_put.proofs.HandlerOnce.{ranks-injective}
-use Rattle.dex_value.proofs.ArrayOnce.{array_once}
+use Rattle.file_limits.proofs.HandlerOnce.{ranks-injective}
+use Rattle.file_limits.proofs.ArrayOnce.{array_once}
 use Rattle.file_sections.specs.Arrays.{WritesArray}
-use Rattle.code_put.proofs.RankLaws.{keys-one}
+use Rattle.file_limits.proofs.code_put_RankLaws.{keys-one}
 use Rattle.file_needed.proofs.Steps.{left, right}
 
 ranked : (s : Five) → FewNames s → (n : Name) → HasIndex (NameRanks s) n → IsRanked s n

@@ -2,20 +2,20 @@
 use Rattle.std.proofs.Common.{◌≡◌, ℕ, zero, suc, ◌+◌, ◌<◌, ◌≤◌, false, List, [], ◌∷◌, ◌++◌, length, map, take, drop, get_or, refl, sym, ap, ◌∙◌, arith, subst, length-append, append_assoc, Option, Some, None}
 use Rattle.std.proofs.lemmas.List.{take_all, drop_all}
 use Rattle.std.specs.List.{AllByRecursion, flat_map}
-use Rattle.code_put.proofs.PackedTries.{items-length}
-use Rattle.code_put.proofs.WrittenLaws.{lowered-length}
-use Rattle.code_put.proofs.PackedLaws.{length-head, few-padding, packed-spells}
-use Rattle.code_put.specs.Fits.{wide_code}
-use Rattle.code_put.specs.Packs.{PacksCode, head_bytes, padding, joined, items_bytes}
+use Rattle.file_limits.proofs.PackedTries.{items-length}
+use Rattle.file_limits.proofs.WrittenLaws.{lowered-length}
+use Rattle.file_limits.proofs.PackedLaws.{length-head, few-padding, packed-spells}
+use Rattle.file_limits.specs.Fits.{wide_code}
+use Rattle.file_limits.specs.Packs.{PacksCode, head_bytes, padding, joined, items_bytes}
 use Rattle.file_layout.specs.Sections.{wide_all}
 use Rattle.file_layout.specs.Tiles.{gap}
 use Rattle.file_shared.specs.Once.{Entry, PutsOnce}
 use Rattle.file_shared.specs.Sharing.{Sharing, UsesItem}
 use Rattle.file_shared.proofs.SharingLaws.{sharing_more, sharing_bound}
-use Rattle.code_read.proofs.CodeLaws.{SpellsCode-unique}
-use Rattle.code_put.proofs.RankLaws.{ranks-functional}
-use Rattle.code_put.proofs.HandlerOnce.{ranks-injective}
-use Rattle.code_put.proofs.CodeOnce.{code_once}
+use Rattle.file_rows.proofs.CodeLaws.{SpellsCode-unique}
+use Rattle.file_limits.proofs.code_put_RankLaws.{ranks-functional}
+use Rattle.file_limits.proofs.HandlerOnce.{ranks-injective}
+use Rattle.file_limits.proofs.CodeOnce.{code_once}
 use Rattle.base_bytes.specs.Fields.{AreBytes}
 use Rattle.file_limits.specs.Wide.{bodies_in, bodies_of, wide_body}
 use Rattle.tables_names.specs.Closure.{Five, AreRising, NameRanks}

@@ -5,7 +5,7 @@ use Rattle.std.specs.Prelude.{◌&&◌}
 use Rattle.std.specs.List.{AllByRecursion, flat_map}
 use Rattle.base_bytes.specs.Grammar.{Appends, Each}
 use Rattle.base_bytes.specs.Leb128.{Spells, Shortest}
-use Rattle.file_classes.specs.ClassData.{FieldEntry, MethodEntry, SpellsCounts, SpellsFieldEntry, SpellsMethodEntry}
+use Rattle.file_rows.specs.ClassData.{FieldEntry, MethodEntry, SpellsCounts, SpellsFieldEntry, SpellsMethodEntry}
 use Rattle.file_layout.specs.Sections.{AddsSome, is_empty_list}
 use Rattle.file_layout.proofs.SectionLaws.{adds_some, gap_one, unpadded}
 use Rattle.tables_names.specs.Closure.{Five, NameRanks, method_of_class}

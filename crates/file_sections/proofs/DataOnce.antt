@@ -4,9 +4,9 @@ use Rattle.std.proofs.lemmas.List.{length-map}
 use Rattle.base_bytes.specs.Fields.{AreBytes}
 use Rattle.base_bytes.specs.Leb128.{Spells, Shortest}
 use Rattle.program_types.specs.Content.{Name, OfField, OfMethod, Descriptor, Member, Method}
-use Rattle.file_classes.specs.ClassData.{FieldEntry, MethodEntry, Entries, EntriesAre, SpellsEntries, code_off}
+use Rattle.file_rows.specs.ClassData.{FieldEntry, MethodEntry, Entries, EntriesAre, SpellsEntries, code_off}
 use Rattle.file_sections.specs.Data.{PacksData, ClassWithCodes, FieldRanks, MethodRanks, code_offs}
-use Rattle.code_put.proofs.HandlerOnce.{IsInjective}
+use Rattle.file_limits.proofs.HandlerOnce.{IsInjective}
 use Rattle.file_sections.proofs.GrammarOnce.{pairs_same}
 use Rattle.file_sections.proofs.EntryOnce.{entries_once, steps_same, marks_same, seconds_same, split_same}
 use Rattle.base_bytes.proofs.ListFacts.{all_of}

@@ -4,10 +4,10 @@ use Rattle.std.proofs.lemmas.List.{length-map}
 use Rattle.base_bytes.specs.Grammar.{Pair, Many}
 use Rattle.base_bytes.specs.Leb128.{Spells, Shortest}
 use Rattle.base_bytes.proofs.AdlerSums.{sum-cons}
-use Rattle.file_classes.specs.ClassData.{Entries, SpellsFieldEntry, SpellsMethodEntry, SpellsCounts, SpellsLists, SpellsEntries, EntriesAre, steps, index_of, counts_of, lists_of}
+use Rattle.file_rows.specs.ClassData.{Entries, SpellsFieldEntry, SpellsMethodEntry, SpellsCounts, SpellsLists, SpellsEntries, EntriesAre, steps, index_of, counts_of, lists_of}
 use Rattle.base_bytes.proofs.ShortestLaws.{AllBytes}
 use Rattle.file_sections.proofs.GrammarOnce.{IsSpelledOnce, number_once, then_once, pair_once, many_once, mapped_same}
-use Rattle.file_classes.proofs.EntryLaws.{entry_at}
+use Rattle.file_rows.proofs.EntryLaws.{entry_at}
 
 -- ---- bytes
 

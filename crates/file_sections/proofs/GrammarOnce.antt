@@ -4,7 +4,7 @@ use Rattle.std.specs.List.{slice_get}
 use Rattle.base_bytes.specs.Grammar.{Then, Pair, Each, Many}
 use Rattle.base_bytes.specs.Leb128.{Spells, Shortest}
 use Rattle.base_bytes.proofs.ShortestLaws.{AllBytes, shortest_one}
-use Rattle.code_put.proofs.HandlerOnce.{two-parts}
+use Rattle.file_limits.proofs.HandlerOnce.{two-parts}
 
 -- Of all lists of bytes one at most spells a value.
 abbrev pub IsSpelledOnce : {V : Type 0} → (List ℕ → V → Type 0) → Type 0

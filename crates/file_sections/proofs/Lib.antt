@@ -14,3 +14,18 @@ pub mod GrammarOnce
 pub mod EntryOnce
 pub mod DataOnce
 pub mod MentionLaws
+-- What stands below, for the crates above.
+pub use Rattle.file_limits.proofs.ArrayOnce
+pub use Rattle.file_limits.proofs.CodeOnce
+pub use Rattle.file_limits.proofs.DistinctLaws
+pub use Rattle.file_limits.proofs.HandlerOnce
+pub use Rattle.file_limits.proofs.PackedLaws
+pub use Rattle.file_limits.proofs.code_put_RankLaws as RankLaws
+pub use Rattle.file_rows.proofs.AtLaws
+pub use Rattle.file_rows.proofs.ClassRowLaws
+pub use Rattle.file_rows.proofs.RowLaws
+pub use Rattle.file_rows.proofs.RowsOnce
+pub use Rattle.file_limits.proofs.LimitLaws
+pub use Rattle.file_limits.proofs.OneLimit
+pub use Rattle.file_limits.proofs.PartLaws
+pub use Rattle.file_limits.proofs.SumLaws

@@ -12,7 +12,7 @@ use Rattle.program_types.specs.declared.names.Desc.{Desc}
 use Rattle.tables_names.specs.Closure.{AreRising, Five}
 use Rattle.tables_names.proofs.PlaceLemmas.{rank_at}
 use Rattle.tables_names.specs.Rank.{IsAt}
-use Rattle.tables_rows.proofs.HalvesLaws.{length-halves_bytes, indexes_unique}
+use Rattle.file_rows.proofs.HalvesLaws.{length-halves_bytes, indexes_unique}
 use Rattle.file_layout.specs.Tiles.{gap}
 use Rattle.file_layout.specs.Sections.{is_empty_list}
 use Rattle.file_layout.proofs.SectionLaws.{not_none}
@@ -21,8 +21,8 @@ use Rattle.file_shared.specs.Sharing.{UsesItem}
 use Rattle.tables_names.specs.Indices.{AreIndices}
 use Rattle.file_sections.specs.Lists.{AddsIndices, SpellsRanks}
 use Rattle.file_limits.specs.Wide.{wide_list}
-use Rattle.code_put.proofs.RankLaws.{keys-one}
-use Rattle.code_put.proofs.DistinctLaws.{all-more}
+use Rattle.file_limits.proofs.code_put_RankLaws.{keys-one}
+use Rattle.file_limits.proofs.DistinctLaws.{all-more}
 use Rattle.base_bytes.proofs.ListFacts.{zip_length, zip_more, map_more}
 
 pub indices_none : (s : Five) (old : List ℕ) → AddsIndices s old old []

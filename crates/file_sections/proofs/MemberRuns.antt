@@ -10,7 +10,7 @@ use Rattle.std.specs.declared.cmp.Ordering.{Ordering}
 use Rattle.base_bytes.proofs.GrammarLaws.{Each-push}
 use Rattle.base_bytes.specs.Grammar.{Appends}
 use Rattle.base_bytes.specs.Leb128.{Spells, Shortest}
-use Rattle.file_classes.specs.ClassData.{FieldEntry, MethodEntry, SpellsFieldEntry, SpellsMethodEntry}
+use Rattle.file_rows.specs.ClassData.{FieldEntry, MethodEntry, SpellsFieldEntry, SpellsMethodEntry}
 use Rattle.tables_names.proofs.RowLemmas.{keys_compare_as_places}
 use Rattle.tables_names.specs.Closure.{Five, NameRanks, method_of_class}
 use Rattle.tables_names.specs.Rank.{Rising, IsAt}

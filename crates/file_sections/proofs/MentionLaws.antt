@@ -7,7 +7,7 @@ use Rattle.program_types.specs.declared.class.Class as made
 use Rattle.program_types.specs.declared.class.Method as made_method
 use Rattle.tables_names.specs.Closure.{Five, NameRanks}
 use Rattle.tables_names.specs.Noted.{AreRanks}
-use Rattle.code_put.proofs.MentionLaws.{zip_split}
+use Rattle.file_limits.proofs.MentionLaws.{zip_split}
 use Rattle.file_needed.specs.Bodies.{named_in_body, named_in_code}
 use Rattle.file_sections.proofs.NumberLaws.{no_proto}
 

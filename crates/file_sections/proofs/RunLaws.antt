@@ -5,7 +5,7 @@ use Rattle.std.specs.List.{slice_get}
 use Rattle.std.proofs.lemmas.List.{take_all, take-append-le, map-append, length-map, get_or-append_right, get_or_append_left}
 use Rattle.std.proofs.lemmas.Option.{slice_get_within}
 use Rattle.std.proofs.lemmas.List.Sums.{sum_by-append}
-use Rattle.file_classes.specs.ClassData.{steps, index_of, EntriesAre}
+use Rattle.file_rows.specs.ClassData.{steps, index_of, EntriesAre}
 use Rattle.base_bytes.proofs.ListFacts.{slice_split}
 
 -- the index after all entries

@@ -3,7 +3,7 @@
 use Rattle.std.specs.Prelude.{ℕ, List}
 use Rattle.base_bytes.specs.Fields.{AreBytes}
 use Rattle.base_bytes.specs.Leb128.{Shortest}
-use Rattle.dex_value.specs.Spelling.{SpellsArray}
+use Rattle.file_limits.specs.Spelling.{SpellsArray}
 use Rattle.program_types.specs.Content.{Value}
 use Rattle.tables_names.specs.Closure.{Five, NameRanks}
 

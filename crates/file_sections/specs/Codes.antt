@@ -2,8 +2,8 @@
 -- Page: "Dalvik Executable format", "encoded_method": code_off, 0 for a method without a body; "code_item".
 use Rattle.std.specs.Prelude.{ℕ, Bool, true, false, List, Option, Some, None}
 use Rattle.base_bytes.specs.Fields.{AreBytes}
-use Rattle.code_put.specs.Packs.{PacksCode}
-use Rattle.code_read.specs.Code.{SpellsCode}
+use Rattle.file_limits.specs.Packs.{PacksCode}
+use Rattle.file_rows.specs.Code.{SpellsCode}
 use Rattle.tables_names.specs.Closure.{Five, NameRanks}
 use Rattle.program_types.specs.Content.{Name, Code}
 use Rattle.program_types.specs.Formed.{IsFormed}

@@ -2,7 +2,7 @@
 -- Page: "Dalvik Executable format", "class_data_item", "encoded_field", "encoded_method".
 use Rattle.std.specs.Prelude.{◌≡◌, ℕ, ◌+◌, Bool, List, [], ◌∷◌, ◌++◌, ◌&&◌, length, map, take, drop}
 use Rattle.base_bytes.specs.Leb128.{Spells, Shortest}
-use Rattle.file_classes.specs.ClassData.{FieldEntry, MethodEntry, Entries, SpellsEntries, EntriesAre, field_flags, method_flags, code_off}
+use Rattle.file_rows.specs.ClassData.{FieldEntry, MethodEntry, Entries, SpellsEntries, EntriesAre, field_flags, method_flags, code_off}
 use Rattle.file_layout.specs.Sections.{is_empty_list}
 use Rattle.file_limits.specs.Wide.{wide_data}
 use Rattle.program_types.specs.Content.{Name, OfField, OfMethod, Descriptor, Member, Method, Class, Program}

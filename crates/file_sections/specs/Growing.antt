@@ -3,7 +3,7 @@
 use Rattle.std.specs.Prelude.{◌≡◌, ℕ, List, ◌++◌}
 use Rattle.base_bytes.specs.Grammar.{Each}
 use Rattle.base_bytes.specs.Leb128.{Spells, Shortest}
-use Rattle.file_classes.specs.ClassData.{FieldEntry, MethodEntry, SpellsFieldEntry, SpellsMethodEntry, EntriesAre}
+use Rattle.file_rows.specs.ClassData.{FieldEntry, MethodEntry, SpellsFieldEntry, SpellsMethodEntry, EntriesAre}
 use Rattle.program_types.specs.Content.{Name, Descriptor, Member, Method}
 use Rattle.file_sections.specs.Data.{FieldRanks, MethodRanks, code_offs}
 

@@ -6,3 +6,14 @@ pub mod Growing
 pub mod Named
 pub mod Arrays
 pub mod Once
+-- What stands below, for the crates above.
+pub use Rattle.file_limits.specs.Spelling
+pub use Rattle.file_limits.specs.dex_value_Wide
+pub use Rattle.file_limits.specs.Fits
+pub use Rattle.file_limits.specs.Packs
+pub use Rattle.file_rows.specs.ClassDefs
+pub use Rattle.file_rows.specs.Held
+pub use Rattle.file_rows.specs.Rows
+pub use Rattle.file_limits.specs.Limits
+pub use Rattle.file_limits.specs.Sum
+pub use Rattle.file_limits.specs.Wide as file_limits_Wide

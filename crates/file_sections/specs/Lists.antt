@@ -6,7 +6,7 @@ use Rattle.base_bytes.specs.Words.{halves_bytes}
 use Rattle.tables_names.specs.Closure.{Five}
 use Rattle.tables_names.specs.Indices.{AreIndices}
 use Rattle.program_types.specs.Content.{Descriptor}
-use Rattle.tables_rows.specs.Stands.{SpellsIndexes}
+use Rattle.file_rows.specs.Stands.{SpellsIndexes}
 
 -- A type_list whose indices are those of these types.
 pub record SpellsRanks (s : Five) (bytes : List ℕ) (ts : List Descriptor) : Type 0 where

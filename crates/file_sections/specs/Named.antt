@@ -2,7 +2,7 @@
 -- Page: "Dalvik Executable format", "class_data_item", "encoded_array".
 use Rattle.std.specs.Prelude.{◌≤◌, ◌^◌, length, Option, IfSome}
 use Rattle.std.specs.List.{AllByRecursion}
-use Rattle.code_put.specs.Fits.{CanBePut, FitsCode}
+use Rattle.file_limits.specs.Fits.{CanBePut, FitsCode}
 use Rattle.tables_names.specs.Closure.{Five, NameRanks, method_of_class}
 use Rattle.program_types.specs.Content.{Code, Class}
 use Rattle.program_types.specs.Formed.{IsFormed}

@@ -14,14 +14,14 @@ ghost use Rattle.file_sections.specs.Arrays.{WritesArray};
 ghost use Rattle.file_sections.specs.Named.{FewNames};
 ghost use Rattle.file_layout.specs.Tiles.{AreShared};
 ghost use Rattle.file_shared.specs.Sharing.{UsesItem};
-ghost use Rattle.dex_value.specs.Named.{IsRanked};
-ghost use Rattle.dex_value.specs.Spelling.{SpellsArray};
-ghost use Rattle.dex_value.specs.Wide.{wide_array};
+ghost use Rattle.file_limits.specs.Named.{IsRanked};
+ghost use Rattle.file_limits.specs.Spelling.{SpellsArray};
+ghost use Rattle.file_limits.specs.dex_value_Wide.{wide_array};
 
 use crate::placed::Placed;
 use base_bytes::are_bytes;
 use dex_base::Fault;
-use dex_value::put_array;
+use file_limits::put_array;
 use file_shared::Items;
 use program_types::{Program, Value};
 use std::alloc::Global;

@@ -5,7 +5,7 @@ ghost use Rattle.std.specs.List.{AllByRecursion};
 ghost use Rattle.base_bytes.specs.Fault.{memory};
 ghost use Rattle.base_bytes.specs.Grammar.{Appends};
 ghost use Rattle.base_bytes.specs.Leb128.{Spells, Shortest};
-ghost use Rattle.file_classes.specs.ClassData.{SpellsCounts, SpellsFieldEntry, SpellsMethodEntry};
+ghost use Rattle.file_rows.specs.ClassData.{SpellsCounts, SpellsFieldEntry, SpellsMethodEntry};
 ghost use Rattle.file_layout.specs.Sections.{wide_all, AddsSome, Laid};
 ghost use Rattle.file_limits.specs.Wide.{body_values, wide_data};
 ghost use Rattle.tables_names.specs.Closure.{NameRanks, method_of_class};

@@ -18,8 +18,8 @@ ghost use Rattle.file_shared.specs.Sharing.{Sharing, UsesItem};
 
 use crate::placed::Placed;
 use base_bytes::are_bytes;
-use code_put::{make_item, mentions_in};
 use dex_base::Fault;
+use file_limits::{make_item, mentions_in};
 use file_shared::Items;
 use program_types::{Code, Method, Program};
 use std::alloc::Global;

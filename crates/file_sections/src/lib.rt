@@ -32,3 +32,7 @@ pub use laws::lists_and_data_are_one;
 pub use placed::Placed;
 pub use texts::put_strings;
 pub use type_lists::put_lists;
+
+// What stands below, for the crates above.
+pub use file_limits::{check_limits, plus, times};
+pub use file_rows::{name_rows, put_classes};

@@ -10,8 +10,8 @@ use Rattle.tables_names.specs.Needed.{needed}
 use Rattle.tables_names.proofs.NeededLemmas.{names_append}
 use Rattle.tables_rows.specs.Names.{AreRows}
 use Rattle.file_layout.specs.Sections.{wide_all}
-use Rattle.file_limits.specs.Wide.{wide_class}
-use Rattle.file_limits.proofs.SumLaws.{wide_all_append}
+use Rattle.file_assemble.specs.Wide.{wide_class}
+use Rattle.file_assemble.proofs.SumLaws.{wide_all_append}
 use Rattle.dex_container.specs.Frame.{IsFramed}
 use Rattle.program_types.specs.Content.{Class, Name, Program}
 use Rattle.program_types.specs.Mentions.{field_of_class, names_of_class, names_of_method, names_of_value}

@@ -6,14 +6,14 @@ use Rattle.std.specs.List.{AllByRecursion, flat_map}
 use Rattle.indexmap.specs.IndexMap.{IndexMap}
 use Rattle.dex_container.specs.Frame.{IsFramed}
 use Rattle.dex_container.proofs.Standing.{At-one}
-use Rattle.dex_value.specs.Spelling.{SpellsArray}
-use Rattle.dex_value.specs.Standing.{ArrayStands}
-use Rattle.dex_value.specs.Wide.{wide_values}
-use Rattle.dex_value.proofs.FrontLaws.{SpellsArray-unique}
-use Rattle.dex_value.proofs.Carrying.{NameStands-functional}
-use Rattle.code_read.specs.Code.{CodeStands}
-use Rattle.code_read.proofs.CodeLaws.{code_one}
-use Rattle.code_put.specs.Fits.{wide_code}
+use Rattle.file_classes.specs.Spelling.{SpellsArray}
+use Rattle.file_classes.specs.Standing.{ArrayStands}
+use Rattle.file_classes.specs.Wide.{wide_values}
+use Rattle.file_classes.proofs.FrontLaws.{SpellsArray-unique}
+use Rattle.file_classes.proofs.Carrying.{NameStands-functional}
+use Rattle.file_classes.specs.Code.{CodeStands}
+use Rattle.file_classes.proofs.CodeLaws.{code_one}
+use Rattle.file_assemble.specs.Fits.{wide_code}
 use Rattle.file_classes.specs.ClassRows.{IndexOrNone, no_index}
 use Rattle.file_classes.specs.Classes.{CodeAt, SomeCodeStands, StaticsAt}
 use Rattle.file_classes.proofs.OnceLaws.{one_of_kind}

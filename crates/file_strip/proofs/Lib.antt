@@ -2,3 +2,26 @@ pub mod ClassSteps
 pub mod FoundLaws
 pub mod ReadyLaws
 pub mod WalkLaws
+-- What stands below, for the crates above.
+pub use Rattle.file_assemble.proofs.DistinctLaws
+pub use Rattle.file_assemble.proofs.PackedLaws
+pub use Rattle.file_assemble.proofs.RankLaws
+pub use Rattle.file_assemble.proofs.AtLaws
+pub use Rattle.file_assemble.proofs.ClassRowLaws as file_rows_ClassRowLaws
+pub use Rattle.file_assemble.proofs.LimitLaws
+pub use Rattle.file_assemble.proofs.OneLimit
+pub use Rattle.file_assemble.proofs.PartLaws
+pub use Rattle.file_assemble.proofs.CodeLaws
+pub use Rattle.file_assemble.proofs.file_sections_DataLaws
+pub use Rattle.file_assemble.proofs.ListLaws
+pub use Rattle.file_assemble.proofs.SitedLaws
+pub use Rattle.file_assemble.proofs.AssembledLaws
+pub use Rattle.file_assemble.proofs.DataLaws as file_assemble_DataLaws
+pub use Rattle.file_assemble.proofs.FileOnce
+pub use Rattle.file_assemble.proofs.FitsLaws
+pub use Rattle.file_assemble.proofs.NamedLaws
+pub use Rattle.file_assemble.proofs.OnceLaws
+pub use Rattle.file_assemble.proofs.ReadyLaws as file_assemble_ReadyLaws
+pub use Rattle.file_kept.proofs.RowsFrom
+pub use Rattle.file_kept.proofs.VainLaws
+pub use Rattle.file_kept.proofs.ClassRowLaws as file_kept_ClassRowLaws

@@ -5,24 +5,24 @@ use Rattle.std.specs.List.{AllByRecursion}
 use Rattle.std.proofs.lemmas.Bool.{cases_lt}
 use Rattle.base_bytes.specs.Fields.{AreBytes}
 use Rattle.base_bytes.specs.declared.fault.Fault.{Fault}
-use Rattle.code_put.specs.Fits.{CodeBreaksLimit, FitsCode, HandlerTooFar}
+use Rattle.file_assemble.specs.Fits.{CodeBreaksLimit, FitsCode, HandlerTooFar}
 use Rattle.dex_insn.specs.declared.opcode.IndexKind.TheVariants as kind
 use Rattle.file_assemble.specs.Assembled.{rows_of}
 use Rattle.file_assemble.proofs.FitsLaws.{all_parts, after_tables, HasRoom, Room}
 use Rattle.file_assemble.proofs.DataLaws.{next}
 use Rattle.file_kept.specs.Keeping.{Keeps}
-use Rattle.file_read.proofs.RangeLaws.{well_formed}
+use Rattle.file_kept.proofs.RangeLaws.{well_formed}
 use Rattle.file_layout.specs.Plan.{tables_end}
 use Rattle.file_layout.specs.Sections.{wide_all, Laid}
 use Rattle.file_layout.specs.declared.plan.Rows.{Rows}
-use Rattle.file_least.specs.AtLeast.{FitsButHandlers}
-use Rattle.file_least.proofs.RowsFrom.{holds_at_least, no_further}
-use Rattle.file_least.proofs.VainLaws.{class_fits, only_late}
-use Rattle.file_limits.specs.Limits as limits
-use Rattle.file_limits.specs.Limits.{BodyBreaks, ClassBreaksLimit, Fits, IsFirstToBreak, IsLowestLimit, LimitBreaks, TooBig, TooManyProtos, TooManyTypes, codes_of}
-use Rattle.file_limits.specs.Wide.{wide}
-use Rattle.file_limits.proofs.PartLaws.{by_parts}
-use Rattle.file_read.specs.Means.{Means}
+use Rattle.file_kept.specs.AtLeast.{FitsButHandlers}
+use Rattle.file_kept.proofs.RowsFrom.{holds_at_least, no_further}
+use Rattle.file_kept.proofs.VainLaws.{class_fits, only_late}
+use Rattle.file_assemble.specs.Limits as limits
+use Rattle.file_assemble.specs.Limits.{BodyBreaks, ClassBreaksLimit, Fits, IsFirstToBreak, IsLowestLimit, LimitBreaks, TooBig, TooManyProtos, TooManyTypes, codes_of}
+use Rattle.file_assemble.specs.Wide.{wide}
+use Rattle.file_assemble.proofs.PartLaws.{by_parts}
+use Rattle.file_kept.specs.Means.{Means}
 use Rattle.file_strip.specs.Ready.{IsReady}
 use Rattle.program_types.specs.Content.{Code, Name, Program}
 use Rattle.tables_names.specs.Closure.{NameRanks}

@@ -11,8 +11,8 @@ use Rattle.program_types.specs.Mentions.{field_of_class, names_of_method}
 use Rattle.tables_numbers.specs.Marked.{AddsNames, HasMarks, IsRowOf, Marked}
 use Rattle.tables_numbers.proofs.MarkLemmas.{adds_more}
 use Rattle.file_layout.specs.Sections.{wide_all}
-use Rattle.file_limits.specs.Wide.{bodies_in, wide_body}
-use Rattle.file_limits.proofs.SumLaws.{wide_all_append}
+use Rattle.file_assemble.specs.Wide.{bodies_in, wide_body}
+use Rattle.file_assemble.proofs.SumLaws.{wide_all_append}
 use Rattle.file_classes.specs.ClassData.{FieldEntry, MethodEntry, EntriesAre, index_of, steps}
 use Rattle.file_classes.specs.Classes.{IsField, IsMethod}
 use Rattle.file_classes.specs.declared.class_data.FieldEntry.{FieldEntry as Field}

@@ -1,2 +1,14 @@
 pub mod Ready
 pub mod Survey
+-- What stands below, for the crates above.
+pub use Rattle.file_assemble.specs.Packs
+pub use Rattle.file_assemble.specs.ClassDefs
+pub use Rattle.file_assemble.specs.Rows
+pub use Rattle.file_assemble.specs.Limits
+pub use Rattle.file_assemble.specs.Wide
+pub use Rattle.file_assemble.specs.Codes
+pub use Rattle.file_assemble.specs.Data
+pub use Rattle.file_assemble.specs.Lists
+pub use Rattle.file_assemble.specs.Named
+pub use Rattle.file_assemble.specs.Assembled
+pub use Rattle.file_kept.specs.AtLeast

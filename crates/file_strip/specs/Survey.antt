@@ -9,13 +9,13 @@ use Rattle.tables_rows.specs.Kept.{AreKept}
 use Rattle.tables_rows.specs.Stands.{NameStands}
 use Rattle.tables_numbers.specs.Marked.{AreMarks}
 use Rattle.dex_container.specs.Where.{IsSectionOf}
-use Rattle.dex_value.specs.Standing.{ArrayStands}
-use Rattle.dex_value.specs.Wide.{wide_array, wide_values}
-use Rattle.code_read.specs.Code.{CodeStands}
-use Rattle.code_put.specs.Fits.{wide_code}
+use Rattle.file_classes.specs.Standing.{ArrayStands}
+use Rattle.file_classes.specs.Wide.{wide_array, wide_values}
+use Rattle.file_classes.specs.Code.{CodeStands}
+use Rattle.file_assemble.specs.Fits.{wide_code}
 use Rattle.file_layout.specs.Sections.{wide_all}
-use Rattle.file_limits.specs.Sum.{IsSum}
-use Rattle.file_limits.specs.Wide.{bodies_of, wide_body, wide_class, wide_data}
+use Rattle.file_assemble.specs.Sum.{IsSum}
+use Rattle.file_assemble.specs.Wide.{bodies_of, wide_body, wide_class, wide_data}
 use Rattle.file_classes.specs.ClassData.{Entries}
 use Rattle.file_classes.specs.Classes.{CodesAre, MembersAre, StaticsAt}
 use Rattle.tables_names.specs.Needed.{needed}

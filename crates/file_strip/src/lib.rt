@@ -17,3 +17,6 @@ mod stripping;
 
 pub use stripping::strip_framed;
 pub use survey::{Survey, look_at_classes};
+
+// What stands below, for the crates above.
+pub use file_assemble::assemble;

@@ -7,20 +7,20 @@ ghost use Rattle.program_types.specs.Content.{Units, Code, Member, Method};
 ghost use Rattle.program_types.specs.Mentions.{if_any, field_of_class, names_of_code, names_of_method};
 ghost use Rattle.tables_numbers.specs.Marked.{HasMarks, AddsNames};
 ghost use Rattle.file_layout.specs.Sections.{wide_all};
-ghost use Rattle.file_limits.specs.Sum.{IsSum};
-ghost use Rattle.file_limits.specs.Wide.{bodies_in, wide_body};
+ghost use Rattle.file_assemble.specs.Sum.{IsSum};
+ghost use Rattle.file_assemble.specs.Wide.{bodies_in, wide_body};
 ghost use Rattle.file_classes.specs.ClassData.{EntriesAre};
 ghost use Rattle.file_classes.specs.Classes.{CodeAt, CodesAre, IsField, IsMethod};
 ghost use Rattle.file_classes.specs.Reading.{field_entry, method_entry};
 ghost use Rattle.file_strip.specs.Survey.{FindsNames, HasFound};
 
 use crate::survey::Found;
-use code_renumber::mark_code;
 use dex_base::Fault;
 use dex_container::Sections;
 use dex_insn::IndexKind;
+use file_assemble::plus;
 use file_classes::{FieldEntry, MethodEntry};
-use file_limits::plus;
+use file_kept::mark_code;
 use std::alloc::Global;
 use tables_numbers::Marks;
 

@@ -7,10 +7,10 @@ ghost use Rattle.tables_names.specs.Closure.{NameRanks};
 ghost use Rattle.tables_names.specs.Needed.{needed};
 ghost use Rattle.file_layout.specs.Plan.{tables_end};
 ghost use Rattle.file_layout.specs.Sections.{wide_all};
-ghost use Rattle.file_limits.specs.Limits.{ClassBreaksLimit, Fits, IsFirstToBreak, IsLowestLimit};
-ghost use Rattle.file_limits.specs.Sum.{IsSum};
-ghost use Rattle.file_limits.specs.Wide.{wide, wide_class};
-ghost use Rattle.file_read.specs.Means.{Means};
+ghost use Rattle.file_assemble.specs.Limits.{ClassBreaksLimit, Fits, IsFirstToBreak, IsLowestLimit};
+ghost use Rattle.file_assemble.specs.Sum.{IsSum};
+ghost use Rattle.file_assemble.specs.Wide.{wide, wide_class};
+ghost use Rattle.file_kept.specs.Means.{Means};
 ghost use Rattle.file_kept.specs.Keeping.{Keeps};
 ghost use Rattle.file_assemble.specs.Assembled.{Assembled, DataIsLaid, SpellsTables, rows_of};
 ghost use Rattle.file_assemble.specs.Making.{places_of};
@@ -21,13 +21,12 @@ use base_bytes::are_bytes;
 use dex_base::{Fault, fault};
 use dex_container::Sections;
 use dex_insn::IndexKind;
-use file_assemble::{Data, codes_part, part, space};
+use file_assemble::{Data, codes_part, part, plus, space};
 use file_classes::class_count;
 use file_kept::{
     name_rows, names_size, put_arrays, put_classes, put_codes, put_datas, put_lists, put_texts,
 };
 use file_layout::{Plan, Rows, finish};
-use file_limits::plus;
 use std::alloc::Global;
 use tables_numbers::Numbers;
 

@@ -3,9 +3,9 @@ use Rattle.std.proofs.Common.{ℕ, ℤ, zero, suc, List, Option, Some, None}
 use Rattle.base_bytes.specs.Leb128.{SpellsSigned, Shortest, Spells}
 use Rattle.base_bytes.proofs.PlacedLaws.{Placed-weaker}
 use Rattle.base_bytes.proofs.WeakerLaws.{Implies, Many-weaker, Pair-weaker, Then-weaker}
-use Rattle.code_read.specs.Handlers.{AllBy, Handler, PacksHandlers, PartsBy, TypeBy, catches_of}
-use Rattle.code_insns.specs.Symbols.{InsnNames, Says, name_in}
-use Rattle.code_put.specs.Packs.{AreLowered, PacksCatch, PacksCode, PacksHandler, PacksHandlersOf, PacksPlace}
+use Rattle.file_classes.specs.Handlers.{AllBy, Handler, PacksHandlers, PartsBy, TypeBy, catches_of}
+use Rattle.file_classes.specs.Symbols.{InsnNames, Says, name_in}
+use Rattle.file_strip.specs.Packs.{AreLowered, PacksCatch, PacksCode, PacksHandler, PacksHandlersOf, PacksPlace}
 use Rattle.dex_insn.specs.Raw as raw
 use Rattle.dex_insn.specs.Raw.{Raw}
 use Rattle.program_types.specs.Content.{Code, Insn, Name, OfDesc, Try}

@@ -13,8 +13,8 @@ use Rattle.dex_container.specs.Where.{At, slice}
 use Rattle.dex_value.specs.Spelling.{SpellsArray}
 use Rattle.dex_value.specs.Wide.{wide_array}
 use Rattle.dex_value.proofs.Lengths.{SpellsArray-most}
-use Rattle.file_assemble.specs.Assembled.{Assembled, DataLies, Places, SpellsTables, StandOnce, rows_of}
-use Rattle.file_assemble.proofs.OnceLaws.{datas_shared}
+use Rattle.file_strip.specs.Assembled.{Assembled, DataLies, Places, SpellsTables, StandOnce, rows_of}
+use Rattle.file_strip.proofs.OnceLaws.{datas_shared}
 use Rattle.file_classes.specs.ClassData.{Entries}
 use Rattle.file_classes.specs.ClassRows.{class_data_off, interfaces_off, static_values_off}
 use Rattle.file_classes.specs.Classes.{CodeAt, CodesAre, MembersAre}
@@ -28,18 +28,18 @@ use Rattle.file_layout.specs.Tiles.{gap}
 use Rattle.file_layout.proofs.PartLaws.{length_slice, slice_more}
 use Rattle.file_layout.proofs.StandLaws.{zip_weaker}
 use Rattle.file_layout.proofs.TileLaws.{Tiles-le}
-use Rattle.file_limits.specs.Wide.{array_values, bodies_in, bodies_of, body_values, list_values, params_of, text_values, wide_body, wide_list, wide_of, wide_text}
-use Rattle.file_limits.proofs.PartLaws.{by_parts}
+use Rattle.file_strip.specs.Wide.{array_values, bodies_in, bodies_of, body_values, list_values, params_of, text_values, wide_body, wide_list, wide_of, wide_text}
+use Rattle.file_strip.proofs.PartLaws.{by_parts}
 use Rattle.file_read.specs.Means.{Means}
-use Rattle.file_rows.specs.ClassDefs.{SpellsClassRow, with_places}
-use Rattle.file_rows.specs.Rows.{SpellsRows}
-use Rattle.file_sections.specs.Codes.{PacksBody, is_bodiless}
-use Rattle.file_sections.specs.Data.{PacksData, ClassWithCodes, code_offs, has_no_members, method_count, with_code_places, wide_with_codes}
-use Rattle.file_sections.specs.Lists.{SpellsRanks}
-use Rattle.file_sections.proofs.CodeLaws.{packed_room}
-use Rattle.file_sections.proofs.DataLaws.{data_length}
-use Rattle.file_sections.proofs.ListLaws.{gap_four, list_most}
-use Rattle.file_sections.proofs.SitedLaws.{count_of_bodies, length-sited, room_of_sited}
+use Rattle.file_strip.specs.ClassDefs.{SpellsClassRow, with_places}
+use Rattle.file_strip.specs.Rows.{SpellsRows}
+use Rattle.file_strip.specs.Codes.{PacksBody, is_bodiless}
+use Rattle.file_strip.specs.Data.{PacksData, ClassWithCodes, code_offs, has_no_members, method_count, with_code_places, wide_with_codes}
+use Rattle.file_strip.specs.Lists.{SpellsRanks}
+use Rattle.file_strip.proofs.CodeLaws.{packed_room}
+use Rattle.file_strip.proofs.file_sections_DataLaws.{data_length}
+use Rattle.file_strip.proofs.ListLaws.{gap_four, list_most}
+use Rattle.file_strip.proofs.SitedLaws.{count_of_bodies, length-sited, room_of_sited}
 use Rattle.program_rules.specs.WellFormed.{WellFormed}
 use Rattle.program_types.specs.Content.{Class, Code, Descriptor, OfDesc, OfText, Program, Units, Value}
 use Rattle.program_types.specs.Key.{proto_key, text_key}

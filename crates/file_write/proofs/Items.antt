@@ -5,7 +5,7 @@ use Rattle.std.specs.List.{AllByRecursion, AllZip, fold, list_any, slice_get}
 use Rattle.std.proofs.lemmas.Bool.{eq-eqb}
 use Rattle.file_layout.specs.Tiles.{Among, Lays, Refers, add_place, distinct_places}
 use Rattle.program_rules.proofs.AllLaws.{all-turned}
-use Rattle.code_put.proofs.DistinctLaws.{all-more}
+use Rattle.file_strip.proofs.DistinctLaws.{all-more}
 
 -- ---- a place has one item
 

@@ -6,7 +6,7 @@ use Rattle.base_bytes.proofs.WeakerLaws.{Implies, Shortest-weaker, Then-weaker, 
 use Rattle.file_classes.specs.ClassData.{FieldEntry, MethodEntry, Entries, counts_of, lists_of, SpellsFieldEntry, SpellsMethodEntry, SpellsCounts, SpellsLists, SpellsEntries, EntriesAre}
 use Rattle.file_classes.specs.Classes.{IsField, IsMethod, MembersAre}
 use Rattle.program_types.specs.Content.{Name, OfField, OfMethod, Descriptor, Member, Method, Class}
-use Rattle.file_sections.specs.Data.{FieldRanks, MethodRanks, MembersRank}
+use Rattle.file_strip.specs.Data.{FieldRanks, MethodRanks, MembersRank}
 use Rattle.tables_rows.specs.Stands.{NameStands}
 
 -- ---- numbers in any spelling

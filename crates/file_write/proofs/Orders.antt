@@ -4,7 +4,7 @@ use Rattle.std.proofs.lemmas.Option.{slice_get-map}
 use Rattle.std.specs.Prelude.{IfSome}
 use Rattle.file_classes.specs.ClassRows.{InOrder, IndexOrNone, NoneDefines, class_word, no_index}
 use Rattle.file_classes.proofs.EntryLaws.{entry_at}
-use Rattle.file_rows.specs.ClassDefs.{TypeRanks}
+use Rattle.file_strip.specs.ClassDefs.{TypeRanks}
 use Rattle.dex_container.specs.Frame.{IsFramed}
 use Rattle.dex_container.specs.Layout.{size_of}
 use Rattle.dex_container.specs.Where.{AtOrNone}
@@ -16,7 +16,7 @@ use Rattle.program_rules.specs.Rules.{IsOfType, NoneFrom, OrderHolds}
 use Rattle.tables_rows.specs.Stands.{SpellsIndexes}
 use Rattle.tables_rows.proofs.HalvesLaws.{list_or_none_one}
 use Rattle.file_write.proofs.RowLaws.{ClassRowIs}
-use Rattle.code_put.proofs.DistinctLaws.{all-get}
+use Rattle.file_strip.proofs.DistinctLaws.{all-get}
 
 -- an index is that of one type
 one_type : (s : Five) (i j : ℕ) (t u : Descriptor) → i ≡ j → TypeRanks s i t → TypeRanks s j u → t ≡ u

@@ -12,7 +12,7 @@ use Rattle.file_layout.proofs.PartLaws.{slice_more}
 use Rattle.tables_rows.proofs.HalvesLaws.{u32_bytes-u32_at}
 use Rattle.file_write.specs.Packed.{words_of_rows}
 use Rattle.file_write.proofs.Retold.{zip_of}
-use Rattle.file_kept.proofs.ClassRowLaws.{same}
+use Rattle.file_strip.proofs.file_kept_ClassRowLaws.{same}
 use Rattle.base_bytes.proofs.WordsBytes.{words_bytes-push}
 
 -- ---- numbers

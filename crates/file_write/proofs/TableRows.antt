@@ -13,9 +13,9 @@ use Rattle.dex_container.specs.Where.{slice}
 use Rattle.file_classes.specs.ClassRows.{IndexOrNone, class_word}
 use Rattle.file_classes.specs.Classes.{RowIs}
 use Rattle.file_classes.proofs.EntryLaws.{entry_at}
-use Rattle.file_rows.specs.ClassDefs.{ClassWithPlaces, SpellsClassRow, StringRanks, TypeRanks, with_places}
-use Rattle.file_rows.specs.Rows.{SpellsFieldRow, SpellsMethodRow, SpellsProtoRow, SpellsProtos, SpellsRows, SpellsTable, SpellsTypeRow}
-use Rattle.file_rows.proofs.ClassRowLaws.{length-seated}
+use Rattle.file_strip.specs.ClassDefs.{ClassWithPlaces, SpellsClassRow, StringRanks, TypeRanks, with_places}
+use Rattle.file_strip.specs.Rows.{SpellsFieldRow, SpellsMethodRow, SpellsProtoRow, SpellsProtos, SpellsRows, SpellsTable, SpellsTypeRow}
+use Rattle.file_strip.proofs.file_rows_ClassRowLaws.{length-seated}
 use Rattle.program_types.specs.Content.{Class, Descriptor, FieldRef, MethodRef, OfDesc, OfField, OfMethod, OfText, Program, Proto, Units}
 use Rattle.program_types.specs.Key.{Key, field_ref_key, method_ref_key, proto_key, text_key}
 use Rattle.program_types.specs.Shorty.{shorty}
@@ -27,7 +27,7 @@ use Rattle.file_write.specs.Least.{HoldsExactly}
 use Rattle.file_write.specs.Packed.{TablesArePacked, table_end, text_places, words_of_rows}
 use Rattle.file_write.proofs.RowLaws.{seated_is}
 use Rattle.file_write.proofs.TableBytes.{beside, beside_got, beside_keys, beside_places, half_bytes, key_got, length-words_of, names_from, rows_part, word_bytes, word_got, words_part}
-use Rattle.file_kept.proofs.ClassRowLaws.{same as same_number}
+use Rattle.file_strip.proofs.file_kept_ClassRowLaws.{same as same_number}
 use Rattle.file_layout.proofs.PartLaws.{slice_more}
 
 u16_fits : (b : List ℕ) (p : ℕ) → AreBytes b → u16_at b p < 2 ^ 16

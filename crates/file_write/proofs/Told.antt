@@ -13,8 +13,8 @@ use Rattle.dex_value.specs.Spelling.{SpellsArray}
 use Rattle.dex_value.specs.Standing.{ArrayStands}
 use Rattle.dex_value.proofs.Weaker.{SpellsArray-weaker}
 use Rattle.dex_value.proofs.Carrying.{file_array_unique}
-use Rattle.code_read.specs.Code.{SpellsCode}
-use Rattle.code_read.proofs.CodeLaws.{SpellsCode-unique}
+use Rattle.file_classes.specs.Code.{SpellsCode}
+use Rattle.file_classes.proofs.CodeLaws.{SpellsCode-unique}
 use Rattle.file_classes.specs.ClassData.{Entries, EntriesAt, FieldEntry, MethodEntry, SpellsEntries, no_entries}
 use Rattle.file_classes.specs.Classes.{CodeAt, CodesAre, IsField, IsMethod, MembersAre, SomeCodeStands, StaticsAt}
 use Rattle.file_classes.proofs.EntryLaws.{entries_unique}
@@ -22,10 +22,10 @@ use Rattle.file_classes.proofs.OnceLaws.{one_of_kind}
 use Rattle.file_layout.specs.Sections.{is_empty_list, never}
 use Rattle.file_layout.proofs.SectionLaws.{not_none}
 use Rattle.file_layout.proofs.StandLaws.{zip_weaker}
-use Rattle.file_limits.specs.Wide.{bodies_in, bodies_of, body_values}
-use Rattle.file_sections.specs.Codes.{PacksBody, is_bodiless}
-use Rattle.file_sections.specs.Data.{FieldRanks, MembersRank, MethodRanks, PacksData, ClassWithCodes, code_offs, has_no_members, method_count, with_code_places}
-use Rattle.file_sections.specs.Lists.{SpellsRanks}
+use Rattle.file_strip.specs.Wide.{bodies_in, bodies_of, body_values}
+use Rattle.file_strip.specs.Codes.{PacksBody, is_bodiless}
+use Rattle.file_strip.specs.Data.{FieldRanks, MembersRank, MethodRanks, PacksData, ClassWithCodes, code_offs, has_no_members, method_count, with_code_places}
+use Rattle.file_strip.specs.Lists.{SpellsRanks}
 use Rattle.program_types.specs.Content.{Class, Code, Descriptor, Member, Method, Name, OfDesc, OfField, OfMethod, Program, Units, Value}
 use Rattle.program_types.specs.Key.{text_key}
 use Rattle.tables_names.specs.Closure.{Five, NameRanks}

@@ -14,7 +14,7 @@ use Rattle.program_types.specs.Key.{Key, field_ref_key, key_cmp, method_ref_key,
 use Rattle.program_types.specs.KeyLaws.{key_cmp-same}
 use Rattle.program_types.specs.Mentions.{mentions}
 use Rattle.program_rules.specs.Valid.{IsValidField, IsValidMethod, IsValidName, IsValidProto, IsValueType}
-use Rattle.file_rows.proofs.AtLaws.{proto_one}
+use Rattle.file_strip.proofs.AtLaws.{proto_one}
 
 -- ---- a name is told by its key
 

@@ -5,9 +5,9 @@ use Rattle.base_bytes.specs.declared.fault.Fault.{Fault}
 use Rattle.dex_container.specs.Layout.{size_of}
 use Rattle.file_read.specs.Means.{Means}
 use Rattle.file_read.specs.Refused.{IsRefused}
-use Rattle.file_least.specs.AtLeast.{HoldsAtLeast}
-use Rattle.file_limits.specs.Limits.{Fits, IsLowestLimit}
-use Rattle.file_limits.specs.Wide.{wide}
+use Rattle.file_strip.specs.AtLeast.{HoldsAtLeast}
+use Rattle.file_strip.specs.Limits.{Fits, IsLowestLimit}
+use Rattle.file_strip.specs.Wide.{wide}
 use Rattle.tables_names.specs.Needed.{needed}
 use Rattle.program_types.specs.Content.{Program}
 use Rattle.file_write.specs.Packed.{Packed}

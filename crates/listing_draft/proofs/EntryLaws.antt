@@ -15,7 +15,7 @@ use Rattle.program_types.specs.declared.names.Str.{Str}
 use Rattle.program_types.specs.declared.names.Desc.{Desc}
 use Rattle.program_types.specs.declared.names.Proto.{Proto}
 use Rattle.program_types.specs.declared.code.Code.{Code as Put}
-use Rattle.program_rules.specs.Rules.{member_key, method_key}
+use Rattle.listing_shapes.specs.Rules.{member_key, method_key}
 use Rattle.listing_draft.specs.declared.open_class.Static.{Static}
 use Rattle.listing_draft.specs.declared.open_class.Defined.{Defined}
 use Rattle.listing_draft.specs.Members.{given_key, is_held, put_in, with_member}

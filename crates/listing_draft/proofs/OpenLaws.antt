@@ -5,7 +5,7 @@ use Rattle.std.proofs.lemmas.List.{map-append}
 use Rattle.indexmap.specs.IndexSet.{insert_key}
 use Rattle.program_types.specs.View.{desc}
 use Rattle.program_types.specs.declared.names.Desc.{Desc as Made}
-use Rattle.listing_slots.specs.Keys.{same}
+use Rattle.listing_shapes.specs.Keys.{same}
 use Rattle.listing_draft.specs.States.{Open, is_among, with_interface}
 
 -- ---- interfaces

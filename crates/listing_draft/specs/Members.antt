@@ -6,7 +6,7 @@ use Rattle.std.specs.Ordering.{is_eq, is_lt}
 use Rattle.program_types.specs.Key.{Key, key_cmp}
 use Rattle.program_types.specs.Content.{Descriptor, Value, Member}
 use Rattle.program_types.specs.Content as content
-use Rattle.program_rules.specs.Rules.{member_key}
+use Rattle.listing_shapes.specs.Rules.{member_key}
 
 -- A static field, and its value where the text gives one.
 pub record Given : Type 0 where

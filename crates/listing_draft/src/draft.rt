@@ -32,7 +32,7 @@ pub struct Draft<'a> {
 impl<'a> Draft<'a> {
     ghost use Rattle.std.specs.Prelude.{List, map, ◌+◌, ◌<◌, ◌^◌};
     ghost use Rattle.listing_words.specs.Words.{Word};
-    ghost use Rattle.listing_slots.specs.declared.slot.Slot.{Slot};
+    ghost use Rattle.listing_shapes.specs.declared_Slot.{Slot};
     ghost use Rattle.program_types.specs.View.{desc, class, insn};
     ghost use Rattle.listing_lines.specs.Lines as says;
     ghost use Rattle.listing_lines.specs.LineView.{line};

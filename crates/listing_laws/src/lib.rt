@@ -14,3 +14,7 @@ mod values;
 pub use law::what_is_printed_is_read_again;
 pub use twice::only_what_is_given_twice_is_refused;
 pub use values::values_are_spelled;
+
+// What stands below, for the crates above.
+pub use listing_parse::parse;
+pub use listing_print::print;

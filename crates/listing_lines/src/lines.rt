@@ -14,8 +14,7 @@ use crate::make::{make_member, make_method, plain_insn};
 use crate::making::make_value;
 use bumpalo::Bump;
 use bumpalo::collections::into_bump_slice;
-use dex_base::Fault;
-use dex_insn::format_of;
+use dex_insn::{Fault, format_of};
 use listing_slots::{
     Datum, Kind, datum_at, elements_of, half_of, int_of, text_of, type_of, word_of,
 };

@@ -11,7 +11,7 @@ ghost use Rattle.listing_lines.specs.Lines.{value_of, with_word, with_value};
 ghost use Rattle.listing_lines.specs.MakingView.{making};
 
 use bumpalo::Bump;
-use dex_base::Fault;
+use dex_insn::Fault;
 use listing_slots::{Datum, Key};
 use program_types::{Name, Value};
 

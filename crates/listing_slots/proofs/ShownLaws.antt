@@ -6,13 +6,13 @@ use Rattle.std.specs.Str.Parse.{AllDigits}
 use Rattle.std.specs.Fmt.{decimal, signed_decimal}
 use Rattle.std.proofs.lemmas.Fmt.{decimal_is_IsNumeral}
 use Rattle.std.proofs.lemmas.Bool.{ltb-true, eq-eqb}
-use Rattle.dex_base.specs.Descriptor.{IsMemberName}
-use Rattle.program_types.specs.Content.{OfText, OfDesc, OfField, OfMethod}
+use Rattle.listing_words.specs.Descriptor.{IsMemberName}
+use Rattle.listing_words.specs.Content.{OfText, OfDesc, OfField, OfMethod}
 use Rattle.listing_words.specs.Numbers.{SpellsNatural}
 use Rattle.listing_words.specs.Words.{IsGraphic, IsWritable, plain_word}
 use Rattle.listing_words.specs.Written.{hex_digits, hex_width, flags_text, elements_text, name_text, proto_units, field_units, method_units}
 use Rattle.listing_words.proofs.WrittenLaws.{bits_again, flags_again, elements_again, name_again, name_writable, hex_graphic, hex_length}
-use Rattle.dex_base.proofs.NameUnits.{all_append}
+use Rattle.listing_words.proofs.NameUnits.{all_append}
 use Rattle.listing_slots.specs.declared.key.Key.{Key}
 use Rattle.listing_slots.specs.declared.key.Key.TheVariants as key
 use Rattle.listing_slots.specs.declared.slot.Mark.{Mark}
@@ -23,9 +23,9 @@ use Rattle.listing_slots.specs.Keys.{key_text, same}
 use Rattle.listing_slots.specs.Data.{Datum, byte, half, word, wide, tiny, short, int, long, elements, named, constant, prototype, said}
 use Rattle.listing_slots.specs.Slots.{mark_text, SpellsNumber, SpellsInteger, IsSignedWithin, SpellsSlot, SpellsSlots, has_form}
 use Rattle.listing_slots.specs.Shown.{shown, shown_all, FitsSlot, FitSlots}
-use Rattle.dex_base.proofs.NameLaws.{simple_some}
-use Rattle.dex_base.proofs.LowPoints.{both}
-use Rattle.program_types.proofs.Letters.{descriptor_some}
+use Rattle.listing_words.proofs.dex_base_NameLaws.{simple_some}
+use Rattle.listing_words.proofs.LowPoints.{both}
+use Rattle.listing_words.proofs.Letters.{descriptor_some}
 
 pub natural_printed : (n : ℕ) → n < 2 ^ 64 → SpellsNatural (decimal n) n
 natural_printed n h = let d = decimal_is_IsNumeral n h in inl (d.0, sym d.1)

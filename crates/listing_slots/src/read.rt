@@ -14,11 +14,10 @@ use crate::numbers::{read_number, read_signed};
 use crate::slot::{Mark, Slot};
 use crate::spelled::Spelled;
 use bumpalo::Bump;
-use dex_base::{Fault, fault, is_descriptor, is_member_name};
 use listing_words::{
-    Word, read_bits, read_elements, read_field, read_method, read_name, read_proto,
+    Desc, Fault, Name, Str, Word, fault, is_descriptor, is_member_name, read_bits, read_elements,
+    read_field, read_method, read_name, read_proto,
 };
-use program_types::{Desc, Name, Str};
 
 /// What a word without quotes says in a number's slot.
 fn read_plain(slot: Slot, text: &[u8]) -> Option<Datum<'static>>

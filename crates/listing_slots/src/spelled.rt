@@ -14,9 +14,8 @@ use crate::read::read_encoded;
 use crate::slot::Slot;
 use base_bytes::u32_at;
 use bumpalo::Bump;
-use dex_base::Fault;
+use listing_words::{Fault, Name};
 use program_rules::is_valid_name;
-use program_types::Name;
 use std::alloc::Global;
 use std::marker::Model;
 

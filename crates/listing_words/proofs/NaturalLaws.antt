@@ -5,7 +5,7 @@ use Rattle.std.specs.List.{list_all}
 use Rattle.std.specs.Char.{digit_value}
 use Rattle.std.specs.Str.Parse.{IsNumeral, AllDigits, digits_value}
 use Rattle.listing_words.specs.Numbers.{SpellsNatural, all_digits, has_prefix, is_natural, natural_value, is_number}
-use Rattle.dex_base.proofs.LowPoints.{both}
+use Rattle.program_types.proofs.LowPoints.{both}
 
 digits_true : (radix : ℕ) (ds : List ℕ) → list_all (λ c. ltb (digit_value c) radix) ds ≡ true → AllDigits radix ds
 digits_true radix [] e = tt

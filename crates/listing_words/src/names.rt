@@ -1,7 +1,7 @@
 //! Names in words, and their parts: a word is decoded first, and then split.
 
 ghost use Rattle.std.specs.Prelude.{◌≡◌, ℕ, ◌+◌, ◌<◌, ◌⊎◌, ◌∷◌, List, length, map, IfOk, IfSome, IfNone, IsOkUnless};
-ghost use Rattle.base_bytes.specs.Fault.{memory};
+ghost use Rattle.program_types.specs.Fault.{memory};
 ghost use Rattle.program_types.specs.View.{desc, proto, field_ref, method_ref};
 ghost use Rattle.program_types.specs.Content.{Proto as SaidProto, FieldRef as SaidField, MethodRef as SaidMethod};
 ghost use Rattle.listing_words.specs.Taking.{NoneAt, EachTaken};
@@ -9,11 +9,12 @@ ghost use Rattle.listing_words.specs.Names.{HasNameUnit, TakesNameUnit, SpellsUn
 
 use crate::cut::split_before;
 use crate::texts::hex;
-use base_bytes::widen;
 use bumpalo::Bump;
 use bumpalo::collections::into_bump_slice;
-use dex_base::{Fault, descriptor_length, is_descriptor, is_member_name};
-use program_types::{Desc, FieldRef, MethodRef, Proto, Str};
+use program_types::{
+    Desc, Fault, FieldRef, MethodRef, Proto, Str, descriptor_length, is_descriptor, is_member_name,
+    widen,
+};
 
 // The units between the parts of a name.
 

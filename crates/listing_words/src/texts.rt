@@ -3,12 +3,12 @@
 ghost use Rattle.std.specs.Prelude.{ℕ, ◌<◌, ◌≤◌, ◌+◌, ◌*◌, length, IfOk, IfSome, IfNone, SomeIff, IsOkUnless};
 ghost use Rattle.listing_words.specs.Taking.{NoneAt, EachTaken};
 ghost use Rattle.listing_words.specs.Texts.{HasQuotedUnit, TakesUnit, TakesUnits, hex};
-ghost use Rattle.base_bytes.specs.Fault.{memory};
+ghost use Rattle.program_types.specs.Fault.{memory};
 
 use crate::plain::{BACKSLASH, QUOTE};
 use bumpalo::Bump;
 use bumpalo::collections::into_bump_slice;
-use dex_base::Fault;
+use program_types::Fault;
 
 /// The value of a hexadecimal digit.
 #[tactic(auto, unfolding(crate::specs::Texts::hex))]

@@ -1,7 +1,7 @@
 -- The names in a body.
 use Rattle.std.proofs.Common.{map}
 use Rattle.std.specs.List.{AllByRecursion, flat_map}
-use Rattle.dex_base.specs.Descriptor.{IsDescriptor}
+use Rattle.program_types.specs.Descriptor.{IsDescriptor}
 use Rattle.program_types.specs.Content.{OfDesc, Catch, Try}
 use Rattle.program_types.specs.View.{insn, try, code}
 use Rattle.program_types.specs.declared.code.Code.{Code}

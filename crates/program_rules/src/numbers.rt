@@ -9,9 +9,8 @@ ghost use Rattle.program_rules.specs.Rules.{NoneFrom, AreDistinct, OrderHolds};
 ghost use Rattle.program_rules.specs.Numbers.{AreNumbers, types};
 
 use crate::order::are_distinct;
-use dex_base::Fault;
 use indexmap::IndexMap;
-use program_types::{Class, Desc};
+use program_types::{Class, Desc, Fault};
 use std::alloc::Global;
 
 /// How many types are compared pair by pair, without memory.

@@ -19,9 +19,8 @@ use crate::members::{members_rise, names_are_valid};
 use crate::numbers::{Numbers, numbers_of, order_holds_in};
 use crate::order::order_holds;
 use crate::values::values_fit;
-use dex_base::{Fault, fault};
 use program_code_rules::CodeRule;
-use program_types::{Class, Desc, Program};
+use program_types::{Class, Desc, Fault, Program, fault};
 use std::alloc::Global;
 
 /// Whether the code of class `place` keeps all rules, if it is known whether its payloads are used as they have to be.

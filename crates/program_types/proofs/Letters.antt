@@ -1,7 +1,7 @@
 -- The letters of descriptors, by their first unit.
 use Rattle.std.proofs.Common.{◌≡◌, ◌≢◌, ◌∙◌, inl, inr, ap, sym, refl, ℕ, zero, suc, ◌<◌, ◌≤◌, List, [], ◌∷◌, ◌++◌, length, arith, length-append}
 use Rattle.std.specs.Prelude.{replicate, slice_index}
-use Rattle.dex_base.specs.Descriptor.{IsPrimitive, IsElement, IsDescriptor}
+use Rattle.dex_insn.specs.Descriptor.{IsPrimitive, IsElement, IsDescriptor}
 use Rattle.program_types.specs.Shorty.{StandsFor, letter_of}
 
 -- a primitive type's letter is no `[`

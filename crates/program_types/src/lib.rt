@@ -58,3 +58,9 @@ pub use payload::Payload;
 pub use place::{place_descs, place_proto, place_str};
 pub use shorty::{letter, shorty_laws, shorty_of};
 pub use value::Value;
+
+// What stands below, for the crates above.
+pub use dex_insn::{
+    Fault, Format, IndexKind, descriptor_length, fault, format_of, index_kind_of, is_descriptor,
+    is_member_name, widen,
+};

@@ -10,17 +10,17 @@ use Rattle.std.specs.Cmp.{nat_cmp_is, eq_by_cmp_equiv}
 use Rattle.std.specs.Cmp.Lexicographic.{slice_cmp}
 use Rattle.std.specs.List.{AllByRecursion, AllZip}
 use Rattle.std.specs.List.Sorted.{IsStrictlySortedBy}
-use Rattle.dex_container.specs.Frame.{IsFramed}
-use Rattle.dex_container.specs.Layout.{size_of}
-use Rattle.program_types.specs.Content.{Units, Proto, FieldRef, MethodRef, Name, OfText, OfDesc, OfField, OfMethod}
-use Rattle.program_types.specs.Key.{Key, key_cmp, units_cmp, text_key, proto_key, field_ref_key, method_ref_key}
-use Rattle.program_types.specs.KeyLaws.{key_cmp-total, ordering_then-equal}
-use Rattle.program_types.specs.Shorty.{shorty}
+use Rattle.tables_rows.specs.Frame.{IsFramed}
+use Rattle.tables_rows.specs.Layout.{size_of}
+use Rattle.tables_names.specs.Content.{Units, Proto, FieldRef, MethodRef, Name, OfText, OfDesc, OfField, OfMethod}
+use Rattle.tables_names.specs.Key.{Key, key_cmp, units_cmp, text_key, proto_key, field_ref_key, method_ref_key}
+use Rattle.tables_names.specs.KeyLaws.{key_cmp-total, ordering_then-equal}
+use Rattle.tables_names.specs.Shorty.{shorty}
 use Rattle.tables_names.specs.Rank.{Rising, IsAt, IsSubset, is_member, add_all}
 use Rattle.tables_names.specs.Closure.{IsPart, Holds, proto_closure, Five, AreRising}
 use Rattle.tables_names.specs.Indices.{AreIndices}
 use Rattle.tables_rows.specs.Names.{Names, AreRows, AreNamesOf}
-use Rattle.program_types.specs.Mentions.{mentions}
+use Rattle.tables_names.specs.Mentions.{mentions}
 use Rattle.tables_names.specs.Needed.{needed}
 use Rattle.tables_rows.specs.RowFields.{type_string, proto_shorty, proto_return, proto_parameters, member_class, member_kind, member_name}
 use Rattle.tables_rows.specs.Sorted.{RowHolds, RowsHold, StringIsBelow, TypeIsBelow, ProtoIsBelow, MemberIsBelow, TablesHold}

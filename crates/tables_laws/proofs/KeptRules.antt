@@ -1,11 +1,11 @@
 -- A row that holds keeps each rule of its table, also asked alone.
 use Rattle.std.proofs.Common.{ℕ, ◌<◌, ◌⊎◌, List, subst}
-use Rattle.dex_base.specs.Descriptor.{IsDescriptor, IsClass, IsArray, IsMemberName}
-use Rattle.dex_container.specs.Frame.{IsFramed}
-use Rattle.dex_container.specs.Layout.{size_of}
-use Rattle.dex_container.specs.Where.{IsInSection}
-use Rattle.program_types.specs.Content.{Units}
-use Rattle.program_types.specs.Kinds.{void}
+use Rattle.tables_names.specs.Descriptor.{IsDescriptor, IsClass, IsArray, IsMemberName}
+use Rattle.tables_rows.specs.Frame.{IsFramed}
+use Rattle.tables_rows.specs.Layout.{size_of}
+use Rattle.tables_rows.specs.Where.{IsInSection}
+use Rattle.tables_names.specs.Content.{Units}
+use Rattle.tables_names.specs.Kinds.{void}
 use Rattle.tables_rows.specs.RowFields.{string_place, type_string, proto_parameters, member_class, member_kind, member_name}
 use Rattle.tables_rows.specs.Stands.{StringStands, TypeStands}
 use Rattle.tables_rows.specs.Sorted.{RowRises, StringIsBelow, TypeIsBelow, ProtoIsBelow, MemberIsBelow, StringHolds, TypeHolds, ProtoHolds, FieldHolds, MethodHolds}

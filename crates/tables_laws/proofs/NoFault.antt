@@ -1,8 +1,8 @@
 -- Where no fault stands, the tables hold, and the other way round.
 use Rattle.std.proofs.Common.{ℕ, ◌<◌, inl, inr, List}
 use Rattle.base_bytes.specs.declared.fault.Fault.{Fault}
-use Rattle.dex_container.specs.Frame.{IsFramed}
-use Rattle.dex_container.specs.Layout.{size_of}
+use Rattle.tables_rows.specs.Frame.{IsFramed}
+use Rattle.tables_rows.specs.Layout.{size_of}
 use Rattle.tables_rows.specs.Sorted.{StringHolds, TypeHolds, ProtoHolds, FieldHolds, MethodHolds, StringsHold, TypesHold, ProtosHold, TablesHold}
 use Rattle.tables_rows.specs.TableFaults.{StringBreaks, TypeBreaks, ProtoBreaks, FieldBreaks, MethodBreaks, IsTableFault}
 use Rattle.tables_rows.proofs.ClearRows.{string_clear, type_clear, proto_clear, field_clear, method_clear, no_first}

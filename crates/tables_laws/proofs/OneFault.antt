@@ -2,7 +2,7 @@
 use Rattle.std.proofs.Common.{◌≡◌, ℕ, inl, inr, List, refl, sym, ap, ◌∙◌, subst, arith}
 use Rattle.std.proofs.lemmas.Bool.{cases_lt}
 use Rattle.base_bytes.specs.declared.fault.Fault.{Fault}
-use Rattle.dex_container.specs.Frame.{IsFramed}
+use Rattle.tables_rows.specs.Frame.{IsFramed}
 use Rattle.tables_rows.specs.RowFields.{row_place, string_place}
 use Rattle.tables_rows.specs.Sorted.{StringHolds, TypeHolds, ProtoHolds, FieldHolds, MethodHolds, StringsHold, TypesHold, ProtosHold, FieldsHold}
 use Rattle.tables_rows.specs.TableFaults.{StringBreaks, StringPlace, StringSpelling, StringOrder, TypeBreaks, TypeIndex, TypeText, TypeOrder, ProtoBreaks, ProtoIndex, ParameterList, Shorty, ProtoOrder, FieldBreaks, FieldIndex, FieldKind, FieldOrder, MethodBreaks, MethodIndex, MethodKind, MethodOrder, IsFirstRow, IsStringFault, IsTypeFault, IsProtoFault, IsFieldFault, IsTableFault}

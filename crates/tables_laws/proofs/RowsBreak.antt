@@ -5,21 +5,21 @@ use Rattle.std.specs.declared.cmp.Ordering.{Ordering}
 use Rattle.std.specs.declared.cmp.Ordering.TheVariants.{Less}
 use Rattle.std.specs.Cmp.Lexicographic.{slice_cmp}
 use Rattle.base_bytes.specs.declared.fault.Fault.{Fault}
-use Rattle.dex_container.specs.Frame.{IsFramed}
-use Rattle.dex_container.specs.Layout.{size_of}
-use Rattle.program_types.specs.Content.{Units, Proto, FieldRef, MethodRef}
-use Rattle.program_types.specs.Shorty.{shorty}
+use Rattle.tables_rows.specs.Frame.{IsFramed}
+use Rattle.tables_rows.specs.Layout.{size_of}
+use Rattle.tables_names.specs.Content.{Units, Proto, FieldRef, MethodRef}
+use Rattle.tables_names.specs.Shorty.{shorty}
 use Rattle.tables_rows.specs.RowFields.{row_place, string_place, type_string, proto_shorty, proto_return, proto_parameters, member_class, member_kind, member_name, member_indices}
 use Rattle.tables_rows.specs.Sorted.{IsBelow, RowRises, StringIsBelow, TypeIsBelow, ProtoIsBelow, MemberIsBelow, StringHolds, TypeHolds, ProtoHolds, FieldHolds, MethodHolds, RowsHold, StringsHold, TypesHold, ProtosHold, TablesHold}
-use Rattle.program_types.specs.Kinds.{void}
+use Rattle.tables_names.specs.Kinds.{void}
 use Rattle.tables_rows.specs.Stands.{TypeStands, ProtoStands, FieldStands, MethodStands}
 use Rattle.tables_rows.specs.TableFaults.{StringBreaks, StringPlace, StringSpelling, StringOrder, TypeBreaks, TypeIndex, TypeText, TypeOrder, ProtoBreaks, ProtoIndex, ParameterList, Shorty, ProtoOrder, FieldBreaks, FieldIndex, FieldKind, FieldOrder, MethodBreaks, MethodIndex, MethodKind, MethodOrder, IsFirstRow, IsTableFault}
 use Rattle.tables_rows.proofs.RowReading.{string_one}
 use Rattle.tables_rows.proofs.TypeLists.{protos_below, below_protos, protos_below_none, protos_none_below}
 use Rattle.base_bytes.specs.Deciding.{Decided}
 use Rattle.base_bytes.proofs.Deciding.{decide_like, decide_either, decide_lt, decide_list}
-use Rattle.dex_base.proofs.NamesDecided.{decide_descriptor, decide_class, decide_array, decide_member}
-use Rattle.dex_container.proofs.PlacesDecided.{decide_in}
+use Rattle.tables_names.proofs.NamesDecided.{decide_descriptor, decide_class, decide_array, decide_member}
+use Rattle.tables_rows.proofs.PlacesDecided.{decide_in}
 use Rattle.tables_laws.proofs.RowsDecided.{decide_string, decide_list_at, decide_parameters}
 
 -- ---- order

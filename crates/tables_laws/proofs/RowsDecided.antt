@@ -5,23 +5,23 @@ use Rattle.std.proofs.lemmas.Bool.{cases_lt}
 use Rattle.std.specs.List.{AllByRecursion, AllZip}
 use Rattle.base_bytes.specs.Fields.{u32_bytes}
 use Rattle.base_bytes.specs.Words.{halves_bytes}
-use Rattle.dex_base.specs.Mutf8.{SpellsText}
-use Rattle.dex_container.specs.Frame.{IsFramed}
-use Rattle.dex_container.specs.Layout.{size_of}
-use Rattle.program_types.specs.Content.{Units}
+use Rattle.tables_names.specs.Mutf8.{SpellsText}
+use Rattle.tables_rows.specs.Frame.{IsFramed}
+use Rattle.tables_rows.specs.Layout.{size_of}
+use Rattle.tables_names.specs.Content.{Units}
 use Rattle.tables_rows.specs.Halves.{halves}
-use Rattle.dex_container.specs.Where.{At, AtOrNone}
+use Rattle.tables_rows.specs.Where.{At, AtOrNone}
 use Rattle.tables_rows.specs.RowFields.{string_place}
 use Rattle.tables_rows.specs.Sorted.{TypesHold}
-use Rattle.program_types.specs.Kinds.{void}
+use Rattle.tables_names.specs.Kinds.{void}
 use Rattle.tables_rows.specs.Stands.{StringStands, TypeStands, TypesAt, SpellsIndexes}
 use Rattle.tables_rows.specs.TableFaults.{ParametersAt}
 use Rattle.tables_rows.proofs.HalvesLaws.{spelled_numbers, list_or_none_one}
 use Rattle.tables_rows.proofs.TypeLists.{indexes_of, types_of, types_one}
 use Rattle.base_bytes.specs.Deciding.{Decided, DecidedFront}
 use Rattle.base_bytes.proofs.Deciding.{decide_like, decide_both, decide_lt, decide_list, decide_all, decide_by}
-use Rattle.dex_base.proofs.TextsDecided.{decide_text}
-use Rattle.dex_container.proofs.PlacesDecided.{decide_at}
+use Rattle.tables_names.proofs.TextsDecided.{decide_text}
+use Rattle.tables_rows.proofs.PlacesDecided.{decide_at}
 
 -- ---- rows
 

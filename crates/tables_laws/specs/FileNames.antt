@@ -2,15 +2,15 @@
 -- Page: "Dalvik Executable format", "File layout": string_ids to method_ids are sorted and have no duplicates.
 use Rattle.std.specs.Prelude.{◌≡◌, ℕ, ◌≤◌, List, map, length, true}
 use Rattle.std.specs.List.{AllByRecursion}
-use Rattle.dex_container.specs.Frame.{IsFramed}
-use Rattle.dex_container.specs.Layout.{size_of}
-use Rattle.dex_container.specs.Section as section
-use Rattle.program_types.specs.Content.{Units, Proto, FieldRef, MethodRef, Name, Program}
-use Rattle.program_types.specs.Key.{text_key, proto_key, field_ref_key, method_ref_key}
+use Rattle.tables_rows.specs.Frame.{IsFramed}
+use Rattle.tables_rows.specs.Layout.{size_of}
+use Rattle.tables_rows.specs.Section as section
+use Rattle.tables_names.specs.Content.{Units, Proto, FieldRef, MethodRef, Name, Program}
+use Rattle.tables_names.specs.Key.{text_key, proto_key, field_ref_key, method_ref_key}
 use Rattle.tables_names.specs.Rank.{rank_of, is_member}
 use Rattle.tables_names.specs.Closure.{Five, AreRising, IsClosed, IsPart, Holds}
 use Rattle.tables_rows.specs.Names.{Names, AreNamesOf}
-use Rattle.program_types.specs.Mentions.{mentions}
+use Rattle.tables_names.specs.Mentions.{mentions}
 use Rattle.tables_names.specs.Needed.{needed}
 use Rattle.tables_rows.specs.Sorted.{TablesHold}
 use Rattle.tables_rows.specs.Stands.{StringStands, TypeStands, ProtoStands, FieldStands, MethodStands, NameStands}

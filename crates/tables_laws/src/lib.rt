@@ -5,17 +5,17 @@
 
 ghost use Rattle.std.specs.Prelude.{◌≡◌, ℕ, ◌<◌, ◌⊎◌, List, ◌↔◌, true};
 ghost use Rattle.std.specs.Ordering.{nat_cmp};
-ghost use Rattle.program_types.specs.Content.{Units, Name, Proto, OfText, OfDesc, OfField, OfMethod};
+ghost use Rattle.tables_names.specs.Content.{Units, Name, Proto, OfText, OfDesc, OfField, OfMethod};
 ghost use Rattle.tables_names.specs.Rank.{is_member, add_all};
-ghost use Rattle.program_types.specs.Key.{key_cmp, text_key, proto_key, field_ref_key, method_ref_key, Key};
+ghost use Rattle.tables_names.specs.Key.{key_cmp, text_key, proto_key, field_ref_key, method_ref_key, Key};
 ghost use Rattle.tables_rows.specs.Stands.{StringStands, TypeStands, ProtoStands, FieldStands, MethodStands, NameStands};
 ghost use Rattle.base_bytes.specs.declared.fault.Fault.{Fault};
-ghost use Rattle.dex_base.specs.Descriptor.{IsDescriptor, IsClass, IsArray, IsMemberName};
-ghost use Rattle.dex_container.specs.Frame.{IsFramed};
-ghost use Rattle.dex_container.specs.Where.{IsInSection};
-ghost use Rattle.program_types.specs.Kinds.{void};
-ghost use Rattle.dex_container.specs.Layout.{size_of};
-ghost use Rattle.dex_container.specs.Section as section;
+ghost use Rattle.tables_names.specs.Descriptor.{IsDescriptor, IsClass, IsArray, IsMemberName};
+ghost use Rattle.tables_rows.specs.Frame.{IsFramed};
+ghost use Rattle.tables_rows.specs.Where.{IsInSection};
+ghost use Rattle.tables_names.specs.Kinds.{void};
+ghost use Rattle.tables_rows.specs.Layout.{size_of};
+ghost use Rattle.tables_rows.specs.Section as section;
 ghost use Rattle.tables_rows.specs.RowFields.{string_place, type_string, proto_parameters, member_class, member_kind, member_name};
 ghost use Rattle.tables_rows.specs.Sorted.{RowRises, StringIsBelow, TypeIsBelow, ProtoIsBelow, MemberIsBelow, StringHolds, TypeHolds, ProtoHolds, FieldHolds, MethodHolds, StringsHold, TypesHold, ProtosHold, TablesHold};
 ghost use Rattle.tables_rows.specs.TableFaults.{ParametersAt, ProtoIsOut, HasAnotherShorty, FieldIsOut, MethodIsOut, StringBreaks, TypeBreaks, ProtoBreaks, FieldBreaks, MethodBreaks, IsTableFault};

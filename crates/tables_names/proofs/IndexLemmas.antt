@@ -20,7 +20,7 @@ use Rattle.tables_names.proofs.SubsetLemmas.{member_here}
 use Rattle.tables_names.proofs.RowLemmas.{keys_compare_as_places}
 use Rattle.tables_names.proofs.PlaceLemmas.{member_at, place_of, rank_at, index_none}
 use Rattle.tables_names.proofs.NeededLemmas.{needed_is_least}
-use Rattle.base_bytes.proofs.ListFacts.{or_right_2}
+use Rattle.program_types.proofs.ListFacts.{or_right_2}
 
 -- ---- look-ups
 

@@ -16,7 +16,7 @@ use Rattle.tables_names.proofs.NameSetLemmas.{searched_key}
 use Rattle.tables_names.proofs.NumberLemmas.{zip_get, zip_length}
 use Rattle.tables_names.proofs.PlaceLemmas.{member_at, place_of}
 use Rattle.tables_names.proofs.SortingLemmas.{field_cmp, field_ranks_cmp, method_cmp, method_ranks_cmp}
-use Rattle.base_bytes.proofs.ListFacts.{by_truth}
+use Rattle.program_types.proofs.ListFacts.{by_truth}
 
 map_same : (xs : List Key) → map (λ q. q) xs ≡ xs
 map_same [] = refl

@@ -7,7 +7,7 @@ use Rattle.program_types.specs.Key.{Key, key_cmp}
 use Rattle.program_types.specs.KeyLaws.{key_cmp-total, key_cmp-same}
 use Rattle.tables_names.specs.Rank.{Rising, insert_key, is_member, add_all, IsSubset}
 use Rattle.tables_names.proofs.RisingLemmas.{insert_key-member, is_member-insert_key, is_member-fold}
-use Rattle.base_bytes.proofs.ListFacts.{or_left, or_right_2}
+use Rattle.program_types.proofs.ListFacts.{or_left, or_right_2}
 
 pub or_cases : (a b : Bool) → (a || b) ≡ true → (a ≡ true) ⊎ (b ≡ true)
 or_cases true b h = inl refl

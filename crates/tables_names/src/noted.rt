@@ -2,7 +2,7 @@
 //! them up a second time ("Dalvik bytecode": the formats with an index, as 21c).
 ghost use Rattle.std.specs.Prelude.{◌≡◌, ◌∷◌, ◌++◌, List, [], OnOk, IfOk, IsOkUnless, map};
 ghost use Rattle.std.specs.List.{AllZip};
-ghost use Rattle.base_bytes.specs.Fault.{memory};
+ghost use Rattle.program_types.specs.Fault.{memory};
 ghost use Rattle.program_types.specs.Content as content;
 ghost use Rattle.program_types.specs.View as view;
 ghost use Rattle.tables_names.specs.Closure.{HasShorty, with_name};
@@ -13,8 +13,7 @@ use crate::numbered::NumberedNames;
 use crate::ranks::Ranks;
 use crate::sorting::at;
 use bumpalo::Bump;
-use dex_base::Fault;
-use program_types::Name;
+use program_types::{Fault, Name};
 use std::alloc::{AllocError, Global};
 use std::marker::Model;
 

@@ -4,7 +4,7 @@ ghost use Rattle.base_bytes.specs.Fault.{memory};
 ghost use Rattle.tables_numbers.specs.Marked.{IsColumn};
 ghost use Rattle.tables_numbers.specs.Numbers.{Counts, IsKept};
 
-use dex_base::Fault;
+use dex_insn::Fault;
 use std::alloc::Global;
 
 /// So many rows, none of them marked, and a place after the last.

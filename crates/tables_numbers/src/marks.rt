@@ -9,9 +9,8 @@ ghost use Rattle.tables_numbers.specs.Numbers.{AreRowNumbers};
 
 use crate::column::{count_before, is_marked, mark, unmarked};
 use crate::numbers::Numbers;
-use dex_base::{Fault, u16_at};
 use dex_container::{Sections, kind, section_of};
-use dex_insn::IndexKind;
+use dex_insn::{Fault, IndexKind, u16_at};
 use indexmap::IndexSet;
 use std::alloc::Global;
 use std::marker::Model;

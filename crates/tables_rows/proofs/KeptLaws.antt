@@ -5,7 +5,7 @@ use Rattle.std.proofs.lemmas.Option.{none-some}
 use Rattle.std.specs.Map.{lookup}
 use Rattle.indexmap.specs.IndexMap.{IndexMap, get, IsEmpty, Updates}
 use Rattle.tables_rows.specs.Kept.{AreKept}
-use Rattle.base_bytes.proofs.ListFacts.{some_inj}
+use Rattle.dex_container.proofs.ListFacts.{some_inj}
 
 -- nothing is kept yet
 pub kept_none : {V S : Type 0} (Stands : ℕ → V → Type 0) (m : IndexMap ℕ V S) → IsEmpty m → AreKept Stands m

@@ -6,3 +6,5 @@ pub mod ClearRows
 pub mod NameLaws
 pub mod Marks
 pub mod KeptLaws
+-- What stands below, for the crates above.
+pub use Rattle.dex_container.proofs.PlacesDecided

@@ -7,3 +7,8 @@ pub mod Reading
 pub mod Halves
 pub mod Kept
 pub mod Known
+-- What stands below, for the crates above.
+pub use Rattle.dex_container.specs.Frame
+pub use Rattle.dex_container.specs.Layout
+pub use Rattle.dex_container.specs.Section
+pub use Rattle.dex_container.specs.Where

@@ -1,6 +1,6 @@
 use Rattle.base_bytes.proofs.OptionLaws.{IfNone-always}
 use Rattle.program_types.specs.View.{desc}
-use Rattle.tables_rows.specs.Names.{NameIsAt}
+use Rattle.code_insns.specs.Names.{NameIsAt}
 use Rattle.base_bytes.proofs.GrammarLaws.{Then-none_first}
 use Rattle.base_bytes.proofs.Numbers.{spells_unique}
 use Rattle.base_bytes.proofs.Signed.{signed_unique}

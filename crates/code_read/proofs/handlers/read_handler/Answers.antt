@@ -3,7 +3,7 @@ use Rattle.std.proofs.lemmas.Int.{ints, to_z-of_z}
 use mir.Val.{SFits}
 use mir.Syntax.{w32}
 use Rattle.program_types.specs.View.{catch}
-use Rattle.tables_rows.specs.Names.{NameIsAt}
+use Rattle.code_insns.specs.Names.{NameIsAt}
 use Rattle.base_bytes.specs.Grammar.{Takes, NoneBegins, Many}
 use Rattle.code_read.specs.Handlers.{SpellsCatch, catches_of}
 use Rattle.code_read.proofs.StandLaws.{NameIsAt-functional}

@@ -2,7 +2,7 @@ use Rattle.base_bytes.proofs.OptionLaws.{IfNone-always}
 use Rattle.base_bytes.specs.Leb128.{Spells}
 use Rattle.base_bytes.proofs.Numbers.{spells_unique}
 use Rattle.program_types.specs.Content.{OfDesc}
-use Rattle.tables_rows.specs.Names.{NameIsAt}
+use Rattle.code_insns.specs.Names.{NameIsAt}
 use Rattle.base_bytes.proofs.ViaLaws.{via-nothing}
 use Rattle.code_read.proofs.handlers.read_type.Goals as goal
 

@@ -1,4 +1,4 @@
-use Rattle.tables_rows.specs.Names.{NameIsAt}
+use Rattle.code_insns.specs.Names.{NameIsAt}
 use Rattle.code_read.proofs.StandLaws.{NameIsAt-functional}
 use Rattle.code_read.proofs.CodeLaws.{broken_none, past_none}
 use Rattle.code_read.proofs.laws.broken_code_is_none.Goals as goal

@@ -1,4 +1,4 @@
-use Rattle.tables_rows.specs.Names.{NameIsAt}
+use Rattle.code_insns.specs.Names.{NameIsAt}
 use Rattle.code_read.proofs.CarryLaws.{code_weaker}
 use Rattle.code_read.proofs.laws.code_carries_over.Goals as goal
 

@@ -1,4 +1,4 @@
-use Rattle.tables_rows.specs.Names.{NameIsAt}
+use Rattle.code_insns.specs.Names.{NameIsAt}
 use Rattle.code_read.proofs.StandLaws.{NameIsAt-functional}
 use Rattle.code_read.proofs.CodeLaws.{code_one}
 use Rattle.code_read.proofs.laws.code_is_one.Goals as goal

@@ -1,4 +1,4 @@
-use Rattle.tables_rows.specs.Names.{NameIsAt}
+use Rattle.code_insns.specs.Names.{NameIsAt}
 use Rattle.code_read.proofs.StandLaws.{NameIsAt-functional}
 use Rattle.code_read.proofs.OneFault.{code_one_fault, registers_one_fault}
 use Rattle.code_read.proofs.laws.one_fault.Goals as goal

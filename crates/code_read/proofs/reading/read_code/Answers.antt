@@ -4,7 +4,7 @@ use Rattle.base_bytes.specs.declared.fault.Fault.{Fault}
 use Rattle.code_read.specs.Faults.{RegistersBreak}
 use Rattle.program_types.specs.Formed.{RegistersHold}
 use Rattle.program_types.specs.View.{code}
-use Rattle.tables_rows.specs.Names.{NameIsAt}
+use Rattle.code_insns.specs.Names.{NameIsAt}
 use Rattle.code_read.proofs.CodeLaws.{registers_clear}
 use Rattle.code_read.proofs.StandLaws.{code_body, body_code}
 use Rattle.code_read.proofs.reading.read_code.Goals as goal

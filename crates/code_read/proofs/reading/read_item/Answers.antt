@@ -1,6 +1,6 @@
 use Rattle.std.proofs.Common.{◌≡◌, ◌∙◌, ◌+◌, ◌*◌, subst, ap, ℕ, List, length, map, arith, length-drop}
 use Rattle.program_types.specs.View.{try}
-use Rattle.tables_rows.specs.Names.{NameIsAt}
+use Rattle.code_insns.specs.Names.{NameIsAt}
 use Rattle.code_read.specs.Item.{insns_size, list_begin}
 use Rattle.code_read.specs.Reading.{ReadTries}
 use Rattle.code_read.specs.Faults.{TriesBreak}

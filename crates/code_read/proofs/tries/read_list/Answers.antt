@@ -1,7 +1,7 @@
 use Rattle.std.proofs.Common.{◌≡◌, ◌-◌, length, map, refl, arith, subst, ℕ}
 use Rattle.base_bytes.specs.Leb128.{Spells}
 use Rattle.base_bytes.proofs.TakesLaws.{Takes-length}
-use Rattle.tables_rows.specs.Names.{NameIsAt}
+use Rattle.code_insns.specs.Names.{NameIsAt}
 use Rattle.code_read.specs.Handlers.{SpellsHandler}
 use Rattle.code_read.specs.HandlerViews.{handler}
 use Rattle.code_read.specs.Reading.{ReadSome}

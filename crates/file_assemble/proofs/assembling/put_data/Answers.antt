@@ -1,7 +1,7 @@
 use Rattle.std.proofs.Common.{◌≡◌, length, ap, ◌∙◌, arith}
 use Rattle.file_layout.specs.Plan.{tables_end}
 use Rattle.file_layout.specs.Tiles.{Refers}
-use Rattle.file_limits.specs.Wide.{body_values}
+use Rattle.file_sections.specs.file_limits_Wide.{body_values}
 use Rattle.program_types.specs.View as view
 use Rattle.file_sections.specs.Codes.{is_bodiless}
 use Rattle.file_sections.proofs.SitedLaws.{room_of_sited}

@@ -3,8 +3,8 @@ use Rattle.program_types.specs.Content.{Value}
 use Rattle.tables_names.specs.Closure.{Five, NameRanks}
 use Rattle.file_layout.specs.Sections.{is_empty_list}
 use Rattle.base_bytes.specs.Leb128.{Shortest}
-use Rattle.dex_value.specs.Spelling.{SpellsArray}
-use Rattle.dex_value.specs.Wide.{wide_array}
+use Rattle.value_renumber.specs.Spelling.{SpellsArray}
+use Rattle.value_renumber.specs.Wide.{wide_array}
 use Rattle.file_sections.specs.Arrays.{WritesArray}
 use Rattle.file_shared.specs.Sharing.{Sharing}
 use Rattle.file_kept.specs.Statics.{AreCarriedStatics, WritesStatics}

@@ -3,7 +3,7 @@ use Rattle.std.proofs.lemmas.List.{take_all}
 use Rattle.program_types.specs.Content.{Code}
 use Rattle.tables_names.specs.Closure.{NameRanks}
 use Rattle.file_layout.specs.Tiles.{AreShared}
-use Rattle.file_limits.specs.Wide.{wide_body}
+use Rattle.file_sections.specs.file_limits_Wide.{wide_body}
 use Rattle.file_sections.specs.Codes.{PacksBody, WritesBody, is_bodiless}
 use Rattle.file_sections.proofs.LayingLaws.{items_few, room_at}
 use Rattle.file_sections.proofs.CodeLaws.{bodies_packs, bodies_one, bodies_most, bodies_once}

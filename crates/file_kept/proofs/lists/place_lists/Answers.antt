@@ -3,7 +3,7 @@ use Rattle.std.proofs.lemmas.List.{take_all}
 use Rattle.program_types.specs.Content.{Units}
 use Rattle.file_layout.specs.Sections.{is_empty_list}
 use Rattle.file_layout.specs.Tiles.{AreShared}
-use Rattle.file_limits.specs.Wide.{wide_list}
+use Rattle.file_sections.specs.file_limits_Wide.{wide_list}
 use Rattle.file_sections.specs.Lists.{SpellsRanks}
 use Rattle.file_sections.proofs.LayingLaws.{items_few, room_at}
 use Rattle.file_sections.proofs.ListLaws.{list_packs, list_one, list_most, lists_once}

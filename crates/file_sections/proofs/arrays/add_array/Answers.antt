@@ -3,10 +3,10 @@ use Rattle.base_bytes.specs.Leb128.{Shortest}
 use Rattle.tables_names.specs.Closure.{NameRanks}
 use Rattle.program_types.specs.View as view
 use Rattle.file_sections.proofs.ArrayLaws.{array_used, array_some}
-use Rattle.dex_value.proofs.Fitting.{narrow_fits}
-use Rattle.dex_value.specs.Spelling.{SpellsArray}
+use Rattle.file_limits.proofs.Fitting.{narrow_fits}
+use Rattle.file_limits.specs.Spelling.{SpellsArray}
 use Rattle.file_sections.proofs.arrays.add_array.Goals as goal
-use Rattle.code_put.proofs.HandlerPacks.{alone}
+use Rattle.file_limits.proofs.HandlerPacks.{alone}
 
 pub put_array-requires-clause-counts : goal.put_array-requires-clause-counts
 put_array-requires-clause-counts c = narrow_fits (map view.value c.args.values.now) (omega (arith, c.requires.room))

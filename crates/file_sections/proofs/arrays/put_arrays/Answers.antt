@@ -11,8 +11,8 @@ use Rattle.file_sections.proofs.NumberLaws.{no_class}
 use Rattle.base_bytes.specs.Leb128.{Shortest}
 use Rattle.tables_names.specs.Closure.{NameRanks}
 use Rattle.program_types.specs.Content as content
-use Rattle.dex_value.specs.Spelling.{SpellsArray}
-use Rattle.dex_value.specs.Wide.{wide_array}
+use Rattle.file_limits.specs.Spelling.{SpellsArray}
+use Rattle.file_limits.specs.dex_value_Wide.{wide_array}
 use Rattle.file_sections.proofs.ArrayLaws.{values_ranked, array_packs, array_one, array_most, arrays_once}
 use Rattle.file_sections.proofs.arrays.put_arrays.Goals as goal
 use Rattle.file_limits.proofs.PartLaws.{map_map}

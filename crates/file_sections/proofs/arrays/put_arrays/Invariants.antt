@@ -5,8 +5,8 @@ use Rattle.file_layout.specs.Sections.{is_empty_list}
 use Rattle.file_shared.specs.Sharing.{Sharing}
 use Rattle.base_bytes.specs.Leb128.{Shortest}
 use Rattle.tables_names.specs.Closure.{NameRanks}
-use Rattle.dex_value.specs.Spelling.{SpellsArray}
-use Rattle.dex_value.specs.Wide.{wide_array}
+use Rattle.file_limits.specs.Spelling.{SpellsArray}
+use Rattle.file_limits.specs.dex_value_Wide.{wide_array}
 use Rattle.file_sections.specs.Arrays.{WritesArray}
 use Rattle.file_sections.proofs.arrays.put_arrays.Given as goal
 

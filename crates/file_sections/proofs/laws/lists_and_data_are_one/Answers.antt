@@ -1,5 +1,5 @@
 use Rattle.tables_names.specs.Closure.{NameRanks}
-use Rattle.code_put.proofs.HandlerOnce.{ranks-injective}
+use Rattle.file_limits.proofs.HandlerOnce.{ranks-injective}
 use Rattle.file_sections.proofs.DataOnce.{data_once}
 use Rattle.file_sections.proofs.ListLaws.{lists_once}
 use Rattle.file_sections.proofs.laws.lists_and_data_are_one.Goals as goal

@@ -4,8 +4,8 @@ use Rattle.std.specs.Prelude.{sum}
 use Rattle.program_types.specs.Content.{Units, Method}
 use Rattle.program_types.specs.Mentions.{names_of_method}
 use Rattle.file_layout.specs.Sections.{wide_all}
-use Rattle.file_limits.specs.Sum.{IsSum}
-use Rattle.file_limits.specs.Wide.{bodies_in, wide_body}
+use Rattle.file_assemble.specs.Sum.{IsSum}
+use Rattle.file_assemble.specs.Wide.{bodies_in, wide_body}
 use Rattle.file_classes.specs.ClassData.{EntriesAre, steps}
 use Rattle.file_classes.specs.Classes.{CodesAre, IsMethod}
 use Rattle.file_classes.specs.Reading.{method_entry}

@@ -7,8 +7,8 @@ use Rattle.tables_names.specs.Closure.{Five, nothing, with_names}
 use Rattle.tables_rows.proofs.KeptLaws.{kept_none}
 use Rattle.tables_numbers.specs.Marked.{AreMarks}
 use Rattle.file_layout.specs.Sections.{wide_all}
-use Rattle.file_limits.specs.Sum.{IsSum}
-use Rattle.file_limits.specs.Wide.{wide_class}
+use Rattle.file_assemble.specs.Sum.{IsSum}
+use Rattle.file_assemble.specs.Wide.{wide_class}
 use Rattle.file_strip.specs.Survey.{ArrayIsFound, CodeIsFound}
 use Rattle.file_strip.proofs.ClassSteps.{class_at, needed_is, next_class, next_wide}
 use Rattle.file_strip.proofs.survey.look_at_classes.Goals as goal

@@ -1,4 +1,4 @@
-use Rattle.base_bytes.specs.Grammar.{NoneBegins}
+use Rattle.dex_container.specs.Grammar.{NoneBegins}
 use Rattle.tables_rows.specs.Stands.{SpellsIndexes}
 use Rattle.dex_container.proofs.Standing.{stands_at, stands_not}
 use Rattle.tables_rows.proofs.RowReading.{some_weaker, none_weaker}

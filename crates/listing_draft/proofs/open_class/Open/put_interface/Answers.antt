@@ -3,7 +3,7 @@ use lib.Pointwise.{pointwise}
 use lib.Dec.{eqb}
 use Rattle.program_types.specs.View.{desc}
 use Rattle.program_types.specs.declared.names.Desc.{Desc}
-use Rattle.listing_slots.proofs.KeyLaws.{same_is}
+use Rattle.listing_shapes.proofs.KeyLaws.{same_is}
 use Rattle.listing_draft.specs.View.{open_class}
 use Rattle.listing_draft.proofs.OpenLaws.{interface_put}
 use Rattle.listing_draft.proofs.open_class.Open.put_interface.Goals as goal
