@@ -89,7 +89,8 @@ def proved_by(program, library, is_given):
     """What was proved, by what, and what it came to; what is given by --of was built nobody says where."""
     commit = output("git", "rev-parse", "HEAD") or "unknown"
     changed = " with changes that aren't committed" if output("git", "status", "--porcelain", "-uno") else ""
-    compiler = output("rt", "version") or "unknown"
+    made_by = os.path.join(os.path.dirname(program), "toolchain")
+    compiler = get(made_by).decode().strip() if os.path.exists(made_by) else "unknown"
     sums = "".join(f"{hashlib.sha256(get(path)).hexdigest()}  {os.path.basename(path)}\n" for path in (program, *library))
     built = f"Proved and built of commit {commit}{changed},\nby the toolchain {compiler}.\nPROVED.md says what that means.\n"
     given = f"Packed at commit {commit}{changed}.\nThe program and the library were given: of which commit they are isn't known here.\n"
