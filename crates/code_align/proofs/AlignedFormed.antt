@@ -13,7 +13,6 @@ use Rattle.program_types.specs.Operands.{IsOperand}
 use Rattle.program_types.specs.Formed.{insn_at, try_at, insn_payload, insn_wants, insn_reach, insn_branch, insn_short_branch, insn_targets, insn_registers, AreAmong, AreAlike, IsSwitch, RefersToPayload, IsTarget, TargetHolds, PayloadHolds, TryFormed, IsFormed}
 use Rattle.code_align.specs.Aligned.{with_nops, PadsPayloads, nops_to, moved, moved_insn, moved_catch, moved_try, padded, Aligned}
 use Rattle.code_align.proofs.PadLaws.{length-with_nops, pads-count}
-use Rattle.code_put.proofs.PayloadLaws.{self-alike}
 
 -- ---- the new numbers rise
 
@@ -145,6 +144,12 @@ module _ (f : ℕ → ℕ) where
 nop-operand : (n : ℕ) → IsOperand n (made.I10x 0)
 unfolding formats
 nop-operand n = refl
+
+self-alike : (w l : Option Payload) → AreAlike w l → AreAlike w w
+self-alike (Some payload.PackedSwitch) l h = tt
+self-alike (Some payload.SparseSwitch) l h = tt
+self-alike (Some payload.Array) l h = tt
+self-alike None l h = h
 
 no-wants : (o : Option Payload) → AreAlike (insn_wants (made.I10x 0)) o → ⊥
 unfolding insn_wants

@@ -12,15 +12,15 @@ use Rattle.program_types.specs.View.{try, catch, insn}
 use Rattle.program_types.specs.declared.code.Try.{Try as Held}
 use Rattle.program_types.specs.declared.insn.Insn.{Insn as HeldInsn}
 use Rattle.program_types.specs.Mentions.{names_of_insn, names_of_try}
-use Rattle.program_types.specs.Formed.{insn_at, try_at, insn_payload, insn_targets, IsSwitch, PayloadHolds, TryFormed}
+use Rattle.program_types.specs.Formed.{insn_at, try_at, insn_targets, PayloadHolds, TryFormed}
 use Rattle.program_types.specs.Operands.{IsOperand}
 use Rattle.program_types.specs.Sizes.{insn_units, starts_from, addresses_of}
 use Rattle.code_put.specs.Fits.{distance_of, BranchFits, TargetsFit, OffsetsFit, catches_in}
-use Rattle.code_put.specs.Packs.{IsOrigin}
+use Rattle.code_put.specs.Branches.{IsOrigin}
 use Rattle.code_put.proofs.ItemPieces.{seen-at}
 use Rattle.code_put.proofs.SizeLaws.{units-small}
 use Rattle.code_put.proofs.FormLaws.{length-addresses, names-at}
-use Rattle.code_put.proofs.PutLaws.{no-targets}
+use Rattle.code_put.proofs.PutLaws.{targets-or}
 use Rattle.base_bytes.proofs.ListFacts.{all_front}
 
 -- ---- offsets
@@ -31,8 +31,8 @@ targets-inside n (made.Packed first to) h = h.2
 targets-inside n (made.Sparse keys to) h = h.4
 targets-inside n _ h = tt
 
-plain-fit : (ss : List ℕ) (at : ℕ) (i : Insn) → (IsSwitch (insn_payload i) → ⊥) → TargetsFit ss at i
-plain-fit ss at i h = subst (λ (ts : List ℕ). AllByRecursion (λ to. FitsSigned w32 (distance_of ss at to)) ts) (sym (no-targets i h)) tt
+plain-fit : (ss : List ℕ) (at : ℕ) (i : Insn) → insn_targets i ≡ [] → TargetsFit ss at i
+plain-fit ss at i h = subst (λ (ts : List ℕ). AllByRecursion (λ to. FitsSigned w32 (distance_of ss at to)) ts) (sym h) tt
 
 pub offsets-from : (is : List Insn) (ss : List ℕ) (k o : ℕ) → IsOrigin is k o → PayloadHolds is k → BranchFits ss (get_or ss k 0) (insn_at is k) → TargetsFit ss (get_or ss o 0) (insn_at is k) → OffsetsFit is ss k
 offsets-from is ss k o (inl s) p b t = record {
@@ -42,7 +42,13 @@ offsets-from is ss k o (inl s) p b t = record {
       let e : o ≡ j = u.2 o s.1 ∙ sym (u.2 j r) in
       subst (λ (m : ℕ). TargetsFit ss (get_or ss m 0) (insn_at is k)) e t;
 }
-offsets-from is ss k o (inr s) p b t = record { branch = b; targets = λ j r. plain-fit ss (get_or ss j 0) (insn_at is k) s.0 }
+offsets-from is ss k o (inr s) p b t = record {
+  branch = b;
+  targets = λ j r. elim (targets-or (insn_at is k)) [
+    | inl w ↦ let u = p.used w in absurd (s.0 u.0 (w, u.1, λ i q. let e = u.2 i q in omega (arith, e)))
+    | inr none ↦ plain-fit ss (get_or ss j 0) (insn_at is k) none
+  ];
+}
 
 -- ---- catches
 

@@ -1,11 +1,8 @@
 pub mod FitLaws
 pub mod BreakLaws
 -- What stands below, for the crates above.
-pub use Rattle.code_put.proofs.CodesFormed
-pub use Rattle.code_put.proofs.FaultLaws
-pub use Rattle.code_put.proofs.ItemLaws
-pub use Rattle.code_put.proofs.SaidLaws
 pub use Rattle.code_put.proofs.CodeOnce
+pub use Rattle.code_put.proofs.DistanceLaws
 pub use Rattle.code_put.proofs.DistinctLaws
 pub use Rattle.code_put.proofs.HandlerOnce
 pub use Rattle.code_put.proofs.HandlerPacks

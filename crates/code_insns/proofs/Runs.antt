@@ -5,7 +5,6 @@ use Rattle.dex_insn.specs.RawInsns.{InsnStands}
 use Rattle.base_bytes.specs.declared.fault.Fault.{Fault}
 use Rattle.dex_insn.specs.declared.raw.RawInsn.{RawInsn}
 use Rattle.dex_insn.proofs.Laws.{stands-whole, one-stands, stands-clear}
-use Rattle.code_insns.specs.Places.{Rises}
 use Rattle.code_insns.specs.Walk.{Run, Walks, starts, IsWalkFault, IsTable}
 use Rattle.program_types.specs.Sizes.{starts_from}
 use Rattle.std.proofs.lemmas.List.{length-map}
@@ -86,9 +85,6 @@ run-rises us a (r ∷ rs) e (suc i) (suc j) h p l = run-rises us (a + units r) r
 
 pub length-of_starts : (rs : List Raw) → length (starts rs) ≡ length rs
 length-of_starts rs = length-starts 0 (map units rs) ∙ length-map rs units
-
-pub walk-rises : (us : List ℕ) (rs : List Raw) → Walks us rs → Rises (starts rs)
-walk-rises us rs w = let n = length-of_starts rs in record { each = λ i j p q. run-rises us 0 rs (length us / 2) i j w.run p (omega (arith, n, q)) }
 
 pub run-few : (us : List ℕ) (a : ℕ) (rs : List Raw) (e : ℕ) → Run us a rs e → a + length rs ≤ e
 run-few us a [] e h = omega arith

@@ -1,7 +1,7 @@
 -- What the private functions of checking say.
 use Rattle.std.specs.Prelude.{ℕ, List, length, Option, IfNone, IfSome}
 use Rattle.program_types.specs.Content.{Name, Insn}
-use Rattle.code_insns.specs.Places.{AllHold}
+use Rattle.program_code_rules.specs.First.{AllHold}
 use Rattle.code_insns.specs.Reading.{ReadInsns}
 use Rattle.code_insns.specs.Registers.{AmongAt, IsPast}
 

@@ -1,15 +1,14 @@
 -- Codes that have nothing to do with payloads, and what the private functions say that read them at once.
-use Rattle.std.specs.Prelude.{ℕ, pos, ◌≡◌, ◌≢◌, ◌<◌, List, length, take, slice_index, IfSome, Bool, true, false}
-use Rattle.std.specs.List.{AllByRecursion}
+use Rattle.std.specs.Prelude.{ℕ, ◌≡◌, List, length, take, slice_index, Bool, true, false}
 use Rattle.dex_insn.specs.Raw as raw
 use Rattle.dex_insn.specs.Raw.{Raw}
-use Rattle.dex_insn.specs.Registers.{named_registers}
 use Rattle.program_types.specs.Content.{Name, Insn}
-use Rattle.program_types.specs.Formed.{insn_at}
-use Rattle.code_insns.specs.Places.{place, AllHold}
+use Rattle.program_types.specs.Formed.{insn_at, AreAmong}
+use Rattle.program_code_rules.specs.Branches.{BranchStays}
+use Rattle.program_code_rules.specs.First.{AllHold}
+use Rattle.code_insns.specs.Linked.{lead}
 use Rattle.code_insns.specs.Walk.{Run, starts, raw_at}
 use Rattle.code_insns.specs.Symbols.{Says}
-use Rattle.code_insns.specs.Insns.{short_branch}
 use Rattle.code_insns.specs.Reading.{ReadInsns}
 use Rattle.code_insns.specs.Registers.{AmongAt}
 
@@ -21,13 +20,13 @@ is_plain (raw.Sparse keys offsets) = false
 is_plain (raw.Data width bytes) = false
 is_plain _ = true
 
--- The raw instruction at this unit has nothing to do with payloads, doesn't branch to itself, names registers of the code alone, and says
--- this, where instructions begin at these units.
-pub record SaysAtOnce (N : ℕ → Name → Type 0) (begins : List ℕ) (count at : ℕ) (r : Raw) (i : Insn) : Type 0 where
+-- The raw instruction at this unit has nothing to do with payloads, names registers of the code alone, and says this one, number k, where
+-- instructions begin at these units: a branch, which leads to one of them, and to another one where it has to.
+pub record SaysAtOnce (N : ℕ → Name → Type 0) (begins : List ℕ) (count at k : ℕ) (r : Raw) (i : Insn) : Type 0 where
   pub plain : is_plain r ≡ true
-  pub moves : IfSome (short_branch r) (λ z. z ≢ pos 0)
-  pub among : AllByRecursion (λ v. v < count) (named_registers r)
-  pub says : Says N (place begins at) r i
+  pub leads : BranchStays (length begins) k i
+  pub among : AreAmong count i
+  pub says : Says N (lead begins at) r i
 
 -- From the first unit to this one such instructions stand, which begin at the first k of these units, and say these.
 pub record PlainRun (N : ℕ → Name → Type 0) (us begins : List ℕ) (count : ℕ) (is : List Insn) (k at : ℕ) : Type 0 where
@@ -36,7 +35,7 @@ pub record PlainRun (N : ℕ → Name → Type 0) (us begins : List ℕ) (count 
   pub said : length is ≡ k
   pub run : Run us 0 raws at
   pub begins_are : take k begins ≡ starts raws
-  pub each : AllHold (λ j. SaysAtOnce N begins count (slice_index begins j) (raw_at raws j) (insn_at is j)) k
+  pub each : AllHold (λ j. SaysAtOnce N begins count (slice_index begins j) j (raw_at raws j) (insn_at is j)) k
 
 -- The units spell these instructions, which begin at these units and name registers of the code alone.
 pub record ArePlain (N : ℕ → Name → Type 0) (us begins : List ℕ) (count : ℕ) (is : List Insn) : Type 0 where

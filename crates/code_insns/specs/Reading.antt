@@ -1,24 +1,21 @@
 -- What the private functions of reading say.
-use Rattle.std.specs.Prelude.{ℕ, ◌≡◌, ◌<◌, List, length}
+use Rattle.std.specs.Prelude.{ℕ, ◌≡◌, ◌<◌, List, length, None}
 use Rattle.dex_insn.specs.Raw.{Raw}
 use Rattle.program_types.specs.Content.{Name, Insn}
-use Rattle.program_types.specs.Formed.{insn_at}
-use Rattle.code_insns.specs.Places.{AllHold}
-use Rattle.code_insns.specs.Walk.{IsTable}
-use Rattle.code_insns.specs.Payloads.{UseHolds}
-use Rattle.code_insns.specs.Insns.{SpellsInsns, SpellsInsnAt, BranchHolds, OffsetsLand}
+use Rattle.program_types.specs.Formed.{insn_at, insn_payload}
+use Rattle.code_insns.specs.Walk.{IsTable, starts, raw_at, address}
+use Rattle.code_insns.specs.Symbols.{Says}
+use Rattle.code_insns.specs.Linked.{lead, payload_of, SpellsInsns}
 
--- The raw instructions say these.
-pub record AreResolved (N : ℕ → Name → Type 0) (rs : List Raw) (is : List Insn) : Type 0 where
+-- The raw instruction at this address, linked: of a payload its kind alone is right.
+pub record IsHalfLinked (N : ℕ → Name → Type 0) (ss : List ℕ) (at : ℕ) (r : Raw) (i : Insn) : Type 0 where
+  pub kind : insn_payload i ≡ payload_of r
+  pub says : payload_of r ≡ None → Says N (lead ss at) r i
+
+-- All of them are.
+pub record AreHalfLinked (N : ℕ → Name → Type 0) (rs : List Raw) (is : List Insn) : Type 0 where
   pub count : length is ≡ length rs
-  pub each : (k : ℕ) → k < length rs → SpellsInsnAt N rs k (insn_at is k)
-
--- The raw instructions keep the rules of branches, payloads and switches, and say these.
-pub record HoldAndResolve (N : ℕ → Name → Type 0) (rs : List Raw) (is : List Insn) : Type 0 where
-  pub branches : AllHold (BranchHolds rs) (length rs)
-  pub uses : AllHold (UseHolds rs) (length rs)
-  pub targets : AllHold (OffsetsLand rs) (length rs)
-  pub resolved : AreResolved N rs is
+  pub each : (k : ℕ) → k < length rs → IsHalfLinked N (starts rs) (address rs k) (raw_at rs k) (insn_at is k)
 
 -- The units spell these instructions, which begin at these addresses.
 pub record ReadInsns (N : ℕ → Name → Type 0) (us begins : List ℕ) (is : List Insn) : Type 0 where

@@ -1,8 +1,7 @@
 -- What a raw instruction says: an index stands for a name, and an offset leads to an instruction.
 -- Page: "Dalvik bytecode": string@, type@, field@ and method@ indices, and "Dalvik Executable instruction formats": the letters
 -- c and t of a format's ID.
-use Rattle.std.specs.Prelude.{ℕ, ℤ, Bool, true, false, ◌≡◌, zero, suc, ◌+◌, ◌/◌, List, [], ◌∷◌, length, Option, Some, None, option_map, ⊤}
-use Rattle.std.specs.Borrow.{Bor}
+use Rattle.std.specs.Prelude.{ℕ, ℤ, Bool, true, false, ◌≡◌, zero, suc, ◌+◌, ◌/◌, List, [], ◌∷◌, length, map, ⊤}
 use Rattle.dex_insn.specs.Raw as raw
 use Rattle.dex_insn.specs.Raw.{Raw}
 use Rattle.dex_insn.specs.Fields.{int_at}
@@ -66,20 +65,6 @@ ints_from bytes i (suc n) = int_at bytes i ∷ ints_from bytes (i + 1) n
 unfoldable pub ints : List ℕ → List ℤ
 ints bytes = ints_from bytes 0 (length bytes / 4)
 
--- both, if both are there
-abbrev pub both : Option ℕ → Option (List ℕ) → Option (List ℕ)
-both (Some n) (Some ns) = Some (n ∷ ns)
-both _ _ = None
-
--- what a slice holds
-abbrev pub content_of : Bor (List ℕ) → List ℕ
-content_of s = s.now
-
--- where each of the offsets leads: none if one leads nowhere
-abbrev pub places : (ℤ → Option ℕ) → List ℤ → Option (List ℕ)
-places T [] = Some []
-places T (z ∷ zs) = both (T z) (places T zs)
-
 -- ---- both
 
 -- it has an offset: the letter t of its format
@@ -101,38 +86,37 @@ has_index (raw.I35c op n regs index) = true
 has_index (raw.I3rc op n first index) = true
 has_index _ = false
 
--- The symbolic instruction with this name for its index, where T says which instruction an offset leads to: none if one of its
--- offsets leads nowhere.
-unfoldable pub resolved : (ℤ → Option ℕ) → Name → Raw → Option Insn
-resolved T which (raw.I10x op) = Some (made.I10x op)
-resolved T which (raw.I12x op a b) = Some (made.I12x op a b)
-resolved T which (raw.I11n op a b) = Some (made.I11n op a b)
-resolved T which (raw.I11x op a) = Some (made.I11x op a)
-resolved T which (raw.I10t op offset) = option_map (λ to. made.I10t op to) (T offset)
-resolved T which (raw.I20t op offset) = option_map (λ to. made.I20t op to) (T offset)
-resolved T which (raw.I22x op a b) = Some (made.I22x op a b)
-resolved T which (raw.I21t op a offset) = option_map (λ to. made.I21t op a to) (T offset)
-resolved T which (raw.I21s op a b) = Some (made.I21s op a b)
-resolved T which (raw.I21h op a b) = Some (made.I21h op a b)
-resolved T which (raw.I21c op a index) = Some (made.I21c op a which)
-resolved T which (raw.I23x op a b c) = Some (made.I23x op a b c)
-resolved T which (raw.I22b op a b c) = Some (made.I22b op a b c)
-resolved T which (raw.I22t op a b offset) = option_map (λ to. made.I22t op a b to) (T offset)
-resolved T which (raw.I22s op a b c) = Some (made.I22s op a b c)
-resolved T which (raw.I22c op a b index) = Some (made.I22c op a b which)
-resolved T which (raw.I30t op offset) = option_map (λ to. made.I30t op to) (T offset)
-resolved T which (raw.I32x op a b) = Some (made.I32x op a b)
-resolved T which (raw.I31i op a b) = Some (made.I31i op a b)
-resolved T which (raw.I31t op a offset) = option_map (λ to. made.I31t op a to) (T offset)
-resolved T which (raw.I31c op a index) = Some (made.I31c op a which)
-resolved T which (raw.I35c op n regs index) = Some (made.I35c op n regs which)
-resolved T which (raw.I3rc op n first index) = Some (made.I3rc op n first which)
-resolved T which (raw.I51l op a b) = Some (made.I51l op a b)
-resolved T which (raw.Packed first offsets) = option_map (λ to. made.Packed first to) (places T (ints offsets))
-resolved T which (raw.Sparse keys offsets) = option_map (λ to. made.Sparse (ints keys) to) (places T (ints offsets))
-resolved T which (raw.Data width bytes) = Some (made.Data width bytes)
+-- the symbolic instruction with this name for its index, where T says which instruction an offset leads to
+unfoldable pub linked : (ℤ → ℕ) → Name → Raw → Insn
+linked T which (raw.I10x op) = made.I10x op
+linked T which (raw.I12x op a b) = made.I12x op a b
+linked T which (raw.I11n op a b) = made.I11n op a b
+linked T which (raw.I11x op a) = made.I11x op a
+linked T which (raw.I10t op offset) = made.I10t op (T offset)
+linked T which (raw.I20t op offset) = made.I20t op (T offset)
+linked T which (raw.I22x op a b) = made.I22x op a b
+linked T which (raw.I21t op a offset) = made.I21t op a (T offset)
+linked T which (raw.I21s op a b) = made.I21s op a b
+linked T which (raw.I21h op a b) = made.I21h op a b
+linked T which (raw.I21c op a index) = made.I21c op a which
+linked T which (raw.I23x op a b c) = made.I23x op a b c
+linked T which (raw.I22b op a b c) = made.I22b op a b c
+linked T which (raw.I22t op a b offset) = made.I22t op a b (T offset)
+linked T which (raw.I22s op a b c) = made.I22s op a b c
+linked T which (raw.I22c op a b index) = made.I22c op a b which
+linked T which (raw.I30t op offset) = made.I30t op (T offset)
+linked T which (raw.I32x op a b) = made.I32x op a b
+linked T which (raw.I31i op a b) = made.I31i op a b
+linked T which (raw.I31t op a offset) = made.I31t op a (T offset)
+linked T which (raw.I31c op a index) = made.I31c op a which
+linked T which (raw.I35c op n regs index) = made.I35c op n regs which
+linked T which (raw.I3rc op n first index) = made.I3rc op n first which
+linked T which (raw.I51l op a b) = made.I51l op a b
+linked T which (raw.Packed first offsets) = made.Packed first (map T (ints offsets))
+linked T which (raw.Sparse keys offsets) = made.Sparse (ints keys) (map T (ints offsets))
+linked T which (raw.Data width bytes) = made.Data width bytes
 
--- The raw instruction says what the symbolic one does.
-pub record Says (N : ℕ → Name → Type 0) (T : ℤ → Option ℕ) (r : Raw) (i : Insn) : Type 0 where
-  pub symbol : resolved T (name_in i) r ≡ Some i
+-- The raw instruction says what the symbolic one does, where T says which instruction an offset leads to.
+pub record Says (N : ℕ → Name → Type 0) (T : ℤ → ℕ) (r : Raw) (i : Insn) : Type 0 where
+  pub symbol : linked T (name_in i) r ≡ i
   pub named : InsnNames N r (name_in i)

@@ -1,31 +1,32 @@
 //! The instructions of a code, stage by stage.
 
-ghost use Rattle.std.specs.Prelude.{◌≡◌, ◌≢◌, ◌^◌, ◌<◌, ◌≤◌, ◌%◌, length, map, None, IfOk, IfErr, IfNone, IfSome, IsOkUnless};
+ghost use Rattle.std.specs.Prelude.{◌≡◌, ◌≢◌, ◌^◌, ◌<◌, ◌≤◌, ◌%◌, ◌+◌, ◌*◌, length, map, slice_index, None, IfOk, IfErr, IfNone, IfSome, IsOkUnless, OnOk};
 ghost use Rattle.base_bytes.specs.Fault.{memory};
+ghost use Rattle.program_types.specs.Sizes.{addresses_of};
 ghost use Rattle.program_types.specs.View.{insn};
+ghost use Rattle.program_code_rules.specs.Branches.{AreOrigins};
+ghost use Rattle.program_code_rules.specs.First.{AllHold};
 ghost use Rattle.tables_rows.specs.Names.{NameIsAt};
 ghost use Rattle.dex_insn.specs.Raw.{raw};
-ghost use Rattle.code_insns.specs.Walk.{IsTable};
-ghost use Rattle.code_insns.specs.Places.{AllHold};
-ghost use Rattle.code_insns.specs.Payloads.{AreUsers, UseHolds};
-ghost use Rattle.code_insns.specs.Insns.{BranchHolds, OffsetsLand, NameHolds, SpellsInsnAt, IsBase};
-ghost use Rattle.code_insns.specs.InsnFaults.{InsnRulesHold, RulesBreak, InsnsBreak};
+ghost use Rattle.code_insns.specs.Walk.{IsTable, raw_at};
+ghost use Rattle.code_insns.specs.Symbols.{Says};
+ghost use Rattle.code_insns.specs.Linked.{lead, NameHolds, AreLinked, KeepRules};
+ghost use Rattle.code_insns.specs.InsnFaults.{Breaks, LinkedBreak, InsnsBreak};
 ghost use Rattle.code_insns.specs.Registers.{AmongAt, IsPast};
-ghost use Rattle.code_insns.specs.Reading.{AreResolved, HoldAndResolve, ReadInsns};
+ghost use Rattle.code_insns.specs.Reading.{IsHalfLinked, AreHalfLinked, ReadInsns};
 ghost use Rattle.code_insns.specs.Plain.{ArePlain};
 
-use crate::payloads::payload_at;
 use crate::plain::{insns_at, starts_of};
-use crate::registers::past_registers;
-use crate::rules::{check_branches, check_names, check_targets, is_payload};
-use crate::symbols::resolve;
-use crate::targets::resolve_payload;
-use crate::uses::{Use, check_uses, users};
+use crate::symbols::link;
+use crate::targets::{empty_payload, is_payload, link_payload};
 use crate::walking::walk;
 use bumpalo::Bump;
 use bumpalo::collections::into_bump_slice;
-use dex_insn::{Fault, RawInsn};
-use program_types::{Insn, is_switch};
+use dex_insn::{Fault, RawInsn, fault};
+use program_code_rules::{
+    branch_lands, first_bad_branch, first_bad_switch, first_bad_use, first_past, origins_of,
+};
+use program_types::Insn;
 use std::alloc::Global;
 use tables_rows::Tables;
 
@@ -38,101 +39,83 @@ pub struct Insns<'a> {
     pub past: Option<u32>,
 }
 
-/// Checks the rules of indices, branches, payloads and switches, in this order: the users of each payload.
-fn check_rules(
-    alloc: Global,
-    tables: &Tables<'_>,
-    insns: &[RawInsn<'_>],
-    begins: &[u32],
-    base: u64,
-) -> Result<Vec<Use>, Fault>
-    requires table { IsTable begins.now (map raw insns.now) }
-    requires base { base < 2 ^ 40 }
-    ensures ok { IfOk result (λ all. InsnRulesHold (NameIsAt tables.now) (map raw insns.now)) }
-    ensures users { IfOk result (λ all. AreUsers (map raw insns.now) (length insns.now) all.items) }
-    ensures err { IfErr result (λ e. e ≢ memory → RulesBreak (NameIsAt tables.now) (map raw insns.now) base e) }
-{
-    check_names(tables, insns, begins, base)?;
-    check_branches(insns, begins, base)?;
-    let all = users(alloc, insns, begins)?;
-    check_uses(&all, insns, begins, base)?;
-    check_targets(&all, insns, begins, base)?;
-    Ok(all)
-}
-
-/// From where the offsets in instruction `k` count.
-fn base_of(all: &[Use], insns: &[RawInsn<'_>], begins: &[u32], k: usize) -> u32
-    requires table { IsTable begins.now (map raw insns.now) }
-    requires users { AreUsers (map raw insns.now) (length insns.now) all.now }
-    requires uses { AllHold (UseHolds (map raw insns.now)) (length insns.now) }
-    requires inside { k < length insns.now }
-    ensures { IsBase (map raw insns.now) k result }
-{
-    if !is_switch(payload_at(insns, k)) {
-        return begins[k];
-    }
-    match all[k] {
-        Use::By(j) => begins[j as usize],
-        _ => begins[k],
-    }
-}
-
-/// Instruction `k`.
-fn resolve_at<'a>(
-    arena: &'a Bump,
+/// Instruction `k`, linked from its own address; in place of a payload stands an empty one. None where its index has no row.
+fn half_linked<'a>(
     tables: &Tables<'a>,
-    all: &[Use],
     insns: &[RawInsn<'_>],
     begins: &[u32],
     k: usize,
-) -> Result<Insn<'a>, Fault>
+) -> Option<Insn<'a>>
     requires table { IsTable begins.now (map raw insns.now) }
-    requires users { AreUsers (map raw insns.now) (length insns.now) all.now }
-    requires names { AllHold (NameHolds (NameIsAt tables.now) (map raw insns.now)) (length insns.now) }
-    requires branches { AllHold (BranchHolds (map raw insns.now)) (length insns.now) }
-    requires uses { AllHold (UseHolds (map raw insns.now)) (length insns.now) }
-    requires targets { AllHold (OffsetsLand (map raw insns.now)) (length insns.now) }
     requires inside { k < length insns.now }
-    ensures ok { IfOk result (λ i. SpellsInsnAt (NameIsAt tables.now) (map raw insns.now) k (insn i)) }
-    ensures err { IsOkUnless result memory }
+    ensures some { IfSome result (λ i. IsHalfLinked (NameIsAt tables.now) begins.now (slice_index begins.now k) (raw_at (map raw insns.now) k) (insn i)) }
+    ensures none { IfNone result (¬ NameHolds (NameIsAt tables.now) (map raw insns.now) k) }
 {
     let one = &insns[k];
     if is_payload(one) {
-        return resolve_payload(arena, tables, begins, base_of(all, insns, begins, k), one);
+        return Some(empty_payload(one));
     }
-    match resolve(tables, begins, begins[k], one) {
-        Some(found) => Ok(found),
-        None => unreachable!(),
-    }
+    link(tables, begins, begins[k], one)
 }
 
-/// All instructions, with names in place of indices and numbers of instructions in place of offsets.
-fn resolve_all<'a>(
+/// All instructions, linked from their own addresses.
+fn half_link<'a>(
     arena: &'a Bump,
     tables: &Tables<'a>,
-    all: &[Use],
     insns: &[RawInsn<'_>],
     begins: &[u32],
-) -> Result<&'a [Insn<'a>], Fault>
+    base: u64,
+) -> Result<Vec<Insn<'a>, &'a Bump>, Fault>
     requires table { IsTable begins.now (map raw insns.now) }
-    requires users { AreUsers (map raw insns.now) (length insns.now) all.now }
-    requires names { AllHold (NameHolds (NameIsAt tables.now) (map raw insns.now)) (length insns.now) }
-    requires branches { AllHold (BranchHolds (map raw insns.now)) (length insns.now) }
-    requires uses { AllHold (UseHolds (map raw insns.now)) (length insns.now) }
-    requires targets { AllHold (OffsetsLand (map raw insns.now)) (length insns.now) }
-    ensures ok { IfOk result (λ found. AreResolved (NameIsAt tables.now) (map raw insns.now) (map insn found.now)) }
-    ensures err { IsOkUnless result memory }
+    requires base { base < 2 ^ 40 }
+    ensures ok { IfOk result (λ half. AreHalfLinked (NameIsAt tables.now) (map raw insns.now) (map insn half.items)) }
+    ensures err { IfErr result (λ e. e ≢ memory → Breaks begins.now base 65 (NameHolds (NameIsAt tables.now) (map raw insns.now)) (NameHolds (NameIsAt tables.now) (map raw insns.now)) e) }
 {
-    let mut found = Vec::with_capacity(arena, insns.len())?;
+    let mut half = Vec::with_capacity(arena, insns.len())?;
     for k in 0..insns.len() {
-        let one = resolve_at(arena, tables, all, insns, begins, k)?;
-        found.push(one)?;
+        match half_linked(tables, insns, begins, k) {
+            Some(one) => half.push(one)?,
+            None => return Err(fault_at(fault::OPERAND_INDEX, begins, base, k)),
+        }
     }
-    Ok(into_bump_slice(found))
+    Ok(half)
 }
 
-/// All instructions of a code, and where one breaks a rule, which.
-fn resolve_walked<'a>(
+/// The fault of instruction `k`.
+fn fault_at(number: u16, begins: &[u32], base: u64, k: usize) -> Fault
+    requires inside { k < length begins.now }
+    requires base { base < 2 ^ 40 }
+    ensures { result ≡ record { code = number; place = base + 2 * slice_index begins.now k } }
+{
+    Fault::at(number, base + 2 * u64::from(begins[k]))
+}
+
+/// Links each payload in its place, from the instruction from which it counts.
+fn link_payloads<'a>(
+    arena: &'a Bump,
+    tables: &Tables<'_>,
+    half: &mut [Insn<'a>],
+    insns: &[RawInsn<'_>],
+    begins: &[u32],
+    origins: &[u32],
+) -> Result<(), Fault>
+    requires table { IsTable begins.now (map raw insns.now) }
+    requires half { AreHalfLinked (NameIsAt tables.now) (map raw insns.now) (map insn half.old) }
+    requires origins { AreOrigins (map insn half.old) origins.now }
+    ensures ok { OnOk result (AreLinked (NameIsAt tables.now) (map raw insns.now) (map insn half.new)) }
+    ensures err { IsOkUnless result memory }
+{
+    for k in 0..insns.len() {
+        let one = &insns[k];
+        if is_payload(one) {
+            half[k] = link_payload(arena, tables, begins, begins[origins[k] as usize], one)?;
+        }
+    }
+    Ok(())
+}
+
+/// The instructions, linked; the first whose index has no row is refused.
+fn link_walked<'a>(
     alloc: Global,
     arena: &'a Bump,
     tables: &Tables<'a>,
@@ -142,12 +125,37 @@ fn resolve_walked<'a>(
 ) -> Result<&'a [Insn<'a>], Fault>
     requires table { IsTable begins.now (map raw insns.now) }
     requires base { base < 2 ^ 40 }
-    ensures ok { IfOk result (λ found. HoldAndResolve (NameIsAt tables.now) (map raw insns.now) (map insn found.now)) }
-    ensures err { IfErr result (λ e. e ≢ memory → RulesBreak (NameIsAt tables.now) (map raw insns.now) base e) }
+    ensures ok { IfOk result (λ found. AreLinked (NameIsAt tables.now) (map raw insns.now) (map insn found.now)) }
+    ensures err { IfErr result (λ e. e ≢ memory → Breaks begins.now base 65 (NameHolds (NameIsAt tables.now) (map raw insns.now)) (NameHolds (NameIsAt tables.now) (map raw insns.now)) e) }
 {
-    let all = check_rules(alloc, tables, insns, begins, base)?;
-    let resolved = resolve_all(arena, tables, &all, insns, begins)?;
-    Ok(resolved)
+    let mut found = half_link(arena, tables, insns, begins, base)?;
+    let origins = origins_of(alloc, &found)?;
+    link_payloads(arena, tables, &mut found, insns, begins, &origins)?;
+    Ok(into_bump_slice(found))
+}
+
+/// The first of the rules of branches, payloads and switches that a linked instruction breaks.
+fn check_linked(alloc: Global, insns: &[Insn<'_>], begins: &[u32], base: u64) -> Result<(), Fault>
+    requires count { length begins.now ≡ length insns.now }
+    requires base { base < 2 ^ 40 }
+    ensures ok { OnOk result (KeepRules (map insn insns.now)) }
+    ensures err { IfErr result (λ e. e ≢ memory → LinkedBreak begins.now (map insn insns.now) base e) }
+{
+    if let Some(k) = first_bad_branch(insns) {
+        let number = if branch_lands(insns, k) {
+            fault::BRANCH_ZERO
+        } else {
+            fault::BRANCH_TARGET
+        };
+        return Err(fault_at(number, begins, base, k));
+    }
+    if let Some(k) = first_bad_use(alloc, insns)? {
+        return Err(fault_at(fault::PAYLOAD_USE, begins, base, k));
+    }
+    if let Some(k) = first_bad_switch(insns) {
+        return Err(fault_at(fault::BRANCH_TARGET, begins, base, k));
+    }
+    Ok(())
 }
 
 /// The instructions of a code that has nothing to do with payloads; none where one of them breaks a rule, also that of registers.
@@ -176,8 +184,21 @@ fn read_plain<'a>(
     }
 }
 
+/// The unit at which the first instruction begins that names a register past the first `count`.
+fn past_registers(insns: &[Insn<'_>], begins: &[u32], count: u16) -> Option<u32>
+    requires count { length begins.now ≡ length insns.now }
+    requires begins { begins.now ≡ addresses_of (map insn insns.now) }
+    ensures among { IfNone result (AllHold (AmongAt count (map insn insns.now)) (length (map insn insns.now))) }
+    ensures past { IfSome result (IsPast count (map insn insns.now)) }
+{
+    match first_past(count, insns) {
+        Some(k) => Some(begins[k]),
+        None => None,
+    }
+}
+
 /// Reads the instructions of a code of so many registers, whose first unit is at the place `base`: at once where there are no payloads;
-/// where that comes to nothing, in the passes that say which rule is broken.
+/// where that comes to nothing, linked in turn, which says the rule that is broken.
 pub fn read_insns<'a>(
     alloc: Global,
     arena: &'a Bump,
@@ -198,8 +219,9 @@ pub fn read_insns<'a>(
         return Ok(found);
     }
     let walked = walk(alloc, units, base)?;
-    let insns = resolve_walked(alloc, arena, tables, &walked.insns, &walked.starts, base)?;
-    let past = past_registers(&walked.insns, &walked.starts, registers);
+    let insns = link_walked(alloc, arena, tables, &walked.insns, &walked.starts, base)?;
+    check_linked(alloc, insns, &walked.starts, base)?;
+    let past = past_registers(insns, &walked.starts, registers);
     Ok(Insns {
         insns,
         starts: walked.starts,

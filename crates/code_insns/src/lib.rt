@@ -15,14 +15,8 @@ mod places;
 // The units, end to end.
 mod walking;
 
-// The rules, in the order in which they are checked.
-mod names;
-mod payloads;
-mod registers;
-mod rules;
-mod uses;
-
 // From raw instructions to symbolic ones.
+mod names;
 mod plain;
 mod symbols;
 mod targets;
@@ -40,4 +34,5 @@ pub use laws::{one_fault, registers_are_said};
 pub use places::{below, number_at};
 
 // What stands below, for the crates above.
+pub use program_code_rules::origins_of;
 pub use tables_rows::Tables;

@@ -1,13 +1,12 @@
 //! Names by the index of an instruction.
 
-ghost use Rattle.std.specs.Prelude.{IfSome, IfNone, IsTrue, ◌↔◌, ◌<◌};
+ghost use Rattle.std.specs.Prelude.{IfSome, IfNone, ◌<◌};
 ghost use Rattle.program_types.specs.Content as content;
 ghost use Rattle.program_types.specs.View.{name};
 ghost use Rattle.tables_rows.specs.Names.{NameIsAt};
-ghost use Rattle.dex_insn.specs.Raw.{raw};
-ghost use Rattle.code_insns.specs.Symbols.{IndexStandsFor, SomeName, InsnHasName};
+ghost use Rattle.code_insns.specs.Symbols.{IndexStandsFor};
 
-use dex_insn::{RawInsn, index_kind_of};
+use dex_insn::index_kind_of;
 use program_types::Name;
 use tables_rows::Tables;
 
@@ -20,27 +19,5 @@ pub(crate) fn named<'a>(tables: &Tables<'a>, op: u8, index: u32) -> Option<Name<
     match index_kind_of(op) {
         Some(kind) => tables.name(kind, index),
         None => None,
-    }
-}
-
-/// Whether an index in an instruction of this opcode stands for a name.
-fn is_named(tables: &Tables<'_>, op: u8, index: u32) -> bool
-    ensures { IsTrue result ↔ SomeName (NameIsAt tables.now) op index }
-{
-    named(tables, op, index).is_some()
-}
-
-/// Whether the index of an instruction, if it has one, stands for a name.
-#[tactic(auto, unfolding(dex_insn::specs::Raw::raw))]
-pub(crate) fn has_name(tables: &Tables<'_>, one: &RawInsn<'_>) -> bool
-    ensures { IsTrue result ↔ InsnHasName (NameIsAt tables.now) (raw one.now) }
-{
-    match *one {
-        RawInsn::I21c { op, index, .. } => is_named(tables, op, index),
-        RawInsn::I22c { op, index, .. } => is_named(tables, op, index),
-        RawInsn::I31c { op, index, .. } => is_named(tables, op, index),
-        RawInsn::I35c { op, index, .. } => is_named(tables, op, index),
-        RawInsn::I3rc { op, index, .. } => is_named(tables, op, index),
-        _ => true,
     }
 }

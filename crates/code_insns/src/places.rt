@@ -1,6 +1,7 @@
 //! From addresses to the numbers of instructions.
 
 ghost use Rattle.std.specs.Prelude.{◌≡◌, ◌≤◌, length, pos, ◌+ℤ◌, ◌<ℤ◌, IfNone, IfSome};
+ghost use Rattle.code_insns.specs.Linked.{lead};
 ghost use Rattle.code_insns.specs.Places.{Rises, IsCountBelow, count_below, position, place};
 
 /// Where the addresses that are not below `x` begin.
@@ -56,7 +57,7 @@ pub fn number_at(starts: &[u32], unit: u64) -> Option<u32>
 }
 
 /// The number of the instruction that is `offset` units from the address `base`.
-pub fn find(starts: &[u32], base: u32, offset: i32) -> Option<u32>
+fn find(starts: &[u32], base: u32, offset: i32) -> Option<u32>
     requires rises { Rises starts.now }
     requires few { length starts.now ≤ 4294967295 }
     ensures { result ≡ place starts.now base offset }
@@ -64,5 +65,18 @@ pub fn find(starts: &[u32], base: u32, offset: i32) -> Option<u32>
     match unit_at(base, offset) {
         Some(unit) => number_at(starts, unit),
         None => None,
+    }
+}
+
+/// The number of the instruction that is `offset` units from the address `base`; if there is none, the number after the last.
+#[tactic(auto, unfolding(crate::specs::Linked::lead))]
+pub(crate) fn lead(starts: &[u32], base: u32, offset: i32) -> u32
+    requires rises { Rises starts.now }
+    requires few { length starts.now ≤ 4294967295 }
+    ensures { result ≡ lead starts.now base offset }
+{
+    match find(starts, base, offset) {
+        Some(to) => to,
+        None => starts.len() as u32,
     }
 }

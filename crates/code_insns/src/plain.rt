@@ -1,6 +1,6 @@
 //! The instructions of a code that has nothing to do with payloads, as nearly all have none: each is read and resolved at once.
 
-ghost use Rattle.std.specs.Prelude.{◌≡◌, ◌<◌, ◌≤◌, ◌%◌, length, map, pos, ◌≢◌, IfOk, IfSome, IsOkUnless, IsTrue};
+ghost use Rattle.std.specs.Prelude.{◌≡◌, ◌<◌, ◌≤◌, ◌%◌, length, map, IfOk, IfSome, IsOkUnless, IsTrue};
 ghost use Rattle.base_bytes.specs.Fault.{memory};
 ghost use Rattle.program_types.specs.View.{insn};
 ghost use Rattle.tables_rows.specs.Names.{NameIsAt};
@@ -8,16 +8,14 @@ ghost use Rattle.dex_insn.specs.Raw as spelled;
 ghost use Rattle.dex_insn.specs.Raw.{raw, Raw};
 ghost use Rattle.dex_insn.specs.RawInsns.{InsnStands};
 ghost use Rattle.code_insns.specs.Places.{Rises};
-ghost use Rattle.code_insns.specs.Insns.{short_branch};
 ghost use Rattle.code_insns.specs.Plain.{is_plain, SaysAtOnce, ArePlain};
 
-use crate::registers::is_among;
-use crate::rules::{moves, short_branch_of};
-use crate::symbols::resolve;
+use crate::symbols::link;
 use crate::walking::MOST_AT_ONCE;
 use bumpalo::Bump;
 use bumpalo::collections::into_bump_slice;
 use dex_insn::{Fault, Format, RawInsn, format_of, read_insn, size_of};
+use program_code_rules::{branch_stays, insn_is_among};
 use program_types::Insn;
 use std::alloc::Global;
 use tables_rows::Tables;
@@ -44,37 +42,30 @@ fn is_plain(one: &RawInsn<'_>) -> bool
     )
 }
 
-/// Whether a branch leads to another instruction, where it has to.
-#[inline(always)]
-fn moves_on(one: &RawInsn<'_>) -> bool
-    ensures { IsTrue result → IfSome (short_branch (raw one.now)) (λ z. z ≢ pos 0) }
-{
-    match short_branch_of(one) {
-        Some(offset) => moves(offset),
-        None => true,
-    }
-}
-
-/// The instruction at the unit `at` of a code of so many registers, whose instructions begin at these units. None where there is none,
-/// and where it has to do with payloads or breaks a rule.
+/// The instruction at the unit `at` of a code of so many registers, whose instructions begin at these units: number `k`. None where there is
+/// none, and where it has to do with payloads or breaks a rule.
 #[inline(always)]
 fn insn_at<'a>(
     tables: &Tables<'a>,
     starts: &[u32],
     at: u32,
+    k: usize,
     units: &[u8],
     registers: u16,
 ) -> Option<Seen<'a>>
     requires rises { Rises starts.now }
     requires few { length starts.now ≤ 4294967295 }
-    ensures { IfSome result (λ s. (r : Raw) × InsnStands units.now at r × SaysAtOnce (NameIsAt tables.now) starts.now registers at r (insn s.insn) × (s.units ≡ spelled.units r)) }
+    ensures { IfSome result (λ s. (r : Raw) × InsnStands units.now at r × SaysAtOnce (NameIsAt tables.now) starts.now registers at k r (insn s.insn) × (s.units ≡ spelled.units r)) }
 {
     match read_insn(units, at) {
         Ok(one) => {
-            if !is_plain(&one) || !moves_on(&one) || !is_among(&one, registers) {
+            if !is_plain(&one) {
                 return None;
             }
-            let insn = resolve(tables, starts, at, &one)?;
+            let insn = link(tables, starts, at, &one)?;
+            if !branch_stays(&insn, starts.len(), k) || !insn_is_among(registers, &insn) {
+                return None;
+            }
             Some(Seen {
                 insn,
                 units: size_of(&one),
@@ -136,11 +127,12 @@ pub(crate) fn insns_at<'a>(
 {
     let mut found = Vec::with_capacity(arena, starts.len())?;
     let mut at: u64 = 0;
-    for start in starts {
-        if u64::from(*start) != at {
+    for k in 0..starts.len() {
+        let start = starts[k];
+        if u64::from(start) != at {
             return Ok(None);
         }
-        let Some(seen) = insn_at(tables, starts, *start, units, registers) else {
+        let Some(seen) = insn_at(tables, starts, start, k, units, registers) else {
             return Ok(None);
         };
         found.push(seen.insn)?;
@@ -160,11 +152,12 @@ pub(crate) fn are_plain(tables: &Tables<'_>, starts: &[u32], units: &[u8], regis
     ensures { IsTrue result → (is : _) × ArePlain (NameIsAt tables.now) units.now starts.now registers is }
 {
     let mut at: u64 = 0;
-    for start in starts {
-        if u64::from(*start) != at {
+    for k in 0..starts.len() {
+        let start = starts[k];
+        if u64::from(start) != at {
             return false;
         }
-        let Some(seen) = insn_at(tables, starts, *start, units, registers) else {
+        let Some(seen) = insn_at(tables, starts, start, k, units, registers) else {
             return false;
         };
         at += seen.units;

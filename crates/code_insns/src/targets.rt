@@ -1,22 +1,34 @@
-//! The targets of a switch's payload.
+//! The payloads of switches and arrays.
 
-ghost use Rattle.std.specs.Prelude.{◌≡◌, ◌≤◌, ◌<◌, ◌+◌, ◌*◌, ◌/◌, ◌≢◌, None, length, option_map, IfOk, IsOkUnless, true};
+ghost use Rattle.std.specs.Prelude.{◌≡◌, ◌≤◌, ◌+◌, ◌*◌, length, map, IfOk, IsOkUnless, true};
 ghost use Rattle.base_bytes.specs.Fault.{memory};
 ghost use Rattle.dex_insn.specs.Fields.{int_at};
-ghost use Rattle.code_insns.specs.Places.{Rises, place};
+ghost use Rattle.dex_insn.specs.Raw.{raw, is_payload};
+ghost use Rattle.program_types.specs.Formed.{insn_payload};
 ghost use Rattle.program_types.specs.View.{insn};
 ghost use Rattle.tables_rows.specs.Names.{NameIsAt};
-ghost use Rattle.dex_insn.specs.Raw.{raw, is_payload};
-ghost use Rattle.code_insns.specs.Insns.{targets};
-ghost use Rattle.code_insns.specs.Symbols.{places, ints, content_of, Says};
+ghost use Rattle.code_insns.specs.Linked.{lead, payload_of};
+ghost use Rattle.code_insns.specs.Places.{Rises};
+ghost use Rattle.code_insns.specs.Symbols.{ints, Says};
 
-use crate::places::find;
+use crate::places::lead;
 use bumpalo::Bump;
 use bumpalo::collections::into_bump_slice;
 use byteorder::{ByteOrder, LittleEndian};
 use dex_insn::{Fault, RawInsn};
 use program_types::Insn;
 use tables_rows::Tables;
+
+/// Whether an instruction is a payload.
+#[tactic(auto, unfolding(dex_insn::specs::Raw::is_payload, dex_insn::specs::Raw::raw))]
+pub(crate) fn is_payload(one: &RawInsn<'_>) -> bool
+    ensures { result ≡ is_payload (raw one.now) }
+{
+    matches!(
+        one,
+        RawInsn::Packed { .. } | RawInsn::Sparse { .. } | RawInsn::Data { .. }
+    )
+}
 
 /// The `i`-th of the 32-bit signed numbers.
 #[tactic(auto, unfolding(dex_insn::specs::Fields::number))]
@@ -27,28 +39,24 @@ pub(crate) fn int_at(bytes: &[u8], i: usize) -> i32
     LittleEndian::read_u32(&bytes[4 * i..]).cast_signed()
 }
 
-/// The numbers of the instructions that the offsets lead to: none if one leads nowhere.
-pub fn read_places<'a>(
+/// The numbers of the instructions that the offsets lead to.
+fn read_targets<'a>(
     bump: &'a Bump,
     starts: &[u32],
     base: u32,
     offsets: &[u8],
-) -> Result<Option<&'a [u32]>, Fault>
+) -> Result<&'a [u32], Fault>
     requires rises { Rises starts.now }
     requires few { length starts.now ≤ 4294967295 }
-    ensures ok { IfOk result (λ found. option_map content_of found ≡ places (place starts.now base) (ints offsets.now)) }
+    ensures ok { IfOk result (λ found. found.now ≡ map (lead starts.now base) (ints offsets.now)) }
     ensures err { IsOkUnless result memory }
 {
     let n = offsets.len() / 4;
     let mut all = Vec::with_capacity(bump, n)?;
     for i in 0..n {
-        let offset = int_at(offsets, i);
-        match find(starts, base, offset) {
-            None => return Ok(None),
-            Some(to) => all.push(to)?,
-        }
+        all.push(lead(starts, base, int_at(offsets, i)))?;
     }
-    Ok(Some(into_bump_slice(all)))
+    Ok(into_bump_slice(all))
 }
 
 /// The numbers in the bytes, four bytes each.
@@ -64,11 +72,34 @@ fn read_ints<'a>(bump: &'a Bump, bytes: &[u8]) -> Result<&'a [i32], Fault>
     Ok(into_bump_slice(all))
 }
 
-/// The symbolic payload, whose offsets, if it has any, count from the address `base` and lead to instructions.
-#[tactic(auto, unfolding(crate::specs::Symbols::resolved, crate::specs::Insns::targets, dex_insn::specs::Raw::is_payload, dex_insn::specs::Raw::raw))]
-pub(crate) fn resolve_payload<'a>(
+/// A payload of the same kind, which is empty.
+#[tactic(auto, unfolding(crate::specs::Linked::payload_of, program_types::specs::Formed::insn_payload, dex_insn::specs::Raw::is_payload, dex_insn::specs::Raw::raw))]
+pub(crate) fn empty_payload<'a>(one: &RawInsn<'_>) -> Insn<'a>
+    requires { is_payload (raw one.now) ≡ true }
+    ensures { insn_payload (insn result) ≡ payload_of (raw one.now) }
+{
+    match *one {
+        RawInsn::Packed { .. } => Insn::Packed {
+            first: 0,
+            targets: &[],
+        },
+        RawInsn::Sparse { .. } => Insn::Sparse {
+            keys: &[],
+            targets: &[],
+        },
+        RawInsn::Data { .. } => Insn::Data {
+            width: 1,
+            bytes: &[],
+        },
+        _ => unreachable!(),
+    }
+}
+
+/// The symbolic payload, whose offsets, if it has any, count from the address `base`.
+#[tactic(auto, unfolding(crate::specs::Symbols::linked, dex_insn::specs::Raw::is_payload, dex_insn::specs::Raw::raw))]
+pub(crate) fn link_payload<'a>(
     bump: &'a Bump,
-    tables: &Tables<'a>,
+    tables: &Tables<'_>,
     starts: &[u32],
     base: u32,
     one: &RawInsn<'_>,
@@ -76,24 +107,20 @@ pub(crate) fn resolve_payload<'a>(
     requires rises { Rises starts.now }
     requires few { length starts.now ≤ 4294967295 }
     requires payload { is_payload (raw one.now) ≡ true }
-    requires leads { places (place starts.now base) (ints (targets (raw one.now))) ≢ None }
-    ensures ok { IfOk result (λ i. Says (NameIsAt tables.now) (place starts.now base) (raw one.now) (insn i)) }
+    ensures ok { IfOk result (λ i. Says (NameIsAt tables.now) (lead starts.now base) (raw one.now) (insn i)) }
     ensures err { IsOkUnless result memory }
 {
     // Only for the proof: what holds of each value of its type.
     let _tables = tables;
     match *one {
-        RawInsn::Packed { first, offsets } => match read_places(bump, starts, base, offsets)? {
-            Some(targets) => Ok(Insn::Packed { first, targets }),
-            None => unreachable!(),
-        },
-        RawInsn::Sparse { keys, offsets } => match read_places(bump, starts, base, offsets)? {
-            Some(targets) => Ok(Insn::Sparse {
-                keys: read_ints(bump, keys)?,
-                targets,
-            }),
-            None => unreachable!(),
-        },
+        RawInsn::Packed { first, offsets } => Ok(Insn::Packed {
+            first,
+            targets: read_targets(bump, starts, base, offsets)?,
+        }),
+        RawInsn::Sparse { keys, offsets } => Ok(Insn::Sparse {
+            keys: read_ints(bump, keys)?,
+            targets: read_targets(bump, starts, base, offsets)?,
+        }),
         RawInsn::Data { width, bytes } => Ok(Insn::Data {
             width,
             bytes: bump.try_alloc_slice_copy(bytes)?,

@@ -1,25 +1,23 @@
 -- What is written of a code is one.
-use Rattle.std.proofs.Common.{◌≡◌, ℕ, ◌<◌, ◌++◌, List, [], ◌∷◌, length, refl, sym, ◌∙◌, arith, zero, suc, subst, inl, inr}
+use Rattle.std.proofs.Common.{◌≡◌, ℕ, ◌<◌, ◌++◌, List, [], ◌∷◌, length, refl, sym, ◌∙◌, arith, zero, suc, subst}
 use Rattle.std.specs.Prelude.{slice_index}
+use Rattle.std.specs.List.{AllByRecursion}
 use Rattle.base_bytes.specs.Fields.{AreBytes}
 use Rattle.base_bytes.proofs.ShortestLaws.{AllBytes}
 use Rattle.dex_insn.specs.Raw.{Raw}
 use Rattle.dex_insn.specs.Written.{written}
 use Rattle.program_types.specs.Content.{Name, Insn, Code}
-use Rattle.program_types.specs.Formed.{IsFormed, PayloadHolds, insn_at}
+use Rattle.program_types.specs.Formed.{IsFormed, insn_at, insn_leads}
 use Rattle.program_types.specs.Sizes.{addresses_of, length_of}
 use Rattle.code_insns.specs.Walk.{raw_at}
-use Rattle.code_put.specs.Packs.{joined, IsOrigin, IsLowered, Lowers, PacksCode, head_bytes, padding, items_bytes}
+use Rattle.code_put.specs.Packs.{joined, IsLowered, Lowers, PacksCode, head_bytes, padding, items_bytes}
 use Rattle.code_put.proofs.HandlerOnce.{IsInjective}
 use Rattle.code_put.proofs.LayoutOnce.{layout-once}
+use Rattle.code_insns.proofs.InsnsOnce.{origin-one}
+use Rattle.code_read.proofs.CodesFormed.{leads-inside}
+use Rattle.code_put.proofs.FormLaws.{length-addresses}
 use Rattle.code_put.proofs.RawOnce.{raw_once}
 use Rattle.base_bytes.proofs.ListFacts.{all_front, all_back, all_of}
-
-origin_one : (is : List Insn) (k i j : ℕ) → PayloadHolds is k → IsOrigin is k i → IsOrigin is k j → i ≡ j
-origin_one is k i j h (inl p) (inl q) = let u = h.used p.0 in u.2 i p.1 ∙ sym (u.2 j q.1)
-origin_one is k i j h (inl p) (inr q) = absurd (q.0 p.0)
-origin_one is k i j h (inr p) (inl q) = absurd (p.0 q.0)
-origin_one is k i j h (inr p) (inr q) = p.1 ∙ sym q.1
 
 raw_bytes : (rs : List Raw) (k : ℕ) → k < length rs → AllBytes (joined rs) → AllBytes (written (raw_at rs k))
 unfolding raw_at
@@ -38,12 +36,12 @@ raws_one (r ∷ rs) (t ∷ ts) n h =
     (λ j. here j ∷ rest j)
 
 module _ (N : ℕ → Name → Type 0) (inj : IsInjective N) where
-  lowered_one : (is : List Insn) (ss : List ℕ) (k : ℕ) (r t : Raw) → PayloadHolds is k → IsLowered N is ss k r → IsLowered N is ss k t → AllBytes (written r) → AllBytes (written t) → r ≡ t
+  lowered_one : (is : List Insn) (ss : List ℕ) (k : ℕ) (r t : Raw) → AllByRecursion (λ n. n < length ss) (insn_leads (insn_at is k)) → IsLowered N is ss k r → IsLowered N is ss k t → AllBytes (written r) → AllBytes (written t) → r ≡ t
   lowered_one is ss k r t h p q a b =
-      let e = origin_one is k p.origin q.origin h p.counts q.counts in
+      let e = origin-one is k p.origin q.origin p.counts q.counts in
       let m = q.lowers in
       let l = subst (λ (j : ℕ). Lowers N ss (slice_index ss j) (insn_at is k) t) (sym e) m in
-      raw_once N inj ss (slice_index ss p.origin) (insn_at is k) r t p.lowers.says l.says p.lowers.fits l.fits a b
+      raw_once N inj ss (slice_index ss p.origin) (insn_at is k) r t h p.lowers.says l.says p.lowers.fits l.fits a b
 
   pub code_once : (c : Code) (a b : List ℕ) → IsFormed c → AreBytes a → AreBytes b → PacksCode N a c → PacksCode N b c → a ≡ b
   code_once c a b formed i j p q =
@@ -53,7 +51,9 @@ module _ (N : ℕ → Name → Type 0) (inj : IsInjective N) where
       let x1 = all_back (λ (n : ℕ). n < 256) (head_bytes c size) _ x in let y1 = all_back (λ (n : ℕ). n < 256) (head_bytes c size) _ y in
       let x2 = all_front (λ (n : ℕ). n < 256) (joined p.raws) _ x1 in let y2 = all_front (λ (n : ℕ). n < 256) (joined q.raws) _ y1 in
       let m = p.lowered.count in let n = q.lowered.count in
-      let raws = raws_one p.raws q.raws (m ∙ sym n) (λ k lt. lowered_one c.insns ss k (raw_at p.raws k) (raw_at q.raws k) (formed.payloads k (omega (arith, lt, m)))
+      let leads : (k : ℕ) → k < length c.insns → AllByRecursion (λ to. to < length ss) (insn_leads (insn_at c.insns k)) =
+      λ k l. subst (λ (x : ℕ). AllByRecursion (λ to. to < x) (insn_leads (insn_at c.insns k))) (sym (length-addresses c.insns)) (leads-inside c.insns k (formed.targets k l) (formed.payloads k l) (insn_at c.insns k) refl) in
+      let raws = raws_one p.raws q.raws (m ∙ sym n) (λ k lt. lowered_one c.insns ss k (raw_at p.raws k) (raw_at q.raws k) (leads k (omega (arith, lt, m)))
       (p.lowered.each k lt) (q.lowered.each k (omega (arith, lt, m, n))) (raw_bytes p.raws k lt x2) (raw_bytes q.raws k (omega (arith, lt, m, n)) y2)) in
       let handlers = layout-once N ss inj c.tries p.list p.offsets q.list q.offsets p.handlers q.handlers in
       p.is

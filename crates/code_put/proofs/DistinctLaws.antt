@@ -9,7 +9,7 @@ use Rattle.base_bytes.proofs.ShortestLaws.{AllBytes}
 use Rattle.base_bytes.specs.Grammar.{IsPrefixUnique, Each}
 use Rattle.program_types.specs.Content.{Name, Try, Catch}
 use Rattle.program_types.specs.Formed.{try_at}
-use Rattle.code_insns.proofs.ResolveLaws.{at-old, at-new}
+use Rattle.code_insns.proofs.Lists.{at-old, at-new}
 use Rattle.code_read.specs.Handlers.{Handler, AllBy}
 use Rattle.code_read.specs.Tries.{handler_of}
 use Rattle.code_insns.specs.Places.{Rises}

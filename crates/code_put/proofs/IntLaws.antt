@@ -1,5 +1,5 @@
 -- Numbers of 32 bits as bytes.
-use Rattle.std.proofs.Common.{◌≡◌, ℕ, ℤ, pos, ◌+◌, ◌*◌, ◌/◌, ◌<◌, ◌≤◌, ◌++◌, List, [], ◌∷◌, length, get_or, drop, refl, ap, sym, ◌∙◌, arith, zero, suc, append_assoc, append-nil, length-append, Option, Some, None}
+use Rattle.std.proofs.Common.{◌≡◌, ℕ, ℤ, pos, ◌+◌, ◌*◌, ◌/◌, ◌<◌, ◌≤◌, ◌++◌, List, [], ◌∷◌, length, get_or, drop, refl, ap, sym, ◌∙◌, arith, zero, suc, append_assoc, append-nil, length-append}
 use Rattle.std.specs.Prelude.{FitsSigned}
 use Rattle.std.specs.Int.{cast_unsigned, w32}
 use Rattle.std.proofs.lemmas.List.{drop_more}
@@ -8,7 +8,7 @@ use Rattle.base_bytes.specs.Fields.{u32_at, u32_bytes}
 use Rattle.base_bytes.proofs.FieldBounds.{u32_at-front, u32_at-append, u32_at-bytes, length-u32_bytes}
 use Rattle.dex_insn.specs.Fields.{number, int_at, signed}
 use Rattle.dex_insn.proofs.Signs.{signed_32, unsigned_32}
-use Rattle.code_insns.specs.Symbols.{ints, ints_from, places, both}
+use Rattle.code_insns.specs.Symbols.{ints, ints_from}
 
 pub number-u32 : (b : List ℕ) (i : ℕ) → number b (2 * i) 2 ≡ u32_at b (4 * i)
 unfolding number u32_at
@@ -59,14 +59,3 @@ ints-turn b new n z all k g l f e h =
     let d : drop n all ≡ z ∷ drop (n + 1) all = drop_more all n (pos 0) k ∙ ap (λ (y : ℤ). y ∷ drop (n + 1) all) (sym g) in
     ap (λ (c : List ℕ). ints c ++ drop (n + 1) all) e ∙ ap (λ (zs : List ℤ). zs ++ drop (n + 1) all) (ints-more b n z l f)
     ∙ append_assoc (ints b) (z ∷ []) (drop (n + 1) all) ∙ ap (λ (zs : List ℤ). ints b ++ zs) (sym d) ∙ h
-
--- ---- where offsets lead
-
-pub places-more : (T : ℤ → Option ℕ) (zs : List ℤ) (ns : List ℕ) (z : ℤ) (n : ℕ) → places T zs ≡ Some ns → T z ≡ Some n → places T (zs ++ z ∷ []) ≡ Some (ns ++ n ∷ [])
-places-more T [] ns z n e f = let q : ns ≡ [] = cc in ap (λ (o : Option ℕ). both o (Some [])) f ∙ ap (λ (l : List ℕ). Some (l ++ n ∷ [])) (sym q)
-places-more T (y ∷ ys) ns z n e f = step (T y) (places T ys) ns e (λ ms g. places-more T ys ms z n g f)
-  where
-    step : (o : Option ℕ) (os : Option (List ℕ)) (ms : List ℕ) → both o os ≡ Some ms → ((ks : List ℕ) → os ≡ Some ks → places T (ys ++ z ∷ []) ≡ Some (ks ++ n ∷ [])) → both o (places T (ys ++ z ∷ [])) ≡ Some (ms ++ n ∷ [])
-    step None os ms g r = cc
-    step (Some m) None ms g r = cc
-    step (Some m) (Some ks) ms g r = let q : ms ≡ m ∷ ks = cc in ap (both (Some m)) (r ks refl) ∙ ap (λ (l : List ℕ). Some (l ++ n ∷ [])) (sym q)

@@ -13,7 +13,7 @@ use Rattle.base_bytes.proofs.Numbers.{some_byte}
 use Rattle.base_bytes.proofs.ShortestLaws.{AllBytes}
 use Rattle.code_read.specs.Handlers.{Handler, PacksHandlers, PacksList, handler_at}
 use Rattle.code_read.specs.Tries.{handler_of}
-use Rattle.code_insns.proofs.ResolveLaws.{at-old, at-new}
+use Rattle.code_insns.proofs.Lists.{at-old, at-new}
 use Rattle.code_put.specs.Fits.{catches_in}
 use Rattle.code_put.specs.Packs.{AreByFirstUse, PacksHandler, PacksHandlersOf}
 use Rattle.code_put.specs.Writing.{IsDistinct, IsListed, joined_keys, places_from}

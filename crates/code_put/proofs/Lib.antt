@@ -13,7 +13,6 @@ pub mod ListedLaws
 pub mod LowerLaws
 pub mod LoweredLaws
 pub mod NumberLaws
-pub mod OriginLaws
 pub mod PackLaws
 pub mod PackedLaws
 pub mod PackedTries
@@ -26,9 +25,4 @@ pub mod WordOnce
 pub mod WrittenLaws
 pub mod MentionLaws
 -- What stands below, for the crates above.
-pub use Rattle.code_insns.proofs.PayloadLaws
-pub use Rattle.code_insns.proofs.ResolveLaws
-pub use Rattle.code_read.proofs.CodesFormed
-pub use Rattle.code_read.proofs.FaultLaws
-pub use Rattle.code_read.proofs.ItemLaws
-pub use Rattle.code_read.proofs.SaidLaws
+pub use Rattle.code_insns.proofs.Lists

@@ -10,7 +10,7 @@ use Rattle.program_types.specs.Content.{Name, Code, Try}
 use Rattle.program_types.specs.Formed.{IsFormed}
 use Rattle.program_types.specs.Sizes.{addresses_of, length_of}
 use Rattle.code_insns.specs.Walk.{starts}
-use Rattle.code_insns.specs.Insns.{SpellsInsns}
+use Rattle.code_insns.specs.Linked.{SpellsInsns}
 use Rattle.code_read.specs.Item.{registers_of, ins_of, outs_of, tries_of, insns_size, units_end, tries_begin, list_begin, insns_bytes, items_of}
 use Rattle.code_read.specs.Tries.{SpellsTries}
 use Rattle.code_read.specs.Code.{SpellsCode}

@@ -6,14 +6,15 @@ use Rattle.dex_insn.specs.Raw.{Raw, is_payload}
 use Rattle.dex_insn.specs.Written.{written}
 use Rattle.program_types.specs.Content.{Name, Insn}
 use Rattle.program_types.specs.Content as made
-use Rattle.program_types.specs.Formed.{insn_at, insn_payload, insn_targets, IsSwitch}
-use Rattle.std.specs.Prelude.{FitsSigned}
+use Rattle.program_types.specs.Formed.{insn_at, insn_payload, insn_targets, IsSwitch, PayloadHolds}
+use Rattle.std.specs.Prelude.{FitsSigned, ◌⊎◌}
 use Rattle.std.specs.Int.{w32}
 use Rattle.std.specs.List.{AllByRecursion}
 use Rattle.code_insns.specs.Walk.{raw_at}
-use Rattle.code_insns.specs.Payloads.{payload_of}
-use Rattle.code_insns.proofs.ResolveLaws.{at-old, at-new}
-use Rattle.code_put.specs.Packs.{joined, IsOrigin, Lowers, IsLowered, PutInsns}
+use Rattle.code_insns.specs.Linked.{payload_of}
+use Rattle.code_insns.proofs.Lists.{at-old, at-new}
+use Rattle.code_put.specs.Packs.{joined, Lowers, IsLowered, PutInsns}
+use Rattle.code_insns.specs.Branches.{IsOrigin}
 use Rattle.code_put.specs.Fits.{IsEven, OffsetsFit, BranchFits, TargetsFit, distance_of}
 use Rattle.code_put.specs.Writing.{PutInsn}
 
@@ -77,16 +78,19 @@ switch-branch ss at (made.Sparse keys to) s = tt
 switch-branch ss at (made.Data width bytes) s = tt
 switch-branch ss at _ s = absurd s
 
-pub no-targets : (i : Insn) → (IsSwitch (insn_payload i) → ⊥) → insn_targets i ≡ []
+pub targets-or : (i : Insn) → IsSwitch (insn_payload i) ⊎ (insn_targets i ≡ [])
 unfolding insn_payload insn_targets
-no-targets (made.Packed first to) s = absurd (s tt)
-no-targets (made.Sparse keys to) s = absurd (s tt)
-no-targets _ s = refl
+targets-or (made.Packed first to) = inl tt
+targets-or (made.Sparse keys to) = inl tt
+targets-or _ = inr refl
 
 pub origin-branch : (is : List Insn) (ss : List ℕ) (k j : ℕ) → IsOrigin is k j → OffsetsFit is ss k → BranchFits ss (get_or ss j 0) (insn_at is k)
 origin-branch is ss k j (inl o) f = switch-branch ss (get_or ss j 0) (insn_at is k) o.0
 origin-branch is ss k j (inr o) f = subst (λ (x : ℕ). BranchFits ss (get_or ss x 0) (insn_at is k)) (sym o.1) f.branch
 
-pub origin-targets : (is : List Insn) (ss : List ℕ) (k j : ℕ) → IsOrigin is k j → OffsetsFit is ss k → TargetsFit ss (get_or ss j 0) (insn_at is k)
-origin-targets is ss k j (inl o) f = f.targets j o.1
-origin-targets is ss k j (inr o) f = subst (λ (ts : List ℕ). AllByRecursion (λ to. FitsSigned w32 (distance_of ss (get_or ss j 0) to)) ts) (sym (no-targets (insn_at is k) o.0)) tt
+pub origin-targets : (is : List Insn) (ss : List ℕ) (k j : ℕ) → PayloadHolds is k → IsOrigin is k j → OffsetsFit is ss k → TargetsFit ss (get_or ss j 0) (insn_at is k)
+origin-targets is ss k j h (inl o) f = f.targets j o.1
+origin-targets is ss k j h (inr o) f = elim (targets-or (insn_at is k)) [
+  | inl s ↦ let u = h.used s in absurd (o.0 u.0 (s, u.1, λ i r. let e = u.2 i r in omega (arith, e)))
+  | inr none ↦ subst (λ (ts : List ℕ). AllByRecursion (λ to. FitsSigned w32 (distance_of ss (get_or ss j 0) to)) ts) (sym none) tt
+]

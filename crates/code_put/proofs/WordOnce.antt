@@ -1,7 +1,6 @@
 -- Numbers of 32 bits, one after the other, are spelled in one way.
 use Rattle.std.proofs.Common.{◌≡◌, ℕ, zero, suc, ◌+◌, ◌*◌, ◌/◌, ◌%◌, ◌^◌, ◌<◌, List, [], ◌∷◌, length, drop, get_or, refl, sym, ap, ◌∙◌, arith, subst}
 use Rattle.std.proofs.lemmas.List.{get_or-drop}
-use Rattle.std.proofs.lemmas.Int.{ints}
 use Rattle.base_bytes.specs.Fields.{AreBytes, u32_at}
 use Rattle.base_bytes.proofs.FieldBounds.{u32_at-fits}
 use Rattle.base_bytes.proofs.ShortestLaws.{AllBytes}

@@ -2,6 +2,4 @@ pub mod Fits
 pub mod Packs
 pub mod Writing
 -- What stands below, for the crates above.
-pub use Rattle.code_read.specs.Code
-pub use Rattle.code_read.specs.Item
-pub use Rattle.code_read.specs.Tries
+pub use Rattle.code_insns.specs.Branches

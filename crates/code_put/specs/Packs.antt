@@ -1,6 +1,6 @@
 -- What is written of a code, byte by byte.
 -- Page: "Dalvik Executable format", "code_item", "try_item", "encoded_catch_handler_list" and "encoded_catch_handler".
-use Rattle.std.specs.Prelude.{ℕ, ◌≡◌, ◌+◌, ◌-◌, ◌*◌, ◌<◌, ◌≤◌, ◌%◌, ◌++◌, ◌==◌, if◌then◌else◌, List, [], ◌∷◌, length, map, min, slice_index, Some, true, ◌⊎◌}
+use Rattle.std.specs.Prelude.{ℕ, ◌≡◌, ◌+◌, ◌-◌, ◌*◌, ◌<◌, ◌≤◌, ◌%◌, ◌++◌, ◌==◌, if◌then◌else◌, List, [], ◌∷◌, length, map, min, slice_index, Some, true}
 use Rattle.std.specs.List.{AllByRecursion, AllZip, flat_map}
 use Rattle.base_bytes.specs.Via.{Via}
 use Rattle.base_bytes.specs.Leb128.{Spells, SpellsSigned, Shortest}
@@ -8,12 +8,13 @@ use Rattle.base_bytes.specs.Fields.{u16_bytes, u32_bytes}
 use Rattle.dex_insn.specs.Raw.{Raw, units, is_payload}
 use Rattle.dex_insn.specs.Written.{written, IsRaw}
 use Rattle.program_types.specs.Content.{Name, Catch, Insn, Code, Try}
-use Rattle.program_types.specs.Formed.{insn_at, try_at, insn_payload, IsSwitch, RefersToPayload}
+use Rattle.program_types.specs.Formed.{insn_at, try_at, insn_payload}
 use Rattle.program_types.specs.Sizes.{insn_units, addresses_of, length_of}
-use Rattle.code_insns.specs.Places.{Rises, place, position}
+use Rattle.code_insns.specs.Places.{Rises, position}
 use Rattle.code_insns.specs.Walk.{raw_at}
 use Rattle.code_insns.specs.Symbols.{Says}
-use Rattle.code_insns.specs.Payloads.{payload_of}
+use Rattle.code_insns.specs.Linked.{lead, payload_of}
+use Rattle.code_insns.specs.Branches.{IsOrigin}
 use Rattle.code_read.specs.Handlers.{Handler, PlaceBy, CatchBy, HandlerBy, PacksHandlers, handler_at}
 use Rattle.code_read.specs.Tries.{handler_of}
 
@@ -24,15 +25,9 @@ abbrev pub joined : List Raw → List ℕ
 joined [] = []
 joined (r ∷ rs) = written r ++ joined rs
 
--- The targets of instruction k count from instruction j: those of a switch's payload from its switch, all others from themselves.
-abbrev pub IsOrigin : List Insn → ℕ → ℕ → Type 0
-IsOrigin is k j =
-    (IsSwitch (insn_payload (insn_at is k)) × RefersToPayload is j k)
-    ⊎ ((¬ IsSwitch (insn_payload (insn_at is k))) × (j ≡ k))
-
 -- The raw instruction says the instruction, whose targets count from the address `at`, and can be written.
 pub record Lowers (N : ℕ → Name → Type 0) (ss : List ℕ) (at : ℕ) (i : Insn) (r : Raw) : Type 0 where
-  pub says : Says N (place ss at) r i
+  pub says : Says N (lead ss at) r i
   pub fits : IsRaw r
   pub size : units r ≡ insn_units i
   pub kind : payload_of r ≡ insn_payload i

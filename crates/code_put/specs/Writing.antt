@@ -1,38 +1,16 @@
 -- What the private functions of writing say.
-use Rattle.std.specs.Prelude.{ℕ, ◌≡◌, ◌+◌, ◌≤◌, ◌<◌, ◌++◌, ◌==◌, if◌then◌else◌, List, [], ◌∷◌, length, take, ◌*◌, slice_index, slice_get, Option, Some, None, ◌⊎◌}
+use Rattle.std.specs.Prelude.{ℕ, ◌≡◌, ◌+◌, ◌≤◌, ◌<◌, ◌++◌, List, [], ◌∷◌, length, take, ◌*◌, slice_index, slice_get, Some, ◌⊎◌}
 use Rattle.std.specs.List.{AllZip, AllByRecursion, flat_map}
 use Rattle.base_bytes.specs.Leb128.{Spells, Shortest}
 use Rattle.dex_insn.specs.Raw.{Raw}
 use Rattle.dex_insn.specs.Written.{written}
 use Rattle.program_types.specs.Content.{Name, Insn, Try}
-use Rattle.program_types.specs.Content as made
-use Rattle.program_types.specs.Formed.{insn_at, try_at}
+use Rattle.program_types.specs.Formed.{try_at}
 use Rattle.tables_names.specs.Closure.{Five, NameRanks}
 use Rattle.code_read.specs.Handlers.{Handler}
 use Rattle.code_read.specs.Tries.{handler_of}
 use Rattle.code_put.specs.Fits.{catches_in}
-use Rattle.code_put.specs.Packs.{AreByFirstUse, Lowers, IsOrigin, PacksHandler}
-
--- the payload that a switch refers to
-unfoldable pub switched_by : Insn → Option ℕ
-switched_by (made.I31t op a to) = if op == 0x2b then Some to else (if op == 0x2c then Some to else None)
-switched_by _ = None
-
--- The targets of each instruction count from these.
-pub record AreOrigins (is : List Insn) (js : List ℕ) : Type 0 where
-  pub count : length js ≡ length is
-  pub each : (k : ℕ) → k < length is → IsOrigin is k (slice_index js k)
-
--- Payload k has its last switch among the first m instructions, or itself if it has none.
-abbrev pub IsLastSwitch : List Insn → ℕ → ℕ → ℕ → Type 0
-IsLastSwitch is m k j =
-    ((j ≡ k) × ((i : ℕ) → i < m → switched_by (insn_at is i) ≡ Some k → ⊥))
-    ⊎ ((j < m) × (switched_by (insn_at is j) ≡ Some k))
-
--- Of each instruction the last among the first m that is a switch with it as its payload, or itself if there is none.
-pub record AreLastSwitches (is : List Insn) (m : ℕ) (js : List ℕ) : Type 0 where
-  pub count : length js ≡ length is
-  pub each : (k : ℕ) → k < length is → IsLastSwitch is m k (slice_index js k)
+use Rattle.code_put.specs.Packs.{AreByFirstUse, Lowers, PacksHandler}
 
 -- What is written of an instruction is appended.
 pub record PutInsn (N : ℕ → Name → Type 0) (ss : List ℕ) (at : ℕ) (i : Insn) (old new : List ℕ) : Type 0 where

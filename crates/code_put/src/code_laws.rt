@@ -11,7 +11,7 @@ ghost use Rattle.program_types.specs.Content.{Insn, Code, Try};
 ghost use Rattle.program_types.specs.Sizes.{addresses_of, length_of};
 ghost use Rattle.program_types.specs.Formed.{TargetHolds, PayloadHolds, TryFormed, IsFormed};
 ghost use Rattle.tables_names.specs.Closure.{Five, AreRising, NameRanks};
-ghost use Rattle.code_insns.specs.Insns.{SpellsInsns};
+ghost use Rattle.code_insns.specs.Linked.{SpellsInsns};
 ghost use Rattle.code_read.specs.Tries.{SpellsTries};
 ghost use Rattle.code_read.specs.Code.{SpellsCode};
 ghost use Rattle.code_put.specs.Fits.{TryFits, FitsCode, wide_code};

@@ -4,7 +4,8 @@ ghost use Rattle.std.specs.Prelude.{◌≡◌, ◌<◌, ℕ, List, None, length,
 ghost use Rattle.base_bytes.specs.Fault.{memory};
 ghost use Rattle.program_types.specs.View.{insn};
 ghost use Rattle.program_types.specs.Content as content;
-ghost use Rattle.program_types.specs.Formed.{insn_at, insn_payload};
+ghost use Rattle.program_types.specs.Formed.{insn_at, insn_payload, PayloadHolds};
+ghost use Rattle.code_insns.specs.Branches.{AreOrigins};
 ghost use Rattle.program_types.specs.Operands.{IsOperand};
 ghost use Rattle.program_types.specs.Mentions.{names_of_insn};
 ghost use Rattle.std.specs.List.{flat_map};
@@ -12,7 +13,7 @@ ghost use Rattle.tables_names.specs.Closure.{NameRanks};
 ghost use Rattle.tables_names.specs.Noted.{AreRanks};
 ghost use Rattle.code_put.specs.Fits.{NameFits, BranchFits, TargetsFit, OffsetsFit, IsEven};
 ghost use Rattle.code_put.specs.Packs.{PutInsns};
-ghost use Rattle.code_put.specs.Writing.{PutInsn, PutPayload, AreOrigins};
+ghost use Rattle.code_put.specs.Writing.{PutInsn, PutPayload};
 
 use crate::begins::Begins;
 use crate::lowering::lower;
@@ -146,6 +147,7 @@ pub(crate) fn put_insns(
     requires names { (k : ℕ) → k < length insns.now → NameFits (NameRanks ranks.now) (insn_at (map insn insns.now) k) }
     requires offsets { (k : ℕ) → k < length insns.now → OffsetsFit (map insn insns.now) starts.now k }
     requires even { (k : ℕ) → k < length insns.now → IsEven (map insn insns.now) starts.now k }
+    requires payloads { (k : ℕ) → k < length insns.now → PayloadHolds (map insn insns.now) k }
     requires origins { AreOrigins (map insn insns.now) origins.now }
     ensures ok { OnOk result (PutInsns (NameRanks ranks.now) (map insn insns.now) starts.now out.old.items out.new.items) }
     ensures memory { IsOkUnless result memory }

@@ -11,7 +11,6 @@
 
 // Where the instructions begin.
 mod begins;
-mod origins;
 mod sizes;
 
 // The instructions, from symbolic ones to units.
@@ -37,6 +36,8 @@ pub use code_laws::{
 pub use handlers::{Distinct, Laid, lay_distinct, lay_handlers, number_of};
 pub use items::{put_padding, put_u16, put_u32};
 pub use mentioned::mentions_in;
-pub use origins::origins_of;
 pub use sizes::{Starts, addresses, starts_of, units_of};
 pub use writing::{make_item, put_code};
+
+// What stands below, for the crates above.
+pub use code_insns::origins_of;

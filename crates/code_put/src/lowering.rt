@@ -12,9 +12,8 @@ ghost use Rattle.tables_names.specs.Closure.{NameRanks};
 ghost use Rattle.tables_names.specs.Noted.{AreRanks};
 ghost use Rattle.dex_insn.specs.Raw.{raw, units};
 ghost use Rattle.dex_insn.specs.Written.{IsRaw};
-ghost use Rattle.code_insns.specs.Places.{place};
-ghost use Rattle.code_insns.specs.Symbols.{resolved, Says};
-ghost use Rattle.code_insns.specs.Payloads.{payload_of};
+ghost use Rattle.code_insns.specs.Linked.{lead, payload_of};
+ghost use Rattle.code_insns.specs.Symbols.{linked, Says};
 ghost use Rattle.code_put.specs.Fits.{HasIndexBelow, NameFits, BranchFits, distance_of};
 
 use crate::begins::Begins;
@@ -49,14 +48,14 @@ pub(crate) fn distance(starts: &Begins<'_>, at: u32, to: u32) -> i32
     requires inside { to < length starts.now }
     requires fits { FitsSigned w32 (distance_of starts.now at to) }
     ensures value { result ≡ distance_of starts.now at to }
-    ensures leads { place starts.now at result ≡ Some to }
+    ensures leads { lead starts.now at result ≡ to }
 {
     gap(starts.at(to), at)
 }
 
 /// The raw instruction of an instruction that is no payload. The index of what it names, if it names anything, is given.
 #[rattlefmt::skip]
-#[tactic(auto, unfolding(code_insns::specs::Symbols::resolved, code_insns::specs::Payloads::payload_of, program_types::specs::Formed::insn_payload, program_types::specs::Sizes::insn_units, dex_insn::specs::Raw::raw, dex_insn::specs::Raw::units))]
+#[tactic(auto, unfolding(code_insns::specs::Symbols::linked, code_insns::specs::Linked::payload_of, program_types::specs::Formed::insn_payload, program_types::specs::Sizes::insn_units, dex_insn::specs::Raw::raw, dex_insn::specs::Raw::units))]
 pub(crate) fn lower(ranks: &Ranks<'_>, indices: &[usize], starts: &Begins<'_>, at: u32, one: &Insn<'_>) -> RawInsn<'static>
     requires indices { AreRanks ranks.now (names_of_insn (insn one.now)) indices.now }
     requires plain { insn_payload (insn one.now) ≡ None }
@@ -64,7 +63,7 @@ pub(crate) fn lower(ranks: &Ranks<'_>, indices: &[usize], starts: &Begins<'_>, a
     requires name { NameFits (NameRanks ranks.now) (insn one.now) }
     requires branch { BranchFits starts.now at (insn one.now) }
     ensures fits { IsRaw (raw result) }
-    ensures says { Says (NameRanks ranks.now) (place starts.now at) (raw result) (insn one.now) }
+    ensures says { Says (NameRanks ranks.now) (lead starts.now at) (raw result) (insn one.now) }
     ensures size { units (raw result) ≡ insn_units (insn one.now) }
     ensures plain { payload_of (raw result) ≡ insn_payload (insn one.now) }
 {

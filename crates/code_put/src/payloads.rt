@@ -1,11 +1,11 @@
 //! Writing payloads: the offsets of switches, and keys, as bytes.
 
-ghost use Rattle.std.specs.Prelude.{◌≡◌, ◌<◌, ◌*◌, Some, length, FitsSigned, IfOk, IsOkUnless};
+ghost use Rattle.std.specs.Prelude.{◌≡◌, ◌<◌, ◌*◌, length, map, FitsSigned, IfOk, IsOkUnless};
 ghost use Rattle.std.specs.Int.{w32};
 ghost use Rattle.std.specs.List.{AllByRecursion};
 ghost use Rattle.base_bytes.specs.Fault.{memory};
-ghost use Rattle.code_insns.specs.Places.{place};
-ghost use Rattle.code_insns.specs.Symbols.{ints, places};
+ghost use Rattle.code_insns.specs.Linked.{lead};
+ghost use Rattle.code_insns.specs.Symbols.{ints};
 ghost use Rattle.code_put.specs.Fits.{distance_of};
 
 use crate::begins::Begins;
@@ -36,7 +36,7 @@ pub(crate) fn distances(
 ) -> Result<Vec<i32>, Fault>
     requires inside { AllByRecursion (λ to. to < length starts.now) targets.now }
     requires fits { AllByRecursion (λ to. FitsSigned w32 (distance_of starts.now at to)) targets.now }
-    ensures ok { IfOk result (λ zs. places (place starts.now at) zs.items ≡ Some targets.now) }
+    ensures ok { IfOk result (λ zs. map (lead starts.now at) zs.items ≡ targets.now) }
     ensures count { IfOk result (λ zs. length zs.items ≡ length targets.now) }
     ensures memory { IsOkUnless result memory }
 {

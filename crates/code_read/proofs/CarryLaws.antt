@@ -1,5 +1,5 @@
 -- A code that is spelled by one naming is spelled by each naming that it implies.
-use Rattle.std.proofs.Common.{ℕ, ℤ, zero, suc, List, Option, Some, None}
+use Rattle.std.proofs.Common.{ℕ, ℤ, zero, suc, List, Some, None}
 use Rattle.base_bytes.specs.Grammar.{Many}
 use Rattle.base_bytes.specs.Leb128.{Spells, SpellsSigned}
 use Rattle.base_bytes.proofs.WeakerLaws.{Implies, Then-weaker, Pair-weaker, Many-weaker}
@@ -8,7 +8,7 @@ use Rattle.dex_insn.specs.Raw as raw
 use Rattle.dex_insn.specs.Raw.{Raw}
 use Rattle.program_types.specs.Content.{Name, OfDesc, Insn, Try, Code}
 use Rattle.code_insns.specs.Symbols.{Says, InsnNames, name_in}
-use Rattle.code_insns.specs.Insns.{SpellsInsns}
+use Rattle.code_insns.specs.Linked.{AreLinked, SpellsInsns}
 use Rattle.code_read.specs.Handlers.{Handler, PlaceBy, TypeBy, CatchBy, AllBy, PartsBy, HandlerBy, ListBy, SpellsHandlers, catches_of}
 use Rattle.code_read.specs.Tries.{SpellsTries}
 use Rattle.code_read.specs.Code.{SpellsBody, BodyStands, SpellsCode, CodeStands}
@@ -23,17 +23,17 @@ module _ (M N : ℕ → Name → Type 0) (f : (i : ℕ) (which : Name) → M i w
   names-weaker (raw.I3rc op n first i) w p = record { kind = p.kind; stands = f i w p.stands }
   names-weaker _ w p = tt
 
-  pub says-weaker : (T : ℤ → Option ℕ) (r : Raw) (i : Insn) → Says M T r i → Says N T r i
+  pub says-weaker : (T : ℤ → ℕ) (r : Raw) (i : Insn) → Says M T r i → Says N T r i
   says-weaker T r i s = record { symbol = s.symbol; named = names-weaker r (name_in i) s.named }
 
-  insns-weaker : (us : List ℕ) (rs : List Raw) (is : List Insn) → SpellsInsns M us rs is → SpellsInsns N us rs is
+  pub linked-weaker : (rs : List Raw) (is : List Insn) → AreLinked M rs is → AreLinked N rs is
+  linked-weaker rs is s = record { count = s.count; each = λ k lt. let e = s.each k lt in record { origin = e.origin; counts = e.counts; says = says-weaker _ _ _ e.says } }
+
+  pub insns-weaker : (us : List ℕ) (rs : List Raw) (is : List Insn) → SpellsInsns M us rs is → SpellsInsns N us rs is
   insns-weaker us rs is s = record {
     walk = s.walk;
-    branches = s.branches;
-    uses = s.uses;
-    targets = s.targets;
-    count = s.count;
-    each = λ k lt. let e = s.each k lt in record { base = e.base; counts = e.counts; says = says-weaker _ _ _ e.says };
+    linked = linked-weaker rs is s.linked;
+    keep = s.keep;
   }
 
   -- the handlers, whichever spellings of numbers U and S they are spelled by

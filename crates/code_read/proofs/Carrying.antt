@@ -9,13 +9,13 @@ use Rattle.program_types.specs.Content.{Name, Code}
 use Rattle.code_insns.specs.Names.{Names, AreNamesOf, NameIsAt}
 use Rattle.code_insns.specs.Stands.{NameStands}
 use Rattle.code_insns.proofs.NameLaws.{names_stand, stands_names}
-use Rattle.code_insns.specs.InsnFaults.{BreaksIn, AllKeep, InsnRulesHold, RulesBreak, InsnsBreak}
-use Rattle.code_insns.specs.Insns.{NameHolds}
+use Rattle.code_insns.specs.InsnFaults.{Breaks, RulesBreak, InsnsBreak}
+use Rattle.code_insns.specs.Linked.{NameHolds}
 use Rattle.code_insns.specs.Symbols.{SomeName, InsnHasName}
-use Rattle.code_insns.specs.Walk.{raw_at}
+use Rattle.code_insns.specs.Walk.{raw_at, starts}
 use Rattle.code_read.specs.Code.{CodeStands}
 use Rattle.code_read.specs.Faults.{HasHandlers, TriesBreak, ItemBreaks, CodeBreaks, CodeOverruns}
-use Rattle.code_read.proofs.CarryLaws.{body_weaker, code_weaker, list-weaker}
+use Rattle.code_read.proofs.CarryLaws.{body_weaker, code_weaker, list-weaker, linked-weaker, insns-weaker}
 
 module _ (N M : ℕ → Name → Type 0) (f : (i : ℕ) (which : Name) → N i which → M i which) where
   some_weaker : (op i : ℕ) → SomeName N op i → SomeName M op i
@@ -29,12 +29,6 @@ module _ (N M : ℕ → Name → Type 0) (f : (i : ℕ) (which : Name) → N i w
   has_weaker (raw.I3rc op n first i) s = some_weaker op i s
   has_weaker _ s = tt
 
-  keep_weaker : (rs : List Raw) → AllKeep (NameHolds N) rs → AllKeep (NameHolds M) rs
-  keep_weaker rs all k l = has_weaker (raw_at rs k) (all k l)
-
-  rules_weaker : (rs : List Raw) → InsnRulesHold N rs → InsnRulesHold M rs
-  rules_weaker rs h = record { names = keep_weaker rs h.names; branches = h.branches; uses = h.uses; targets = h.targets }
-
   handlers_weaker : (ss : List ℕ) (n : ℕ) (items rest : List ℕ) → HasHandlers N ss n items rest → HasHandlers M ss n items rest
   handlers_weaker ss n items rest h = record {
     list = h.list;
@@ -46,7 +40,7 @@ module _ (N M : ℕ → Name → Type 0) (f : (i : ℕ) (which : Name) → N i w
   }
 
 module _ (N M : ℕ → Name → Type 0) (f : (i : ℕ) (which : Name) → N i which → M i which) (g : (i : ℕ) (which : Name) → M i which → N i which) where
-  name_carried : (rs : List Raw) (base : ℕ) (e : Fault) → BreaksIn rs base 65 (NameHolds N) (NameHolds N) e → BreaksIn rs base 65 (NameHolds M) (NameHolds M) e
+  name_carried : (rs : List Raw) (base : ℕ) (e : Fault) → Breaks (starts rs) base 65 (NameHolds N rs) (NameHolds N rs) e → Breaks (starts rs) base 65 (NameHolds M rs) (NameHolds M rs) e
   name_carried rs base e u =
       let b = u.breaks in
       record {
@@ -57,10 +51,7 @@ module _ (N M : ℕ → Name → Type 0) (f : (i : ℕ) (which : Name) → N i w
 
   rules_carried : (rs : List Raw) (base : ℕ) (e : Fault) → RulesBreak N rs base e → RulesBreak M rs base e
   rules_carried rs base e (inl u) = inl (name_carried rs base e u)
-  rules_carried rs base e (inr (inl u)) = inr (inl (keep_weaker N M f rs u.0, u.1))
-  rules_carried rs base e (inr (inr (inl u))) = inr (inr (inl (keep_weaker N M f rs u.0, u.1)))
-  rules_carried rs base e (inr (inr (inr (inl u)))) = inr (inr (inr (inl (keep_weaker N M f rs u.0, u.1, u.2))))
-  rules_carried rs base e (inr (inr (inr (inr u)))) = inr (inr (inr (inr (keep_weaker N M f rs u.0, u.1, u.2, u.3))))
+  rules_carried rs base e (inr u) = inr (u.0, linked-weaker N M f rs u.0 u.1, u.2)
 
   insns_carried : (us : List ℕ) (base : ℕ) (e : Fault) → InsnsBreak N us base e → InsnsBreak M us base e
   insns_carried us base e (inl u) = inl u
@@ -74,7 +65,7 @@ module _ (N M : ℕ → Name → Type 0) (f : (i : ℕ) (which : Name) → N i w
   item_carried off bytes e (inl u) = inl u
   item_carried off bytes e (inr (inl u)) = inr (inl u)
   item_carried off bytes e (inr (inr (inl u))) = inr (inr (inl (u.0, u.1, insns_carried _ _ e u.2)))
-  item_carried off bytes e (inr (inr (inr u))) = inr (inr (inr (u.0, u.1, u.2, u.3, rules_weaker N M f u.2 u.4, tries_carried _ _ _ _ _ _ e u.5)))
+  item_carried off bytes e (inr (inr (inr u))) = inr (inr (inr (u.0, u.1, u.2, u.3, insns-weaker N M f _ u.2 u.3 u.4, tries_carried _ _ _ _ _ _ e u.5)))
 
   breaks_carried : (b : List ℕ) (off : ℕ) (e : Fault) → CodeBreaks N b off e → CodeBreaks M b off e
   breaks_carried b off e (inl u) = inl u

@@ -29,12 +29,12 @@ front_of N b framed off end bytes r c a =
     let front : take a.size bytes ≡ take a.size (drop off b) = (λ j. take a.size (r.same j)) ∙ take-take a.size (end - off) (drop off b) i in
     (drop a.size bytes, record { front = take a.size bytes; whole = sym (take-append-drop a.size bytes); spelled = subst (λ (l : List ℕ). SpellsBody N l c) (sym front) a.spelled })
 
-pub broken_none : (N : ℕ → Name → Type 0) (b : List ℕ) → IsFramed b → (off : ℕ) (e : Fault) (c : Code) → CodeBreaks N b off e → BodyStands N b off c → ⊥
-broken_none N b framed off e c (inl misaligned) a = misaligned.0 a.aligned
-broken_none N b framed off e c (inr (inl outside)) a = outside_none N b off c outside.0 a
-broken_none N b framed off e c (inr (inr (even, end, bytes, r, item))) a =
+pub broken_none : (N : ℕ → Name → Type 0) → IsFunctional N → (b : List ℕ) → IsFramed b → (off : ℕ) (e : Fault) (c : Code) → CodeBreaks N b off e → BodyStands N b off c → ⊥
+broken_none N one b framed off e c (inl misaligned) a = misaligned.0 a.aligned
+broken_none N one b framed off e c (inr (inl outside)) a = outside_none N b off c outside.0 a
+broken_none N one b framed off e c (inr (inr (even, end, bytes, r, item))) a =
     let t = front_of N b framed off end bytes r c a in
-    item-clear N off bytes t.0 c e (read-from_takes N bytes t.0 c t.1) item
+    item-clear N one off bytes t.0 c e (read-from_takes N bytes t.0 c t.1) item
 
 -- ---- registers
 

@@ -18,15 +18,14 @@ use Rattle.program_types.specs.Content.{Name, OfText, OfDesc, OfField, OfMethod,
 use Rattle.program_types.specs.Kinds.{IsOfKind}
 use Rattle.code_insns.specs.Names.{Names, NameIsAt}
 use Rattle.code_insns.specs.Walk.{starts}
-use Rattle.code_insns.specs.Insns.{SpellsInsns}
+use Rattle.code_insns.specs.Linked.{SpellsInsns}
 use Rattle.code_insns.specs.Symbols.{IsFunctional}
-use Rattle.code_insns.proofs.InsnFaultLaws.{rules-hold}
 use Rattle.code_read.specs.Item.{insns_size, tries_of, registers_of, ins_of, outs_of, insns_bytes, items_of, units_end, tries_begin, list_begin, HasFixedParts}
 use Rattle.code_read.specs.Code.{SpellsBody, BodyStands, CodeStands}
 use Rattle.code_read.specs.Faults.{ItemBreaks, CodeBreaks, RegistersBreak, CodeOverruns}
 use Rattle.program_types.specs.Formed.{RegistersHold, insn_at, insn_registers}
 use Rattle.program_types.specs.Sizes.{addresses_of}
-use Rattle.code_insns.specs.Places.{AllHold, IsFirstBroken}
+use Rattle.code_insns.specs.First.{AllHold, IsFirstBroken}
 use Rattle.code_insns.specs.Registers.{AmongAt}
 use Rattle.code_read.proofs.StandLaws.{body_code, NameIsAt-functional}
 use Rattle.code_read.proofs.FaultLaws.{units-even}
@@ -78,7 +77,7 @@ module _ (N : ℕ → Name → Type 0) (names : AreNamesDecided N) (functional :
 
   with-insns : HasFixedParts bytes → 0 < insns_size bytes → (rs : List Raw) (is : List Insn) → SpellsInsns N (insns_bytes bytes) rs is → IsItemDecided
   with-insns whole some rs is s = elim (tries-decided N names functional (starts rs) (insns_size bytes) (tries_of bytes) (items_of bytes) (drop (list_begin bytes) bytes) (off + tries_begin bytes)) [
-    | inr f ↦ inr (f.0, inr (inr (inr (whole, some, rs, s.walk, rules-hold N (insns_bytes bytes) rs is s, f.1))))
+    | inr f ↦ inr (f.0, inr (inr (inr (whole, some, rs, is, s, f.1))))
     | inl x ↦
         let c : Code = record { registers = registers_of bytes; ins = ins_of bytes; outs = outs_of bytes; insns = is; tries = x.0 } in
         inl (c, x.1.after, takes-from_read N bytes x.1.after c (record { whole = whole; some = some; registers = refl; ins = refl; outs = refl; raws = rs; insns = s; list = x.1.list; joined = x.1.joined; tries = x.1.tries }))

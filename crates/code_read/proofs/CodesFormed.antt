@@ -1,35 +1,31 @@
 -- A code that stands in a file is well formed.
-use Rattle.std.proofs.Common.{◌≡◌, ◌≢◌, ℕ, ℤ, zero, suc, pos, negsuc, ◌+ℤ◌, ◌+◌, ◌-◌, ◌*◌, ◌/◌, ◌<◌, ◌≤◌, inl, inr, Option, Some, None, List, [], ◌∷◌, length, drop, map, get_or, refl, sym, ap, ◌∙◌, subst, arith, length-take, length-drop, false}
+use Rattle.std.proofs.Common.{◌≡◌, ◌≢◌, ℕ, ℤ, zero, suc, pos, negsuc, ◌+◌, ◌-◌, ◌*◌, ◌/◌, ◌<◌, ◌≤◌, inl, inr, Option, Some, None, List, [], ◌∷◌, length, drop, get_or, refl, sym, ap, ◌∙◌, subst, arith, length-take, length-drop}
 use Rattle.std.specs.Prelude.{IfSome, IfNone}
 use Rattle.std.specs.List.{AllByRecursion}
 use Rattle.std.proofs.lemmas.Bool.{cases_lt}
 use Rattle.std.proofs.lemmas.Bool.Decides.{nat_tests}
-use Rattle.std.proofs.lemmas.Int.{ints}
-use Rattle.std.proofs.lemmas.List.{length-map}
 use Rattle.base_bytes.specs.Fields.{AreBytes, u16_at}
 use Rattle.base_bytes.specs.Grammar.{Each}
 use Rattle.base_bytes.proofs.FieldBounds.{u32_at-fits, drop-AreBytes}
 use Rattle.dex_container.specs.Frame.{IsFramed}
 use Rattle.dex_container.specs.Where.{slice}
-use Rattle.dex_insn.specs.Fields.{int_at}
 use Rattle.dex_insn.specs.Raw as raw
-use Rattle.dex_insn.specs.Raw.{Raw, is_payload, units}
+use Rattle.dex_insn.specs.Raw.{Raw}
 use Rattle.dex_insn.specs.RawInsns.{InsnStands}
 use Rattle.dex_insn.proofs.Fits.{stands_fits}
 use Rattle.program_types.specs.Content.{Name, Catch, Insn, Try, Code}
-use Rattle.program_types.specs.Formed.{AreAlike, IsSwitch, insn_at, try_at, insn_payload, insn_wants, insn_reach, insn_branch, insn_short_branch, insn_targets, RefersToPayload, IsTarget, PayloadHolds, TryFormed, RegistersHold, IsFormed}
+use Rattle.program_types.specs.Formed.{AreAlike, WantsPayload, wanted_by, insn_at, try_at, insn_wants, insn_reach, insn_branch, insn_targets, insn_leads, RefersToPayload, IsTarget, TargetHolds, PayloadHolds, TryFormed, RegistersHold, IsFormed}
 use Rattle.program_types.specs.Operands.{IsOperand}
+use Rattle.program_types.specs.Content as made
 use Rattle.program_types.specs.declared.payload.Payload.{Payload}
+use Rattle.program_types.specs.declared.payload.Payload.TheVariants as payload
 use Rattle.code_insns.specs.Stands.{NameStands}
-use Rattle.code_insns.specs.Places.{place, count_below, Rises}
+use Rattle.code_insns.specs.Places.{count_below, Rises}
 use Rattle.code_insns.specs.Walk.{Run, starts, raw_at, address}
 use Rattle.code_insns.specs.Symbols.{name_in}
-use Rattle.code_insns.specs.Payloads.{payload_of, wants, reach, Uses}
-use Rattle.code_insns.specs.Insns.{branch, short_branch, targets, Lands, IsBase, SpellsInsns}
-use Rattle.code_insns.proofs.PlaceLaws.{place-there, position-there}
-use Rattle.code_insns.proofs.Runs.{run-at, length-starts, table-of, run-few}
-use Rattle.code_insns.proofs.SaidRegisters.{said}
-use Rattle.code_insns.proofs.Saying.{wants-says, reach-says, wants-plain, switch-no_branch, switch-no_short}
+use Rattle.code_insns.specs.Linked.{SpellsInsns}
+use Rattle.code_insns.proofs.PlaceLaws.{position-there}
+use Rattle.code_insns.proofs.Runs.{run-at, table-of, run-few}
 use Rattle.code_read.specs.Item.{insns_size, tries_of, insns_bytes, items_of, list_begin, units_end, try_start, try_count}
 use Rattle.code_read.specs.Handlers.{Handler, catches_of, SpellsPlace, SpellsCatch, SpellsCatchAll, SpellsHandler, SpellsHandlers, handler_at}
 use Rattle.code_read.specs.Tries.{SpellsTries, handler_of}
@@ -37,9 +33,8 @@ use Rattle.code_read.specs.Code.{SpellsBody, CodeStands}
 use Rattle.code_read.proofs.FaultLaws.{units-even}
 use Rattle.code_read.proofs.ItemLaws.{begins_late}
 use Rattle.code_read.proofs.NamesHaveRows.{at-offset}
-use Rattle.code_read.proofs.SaidLaws.{kind-said, Leads, branch-said, short-said, AllLed, targets-said, raw-bytes, operand-said}
-use Rattle.code_insns.proofs.PlainLaws.{weaker}
-use Rattle.base_bytes.proofs.ListFacts.{some_inj, take_bytes}
+use Rattle.code_read.proofs.SaidLaws.{raw-bytes, operand-said}
+use Rattle.base_bytes.proofs.ListFacts.{take_bytes}
 
 pub all-weaker : {A : Type 0} (P Q : A → Type 0) (xs : List A) → ((x : A) → P x → Q x) → AllByRecursion P xs → AllByRecursion Q xs
 all-weaker P Q [] f h = tt
@@ -47,157 +42,40 @@ all-weaker P Q (x ∷ xs) f h = (f x h.0, all-weaker P Q xs f h.1)
 
 -- ---- instructions
 
+wants-any : (p : Payload) → AreAlike (Some p) (Some p)
+wants-any payload.PackedSwitch = tt
+wants-any payload.SparseSwitch = tt
+wants-any payload.Array = tt
+
 run-some : (us : List ℕ) (rs : List Raw) (e : ℕ) → Run us 0 rs e → 0 < e → 0 < length rs
 run-some us [] e h l = omega (arith, h, l)
 run-some us (r ∷ rs) e h l = omega arith
 
-plain-none : (r : Raw) → is_payload r ≡ false → payload_of r ≡ None
-unfolding is_payload payload_of
-plain-none (raw.Packed first offsets) e = absurd cc
-plain-none (raw.Sparse keys offsets) e = absurd cc
-plain-none (raw.Data width bytes) e = absurd cc
-plain-none _ e = refl
+-- where an instruction that keeps the rules leads to is an instruction
+pub leads-inside : (is : List Insn) (k : ℕ) → TargetHolds is k → PayloadHolds is k → (i : Insn) → insn_at is k ≡ i → AllByRecursion (λ to. to < length is) (insn_leads i)
+unfolding insn_branch insn_targets insn_wants insn_reach
+leads-inside is k t p (made.I10t op to) e = ((subst (λ (i : Insn). IfSome (insn_branch i) (IsTarget is)) e t.lands).inside, tt)
+leads-inside is k t p (made.I20t op to) e = ((subst (λ (i : Insn). IfSome (insn_branch i) (IsTarget is)) e t.lands).inside, tt)
+leads-inside is k t p (made.I30t op to) e = ((subst (λ (i : Insn). IfSome (insn_branch i) (IsTarget is)) e t.lands).inside, tt)
+leads-inside is k t p (made.I21t op a to) e = ((subst (λ (i : Insn). IfSome (insn_branch i) (IsTarget is)) e t.lands).inside, tt)
+leads-inside is k t p (made.I22t op a b to) e = ((subst (λ (i : Insn). IfSome (insn_branch i) (IsTarget is)) e t.lands).inside, tt)
+leads-inside is k t p (made.I31t op a to) e = ((subst (λ (i : Insn). WantsPayload (insn_wants i) → RefersToPayload is k (insn_reach i)) e p.refers (wants-any (wanted_by op))).payload, tt)
+leads-inside is k t p (made.Packed first to) e = all-weaker _ _ to (λ n h. h.inside) (subst (λ (i : Insn). AllByRecursion (IsTarget is) (insn_targets i)) e t.all)
+leads-inside is k t p (made.Sparse keys to) e = all-weaker _ _ to (λ n h. h.inside) (subst (λ (i : Insn). AllByRecursion (IsTarget is) (insn_targets i)) e t.all)
+leads-inside is k t p _ e = tt
 
 module _ (N : ℕ → Name → Type 0) (us : List ℕ) (rs : List Raw) (is : List Insn) (s : SpellsInsns N us rs is) where
-  -- of an instruction
-  pub kind-at : (k : ℕ) → k < length rs → payload_of (raw_at rs k) ≡ insn_payload (insn_at is k)
-  kind-at k l = let x = s.each k l in said (λ i. payload_of (raw_at rs k) ≡ insn_payload i) _ (insn_at is k) (kind-said (place (starts rs) x.base) (name_in (insn_at is k)) (raw_at rs k)) x.says.symbol
-
-  wants-at : (k : ℕ) → k < length rs → wants (raw_at rs k) ≡ insn_wants (insn_at is k)
-  wants-at k l = let x = s.each k l in wants-says (place (starts rs) x.base) (name_in (insn_at is k)) (raw_at rs k) (insn_at is k) x.says.symbol
-
-  -- where an offset leads is the number of an instruction
-  there : (base n : ℕ) (z : ℤ) → place (starts rs) base z ≡ Some n → n < length is
-  there base n z e =
-      let p = (place-there (starts rs) base z n e).0 in
-      let a = length-starts 0 (map units rs) in let b = length-map rs units in let c = s.count in
-      omega (arith, p, a, b, c)
-
-  target : (base n : ℕ) (z : ℤ) → place (starts rs) base z ≡ Some n → Lands rs base z → IsTarget is n
-  target base n z e l =
-      let f = l.leads in
-      let same : l.number ≡ n = cc in
-      let i = there base n z e in
-      let c = s.count in
-      record {
-        inside = i;
-        plain = sym (kind-at n (omega (arith, i, c))) ∙ plain-none (raw_at rs n) (subst (λ (m : ℕ). is_payload (raw_at rs m) ≡ false) same l.plain);
-      }
-
-  lands-at : (k : ℕ) → k < length rs → IfSome (insn_branch (insn_at is k)) (IsTarget is)
-  lands-at k l =
-      let x = s.each k l in
-      let T = place (starts rs) x.base in
-      let Q : ℤ → Type 0 = Lands rs x.base in
-      let q : IfSome (branch (raw_at rs k)) (Lands rs x.base) = by x.base x.counts in
-      weaker (Leads T Q) (IsTarget is) (insn_branch (insn_at is k)) (λ n h. target x.base n h.0 h.1 h.2)
-      (said (λ i. IfSome (insn_branch i) (Leads T Q)) _ (insn_at is k) (branch-said T (name_in (insn_at is k)) (raw_at rs k) Q q) x.says.symbol)
-    where
-      by : (base : ℕ) → IsBase rs k base → IfSome (branch (raw_at rs k)) (Lands rs base)
-      by base (inl b) = switch-no_branch (raw_at rs k) (Lands rs base) b.0
-      by base (inr b) = subst (λ (a : ℕ). IfSome (branch (raw_at rs k)) (Lands rs a)) (sym b.1) (s.branches k l).lands
-
-  -- an offset other than 0 leads elsewhere
-  abbrev Moves : ℕ → ℕ → ℤ → Type 0
-  Moves k base z = (z ≢ pos 0) × (base ≡ address rs k)
-
-  elsewhere : (k base n : ℕ) (z : ℤ) → place (starts rs) base z ≡ Some n → Moves k base z → n ≢ k
-  elsewhere k base n z e m same =
-      let p = (place-there (starts rs) base z n e).1 in
-      let a : get_or (starts rs) n 0 ≡ base = ap (λ (j : ℕ). get_or (starts rs) j 0) same ∙ sym m.1 in
-      let q : pos base ≡ (pos base +ℤ z) = ap (λ (j : ℕ). pos j) (sym a) ∙ p in
-      m.0 (omega (arith, ints, q))
-
-  moves-at : (k : ℕ) → k < length rs → IfSome (insn_short_branch (insn_at is k)) (λ to. to ≢ k)
-  moves-at k l =
-      let x = s.each k l in
-      let T = place (starts rs) x.base in
-      let Q : ℤ → Type 0 = Moves k x.base in
-      let q : IfSome (short_branch (raw_at rs k)) (Moves k x.base) = by x.base x.counts in
-      weaker (Leads T Q) (λ to. to ≢ k) (insn_short_branch (insn_at is k)) (λ n h. elsewhere k x.base n h.0 h.1 h.2)
-      (said (λ i. IfSome (insn_short_branch i) (Leads T Q)) _ (insn_at is k) (short-said T (name_in (insn_at is k)) (raw_at rs k) Q q) x.says.symbol)
-    where
-      by : (base : ℕ) → IsBase rs k base → IfSome (short_branch (raw_at rs k)) (Moves k base)
-      by base (inl b) = switch-no_short (raw_at rs k) (Moves k base) b.0
-      by base (inr b) = weaker (λ z. z ≢ pos 0) (Moves k base) (short_branch (raw_at rs k)) (λ z h. (h, b.1)) (s.branches k l).moves
-
-  pub no-targets : (r : Raw) → (IsSwitch (payload_of r) → ⊥) → targets r ≡ []
-  unfolding payload_of targets
-  no-targets (raw.Packed first offsets) h = absurd (h tt)
-  no-targets (raw.Sparse keys offsets) h = absurd (h tt)
-  no-targets _ h = refl
-
-  targets-at : (k : ℕ) → k < length rs → AllByRecursion (IsTarget is) (insn_targets (insn_at is k))
-  targets-at k l =
-      let x = s.each k l in
-      let T = place (starts rs) x.base in
-      let led : AllLed T (targets (raw_at rs k)) (length (targets (raw_at rs k)) / 4) (insn_targets (insn_at is k)) =
-      said (λ i. AllLed T (targets (raw_at rs k)) (length (targets (raw_at rs k)) / 4) (insn_targets i)) _ (insn_at is k) (targets-said T (name_in (insn_at is k)) (raw_at rs k)) x.says.symbol in
-      all-weaker _ (IsTarget is) (insn_targets (insn_at is k)) (λ n h. target x.base n (int_at (targets (raw_at rs k)) h.0) h.2 (land x.base x.counts h.0 h.1)) led
-    where
-      land : (base : ℕ) → IsBase rs k base → (y : ℕ) → y < length (targets (raw_at rs k)) / 4 → Lands rs base (int_at (targets (raw_at rs k)) y)
-      land base (inl b) y m = subst (λ (a : ℕ). Lands rs a (int_at (targets (raw_at rs k)) y)) (sym b.3) (s.targets k l b.0 b.1 b.2 y m)
-      land base (inr b) y m = absurd (let e = ap length (no-targets (raw_at rs k) b.0) in omega (arith, e, m))
-
-  -- ---- what refers to payloads
-
-  reach-at : (j : ℕ) (p : Option Payload) → j < length rs → AreAlike (wants (raw_at rs j)) p → place (starts rs) (address rs j) (reach (raw_at rs j)) ≡ Some (insn_reach (insn_at is j))
-  reach-at j p l h =
-      let x = s.each j l in
-      let r = reach-says (place (starts rs) x.base) (name_in (insn_at is j)) (raw_at rs j) (insn_at is j) p h x.says.symbol in
-      subst (λ (b : ℕ). place (starts rs) b (reach (raw_at rs j)) ≡ Some (insn_reach (insn_at is j))) (own x.base x.counts) r
-    where
-      own : (base : ℕ) → IsBase rs j base → base ≡ address rs j
-      own base (inl b) = absurd (wants-plain (insn_at is j) p (subst (λ (q : Option Payload). AreAlike q p) (wants-at j l) h) (subst (λ (q : Option Payload). IsSwitch q) (kind-at j l) b.0))
-      own base (inr b) = b.1
-
-  refers-of : (j k : ℕ) → Uses rs j k → RefersToPayload is j k
-  refers-of j k u =
-      let c = s.count in let a = u.there in let b = u.payload in
-      record {
-        there = omega (arith, a, c);
-        payload = omega (arith, b, c);
-        kind = subst (λ (q : Option Payload). AreAlike q (insn_payload (insn_at is k))) (wants-at j a) (subst (λ (q : Option Payload). AreAlike (wants (raw_at rs j)) q) (kind-at k b) u.kind);
-        leads = some_inj (insn_reach (insn_at is j)) k (sym (reach-at j (payload_of (raw_at rs k)) a u.kind) ∙ u.leads);
-      }
-
-  pub uses-of : (j k : ℕ) → RefersToPayload is j k → Uses rs j k
-  uses-of j k f =
-      let c = s.count in let a = f.there in let b = f.payload in
-      let i : j < length rs = omega (arith, a, c) in
-      let m : k < length rs = omega (arith, b, c) in
-      let alike : AreAlike (wants (raw_at rs j)) (insn_payload (insn_at is k)) = subst (λ (q : Option Payload). AreAlike q (insn_payload (insn_at is k))) (sym (wants-at j i)) f.kind in
-      record {
-        there = i;
-        payload = m;
-        kind = subst (λ (q : Option Payload). AreAlike (wants (raw_at rs j)) q) (sym (kind-at k m)) alike;
-        leads = reach-at j (insn_payload (insn_at is k)) i alike ∙ ap (λ (n : ℕ). Some n) f.leads;
-      }
-
-  payload-at : (k : ℕ) → k < length rs → PayloadHolds is k
-  payload-at k l =
-      let h = s.uses k l in
-      record {
-        refers = λ w.
-            let r = h.refers (subst (λ (q : Option Payload). AreAlike q q) (sym (wants-at k l)) w) in
-            let f = refers-of k r.0 r.1 in
-            subst (λ (n : ℕ). RefersToPayload is k n) (sym f.leads) f;
-        used = λ w.
-            let u = h.used (subst (λ (q : Option Payload). IsSwitch q) (sym (kind-at k l)) w) in
-            (u.by, refers-of u.by k u.uses, λ i f. u.only i (uses-of i k f));
-      }
-
-  -- ---- operands
-
-  operand-at : AreBytes us → length us ≤ 4294967295 → (k : ℕ) → k < length rs → IsOperand (length is) (insn_at is k)
+  operand-at : AreBytes us → length us ≤ 4294967295 → (k : ℕ) → k < length is → IsOperand (length is) (insn_at is k)
   unfolding raw_at
-  operand-at are short k l =
-      let x = s.each k l in
+  operand-at are short k m =
+      let n = s.linked.count in
+      let l : k < length rs = omega (arith, m, n) in
+      let x = s.linked.each k l in
       let st : InsnStands us (address rs k) (raw_at rs k) = run-at us 0 rs (length us / 2) k (raw.I10x 0) s.walk.run l in
-      let T = place (starts rs) x.base in
-      said (IsOperand (length is)) _ (insn_at is k)
-      (operand-said N T (name_in (insn_at is k)) (length is) (raw_at rs k) (λ z n e. there x.base n z e) (stands_fits us (address rs k) (raw_at rs k) are st)
-      (raw-bytes (drop (2 * address rs k) us) (raw_at rs k) (drop-AreBytes us (2 * address rs k) are) (omega (arith, short, length-drop (2 * address rs k) us)) st.spelled) x.says.named) x.says.symbol
+      let inside = leads-inside is k (s.keep.targets k m) (s.keep.payloads k m) (insn_at is k) refl in
+      subst (IsOperand (length is)) x.says.symbol
+      (operand-said N _ (name_in (insn_at is k)) (length is) (raw_at rs k) (subst (λ (i : Insn). AllByRecursion (λ to. to < length is) (insn_leads i)) (sym x.says.symbol) inside) (stands_fits us (address rs k) (raw_at rs k) are st)
+      (raw-bytes (drop (2 * address rs k) us) (raw_at rs k) (drop-AreBytes us (2 * address rs k) are) (omega (arith, short, length-drop (2 * address rs k) us)) st.spelled) x.says.named)
 
 -- ---- tries
 
@@ -319,7 +197,7 @@ spelled-formed N bytes c are short s named =
     let size : 16 + 2 * insns_size bytes ≤ 4294967295 = omega (arith, late, fixed, short) in
     let units-are : AreBytes (insns_bytes bytes) = take_bytes (units_end bytes - 16) (drop 16 bytes) (drop-AreBytes bytes 16 are) in
     let run = s.insns.walk.run in
-    let count = s.insns.count in
+    let count = s.insns.linked.count in
     let few = run-few us 0 s.raws (length us / 2) run in
     let positive = s.some in
     let some = run-some us s.raws (length us / 2) run (omega (arith, even, positive)) in
@@ -330,13 +208,9 @@ spelled-formed N bytes c are short s named =
     record {
       some = omega (arith, count, some);
       few = omega (arith, few, count, even, size);
-      operands = λ k l. operand-at N us s.raws c.insns s.insns units-are (omega (arith, even, size)) k (omega (arith, l, count));
-      targets = λ k l. record {
-        lands = lands-at N us s.raws c.insns s.insns k (omega (arith, l, count));
-        moves = moves-at N us s.raws c.insns s.insns k (omega (arith, l, count));
-        all = targets-at N us s.raws c.insns s.insns k (omega (arith, l, count));
-      };
-      payloads = λ k l. payload-at N us s.raws c.insns s.insns k (omega (arith, l, count));
+      operands = operand-at N us s.raws c.insns s.insns units-are (omega (arith, even, size));
+      targets = s.insns.keep.targets;
+      payloads = s.insns.keep.payloads;
       tries = λ i l. subst (λ (m : ℕ). TryFormed m c.tries i) same
           (try-formed N (starts s.raws) table.rises (insns_size bytes) (tries_of bytes) (items_of bytes) (drop (list_begin bytes) bytes) c.tries s.tries i (omega (arith, l, tries)));
       registers = subst (λ (n : ℕ). n < 65536) (sym s.registers) (u16-fits bytes 0 are);

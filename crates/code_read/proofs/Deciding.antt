@@ -1,5 +1,5 @@
 -- Decisions that those of code are made of: of bounded quantifiers, of options, and of grammars made of others.
-use Rattle.std.proofs.Common.{◌≡◌, ◌≢◌, ℕ, ℤ, zero, suc, pos, negsuc, ◌+ℤ◌, ◌^◌, ◌<◌, ◌≤ℤ◌, ◌<ℤ◌, ◌⊎◌, inl, inr, Bool, true, false, Option, Some, None, List, [], ◌∷◌, length, get_or, refl, sym, ap, subst, arith}
+use Rattle.std.proofs.Common.{◌≡◌, ℕ, ℤ, zero, suc, pos, ◌+ℤ◌, ◌^◌, ◌<◌, ◌≤ℤ◌, ◌<ℤ◌, ◌⊎◌, inl, inr, Option, Some, None, List, [], ◌∷◌, length, get_or, refl, sym, ap, subst, arith}
 use Rattle.std.specs.Prelude.{IfSome}
 use Rattle.std.proofs.lemmas.Bool.{cases_lt}
 use Rattle.std.proofs.lemmas.Int.{ints, by_lt_z}
@@ -7,10 +7,10 @@ use Rattle.base_bytes.specs.Deciding.{Decided, DecidedFront}
 use Rattle.base_bytes.specs.Grammar.{Takes, IsPrefixUnique, Then, Many}
 use Rattle.base_bytes.specs.Leb128.{SpellsSigned, signed_low_first}
 use Rattle.base_bytes.specs.Via.{Via}
-use Rattle.base_bytes.proofs.Deciding.{decide_like, decide_both, decide_le, decide_eq, decide_by, DecidedEach, decide_each, decide_sequence}
+use Rattle.base_bytes.proofs.Deciding.{decide_like, decide_both, decide_le, decide_by, DecidedEach, decide_each, decide_sequence}
 use Rattle.base_bytes.proofs.TakesLaws.{Takes-then, Then-takes, Takes-unique, Takes-none, NoneBegins-from_takes}
 use Rattle.base_bytes.proofs.ViaLaws.{via-takes, via-none, via-nothing}
-use Rattle.code_insns.specs.Places.{AllHold, IsFirstBroken}
+use Rattle.code_insns.specs.First.{AllHold, IsFirstBroken}
 
 -- ---- numbers below a bound
 
@@ -55,30 +55,13 @@ pub decide-implied : {P Q : Type 0} → Decided P → (P → Decided Q) → Deci
 decide-implied (inr nay) d = inl (λ p. absurd (nay p))
 decide-implied (inl p) d = elim (d p) [ inl q ↦ inl (λ _. q) | inr nay ↦ inr (λ f. nay (f p)) ]
 
-pub option-cases : {A : Type 0} (o : Option A) → (o ≡ None) ⊎ ((x : A) × (o ≡ Some x))
-option-cases None = inl refl
-option-cases (Some x) = inr (x, refl)
-
-pub bool-cases : (b : Bool) → (b ≡ false) ⊎ (b ≡ true)
-bool-cases false = inl refl
-bool-cases true = inr refl
-
 pub decide-there : {A : Type 0} (o : Option A) → Decided ((x : A) × (o ≡ Some x))
 decide-there None = inr (λ x. let e = x.1 in absurd cc)
 decide-there (Some x) = inl (x, refl)
 
-pub decide-some : (o : Option ℕ) (k : ℕ) → Decided (o ≡ Some k)
-decide-some None k = inr (λ e. absurd cc)
-decide-some (Some n) k = elim (decide_eq n k) [ inl e ↦ inl (ap Some e) | inr nay ↦ inr (λ e. let s : n ≡ k = cc in nay s) ]
-
 pub decide-if-some : {A : Type 0} (P : A → Type 0) → ((x : A) → Decided (P x)) → (o : Option A) → Decided (IfSome o P)
 decide-if-some P d None = inl tt
 decide-if-some P d (Some x) = d x
-
-pub decide-moves : (z : ℤ) → Decided (z ≢ pos 0)
-decide-moves (pos zero) = inr (λ h. h refl)
-decide-moves (pos (suc n)) = inl (λ e. absurd cc)
-decide-moves (negsuc n) = inl (λ e. absurd cc)
 
 -- ---- grammars
 

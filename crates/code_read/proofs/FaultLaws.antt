@@ -4,11 +4,13 @@ use Rattle.base_bytes.specs.declared.fault.Fault.{Fault}
 use Rattle.dex_insn.specs.Raw.{Raw}
 use Rattle.dex_insn.proofs.Unique.{slice-length}
 use Rattle.program_types.specs.Content.{Name, Code, Insn, Try}
-use Rattle.code_insns.specs.Walk.{starts, Walks}
+use Rattle.code_insns.specs.Walk.{starts}
 use Rattle.code_insns.specs.InsnFaults.{InsnsBreak}
 use Rattle.code_insns.specs.Reading.{ReadInsns}
 use Rattle.code_insns.proofs.InsnsOnce.{walks-one}
-use Rattle.code_insns.proofs.InsnFaultLaws.{insns-clear, rules-hold}
+use Rattle.code_insns.proofs.InsnFaultLaws.{insns-clear}
+use Rattle.code_insns.specs.Linked.{SpellsInsns}
+use Rattle.code_insns.specs.Symbols.{IsFunctional}
 use Rattle.code_read.specs.Item.{tries_of, insns_size, units_end, tries_begin, list_begin, insns_bytes, items_of, HasFixedParts}
 use Rattle.code_read.specs.Tries.{SpellsTries, handler_of}
 use Rattle.program_types.specs.Formed.{try_at}
@@ -31,12 +33,12 @@ units-even bytes w =
     let late = begins_late bytes in let l = w.fixed in
     slice-length bytes 16 (units_end bytes) (omega arith) (omega arith) ∙ (let z : units_end bytes - 16 ≡ 2 * insns_size bytes = omega arith in z)
 
-pub item-clear : (N : ℕ → Name → Type 0) (off : ℕ) (bytes rest : List ℕ) (c : Code) (fault : Fault) → ReadCode N bytes rest c → ItemBreaks N off bytes fault → ⊥
-item-clear N off bytes rest c fault r (inl b) = b.0 r.whole
-item-clear N off bytes rest c fault r (inr (inl b)) = let s = r.some in let z = b.1 in omega arith
-item-clear N off bytes rest c fault r (inr (inr (inl b))) = let u = units-even bytes r.whole in insns-clear N (insns_bytes bytes) r.raws c.insns (off + 16) fault (omega arith) r.insns b.2
-item-clear N off bytes rest c fault r (inr (inr (inr b))) =
-    let e = walks-one (insns_bytes bytes) b.2 r.raws b.3 r.insns.walk in
+pub item-clear : (N : ℕ → Name → Type 0) → IsFunctional N → (off : ℕ) (bytes rest : List ℕ) (c : Code) (fault : Fault) → ReadCode N bytes rest c → ItemBreaks N off bytes fault → ⊥
+item-clear N one off bytes rest c fault r (inl b) = b.0 r.whole
+item-clear N one off bytes rest c fault r (inr (inl b)) = let s = r.some in let z = b.1 in omega arith
+item-clear N one off bytes rest c fault r (inr (inr (inl b))) = let u = units-even bytes r.whole in insns-clear N (insns_bytes bytes) r.raws c.insns (off + 16) fault one (omega arith) r.insns b.2
+item-clear N one off bytes rest c fault r (inr (inr (inr b))) =
+    let e = walks-one (insns_bytes bytes) b.2 r.raws b.4.walk r.insns.walk in
     tries-clear N (starts b.2) (insns_size bytes) (tries_of bytes) (items_of bytes) r.list rest (drop (list_begin bytes) bytes) (off + tries_begin bytes) c.tries fault r.joined
     (subst (λ (rs : List Raw). SpellsTries N (starts rs) (insns_size bytes) (tries_of bytes) (items_of bytes) r.list c.tries) (sym e) r.tries) b.5
 
@@ -53,8 +55,8 @@ tries-break N off at bytes begins i is fault p s a r b =
       p.whole,
       s,
       r.raws,
-      subst (λ (us : List ℕ). Walks us r.raws) p.units r.insns.walk,
-      rules-hold N i.units.now r.raws is r.insns,
+      is,
+      subst (λ (us : List ℕ). SpellsInsns N us r.raws is) p.units r.insns,
       subst (λ (z : List ℕ). TriesBreak N z (insns_size bytes) (tries_of bytes) (items_of bytes) (drop (list_begin bytes) bytes) (off + tries_begin bytes) fault) r.table.is
           (subst (λ (z : ℕ). TriesBreak N begins z (tries_of bytes) (items_of bytes) (drop (list_begin bytes) bytes) (off + tries_begin bytes) fault) p.size
           (subst (λ (z : ℕ). TriesBreak N begins i.size z (items_of bytes) (drop (list_begin bytes) bytes) (off + tries_begin bytes) fault) p.tries

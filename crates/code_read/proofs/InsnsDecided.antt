@@ -1,75 +1,75 @@
 -- Units spell the instructions of a code, or one of them breaks a rule.
-use Rattle.std.proofs.Common.{◌≡◌, ◌≢◌, ℕ, ℤ, ◌+◌, ◌*◌, ◌/◌, ◌≤◌, ◌⊎◌, inl, inr, Option, Some, None, List, length, refl, ap}
-use Rattle.std.specs.Prelude.{IfSome, option_map}
+use Rattle.std.proofs.Common.{◌≡◌, ℕ, ℤ, zero, suc, ◌+◌, ◌*◌, ◌/◌, ◌<◌, ◌≤◌, ◌⊎◌, inl, inr, List, [], length, get_or, refl, ap, sym, ◌∙◌, subst, arith}
+use Rattle.std.proofs.lemmas.Bool.{cases_lt}
+use Rattle.base_bytes.specs.Deciding.{Decided}
 use Rattle.base_bytes.specs.Fields.{AreBytes}
 use Rattle.base_bytes.specs.declared.fault.Fault.{Fault}
 use Rattle.dex_insn.specs.Raw as raw
 use Rattle.dex_insn.specs.Raw.{Raw}
-use Rattle.program_types.specs.Content.{Name, Insn}
+use Rattle.program_types.specs.Content.{Name, OfText, Insn}
 use Rattle.program_types.specs.Content as made
-use Rattle.program_types.specs.Formed.{IsSwitch}
-use Rattle.code_insns.specs.Places.{IsFirstBroken, place}
-use Rattle.code_insns.specs.Walk.{Walks, IsTable, starts, raw_at, address}
-use Rattle.code_insns.specs.Symbols.{resolved, places, ints, Says, InsnHasName}
-use Rattle.code_insns.specs.Payloads.{payload_of, UseHolds}
-use Rattle.code_insns.specs.Insns.{Reaches, Lands, branch, targets, BranchLands, BranchMoves, BranchHolds, OffsetsLand, NameHolds, IsBase, SpellsInsnAt, SpellsInsns}
-use Rattle.code_insns.specs.InsnFaults.{BreaksIn, AllKeep, InsnRulesHold, RulesBreak, InsnsBreak}
-use Rattle.code_insns.proofs.ResolveLaws.{leads-all, reaches-all}
-use Rattle.code_insns.proofs.Runs.{table-of}
+use Rattle.program_types.specs.Formed.{insn_at, insn_payload, RefersToPayload, PayloadHolds}
+use Rattle.code_insns.specs.First.{AllHold, IsFirstBroken}
+use Rattle.code_insns.specs.Branches.{BranchLands, BranchMoves, BranchHolds, SwitchLands, IsOrigin}
+use Rattle.code_insns.specs.Walk.{Walks, starts, raw_at, address}
+use Rattle.code_insns.specs.Symbols.{linked, Says, InsnHasName}
+use Rattle.code_insns.specs.Linked.{lead, NameHolds, AreLinked, KeepRules, SpellsInsns}
+use Rattle.code_insns.specs.InsnFaults.{Breaks, LinkedBreak, InsnsBreak}
+use Rattle.code_insns.specs.Reading.{AreHalfLinked}
+use Rattle.code_insns.proofs.LinkLaws.{kind-linked, all-linked}
+use Rattle.code_insns.proofs.Runs.{length-of_starts}
 use Rattle.code_read.proofs.Deciding.{first-or-all, build}
 use Rattle.code_read.proofs.WalkDecided.{walk-decided}
-use Rattle.code_read.proofs.RulesDecided.{AreNamesDecided, decide-name, decide-switch, decide-use, decide-branch-lands, decide-branch-moves, decide-branch, decide-targets}
+use Rattle.code_read.proofs.RulesDecided.{AreNamesDecided, decide-name, decide-switch, decide-refers, decide-payload, decide-branch-lands, decide-branch-moves, decide-branch, decide-switch-lands}
 
--- ---- where all rules hold, an instruction is spelled
+-- ---- where all indices have rows, the instructions can be linked
 
-some-of : {A : Type 0} (o : Option A) → o ≢ None → (x : A) × (o ≡ Some x)
-some-of None h = absurd (h refl)
-some-of (Some x) h = (x, refl)
+-- a raw instruction, linked, with a name that its index stands for
+link : (N : ℕ → Name → Type 0) (T : ℤ → ℕ) (r : Raw) → InsnHasName N r → (i : Insn) × Says N T r i
+unfolding linked
+link N T (raw.I21c op a index) n = (made.I21c op a n.0, record { symbol = refl; named = n.1 })
+link N T (raw.I22c op a b index) n = (made.I22c op a b n.0, record { symbol = refl; named = n.1 })
+link N T (raw.I31c op a index) n = (made.I31c op a n.0, record { symbol = refl; named = n.1 })
+link N T (raw.I35c op m regs index) n = (made.I35c op m regs n.0, record { symbol = refl; named = n.1 })
+link N T (raw.I3rc op m first index) n = (made.I3rc op m first n.0, record { symbol = refl; named = n.1 })
+link N T r n = (linked T (OfText []) r, record { symbol = refl; named = tt })
 
--- the instruction that a raw one says, if its offsets lead to instructions and its index stands for a name
-says-some : (N : ℕ → Name → Type 0) (T : ℤ → Option ℕ) (r : Raw) → Reaches T r → places T (ints (targets r)) ≢ None → InsnHasName N r → (i : Insn) × Says N T r i
-unfolding resolved targets
-says-some N T (raw.I10t op offset) t p n = let x = some-of (T offset) t in (made.I10t op x.0, record { symbol = ap (option_map (λ to. made.I10t op to)) x.1; named = tt })
-says-some N T (raw.I20t op offset) t p n = let x = some-of (T offset) t in (made.I20t op x.0, record { symbol = ap (option_map (λ to. made.I20t op to)) x.1; named = tt })
-says-some N T (raw.I21t op a offset) t p n = let x = some-of (T offset) t in (made.I21t op a x.0, record { symbol = ap (option_map (λ to. made.I21t op a to)) x.1; named = tt })
-says-some N T (raw.I21c op a index) t p n = (made.I21c op a n.0, record { symbol = refl; named = n.1 })
-says-some N T (raw.I22t op a b offset) t p n = let x = some-of (T offset) t in (made.I22t op a b x.0, record { symbol = ap (option_map (λ to. made.I22t op a b to)) x.1; named = tt })
-says-some N T (raw.I22c op a b index) t p n = (made.I22c op a b n.0, record { symbol = refl; named = n.1 })
-says-some N T (raw.I30t op offset) t p n = let x = some-of (T offset) t in (made.I30t op x.0, record { symbol = ap (option_map (λ to. made.I30t op to)) x.1; named = tt })
-says-some N T (raw.I31t op a offset) t p n = let x = some-of (T offset) t in (made.I31t op a x.0, record { symbol = ap (option_map (λ to. made.I31t op a to)) x.1; named = tt })
-says-some N T (raw.I31c op a index) t p n = (made.I31c op a n.0, record { symbol = refl; named = n.1 })
-says-some N T (raw.I35c op m regs index) t p n = (made.I35c op m regs n.0, record { symbol = refl; named = n.1 })
-says-some N T (raw.I3rc op m first index) t p n = (made.I3rc op m first n.0, record { symbol = refl; named = n.1 })
-says-some N T (raw.Packed first offsets) t p n = let x = some-of (places T (ints offsets)) p in (made.Packed first x.0, record { symbol = ap (option_map (λ to. made.Packed first to)) x.1; named = tt })
-says-some N T (raw.Sparse keys offsets) t p n = let x = some-of (places T (ints offsets)) p in (made.Sparse (ints keys) x.0, record { symbol = ap (option_map (λ to. made.Sparse (ints keys) to)) x.1; named = tt })
-says-some N T _ t p n = (_, record { symbol = refl; named = tt })
-
--- a switch's payload has no offset of its own
-switch-reaches : (T : ℤ → Option ℕ) (r : Raw) → IsSwitch (payload_of r) → Reaches T r
-unfolding payload_of
-switch-reaches T (raw.Packed first offsets) s = tt
-switch-reaches T (raw.Sparse keys offsets) s = tt
-switch-reaches T _ s = absurd s
-
-module _ (rs : List Raw) (k : ℕ) (once : UseHolds rs k) (b : BranchHolds rs k) where
-  lands-somewhere : (o : Option ℤ) → IfSome o (Lands rs (address rs k)) → IfSome o (λ z. place (starts rs) (address rs k) z ≢ None)
-  lands-somewhere None h = tt
-  lands-somewhere (Some z) h = λ e. let f = h.leads in absurd cc
-
-  reaches-own : Reaches (place (starts rs) (address rs k)) (raw_at rs k)
-  reaches-own = reaches-all (place (starts rs) (address rs k)) (raw_at rs k) (lands-somewhere (branch (raw_at rs k)) b.lands) (λ w. λ e. let f = (once.refers w).1.leads in absurd cc)
-
-  based : (base : ℕ) × IsBase rs k base × Reaches (place (starts rs) base) (raw_at rs k)
-  based = elim (decide-switch (payload_of (raw_at rs k))) [
-    | inl s ↦ let u = once.used s in (address rs u.by, inl (s, u.by, u.uses, refl), switch-reaches _ (raw_at rs k) s)
-    | inr other ↦ (address rs k, inr (other, refl), reaches-own)
+-- the last number below a bound that keeps a rule, if there is one
+last-or-none : (P : ℕ → Type 0) → ((k : ℕ) → Decided (P k)) → (n : ℕ) → ((k : ℕ) × (k < n) × P k × ((i : ℕ) → i < n → P i → i ≤ k)) ⊎ ((i : ℕ) → i < n → P i → ⊥)
+last-or-none P d zero = inr (λ i l p. omega (arith, l))
+last-or-none P d (suc n) = elim (d n) [
+  | inl here ↦ inl (n, omega arith, here, λ i l p. omega (arith, l))
+  | inr nay ↦ elim (last-or-none P d n) [
+    | inl x ↦ let l = x.1 in inl (x.0, omega (arith, l), x.2, λ i m p. elim (cases_lt i n) [ inl less ↦ x.3 i less p | inr ge ↦ let e : i ≡ n = omega (arith, m, ge) in absurd (nay (subst P e p)) ])
+    | inr none ↦ inr (λ i m p. elim (cases_lt i n) [ inl less ↦ none i less p | inr ge ↦ let e : i ≡ n = omega (arith, m, ge) in nay (subst P e p) ])
   ]
+]
 
-insn-spelled : (N : ℕ → Name → Type 0) (rs : List Raw) (k : ℕ) → IsTable (starts rs) rs → UseHolds rs k → BranchHolds rs k → OffsetsLand rs k → NameHolds N rs k → (i : Insn) × SpellsInsnAt N rs k i
-insn-spelled N rs k table once b t n =
-    let at = based rs k once b in
-    let x = says-some N (place (starts rs) at.0) (raw_at rs k) at.2 (leads-all rs (starts rs) k at.0 table at.1 t) n in
-    (x.0, record { base = at.0; counts = at.1; says = x.1 })
+origin-found : (is : List Insn) (k : ℕ) → (j : ℕ) × IsOrigin is k j
+origin-found is k = elim (decide-switch (insn_payload (insn_at is k))) [
+  | inr other ↦ (k, inr (λ i s. other s.0, refl))
+  | inl switch ↦ elim (last-or-none (λ j. RefersToPayload is j k) (λ j. decide-refers is j k) (length is)) [
+    | inl x ↦ (x.0, inl (switch, x.2, λ i r. x.3 i r.there r))
+    | inr none ↦ (k, inr (λ i s. none i s.1.there s.1, refl))
+  ]
+]
+
+module _ (N : ℕ → Name → Type 0) (rs : List Raw) (names : (k : ℕ) → k < length rs → NameHolds N rs k) where
+  -- each from itself
+  half : (is : List Insn) × (length is ≡ length rs) × ((k : ℕ) → k < length rs → Says N (lead (starts rs) (address rs k)) (raw_at rs k) (insn_at is k))
+  half = build (made.I10x 0) (λ k i. Says N (lead (starts rs) (address rs k)) (raw_at rs k) i) (length rs) (λ k l. link N _ (raw_at rs k) (names k l))
+
+  half-linked : AreHalfLinked N rs half.0
+  half-linked = record { count = half.1; each = λ k l. let s = half.2 k l in record { kind = ap insn_payload (sym s.symbol) ∙ kind-linked _ _ (raw_at rs k); says = λ _. s } }
+
+  origins : (js : List ℕ) × (length js ≡ length half.0) × ((k : ℕ) → k < length half.0 → IsOrigin half.0 k (get_or js k 0))
+  origins = build 0 (IsOrigin half.0) (length half.0) (λ k l. origin-found half.0 k)
+
+  whole : (is : List Insn) × (length is ≡ length rs) × ((k : ℕ) → k < length rs → Says N (lead (starts rs) (address rs (get_or origins.0 k 0))) (raw_at rs k) (insn_at is k))
+  whole = build (made.I10x 0) (λ k i. Says N (lead (starts rs) (address rs (get_or origins.0 k 0))) (raw_at rs k) i) (length rs) (λ k l. link N _ (raw_at rs k) (names k l))
+
+  pub linked-found : (is : List Insn) × AreLinked N rs is
+  linked-found = (whole.0, all-linked N rs half.0 whole.0 origins.0 half-linked (record { count = origins.1; each = origins.2 }) whole.1 whole.2)
 
 -- ---- all of them
 
@@ -78,48 +78,49 @@ module _ (N : ℕ → Name → Type 0) (names : AreNamesDecided N) (us : List �
   InsnsAreDecided = ((rs : List Raw) × (is : List Insn) × SpellsInsns N us rs is) ⊎ ((e : Fault) × InsnsBreak N us base e)
 
   -- the first that breaks a rule
-  broken-at : (number : ℕ) (P Q : List Raw → ℕ → Type 0) (rs : List Raw) (k : ℕ) → IsFirstBroken (P rs) (Q rs) (length rs) k → (e : Fault) × BreaksIn rs base number P Q e
-  broken-at number P Q rs k f = (record { code = number; place = base + 2 * address rs k }, record { first = k; breaks = f; is = refl })
+  broken-at : (ss : List ℕ) (number : ℕ) (P Q : ℕ → Type 0) (k : ℕ) → IsFirstBroken P Q (length ss) k → (e : Fault) × Breaks ss base number P Q e
+  broken-at ss number P Q k f = (record { code = number; place = base + 2 * get_or ss k 0 }, record { first = k; breaks = f; is = refl })
 
-  branch-broken : (rs : List Raw) (k : ℕ) → AllKeep (NameHolds N) rs → IsFirstBroken (BranchHolds rs) (BranchHolds rs) (length rs) k → (e : Fault) × RulesBreak N rs base e
-  branch-broken rs k named f = elim (decide-branch-lands rs k) [
-    | inr nay ↦ let x = broken-at 68 BranchHolds BranchLands rs k (record { inside = f.inside; broken = nay; before = f.before }) in (x.0, inr (inl (named, x.1)))
-    | inl lands ↦ elim (decide-branch-moves rs k) [
-      | inr nay ↦ let x = broken-at 69 BranchHolds BranchMoves rs k (record { inside = f.inside; broken = nay; before = f.before }) in (x.0, inr (inr (inl (named, x.1))))
+  branch-broken : (ss : List ℕ) (is : List Insn) (k : ℕ) → IsFirstBroken (BranchHolds is) (BranchHolds is) (length ss) k → (e : Fault) × LinkedBreak ss is base e
+  branch-broken ss is k f = elim (decide-branch-lands is k) [
+    | inr nay ↦ let x = broken-at ss 68 (BranchHolds is) (BranchLands is) k (record { inside = f.inside; broken = nay; before = f.before }) in (x.0, inl x.1)
+    | inl lands ↦ elim (decide-branch-moves is k) [
+      | inr nay ↦ let x = broken-at ss 69 (BranchHolds is) (BranchMoves is) k (record { inside = f.inside; broken = nay; before = f.before }) in (x.0, inr (inl x.1))
       | inl moves ↦ absurd (f.broken (record { lands = lands; moves = moves }))
     ]
   ]
 
-  insns-of : (rs : List Raw) → Walks us rs → length us ≤ 8589934590 → InsnRulesHold N rs → InsnsAreDecided
-  insns-of rs w short h =
-      let table = table-of us (starts rs) rs short w.run refl in
-      let x = build (made.I10x 0) (SpellsInsnAt N rs) (length rs) (λ k l. insn-spelled N rs k table (h.uses k l) (h.branches k l) (h.targets k l) (h.names k l)) in
-      inl (rs, x.0, record { walk = w; branches = h.branches; uses = h.uses; targets = h.targets; count = x.1; each = x.2 })
-
-  -- all rules hold, or the first that doesn't is broken
-  rules-decided : (rs : List Raw) → InsnRulesHold N rs ⊎ ((e : Fault) × RulesBreak N rs base e)
-  rules-decided rs = elim (first-or-all (NameHolds N rs) (λ k. decide-name N names (raw_at rs k)) (length rs)) [
-    | inr f ↦ let x = broken-at 65 (NameHolds N) (NameHolds N) rs f.0 f.1 in inr (x.0, inl x.1)
-    | inl named ↦ elim (first-or-all (BranchHolds rs) (decide-branch rs) (length rs)) [
-      | inr f ↦ inr (branch-broken rs f.0 named f.1)
-      | inl branches ↦ elim (first-or-all (UseHolds rs) (decide-use rs) (length rs)) [
-        | inr f ↦ let x = broken-at 70 UseHolds UseHolds rs f.0 f.1 in inr (x.0, inr (inr (inr (inl (named, branches, x.1)))))
-        | inl uses ↦ elim (first-or-all (OffsetsLand rs) (decide-targets rs) (length rs)) [
-          | inr f ↦ let x = broken-at 68 OffsetsLand OffsetsLand rs f.0 f.1 in inr (x.0, inr (inr (inr (inr (named, branches, uses, x.1)))))
-          | inl all ↦ inl (record { names = named; branches = branches; uses = uses; targets = all })
+  -- linked instructions keep all rules, or the first that isn't kept is broken
+  keep-decided : (ss : List ℕ) (is : List Insn) → length ss ≡ length is → KeepRules is ⊎ ((e : Fault) × LinkedBreak ss is base e)
+  keep-decided ss is n =
+      let all : (P : ℕ → Type 0) → AllHold P (length ss) → AllHold P (length is) = λ P h. subst (AllHold P) n h in
+      elim (first-or-all (BranchHolds is) (decide-branch is) (length ss)) [
+        | inr f ↦ inr (branch-broken ss is f.0 f.1)
+        | inl branches ↦ elim (first-or-all (PayloadHolds is) (decide-payload is) (length ss)) [
+          | inr f ↦ let x = broken-at ss 70 (PayloadHolds is) (PayloadHolds is) f.0 f.1 in inr (x.0, inr (inr (inl (all (BranchHolds is) branches, x.1))))
+          | inl payloads ↦ elim (first-or-all (SwitchLands is) (decide-switch-lands is) (length ss)) [
+            | inr f ↦ let x = broken-at ss 68 (SwitchLands is) (SwitchLands is) f.0 f.1 in inr (x.0, inr (inr (inr (all (BranchHolds is) branches, all (PayloadHolds is) payloads, x.1))))
+            | inl switches ↦ inl (record {
+              targets = λ k l. let b = all (BranchHolds is) branches k l in record { lands = b.lands; moves = b.moves; all = all (SwitchLands is) switches k l };
+              payloads = all (PayloadHolds is) payloads;
+            })
+          ]
         ]
       ]
-    ]
-  ]
 
-  walked-decided : (rs : List Raw) → Walks us rs → length us ≤ 8589934590 → InsnsAreDecided
-  walked-decided rs w short = elim (rules-decided rs) [
-    | inr f ↦ inr (f.0, inr (rs, w, f.1))
-    | inl h ↦ insns-of rs w short h
+  walked-decided : (rs : List Raw) → Walks us rs → InsnsAreDecided
+  walked-decided rs w = elim (first-or-all (NameHolds N rs) (λ k. decide-name N names (raw_at rs k)) (length (starts rs))) [
+    | inr f ↦ let x = broken-at (starts rs) 65 (NameHolds N rs) (NameHolds N rs) f.0 f.1 in inr (x.0, inr (rs, w, inl x.1))
+    | inl named ↦
+        let x = linked-found N rs (subst (AllHold (NameHolds N rs)) (length-of_starts rs) named) in
+        elim (keep-decided (starts rs) x.0 (length-of_starts rs ∙ sym x.1.count)) [
+          | inl keep ↦ inl (rs, x.0, record { walk = w; linked = x.1; keep = keep })
+          | inr f ↦ inr (f.0, inr (rs, w, inr (x.0, x.1, f.1)))
+        ]
   ]
 
   pub insns-decided : AreBytes us → length us ≡ 2 * (length us / 2) → length us ≤ 8589934590 → InsnsAreDecided
   insns-decided are even short = elim (walk-decided us base are even) [
     | inr f ↦ inr (f.0, inl f.1)
-    | inl x ↦ walked-decided x.0 x.1 short
+    | inl x ↦ walked-decided x.0 x.1
   ]

@@ -11,7 +11,7 @@ use Rattle.code_insns.specs.Walk.{starts}
 use Rattle.code_insns.specs.Symbols.{IsFunctional}
 use Rattle.code_insns.specs.Reading.{ReadInsns}
 use Rattle.code_read.specs.Item.{tries_of, insns_size, units_end, tries_begin, list_begin, insns_bytes, items_of}
-use Rattle.code_insns.specs.Insns.{SpellsInsns}
+use Rattle.code_insns.specs.Linked.{SpellsInsns}
 use Rattle.code_read.specs.Tries.{SpellsTries}
 use Rattle.code_read.specs.Code.{SpellsBody}
 use Rattle.code_read.specs.Reading.{ReadCode, ReadTries, IsCodeItem}

@@ -9,11 +9,9 @@ use Rattle.program_types.specs.Formed.{insn_at, try_at}
 use Rattle.program_types.specs.Mentions.{names_of_insn, names_of_try, names_of_code}
 use Rattle.code_insns.specs.Stands.{NameStands}
 use Rattle.tables_laws.specs.FileNames.{HasRow}
-use Rattle.code_insns.specs.Walk.{starts, raw_at}
-use Rattle.code_insns.specs.Places.{place}
+use Rattle.code_insns.specs.Walk.{raw_at}
 use Rattle.code_insns.specs.Symbols.{name_in}
-use Rattle.code_insns.specs.Insns.{SpellsInsns}
-use Rattle.code_insns.proofs.SaidRegisters.{said}
+use Rattle.code_insns.specs.Linked.{SpellsInsns}
 use Rattle.code_read.specs.Handlers.{Handler, SpellsCatch, SpellsHandler, SpellsHandlers, handler_at}
 use Rattle.code_read.specs.Tries.{SpellsTries, handler_of}
 use Rattle.code_read.specs.Code.{SpellsBody, CodeStands}
@@ -44,9 +42,9 @@ module _ (N : ℕ → Name → Type 0) where
   insns-have : (us : List ℕ) (rs : List Raw) (is : List Insn) → SpellsInsns N us rs is → AllByRecursion HasIndex (flat_map names_of_insn is)
   insns-have us rs is s = all-flat HasIndex names_of_insn is (made.I10x 0)
       (λ k l.
-      let n = s.count in
-      let x = s.each k (omega (arith, l, n)) in
-      said (λ i. AllByRecursion HasIndex (names_of_insn i)) _ (insn_at is k) (names-said N (place (starts rs) x.base) (name_in (insn_at is k)) (raw_at rs k) x.says.named) x.says.symbol)
+      let n = s.linked.count in
+      let x = s.linked.each k (omega (arith, l, n)) in
+      subst (λ (i : Insn). AllByRecursion HasIndex (names_of_insn i)) x.says.symbol (names-said N _ (name_in (insn_at is k)) (raw_at rs k) x.says.named))
 
   -- the types of catches
   CatchesHave : List Catch → Type 0

@@ -4,7 +4,7 @@ use Rattle.std.specs.Prelude.{IfSome, IfNone, ◌⊎◌}
 use Rattle.base_bytes.specs.declared.fault.Fault.{Fault}
 use Rattle.program_types.specs.Content.{Code}
 use Rattle.program_types.specs.Formed.{RegistersHold}
-use Rattle.code_insns.specs.Places.{AllHold}
+use Rattle.code_insns.specs.First.{AllHold}
 use Rattle.code_insns.specs.Registers.{AmongAt, IsPast}
 use Rattle.code_read.specs.Faults.{RegistersBreak}
 

@@ -1,24 +1,21 @@
 -- Whether an instruction of a code keeps a rule is decided.
-use Rattle.std.proofs.Common.{◌≡◌, ◌≢◌, ℕ, ℤ, pos, ◌/◌, inl, inr, false, Option, Some, None, List, length, refl, sym, subst}
+use Rattle.std.proofs.Common.{◌≡◌, ◌≢◌, ℕ, inl, inr, Option, Some, None, List, length, refl, sym, subst}
 use Rattle.base_bytes.specs.Deciding.{Decided}
-use Rattle.base_bytes.proofs.Deciding.{decide_like, decide_both, decide_lt, decide_eq, decide_below}
+use Rattle.base_bytes.proofs.Deciding.{decide_like, decide_both, decide_lt, decide_eq, decide_below, decide_all}
 use Rattle.dex_insn.specs.Raw as raw
-use Rattle.dex_insn.specs.Raw.{Raw, is_payload}
-use Rattle.dex_insn.specs.Fields.{int_at}
+use Rattle.dex_insn.specs.Raw.{Raw}
 use Rattle.dex_insn.specs.Opcodes.{index_kind_of}
 use Rattle.dex_insn.specs.declared.opcode.IndexKind.{IndexKind}
-use Rattle.program_types.specs.Content.{Name}
-use Rattle.program_types.specs.Formed.{AreAlike, IsSwitch}
+use Rattle.program_types.specs.Content.{Name, Insn}
+use Rattle.program_types.specs.Formed.{AreAlike, IsSwitch, insn_at, insn_payload, insn_wants, insn_reach, insn_branch, insn_short_branch, insn_targets, IsTarget, RefersToPayload, PayloadHolds}
+use Rattle.code_insns.specs.Branches.{BranchLands, BranchMoves, BranchHolds, SwitchLands}
 use Rattle.program_types.specs.Kinds.{IsOfKind}
 use Rattle.program_types.specs.Operands.{IsOfIndexKind}
 use Rattle.program_types.specs.declared.payload.Payload.{Payload}
 use Rattle.program_types.specs.declared.payload.Payload.TheVariants as payload
-use Rattle.code_insns.specs.Places.{AllHold, place}
-use Rattle.code_insns.specs.Walk.{starts, raw_at, address}
+use Rattle.code_insns.specs.First.{AllHold}
 use Rattle.code_insns.specs.Symbols.{SomeName, InsnHasName}
-use Rattle.code_insns.specs.Payloads.{payload_of, wants, reach, Uses, UsedOnce, UseHolds}
-use Rattle.code_insns.specs.Insns.{branch, short_branch, targets, Lands, AllLand, BranchLands, BranchMoves, BranchHolds, OffsetsLand}
-use Rattle.code_read.proofs.Deciding.{decide-all-below, decide-implied, option-cases, bool-cases, decide-some, decide-if-some, decide-moves}
+use Rattle.code_read.proofs.Deciding.{decide-all-below, decide-implied, decide-if-some}
 
 -- ---- names
 
@@ -58,59 +55,46 @@ decide-switch (Some payload.PackedSwitch) = inl tt
 decide-switch (Some payload.SparseSwitch) = inl tt
 decide-switch _ = inr (λ h. h)
 
-module _ (rs : List Raw) where
-  decide-uses : (j k : ℕ) → Decided (Uses rs j k)
-  decide-uses j k = decide_like
+decide-none : (p : Option Payload) → Decided (p ≡ None)
+decide-none None = inl refl
+decide-none (Some p) = inr (λ e. cc)
+
+module _ (is : List Insn) where
+  pub decide-refers : (j k : ℕ) → Decided (RefersToPayload is j k)
+  decide-refers j k = decide_like
       (λ x. record { there = x.0; payload = x.1.0; kind = x.1.1.0; leads = x.1.1.1 })
-      (λ (u : Uses rs j k). (u.there, (u.payload, (u.kind, u.leads))))
-      (decide_both (decide_lt j (length rs)) (decide_both (decide_lt k (length rs))
-      (decide_both (decide-alike (wants (raw_at rs j)) (payload_of (raw_at rs k))) (decide-some (place (starts rs) (address rs j) (reach (raw_at rs j))) k))))
+      (λ (u : RefersToPayload is j k). (u.there, (u.payload, (u.kind, u.leads))))
+      (decide_both (decide_lt j (length is)) (decide_both (decide_lt k (length is)) (decide_both (decide-alike (insn_wants (insn_at is j)) (insn_payload (insn_at is k))) (decide_eq (insn_reach (insn_at is j)) k))))
 
-  decide-reference : (k : ℕ) → Decided ((n : ℕ) × Uses rs k n)
-  decide-reference k = decide_like (λ x. (x.0, x.2)) (λ (x : (n : ℕ) × Uses rs k n). (x.0, x.1.payload, x.1)) (decide_below (λ n. Uses rs k n) (λ n. decide-uses k n) (length rs))
-
-  decide-once : (k : ℕ) → Decided (UsedOnce rs k)
+  decide-once : (k : ℕ) → Decided ((by : ℕ) × RefersToPayload is by k × ((i : ℕ) → RefersToPayload is i k → i ≡ by))
   decide-once k = decide_like
-      (λ x. record { by = x.0; uses = x.2.0; only = λ i u. x.2.1 i u.there u })
-      (λ (o : UsedOnce rs k). (o.by, o.uses.there, (o.uses, λ i l u. o.only i u)))
-      (decide_below (λ j. Uses rs j k × AllHold (λ i. Uses rs i k → i ≡ j) (length rs))
-      (λ j. decide_both (decide-uses j k) (decide-all-below (λ i. Uses rs i k → i ≡ j) (λ i. decide-implied (decide-uses i k) (λ _. decide_eq i j)) (length rs))) (length rs))
+      (λ x. (x.0, x.2.0, λ i u. x.2.1 i u.there u))
+      (λ (o : (by : ℕ) × RefersToPayload is by k × ((i : ℕ) → RefersToPayload is i k → i ≡ by)). (o.0, o.1.there, (o.1, λ i l u. o.2 i u)))
+      (decide_below (λ j. RefersToPayload is j k × AllHold (λ i. RefersToPayload is i k → i ≡ j) (length is))
+      (λ j. decide_both (decide-refers j k) (decide-all-below (λ i. RefersToPayload is i k → i ≡ j) (λ i. decide-implied (decide-refers i k) (λ _. decide_eq i j)) (length is))) (length is))
 
-  pub decide-use : (k : ℕ) → Decided (UseHolds rs k)
-  decide-use k = decide_like
+  pub decide-payload : (k : ℕ) → Decided (PayloadHolds is k)
+  decide-payload k = decide_like
       (λ x. record { refers = x.0; used = x.1 })
-      (λ (h : UseHolds rs k). (h.refers, h.used))
-      (decide_both (decide-implied (decide-alike (wants (raw_at rs k)) (wants (raw_at rs k))) (λ _. decide-reference k)) (decide-implied (decide-switch (payload_of (raw_at rs k))) (λ _. decide-once k)))
+      (λ (h : PayloadHolds is k). (h.refers, h.used))
+      (decide_both (decide-implied (decide-alike (insn_wants (insn_at is k)) (insn_wants (insn_at is k))) (λ _. decide-refers k (insn_reach (insn_at is k)))) (decide-implied (decide-switch (insn_payload (insn_at is k))) (λ _. decide-once k)))
 
   -- ---- branches
 
-  decide-lands : (base : ℕ) (z : ℤ) → Decided (Lands rs base z)
-  decide-lands base z = elim (option-cases (place (starts rs) base z)) [
-    | inl none ↦ inr (λ l. let e = l.leads in absurd cc)
-    | inr x ↦ elim (bool-cases (is_payload (raw_at rs x.0))) [
-      | inl plain ↦ inl (record { number = x.0; leads = x.1; plain = plain })
-      | inr load ↦ inr (λ l.
-          let e = l.leads in let f = x.1 in
-          let same : l.number ≡ x.0 = cc in
-          let plain = subst (λ (n : ℕ). is_payload (raw_at rs n) ≡ false) same l.plain in
-          absurd cc)
-    ]
-  ]
+  decide-target : (to : ℕ) → Decided (IsTarget is to)
+  decide-target to = decide_like (λ x. record { inside = x.0; plain = x.1 }) (λ (t : IsTarget is to). (t.inside, t.plain)) (decide_both (decide_lt to (length is)) (decide-none (insn_payload (insn_at is to))))
 
-  decide-all-land : (base : ℕ) (offsets : List ℕ) → Decided (AllLand rs base offsets)
-  decide-all-land base offsets = decide-all-below (λ i. Lands rs base (int_at offsets i)) (λ i. decide-lands base (int_at offsets i)) (length offsets / 4)
+  decide-other : (k to : ℕ) → Decided (to ≢ k)
+  decide-other k to = elim (decide_eq to k) [ inl e ↦ inr (λ h. h e) | inr nay ↦ inl nay ]
 
-  pub decide-branch-lands : (k : ℕ) → Decided (BranchLands rs k)
-  decide-branch-lands k = decide-if-some (Lands rs (address rs k)) (decide-lands (address rs k)) (branch (raw_at rs k))
+  pub decide-branch-lands : (k : ℕ) → Decided (BranchLands is k)
+  decide-branch-lands k = decide-if-some (IsTarget is) decide-target (insn_branch (insn_at is k))
 
-  pub decide-branch-moves : (k : ℕ) → Decided (BranchMoves rs k)
-  decide-branch-moves k = decide-if-some (λ z. z ≢ pos 0) decide-moves (short_branch (raw_at rs k))
+  pub decide-branch-moves : (k : ℕ) → Decided (BranchMoves is k)
+  decide-branch-moves k = decide-if-some (λ to. to ≢ k) (decide-other k) (insn_short_branch (insn_at is k))
 
-  pub decide-branch : (k : ℕ) → Decided (BranchHolds rs k)
-  decide-branch k = decide_like (λ x. record { lands = x.0; moves = x.1 }) (λ (h : BranchHolds rs k). (h.lands, h.moves)) (decide_both (decide-branch-lands k) (decide-branch-moves k))
+  pub decide-branch : (k : ℕ) → Decided (BranchHolds is k)
+  decide-branch k = decide_like (λ x. record { lands = x.0; moves = x.1 }) (λ (h : BranchHolds is k). (h.lands, h.moves)) (decide_both (decide-branch-lands k) (decide-branch-moves k))
 
-  pub decide-targets : (k : ℕ) → Decided (OffsetsLand rs k)
-  decide-targets k = decide-implied (decide-switch (payload_of (raw_at rs k))) (λ _. decide_like
-      (λ all j u. all j u.there u)
-      (λ f j l u. f j u)
-      (decide-all-below (λ j. Uses rs j k → AllLand rs (address rs j) (targets (raw_at rs k))) (λ j. decide-implied (decide-uses j k) (λ _. decide-all-land (address rs j) (targets (raw_at rs k)))) (length rs)))
+  pub decide-switch-lands : (k : ℕ) → Decided (SwitchLands is k)
+  decide-switch-lands k = decide_all (IsTarget is) decide-target (insn_targets (insn_at is k))

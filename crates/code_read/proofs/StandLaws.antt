@@ -1,33 +1,20 @@
 -- What stands at a place of the section is what its bytes from there on begin with.
-use Rattle.std.proofs.Common.{◌≡◌, ℕ, ◌-◌, ◌%◌, ◌<◌, ◌≤◌, List, length, take, drop, sym, subst, ap, ◌∙◌, arith, length-take, inr}
+use Rattle.std.proofs.Common.{◌≡◌, ℕ, ◌-◌, ◌%◌, ◌<◌, ◌≤◌, List, length, take, drop, sym, subst, ◌∙◌, arith, length-take, inr}
 use Rattle.std.proofs.lemmas.List.{take-take, take-append-drop}
 use Rattle.base_bytes.specs.Grammar.{Takes}
 use Rattle.base_bytes.specs.declared.fault.Fault.{Fault}
 use Rattle.base_bytes.proofs.TakesLaws.{Begins-from_takes, Takes-unique}
 use Rattle.dex_container.specs.declared.section.Section.{Section}
 use Rattle.dex_container.specs.Where.{slice, IsInSection, IsSectionOf}
-use Rattle.code_insns.specs.Names.{Names, NameIsAt}
 use Rattle.dex_container.proofs.Standing.{stands_at, at_place}
-use Rattle.program_types.specs.Content.{Name, Code, OfText, OfDesc, OfField, OfMethod}
-use Rattle.dex_insn.specs.declared.opcode.IndexKind.TheVariants as kind
+use Rattle.program_types.specs.Content.{Name, Code}
 use Rattle.code_insns.specs.Symbols.{IsFunctional}
 use Rattle.program_types.specs.Formed.{RegistersHold}
 use Rattle.code_read.specs.Code.{SpellsBody, BodyStands, CodeStands}
 use Rattle.code_read.specs.Faults.{ItemBreaks, CodeBreaks}
 use Rattle.code_read.proofs.ItemLaws.{SpellsBody-unique, read-from_takes}
 use Rattle.code_read.proofs.FaultLaws.{item-clear}
-use Rattle.code_insns.proofs.InsnsOnce.{some-one}
-
-pub NameIsAt-functional : (names : Names) → IsFunctional (NameIsAt names)
-NameIsAt-functional names kind.String i (OfText m) (OfText n) a b p q = ap OfText (some-one _ m n p q)
-NameIsAt-functional names kind.Type i (OfDesc m) (OfDesc n) a b p q = ap OfDesc (some-one _ m n p q)
-NameIsAt-functional names kind.Field i (OfField m) (OfField n) a b p q = ap OfField (some-one _ m n p q)
-NameIsAt-functional names kind.Method i (OfMethod m) (OfMethod n) a b p q = ap OfMethod (some-one _ m n p q)
-NameIsAt-functional names kind.String i (OfText m) _ a b p q = absurd b
-NameIsAt-functional names kind.Type i (OfDesc m) _ a b p q = absurd b
-NameIsAt-functional names kind.Field i (OfField m) _ a b p q = absurd b
-NameIsAt-functional names kind.Method i (OfMethod m) _ a b p q = absurd b
-NameIsAt-functional names _ i _ _ a b p q = absurd a
+pub use Rattle.code_insns.proofs.InsnsOnce.{NameIsAt-functional}
 
 -- a code that stands is one whose registers hold
 pub code_body : (N : ℕ → Name → Type 0) (b : List ℕ) (off : ℕ) (c : Code) → CodeStands N b off c → BodyStands N b off c
@@ -67,10 +54,10 @@ module _ (N : ℕ → Name → Type 0) (b rest : List ℕ) (s : Section) (off : 
       let u = at_takes d a in
       (Takes-unique (SpellsBody N) rest d c u.0 t.0 (SpellsBody-unique N one) u.1 t.1).0
 
-  pub broken_none : (fault : Fault) → ItemBreaks N off rest fault → (c : Code) → BodyStands N b off c → ⊥
-  broken_none fault u c a =
+  pub broken_none : IsFunctional N → (fault : Fault) → ItemBreaks N off rest fault → (c : Code) → BodyStands N b off c → ⊥
+  broken_none one fault u c a =
       let t = at_takes c a in
-      item-clear N off rest t.0 c fault (read-from_takes N rest t.0 c t.1) u
+      item-clear N one off rest t.0 c fault (read-from_takes N rest t.0 c t.1) u
 
   pub broken : (fault : Fault) → s.begin ≤ off → off < s.end → off % 4 ≡ 0 → ItemBreaks N off rest fault → CodeBreaks N b off fault
   broken fault low high even u =

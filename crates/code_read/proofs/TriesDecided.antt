@@ -4,7 +4,8 @@ use Rattle.base_bytes.specs.Deciding.{Decided}
 use Rattle.base_bytes.specs.declared.fault.Fault.{Fault}
 use Rattle.base_bytes.proofs.Deciding.{decide_like, decide_both, decide_lt, decide_le}
 use Rattle.program_types.specs.Content.{Name, Try}
-use Rattle.code_insns.specs.Places.{AllHold, position, count_below}
+use Rattle.code_insns.specs.Places.{position, count_below}
+use Rattle.code_insns.specs.First.{AllHold}
 use Rattle.code_insns.specs.Symbols.{IsFunctional}
 use Rattle.code_read.specs.Item.{try_start, try_count, try_handler}
 use Rattle.code_read.specs.Handlers.{Handler, handler_at}

@@ -5,7 +5,8 @@ use Rattle.base_bytes.specs.declared.fault.Fault.{Fault}
 use Rattle.base_bytes.specs.Grammar.{NoneBegins}
 use Rattle.program_types.specs.Content.{Name, Try}
 use Rattle.code_insns.specs.Symbols.{IsFunctional}
-use Rattle.code_insns.specs.Places.{position, AllHold}
+use Rattle.code_insns.specs.Places.{position}
+use Rattle.code_insns.specs.First.{AllHold}
 use Rattle.code_read.specs.Item.{try_handler}
 use Rattle.code_read.specs.Handlers.{Handler, SpellsList, handler_at}
 use Rattle.code_read.specs.Tries.{TryHolds, handler_of}
@@ -18,7 +19,7 @@ use Rattle.std.proofs.lemmas.Bool.{cases_lt}
 use Rattle.std.proofs.lemmas.List.{map-append}
 use Rattle.program_types.specs.View.{try}
 use Rattle.program_types.specs.declared.code.Try.{Try as Held}
-use Rattle.code_insns.proofs.ResolveLaws.{at-old, at-new}
+use Rattle.code_insns.proofs.Lists.{at-old, at-new}
 use Rattle.code_read.specs.HandlerViews.{handler}
 use Rattle.code_read.specs.declared.handlers.Caught.{Caught}
 

@@ -7,7 +7,7 @@ use Rattle.program_types.specs.Formed.{RegistersHold}
 use Rattle.dex_container.specs.Where.{At}
 use Rattle.code_insns.specs.Walk.{starts}
 use Rattle.code_read.specs.Item.{registers_of, ins_of, outs_of, tries_of, insns_size, insns_bytes, items_of, list_begin, HasFixedParts}
-use Rattle.code_insns.specs.Insns.{SpellsInsns}
+use Rattle.code_insns.specs.Linked.{SpellsInsns}
 use Rattle.code_read.specs.Tries.{SpellsTries}
 
 -- The bytes are the code_item of this code, whichever registers it names, where N says which index stands for which name.

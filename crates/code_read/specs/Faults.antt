@@ -3,11 +3,12 @@
 use Rattle.std.specs.Prelude.{ℕ, ◌≡◌, ◌+◌, ◌*◌, ◌%◌, ◌<◌, ◌≤◌, ◌⊎◌, List, ◌++◌, drop, Some}
 use Rattle.base_bytes.specs.declared.fault.Fault.{Fault}
 use Rattle.dex_insn.specs.Raw.{Raw}
-use Rattle.program_types.specs.Content.{Name, Code}
+use Rattle.program_types.specs.Content.{Name, Insn, Code}
 use Rattle.dex_container.specs.Where.{IsInSection, IsSectionRest}
-use Rattle.code_insns.specs.Places.{IsFirstBroken, AllHold}
-use Rattle.code_insns.specs.Walk.{Walks, starts}
-use Rattle.code_insns.specs.InsnFaults.{InsnRulesHold, InsnsBreak}
+use Rattle.code_insns.specs.First.{IsFirstBroken, AllHold}
+use Rattle.code_insns.specs.Walk.{starts}
+use Rattle.code_insns.specs.InsnFaults.{InsnsBreak}
+use Rattle.code_insns.specs.Linked.{SpellsInsns}
 use Rattle.code_insns.specs.Registers.{IsPast}
 use Rattle.code_read.specs.Code.{BodyStands}
 use Rattle.code_read.specs.Item.{insns_size, tries_of, insns_bytes, items_of, tries_begin, list_begin, try_handler, HasFixedParts}
@@ -45,7 +46,7 @@ ItemBreaks N off bytes fault =
     ((¬ HasFixedParts bytes) × (fault ≡ record { code = 60; place = off }))
     ⊎ (HasFixedParts bytes × (insns_size bytes ≡ 0) × (fault ≡ record { code = 61; place = off }))
     ⊎ (HasFixedParts bytes × (0 < insns_size bytes) × InsnsBreak N (insns_bytes bytes) (off + 16) fault)
-    ⊎ (HasFixedParts bytes × (0 < insns_size bytes) × (raws : List Raw) × Walks (insns_bytes bytes) raws × InsnRulesHold N raws
+    ⊎ (HasFixedParts bytes × (0 < insns_size bytes) × (raws : List Raw) × (is : List Insn) × SpellsInsns N (insns_bytes bytes) raws is
     × TriesBreak N (starts raws) (insns_size bytes) (tries_of bytes) (items_of bytes) (drop (list_begin bytes) bytes) (off + tries_begin bytes) fault)
 
 -- ---- the file

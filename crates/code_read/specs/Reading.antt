@@ -5,7 +5,7 @@ use Rattle.program_types.specs.Content.{Name, Try, Code}
 use Rattle.code_insns.specs.Walk.{starts}
 use Rattle.code_insns.specs.Places.{position, count_below}
 use Rattle.code_read.specs.Item.{try_start, try_count, try_handler, registers_of, ins_of, outs_of, tries_of, insns_size, insns_bytes, items_of, tries_begin, list_begin, HasFixedParts}
-use Rattle.code_insns.specs.Insns.{SpellsInsns}
+use Rattle.code_insns.specs.Linked.{SpellsInsns}
 use Rattle.code_read.specs.Tries.{SpellsTries, handler_of}
 use Rattle.program_types.specs.Formed.{try_at}
 use Rattle.code_read.specs.Handlers.{Handler, SpellsList, SpellsHandler}

@@ -13,10 +13,9 @@ use Rattle.tables_numbers.specs.Marked.{Columns}
 use Rattle.tables_numbers.specs.Numbers.{Carries}
 use Rattle.code_insns.specs.Places.{Rises}
 use Rattle.code_insns.specs.Walk.{starts}
-use Rattle.code_insns.proofs.SaidRegisters.{addresses-same}
+use Rattle.code_insns.proofs.LinkLaws.{addresses-same}
 use Rattle.code_read.specs.Reading.{ReadTries}
 use Rattle.code_read.specs.declared.item.Item.{Item}
-use Rattle.code_read.proofs.CodesFormed.{standing-formed}
 use Rattle.code_put.specs.Packs.{PutInsns, PacksHandlersOf, PacksCode, joined, padding, items_bytes}
 use Rattle.code_put.proofs.PackLaws.{packed}
 use Rattle.code_renumber.specs.Renumbered.{renumbered, CanBeRenumbered}
@@ -50,7 +49,7 @@ module _ (b : List ℕ) (off : ℕ) (numbers : Columns) (s : Five) (i : Item) (c
   can_renumber_all = can-all (NameStands b) (NameRanks s) numbers i.units.now y.raws c.insns y.insns units-are carried_insns (λ table k l. x.fits table k l)
 
   pub addresses_are : starts y.raws ≡ addresses_of c.insns
-  addresses_are = addresses-same (NameStands b) i.units.now y.raws c.insns y.insns
+  addresses_are = addresses-same (NameStands b) y.raws c.insns y.insns.linked
 
   pub carried_tries : AreCarriedTries b numbers s (addresses_of c.insns) i.size i.tries i.items.now i.list.now c.tries
   carried_tries = record {
@@ -68,7 +67,7 @@ module _ (b : List ℕ) (off : ℕ) (numbers : Columns) (s : Five) (i : Item) (c
   pub put_insns_of : (old new : List ℕ) → new ≡ old ++ joined (map (renumbered numbers) y.raws) → AllByRecursion IsRaw (map (renumbered numbers) y.raws) → PutInsns (NameRanks s) c.insns (addresses_of c.insns) old new
   put_insns_of old new e fit = record {
     raws = map (renumbered numbers) y.raws;
-    lowered = lowered (NameStands b) (NameRanks s) numbers i.units.now y.raws c.insns y.insns units-are carried_insns (standing-formed b are framed off c x.stands).payloads fit;
+    lowered = lowered (NameStands b) (NameRanks s) numbers i.units.now y.raws c.insns y.insns units-are carried_insns fit;
     is_new = e;
   }
 

@@ -1,6 +1,5 @@
 -- One instruction: what it names, and its units.
 use Rattle.std.proofs.Common.{◌≡◌, ℕ, ℤ, List, [], ◌∷◌, Option, Some, None, refl, sym, ap, subst, ◌∙◌, false}
-use Rattle.std.specs.Prelude.{IfSome}
 use Rattle.dex_insn.specs.Raw as raw
 use Rattle.dex_insn.specs.Raw.{Raw}
 use Rattle.dex_insn.specs.Opcodes.{index_kind_of}
@@ -13,10 +12,8 @@ use Rattle.program_types.specs.Operands.{IsOfIndexKind}
 use Rattle.program_types.specs.Mentions.{names_of_insn}
 use Rattle.tables_rows.specs.Stands.{NameStands}
 use Rattle.tables_numbers.specs.Marked.{kind_of, IsRowOf}
-use Rattle.code_insns.specs.Symbols.{Says, IndexStandsFor, resolved, name_in, has_index, places, ints}
-use Rattle.code_insns.proofs.SaidRegisters.{mapped, said}
+use Rattle.code_insns.specs.Symbols.{Says, IndexStandsFor, linked, name_in, has_index}
 use Rattle.code_renumber.specs.Indices.{IsIndex}
-use Rattle.base_bytes.proofs.ListFacts.{some_inj}
 
 -- ---- its name
 
@@ -44,15 +41,15 @@ pub record Named (N : ℕ → Name → Type 0) (op index : ℕ) (i : Insn) : Typ
   pub names : names_of_insn i ≡ which ∷ []
   pub stands : IndexStandsFor N op index which
 
-moved : (N : ℕ → Name → Type 0) (o p x y : ℕ) (i made_of : Insn) (which : Name) → Some made_of ≡ Some i → names_of_insn made_of ≡ which ∷ [] → o ≡ p → x ≡ y → IndexStandsFor N o x which → Named N p y i
+moved : (N : ℕ → Name → Type 0) (o p x y : ℕ) (i made_of : Insn) (which : Name) → made_of ≡ i → names_of_insn made_of ≡ which ∷ [] → o ≡ p → x ≡ y → IndexStandsFor N o x which → Named N p y i
 moved N o p x y i made_of which e names a b n = record {
   which = which;
-  names = ap names_of_insn (sym (some_inj made_of i e)) ∙ names;
+  names = ap names_of_insn (sym e) ∙ names;
   stands = subst (λ (q : ℕ). IndexStandsFor N p q which) b (subst (λ (q : ℕ). IndexStandsFor N q x which) a n);
 }
 
-pub named_of : (N : ℕ → Name → Type 0) (T : ℤ → Option ℕ) (r : Raw) (i : Insn) (op index : ℕ) → IsIndex r op index → Says N T r i → Named N op index i
-unfolding resolved
+pub named_of : (N : ℕ → Name → Type 0) (T : ℤ → ℕ) (r : Raw) (i : Insn) (op index : ℕ) → IsIndex r op index → Says N T r i → Named N op index i
+unfolding linked
 named_of N T (raw.I21c o a x) i op index h s = moved N o op x index i (made.I21c o a (name_in i)) (name_in i) s.symbol refl h.0 h.1 s.named
 named_of N T (raw.I22c o a b x) i op index h s = moved N o op x index i (made.I22c o a b (name_in i)) (name_in i) s.symbol refl h.0 h.1 s.named
 named_of N T (raw.I31c o a x) i op index h s = moved N o op x index i (made.I31c o a (name_in i)) (name_in i) s.symbol refl h.0 h.1 s.named
@@ -60,19 +57,16 @@ named_of N T (raw.I35c o n regs x) i op index h s = moved N o op x index i (made
 named_of N T (raw.I3rc o n first x) i op index h s = moved N o op x index i (made.I3rc o n first (name_in i)) (name_in i) s.symbol refl h.0 h.1 s.named
 named_of N T _ i op index h s = absurd h
 
-names_none : (T : ℤ → Option ℕ) (w : Name) (r : Raw) → has_index r ≡ false → IfSome (resolved T w r) (λ i. names_of_insn i ≡ [])
-unfolding resolved has_index
-names_none T w (raw.I10t op z) h = mapped (λ i. names_of_insn i ≡ []) (λ to. made.I10t op to) (T z) (λ to e. refl)
-names_none T w (raw.I20t op z) h = mapped (λ i. names_of_insn i ≡ []) (λ to. made.I20t op to) (T z) (λ to e. refl)
-names_none T w (raw.I21t op a z) h = mapped (λ i. names_of_insn i ≡ []) (λ to. made.I21t op a to) (T z) (λ to e. refl)
-names_none T w (raw.I22t op a b z) h = mapped (λ i. names_of_insn i ≡ []) (λ to. made.I22t op a b to) (T z) (λ to e. refl)
-names_none T w (raw.I30t op z) h = mapped (λ i. names_of_insn i ≡ []) (λ to. made.I30t op to) (T z) (λ to e. refl)
-names_none T w (raw.I31t op a z) h = mapped (λ i. names_of_insn i ≡ []) (λ to. made.I31t op a to) (T z) (λ to e. refl)
-names_none T w (raw.Packed first offsets) h = mapped (λ i. names_of_insn i ≡ []) (λ to. made.Packed first to) (places T (ints offsets)) (λ to e. refl)
-names_none T w (raw.Sparse keys offsets) h = mapped (λ i. names_of_insn i ≡ []) (λ to. made.Sparse (ints keys) to) (places T (ints offsets)) (λ to e. refl)
-names_none T w _ h = cc
+names_none : (T : ℤ → ℕ) (w : Name) (r : Raw) → has_index r ≡ false → names_of_insn (linked T w r) ≡ []
+unfolding linked has_index
+names_none T w (raw.I21c op a index) h = absurd cc
+names_none T w (raw.I22c op a b index) h = absurd cc
+names_none T w (raw.I31c op a index) h = absurd cc
+names_none T w (raw.I35c op n regs index) h = absurd cc
+names_none T w (raw.I3rc op n first index) h = absurd cc
+names_none T w _ h = refl
 
-pub unnamed : (N : ℕ → Name → Type 0) (T : ℤ → Option ℕ) (r : Raw) (i : Insn) → has_index r ≡ false → Says N T r i → names_of_insn i ≡ []
-unnamed N T r i h s = said (λ i. names_of_insn i ≡ []) _ i (names_none T (name_in i) r h) s.symbol
+pub unnamed : (N : ℕ → Name → Type 0) (T : ℤ → ℕ) (r : Raw) (i : Insn) → has_index r ≡ false → Says N T r i → names_of_insn i ≡ []
+unnamed N T r i h s = ap names_of_insn (sym s.symbol) ∙ names_none T (name_in i) r h
 
 -- ---- its units

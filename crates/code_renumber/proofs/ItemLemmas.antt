@@ -2,7 +2,7 @@
 use Rattle.std.proofs.Common.{ℕ, List, ◌∙◌, sym, subst}
 use Rattle.program_types.specs.Content.{Name, Code}
 use Rattle.code_insns.specs.Walk.{starts}
-use Rattle.code_insns.specs.Insns.{SpellsInsns}
+use Rattle.code_insns.specs.Linked.{SpellsInsns}
 use Rattle.code_read.specs.Item.{insns_size, tries_of}
 use Rattle.code_read.specs.Reading.{IsCodeItem, ReadCode}
 use Rattle.code_read.specs.Tries.{SpellsTries}

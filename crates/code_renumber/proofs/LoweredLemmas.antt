@@ -1,5 +1,5 @@
 -- The instructions of a code, renumbered, are those that are written of it.
-use Rattle.std.proofs.Common.{◌≡◌, ℕ, ◌/◌, ◌<◌, List, length, map, refl, sym, ap, subst, ◌∙◌, arith, inl, inr}
+use Rattle.std.proofs.Common.{◌≡◌, ℕ, ◌/◌, ◌<◌, List, length, map, sym, ap, subst, ◌∙◌, arith}
 use Rattle.std.specs.List.{AllByRecursion, flat_map}
 use Rattle.std.proofs.lemmas.List.{length-map, get_or-map}
 use Rattle.base_bytes.specs.Fields.{AreBytes}
@@ -12,21 +12,18 @@ use Rattle.dex_insn.proofs.Fits.{stands_fits}
 use Rattle.dex_insn.proofs.Laws.{even-of}
 use Rattle.program_types.specs.Content.{Name, Insn}
 use Rattle.program_types.specs.Content as made
-use Rattle.program_types.specs.Formed.{IsSwitch, insn_at, PayloadHolds}
+use Rattle.program_types.specs.Formed.{insn_at, insn_payload}
 use Rattle.program_types.specs.Mentions.{names_of_insn}
 use Rattle.program_types.specs.Sizes.{addresses_of}
 use Rattle.tables_numbers.specs.Marked.{Columns}
 use Rattle.tables_numbers.specs.Numbers.{Carries}
-use Rattle.code_insns.specs.Places.{place}
 use Rattle.code_insns.specs.Walk.{starts, raw_at, address}
-use Rattle.code_insns.specs.Symbols.{Says}
-use Rattle.code_insns.specs.Insns.{IsBase, SpellsInsns}
+use Rattle.code_insns.specs.Linked.{lead, SpellsInsns}
 use Rattle.code_insns.proofs.Runs.{run-at}
-use Rattle.code_insns.proofs.SaidRegisters.{addresses-same}
+use Rattle.code_insns.proofs.LinkLaws.{addresses-same, kind-linked}
 use Rattle.code_put.specs.Fits.{ShortFits}
-use Rattle.code_put.specs.Packs.{IsOrigin, IsLowered, AreLowered}
+use Rattle.code_put.specs.Packs.{IsLowered, AreLowered}
 use Rattle.code_put.proofs.ListLaws.{all-at, all-from}
-use Rattle.code_read.proofs.CodesFormed.{kind-at, uses-of}
 use Rattle.code_renumber.specs.Renumbered.{renumbered, CanBeRenumbered}
 use Rattle.code_renumber.proofs.ListLemmas.{all-part}
 use Rattle.code_renumber.proofs.UnitLemmas.{units-at}
@@ -39,57 +36,44 @@ module _ (N M : ℕ → Name → Type 0) (numbers : Columns) (us : List ℕ) (rs
   stands-at k l = run-at us 0 rs (length us / 2) k (raw.I10x 0) s.walk.run l
 
   carried-at : (k : ℕ) → k < length rs → Carried N M numbers (insn_at is k)
-  carried-at k l = let n = s.count in all-part (Carries N M numbers) names_of_insn is k (made.I10x 0) carried (omega (arith, l, n))
+  carried-at k l = let n = s.linked.count in all-part (Carries N M numbers) names_of_insn is k (made.I10x 0) carried (omega (arith, l, n))
 
   -- each of them can be renumbered
   pub can-all : ((table : IndexKind) (k : ℕ) → k < length is → ShortFits M table (insn_at is k)) → AllByRecursion (CanBeRenumbered numbers) rs
   unfolding raw_at
   can-all fits = all-from (CanBeRenumbered numbers) rs (raw.I10x 0)
       (λ k l.
-      let x = s.each k l in
-      let n = s.count in
+      let x = s.linked.each k l in
+      let n = s.linked.count in
       record {
         fits = stands_fits us (address rs k) (raw_at rs k) are (stands-at k l);
-        numbered = can_renumber N M numbers (place (starts rs) x.base) (raw_at rs k) (insn_at is k) x.says (carried-at k l) (λ table. fits table k (omega (arith, l, n)));
+        numbered = can_renumber N M numbers (lead (starts rs) (address rs x.origin)) (raw_at rs k) (insn_at is k) x.says (carried-at k l) (λ table. fits table k (omega (arith, l, n)));
       })
 
   renumbered-at : (k : ℕ) → k < length rs → raw_at (map (renumbered numbers) rs) k ≡ renumbered numbers (raw_at rs k)
   unfolding raw_at
   renumbered-at k l = get_or-map (renumbered numbers) rs k (raw.I10x 0) (raw.I10x 0) l
 
-  module _ (payloads : (k : ℕ) → k < length is → PayloadHolds is k) (fit : AllByRecursion IsRaw (map (renumbered numbers) rs)) where
-    -- from where the offsets count
-    origin : (k base : ℕ) → k < length rs → IsBase rs k base → (j : ℕ) × IsOrigin is k j × (base ≡ address rs j)
-    origin k base l (inl b) =
-        let n = s.count in
-        let switch = subst IsSwitch (kind-at N us rs is s k l) b.0 in
-        let p = (payloads k (omega (arith, l, n))).used switch in
-        let once = (s.uses k l).used b.0 in
-        let same : b.1 ≡ p.0 = once.only b.1 b.2 ∙ sym (once.only p.0 (uses-of N us rs is s p.0 k p.1)) in
-        (p.0, inl (switch, p.1), b.3 ∙ ap (address rs) same)
-    origin k base l (inr b) = (k, inr (λ w. b.0 (subst IsSwitch (sym (kind-at N us rs is s k l)) w), refl), b.1)
-
+  module _ (fit : AllByRecursion IsRaw (map (renumbered numbers) rs)) where
     lowered-at : (k : ℕ) → k < length rs → IsLowered M is (starts rs) k (renumbered numbers (raw_at rs k))
     unfolding raw_at
     lowered-at k l =
-        let x = s.each k l in
-        let o = origin k x.base l x.counts in
+        let x = s.linked.each k l in
         record {
-          origin = o.0;
-          counts = o.1;
+          origin = x.origin;
+          counts = x.counts;
           lowers = record {
-            says = subst (λ (a : ℕ). Says M (place (starts rs) a) (renumbered numbers (raw_at rs k)) (insn_at is k)) o.2
-                (renumbered_says N M numbers (place (starts rs) x.base) (raw_at rs k) (insn_at is k) x.says (carried-at k l));
+            says = renumbered_says N M numbers (lead (starts rs) (address rs x.origin)) (raw_at rs k) (insn_at is k) x.says (carried-at k l);
             fits = subst IsRaw (renumbered-at k l) (all-at IsRaw (map (renumbered numbers) rs) k (raw.I10x 0) fit (let m = length-map rs (renumbered numbers) in omega (arith, l, m)));
             size = renumbered_units numbers (raw_at rs k) ∙ units-at N us rs is s k l;
-            kind = renumbered_payload numbers (raw_at rs k) ∙ kind-at N us rs is s k l;
+            kind = renumbered_payload numbers (raw_at rs k) ∙ sym (kind-linked _ _ (raw_at rs k)) ∙ ap insn_payload x.says.symbol;
           };
           even = λ p. even-of us (address rs k) (raw_at rs k) (stands-at k l) (sym (renumbered_kind numbers (raw_at rs k)) ∙ p);
         }
 
     pub lowered : AreLowered M is (addresses_of is) (map (renumbered numbers) rs)
-    lowered = subst (λ (ss : List ℕ). AreLowered M is ss (map (renumbered numbers) rs)) (addresses-same N us rs is s) (record {
-      count = let n = s.count in let m = length-map rs (renumbered numbers) in omega (arith, n, m);
+    lowered = subst (λ (ss : List ℕ). AreLowered M is ss (map (renumbered numbers) rs)) (addresses-same N rs is s.linked) (record {
+      count = let n = s.linked.count in let m = length-map rs (renumbered numbers) in omega (arith, n, m);
       each = λ k l.
           let m = length-map rs (renumbered numbers) in
           let inside : k < length rs = omega (arith, l, m) in

@@ -14,12 +14,11 @@ use Rattle.program_types.specs.Operands.{IsOfIndexKind}
 use Rattle.program_types.specs.Mentions.{names_of_insn}
 use Rattle.tables_numbers.specs.Marked.{Columns}
 use Rattle.tables_numbers.specs.Numbers.{Carries, column_of}
-use Rattle.code_insns.specs.Symbols.{Says, IndexStandsFor, resolved, name_in}
-use Rattle.code_insns.specs.Payloads.{payload_of}
+use Rattle.code_insns.specs.Symbols.{Says, IndexStandsFor, linked, name_in}
+use Rattle.code_insns.specs.Linked.{payload_of}
 use Rattle.code_put.specs.Fits.{short_name, ShortFits}
 use Rattle.code_renumber.specs.Renumbered.{number_in, renumbered, HasNumber, HasShortNumber, IsNumbered}
 use Rattle.code_renumber.proofs.InsnLemmas.{kind_is, of_kind}
-use Rattle.base_bytes.proofs.ListFacts.{some_inj}
 
 -- the row has a number, by which it stands for the name
 record Renamed (M : ℕ → Name → Type 0) (numbers : Columns) (op i : ℕ) (which : Name) : Type 0 where
@@ -46,14 +45,14 @@ module _ (N M : ℕ → Name → Type 0) (numbers : Columns) where
   abbrev pub Carried : Insn → Type 0
   Carried i = AllByRecursion (Carries N M numbers) (names_of_insn i)
 
-  of_name : (op x : ℕ) (i made_of : Insn) (which : Name) → Some made_of ≡ Some i → names_of_insn made_of ≡ which ∷ [] → IndexStandsFor N op x which → Carried i → Renamed M numbers op x which
+  of_name : (op x : ℕ) (i made_of : Insn) (which : Name) → made_of ≡ i → names_of_insn made_of ≡ which ∷ [] → IndexStandsFor N op x which → Carried i → Renamed M numbers op x which
   of_name op x i made_of which e names n all =
       renamed op x which n
-      (subst (λ (ns : List Name). AllByRecursion (Carries N M numbers) ns) names (subst (λ (y : Insn). AllByRecursion (Carries N M numbers) (names_of_insn y)) (sym (some_inj made_of i e)) all)).0
+      (subst (λ (ns : List Name). AllByRecursion (Carries N M numbers) ns) names (subst (λ (y : Insn). AllByRecursion (Carries N M numbers) (names_of_insn y)) (sym e) all)).0
 
   -- what is renumbered says the same by the other naming
-  pub renumbered_says : (T : ℤ → Option ℕ) (r : Raw) (i : Insn) → Says N T r i → Carried i → Says M T (renumbered numbers r) i
-  unfolding resolved
+  pub renumbered_says : (T : ℤ → ℕ) (r : Raw) (i : Insn) → Says N T r i → Carried i → Says M T (renumbered numbers r) i
+  unfolding linked
   renumbered_says T (raw.I21c op a x) i s c = record { symbol = s.symbol; named = (of_name op x i (made.I21c op a (name_in i)) (name_in i) s.symbol refl s.named c).stands }
   renumbered_says T (raw.I22c op a b x) i s c = record { symbol = s.symbol; named = (of_name op x i (made.I22c op a b (name_in i)) (name_in i) s.symbol refl s.named c).stands }
   renumbered_says T (raw.I31c op a x) i s c = record { symbol = s.symbol; named = (of_name op x i (made.I31c op a (name_in i)) (name_in i) s.symbol refl s.named c).stands }
@@ -62,15 +61,15 @@ module _ (N M : ℕ → Name → Type 0) (numbers : Columns) where
   renumbered_says T _ i s c = record { symbol = s.symbol; named = tt }
 
   -- a name's number fits where all of its indices do
-  short_of : (op x : ℕ) (i made_of : Insn) (which : Name) → Some made_of ≡ Some i → short_name made_of ≡ Some which → Renamed M numbers op x which → ((table : IndexKind) → ShortFits M table i) → HasShortNumber numbers op x
+  short_of : (op x : ℕ) (i made_of : Insn) (which : Name) → made_of ≡ i → short_name made_of ≡ Some which → Renamed M numbers op x which → ((table : IndexKind) → ShortFits M table i) → HasShortNumber numbers op x
   short_of op x i made_of which e short d fits =
-      let some : short_name i ≡ Some which = ap short_name (sym (some_inj made_of i e)) ∙ short in
+      let some : short_name i ≡ Some which = ap short_name (sym e) ∙ short in
       let h = fits d.has.table in
       let f = subst (λ (o : Option Name). IfSome o (λ w. IsOfKind d.has.table w → (index : ℕ) → M index w → index < 65536)) some h in
       record { has = d.has; short = f (of_kind (index_kind_of op) d.has.table which d.has.asked d.stands.kind) (number_in numbers (index_kind_of op) x) d.stands.stands }
 
-  pub can_renumber : (T : ℤ → Option ℕ) (r : Raw) (i : Insn) → Says N T r i → Carried i → ((table : IndexKind) → ShortFits M table i) → IsNumbered numbers r
-  unfolding resolved
+  pub can_renumber : (T : ℤ → ℕ) (r : Raw) (i : Insn) → Says N T r i → Carried i → ((table : IndexKind) → ShortFits M table i) → IsNumbered numbers r
+  unfolding linked
   can_renumber T (raw.I21c op a x) i s c f = short_of op x i (made.I21c op a (name_in i)) (name_in i) s.symbol refl (of_name op x i (made.I21c op a (name_in i)) (name_in i) s.symbol refl s.named c) f
   can_renumber T (raw.I22c op a b x) i s c f = short_of op x i (made.I22c op a b (name_in i)) (name_in i) s.symbol refl (of_name op x i (made.I22c op a b (name_in i)) (name_in i) s.symbol refl s.named c) f
   can_renumber T (raw.I31c op a x) i s c f = (of_name op x i (made.I31c op a (name_in i)) (name_in i) s.symbol refl s.named c).has

@@ -1,18 +1,16 @@
 -- The units of a code's instructions.
-use Rattle.std.proofs.Common.{◌≡◌, ℕ, zero, suc, ◌+◌, ◌/◌, ◌<◌, List, [], ◌∷◌, length, map, refl, ap, arith}
+use Rattle.std.proofs.Common.{◌≡◌, ℕ, zero, suc, ◌+◌, ◌/◌, ◌<◌, List, [], ◌∷◌, length, map, refl, ap, ◌∙◌, arith}
 use Rattle.dex_insn.specs.Raw.{Raw, units}
 use Rattle.program_types.specs.Content.{Name, Insn}
 use Rattle.program_types.specs.Formed.{insn_at}
 use Rattle.program_types.specs.Sizes.{insn_units, length_of, total}
-use Rattle.code_insns.specs.Places.{place}
-use Rattle.code_insns.specs.Walk.{Run, starts, raw_at}
-use Rattle.code_insns.specs.Symbols.{name_in}
-use Rattle.code_insns.specs.Insns.{SpellsInsns}
-use Rattle.code_insns.proofs.SaidRegisters.{said, units-said}
+use Rattle.code_insns.specs.Walk.{Run, raw_at}
+use Rattle.code_insns.specs.Linked.{SpellsInsns}
+use Rattle.code_insns.proofs.LinkLaws.{units-linked}
 
 module _ (N : ℕ → Name → Type 0) (us : List ℕ) (rs : List Raw) (is : List Insn) (s : SpellsInsns N us rs is) where
   pub units-at : (k : ℕ) → k < length rs → units (raw_at rs k) ≡ insn_units (insn_at is k)
-  units-at k l = let x = s.each k l in said (λ i. units (raw_at rs k) ≡ insn_units i) _ (insn_at is k) (units-said (place (starts rs) x.base) (name_in (insn_at is k)) (raw_at rs k)) x.says.symbol
+  units-at k l = units-linked _ _ (raw_at rs k) ∙ ap insn_units (s.linked.each k l).says.symbol
 
   same-units : (qs : List Raw) (js : List Insn) → length js ≡ length qs → ((k : ℕ) → k < length qs → units (raw_at qs k) ≡ insn_units (insn_at js k)) → map units qs ≡ map insn_units js
   unfolding raw_at
@@ -31,6 +29,6 @@ module _ (N : ℕ → Name → Type 0) (us : List ℕ) (rs : List Raw) (is : Lis
 
   pub length-is : length_of is ≡ length us / 2
   length-is =
-      let same = ap total (same-units rs is s.count units-at) in
+      let same = ap total (same-units rs is s.linked.count units-at) in
       let run = run-total 0 rs (length us / 2) s.walk.run in
       omega (arith, same, run)

@@ -12,10 +12,10 @@ use Rattle.program_types.specs.Mentions.{names_of_insn}
 use Rattle.tables_rows.specs.Stands.{NameStands}
 use Rattle.tables_numbers.specs.Marked.{Marked, AddsNames}
 use Rattle.tables_numbers.proofs.MarkLemmas.{adds_none, adds_more}
-use Rattle.code_insns.specs.Places.{place}
+use Rattle.code_insns.specs.Linked.{lead}
 use Rattle.code_insns.specs.Symbols.{Says}
-use Rattle.code_insns.specs.Walk.{Run, Walks, starts, raw_at}
-use Rattle.code_insns.specs.Insns.{SpellsInsns}
+use Rattle.code_insns.specs.Walk.{address, Run, Walks, starts, raw_at}
+use Rattle.code_insns.specs.Linked.{SpellsInsns}
 use Rattle.code_insns.proofs.Runs.{run-more, run-once, run-reaches, run-le}
 
 -- what stands after some of the instructions is the next of them
@@ -58,12 +58,12 @@ pub record SaysNext (b : List ℕ) (k : ℕ) (r : Raw) (is : List Insn) : Type 0
 pub says_next : (b us : List ℕ) (before rs : List Raw) (is : List Insn) (at : ℕ) (r : Raw) → Run us 0 before at → SpellsInsns (NameStands b) us rs is → at < length us / 2 → InsnStands us at r → SaysNext b (length before) r is
 says_next b us before rs is at r p s l st =
     let m = run-meets us 0 before rs at (length us / 2) r p s.walk.run l st in
-    let x = s.each (length before) m.inside in
-    let count = s.count in
+    let x = s.linked.each (length before) m.inside in
+    let count = s.linked.count in
     let inside = m.inside in
     record {
-      to = place (starts rs) x.base;
-      says = subst (λ (q : Raw). Says (NameStands b) (place (starts rs) x.base) q (insn_at is (length before))) m.same x.says;
+      to = lead (starts rs) (address rs x.origin);
+      says = subst (λ (q : Raw). Says (NameStands b) (lead (starts rs) (address rs x.origin)) q (insn_at is (length before))) m.same x.says;
       inside = omega (arith, inside, count);
     }
 
@@ -89,6 +89,6 @@ marked_more b old mid new us at r is m lt s f =
 pub marked_end : (b : List ℕ) (old new : Marked) (us : List ℕ) (at : ℕ) (rs : List Raw) (is : List Insn) → at ≡ length us / 2 → SpellsInsns (NameStands b) us rs is → MarkedTo b old new us at is → AddsNames b old new (flat_map names_of_insn is)
 marked_end b old new us at rs is e s m =
     let same = run-once us 0 m.before rs (length us / 2) (subst (λ (n : ℕ). Run us 0 m.before n) e m.run) s.walk.run in
-    let count = s.count in
+    let count = s.linked.count in
     let n : length m.before ≡ length rs = ap length same in
     subst (λ (l : List Insn). AddsNames b old new (flat_map names_of_insn l)) (take_all (length m.before) is (omega (arith, n, count))) m.marked

@@ -4,7 +4,7 @@ use Rattle.dex_insn.specs.Raw.{Raw}
 use Rattle.program_types.specs.Content.{Name, OfDesc, Catch, Code}
 use Rattle.code_insns.specs.Places.{position}
 use Rattle.code_insns.specs.Walk.{starts}
-use Rattle.code_insns.specs.Insns.{SpellsInsns}
+use Rattle.code_insns.specs.Linked.{SpellsInsns}
 use Rattle.code_read.specs.Reading.{ReadTries}
 use Rattle.code_read.specs.declared.item.Item.{Item}
 

@@ -10,7 +10,7 @@ ghost use Rattle.tables_rows.specs.Stands.{NameStands};
 ghost use Rattle.tables_numbers.specs.Marked.{HasMarks, AddsNames};
 ghost use Rattle.code_insns.specs.Symbols.{Says};
 ghost use Rattle.code_insns.specs.Walk.{Walks, IsTable};
-ghost use Rattle.code_insns.specs.Insns.{SpellsInsns};
+ghost use Rattle.code_insns.specs.Linked.{SpellsInsns};
 ghost use Rattle.code_put.specs.Packs.{joined};
 ghost use Rattle.code_renumber.specs.Renumbered.{renumbered, CanBeRenumbered};
 ghost use Rattle.code_renumber.specs.Shapes.{IsOfShape};
@@ -33,8 +33,8 @@ fn mark_insn(
     shape: Shape,
 ) -> Result<(), Fault>
     requires marks { HasMarks sections.now marks.old }
-    requires says { (T : ℤ → Option ℕ) × (r : Raw) × (i : Insn) × IsOfShape front.now shape r × Says (NameStands sections.now) T r i }
-    ensures marked { OnOk result ((T : ℤ → Option ℕ) (r : Raw) (i : Insn) → IsOfShape front.now shape r → Says (NameStands sections.now) T r i
+    requires says { (T : ℤ → ℕ) × (r : Raw) × (i : Insn) × IsOfShape front.now shape r × Says (NameStands sections.now) T r i }
+    ensures marked { OnOk result ((T : ℤ → ℕ) (r : Raw) (i : Insn) → IsOfShape front.now shape r → Says (NameStands sections.now) T r i
         → AddsNames sections.now marks.old marks.new (names_of_insn i)) }
     ensures memory { IsOkUnless result memory }
 {

@@ -13,6 +13,7 @@ pub mod RegisterRuns
 pub mod Decided
 pub mod OneFault
 -- What stands below, for the crates above.
+pub use Rattle.dex_base.proofs.Deciding
 pub use Rattle.dex_base.proofs.ListFacts
 pub use Rattle.dex_base.proofs.OrderLaws
 pub use Rattle.dex_base.proofs.DescriptorLaws

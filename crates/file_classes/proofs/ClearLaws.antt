@@ -66,7 +66,7 @@ module _ (b : List ℕ) (framed : IsFramed b) where
   pub body_clear : (place : ℕ) (e : Fault) → BodyHolds b place → BodyFails b place e → ⊥
   body_clear place e h m =
       let s = at_some place (h.0 ≡ None) (SomeBodyStands b place h.0) m.some h.1 in
-      broken_none (NameIsAt m.names) b framed place e s.some m.breaks
+      broken_none (NameIsAt m.names) (code_names m.names) b framed place e s.some m.breaks
       (body_weaker (NameStands b) (NameIsAt m.names) (λ k n. stands_names b m.names k n framed m.of_file) b place s.some s.stands)
 
   pub registers_clear : (place : ℕ) (e : Fault) → CodeHolds b place → RegistersFail b place e → ⊥

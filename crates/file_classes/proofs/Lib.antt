@@ -27,7 +27,10 @@ pub use Rattle.code_read.proofs.CodeLaws
 pub use Rattle.code_read.proofs.CodesDecided
 pub use Rattle.code_read.proofs.CodesFormed
 pub use Rattle.code_read.proofs.Deciding
+pub use Rattle.code_read.proofs.FaultLaws
+pub use Rattle.code_read.proofs.ItemLaws
 pub use Rattle.code_read.proofs.NamesHaveRows
+pub use Rattle.code_read.proofs.SaidLaws
 pub use Rattle.code_read.proofs.StandLaws
 pub use Rattle.dex_value.proofs.FileLemmas
 pub use Rattle.dex_value.proofs.NoFault

@@ -35,7 +35,7 @@ module _ (b : List ℕ) (framed : IsFramed b) where
   body_one_fault : (place : ℕ) (e f : Fault) → BodyFails b place e → BodyFails b place f → e ≡ f
   body_one_fault place e f x y =
       let names = names_one b x.names y.names framed x.of_file y.of_file in
-      code_one_fault (NameIsAt y.names) b framed place e f (subst (λ (n : Names). CodeBreaks (NameIsAt n) b place e) names x.breaks) y.breaks
+      code_one_fault (NameIsAt y.names) (code_names y.names) b framed place e f (subst (λ (n : Names). CodeBreaks (NameIsAt n) b place e) names x.breaks) y.breaks
 
   register_one_fault : (place : ℕ) (e f : Fault) → RegistersFail b place e → RegistersFail b place f → e ≡ f
   register_one_fault place e f x y =

@@ -15,4 +15,6 @@ pub use Rattle.code_read.specs.Symbols
 pub use Rattle.code_read.specs.Code
 pub use Rattle.code_read.specs.Faults
 pub use Rattle.code_read.specs.Handlers
+pub use Rattle.code_read.specs.Item
+pub use Rattle.code_read.specs.Tries
 pub use Rattle.dex_value.specs.FileNames

@@ -1,6 +1,7 @@
 -- A code that stands in a file fits the fields of every file in which no name stands further after.
-use Rattle.std.proofs.Common.{◌≡◌, ◌≢◌, ℕ, ℤ, zero, suc, ◌+◌, ◌-◌, ◌*◌, ◌/◌, ◌<◌, ◌≤◌, inl, inr, Option, Some, None, true, List, length, drop, get_or, refl, sym, ap, ◌∙◌, subst, arith, length-drop, length-take}
-use Rattle.std.specs.Prelude.{IfSome, FitsSigned}
+use Rattle.std.proofs.Common.{◌≡◌, ◌≢◌, ℕ, ℤ, zero, suc, ◌+◌, ◌-◌, ◌*◌, ◌/◌, ◌<◌, ◌≤◌, inl, inr, None, true, List, length, map, drop, get_or, refl, sym, ap, ◌∙◌, subst, arith, length-drop, length-take}
+use Rattle.std.specs.Prelude.{IfSome, FitsSigned, ◌⊎◌}
+use Rattle.std.specs.List.{AllByRecursion}
 use Rattle.std.specs.Int.{w8, w16, w32}
 use Rattle.std.proofs.lemmas.Bool.{cases_lt}
 use Rattle.std.proofs.lemmas.Int.{ints as signs}
@@ -18,28 +19,29 @@ use Rattle.dex_insn.proofs.Fits.{number-2, signed-32, stands_fits}
 use Rattle.dex_insn.proofs.Laws.{even-of}
 use Rattle.program_types.specs.Content.{Name, Insn, Try, Code}
 use Rattle.program_types.specs.Content as made
-use Rattle.program_types.specs.Formed.{IsSwitch, insn_at, try_at, insn_payload, insn_targets, RefersToPayload}
+use Rattle.program_types.specs.Formed.{IsSwitch, insn_at, try_at, insn_payload, insn_targets, insn_leads, RefersToPayload}
 use Rattle.program_types.specs.Kinds.{IsOfKind}
 use Rattle.program_types.specs.Sizes.{addresses_of}
 use Rattle.code_insns.specs.Stands.{NameStands}
-use Rattle.code_insns.specs.Places.{place, count_below, Rises}
+use Rattle.code_insns.specs.Places.{count_below, Rises}
 use Rattle.code_insns.specs.Walk.{starts, raw_at, address}
-use Rattle.code_insns.specs.Symbols.{resolved, places, ints, InsnNames, name_in}
-use Rattle.code_insns.specs.Payloads.{payload_of}
-use Rattle.code_insns.specs.Insns.{targets, IsBase, SpellsInsns}
+use Rattle.code_insns.specs.Symbols.{linked, ints, ints_from, InsnNames, name_in}
+use Rattle.code_insns.specs.Linked.{lead, payload_of, IsLinked, SpellsInsns}
+use Rattle.code_insns.specs.Branches.{IsOrigin}
 use Rattle.code_insns.proofs.PlaceLaws.{place-there}
-use Rattle.code_insns.proofs.Runs.{run-at, table-of}
-use Rattle.code_insns.proofs.SaidRegisters.{mapped, said, addresses-same}
-use Rattle.file_limits.specs.Item.{insns_size, tries_of, insns_bytes, items_of, units_end, tries_begin, list_begin, try_start, try_count}
-use Rattle.file_limits.specs.Tries.{SpellsTries}
-use Rattle.file_limits.specs.Code.{SpellsBody, CodeStands}
-use Rattle.file_limits.proofs.FaultLaws.{units-even}
-use Rattle.file_limits.proofs.ItemLaws.{begins_late}
+use Rattle.code_insns.proofs.Runs.{run-at, table-of, length-of_starts}
+use Rattle.code_insns.proofs.LinkLaws.{addresses-same, kind-linked}
+use Rattle.file_read.specs.Item.{insns_size, tries_of, insns_bytes, items_of, units_end, tries_begin, list_begin, try_start, try_count}
+use Rattle.file_read.specs.Tries.{SpellsTries}
+use Rattle.file_read.specs.Code.{SpellsBody, CodeStands}
+use Rattle.file_read.proofs.FaultLaws.{units-even}
+use Rattle.file_read.proofs.ItemLaws.{begins_late}
 use Rattle.file_limits.specs.Fits.{short_name, ShortFits, distance_of, BranchFits, TargetsFit, OffsetsFit, IsEven, TryFits}
 use Rattle.file_least.specs.AtLeast.{AreNoFurther, CodesFit, FitsButHandlers}
 use Rattle.tables_names.specs.Closure.{Five, NameRanks}
-use Rattle.file_limits.proofs.SaidLaws.{AllLed, targets-said, slice-bytes}
-use Rattle.file_limits.proofs.CodesFormed.{all-weaker, kind-at, uses-of, no-targets, count-most, not-below, from-at, u16-fits}
+use Rattle.file_read.proofs.SaidLaws.{slice-bytes}
+use Rattle.file_read.proofs.CodesFormed.{leads-inside, count-most, not-below, from-at, u16-fits}
+use Rattle.file_limits.proofs.DistanceLaws.{lead-there}
 use Rattle.base_bytes.proofs.ListFacts.{take_bytes}
 use Rattle.code_insns.proofs.PlainLaws.{weaker}
 
@@ -49,46 +51,41 @@ use Rattle.code_insns.proofs.PlainLaws.{weaker}
 abbrev HasShort : (ℕ → Name → Type 0) → Name → Type 0
 HasShort M which = (j : ℕ) × (j < 65536) × M j which
 
-short-index : (M : ℕ → Name → Type 0) (T : ℤ → Option ℕ) (w : Name) (r : Raw) → IsRaw r → InsnNames M r w → IfSome (resolved T w r) (λ i. IfSome (short_name i) (HasShort M))
-unfolding resolved
+short-index : (M : ℕ → Name → Type 0) (T : ℤ → ℕ) (w : Name) (r : Raw) → IsRaw r → InsnNames M r w → IfSome (short_name (linked T w r)) (HasShort M)
+unfolding linked
 short-index M T w (raw.I21c op a index) f n = (index, f.1, n.stands)
 short-index M T w (raw.I22c op a b index) f n = (index, f.3, n.stands)
 short-index M T w (raw.I35c op m regs index) f n = (index, f.2, n.stands)
 short-index M T w (raw.I3rc op m first index) f n = (index, f.1, n.stands)
-short-index M T w (raw.I10t op z) f n = mapped (λ i. IfSome (short_name i) (HasShort M)) (λ to. made.I10t op to) (T z) (λ to e. tt)
-short-index M T w (raw.I20t op z) f n = mapped (λ i. IfSome (short_name i) (HasShort M)) (λ to. made.I20t op to) (T z) (λ to e. tt)
-short-index M T w (raw.I21t op a z) f n = mapped (λ i. IfSome (short_name i) (HasShort M)) (λ to. made.I21t op a to) (T z) (λ to e. tt)
-short-index M T w (raw.I22t op a b z) f n = mapped (λ i. IfSome (short_name i) (HasShort M)) (λ to. made.I22t op a b to) (T z) (λ to e. tt)
-short-index M T w (raw.I30t op z) f n = mapped (λ i. IfSome (short_name i) (HasShort M)) (λ to. made.I30t op to) (T z) (λ to e. tt)
-short-index M T w (raw.I31t op a z) f n = mapped (λ i. IfSome (short_name i) (HasShort M)) (λ to. made.I31t op a to) (T z) (λ to e. tt)
-short-index M T w (raw.Packed first offsets) f n = mapped (λ i. IfSome (short_name i) (HasShort M)) (λ to. made.Packed first to) (places T (ints offsets)) (λ to e. tt)
-short-index M T w (raw.Sparse keys offsets) f n = mapped (λ i. IfSome (short_name i) (HasShort M)) (λ to. made.Sparse (ints keys) to) (places T (ints offsets)) (λ to e. tt)
 short-index M T w _ f n = tt
 
 -- ---- offsets
 
 -- the distance of where an offset leads is the offset
-distance-is : (ss : List ℕ) (base n : ℕ) (z : ℤ) → place ss base z ≡ Some n → distance_of ss base n ≡ z
-distance-is ss base n z e = let p = (place-there ss base z n e).1 in omega (arith, signs, p)
+distance-is : (ss : List ℕ) (base : ℕ) (z : ℤ) → lead ss base z < length ss → distance_of ss base (lead ss base z) ≡ z
+distance-is ss base z l = let p = (place-there ss base z (lead ss base z) (lead-there ss base (lead ss base z) z refl l)).1 in omega (arith, signs, p)
 
-offset-fits : (ss : List ℕ) (base : ℕ) (w : Name) (r : Raw) → IsRaw r → IfSome (resolved (place ss base) w r) (BranchFits ss base)
-unfolding resolved
-offset-fits ss base w (raw.I10t op z) f = mapped (BranchFits ss base) (λ to. made.I10t op to) (place ss base z) (λ to e. subst (FitsSigned w8) (sym (distance-is ss base to z e)) f.1)
-offset-fits ss base w (raw.I20t op z) f = mapped (BranchFits ss base) (λ to. made.I20t op to) (place ss base z) (λ to e. subst (FitsSigned w16) (sym (distance-is ss base to z e)) f.1)
-offset-fits ss base w (raw.I21t op a z) f = mapped (BranchFits ss base) (λ to. made.I21t op a to) (place ss base z) (λ to e. subst (FitsSigned w16) (sym (distance-is ss base to z e)) f.1)
-offset-fits ss base w (raw.I22t op a b z) f = mapped (BranchFits ss base) (λ to. made.I22t op a b to) (place ss base z) (λ to e. subst (FitsSigned w16) (sym (distance-is ss base to z e)) f.3)
-offset-fits ss base w (raw.I30t op z) f = mapped (BranchFits ss base) (λ to. made.I30t op to) (place ss base z) (λ to e. subst (FitsSigned w32) (sym (distance-is ss base to z e)) f.1)
-offset-fits ss base w (raw.I31t op a z) f = mapped (BranchFits ss base) (λ to. made.I31t op a to) (place ss base z) (λ to e. subst (FitsSigned w32) (sym (distance-is ss base to z e)) f.2)
-offset-fits ss base w (raw.Packed first offsets) f = mapped (BranchFits ss base) (λ to. made.Packed first to) (places (place ss base) (ints offsets)) (λ to e. tt)
-offset-fits ss base w (raw.Sparse keys offsets) f = mapped (BranchFits ss base) (λ to. made.Sparse (ints keys) to) (places (place ss base) (ints offsets)) (λ to e. tt)
-offset-fits ss base w _ f = tt
+offset-fits : (ss : List ℕ) (base : ℕ) (w : Name) (r : Raw) → IsRaw r → AllByRecursion (λ to. to < length ss) (insn_leads (linked (lead ss base) w r)) → BranchFits ss base (linked (lead ss base) w r)
+unfolding linked
+offset-fits ss base w (raw.I10t op z) f t = subst (FitsSigned w8) (sym (distance-is ss base z t.0)) f.1
+offset-fits ss base w (raw.I20t op z) f t = subst (FitsSigned w16) (sym (distance-is ss base z t.0)) f.1
+offset-fits ss base w (raw.I21t op a z) f t = subst (FitsSigned w16) (sym (distance-is ss base z t.0)) f.1
+offset-fits ss base w (raw.I22t op a b z) f t = subst (FitsSigned w16) (sym (distance-is ss base z t.0)) f.3
+offset-fits ss base w (raw.I30t op z) f t = subst (FitsSigned w32) (sym (distance-is ss base z t.0)) f.1
+offset-fits ss base w (raw.I31t op a z) f t = subst (FitsSigned w32) (sym (distance-is ss base z t.0)) f.2
+offset-fits ss base w _ f t = tt
+
+-- numbers of 32 bits, as they lead
+ints-fit : (ss : List ℕ) (base : ℕ) (b : List ℕ) (i n : ℕ) → AreBytes b → AllByRecursion (λ to. to < length ss) (map (lead ss base) (ints_from b i n)) → AllByRecursion (λ to. FitsSigned w32 (distance_of ss base to)) (map (lead ss base) (ints_from b i n))
+ints-fit ss base b i zero are t = tt
+ints-fit ss base b i (suc n) are t = (subst (FitsSigned w32) (sym (distance-is ss base (int_at b i) t.0)) (signed-32 (int_at b i) (number b (2 * i) 2) refl (number-2 b (2 * i) are)), ints-fit ss base b (i + 1) n are t.1)
 
 -- the offsets of a switch are bytes
-target-bytes : (us : List ℕ) (r : Raw) → AreBytes us → SpellsInsn us r → AreBytes (targets r)
-unfolding targets
-target-bytes us (raw.Packed first offsets) are h = subst AreBytes (sym h.3) (slice-bytes us 8 (8 + 4 * number us 1 1) are)
-target-bytes us (raw.Sparse keys offsets) are h = subst AreBytes (sym h.3) (slice-bytes us (4 + 4 * number us 1 1) (4 + 8 * number us 1 1) are)
-target-bytes us _ are h = λ i. omega arith
+targets-fit : (ss : List ℕ) (base : ℕ) (w : Name) (us : List ℕ) (r : Raw) → AreBytes us → SpellsInsn us r → AllByRecursion (λ to. to < length ss) (insn_targets (linked (lead ss base) w r)) → TargetsFit ss base (linked (lead ss base) w r)
+unfolding linked insn_targets ints
+targets-fit ss base w us (raw.Packed first offsets) are h t = ints-fit ss base offsets 0 (length offsets / 4) (subst AreBytes (sym h.3) (slice-bytes us 8 (8 + 4 * number us 1 1) are)) t
+targets-fit ss base w us (raw.Sparse keys offsets) are h t = ints-fit ss base offsets 0 (length offsets / 4) (subst AreBytes (sym h.3) (slice-bytes us (4 + 4 * number us 1 1) (4 + 8 * number us 1 1) are)) t
+targets-fit ss base w us _ are h t = tt
 
 module _ (M : ℕ → Name → Type 0) (us : List ℕ) (rs : List Raw) (is : List Insn) (s : SpellsInsns M us rs is) (are : AreBytes us) where
   stands-at : (k : ℕ) → k < length rs → InsnStands us (address rs k) (raw_at rs k)
@@ -98,44 +95,66 @@ module _ (M : ℕ → Name → Type 0) (us : List ℕ) (rs : List Raw) (is : Lis
   raw-fits : (k : ℕ) → k < length rs → IsRaw (raw_at rs k)
   raw-fits k l = stands_fits us (address rs k) (raw_at rs k) are (stands-at k l)
 
+  -- what an instruction leads to is one
+  led-inside : (k : ℕ) → k < length is → AllByRecursion (λ to. to < length (starts rs)) (insn_leads (insn_at is k))
+  led-inside k l =
+      let e : length is ≡ length (starts rs) = s.linked.count ∙ sym (length-of_starts rs) in
+      subst (λ (n : ℕ). AllByRecursion (λ to. to < n) (insn_leads (insn_at is k))) e (leads-inside is k (s.keep.targets k l) (s.keep.payloads k l) (insn_at is k) refl)
+
   short-at : (N : ℕ → Name → Type 0) → ((which : Name) (j n : ℕ) → M j which → N n which → n ≤ j) → (kind : IndexKind) (k : ℕ) → k < length rs → ShortFits N kind (insn_at is k)
   short-at N low kind k l =
-      let x = s.each k l in
+      let x = s.linked.each k l in
       weaker (HasShort M) (λ which. IsOfKind kind which → (n : ℕ) → N n which → n < 65536) (short_name (insn_at is k))
       (λ which h _ n r. let a = low which h.0 n h.2 r in let b = h.1 in omega (arith, a, b))
-      (said (λ i. IfSome (short_name i) (HasShort M)) _ (insn_at is k) (short-index M (place (starts rs) x.base) (name_in (insn_at is k)) (raw_at rs k) (raw-fits k l) x.says.named) x.says.symbol)
+      (subst (λ (i : Insn). IfSome (short_name i) (HasShort M)) x.says.symbol (short-index M _ (name_in (insn_at is k)) (raw_at rs k) (raw-fits k l) x.says.named))
 
   branch-at : (k : ℕ) → k < length rs → BranchFits (starts rs) (address rs k) (insn_at is k)
   unfolding insn_payload
-  branch-at k l = by (s.each k l).base (s.each k l).counts (said (BranchFits (starts rs) (s.each k l).base) _ (insn_at is k) (offset-fits (starts rs) (s.each k l).base (name_in (insn_at is k)) (raw_at rs k) (raw-fits k l)) (s.each k l).says.symbol)
+  branch-at k l = by x.origin x.counts (subst (BranchFits (starts rs) (address rs x.origin)) x.says.symbol
+      (offset-fits (starts rs) (address rs x.origin) (name_in (insn_at is k)) (raw_at rs k) (raw-fits k l) (subst (λ (i : Insn). AllByRecursion (λ to. to < length (starts rs)) (insn_leads i)) (sym x.says.symbol) (led-inside k (let n = s.linked.count in omega (arith, l, n))))))
     where
+      x : IsLinked M rs is k
+      x = s.linked.each k l
+
       no-branch : (i : Insn) (ss : List ℕ) (at : ℕ) → IsSwitch (insn_payload i) → BranchFits ss at i
       no-branch (made.Packed first to) ss at w = tt
       no-branch (made.Sparse keys to) ss at w = tt
       no-branch (made.Data width bytes) ss at w = tt
       no-branch _ ss at w = absurd w
 
-      by : (base : ℕ) → IsBase rs k base → BranchFits (starts rs) base (insn_at is k) → BranchFits (starts rs) (address rs k) (insn_at is k)
-      by base (inl b) f = no-branch (insn_at is k) (starts rs) (address rs k) (subst IsSwitch (kind-at M us rs is s k l) b.0)
-      by base (inr b) f = subst (λ (a : ℕ). BranchFits (starts rs) a (insn_at is k)) b.1 f
+      by : (o : ℕ) → IsOrigin is k o → BranchFits (starts rs) (address rs o) (insn_at is k) → BranchFits (starts rs) (address rs k) (insn_at is k)
+      by o (inl b) f = no-branch (insn_at is k) (starts rs) (address rs k) b.0
+      by o (inr b) f = subst (λ (j : ℕ). BranchFits (starts rs) (address rs j) (insn_at is k)) b.1 f
 
   targets-at : (j k : ℕ) → k < length rs → RefersToPayload is j k → TargetsFit (starts rs) (address rs j) (insn_at is k)
-  targets-at j k l f =
-      let x = s.each k l in
-      let led : AllLed (place (starts rs) x.base) (targets (raw_at rs k)) (length (targets (raw_at rs k)) / 4) (insn_targets (insn_at is k)) =
-      said (λ i. AllLed (place (starts rs) x.base) (targets (raw_at rs k)) (length (targets (raw_at rs k)) / 4) (insn_targets i)) _ (insn_at is k) (targets-said (place (starts rs) x.base) (name_in (insn_at is k)) (raw_at rs k)) x.says.symbol in
-      all-weaker _ (λ to. FitsSigned w32 (distance_of (starts rs) (address rs j) to)) (insn_targets (insn_at is k)) (λ to h. by x.base x.counts to h.0 h.1 h.2) led
+  unfolding insn_payload insn_targets
+  targets-at j k l f = by (s.linked.each k l).origin (s.linked.each k l).counts (subst (TargetsFit (starts rs) (address rs (s.linked.each k l).origin)) (s.linked.each k l).says.symbol
+      (targets-fit (starts rs) (address rs (s.linked.each k l).origin) (name_in (insn_at is k)) (drop (2 * address rs k) us) (raw_at rs k) (drop-AreBytes us (2 * address rs k) are) (stands-at k l).spelled
+      (subst (λ (i : Insn). AllByRecursion (λ to. to < length (starts rs)) (insn_targets i)) (sym (s.linked.each k l).says.symbol) (targets-inside _ (insn_at is k) (led-inside k m)))))
     where
-      offset-small : (y : ℕ) → FitsSigned w32 (int_at (targets (raw_at rs k)) y)
-      offset-small y = signed-32 _ (number (targets (raw_at rs k)) (2 * y) 2) refl (number-2 (targets (raw_at rs k)) (2 * y) (target-bytes (drop (2 * address rs k) us) (raw_at rs k) (drop-AreBytes us (2 * address rs k) are) (stands-at k l).spelled))
+      m : k < length is
+      m = let n = s.linked.count in omega (arith, l, n)
 
-      by : (base : ℕ) → IsBase rs k base → (to y : ℕ) → y < length (targets (raw_at rs k)) / 4 → place (starts rs) base (int_at (targets (raw_at rs k)) y) ≡ Some to → FitsSigned w32 (distance_of (starts rs) (address rs j) to)
-      by base (inl b) to y m e =
-          let once = (s.uses k l).used b.0 in
-          let same : b.1 ≡ j = once.only b.1 b.2 ∙ sym (once.only j (uses-of M us rs is s j k f)) in
-          let at : base ≡ address rs j = b.3 ∙ ap (address rs) same in
-          subst (λ (a : ℕ). FitsSigned w32 (distance_of (starts rs) a to)) at (subst (FitsSigned w32) (sym (distance-is (starts rs) base to (int_at (targets (raw_at rs k)) y) e)) (offset-small y))
-      by base (inr b) to y m e = absurd (let t = ap length (no-targets M us rs is s (raw_at rs k) b.0) in omega (arith, t, m))
+      targets-inside : (P : ℕ → Type 0) (i : Insn) → AllByRecursion P (insn_leads i) → AllByRecursion P (insn_targets i)
+      targets-inside P (made.Packed first to) h = h
+      targets-inside P (made.Sparse keys to) h = h
+      targets-inside P _ h = tt
+
+      fit-or : (ss : List ℕ) (at : ℕ) (i : Insn) → IsSwitch (insn_payload i) ⊎ TargetsFit ss at i
+      fit-or ss at (made.Packed first to) = inl tt
+      fit-or ss at (made.Sparse keys to) = inl tt
+      fit-or ss at _ = inr tt
+
+      by : (o : ℕ) → IsOrigin is k o → TargetsFit (starts rs) (address rs o) (insn_at is k) → TargetsFit (starts rs) (address rs j) (insn_at is k)
+      by o c t = elim (fit-or (starts rs) (address rs j) (insn_at is k)) [
+        | inr fit ↦ fit
+        | inl switch ↦
+            let u = (s.keep.payloads k m).used switch in
+            elim c [
+              | inl b ↦ subst (λ (n : ℕ). TargetsFit (starts rs) (address rs n) (insn_at is k)) (u.2 o b.1 ∙ sym (u.2 j f)) t
+              | inr b ↦ absurd (b.0 u.0 (switch, u.1, λ i r. let e = u.2 i r in omega (arith, e)))
+            ]
+      ]
 
   payload-is : (r : Raw) → payload_of r ≢ None → is_payload r ≡ true
   unfolding payload_of is_payload
@@ -145,7 +164,7 @@ module _ (M : ℕ → Name → Type 0) (us : List ℕ) (rs : List Raw) (is : Lis
   payload-is _ h = absurd (h refl)
 
   even-at : (k : ℕ) → k < length rs → IsEven is (starts rs) k
-  even-at k l h = even-of us (address rs k) (raw_at rs k) (stands-at k l) (payload-is (raw_at rs k) (λ e. h (sym (kind-at M us rs is s k l) ∙ e)))
+  even-at k l h = even-of us (address rs k) (raw_at rs k) (stands-at k l) (payload-is (raw_at rs k) (λ e. h (ap insn_payload (sym (s.linked.each k l).says.symbol) ∙ kind-linked _ _ (raw_at rs k) ∙ e)))
 
 -- ---- tries
 
@@ -191,10 +210,10 @@ module _ (M N : ℕ → Name → Type 0) (low : (which : Name) (i j : ℕ) → M
       (table-of (insns_bytes bytes) (starts s.raws) s.raws (omega (arith, even, late, fixed, short)) s.insns.walk.run refl).rises
 
   same : starts s.raws ≡ addresses_of c.insns
-  same = addresses-same M (insns_bytes bytes) s.raws c.insns s.insns
+  same = addresses-same M s.raws c.insns s.insns.linked
 
   inside : (k : ℕ) → k < length c.insns → k < length s.raws
-  inside k l = let n = s.insns.count in omega (arith, l, n)
+  inside k l = let n = s.insns.linked.count in omega (arith, l, n)
 
   short-of : (kind : IndexKind) (k : ℕ) → k < length c.insns → ShortFits N kind (insn_at c.insns k)
   short-of kind k l = short-at M (insns_bytes bytes) s.raws c.insns s.insns units-are N (λ which j n a b. low which j n a b) kind k (inside k l)

@@ -2,7 +2,7 @@
 -- Page: "Dalvik Executable format", "File layout": string_ids to method_ids; "code_item".
 use Rattle.std.specs.Prelude.{ℕ, ◌≤◌, List, length}
 use Rattle.base_bytes.specs.Fields.{AreBytes}
-use Rattle.file_limits.specs.Code.{CodeStands}
+use Rattle.file_read.specs.Code.{CodeStands}
 use Rattle.file_limits.specs.Fits.{AllInsns, AllNumbers, AllTries, IsEven, OffsetsFit, ShortFits, TryFits}
 use Rattle.dex_container.specs.Frame.{IsFramed}
 use Rattle.dex_container.specs.Layout.{size_of}

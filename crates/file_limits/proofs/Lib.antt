@@ -10,11 +10,8 @@ pub use Rattle.dex_value.proofs.Fitting
 pub use Rattle.dex_value.proofs.FrontLaws
 pub use Rattle.dex_value.proofs.Lengths
 pub use Rattle.dex_value.proofs.Places
-pub use Rattle.code_fits.proofs.CodesFormed
-pub use Rattle.code_fits.proofs.FaultLaws
-pub use Rattle.code_fits.proofs.ItemLaws
-pub use Rattle.code_fits.proofs.SaidLaws
 pub use Rattle.code_fits.proofs.CodeOnce
+pub use Rattle.code_fits.proofs.DistanceLaws
 pub use Rattle.code_fits.proofs.DistinctLaws
 pub use Rattle.code_fits.proofs.HandlerOnce
 pub use Rattle.code_fits.proofs.HandlerPacks
@@ -23,4 +20,3 @@ pub use Rattle.code_fits.proofs.PackedLaws
 pub use Rattle.code_fits.proofs.PackedTries
 pub use Rattle.code_fits.proofs.RankLaws as code_put_RankLaws
 pub use Rattle.code_fits.proofs.WrittenLaws
-pub use Rattle.dex_value.proofs.FileLemmas

@@ -8,9 +8,5 @@ pub use Rattle.dex_value.specs.Named
 pub use Rattle.dex_value.specs.Spelling
 pub use Rattle.dex_value.specs.Unique
 pub use Rattle.dex_value.specs.Wide as dex_value_Wide
-pub use Rattle.code_fits.specs.Code
-pub use Rattle.code_fits.specs.Item
-pub use Rattle.code_fits.specs.Tries
 pub use Rattle.code_fits.specs.Fits
 pub use Rattle.code_fits.specs.Packs
-pub use Rattle.dex_value.specs.FileNames

@@ -1,11 +1,11 @@
 -- Bodies that are laid stand at their places.
 use Rattle.std.proofs.Common.{◌≡◌, ℕ, zero, suc, ◌+◌, List, [], ◌∷◌, refl, subst, arith, Option, Some, None}
 use Rattle.std.specs.List.{AllZip}
-use Rattle.file_classes.specs.ClassData.{MethodEntry}
-use Rattle.file_classes.specs.Classes.{CodeAt, CodesAre, SomeCodeStands}
-use Rattle.file_classes.proofs.StaticsLaws.{at_none, at_other}
-use Rattle.file_classes.specs.Code.{SpellsCode, CodeStands}
-use Rattle.file_classes.proofs.CarryLaws.{SpellsCode-weaker}
+use Rattle.file_read.specs.ClassData.{MethodEntry}
+use Rattle.file_read.specs.Classes.{CodeAt, CodesAre, SomeCodeStands}
+use Rattle.file_read.proofs.StaticsLaws.{at_none, at_other}
+use Rattle.file_read.specs.Code.{SpellsCode, CodeStands}
+use Rattle.file_read.proofs.CarryLaws.{SpellsCode-weaker}
 use Rattle.file_strip.proofs.PackedLaws.{packed-spells}
 use Rattle.file_layout.specs.declared.plan.Part.{Part}
 use Rattle.file_layout.specs.Parts.{HasPart}

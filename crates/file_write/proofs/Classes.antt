@@ -6,10 +6,10 @@ use Rattle.std.specs.List.{AllZip}
 use Rattle.file_strip.specs.Assembled.{Assembled}
 use Rattle.file_strip.proofs.FitsLaws.{room_of}
 use Rattle.file_strip.proofs.file_assemble_ReadyLaws.{class_can}
-use Rattle.file_classes.specs.ClassData.{EntriesAt}
-use Rattle.file_classes.specs.ClassRows.{InOrder, class_word}
-use Rattle.file_classes.specs.Classes.{CodeAt, SpellsClass, StaticsAt}
-use Rattle.file_classes.proofs.EntryLaws.{entry_at}
+use Rattle.file_read.specs.ClassData.{EntriesAt}
+use Rattle.file_read.specs.ClassRows.{InOrder, class_word}
+use Rattle.file_read.specs.Classes.{CodeAt, SpellsClass, StaticsAt}
+use Rattle.file_read.proofs.EntryLaws.{entry_at}
 use Rattle.file_strip.specs.ClassDefs.{TypeRanks}
 use Rattle.dex_container.specs.Layout.{size_of}
 use Rattle.file_read.specs.Means.{Means}

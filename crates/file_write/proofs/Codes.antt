@@ -1,10 +1,10 @@
 -- What is written of a code by one naming is written of it by each naming that it implies.
-use Rattle.std.proofs.Common.{ℕ, ℤ, zero, suc, List, Option, Some, None}
+use Rattle.std.proofs.Common.{ℕ, ℤ, zero, suc, List, Some, None}
 use Rattle.base_bytes.specs.Leb128.{SpellsSigned, Shortest, Spells}
 use Rattle.base_bytes.proofs.PlacedLaws.{Placed-weaker}
 use Rattle.base_bytes.proofs.WeakerLaws.{Implies, Many-weaker, Pair-weaker, Then-weaker}
-use Rattle.file_classes.specs.Handlers.{AllBy, Handler, PacksHandlers, PartsBy, TypeBy, catches_of}
-use Rattle.file_classes.specs.Symbols.{InsnNames, Says, name_in}
+use Rattle.file_read.specs.Handlers.{AllBy, Handler, PacksHandlers, PartsBy, TypeBy, catches_of}
+use Rattle.file_read.specs.Symbols.{InsnNames, Says, name_in}
 use Rattle.file_strip.specs.Packs.{AreLowered, PacksCatch, PacksCode, PacksHandler, PacksHandlersOf, PacksPlace}
 use Rattle.dex_insn.specs.Raw as raw
 use Rattle.dex_insn.specs.Raw.{Raw}
@@ -21,7 +21,7 @@ module _ (M N : ℕ → Name → Type 0) (f : (i : ℕ) (which : Name) → M i w
   names-weaker (raw.I3rc op n first i) w p = record { kind = p.kind; stands = f i w p.stands }
   names-weaker _ w p = tt
 
-  says-weaker : (T : ℤ → Option ℕ) (r : Raw) (i : Insn) → Says M T r i → Says N T r i
+  says-weaker : (T : ℤ → ℕ) (r : Raw) (i : Insn) → Says M T r i → Says N T r i
   says-weaker T r i s = record { symbol = s.symbol; named = names-weaker r (name_in i) s.named }
 
   lowered-weaker : (is : List Insn) (ss : List ℕ) (rs : List Raw) → AreLowered M is ss rs → AreLowered N is ss rs

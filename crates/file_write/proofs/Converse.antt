@@ -15,10 +15,10 @@ use Rattle.dex_value.specs.Wide.{wide_array}
 use Rattle.dex_value.proofs.Lengths.{SpellsArray-most}
 use Rattle.file_strip.specs.Assembled.{Assembled, DataLies, Places, SpellsTables, StandOnce, rows_of}
 use Rattle.file_strip.proofs.OnceLaws.{datas_shared}
-use Rattle.file_classes.specs.ClassData.{Entries}
-use Rattle.file_classes.specs.ClassRows.{class_data_off, interfaces_off, static_values_off}
-use Rattle.file_classes.specs.Classes.{CodeAt, CodesAre, MembersAre}
-use Rattle.file_classes.proofs.EntryLaws.{entries_one}
+use Rattle.file_read.specs.ClassData.{Entries}
+use Rattle.file_read.specs.ClassRows.{class_data_off, interfaces_off, static_values_off}
+use Rattle.file_read.specs.Classes.{CodeAt, CodesAre, MembersAre}
+use Rattle.file_read.proofs.EntryLaws.{entries_one}
 use Rattle.file_read.proofs.RangeLaws.{well_formed}
 use Rattle.file_layout.specs.declared.plan.Plan.{Plan}
 use Rattle.file_layout.specs.Plan.{IsPlanned, IsWritten, spans_of, tables_end}

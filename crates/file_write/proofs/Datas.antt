@@ -2,9 +2,9 @@
 use Rattle.std.proofs.Common.{◌≡◌, ℕ, ◌<◌, Bool, true, false, List, [], ◌∷◌, ◌++◌, length, refl, ap, arith}
 use Rattle.std.specs.Prelude.{MatchBool, ◌&&◌}
 use Rattle.base_bytes.specs.Leb128.{Spells}
-use Rattle.file_classes.specs.ClassData.{Entries, EntriesAt, SpellsEntries, no_entries}
-use Rattle.file_classes.specs.Classes.{IsField, IsMethod, MembersAre}
-use Rattle.file_classes.proofs.StaticsLaws.{at_none, at_other}
+use Rattle.file_read.specs.ClassData.{Entries, EntriesAt, SpellsEntries, no_entries}
+use Rattle.file_read.specs.Classes.{IsField, IsMethod, MembersAre}
+use Rattle.file_read.proofs.StaticsLaws.{at_none, at_other}
 use Rattle.dex_container.specs.Where.{At}
 use Rattle.file_layout.specs.declared.plan.Part.{Part}
 use Rattle.file_layout.specs.Parts.{HasPart}

@@ -8,9 +8,9 @@ use Rattle.file_strip.specs.Assembled.{Assembled}
 use Rattle.file_strip.proofs.AssembledLaws.{array_count, data_count, list_count, text_count}
 use Rattle.dex_base.specs.Mutf8.{PacksText}
 use Rattle.base_bytes.specs.Leb128.{Shortest}
-use Rattle.file_classes.specs.ClassData.{Entries, EntriesAt}
-use Rattle.file_classes.specs.ClassRows.{class_word}
-use Rattle.file_classes.proofs.EntryLaws.{entry_at}
+use Rattle.file_read.specs.ClassData.{Entries, EntriesAt}
+use Rattle.file_read.specs.ClassRows.{class_word}
+use Rattle.file_read.proofs.EntryLaws.{entry_at}
 use Rattle.dex_container.specs.Layout.{data_begin, offset_of, size_of}
 use Rattle.file_layout.specs.Header.{HasHeader}
 use Rattle.file_layout.specs.Plan.{class_defs_begin, field_ids_begin, method_ids_begin, proto_ids_begin, table_offset, type_ids_begin}

@@ -3,8 +3,8 @@ use Rattle.std.proofs.Common.{◌≡◌, ℕ, List, [], length, ap, arith}
 use Rattle.base_bytes.specs.Grammar.{Pair}
 use Rattle.base_bytes.specs.Leb128.{Spells, Shortest}
 use Rattle.base_bytes.proofs.WeakerLaws.{Implies, Shortest-weaker, Then-weaker, Pair-weaker, Many-weaker}
-use Rattle.file_classes.specs.ClassData.{FieldEntry, MethodEntry, Entries, counts_of, lists_of, SpellsFieldEntry, SpellsMethodEntry, SpellsCounts, SpellsLists, SpellsEntries, EntriesAre}
-use Rattle.file_classes.specs.Classes.{IsField, IsMethod, MembersAre}
+use Rattle.file_read.specs.ClassData.{FieldEntry, MethodEntry, Entries, counts_of, lists_of, SpellsFieldEntry, SpellsMethodEntry, SpellsCounts, SpellsLists, SpellsEntries, EntriesAre}
+use Rattle.file_read.specs.Classes.{IsField, IsMethod, MembersAre}
 use Rattle.program_types.specs.Content.{Name, OfField, OfMethod, Descriptor, Member, Method, Class}
 use Rattle.file_strip.specs.Data.{FieldRanks, MethodRanks, MembersRank}
 use Rattle.tables_rows.specs.Stands.{NameStands}

@@ -2,8 +2,8 @@
 use Rattle.std.proofs.Common.{◌≡◌, ◌≢◌, ℕ, zero, suc, ◌<◌, ◌≤◌, List, [], ◌∷◌, length, get_or, refl, sym, ap, ◌∙◌, subst, arith, Option, Some, None, option_map, slice_get}
 use Rattle.std.proofs.lemmas.Option.{slice_get-map}
 use Rattle.std.specs.Prelude.{IfSome}
-use Rattle.file_classes.specs.ClassRows.{InOrder, IndexOrNone, NoneDefines, class_word, no_index}
-use Rattle.file_classes.proofs.EntryLaws.{entry_at}
+use Rattle.file_read.specs.ClassRows.{InOrder, IndexOrNone, NoneDefines, class_word, no_index}
+use Rattle.file_read.proofs.EntryLaws.{entry_at}
 use Rattle.file_strip.specs.ClassDefs.{TypeRanks}
 use Rattle.dex_container.specs.Frame.{IsFramed}
 use Rattle.dex_container.specs.Layout.{size_of}

@@ -3,12 +3,12 @@ use Rattle.std.proofs.Common.{◌≡◌, ℕ, zero, suc, ◌+◌, ◌<◌, false
 use Rattle.std.proofs.lemmas.Bool.{cases_lt}
 use Rattle.std.specs.Prelude.{◌&&◌}
 use Rattle.std.specs.List.{AllByRecursion, flat_map, slice_get}
-use Rattle.file_classes.proofs.CarryLaws.{SpellsCode-weaker}
+use Rattle.file_read.proofs.CarryLaws.{SpellsCode-weaker}
 use Rattle.file_strip.proofs.PackedLaws.{packed-spells}
 use Rattle.file_strip.proofs.FitsLaws.{room_of}
 use Rattle.file_strip.proofs.OnceLaws.{sited_class, types_apart}
 use Rattle.file_strip.proofs.file_assemble_ReadyLaws.{class_can}
-use Rattle.file_classes.specs.ClassData.{Entries, FieldEntry, EntriesAre, MethodEntry, index_of, steps}
+use Rattle.file_read.specs.ClassData.{Entries, FieldEntry, EntriesAre, MethodEntry, index_of, steps}
 use Rattle.file_strip.specs.Limits.{Fits}
 use Rattle.file_strip.specs.Wide.{bodies_of, body_values}
 use Rattle.file_strip.specs.Data.{FieldRanks, MembersRank, MethodRanks, PacksData, ClassWithCodes, has_no_members, with_code_places}
@@ -33,7 +33,7 @@ use Rattle.dex_value.proofs.Weaker.{SpellsArray-weaker}
 use Rattle.file_write.proofs.Codes.{PacksCode-weaker}
 use Rattle.file_strip.proofs.RankLaws.{keys-one}
 use Rattle.base_bytes.proofs.ListFacts.{all_append, zip_length}
-use Rattle.file_classes.proofs.EntryLaws.{entry_at}
+use Rattle.file_read.proofs.EntryLaws.{entry_at}
 use Rattle.file_strip.proofs.DistinctLaws.{all-get}
 
 -- ---- type lists

@@ -5,7 +5,7 @@ use Rattle.std.specs.List.{AllByRecursion, AllZip, fold, list_any, slice_get}
 use Rattle.std.proofs.lemmas.Bool.{eq-eqb}
 use Rattle.std.proofs.lemmas.Option.{slice_get_within}
 use Rattle.dex_container.specs.Where.{slice}
-use Rattle.file_classes.proofs.EntryLaws.{entry_at}
+use Rattle.file_read.proofs.EntryLaws.{entry_at}
 use Rattle.file_layout.specs.Tiles.{Among, AreShared, Lays, Refers, add_place, distinct_places}
 use Rattle.file_layout.proofs.TileLaws.{Tiles-among, refers_some, zip_there}
 use Rattle.file_write.specs.Packed.{IsPackedSection}

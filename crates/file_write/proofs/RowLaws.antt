@@ -6,7 +6,7 @@ use Rattle.std.specs.List.{slice_get}
 use Rattle.base_bytes.specs.Words.{words_bytes}
 use Rattle.base_bytes.proofs.FieldBounds.{u32_at-fits}
 use Rattle.base_bytes.specs.Fields.{u16_at, u32_at}
-use Rattle.file_classes.specs.ClassRows.{IndexOrNone, class_word}
+use Rattle.file_read.specs.ClassRows.{IndexOrNone, class_word}
 use Rattle.file_strip.specs.ClassDefs.{SpellsClassRow, StringRanks, TypeRanks, all_but_first, with_places}
 use Rattle.file_strip.proofs.file_rows_ClassRowLaws.{first_of, length-seated, others_of}
 use Rattle.dex_container.specs.Frame.{IsFramed}

@@ -3,7 +3,7 @@ use Rattle.std.proofs.Common.{◌≡◌, ℕ, ◌≤◌, Bool, true, false, List
 use Rattle.std.specs.Prelude.{MatchBool, ◌==◌}
 use Rattle.std.specs.List.{AllByRecursion}
 use Rattle.base_bytes.specs.Leb128.{Shortest}
-use Rattle.file_classes.specs.Classes.{StaticsAt}
+use Rattle.file_read.specs.Classes.{StaticsAt}
 use Rattle.dex_container.specs.Where.{At, AtOrNone}
 use Rattle.file_layout.specs.declared.plan.Part.{Part}
 use Rattle.file_layout.specs.Parts.{HasPart}

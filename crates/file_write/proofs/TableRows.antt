@@ -10,9 +10,9 @@ use Rattle.base_bytes.specs.Words.{words_bytes}
 use Rattle.base_bytes.proofs.FieldBounds.{u32_at-fits, drop-AreBytes}
 use Rattle.dex_container.specs.Layout.{offset_of, size_of}
 use Rattle.dex_container.specs.Where.{slice}
-use Rattle.file_classes.specs.ClassRows.{IndexOrNone, class_word}
-use Rattle.file_classes.specs.Classes.{RowIs}
-use Rattle.file_classes.proofs.EntryLaws.{entry_at}
+use Rattle.file_read.specs.ClassRows.{IndexOrNone, class_word}
+use Rattle.file_read.specs.Classes.{RowIs}
+use Rattle.file_read.proofs.EntryLaws.{entry_at}
 use Rattle.file_strip.specs.ClassDefs.{ClassWithPlaces, SpellsClassRow, StringRanks, TypeRanks, with_places}
 use Rattle.file_strip.specs.Rows.{SpellsFieldRow, SpellsMethodRow, SpellsProtoRow, SpellsProtos, SpellsRows, SpellsTable, SpellsTypeRow}
 use Rattle.file_strip.proofs.file_rows_ClassRowLaws.{length-seated}

@@ -13,12 +13,12 @@ use Rattle.dex_value.specs.Spelling.{SpellsArray}
 use Rattle.dex_value.specs.Standing.{ArrayStands}
 use Rattle.dex_value.proofs.Weaker.{SpellsArray-weaker}
 use Rattle.dex_value.proofs.Carrying.{file_array_unique}
-use Rattle.file_classes.specs.Code.{SpellsCode}
-use Rattle.file_classes.proofs.CodeLaws.{SpellsCode-unique}
-use Rattle.file_classes.specs.ClassData.{Entries, EntriesAt, FieldEntry, MethodEntry, SpellsEntries, no_entries}
-use Rattle.file_classes.specs.Classes.{CodeAt, CodesAre, IsField, IsMethod, MembersAre, SomeCodeStands, StaticsAt}
-use Rattle.file_classes.proofs.EntryLaws.{entries_unique}
-use Rattle.file_classes.proofs.OnceLaws.{one_of_kind}
+use Rattle.file_read.specs.Code.{SpellsCode}
+use Rattle.file_read.proofs.CodeLaws.{SpellsCode-unique}
+use Rattle.file_read.specs.ClassData.{Entries, EntriesAt, FieldEntry, MethodEntry, SpellsEntries, no_entries}
+use Rattle.file_read.specs.Classes.{CodeAt, CodesAre, IsField, IsMethod, MembersAre, SomeCodeStands, StaticsAt}
+use Rattle.file_read.proofs.EntryLaws.{entries_unique}
+use Rattle.file_read.proofs.OnceLaws.{one_of_kind}
 use Rattle.file_layout.specs.Sections.{is_empty_list, never}
 use Rattle.file_layout.proofs.SectionLaws.{not_none}
 use Rattle.file_layout.proofs.StandLaws.{zip_weaker}

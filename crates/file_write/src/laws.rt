@@ -2,8 +2,8 @@
 // Page: "Dalvik Executable format", "File layout".
 ghost use Rattle.std.specs.Prelude.{◌≡◌, ℕ, ◌<◌, ◌↔◌, List};
 ghost use Rattle.file_strip.specs.Assembled.{Assembled};
-ghost use Rattle.file_classes.specs.ClassRows.{InOrder};
-ghost use Rattle.file_classes.specs.Classes.{SpellsClass};
+ghost use Rattle.file_read.specs.ClassRows.{InOrder};
+ghost use Rattle.file_read.specs.Classes.{SpellsClass};
 ghost use Rattle.dex_container.specs.Frame.{IsFramed};
 ghost use Rattle.dex_container.specs.Layout.{size_of};
 ghost use Rattle.dex_container.specs.Section as section;

@@ -3,3 +3,4 @@ pub mod TryLaws
 pub mod OperandLaws
 pub mod UseLaws
 pub mod RunLaws
+pub mod OriginLaws

@@ -1,3 +1,5 @@
+pub mod First
+pub mod Branches
 pub mod CodeRules
 pub mod Parts
 pub mod Uses

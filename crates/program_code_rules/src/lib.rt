@@ -9,11 +9,15 @@
 #![tactic(auto)]
 
 mod operands;
+mod origins;
 mod payloads;
 mod registers;
 mod rule;
 mod targets;
 mod tries;
 
-pub use payloads::payloads_hold_in;
+pub use origins::origins_of;
+pub use payloads::{first_bad_use, payloads_hold_in};
+pub use registers::{first_past, insn_is_among};
 pub use rule::{CodeRule, code_holds};
+pub use targets::{branch_lands, branch_stays, first_bad_branch, first_bad_switch};

@@ -4,6 +4,7 @@ ghost use Rattle.std.specs.Prelude.{◌≡◌, ◌↔◌, ◌<◌, ◌≤◌, �
 ghost use Rattle.program_types.specs.Formed.{insn_at, insn_wants, insn_reach, WantsPayload, RefersToPayload, PayloadHolds};
 ghost use Rattle.program_types.specs.View.{insn, code};
 ghost use Rattle.program_code_rules.specs.CodeRules.{PayloadsHold};
+ghost use Rattle.program_code_rules.specs.First.{AllHold, IsFirstBroken};
 ghost use Rattle.program_code_rules.specs.Parts.{IsUsedOnce};
 ghost use Rattle.program_code_rules.specs.Uses.{AreUses, used_again};
 
@@ -35,18 +36,19 @@ fn reach_of(one: &Insn<'_>) -> u32
 }
 
 /// Whether instruction `j` refers to payload `k`, which is of its kind.
-fn refers(insns: &[Insn<'_>], j: usize, k: usize) -> bool
+pub(crate) fn refers(insns: &[Insn<'_>], j: usize, k: usize) -> bool
     requires inside { j < length insns.now }
     ensures { IsTrue result ↔ RefersToPayload (map insn insns.now) j k }
 {
     let one = &insns[j];
-    if k >= insns.len() {
+    let kind = wants_of(one);
+    if kind.is_none() || k >= insns.len() {
         return false;
     }
     if reach_of(one) as usize != k {
         return false;
     }
-    are_alike(wants_of(one), payload_of(&insns[k]))
+    are_alike(kind, payload_of(&insns[k]))
 }
 
 /// Whether instruction `k` refers to a payload of its kind, if it refers to one at all.
@@ -130,7 +132,7 @@ fn used_again(so_far: Use) -> Use
 }
 
 /// Where instruction `j` refers to.
-fn reach_at(insns: &[Insn<'_>], j: usize) -> u32
+pub(crate) fn reach_at(insns: &[Insn<'_>], j: usize) -> u32
     requires inside { j < length insns.now }
     ensures { result ≡ insn_reach (insn_at (map insn insns.now) j) }
 {
@@ -184,16 +186,25 @@ fn payload_holds_by(uses: &[Use], insns: &[Insn<'_>], k: usize) -> bool
     is_once(uses, insns, k)
 }
 
-/// Whether all payloads of a code are used as they have to be, as `code_holds` of `PayloadUse` says it, in time that grows with
-/// the code: it takes a byte an instruction.
+/// The first instruction that refers to no payload of its kind, or is the payload of a switch and hasn't exactly one, in time that
+/// grows with the code: it takes a byte an instruction.
+pub fn first_bad_use(alloc: Global, insns: &[Insn<'_>]) -> Result<Option<usize>, AllocError>
+    ensures some { IfOk result (λ found. IfSome found (IsFirstBroken (PayloadHolds (map insn insns.now)) (PayloadHolds (map insn insns.now)) (length insns.now))) }
+    ensures none { IfOk result (λ found. IfNone found (AllHold (PayloadHolds (map insn insns.now)) (length insns.now))) }
+{
+    let uses = uses_of(alloc, insns)?;
+    for k in 0..insns.len() {
+        if !payload_holds_by(&uses, insns, k) {
+            return Ok(Some(k));
+        }
+    }
+    Ok(None)
+}
+
+/// Whether all payloads of a code are used as they have to be, as `code_holds` of `PayloadUse` says it.
 pub fn payloads_hold_in(alloc: Global, one: &Code<'_>) -> Result<bool, AllocError>
     ensures { IfOk result (λ hold. IsTrue hold ↔ PayloadsHold (code one.now)) }
 {
-    let uses = uses_of(alloc, one.insns)?;
-    for k in 0..one.insns.len() {
-        if !payload_holds_by(&uses, one.insns, k) {
-            return Ok(false);
-        }
-    }
-    Ok(true)
+    let found = first_bad_use(alloc, one.insns)?;
+    Ok(found.is_none())
 }

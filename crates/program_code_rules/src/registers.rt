@@ -1,13 +1,15 @@
 //! The registers that instructions name ("Dalvik Executable instruction formats", "The formats").
 
-ghost use Rattle.std.specs.Prelude.{◌↔◌, ◌<◌, length, map, take, IsTrue};
+ghost use Rattle.std.specs.Prelude.{◌↔◌, ◌<◌, length, map, take, IsTrue, IfSome, IfNone};
 ghost use Rattle.std.specs.List.{AllByRecursion, range_with_len};
 ghost use Rattle.program_types.specs.Formed.{insn_at, insn_registers, AreAmong, RegistersHold};
 ghost use Rattle.program_types.specs.View.{insn, code};
+ghost use Rattle.program_code_rules.specs.First.{AllHold, IsFirstBroken};
 
 use program_types::{Code, Insn};
 
 /// Whether all registers are among the first `count`.
+#[inline(always)]
 fn are_among(count: u16, regs: &[u8]) -> bool
     ensures { IsTrue result ↔ AllByRecursion (λ v. v < count) regs.now }
 {
@@ -20,6 +22,7 @@ fn are_among(count: u16, regs: &[u8]) -> bool
 }
 
 /// Whether the first `n` of five registers are.
+#[inline(always)]
 fn first_are_among(count: u16, n: u8, regs: &[u8; 5]) -> bool
     ensures { IsTrue result ↔ AllByRecursion (λ v. v < count) (take n regs.now) }
 {
@@ -27,6 +30,7 @@ fn first_are_among(count: u16, n: u8, regs: &[u8; 5]) -> bool
 }
 
 /// Whether `n` registers from `first` on are.
+#[inline(always)]
 fn run_is_among(count: u16, n: u8, first: u16) -> bool
     ensures { IsTrue result ↔ AllByRecursion (λ v. v < count) (range_with_len first n) }
 {
@@ -40,9 +44,10 @@ fn run_is_among(count: u16, n: u8, first: u16) -> bool
 }
 
 /// Whether the registers that an instruction names are.
+#[inline(always)]
 #[rattlefmt::skip]
 #[tactic(auto, unfolding(program_types::specs::Formed::insn_registers))]
-fn insn_is_among(count: u16, one: &Insn<'_>) -> bool
+pub fn insn_is_among(count: u16, one: &Insn<'_>) -> bool
     ensures { IsTrue result ↔ AreAmong count (insn one.now) }
 {
     match *one {
@@ -69,6 +74,19 @@ fn register_holds(count: u16, insns: &[Insn<'_>], k: usize) -> bool
     insn_is_among(count, one)
 }
 
+/// The first instruction that names a register past the first `count`.
+pub fn first_past(count: u16, insns: &[Insn<'_>]) -> Option<usize>
+    ensures some { IfSome result (IsFirstBroken (λ k. AreAmong count (insn_at (map insn insns.now) k)) (λ k. AreAmong count (insn_at (map insn insns.now) k)) (length insns.now)) }
+    ensures none { IfNone result (AllHold (λ k. AreAmong count (insn_at (map insn insns.now) k)) (length insns.now)) }
+{
+    for k in 0..insns.len() {
+        if !register_holds(count, insns, k) {
+            return Some(k);
+        }
+    }
+    None
+}
+
 /// Whether a code's ins and all registers that its instructions name are registers of it.
 pub(crate) fn registers_hold(one: &Code<'_>) -> bool
     ensures { IsTrue result ↔ RegistersHold (code one.now) }
@@ -76,10 +94,5 @@ pub(crate) fn registers_hold(one: &Code<'_>) -> bool
     if one.ins > one.registers {
         return false;
     }
-    for k in 0..one.insns.len() {
-        if !register_holds(one.registers, one.insns, k) {
-            return false;
-        }
-    }
-    true
+    first_past(one.registers, one.insns).is_none()
 }

@@ -1,14 +1,17 @@
 //! Where branches and switches lead to.
 
-ghost use Rattle.std.specs.Prelude.{◌≡◌, ◌≢◌, ◌↔◌, ◌<◌, length, map, IsTrue, IfSome, None};
+ghost use Rattle.std.specs.Prelude.{◌≡◌, ◌↔◌, ◌<◌, length, map, IsTrue, IfSome, IfNone};
 ghost use Rattle.std.specs.List.{AllByRecursion};
-ghost use Rattle.program_types.specs.Formed.{insn_branch, insn_short_branch, IsTarget, TargetHolds};
+ghost use Rattle.program_types.specs.Formed.{insn_branch, insn_short_branch, IsTarget};
 ghost use Rattle.program_types.specs.View.{insn, code};
+ghost use Rattle.program_code_rules.specs.Branches.{BranchLands, BranchMoves, BranchHolds, BranchStays, SwitchLands};
+ghost use Rattle.program_code_rules.specs.First.{AllHold, IsFirstBroken};
 ghost use Rattle.program_code_rules.specs.CodeRules.{TargetsHold};
 
 use program_types::{Code, Insn, payload_of, targets_of};
 
 /// The target of a branch.
+#[inline(always)]
 #[tactic(auto, unfolding(program_types::specs::Formed::insn_branch))]
 fn branch_of(one: &Insn<'_>) -> Option<u32>
     ensures { result ≡ insn_branch (insn one.now) }
@@ -24,6 +27,7 @@ fn branch_of(one: &Insn<'_>) -> Option<u32>
 }
 
 /// The target of a branch that may not lead to itself: of all but goto/32.
+#[inline(always)]
 #[tactic(auto, unfolding(program_types::specs::Formed::insn_branch, program_types::specs::Formed::insn_short_branch))]
 fn short_branch_of(one: &Insn<'_>) -> Option<u32>
     ensures { result ≡ insn_short_branch (insn one.now) }
@@ -60,49 +64,95 @@ fn are_targets(insns: &[Insn<'_>], targets: &[u32]) -> bool
     true
 }
 
-/// Whether the branch of instruction `k` lands.
-fn branch_lands(insns: &[Insn<'_>], one: &Insn<'_>) -> bool
-    ensures { IsTrue result ↔ IfSome (insn_branch (insn one.now)) (IsTarget (map insn insns.now)) }
+/// Whether the branch of instruction `k`, if it is one, leads to an instruction that is no payload.
+pub fn branch_lands(insns: &[Insn<'_>], k: usize) -> bool
+    requires inside { k < length insns.now }
+    ensures { IsTrue result ↔ BranchLands (map insn insns.now) k }
 {
+    let one = &insns[k];
     match branch_of(one) {
         Some(to) => is_target(insns, to),
         None => true,
     }
 }
 
-/// Whether a branch that has to lead elsewhere than to itself, number `k`, does.
-fn branch_moves(one: &Insn<'_>, k: usize) -> bool
-    ensures { IsTrue result ↔ IfSome (insn_short_branch (insn one.now)) (λ to. to ≢ k) }
+/// Whether a branch that has to lead elsewhere than to itself does.
+fn branch_moves(insns: &[Insn<'_>], k: usize) -> bool
+    requires inside { k < length insns.now }
+    ensures { IsTrue result ↔ BranchMoves (map insn insns.now) k }
 {
+    let one = &insns[k];
     match short_branch_of(one) {
         Some(to) => to as usize != k,
         None => true,
     }
 }
 
-/// Whether the targets of instruction `k` are as they have to be.
-fn target_holds(insns: &[Insn<'_>], k: usize) -> bool
+/// Whether a branch leads to one of `count` instructions, and elsewhere than to itself, number `k`, where it has to.
+#[inline(always)]
+#[tactic(auto, unfolding(program_types::specs::Formed::insn_branch, program_types::specs::Formed::insn_short_branch))]
+pub fn branch_stays(one: &Insn<'_>, count: usize, k: usize) -> bool
+    ensures { IsTrue result ↔ BranchStays count k (insn one.now) }
+{
+    match *one {
+        Insn::I10t { to, .. }
+        | Insn::I20t { to, .. }
+        | Insn::I21t { to, .. }
+        | Insn::I22t { to, .. } => (to as usize) < count && to as usize != k,
+        Insn::I30t { to, .. } => (to as usize) < count,
+        _ => true,
+    }
+}
+
+/// Both.
+fn branch_holds(insns: &[Insn<'_>], k: usize) -> bool
     requires inside { k < length insns.now }
-    ensures { IsTrue result ↔ TargetHolds (map insn insns.now) k }
+    ensures { IsTrue result ↔ BranchHolds (map insn insns.now) k }
+{
+    if !branch_lands(insns, k) {
+        return false;
+    }
+    branch_moves(insns, k)
+}
+
+/// Whether the targets of a switch's payload are instructions that are no payloads.
+fn switch_lands(insns: &[Insn<'_>], k: usize) -> bool
+    requires inside { k < length insns.now }
+    ensures { IsTrue result ↔ SwitchLands (map insn insns.now) k }
 {
     let one = &insns[k];
-    if !branch_lands(insns, one) {
-        return false;
-    }
-    if !branch_moves(one, k) {
-        return false;
-    }
     are_targets(insns, targets_of(one))
+}
+
+/// The first branch that leads to no instruction, to a payload, or to itself where it may not.
+pub fn first_bad_branch(insns: &[Insn<'_>]) -> Option<usize>
+    ensures some { IfSome result (IsFirstBroken (BranchHolds (map insn insns.now)) (BranchHolds (map insn insns.now)) (length insns.now)) }
+    ensures none { IfNone result (AllHold (BranchHolds (map insn insns.now)) (length insns.now)) }
+{
+    for k in 0..insns.len() {
+        if !branch_holds(insns, k) {
+            return Some(k);
+        }
+    }
+    None
+}
+
+/// The first payload of a switch one of whose targets is no instruction, or a payload.
+pub fn first_bad_switch(insns: &[Insn<'_>]) -> Option<usize>
+    ensures some { IfSome result (IsFirstBroken (SwitchLands (map insn insns.now)) (SwitchLands (map insn insns.now)) (length insns.now)) }
+    ensures none { IfNone result (AllHold (SwitchLands (map insn insns.now)) (length insns.now)) }
+{
+    for k in 0..insns.len() {
+        if !switch_lands(insns, k) {
+            return Some(k);
+        }
+    }
+    None
 }
 
 /// Whether the targets of all instructions are as they have to be.
 pub(crate) fn targets_hold(one: &Code<'_>) -> bool
     ensures { IsTrue result ↔ TargetsHold (code one.now) }
 {
-    for k in 0..one.insns.len() {
-        if !target_holds(one.insns, k) {
-            return false;
-        }
-    }
-    true
+    first_bad_branch(one.insns).is_none() && first_bad_switch(one.insns).is_none()
 }

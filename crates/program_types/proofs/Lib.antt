@@ -3,6 +3,7 @@ pub mod Letters
 pub mod Nesting
 pub mod ValueViews
 -- What stands below, for the crates above.
+pub use Rattle.dex_insn.proofs.Deciding
 pub use Rattle.dex_insn.proofs.ListFacts
 pub use Rattle.dex_insn.proofs.OrderLaws
 pub use Rattle.dex_insn.proofs.DescriptorLaws

@@ -12,7 +12,11 @@ pub mod Sizes
 pub mod Formed
 pub mod Hashing
 -- What stands below, for the crates above.
+pub use Rattle.dex_insn.specs.Deciding
 pub use Rattle.dex_insn.specs.Fault
+pub use Rattle.dex_insn.specs.base_bytes_Fields as Fields
+pub use Rattle.dex_insn.specs.Words
+pub use Rattle.dex_insn.specs.declared_Fault
 pub use Rattle.dex_insn.specs.Descriptor
 pub use Rattle.dex_insn.specs.Mutf8
 pub use Rattle.dex_insn.specs.Opcodes

@@ -1,6 +1,6 @@
 -- Where no fault stands, the tables hold, and the other way round.
 use Rattle.std.proofs.Common.{ℕ, ◌<◌, inl, inr, List}
-use Rattle.base_bytes.specs.declared.fault.Fault.{Fault}
+use Rattle.tables_names.specs.declared_Fault.{Fault}
 use Rattle.tables_rows.specs.Frame.{IsFramed}
 use Rattle.tables_rows.specs.Layout.{size_of}
 use Rattle.tables_rows.specs.Sorted.{StringHolds, TypeHolds, ProtoHolds, FieldHolds, MethodHolds, StringsHold, TypesHold, ProtosHold, TablesHold}

@@ -1,7 +1,7 @@
 -- The tables of a file have one fault.
 use Rattle.std.proofs.Common.{◌≡◌, ℕ, inl, inr, List, refl, sym, ap, ◌∙◌, subst, arith}
 use Rattle.std.proofs.lemmas.Bool.{cases_lt}
-use Rattle.base_bytes.specs.declared.fault.Fault.{Fault}
+use Rattle.tables_names.specs.declared_Fault.{Fault}
 use Rattle.tables_rows.specs.Frame.{IsFramed}
 use Rattle.tables_rows.specs.RowFields.{row_place, string_place}
 use Rattle.tables_rows.specs.Sorted.{StringHolds, TypeHolds, ProtoHolds, FieldHolds, MethodHolds, StringsHold, TypesHold, ProtosHold, FieldsHold}

@@ -4,7 +4,7 @@ use Rattle.std.proofs.lemmas.Bool.{cases_lt}
 use Rattle.std.specs.declared.cmp.Ordering.{Ordering}
 use Rattle.std.specs.declared.cmp.Ordering.TheVariants.{Less}
 use Rattle.std.specs.Cmp.Lexicographic.{slice_cmp}
-use Rattle.base_bytes.specs.declared.fault.Fault.{Fault}
+use Rattle.tables_names.specs.declared_Fault.{Fault}
 use Rattle.tables_rows.specs.Frame.{IsFramed}
 use Rattle.tables_rows.specs.Layout.{size_of}
 use Rattle.tables_names.specs.Content.{Units, Proto, FieldRef, MethodRef}
@@ -16,8 +16,8 @@ use Rattle.tables_rows.specs.Stands.{TypeStands, ProtoStands, FieldStands, Metho
 use Rattle.tables_rows.specs.TableFaults.{StringBreaks, StringPlace, StringSpelling, StringOrder, TypeBreaks, TypeIndex, TypeText, TypeOrder, ProtoBreaks, ProtoIndex, ParameterList, Shorty, ProtoOrder, FieldBreaks, FieldIndex, FieldKind, FieldOrder, MethodBreaks, MethodIndex, MethodKind, MethodOrder, IsFirstRow, IsTableFault}
 use Rattle.tables_rows.proofs.RowReading.{string_one}
 use Rattle.tables_rows.proofs.TypeLists.{protos_below, below_protos, protos_below_none, protos_none_below}
-use Rattle.base_bytes.specs.Deciding.{Decided}
-use Rattle.base_bytes.proofs.Deciding.{decide_like, decide_either, decide_lt, decide_list}
+use Rattle.tables_names.specs.Deciding.{Decided}
+use Rattle.tables_names.proofs.Deciding.{decide_like, decide_either, decide_lt, decide_list}
 use Rattle.tables_names.proofs.NamesDecided.{decide_descriptor, decide_class, decide_array, decide_member}
 use Rattle.tables_rows.proofs.PlacesDecided.{decide_in}
 use Rattle.tables_laws.proofs.RowsDecided.{decide_string, decide_list_at, decide_parameters}

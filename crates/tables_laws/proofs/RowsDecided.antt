@@ -3,8 +3,8 @@ use Rattle.std.proofs.Common.{◌≡◌, ◌≢◌, ℕ, ◌^◌, ◌<◌, ◌�
 use Rattle.std.specs.Prelude.{MatchBool, ◌==◌}
 use Rattle.std.proofs.lemmas.Bool.{cases_lt}
 use Rattle.std.specs.List.{AllByRecursion, AllZip}
-use Rattle.base_bytes.specs.Fields.{u32_bytes}
-use Rattle.base_bytes.specs.Words.{halves_bytes}
+use Rattle.tables_names.specs.Fields.{u32_bytes}
+use Rattle.tables_names.specs.Words.{halves_bytes}
 use Rattle.tables_names.specs.Mutf8.{SpellsText}
 use Rattle.tables_rows.specs.Frame.{IsFramed}
 use Rattle.tables_rows.specs.Layout.{size_of}
@@ -18,8 +18,8 @@ use Rattle.tables_rows.specs.Stands.{StringStands, TypeStands, TypesAt, SpellsIn
 use Rattle.tables_rows.specs.TableFaults.{ParametersAt}
 use Rattle.tables_rows.proofs.HalvesLaws.{spelled_numbers, list_or_none_one}
 use Rattle.tables_rows.proofs.TypeLists.{indexes_of, types_of, types_one}
-use Rattle.base_bytes.specs.Deciding.{Decided, DecidedFront}
-use Rattle.base_bytes.proofs.Deciding.{decide_like, decide_both, decide_lt, decide_list, decide_all, decide_by}
+use Rattle.tables_names.specs.Deciding.{Decided, DecidedFront}
+use Rattle.tables_names.proofs.Deciding.{decide_like, decide_both, decide_lt, decide_list, decide_all, decide_by}
 use Rattle.tables_names.proofs.TextsDecided.{decide_text}
 use Rattle.tables_rows.proofs.PlacesDecided.{decide_at}
 

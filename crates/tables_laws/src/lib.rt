@@ -9,7 +9,7 @@ ghost use Rattle.tables_names.specs.Content.{Units, Name, Proto, OfText, OfDesc,
 ghost use Rattle.tables_names.specs.Rank.{is_member, add_all};
 ghost use Rattle.tables_names.specs.Key.{key_cmp, text_key, proto_key, field_ref_key, method_ref_key, Key};
 ghost use Rattle.tables_rows.specs.Stands.{StringStands, TypeStands, ProtoStands, FieldStands, MethodStands, NameStands};
-ghost use Rattle.base_bytes.specs.declared.fault.Fault.{Fault};
+ghost use Rattle.tables_names.specs.declared_Fault.{Fault};
 ghost use Rattle.tables_names.specs.Descriptor.{IsDescriptor, IsClass, IsArray, IsMemberName};
 ghost use Rattle.tables_rows.specs.Frame.{IsFramed};
 ghost use Rattle.tables_rows.specs.Where.{IsInSection};

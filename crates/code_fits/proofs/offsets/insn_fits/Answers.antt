@@ -20,5 +20,5 @@ returns c =
       λ t. offsets-from (map insn c.args.insns.now) c.args.starts.now c.args.k (get_or c.args.origins.now c.args.k 0) (c.requires.origins.each c.args.k m) c.requires.payload true_branch
           (subst (λ (i : Insn). TargetsFit c.args.starts.now (get_or c.args.starts.now (get_or c.args.origins.now c.args.k 0) 0) i) e (c.targets_fit.ensures.0 t)),
       λ h. c.targets_fit.ensures.1 (subst (λ (i : Insn). TargetsFit c.args.starts.now (get_or c.args.starts.now (get_or c.args.origins.now c.args.k 0) 0) i) (sym e)
-          (origin-targets (map insn c.args.insns.now) c.args.starts.now c.args.k (get_or c.args.origins.now c.args.k 0) (c.requires.origins.each c.args.k m) h)),
+          (origin-targets (map insn c.args.insns.now) c.args.starts.now c.args.k (get_or c.args.origins.now c.args.k 0) c.requires.payload (c.requires.origins.each c.args.k m) h)),
     )

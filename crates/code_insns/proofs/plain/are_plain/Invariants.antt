@@ -4,8 +4,8 @@ use Rattle.tables_rows.specs.Names.{NameIsAt}
 use Rattle.code_insns.specs.Plain.{PlainRun}
 use Rattle.code_insns.proofs.plain.are_plain.Given as goal
 
-abbrev pub invariant-loop-start : goal.invariant-loop-start
-invariant-loop-start l = record {
-  run : (is : List Insn) × PlainRun (NameIsAt l.tables) l.units l.starts l.registers is l.start-index l.at;
+abbrev pub invariant-loop-k : goal.invariant-loop-k
+invariant-loop-k l = record {
+  run : (is : List Insn) × PlainRun (NameIsAt l.tables) l.units l.starts l.registers is l.k l.at;
   within : 2 * l.at ≤ length l.units;
 }

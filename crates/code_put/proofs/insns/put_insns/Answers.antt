@@ -31,7 +31,7 @@ pub put_one-requires-clause-targets : goal.put_one-requires-clause-targets
 put_one-requires-clause-targets c =
     let m = length-map c.args.insns.now insn in
     let i = insn-at c.args.insns.now c.loop-k.k c.index-insns-k.result c.loop-k-test.true c.index-insns-k.is in
-    let b = origin-targets (map insn c.args.insns.now) c.args.starts.now c.loop-k.k (get_or c.args.origins.now c.loop-k.k 0) (c.requires.origins.each c.loop-k.k (omega arith)) (c.requires.offsets c.loop-k.k c.loop-k-test.true) in
+    let b = origin-targets (map insn c.args.insns.now) c.args.starts.now c.loop-k.k (get_or c.args.origins.now c.loop-k.k 0) (c.requires.payloads c.loop-k.k c.loop-k-test.true) (c.requires.origins.each c.loop-k.k (omega arith)) (c.requires.offsets c.loop-k.k c.loop-k-test.true) in
     rw c.at.ensures.value (subst (λ (x : Said). TargetsFit c.args.starts.now (get_or c.args.starts.now (get_or c.args.origins.now c.loop-k.k 0) 0) x) (sym i) b)
 
 pub loop-k-init : goal.loop-k-init

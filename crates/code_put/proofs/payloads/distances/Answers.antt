@@ -1,14 +1,12 @@
-use Rattle.std.proofs.Common.{◌≡◌, ℕ, List, length, get_or, take, ◌∷◌, [], ◌++◌, Some, arith, ap, sym, ◌∙◌, ◌<◌, rules}
+use Rattle.std.proofs.Common.{◌≡◌, ℕ, List, length, map, take, ◌∷◌, [], ◌++◌, arith, ap, sym, ◌∙◌, ◌<◌, rules}
 use Rattle.std.specs.Prelude.{FitsSigned}
 use Rattle.std.specs.Int.{w32}
 use mir.Val.{SFits}
 use Rattle.std.proofs.lemmas.Int.{to_z-of_z}
-use Rattle.std.proofs.lemmas.List.{take_more, length-append}
-use Rattle.code_insns.specs.Symbols.{places}
-use Rattle.code_insns.specs.Places.{place}
+use Rattle.std.proofs.lemmas.List.{take_more, length-append, map-append}
+use Rattle.code_insns.specs.Linked.{lead}
 use Rattle.code_put.specs.Fits.{distance_of}
 use Rattle.code_put.proofs.ListLaws.{all-at, take-whole}
-use Rattle.code_put.proofs.IntLaws.{places-more}
 use Rattle.code_put.proofs.payloads.distances.Goals as goal
 
 pub distance-requires-clause-inside : goal.distance-requires-clause-inside
@@ -25,11 +23,13 @@ loop-to-preserved c =
     let leads = c.distance.ensures.leads in
     record {
       so_far =
-          ap (places (place c.args.starts.now c.args.at)) e
-          ∙ places-more (place c.args.starts.now c.args.at) c.loop-to.all.items (take c.loop-to.to-index c.args.targets.now) z (get_or c.args.targets.now c.loop-to.to-index 0) c.loop-to.invariant.so_far leads
-          ∙ ap (λ (l : List ℕ). Some l) (sym (take_more c.args.targets.now c.loop-to.to-index 0 c.loop-to-test.true));
+          ap (map (lead c.args.starts.now c.args.at)) e
+          ∙ map-append (lead c.args.starts.now c.args.at) c.loop-to.all.items (z ∷ [])
+          ∙ ap (λ (l : List ℕ). l ++ lead c.args.starts.now c.args.at z ∷ []) c.loop-to.invariant.so_far
+          ∙ ap (λ (n : ℕ). take c.loop-to.to-index c.args.targets.now ++ n ∷ []) leads
+          ∙ sym (take_more c.args.targets.now c.loop-to.to-index 0 c.loop-to-test.true);
       count = let n = c.loop-to.invariant.count in omega (arith, ap length e, length-append c.loop-to.all.items (z ∷ []));
     }
 
 pub returns-clause-ok : goal.returns-clause-ok
-returns-clause-ok c = c.loop-to.invariant.so_far ∙ ap (λ (l : List ℕ). Some l) (take-whole c.args.targets.now c.loop-to.to-index (omega arith))
+returns-clause-ok c = c.loop-to.invariant.so_far ∙ take-whole c.args.targets.now c.loop-to.to-index (omega arith)

@@ -6,7 +6,7 @@ use Rattle.program_types.specs.Sizes.{addresses_of, length_of}
 use Rattle.tables_names.specs.Closure.{NameRanks}
 use Rattle.code_put.specs.Fits.{OffsetsFit, IsEven}
 use Rattle.code_put.specs.Packs.{PacksHandlersOf, PutInsns}
-use Rattle.code_put.specs.Writing.{AreOrigins}
+use Rattle.code_insns.specs.Branches.{AreOrigins}
 use Rattle.code_put.proofs.FormLaws.{good, names-fit, caught-ranked}
 use Rattle.code_put.proofs.ListLaws.{all-from}
 use Rattle.code_put.proofs.PackLaws.{packed}
@@ -52,7 +52,7 @@ put_insns-requires-clause-even c =
 
 pub put_insns-requires-clause-origins : goal.put_insns-requires-clause-origins
 put_insns-requires-clause-origins c =
-    subst (λ (js : List ℕ). AreOrigins (map view.insn c.args.code.now.insns.now) js) (sym c.deref-2.ensures.value) c.in_ok-origins.ensures.ok
+    subst (λ (js : List ℕ). AreOrigins (map view.insn c.args.code.now.insns.now) js) (sym c.deref-2.ensures.value) c.in_ok-origins.ensures
 
 pub put_items-requires-clause-formed : goal.put_items-requires-clause-formed
 put_items-requires-clause-formed c =

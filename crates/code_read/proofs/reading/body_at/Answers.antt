@@ -45,5 +45,5 @@ pub returns-clause-refused : goal.returns-clause-refused
 returns-clause-refused c =
     let is : IsSectionOf c.args.sections.now 8193 c.section_of-section.result = assumption c.section_of-section.ensures in
     IfErr-weaker c.read_item.result _ _
-    (λ e breaks other d a. broken_none (NameIsAt c.args.tables.now) c.args.sections.now c.in-Some.bytes.now c.section_of-section.result c.args.off is c.in-Some.ensures.value e (breaks other) d a)
+    (λ e breaks other d a. broken_none (NameIsAt c.args.tables.now) c.args.sections.now c.in-Some.bytes.now c.section_of-section.result c.args.off is c.in-Some.ensures.value (NameIsAt-functional c.args.tables.now) e (breaks other) d a)
     c.read_item.ensures.err

@@ -2,7 +2,7 @@ use Rattle.std.proofs.Common.{◌*◌, ◌-◌, ◌≤◌, List, length}
 use Rattle.dex_insn.specs.Raw.{Raw}
 use Rattle.program_types.specs.Content.{Insn}
 use Rattle.tables_rows.specs.Stands.{NameStands}
-use Rattle.code_insns.specs.Insns.{SpellsInsns}
+use Rattle.code_insns.specs.Linked.{SpellsInsns}
 use Rattle.code_renumber.proofs.WalkLemmas.{MarkedTo}
 use Rattle.code_renumber.proofs.insns.mark_insns.Given as goal
 

@@ -1,0 +1,54 @@
+-- The rules of branches and switches one by one, as files and programs are asked for them, and from where offsets count.
+-- Page: "Dalvik bytecode": goto, packed-switch, sparse-switch.
+use Rattle.std.specs.Prelude.{ℕ, ◌≡◌, ◌≢◌, ◌<◌, ◌≤◌, ◌⊎◌, List, length, slice_index, IfSome}
+use Rattle.std.specs.List.{AllByRecursion}
+use Rattle.program_types.specs.Content.{Insn}
+use Rattle.program_types.specs.Formed.{insn_at, insn_payload, insn_branch, insn_short_branch, insn_targets, IsSwitch, IsTarget, RefersToPayload}
+
+-- a branch leads to an instruction that is no payload
+abbrev pub BranchLands : List Insn → ℕ → Type 0
+BranchLands is k = IfSome (insn_branch (insn_at is k)) (IsTarget is)
+
+-- and not to itself, goto/32 aside
+abbrev pub BranchMoves : List Insn → ℕ → Type 0
+BranchMoves is k = IfSome (insn_short_branch (insn_at is k)) (λ to. to ≢ k)
+
+-- both
+pub record BranchHolds (is : List Insn) (k : ℕ) : Type 0 where
+  pub lands : BranchLands is k
+  pub moves : BranchMoves is k
+
+-- the targets of a switch's payload are instructions that are no payloads
+abbrev pub SwitchLands : List Insn → ℕ → Type 0
+SwitchLands is k = AllByRecursion (IsTarget is) (insn_targets (insn_at is k))
+
+-- A branch leads to one of `count` instructions, and one that may not lead to itself, number k, leads elsewhere.
+pub record BranchStays (count k : ℕ) (i : Insn) : Type 0 where
+  pub inside : IfSome (insn_branch i) (λ to. to < count)
+  pub moves : IfSome (insn_short_branch i) (λ to. to ≢ k)
+
+-- ---- from where offsets count
+
+-- instruction j is the switch of payload k: the last, if there are more
+abbrev pub IsLastSwitch : List Insn → ℕ → ℕ → Type 0
+IsLastSwitch is j k = IsSwitch (insn_payload (insn_at is k)) × RefersToPayload is j k × ((i : ℕ) → RefersToPayload is i k → i ≤ j)
+
+-- The offsets of instruction k count from instruction j: those of a payload that has a switch from it, all others from themselves.
+abbrev pub IsOrigin : List Insn → ℕ → ℕ → Type 0
+IsOrigin is k j = IsLastSwitch is j k ⊎ (((i : ℕ) → ¬ IsLastSwitch is i k) × (j ≡ k))
+
+-- The offsets of each instruction count from these.
+pub record AreOrigins (is : List Insn) (js : List ℕ) : Type 0 where
+  pub count : length js ≡ length is
+  pub each : (k : ℕ) → k < length is → IsOrigin is k (slice_index js k)
+
+-- what is known of the switch of payload k among the first m instructions
+abbrev pub IsSwitchSoFar : List Insn → ℕ → ℕ → ℕ → Type 0
+IsSwitchSoFar is m k j =
+    ((j < m) × IsSwitch (insn_payload (insn_at is k)) × RefersToPayload is j k × ((i : ℕ) → i < m → RefersToPayload is i k → i ≤ j))
+    ⊎ ((j ≡ k) × (IsSwitch (insn_payload (insn_at is k)) → (i : ℕ) → i < m → ¬ RefersToPayload is i k))
+
+-- Of each instruction the last switch among the first m, or itself if there is none.
+pub record AreSwitchesSoFar (is : List Insn) (m : ℕ) (js : List ℕ) : Type 0 where
+  pub count : length js ≡ length is
+  pub each : (k : ℕ) → k < length is → IsSwitchSoFar is m k (slice_index js k)
