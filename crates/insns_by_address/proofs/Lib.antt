@@ -1,0 +1,4 @@
+pub mod Parts
+pub mod Same
+pub mod Refusals
+pub mod Lowered
