@@ -1,4 +1,0 @@
-pub mod Parts
-pub mod Same
-pub mod Refusals
-pub mod Lowered
