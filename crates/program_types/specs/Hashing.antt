@@ -1,5 +1,5 @@
 -- What names feed a hasher. A string: its length, its units four at a time, and those that are left.
-use Rattle.std.specs.Prelude.{◌≡◌, ℕ, suc, zero, ◌+◌, ◌-◌, ◌*◌, ◌/◌, List, [], ◌++◌, length, drop, slice_index, IsTrue, nat_eq, nat_lt, if◌then◌else◌, ◌&&◌}
+use Rattle.std.specs.Prelude.{◌≡◌, ℕ, suc, zero, ◌+◌, ◌-◌, ◌*◌, ◌/◌, List, [], ◌++◌, length, drop, slice_index, IsTrue, nat_eq, nat_lt, if◌then◌else◌}
 use Rattle.std.specs.List.{flat_map}
 use Rattle.std.specs.Hash as fed
 use Rattle.std.specs.Hash.{Alike, items_Alike, and-Alike, on_Alike}
@@ -9,6 +9,7 @@ use Rattle.program_types.specs.declared.names.Str.{Str}
 use Rattle.program_types.specs.declared.names.Desc.{Desc}
 use Rattle.program_types.specs.declared.names.FieldRef.{FieldRef}
 use Rattle.program_types.specs.declared.names.MethodRef.{MethodRef}
+use Rattle.program_types.specs.Equality.{same_type, same_field, same_method}
 
 -- the four units from a place on as one number, the first in the lowest bits
 abbrev pub packed_word : List ℕ → ℕ → ℕ
@@ -28,11 +29,11 @@ units_input us = fed.usize (length us) ++ words us (length us / 4) ++ flat_map f
 abbrev pub str_input : Str → List (List ℕ)
 str_input s = units_input s.units.now
 
--- A type that is a part of a field or a method: all of a short one, and of a longer one its length and the four units
--- at its half, at three quarters and at its end.
+-- A type that is a part of a field or a method: all of it, and of a very long one its length and the four units at its half, at three
+-- quarters and at its end.
 abbrev pub part_input : List ℕ → List (List ℕ)
 part_input us =
-    if nat_lt (length us) 16
+    if nat_lt (length us) 1024
     then units_input us
     else (fed.usize (length us) ++ fed.u64 (packed_word us (length us / 2)) ++ fed.u64 (packed_word us (length us - length us / 4)) ++ fed.u64 (packed_word us (length us - 4)))
 
@@ -51,25 +52,25 @@ pub respects : (x y : Str) → IsTrue (pointwise nat_eq x.units.now y.units.now)
 respects x y same = ap units_input (same_text x.units.now y.units.now (sym same))
 
 -- types that say the same feed the same
-part_alike : Alike (λ (d e : Desc). pointwise nat_eq d.text.units.now e.text.units.now) (λ d. part_input d.text.units.now)
+part_alike : Alike same_type (λ d. part_input d.text.units.now)
 part_alike = record { fed = λ d e same. ap part_input (same_text d.text.units.now e.text.units.now (sym same)) }
 
 str_alike : Alike (λ (s t : Str). pointwise nat_eq s.units.now t.units.now) str_input
 str_alike = record { fed = respects }
 
-parts_alike : Alike (pointwise (λ (d e : Desc). pointwise nat_eq d.text.units.now e.text.units.now)) (fed.slice (λ (d : Desc). part_input d.text.units.now))
+parts_alike : Alike (pointwise same_type) (fed.slice (λ (d : Desc). part_input d.text.units.now))
 parts_alike = items_Alike part_alike
 
-field_alike : Alike (λ (x y : FieldRef). pointwise nat_eq x.class.text.units.now y.class.text.units.now && (pointwise nat_eq x.name.units.now y.name.units.now && pointwise nat_eq x.ty.text.units.now y.ty.text.units.now)) field_input
+field_alike : Alike same_field field_input
 field_alike = and-Alike (on_Alike (λ (x : FieldRef). x.class) part_alike) (and-Alike (on_Alike (λ (x : FieldRef). x.name) str_alike) (on_Alike (λ (x : FieldRef). x.ty) part_alike))
 
 -- equal fields feed the same
-pub field_respects : (x y : FieldRef) → IsTrue (pointwise nat_eq x.class.text.units.now y.class.text.units.now && (pointwise nat_eq x.name.units.now y.name.units.now && pointwise nat_eq x.ty.text.units.now y.ty.text.units.now)) → field_input x ≡ field_input y
+pub field_respects : (x y : FieldRef) → IsTrue (same_field x y) → field_input x ≡ field_input y
 field_respects = field_alike.fed
 
-method_alike : Alike (λ (x y : MethodRef). pointwise nat_eq x.class.text.units.now y.class.text.units.now && (pointwise nat_eq x.name.units.now y.name.units.now && (pointwise nat_eq x.proto.now.ret.text.units.now y.proto.now.ret.text.units.now && pointwise (λ (d e : Desc). pointwise nat_eq d.text.units.now e.text.units.now) x.proto.now.params.now y.proto.now.params.now))) method_input
+method_alike : Alike same_method method_input
 method_alike = and-Alike (on_Alike (λ (x : MethodRef). x.class) part_alike) (and-Alike (on_Alike (λ (x : MethodRef). x.name) str_alike) (and-Alike (on_Alike (λ (x : MethodRef). x.proto.now.ret) part_alike) (on_Alike (λ (x : MethodRef). x.proto.now.params.now) parts_alike)))
 
 -- equal methods feed the same
-pub method_respects : (x y : MethodRef) → IsTrue (pointwise nat_eq x.class.text.units.now y.class.text.units.now && (pointwise nat_eq x.name.units.now y.name.units.now && (pointwise nat_eq x.proto.now.ret.text.units.now y.proto.now.ret.text.units.now && pointwise (λ (d e : Desc). pointwise nat_eq d.text.units.now e.text.units.now) x.proto.now.params.now y.proto.now.params.now))) → method_input x ≡ method_input y
+pub method_respects : (x y : MethodRef) → IsTrue (same_method x y) → method_input x ≡ method_input y
 method_respects = method_alike.fed

@@ -1,3 +1,4 @@
+pub mod Equality
 pub mod Content
 pub mod View
 pub mod Key

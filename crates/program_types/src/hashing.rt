@@ -1,8 +1,8 @@
 //! Hashing of strings, and so of all names, by content.
 //!
-//! A program mentions the members of one class again and again, so a member is hashed without the whole of its types: their
-//! lengths and twelve units of each tell members apart nearly always, since most differ in their names as well. The last
-//! units alone would not: thousands of classes end as `$Builder;`, and each has a `build`.
+//! Names are hashed whole. Whatever part were left out, there are generators and renamers that write thousands of types which differ in
+//! that part alone, each with a `build`. Only a type that no tool would write is hashed by twelve units where it is a part of a member:
+//! a class may define many members, and each is hashed with its class.
 ghost use Rattle.std.specs.Prelude.{◌≡◌, ◌+◌, ◌/◌, ◌<◌, ◌≤◌, length};
 ghost use Rattle.std.specs.List.{fold, flat_map};
 ghost use Rattle.program_types.specs.Hashing.{packed_word, words, units_input, part_input};
@@ -11,7 +11,7 @@ use crate::names::{Desc, FieldRef, MethodRef, Str};
 use std::hash::{Hash, Hasher};
 
 /// The types that have fewer units are hashed whole.
-const PART: usize = 16;
+const PART: usize = 1024;
 
 // Four units as one number.
 fn word_at(units: &[u16], at: usize) -> u64

@@ -20,6 +20,7 @@
 #![tactic(auto)]
 
 // Names, and how they are hashed.
+mod equality;
 mod hashing;
 mod names;
 

@@ -2,7 +2,7 @@
 //! proto_id_item, field_id_item, method_id_item).
 //!
 //! The derives compare and hash through the references, so by content, in the order of the fields, which is that of the table.
-//! A string is hashed four units at a time, a field and a method without the whole of their types (`hashing.rt`).
+//! A string is hashed four units at a time (`hashing.rt`); `==` of fields and methods looks at the class last (`equality.rt`).
 
 /// A string, by its UTF-16 units.
 #[derive(Clone, Copy, PartialEq, Eq, PartialOrd, Ord)]
@@ -24,7 +24,7 @@ pub struct Proto<'a> {
 }
 
 /// A field of a class, by name and type.
-#[derive(Clone, Copy, PartialEq, Eq, PartialOrd, Ord)]
+#[derive(Clone, Copy, Eq, PartialOrd, Ord)]
 pub struct FieldRef<'a> {
     pub class: Desc<'a>,
     pub name: Str<'a>,
@@ -41,7 +41,7 @@ pub struct FieldRef<'a> {
 /// let get = method(&arena, "LHello;->get(Z)I")?.unwrap();
 /// assert_eq!(rt; format!(in alloc; "{get}")?.as_str(), "LHello;->get(Z)I");
 /// ```
-#[derive(Clone, Copy, PartialEq, Eq, PartialOrd, Ord)]
+#[derive(Clone, Copy, PartialOrd, Ord)]
 pub struct MethodRef<'a> {
     pub class: Desc<'a>,
     pub name: Str<'a>,
