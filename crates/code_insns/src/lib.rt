@@ -1,5 +1,5 @@
-//! The instructions of a code item: the units walked once, end to end, the rules of indices, branches, payloads and switches
-//! checked, and each instruction made symbolic, with names for indices and numbers of instructions for offsets.
+//! The instructions of a code item: the units walked once, end to end, and linked, so that an index is a name, and an offset the number of
+//! the instruction to which it leads. Branches, payloads, switches and registers are then asked for the rules of programs.
 //!
 //! ```text
 //! let insns = read_insns(alloc, &arena, &tables, units, base, registers)?; // 28 fe: goto -2 is `I10t { op: 0x28, to: .. }`

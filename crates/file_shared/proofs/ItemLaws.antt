@@ -1,5 +1,5 @@
 -- Items by their bytes.
-use Rattle.std.proofs.Common.{◌≡◌, ℕ, zero, suc, ◌<◌, Bool, true, false, cond, List, [], ◌∷◌, ◌++◌, map, length, refl, sym, ap, ◌∙◌, arith, true≢false, Some, None, inl, inr, Vec, Global, if◌then◌else◌}
+use Rattle.std.proofs.Common.{◌≡◌, ℕ, zero, suc, ◌<◌, Bool, true, false, cond, List, [], ◌∷◌, ◌++◌, map, length, refl, sym, ap, ◌∙◌, arith, true≢false, Some, None, inl, inr, if◌then◌else◌}
 use Rattle.std.proofs.lemmas.Option.{none-some}
 use Rattle.std.proofs.lemmas.List.{map-append}
 use Rattle.std.proofs.lemmas.Slice.Eq.{bytes_eq-Decides}
@@ -9,15 +9,16 @@ use Rattle.indexmap.specs.IndexMap.{insert_entry}
 use Rattle.file_layout.specs.Tiles.{zeros, gap}
 use Rattle.file_layout.specs.Sections.{Adds, IsItself}
 use Rattle.file_layout.proofs.SectionLaws.{unpadded, gap_one, length-padded}
+use Rattle.file_shared.specs.declared.item.Item.{Item}
 use Rattle.file_shared.specs.Once.{Entry, kept_entry, HasItemAt, PutsOnce}
 use Rattle.base_bytes.proofs.ListFacts.{some_inj}
 
 abbrev Held : Type 0
-Held = Vec ℕ Global × ℕ
+Held = Item × ℕ
 
 -- what is found by a test of its bytes
-module _ (test : Vec ℕ Global → Bool) (bytes : List ℕ) where
-  found : ((v : Vec ℕ Global) → test v ≡ true → v.items ≡ bytes) → (es : List Held) (place : ℕ) → lookup test es ≡ Some place → HasItemAt (map kept_entry es) bytes place
+module _ (test : Item → Bool) (bytes : List ℕ) where
+  found : ((v : Item) → test v ≡ true → v.bytes.items ≡ bytes) → (es : List Held) (place : ℕ) → lookup test es ≡ Some place → HasItemAt (map kept_entry es) bytes place
   found is [] place e = absurd (none-some place e)
   found is (x ∷ xs) place e = by (test x.0) refl (found is xs place) e
     where
@@ -25,41 +26,41 @@ module _ (test : Vec ℕ Global → Bool) (bytes : List ℕ) where
       by true t rest e = let p : x.1 ≡ place = cc in (0, λ i. Some (is x.0 t i, p i))
       by false t rest e = let r = rest e in (suc r.0, r.1)
 
-  absent : ((v : Vec ℕ Global) → v.items ≡ bytes → test v ≡ true) → (es : List Held) → lookup test es ≡ None → (place : ℕ) → ¬ HasItemAt (map kept_entry es) bytes place
+  absent : ((v : Item) → v.bytes.items ≡ bytes → test v ≡ true) → (es : List Held) → lookup test es ≡ None → (place : ℕ) → ¬ HasItemAt (map kept_entry es) bytes place
   absent has [] e place kept = cc kept.1
   absent has (x ∷ xs) e place kept = by (test x.0) refl (λ e k. absent has xs e place k) e kept
     where
       by : (t : Bool) → test x.0 ≡ t → (lookup test xs ≡ None → ¬ HasItemAt (map kept_entry xs) bytes place) → cond t (Some x.1) (lookup test xs) ≡ None → HasItemAt (map kept_entry (x ∷ xs)) bytes place → ⊥
       by true t rest e kept = none-some x.1 (sym e)
-      by false t rest e (zero, at) = let b : x.0.items ≡ bytes = ap (λ (h : Entry). h.0) (some_inj (kept_entry x) (bytes, place) at) in true≢false (sym (has x.0 b) ∙ t)
+      by false t rest e (zero, at) = let b : x.0.bytes.items ≡ bytes = ap (λ (h : Entry). h.0) (some_inj (kept_entry x) (bytes, place) at) in true≢false (sym (has x.0 b) ∙ t)
       by false t rest e (suc k, at) = rest e (k, at)
 
 -- bytes as a key of the map
-abbrev same_bytes : Vec ℕ Global → Vec ℕ Global → Bool
-same_bytes x y = bytes_eq x.items y.items
+abbrev same_bytes : Item → Item → Bool
+same_bytes x y = bytes_eq x.bytes.items y.bytes.items
 
 -- an item that is there, put once more, changes nothing
-insert_again : (es : List Held) (bytes : Vec ℕ Global) (place : ℕ) → lookup (same_bytes bytes) es ≡ Some place → insert_entry same_bytes es bytes place ≡ es
-insert_again [] bytes place e = absurd (none-some place e)
-insert_again (x ∷ xs) bytes place e = by (same_bytes bytes x.0) (insert_again xs bytes place) e
+insert_again : (es : List Held) (one : Item) (place : ℕ) → lookup (same_bytes one) es ≡ Some place → insert_entry same_bytes es one place ≡ es
+insert_again [] one place e = absurd (none-some place e)
+insert_again (x ∷ xs) one place e = by (same_bytes one x.0) (insert_again xs one place) e
   where
-    by : (t : Bool) → (lookup (same_bytes bytes) xs ≡ Some place → insert_entry same_bytes xs bytes place ≡ xs) → cond t (Some x.1) (lookup (same_bytes bytes) xs) ≡ Some place
-        → (if t then (x.0, place) ∷ xs else x ∷ insert_entry same_bytes xs bytes place) ≡ x ∷ xs
+    by : (t : Bool) → (lookup (same_bytes one) xs ≡ Some place → insert_entry same_bytes xs one place ≡ xs) → cond t (Some x.1) (lookup (same_bytes one) xs) ≡ Some place
+        → (if t then (x.0, place) ∷ xs else x ∷ insert_entry same_bytes xs one place) ≡ x ∷ xs
     by true rest e = let p : x.1 ≡ place = cc in (λ i. (x.0, sym p i) ∷ xs)
     by false rest e = ap (λ (l : List Held). x ∷ l) (rest e)
 
 -- a new item goes last
-insert_last : (es : List Held) (bytes : Vec ℕ Global) (place : ℕ) → ((other : ℕ) → ¬ HasItemAt (map kept_entry es) bytes.items other) → insert_entry same_bytes es bytes place ≡ es ++ (bytes, place) ∷ []
-insert_last [] bytes place fresh = refl
-insert_last (x ∷ xs) bytes place fresh = by (bytes_eq bytes.items x.0.items) refl (insert_last xs bytes place (λ other k. fresh other (suc k.0, k.1)))
+insert_last : (es : List Held) (one : Item) (place : ℕ) → ((other : ℕ) → ¬ HasItemAt (map kept_entry es) one.bytes.items other) → insert_entry same_bytes es one place ≡ es ++ (one, place) ∷ []
+insert_last [] one place fresh = refl
+insert_last (x ∷ xs) one place fresh = by (bytes_eq one.bytes.items x.0.bytes.items) refl (insert_last xs one place (λ other k. fresh other (suc k.0, k.1)))
   where
-    by : (t : Bool) → bytes_eq bytes.items x.0.items ≡ t → insert_entry same_bytes xs bytes place ≡ xs ++ (bytes, place) ∷ []
-        → (if t then (x.0, place) ∷ xs else x ∷ insert_entry same_bytes xs bytes place) ≡ x ∷ (xs ++ (bytes, place) ∷ [])
-    by true t rest = absurd (fresh x.1 (0, λ i. Some (sym ((bytes_eq-Decides bytes.items x.0.items).0 t) i, x.1)))
+    by : (t : Bool) → bytes_eq one.bytes.items x.0.bytes.items ≡ t → insert_entry same_bytes xs one place ≡ xs ++ (one, place) ∷ []
+        → (if t then (x.0, place) ∷ xs else x ∷ insert_entry same_bytes xs one place) ≡ x ∷ (xs ++ (one, place) ∷ [])
+    by true t rest = absurd (fresh x.1 (0, λ i. Some (sym ((bytes_eq-Decides one.bytes.items x.0.bytes.items).0 t) i, x.1)))
     by false t rest = ap (λ (l : List Held). x ∷ l) rest
 
-last_entry : (es new : List Held) (bytes : Vec ℕ Global) (place : ℕ) → new ≡ es ++ (bytes, place) ∷ [] → map kept_entry new ≡ map kept_entry es ++ (bytes.items, place) ∷ []
-last_entry es new bytes place e = ap (map kept_entry) e ∙ map-append kept_entry es ((bytes, place) ∷ [])
+last_entry : (es new : List Held) (one : Item) (place : ℕ) → new ≡ es ++ (one, place) ∷ [] → map kept_entry new ≡ map kept_entry es ++ (one.bytes.items, place) ∷ []
+last_entry es new one place e = ap (map kept_entry) e ∙ map-append kept_entry es ((one, place) ∷ [])
 
 -- an item after others, with no zeros between
 pub adds_here : (old new bytes : List ℕ) (place : ℕ) → 0 < length bytes → place ≡ length old → new ≡ old ++ bytes → Adds IsItself 1 old new bytes place
@@ -82,16 +83,16 @@ adds_aligned old mid new bytes place some m p e = record {
 }
 
 -- what the map's entry of these bytes answers, and what the map is once this place is written there
-pub puts_again : (align : ℕ) (es new : List Held) (out more : List ℕ) (bytes : Vec ℕ Global) (place : ℕ) → lookup (same_bytes bytes) es ≡ Some place → new ≡ insert_entry same_bytes es bytes place → more ≡ out
-    → PutsOnce align (map kept_entry es) (map kept_entry new) out more bytes.items place
-puts_again align es new out more bytes place e n w = inl (record {
-  there = found (same_bytes bytes) bytes.items (λ v t. sym ((bytes_eq-Decides bytes.items v.items).0 t)) es place e;
+pub puts_again : (align : ℕ) (es new : List Held) (out more : List ℕ) (one : Item) (place : ℕ) → lookup (same_bytes one) es ≡ Some place → new ≡ insert_entry same_bytes es one place → more ≡ out
+    → PutsOnce align (map kept_entry es) (map kept_entry new) out more one.bytes.items place
+puts_again align es new out more one place e n w = inl (record {
+  there = found (same_bytes one) one.bytes.items (λ v t. sym ((bytes_eq-Decides one.bytes.items v.bytes.items).0 t)) es place e;
   whole = w;
-  same = ap (map kept_entry) (n ∙ insert_again es bytes place e);
+  same = ap (map kept_entry) (n ∙ insert_again es one place e);
 })
 
-pub puts_first : (align : ℕ) (es new : List Held) (out more : List ℕ) (bytes : Vec ℕ Global) (place : ℕ) → lookup (same_bytes bytes) es ≡ None → new ≡ insert_entry same_bytes es bytes place → Adds IsItself align out more bytes.items place
-    → PutsOnce align (map kept_entry es) (map kept_entry new) out more bytes.items place
-puts_first align es new out more bytes place e n a =
-    let fresh = absent (same_bytes bytes) bytes.items (λ v s. (bytes_eq-Decides bytes.items v.items).1 (sym s)) es e in
-    inr (record { fresh = fresh; adds = a; last = last_entry es new bytes place (n ∙ insert_last es bytes place fresh) })
+pub puts_first : (align : ℕ) (es new : List Held) (out more : List ℕ) (one : Item) (place : ℕ) → lookup (same_bytes one) es ≡ None → new ≡ insert_entry same_bytes es one place → Adds IsItself align out more one.bytes.items place
+    → PutsOnce align (map kept_entry es) (map kept_entry new) out more one.bytes.items place
+puts_first align es new out more one place e n a =
+    let fresh = absent (same_bytes one) one.bytes.items (λ v s. (bytes_eq-Decides one.bytes.items v.bytes.items).1 (sym s)) es e in
+    inr (record { fresh = fresh; adds = a; last = last_entry es new one place (n ∙ insert_last es one place fresh) })

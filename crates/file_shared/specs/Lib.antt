@@ -1,2 +1,3 @@
+pub mod Hashing
 pub mod Once
 pub mod Sharing

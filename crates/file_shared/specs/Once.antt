@@ -1,16 +1,16 @@
 -- One more use of an item that is written once.
 -- Page: "Dalvik Executable format", "File layout".
-use Rattle.std.specs.Prelude.{◌≡◌, ℕ, ◌⊎◌, List, [], ◌∷◌, ◌++◌, slice_get, Some, Vec}
-use Rattle.std.specs.Global.{Global}
+use Rattle.std.specs.Prelude.{◌≡◌, ℕ, ◌⊎◌, List, [], ◌∷◌, ◌++◌, slice_get, Some}
 use Rattle.file_layout.specs.Sections.{Adds, IsItself}
+use Rattle.file_shared.specs.declared.item.Item.{Item}
 
 -- the bytes of an item, and its place
 abbrev pub Entry : Type 0
 Entry = List ℕ × ℕ
 
 -- An entry in memory.
-abbrev pub kept_entry : Vec ℕ Global × ℕ → Entry
-kept_entry e = (e.0.items, e.1)
+abbrev pub kept_entry : Item × ℕ → Entry
+kept_entry e = (e.0.bytes.items, e.1)
 
 -- An item of these bytes stands at this place.
 abbrev pub HasItemAt : List Entry → List ℕ → ℕ → Type 0

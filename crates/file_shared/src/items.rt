@@ -4,6 +4,7 @@ ghost use Rattle.std.specs.Prelude.{◌≡◌, ◌+◌, ◌<◌, ◌^◌, [], �
 ghost use Rattle.base_bytes.specs.Fault.{memory};
 ghost use Rattle.file_shared.specs.Once.{PutsOnce};
 
+use crate::item::Item;
 use base_bytes::Fault;
 use file_layout::pad;
 use indexmap::IndexMap;
@@ -13,7 +14,7 @@ use std::marker::Model;
 
 /// The items of a part, in the order in which they stand. It stands for the bytes of each, with its place.
 pub struct Items {
-    places: IndexMap<Vec<u8>, u32>,
+    places: IndexMap<Item, u32>,
 }
 
 // Each place where items are let go is proved: here it is one call, and derived it would be all that they own.
@@ -60,10 +61,10 @@ impl Items {
         ensures ok { IfOk result (PutsOnce 1 self.old self.new out.old.items out.new.items bytes.items) }
         ensures memory { IsOkUnless result memory }
     {
-        match self.places.entry(bytes)? {
+        match self.places.entry(Item { bytes })? {
             Entry::Occupied(entry) => Ok(*entry.into_mut()), // after `get` a proof would not know the map
             Entry::Vacant(entry) => {
-                let place = append(out, entry.key())?;
+                let place = append(out, &entry.key().bytes)?;
                 entry.insert(place);
                 Ok(place)
             }
@@ -80,11 +81,11 @@ impl Items {
         ensures ok { IfOk result (PutsOnce 4 self.old self.new out.old.items out.new.items bytes.items) }
         ensures memory { IsOkUnless result memory }
     {
-        match self.places.entry(bytes)? {
+        match self.places.entry(Item { bytes })? {
             Entry::Occupied(entry) => Ok(*entry.into_mut()),
             Entry::Vacant(entry) => {
                 pad(out)?;
-                let place = append(out, entry.key())?;
+                let place = append(out, &entry.key().bytes)?;
                 entry.insert(place);
                 Ok(place)
             }

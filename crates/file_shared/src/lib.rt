@@ -9,6 +9,7 @@
 //! docs/MAP.md says where this crate stands among the others.
 #![tactic(auto)]
 
+mod item;
 mod items;
 
 pub use items::Items;

@@ -1,4 +1,5 @@
-//! The rules that the code of a program keeps, by the numbers of its instructions (`specs/CodeRules.antt`).
+//! The rules that the code of a program keeps, by the numbers of its instructions (`specs/CodeRules.antt`). The code of a file is asked for
+//! those of branches, payloads, switches and registers too, once it is linked.
 //!
 //! ```text
 //! code_holds(CodeRule::Target, code) // whether all branches and switches lead to instructions

@@ -104,7 +104,7 @@ pub fn branch_stays(one: &Insn<'_>, count: usize, k: usize) -> bool
     }
 }
 
-/// Both.
+/// Whether a branch leads to an instruction that is no payload, and elsewhere than to itself where it has to.
 fn branch_holds(insns: &[Insn<'_>], k: usize) -> bool
     requires inside { k < length insns.now }
     ensures { IsTrue result ↔ BranchHolds (map insn insns.now) k }

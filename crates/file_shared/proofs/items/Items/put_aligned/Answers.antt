@@ -14,7 +14,7 @@ returns-clause-ok c = elim c.match-branch-2.branch [
       let found = sym c.in_ok-entry.ensures.value ∙ ap entry_value w.in-Occupied.is ∙ w.into_mut.ensures.value in
       let new = ap (λ m. m.entries) end ∙ sym same ∙ c.in_ok-entry.ensures.update.1 v in
       rw (w.result-is, ← c.self.view_is)
-      (puts_again 4 c.self.inside.places.entries _ c.args.out.now.items _ c.args.bytes v found new (ap (λ o. o.items) w.out-is)))
+      (puts_again 4 c.self.inside.places.entries _ c.args.out.now.items _ (record { bytes = c.args.bytes }) v found new (ap (λ o. o.items) w.out-is)))
   | in-Vacant+in_ok-pad-in-Vacant+in_ok-place-in-Vacant w ↦ (
       let place = w.in_ok-place-in-Vacant.place in
       let end : c.match-branch-2.self-inside.places ≡ map_with_value (Vacant w.in-Vacant.entry) place = search rules in
@@ -22,9 +22,9 @@ returns-clause-ok c = elim c.match-branch-2.branch [
       let none = rw w.in-Vacant.is at c.in_ok-entry.ensures.found in
       let new = ap (λ m. m.entries) end ∙ sym same ∙ c.in_ok-entry.ensures.update.1 place in
       let key = w.key.ensures ∙ ap entry_key (sym w.in-Vacant.is) ∙ c.in_ok-entry.ensures.key (c.in_ok-entry.ensures.value ∙ none) in
-      let bytes = w.deref.ensures.value ∙ ap (λ b. b.items) key in
+      let bytes = w.deref.ensures.value ∙ ap (λ b. b.bytes.items) key in
       let out = ap (λ o. o.items) w.out-is ∙ w.in_ok-place-in-Vacant.ensures.out ∙ ap (λ l. w.pad.new.out.items ++ l) bytes in
       rw (w.result-is, ← c.self.view_is)
-      (puts_first 4 c.self.inside.places.entries _ c.args.out.now.items _ c.args.bytes place none new
+      (puts_first 4 c.self.inside.places.entries _ c.args.out.now.items _ (record { bytes = c.args.bytes }) place none new
       (adds_aligned c.args.out.now.items w.pad.new.out.items _ c.args.bytes.items _ c.requires.some w.in_ok-pad-in-Vacant.ensures.ok w.in_ok-place-in-Vacant.ensures.place out)))
 ]
