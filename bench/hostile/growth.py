@@ -1240,7 +1240,6 @@ def enum(j):
 def method_long(j):
     """one method of N instructions of many kinds, with branches, a switch and tries"""
     b = Body(8, 0, 5)
-    units = 0
     for i in range(j.n):
         k = i % 12
         b.mark(f":L{i}")

@@ -11,7 +11,7 @@ import re
 from faults import is_descriptor, is_member_name
 from model import Class, Code, Field, Instruction, LITERAL_BITS, MNEMONICS, Method, OPCODE_OF, Payload, REGISTER_BITS
 from model import Try, WITH_NAME, WITH_TARGET, form_of, kind_of_name
-from pages import Refusal, Refused
+from pages import Refused
 from rules import rule_fault
 
 FIRST_LINES = {("dex", "035"): 1, ("dex", "035", "listing", "2"): 2}  # which form each begins

@@ -10,7 +10,12 @@ use Rattle.program_types.specs.Sizes.{insn_units}
 use Rattle.program_types.specs.declared.payload.Payload.{Payload}
 use Rattle.code_put.proofs.Lists.{at-old, at-new}
 use Rattle.code_align.specs.Aligned.{PayloadsEven, with_nops, PadsPayloads, nops_to, moved, moved_insn, padded, Aligned}
-use Rattle.code_align.specs.Aligning.{is_there, is_odd, pads_from, trues, AreMovedNumbers}
+use Rattle.code_align.specs.Aligning.{is_there, is_odd, pads_from, AreMovedNumbers}
+
+-- how many are true
+unfoldable pub trues : List Bool → ℕ
+trues [] = 0
+trues (p ∷ ps) = (if p then 1 else 0) + trues ps
 
 -- a nop has one unit
 nop : insn_units (made.I10x 0) ≡ 1

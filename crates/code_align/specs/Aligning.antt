@@ -22,11 +22,6 @@ abbrev pub pads_from : ℕ → List Insn → List Bool
 pads_from at [] = []
 pads_from at (i ∷ is) = is_odd at i ∷ pads_from (at + (if is_odd at i then 1 else 0) + insn_units i) is
 
--- how many are true
-unfoldable pub trues : List Bool → ℕ
-trues [] = 0
-trues (p ∷ ps) = (if p then 1 else 0) + trues ps
-
 -- These are the new numbers of the instructions, and of the place past the last one.
 pub record AreMovedNumbers (ps : List Bool) (ns : List ℕ) : Type 0 where
   pub count : length ns ≡ length ps + 1

@@ -10,7 +10,7 @@ ghost use Rattle.tables_names.specs.Closure.{NameRanks};
 ghost use Rattle.code_put.specs.Fits.{TryFits, HandlersAreNear, HasIndexBelow, SomeHandlerIsFar, catches_in};
 
 use code_put::{Begins, lay_handlers};
-use dex_base::Fault;
+use dex_insn::Fault;
 use program_types::Try;
 use std::alloc::Global;
 use tables_names::Ranks;

@@ -2,8 +2,8 @@
 //! its item is spelled anew with the rows' numbers.
 //!
 //! ```text
-//! let most = mark_code(alloc, &mut marks, &sections, 0x1c0)?; // the rows that the code at byte 448 names are marked
-//! let item = renumber_code(alloc, &numbers, &sections, 0x1c0)?; // its bytes in a file of the kept rows
+//! let most = mark_code(alloc, &mut marks, &sections, codes, 0x1c0)?; // the rows that the code at byte 448 names are marked
+//! let item = renumber_code(alloc, &numbers, &sections, codes, 0x1c0)?; // its bytes in a file of the kept rows
 //! ```
 //!
 //! docs/MAP.md says where this crate stands among the others.

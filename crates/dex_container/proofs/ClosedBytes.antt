@@ -9,7 +9,11 @@ use Rattle.dex_base.proofs.AdlerSums.{adler32-fits}
 use Rattle.dex_base.proofs.FieldBounds.{u32_at-bytes, u32_at-append, length-u32_bytes, u32_at-drop, u32_at-take, u16_at-take}
 use Rattle.sha1.specs.Sha1.{sha1, digest_bytes, hash_after, padded_message}
 use Rattle.dex_container.specs.Frame.{HasChecksum, HasSignature, HasMagic, HasVersion}
-use Rattle.dex_container.specs.Closed.{with_signature, with_sums, SetsSums}
+use Rattle.dex_container.specs.Closed.{with_signature, SetsSums}
+
+-- the bytes before 8 stay, then the checksum of all after it
+unfoldable pub with_sums : List ℕ → List ℕ
+with_sums b = take 8 b ++ (u32_bytes (adler32 (with_signature b)) ++ with_signature b)
 
 -- what `&xs[n..]` is
 pub tail_is : (xs : List ℕ) (n : ℕ) → take (length xs - n) (drop n xs) ≡ drop n xs

@@ -9,7 +9,8 @@
 //! ```
 //!
 //! Its rooms: `file_classes` and `file_read` (read), `file_needed`, `file_layout`, `file_rows`, `file_shared`, `file_sections`,
-//! `file_limits`, `file_assemble` and `file_write` (written), `file_align` and `file_least`.
+//! `file_limits`, `file_assemble` and `file_write` (written), `tables_numbers`, `value_renumber`, `code_renumber`, `file_kept` and
+//! `file_strip` (stripped), `file_align` and `file_least`.
 //!
 //! docs/MAP.md says where this crate stands among the others.
 #![tactic(auto)]

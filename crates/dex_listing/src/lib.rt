@@ -9,7 +9,7 @@
 //! ```
 //!
 //! Its rooms: `listing_words`, `listing_slots`, `listing_shapes`, `listing_lines` and `listing_labels` (a line), `listing_draft` and
-//! `listing_parse` (read), `listing_print` (printed), `listing_laws`.
+//! `listing_parse` (read), `listing_print` (printed), `listing_laws` and `listing_grammar` (what holds of both).
 //!
 //! docs/MAP.md says where this crate stands among the others.
 #![tactic(auto)]

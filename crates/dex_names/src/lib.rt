@@ -19,5 +19,5 @@
 mod law;
 mod spelled;
 
-pub use law::written_names_are_spelled;
+pub use law::{a_text_spells_one_name, written_names_are_spelled};
 pub use spelled::{field, method, proto, text, ty};

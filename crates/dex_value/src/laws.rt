@@ -9,14 +9,17 @@ ghost use Rattle.tables_rows.specs.Names.{Names, NameIsAt};
 ghost use Rattle.tables_names.specs.Closure.{Five, NameRanks};
 ghost use Rattle.dex_value.specs.Faults.{ArrayBreaksAt};
 ghost use Rattle.dex_value.specs.Spelling.{SpellsArray};
+ghost use Rattle.dex_value.specs.Unique.{IsFunctionalByType};
 ghost use Rattle.dex_value.specs.Wide.{wide_array};
 ghost use Rattle.program_types.specs.Mentions.{AllNamesHold};
 ghost use Rattle.dex_value.specs.Named.{IsRanked};
 ghost use Rattle.dex_value.specs.Counts.{ArrayFits};
 
-/// No encoded_array begins another one, and it spells one list of values.
+/// In a file an index stands for one name of its kind. So no encoded_array begins another one, and it spells one list of
+/// values.
 pub fn array_is_prefix_unique()
-    ensures { (names : Names) → IsPrefixUnique (SpellsArray (NameIsAt names)) }
+    ensures index { (names : Names) → IsFunctionalByType (NameIsAt names) }
+    ensures unique { (names : Names) → IsPrefixUnique (SpellsArray (NameIsAt names)) }
 {}
 
 /// An encoded_array takes at least one byte, and at most its plain sum.

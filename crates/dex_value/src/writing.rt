@@ -25,10 +25,11 @@ fn put_sized(out: &mut Vec<u8>, code: u8, low: &[u8]) -> Result<(), Fault>
     requires code { code < 32 }
     requires few { length low.now ≤ 8 }
     ensures ok { OnOk result (out.new.items ≡ out.old.items ++ sized code low.now) }
-    ensures err { OnErr result (HoldsMore out.old.items out.new.items) }
+    ensures err { OnErr result (out.new.items ≡ out.old.items) }
     ensures memory { IsOkUnless result memory }
 {
-    out.push(32 * (low.len().saturating_sub(1)) as u8 + code)?;
+    out.reserve(low.len() + 1)?;
+    out.push_reserved(32 * (low.len().saturating_sub(1)) as u8 + code);
     out.extend_from_slice(low)?;
     Ok(())
 }
@@ -39,7 +40,7 @@ fn put_signed(out: &mut Vec<u8>, code: u8, n: i64, widest: usize) -> Result<(), 
     requires some { 0 < widest }
     requires fits { 2 * magnitude_of n < 256 ^ widest }
     ensures ok { OnOk result (Appends (Shortest (SignedAs code widest)) out.old.items out.new.items n) }
-    ensures err { OnErr result (HoldsMore out.old.items out.new.items) }
+    ensures err { OnErr result (out.new.items ≡ out.old.items) }
     ensures memory { IsOkUnless result memory }
 {
     let width = signed_width(n);
@@ -50,7 +51,7 @@ fn put_signed(out: &mut Vec<u8>, code: u8, n: i64, widest: usize) -> Result<(), 
 
 /// Appends an unsigned number of a type of at most `widest` bytes, in the fewest.
 ///
-/// It fails only when out of memory, and then `out` may hold some of the number's bytes.
+/// It fails only when out of memory, and then `out` holds what it held.
 ///
 /// ```
 /// use dex_value::put_unsigned;
@@ -64,7 +65,7 @@ pub fn put_unsigned(out: &mut Vec<u8>, code: u8, n: u64, widest: usize) -> Resul
     requires some { 0 < widest }
     requires fits { n < 256 ^ widest }
     ensures ok { OnOk result (Appends (Shortest (UnsignedAs code widest)) out.old.items out.new.items n) }
-    ensures err { OnErr result (HoldsMore out.old.items out.new.items) }
+    ensures err { OnErr result (out.new.items ≡ out.old.items) }
     ensures memory { IsOkUnless result memory }
 {
     let width = unsigned_width(n);
@@ -80,7 +81,7 @@ fn put_high(out: &mut Vec<u8>, code: u8, bits: u64, widest: usize) -> Result<(),
     requires few { widest ≤ 8 }
     requires fits { bits < 256 ^ widest }
     ensures ok { OnOk result (Appends (Shortest (HighAs code widest)) out.old.items out.new.items bits) }
-    ensures err { OnErr result (HoldsMore out.old.items out.new.items) }
+    ensures err { OnErr result (out.new.items ≡ out.old.items) }
     ensures memory { IsOkUnless result memory }
 {
     let width = high_width(bits, widest);
@@ -94,7 +95,7 @@ fn put_name(out: &mut Vec<u8>, ranks: &Ranks<'_>, code: u8, name: Name<'_>) -> R
     requires code { code < 32 }
     requires ranked { IsRanked ranks.now (view.name name) }
     ensures ok { OnOk result (Appends (Shortest (IndexAs (NameRanks ranks.now) code)) out.old.items out.new.items (view.name name.entry)) }
-    ensures err { OnErr result (HoldsMore out.old.items out.new.items) }
+    ensures err { OnErr result (out.new.items ≡ out.old.items) }
     ensures memory { IsOkUnless result memory }
 {
     ranks.rise();
@@ -106,7 +107,7 @@ fn put_name(out: &mut Vec<u8>, ranks: &Ranks<'_>, code: u8, name: Name<'_>) -> R
 
 /// Appends a value that is neither a name nor an array, in the fewest bytes.
 ///
-/// It fails only when out of memory, and then `out` may hold some of the value's bytes.
+/// It fails only when out of memory, and then `out` holds what it held.
 ///
 /// ```
 /// use dex_program::Value;
@@ -119,7 +120,7 @@ fn put_name(out: &mut Vec<u8>, ranks: &Ranks<'_>, code: u8, name: Name<'_>) -> R
 pub fn put_plain(out: &mut Vec<u8>, one: &Value<'_>) -> Result<(), Fault>
     requires { IsPlain (value one.now) }
     ensures ok { OnOk result ((s : Five) → Appends (Shortest (SpellsValue (NameRanks s))) out.old.items out.new.items (value one.now)) }
-    ensures err { OnErr result (HoldsMore out.old.items out.new.items) }
+    ensures err { OnErr result (out.new.items ≡ out.old.items) }
     ensures memory { IsOkUnless result memory }
 {
     match one {
@@ -142,7 +143,7 @@ fn put_leaf(out: &mut Vec<u8>, ranks: &Ranks<'_>, one: &Value<'_>) -> Result<(),
     requires named { NamesHold (IsRanked ranks.now) (value one.now) }
     requires flat { depth (value one.now) ≡ 0 }
     ensures ok { OnOk result (Appends (Shortest (SpellsValue (NameRanks ranks.now))) out.old.items out.new.items (value one.now)) }
-    ensures err { OnErr result (HoldsMore out.old.items out.new.items) }
+    ensures err { OnErr result (out.new.items ≡ out.old.items) }
     ensures memory { IsOkUnless result memory }
 {
     match one {

@@ -1,5 +1,5 @@
 -- Whether a call on a source or a sink failed or met the end.
-use Rattle.std.specs.Prelude.{ℕ, Bool, true, false, ◌==◌, ◌&&◌, List, length, nat_lt, Result, Ok, Err}
+use Rattle.std.specs.Prelude.{ℕ, Bool, true, false, ◌==◌, ◌&&◌, List, length, nat_lt, Option, Some, None, Result, Ok, Err}
 
 -- the call answered an error
 abbrev pub call_failed : {E : Type 0} → Result ℕ E → Bool
@@ -10,3 +10,8 @@ call_failed (Err e) = true
 abbrev pub moved_none : {E : Type 0} → Result ℕ E → List ℕ → Bool
 moved_none (Ok n) piece = (n == 0) && nat_lt 0 (length piece)
 moved_none (Err e) piece = false
+
+-- how many bytes a call moved, where it didn't fail
+abbrev pub count_of : {E : Type 0} → Result ℕ E → Option ℕ
+count_of (Ok n) = Some n
+count_of (Err e) = None

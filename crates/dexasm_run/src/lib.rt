@@ -8,6 +8,6 @@ mod error;
 mod running;
 
 pub use dexasm_job::Job;
-pub use ends::{Sink, Source, Watched};
+pub use ends::{Reader, Sink, Source, Watched, Writer};
 pub use error::{Line, RunFault, line_text, status};
-pub use running::run;
+pub use running::{answer_bytes, make, run, write_all};

@@ -1,7 +1,7 @@
 // One run of a job: read all, answer, write all.
 ghost use Rattle.std.specs.Prelude.{◌≡◌, ◌≢◌, ◌<◌, vec_len, true, false, ⊤, IfOk, length, take};
 ghost use Rattle.std.specs.Io.KnownBytes.{Keeps};
-ghost use Rattle.dexasm_run.specs.Runs.{Answers, BeginsAnswer, MatchRun, Refuses, ReadsAll, WritesAll};
+ghost use Rattle.dexasm_run.specs.Runs.{Answers, AnswersTo, BeginsAnswer, Makes, MatchRun, Refuses, ReadsAll, WritesAll};
 
 use crate::ends::{Sink, Source};
 use crate::error::RunFault;
@@ -50,12 +50,43 @@ pub fn run<R: Source, W: Sink>(
         (Keeps (W.contents output.old) (W.contents output.new)) ⊤
         (Keeps (W.contents output.old) (W.contents output.new)) }
 {
-    let given = read_all(alloc, input)?;
-    let made = match answer_owned(alloc, job, given) {
-        Ok(made) => made,
-        Err(fault) => return Err(refusal(fault)),
-    };
+    let made = make(alloc, job, input)?;
     write_all(made.as_slice(), output)
+}
+
+/// Takes from the source until it has ended, and answers the job on all that it gave.
+///
+/// ```
+/// use dexasm_run::{Job, Watched, make};
+///
+/// let listing: &[u8] = b"dex 035 listing 2\n";
+/// let made = make(alloc, Job::Assemble { align: false }, &mut Watched::new(listing)).unwrap();
+/// assert_eq!(rt; made.len(), 140);
+/// ```
+pub fn make<R: Source>(alloc: Global, job: Job, input: &mut R) -> Result<Vec<u8>, RunFault>
+    requires { R.ended input.old ≡ false }
+    ensures { Makes job (R.remaining input.old) (R.remaining input.new) (R.failed input.new) (R.ended input.new) result }
+{
+    let given = read_all(alloc, input)?;
+    answer_bytes(alloc, job, given)
+}
+
+/// Answers the job on these bytes.
+///
+/// ```
+/// use dexasm_run::{Job, answer_bytes};
+///
+/// let listing: Vec<u8> = Vec::from_slice(alloc, b"dex 035 listing 2\n").unwrap();
+/// let made = answer_bytes(alloc, Job::Assemble { align: false }, listing).unwrap();
+/// assert_eq!(rt; made.len(), 140);
+/// ```
+pub fn answer_bytes(alloc: Global, job: Job, given: Vec<u8>) -> Result<Vec<u8>, RunFault>
+    ensures { AnswersTo job given.items result }
+{
+    match answer_owned(alloc, job, given) {
+        Ok(made) => Ok(made),
+        Err(fault) => Err(refusal(fault)),
+    }
 }
 
 // Out of memory is no refusal of the bytes.
@@ -108,8 +139,16 @@ fn gather<R: Source>(alloc: Global, input: &mut R, piece: &mut [u8]) -> Result<V
     }
 }
 
-// Puts all the bytes, as many at a time as the sink takes.
-fn write_all<W: Sink>(made: &[u8], output: &mut W) -> Result<(), RunFault>
+/// Puts all the bytes, as many at a time as the sink takes.
+///
+/// ```
+/// use dexasm_run::{Watched, write_all};
+///
+/// let mut output = Watched::new(Vec::new(alloc));
+/// assert!(rt; write_all(b"ok", &mut output).is_ok());
+/// assert_eq!(rt; output.into_inner().as_slice(), b"ok");
+/// ```
+pub fn write_all<W: Sink>(made: &[u8], output: &mut W) -> Result<(), RunFault>
     ensures { WritesAll (W.contents output.old) (W.contents output.new) (W.failed output.new) made.now result }
 {
     let mut done = 0;

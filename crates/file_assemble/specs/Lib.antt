@@ -2,13 +2,23 @@ pub mod Assembled
 pub mod Making
 -- What stands below, for the crates above.
 pub use Rattle.program_rules.specs.WellFormed
+pub use Rattle.file_sections.specs.Spelling
+pub use Rattle.file_sections.specs.Standing
+pub use Rattle.file_sections.specs.dex_value_Wide
+pub use Rattle.file_sections.specs.Code
 pub use Rattle.file_sections.specs.Fits
 pub use Rattle.file_sections.specs.Packs
+pub use Rattle.file_sections.specs.ClassData
+pub use Rattle.file_sections.specs.ClassRows
+pub use Rattle.file_sections.specs.Classes
+pub use Rattle.file_sections.specs.Reading
+pub use Rattle.file_sections.specs.declared_FieldEntry
+pub use Rattle.file_sections.specs.declared_MethodEntry
 pub use Rattle.file_sections.specs.ClassDefs
 pub use Rattle.file_sections.specs.Rows
 pub use Rattle.file_sections.specs.Limits
 pub use Rattle.file_sections.specs.Sum
-pub use Rattle.file_sections.specs.file_limits_Wide as Wide
+pub use Rattle.file_sections.specs.file_limits_Wide
 pub use Rattle.file_sections.specs.Codes
 pub use Rattle.file_sections.specs.Data
 pub use Rattle.file_sections.specs.Lists

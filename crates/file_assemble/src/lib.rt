@@ -17,4 +17,6 @@ pub use assembling::{Data, assemble, codes_part, part, space};
 pub use laws::assembled_is_one;
 
 // What stands below, for the crates above.
-pub use file_sections::{plus, times};
+pub use file_sections::{
+    Entries, FieldEntry, MethodEntry, class_count, class_word, entries_at, plus, times, word,
+};

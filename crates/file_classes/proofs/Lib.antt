@@ -18,7 +18,6 @@ pub use Rattle.tables_rows.proofs.HalvesLaws
 pub use Rattle.dex_value.proofs.ArraysDecided
 pub use Rattle.dex_value.proofs.Carrying
 pub use Rattle.dex_value.proofs.FileFaults
-pub use Rattle.dex_value.proofs.FrontLaws
 pub use Rattle.dex_value.proofs.Narrow
 pub use Rattle.dex_value.proofs.Ranges
 pub use Rattle.code_read.proofs.PlainLaws

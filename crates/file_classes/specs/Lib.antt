@@ -9,7 +9,6 @@ pub mod Kept
 pub use Rattle.tables_rows.specs.Stands
 pub use Rattle.dex_value.specs.Spelling
 pub use Rattle.dex_value.specs.Standing
-pub use Rattle.dex_value.specs.Wide
 pub use Rattle.dex_value.specs.Writing
 pub use Rattle.code_read.specs.Symbols
 pub use Rattle.code_read.specs.Code

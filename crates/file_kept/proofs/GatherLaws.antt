@@ -6,16 +6,16 @@ use Rattle.std.proofs.lemmas.List.{take_all, map-append}
 use Rattle.std.proofs.lemmas.Option.{slice_get_within}
 use Rattle.base_bytes.specs.Fields.{AreBytes}
 use Rattle.code_renumber.proofs.HandlerOnce.{ranks-injective}
-use Rattle.file_classes.proofs.CodesFormed.{standing-formed}
+use Rattle.code_renumber.proofs.CodesFormed.{standing-formed}
 use Rattle.dex_container.specs.Layout.{size_of}
-use Rattle.file_classes.specs.ClassData.{Entries, EntriesAt}
-use Rattle.file_classes.specs.Classes.{CodeAt, CodesAre, SomeCodeStands}
-use Rattle.file_classes.specs.ClassRows.{class_word}
-use Rattle.file_classes.specs.Reading.{entries, method_entry}
-use Rattle.file_classes.specs.declared.class_data.Entries as held
-use Rattle.file_classes.specs.declared.class_data.MethodEntry as held_method
-use Rattle.file_classes.proofs.EntryLaws.{entries_one}
-use Rattle.file_classes.proofs.OnceLaws.{class_one}
+use Rattle.file_sections.specs.ClassData.{Entries, EntriesAt}
+use Rattle.file_sections.specs.Classes.{CodeAt, CodesAre, SomeCodeStands}
+use Rattle.file_sections.specs.ClassRows.{class_word}
+use Rattle.file_sections.specs.Reading.{entries, method_entry}
+use Rattle.file_sections.specs.declared_Entries as held
+use Rattle.file_sections.specs.declared_MethodEntry as held_method
+use Rattle.file_sections.proofs.EntryLaws.{entries_one}
+use Rattle.file_sections.proofs.OnceLaws.{class_one}
 use Rattle.file_least.specs.AtLeast.{AreNoFurther}
 use Rattle.file_least.proofs.StandingFits.{codes-fit}
 use Rattle.file_layout.specs.Sections.{wide_all}

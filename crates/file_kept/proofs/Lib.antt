@@ -13,6 +13,7 @@ pub mod BodyLaws
 pub mod FarLaws
 pub mod GatherLaws
 -- What stands below, for the crates above.
+pub use Rattle.tables_numbers.proofs.MarkLemmas
 pub use Rattle.file_least.proofs.RangeLaws
 pub use Rattle.file_least.proofs.RowsFrom
 pub use Rattle.file_least.proofs.VainLaws

@@ -8,8 +8,8 @@ use Rattle.base_bytes.specs.Grammar.{Appends, Each}
 use Rattle.base_bytes.specs.Leb128.{Spells, Shortest}
 use Rattle.base_bytes.proofs.GrammarLaws.{Each-push}
 use Rattle.dex_container.specs.Layout.{size_of}
-use Rattle.file_classes.specs.ClassData.{Entries, FieldEntry, MethodEntry, SpellsFieldEntry, SpellsMethodEntry, EntriesAre, steps, index_of}
-use Rattle.file_classes.specs.Classes.{IsField, IsMethod, MembersAre}
+use Rattle.file_sections.specs.ClassData.{Entries, FieldEntry, MethodEntry, SpellsFieldEntry, SpellsMethodEntry, EntriesAre, steps, index_of}
+use Rattle.file_sections.specs.Classes.{IsField, IsMethod, MembersAre}
 use Rattle.file_needed.proofs.ClassNames.{statics_named, instances_named, directs_kept, virtuals_kept}
 use Rattle.file_needed.proofs.Steps.{right}
 use Rattle.file_sections.specs.Data.{FieldRanks, MethodRanks, code_offs}
@@ -25,7 +25,7 @@ use Rattle.tables_numbers.proofs.RankLemmas.{kept_rows_are_held}
 use Rattle.file_kept.specs.Keeping.{Keeps}
 use Rattle.file_kept.specs.Members.{AreCarriedMembers, IsCarriedRun}
 use Rattle.file_kept.proofs.KeepLaws.{number_is, numbers_long, numbers_rise, carried, class_holds}
-use Rattle.file_classes.proofs.EntryLaws.{entry_at}
+use Rattle.file_sections.proofs.EntryLaws.{entry_at}
 
 -- ---- lists by index
 

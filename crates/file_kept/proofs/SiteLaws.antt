@@ -5,10 +5,10 @@ use Rattle.std.specs.List.{flat_map}
 use Rattle.std.proofs.lemmas.List.{take_more, take_all, drop_more, drop_all}
 use Rattle.base_bytes.specs.Grammar.{Appends}
 use Rattle.base_bytes.specs.Leb128.{Spells, Shortest}
-use Rattle.file_classes.specs.ClassData.{Entries, EntriesAt, SpellsCounts}
-use Rattle.file_classes.specs.Classes.{MembersAre}
-use Rattle.file_classes.specs.ClassRows.{class_word}
-use Rattle.file_classes.proofs.EntryLaws.{entries_one}
+use Rattle.file_sections.specs.ClassData.{Entries, EntriesAt, SpellsCounts}
+use Rattle.file_sections.specs.Classes.{MembersAre}
+use Rattle.file_sections.specs.ClassRows.{class_word}
+use Rattle.file_sections.proofs.EntryLaws.{entries_one}
 use Rattle.file_layout.specs.Sections.{Adds, AddsSome, Laid, Laying, wide_all}
 use Rattle.file_layout.proofs.SectionLaws.{adds_some, gap_one, unpadded, length-padded, Laying-start}
 use Rattle.file_layout.specs.Tiles.{gap, zeros}

@@ -7,7 +7,7 @@ use Rattle.std.proofs.lemmas.Option.{slice_get_within}
 use Rattle.std.proofs.lemmas.Bool.{ne_eqb}
 use Rattle.base_bytes.specs.Fields.{AreBytes}
 use Rattle.value_renumber.specs.Standing.{ArrayStands}
-use Rattle.file_classes.specs.Classes.{StaticsAt}
+use Rattle.file_sections.specs.Classes.{StaticsAt}
 use Rattle.file_layout.specs.Sections.{is_empty_list}
 use Rattle.file_sections.specs.file_limits_Wide.{array_values}
 use Rattle.file_needed.proofs.ClassNames.{values_kept}

@@ -4,7 +4,7 @@ use Rattle.std.specs.Prelude.{◌≡◌, ℕ, ◌+◌, ◌==◌, List, [], ◌�
 use Rattle.std.specs.List.{AllByRecursion, AllZip}
 use Rattle.code_renumber.specs.Fits.{CodeBreaksLimit}
 use Rattle.code_renumber.specs.Carried.{IsCarriedCode}
-use Rattle.file_classes.specs.declared.class_data.MethodEntry.{MethodEntry}
+use Rattle.file_sections.specs.declared_MethodEntry.{MethodEntry}
 use Rattle.file_least.specs.AtLeast.{FitsButHandlers}
 use Rattle.file_sections.specs.file_limits_Wide.{bodies_of}
 use Rattle.file_sections.specs.Codes.{WritesBody, is_bodiless}

@@ -12,5 +12,7 @@ pub mod Sites
 pub mod Sizes
 pub mod Bodies
 -- What stands below, for the crates above.
+pub use Rattle.tables_numbers.specs.Marked
+pub use Rattle.tables_numbers.specs.Numbers
 pub use Rattle.file_least.specs.Means
 pub use Rattle.file_least.specs.AtLeast

@@ -2,7 +2,7 @@
 -- Page: "Dalvik Executable format", "class_def_item": static_values_off; "encoded_array_item".
 use Rattle.std.specs.Prelude.{ℕ, List}
 use Rattle.std.specs.List.{AllZip}
-use Rattle.file_classes.specs.Classes.{StaticsAt}
+use Rattle.file_sections.specs.Classes.{StaticsAt}
 use Rattle.file_layout.specs.Sections.{is_empty_list}
 use Rattle.file_sections.specs.Arrays.{WritesArray}
 use Rattle.program_types.specs.Content.{Value, values}

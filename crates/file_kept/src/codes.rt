@@ -24,8 +24,7 @@ use base_bytes::are_bytes;
 use code_renumber::renumber_code;
 use dex_base::{Fault, fault};
 use dex_container::{Section, Sections, kind, section_of};
-use file_classes::{MethodEntry, class_count, class_word, entries_at, word};
-use file_sections::Placed;
+use file_sections::{MethodEntry, Placed, class_count, class_word, entries_at, word};
 use std::alloc::Global;
 use tables_numbers::Numbers;
 

@@ -47,4 +47,5 @@ pub use texts::put_texts;
 
 // What stands below, for the crates above.
 pub use code_renumber::mark_code;
+pub use tables_numbers::{Marks, Numbers};
 pub use value_renumber::mark_array;

@@ -6,6 +6,7 @@ pub mod OneLimit
 pub mod RankLaws
 -- What stands below, for the crates above.
 pub use Rattle.dex_value.proofs.ArrayOnce
+pub use Rattle.dex_value.proofs.Carrying
 pub use Rattle.dex_value.proofs.Fitting
 pub use Rattle.dex_value.proofs.FrontLaws
 pub use Rattle.dex_value.proofs.Lengths

@@ -1,13 +1,17 @@
 -- The names of a class, part by part.
 use Rattle.std.proofs.Common.{◌≡◌, List, [], ◌∷◌, ◌++◌, Option, None, Some, map, refl, sym, ap, ◌∙◌, subst}
 use Rattle.std.specs.List.{AllByRecursion, flat_map}
-use Rattle.file_needed.specs.Bodies.{names_of_body, named_in_body, caught_in_body, named_in_class, named_in_code, methods_added, names_but_in_code}
+use Rattle.file_needed.specs.Bodies.{named_in_body, caught_in_body, named_in_class, named_in_code, methods_added, names_but_in_code}
 use Rattle.tables_names.specs.Closure.{Five, AreRising, IsClosed, method_of_class, with_names}
 use Rattle.tables_names.proofs.NeededLemmas.{names_append, same_names}
 use Rattle.program_types.specs.Content as content
 use Rattle.program_types.specs.Content.{Name, OfText, OfDesc, values}
 use Rattle.program_types.specs.Mentions.{names_of_value, names_of_values, names_of_class, names_of_code, names_of_insn, names_of_method, names_of_try, field_of_class, if_any, mentions}
 use Rattle.file_needed.proofs.Steps.{left, right}
+
+-- all that a method's body names
+abbrev names_of_body : content.Method → List Name
+names_of_body m = if_any names_of_code m.code
 
 pub next : (s a b : Five) (xs ys : List Name) → a ≡ with_names s xs → b ≡ with_names a ys → b ≡ with_names s (xs ++ ys)
 next s a b xs ys e f = f ∙ ap (λ q. with_names q ys) e ∙ sym (names_append s xs ys)

@@ -3,14 +3,10 @@
 use Rattle.std.specs.Prelude.{◌≡◌, List, [], ◌∷◌, ◌++◌, map}
 use Rattle.std.specs.List.{flat_map}
 use Rattle.program_types.specs.Content.{Descriptor, Name, OfText, OfDesc, Method, Class, Program}
-use Rattle.program_types.specs.Mentions.{if_any, field_of_class, names_of_code, names_of_insn, names_of_try, names_of_value}
+use Rattle.program_types.specs.Mentions.{if_any, field_of_class, names_of_insn, names_of_try, names_of_value}
 use Rattle.tables_names.specs.Closure.{method_of_class, with_names}
 use Rattle.tables_names.specs.Noted.{Notes, AreNoted}
 use Rattle.tables_names.specs.Numbers.{sets}
-
--- all that it names
-abbrev pub names_of_body : Method → List Name
-names_of_body m = if_any names_of_code m.code
 
 -- what its instructions name
 abbrev pub named_in_body : Method → List Name

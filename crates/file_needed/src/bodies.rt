@@ -10,8 +10,7 @@ ghost use Rattle.program_types.specs.Mentions.{if_any, names_of_insn, names_of_t
 ghost use Rattle.program_types.specs.View as view;
 
 use bumpalo::Bump;
-use dex_base::Fault;
-use program_types::{Catch, Code, Insn, Name, Try, name_of};
+use program_types::{Catch, Code, Fault, Insn, Name, Try, name_of};
 use tables_names::{Needed, Noted};
 
 // Notes the name in an instruction, if it has one.

@@ -14,8 +14,7 @@ ghost use Rattle.program_types.specs.View as view;
 use crate::bodies::{add_caught, note_body};
 use crate::values::add_values;
 use bumpalo::Bump;
-use dex_base::Fault;
-use program_types::{Class, Desc, Method, Program, Str};
+use program_types::{Class, Desc, Fault, Method, Program, Str};
 use std::alloc::Global;
 use tables_names::{Needed, Noted, Ranks};
 

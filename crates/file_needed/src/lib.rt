@@ -2,7 +2,7 @@
 //!
 //! ```
 //! let arena = Bump::new(alloc); // holds the shorties
-//! let ranks = needed_names(alloc, &arena, &program)?;
+//! let (ranks, indices) = needed_names(alloc, &arena, &program)?; // indices: the ranks of what instructions name
 //! ```
 //!
 //! docs/MAP.md says where this crate stands among the others.

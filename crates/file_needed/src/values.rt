@@ -10,8 +10,7 @@ ghost use Rattle.program_types.specs.Mentions.{names_of_value, names_of_values};
 ghost use Rattle.program_types.specs.View as view;
 
 use bumpalo::Bump;
-use dex_base::Fault;
-use program_types::Value;
+use program_types::{Fault, Value};
 use tables_names::Needed;
 
 // The name in a value that is no array.

@@ -7,3 +7,5 @@ pub mod RowsOnce
 pub use Rattle.file_classes.proofs.HalvesLaws
 pub use Rattle.file_classes.proofs.CodeLaws
 pub use Rattle.file_classes.proofs.EntryLaws
+pub use Rattle.file_classes.proofs.MemberLaws
+pub use Rattle.file_classes.proofs.OnceLaws

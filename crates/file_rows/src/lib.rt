@@ -30,3 +30,8 @@ pub use class_defs::put_classes;
 pub use index::{own_field_index, own_method_index, shorty_index, string_index, type_index};
 pub use laws::{rows_are_one, rows_stand_at_their_indices};
 pub use tables::name_rows;
+
+// What stands below, for the crates above.
+pub use file_classes::{
+    Entries, FieldEntry, MethodEntry, class_count, class_word, entries_at, word,
+};

@@ -3,7 +3,7 @@
 //!
 //! ```
 //! let lists = put_lists(alloc, &mut out, &ranks, &program)?; // parameters of each prototype, then interfaces of each class
-//! let codes = put_codes(alloc, &mut out, &ranks, &program)?; // of each method: where its body stands, 0 for none
+//! let codes = put_codes(alloc, &mut out, &ranks, &indices, &program)?; // of each method: where its body stands, 0 for none
 //! let texts = put_strings(alloc, &mut out, &ranks)?;
 //! let arrays = put_arrays(alloc, &mut out, &ranks, &program)?;
 //! let datas = put_datas(alloc, &mut out, &ranks, &program, &codes.places)?;
@@ -35,4 +35,7 @@ pub use type_lists::put_lists;
 
 // What stands below, for the crates above.
 pub use file_limits::{check_limits, plus, times};
-pub use file_rows::{name_rows, put_classes};
+pub use file_rows::{
+    Entries, FieldEntry, MethodEntry, class_count, class_word, entries_at, name_rows, put_classes,
+    word,
+};

@@ -11,7 +11,7 @@ pub use Rattle.file_assemble.proofs.ClassRowLaws as file_rows_ClassRowLaws
 pub use Rattle.file_assemble.proofs.LimitLaws
 pub use Rattle.file_assemble.proofs.OneLimit
 pub use Rattle.file_assemble.proofs.PartLaws
-pub use Rattle.file_assemble.proofs.CodeLaws
+pub use Rattle.file_assemble.proofs.file_sections_CodeLaws as CodeLaws
 pub use Rattle.file_assemble.proofs.file_sections_DataLaws
 pub use Rattle.file_assemble.proofs.ListLaws
 pub use Rattle.file_assemble.proofs.SitedLaws

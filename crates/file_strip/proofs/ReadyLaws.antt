@@ -20,15 +20,15 @@ use Rattle.file_kept.proofs.RowsFrom.{holds_at_least, no_further}
 use Rattle.file_kept.proofs.VainLaws.{class_fits, only_late}
 use Rattle.file_assemble.specs.Limits as limits
 use Rattle.file_assemble.specs.Limits.{BodyBreaks, ClassBreaksLimit, Fits, IsFirstToBreak, IsLowestLimit, LimitBreaks, TooBig, TooManyProtos, TooManyTypes, codes_of}
-use Rattle.file_assemble.specs.Wide.{wide}
+use Rattle.file_assemble.specs.file_limits_Wide.{wide}
 use Rattle.file_assemble.proofs.PartLaws.{by_parts}
 use Rattle.file_kept.specs.Means.{Means}
 use Rattle.file_strip.specs.Ready.{IsReady}
 use Rattle.program_types.specs.Content.{Code, Name, Program}
 use Rattle.tables_names.specs.Closure.{NameRanks}
 use Rattle.tables_names.specs.Needed.{needed}
-use Rattle.tables_numbers.specs.Marked.{Columns, Marked, AreMarks}
-use Rattle.tables_numbers.specs.Numbers.{AreRowNumbers}
+use Rattle.file_kept.specs.Marked.{Columns, Marked, AreMarks}
+use Rattle.file_kept.specs.Numbers.{AreRowNumbers}
 
 -- ---- what is ready
 

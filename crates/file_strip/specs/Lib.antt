@@ -5,7 +5,7 @@ pub use Rattle.file_assemble.specs.Packs
 pub use Rattle.file_assemble.specs.ClassDefs
 pub use Rattle.file_assemble.specs.Rows
 pub use Rattle.file_assemble.specs.Limits
-pub use Rattle.file_assemble.specs.Wide
+pub use Rattle.file_assemble.specs.file_limits_Wide as Wide
 pub use Rattle.file_assemble.specs.Codes
 pub use Rattle.file_assemble.specs.Data
 pub use Rattle.file_assemble.specs.Lists

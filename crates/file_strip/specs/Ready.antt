@@ -4,8 +4,8 @@ use Rattle.std.specs.Prelude.{ℕ, ◌≤◌, List, length}
 use Rattle.program_types.specs.Content.{Program}
 use Rattle.file_assemble.specs.WellFormed.{WellFormed}
 use Rattle.tables_names.specs.Needed.{needed}
-use Rattle.tables_numbers.specs.Marked.{Columns}
-use Rattle.file_assemble.specs.Wide.{wide}
+use Rattle.file_kept.specs.Marked.{Columns}
+use Rattle.file_assemble.specs.file_limits_Wide.{wide}
 use Rattle.file_kept.specs.Keeping.{Keeps}
 
 -- These are the numbers of the rows that the program needs; it is well formed, and a file has room for it.

@@ -7,17 +7,17 @@ use Rattle.program_types.specs.Mentions.{field_of_class, if_any, names_of_code, 
 use Rattle.tables_names.specs.Closure.{Five, Holds, with_names}
 use Rattle.tables_rows.specs.Kept.{AreKept}
 use Rattle.tables_rows.specs.Stands.{NameStands}
-use Rattle.tables_numbers.specs.Marked.{AreMarks}
+use Rattle.file_kept.specs.Marked.{AreMarks}
 use Rattle.dex_container.specs.Where.{IsSectionOf}
-use Rattle.file_classes.specs.Standing.{ArrayStands}
-use Rattle.file_classes.specs.Wide.{wide_array, wide_values}
-use Rattle.file_classes.specs.Code.{CodeStands}
+use Rattle.file_assemble.specs.Standing.{ArrayStands}
+use Rattle.file_assemble.specs.dex_value_Wide.{wide_array, wide_values}
+use Rattle.file_assemble.specs.Code.{CodeStands}
 use Rattle.file_assemble.specs.Fits.{wide_code}
 use Rattle.file_layout.specs.Sections.{wide_all}
 use Rattle.file_assemble.specs.Sum.{IsSum}
-use Rattle.file_assemble.specs.Wide.{bodies_of, wide_body, wide_class, wide_data}
-use Rattle.file_classes.specs.ClassData.{Entries}
-use Rattle.file_classes.specs.Classes.{CodesAre, MembersAre, StaticsAt}
+use Rattle.file_assemble.specs.file_limits_Wide.{bodies_of, wide_body, wide_class, wide_data}
+use Rattle.file_assemble.specs.ClassData.{Entries}
+use Rattle.file_assemble.specs.Classes.{CodesAre, MembersAre, StaticsAt}
 use Rattle.tables_names.specs.Needed.{needed}
 use Rattle.file_strip.specs.declared.survey.Found.{Found}
 use Rattle.file_strip.specs.declared.survey.Survey.{Survey}

@@ -5,24 +5,22 @@ ghost use Rattle.std.specs.List.{flat_map};
 ghost use Rattle.base_bytes.specs.Fault.{memory};
 ghost use Rattle.program_types.specs.Content.{Units, Code, Member, Method};
 ghost use Rattle.program_types.specs.Mentions.{if_any, field_of_class, names_of_code, names_of_method};
-ghost use Rattle.tables_numbers.specs.Marked.{HasMarks, AddsNames};
+ghost use Rattle.file_kept.specs.Marked.{HasMarks, AddsNames};
 ghost use Rattle.file_layout.specs.Sections.{wide_all};
 ghost use Rattle.file_assemble.specs.Sum.{IsSum};
-ghost use Rattle.file_assemble.specs.Wide.{bodies_in, wide_body};
-ghost use Rattle.file_classes.specs.ClassData.{EntriesAre};
-ghost use Rattle.file_classes.specs.Classes.{CodeAt, CodesAre, IsField, IsMethod};
-ghost use Rattle.file_classes.specs.Reading.{field_entry, method_entry};
+ghost use Rattle.file_assemble.specs.file_limits_Wide.{bodies_in, wide_body};
+ghost use Rattle.file_assemble.specs.ClassData.{EntriesAre};
+ghost use Rattle.file_assemble.specs.Classes.{CodeAt, CodesAre, IsField, IsMethod};
+ghost use Rattle.file_assemble.specs.Reading.{field_entry, method_entry};
 ghost use Rattle.file_strip.specs.Survey.{FindsNames, HasFound};
 
 use crate::survey::Found;
 use dex_base::Fault;
 use dex_container::Sections;
 use dex_insn::IndexKind;
-use file_assemble::plus;
-use file_classes::{FieldEntry, MethodEntry};
-use file_kept::mark_code;
+use file_assemble::{FieldEntry, MethodEntry, plus};
+use file_kept::{Marks, mark_code};
 use std::alloc::Global;
-use tables_numbers::Marks;
 
 // Marks the fields of a list of entries.
 pub(crate) fn mark_fields(

@@ -9,7 +9,7 @@ ghost use Rattle.file_layout.specs.Plan.{tables_end};
 ghost use Rattle.file_layout.specs.Sections.{wide_all};
 ghost use Rattle.file_assemble.specs.Limits.{ClassBreaksLimit, Fits, IsFirstToBreak, IsLowestLimit};
 ghost use Rattle.file_assemble.specs.Sum.{IsSum};
-ghost use Rattle.file_assemble.specs.Wide.{wide, wide_class};
+ghost use Rattle.file_assemble.specs.file_limits_Wide.{wide, wide_class};
 ghost use Rattle.file_kept.specs.Means.{Means};
 ghost use Rattle.file_kept.specs.Keeping.{Keeps};
 ghost use Rattle.file_assemble.specs.Assembled.{Assembled, DataIsLaid, SpellsTables, rows_of};
@@ -21,14 +21,13 @@ use base_bytes::are_bytes;
 use dex_base::{Fault, fault};
 use dex_container::Sections;
 use dex_insn::IndexKind;
-use file_assemble::{Data, codes_part, part, plus, space};
-use file_classes::class_count;
+use file_assemble::{Data, class_count, codes_part, part, plus, space};
 use file_kept::{
-    name_rows, names_size, put_arrays, put_classes, put_codes, put_datas, put_lists, put_texts,
+    Numbers, name_rows, names_size, put_arrays, put_classes, put_codes, put_datas, put_lists,
+    put_texts,
 };
 use file_layout::{Plan, Rows, finish};
 use std::alloc::Global;
-use tables_numbers::Numbers;
 
 // Whether the file of the kept rows is too big, where its classes take so many bytes at most.
 fn is_too_big(sections: &Sections<'_>, numbers: &Numbers, classes: u64) -> bool

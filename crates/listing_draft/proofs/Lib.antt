@@ -1,3 +1,5 @@
 pub mod CloseLaws
 pub mod OpenLaws
 pub mod EntryLaws
+-- What stands below, for the crates above.
+pub use Rattle.listing_shapes.proofs.ShapeLaws

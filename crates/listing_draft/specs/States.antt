@@ -6,7 +6,7 @@ use Rattle.std.specs.Ordering.{is_eq}
 use Rattle.program_types.specs.Content.{Units, Descriptor, Insn, Catch, Try, Code, Member, Method, Class}
 use Rattle.program_types.specs.Key.{Key, key_cmp}
 use Rattle.listing_shapes.specs.Rules.{member_key, method_key}
-use Rattle.listing_words.specs.Numbers.{is_number}
+use Rattle.listing_shapes.specs.Numbers.{is_number}
 use Rattle.listing_lines.specs.Lines.{Line, first_line, open_class, end_class, super_line, implements_line, source_line, static_line, instance_line, direct_line, virtual_line, open_code, end_code, insn_line, try_line, catch_line, catch_all_line}
 use Rattle.listing_shapes.specs.Shapes.{Shape}
 use Rattle.listing_shapes.specs.Keys.{same}

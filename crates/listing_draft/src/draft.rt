@@ -11,8 +11,7 @@ use bumpalo::Bump;
 use bumpalo::collections::into_bump_slice;
 use dex_base::Fault;
 use listing_lines::{Line, Stage, is_insn, may_stand};
-use listing_shapes::Found;
-use listing_words::is_number;
+use listing_shapes::{Found, is_number};
 use program_types::{Class, Desc, Insn};
 use std::alloc::Global;
 
@@ -31,7 +30,7 @@ pub struct Draft<'a> {
 
 impl<'a> Draft<'a> {
     ghost use Rattle.std.specs.Prelude.{List, map, ◌+◌, ◌<◌, ◌^◌};
-    ghost use Rattle.listing_words.specs.Words.{Word};
+    ghost use Rattle.listing_shapes.specs.Words.{Word};
     ghost use Rattle.listing_shapes.specs.declared_Slot.{Slot};
     ghost use Rattle.program_types.specs.View.{desc, class, insn};
     ghost use Rattle.listing_lines.specs.Lines as says;

@@ -21,3 +21,6 @@ pub use close::Given;
 pub use draft::Draft;
 pub use open_class::{ClassPart, Defined, FieldKey, InClass, MethodKey, Open, Owner, Static};
 pub use open_code::{Body, CodePart, InCode, OpenTry};
+
+// What stands below, for the crates above.
+pub use listing_shapes::{Found, read_bare_shape, read_shape};

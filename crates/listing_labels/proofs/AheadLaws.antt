@@ -5,7 +5,7 @@ use lib.Dec.{eqb}
 use Rattle.listing_words.specs.Words.{up_to_space}
 use Rattle.listing_slots.specs.Keys.{key_text, same}
 use Rattle.listing_labels.specs.Lines.{is_skipped}
-use Rattle.listing_labels.specs.Labels.{Label, labels_ahead, with_label, first_word, is_stop, is_mark}
+use Rattle.listing_labels.specs.Labels.{Label, labels_ahead, insns_ahead, with_label, first_word, is_stop, is_mark}
 
 pub ahead_none : (es : List Label) (line k : ℕ) → labels_ahead es line k [] ≡ es
 unfolding labels_ahead
@@ -27,6 +27,28 @@ ahead_marks es line k l ls e f g = rw (e, f, g) refl
 pub ahead_counts : (es : List Label) (line k : ℕ) (l : List ℕ) (ls : List (List ℕ)) → is_skipped l ≡ false → is_stop (first_word l) ≡ false → is_mark (first_word l) ≡ false → labels_ahead es line k (l ∷ ls) ≡ labels_ahead es (line + 1) (k + 1) ls
 unfolding labels_ahead
 ahead_counts es line k l ls e f g = rw (e, f, g) refl
+
+-- ---- how many instructions they are
+
+pub count_none : insns_ahead [] ≡ 0
+unfolding insns_ahead
+count_none = refl
+
+pub count_skips : (l : List ℕ) (ls : List (List ℕ)) → is_skipped l ≡ true → insns_ahead (l ∷ ls) ≡ insns_ahead ls
+unfolding insns_ahead
+count_skips l ls e = rw e refl
+
+pub count_stops : (l : List ℕ) (ls : List (List ℕ)) → is_skipped l ≡ false → is_stop (first_word l) ≡ true → insns_ahead (l ∷ ls) ≡ 0
+unfolding insns_ahead
+count_stops l ls e f = rw (e, f) refl
+
+pub count_marks : (l : List ℕ) (ls : List (List ℕ)) → is_skipped l ≡ false → is_stop (first_word l) ≡ false → is_mark (first_word l) ≡ true → insns_ahead (l ∷ ls) ≡ insns_ahead ls
+unfolding insns_ahead
+count_marks l ls e f g = rw (e, f, g) refl
+
+pub count_counts : (l : List ℕ) (ls : List (List ℕ)) → is_skipped l ≡ false → is_stop (first_word l) ≡ false → is_mark (first_word l) ≡ false → insns_ahead (l ∷ ls) ≡ insns_ahead ls + 1
+unfolding insns_ahead
+count_counts l ls e f g = rw (e, f, g) refl
 
 -- ---- what the first byte tells of the first word
 

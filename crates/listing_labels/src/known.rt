@@ -6,9 +6,9 @@ ghost use Rattle.listing_labels.specs.Labels.{Label, lookup, with_label};
 ghost use Rattle.listing_labels.specs.Order.{shortlex, is_above, LabelsRise};
 ghost use Rattle.listing_labels.specs.View.{label, place_in};
 
-use dex_base::Fault;
 use indexmap::IndexMap;
 use listing_slots::is_same;
+use listing_words::Fault;
 use std::alloc::Global;
 use std::cmp::Ordering;
 use std::marker::Model;

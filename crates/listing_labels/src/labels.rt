@@ -16,11 +16,10 @@ ghost use Rattle.listing_labels.specs.Labels.{SpellsHere, SpellsAll, MisspellsAl
 use crate::known::{Labels, Place};
 use crate::pieces::split_line;
 use bumpalo::Bump;
-use dex_base::{Fault, fault};
 use listing_slots::{
     Datum, Key, Mark, Slot, Spelled, fault_of, is_same, key_text, read_datum, read_marked,
 };
-use listing_words::Word;
+use listing_words::{Fault, Word, fault};
 
 /// Whether a byte can stand in a label.
 fn is_name_byte(c: u8) -> bool
@@ -114,10 +113,12 @@ fn is_stop(words: &[u8]) -> bool
 }
 
 /// Puts the labels of the code whose first line begins the text, which is the line of this number, in place of those that
-/// are there. It answers how many instructions the code has, for a caller that takes room for them.
+/// are there. It answers how many instructions the code has, for a caller that takes room for them. It fails only when out
+/// of memory.
 pub fn look_ahead<'t>(labels: &mut Labels<'t>, text: &'t [u8], first: u64) -> Result<usize, Fault>
     requires { first + length text.now < 2 ^ 64 }
     ensures ahead { OnOk result (labels.new ≡ says.labels_ahead [] first 0 (lines text.now)) }
+    ensures count { IfOk result (λ count. count ≡ says.insns_ahead (lines text.now)) }
     ensures memory { IsOkUnless result memory }
 {
     labels.clear();

@@ -10,7 +10,7 @@ use Rattle.program_types.specs.Content.{Class, Program}
 use Rattle.program_rules.specs.WellFormed.{WellFormed}
 use Rattle.listing_lines.specs.Lines.{first_line, end_class, instance_line}
 use Rattle.listing_lines.specs.Places.{may_stand}
-use Rattle.listing_draft.specs.States.{State, Open, at_heads, start, add, closed}
+use Rattle.listing_parse.specs.States.{State, Open, at_heads, start, add, closed}
 use Rattle.listing_parse.specs.Text.{line_of_form, IsListing}
 use Rattle.listing_words.specs.Words.{Word, plain_word, IsWritable, line_bytes}
 use Rattle.listing_words.proofs.PrintLaws.{line_again}

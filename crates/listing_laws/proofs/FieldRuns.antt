@@ -7,8 +7,8 @@ use Rattle.program_types.specs.Key.{Key}
 use Rattle.program_rules.specs.Rules.{member_key}
 use Rattle.listing_lines.specs.Lines.{static_line, instance_line}
 use Rattle.listing_lines.specs.Places.{may_stand, is_in_class}
-use Rattle.listing_draft.specs.Members.{Given, given_key, given_length, value_or_zero, values_of}
-use Rattle.listing_draft.specs.States.{State, Open, ClassPart, at_members, stage_of, counted, add, inside, with_static, with_instance}
+use Rattle.listing_parse.specs.Members.{Given, given_key, given_length, value_or_zero, values_of}
+use Rattle.listing_parse.specs.States.{State, Open, ClassPart, at_members, stage_of, counted, add, inside, with_static, with_instance}
 use Rattle.listing_print.specs.Printed.{line_operands, keyed_text}
 use Rattle.listing_print.specs.Canon.{statics_text}
 use Rattle.listing_print.specs.Reading.{FitOperands}

@@ -7,7 +7,7 @@ use Rattle.program_rules.specs.Rules.{AreDistinct}
 use Rattle.listing_lines.specs.Lines.{open_class, super_line, implements_line, source_line}
 use Rattle.listing_slots.specs.Keys.{same}
 use Rattle.listing_lines.specs.Places.{may_stand}
-use Rattle.listing_draft.specs.States.{Open, at_heads, with_superclass, with_interface, with_source, add, inside, opened, is_among}
+use Rattle.listing_parse.specs.States.{Open, at_heads, with_superclass, with_interface, with_source, add, inside, opened, is_among}
 use Rattle.listing_print.specs.Printed.{line_operands, keyed_text}
 use Rattle.listing_print.specs.Canon.{super_text, source_text, heads_text}
 use Rattle.listing_print.specs.Reading.{FitOperands}

@@ -7,8 +7,8 @@ use Rattle.program_types.specs.Content.{Class}
 use Rattle.std.specs.Ordering.{is_eq, ordering_reverse}
 use Rattle.program_types.specs.Key.{Key, key_cmp}
 use Rattle.program_types.specs.KeyLaws.{key_cmp-total}
-use Rattle.listing_draft.specs.Members.{is_held, put_in, with_member}
-use Rattle.listing_draft.specs.States.{State, Open, ClassPart}
+use Rattle.listing_parse.specs.Members.{is_held, put_in, with_member}
+use Rattle.listing_parse.specs.States.{State, Open, ClassPart}
 use Rattle.listing_laws.proofs.Printable.{IsBelowAll, KeysAreSorted, AllBelow}
 use Rattle.listing_lines.specs.declared.form.Form.{Form}
 use Rattle.listing_laws.proofs.Runs.{bare, RunsTo, within}

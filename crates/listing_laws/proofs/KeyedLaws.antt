@@ -18,7 +18,7 @@ use Rattle.listing_lines.specs.Places.{may_stand, is_insn}
 use Rattle.listing_lines.specs.Forms.{is_two}
 use Rattle.listing_lines.specs.declared.form.Form.{Form}
 use Rattle.listing_lines.specs.declared.form.Form.TheVariants.{One, Two}
-use Rattle.listing_draft.specs.States.{State, stage_of, counted, add}
+use Rattle.listing_parse.specs.States.{State, stage_of, counted, add}
 use Rattle.listing_labels.specs.Lines.{lines, is_skipped}
 use Rattle.listing_labels.specs.Labels.{Label}
 use Rattle.listing_parse.specs.Forms.{HasShapeInForm, may_stand_in_form}

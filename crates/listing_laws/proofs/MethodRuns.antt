@@ -11,7 +11,7 @@ use Rattle.program_rules.specs.Rules.{method_key}
 use Rattle.program_types.specs.Content.{Code, Method, Class}
 use Rattle.listing_lines.specs.Lines.{direct_line, virtual_line}
 use Rattle.listing_lines.specs.Places.{may_stand}
-use Rattle.listing_draft.specs.States.{Open, ClassPart, at_members, after_method, add, inside, with_direct, with_virtual, with_code, with_code_at}
+use Rattle.listing_parse.specs.States.{Open, ClassPart, at_members, after_method, add, inside, with_direct, with_virtual, with_code, with_code_at}
 use Rattle.listing_print.specs.Printed.{keyed_text}
 use Rattle.listing_print.specs.Canon.{body_text, direct_text, virtual_text}
 use Rattle.listing_laws.proofs.Runs.{bare, RunsTo, within, class_goes_on}

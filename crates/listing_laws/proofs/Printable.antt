@@ -7,7 +7,7 @@ use Rattle.program_types.specs.Key.{Key, key_cmp}
 use Rattle.program_rules.specs.Rules.{AreDistinct, member_key, method_key}
 use Rattle.listing_lines.specs.Lines.{open_class, super_line, implements_line, source_line, static_line, instance_line, direct_line, open_code, try_line, catch_line, catch_all_line}
 use Rattle.listing_lines.specs.Needs.{insn_needs}
-use Rattle.listing_draft.specs.Members.{Given}
+use Rattle.listing_parse.specs.Members.{Given}
 use Rattle.listing_print.specs.Printed.{line_operands}
 use Rattle.listing_print.specs.Operands.{insn_operands}
 use Rattle.listing_print.specs.Reading.{FitOperands, OpcodeFits}

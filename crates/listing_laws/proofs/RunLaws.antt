@@ -8,7 +8,7 @@ use Rattle.program_rules.specs.WellFormed.{WellFormed}
 use Rattle.listing_words.specs.Texts.{glyph, escape_text, unit_text}
 use Rattle.listing_words.specs.Words.{Word, plain_word, text_in_quotes, IsGraphic, IsWritable, word_bytes, line_bytes}
 use Rattle.dex_base.proofs.NameUnits.{all_append}
-use Rattle.listing_draft.specs.States.{at_top, State, start}
+use Rattle.listing_parse.specs.States.{at_top, State, start}
 use Rattle.listing_labels.specs.Lines.{lines}
 use Rattle.listing_parse.specs.Text.{Reading, TakesLine, Reads, IsListing}
 use Rattle.listing_lines.specs.declared.form.Form.TheVariants.{One}

@@ -4,7 +4,7 @@ use Rattle.std.specs.List.{AllByRecursion}
 use Rattle.program_types.specs.Content.{Catch, Try, Class}
 use Rattle.listing_lines.specs.Places.{is_in_class, is_in_code}
 use Rattle.listing_lines.specs.Needs.{Need}
-use Rattle.listing_draft.specs.States.{State, Open, ClassPart, at_heads, Body, CodePart, at_insns, in_try, at_top, in_class, in_code, class_stage, code_stage, all_tries}
+use Rattle.listing_parse.specs.States.{State, Open, ClassPart, at_heads, Body, CodePart, at_insns, in_try, at_top, in_class, in_code, class_stage, code_stage, all_tries}
 use Rattle.listing_labels.specs.Lines.{lines}
 use Rattle.listing_lines.specs.declared.form.Form.{Form}
 use Rattle.listing_labels.specs.Labels.{Label}

@@ -7,7 +7,7 @@ use Rattle.program_types.specs.Content.{Catch, Try, Class}
 use Rattle.listing_lines.specs.Lines.{catch_line, catch_all_line, try_line}
 use Rattle.listing_lines.specs.Places.{may_stand}
 use Rattle.listing_lines.specs.Needs.{Need, with_need}
-use Rattle.listing_draft.specs.States.{State, Open, Body, CodePart, after_try, all_tries, add, inside}
+use Rattle.listing_parse.specs.States.{State, Open, Body, CodePart, after_try, all_tries, add, inside}
 use Rattle.listing_print.specs.Printed.{line_operands, keyed_text_in}
 use Rattle.listing_print.specs.Canon.{all_numbers, try_numbers, is_named, catches_text, catch_all_text, try_text}
 use Rattle.listing_print.specs.Reading.{FitOperands}

@@ -16,7 +16,7 @@ use Rattle.listing_lines.specs.declared.form.Form.{Form}
 use Rattle.listing_lines.specs.declared.form.Form.TheVariants.{One, Two}
 use Rattle.listing_lines.specs.Places.{may_stand}
 use Rattle.listing_lines.specs.Needs.{Need, first_late}
-use Rattle.listing_draft.specs.States.{Open, Owner, Body, CodePart, after_method, at_members, at_insns, add, all_tries, begun, with_tries, whole_code, with_code_at}
+use Rattle.listing_parse.specs.States.{Open, Owner, Body, CodePart, after_method, at_members, at_insns, add, all_tries, begun, with_tries, whole_code, with_code_at}
 use Rattle.listing_labels.specs.Lines.{lines, is_skipped}
 use Rattle.listing_labels.specs.Labels.{Label, first_word, is_stop, labels_ahead}
 use Rattle.listing_labels.proofs.AheadLaws.{ahead_stops}

@@ -3,8 +3,8 @@
 use Rattle.std.specs.Prelude.{Bool, false, is_some}
 use Rattle.program_rules.specs.Rules.{member_key, method_key}
 use Rattle.listing_lines.specs.Lines.{Line, super_line, implements_line, source_line, static_line, instance_line, direct_line, virtual_line}
-use Rattle.listing_draft.specs.Members.{given_key, is_held}
-use Rattle.listing_draft.specs.States.{Open, Block, in_class, is_among}
+use Rattle.listing_parse.specs.Members.{given_key, is_held}
+use Rattle.listing_parse.specs.States.{Open, Block, in_class, is_among}
 
 -- The class has it: a superclass, this interface, a source file, or a member of this key.
 abbrev pub has_already : Open → Line → Bool

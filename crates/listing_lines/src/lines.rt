@@ -1,7 +1,7 @@
 //! Lines made of what their slots say.
 
 ghost use Rattle.std.specs.Prelude.{◌≡◌, map, drop, false, IfOk, IsOkUnless};
-ghost use Rattle.base_bytes.specs.Fault.{memory};
+ghost use Rattle.listing_slots.specs.Fault.{memory};
 ghost use Rattle.dex_insn.specs.Opcodes.{format_of};
 ghost use Rattle.program_types.specs.View.{insn};
 ghost use Rattle.listing_slots.specs.View.{datum};

@@ -1,7 +1,7 @@
 //! Values made of what the words say.
 
 ghost use Rattle.std.specs.Prelude.{◌≡◌, map, IfOk, OnOk, IsOkUnless};
-ghost use Rattle.base_bytes.specs.Fault.{memory};
+ghost use Rattle.listing_slots.specs.Fault.{memory};
 ghost use Rattle.program_types.specs.Content as content;
 ghost use Rattle.program_types.specs.View.{value, name};
 ghost use Rattle.listing_slots.specs.declared.datum.Datum.TheVariants as Datum;

@@ -9,7 +9,7 @@ use Rattle.listing_words.specs.Words.{Word}
 use Rattle.listing_words.proofs.WordLaws.{words_one}
 use Rattle.listing_slots.specs.declared.slot.Slot.{Slot}
 use Rattle.listing_slots.specs.Data.{Datum}
-use Rattle.listing_shapes.specs.Shapes.{Shape}
+use Rattle.listing_draft.specs.Shapes.{Shape}
 use Rattle.listing_labels.specs.Lines.{lines, is_skipped}
 use Rattle.listing_labels.specs.Labels.{Label}
 use Rattle.listing_labels.proofs.SpellLaws.{here_one, here_bad}
@@ -22,7 +22,7 @@ use Rattle.listing_slots.proofs.SpellLaws.{all_one, none_bad}
 use Rattle.listing_draft.specs.States.{add}
 use Rattle.listing_parse.specs.Text.{Reading, begin, line_counted, line_of_form, in_second, LineSays, AddsLine, IsUnsaid, AreRefused, TakesLine, Reads, IsListing, LineIsRefused, IsBadLine, ListingBreaks}
 use Rattle.listing_slots.proofs.SpellsOneLaws.{spells_one}
-use Rattle.listing_shapes.proofs.ShapeLaws.{shapes_one, bare_one}
+use Rattle.listing_draft.proofs.ShapeLaws.{shapes_one, bare_one}
 
 pub not_both : (b : Bool) → b ≡ true → b ≡ false → ⊥
 not_both b e f = let g = sym e ∙ f in cc

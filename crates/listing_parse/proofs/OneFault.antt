@@ -9,7 +9,7 @@ use Rattle.listing_words.specs.Words.{Word, HasWords}
 use Rattle.listing_words.proofs.WordLaws.{words_one}
 use Rattle.listing_slots.specs.declared.slot.Slot.{Slot}
 use Rattle.listing_slots.specs.Slots.{MisspellsSlots}
-use Rattle.listing_shapes.specs.Shapes.{Shape}
+use Rattle.listing_draft.specs.Shapes.{Shape}
 use Rattle.listing_labels.specs.Lines.{lines}
 use Rattle.listing_labels.specs.Labels.{Label, MisspellsAll}
 use Rattle.listing_lines.specs.declared.form.Form.{Form}

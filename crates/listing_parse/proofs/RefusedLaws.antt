@@ -2,7 +2,7 @@
 use Rattle.std.proofs.Common.{◌≡◌, ℕ, ◌+◌, true, false, inl, inr, List, Some, None, refl}
 use Rattle.listing_words.specs.Words.{Word, HasWords}
 use Rattle.listing_slots.specs.Data.{Datum}
-use Rattle.listing_shapes.specs.Shapes.{Shape}
+use Rattle.listing_draft.specs.Shapes.{Shape}
 use Rattle.listing_lines.specs.Lines.{line_of}
 use Rattle.listing_draft.specs.States.{State, add}
 use Rattle.listing_labels.specs.Lines.{is_skipped}

@@ -9,7 +9,7 @@ use Rattle.listing_slots.specs.Data.{Datum}
 use Rattle.listing_slots.specs.declared.kind.Kind.{Kind}
 use Rattle.listing_slots.specs.declared.kind.Kind.TheVariants as kind
 use Rattle.listing_slots.specs.Keys.{same}
-use Rattle.listing_shapes.specs.Shapes.{Shape}
+use Rattle.listing_draft.specs.Shapes.{Shape}
 use Rattle.listing_lines.specs.Lines.{line_of}
 use Rattle.listing_lines.specs.Places.{is_start, is_insns}
 use Rattle.listing_lines.specs.Forms.{is_two}

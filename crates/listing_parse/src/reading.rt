@@ -4,7 +4,7 @@
 ghost use Rattle.std.specs.Prelude.{◌≡◌, ◌+◌, ◌<◌, ◌^◌, map, length, OnOk, IsOkUnless};
 ghost use Rattle.base_bytes.specs.Fault.{memory};
 ghost use Rattle.listing_words.specs.View.{word};
-ghost use Rattle.listing_shapes.specs.ShapeView.{shape};
+ghost use Rattle.listing_draft.specs.ShapeView.{shape};
 ghost use Rattle.listing_draft.specs.View.{state};
 ghost use Rattle.listing_labels.specs.Lines.{lines};
 ghost use Rattle.listing_parse.specs.Forms.{may_stand_in_form};
@@ -13,10 +13,9 @@ ghost use Rattle.listing_parse.specs.View.{reading};
 
 use crate::form_line::FormLine;
 use dex_base::{Fault, fault};
-use listing_draft::{Block, Draft};
+use listing_draft::{Block, Draft, Found};
 use listing_labels::{Labels, is_label, is_mark, look_ahead};
 use listing_lines::{Form, is_insns, is_start, is_two, may_stand};
-use listing_shapes::Found;
 use listing_slots::{Kind, Slot, is_same};
 use listing_words::Word;
 
@@ -79,7 +78,7 @@ impl<'a, 't> Reading<'a, 't> {
     ghost use Rattle.std.specs.Prelude.{List};
     ghost use Rattle.listing_slots.specs.declared.slot.Slot.{Slot};
     ghost use Rattle.listing_words.specs.Words as words;
-    ghost use Rattle.listing_shapes.specs.ShapeView.{shape};
+    ghost use Rattle.listing_draft.specs.ShapeView.{shape};
     ghost use Rattle.listing_parse.specs.Text.{line_of_label, line_of_mark, line_of_form, in_second};
 
     /// What the line of a label is.

@@ -12,8 +12,8 @@ use Rattle.listing_slots.specs.Keys.{key_text, same, find_key, value_keys}
 use Rattle.listing_slots.specs.declared.slot.Mark.TheVariants.{Target}
 use Rattle.listing_slots.specs.Data.{Datum, word}
 use Rattle.listing_slots.specs.Slots.{SpellsSlots, has_form, have_forms}
-use Rattle.listing_slots.specs.Shown.{shown, shown_all, FitsSlot, FitSlots}
-use Rattle.listing_slots.proofs.ShownLaws.{shown_form, shown_spelled}
+use Rattle.listing_slots.specs.Shown.{shown, FitsSlot}
+use Rattle.listing_slots.proofs.ShownLaws.{shown_all, FitSlots, shown_form, shown_spelled}
 use Rattle.listing_lines.specs.declared.form.Form.{Form}
 use Rattle.listing_lines.specs.declared.form.Form.TheVariants.{One, Two}
 use Rattle.listing_shapes.specs.declared.due.Due.TheVariants as due

@@ -21,3 +21,6 @@ mod values;
 pub use found::Found;
 pub use law::{words_have_one_bare_shape, words_have_one_shape};
 pub use shape::{read_bare_shape, read_shape};
+
+// What stands below, for the crates above.
+pub use listing_words::is_number;

@@ -9,7 +9,7 @@ use Rattle.std.proofs.lemmas.Bool.{ltb-true, eq-eqb}
 use Rattle.listing_words.specs.Descriptor.{IsMemberName}
 use Rattle.listing_words.specs.Content.{OfText, OfDesc, OfField, OfMethod}
 use Rattle.listing_words.specs.Numbers.{SpellsNatural}
-use Rattle.listing_words.specs.Words.{IsGraphic, IsWritable, plain_word}
+use Rattle.listing_words.specs.Words.{Word, IsGraphic, IsWritable, plain_word}
 use Rattle.listing_words.specs.Written.{hex_digits, hex_width, flags_text, elements_text, name_text, proto_units, field_units, method_units}
 use Rattle.listing_words.proofs.WrittenLaws.{bits_again, flags_again, elements_again, name_again, name_writable, hex_graphic, hex_length}
 use Rattle.listing_words.proofs.NameUnits.{all_append}
@@ -22,7 +22,7 @@ use Rattle.listing_slots.specs.declared.slot.Slot.TheVariants as slot
 use Rattle.listing_slots.specs.Keys.{key_text, same}
 use Rattle.listing_slots.specs.Data.{Datum, byte, half, word, wide, tiny, short, int, long, elements, named, constant, prototype, said}
 use Rattle.listing_slots.specs.Slots.{mark_text, SpellsNumber, SpellsInteger, IsSignedWithin, SpellsSlot, SpellsSlots, has_form}
-use Rattle.listing_slots.specs.Shown.{shown, shown_all, FitsSlot, FitSlots}
+use Rattle.listing_slots.specs.Shown.{shown, FitsSlot}
 use Rattle.listing_words.proofs.dex_base_NameLaws.{simple_some}
 use Rattle.listing_words.proofs.LowPoints.{both}
 use Rattle.listing_words.proofs.Letters.{descriptor_some}
@@ -94,6 +94,17 @@ shown_form slot.Enum (constant f) h = refl
 shown_form slot.Proto (prototype p) h = refl
 shown_form (slot.Key k) (said l) h = same_refl (key_text k)
 shown_form _ _ h = absurd h
+
+-- Each datum in its slot.
+abbrev pub shown_all : List Slot → List Datum → List Word
+shown_all (s ∷ ss) (d ∷ ds) = shown s d ∷ shown_all ss ds
+shown_all _ _ = []
+
+-- Each can be printed in its slot.
+abbrev pub FitSlots : List Slot → List Datum → Type 0
+FitSlots [] [] = Unit {0}
+FitSlots (s ∷ ss) (d ∷ ds) = FitsSlot s d × FitSlots ss ds
+FitSlots _ _ = ⊥
 
 pub shown_spelled : (ss : List Slot) (ds : List Datum) → FitSlots ss ds → SpellsSlots ss (shown_all ss ds) ds
 shown_spelled [] [] h = tt

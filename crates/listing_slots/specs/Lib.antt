@@ -6,4 +6,5 @@ pub mod Shown
 pub mod ValidNames
 pub mod Spelled
 -- What stands below, for the crates above.
+pub use Rattle.base_bytes.specs.Fault
 pub use Rattle.program_rules.specs.Rules

@@ -1,6 +1,6 @@
 -- How words are printed in their slots.
 -- Page: docs/LISTING.md, "What a word can be".
-use Rattle.std.specs.Prelude.{◌≡◌, ◌<◌, ◌≤◌, ◌^◌, List, [], ◌∷◌, ◌++◌, length}
+use Rattle.std.specs.Prelude.{◌≡◌, ◌<◌, ◌≤◌, ◌^◌, [], ◌++◌, length}
 use Rattle.std.specs.List.{AllByRecursion}
 use Rattle.std.specs.Fmt.{decimal, signed_decimal}
 use Rattle.listing_words.specs.Descriptor.{IsDescriptor, IsMemberName}
@@ -37,11 +37,6 @@ shown slot.Enum (constant f) = plain_word (name_text (field_units f))
 shown slot.Proto (prototype p) = plain_word (name_text (proto_units p))
 shown (slot.Key k) d = plain_word (key_text k)
 shown _ _ = plain_word []
-
--- Each datum in its slot.
-abbrev pub shown_all : List Slot → List Datum → List Word
-shown_all (s ∷ ss) (d ∷ ds) = shown s d ∷ shown_all ss ds
-shown_all _ _ = []
 
 -- ---- what can be printed
 
@@ -89,9 +84,3 @@ FitsSlot slot.Enum (constant f) = IsFieldRef f
 FitsSlot slot.Proto (prototype p) = IsProto p
 FitsSlot (slot.Key k) (said l) = k ≡ l
 FitsSlot _ _ = ⊥
-
--- Each in its slot.
-abbrev pub FitSlots : List Slot → List Datum → Type 0
-FitSlots [] [] = Unit {0}
-FitSlots (s ∷ ss) (d ∷ ds) = FitsSlot s d × FitSlots ss ds
-FitSlots _ _ = ⊥

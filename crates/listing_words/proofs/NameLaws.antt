@@ -7,9 +7,9 @@ use Rattle.std.specs.List.{flat_map, AllByRecursion}
 use Rattle.program_types.specs.Descriptor.{IsDescriptor, IsMemberName, NoFront}
 use Rattle.program_types.proofs.NameUnits.{IsPlain, descriptor_prefix_free, member_units_plain, descriptor_not_close}
 use Rattle.program_types.specs.Content.{Proto, FieldRef, MethodRef}
-use Rattle.listing_words.specs.Taking.{NoneAt, IsDecided, EachTaken}
+use Rattle.listing_words.specs.Taking.{NoneAt, EachTaken}
 use Rattle.listing_words.specs.Names.{HasNameUnit, TakesNameUnit, SpellsUnits, TakesDescriptor, IsMemberText, IsProtoText, IsFieldText, IsMethodText, up_to, from}
-use Rattle.listing_words.proofs.TakingLaws.{Each-one}
+use Rattle.listing_words.proofs.TakingLaws.{IsDecided, Each-one}
 
 takes_has : (text : List ℕ) (u : ℕ) (rest : List ℕ) → TakesNameUnit text u rest → (len : ℕ) × HasNameUnit text u len
 takes_has text u rest h = elim h [

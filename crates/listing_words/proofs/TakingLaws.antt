@@ -1,6 +1,10 @@
 -- Laws of `Each`.
 use Rattle.std.proofs.Common.{◌≡◌, List, [], ◌∷◌, ◌++◌, refl, sym, subst, ◌∙◌}
-use Rattle.listing_words.specs.Taking.{NoneAt, IsDecided, EachTaken}
+use Rattle.listing_words.specs.Taking.{NoneAt, EachTaken}
+
+-- A front is read in one way at most.
+abbrev pub IsDecided : {X V : Type 0} → (List X → V → List X → Type 0) → Type 0
+IsDecided {X} {V} G = (text : List X) (v w : V) (r s : List X) → G text v r → G text w s → (v ≡ w) × (r ≡ s)
 
 -- where no further value stands, the values are all that stand there
 pub Each-one : {X V : Type 0} (G : List X → V → List X → Type 0) → IsDecided G → (vs ws : List V) (text r s : List X)

@@ -3,10 +3,10 @@ use Rattle.std.proofs.Common.{◌≡◌, ◌≢◌, ℕ, ◌<◌, inl, inr, List
 use Rattle.std.specs.Prelude.{Bool, false, ◌==◌, MatchBool}
 use Rattle.std.proofs.lemmas.Bool.{cases_eq, eq-eqb, ne_eqb}
 use Rattle.std.specs.List.{AllByRecursion}
-use Rattle.listing_words.specs.Taking.{NoneAt, IsDecided, EachTaken}
+use Rattle.listing_words.specs.Taking.{NoneAt, EachTaken}
 use Rattle.listing_words.specs.Texts.{TakesUnits}
 use Rattle.listing_words.specs.Words.{Word, plain_word, text_in_quotes, after_spaces, up_to_space, from_space, IsGraphic, TakesPlain, TakesText, TakesWord, HasWords}
-use Rattle.listing_words.proofs.TakingLaws.{Each-one}
+use Rattle.listing_words.proofs.TakingLaws.{IsDecided, Each-one}
 use Rattle.listing_words.specs.View.{word}
 use Rattle.listing_words.specs.declared.words.Word.{Word as Made}
 use Rattle.listing_words.proofs.TextLaws.{units_decided}

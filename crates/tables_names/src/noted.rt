@@ -1,11 +1,11 @@
 //! The names that code mentions, noted in the order of mention by their numbers, so that whoever writes the code looks none of
 //! them up a second time ("Dalvik bytecode": the formats with an index, as 21c).
-ghost use Rattle.std.specs.Prelude.{◌≡◌, ◌∷◌, ◌++◌, List, [], OnOk, IfOk, IsOkUnless, map};
+ghost use Rattle.std.specs.Prelude.{◌≡◌, ◌∷◌, ◌++◌, List, [], OnOk, OnErr, IfOk, IsOkUnless, map};
 ghost use Rattle.std.specs.List.{AllZip};
 ghost use Rattle.program_types.specs.Fault.{memory};
 ghost use Rattle.program_types.specs.Content as content;
 ghost use Rattle.program_types.specs.View as view;
-ghost use Rattle.tables_names.specs.Closure.{HasShorty, with_name};
+ghost use Rattle.tables_names.specs.Closure.{AddsPart, HasShorty, with_name};
 ghost use Rattle.tables_names.specs.Noted.{AreNoted, AreRanks, NumberIs, rank_by};
 ghost use Rattle.tables_names.specs.Numbers.{sets};
 
@@ -87,7 +87,8 @@ impl<'a> Noted<'a> {
     }
 
     /// Adds a name that an instruction mentions, with its parts, and notes it after the others. The arena holds a method's
-    /// shorty. Fails only when out of memory.
+    /// shorty. Fails only when out of memory: what was held and noted is held and noted then, and beyond it at most the
+    /// name and its parts have come, without a note.
     ///
     /// ```
     /// use bumpalo::Bump;
@@ -103,6 +104,8 @@ impl<'a> Noted<'a> {
         requires { HasShorty (view.name name) }
         ensures added { OnOk result (sets self.new.names ≡ with_name (sets self.old.names) (view.name name.entry)) }
         ensures noted { OnOk result ((names : List content.Name) → AreNoted self.old names → AreNoted self.new (names ++ view.name name.entry ∷ [])) }
+        ensures partly { OnErr result (AddsPart (sets self.old.names) (sets self.new.names) (with_name (sets self.old.names) (view.name name.entry))) }
+        ensures kept { OnErr result ((names : List content.Name) → AreNoted self.old names → AreNoted self.new names) }
         ensures memory { IsOkUnless result memory }
     {
         let number = self.numbered.add_name(arena, name)?;

@@ -110,7 +110,7 @@ impl<'a> NumberedNames<'a> {
     pub(crate) fn add_string(&mut self, name: Str<'a>) -> Result<usize, AllocError>
         ensures added { OnOk result (sets self.new.names ≡ with_name (sets self.old.names) (OfText (str name.entry))) }
         ensures number { IfOk result (λ n. IsAt self.new.names.strings n (key_of_str name.entry)) }
-        ensures grows { OnOk result (AllGrow self.old.names self.new.names) }
+        ensures grows { AllGrow self.old.names self.new.names }
         ensures unchanged { OnErr result (self.new ≡ self.old) }
     {
         let number = self.strings.add(name)?;
@@ -121,7 +121,7 @@ impl<'a> NumberedNames<'a> {
     pub(crate) fn add_type(&mut self, name: Desc<'a>) -> Result<usize, AllocError>
         ensures added { OnOk result (sets self.new.names ≡ with_name (sets self.old.names) (OfDesc (desc name.entry))) }
         ensures number { IfOk result (λ n. IsAt self.new.names.types n (key_of_desc name.entry)) }
-        ensures grows { OnOk result (AllGrow self.old.names self.new.names) }
+        ensures grows { AllGrow self.old.names self.new.names }
         ensures partly { OnErr result (AddsPart (sets self.old.names) (sets self.new.names) (with_parts (sets self.old.names) (OfDesc (desc name.entry)))) }
     {
         if let Some(number) = self.types.names.number_of(&name) {
@@ -139,7 +139,7 @@ impl<'a> NumberedNames<'a> {
         requires params { All IsDescriptor (map desc name.now.params.now) }
         ensures added { OnOk result (sets self.new.names ≡ with_proto (sets self.old.names) (proto name.now)) }
         ensures number { IfOk result (λ n. IsAt self.new.names.protos n (key_of_proto name.now)) }
-        ensures grows { OnOk result (AllGrow self.old.names self.new.names) }
+        ensures grows { AllGrow self.old.names self.new.names }
         ensures partly { OnErr result (AddsPart (sets self.old.names) (sets self.new.names) (with_proto_parts (sets self.old.names) (proto name.now))) }
         ensures memory { IsOkUnless result memory }
     {
@@ -165,7 +165,7 @@ impl<'a> NumberedNames<'a> {
         requires params { All IsDescriptor (map desc name.now.proto.now.params.now) }
         ensures added { OnOk result (sets self.new.names ≡ with_name (sets self.old.names) (OfMethod (method_ref name.now))) }
         ensures number { IfOk result (λ n. IsAt self.new.names.methods n (key_of_method name.now)) }
-        ensures grows { OnOk result (AllGrow self.old.names self.new.names) }
+        ensures grows { AllGrow self.old.names self.new.names }
         ensures partly { OnErr result (AddsPart (sets self.old.names) (sets self.new.names) (with_parts (sets self.old.names) (OfMethod (method_ref name.now)))) }
         ensures memory { IsOkUnless result memory }
     {
@@ -180,7 +180,7 @@ impl<'a> NumberedNames<'a> {
     pub(crate) fn add_field(&mut self, name: &FieldRef<'a>) -> Result<usize, AllocError>
         ensures added { OnOk result (sets self.new.names ≡ with_name (sets self.old.names) (OfField (field_ref name.now))) }
         ensures number { IfOk result (λ n. IsAt self.new.names.fields n (key_of_field name.now)) }
-        ensures grows { OnOk result (AllGrow self.old.names self.new.names) }
+        ensures grows { AllGrow self.old.names self.new.names }
         ensures partly { OnErr result (AddsPart (sets self.old.names) (sets self.new.names) (with_parts (sets self.old.names) (OfField (field_ref name.now)))) }
     {
         if let Some(number) = self.fields.names.number_of(name) {
@@ -195,7 +195,7 @@ impl<'a> NumberedNames<'a> {
         requires { IsAt self.old.names.types class (key_of_desc name.now.class) }
         ensures added { OnOk result (sets self.new.names ≡ with_name (sets self.old.names) (OfField (field_ref name.now))) }
         ensures number { IfOk result (λ n. IsAt self.new.names.fields n (key_of_field name.now)) }
-        ensures grows { OnOk result (AllGrow self.old.names self.new.names) }
+        ensures grows { AllGrow self.old.names self.new.names }
         ensures partly { OnErr result (AddsPart (sets self.old.names) (sets self.new.names) (with_parts (sets self.old.names) (OfField (field_ref name.now)))) }
     {
         if let Some(number) = self.fields.names.number_of(name) {
@@ -224,7 +224,7 @@ impl<'a> NumberedNames<'a> {
         requires params { All IsDescriptor (map desc name.now.proto.now.params.now) }
         ensures added { OnOk result (sets self.new.names ≡ with_name (sets self.old.names) (OfMethod (method_ref name.now))) }
         ensures number { IfOk result (λ n. IsAt self.new.names.methods n (key_of_method name.now)) }
-        ensures grows { OnOk result (AllGrow self.old.names self.new.names) }
+        ensures grows { AllGrow self.old.names self.new.names }
         ensures partly { OnErr result (AddsPart (sets self.old.names) (sets self.new.names) (with_parts (sets self.old.names) (OfMethod (method_ref name.now)))) }
         ensures memory { IsOkUnless result memory }
     {
@@ -247,7 +247,8 @@ impl<'a> NumberedNames<'a> {
         requires { HasShorty (view.name name) }
         ensures added { OnOk result (sets self.new.names ≡ with_name (sets self.old.names) (view.name name.entry)) }
         ensures number { IfOk result (λ n. NumberIs self.new.names (view.name name.entry) n) }
-        ensures grows { OnOk result (AllGrow self.old.names self.new.names) }
+        ensures grows { AllGrow self.old.names self.new.names }
+        ensures partly { OnErr result (AddsPart (sets self.old.names) (sets self.new.names) (with_parts (sets self.old.names) (view.name name.entry))) }
         ensures memory { IsOkUnless result memory }
     {
         match name {

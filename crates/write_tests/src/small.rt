@@ -1,4 +1,4 @@
-//! The program of file S, with another body or with another method.
+//! The program of the file `ONE_CLASS`, with another body or with another method.
 
 use program_types::{Class, Code, Desc, Insn, Method, Proto, Str};
 
@@ -73,7 +73,7 @@ pub const EMPTY: Class<'static> = Class {
     virtuals: &[],
 };
 
-/// The class of file S.
+/// The class of the file `ONE_CLASS`.
 pub const ONE: Class<'static> = Class {
     directs: &[METHOD],
     ..EMPTY

@@ -14,7 +14,7 @@ const SPELLED: [&[u8]; 5] = [
     b"\x06~~D8{}\0",
 ];
 
-/// File S with a fifth string that nothing uses, and with debugging information after the class data, at 261.
+/// `ONE_CLASS` with a fifth string that nothing uses, and with debugging information after the class data, at 261.
 const SPARE: Rows<'static> = Rows {
     strings: &SPELLED,
     types: &[0, 1, 2],
@@ -26,7 +26,7 @@ const SPARE: Rows<'static> = Rows {
     ..NOTHING
 };
 
-/// File S with a type_list of no type for the parameters of its prototype.
+/// `ONE_CLASS` with a type_list of no type for the parameters of its prototype.
 const EMPTY_LIST: Rows<'static> = Rows {
     strings: &[
         b"\x03LA;\0",
@@ -42,7 +42,8 @@ const EMPTY_LIST: Rows<'static> = Rows {
     ..SPARE
 };
 
-// Whether the file of these rows is another than file S, and file S is left of it, also when it is stripped again.
+// Whether the file of these rows is another than `ONE_CLASS`, and `ONE_CLASS` is left of it, also when it is stripped
+// again.
 fn leaves_one_class(alloc: Global, rows: &Rows<'_>) -> Result<bool, Fault> {
     let file = file_of(alloc, rows)?;
     let left = strip(alloc, &file)?;
@@ -78,7 +79,7 @@ fn slack_is_left_out(rt: HostRuntime) -> Result<(), Fail> {
     none_wrong(first_left_otherwise(rt.alloc(), &cases))
 }
 
-// What no reader looks at, each with its place in file S.
+// What no reader looks at, each with its place in `ONE_CLASS`.
 static UNUSED: [(&str, usize); 4] = [
     ("link_off", 48),
     ("the offset of a table without rows", 84),

@@ -1,7 +1,7 @@
 use Rattle.std.proofs.Common.{◌≡◌, ◌+◌, ℕ, List, length, take, drop, sym, subst, ap, ◌∙◌, arith}
 use Rattle.std.proofs.lemmas.List.{length-map, length-take}
-use Rattle.file_classes.specs.ClassData.{EntriesAt}
-use Rattle.file_classes.specs.Reading.{entries, method_entry}
+use Rattle.file_sections.specs.ClassData.{EntriesAt}
+use Rattle.file_sections.specs.Reading.{entries, method_entry}
 use Rattle.file_layout.specs.Sections.{AddsSome}
 use Rattle.file_sections.specs.Data.{PacksData, has_no_members, method_count}
 use Rattle.tables_names.specs.Closure.{NameRanks}

@@ -5,10 +5,10 @@ use Rattle.program_types.specs.Content.{Units, Method}
 use Rattle.program_types.specs.Mentions.{names_of_method}
 use Rattle.file_layout.specs.Sections.{wide_all}
 use Rattle.file_assemble.specs.Sum.{IsSum}
-use Rattle.file_assemble.specs.Wide.{bodies_in, wide_body}
-use Rattle.file_classes.specs.ClassData.{EntriesAre, steps}
-use Rattle.file_classes.specs.Classes.{CodesAre, IsMethod}
-use Rattle.file_classes.specs.Reading.{method_entry}
+use Rattle.file_assemble.specs.file_limits_Wide.{bodies_in, wide_body}
+use Rattle.file_assemble.specs.ClassData.{EntriesAre, steps}
+use Rattle.file_assemble.specs.Classes.{CodesAre, IsMethod}
+use Rattle.file_assemble.specs.Reading.{method_entry}
 use Rattle.file_strip.specs.Survey.{FindsNames, HasFound}
 use Rattle.file_strip.proofs.members.look_at_methods.Given as goal
 

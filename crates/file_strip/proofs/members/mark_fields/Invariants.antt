@@ -2,10 +2,10 @@ use Rattle.std.proofs.Common.{◌≡◌, ◌<◌, ◌^◌, List, map, take}
 use Rattle.std.specs.Prelude.{sum}
 use Rattle.program_types.specs.Content.{Units, Member}
 use Rattle.program_types.specs.Mentions.{field_of_class}
-use Rattle.tables_numbers.specs.Marked.{AddsNames, HasMarks}
-use Rattle.file_classes.specs.ClassData.{EntriesAre, steps}
-use Rattle.file_classes.specs.Classes.{IsField}
-use Rattle.file_classes.specs.Reading.{field_entry}
+use Rattle.file_kept.specs.Marked.{AddsNames, HasMarks}
+use Rattle.file_assemble.specs.ClassData.{EntriesAre, steps}
+use Rattle.file_assemble.specs.Classes.{IsField}
+use Rattle.file_assemble.specs.Reading.{field_entry}
 use Rattle.file_strip.proofs.members.mark_fields.Given as goal
 
 abbrev pub invariant-loop-entry : goal.invariant-loop-entry

@@ -2,7 +2,7 @@ use Rattle.std.proofs.Common.{ℕ, List, subst, sym}
 use Rattle.base_bytes.specs.Fields.{AreBytes}
 use Rattle.base_bytes.specs.declared.fault.Fault.{Fault}
 use Rattle.file_assemble.specs.Limits.{IsLowestLimit}
-use Rattle.file_assemble.specs.Wide.{wide}
+use Rattle.file_assemble.specs.file_limits_Wide.{wide}
 use Rattle.file_assemble.proofs.LimitLaws.{small_of}
 use Rattle.file_strip.proofs.ReadyLaws.{fits_of, keeps_of, ready_of, too_big, too_far}
 use Rattle.file_strip.proofs.stripping.strip_framed.Goals as goal

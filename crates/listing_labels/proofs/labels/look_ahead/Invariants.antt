@@ -1,11 +1,12 @@
 use Rattle.std.proofs.Common.{◌≡◌, ◌≤◌, ◌+◌, [], length}
 use Rattle.listing_labels.specs.Lines.{lines}
-use Rattle.listing_labels.specs.Labels.{labels_ahead}
+use Rattle.listing_labels.specs.Labels.{labels_ahead, insns_ahead}
 use Rattle.listing_labels.proofs.labels.look_ahead.Given as goal
 
 abbrev pub invariant-loop-next : goal.invariant-loop-next
 invariant-loop-next l = record {
   ahead : labels_ahead [] l.first 0 (lines l.text) ≡ labels_ahead l.labels l.line l.number (lines l.rest);
+  count : insns_ahead (lines l.text) ≡ l.number + insns_ahead (lines l.rest);
   line : l.line + length l.rest ≤ l.first + length l.text;
   number : l.number + length l.rest ≤ length l.text;
 }

@@ -2,7 +2,7 @@ use Rattle.std.proofs.Common.{◌∙◌, sym, ap, ℕ, ◌+◌, map, Some}
 use Rattle.std.proofs.lemmas.Result.{on_ok_weaker}
 use Rattle.listing_words.specs.View.{word}
 use Rattle.listing_slots.specs.View.{datum}
-use Rattle.listing_shapes.specs.ShapeView.{shape}
+use Rattle.listing_draft.specs.ShapeView.{shape}
 use Rattle.listing_draft.specs.View.{state}
 use Rattle.listing_labels.specs.Lines.{lines}
 use Rattle.listing_parse.specs.Text.{Reading, labels_after}

@@ -66,8 +66,8 @@ invariant_of-self-2 c =
     let o = order_of c.self-2.inside in
     let now : sets o.names ≡ join (sets c.args.self.now.names) (field_parts class name ty) = ap (λ (x : Order). sets x.names) c.self-2.view_is ∙ c.in_ok-ty.ensures.added ∙ ap (λ s. join s (type_closure (text_key ty))) (c.in_ok-text.ensures.added ∙ ap (λ s. join s (string_closure (text_key name))) (class_is_held (order_of c.self.inside) c.args.self.now c.self.view_is c.self.invariant (text_key (desc c.args.name.now.class)) c.args.class c.requires)) in
     let last = c.add_type.new.self.names in
-    let class_at : IsAt last.types c.args.class (text_key class) = c.in_ok-ty.ensures.grows.types.each _ _ (c.in_ok-text.ensures.grows.types.each _ _ c.requires) in
-    let name_at : IsAt last.strings c.in_ok-text.text (text_key name) = c.in_ok-ty.ensures.grows.strings.each _ _ c.in_ok-text.ensures.number in
+    let class_at : IsAt last.types c.args.class (text_key class) = c.add_type.ensures.grows.types.each _ _ (c.add_string.ensures.grows.types.each _ _ c.requires) in
+    let name_at : IsAt last.strings c.in_ok-text.text (text_key name) = c.add_type.ensures.grows.strings.each _ _ c.in_ok-text.ensures.number in
     let at = subst (λ (x : Order). IsAt x.names.types c.args.class (text_key class) × IsAt x.names.strings c.in_ok-text.text (text_key name) × IsAt x.names.types c.in_ok-ty.ty (text_key ty)) (sym c.self-2.view_is) (class_at, name_at, c.in_ok-ty.ensures.number) in
     rw (c.in_ok-number.ensures.names, c.in_ok-number.ensures.parts)
     (numbered-fields o c.self-2.invariant (key_of_field c.args.name.now) (record { class = c.args.class; name = c.in_ok-text.text; ty = c.in_ok-ty.ty }) at (field_with_parts (sets c.args.self.now.names) o class name ty now))
@@ -85,9 +85,19 @@ returns-clause-added c =
 pub returns-clause-grows : goal.returns-clause-grows
 returns-clause-grows c =
     let old = c.args.self.now.names in
-    let both : AllGrow old c.add_type.new.self.names = AllGrow-trans old c.add_string.new.self.names c.add_type.new.self.names c.in_ok-text.ensures.grows c.in_ok-ty.ensures.grows in
+    let both : AllGrow old c.add_type.new.self.names = AllGrow-trans old c.add_string.new.self.names c.add_type.new.self.names c.add_string.ensures.grows c.add_type.ensures.grows in
     let k = key_of_field c.args.name.now in
     let o = order_of c.self-2.inside in
     let first : AllGrow old o.names = subst (λ (x : Order). AllGrow old x.names) (sym c.self-2.view_is) both in
     rw c.in_ok-number.ensures.names
     (AllGrow-trans old o.names (record o.names { fields = o.names.fields ++ k ∷ [] }) first (record { strings = Grows-refl _; types = Grows-refl _; protos = Grows-refl _; fields = Grows-pushed o.names.fields k; methods = Grows-refl _ }))
+
+pub returns-in_err-ty-clause-grows : goal.returns-in_err-ty-clause-grows
+returns-in_err-ty-clause-grows c =
+    AllGrow-trans c.args.self.now.names c.add_string.new.self.names c.add_type.new.self.names c.add_string.ensures.grows c.add_type.ensures.grows
+
+pub returns-in_err-number-clause-grows : goal.returns-in_err-number-clause-grows
+returns-in_err-number-clause-grows c =
+    let old = c.args.self.now.names in
+    let both : AllGrow old c.add_type.new.self.names = AllGrow-trans old c.add_string.new.self.names c.add_type.new.self.names c.add_string.ensures.grows c.add_type.ensures.grows in
+    rw c.in_err-number.ensures.same_names (subst (λ (x : Order). AllGrow old x.names) (sym c.self-2.view_is) both)

@@ -35,5 +35,5 @@ loop-field-preserved c =
     record {
       added = next_name (sets c.args.self.now.names) (sets s) (sets c.add_field_in.new.self.names) (OfDesc (desc c.args.class) ∷ map f (map member (take i items))) _ c.loop-field.invariant.added c.in_ok-add_field_in.ensures.added
           ∙ ap (λ l. with_names (sets c.args.self.now.names) (OfDesc (desc c.args.class) ∷ l)) (sym (members_more f member items i _ (omega arith)));
-      number = c.in_ok-add_field_in.ensures.grows.types.each c.in_ok-number.number (key_of_desc c.args.class) c.loop-field.invariant.number;
+      number = c.add_field_in.ensures.grows.types.each c.in_ok-number.number (key_of_desc c.args.class) c.loop-field.invariant.number;
     }

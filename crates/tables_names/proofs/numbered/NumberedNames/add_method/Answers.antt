@@ -51,4 +51,4 @@ returns-clause-partly c =
 
 pub returns-clause-grows : goal.returns-clause-grows
 returns-clause-grows c =
-    on_ok_weaker c.add_method_in.result (λ g. AllGrow-trans c.args.self.now.names c.add_type.new.self.names c.add_method_in.new.self.names c.in_ok-class.ensures.grows g) c.add_method_in.ensures.grows
+    AllGrow-trans c.args.self.now.names c.add_type.new.self.names c.add_method_in.new.self.names c.add_type.ensures.grows c.add_method_in.ensures.grows

@@ -34,7 +34,7 @@ loop-one-preserved c =
     record {
       added = next_name (sets c.args.self.now.names) (sets s) (sets c.add_method_in.new.self.names) (OfDesc (desc c.args.class) ∷ map f (map method (take i items))) _ c.loop-one.invariant.added c.in_ok-add_method_in.ensures.added
           ∙ ap (λ l. with_names (sets c.args.self.now.names) (OfDesc (desc c.args.class) ∷ l)) (sym (members_more f method items i _ (omega arith)));
-      number = c.in_ok-add_method_in.ensures.grows.types.each c.in_ok-number.number (key_of_desc c.args.class) c.loop-one.invariant.number;
+      number = c.add_method_in.ensures.grows.types.each c.in_ok-number.number (key_of_desc c.args.class) c.loop-one.invariant.number;
     }
 
 pub add_method_in-requires-clause-ret : goal.add_method_in-requires-clause-ret

@@ -43,7 +43,7 @@ loop-param-init c =
     record {
       added = c.in_ok-ret.ensures.added ∙ ap (λ s. join s (type_closure (key_of_desc c.args.name.now.ret))) first;
       ret = c.in_ok-ret.ensures.number;
-      grows = AllGrow-trans c.args.self.now.names c.add_string.new.self.names c.add_type.new.self.names c.in_ok-add_string.ensures.grows c.in_ok-ret.ensures.grows;
+      grows = AllGrow-trans c.args.self.now.names c.add_string.new.self.names c.add_type.new.self.names c.add_string.ensures.grows c.add_type.ensures.grows;
     }
 
 pub returns-in_err-add_type-clause-partly : goal.returns-in_err-add_type-clause-partly
@@ -112,6 +112,18 @@ loop-param-preserved c =
     let new = c.add_type-in-loop-param.new.self.names in
     record {
       added = param_added desc (sets c.args.self.now.names) (sets s) (sets new) (shorty_of_texts (key_of_proto c.args.name.now)) (desc c.args.name.now.ret) c.args.name.now.params.now c.loop-param.param-index _ (omega arith) c.loop-param.invariant.added c.in_ok-add_type.ensures.added;
-      ret = c.in_ok-add_type.ensures.grows.types.each c.in_ok-ret.ret (key_of_desc c.args.name.now.ret) c.loop-param.invariant.ret;
-      grows = AllGrow-trans c.args.self.now.names s new c.loop-param.invariant.grows c.in_ok-add_type.ensures.grows;
+      ret = c.add_type-in-loop-param.ensures.grows.types.each c.in_ok-ret.ret (key_of_desc c.args.name.now.ret) c.loop-param.invariant.ret;
+      grows = AllGrow-trans c.args.self.now.names s new c.loop-param.invariant.grows c.add_type-in-loop-param.ensures.grows;
     }
+
+pub returns-in_err-ret-clause-grows : goal.returns-in_err-ret-clause-grows
+returns-in_err-ret-clause-grows c =
+    AllGrow-trans c.args.self.now.names c.add_string.new.self.names c.add_type.new.self.names c.add_string.ensures.grows c.add_type.ensures.grows
+
+pub returns-in_err-add_type-clause-grows : goal.returns-in_err-add_type-clause-grows
+returns-in_err-add_type-clause-grows c =
+    AllGrow-trans c.args.self.now.names c.loop-param.self.names c.add_type-in-loop-param.new.self.names c.loop-param.invariant.grows c.add_type-in-loop-param.ensures.grows
+
+pub returns-in_err-number-clause-grows : goal.returns-in_err-number-clause-grows
+returns-in_err-number-clause-grows c =
+    rw c.in_err-number.ensures.same_names (subst (λ (x : Order). AllGrow c.args.self.now.names x.names) (sym c.self-3.view_is) c.loop-param.invariant.grows)

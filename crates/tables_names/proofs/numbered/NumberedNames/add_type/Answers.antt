@@ -59,6 +59,10 @@ pub returns-clause-grows : goal.returns-clause-grows
 returns-clause-grows c =
     let k = key_of_desc c.args.name in
     let o = order_of c.self-2.inside in
-    let first : AllGrow c.args.self.now.names o.names = subst (λ (x : Order). AllGrow c.args.self.now.names x.names) (sym c.self-2.view_is) c.in_ok-text.ensures.grows in
+    let first : AllGrow c.args.self.now.names o.names = subst (λ (x : Order). AllGrow c.args.self.now.names x.names) (sym c.self-2.view_is) c.add_string.ensures.grows in
     rw c.in_ok-number.ensures.names
     (AllGrow-trans c.args.self.now.names o.names (record o.names { types = o.names.types ++ k ∷ [] }) first (record { strings = Grows-refl _; types = Grows-pushed o.names.types k; protos = Grows-refl _; fields = Grows-refl _; methods = Grows-refl _ }))
+
+pub returns-in_err-number-clause-grows : goal.returns-in_err-number-clause-grows
+returns-in_err-number-clause-grows c =
+    rw c.in_err-number.ensures.same_names (subst (λ (x : Order). AllGrow c.args.self.now.names x.names) (sym c.self-2.view_is) c.add_string.ensures.grows)

@@ -1,0 +1,168 @@
+// The machine's files: each call is one or two of the system's.
+ghost use Rattle.std.specs.Prelude.{[], false, None};
+ghost use Rattle.dexasm_world.specs.State.{unknown_files};
+
+use dexasm_world::{Dress, Handle, Look, NotMade, NotReplaced, Reading, Refusal, World};
+use std::alloc::Global;
+use std::fs;
+use std::fs::{File, Metadata, OpenOptions, Permissions};
+use std::io::{Error, ErrorKind, Read, Write};
+use std::os::unix::fs::{MetadataExt, PermissionsExt, fchown};
+
+// The files that the system shows to this process.
+#[derive(Drop)]
+pub(crate) struct Machine<'r> {
+    pub(crate) rt: &'r HostRuntime,
+}
+
+// A file that is open for writing.
+#[derive(Drop)]
+pub(crate) struct Opened(File);
+
+impl Handle for Opened {
+    ghost number = { λ _. 0 };
+}
+
+// A file that is open for reading.
+#[derive(Drop)]
+pub(crate) struct Readable(File);
+
+impl Reading for Readable {
+    ghost left = { λ _. None };
+
+    ghost place = { λ _. [] };
+}
+
+impl World for Machine<'_> {
+    type File = Opened;
+
+    type Reader = Readable;
+
+    // What these files hold is the system's to say.
+    ghost is_known = { false };
+
+    ghost files = { λ _. unknown_files };
+
+    ghost apart = { λ world path n known. Prim.cc };
+
+    fn look(&self, path: &str) -> Result<Look, Refusal> {
+        match fs::symlink_metadata(self.rt, path) {
+            Ok(there) => Ok(look_of(&there)),
+            Err(error) => Err(refusal(&error)),
+        }
+    }
+
+    fn target(&self, alloc: Global, path: &str) -> Result<String, Refusal> {
+        match fs::canonicalize(self.rt, path) {
+            Ok(target) => String::from_str(alloc, target.as_str()).map_err(|_| Refusal::Memory),
+            Err(error) => Err(refusal(&error)),
+        }
+    }
+
+    fn may_write(&self, path: &str) -> bool {
+        OpenOptions::new().write(true).open(self.rt, path).is_ok()
+    }
+
+    fn open(&self, path: &str) -> Result<Readable, Refusal> {
+        match File::open(self.rt, path) {
+            Ok(file) => Ok(Readable(file)),
+            Err(error) => Err(refusal(&error)),
+        }
+    }
+
+    fn read(&self, reader: &mut Readable, piece: &mut [u8]) -> Result<usize, Refusal> {
+        reader.0.read(piece).map_err(|error| refusal(&error))
+    }
+
+    fn make(&mut self, path: &str) -> Result<Opened, NotMade> {
+        match File::create_new(self.rt, path) {
+            Ok(file) => Ok(Opened(file)),
+            Err(error) => Err(not_made(&error)),
+        }
+    }
+
+    fn dress(&mut self, file: &Opened, dress: Dress) -> Result<(), Refusal> {
+        let _ = fchown(&file.0, Some(dress.user), Some(dress.group));
+        let set = file.0.set_permissions(Permissions::from_mode(dress.mode));
+        set.map_err(|error| refusal(&error))
+    }
+
+    fn put(&mut self, file: &mut Opened, piece: &[u8]) -> Result<usize, Refusal> {
+        file.0.write(piece).map_err(|error| refusal(&error))
+    }
+
+    fn keep(&mut self, file: &mut Opened) -> Result<(), Refusal> {
+        file.0.sync_all().map_err(|error| refusal(&error))
+    }
+
+    fn replace(&mut self, from: &str, to: &str) -> Result<(), NotReplaced> {
+        match fs::rename(self.rt, from, to) {
+            Ok(()) => Ok(()),
+            Err(error) => Err(not_replaced(&error)),
+        }
+    }
+
+    fn remove(&mut self, path: &str) -> Result<(), Refusal> {
+        fs::remove_file(self.rt, path).map_err(|error| refusal(&error))
+    }
+
+    fn begin(&mut self, path: &str) -> Result<Opened, Refusal> {
+        // (to ask for a new one where there is one is refused in some sticky folders)
+        let opened = match OpenOptions::new()
+            .write(true)
+            .truncate(true)
+            .open(self.rt, path)
+        {
+            Err(error) if error.kind() == ErrorKind::NotFound => File::create(self.rt, path),
+            opened => opened,
+        };
+        match opened {
+            Ok(file) => Ok(Opened(file)),
+            Err(error) => Err(refusal(&error)),
+        }
+    }
+}
+
+fn look_of(there: &Metadata) -> Look {
+    let dress = Dress {
+        mode: there.mode(),
+        user: there.uid(),
+        group: there.gid(),
+    };
+    if there.is_symlink() {
+        Look::Link
+    } else if !there.is_file() {
+        Look::Device
+    } else if there.nlink() == 1 {
+        Look::Alone(dress)
+    } else {
+        Look::Shared(dress)
+    }
+}
+
+fn refusal(error: &Error) -> Refusal {
+    match error.kind() {
+        ErrorKind::NotFound => Refusal::Missing,
+        ErrorKind::OutOfMemory => Refusal::Memory,
+        _ => Refusal::Other,
+    }
+}
+
+// Whether the name is taken, or the folder takes no file of this name.
+fn not_made(error: &Error) -> NotMade {
+    match error.kind() {
+        ErrorKind::AlreadyExists => NotMade::Taken,
+        ErrorKind::PermissionDenied => NotMade::Closed,
+        ErrorKind::ReadOnlyFilesystem => NotMade::Closed,
+        ErrorKind::InvalidFilename => NotMade::Closed,
+        _ => NotMade::Failed(refusal(error)),
+    }
+}
+
+// Whether OUT keeps its place, though it can be written: a mount point, or another user's file in a sticky folder.
+fn not_replaced(error: &Error) -> NotReplaced {
+    match error.kind() {
+        ErrorKind::PermissionDenied | ErrorKind::ResourceBusy => NotReplaced::Fixed,
+        _ => NotReplaced::Failed(refusal(error)),
+    }
+}

@@ -1,0 +1,4 @@
+pub mod Putting
+pub mod Handing
+pub mod Misusing
+mod StatusLaws

@@ -1,0 +1,4 @@
+pub mod Carried
+pub mod Told
+pub mod Served
+pub mod Statuses

@@ -1,0 +1,142 @@
+-- What the exit status says.
+use Rattle.std.specs.Prelude.{◌≡◌, ◌⊎◌, ◌∷◌, ◌++◌, [], ◌≤◌, ℕ, true, List, Option, Some, take, MatchOption}
+use Rattle.std.specs.Borrow.{Bor}
+use Rattle.std.specs.Io.KnownBytes.{Keeps, Appends}
+use Rattle.base_bytes.specs.declared.fault.Fault.{Fault}
+use Rattle.clap.specs.Words.{subcommand_of}
+use Rattle.dexasm_run.specs.Answers.{Answer, Refusal}
+use Rattle.dexasm_plan.specs.Commands.{dexasm}
+use Rattle.dexasm_plan.specs.Plans.{Plans}
+use Rattle.dexasm_plan.specs.declared.planned.Plan.{Plan}
+use Rattle.dexasm_run.specs.Runs.{IsAllGiven}
+use Rattle.dexasm_run.specs.Status.{error_line}
+use Rattle.dexasm_run.specs.declared.error.RunFault.{RunFault}
+use Rattle.dexasm_run.specs.declared.error.RunFault.TheVariants.{Refused, Input, Output, Memory}
+use Rattle.dexasm_world.specs.State.{Path, Passes}
+use Rattle.dexasm_world.specs.Safe.{IsSafe, IsDelivered, IsTidy, IsGivenUp}
+use Rattle.dexasm_world.specs.Looks.{IsHeld, CantBeRead, CauseAt}
+use Rattle.dexasm_command.specs.Told.{PutsLine}
+use Rattle.dexasm_command.specs.Served.{CommandRun, Serves, DoesNothing, IsShown, IsMisused}
+
+-- a line tells of the fault, or a front of it where standard error failed
+abbrev pub TellsIn : CommandRun → RunFault → Type 0
+TellsIn r fault = PutsLine r.said r.says r.errors_failed (error_line fault ++ 10 ∷ [])
+
+-- the answer has come to OUT, safe at each moment, and nothing is left beside it
+pub record IsBrought (r : CommandRun) (out : Path) (answer : List ℕ) : Type 0 where
+  pub moments : Passes r.before.files r.after.files (IsSafe r.before.files out answer)
+  pub delivered : IsDelivered r.before.files out answer r.after.files.now
+  pub tidy : IsTidy r.before.files out r.after.files
+
+-- each moment on its way there was safe, there is a cause why it didn't come, and nothing is left of it beside OUT
+pub record IsNotBrought (r : CommandRun) (out : Path) (answer : List ℕ) : Type 0 where
+  pub moments : Passes r.before.files r.after.files (IsSafe r.before.files out answer)
+  pub cause : CauseAt out r.before.files r.after.files
+  pub given_up : IsGivenUp r.before.files out answer r.after.files
+
+-- these bytes are what FILE holds, or all that standard input gave
+abbrev pub IsInput : CommandRun → Option (Bor Path) → List ℕ → Type 0
+IsInput r file given = MatchOption file
+    (IsAllGiven r.before.left r.after.left given)
+    (λ path. r.before.known ≡ true → IsHeld r.before.files path.now given)
+
+-- the answer has come to OUT, or where there is none to standard output, and nothing else is changed
+abbrev pub HasCome : CommandRun → Option (Bor Path) → List ℕ → Type 0
+HasCome r out answer = MatchOption out
+    ((r.after.files ≡ r.before.files) × Appends r.before.taken r.after.taken answer)
+    (λ path. Keeps r.before.taken r.after.taken × (r.before.known ≡ true → IsBrought r path.now answer))
+
+-- the words are a job, and its answer to what was read has come
+pub record IsAnswered (r : CommandRun) : Type 0 where
+  pub plan : Plan
+  pub planned : Plans (subcommand_of dexasm r.words) plan
+  pub given : List ℕ
+  pub answer : List ℕ
+  pub input : IsInput r plan.file given
+  pub answered : Answer plan.job given answer
+  pub come : HasCome r plan.output answer
+  pub silent : Keeps r.said r.says
+
+-- the words are a job, which refuses what was read, and nothing was done but that a line tells so
+pub record IsJobRefused (r : CommandRun) : Type 0 where
+  pub plan : Plan
+  pub planned : Plans (subcommand_of dexasm r.words) plan
+  pub given : List ℕ
+  pub fault : Fault
+  pub input : IsInput r plan.file given
+  pub refused : Refusal plan.job given fault
+  pub nothing : DoesNothing r
+  pub told : TellsIn r (Refused fault)
+
+-- the words are a job, and what it is to read couldn't be read: standard input failed, or there is a cause why FILE couldn't be read
+pub record CantRead (r : CommandRun) : Type 0 where
+  pub plan : Plan
+  pub planned : Plans (subcommand_of dexasm r.words) plan
+  pub failed : MatchOption plan.file (r.after.input_failed ≡ true) (λ path. r.before.known ≡ true → CantBeRead r.before.files path.now)
+  pub nothing : DoesNothing r
+  pub told : TellsIn r Input
+
+-- An answer hasn't come whole. Standard output, which failed, has a front of it, or each moment of OUT was safe, and there is a cause.
+abbrev pub HasBegun : CommandRun → Option (Bor Path) → List ℕ → Type 0
+HasBegun r out answer = MatchOption out
+    ((r.after.files ≡ r.before.files) × (r.after.output_failed ≡ true) × (n : ℕ) × Appends r.before.taken r.after.taken (take n answer))
+    (λ path. Keeps r.before.taken r.after.taken × (r.before.known ≡ true → IsNotBrought r path.now answer))
+
+-- the words are a job, and its answer to what was read couldn't be written
+pub record CantWrite (r : CommandRun) : Type 0 where
+  pub plan : Plan
+  pub planned : Plans (subcommand_of dexasm r.words) plan
+  pub given : List ℕ
+  pub answer : List ℕ
+  pub input : IsInput r plan.file given
+  pub answered : Answer plan.job given answer
+  pub begun : HasBegun r plan.output answer
+  pub told : TellsIn r Output
+
+-- the words ask for help or the version, and standard output failed
+pub record CantShow (r : CommandRun) : Type 0 where
+  pub files : r.after.files ≡ r.before.files
+  pub failed : r.after.output_failed ≡ true
+  pub told : TellsIn r Output
+
+-- each moment of OUT is safe, on the way of the job's answer to what was read, and in the end nothing is left beside it, whether the
+-- answer has come or not
+pub record IsKeptSafe (r : CommandRun) : Type 0 where
+  pub plan : Plan
+  pub planned : Plans (subcommand_of dexasm r.words) plan
+  pub given : List ℕ
+  pub answer : List ℕ
+  pub out : Bor Path
+  pub input : IsInput r plan.file given
+  pub answered : Answer plan.job given answer
+  pub is : plan.output ≡ Some out
+  pub moments : Passes r.before.files r.after.files (IsSafe r.before.files out.now answer)
+  pub left : IsGivenUp r.before.files out.now answer r.after.files
+
+-- status 0: the answer has come, or help or the version is shown
+abbrev pub ZeroTells : Type 0
+ZeroTells = (r : CommandRun) → Serves r → r.status ≡ 0 → IsAnswered r ⊎ IsShown r
+
+-- status 1: the input is refused, and nothing is done
+abbrev pub OneTells : Type 0
+OneTells = (r : CommandRun) → Serves r → r.status ≡ 1 → IsJobRefused r
+
+-- status 2: the words are wrong, and nothing is done
+abbrev pub TwoTells : Type 0
+TwoTells = (r : CommandRun) → Serves r → r.status ≡ 2 → IsMisused r
+
+-- status 3: reading or writing failed
+abbrev pub ThreeTells : Type 0
+ThreeTells = (r : CommandRun) → Serves r → r.status ≡ 3 → CantRead r ⊎ CantWrite r ⊎ CantShow r
+
+-- status 4: out of memory, and so a line tells
+abbrev pub FourTells : Type 0
+FourTells = (r : CommandRun) → Serves r → r.status ≡ 4 → TellsIn r Memory
+
+-- there is no other status
+abbrev pub NoOther : Type 0
+NoOther = (r : CommandRun) → Serves r → r.status ≤ 4
+
+-- Whatever the status: no file is touched, or each moment of OUT was safe.
+abbrev pub OutIsNeverLost : Type 0
+OutIsNeverLost = (r : CommandRun) → Serves r → r.before.known ≡ true → (r.after.files ≡ r.before.files) ⊎ IsKeptSafe r

@@ -1,0 +1,158 @@
+// A job carried out: what FILE or standard input gives is read, and the answer goes to OUT or to standard output.
+ghost use Rattle.std.specs.Prelude.{◌≡◌, false, true, [], None, Some};
+ghost use Rattle.dexasm_command.specs.Carried.{AnswersFrom, CarriesOut, GoesTo, HandsOver};
+
+use dexasm_job::Job;
+use dexasm_run::{RunFault, Sink, Source, answer_bytes, make, run, write_all};
+use dexasm_world::{Refusal, World, deliver, read_all};
+use std::alloc::Global;
+
+/// Carries out the job on what FILE holds, or on what the input gives, and delivers its answer to OUT or to the output.
+pub fn carry_out<W: World, I: Source, O: Sink>(
+    alloc: Global,
+    job: Job,
+    file: Option<&str>,
+    out: Option<&str>,
+    world: &mut W,
+    input: &mut I,
+    output: &mut O,
+) -> Result<(), RunFault>
+    requires input_works { I.failed input.old ≡ false }
+    requires input_goes_on { I.ended input.old ≡ false }
+    requires output_works { O.failed output.old ≡ false }
+    ensures { CarriesOut job file.entry out.entry
+        (record {
+          known = W.is_known;
+          files = W.files world.old;
+          left = I.remaining input.old;
+          input_failed = I.failed input.old;
+          taken = O.contents output.old;
+          output_failed = O.failed output.old;
+        })
+        (record {
+          known = W.is_known;
+          files = W.files world.new;
+          left = I.remaining input.new;
+          input_failed = I.failed input.new;
+          taken = O.contents output.new;
+          output_failed = O.failed output.new;
+        })
+        result }
+{
+    match file {
+        None => answer_from(alloc, job, out, world, input, output),
+        Some(path) => match read_all(alloc, world, path) {
+            Ok(given) => answer_given(alloc, job, given, out, world, output),
+            Err(Refusal::Memory) => Err(RunFault::Memory),
+            Err(Refusal::Missing) => Err(RunFault::Input),
+            Err(Refusal::Other) => Err(RunFault::Input),
+        },
+    }
+}
+
+// The answer to these bytes.
+fn answer_given<W: World, O: Sink>(
+    alloc: Global,
+    job: Job,
+    given: Vec<u8>,
+    out: Option<&str>,
+    world: &mut W,
+    output: &mut O,
+) -> Result<(), RunFault>
+    ensures { AnswersFrom job out.entry (Some given.items) (Some []) false
+        (record {
+          known = W.is_known;
+          files = W.files world.old;
+          left = None;
+          input_failed = false;
+          taken = O.contents output.old;
+          output_failed = O.failed output.old;
+        })
+        (record {
+          known = W.is_known;
+          files = W.files world.new;
+          left = None;
+          input_failed = false;
+          taken = O.contents output.new;
+          output_failed = O.failed output.new;
+        })
+        result }
+{
+    match answer_bytes(alloc, job, given) {
+        Ok(made) => match out {
+            None => write_all(made.as_slice(), output),
+            Some(path) => hand_over(alloc, made.as_slice(), path, world),
+        },
+        Err(fault) => Err(fault),
+    }
+}
+
+// The answer to what the input gives.
+fn answer_from<W: World, I: Source, O: Sink>(
+    alloc: Global,
+    job: Job,
+    out: Option<&str>,
+    world: &mut W,
+    input: &mut I,
+    output: &mut O,
+) -> Result<(), RunFault>
+    requires input_works { I.failed input.old ≡ false }
+    requires input_goes_on { I.ended input.old ≡ false }
+    requires output_works { O.failed output.old ≡ false }
+    ensures { AnswersFrom job out.entry (I.remaining input.old) (I.remaining input.new) (I.failed input.new)
+        (record {
+          known = W.is_known;
+          files = W.files world.old;
+          left = I.remaining input.old;
+          input_failed = I.failed input.old;
+          taken = O.contents output.old;
+          output_failed = O.failed output.old;
+        })
+        (record {
+          known = W.is_known;
+          files = W.files world.new;
+          left = I.remaining input.new;
+          input_failed = I.failed input.new;
+          taken = O.contents output.new;
+          output_failed = O.failed output.new;
+        })
+        result }
+{
+    match out {
+        None => run(alloc, job, input, output),
+        Some(path) => answer_to(alloc, job, path, world, input),
+    }
+}
+
+// The answer, delivered to OUT when it is whole.
+fn answer_to<W: World, I: Source>(
+    alloc: Global,
+    job: Job,
+    out: &str,
+    world: &mut W,
+    input: &mut I,
+) -> Result<(), RunFault>
+    requires input_works { I.failed input.old ≡ false }
+    requires input_goes_on { I.ended input.old ≡ false }
+    ensures { GoesTo job (I.remaining input.old) (I.remaining input.new) (I.failed input.new) (W.is_known ≡ true) (W.files world.old) (W.files world.new)
+        out.now result }
+{
+    let answer = make(alloc, job, input)?;
+    hand_over(alloc, answer.as_slice(), out, world)
+}
+
+// A whole answer, delivered to OUT.
+fn hand_over<W: World>(
+    alloc: Global,
+    answer: &[u8],
+    out: &str,
+    world: &mut W,
+) -> Result<(), RunFault>
+    ensures { HandsOver (W.is_known ≡ true) (W.files world.old) (W.files world.new) out.now answer.now result }
+{
+    match deliver(alloc, world, out, answer) {
+        Ok(()) => Ok(()),
+        Err(Refusal::Memory) => Err(RunFault::Memory),
+        Err(_) => Err(RunFault::Output),
+    }
+}

@@ -1,0 +1,14 @@
+//! What a command leaves in the world: on standard output, in OUT, on standard error, and as the exit status.
+#![tactic(auto)]
+
+mod carrying;
+mod laws;
+mod serving;
+mod shown;
+mod telling;
+
+pub use carrying::carry_out;
+pub use dexasm_run::{RunFault, Sink, Source, Watched, write_all};
+pub use laws::{out_is_never_lost, statuses_tell};
+pub use serving::serve;
+pub use telling::tell;

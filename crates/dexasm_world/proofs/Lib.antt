@@ -1,0 +1,14 @@
+pub mod Passing
+pub mod Stepping
+pub mod States
+pub mod Failing
+pub mod Overwriting
+pub mod Storing
+pub mod Copying
+pub mod Installing
+pub mod Bringing
+pub mod Choosing
+pub mod Leading
+pub mod Outcomes
+pub mod Leaving
+pub mod Gathering

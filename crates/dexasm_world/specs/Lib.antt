@@ -1,0 +1,6 @@
+pub mod State
+pub mod Steps
+pub mod Safe
+pub mod Looks
+pub mod Parts
+pub mod Possible
