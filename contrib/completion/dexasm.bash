@@ -1,4 +1,5 @@
-# Completion of dexasm for bash, written by tools/man: source it, or put it into /etc/bash_completion.d.
+# shellcheck shell=bash
+# Completion of dexasm and its helpers for bash, written by tools/man: source it, or put it into /etc/bash_completion.d.
 _dexasm() {
   local word=${COMP_WORDS[COMP_CWORD]} words
   case ${COMP_WORDS[1]-} in
@@ -14,4 +15,28 @@ _dexasm() {
     mapfile -t COMPREPLY < <(compgen -f -- "$word")
   fi
 }
+_dexasm_helper() {
+  local name=${COMP_WORDS[0]##*/} word=${COMP_WORDS[COMP_CWORD]} first='' options='' words=''
+  case $name in
+    dexasm-apk) first='check list strip' options='--help' ;;
+    dexasm-close) first='' options='--help --output --check' ;;
+    dexasm-diff) first='' options='--help --names --color --textconv' ;;
+    dexasm-explain) first='' options='--help --json' ;;
+    dexasm-query) first='classes strings calls' options='--help' ;;
+    dexasm-size) first='' options='--help --by --sort --html' ;;
+    dexasm-split) first='' options='--help --join' ;;
+  esac
+  case $name/${COMP_WORDS[COMP_CWORD - 1]} in
+    dexasm-diff/--color) words='auto always never' ;;
+    dexasm-size/--by) words='package class' ;;
+    dexasm-size/--sort) words='total code strings tables values debug unused strip name' ;;
+    *) if [[ $word == -* ]]; then words=$options; elif ((COMP_CWORD == 1)); then words=$first; fi ;;
+  esac
+  if [ -n "$words" ]; then
+    mapfile -t COMPREPLY < <(compgen -W "$words" -- "$word")
+  else
+    mapfile -t COMPREPLY < <(compgen -f -- "$word")
+  fi
+}
 complete -o filenames -F _dexasm dexasm
+complete -o filenames -F _dexasm_helper dexasm-apk dexasm-close dexasm-diff dexasm-explain dexasm-query dexasm-size dexasm-split

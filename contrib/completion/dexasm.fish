@@ -1,4 +1,4 @@
-# Completion of dexasm for fish, written by tools/man: put it into ~/.config/fish/completions.
+# Completion of dexasm and its helpers for fish, written by tools/man: put it into ~/.config/fish/completions.
 complete -c dexasm -n __fish_use_subcommand -f -a check -d 'Checks whether a .dex file keeps every rule of its format'
 complete -c dexasm -n __fish_use_subcommand -f -a list -d 'Prints the program of a .dex file as a listing'
 complete -c dexasm -n __fish_use_subcommand -f -a assemble -d 'Turns a listing into a .dex file'
@@ -10,3 +10,22 @@ complete -c dexasm -n '__fish_seen_subcommand_from list' -r -F -l output -d 'Wri
 complete -c dexasm -n '__fish_seen_subcommand_from assemble' -r -F -l output -d 'Write to OUT instead of standard output; it isn\'t touched until the answer is complete'
 complete -c dexasm -n '__fish_seen_subcommand_from assemble' -f -l align -d 'Put a nop before each payload at an odd address'
 complete -c dexasm -n '__fish_seen_subcommand_from strip' -r -F -l output -d 'Write to OUT instead of standard output; it isn\'t touched until the answer is complete'
+complete -c dexasm-apk -n __fish_use_subcommand -a 'check list strip'
+complete -c dexasm-apk -l help
+complete -c dexasm-close -l help
+complete -c dexasm-close -l output -r -F
+complete -c dexasm-close -l check
+complete -c dexasm-diff -l help
+complete -c dexasm-diff -l names
+complete -c dexasm-diff -l color -x -a 'auto always never'
+complete -c dexasm-diff -l textconv
+complete -c dexasm-explain -l help
+complete -c dexasm-explain -l json
+complete -c dexasm-query -n __fish_use_subcommand -a 'classes strings calls'
+complete -c dexasm-query -l help
+complete -c dexasm-size -l help
+complete -c dexasm-size -l by -x -a 'package class'
+complete -c dexasm-size -l sort -x -a 'total code strings tables values debug unused strip name'
+complete -c dexasm-size -l html -r -F
+complete -c dexasm-split -l help
+complete -c dexasm-split -l join

@@ -13,13 +13,16 @@ import tempfile
 TOP = os.path.dirname(os.path.dirname(os.path.dirname(os.path.abspath(__file__))))
 sys.path.insert(0, os.path.join(TOP, "bindings/python"))
 
+HELPERS = sorted(os.listdir(f"{TOP}/contrib/bin"))
 # Where each file goes below the package's top, or below /usr.
 FILES = {
     "docs/man/dexasm.1": "share/man/man1/dexasm.1",
+    **{f"docs/man/{name}.1": f"share/man/man1/{name}.1" for name in HELPERS},
     "docs/man/dexasm-listing.5": "share/man/man5/dexasm-listing.5",
     "contrib/completion/dexasm.bash": "share/bash-completion/completions/dexasm",
     "contrib/completion/_dexasm": "share/zsh/site-functions/_dexasm",
     "contrib/completion/dexasm.fish": "share/fish/vendor_completions.d/dexasm.fish",
+    "contrib/README.md": "share/doc/dexasm/contrib/README.md",
     "README.md": "share/doc/dexasm/README.md",
     "CHANGELOG.md": "share/doc/dexasm/CHANGELOG.md",
     "bindings/c/example.c": "share/doc/dexasm/examples/example.c",
@@ -30,9 +33,12 @@ FOLDERS = {
     "bindings/python/dexasm": "lib/python3/dist-packages/dexasm",
     "bindings/rust": "share/doc/dexasm/rust",
     "contrib/bin": "bin",
+    "contrib/share/dexasm": "share/dexasm",
     "contrib/vim": "share/vim/vimfiles",
     "docs": "share/doc/dexasm/docs",
 }
+# Where a shell looks for the words of each command: one file has those of all.
+COMPLETIONS = {"share/bash-completion/completions/%s": "dexasm", "share/fish/vendor_completions.d/%s.fish": "dexasm.fish"}
 LEFT_OUT = ("target", "man", "__pycache__", "Cargo.lock", ".gitignore")  # what is made, and what goes elsewhere
 # The oldest C library that has what the program and libdexasm.so ask for.
 GLIBC = {"bin/dexasm": (2, 34), "lib/libdexasm.so.0": (2, 17)}
@@ -109,6 +115,8 @@ def below(folder, place):
 
 def contents(program, library, is_given):
     """Where each file goes, its bytes and its mode; what a link leads to where that is a text."""
+    if os.path.exists(f"{library}/NOT-PROVED"):
+        raise Failed(f"{library} holds a library without its proof, which isn't packed")
     parts = [f"{library}/{name}" for name in ("libdexasm.a", "libdexasm.so", "dexasm.h")]
     held = {
         "bin/dexasm": (get(program), 0o755),
@@ -123,6 +131,7 @@ def contents(program, library, is_given):
         held.update(below(path, place))
     for path, place in FILES.items():
         held[place] = get(os.path.join(TOP, path)), 0o644
+    held.update({place % name: (to, 0o777) for place, to in COMPLETIONS.items() for name in HELPERS})
     return held
 
 
@@ -178,7 +187,6 @@ def control_of(held, number):
 Version: {number}
 Architecture: amd64
 Depends: libc6 (>= 2.34), python3:any
-Suggests: unzip
 Section: devel
 Priority: optional
 Installed-Size: {size}

@@ -9,6 +9,12 @@ import tempfile
 from packing import GLIBC, TOP, get
 
 LIMIT = 300  # seconds for a command
+# A helper over the module that they share, over a page, and over both modules.
+HELPED = (
+    ("dexasm assemble hello.txt | dexasm-query calls", '{\n "LHello;->get(Z)I": []\n}\n'),
+    ("dexasm check hello.dex 2>&1 | dexasm-explain hello.dex | sed -n 2p", "  8: the Adler-32 differs: the file was damaged or changed.\n"),
+    ("dexasm assemble hello.txt --output good.dex && dexasm-size good.dex --html size.html | tail -n 1 | grep -o all$", "all\n"),
+)
 
 
 class Tries:
@@ -55,7 +61,7 @@ def try_session(tries, what, folder, home):
     drop = as_nobody(home)
     places = {"PATH": f"{folder}/bin:/usr/local/bin:/usr/bin:/bin", "HOME": home, "LANG": "C.UTF-8"}
     env = {**places, "DEXASM_LIBRARY": f"{folder}/lib/libdexasm.so.0", "PYTHONPATH": f"{folder}/lib/python3/dist-packages"}
-    steps = [*session(), ("/usr/bin/env python3 -B -m dexasm check hello.dex", "dexasm: refused 8 Checksum at 8\n")]
+    steps = [*session(), ("/usr/bin/env python3 -B -m dexasm check hello.dex", "dexasm: refused 8 Checksum at 8\n"), *HELPED]
     for command, rest in steps:
         is_typed = command.startswith("cat >")
         given, want = (rest.encode(), "") if is_typed else (b"", rest)

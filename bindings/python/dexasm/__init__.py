@@ -7,12 +7,16 @@
 
 What is refused raises Refused, with the fault's number, name and place; want of memory raises MemoryError. The library is the one that
 the variable DEXASM_LIBRARY names, or libdexasm.so beside this file, or the one that tools/build made in this repository, or the system's.
+Where there is none, each call runs the command: the one that the variable DEXASM_COMMAND names, or `dexasm` on the PATH, or this repository's.
 `from dexasm import *` leaves out `list`, so that Python's own stays.
 """
 from __future__ import annotations
 
 import ctypes
 import os
+import re
+import shutil
+import subprocess
 
 __all__ = ["Refused", "assemble", "check", "fault_name", "strip", "version"]
 
@@ -42,7 +46,7 @@ class _Fault(ctypes.Structure):
     _fields_ = [("code", ctypes.c_uint16), ("place", ctypes.c_uint64)]
 
 
-def _load() -> ctypes.CDLL:
+def _load() -> ctypes.CDLL | None:
     named = os.environ.get("DEXASM_LIBRARY")
     if named:
         return ctypes.CDLL(named)
@@ -53,7 +57,20 @@ def _load() -> ctypes.CDLL:
     try:
         return ctypes.CDLL("libdexasm.so.0")
     except OSError:
-        raise ImportError("libdexasm isn't found: DEXASM_LIBRARY may name its file; `tools/build library` makes it") from None
+        return None
+
+
+def _find_command() -> str:
+    """The command, for where there is no library."""
+    asked = os.environ.get("DEXASM_COMMAND")
+    for named in [asked] if asked else ["dexasm", os.path.join(_HERE, *[".."] * 3, "dexasm")]:
+        found = shutil.which(named)
+        if found:
+            return os.path.abspath(found)
+    raise ImportError(
+        "neither libdexasm nor the command dexasm is found: DEXASM_LIBRARY or DEXASM_COMMAND may name its file; `tools/build library` makes "
+        "the library, `tools/quick library` makes it in minutes and without its proof"
+    )
 
 
 def _declare(library: ctypes.CDLL) -> ctypes.CDLL:
@@ -72,7 +89,23 @@ def _declare(library: ctypes.CDLL) -> ctypes.CDLL:
     return library
 
 
-_library = _declare(_load())
+_loaded = _load()
+_library = None if _loaded is None else _declare(_loaded)
+_command = None if _library else _find_command()
+
+
+def _run(job: str, given: bytes, *words: str) -> bytes:
+    """The command's answer to a job."""
+    done = subprocess.run([_command, job, *words], input=given, stdout=subprocess.PIPE, stderr=subprocess.PIPE)
+    line = done.stderr.decode("utf8", "replace").strip().rpartition("\n")[2]
+    refused = re.search(r"refused (\d+) (\w+) at (\d+)", line)
+    if done.returncode == _REFUSED and refused:
+        raise Refused(int(refused[1]), refused[2], int(refused[3]))
+    if done.returncode == _MEMORY:
+        raise MemoryError("dexasm: out of memory")
+    if done.returncode:
+        raise OSError(f"{_command} ended with status {done.returncode}: {line}")
+    return done.stdout
 
 
 def _text(call: ctypes._CFuncPtr, *words: int) -> str:
@@ -103,32 +136,45 @@ def _answer(call: ctypes._CFuncPtr, given: bytes, capacity: int, *words: bool) -
 def check(data: Data) -> None:
     """Returns if the bytes are a file that keeps every rule of the format."""
     given, fault = bytes(data), _Fault()
+    if _library is None:
+        _run("check", given)
+        return
     _raise(_library.dexasm_check(given, len(given), ctypes.byref(fault)), fault)
 
 
 def list(data: Data) -> str:
     """The listing of a file's program."""
     given = bytes(data)
+    if _library is None:
+        return _run("list", given).decode("ascii")
     return _answer(_library.dexasm_list, given, 4 * len(given) + 64).decode("ascii")
 
 
 def assemble(text: str | Data, align: bool = False) -> bytes:
     """The file of a listed program; with align a nop is put before each payload that would stand at an odd address."""
     given = text.encode() if isinstance(text, str) else bytes(text)
+    if _library is None:
+        return _run("assemble", given, *["--align"] * align)
     return _answer(_library.dexasm_assemble, given, len(given) + 4096, align)
 
 
 def strip(data: Data) -> bytes:
     """A file's program, written again without what it doesn't need."""
     given = bytes(data)
+    if _library is None:
+        return _run("strip", given)
     return _answer(_library.dexasm_strip, given, len(given) + 64)
 
 
 def fault_name(number: int) -> str:
-    """The name of a fault's number."""
+    """The name of a fault's number. Only the library tells it: without one this is a NotImplementedError, and Refused has the name."""
+    if _library is None:
+        raise NotImplementedError("fault_name asks libdexasm, which isn't here")
     return _text(_library.dexasm_fault_name, number)
 
 
 def version() -> str:
-    """The version of the library."""
+    """The version of the library, or of the command."""
+    if _library is None:
+        return _run("--version", b"").decode("ascii").split()[-1]
     return _text(_library.dexasm_version)

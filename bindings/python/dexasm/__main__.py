@@ -15,9 +15,17 @@ NAMES = 100  # how many names beside OUT are tried
 FIXED = (errno.EBUSY, errno.EPERM, errno.EACCES)
 
 
+class Version(argparse.Action):
+    """Prints the version, which is asked for only then: where there is no library the command runs for it."""
+
+    def __call__(self, parser: argparse.ArgumentParser, *_: object) -> None:
+        print(f"dexasm {dexasm.version()}")
+        parser.exit()
+
+
 def words() -> argparse.Namespace:
     parser = argparse.ArgumentParser(prog="dexasm", description="Checks, lists, assembles and strips .dex files, by libdexasm")
-    parser.add_argument("--version", action="version", version=f"dexasm {dexasm.version()}")
+    parser.add_argument("--version", action=Version, nargs=0, help="show program's version number and exit")
     jobs = parser.add_subparsers(dest="job", required=True)
     for job in ("check", "list", "assemble", "strip"):
         by = jobs.add_parser(job)
@@ -120,6 +128,8 @@ def main() -> int:
         return ended(1, str(refused))
     except MemoryError:
         return ended(4, "out of memory")
+    except OSError as error:
+        return ended(3, str(error))
     try:
         write(asked.output, made)
     except OSError:

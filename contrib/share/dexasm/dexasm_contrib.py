@@ -1,0 +1,235 @@
+"""What the helpers below contrib/bin share: their words, running the command, and lines that a terminal can be shown.
+
+A helper is given files and names by strangers. So no name becomes a part of a program's text or of a path that leads
+elsewhere, and what is printed of a name or of a line goes through `escaped`."""
+import argparse
+import json
+import os
+import re
+import shutil
+import subprocess
+import sys
+import tempfile
+
+TOP = os.path.dirname(os.path.dirname(os.path.dirname(os.path.realpath(__file__))))
+REFUSAL = re.compile(r".*\brefused (\d{1,5}) (\w+) at (\d{1,20})(?:: .*)?$")
+REFUSED, USAGE, FAILED, MEMORY = 1, 2, 3, 4  # exit statuses, as those of dexasm
+DEX, ZIP = b"dex\n", b"PK"
+
+
+class Failed(Exception):
+    """What is told on standard error before a helper ends, and its exit status."""
+
+    def __init__(self, line, status=FAILED):
+        super().__init__(line)
+        self.line, self.status = line, status
+
+
+class Usage(Failed):
+    """The words are wrong."""
+
+
+def escaped(text):
+    """The text without what a terminal obeys: escapes, other control characters, and marks that turn its direction."""
+    if isinstance(text, bytes):
+        text = text.decode("utf8", "surrogateescape")
+    return "".join(char if char.isprintable() else shown(char) for char in text)
+
+
+def shown(char):
+    """One character in hexadecimal digits; a byte that is no text stands as such a byte."""
+    number = ord(char)
+    if 0xDC80 <= number < 0xDD00:
+        return f"\\x{number - 0xDC00:02x}"
+    return f"\\x{number:02x}" if number < 0x100 else f"\\u{number:04x}" if number < 0x10000 else f"\\U{number:08x}"
+
+
+class Words(argparse.ArgumentParser):
+    """A helper's words, by its docstring: --help prints it, and its usage is told where the words are wrong."""
+
+    def __init__(self, doc):
+        self.doc = doc.strip() + "\n"
+        self.uses = "\n".join(re.search(r"^usage: .*(?:\n +.*)*", self.doc, re.M)[0].splitlines())
+        super().__init__(prog=os.path.basename(sys.argv[0]), allow_abbrev=False, usage="%(prog)s")
+
+    def format_help(self):
+        return self.doc
+
+    def error(self, message):
+        raise Usage(f"{self.uses}\n{self.prog}: {escaped(message)}", USAGE)
+
+
+def reason(error):
+    """An error of the system in its own words, without a name."""
+    return error.strerror or str(error) or type(error).__name__
+
+
+def get(path):
+    """The bytes of a file, or of standard input where there is no path."""
+    try:
+        if path is None:
+            if sys.stdin is None:
+                raise Failed("standard input: it is closed")
+            return sys.stdin.buffer.read()
+        with open(path, "rb") as file:
+            return file.read()
+    except (OSError, ValueError) as error:
+        raise Failed(f"{name_of(path)}: {reason(error) if isinstance(error, OSError) else error}") from None
+
+
+def name_of(path):
+    return "standard input" if path is None else escaped(path)
+
+
+def put_whole(path, given):
+    """Writes a file beside the path, which replaces what is there when it is complete; a device or a pipe is written as
+    it is.
+    """
+    try:
+        if os.path.exists(path) and not os.path.isfile(path):
+            with open(path, "wb") as file:
+                file.write(given)
+            return
+        path = os.path.realpath(path)
+        with tempfile.NamedTemporaryFile(dir=os.path.dirname(path), prefix=".", suffix=".part", delete=False) as file:
+            try:
+                file.write(given)
+                file.flush()
+                os.chmod(file.name, os.stat(path).st_mode & 0o7777 if os.path.exists(path) else 0o666 & ~umask())
+                os.replace(file.name, path)
+            except BaseException:
+                os.remove(file.name)
+                raise
+    except OSError as error:
+        raise Failed(f"{escaped(path)}: {reason(error)}") from None
+
+
+def umask():
+    mask = os.umask(0o022)
+    os.umask(mask)
+    return mask
+
+
+def command():
+    """The path of dexasm: the one that DEXASM_COMMAND names, or the PATH's, or the one that came with the helpers."""
+    named = os.environ.get("DEXASM_COMMAND")
+    beside = os.path.join(TOP, "bin", "dexasm")
+    if os.path.basename(TOP) == "contrib":
+        beside = os.path.join(os.path.dirname(TOP), "dexasm")
+    for path in [named] if named else ["dexasm", beside]:
+        found = shutil.which(path)
+        if found:
+            return os.path.abspath(found)
+    if named:
+        raise Failed(f"DEXASM_COMMAND names no command: {escaped(named)}")
+    raise Failed("no command dexasm: it has to be on the PATH, or DEXASM_COMMAND has to name it")
+
+
+class Ended:
+    """How a run of dexasm ended: its status, its answer, and what it told, by lines; a run that was killed has a line
+    that says so.
+    """
+
+    def __init__(self, done):
+        self.status, self.answer = done.returncode, done.stdout or b""
+        self.told = done.stderr.decode("utf8", "replace").splitlines()
+        if self.status < 0:
+            self.told.append(f"dexasm: killed by signal {-self.status}")
+            self.status = 128 - self.status
+
+    def last(self):
+        """Its last line, which says why there is no answer."""
+        return escaped(self.told[-1]) if self.told else f"dexasm: status {self.status}"
+
+    def refusal(self):
+        """Number, name and place of a refusal, or None."""
+        found = REFUSAL.search(self.told[-1]) if self.status == REFUSED and self.told else None
+        return found and (int(found[1]), found[2], int(found[3]))
+
+
+def dexasm(*words, given=b"", folder=None):
+    """Runs dexasm over these bytes, in that folder."""
+    try:
+        return Ended(
+            subprocess.run([command(), *words], input=given, stdout=subprocess.PIPE, stderr=subprocess.PIPE, cwd=folder)
+        )
+    except OSError as error:
+        raise Failed(f"dexasm doesn't run: {reason(error)}") from None
+
+
+def answer(*words, given, name):
+    """The answer of dexasm to these bytes of a file of that name; where there is none, its own line and status."""
+    ended = dexasm(*words, given=given)
+    if ended.status:
+        raise Failed(f"{name}: {ended.last()}", ended.status)
+    return ended.answer
+
+
+def listing_of(path):
+    """The listing of a file as dexasm prints it; a listing is assembled first, so that it is printed alike."""
+    given, name = get(path), name_of(path)
+    if not given.startswith(DEX) and re.match(rb"(?: *(?:#.*)?\n)* *dex +\w", given):
+        given = answer("assemble", given=given, name=name)
+    if given.startswith(ZIP):
+        raise Failed(f"{name}: a zip archive: dexasm-apk looks at the .dex files in it")
+    return answer("list", given=given, name=name).decode("ascii")
+
+
+def page(name):
+    """A page of docs/: the repository's, or the package's."""
+    for way in (("..", "docs"), ("share", "doc", "dexasm", "docs")):
+        path = os.path.join(TOP, *way, name)
+        if os.path.exists(path):
+            return get(path).decode("utf8")
+    raise Failed(f"the page docs/{name} isn't there")
+
+
+def decoded(word):
+    """A name or a text as it is: in a listing each character may stand as an escape. A lone surrogate stays one."""
+    return json.loads(word if word.startswith('"') else f'"{word}"')
+
+
+def say(line):
+    """A line on standard error, where there is one."""
+    if sys.stderr is not None:
+        try:
+            print(line, file=sys.stderr, flush=True)
+        except OSError:
+            pass
+
+
+def run(doc, main, trouble=None):
+    """Runs a helper, whose `main` takes a parser of its words and answers the status, and ends with a status whatever
+    happens, and with one line on standard error where something went wrong. `trouble` is the status of that, where it
+    isn't told apart.
+    """
+    words = Words(doc)
+    try:
+        if sys.stdout is None:
+            raise Failed("cannot write: standard output is closed")
+        sys.stdout.reconfigure(errors="backslashreplace")
+        status = main(words)
+        sys.stdout.flush()
+    except Failed as failed:
+        say(failed.line if isinstance(failed, Usage) else f"{words.prog}: {failed.line}")
+        status = trouble or failed.status
+    except OSError as error:
+        say(f"{words.prog}: {reason(error)}")
+        status = trouble or FAILED
+    except MemoryError:
+        say(f"{words.prog}: out of memory")
+        status = trouble or MEMORY
+    except KeyboardInterrupt:
+        status = 130
+    silence()
+    sys.exit(status)
+
+
+def silence():
+    """What couldn't be written is let go, so that nothing is told of it once more when Python ends."""
+    if sys.stdout is None:
+        return
+    try:
+        sys.stdout.flush()
+    except OSError:
+        os.dup2(os.open(os.devnull, os.O_WRONLY), sys.stdout.fileno())

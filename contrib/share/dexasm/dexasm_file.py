@@ -1,0 +1,476 @@
+"""Which byte of a .dex file is whose: for dexasm-size. The file is one that dexasm accepts, so each table and item of
+its program is there.
+
+What the program doesn't need (annotations, debug information) dexasm doesn't look at, so it can be anything: there each
+number is asked whether it leads into the file."""
+import struct
+
+HEADER, MAP_OFF = 112, 52
+TABLES = (("string", 56, 4), ("type", 64, 4), ("proto", 72, 12), ("field", 80, 8), ("method", 88, 8), ("class", 96, 32))
+ABSENT = 0xFFFFFFFF
+# Whose a byte is: a class's, by its row from 0 on; several classes'; no class's; the file's own.
+SEVERAL, NOBODY, FILE = -1, -2, -3
+# What a byte is: the last two are what no program has.
+KINDS = ("code", "strings", "tables", "values", "debug", "unused")
+CODE, STRINGS, TABLE, VALUES, DEBUG, UNUSED = range(len(KINDS))
+
+JUMBO = 0x1B
+# The units of each opcode ("Dalvik bytecode"), and which table its index, its second unit, is of.
+UNITS = bytearray([1] * 256)
+for first, last, units in (
+    (0x02, 0x02, 2),
+    (0x03, 0x03, 3),
+    (0x05, 0x05, 2),
+    (0x06, 0x06, 3),
+    (0x08, 0x08, 2),
+    (0x09, 0x09, 3),
+    (0x13, 0x13, 2),
+    (0x14, 0x14, 3),
+    (0x15, 0x16, 2),
+    (0x17, 0x17, 3),
+    (0x18, 0x18, 5),
+    (0x19, 0x1A, 2),
+    (0x1B, 0x1B, 3),
+    (0x1C, 0x1C, 2),
+    (0x1F, 0x20, 2),
+    (0x22, 0x23, 2),
+    (0x24, 0x26, 3),
+    (0x29, 0x29, 2),
+    (0x2A, 0x2C, 3),
+    (0x2D, 0x3D, 2),
+    (0x44, 0x6D, 2),
+    (0x6E, 0x72, 3),
+    (0x74, 0x78, 3),
+    (0x90, 0xAF, 2),
+    (0xD0, 0xE2, 2),
+):
+    UNITS[first : last + 1] = bytes([units] * (last + 1 - first))
+INDEX = [None] * 256
+for first, last, table in (
+    (0x1A, 0x1B, "string"),
+    (0x1C, 0x1C, "type"),
+    (0x1F, 0x20, "type"),
+    (0x22, 0x25, "type"),
+    (0x52, 0x6D, "field"),
+    (0x6E, 0x72, "method"),
+    (0x74, 0x78, "method"),
+):
+    INDEX[first : last + 1] = [table] * (last + 1 - first)
+# Encoded values: those that are an index, and those without bytes of a number.
+VALUE_INDEX = {0x17: "string", 0x18: "type", 0x19: "field", 0x1A: "method", 0x1B: "field"}
+ARRAY, ANNOTATION, NULL, BOOLEAN = 0x1C, 0x1D, 0x1E, 0x1F
+# Debug information: how many numbers follow an opcode.
+DEBUG_NUMBERS = {1: 1, 2: 1, 3: 3, 4: 4, 5: 1, 6: 1, 9: 1}
+
+
+class Outside(Exception):
+    """What was followed leads out of the file, or too much was."""
+
+
+class Reader:
+    """Numbers from a place on; for what dexasm doesn't look at, `left` has how many bytes may still be read."""
+
+    def __init__(self, data, at, left=None):
+        self.data, self.at, self.left = data, at, left
+
+    def byte(self):
+        if self.left:
+            self.left[0] -= 1
+        if self.at >= len(self.data) or self.left and self.left[0] < 0:
+            raise Outside
+        self.at += 1
+        return self.data[self.at - 1]
+
+    def words(self, count):
+        """Numbers of four bytes."""
+        end = self.at + 4 * count
+        if end > len(self.data):
+            raise Outside
+        if self.left:
+            self.left[0] -= 4 * count
+        found = struct.unpack_from(f"<{count}I", self.data, self.at)
+        self.at = end
+        return found
+
+    def uleb(self):
+        return self.leb()[0]
+
+    def sleb(self):
+        number, bits = self.leb()
+        return number - (1 << bits) if number >> (bits - 1) else number
+
+    def leb(self):
+        """A LEB128 number without its sign, and how many bits it has."""
+        number = 0
+        for shift in range(0, 35, 7):
+            byte = self.byte()
+            number |= (byte & 0x7F) << shift
+            if byte < 0x80:
+                return number, shift + 7
+        raise Outside
+
+
+def insns(units):
+    """Each instruction that isn't a payload: its opcode and its first unit's place."""
+    at = 0
+    while at < len(units):
+        unit = units[at]
+        if unit == 0x0100:
+            at += 4 + 2 * units[at + 1]
+        elif unit == 0x0200:
+            at += 2 + 4 * units[at + 1]
+        elif unit == 0x0300:
+            at += 4 + (units[at + 1] * (units[at + 2] | units[at + 3] << 16) + 1) // 2
+        else:
+            yield unit & 0xFF, at
+            at += UNITS[unit & 0xFF]
+
+
+class TypeList:
+    """A type_list: where it ends, and its types."""
+
+    kind = TABLE
+
+    def __init__(self, data, at):
+        count = struct.unpack_from("<I", data, at)[0]
+        self.begin, self.end = at, at + 4 + 2 * count
+        self.mentions = {("type", type_) for type_ in struct.unpack_from(f"<{count}H", data, at + 4)}
+
+
+class Values:
+    """The encoded_array of a class's static values."""
+
+    kind = VALUES
+
+    def __init__(self, data, at):
+        reader = Reader(data, at)
+        self.begin, self.mentions = at, read_values(reader, reader.uleb())
+        self.end = reader.at
+
+
+class Code:
+    """A code_item: where it ends, which names it mentions, and where its debug information is."""
+
+    kind = CODE
+
+    def __init__(self, data, at):
+        self.begin = at
+        _, _, _, tries, self.debug, count = struct.unpack_from("<HHHHII", data, at)
+        self.end = at + 16 + 2 * count
+        units = struct.unpack_from(f"<{count}H", data, at + 16)
+        self.mentions = {
+            (INDEX[op], units[i + 1] | (units[i + 2] << 16 if op == JUMBO else 0))
+            for op, i in insns(units)
+            if INDEX[op]
+        }
+        if tries:
+            self.read_handlers(Reader(data, self.end + 2 * (count % 2) + 8 * tries))
+
+    def read_handlers(self, reader):
+        for _ in range(reader.uleb()):
+            size = reader.sleb()
+            for _ in range(abs(size)):
+                self.mentions.add(("type", reader.uleb()))
+                reader.uleb()
+            if size <= 0:
+                reader.uleb()
+        self.end = reader.at
+
+
+def read_values(reader, count, has_names=False):
+    """Reads so many encoded values, and answers the names that they mention."""
+    mentions, due = set(), [[count, has_names]]
+    while due:
+        if due[-1][0] == 0:
+            due.pop()
+            continue
+        due[-1][0] -= 1
+        if due[-1][1]:
+            reader.uleb()
+        head = reader.byte()
+        kind, size = head & 0x1F, (head >> 5) + 1
+        if kind == ARRAY:
+            due.append([reader.uleb(), False])
+        elif kind == ANNOTATION:
+            reader.uleb()
+            due.append([reader.uleb(), True])
+        elif kind not in (NULL, BOOLEAN):
+            number = sum(reader.byte() << 8 * i for i in range(size))
+            if kind in VALUE_INDEX:
+                mentions.add((VALUE_INDEX[kind], number))
+    return mentions
+
+
+class Owners:
+    """Whose each row of a table is."""
+
+    def __init__(self, counts):
+        self.of = {table: [NOBODY] * count for table, count in counts.items()}
+
+    def give(self, table, index, owner):
+        old = self.of[table][index]
+        self.of[table][index] = owner if old in (NOBODY, owner) else SEVERAL
+
+
+class Tables:
+    """The six tables of a file, and what their rows name."""
+
+    def __init__(self, data):
+        self.data, self.at, self.count, self.row = data, {}, {}, {}
+        for name, place, size in TABLES:
+            self.count[name], self.at[name] = struct.unpack_from("<II", data, place)
+            self.row[name] = size
+
+    def numbers(self, table, index, form):
+        return struct.unpack_from(form, self.data, self.at[table] + index * self.row[table])
+
+    def text(self, string):
+        """A string as it is, from MUTF-8."""
+        reader = Reader(self.data, self.numbers("string", string, "<I")[0])
+        reader.uleb()
+        spelled = self.data[reader.at : self.data.index(0, reader.at)]
+        return (
+            spelled.decode("utf8", "surrogatepass")
+            .encode("utf-16-le", "surrogatepass")
+            .decode("utf-16-le", "surrogatepass")
+        )
+
+    def type_name(self, index):
+        return self.text(self.numbers("type", index, "<I")[0])
+
+    def class_name(self, row):
+        return self.type_name(self.numbers("class", row, "<I")[0])
+
+    def method_name(self, index):
+        """A method as a listing names it, without its class."""
+        _, proto, name = self.numbers("method", index, "<HHI")
+        _, answer, at = self.numbers("proto", proto, "<III")
+        count = struct.unpack_from("<I", self.data, at)[0] if at else 0
+        types = struct.unpack_from(f"<{count}H", self.data, at + 4) if at else ()
+        return f"{self.text(name)}({''.join(map(self.type_name, types))}){self.type_name(answer)}"
+
+    def codes_of(self, row, left):
+        """Of each method of a class that has one: where its code is, and its own row."""
+        reader = Reader(self.data, self.numbers("class", row, "<8I")[6], left)
+        counts = [reader.uleb() for _ in range(4)] if reader.at else [0] * 4
+        for table, count in zip(("field", "field", "method", "method"), counts):
+            index = 0
+            for _ in range(count):
+                index += reader.uleb()
+                reader.uleb()
+                code = reader.uleb() if table == "method" else 0
+                if code:
+                    yield code, index
+
+
+class Dex(Tables):
+    """A file whose bytes are told apart: `claims` has begin, end and kind of each item, and whose it is."""
+
+    def __init__(self, data):
+        super().__init__(data)
+        self.claims, self.left = {}, [4 * len(data)]
+        self.items, self.given, self.followed = {}, {}, {}
+        self.owners = Owners(self.count)
+        self.claim(0, HEADER, TABLE, FILE)
+        begin = struct.unpack_from("<I", data, MAP_OFF)[0]
+        self.claim(begin, begin + 4 + 12 * struct.unpack_from("<I", data, begin)[0], TABLE, FILE)
+        self.names = [self.read_class(row) for row in range(self.count["class"])]
+        self.read_names()
+
+    def claim(self, begin, end, kind, owner):
+        """An item that several have is nobody's alone."""
+        old = self.claims.setdefault((begin, end, kind), owner)
+        if old != owner:
+            self.claims[begin, end, kind] = SEVERAL
+
+    def item(self, read, at):
+        """What `read` makes of the item there, which is read once."""
+        if (read, at) not in self.items:
+            self.items[read, at] = read(self.data, at)
+        return self.items[read, at]
+
+    def give_all(self, item, owner):
+        """Gives the owner an item that several may have, and what it mentions; once it is several classes', no more is
+        to be given.
+        """
+        old = self.given.get(item)
+        if old in (owner, SEVERAL):
+            return
+        self.given[item] = owner = owner if old is None else SEVERAL
+        self.claim(item.begin, item.end, item.kind, owner)
+        for table, index in item.mentions:
+            self.owners.give(table, index, owner)
+
+    def read_class(self, row):
+        """A class row and what it leads to; answers the class's name."""
+        type_, _, parent, interfaces, source, annotations, members, values = self.numbers("class", row, "<8I")
+        give = self.owners.give
+        self.claim(self.at["class"] + 32 * row, self.at["class"] + 32 * row + 32, TABLE, row)
+        give("type", type_, row)
+        if parent != ABSENT:
+            give("type", parent, row)
+        if source != ABSENT:
+            give("string", source, row)
+        if interfaces:
+            self.give_all(self.item(TypeList, interfaces), row)
+        if members:
+            self.read_members(members, row)
+        if values:
+            self.give_all(self.item(Values, values), row)
+        if annotations:
+            self.unneeded(read_directory, annotations, row)
+        return self.text(self.numbers("type", type_, "<I")[0])
+
+    def read_members(self, at, row):
+        reader = Reader(self.data, at)
+        counts = [reader.uleb() for _ in range(4)]
+        for table, count in zip(("field", "field", "method", "method"), counts):
+            index = 0
+            for _ in range(count):
+                index += reader.uleb()
+                reader.uleb()
+                self.owners.give(table, index, row)
+                code = reader.uleb() if table == "method" else 0
+                if code:
+                    self.read_code(code, row)
+        self.claim(at, reader.at, TABLE, row)
+
+    def read_code(self, at, row):
+        code = self.item(Code, at)
+        self.give_all(code, row)
+        if code.debug:
+            self.unneeded(read_debug, code.debug, row)
+
+    def read_names(self):
+        """The rows of the five tables, and what they lead to: a name is whose the names with it are."""
+        give, of = self.owners.give, self.owners.of
+        for table, parts in (("field", ("type", "type", "string")), ("method", ("type", "proto", "string"))):
+            for index, owner in enumerate(of[table]):
+                for part, number in zip(parts, self.numbers(table, index, "<HHI") if owner != NOBODY else ()):
+                    give(part, number, owner)
+        for index, owner in enumerate(of["proto"]):
+            shorty, answer, parameters = self.numbers("proto", index, "<III")
+            if owner != NOBODY:
+                give("string", shorty, owner)
+                give("type", answer, owner)
+            if parameters and owner != NOBODY:
+                self.give_all(self.item(TypeList, parameters), owner)
+            elif parameters:
+                self.claim(parameters, self.item(TypeList, parameters).end, UNUSED, NOBODY)
+        for index, owner in enumerate(of["type"]):
+            if owner != NOBODY:
+                give("string", self.numbers("type", index, "<I")[0], owner)
+        for table, _, size in TABLES[:5]:
+            kind = STRINGS if table == "string" else TABLE
+            for index, owner in enumerate(of[table]):
+                begin = self.at[table] + size * index
+                self.claim(begin, begin + size, kind if owner != NOBODY else UNUSED, owner)
+        for index, owner in enumerate(of["string"]):
+            begin = Reader(self.data, self.numbers("string", index, "<I")[0])
+            at = begin.at
+            begin.uleb()
+            self.claim(at, self.data.index(0, begin.at) + 1, STRINGS if owner != NOBODY else UNUSED, owner)
+
+    # ---- what dexasm doesn't look at
+
+    def unneeded(self, read, at, row):
+        """Claims an item that the program doesn't need, and those that it leads to."""
+        due = [(read, at)]
+        while due:
+            read, at = due.pop()
+            if at:
+                due += self.follow(read, at, row)
+
+    def follow(self, read, at, row):
+        """Claims one such item, which is read once; answers what it leads to, and how that is read."""
+        if (read, at) not in self.followed:
+            self.followed[read, at] = at, ()
+            reader = Reader(self.data, at, self.left)
+            try:
+                found = read(reader)
+                self.followed[read, at] = reader.at, found
+            except Outside:
+                pass
+        end, found = self.followed[read, at]
+        self.left[0] -= 1 + len(found)
+        if self.left[0] < 0 or end == at:
+            return ()
+        self.claim(at, end, DEBUG, row)
+        return found
+
+
+def read_debug(reader):
+    """A debug_info_item."""
+    reader.uleb()
+    for _ in range(reader.uleb()):
+        reader.uleb()
+    while op := reader.byte():
+        for _ in range(DEBUG_NUMBERS.get(op, 0)):
+            reader.uleb()
+    return ()
+
+
+def read_directory(reader):
+    """An annotations_directory_item: sets of the class, its fields and methods, and lists of sets of parameters."""
+    of_class, fields, methods, parameters = reader.words(4)
+    sets = (of_class, *reader.words(2 * (fields + methods))[1::2])
+    lists = reader.words(2 * parameters)[1::2]
+    return [(read_set, at) for at in sets] + [(read_list, at) for at in lists]
+
+
+def read_list(reader):
+    """An annotation_set_ref_list."""
+    return [(read_set, at) for at in reader.words(*reader.words(1))]
+
+
+def read_set(reader):
+    """An annotation_set_item."""
+    return [(read_annotation, at) for at in reader.words(*reader.words(1))]
+
+
+def read_annotation(reader):
+    """An annotation_item."""
+    reader.byte()
+    reader.uleb()
+    read_values(reader, reader.uleb(), has_names=True)
+    return ()
+
+
+def disjoint(claims):
+    """The same items without bytes that an item before them has."""
+    at = 0
+    for (begin, end, kind), owner in sorted(claims):
+        if end > max(begin, at):
+            yield max(begin, at), end, kind, owner
+            at = end
+
+
+def between(taken, rest):
+    """Those parts of `rest` that lie between what is taken."""
+    gaps = zip([0, *(end for _, end, _, _ in taken)], [*(begin for begin, _, _, _ in taken), float("inf")])
+    at = 0
+    for low, high in gaps:
+        while at < len(rest) and rest[at][0] < high:
+            begin, end, kind, owner = rest[at]
+            if min(end, high) > max(begin, low):
+                yield max(begin, low), min(end, high), kind, owner
+            if end > high:
+                break
+            at += 1
+
+
+def sizes(data):
+    """Each class's name, and the bytes of each kind that a class, several of them, none or the file itself has.
+
+    Each byte is counted once: as the program's, if it has it, and as the first item's. So all of them are the file's
+    length.
+    """
+    dex = Dex(data)
+    is_programs = lambda claim: claim[0][2] not in (DEBUG, UNUSED)
+    program = list(disjoint(filter(is_programs, dex.claims.items())))
+    rest = list(disjoint(claim for claim in dex.claims.items() if not is_programs(claim)))
+    taken = {owner: [0] * len(KINDS) for owner in (*range(len(dex.names)), SEVERAL, NOBODY, FILE)}
+    for begin, end, kind, owner in (*program, *between(program, rest)):
+        taken[owner][kind] += end - begin
+    taken[FILE][UNUSED] += len(data) - sum(map(sum, taken.values()))
+    return dex.names, taken

@@ -1,0 +1,181 @@
+"""What the tries of the helpers share: rooms, runs, and what is counted."""
+import os
+import resource
+import shutil
+import subprocess
+import sys
+import tempfile
+
+TOP = os.path.dirname(os.path.dirname(os.path.dirname(os.path.abspath(__file__))))
+TOOLS = os.path.join(TOP, "contrib", "bin")
+LIMIT = 60  # seconds for a command
+ESC = "\x1b"
+
+# As somebody wrote it: comments, classes whose names differ only in case, one in a package and one of the package's
+# name.
+LISTING = rb"""# a comment before
+dex 035 listing 2
+# about LA;
+class LA; 0x1
+super Ljava/lang/Object;
+static s Ljava/lang/String; 0x9 = string "a\u00e9"
+instance i I 0x2
+direct m ()V 0x9
+code 1 0 0
+const-string v0 "x \"y\" z"
+invoke-static { } LA;->m()V
+return-void
+end code
+end class
+class La; 0x1
+implements LI;
+virtual n (I)V 0x1
+end class
+
+# between
+class Lp/q/B; 0x1
+end class
+class Lp; 0x1
+end class
+# the end
+"""
+HEAD = b"dex 035 listing 2\n"
+# Names of files that a shell, a program or a terminal could take for something else.
+NAMES = (
+    "sp ace",
+    "qu'o\"te",
+    "$(touch PWNED)",
+    "`touch PWNED`",
+    "a|;e touch PWNED #",
+    "a&b",
+    "new\nline",
+    "-x",
+    "--help",
+    "*",
+    f"{ESC}[31mred",
+    "\\n%s{}",
+)
+
+
+class Tries:
+    """How many things were tried, and what failed."""
+
+    tried = failed = 0
+    program = library = ""
+    folder = ""
+    env = {}
+
+
+def check(what, is_so, seen=""):
+    Tries.tried += 1
+    if not is_so:
+        Tries.failed += 1
+        print(f"tools/try-contrib: {what}: FAILED {str(seen)[:700]}", file=sys.stderr)
+
+
+def begin(program, library=""):
+    """Of this program, in a folder of its own; each helper runs by this very Python."""
+    Tries.program, Tries.library = os.path.abspath(program), library and os.path.abspath(library)
+    Tries.folder = tempfile.mkdtemp(prefix="try contrib ")
+    os.mkdir(path("bin"))
+    os.symlink(Tries.program, path("bin", "dexasm"))
+    ways = [path("bin"), TOOLS, os.path.dirname(sys.executable), os.environ["PATH"]]
+    Tries.env = {name: value for name, value in os.environ.items() if not name.startswith(("DEXASM", "GIT_", "PYTHON"))}
+    Tries.env |= {"PATH": os.pathsep.join(ways), "LANG": "C.UTF-8", "HOME": Tries.folder, "NO_PWNED": "1"}
+
+
+def end():
+    shutil.rmtree(Tries.folder, ignore_errors=True)
+
+
+def path(*parts):
+    return os.path.join(Tries.folder, *parts)
+
+
+def room(name):
+    """A new folder for one try."""
+    os.makedirs(path(name))
+    return path(name)
+
+
+def put(into, name, given):
+    at = os.path.join(into, name)
+    os.makedirs(os.path.dirname(at), exist_ok=True)
+    with open(at, "wb") as file:
+        file.write(given)
+    return at
+
+
+def get(*parts):
+    with open(os.path.join(*parts), "rb") as file:
+        return file.read()
+
+
+def seen_in(folder):
+    """All that is below a folder: each path with its bytes, where a link leads, or what else it is."""
+    found = {}
+    for at, folders, names in os.walk(folder):
+        for name in (*folders, *names):
+            one = os.path.join(at, name)
+            kind = (
+                os.readlink(one)
+                if os.path.islink(one)
+                else get(one)
+                if os.path.isfile(one)
+                else "folder"
+                if os.path.isdir(one)
+                else "other"
+            )
+            found[os.path.relpath(one, folder)] = kind
+    return found
+
+
+def run(words, given=b"", at=None, most=None, **env):
+    """Status, standard output, standard error of words; `most` bytes can be written to a file."""
+    limit = most and (lambda: resource.setrlimit(resource.RLIMIT_FSIZE, (most, most)))
+    try:
+        done = subprocess.run(
+            words,
+            input=given,
+            capture_output=True,
+            timeout=LIMIT,
+            cwd=at or Tries.folder,
+            env={**Tries.env, **env},
+            preexec_fn=limit,
+        )
+    except subprocess.TimeoutExpired:
+        return "late", "", ""
+    return done.returncode, done.stdout.decode("latin1"), done.stderr.decode("latin1")
+
+
+def tool(name, *words, **options):
+    return run([os.path.join(TOOLS, name), *words], **options)
+
+
+def shell(text, at, **options):
+    """What bash makes of a text, as of one that is typed."""
+    return run(["bash", "-c", text], at=at, **options)
+
+
+def dexasm(*words, given=b""):
+    return subprocess.run([Tries.program, *words], input=given, capture_output=True, timeout=LIMIT).stdout
+
+
+def assembled(text):
+    return dexasm("assemble", given=text)
+
+
+def classes(*names):
+    """A listing of so many classes without anything in them."""
+    return HEAD + b"".join(b"class %s 0x1\nend class\n" % name.encode("ascii") for name in names)
+
+
+def is_one_line(said, begin):
+    """Whether a single line was told, which begins so and has nothing that a terminal obeys."""
+    return (
+        said.startswith(begin)
+        and said.count("\n") == 1
+        and said.endswith("\n")
+        and "Traceback" not in said
+        and said[:-1].isprintable()
+    )
