@@ -18,10 +18,11 @@ _dexasm() {
 _dexasm_helper() {
   local name=${COMP_WORDS[0]##*/} word=${COMP_WORDS[COMP_CWORD]} first='' options='' words=''
   case $name in
-    dexasm-apk) first='check list strip' options='--help' ;;
+    dexasm-apk) first='check list strip' options='--help --close' ;;
     dexasm-close) first='' options='--help --output --check' ;;
     dexasm-diff) first='' options='--help --names --color --textconv' ;;
     dexasm-explain) first='' options='--help --json' ;;
+    dexasm-lint) first='' options='--help' ;;
     dexasm-query) first='classes strings calls' options='--help' ;;
     dexasm-size) first='' options='--help --by --sort --html' ;;
     dexasm-split) first='' options='--help --join' ;;
@@ -39,4 +40,4 @@ _dexasm_helper() {
   fi
 }
 complete -o filenames -F _dexasm dexasm
-complete -o filenames -F _dexasm_helper dexasm-apk dexasm-close dexasm-diff dexasm-explain dexasm-query dexasm-size dexasm-split
+complete -o filenames -F _dexasm_helper dexasm-apk dexasm-close dexasm-diff dexasm-explain dexasm-lint dexasm-query dexasm-size dexasm-split

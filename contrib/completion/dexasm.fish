@@ -12,6 +12,7 @@ complete -c dexasm -n '__fish_seen_subcommand_from assemble' -f -l align -d 'Put
 complete -c dexasm -n '__fish_seen_subcommand_from strip' -r -F -l output -d 'Write to OUT instead of standard output; it isn\'t touched until the answer is complete'
 complete -c dexasm-apk -n __fish_use_subcommand -a 'check list strip'
 complete -c dexasm-apk -l help
+complete -c dexasm-apk -l close
 complete -c dexasm-close -l help
 complete -c dexasm-close -l output -r -F
 complete -c dexasm-close -l check
@@ -21,6 +22,7 @@ complete -c dexasm-diff -l color -x -a 'auto always never'
 complete -c dexasm-diff -l textconv
 complete -c dexasm-explain -l help
 complete -c dexasm-explain -l json
+complete -c dexasm-lint -l help
 complete -c dexasm-query -n __fish_use_subcommand -a 'classes strings calls'
 complete -c dexasm-query -l help
 complete -c dexasm-size -l help

@@ -1,6 +1,7 @@
 """dexasm-apk: each thing that can be wrong with an archive has a line and a status of its own, and nothing else is read
 or written.
 """
+import hashlib
 import io
 import os
 import random
@@ -8,6 +9,7 @@ import struct
 import warnings
 import zipfile
 
+from close import resigned
 from trying import ESC, LISTING, assembled, check, dexasm, get, is_one_line, put, room, seen_in, shell, tool
 
 SECRET = b"secret"
@@ -80,6 +82,35 @@ def try_good():
     )
     put(at, "long.apk", archive(("classes" + "9" * 300 + ".dex", file)))
     says("a name too long for a file", (3, ""), "strip", "long.apk", "out", at=at, begins="classes999")
+
+
+def try_close():
+    """--close: what D8 signed and what has a wrong checksum is closed, with a line; the others stand as they are."""
+    at, file = room("apk close"), assembled(LISTING)
+    old = resigned(file, hashlib.sha1(file[32:-52]).digest())
+    entries = (old, file, file[:8] + b"\x1b[31" + file[12:], b"no file")
+    zipped = archive(*((f"classes{number or ''}.dex", given) for number, given in enumerate(entries)), ("x", SECRET))
+    put(at, "a.apk", zipped)
+    begins = (
+        "classes.dex: dexasm-apk: closed: signature at 12: ",
+        "classes2.dex: dexasm-apk: closed: checksum at 8: ",
+        "classes3.dex: dexasm: refused 1 TooShort at 7",
+    )
+    for words, out in (
+        (("check", "a.apk"), "classes.dex: ok\nclasses1.dex: ok\nclasses2.dex: ok\n"),
+        (("strip", "a.apk", "out"), ""),
+    ):
+        seen = tool("dexasm-apk", "--close", *words, at=at)
+        lines = seen[2].splitlines()
+        is_told = len(lines) == 3 and all(line.startswith(begin) for line, begin in zip(lines, begins))
+        is_so = is_told and "as D8 before 1.6.20 wrote it" in lines[0] and ESC not in seen[2]
+        check(f"dexasm-apk --close {words[0]}", seen[:2] == (1, out) and is_so, seen)
+    stripped = dexasm("strip", given=file)
+    wants = {f"out/classes{number or ''}.dex": stripped for number in range(3)}
+    seen = seen_in(at)
+    check("dexasm-apk --close, what it wrote", seen == {"a.apk": zipped, "out": "folder", **wants}, set(seen))
+    seen = tool("dexasm-apk", "check", "a.apk", at=at)
+    check("dexasm-apk without --close", "classes.dex: dexasm: refused 9 Signature at 12\n" in seen[2], seen)
 
 
 def try_wrong():
@@ -185,7 +216,7 @@ def try_words():
     """FOLDER looks like an option, or is wanted and isn't there."""
     at, file = room("apk words"), assembled(LISTING)
     put(at, "slip.apk", archive(("classes.dex", file)))
-    usage = "usage: dexasm-apk check|list|strip ARCHIVE [FOLDER]\n"
+    usage = "usage: dexasm-apk [--close] check|list|strip ARCHIVE [FOLDER]\n"
     for words in (
         ("strip", "slip.apk", "-o-"),
         ("strip", "slip.apk", "--output=x"),
@@ -221,4 +252,4 @@ def try_random():
     check("dexasm-apk, archives changed at random", not wrong, wrong[:1])
 
 
-TRIES = (try_good, try_wrong, try_none, try_others, try_folder, try_words, try_random)
+TRIES = (try_good, try_close, try_wrong, try_none, try_others, try_folder, try_words, try_random)

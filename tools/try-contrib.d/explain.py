@@ -4,6 +4,7 @@ import json
 import struct
 import zlib
 
+from lint import replaced, stricter_files
 from trying import ESC, HEAD, LISTING, assembled, check, is_one_line, put, room, run, shell, tool, Tries
 
 RANGES = ((1, 15), (20, 36), (40, 52), (60, 74), (80, 91), (100, 107), (110, 119), (255, 256))
@@ -82,6 +83,28 @@ def try_rows():
         struct.pack_into(form, changed, place, number)
         where = "LA;" if place < rows + 32 else "Lb/C;" if "40" in want else "Lb/C;->k(I[J)La/D;"
         says(what, at, ["check"], closed(bytes(changed)), f"refused {want} at ", f"\n  In {where}.\n")
+
+
+def try_members():
+    """The character that a name can't have, the member that stands twice, the number that is spelled too far."""
+    at, stricter = room("explain names"), {what.split(": ")[1]: file for what, file, _ in stricter_files()}
+    space = "the name a b has U+0020 at its character 2, which names can have since version 040 alone"
+    for what, file, number, want in (
+        ("a space", stricter["a space in a name"], 34, f"  Hint: {space}."),
+        ("an escape", replaced(b"\x03a_b\0", b"\x03a\x1bb\0"), 34, "the name a\\x1bb has U+001B at its character 2"),
+        ("a type", replaced(b"\x03LZ;\0", b"\x03L\x7f;\0"), 24, "the name L\\x7f; has U+007F at its character 2"),
+        ("a field", replaced(b"\x01f\0", b"\x01|\0"), 31, "the name | has U+007C at its character 1, which no name"),
+        ("twice", stricter["a member twice"], 47, "the class has a_b()V twice in a list, as dx"),
+        ("twice, where", stricter["a member twice"], 47, "  In LB;->a_b()V.\n"),
+        ("too far", stricter["a fifth byte"], 44, "81 80 80 80 11, is none of 32 bits"),
+    ):
+        says(what, at, ["check"], file, f"refused {number} ", want)
+    told = b"".join(b"dexasm: refused %d N at %d\n" % (number, place) for number in (24, 31, 34, 44, 47)
+                    for place in (0, 112, 240, 2**31, 2**32, 10**19))  # fmt: skip
+    for name, file in stricter.items():
+        for end in (len(file), 300, 112, 60):
+            seen = tool("dexasm-explain", put(at, "file", file[:end]), given=told, at=at)
+            check(f"dexasm-explain, {name}, other places, {end} bytes", seen[0] == 0 and seen[2] == "", seen)
 
 
 def try_lines():
@@ -284,6 +307,7 @@ def try_pages():
 TRIES = (
     try_files,
     try_rows,
+    try_members,
     try_lines,
     try_classes,
     try_other_classes,

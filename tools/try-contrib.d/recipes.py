@@ -1,6 +1,7 @@
 """The recipes of README and docs/RECIPES.md and the files of docs/ci, as they stand there, on files whose names are
 meant to do harm.
 """
+import hashlib
 import os
 import re
 import shlex
@@ -9,8 +10,9 @@ import subprocess
 import sys
 
 from apk import archive
+from close import resigned
 from logins import Logins, are_there
-from trying import ESC, HEAD, NAMES, TOP, Tries, assembled, check, get, put, room, run, seen_in, shell
+from trying import ESC, HEAD, NAMES, TOP, Tries, assembled, check, dexasm, get, put, room, run, seen_in, shell
 
 TEXT = (
     HEAD
@@ -71,6 +73,8 @@ def try_blocks():
     wants = {
         ("An .apk", 0): ("classes.dex: ok\n", "classes2.dex: dexasm: refused 1 TooShort at 7\n"),
         ("What a refusal means", 0): ("ok\n",),
+        ("A file that D8 before 1.6.20 signed", 0): ("both sums hold\n",),
+        ("A file for a device", 0): ("ok\n", "a.dex: ok\n"),
         ("Two files", 0): ("@@ LHello;->get(Z)I in both @@\n", "\n-const/16 v0 41\n+const/16 v0 42\n"),
         ("Two files", 1): ("differ",),
         ("A class or a method", 0): ("class LHello; 0x1\n", "end class\n", "direct get (Z)I 0x9\n", "return-void"),
@@ -103,6 +107,21 @@ def try_blocks():
         seen[1].startswith("direct get (Z)I 0x9\ncode 2 1 0\n") and seen[1].endswith("return v0\nend code\n"),
         seen,
     )
+
+
+def try_signed():
+    """README's three commands on a file that D8 before 1.6.20 signed: it is explained, closed and stripped."""
+    lines = [line for line in blocks("README.md")["Recipes"][0].splitlines() if not line.startswith("#")]
+    explain, close, strip = (line for line in lines if re.search(r"explain|close|strip b\.dex", line))
+    file = assembled(TEXT)
+    for name in ("", EVIL):
+        at = room(f"signed {bool(name)}")
+        put(at, f"{name}a.dex", resigned(file, hashlib.sha1(file[32:-52]).digest()))
+        seen = [shell(with_names(line, name), at) for line in (explain, close, strip)]
+        is_so = "refused 9 Signature" in seen[0][1] and "signed as D8 before 1.6.20 wrote it" in seen[0][1]
+        check(f"README, {explain}", is_so, seen)
+        is_so = seen[1:] == [(0, "", "")] * 2 and get(at, f"{name}b.dex") == file
+        check(f"README, {close}; {strip}", is_so and get(at, f"{name}c.dex") == dexasm("strip", given=file), seen)
 
 
 def try_same():
@@ -342,6 +361,8 @@ def try_page():
     known = {
         "An .apk": 1,
         "What a refusal means": 1,
+        "A file that D8 before 1.6.20 signed": 1,
+        "A file for a device": 1,
         "Two files": 2,
         "Versions of a file in git": 2,
         "A class or a method": 1,
@@ -353,4 +374,4 @@ def try_page():
     check("RECIPES: as many recipes as are tried", found == known, found)
 
 
-TRIES = (try_page, try_blocks, try_same, try_git, try_split, try_many, try_parallel, try_hook, try_workflow)
+TRIES = (try_page, try_blocks, try_signed, try_same, try_git, try_split, try_many, try_parallel, try_hook, try_workflow)

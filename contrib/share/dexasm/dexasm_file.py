@@ -72,6 +72,7 @@ class Reader:
 
     def __init__(self, data, at, left=None):
         self.data, self.at, self.left = data, at, left
+        self.far = None  # where the first number that `wide` read begins that is none of 32 bits
 
     def byte(self):
         if self.left:
@@ -98,6 +99,20 @@ class Reader:
     def sleb(self):
         number, bits = self.leb()
         return number - (1 << bits) if number >> (bits - 1) else number
+
+    def wide(self):
+        """As uleb; a number that is none of 32 bits is noted, and is 0."""
+        begin = self.at
+        number = 0
+        for shift in range(0, 35, 7):
+            byte = self.byte()
+            number |= (byte & 0x7F) << shift
+            if byte < 0x80:
+                break
+        if byte < 0x80 and number < 1 << 32:
+            return number
+        self.far = begin if self.far is None else self.far
+        return 0
 
     def leb(self):
         """A LEB128 number without its sign, and how many bits it has."""
@@ -249,18 +264,46 @@ class Tables:
         types = struct.unpack_from(f"<{count}H", self.data, at + 4) if at else ()
         return f"{self.text(name)}({''.join(map(self.type_name, types))}){self.type_name(answer)}"
 
-    def codes_of(self, row, left):
-        """Of each method of a class that has one: where its code is, and its own row."""
+    def field_name(self, index):
+        """A field as a listing names it, without its class."""
+        _, type_, name = self.numbers("field", index, "<HHI")
+        return f"{self.text(name)}:{self.type_name(type_)}"
+
+    def members(self, row, left):
+        """Of each member of a class: its table, its own row, what that is above the one before in its list (None of the
+        first), and where its code is.
+        """
         reader = Reader(self.data, self.numbers("class", row, "<8I")[6], left)
         counts = [reader.uleb() for _ in range(4)] if reader.at else [0] * 4
         for table, count in zip(("field", "field", "method", "method"), counts):
             index = 0
-            for _ in range(count):
-                index += reader.uleb()
+            for number in range(count):
+                above = reader.uleb()
+                index += above
                 reader.uleb()
-                code = reader.uleb() if table == "method" else 0
-                if code:
-                    yield code, index
+                yield table, index, above if number else None, reader.uleb() if table == "method" else 0
+
+    def codes_of(self, row, left):
+        """Of each method of a class that has one: where its code is, and its own row."""
+        return ((code, index) for _, index, _, code in self.members(row, left) if code)
+
+    def twice(self, row, left):
+        """The first member of a class that is the one before once more, or None."""
+        for table, index, above, _ in self.members(row, left):
+            if above == 0:
+                return self.field_name(index) if table == "field" else self.method_name(index)
+        return None
+
+    def too_far(self, row, left):
+        """Where the first number of a class's data begins that isn't one of 32 bits, and its bytes; or None."""
+        reader = Reader(self.data, self.numbers("class", row, "<8I")[6], left)
+        due = [reader.wide() for _ in range(4)] if reader.at else []
+        for each, count in zip((2, 2, 3, 3), due):
+            for _ in range(each * count if reader.far is None else 0):
+                reader.wide()
+                if reader.far is not None:
+                    break
+        return reader.far and (reader.far, self.data[reader.far : reader.far + 5])
 
 
 class Dex(Tables):
