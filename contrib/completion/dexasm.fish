@@ -5,11 +5,11 @@ complete -c dexasm -n __fish_use_subcommand -f -a assemble -d 'Turns a listing i
 complete -c dexasm -n __fish_use_subcommand -f -a strip -d 'Rewrites a .dex file without what its program doesn\'t need'
 complete -c dexasm -n __fish_use_subcommand -f -s V -l version -d 'Print version'
 complete -c dexasm -s h -l help -d 'Print help'
-complete -c dexasm -n '__fish_seen_subcommand_from check' -r -F -l output -d 'Write to OUT instead of standard output; it isn\'t touched until the answer is complete'
-complete -c dexasm -n '__fish_seen_subcommand_from list' -r -F -l output -d 'Write to OUT instead of standard output; it isn\'t touched until the answer is complete'
-complete -c dexasm -n '__fish_seen_subcommand_from assemble' -r -F -l output -d 'Write to OUT instead of standard output; it isn\'t touched until the answer is complete'
+complete -c dexasm -n '__fish_seen_subcommand_from check' -r -F -s o -l output -d 'Write to OUT instead of standard output; it isn\'t touched until the answer is complete'
+complete -c dexasm -n '__fish_seen_subcommand_from list' -r -F -s o -l output -d 'Write to OUT instead of standard output; it isn\'t touched until the answer is complete'
+complete -c dexasm -n '__fish_seen_subcommand_from assemble' -r -F -s o -l output -d 'Write to OUT instead of standard output; it isn\'t touched until the answer is complete'
 complete -c dexasm -n '__fish_seen_subcommand_from assemble' -f -l align -d 'Put a nop before each payload at an odd address'
-complete -c dexasm -n '__fish_seen_subcommand_from strip' -r -F -l output -d 'Write to OUT instead of standard output; it isn\'t touched until the answer is complete'
+complete -c dexasm -n '__fish_seen_subcommand_from strip' -r -F -s o -l output -d 'Write to OUT instead of standard output; it isn\'t touched until the answer is complete'
 complete -c dexasm-apk -n __fish_use_subcommand -a 'check list strip'
 complete -c dexasm-apk -l help
 complete -c dexasm-apk -l close

@@ -1,18 +1,40 @@
 // The machine's files: each call is one or two of the system's.
-ghost use Rattle.std.specs.Prelude.{[], false, None};
+ghost use Rattle.std.specs.Prelude.{◌≡◌, [], false, None};
 ghost use Rattle.dexasm_world.specs.State.{unknown_files};
 
 use dexasm_world::{Dress, Handle, Look, NotMade, NotReplaced, Reading, Refusal, World};
 use std::alloc::Global;
-use std::fs;
+use std::cell::Cell;
 use std::fs::{File, Metadata, OpenOptions, Permissions};
 use std::io::{Error, ErrorKind, Read, Write};
 use std::os::unix::fs::{MetadataExt, PermissionsExt, fchown};
+use std::{fs, io};
 
 // The files that the system shows to this process.
 #[derive(Drop)]
 pub(crate) struct Machine<'r> {
-    pub(crate) rt: &'r HostRuntime,
+    rt: &'r HostRuntime,
+    error: Cell<Option<Error>>,
+}
+
+impl<'r> Machine<'r> {
+    pub(crate) fn new(rt: &'r HostRuntime) -> Machine<'r> {
+        Machine {
+            rt,
+            error: Cell::new(None),
+        }
+    }
+
+    // What the system answers. Its error is kept, for people.
+    fn noted<T>(&self, answer: io::Result<T>) -> io::Result<T>
+        ensures { result ≡ answer }
+    {
+        self.error.set(match &answer {
+            Ok(_) => None,
+            Err(error) => Some(*error),
+        });
+        answer
+    }
 }
 
 // A file that is open for writing.
@@ -46,36 +68,38 @@ impl World for Machine<'_> {
     ghost apart = { λ world path n known. Prim.cc };
 
     fn look(&self, path: &str) -> Result<Look, Refusal> {
-        match fs::symlink_metadata(self.rt, path) {
+        match self.noted(fs::symlink_metadata(self.rt, path)) {
             Ok(there) => Ok(look_of(&there)),
             Err(error) => Err(refusal(&error)),
         }
     }
 
     fn target(&self, alloc: Global, path: &str) -> Result<String, Refusal> {
-        match fs::canonicalize(self.rt, path) {
+        match self.noted(fs::canonicalize(self.rt, path)) {
             Ok(target) => String::from_str(alloc, target.as_str()).map_err(|_| Refusal::Memory),
             Err(error) => Err(refusal(&error)),
         }
     }
 
     fn may_write(&self, path: &str) -> bool {
-        OpenOptions::new().write(true).open(self.rt, path).is_ok()
+        let opened = OpenOptions::new().write(true).open(self.rt, path);
+        self.noted(opened).is_ok()
     }
 
     fn open(&self, path: &str) -> Result<Readable, Refusal> {
-        match File::open(self.rt, path) {
+        match self.noted(File::open(self.rt, path)) {
             Ok(file) => Ok(Readable(file)),
             Err(error) => Err(refusal(&error)),
         }
     }
 
     fn read(&self, reader: &mut Readable, piece: &mut [u8]) -> Result<usize, Refusal> {
-        reader.0.read(piece).map_err(|error| refusal(&error))
+        let read = self.noted(reader.0.read(piece));
+        read.map_err(|error| refusal(&error))
     }
 
     fn make(&mut self, path: &str) -> Result<Opened, NotMade> {
-        match File::create_new(self.rt, path) {
+        match self.noted(File::create_new(self.rt, path)) {
             Ok(file) => Ok(Opened(file)),
             Err(error) => Err(not_made(&error)),
         }
@@ -83,20 +107,22 @@ impl World for Machine<'_> {
 
     fn dress(&mut self, file: &Opened, dress: Dress) -> Result<(), Refusal> {
         let _ = fchown(&file.0, Some(dress.user), Some(dress.group));
-        let set = file.0.set_permissions(Permissions::from_mode(dress.mode));
+        let set = self.noted(file.0.set_permissions(Permissions::from_mode(dress.mode)));
         set.map_err(|error| refusal(&error))
     }
 
     fn put(&mut self, file: &mut Opened, piece: &[u8]) -> Result<usize, Refusal> {
-        file.0.write(piece).map_err(|error| refusal(&error))
+        let put = self.noted(file.0.write(piece));
+        put.map_err(|error| refusal(&error))
     }
 
     fn keep(&mut self, file: &mut Opened) -> Result<(), Refusal> {
-        file.0.sync_all().map_err(|error| refusal(&error))
+        let kept = self.noted(file.0.sync_all());
+        kept.map_err(|error| refusal(&error))
     }
 
     fn replace(&mut self, from: &str, to: &str) -> Result<(), NotReplaced> {
-        match fs::rename(self.rt, from, to) {
+        match self.noted(fs::rename(self.rt, from, to)) {
             Ok(()) => Ok(()),
             Err(error) => Err(not_replaced(&error)),
         }
@@ -116,10 +142,14 @@ impl World for Machine<'_> {
             Err(error) if error.kind() == ErrorKind::NotFound => File::create(self.rt, path),
             opened => opened,
         };
-        match opened {
+        match self.noted(opened) {
             Ok(file) => Ok(Opened(file)),
             Err(error) => Err(refusal(&error)),
         }
+    }
+
+    fn error(&self) -> Option<Error> {
+        self.error.get()
     }
 }
 

@@ -1,7 +1,7 @@
 //! `dexasm check|list|assemble|strip [FILE] [--output OUT]`: the words of the command line, carried out.
 //!
 //! Without FILE standard input is read, without `--output` the answer goes to standard output; a failure is one line on
-//! standard error. The exit status is 0 where the answer was written or help was asked for, 1 for a refused file or listing, 2
+//! standard error, and a second one where that is a terminal. The exit status is 0 where the answer was written or help was asked for, 1 for a refused file or listing, 2
 //! for wrong words, 3 where reading or writing failed, and 4 when out of memory.
 //!
 //! docs/MAP.md says where this crate stands among the others.
@@ -9,8 +9,9 @@
 
 mod machine;
 
-use dexasm_command::{RunFault, Sink, Watched, serve, tell, write_all};
+use dexasm_command::{RunFault, Sink, Terminals, Watched, serve, tell, write_all};
 use machine::Machine;
+use std::io::IsTerminal;
 use std::process::ExitCode;
 use std::{env, io};
 
@@ -28,19 +29,24 @@ fn run(rt: &HostRuntime) -> u8 {
     let mut words: Vec<String> = Vec::new(rt.alloc());
     for word in args {
         if words.push(word).is_err() {
-            return tell(rt.alloc(), &RunFault::Memory, &mut errors);
+            return tell(rt.alloc(), &RunFault::Memory, None, false, &mut errors);
         }
     }
     let mut texts = Vec::new(rt.alloc());
     for word in &words {
         if texts.push(word.as_str()).is_err() {
-            return tell(rt.alloc(), &RunFault::Memory, &mut errors);
+            return tell(rt.alloc(), &RunFault::Memory, None, false, &mut errors);
         }
     }
+    let terminals = Terminals {
+        output: rt.stdout().is_terminal(),
+        errors: rt.stderr().is_terminal(),
+    };
     serve(
         rt.alloc(),
         texts.as_slice(),
-        &mut Machine { rt },
+        terminals,
+        &mut Machine::new(rt),
         &mut Watched::new(rt.stdin()),
         &mut Watched::new(rt.stdout()),
         &mut errors,
@@ -50,7 +56,7 @@ fn run(rt: &HostRuntime) -> u8 {
 // Words that could not be read: out of memory, or no text.
 fn no_words<E: Sink>(rt: &HostRuntime, error: &io::Error, errors: &mut E) -> u8 {
     if error.kind() == io::ErrorKind::OutOfMemory {
-        return tell(rt.alloc(), &RunFault::Memory, errors);
+        return tell(rt.alloc(), &RunFault::Memory, None, false, errors);
     }
     let _ = write_all(b"dexasm: an argument is not UTF-8\n", errors);
     2

@@ -15,7 +15,7 @@ no_memory : (kind : ErrorKind) → (kind ≡ DisplayHelp) ⊎ (kind ≡ DisplayV
 no_memory kind h is = elim h [ inl help ↦ (let e = sym help ∙ is in cc) | inr version ↦ (let e = sym version ∙ is in cc) ]
 
 pub misused : (r : CommandRun) (kind : ErrorKind) → (kind ≡ OutOfMemory) ⊎ IsAmong kind (fault_of dexasm r.words) → r.after.files ≡ r.before.files
-    → Misuses kind r.before.taken r.after.taken r.after.output_failed r.said r.says r.errors_failed r.status → Serves r
+    → Misuses r.terminals.errors kind r.before.taken r.after.taken r.after.output_failed r.said r.says r.errors_failed r.status → Serves r
 misused r kind h files m = elim m [
   | inl shown ↦ inr (inl (record { kind = kind; asked = among r kind h (no_memory kind shown.0); is = shown.0; files = files; text = shown.1; shown = shown.2 }))
   | inr other ↦ elim other [
@@ -27,6 +27,6 @@ misused r kind h files m = elim m [
       nothing = record { files = files; output = wrong.3 };
       status = wrong.4;
     })))
-    | inr unread ↦ inr (inr (inr (record { nothing = record { files = files; output = unread.0 }; told = unread.1 })))
+    | inr unread ↦ inr (inr (inr (inl (record { nothing = record { files = files; output = unread.0 }; told = unread.1 }))))
   ]
 ]

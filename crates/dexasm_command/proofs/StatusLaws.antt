@@ -163,11 +163,11 @@ kept_safe r plan planned (Some path) is res h k = elim h [
 ]
 
 -- a failure has its own status, or that of want of memory
-other_status : (r : CommandRun) (fault : RunFault) (n : ℕ) → exit_status fault ≢ n → 4 ≢ n → EndsTold {T = Unit {0}} (Err fault) r.said r.says r.errors_failed r.status → r.status ≡ n → ⊥
+other_status : (r : CommandRun) (fault : RunFault) (n : ℕ) → exit_status fault ≢ n → 4 ≢ n → EndsTold {T = Unit {0}} r.terminals.errors (Err fault) r.said r.says r.errors_failed r.status → r.status ≡ n → ⊥
 other_status r fault n a b ended is = elim ended [ inl t ↦ a (sym t.0 ∙ is) | inr t ↦ b (sym t.0 ∙ is) ]
 
 zero_of : (r : CommandRun) (plan : Plan) → Plans (subcommand_of dexasm r.words) plan → (res : Result (Unit {0}) RunFault) → CarriesOut plan.job plan.file plan.output r.before r.after res
-    → EndsTold res r.said r.says r.errors_failed r.status → r.status ≡ 0 → IsAnswered r
+    → EndsTold r.terminals.errors res r.said r.says r.errors_failed r.status → r.status ≡ 0 → IsAnswered r
 zero_of r plan planned (Ok x) h ended is =
     let a = answered_by r plan.job plan.file plan.output x h in
     record { plan = plan; planned = planned; given = a.0; answer = a.1; input = a.2; answered = a.3; come = a.4; silent = ended.1 }
@@ -177,7 +177,7 @@ zero_of r plan planned (Err Output) h ended is = absurd (other_status r Output 0
 zero_of r plan planned (Err Memory) h ended is = absurd (other_status r Memory 0 (λ e. cc) (λ e. cc) ended is)
 
 one_of : (r : CommandRun) (plan : Plan) → Plans (subcommand_of dexasm r.words) plan → (res : Result (Unit {0}) RunFault) → CarriesOut plan.job plan.file plan.output r.before r.after res
-    → EndsTold res r.said r.says r.errors_failed r.status → r.status ≡ 1 → IsJobRefused r
+    → EndsTold r.terminals.errors res r.said r.says r.errors_failed r.status → r.status ≡ 1 → IsJobRefused r
 one_of r plan planned (Ok x) h ended is = absurd (let e = sym ended.0 ∙ is in cc)
 one_of r plan planned (Err (Refused fault)) h ended is =
     let a = refused_by r plan.job plan.file plan.output fault h in
@@ -196,7 +196,7 @@ one_of r plan planned (Err Output) h ended is = absurd (other_status r Output 1 
 one_of r plan planned (Err Memory) h ended is = absurd (other_status r Memory 1 (λ e. cc) (λ e. cc) ended is)
 
 three_of : (r : CommandRun) (plan : Plan) → Plans (subcommand_of dexasm r.words) plan → (res : Result (Unit {0}) RunFault) → CarriesOut plan.job plan.file plan.output r.before r.after res
-    → EndsTold res r.said r.says r.errors_failed r.status → r.status ≡ 3 → CantRead r ⊎ CantWrite r
+    → EndsTold r.terminals.errors res r.said r.says r.errors_failed r.status → r.status ≡ 3 → CantRead r ⊎ CantWrite r
 three_of r plan planned (Ok x) h ended is = absurd (let e = sym ended.0 ∙ is in cc)
 three_of r plan planned (Err (Refused fault)) h ended is = absurd (other_status r (Refused fault) 3 (λ e. cc) (λ e. cc) ended is)
 three_of r plan planned (Err Input) h ended is =
@@ -216,7 +216,7 @@ three_of r plan planned (Err Output) h ended is =
     })
 three_of r plan planned (Err Memory) h ended is = absurd (other_status r Memory 3 (λ e. cc) (λ e. cc) ended is)
 
-four_of : (r : CommandRun) (res : Result (Unit {0}) RunFault) → EndsTold res r.said r.says r.errors_failed r.status → r.status ≡ 4 → TellsIn r Memory
+four_of : (r : CommandRun) (res : Result (Unit {0}) RunFault) → EndsTold r.terminals.errors res r.said r.says r.errors_failed r.status → r.status ≡ 4 → TellsIn r Memory
 four_of r (Ok x) ended is = absurd (let e = sym ended.0 ∙ is in cc)
 four_of r (Err (Refused fault)) ended is = elim ended [ inl t ↦ absurd (let e = sym t.0 ∙ is in cc) | inr t ↦ t.1 ]
 four_of r (Err Input) ended is = elim ended [ inl t ↦ absurd (let e = sym t.0 ∙ is in cc) | inr t ↦ t.1 ]
@@ -228,7 +228,7 @@ zero r s is = elim s [
   | inl c ↦ inl (zero_of r c.plan c.planned c.result c.carried c.ended is)
   | inr o ↦ elim o [
     | inl shown ↦ inr shown
-    | inr p ↦ absurd (elim p [ inl m ↦ (let e = sym m.status ∙ is in cc) | inr u ↦ (let e = sym u.told.0 ∙ is in cc) ])
+    | inr p ↦ absurd (elim p [ inl m ↦ (let e = sym m.status ∙ is in cc) | inr q ↦ elim q [ inl u ↦ (let e = sym u.told.0 ∙ is in cc) | inr b ↦ (let e = sym b.status ∙ is in cc) ] ])
   ]
 ]
 
@@ -237,7 +237,7 @@ one r s is = elim s [
   | inl c ↦ one_of r c.plan c.planned c.result c.carried c.ended is
   | inr o ↦ absurd (elim o [
     | inl shown ↦ elim shown.shown [ inl put ↦ (let e = sym put.1 ∙ is in cc) | inr lost ↦ other_status r Output 1 (λ e. cc) (λ e. cc) lost.3 is ]
-    | inr p ↦ elim p [ inl m ↦ (let e = sym m.status ∙ is in cc) | inr u ↦ (let e = sym u.told.0 ∙ is in cc) ]
+    | inr p ↦ elim p [ inl m ↦ (let e = sym m.status ∙ is in cc) | inr q ↦ elim q [ inl u ↦ (let e = sym u.told.0 ∙ is in cc) | inr b ↦ (let e = sym b.status ∙ is in cc) ] ]
   ])
 ]
 
@@ -249,7 +249,7 @@ three r s is = elim s [
       | inl put ↦ absurd (let e = sym put.1 ∙ is in cc)
       | inr lost ↦ inr (inr (record { files = shown.files; failed = lost.0; told = elim lost.3 [ inl t ↦ t.1 | inr t ↦ absurd (let e = sym t.0 ∙ is in cc) ] }))
     ]
-    | inr p ↦ absurd (elim p [ inl m ↦ (let e = sym m.status ∙ is in cc) | inr u ↦ (let e = sym u.told.0 ∙ is in cc) ])
+    | inr p ↦ absurd (elim p [ inl m ↦ (let e = sym m.status ∙ is in cc) | inr q ↦ elim q [ inl u ↦ (let e = sym u.told.0 ∙ is in cc) | inr b ↦ (let e = sym b.status ∙ is in cc) ] ])
   ]
 ]
 
@@ -261,12 +261,15 @@ four r s is = elim s [
       | inl put ↦ absurd (let e = sym put.1 ∙ is in cc)
       | inr lost ↦ elim lost.3 [ inl t ↦ absurd (let e = sym t.0 ∙ is in cc) | inr t ↦ t.1 ]
     ]
-    | inr p ↦ elim p [ inl m ↦ absurd (let e = sym m.status ∙ is in cc) | inr u ↦ u.told.1 ]
+    | inr p ↦ elim p [
+      | inl m ↦ absurd (let e = sym m.status ∙ is in cc)
+      | inr q ↦ elim q [ inl u ↦ u.told.1 | inr b ↦ absurd (let e = sym b.status ∙ is in cc) ]
+    ]
   ]
 ]
 
 pub never_lost : OutIsNeverLost
 never_lost r s known = elim s [
   | inl c ↦ kept_safe r c.plan c.planned c.plan.file refl c.result c.carried known
-  | inr o ↦ inl (elim o [ inl shown ↦ shown.files | inr p ↦ elim p [ inl m ↦ m.nothing.files | inr u ↦ u.nothing.files ] ])
+  | inr o ↦ inl (elim o [ inl shown ↦ shown.files | inr p ↦ elim p [ inl m ↦ m.nothing.files | inr q ↦ elim q [ inl u ↦ u.nothing.files | inr b ↦ b.nothing.files ] ] ])
 ]

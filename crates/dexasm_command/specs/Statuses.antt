@@ -1,5 +1,5 @@
 -- What the exit status says.
-use Rattle.std.specs.Prelude.{◌≡◌, ◌⊎◌, ◌∷◌, ◌++◌, [], ◌≤◌, ℕ, true, List, Option, Some, take, MatchOption}
+use Rattle.std.specs.Prelude.{◌≡◌, ◌⊎◌, ◌≤◌, ℕ, true, List, Option, Some, take, MatchOption}
 use Rattle.std.specs.Borrow.{Bor}
 use Rattle.std.specs.Io.KnownBytes.{Keeps, Appends}
 use Rattle.base_bytes.specs.declared.fault.Fault.{Fault}
@@ -9,18 +9,17 @@ use Rattle.dexasm_plan.specs.Commands.{dexasm}
 use Rattle.dexasm_plan.specs.Plans.{Plans}
 use Rattle.dexasm_plan.specs.declared.planned.Plan.{Plan}
 use Rattle.dexasm_run.specs.Runs.{IsAllGiven}
-use Rattle.dexasm_run.specs.Status.{error_line}
 use Rattle.dexasm_run.specs.declared.error.RunFault.{RunFault}
 use Rattle.dexasm_run.specs.declared.error.RunFault.TheVariants.{Refused, Input, Output, Memory}
 use Rattle.dexasm_world.specs.State.{Path, Passes}
 use Rattle.dexasm_world.specs.Safe.{IsSafe, IsDelivered, IsTidy, IsGivenUp}
 use Rattle.dexasm_world.specs.Looks.{IsHeld, CantBeRead, CauseAt}
-use Rattle.dexasm_command.specs.Told.{PutsLine}
-use Rattle.dexasm_command.specs.Served.{CommandRun, Serves, DoesNothing, IsShown, IsMisused}
+use Rattle.dexasm_command.specs.Told.{Tells}
+use Rattle.dexasm_command.specs.Served.{CommandRun, Serves, DoesNothing, IsShown, IsMisused, IsHeldBack}
 
--- a line tells of the fault, or a front of it where standard error failed
+-- standard error tells of the fault, or has a front of that where it failed
 abbrev pub TellsIn : CommandRun → RunFault → Type 0
-TellsIn r fault = PutsLine r.said r.says r.errors_failed (error_line fault ++ 10 ∷ [])
+TellsIn r fault = Tells r.terminals.errors fault r.said r.says r.errors_failed
 
 -- the answer has come to OUT, safe at each moment, and nothing is left beside it
 pub record IsBrought (r : CommandRun) (out : Path) (answer : List ℕ) : Type 0 where
@@ -121,9 +120,9 @@ ZeroTells = (r : CommandRun) → Serves r → r.status ≡ 0 → IsAnswered r �
 abbrev pub OneTells : Type 0
 OneTells = (r : CommandRun) → Serves r → r.status ≡ 1 → IsJobRefused r
 
--- status 2: the words are wrong, and nothing is done
+-- status 2: the words are wrong, or would put a .dex file on a terminal, and nothing is done
 abbrev pub TwoTells : Type 0
-TwoTells = (r : CommandRun) → Serves r → r.status ≡ 2 → IsMisused r
+TwoTells = (r : CommandRun) → Serves r → r.status ≡ 2 → IsMisused r ⊎ IsHeldBack r
 
 -- status 3: reading or writing failed
 abbrev pub ThreeTells : Type 0

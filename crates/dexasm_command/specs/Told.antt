@@ -1,34 +1,71 @@
 -- What is told of a failure.
-use Rattle.std.specs.Prelude.{◌≡◌, ◌≢◌, ◌⊎◌, ℕ, Bool, true, List, [], ◌∷◌, ◌++◌, Option, take, Result, Ok, Err}
+use Rattle.std.specs.Prelude.{◌≡◌, ◌≢◌, ◌⊎◌, ℕ, Bool, true, false, List, [], ◌∷◌, ◌++◌, Option, codes, take, Result, Ok, Err}
 use Rattle.std.specs.Io.KnownBytes.{Appends, Keeps}
 use Rattle.clap.specs.declared.error.kind.ErrorKind.{ErrorKind}
 use Rattle.clap.specs.declared.error.kind.ErrorKind.TheVariants.{DisplayHelp, DisplayVersion, OutOfMemory}
+use Rattle.base_bytes.specs.Fault.{fault_sentence}
 use Rattle.dexasm_run.specs.Status.{error_line, exit_status}
 use Rattle.dexasm_run.specs.declared.error.RunFault.{RunFault}
-use Rattle.dexasm_run.specs.declared.error.RunFault.TheVariants.{Output, Memory}
+use Rattle.dexasm_run.specs.declared.error.RunFault.TheVariants.{Refused, Input, Output, Memory}
 
 -- a line has been put, or a front of it where the sink failed
 abbrev pub PutsLine : Option (List ℕ) → Option (List ℕ) → Bool → List ℕ → Type 0
 PutsLine held holds failed text = Appends held holds text ⊎ ((failed ≡ true) × (n : ℕ) × Appends held holds (take n text))
 
+-- a line of a terminal's, below the line of a failure
+abbrev pub more_line : List ℕ → List ℕ
+more_line said = codes "  " ++ said ++ 10 ∷ []
+
+-- What standard error says below the line of a failure, where it is a terminal: of a refusal the fault's sentence, of reading and writing
+-- the system's error, if it said one. Where it is none, the line stands alone.
+abbrev pub IsMore : Bool → RunFault → List ℕ → Type 0
+IsMore false fault more = more ≡ []
+IsMore true (Refused fault) more = more ≡ more_line (fault_sentence fault.code)
+IsMore true Input more = (more ≡ []) ⊎ ((said : List ℕ) × (more ≡ more_line said))
+IsMore true Output more = (more ≡ []) ⊎ ((said : List ℕ) × (more ≡ more_line said))
+IsMore true Memory more = more ≡ []
+
+-- the line of a failure, and what a terminal is told below it
+pub record IsText (terminal : Bool) (fault : RunFault) (text : List ℕ) : Type 0 where
+  pub more : List ℕ
+  pub is : IsMore terminal fault more
+  pub whole : text ≡ error_line fault ++ 10 ∷ more
+
+-- what a terminal is told is added to the text
+pub record AddsMore (fault : RunFault) (old new : List ℕ) : Type 0 where
+  pub more : List ℕ
+  pub is : IsMore true fault more
+  pub added : new ≡ old ++ more
+
+-- a failure is told
+pub record Tells (terminal : Bool) (fault : RunFault) (held holds : Option (List ℕ)) (failed : Bool) : Type 0 where
+  pub text : List ℕ
+  pub is : IsText terminal fault text
+  pub put : PutsLine held holds failed text
+
 -- the fault's status, and its line
-abbrev pub TellsFault : RunFault → Option (List ℕ) → Option (List ℕ) → Bool → ℕ → Type 0
-TellsFault fault held holds failed status = (status ≡ exit_status fault) × PutsLine held holds failed (error_line fault ++ 10 ∷ [])
+abbrev pub TellsFault : Bool → RunFault → Option (List ℕ) → Option (List ℕ) → Bool → ℕ → Type 0
+TellsFault terminal fault held holds failed status = (status ≡ exit_status fault) × Tells terminal fault held holds failed
 
 -- Success is silent, a failure is told. Where there is no memory for its line, that is told.
-abbrev pub EndsTold : {T : Type 0} → Result T RunFault → Option (List ℕ) → Option (List ℕ) → Bool → ℕ → Type 0
-EndsTold (Ok x) held holds failed status = (status ≡ 0) × Keeps held holds
-EndsTold (Err fault) held holds failed status = TellsFault fault held holds failed status ⊎ TellsFault Memory held holds failed status
+abbrev pub EndsTold : {T : Type 0} → Bool → Result T RunFault → Option (List ℕ) → Option (List ℕ) → Bool → ℕ → Type 0
+EndsTold terminal (Ok x) held holds failed status = (status ≡ 0) × Keeps held holds
+EndsTold terminal (Err fault) held holds failed status = TellsFault terminal fault held holds failed status ⊎ TellsFault terminal Memory held holds failed status
+
+-- the line of words that would put a .dex file on a terminal
+abbrev pub terminal_line : List ℕ
+terminal_line = codes "dexasm: a .dex file isn't for a terminal: use --output FILE or a pipe" ++ 10 ∷ []
 
 -- a text is shown on standard output
-abbrev pub Shows : Option (List ℕ) → Option (List ℕ) → Bool → Option (List ℕ) → Option (List ℕ) → Bool → List ℕ → ℕ → Type 0
-Shows held holds failed said says errors_failed text status =
+abbrev pub Shows : Bool → Option (List ℕ) → Option (List ℕ) → Bool → Option (List ℕ) → Option (List ℕ) → Bool → List ℕ → ℕ → Type 0
+Shows terminal held holds failed said says errors_failed text status =
     (Appends held holds text × (status ≡ 0) × Keeps said says)
-    ⊎ ((failed ≡ true) × (n : ℕ) × Appends held holds (take n text) × (TellsFault Output said says errors_failed status ⊎ TellsFault Memory said says errors_failed status))
+    ⊎ ((failed ≡ true) × (n : ℕ) × Appends held holds (take n text)
+    × (TellsFault terminal Output said says errors_failed status ⊎ TellsFault terminal Memory said says errors_failed status))
 
 -- what comes of words that are no job: help or the version is shown, or the words are wrong, or memory ran out
-abbrev pub Misuses : ErrorKind → Option (List ℕ) → Option (List ℕ) → Bool → Option (List ℕ) → Option (List ℕ) → Bool → ℕ → Type 0
-Misuses kind held holds failed said says errors_failed status =
-    (((kind ≡ DisplayHelp) ⊎ (kind ≡ DisplayVersion)) × (text : List ℕ) × Shows held holds failed said says errors_failed text status)
+abbrev pub Misuses : Bool → ErrorKind → Option (List ℕ) → Option (List ℕ) → Bool → Option (List ℕ) → Option (List ℕ) → Bool → ℕ → Type 0
+Misuses terminal kind held holds failed said says errors_failed status =
+    (((kind ≡ DisplayHelp) ⊎ (kind ≡ DisplayVersion)) × (text : List ℕ) × Shows terminal held holds failed said says errors_failed text status)
     ⊎ ((kind ≢ DisplayHelp) × (kind ≢ DisplayVersion) × (kind ≢ OutOfMemory) × Keeps held holds × (status ≡ 2))
-    ⊎ (Keeps held holds × TellsFault Memory said says errors_failed status)
+    ⊎ (Keeps held holds × TellsFault terminal Memory said says errors_failed status)

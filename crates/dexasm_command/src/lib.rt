@@ -6,9 +6,11 @@ mod laws;
 mod serving;
 mod shown;
 mod telling;
+mod terminals;
 
 pub use carrying::carry_out;
 pub use dexasm_run::{RunFault, Sink, Source, Watched, write_all};
 pub use laws::{out_is_never_lost, statuses_tell};
 pub use serving::serve;
 pub use telling::tell;
+pub use terminals::Terminals;

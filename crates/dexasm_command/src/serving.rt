@@ -1,23 +1,30 @@
 // A command line, carried out.
-ghost use Rattle.std.specs.Prelude.{◌≡◌, false};
+ghost use Rattle.std.specs.Prelude.{◌≡◌, false, true, Result, Option};
 ghost use Rattle.clap.specs.Words.{kind_of};
 ghost use Rattle.dexasm_plan.specs.Plans.{texts_of};
-ghost use Rattle.dexasm_command.specs.Told.{EndsTold, Misuses, Shows};
+ghost use Rattle.dexasm_command.specs.Told.{EndsTold, Misuses, PutsLine, Shows, terminal_line};
 ghost use Rattle.dexasm_command.specs.Served.{Serves};
 
 use crate::carrying::carry_out;
 use crate::shown::shown;
 use crate::telling::tell;
+use crate::terminals::Terminals;
 use clap::Error;
 use dexasm_plan::{plan, usage_status};
 use dexasm_run::{RunFault, Sink, Source, write_all};
 use dexasm_world::World;
 use std::alloc::Global;
+use std::io;
+
+/// What is said where a .dex file would go to a terminal.
+const TERMINAL_LINE: &[u8] =
+    b"dexasm: a .dex file isn't for a terminal: use --output FILE or a pipe\n";
 
 /// Carries out the words of a command line, of which the first is the program's name, and answers the exit status.
 pub fn serve<W: World, I: Source, O: Sink, E: Sink>(
     alloc: Global,
     words: &[&str],
+    terminals: Terminals,
     world: &mut W,
     input: &mut I,
     output: &mut O,
@@ -28,6 +35,7 @@ pub fn serve<W: World, I: Source, O: Sink, E: Sink>(
     requires output_works { O.failed output.old ≡ false }
     ensures { Serves (record {
       words = texts_of words.entry.now;
+      terminals = terminals;
       before = record {
         known = W.is_known;
         files = W.files world.old;
@@ -52,53 +60,103 @@ pub fn serve<W: World, I: Source, O: Sink, E: Sink>(
 {
     match plan(alloc, words) {
         Ok(planned) => {
+            if terminals.output && planned.puts_file() {
+                return hold_back(errors);
+            }
             let (job, file, out) = (planned.job, planned.file, planned.output);
             let done = carry_out(alloc, job, file, out, world, input, output);
-            end(alloc, done, errors)
+            let error = error_of(&done, file, out, world, input, output);
+            end(alloc, done, error, terminals.errors, errors)
         }
-        Err(error) => misuse(alloc, &error, output, errors),
+        Err(error) => misuse(alloc, &error, terminals.errors, output, errors),
+    }
+}
+
+// Says that a .dex file isn't for a terminal.
+fn hold_back<E: Sink>(errors: &mut E) -> u8
+    ensures told { PutsLine (E.contents errors.old) (E.contents errors.new) (E.failed errors.new) terminal_line }
+    ensures status { result ≡ 2 }
+{
+    // Wrong words stay wrong words where nobody can read what is wrong with them.
+    let _ = write_all(TERMINAL_LINE, errors);
+    2
+}
+
+// What the system says of a failure: of a file's where that was read or written, else of the stream's.
+fn error_of<W: World, I: Source, O: Sink>(
+    done: &Result<(), RunFault>,
+    file: Option<&str>,
+    out: Option<&str>,
+    world: &W,
+    input: &I,
+    output: &O,
+) -> Option<io::Error> {
+    match done {
+        Err(RunFault::Input) if file.is_none() => input.error(),
+        Err(RunFault::Output) if out.is_none() => output.error(),
+        Err(RunFault::Input | RunFault::Output) => world.error(),
+        _ => None,
     }
 }
 
 // Tells of a failure.
-fn end<E: Sink>(alloc: Global, done: Result<(), RunFault>, errors: &mut E) -> u8
-    ensures { EndsTold done (E.contents errors.old) (E.contents errors.new) (E.failed errors.new) result }
+fn end<E: Sink>(
+    alloc: Global,
+    done: Result<(), RunFault>,
+    error: Option<io::Error>,
+    is_terminal: bool,
+    errors: &mut E,
+) -> u8
+    ensures { EndsTold is_terminal done (E.contents errors.old) (E.contents errors.new) (E.failed errors.new) result }
 {
     match done {
         Ok(()) => 0,
-        Err(fault) => tell(alloc, &fault, errors),
+        Err(fault) => tell(alloc, &fault, error, is_terminal, errors),
     }
 }
 
 // Wrong words, or words that ask for help or for the version, which go to the output; all else goes to the errors.
-fn misuse<O: Sink, E: Sink>(alloc: Global, error: &Error, output: &mut O, errors: &mut E) -> u8
-    ensures { Misuses (kind_of error.now) (O.contents output.old) (O.contents output.new) (O.failed output.new)
+fn misuse<O: Sink, E: Sink>(
+    alloc: Global,
+    error: &Error,
+    is_terminal: bool,
+    output: &mut O,
+    errors: &mut E,
+) -> u8
+    ensures { Misuses is_terminal (kind_of error.now) (O.contents output.old) (O.contents output.new) (O.failed output.new)
         (E.contents errors.old) (E.contents errors.new) (E.failed errors.new) result }
 {
     let wrong = error.use_stderr();
     let status = usage_status(error);
     if wrong && status == 4 {
-        return tell(alloc, &RunFault::Memory, errors);
+        return tell(alloc, &RunFault::Memory, None, is_terminal, errors);
     }
     let Ok(text) = error.to_string(alloc) else {
-        return tell(alloc, &RunFault::Memory, errors);
+        return tell(alloc, &RunFault::Memory, None, is_terminal, errors);
     };
     if wrong {
         let Ok(text) = shown(alloc, &text) else {
-            return tell(alloc, &RunFault::Memory, errors);
+            return tell(alloc, &RunFault::Memory, None, is_terminal, errors);
         };
         // Wrong words stay wrong words where nobody can read what is wrong with them.
         let _ = write_all(text.as_bytes(), errors);
         return status;
     }
-    show(alloc, &text, output, errors)
+    show(alloc, &text, is_terminal, output, errors)
 }
 
 // Help or the version.
-fn show<O: Sink, E: Sink>(alloc: Global, text: &str, output: &mut O, errors: &mut E) -> u8
-    ensures { Shows (O.contents output.old) (O.contents output.new) (O.failed output.new)
+fn show<O: Sink, E: Sink>(
+    alloc: Global,
+    text: &str,
+    is_terminal: bool,
+    output: &mut O,
+    errors: &mut E,
+) -> u8
+    ensures { Shows is_terminal (O.contents output.old) (O.contents output.new) (O.failed output.new)
         (E.contents errors.old) (E.contents errors.new) (E.failed errors.new) text.now result }
 {
     let done = write_all(text.as_bytes(), output);
-    end(alloc, done, errors)
+    let error = output.error();
+    end(alloc, done, error, is_terminal, errors)
 }

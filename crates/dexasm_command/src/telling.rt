@@ -1,18 +1,26 @@
 // A failure, told.
-ghost use Rattle.std.specs.Prelude.{◌≡◌, ◌⊎◌, ◌++◌, ◌∷◌, [], IfOk, string_bytes};
+ghost use Rattle.std.specs.Prelude.{◌≡◌, ◌⊎◌, ◌++◌, List, ℕ, IfOk, OnOk, string_bytes};
 ghost use Rattle.dexasm_run.specs.declared.error.RunFault.TheVariants.{Memory};
-ghost use Rattle.dexasm_run.specs.Status.{error_line};
-ghost use Rattle.dexasm_command.specs.Told.{TellsFault};
+ghost use Rattle.dexasm_command.specs.Told.{AddsMore, IsText, TellsFault, more_line};
 
+use base_bytes::fault_sentence;
 use dexasm_run::{RunFault, Sink, line_text, status, write_all};
 use std::alloc::{AllocError, Global};
+use std::io;
 
-/// Tells of a failure in one line, and answers its exit status. Where there is no memory for the line, that is the failure.
-pub fn tell<E: Sink>(alloc: Global, fault: &RunFault, errors: &mut E) -> u8
-    ensures { TellsFault fault.now (E.contents errors.old) (E.contents errors.new) (E.failed errors.new) result
-        ⊎ TellsFault Memory (E.contents errors.old) (E.contents errors.new) (E.failed errors.new) result }
+/// Tells of a failure in one line, and answers its exit status. A terminal is told in one line more what rule is broken, or the system's
+/// error, where there is one. Where there is no memory for the text, that is the failure.
+pub fn tell<E: Sink>(
+    alloc: Global,
+    fault: &RunFault,
+    error: Option<io::Error>,
+    is_terminal: bool,
+    errors: &mut E,
+) -> u8
+    ensures { TellsFault is_terminal fault.now (E.contents errors.old) (E.contents errors.new) (E.failed errors.new) result
+        ⊎ TellsFault is_terminal Memory (E.contents errors.old) (E.contents errors.new) (E.failed errors.new) result }
 {
-    match line(alloc, fault) {
+    match text_of(alloc, fault, error, is_terminal) {
         Ok(text) => {
             let _ = write_all(text.as_bytes(), errors);
             status(fault)
@@ -24,11 +32,58 @@ pub fn tell<E: Sink>(alloc: Global, fault: &RunFault, errors: &mut E) -> u8
     }
 }
 
-// The line with its end.
-fn line(alloc: Global, fault: &RunFault) -> Result<String, AllocError>
-    ensures { IfOk result (λ text. string_bytes text ≡ error_line fault.now ++ 10 ∷ []) }
+// The line with its end, and what a terminal is told below it.
+fn text_of(
+    alloc: Global,
+    fault: &RunFault,
+    error: Option<io::Error>,
+    is_terminal: bool,
+) -> Result<String, AllocError>
+    ensures { IfOk result (λ text. IsText is_terminal fault.now (string_bytes text)) }
 {
     let mut text = line_text(alloc, fault)?;
     text.push('\n')?;
+    if is_terminal {
+        push_more(alloc, &mut text, fault, error)?;
+    }
     Ok(text)
+}
+
+// What a terminal is told below the line.
+fn push_more(
+    alloc: Global,
+    text: &mut String,
+    fault: &RunFault,
+    error: Option<io::Error>,
+) -> Result<(), AllocError>
+    ensures { OnOk result (AddsMore fault.now (string_bytes text.old) (string_bytes text.new)) }
+{
+    match fault {
+        RunFault::Refused(fault) => push_line(text, fault_sentence(fault.code)),
+        RunFault::Input | RunFault::Output => push_error(alloc, text, error),
+        RunFault::Memory => Ok(()),
+    }
+}
+
+// The system's error, where there is one.
+fn push_error(alloc: Global, text: &mut String, error: Option<io::Error>) -> Result<(), AllocError>
+    ensures { OnOk result ((string_bytes text.new ≡ string_bytes text.old)
+        ⊎ ((said : List ℕ) × (string_bytes text.new ≡ string_bytes text.old ++ more_line said))) }
+{
+    match error {
+        Some(error) => {
+            let said = error.to_string(alloc)?;
+            push_line(text, said.as_str())
+        }
+        None => Ok(()),
+    }
+}
+
+// A line below the line of the failure.
+fn push_line(text: &mut String, said: &str) -> Result<(), AllocError>
+    ensures { OnOk result (string_bytes text.new ≡ string_bytes text.old ++ more_line said.now) }
+{
+    text.push_str("  ")?;
+    text.push_str(said)?;
+    text.push('\n')
 }

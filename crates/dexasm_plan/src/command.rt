@@ -84,12 +84,13 @@ fn file_arg<'w>(alloc: Global) -> Arg<'w>
     Arg::new(alloc, "FILE").help(texts::FILE)
 }
 
-// --output OUT.
+// -o, --output OUT.
 fn output_arg<'w>(alloc: Global) -> Arg<'w>
     ensures rule { rule_of result ≡ output_rule }
     ensures local { result.global ≡ false }
 {
     Arg::new(alloc, "output")
+        .short('o')
         .long("output")
         .value_name("OUT")
         .help(texts::OUTPUT)

@@ -13,7 +13,8 @@ pub(crate) const TOOL: &str =
 /// More on it.
 pub(crate) const TOOL_MORE: &str = "\
 A .dex file holds the classes of an Android program. Only version 035 is read and written.
-Without FILE it reads standard input; without --output it writes to standard output.
+Without FILE, or where it is -, it reads standard input; without --output, or where OUT is -,
+it writes to standard output. A .dex file isn't written to a terminal.
 
 Exit status: 0 done, 1 the file or the listing is refused, 2 a bad command line,
 3 reading or writing failed, 4 out of memory.
@@ -66,9 +67,9 @@ The format is Dalvik Executable, version 035.
 Example: dexasm strip classes.dex --output small.dex";
 
 /// FILE.
-pub(crate) const FILE: &str = "Read FILE instead of standard input";
+pub(crate) const FILE: &str = "Read FILE instead of standard input (a FILE of the name - is ./-)";
 
-/// --output OUT.
+/// -o, --output OUT.
 pub(crate) const OUTPUT: &str =
     "Write to OUT instead of standard output; it isn't touched until the answer is complete";
 

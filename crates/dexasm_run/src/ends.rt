@@ -34,6 +34,9 @@ pub trait Source {
     /// Whether a `take` has given no byte for a nonempty piece.
     fn ended(&self) -> bool
         ensures { result ≡ ended self.now };
+
+    /// The error that a `take` has answered last. It is for people: no clause speaks of it.
+    fn error(&self) -> Option<io::Error>;
 }
 
 /// A writer that says whether it failed. It tells its bytes as `Write` does.
@@ -54,6 +57,9 @@ pub trait Sink {
     /// Whether a `put` has answered an error, or taken no byte of a nonempty piece.
     fn failed(&self) -> bool
         ensures { result ≡ failed self.now };
+
+    /// The error that a `put` has answered last. It is for people: no clause speaks of it.
+    fn error(&self) -> Option<io::Error>;
 }
 
 /// A reader, and what a call on it may do. That is left open here: so what is proved of any `Reader` can only have made the call, and pass
@@ -113,6 +119,7 @@ pub struct Watched<T> {
     inner: T,
     has_failed: bool,
     has_ended: bool,
+    error: Option<io::Error>,
 }
 
 impl<T> Watched<T> {
@@ -134,6 +141,7 @@ impl<T> Watched<T> {
             inner,
             has_failed: false,
             has_ended: false,
+            error: None,
         }
     }
 
@@ -170,7 +178,10 @@ impl<R: Reader> Source for Watched<R> {
         match &taken {
             Ok(0) => self.has_ended = self.has_ended || !piece.is_empty(),
             Ok(_) => {}
-            Err(_) => self.has_failed = true,
+            Err(error) => {
+                self.has_failed = true;
+                self.error = Some(*error);
+            }
         }
         taken
     }
@@ -181,6 +192,10 @@ impl<R: Reader> Source for Watched<R> {
 
     fn ended(&self) -> bool {
         self.has_ended
+    }
+
+    fn error(&self) -> Option<io::Error> {
+        self.error
     }
 }
 
@@ -199,12 +214,19 @@ impl<W: Writer> Sink for Watched<W> {
         match &taken {
             Ok(0) => self.has_failed = self.has_failed || !piece.is_empty(),
             Ok(_) => {}
-            Err(_) => self.has_failed = true,
+            Err(error) => {
+                self.has_failed = true;
+                self.error = Some(*error);
+            }
         }
         taken
     }
 
     fn failed(&self) -> bool {
         self.has_failed
+    }
+
+    fn error(&self) -> Option<io::Error> {
+        self.error
     }
 }

@@ -8,6 +8,7 @@ ghost use Rattle.dexasm_world.specs.Safe.{part_path};
 ghost use Rattle.dexasm_world.specs.Looks.{Looks, LinkLeadsTo, Opens, Caused, IsBarredAt, HasCause, WhyNotMade, WhyNotReplaced, CanReplace};
 
 use std::alloc::Global;
+use std::io;
 
 /// Why a call on the files was refused.
 #[derive(Clone, Copy, Debug)]
@@ -174,6 +175,9 @@ pub trait World {
         ensures begun { is_known ≡ true → IfOk result (λ f.
             Begun (place_of (files self.old) path.now) (Self.File.number f) (files self.old).now (files self.new).now) }
         ensures cause { is_known ≡ true → HasCause (files self.old) (files self.new) result };
+
+    /// The system's error of the last call that failed, a `remove` aside, where it said one. It is for people: no clause speaks of it.
+    fn error(&self) -> Option<io::Error>;
 
     /// A file beside another stands at a place of its own.
     ghost apart: { (world : Self) (path : List ℕ) (n : ℕ) → is_known ≡ true → (files world).paths.is_plain path ≡ true

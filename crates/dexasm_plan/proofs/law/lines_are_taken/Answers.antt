@@ -5,4 +5,4 @@ use Rattle.dexasm_plan.proofs.law.lines_are_taken.Goals as goal
 
 pub returns : goal.returns
 unfolding dexasm clap_on_literals
-returns c = record { check = refl; file = refl; align = refl }
+returns c = record { check = refl; file = refl; short = refl; align = refl }

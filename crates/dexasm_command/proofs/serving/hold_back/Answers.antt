@@ -1,0 +1,5 @@
+use Rattle.dexasm_command.proofs.Putting.{puts}
+use Rattle.dexasm_command.proofs.serving.hold_back.Goals as goal
+
+pub returns-clause-told : goal.returns-clause-told
+returns-clause-told g c = puts _ _ _ _ c.write_all.result c.write_all.ensures
