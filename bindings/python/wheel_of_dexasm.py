@@ -33,7 +33,8 @@ def name_of_wheel():
 def files_of_wheel(library):
     """Where each file stands in the wheel, and its bytes."""
     info = f"dexasm-{version()}.dist-info"
-    files = {f"dexasm/{name}": get(HERE, "dexasm", name) for name in os.listdir(f"{HERE}/dexasm") if name.endswith(".py")}
+    names = [name for name in os.listdir(f"{HERE}/dexasm") if name.endswith((".py", ".typed"))]
+    files = {f"dexasm/{name}": get(HERE, "dexasm", name) for name in names}
     files["dexasm/libdexasm.so"] = library
     files[f"{info}/LICENSE"] = get(HERE, "..", "..", "LICENSE")
     head = ["Metadata-Version: 2.1", "Name: dexasm", f"Version: {version()}"]
@@ -41,6 +42,7 @@ def files_of_wheel(library):
     head += ["Requires-Python: >=3.10", "Classifier: Operating System :: POSIX :: Linux", "Description-Content-Type: text/markdown"]
     files[f"{info}/METADATA"] = "\n".join([*head, "", ""]).encode() + get(HERE, "README.md")
     files[f"{info}/WHEEL"] = f"Wheel-Version: 1.0\nGenerator: dexasm\nRoot-Is-Purelib: false\nTag: {TAG}\n".encode()
+    files[f"{info}/entry_points.txt"] = b"[console_scripts]\ndexasm = dexasm.__main__:main\n"
     rows = [f"{place},{digest(given)},{len(given)}\n" for place, given in sorted(files.items())]
     files[f"{info}/RECORD"] = "".join([*rows, f"{info}/RECORD,,\n"]).encode()
     return files
@@ -52,9 +54,14 @@ def digest(given):
 
 def wheel(library, when):
     """The bytes of the wheel: the same for the same files and the same time."""
+    return zipped(sorted(files_of_wheel(library).items()), when)
+
+
+def zipped(files, when):
+    """The bytes of a zip archive of these files, in this order, each with this time and of nobody in particular."""
     packed = io.BytesIO()
     with zipfile.ZipFile(packed, "w", zipfile.ZIP_DEFLATED) as archive:
-        for place, given in sorted(files_of_wheel(library).items()):
+        for place, given in files:
             entry = zipfile.ZipInfo(place, time.gmtime(max(when, EARLIEST))[:6])
             entry.external_attr, entry.compress_type = 0o100644 << 16, zipfile.ZIP_DEFLATED
             archive.writestr(entry, given)

@@ -11,7 +11,9 @@ import tarfile
 import tempfile
 
 TOP = os.path.dirname(os.path.dirname(os.path.dirname(os.path.abspath(__file__))))
-sys.path.insert(0, os.path.join(TOP, "bindings/python"))
+sys.path[:0] = [os.path.join(TOP, "bindings/python"), os.path.join(TOP, "bindings/java")]
+
+import jars_of_dexasm
 
 HELPERS = sorted(os.listdir(f"{TOP}/contrib/bin"))
 # Where each file goes below the package's top, or below /usr.
@@ -26,6 +28,7 @@ FILES = {
     "README.md": "share/doc/dexasm/README.md",
     "CHANGELOG.md": "share/doc/dexasm/CHANGELOG.md",
     "bindings/c/example.c": "share/doc/dexasm/examples/example.c",
+    "bindings/java/README.md": "share/doc/dexasm/java/README.md",
     "LICENSE": "share/doc/dexasm/copyright",
 }
 # What goes there with all that lies below it.
@@ -135,6 +138,22 @@ def contents(program, library, is_given):
     return held
 
 
+def java_of(library, time):
+    """The jar for a system that has the library, which goes where Debian has jars, and the jars that stand alone, by
+    name. None is made where there is no javac or no JNA, and that is said."""
+    why_not = jars_of_dexasm.why_not()
+    if why_not:
+        print(f"tools/package: {why_not} here: no jar is made", file=sys.stderr)
+        return {}, {}
+    try:
+        classes = jars_of_dexasm.compiled()
+    except jars_of_dexasm.Failed as why:
+        raise Failed(str(why)) from why
+    name = f"dexasm-{jars_of_dexasm.version()}.jar"
+    held = {f"share/java/{name}": (jars_of_dexasm.jar(classes, time), 0o644), "share/java/dexasm.jar": (name, 0o777)}
+    return held, jars_of_dexasm.jars(classes, library, time)
+
+
 def pack_tar(held, top, path, time):
     """The same bytes for the same files: sorted, with the commit's time, of nobody in particular."""
     packed = io.BytesIO()
@@ -187,13 +206,14 @@ def control_of(held, number):
 Version: {number}
 Architecture: amd64
 Depends: libc6 (>= 2.34), python3:any
+Suggests: libjna-java
 Section: devel
 Priority: optional
 Installed-Size: {size}
 Maintainer: {authors()}
 Description: checks, lists, assembles and strips .dex files
  Dalvik Executable files of version 035: a program, helpers around it, and a
- library for C, Python and Rust. What they promise is proved.
+ library for C, Python, Rust and Java. What they promise is proved.
 """
     return {
         "control": control,

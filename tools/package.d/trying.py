@@ -5,6 +5,7 @@ import shutil
 import subprocess
 import sys
 import tempfile
+import zipfile
 
 from packing import GLIBC, TOP, get
 
@@ -15,6 +16,14 @@ HELPED = (
     ("dexasm check hello.dex 2>&1 | dexasm-explain hello.dex | sed -n 2p", "  8: the Adler-32 differs: the file was damaged or changed.\n"),
     ("dexasm assemble hello.txt --output good.dex && dexasm-size good.dex --html size.html | tail -n 1 | grep -o all$", "all\n"),
 )
+
+# The module's answer of a file with one class.
+PROGRAM = """
+import dexasm
+file = open("hello.dex", "rb").read()
+program = dexasm.Program.read(file)
+print(program.classes[0].name, program.write() == dexasm.strip(file))
+"""
 
 
 class Tries:
@@ -89,6 +98,28 @@ def try_rust(tries, what, folder, room):
     tries.runs(f"{what}: by cargo", *words, want="ok\n", env=env, cwd=f"{room}/rust")
 
 
+def try_java(tries, what, folder, room):
+    """The jar in the package, with the package's library."""
+    jar = f"{folder}/share/java/dexasm.jar"
+    if not os.path.exists(jar):
+        return
+    env = {**os.environ, "DEXASM_LIBRARY": f"{folder}/lib/libdexasm.so.0"}
+    tries.runs(f"{what}: by java", "java", "-jar", jar, "check", f"{room}/hello.dex", want="ok\n", env=env)
+
+
+def try_jar(tries, path, sample):
+    """The jar that has the library inside; of the sources whether they are there."""
+    what = os.path.basename(path)
+    with tempfile.TemporaryDirectory() as room:
+        with open(f"{room}/hello.dex", "wb") as file:
+            file.write(sample)
+        env = {name: value for name, value in os.environ.items() if name not in ("CLASSPATH", "DEXASM_LIBRARY")}
+        if path.endswith("-sources.jar"):
+            tries.check(f"{what}: the sources", "dexasm/Dexasm.java" in zipfile.ZipFile(path).namelist())
+        else:
+            tries.runs(f"{what}: by java", "java", "-jar", path, "check", "hello.dex", want="ok\n", env=env, cwd=room)
+
+
 def try_glibc(tries, what, folder):
     """That no younger C library is asked for than the package says."""
     for place, most in GLIBC.items():
@@ -111,6 +142,7 @@ def try_package(tries, path, top, sample):
         try_glibc(tries, what, folder)
         try_c(tries, what, folder, room)
         try_rust(tries, what, folder, room)
+        try_java(tries, what, folder, room)
         if path.endswith(".deb") and shutil.which("lintian"):
             tries.runs(f"{what}: by lintian", "lintian", "--allow-root", "--fail-on", "error", path, cwd=room)
 
@@ -130,3 +162,9 @@ def try_wheels(tries, wheel, library, sample):
             install = ["-m", "pip", "install", "--quiet", "--no-index", "--disable-pip-version-check", given]
             tries.runs(f"{what}: by pip", python, *install, env=options, cwd=room)
             tries.runs(f"{what}: check", python, "-m", "dexasm", "check", "hello.dex", want="ok\n", env=env, cwd=room)
+            command = f"{room}/{len(options)}/bin/dexasm"
+            tries.runs(f"{what}: its command", command, "check", "hello.dex", want="ok\n", env=env, cwd=room)
+            typed = "import dexasm, pathlib; print(pathlib.Path(dexasm.__file__).with_name('py.typed').exists())"
+            tries.runs(f"{what}: its types", python, "-c", typed, want="True\n", env=env, cwd=room)
+            tries.runs(f"{what}: programs", python, "-c", PROGRAM, want="LHello; True\n", env=env, cwd=room)
+            tries.runs(f"{what}: programs", python, "-c", PROGRAM, want="LHello; True\n", env=env, cwd=room)

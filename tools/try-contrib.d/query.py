@@ -1,8 +1,9 @@
 """dexasm-query: its answers, with no library anywhere, and one line where there is none."""
 import json
 import os
+import shutil
 
-from trying import ESC, HEAD, LISTING, assembled, check, is_one_line, put, room, shell, tool
+from trying import ESC, HEAD, LISTING, TOP, assembled, check, is_one_line, put, room, run, shell, tool
 
 NAMED = rb"""class L\u00e9/\ud83d\ude00; 0x1
 super Lx\u00e9;
@@ -111,6 +112,19 @@ def try_commands():
     check(
         "dexasm-query, no dexasm",
         seen[:2] == (3, "") and is_one_line(seen[2], "dexasm-query: DEXASM_COMMAND names no command: /none"),
+        seen,
+    )
+    seen = tool("dexasm-query", "calls", "a.dex", at=at, DEXASM_LIBRARY="/none")
+    check(
+        "dexasm-query, no library where one is named",
+        seen[:2] == (3, "") and is_one_line(seen[2], "dexasm-query: the module dexasm for Python: /none: "),
+        seen,
+    )
+    shutil.copytree(os.path.join(TOP, "contrib"), os.path.join(at, "alone", "contrib"))
+    seen = run([os.path.join(at, "alone/contrib/bin/dexasm-query"), "calls", "a.dex"], at=at)
+    check(
+        "dexasm-query, no module",
+        seen[:2] == (3, "") and is_one_line(seen[2], "dexasm-query: the module dexasm for Python isn't there"),
         seen,
     )
     for dies, status in (("kill -9 $$", 137), ("exit 70", 70), ("echo dexasm: out of memory >&2; exit 4", 4)):

@@ -5,6 +5,8 @@
     >>> text = dexasm.list(open("hello.dex", "rb").read())
     >>> made = dexasm.assemble(text)
 
+Program has a file's program as objects: it is read, changed and written. One may not be used by two threads at once.
+
 What is refused raises Refused, with the fault's number, name and place; want of memory raises MemoryError. The library is the one that
 the variable DEXASM_LIBRARY names, or libdexasm.so beside this file, or the one that tools/build made in this repository, or the system's.
 Where there is none, each call runs the command: the one that the variable DEXASM_COMMAND names, or `dexasm` on the PATH, or this repository's.
@@ -17,12 +19,18 @@ import os
 import re
 import shutil
 import subprocess
+from typing import Any
+
+from dexasm.names import FieldRef, MethodRef, Proto, Type, spelled
 
 __all__ = ["Refused", "assemble", "check", "fault_name", "strip", "version"]
+__all__ += ["ArrayData", "Catch", "Class", "Code", "Field", "FieldRef", "Insn", "Label", "Method", "MethodRef"]
+__all__ += ["PackedSwitch", "Program", "Proto", "SparseSwitch", "Try", "Type", "Value"]
 
 Data = bytes | bytearray | memoryview
 
 _ANSWERED, _REFUSED, _MEMORY, _TOO_SMALL = 0, 1, 4, 5
+_INSIDE = "DEXASM_RUN_BY_PYTHON"  # set for a command that this module runs: that of a wheel is this module again
 _HERE = os.path.dirname(os.path.abspath(__file__))
 _BUILT = os.path.join(_HERE, *[".."] * 3, "crates", "dexasm_c", "out", "built")
 
@@ -31,15 +39,31 @@ class Refused(ValueError):
     """The bytes are refused: the number and the name of a rule that is broken, and the place where it is.
 
     The place is a byte of a file, a line of a listing from 1, or a class of a program from 0 (of 80 and 81 how many are needed, of 90 it is
-    0): docs/FORMAT.md says which by the number.
+    0): docs/FORMAT.md says which by the number. Where a Program was refused, `class_name`, `member` and `insn`, the
+    number of an instruction from 0, say where in it, as far as that is known; otherwise they are None.
     """
 
-    def __init__(self, number: int, name: str, place: int) -> None:
+    def __init__(
+        self,
+        number: int,
+        name: str,
+        place: int,
+        class_name: Type | None = None,
+        member: FieldRef | MethodRef | None = None,
+        insn: int | None = None,
+    ) -> None:
         super().__init__(f"refused {number} {name} at {place}")
         self.number, self.name, self.place = number, name, place
+        self.class_name, self.member, self.insn = class_name, member, insn
 
-    def __reduce__(self) -> tuple[type[Refused], tuple[int, str, int]]:
-        return Refused, (self.number, self.name, self.place)
+    def __str__(self) -> str:
+        line = f"refused {self.number} {self.name} at {self.place}"
+        if self.class_name is not None:
+            line += f": {spelled(self.member or self.class_name)}"
+        return line if self.insn is None else f"{line}, instruction {self.insn}"
+
+    def __reduce__(self) -> tuple[type[Refused], tuple[object, ...]]:
+        return Refused, (self.number, self.name, self.place, self.class_name, self.member, self.insn)
 
 
 class _Fault(ctypes.Structure):
@@ -62,6 +86,8 @@ def _load() -> ctypes.CDLL | None:
 
 def _find_command() -> str:
     """The command, for where there is no library."""
+    if os.environ.get(_INSIDE):
+        raise ImportError("libdexasm isn't found, and the command that was run for want of it is this module itself")
     asked = os.environ.get("DEXASM_COMMAND")
     for named in [asked] if asked else ["dexasm", os.path.join(_HERE, *[".."] * 3, "dexasm")]:
         found = shutil.which(named)
@@ -96,7 +122,9 @@ _command = None if _library else _find_command()
 
 def _run(job: str, given: bytes, *words: str) -> bytes:
     """The command's answer to a job."""
-    done = subprocess.run([_command, job, *words], input=given, stdout=subprocess.PIPE, stderr=subprocess.PIPE)
+    env = {**os.environ, _INSIDE: "1"}
+    command = [str(_command), job, *words]
+    done = subprocess.run(command, input=given, stdout=subprocess.PIPE, stderr=subprocess.PIPE, env=env)
     line = done.stderr.decode("utf8", "replace").strip().rpartition("\n")[2]
     refused = re.search(r"refused (\d+) (\w+) at (\d+)", line)
     if done.returncode == _REFUSED and refused:
@@ -108,7 +136,7 @@ def _run(job: str, given: bytes, *words: str) -> bytes:
     return done.stdout
 
 
-def _text(call: ctypes._CFuncPtr, *words: int) -> str:
+def _text(call: Any, *words: int) -> str:
     """A short text that the library tells."""
     out, needed = ctypes.create_string_buffer(64), ctypes.c_size_t()
     call(*words, out, len(out), ctypes.byref(needed))
@@ -122,7 +150,7 @@ def _raise(status: int, fault: _Fault) -> None:
         raise MemoryError("dexasm: out of memory")
 
 
-def _answer(call: ctypes._CFuncPtr, given: bytes, capacity: int, *words: bool) -> bytes:
+def _answer(call: Any, given: bytes, capacity: int, *words: bool) -> bytes:
     """The answer to a job; if it is longer than was guessed, the job is done again."""
     while True:
         out, needed, fault = ctypes.create_string_buffer(capacity), ctypes.c_size_t(), _Fault()
@@ -133,9 +161,14 @@ def _answer(call: ctypes._CFuncPtr, given: bytes, capacity: int, *words: bool) -
         capacity = needed.value
 
 
+def _bytes(data: Data) -> bytes:
+    """What is given, if it is bytes: anything else is a TypeError."""
+    return data if type(data) is bytes else memoryview(data).tobytes()
+
+
 def check(data: Data) -> None:
     """Returns if the bytes are a file that keeps every rule of the format."""
-    given, fault = bytes(data), _Fault()
+    given, fault = _bytes(data), _Fault()
     if _library is None:
         _run("check", given)
         return
@@ -144,15 +177,15 @@ def check(data: Data) -> None:
 
 def list(data: Data) -> str:
     """The listing of a file's program."""
-    given = bytes(data)
+    given = _bytes(data)
     if _library is None:
         return _run("list", given).decode("ascii")
-    return _answer(_library.dexasm_list, given, 4 * len(given) + 64).decode("ascii")
+    return _answer(_library.dexasm_list, given, 6 * len(given) + 64).decode("ascii")  # (real files take up to 5)
 
 
 def assemble(text: str | Data, align: bool = False) -> bytes:
     """The file of a listed program; with align a nop is put before each payload that would stand at an odd address."""
-    given = text.encode() if isinstance(text, str) else bytes(text)
+    given = text.encode("utf8", "surrogatepass") if isinstance(text, str) else _bytes(text)
     if _library is None:
         return _run("assemble", given, *["--align"] * align)
     return _answer(_library.dexasm_assemble, given, len(given) + 4096, align)
@@ -160,7 +193,7 @@ def assemble(text: str | Data, align: bool = False) -> bytes:
 
 def strip(data: Data) -> bytes:
     """A file's program, written again without what it doesn't need."""
-    given = bytes(data)
+    given = _bytes(data)
     if _library is None:
         return _run("strip", given)
     return _answer(_library.dexasm_strip, given, len(given) + 64)
@@ -178,3 +211,9 @@ def version() -> str:
     if _library is None:
         return _run("--version", b"").decode("ascii").split()[-1]
     return _text(_library.dexasm_version)
+
+
+# (these call what is above)
+from dexasm.code import ArrayData, Catch, Code, Insn, Label, PackedSwitch, SparseSwitch, Try  # noqa: E402
+from dexasm.members import Class, Field, Method, Value  # noqa: E402
+from dexasm.program import Program  # noqa: E402

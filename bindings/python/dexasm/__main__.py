@@ -1,4 +1,5 @@
-"""python3 -m dexasm check|list|assemble|strip [--align] [FILE] [--output OUT]: as the command dexasm, with its lines and its status."""
+"""python3 -m dexasm check|list|assemble|strip [--align] [FILE] [--output OUT]: as the command dexasm, with its lines and
+its status; only the second line that a terminal is told is the command's own."""
 from __future__ import annotations
 
 import argparse
@@ -10,7 +11,10 @@ from typing import BinaryIO
 
 import dexasm
 
+FILES = ("assemble", "strip")  # what answers a .dex file
 NAMES = 100  # how many names beside OUT are tried
+# How a new file is refused where the folder takes none of this name.
+CLOSED = (errno.EACCES, errno.EPERM, errno.EROFS, errno.ENAMETOOLONG)
 # How a rename is refused where OUT keeps its place, though it can be written: a mount point, another user's file in a sticky folder.
 FIXED = (errno.EBUSY, errno.EPERM, errno.EACCES)
 
@@ -28,9 +32,9 @@ def words() -> argparse.Namespace:
     parser.add_argument("--version", action=Version, nargs=0, help="show program's version number and exit")
     jobs = parser.add_subparsers(dest="job", required=True)
     for job in ("check", "list", "assemble", "strip"):
-        by = jobs.add_parser(job)
+        by = jobs.add_parser(job, allow_abbrev=False)
         by.add_argument("file", nargs="?", metavar="FILE", help="read FILE instead of standard input")
-        by.add_argument("--output", metavar="OUT", help="write to OUT instead of standard output")
+        by.add_argument("-o", "--output", metavar="OUT", help="write to OUT instead of standard output")
         if job == "assemble":
             by.add_argument("--align", action="store_true", help="put a nop before each payload at an odd address")
     return parser.parse_args()
@@ -57,8 +61,10 @@ def beside(path: str) -> BinaryIO | None:
             file = open(f"{path}.{number}.part", "xb")
         except FileExistsError:
             continue
-        except PermissionError:
-            return None
+        except OSError as error:
+            if error.errno in CLOSED:
+                return None
+            raise
         if is_there:
             os.chmod(file.name, stat.S_IMODE(there.st_mode))
         return file
@@ -116,6 +122,9 @@ def ended(status: int, line: str) -> int:
 
 def main() -> int:
     asked = words()
+    asked.file, asked.output = (None if word == "-" else word for word in (asked.file, asked.output))
+    if asked.output is None and asked.job in FILES and sys.stdout is not None and sys.stdout.isatty():
+        return ended(2, "a .dex file isn't for a terminal: use --output FILE or a pipe")
     try:
         given = read(asked.file)
     except OSError:
@@ -137,4 +146,5 @@ def main() -> int:
     return 0
 
 
-sys.exit(main())
+if __name__ == "__main__":
+    sys.exit(main())

@@ -3,6 +3,7 @@
 A helper is given files and names by strangers. So no name becomes a part of a program's text or of a path that leads
 elsewhere, and what is printed of a name or of a line goes through `escaped`."""
 import argparse
+import importlib.util
 import json
 import os
 import re
@@ -187,6 +188,38 @@ def page(name):
 def decoded(word):
     """A name or a text as it is: in a listing each character may stand as an escape. A lone surrogate stays one."""
     return json.loads(word if word.startswith('"') else f'"{word}"')
+
+
+def module():
+    """The module for Python that came with the helpers: the repository's, or the package's."""
+    if "dexasm" in sys.modules:
+        return sys.modules["dexasm"]
+    if sys.version_info < (3, 10):
+        raise Failed("the module dexasm for Python needs Python 3.10 or later")
+    for way in (("..", "bindings", "python"), ("lib", "python3", "dist-packages")):
+        folder = os.path.join(TOP, *way, "dexasm")
+        if os.path.exists(os.path.join(folder, "__init__.py")):
+            return load(folder)
+    raise Failed("the module dexasm for Python isn't there")
+
+
+def load(folder):
+    # (where it finds no library it wants a command, which it isn't asked to run)
+    os.environ.setdefault("DEXASM_COMMAND", command())
+    place = os.path.join(folder, "__init__.py")
+    spec = importlib.util.spec_from_file_location("dexasm", place, submodule_search_locations=[folder])
+    sys.modules["dexasm"] = made = importlib.util.module_from_spec(spec)
+    try:
+        spec.loader.exec_module(made)
+    except (ImportError, OSError) as error:
+        raise Failed(f"the module dexasm for Python: {escaped(str(error))}") from None
+    return made
+
+
+def program_of(path):
+    """The program of a file or of a listing, as an object of the module for Python."""
+    listing = listing_of(path)
+    return module().Program.of_listing(listing)
 
 
 def say(line):

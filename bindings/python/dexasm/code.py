@@ -1,0 +1,413 @@
+"""Codes: instructions, labels and tries as objects, read from the lines of a listing and written as such lines."""
+from __future__ import annotations
+
+import functools
+import re
+from collections.abc import Iterable, Iterator
+from dataclasses import dataclass, field
+
+from dexasm.names import (
+    FieldRef,
+    MethodRef,
+    Type,
+    number,
+    operand,
+    operand_of,
+    quoted,
+    shown,
+    spelled,
+    type_of,
+    unquoted,
+)
+
+_MNEMONIC = re.compile(
+    r"(?!(?:dex|class|super|implements|source|static|instance|direct|virtual|code|try|catch|catchall|end)\Z)"
+    r"[a-z][a-z0-9/-]*"
+)
+
+
+@dataclass(slots=True, eq=False)
+class Label:
+    """A place in a code: before an instruction, or the end where that is None. Two labels are never equal."""
+
+    insn: Insn | None = None
+
+    def __repr__(self) -> str:
+        return f"Label(before {self.insn.mnemonic!a})" if self.insn is not None else "Label(the end)"
+
+
+@dataclass(slots=True, init=False)
+class Insn:
+    """An instruction: its mnemonic and its operands, of which most are None.
+
+    `literal` is the number that stands in the instruction (of const/high16 its 16 bits), `target` where it leads,
+    `name` what it names, `text` the text of a const-string, `count` how many registers a range takes.
+    """
+
+    mnemonic: str
+    registers: tuple[int, ...]
+    literal: int | None
+    target: Label | None
+    name: Type | FieldRef | MethodRef | None
+    text: str | None
+    count: int | None
+
+    def __init__(
+        self,
+        mnemonic: str,
+        *registers: int,
+        literal: int | None = None,
+        target: Label | None = None,
+        name: str | None = None,
+        text: str | None = None,
+        count: int | None = None,
+    ) -> None:
+        self.mnemonic, self.registers, self.literal, self.target = mnemonic, registers, literal, target
+        self.name = name if name is None or isinstance(name, (Type, FieldRef, MethodRef)) else operand(name)
+        self.text, self.count = text, count
+
+    def __repr__(self) -> str:
+        given = [ascii(self.mnemonic), *map(ascii, self.registers)]
+        for slot in ("literal", "target", "name", "text", "count"):
+            if getattr(self, slot) is not None:
+                given.append(f"{slot}={getattr(self, slot)!r}")
+        return f"{type(self).__name__}({', '.join(given)})"
+
+    def labels(self) -> Iterable[Label]:
+        """All labels that it leads to."""
+        return (self.target,) if self.target is not None else ()
+
+
+class _Payload(Insn):
+    """What stands among instructions and is none; it has no operands of one."""
+
+    __slots__ = ()
+    word = ""
+
+
+@dataclass(slots=True, init=False)
+class PackedSwitch(_Payload):
+    """The payload of a packed-switch: the keys from the first on, and a target for each."""
+
+    word = "packed-switch-payload"
+    first: int
+    targets: list[Label]
+
+    def __init__(self, first: int, targets: Iterable[Label]) -> None:
+        Insn.__init__(self, self.word)
+        self.first, self.targets = first, [*targets]
+
+    def labels(self) -> Iterable[Label]:
+        return self.targets
+
+
+@dataclass(slots=True, init=False)
+class SparseSwitch(_Payload):
+    """The payload of a sparse-switch: keys, which rise, and a target for each."""
+
+    word = "sparse-switch-payload"
+    keys: list[int]
+    targets: list[Label]
+
+    def __init__(self, keys: Iterable[int], targets: Iterable[Label]) -> None:
+        Insn.__init__(self, self.word)
+        self.keys, self.targets = [*keys], [*targets]
+
+    def labels(self) -> Iterable[Label]:
+        return self.targets
+
+
+@dataclass(slots=True, init=False)
+class ArrayData(_Payload):
+    """The payload of a fill-array-data: bytes an element, and the elements' bytes, low byte first."""
+
+    word = "array-payload"
+    width: int
+    data: bytes
+
+    def __init__(self, width: int, data: bytes) -> None:
+        Insn.__init__(self, self.word)
+        self.width, self.data = width, data
+
+
+@dataclass(slots=True)
+class Catch:
+    """A handler of one type of exceptions."""
+
+    type: Type
+    target: Label
+
+
+@dataclass(slots=True)
+class Try:
+    """What is covered, from a label to another one (its instruction isn't covered), and its handlers in their order."""
+
+    start: Label
+    end: Label
+    catches: list[Catch] = field(default_factory=list)
+    catch_all: Label | None = None
+
+    def labels(self) -> Iterator[Label]:
+        yield self.start
+        yield self.end
+        for catch in self.catches:
+            yield catch.target
+        if self.catch_all is not None:
+            yield self.catch_all
+
+
+class Code:
+    """The code of a method: its registers, its instructions and its tries, which are read when they are asked for."""
+
+    __slots__ = ("registers", "ins", "outs", "_text", "_insns", "_tries")
+
+    def __init__(
+        self, registers: int = 0, ins: int = 0, outs: int = 0, insns: Iterable[Insn] = (), tries: Iterable[Try] = ()
+    ) -> None:
+        self.registers, self.ins, self.outs = registers, ins, outs
+        self._text: str | None = None
+        self._insns, self._tries = [*insns], [*tries]
+
+    @classmethod
+    def of_text(cls, text: str) -> Code:
+        """From the lines that a listing has of it, `code` the first and `end code` the last, as `list` writes them."""
+        made = cls.__new__(cls)
+        head, _, rest = text.partition("\n")
+        made.registers, made.ins, made.outs = map(int, head.split(" ")[1:])
+        made._text = rest
+        return made
+
+    @property
+    def insns(self) -> list[Insn]:
+        self._read()
+        return self._insns
+
+    @insns.setter
+    def insns(self, given: Iterable[Insn]) -> None:
+        self._read()
+        self._insns = [*given]
+
+    @property
+    def tries(self) -> list[Try]:
+        self._read()
+        return self._tries
+
+    @tries.setter
+    def tries(self, given: Iterable[Try]) -> None:
+        self._read()
+        self._tries = [*given]
+
+    def replace(self, insn: Insn, *by: Insn) -> None:
+        """Puts others, or none, in an instruction's place. What led there leads to the first of them or to the next."""
+        insns = self.insns
+        at = next((at for at, one in enumerate(insns) if one is insn), None)
+        if at is None:
+            raise ValueError(f"no instruction of this code: {shown(insn)}")
+        insns[at : at + 1] = by
+        heir = insns[at] if at < len(insns) else None
+        for label in self.labels():
+            if label.insn is insn:
+                label.insn = heir
+
+    def labels(self) -> Iterator[Label]:
+        """Each label that an instruction, a payload or a try has, as often as it has it."""
+        for insn in self.insns:
+            yield from insn.labels()
+        for one in self.tries:
+            yield from one.labels()
+
+    def __str__(self) -> str:
+        head = f"code {number(self.registers)} {number(self.ins)} {number(self.outs)}\n"
+        return head + (self._text if self._text is not None else "\n".join([*_lines(self), "end code\n"]))
+
+    def __repr__(self) -> str:
+        return f"Code({self.registers!a}, {self.ins!a}, {self.outs!a}, ..)"
+
+    def __eq__(self, other: object) -> bool:
+        return isinstance(other, Code) and str(self) == str(other)
+
+    __hash__ = None  # type: ignore[assignment]
+
+    def __reduce__(self) -> tuple[object, tuple[str]]:
+        # (a copy has instructions and labels of its own, however they lead to one another)
+        return Code.of_text, (str(self),)
+
+    def _read(self) -> None:
+        if self._text is not None:
+            self._insns, self._tries = _read_lines(self._text)
+            self._text = None
+
+
+# ---- reading
+
+
+def _read_lines(text: str) -> tuple[list[Insn], list[Try]]:
+    insns: list[Insn] = []
+    tries: list[Try] = []
+    labels: dict[str, Label] = {}
+    here: Label | None = None
+    for line in text.split("\n"):
+        if line[:1] == ":":
+            here = _label(labels, line)
+            continue
+        if line[:4] == "try " or line[:5] == "catch" or line == "end code":
+            _read_try(line, labels, tries)
+            if line == "end code":
+                break
+            continue
+        insn = _read_insn(line, labels)
+        if here is not None:
+            here.insn, here = insn, None
+        insns.append(insn)
+    return insns, tries
+
+
+def _label(labels: dict[str, Label], word: str) -> Label:
+    label = labels.get(word)
+    if label is None:
+        label = labels[word] = Label()
+    return label
+
+
+def _read_try(line: str, labels: dict[str, Label], tries: list[Try]) -> None:
+    words = line.split(" ")
+    if words[0] == "try":
+        tries.append(Try(_label(labels, words[1]), _label(labels, words[2])))
+    elif words[0] == "catch":
+        tries[-1].catches.append(Catch(type_of(words[1]), _label(labels, words[2])))
+    elif words[0] == "catchall":
+        tries[-1].catch_all = _label(labels, words[1])
+
+
+def _read_insn(line: str, labels: dict[str, Label]) -> Insn:
+    text = None
+    if '"' in line:
+        line, _, word = line.partition(' "')
+        text = unquoted(f'"{word}')
+    words = line.split(" ")
+    mnemonic = words[0]
+    if mnemonic[-8:] == "-payload":
+        return _read_payload(words, labels)
+    registers: list[int] = []
+    numeral = target = name = None
+    for word in words[1:]:
+        first = word[0]
+        if first == "v":
+            registers.append(int(word[1:]))
+        elif first == ":":
+            target = _label(labels, word)
+        elif first in "-0123456789":
+            numeral = int(word)
+        elif first not in "{}":
+            name = operand_of(word)
+    if numeral is not None and name is not None:
+        return Insn(mnemonic, *registers, name=name, count=numeral)
+    return Insn(mnemonic, *registers, literal=numeral, target=target, name=name, text=text)
+
+
+def _read_payload(words: list[str], labels: dict[str, Label]) -> Insn:
+    if words[0] == PackedSwitch.word:
+        return PackedSwitch(int(words[1]), [_label(labels, word) for word in words[2:]])
+    if words[0] == SparseSwitch.word:
+        return SparseSwitch(map(int, words[1::2]), [_label(labels, word) for word in words[2::2]])
+    return ArrayData(int(words[1]), bytes.fromhex(words[2]) if len(words) > 2 else b"")
+
+
+# ---- writing
+
+
+class _Places:
+    """Where the labels of a code stand, and how they are spelled."""
+
+    def __init__(self, insns: list[Insn]) -> None:
+        self.end, self.used = len(insns), set[int]()
+        self.places = {id(insn): at for at, insn in enumerate(insns)}
+        self.twice = set[int]()
+        if len(self.places) < len(insns):
+            self.twice = {id(insn) for at, insn in enumerate(insns) if self.places[id(insn)] != at}
+
+    def word(self, label: Label) -> str:
+        if not isinstance(label, Label):
+            raise ValueError(f"no Label: {shown(label)}")
+        at = self.end
+        if label.insn is not None:
+            if id(label.insn) not in self.places:
+                raise ValueError(f"a label leads to no instruction of its code: {shown(label.insn)}")
+            if id(label.insn) in self.twice:
+                raise ValueError(f"a label leads to an instruction that stands twice: {shown(label.insn)}")
+            at = self.places[id(label.insn)]
+        self.used.add(at)
+        return f":L{at}"
+
+
+def _lines(code: Code) -> Iterator[str]:
+    """The lines after the first and before the last."""
+    insns, tries = code.insns, code.tries
+    places = _Places(insns)
+    written = [_insn_line(insn, places) for insn in insns]
+    ends = [line for one in tries for line in _try_lines(one, places)]
+    for at, line in enumerate(written):
+        if at in places.used:
+            yield f":L{at}"
+        yield line
+    if places.end in places.used:
+        yield f":L{places.end}"
+    yield from ends
+
+
+@functools.lru_cache(maxsize=512)
+def _mnemonic(word: str) -> str:
+    if not _MNEMONIC.fullmatch(word):
+        raise ValueError(f"no mnemonic: {shown(word)}")
+    return word
+
+
+@functools.lru_cache(maxsize=512)
+def _has_braces(mnemonic: str) -> bool:
+    return mnemonic.startswith(("invoke-", "filled-new-array")) and not mnemonic.endswith("/range")
+
+
+def _insn_line(insn: Insn, places: _Places) -> str:
+    if isinstance(insn, _Payload):
+        return " ".join(_payload_words(insn, places))
+    if not isinstance(insn, Insn):
+        raise ValueError(f"no Insn: {shown(insn)}")
+    if not isinstance(insn.mnemonic, str):
+        raise ValueError(f"no mnemonic: {shown(insn.mnemonic)}")
+    words = [_mnemonic(insn.mnemonic)]
+    registers = [f"v{number(register)}" for register in insn.registers]
+    words += ["{", *registers, "}"] if _has_braces(insn.mnemonic) else registers
+    for numeral in (insn.literal, insn.count):
+        if numeral is not None:
+            words.append(number(numeral))
+    if insn.target is not None:
+        words.append(places.word(insn.target))
+    if insn.name is not None:
+        name = insn.name
+        words.append(spelled(name if isinstance(name, (Type, FieldRef, MethodRef)) else operand(name)))
+    if insn.text is not None:
+        words.append(quoted(insn.text))
+    return " ".join(words)
+
+
+def _payload_words(insn: Insn, places: _Places) -> list[str]:
+    if isinstance(insn, PackedSwitch):
+        return [insn.word, number(insn.first), *map(places.word, insn.targets)]
+    if isinstance(insn, SparseSwitch):
+        if len(insn.keys) != len(insn.targets):
+            raise ValueError(f"{len(insn.keys)} keys and {len(insn.targets)} targets of a sparse-switch-payload")
+        pairs = zip(map(number, insn.keys), map(places.word, insn.targets))
+        return [insn.word, *(word for pair in pairs for word in pair)]
+    if not isinstance(insn, ArrayData) or not isinstance(insn.data, (bytes, bytearray)):
+        raise ValueError(f"no payload: {shown(insn)}")
+    return [insn.word, number(insn.width), *([insn.data.hex()] if insn.data else [])]
+
+
+def _try_lines(one: Try, places: _Places) -> Iterator[str]:
+    if not isinstance(one, Try):
+        raise ValueError(f"no Try: {shown(one)}")
+    yield f"try {places.word(one.start)} {places.word(one.end)}"
+    for catch in one.catches:
+        yield f"catch {spelled(Type(catch.type))} {places.word(catch.target)}"
+    if one.catch_all is not None:
+        yield f"catchall {places.word(one.catch_all)}"

@@ -1,0 +1,187 @@
+"""Programs as objects: read from a .dex file, changed, and written.
+
+The library is the judge: a program is read from the listing that `list` writes, and written by `assemble`, so that what
+is written keeps every rule, and what doesn't raises Refused. Nothing here may be used by two threads at once.
+"""
+from __future__ import annotations
+
+from collections.abc import Iterable, Iterator, MutableSequence
+from typing import Any, overload
+
+import dexasm
+from dexasm import refusals
+from dexasm.members import Class
+from dexasm.names import Type, shown, unspelled
+
+HEAD = "dex 035 listing 2\n"
+_END = "\nend class\n"
+
+
+class Classes(MutableSequence[Class]):
+    """The classes of a program, in their order. Until one is asked for it is the text that it came with."""
+
+    __slots__ = ("_text", "_rows", "_changed", "_index")
+
+    def __init__(self, text: str) -> None:
+        self._text = text
+        self._rows: list[Class | tuple[int, int]] = []
+        self._changed, self._index = 0, ((-1, -1), dict[str, int]())
+        at = len(HEAD)
+        while at < len(text):
+            end = text.index(_END, at) + len(_END)
+            self._rows.append((at, end))
+            at = end
+
+    def __len__(self) -> int:
+        return len(self._rows)
+
+    def __iter__(self) -> Iterator[Class]:
+        at = 0
+        while at < len(self._rows):
+            yield self._read(at)
+            at += 1
+
+    @overload
+    def __getitem__(self, at: int) -> Class:
+        ...
+
+    @overload
+    def __getitem__(self, at: slice) -> list[Class]:
+        ...
+
+    def __getitem__(self, at: int | slice) -> Class | list[Class]:
+        if isinstance(at, slice):
+            return [self._read(one) for one in range(len(self._rows))[at]]
+        return self._read(at)
+
+    def __setitem__(self, at: Any, given: Any) -> None:
+        self._changed += 1
+        if isinstance(at, slice):
+            self._rows[at] = [_known(one) for one in given]
+        else:
+            self._rows[at] = _known(given)
+
+    def __delitem__(self, at: int | slice) -> None:
+        self._changed += 1
+        del self._rows[at]
+
+    def insert(self, at: int, given: Class) -> None:
+        is_indexed = at == len(self._rows) and self._index[0] == (Class.renamed, self._changed)
+        self._changed += 1
+        self._rows.insert(at, _known(given))
+        if is_indexed:
+            # (so that whoever adds many and looks for each has it quick)
+            self._index[1].setdefault(given.name, at)
+            self._index = (Class.renamed, self._changed), self._index[1]
+
+    def __repr__(self) -> str:
+        return f"<{len(self)} classes>"
+
+    def names(self) -> Iterator[Type]:
+        """The classes' names; none is read for it."""
+        return (Type(self._name(row)) for row in self._rows)
+
+    def texts(self) -> Iterator[str]:
+        """The lines of each class. One that wasn't read has them as they came."""
+        return (self._text[row[0] : row[1]] if isinstance(row, tuple) else str(row) for row in self._rows)
+
+    def place(self, name: str) -> int | None:
+        """Where the class of this name is."""
+        now = Class.renamed, self._changed
+        if self._index[0] != now:
+            # (of two that have one name the first)
+            self._index = now, {self._name(row): at for at, row in reversed([*enumerate(self._rows)])}
+        return self._index[1].get(name)
+
+    def _read(self, at: int) -> Class:
+        row = self._rows[at]
+        if isinstance(row, tuple):
+            row = self._rows[at] = Class.of_text(self._text[row[0] : row[1]])
+        return row
+
+    def _name(self, row: Class | tuple[int, int]) -> str:
+        if isinstance(row, Class):
+            return row.name
+        begin = row[0] + len("class ")
+        return unspelled(self._text[begin : self._text.index(" ", begin)])
+
+
+def _known(given: object) -> Class:
+    if not isinstance(given, Class):
+        raise TypeError(f"no Class: {shown(given)}")
+    return given
+
+
+class Program:
+    """What a .dex file says: its classes.
+
+    `str` of a program is its listing: of one that wasn't changed, as `list` writes it.
+    """
+
+    __slots__ = ("_classes",)
+
+    def __init__(self, classes: Iterable[Class] = ()) -> None:
+        self._classes = Classes(HEAD)
+        self._classes.extend(classes)
+
+    @property
+    def classes(self) -> Classes:
+        return self._classes
+
+    @classes.setter
+    def classes(self, given: Iterable[Class]) -> None:
+        self._classes[:] = [*given]
+
+    @classmethod
+    def read(cls, data: dexasm.Data) -> Program:
+        """The program of a file."""
+        return cls.of_listing(dexasm.list(data))
+
+    @classmethod
+    def parse(cls, text: str | dexasm.Data) -> Program:
+        """The program of a listing, in whatever form: it is assembled and read."""
+        return cls.read(dexasm.assemble(text))
+
+    @classmethod
+    def of_listing(cls, text: str) -> Program:
+        """The program of a listing that `list` wrote. It isn't looked at again: `parse` takes other texts."""
+        if not text.startswith(HEAD):
+            raise ValueError("no listing as list writes it")
+        made = cls()
+        made._classes = Classes(text)
+        return made
+
+    def write(self, align: bool = False) -> bytes:
+        """The file of the program. Where it breaks a rule this raises Refused, which says where in the program."""
+        texts = [*self.classes.texts()]
+        try:
+            return dexasm.assemble("".join([HEAD, *texts]), align)
+        except dexasm.Refused as refused:
+            refusals.locate(refused, HEAD, texts, align)
+            raise
+
+    def __getitem__(self, name: str) -> Class:
+        """The class of this name."""
+        place = self.classes.place(name)
+        if place is None:
+            raise KeyError(name)
+        return self.classes[place]
+
+    def __contains__(self, name: object) -> bool:
+        return isinstance(name, str) and self.classes.place(name) is not None
+
+    __iter__ = None  # (neither names nor classes: `classes` has these)
+
+    def __str__(self) -> str:
+        return "".join([HEAD, *self.classes.texts()])
+
+    def __repr__(self) -> str:
+        return f"<Program of {len(self.classes)} classes>"
+
+    def __eq__(self, other: object) -> bool:
+        return isinstance(other, Program) and str(self) == str(other)
+
+    __hash__ = None  # type: ignore[assignment]
+
+    def __reduce__(self) -> tuple[object, tuple[str]]:
+        return Program.of_listing, (str(self),)
