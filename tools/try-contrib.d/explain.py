@@ -87,7 +87,7 @@ def try_rows():
 
 def try_members():
     """The character that a name can't have, the member that stands twice, the number that is spelled too far."""
-    at, stricter = room("explain names"), {what.split(": ")[1]: file for what, file, _ in stricter_files()}
+    at, stricter = room("explain members"), {what.split(": ")[1]: file for what, file, _ in stricter_files()}
     space = "the name a b has U+0020 at its character 2, which names can have since version 040 alone"
     for what, file, number, want in (
         ("a space", stricter["a space in a name"], 34, f"  Hint: {space}."),
