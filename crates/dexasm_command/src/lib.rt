@@ -9,7 +9,11 @@ mod telling;
 mod terminals;
 
 pub use carrying::carry_out;
-pub use dexasm_run::{RunFault, Sink, Source, Watched, write_all};
+pub use dexasm_plan::{plan, usage_status};
+pub use dexasm_run::{
+    Job, Line, RunFault, Sink, Source, Watched, line_text, run, status, write_all,
+};
+pub use dexasm_world::deliver;
 pub use laws::{out_is_never_lost, statuses_tell};
 pub use serving::serve;
 pub use telling::tell;

@@ -2,7 +2,7 @@
 
 use dex_base::{Fault, fault};
 use dex_samples::{ONE_CLASS, TestReader, TestWriter, none_wrong, reader, writer};
-use dexasm_run::{Job, RunFault, Watched, run};
+use dexasm_command::{Job, RunFault, Watched, run};
 use std::alloc::Global;
 use std::test::Fail;
 

@@ -4,7 +4,7 @@ use crate::files::SPARE_NAMES;
 use crate::given::{Given, bytes_of};
 use dex_base::{Fault, fault};
 use dex_samples::{closed_with, is_so, none_wrong};
-use dexasm_run::{Job, RunFault, Watched, run};
+use dexasm_command::{Job, RunFault, Watched, run};
 use std::alloc::Global;
 use std::test::Fail;
 

@@ -25,3 +25,9 @@ mod rich;
 mod runs;
 #[cfg(test)]
 mod runs_failing;
+
+// dexasm_world, dexasm_command
+#[cfg(test)]
+mod commands;
+#[cfg(test)]
+mod deliveries;

@@ -1,8 +1,7 @@
 //! What words ask for, and what is told of wrong ones.
 
 use dex_samples::none_wrong;
-use dexasm_plan::{plan, usage_status};
-use dexasm_run::Job;
+use dexasm_command::{Job, plan, usage_status};
 use std::alloc::Global;
 use std::test::Fail;
 

@@ -5,7 +5,7 @@ use dex_samples::{
     NOTHING, ONE_CLASS, Rows, WITHOUT_CLASSES, closed_with, file_of, is_so, none_wrong, reader,
     with_bytes, writer,
 };
-use dexasm_run::{Job, Line, RunFault, Sink, Source, Watched, line_text, run, status};
+use dexasm_command::{Job, Line, RunFault, Sink, Source, Watched, line_text, run, status};
 use std::alloc::Global;
 use std::io::Cursor;
 use std::test::Fail;

@@ -5,7 +5,7 @@ use dex_samples::{
     NOTHING, ONE_CLASS, Rows, TestReader, TestWriter, WITHOUT_CLASSES, file_of, is_so, none_wrong,
     reader, reader_failing_once, writer, writer_failing_once,
 };
-use dexasm_run::{Job, RunFault, Sink, Source, Watched, run};
+use dexasm_command::{Job, RunFault, Sink, Source, Watched, run};
 use std::alloc::Global;
 use std::test::Fail;
 

@@ -1,0 +1,4 @@
+pub mod Among
+pub mod Stepping
+pub mod Sound
+pub mod Calling

@@ -1,0 +1,3 @@
+pub mod Logs
+pub mod Disks
+pub mod Apart
