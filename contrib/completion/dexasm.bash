@@ -19,16 +19,20 @@ _dexasm_helper() {
   local name=${COMP_WORDS[0]##*/} word=${COMP_WORDS[COMP_CWORD]} first='' options='' words=''
   case $name in
     dexasm-apk) first='check list strip' options='--help --close' ;;
+    dexasm-browse) first='' options='--help --output --graphs' ;;
     dexasm-close) first='' options='--help --output --check' ;;
     dexasm-diff) first='' options='--help --names --color --textconv' ;;
     dexasm-explain) first='' options='--help --json' ;;
+    dexasm-graph) first='' options='--help --format --calls --from --depth' ;;
     dexasm-lint) first='' options='--help' ;;
     dexasm-query) first='classes strings calls' options='--help' ;;
     dexasm-size) first='' options='--help --by --sort --html' ;;
     dexasm-split) first='' options='--help --join' ;;
   esac
   case $name/${COMP_WORDS[COMP_CWORD - 1]} in
+    dexasm-browse/--graphs) words='all' ;;
     dexasm-diff/--color) words='auto always never' ;;
+    dexasm-graph/--format) words='dot svg json' ;;
     dexasm-size/--by) words='package class' ;;
     dexasm-size/--sort) words='total code strings tables values debug unused strip name' ;;
     *) if [[ $word == -* ]]; then words=$options; elif ((COMP_CWORD == 1)); then words=$first; fi ;;
@@ -40,4 +44,4 @@ _dexasm_helper() {
   fi
 }
 complete -o filenames -F _dexasm dexasm
-complete -o filenames -F _dexasm_helper dexasm-apk dexasm-close dexasm-diff dexasm-explain dexasm-lint dexasm-query dexasm-size dexasm-split
+complete -o filenames -F _dexasm_helper dexasm-apk dexasm-browse dexasm-close dexasm-diff dexasm-explain dexasm-graph dexasm-lint dexasm-query dexasm-size dexasm-split

@@ -13,6 +13,9 @@ complete -c dexasm -n '__fish_seen_subcommand_from strip' -r -F -s o -l output -
 complete -c dexasm-apk -n __fish_use_subcommand -a 'check list strip'
 complete -c dexasm-apk -l help
 complete -c dexasm-apk -l close
+complete -c dexasm-browse -l help
+complete -c dexasm-browse -l output -r -F
+complete -c dexasm-browse -l graphs -x -a 'all'
 complete -c dexasm-close -l help
 complete -c dexasm-close -l output -r -F
 complete -c dexasm-close -l check
@@ -22,6 +25,11 @@ complete -c dexasm-diff -l color -x -a 'auto always never'
 complete -c dexasm-diff -l textconv
 complete -c dexasm-explain -l help
 complete -c dexasm-explain -l json
+complete -c dexasm-graph -l help
+complete -c dexasm-graph -l format -x -a 'dot svg json'
+complete -c dexasm-graph -l calls
+complete -c dexasm-graph -l from
+complete -c dexasm-graph -l depth
 complete -c dexasm-lint -l help
 complete -c dexasm-query -n __fish_use_subcommand -a 'classes strings calls'
 complete -c dexasm-query -l help
@@ -30,4 +38,4 @@ complete -c dexasm-size -l by -x -a 'package class'
 complete -c dexasm-size -l sort -x -a 'total code strings tables values debug unused strip name'
 complete -c dexasm-size -l html -r -F
 complete -c dexasm-split -l help
-complete -c dexasm-split -l join
+complete -c dexasm-split -l join -r -F

@@ -28,6 +28,8 @@ def try_bash():
         (("dexasm-size", "--by", "''"), ["class", "package"]),
         (("dexasm-size", "--s"), ["--sort"]),
         (("dexasm-split", "--"), ["--help", "--join"]),
+        (("dexasm-browse", "--graphs", "''"), ["all"]),
+        (("dexasm-graph", "--format", "s"), ["svg"]),
         (("dexasm-explain", "--j"), ["--json"]),
         (("/a/b/dexasm-apk", "s"), ["strip"]),
     ):

@@ -71,6 +71,7 @@ def try_blocks():
     """Each recipe of one file, by a plain name and by an evil one."""
     found = blocks("docs/RECIPES.md")
     wants = {
+        ("Looking at a file", 0): ('digraph "calls" {', 'n0 [label="LHello;->ask()V\\l"]'),
         ("An .apk", 0): ("classes.dex: ok\n", "classes2.dex: dexasm: refused 1 TooShort at 7\n"),
         ("What a refusal means", 0): ("ok\n",),
         ("A file that D8 before 1.6.20 signed", 0): ("both sums hold\n",),
@@ -359,6 +360,7 @@ def try_workflow():
 def try_page():
     """Each recipe is tried."""
     known = {
+        "Looking at a file": 1,
         "An .apk": 1,
         "What a refusal means": 1,
         "A file that D8 before 1.6.20 signed": 1,

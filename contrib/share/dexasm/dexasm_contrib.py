@@ -34,6 +34,8 @@ def escaped(text):
     """The text without what a terminal obeys: escapes, other control characters, and marks that turn its direction."""
     if isinstance(text, bytes):
         text = text.decode("utf8", "surrogateescape")
+    if text.isprintable():
+        return text
     return "".join(char if char.isprintable() else shown(char) for char in text)
 
 
@@ -166,14 +168,19 @@ def answer(*words, given, name):
     return ended.answer
 
 
-def listing_of(path):
-    """The listing of a file as dexasm prints it; a listing is assembled first, so that it is printed alike."""
+def dex_of(path):
+    """The bytes of a .dex file; of a listing those that dexasm makes of it."""
     given, name = get(path), name_of(path)
     if not given.startswith(DEX) and re.match(rb"(?: *(?:#.*)?\n)* *dex +\w", given):
         given = answer("assemble", given=given, name=name)
     if given.startswith(ZIP):
         raise Failed(f"{name}: a zip archive: dexasm-apk looks at the .dex files in it")
-    return answer("list", given=given, name=name).decode("ascii")
+    return given
+
+
+def listing_of(path):
+    """The listing of a file as dexasm prints it; a listing is assembled first, so that it is printed alike."""
+    return answer("list", given=dex_of(path), name=name_of(path)).decode("ascii")
 
 
 def page(name):

@@ -502,18 +502,25 @@ def between(taken, rest):
             at += 1
 
 
-def sizes(data):
+def sizes(dex):
     """Each class's name, and the bytes of each kind that a class, several of them, none or the file itself has.
 
     Each byte is counted once: as the program's, if it has it, and as the first item's. So all of them are the file's
     length.
     """
-    dex = Dex(data)
     is_programs = lambda claim: claim[0][2] not in (DEBUG, UNUSED)
     program = list(disjoint(filter(is_programs, dex.claims.items())))
     rest = list(disjoint(claim for claim in dex.claims.items() if not is_programs(claim)))
     taken = {owner: [0] * len(KINDS) for owner in (*range(len(dex.names)), SEVERAL, NOBODY, FILE)}
     for begin, end, kind, owner in (*program, *between(program, rest)):
         taken[owner][kind] += end - begin
-    taken[FILE][UNUSED] += len(data) - sum(map(sum, taken.values()))
+    taken[FILE][UNUSED] += len(dex.data) - sum(map(sum, taken.values()))
     return dex.names, taken
+
+
+def code_sizes(dex):
+    """Of each class, by its row, how many bytes the code item of each of its methods takes that has one, in their
+    order.
+    """
+    rows = range(dex.count["class"])
+    return [[dex.item(Code, at).end - at for at, _ in dex.codes_of(row, None)] for row in rows]

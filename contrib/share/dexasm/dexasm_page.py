@@ -9,6 +9,7 @@ WIDTH, HEIGHT = 1200, 720
 DEEPEST = 8  # levels of packages: what lies deeper is drawn in the deepest one, by its whole name
 LEAST = 24  # pixels of a rectangle that is drawn
 EDGE = ' stroke="#fff"'
+LONGEST = 120  # characters of a name in the picture
 HEAD = 15  # pixels of a package's name
 KINDS = {
     "code": ("#8ab6e0", "code"),
@@ -54,6 +55,11 @@ for (const head of document.querySelectorAll('th')) {
 
 def text(name):
     return html.escape(escaped(name))
+
+
+def short(name):
+    """A name where it isn't a table's: what is long is cut."""
+    return text(name if len(name) <= LONGEST else f"{name[:LONGEST]}... ({len(name):,} characters)")
 
 
 class Node:
@@ -137,10 +143,16 @@ def label(name, x, y, width):
     )
 
 
+def led(node, lead, *parts):
+    """What is drawn of a node, as a link where it leads to a page. (By keyboard the tables lead there.)"""
+    to = lead and lead(node)
+    return "".join([f'<a href="{to}" tabindex="-1">', *parts, "</a>"] if to else parts)
+
+
 def drawn_class(node, x, y, width, height):
     """A class: a slice for each kind."""
     said = ", ".join(f"{kind} {number:,}" for kind, number in zip(KINDS, node.kinds) if number)
-    yield f"<g><title>{text(node.full)}: {node.total:,} bytes ({said})</title>"
+    yield f"<g><title>{short(node.full)}: {node.total:,} bytes ({said})</title>"
     at = 0
     for (color, _), number in zip(KINDS.values(), node.kinds):
         share = number / node.total
@@ -155,20 +167,21 @@ def drawn_class(node, x, y, width, height):
     yield "</g>"
 
 
-def drawn(node, x, y, width, height):
+def drawn(node, x, y, width, height, lead=None):
+    """A node and those in it. `lead` tells the page of a node, if there is one."""
     if width * height < LEAST:
         return
     if node.kinds is not None:
-        yield from drawn_class(node, x, y, width, height)
+        yield led(node, lead, *drawn_class(node, x, y, width, height))
         return
     has_head = bool(node.name) and height > 3 * HEAD and width > 40
     if node.name:
-        title = f"<title>{text(node.name)}: {node.total:,} bytes</title>"
+        title = f"<title>{short(node.name)}: {node.total:,} bytes</title>"
         head = label(node.name, x, y, width) if has_head else ""
-        yield f"<g>{title}{rect(x, y, width, height, '#dddddd', EDGE)}{head}</g>"
+        yield led(node, lead, f"<g>{title}{rect(x, y, width, height, '#dddddd', EDGE)}{head}</g>")
     head, edge = (HEAD, 2) if has_head else (0, 0)
     for inner, place in squares(node.rows(), x + edge, y + head, width - 2 * edge, height - head - edge):
-        yield from drawn(inner, *place)
+        yield from drawn(inner, *place, lead)
 
 
 def table(title, columns, rows):
