@@ -21,6 +21,7 @@ _dexasm_helper() {
     dexasm-apk) first='check list strip' options='--help --close' ;;
     dexasm-browse) first='' options='--help --output --graphs' ;;
     dexasm-close) first='' options='--help --output --check' ;;
+    dexasm-corpus) first='add refused same classes callers strings libraries merge sum' options='--help --processes --seconds --memory --again --strict --scheduler --send --json --csv --pattern --classes --known' ;;
     dexasm-diff) first='' options='--help --names --color --textconv' ;;
     dexasm-explain) first='' options='--help --json' ;;
     dexasm-graph) first='' options='--help --format --calls --from --depth' ;;
@@ -44,4 +45,4 @@ _dexasm_helper() {
   fi
 }
 complete -o filenames -F _dexasm dexasm
-complete -o filenames -F _dexasm_helper dexasm-apk dexasm-browse dexasm-close dexasm-diff dexasm-explain dexasm-graph dexasm-lint dexasm-query dexasm-size dexasm-split
+complete -o filenames -F _dexasm_helper dexasm-apk dexasm-browse dexasm-close dexasm-corpus dexasm-diff dexasm-explain dexasm-graph dexasm-lint dexasm-query dexasm-size dexasm-split

@@ -19,6 +19,20 @@ complete -c dexasm-browse -l graphs -x -a 'all'
 complete -c dexasm-close -l help
 complete -c dexasm-close -l output -r -F
 complete -c dexasm-close -l check
+complete -c dexasm-corpus -n __fish_use_subcommand -a 'add refused same classes callers strings libraries merge sum'
+complete -c dexasm-corpus -l help
+complete -c dexasm-corpus -l processes
+complete -c dexasm-corpus -l seconds
+complete -c dexasm-corpus -l memory
+complete -c dexasm-corpus -l again
+complete -c dexasm-corpus -l strict
+complete -c dexasm-corpus -l scheduler
+complete -c dexasm-corpus -l send
+complete -c dexasm-corpus -l json
+complete -c dexasm-corpus -l csv
+complete -c dexasm-corpus -l pattern
+complete -c dexasm-corpus -l classes
+complete -c dexasm-corpus -l known
 complete -c dexasm-diff -l help
 complete -c dexasm-diff -l names
 complete -c dexasm-diff -l color -x -a 'auto always never'

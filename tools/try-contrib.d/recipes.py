@@ -371,6 +371,7 @@ def try_page():
         "Queries": 1,
         "What takes the space": 1,
         "Many files": 2,
+        "A corpus": 4,
     }
     found = {head: len(texts) for head, texts in blocks("docs/RECIPES.md").items() if texts}
     check("RECIPES: as many recipes as are tried", found == known, found)

@@ -1,0 +1,263 @@
+"""What dexasm-corpus add does: it walks, has the files looked at, here or by Dask, and writes what was found."""
+from __future__ import annotations
+
+import concurrent.futures
+import logging
+import os
+import secrets
+import stat
+import sys
+import threading
+import time
+from collections.abc import Callable, Iterator
+from typing import Any
+
+import dexasm_look
+from dexasm_contrib import FAILED, Failed, escaped, reason, say
+from dexasm_corpus import Corpus
+from dexasm_look import KEY, look_batch
+
+MANY, MUCH = 64, 16 << 20  # files and bytes of a batch
+MODULES = ("dexasm_contrib", "dexasm_archive", "dexasm_look")  # that a worker of Dask gets
+AGAIN = 10  # how often a batch is begun whose worker of Dask was killed
+Jobs = list[tuple[object, ...]]
+
+
+class Counts:
+    """What was found; on a terminal it is shown as it comes."""
+
+    def __init__(self) -> None:
+        self.files = self.bytes = self.new = self.refused = self.limits = self.unread = self.status = 0
+        self.all: int | None = None
+        self.begun, self.shown = time.monotonic(), 0.0
+        self.is_shown = sys.stderr is not None and sys.stderr.isatty()
+
+    @property
+    def bad(self) -> int:
+        return self.refused + self.limits + self.unread
+
+    def take(self, found: tuple[object, ...]) -> None:
+        if found[0] == "unread":
+            self.unread += 1
+            return
+        self.files += 1
+        self.bytes += found[4]
+        if found[0] == "file":
+            self.refused += found[5] == "refused"
+            self.limits += found[5] not in ("ok", "refused")
+
+    def show(self, jobs: int) -> None:
+        """One line, at most twice a second."""
+        now = time.monotonic()
+        if not self.is_shown or now - self.shown < 0.5:
+            return
+        self.shown, taken = now, now - self.begun
+        left = f", {taken / jobs * max(self.all - jobs, 0):.0f} s left" if self.all and jobs else ""
+        line = f"{self.files} files, {self.bytes / 1e6 / taken:.1f} MB/s, {self.refused} refused{left}"
+        sys.stderr.write(f"\r\x1b[K{line}")
+        sys.stderr.flush()
+
+    def end(self) -> None:
+        taken = time.monotonic() - self.begun
+        if self.is_shown:
+            sys.stderr.write("\r\x1b[K")
+        print(
+            f"{self.files} files, {self.new} new, {self.refused} refused, {self.limits} past a limit,"
+            f" {self.unread} not read: {self.bytes / 1e6:.1f} MB in {taken:.1f} s"
+        )
+
+
+# ---- paths
+
+
+def named(words: list[str]) -> Iterator[bytes]:
+    """The paths that were named; `-` for those on standard input, each with a NUL after it."""
+    for word in words:
+        if word != "-":
+            yield os.fsencode(word)
+            continue
+        rest = b""
+        while more := sys.stdin.buffer.read1(1 << 16):
+            *paths, rest = (rest + more).split(b"\0")
+            yield from filter(None, paths)
+        if rest:
+            yield rest
+
+
+def walked(path: bytes, wrong: Callable[[bytes, OSError], None]) -> Iterator[tuple[bytes, bool, int]]:
+    """The files of a path, each with whether it was named itself and its size; no link below it is followed."""
+    try:
+        seen = os.stat(path)
+    except OSError as error:
+        wrong(path, error)
+        return
+    if not stat.S_ISDIR(seen.st_mode):
+        yield path, True, seen.st_size
+        return
+    due = [path]
+    while due:
+        at = due.pop()
+        try:
+            with os.scandir(at) as found:
+                entries = sorted(found, key=lambda entry: entry.name)
+        except OSError as error:
+            wrong(at, error)
+            continue
+        due += [entry.path for entry in reversed(entries) if entry.is_dir(follow_symlinks=False)]
+        for entry in entries:
+            if entry.is_file(follow_symlinks=False):
+                yield entry.path, False, size_of(entry)
+
+
+def size_of(entry: os.DirEntry[bytes]) -> int:
+    try:
+        return entry.stat(follow_symlinks=False).st_size
+    except OSError:
+        return 0
+
+
+def batches(files: Iterator[tuple[bytes, bool, int]], prepare: Callable[..., tuple[object, ...]]) -> Iterator[Jobs]:
+    jobs: Jobs = []
+    much = 0
+    for path, is_named, size in files:
+        jobs.append(prepare(path, is_named))
+        much += size
+        if len(jobs) == MANY or much >= MUCH:
+            yield jobs
+            jobs, much = [], 0
+    if jobs:
+        yield jobs
+
+
+# ---- who looks
+
+
+class Here:
+    """Workers of this machine."""
+
+    def __init__(self, asked: Any, known: bytes) -> None:
+        self.most = 2 * asked.processes
+        self.settings = secrets.token_hex(8), asked.seconds, asked.memory, known
+        self.pool = concurrent.futures.ThreadPoolExecutor(asked.processes)
+
+    def prepare(self, path: bytes, is_named: bool) -> tuple[object, ...]:
+        return path, is_named
+
+    def submit(self, jobs: Jobs) -> Any:
+        return self.pool.submit(look_batch, jobs, *self.settings)
+
+    def wait(self, due: dict[Any, Jobs]) -> Iterator[tuple[Any, list[Any] | None]]:
+        """Those that are done, and what they found; at the latest after half a second."""
+        for one in concurrent.futures.wait(due, 0.5, concurrent.futures.FIRST_COMPLETED).done:
+            yield one, one.result()
+
+    def close(self) -> None:
+        dexasm_look.end_all()
+        self.pool.shutdown(wait=True, cancel_futures=True)
+
+
+class Dask:
+    """Workers of a scheduler of Dask."""
+
+    def __init__(self, asked: Any, known: bytes) -> None:
+        try:
+            import distributed
+            from distributed.diagnostics.plugin import UploadFile
+        except ImportError as error:
+            raise Failed(f"--scheduler needs the module distributed, of Dask: {escaped(str(error))}") from None
+        logging.getLogger("distributed").setLevel(logging.CRITICAL)  # (what goes wrong is one line of ours)
+        self.dask, self.is_sent, self.most_bytes = distributed, asked.send, asked.memory
+        try:
+            self.client = distributed.Client(asked.scheduler, timeout=30)
+            for module in MODULES:
+                path = os.path.join(os.path.dirname(os.path.realpath(dexasm_look.__file__)), f"{module}.py")
+                self.client.register_worker_plugin(UploadFile(path), name=module)
+            self.most = 3 * max(sum(self.client.nthreads().values()), 1)
+            held = self.client.scatter(known, broadcast=True, hash=False)
+        except (OSError, ValueError, TimeoutError, RuntimeError) as error:
+            raise Failed(f"{escaped(asked.scheduler)}: {escaped(str(error)) or type(error).__name__}") from None
+        self.settings = secrets.token_hex(8), asked.seconds, asked.memory, held
+        self.killed: dict[Any, int] = {}
+
+    def prepare(self, path: bytes, is_named: bool) -> tuple[object, ...]:
+        if not self.is_sent:
+            return path, is_named
+        try:
+            at = os.open(path, os.O_RDONLY | os.O_NONBLOCK | os.O_NOCTTY)
+            with os.fdopen(at, "rb") as file:
+                if stat.S_ISREG(os.fstat(at).st_mode) and os.fstat(at).st_size < self.most_bytes:
+                    return path, is_named, file.read()
+        except OSError:
+            pass
+        return path, is_named  # (the worker tells what is wrong with it)
+
+    def submit(self, jobs: Jobs) -> Any:
+        return self.client.submit(look_batch, jobs, *self.settings, pure=False)
+
+    def wait(self, due: dict[Any, Jobs]) -> Iterator[tuple[Any, list[Any] | None]]:
+        try:
+            done = self.dask.wait([*due], timeout=0.5, return_when="FIRST_COMPLETED").done
+        except (TimeoutError, self.dask.TimeoutError):
+            return
+        for one in done:
+            try:
+                yield one, one.result()
+            except self.dask.scheduler.KilledWorker:
+                yield one, None
+
+    def close(self) -> None:
+        self.client.close(timeout=5)
+
+
+# ---- the whole
+
+
+def add(corpus: Corpus, asked: Any) -> Counts:
+    """Has all files looked at, and writes what was found in the order in which it comes."""
+    counts = Counts()
+
+    def wrong(path: bytes, error: OSError) -> None:
+        say(f"dexasm-corpus: {escaped(os.fsdecode(path))}: {reason(error)}")
+        counts.status = FAILED
+
+    files = (file for path in named(asked.paths) for file in walked(path, wrong))
+    if counts.is_shown and "-" not in asked.paths:
+        threading.Thread(target=count, args=(counts, asked.paths), daemon=True).start()
+    where = (Dask if asked.scheduler else Here)(asked, corpus.known(KEY, asked.again))
+    try:
+        put_all(corpus, counts, batches(files, where.prepare), where)
+    except concurrent.futures.CancelledError:
+        raise Failed("the scheduler is gone: the same command goes on when there is one") from None
+    finally:
+        where.close()
+    counts.end()
+    return counts
+
+
+def count(counts: Counts, paths: list[str]) -> None:
+    counts.all = sum(1 for path in named(paths) for _ in walked(path, lambda *_: None))
+
+
+def put_all(corpus: Corpus, counts: Counts, work: Iterator[Jobs], where: Here | Dask) -> None:
+    due: dict[Any, Jobs] = {}
+    jobs, again = 0, 0
+    while True:
+        while len(due) < where.most and (batch := next(work, None)):
+            due[where.submit(batch)] = batch
+        if not due:
+            return
+        found = []
+        for one, results in where.wait(due):
+            batch = due.pop(one)
+            if results is None:
+                again += 1
+                if again > AGAIN:
+                    raise Failed("workers of Dask were killed too often")
+                due[where.submit(batch)] = batch
+                continue
+            jobs += len(batch)
+            found += results
+        counts.new += corpus.put_all(found)
+        for one in found:
+            counts.take(one)
+        counts.show(jobs)

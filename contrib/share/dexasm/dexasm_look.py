@@ -1,0 +1,380 @@
+"""Looks at .dex files, for dexasm-corpus: each in a worker, a process of its own with limits of memory and of time.
+
+A worker is this very file, run as a program: it takes jobs on standard input and answers on standard output, both by
+marshal. What it says of a file before it looks at it tells which file it was that a limit ended it at.
+"""
+from __future__ import annotations
+
+import hashlib
+import io
+import marshal
+import os
+import re
+import resource
+import signal
+import stat
+import subprocess
+import sys
+import threading
+import weakref
+from collections import Counter
+from collections.abc import Callable, Generator, Iterator
+
+from dexasm_archive import dex_files, opened, taken_out
+from dexasm_contrib import DEX, MEMORY, TOP, ZIP, Failed, escaped, reason
+
+CLOCK = 10  # a file may take so many times its processor seconds by the clock
+TRIES = 3  # how often a job is begun whose worker was killed by somebody
+KEY = 16  # bytes of a SHA-256 by which a worker knows the files that are in
+# Where the module dexasm is, in the repository and in a package; otherwise it is installed.
+PLACES = (("..", "bindings", "python"), ("lib", "python3", "dist-packages"))
+SAID = {
+    "time": "it takes longer than --seconds",
+    "memory": "it takes more than --memory",
+    "killed": "its worker was killed",
+}
+CALL = re.compile(r"^invoke-.* (\S+)$", re.M)
+TEXT = re.compile(r'^const-string\S* v\d+ "(.*)"$', re.M)
+ENDS = {-signal.SIGPROF: "time", -signal.SIGALRM: "time", MEMORY: "memory"}
+
+
+def add_places(ways: list[str]) -> None:
+    """Adds the folder that has the module dexasm, where it came with the helpers."""
+    found = [os.path.realpath(os.path.join(TOP, *place)) for place in PLACES]
+    ways += [way for way in found if os.path.isdir(f"{way}/dexasm")]
+
+
+# ---- in the worker
+
+
+class Teller:
+    """Writes what a worker found; time that this takes isn't the file's."""
+
+    def __init__(self, seconds: float) -> None:
+        self.out, self.seconds = os.fdopen(os.dup(1), "wb"), seconds
+        os.dup2(2, 1)
+
+    def begin(self, seconds: float | None = None) -> None:
+        seconds = self.seconds if seconds is None else seconds
+        signal.setitimer(signal.ITIMER_PROF, seconds)
+        signal.setitimer(signal.ITIMER_REAL, CLOCK * seconds)
+
+    def tell(self, *found: object) -> None:
+        self.begin(0)
+        marshal.dump(found, self.out)
+        self.out.flush()
+        self.begin()
+
+
+class Job:
+    """A path, which is a .dex file or an archive: whether it was named itself, its bytes if they were sent, the entries
+    that aren't looked at again.
+    """
+
+    def __init__(self, path: bytes, is_named: bool, given: bytes | None, skipped: tuple[str, ...]) -> None:
+        self.path, self.is_named, self.given, self.skipped = path, is_named, given, skipped
+
+    def open(self) -> io.BufferedReader | io.BytesIO:
+        if self.given is not None:
+            return io.BytesIO(self.given)
+        at = os.open(self.path, os.O_RDONLY | os.O_NONBLOCK | os.O_NOCTTY)
+        if not stat.S_ISREG(os.fstat(at).st_mode):
+            os.close(at)
+            raise Failed("no file")
+        return os.fdopen(at, "rb")
+
+    def look(self, tell: Callable[..., None], is_known: Callable[[bytes], bool]) -> None:
+        with self.open() as file:
+            first = file.read(len(DEX))
+            file.seek(0)
+            if first.startswith(ZIP):
+                with opened("", file) as archive:
+                    self.look_into(archive, tell, is_known)
+            elif first == DEX or self.is_named or self.path.endswith(b".dex"):
+                look_at("", file.read, tell, is_known)
+
+    def look_into(self, archive, tell: Callable[..., None], is_known: Callable[[bytes], bool]) -> None:
+        for name, entries in dex_files(archive):
+            if name in self.skipped:
+                continue
+            try:
+                look_at(name, lambda: taken_out(archive, entries), tell, is_known)
+            except Failed as failed:
+                tell("unread", name, "failed", failed.line)
+
+
+def look_at(
+    entry: str, read: Callable[[], bytes], tell: Callable[..., None], is_known: Callable[[bytes], bool]
+) -> None:
+    """Tells of one .dex file: that it is in, or first which it is, then what was found."""
+    tell("begun", entry)
+    given = read()
+    sha = hashlib.sha256(given).digest()
+    if is_known(sha):
+        tell("seen", entry, sha, len(given))
+        return
+    tell("file", entry, sha, len(given))
+    tell("done", *answer(given))
+
+
+def answer(given: bytes) -> tuple[object, ...]:
+    """Status, fault, its name and place, and the program of a file."""
+    import dexasm
+
+    try:
+        return "ok", None, None, None, program(given)
+    except dexasm.Refused as refused:
+        return "refused", refused.number, refused.name, refused.place, None
+
+
+def program(given: bytes) -> tuple[bytes, int, list[tuple[object, ...]]]:
+    """SHA-256 and size of the stripped bytes, and the classes."""
+    import dexasm
+
+    stripped = dexasm.strip(given)
+    sha, size = hashlib.sha256(stripped).digest(), len(stripped)
+    del stripped
+    return sha, size, [facts(text) for text in dexasm.Program.read(given).classes.texts()]
+
+
+def facts(text: str) -> tuple[object, ...]:
+    """A class: the SHA-256 of its text, name, superclass, flags, and by marshal its members, calls and strings. Names
+    and strings are as the listing spells them.
+    """
+    from dexasm.members import Class
+    from dexasm.names import quoted, spelled
+
+    one = Class.of_text(text)
+    name = spelled(one.name)
+    members, calls, strings = [], Counter(), Counter()
+    for kind, fields in (("static", one.statics), ("instance", one.instances)):
+        for field in fields:
+            ref = f"{name}->{spelled(field.name)}:{spelled(field.type)}"
+            members.append((kind, ref, field.flags))
+            for value in field.value.all() if field.value else ():
+                if value.kind == "string":
+                    strings[ref, quoted(value.value)[1:-1]] += 1
+    for kind, methods in (("direct", one.directs), ("virtual", one.virtuals)):
+        for method in methods:
+            ref = f"{name}->{spelled(method.name)}{spelled(method.proto)}"
+            members.append((kind, ref, method.flags))
+            if method.code:
+                code = str(method.code)
+                calls.update((ref, called) for called in CALL.findall(code))
+                strings.update((ref, said) for said in TEXT.findall(code))
+    rows = members, [(*key, count) for key, count in calls.items()], [(*key, count) for key, count in strings.items()]
+    sha = hashlib.sha256(text.encode("ascii")).digest()
+    return sha, name, one.superclass and spelled(one.superclass), one.flags, marshal.dumps(rows)
+
+
+def is_in(known: bytes, sha: bytes) -> bool:
+    """Whether the sorted keys have this one."""
+    low, high, key = 0, len(known) // KEY, sha[:KEY]
+    while low < high:
+        middle = (low + high) // 2
+        found = known[KEY * middle : KEY * middle + KEY]
+        if found == key:
+            return True
+        low, high = (middle + 1, high) if found < key else (low, middle)
+    return False
+
+
+def work(seconds: float, memory: int) -> None:
+    """The worker: begins with the keys of the files that are in, ends with its input or when memory ran out."""
+    teller, jobs = Teller(seconds), sys.stdin.buffer
+    known = marshal.load(jobs)
+    try:
+        import dexasm
+
+        teller.tell("ready", dexasm.version())
+    except (ImportError, OSError, AttributeError) as error:
+        teller.tell("not ready", str(error))
+        return
+    resource.setrlimit(resource.RLIMIT_AS, (memory, memory))
+    resource.setrlimit(resource.RLIMIT_CORE, (0, 0))
+    while True:
+        teller.begin(0)
+        try:
+            job = Job(*marshal.load(jobs))
+        except EOFError:
+            return
+        teller.begin()
+        try:
+            job.look(teller.tell, lambda sha: is_in(known, sha))
+        except Failed as failed:
+            teller.tell("unread", "", "failed", failed.line.removeprefix(": "))
+        except OSError as error:
+            teller.tell("unread", "", "failed", reason(error))
+        except MemoryError:
+            os._exit(MEMORY)
+        teller.tell("end")
+
+
+# ---- who has workers
+
+
+everybody: weakref.WeakSet[Looker] = weakref.WeakSet()
+
+
+class Looker:
+    """Has a worker, and another one when that has ended."""
+
+    def __init__(self, seconds: float, memory: int, known: bytes) -> None:
+        self.words, self.known = [str(seconds), str(memory)], known
+        self.worker: subprocess.Popen[bytes] | None = None
+        self.jobs = 0  # that this worker was given
+
+        everybody.add(self)
+
+    def start(self) -> None:
+        for _ in range(TRIES):
+            self.spawn()
+            self.send(self.known)
+            ready, said = self.said() or ("killed", f"it ended with status {self.ended()}")
+            if ready == "ready":
+                return
+            self.stop()
+            if ready == "not ready":
+                break
+        raise Failed(f"a worker doesn't start: {escaped(said)}")
+
+    def spawn(self) -> None:
+        if ending.is_set():
+            raise Failed("no worker is begun any more")
+        ways: list[str] = []
+        add_places(ways)
+        ways.append(os.environ.get("PYTHONPATH", ""))
+        self.jobs = 0
+        self.worker = subprocess.Popen(
+            [sys.executable, "-B", os.path.realpath(__file__), *self.words],
+            stdin=subprocess.PIPE,
+            stdout=subprocess.PIPE,
+            stderr=subprocess.DEVNULL,
+            start_new_session=True,
+            env={**os.environ, "PYTHONPATH": os.pathsep.join(filter(None, ways))},
+        )
+
+    def send(self, given: object) -> None:
+        try:
+            marshal.dump(given, self.worker.stdin)
+            self.worker.stdin.flush()
+        except OSError:
+            pass  # (it has ended, which reading will tell)
+
+    def stop(self) -> int:
+        """Ends the worker and what it started, and answers its status."""
+        worker, self.worker = self.worker, None
+        if worker is None:
+            return 0
+        for pipe in (worker.stdin, worker.stdout):
+            try:
+                pipe.close()
+            except OSError:
+                pass
+        try:
+            os.killpg(worker.pid, signal.SIGKILL)
+        except ProcessLookupError:
+            pass
+        return worker.wait()
+
+    def said(self) -> tuple[object, ...] | None:
+        """What the worker says next, or None where it has ended."""
+        try:
+            return marshal.load(self.worker.stdout)
+        except (EOFError, ValueError, TypeError):
+            return None
+
+    def look(self, path: bytes, is_named: bool, given: bytes | None = None) -> Iterator[tuple[object, ...]]:
+        """What is found of a path: `seen`, `file` or `unread`, each with the path and the entry after it.
+
+        A file at which the worker ended by a limit is told as such, and what comes after it in an archive goes on.
+        """
+        skipped: list[str] = []
+        killed = 0
+        while True:
+            if self.worker is None:
+                self.start()
+            self.jobs += 1
+            self.send((path, is_named, given, tuple(skipped)))
+            entry, begun = yield from self.hear(path, skipped)
+            if begun == "end":
+                return
+            status, killed = ENDS.get(self.ended()), killed + 1
+            # (what a worker held of files before counts as its memory, so that is tried in a new one)
+            if status is None and killed < TRIES or status == "memory" and self.jobs > 1:
+                continue
+            killed = 0
+            yield cut(path, entry or "", begun, status or "killed")
+            if not entry:
+                return
+            skipped.append(entry)
+
+    def hear(self, path: bytes, skipped: list[str]) -> Generator[tuple[object, ...], None, tuple[object, object]]:
+        """What the worker tells of a job, and then, where it ended, of which entry and which file; `end` otherwise."""
+        entry, begun = None, None
+        while (said := self.said()) is not None:
+            if said[0] == "end":
+                return None, "end"
+            if said[0] in ("begun", "file"):
+                entry, begun = said[1], said[1:] if said[0] == "file" else None
+                continue
+            yield ("file", path, *begun, *said[1:]) if said[0] == "done" else (said[0], path, *said[1:])
+            skipped.append(begun[0] if said[0] == "done" else said[1])
+            entry, begun = None, None
+        return entry, begun
+
+    def ended(self) -> int:
+        """The status of a worker that said no more."""
+        try:
+            self.worker.wait(1)
+        except subprocess.TimeoutExpired:
+            pass
+        return self.stop()
+
+
+def cut(path: bytes, entry: str, begun: tuple[object, ...] | None, status: str) -> tuple[object, ...]:
+    """What is told where a worker ended."""
+    if begun is None:
+        return "unread", path, entry, status, SAID[status]
+    return "file", path, *begun, status, None, None, None, None
+
+
+# ---- where a scheduler has the workers
+
+idle: dict[tuple[object, ...], list[Looker]] = {}
+ending = threading.Event()
+
+
+def look_batch(
+    jobs: list[tuple[object, ...]], run: str, seconds: float, memory: int, known: bytes
+) -> list[tuple[object, ...]]:
+    """What is found of several paths; its worker stays for the next ones of this run."""
+    for old in [key for key in idle if key[0] != run]:
+        for looker in idle.pop(old, []):
+            looker.stop()
+    mine = idle.setdefault((run, seconds, memory), [])
+    looker = mine.pop() if mine else Looker(seconds, memory, known)
+    try:
+        found = [one for job in jobs for one in looker.look(*job)]
+    except BaseException:
+        looker.stop()
+        raise
+    mine.append(looker)
+    return found
+
+
+def end_all() -> None:
+    """Ends the workers of this process, whatever they do; those who have them begin no other ones."""
+    ending.set()
+    for looker in [*everybody]:
+        worker = looker.worker
+        if worker is not None and worker.poll() is None:
+            try:
+                os.killpg(worker.pid, signal.SIGKILL)
+            except ProcessLookupError:
+                pass
+            worker.wait()
+
+
+if __name__ == "__main__":
+    work(float(sys.argv[1]), int(sys.argv[2]))
