@@ -1,22 +1,19 @@
-"""dexasm-corpus: what strangers' files do to it first, then its answers, and that nothing is lost or doubled."""
+"""dexasm-corpus: what strangers' files do to it first, then its answers, and that nothing is lost or doubled; how its
+runs end is in corpus_runs.py."""
 import csv
+import functools
 import hashlib
 import io
 import json
 import os
-import random
 import re
-import shutil
-import signal
 import sqlite3
-import subprocess
 import sys
-import time
 
 from apk import archive
 from recipes import TEXT, blocks
-from trying import ESC, HEAD, LISTING, NAMES, TOOLS, TOP, Tries, assembled, check, dexasm, get, is_one_line, put, room
-from trying import run, shell, tool
+from trying import ESC, HEAD, LISTING, NAMES, TOP, Tries, assembled, check, dexasm, get, is_one_line, put, room, shell
+from trying import tool
 
 sys.path.insert(0, os.path.join(TOP, "bench", "hostile"))
 import shapes
@@ -148,11 +145,12 @@ def try_strangers():
     added("strictly, anew", at, "--strict", "new.db", "d/empty.dex", want=1)
 
 
-def slow():
-    """A file of many classes, which takes seconds."""
+@functools.cache
+def slow(classes=30000):
+    """A file of so many classes, which takes a second for each 15,000."""
     one = b"class LA%d; 0x1\ndirect m ()V 0x9\ncode 0 0 0\ninvoke-static { } LA;->m()V\nreturn-void\n"
     one += b"end code\nend class\n"
-    return assembled(HEAD + b"".join(one % number for number in range(30000)))
+    return assembled(HEAD + b"".join(one % number for number in range(classes)))
 
 
 def write_shape(made, at, name):
@@ -180,7 +178,8 @@ def try_limits():
     at, file = room("corpus limits"), assembled(LISTING)
     put(at, "slow.apk", archive(("classes.dex", slow()), ("classes2.dex", file)))
     write_shape(shapes.calls(40000), at, "huge.dex")
-    added("past limits", at, "--seconds", "1", "--memory", "400M", "c.db", "slow.apk", "huge.dex")
+    added("past the limit of time", at, "--seconds", "1", "c.db", "slow.apk")
+    added("past the limit of memory", at, "--memory", "400M", "c.db", "huge.dex")
     found = dict(rows(at, "select path || entry, status from path join file on id = file"))
     want = {"slow.apkclasses.dex": "time", "slow.apkclasses2.dex": "ok", "huge.dex": "memory"}
     check("dexasm-corpus, limits", found == want, found)
@@ -299,59 +298,6 @@ def try_order():
     )
 
 
-def workers():
-    """The workers of this test, by what their command line says."""
-    found = []
-    for one in filter(str.isdigit, os.listdir("/proc")):
-        try:
-            words = get("/proc", one, "cmdline").split(b"\0")
-            environment = get("/proc", one, "environ")
-        except OSError:
-            continue
-        if any(word.endswith(b"dexasm_look.py") for word in words) and os.fsencode(Tries.folder) in environment:
-            found.append(int(one))
-    return found
-
-
-def try_killed():
-    """Workers and the writer are killed at random moments; the same command goes on."""
-    at, random_ = room("corpus killed"), random.Random(3)
-    for number in range(120):
-        put(at, f"d/{number}.dex", assembled(HEAD + LIBRARY % number + APP * (number % 2)))
-    added("all at once", at, "whole.db", "d")
-    want = sums(at, "whole.db")
-    words = [sys.executable, os.path.join(TOOLS, "dexasm-corpus"), "add", "--processes", "2", "c.db", "d"]
-    for who in ("writer", "worker") * 3:
-        running = subprocess.Popen(words, cwd=at, env=Tries.env, stdout=subprocess.DEVNULL, stderr=subprocess.PIPE)
-        time.sleep(random_.uniform(0.1, 0.6))
-        due = [running.pid] if who == "writer" else workers()
-        for one in due[:1]:
-            try:
-                os.kill(one, signal.SIGKILL)
-            except ProcessLookupError:
-                pass
-        said = running.communicate(timeout=60)[1]
-        check(
-            f"dexasm-corpus, its {who} is killed",
-            running.returncode in (0, -signal.SIGKILL) and said == b"",
-            (running.returncode, said),
-        )
-    added("what was left", at, "c.db", "d")
-    check("dexasm-corpus, killed, and gone on", sums(at) == want, (sums(at), want))
-    check("dexasm-corpus, no worker stays", not [one for one in workers() if is_alive(one)])
-
-
-def is_alive(process):
-    for _ in range(50):
-        try:
-            if get("/proc", str(process), "stat").rpartition(b")")[2].split()[0] == b"Z":
-                return False
-        except OSError:
-            return False
-        time.sleep(0.1)
-    return True
-
-
 def try_libraries():
     """Classes of a known library that stayed the same, that changed, and that aren't there."""
     at = room("corpus libraries")
@@ -372,8 +318,8 @@ def try_libraries():
     check("dexasm-corpus, libraries", found == want, found)
     found = asked(at, "libraries", "--classes", "--known", "known.db", "c.db")
     found = [(row["path"], row["class"], row["state"]) for row in found]
-    want = [("one", "Ll/A;", "changed"), ("one", "Ll/B;", "same"), ("two", "Lk/A;", "same"), ("two", "Lk/B;", "missing")]
-    want += [("two", "Ll/A;", "same"), ("two", "Ll/B;", "same")]
+    want = [("one", "Ll/A;", "changed"), ("one", "Ll/B;", "same"), ("two", "Lk/A;", "same")]
+    want += [("two", "Lk/B;", "missing"), ("two", "Ll/A;", "same"), ("two", "Ll/B;", "same")]
     check("dexasm-corpus, libraries by class", found == [(f"apps/{one}.dex", *rest) for one, *rest in want], found)
 
 
@@ -383,12 +329,14 @@ def try_wrong():
     put(at, "a.dex", assembled(LISTING))
     put(at, "text.db", b"no database, but long enough to be looked at as if it were one " * 40)
     newer = "pragma application_id = 1685611361; pragma user_version = 99; create table t(x)"
-    for file, words in (("other.db", "create table t(x)"), ("newer.db", newer)):
+    empty = "pragma application_id = 7"
+    for file, words in (("other.db", "create table t(x)"), ("newer.db", newer), ("empty.db", empty)):
         db = sqlite3.connect(os.path.join(at, file))
         db.executescript(words)
         db.close()
     for file, says in (
         ("other.db", "other.db: no database of dexasm-corpus"),
+        ("empty.db", "empty.db: no database of dexasm-corpus"),
         ("newer.db", "newer.db: its version is 99"),
         ("text.db", "text.db: file is not a database"),
     ):
@@ -424,6 +372,7 @@ def try_wrong():
         ("add", "c.db"),
         ("add", "--memory", "x", "c.db", "a.dex"),
         ("add", "--send", "c.db", "a.dex"),
+        ("add", "--scheduler", "", "c.db", "a.dex"),
         ("what", "c.db"),
         ("same",),
     ):
@@ -477,79 +426,14 @@ def try_recipes():
     )
 
 
-def dask():
-    """The Python that has Dask, or None."""
-    for python in (sys.executable, "/usr/bin/python3"):
-        if shutil.which(python) and run([python, "-c", "import distributed"])[0] == 0:
-            return python
-    return None
-
-
-def try_dask():
-    """Scheduler and two workers of Dask: the same content, with the folder and without."""
-    python = dask()
-    if python is None:
-        return
-    at = room("corpus dask")
-    programs(at)
-    strange(at)
-    added("here", at, "--memory", "300M", "here.db", "f", "d")
-    want = sums(at, "here.db")
-    begun, env = [], {**Tries.env, "PYTHONPATH": os.path.join(TOP, "bindings", "python")}
-    quiet = {"stdout": subprocess.DEVNULL, "stderr": subprocess.DEVNULL, "start_new_session": True}
-    begin = lambda *words: begun.append(subprocess.Popen([python, "-m", *words], cwd=at, env=env, **quiet))
-    try:
-        begin(
-            "distributed.cli.dask_scheduler",
-            "--host",
-            "127.0.0.1",
-            "--port",
-            "0",
-            "--no-dashboard",
-            "--scheduler-file",
-            "address.json",
-        )
-        for _ in range(2):
-            begin(
-                "distributed.cli.dask_worker",
-                "--scheduler-file",
-                "address.json",
-                "--nthreads",
-                "1",
-                "--no-dashboard",
-                "--local-directory",
-                "w",
-            )
-        for _ in range(300):
-            if os.path.exists(os.path.join(at, "address.json")) and get(at, "address.json").endswith(b"}"):
-                break
-            time.sleep(0.1)
-        address = json.loads(get(at, "address.json"))["address"]
-        for words in ((), ("--send",)):
-            file = f"dask{len(words)}.db"
-            words = [*("add", "--memory", "300M", "--scheduler", address), *words, file, "f", "d"]
-            seen = run([python, os.path.join(TOOLS, "dexasm-corpus"), *words], at=at)
-            check(
-                f"dexasm-corpus, by Dask {words}",
-                seen[0] == 0 and sums(at, file) == want,
-                (seen, sums(at, file), want),
-            )
-    finally:
-        for one in begun:
-            os.killpg(one.pid, signal.SIGKILL)
-            one.wait()
-
-
 TRIES = (
     try_strangers,
     try_shapes,
     try_limits,
     try_answers,
     try_order,
-    try_killed,
     try_libraries,
     try_wrong,
     try_page,
     try_recipes,
-    try_dask,
 )

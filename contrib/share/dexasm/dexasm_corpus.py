@@ -5,15 +5,19 @@ same content in whatever order they come.
 """
 from __future__ import annotations
 
+import contextlib
 import hashlib
 import marshal
 import os
 import sqlite3
-from collections.abc import Iterator
+import time
+from collections.abc import Callable, Iterator
+from typing import TypeVar
 
 from dexasm_contrib import Failed, escaped
 
 APPLICATION, VERSION = 0x64786361, 1  # ("dxca")
+Answer = TypeVar("Answer")
 BUSY = 600  # seconds for which another writer is waited for
 NAMES = 500_000  # that are kept in memory with their numbers
 SCHEMA = """
@@ -108,18 +112,20 @@ def kept(path: bytes) -> str | bytes:
         return path
 
 
+def place(path: str) -> bytes:
+    """A path as SQLite takes it for that very file, also where it is called `:memory:` or `file:..`."""
+    return os.path.join(os.getcwdb(), os.fsencode(path))
+
+
 def connected(path: str, is_made: bool = False) -> sqlite3.Connection:
     """The database, which is made where it isn't there and may be."""
     name = escaped(path)
     if not is_made and not os.path.isfile(path):
         raise Failed(f"{name}: no such database")
     try:
-        db = sqlite3.connect(path, timeout=BUSY, isolation_level=None, check_same_thread=False)
+        db = sqlite3.connect(place(path), timeout=BUSY, isolation_level=None, check_same_thread=False)
         db.execute("pragma trusted_schema = off")
-        found = db.execute("pragma application_id").fetchone()[0], db.execute("pragma user_version").fetchone()[0]
-        if found == (0, 0) and is_made and not db.execute("select count(*) from sqlite_master").fetchone()[0]:
-            made(db)
-            found = APPLICATION, VERSION
+        found = patient(lambda: opened(db, is_made))
     except sqlite3.Error as error:
         raise Failed(f"{name}: {escaped(str(error))}") from None
     if found[0] != APPLICATION:
@@ -129,24 +135,64 @@ def connected(path: str, is_made: bool = False) -> sqlite3.Connection:
     return db
 
 
+def patient(call: Callable[[], Answer]) -> Answer:
+    """What the call answers, asked again while another command has the database: SQLite doesn't wait by itself while
+    the journal's mode changes, since two that wait for one another would wait for ever."""
+    until = time.monotonic() + BUSY
+    while True:
+        try:
+            return call()
+        except sqlite3.OperationalError as error:
+            if "locked" not in str(error) or time.monotonic() > until:
+                raise
+            time.sleep(0.02)
+
+
+def opened(db: sqlite3.Connection, is_made: bool) -> tuple[int, int]:
+    """Whose database it is, made where it is empty and may be."""
+    if is_made and whose(db) == (0, 0) and is_empty(db):
+        made(db)
+    return whose(db)
+
+
+def whose(db: sqlite3.Connection) -> tuple[int, int]:
+    """Whose database it is, and the version of its tables."""
+    return db.execute("pragma application_id").fetchone()[0], db.execute("pragma user_version").fetchone()[0]
+
+
+def is_empty(db: sqlite3.Connection) -> bool:
+    return not db.execute("select count(*) from sqlite_master").fetchone()[0]
+
+
 def made(db: sqlite3.Connection) -> None:
+    """Makes the tables, where no other command did meanwhile; otherwise nothing."""
     db.execute("pragma journal_mode = wal")
-    try:
-        db.execute("begin immediate")
-        if not db.execute("select count(*) from sqlite_master").fetchone()[0]:
+    with written(db):
+        if is_empty(db):
             for statement in SCHEMA.split(";")[:-1]:
                 db.execute(statement)
             db.execute(f"pragma application_id = {APPLICATION}")
             db.execute(f"pragma user_version = {VERSION}")
-    finally:
+
+
+@contextlib.contextmanager
+def written(db: sqlite3.Connection) -> Iterator[None]:
+    """One transaction, of which nothing stays where it doesn't end well."""
+    db.execute("begin immediate")
+    try:
+        yield
         db.execute("commit")
+    except BaseException:
+        if db.in_transaction:
+            db.execute("rollback")
+        raise
 
 
 class Corpus:
     """Writes what was found, a batch a transaction."""
 
     def __init__(self, path: str) -> None:
-        self.db = connected(path, is_made=True)
+        self.db, self.path = connected(path, is_made=True), path
         self.db.execute("pragma synchronous = normal")
         self.db.execute("pragma cache_size = -262144")
         self.numbers: dict[str, dict[str, int]] = {"name": {}, "string": {}}
@@ -159,14 +205,10 @@ class Corpus:
     def put_all(self, found: list[tuple[object, ...]]) -> int:
         """One transaction; answers how many files weren't in before."""
         put = {"file": self.put_file, "seen": self.put_seen, "unread": self.put_unread}
-        self.db.execute("begin immediate")
         try:
-            new = sum([put[kind](kept(path), entry, *rest) for kind, path, entry, *rest in found])
-            self.db.execute("commit")
-            return new
+            with written(self.db):
+                return sum([put[kind](kept(path), entry, *rest) for kind, path, entry, *rest in found])
         except BaseException:
-            if self.db.in_transaction:
-                self.db.execute("rollback")
             self.numbers = {"name": {}, "string": {}}
             raise
 
@@ -245,19 +287,16 @@ class Corpus:
         return found
 
     def merge(self, path: str) -> None:
-        """Takes another database in, in one transaction."""
+        """Takes another database in, in one transaction; itself it has."""
         connected(path).close()
-        self.db.execute("attach ? as other", (path,))
+        if os.path.samefile(path, self.path):
+            return
+        self.db.execute("attach ? as other", (place(path),))
         try:
-            self.db.execute("begin immediate")
-            for statement in (MERGE + DONE).split(";")[:-1]:
-                self.db.execute(statement)
-            self.merge_files()
-            self.db.execute("commit")
-        except BaseException:
-            if self.db.in_transaction:
-                self.db.execute("rollback")
-            raise
+            with written(self.db):
+                for statement in (MERGE + DONE).split(";")[:-1]:
+                    self.db.execute(statement)
+                self.merge_files()
         finally:
             self.db.execute("detach other")
 
@@ -265,7 +304,7 @@ class Corpus:
         """Files, of which one may have ended otherwise there, and paths: what is unread here may be read there."""
         rank = "case {}.status " + " ".join(f"when '{word}' then {at}" for at, word in enumerate(RANKS)) + " end"
         row = "size, status, fault, fault_name, place, program"
-        new = f"select f.sha256, f.size, status, fault, fault_name, place, m.id from other.file f"
+        new = "select f.sha256, f.size, status, fault, fault_name, place, m.id from other.file f"
         new += " left join other.program p on p.id = f.program left join main.program m on m.sha256 = p.sha256"
         self.db.execute(
             f"insert into main.file(sha256, {row}) {new} where true on conflict(sha256) do update set"

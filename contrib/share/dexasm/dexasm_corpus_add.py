@@ -2,6 +2,7 @@
 from __future__ import annotations
 
 import concurrent.futures
+import contextlib
 import logging
 import os
 import secrets
@@ -19,7 +20,9 @@ from dexasm_look import KEY, look_batch
 
 MANY, MUCH = 64, 16 << 20  # files and bytes of a batch
 MODULES = ("dexasm_contrib", "dexasm_archive", "dexasm_look")  # that a worker of Dask gets
-AGAIN = 10  # how often a batch is begun whose worker of Dask was killed
+GONE = "the scheduler is gone: the same command goes on when there is one"
+SOON, LATE = 30, 600  # seconds for which a scheduler and its workers are waited for, at first and when all were killed
+AGAIN = 10  # how often it goes on after workers of Dask were killed
 Jobs = list[tuple[object, ...]]
 
 
@@ -30,7 +33,7 @@ class Counts:
         self.files = self.bytes = self.new = self.refused = self.limits = self.unread = self.status = 0
         self.all: int | None = None
         self.begun, self.shown = time.monotonic(), 0.0
-        self.is_shown = sys.stderr is not None and sys.stderr.isatty()
+        self.is_shown = sys.stderr is not None and sys.stderr.isatty() and os.environ.get("TERM") != "dumb"
 
     @property
     def bad(self) -> int:
@@ -47,20 +50,27 @@ class Counts:
             self.limits += found[5] not in ("ok", "refused")
 
     def show(self, jobs: int) -> None:
-        """One line, at most twice a second."""
+        """One line, at most twice a second; of names nothing is in it."""
         now = time.monotonic()
         if not self.is_shown or now - self.shown < 0.5:
             return
         self.shown, taken = now, now - self.begun
         left = f", {taken / jobs * max(self.all - jobs, 0):.0f} s left" if self.all and jobs else ""
         line = f"{self.files} files, {self.bytes / 1e6 / taken:.1f} MB/s, {self.refused} refused{left}"
-        sys.stderr.write(f"\r\x1b[K{line}")
-        sys.stderr.flush()
+        self.draw(line)
+
+    def draw(self, line: str = "") -> None:
+        """What the line of the terminal has from now on; a terminal that went away is no trouble."""
+        if self.is_shown:
+            try:
+                columns = os.get_terminal_size(sys.stderr.fileno()).columns or 80
+                sys.stderr.write(f"\r\x1b[K{line[: columns - 1]}")
+                sys.stderr.flush()
+            except OSError:
+                self.is_shown = False
 
     def end(self) -> None:
         taken = time.monotonic() - self.begun
-        if self.is_shown:
-            sys.stderr.write("\r\x1b[K")
         print(
             f"{self.files} files, {self.new} new, {self.refused} refused, {self.limits} past a limit,"
             f" {self.unread} not read: {self.bytes / 1e6:.1f} MB in {taken:.1f} s"
@@ -76,6 +86,8 @@ def named(words: list[str]) -> Iterator[bytes]:
         if word != "-":
             yield os.fsencode(word)
             continue
+        if sys.stdin is None:
+            raise Failed("standard input: it is closed")
         rest = b""
         while more := sys.stdin.buffer.read1(1 << 16):
             *paths, rest = (rest + more).split(b"\0")
@@ -165,19 +177,31 @@ class Dask:
             from distributed.diagnostics.plugin import UploadFile
         except ImportError as error:
             raise Failed(f"--scheduler needs the module distributed, of Dask: {escaped(str(error))}") from None
-        logging.getLogger("distributed").setLevel(logging.CRITICAL)  # (what goes wrong is one line of ours)
+        logging.disable()  # (what goes wrong is one line of ours)
         self.dask, self.is_sent, self.most_bytes = distributed, asked.send, asked.memory
+        self.scheduler, self.plugin, self.known = asked.scheduler, UploadFile, known
+        self.settings = secrets.token_hex(8), asked.seconds, asked.memory
+        self.lost = 0  # how often workers were killed with what they had
+        with self.told():
+            self.client = distributed.Client(asked.scheduler, timeout=SOON)
+        self.equip(SOON)
+        self.most = 3 * max(sum(self.client.nthreads().values()), 1)
+
+    @contextlib.contextmanager
+    def told(self) -> Iterator[None]:
+        """What a scheduler answers that doesn't do what is asked is told in a line."""
         try:
-            self.client = distributed.Client(asked.scheduler, timeout=30)
+            yield
+        except (OSError, ValueError, TimeoutError, RuntimeError) as error:
+            raise Failed(f"{escaped(self.scheduler)}: {escaped(str(error)) or type(error).__name__}") from None
+
+    def equip(self, patience: int) -> None:
+        """Gives the workers, and those that come, our modules and the keys of the files that are in."""
+        with self.told():
             for module in MODULES:
                 path = os.path.join(os.path.dirname(os.path.realpath(dexasm_look.__file__)), f"{module}.py")
-                self.client.register_worker_plugin(UploadFile(path), name=module)
-            self.most = 3 * max(sum(self.client.nthreads().values()), 1)
-            held = self.client.scatter(known, broadcast=True, hash=False)
-        except (OSError, ValueError, TimeoutError, RuntimeError) as error:
-            raise Failed(f"{escaped(asked.scheduler)}: {escaped(str(error)) or type(error).__name__}") from None
-        self.settings = secrets.token_hex(8), asked.seconds, asked.memory, held
-        self.killed: dict[Any, int] = {}
+                self.client.register_worker_plugin(self.plugin(path), name=module)
+            self.held = self.client.scatter(self.known, broadcast=True, hash=False, timeout=patience)
 
     def prepare(self, path: bytes, is_named: bool) -> tuple[object, ...]:
         if not self.is_sent:
@@ -192,21 +216,44 @@ class Dask:
         return path, is_named  # (the worker tells what is wrong with it)
 
     def submit(self, jobs: Jobs) -> Any:
-        return self.client.submit(look_batch, jobs, *self.settings, pure=False)
+        try:
+            return self.client.submit(look_batch, jobs, *self.settings, self.held, pure=False)
+        except Exception:  # (a bare one, where the client has closed itself)
+            self.ask()
+            raise
+
+    def ask(self) -> None:
+        """Whether the scheduler is still there."""
+        if self.client.status != "running":
+            raise Failed(GONE)
 
     def wait(self, due: dict[Any, Jobs]) -> Iterator[tuple[Any, list[Any] | None]]:
-        try:
-            done = self.dask.wait([*due], timeout=0.5, return_when="FIRST_COMPLETED").done
-        except (TimeoutError, self.dask.TimeoutError):
-            return
-        for one in done:
+        with contextlib.suppress(TimeoutError, self.dask.TimeoutError, concurrent.futures.CancelledError):
+            self.dask.wait([*due], timeout=0.5, return_when="FIRST_COMPLETED")
+        self.ask()
+        is_lost = False
+        for one in [one for one in due if one.done()]:
             try:
                 yield one, one.result()
-            except self.dask.scheduler.KilledWorker:
+            except (self.dask.scheduler.KilledWorker, concurrent.futures.CancelledError):
+                self.ask()
+                if not is_lost:
+                    is_lost = True
+                    self.lose()
                 yield one, None
 
+    def lose(self) -> None:
+        """After workers were killed: where all that had the keys are gone, what needs these was cancelled."""
+        self.lost += 1
+        if self.lost > AGAIN:
+            raise Failed("workers of Dask were killed too often")
+        if self.held.status != "finished":
+            self.equip(LATE)
+
     def close(self) -> None:
-        self.client.close(timeout=5)
+        # (a scheduler that is gone doesn't answer: what led here is told, not that)
+        with contextlib.suppress(OSError, TimeoutError, self.dask.TimeoutError):
+            self.client.close(timeout=5)
 
 
 # ---- the whole
@@ -217,6 +264,7 @@ def add(corpus: Corpus, asked: Any) -> Counts:
     counts = Counts()
 
     def wrong(path: bytes, error: OSError) -> None:
+        counts.draw()
         say(f"dexasm-corpus: {escaped(os.fsdecode(path))}: {reason(error)}")
         counts.status = FAILED
 
@@ -226,9 +274,8 @@ def add(corpus: Corpus, asked: Any) -> Counts:
     where = (Dask if asked.scheduler else Here)(asked, corpus.known(KEY, asked.again))
     try:
         put_all(corpus, counts, batches(files, where.prepare), where)
-    except concurrent.futures.CancelledError:
-        raise Failed("the scheduler is gone: the same command goes on when there is one") from None
     finally:
+        counts.draw()
         where.close()
     counts.end()
     return counts
@@ -240,7 +287,7 @@ def count(counts: Counts, paths: list[str]) -> None:
 
 def put_all(corpus: Corpus, counts: Counts, work: Iterator[Jobs], where: Here | Dask) -> None:
     due: dict[Any, Jobs] = {}
-    jobs, again = 0, 0
+    jobs = 0
     while True:
         while len(due) < where.most and (batch := next(work, None)):
             due[where.submit(batch)] = batch
@@ -250,9 +297,6 @@ def put_all(corpus: Corpus, counts: Counts, work: Iterator[Jobs], where: Here | 
         for one, results in where.wait(due):
             batch = due.pop(one)
             if results is None:
-                again += 1
-                if again > AGAIN:
-                    raise Failed("workers of Dask were killed too often")
                 due[where.submit(batch)] = batch
                 continue
             jobs += len(batch)

@@ -6,7 +6,7 @@ import sys
 from collections.abc import Iterable
 from typing import Any
 
-from dexasm_corpus import connected
+from dexasm_corpus import connected, place
 from dexasm_look import add_places
 
 Answer = tuple[list[str], Iterable[tuple[Any, ...]]]
@@ -42,18 +42,21 @@ select s.text, n.text, places, path, entry from string s join use on string = s.
 join has on has.class = use.class join file f on f.program = has.program join path on path.file = f.id
 where s.text {} ? order by 1, 2, 4, 5
 """
-# (`cross join` keeps the order, from the smaller database on.) Of each known program and each class of it the programs that have this class, and those that have one of its name.
+# Of each known program and each class of it the programs that have this class, and those that have one of its name.
+# (`cross join` keeps the order, from the smaller database on.)
 KNOWN = """
 create temp table same(program integer, library integer, class integer, primary key(program, library, class))
   without rowid;
 create temp table named(program integer, library integer, class integer, primary key(program, library, class))
   without rowid;
-insert or ignore into same select h.program, k.program, k.class from known.has k cross join known.class kc on kc.id = k.class
-  cross join main.class c on c.sha256 = kc.sha256 cross join main.has h on h.class = c.id;
+insert or ignore into same select h.program, k.program, k.class from known.has k
+  cross join known.class kc on kc.id = k.class cross join main.class c on c.sha256 = kc.sha256
+  cross join main.has h on h.class = c.id;
 create temp table pair as select distinct program, library from same;
 create unique index temp.pairs on pair(library, program);
-insert or ignore into named select h.program, k.program, k.class from known.has k cross join known.class kc on kc.id = k.class
-  cross join known.name kn on kn.id = kc.name cross join main.name n on n.text = kn.text cross join main.class c on c.name = n.id
+insert or ignore into named select h.program, k.program, k.class from known.has k
+  cross join known.class kc on kc.id = k.class cross join known.name kn on kn.id = kc.name
+  cross join main.name n on n.text = kn.text cross join main.class c on c.name = n.id
   cross join main.has h on h.class = c.id cross join pair on pair.library = k.program and pair.program = h.program;
 create temp table placed as select program library, min(path) path, entry from known.file
   join known.path on known.path.file = known.file.id where program is not null group by program;
@@ -119,7 +122,7 @@ def strings(db: sqlite3.Connection, asked: Any) -> Answer:
 
 def libraries(db: sqlite3.Connection, asked: Any) -> Answer:
     connected(asked.known).close()
-    db.execute("attach ? as known", (asked.known,))
+    db.execute("attach ? as known", (place(asked.known),))
     for statement in KNOWN.split(";")[:-1]:
         db.execute(statement)
     heads = ["path", "entry", "library", "library_entry"]

@@ -2,10 +2,10 @@
 
 The rules are those of ART 14 (libdexfile, dex_file_verifier.cc) that a file can break which dexasm accepts, and still
 breaks when it is stripped. What that verifier asks of later versions alone, and only warns of in 035 (members of
-interfaces, constructors without code), is none of them. The classes are read from the listing that dexasm prints, by
-`program` alone."""
-import re
+interfaces, constructors without code), is none of them."""
 from typing import Iterator, NamedTuple, Optional
+
+from dexasm_contrib import module, program_of
 
 PUBLIC, PRIVATE, PROTECTED, STATIC, FINAL, SYNCHRONIZED = 0x1, 0x2, 0x4, 0x8, 0x10, 0x20
 VOLATILE, VARARGS, NATIVE, INTERFACE, ABSTRACT, STRICT, SYNTHETIC = 0x40, 0x80, 0x100, 0x200, 0x400, 0x800, 0x1000
@@ -96,25 +96,20 @@ class Broken(NamedTuple):
     by: str
 
 
-LINE = re.compile(r"^(class|static|instance|direct|virtual|code) (.*)$", re.M)
-
-
-def program(listing: str) -> Iterator[Class]:
-    """The classes of a listing as dexasm prints it: one word a slot, one space between two, names without a space."""
-    one = None
-    for found in LINE.finditer(listing):
-        kind, words = found[1], found[2].split(" ", 5)
-        if kind == "class":
-            if one:
-                yield one
-            one = Class(words[0], int(words[1], 16), [])
-        elif kind == "code":
-            one.members[-1] = one.members[-1]._replace(code=Code(*map(int, words)))
-        else:
-            value = words[4] if len(words) > 4 else None
-            one.members.append(Member(kind, words[0], words[1], int(words[2], 16), value, None))
-    if one:
-        yield one
+def program(path: Optional[str]) -> Iterator[Class]:
+    """The classes of a file or of a listing, with names and the first words of values as the listing spells them."""
+    spelled = module().names.spelled
+    for one in program_of(path).classes:
+        members = []
+        for kind, fields in (("static", one.statics), ("instance", one.instances)):
+            for field in fields:
+                value = None if field.value is None else str(field.value).partition(" ")[0]
+                members.append(Member(kind, spelled(field.name), spelled(field.type), field.flags, value, None))
+        for kind, methods in (("direct", one.directs), ("virtual", one.virtuals)):
+            for method in methods:
+                code = method.code and Code(method.code.registers, method.code.ins, method.code.outs)
+                members.append(Member(kind, spelled(method.name), spelled(method.proto), method.flags, None, code))
+        yield Class(spelled(one.name), one.flags, members)
 
 
 def broken(one: Class) -> Iterator[Broken]:
