@@ -148,7 +148,7 @@ def members(n):
 
 
 def collisions(n):
-    """n texts with one hash"""
+    """n texts that have one hash where hashes begin with the fixed seed"""
     low64, multiplier = (1 << 64) - 1, 0x9E3779B97F4A7C15
 
     def mixed(state, word):
@@ -161,6 +161,11 @@ def collisions(n):
         text = "".join(f"\\u{word >> shift & 0xFFFF:04x}" for word in words for shift in (0, 16, 32, 48))
         lines.append(f'{k}: const-string/jumbo v0 "{text}"')
     return listing_of_body(lines + [f"{n}: return-void"])
+
+
+def long_types(n):
+    """n calls of methods of n types of 1,100 units, which differ in the first few alone"""
+    return listing_of_body([f"{k}: invoke-static {{ }} L{k:07}{'a' * 1091};->m()V" for k in range(n)] + [f"{n}: return-void"])
 
 
 def nulls(n):
@@ -229,8 +234,8 @@ def chain(n):
 # ---- what `run` times: the shapes, each with N
 
 SHAPES = [
-    (payloads, 20000), (members, 32000), (calls, 32000), (handlers, 2000), (collisions, 10000), (prototypes, 500), (overlapping, 8000),
-    (shared_code, 2000), (overlapping_codes, 120),
+    (payloads, 20000), (members, 32000), (calls, 32000), (handlers, 2000), (collisions, 10000), (long_types, 1000), (prototypes, 500),
+    (overlapping, 8000), (shared_code, 2000), (overlapping_codes, 120),
     (nulls, 2000000), (nops, 500000), (deep, 500000), (braces, 500000), (blanks, 1000000), (comments, 500000), (tries, 32767),
     (targets, 32767), (interfaces, 32000), (labels, 40000), (chain, 30000),
 ]

@@ -31,6 +31,7 @@ WORDS = (
     ("list", "FILE", "--output", "new/"), ("--version",), ("-V", "check"), ("check", "FILE", "-V"),
 )  # fmt: skip
 HOSTILE = ("check", "--\x1b[31m\n\u202e\x07")
+COOKBOOK = "docs/COOKBOOK-JAVA.md"
 # A library of another version, or with a call too few; and one whose strip says that the answer is 2^40 bytes long, and
 # whose list is out of memory.
 VERSION_ELSE = """#include <stddef.h>
@@ -227,7 +228,7 @@ def programs() -> dict[str, str]:
     """The programs of the pages and of the class's comment, by the class's name."""
     with open(f"{JAVA}/src/dexasm/Dexasm.java", encoding="utf8") as file:
         comment = re.search(r"<pre>\{@code\n(.*?)^ \* \}</pre>", file.read(), re.S | re.M)[1]
-    texts = [text for page in ("bindings/java/README.md", "docs/COOKBOOK.md") for text in blocks(page, "java")]
+    texts = [text for page in ("bindings/java/README.md", COOKBOOK) for text in blocks(page, "java")]
     texts.append(re.sub(r"^ \* ?", "", comment, flags=re.M))
     return {re.search(r"public class (\w+)", text)[1]: text for text in texts}
 
@@ -240,7 +241,7 @@ def try_examples(java: Java, path: str) -> None:
         put(f"{folder}/{name}.java", text.encode())
     jars_of_dexasm.javac(folder, sorted(f"{folder}/{name}" for name in os.listdir(folder)), java.jar)
     os.symlink(java.jar, f"{folder}/dexasm.jar")
-    for text in blocks("docs/COOKBOOK.md", "shell-session"):
+    for text in blocks(COOKBOOK, "console"):
         for step in re.split(r"^\$ ", text, flags=re.M)[1:]:
             line, _, want = step.partition("\n")
             status, out, said = run("bash", "-c", line, cwd=folder, env=java.env)

@@ -1,4 +1,5 @@
 pub mod Adler32
+pub mod Begun
 pub mod Fault
 pub mod Fields
 pub mod Grammar

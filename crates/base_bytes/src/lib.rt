@@ -1,5 +1,5 @@
 //! Bytes, and what stands in them: faults, numbers at a place, LEB128 numbers, the checksum, and the words in which all crates say
-//! which bytes spell which value (`specs/Grammar.antt`).
+//! which bytes spell which value (`specs/Grammar.antt`); and the seed that hashes begin with.
 //!
 //! ```
 //! let mut out = Vec::new(alloc);
@@ -24,6 +24,9 @@ mod words;
 // The checksum.
 mod adler;
 
+// What hashes begin with.
+mod seed;
+
 // What holds of spellings.
 mod laws;
 
@@ -37,5 +40,6 @@ pub use laws::{
     sleb_is_prefix_unique, uleb_is_prefix_unique,
 };
 pub use leb128::{put_sleb, put_uleb, read_sleb, read_uleb};
+pub use seed::Seed;
 pub use width::widen;
 pub use words::push_words;

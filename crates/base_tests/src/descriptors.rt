@@ -1,7 +1,7 @@
 //! Descriptors: which texts are some, of which kind, and how long the one at the front is.
 
 use dex_base::{Fault, descriptor_length, is_array, is_class, is_descriptor};
-use dex_samples::{is_so, none_wrong};
+use dex_samples::{Case, all_hold};
 use std::alloc::Global;
 use std::test::Fail;
 
@@ -21,110 +21,96 @@ fn ints(alloc: Global, depth: usize) -> Result<Vec<u16>, Fault> {
     Ok(text)
 }
 
-// A text, whether it is a descriptor, whether it is one of a class, whether it is one of an array.
-type Told = (&'static str, bool, bool, bool);
-
-fn is_told_so(alloc: Global, case: &Told) -> Result<bool, Fault> {
-    let (text, any, class, array) = case;
-    let units = units(alloc, text)?;
-    Ok(is_descriptor(&units) == *any && is_class(&units) == *class && is_array(&units) == *array)
+#[derive(Clone, Copy)]
+enum Text {
+    Ascii(&'static str),
+    // so many `[`, and `I`
+    Ints(usize),
 }
 
-fn first_told_otherwise(alloc: Global, cases: &[Told]) -> Result<Option<&'static str>, Fault> {
-    for case in cases {
-        if !is_told_so(alloc, case)? {
-            return Ok(Some(case.0));
-        }
+// What is told of a text.
+#[derive(Clone, Copy)]
+enum Asked {
+    // whether it is a descriptor, whether it is one of a class, whether it is one of an array
+    Kinds(bool, bool, bool),
+    // the length of the descriptor at its front
+    Length(Option<usize>),
+}
+
+// A name for the case, the text, and what is told of it.
+struct Told(&'static str, Text, Asked);
+
+impl Case for Told {
+    fn name(&self) -> &'static str {
+        self.0
     }
-    Ok(None)
-}
 
-#[test]
-fn descriptors_of_classes_and_arrays_are_told(rt: HostRuntime) -> Result<(), Fail> {
-    static CASES: [Told; 26] = [
-        ("[V", false, false, false),
-        ("LA", false, false, false),
-        ("L", false, false, false),
-        ("L;", false, false, false),
-        ("LA//B;", false, false, false),
-        ("V", true, false, false),
-        ("I", true, false, false),
-        ("[[J", true, false, true),
-        ("[I", true, false, true),
-        ("LA;", true, true, false),
-        ("LA-B/C;", true, true, false),
-        ("Ljava/lang/Object;", true, true, false),
-        ("", false, false, false),
-        ("[", false, false, false),
-        ("VV", false, false, false),
-        ("II", false, false, false),
-        ("X", false, false, false),
-        ("L/A;", false, false, false),
-        ("LA/;", false, false, false),
-        ("LA;;", false, false, false),
-        ("LA;I", false, false, false),
-        ("L<init>;", false, false, false),
-        ("[[LA;", true, false, true),
-        ("Z", true, false, false),
-        ("D", true, false, false),
-        ("[LA;", true, false, true),
-    ];
-    none_wrong(first_told_otherwise(rt.alloc(), &CASES))
-}
-
-// Whether so many `[` before `I` are a descriptor, and one of an array.
-fn is_array_of_depth(alloc: Global, depth: usize) -> Result<bool, Fault> {
-    let text = ints(alloc, depth)?;
-    Ok(is_descriptor(&text) && is_array(&text))
-}
-
-// The same of neither.
-fn is_none_of_depth(alloc: Global, depth: usize) -> Result<bool, Fault> {
-    let text = ints(alloc, depth)?;
-    Ok(!is_descriptor(&text) && !is_array(&text))
-}
-
-#[test]
-fn an_array_has_255_dimensions(rt: HostRuntime) -> Result<(), Fail> {
-    is_so(is_array_of_depth(rt.alloc(), 255))
-}
-
-#[test]
-fn no_array_has_256_dimensions(rt: HostRuntime) -> Result<(), Fail> {
-    is_so(is_none_of_depth(rt.alloc(), 256))
-}
-
-fn is_measured_so(alloc: Global, text: &str, want: Option<usize>) -> Result<bool, Fault> {
-    let units = units(alloc, text)?;
-    Ok(descriptor_length(&units) == want)
-}
-
-fn first_measured_otherwise(
-    alloc: Global,
-    cases: &[(&'static str, Option<usize>)],
-) -> Result<Option<&'static str>, Fault> {
-    for (text, want) in cases {
-        if !is_measured_so(alloc, text, *want)? {
-            return Ok(Some(*text));
-        }
+    fn holds(&self, alloc: Global) -> Result<bool, Fault> {
+        let units = units_of(alloc, self.1)?;
+        Ok(is_told_so(&units, self.2))
     }
-    Ok(None)
 }
 
+fn units_of(alloc: Global, text: Text) -> Result<Vec<u16>, Fault> {
+    match text {
+        Text::Ascii(text) => units(alloc, text),
+        Text::Ints(depth) => ints(alloc, depth),
+    }
+}
+
+fn is_told_so(units: &[u16], asked: Asked) -> bool {
+    match asked {
+        Asked::Kinds(any, class, array) => {
+            is_descriptor(units) == any && is_class(units) == class && is_array(units) == array
+        }
+        Asked::Length(length) => descriptor_length(units) == length,
+    }
+}
+
+#[rattlefmt::skip]
 #[test]
-fn the_descriptor_at_the_front_is_measured(rt: HostRuntime) -> Result<(), Fail> {
-    static CASES: [(&str, Option<usize>); 11] = [
-        ("V", Some(1)),
-        ("VI", Some(1)),
-        ("I[J", Some(1)),
-        ("[J)V", Some(2)),
-        ("LA;LB;", Some(3)),
-        ("[[La/b/C;I", Some(9)),
-        (")V", None),
-        ("[V", None),
-        ("LA", None),
-        ("LA:", None),
-        ("", None),
+fn descriptors_of_classes_and_arrays_are_told_and_measured(rt: HostRuntime) -> Result<(), Fail> {
+    static CASES: [Told; 39] = [
+        Told("[V", Text::Ascii("[V"), Asked::Kinds(false, false, false)),
+        Told("LA", Text::Ascii("LA"), Asked::Kinds(false, false, false)),
+        Told("L", Text::Ascii("L"), Asked::Kinds(false, false, false)),
+        Told("L;", Text::Ascii("L;"), Asked::Kinds(false, false, false)),
+        Told("LA//B;", Text::Ascii("LA//B;"), Asked::Kinds(false, false, false)),
+        Told("V", Text::Ascii("V"), Asked::Kinds(true, false, false)),
+        Told("I", Text::Ascii("I"), Asked::Kinds(true, false, false)),
+        Told("[[J", Text::Ascii("[[J"), Asked::Kinds(true, false, true)),
+        Told("[I", Text::Ascii("[I"), Asked::Kinds(true, false, true)),
+        Told("LA;", Text::Ascii("LA;"), Asked::Kinds(true, true, false)),
+        Told("LA-B/C;", Text::Ascii("LA-B/C;"), Asked::Kinds(true, true, false)),
+        Told("Ljava/lang/Object;", Text::Ascii("Ljava/lang/Object;"), Asked::Kinds(true, true, false)),
+        Told("", Text::Ascii(""), Asked::Kinds(false, false, false)),
+        Told("[", Text::Ascii("["), Asked::Kinds(false, false, false)),
+        Told("VV", Text::Ascii("VV"), Asked::Kinds(false, false, false)),
+        Told("II", Text::Ascii("II"), Asked::Kinds(false, false, false)),
+        Told("X", Text::Ascii("X"), Asked::Kinds(false, false, false)),
+        Told("L/A;", Text::Ascii("L/A;"), Asked::Kinds(false, false, false)),
+        Told("LA/;", Text::Ascii("LA/;"), Asked::Kinds(false, false, false)),
+        Told("LA;;", Text::Ascii("LA;;"), Asked::Kinds(false, false, false)),
+        Told("LA;I", Text::Ascii("LA;I"), Asked::Kinds(false, false, false)),
+        Told("L<init>;", Text::Ascii("L<init>;"), Asked::Kinds(false, false, false)),
+        Told("[[LA;", Text::Ascii("[[LA;"), Asked::Kinds(true, false, true)),
+        Told("Z", Text::Ascii("Z"), Asked::Kinds(true, false, false)),
+        Told("D", Text::Ascii("D"), Asked::Kinds(true, false, false)),
+        Told("[LA;", Text::Ascii("[LA;"), Asked::Kinds(true, false, true)),
+        Told("255 dimensions", Text::Ints(255), Asked::Kinds(true, false, true)),
+        Told("256 dimensions", Text::Ints(256), Asked::Kinds(false, false, false)),
+        // The length of the descriptor at the front.
+        Told("the front of V", Text::Ascii("V"), Asked::Length(Some(1))),
+        Told("the front of VI", Text::Ascii("VI"), Asked::Length(Some(1))),
+        Told("the front of I[J", Text::Ascii("I[J"), Asked::Length(Some(1))),
+        Told("the front of [J)V", Text::Ascii("[J)V"), Asked::Length(Some(2))),
+        Told("the front of LA;LB;", Text::Ascii("LA;LB;"), Asked::Length(Some(3))),
+        Told("the front of [[La/b/C;I", Text::Ascii("[[La/b/C;I"), Asked::Length(Some(9))),
+        Told("the front of )V", Text::Ascii(")V"), Asked::Length(None)),
+        Told("the front of [V", Text::Ascii("[V"), Asked::Length(None)),
+        Told("the front of LA", Text::Ascii("LA"), Asked::Length(None)),
+        Told("the front of LA:", Text::Ascii("LA:"), Asked::Length(None)),
+        Told("the front of ", Text::Ascii(""), Asked::Length(None)),
     ];
-    none_wrong(first_measured_otherwise(rt.alloc(), &CASES))
+    all_hold(rt.alloc(), &CASES)
 }

@@ -1,7 +1,7 @@
 //! Faults by number and by name.
 
 use dex_base::{Fault, fault_name};
-use dex_samples::{is_so, none_wrong};
+use dex_samples::{Case, all_hold};
 use std::alloc::{AllocError, Global};
 use std::test::Fail;
 
@@ -35,49 +35,63 @@ fn wanted_name(code: u16) -> &'static str {
     "Unknown"
 }
 
-fn first_named_otherwise(end: u16) -> Option<&'static str> {
+// Whether each number below this one has its name or none.
+fn are_named_below(end: u16) -> bool {
     for code in 0..end {
         if fault_name(code) != wanted_name(code) {
-            return Some(wanted_name(code));
+            return false;
         }
     }
-    None
+    true
 }
 
-#[test]
-fn each_number_below_301_has_its_name_or_none() -> Result<(), Fail> {
-    none_wrong(Ok(first_named_otherwise(301)))
+fn is_out_of_memory(fault: Fault) -> bool {
+    fault.code == 255 && fault.place == 0
 }
 
-#[test]
-fn the_greatest_number_has_no_name() -> Result<(), Fail> {
-    is_so(Ok(fault_name(65535) == "Unknown"))
-}
-
-#[test]
-fn a_failed_allocation_is_out_of_memory() -> Result<(), Fail> {
-    let fault = Fault::from(AllocError);
-    is_so(Ok(fault.code == 255 && fault.place == 0))
-}
-
-fn is_shown_so(alloc: Global, fault: Fault, want: &str) -> Result<bool, Fault> {
+fn is_shown_so(alloc: Global, code: u16, place: u64, want: &str) -> Result<bool, Fault> {
+    let fault = Fault { code, place };
     Ok(fault.to_string(alloc)?.as_str() == want)
 }
 
-#[test]
-fn a_fault_is_shown_with_its_sentence(rt: HostRuntime) -> Result<(), Fail> {
-    is_so(is_shown_so(
-        rt.alloc(),
-        Fault { code: 8, place: 8 },
-        "8 Checksum at 8: the Adler-32 differs",
-    ))
+// What is asked of faults.
+enum Asked {
+    NamesBelow(u16),
+    Greatest,
+    Failed,
+    // a number and a place are shown so
+    Shown(u16, u64, &'static str),
 }
 
+impl Case for Asked {
+    fn name(&self) -> &'static str {
+        match self {
+            Asked::NamesBelow(_) => "each number below 301 has its name or none",
+            Asked::Greatest => "the greatest number has no name",
+            Asked::Failed => "a failed allocation is out of memory",
+            Asked::Shown(_, _, shown) => shown,
+        }
+    }
+
+    fn holds(&self, alloc: Global) -> Result<bool, Fault> {
+        match self {
+            Asked::NamesBelow(end) => Ok(are_named_below(*end)),
+            Asked::Greatest => Ok(fault_name(65535) == "Unknown"),
+            Asked::Failed => Ok(is_out_of_memory(Fault::from(AllocError))),
+            Asked::Shown(code, place, want) => is_shown_so(alloc, *code, *place, want),
+        }
+    }
+}
+
+#[rattlefmt::skip]
 #[test]
-fn a_fault_without_a_name_is_shown_so(rt: HostRuntime) -> Result<(), Fail> {
-    is_so(is_shown_so(
-        rt.alloc(),
-        Fault { code: 15, place: 0 },
-        "15 Unknown at 0: no fault has this number",
-    ))
+fn faults_have_their_names_and_are_shown_with_their_sentences(rt: HostRuntime) -> Result<(), Fail> {
+    static CASES: [Asked; 5] = [
+        Asked::NamesBelow(301),
+        Asked::Greatest,
+        Asked::Failed,
+        Asked::Shown(8, 8, "8 Checksum at 8: the Adler-32 differs"),
+        Asked::Shown(15, 0, "15 Unknown at 0: no fault has this number"),
+    ];
+    all_hold(rt.alloc(), &CASES)
 }

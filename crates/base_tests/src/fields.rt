@@ -1,21 +1,19 @@
 //! Numbers at a place, and lists of them.
 
 use dex_base::{Fault, push_words, put_u32_at, u16_at, u32_at};
-use dex_samples::is_so;
+use dex_samples::{Case, all_hold};
 use std::alloc::Global;
 use std::test::Fail;
 
-#[test]
-fn numbers_stand_low_byte_first() -> Result<(), Fail> {
+fn are_numbers_read() -> bool {
     let bytes = [0x11, 0x22, 0x33, 0x44, 0x55, 0x66];
-    is_so(Ok(u16_at(&bytes, 1) == 0x3322 && u32_at(&bytes, 2) == 0x6655_4433))
+    u16_at(&bytes, 1) == 0x3322 && u32_at(&bytes, 2) == 0x6655_4433
 }
 
-#[test]
-fn a_number_is_put_over_four_bytes() -> Result<(), Fail> {
+fn is_number_put() -> bool {
     let mut bytes = [0x11, 0x22, 0x33, 0x44, 0x55, 0x66];
     put_u32_at(&mut bytes, 1, 0xaabb_ccdd);
-    is_so(Ok(bytes == [0x11, 0xdd, 0xcc, 0xbb, 0xaa, 0x66]))
+    bytes == [0x11, 0xdd, 0xcc, 0xbb, 0xaa, 0x66]
 }
 
 fn are_words_pushed_after(alloc: Global) -> Result<bool, Fault> {
@@ -24,7 +22,33 @@ fn are_words_pushed_after(alloc: Global) -> Result<bool, Fault> {
     Ok(out.as_slice() == [7, 1, 2, 3, 4, 0xfe, 0xff, 0xff, 0xff].as_slice())
 }
 
+// What is done with numbers.
+enum Done {
+    Read,
+    Put,
+    Pushed,
+}
+
+impl Case for Done {
+    fn name(&self) -> &'static str {
+        match self {
+            Done::Read => "numbers stand low byte first",
+            Done::Put => "a number is put over four bytes",
+            Done::Pushed => "words are pushed after what is there",
+        }
+    }
+
+    fn holds(&self, alloc: Global) -> Result<bool, Fault> {
+        match self {
+            Done::Read => Ok(are_numbers_read()),
+            Done::Put => Ok(is_number_put()),
+            Done::Pushed => are_words_pushed_after(alloc),
+        }
+    }
+}
+
 #[test]
-fn words_are_pushed_after_what_is_there(rt: HostRuntime) -> Result<(), Fail> {
-    is_so(are_words_pushed_after(rt.alloc()))
+fn numbers_are_read_put_and_pushed(rt: HostRuntime) -> Result<(), Fail> {
+    static CASES: [Done; 3] = [Done::Read, Done::Put, Done::Pushed];
+    all_hold(rt.alloc(), &CASES)
 }

@@ -1,7 +1,9 @@
 //! The opcode table against the page "Dalvik bytecode", written out a second time.
 
+use dex_base::Fault;
 use dex_insn::{Format, IndexKind, format_of, index_kind_of, mnemonic_of, opcode_named};
-use dex_samples::none_wrong;
+use dex_samples::{Case, all_hold, none_wrong};
+use std::alloc::Global;
 use std::test::Fail;
 
 // The first opcode, the format and index kind of all, their mnemonics.
@@ -139,27 +141,31 @@ fn all_256_rows_are_those_of_the_page() -> Result<(), Fail> {
     none_wrong(Ok(first_row_otherwise(&RUNS)))
 }
 
-fn first_opcode(cases: &[&'static str]) -> Option<&'static str> {
-    for text in cases {
-        if opcode_named(text.as_bytes()).is_some() {
-            return Some(*text);
-        }
+// A text that names no opcode.
+struct NoName(&'static str);
+
+impl Case for NoName {
+    fn name(&self) -> &'static str {
+        self.0
     }
-    None
+
+    fn holds(&self, _alloc: Global) -> Result<bool, Fault> {
+        Ok(opcode_named(self.0.as_bytes()).is_none())
+    }
 }
 
 #[test]
-fn other_texts_name_no_opcode() -> Result<(), Fail> {
-    static CASES: [&str; 9] = [
-        "",
-        " ",
-        "NOP",
-        "nop ",
-        "no",
-        "goto/64",
-        "add-int/lit32",
-        "packed-switch-payload",
-        "invoke-custom",
+fn other_texts_name_no_opcode(rt: HostRuntime) -> Result<(), Fail> {
+    static CASES: [NoName; 9] = [
+        NoName(""),
+        NoName(" "),
+        NoName("NOP"),
+        NoName("nop "),
+        NoName("no"),
+        NoName("goto/64"),
+        NoName("add-int/lit32"),
+        NoName("packed-switch-payload"),
+        NoName("invoke-custom"),
     ];
-    none_wrong(Ok(first_opcode(&CASES)))
+    all_hold(rt.alloc(), &CASES)
 }

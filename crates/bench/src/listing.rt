@@ -1,5 +1,6 @@
-//! Reads or prints a generated listing, and prints the sum of what it gave: `listing WORK ROUNDS`, where WORK is
-//! `parse`, `print` or `all`. bench/listing/run times it beside bench/listing/plain.rs.
+//! Reads or prints a generated listing, and prints the sum of what it gave: `listing WORK ROUNDS CLASSES`, where WORK is
+//! `parse`, `print` or `all`, and CLASSES how many classes the listing has. bench/listing/run times it beside
+//! bench/listing/plain.rs, and tools/refused-memory refuses its requests for memory.
 
 use crate::words::{number, word};
 use bumpalo::Bump;
@@ -10,7 +11,7 @@ use program_types::Program;
 use std::alloc::{AllocError, Global};
 use std::io;
 
-/// How many classes the listing has.
+/// How many classes the listing has where no word says it.
 const CLASSES: u32 = 2000;
 
 /// A class: fields with values, a method with a loop and a call, and one with a sum.
@@ -32,9 +33,9 @@ fn put_class(alloc: Global, text: &mut Vec<u8>, i: u32) -> Result<(), AllocError
 }
 
 /// The whole listing.
-fn listing(alloc: Global) -> Result<Vec<u8>, AllocError> {
+fn listing(alloc: Global, classes: u32) -> Result<Vec<u8>, AllocError> {
     let mut text = Vec::from_slice(alloc, b"dex 035\n")?;
-    for i in 0..CLASSES {
+    for i in 0..classes {
         put_class(alloc, &mut text, i)?;
     }
     Ok(text)
@@ -83,22 +84,31 @@ fn printed(alloc: Global, text: &[u8], rounds: u32) -> Result<u64, Fault> {
     Ok(sum)
 }
 
-/// What the words ask for, if it is done.
+/// Prints what a work gave.
+fn tell(rt: &impl Print, work: &str, sum: Result<u64, Fault>) -> io::Result<()> {
+    match sum {
+        Ok(sum) => println!(rt; "{work} {sum}"),
+        Err(fault) => println!(rt; "refused {} at {}", fault.code, fault.place),
+    }
+}
+
+/// What the words ask for.
 pub fn run(rt: &(impl Print + Alloc<A = Global>), words: &[&str]) -> io::Result<()> {
     let (work, rounds) = (word(words, 0), number(words, 1));
-    let Ok(text) = listing(rt.alloc()) else {
+    let classes = if words.len() > 2 {
+        number(words, 2)
+    } else {
+        CLASSES
+    };
+    let Ok(text) = listing(rt.alloc(), classes) else {
         return println!(rt; "no memory");
     };
     let all = work == "all";
     if all || work == "parse" {
-        if let Ok(sum) = parsed(rt.alloc(), text.as_slice(), rounds) {
-            println!(rt; "parse {sum}")?;
-        }
+        tell(rt, "parse", parsed(rt.alloc(), text.as_slice(), rounds))?;
     }
     if all || work == "print" {
-        if let Ok(sum) = printed(rt.alloc(), text.as_slice(), rounds) {
-            println!(rt; "print {sum}")?;
-        }
+        tell(rt, "print", printed(rt.alloc(), text.as_slice(), rounds))?;
     }
     Ok(())
 }

@@ -13,10 +13,11 @@ use Rattle.program_types.specs.Content.{Name, Insn}
 use Rattle.program_types.specs.Formed.{AreAlike, IsSwitch, insn_at, insn_payload, insn_wants, insn_branch, insn_targets, IsTarget}
 use Rattle.program_types.specs.declared.payload.Payload.{Payload}
 use Rattle.program_code_rules.specs.Branches.{BranchStays}
+use Rattle.program_code_rules.specs.First.{AllHold}
 use Rattle.code_insns.specs.Walk.{Run, raw_at, address, starts}
 use Rattle.code_insns.specs.Symbols.{linked, Says}
 use Rattle.code_insns.specs.Linked.{lead, AreLinked, KeepRules}
-use Rattle.code_insns.specs.Plain.{is_plain, SaysAtOnce, PlainRun, ArePlain}
+use Rattle.code_insns.specs.Plain.{is_plain, SaysAtOnce, ArePlain}
 use Rattle.code_insns.proofs.Runs.{run-more, starts-more, length-of_starts, table-of}
 
 -- it is no payload, and refers to none
@@ -102,6 +103,15 @@ insn_last is i = get_or-append_seam is i [] (content.I10x 0)
 
 size_more : {V : Type 0} (xs : List V) (x : V) → length (xs ++ x ∷ []) ≡ length xs + 1
 size_more xs x = length-append xs (x ∷ [])
+
+-- From the first unit to this one such instructions stand, which begin at the first k of these units, and say these.
+pub record PlainRun (N : ℕ → Name → Type 0) (us begins : List ℕ) (count : ℕ) (is : List Insn) (k at : ℕ) : Type 0 where
+  pub raws : List Raw
+  pub count_is : length raws ≡ k
+  pub said : length is ≡ k
+  pub run : Run us 0 raws at
+  pub begins_are : take k begins ≡ starts raws
+  pub each : AllHold (λ j. SaysAtOnce N begins count (get_or begins j 0) j (raw_at raws j) (insn_at is j)) k
 
 module _ (N : ℕ → Name → Type 0) (us begins : List ℕ) (count : ℕ) where
   pub begun : PlainRun N us begins count [] 0 0

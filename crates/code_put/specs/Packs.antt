@@ -15,7 +15,7 @@ use Rattle.code_insns.specs.Walk.{raw_at}
 use Rattle.code_insns.specs.Symbols.{Says}
 use Rattle.code_insns.specs.Linked.{lead, payload_of}
 use Rattle.code_insns.specs.Branches.{IsOrigin}
-use Rattle.code_read.specs.Handlers.{Handler, PlaceBy, CatchBy, HandlerBy, PacksHandlers, handler_at}
+use Rattle.code_read.specs.Handlers.{Handler, CatchBy, HandlerBy, PacksHandlers, handler_at}
 use Rattle.code_read.specs.Tries.{handler_of}
 
 -- ---- instructions
@@ -55,10 +55,6 @@ pub record PutInsns (N : ℕ → Name → Type 0) (is : List Insn) (ss old new :
 -- an instruction, by its address
 abbrev pub PlaceAt : List ℕ → List ℕ → ℕ → Type 0
 PlaceAt ss = Via (Shortest Spells) (λ address n. position ss address ≡ Some n)
-
--- Where a handler begins.
-abbrev pub PacksPlace : (ℕ → Name → Type 0) → List ℕ → List ℕ → ℕ → Type 0
-PacksPlace = PlaceBy (Shortest Spells) (Shortest SpellsSigned)
 
 -- A type and where its handler begins.
 abbrev pub PacksCatch : (ℕ → Name → Type 0) → List ℕ → List ℕ → Catch → Type 0

@@ -16,7 +16,7 @@ ghost use Rattle.code_put.specs.Writing.{Numbers, IsDistinct, IsDistinctOf, IsLi
 ghost use Rattle.code_put.specs.Fits.{HasIndexBelow, catches_in};
 
 use crate::begins::Begins;
-use dex_base::{Fault, put_sleb, put_uleb};
+use dex_base::{Fault, Seed, put_sleb, put_uleb};
 use indexmap::IndexSet;
 use program_types::{Catch, Name, Try};
 use std::alloc::Global;
@@ -107,7 +107,7 @@ fn are_bytes(bytes: &[u8])
 }
 
 /// The number of these bytes among those that are held, where they come last if they weren't held.
-pub fn number_of(handlers: &mut IndexSet<Vec<u8>>, bytes: Vec<u8>) -> Result<u32, Fault>
+pub fn number_of(handlers: &mut IndexSet<Vec<u8>, Seed>, bytes: Vec<u8>) -> Result<u32, Fault>
     requires few { length handlers.old.keys < 65536 }
     ensures ok { IfOk result (λ n. Numbers (map (λ v. v.items) handlers.old.keys) (map (λ v. v.items) handlers.new.keys) bytes.items n) }
     ensures memory { IsOkUnless result memory }
@@ -119,7 +119,7 @@ pub fn number_of(handlers: &mut IndexSet<Vec<u8>>, bytes: Vec<u8>) -> Result<u32
 /// The distinct handlers of tries, in the order of their first use, each as its bytes, and of each try the number of its
 /// handler.
 pub struct Distinct {
-    pub handlers: IndexSet<Vec<u8>>,
+    pub handlers: IndexSet<Vec<u8>, Seed>,
     pub numbers: Vec<u32>,
 }
 
@@ -148,7 +148,7 @@ fn distinct_of(
     ensures memory { IsOkUnless result memory }
 {
     ranks.rise();
-    let mut handlers = IndexSet::new(alloc);
+    let mut handlers = IndexSet::with_hasher(alloc, ranks.seed());
     let mut numbers = Vec::with_capacity(alloc, tries.len())?;
     for i in 0..tries.len() {
         let mut bytes = Vec::new(alloc);
@@ -167,7 +167,7 @@ struct Listed {
 }
 
 /// The encoded_catch_handler_list of these handlers.
-fn list_of(alloc: Global, handlers: &IndexSet<Vec<u8>>) -> Result<Listed, Fault>
+fn list_of(alloc: Global, handlers: &IndexSet<Vec<u8>, Seed>) -> Result<Listed, Fault>
     requires few { length handlers.now.keys ≤ 65535 }
     requires short { 5 + length (joined_keys (map (λ v. v.items) handlers.now.keys)) ≤ 4294967295 }
     ensures ok { IfOk result (λ l. IsListed (map (λ v. v.items) handlers.now.keys) l.bytes.items l.places.items) }

@@ -27,10 +27,11 @@ use Rattle.code_insns.specs.Linked.{SpellsInsns}
 use Rattle.code_insns.proofs.PlaceLaws.{position-there}
 use Rattle.code_insns.proofs.Runs.{run-at, table-of, run-few}
 use Rattle.code_read.specs.Item.{insns_size, tries_of, insns_bytes, items_of, list_begin, units_end, try_start, try_count}
-use Rattle.code_read.specs.Handlers.{Handler, catches_of, SpellsPlace, SpellsCatch, SpellsCatchAll, SpellsHandler, SpellsHandlers, handler_at}
+use Rattle.code_read.specs.Handlers.{Handler, catches_of, SpellsPlace, SpellsCatch, SpellsHandler, SpellsHandlers, handler_at}
 use Rattle.code_read.specs.Tries.{SpellsTries, handler_of}
 use Rattle.code_read.specs.Code.{SpellsBody, CodeStands}
 use Rattle.code_read.proofs.FaultLaws.{units-even}
+use Rattle.code_read.proofs.HandlerReading.{SpellsCatchAll}
 use Rattle.code_read.proofs.ItemLaws.{begins_late}
 use Rattle.code_read.proofs.NamesHaveRows.{at-offset}
 use Rattle.code_read.proofs.SaidLaws.{raw-bytes, operand-said}

@@ -15,9 +15,9 @@ use Rattle.code_read.specs.Item.{tries_of, insns_size, units_end, tries_begin, l
 use Rattle.code_read.specs.Tries.{SpellsTries, handler_of}
 use Rattle.program_types.specs.Formed.{try_at}
 use Rattle.code_read.specs.Faults.{HasHandlers, TriesBreak, ItemBreaks}
-use Rattle.code_read.specs.Reading.{ReadCode, IsCodeItem}
+use Rattle.code_read.specs.Reading.{IsCodeItem}
 use Rattle.code_read.specs.declared.item.Item.{Item}
-use Rattle.code_read.proofs.ItemLaws.{begins_late}
+use Rattle.code_read.proofs.ItemLaws.{ReadCode, begins_late}
 
 has-handlers : (N : ℕ → Name → Type 0) (ss : List ℕ) (size n : ℕ) (items list rest : List ℕ) (ts : List Try) → 0 < n → SpellsTries N ss size n items list ts → HasHandlers N ss n items (list ++ rest)
 has-handlers N ss size zero items list rest ts l s = absurd (omega arith)

@@ -1,5 +1,5 @@
 -- Handlers at the front of bytes.
-use Rattle.std.proofs.Common.{◌≡◌, ℕ, ℤ, pos, negsuc, ◌<◌, ◌++◌, List, [], ◌∷◌, length, map, refl, ap, sym, ◌∙◌, arith, zero, suc, subst, Some, None, ◌<ℤ◌}
+use Rattle.std.proofs.Common.{◌≡◌, ℕ, ℤ, pos, negsuc, ◌<◌, ◌++◌, List, [], ◌∷◌, length, map, refl, ap, sym, ◌∙◌, arith, zero, suc, subst, Option, Some, None, ◌<ℤ◌}
 use Rattle.std.proofs.lemmas.Int.{ints}
 use Rattle.std.proofs.lemmas.List.{map-append}
 use Rattle.program_types.specs.View.{catch}
@@ -13,8 +13,16 @@ use Rattle.base_bytes.proofs.Numbers.{spells_unique}
 use Rattle.base_bytes.proofs.Signed.{signed_unique}
 use Rattle.program_types.specs.Content.{Catch, Name}
 use Rattle.code_insns.specs.Symbols.{IsFunctional}
-use Rattle.code_read.specs.Handlers.{Handler, catches_of, HasAll, SpellsPlace, SpellsCatchType, SpellsCatch, SpellsCatchAll, SpellsParts, SpellsHandler}
+use Rattle.code_read.specs.Handlers.{Handler, catches_of, HasAll, AllBy, PartsBy, SpellsPlace, SpellsCatchType, SpellsCatch, SpellsHandler}
 use Rattle.code_read.proofs.HandlerLaws.{catch-unique}
+
+-- The catch-all, there exactly if the count isn't positive.
+abbrev pub SpellsCatchAll : (ℕ → Name → Type 0) → List ℕ → ℤ → List ℕ → Option ℕ → Type 0
+SpellsCatchAll = AllBy Spells SpellsSigned
+
+-- The catches of a handler, and its catch-all.
+abbrev pub SpellsParts : (ℕ → Name → Type 0) → List ℕ → ℤ → List ℕ → List Catch × Option ℕ → Type 0
+SpellsParts = PartsBy Spells SpellsSigned
 
 -- ---- catches
 

@@ -15,9 +15,9 @@ use Rattle.program_types.specs.Content.{Name, OfDesc, Descriptor}
 use Rattle.program_types.specs.Kinds.{IsOfKind}
 use Rattle.code_insns.specs.Places.{position}
 use Rattle.code_insns.specs.Symbols.{IsFunctional}
-use Rattle.code_read.specs.Handlers.{Handler, catches_of, HasAll, SpellsPlace, SpellsCatchType, SpellsCatch, SpellsCatchAll, SpellsParts, SpellsHandler, SpellsList}
+use Rattle.code_read.specs.Handlers.{Handler, catches_of, HasAll, SpellsPlace, SpellsCatchType, SpellsCatch, SpellsHandler, SpellsList}
 use Rattle.code_read.proofs.HandlerLaws.{type-unique, catch-unique, parts-unique, handler-unique}
-use Rattle.code_read.proofs.HandlerReading.{all-none, all-some}
+use Rattle.code_read.proofs.HandlerReading.{SpellsCatchAll, SpellsParts, all-none, all-some}
 use Rattle.code_read.proofs.Deciding.{decide-then, decide-many, decide-via, decide-sleb, decide-there}
 use Rattle.code_read.proofs.RulesDecided.{AreNamesDecided}
 

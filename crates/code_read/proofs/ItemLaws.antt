@@ -1,5 +1,5 @@
 -- The item at the front of bytes, and what follows it.
-use Rattle.std.proofs.Common.{◌≡◌, ◌≢◌, ℕ, ◌+◌, ◌≤◌, ◌*◌, ◌%◌, ◌++◌, List, length, take, drop, ap, sym, ◌∙◌, subst, arith, append_assoc, length-append, length-take, if◌then◌else◌, ◌==◌}
+use Rattle.std.proofs.Common.{◌≡◌, ◌≢◌, ℕ, ◌+◌, ◌<◌, ◌≤◌, ◌*◌, ◌%◌, ◌++◌, List, length, take, drop, ap, sym, ◌∙◌, subst, arith, append_assoc, length-append, length-take, if◌then◌else◌, ◌==◌}
 use Rattle.std.specs.Prelude.{slice_range}
 use Rattle.std.proofs.lemmas.List.{take-append-drop, drop-append-le, append_cancel_right}
 use Rattle.base_bytes.specs.Grammar.{IsPrefixUnique, Takes}
@@ -10,15 +10,28 @@ use Rattle.program_types.specs.Content.{Name, Code, Insn, Try}
 use Rattle.code_insns.specs.Walk.{starts}
 use Rattle.code_insns.specs.Symbols.{IsFunctional}
 use Rattle.code_insns.specs.Reading.{ReadInsns}
-use Rattle.code_read.specs.Item.{tries_of, insns_size, units_end, tries_begin, list_begin, insns_bytes, items_of}
+use Rattle.code_read.specs.Item.{registers_of, ins_of, outs_of, tries_of, insns_size, units_end, tries_begin, list_begin, insns_bytes, items_of, HasFixedParts}
 use Rattle.code_insns.specs.Linked.{SpellsInsns}
 use Rattle.code_read.specs.Tries.{SpellsTries}
 use Rattle.code_read.specs.Code.{SpellsBody}
-use Rattle.code_read.specs.Reading.{ReadCode, ReadTries, IsCodeItem}
+use Rattle.code_read.specs.Reading.{ReadTries, IsCodeItem}
 use Rattle.code_read.specs.declared.item.Item.{Item}
 use Rattle.code_insns.proofs.InsnsOnce.{walks-one, insns-one}
 use Rattle.code_read.proofs.TriesOnce.{tries-one}
 use Rattle.base_bytes.proofs.GrammarLaws.{rest_same}
+
+-- The bytes begin with the code_item of this code, and these bytes follow.
+pub record ReadCode (N : ℕ → Name → Type 0) (bytes rest : List ℕ) (c : Code) : Type 0 where
+  pub whole : HasFixedParts bytes
+  pub some : 0 < insns_size bytes
+  pub registers : c.registers ≡ registers_of bytes
+  pub ins : c.ins ≡ ins_of bytes
+  pub outs : c.outs ≡ outs_of bytes
+  pub raws : List Raw
+  pub insns : SpellsInsns N (insns_bytes bytes) raws c.insns
+  pub list : List ℕ
+  pub joined : drop (list_begin bytes) bytes ≡ list ++ rest
+  pub tries : SpellsTries N (starts raws) (insns_size bytes) (tries_of bytes) (items_of bytes) list c.tries
 
 -- the try_items begin after the header and the units
 pub begins_late : (bytes : List ℕ) → units_end bytes ≤ tries_begin bytes

@@ -14,8 +14,18 @@ use Rattle.code_insns.specs.Places.{Rises}
 use Rattle.code_read.specs.Handlers.{Handler, SpellsHandler, SpellsList}
 use Rattle.code_read.specs.HandlerViews.{handler}
 use Rattle.code_read.specs.declared.handlers.Caught.{Caught}
-use Rattle.code_read.specs.Reading.{ReadList, ReadSome}
+use Rattle.code_read.specs.Reading.{ReadList}
 use Rattle.code_read.proofs.HandlerLaws.{handler-unique}
+
+-- After the count stand these handlers, at these offsets from the list's begin, and what is left follows.
+pub record ReadSome (N : ℕ → Name → Type 0) (ss bytes after left offsets : List ℕ) (hs : List Handler) (n : ℕ) : Type 0 where
+  pub front : List ℕ
+  pub joined : after ≡ front ++ left
+  pub placed : List (ℕ × Handler)
+  pub spelled : Placed (SpellsHandler N ss) (length bytes - length after) front placed
+  pub offsets_are : offsets ≡ map (λ p. p.0) placed
+  pub handlers_are : hs ≡ map (λ p. p.1) placed
+  pub count : length placed ≡ n
 
 module _ (N : ℕ → Name → Type 0) (ss : List ℕ) where
   pub some-none : (bytes entries offsets : List ℕ) (hs : List Caught) → offsets ≡ [] → hs ≡ [] → ReadSome N ss bytes entries entries offsets (map handler hs) 0

@@ -70,14 +70,6 @@ SpellsCatchType = TypeBy Spells SpellsSigned
 abbrev pub SpellsCatch : (ℕ → Name → Type 0) → List ℕ → List ℕ → Catch → Type 0
 SpellsCatch = CatchBy Spells SpellsSigned
 
--- The catch-all, there exactly if the count isn't positive.
-abbrev pub SpellsCatchAll : (ℕ → Name → Type 0) → List ℕ → ℤ → List ℕ → Option ℕ → Type 0
-SpellsCatchAll = AllBy Spells SpellsSigned
-
--- The catches of a handler, and its catch-all.
-abbrev pub SpellsParts : (ℕ → Name → Type 0) → List ℕ → ℤ → List ℕ → List Catch × Option ℕ → Type 0
-SpellsParts = PartsBy Spells SpellsSigned
-
 -- A handler: the count, then its parts.
 abbrev pub SpellsHandler : (ℕ → Name → Type 0) → List ℕ → List ℕ → Handler → Type 0
 SpellsHandler = HandlerBy Spells SpellsSigned

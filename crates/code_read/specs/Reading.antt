@@ -1,15 +1,11 @@
 -- What the private functions of reading say.
-use Rattle.std.specs.Prelude.{ℕ, ◌≡◌, ◌<◌, ◌++◌, ◌+◌, ◌-◌, List, length, drop, map, Some, None, slice_get}
-use Rattle.dex_insn.specs.Raw.{Raw}
-use Rattle.program_types.specs.Content.{Name, Try, Code}
-use Rattle.code_insns.specs.Walk.{starts}
+use Rattle.std.specs.Prelude.{ℕ, ◌≡◌, ◌<◌, ◌++◌, ◌+◌, List, length, drop, map, Some, None, slice_get}
+use Rattle.program_types.specs.Content.{Name, Try}
 use Rattle.code_insns.specs.Places.{position, count_below}
 use Rattle.code_read.specs.Item.{try_start, try_count, try_handler, registers_of, ins_of, outs_of, tries_of, insns_size, insns_bytes, items_of, tries_begin, list_begin, HasFixedParts}
-use Rattle.code_insns.specs.Linked.{SpellsInsns}
 use Rattle.code_read.specs.Tries.{SpellsTries, handler_of}
 use Rattle.program_types.specs.Formed.{try_at}
-use Rattle.code_read.specs.Handlers.{Handler, SpellsList, SpellsHandler}
-use Rattle.base_bytes.specs.Grammar.{Placed}
+use Rattle.code_read.specs.Handlers.{Handler, SpellsList}
 use Rattle.code_read.specs.declared.item.Item.{Item}
 
 -- These are the fixed parts of the item at the front of the bytes.
@@ -42,19 +38,6 @@ pub record ReadList (N : ℕ → Name → Type 0) (ss rest offsets : List ℕ) (
   pub offsets_are : offsets ≡ map (λ p. p.0) placed
   pub handlers_are : hs ≡ map (λ p. p.1) placed
 
--- The bytes begin with the code_item of this code, and these bytes follow.
-pub record ReadCode (N : ℕ → Name → Type 0) (bytes rest : List ℕ) (c : Code) : Type 0 where
-  pub whole : HasFixedParts bytes
-  pub some : 0 < insns_size bytes
-  pub registers : c.registers ≡ registers_of bytes
-  pub ins : c.ins ≡ ins_of bytes
-  pub outs : c.outs ≡ outs_of bytes
-  pub raws : List Raw
-  pub insns : SpellsInsns N (insns_bytes bytes) raws c.insns
-  pub list : List ℕ
-  pub joined : drop (list_begin bytes) bytes ≡ list ++ rest
-  pub tries : SpellsTries N (starts raws) (insns_size bytes) (tries_of bytes) (items_of bytes) list c.tries
-
 -- Try_item i spells the try, by the handlers and the offsets at which they begin.
 pub record TakesTry (ss items offsets : List ℕ) (hs : List Handler) (i : ℕ) (t : Try) : Type 0 where
   pub from : position ss (try_start items i) ≡ Some t.from
@@ -71,13 +54,3 @@ pub record TakesTries (ss items offsets : List ℕ) (hs : List Handler) (n : ℕ
 -- At the offset of some try_item no handler begins.
 abbrev pub NoHandler : List ℕ → List ℕ → ℕ → Type 0
 NoHandler items offsets n = (i : ℕ) × (i < n) × (position offsets (try_handler items i) ≡ None)
-
--- After the count stand these handlers, at these offsets from the list's begin, and what is left follows.
-pub record ReadSome (N : ℕ → Name → Type 0) (ss bytes after left offsets : List ℕ) (hs : List Handler) (n : ℕ) : Type 0 where
-  pub front : List ℕ
-  pub joined : after ≡ front ++ left
-  pub placed : List (ℕ × Handler)
-  pub spelled : Placed (SpellsHandler N ss) (length bytes - length after) front placed
-  pub offsets_are : offsets ≡ map (λ p. p.0) placed
-  pub handlers_are : hs ≡ map (λ p. p.1) placed
-  pub count : length placed ≡ n

@@ -8,10 +8,12 @@ ghost use Rattle.code_read.specs.Faults.{CodeBreaks, CodeOverruns};
 ghost use Rattle.dex_container.specs.Frame.{IsFramed};
 ghost use Rattle.program_types.specs.Content.{Name, Code};
 ghost use Rattle.code_insns.specs.Names.{Names, NameIsAt};
+ghost use Rattle.code_insns.specs.Symbols.{IsFunctional};
 
-/// No code item begins another one, and it spells one code.
+/// In tables of names an index stands for one name of a kind; so no code item begins another one, and it spells one code.
 pub fn code_is_prefix_unique()
-    ensures { (names : Names) → IsPrefixUnique (SpellsCode (NameIsAt names)) }
+    ensures index { (names : Names) → IsFunctional (NameIsAt names) }
+    ensures unique { (names : Names) → IsPrefixUnique (SpellsCode (NameIsAt names)) }
 {}
 
 /// One code stands at an offset.

@@ -12,7 +12,8 @@ use Rattle.tables_rows.specs.Stands.{NameStands}
 use Rattle.tables_numbers.specs.Marked.{Marked, AddsNames, IsRowOf}
 use Rattle.tables_numbers.proofs.MarkLemmas.{adds_none, adds_more}
 use Rattle.code_insns.specs.Places.{position}
-use Rattle.code_read.specs.Handlers.{Handler, catches_of, HasAll, SpellsCatch, SpellsCatchAll, SpellsHandler}
+use Rattle.code_read.specs.Handlers.{Handler, catches_of, HasAll, SpellsCatch, SpellsHandler}
+use Rattle.code_read.proofs.HandlerReading.{SpellsCatchAll}
 use Rattle.code_renumber.specs.Fronts.{IsCatch, types_of}
 use Rattle.base_bytes.proofs.ListFacts.{number_one}
 

@@ -4,9 +4,10 @@ use Rattle.program_types.specs.Content.{Name, Code}
 use Rattle.code_insns.specs.Walk.{starts}
 use Rattle.code_insns.specs.Linked.{SpellsInsns}
 use Rattle.code_read.specs.Item.{insns_size, tries_of}
-use Rattle.code_read.specs.Reading.{IsCodeItem, ReadCode}
+use Rattle.code_read.specs.Reading.{IsCodeItem}
 use Rattle.code_read.specs.Tries.{SpellsTries}
 use Rattle.code_read.specs.declared.item.Item.{Item}
+use Rattle.code_read.proofs.ItemLaws.{ReadCode}
 use Rattle.code_renumber.specs.Fronts.{SpellsItem}
 
 pub item_spells : (N : ℕ → Name → Type 0) (bytes rest : List ℕ) (i : Item) (c : Code) → IsCodeItem bytes i → ReadCode N bytes rest c → SpellsItem N i c

@@ -10,9 +10,9 @@ use Rattle.program_types.specs.Content.{Name, Try}
 use Rattle.code_insns.specs.Places.{Rises, position}
 use Rattle.code_read.specs.Handlers.{Handler, SpellsHandler, SpellsList, SpellsHandlers, handler_at}
 use Rattle.code_read.specs.Item.{try_handler}
-use Rattle.code_read.specs.Reading.{ReadSome, ReadTries}
+use Rattle.code_read.specs.Reading.{ReadTries}
 use Rattle.code_read.specs.Tries.{handler_of}
-use Rattle.code_read.proofs.ListReading.{offsets-rise}
+use Rattle.code_read.proofs.ListReading.{ReadSome, offsets-rise}
 use Rattle.program_types.specs.Formed.{try_at}
 use Rattle.code_renumber.specs.Walks.{AreListed}
 use Rattle.base_bytes.proofs.ListFacts.{all_front, all_back, number_one}

@@ -33,7 +33,7 @@ use tables_numbers::{Marks, Numbers};
 /// A code has to stand at the offset, and `codes` to be the section of the code items. It fails only when out of memory, and then some of the rows may be marked.
 ///
 /// ```
-/// let mut marks = Marks::new(alloc, &sections)?;
+/// let mut marks = Marks::new(alloc, seed, &sections)?;
 /// let most = mark_code(alloc, &mut marks, &sections, codes, 0x1c0)?; // 28 for a code of one unit without tries
 /// ```
 pub fn mark_code(

@@ -23,7 +23,7 @@ use base_bytes::are_bytes;
 use code_insns::{below, number_at};
 use code_put::{Distinct, Laid, lay_distinct, number_of, put_u16, put_u32};
 use code_read::Item;
-use dex_base::{Fault, fault, u16_at, u32_at};
+use dex_base::{Fault, Seed, fault, u16_at, u32_at};
 use dex_container::Sections;
 use indexmap::IndexSet;
 use std::alloc::Global;
@@ -147,7 +147,7 @@ fn number_of_handler(
     list: &[u8],
     offsets: &[u32],
     known: &mut [u32],
-    handlers: &mut IndexSet<Vec<u8>>,
+    handlers: &mut IndexSet<Vec<u8>, Seed>,
     k: usize,
 ) -> Result<u32, Fault>
     requires inside { k < length offsets.now }
@@ -198,7 +198,7 @@ fn number_each(
         → IsDistinctOf (NameRanks s) ss ts (map (λ v. v.items) d.handlers.keys) d.numbers.items) }
     ensures memory { IsOkUnless result memory }
 {
-    let mut handlers = IndexSet::new(alloc);
+    let mut handlers = IndexSet::with_hasher(alloc, numbers.seed());
     let mut all = Vec::with_capacity(alloc, item.tries as usize)?;
     for i in 0..item.tries {
         let k = handler_of(item.items, offsets, usize::from(i));

@@ -4,14 +4,8 @@
 #![tactic(auto)]
 
 #[cfg(test)]
-mod fixtures;
-#[cfg(test)]
-mod insns;
-#[cfg(test)]
-mod places;
-#[cfg(test)]
 mod puts;
 #[cfg(test)]
-mod registers;
+mod read;
 #[cfg(test)]
-mod tries;
+mod told;

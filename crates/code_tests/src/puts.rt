@@ -8,13 +8,13 @@ ghost use Rattle.program_types.specs.Formed.{IsFormed};
 ghost use Rattle.program_types.specs.Mentions.{names_of_insn, names_of_try};
 ghost use Rattle.program_types.specs.View as view;
 
-use crate::insns::all_told;
+use crate::told::insns_told;
 use bumpalo::Bump;
 use code_align::align;
 use code_fits::fits;
 use code_put::{addresses, put_code};
 use dex_base::{Fault, fault};
-use dex_samples::none_wrong;
+use dex_samples::{Case, all_hold};
 use program_code_rules::{CodeRule, code_holds};
 use program_types::{Code, Insn, Try};
 use std::alloc::Global;
@@ -189,33 +189,56 @@ fn is_far_one_refused(alloc: Global) -> bool {
 // The switch, a nop and the payload, whose target is the switch: three, one and six units.
 fn is_aligned_so(alloc: Global) -> Result<bool, Fault> {
     let arena = Bump::new(alloc);
+    is_aligned_in(alloc, &arena)
+}
+
+fn is_aligned_in(alloc: Global, arena: &Bump) -> Result<bool, Fault> {
     if !is_formed(&ODD) {
         return Ok(false);
     }
-    let code = align(alloc, &arena, &ODD)?;
-    Ok(all_told(&code) == 443021000050001 && begins_at(alloc, &code, &[0, 3, 4, 10])?)
+    let code = align(alloc, arena, &ODD)?;
+    Ok(insns_told(&code) == 443021000050001 && begins_at(alloc, &code, &[0, 3, 4, 10])?)
 }
 
-fn first_wrong(alloc: Global) -> Result<Option<&'static str>, Fault> {
-    if !begins_at(alloc, &LOOP, &[0, 1, 3, 4, 5])? {
-        return Ok(Some("the addresses of a loop"));
+// What is asked of the codes.
+enum Asked {
+    Addresses,
+    Item,
+    Odd,
+    Far,
+    Aligned,
+}
+
+impl Case for Asked {
+    fn name(&self) -> &'static str {
+        match self {
+            Asked::Addresses => "the addresses of a loop",
+            Asked::Item => "the item of a loop",
+            Asked::Odd => "a payload at an odd address",
+            Asked::Far => "a goto over 130 units",
+            Asked::Aligned => "a payload at an odd address, aligned",
+        }
     }
-    if !is_put_so(alloc)? {
-        return Ok(Some("the item of a loop"));
+
+    fn holds(&self, alloc: Global) -> Result<bool, Fault> {
+        match self {
+            Asked::Addresses => begins_at(alloc, &LOOP, &[0, 1, 3, 4, 5]),
+            Asked::Item => is_put_so(alloc),
+            Asked::Odd => Ok(is_odd_one_refused(alloc)),
+            Asked::Far => Ok(is_far_one_refused(alloc)),
+            Asked::Aligned => is_aligned_so(alloc),
+        }
     }
-    if !is_odd_one_refused(alloc) {
-        return Ok(Some("a payload at an odd address"));
-    }
-    if !is_far_one_refused(alloc) {
-        return Ok(Some("a goto over 130 units"));
-    }
-    if !is_aligned_so(alloc)? {
-        return Ok(Some("the same, aligned"));
-    }
-    Ok(None)
 }
 
 #[test]
 fn codes_by_hand_are_put_and_aligned(rt: HostRuntime) -> Result<(), Fail> {
-    none_wrong(first_wrong(rt.alloc()))
+    static CASES: [Asked; 5] = [
+        Asked::Addresses,
+        Asked::Item,
+        Asked::Odd,
+        Asked::Far,
+        Asked::Aligned,
+    ];
+    all_hold(rt.alloc(), &CASES)
 }

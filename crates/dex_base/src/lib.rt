@@ -1,5 +1,5 @@
-//! Texts: MUTF-8 strings, the order of strings, names and descriptors; and, from `base_bytes`, faults, numbers in bytes and the
-//! checksum, which all layers share.
+//! Texts: MUTF-8 strings, the order of strings, names and descriptors; and, from `base_bytes`, faults, numbers in bytes, the
+//! checksum and the seed of hashes, which all layers share.
 //!
 //! ```
 //! let mut out = Vec::new(alloc);
@@ -22,8 +22,8 @@ mod simple_name;
 mod laws;
 
 pub use base_bytes::{
-    Fault, adler32, fault, fault_name, fault_sentence, push_words, put_sleb, put_u32_at, put_uleb,
-    read_sleb, read_uleb, u16_at, u32_at,
+    Fault, Seed, adler32, fault, fault_name, fault_sentence, push_words, put_sleb, put_u32_at,
+    put_uleb, read_sleb, read_uleb, u16_at, u32_at,
 };
 pub use descriptor::{descriptor_length, is_array, is_class, is_descriptor};
 pub use laws::{

@@ -17,4 +17,4 @@
 
 pub use file_align::align_all;
 pub use file_read::{check, read};
-pub use file_write::{strip, write};
+pub use file_write::{strip, strip_seeded, write, write_seeded};

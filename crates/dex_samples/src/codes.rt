@@ -7,7 +7,7 @@ use std::alloc::Global;
 
 /// The strings `I`, `LA;`, `V`, `a` and `b`, the types `I`, `LA;` and `V`, the prototype `()V`, the field `LA;->a:I` and the
 /// method `LA;->b()V`. With a class row the data section begins at 204, with the code.
-pub static CODED: Rows<'static> = Rows {
+static CODED: Rows<'static> = Rows {
     strings: &[b"\x01I\0", b"\x03LA;\0", b"\x01V\0", b"\x01a\0", b"\x01b\0"],
     types: &[0, 1, 2],
     protos: &[(2, 2, None)],

@@ -35,8 +35,13 @@ pub fn closed_with(alloc: Global, file: &[u8], at: usize, bytes: &[u8]) -> Resul
 
 /// The file with its checksum and its signature, if it has a header.
 pub fn closed(mut file: Vec<u8>) -> Vec<u8> {
-    if file.len() >= 112 {
-        close(&mut file);
-    }
+    close_file(&mut file);
     file
+}
+
+/// Fills in the checksum and the signature of a file, if it has a header.
+pub fn close_file(file: &mut [u8]) {
+    if file.len() >= 112 {
+        close(file);
+    }
 }

@@ -1,12 +1,25 @@
 //! Samples for tests: names from ASCII texts, files from rows and by edits, readers and writers that fail, and how a test
 //! is told. Only test crates stand on it.
 //!
-//! A function with the attribute `test` is one call, and what can fail is in plain functions, since each assertion is dear to prove:
+//! A test is a table of cases and one call: what can fail is in plain functions, since each assertion is dear to prove, and
+//! a row is cheaper than a function.
 //!
 //! ```
-//! fn unsigned_numbers_are_read() -> Result<(), Fail> {
-//!     static CASES: [Read; 2] = [("0", &[0x00], Some((0, 1))), ("no bytes", &[], None)];
-//!     none_wrong(Ok(first_read_otherwise(&CASES)))
+//! struct Read(&'static str, &'static [u8], Option<(u32, usize)>);
+//!
+//! impl Case for Read {
+//!     fn name(&self) -> &'static str {
+//!         self.0
+//!     }
+//!
+//!     fn holds(&self, _alloc: Global) -> Result<bool, Fault> {
+//!         Ok(read_uleb(self.1) == self.2)
+//!     }
+//! }
+//!
+//! fn unsigned_numbers_are_read(rt: HostRuntime) -> Result<(), Fail> {
+//!     static CASES: [Read; 2] = [Read("0", &[0x00], Some((0, 1))), Read("no bytes", &[], None)];
+//!     all_hold(rt.alloc(), &CASES)
 //! }
 //! ```
 //!
@@ -33,12 +46,12 @@ mod written;
 mod ends;
 
 pub use arena::first_unit;
-pub use codes::{CODED, file_of_item, item_of, length};
-pub use edits::{MISPLACED, closed, closed_with, put_bytes, with_bytes};
+pub use codes::{file_of_item, item_of, length};
+pub use edits::{MISPLACED, close_file, closed_with, put_bytes, with_bytes};
 pub use ends::{TestReader, TestWriter, reader, reader_failing_once, writer, writer_failing_once};
 pub use files::{ONE_CLASS, WITHOUT_CLASSES};
 pub use names::{MISSPELLED, field, method, proto, text, ty};
-pub use outcome::{is_so, none_wrong, shows};
+pub use outcome::{Case, all_hold, is_so, none_wrong};
 pub use rows::{NOTHING, Rows};
 pub use shown::{put_field, put_method, put_name, put_proto, put_types, put_units};
 pub use written::file_of;

@@ -1,18 +1,20 @@
 //! `dexasm check|list|assemble|strip [FILE] [--output OUT]`: the words of the command line, carried out.
 //!
 //! Without FILE standard input is read, without `--output` the answer goes to standard output; a failure is one line on
-//! standard error, and a second one where that is a terminal. The exit status is 0 where the answer was written or help was asked for, 1 for a refused file or listing, 2
-//! for wrong words, 3 where reading or writing failed, and 4 when out of memory.
+//! standard error, and a second one where that is a terminal. The exit status is 0 where the answer was written or help
+//! was asked for, 1 for a refused file or listing, 2 for wrong words, 3 where reading or writing failed, and 4 when out
+//! of memory.
 //!
 //! docs/MAP.md says where this crate stands among the others.
 #![tactic(auto)]
 
 mod machine;
 
-use dexasm_command::{RunFault, Sink, Terminals, Watched, serve, tell, write_all};
+use dexasm_command::{RunFault, Seed, Sink, Terminals, Watched, serve, tell, write_all};
 use machine::Machine;
 use std::io::IsTerminal;
 use std::process::ExitCode;
+use std::random::RandomSource;
 use std::{env, io};
 
 fn main(rt: HostRuntime) -> ExitCode {
@@ -44,6 +46,7 @@ fn run(rt: &HostRuntime) -> u8 {
     };
     serve(
         rt.alloc(),
+        drawn(rt),
         texts.as_slice(),
         terminals,
         &mut Machine::new(rt),
@@ -51,6 +54,15 @@ fn run(rt: &HostRuntime) -> u8 {
         &mut Watched::new(rt.stdout()),
         &mut errors,
     )
+}
+
+// A seed that nobody can know beforehand; where the system gives none, the fixed one, with which all is answered just so.
+fn drawn(rt: &HostRuntime) -> Seed {
+    let mut bytes = [0; 8];
+    match rt.fill_bytes(&mut bytes) {
+        Ok(()) => Seed::new(u64::from_le_bytes(bytes)),
+        Err(_) => Seed::fixed(),
+    }
 }
 
 // Words that could not be read: out of memory, or no text.

@@ -10,6 +10,9 @@
  *   - after it are as many bytes as the length or the capacity says, and less than 2^63;
  *   - out, needed and fault overlap neither one another nor the bytes that are read, and nobody else writes any of it meanwhile.
  *
+ * Hashes begin with a fixed seed here, where the command draws one. So bytes can be made on which dexasm_assemble and dexasm_strip take
+ * time that grows with their square: limit the time for those of strangers (docs/MEASURED.md).
+ *
  * A call with room for its answer is one call; without, ask with a capacity of 0 (and any pointer but NULL) and call again with
  * *needed: that does the work twice.
  */

@@ -14,12 +14,12 @@ use Rattle.dexasm_run.specs.declared.error.RunFault.TheVariants.{Refused, Input,
 use Rattle.dexasm_world.specs.State.{Path, Passes}
 use Rattle.dexasm_world.specs.Safe.{IsSafe, IsDelivered, IsTidy, IsGivenUp}
 use Rattle.dexasm_world.specs.Looks.{IsHeld, CantBeRead, CauseAt}
-use Rattle.dexasm_command.specs.Told.{Tells}
+use Rattle.dexasm_command.specs.Told.{PutsFault}
 use Rattle.dexasm_command.specs.Served.{CommandRun, Serves, DoesNothing, IsShown, IsMisused, IsHeldBack}
 
 -- standard error tells of the fault, or has a front of that where it failed
 abbrev pub TellsIn : CommandRun → RunFault → Type 0
-TellsIn r fault = Tells r.terminals.errors fault r.said r.says r.errors_failed
+TellsIn r fault = PutsFault r.terminals.errors fault r.said r.says r.errors_failed
 
 -- the answer has come to OUT, safe at each moment, and nothing is left beside it
 pub record IsBrought (r : CommandRun) (out : Path) (answer : List ℕ) : Type 0 where

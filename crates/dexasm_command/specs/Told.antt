@@ -37,15 +37,15 @@ pub record AddsMore (fault : RunFault) (old new : List ℕ) : Type 0 where
   pub is : IsMore true fault more
   pub added : new ≡ old ++ more
 
--- a failure is told
-pub record Tells (terminal : Bool) (fault : RunFault) (held holds : Option (List ℕ)) (failed : Bool) : Type 0 where
+-- the text of a failure has been put, or a front of it where the sink failed
+pub record PutsFault (terminal : Bool) (fault : RunFault) (held holds : Option (List ℕ)) (failed : Bool) : Type 0 where
   pub text : List ℕ
   pub is : IsText terminal fault text
   pub put : PutsLine held holds failed text
 
 -- the fault's status, and its line
 abbrev pub TellsFault : Bool → RunFault → Option (List ℕ) → Option (List ℕ) → Bool → ℕ → Type 0
-TellsFault terminal fault held holds failed status = (status ≡ exit_status fault) × Tells terminal fault held holds failed
+TellsFault terminal fault held holds failed status = (status ≡ exit_status fault) × PutsFault terminal fault held holds failed
 
 -- Success is silent, a failure is told. Where there is no memory for its line, that is told.
 abbrev pub EndsTold : {T : Type 0} → Bool → Result T RunFault → Option (List ℕ) → Option (List ℕ) → Bool → ℕ → Type 0

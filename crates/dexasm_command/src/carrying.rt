@@ -2,14 +2,17 @@
 ghost use Rattle.std.specs.Prelude.{◌≡◌, false, true, [], None, Some};
 ghost use Rattle.dexasm_command.specs.Carried.{AnswersFrom, CarriesOut, GoesTo, HandsOver};
 
+use base_bytes::Seed;
 use dexasm_job::Job;
 use dexasm_run::{RunFault, Sink, Source, answer_bytes, make, run, write_all};
 use dexasm_world::{Refusal, World, deliver, read_all};
 use std::alloc::Global;
 
-/// Carries out the job on what FILE holds, or on what the input gives, and delivers its answer to OUT or to the output.
+/// Carries out the job on what FILE holds, or on what the input gives, and delivers its answer to OUT or to the output. Hashes begin
+/// with the seed.
 pub fn carry_out<W: World, I: Source, O: Sink>(
     alloc: Global,
+    seed: Seed,
     job: Job,
     file: Option<&str>,
     out: Option<&str>,
@@ -40,9 +43,9 @@ pub fn carry_out<W: World, I: Source, O: Sink>(
         result }
 {
     match file {
-        None => answer_from(alloc, job, out, world, input, output),
+        None => answer_from(alloc, seed, job, out, world, input, output),
         Some(path) => match read_all(alloc, world, path) {
-            Ok(given) => answer_given(alloc, job, given, out, world, output),
+            Ok(given) => answer_given(alloc, seed, job, given, out, world, output),
             Err(Refusal::Memory) => Err(RunFault::Memory),
             Err(Refusal::Missing) => Err(RunFault::Input),
             Err(Refusal::Other) => Err(RunFault::Input),
@@ -53,6 +56,7 @@ pub fn carry_out<W: World, I: Source, O: Sink>(
 // The answer to these bytes.
 fn answer_given<W: World, O: Sink>(
     alloc: Global,
+    seed: Seed,
     job: Job,
     given: Vec<u8>,
     out: Option<&str>,
@@ -78,7 +82,7 @@ fn answer_given<W: World, O: Sink>(
         })
         result }
 {
-    match answer_bytes(alloc, job, given) {
+    match answer_bytes(alloc, seed, job, given) {
         Ok(made) => match out {
             None => write_all(made.as_slice(), output),
             Some(path) => hand_over(alloc, made.as_slice(), path, world),
@@ -90,6 +94,7 @@ fn answer_given<W: World, O: Sink>(
 // The answer to what the input gives.
 fn answer_from<W: World, I: Source, O: Sink>(
     alloc: Global,
+    seed: Seed,
     job: Job,
     out: Option<&str>,
     world: &mut W,
@@ -119,14 +124,15 @@ fn answer_from<W: World, I: Source, O: Sink>(
         result }
 {
     match out {
-        None => run(alloc, job, input, output),
-        Some(path) => answer_to(alloc, job, path, world, input),
+        None => run(alloc, seed, job, input, output),
+        Some(path) => answer_to(alloc, seed, job, path, world, input),
     }
 }
 
 // The answer, delivered to OUT when it is whole.
 fn answer_to<W: World, I: Source>(
     alloc: Global,
+    seed: Seed,
     job: Job,
     out: &str,
     world: &mut W,
@@ -137,7 +143,7 @@ fn answer_to<W: World, I: Source>(
     ensures { GoesTo job (I.remaining input.old) (I.remaining input.new) (I.failed input.new) (W.is_known ≡ true) (W.files world.old) (W.files world.new)
         out.now result }
 {
-    let answer = make(alloc, job, input)?;
+    let answer = make(alloc, seed, job, input)?;
     hand_over(alloc, answer.as_slice(), out, world)
 }
 

@@ -9,6 +9,7 @@ use crate::carrying::carry_out;
 use crate::shown::shown;
 use crate::telling::tell;
 use crate::terminals::Terminals;
+use base_bytes::Seed;
 use clap::Error;
 use dexasm_plan::{plan, usage_status};
 use dexasm_run::{RunFault, Sink, Source, write_all};
@@ -20,9 +21,11 @@ use std::io;
 const TERMINAL_LINE: &[u8] =
     b"dexasm: a .dex file isn't for a terminal: use --output FILE or a pipe\n";
 
-/// Carries out the words of a command line, of which the first is the program's name, and answers the exit status.
+/// Carries out the words of a command line, of which the first is the program's name, and answers the exit status. Hashes begin with
+/// the seed, on which nothing else depends.
 pub fn serve<W: World, I: Source, O: Sink, E: Sink>(
     alloc: Global,
+    seed: Seed,
     words: &[&str],
     terminals: Terminals,
     world: &mut W,
@@ -64,7 +67,7 @@ pub fn serve<W: World, I: Source, O: Sink, E: Sink>(
                 return hold_back(errors);
             }
             let (job, file, out) = (planned.job, planned.file, planned.output);
-            let done = carry_out(alloc, job, file, out, world, input, output);
+            let done = carry_out(alloc, seed, job, file, out, world, input, output);
             let error = error_of(&done, file, out, world, input, output);
             end(alloc, done, error, terminals.errors, errors)
         }

@@ -1,3 +1,4 @@
+pub mod ListedLaws
 pub mod AnswerOnce
 pub mod MadeLaws
 pub mod OutcomeOnce

@@ -5,6 +5,7 @@ use Rattle.dexasm_job.specs.declared.job.Job.{Job}
 use Rattle.dexasm_job.specs.declared.job.Job.TheVariants.{Check, List as Listing, Assemble, Strip}
 use Rattle.dexasm_jobs.specs.Answers.{Answer, IsAligned, IsAlignedUnwritten, Outcome, Refusal}
 use Rattle.dexasm_jobs.proofs.AnswerOnce.{answer_once}
+use Rattle.dexasm_jobs.proofs.ListedLaws.{is_read}
 use Rattle.file_align.specs.Programs.{AlignedProgram}
 use Rattle.file_align.proofs.OneAligned.{program_aligned_one, too_long_unformed}
 use Rattle.file_write.specs.Limits.{Fits, IsLowestLimit}
@@ -12,9 +13,9 @@ use Rattle.file_write.proofs.LimitLaws.{fits_breaks_none}
 use Rattle.file_write.proofs.OneLimit.{limit_one}
 use Rattle.file_write.proofs.OneRefusal.{none_meant, one_refusal}
 use Rattle.file_write.proofs.PassLaws.{program_one}
-use Rattle.listing_laws.proofs.ExactLaws.{listing_none, listing_one}
-use Rattle.listing_laws.proofs.OneFault.{fault_one}
-use Rattle.listing_laws.specs.Text.{ListingBreaks}
+use Rattle.listing_grammar.proofs.ExactLaws.{listing_none, listing_one}
+use Rattle.listing_grammar.proofs.OneFault.{fault_one}
+use Rattle.listing_grammar.specs.Text.{ListingBreaks}
 use Rattle.program_types.specs.Content.{Program}
 
 -- a program that fits breaks no limit
@@ -32,13 +33,13 @@ aligned_one p q r s same a b = program_aligned_one q r s (subst (λ (x : Program
 answered_not_refused : (job : Job) (given made : List ℕ) (f : Fault) → Answer job given made → Refusal job given f → ⊥
 answered_not_refused Check given made f x r = none_meant given f x.0 r x.1
 answered_not_refused Listing given made f x r = none_meant given f x.0 r x.1
-answered_not_refused (Assemble false) given made f x (inl r) = listing_none given x.program f.code f.place r x.listed
-answered_not_refused (Assemble false) given made f x (inr r) = not_limited x.program r.0 f (listing_one given x.program r.0 x.listed r.1) x.fits r.2
-answered_not_refused (Assemble true) given made f x (inl r) = listing_none given x.program f.code f.place r x.listed
+answered_not_refused (Assemble false) given made f x (inl r) = listing_none given x.program f.code f.place r (is_read given x.program x.listed)
+answered_not_refused (Assemble false) given made f x (inr r) = not_limited x.program r.0 f (listing_one given x.program r.0 (is_read given x.program x.listed) (is_read given r.0 r.1)) x.fits r.2
+answered_not_refused (Assemble true) given made f x (inl r) = listing_none given x.program f.code f.place r (is_read given x.program x.listed)
 answered_not_refused (Assemble true) given made f x (inr r) = by r.2
   where
     same : x.program ≡ r.0
-    same = listing_one given x.program r.0 x.listed r.1
+    same = listing_one given x.program r.0 (is_read given x.program x.listed) (is_read given r.0 r.1)
 
     by : IsAlignedUnwritten r.0 f → ⊥
     by (inl long) = too_long_unformed r.0 x.other f long (subst (λ (p : Program). AlignedProgram p x.other) same x.is.aligned) x.is.formed
@@ -58,16 +59,16 @@ refusal_once : (job : Job) (given : List ℕ) (e f : Fault) → Refusal job give
 refusal_once Check given e f a b = one_refusal given e f a b
 refusal_once Listing given e f a b = one_refusal given e f a b
 refusal_once (Assemble false) given e f (inl a) (inl b) = listing_refused_one given e f a b
-refusal_once (Assemble false) given e f (inl a) (inr b) = absurd (listing_none given b.0 e.code e.place a b.1)
-refusal_once (Assemble false) given e f (inr a) (inl b) = absurd (listing_none given a.0 f.code f.place b a.1)
-refusal_once (Assemble false) given e f (inr a) (inr b) = limits_one a.0 b.0 e f (listing_one given a.0 b.0 a.1 b.1) a.2 b.2
+refusal_once (Assemble false) given e f (inl a) (inr b) = absurd (listing_none given b.0 e.code e.place a (is_read given b.0 b.1))
+refusal_once (Assemble false) given e f (inr a) (inl b) = absurd (listing_none given a.0 f.code f.place b (is_read given a.0 a.1))
+refusal_once (Assemble false) given e f (inr a) (inr b) = limits_one a.0 b.0 e f (listing_one given a.0 b.0 (is_read given a.0 a.1) (is_read given b.0 b.1)) a.2 b.2
 refusal_once (Assemble true) given e f (inl a) (inl b) = listing_refused_one given e f a b
-refusal_once (Assemble true) given e f (inl a) (inr b) = absurd (listing_none given b.0 e.code e.place a b.1)
-refusal_once (Assemble true) given e f (inr a) (inl b) = absurd (listing_none given a.0 f.code f.place b a.1)
+refusal_once (Assemble true) given e f (inl a) (inr b) = absurd (listing_none given b.0 e.code e.place a (is_read given b.0 b.1))
+refusal_once (Assemble true) given e f (inr a) (inl b) = absurd (listing_none given a.0 f.code f.place b (is_read given a.0 a.1))
 refusal_once (Assemble true) given e f (inr a) (inr b) = by a.2 b.2
   where
     same : a.0 ≡ b.0
-    same = listing_one given a.0 b.0 a.1 b.1
+    same = listing_one given a.0 b.0 (is_read given a.0 a.1) (is_read given b.0 b.1)
 
     by : IsAlignedUnwritten a.0 e → IsAlignedUnwritten b.0 f → e ≡ f
     by (inl x) (inl y) = x.is ∙ sym y.is

@@ -6,7 +6,8 @@ use Rattle.base_bytes.specs.declared.fault.Fault.{Fault}
 use Rattle.file_write.specs.Means.{Means}
 use Rattle.file_write.specs.Refused.{IsRefused}
 use Rattle.file_write.specs.Limits.{Fits, IsLowestLimit}
-use Rattle.listing_laws.specs.Text.{IsListing, ListingBreaks}
+use Rattle.listing_grammar.specs.Texts.{ListingText}
+use Rattle.listing_grammar.specs.Text.{ListingBreaks}
 use Rattle.listing_laws.specs.Canon.{canon}
 use Rattle.program_rules.specs.WellFormed.{WellFormed}
 use Rattle.program_types.specs.Content.{Program}
@@ -14,10 +15,15 @@ use Rattle.file_write.specs.Written.{IsFileOf, IsStripped, IsStripRefused}
 use Rattle.dexasm_job.specs.declared.job.Job.{Job}
 use Rattle.dexasm_job.specs.declared.job.Job.TheVariants.{Check, List as Listing, Assemble, Strip}
 
+-- The text is the text of a program, line by line as LISTING has them, and the program is well formed.
+pub record Lists (given : List ℕ) (p : Program) : Type 0 where
+  pub text : ListingText given p
+  pub formed : WellFormed p
+
 -- The listing says a program that fits, and the bytes are its file.
 pub record IsAssembled (given made : List ℕ) : Type 0 where
   pub program : Program
-  pub listed : IsListing given program
+  pub listed : Lists given program
   pub fits : Fits program
   pub file : IsFileOf program made
 
@@ -29,7 +35,7 @@ pub record IsAligned (p q : Program) : Type 0 where
 -- The bytes made are the file of the listed program with each of its codes aligned.
 pub record IsAssembledAligned (given made : List ℕ) : Type 0 where
   pub program : Program
-  pub listed : IsListing given program
+  pub listed : Lists given program
   pub other : Program
   pub is : IsAligned program other
   pub fits : Fits other
@@ -53,9 +59,9 @@ abbrev pub Refusal : Job → List ℕ → Fault → Type 0
 Refusal Check given fault = IsRefused given fault
 Refusal Listing given fault = IsRefused given fault
 Refusal (Assemble false) given fault =
-    ListingBreaks given fault.code fault.place ⊎ ((p : Program) × IsListing given p × IsLowestLimit p fault)
+    ListingBreaks given fault.code fault.place ⊎ ((p : Program) × Lists given p × IsLowestLimit p fault)
 Refusal (Assemble true) given fault =
-    ListingBreaks given fault.code fault.place ⊎ ((p : Program) × IsListing given p × IsAlignedUnwritten p fault)
+    ListingBreaks given fault.code fault.place ⊎ ((p : Program) × Lists given p × IsAlignedUnwritten p fault)
 Refusal Strip given fault = IsStripRefused given fault
 
 -- What comes of a job on these bytes, unless memory runs out: its answer, or its refusal.

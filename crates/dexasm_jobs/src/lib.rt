@@ -14,5 +14,5 @@ mod answers;
 // What holds of answers.
 mod laws;
 
-pub use answers::{answer, answer_owned};
+pub use answers::{answer, answer_owned, answer_owned_seeded, answer_seeded};
 pub use laws::{listed_and_assembled_is_stripped, one_answer, one_outcome};

@@ -8,6 +8,7 @@ mod error;
 mod running;
 
 pub use dexasm_job::Job;
+pub use dexasm_jobs::{answer, answer_owned};
 pub use ends::{Reader, Sink, Source, Watched, Writer};
 pub use error::{Line, RunFault, line_text, status};
 pub use running::{answer_bytes, make, run, write_all};

@@ -5,9 +5,9 @@ ghost use Rattle.dexasm_run.specs.Runs.{Answers, AnswersTo, BeginsAnswer, Makes,
 
 use crate::ends::{Sink, Source};
 use crate::error::RunFault;
-use dex_base::Fault;
+use dex_base::{Fault, Seed};
 use dexasm_job::Job;
-use dexasm_jobs::answer_owned;
+use dexasm_jobs::answer_owned_seeded;
 use std::alloc::{AllocError, Global};
 
 /// How many bytes one `take` may give.
@@ -18,19 +18,23 @@ const PIECE: usize = 64 * 1024;
 /// `Refused` carries a fault of the call that the job stands for, `Input` comes only where the source failed in
 /// this run, `Output` only where the sink did, and `Memory` stands for the fault 255. After `Refused`, `Input` and
 /// `Memory` nothing was put, after `Output` a beginning of the answer. An endless source ends in `Memory` or
-/// `Input`, since each `take` adds a byte, fails or ends the source, and a vector's length is bounded.
+/// `Input`, since each `take` adds a byte, fails or ends the source, and a vector's length is bounded. Hashes begin with the
+/// seed, as those of `dexasm_jobs::answer_seeded` do.
 ///
 /// ```
+/// use dex_base::Seed;
 /// use dexasm_run::{Job, Watched, run};
 ///
 /// let listing: &[u8] = b"dex 035 listing 2\n";
 /// let mut output = Watched::new(Vec::new(alloc));
-/// let done = run(alloc, Job::Assemble { align: false }, &mut Watched::new(listing), &mut output);
+/// let job = Job::Assemble { align: false };
+/// let done = run(alloc, Seed::fixed(), job, &mut Watched::new(listing), &mut output);
 /// assert!(rt; done.is_ok());
 /// assert_eq!(rt; output.into_inner().len(), 140);
 /// ```
 pub fn run<R: Source, W: Sink>(
     alloc: Global,
+    seed: Seed,
     job: Job,
     input: &mut R,
     output: &mut W,
@@ -50,40 +54,54 @@ pub fn run<R: Source, W: Sink>(
         (Keeps (W.contents output.old) (W.contents output.new)) ⊤
         (Keeps (W.contents output.old) (W.contents output.new)) }
 {
-    let made = make(alloc, job, input)?;
+    let made = make(alloc, seed, job, input)?;
     write_all(made.as_slice(), output)
 }
 
-/// Takes from the source until it has ended, and answers the job on all that it gave.
+/// Takes from the source until it has ended, and answers the job on all that it gave. Hashes begin with the seed.
 ///
 /// ```
+/// use dex_base::Seed;
 /// use dexasm_run::{Job, Watched, make};
 ///
 /// let listing: &[u8] = b"dex 035 listing 2\n";
-/// let made = make(alloc, Job::Assemble { align: false }, &mut Watched::new(listing)).unwrap();
+/// let job = Job::Assemble { align: false };
+/// let made = make(alloc, Seed::fixed(), job, &mut Watched::new(listing)).unwrap();
 /// assert_eq!(rt; made.len(), 140);
 /// ```
-pub fn make<R: Source>(alloc: Global, job: Job, input: &mut R) -> Result<Vec<u8>, RunFault>
+pub fn make<R: Source>(
+    alloc: Global,
+    seed: Seed,
+    job: Job,
+    input: &mut R,
+) -> Result<Vec<u8>, RunFault>
     requires { R.ended input.old ≡ false }
     ensures { Makes job (R.remaining input.old) (R.remaining input.new) (R.failed input.new) (R.ended input.new) result }
 {
     let given = read_all(alloc, input)?;
-    answer_bytes(alloc, job, given)
+    answer_bytes(alloc, seed, job, given)
 }
 
-/// Answers the job on these bytes.
+/// Answers the job on these bytes. Hashes begin with the seed.
 ///
 /// ```
+/// use dex_base::Seed;
 /// use dexasm_run::{Job, answer_bytes};
 ///
 /// let listing: Vec<u8> = Vec::from_slice(alloc, b"dex 035 listing 2\n").unwrap();
-/// let made = answer_bytes(alloc, Job::Assemble { align: false }, listing).unwrap();
+/// let job = Job::Assemble { align: false };
+/// let made = answer_bytes(alloc, Seed::fixed(), job, listing).unwrap();
 /// assert_eq!(rt; made.len(), 140);
 /// ```
-pub fn answer_bytes(alloc: Global, job: Job, given: Vec<u8>) -> Result<Vec<u8>, RunFault>
+pub fn answer_bytes(
+    alloc: Global,
+    seed: Seed,
+    job: Job,
+    given: Vec<u8>,
+) -> Result<Vec<u8>, RunFault>
     ensures { AnswersTo job given.items result }
 {
-    match answer_owned(alloc, job, given) {
+    match answer_owned_seeded(alloc, seed, job, given) {
         Ok(made) => Ok(made),
         Err(fault) => Err(refusal(fault)),
     }

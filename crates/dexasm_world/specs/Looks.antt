@@ -120,6 +120,7 @@ HasCauseBeside path f g result = Caused result ((f.faults < g.faults) ⊎ NoneIs
 abbrev pub CauseAt : Path → Files → Files → Type 0
 CauseAt out f g = (f.faults < g.faults) ⊎ IsBarred f out ⊎ NoneIsFree f (target_of f out)
 
+-- a call that failed on its way to OUT has such a cause
 abbrev pub HasCauseAt : {T : Type 0} → Path → Files → Files → Result T Refusal → Type 0
 HasCauseAt out f g result = Caused result (CauseAt out f g)
 

@@ -176,7 +176,7 @@ pub trait World {
             Begun (place_of (files self.old) path.now) (Self.File.number f) (files self.old).now (files self.new).now) }
         ensures cause { is_known ≡ true → HasCause (files self.old) (files self.new) result };
 
-    /// The system's error of the last call that failed, a `remove` aside, where it said one. It is for people: no clause speaks of it.
+    /// The system's error, where the last call failed, a `remove` aside, and the system said one. It is for people: no clause speaks of it.
     fn error(&self) -> Option<io::Error>;
 
     /// A file beside another stands at a place of its own.

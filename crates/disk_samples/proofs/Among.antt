@@ -5,7 +5,7 @@ use Rattle.std.specs.Borrow.{Bor}
 use Rattle.std.proofs.lemmas.Slice.Eq.{bytes_eq-Decides}
 use Rattle.std.proofs.lemmas.List.{take_more}
 use Rattle.dexasm_world.specs.State.{Path}
-use Rattle.disk_samples.specs.Logs.{is_among, one_if, standing, stands_at}
+use Rattle.disk_samples.specs.Logs.{is_a_name, one_if, standing, stands_at}
 
 or_right : (a b : Bool) → b ≡ true → (a || b) ≡ true
 or_right true b h = refl
@@ -24,39 +24,39 @@ or_either true b h = inl refl
 or_either false b h = inr h
 
 -- a name that was read is among the names
-among_at : (p : Path) (names : List (Bor Path)) (i : ℕ) (d : Bor Path) → i < length names → p ≡ (get_or names i d).now → is_among p names ≡ true
+among_at : (p : Path) (names : List (Bor Path)) (i : ℕ) (d : Bor Path) → i < length names → p ≡ (get_or names i d).now → is_a_name p names ≡ true
 among_at p [] i d within same = absurd (omega (arith, within))
-among_at p (x ∷ xs) zero d within same = ap (λ b. b || is_among p xs) ((bytes_eq-Decides p x.now).1 same)
-among_at p (x ∷ xs) (suc i) d within same = or_right (bytes_eq p x.now) (is_among p xs) (among_at p xs i d (omega (arith, within)) same)
+among_at p (x ∷ xs) zero d within same = ap (λ b. b || is_a_name p xs) ((bytes_eq-Decides p x.now).1 same)
+among_at p (x ∷ xs) (suc i) d within same = or_right (bytes_eq p x.now) (is_a_name p xs) (among_at p xs i d (omega (arith, within)) same)
 
-among_push : (p : Path) (xs : List (Bor Path)) (q : Bor Path) → is_among p (xs ++ q ∷ []) ≡ (is_among p xs || bytes_eq p q.now)
+among_push : (p : Path) (xs : List (Bor Path)) (q : Bor Path) → is_a_name p (xs ++ q ∷ []) ≡ (is_a_name p xs || bytes_eq p q.now)
 among_push p [] q = or_false (bytes_eq p q.now)
-among_push p (x ∷ xs) q = ap (λ b. bytes_eq p x.now || b) (among_push p xs q) ∙ or_assoc (bytes_eq p x.now) (is_among p xs) (bytes_eq p q.now)
+among_push p (x ∷ xs) q = ap (λ b. bytes_eq p x.now || b) (among_push p xs q) ∙ or_assoc (bytes_eq p x.now) (is_a_name p xs) (bytes_eq p q.now)
 
 -- one name more was read
 pub among_more : (p : Path) (names : List (Bor Path)) (i : ℕ) (d : Bor Path) → i < length names
-    → is_among p (take (i + 1) names) ≡ (is_among p (take i names) || bytes_eq p (get_or names i d).now)
-among_more p names i d within = ap (is_among p) (take_more names i d within) ∙ among_push p (take i names) (get_or names i d)
+    → is_a_name p (take (i + 1) names) ≡ (is_a_name p (take i names) || bytes_eq p (get_or names i d).now)
+among_more p names i d within = ap (is_a_name p) (take_more names i d within) ∙ among_push p (take i names) (get_or names i d)
 
 -- and it is the path
 pub among_now : (p : Path) (names : List (Bor Path)) (i : ℕ) (d : Bor Path) (r : Bool) → i < length names → r ≡ bytes_eq p (get_or names i d).now → r ≡ true
-    → ((get_or names i d).now ≡ p) × (is_among p names ≡ true)
+    → ((get_or names i d).now ≡ p) × (is_a_name p names ≡ true)
 among_now p names i d r within is found =
     let same : p ≡ (get_or names i d).now = (bytes_eq-Decides p (get_or names i d).now).0 (sym is ∙ found) in
     (sym same, among_at p names i d within same)
 
 -- or another
 pub among_not : (p : Path) (names : List (Bor Path)) (i : ℕ) (d : Bor Path) (r : Bool) → i < length names → r ≡ bytes_eq p (get_or names i d).now → r ≡ false
-    → is_among p (take i names) ≡ false → is_among p (take (i + 1) names) ≡ false
+    → is_a_name p (take i names) ≡ false → is_a_name p (take (i + 1) names) ≡ false
 among_not p names i d r within is missed before =
     let here : bytes_eq p (get_or names i d).now ≡ false = sym is ∙ missed in
     among_more p names i d within ∙ (λ j. before j || here j)
 
 -- what is so of each name read before, and of this one, is so of each
-pub each_among : (P : Path → Type 0) (names : List (Bor Path)) (i : ℕ) (d : Bor Path) → i < length names → ((q : Path) → is_among q (take i names) ≡ true → P q)
-    → P (get_or names i d).now → (q : Path) → is_among q (take (i + 1) names) ≡ true → P q
+pub each_among : (P : Path → Type 0) (names : List (Bor Path)) (i : ℕ) (d : Bor Path) → i < length names → ((q : Path) → is_a_name q (take i names) ≡ true → P q)
+    → P (get_or names i d).now → (q : Path) → is_a_name q (take (i + 1) names) ≡ true → P q
 each_among P names i d within before here q among =
-    elim (or_either (is_among q (take i names)) (bytes_eq q (get_or names i d).now) (sym (among_more q names i d within) ∙ among)) [
+    elim (or_either (is_a_name q (take i names)) (bytes_eq q (get_or names i d).now) (sym (among_more q names i d within) ∙ among)) [
       | inl earlier ↦ before q earlier
       | inr now ↦ subst P (sym ((bytes_eq-Decides q (get_or names i d).now).0 now)) here
     ]
@@ -90,10 +90,10 @@ one_fewer place stands q same there =
     let stood : one_if (is_some (stands q)) ≡ 1 = ap (λ p. one_if (is_some (stands p))) (sym same) ∙ ap one_if there in
     omega (arith, gone, stood)
 
-pub taken_away : (place : Path) (stands : Path → Option ℕ) (names : List (Bor Path)) → is_among place names ≡ true → is_some (stands place) ≡ true
+pub taken_away : (place : Path) (stands : Path → Option ℕ) (names : List (Bor Path)) → is_a_name place names ≡ true → is_some (stands place) ≡ true
     → standing (stands_at place None stands) names + 1 ≤ standing stands names
 taken_away place stands [] among there = cc
-taken_away place stands (q ∷ qs) among there = elim (or_either (bytes_eq place q.now) (is_among place qs) among) [
+taken_away place stands (q ∷ qs) among there = elim (or_either (bytes_eq place q.now) (is_a_name place qs) among) [
   | inl is ↦ omega (arith, one_fewer place stands q.now ((bytes_eq-Decides place q.now).0 is) there, fewer place stands qs)
   | inr later ↦ omega (arith, here_fewer (bytes_eq q.now place) (stands q.now), taken_away place stands qs later there)
 ]

@@ -9,8 +9,8 @@ use Rattle.dexasm_world.specs.Steps.{Same, Made, Wrote, Moved, Removed}
 use Rattle.dexasm_world.specs.Looks.{Caused, RefusedFor}
 use Rattle.dexasm_world.specs.declared.world.Refusal.{Refusal}
 use Rattle.dexasm_world.specs.declared.world.Refusal.TheVariants.{Memory, Missing, Other}
-use Rattle.disk_samples.specs.Logs.{step, state_of, before, no_files, fault_of, leftover_of, faults_in, leftovers_in, IsNumbered}
-use Rattle.disk_samples.specs.Disks.{Calls, Fails, Gains, Refuses, Stays, files_of, paths_at}
+use Rattle.disk_samples.specs.Logs.{step, state_of, moments_before, no_files, fault_count, leftover_count, faults_in, leftovers_in, AreMadeBefore}
+use Rattle.disk_samples.specs.Disks.{Calls, Fails, Gains, TurnsDown, Stays, files_of, paths_at}
 use Rattle.disk_samples.specs.declared.change.Change.{Change}
 use Rattle.disk_samples.specs.declared.change.Change.TheVariants.{Nothing, Make, Write, Move, Remove}
 use Rattle.disk_samples.specs.declared.change.Outcome.{Outcome}
@@ -26,7 +26,7 @@ stays_pass : (d e : Disk) (P : FileState → Type 0) → Stays d e → P (files_
 stays_pass d e P k p = record {
   same_paths = λ i. paths_at (k.names i).now (k.manner i);
   moments = [];
-  goes_on = ap (λ log. before no_files log ++ state_of log ∷ []) k.log;
+  goes_on = ap (λ log. moments_before no_files log ++ state_of log ∷ []) k.log;
   each = All-nil P;
   last = subst P (sym (stays_now d e k)) p;
   later = omega (arith, ap faults_in k.log);
@@ -36,10 +36,10 @@ stays_pass d e P k p = record {
 pub gains_now : (d e : Disk) (x : Entry) → Gains d e x → (files_of e).now ≡ step x.change (files_of d).now
 gains_now d e x g = ap state_of g.log ∙ state_more d.log.items x
 
-gains_faults : (d e : Disk) (x : Entry) → Gains d e x → (files_of e).faults ≡ (files_of d).faults + fault_of x.outcome
+gains_faults : (d e : Disk) (x : Entry) → Gains d e x → (files_of e).faults ≡ (files_of d).faults + fault_count x.outcome
 gains_faults d e x g = ap faults_in g.log ∙ faults_more d.log.items x
 
-gains_leftovers : (d e : Disk) (x : Entry) → Gains d e x → (files_of e).leftovers ≡ (files_of d).leftovers + leftover_of x.outcome
+gains_leftovers : (d e : Disk) (x : Entry) → Gains d e x → (files_of e).leftovers ≡ (files_of d).leftovers + leftover_count x.outcome
 gains_leftovers d e x g = ap leftovers_in g.log ∙ leftovers_more d.log.items x
 
 pub gains_pass : (d e : Disk) (x : Entry) (P : FileState → Type 0) → Gains d e x → P (step x.change (files_of d).now) → Passes (files_of d) (files_of e) P
@@ -50,7 +50,7 @@ gains_pass d e x P g p =
     record {
       same_paths = λ i. paths_at (g.names i).now (g.manner i);
       moments = t ∷ [];
-      goes_on = ap (λ l. l ++ t ∷ []) (ap (before no_files) g.log ∙ before_more no_files d.log.items x) ∙ append_assoc (before no_files d.log.items) (s ∷ []) (t ∷ []);
+      goes_on = ap (λ l. l ++ t ∷ []) (ap (moments_before no_files) g.log ∙ before_more no_files d.log.items x) ∙ append_assoc (moments_before no_files d.log.items) (s ∷ []) (t ∷ []);
       each = All-cons P t [] is (All-nil P);
       last = is;
       later = omega (arith, gains_faults d e x g);
@@ -64,10 +64,10 @@ fails_pass c x d e P f same done = gains_pass d e (record { change = f.made; out
   | inr is ↦ subst (λ m. P (step m (files_of d).now)) (sym is) done
 ])
 
-pub fails_fault : (c : Change) (x : Outcome) (d e : Disk) → fault_of x ≡ 1 → Fails c x d e → (files_of d).faults < (files_of e).faults
+pub fails_fault : (c : Change) (x : Outcome) (d e : Disk) → fault_count x ≡ 1 → Fails c x d e → (files_of d).faults < (files_of e).faults
 fails_fault c x d e one f = omega (arith, gains_faults d e (record { change = f.made; outcome = x }) f.gains, one)
 
-pub fails_leftover : (c : Change) (x : Outcome) (d e : Disk) → leftover_of x ≡ 1 → Fails c x d e → (files_of d).leftovers < (files_of e).leftovers
+pub fails_leftover : (c : Change) (x : Outcome) (d e : Disk) → leftover_count x ≡ 1 → Fails c x d e → (files_of d).leftovers < (files_of e).leftovers
 fails_leftover c x d e one f = omega (arith, gains_leftovers d e (record { change = f.made; outcome = x }) f.gains, one)
 
 pub calls_pass : {T : Type 0} (c : Change) (x : Outcome) (d e : Disk) (r : Result T Refusal) (P : FileState → Type 0) → Calls c x d e r → P (files_of d).now → P (step c (files_of d).now)
@@ -87,19 +87,19 @@ always Memory Cause cause = tt
 always Missing Cause cause = cause
 always Other Cause cause = cause
 
-pub refusal_cause : (T : Type 0) (c : Change) (x : Outcome) (d e : Disk) (refusal : Refusal) → fault_of x ≡ 1 → Calls {T = T} c x d e (Err refusal)
+pub refusal_cause : (T : Type 0) (c : Change) (x : Outcome) (d e : Disk) (refusal : Refusal) → fault_count x ≡ 1 → Calls {T = T} c x d e (Err refusal)
     → RefusedFor refusal ((files_of d).faults < (files_of e).faults)
 refusal_cause T c x d e refusal one h = elim h [
   | inl k ↦ memory_has_cause refusal ((files_of d).faults < (files_of e).faults) k.0
   | inr f ↦ always refusal ((files_of d).faults < (files_of e).faults) (fails_fault c x d e one f)
 ]
 
-pub calls_cause : {T : Type 0} (c : Change) (x : Outcome) (d e : Disk) (r : Result T Refusal) → fault_of x ≡ 1 → Calls c x d e r → Caused r ((files_of d).faults < (files_of e).faults)
+pub calls_cause : {T : Type 0} (c : Change) (x : Outcome) (d e : Disk) (r : Result T Refusal) → fault_count x ≡ 1 → Calls c x d e r → Caused r ((files_of d).faults < (files_of e).faults)
 calls_cause c x d e (Ok r) one h = tt
 calls_cause {T} c x d e (Err refusal) one h = refusal_cause T c x d e refusal one h
 
 -- nothing was done, or a name may have been left
-pub refusal_leaves : (T : Type 0) (c : Change) (x : Outcome) (d e : Disk) (refusal : Refusal) → leftover_of x ≡ 1 → Calls {T = T} c x d e (Err refusal)
+pub refusal_leaves : (T : Type 0) (c : Change) (x : Outcome) (d e : Disk) (refusal : Refusal) → leftover_count x ≡ 1 → Calls {T = T} c x d e (Err refusal)
     → Same (files_of d).now (files_of e).now ⊎ ((files_of d).leftovers < (files_of e).leftovers)
 refusal_leaves T c x d e refusal one h = elim h [
   | inl k ↦ inl (subst (Same (files_of d).now) (sym (stays_now d e k.1)) (unchanged (files_of d).now))
@@ -107,12 +107,12 @@ refusal_leaves T c x d e refusal one h = elim h [
 ]
 
 -- a refusal is a failure of a call that was to do nothing
-pub refuses_calls : (T : Type 0) (d e : Disk) (refusal : Refusal) → Refuses d e refusal → Calls {T = T} Nothing Failed d e (Err refusal)
+pub refuses_calls : (T : Type 0) (d e : Disk) (refusal : Refusal) → TurnsDown d e refusal → Calls {T = T} Nothing Failed d e (Err refusal)
 refuses_calls T d e refusal h = elim h [ inl k ↦ inl k | inr g ↦ inr (record { made = Nothing; which = inl refl; gains = g }) ]
 
 -- a new file's number is its own
 pub made_at : (d : Disk) (place : Bor Path) (path : Path) (n : ℕ) (bytes : Vec ℕ Global) (mode : ℕ) → place.now ≡ path → bytes.items ≡ [] → n ≡ length d.log.items
-    → (files_of d).now.stands path ≡ None → IsNumbered d.log.items → Made path n (files_of d).now (step (Make place n bytes mode) (files_of d).now)
+    → (files_of d).now.stands path ≡ None → AreMadeBefore d.log.items → Made path n (files_of d).now (step (Make place n bytes mode) (files_of d).now)
 made_at d place path n bytes mode same empty new free numbered =
     let s : FileState = state_of d.log.items in
     let there : Made place.now n s (step (Make place n bytes mode) s) =
@@ -142,8 +142,8 @@ calls_done c x d e (Err refusal) Q h q = tt
 pub gains_after : (d a e : Disk) (x : Entry) → Stays d a → Gains a e x → Gains d e x
 gains_after d a e x k g = record { log = g.log ∙ ap (λ l. l ++ x ∷ []) k.log; names = g.names ∙ k.names; manner = g.manner ∙ k.manner }
 
-pub refuses_pass : (d e : Disk) (refusal : Refusal) (P : FileState → Type 0) → Refuses d e refusal → P (files_of d).now → Passes (files_of d) (files_of e) P
+pub refuses_pass : (d e : Disk) (refusal : Refusal) (P : FileState → Type 0) → TurnsDown d e refusal → P (files_of d).now → Passes (files_of d) (files_of e) P
 refuses_pass d e refusal P h p = calls_pass {T = Unit {0}} Nothing Failed d e (Err refusal) P (refuses_calls (Unit {0}) d e refusal h) p p
 
-pub refuses_cause : (d e : Disk) (refusal : Refusal) → Refuses d e refusal → RefusedFor refusal ((files_of d).faults < (files_of e).faults)
+pub refuses_cause : (d e : Disk) (refusal : Refusal) → TurnsDown d e refusal → RefusedFor refusal ((files_of d).faults < (files_of e).faults)
 refuses_cause d e refusal h = refusal_cause (Unit {0}) Nothing Failed d e refusal refl (refuses_calls (Unit {0}) d e refusal h)

@@ -4,7 +4,7 @@ use Rattle.std.specs.Prelude.{if◌then◌else◌, bytes_eq, is_some}
 use Rattle.std.specs.Borrow.{Bor}
 use Rattle.std.proofs.lemmas.Slice.Eq.{bytes_eq-Decides}
 use Rattle.dexasm_world.specs.State.{Path, FileState}
-use Rattle.disk_samples.specs.Logs.{stands_at, step, state_of, is_among, standing, IsFit, IsNamed, IsNumbered}
+use Rattle.disk_samples.specs.Logs.{stands_at, step, state_of, is_a_name, standing, IsFit, AreAtNames, AreMadeBefore}
 use Rattle.disk_samples.specs.declared.change.Change.{Change}
 use Rattle.disk_samples.specs.declared.change.Change.TheVariants.{Nothing, Make, Link, Write, Empty, Dress, Keep, Move, Remove}
 use Rattle.disk_samples.specs.declared.change.Entry.{Entry}
@@ -46,11 +46,11 @@ stood (Keep m) s p n is = inl is
 stood (Move from to m) s p n is = put_at to.now m n s.stands p (kept_by (bytes_eq p from.now) n (stands_at to.now (Some m) s.stands p) is)
 stood (Remove at) s p n is = inl (kept_by (bytes_eq p at.now) n (s.stands p) is)
 
-is_named : (names : List (Bor Path)) (at : Path) (p : Path) → p ≡ at → is_among at names ≡ true → is_among p names ≡ true
-is_named names at p same among = ap (λ q. is_among q names) same ∙ among
+is_named : (names : List (Bor Path)) (at : Path) (p : Path) → p ≡ at → is_a_name at names ≡ true → is_a_name p names ≡ true
+is_named names at p same among = ap (λ q. is_a_name q names) same ∙ among
 
 -- a change that is fit puts files at names alone, and those that were made
-fits : (names : List (Bor Path)) (log : List Entry) (c : Change) (p : Path) (n : ℕ) → IsFit names log c → Puts c p n → (is_among p names ≡ true) × (n ≤ length log)
+fits : (names : List (Bor Path)) (log : List Entry) (c : Change) (p : Path) (n : ℕ) → IsFit names log c → Puts c p n → (is_a_name p names ≡ true) × (n ≤ length log)
 fits names log (Make at m bytes mode) p n fit puts = (is_named names at.now p puts.0 fit.0, omega (arith, puts.1, fit.1))
 fits names log (Link at m) p n fit puts = (is_named names at.now p puts.0 fit.0, omega (arith, puts.1, fit.1))
 fits names log (Move from to m) p n fit puts = (is_named names to.now p puts.0 fit.0, omega (arith, puts.1, fit.1))
@@ -61,7 +61,7 @@ fits names log (Dress m mode) p n fit puts = absurd puts
 fits names log (Keep m) p n fit puts = absurd puts
 fits names log (Remove at) p n fit puts = absurd puts
 
-pub numbered_more : (names : List (Bor Path)) (log more : List Entry) (e : Entry) → more ≡ log ++ e ∷ [] → IsFit names log e.change → IsNumbered log → IsNumbered more
+pub numbered_more : (names : List (Bor Path)) (log more : List Entry) (e : Entry) → more ≡ log ++ e ∷ [] → IsFit names log e.change → AreMadeBefore log → AreMadeBefore more
 numbered_more names log more e is fit numbered = λ p n there.
     let now : (step e.change (state_of log)).stands p ≡ Some n = ap (λ (s : FileState). s.stands p) (sym (ap state_of is ∙ state_more log e)) ∙ there in
     let longer : length more ≡ length log + 1 = ap length is ∙ length-append log (e ∷ []) in
@@ -70,7 +70,7 @@ numbered_more names log more e is fit numbered = λ p n there.
       | inr puts ↦ omega (arith, longer, (fits names log e.change p n fit puts).1)
     ]
 
-pub named_more : (names : List (Bor Path)) (log more : List Entry) (e : Entry) → more ≡ log ++ e ∷ [] → IsFit names log e.change → IsNamed names log → IsNamed names more
+pub named_more : (names : List (Bor Path)) (log more : List Entry) (e : Entry) → more ≡ log ++ e ∷ [] → IsFit names log e.change → AreAtNames names log → AreAtNames names more
 named_more names log more e is fit named = λ p n there.
     let now : (step e.change (state_of log)).stands p ≡ Some n = ap (λ (s : FileState). s.stands p) (sym (ap state_of is ∙ state_more log e)) ∙ there in
     elim (stood e.change (state_of log) p n now) [
@@ -92,7 +92,7 @@ room_more names more capacity room = omega (arith, room, standing_within (state_
 
 -- and so it is where one was taken away
 pub room_less : (names : List (Bor Path)) (log more : List Entry) (at : Bor Path) (e : Entry) (capacity : ℕ) → more ≡ log ++ e ∷ [] → e.change ≡ Remove at
-    → is_among at.now names ≡ true → is_some ((state_of log).stands at.now) ≡ true
+    → is_a_name at.now names ≡ true → is_some ((state_of log).stands at.now) ≡ true
     → standing (state_of log).stands names + length log ≤ capacity → standing (state_of more).stands names + length more ≤ capacity
 room_less names log more at e capacity is removed among there room =
     let now : state_of more ≡ step (Remove at) (state_of log) = ap state_of is ∙ state_more log e ∙ ap (λ c. step c (state_of log)) removed in
@@ -101,10 +101,10 @@ room_less names log more at e capacity is removed among there room =
     omega (arith, room, left, longer, taken_away at.now (state_of log).stands names among there)
 
 -- an empty log
-pub numbered_none : (log : List Entry) → log ≡ [] → IsNumbered log
+pub numbered_none : (log : List Entry) → log ≡ [] → AreMadeBefore log
 numbered_none log is = λ p n there. let e : None ≡ Some n = ap (λ l. (state_of l).stands p) (sym is) ∙ there in cc
 
-pub named_none : (names : List (Bor Path)) (log : List Entry) → log ≡ [] → IsNamed names log
+pub named_none : (names : List (Bor Path)) (log : List Entry) → log ≡ [] → AreAtNames names log
 named_none names log is = λ p n there. let e : None ≡ Some n = ap (λ l. (state_of l).stands p) (sym is) ∙ there in cc
 
 pub room_none : (names : List (Bor Path)) (log : List Entry) (capacity : ℕ) → log ≡ [] → standing (state_of log).stands names + length log ≤ capacity
@@ -113,7 +113,7 @@ room_none names log capacity is =
     omega (arith, none, ap length is)
 
 -- a name at which a file stands is one of the names
-pub named_some : (names : List (Bor Path)) (log : List Entry) (p : Path) → IsNamed names log → is_some ((state_of log).stands p) ≡ true → is_among p names ≡ true
+pub named_some : (names : List (Bor Path)) (log : List Entry) (p : Path) → AreAtNames names log → is_some ((state_of log).stands p) ≡ true → is_a_name p names ≡ true
 named_some names log p named there = let at = number_of ((state_of log).stands p) there in named p at.0 at.1
   where
     number_of : (o : Option ℕ) → is_some o ≡ true → (n : ℕ) × (o ≡ Some n)
@@ -121,7 +121,7 @@ named_some names log p named there = let at = number_of ((state_of log).stands p
     number_of (Some n) h = (n, refl)
 
 -- so there is room to take it away
-pub room_there : (names : List (Bor Path)) (log : List Entry) (at : Path) (capacity : ℕ) → IsNamed names log → is_some ((state_of log).stands at) ≡ true
+pub room_there : (names : List (Bor Path)) (log : List Entry) (at : Path) (capacity : ℕ) → AreAtNames names log → is_some ((state_of log).stands at) ≡ true
     → standing (state_of log).stands names + length log ≤ capacity → length log < capacity
 room_there names log at capacity named there room =
     omega (arith, room, taken_away at (state_of log).stands names (named_some names log at named there) there)

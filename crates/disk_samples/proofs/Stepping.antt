@@ -11,7 +11,7 @@ use Rattle.std.proofs.lemmas.Bool.Decides.{Decides-eqb}
 use Rattle.std.proofs.lemmas.List.{take_more}
 use Rattle.dexasm_world.specs.State.{Path, FileState, Stored}
 use Rattle.dexasm_world.specs.Steps.{Same, TouchesOnly, Made, Wrote, Emptied, Dressed, Kept, Moved, Removed}
-use Rattle.disk_samples.specs.Logs.{stands_at, file_at, step, after, before, no_files, state_of, faults_in, fault_of, leftovers_in, leftover_of, HoldsAt}
+use Rattle.disk_samples.specs.Logs.{stands_at, file_at, step, after, moments_before, no_files, state_of, faults_in, fault_count, leftovers_in, leftover_count, HoldsAt}
 use Rattle.disk_samples.specs.declared.change.Change.TheVariants.{Make, Link, Write, Empty, Dress, Keep, Move, Remove}
 use Rattle.disk_samples.specs.declared.change.Entry.{Entry}
 
@@ -42,18 +42,18 @@ after_more : (s : FileState) (es : List Entry) (e : Entry) → after s (es ++ e 
 after_more s [] e = refl
 after_more s (d ∷ es) e = after_more (step d.change s) es e
 
-pub before_more : (s : FileState) (es : List Entry) (e : Entry) → before s (es ++ e ∷ []) ≡ before s es ++ after s es ∷ []
+pub before_more : (s : FileState) (es : List Entry) (e : Entry) → moments_before s (es ++ e ∷ []) ≡ moments_before s es ++ after s es ∷ []
 before_more s [] e = refl
 before_more s (d ∷ es) e = ap (λ l. s ∷ l) (before_more (step d.change s) es e)
 
 pub state_more : (es : List Entry) (e : Entry) → state_of (es ++ e ∷ []) ≡ step e.change (state_of es)
 state_more es e = after_more no_files es e
 
-pub faults_more : (es : List Entry) (e : Entry) → faults_in (es ++ e ∷ []) ≡ faults_in es + fault_of e.outcome
+pub faults_more : (es : List Entry) (e : Entry) → faults_in (es ++ e ∷ []) ≡ faults_in es + fault_count e.outcome
 faults_more [] e = omega arith
 faults_more (d ∷ es) e = omega (arith, faults_more es e)
 
-pub leftovers_more : (es : List Entry) (e : Entry) → leftovers_in (es ++ e ∷ []) ≡ leftovers_in es + leftover_of e.outcome
+pub leftovers_more : (es : List Entry) (e : Entry) → leftovers_in (es ++ e ∷ []) ≡ leftovers_in es + leftover_count e.outcome
 leftovers_more [] e = omega arith
 leftovers_more (d ∷ es) e = omega (arith, leftovers_more es e)
 

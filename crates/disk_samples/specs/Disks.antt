@@ -4,7 +4,7 @@ use Rattle.std.specs.Borrow.{Bor}
 use Rattle.dexasm_world.specs.State.{Path, Paths, Files}
 use Rattle.dexasm_world.specs.declared.world.Refusal.{Refusal}
 use Rattle.dexasm_world.specs.declared.world.Refusal.TheVariants.{Memory}
-use Rattle.disk_samples.specs.Logs.{state_of, before, no_files, faults_in, leftovers_in, is_among}
+use Rattle.disk_samples.specs.Logs.{state_of, moments_before, no_files, faults_in, leftovers_in, is_a_name}
 use Rattle.disk_samples.specs.declared.change.Change.{Change}
 use Rattle.disk_samples.specs.declared.change.Change.TheVariants.{Nothing}
 use Rattle.disk_samples.specs.declared.change.Outcome.{Outcome}
@@ -20,7 +20,7 @@ abbrev pub paths_at : List (Bor Path) → Manner → Paths
 paths_at names manner = record {
   place = λ p. p;
   is_plain = λ p. true;
-  is_closed = λ p. manner.is_closed || not (is_among p names);
+  is_closed = λ p. manner.is_closed || not (is_a_name p names);
   is_device = λ p. false;
   is_fixed = λ p. manner.is_fixed;
   is_barred = λ p. false;
@@ -31,13 +31,13 @@ abbrev pub files_of : Disk → Files
 files_of d = record {
   paths = paths_at d.names.now d.manner;
   now = state_of d.log.items;
-  past = before no_files d.log.items;
+  past = moments_before no_files d.log.items;
   faults = faults_in d.log.items;
   leftovers = leftovers_in d.log.items;
 }
 
 -- nothing has happened on a disk of these names, and its log has room for so many entries
-pub record IsNew (names : List (Bor Path)) (manner : Manner) (room : ℕ) (d : Disk) : Type 0 where
+pub record IsUntouched (names : List (Bor Path)) (manner : Manner) (room : ℕ) (d : Disk) : Type 0 where
   pub log : d.log.items ≡ []
   pub named : d.names.now ≡ names
   pub so : d.manner ≡ manner
@@ -73,5 +73,5 @@ Calls change failure d e (Ok r) = Gains d e (record { change = change; outcome =
 Calls change failure d e (Err refusal) = ((refusal ≡ Memory) × Stays d e) ⊎ Fails change failure d e
 
 -- a call is refused, and nothing is done
-abbrev pub Refuses : Disk → Disk → Refusal → Type 0
-Refuses d e refusal = ((refusal ≡ Memory) × Stays d e) ⊎ Gains d e (record { change = Nothing; outcome = Failed })
+abbrev pub TurnsDown : Disk → Disk → Refusal → Type 0
+TurnsDown d e refusal = ((refusal ≡ Memory) × Stays d e) ⊎ Gains d e (record { change = Nothing; outcome = Failed })

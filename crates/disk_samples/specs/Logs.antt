@@ -38,39 +38,42 @@ after s [] = s
 after s (e ∷ es) = after (step e.change s) es
 
 -- the files before each of these entries
-abbrev pub before : FileState → List Entry → List FileState
-before s [] = []
-before s (e ∷ es) = s ∷ before (step e.change s) es
+abbrev pub moments_before : FileState → List Entry → List FileState
+moments_before s [] = []
+moments_before s (e ∷ es) = s ∷ moments_before (step e.change s) es
 
 -- the files that a log has led to
 abbrev pub state_of : List Entry → FileState
 state_of log = after no_files log
 
 -- a failure counts as one
-abbrev pub fault_of : Outcome → ℕ
-fault_of Done = 0
-fault_of Failed = 1
-fault_of MayHaveLeft = 1
+abbrev pub fault_count : Outcome → ℕ
+fault_count Done = 0
+fault_count Failed = 1
+fault_count MayHaveLeft = 1
 
 -- and here one that may have left a name
-abbrev pub leftover_of : Outcome → ℕ
-leftover_of Done = 0
-leftover_of Failed = 0
-leftover_of MayHaveLeft = 1
+abbrev pub leftover_count : Outcome → ℕ
+leftover_count Done = 0
+leftover_count Failed = 0
+leftover_count MayHaveLeft = 1
 
+-- how many calls failed
 abbrev pub faults_in : List Entry → ℕ
 faults_in [] = 0
-faults_in (e ∷ es) = fault_of e.outcome + faults_in es
+faults_in (e ∷ es) = fault_count e.outcome + faults_in es
 
+-- how many failed that may have left a name
 abbrev pub leftovers_in : List Entry → ℕ
 leftovers_in [] = 0
-leftovers_in (e ∷ es) = leftover_of e.outcome + leftovers_in es
+leftovers_in (e ∷ es) = leftover_count e.outcome + leftovers_in es
 
 -- a path is one of these names
-abbrev pub is_among : Path → List (Bor Path) → Bool
-is_among p [] = false
-is_among p (q ∷ qs) = bytes_eq p q.now || is_among p qs
+abbrev pub is_a_name : Path → List (Bor Path) → Bool
+is_a_name p [] = false
+is_a_name p (q ∷ qs) = bytes_eq p q.now || is_a_name p qs
 
+-- one, where it is so
 abbrev pub one_if : Bool → ℕ
 one_if true = 1
 one_if false = 0
@@ -81,18 +84,18 @@ standing stands [] = 0
 standing stands (q ∷ qs) = one_if (is_some (stands q.now)) + standing stands qs
 
 -- each file that stands anywhere was made before
-abbrev pub IsNumbered : List Entry → Type 0
-IsNumbered log = (p : Path) (n : ℕ) → (state_of log).stands p ≡ Some n → n < length log
+abbrev pub AreMadeBefore : List Entry → Type 0
+AreMadeBefore log = (p : Path) (n : ℕ) → (state_of log).stands p ≡ Some n → n < length log
 
 -- files stand at these names alone
-abbrev pub IsNamed : List (Bor Path) → List Entry → Type 0
-IsNamed names log = (p : Path) (n : ℕ) → (state_of log).stands p ≡ Some n → is_among p names ≡ true
+abbrev pub AreAtNames : List (Bor Path) → List Entry → Type 0
+AreAtNames names log = (p : Path) (n : ℕ) → (state_of log).stands p ≡ Some n → is_a_name p names ≡ true
 
 -- where a change puts a file, that is one of these names, and the file was made before or now
 abbrev pub IsFit : List (Bor Path) → List Entry → Change → Type 0
-IsFit names log (Make at n bytes mode) = (is_among at.now names ≡ true) × (n ≤ length log)
-IsFit names log (Link at n) = (is_among at.now names ≡ true) × (n ≤ length log)
-IsFit names log (Move from to n) = (is_among to.now names ≡ true) × (n ≤ length log)
+IsFit names log (Make at n bytes mode) = (is_a_name at.now names ≡ true) × (n ≤ length log)
+IsFit names log (Link at n) = (is_a_name at.now names ≡ true) × (n ≤ length log)
+IsFit names log (Move from to n) = (is_a_name to.now names ≡ true) × (n ≤ length log)
 IsFit names log Nothing = ⊤
 IsFit names log (Write n piece) = ⊤
 IsFit names log (Empty n) = ⊤

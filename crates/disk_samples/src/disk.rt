@@ -1,6 +1,6 @@
 // A disk, by what happened to it.
 ghost use Rattle.std.specs.Prelude.{◌+◌, ◌≤◌, length, vec_capacity};
-ghost use Rattle.disk_samples.specs.Logs.{IsNamed, IsNumbered, standing, state_of};
+ghost use Rattle.disk_samples.specs.Logs.{AreAtNames, AreMadeBefore, standing, state_of};
 
 use crate::change::Entry;
 use std::alloc::{AllocError, Global};
@@ -44,15 +44,15 @@ pub struct Disk {
     pub(crate) manner: Manner,
     pub(crate) calls: u64,
     pub(crate) log: Vec<Entry>,
-    ghost numbered: { IsNumbered log.items },
-    ghost named: { IsNamed names.now log.items },
+    ghost numbered: { AreMadeBefore log.items },
+    ghost named: { AreAtNames names.now log.items },
     // There is room to take each name away.
     ghost room: { standing (state_of log.items).stands names.now + length log.items ≤ vec_capacity log },
 }
 
 impl Disk {
     ghost use Rattle.std.specs.Prelude.{IfOk};
-    ghost use Rattle.disk_samples.specs.Disks.{IsNew};
+    ghost use Rattle.disk_samples.specs.Disks.{IsUntouched};
 
     /// An empty disk, whose log has room for so many entries.
     pub fn new(
@@ -61,7 +61,7 @@ impl Disk {
         manner: Manner,
         room: usize,
     ) -> Result<Disk, AllocError>
-        ensures { IfOk result (IsNew names.now manner room) }
+        ensures { IfOk result (IsUntouched names.now manner room) }
     {
         let mut log = Vec::new(alloc);
         log.reserve(room)?;

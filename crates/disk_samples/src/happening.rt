@@ -1,7 +1,7 @@
 // What a call does to a disk.
 ghost use Rattle.std.specs.Prelude.{[], ◌≡◌, ◌≤◌, ◌<◌, ◌⊎◌, ◌∷◌, ◌++◌, MatchBool, is_some, true, vec_capacity, vec_len};
 ghost use Rattle.disk_samples.specs.Logs.{IsFit, state_of};
-ghost use Rattle.disk_samples.specs.Disks.{Attempts, Calls, Gains, Refuses, Stays};
+ghost use Rattle.disk_samples.specs.Disks.{Attempts, Calls, Gains, TurnsDown, Stays};
 
 use crate::change::{Change, Entry, Outcome};
 use crate::disk::Disk;
@@ -72,7 +72,7 @@ impl Disk {
 
     // A failure that does nothing.
     pub(crate) fn refuse(&mut self) -> Refusal
-        ensures { Refuses self.old self.new result }
+        ensures { TurnsDown self.old self.new result }
     {
         if self.happen(Change::Nothing, Outcome::Failed) {
             Refusal::Other

@@ -1,14 +1,14 @@
 // What a log has led to.
 ghost use Rattle.std.specs.Prelude.{◌≡◌, ◌≢◌, ◌↔◌, ℕ, List, IfOk, IsTrue, MatchOption, OnOk, bytes_eq, false, if◌then◌else◌, true};
 ghost use Rattle.dexasm_world.specs.State.{FileState};
-ghost use Rattle.disk_samples.specs.Logs.{is_among, state_of, step};
+ghost use Rattle.disk_samples.specs.Logs.{is_a_name, state_of, step};
 
 use crate::change::{Change, Entry};
 use std::alloc::{AllocError, Global};
 
 /// The name that is this path.
 pub(crate) fn named(names: &'static [&'static str], path: &str) -> Option<&'static str>
-    ensures { MatchOption result (is_among path.now names.now ≡ false) (λ q. (q.now ≡ path.now) × (is_among path.now names.now ≡ true)) }
+    ensures { MatchOption result (is_a_name path.now names.now ≡ false) (λ q. (q.now ≡ path.now) × (is_a_name path.now names.now ≡ true)) }
 {
     for name in names {
         if path == *name {
@@ -73,7 +73,7 @@ pub(crate) fn is_at(log: &[Entry], place: &str, number: usize) -> bool
 /// Whether the file stands at one of these names besides.
 pub(crate) fn is_shared(log: &[Entry], names: &[&str], place: &str, number: usize) -> bool
     ensures shared { result ≡ true → (q : List ℕ) × (q ≢ place.now) × ((state_of log.now).stands q ≡ Some number) }
-    ensures alone { result ≡ false → (q : List ℕ) → is_among q names.now ≡ true → (state_of log.now).stands q ≡ Some number → q ≡ place.now }
+    ensures alone { result ≡ false → (q : List ℕ) → is_a_name q names.now ≡ true → (state_of log.now).stands q ≡ Some number → q ≡ place.now }
 {
     for name in names {
         if is_other(log, *name, place, number) {

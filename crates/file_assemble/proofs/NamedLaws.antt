@@ -5,7 +5,7 @@ use Rattle.std.specs.Prelude.{All, IfSome}
 use Rattle.std.specs.List.{AllByRecursion, slice_get}
 use Rattle.std.specs.Option.{ForSome}
 use Rattle.dex_base.specs.Descriptor.{IsDescriptor}
-use Rattle.dex_insn.specs.declared.opcode.IndexKind.TheVariants as kind
+use Rattle.program_types.specs.declared_IndexKind_TheVariants as kind
 use Rattle.file_sections.specs.Fits.{HasIndexBelow, ShortFits, short_name}
 use Rattle.tables_names.specs.Closure.{Five, HasShorty, NameRanks}
 use Rattle.tables_names.specs.Indices.{HasPlace}

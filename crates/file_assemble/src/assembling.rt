@@ -1,12 +1,12 @@
 // From a program to the bytes of its file.
 // Page: "Dalvik Executable format", "File layout".
-ghost use Rattle.std.specs.Prelude.{◌≡◌, ◌≢◌, ◌+◌, ◌<◌, ◌^◌, IfOk, IfErr, OnOk, IsOkUnless, length};
+ghost use Rattle.std.specs.Prelude.{◌≡◌, ◌≢◌, ◌+◌, ◌<◌, ◌^◌, ◌++◌, IfOk, IfErr, OnOk, IsOkUnless, length};
 ghost use Rattle.base_bytes.specs.Fault.{memory};
 ghost use Rattle.file_layout.specs.Plan.{tables_end};
 ghost use Rattle.file_layout.specs.Tiles.{gap, zeros};
 ghost use Rattle.file_sections.specs.Limits.{Fits, IsLowestLimit};
 ghost use Rattle.file_sections.specs.file_limits_Wide.{wide_rows};
-ghost use Rattle.file_needed.specs.Bodies.{named_in_code};
+ghost use Rattle.file_needed.specs.Bodies.{defined_in, named_in_code};
 ghost use Rattle.tables_names.specs.Needed.{needed};
 ghost use Rattle.tables_names.specs.Noted.{AreRanks};
 ghost use Rattle.program_types.specs.View as view;
@@ -15,7 +15,7 @@ ghost use Rattle.file_assemble.specs.Assembled.{Assembled, DataIsLaid, SpellsTab
 ghost use Rattle.file_assemble.specs.Making.{places_of};
 
 use bumpalo::Bump;
-use dex_base::Fault;
+use dex_base::{Fault, Seed};
 use file_layout::{Part, Plan, Rows, finish, gap_after};
 use file_needed::needed_names;
 use file_sections::{
@@ -29,19 +29,20 @@ use tables_names::Ranks;
 /// texts, static values, class data, map. Equal lists, bodies and arrays stand once.
 ///
 /// Refused are programs that break a limit of the format, by the lowest of 80 to 90 that stands, at its place. 255 is out of memory.
-pub fn assemble(alloc: Global, program: &Program<'_>) -> Result<Vec<u8>, Fault>
+pub fn assemble(alloc: Global, seed: Seed, program: &Program<'_>) -> Result<Vec<u8>, Fault>
     requires kept { WellFormed (view.program program.now) }
     ensures assembled { IfOk result (λ file. Assembled file.items (needed (view.program program.now)) (view.program program.now)) }
     ensures fits { OnOk result (Fits (view.program program.now)) }
     ensures refused { IfErr result (λ e. e ≢ memory → IsLowestLimit (view.program program.now) e) }
 {
     let arena = Bump::new(alloc);
-    assemble_in(alloc, &arena, program)
+    assemble_in(alloc, seed, &arena, program)
 }
 
 // With an arena for the shorties.
 fn assemble_in<'a, 'p: 'a>(
     alloc: Global,
+    seed: Seed,
     arena: &'a Bump,
     program: &Program<'p>,
 ) -> Result<Vec<u8>, Fault>
@@ -50,11 +51,11 @@ fn assemble_in<'a, 'p: 'a>(
     ensures fits { OnOk result (Fits (view.program program.now)) }
     ensures refused { IfErr result (λ e. e ≢ memory → IsLowestLimit (view.program program.now) e) }
 {
-    let (ranks, indices) = needed_names(alloc, arena, program)?;
+    let (ranks, indices) = needed_names(alloc, seed, arena, program)?;
     assemble_named(alloc, &ranks, &indices, program)
 }
 
-// With the names that it needs, and the indices of what its instructions name.
+// With the names that it needs, and the indices of what its instructions name and of the members that its classes define.
 fn assemble_named(
     alloc: Global,
     ranks: &Ranks<'_>,
@@ -63,7 +64,7 @@ fn assemble_named(
 ) -> Result<Vec<u8>, Fault>
     requires kept { WellFormed (view.program program.now) }
     requires needed { ranks.now ≡ needed (view.program program.now) }
-    requires indices { AreRanks ranks.now (named_in_code (view.program program.now)) indices.now }
+    requires indices { AreRanks ranks.now (named_in_code (view.program program.now) ++ defined_in (view.program program.now)) indices.now }
     ensures assembled { IfOk result (λ file. Assembled file.items (needed (view.program program.now)) (view.program program.now)) }
     ensures fits { OnOk result (Fits (view.program program.now)) }
     ensures refused { IfErr result (λ e. e ≢ memory → IsLowestLimit (view.program program.now) e) }
@@ -163,7 +164,7 @@ fn put_data(
 ) -> Result<Data, Fault>
     requires kept { WellFormed (view.program program.now) }
     requires needed { ranks.now ≡ needed (view.program program.now) }
-    requires indices { AreRanks ranks.now (named_in_code (view.program program.now)) indices.now }
+    requires indices { AreRanks ranks.now (named_in_code (view.program program.now) ++ defined_in (view.program program.now)) indices.now }
     requires fits { Fits (view.program program.now) }
     requires counts { counts ≡ rows_of ranks.now (view.program program.now) }
     requires front { length out.old.items ≡ tables_end counts }
@@ -173,13 +174,13 @@ fn put_data(
     let tables = out.len() as u32;
     let lists = put_lists(alloc, out, ranks, program)?;
     let lists_end = out.len() as u32;
-    let codes = put_codes(alloc, out, ranks, indices, program)?;
+    let (codes, own) = put_codes(alloc, out, ranks, indices, program)?;
     let codes_end = out.len() as u32;
     let texts = put_strings(alloc, out, ranks)?;
     let texts_end = out.len() as u32;
     let arrays = put_arrays(alloc, out, ranks, program)?;
     let arrays_end = out.len() as u32;
-    let datas = put_datas(alloc, out, ranks, program, &codes.places)?;
+    let datas = put_datas(alloc, out, ranks, own, program, &codes.places)?;
     let datas_end = out.len() as u32;
     Ok(Data {
         plan: Plan {
@@ -236,7 +237,7 @@ fn assemble_ranked(
 ) -> Result<Vec<u8>, Fault>
     requires kept { WellFormed (view.program program.now) }
     requires needed { ranks.now ≡ needed (view.program program.now) }
-    requires indices { AreRanks ranks.now (named_in_code (view.program program.now)) indices.now }
+    requires indices { AreRanks ranks.now (named_in_code (view.program program.now) ++ defined_in (view.program program.now)) indices.now }
     requires fits { Fits (view.program program.now) }
     ensures assembled { IfOk result (λ file. Assembled file.items ranks.now (view.program program.now)) }
     ensures memory { IsOkUnless result memory }

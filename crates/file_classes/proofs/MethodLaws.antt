@@ -25,8 +25,8 @@ use Rattle.code_read.proofs.StandLaws.{code_body, body_code}
 use Rattle.file_classes.specs.ClassData.{MethodEntry, Entries, steps, index_of, EntriesAre}
 use Rattle.file_classes.specs.ClassRows.{class_word}
 use Rattle.file_classes.specs.Classes.{IsMethod, StaticsAt, CodeAt, SomeCodeStands, SpellsClass}
-use Rattle.file_classes.specs.ClassFaults.{ValuesStand, SomeBodyStands, BodyAt, BodyHolds, BodyFails, CodeHolds, RegistersFail, EachCodeHolds, SomeCodeFails, ClassCodesHold, MethodsBreak, BodiesHold, RowRegistersHold, RowRegistersBreak}
-use Rattle.file_classes.specs.Reading.{bare, head, HaveCodes, IsHead, IsDone, AreDone, CodesHoldUpTo, FirstCodeBreaks, CodesUpTo, RowsUpTo, BodiesAre, SpellsBodies}
+use Rattle.file_classes.specs.ClassFaults.{ValuesStand, SomeBodyStands, BodyAt, BodyHolds, BodyFails, CodeHolds, RegistersFail, EachCodeHolds, SomeCodeFails, ClassCodesHold, MethodsBreak, BodiesHold, IsFirstClass, RowRegistersHold, RowRegistersBreak}
+use Rattle.file_classes.specs.Reading.{bare, head, HaveCodes, IsHead, IsDone, AreDone, CodesHoldUpTo, FirstCodeBreaks, CodesUpTo, BodiesAre, SpellsBodies}
 use Rattle.file_classes.specs.declared.members.Bare.{Bare}
 use Rattle.file_classes.specs.declared.heads.Head.{Head}
 use Rattle.file_classes.proofs.EntryLaws.{entry_at, entries_one}
@@ -168,6 +168,11 @@ module _ (b : List ℕ) (framed : IsFramed b) (i : ℕ) (h : Head) (is : IsHead 
       last None n s = (all_hold b framed i h is CodeHolds direct.none n, tt)
       last (Some e) n s = (tt, virtuals_break b framed i h is CodeHolds RegistersFail e direct.none s)
   class_kept (Some e) v r direct virtual kept next = subst (λ (o : Option Fault). IfNone o (RowRegistersHold b i) × IfSome o (RowRegistersBreak b i)) (sym kept) (tt, directs_break b framed i h is CodeHolds RegistersFail e direct.some)
+
+-- The registers of all code of the first n rows hold, or this is the first fault.
+pub record RowsUpTo (b : List ℕ) (n : ℕ) (past : Option Fault) : Type 0 where
+  pub none : IfNone past (RowsHold RowRegistersHold b n)
+  pub some : IfSome past (IsFirstClass RowRegistersBreak RowRegistersHold b)
 
 -- one row more, whose registers hold or are the first that don't
 module _ (b : List ℕ) where

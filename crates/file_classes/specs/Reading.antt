@@ -17,8 +17,7 @@ use Rattle.file_classes.specs.declared.statics.Statics.{Statics}
 use Rattle.file_classes.specs.ClassData as numbers
 use Rattle.file_classes.specs.ClassRows.{static_values_off}
 use Rattle.file_classes.specs.Classes.{IsField, IsMethod, HeadIs, StaticsAt}
-use Rattle.file_classes.specs.ClassFaults.{IsForeign, EntriesBreak, MembersBreak, ValuesStand, BodyAt, BodyHolds, CodeHolds, RegistersFail, RowRegistersHold, RowRegistersBreak, IsFirstClass}
-use Rattle.tables_rows.specs.Sorted.{RowsHold}
+use Rattle.file_classes.specs.ClassFaults.{IsForeign, EntriesBreak, MembersBreak, ValuesStand, BodyAt, BodyHolds, CodeHolds, RegistersFail}
 
 -- what entries in memory say
 abbrev pub field_entry : FieldEntry → numbers.FieldEntry
@@ -168,8 +167,3 @@ pub record SpellsBodies (b : List ℕ) (i : ℕ) (c : content.Class) : Type 0 wh
 pub record CodesUpTo (Holds : List ℕ → ℕ → Type 0) (Fails : List ℕ → ℕ → Fault → Type 0) (b : List ℕ) (ms : List Bare) (n : ℕ) (past : Option Fault) : Type 0 where
   pub none : IfNone past (CodesHoldUpTo Holds b ms n)
   pub some : IfSome past (FirstCodeBreaks Holds Fails b ms)
-
--- The registers of all code of the first n rows hold, or this is the first fault.
-pub record RowsUpTo (b : List ℕ) (n : ℕ) (past : Option Fault) : Type 0 where
-  pub none : IfNone past (RowsHold RowRegistersHold b n)
-  pub some : IfSome past (IsFirstClass RowRegistersBreak RowRegistersHold b)

@@ -25,9 +25,21 @@ use Rattle.tables_names.specs.Needed.{needed}
 use Rattle.tables_numbers.specs.Marked.{Columns}
 use Rattle.file_kept.specs.Keeping.{Keeps}
 use Rattle.file_kept.specs.Members.{AreCarriedMembers}
-use Rattle.file_kept.specs.Sites.{AddsClassData, ClassDataIsLaid, HasRoom, places_after}
+use Rattle.file_kept.specs.Sites.{AddsClassData, HasRoom}
 use Rattle.file_kept.proofs.MemberLaws.{members_carried}
 use Rattle.file_kept.proofs.ClassRowLaws.{class_at}
+
+-- the places after those of the first n classes
+abbrev pub places_after : Program → List ℕ → ℕ → List ℕ
+places_after p codes zero = codes
+places_after [] codes (suc n) = codes
+places_after (c ∷ p) codes (suc n) = places_after p (drop (method_count c) codes) n
+
+-- The class data of the first n classes is laid after `old`, and these places of bodies are left.
+abbrev pub ClassDataIsLaid : Program → List ℕ → List ℕ → List ℕ → ℕ → List ℕ → List ℕ → ℕ → Type 0
+ClassDataIsLaid p codes old out n rest places items =
+    Laying has_no_members (PacksData (NameRanks (needed p))) 1 wide_with_codes old out (take n (with_code_places p codes)) (drop n (with_code_places p codes)) (with_code_places p codes) places items
+    × (rest ≡ places_after p codes n)
 
 -- ---- one class
 

@@ -70,7 +70,7 @@ fn place_arrays(
     ensures once { IfOk result (λ r. (s : Five) (arrays : List (List Value)) → AreRising s → AreCarriedStatics sections.now numbers.now s offs.now arrays → AreShared r.places.items arrays) }
     ensures memory { IsOkUnless result memory }
 {
-    let mut moved = Moved::new(alloc);
+    let mut moved = Moved::new(alloc, numbers.seed());
     let mut places = Vec::new(alloc);
     for off in offs {
         let place = add_array(alloc, out, &mut moved, numbers, sections, *off)?;

@@ -111,7 +111,7 @@ fn place_bodies(
         × ((s : Five) (xs : List (ℕ × Option content.Code)) → AreOwned sections.now numbers.now s bodies.now xs → IsFirstFar s xs e.place)) }
 {
     let codes = section_of(sections, kind::CODE_ITEM);
-    let mut moved = Moved::new(alloc);
+    let mut moved = Moved::new(alloc, numbers.seed());
     let mut places = Vec::new(alloc);
     for body in bodies {
         let place = add_body(alloc, out, &mut moved, numbers, sections, codes, *body)?;

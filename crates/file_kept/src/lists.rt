@@ -104,7 +104,7 @@ fn place_lists(
     ensures once { IfOk result (λ r. (s : Five) (lists : List (List Units)) → AreRising s → AreCarriedLists sections.now numbers.now s offs.now lists → AreShared r.places.items lists) }
     ensures memory { IsOkUnless result memory }
 {
-    let mut moved = Moved::new(alloc);
+    let mut moved = Moved::new(alloc, numbers.seed());
     let mut places = Vec::new(alloc);
     for off in offs {
         let place = add_list(alloc, out, &mut moved, numbers, sections, *off)?;

@@ -6,7 +6,7 @@ ghost use Rattle.indexmap.specs.IndexMap.{IsEmpty, Updates, get};
 ghost use Rattle.file_layout.specs.Sections.{IsItself, is_empty_list};
 ghost use Rattle.file_shared.specs.Sharing.{UsesItem};
 
-use dex_base::Fault;
+use dex_base::{Fault, Seed};
 use file_shared::Items;
 use indexmap::IndexMap;
 use std::alloc::Global;
@@ -55,12 +55,12 @@ fn aligned_place(items: &mut Items, out: &mut Vec<u8>, bytes: Vec<u8>) -> Result
 
 impl Moved {
     /// No item.
-    pub(crate) fn new(alloc: Global) -> Self
+    pub(crate) fn new(alloc: Global, seed: Seed) -> Self
         ensures items { result.items ≡ [] }
         ensures places { IsEmpty result.places }
     {
         Moved {
-            items: Items::new(alloc),
+            items: Items::new(alloc, seed),
             places: IndexMap::new(alloc),
         }
     }

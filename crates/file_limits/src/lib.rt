@@ -1,7 +1,7 @@
 //! Whether a program can be written: the limits of a file's fields, and how many bytes its file takes at most.
 //!
 //! ```
-//! let (ranks, _) = needed_names(alloc, &arena, &program)?;
+//! let (ranks, _) = needed_names(alloc, seed, &arena, &program)?;
 //! check_limits(alloc, &ranks, &program)?; // 80 to 90 where a limit is broken
 //! ```
 //!

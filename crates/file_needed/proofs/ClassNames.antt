@@ -1,7 +1,7 @@
 -- The names of a class, part by part.
 use Rattle.std.proofs.Common.{◌≡◌, List, [], ◌∷◌, ◌++◌, Option, None, Some, map, refl, sym, ap, ◌∙◌, subst}
 use Rattle.std.specs.List.{AllByRecursion, flat_map}
-use Rattle.file_needed.specs.Bodies.{named_in_body, caught_in_body, named_in_class, named_in_code, methods_added, names_but_in_code}
+use Rattle.file_needed.specs.Bodies.{caught_in_body, named_in_body, named_in_class, named_in_code, other_names, own_names}
 use Rattle.tables_names.specs.Closure.{Five, AreRising, IsClosed, method_of_class, with_names}
 use Rattle.tables_names.proofs.NeededLemmas.{names_append, same_names}
 use Rattle.program_types.specs.Content as content
@@ -75,7 +75,7 @@ statics_named P c h =
 pub instances_named : (P : Name → Type 0) (c : content.Class) → AllByRecursion P (names_of_class c) → AllByRecursion P (map (field_of_class c.ty) c.instances)
 instances_named P c h = right P (part4 c ++ flat_map names_of_value c.values) (map (field_of_class c.ty) c.instances) (left P (part6 c) (flat_map (names_of_method c.ty) c.directs) (left P (part7 c) (flat_map (names_of_method c.ty) c.virtuals) h))
 
--- ---- as they are added: the class with each kind of member, and bodies after the methods
+-- ---- as they are added: other names, then what instructions name, and members last
 
 both : (P : Name → Type 0) (xs ys : List Name) → AllByRecursion P xs → AllByRecursion P ys → AllByRecursion P (xs ++ ys)
 both P [] ys a b = b
@@ -111,95 +111,88 @@ module _ (P : Name → Type 0) where
         let body = body_together m (left P (caught_in_body m) (flat_map caught_in_body ms) caught) (left P (named_in_body m) (flat_map named_in_body ms) named) in
         (own.0, both P (names_of_body m) (flat_map (names_of_method class) ms) body rest)
 
-abbrev added3 : content.Class → List Name
-added3 c = if_any (λ t. OfDesc t ∷ []) c.superclass ++ map OfDesc c.interfaces ++ if_any (λ t. OfText t ∷ []) c.source
+-- the parts of the other names of a class
+abbrev others3 : content.Class → List Name
+others3 c = if_any (λ t. OfDesc t ∷ []) c.superclass ++ map OfDesc c.interfaces ++ if_any (λ t. OfText t ∷ []) c.source
 
-abbrev added5 : content.Class → List Name
-added5 c = added3 c ++ (OfDesc c.ty ∷ map (field_of_class c.ty) c.statics) ++ flat_map names_of_value c.values
+abbrev others5 : content.Class → List Name
+others5 c = others3 c ++ flat_map names_of_value c.values ++ flat_map caught_in_body c.directs
 
-abbrev added7 : content.Class → List Name
-added7 c = added5 c ++ (OfDesc c.ty ∷ map (field_of_class c.ty) c.instances) ++ methods_added c.ty c.directs
+-- the members of a class, but for the virtual methods
+abbrev members3 : content.Class → List Name
+members3 c = map (field_of_class c.ty) c.statics ++ map (field_of_class c.ty) c.instances ++ map (method_of_class c.ty) c.directs
 
 module _ (P : Name → Type 0) (c : content.Class) where
-  methods_there : (ms : List content.Method) → P (OfDesc c.ty) → AllByRecursion P (flat_map (names_of_method c.ty) ms) → AllByRecursion P (methods_added c.ty ms)
-  methods_there ms here h =
-      let apart = methods_apart P c.ty ms h in both P (OfDesc c.ty ∷ map (method_of_class c.ty) ms) (flat_map caught_in_body ms) (here, apart.0) apart.1
-
-  methods_back : (ms : List content.Method) → AllByRecursion P (methods_added c.ty ms) → AllByRecursion P (flat_map named_in_body ms) → AllByRecursion P (flat_map (names_of_method c.ty) ms)
-  methods_back ms h named =
-      let own = OfDesc c.ty ∷ map (method_of_class c.ty) ms in
-      methods_together P c.ty ms (left P own (flat_map caught_in_body ms) h).1 (right P own (flat_map caught_in_body ms) h) named
-
   -- what the instructions of the class name
   pub class_named : AllByRecursion P (names_of_class c) → AllByRecursion P (named_in_class c)
   class_named h =
       both P (flat_map named_in_body c.directs) (flat_map named_in_body c.virtuals) (methods_apart P c.ty c.directs (directs_kept P c h)).2 (methods_apart P c.ty c.virtuals (virtuals_kept P c h)).2
 
+  -- its own type and its members
+  class_own : AllByRecursion P (names_of_class c) → AllByRecursion P (own_names c)
+  class_own h =
+      let fields = both P (map (field_of_class c.ty) c.statics) (map (field_of_class c.ty) c.instances) (statics_named P c h) (instances_named P c h) in
+      let three = both P (map (field_of_class c.ty) c.statics ++ map (field_of_class c.ty) c.instances) (map (method_of_class c.ty) c.directs) fields (methods_apart P c.ty c.directs (directs_kept P c h)).0 in
+      ((type_named P c h).0, both P (members3 c) (map (method_of_class c.ty) c.virtuals) three (methods_apart P c.ty c.virtuals (virtuals_kept P c h)).0)
+
   -- each other name of the class is added
-  class_there : AllByRecursion P (names_of_class c) → AllByRecursion P (names_but_in_code c)
+  class_there : AllByRecursion P (names_of_class c) → AllByRecursion P (other_names c)
   class_there h =
-      let types = type_named P c h in
-      let h6 = left P (part6 c) (flat_map (names_of_method c.ty) c.directs) (left P (part7 c) (flat_map (names_of_method c.ty) c.virtuals) h) in
-      let h5 = left P (part4 c ++ flat_map names_of_value c.values) (map (field_of_class c.ty) c.instances) h6 in
       let superclass = if_any (λ t. OfDesc t ∷ []) c.superclass in
       let interfaces = map OfDesc c.interfaces in
-      let source = if_any (λ t. OfText t ∷ []) c.source in
-      let statics = OfDesc c.ty ∷ map (field_of_class c.ty) c.statics in
-      let instances = OfDesc c.ty ∷ map (field_of_class c.ty) c.instances in
-      let a3 = both P (superclass ++ interfaces) source (both P superclass interfaces types.1 (interfaces_named P c h)) (source_named P c h) in
-      let a4 = both P (added3 c) statics a3 (types.0, statics_named P c h) in
-      let a5 = both P (added3 c ++ statics) (flat_map names_of_value c.values) a4 (right P (part4 c) (flat_map names_of_value c.values) h5) in
-      let a6 = both P (added5 c) instances a5 (types.0, instances_named P c h) in
-      let a7 = both P (added5 c ++ instances) (methods_added c.ty c.directs) a6 (methods_there c.directs types.0 (directs_kept P c h)) in
-      both P (added7 c) (methods_added c.ty c.virtuals) a7 (methods_there c.virtuals types.0 (virtuals_kept P c h))
+      let values = flat_map names_of_value c.values in
+      let h6 = left P (part6 c) (flat_map (names_of_method c.ty) c.directs) (left P (part7 c) (flat_map (names_of_method c.ty) c.virtuals) h) in
+      let h5 = left P (part4 c ++ values) (map (field_of_class c.ty) c.instances) h6 in
+      let a2 = both P superclass interfaces (type_named P c h).1 (interfaces_named P c h) in
+      let a3 = both P (superclass ++ interfaces) (if_any (λ t. OfText t ∷ []) c.source) a2 (source_named P c h) in
+      let a4 = both P (others3 c) values a3 (right P (part4 c) values h5) in
+      let a5 = both P (others3 c ++ values) (flat_map caught_in_body c.directs) a4 (methods_apart P c.ty c.directs (directs_kept P c h)).1 in
+      both P (others5 c) (flat_map caught_in_body c.virtuals) a5 (methods_apart P c.ty c.virtuals (virtuals_kept P c h)).1
 
   -- and no other
-  class_back : AllByRecursion P (names_but_in_code c) → AllByRecursion P (named_in_class c) → AllByRecursion P (names_of_class c)
-  class_back h named =
-      let directs_named = left P (flat_map named_in_body c.directs) (flat_map named_in_body c.virtuals) named in
-      let virtuals_named = right P (flat_map named_in_body c.directs) (flat_map named_in_body c.virtuals) named in
+  class_back : AllByRecursion P (other_names c) → AllByRecursion P (named_in_class c) → AllByRecursion P (own_names c) → AllByRecursion P (names_of_class c)
+  class_back others named own =
       let superclass = if_any (λ t. OfDesc t ∷ []) c.superclass in
       let interfaces = map OfDesc c.interfaces in
       let source = if_any (λ t. OfText t ∷ []) c.source in
-      let statics = OfDesc c.ty ∷ map (field_of_class c.ty) c.statics in
-      let instances = OfDesc c.ty ∷ map (field_of_class c.ty) c.instances in
       let values = flat_map names_of_value c.values in
-      let h7 = left P (added7 c) (methods_added c.ty c.virtuals) h in
-      let h6 = left P (added5 c ++ instances) (methods_added c.ty c.directs) h7 in
-      let h5 = left P (added5 c) instances h6 in
-      let h4 = left P (added3 c ++ statics) values h5 in
-      let h3 = left P (added3 c) statics h4 in
-      let h2 = left P (superclass ++ interfaces) source h3 in
-      let own = right P (added3 c) statics h4 in
-      let n1 : AllByRecursion P (part1 c) = (own.0, left P superclass interfaces h2) in
-      let n2 = both P (part1 c) interfaces n1 (right P superclass interfaces h2) in
-      let n3 = both P (part1 c ++ interfaces) source n2 (right P (superclass ++ interfaces) source h3) in
-      let n4 = both P (part1 c ++ interfaces ++ source) (map (field_of_class c.ty) c.statics) n3 own.1 in
-      let n5 = both P (part4 c) values n4 (right P (added3 c ++ statics) values h5) in
-      let n6 = both P (part4 c ++ values) (map (field_of_class c.ty) c.instances) n5 (right P (added5 c) instances h6).1 in
-      let n7 = both P (part6 c) (flat_map (names_of_method c.ty) c.directs) n6 (methods_back c.directs (right P (added5 c ++ instances) (methods_added c.ty c.directs) h7) directs_named) in
-      both P (part7 c) (flat_map (names_of_method c.ty) c.virtuals) n7 (methods_back c.virtuals (right P (added7 c) (methods_added c.ty c.virtuals) h) virtuals_named)
+      let statics = map (field_of_class c.ty) c.statics in
+      let instances = map (field_of_class c.ty) c.instances in
+      let directs = map (method_of_class c.ty) c.directs in
+      let o5 = left P (others5 c) (flat_map caught_in_body c.virtuals) others in
+      let o4 = left P (others3 c ++ values) (flat_map caught_in_body c.directs) o5 in
+      let o3 = left P (others3 c) values o4 in
+      let o2 = left P (superclass ++ interfaces) source o3 in
+      let m3 = left P (members3 c) (map (method_of_class c.ty) c.virtuals) own.1 in
+      let m2 = left P (statics ++ instances) directs m3 in
+      let n1 : AllByRecursion P (part1 c) = (own.0, left P superclass interfaces o2) in
+      let n2 = both P (part1 c) interfaces n1 (right P superclass interfaces o2) in
+      let n3 = both P (part1 c ++ interfaces) source n2 (right P (superclass ++ interfaces) source o3) in
+      let n4 = both P (part1 c ++ interfaces ++ source) statics n3 (left P statics instances m2) in
+      let n5 = both P (part4 c) values n4 (right P (others3 c) values o4) in
+      let n6 = both P (part4 c ++ values) instances n5 (right P statics instances m2) in
+      let direct_methods = methods_together P c.ty c.directs (right P (statics ++ instances) directs m3) (right P (others3 c ++ values) (flat_map caught_in_body c.directs) o5) (left P (flat_map named_in_body c.directs) (flat_map named_in_body c.virtuals) named) in
+      let virtual_methods = methods_together P c.ty c.virtuals (right P (members3 c) (map (method_of_class c.ty) c.virtuals) own.1) (right P (others5 c) (flat_map caught_in_body c.virtuals) others) (right P (flat_map named_in_body c.directs) (flat_map named_in_body c.virtuals) named) in
+      let n7 = both P (part6 c) (flat_map (names_of_method c.ty) c.directs) n6 direct_methods in
+      both P (part7 c) (flat_map (names_of_method c.ty) c.virtuals) n7 virtual_methods
 
--- a class's names are added part by part
-pub class_names : (s s1 s2 s3 s4 s5 s6 s7 s8 : Five) (c : content.Class)
+-- a class's other names are added part by part
+pub class_names : (s s1 s2 s3 s4 s5 s6 : Five) (c : content.Class)
     → s1 ≡ with_names s (if_any (λ t. OfDesc t ∷ []) c.superclass) → s2 ≡ with_names s1 (map OfDesc c.interfaces)
-    → s3 ≡ with_names s2 (if_any (λ t. OfText t ∷ []) c.source) → s4 ≡ with_names s3 (OfDesc c.ty ∷ map (field_of_class c.ty) c.statics) → s5 ≡ with_names s4 (names_of_values (values c.values))
-    → s6 ≡ with_names s5 (OfDesc c.ty ∷ map (field_of_class c.ty) c.instances) → s7 ≡ with_names s6 (methods_added c.ty c.directs) → s8 ≡ with_names s7 (methods_added c.ty c.virtuals)
-    → s8 ≡ with_names s (names_but_in_code c)
-class_names s s1 s2 s3 s4 s5 s6 s7 s8 c e1 e2 e3 e4 e5 e6 e7 e8 =
+    → s3 ≡ with_names s2 (if_any (λ t. OfText t ∷ []) c.source) → s4 ≡ with_names s3 (names_of_values (values c.values))
+    → s5 ≡ with_names s4 (flat_map caught_in_body c.directs) → s6 ≡ with_names s5 (flat_map caught_in_body c.virtuals)
+    → s6 ≡ with_names s (other_names c)
+class_names s s1 s2 s3 s4 s5 s6 c e1 e2 e3 e4 e5 e6 =
     let superclass = if_any (λ t. OfDesc t ∷ []) c.superclass in
     let interfaces = map OfDesc c.interfaces in
-    let statics = OfDesc c.ty ∷ map (field_of_class c.ty) c.statics in
-    let instances = OfDesc c.ty ∷ map (field_of_class c.ty) c.instances in
+    let values = flat_map names_of_value c.values in
     let p2 = next s s1 s2 superclass interfaces e1 e2 in
     let p3 = next s s2 s3 (superclass ++ interfaces) (if_any (λ t. OfText t ∷ []) c.source) p2 e3 in
-    let p4 = next s s3 s4 (added3 c) statics p3 e4 in
-    let p5 = next s s4 s5 (added3 c ++ statics) (flat_map names_of_value c.values) p4 (e5 ∙ ap (with_names s4) (values_flat c.values)) in
-    let p6 = next s s5 s6 (added5 c) instances p5 e6 in
-    let p7 = next s s6 s7 (added5 c ++ instances) (methods_added c.ty c.directs) p6 e7 in
-    next s s7 s8 (added7 c) (methods_added c.ty c.virtuals) p7 e8
+    let p4 = next s s3 s4 (others3 c) values p3 (e4 ∙ ap (with_names s3) (values_flat c.values)) in
+    let p5 = next s s4 s5 (others3 c ++ values) (flat_map caught_in_body c.directs) p4 e5 in
+    next s s5 s6 (others5 c) (flat_map caught_in_body c.virtuals) p5 e6
 
--- ---- of all classes: those that instructions name come last
+-- ---- of all classes: those that are noted come last
 
 module _ (P : Name → Type 0) where
   pub code_named : (cs : List content.Class) → AllByRecursion P (flat_map names_of_class cs) → AllByRecursion P (named_in_code cs)
@@ -207,20 +200,26 @@ module _ (P : Name → Type 0) where
   code_named (c ∷ cs) h =
       both P (named_in_class c) (named_in_code cs) (class_named P c (left P (names_of_class c) (flat_map names_of_class cs) h)) (code_named cs (right P (names_of_class c) (flat_map names_of_class cs) h))
 
-  others_there : (cs : List content.Class) → AllByRecursion P (flat_map names_of_class cs) → AllByRecursion P (flat_map names_but_in_code cs)
+  pub all_own : (cs : List content.Class) → AllByRecursion P (flat_map names_of_class cs) → AllByRecursion P (flat_map own_names cs)
+  all_own [] h = tt
+  all_own (c ∷ cs) h =
+      both P (own_names c) (flat_map own_names cs) (class_own P c (left P (names_of_class c) (flat_map names_of_class cs) h)) (all_own cs (right P (names_of_class c) (flat_map names_of_class cs) h))
+
+  others_there : (cs : List content.Class) → AllByRecursion P (flat_map names_of_class cs) → AllByRecursion P (flat_map other_names cs)
   others_there [] h = tt
   others_there (c ∷ cs) h =
-      both P (names_but_in_code c) (flat_map names_but_in_code cs) (class_there P c (left P (names_of_class c) (flat_map names_of_class cs) h)) (others_there cs (right P (names_of_class c) (flat_map names_of_class cs) h))
+      both P (other_names c) (flat_map other_names cs) (class_there P c (left P (names_of_class c) (flat_map names_of_class cs) h)) (others_there cs (right P (names_of_class c) (flat_map names_of_class cs) h))
 
-  all_back : (cs : List content.Class) → AllByRecursion P (flat_map names_but_in_code cs) → AllByRecursion P (named_in_code cs) → AllByRecursion P (flat_map names_of_class cs)
-  all_back [] h named = tt
-  all_back (c ∷ cs) h named =
-      let own = class_back P c (left P (names_but_in_code c) (flat_map names_but_in_code cs) h) (left P (named_in_class c) (named_in_code cs) named) in
-      both P (names_of_class c) (flat_map names_of_class cs) own (all_back cs (right P (names_but_in_code c) (flat_map names_but_in_code cs) h) (right P (named_in_class c) (named_in_code cs) named))
+  all_back : (cs : List content.Class) → AllByRecursion P (flat_map other_names cs) → AllByRecursion P (named_in_code cs) → AllByRecursion P (flat_map own_names cs) → AllByRecursion P (flat_map names_of_class cs)
+  all_back [] h named own = tt
+  all_back (c ∷ cs) h named own =
+      let one = class_back P c (left P (other_names c) (flat_map other_names cs) h) (left P (named_in_class c) (named_in_code cs) named) (left P (own_names c) (flat_map own_names cs) own) in
+      both P (names_of_class c) (flat_map names_of_class cs) one (all_back cs (right P (other_names c) (flat_map other_names cs) h) (right P (named_in_class c) (named_in_code cs) named) (right P (own_names c) (flat_map own_names cs) own))
 
-pub all_names : (s : Five) (cs : List content.Class) (others all : Five) → IsClosed s → AreRising s → others ≡ with_names s (flat_map names_but_in_code cs) → all ≡ with_names others (named_in_code cs) → all ≡ with_names s (mentions cs)
-all_names s cs others all closed up e f =
-    let A = flat_map names_but_in_code cs in
+pub all_names : (s : Five) (cs : List content.Class) (others coded all : Five) → IsClosed s → AreRising s → others ≡ with_names s (flat_map other_names cs) → coded ≡ with_names others (named_in_code cs) → all ≡ with_names coded (flat_map own_names cs) → all ≡ with_names s (mentions cs)
+all_names s cs others coded all closed up e f g =
+    let A = flat_map other_names cs in
     let B = named_in_code cs in
-    next s others all A B e f
-    ∙ same_names s (A ++ B) (mentions cs) closed up (λ P h. all_back P cs (left P A B h) (right P A B h)) (λ P h. both P A B (others_there P cs h) (code_named P cs h))
+    let D = flat_map own_names cs in
+    next s coded all (A ++ B) D (next s others coded A B e f) g
+    ∙ same_names s (A ++ B ++ D) (mentions cs) closed up (λ P h. all_back P cs (left P A B (left P (A ++ B) D h)) (right P A B (left P (A ++ B) D h)) (right P (A ++ B) D h)) (λ P h. both P (A ++ B) D (both P A B (others_there P cs h) (code_named P cs h)) (all_own P cs h))

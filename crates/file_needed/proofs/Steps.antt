@@ -6,9 +6,8 @@ use Rattle.std.proofs.lemmas.List.Sums.{fold_push}
 use Rattle.std.specs.List.{AllByRecursion, flat_map}
 use Rattle.tables_names.specs.Closure.{Five, with_name, with_names}
 use Rattle.tables_names.proofs.NeededLemmas.{names_append}
-use Rattle.tables_names.specs.Noted.{Notes, AreNoted}
-use Rattle.tables_names.specs.Numbers.{sets}
-use Rattle.file_needed.specs.Bodies.{AddsNoted}
+use Rattle.tables_names.specs.Noted.{AddsNoted, AreNoted, Notes}
+use Rattle.tables_names.proofs.NotedLemmas.{notes_both}
 use Rattle.program_types.specs.Content as content
 use Rattle.program_types.specs.Content.{Name, values}
 use Rattle.program_types.specs.Depth.{depth, greatest_depth}
@@ -81,22 +80,23 @@ flat_kept P f g (x ∷ xs) (suc i) d lt h = flat_kept P f g xs i d (omega (arith
 
 -- ---- names that are noted
 
-pub notes_none : (n : Notes) → AddsNoted n n []
-notes_none n = record { added = refl; noted = λ before h. subst (AreNoted n) (sym (append-nil before)) h }
-
-pub notes_both : (a b d : Notes) (xs ys : List Name) → AddsNoted a b xs → AddsNoted b d ys → AddsNoted a d (xs ++ ys)
-notes_both a b d xs ys f g =
-    record {
-      added = g.added ∙ ap (λ s. with_names s ys) f.added ∙ sym (names_append (sets a.names) xs ys);
-      noted = λ before h. subst (AreNoted d) (append_assoc before xs ys) (g.noted (before ++ xs) (f.noted before h));
-    }
-
 -- those of one more element
 pub notes_more : {A V : Type 0} (f : V → List Name) (g : A → V) (s l new : Notes) (xs : List A) (i : ℕ) (d : A) → i < length xs → AddsNoted s l (flat_map f (map g (take i xs))) → AddsNoted l new (f (g (get_or xs i d))) → AddsNoted s new (flat_map f (map g (take (i + 1) xs)))
 notes_more f g s l new xs i d lt so_far here =
     let m : map g (take (i + 1) xs) ≡ map g (take i xs) ++ g (get_or xs i d) ∷ [] = rw (take_more xs i d lt) (map-append g (take i xs) (get_or xs i d ∷ [])) in
     let more : flat_map f (map g (take (i + 1) xs)) ≡ flat_map f (map g (take i xs)) ++ f (g (get_or xs i d)) = ap (flat_map f) m ∙ flat_push f (map g (take i xs)) (g (get_or xs i d)) in
     rw more (notes_both s l new (flat_map f (map g (take i xs))) (f (g (get_or xs i d))) so_far here)
+
+-- the notes of one more element
+pub noted_next : {A V : Type 0} (f : V → List Name) (g : A → V) (s l new : Notes) (xs : List A) (i : ℕ) (d : A) → i < length xs → ((before : List Name) → AreNoted s before → AreNoted l (before ++ flat_map f (map g (take i xs)))) → ((before : List Name) → AreNoted l before → AreNoted new (before ++ f (g (get_or xs i d))))
+    → (before : List Name) → AreNoted s before → AreNoted new (before ++ flat_map f (map g (take (i + 1) xs)))
+noted_next f g s l new xs i d lt so_far here before h =
+    let m : map g (take (i + 1) xs) ≡ map g (take i xs) ++ g (get_or xs i d) ∷ [] = rw (take_more xs i d lt) (map-append g (take i xs) (get_or xs i d ∷ [])) in
+    let more : flat_map f (map g (take (i + 1) xs)) ≡ flat_map f (map g (take i xs)) ++ f (g (get_or xs i d)) = ap (flat_map f) m ∙ flat_push f (map g (take i xs)) (g (get_or xs i d)) in
+    rw more (subst (AreNoted new) (append_assoc before (flat_map f (map g (take i xs))) (f (g (get_or xs i d)))) (here (before ++ flat_map f (map g (take i xs))) (so_far before h)))
+
+pub no_notes : (n : Notes) (before : List Name) → AreNoted n before → AreNoted n (before ++ [])
+no_notes n before h = subst (AreNoted n) (sym (append-nil before)) h
 
 pub nothing_noted : (n : Notes) → n.numbers ≡ [] → AreNoted n []
 nothing_noted n e = rw e tt

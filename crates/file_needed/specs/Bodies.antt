@@ -1,12 +1,12 @@
--- The names in a method's body, if it has one: those that its instructions name, and the types that its tries catch.
--- Page: "Dalvik Executable format", "encoded_method": code_off is 0 for a method that is abstract or native.
-use Rattle.std.specs.Prelude.{◌≡◌, List, [], ◌∷◌, ◌++◌, map}
+-- The names in a method's body, if it has one: those that its instructions name, and the types that its tries catch; and
+-- the other names of a class.
+-- Page: "Dalvik Executable format", "class_def_item"; "class_data_item"; "encoded_method": code_off is 0 for a method that is
+-- abstract or native.
+use Rattle.std.specs.Prelude.{List, [], ◌∷◌, ◌++◌, map}
 use Rattle.std.specs.List.{flat_map}
-use Rattle.program_types.specs.Content.{Descriptor, Name, OfText, OfDesc, Method, Class, Program}
-use Rattle.program_types.specs.Mentions.{if_any, field_of_class, names_of_insn, names_of_try, names_of_value}
-use Rattle.tables_names.specs.Closure.{method_of_class, with_names}
-use Rattle.tables_names.specs.Noted.{Notes, AreNoted}
-use Rattle.tables_names.specs.Numbers.{sets}
+use Rattle.program_types.specs.Content.{Name, OfText, OfDesc, Method, Class, Program}
+use Rattle.program_types.specs.Mentions.{if_any, names_of_insn, names_of_try, names_of_value}
+use Rattle.tables_names.specs.Noted.{members_of}
 
 -- what its instructions name
 abbrev pub named_in_body : Method → List Name
@@ -24,27 +24,22 @@ named_in_class c = flat_map named_in_body c.directs ++ flat_map named_in_body c.
 abbrev pub named_in_code : Program → List Name
 named_in_code p = flat_map named_in_class p
 
--- ---- the names of a class but those, in the order in which they are added
+-- the members that the classes of a program define, in the order in which class data is written
+abbrev pub defined_in : Program → List Name
+defined_in p = flat_map members_of p
 
--- of methods
-abbrev pub methods_added : Descriptor → List Method → List Name
-methods_added class ms = OfDesc class ∷ map (method_of_class class) ms ++ flat_map caught_in_body ms
+-- ---- the other names of a class, in the order in which they are added
 
--- of a class: its superclass, interfaces and source file, its own type, fields and static values, its methods and what they catch
-abbrev pub names_but_in_code : Class → List Name
-names_but_in_code c =
+-- its superclass, interfaces and source file, its static values, and what its methods catch
+abbrev pub other_names : Class → List Name
+other_names c =
     if_any (λ t. OfDesc t ∷ []) c.superclass
     ++ map OfDesc c.interfaces
     ++ if_any (λ t. OfText t ∷ []) c.source
-    ++ (OfDesc c.ty ∷ map (field_of_class c.ty) c.statics)
     ++ flat_map names_of_value c.values
-    ++ (OfDesc c.ty ∷ map (field_of_class c.ty) c.instances)
-    ++ methods_added c.ty c.directs
-    ++ methods_added c.ty c.virtuals
+    ++ flat_map caught_in_body c.directs
+    ++ flat_map caught_in_body c.virtuals
 
--- ---- names that are noted
-
--- these names were added, with their parts, and noted after the others
-pub record AddsNoted (old new : Notes) (names : List Name) : Type 0 where
-  pub added : sets new.names ≡ with_names (sets old.names) names
-  pub noted : (before : List Name) → AreNoted old before → AreNoted new (before ++ names)
+-- its own type, and its members
+abbrev pub own_names : Class → List Name
+own_names c = OfDesc c.ty ∷ members_of c

@@ -5,7 +5,7 @@ ghost use Rattle.std.specs.List.{AllByRecursion, flat_map};
 ghost use Rattle.base_bytes.specs.Fault.{memory};
 ghost use Rattle.tables_names.specs.Closure.{HasShorty, with_names};
 ghost use Rattle.program_types.specs.Content.{OfDesc};
-ghost use Rattle.file_needed.specs.Bodies.{AddsNoted};
+ghost use Rattle.tables_names.specs.Noted.{AddsNoted};
 ghost use Rattle.program_types.specs.Mentions.{if_any, names_of_insn, names_of_try};
 ghost use Rattle.program_types.specs.View as view;
 

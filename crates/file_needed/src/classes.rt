@@ -1,18 +1,21 @@
 // The names that classes mention.
 // Page: "Dalvik Executable format", "class_def_item", "class_data_item".
-ghost use Rattle.std.specs.Prelude.{◌≡◌, ◌∷◌, [], map, option_map, IfOk, OnOk, IsOkUnless};
+ghost use Rattle.std.specs.Prelude.{◌≡◌, ◌∷◌, ◌++◌, List, [], map, option_map, IfOk, OnOk, IsOkUnless};
 ghost use Rattle.std.specs.List.{AllByRecursion, flat_map};
 ghost use Rattle.base_bytes.specs.Fault.{memory};
-ghost use Rattle.file_needed.specs.Bodies.{AddsNoted, caught_in_body, methods_added, named_in_body, named_in_class, named_in_code, names_but_in_code};
+ghost use Rattle.file_needed.specs.Bodies.{caught_in_body, defined_in, named_in_body, named_in_class, named_in_code, other_names, own_names};
 ghost use Rattle.tables_names.specs.Closure.{HasShorty, with_names};
 ghost use Rattle.tables_names.specs.Needed.{needed};
-ghost use Rattle.tables_names.specs.Noted.{AreRanks};
+ghost use Rattle.tables_names.specs.Noted.{AddsNoted, AreNoted, AreRanks};
+ghost use Rattle.tables_names.specs.Numbers.{sets};
+ghost use Rattle.program_types.specs.Content as content;
 ghost use Rattle.program_types.specs.Content.{OfText, OfDesc};
-ghost use Rattle.program_types.specs.Mentions.{if_any, mentions, names_of_class, names_of_method};
+ghost use Rattle.program_types.specs.Mentions.{if_any, mentions, names_of_class};
 ghost use Rattle.program_types.specs.View as view;
 
 use crate::bodies::{add_caught, note_body};
 use crate::values::add_values;
+use base_bytes::Seed;
 use bumpalo::Bump;
 use program_types::{Class, Desc, Fault, Method, Program, Str};
 use std::alloc::Global;
@@ -40,21 +43,6 @@ fn add_all_caught<'a, 'p: 'a>(needed: &mut Needed<'a>, methods: &[Method<'p>]) -
     Ok(())
 }
 
-// Adds the methods that a class defines, and the types that their bodies catch.
-fn add_methods<'a, 'p: 'a>(
-    needed: &mut Needed<'a>,
-    arena: &'a Bump,
-    class: Desc<'p>,
-    methods: &[Method<'p>],
-) -> Result<(), Fault>
-    requires { AllByRecursion HasShorty (flat_map (names_of_method (view.desc class)) (map view.method methods.now)) }
-    ensures added { OnOk result (needed.new ≡ with_names needed.old (methods_added (view.desc class.entry) (map view.method methods.now))) }
-    ensures memory { IsOkUnless result memory }
-{
-    needed.add_methods_of(arena, class, methods)?;
-    add_all_caught(needed, methods)
-}
-
 // Adds the superclass of a class, if it has one.
 fn add_superclass<'a, 'p: 'a>(
     needed: &mut Needed<'a>,
@@ -80,34 +68,32 @@ fn add_source<'a, 'p: 'a>(needed: &mut Needed<'a>, source: Option<Str<'p>>) -> R
     }
 }
 
-// Adds the names that a class mentions, but those that its instructions name.
+// Adds the names that a class mentions, but its own members and what its instructions name.
 fn add_class<'a, 'p: 'a>(
     needed: &mut Needed<'a>,
     arena: &'a Bump,
     class: &Class<'p>,
 ) -> Result<(), Fault>
     requires { AllByRecursion HasShorty (names_of_class (view.class class.now)) }
-    ensures added { OnOk result (needed.new ≡ with_names needed.old (names_but_in_code (view.class class.now))) }
+    ensures added { OnOk result (needed.new ≡ with_names needed.old (other_names (view.class class.now))) }
     ensures memory { IsOkUnless result memory }
 {
     add_superclass(needed, class.superclass)?;
     add_types(needed, class.interfaces)?;
     add_source(needed, class.source)?;
-    needed.add_fields_of(class.ty, class.statics)?;
     add_values(needed, arena, class.values)?;
-    needed.add_fields_of(class.ty, class.instances)?;
-    add_methods(needed, arena, class.ty, class.directs)?;
-    add_methods(needed, arena, class.ty, class.virtuals)
+    add_all_caught(needed, class.directs)?;
+    add_all_caught(needed, class.virtuals)
 }
 
-// Adds the names that classes mention, but those that instructions name.
+// Adds the names that classes mention, but their own members and what instructions name.
 fn add_classes<'a, 'p: 'a>(
     needed: &mut Needed<'a>,
     arena: &'a Bump,
     classes: &[Class<'p>],
 ) -> Result<(), Fault>
     requires { AllByRecursion HasShorty (flat_map names_of_class (map view.class classes.now)) }
-    ensures added { OnOk result (needed.new ≡ with_names needed.old (flat_map names_but_in_code (map view.class classes.now))) }
+    ensures added { OnOk result (needed.new ≡ with_names needed.old (flat_map other_names (map view.class classes.now))) }
     ensures memory { IsOkUnless result memory }
 {
     for class in classes {
@@ -162,38 +148,59 @@ fn note_classes<'a, 'p: 'a>(
     Ok(())
 }
 
-/// The names that a program needs, with their ranks; and the ranks of what its instructions name, in the order in which its bodies
-/// are written. The arena holds the shorties.
+// Adds the members that classes define, and notes them.
+fn note_members<'a, 'p: 'a>(
+    noted: &mut Noted<'a>,
+    arena: &'a Bump,
+    classes: &[Class<'p>],
+) -> Result<(), Fault>
+    requires { AllByRecursion HasShorty (flat_map own_names (map view.class classes.now)) }
+    ensures added { OnOk result (sets noted.new.names ≡ with_names (sets noted.old.names) (flat_map own_names (map view.class classes.now))) }
+    ensures noted { OnOk result ((before : List content.Name) → AreNoted noted.old before → AreNoted noted.new (before ++ defined_in (map view.class classes.now))) }
+    ensures memory { IsOkUnless result memory }
+{
+    for class in classes {
+        noted.add_members_of(arena, class)?;
+    }
+    Ok(())
+}
+
+/// The names that a program needs, with their ranks; and the ranks of what its instructions name, in the order in which its
+/// bodies are written, and then those of the members that its classes define, in the order of class data. The arena holds
+/// the shorties; hashes begin with the seed.
 ///
 /// The types in the prototypes of the methods that it mentions have to be descriptors. It fails only when out of memory.
 pub fn needed_names<'a, 'p: 'a>(
     alloc: Global,
+    seed: Seed,
     arena: &'a Bump,
     program: &Program<'p>,
 ) -> Result<(Ranks<'a>, Vec<usize>), Fault>
     requires { AllByRecursion HasShorty (mentions (view.program program.now)) }
     ensures ok { IfOk result (λ r. r.0 ≡ needed (view.program program.now)) }
-    ensures ranks { IfOk result (λ r. AreRanks r.0 (named_in_code (view.program program.now)) r.1.items) }
+    ensures ranks { IfOk result (λ r. AreRanks r.0 (named_in_code (view.program program.now) ++ defined_in (view.program program.now)) r.1.items) }
     ensures memory { IsOkUnless result memory }
 {
-    gathered(alloc, arena, program)
+    gathered(alloc, seed, arena, program)
 }
 
-// The names of each class, gathered and frozen: those in instructions last, since these are noted.
+// The names of each class, gathered and frozen: those that are noted last.
 fn gathered<'a, 'p: 'a>(
     alloc: Global,
+    seed: Seed,
     arena: &'a Bump,
     program: &Program<'p>,
 ) -> Result<(Ranks<'a>, Vec<usize>), Fault>
     requires { AllByRecursion HasShorty (mentions (view.program program.now)) }
     ensures ok { IfOk result (λ r. r.0 ≡ needed (view.program program.now)) }
-    ensures ranks { IfOk result (λ r. AreRanks r.0 (named_in_code (view.program program.now)) r.1.items) }
+    ensures ranks { IfOk result (λ r. AreRanks r.0 (named_in_code (view.program program.now) ++ defined_in (view.program program.now)) r.1.items) }
     ensures memory { IsOkUnless result memory }
 {
-    let mut names = Needed::new(alloc);
+    let mut names = Needed::seeded(alloc, seed);
     names.holds_parts();
     add_classes(&mut names, arena, program.classes)?;
     let mut noted = names.noting();
     note_classes(&mut noted, arena, program.classes)?;
+    note_members(&mut noted, arena, program.classes)?;
     noted.freeze()
 }

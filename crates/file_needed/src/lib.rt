@@ -2,7 +2,7 @@
 //!
 //! ```
 //! let arena = Bump::new(alloc); // holds the shorties
-//! let (ranks, indices) = needed_names(alloc, &arena, &program)?; // indices: the ranks of what instructions name
+//! let (ranks, indices) = needed_names(alloc, seed, &arena, &program)?; // indices: the ranks of what instructions name, then of members
 //! ```
 //!
 //! docs/MAP.md says where this crate stands among the others.

@@ -1,9 +1,8 @@
 // The indices of names that are held: never a refusal.
 ghost use Rattle.std.specs.Prelude.{◌≤◌, ◌^◌, length};
 ghost use Rattle.tables_names.specs.Indices.{HasPlace};
-ghost use Rattle.tables_names.specs.Keys.{key_of_str, key_of_desc, own_field, own_method};
+ghost use Rattle.tables_names.specs.Keys.{key_of_str, key_of_desc};
 ghost use Rattle.tables_names.specs.Rank.{IsAt};
-ghost use Rattle.program_types.specs.Content.{Units};
 ghost use Rattle.program_types.specs.Key.{text_key};
 ghost use Rattle.program_types.specs.Shorty.{shorty};
 ghost use Rattle.program_types.specs.View as view;
@@ -43,36 +42,6 @@ pub fn type_index(ranks: &Ranks<'_>, name: Desc<'_>) -> u16
 {
     match ranks.index_of_type(name) {
         Some(index) => index as u16,
-        None => unreachable!(),
-    }
-}
-
-/// The index of a field that is held, of the class with this index.
-pub fn own_field_index(ranks: &Ranks<'_>, class: usize, name: Str<'_>, ty: Desc<'_>) -> u32
-    ghost owner: { Units }
-    requires class { IsAt ranks.now.types class (text_key owner) }
-    requires held { HasPlace ranks.now.fields (own_field owner (view.str name) (view.desc ty)) }
-    requires few { length ranks.now.fields ≤ 2 ^ 32 }
-    ensures { IsAt ranks.now.fields result (own_field owner (view.str name.entry) (view.desc ty.entry)) }
-{
-    // A reborrow, which a call with a ghost value needs here.
-    match (&*ranks).index_of_own_field(class, name, ty) {
-        Some(index) => index,
-        None => unreachable!(),
-    }
-}
-
-/// The index of a method that is held, of the class with this index.
-pub fn own_method_index(ranks: &Ranks<'_>, class: usize, name: Str<'_>, proto: &Proto<'_>) -> u32
-    ghost owner: { Units }
-    requires class { IsAt ranks.now.types class (text_key owner) }
-    requires held { HasPlace ranks.now.methods (own_method owner (view.str name) (view.proto proto.now)) }
-    requires few { length ranks.now.methods ≤ 2 ^ 32 }
-    ensures { IsAt ranks.now.methods result (own_method owner (view.str name.entry) (view.proto proto.now)) }
-{
-    // Reborrows, as above.
-    match (&*ranks).index_of_own_method(class, name, &*proto) {
-        Some(index) => index,
         None => unreachable!(),
     }
 }

@@ -27,7 +27,7 @@ mod class_defs;
 mod laws;
 
 pub use class_defs::put_classes;
-pub use index::{own_field_index, own_method_index, shorty_index, string_index, type_index};
+pub use index::{shorty_index, string_index, type_index};
 pub use laws::{rows_are_one, rows_stand_at_their_indices};
 pub use tables::name_rows;
 

@@ -1,65 +1,18 @@
 -- Class data, as a whole.
-use Rattle.std.proofs.Common.{◌≡◌, ℕ, zero, suc, ◌+◌, ◌*◌, ◌<◌, ◌≤◌, List, [], ◌∷◌, ◌++◌, length, map, get_or, refl, sym, ap, ◌∙◌, arith, length-append, append_assoc, false, subst}
+use Rattle.std.proofs.Common.{◌≡◌, ℕ, ◌+◌, ◌*◌, ◌<◌, ◌≤◌, List, [], ◌∷◌, ◌++◌, length, map, refl, sym, ap, ◌∙◌, arith, length-append, append_assoc, false}
 use Rattle.std.proofs.lemmas.List.{length-map}
 use Rattle.std.specs.Prelude.{◌&&◌}
-use Rattle.std.specs.List.{AllByRecursion, flat_map}
 use Rattle.base_bytes.specs.Grammar.{Appends, Each}
 use Rattle.base_bytes.specs.Leb128.{Spells, Shortest}
 use Rattle.file_rows.specs.ClassData.{FieldEntry, MethodEntry, SpellsCounts, SpellsFieldEntry, SpellsMethodEntry}
 use Rattle.file_layout.specs.Sections.{AddsSome, is_empty_list}
 use Rattle.file_layout.proofs.SectionLaws.{adds_some, gap_one, unpadded}
-use Rattle.tables_names.specs.Closure.{Five, NameRanks, method_of_class}
-use Rattle.tables_names.specs.Indices.{HasPlace}
-use Rattle.tables_names.specs.Needed.{needed}
-use Rattle.tables_names.specs.Rank.{IsAt}
-use Rattle.tables_names.specs.Rows.{first_of, text_at}
-use Rattle.file_needed.proofs.ClassNames.{statics_named, instances_named, directs_kept, virtuals_kept}
-use Rattle.program_types.specs.Content.{Units, Descriptor, Member, Method, Program}
-use Rattle.program_types.specs.Key.{Key, text_key}
-use Rattle.program_types.specs.Mentions.{field_of_class, names_of_method}
+use Rattle.tables_names.specs.Closure.{Five, NameRanks}
+use Rattle.program_types.specs.Content.{Member, Method}
 use Rattle.program_types.specs.View as view
 use Rattle.program_types.specs.declared.class.Class as made
-use Rattle.program_types.specs.Kinds.{HasIndex}
-use Rattle.file_sections.proofs.NumberLaws.{class_named}
 use Rattle.file_sections.specs.Data.{PacksData, ClassWithCodes, code_offs, has_no_members, wide_with_codes}
 use Rattle.file_sections.specs.Growing.{AddsFields, AddsMethods}
-use Rattle.file_sections.specs.Named.{MembersHaveNames}
-use Rattle.file_needed.proofs.Steps.{right}
-
--- the text with an index
-pub text_is : (table : List Key) (i : ℕ) (t : Units) → IsAt table i (text_key t) → text_at table i ≡ t
-text_is [] i t at = absurd (cc at)
-text_is (k ∷ ks) zero t at = let same : k ≡ text_key t = cc at in ap first_of same
-text_is (k ∷ ks) (suc i) t at = text_is ks i t at
-
--- the same class, by its text
-pub fields_of_same : (s : Five) (t u : Descriptor) (old new : List ℕ) (ms : List Member) → t ≡ u → AddsFields (NameRanks s) t old new ms → AddsFields (NameRanks s) u old new ms
-fields_of_same s t u old new ms e a = subst (λ (d : Descriptor). AddsFields (NameRanks s) d old new ms) e a
-
-pub methods_of_same : (s : Five) (t u : Descriptor) (codes old new : List ℕ) (ms : List Method) → t ≡ u → AddsMethods (NameRanks s) t codes old new ms → AddsMethods (NameRanks s) u codes old new ms
-methods_of_same s t u codes old new ms e a = subst (λ (d : Descriptor). AddsMethods (NameRanks s) d codes old new ms) e a
-
-fields_in : (s : Five) (class : Descriptor) (ms : List Member) → AllByRecursion (HasIndex (NameRanks s)) (map (field_of_class class) ms) → AllByRecursion (λ m. HasIndex (NameRanks s) (field_of_class class m)) ms
-fields_in s class [] h = tt
-fields_in s class (m ∷ ms) h = (h.0, fields_in s class ms h.1)
-
-methods_in : (s : Five) (class : Descriptor) (ms : List Method) → AllByRecursion (HasIndex (NameRanks s)) (flat_map (names_of_method class) ms) → AllByRecursion (λ m. HasIndex (NameRanks s) (method_of_class class m)) ms
-methods_in s class [] h = tt
-methods_in s class (m ∷ ms) h = (h.0, methods_in s class ms (right (HasIndex (NameRanks s)) (names_of_method class m) (flat_map (names_of_method class) ms) h))
-
-pub class_held : (s : Five) (p : Program) (cs : List made.Class) (k : ℕ) (d : made.Class) → s ≡ needed p → p ≡ map view.class cs → k < length cs → HasPlace s.types (text_key (view.desc (get_or cs k d).ty))
-class_held s p cs k d e m lt = (class_named s p cs k d e m lt).0
-
-pub members_named : (s : Five) (p : Program) (cs : List made.Class) (k : ℕ) (d : made.Class) → s ≡ needed p → p ≡ map view.class cs → k < length cs → MembersHaveNames s (view.class (get_or cs k d))
-members_named s p cs k d e m lt =
-    let c = view.class (get_or cs k d) in
-    let h = class_named s p cs k d e m lt in
-    record {
-      statics = fields_in s c.ty c.statics (statics_named (HasIndex (NameRanks s)) c h);
-      instances = fields_in s c.ty c.instances (instances_named (HasIndex (NameRanks s)) c h);
-      directs = methods_in s c.ty c.directs (directs_kept (HasIndex (NameRanks s)) c h);
-      virtuals = methods_in s c.ty c.virtuals (virtuals_kept (HasIndex (NameRanks s)) c h);
-    }
 
 -- four counts, then the four lists
 pub members_append : (s : Five) (c : made.Class) (codes first last old m0 m1 m2 m3 new : List ℕ) → codes ≡ first ++ last

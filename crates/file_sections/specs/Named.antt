@@ -1,20 +1,19 @@
 -- What has to be held of the names of a class, so that its items can be written.
 -- Page: "Dalvik Executable format", "class_data_item", "encoded_array".
-use Rattle.std.specs.Prelude.{◌≤◌, ◌^◌, length, Option, IfSome}
-use Rattle.std.specs.List.{AllByRecursion}
+use Rattle.std.specs.Prelude.{◌≤◌, ◌^◌, ◌++◌, List, length, map, Option, IfSome}
 use Rattle.file_limits.specs.Fits.{CanBePut, FitsCode}
 use Rattle.tables_names.specs.Closure.{Five, NameRanks, method_of_class}
-use Rattle.program_types.specs.Content.{Code, Class}
+use Rattle.program_types.specs.Content.{Code, Class, Name}
 use Rattle.program_types.specs.Formed.{IsFormed}
 use Rattle.program_types.specs.Mentions.{field_of_class}
-use Rattle.program_types.specs.Kinds.{HasIndex}
 
--- Each member has an index.
-pub record MembersHaveNames (s : Five) (c : Class) : Type 0 where
-  pub statics : AllByRecursion (λ m. HasIndex (NameRanks s) (field_of_class c.ty m)) c.statics
-  pub instances : AllByRecursion (λ m. HasIndex (NameRanks s) (field_of_class c.ty m)) c.instances
-  pub directs : AllByRecursion (λ m. HasIndex (NameRanks s) (method_of_class c.ty m)) c.directs
-  pub virtuals : AllByRecursion (λ m. HasIndex (NameRanks s) (method_of_class c.ty m)) c.virtuals
+-- the fields that a class defines, static ones first
+abbrev pub fields_of : Class → List Name
+fields_of c = map (field_of_class c.ty) c.statics ++ map (field_of_class c.ty) c.instances
+
+-- the methods that a class defines, direct ones first
+abbrev pub methods_of : Class → List Name
+methods_of c = map (method_of_class c.ty) c.directs ++ map (method_of_class c.ty) c.virtuals
 
 -- A body can be put.
 pub record CanPut (s : Five) (c : Code) : Type 0 where

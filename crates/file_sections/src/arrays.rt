@@ -67,7 +67,7 @@ pub fn put_arrays(
     ensures memory { IsOkUnless result memory }
 {
     ranks.rise();
-    let mut items = Items::new(alloc);
+    let mut items = Items::new(alloc, ranks.seed());
     let mut places = Vec::new(alloc);
     for class in program.classes {
         let place = add_array(alloc, out, &mut items, ranks, class.values)?;

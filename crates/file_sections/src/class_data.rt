@@ -1,7 +1,6 @@
 // Class data.
 // Page: "Dalvik Executable format", "class_data_item", "encoded_field", "encoded_method".
 ghost use Rattle.std.specs.Prelude.{◌≡◌, ℕ, ◌+◌, ◌<◌, ◌≤◌, ◌^◌, Some, IfOk, OnOk, IsOkUnless, length, map, slice_get};
-ghost use Rattle.std.specs.List.{AllByRecursion};
 ghost use Rattle.base_bytes.specs.Fault.{memory};
 ghost use Rattle.base_bytes.specs.Grammar.{Appends};
 ghost use Rattle.base_bytes.specs.Leb128.{Spells, Shortest};
@@ -9,24 +8,19 @@ ghost use Rattle.file_rows.specs.ClassData.{SpellsCounts, SpellsFieldEntry, Spel
 ghost use Rattle.file_layout.specs.Sections.{wide_all, AddsSome, Laid};
 ghost use Rattle.file_limits.specs.Wide.{body_values, wide_data};
 ghost use Rattle.tables_names.specs.Closure.{NameRanks, method_of_class};
-ghost use Rattle.tables_names.specs.Indices.{HasPlace};
-ghost use Rattle.tables_names.specs.Keys.{key_of_desc};
-ghost use Rattle.tables_names.specs.Needed.{needed};
-ghost use Rattle.tables_names.specs.Rank.{IsAt};
+ghost use Rattle.tables_names.specs.Noted.{AreRanks};
+ghost use Rattle.file_needed.specs.Bodies.{defined_in};
 ghost use Rattle.program_types.specs.Content.{Descriptor};
-ghost use Rattle.program_types.specs.Key.{text_key};
 ghost use Rattle.program_types.specs.Mentions.{field_of_class};
 ghost use Rattle.program_types.specs.View as view;
-ghost use Rattle.program_types.specs.Kinds.{HasIndex};
 ghost use Rattle.program_rules.specs.Rules.{KeysRise, MembersRise, member_key, method_key};
 ghost use Rattle.file_sections.specs.Data.{PacksData, has_no_members, with_code_places, wide_with_codes};
 ghost use Rattle.file_sections.specs.Growing.{AddsFields, AddsMethods};
-ghost use Rattle.file_sections.specs.Named.{FewNames, MembersHaveNames};
+ghost use Rattle.file_sections.specs.Named.{FewNames, fields_of, methods_of};
 
 use crate::placed::Placed;
 use dex_base::{Fault, put_uleb};
-use file_rows::{own_field_index, own_method_index};
-use program_types::{Class, Desc, Member, Method, Program};
+use program_types::{Class, Member, Method, Program};
 use std::alloc::Global;
 use tables_names::Ranks;
 
@@ -53,52 +47,51 @@ pub fn put_method(out: &mut Vec<u8>, step: u32, flags: u32, code: u32) -> Result
     put_uleb(out, code)
 }
 
-// Appends the entries of fields of the class with this index.
+// Appends the entries of fields of a class, which have these indices, one by one.
 fn put_fields(
     out: &mut Vec<u8>,
     ranks: &Ranks<'_>,
-    class: usize,
+    own: &[usize],
     members: &[Member<'_>],
 ) -> Result<(), Fault>
-    ghost owner: { Descriptor }
-    requires class { IsAt ranks.now.types class (text_key owner) }
-    requires named { AllByRecursion (λ m. HasIndex (NameRanks ranks.now) (field_of_class owner m)) (map view.member members.now) }
+    requires own { (owner : Descriptor) × AreRanks ranks.now (map (field_of_class owner) (map view.member members.now)) own.now }
     requires few { length ranks.now.fields ≤ 2 ^ 32 }
     requires rise { KeysRise (map member_key (map view.member members.now)) }
-    ensures ok { OnOk result (AddsFields (NameRanks ranks.now) owner out.old.items out.new.items (map view.member members.now)) }
+    ensures ok { OnOk result ((owner : Descriptor) → AreRanks ranks.now (map (field_of_class owner) (map view.member members.now)) own.now
+        → AddsFields (NameRanks ranks.now) owner out.old.items out.new.items (map view.member members.now)) }
     ensures memory { IsOkUnless result memory }
 {
     ranks.rise();
     let mut last = 0;
-    for member in members {
-        let index = own_field_index(ranks, class, member.name, member.ty);
+    for (i, member) in members.iter().enumerate() {
+        let index = own[i] as u32;
         put_field(out, index - last, member.flags)?;
         last = index;
     }
     Ok(())
 }
 
-// Appends the entries of methods of the class with this index, whose bodies stand at these places.
+// Appends the entries of methods of a class, which have these indices, one by one, and whose bodies stand at these
+// places.
 fn put_methods(
     out: &mut Vec<u8>,
     ranks: &Ranks<'_>,
-    class: usize,
+    own: &[usize],
     methods: &[Method<'_>],
     codes: &[u32],
 ) -> Result<(), Fault>
-    ghost owner: { Descriptor }
-    requires class { IsAt ranks.now.types class (text_key owner) }
-    requires named { AllByRecursion (λ m. HasIndex (NameRanks ranks.now) (method_of_class owner m)) (map view.method methods.now) }
+    requires own { (owner : Descriptor) × AreRanks ranks.now (map (method_of_class owner) (map view.method methods.now)) own.now }
     requires few { length ranks.now.methods ≤ 2 ^ 32 }
     requires rise { KeysRise (map method_key (map view.method methods.now)) }
     requires codes { length codes.now ≡ length methods.now }
-    ensures ok { OnOk result (AddsMethods (NameRanks ranks.now) owner codes.now out.old.items out.new.items (map view.method methods.now)) }
+    ensures ok { OnOk result ((owner : Descriptor) → AreRanks ranks.now (map (method_of_class owner) (map view.method methods.now)) own.now
+        → AddsMethods (NameRanks ranks.now) owner codes.now out.old.items out.new.items (map view.method methods.now)) }
     ensures memory { IsOkUnless result memory }
 {
     ranks.rise();
     let mut last = 0;
     for (i, method) in methods.iter().enumerate() {
-        let index = own_method_index(ranks, class, method.name, method.proto);
+        let index = own[i] as u32;
         put_method(out, index - last, method.flags, codes[i])?;
         last = index;
     }
@@ -117,27 +110,17 @@ fn put_counts(out: &mut Vec<u8>, class: &Class<'_>) -> Result<(), Fault>
     put_uleb(out, class.virtuals.len() as u32)
 }
 
-// The index of a class that is held.
-fn class_index(ranks: &Ranks<'_>, class: Desc<'_>) -> usize
-    requires held { HasPlace ranks.now.types (key_of_desc class) }
-    requires few { length ranks.now.types ≤ 2 ^ 32 }
-    ensures { IsAt ranks.now.types result (key_of_desc class.entry) }
-{
-    match ranks.index_of_type(class) {
-        Some(index) => index as usize,
-        None => unreachable!(),
-    }
-}
-
-// Appends the members of a class, whose own text is read once.
+// Appends the members of a class: its fields and its methods have these indices, static and direct ones first.
 fn put_members(
     out: &mut Vec<u8>,
     ranks: &Ranks<'_>,
     class: &Class<'_>,
+    own_fields: &[usize],
+    own_methods: &[usize],
     codes: &[u32],
 ) -> Result<(), Fault>
-    requires held { HasPlace ranks.now.types (key_of_desc class.now.ty) }
-    requires named { MembersHaveNames ranks.now (view.class class.now) }
+    requires fields { AreRanks ranks.now (fields_of (view.class class.now)) own_fields.now }
+    requires methods { AreRanks ranks.now (methods_of (view.class class.now)) own_methods.now }
     requires few { FewNames ranks.now }
     requires rise { MembersRise (view.class class.now) }
     requires room { wide_data (view.class class.now) < 2 ^ 32 }
@@ -145,14 +128,14 @@ fn put_members(
     ensures ok { OnOk result (Appends (PacksData (NameRanks ranks.now)) out.old.items out.new.items (record { class = view.class class.now; codes = codes.now })) }
     ensures memory { IsOkUnless result memory }
 {
-    let directs = &codes[..class.directs.len()];
-    let virtuals = &codes[class.directs.len()..];
+    let (statics, instances) = own_fields.split_at(class.statics.len());
+    let (directs, virtuals) = own_methods.split_at(class.directs.len());
+    let (direct_codes, virtual_codes) = codes.split_at(class.directs.len());
     put_counts(out, class)?;
-    let own = class_index(ranks, class.ty);
-    put_fields(out, ranks, own, class.statics)?;
-    put_fields(out, ranks, own, class.instances)?;
-    put_methods(out, ranks, own, class.directs, directs)?;
-    put_methods(out, ranks, own, class.virtuals, virtuals)
+    put_fields(out, ranks, statics, class.statics)?;
+    put_fields(out, ranks, instances, class.instances)?;
+    put_methods(out, ranks, directs, class.directs, direct_codes)?;
+    put_methods(out, ranks, virtuals, class.virtuals, virtual_codes)
 }
 
 // Appends the class data of a class, if it has members, and answers the byte at which it begins, or 0.
@@ -160,10 +143,12 @@ fn add_data(
     out: &mut Vec<u8>,
     ranks: &Ranks<'_>,
     class: &Class<'_>,
+    own_fields: &[usize],
+    own_methods: &[usize],
     codes: &[u32],
 ) -> Result<u32, Fault>
-    requires held { HasPlace ranks.now.types (key_of_desc class.now.ty) }
-    requires named { MembersHaveNames ranks.now (view.class class.now) }
+    requires fields { AreRanks ranks.now (fields_of (view.class class.now)) own_fields.now }
+    requires methods { AreRanks ranks.now (methods_of (view.class class.now)) own_methods.now }
     requires few { FewNames ranks.now }
     requires rise { MembersRise (view.class class.now) }
     requires room { length out.old.items + wide_data (view.class class.now) < 2 ^ 32 }
@@ -178,21 +163,23 @@ fn add_data(
         return Ok(0);
     }
     let place = out.len() as u32;
-    put_members(out, ranks, class, codes)?;
+    put_members(out, ranks, class, own_fields, own_methods, codes)?;
     Ok(place)
 }
 
-/// Appends the class data of each class that has members, where the bodies of all methods stand at these places.
+/// Appends the class data of each class that has members, where the members that the classes define have these indices,
+/// in this order, and the bodies of all methods stand at these places.
 ///
 /// It fails only when out of memory.
 pub fn put_datas(
     alloc: Global,
     out: &mut Vec<u8>,
     ranks: &Ranks<'_>,
+    indices: &[usize],
     program: &Program<'_>,
     codes: &[u32],
 ) -> Result<Placed, Fault>
-    requires needed { ranks.now ≡ needed (view.program program.now) }
+    requires indices { AreRanks ranks.now (defined_in (view.program program.now)) indices.now }
     requires few { FewNames ranks.now }
     requires rise { (i : ℕ) (c : _) → slice_get (view.program program.now) i ≡ Some c → MembersRise c }
     requires front { 0 < length out.old.items }
@@ -203,11 +190,15 @@ pub fn put_datas(
 {
     let mut placed = Placed::new(alloc);
     let mut rest = codes;
+    let mut members = indices;
     for class in program.classes {
-        let (own, others) = rest.split_at(class.directs.len() + class.virtuals.len());
-        let place = add_data(out, ranks, class, own)?;
+        let (fields, others) = members.split_at(class.statics.len() + class.instances.len());
+        let (methods, left) = others.split_at(class.directs.len() + class.virtuals.len());
+        let (own, after) = rest.split_at(class.directs.len() + class.virtuals.len());
+        let place = add_data(out, ranks, class, fields, methods, own)?;
         placed.add(place)?;
-        rest = others;
+        rest = after;
+        members = left;
     }
     Ok(placed)
 }

@@ -5,7 +5,7 @@ ghost use Rattle.std.specs.List.{AllByRecursion, flat_map};
 ghost use Rattle.base_bytes.specs.Fault.{memory};
 ghost use Rattle.file_layout.specs.Sections.{wide_all, Laid};
 ghost use Rattle.file_limits.specs.Wide.{bodies_in, bodies_of, body_values, wide_body};
-ghost use Rattle.file_needed.specs.Bodies.{named_in_body, named_in_code};
+ghost use Rattle.file_needed.specs.Bodies.{defined_in, named_in_body, named_in_code};
 ghost use Rattle.program_types.specs.Mentions.{if_any, names_of_insn};
 ghost use Rattle.tables_names.specs.Closure.{NameRanks};
 ghost use Rattle.tables_names.specs.Noted.{AreRanks};
@@ -90,27 +90,29 @@ fn put_bodies<'r>(
     Ok(rest)
 }
 
-/// Appends the bodies of all methods, each 4-aligned: by class, direct methods, then virtual ones. It answers the place of each
-/// method's body, 0 for a method without one. Equal bodies stand once. What their instructions name has these indices, in this order.
+/// Appends the bodies of all methods, each 4-aligned: by class, direct methods, then virtual ones. Equal bodies stand once.
+/// What their instructions name has the first of these indices, in this order, and the members that the classes define have
+/// those after them. It answers the place of each method's body, 0 for a method without one, and the indices of the members.
 ///
 /// It fails only when out of memory.
-pub fn put_codes(
+pub fn put_codes<'r>(
     alloc: Global,
     out: &mut Vec<u8>,
     ranks: &Ranks<'_>,
-    indices: &[usize],
+    indices: &'r [usize],
     program: &Program<'_>,
-) -> Result<Placed, Fault>
-    requires indices { AreRanks ranks.now (named_in_code (view.program program.now)) indices.now }
+) -> Result<(Placed, &'r [usize]), Fault>
+    requires indices { AreRanks ranks.now (named_in_code (view.program program.now) ++ defined_in (view.program program.now)) indices.now }
     requires can { (i : ℕ) (c : _) → slice_get (view.program program.now) i ≡ Some c → AllByRecursion (BodyCanBePut ranks.now) (bodies_of c) }
     requires front { 0 < length out.old.items }
     requires room { length out.old.items + wide_all wide_body (body_values (view.program program.now)) < 2 ^ 32 }
-    ensures ok { IfOk result (λ r. Laid is_bodiless (PacksBody (NameRanks ranks.now)) 4 wide_body out.old.items out.new.items (body_values (view.program program.now)) r.places.items r.items) }
-    ensures once { IfOk result (λ r. AreShared r.places.items (body_values (view.program program.now))) }
+    ensures ok { IfOk result (λ r. Laid is_bodiless (PacksBody (NameRanks ranks.now)) 4 wide_body out.old.items out.new.items (body_values (view.program program.now)) r.0.places.items r.0.items) }
+    ensures once { IfOk result (λ r. AreShared r.0.places.items (body_values (view.program program.now))) }
+    ensures left { IfOk result (λ r. AreRanks ranks.now (defined_in (view.program program.now)) r.1.now) }
     ensures memory { IsOkUnless result memory }
 {
     ranks.rise();
-    let mut items = Items::new(alloc);
+    let mut items = Items::new(alloc, ranks.seed());
     let mut places = Vec::new(alloc);
     let mut rest = indices;
     for class in program.classes {
@@ -133,8 +135,9 @@ pub fn put_codes(
             &mut places,
         )?;
     }
-    Ok(Placed {
+    let placed = Placed {
         places,
         items: items.count(),
-    })
+    };
+    Ok((placed, rest))
 }

@@ -3,10 +3,10 @@
 //!
 //! ```
 //! let lists = put_lists(alloc, &mut out, &ranks, &program)?; // parameters of each prototype, then interfaces of each class
-//! let codes = put_codes(alloc, &mut out, &ranks, &indices, &program)?; // of each method: where its body stands, 0 for none
+//! let (codes, own) = put_codes(alloc, &mut out, &ranks, &indices, &program)?; // of each method: where its body stands, 0 for none
 //! let texts = put_strings(alloc, &mut out, &ranks)?;
 //! let arrays = put_arrays(alloc, &mut out, &ranks, &program)?;
-//! let datas = put_datas(alloc, &mut out, &ranks, &program, &codes.places)?;
+//! let datas = put_datas(alloc, &mut out, &ranks, own, &program, &codes.places)?;
 //! ```
 //!
 //! docs/MAP.md says where this crate stands among the others.

@@ -132,7 +132,7 @@ pub fn put_lists(
     ensures memory { IsOkUnless result memory }
 {
     ranks.rise();
-    let mut items = Items::new(alloc);
+    let mut items = Items::new(alloc, ranks.seed());
     let mut places = Vec::new(alloc);
     for number in 0..ranks.protos().len() + program.classes.len() {
         let place = add_numbered(alloc, out, &mut items, ranks, program, number)?;

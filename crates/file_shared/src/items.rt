@@ -5,7 +5,7 @@ ghost use Rattle.base_bytes.specs.Fault.{memory};
 ghost use Rattle.file_shared.specs.Once.{PutsOnce};
 
 use crate::item::Item;
-use base_bytes::Fault;
+use base_bytes::{Fault, Seed};
 use file_layout::pad;
 use indexmap::IndexMap;
 use indexmap::map::Entry;
@@ -14,7 +14,7 @@ use std::marker::Model;
 
 /// The items of a part, in the order in which they stand. It stands for the bytes of each, with its place.
 pub struct Items {
-    places: IndexMap<Item, u32>,
+    places: IndexMap<Item, u32, Seed>,
 }
 
 // Each place where items are let go is proved: here it is one call, and derived it would be all that they own.
@@ -35,12 +35,12 @@ impl Model for Items {
 }
 
 impl Items {
-    /// No item.
-    pub fn new(alloc: Global) -> Self
+    /// No item. Hashes begin with the seed.
+    pub fn new(alloc: Global, seed: Seed) -> Self
         ensures { result ≡ [] }
     {
         Items {
-            places: IndexMap::new(alloc),
+            places: IndexMap::with_hasher(alloc, seed),
         }
     }
 

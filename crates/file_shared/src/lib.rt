@@ -2,7 +2,7 @@
 //! equal bytes again is given the same place.
 //!
 //! ```
-//! let mut items = Items::new(alloc);
+//! let mut items = Items::new(alloc, seed);
 //! let place = items.put_aligned(&mut out, bytes)?; // appended here, or where an equal item stands
 //! ```
 //!

@@ -2,7 +2,7 @@
 //! anew with the numbers of the kept rows. No name is read, and nothing is looked up but offsets and the bytes of items.
 //!
 //! ```text
-//! let small = strip_framed(alloc, &sections)?; // of a file that means a program
+//! let small = strip_framed(alloc, seed, &sections)?; // of a file that means a program
 //! ```
 //!
 //! docs/MAP.md says where this crate stands among the others.

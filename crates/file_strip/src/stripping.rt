@@ -18,7 +18,7 @@ ghost use Rattle.file_strip.specs.Ready.{IsReady};
 
 use crate::survey::{Survey, look_at_classes};
 use base_bytes::are_bytes;
-use dex_base::{Fault, fault};
+use dex_base::{Fault, Seed, fault};
 use dex_container::Sections;
 use dex_insn::IndexKind;
 use file_assemble::{Data, class_count, codes_part, part, plus, space};
@@ -152,14 +152,14 @@ fn assemble_kept(
 /// texts, static values, class data, map; equal items stand once.
 ///
 /// Refused are programs whose handlers are too far in the order of first use (89, at the first such class) or that are too big (90,
-/// at 0); no file means a program that breaks a limit before these. 255 is out of memory.
+/// at 0); no file means a program that breaks a limit before these. 255 is out of memory. Hashes begin with the seed.
 ///
 /// ```
 /// let sections = open(&bytes)?;
 /// check_framed(alloc, &sections)?; // it means a program
-/// let small = strip_framed(alloc, &sections)?;
+/// let small = strip_framed(alloc, seed, &sections)?;
 /// ```
-pub fn strip_framed(alloc: Global, sections: &Sections<'_>) -> Result<Vec<u8>, Fault>
+pub fn strip_framed(alloc: Global, seed: Seed, sections: &Sections<'_>) -> Result<Vec<u8>, Fault>
     requires means { (p : Program) × Means sections.now p }
     ensures assembled { IfOk result (λ file. (p : Program) → Means sections.now p → Assembled file.items (needed p) p) }
     ensures fits { OnOk result ((p : Program) → Means sections.now p → Fits p) }
@@ -167,7 +167,7 @@ pub fn strip_framed(alloc: Global, sections: &Sections<'_>) -> Result<Vec<u8>, F
 {
     // Only for the proof: what holds of each value of its type.
     are_bytes(sections.bytes());
-    let Survey { marks, wide } = look_at_classes(alloc, sections)?;
+    let Survey { marks, wide } = look_at_classes(alloc, seed, sections)?;
     let numbers = marks.number();
     if is_too_big(sections, &numbers, wide) {
         return Err(Fault::at(fault::TOO_BIG, 0));

@@ -20,7 +20,7 @@ ghost use Rattle.file_strip.specs.Survey.{FindsNames, HasFound, IsSurvey, Spells
 ghost use Rattle.file_assemble.specs.Reading.{entries};
 
 use crate::members::{look_at_methods, mark_fields};
-use dex_base::Fault;
+use dex_base::{Fault, Seed};
 use dex_container::{Section, Sections, kind, section_of};
 use dex_insn::IndexKind;
 use file_assemble::{Entries, class_count, class_word, entries_at, plus, times, word};
@@ -173,13 +173,13 @@ fn look_at_class(
 /// most so many bytes, which is exact as long as it is within the limit of a file.
 ///
 /// It fails only when out of memory.
-pub fn look_at_classes(alloc: Global, sections: &Sections<'_>) -> Result<Survey, Fault>
+pub fn look_at_classes(alloc: Global, seed: Seed, sections: &Sections<'_>) -> Result<Survey, Fault>
     requires classes { IsFramed sections.now × ((p : Program) × AreRows SpellsClass sections.now section.class_defs p) }
     ensures ok { IfOk result (λ survey. (p : Program) → AreRows SpellsClass sections.now section.class_defs p → IsSurvey sections.now survey p) }
     ensures memory { IsOkUnless result memory }
 {
     let mut found = Found {
-        marks: Marks::new(alloc, sections)?,
+        marks: Marks::new(alloc, seed, sections)?,
         codes: IndexMap::new(alloc),
         arrays: IndexMap::new(alloc),
         section: section_of(sections, kind::CODE_ITEM),

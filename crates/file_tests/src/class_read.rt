@@ -1,8 +1,10 @@
-//! A file of one class, read whole.
+//! Files of one class, read whole.
 
+use crate::made::Made;
+use crate::made::Made::{One, Parameterless};
 use bumpalo::Bump;
 use dex_base::Fault;
-use dex_samples::{ONE_CLASS, is_so, put_proto, put_units, shows};
+use dex_samples::{Case, ONE_CLASS, all_hold, is_so, put_proto, put_units};
 use file_read::read;
 use program_types::{Class, Code, Insn, Method};
 use std::alloc::Global;
@@ -28,21 +30,50 @@ fn put_methods(text: &mut String, methods: &[Method<'_>]) -> Result<(), Fault> {
     Ok(())
 }
 
-fn shown(alloc: Global) -> Result<String, Fault> {
+fn put_classes(alloc: Global, text: &mut String, file: &[u8]) -> Result<(), Fault> {
     let arena = Bump::new(alloc);
-    let program = read(alloc, &arena, &ONE_CLASS)?;
-    let mut text = String::new(alloc);
+    let program = read(alloc, &arena, file)?;
     for class in program.classes {
-        put_class(&mut text, class)?;
-        put_methods(&mut text, class.directs)?;
-        put_methods(&mut text, class.virtuals)?;
+        put_class(text, class)?;
+        put_methods(text, class.directs)?;
+        put_methods(text, class.virtuals)?;
     }
+    Ok(())
+}
+
+fn text_of(alloc: Global, file: &[u8]) -> Result<String, Fault> {
+    let mut text = String::new(alloc);
+    put_classes(alloc, &mut text, file)?;
     Ok(text)
 }
 
+fn is_shown(alloc: Global, file: &[u8], want: &str) -> Result<bool, Fault> {
+    Ok(text_of(alloc, file)?.as_str() == want)
+}
+
+// A name for the case, the file, and its classes as text.
+struct Shown(&'static str, Made, &'static str);
+
+impl Case for Shown {
+    fn name(&self) -> &'static str {
+        self.0
+    }
+
+    fn holds(&self, alloc: Global) -> Result<bool, Fault> {
+        let file = self.1.begun(alloc)?;
+        is_shown(alloc, &file, self.2)
+    }
+}
+
+#[rattlefmt::skip]
 #[test]
 fn names_of_a_class_are_read(rt: HostRuntime) -> Result<(), Fail> {
-    shows(shown(rt.alloc()), "LA; Ljava/lang/Object; m()V")
+    static CASES: [Shown; 3] = [
+        Shown("a superclass and a method", One(0, &[]), "LA; Ljava/lang/Object; m()V"),
+        Shown("no list of parameters", Parameterless(&[(1, 1, None)]), "LA; m()V"),
+        Shown("a list of no parameters", Parameterless(&[(1, 1, Some(0))]), "LA; m()V"),
+    ];
+    all_hold(rt.alloc(), &CASES)
 }
 
 // A `return-void` alone, with one register.

@@ -4,7 +4,7 @@ ghost use Rattle.std.specs.Prelude.{◌≡◌};
 ghost use Rattle.file_layout.specs.Plan.{IsPlanned, tables_end};
 
 use dex_base::Fault;
-use dex_samples::{ONE_CLASS, WITHOUT_CLASSES, is_so, none_wrong};
+use dex_samples::{Case, ONE_CLASS, WITHOUT_CLASSES, all_hold};
 use file_layout::{Part, Plan, Rows, finish, pad};
 use std::alloc::Global;
 use std::test::Fail;
@@ -42,15 +42,6 @@ fn laid_without_classes(alloc: Global) -> Result<Vec<u8>, Fault> {
     let mut file = Vec::from_slice(alloc, &[0; 112])?;
     finish(alloc, &mut file, &plan_without_classes(), &[])?;
     Ok(file)
-}
-
-fn is_laid_without_classes(alloc: Global) -> Result<bool, Fault> {
-    Ok(laid_without_classes(alloc)?.as_slice() == WITHOUT_CLASSES.as_slice())
-}
-
-#[test]
-fn the_file_without_classes_is_laid(rt: HostRuntime) -> Result<(), Fail> {
-    is_so(is_laid_without_classes(rt.alloc()))
 }
 
 // The data of the file of one class: a code item, four texts, class data.
@@ -121,47 +112,72 @@ fn laid_one_class(alloc: Global, data: &[u8; 57], rows: &[u8; 80]) -> Result<Vec
     Ok(file)
 }
 
-fn is_laid_one_class(alloc: Global) -> Result<bool, Fault> {
-    Ok(laid_one_class(alloc, &DATA, &ROWS)?.as_slice() == ONE_CLASS.as_slice())
-}
-
-#[test]
-fn the_file_of_one_class_is_laid(rt: HostRuntime) -> Result<(), Fail> {
-    is_so(is_laid_one_class(rt.alloc()))
-}
-
-// How many bytes, and how many with the zeros after them.
-type Padded = (&'static str, usize, usize);
-
-// Whether so many ones are padded with zeros up to so many bytes.
-fn is_padded_so(alloc: Global, length: usize, want: usize) -> Result<bool, Fault> {
-    let mut bytes = Vec::new(alloc);
-    for _ in 0..length {
-        bytes.push(1)?;
-    }
+// So many ones, padded.
+fn padded(alloc: Global, length: usize) -> Result<Vec<u8>, Fault> {
+    let mut bytes = vec![in alloc; 1u8; length]?;
     pad(&mut bytes)?;
-    let zeros = &bytes.as_slice()[length.min(bytes.len())..];
-    Ok(bytes.len() == want && zeros.iter().all(|byte| *byte == 0))
+    Ok(bytes)
 }
 
-fn first_padded_otherwise(alloc: Global, cases: &[Padded]) -> Result<Option<&'static str>, Fault> {
-    for (what, length, want) in cases {
-        if !is_padded_so(alloc, *length, *want)? {
-            return Ok(Some(*what));
-        }
+// What is laid.
+#[derive(Clone, Copy)]
+enum Made {
+    WithoutClasses,
+    OneClass,
+    // so many ones, with zeros after them
+    Padded(usize),
+}
+
+fn bytes_of(alloc: Global, made: Made) -> Result<Vec<u8>, Fault> {
+    match made {
+        Made::WithoutClasses => laid_without_classes(alloc),
+        Made::OneClass => laid_one_class(alloc, &DATA, &ROWS),
+        Made::Padded(length) => padded(alloc, length),
     }
-    Ok(None)
 }
 
+// The bytes that are wanted.
+#[derive(Clone, Copy)]
+enum Want {
+    WithoutClasses,
+    OneClass,
+    Bytes(&'static [u8]),
+}
+
+fn is_wanted(bytes: &[u8], want: Want) -> bool {
+    match want {
+        Want::WithoutClasses => bytes == WITHOUT_CLASSES.as_slice(),
+        Want::OneClass => bytes == ONE_CLASS.as_slice(),
+        Want::Bytes(want) => bytes == want,
+    }
+}
+
+// A name for the case, what is laid, and its bytes.
+struct Laid(&'static str, Made, Want);
+
+impl Case for Laid {
+    fn name(&self) -> &'static str {
+        self.0
+    }
+
+    fn holds(&self, alloc: Global) -> Result<bool, Fault> {
+        let bytes = bytes_of(alloc, self.1)?;
+        Ok(is_wanted(&bytes, self.2))
+    }
+}
+
+#[rattlefmt::skip]
 #[test]
-fn zeros_stand_only_where_alignment_asks(rt: HostRuntime) -> Result<(), Fail> {
-    static CASES: [Padded; 6] = [
-        ("no byte", 0, 0),
-        ("one byte", 1, 4),
-        ("two bytes", 2, 4),
-        ("three bytes", 3, 4),
-        ("four bytes", 4, 4),
-        ("five bytes", 5, 8),
+fn files_are_laid_and_zeros_stand_only_where_alignment_asks(rt: HostRuntime) -> Result<(), Fail> {
+    static CASES: [Laid; 8] = [
+        Laid("the file without classes", Made::WithoutClasses, Want::WithoutClasses),
+        Laid("the file of one class", Made::OneClass, Want::OneClass),
+        Laid("no byte", Made::Padded(0), Want::Bytes(&[])),
+        Laid("one byte", Made::Padded(1), Want::Bytes(&[1, 0, 0, 0])),
+        Laid("two bytes", Made::Padded(2), Want::Bytes(&[1, 1, 0, 0])),
+        Laid("three bytes", Made::Padded(3), Want::Bytes(&[1, 1, 1, 0])),
+        Laid("four bytes", Made::Padded(4), Want::Bytes(&[1, 1, 1, 1])),
+        Laid("five bytes", Made::Padded(5), Want::Bytes(&[1, 1, 1, 1, 1, 0, 0, 0])),
     ];
-    none_wrong(first_padded_otherwise(rt.alloc(), &CASES))
+    all_hold(rt.alloc(), &CASES)
 }

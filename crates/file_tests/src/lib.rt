@@ -3,6 +3,14 @@
 //! docs/MAP.md says where this crate stands among the others.
 #![tactic(auto)]
 
+// How a case is made, and what is told of it.
+#[cfg(test)]
+mod made;
+#[cfg(test)]
+mod named_rows;
+#[cfg(test)]
+mod told;
+
 // dex_container
 #[cfg(test)]
 mod frame;
@@ -15,15 +23,11 @@ mod laid;
 
 // tables_rows
 #[cfg(test)]
-mod named_rows;
-#[cfg(test)]
 mod table_faults;
 #[cfg(test)]
 mod table_orders;
 #[cfg(test)]
 mod tables;
-#[cfg(test)]
-mod tables_shown;
 
 // dex_value
 #[cfg(test)]
@@ -39,12 +43,10 @@ mod values_read;
 #[cfg(test)]
 mod class_faults;
 #[cfg(test)]
-mod class_orders;
-#[cfg(test)]
 mod class_read;
-#[cfg(test)]
-mod class_values;
 #[cfg(test)]
 mod code_faults;
 #[cfg(test)]
 mod files;
+#[cfg(test)]
+mod hostile;

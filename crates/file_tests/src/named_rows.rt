@@ -1,4 +1,4 @@
-//! The rows of a file whose places the tests of tables name.
+//! The rows of the files whose places the tests name.
 
 use dex_samples::{NOTHING, Rows};
 
@@ -36,5 +36,156 @@ pub static NAMED: Rows<'static> = Rows {
     ],
     fields: &[(1, 0, 9), (1, 0, 10), (1, 1, 10), (2, 4, 9)],
     methods: &[(1, 1, 0), (1, 0, 9), (1, 2, 9), (4, 0, 9)],
+    ..NOTHING
+};
+
+/// No rows. The map stands from 0x70 to 0x98, and its third entry, at 0x8c, says where the two last bytes of the data
+/// section are.
+pub static ENDED: Rows<'static> = Rows {
+    arrays: &[0, 0],
+    ..NOTHING
+};
+
+/// Strings at 112, types at 120, and the type_lists from 128 to 156:
+/// 01 00 00 00 00 00 (00 00) | 02 00 00 00 00 00 01 00 | 01 00 00 00 02 00 (00 00) | 00 00 00 00.
+pub static LISTS: Rows<'static> = Rows {
+    strings: &[b"\x01I\0", b"\x01V\0"],
+    types: &[0, 1],
+    lists: &[&[0], &[0, 1], &[2], &[]],
+    ..NOTHING
+};
+
+/// Four string rows stand at 112, two type rows at 128 and two proto rows at 136 and 148.
+pub static TWO_PROTOS: Rows<'static> = Rows {
+    strings: &[b"\x01I\0", b"\x02II\0", b"\x01V\0", b"\x02VI\0"],
+    types: &[0, 2],
+    lists: &[&[0], &[]],
+    ..NOTHING
+};
+
+/// The method `(V)V`, with the letters of its types as shorty. Strings stand at 112 and 116, the type at 120.
+pub static OF_VOID: Rows<'static> = Rows {
+    strings: &[b"\x01V\0", b"\x02VV\0"],
+    types: &[0],
+    lists: &[&[0]],
+    protos: &[(1, 0, Some(0))],
+    ..NOTHING
+};
+
+/// Types `LA;` and `LB;`, and two lists: of `LA;` at 192, of `LB;` twice at 200. Two class rows stand at 128 and 160.
+pub static TWO_CLASSES: Rows<'static> = Rows {
+    strings: &[b"\x03LA;\0", b"\x03LB;\0"],
+    types: &[0, 1],
+    lists: &[&[0], &[1, 1]],
+    ..NOTHING
+};
+
+/// A class `LA;` with an abstract method `m` of the one prototype; a list of no type.
+pub static PARAMETERLESS: Rows<'static> = Rows {
+    strings: &[b"\x03LA;\0", b"\x01V\0", b"\x01m\0"],
+    types: &[0, 1],
+    lists: &[&[]],
+    methods: &[(0, 0, 2)],
+    classes: &[[0, 1, 0xffffffff, 0, 0xffffffff, 0, 199, 0]],
+    class_data: &[0, 0, 0, 1, 0, 1, 0],
+    ..NOTHING
+};
+
+/// A field `a` and a method `a()V` of `LA;`, whose class row stands at 192 and its class data at 243, and of `LB;`: the
+/// rows 0 and 1 of fields and of methods.
+pub static TWO_OF_EACH: Rows<'static> = Rows {
+    strings: &[
+        b"\x01I\0",
+        b"\x03LA;\0",
+        b"\x03LB;\0",
+        b"\x01V\0",
+        b"\x01a\0",
+    ],
+    types: &[0, 1, 2, 3],
+    protos: &[(3, 3, None)],
+    fields: &[(1, 0, 4), (2, 0, 4)],
+    methods: &[(1, 0, 4), (2, 0, 4)],
+    classes: &[[1, 1, 0xffffffff, 0, 0xffffffff, 0, 243, 0]],
+    ..NOTHING
+};
+
+/// The class `LA;` with methods `a()V` and `b()V`. The code item, from 196 to 227, is return-void twice with a try whose
+/// list of handlers, at 224, names an address that isn't there. The class data stands at 241.
+pub static TWO_METHODS: Rows<'static> = Rows {
+    strings: &[b"\x03LA;\0", b"\x01V\0", b"\x01a\0", b"\x01b\0"],
+    types: &[0, 1],
+    protos: &[(1, 1, None)],
+    methods: &[(0, 0, 2), (0, 0, 3)],
+    classes: &[[0, 1, 0xffffffff, 0, 0xffffffff, 0, 241, 0]],
+    codes: &[
+        1, 0, 0, 0, 0, 0, 1, 0, 0, 0, 0, 0, 2, 0, 0, 0, 0x0e, 0, 0x0e, 0, 0, 0, 0, 0, 1, 0, 1, 0,
+        1, 0, 2,
+    ],
+    ..NOTHING
+};
+
+/// Two methods of one body, of which the second is 4294967295 rows after the first. The class row stands at 172.
+pub static FAR_APART: Rows<'static> = Rows {
+    strings: &[
+        b"\x03LA;\0",
+        b"\x12Ljava/lang/Object;\0",
+        b"\x01V\0",
+        b"\x01m\0",
+        b"\x01n\0",
+    ],
+    types: &[0, 1, 2],
+    protos: &[(2, 2, None)],
+    methods: &[(0, 0, 3), (0, 0, 4)],
+    classes: &[[0, 1, 1, 0, 0xffffffff, 0, 256, 0]],
+    codes: &[1, 0, 0, 0, 0, 0, 0, 0, 0, 0, 0, 0, 1, 0, 0, 0, 0x0e, 0],
+    class_data: &[
+        0, 0, 2, 0, 1, 9, 0xcc, 1, 0xff, 0xff, 0xff, 0xff, 0x0f, 9, 0xcc, 1,
+    ],
+    ..NOTHING
+};
+
+/// The rows of the file of one class.
+pub static OF_ONE_CLASS: Rows<'static> = Rows {
+    strings: &[
+        b"\x03LA;\0",
+        b"\x12Ljava/lang/Object;\0",
+        b"\x01V\0",
+        b"\x01m\0",
+    ],
+    types: &[0, 1, 2],
+    protos: &[(2, 2, None)],
+    methods: &[(0, 0, 3)],
+    classes: &[[0, 1, 1, 0, 0xffffffff, 0, 0xf1, 0]],
+    codes: &[1, 0, 0, 0, 0, 0, 0, 0, 0, 0, 0, 0, 1, 0, 0, 0, 0x0e, 0],
+    class_data: &[0, 0, 1, 0, 0, 9, 0xc0, 1],
+    ..NOTHING
+};
+
+/// The file of one class with a fifth string that nothing uses, whose count of units stands at 245, and with debugging
+/// information, which isn't looked at.
+pub static SPARE: Rows<'static> = Rows {
+    strings: &[
+        b"\x03LA;\0",
+        b"\x12Ljava/lang/Object;\0",
+        b"\x01V\0",
+        b"\x01m\0",
+        b"\x06~~D8{}\0",
+    ],
+    types: &[0, 1, 2],
+    protos: &[(2, 2, None)],
+    methods: &[(0, 0, 3)],
+    classes: &[[0, 1, 1, 0, 0xffffffff, 0, 253, 0]],
+    codes: &[1, 0, 0, 0, 0, 0, 0, 0, 7, 0, 0, 0, 1, 0, 0, 0, 0x0e, 0],
+    class_data: &[0, 0, 1, 0, 0, 9, 0xc4, 1],
+    ..NOTHING
+};
+
+/// A class `LA;` with one static field, `x` of type int. Its row stands at 140, the array at 304.
+pub static ONE_FIELD: Rows<'static> = Rows {
+    strings: &[b"\x01I\0", b"\x03LA;\0", b"\x01x\0"],
+    types: &[0, 1],
+    fields: &[(1, 0, 2)],
+    classes: &[[1, 1, 0xffffffff, 0, 0xffffffff, 0, 183, 304]],
+    class_data: &[1, 0, 0, 0, 0, 8],
     ..NOTHING
 };

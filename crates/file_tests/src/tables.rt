@@ -1,204 +1,187 @@
 //! The five tables: which name each row denotes, and which list stands at an offset.
 
-use crate::named_rows::NAMED;
-use crate::tables_shown::shown_tables;
+use crate::made::Made;
+use crate::made::Made::{OfLists, OfNamed, One};
 use bumpalo::Bump;
 use dex_base::Fault;
 use dex_container::open;
 use dex_insn::IndexKind;
-use dex_samples::{NOTHING, ONE_CLASS, Rows, file_of, none_wrong, put_name, put_types, shows};
+use dex_samples::{
+    Case, all_hold, put_field, put_method, put_name, put_proto, put_types, put_units,
+};
 use program_types::{Desc, Name};
 use std::alloc::Global;
 use std::test::Fail;
 use tables_rows::Tables;
 
-// The rows of the five tables of a file.
-fn rows_of(alloc: Global, file: &[u8]) -> Result<String, Fault> {
-    let arena = Bump::new(alloc);
-    let sections = open(file)?;
-    let tables = Tables::read(alloc, &arena, &sections)?;
-    shown_tables(alloc, &tables)
+// The file of one class as it is.
+const OF_ONE: Made = One(0, &[]);
+
+#[derive(Clone, Copy)]
+enum Table {
+    Strings,
+    Types,
+    Protos,
+    Fields,
+    Methods,
 }
 
-#[test]
-fn the_rows_of_a_file_of_one_class_are_read(rt: HostRuntime) -> Result<(), Fail> {
-    shows(
-        rows_of(rt.alloc(), &ONE_CLASS),
-        "strings: LA; Ljava/lang/Object; V m\ntypes: LA; Ljava/lang/Object; V\nprotos: ()V\nfields:\nmethods: LA;->m()V",
-    )
+// What is looked up in a file's tables.
+#[derive(Clone, Copy)]
+enum Sought {
+    // each row, up to the first index that has none, and a space after it
+    Rows(Table),
+    Name(IndexKind, u32),
+    // the types of the list at an offset
+    List(u32),
 }
 
-fn rows_of_named(alloc: Global) -> Result<String, Fault> {
-    let file = file_of(alloc, &NAMED)?;
-    rows_of(alloc, &file)
+// A name for the case, the file, what is looked up, and it as text: `none` where nothing is found.
+struct Shown(&'static str, Made, Sought, &'static str);
+
+impl Case for Shown {
+    fn name(&self) -> &'static str {
+        self.0
+    }
+
+    fn holds(&self, alloc: Global) -> Result<bool, Fault> {
+        let file = self.1.begun(alloc)?;
+        is_shown(alloc, &file, self)
+    }
 }
 
-#[test]
-fn a_name_is_read_for_each_row(rt: HostRuntime) -> Result<(), Fail> {
-    shows(
-        rows_of_named(rt.alloc()),
-        "\
-        strings: <init> I LA; LB; V VI VIL VL [I a b\n\
-        types: I LA; LB; V [I\n\
-        protos: ()I ()V (I)V (I[I)V (LA;)V (LB;)V\n\
-        fields: LA;->a:I LA;->b:I LA;->b:LA; LB;->a:[I\n\
-        methods: LA;-><init>()V LA;->a()I LA;->a(I)V [I->a()I",
-    )
+fn is_shown(alloc: Global, file: &[u8], case: &Shown) -> Result<bool, Fault> {
+    Ok(text_of(alloc, file, case.2)?.as_str() == case.3)
 }
 
-// What is looked up, a kind, an index, and the name that stands there.
-type Named = (&'static str, IndexKind, u32, Option<&'static str>);
-
-fn shown_name(alloc: Global, name: Name<'_>) -> Result<String, Fault> {
+fn text_of(alloc: Global, file: &[u8], sought: Sought) -> Result<String, Fault> {
     let mut text = String::new(alloc);
-    put_name(&mut text, name)?;
+    put_sought(alloc, &mut text, file, sought)?;
     Ok(text)
 }
 
-fn is_shown_so(alloc: Global, name: Name<'_>, want: &str) -> Result<bool, Fault> {
-    Ok(shown_name(alloc, name)?.as_str() == want)
-}
-
-fn is_named_so(alloc: Global, tables: &Tables<'_>, case: &Named) -> Result<bool, Fault> {
-    let (_, kind, index, want) = case;
-    match (tables.name(*kind, *index), want) {
-        (Some(name), Some(want)) => is_shown_so(alloc, name, want),
-        (name, want) => Ok(name.is_none() && want.is_none()),
-    }
-}
-
-fn first_in_tables_otherwise(
-    alloc: Global,
-    tables: &Tables<'_>,
-    cases: &[Named],
-) -> Result<Option<&'static str>, Fault> {
-    for case in cases {
-        if !is_named_so(alloc, tables, case)? {
-            return Ok(Some(case.0));
-        }
-    }
-    Ok(None)
-}
-
-fn first_in_file_otherwise(
-    alloc: Global,
-    file: &[u8],
-    cases: &[Named],
-) -> Result<Option<&'static str>, Fault> {
+fn put_sought(alloc: Global, text: &mut String, file: &[u8], sought: Sought) -> Result<(), Fault> {
     let arena = Bump::new(alloc);
     let sections = open(file)?;
     let tables = Tables::read(alloc, &arena, &sections)?;
-    first_in_tables_otherwise(alloc, &tables, cases)
+    match sought {
+        Sought::Rows(table) => put_rows(text, &tables, table),
+        Sought::Name(kind, index) => put_name_or_none(text, tables.name(kind, index)),
+        Sought::List(off) => {
+            put_list_or_none(text, tables.type_list(alloc, &arena, &sections, off)?)
+        }
+    }
 }
 
-fn first_named_otherwise(alloc: Global, cases: &[Named]) -> Result<Option<&'static str>, Fault> {
-    let file = file_of(alloc, &NAMED)?;
-    first_in_file_otherwise(alloc, &file, cases)
+fn put_name_or_none(text: &mut String, name: Option<Name<'_>>) -> Result<(), Fault> {
+    match name {
+        Some(name) => put_name(text, name),
+        None => Ok(text.push_str("none")?),
+    }
+}
+
+fn put_list_or_none(text: &mut String, list: Option<&[Desc<'_>]>) -> Result<(), Fault> {
+    match list {
+        Some(types) => put_types(text, types),
+        None => Ok(text.push_str("none")?),
+    }
+}
+
+fn put_rows(text: &mut String, tables: &Tables<'_>, table: Table) -> Result<(), Fault> {
+    // more than any table of these tests has
+    for index in 0..100 {
+        if !put_row(text, tables, table, index)? {
+            break;
+        }
+        text.push(' ')?;
+    }
+    Ok(())
+}
+
+// Adds the row, if there is one, and tells whether there is.
+fn put_row(
+    text: &mut String,
+    tables: &Tables<'_>,
+    table: Table,
+    index: u32,
+) -> Result<bool, Fault> {
+    match table {
+        Table::Strings => match tables.string(index) {
+            Some(string) => put_units(text, string)?,
+            None => return Ok(false),
+        },
+        Table::Types => match tables.type_(index) {
+            Some(ty) => put_units(text, ty.text)?,
+            None => return Ok(false),
+        },
+        Table::Protos => match tables.proto(index) {
+            Some(proto) => put_proto(text, proto)?,
+            None => return Ok(false),
+        },
+        Table::Fields => match tables.field(index) {
+            Some(field) => put_field(text, field)?,
+            None => return Ok(false),
+        },
+        Table::Methods => match tables.method(index) {
+            Some(method) => put_method(text, method)?,
+            None => return Ok(false),
+        },
+    }
+    Ok(true)
 }
 
 #[rattlefmt::skip]
 #[test]
-fn an_index_of_a_kind_stands_for_a_name(rt: HostRuntime) -> Result<(), Fail> {
-    static CASES: [Named; 12] = [
-        ("string 2", IndexKind::String, 2, Some("string LA;")),
-        ("string 11", IndexKind::String, 11, None),
-        ("the greatest string", IndexKind::String, 0xffffffff, None),
-        ("type 2", IndexKind::Type, 2, Some("type LB;")),
-        ("type 5", IndexKind::Type, 5, None),
-        ("the greatest type", IndexKind::Type, 0xffffffff, None),
-        ("field 2", IndexKind::Field, 2, Some("field LA;->b:LA;")),
-        ("field 4", IndexKind::Field, 4, None),
-        ("the greatest field", IndexKind::Field, 0xffffffff, None),
-        ("method 2", IndexKind::Method, 2, Some("method LA;->a(I)V")),
-        ("method 4", IndexKind::Method, 4, None),
-        ("the greatest method", IndexKind::Method, 0xffffffff, None),
+fn rows_names_and_lists_are_looked_up(rt: HostRuntime) -> Result<(), Fail> {
+    static CASES: [Shown; 36] = [
+        Shown(
+            "the strings of the file of one class", OF_ONE, Sought::Rows(Table::Strings),
+            "LA; Ljava/lang/Object; V m ",
+        ),
+        Shown("the types of the file of one class", OF_ONE, Sought::Rows(Table::Types), "LA; Ljava/lang/Object; V "),
+        Shown("the protos of the file of one class", OF_ONE, Sought::Rows(Table::Protos), "()V "),
+        Shown("the fields of the file of one class", OF_ONE, Sought::Rows(Table::Fields), ""),
+        Shown("the methods of the file of one class", OF_ONE, Sought::Rows(Table::Methods), "LA;->m()V "),
+        Shown(
+            "the strings of many rows", OfNamed, Sought::Rows(Table::Strings),
+            "<init> I LA; LB; V VI VIL VL [I a b ",
+        ),
+        Shown("the types of many rows", OfNamed, Sought::Rows(Table::Types), "I LA; LB; V [I "),
+        Shown("the protos of many rows", OfNamed, Sought::Rows(Table::Protos), "()I ()V (I)V (I[I)V (LA;)V (LB;)V "),
+        Shown(
+            "the fields of many rows", OfNamed, Sought::Rows(Table::Fields),
+            "LA;->a:I LA;->b:I LA;->b:LA; LB;->a:[I ",
+        ),
+        Shown(
+            "the methods of many rows", OfNamed, Sought::Rows(Table::Methods),
+            "LA;-><init>()V LA;->a()I LA;->a(I)V [I->a()I ",
+        ),
+        Shown("string 2", OfNamed, Sought::Name(IndexKind::String, 2), "string LA;"),
+        Shown("string 11", OfNamed, Sought::Name(IndexKind::String, 11), "none"),
+        Shown("the greatest string", OfNamed, Sought::Name(IndexKind::String, 0xffffffff), "none"),
+        Shown("type 2", OfNamed, Sought::Name(IndexKind::Type, 2), "type LB;"),
+        Shown("type 5", OfNamed, Sought::Name(IndexKind::Type, 5), "none"),
+        Shown("the greatest type", OfNamed, Sought::Name(IndexKind::Type, 0xffffffff), "none"),
+        Shown("field 2", OfNamed, Sought::Name(IndexKind::Field, 2), "field LA;->b:LA;"),
+        Shown("field 4", OfNamed, Sought::Name(IndexKind::Field, 4), "none"),
+        Shown("the greatest field", OfNamed, Sought::Name(IndexKind::Field, 0xffffffff), "none"),
+        Shown("method 2", OfNamed, Sought::Name(IndexKind::Method, 2), "method LA;->a(I)V"),
+        Shown("method 4", OfNamed, Sought::Name(IndexKind::Method, 4), "none"),
+        Shown("the greatest method", OfNamed, Sought::Name(IndexKind::Method, 0xffffffff), "none"),
+        Shown("no list", OfLists, Sought::List(0), ""),
+        Shown("a list of one", OfLists, Sought::List(128), "I"),
+        Shown("a list of two, V among them", OfLists, Sought::List(136), "IV"),
+        Shown("an index without a row", OfLists, Sought::List(144), "none"),
+        Shown("a list of size 0", OfLists, Sought::List(152), ""),
+        Shown("zeros within a list", OfLists, Sought::List(132), ""),
+        Shown("a list that goes over the next", OfLists, Sought::List(148), "II"),
+        Shown("a misaligned list", OfLists, Sought::List(130), "none"),
+        Shown("before the section", OfLists, Sought::List(124), "none"),
+        Shown("the section's end", OfLists, Sought::List(156), "none"),
+        Shown("past the file", OfLists, Sought::List(0xfffffffc), "none"),
+        Shown("no lists, at 0", OF_ONE, Sought::List(0), ""),
+        Shown("no lists, at 192", OF_ONE, Sought::List(192), "none"),
+        Shown("no lists, at 252", OF_ONE, Sought::List(252), "none"),
     ];
-    none_wrong(first_named_otherwise(rt.alloc(), &CASES))
-}
-
-// A name for the case, an offset, and the types of the list that stands there.
-type Listed = (&'static str, u32, Option<&'static str>);
-
-fn shown_types(alloc: Global, types: &[Desc<'_>]) -> Result<String, Fault> {
-    let mut text = String::new(alloc);
-    put_types(&mut text, types)?;
-    Ok(text)
-}
-
-fn are_shown_so(alloc: Global, types: &[Desc<'_>], want: &str) -> Result<bool, Fault> {
-    Ok(shown_types(alloc, types)?.as_str() == want)
-}
-
-fn is_listed_so(
-    alloc: Global,
-    list: Option<&[Desc<'_>]>,
-    want: Option<&str>,
-) -> Result<bool, Fault> {
-    match (list, want) {
-        (Some(list), Some(want)) => are_shown_so(alloc, list, want),
-        (list, want) => Ok(list.is_none() && want.is_none()),
-    }
-}
-
-// The first case at whose offset another list stands.
-fn first_listed_otherwise(
-    alloc: Global,
-    file: &[u8],
-    cases: &[Listed],
-) -> Result<Option<&'static str>, Fault> {
-    let arena = Bump::new(alloc);
-    let sections = open(file)?;
-    let tables = Tables::read(alloc, &arena, &sections)?;
-    for (what, off, want) in cases {
-        let list = tables.type_list(alloc, &arena, &sections, *off)?;
-        if !is_listed_so(alloc, list, *want)? {
-            return Ok(Some(*what));
-        }
-    }
-    Ok(None)
-}
-
-// Strings at 112, types at 120, and the type_lists from 128 to 156:
-// 01 00 00 00 00 00 (00 00) | 02 00 00 00 00 00 01 00 | 01 00 00 00 02 00 (00 00) | 00 00 00 00.
-static LISTS: Rows<'static> = Rows {
-    strings: &[b"\x01I\0", b"\x01V\0"],
-    types: &[0, 1],
-    lists: &[&[0], &[0, 1], &[2], &[]],
-    ..NOTHING
-};
-
-fn first_of_lists_otherwise(
-    alloc: Global,
-    cases: &[Listed],
-) -> Result<Option<&'static str>, Fault> {
-    let file = file_of(alloc, &LISTS)?;
-    first_listed_otherwise(alloc, &file, cases)
-}
-
-#[test]
-fn a_list_stands_at_an_offset_or_none(rt: HostRuntime) -> Result<(), Fail> {
-    static CASES: [Listed; 11] = [
-        ("no list", 0, Some("")),
-        ("a list of one", 128, Some("I")),
-        ("a list of two, V among them", 136, Some("IV")),
-        ("an index without a row", 144, None),
-        ("a list of size 0", 152, Some("")),
-        ("zeros within a list", 132, Some("")),
-        ("a list that goes over the next", 148, Some("II")),
-        ("a misaligned list", 130, None),
-        ("before the section", 124, None),
-        ("the section's end", 156, None),
-        ("past the file", 0xfffffffc, None),
-    ];
-    none_wrong(first_of_lists_otherwise(rt.alloc(), &CASES))
-}
-
-#[test]
-fn a_file_without_lists_has_the_empty_list_alone(rt: HostRuntime) -> Result<(), Fail> {
-    static CASES: [Listed; 3] = [
-        ("at 0", 0, Some("")),
-        ("at 192", 192, None),
-        ("at 252", 252, None),
-    ];
-    none_wrong(first_listed_otherwise(rt.alloc(), &ONE_CLASS, &CASES))
+    all_hold(rt.alloc(), &CASES)
 }

@@ -13,7 +13,7 @@ use tables_rows::Tables;
 pub const ARRAYS_AT: u32 = 0x98;
 
 /// Where they begin in a file of `NAMES`: the rows end at 0xac, the texts at 0xbd, the map stands at 0xc0.
-pub const ARRAYS_BEHIND_NAMES_AT: u32 = 0x130;
+pub const ARRAYS_AFTER_NAMES_AT: u32 = 0x130;
 
 /// The strings `I`, `LA;`, `V`, `a` and `b`, the types `I`, `LA;` and `V`, the prototype `()V`, the field `LA;->a:I` and the
 /// method `LA;->b()V`.
@@ -91,20 +91,21 @@ pub fn check_in(alloc: Global, file: &[u8], off: u32, most: usize) -> Result<u32
 
 /// Whether two values, neither of which is an array, are one.
 pub fn is_same(a: &Value<'_>, b: &Value<'_>) -> bool {
-    match (a, b) {
-        (Value::Byte(x), Value::Byte(y)) => x == y,
-        (Value::Short(x), Value::Short(y)) => x == y,
-        (Value::Char(x), Value::Char(y)) => x == y,
-        (Value::Int(x), Value::Int(y)) => x == y,
-        (Value::Long(x), Value::Long(y)) => x == y,
-        (Value::Float(x), Value::Float(y)) => x == y,
-        (Value::Double(x), Value::Double(y)) => x == y,
-        (Value::Text(x), Value::Text(y)) => x == y,
-        (Value::Desc(x), Value::Desc(y)) => x == y,
-        (Value::Field(x), Value::Field(y)) | (Value::Enum(x), Value::Enum(y)) => x == y,
-        (Value::Method(x), Value::Method(y)) => x == y,
-        (Value::Null, Value::Null) => true,
-        (Value::Bool(x), Value::Bool(y)) => x == y,
-        _ => false,
+    match a {
+        Value::Byte(x) => matches!(b, Value::Byte(y) if x == y),
+        Value::Short(x) => matches!(b, Value::Short(y) if x == y),
+        Value::Char(x) => matches!(b, Value::Char(y) if x == y),
+        Value::Int(x) => matches!(b, Value::Int(y) if x == y),
+        Value::Long(x) => matches!(b, Value::Long(y) if x == y),
+        Value::Float(x) => matches!(b, Value::Float(y) if x == y),
+        Value::Double(x) => matches!(b, Value::Double(y) if x == y),
+        Value::Text(x) => matches!(b, Value::Text(y) if x == y),
+        Value::Desc(x) => matches!(b, Value::Desc(y) if x == y),
+        Value::Field(x) => matches!(b, Value::Field(y) if x == y),
+        Value::Enum(x) => matches!(b, Value::Enum(y) if x == y),
+        Value::Method(x) => matches!(b, Value::Method(y) if x == y),
+        Value::Null => matches!(b, Value::Null),
+        Value::Bool(x) => matches!(b, Value::Bool(y) if x == y),
+        Value::Array(_) => false,
     }
 }

@@ -18,7 +18,7 @@ pub use laws::{
     assembled_classes_stand, assembled_is_packed, assembled_means, assembled_tables_hold, one_file,
     packed_is_assembled, stripped_alike_exactly_if_meaning_alike, stripped_stays, written_is_read,
 };
-pub use writing::{strip, write};
+pub use writing::{strip, strip_seeded, write, write_seeded};
 
 // What stands below, for the crates above.
 pub use file_read::{check, read};

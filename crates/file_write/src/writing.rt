@@ -10,7 +10,7 @@ ghost use Rattle.program_rules.specs.WellFormed.{WellFormed};
 ghost use Rattle.file_write.specs.Written.{IsFileOf, IsStripped, IsStripRefused};
 
 use base_bytes::are_bytes;
-use dex_base::Fault;
+use dex_base::{Fault, Seed};
 use dex_container::open;
 use file_read::check_framed;
 use file_strip::{assemble, strip_framed};
@@ -42,7 +42,29 @@ pub fn write(alloc: Global, program: &Program<'_>) -> Result<Vec<u8>, Fault>
     ensures refused { IfErr result (λ e. e ≢ memory → IsLowestLimit (view.program program.now) e) }
     ensures vain { IfErr result (λ e. e.code ≤ 88 → (b : List ℕ) → AreBytes b → ¬ Means b (view.program program.now)) }
 {
-    Ok(assemble(alloc, program)?)
+    write_seeded(alloc, Seed::fixed(), program)
+}
+
+/// The file of a well-formed program, as `write` answers it. Hashes begin with this seed, on which no answer depends: one that is
+/// drawn for programs of strangers, so that their names can't be made to collide with a seed that is known.
+///
+/// ```
+/// use dex_base::Seed;
+/// use dex_file::write_seeded;
+/// use dex_program::Program;
+///
+/// let file = write_seeded(alloc, Seed::new(0x5eed), &Program { classes: &[] })?;
+/// assert_eq!(rt; file.len(), 140);
+/// ```
+pub fn write_seeded(alloc: Global, seed: Seed, program: &Program<'_>) -> Result<Vec<u8>, Fault>
+    requires kept { WellFormed (view.program program.now) }
+    ensures file { IfOk result (λ file. IsFileOf (view.program program.now) file.items) }
+    ensures fits { OnOk result (Fits (view.program program.now)) }
+    ensures only { Fits (view.program program.now) → IsOkUnless result memory }
+    ensures refused { IfErr result (λ e. e ≢ memory → IsLowestLimit (view.program program.now) e) }
+    ensures vain { IfErr result (λ e. e.code ≤ 88 → (b : List ℕ) → AreBytes b → ¬ Means b (view.program program.now)) }
+{
+    Ok(assemble(alloc, seed, program)?)
 }
 
 /// The file of what a file means: without names that nothing needs, debugging information, annotations and slack.
@@ -63,8 +85,27 @@ pub fn strip(alloc: Global, bytes: &[u8]) -> Result<Vec<u8>, Fault>
     ensures only { (p : _) → Means bytes.now p → Fits p → IfErr result (λ e. e ≡ memory) }
     ensures refused { IfErr result (λ e. e ≢ memory → IsStripRefused bytes.now e) }
 {
+    strip_seeded(alloc, Seed::fixed(), bytes)
+}
+
+/// The file of what a file means, as `strip` answers it. Hashes begin with this seed, on which no answer depends: one that is drawn
+/// for files of strangers, so that their items can't be made to collide with a seed that is known.
+///
+/// ```
+/// use dex_base::Seed;
+/// use dex_file::{strip_seeded, write};
+/// use dex_program::Program;
+///
+/// let file = write(alloc, &Program { classes: &[] })?;
+/// assert!(rt; strip_seeded(alloc, Seed::new(0x5eed), &file)?.as_slice() == file.as_slice());
+/// ```
+pub fn strip_seeded(alloc: Global, seed: Seed, bytes: &[u8]) -> Result<Vec<u8>, Fault>
+    ensures ok { IfOk result (λ file. IsStripped bytes.now file.items) }
+    ensures only { (p : _) → Means bytes.now p → Fits p → IfErr result (λ e. e ≡ memory) }
+    ensures refused { IfErr result (λ e. e ≢ memory → IsStripRefused bytes.now e) }
+{
     are_bytes(bytes);
     let sections = open(bytes)?;
     check_framed(alloc, &sections)?;
-    Ok(strip_framed(alloc, &sections)?)
+    Ok(strip_framed(alloc, seed, &sections)?)
 }

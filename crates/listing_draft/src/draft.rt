@@ -9,7 +9,7 @@ use crate::open_class::{ClassPart, InClass, Open};
 use crate::open_code::Body;
 use bumpalo::Bump;
 use bumpalo::collections::into_bump_slice;
-use dex_base::Fault;
+use dex_base::{Fault, Seed};
 use listing_lines::{Line, Stage, is_insn, may_stand};
 use listing_shapes::{Found, is_number};
 use program_types::{Class, Desc, Insn};
@@ -22,6 +22,7 @@ const MOST_ROOM: usize = 4096;
 #[derive(Drop)]
 pub struct Draft<'a> {
     pub alloc: Global,
+    pub seed: Seed,
     pub done: Vec<Class<'a>, &'a Bump>,
     pub block: Block<'a>,
     pub lines: u64,
@@ -40,13 +41,14 @@ impl<'a> Draft<'a> {
     ghost use Rattle.listing_draft.specs.States.{start, stage_of, counted, add, stands, late_in};
     ghost use Rattle.listing_draft.specs.View.{state, block};
 
-    /// Nothing was read.
+    /// Nothing was read. Hashes begin with the seed.
     #[tactic(auto, unfolding(crate::specs::View::state, crate::specs::View::block))]
-    pub fn new(alloc: Global, arena: &'a Bump) -> Draft<'a>
+    pub fn new(alloc: Global, seed: Seed, arena: &'a Bump) -> Draft<'a>
         ensures { state result ≡ start }
     {
         Draft {
             alloc,
+            seed,
             done: Vec::new(arena),
             block: Block::Start,
             lines: 0,
@@ -61,6 +63,7 @@ impl<'a> Draft<'a> {
     {
         let Draft {
             alloc: _,
+            seed: _,
             done,
             block: _,
             lines: _,
@@ -140,7 +143,7 @@ impl<'a> Draft<'a> {
         match self.block {
             Block::Top => {
                 self.block = Block::Class(InClass {
-                    open: Open::new(self.alloc, ty, flags),
+                    open: Open::new(self.alloc, self.seed, ty, flags),
                     part: ClassPart::Heads,
                 });
                 true

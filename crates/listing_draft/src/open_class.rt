@@ -4,7 +4,7 @@ ghost use Rattle.std.specs.Prelude.{◌≡◌, Some, None, IfOk, IsOkUnless, Mat
 ghost use Rattle.base_bytes.specs.Fault.{memory};
 
 use crate::close::set_code;
-use dex_base::Fault;
+use dex_base::{Fault, Seed};
 use indexmap::IndexSet;
 use listing_lines::Line;
 use program_types::{Code, Desc, Member, Method, Proto, Str, Value};
@@ -37,7 +37,7 @@ pub struct Open<'a> {
     pub ty: Desc<'a>,
     pub flags: u32,
     pub superclass: Option<Desc<'a>>,
-    pub interfaces: IndexSet<Desc<'a>>,
+    pub interfaces: IndexSet<Desc<'a>, Seed>,
     pub source: Option<Str<'a>>,
     pub statics: BTreeMap<FieldKey<'a>, Static<'a>>,
     pub instances: BTreeMap<FieldKey<'a>, u32>,
@@ -79,14 +79,14 @@ impl<'a> Open<'a> {
 
     /// A class without anything.
     #[tactic(auto, unfolding(crate::specs::View::open_class))]
-    pub(crate) fn new(alloc: Global, ty: Desc<'a>, flags: u32) -> Open<'a>
+    pub(crate) fn new(alloc: Global, seed: Seed, ty: Desc<'a>, flags: u32) -> Open<'a>
         ensures { open_class result ≡ opened (desc ty.entry) flags }
     {
         Open {
             ty,
             flags,
             superclass: None,
-            interfaces: IndexSet::new(alloc),
+            interfaces: IndexSet::with_hasher(alloc, seed),
             source: None,
             statics: BTreeMap::new(alloc),
             instances: BTreeMap::new(alloc),

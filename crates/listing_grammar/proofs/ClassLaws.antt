@@ -6,8 +6,8 @@ use Rattle.program_types.specs.Content.{Descriptor, Class, Program}
 use Rattle.program_types.specs.Key.{Key}
 use Rattle.program_rules.specs.Rules.{member_key, method_key}
 use Rattle.listing_lines.specs.Lines.{Line, open_class, end_class}
-use Rattle.listing_draft.specs.Members.{Given, given_key, values_of}
-use Rattle.listing_draft.specs.States.{Open, at_heads, at_top, State, opened, closed, with_block, add}
+use Rattle.listing_parse.specs.Members.{Given, given_key, values_of}
+use Rattle.listing_parse.specs.States.{Open, at_heads, at_top, State, opened, closed, with_block, add}
 use Rattle.listing_grammar.specs.Codes.{Numbered, said}
 use Rattle.listing_grammar.specs.Classes.{AreSorted, entry_lines, static_in, instance_in, direct_in, virtual_in, ClassText, ClassesText}
 use Rattle.listing_grammar.specs.Runs.{at_line, Runs, with_class, with_classes, RunsBehindClass, RunsToClasses}

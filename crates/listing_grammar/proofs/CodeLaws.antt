@@ -6,7 +6,7 @@ use Rattle.program_types.specs.Content.{Insn, Catch, Try, Code, Class}
 use Rattle.listing_lines.specs.Lines.{Line, open_code, end_code, insn_line, try_line, catch_line, catch_all_line}
 use Rattle.listing_lines.specs.Places.{is_in_code}
 use Rattle.listing_lines.specs.Needs.{Need, first_late, earliest}
-use Rattle.listing_draft.specs.States.{Open, Owner, Body, OpenTry, at_members, CodePart, at_insns, after_try, in_try, in_class, in_code, State, code_stage, begun, noted, with_insn, with_tries, try_of, whole_code, with_code_at, add, inside}
+use Rattle.listing_parse.specs.States.{Open, Owner, Body, OpenTry, at_members, CodePart, at_insns, after_try, in_try, in_class, in_code, State, code_stage, begun, noted, with_insn, with_tries, try_of, whole_code, with_code_at, add, inside}
 use Rattle.listing_grammar.specs.Codes.{Numbered, said, insn_lines, catch_lines, catch_all_lines, try_lines, inner_lines, code_lines, late_line}
 use Rattle.listing_grammar.specs.Runs.{at_line, Runs, is_outside, after_its_method, with_its_code, RunsBehindCode}
 use Rattle.listing_grammar.proofs.LateLaws.{needs_from, late_is}

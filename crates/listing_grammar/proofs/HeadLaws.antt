@@ -6,7 +6,7 @@ use Rattle.std.proofs.lemmas.Bool.{cases_eq, eq-eqb, ne_eqb}
 use Rattle.program_types.specs.Content.{Units, Descriptor, Class}
 use Rattle.listing_lines.specs.Lines.{Line, super_line, implements_line, source_line}
 use Rattle.listing_slots.specs.Keys.{same}
-use Rattle.listing_draft.specs.States.{Open, ClassPart, at_heads, at_members, at_top, in_class, State, is_among, with_superclass, with_interface, with_source, with_block, class_line, inside, add}
+use Rattle.listing_parse.specs.States.{Open, ClassPart, at_heads, at_members, at_top, in_class, State, is_among, with_superclass, with_interface, with_source, with_block, class_line, inside, add}
 use Rattle.listing_grammar.specs.Codes.{Numbered, said}
 use Rattle.listing_grammar.specs.Classes.{is_head, superclass_in, interface_in, source_in, at_most_one, NoneTwice}
 use Rattle.listing_grammar.specs.Runs.{at_line, Runs}

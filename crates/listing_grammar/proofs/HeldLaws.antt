@@ -13,8 +13,8 @@ use Rattle.program_types.specs.Content.{Code, Method}
 use Rattle.program_types.specs.Key.{Key, key_cmp}
 use Rattle.program_types.specs.KeyLaws.{key_cmp-total}
 use Rattle.program_rules.specs.Rules.{method_key}
-use Rattle.listing_draft.specs.Members.{is_held, put_in}
-use Rattle.listing_draft.specs.States.{with_code}
+use Rattle.listing_parse.specs.Members.{is_held, put_in}
+use Rattle.listing_parse.specs.States.{with_code}
 use Rattle.listing_grammar.specs.Classes.{Rise, AreSorted}
 use Rattle.listing_labels.proofs.OrderLaws.{lt_less}
 use Rattle.base_bytes.proofs.ListFacts.{by_kind}

@@ -11,12 +11,12 @@ use Rattle.listing_slots.specs.declared.kind.Kind.TheVariants as kind
 use Rattle.listing_slots.specs.declared.slot.Slot.{Slot}
 use Rattle.listing_slots.specs.Data.{Datum}
 use Rattle.listing_slots.specs.Keys.{key_text, same, find_key, lead_keys}
-use Rattle.listing_shapes.specs.Shapes.{Row, Shape, HasBareShape, IsInsnRow, key_row, payload_row, given_row, is_first_key}
+use Rattle.listing_parse.specs.Shapes.{Row, Shape, HasBareShape, IsInsnRow, key_row, payload_row, given_row, is_first_key}
 use Rattle.listing_lines.specs.Lines.{Line, open_code, end_code, try_line, line_of}
 use Rattle.listing_lines.specs.Places.{is_insn}
 use Rattle.listing_lines.specs.declared.form.Form.{Form}
 use Rattle.listing_lines.specs.declared.form.Form.TheVariants.{One, Two}
-use Rattle.listing_draft.specs.States.{is_among}
+use Rattle.listing_parse.specs.States.{is_among}
 use Rattle.listing_labels.specs.Lines.{is_skipped}
 use Rattle.listing_labels.specs.Labels.{Label, is_label, is_mark, lookup, with_label, first_word, is_stop, labels_ahead}
 use Rattle.listing_labels.proofs.AheadLaws.{ahead_skips, ahead_stops, ahead_marks, ahead_counts}

@@ -7,7 +7,7 @@ use Rattle.program_types.specs.Content.{Insn}
 use Rattle.listing_lines.specs.Lines.{Line, first_line, open_class, end_class, open_code, end_code, insn_line, try_line, catch_line, catch_all_line}
 use Rattle.listing_lines.specs.Places.{is_start, is_top}
 use Rattle.listing_lines.specs.Needs.{Need, most_needed, insn_needs, line_needs, with_need, first_late, earliest}
-use Rattle.listing_draft.specs.States.{State, at_top, at_heads, in_class, stage_of, opened, closed, begun, class_of, owner_of, with_body, code_ended, late_in, with_block, inside, add}
+use Rattle.listing_parse.specs.States.{State, at_top, at_heads, in_class, stage_of, opened, closed, begun, class_of, owner_of, with_body, code_ended, late_in, with_block, inside, add}
 use Rattle.listing_grammar.specs.Codes.{Numbered, said, leads_into, late_line}
 use Rattle.listing_grammar.specs.Runs.{at_line, Runs}
 use Rattle.base_bytes.proofs.ListFacts.{by_kind}

@@ -12,3 +12,6 @@ pub mod LabelLaws
 pub mod ReadOn
 pub mod ReadBack
 pub mod ListingLaws
+-- What stands below, for the crates above.
+pub use Rattle.listing_parse.proofs.ExactLaws
+pub use Rattle.listing_parse.proofs.OneFault

@@ -7,14 +7,14 @@ use Rattle.listing_words.specs.Numbers.{is_number}
 use Rattle.listing_slots.specs.declared.kind.Kind.{Kind}
 use Rattle.listing_slots.specs.declared.kind.Kind.TheVariants as kind
 use Rattle.listing_slots.specs.Data.{Datum}
-use Rattle.listing_shapes.specs.Shapes.{Shape}
+use Rattle.listing_parse.specs.Shapes.{Shape}
 use Rattle.listing_lines.specs.Lines.{Line, first_line, open_class, end_class, super_line, implements_line, source_line, static_line, instance_line, direct_line, virtual_line, open_code, end_code, insn_line, try_line, catch_line, catch_all_line, line_of}
 use Rattle.listing_lines.specs.Places.{is_start, is_top, is_insns, is_in_code, is_caught, is_insn, may_stand}
 use Rattle.listing_lines.specs.declared.form.Form.{Form}
 use Rattle.listing_lines.specs.declared.form.Form.TheVariants.{One, Two}
 use Rattle.listing_lines.specs.declared.stage.Stage.{Stage}
 use Rattle.listing_lines.specs.declared.stage.Stage.TheVariants.{Insns, Tries, Caught}
-use Rattle.listing_draft.specs.States.{Open, ClassPart, at_heads, at_members, after_method, at_insns, after_try, in_try, Block, at_start, at_top, in_class, in_code, State, stage_of, insn_count, opened, closed, begun, noted, with_insn, with_tries, whole_code, with_code_at, class_of, owner_of, with_body, code_ended, late_in, with_block, counted, inside, add}
+use Rattle.listing_parse.specs.States.{Open, ClassPart, at_heads, at_members, after_method, at_insns, after_try, in_try, Block, at_start, at_top, in_class, in_code, State, stage_of, insn_count, opened, closed, begun, noted, with_insn, with_tries, whole_code, with_code_at, class_of, owner_of, with_body, code_ended, late_in, with_block, counted, inside, add}
 use Rattle.listing_lines.specs.Needs.{first_late, earliest}
 use Rattle.listing_labels.specs.Lines.{is_skipped}
 use Rattle.listing_labels.specs.Labels.{Label, labels_ahead}

@@ -11,12 +11,12 @@ use Rattle.listing_slots.specs.declared.kind.Kind.{Kind}
 use Rattle.listing_slots.specs.declared.kind.Kind.TheVariants as kind
 use Rattle.listing_slots.specs.declared.slot.Slot.{Slot}
 use Rattle.listing_slots.specs.Data.{Datum}
-use Rattle.listing_shapes.specs.Shapes.{Row, Shape, HasShape, key_row, given_row, is_first_key}
+use Rattle.listing_parse.specs.Shapes.{Row, Shape, HasShape, key_row, given_row, is_first_key}
 use Rattle.listing_lines.specs.Lines.{Line, first_line, line_of}
 use Rattle.listing_lines.specs.Places.{is_insn, is_start}
 use Rattle.listing_lines.specs.declared.form.Form.{Form}
 use Rattle.listing_lines.specs.declared.form.Form.TheVariants.{One, Two}
-use Rattle.listing_draft.specs.States.{Block, at_start, at_top, in_code, State, stage_of, add}
+use Rattle.listing_parse.specs.States.{Block, at_start, at_top, in_code, State, stage_of, add}
 use Rattle.listing_labels.specs.Lines.{lines, is_skipped}
 use Rattle.listing_parse.specs.Text.{Reading, is_second, line_of_form, in_second, LineSays, AddsLine, TakesLine, Reads, IsListing}
 use Rattle.listing_parse.specs.declared.form_line.FormLine.TheVariants.{Nothing, First, Mark}

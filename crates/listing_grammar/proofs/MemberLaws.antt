@@ -6,8 +6,8 @@ use Rattle.program_types.specs.Key.{Key}
 use Rattle.program_rules.specs.Rules.{member_key, method_key}
 use Rattle.listing_lines.specs.Lines.{Line, end_class, static_line, instance_line, direct_line, virtual_line, open_code}
 use Rattle.listing_lines.specs.Needs.{earliest}
-use Rattle.listing_draft.specs.Members.{Given, given_key, is_held, put_in, with_member}
-use Rattle.listing_draft.specs.States.{Open, Owner, ClassPart, at_members, after_method, at_top, in_class, State, with_code_at, with_static, with_instance, with_direct, with_virtual, at_part, with_block, inside, add}
+use Rattle.listing_parse.specs.Members.{Given, given_key, is_held, put_in, with_member}
+use Rattle.listing_parse.specs.States.{Open, Owner, ClassPart, at_members, after_method, at_top, in_class, State, with_code_at, with_static, with_instance, with_direct, with_virtual, at_part, with_block, inside, add}
 use Rattle.base_bytes.proofs.ListFacts.{all_append, all_back, all_front, by_kind}
 use Rattle.listing_grammar.specs.Codes.{Numbered, said, code_lines, leads_into, late_line}
 use Rattle.listing_grammar.specs.Classes.{at_most_one, ListedMember, static_entry, instance_entry, direct_entry, virtual_entry, its_code, entry_lines, method_with, static_in, instance_in, direct_in, virtual_in, code_in, LeadsInside}

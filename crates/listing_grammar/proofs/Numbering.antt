@@ -4,7 +4,7 @@ use Rattle.std.proofs.lemmas.List.{map-append, length-append}
 use Rattle.program_types.specs.Content.{Class}
 use Rattle.listing_lines.specs.Lines.{Line}
 use Rattle.listing_lines.specs.Places.{is_in_class}
-use Rattle.listing_draft.specs.States.{Open, ClassPart, at_heads, at_top, in_class, class_stage, closed, State}
+use Rattle.listing_parse.specs.States.{Open, ClassPart, at_heads, at_top, in_class, class_stage, closed, State}
 use Rattle.listing_grammar.specs.Codes.{Numbered, said}
 use Rattle.listing_grammar.specs.Runs.{at_line, Runs, Steps}
 

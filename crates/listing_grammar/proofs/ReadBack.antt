@@ -10,7 +10,7 @@ use Rattle.listing_lines.specs.Forms.{is_two}
 use Rattle.listing_lines.specs.declared.form.Form.{Form}
 use Rattle.listing_lines.specs.declared.form.Form.TheVariants.{One, Two}
 use Rattle.listing_lines.specs.declared.stage.Stage.TheVariants.{Insns, Tries, Caught}
-use Rattle.listing_draft.specs.States.{Block, at_start, State, stage_of, insn_count, counted}
+use Rattle.listing_parse.specs.States.{Block, at_start, State, stage_of, insn_count, counted}
 use Rattle.listing_labels.specs.Lines.{is_skipped}
 use Rattle.listing_labels.specs.Labels.{Label, is_label, lookup, with_label, labels_ahead}
 use Rattle.listing_labels.proofs.AheadLaws.{ahead_skips}

@@ -4,7 +4,7 @@ use Rattle.std.specs.List.{AllByRecursion, list_any}
 use Rattle.std.proofs.lemmas.Bool.{cases_eq, cases_lt, ne_eqb, lt-ltb}
 use Rattle.program_types.specs.Content as content
 use Rattle.program_types.specs.Content.{Descriptor, Value}
-use Rattle.listing_draft.specs.Members.{Given, zero_of, value_or_zero, is_given, given_length, values_of}
+use Rattle.listing_parse.specs.Members.{Given, zero_of, value_or_zero, is_given, given_length, values_of}
 use Rattle.listing_grammar.specs.Classes.{IsZero, of_boolean, of_byte, of_short, of_char, of_int, of_long, of_float, of_double, of_reference, IsValue, HasNone, AreValues}
 
 -- ---- zeros

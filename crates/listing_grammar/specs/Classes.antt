@@ -9,7 +9,7 @@ use Rattle.program_types.specs.Content.{Units, Descriptor, Value, Code, Member, 
 use Rattle.program_types.specs.Key.{Key, key_cmp}
 use Rattle.program_rules.specs.Rules.{member_key, method_key}
 use Rattle.listing_lines.specs.Lines.{Line, open_class, end_class, super_line, implements_line, source_line, static_line, instance_line, direct_line, virtual_line}
-use Rattle.listing_draft.specs.Members.{Given, given_key}
+use Rattle.listing_parse.specs.Members.{Given, given_key}
 use Rattle.listing_grammar.specs.Codes.{code_lines, leads_into}
 
 -- ---- before the members

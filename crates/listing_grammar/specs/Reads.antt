@@ -1,7 +1,7 @@
 -- Lines of a text that the reader reads from where no code is open.
 use Rattle.std.specs.Prelude.{ℕ, List, []}
 use Rattle.listing_lines.specs.declared.form.Form.{Form}
-use Rattle.listing_draft.specs.States.{State}
+use Rattle.listing_parse.specs.States.{State}
 use Rattle.listing_parse.specs.Text.{Reading, Reads}
 use Rattle.listing_grammar.specs.Codes.{Numbered}
 use Rattle.listing_grammar.specs.Runs.{at_line, Runs}

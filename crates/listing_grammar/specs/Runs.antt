@@ -6,7 +6,7 @@ use Rattle.listing_lines.specs.Lines.{Line, first_line, open_class, end_class, s
 use Rattle.listing_lines.specs.Places.{is_start, is_top, is_heads, is_in_class, is_after, is_insns, is_in_code, is_caught}
 use Rattle.listing_lines.specs.declared.stage.Stage.{Stage}
 use Rattle.listing_lines.specs.Needs.{earliest}
-use Rattle.listing_draft.specs.States.{Open, Owner, at_members, after_method, Block, at_top, in_class, in_code, State, stage_of, with_code_at, with_block, add}
+use Rattle.listing_parse.specs.States.{Open, Owner, at_members, after_method, Block, at_top, in_class, in_code, State, stage_of, with_code_at, with_block, add}
 use Rattle.listing_grammar.specs.Classes.{ClassText, ClassesText}
 use Rattle.listing_grammar.specs.Codes.{Numbered, said, code_lines, late_line}
 

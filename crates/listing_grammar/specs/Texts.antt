@@ -6,7 +6,7 @@ use Rattle.program_types.specs.Content.{Insn, Program}
 use Rattle.listing_words.specs.Words.{Word, plain_word, HasWords}
 use Rattle.listing_words.specs.Numbers.{is_number}
 use Rattle.listing_slots.specs.Data.{Datum}
-use Rattle.listing_shapes.specs.Shapes.{Shape}
+use Rattle.listing_parse.specs.Shapes.{Shape}
 use Rattle.listing_lines.specs.Lines.{Line, first_line, open_code, end_code, insn_line, try_line, catch_line, catch_all_line, line_of}
 use Rattle.listing_lines.specs.Places.{is_insn}
 use Rattle.listing_lines.specs.Forms.{is_two}

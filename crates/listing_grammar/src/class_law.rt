@@ -3,7 +3,7 @@
 ghost use Rattle.std.specs.Prelude.{◌≡◌, ◌↔◌, ◌∷◌, ℕ, List, None};
 ghost use Rattle.program_types.specs.Content.{Descriptor};
 ghost use Rattle.listing_lines.specs.Lines.{open_class};
-ghost use Rattle.listing_draft.specs.States.{State, at_top, with_block};
+ghost use Rattle.listing_parse.specs.States.{State, at_top, with_block};
 ghost use Rattle.listing_grammar.specs.Codes.{Numbered};
 ghost use Rattle.listing_grammar.specs.Runs.{Runs, RunsBehindClass, RunsToClasses};
 

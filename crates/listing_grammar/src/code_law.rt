@@ -2,7 +2,7 @@
 
 ghost use Rattle.std.specs.Prelude.{◌≡◌, ◌↔◌, ◌∷◌, ℕ, true, List};
 ghost use Rattle.listing_lines.specs.Lines.{open_code};
-ghost use Rattle.listing_draft.specs.States.{State, Open, Owner};
+ghost use Rattle.listing_parse.specs.States.{State, Open, Owner};
 ghost use Rattle.listing_grammar.specs.Codes.{Numbered};
 ghost use Rattle.listing_grammar.specs.Runs.{Runs, is_outside, after_its_method, RunsBehindCode};
 

@@ -16,3 +16,6 @@ pub use class_law::{a_class_is_its_lines, classes_are_their_lines};
 pub use code_law::a_code_is_its_lines;
 pub use listing_law::a_listing_is_its_lines;
 pub use text_law::lines_are_read_as_they_say;
+
+// What stands below, for the crates above.
+pub use listing_parse::parse_seeded;

@@ -3,7 +3,7 @@
 ghost use Rattle.std.specs.Prelude.{◌≡◌, ◌↔◌, ℕ, true, false, List};
 ghost use Rattle.listing_lines.specs.declared.form.Form.{Form};
 ghost use Rattle.listing_lines.specs.Places.{is_start};
-ghost use Rattle.listing_draft.specs.States.{State, stage_of};
+ghost use Rattle.listing_parse.specs.States.{State, stage_of};
 ghost use Rattle.listing_grammar.specs.Reads.{AreRead, SayRun};
 ghost use Rattle.listing_grammar.specs.Runs.{is_outside};
 

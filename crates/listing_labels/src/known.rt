@@ -6,6 +6,7 @@ ghost use Rattle.listing_labels.specs.Labels.{Label, lookup, with_label};
 ghost use Rattle.listing_labels.specs.Order.{shortlex, is_above, LabelsRise};
 ghost use Rattle.listing_labels.specs.View.{label, place_in};
 
+use base_bytes::Seed;
 use indexmap::IndexMap;
 use listing_slots::is_same;
 use listing_words::Fault;
@@ -26,7 +27,7 @@ pub struct Place {
 /// names do, they are put without a hash.
 pub struct Labels<'t> {
     front: Vec<(&'t [u8], Place)>,
-    rest: IndexMap<&'t [u8], Place>,
+    rest: IndexMap<&'t [u8], Place, Seed>,
 }
 
 // Each place where labels are let go is proved: here it is one call, and derived it would be all that they own.
@@ -104,7 +105,7 @@ fn find_rising(front: &[(&[u8], Place)], near: usize, name: &[u8]) -> Option<Pla
 
 /// One label more, unless one of its name is there.
 fn put_hashed<'t>(
-    rest: &mut IndexMap<&'t [u8], Place>,
+    rest: &mut IndexMap<&'t [u8], Place, Seed>,
     name: &'t [u8],
     place: Place,
 ) -> Result<(), Fault>
@@ -119,7 +120,7 @@ fn put_hashed<'t>(
 }
 
 /// The label at this index, where it has this name.
-fn hashed_at(rest: &IndexMap<&[u8], Place>, index: usize, name: &[u8]) -> Option<Place>
+fn hashed_at(rest: &IndexMap<&[u8], Place, Seed>, index: usize, name: &[u8]) -> Option<Place>
     ensures { IfSome result (λ place. Some place ≡ place_in (lookup name.now (map label rest.now.entries))) }
 {
     let (there, place) = rest.get_index(index)?;
@@ -130,7 +131,7 @@ fn hashed_at(rest: &IndexMap<&[u8], Place>, index: usize, name: &[u8]) -> Option
 }
 
 /// The label of this name. The one at the index `near` is found without hashing the name.
-fn find_hashed(rest: &IndexMap<&[u8], Place>, near: usize, name: &[u8]) -> Option<Place>
+fn find_hashed(rest: &IndexMap<&[u8], Place, Seed>, near: usize, name: &[u8]) -> Option<Place>
     ensures { result ≡ place_in (lookup name.now (map label rest.now.entries)) }
 {
     if let Some(place) = hashed_at(rest, near, name) {
@@ -143,13 +144,13 @@ fn find_hashed(rest: &IndexMap<&[u8], Place>, near: usize, name: &[u8]) -> Optio
 }
 
 impl<'t> Labels<'t> {
-    /// No label.
-    pub fn new(alloc: Global) -> Self
+    /// No label. Hashes begin with the seed.
+    pub fn new(alloc: Global, seed: Seed) -> Self
         ensures { result ≡ [] }
     {
         Labels {
             front: Vec::new(alloc),
-            rest: IndexMap::new(alloc),
+            rest: IndexMap::with_hasher(alloc, seed),
         }
     }
 

@@ -19,8 +19,8 @@ use Rattle.listing_lines.specs.declared.form.Form.TheVariants.{One, Two}
 use Rattle.listing_labels.specs.Labels.{Label, is_name_byte, are_name_bytes, is_label, lookup, marked_by, SpellsHere, SpellsAll}
 use Rattle.listing_parse.specs.Forms.{SpellsInForm}
 use Rattle.listing_print.specs.Operands.{Operand, label_name, operand_text, operand_text_in, shown_in}
-use Rattle.listing_print.specs.Reading.{slots_of, data_of, words_of, words_in, FitOperands}
-use Rattle.listing_print.proofs.PrintedLaws.{printed_spelled}
+use Rattle.listing_print.specs.Reading.{slots_of, data_of, words_in, FitOperands}
+use Rattle.listing_print.proofs.PrintedLaws.{words_of, printed_spelled}
 use Rattle.listing_laws.proofs.RunLaws.{spaced_words}
 
 -- ---- a target's label is a label

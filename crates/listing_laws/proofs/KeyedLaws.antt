@@ -27,8 +27,8 @@ use Rattle.listing_parse.specs.declared.form_line.FormLine.{FormLine}
 use Rattle.listing_parse.specs.declared.form_line.FormLine.TheVariants.{Nothing}
 use Rattle.listing_print.specs.Operands.{Operand, keyword, value_operands, values_operands}
 use Rattle.listing_print.specs.Printed.{line_key, line_operands, keyed_text, keyed_text_in}
-use Rattle.listing_print.specs.Reading.{slots_of, data_of, words_of, words_in, FitOperands, line_kind, IsKeyedLine}
-use Rattle.listing_print.proofs.PrintedLaws.{value_words}
+use Rattle.listing_print.specs.Reading.{slots_of, data_of, words_in, FitOperands, line_kind, IsKeyedLine}
+use Rattle.listing_print.proofs.PrintedLaws.{words_of, value_words}
 use Rattle.listing_print.proofs.RowLaws.{keyed_has_shape, keyed_says_line}
 use Rattle.listing_laws.proofs.Runs.{Frame, bare, at, RunsInto, RunsTo}
 use Rattle.listing_laws.proofs.RunLaws.{IsLine, line_reads, line_runs, line_is, words_line, spaced_words}

@@ -25,6 +25,3 @@ pub mod ReadValues
 pub mod FreeSlots
 pub mod GivenLines
 pub mod TwiceLaws
--- What stands below, for the crates above.
-pub use Rattle.listing_parse.proofs.ExactLaws
-pub use Rattle.listing_parse.proofs.OneFault

@@ -16,5 +16,4 @@ pub use twice::only_what_is_given_twice_is_refused;
 pub use values::values_are_spelled;
 
 // What stands below, for the crates above.
-pub use listing_parse::parse;
 pub use listing_print::print;

@@ -4,3 +4,5 @@ pub mod FormLineLaws
 pub mod ExactLaws
 pub mod OneFault
 pub mod NamedLaws
+-- What stands below, for the crates above.
+pub use Rattle.listing_draft.proofs.ShapeLaws

@@ -11,5 +11,5 @@ mod reading;
 
 pub use form_line::FormLine;
 pub use law::{one_fault, one_program};
-pub use listing::parse;
+pub use listing::{parse, parse_seeded};
 pub use reading::Reading;

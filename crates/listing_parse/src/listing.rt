@@ -13,12 +13,12 @@ ghost use Rattle.listing_parse.specs.View.{reading};
 use crate::lines::{Scratch, read_line};
 use crate::reading::Reading;
 use bumpalo::Bump;
-use dex_base::{Fault, fault};
+use dex_base::{Fault, Seed, fault};
 use listing_draft::{Block, Draft};
 use listing_labels::{Labels, split_line};
 use listing_lines::Form;
 use listing_slots::Spelled;
-use program_rules::well_formed_named_in;
+use program_rules::well_formed_named_seeded;
 use program_types::Program;
 use std::alloc::Global;
 
@@ -30,14 +30,14 @@ const MOST_NAMES: usize = 65536;
 
 /// Nothing was read.
 #[tactic(auto, unfolding(crate::specs::View::reading))]
-fn begin<'a, 't>(alloc: Global, arena: &'a Bump) -> Reading<'a, 't>
+fn begin<'a, 't>(alloc: Global, seed: Seed, arena: &'a Bump) -> Reading<'a, 't>
     ensures { reading result ≡ begin }
 {
     Reading {
         form: Form::One,
-        labels: Labels::new(alloc),
+        labels: Labels::new(alloc, seed),
         passed: 0,
-        draft: Draft::new(alloc, arena),
+        draft: Draft::new(alloc, seed, arena),
     }
 }
 
@@ -49,7 +49,12 @@ struct Listed<'a> {
 }
 
 /// Reads all lines of a text; else the lowest that is refused: 100 to 104.
-fn read_lines<'a>(alloc: Global, arena: &'a Bump, text: &[u8]) -> Result<Listed<'a>, Fault>
+fn read_lines<'a>(
+    alloc: Global,
+    seed: Seed,
+    arena: &'a Bump,
+    text: &[u8],
+) -> Result<Listed<'a>, Fault>
     ensures ok { IfOk result (λ l. (r : spec.Reading) × Reads begin (lines text.now) [] r × (r.base ≡ state l.draft)) }
     ensures number { IfOk result (λ l. l.draft.lines ≡ length (lines text.now)) }
     ensures named { IfOk result (λ l. IsTrue l.named → StateIsNamed (state l.draft)) }
@@ -60,9 +65,9 @@ fn read_lines<'a>(alloc: Global, arena: &'a Bump, text: &[u8]) -> Result<Listed<
         words: Vec::new(arena),
         slots: Vec::new(arena),
         says: Vec::new(arena),
-        spelled: Spelled::new(alloc, (text.len() / BYTES_A_NAME).min(MOST_NAMES))?,
+        spelled: Spelled::new(alloc, seed, (text.len() / BYTES_A_NAME).min(MOST_NAMES))?,
     };
-    let mut listing = begin(alloc, arena);
+    let mut listing = begin(alloc, seed, arena);
     let mut rest = text;
     while let Some((line, after)) = split_line(rest) {
         read_line(&mut scratch, &mut listing, line, after)?;
@@ -89,17 +94,22 @@ fn check_end(draft: &Draft<'_>) -> Result<(), Fault>
 }
 
 /// The program of a text, or why it is none.
-fn read_program<'a>(alloc: Global, arena: &'a Bump, text: &[u8]) -> Result<Program<'a>, Fault>
+fn read_program<'a>(
+    alloc: Global,
+    seed: Seed,
+    arena: &'a Bump,
+    text: &[u8],
+) -> Result<Program<'a>, Fault>
     ensures ok { IfOk result (λ p. IsListing text.now (program p)) }
     ensures err { IfErr result (λ e. e ≢ memory → ListingBreaks text.now e.code e.place) }
 {
-    let listed = read_lines(alloc, arena, text)?;
+    let listed = read_lines(alloc, seed, arena, text)?;
     let Listed { draft, named } = listed;
     check_end(&draft)?;
     let whole = Program {
         classes: draft.into_classes(),
     };
-    well_formed_named_in(alloc, &whole, named)?;
+    well_formed_named_seeded(alloc, seed, &whole, named)?;
     Ok(whole)
 }
 
@@ -126,5 +136,31 @@ pub fn parse<'a>(alloc: Global, arena: &'a Bump, text: &[u8]) -> Result<Program<
     ensures err { IfErr result (λ e. e ≢ memory → ListingBreaks text.now e.code e.place) }
     ensures none { IfErr result (λ e. e ≢ memory → (q : _) → ¬ IsListing text.now q) }
 {
-    read_program(alloc, arena, text)
+    parse_seeded(alloc, Seed::fixed(), arena, text)
+}
+
+/// The program of a listing, as `parse` answers it. Hashes begin with this seed, on which no answer depends: one that is drawn for
+/// listings of strangers, so that their names can't be made to collide with a seed that is known.
+///
+/// ```
+/// use bumpalo::Bump;
+/// use dex_base::Seed;
+/// use dex_listing::parse_seeded;
+///
+/// let arena = Bump::new(alloc);
+/// let listed = parse_seeded(alloc, Seed::new(0x5eed), &arena, b"dex 035 listing 2\n")?;
+/// assert_eq!(rt; listed.classes.len(), 0);
+/// ```
+pub fn parse_seeded<'a>(
+    alloc: Global,
+    seed: Seed,
+    arena: &'a Bump,
+    text: &[u8],
+) -> Result<Program<'a>, Fault>
+    ensures ok { IfOk result (λ p. IsListing text.now (program p)) }
+    ensures one { IfOk result (λ p. (q : _) → IsListing text.now q → q ≡ program p) }
+    ensures err { IfErr result (λ e. e ≢ memory → ListingBreaks text.now e.code e.place) }
+    ensures none { IfErr result (λ e. e ≢ memory → (q : _) → ¬ IsListing text.now q) }
+{
+    read_program(alloc, seed, arena, text)
 }

@@ -1,5 +1,5 @@
 -- The words of a printed line are read as the slots and data that were printed.
-use Rattle.std.proofs.Common.{◌≡◌, ℕ, suc, Bool, true, false, List, [], ◌∷◌, ◌++◌, Option, Some, None, option_map, refl, sym, ap, subst, ◌∙◌, append_assoc, add-one}
+use Rattle.std.proofs.Common.{◌≡◌, ℕ, suc, Bool, true, false, List, [], ◌∷◌, ◌++◌, Option, Some, None, option_map, map, refl, sym, ap, subst, ◌∙◌, append_assoc, add-one}
 use Rattle.std.proofs.lemmas.List.{append-nil}
 use Rattle.program_types.specs.Content as content
 use Rattle.program_types.specs.Content.{Value, Values, no_values, more_values, Name, OfText}
@@ -18,10 +18,14 @@ use Rattle.listing_lines.specs.declared.form.Form.{Form}
 use Rattle.listing_lines.specs.declared.form.Form.TheVariants.{One, Two}
 use Rattle.listing_shapes.specs.declared.due.Due.TheVariants as due
 use Rattle.listing_shapes.specs.Shapes.{value_slots, slot_at, due_after_word, due_after, due_of_key}
-use Rattle.listing_print.specs.Reading.{slots_of, data_of, words_of, words_in, FitOperands}
+use Rattle.listing_print.specs.Reading.{slots_of, data_of, words_in, FitOperands}
 use Rattle.listing_print.specs.Operands.{Operand, shown_in, target_word, keyword, named_operands, truth_key, value_operands, values_operands}
 
 -- ---- operands as slots, data and words
+
+-- The words of operands.
+abbrev pub words_of : List Operand → List Word
+words_of os = map (λ (o : Operand). shown o.slot o.says) os
 
 words_all : (os : List Operand) → shown_all (slots_of os) (data_of os) ≡ words_of os
 words_all [] = refl

@@ -11,7 +11,7 @@ use Rattle.listing_slots.specs.declared.kind.Kind.{Kind}
 use Rattle.listing_slots.specs.declared.kind.Kind.TheVariants as kind
 use Rattle.listing_slots.specs.declared.slot.Slot.{Slot}
 use Rattle.listing_slots.specs.Data.{Datum}
-use Rattle.listing_slots.specs.Shown.{shown, FitsSlot}
+use Rattle.listing_slots.specs.Shown.{FitsSlot}
 use Rattle.listing_lines.specs.Lines.{Line, first_line, open_class, end_class, super_line, implements_line, source_line, static_line, instance_line, direct_line, virtual_line, open_code, end_code, insn_line, try_line, catch_line, catch_all_line}
 use Rattle.listing_lines.specs.declared.form.Form.{Form}
 use Rattle.listing_print.specs.Operands.{Operand, name_operand, shown_in}
@@ -23,10 +23,6 @@ slots_of os = map (λ (o : Operand). o.slot) os
 -- What operands say.
 abbrev pub data_of : List Operand → List Datum
 data_of os = map (λ (o : Operand). o.says) os
-
--- The words of operands.
-abbrev pub words_of : List Operand → List Word
-words_of os = map (λ (o : Operand). shown o.slot o.says) os
 
 -- The words of operands in a form, by which targets are written.
 abbrev pub words_in : Form → List Operand → List Word

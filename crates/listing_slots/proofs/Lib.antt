@@ -6,3 +6,4 @@ pub mod NumberNoneLaws
 pub mod OperandLaws
 pub mod ShownLaws
 pub mod DecimalLaws
+pub mod PartLaws

@@ -15,6 +15,7 @@ mod datum;
 mod key;
 mod kind;
 mod law;
+mod name_parts;
 mod numbers;
 mod put;
 mod read;

@@ -10,6 +10,7 @@ ghost use Rattle.listing_slots.specs.ValidNames.{IsValidDatum, StayValid};
 ghost use Rattle.listing_slots.specs.View.{datum};
 
 use crate::datum::Datum;
+use crate::name_parts::NameParts;
 use crate::numbers::{read_number, read_signed};
 use crate::slot::{Mark, Slot};
 use crate::spelled::Spelled;
@@ -87,8 +88,14 @@ fn read_whole(slot: Slot, text: &[u8]) -> Option<Datum<'static>>
     }
 }
 
-/// What a word's units say in a name's slot.
-fn read_named<'a>(bump: &'a Bump, slot: Slot, units: &'a [u16]) -> Result<Option<Datum<'a>>, Fault>
+/// What a word's units say in a name's slot, of parts that are held. The units stand aside, and what is read of them.
+fn read_named<'a, 's>(
+    parts: &mut NameParts<'a>,
+    arena: &'a Bump,
+    aside: &'s Bump,
+    slot: Slot,
+    units: &'s [u16],
+) -> Result<Option<Datum<'a>>, Fault>
     requires { is_name_slot slot ≡ true }
     ensures found { IfOk result (λ r. IfSome r (λ d. SpellsUnitsIn slot units.now (datum d))) }
     ensures none { IfOk result (λ r. IfNone r ((d : Said) → SpellsUnitsIn slot units.now d → ⊥)) }
@@ -96,34 +103,38 @@ fn read_named<'a>(bump: &'a Bump, slot: Slot, units: &'a [u16]) -> Result<Option
 {
     match slot {
         Slot::Member if is_member_name(units) => {
-            Ok(Some(Datum::Name(Name::Text(Str { units }))))
+            let text = parts.member(arena, Str { units })?;
+            Ok(Some(Datum::Name(Name::Text(text))))
         }
-        Slot::Desc if is_descriptor(units) => Ok(Some(Datum::Name(Name::Desc(Desc {
-            text: Str { units },
-        })))),
+        Slot::Desc if is_descriptor(units) => {
+            let ty = Desc {
+                text: Str { units },
+            };
+            Ok(Some(Datum::Name(Name::Desc(parts.ty(arena, ty)?))))
+        }
         Slot::Field => {
             let Some(field) = read_field(units) else {
                 return Ok(None);
             };
-            Ok(Some(Datum::Name(Name::Field(bump.try_alloc(field)?))))
+            Ok(Some(Datum::Name(Name::Field(parts.field(arena, field)?))))
         }
         Slot::Enum => {
             let Some(field) = read_field(units) else {
                 return Ok(None);
             };
-            Ok(Some(Datum::Enum(bump.try_alloc(field)?)))
+            Ok(Some(Datum::Enum(parts.field(arena, field)?)))
         }
         Slot::Method => {
-            let Some(method) = read_method(bump, units)? else {
+            let Some(method) = read_method(aside, units)? else {
                 return Ok(None);
             };
-            Ok(Some(Datum::Name(Name::Method(bump.try_alloc(method)?))))
+            Ok(Some(Datum::Name(Name::Method(parts.method(arena, method)?))))
         }
         Slot::Proto => {
-            let Some(proto) = read_proto(bump, units)? else {
+            let Some(proto) = read_proto(aside, units)? else {
                 return Ok(None);
             };
-            Ok(Some(Datum::Proto(bump.try_alloc(proto)?)))
+            Ok(Some(Datum::Proto(parts.proto(arena, &proto)?)))
         }
         _ => Ok(None),
     }
@@ -159,9 +170,11 @@ fn is_number_slot(slot: Slot) -> bool
     )
 }
 
-/// What a word without quotes says in a name's slot: it is decoded first, and then read.
+/// What a word without quotes says in a name's slot: it is decoded first, aside, and then read.
 pub(crate) fn read_encoded<'a>(
-    bump: &'a Bump,
+    parts: &mut NameParts<'a>,
+    arena: &'a Bump,
+    aside: &Bump,
     slot: Slot,
     text: &[u8],
 ) -> Result<Option<Datum<'a>>, Fault>
@@ -170,8 +183,8 @@ pub(crate) fn read_encoded<'a>(
     ensures none { IfOk result (λ r. IfNone r ((d : Said) → SpellsSlot slot (plain_word text.now) d → ⊥)) }
     ensures memory { IsOkUnless result memory }
 {
-    match read_name(bump, text)? {
-        Some(units) => read_named(bump, slot, units),
+    match read_name(aside, text)? {
+        Some(units) => read_named(parts, arena, aside, slot, units),
         None => Ok(None),
     }
 }

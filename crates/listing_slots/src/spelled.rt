@@ -10,9 +10,10 @@ ghost use Rattle.listing_slots.specs.View.{datum};
 
 use crate::datum::Datum;
 use crate::key::is_same;
+use crate::name_parts::NameParts;
 use crate::read::read_encoded;
 use crate::slot::Slot;
-use base_bytes::u32_at;
+use base_bytes::{Seed, u32_at};
 use bumpalo::Bump;
 use listing_words::{Fault, Name};
 use program_rules::is_valid_name;
@@ -31,11 +32,14 @@ struct Spelling<'a, 'b> {
 ///
 /// Each word has one place, by its bytes, and takes it from the word that was there. So a word is compared with one other,
 /// whatever the listing, and the places take the memory that they took at first. Whether a file can have a name is asked
-/// where it is read, so not for each word. It stands for the number of places, and whether a file can have all of the names.
+/// where it is read, so not for each word. A word is read aside, in room that is used again, and its name is made of parts that
+/// the arena has. It stands for the number of places, and whether a file can have all of the names.
 #[derive(Drop)]
 pub struct Spelled<'a, 'b> {
     places: Vec<Option<Spelling<'a, 'b>>>,
     valid: bool,
+    parts: NameParts<'a>,
+    aside: Bump,
 }
 
 impl<'a, 'b> Model for Spelled<'a, 'b> {
@@ -102,7 +106,7 @@ fn is_valid_datum(said: Datum<'_>) -> bool
 
 impl<'a, 'b> Spelled<'a, 'b> {
     /// No word, and so many places.
-    pub fn new(alloc: Global, places: usize) -> Result<Self, Fault>
+    pub fn new(alloc: Global, seed: Seed, places: usize) -> Result<Self, Fault>
         ensures none { IfOk result (λ s. s ≡ record { places = places; valid = true }) }
         ensures memory { IsOkUnless result memory }
     {
@@ -111,6 +115,8 @@ impl<'a, 'b> Spelled<'a, 'b> {
         Ok(Spelled {
             places: all,
             valid: true,
+            parts: NameParts::new(alloc, seed),
+            aside: Bump::new(alloc),
         })
     }
 
@@ -156,6 +162,25 @@ impl<'a, 'b> Spelled<'a, 'b> {
         }
     }
 
+    /// What a word without quotes says in a name's slot, read anew.
+    fn read_anew(
+        &mut self,
+        arena: &'a Bump,
+        slot: Slot,
+        text: &[u8],
+    ) -> Result<Option<Datum<'a>>, Fault>
+        requires { is_name_slot slot ≡ true }
+        ensures found { IfOk result (λ r. IfSome r (λ d. SpellsSlot slot (plain_word text.now) (datum d))) }
+        ensures none { IfOk result (λ r. IfNone r ((d : Said) → SpellsSlot slot (plain_word text.now) d → ⊥)) }
+        ensures same { self.new ≡ self.old }
+        ensures memory { IsOkUnless result memory }
+    {
+        let said = read_encoded(&mut self.parts, arena, &self.aside, slot, text);
+        // (it fails only while a block of the room is lent, and none is)
+        let _ = self.aside.reset();
+        said
+    }
+
     /// What a word without quotes says in a name's slot.
     pub(crate) fn read(
         &mut self,
@@ -173,7 +198,7 @@ impl<'a, 'b> Spelled<'a, 'b> {
         if let Some(name) = self.find(at, slot, text) {
             return Ok(Some(name));
         }
-        let Some(name) = read_encoded(bump, slot, text)? else {
+        let Some(name) = self.read_anew(bump, slot, text)? else {
             return Ok(None);
         };
         self.note(name);

@@ -6,7 +6,7 @@
 #[cfg(test)]
 mod faults;
 #[cfg(test)]
-mod labels;
+mod hostile;
 #[cfg(test)]
 mod names;
 #[cfg(test)]

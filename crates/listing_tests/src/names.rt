@@ -3,7 +3,7 @@
 use bumpalo::Bump;
 use dex_base::Fault;
 use dex_names::{field, method, proto, text, ty};
-use dex_samples::none_wrong;
+use dex_samples::{Case, all_hold};
 use std::alloc::Global;
 use std::test::Fail;
 
@@ -28,33 +28,34 @@ fn is_spelled(arena: &Bump, kind: Kind, said: &str) -> Result<bool, Fault> {
     }
 }
 
-/// The first text that spells one and is not to, or the other way round.
-fn first_spelled_otherwise(
-    alloc: Global,
-    cases: &[(Kind, &'static str, bool)],
-) -> Result<Option<&'static str>, Fault> {
-    let arena = Bump::new(alloc);
-    for (kind, said, want) in cases {
-        if is_spelled(&arena, *kind, said)? != *want {
-            return Ok(Some(*said));
-        }
+/// What a text is to be, the text, and whether it spells one.
+struct Spelled(Kind, &'static str, bool);
+
+impl Case for Spelled {
+    fn name(&self) -> &'static str {
+        self.1
     }
-    Ok(None)
+
+    fn holds(&self, alloc: Global) -> Result<bool, Fault> {
+        let arena = Bump::new(alloc);
+        Ok(is_spelled(&arena, self.0, self.1)? == self.2)
+    }
 }
 
+#[rattlefmt::skip]
 #[test]
 fn a_text_spells_a_name_or_none(rt: HostRuntime) -> Result<(), Fail> {
-    static CASES: [(Kind, &str, bool); 10] = [
-        (Kind::Text, "caf\\u00e9", true),
-        (Kind::Text, "caf\\u00e", false),
-        (Kind::Type, "[[Ljava/lang/String;", true),
-        (Kind::Type, "java.lang.String", false),
-        (Kind::Proto, "([Ljava/lang/String;J)V", true),
-        (Kind::Proto, "(I)", false),
-        (Kind::Field, "LHello;->name:Ljava/lang/String;", true),
-        (Kind::Field, "LHello;->name", false),
-        (Kind::Method, "LHello;->get(Z)I", true),
-        (Kind::Method, "LHello;.get(Z)I", false),
+    static CASES: [Spelled; 10] = [
+        Spelled(Kind::Text, "caf\\u00e9", true),
+        Spelled(Kind::Text, "caf\\u00e", false),
+        Spelled(Kind::Type, "[[Ljava/lang/String;", true),
+        Spelled(Kind::Type, "java.lang.String", false),
+        Spelled(Kind::Proto, "([Ljava/lang/String;J)V", true),
+        Spelled(Kind::Proto, "(I)", false),
+        Spelled(Kind::Field, "LHello;->name:Ljava/lang/String;", true),
+        Spelled(Kind::Field, "LHello;->name", false),
+        Spelled(Kind::Method, "LHello;->get(Z)I", true),
+        Spelled(Kind::Method, "LHello;.get(Z)I", false),
     ];
-    none_wrong(first_spelled_otherwise(rt.alloc(), &CASES))
+    all_hold(rt.alloc(), &CASES)
 }

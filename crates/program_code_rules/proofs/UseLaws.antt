@@ -2,7 +2,8 @@
 use Rattle.std.proofs.Common.{◌≡◌, ◌≢◌, ℕ, ◌+◌, ◌<◌, List, length, get_or, ◌∙◌, arith, subst, inl, inr, get_or-set_other, get_or-set_same, length-set, set}
 use Rattle.std.proofs.lemmas.Bool.{cases_lt}
 use Rattle.program_types.specs.Content.{Insn}
-use Rattle.program_types.specs.Formed.{insn_at, insn_reach, RefersToPayload}
+use Rattle.program_types.specs.Formed.{insn_at, insn_reach, IsSwitch, PayloadHolds, RefersToPayload, WantsPayload}
+use Rattle.program_code_rules.specs.Parts.{HasNoPayload}
 use Rattle.program_code_rules.specs.Uses.{CountsUses, AreUses, used_again}
 use Rattle.program_code_rules.specs.declared.payloads.Use.{Use}
 use Rattle.program_code_rules.specs.declared.payloads.Use.TheVariants as users
@@ -49,4 +50,12 @@ uses-more is j k us a u =
                   (rw get_or-set_same (use-more is j k (get_or us k users.Unused) (a.each k here) u))
             ]
           ];
+    }
+
+-- an instruction that is no payload and refers to none breaks no rule of payloads
+pub plain_holds : (is : List Insn) (k : ℕ) → HasNoPayload (insn_at is k) → PayloadHolds is k
+plain_holds is k plain =
+    record {
+      refers = λ wants. absurd (subst WantsPayload plain.wants wants);
+      used = λ switch. absurd (subst IsSwitch plain.is switch);
     }

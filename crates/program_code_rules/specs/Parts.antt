@@ -1,12 +1,17 @@
 -- What the private functions say of one key, one payload or one try.
-use Rattle.std.specs.Prelude.{◌≡◌, ◌≢◌, ◌<◌, ◌≤◌, ◌+◌, ◌<ℤ◌, ℕ, ℤ, pos, List, [], slice_index_or, IfSome, IfNone}
+use Rattle.std.specs.Prelude.{◌≡◌, ◌≢◌, ◌<◌, ◌≤◌, ◌+◌, ◌<ℤ◌, ℕ, ℤ, pos, List, [], slice_index_or, None, IfSome, IfNone}
 use Rattle.std.specs.List.{AllByRecursion}
 use Rattle.program_types.specs.Content.{Insn, Try}
-use Rattle.program_types.specs.Formed.{try_at, RefersToPayload}
+use Rattle.program_types.specs.Formed.{try_at, insn_payload, insn_wants, RefersToPayload}
 
 -- Key k is below the next one.
 abbrev pub KeyIsBelow : List ℤ → ℕ → Type 0
 KeyIsBelow keys k = slice_index_or keys k (pos 0) <ℤ slice_index_or keys (k + 1) (pos 0)
+
+-- An instruction is no payload and refers to none.
+pub record HasNoPayload (i : Insn) : Type 0 where
+  pub wants : insn_wants i ≡ None
+  pub is : insn_payload i ≡ None
 
 -- Exactly one instruction refers to payload k.
 pub record IsUsedOnce (is : List Insn) (k : ℕ) : Type 0 where

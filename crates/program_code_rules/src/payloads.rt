@@ -5,7 +5,7 @@ ghost use Rattle.program_types.specs.Formed.{insn_at, insn_wants, insn_reach, Wa
 ghost use Rattle.program_types.specs.View.{insn, code};
 ghost use Rattle.program_code_rules.specs.CodeRules.{PayloadsHold};
 ghost use Rattle.program_code_rules.specs.First.{AllHold, IsFirstBroken};
-ghost use Rattle.program_code_rules.specs.Parts.{IsUsedOnce};
+ghost use Rattle.program_code_rules.specs.Parts.{HasNoPayload, IsUsedOnce};
 ghost use Rattle.program_code_rules.specs.Uses.{AreUses, used_again};
 
 use program_types::{Code, Insn, Payload, are_alike, is_switch, payload_of};
@@ -186,12 +186,38 @@ fn payload_holds_by(uses: &[Use], insns: &[Insn<'_>], k: usize) -> bool
     is_once(uses, insns, k)
 }
 
+/// Whether an instruction is no payload and refers to none.
+#[tactic(auto, unfolding(program_types::specs::Formed::insn_wants, program_types::specs::Formed::insn_payload))]
+fn is_plain(one: &Insn<'_>) -> bool
+    ensures { IsTrue result ↔ HasNoPayload (insn one.now) }
+{
+    !matches!(
+        one,
+        Insn::I31t { .. } | Insn::Packed { .. } | Insn::Sparse { .. } | Insn::Data { .. }
+    )
+}
+
+/// Whether no instruction is a payload or refers to one.
+fn are_plain(insns: &[Insn<'_>]) -> bool
+    ensures { IsTrue result ↔ AllHold (λ k. HasNoPayload (insn_at (map insn insns.now) k)) (length insns.now) }
+{
+    for k in 0..insns.len() {
+        if !is_plain(&insns[k]) {
+            return false;
+        }
+    }
+    true
+}
+
 /// The first instruction that refers to no payload of its kind, or is the payload of a switch and hasn't exactly one, in time that
-/// grows with the code: it takes a byte an instruction.
+/// grows with the code: it takes a byte an instruction, and nothing where no instruction has to do with payloads.
 pub fn first_bad_use(alloc: Global, insns: &[Insn<'_>]) -> Result<Option<usize>, AllocError>
     ensures some { IfOk result (λ found. IfSome found (IsFirstBroken (PayloadHolds (map insn insns.now)) (PayloadHolds (map insn insns.now)) (length insns.now))) }
     ensures none { IfOk result (λ found. IfNone found (AllHold (PayloadHolds (map insn insns.now)) (length insns.now))) }
 {
+    if are_plain(insns) {
+        return Ok(None);
+    }
     let uses = uses_of(alloc, insns)?;
     for k in 0..insns.len() {
         if !payload_holds_by(&uses, insns, k) {

@@ -9,6 +9,7 @@ ghost use Rattle.program_rules.specs.Rules.{NoneFrom, AreDistinct, OrderHolds};
 ghost use Rattle.program_rules.specs.Numbers.{AreNumbers, types};
 
 use crate::order::are_distinct;
+use base_bytes::Seed;
 use indexmap::IndexMap;
 use program_types::{Class, Desc, Fault};
 use std::alloc::Global;
@@ -20,17 +21,21 @@ const FEW: usize = 8;
 #[derive(Drop)]
 pub(crate) struct Numbers<'a> {
     /// The last number of each type.
-    last: IndexMap<Desc<'a>, usize>,
+    last: IndexMap<Desc<'a>, usize, Seed>,
     /// The first number whose type stands before it too.
     again: Option<usize>,
 }
 
 /// Where the types stand.
-pub(crate) fn numbers_of<'a>(alloc: Global, list: &[Desc<'a>]) -> Result<Numbers<'a>, Fault>
+pub(crate) fn numbers_of<'a>(
+    alloc: Global,
+    seed: Seed,
+    list: &[Desc<'a>],
+) -> Result<Numbers<'a>, Fault>
     ensures ok { IfOk result (AreNumbers (map desc list.now) (length list.now)) }
     ensures memory { IsOkUnless result memory }
 {
-    let mut last = IndexMap::new(alloc);
+    let mut last = IndexMap::with_hasher(alloc, seed);
     let mut again = None;
     for k in 0..list.len() {
         let ty = list[k];
@@ -65,14 +70,14 @@ fn are_none_from(numbers: &Numbers<'_>, from: usize, list: &[Desc<'_>]) -> bool
 }
 
 /// Whether no type stands twice.
-fn are_distinct_in(alloc: Global, list: &[Desc<'_>]) -> Result<bool, Fault>
+fn are_distinct_in(alloc: Global, seed: Seed, list: &[Desc<'_>]) -> Result<bool, Fault>
     ensures ok { IfOk result (λ yes. IsTrue yes ↔ AreDistinct (map desc list.now)) }
     ensures memory { IsOkUnless result memory }
 {
     if list.len() <= FEW {
         return Ok(are_distinct(list));
     }
-    let numbers = numbers_of(alloc, list)?;
+    let numbers = numbers_of(alloc, seed, list)?;
     Ok(numbers.again.is_none())
 }
 
@@ -105,5 +110,5 @@ pub(crate) fn order_holds_in(
             return Ok(false);
         }
     }
-    are_distinct_in(alloc, one.interfaces)
+    are_distinct_in(alloc, *numbers.last.hasher(), one.interfaces)
 }

@@ -19,6 +19,7 @@ use crate::members::{members_rise, names_are_valid};
 use crate::numbers::{Numbers, numbers_of, order_holds_in};
 use crate::order::order_holds;
 use crate::values::values_fit;
+use base_bytes::Seed;
 use program_code_rules::CodeRule;
 use program_types::{Class, Desc, Fault, Program, fault};
 use std::alloc::Global;
@@ -190,7 +191,25 @@ pub fn well_formed_named_in(alloc: Global, all: &Program<'_>, named: bool) -> Re
     ensures formed { OnOk result (WellFormed (program all.now)) }
     ensures err { IfErr result (λ e. e ≢ memory → RuleBreaks (program all.now) e) }
 {
+    well_formed_named_seeded(alloc, Seed::fixed(), all, named)
+}
+
+/// Whether a program is well formed, as `well_formed_named_in` says it. Hashes begin with the seed.
+///
+/// ```
+/// well_formed_named_seeded(alloc, seed, &program, named)?;
+/// ```
+pub fn well_formed_named_seeded(
+    alloc: Global,
+    seed: Seed,
+    all: &Program<'_>,
+    named: bool,
+) -> Result<(), Fault>
+    requires { IsTrue named → AllByRecursion (CodesHold InsnsAreNamed) (program all.now) }
+    ensures formed { OnOk result (WellFormed (program all.now)) }
+    ensures err { IfErr result (λ e. e ≢ memory → RuleBreaks (program all.now) e) }
+{
     let list = types_of(alloc, all.classes)?;
-    let numbers = numbers_of(alloc, list.as_slice())?;
+    let numbers = numbers_of(alloc, seed, list.as_slice())?;
     check_classes(alloc, &numbers, all.classes, named)
 }

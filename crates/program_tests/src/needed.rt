@@ -1,85 +1,49 @@
 //! The names that are needed, and their ranks.
 
 use crate::ranks_shown::shown_ranks;
+use crate::units::A;
 use bumpalo::Bump;
 use dex_base::Fault;
-use dex_samples::{field, method, none_wrong, proto, text, ty};
+use dex_samples::{Case, all_hold, field, is_so, method, proto, text, ty};
 use program_types::{Member, Method, Name};
 use std::alloc::Global;
 use std::test::Fail;
 use tables_names::{Needed, Noted, Ranks};
 
-// A name, and its rank.
-type Ranked = (&'static str, Option<u32>);
-
-// Which names are added.
+// A name by its parts.
 #[derive(Clone, Copy)]
-enum Added {
-    // `LA;->m()V`
-    OneMethod,
-    // prototypes, each given by its place in the list below, in this order
-    Prototypes(&'static [usize]),
-    // a name of each kind from either arena, where both say the same
-    Each,
-    // names, each by its kind
-    Names,
-    // the members of a class
-    Members,
+enum Said {
+    Text(&'static str),
+    Type(&'static str),
+    // return type, parameters
+    Proto(&'static str, &'static [&'static str]),
+    // class, name, type
+    Field(&'static str, &'static str, &'static str),
+    // class, name, return type, parameters
+    Method(&'static str, &'static str, &'static str, &'static [&'static str]),
 }
 
-// What is asked of the ranks.
-#[derive(Clone, Copy)]
-enum Asked {
-    // they are shown so
-    Shown(&'static str),
-    // these strings, or types, have these ranks
-    Strings(&'static [Ranked]),
-    Types(&'static [Ranked]),
-    // the prototypes of the list below have theirs
-    Prototypes,
-    // a field and a method, a text and a type, are found each as its kind and as a name
-    Members,
-    Texts,
-    // beside the members of a class are the ranks of their parts, by which they are found
-    Parts,
-    Own,
-    // so many names of each kind are there
-    Counts([usize; 5]),
-}
+// `LA;->f:I` and `LA;->m()V`.
+const F: Said = Said::Field("LA;", "f", "I");
 
-type Case = (&'static str, Added, Asked);
+const M: Said = Said::Method("LA;", "m", "V", &[]);
 
-fn first_string_elsewhere<'a>(
-    arena: &'a Bump,
-    ranks: &Ranks<'a>,
-    cases: &[Ranked],
-) -> Result<Option<&'static str>, Fault> {
-    for (string, want) in cases {
-        if ranks.index_of_string(text(arena, string)?) != *want {
-            return Ok(Some(*string));
-        }
-    }
-    Ok(None)
-}
+// A name of each kind.
+static EACH: [Said; 5] = [
+    Said::Text("x"),
+    Said::Type("[I"),
+    Said::Proto("V", &["J"]),
+    F,
+    M,
+];
 
-fn first_type_elsewhere<'a>(
-    arena: &'a Bump,
-    ranks: &Ranks<'a>,
-    cases: &[Ranked],
-) -> Result<Option<&'static str>, Fault> {
-    for (descriptor, want) in cases {
-        if ranks.index_of_type(ty(arena, descriptor)?) != *want {
-            return Ok(Some(*descriptor));
-        }
-    }
-    Ok(None)
-}
-
-// What LA;->m()V needs.
-fn add_one_method<'a>(needed: &mut Needed<'a>, arena: &'a Bump) -> Result<(), Fault> {
-    let m = method(arena, "LA;", "m", "V", &[])?;
-    needed.add_method(arena, m)
-}
+// What a name can be.
+static NAMED: [Said; 4] = [
+    Said::Text("x"),
+    Said::Type("[I"),
+    F,
+    Said::Method("LA;", "m", "V", &["J"]),
+];
 
 // What a prototype is called, its return type, its parameters, its rank among these.
 type Prototype = (&'static str, &'static str, &'static [&'static str], u32);
@@ -92,77 +56,61 @@ static PROTOS: [Prototype; 5] = [
     ("()I", "I", &[], 0),
 ];
 
-// Adds these prototypes, each given by its place in the list above, in this order.
-fn add_protos<'a>(needed: &mut Needed<'a>, arena: &'a Bump, order: &[usize]) -> Result<(), Fault> {
-    for place in order {
-        let (_, ret, params, _) = PROTOS[*place % PROTOS.len()];
-        needed.add_proto(arena, proto(arena, ret, params)?)?;
+// Which names are added.
+#[derive(Clone, Copy)]
+enum Added {
+    One(Said),
+    // prototypes, each given by its place in the list above, in this order
+    Prototypes(&'static [usize]),
+    // a name of each kind from either arena, where both say the same
+    Each,
+    // what can be named, by its kind
+    Names,
+    // the members of a class
+    Members,
+}
+
+// What is asked of the ranks.
+#[derive(Clone, Copy)]
+enum Asked {
+    // they are shown so
+    Shown(&'static str),
+    // the rank of this one, which is found by its kind
+    Rank(Said, Option<u32>),
+    // .. by its name
+    RankOfName(Said, Option<u32>),
+    // the prototypes of the list above have theirs
+    Prototypes,
+    // beside the members of a class are the ranks of their parts, by which they are found
+    Parts,
+    Own,
+    // so many names of each kind are there
+    Counts([usize; 5]),
+}
+
+struct Ranked(&'static str, Added, Asked);
+
+impl Case for Ranked {
+    fn name(&self) -> &'static str {
+        self.0
     }
-    Ok(())
+
+    fn holds(&self, alloc: Global) -> Result<bool, Fault> {
+        let (here, there) = (Bump::new(alloc), Bump::new(alloc));
+        is_ranked_so(alloc, &here, &there, self)
+    }
 }
 
-// A name of each kind.
-fn add_each<'a>(needed: &mut Needed<'a>, arena: &'a Bump) -> Result<(), Fault> {
-    needed.add_string(text(arena, "x")?)?;
-    needed.add_type(ty(arena, "[I")?)?;
-    needed.add_proto(arena, proto(arena, "V", &["J"])?)?;
-    needed.add_field(field(arena, "LA;", "f", "I")?)?;
-    add_one_method(needed, arena)
-}
-
-fn add_names<'a>(needed: &mut Needed<'a>, arena: &'a Bump) -> Result<(), Fault> {
-    needed.add_name(arena, Name::Text(text(arena, "x")?))?;
-    needed.add_name(arena, Name::Desc(ty(arena, "[I")?))?;
-    needed.add_name(arena, Name::Field(field(arena, "LA;", "f", "I")?))?;
-    let m = method(arena, "LA;", "m", "V", &["J"])?;
-    needed.add_name(arena, Name::Method(m))
-}
-
-// A field and a method that LA; defines.
-fn add_own<'a>(
-    needed: &mut Needed<'a>,
-    arena: &'a Bump,
-    field: (&str, &str),
-    params: &[&'static str],
-) -> Result<(), Fault> {
-    let class = ty(arena, "LA;")?;
-    let own_field = Member {
-        name: text(arena, field.0)?,
-        ty: ty(arena, field.1)?,
-        flags: 0,
-    };
-    let own_method = Method {
-        name: text(arena, "m")?,
-        proto: proto(arena, "V", params)?,
-        flags: 0x401,
-        code: None,
-    };
-    needed.add_fields_of(class, &[own_field])?;
-    needed.add_methods_of(arena, class, &[own_method])
-}
-
-// What LA; defines: LA;->g:J, LA;->m(J)V, LA;->f:I and LA;->m()V.
-fn add_members<'a>(needed: &mut Needed<'a>, arena: &'a Bump) -> Result<(), Fault> {
-    add_own(needed, arena, ("g", "J"), &["J"])?;
-    add_own(needed, arena, ("f", "I"), &[])
-}
-
-fn add<'a>(
-    needed: &mut Needed<'a>,
+fn is_ranked_so<'a>(
+    alloc: Global,
     here: &'a Bump,
     there: &'a Bump,
-    added: Added,
-) -> Result<(), Fault> {
-    match added {
-        Added::OneMethod => add_one_method(needed, here),
-        Added::Prototypes(order) => add_protos(needed, here, order),
-        Added::Names => add_names(needed, here),
-        Added::Members => add_members(needed, here),
-        Added::Each => {
-            add_each(needed, here)?;
-            add_each(needed, there)
-        }
-    }
+    case: &Ranked,
+) -> Result<bool, Fault> {
+    let ranks = ranks_of(alloc, here, there, case.1)?;
+    ranks.holds_parts();
+    ranks.rise();
+    is_answered(alloc, there, &ranks, case.2)
 }
 
 fn ranks_of<'a>(
@@ -177,37 +125,164 @@ fn ranks_of<'a>(
     needed.freeze()
 }
 
-fn first_proto_elsewhere<'a>(
-    arena: &'a Bump,
-    ranks: &Ranks<'a>,
-) -> Result<Option<&'static str>, Fault> {
-    for (what, ret, params, want) in &PROTOS {
-        if ranks.index_of_proto(proto(arena, ret, params)?) != Some(*want) {
-            return Ok(Some(*what));
+fn add<'a>(
+    needed: &mut Needed<'a>,
+    here: &'a Bump,
+    there: &'a Bump,
+    added: Added,
+) -> Result<(), Fault> {
+    match added {
+        Added::One(said) => add_said(needed, here, said),
+        Added::Prototypes(order) => add_protos(needed, here, order),
+        Added::Names => add_names(needed, here, &NAMED),
+        Added::Members => add_members(needed, here),
+        Added::Each => {
+            add_all(needed, here, &EACH)?;
+            add_all(needed, there, &EACH)
         }
     }
-    Ok(None)
 }
 
-fn are_members_found<'a>(arena: &'a Bump, ranks: &Ranks<'a>) -> Result<bool, Fault> {
-    let f = field(arena, "LA;", "f", "I")?;
-    let m = method(arena, "LA;", "m", "V", &[])?;
-    let found = [
-        ranks.index_of(Name::Field(f)),
-        ranks.index_of(Name::Method(m)),
-        ranks.index_of_field(f),
-        ranks.index_of_method(m),
-    ];
-    Ok(found == [Some(0); 4])
+fn add_all<'a>(needed: &mut Needed<'a>, arena: &'a Bump, all: &[Said]) -> Result<(), Fault> {
+    for said in all {
+        add_said(needed, arena, *said)?;
+    }
+    Ok(())
 }
 
-fn are_texts_found<'a>(arena: &'a Bump, ranks: &Ranks<'a>) -> Result<bool, Fault> {
-    let (x, array) = (text(arena, "x")?, ty(arena, "[I")?);
-    let found = [
-        ranks.index_of(Name::Text(x)),
-        ranks.index_of(Name::Desc(array)),
-    ];
-    Ok(found == [Some(8), Some(4)])
+fn add_said<'a>(needed: &mut Needed<'a>, arena: &'a Bump, said: Said) -> Result<(), Fault> {
+    match said {
+        Said::Text(string) => needed.add_string(text(arena, string)?),
+        Said::Type(descriptor) => needed.add_type(ty(arena, descriptor)?),
+        Said::Proto(ret, params) => needed.add_proto(arena, proto(arena, ret, params)?),
+        Said::Field(class, name, kind) => needed.add_field(field(arena, class, name, kind)?),
+        Said::Method(class, name, ret, params) => {
+            needed.add_method(arena, method(arena, class, name, ret, params)?)
+        }
+    }
+}
+
+fn add_names<'a>(needed: &mut Needed<'a>, arena: &'a Bump, all: &[Said]) -> Result<(), Fault> {
+    for said in all {
+        add_name(needed, arena, *said)?;
+    }
+    Ok(())
+}
+
+// A prototype is no name.
+fn add_name<'a>(needed: &mut Needed<'a>, arena: &'a Bump, said: Said) -> Result<(), Fault> {
+    match said {
+        Said::Text(string) => needed.add_name(arena, Name::Text(text(arena, string)?)),
+        Said::Type(descriptor) => needed.add_name(arena, Name::Desc(ty(arena, descriptor)?)),
+        Said::Field(class, name, kind) => {
+            needed.add_name(arena, Name::Field(field(arena, class, name, kind)?))
+        }
+        Said::Method(class, name, ret, params) => {
+            let m = method(arena, class, name, ret, params)?;
+            needed.add_name(arena, Name::Method(m))
+        }
+        Said::Proto(_, _) => Ok(()),
+    }
+}
+
+// Adds these prototypes, each given by its place in the list above, in this order.
+fn add_protos<'a>(needed: &mut Needed<'a>, arena: &'a Bump, order: &[usize]) -> Result<(), Fault> {
+    for place in order {
+        let (_, ret, params, _) = PROTOS[*place % PROTOS.len()];
+        needed.add_proto(arena, proto(arena, ret, params)?)?;
+    }
+    Ok(())
+}
+
+// What LA; defines: LA;->g:J, LA;->m(J)V, LA;->f:I and LA;->m()V.
+fn add_members<'a>(needed: &mut Needed<'a>, arena: &'a Bump) -> Result<(), Fault> {
+    add_own_field(needed, arena, "g", "J")?;
+    add_own_method(needed, arena, &["J"])?;
+    add_own_field(needed, arena, "f", "I")?;
+    add_own_method(needed, arena, &[])
+}
+
+// A field that LA; defines.
+fn add_own_field<'a>(
+    needed: &mut Needed<'a>,
+    arena: &'a Bump,
+    name: &str,
+    kind: &str,
+) -> Result<(), Fault> {
+    let own = Member {
+        name: text(arena, name)?,
+        ty: ty(arena, kind)?,
+        flags: 0,
+    };
+    needed.add_fields_of(A, &[own])
+}
+
+// A method `m` that LA; defines.
+fn add_own_method<'a>(
+    needed: &mut Needed<'a>,
+    arena: &'a Bump,
+    params: &[&'static str],
+) -> Result<(), Fault> {
+    let own = Method {
+        name: text(arena, "m")?,
+        proto: proto(arena, "V", params)?,
+        flags: 0x401,
+        code: None,
+    };
+    needed.add_methods_of(arena, A, &[own])
+}
+
+fn is_answered<'a>(
+    alloc: Global,
+    arena: &'a Bump,
+    ranks: &Ranks<'a>,
+    asked: Asked,
+) -> Result<bool, Fault> {
+    match asked {
+        Asked::Shown(want) => are_shown_so(alloc, ranks, want),
+        Asked::Rank(said, want) => Ok(rank_of(arena, ranks, said)? == want),
+        Asked::RankOfName(said, want) => Ok(rank_of_name(arena, ranks, said)? == want),
+        Asked::Prototypes => are_protos_ranked(arena, ranks),
+        Asked::Parts => Ok(are_parts_beside(ranks)),
+        Asked::Own => are_own_members_found(arena, ranks),
+        Asked::Counts(counts) => Ok(are_so_many(ranks, counts)),
+    }
+}
+
+fn rank_of<'a>(arena: &'a Bump, ranks: &Ranks<'a>, said: Said) -> Result<Option<u32>, Fault> {
+    Ok(match said {
+        Said::Text(string) => ranks.index_of_string(text(arena, string)?),
+        Said::Type(descriptor) => ranks.index_of_type(ty(arena, descriptor)?),
+        Said::Proto(ret, params) => ranks.index_of_proto(proto(arena, ret, params)?),
+        Said::Field(class, name, kind) => ranks.index_of_field(field(arena, class, name, kind)?),
+        Said::Method(class, name, ret, params) => {
+            ranks.index_of_method(method(arena, class, name, ret, params)?)
+        }
+    })
+}
+
+// A prototype is no name.
+fn rank_of_name<'a>(arena: &'a Bump, ranks: &Ranks<'a>, said: Said) -> Result<Option<u32>, Fault> {
+    Ok(match said {
+        Said::Text(string) => ranks.index_of(Name::Text(text(arena, string)?)),
+        Said::Type(descriptor) => ranks.index_of(Name::Desc(ty(arena, descriptor)?)),
+        Said::Field(class, name, kind) => {
+            ranks.index_of(Name::Field(field(arena, class, name, kind)?))
+        }
+        Said::Method(class, name, ret, params) => {
+            ranks.index_of(Name::Method(method(arena, class, name, ret, params)?))
+        }
+        Said::Proto(_, _) => None,
+    })
+}
+
+fn are_protos_ranked<'a>(arena: &'a Bump, ranks: &Ranks<'a>) -> Result<bool, Fault> {
+    for (_, ret, params, want) in &PROTOS {
+        if ranks.index_of_proto(proto(arena, ret, params)?) != Some(*want) {
+            return Ok(false);
+        }
+    }
+    Ok(true)
 }
 
 fn are_parts_beside(ranks: &Ranks<'_>) -> bool {
@@ -258,130 +333,83 @@ fn are_so_many(ranks: &Ranks<'_>, counts: [usize; 5]) -> bool {
         && ranks.methods().len() == methods
 }
 
-fn is_answered<'a>(
-    alloc: Global,
-    here: &'a Bump,
-    there: &'a Bump,
-    ranks: &Ranks<'a>,
-    asked: Asked,
-) -> Result<bool, Fault> {
-    match asked {
-        Asked::Shown(want) => are_shown_so(alloc, ranks, want),
-        Asked::Strings(cases) => Ok(first_string_elsewhere(there, ranks, cases)?.is_none()),
-        Asked::Types(cases) => Ok(first_type_elsewhere(here, ranks, cases)?.is_none()),
-        Asked::Prototypes => Ok(first_proto_elsewhere(here, ranks)?.is_none()),
-        Asked::Members => are_members_found(here, ranks),
-        Asked::Texts => are_texts_found(here, ranks),
-        Asked::Parts => Ok(are_parts_beside(ranks)),
-        Asked::Own => are_own_members_found(here, ranks),
-        Asked::Counts(counts) => Ok(are_so_many(ranks, counts)),
-    }
-}
-
-fn is_ranked_in<'a>(
-    alloc: Global,
-    here: &'a Bump,
-    there: &'a Bump,
-    added: Added,
-    asked: Asked,
-) -> Result<bool, Fault> {
-    let ranks = ranks_of(alloc, here, there, added)?;
-    ranks.holds_parts();
-    ranks.rise();
-    is_answered(alloc, here, there, &ranks, asked)
-}
-
-fn is_ranked_so(alloc: Global, added: Added, asked: Asked) -> Result<bool, Fault> {
-    let (here, there) = (Bump::new(alloc), Bump::new(alloc));
-    is_ranked_in(alloc, &here, &there, added, asked)
-}
-
-fn first_otherwise(alloc: Global, cases: &[Case]) -> Result<Option<&'static str>, Fault> {
-    for (what, added, asked) in cases {
-        if !is_ranked_so(alloc, *added, *asked)? {
-            return Ok(Some(*what));
-        }
-    }
-    Ok(None)
-}
+const PROTOS_SHOWN: &str =
+    "strings: I J V VI VII VJ \ntypes: I J V \nprotos: ()I ()V (I)V (II)V (J)V \nfields: \nmethods: ";
 
 #[rattlefmt::skip]
 #[test]
-fn a_method_alone_needs_its_class_its_name_and_its_prototype(rt: HostRuntime) -> Result<(), Fail> {
-    static CASES: [Case; 3] = [
-        ("all", Added::OneMethod, Asked::Shown("strings: LA; V m\ntypes: LA; V\nprotos: ()V\nfields:\nmethods: LA;->m()V")),
-        ("its strings", Added::OneMethod, Asked::Strings(&[("LA;", Some(0)), ("V", Some(1)), ("m", Some(2))])),
-        ("its types", Added::OneMethod, Asked::Types(&[("LA;", Some(0)), ("V", Some(1)), ("m", None)])),
-    ];
-    none_wrong(first_otherwise(rt.alloc(), &CASES))
-}
-
-#[test]
-fn prototypes_rank_by_return_type_and_then_by_parameters(rt: HostRuntime) -> Result<(), Fail> {
-    static CASES: [Case; 1] = [(
-        "each once",
-        Added::Prototypes(&[0, 1, 2, 3, 4]),
-        Asked::Prototypes,
-    )];
-    none_wrong(first_otherwise(rt.alloc(), &CASES))
-}
-
-#[rattlefmt::skip]
-#[test]
-fn names_added_twice_in_any_order_rank_as_before(rt: HostRuntime) -> Result<(), Fail> {
-    const SHOWN: &str = "strings: I J V VI VII VJ\ntypes: I J V\nprotos: ()I ()V (I)V (II)V (J)V\nfields:\nmethods:";
-    static CASES: [Case; 7] = [
-        ("each once", Added::Prototypes(&[0, 1, 2, 3, 4]), Asked::Shown(SHOWN)),
-        ("each twice", Added::Prototypes(&[0, 0, 1, 1, 2, 2, 3, 3, 4, 4]), Asked::Prototypes),
-        ("each twice, shown", Added::Prototypes(&[0, 0, 1, 1, 2, 2, 3, 3, 4, 4]), Asked::Shown(SHOWN)),
-        ("forwards and backwards", Added::Prototypes(&[0, 1, 2, 3, 4, 4, 3, 2, 1, 0]), Asked::Prototypes),
-        ("forwards and backwards, shown", Added::Prototypes(&[0, 1, 2, 3, 4, 4, 3, 2, 1, 0]), Asked::Shown(SHOWN)),
-        ("mixed", Added::Prototypes(&[3, 1, 4, 0, 2, 1, 2, 0, 3, 4]), Asked::Prototypes),
-        ("mixed, shown", Added::Prototypes(&[3, 1, 4, 0, 2, 1, 2, 0, 3, 4]), Asked::Shown(SHOWN)),
-    ];
-    none_wrong(first_otherwise(rt.alloc(), &CASES))
-}
-
-#[rattlefmt::skip]
-#[test]
-fn equal_names_of_two_arenas_are_one_name_of_each_kind(rt: HostRuntime) -> Result<(), Fail> {
-    static CASES: [Case; 6] = [
-        ("all", Added::Each, Asked::Shown("strings: I J LA; V VJ [I f m x\ntypes: I J LA; V [I\nprotos: ()V (J)V\nfields: LA;->f:I\nmethods: LA;->m()V")),
-        ("how many", Added::Each, Asked::Counts([9, 5, 2, 1, 1])),
-        (
-            "strings, by another arena's",
-            Added::Each,
-            Asked::Strings(&[("I", Some(0)), ("VJ", Some(4)), ("[I", Some(5)), ("f", Some(6)), ("x", Some(8)), ("y", None)]),
+fn names_added_in_any_order_rank_with_what_they_need(rt: HostRuntime) -> Result<(), Fail> {
+    static CASES: [Ranked; 15] = [
+        // A method alone needs its class, its name and its prototype.
+        Ranked(
+            "a method", Added::One(M),
+            Asked::Shown("strings: LA; V m \ntypes: LA; V \nprotos: ()V \nfields: \nmethods: LA;->m()V "),
         ),
-        (
-            "types, and strings that are none",
-            Added::Each,
-            Asked::Types(&[("I", Some(0)), ("J", Some(1)), ("LA;", Some(2)), ("V", Some(3)), ("[I", Some(4)), ("VJ", None)]),
+        Ranked("a method: the string LA;", Added::One(M), Asked::Rank(Said::Text("LA;"), Some(0))),
+        Ranked("a method: the string V", Added::One(M), Asked::Rank(Said::Text("V"), Some(1))),
+        Ranked("a method: the string m", Added::One(M), Asked::Rank(Said::Text("m"), Some(2))),
+        Ranked("a method: the type LA;", Added::One(M), Asked::Rank(Said::Type("LA;"), Some(0))),
+        Ranked("a method: the type V", Added::One(M), Asked::Rank(Said::Type("V"), Some(1))),
+        Ranked("a method: the type m", Added::One(M), Asked::Rank(Said::Type("m"), None)),
+        // Prototypes rank by return type and then by parameters, however often and in whatever order they are
+        // added.
+        Ranked("each once", Added::Prototypes(&[0, 1, 2, 3, 4]), Asked::Prototypes),
+        Ranked("each once, shown", Added::Prototypes(&[0, 1, 2, 3, 4]), Asked::Shown(PROTOS_SHOWN)),
+        Ranked("each twice", Added::Prototypes(&[0, 0, 1, 1, 2, 2, 3, 3, 4, 4]), Asked::Prototypes),
+        Ranked("each twice, shown", Added::Prototypes(&[0, 0, 1, 1, 2, 2, 3, 3, 4, 4]), Asked::Shown(PROTOS_SHOWN)),
+        Ranked("forwards and backwards", Added::Prototypes(&[0, 1, 2, 3, 4, 4, 3, 2, 1, 0]), Asked::Prototypes),
+        Ranked(
+            "forwards and backwards, shown", Added::Prototypes(&[0, 1, 2, 3, 4, 4, 3, 2, 1, 0]),
+            Asked::Shown(PROTOS_SHOWN),
         ),
-        ("a field and a method", Added::Each, Asked::Members),
-        ("a text as a string or as a type", Added::Each, Asked::Texts),
+        Ranked("mixed", Added::Prototypes(&[3, 1, 4, 0, 2, 1, 2, 0, 3, 4]), Asked::Prototypes),
+        Ranked("mixed, shown", Added::Prototypes(&[3, 1, 4, 0, 2, 1, 2, 0, 3, 4]), Asked::Shown(PROTOS_SHOWN)),
     ];
-    none_wrong(first_otherwise(rt.alloc(), &CASES))
+    all_hold(rt.alloc(), &CASES)
 }
 
 #[rattlefmt::skip]
 #[test]
-fn what_is_named_is_added_by_its_kind(rt: HostRuntime) -> Result<(), Fail> {
-    static CASES: [Case; 1] = [
-        ("all", Added::Names, Asked::Shown("strings: I J LA; V VJ [I f m x\ntypes: I J LA; V [I\nprotos: (J)V\nfields: LA;->f:I\nmethods: LA;->m(J)V")),
+fn names_of_each_kind_and_members_of_a_class_are_found_by_their_ranks(rt: HostRuntime) -> Result<(), Fail> {
+    static CASES: [Ranked; 24] = [
+        // Equal names of two arenas are one name of each kind.
+        Ranked(
+            "each twice", Added::Each,
+            Asked::Shown("strings: I J LA; V VJ [I f m x \ntypes: I J LA; V [I \nprotos: ()V (J)V \nfields: LA;->f:I \nmethods: LA;->m()V "),
+        ),
+        Ranked("how many", Added::Each, Asked::Counts([9, 5, 2, 1, 1])),
+        Ranked("the string I", Added::Each, Asked::Rank(Said::Text("I"), Some(0))),
+        Ranked("the string VJ", Added::Each, Asked::Rank(Said::Text("VJ"), Some(4))),
+        Ranked("the string [I", Added::Each, Asked::Rank(Said::Text("[I"), Some(5))),
+        Ranked("the string f", Added::Each, Asked::Rank(Said::Text("f"), Some(6))),
+        Ranked("the string x", Added::Each, Asked::Rank(Said::Text("x"), Some(8))),
+        Ranked("the string y", Added::Each, Asked::Rank(Said::Text("y"), None)),
+        Ranked("the type I", Added::Each, Asked::Rank(Said::Type("I"), Some(0))),
+        Ranked("the type J", Added::Each, Asked::Rank(Said::Type("J"), Some(1))),
+        Ranked("the type LA;", Added::Each, Asked::Rank(Said::Type("LA;"), Some(2))),
+        Ranked("the type V", Added::Each, Asked::Rank(Said::Type("V"), Some(3))),
+        Ranked("the type [I", Added::Each, Asked::Rank(Said::Type("[I"), Some(4))),
+        Ranked("the type VJ", Added::Each, Asked::Rank(Said::Type("VJ"), None)),
+        Ranked("the field", Added::Each, Asked::Rank(F, Some(0))),
+        Ranked("the method", Added::Each, Asked::Rank(M, Some(0))),
+        Ranked("the field as a name", Added::Each, Asked::RankOfName(F, Some(0))),
+        Ranked("the method as a name", Added::Each, Asked::RankOfName(M, Some(0))),
+        Ranked("a text as a name", Added::Each, Asked::RankOfName(Said::Text("x"), Some(8))),
+        Ranked("a type as a name", Added::Each, Asked::RankOfName(Said::Type("[I"), Some(4))),
+        // What is named is added by its kind.
+        Ranked(
+            "names", Added::Names,
+            Asked::Shown("strings: I J LA; V VJ [I f m x \ntypes: I J LA; V [I \nprotos: (J)V \nfields: LA;->f:I \nmethods: LA;->m(J)V "),
+        ),
+        // The members of a class are found by the ranks of their parts.
+        Ranked(
+            "members", Added::Members,
+            Asked::Shown("strings: I J LA; V VJ f g m \ntypes: I J LA; V \nprotos: ()V (J)V \nfields: LA;->f:I LA;->g:J \nmethods: LA;->m()V LA;->m(J)V "),
+        ),
+        Ranked("their parts", Added::Members, Asked::Parts),
+        Ranked("a member of each kind", Added::Members, Asked::Own),
     ];
-    none_wrong(first_otherwise(rt.alloc(), &CASES))
-}
-
-#[rattlefmt::skip]
-#[test]
-fn the_members_of_a_class_are_found_by_the_ranks_of_their_parts(rt: HostRuntime) -> Result<(), Fail> {
-    static CASES: [Case; 3] = [
-        ("all", Added::Members, Asked::Shown("strings: I J LA; V VJ f g m\ntypes: I J LA; V\nprotos: ()V (J)V\nfields: LA;->f:I LA;->g:J\nmethods: LA;->m()V LA;->m(J)V")),
-        ("their parts", Added::Members, Asked::Parts),
-        ("one of each kind", Added::Members, Asked::Own),
-    ];
-    none_wrong(first_otherwise(rt.alloc(), &CASES))
+    all_hold(rt.alloc(), &CASES)
 }
 
 // x, LA;->f:I, and x once more.
@@ -399,16 +427,13 @@ fn noted_ranks<'a>(alloc: Global, arena: &'a Bump) -> Result<Vec<usize>, Fault> 
 }
 
 // The strings are I, LA;, f and x; there is one field.
-fn noted_elsewhere(alloc: Global) -> Result<Option<&'static str>, Fault> {
+fn are_noted_so(alloc: Global) -> Result<bool, Fault> {
     let arena = Bump::new(alloc);
     let ranks = noted_ranks(alloc, &arena)?;
-    match ranks.as_slice() {
-        [3, 0, 3] => Ok(None),
-        _ => Ok(Some("ranks of what was noted")),
-    }
+    Ok(ranks.as_slice() == [3, 0, 3].as_slice())
 }
 
 #[test]
 fn what_is_noted_has_its_ranks_in_the_order_of_mention(rt: HostRuntime) -> Result<(), Fail> {
-    none_wrong(noted_elsewhere(rt.alloc()))
+    is_so(are_noted_so(rt.alloc()))
 }

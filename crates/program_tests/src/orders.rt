@@ -1,156 +1,114 @@
 //! The orders of names, which are those of the tables.
 
-use bumpalo::Bump;
+use crate::units::{A, AB, B, INT, INTS, LONG, VOID};
 use dex_base::Fault;
-use dex_samples::{field, method, none_wrong, proto, ty};
+use dex_samples::{Case, all_hold};
 use program_types::{
-    Str, desc_cmp, desc_eq, field_ref_cmp, field_ref_eq, method_ref_cmp, method_ref_eq, proto_cmp,
-    proto_eq, str_cmp, str_eq,
+    Desc, FieldRef, MethodRef, Proto, Str, desc_cmp, desc_eq, field_ref_cmp, field_ref_eq,
+    method_ref_cmp, method_ref_eq, proto_cmp, proto_eq, str_cmp, str_eq,
 };
+use std::alloc::Global;
 use std::cmp::Ordering;
 use std::test::Fail;
 
-// Whether the first of two strings is the lower one, both ways.
-fn is_lower(low: &Str<'_>, high: &Str<'_>) -> bool {
-    str_cmp(low, high) == Ordering::Less
-        && str_cmp(high, low) == Ordering::Greater
-        && !str_eq(low, high)
+enum Named {
+    Text(Str<'static>),
+    Type(Desc<'static>),
+    Proto(Proto<'static>),
+    Field(FieldRef<'static>),
+    Method(MethodRef<'static>),
 }
 
-fn is_equal(one: &Str<'_>, other: &Str<'_>) -> bool {
-    str_cmp(one, other) == Ordering::Equal && str_eq(one, other)
-}
+// What a name is called, its place among those of its kind, the name.
+struct Placed(&'static str, usize, Named);
 
-// The first case whose strings do not rise.
-fn first_not_rising(cases: &[(&'static str, &[u16], &[u16])]) -> Option<&'static str> {
-    for (what, low, high) in cases {
-        let (one, twin, other) = (Str { units: low }, Str { units: low }, Str { units: high });
-        if !is_lower(&one, &other) || !is_equal(&one, &twin) {
-            return Some(*what);
-        }
+impl Case for Placed {
+    fn name(&self) -> &'static str {
+        self.0
     }
-    None
-}
 
-#[test]
-fn strings_are_ordered_by_units() -> Result<(), Fail> {
-    static CASES: [(&str, &[u16], &[u16]); 4] = [
-        ("nothing, the unit 0", &[], &[0]),
-        ("the unit 0, a", &[0], &[0x61]),
-        ("a, a and the unit 0", &[0x61], &[0x61, 0]),
-        ("U+10000, U+FFFF", &[0xd800, 0xdc00], &[0xffff]),
-    ];
-    none_wrong(Ok(first_not_rising(&CASES)))
-}
-
-// Whether two names of a rising row compare as their places in it.
-fn is_as_places(order: Ordering, equal: bool, i: usize, j: usize) -> bool {
-    order == i.cmp(&j) && equal == (i == j)
-}
-
-// The first type of a rising row that is not ordered as its place.
-fn first_type_elsewhere(
-    arena: &Bump,
-    rising: &[&'static str],
-) -> Result<Option<&'static str>, Fault> {
-    for (i, low) in rising.iter().enumerate() {
-        for (j, high) in rising.iter().enumerate() {
-            let (one, other) = (ty(arena, low)?, ty(arena, high)?);
-            if !is_as_places(desc_cmp(&one, &other), desc_eq(&one, &other), i, j) {
-                return Ok(Some(*low));
+    // Each compares with each of its kind as their places do.
+    fn holds(&self, _alloc: Global) -> Result<bool, Fault> {
+        for other in &NAMES {
+            if !is_as_places(self, other) {
+                return Ok(false);
             }
         }
+        Ok(true)
     }
-    Ok(None)
 }
+
+fn is_as_places(one: &Placed, other: &Placed) -> bool {
+    match compared(&one.2, &other.2) {
+        Some((order, equal)) => order == one.1.cmp(&other.1) && equal == (one.1 == other.1),
+        None => true,
+    }
+}
+
+// How two names of one kind compare, and whether they are equal.
+fn compared(one: &Named, other: &Named) -> Option<(Ordering, bool)> {
+    match (one, other) {
+        (Named::Text(a), Named::Text(b)) => Some((str_cmp(a, b), str_eq(a, b))),
+        (Named::Type(a), Named::Type(b)) => Some((desc_cmp(a, b), desc_eq(a, b))),
+        (Named::Proto(a), Named::Proto(b)) => Some((proto_cmp(a, b), proto_eq(a, b))),
+        (Named::Field(a), Named::Field(b)) => Some((field_ref_cmp(a, b), field_ref_eq(a, b))),
+        (Named::Method(a), Named::Method(b)) => Some((method_ref_cmp(a, b), method_ref_eq(a, b))),
+        _ => None,
+    }
+}
+
+const F: Str<'static> = Str { units: &[0x66] };
+
+const G: Str<'static> = Str { units: &[0x67] };
+
+const X: Str<'static> = Str { units: &[0x78] };
+
+const Y: Str<'static> = Str { units: &[0x79] };
+
+const CLONE: Str<'static> = Str {
+    units: &[0x63, 0x6c, 0x6f, 0x6e, 0x65],
+};
+
+const TO_INT: Proto<'static> = Proto {
+    ret: INT,
+    params: &[],
+};
+
+const TO_VOID: Proto<'static> = Proto {
+    ret: VOID,
+    params: &[],
+};
+
+// Those of each kind rise. U+10000 is the units d800 dc00.
+#[rattlefmt::skip]
+static NAMES: [Placed; 24] = [
+    Placed("nothing", 0, Named::Text(Str { units: &[] })),
+    Placed("the unit 0", 1, Named::Text(Str { units: &[0] })),
+    Placed("a", 2, Named::Text(Str { units: &[0x61] })),
+    Placed("a and the unit 0", 3, Named::Text(Str { units: &[0x61, 0] })),
+    Placed("U+10000", 4, Named::Text(Str { units: &[0xd800, 0xdc00] })),
+    Placed("U+FFFF", 5, Named::Text(Str { units: &[0xffff] })),
+    Placed("I", 0, Named::Type(INT)),
+    Placed("LA;", 1, Named::Type(A)),
+    Placed("LAB;", 2, Named::Type(AB)),
+    Placed("V", 3, Named::Type(VOID)),
+    Placed("[I", 4, Named::Type(INTS)),
+    Placed("()I", 0, Named::Proto(TO_INT)),
+    Placed("()V", 1, Named::Proto(TO_VOID)),
+    Placed("(I)V", 2, Named::Proto(Proto { ret: VOID, params: &[INT] })),
+    Placed("(II)V", 3, Named::Proto(Proto { ret: VOID, params: &[INT, INT] })),
+    Placed("(J)V", 4, Named::Proto(Proto { ret: VOID, params: &[LONG] })),
+    Placed("LA;->x:J", 0, Named::Field(FieldRef { class: A, name: X, ty: LONG })),
+    Placed("LA;->y:I", 1, Named::Field(FieldRef { class: A, name: Y, ty: INT })),
+    Placed("LA;->y:J", 2, Named::Field(FieldRef { class: A, name: Y, ty: LONG })),
+    Placed("LB;->a:B", 3, Named::Field(FieldRef { class: B, name: Str { units: &[0x61] }, ty: Desc { text: Str { units: &[0x42] } } })),
+    Placed("LA;->f()V", 0, Named::Method(MethodRef { class: A, name: F, proto: &TO_VOID })),
+    Placed("LA;->g()I", 1, Named::Method(MethodRef { class: A, name: G, proto: &TO_INT })),
+    Placed("LA;->g()V", 2, Named::Method(MethodRef { class: A, name: G, proto: &TO_VOID })),
+    Placed("[I->clone()I", 3, Named::Method(MethodRef { class: INTS, name: CLONE, proto: &TO_INT })),
+];
 
 #[test]
-fn types_are_ordered_by_descriptor(rt: HostRuntime) -> Result<(), Fail> {
-    static RISING: [&str; 5] = ["I", "LA;", "LAB;", "V", "[I"];
-    let arena = Bump::new(rt.alloc());
-    none_wrong(first_type_elsewhere(&arena, &RISING))
-}
-
-// What a prototype is called, its return type, its parameters.
-type Prototype = (&'static str, &'static str, &'static [&'static str]);
-
-fn first_prototype_elsewhere(
-    arena: &Bump,
-    rising: &[Prototype],
-) -> Result<Option<&'static str>, Fault> {
-    for (i, low) in rising.iter().enumerate() {
-        for (j, high) in rising.iter().enumerate() {
-            let (one, other) = (proto(arena, low.1, low.2)?, proto(arena, high.1, high.2)?);
-            if !is_as_places(proto_cmp(one, other), proto_eq(one, other), i, j) {
-                return Ok(Some(low.0));
-            }
-        }
-    }
-    Ok(None)
-}
-
-#[test]
-fn prototypes_are_ordered_by_return_type_then_parameters(rt: HostRuntime) -> Result<(), Fail> {
-    static RISING: [Prototype; 5] = [
-        ("()I", "I", &[]),
-        ("()V", "V", &[]),
-        ("(I)V", "V", &["I"]),
-        ("(II)V", "V", &["I", "I"]),
-        ("(J)V", "V", &["J"]),
-    ];
-    let arena = Bump::new(rt.alloc());
-    none_wrong(first_prototype_elsewhere(&arena, &RISING))
-}
-
-// What a member is called, its class, its name, its type or its return type.
-type Named = (&'static str, &'static str, &'static str, &'static str);
-
-fn first_field_elsewhere(arena: &Bump, rising: &[Named]) -> Result<Option<&'static str>, Fault> {
-    for (i, low) in rising.iter().enumerate() {
-        for (j, high) in rising.iter().enumerate() {
-            let one = field(arena, low.1, low.2, low.3)?;
-            let other = field(arena, high.1, high.2, high.3)?;
-            if !is_as_places(field_ref_cmp(one, other), field_ref_eq(one, other), i, j) {
-                return Ok(Some(low.0));
-            }
-        }
-    }
-    Ok(None)
-}
-
-#[test]
-fn fields_are_ordered_by_class_name_and_type(rt: HostRuntime) -> Result<(), Fail> {
-    static RISING: [Named; 4] = [
-        ("LA;->x:J", "LA;", "x", "J"),
-        ("LA;->y:I", "LA;", "y", "I"),
-        ("LA;->y:J", "LA;", "y", "J"),
-        ("LB;->a:B", "LB;", "a", "B"),
-    ];
-    let arena = Bump::new(rt.alloc());
-    none_wrong(first_field_elsewhere(&arena, &RISING))
-}
-
-fn first_method_elsewhere(arena: &Bump, rising: &[Named]) -> Result<Option<&'static str>, Fault> {
-    for (i, low) in rising.iter().enumerate() {
-        for (j, high) in rising.iter().enumerate() {
-            let one = method(arena, low.1, low.2, low.3, &[])?;
-            let other = method(arena, high.1, high.2, high.3, &[])?;
-            if !is_as_places(method_ref_cmp(one, other), method_ref_eq(one, other), i, j) {
-                return Ok(Some(low.0));
-            }
-        }
-    }
-    Ok(None)
-}
-
-#[test]
-fn methods_are_ordered_by_class_name_and_prototype(rt: HostRuntime) -> Result<(), Fail> {
-    static RISING: [Named; 4] = [
-        ("LA;->f()V", "LA;", "f", "V"),
-        ("LA;->g()I", "LA;", "g", "I"),
-        ("LA;->g()V", "LA;", "g", "V"),
-        ("[I->clone()I", "[I", "clone", "I"),
-    ];
-    let arena = Bump::new(rt.alloc());
-    none_wrong(first_method_elsewhere(&arena, &RISING))
+fn names_of_each_kind_are_ordered_by_their_parts(rt: HostRuntime) -> Result<(), Fail> {
+    all_hold(rt.alloc(), &NAMES)
 }

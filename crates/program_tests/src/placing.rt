@@ -1,8 +1,9 @@
 //! Names are placed in an arena as they are.
 
+use crate::units::{INT, LONGS, VOID};
 use bumpalo::Bump;
 use dex_base::Fault;
-use dex_samples::{first_unit, is_so, ty};
+use dex_samples::{Case, all_hold, first_unit, ty};
 use program_types::{place_descs, place_proto, place_str};
 use std::alloc::Global;
 use std::test::Fail;
@@ -12,19 +13,8 @@ fn is_string_placed(arena: &Bump) -> Result<bool, Fault> {
     Ok(placed.units == [0x6d, 0xd800, 0].as_slice())
 }
 
-#[test]
-fn a_string_is_placed_unit_by_unit(rt: HostRuntime) -> Result<(), Fail> {
-    let arena = Bump::new(rt.alloc());
-    is_so(is_string_placed(&arena))
-}
-
 fn is_first_unit_read(alloc: Global) -> Result<bool, Fault> {
     Ok(first_unit(alloc, &[0x6d, 0xd800, 0])? == Some(0x6d))
-}
-
-#[test]
-fn what_is_read_from_an_arena_outlives_it(rt: HostRuntime) -> Result<(), Fail> {
-    is_so(is_first_unit_read(rt.alloc()))
 }
 
 fn are_rows_placed(arena: &Bump) -> Result<bool, Fault> {
@@ -33,21 +23,51 @@ fn are_rows_placed(arena: &Bump) -> Result<bool, Fault> {
     Ok(placed == [three, one, three].as_slice())
 }
 
-#[test]
-fn rows_of_a_table_are_placed_in_their_order(rt: HostRuntime) -> Result<(), Fail> {
-    let arena = Bump::new(rt.alloc());
-    is_so(are_rows_placed(&arena))
-}
-
 fn is_prototype_placed(arena: &Bump) -> Result<bool, Fault> {
-    let (void, int, longs) = (ty(arena, "V")?, ty(arena, "I")?, ty(arena, "[J")?);
-    let params = place_descs(arena, &[int, longs], &[0, 1])?;
-    let placed = place_proto(arena, void, params)?;
-    Ok(placed.ret == void && placed.params == [int, longs].as_slice())
+    let params = place_descs(arena, &[INT, LONGS], &[0, 1])?;
+    let placed = place_proto(arena, VOID, params)?;
+    Ok(placed.ret == VOID && placed.params == [INT, LONGS].as_slice())
+}
+
+// What is placed.
+enum Placed {
+    String,
+    // what is read of it outlives the arena
+    FirstUnit,
+    // rows of a table, in their order
+    Rows,
+    // a prototype, with its types
+    Prototype,
+}
+
+impl Case for Placed {
+    fn name(&self) -> &'static str {
+        match self {
+            Placed::String => "a string",
+            Placed::FirstUnit => "what is read from an arena",
+            Placed::Rows => "rows of a table",
+            Placed::Prototype => "a prototype",
+        }
+    }
+
+    fn holds(&self, alloc: Global) -> Result<bool, Fault> {
+        let arena = Bump::new(alloc);
+        match self {
+            Placed::String => is_string_placed(&arena),
+            Placed::FirstUnit => is_first_unit_read(alloc),
+            Placed::Rows => are_rows_placed(&arena),
+            Placed::Prototype => is_prototype_placed(&arena),
+        }
+    }
 }
 
 #[test]
-fn a_prototype_is_placed_with_its_types(rt: HostRuntime) -> Result<(), Fail> {
-    let arena = Bump::new(rt.alloc());
-    is_so(is_prototype_placed(&arena))
+fn names_are_placed_as_they_are(rt: HostRuntime) -> Result<(), Fail> {
+    static CASES: [Placed; 4] = [
+        Placed::String,
+        Placed::FirstUnit,
+        Placed::Rows,
+        Placed::Prototype,
+    ];
+    all_hold(rt.alloc(), &CASES)
 }

@@ -5,76 +5,73 @@ use dex_samples::{put_field, put_method, put_proto, put_units};
 use std::alloc::Global;
 use tables_names::Ranks;
 
-// More than any kind of these tests has.
-const NAMES: u32 = 100;
+#[derive(Clone, Copy)]
+enum Kind {
+    Strings,
+    Types,
+    Protos,
+    Fields,
+    Methods,
+}
 
-/// A line for each kind, and each name after a space, up to the first rank that has none.
+// What stands before the names of each kind.
+static KINDS: [(&str, Kind); 5] = [
+    ("strings: ", Kind::Strings),
+    ("\ntypes: ", Kind::Types),
+    ("\nprotos: ", Kind::Protos),
+    ("\nfields: ", Kind::Fields),
+    ("\nmethods: ", Kind::Methods),
+];
+
+/// A line for each kind, and each name before a space, up to the first rank that has none.
 pub fn shown_ranks(alloc: Global, ranks: &Ranks<'_>) -> Result<String, Fault> {
     let mut text = String::new(alloc);
-    put_strings(&mut text, ranks)?;
-    put_types_by_rank(&mut text, ranks)?;
-    put_protos(&mut text, ranks)?;
-    put_fields(&mut text, ranks)?;
-    put_methods(&mut text, ranks)?;
+    put_kinds(&mut text, ranks)?;
     Ok(text)
 }
 
-fn put_strings(text: &mut String, ranks: &Ranks<'_>) -> Result<(), Fault> {
-    text.push_str("strings:")?;
-    for rank in 0..NAMES {
-        let Some(string) = ranks.string(rank) else {
-            break;
-        };
-        text.push(' ')?;
-        put_units(text, string)?;
+fn put_kinds(text: &mut String, ranks: &Ranks<'_>) -> Result<(), Fault> {
+    for (heading, kind) in &KINDS {
+        text.push_str(heading)?;
+        put_names(text, ranks, *kind)?;
     }
     Ok(())
 }
 
-fn put_types_by_rank(text: &mut String, ranks: &Ranks<'_>) -> Result<(), Fault> {
-    text.push_str("\ntypes:")?;
-    for rank in 0..NAMES {
-        let Some(ty) = ranks.type_(rank) else {
+fn put_names(text: &mut String, ranks: &Ranks<'_>, kind: Kind) -> Result<(), Fault> {
+    // more than any kind of these tests has
+    for rank in 0..100 {
+        if !put_name_at(text, ranks, kind, rank)? {
             break;
-        };
-        text.push(' ')?;
-        put_units(text, ty.text)?;
+        }
     }
     Ok(())
 }
 
-fn put_protos(text: &mut String, ranks: &Ranks<'_>) -> Result<(), Fault> {
-    text.push_str("\nprotos:")?;
-    for rank in 0..NAMES {
-        let Some(proto) = ranks.proto(rank) else {
-            break;
-        };
-        text.push(' ')?;
-        put_proto(text, &proto)?;
+// Adds the name of this rank and a space, if there is one, and tells whether there is.
+fn put_name_at(text: &mut String, ranks: &Ranks<'_>, kind: Kind, rank: u32) -> Result<bool, Fault> {
+    match kind {
+        Kind::Strings => match ranks.string(rank) {
+            Some(string) => put_units(text, string)?,
+            None => return Ok(false),
+        },
+        Kind::Types => match ranks.type_(rank) {
+            Some(ty) => put_units(text, ty.text)?,
+            None => return Ok(false),
+        },
+        Kind::Protos => match ranks.proto(rank) {
+            Some(proto) => put_proto(text, &proto)?,
+            None => return Ok(false),
+        },
+        Kind::Fields => match ranks.field(rank) {
+            Some(field) => put_field(text, &field)?,
+            None => return Ok(false),
+        },
+        Kind::Methods => match ranks.method(rank) {
+            Some(method) => put_method(text, &method)?,
+            None => return Ok(false),
+        },
     }
-    Ok(())
-}
-
-fn put_fields(text: &mut String, ranks: &Ranks<'_>) -> Result<(), Fault> {
-    text.push_str("\nfields:")?;
-    for rank in 0..NAMES {
-        let Some(field) = ranks.field(rank) else {
-            break;
-        };
-        text.push(' ')?;
-        put_field(text, &field)?;
-    }
-    Ok(())
-}
-
-fn put_methods(text: &mut String, ranks: &Ranks<'_>) -> Result<(), Fault> {
-    text.push_str("\nmethods:")?;
-    for rank in 0..NAMES {
-        let Some(method) = ranks.method(rank) else {
-            break;
-        };
-        text.push(' ')?;
-        put_method(text, &method)?;
-    }
-    Ok(())
+    text.push(' ')?;
+    Ok(true)
 }

@@ -1,70 +1,119 @@
 //! Programs that keep their rules, and programs that break one.
 
 use crate::depths::nested;
+use crate::units::{A, B, INT, INTS, VOID};
 use bumpalo::Bump;
 use bumpalo::collections::into_bump_slice;
 use dex_base::{Fault, fault};
-use dex_samples::{is_so, none_wrong};
-use program_rules::{well_formed, well_formed_in};
+use dex_samples::{Case, all_hold};
+use program_rules::{well_formed, well_formed_in, well_formed_named_in};
 use program_types::{
     Catch, Class, Code, Desc, Insn, Member, Method, Name, Program, Proto, Str, Try, Value,
 };
 use std::alloc::Global;
 use std::test::Fail;
 
-// Classes, the fault of the first that breaks a rule, 0 where all keep them, and that class's number.
-type Ruled = (&'static str, &'static [Class<'static>], u16, u64);
+// What a program is.
+#[derive(Clone, Copy)]
+enum Given {
+    Classes(&'static [Class<'static>]),
+    // a class whose one method has this body
+    Body(&'static Code<'static>),
+    // a class whose static field has a value of so many arrays, one in the other
+    Nested(u32),
+}
 
-fn answers_so(answer: Result<(), Fault>, code: u16, place: u64) -> bool {
+// What the program is, the fault of its first class that breaks a rule, 0 where all keep them, and that class's number.
+struct Ruled(&'static str, Given, u16, u64);
+
+impl Case for Ruled {
+    fn name(&self) -> &'static str {
+        self.0
+    }
+
+    fn holds(&self, alloc: Global) -> Result<bool, Fault> {
+        match self.1 {
+            Given::Classes(classes) => Ok(is_ruled_so(alloc, classes, self)),
+            Given::Body(code) => is_body_ruled_so(alloc, code, self),
+            Given::Nested(arrays) => is_nested_ruled_so(alloc, arrays, self),
+        }
+    }
+}
+
+fn answers_so(answer: Result<(), Fault>, case: &Ruled) -> bool {
     match answer {
-        Ok(()) => code == 0,
-        Err(fault) => fault.code == code && fault.place == place,
+        Ok(()) => case.2 == 0,
+        Err(fault) => fault.code == case.2 && fault.place == case.3,
     }
 }
 
 // Without memory and by hash.
-fn is_ruled_so<'a>(alloc: Global, classes: &'a [Class<'a>], code: u16, place: u64) -> bool {
+fn is_ruled_so<'a>(alloc: Global, classes: &'a [Class<'a>], case: &Ruled) -> bool {
     let program = Program { classes };
-    answers_so(well_formed(&program), code, place)
-        && answers_so(well_formed_in(alloc, &program), code, place)
+    answers_so(well_formed(&program), case)
+        && answers_so(well_formed_in(alloc, &program), case)
+        && answers_so(well_formed_named_in(alloc, &program, false), case)
 }
 
-fn first_ruled_otherwise(alloc: Global, cases: &[Ruled]) -> Option<&'static str> {
-    for (what, classes, code, place) in cases {
-        if !is_ruled_so(alloc, classes, *code, *place) {
-            return Some(*what);
-        }
+fn is_body_ruled_so(alloc: Global, code: &Code<'_>, case: &Ruled) -> Result<bool, Fault> {
+    let arena = Bump::new(alloc);
+    let classes = with_body(&arena, code)?;
+    Ok(is_ruled_so(alloc, classes, case))
+}
+
+fn with_body<'a>(arena: &'a Bump, code: &'a Code<'a>) -> Result<&'a [Class<'a>], Fault> {
+    let mut directs = Vec::new(arena);
+    directs.push(method_with(code))?;
+    let mut classes = Vec::new(arena);
+    classes.push(class_with(&[], &[], into_bump_slice(directs)))?;
+    Ok(into_bump_slice(classes))
+}
+
+fn method_with<'a>(code: &'a Code<'a>) -> Method<'a> {
+    Method {
+        code: Some(code),
+        ..METHOD
     }
-    None
 }
 
-// `LA;`, `LB;`, `V`, `I`, `[I`, and names.
-const A: Desc<'static> = Desc {
-    text: Str {
-        units: &[0x4c, 0x41, 0x3b],
-    },
-};
+fn is_nested_ruled_so(alloc: Global, arrays: u32, case: &Ruled) -> Result<bool, Fault> {
+    let arena = Bump::new(alloc);
+    let classes = with_nested(&arena, arrays)?;
+    Ok(is_ruled_so(alloc, classes, case))
+}
 
-const B: Desc<'static> = Desc {
-    text: Str {
-        units: &[0x4c, 0x42, 0x3b],
-    },
-};
+fn with_nested<'a>(arena: &'a Bump, arrays: u32) -> Result<&'a [Class<'a>], Fault> {
+    let value = nested(arena, Value::Null, arrays)?;
+    let mut values = Vec::new(arena);
+    values.push(value)?;
+    let mut statics = Vec::new(arena);
+    statics.push(FIELD)?;
+    let mut classes = Vec::new(arena);
+    classes.push(class_with(into_bump_slice(statics), into_bump_slice(values), &[]))?;
+    Ok(into_bump_slice(classes))
+}
 
-const VOID: Desc<'static> = Desc {
-    text: Str { units: &[0x56] },
-};
+// The class `LA;` with these static fields, values and methods alone.
+fn class_with<'a>(
+    statics: &'a [Member<'a>],
+    values: &'a [Value<'a>],
+    directs: &'a [Method<'a>],
+) -> Class<'a> {
+    Class {
+        ty: A,
+        flags: 0,
+        superclass: None,
+        interfaces: &[],
+        source: None,
+        statics,
+        values,
+        instances: &[],
+        directs,
+        virtuals: &[],
+    }
+}
 
-const INT: Desc<'static> = Desc {
-    text: Str { units: &[0x49] },
-};
-
-const INTS: Desc<'static> = Desc {
-    text: Str {
-        units: &[0x5b, 0x49],
-    },
-};
-
+// `L;`, which is no descriptor, and names.
 const NO_TYPE: Desc<'static> = Desc {
     text: Str {
         units: &[0x4c, 0x3b],
@@ -143,90 +192,7 @@ const METHOD: Method<'static> = Method {
     code: None,
 };
 
-#[rattlefmt::skip]
-#[test]
-fn names_and_kinds_of_types_are_ruled(rt: HostRuntime) -> Result<(), Fail> {
-    static CASES: [Ruled; 9] = [
-        ("no class", &[], 0, 0),
-        ("a class with a field, a method and a superclass", &[Class { superclass: Some(B), statics: &[FIELD], directs: &[METHOD], ..EMPTY }], 0, 0),
-        ("a class that is an array", &[Class { ty: INTS, ..EMPTY }], fault::PROGRAM_NAME, 0),
-        ("a superclass that is no type", &[EMPTY, Class { superclass: Some(NO_TYPE), ..SECOND }], fault::PROGRAM_NAME, 1),
-        ("a field that is void", &[Class { instances: &[Member { ty: VOID, ..FIELD }], ..EMPTY }], fault::PROGRAM_NAME, 0),
-        ("a field without a name", &[Class { statics: &[Member { name: NO_NAME, ..FIELD }], ..EMPTY }], fault::PROGRAM_NAME, 0),
-        ("a parameter that is void", &[Class { virtuals: &[Method { proto: &Proto { ret: INT, params: &[VOID] }, ..METHOD }], ..EMPTY }], fault::PROGRAM_NAME, 0),
-        ("a virtual method with an opcode of another format", &[Class { virtuals: &[Method { code: Some(&Code { insns: &[Insn::I10x { op: 0x01 }], ..BODY }), ..METHOD }], ..EMPTY }], fault::PROGRAM_OPERAND, 0),
-        ("an array in a value that names no type", &[Class { statics: &[FIELD], values: &[Value::Array(&[Value::Null, Value::Desc(NO_TYPE)])], ..EMPTY }], fault::PROGRAM_NAME, 0),
-    ];
-    none_wrong(Ok(first_ruled_otherwise(rt.alloc(), &CASES)))
-}
-
-#[rattlefmt::skip]
-#[test]
-fn the_orders_of_members_and_classes_and_values_are_ruled(rt: HostRuntime) -> Result<(), Fail> {
-    static CASES: [Ruled; 14] = [
-        ("fields by name", &[Class { statics: &[FIELD, OTHER], ..EMPTY }], 0, 0),
-        ("fields that fall", &[Class { statics: &[OTHER, FIELD], ..EMPTY }], fault::PROGRAM_MEMBER_ORDER, 0),
-        ("a method given twice", &[Class { directs: &[METHOD, METHOD], ..EMPTY }], fault::PROGRAM_MEMBER_ORDER, 0),
-        ("a class after its superclass", &[EMPTY, Class { superclass: Some(A), ..SECOND }], 0, 0),
-        ("a class before its superclass", &[Class { superclass: Some(B), ..EMPTY }, SECOND], fault::PROGRAM_CLASS_ORDER, 0),
-        ("a class that is its own interface", &[EMPTY, Class { interfaces: &[B], ..SECOND }], fault::PROGRAM_CLASS_ORDER, 1),
-        ("a class defined twice", &[EMPTY, EMPTY], fault::PROGRAM_CLASS_ORDER, 1),
-        ("a class before its superclass that is defined twice", &[EMPTY, Class { superclass: Some(A), ..SECOND }, EMPTY], fault::PROGRAM_CLASS_ORDER, 1),
-        ("nine interfaces", &[Class { interfaces: &NINE, ..EMPTY }], 0, 0),
-        ("nine interfaces and the first again", &[SECOND, Class { interfaces: &TEN, ..EMPTY }], fault::PROGRAM_CLASS_ORDER, 1),
-        ("an interface given twice", &[Class { interfaces: &[B, B], ..EMPTY }], fault::PROGRAM_CLASS_ORDER, 0),
-        ("a field without a name, in a class that is its own superclass", &[Class { superclass: Some(A), statics: &[Member { name: NO_NAME, ..FIELD }], ..EMPTY }], fault::PROGRAM_NAME, 0),
-        ("a class that is its own superclass, before one with a field without a name", &[Class { superclass: Some(A), ..EMPTY }, Class { statics: &[Member { name: NO_NAME, ..FIELD }], ..SECOND }], fault::PROGRAM_CLASS_ORDER, 0),
-        ("a value and no static field", &[Class { values: &[Value::Null], instances: &[FIELD], ..EMPTY }], fault::PROGRAM_VALUES, 0),
-    ];
-    none_wrong(Ok(first_ruled_otherwise(rt.alloc(), &CASES)))
-}
-
-// The class `LA;` with these static fields and values alone.
-fn class_with<'a>(statics: &'a [Member<'a>], values: &'a [Value<'a>]) -> Class<'a> {
-    Class {
-        ty: A,
-        flags: 0,
-        superclass: None,
-        interfaces: &[],
-        source: None,
-        statics,
-        values,
-        instances: &[],
-        directs: &[],
-        virtuals: &[],
-    }
-}
-
-// The number that answers a class whose static field has a value of so many arrays, one in the other: 0 where it is well formed.
-fn answer_of_nested(arena: &Bump, arrays: u32) -> Result<u16, Fault> {
-    let value = nested(arena, Value::Null, arrays)?;
-    let mut values = Vec::new(arena);
-    values.push(value)?;
-    let mut statics = Vec::new(arena);
-    statics.push(FIELD)?;
-    let mut classes = Vec::new(arena);
-    classes.push(class_with(into_bump_slice(statics), into_bump_slice(values)))?;
-    let classes = into_bump_slice(classes);
-    match well_formed(&Program { classes }) {
-        Ok(()) => Ok(0),
-        Err(fault) => Ok(fault.code),
-    }
-}
-
-fn are_64_arrays_the_most(arena: &Bump) -> Result<bool, Fault> {
-    let most = answer_of_nested(arena, 64)?;
-    let one_more = answer_of_nested(arena, 65)?;
-    Ok(most == 0 && one_more == fault::PROGRAM_VALUES)
-}
-
-#[test]
-fn a_value_of_64_arrays_is_ruled_otherwise_than_one_of_65(rt: HostRuntime) -> Result<(), Fail> {
-    let arena = Bump::new(rt.alloc());
-    is_so(are_64_arrays_the_most(&arena))
-}
-
-// A class with one method, whose code has these instructions and tries.
+// The code of one return-void.
 const BODY: Code<'static> = Code {
     registers: 1,
     ins: 0,
@@ -242,84 +208,207 @@ const COVER: Try<'static> = Try {
     catch_all: None,
 };
 
-// A body, and the fault of a class whose one method has it.
-type RuledBody = (&'static str, &'static Code<'static>, u16);
-
-fn method_with<'a>(code: &'a Code<'a>) -> Method<'a> {
-    Method {
-        code: Some(code),
-        ..METHOD
-    }
-}
-
-fn class_of<'a>(directs: &'a [Method<'a>]) -> Class<'a> {
-    Class { directs, ..EMPTY }
-}
-
-fn classes_of<'a>(arena: &'a Bump, code: &'a Code<'a>) -> Result<&'a [Class<'a>], Fault> {
-    let mut directs = Vec::new(arena);
-    directs.push(method_with(code))?;
-    let mut classes = Vec::new(arena);
-    classes.push(class_of(into_bump_slice(directs)))?;
-    Ok(into_bump_slice(classes))
-}
-
-fn first_body_ruled_otherwise(
-    alloc: Global,
-    arena: &Bump,
-    cases: &[RuledBody],
-) -> Result<Option<&'static str>, Fault> {
-    for (what, code, fault) in cases {
-        let classes = classes_of(arena, code)?;
-        if !is_ruled_so(alloc, classes, *fault, 0) {
-            return Ok(Some(*what));
-        }
-    }
-    Ok(None)
+#[rattlefmt::skip]
+#[test]
+fn names_kinds_of_types_and_the_orders_of_members_classes_and_values_are_ruled(rt: HostRuntime) -> Result<(), Fail> {
+    static CASES: [Ruled; 25] = [
+        Ruled("no class", Given::Classes(&[]), 0, 0),
+        Ruled(
+            "a class with a field, a method and a superclass",
+            Given::Classes(&[Class { superclass: Some(B), statics: &[FIELD], directs: &[METHOD], ..EMPTY }]), 0, 0,
+        ),
+        Ruled("a class that is an array", Given::Classes(&[Class { ty: INTS, ..EMPTY }]), fault::PROGRAM_NAME, 0),
+        Ruled(
+            "a superclass that is no type", Given::Classes(&[EMPTY, Class { superclass: Some(NO_TYPE), ..SECOND }]),
+            fault::PROGRAM_NAME, 1,
+        ),
+        Ruled(
+            "a field that is void", Given::Classes(&[Class { instances: &[Member { ty: VOID, ..FIELD }], ..EMPTY }]),
+            fault::PROGRAM_NAME, 0,
+        ),
+        Ruled(
+            "a field without a name",
+            Given::Classes(&[Class { statics: &[Member { name: NO_NAME, ..FIELD }], ..EMPTY }]), fault::PROGRAM_NAME,
+            0,
+        ),
+        Ruled(
+            "a parameter that is void",
+            Given::Classes(&[Class { virtuals: &[Method { proto: &Proto { ret: INT, params: &[VOID] }, ..METHOD }], ..EMPTY }]),
+            fault::PROGRAM_NAME, 0,
+        ),
+        Ruled(
+            "a virtual method with an opcode of another format",
+            Given::Classes(&[Class { virtuals: &[Method { code: Some(&Code { insns: &[Insn::I10x { op: 0x01 }], ..BODY }), ..METHOD }], ..EMPTY }]),
+            fault::PROGRAM_OPERAND, 0,
+        ),
+        Ruled(
+            "an array in a value that names no type",
+            Given::Classes(&[Class { statics: &[FIELD], values: &[Value::Array(&[Value::Null, Value::Desc(NO_TYPE)])], ..EMPTY }]),
+            fault::PROGRAM_NAME, 0,
+        ),
+        Ruled("fields by name", Given::Classes(&[Class { statics: &[FIELD, OTHER], ..EMPTY }]), 0, 0),
+        Ruled(
+            "fields that fall", Given::Classes(&[Class { statics: &[OTHER, FIELD], ..EMPTY }]),
+            fault::PROGRAM_MEMBER_ORDER, 0,
+        ),
+        Ruled(
+            "a method given twice", Given::Classes(&[Class { directs: &[METHOD, METHOD], ..EMPTY }]),
+            fault::PROGRAM_MEMBER_ORDER, 0,
+        ),
+        Ruled("a class after its superclass", Given::Classes(&[EMPTY, Class { superclass: Some(A), ..SECOND }]), 0, 0),
+        Ruled(
+            "a class before its superclass", Given::Classes(&[Class { superclass: Some(B), ..EMPTY }, SECOND]),
+            fault::PROGRAM_CLASS_ORDER, 0,
+        ),
+        Ruled(
+            "a class that is its own interface", Given::Classes(&[EMPTY, Class { interfaces: &[B], ..SECOND }]),
+            fault::PROGRAM_CLASS_ORDER, 1,
+        ),
+        Ruled("a class defined twice", Given::Classes(&[EMPTY, EMPTY]), fault::PROGRAM_CLASS_ORDER, 1),
+        Ruled(
+            "a class before its superclass that is defined twice",
+            Given::Classes(&[EMPTY, Class { superclass: Some(A), ..SECOND }, EMPTY]), fault::PROGRAM_CLASS_ORDER, 1,
+        ),
+        Ruled("nine interfaces", Given::Classes(&[Class { interfaces: &NINE, ..EMPTY }]), 0, 0),
+        Ruled(
+            "nine interfaces and the first again", Given::Classes(&[SECOND, Class { interfaces: &TEN, ..EMPTY }]),
+            fault::PROGRAM_CLASS_ORDER, 1,
+        ),
+        Ruled(
+            "an interface given twice", Given::Classes(&[Class { interfaces: &[B, B], ..EMPTY }]),
+            fault::PROGRAM_CLASS_ORDER, 0,
+        ),
+        Ruled(
+            "a field without a name, in a class that is its own superclass",
+            Given::Classes(&[Class { superclass: Some(A), statics: &[Member { name: NO_NAME, ..FIELD }], ..EMPTY }]),
+            fault::PROGRAM_NAME, 0,
+        ),
+        Ruled(
+            "a class that is its own superclass, before one with a field without a name",
+            Given::Classes(&[Class { superclass: Some(A), ..EMPTY }, Class { statics: &[Member { name: NO_NAME, ..FIELD }], ..SECOND }]),
+            fault::PROGRAM_CLASS_ORDER, 0,
+        ),
+        Ruled(
+            "a value and no static field",
+            Given::Classes(&[Class { values: &[Value::Null], instances: &[FIELD], ..EMPTY }]), fault::PROGRAM_VALUES,
+            0,
+        ),
+        Ruled("a value of 64 arrays, one in the other", Given::Nested(64), 0, 0),
+        Ruled("a value of 65", Given::Nested(65), fault::PROGRAM_VALUES, 0),
+    ];
+    all_hold(rt.alloc(), &CASES)
 }
 
 #[rattlefmt::skip]
 #[test]
-fn instructions_are_ruled(rt: HostRuntime) -> Result<(), Fail> {
-    static CASES: [RuledBody; 14] = [
-        ("return-void", &BODY, 0),
-        ("no instruction", &Code { insns: &[], ..BODY }, fault::PROGRAM_OPERAND),
-        ("const-string of a type", &Code { insns: &[Insn::I21c { op: 0x1a, a: 0, name: Name::Desc(A) }], ..BODY }, fault::PROGRAM_OPERAND),
-        ("a register above 15", &Code { insns: &[Insn::I12x { op: 0x01, a: 16, b: 0 }], ..BODY }, fault::PROGRAM_OPERAND),
-        ("goto itself", &Code { insns: &[Insn::I10t { op: 0x28, to: 0 }], ..BODY }, fault::PROGRAM_TARGET),
-        ("goto/32 itself", &Code { insns: &[Insn::I30t { op: 0x2a, to: 0 }], ..BODY }, 0),
-        ("goto past the end", &Code { insns: &[Insn::I10t { op: 0x28, to: 1 }], ..BODY }, fault::PROGRAM_TARGET),
-        ("goto/32 past the end", &Code { insns: &[Insn::I30t { op: 0x2a, to: 4294967295 }], ..BODY }, fault::PROGRAM_TARGET),
-        ("if-eqz past the end", &Code { insns: &[Insn::I21t { op: 0x38, a: 0, to: 1 }], ..BODY }, fault::PROGRAM_TARGET),
-        ("if-eq past the end", &Code { insns: &[Insn::I22t { op: 0x32, a: 0, b: 0, to: 1 }], ..BODY }, fault::PROGRAM_TARGET),
-        ("goto a payload", &Code { insns: &[Insn::I10t { op: 0x28, to: 1 }, Insn::Data { width: 1, bytes: &[] }], ..BODY }, fault::PROGRAM_TARGET),
-        ("the last register", &Code { insns: &[Insn::I11x { op: 0x0f, a: 0 }], ..BODY }, 0),
-        ("a register past it", &Code { insns: &[Insn::I11x { op: 0x0f, a: 1 }], ..BODY }, fault::PROGRAM_REGISTER),
-        ("ins past the registers", &Code { ins: 2, ..BODY }, fault::PROGRAM_REGISTER),
+fn instructions_payloads_and_tries_are_ruled(rt: HostRuntime) -> Result<(), Fail> {
+    static CASES: [Ruled; 28] = [
+        Ruled("return-void", Given::Body(&BODY), 0, 0),
+        Ruled("no instruction", Given::Body(&Code { insns: &[], ..BODY }), fault::PROGRAM_OPERAND, 0),
+        Ruled(
+            "const-string of a type",
+            Given::Body(&Code { insns: &[Insn::I21c { op: 0x1a, a: 0, name: Name::Desc(A) }], ..BODY }),
+            fault::PROGRAM_OPERAND, 0,
+        ),
+        Ruled(
+            "a register above 15", Given::Body(&Code { insns: &[Insn::I12x { op: 0x01, a: 16, b: 0 }], ..BODY }),
+            fault::PROGRAM_OPERAND, 0,
+        ),
+        Ruled(
+            "goto itself", Given::Body(&Code { insns: &[Insn::I10t { op: 0x28, to: 0 }], ..BODY }),
+            fault::PROGRAM_TARGET, 0,
+        ),
+        Ruled("goto/32 itself", Given::Body(&Code { insns: &[Insn::I30t { op: 0x2a, to: 0 }], ..BODY }), 0, 0),
+        Ruled(
+            "goto past the end", Given::Body(&Code { insns: &[Insn::I10t { op: 0x28, to: 1 }], ..BODY }),
+            fault::PROGRAM_TARGET, 0,
+        ),
+        Ruled(
+            "goto/32 past the end", Given::Body(&Code { insns: &[Insn::I30t { op: 0x2a, to: 4294967295 }], ..BODY }),
+            fault::PROGRAM_TARGET, 0,
+        ),
+        Ruled(
+            "if-eqz past the end", Given::Body(&Code { insns: &[Insn::I21t { op: 0x38, a: 0, to: 1 }], ..BODY }),
+            fault::PROGRAM_TARGET, 0,
+        ),
+        Ruled(
+            "if-eq past the end",
+            Given::Body(&Code { insns: &[Insn::I22t { op: 0x32, a: 0, b: 0, to: 1 }], ..BODY }),
+            fault::PROGRAM_TARGET, 0,
+        ),
+        Ruled(
+            "goto a payload",
+            Given::Body(&Code { insns: &[Insn::I10t { op: 0x28, to: 1 }, Insn::Data { width: 1, bytes: &[] }], ..BODY }),
+            fault::PROGRAM_TARGET, 0,
+        ),
+        Ruled("the last register", Given::Body(&Code { insns: &[Insn::I11x { op: 0x0f, a: 0 }], ..BODY }), 0, 0),
+        Ruled(
+            "a register past it", Given::Body(&Code { insns: &[Insn::I11x { op: 0x0f, a: 1 }], ..BODY }),
+            fault::PROGRAM_REGISTER, 0,
+        ),
+        Ruled("ins past the registers", Given::Body(&Code { ins: 2, ..BODY }), fault::PROGRAM_REGISTER, 0),
+        Ruled(
+            "a switch and its payload",
+            Given::Body(&Code { insns: &[Insn::I31t { op: 0x2b, a: 0, to: 1 }, Insn::Packed { first: 0, targets: &[0] }], ..BODY }),
+            0, 0,
+        ),
+        Ruled(
+            "a switch's payload that nothing uses",
+            Given::Body(&Code { insns: &[Insn::Packed { first: 0, targets: &[] }], ..BODY }),
+            fault::PROGRAM_PAYLOAD_USE, 0,
+        ),
+        Ruled(
+            "two switches with one payload",
+            Given::Body(&Code { insns: &[Insn::I31t { op: 0x2b, a: 0, to: 2 }, Insn::I31t { op: 0x2b, a: 0, to: 2 }, Insn::Packed { first: 0, targets: &[] }], ..BODY }),
+            fault::PROGRAM_PAYLOAD_USE, 0,
+        ),
+        Ruled(
+            "a switch with a payload of another kind",
+            Given::Body(&Code { insns: &[Insn::I31t { op: 0x2c, a: 0, to: 1 }, Insn::Data { width: 2, bytes: &[] }], ..BODY }),
+            fault::PROGRAM_PAYLOAD_USE, 0,
+        ),
+        Ruled(
+            "a switch to a place past the end",
+            Given::Body(&Code { insns: &[Insn::I31t { op: 0x2b, a: 0, to: 1 }, Insn::Packed { first: 0, targets: &[2] }], ..BODY }),
+            fault::PROGRAM_TARGET, 0,
+        ),
+        Ruled(
+            "a switch by keys to a place past the end",
+            Given::Body(&Code { insns: &[Insn::I31t { op: 0x2c, a: 0, to: 1 }, Insn::Sparse { keys: &[7], targets: &[2] }], ..BODY }),
+            fault::PROGRAM_TARGET, 0,
+        ),
+        Ruled(
+            "a switch whose payload is past the end",
+            Given::Body(&Code { insns: &[Insn::I31t { op: 0x2b, a: 0, to: 1 }], ..BODY }),
+            fault::PROGRAM_PAYLOAD_USE, 0,
+        ),
+        Ruled(
+            "fill-array-data past the end",
+            Given::Body(&Code { insns: &[Insn::I31t { op: 0x26, a: 0, to: 4294967295 }], ..BODY }),
+            fault::PROGRAM_PAYLOAD_USE, 0,
+        ),
+        Ruled("a try with a handler", Given::Body(&Code { tries: &[COVER], ..BODY }), 0, 0),
+        Ruled(
+            "a try that covers nothing", Given::Body(&Code { tries: &[Try { to: 0, ..COVER }], ..BODY }),
+            fault::PROGRAM_TRY, 0,
+        ),
+        Ruled(
+            "a try past the end", Given::Body(&Code { tries: &[Try { to: 2, ..COVER }], ..BODY }),
+            fault::PROGRAM_TRY, 0,
+        ),
+        Ruled(
+            "a handler that is no instruction",
+            Given::Body(&Code { tries: &[Try { catches: &[Catch { ty: A, at: 1 }], ..COVER }], ..BODY }),
+            fault::PROGRAM_TRY, 0,
+        ),
+        Ruled(
+            "a handler of all that is no instruction",
+            Given::Body(&Code { tries: &[Try { catch_all: Some(1), ..COVER }], ..BODY }), fault::PROGRAM_TRY, 0,
+        ),
+        Ruled(
+            "a try without a handler", Given::Body(&Code { tries: &[Try { catches: &[], ..COVER }], ..BODY }),
+            fault::PROGRAM_TRY, 0,
+        ),
     ];
-    let arena = Bump::new(rt.alloc());
-    none_wrong(first_body_ruled_otherwise(rt.alloc(), &arena, &CASES))
-}
-
-#[rattlefmt::skip]
-#[test]
-fn payloads_and_tries_are_ruled(rt: HostRuntime) -> Result<(), Fail> {
-    static CASES: [RuledBody; 14] = [
-        ("a switch and its payload", &Code { insns: &[Insn::I31t { op: 0x2b, a: 0, to: 1 }, Insn::Packed { first: 0, targets: &[0] }], ..BODY }, 0),
-        ("a switch's payload that nothing uses", &Code { insns: &[Insn::Packed { first: 0, targets: &[] }], ..BODY }, fault::PROGRAM_PAYLOAD_USE),
-        ("two switches with one payload", &Code { insns: &[Insn::I31t { op: 0x2b, a: 0, to: 2 }, Insn::I31t { op: 0x2b, a: 0, to: 2 }, Insn::Packed { first: 0, targets: &[] }], ..BODY }, fault::PROGRAM_PAYLOAD_USE),
-        ("a switch with a payload of another kind", &Code { insns: &[Insn::I31t { op: 0x2c, a: 0, to: 1 }, Insn::Data { width: 2, bytes: &[] }], ..BODY }, fault::PROGRAM_PAYLOAD_USE),
-        ("a switch to a place past the end", &Code { insns: &[Insn::I31t { op: 0x2b, a: 0, to: 1 }, Insn::Packed { first: 0, targets: &[2] }], ..BODY }, fault::PROGRAM_TARGET),
-        ("a switch by keys to a place past the end", &Code { insns: &[Insn::I31t { op: 0x2c, a: 0, to: 1 }, Insn::Sparse { keys: &[7], targets: &[2] }], ..BODY }, fault::PROGRAM_TARGET),
-        ("a switch whose payload is past the end", &Code { insns: &[Insn::I31t { op: 0x2b, a: 0, to: 1 }], ..BODY }, fault::PROGRAM_PAYLOAD_USE),
-        ("fill-array-data past the end", &Code { insns: &[Insn::I31t { op: 0x26, a: 0, to: 4294967295 }], ..BODY }, fault::PROGRAM_PAYLOAD_USE),
-        ("a try with a handler", &Code { tries: &[COVER], ..BODY }, 0),
-        ("a try that covers nothing", &Code { tries: &[Try { to: 0, ..COVER }], ..BODY }, fault::PROGRAM_TRY),
-        ("a try past the end", &Code { tries: &[Try { to: 2, ..COVER }], ..BODY }, fault::PROGRAM_TRY),
-        ("a handler that is no instruction", &Code { tries: &[Try { catches: &[Catch { ty: A, at: 1 }], ..COVER }], ..BODY }, fault::PROGRAM_TRY),
-        ("a handler of all that is no instruction", &Code { tries: &[Try { catch_all: Some(1), ..COVER }], ..BODY }, fault::PROGRAM_TRY),
-        ("a try without a handler", &Code { tries: &[Try { catches: &[], ..COVER }], ..BODY }, fault::PROGRAM_TRY),
-    ];
-    let arena = Bump::new(rt.alloc());
-    none_wrong(first_body_ruled_otherwise(rt.alloc(), &arena, &CASES))
+    all_hold(rt.alloc(), &CASES)
 }

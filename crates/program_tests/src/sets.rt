@@ -2,7 +2,7 @@
 
 use bumpalo::Bump;
 use dex_base::Fault;
-use dex_samples::{field, is_so, method, proto, text, ty};
+use dex_samples::{Case, all_hold, field, method, proto, text, ty};
 use indexmap::IndexSet;
 use std::alloc::Global;
 use std::hash::Hash;
@@ -36,21 +36,9 @@ fn is_string_kept_once(alloc: Global, here: &Bump, there: &Bump) -> Result<bool,
     is_kept_once(alloc, one, twin, other)
 }
 
-#[test]
-fn a_string_is_kept_once(rt: HostRuntime) -> Result<(), Fail> {
-    let (here, there) = (Bump::new(rt.alloc()), Bump::new(rt.alloc()));
-    is_so(is_string_kept_once(rt.alloc(), &here, &there))
-}
-
 fn is_type_kept_once(alloc: Global, here: &Bump, there: &Bump) -> Result<bool, Fault> {
     let (one, twin, other) = (ty(here, "LA;")?, ty(there, "LA;")?, ty(there, "[LA;")?);
     is_kept_once(alloc, one, twin, other)
-}
-
-#[test]
-fn a_type_is_kept_once(rt: HostRuntime) -> Result<(), Fail> {
-    let (here, there) = (Bump::new(rt.alloc()), Bump::new(rt.alloc()));
-    is_so(is_type_kept_once(rt.alloc(), &here, &there))
 }
 
 fn is_prototype_kept_once(alloc: Global, here: &Bump, there: &Bump) -> Result<bool, Fault> {
@@ -60,23 +48,11 @@ fn is_prototype_kept_once(alloc: Global, here: &Bump, there: &Bump) -> Result<bo
     is_kept_once(alloc, *one, *twin, *other)
 }
 
-#[test]
-fn a_prototype_is_kept_once(rt: HostRuntime) -> Result<(), Fail> {
-    let (here, there) = (Bump::new(rt.alloc()), Bump::new(rt.alloc()));
-    is_so(is_prototype_kept_once(rt.alloc(), &here, &there))
-}
-
 fn is_field_kept_once(alloc: Global, here: &Bump, there: &Bump) -> Result<bool, Fault> {
     let one = field(here, "LA;", "x", "I")?;
     let twin = field(there, "LA;", "x", "I")?;
     let other = field(there, "LA;", "x", "J")?;
     is_kept_once(alloc, *one, *twin, *other)
-}
-
-#[test]
-fn a_field_is_kept_once(rt: HostRuntime) -> Result<(), Fail> {
-    let (here, there) = (Bump::new(rt.alloc()), Bump::new(rt.alloc()));
-    is_so(is_field_kept_once(rt.alloc(), &here, &there))
 }
 
 fn is_method_kept_once(alloc: Global, here: &Bump, there: &Bump) -> Result<bool, Fault> {
@@ -86,8 +62,51 @@ fn is_method_kept_once(alloc: Global, here: &Bump, there: &Bump) -> Result<bool,
     is_kept_once(alloc, *one, *twin, *other)
 }
 
+// A kind of names.
+#[derive(Clone, Copy)]
+enum Kept {
+    String,
+    Type,
+    Prototype,
+    Field,
+    Method,
+}
+
+fn is_name_kept_once(alloc: Global, here: &Bump, there: &Bump, kind: Kept) -> Result<bool, Fault> {
+    match kind {
+        Kept::String => is_string_kept_once(alloc, here, there),
+        Kept::Type => is_type_kept_once(alloc, here, there),
+        Kept::Prototype => is_prototype_kept_once(alloc, here, there),
+        Kept::Field => is_field_kept_once(alloc, here, there),
+        Kept::Method => is_method_kept_once(alloc, here, there),
+    }
+}
+
+impl Case for Kept {
+    fn name(&self) -> &'static str {
+        match self {
+            Kept::String => "a string",
+            Kept::Type => "a type",
+            Kept::Prototype => "a prototype",
+            Kept::Field => "a field",
+            Kept::Method => "a method",
+        }
+    }
+
+    fn holds(&self, alloc: Global) -> Result<bool, Fault> {
+        let (here, there) = (Bump::new(alloc), Bump::new(alloc));
+        is_name_kept_once(alloc, &here, &there, *self)
+    }
+}
+
 #[test]
-fn a_method_is_kept_once(rt: HostRuntime) -> Result<(), Fail> {
-    let (here, there) = (Bump::new(rt.alloc()), Bump::new(rt.alloc()));
-    is_so(is_method_kept_once(rt.alloc(), &here, &there))
+fn a_name_of_each_kind_is_kept_once(rt: HostRuntime) -> Result<(), Fail> {
+    static CASES: [Kept; 5] = [
+        Kept::String,
+        Kept::Type,
+        Kept::Prototype,
+        Kept::Field,
+        Kept::Method,
+    ];
+    all_hold(rt.alloc(), &CASES)
 }

@@ -62,6 +62,6 @@ pub use value::Value;
 
 // What stands below, for the crates above.
 pub use dex_insn::{
-    Fault, Format, IndexKind, descriptor_length, fault, format_of, index_kind_of, is_descriptor,
-    is_member_name, widen,
+    Fault, Format, IndexKind, Seed, descriptor_length, fault, format_of, index_kind_of,
+    is_descriptor, is_member_name, widen,
 };

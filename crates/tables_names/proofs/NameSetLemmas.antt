@@ -1,5 +1,5 @@
 -- Names in the order of first need, or sorted, as a set of keys. `key`, `cmp` and `eq` are those of any kind of names.
-use Rattle.std.proofs.Common.{◌≡◌, ℕ, ◌+◌, ◌<◌, Bool, true, false, ◌||◌, List, [], ◌∷◌, ◌++◌, map, length, get_or, refl, sym, ap, ◌∙◌, arith, if◌then◌else◌, Option, Some, None, MatchOption, is_some, Result, Ok, Err, MatchResult, subst, IfSome, IfNone, slice_get, option_map}
+use Rattle.std.proofs.Common.{◌≡◌, ℕ, ◌+◌, ◌<◌, Bool, true, false, ◌||◌, List, [], ◌∷◌, ◌++◌, map, length, get_or, refl, sym, ap, ◌∙◌, arith, if◌then◌else◌, Option, Some, None, is_some, Result, Ok, Err, MatchResult, subst, IfSome, IfNone, slice_get, option_map, inl, inr, true≢false}
 use Rattle.std.specs.declared.cmp.Ordering.{Ordering}
 use Rattle.std.specs.declared.cmp.Ordering.TheVariants.{Less, Greater}
 use Rattle.std.specs.Ordering.{is_eq, is_lt, eq_by_cmp, ordering_reverse}
@@ -16,7 +16,8 @@ use Rattle.std.proofs.lemmas.Map.Keys.{sorted_from_all_adjacent, apart_from_dist
 use Rattle.indexmap.specs.IndexSet.{insert_key as insert_last}
 use Rattle.program_types.specs.Key.{Key, key_cmp}
 use Rattle.program_types.specs.KeyLaws.{key_cmp-total, key_cmp-same}
-use Rattle.std.proofs.lemmas.Option.{slice_get-map, slice_get-get_or}
+use Rattle.std.proofs.lemmas.Option.{slice_get-map, slice_get-get_or, slice_get_within, get_or_from_slice_get}
+use Rattle.std.proofs.lemmas.Bool.{cases_order}
 use Rattle.tables_names.specs.Rank.{Rising, is_member, rank_of, add_all, IsAt}
 use Rattle.tables_names.specs.Numbers.{with_last}
 use Rattle.tables_names.proofs.RisingLemmas.{less_of, same_rising, rank-at, not_member}
@@ -73,13 +74,23 @@ module _ {N : Type 0} (key : N → Key) (eq : N → N → Bool) (by_key : (x y :
       same_rising key_cmp-total key_cmp-same (map key ys) (add_all [] (map key xs)) up (rising-add_all [] (map key xs) rising-none)
       (λ q. sym (list_any-IsPermutation (eq_by_cmp key_cmp q) (map key xs) (map key ys) (IsPermutation-map key xs ys moved)) ∙ sym (is_member-add_all [] (map key xs) q))
 
-  -- the index of a name is the rank of its key
-  pub index_is_rank : (xs : List N) (x : N) (r : Option ℕ) → Rising (map key xs) → r ≡ position (eq x) xs → is_some r ≡ list_any (eq x) xs → MatchOption r (is_member (map key xs) (key x) ≡ false) (λ i. (is_member (map key xs) (key x) ≡ true) × (rank_of (map key xs) (key x) ≡ i))
-  index_is_rank xs x None up at found = sym (found ∙ any_keys xs x)
-  index_is_rank xs x (Some i) up at found =
-      let here = position-Some (eq x) xs i x (sym at) in
-      let same : key x ≡ key (get_or xs i x) = key_cmp-same (key x) (key (get_or xs i x)) ((Equal-is (key_cmp (key x) (key (get_or xs i x)))).0 (sym (by_key x (get_or xs i x)) ∙ here.1)) in
-      (sym (found ∙ any_keys xs x), rank-at key_cmp-total key_cmp-same (map key xs) i (key x) up (rw length-map here.0) (get_or-map key xs i x (key x) here.0 ∙ sym same))
+  -- a name stands once
+  not_twice : (xs : List N) → IsDistinct eq xs → (m n : ℕ) (k : Key) → m < n → IsAt (map key xs) m k → IsAt (map key xs) n k → ⊥
+  not_twice [] apart m n k lt low high = absurd (cc low)
+  not_twice (x ∷ xs) apart m n k lt low high =
+      let all = x ∷ xs in
+      let within : n < length all = rw length-map at (slice_get_within (map key all) n k high) in
+      let p : key (get_or all m x) ≡ k = sym (get_or-map key all m x (key x) (omega arith)) ∙ get_or_from_slice_get (map key all) m k (key x) low in
+      let q : key (get_or all n x) ≡ k = sym (get_or-map key all n x (key x) within) ∙ get_or_from_slice_get (map key all) n k (key x) high in
+      let same : eq (get_or all m x) (get_or all n x) ≡ true = by_key (get_or all m x) (get_or all n x) ∙ (λ i. is_eq (key_cmp (p i) (q i))) ∙ ap is_eq (tied_itself key_cmp-total k) in
+      true≢false (sym same ∙ apart_from_distinct eq all m n x apart lt within)
+
+  -- so it has one number
+  pub one_number : (xs : List N) → IsDistinct eq xs → (m n : ℕ) (k : Key) → IsAt (map key xs) m k → IsAt (map key xs) n k → m ≡ n
+  one_number xs apart m n k at_m at_n = elim (cases_order m n) [
+    | inl same ↦ same
+    | inr other ↦ elim other [ inl less ↦ absurd (not_twice xs apart m n k less at_m at_n) | inr more ↦ absurd (not_twice xs apart n m k more at_n at_m) ]
+  ]
 
 -- ---- a search in names that are sorted
 

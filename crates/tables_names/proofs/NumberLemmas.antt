@@ -43,6 +43,13 @@ module _ {A B : Type 0} where
   zip_get R (a ∷ xs) (b ∷ ys) zero x y all e = let same : a ≡ x = cc e in subst (λ (z : A). R z b) same all.0
   zip_get R (a ∷ xs) (b ∷ ys) (suc i) x y all e = zip_get R xs ys i x y all.1 e
 
+  -- what holds of each pair holds of all
+  pub zip_from : (R : A → B → Type 0) (xs : List A) (ys : List B) (y : B) → length xs ≡ length ys → ((i : ℕ) (x : A) → slice_get xs i ≡ Some x → R x (get_or ys i y)) → AllZip R xs ys
+  zip_from R [] [] y same each = tt
+  zip_from R [] (b ∷ ys) y same each = absurd (omega (arith, same))
+  zip_from R (a ∷ xs) [] y same each = absurd (omega (arith, same))
+  zip_from R (a ∷ xs) (b ∷ ys) y same each = (each zero a refl, zip_from R xs ys y (omega (arith, same)) (λ i x e. each (suc i) x e))
+
 -- ---- lists of names as sets
 
 pub set_pushed : (ks : List Key) (k : Key) → set_of (ks ++ k ∷ []) ≡ insert_key (set_of ks) k

@@ -1,18 +1,18 @@
 -- Names that are sorted by the ranks of their parts.
-use Rattle.std.proofs.Common.{◌≡◌, ℕ, ◌+◌, ◌<◌, Bool, false, List, [], ◌∷◌, ◌++◌, map, take, length, get_or, refl, sym, ap, ◌∙◌, arith, All, true, zero, suc, Some, subst, option_map}
+use Rattle.std.proofs.Common.{◌≡◌, ℕ, ◌+◌, ◌<◌, ◌≤◌, set, Bool, false, List, [], ◌∷◌, ◌++◌, map, take, length, get_or, refl, sym, ap, ◌∙◌, arith, All, true, zero, suc, Some, subst, option_map, inl, inr}
 use Rattle.std.specs.declared.cmp.Ordering.{Ordering}
 use Rattle.std.specs.declared.cmp.Ordering.TheVariants.{Less, Equal, Greater}
 use Rattle.std.specs.Ordering.{nat_cmp, is_eq, is_lt, ordering_then}
 use Rattle.std.specs.Cmp.{IsEquivalence}
 use Rattle.std.specs.List.{IsDistinct, AllZip}
 use Rattle.std.specs.List.Sorted.{IsSorted, IsPermutation}
-use Rattle.std.proofs.lemmas.List.{length-map, get_or-map, map_push, map_more, take_more}
-use Rattle.std.proofs.lemmas.Option.{slice_get-map, slice_get-get_or}
+use Rattle.std.proofs.lemmas.List.{length-map, get_or-map, map_push, take_more, get_or-set_other}
+use Rattle.std.proofs.lemmas.Grind.{get_or-set_at}
+use Rattle.std.proofs.lemmas.Option.{slice_get-map, slice_get-get_or, slice_get_within}
+use Rattle.std.proofs.lemmas.Bool.{cases_eq}
 use Rattle.std.proofs.lemmas.List.Elements.{All-push, All-same}
 use Rattle.std.proofs.lemmas.List.Sorted.{IsPermutation-map, All-permutation}
 use Rattle.std.proofs.lemmas.Map.Keys.{IsDistinct-IsPermutation}
-use Rattle.indexmap.specs.IndexSet.{insert_all, insert_key as insert_last}
-use Rattle.indexmap.proofs.SetLemmas.{set_all_push}
 use Rattle.program_types.specs.Key.{Key, key_cmp, units_cmp}
 use Rattle.program_types.specs.KeyLaws.{ordering_then-equal}
 use Rattle.tables_names.specs.Rank.{Rising, IsAt, RanksDecide, is_member, add_all}
@@ -24,8 +24,8 @@ use Rattle.tables_names.specs.declared.parts.MethodParts.{MethodParts}
 use Rattle.tables_names.proofs.NameSetLemmas.{sorted_keys, same_keys}
 use Rattle.tables_names.proofs.IndexLemmas.{units_by_index}
 use Rattle.tables_names.proofs.RowLemmas.{keys_compare_as_places}
-use Rattle.tables_names.proofs.PlaceLemmas.{member_at}
-use Rattle.tables_names.proofs.NumberLemmas.{zip_push, zip_length, zip_get, member_of_set}
+use Rattle.tables_names.proofs.PlaceLemmas.{member_at, place_of}
+use Rattle.tables_names.proofs.NumberLemmas.{zip_from, zip_length, zip_get, member_of_set}
 
 -- what the names answer is what their ranks do
 same_leads : (ranks names : Ordering) → ranks ≡ names → RanksDecide ranks names
@@ -53,12 +53,6 @@ module _ {N R : Type 0} where
 
   pub row_pushed : (P : R × N × ℕ → Type 0) (rows new : List (R × N × ℕ)) (row : R × N × ℕ) → new ≡ rows ++ row ∷ [] → All P rows → P row → All P new
   row_pushed P rows new row pushed so_far here = All-same P new (rows ++ row ∷ []) pushed (All-push P rows row so_far here)
-
-  -- the next name is put into the set
-  pub names_put : (eq : N → N → Bool) (pairs : List (R × N × ℕ)) (i : ℕ) (pair : R × N × ℕ) (old new : List N) → i < length pairs → pair ≡ get_or pairs i pair → new ≡ insert_last eq old pair.1 → old ≡ insert_all eq [] (map (λ p. p.1) (take i pairs)) → new ≡ insert_all eq [] (map (λ p. p.1) (take (i + 1) pairs))
-  names_put eq pairs i pair old new lt at put so_far =
-      let done = map (λ p. p.1) (take i pairs) in
-      put ∙ ap (λ l. insert_last eq l pair.1) so_far ∙ sym (set_all_push eq [] done pair.1) ∙ ap (insert_all eq []) ((λ t. done ++ (at t).1 ∷ []) ∙ sym (map_more (λ p. p.1) pairs i pair lt))
 
   -- names in another order still differ
   pub names_distinct : (eq : N → N → Bool) → IsEquivalence eq → (names : List N) (xs ys : List (R × N × ℕ)) → map (λ p. p.1) xs ≡ names → IsPermutation xs ys → IsDistinct eq names → IsDistinct eq (map (λ p. p.1) ys)
@@ -108,17 +102,6 @@ module _ {N : Type 0} (key : N → Key) where
   pub beside_length : {P : Type 0} (R : Key → P → Type 0) (names : List N) (parts : List P) (i : ℕ) → AllZip R (map key names) parts → i < length names → i < length parts
   beside_length R names parts i all lt = let same = zip_length R (map key names) parts all in omega (arith, lt, same, length-map names key)
 
-  -- the next rank
-  pub rank_pushed : (table : List Key) (names : List N) (old new : List ℕ) (i : ℕ) (x : N) (rank : ℕ) → i < length names → x ≡ get_or names i x → new ≡ old ++ rank ∷ [] → IsAt table rank (key x) → RanksOf (map key (take i names)) table old → RanksOf (map key (take (i + 1) names)) table new
-  rank_pushed table names old new i x rank lt at pushed here so_far =
-      let more : map key (take (i + 1) names) ≡ map key (take i names) ++ key x ∷ [] = map_more key names i x lt ∙ ap (λ y. map key (take i names) ++ key y ∷ []) (sym at) in
-      rw (more, pushed) (zip_push (λ k r. IsAt table r k) (map key (take i names)) old (key x) rank so_far here)
-
-  -- a name of the list is in the set
-  pub name_in_set : (table : List Key) (names : List N) (i : ℕ) (x : N) → table ≡ set_of (map key names) → i < length names → x ≡ get_or names i x → is_member table (key x) ≡ true
-  name_in_set table names i x is lt at =
-      rw is (member_of_set (map key names) (key x) ∙ member_at (map key names) i (key x) (name_at names i x lt at))
-
   -- what stands beside sorted names
   pub rows_stand : {P : Type 0} (Has : Key → P → Type 0) (ys : List (P × N × ℕ)) → All (λ r. Has (key r.1) r.0) ys → AllZip Has (map key (map (λ r. r.1) ys)) (map (λ r. r.0) ys)
   rows_stand Has [] all = tt
@@ -132,19 +115,58 @@ module _ {N : Type 0} (key : N → Key) where
 pub one_name : (names : List Key) (i : ℕ) (j k : Key) → IsAt names i j → IsAt names i k → j ≡ k
 one_name names i j k p q = cc
 
--- a name whose number stands at a place has this rank
-pub place_is_rank : (table names : List Key) (numbers : List ℕ) (place number : ℕ) (k : Key) → RanksOf table names numbers → place < length numbers → get_or numbers place 0 ≡ number → IsAt names number k → IsAt table place k
-place_is_rank [] names [] place number k all lt is at = absurd (omega (arith, lt))
-place_is_rank [] names (n ∷ numbers) place number k all lt is at = absurd all
-place_is_rank (j ∷ table) names [] place number k all lt is at = absurd all
-place_is_rank (j ∷ table) names (n ∷ numbers) zero number k all lt is at =
-    ap Some (one_name names number j k (subst (λ (m : ℕ). IsAt names m j) is all.0) at)
-place_is_rank (j ∷ table) names (n ∷ numbers) (suc place) number k all lt is at = place_is_rank table names numbers place number k all.1 (omega (arith, lt)) is at
+-- ---- ranks that are written at the numbers of the names
 
--- and so where its row does
-pub row_is_rank : {N R : Type 0} (table names : List Key) (rows : List (R × N × ℕ)) (place number : ℕ) (row : R × N × ℕ) (k : Key) → RanksOf table names (map (λ r. r.2) rows) → place < length rows → (get_or rows place row).2 ≡ number → IsAt names number k → IsAt table place k
-row_is_rank table names rows place number row k all lt is at =
-    place_is_rank table names (map (λ r. r.2) rows) place number k all (rw length-map lt) (get_or-map (λ r. r.2) rows place row 0 lt ∙ is) at
+-- for each of the first i rows there stands, at the number of its name, a rank of the name
+pub record ArePlaced (table : List Key) (numbers : List ℕ) (i : ℕ) (ranks : List ℕ) : Type 0 where
+  pub each : (j : ℕ) (k : Key) → j < i → IsAt table j k → IsAt table (get_or ranks (get_or numbers j 0) 0) k
+
+pub none_placed : (table : List Key) (numbers ranks : List ℕ) → ArePlaced table numbers 0 ranks
+none_placed table numbers ranks = record { each = λ j k lt at. absurd (omega (arith, lt)) }
+
+module _ (names table : List Key) (numbers : List ℕ) (stand : RanksOf table names numbers) where
+  -- a name's number is one of a name
+  pub number_within : (i : ℕ) → i < length numbers → get_or numbers i 0 < length names
+  number_within i lt =
+      let own : Key = get_or table i [] in
+      let here : IsAt table i own = slice_get-get_or table i [] (omega (arith, lt, zip_length (λ k n. IsAt names n k) table numbers stand)) in
+      slice_get_within names (get_or numbers i 0) own (zip_get (λ k n. IsAt names n k) table numbers i own 0 stand here)
+
+  -- the next rank
+  pub next_placed : (i : ℕ) (old new : List ℕ) → i < length numbers → length old ≡ length names → new ≡ set old (get_or numbers i 0) i → ArePlaced table numbers i old → ArePlaced table numbers (i + 1) new
+  next_placed i old new lt long is so_far =
+      let m = get_or numbers i 0 in
+      let own : Key = get_or table i [] in
+      let here : IsAt table i own = slice_get-get_or table i [] (omega (arith, lt, zip_length (λ k n. IsAt names n k) table numbers stand)) in
+      let named : IsAt names m own = zip_get (λ k n. IsAt names n k) table numbers i own 0 stand here in
+      let room : m < length old = omega (arith, number_within i lt, long) in
+      record {
+        each = λ j k before at.
+            let n = get_or numbers j 0 in
+            let its : IsAt names n k = zip_get (λ k n. IsAt names n k) table numbers j k 0 stand at in
+            elim (cases_eq n m) [
+              | inl same ↦
+                  (let one : own ≡ k = one_name names m own k named (subst (λ (q : ℕ). IsAt names q k) same its) in
+                  let value : get_or new n 0 ≡ i = ap (λ l. get_or l n 0) is ∙ get_or-set_at old m n i 0 same room in
+                  subst (λ (q : ℕ). IsAt table q k) (sym value) (here ∙ ap Some one))
+              | inr other ↦
+                  (let value : get_or new n 0 ≡ get_or old n 0 = ap (λ l. get_or l n 0) is ∙ get_or-set_other old m n i 0 other in
+                  let apart : j ≡ i → ⊥ = λ e. other (ap (λ q. get_or numbers q 0) e) in
+                  let less : j < i = omega (arith, before, apart) in
+                  subst (λ (q : ℕ). IsAt table q k) (sym value) (so_far.each j k less at))
+            ];
+      }
+
+  -- once all are written, at each number stands the rank of its name
+  pub all_placed : ((m n : ℕ) (k : Key) → IsAt names m k → IsAt names n k → m ≡ n) → table ≡ set_of names → (i : ℕ) (ranks : List ℕ) → length numbers ≤ i → length ranks ≡ length names → ArePlaced table numbers i ranks → RanksOf names table ranks
+  all_placed once is i ranks all long placed =
+      zip_from (λ k rank. IsAt table rank k) names ranks 0 (sym long)
+      (λ n k at.
+      let member : is_member table k ≡ true = ap (λ l. is_member l k) is ∙ member_of_set names k ∙ member_at names n k at in
+      let row = place_of table k member in
+      let its : IsAt names (get_or numbers row.0 0) k = zip_get (λ k n. IsAt names n k) table numbers row.0 k 0 stand row.1 in
+      let lt : row.0 < i = omega (arith, slice_get_within table row.0 k row.1, zip_length (λ k n. IsAt names n k) table numbers stand, all) in
+      subst (λ (m : ℕ). IsAt table (get_or ranks m 0) k) (once (get_or numbers row.0 0) n k its at) (placed.each row.0 k lt row.1))
 
 -- ---- the ranks of each kind
 

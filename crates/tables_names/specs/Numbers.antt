@@ -1,7 +1,7 @@
 -- Names in the order of first need, where each has a number, its place, and beside each the places of its parts: the row of
 -- a table, but by places in these lists. In sorted lists the places are ranks, and these are the rows of the tables.
 -- Page: "Dalvik Executable format": type_id_item, proto_id_item, field_id_item and method_id_item name their parts by index.
-use Rattle.std.specs.Prelude.{ℕ, ◌<◌, List, [], ◌∷◌, ◌++◌, if◌then◌else◌, length, slice_index}
+use Rattle.std.specs.Prelude.{◌≡◌, ℕ, ◌<◌, List, [], ◌∷◌, ◌++◌, if◌then◌else◌, length, slice_index}
 use Rattle.std.specs.List.{AllZip}
 use Rattle.program_types.specs.Key.{Key, text_key}
 use Rattle.tables_names.specs.Rank.{is_member, add_all, IsAt}
@@ -92,6 +92,11 @@ pub record AllGrow (old new : Five) : Type 0 where
 -- of each name of a list, by its number, the rank in a table
 abbrev pub RanksOf : List Key → List Key → List ℕ → Type 0
 RanksOf names table ranks = AllZip (λ k rank. IsAt table rank k) names ranks
+
+-- a table of just these names, sorted, and of each name, by its number, the rank
+pub record RanksNames (names table : List Key) (ranks : List ℕ) : Type 0 where
+  pub same : table ≡ set_of names
+  pub each : RanksOf names table ranks
 
 -- the ranks of the parts of a field
 abbrev pub field_ranks : List ℕ → List ℕ → FieldParts → FieldParts

@@ -1,20 +1,20 @@
-//! The names of one kind that are needed: a hashed set in the order of first need while names are added, and then a list in
-//! the order of their ranks.
+//! The names of one kind that are needed: a hashed set in the order of first need, and, once no name is added, beside it the
+//! names in the order of their ranks. The set is never hashed a second time.
 ghost use Rattle.std.specs.Prelude.{◌≡◌, ◌<◌, ◌^◌, ℕ, List, [], ◌∷◌, ◌++◌, map, false, true, OnOk, OnErr, IfOk, IfSome, IfNone, option_map, slice_get};
-ghost use Rattle.std.specs.List.{AllZip, IsDistinct};
-ghost use Rattle.program_types.specs.Key.{Key, key_cmp};
-ghost use Rattle.tables_names.specs.Rank.{Rising, is_member, LookUpAnswers, IsAt, RanksDecide};
-ghost use Rattle.tables_names.specs.Numbers.{set_of, with_last, RanksOf};
+ghost use Rattle.std.specs.List.{IsDistinct};
+ghost use Rattle.tables_names.specs.Rank.{Rising, is_member, LookUpAnswers, IsAt};
+ghost use Rattle.tables_names.specs.Numbers.{with_last, RanksNames};
 
 use crate::row::Row;
-use crate::sorting::put_all;
+use crate::sorting::names_of;
 use indexmap::IndexSet;
+use program_types::Seed;
 use std::alloc::{AllocError, Global};
 use std::marker::Model;
 
 /// A set of names, in the order of first need, where the place of a name is its number. It stands for the list of their keys.
 pub(crate) struct NameSet<N: Row> {
-    items: IndexSet<N>,
+    items: IndexSet<N, Seed>,
 }
 
 // Each place where a set is let go is proved: here it is one call, and derived it would be all that the set owns.
@@ -35,11 +35,11 @@ impl<N: Row> Model for NameSet<N> {
 
 impl<N: Row> NameSet<N> {
     /// No name.
-    pub(crate) fn new(alloc: Global) -> Self
+    pub(crate) fn new(alloc: Global, seed: Seed) -> Self
         ensures { result ≡ [] }
     {
         NameSet {
-            items: IndexSet::new(alloc),
+            items: IndexSet::with_hasher(alloc, seed),
         }
     }
 
@@ -69,25 +69,24 @@ impl<N: Row> NameSet<N> {
         self.items.as_slice()
     }
 
-    /// The names with their ranks, sorted where they stand.
-    pub(crate) fn ranked(self) -> Result<Ranked<N>, AllocError>
-        ensures same { IfOk result (λ r. r ≡ set_of self) }
-    {
-        let NameSet { mut items } = self;
-        items.sort_unstable()?;
-        Ok(Ranked { items })
-    }
-
-    /// The names of these rows with their ranks, in the place of its own.
-    fn replaced<R: Copy>(self, rows: &[(R, N, usize)]) -> Result<Ranked<N>, AllocError>
-        requires distinct { IsDistinct N.eq (map (λ r. r.1) rows.now) }
-        requires rising { Rising (map N.key (map (λ r. r.1) rows.now)) }
+    /// The same names with their ranks: those of these rows, in their order, and of each, by its number, its rank.
+    pub(crate) fn ranked<P: Copy>(
+        self,
+        alloc: Global,
+        rows: &[(P, N, usize)],
+        ranks: &[usize],
+    ) -> Result<Ranked<N>, AllocError>
+        requires { RanksNames self (map N.key (map (λ r. r.1) rows.now)) ranks.now }
         ensures { IfOk result (λ r. r ≡ map N.key (map (λ r. r.1) rows.now)) }
     {
-        let NameSet { mut items } = self;
-        items.clear();
-        put_all(&mut items, rows)?;
-        Ok(Ranked { items })
+        let names = names_of(alloc, rows)?;
+        let ranks = Vec::from_slice(alloc, ranks)?;
+        let NameSet { items } = self;
+        Ok(Ranked {
+            items,
+            names,
+            ranks,
+        })
     }
 }
 
@@ -100,12 +99,12 @@ pub(crate) struct NamesWithParts<N: Row, P: Copy> {
 
 impl<N: Row, P: Copy> NamesWithParts<N, P> {
     /// No name.
-    pub(crate) fn new(alloc: Global) -> Self
+    pub(crate) fn new(alloc: Global, seed: Seed) -> Self
         ensures names { result.names ≡ [] }
         ensures parts { result.parts.items ≡ [] }
     {
         NamesWithParts {
-            names: NameSet::new(alloc),
+            names: NameSet::new(alloc, seed),
             parts: Vec::new(alloc),
         }
     }
@@ -124,16 +123,6 @@ impl<N: Row, P: Copy> NamesWithParts<N, P> {
         self.parts.push(parts)?;
         Ok(number)
     }
-
-    /// The names of these rows with their ranks, in the place of its own.
-    pub(crate) fn replaced<R: Copy>(self, rows: &[(R, N, usize)]) -> Result<Ranked<N>, AllocError>
-        requires distinct { IsDistinct N.eq (map (λ r. r.1) rows.now) }
-        requires rising { Rising (map N.key (map (λ r. r.1) rows.now)) }
-        ensures { IfOk result (λ r. r ≡ map N.key (map (λ r. r.1) rows.now)) }
-    {
-        let NamesWithParts { names, parts: _ } = self;
-        names.replaced(rows)
-    }
 }
 
 /// A set of names that stays, and beside each the ranks of its parts.
@@ -143,27 +132,34 @@ pub(crate) struct Table<N: Row, P: Copy> {
     pub(crate) parts: Vec<P>,
 }
 
-/// A set of names that stays, each with its rank, in the order of these. It stands for the rising list of their keys.
+/// A set of names that stays, in the order of first need, and beside it the names in the order of their ranks and of each, by its
+/// number, its rank. It stands for the rising list of their keys.
 pub(crate) struct Ranked<N: Row> {
-    items: IndexSet<N>,
+    items: IndexSet<N, Seed>,
+    names: Vec<N>,
+    ranks: Vec<usize>,
 }
 
 impl<N: Row> Drop for Ranked<N> {
     fn drop(self) {
-        let Ranked { items: _ } = self;
+        let Ranked {
+            items: _,
+            names: _,
+            ranks: _,
+        } = self;
     }
 }
 
 impl<N: Row> Model for Ranked<N> {
     ghost use Rattle.std.specs.Prelude.{List, map};
     ghost use Rattle.program_types.specs.Key.{Key};
-    ghost use Rattle.tables_names.specs.Rank.{Rising};
+    ghost use Rattle.tables_names.specs.Numbers.{RanksNames};
 
     ghost Value = { List Key };
 
-    ghost view = { λ h. map N.key h.items.keys };
+    ghost view = { λ h. map N.key h.names.items };
 
-    ghost invariant = { λ h. Rising (map N.key h.items.keys) };
+    ghost invariant = { λ h. RanksNames (map N.key h.items.keys) (map N.key h.names.items) h.ranks.items };
 }
 
 impl<N: Row> Ranked<N> {
@@ -173,8 +169,9 @@ impl<N: Row> Ranked<N> {
         ensures some { IfSome result (λ i. IsAt self.now i (N.key name)) }
         ensures none { IfNone result ((i : ℕ) → i < 2 ^ 32 → ¬ IsAt self.now i (N.key name)) }
     {
-        match self.items.get_index_of(&name) {
-            Some(at) => u32::try_from(at).ok(),
+        self.rises();
+        match self.place_of(&name) {
+            Some(rank) => u32::try_from(rank).ok(),
             None => None,
         }
     }
@@ -184,17 +181,9 @@ impl<N: Row> Ranked<N> {
         ensures some { IfSome result (λ i. IsAt self.now i (N.key name.now)) }
         ensures none { IfNone result (is_member self.now (N.key name.now) ≡ false) }
     {
-        self.items.get_index_of(name)
-    }
-
-    /// The rank of a name that is held.
-    pub(crate) fn rank_of(&self, name: &N) -> usize
-        requires { is_member self.now (N.key name.now) ≡ true }
-        ensures { IsAt self.now result (N.key name.now) }
-    {
         match self.items.get_index_of(name) {
-            Some(at) => at,
-            None => unreachable!(),
+            Some(number) => Some(self.ranks[number]),
+            None => None,
         }
     }
 
@@ -202,7 +191,12 @@ impl<N: Row> Ranked<N> {
     pub(crate) fn names(&self) -> &[N]
         ensures { map N.key result.now ≡ self.now }
     {
-        self.items.as_slice()
+        &self.names
+    }
+
+    /// What its hashes begin with.
+    pub(crate) fn seed(&self) -> Seed {
+        *self.items.hasher()
     }
 
     /// The keys strictly rise.
@@ -217,6 +211,6 @@ impl<N: Row> Ranked<N> {
     pub(crate) fn name_at(&self, rank: u32) -> Option<N>
         ensures { option_map N.key result ≡ slice_get self.now rank }
     {
-        self.items.get_index(rank as usize).copied()
+        self.names.get(rank as usize).copied()
     }
 }

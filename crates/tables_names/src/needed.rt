@@ -15,7 +15,7 @@ use crate::noted::Noted;
 use crate::numbered::NumberedNames;
 use crate::ranks::Ranks;
 use bumpalo::Bump;
-use program_types::{Desc, Fault, FieldRef, Member, Method, MethodRef, Name, Proto, Str};
+use program_types::{Desc, Fault, FieldRef, Member, Method, MethodRef, Name, Proto, Seed, Str};
 use std::alloc::Global;
 use std::marker::Model;
 
@@ -51,8 +51,24 @@ impl<'a> Needed<'a> {
     pub fn new(alloc: Global) -> Self
         ensures { result ≡ nothing }
     {
+        Needed::seeded(alloc, Seed::fixed())
+    }
+
+    /// No name, as `new` has it; its hashes, those of the ranks and those of what is written by them begin with this seed. Where
+    /// names are a stranger's it is one that he can't know.
+    ///
+    /// ```
+    /// use dex_base::Seed;
+    /// use dex_tables::Needed;
+    ///
+    /// let ranks = Needed::seeded(alloc, Seed::new(0x5eed)).freeze()?;
+    /// assert!(rt; ranks.string(0).is_none());
+    /// ```
+    pub fn seeded(alloc: Global, seed: Seed) -> Self
+        ensures { result ≡ nothing }
+    {
         Needed {
-            numbered: NumberedNames::new(alloc),
+            numbered: NumberedNames::new(alloc, seed),
         }
     }
 

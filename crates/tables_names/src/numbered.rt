@@ -23,7 +23,7 @@ use crate::ranks::Ranks;
 use crate::sorting::{Members, Parts, sorted_by, sorted_strings};
 use bumpalo::Bump;
 use program_types::{
-    Desc, Fault, FieldRef, Member, Method, MethodRef, Name, Proto, Str, shorty_of,
+    Desc, Fault, FieldRef, Member, Method, MethodRef, Name, Proto, Seed, Str, shorty_of,
 };
 use std::alloc::{AllocError, Global};
 use std::marker::Model;
@@ -80,16 +80,16 @@ impl<'a> Model for NumberedNames<'a> {
 #[tactic(auto, unfolding(crate::specs::Closure::with_name, crate::specs::Closure::with_proto, crate::specs::Closure::with_parts, crate::specs::Closure::with_proto_parts))]
 impl<'a> NumberedNames<'a> {
     /// No name. Takes no memory.
-    pub(crate) fn new(alloc: Global) -> Self
+    pub(crate) fn new(alloc: Global, seed: Seed) -> Self
         ensures { result.names ≡ nothing }
     {
         NumberedNames {
             alloc,
-            strings: NameSet::new(alloc),
-            types: NamesWithParts::new(alloc),
-            protos: NamesWithParts::new(alloc),
-            fields: NamesWithParts::new(alloc),
-            methods: NamesWithParts::new(alloc),
+            strings: NameSet::new(alloc, seed),
+            types: NamesWithParts::new(alloc, seed),
+            protos: NamesWithParts::new(alloc, seed),
+            fields: NamesWithParts::new(alloc, seed),
+            methods: NamesWithParts::new(alloc, seed),
         }
     }
 
@@ -190,8 +190,12 @@ impl<'a> NumberedNames<'a> {
         self.add_field_in(class, name)
     }
 
-    // Adds a field of the class with this number, its name and its type.
-    fn add_field_in(&mut self, class: usize, name: &FieldRef<'a>) -> Result<usize, AllocError>
+    /// Adds a field of the class with this number, its name and its type.
+    pub(crate) fn add_field_in(
+        &mut self,
+        class: usize,
+        name: &FieldRef<'a>,
+    ) -> Result<usize, AllocError>
         requires { IsAt self.old.names.types class (key_of_desc name.now.class) }
         ensures added { OnOk result (sets self.new.names ≡ with_name (sets self.old.names) (OfField (field_ref name.now))) }
         ensures number { IfOk result (λ n. IsAt self.new.names.fields n (key_of_field name.now)) }
@@ -212,8 +216,8 @@ impl<'a> NumberedNames<'a> {
         Ok(number)
     }
 
-    // Adds a method of the class with this number, its name and its prototype.
-    fn add_method_in(
+    /// Adds a method of the class with this number, its name and its prototype.
+    pub(crate) fn add_method_in(
         &mut self,
         arena: &'a Bump,
         class: usize,

@@ -17,7 +17,7 @@ use crate::noted::RankOf;
 use crate::parts::{FieldParts, MethodParts, ProtoParts, TypeParts};
 use crate::shorty::index_of_shorty;
 use crate::sorting::{Members, Parts};
-use program_types::{Desc, FieldRef, MethodRef, Name, Proto, Str};
+use program_types::{Desc, FieldRef, MethodRef, Name, Proto, Seed, Str};
 use std::marker::Model;
 
 /// The needed names of each of the five kinds, each with its rank: how many of its kind are less. It stands for the
@@ -93,6 +93,11 @@ impl<'a> Ranks<'a> {
             methods: methods.ranks,
         };
         (ranks, rank_of)
+    }
+
+    /// What their hashes begin with, for whoever hashes what is written by them.
+    pub fn seed(&self) -> Seed {
+        self.strings.seed()
     }
 
     /// Beside each name its parts are held.

@@ -13,7 +13,6 @@ ghost use Rattle.tables_names.specs.Numbers.{set_of, TypeAt, ProtoAt, FieldAt, M
 use crate::name_set::{NameSet, NamesWithParts, Ranked, Table};
 use crate::parts::{FieldParts, MethodParts, ProtoParts, TypeParts};
 use crate::row::Row;
-use indexmap::IndexSet;
 use program_types::{Desc, FieldRef, MethodRef, Proto, Str};
 use std::alloc::{AllocError, Global};
 
@@ -152,8 +151,6 @@ fn sorted_rows<T, P: Numbers<T>, N: Row>(
 ) -> Result<Vec<(P, N, usize)>, AllocError>
     requires parts { AllZip (λ k p. P.within sorted.now p × P.has sorted.now k (P.ranked sorted.now p)) made.now.names made.now.parts.items }
     requires leads { (j k : Key) (p q : P) → P.has sorted.now j p → P.has sorted.now k q → RanksDecide (P.cmp p q) (key_cmp j k) }
-    ensures distinct { IfOk result (λ rows. IsDistinct N.eq (map (λ r. r.1) rows.items)) }
-    ensures rising { IfOk result (λ rows. Rising (map N.key (map (λ r. r.1) rows.items))) }
     ensures same { IfOk result (λ rows. map N.key (map (λ r. r.1) rows.items) ≡ set_of made.now.names) }
     ensures parts { IfOk result (λ rows. AllZip (P.has sorted.now) (map N.key (map (λ r. r.1) rows.items)) (map (λ r. r.0) rows.items)) }
     ensures numbers { IfOk result (λ rows. RanksOf (map N.key (map (λ r. r.1) rows.items)) made.now.names (map (λ r. r.2) rows.items)) }
@@ -174,33 +171,35 @@ fn parts_of<N: Copy, P: Copy>(alloc: Global, rows: &[(P, N, usize)]) -> Result<V
     Ok(parts)
 }
 
-/// Puts names into a set that has none, in their order.
-pub(crate) fn put_all<N: Row, P: Copy>(
-    items: &mut IndexSet<N>,
+/// The names of rows.
+pub(crate) fn names_of<N: Copy, P: Copy>(
+    alloc: Global,
     rows: &[(P, N, usize)],
-) -> Result<(), AllocError>
-    requires none { items.old.keys ≡ [] }
-    requires distinct { IsDistinct N.eq (map (λ r. r.1) rows.now) }
-    ensures { OnOk result (items.new.keys ≡ map (λ r. r.1) rows.now) }
+) -> Result<Vec<N>, AllocError>
+    ensures { IfOk result (λ names. names.items ≡ map (λ r. r.1) rows.now) }
 {
+    let mut names = Vec::with_capacity(alloc, rows.len())?;
     for row in rows {
-        items.insert(row.1)?;
+        names.push(row.1)?;
     }
-    Ok(())
+    Ok(names)
 }
 
-// Of each name, by its number, the rank, which is looked up.
-fn ranks_of<N: Row>(
+// Of each name, by its number, the rank: the place of its row, where the rows stand in the order of the ranks. No name is looked up.
+fn ranks_of<N: Row, P: Copy>(
     alloc: Global,
     names: &[N],
-    ranked: &Ranked<N>,
+    rows: &[(P, N, usize)],
 ) -> Result<Vec<usize>, AllocError>
-    requires { ranked.now ≡ set_of (map N.key names.now) }
-    ensures { IfOk result (λ ranks. RanksOf (map N.key names.now) ranked.now ranks.items) }
+    requires distinct { IsDistinct N.eq names.now }
+    requires same { map N.key (map (λ r. r.1) rows.now) ≡ set_of (map N.key names.now) }
+    requires numbers { RanksOf (map N.key (map (λ r. r.1) rows.now)) (map N.key names.now) (map (λ r. r.2) rows.now) }
+    ensures { IfOk result (λ ranks. RanksOf (map N.key names.now) (map N.key (map (λ r. r.1) rows.now)) ranks.items) }
 {
-    let mut ranks = Vec::with_capacity(alloc, names.len())?;
-    for name in names {
-        ranks.push(ranked.rank_of(name))?;
+    let mut ranks = Vec::new(alloc);
+    ranks.resize(names.len(), 0)?;
+    for (rank, row) in rows.iter().enumerate() {
+        ranks[row.2] = rank;
     }
     Ok(ranks)
 }
@@ -216,96 +215,27 @@ pub(crate) fn at(numbers: &[usize], place: usize) -> usize
     }
 }
 
-// Of each number the place of its row, as far as it goes: for the numbers from 0 on, in any order, it is so.
-fn places_of<N: Copy, P: Copy>(
-    alloc: Global,
-    rows: &[(P, N, usize)],
-) -> Result<Vec<usize>, AllocError> {
-    let mut places = Vec::new(alloc);
-    places.resize(rows.len(), 0)?;
-    for (place, row) in rows.iter().enumerate() {
-        if row.2 < places.len() {
-            places[row.2] = place;
-        }
+// The names, each before its number.
+fn with_numbers<N: Row>(alloc: Global, names: &[N]) -> Result<Vec<((), N, usize)>, AllocError>
+    ensures names { IfOk result (λ rows. map (λ r. r.1) rows.items ≡ names.now) }
+    ensures numbers { IfOk result (λ rows. All (λ r. IsAt (map N.key names.now) r.2 (N.key r.1)) rows.items) }
+{
+    let mut rows = Vec::with_capacity(alloc, names.len())?;
+    for (i, name) in names.iter().enumerate() {
+        rows.push(((), *name, i))?;
     }
-    Ok(places)
+    Ok(rows)
 }
 
-// The rank of the name with this number: the place, if its row stands there. No name is looked up then.
-fn rank_at<N: Row, P: Copy>(
-    ranked: &Ranked<N>,
-    rows: &[(P, N, usize)],
-    names: &[N],
-    number: usize,
-    place: usize,
-) -> usize
-    requires inside { number < length names.now }
-    requires same { ranked.now ≡ set_of (map N.key names.now) }
-    requires numbers { RanksOf ranked.now (map N.key names.now) (map (λ r. r.2) rows.now) }
-    ensures { (k : Key) → IsAt (map N.key names.now) number k → IsAt ranked.now result k }
+// Names that have no parts, sorted by themselves; each before its number.
+fn sorted_names<N: Row>(alloc: Global, names: &[N]) -> Result<Vec<((), N, usize)>, AllocError>
+    requires { IsDistinct N.eq names.now }
+    ensures same { IfOk result (λ rows. map N.key (map (λ r. r.1) rows.items) ≡ set_of (map N.key names.now)) }
+    ensures numbers { IfOk result (λ rows. RanksOf (map N.key (map (λ r. r.1) rows.items)) (map N.key names.now) (map (λ r. r.2) rows.items)) }
 {
-    if place < rows.len() && rows[place].2 == number {
-        return place;
-    }
-    ranked.rank_of(&names[number])
-}
-
-// Of each name, by its number, the rank, where the rows stand in the order of the ranks.
-fn ranks_by<N: Row, P: Copy>(
-    alloc: Global,
-    names: &[N],
-    ranked: &Ranked<N>,
-    rows: &[(P, N, usize)],
-) -> Result<Vec<usize>, AllocError>
-    requires same { ranked.now ≡ set_of (map N.key names.now) }
-    requires numbers { RanksOf ranked.now (map N.key names.now) (map (λ r. r.2) rows.now) }
-    ensures { IfOk result (λ ranks. RanksOf (map N.key names.now) ranked.now ranks.items) }
-{
-    let places = places_of(alloc, rows)?;
-    let mut ranks = Vec::with_capacity(alloc, names.len())?;
-    for (i, _) in names.iter().enumerate() {
-        ranks.push(rank_at(ranked, rows, names, i, at(&places, i)))?;
-    }
-    Ok(ranks)
-}
-
-// Names with their ranks, beside each the ranks of its parts, as the rows have them; and of each name, by its number, the rank.
-fn with_columns<N: Row, P: Copy>(
-    alloc: Global,
-    names: &[N],
-    ranked: Ranked<N>,
-    rows: &[(P, N, usize)],
-) -> Result<Sorted<N, P>, AllocError>
-    requires same { ranked ≡ set_of (map N.key names.now) }
-    requires numbers { RanksOf ranked (map N.key names.now) (map (λ r. r.2) rows.now) }
-    ensures table { IfOk result (λ r. (r.table.names ≡ ranked) × (r.table.parts.items ≡ map (λ r. r.0) rows.now)) }
-    ensures ranks { IfOk result (λ r. RanksOf (map N.key names.now) r.table.names r.ranks.items) }
-{
-    let parts = parts_of(alloc, rows)?;
-    let ranks = ranks_by(alloc, names, &ranked, rows)?;
-    let table = Table {
-        names: ranked,
-        parts,
-    };
-    Ok(Sorted { table, ranks })
-}
-
-// A kind in the order of these rows, which are its own and rise.
-fn in_order_of<N: Row, P: Copy>(
-    alloc: Global,
-    made: NamesWithParts<N, P>,
-    rows: &[(P, N, usize)],
-) -> Result<Sorted<N, P>, AllocError>
-    requires distinct { IsDistinct N.eq (map (λ r. r.1) rows.now) }
-    requires rising { Rising (map N.key (map (λ r. r.1) rows.now)) }
-    requires same { map N.key (map (λ r. r.1) rows.now) ≡ set_of made.names }
-    requires numbers { RanksOf (map N.key (map (λ r. r.1) rows.now)) made.names (map (λ r. r.2) rows.now) }
-    ensures table { IfOk result (λ r. (r.table.names ≡ map N.key (map (λ r. r.1) rows.now)) × (r.table.parts.items ≡ map (λ r. r.0) rows.now)) }
-    ensures ranks { IfOk result (λ r. RanksOf made.names r.table.names r.ranks.items) }
-{
-    let names = Vec::from_slice(alloc, made.names.in_order())?;
-    let ranked = made.replaced(rows)?;
-    with_columns(alloc, &names, ranked, rows)
+    let mut rows = with_numbers(alloc, names)?;
+    rows.sort_unstable();
+    Ok(rows)
 }
 
 /// Strings, sorted by content.
@@ -316,13 +246,10 @@ pub(crate) fn sorted_strings<'a>(
     ensures same { IfOk result (λ r. r.names ≡ set_of held.entry) }
     ensures ranks { IfOk result (λ r. RanksOf held.entry r.names r.ranks.items) }
 {
-    let names = Vec::from_slice(alloc, held.in_order())?;
-    let ranked = held.ranked()?;
-    let ranks = ranks_of(alloc, &names, &ranked)?;
-    Ok(Texts {
-        names: ranked,
-        ranks,
-    })
+    let rows = sorted_names(alloc, held.in_order())?;
+    let ranks = ranks_of(alloc, held.in_order(), &rows)?;
+    let names = held.ranked(alloc, &rows, &ranks)?;
+    Ok(Texts { names, ranks })
 }
 
 /// A kind, sorted by the ranks of its parts.
@@ -338,5 +265,10 @@ pub(crate) fn sorted_by<T, P: Numbers<T>, N: Row>(
     ensures rows { IfOk result (λ r. AllZip (P.has sorted.now) r.table.names r.table.parts.items) }
 {
     let rows = sorted_rows(alloc, &made, sorted)?;
-    in_order_of(alloc, made, &rows)
+    let parts = parts_of(alloc, &rows)?;
+    let ranks = ranks_of(alloc, made.names.in_order(), &rows)?;
+    let NamesWithParts { names, parts: _ } = made;
+    let names = names.ranked(alloc, &rows, &ranks)?;
+    let table = Table { names, parts };
+    Ok(Sorted { table, ranks })
 }

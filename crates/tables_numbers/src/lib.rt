@@ -3,7 +3,7 @@
 //! table rises, so that this is the rank of the row's name among the kept names, and no text is read.
 //!
 //! ```text
-//! let mut marks = Marks::new(alloc, &sections)?;
+//! let mut marks = Marks::new(alloc, seed, &sections)?;
 //! marks.mark(&sections, IndexKind::Method, 7)?; // row 7, its class, prototype and name, and their parts
 //! let numbers = marks.number();
 //! let index = numbers.of(IndexKind::Method, 7); // its row in a file of the kept ones alone

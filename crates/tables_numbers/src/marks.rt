@@ -9,6 +9,7 @@ ghost use Rattle.tables_numbers.specs.Numbers.{AreRowNumbers};
 
 use crate::column::{count_before, is_marked, mark, unmarked};
 use crate::numbers::Numbers;
+use base_bytes::Seed;
 use dex_container::{Sections, kind, section_of};
 use dex_insn::{Fault, IndexKind, u16_at};
 use indexmap::IndexSet;
@@ -29,7 +30,7 @@ pub struct Marks {
     protos: Vec<u32>,
     fields: Vec<u32>,
     methods: Vec<u32>,
-    lists: IndexSet<u32>,
+    lists: IndexSet<u32, Seed>,
 }
 
 // Each place where marks are let go is proved: here it is one call, and derived it would be all that they own.
@@ -58,14 +59,15 @@ impl Model for Marks {
 }
 
 impl Marks {
-    /// No row of the file's tables is marked. Takes four bytes a row, and fails only when out of memory.
+    /// No row of the file's tables is marked. Takes four bytes a row, and fails only when out of memory. What is written by the
+    /// marked rows' numbers is hashed with this seed.
     ///
     /// ```
     /// let sections = open(&bytes)?;
-    /// let marks = Marks::new(alloc, &sections)?;
+    /// let marks = Marks::new(alloc, seed, &sections)?;
     /// assert_eq!(rt; marks.number().count(IndexKind::Type), 0);
     /// ```
-    pub fn new(alloc: Global, sections: &Sections<'_>) -> Result<Marks, Fault>
+    pub fn new(alloc: Global, seed: Seed, sections: &Sections<'_>) -> Result<Marks, Fault>
         ensures none { IfOk result (λ m. AreMarks sections.now m nothing) }
         ensures memory { IsOkUnless result memory }
     {
@@ -77,7 +79,7 @@ impl Marks {
             protos: unmarked(alloc, sections.table(kind::PROTO_ID_ITEM).0)?,
             fields: unmarked(alloc, sections.table(kind::FIELD_ID_ITEM).0)?,
             methods: unmarked(alloc, sections.table(kind::METHOD_ID_ITEM).0)?,
-            lists: IndexSet::new(alloc),
+            lists: IndexSet::with_hasher(alloc, seed),
         })
     }
 
@@ -229,6 +231,7 @@ impl Marks {
         requires { (b : _) × HasMarks b self }
         ensures { AreRowNumbers self.columns result }
     {
+        let seed = *self.lists.hasher();
         let Marks {
             mut strings,
             mut types,
@@ -248,6 +251,7 @@ impl Marks {
             protos,
             fields,
             methods,
+            seed,
         }
     }
 }

@@ -3,6 +3,7 @@ ghost use Rattle.std.specs.Prelude.{◌≡◌, ◌↔◌, ◌+◌, ◌-◌, ◌<
 ghost use Rattle.tables_numbers.specs.Numbers.{column_of, IsKept};
 
 use crate::column::is_kept;
+use base_bytes::Seed;
 use dex_insn::IndexKind;
 use std::marker::Model;
 
@@ -14,6 +15,7 @@ pub struct Numbers {
     pub(crate) protos: Vec<u32>,
     pub(crate) fields: Vec<u32>,
     pub(crate) methods: Vec<u32>,
+    pub(crate) seed: Seed,
 }
 
 // As that of `Marks`.
@@ -25,6 +27,7 @@ impl Drop for Numbers {
             protos: _,
             fields: _,
             methods: _,
+            seed: _,
         } = self;
     }
 }
@@ -38,6 +41,15 @@ impl Model for Numbers {
 }
 
 impl Numbers {
+    /// What hashes begin with, for whoever hashes what is written by these numbers.
+    ///
+    /// ```
+    /// let mut handlers = IndexSet::with_hasher(alloc, numbers.seed());
+    /// ```
+    pub fn seed(&self) -> Seed {
+        self.seed
+    }
+
     // The numbers of the table of these names.
     fn column(&self, kind: IndexKind) -> &[u32]
         ensures { result.now ≡ column_of self.now kind }

@@ -3,8 +3,8 @@
 use crate::files::SPARE_NAMES;
 use crate::given::{Given, bytes_of};
 use dex_base::Fault;
-use dex_samples::none_wrong;
-use dexasm_command::{Terminals, Watched, serve};
+use dex_samples::{Case, all_hold};
+use dexasm_command::{Seed, Terminals, Watched, serve};
 use disk_samples::{Disk, Manner};
 use std::alloc::{AllocError, Global};
 use std::test::Fail;
@@ -24,16 +24,21 @@ struct Served {
     out: Option<Given>,
 }
 
-fn disk_of(alloc: Global, manner: Manner) -> Result<Disk, AllocError> {
-    let mut disk = Disk::new(alloc, &NAMES, manner, 64)?;
-    if disk.store("in.dex", &SPARE_NAMES, 0o644)
+impl Case for Served {
+    fn name(&self) -> &'static str {
+        self.what
+    }
+
+    fn holds(&self, alloc: Global) -> Result<bool, Fault> {
+        let mut disk = Disk::new(alloc, &NAMES, self.manner, 64)?;
+        Ok(set(&mut disk) && is_served_so(alloc, &mut disk, self)?)
+    }
+}
+
+fn set(disk: &mut Disk) -> bool {
+    disk.store("in.dex", &SPARE_NAMES, 0o644)
         && disk.store("in.txt", bytes_of(Given::Listing), 0o644)
         && disk.store("out", &OLD, 0o640)
-    {
-        Ok(disk)
-    } else {
-        Err(AllocError)
-    }
 }
 
 // The status, if standard output has nothing and standard error has what is to be told.
@@ -43,6 +48,7 @@ fn status_of(alloc: Global, disk: &mut Disk, case: &Served) -> Option<u8> {
     let mut input = Watched::new(b"".as_slice());
     let status = serve(
         alloc,
+        Seed::fixed(),
         case.words,
         case.terminals,
         disk,
@@ -66,23 +72,13 @@ fn has_out(disk: &Disk, bytes: &[u8]) -> Result<bool, AllocError> {
     }
 }
 
-fn is_served_so(alloc: Global, case: &Served) -> Result<bool, AllocError> {
-    let mut disk = disk_of(alloc, case.manner)?;
-    let status = status_of(alloc, &mut disk, case);
+fn is_served_so(alloc: Global, disk: &mut Disk, case: &Served) -> Result<bool, AllocError> {
+    let status = status_of(alloc, disk, case);
     let out = match case.out {
         Some(new) => bytes_of(new),
         None => OLD.as_slice(),
     };
-    Ok(status == Some(case.status) && has_out(&disk, out)?)
-}
-
-fn first_served_otherwise(alloc: Global, cases: &[Served]) -> Result<Option<&'static str>, Fault> {
-    for case in cases {
-        if !is_served_so(alloc, case)? {
-            return Ok(Some(case.what));
-        }
-    }
-    Ok(None)
+    Ok(status == Some(case.status) && has_out(disk, out)?)
 }
 
 const NO_TERMINAL: Terminals = Terminals {
@@ -177,5 +173,5 @@ fn a_command_leaves_its_status_and_out(rt: HostRuntime) -> Result<(), Fail> {
             out: None,
         },
     ];
-    none_wrong(first_served_otherwise(rt.alloc(), &CASES))
+    all_hold(rt.alloc(), &CASES)
 }

@@ -2,7 +2,7 @@
 //! are those of the manual page's FILES and EXIT STATUS.
 
 use dex_base::Fault;
-use dex_samples::none_wrong;
+use dex_samples::{Case, all_hold};
 use dexasm_command::deliver;
 use disk_samples::{Disk, Manner};
 use std::alloc::{AllocError, Global};
@@ -33,22 +33,32 @@ enum Before {
 //     ~  the run failed, and the answer stands in OUT, and nothing beside it
 //     x  the run failed, and OUT has a front of the answer
 //     ?  anything else
-type Case = (&'static str, Before, Manner, &'static str);
+struct Delivered(&'static str, Before, Manner, &'static [u8]);
 
-fn disk_of(alloc: Global, before: Before, manner: Manner) -> Result<Disk, AllocError> {
-    let mut disk = Disk::new(alloc, &NAMES, manner, 64)?;
-    match before {
-        Before::Nothing => Ok(disk),
-        Before::File => stored(disk, false),
-        Before::TwoNames => stored(disk, true),
+impl Case for Delivered {
+    fn name(&self) -> &'static str {
+        self.0
+    }
+
+    fn holds(&self, alloc: Global) -> Result<bool, Fault> {
+        for (call, sign) in self.3.iter().enumerate() {
+            let manner = Manner {
+                fails_at: call as u64,
+                ..self.2
+            };
+            if sign_of_run(alloc, self.1, manner)? != *sign {
+                return Ok(false);
+            }
+        }
+        Ok(true)
     }
 }
 
-fn stored(mut disk: Disk, is_linked: bool) -> Result<Disk, AllocError> {
-    if disk.store("out", &OLD, 0o640) && (!is_linked || disk.link("out", "other")) {
-        Ok(disk)
-    } else {
-        Err(AllocError)
+fn set(disk: &mut Disk, before: Before) -> bool {
+    match before {
+        Before::Nothing => true,
+        Before::File => disk.store("out", &OLD, 0o640),
+        Before::TwoNames => disk.store("out", &OLD, 0o640) && disk.link("out", "other"),
     }
 }
 
@@ -99,54 +109,33 @@ fn part_of(disk: &Disk) -> Result<Beside, AllocError> {
     }
 }
 
-fn sign_of(is_done: bool, is_old: bool, is_new: bool, beside: Beside) -> char {
+fn sign_of(is_done: bool, is_old: bool, is_new: bool, beside: Beside) -> u8 {
     match (is_done, is_old, is_new, beside) {
-        (true, _, true, Beside::Nothing) => '=',
-        (true, _, true, _) => '*',
-        (false, true, _, Beside::Nothing) => '-',
-        (false, true, _, Beside::Front) => 'p',
-        (false, _, _, Beside::Answer) => '+',
-        (false, _, true, Beside::Nothing) => '~',
-        (false, _, _, Beside::Nothing) => 'x',
-        _ => '?',
+        (true, _, true, Beside::Nothing) => b'=',
+        (true, _, true, _) => b'*',
+        (false, true, _, Beside::Nothing) => b'-',
+        (false, true, _, Beside::Front) => b'p',
+        (false, _, _, Beside::Answer) => b'+',
+        (false, _, true, Beside::Nothing) => b'~',
+        (false, _, _, Beside::Nothing) => b'x',
+        _ => b'?',
     }
 }
 
-// The sign of a run in which this call fails.
-fn sign(alloc: Global, before: Before, manner: Manner) -> Result<char, AllocError> {
-    let mut disk = disk_of(alloc, before, manner)?;
-    let is_done = deliver(alloc, &mut disk, "out", &ANSWER).is_ok();
-    let is_old = is_as_before(&disk, before)?;
-    let is_new = has_out(&disk, before, &ANSWER)?;
-    Ok(sign_of(is_done, is_old, is_new, part_of(&disk)?))
+// The sign of a run over a disk like this.
+fn sign_of_run(alloc: Global, before: Before, manner: Manner) -> Result<u8, AllocError> {
+    let mut disk = Disk::new(alloc, &NAMES, manner, 64)?;
+    set_and_sign(alloc, &mut disk, before)
 }
 
-fn signs(alloc: Global, before: Before, manner: Manner) -> Result<String, AllocError> {
-    let mut signs = String::new(alloc);
-    for call in 0..16 {
-        let sign = sign(
-            alloc,
-            before,
-            Manner {
-                fails_at: call,
-                ..manner
-            },
-        )?;
-        signs.push(sign)?;
-        if sign == '=' {
-            break;
-        }
+fn set_and_sign(alloc: Global, disk: &mut Disk, before: Before) -> Result<u8, AllocError> {
+    if !set(disk, before) {
+        return Err(AllocError);
     }
-    Ok(signs)
-}
-
-fn first_delivered_otherwise(alloc: Global, cases: &[Case]) -> Result<Option<&'static str>, Fault> {
-    for (what, before, manner, want) in cases {
-        if signs(alloc, *before, *manner)?.as_str() != *want {
-            return Ok(Some(*what));
-        }
-    }
-    Ok(None)
+    let is_done = deliver(alloc, disk, "out", &ANSWER).is_ok();
+    let is_old = is_as_before(disk, before)?;
+    let is_new = has_out(disk, before, &ANSWER)?;
+    Ok(sign_of(is_done, is_old, is_new, part_of(disk)?))
 }
 
 const ONE_FAILS: Manner = Manner {
@@ -177,15 +166,15 @@ const TWO_FAIL: Manner = Manner {
 #[rattlefmt::skip]
 #[test]
 fn out_is_never_lost_whichever_call_fails(rt: HostRuntime) -> Result<(), Fail> {
-    static CASES: [Case; 8] = [
-        ("OUT is absent", Before::Nothing, ONE_FAILS, "----="),
-        ("OUT is there", Before::File, ONE_FAILS, "------="),
-        ("OUT has two names", Before::TwoNames, ONE_FAILS, "-----++++*="),
-        ("OUT can't be replaced", Before::File, FIXED, "-----++++*="),
-        ("the folder takes no new file", Before::File, CLOSED, "-xx="),
-        ("the folder takes no OUT", Before::Nothing, CLOSED, "----------------"),
-        ("the call that fails has done its work", Before::Nothing, LATE, "p--~="),
-        ("the part can't be taken away either", Before::Nothing, TWO_FAIL, "-pp+="),
+    static CASES: [Delivered; 8] = [
+        Delivered("OUT is absent", Before::Nothing, ONE_FAILS, b"----="),
+        Delivered("OUT is there", Before::File, ONE_FAILS, b"------="),
+        Delivered("OUT has two names", Before::TwoNames, ONE_FAILS, b"-----++++*="),
+        Delivered("OUT can't be replaced", Before::File, FIXED, b"-----++++*="),
+        Delivered("the folder takes no new file", Before::File, CLOSED, b"-xx="),
+        Delivered("the folder takes no OUT", Before::Nothing, CLOSED, b"----------------"),
+        Delivered("the call that fails has done its work", Before::Nothing, LATE, b"p--~="),
+        Delivered("the part can't be taken away either", Before::Nothing, TWO_FAIL, b"-pp+="),
     ];
-    none_wrong(first_delivered_otherwise(rt.alloc(), &CASES))
+    all_hold(rt.alloc(), &CASES)
 }

@@ -3,6 +3,7 @@
 use crate::files::{LATER_SUPERCLASS, SPARE_NAMES};
 use crate::listings::{
     BARE_TRY, ESCAPED, EVEN_PAYLOAD, LATER_SUPERCLASS_LISTED, ODD_PAYLOAD, ONE_CLASS_LISTED,
+    ONE_CLASS_NUMBERED,
 };
 use crate::rich::{RICH, RICH_LISTED};
 use dex_samples::{ONE_CLASS, WITHOUT_CLASSES};
@@ -14,6 +15,7 @@ pub enum Given {
     Okay,
     File,
     Listing,
+    NumberedListing,
     EmptyFile,
     EmptyListing,
     SpareNames,
@@ -34,6 +36,7 @@ pub fn bytes_of(given: Given) -> &'static [u8] {
         Given::Okay => b"ok\n",
         Given::File => &ONE_CLASS,
         Given::Listing => ONE_CLASS_LISTED,
+        Given::NumberedListing => ONE_CLASS_NUMBERED,
         Given::EmptyFile => &WITHOUT_CLASSES,
         Given::EmptyListing => b"dex 035 listing 2\n",
         Given::SpareNames => &SPARE_NAMES,

@@ -16,9 +16,9 @@ mod plans;
 
 // dexasm_run
 #[cfg(test)]
-mod ends;
-#[cfg(test)]
 mod jobs;
+#[cfg(test)]
+mod ran;
 #[cfg(test)]
 mod rich;
 #[cfg(test)]

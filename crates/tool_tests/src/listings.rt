@@ -12,6 +12,18 @@ end code
 end class
 ";
 
+/// The same listing in the first form.
+pub static ONE_CLASS_NUMBERED: &[u8] = b"\
+dex 035
+class LA; 0x1
+super Ljava/lang/Object;
+direct m ()V 0x9
+code 1 0 0
+0: return-void
+end code
+end class
+";
+
 /// A class whose superclass is a later one.
 pub static LATER_SUPERCLASS_LISTED: &[u8] = b"\
 dex 035 listing 2

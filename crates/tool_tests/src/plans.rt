@@ -1,33 +1,41 @@
 //! What words ask for, and what is told of wrong ones.
 
-use dex_samples::none_wrong;
+use dex_base::Fault;
+use dex_samples::{Case, all_hold};
 use dexasm_command::{Job, plan, usage_status};
 use std::alloc::Global;
 use std::test::Fail;
 
-// Words, and what they ask for: the job, FILE, OUT.
-struct Asked {
-    words: &'static [&'static str],
-    job: Job,
-    file: Option<&'static str>,
-    output: Option<&'static str>,
+// What words mean.
+enum Meaning {
+    // the job, FILE, OUT
+    Plan(Job, Option<&'static str>, Option<&'static str>),
+    // they are refused, or ask for help, with this status
+    Status(u8),
+}
+
+struct Said(&'static [&'static str], Meaning);
+
+impl Case for Said {
+    fn name(&self) -> &'static str {
+        last_of(self.0)
+    }
+
+    fn holds(&self, alloc: Global) -> Result<bool, Fault> {
+        Ok(match (plan(alloc, self.0), &self.1) {
+            (Ok(made), Meaning::Plan(job, file, output)) => {
+                made.job == *job && is_same(made.file, *file) && is_same(made.output, *output)
+            }
+            (Err(error), Meaning::Status(status)) => usage_status(&error) == *status,
+            _ => false,
+        })
+    }
 }
 
 fn is_same(one: Option<&str>, other: Option<&str>) -> bool {
     match one {
         Some(text) => other.is_some_and(|it| it == text),
         None => other.is_none(),
-    }
-}
-
-fn is_planned_so(alloc: Global, case: &Asked) -> bool {
-    match plan(alloc, case.words) {
-        Ok(made) => {
-            made.job == case.job
-                && is_same(made.file, case.file)
-                && is_same(made.output, case.output)
-        }
-        Err(_) => false,
     }
 }
 
@@ -38,125 +46,46 @@ fn last_of(words: &'static [&'static str]) -> &'static str {
     }
 }
 
-fn first_planned_otherwise(alloc: Global, cases: &[Asked]) -> Option<&'static str> {
-    for case in cases {
-        if !is_planned_so(alloc, case) {
-            return Some(last_of(case.words));
-        }
-    }
-    None
-}
-
+#[rattlefmt::skip]
 #[test]
-fn each_job_may_have_a_file_and_an_output(rt: HostRuntime) -> Result<(), Fail> {
-    static CASES: [Asked; 11] = [
-        Asked {
-            words: &["dexasm", "check"],
-            job: Job::Check,
-            file: None,
-            output: None,
-        },
-        Asked {
-            words: &["dexasm", "list"],
-            job: Job::List,
-            file: None,
-            output: None,
-        },
-        Asked {
-            words: &["dexasm", "assemble"],
-            job: Job::Assemble { align: false },
-            file: None,
-            output: None,
-        },
-        Asked {
-            words: &["dexasm", "assemble", "--align"],
-            job: Job::Assemble { align: true },
-            file: None,
-            output: None,
-        },
-        Asked {
-            words: &["dexasm", "strip"],
-            job: Job::Strip,
-            file: None,
-            output: None,
-        },
-        Asked {
-            words: &["dexasm", "check", "a.dex"],
-            job: Job::Check,
-            file: Some("a.dex"),
-            output: None,
-        },
-        Asked {
-            words: &["dexasm", "list", "--output", "a.txt"],
-            job: Job::List,
-            file: None,
-            output: Some("a.txt"),
-        },
-        Asked {
-            words: &["dexasm", "assemble", "a.txt", "--align", "--output=a.dex"],
-            job: Job::Assemble { align: true },
-            file: Some("a.txt"),
-            output: Some("a.dex"),
-        },
-        Asked {
-            words: &["dexasm", "assemble", "--output", "a.dex", "--", "--align"],
-            job: Job::Assemble { align: false },
-            file: Some("--align"),
-            output: Some("a.dex"),
-        },
-        Asked {
-            words: &["dexasm", "strip", "--output", "b.dex", "a.dex"],
-            job: Job::Strip,
-            file: Some("a.dex"),
-            output: Some("b.dex"),
-        },
-        Asked {
-            words: &["dexasm", "strip", "list", "--output="],
-            job: Job::Strip,
-            file: Some("list"),
-            output: Some(""),
-        },
+fn words_ask_for_a_job_or_have_their_status(rt: HostRuntime) -> Result<(), Fail> {
+    static CASES: [Said; 26] = [
+        Said(&["dexasm", "check"], Meaning::Plan(Job::Check, None, None)),
+        Said(&["dexasm", "list"], Meaning::Plan(Job::List, None, None)),
+        Said(&["dexasm", "assemble"], Meaning::Plan(Job::Assemble { align: false }, None, None)),
+        Said(&["dexasm", "assemble", "--align"], Meaning::Plan(Job::Assemble { align: true }, None, None)),
+        Said(&["dexasm", "strip"], Meaning::Plan(Job::Strip, None, None)),
+        Said(&["dexasm", "check", "a.dex"], Meaning::Plan(Job::Check, Some("a.dex"), None)),
+        Said(&["dexasm", "list", "--output", "a.txt"], Meaning::Plan(Job::List, None, Some("a.txt"))),
+        Said(
+            &["dexasm", "assemble", "a.txt", "--align", "--output=a.dex"],
+            Meaning::Plan(Job::Assemble { align: true }, Some("a.txt"), Some("a.dex")),
+        ),
+        Said(
+            &["dexasm", "assemble", "--output", "a.dex", "--", "--align"],
+            Meaning::Plan(Job::Assemble { align: false }, Some("--align"), Some("a.dex")),
+        ),
+        Said(
+            &["dexasm", "strip", "--output", "b.dex", "a.dex"],
+            Meaning::Plan(Job::Strip, Some("a.dex"), Some("b.dex")),
+        ),
+        Said(&["dexasm", "strip", "list", "--output="], Meaning::Plan(Job::Strip, Some("list"), Some(""))),
+        // Help, and wrong words.
+        Said(&["dexasm", "--help"], Meaning::Status(0)),
+        Said(&["dexasm", "-h"], Meaning::Status(0)),
+        Said(&["dexasm", "check", "--help"], Meaning::Status(0)),
+        Said(&["dexasm", "assemble", "a.txt", "-h"], Meaning::Status(0)),
+        Said(&["dexasm"], Meaning::Status(2)),
+        Said(&[], Meaning::Status(2)),
+        Said(&["dexasm", "help"], Meaning::Status(2)),
+        Said(&["dexasm", "dump"], Meaning::Status(2)),
+        Said(&["dexasm", "--align", "assemble"], Meaning::Status(2)),
+        Said(&["dexasm", "check", "--align"], Meaning::Status(2)),
+        Said(&["dexasm", "list", "--align"], Meaning::Status(2)),
+        Said(&["dexasm", "strip", "--align"], Meaning::Status(2)),
+        Said(&["dexasm", "assemble", "--align=true"], Meaning::Status(2)),
+        Said(&["dexasm", "check", "a.dex", "b.dex"], Meaning::Status(2)),
+        Said(&["dexasm", "list", "--output"], Meaning::Status(2)),
     ];
-    none_wrong(Ok(first_planned_otherwise(rt.alloc(), &CASES)))
-}
-
-// Words that are refused, and the status that tells of it.
-type Refused = (&'static [&'static str], u8);
-
-fn status_of(alloc: Global, words: &[&str]) -> Option<u8> {
-    match plan(alloc, words) {
-        Ok(_) => None,
-        Err(error) => Some(usage_status(&error)),
-    }
-}
-
-fn first_status_otherwise(alloc: Global, cases: &[Refused]) -> Option<&'static str> {
-    for (words, status) in cases {
-        if status_of(alloc, words) != Some(*status) {
-            return Some(last_of(words));
-        }
-    }
-    None
-}
-
-#[test]
-fn wrong_words_and_help_have_their_status(rt: HostRuntime) -> Result<(), Fail> {
-    static CASES: [Refused; 15] = [
-        (&["dexasm", "--help"], 0),
-        (&["dexasm", "-h"], 0),
-        (&["dexasm", "check", "--help"], 0),
-        (&["dexasm", "assemble", "a.txt", "-h"], 0),
-        (&["dexasm"], 2),
-        (&[], 2),
-        (&["dexasm", "help"], 2),
-        (&["dexasm", "dump"], 2),
-        (&["dexasm", "--align", "assemble"], 2),
-        (&["dexasm", "check", "--align"], 2),
-        (&["dexasm", "list", "--align"], 2),
-        (&["dexasm", "strip", "--align"], 2),
-        (&["dexasm", "assemble", "--align=true"], 2),
-        (&["dexasm", "check", "a.dex", "b.dex"], 2),
-        (&["dexasm", "list", "--output"], 2),
-    ];
-    none_wrong(Ok(first_status_otherwise(rt.alloc(), &CASES)))
+    all_hold(rt.alloc(), &CASES)
 }

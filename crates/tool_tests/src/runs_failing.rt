@@ -1,173 +1,194 @@
 //! Runs whose reader or writer fails, for good or once.
 
+use crate::given::Given;
+use crate::ran::{End, Input, Ran, Run, SOUND, Told, is_so};
 use dex_base::{Fault, fault};
-use dex_samples::{
-    NOTHING, ONE_CLASS, Rows, TestReader, TestWriter, WITHOUT_CLASSES, file_of, is_so, none_wrong,
-    reader, reader_failing_once, writer, writer_failing_once,
-};
-use dexasm_command::{Job, RunFault, Sink, Source, Watched, run};
+use dex_samples::{Case, all_hold};
+use dexasm_command::Job;
 use std::alloc::Global;
 use std::test::Fail;
 
-// Whether a check tells that the input failed, has written nothing, and has not read on: so many bytes are left.
-fn is_input_told(alloc: Global, given: TestReader<'_>, left: usize) -> bool {
-    let mut input = Watched::new(given);
-    let mut output = Watched::new(writer(alloc, 9, 9));
-    let done = run(alloc, Job::Check, &mut input, &mut output);
-    let is_told = matches!(done, Err(RunFault::Input)) && Source::failed(&input);
-    let has_stopped = input.into_inner().rest.len() == left;
-    is_told && has_stopped && output.into_inner().held.is_empty()
-}
-
-// When the reader fails, and after how many bytes.
-type Failing = (&'static str, usize);
-
-fn first_input_told_otherwise(alloc: Global, cases: &[Failing]) -> Option<&'static str> {
-    for (what, bytes) in cases {
-        let left = WITHOUT_CLASSES.len().saturating_sub(*bytes);
-        if !is_input_told(alloc, reader(&WITHOUT_CLASSES, 16, *bytes), left) {
-            return Some(*what);
-        }
-    }
-    None
-}
-
-static READERS: [Failing; 5] = [
-    ("at once", 0),
-    ("after a byte", 1),
-    ("after 64 bytes", 64),
-    ("before the last byte", 139),
-    ("after the last byte", 140),
-];
-
+#[rattlefmt::skip]
 #[test]
-fn a_reader_that_fails_anywhere_is_told(rt: HostRuntime) -> Result<(), Fail> {
-    none_wrong(Ok(first_input_told_otherwise(rt.alloc(), &READERS)))
-}
-
-fn first_input_read_on(alloc: Global, cases: &[Failing]) -> Option<&'static str> {
-    for (what, bytes) in cases {
-        let left = WITHOUT_CLASSES.len().saturating_sub(*bytes);
-        if !is_input_told(
-            alloc,
-            reader_failing_once(&WITHOUT_CLASSES, 16, *bytes),
-            left,
-        ) {
-            return Some(*what);
-        }
-    }
-    None
-}
-
-#[test]
-fn a_reader_that_fails_once_is_not_read_on(rt: HostRuntime) -> Result<(), Fail> {
-    none_wrong(Ok(first_input_read_on(rt.alloc(), &READERS)))
-}
-
-// The reader fails in the second piece of 64 KiB.
-fn is_later_piece_told(alloc: Global) -> Result<bool, Fault> {
-    let arrays = vec![in alloc; 7u8; 200_000]?;
-    let rows = Rows {
-        arrays: &arrays,
-        ..NOTHING
-    };
-    let file = file_of(alloc, &rows)?;
-    let left = file.len().saturating_sub(100_000);
-    Ok(is_input_told(alloc, reader_failing_once(&file, usize::MAX, 100_000), left))
-}
-
-#[test]
-fn a_reader_that_fails_in_a_later_piece_is_told(rt: HostRuntime) -> Result<(), Fail> {
-    is_so(is_later_piece_told(rt.alloc()))
-}
-
-// Whether a check tells that the output failed, which holds the first bytes of the answer, so many.
-fn is_output_told(alloc: Global, taking: TestWriter, held: usize) -> bool {
-    let mut input = Watched::new(WITHOUT_CLASSES.as_slice());
-    let mut output = Watched::new(taking);
-    let done = run(alloc, Job::Check, &mut input, &mut output);
-    let is_told = matches!(done, Err(RunFault::Output)) && Sink::failed(&output);
-    is_told && held <= 3 && output.into_inner().held.as_slice() == &b"ok\n"[..held]
-}
-
-fn first_output_told_otherwise(alloc: Global, cases: &[Failing]) -> Option<&'static str> {
-    for (what, bytes) in cases {
-        if !is_output_told(alloc, writer(alloc, 1, *bytes), *bytes) {
-            return Some(*what);
-        }
-    }
-    None
-}
-
-static WRITERS: [Failing; 3] = [("at once", 0), ("after a byte", 1), ("after two bytes", 2)];
-
-#[test]
-fn a_writer_that_fails_holds_a_beginning(rt: HostRuntime) -> Result<(), Fail> {
-    none_wrong(Ok(first_output_told_otherwise(rt.alloc(), &WRITERS)))
-}
-
-fn first_output_written_on(alloc: Global, cases: &[Failing]) -> Option<&'static str> {
-    for (what, bytes) in cases {
-        if !is_output_told(alloc, writer_failing_once(alloc, 1, *bytes), *bytes) {
-            return Some(*what);
-        }
-    }
-    None
-}
-
-#[test]
-fn a_writer_that_fails_once_is_not_written_on(rt: HostRuntime) -> Result<(), Fail> {
-    none_wrong(Ok(first_output_written_on(rt.alloc(), &WRITERS)))
-}
-
-#[test]
-fn a_writer_that_takes_nothing_has_failed(rt: HostRuntime) -> Result<(), Fail> {
-    is_so(Ok(is_output_told(rt.alloc(), writer(rt.alloc(), 0, 9), 0)))
-}
-
-// Whether a strip tells that the output failed, which holds the first bytes of the file, so many.
-fn is_strip_told(alloc: Global, taking: TestWriter, held: usize) -> bool {
-    let mut input = Watched::new(ONE_CLASS.as_slice());
-    let mut output = Watched::new(taking);
-    let done = run(alloc, Job::Strip, &mut input, &mut output);
-    let is_told = matches!(done, Err(RunFault::Output)) && Sink::failed(&output);
-    is_told && held <= 376 && output.into_inner().held.as_slice() == &ONE_CLASS[..held]
-}
-
-fn first_strip_told_otherwise(alloc: Global, cases: &[Failing]) -> Option<&'static str> {
-    for (what, bytes) in cases {
-        if !is_strip_told(alloc, writer(alloc, 7, *bytes), *bytes) {
-            return Some(*what);
-        }
-    }
-    None
-}
-
-#[test]
-fn a_writer_that_fails_holds_the_beginning_of_a_file(rt: HostRuntime) -> Result<(), Fail> {
-    static CASES: [Failing; 5] = [
-        ("at once", 0),
-        ("after a byte", 1),
-        ("within a piece", 10),
-        ("after 7 times 30 bytes", 210),
-        ("before the last byte", 375),
+fn a_reader_that_fails_is_told_and_not_read_on(rt: HostRuntime) -> Result<(), Fail> {
+    static CASES: [Ran; 12] = [
+        Ran(
+            "a reader that fails at once",
+            Run(Job::Check, Input::Given(Given::EmptyFile), End(16, 0, false), End(9, 9, false), Told::Reader(140)),
+        ),
+        Ran(
+            "a reader that fails after a byte",
+            Run(Job::Check, Input::Given(Given::EmptyFile), End(16, 1, false), End(9, 9, false), Told::Reader(139)),
+        ),
+        Ran(
+            "a reader that fails after 64 bytes",
+            Run(Job::Check, Input::Given(Given::EmptyFile), End(16, 64, false), End(9, 9, false), Told::Reader(76)),
+        ),
+        Ran(
+            "a reader that fails before the last byte",
+            Run(Job::Check, Input::Given(Given::EmptyFile), End(16, 139, false), End(9, 9, false), Told::Reader(1)),
+        ),
+        Ran(
+            "a reader that fails after the last byte",
+            Run(Job::Check, Input::Given(Given::EmptyFile), End(16, 140, false), End(9, 9, false), Told::Reader(0)),
+        ),
+        Ran(
+            "a reader that fails once, at once",
+            Run(Job::Check, Input::Given(Given::EmptyFile), End(16, 0, true), End(9, 9, false), Told::Reader(140)),
+        ),
+        Ran(
+            "a reader that fails once, after a byte",
+            Run(Job::Check, Input::Given(Given::EmptyFile), End(16, 1, true), End(9, 9, false), Told::Reader(139)),
+        ),
+        Ran(
+            "a reader that fails once, after 64 bytes",
+            Run(Job::Check, Input::Given(Given::EmptyFile), End(16, 64, true), End(9, 9, false), Told::Reader(76)),
+        ),
+        Ran(
+            "a reader that fails once, before the last byte",
+            Run(Job::Check, Input::Given(Given::EmptyFile), End(16, 139, true), End(9, 9, false), Told::Reader(1)),
+        ),
+        Ran(
+            "a reader that fails once, after the last byte",
+            Run(Job::Check, Input::Given(Given::EmptyFile), End(16, 140, true), End(9, 9, false), Told::Reader(0)),
+        ),
+        // The file has 200,152 bytes.
+        Ran(
+            "a reader that fails in a later piece",
+            Run(Job::Check, Input::Long, End(usize::MAX, 100_000, true), End(9, 9, false), Told::Reader(100_152)),
+        ),
+        Ran(
+            "a reader that fails at its end",
+            Run(Job::Strip, Input::Given(Given::File), End(512, 376, false), End(512, 512, false), Told::Reader(0)),
+        ),
     ];
-    none_wrong(Ok(first_strip_told_otherwise(rt.alloc(), &CASES)))
+    all_hold(rt.alloc(), &CASES)
 }
 
-// A file that is cut is refused before the writer, which takes nothing, is asked.
-fn is_cut_told(alloc: Global) -> bool {
-    let mut input = Watched::new(&ONE_CLASS[..111]);
-    let mut output = Watched::new(writer(alloc, 9, 0));
-    let done = run(alloc, Job::Strip, &mut input, &mut output);
-    let is_told = match done {
-        Err(RunFault::Refused(found)) => found.code == fault::TOO_SHORT && found.place == 111,
-        _ => false,
-    };
-    is_told && !Sink::failed(&output)
+#[rattlefmt::skip]
+#[test]
+fn a_writer_that_fails_holds_a_beginning_and_is_not_written_on(rt: HostRuntime) -> Result<(), Fail> {
+    static CASES: [Ran; 17] = [
+        Ran(
+            "a writer that fails at once",
+            Run(Job::Check, Input::Given(Given::EmptyFile), SOUND, End(1, 0, false), Told::Writer(Given::Okay, 0)),
+        ),
+        Ran(
+            "a writer that fails after a byte",
+            Run(Job::Check, Input::Given(Given::EmptyFile), SOUND, End(1, 1, false), Told::Writer(Given::Okay, 1)),
+        ),
+        Ran(
+            "a writer that fails after two bytes",
+            Run(Job::Check, Input::Given(Given::EmptyFile), SOUND, End(1, 2, false), Told::Writer(Given::Okay, 2)),
+        ),
+        Ran(
+            "a writer that fails once, at once",
+            Run(Job::Check, Input::Given(Given::EmptyFile), SOUND, End(1, 0, true), Told::Writer(Given::Okay, 0)),
+        ),
+        Ran(
+            "a writer that fails once, after a byte",
+            Run(Job::Check, Input::Given(Given::EmptyFile), SOUND, End(1, 1, true), Told::Writer(Given::Okay, 1)),
+        ),
+        Ran(
+            "a writer that fails once, after two bytes",
+            Run(Job::Check, Input::Given(Given::EmptyFile), SOUND, End(1, 2, true), Told::Writer(Given::Okay, 2)),
+        ),
+        Ran(
+            "a writer that takes nothing",
+            Run(Job::Check, Input::Given(Given::EmptyFile), SOUND, End(0, 9, false), Told::Writer(Given::Okay, 0)),
+        ),
+        Ran(
+            "a strip into a writer that fails at once",
+            Run(Job::Strip, Input::Given(Given::File), SOUND, End(7, 0, false), Told::Writer(Given::File, 0)),
+        ),
+        Ran(
+            "a strip into a writer that fails after a byte",
+            Run(Job::Strip, Input::Given(Given::File), SOUND, End(7, 1, false), Told::Writer(Given::File, 1)),
+        ),
+        Ran(
+            "a strip into a writer that fails within a piece",
+            Run(Job::Strip, Input::Given(Given::File), SOUND, End(7, 10, false), Told::Writer(Given::File, 10)),
+        ),
+        Ran(
+            "a strip into a writer that fails after 7 times 30 bytes",
+            Run(Job::Strip, Input::Given(Given::File), SOUND, End(7, 210, false), Told::Writer(Given::File, 210)),
+        ),
+        Ran(
+            "a strip into a writer that fails before the last byte",
+            Run(Job::Strip, Input::Given(Given::File), SOUND, End(7, 375, false), Told::Writer(Given::File, 375)),
+        ),
+        Ran(
+            "a refusal before a writer that fails",
+            Run(Job::Strip, Input::Front(Given::File, 111), SOUND, End(9, 0, false), Told::Refused(fault::TOO_SHORT, 111)),
+        ),
+        Ran(
+            "a writer that takes a byte a call",
+            Run(Job::Strip, Input::Given(Given::File), End(512, 512, false), End(1, 512, false), Told::Answered(Given::File)),
+        ),
+        Ran(
+            "a reader that gives a byte a call",
+            Run(Job::Strip, Input::Given(Given::File), End(1, 512, false), End(512, 512, false), Told::Answered(Given::File)),
+        ),
+        Ran(
+            "a writer that takes no byte",
+            Run(Job::Strip, Input::Given(Given::File), End(512, 512, false), End(0, 512, false), Told::Writer(Given::File, 0)),
+        ),
+        Ran(
+            "a refusal before a writer that always fails",
+            Run(Job::Strip, Input::Front(Given::File, 111), End(512, 512, false), End(512, 0, false), Told::Refused(fault::TOO_SHORT, 111)),
+        ),
+    ];
+    all_hold(rt.alloc(), &CASES)
+}
+
+// Which end of a strip of the file of one class fails after each number of bytes.
+enum Failing {
+    Reader,
+    Writer,
+}
+
+impl Case for Failing {
+    fn name(&self) -> &'static str {
+        match self {
+            Failing::Reader => "the reader fails",
+            Failing::Writer => "the writer fails",
+        }
+    }
+
+    fn holds(&self, alloc: Global) -> Result<bool, Fault> {
+        for bytes in 0..376 {
+            if !is_so(alloc, &self.run(bytes))? {
+                return Ok(false);
+            }
+        }
+        Ok(true)
+    }
+}
+
+impl Failing {
+    fn run(&self, bytes: usize) -> Run {
+        let file = Input::Given(Given::File);
+        match self {
+            Failing::Reader => Run(
+                Job::Strip,
+                file,
+                End(512, bytes, false),
+                End(512, 512, false),
+                Told::Reader(376usize.saturating_sub(bytes)),
+            ),
+            Failing::Writer => Run(
+                Job::Strip,
+                file,
+                End(512, 512, false),
+                End(512, bytes, false),
+                Told::Writer(Given::File, bytes),
+            ),
+        }
+    }
 }
 
 #[test]
-fn a_refusal_goes_before_a_failing_writer(rt: HostRuntime) -> Result<(), Fail> {
-    is_so(Ok(is_cut_told(rt.alloc())))
+fn ends_that_fail_after_each_byte_are_told(rt: HostRuntime) -> Result<(), Fail> {
+    static CASES: [Failing; 2] = [Failing::Reader, Failing::Writer];
+    all_hold(rt.alloc(), &CASES)
 }

@@ -103,7 +103,7 @@ fn mark_values<'b>(
 /// An array has to stand at the offset. It fails only when out of memory, and then some of the rows may be marked.
 ///
 /// ```
-/// let mut marks = Marks::new(alloc, &sections)?;
+/// let mut marks = Marks::new(alloc, seed, &sections)?;
 /// let most = mark_array(&mut marks, &sections, 0x1c0)?; // 9 for an array of one int
 /// ```
 pub fn mark_array(marks: &mut Marks, sections: &Sections<'_>, off: u32) -> Result<u64, Fault>

@@ -3,25 +3,33 @@
 //! docs/MAP.md says where this crate stands among the others.
 #![tactic(auto)]
 
-// Programs that keep the rules, written.
+// Programs that keep the rules, written, and what is found in a file.
+#[cfg(test)]
+mod found;
 #[cfg(test)]
 mod kept;
 
-// Programs: small ones, and ones with many names.
+// Programs: small ones, bodies at a limit, many names.
 #[cfg(test)]
-mod aligned;
-#[cfg(test)]
-mod code_limits;
-#[cfg(test)]
-mod codes;
+mod bodies;
 #[cfg(test)]
 mod many;
 #[cfg(test)]
-mod name_limits;
-#[cfg(test)]
-mod shared;
+mod names;
 #[cfg(test)]
 mod small;
+
+// Files of rows, and what is left of each.
+#[cfg(test)]
+mod left;
+#[cfg(test)]
+mod rows;
+
+// The tests.
+#[cfg(test)]
+mod hostile;
+#[cfg(test)]
+mod limits;
 #[cfg(test)]
 mod stripped;
 #[cfg(test)]

@@ -23,12 +23,10 @@ const B: Desc<'static> = Desc {
 const M: Str<'static> = Str { units: &[0x6d] };
 
 // `()V`.
-fn to_void<'a>(arena: &'a Bump) -> Result<&'a Proto<'a>, Fault> {
-    Ok(arena.try_alloc(Proto {
-        ret: VOID,
-        params: &[],
-    })?)
-}
+static TO_VOID: Proto<'static> = Proto {
+    ret: VOID,
+    params: &[],
+};
 
 // Two units that rise with the number, each of them one of a name.
 fn units_of(number: u32) -> [u16; 2] {
@@ -51,49 +49,26 @@ fn type_of<'a>(arena: &'a Bump, number: u32) -> Result<Desc<'a>, Fault> {
     })
 }
 
-/// So many fields of type `I`.
-pub fn ints<'a>(arena: &'a Bump, count: u32) -> Result<&'a [Member<'a>], Fault> {
-    let mut fields = Vec::new(arena);
-    for number in 0..count {
-        fields.push(Member {
-            name: name_of(arena, number)?,
-            ty: INT,
-            flags: 0,
-        })?;
-    }
-    Ok(into_bump_slice(fields))
+// The field of this number, of type `I` or of a class type of its own.
+fn member<'a>(arena: &'a Bump, number: u32, of_ints: bool) -> Result<Member<'a>, Fault> {
+    Ok(Member {
+        name: name_of(arena, number)?,
+        ty: if of_ints {
+            INT
+        } else {
+            type_of(arena, number)?
+        },
+        flags: 0,
+    })
 }
 
-/// So many fields, each of a class type of its own.
-pub fn objects<'a>(arena: &'a Bump, count: u32) -> Result<&'a [Member<'a>], Fault> {
+/// So many fields, all of type `I` or each of a class type of its own.
+pub fn fields<'a>(arena: &'a Bump, count: u32, of_ints: bool) -> Result<&'a [Member<'a>], Fault> {
     let mut fields = Vec::new(arena);
     for number in 0..count {
-        fields.push(Member {
-            name: name_of(arena, number)?,
-            ty: type_of(arena, number)?,
-            flags: 0,
-        })?;
+        fields.push(member(arena, number, of_ints)?)?;
     }
     Ok(into_bump_slice(fields))
-}
-
-/// So many methods `()V`, each with this body.
-pub fn alike<'a>(
-    arena: &'a Bump,
-    count: u32,
-    code: Option<&'a Code<'a>>,
-) -> Result<&'a [Method<'a>], Fault> {
-    let proto = to_void(arena)?;
-    let mut methods = Vec::new(arena);
-    for number in 0..count {
-        methods.push(Method {
-            name: name_of(arena, number)?,
-            proto,
-            flags: 9,
-            code,
-        })?;
-    }
-    Ok(into_bump_slice(methods))
 }
 
 // A prototype of its own for each number: two of 300 types.
@@ -104,22 +79,39 @@ fn proto_of<'a>(arena: &'a Bump, number: u32) -> Result<&'a Proto<'a>, Fault> {
     Ok(arena.try_alloc(Proto { ret: VOID, params })?)
 }
 
-/// So many methods, each of a prototype of its own.
-pub fn unlike<'a>(arena: &'a Bump, count: u32) -> Result<&'a [Method<'a>], Fault> {
+/// What methods have.
+#[derive(Clone, Copy)]
+pub enum Has<'a> {
+    /// `()V`, and this body, if there is one.
+    Body(Option<&'a Code<'a>>),
+    /// Each a prototype of its own, and none a body.
+    OwnProto,
+}
+
+// The method of this number.
+fn method<'a>(arena: &'a Bump, number: u32, has: Has<'a>) -> Result<Method<'a>, Fault> {
+    let (proto, code) = match has {
+        Has::Body(code) => (&TO_VOID, code),
+        Has::OwnProto => (proto_of(arena, number)?, None),
+    };
+    Ok(Method {
+        name: name_of(arena, number)?,
+        proto,
+        flags: 9,
+        code,
+    })
+}
+
+/// So many methods.
+pub fn methods<'a>(arena: &'a Bump, count: u32, has: Has<'a>) -> Result<&'a [Method<'a>], Fault> {
     let mut methods = Vec::new(arena);
     for number in 0..count {
-        let name = name_of(arena, number)?;
-        methods.push(Method {
-            name,
-            proto: proto_of(arena, number)?,
-            flags: 9,
-            code: None,
-        })?;
+        methods.push(method(arena, number, has)?)?;
     }
     Ok(into_bump_slice(methods))
 }
 
-/// The field of this number in a class with `ints`.
+/// The field of this number in a class with fields of type `I`.
 pub fn field_named<'a>(arena: &'a Bump, number: u32) -> Result<Name<'a>, Fault> {
     Ok(Name::Field(arena.try_alloc(FieldRef {
         class: A,
@@ -128,14 +120,12 @@ pub fn field_named<'a>(arena: &'a Bump, number: u32) -> Result<Name<'a>, Fault> 
     })?))
 }
 
-/// The method of this number in a class with `alike`.
+/// The method of this number in a class with methods of `()V`.
 pub fn method_named<'a>(arena: &'a Bump, number: u32) -> Result<Name<'a>, Fault> {
-    let name = name_of(arena, number)?;
-    let proto = to_void(arena)?;
     Ok(Name::Method(arena.try_alloc(MethodRef {
         class: A,
-        name,
-        proto,
+        name: name_of(arena, number)?,
+        proto: &TO_VOID,
     })?))
 }
 
@@ -161,7 +151,7 @@ fn with_body<'a>(arena: &'a Bump, code: Option<&'a Code<'a>>) -> Result<&'a [Met
     }
     let method = Method {
         name: M,
-        proto: to_void(arena)?,
+        proto: &TO_VOID,
         flags: 9,
         code,
     };

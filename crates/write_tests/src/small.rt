@@ -1,6 +1,6 @@
-//! The program of the file `ONE_CLASS`, with another body or with another method.
+//! The program of the file `ONE_CLASS`, and others of few classes.
 
-use program_types::{Class, Code, Desc, Insn, Method, Proto, Str};
+use program_types::{Class, Code, Desc, Insn, Member, Method, Proto, Str, Value};
 
 /// `LA;`.
 pub const A: Desc<'static> = Desc {
@@ -90,3 +90,83 @@ pub const TWO: Class<'static> = Class {
     ],
     ..EMPTY
 };
+
+/// The class `LA;` with the method `m(I)V`.
+pub const WITH_PARAMETER: Class<'static> = Class {
+    directs: &[Method {
+        proto: &Proto {
+            ret: VOID,
+            params: &[INT],
+        },
+        code: Some(&Code { ins: 1, ..BODY }),
+        ..METHOD
+    }],
+    ..EMPTY
+};
+
+const I: Desc<'static> = Desc {
+    text: Str {
+        units: &[0x4c, 0x49, 0x3b],
+    },
+};
+
+const B: Desc<'static> = Desc {
+    text: Str {
+        units: &[0x4c, 0x42, 0x3b],
+    },
+};
+
+const INT: Desc<'static> = Desc {
+    text: Str { units: &[0x49] },
+};
+
+/// A class that implements `LI;`, with the method `m(LI;)V`.
+pub const WITH_LISTS: &[Class<'static>] = &[Class {
+    interfaces: &[I],
+    directs: &[Method {
+        proto: &Proto {
+            ret: VOID,
+            params: &[I],
+        },
+        code: None,
+        ..METHOD
+    }],
+    ..EMPTY
+}];
+
+/// Two classes with the method `m()V`, of equal bodies.
+pub const WITH_BODIES: &[Class<'static>] = &[
+    Class {
+        directs: &[METHOD],
+        ..EMPTY
+    },
+    Class {
+        ty: B,
+        virtuals: &[Method {
+            code: Some(&BODY),
+            ..METHOD
+        }],
+        ..EMPTY
+    },
+];
+
+const SEVEN: Class<'static> = Class {
+    statics: &[Member {
+        name: Str { units: &[0x61] },
+        ty: INT,
+        flags: 9,
+    }],
+    values: &[Value::Int(7)],
+    ..EMPTY
+};
+
+/// Three classes with a static field `a`, of the values 7, 7 and 8.
+pub const WITH_VALUES: &[Class<'static>] = &[
+    SEVEN,
+    Class { ty: B, ..SEVEN },
+    Class {
+        ty: I,
+        values: &[Value::Int(8)],
+        ..SEVEN
+    },
+];

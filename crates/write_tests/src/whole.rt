@@ -1,114 +1,34 @@
-//! Whole files: of programs built by hand, and of files without slack.
+//! Whole files of programs built by hand.
 
-use crate::kept::file_of;
-use crate::small::{BODY, EMPTY, METHOD, ONE, TWO, VOID};
-use bumpalo::Bump;
-use dex_base::{Fault, u32_at};
-use dex_samples::{ONE_CLASS, WITHOUT_CLASSES, is_so, none_wrong};
-use file_read::read;
-use file_write::strip;
-use program_types::{Class, Code, Desc, Method, Program, Proto, Str};
-use std::alloc::Global;
+use crate::left::Left;
+use crate::left::Made::Written;
+use crate::left::Want::{Classes, Ends, IsOne, IsWithout, Items, OneItem, Placed};
+use crate::small::{ONE, TWO, WITH_BODIES, WITH_LISTS, WITH_PARAMETER, WITH_VALUES};
+use dex_samples::all_hold;
 use std::test::Fail;
 
-static NONE: [Class<'static>; 0] = [];
-
-static ONE_ALONE: [Class<'static>; 1] = [ONE];
-
-fn is_written_as(alloc: Global, program: &Program<'_>, want: &[u8]) -> Result<bool, Fault> {
-    Ok(file_of(alloc, program)?.as_slice() == want)
-}
-
+#[rattlefmt::skip]
 #[test]
-fn the_program_without_classes_is_written_in_140_bytes(rt: HostRuntime) -> Result<(), Fail> {
-    is_so(is_written_as(rt.alloc(), &Program { classes: &NONE }, &WITHOUT_CLASSES))
-}
-
-#[test]
-fn a_class_built_by_hand_is_written_in_376_bytes(rt: HostRuntime) -> Result<(), Fail> {
-    is_so(is_written_as(
-        rt.alloc(),
-        &Program {
-            classes: &ONE_ALONE,
-        },
-        &ONE_CLASS,
-    ))
-}
-
-/// The class `LA;` with the method `m(I)V`.
-static WITH_PARAMETER: [Class<'static>; 1] = [Class {
-    directs: &[Method {
-        proto: &Proto {
-            ret: VOID,
-            params: &[Desc {
-                text: Str { units: &[0x49] },
-            }],
-        },
-        code: Some(&Code { ins: 1, ..BODY }),
-        ..METHOD
-    }],
-    ..EMPTY
-}];
-
-// Its class data, whose method has its code item at 212.
-static CODE_AT_212: [u8; 8] = [0x00, 0x00, 0x01, 0x00, 0x00, 0x09, 0xd4, 0x01];
-
-// The list of the one parameter stands from 204 to 210, after it two zeros and the code item. The map stands at 276: its seventh
-// entry names the list, its eighth, from 364 to 376, the code item.
-fn is_named_where_it_stands(alloc: Global, program: &Program<'_>) -> Result<bool, Fault> {
-    let file = file_of(alloc, program)?;
-    Ok(
-        file.len() == 412
-            && u32_at(&file, 52) == 276
-            && u32_at(&file, 360) == 204
-            && u32_at(&file, 364) == 0x2001
-            && u32_at(&file, 368) == 1
-            && u32_at(&file, 372) == 212
-            && &file[268..276] == CODE_AT_212.as_slice(),
-    )
-}
-
-#[test]
-fn the_map_names_the_first_code_item_and_not_the_zeros_before_it(
-    rt: HostRuntime,
-) -> Result<(), Fail> {
-    is_so(is_named_where_it_stands(
-        rt.alloc(),
-        &Program {
-            classes: &WITH_PARAMETER,
-        },
-    ))
-}
-
-// What it is, and the classes.
-type Case = (&'static str, &'static [Class<'static>]);
-
-// What is written is read again, and is written as it was.
-fn comes_back(alloc: Global, program: &Program<'_>) -> Result<bool, Fault> {
-    let file = file_of(alloc, program)?;
-    let arena = Bump::new(alloc);
-    let again = read(alloc, &arena, &file)?;
-    Ok(
-        again.classes.len() == program.classes.len()
-            && strip(alloc, &file)?.as_slice() == file.as_slice(),
-    )
-}
-
-fn first_changed(alloc: Global, cases: &[Case]) -> Result<Option<&'static str>, Fault> {
-    for (what, classes) in cases {
-        if !comes_back(alloc, &Program { classes })? {
-            return Ok(Some(*what));
-        }
-    }
-    Ok(None)
-}
-
-#[test]
-fn what_is_written_is_read_again(rt: HostRuntime) -> Result<(), Fail> {
-    static CASES: [Case; 3] = [
-        ("no class", &[]),
-        ("one method", &[ONE]),
-        ("two methods", &[TWO]),
+fn programs_built_by_hand_are_written_and_read_again(rt: HostRuntime) -> Result<(), Fail> {
+    static CASES: [Left; 11] = [
+        Left("no class", Written(&[]), IsWithout),
+        Left("a class built by hand", Written(&[ONE]), IsOne),
+        // The list of the one parameter stands from 204 to 210, after it two zeros and the code item. The map
+        // stands at 276: its seventh entry names the list, its eighth, from 364 to 376, the code item; the
+        // class data names it too, at 212.
+        Left(
+            "the first code item after zeros", Written(&[WITH_PARAMETER]),
+            Placed(&[(52, 276), (360, 204), (364, 0x2001), (368, 1), (372, 212)], 268, &[0, 0, 1, 0, 0, 9, 0xd4, 1]),
+        ),
+        Left(".. and the file ends with the map", Written(&[WITH_PARAMETER]), Ends(412)),
+        Left("no class, read again", Written(&[]), Classes(0)),
+        Left("one method, read again", Written(&[ONE]), Classes(1)),
+        Left("two methods, read again", Written(&[TWO]), Classes(1)),
+        // Items of equal content, of several uses, stand once.
+        Left("bodies of one class", Written(&[TWO]), OneItem(392)),
+        Left("type lists", Written(WITH_LISTS), Items(0x1001, 1)),
+        Left("bodies", Written(WITH_BODIES), Items(0x2001, 1)),
+        Left("static values", Written(WITH_VALUES), Items(0x2005, 2)),
     ];
-    none_wrong(first_changed(rt.alloc(), &CASES))
+    all_hold(rt.alloc(), &CASES)
 }

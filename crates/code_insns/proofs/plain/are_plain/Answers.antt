@@ -3,8 +3,7 @@ use Rattle.dex_insn.proofs.Laws.{stands-whole}
 use Rattle.dex_insn.specs.RawInsns.{InsnStands}
 use Rattle.program_types.specs.View.{insn}
 use Rattle.tables_rows.specs.Names.{NameIsAt}
-use Rattle.code_insns.specs.Plain.{PlainRun}
-use Rattle.code_insns.proofs.PlainLaws.{begun, turned, plain_all, equal}
+use Rattle.code_insns.proofs.PlainLaws.{PlainRun, begun, turned, plain_all, equal}
 use Rattle.code_insns.proofs.plain.are_plain.Goals as goal
 
 pub loop-k-init : goal.loop-k-init

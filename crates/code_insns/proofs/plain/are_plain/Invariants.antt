@@ -1,7 +1,7 @@
 use Rattle.std.proofs.Common.{List, ◌*◌, ◌≤◌, length}
 use Rattle.program_types.specs.Content.{Insn}
 use Rattle.tables_rows.specs.Names.{NameIsAt}
-use Rattle.code_insns.specs.Plain.{PlainRun}
+use Rattle.code_insns.proofs.PlainLaws.{PlainRun}
 use Rattle.code_insns.proofs.plain.are_plain.Given as goal
 
 abbrev pub invariant-loop-k : goal.invariant-loop-k

@@ -6,8 +6,8 @@ use Rattle.program_types.specs.View.{insn}
 use Rattle.program_types.specs.Content.{Insn}
 use Rattle.program_types.specs.declared.insn.Insn.{Insn as Held}
 use Rattle.tables_rows.specs.Names.{NameIsAt}
-use Rattle.code_insns.specs.Plain.{PlainRun, ArePlain}
-use Rattle.code_insns.proofs.PlainLaws.{begun, turned, plain_all}
+use Rattle.code_insns.specs.Plain.{ArePlain}
+use Rattle.code_insns.proofs.PlainLaws.{PlainRun, begun, turned, plain_all}
 use Rattle.code_insns.proofs.plain.insns_at.Goals as goal
 
 pub loop-k-init : goal.loop-k-init

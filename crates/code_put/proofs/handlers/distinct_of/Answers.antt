@@ -36,7 +36,7 @@ number_of-requires c = let f = c.loop-i.invariant.few in let n = c.requires.few 
 
 pub loop-i-init : goal.loop-i-init
 loop-i-init c =
-    distinct-none (NameRanks c.args.ranks.now) c.args.starts.now (map try c.args.tries.now) (packs-unique c.args.ranks.now c.args.starts.now) (handler-once (NameRanks c.args.ranks.now) c.args.starts.now (ranks-injective c.args.ranks.now c.rise.ensures)) _ _ (none-held _ c.new-handlers.ensures.len) c.in_ok-numbers.ensures.items
+    distinct-none (NameRanks c.args.ranks.now) c.args.starts.now (map try c.args.tries.now) (packs-unique c.args.ranks.now c.args.starts.now) (handler-once (NameRanks c.args.ranks.now) c.args.starts.now (ranks-injective c.args.ranks.now c.rise.ensures)) _ _ (none-held _ c.with_hasher-handlers.ensures.len) c.in_ok-numbers.ensures.items
 
 pub loop-i-preserved : goal.loop-i-preserved
 loop-i-preserved c =

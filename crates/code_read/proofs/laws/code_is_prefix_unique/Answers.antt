@@ -3,5 +3,8 @@ use Rattle.code_read.proofs.StandLaws.{NameIsAt-functional}
 use Rattle.code_read.proofs.CodeLaws.{SpellsCode-unique}
 use Rattle.code_read.proofs.laws.code_is_prefix_unique.Goals as goal
 
-pub returns : goal.returns
-returns c = λ names. SpellsCode-unique (NameIsAt names) (NameIsAt-functional names)
+pub returns-clause-index : goal.returns-clause-index
+returns-clause-index c = NameIsAt-functional
+
+pub returns-clause-unique : goal.returns-clause-unique
+returns-clause-unique c = λ names. SpellsCode-unique (NameIsAt names) (NameIsAt-functional names)

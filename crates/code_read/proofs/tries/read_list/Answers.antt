@@ -4,9 +4,8 @@ use Rattle.base_bytes.proofs.TakesLaws.{Takes-length}
 use Rattle.code_insns.specs.Names.{NameIsAt}
 use Rattle.code_read.specs.Handlers.{SpellsHandler}
 use Rattle.code_read.specs.HandlerViews.{handler}
-use Rattle.code_read.specs.Reading.{ReadSome}
 use Rattle.code_read.proofs.StandLaws.{NameIsAt-functional}
-use Rattle.code_read.proofs.ListReading.{some-none, some-more, some-all, list-none, offsets-rise}
+use Rattle.code_read.proofs.ListReading.{ReadSome, some-none, some-more, some-all, list-none, offsets-rise}
 use Rattle.code_read.proofs.tries.read_list.Goals as goal
 use Rattle.base_bytes.proofs.ListFacts.{passed}
 

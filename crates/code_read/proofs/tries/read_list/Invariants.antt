@@ -1,7 +1,7 @@
 use Rattle.std.proofs.Common.{◌≤◌, length, map}
 use Rattle.code_insns.specs.Names.{NameIsAt}
 use Rattle.code_read.specs.HandlerViews.{handler}
-use Rattle.code_read.specs.Reading.{ReadSome}
+use Rattle.code_read.proofs.ListReading.{ReadSome}
 use Rattle.code_read.proofs.tries.read_list.Given as goal
 
 abbrev pub invariant-loop-turn : goal.invariant-loop-turn

@@ -15,7 +15,7 @@ use Rattle.code_renumber.proofs.tries.number_each.Goals as goal
 
 pub loop-i-init : goal.loop-i-init
 loop-i-init c = record {
-  distinct = λ b s ss ts x. distinct-none (NameRanks s) ss ts (packs-unique s ss) (handler-once (NameRanks s) ss (ranks-injective s x.tries.rise)) _ _ (none-held _ c.new-handlers.ensures.len) c.in_ok-all.ensures.items;
+  distinct = λ b s ss ts x. distinct-none (NameRanks s) ss ts (packs-unique s ss) (handler-once (NameRanks s) ss (ranks-injective s x.tries.rise)) _ _ (none-held _ c.with_hasher-handlers.ensures.len) c.in_ok-all.ensures.items;
   known = known_none c.args.numbers.now c.args.item.now.list.now c.args.offsets.now c.args.known.now _ c.requires.none;
 }
 

@@ -1,5 +1,6 @@
 use Rattle.std.proofs.Common.{inl, inr}
 use Rattle.std.proofs.lemmas.Result.{IfErr-weaker}
+use Rattle.dexasm_jobs.proofs.ListedLaws.{lists}
 use Rattle.dexasm_jobs.proofs.MadeLaws.{made_and}
 use Rattle.dexasm_jobs.proofs.answers.assemble_owned_aligned.Goals as goal
 use Rattle.base_bytes.proofs.ListFacts.{passed}
@@ -11,19 +12,19 @@ pub align_all-requires : goal.align_all-requires
 align_all-requires c = record { kept = c.in_ok-program.ensures.ok.formed }
 
 pub returns-in_err-aligned-clause-refused : goal.returns-in_err-aligned-clause-refused
-returns-in_err-aligned-clause-refused c = passed _ _ _ c.from_residual-in_err-aligned.ensures.1 (λ ne. inr (_, c.in_ok-program.ensures.ok, inl (c.in_err-aligned.ensures.err ne)))
+returns-in_err-aligned-clause-refused c = passed _ _ _ c.from_residual-in_err-aligned.ensures.1 (λ ne. inr (_, lists _ _ c.in_ok-program.ensures.ok, inl (c.in_err-aligned.ensures.err ne)))
 
 pub returns-clause-answered : goal.returns-clause-answered
 returns-clause-answered c =
-    made_and c.write.result _ _ _
+    made_and c.write_seeded.result _ _ _
     (λ made h f. record {
       program = _;
-      listed = c.in_ok-program.ensures.ok;
+      listed = lists _ _ c.in_ok-program.ensures.ok;
       other = _;
       is = record { aligned = c.in_ok-aligned.ensures.ok; formed = c.in_ok-aligned.ensures.formed };
       fits = f;
       file = h;
-    }) c.write.ensures.file c.write.ensures.fits
+    }) c.write_seeded.ensures.file c.write_seeded.ensures.fits
 
 pub returns-clause-refused : goal.returns-clause-refused
-returns-clause-refused c = IfErr-weaker c.write.result _ _ (λ e h ne. inr (_, c.in_ok-program.ensures.ok, inr (_, record { aligned = c.in_ok-aligned.ensures.ok; formed = c.in_ok-aligned.ensures.formed }, h ne))) c.write.ensures.refused
+returns-clause-refused c = IfErr-weaker c.write_seeded.result _ _ (λ e h ne. inr (_, lists _ _ c.in_ok-program.ensures.ok, inr (_, record { aligned = c.in_ok-aligned.ensures.ok; formed = c.in_ok-aligned.ensures.formed }, h ne))) c.write_seeded.ensures.refused

@@ -1,7 +1,8 @@
 use Rattle.tables_rows.specs.Sorted.{RowsHold}
 use Rattle.file_classes.specs.ClassFaults.{BodiesHold}
 use Rattle.tables_rows.specs.Kept.{AreKept}
-use Rattle.file_classes.specs.Reading.{RowsUpTo, IsChecked}
+use Rattle.file_classes.specs.Reading.{IsChecked}
+use Rattle.file_classes.proofs.MethodLaws.{RowsUpTo}
 use Rattle.file_classes.proofs.checking.check_rows.Given as goal
 
 abbrev pub invariant-loop-i : goal.invariant-loop-i

@@ -3,7 +3,8 @@ use Rattle.program_types.specs.View.{class}
 use Rattle.tables_rows.specs.Reading.{AreFirst}
 use Rattle.file_classes.specs.ClassFaults.{BodiesHold}
 use Rattle.tables_rows.specs.Kept.{AreKept}
-use Rattle.file_classes.specs.Reading.{SpellsBodies, RowsUpTo, IsFound}
+use Rattle.file_classes.specs.Reading.{SpellsBodies, IsFound}
+use Rattle.file_classes.proofs.MethodLaws.{RowsUpTo}
 use Rattle.file_classes.proofs.methods.read_classes.Given as goal
 
 abbrev pub invariant-loop-i : goal.invariant-loop-i

@@ -1,6 +1,6 @@
 use Rattle.program_types.specs.Content.{Program}
 use Rattle.file_kept.specs.Keeping.{Keeps}
-use Rattle.file_kept.specs.Sites.{ClassDataIsLaid}
+use Rattle.file_kept.proofs.SiteLaws.{ClassDataIsLaid}
 use Rattle.file_kept.proofs.datas.put_datas.Given as goal
 
 abbrev pub invariant-loop-i : goal.invariant-loop-i

@@ -1,4 +1,4 @@
-use Rattle.file_needed.proofs.Steps.{notes_none}
+use Rattle.tables_names.proofs.NotedLemmas.{notes_none}
 use Rattle.file_needed.proofs.bodies.note_body.Goals as goal
 
 pub returns-in-None-clause-added : goal.returns-in-None-clause-added

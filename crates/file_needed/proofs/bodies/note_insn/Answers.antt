@@ -1,7 +1,8 @@
 use Rattle.std.proofs.Common.{List, subst}
 use Rattle.program_types.specs.Content.{Name}
-use Rattle.file_needed.specs.Bodies.{AddsNoted}
-use Rattle.file_needed.proofs.Steps.{notes_none, both_ok}
+use Rattle.tables_names.specs.Noted.{AddsNoted}
+use Rattle.tables_names.proofs.NotedLemmas.{notes_none}
+use Rattle.file_needed.proofs.Steps.{both_ok}
 use Rattle.file_needed.proofs.bodies.note_insn.Goals as goal
 
 pub returns-in-Some-clause-added : goal.returns-in-Some-clause-added

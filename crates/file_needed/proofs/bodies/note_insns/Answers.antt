@@ -4,8 +4,9 @@ use Rattle.tables_names.specs.Closure.{HasShorty}
 use Rattle.program_types.specs.Mentions.{names_of_insn}
 use Rattle.program_types.specs.View as view
 use Rattle.program_types.specs.declared.insn.Insn.{Insn}
-use Rattle.file_needed.specs.Bodies.{AddsNoted}
-use Rattle.file_needed.proofs.Steps.{notes_none, notes_more, flat_kept}
+use Rattle.tables_names.specs.Noted.{AddsNoted}
+use Rattle.tables_names.proofs.NotedLemmas.{notes_none}
+use Rattle.file_needed.proofs.Steps.{notes_more, flat_kept}
 use Rattle.file_needed.proofs.bodies.note_insns.Goals as goal
 
 pub loop-insn-init : goal.loop-insn-init

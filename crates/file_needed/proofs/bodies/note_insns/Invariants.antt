@@ -2,7 +2,7 @@ use Rattle.std.proofs.Common.{map, take}
 use Rattle.std.specs.List.{flat_map}
 use Rattle.program_types.specs.Mentions.{names_of_insn}
 use Rattle.program_types.specs.View as view
-use Rattle.file_needed.specs.Bodies.{AddsNoted}
+use Rattle.tables_names.specs.Noted.{AddsNoted}
 use Rattle.file_needed.proofs.bodies.note_insns.Given as goal
 
 abbrev pub invariant-loop-insn : goal.invariant-loop-insn

@@ -1,21 +1,15 @@
 use Rattle.std.proofs.lemmas.Result.{on_ok_weaker}
 use Rattle.tables_names.specs.Closure.{HasShorty}
 use Rattle.program_types.specs.View as view
-use Rattle.file_needed.proofs.ClassNames.{class_names, values_kept, directs_kept, virtuals_kept}
+use Rattle.file_needed.proofs.ClassNames.{class_names, values_kept}
 use Rattle.file_needed.proofs.classes.add_class.Goals as goal
 
 pub add_values-requires : goal.add_values-requires
 add_values-requires c = values_kept HasShorty (view.class c.args.class.now) c.requires
 
-pub add_methods-requires : goal.add_methods-requires
-add_methods-requires c = directs_kept HasShorty (view.class c.args.class.now) c.requires
-
-pub add_methods-requires-2 : goal.add_methods-requires-2
-add_methods-requires-2 c = virtuals_kept HasShorty (view.class c.args.class.now) c.requires
-
 pub returns-clause-added : goal.returns-clause-added
 returns-clause-added c =
-    on_ok_weaker c.add_methods-2.result
-    (λ a. class_names _ _ _ _ _ _ _ _ _ (view.class c.args.class.now) c.in_ok-add_superclass.ensures.added c.in_ok-add_types.ensures.added c.in_ok-add_source.ensures.added
-    c.in_ok-add_fields_of.ensures.added c.in_ok-add_values.ensures.added c.in_ok-add_fields_of-2.ensures.added c.in_ok-add_methods.ensures.added a)
-    c.add_methods-2.ensures.added
+    on_ok_weaker c.add_all_caught-2.result
+    (λ a. class_names _ _ _ _ _ _ _ (view.class c.args.class.now) c.in_ok-add_superclass.ensures.added c.in_ok-add_types.ensures.added c.in_ok-add_source.ensures.added
+    c.in_ok-add_values.ensures.added c.in_ok-add_all_caught.ensures.added a)
+    c.add_all_caught-2.ensures.added

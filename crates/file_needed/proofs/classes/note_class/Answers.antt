@@ -4,7 +4,8 @@ use Rattle.std.specs.List.{flat_map}
 use Rattle.tables_names.specs.Closure.{HasShorty}
 use Rattle.program_types.specs.View as view
 use Rattle.file_needed.specs.Bodies.{named_in_body}
-use Rattle.file_needed.proofs.Steps.{left, right, notes_both}
+use Rattle.tables_names.proofs.NotedLemmas.{notes_both}
+use Rattle.file_needed.proofs.Steps.{left, right}
 use Rattle.file_needed.proofs.classes.note_class.Goals as goal
 
 pub note_bodies-requires : goal.note_bodies-requires

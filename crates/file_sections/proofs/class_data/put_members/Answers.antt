@@ -1,68 +1,46 @@
-use Rattle.std.proofs.Common.{◌≡◌, ◌-◌, ◌++◌, ℕ, List, length, take, drop, arith, sym, ap, ◌∙◌, length-drop, map, subst}
-use Rattle.std.proofs.lemmas.List.{take-append-drop, take_all, length-take}
+use Rattle.std.proofs.Common.{◌++◌, ◌∙◌, sym}
+use Rattle.std.proofs.lemmas.List.{take-append-drop}
 use Rattle.std.proofs.lemmas.Result.{on_ok_weaker}
-use Rattle.std.specs.List.{AllByRecursion}
-use Rattle.tables_names.specs.Rank.{IsAt}
-use Rattle.program_types.specs.Content.{Descriptor}
-use Rattle.program_types.specs.Key.{text_key}
 use Rattle.program_types.specs.Mentions.{field_of_class}
 use Rattle.program_types.specs.View as view
-use Rattle.program_types.specs.Kinds.{HasIndex}
-use Rattle.tables_names.specs.Closure.{method_of_class, NameRanks}
-use Rattle.file_sections.proofs.DataLaws.{members_append, text_is, fields_of_same, methods_of_same}
+use Rattle.tables_names.specs.Closure.{method_of_class}
+use Rattle.file_sections.proofs.DataLaws.{members_append}
+use Rattle.file_sections.proofs.MentionLaws.{members_split, members_within}
 use Rattle.file_sections.proofs.class_data.put_members.Goals as goal
 
-pub put_fields-requires : goal.put_fields-requires
-put_fields-requires c =
-    let s = c.args.ranks.now in
-    let e = text_is s.types c.class_index-own.result (view.desc c.args.class.now.ty) c.class_index-own.ensures in
-    let held = subst (λ (t : Descriptor). IsAt s.types c.class_index-own.result (text_key t)) (sym e) c.class_index-own.ensures in
-    let named = subst (λ (t : Descriptor). AllByRecursion (λ m. HasIndex (NameRanks s) (field_of_class t m)) (map view.member c.args.class.now.statics.now)) (sym e) c.requires.named.statics in
-    (held, (named, (c.requires.few.fields, c.requires.rise.statics)))
+pub split_at-requires : goal.split_at-requires
+split_at-requires c = members_within c.args.ranks.now (field_of_class (view.desc c.args.class.now.ty)) view.member c.args.class.now.statics.now c.args.class.now.instances.now c.args.own_fields.now c.requires.fields
 
-pub put_fields-requires-2 : goal.put_fields-requires-2
-put_fields-requires-2 c =
-    let s = c.args.ranks.now in
-    let e = text_is s.types c.class_index-own.result (view.desc c.args.class.now.ty) c.class_index-own.ensures in
-    let held = subst (λ (t : Descriptor). IsAt s.types c.class_index-own.result (text_key t)) (sym e) c.class_index-own.ensures in
-    let named = subst (λ (t : Descriptor). AllByRecursion (λ m. HasIndex (NameRanks s) (field_of_class t m)) (map view.member c.args.class.now.instances.now)) (sym e) c.requires.named.instances in
-    (held, (named, (c.requires.few.fields, c.requires.rise.instances)))
+pub split_at-requires-2 : goal.split_at-requires-2
+split_at-requires-2 c = members_within c.args.ranks.now (method_of_class (view.desc c.args.class.now.ty)) view.method c.args.class.now.directs.now c.args.class.now.virtuals.now c.args.own_methods.now c.requires.methods
 
-pub put_methods-requires : goal.put_methods-requires
-put_methods-requires c =
-    let s = c.args.ranks.now in
-    let e = text_is s.types c.class_index-own.result (view.desc c.args.class.now.ty) c.class_index-own.ensures in
-    let held = subst (λ (t : Descriptor). IsAt s.types c.class_index-own.result (text_key t)) (sym e) c.class_index-own.ensures in
-    let named = subst (λ (t : Descriptor). AllByRecursion (λ m. HasIndex (NameRanks s) (method_of_class t m)) (map view.method c.args.class.now.directs.now)) (sym e) c.requires.named.directs in
-    let l = length-take (length c.args.class.now.directs.now) c.args.codes.now in
-    (held, (named, (c.requires.few.methods, (c.requires.rise.directs, omega (arith, l, c.requires.codes)))))
+pub put_fields-requires-clause-own : goal.put_fields-requires-clause-own
+put_fields-requires-clause-own c =
+    let fields = members_split c.args.ranks.now (field_of_class (view.desc c.args.class.now.ty)) view.member c.args.class.now.statics.now c.args.class.now.instances.now c.args.own_fields.now _ _ c.requires.fields c.split_at.ensures.front c.split_at.ensures.back in
+    (view.desc c.args.class.now.ty, fields.0)
 
-pub put_methods-requires-2 : goal.put_methods-requires-2
-put_methods-requires-2 c =
-    let s = c.args.ranks.now in
-    let e = text_is s.types c.class_index-own.result (view.desc c.args.class.now.ty) c.class_index-own.ensures in
-    let held = subst (λ (t : Descriptor). IsAt s.types c.class_index-own.result (text_key t)) (sym e) c.class_index-own.ensures in
-    let named = subst (λ (t : Descriptor). AllByRecursion (λ m. HasIndex (NameRanks s) (method_of_class t m)) (map view.method c.args.class.now.virtuals.now)) (sym e) c.requires.named.virtuals in
-    let codes : List ℕ = c.args.codes.now in
-    let n : ℕ = length c.args.class.now.directs.now in
-    let l = length-drop n codes in
-    let t = length-take (length codes - n) (drop n codes) in
-    (held, (named, (c.requires.few.methods, (c.requires.rise.virtuals, omega (arith, l, t, c.requires.codes)))))
+pub put_fields-requires-2-clause-own : goal.put_fields-requires-2-clause-own
+put_fields-requires-2-clause-own c =
+    let fields = members_split c.args.ranks.now (field_of_class (view.desc c.args.class.now.ty)) view.member c.args.class.now.statics.now c.args.class.now.instances.now c.args.own_fields.now _ _ c.requires.fields c.split_at.ensures.front c.split_at.ensures.back in
+    (view.desc c.args.class.now.ty, fields.1)
+
+pub put_methods-requires-clause-own : goal.put_methods-requires-clause-own
+put_methods-requires-clause-own c =
+    let methods = members_split c.args.ranks.now (method_of_class (view.desc c.args.class.now.ty)) view.method c.args.class.now.directs.now c.args.class.now.virtuals.now c.args.own_methods.now _ _ c.requires.methods c.split_at-2.ensures.front c.split_at-2.ensures.back in
+    (view.desc c.args.class.now.ty, methods.0)
+
+pub put_methods-requires-2-clause-own : goal.put_methods-requires-2-clause-own
+put_methods-requires-2-clause-own c =
+    let methods = members_split c.args.ranks.now (method_of_class (view.desc c.args.class.now.ty)) view.method c.args.class.now.directs.now c.args.class.now.virtuals.now c.args.own_methods.now _ _ c.requires.methods c.split_at-2.ensures.front c.split_at-2.ensures.back in
+    (view.desc c.args.class.now.ty, methods.1)
 
 pub returns-clause-ok : goal.returns-clause-ok
 returns-clause-ok c =
-    let s = c.args.ranks.now in
-    let e = text_is s.types c.class_index-own.result (view.desc c.args.class.now.ty) c.class_index-own.ensures in
-    let codes : List ℕ = c.args.codes.now in
-    let n : ℕ = length c.args.class.now.directs.now in
-    let l = length-drop n codes in
-    let all : take (length codes - n) (drop n codes) ≡ drop n codes = take_all (length codes - n) (drop n codes) (omega (arith, l)) in
-    let whole : codes ≡ take n codes ++ take (length codes - n) (drop n codes) = sym (ap (λ (l : List ℕ). take n codes ++ l) all ∙ take-append-drop n codes) in
+    let ty = view.desc c.args.class.now.ty in
+    let fields = members_split c.args.ranks.now (field_of_class (view.desc c.args.class.now.ty)) view.member c.args.class.now.statics.now c.args.class.now.instances.now c.args.own_fields.now _ _ c.requires.fields c.split_at.ensures.front c.split_at.ensures.back in
+    let methods = members_split c.args.ranks.now (method_of_class (view.desc c.args.class.now.ty)) view.method c.args.class.now.directs.now c.args.class.now.virtuals.now c.args.own_methods.now _ _ c.requires.methods c.split_at-2.ensures.front c.split_at-2.ensures.back in
+    let cut = c.split_at-3.ensures in
     on_ok_weaker c.put_methods-2.result
-    (λ v. members_append c.args.ranks.now c.args.class.now codes (take n codes) (take (length codes - n) (drop n codes)) _ _ _ _ _ c.put_methods-2.new.out.items whole
-    c.in_ok-put_counts.ensures.ok
-    (fields_of_same s _ _ _ _ _ e c.in_ok-put_fields.ensures.ok)
-    (fields_of_same s _ _ _ _ _ e c.in_ok-put_fields-2.ensures.ok)
-    (methods_of_same s _ _ _ _ _ _ e c.in_ok-put_methods.ensures.ok)
-    (methods_of_same s _ _ _ _ _ _ e v))
+    (λ v. members_append c.args.ranks.now c.args.class.now c.args.codes.now _ _ _ _ _ _ _ c.put_methods-2.new.out.items (sym ((λ i. cut.front i ++ cut.back i) ∙ take-append-drop _ c.args.codes.now))
+    c.in_ok-put_counts.ensures.ok (c.in_ok-put_fields.ensures.ok ty fields.0) (c.in_ok-put_fields-2.ensures.ok ty fields.1) (c.in_ok-put_methods.ensures.ok ty methods.0) (v ty methods.1))
     c.put_methods-2.ensures.ok

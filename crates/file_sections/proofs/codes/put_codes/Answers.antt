@@ -6,6 +6,7 @@ use Rattle.file_layout.specs.Sections.{wide_all}
 use Rattle.file_limits.proofs.SumLaws.{wide_all_append}
 use Rattle.file_limits.specs.Wide.{bodies_in, bodies_of, body_values, wide_body}
 use Rattle.tables_names.specs.Closure.{NameRanks}
+use Rattle.tables_names.specs.Noted.{AreRanks}
 use Rattle.program_types.specs.Content as content
 use Rattle.program_types.specs.View as view
 use Rattle.program_types.specs.declared.class.Class.{Class}
@@ -13,7 +14,7 @@ use Rattle.file_sections.proofs.CodeLaws.{Bodies, bodies_once, class_left, first
 use Rattle.file_layout.specs.Tiles.{AreShared}
 use Rattle.file_sections.proofs.LayingLaws.{items_few}
 use Rattle.file_sections.proofs.NumberLaws.{no_class}
-use Rattle.file_needed.specs.Bodies.{named_in_body, named_in_code}
+use Rattle.file_needed.specs.Bodies.{defined_in, named_in_body, named_in_code}
 use Rattle.file_sections.proofs.MentionLaws.{next_class}
 use Rattle.file_sections.proofs.Steps.{mapped_at}
 use Rattle.file_sections.specs.Codes.{PacksBody, WritesBody, is_bodiless}
@@ -58,26 +59,32 @@ loop-class-preserved c =
     let cs = c.args.program.now.classes.now in
     let i = c.loop-class.class-index in
     let own = get_or cs i no_class in
-    let others = named_in_code (map view.class (drop (suc i) cs)) in
+    let others = named_in_code (map view.class (drop (suc i) cs)) ++ defined_in (map view.class cs) in
     record {
       put = both_parts c.args.ranks.now cs i no_class _ _ _ _ _ _ _ _ _ _ c.loop-class-test.true c.requires.front c.loop-class.invariant.put
           c.in_ok-left.ensures.ok c.in_ok-rest.ensures.ok;
-      rest = rw add-one (c.in_ok-rest.ensures.left others (c.in_ok-left.ensures.left (flat_map named_in_body (map view.method own.virtuals.now) ++ others) (next_class c.args.ranks.now cs i no_class c.loop-class.rest.now c.loop-class-test.true c.loop-class.invariant.rest)));
+      rest = rw add-one (c.in_ok-rest.ensures.left others (c.in_ok-left.ensures.left (flat_map named_in_body (map view.method own.virtuals.now) ++ others) (next_class c.args.ranks.now cs i no_class (defined_in (map view.class cs)) c.loop-class.rest.now c.loop-class-test.true c.loop-class.invariant.rest)));
     }
 
 pub put_bodies-requires-clause-indices : goal.put_bodies-requires-clause-indices
 put_bodies-requires-clause-indices c =
     let cs = c.args.program.now.classes.now in
     let i = c.loop-class.class-index in
-    let others = named_in_code (map view.class (drop (suc i) cs)) in
-    (flat_map named_in_body (map view.method (get_or cs i no_class).virtuals.now) ++ others, next_class c.args.ranks.now cs i no_class c.loop-class.rest.now c.loop-class-test.true c.loop-class.invariant.rest)
+    let others = named_in_code (map view.class (drop (suc i) cs)) ++ defined_in (map view.class cs) in
+    (flat_map named_in_body (map view.method (get_or cs i no_class).virtuals.now) ++ others, next_class c.args.ranks.now cs i no_class (defined_in (map view.class cs)) c.loop-class.rest.now c.loop-class-test.true c.loop-class.invariant.rest)
 
 pub put_bodies-requires-in-loop-class-clause-indices : goal.put_bodies-requires-in-loop-class-clause-indices
 put_bodies-requires-in-loop-class-clause-indices c =
     let cs = c.args.program.now.classes.now in
     let i = c.loop-class.class-index in
-    let others = named_in_code (map view.class (drop (suc i) cs)) in
-    (others, c.in_ok-left.ensures.left (flat_map named_in_body (map view.method (get_or cs i no_class).virtuals.now) ++ others) (next_class c.args.ranks.now cs i no_class c.loop-class.rest.now c.loop-class-test.true c.loop-class.invariant.rest))
+    let others = named_in_code (map view.class (drop (suc i) cs)) ++ defined_in (map view.class cs) in
+    (others, c.in_ok-left.ensures.left (flat_map named_in_body (map view.method (get_or cs i no_class).virtuals.now) ++ others) (next_class c.args.ranks.now cs i no_class (defined_in (map view.class cs)) c.loop-class.rest.now c.loop-class-test.true c.loop-class.invariant.rest))
+
+pub returns-clause-left : goal.returns-clause-left
+returns-clause-left c =
+    let cs = c.args.program.now.classes.now in
+    let i = c.loop-class.class-index in
+    subst (λ (xs : List Class). AreRanks c.args.ranks.now (named_in_code (map view.class xs) ++ defined_in (map view.class cs)) c.loop-class.rest.now) (drop_all i cs c.loop-class-test.false) c.loop-class.invariant.rest
 
 pub count-requires : goal.count-requires
 count-requires c =

@@ -11,12 +11,12 @@ pub returns-in_err-check_end-clause-err : goal.returns-in_err-check_end-clause-e
 returns-in_err-check_end-clause-err c =
     passed _ _ _ c.from_residual-in_err-check_end.ensures.1 (λ ne. unfinished_text _ (state c.in_ok-listed.listed.draft) c.in_ok-listed.ensures.ok.0 _ _ c.in_ok-listed.ensures.ok.1 c.in_ok-listed.ensures.ok.2 (lines_of c.in_ok-listed.listed.draft ∙ c.in_ok-listed.ensures.number) c.in_err-check_end.ensures.err)
 
-pub returns-in_err-well_formed_named_in-clause-err : goal.returns-in_err-well_formed_named_in-clause-err
-returns-in_err-well_formed_named_in-clause-err c =
-    passed _ _ _ c.from_residual-in_err-well_formed_named_in.ensures.1 (λ ne. unruly_text _ (state c.in_ok-listed.listed.draft) c.in_ok-listed.ensures.ok.0 _ _ c.in_ok-listed.ensures.ok.1 c.in_ok-listed.ensures.ok.2 c.in_ok-check_end.ensures.ok c.into_classes.ensures (c.in_err-well_formed_named_in.ensures.err ne))
+pub returns-in_err-well_formed_named_seeded-clause-err : goal.returns-in_err-well_formed_named_seeded-clause-err
+returns-in_err-well_formed_named_seeded-clause-err c =
+    passed _ _ _ c.from_residual-in_err-well_formed_named_seeded.ensures.1 (λ ne. unruly_text _ (state c.in_ok-listed.listed.draft) c.in_ok-listed.ensures.ok.0 _ _ c.in_ok-listed.ensures.ok.1 c.in_ok-listed.ensures.ok.2 c.in_ok-check_end.ensures.ok c.into_classes.ensures (c.in_err-well_formed_named_seeded.ensures.err ne))
 
 pub returns-clause-ok : goal.returns-clause-ok
-returns-clause-ok c = whole_text _ (state c.in_ok-listed.listed.draft) c.in_ok-listed.ensures.ok.0 _ c.in_ok-listed.ensures.ok.1 c.in_ok-listed.ensures.ok.2 c.in_ok-check_end.ensures.ok c.into_classes.ensures c.in_ok-well_formed_named_in.ensures.formed
+returns-clause-ok c = whole_text _ (state c.in_ok-listed.listed.draft) c.in_ok-listed.ensures.ok.0 _ c.in_ok-listed.ensures.ok.1 c.in_ok-listed.ensures.ok.2 c.in_ok-check_end.ensures.ok c.into_classes.ensures c.in_ok-well_formed_named_seeded.ensures.formed
 
-pub well_formed_named_in-requires : goal.well_formed_named_in-requires
-well_formed_named_in-requires c = λ named. subst (AllByRecursion (CodesHold InsnsAreNamed)) (sym c.into_classes.ensures) (c.in_ok-listed.ensures.named named).done
+pub well_formed_named_seeded-requires : goal.well_formed_named_seeded-requires
+well_formed_named_seeded-requires c = λ named. subst (AllByRecursion (CodesHold InsnsAreNamed)) (sym c.into_classes.ensures) (c.in_ok-listed.ensures.named named).done

@@ -1,6 +1,10 @@
-use Rattle.std.proofs.Common.{map, take}
-use Rattle.tables_names.specs.Numbers.{RanksOf}
+use Rattle.std.proofs.Common.{◌≡◌, length, map}
+use Rattle.tables_names.proofs.SortingLemmas.{ArePlaced}
 use Rattle.tables_names.proofs.sorting.ranks_of.Given as goal
 
-abbrev pub invariant-loop-name : goal.invariant-loop-name
-invariant-loop-name g l = RanksOf (map g.N.Row.key (take l.name-index l.names)) l.ranked l.ranks.items
+abbrev pub invariant-loop-rank : goal.invariant-loop-rank
+invariant-loop-rank g l =
+    record {
+      long : length l.ranks.items ≡ length l.names;
+      placed : ArePlaced (map g.N.Row.key (map (λ r. r.1) l.rows)) (map (λ r. r.2) l.rows) l.rank l.ranks.items;
+    }

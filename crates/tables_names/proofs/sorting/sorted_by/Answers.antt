@@ -1,16 +1,23 @@
-use Rattle.std.proofs.Common.{◌∙◌}
-use Rattle.std.proofs.lemmas.Result.{IfOk-weaker}
 use Rattle.tables_names.proofs.sorting.sorted_by.Goals as goal
 
-pub in_order_of-requires : goal.in_order_of-requires
-in_order_of-requires g c =
-    let rows = c.in_ok-rows.ensures in
-    rw c.deref.ensures.value (record { distinct = rows.distinct; rising = rows.rising; same = rows.same; numbers = rows.numbers })
+pub ranks_of-requires-clause-same : goal.ranks_of-requires-clause-same
+ranks_of-requires-clause-same g c = rw (c.deref-2.ensures.value, c.in_order.ensures.keys) c.in_ok-rows.ensures.same
+
+pub ranks_of-requires-clause-numbers : goal.ranks_of-requires-clause-numbers
+ranks_of-requires-clause-numbers g c = rw (c.deref-2.ensures.value, c.in_order.ensures.keys) c.in_ok-rows.ensures.numbers
+
+pub ranked-requires : goal.ranked-requires
+ranked-requires g c =
+    let each = rw (c.deref-2.ensures.value, c.in_order.ensures.keys) at c.in_ok-ranks.ensures in
+    rw (c.deref-3.ensures.value, c.deref-4.ensures.value) (record { same = c.in_ok-rows.ensures.same; each = each })
 
 pub returns-clause-same : goal.returns-clause-same
-returns-clause-same g c =
-    IfOk-weaker c.in_order_of.result _ _ (λ r table. table.0 ∙ (rw c.deref.ensures.value c.in_ok-rows.ensures.same)) c.in_order_of.ensures.table
+returns-clause-same g c = rw (c.in_ok-names.ensures, c.deref-3.ensures.value) c.in_ok-rows.ensures.same
+
+pub returns-clause-ranks : goal.returns-clause-ranks
+returns-clause-ranks g c =
+    let each = rw (c.deref-2.ensures.value, c.in_order.ensures.keys) at c.in_ok-ranks.ensures in
+    rw (c.in_ok-names.ensures, c.deref-3.ensures.value) each
 
 pub returns-clause-rows : goal.returns-clause-rows
-returns-clause-rows g c =
-    IfOk-weaker c.in_order_of.result _ _ (λ r table. rw (table.0, table.1, c.deref.ensures.value) c.in_ok-rows.ensures.parts) c.in_order_of.ensures.table
+returns-clause-rows g c = rw (c.in_ok-names.ensures, c.deref-3.ensures.value, c.in_ok-parts.ensures, c.deref.ensures.value) c.in_ok-rows.ensures.parts

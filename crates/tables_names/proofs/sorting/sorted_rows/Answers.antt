@@ -3,19 +3,11 @@ use Rattle.std.specs.Ordering.{is_eq}
 use Rattle.std.proofs.lemmas.List.Sorted.{All-permutation}
 use Rattle.tables_names.specs.Rank.{IsAt}
 use Rattle.tables_names.specs.Numbers.{set_of}
-use Rattle.tables_names.proofs.SortingLemmas.{names_distinct, names_rise, names_same, rows_stand, numbers_stand}
+use Rattle.tables_names.proofs.SortingLemmas.{names_same, rows_stand, numbers_stand}
 use Rattle.tables_names.proofs.sorting.sorted_rows.Goals as goal
 
 pub with_ranks-requires : goal.with_ranks-requires
 with_ranks-requires g c = rw (c.in_order.ensures.keys, c.deref.ensures.value) c.requires.parts
-
-pub returns-clause-distinct : goal.returns-clause-distinct
-returns-clause-distinct g c =
-    names_distinct g.N.PartialEq.eq g.met.N.Eq.laws c.in_order.result.now c.in_ok-rows.rows.items c.sort_unstable.new.self.items c.in_ok-rows.ensures.names c.sort_unstable.ensures.permutation c.in_order.ensures.distinct
-
-pub returns-clause-rising : goal.returns-clause-rising
-returns-clause-rising g c =
-    names_rise g.N.Row.key g.N.Ord.cmp g.met.N.Row.cmp_by_key g.P.Ord.cmp (λ x r. g.P.Numbers.has c.args.sorted.now (g.N.Row.key x) r) (λ x y r s a b. c.requires.leads (g.N.Row.key x) (g.N.Row.key y) r s a b) g.N.PartialEq.eq g.met.N.Eq.laws (λ x y. g.met.N.Ord.matches_eq x y ∙ ap is_eq (g.met.N.Row.cmp_by_key x y)) c.in_order.result.now c.in_ok-rows.rows.items c.sort_unstable.new.self.items c.in_ok-rows.ensures.names c.sort_unstable.ensures.permutation c.in_order.ensures.distinct c.in_ok-rows.ensures.ranks c.sort_unstable.ensures.sorted
 
 pub returns-clause-same : goal.returns-clause-same
 returns-clause-same g c =

@@ -20,4 +20,4 @@ returns-clause-none c =
     (marks_none (size_of b 2) (ProtoStands b) proto_key _ (subst (λ (n : ℕ). n < 2 ^ 32) e2 c.unmarked-3.ensures.few) (c.in_ok-unmarked-3.ensures.ok ∙ ap (λ (n : ℕ). replicate (n + 1) 0) e2))
     (marks_none (size_of b 3) (FieldStands b) field_ref_key _ (subst (λ (n : ℕ). n < 2 ^ 32) e3 c.unmarked-4.ensures.few) (c.in_ok-unmarked-4.ensures.ok ∙ ap (λ (n : ℕ). replicate (n + 1) 0) e3))
     (marks_none (size_of b 4) (MethodStands b) method_ref_key _ (subst (λ (n : ℕ). n < 2 ^ 32) e4 c.unmarked-5.ensures.few) (c.in_ok-unmarked-5.ensures.ok ∙ ap (λ (n : ℕ). replicate (n + 1) 0) e4))
-    c.new.ensures.empty
+    c.with_hasher.ensures.empty
