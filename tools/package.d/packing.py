@@ -27,8 +27,12 @@ FILES = {
     "contrib/README.md": "share/doc/dexasm/contrib/README.md",
     "README.md": "share/doc/dexasm/README.md",
     "CHANGELOG.md": "share/doc/dexasm/CHANGELOG.md",
+    "SECURITY.md": "share/doc/dexasm/SECURITY.md",
+    "bench/LOG.md": "share/doc/dexasm/bench/LOG.md",
+    "bindings/c/README.md": "share/doc/dexasm/c/README.md",
     "bindings/c/example.c": "share/doc/dexasm/examples/example.c",
     "bindings/java/README.md": "share/doc/dexasm/java/README.md",
+    "bindings/python/README.md": "share/doc/dexasm/python/README.md",
     "LICENSE": "share/doc/dexasm/copyright",
 }
 # What goes there with all that lies below it.
@@ -38,11 +42,14 @@ FOLDERS = {
     "contrib/bin": "bin",
     "contrib/share/dexasm": "share/dexasm",
     "contrib/vim": "share/vim/vimfiles",
+    "crates/example/src": "share/doc/dexasm/examples/rattle",
     "docs": "share/doc/dexasm/docs",
 }
 # Where a shell looks for the words of each command: one file has those of all.
 COMPLETIONS = {"share/bash-completion/completions/%s": "dexasm", "share/fish/vendor_completions.d/%s.fish": "dexasm.fish"}
 LEFT_OUT = ("target", "man", "__pycache__", "Cargo.lock", ".gitignore")  # what is made, and what goes elsewhere
+# A link of a page, or code in which none is.
+LINK = re.compile(r"^```.*?^```|`[^`\n]*`|(!?)\[((?:[^][`]|`[^`\n]*`)*)\]\(([^)\s]+)\)", re.S | re.M)
 # The oldest C library that has what the program and libdexasm.so ask for.
 GLIBC = {"bin/dexasm": (2, 34), "lib/libdexasm.so.0": (2, 17)}
 
@@ -116,6 +123,42 @@ def below(folder, place):
             yield place + path.removeprefix(f"{TOP}/{folder}"), (get(path), mode)
 
 
+def places():
+    """Where each file and folder goes that is packed as it stands here, by its path."""
+    found = {**FILES, **FOLDERS}
+    for folder, place in FOLDERS.items():
+        found.update({folder + goes.removeprefix(place): goes for goes, _ in below(folder, place)})
+    return found
+
+
+def relinked(text, path, known):
+    """A page's text with its links from where the page goes to where their targets go. To what isn't packed none leads:
+    the words stay."""
+
+    def moved(found):
+        mark, words, target = found.groups()
+        if target is None or re.match(r"\w+:|#", target):
+            return found[0]
+        to, _, anchor = target.partition("#")
+        there = os.path.normpath(os.path.join(os.path.dirname(path), to))
+        if there not in known:
+            return words
+        at = os.path.relpath(known[there], os.path.dirname(known[path]))
+        return f"{mark}[{words}]({at}{'#' * bool(anchor)}{anchor})"
+
+    return LINK.sub(moved, text)
+
+
+def linked(held, goes=lambda place: place):
+    """The same files, the links of each page led to where the files go."""
+    known = {path: goes(place) for path, place in places().items()}
+    pages = {place: path for path, place in known.items() if path.endswith(".md")}
+    made = dict(held)
+    for place in pages.keys() & held.keys():
+        made[place] = relinked(held[place][0].decode(), pages[place], known).encode(), held[place][1]
+    return made
+
+
 def contents(program, library, is_given):
     """Where each file goes, its bytes and its mode; what a link leads to where that is a text."""
     if os.path.exists(f"{library}/NOT-PROVED"):
@@ -156,7 +199,7 @@ def java_of(library, time):
 
 def pack_tar(held, top, path, time):
     """The same bytes for the same files: sorted, with the commit's time, of nobody in particular."""
-    packed = io.BytesIO()
+    held, packed = linked(held), io.BytesIO()
     with tarfile.open(fileobj=packed, mode="w", format=tarfile.USTAR_FORMAT) as tar:
         for place in sorted(held):
             given, mode = held[place]
@@ -195,7 +238,7 @@ def for_debian(held, number, time):
             given = COPYRIGHT.encode()
         moved[place] = given, mode
     moved["share/lintian/overrides/dexasm"] = OVERRIDES.encode(), 0o644
-    return moved
+    return linked(moved, lambda place: f"{place}.gz" if place.startswith("share/man/") else place)
 
 
 def control_of(held, number):

@@ -1,4 +1,5 @@
 """The packages, each unpacked elsewhere and tried there. What needs a tool that isn't here isn't tried."""
+import glob
 import os
 import re
 import shutil
@@ -128,6 +129,28 @@ def try_glibc(tries, what, folder):
         tries.check(f"{what}: {place} asks for glibc {most}", asked and max(asked) <= most, max(asked, default=None))
 
 
+def headings(text):
+    """The headings of a page as links name them."""
+    heads = re.findall(r"^#+ (.*)$", re.sub(r"^```.*?^```", "", text, flags=re.S | re.M), re.M)
+    return {re.sub(r"[^\w\- ]", "", head.lower()).replace(" ", "-") for head in heads}
+
+
+def try_links(tries, what, folder):
+    """That each link of a page leads to what is packed, and to a heading that is there; and that there are some."""
+    pages = sorted(glob.glob(f"{glob.escape(folder)}/share/doc/dexasm/**/*.md", recursive=True))
+    lost, count = [], 0
+    for page in pages:
+        text = re.sub(r"^```.*?^```|`[^`\n]*`", "", get(page).decode(), flags=re.S | re.M)
+        for target in re.findall(r"\]\((?!\w+:)([^)\s]+)\)", text):
+            to, _, anchor = target.partition("#")
+            there, count = os.path.join(os.path.dirname(page), to) if to else page, count + 1
+            if not os.path.exists(there) or anchor and anchor not in headings(get(there).decode()):
+                lost.append(f"{os.path.relpath(page, folder)}: {target}")
+    tries.check(f"{what}: links", count > 50 and not lost, (count, lost))
+    names = {os.path.relpath(page, f"{folder}/share/doc/dexasm") for page in pages}
+    tries.check(f"{what}: pages", {"README.md", "SECURITY.md", "CHANGELOG.md", "docs/PROVED.md"} <= names, names)
+
+
 def try_package(tries, path, top, sample):
     """A .tar.gz or a .deb; `sample` is a file that `check` accepts."""
     what = os.path.basename(path)
@@ -141,6 +164,7 @@ def try_package(tries, path, top, sample):
             file.write(sample)
         try_session(tries, what, folder, home)
         try_glibc(tries, what, folder)
+        try_links(tries, what, folder)
         try_c(tries, what, folder, room)
         try_rust(tries, what, folder, room)
         try_java(tries, what, folder, room)
