@@ -22,10 +22,10 @@ to date.
 
 ## Faults
 
-Where each fault is defined, where it is answered, the first line in each file of tests that expects it, and the wrong
-bodies that change a function which answers it: those that the gate tries, and in italics those in
-`more-wrong-bodies/`. Wrong bodies of functions that are only called on the way aren't named here; the tables below
-count those of each file.
+Where each fault is defined, the first line in each file that answers it, the first one in each file of tests that
+expects it, and the wrong bodies that change a function which answers it: those that the gate tries, and in italics
+those in `more-wrong-bodies/`. Wrong bodies of functions that are only called on the way aren't named here; the tables
+below count those of each file.
 
 | Fault | Name | Defined | Answered | Tests | Wrong bodies |
 |---|---|---|---|---|---|

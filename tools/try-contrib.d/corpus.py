@@ -77,6 +77,13 @@ def rows(at, words, file="c.db"):
         db.close()
 
 
+@functools.cache
+def bomb():
+    """An archive that is small until it is unpacked."""
+    entries = ("classes.dex", assembled(LISTING)), ("classes2.dex", bytes(400 << 20)), ("classes3.dex", b"")
+    return archive(*entries, compression=8)
+
+
 def strange(at):
     """A folder of files that are meant to do harm."""
     file = assembled(LISTING)
@@ -89,11 +96,7 @@ def strange(at):
     put(at, "d/other", b"no file")
     put(at, "d/begins", file[:100])
     put(at, "d/bad.apk", archive(("classes.dex", file))[:-30])
-    put(
-        at,
-        "d/bomb.apk",
-        archive(("classes.dex", file), ("classes2.dex", bytes(400 << 20)), ("classes3.dex", b""), compression=8),
-    )
+    put(at, "d/bomb.apk", bomb())
     put(
         at,
         "d/encrypted.apk",
@@ -147,7 +150,7 @@ def try_strangers():
 
 @functools.cache
 def slow(classes=30000):
-    """A file of so many classes, which takes a second for each 15,000."""
+    """A file of so many classes, which takes a second for 15,000 to 40,000."""
     one = b"class LA%d; 0x1\ndirect m ()V 0x9\ncode 0 0 0\ninvoke-static { } LA;->m()V\nreturn-void\n"
     one += b"end code\nend class\n"
     return assembled(HEAD + b"".join(one % number for number in range(classes)))
@@ -177,13 +180,13 @@ def try_limits():
     """Time and memory: of each file, and of those in an archive the others go on. Then once more."""
     at, file = room("corpus limits"), assembled(LISTING)
     put(at, "slow.apk", archive(("classes.dex", slow()), ("classes2.dex", file)))
-    write_shape(shapes.calls(40000), at, "huge.dex")
-    added("past the limit of time", at, "--seconds", "1", "c.db", "slow.apk")
-    added("past the limit of memory", at, "--memory", "400M", "c.db", "huge.dex")
+    write_shape(shapes.calls(32000), at, "huge.dex")
+    added("past the limit of time", at, "--seconds", "0.2", "c.db", "slow.apk")
+    added("past the limit of memory", at, "--memory", "300M", "c.db", "huge.dex")
     found = dict(rows(at, "select path || entry, status from path join file on id = file"))
     want = {"slow.apkclasses.dex": "time", "slow.apkclasses2.dex": "ok", "huge.dex": "memory"}
     check("dexasm-corpus, limits", found == want, found)
-    added("past limits, twice", at, "--seconds", "60", "--memory", "400M", "c.db", "slow.apk", "huge.dex")
+    added("past limits, twice", at, "--seconds", "60", "--memory", "300M", "c.db", "slow.apk", "huge.dex")
     check(
         "dexasm-corpus, what was in isn't looked at again",
         dict(rows(at, "select path || entry, status from path join file on id = file")) == want,
@@ -371,6 +374,8 @@ def try_wrong():
         ("add",),
         ("add", "c.db"),
         ("add", "--memory", "x", "c.db", "a.dex"),
+        ("add", "--seconds", "nan", "c.db", "a.dex"),
+        ("add", "--seconds", "1e9", "c.db", "a.dex"),
         ("add", "--send", "c.db", "a.dex"),
         ("add", "--scheduler", "", "c.db", "a.dex"),
         ("what", "c.db"),

@@ -2,6 +2,7 @@
 Dask. Whatever happens, the database is whole, and the same command goes on.
 """
 import fcntl
+import functools
 import json
 import os
 import pty
@@ -52,10 +53,16 @@ def is_whole(at, file="c.db"):
     return rows(at, "pragma integrity_check", file) == [("ok",)] and not rows(at, "pragma foreign_key_check", file)
 
 
+@functools.cache
+def file_of(number):
+    """A file that shares a class with those of other numbers."""
+    return assembled(HEAD + LIBRARY % number + APP * (number % 2))
+
+
 def many(at, count):
     """A folder of so many files that share classes, and what they make."""
     for number in range(count):
-        put(at, f"d/{number}.dex", assembled(HEAD + LIBRARY % number + APP * (number % 2)))
+        put(at, f"d/{number}.dex", file_of(number))
     added("all at once", at, "whole.db", "d")
     return sums(at, "whole.db")
 
@@ -114,6 +121,22 @@ def try_beside():
     ends = [one.returncode for one in running]
     check("dexasm-corpus, two at once", ends == [0, 0] and said == [b"", b""], (ends, said))
     check("dexasm-corpus, two at once, their sum", sums(at) == want and is_whole(at), (sums(at), want))
+
+
+def try_held():
+    """Another command has the database, which is still empty: this one waits."""
+    at = room("corpus held")
+    put(at, "a.dex", assembled(LISTING))
+    db = sqlite3.connect(os.path.join(at, "c.db"), isolation_level=None)
+    db.execute("begin immediate")
+    running = begun(at, "add", "c.db", "a.dex")
+    time.sleep(1)
+    waits = running.poll() is None
+    db.execute("rollback")
+    db.close()
+    said = running.communicate(timeout=PATIENCE)[1]
+    is_so = waits and (running.returncode, said) == (0, b"") and rows(at, "select count(*) from file") == [(1,)]
+    check("dexasm-corpus, while another one has the database", is_so, (waits, running.returncode, said))
 
 
 def try_interrupted():
@@ -239,7 +262,7 @@ def try_terminal():
     check("dexasm-corpus, a narrow terminal", max(map(len, bars)) == 19, bars)
     got = on_terminal(at, 100, "dumb.db", "d", TERM="dumb")
     check("dexasm-corpus, a terminal that obeys nothing", got[0] == 0 and got[2] == "", got)
-    put(at, "slow.dex", slow())
+    put(at, "slow.dex", slow(60000))
     status, out, got = on_terminal(at, 100, "--seconds", "600", "gone.db", "slow.dex", is_closed=True)
     is_so = status == 0 and out.startswith("1 files, 1 new") and BAR.search(got)
     check("dexasm-corpus, a terminal that goes away", is_so, (status, out, got))
@@ -349,6 +372,7 @@ TRIES = (
     try_memory,
     try_killed,
     try_beside,
+    try_held,
     try_interrupted,
     try_terminal,
     try_dask,

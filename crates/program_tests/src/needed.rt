@@ -1,11 +1,18 @@
 //! The names that are needed, and their ranks.
+ghost use Rattle.std.specs.Prelude.{List, IfOk, map};
+ghost use Rattle.std.specs.List.{AllByRecursion};
+ghost use Rattle.program_types.specs.Content.{Descriptor};
+ghost use Rattle.program_types.specs.View as view;
+ghost use Rattle.tables_names.specs.Closure.{HasShorty, method_of_class};
+ghost use Rattle.tables_names.specs.Noted.{members_of};
 
 use crate::ranks_shown::shown_ranks;
 use crate::units::A;
 use bumpalo::Bump;
+use bumpalo::collections::into_bump_slice;
 use dex_base::Fault;
 use dex_samples::{Case, all_hold, field, is_so, method, proto, text, ty};
-use program_types::{Member, Method, Name};
+use program_types::{Class, Member, Method, Name};
 use std::alloc::Global;
 use std::test::Fail;
 use tables_names::{Needed, Noted, Ranks};
@@ -209,12 +216,15 @@ fn add_own_field<'a>(
     name: &str,
     kind: &str,
 ) -> Result<(), Fault> {
-    let own = Member {
+    needed.add_fields_of(A, &[own_field(arena, name, kind)?])
+}
+
+fn own_field<'a>(arena: &'a Bump, name: &str, kind: &str) -> Result<Member<'a>, Fault> {
+    Ok(Member {
         name: text(arena, name)?,
         ty: ty(arena, kind)?,
         flags: 0,
-    };
-    needed.add_fields_of(A, &[own])
+    })
 }
 
 // A method `m` that LA; defines.
@@ -433,7 +443,74 @@ fn are_noted_so(alloc: Global) -> Result<bool, Fault> {
     Ok(ranks.as_slice() == [3, 0, 3].as_slice())
 }
 
+fn one_field<'a>(arena: &'a Bump, name: &str, kind: &str) -> Result<&'a [Member<'a>], Fault> {
+    let mut fields = Vec::new(arena);
+    fields.push(own_field(arena, name, kind)?)?;
+    Ok(into_bump_slice(fields))
+}
+
+// `m()V`.
+fn one_method<'a>(arena: &'a Bump) -> Result<&'a [Method<'a>], Fault>
+    ensures { IfOk result (λ all. (class : Descriptor) → AllByRecursion HasShorty (map (method_of_class class) (map view.method all.now))) }
+{
+    let mut methods = Vec::new(arena);
+    methods.push(Method {
+        name: text(arena, "m")?,
+        proto: proto(arena, "V", &[])?,
+        flags: 0x401,
+        code: None,
+    })?;
+    Ok(into_bump_slice(methods))
+}
+
+// `LA;`, which defines these members.
+fn class_with<'a>(
+    statics: &'a [Member<'a>],
+    instances: &'a [Member<'a>],
+    directs: &'a [Method<'a>],
+) -> Class<'a>
+    requires { (class : Descriptor) → AllByRecursion HasShorty (map (method_of_class class) (map view.method directs.now)) }
+    ensures { AllByRecursion HasShorty (members_of (view.class result)) }
+{
+    Class {
+        ty: A,
+        flags: 1,
+        superclass: None,
+        interfaces: &[],
+        source: None,
+        statics,
+        instances,
+        directs,
+        virtuals: &[],
+        values: &[],
+    }
+}
+
+// The ranks of the members of a class, in the order in which they are noted.
+fn member_ranks<'a>(alloc: Global, arena: &'a Bump, class: &Class<'a>) -> Result<Vec<usize>, Fault>
+    requires { AllByRecursion HasShorty (members_of (view.class class.now)) }
+{
+    let mut noted = Needed::new(alloc).noting();
+    noted.add_members_of(arena, class)?;
+    let (_, ranks) = noted.freeze()?;
+    Ok(ranks)
+}
+
+// LA;->g:J ranks after LA;->f:I.
+fn are_members_noted_so(alloc: Global) -> Result<bool, Fault> {
+    let arena = Bump::new(alloc);
+    let (g, f) = (one_field(&arena, "g", "J")?, one_field(&arena, "f", "I")?);
+    let class = class_with(g, f, one_method(&arena)?);
+    let ranks = member_ranks(alloc, &arena, &class)?;
+    Ok(ranks.as_slice() == [1, 0, 0].as_slice())
+}
+
 #[test]
 fn what_is_noted_has_its_ranks_in_the_order_of_mention(rt: HostRuntime) -> Result<(), Fail> {
     is_so(are_noted_so(rt.alloc()))
+}
+
+#[test]
+fn members_of_a_class_are_noted_by_the_order_of_their_groups(rt: HostRuntime) -> Result<(), Fail> {
+    is_so(are_members_noted_so(rt.alloc()))
 }

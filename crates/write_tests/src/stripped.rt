@@ -10,7 +10,7 @@ use std::test::Fail;
 #[rattlefmt::skip]
 #[test]
 fn slack_is_left_out_and_items_are_looked_at_as_each_use_asks(rt: HostRuntime) -> Result<(), Fail> {
-    static CASES: [Left; 13] = [
+    static CASES: [Left; 14] = [
         Left("a string that nothing uses, and debugging information", Spare(6), OneClass),
         Left("a list of no type", EmptyList, OneClass),
         Left("link_off", One(48, &[0xff; 4]), OneClass),
@@ -19,6 +19,7 @@ fn slack_is_left_out_and_items_are_looked_at_as_each_use_asks(rt: HostRuntime) -
         Left("debug_info_off of the code item", One(200, &[0xff; 4]), OneClass),
         Left("a broken string that nothing uses", Spare(7), Refused((fault::STRING_SPELLING, 128))),
         Left("two equal bodies", TwoItems(&[]), OneItem(412)),
+        Left("a broken body that nothing uses", TwoItems(&[(0xe2, &[2]), (0x11e, &[0xcc])]), OneItem(412)),
         // Ins past the registers of the first body, which are looked at last; a misplaced second body, which is
         // an earlier group's fault; then the first body for both methods.
         Left("ins past the registers", TwoItems(&[(0xce, &[2])]), Read((fault::REGISTER, 204))),
