@@ -149,7 +149,7 @@ def try_strangers():
 
 
 @functools.cache
-def slow(classes=30000):
+def slow(classes=16000):
     """A file of so many classes, which takes a second for 15,000 to 40,000."""
     one = b"class LA%d; 0x1\ndirect m ()V 0x9\ncode 0 0 0\ninvoke-static { } LA;->m()V\nreturn-void\n"
     one += b"end code\nend class\n"
@@ -181,7 +181,7 @@ def try_limits():
     at, file = room("corpus limits"), assembled(LISTING)
     put(at, "slow.apk", archive(("classes.dex", slow()), ("classes2.dex", file)))
     write_shape(shapes.calls(32000), at, "huge.dex")
-    added("past the limit of time", at, "--seconds", "0.2", "c.db", "slow.apk")
+    added("past the limit of time", at, "--seconds", "0.1", "c.db", "slow.apk")
     added("past the limit of memory", at, "--memory", "300M", "c.db", "huge.dex")
     found = dict(rows(at, "select path || entry, status from path join file on id = file"))
     want = {"slow.apkclasses.dex": "time", "slow.apkclasses2.dex": "ok", "huge.dex": "memory"}

@@ -262,7 +262,7 @@ def try_terminal():
     check("dexasm-corpus, a narrow terminal", max(map(len, bars)) == 19, bars)
     got = on_terminal(at, 100, "dumb.db", "d", TERM="dumb")
     check("dexasm-corpus, a terminal that obeys nothing", got[0] == 0 and got[2] == "", got)
-    put(at, "slow.dex", slow(60000))
+    put(at, "slow.dex", slow(48000))
     status, out, got = on_terminal(at, 100, "--seconds", "600", "gone.db", "slow.dex", is_closed=True)
     is_so = status == 0 and out.startswith("1 files, 1 new") and BAR.search(got)
     check("dexasm-corpus, a terminal that goes away", is_so, (status, out, got))
