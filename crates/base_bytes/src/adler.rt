@@ -1,4 +1,4 @@
-// The checksum Adler-32 (RFC 1950, section 8.2).
+//! The checksum Adler-32 (RFC 1950, section 8.2).
 ghost use Rattle.std.specs.Prelude.{◌≡◌, ◌+◌, ◌*◌, ◌%◌, ◌<◌, ◌≤◌, length, sum};
 ghost use Rattle.base_bytes.specs.Adler32.{adler32, weighted_sum};
 
@@ -16,11 +16,11 @@ struct Sums {
     b: u32,
 }
 
-// How often a byte counts within its row, by its column.
+/// How often a byte counts within its row, by its column.
 const WEIGHTS: [u32; 16] = [16, 15, 14, 13, 12, 11, 10, 9, 8, 7, 6, 5, 4, 3, 2, 1];
 
-// Adds rows of sixteen bytes to both sums, without a remainder: by columns, since byte by byte each sum would wait for
-// the one before.
+/// Adds rows of sixteen bytes to both sums, without a remainder: by columns, since byte by byte each sum would wait for
+/// the one before.
 fn add_rows(a: u32, b: u32, rows: &[u8]) -> Sums
     requires whole { length rows.now % 16 ≡ 0 }
     requires short { length rows.now ≤ 3800 }
@@ -45,7 +45,7 @@ fn add_rows(a: u32, b: u32, rows: &[u8]) -> Sums
     }
 }
 
-// Adds the bytes to both sums, without a remainder.
+/// Adds the bytes to both sums, without a remainder.
 fn add_all(a: u32, b: u32, bytes: &[u8]) -> Sums
     requires short { length bytes.now ≤ 3800 }
     requires a_small { a < 65521 }

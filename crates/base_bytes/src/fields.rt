@@ -1,4 +1,4 @@
-// Numbers at a place in bytes, the low byte first, as all fixed numbers of a .dex file.
+//! Numbers at a place in bytes, the low byte first, as all fixed numbers of a .dex file.
 ghost use Rattle.std.specs.Prelude.{◌≡◌, ◌+◌, ◌≤◌, ◌++◌, length, take, drop};
 ghost use Rattle.base_bytes.specs.Fields.{AreBytes, u16_at, u32_at, u32_bytes};
 

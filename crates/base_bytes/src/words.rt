@@ -1,4 +1,4 @@
-// Lists of four-byte numbers, as header, map and tables have them.
+//! Lists of four-byte numbers, as header, map and tables have them.
 ghost use Rattle.std.specs.Prelude.{◌≡◌, ◌+◌, ◌*◌, ◌≤◌, ◌++◌, OnOk, OnErr, IsOk, IsOkUnless, length, vec_len, vec_capacity};
 ghost use Rattle.base_bytes.specs.Fault.{memory};
 ghost use Rattle.base_bytes.specs.Words.{words_bytes};

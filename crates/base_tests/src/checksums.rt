@@ -12,7 +12,7 @@ enum Text {
     Same(u8, usize),
 }
 
-// What the text is, the text, its checksum.
+/// What the text is, the text, its checksum.
 struct Summed(&'static str, Text, u32);
 
 impl Case for Summed {

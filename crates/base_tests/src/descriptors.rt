@@ -5,7 +5,7 @@ use dex_samples::{Case, all_hold};
 use std::alloc::Global;
 use std::test::Fail;
 
-// The UTF-16 units of an ASCII text.
+/// The UTF-16 units of an ASCII text.
 fn units(alloc: Global, text: &str) -> Result<Vec<u16>, Fault> {
     let mut units = Vec::new(alloc);
     for byte in text.as_bytes() {
@@ -14,7 +14,7 @@ fn units(alloc: Global, text: &str) -> Result<Vec<u16>, Fault> {
     Ok(units)
 }
 
-// So many `[`, and `I`.
+/// So many `[`, and `I`.
 fn ints(alloc: Global, depth: usize) -> Result<Vec<u16>, Fault> {
     let mut text = vec![in alloc; 91u16; depth]?;
     text.push(73)?;
@@ -28,7 +28,7 @@ enum Text {
     Ints(usize),
 }
 
-// What is told of a text.
+/// What is told of a text.
 #[derive(Clone, Copy)]
 enum Asked {
     // whether it is a descriptor, whether it is one of a class, whether it is one of an array
@@ -37,7 +37,7 @@ enum Asked {
     Length(Option<usize>),
 }
 
-// A name for the case, the text, and what is told of it.
+/// A name for the case, the text, and what is told of it.
 struct Told(&'static str, Text, Asked);
 
 impl Case for Told {

@@ -5,7 +5,7 @@ use dex_samples::{Case, all_hold};
 use std::alloc::{AllocError, Global};
 use std::test::Fail;
 
-// The faults and their names.
+/// The faults and their names.
 #[rattlefmt::skip]
 static NAMES: [(u16, &str); 85] = [
     (1, "TooShort"), (2, "Magic"), (3, "Version"), (4, "FileSize"), (5, "HeaderSize"), (6, "Endian"), (7, "Linked"),
@@ -35,7 +35,7 @@ fn wanted_name(code: u16) -> &'static str {
     "Unknown"
 }
 
-// Whether each number below this one has its name or none.
+/// Whether each number below this one has its name or none.
 fn are_named_below(end: u16) -> bool {
     for code in 0..end {
         if fault_name(code) != wanted_name(code) {
@@ -54,7 +54,7 @@ fn is_shown_so(alloc: Global, code: u16, place: u64, want: &str) -> Result<bool,
     Ok(fault.to_string(alloc)?.as_str() == want)
 }
 
-// What is asked of faults.
+/// What is asked of faults.
 enum Asked {
     NamesBelow(u16),
     Greatest,

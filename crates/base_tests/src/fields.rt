@@ -22,7 +22,7 @@ fn are_words_pushed_after(alloc: Global) -> Result<bool, Fault> {
     Ok(out.as_slice() == [7, 1, 2, 3, 4, 0xfe, 0xff, 0xff, 0xff].as_slice())
 }
 
-// What is done with numbers.
+/// What is done with numbers.
 enum Done {
     Read,
     Put,

@@ -8,7 +8,7 @@ use dex_samples::{Case, all_hold, is_so};
 use std::alloc::Global;
 use std::test::Fail;
 
-// What the instruction is, its units, the instruction, and the units that are written of it.
+/// What the instruction is, its units, the instruction, and the units that are written of it.
 struct Both(&'static str, &'static [u8], RawInsn<'static>, &'static [u8]);
 
 impl Case for Both {
@@ -24,8 +24,8 @@ impl Case for Both {
     }
 }
 
-// An instruction as its form, its operands in the order of the page, and the slices of a payload: a switch's offsets or
-// an array's elements, and a sparse switch's keys.
+/// An instruction as its form, its operands in the order of the page, and the slices of a payload: a switch's offsets or
+/// an array's elements, and a sparse switch's keys.
 #[derive(Clone, Copy)]
 struct Shown<'a> {
     form: &'static str,
@@ -108,7 +108,7 @@ fn is_shown_so(insn: Shown<'_>, want: Shown<'_>) -> bool {
         && insn.keys == want.keys
 }
 
-// Whether the instruction stands at a unit, and has so many units.
+/// Whether the instruction stands at a unit, and has so many units.
 fn is_read_so(code: &[u8], at: u32, want: &RawInsn<'_>, units: u64) -> bool {
     match read_insn(code, at) {
         Ok(insn) => is_shown_so(operands_of(insn), operands_of(*want)) && size_of(&insn) == units,
@@ -116,7 +116,7 @@ fn is_read_so(code: &[u8], at: u32, want: &RawInsn<'_>, units: u64) -> bool {
     }
 }
 
-// Whether the instruction that stands at the front of the units is written in these units, after what was there.
+/// Whether the instruction that stands at the front of the units is written in these units, after what was there.
 fn is_put_so(alloc: Global, code: &[u8], want: &[u8]) -> Result<bool, Fault> {
     let mut out = vec![in alloc; 0xeeu8; 1]?;
     let insn = read_insn(code, 0)?;

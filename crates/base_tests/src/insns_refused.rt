@@ -6,7 +6,7 @@ use dex_samples::{Case, all_hold};
 use std::alloc::Global;
 use std::test::Fail;
 
-// What is wrong, the units, where the instruction stands, the number of the fault.
+/// What is wrong, the units, where the instruction stands, the number of the fault.
 struct Refused(&'static str, &'static [u8], u32, u16);
 
 impl Case for Refused {

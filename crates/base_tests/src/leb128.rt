@@ -11,7 +11,7 @@ enum Number {
     Signed(i32),
 }
 
-// What is asked.
+/// What is asked.
 #[derive(Clone, Copy)]
 enum Way {
     // the number at the front of the bytes, and its length
@@ -21,7 +21,7 @@ enum Way {
     Put(Number, &'static [u8]),
 }
 
-// A name for the case, and what is asked.
+/// A name for the case, and what is asked.
 struct Leb(&'static str, Way);
 
 impl Case for Leb {

@@ -6,7 +6,7 @@ use dex_samples::{Case, all_hold};
 use std::alloc::Global;
 use std::test::Fail;
 
-// What bytes spell.
+/// What bytes spell.
 #[derive(Clone, Copy)]
 enum Way {
     // these units, which are written so, too
@@ -17,7 +17,7 @@ enum Way {
     Refused,
 }
 
-// What the string is, what the bytes spell, the bytes.
+/// What the string is, what the bytes spell, the bytes.
 struct Spelled(&'static str, Way, &'static [u8]);
 
 impl Case for Spelled {
@@ -37,7 +37,7 @@ impl Case for Spelled {
     }
 }
 
-// Whether these units, as many bytes long as that, stand at the front of the bytes, or no string does.
+/// Whether these units, as many bytes long as that, stand at the front of the bytes, or no string does.
 fn is_read_so(alloc: Global, bytes: &[u8], want: Option<(&[u16], usize)>) -> Result<bool, Fault> {
     let arena = Bump::new(alloc);
     Ok(match (read_mutf8(alloc, &arena, bytes)?, want) {
@@ -47,7 +47,7 @@ fn is_read_so(alloc: Global, bytes: &[u8], want: Option<(&[u16], usize)>) -> Res
     })
 }
 
-// The string `V`, after which each is written.
+/// The string `V`, after which each is written.
 static FRONT: [u8; 3] = [1, 0x56, 0];
 
 fn is_put_so(alloc: Global, units: &[u16], want: &[u8]) -> Result<bool, Fault> {

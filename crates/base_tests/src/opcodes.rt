@@ -6,7 +6,7 @@ use dex_samples::{Case, all_hold, none_wrong};
 use std::alloc::Global;
 use std::test::Fail;
 
-// The first opcode, the format and index kind of all, their mnemonics.
+/// The first opcode, the format and index kind of all, their mnemonics.
 type Run = (u8, Format, Option<IndexKind>, &'static [&'static str]);
 
 /// Runs of opcodes: the first, the format and index kind of all, and their mnemonics. Opcodes in no run are unused.
@@ -95,7 +95,7 @@ static RUNS: [Run; 56] = [
         "xor-int/lit8", "shl-int/lit8", "shr-int/lit8", "ushr-int/lit8"]),
 ];
 
-// The row of the page for an opcode.
+/// The row of the page for an opcode.
 fn row_of(runs: &[Run], op: u8) -> Option<(&'static str, Format, Option<IndexKind>)> {
     for (first, format, index, mnemonics) in runs {
         if op < *first {
@@ -126,7 +126,7 @@ fn is_as_on_the_page(runs: &[Run], op: u8) -> bool {
     }
 }
 
-// The mnemonic of the first opcode whose row is another.
+/// The mnemonic of the first opcode whose row is another.
 fn first_row_otherwise(runs: &[Run]) -> Option<&'static str> {
     for op in 0..=255_u8 {
         if !is_as_on_the_page(runs, op) {
@@ -141,7 +141,7 @@ fn all_256_rows_are_those_of_the_page() -> Result<(), Fail> {
     none_wrong(Ok(first_row_otherwise(&RUNS)))
 }
 
-// A text that names no opcode.
+/// A text that names no opcode.
 struct NoName(&'static str);
 
 impl Case for NoName {

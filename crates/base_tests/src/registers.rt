@@ -6,7 +6,7 @@ use dex_samples::{Case, all_hold};
 use std::alloc::Global;
 use std::test::Fail;
 
-// What the instruction is, its units, and the register.
+/// What the instruction is, its units, and the register.
 struct Top(&'static str, &'static [u8], Option<u32>);
 
 impl Case for Top {

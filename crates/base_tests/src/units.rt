@@ -6,7 +6,7 @@ use std::alloc::Global;
 use std::cmp::Ordering;
 use std::test::Fail;
 
-// What is asked of strings.
+/// What is asked of strings.
 #[derive(Clone, Copy)]
 enum Asked {
     // how the first one stands to the second
@@ -15,7 +15,7 @@ enum Asked {
     IsName(&'static [u16], bool),
 }
 
-// A name for the case, and what is asked.
+/// A name for the case, and what is asked.
 struct Told(&'static str, Asked);
 
 impl Case for Told {

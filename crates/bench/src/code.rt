@@ -11,7 +11,7 @@ use std::alloc::Global;
 use std::io;
 use tables_rows::Tables;
 
-// Where an instruction leads, or what its operands add up to.
+/// Where an instruction leads, or what its operands add up to.
 fn weight(one: &Insn<'_>) -> u64 {
     match one {
         Insn::I10t { to, .. } | Insn::I21t { to, .. } | Insn::I31t { to, .. } => u64::from(*to),
@@ -23,7 +23,7 @@ fn weight(one: &Insn<'_>) -> u64 {
     }
 }
 
-// The weights of all instructions, and the numbers in the tries.
+/// The weights of all instructions, and the numbers in the tries.
 fn sum_of(code: &Code<'_>) -> u64 {
     let mut sum: u64 = 0;
     for one in code.insns {
@@ -37,7 +37,7 @@ fn sum_of(code: &Code<'_>) -> u64 {
     sum
 }
 
-// The sum of all code items between two places.
+/// The sum of all code items between two places.
 fn read_items<'a>(
     alloc: Global,
     arena: &'a Bump,
@@ -59,7 +59,7 @@ fn read_items<'a>(
     Ok(sum)
 }
 
-// What one reading gives.
+/// What one reading gives.
 fn read_once(alloc: Global, sections: &Sections<'_>) -> Result<u64, Fault> {
     let arena = Bump::new(alloc);
     let tables = Tables::read(alloc, &arena, sections)?;
@@ -69,7 +69,7 @@ fn read_once(alloc: Global, sections: &Sections<'_>) -> Result<u64, Fault> {
     read_items(alloc, &arena, &tables, sections, places)
 }
 
-// The sum of so many readings.
+/// The sum of so many readings.
 fn read_often(alloc: Global, bytes: &[u8], times: u32) -> Result<u64, Fault> {
     let sections = open(bytes)?;
     let mut sum: u64 = 0;

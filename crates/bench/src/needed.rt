@@ -25,7 +25,7 @@ fn numbered<'a>(arena: &'a Bump, number: u32) -> Result<Str<'a>, Fault> {
     place_str(arena, &units)
 }
 
-// Whether all types have a letter in the shorty.
+/// Whether all types have a letter in the shorty.
 fn has_shorty(proto: &Proto<'_>) -> bool
     ensures ret { IsTrue result → IsDescriptor (desc proto.now.ret) }
     ensures params { IsTrue result → All IsDescriptor (map desc proto.now.params.now) }
@@ -89,7 +89,7 @@ fn add_one<'a>(
     }
 }
 
-// Adds a method of this name.
+/// Adds a method of this name.
 fn add_method<'a>(
     needed: &mut Needed<'a>,
     arena: &'a Bump,
@@ -142,7 +142,7 @@ fn add_all<'a>(
     Ok(())
 }
 
-// How many names there are.
+/// How many names there are.
 fn count_of(ranks: &Ranks<'_>) -> u64 {
     let strings = ranks.strings().len() as u64;
     let types = ranks.types().len() as u64;
@@ -153,7 +153,7 @@ fn count_of(ranks: &Ranks<'_>) -> u64 {
         .wrapping_add(members)
 }
 
-// How many names there are once they are frozen.
+/// How many names there are once they are frozen.
 fn frozen<'a>(needed: Needed<'a>) -> Result<u64, Fault> {
     let ranks = needed.freeze()?;
     Ok(count_of(&ranks))

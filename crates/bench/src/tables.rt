@@ -9,7 +9,7 @@ use std::alloc::Global;
 use std::io;
 use tables_rows::Tables;
 
-// The units of all strings, and of the names of all fields and methods.
+/// The units of all strings, and of the names of all fields and methods.
 fn units_of(sections: &Sections<'_>, tables: &Tables<'_>) -> u64 {
     let mut sum: u64 = 0;
     for i in 0..sections.table(kind::STRING_ID_ITEM).0 {
@@ -30,14 +30,14 @@ fn units_of(sections: &Sections<'_>, tables: &Tables<'_>) -> u64 {
     sum
 }
 
-// What one reading of the tables gives.
+/// What one reading of the tables gives.
 fn read_once(alloc: Global, sections: &Sections<'_>) -> Result<u64, Fault> {
     let arena = Bump::new(alloc);
     let tables = Tables::read(alloc, &arena, sections)?;
     Ok(units_of(sections, &tables))
 }
 
-// The sum of so many readings.
+/// The sum of so many readings.
 fn read_often(alloc: Global, bytes: &[u8], times: u32) -> Result<u64, Fault> {
     let sections = open(bytes)?;
     let mut sum: u64 = 0;

@@ -21,7 +21,7 @@ use program_types::Code;
 use std::alloc::Global;
 use tables_names::Ranks;
 
-// Whether a code whose instructions fit does: its tries, 87 to 89. Where it is too long to be written anyway, its handlers aren't laid.
+/// Whether a code whose instructions fit does: its tries, 87 to 89. Where it is too long to be written anyway, its handlers aren't laid.
 fn check_tries(alloc: Global, ranks: &Ranks<'_>, all: &Starts, code: &Code<'_>) -> Result<(), Fault>
     requires formed { IsFormed (view.code code.now) }
     requires caught { AllByRecursion (HasIndexBelow (NameRanks ranks.now) 4294967296) (flat_map names_of_try (view.code code.now).tries) }

@@ -2,7 +2,7 @@
 
 ghost use Rattle.code_fits.specs.Laws.{CodeLimitsAreDecided};
 
-/// A code fits, by the ranks of names, exactly if it breaks none of the limits 82 to 89.
+/// A code fits, by the ranks of names, exactly if it breaks none of the limits of a code.
 pub fn code_limits_are_decided()
     ensures { CodeLimitsAreDecided }
 {}

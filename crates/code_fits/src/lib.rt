@@ -1,7 +1,7 @@
 //! Whether a code fits a file's fields.
 //!
 //! ```text
-//! fits(alloc, &ranks, &code)?; // 82 to 89 where an index, an offset or a count is too large for its field
+//! fits(alloc, &ranks, &code)?; // refused where an index, an offset or a count is too large for its field
 //! ```
 //!
 //! docs/MAP.md says where this crate stands among the others.

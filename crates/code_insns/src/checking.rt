@@ -32,7 +32,7 @@ fn check_plain(
     requires even { length units.now % 2 ≡ 0 }
     requires short { length units.now ≤ 8589934590 }
     ensures ok { IfOk result (λ o. IfSome o (λ c. AreChecked (NameIsAt tables.now) units.now c.starts.items registers c.past)) }
-    ensures err { IsOkUnless result memory }
+    ensures memory { IsOkUnless result memory }
 {
     let Some(starts) = starts_of(alloc, units)? else {
         return Ok(None);

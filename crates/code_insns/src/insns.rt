@@ -43,19 +43,19 @@ pub struct Insns<'a> {
 fn half_linked<'a>(
     tables: &Tables<'a>,
     insns: &[RawInsn<'_>],
-    begins: &[u32],
+    starts: &[u32],
     k: usize,
 ) -> Option<Insn<'a>>
-    requires table { IsTable begins.now (map raw insns.now) }
+    requires table { IsTable starts.now (map raw insns.now) }
     requires inside { k < length insns.now }
-    ensures some { IfSome result (λ i. IsHalfLinked (NameIsAt tables.now) begins.now (slice_index begins.now k) (raw_at (map raw insns.now) k) (insn i)) }
+    ensures some { IfSome result (λ i. IsHalfLinked (NameIsAt tables.now) starts.now (slice_index starts.now k) (raw_at (map raw insns.now) k) (insn i)) }
     ensures none { IfNone result (¬ NameHolds (NameIsAt tables.now) (map raw insns.now) k) }
 {
     let one = &insns[k];
     if is_payload(one) {
         return Some(empty_payload(one));
     }
-    link(tables, begins, begins[k], one)
+    link(tables, starts, starts[k], one)
 }
 
 /// All instructions, linked from their own addresses.
@@ -63,31 +63,31 @@ fn half_link<'a>(
     arena: &'a Bump,
     tables: &Tables<'a>,
     insns: &[RawInsn<'_>],
-    begins: &[u32],
+    starts: &[u32],
     base: u64,
 ) -> Result<Vec<Insn<'a>, &'a Bump>, Fault>
-    requires table { IsTable begins.now (map raw insns.now) }
+    requires table { IsTable starts.now (map raw insns.now) }
     requires base { base < 2 ^ 40 }
     ensures ok { IfOk result (λ half. AreHalfLinked (NameIsAt tables.now) (map raw insns.now) (map insn half.items)) }
-    ensures err { IfErr result (λ e. e ≢ memory → Breaks begins.now base 65 (NameHolds (NameIsAt tables.now) (map raw insns.now)) (NameHolds (NameIsAt tables.now) (map raw insns.now)) e) }
+    ensures err { IfErr result (λ e. e ≢ memory → Breaks starts.now base 65 (NameHolds (NameIsAt tables.now) (map raw insns.now)) (NameHolds (NameIsAt tables.now) (map raw insns.now)) e) }
 {
     let mut half = Vec::with_capacity(arena, insns.len())?;
     for k in 0..insns.len() {
-        match half_linked(tables, insns, begins, k) {
+        match half_linked(tables, insns, starts, k) {
             Some(one) => half.push(one)?,
-            None => return Err(fault_at(fault::OPERAND_INDEX, begins, base, k)),
+            None => return Err(fault_at(fault::OPERAND_INDEX, starts, base, k)),
         }
     }
     Ok(half)
 }
 
 /// The fault of instruction `k`.
-fn fault_at(number: u16, begins: &[u32], base: u64, k: usize) -> Fault
-    requires inside { k < length begins.now }
+fn fault_at(number: u16, starts: &[u32], base: u64, k: usize) -> Fault
+    requires inside { k < length starts.now }
     requires base { base < 2 ^ 40 }
-    ensures { result ≡ record { code = number; place = base + 2 * slice_index begins.now k } }
+    ensures { result ≡ record { code = number; place = base + 2 * slice_index starts.now k } }
 {
-    Fault::at(number, base + 2 * u64::from(begins[k]))
+    Fault::at(number, base + 2 * u64::from(starts[k]))
 }
 
 /// Links each payload in its place, from the instruction from which it counts.
@@ -96,19 +96,19 @@ fn link_payloads<'a>(
     tables: &Tables<'_>,
     half: &mut [Insn<'a>],
     insns: &[RawInsn<'_>],
-    begins: &[u32],
+    starts: &[u32],
     origins: &[u32],
 ) -> Result<(), Fault>
-    requires table { IsTable begins.now (map raw insns.now) }
+    requires table { IsTable starts.now (map raw insns.now) }
     requires half { AreHalfLinked (NameIsAt tables.now) (map raw insns.now) (map insn half.old) }
     requires origins { AreOrigins (map insn half.old) origins.now }
     ensures ok { OnOk result (AreLinked (NameIsAt tables.now) (map raw insns.now) (map insn half.new)) }
-    ensures err { IsOkUnless result memory }
+    ensures memory { IsOkUnless result memory }
 {
     for k in 0..insns.len() {
         let one = &insns[k];
         if is_payload(one) {
-            half[k] = link_payload(arena, tables, begins, begins[origins[k] as usize], one)?;
+            half[k] = link_payload(arena, tables, starts, starts[origins[k] as usize], one)?;
         }
     }
     Ok(())
@@ -120,26 +120,26 @@ fn link_walked<'a>(
     arena: &'a Bump,
     tables: &Tables<'a>,
     insns: &[RawInsn<'_>],
-    begins: &[u32],
+    starts: &[u32],
     base: u64,
 ) -> Result<&'a [Insn<'a>], Fault>
-    requires table { IsTable begins.now (map raw insns.now) }
+    requires table { IsTable starts.now (map raw insns.now) }
     requires base { base < 2 ^ 40 }
     ensures ok { IfOk result (λ found. AreLinked (NameIsAt tables.now) (map raw insns.now) (map insn found.now)) }
-    ensures err { IfErr result (λ e. e ≢ memory → Breaks begins.now base 65 (NameHolds (NameIsAt tables.now) (map raw insns.now)) (NameHolds (NameIsAt tables.now) (map raw insns.now)) e) }
+    ensures err { IfErr result (λ e. e ≢ memory → Breaks starts.now base 65 (NameHolds (NameIsAt tables.now) (map raw insns.now)) (NameHolds (NameIsAt tables.now) (map raw insns.now)) e) }
 {
-    let mut found = half_link(arena, tables, insns, begins, base)?;
+    let mut found = half_link(arena, tables, insns, starts, base)?;
     let origins = origins_of(alloc, &found)?;
-    link_payloads(arena, tables, &mut found, insns, begins, &origins)?;
+    link_payloads(arena, tables, &mut found, insns, starts, &origins)?;
     Ok(into_bump_slice(found))
 }
 
 /// The first of the rules of branches, payloads and switches that a linked instruction breaks.
-fn check_linked(alloc: Global, insns: &[Insn<'_>], begins: &[u32], base: u64) -> Result<(), Fault>
-    requires count { length begins.now ≡ length insns.now }
+fn check_linked(alloc: Global, insns: &[Insn<'_>], starts: &[u32], base: u64) -> Result<(), Fault>
+    requires count { length starts.now ≡ length insns.now }
     requires base { base < 2 ^ 40 }
     ensures ok { OnOk result (KeepRules (map insn insns.now)) }
-    ensures err { IfErr result (λ e. e ≢ memory → LinkedBreak begins.now (map insn insns.now) base e) }
+    ensures err { IfErr result (λ e. e ≢ memory → LinkedBreak starts.now (map insn insns.now) base e) }
 {
     if let Some(k) = first_bad_branch(insns) {
         let number = if branch_lands(insns, k) {
@@ -147,13 +147,13 @@ fn check_linked(alloc: Global, insns: &[Insn<'_>], begins: &[u32], base: u64) ->
         } else {
             fault::BRANCH_TARGET
         };
-        return Err(fault_at(number, begins, base, k));
+        return Err(fault_at(number, starts, base, k));
     }
     if let Some(k) = first_bad_use(alloc, insns)? {
-        return Err(fault_at(fault::PAYLOAD_USE, begins, base, k));
+        return Err(fault_at(fault::PAYLOAD_USE, starts, base, k));
     }
     if let Some(k) = first_bad_switch(insns) {
-        return Err(fault_at(fault::BRANCH_TARGET, begins, base, k));
+        return Err(fault_at(fault::BRANCH_TARGET, starts, base, k));
     }
     Ok(())
 }
@@ -185,14 +185,14 @@ fn read_plain<'a>(
 }
 
 /// The unit at which the first instruction begins that names a register past the first `count`.
-fn past_registers(insns: &[Insn<'_>], begins: &[u32], count: u16) -> Option<u32>
-    requires count { length begins.now ≡ length insns.now }
-    requires begins { begins.now ≡ addresses_of (map insn insns.now) }
+fn past_registers(insns: &[Insn<'_>], starts: &[u32], count: u16) -> Option<u32>
+    requires count { length starts.now ≡ length insns.now }
+    requires starts { starts.now ≡ addresses_of (map insn insns.now) }
     ensures among { IfNone result (AllHold (AmongAt count (map insn insns.now)) (length (map insn insns.now))) }
     ensures past { IfSome result (IsPast count (map insn insns.now)) }
 {
     match first_past(count, insns) {
-        Some(k) => Some(begins[k]),
+        Some(k) => Some(starts[k]),
         None => None,
     }
 }

@@ -41,7 +41,7 @@ pub(crate) fn int_at(bytes: &[u8], i: usize) -> i32
 
 /// The numbers of the instructions that the offsets lead to.
 fn read_targets<'a>(
-    bump: &'a Bump,
+    arena: &'a Bump,
     starts: &[u32],
     base: u32,
     offsets: &[u8],
@@ -49,10 +49,10 @@ fn read_targets<'a>(
     requires rises { Rises starts.now }
     requires few { length starts.now ≤ 4294967295 }
     ensures ok { IfOk result (λ found. found.now ≡ map (lead starts.now base) (ints offsets.now)) }
-    ensures err { IsOkUnless result memory }
+    ensures memory { IsOkUnless result memory }
 {
     let n = offsets.len() / 4;
-    let mut all = Vec::with_capacity(bump, n)?;
+    let mut all = Vec::with_capacity(arena, n)?;
     for i in 0..n {
         all.push(lead(starts, base, int_at(offsets, i)))?;
     }
@@ -60,12 +60,12 @@ fn read_targets<'a>(
 }
 
 /// The numbers in the bytes, four bytes each.
-fn read_ints<'a>(bump: &'a Bump, bytes: &[u8]) -> Result<&'a [i32], Fault>
+fn read_ints<'a>(arena: &'a Bump, bytes: &[u8]) -> Result<&'a [i32], Fault>
     ensures ok { IfOk result (λ found. found.now ≡ ints bytes.now) }
-    ensures err { IsOkUnless result memory }
+    ensures memory { IsOkUnless result memory }
 {
     let n = bytes.len() / 4;
-    let mut all = Vec::with_capacity(bump, n)?;
+    let mut all = Vec::with_capacity(arena, n)?;
     for i in 0..n {
         all.push(int_at(bytes, i))?;
     }
@@ -98,7 +98,7 @@ pub(crate) fn empty_payload<'a>(one: &RawInsn<'_>) -> Insn<'a>
 /// The symbolic payload, whose offsets, if it has any, count from the address `base`.
 #[tactic(auto, unfolding(crate::specs::Symbols::linked, dex_insn::specs::Raw::is_payload, dex_insn::specs::Raw::raw))]
 pub(crate) fn link_payload<'a>(
-    bump: &'a Bump,
+    arena: &'a Bump,
     tables: &Tables<'_>,
     starts: &[u32],
     base: u32,
@@ -108,22 +108,22 @@ pub(crate) fn link_payload<'a>(
     requires few { length starts.now ≤ 4294967295 }
     requires payload { is_payload (raw one.now) ≡ true }
     ensures ok { IfOk result (λ i. Says (NameIsAt tables.now) (lead starts.now base) (raw one.now) (insn i)) }
-    ensures err { IsOkUnless result memory }
+    ensures memory { IsOkUnless result memory }
 {
     // Only for the proof: what holds of each value of its type.
     let _tables = tables;
     match *one {
         RawInsn::Packed { first, offsets } => Ok(Insn::Packed {
             first,
-            targets: read_targets(bump, starts, base, offsets)?,
+            targets: read_targets(arena, starts, base, offsets)?,
         }),
         RawInsn::Sparse { keys, offsets } => Ok(Insn::Sparse {
-            keys: read_ints(bump, keys)?,
-            targets: read_targets(bump, starts, base, offsets)?,
+            keys: read_ints(arena, keys)?,
+            targets: read_targets(arena, starts, base, offsets)?,
         }),
         RawInsn::Data { width, bytes } => Ok(Insn::Data {
             width,
-            bytes: bump.try_alloc_slice_copy(bytes)?,
+            bytes: arena.try_alloc_slice_copy(bytes)?,
         }),
         _ => unreachable!(),
     }

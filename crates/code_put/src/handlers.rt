@@ -98,7 +98,7 @@ fn put_handler(
     }
 }
 
-// What stands in bytes is below 256.
+/// What stands in bytes is below 256.
 fn are_bytes(bytes: &[u8])
     ensures { AllByRecursion (λ byte. byte < 256) bytes.now }
 {

@@ -1,7 +1,7 @@
 //! Code items, written: whether a code fits a file's fields, where its instructions begin, and its bytes.
 //!
 //! ```text
-//! fits(alloc, &ranks, &code)?; // 82 to 89 where an index, an offset or a count is too large for its field
+//! fits(alloc, &ranks, &code)?; // refused where an index, an offset or a count is too large for its field
 //! let all = addresses(alloc, &code)?; // [0, 1, 3]: two instructions, of one and of two units
 //! put_code(&mut out, &ranks, &code)?; // appends the code item
 //! ```

@@ -26,13 +26,13 @@ pub fn code_carries_over()
     ensures { (m n : Names) → ((i : ℕ) (which : Name) → NameIsAt m i which → NameIsAt n i which) → (b : List ℕ) (off : ℕ) (c : Code) → CodeStands (NameIsAt m) b off c → CodeStands (NameIsAt n) b off c }
 {}
 
-/// Where a fault stands (60 to 72), no code does, whichever registers it names; where 73 stands, none whose registers are its own.
+/// Where a fault of a body stands, no code does, whichever registers it names; where one of registers does, none whose registers are its own.
 pub fn broken_code_is_none()
     ensures body { (names : Names) (b : List ℕ) → IsFramed b → (off : ℕ) (e : Fault) (c : Code) → CodeBreaks (NameIsAt names) b off e → ¬ BodyStands (NameIsAt names) b off c }
     ensures code { (names : Names) (b : List ℕ) → IsFramed b → (off : ℕ) (e : Fault) (c : Code) → CodeOverruns (NameIsAt names) b off e → ¬ CodeStands (NameIsAt names) b off c }
 {}
 
-/// What stands at an offset has one fault (60 to 72): one number, at one place; and so have its registers (73).
+/// A body at an offset has one fault: one number, at one place; and so have its registers.
 pub fn one_fault()
     ensures body { (names : Names) (b : List ℕ) → IsFramed b → (off : ℕ) (e f : Fault) → CodeBreaks (NameIsAt names) b off e → CodeBreaks (NameIsAt names) b off f → e ≡ f }
     ensures registers { (names : Names) (b : List ℕ) → IsFramed b → (off : ℕ) (e f : Fault) → CodeOverruns (NameIsAt names) b off e → CodeOverruns (NameIsAt names) b off f → e ≡ f }

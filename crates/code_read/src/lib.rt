@@ -23,9 +23,9 @@ mod reading;
 mod laws;
 
 // What holds of the codes of a file.
-mod file_codes;
+mod file_laws;
 
-pub use file_codes::{
+pub use file_laws::{
     codes_are_decided, codes_carry_over, names_of_codes_have_rows, standing_codes_are_formed,
 };
 pub use handlers::{read_number, read_signed};

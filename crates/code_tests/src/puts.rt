@@ -21,7 +21,7 @@ use std::alloc::Global;
 use std::test::Fail;
 use tables_names::{Needed, Ranks};
 
-// const/4, if-eqz over the goto, a goto back to it, return-void, and a try of the two in between.
+/// const/4, if-eqz over the goto, a goto back to it, return-void, and a try of the two in between.
 static LOOP: Code<'static> = Code {
     registers: 1,
     ins: 0,
@@ -48,13 +48,13 @@ static LOOP: Code<'static> = Code {
     }],
 };
 
-// Its code item.
+/// Its code item.
 static ITEM: [u8; 39] = [
     1, 0, 0, 0, 0, 0, 1, 0, 0, 0, 0, 0, 5, 0, 0, 0, 0x12, 0, 0x38, 0, 3, 0, 0x28, 0xfe, 0x0e, 0, 0,
     0, 1, 0, 0, 0, 3, 0, 1, 0, 1, 0, 4,
 ];
 
-// A switch of three units, and its payload right after it.
+/// A switch of three units, and its payload right after it.
 static ODD: Code<'static> = Code {
     registers: 1,
     ins: 0,
@@ -73,14 +73,14 @@ static ODD: Code<'static> = Code {
     tries: &[],
 };
 
-// Five units.
+/// Five units.
 const WIDE: Insn<'static> = Insn::I51l {
     op: 0x18,
     a: 0,
     b: 0,
 };
 
-// A goto of one unit over 130 units.
+/// A goto of one unit over 130 units.
 #[rattlefmt::skip]
 static FAR: Code<'static> = Code {
     registers: 1,
@@ -95,12 +95,12 @@ static FAR: Code<'static> = Code {
     tries: &[],
 };
 
-// A number of 16 bits.
+/// A number of 16 bits.
 fn is_u16(_number: u16)
     ensures { _number < 65536 }
 {}
 
-// Whether the code keeps the rules of a program's.
+/// Whether the code keeps the rules of a program's.
 fn is_formed(code: &Code<'_>) -> bool
     ensures { IsTrue result → IsFormed (view.code code.now) }
 {
@@ -122,7 +122,7 @@ fn is_formed(code: &Code<'_>) -> bool
     code_holds(CodeRule::Register, code)
 }
 
-// Whether the instructions begin at these addresses, and end at the last one.
+/// Whether the instructions begin at these addresses, and end at the last one.
 fn begins_at(alloc: Global, code: &Code<'_>, want: &[u64]) -> Result<bool, Fault> {
     if !is_formed(code) {
         return Ok(false);
@@ -131,14 +131,14 @@ fn begins_at(alloc: Global, code: &Code<'_>, want: &[u64]) -> Result<bool, Fault
     Ok(all.as_slice() == want)
 }
 
-// The ranks of no names.
+/// The ranks of no names.
 fn no_ranks<'a>(alloc: Global) -> Result<Ranks<'a>, Fault>
     ensures { IfOk result (λ r. r ≡ nothing) }
 {
     Needed::new(alloc).freeze()
 }
 
-// The item of a code without names, if it keeps the rules. Refused as `fits` refuses it.
+/// The item of a code without names, if it keeps the rules. Refused as `fits` refuses it.
 fn put_nameless(alloc: Global, ranks: &Ranks<'_>, code: &Code<'_>) -> Result<Vec<u8>, Fault>
     requires ranks { ranks.now ≡ nothing }
     requires insns { flat_map names_of_insn (view.code code.now).insns ≡ [] }
@@ -168,7 +168,7 @@ fn is_put_so(alloc: Global) -> Result<bool, Fault> {
     Ok(item.as_slice() == ITEM.as_slice())
 }
 
-// Whether a code is refused with this fault, at instruction 0.
+/// Whether a code is refused with this fault, at instruction 0.
 fn is_refused_so(put: Result<Vec<u8>, Fault>, want: u16) -> bool {
     match put {
         Ok(_) => false,
@@ -186,7 +186,7 @@ fn is_far_one_refused(alloc: Global) -> bool {
     is_refused_so(item_of(alloc, &FAR), fault::BRANCH_OUT_OF_REACH)
 }
 
-// The switch, a nop and the payload, whose target is the switch: three, one and six units.
+/// The switch, a nop and the payload, whose target is the switch: three, one and six units.
 fn is_aligned_so(alloc: Global) -> Result<bool, Fault> {
     let arena = Bump::new(alloc);
     is_aligned_in(alloc, &arena)
@@ -200,7 +200,7 @@ fn is_aligned_in(alloc: Global, arena: &Bump) -> Result<bool, Fault> {
     Ok(insns_told(&code) == 443021000050001 && begins_at(alloc, &code, &[0, 3, 4, 10])?)
 }
 
-// What is asked of the codes.
+/// What is asked of the codes.
 enum Asked {
     Addresses,
     Item,

@@ -18,8 +18,8 @@ const ITEM_AT: u64 = CODE_AT as u64;
 
 const INSNS: u64 = ITEM_AT + 16;
 
-// The strings `I`, `LA;`, `V`, `Z`, `a` and `b`, the types `I`, `LA;`, `V` and `Z`, the prototype `()V`, the field `LA;->a:I` and the
-// method `LA;->b()V`. The data section begins at 180, with the code.
+/// The strings `I`, `LA;`, `V`, `Z`, `a` and `b`, the types `I`, `LA;`, `V` and `Z`, the prototype `()V`, the field `LA;->a:I` and the
+/// method `LA;->b()V`. The data section begins at 180, with the code.
 #[rattlefmt::skip]
 static CODED: Rows<'static> = Rows {
     strings: &[b"\x01I\0", b"\x03LA;\0", b"\x01V\0", b"\x01Z\0", b"\x01a\0", b"\x01b\0"],
@@ -30,7 +30,7 @@ static CODED: Rows<'static> = Rows {
     ..NOTHING
 };
 
-// A code item.
+/// A code item.
 #[derive(Clone, Copy)]
 enum Item {
     // of 256 registers, no ins, no outs: so many tries, these units, and what stands after them
@@ -41,7 +41,7 @@ enum Item {
     At(u32, &'static [u8]),
 }
 
-// What is told of it.
+/// What is told of it.
 #[derive(Clone, Copy)]
 enum Want {
     Insns(u64),
@@ -50,7 +50,7 @@ enum Want {
     Fault((u16, u64)),
 }
 
-// A name for the case, the item, and what is told of it.
+/// A name for the case, the item, and what is told of it.
 struct Read(&'static str, Item, Want);
 
 impl Case for Read {
@@ -129,13 +129,13 @@ fn is_fault(found: &Fault, want: Want) -> bool {
     }
 }
 
-// const/4 v0, if-eqz, goto back to it, return-void: at 0, 1, 3 and 4.
+/// const/4 v0, if-eqz, goto back to it, return-void: at 0, 1, 3 and 4.
 const LOOP: &[u8] = &[0x12, 0, 0x38, 0, 3, 0, 0x28, 0xfe, 0x0e, 0];
 
-// const-wide, and return-void
+/// const-wide, and return-void
 const WIDE: &[u8] = &[0x18, 0, 0, 0, 0, 0, 0, 0, 0, 0, 0x0e, 0];
 
-// return-void, eight times
+/// return-void, eight times
 const EIGHT: &[u8] = &[
     0x0e, 0, 0x0e, 0, 0x0e, 0, 0x0e, 0, 0x0e, 0, 0x0e, 0, 0x0e, 0, 0x0e, 0,
 ];

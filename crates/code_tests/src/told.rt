@@ -2,12 +2,12 @@
 
 use program_types::{Catch, Code, Insn, Try};
 
-// The digits told so far, and after them so many more.
+/// The digits told so far, and after them so many more.
 fn then(sum: u64, scale: u64, more: u64) -> u64 {
     sum.wrapping_mul(scale).wrapping_add(more)
 }
 
-// Targets as pairs of digits, each with 1 added.
+/// Targets as pairs of digits, each with 1 added.
 fn targets_told(targets: &[u32]) -> u64 {
     let mut sum = 0u64;
     for to in targets {
@@ -30,7 +30,7 @@ fn small_told(op: u8, a: u8, b: i8) -> u64 {
     20_000 + 100 * u64::from(op) + 10 * u64::from(a)
 }
 
-// An instruction as a number of five digits.
+/// An instruction as a number of five digits.
 fn told(one: &Insn<'_>) -> u64 {
     match *one {
         Insn::I10x { op } => 10_000 + u64::from(op),
@@ -53,7 +53,7 @@ pub fn insns_told(code: &Code<'_>) -> u64 {
     sum
 }
 
-// The first unit of the type's descriptor, and the handler's number.
+/// The first unit of the type's descriptor, and the handler's number.
 fn catch_told(one: &Catch<'_>) -> u64 {
     let first = match one.ty.text.units.first() {
         Some(unit) => u64::from(*unit),
@@ -62,7 +62,7 @@ fn catch_told(one: &Catch<'_>) -> u64 {
     then(first, 10, u64::from(one.at))
 }
 
-// The handler's number, or 9.
+/// The handler's number, or 9.
 fn catch_all_told(at: Option<u32>) -> u64 {
     match at {
         None => 9,
@@ -70,7 +70,7 @@ fn catch_all_told(at: Option<u32>) -> u64 {
     }
 }
 
-// Its handlers as three digits each, then its catch-all, its end and its begin.
+/// Its handlers as three digits each, then its catch-all, its end and its begin.
 fn told_of_try(one: &Try<'_>) -> u64 {
     let mut sum = 0u64;
     for c in one.catches {

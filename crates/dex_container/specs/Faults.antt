@@ -1,4 +1,4 @@
--- The faults of header, map and checksums, 1 to 14. Each condition is that a rule of Frame doesn't hold. Past the
+-- The faults of header, map and checksums. Each condition is that a rule of Frame doesn't hold. Past the
 -- end bytes count as 0, so each has a meaning for any bytes; where a fault of a lower number stands, nobody asks.
 use Rattle.std.specs.Prelude.{◌≡◌, ℕ, ◌+◌, ◌<◌, ◌≤◌, ◌==◌, List, length, MatchBool, ◌⊎◌}
 use Rattle.dex_base.specs.declared_Fault.{Fault}

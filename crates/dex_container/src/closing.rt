@@ -1,11 +1,11 @@
-// The signature and the checksum of a finished file.
+//! The signature and the checksum of a finished file.
 ghost use Rattle.std.specs.Prelude.{◌≡◌, ◌≤◌, ◌++◌, length, take};
 ghost use Rattle.dex_container.specs.Closed.{with_signature, SetsSums};
 
 use dex_base::{adler32, put_u32_at};
 use sha1::Sha1;
 
-// The signature stands before the checksum, which covers it.
+/// The signature stands before the checksum, which covers it.
 fn put_signature(bytes: &mut [u8])
     requires { 32 ≤ length bytes.old }
     ensures { bytes.new ≡ take 12 bytes.old ++ with_signature bytes.old }

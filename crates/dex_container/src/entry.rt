@@ -1,4 +1,4 @@
-// The rules of one entry of the map.
+//! The rules of one entry of the map.
 ghost use Rattle.std.specs.Prelude.{◌≡◌, ◌≢◌, ℕ, ◌+◌, ◌<◌, ◌≤◌, ◌↔◌, length, IsTrue};
 ghost use Rattle.dex_container.specs.Layout.{entry_count, kind_at, place_at};
 ghost use Rattle.dex_container.specs.Frame.{HeaderHolds, SectionsHold, MapIsReadable, IsKind, EndsBeforeNext, HeaderEntryHolds, TableEntryHolds, MapEntryHolds, DataEntryHolds, EntryHolds};
@@ -7,7 +7,7 @@ use crate::fields::{
     entry_count, items_at, kind_at, map_place, offset_of, place_at, row_bytes, size_of,
 };
 
-// The kinds of item that version 035 has.
+/// The kinds of item that version 035 has.
 fn is_kind(kind: u16) -> bool
     ensures { IsTrue result ↔ IsKind kind }
 {
@@ -17,7 +17,7 @@ fn is_kind(kind: u16) -> bool
         || kind == 0xf000
 }
 
-// At most nineteen entries are asked: with the twentieth a kind stands twice, or is unknown.
+/// At most nineteen entries are asked: with the twentieth a kind stands twice, or is unknown.
 fn is_new(bytes: &[u8], i: usize) -> bool
     requires map { MapIsReadable bytes.now }
     requires entry { i < entry_count bytes.now }

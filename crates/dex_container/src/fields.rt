@@ -1,4 +1,4 @@
-// The fields of the header and of the entries of the map, each where Layout says.
+//! The fields of the header and of the entries of the map, each where Layout says.
 ghost use Rattle.std.specs.Prelude.{◌≡◌, ◌+◌, ◌<◌, ◌≤◌, length};
 ghost use Rattle.dex_container.specs.Layout.{row_bytes, size_of, offset_of, map_place, entry_count, kind_at, items_at, place_at};
 ghost use Rattle.dex_container.specs.Frame.{MapIsReadable};

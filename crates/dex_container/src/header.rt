@@ -1,4 +1,4 @@
-// The fields of the header that depend on nothing else: faults 1 to 7.
+//! The fields of the header that depend on nothing else, and their faults.
 ghost use Rattle.std.specs.Prelude.{◌≡◌, OnOk, IfErr};
 ghost use Rattle.dex_container.specs.Frame.{HeaderHolds};
 ghost use Rattle.dex_container.specs.Faults.{IsFrameFault};

@@ -1,4 +1,4 @@
-// The map: faults 12 to 14.
+//! The map, and its faults.
 ghost use Rattle.std.specs.Prelude.{◌≡◌, ℕ, ◌+◌, ◌<◌, ◌≤◌, ◌↔◌, length, IsTrue, OnOk, IfErr, MatchOption};
 ghost use Rattle.dex_container.specs.Layout.{entry_count, kind_at};
 ghost use Rattle.dex_container.specs.Frame.{HeaderHolds, SumsHold, SectionsHold, MapIsReadable, MapIsPlaced, EntryHolds, EntriesHold, HasKind, MapHolds};

@@ -1,4 +1,4 @@
-// A file whose frame holds, and what its header and its map say.
+//! A file whose frame holds, and what its header and its map say.
 ghost use Rattle.std.specs.Prelude.{◌≡◌, ◌+◌, ◌<◌, ◌≤◌, ℕ, length, IfOk, IfErr, IfSome, IsOk, MatchOption};
 ghost use Rattle.dex_container.specs.Frame.{IsFramed, HasKind, IsSection, table_of, end_at};
 ghost use Rattle.dex_container.specs.Layout.{entry_count};
@@ -99,7 +99,7 @@ impl<'a> Sections<'a> {
 }
 
 /// The sections of a file whose header, map and checksums keep all rules (Dalvik Executable format), else the lowest
-/// number of the faults 1 to 14 that stands, at its lowest place, a byte offset. Takes no memory.
+/// number of their faults that stands, at its lowest place, a byte offset. Takes no memory.
 ///
 /// ```
 /// use dex_container::open;
@@ -118,7 +118,7 @@ pub fn open(bytes: &[u8]) -> Result<Sections<'_>, Fault>
     Ok(Sections { bytes })
 }
 
-// Where what entry i names ends.
+/// Where what entry i names ends.
 fn section_end(bytes: &[u8], i: usize) -> u32
     requires framed { IsFramed bytes.now }
     requires entry { i < entry_count bytes.now }

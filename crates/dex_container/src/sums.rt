@@ -1,4 +1,4 @@
-// Checksum and signature: faults 8 and 9.
+//! Checksum and signature: faults 8 and 9.
 ghost use Rattle.std.specs.Prelude.{◌≡◌, ◌≤◌, ◌↔◌, IsTrue, length, OnOk, IfErr};
 ghost use Rattle.dex_container.specs.Frame.{HeaderHolds, SumsHold, HasChecksum, HasSignature};
 ghost use Rattle.dex_container.specs.Faults.{IsFrameFault};
@@ -6,7 +6,7 @@ ghost use Rattle.dex_container.specs.Faults.{IsFrameFault};
 use dex_base::{Fault, adler32, fault, u32_at};
 use sha1::Sha1;
 
-// Whether the number at byte 8 is the checksum of the bytes after it.
+/// Whether the number at byte 8 is the checksum of the bytes after it.
 #[tactic(auto, unfolding(crate::specs::Frame::HasChecksum))]
 fn has_checksum(bytes: &[u8]) -> bool
     requires { 12 ≤ length bytes.now }
@@ -15,7 +15,7 @@ fn has_checksum(bytes: &[u8]) -> bool
     u32_at(bytes, 8) == adler32(&bytes[12..])
 }
 
-// Whether bytes 12 to 31 are the signature of the bytes after them.
+/// Whether bytes 12 to 31 are the signature of the bytes after them.
 fn has_signature(bytes: &[u8]) -> bool
     requires { 32 ≤ length bytes.now }
     ensures { IsTrue result ↔ HasSignature bytes.now }

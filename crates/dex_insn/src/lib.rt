@@ -33,11 +33,11 @@ mod put_payload;
 mod put_units;
 
 // What holds of every table row, and of whatever stands at a unit.
-mod law;
-mod table_law;
+mod laws;
+mod table_laws;
 
 pub use columns::{format_of, index_kind_of, mnemonic_of};
-pub use law::{
+pub use laws::{
     after_is_free, clear_where_one_stands, one_fault, one_stands, one_stands_or_none,
     payloads_by_identifier, rules_are_kept, two_bytes_a_unit, what_stands_can_be_written,
     whole_where_one_stands, written_stands,
@@ -50,7 +50,7 @@ pub use raw::RawInsn;
 pub use read::read_insn;
 pub use registers::top_register;
 pub use size::size_of;
-pub use table_law::{
+pub use table_laws::{
     indices_have_a_kind, mnemonics_are_plain, mnemonics_differ, used_opcodes_are_named,
 };
 

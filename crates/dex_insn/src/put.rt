@@ -94,7 +94,7 @@ pub fn put_insn(out: &mut Vec<u8>, insn: &RawInsn<'_>) -> Result<(), Fault>
     ensures spelled { SpellsInsn (written (raw insn.now)) (raw insn.now) }
     ensures whole { length (written (raw insn.now)) ≡ 2 * units (raw insn.now) }
     ensures err { OnErr result (out.new.items ≡ out.old.items) }
-    ensures only_memory { IsOkUnless result memory }
+    ensures memory { IsOkUnless result memory }
     // Where there is room for its units, there is none.
     ensures room { vec_len out.old + 2 * units (raw insn.now) ≤ vec_capacity out.old → IsOk result }
 {

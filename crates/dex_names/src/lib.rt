@@ -16,8 +16,8 @@
 //! docs/MAP.md says where this crate stands among the others.
 #![tactic(auto)]
 
-mod law;
+mod laws;
 mod spelled;
 
-pub use law::{a_text_spells_one_name, written_names_are_spelled};
+pub use laws::{a_text_spells_one_name, written_names_are_spelled};
 pub use spelled::{field, method, proto, text, ty};

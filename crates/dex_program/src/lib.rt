@@ -9,7 +9,7 @@
 //! ```
 //!
 //! Its rooms: `program_types` (the types, their content, comparisons and shorties), `program_rules` over `program_code_rules` (what
-//! a program has to keep: the faults 110 to 118).
+//! a program has to keep, and their faults).
 //!
 //! docs/MAP.md says where this crate stands among the others.
 #![tactic(auto)]

@@ -11,7 +11,7 @@ use std::alloc::Global;
 /// The first unit of a string that lies in an arena of its own, read before the arena ends. Fails only when out of memory.
 pub fn first_unit(alloc: Global, units: &[u16]) -> Result<Option<u16>, Fault>
     ensures ok { IfOk result (λ first. first ≡ slice_get units.now 0) }
-    ensures err { IsOkUnless result memory }
+    ensures memory { IsOkUnless result memory }
 {
     let arena = Bump::new(alloc);
     let placed = place_str(&arena, units)?;

@@ -37,7 +37,7 @@ fn part_of(kind: u32, items: usize, at: u32) -> Part {
     }
 }
 
-// The place after a table whose rows have so many bytes.
+/// The place after a table whose rows have so many bytes.
 fn after(table: Part, bytes: u32) -> u32 {
     table.at.saturating_add(table.items.saturating_mul(bytes))
 }
@@ -52,7 +52,7 @@ fn tables_of(rows: &Rows<'_>) -> [Part; 6] {
     [strings, types, protos, fields, methods, classes]
 }
 
-// A section of bytes is one item, or isn't there.
+/// A section of bytes is one item, or isn't there.
 fn items_of(bytes: &[u8]) -> usize {
     bytes.len().min(1)
 }
@@ -73,7 +73,7 @@ pub fn list_at(lists: &[&[u16]], number: usize, begin: u32) -> u32 {
     at
 }
 
-// The place after texts that begin at a place.
+/// The place after texts that begin at a place.
 fn after_texts(texts: &[&[u8]], begin: u32) -> u32 {
     let mut at = begin;
     for text in texts {
@@ -104,7 +104,7 @@ pub fn present(parts: &[Part]) -> u32 {
     count
 }
 
-// The next place that is a multiple of 4.
+/// The next place that is a multiple of 4.
 fn aligned(at: u32) -> u32 {
     at.saturating_add(3) / 4 * 4
 }

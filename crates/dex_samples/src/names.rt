@@ -27,7 +27,7 @@ pub fn ty<'a>(arena: &'a Bump, descriptor: &str) -> Result<Desc<'a>, Fault> {
     })
 }
 
-// Whether all types have a letter in the shorty.
+/// Whether all types have a letter in the shorty.
 fn has_shorty(proto: &Proto<'_>) -> bool
     ensures ret { IsTrue result → IsDescriptor (desc proto.now.ret) }
     ensures params { IsTrue result → All IsDescriptor (map desc proto.now.params.now) }

@@ -22,7 +22,7 @@ fn put_file(file: &mut Vec<u8>, rows: &Rows<'_>, layout: &Layout) -> Result<(), 
     Ok(())
 }
 
-// Checksum and signature are zeros as yet.
+/// Checksum and signature are zeros as yet.
 fn put_header(file: &mut Vec<u8>, layout: &Layout) -> Result<(), Fault> {
     file.extend_from_slice(b"dex\n035\0")?;
     file.extend_from_slice(&[0; 24])?;
@@ -36,7 +36,7 @@ fn put_header(file: &mut Vec<u8>, layout: &Layout) -> Result<(), Fault> {
     )
 }
 
-// A table without rows has the offset 0.
+/// A table without rows has the offset 0.
 fn put_table_places(file: &mut Vec<u8>, tables: &[Part]) -> Result<(), Fault> {
     for table in tables {
         let at = if table.items == 0 { 0 } else { table.at };
@@ -54,7 +54,7 @@ fn put_tables(file: &mut Vec<u8>, rows: &Rows<'_>, layout: &Layout) -> Result<()
     put_class_defs(file, rows.classes)
 }
 
-// The texts stand one after another.
+/// The texts stand one after another.
 fn put_string_ids(file: &mut Vec<u8>, texts: &[&[u8]], begin: u32) -> Result<(), Fault> {
     let mut at = begin;
     for text in texts {
@@ -64,7 +64,7 @@ fn put_string_ids(file: &mut Vec<u8>, texts: &[&[u8]], begin: u32) -> Result<(),
     Ok(())
 }
 
-// The lists begin at a place.
+/// The lists begin at a place.
 fn put_proto_ids(file: &mut Vec<u8>, rows: &Rows<'_>, begin: u32) -> Result<(), Fault> {
     for (shorty, ret, params) in rows.protos {
         let params = match params {
@@ -92,7 +92,7 @@ fn put_class_defs(file: &mut Vec<u8>, rows: &[[u32; 8]]) -> Result<(), Fault> {
     Ok(())
 }
 
-// Type lists, code items, texts, class data.
+/// Type lists, code items, texts, class data.
 fn put_data(file: &mut Vec<u8>, rows: &Rows<'_>) -> Result<(), Fault> {
     for list in rows.lists {
         put_list(file, list)?;
@@ -137,7 +137,7 @@ fn put_entries(file: &mut Vec<u8>, parts: &[Part]) -> Result<(), Fault> {
     Ok(())
 }
 
-// Zeros to the next multiple of 4.
+/// Zeros to the next multiple of 4.
 fn pad(file: &mut Vec<u8>) -> Result<(), Fault> {
     let zeros: &[u8] = match file.len() % 4 {
         0 => &[],

@@ -1,4 +1,4 @@
-// Values in the order of their bytes, with none of them kept.
+//! Values in the order of their bytes, with none of them kept.
 ghost use Rattle.std.specs.Prelude.{◌≡◌, List, length, IfOk, IfErr};
 ghost use Rattle.program_types.specs.Content as content;
 ghost use Rattle.tables_rows.specs.Names.{NameIsAt};

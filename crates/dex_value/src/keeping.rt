@@ -1,4 +1,4 @@
-// What is kept of values that are read: the values, in an arena, or nothing.
+//! What is kept of values that are read: the values, in an arena, or nothing.
 ghost use Rattle.std.specs.Prelude.{◌≡◌, ◌≢◌, ℕ, List, [], ◌∷◌, ◌++◌, ⊤, map, slice_index, IfOk, IfErr, OnOk};
 ghost use Rattle.base_bytes.specs.Fault.{memory};
 ghost use Rattle.base_bytes.specs.Grammar.{Takes};

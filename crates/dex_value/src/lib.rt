@@ -25,10 +25,10 @@ mod writing;
 mod laws;
 
 // What holds of the values of a file.
-mod file_values;
+mod file_laws;
 
 pub use checking::check_array;
-pub use file_values::{
+pub use file_laws::{
     arrays_are_decided, arrays_carry_over, faults_are_where_no_array_stands,
     names_of_arrays_have_rows, shortest_array_is_one,
 };

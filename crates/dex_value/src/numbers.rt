@@ -1,4 +1,4 @@
-// Numbers of one to eight bytes, the low byte first.
+//! Numbers of one to eight bytes, the low byte first.
 ghost use Rattle.std.specs.Prelude.{◌≡◌, ℤ, pos, ◌+ℤ◌, ◌≤ℤ◌, ◌<ℤ◌, ◌+◌, ◌*◌, ◌^◌, ◌<◌, ◌≤◌, length};
 ghost use Rattle.program_types.specs.View.{value};
 ghost use Rattle.dex_value.specs.Spelling.{unsigned_of, signed_of, high_of};

@@ -1,4 +1,4 @@
-// Values in the order of their bytes.
+//! Values in the order of their bytes.
 ghost use Rattle.std.specs.Prelude.{◌≡◌, ◌≢◌, ℕ, ◌-◌, ◌∷◌, List, length, map, slice_index, IfOk, IfErr};
 ghost use Rattle.base_bytes.specs.Fault.{memory};
 ghost use Rattle.base_bytes.specs.Grammar.{Takes, Many};

@@ -1,4 +1,4 @@
-// The types of values that have bytes after their head ("Dalvik Executable format", "Value formats").
+//! The types of values that have bytes after their head ("Dalvik Executable format", "Value formats").
 ghost use Rattle.std.specs.Prelude.{◌≡◌, IfSome, IfNone};
 ghost use Rattle.dex_value.specs.Faults.{widest_of};
 ghost use Rattle.dex_value.specs.Reading.{sized_code, table_of_type};

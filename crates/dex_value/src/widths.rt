@@ -1,4 +1,4 @@
-// The fewest bytes that a number takes.
+//! The fewest bytes that a number takes.
 ghost use Rattle.std.specs.Prelude.{◌≡◌, ◌+◌, ◌*◌, ◌^◌, ◌<◌, ◌≤◌};
 ghost use Rattle.dex_value.specs.Writing.{IsNumberWidth, IsHighWidth, magnitude_of};
 

@@ -1,4 +1,4 @@
-// The machine's files: each call is one or two of the system's.
+//! The machine's files: each call is one or two of the system's.
 ghost use Rattle.std.specs.Prelude.{◌≡◌, [], false, None};
 ghost use Rattle.dexasm_world.specs.State.{unknown_files};
 
@@ -10,7 +10,7 @@ use std::io::{Error, ErrorKind, Read, Write};
 use std::os::unix::fs::{MetadataExt, PermissionsExt, fchown};
 use std::{fs, io};
 
-// The files that the system shows to this process.
+/// The files that the system shows to this process.
 #[derive(Drop)]
 pub(crate) struct Machine<'r> {
     rt: &'r HostRuntime,
@@ -25,7 +25,7 @@ impl<'r> Machine<'r> {
         }
     }
 
-    // What the system answers. Its error is kept, for people.
+    /// What the system answers. Its error is kept, for people.
     fn noted<T>(&self, answer: io::Result<T>) -> io::Result<T>
         ensures { result ≡ answer }
     {
@@ -37,7 +37,7 @@ impl<'r> Machine<'r> {
     }
 }
 
-// A file that is open for writing.
+/// A file that is open for writing.
 #[derive(Drop)]
 pub(crate) struct Opened(File);
 
@@ -45,7 +45,7 @@ impl Handle for Opened {
     ghost number = { λ _. 0 };
 }
 
-// A file that is open for reading.
+/// A file that is open for reading.
 #[derive(Drop)]
 pub(crate) struct Readable(File);
 
@@ -178,7 +178,7 @@ fn refusal(error: &Error) -> Refusal {
     }
 }
 
-// Whether the name is taken, or the folder takes no file of this name.
+/// Whether the name is taken, or the folder takes no file of this name.
 fn not_made(error: &Error) -> NotMade {
     match error.kind() {
         ErrorKind::AlreadyExists => NotMade::Taken,
@@ -189,7 +189,7 @@ fn not_made(error: &Error) -> NotMade {
     }
 }
 
-// Whether OUT keeps its place, though it can be written: a mount point, or another user's file in a sticky folder.
+/// Whether OUT keeps its place, though it can be written: a mount point, or another user's file in a sticky folder.
 fn not_replaced(error: &Error) -> NotReplaced {
     match error.kind() {
         ErrorKind::PermissionDenied | ErrorKind::ResourceBusy => NotReplaced::Fixed,

@@ -21,7 +21,7 @@ fn main(rt: HostRuntime) -> ExitCode {
     ExitCode::from(run(&rt))
 }
 
-// Reads the words and does what they ask for. The standard streams and files are unbuffered here: big pieces are moved.
+/// Reads the words and does what they ask for. The standard streams and files are unbuffered here: big pieces are moved.
 fn run(rt: &HostRuntime) -> u8 {
     let mut errors = Watched::new(rt.stderr());
     let args = match env::args(rt) {
@@ -56,7 +56,7 @@ fn run(rt: &HostRuntime) -> u8 {
     )
 }
 
-// A seed that nobody can know beforehand; where the system gives none, the fixed one, with which all is answered just so.
+/// A seed that nobody can know beforehand; where the system gives none, the fixed one, with which all is answered just so.
 fn drawn(rt: &HostRuntime) -> Seed {
     let mut bytes = [0; 8];
     match rt.fill_bytes(&mut bytes) {
@@ -65,7 +65,7 @@ fn drawn(rt: &HostRuntime) -> Seed {
     }
 }
 
-// Words that could not be read: out of memory, or no text.
+/// Words that could not be read: out of memory, or no text.
 fn no_words<E: Sink>(rt: &HostRuntime, error: &io::Error, errors: &mut E) -> u8 {
     if error.kind() == io::ErrorKind::OutOfMemory {
         return tell(rt.alloc(), &RunFault::Memory, None, false, errors);

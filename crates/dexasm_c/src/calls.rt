@@ -1,4 +1,4 @@
-// What the calls do, with the ending as a word.
+//! What the calls do, with the ending as a word.
 ghost use Rattle.dexasm_c.specs.Calls.{Checks, Ends, Puts, Tells};
 
 use crate::ending::{CFault, Ending};
@@ -7,16 +7,16 @@ use dexasm_job::Job;
 use dexasm_jobs::answer;
 use std::alloc::Global;
 
-// No fault.
+/// No fault.
 const NONE: CFault = CFault { code: 0, place: 0 };
 
-// Out of memory.
+/// Out of memory.
 const MEMORY: CFault = CFault {
     code: 255,
     place: 0,
 };
 
-// The answer to a job, put into the buffer.
+/// The answer to a job, put into the buffer.
 pub(crate) fn answer_into(
     alloc: Global,
     job: Job,
@@ -39,7 +39,7 @@ pub(crate) fn answer_into(
     }
 }
 
-// Whether the bytes are a file.
+/// Whether the bytes are a file.
 pub(crate) fn check_only(alloc: Global, given: &[u8], fault: &mut CFault) -> Ending
     ensures { Checks result given.now fault.new }
 {
@@ -52,7 +52,7 @@ pub(crate) fn check_only(alloc: Global, given: &[u8], fault: &mut CFault) -> End
     }
 }
 
-// Bytes at the front of the buffer, or none where it is too small; and how many there are.
+/// Bytes at the front of the buffer, or none where it is too small; and how many there are.
 pub(crate) fn put(made: &[u8], out: &mut [u8], needed: &mut usize) -> Ending
     ensures { Puts result made.now out.old out.new needed.new }
 {
@@ -64,7 +64,7 @@ pub(crate) fn put(made: &[u8], out: &mut [u8], needed: &mut usize) -> Ending
     Ending::Answered
 }
 
-// The fault for C. Out of memory is no refusal of the bytes.
+/// The fault for C. Out of memory is no refusal of the bytes.
 fn tell(refused: Fault, fault: &mut CFault) -> Ending
     ensures { Tells result refused fault.new }
 {

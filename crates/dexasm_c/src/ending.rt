@@ -1,4 +1,4 @@
-// How a call ends, and the fault that it tells of.
+//! How a call ends, and the fault that it tells of.
 ghost use Rattle.std.specs.Prelude.{◌≡◌};
 ghost use Rattle.dexasm_c.specs.Status.{status_of};
 

@@ -1,4 +1,4 @@
-// A job carried out: what FILE or standard input gives is read, and the answer goes to OUT or to standard output.
+//! A job carried out: what FILE or standard input gives is read, and the answer goes to OUT or to standard output.
 ghost use Rattle.std.specs.Prelude.{◌≡◌, false, true, [], None, Some};
 ghost use Rattle.dexasm_command.specs.Carried.{AnswersFrom, CarriesOut, GoesTo, HandsOver};
 
@@ -53,7 +53,7 @@ pub fn carry_out<W: World, I: Source, O: Sink>(
     }
 }
 
-// The answer to these bytes.
+/// The answer to these bytes.
 fn answer_given<W: World, O: Sink>(
     alloc: Global,
     seed: Seed,
@@ -91,7 +91,7 @@ fn answer_given<W: World, O: Sink>(
     }
 }
 
-// The answer to what the input gives.
+/// The answer to what the input gives.
 fn answer_from<W: World, I: Source, O: Sink>(
     alloc: Global,
     seed: Seed,
@@ -129,7 +129,7 @@ fn answer_from<W: World, I: Source, O: Sink>(
     }
 }
 
-// The answer, delivered to OUT when it is whole.
+/// The answer, delivered to OUT when it is whole.
 fn answer_to<W: World, I: Source>(
     alloc: Global,
     seed: Seed,
@@ -147,7 +147,7 @@ fn answer_to<W: World, I: Source>(
     hand_over(alloc, answer.as_slice(), out, world)
 }
 
-// A whole answer, delivered to OUT.
+/// A whole answer, delivered to OUT.
 fn hand_over<W: World>(
     alloc: Global,
     answer: &[u8],

@@ -1,4 +1,4 @@
-// What the exit status says of a command: laws of the definitions, each the contract of a function that does nothing else.
+//! What the exit status says of a command: laws of the definitions, each the contract of a function that does nothing else.
 ghost use Rattle.dexasm_command.specs.Statuses.{FourTells, NoOther, OneTells, OutIsNeverLost, ThreeTells, TwoTells, ZeroTells};
 
 /// What each status says.

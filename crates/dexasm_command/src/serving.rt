@@ -1,4 +1,4 @@
-// A command line, carried out.
+//! A command line, carried out.
 ghost use Rattle.std.specs.Prelude.{◌≡◌, false, true, Result, Option};
 ghost use Rattle.clap.specs.Words.{kind_of};
 ghost use Rattle.dexasm_plan.specs.Plans.{texts_of};
@@ -75,7 +75,7 @@ pub fn serve<W: World, I: Source, O: Sink, E: Sink>(
     }
 }
 
-// Says that a .dex file isn't for a terminal.
+/// Says that a .dex file isn't for a terminal.
 fn hold_back<E: Sink>(errors: &mut E) -> u8
     ensures told { PutsLine (E.contents errors.old) (E.contents errors.new) (E.failed errors.new) terminal_line }
     ensures status { result ≡ 2 }
@@ -85,7 +85,7 @@ fn hold_back<E: Sink>(errors: &mut E) -> u8
     2
 }
 
-// What the system says of a failure: of a file's where that was read or written, else of the stream's.
+/// What the system says of a failure: of a file's where that was read or written, else of the stream's.
 fn error_of<W: World, I: Source, O: Sink>(
     done: &Result<(), RunFault>,
     file: Option<&str>,
@@ -102,7 +102,7 @@ fn error_of<W: World, I: Source, O: Sink>(
     }
 }
 
-// Tells of a failure.
+/// Tells of a failure.
 fn end<E: Sink>(
     alloc: Global,
     done: Result<(), RunFault>,
@@ -118,7 +118,7 @@ fn end<E: Sink>(
     }
 }
 
-// Wrong words, or words that ask for help or for the version, which go to the output; all else goes to the errors.
+/// Wrong words, or words that ask for help or for the version, which go to the output; all else goes to the errors.
 fn misuse<O: Sink, E: Sink>(
     alloc: Global,
     error: &Error,
@@ -148,7 +148,7 @@ fn misuse<O: Sink, E: Sink>(
     show(alloc, &text, is_terminal, output, errors)
 }
 
-// Help or the version.
+/// Help or the version.
 fn show<O: Sink, E: Sink>(
     alloc: Global,
     text: &str,

@@ -11,7 +11,7 @@ pub(crate) fn shown(alloc: Global, text: &str) -> Result<String, AllocError> {
     Ok(out)
 }
 
-// One character of it.
+/// One character of it.
 fn put_shown(out: &mut String, c: char) -> Result<(), AllocError> {
     if !c.is_control() || c == '\n' {
         return out.push(c);

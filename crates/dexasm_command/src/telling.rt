@@ -1,4 +1,4 @@
-// A failure, told.
+//! A failure, told.
 ghost use Rattle.std.specs.Prelude.{◌≡◌, ◌⊎◌, ◌++◌, List, ℕ, IfOk, OnOk, string_bytes};
 ghost use Rattle.dexasm_run.specs.declared.error.RunFault.TheVariants.{Memory};
 ghost use Rattle.dexasm_command.specs.Told.{AddsMore, IsText, TellsFault, more_line};
@@ -32,7 +32,7 @@ pub fn tell<E: Sink>(
     }
 }
 
-// The line with its end, and what a terminal is told below it.
+/// The line with its end, and what a terminal is told below it.
 fn text_of(
     alloc: Global,
     fault: &RunFault,
@@ -49,7 +49,7 @@ fn text_of(
     Ok(text)
 }
 
-// What a terminal is told below the line.
+/// What a terminal is told below the line.
 fn push_more(
     alloc: Global,
     text: &mut String,
@@ -65,7 +65,7 @@ fn push_more(
     }
 }
 
-// The system's error, where there is one.
+/// The system's error, where there is one.
 fn push_error(alloc: Global, text: &mut String, error: Option<io::Error>) -> Result<(), AllocError>
     ensures { OnOk result ((string_bytes text.new ≡ string_bytes text.old)
         ⊎ ((said : List ℕ) × (string_bytes text.new ≡ string_bytes text.old ++ more_line said))) }
@@ -79,7 +79,7 @@ fn push_error(alloc: Global, text: &mut String, error: Option<io::Error>) -> Res
     }
 }
 
-// A line below the line of the failure.
+/// A line below the line of the failure.
 fn push_line(text: &mut String, said: &str) -> Result<(), AllocError>
     ensures { OnOk result (string_bytes text.new ≡ string_bytes text.old ++ more_line said.now) }
 {

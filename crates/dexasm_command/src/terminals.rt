@@ -1,4 +1,4 @@
-// Which streams people read.
+//! Which streams people read.
 
 /// Which of the standard streams are terminals.
 #[derive(Clone, Copy, Debug)]

@@ -1,4 +1,4 @@
-// What the tool can be asked for.
+//! What the tool can be asked for.
 
 /// What is asked for.
 #[derive(Clone, Copy, Debug, PartialEq, Eq)]

@@ -1,4 +1,4 @@
-// The answer to each job.
+//! The answer to each job.
 ghost use Rattle.std.specs.Prelude.{◌≢◌, IfOk, IfErr, false, true};
 ghost use Rattle.base_bytes.specs.Fault.{memory};
 ghost use Rattle.program_types.specs.View.{program};
@@ -108,7 +108,7 @@ pub fn answer_owned_seeded(
     }
 }
 
-// `ok` and a line feed, where the bytes are a file.
+/// `ok` and a line feed, where the bytes are a file.
 fn checked(alloc: Global, given: &[u8]) -> Result<Vec<u8>, Fault>
     ensures answered { IfOk result (λ made. Answer Job.Check given.now made.items) }
     ensures refused { IfErr result (λ fault. fault ≢ memory → Refusal Job.Check given.now fault) }
@@ -117,7 +117,7 @@ fn checked(alloc: Global, given: &[u8]) -> Result<Vec<u8>, Fault>
     Ok(Vec::from_slice(alloc, b"ok\n")?)
 }
 
-// The listing of the file's program.
+/// The listing of the file's program.
 fn list(alloc: Global, given: &[u8]) -> Result<Vec<u8>, Fault>
     ensures answered { IfOk result (λ made. Answer Job.List given.now made.items) }
     ensures refused { IfErr result (λ fault. fault ≢ memory → Refusal Job.List given.now fault) }
@@ -127,7 +127,7 @@ fn list(alloc: Global, given: &[u8]) -> Result<Vec<u8>, Fault>
     print(alloc, &program)
 }
 
-// The file of the listed program.
+/// The file of the listed program.
 fn assemble(alloc: Global, seed: Seed, given: &[u8]) -> Result<Vec<u8>, Fault>
     ensures answered { IfOk result (λ made. Answer (Job.Assemble false) given.now made.items) }
     ensures refused { IfErr result (λ fault. fault ≢ memory → Refusal (Job.Assemble false) given.now fault) }
@@ -137,7 +137,7 @@ fn assemble(alloc: Global, seed: Seed, given: &[u8]) -> Result<Vec<u8>, Fault>
     write_seeded(alloc, seed, &program)
 }
 
-// The file of the listed program with each code aligned.
+/// The file of the listed program with each code aligned.
 fn assemble_aligned(alloc: Global, seed: Seed, given: &[u8]) -> Result<Vec<u8>, Fault>
     ensures answered { IfOk result (λ made. Answer (Job.Assemble true) given.now made.items) }
     ensures refused { IfErr result (λ fault. fault ≢ memory → Refusal (Job.Assemble true) given.now fault) }
@@ -148,7 +148,7 @@ fn assemble_aligned(alloc: Global, seed: Seed, given: &[u8]) -> Result<Vec<u8>, 
     write_seeded(alloc, seed, &aligned)
 }
 
-// The program of a listing, which is let go.
+/// The program of a listing, which is let go.
 fn parse_owned<'a>(
     alloc: Global,
     seed: Seed,
@@ -161,7 +161,7 @@ fn parse_owned<'a>(
     parse_seeded(alloc, seed, arena, &given)
 }
 
-// The file of the listed program, as `assemble` answers it.
+/// The file of the listed program, as `assemble` answers it.
 fn assemble_owned(alloc: Global, seed: Seed, given: Vec<u8>) -> Result<Vec<u8>, Fault>
     ensures answered { IfOk result (λ made. Answer (Job.Assemble false) given.items made.items) }
     ensures refused { IfErr result (λ fault. fault ≢ memory → Refusal (Job.Assemble false) given.items fault) }
@@ -171,7 +171,7 @@ fn assemble_owned(alloc: Global, seed: Seed, given: Vec<u8>) -> Result<Vec<u8>, 
     write_seeded(alloc, seed, &program)
 }
 
-// The file of the listed program with each code aligned, as `assemble_aligned` answers it.
+/// The file of the listed program with each code aligned, as `assemble_aligned` answers it.
 fn assemble_owned_aligned(alloc: Global, seed: Seed, given: Vec<u8>) -> Result<Vec<u8>, Fault>
     ensures answered { IfOk result (λ made. Answer (Job.Assemble true) given.items made.items) }
     ensures refused { IfErr result (λ fault. fault ≢ memory → Refusal (Job.Assemble true) given.items fault) }

@@ -1,4 +1,4 @@
-// The command line, by clap's builder.
+//! The command line, by clap's builder.
 ghost use Rattle.std.specs.Prelude.{◌≡◌, IfOk, codes, false};
 ghost use Rattle.clap.specs.Words.{app_of, rule_of, with_rule, with_subcommand};
 ghost use Rattle.clap.specs.declared.builder.command.Command.TheViews.{out-Command};
@@ -19,7 +19,7 @@ pub(crate) fn command<'w>(alloc: Global) -> Result<Command<'w>, AllocError>
     with_job(alloc, whole, "strip", texts::STRIP, texts::STRIP_MORE)
 }
 
-// `dexasm` without a subcommand.
+/// `dexasm` without a subcommand.
 fn tool<'w>(alloc: Global) -> Command<'w>
     ensures shape { app_of result ≡ top_app }
     ensures local { (out-Command result).has_globals ≡ false }
@@ -33,7 +33,7 @@ fn tool<'w>(alloc: Global) -> Command<'w>
         .disable_help_subcommand(true)
 }
 
-// The command with a job's subcommand after its others.
+/// The command with a job's subcommand after its others.
 fn with_job<'w>(
     alloc: Global,
     whole: Command<'w>,
@@ -47,7 +47,7 @@ fn with_job<'w>(
     whole.subcommand(job_command(alloc, name, about, more)?)
 }
 
-// The command with `assemble` after its others.
+/// The command with `assemble` after its others.
 fn with_assemble<'w>(alloc: Global, whole: Command<'w>) -> Result<Command<'w>, AllocError>
     ensures shape { IfOk result (λ c. app_of c ≡ with_subcommand (app_of whole.entry) (with_rule (job_app (codes "assemble")) align_rule).top) }
     ensures local { (out-Command whole.entry).has_globals ≡ false → IfOk result (λ c. (out-Command c).has_globals ≡ false) }
@@ -57,7 +57,7 @@ fn with_assemble<'w>(alloc: Global, whole: Command<'w>) -> Result<Command<'w>, A
     whole.subcommand(assemble.arg(align)?)
 }
 
-// A subcommand with a file to read and a file to write.
+/// A subcommand with a file to read and a file to write.
 fn job_command<'w>(
     alloc: Global,
     name: &'w str,
@@ -76,7 +76,7 @@ fn job_command<'w>(
         .arg(output)
 }
 
-// FILE.
+/// FILE.
 fn file_arg<'w>(alloc: Global) -> Arg<'w>
     ensures rule { rule_of result ≡ file_rule }
     ensures local { result.global ≡ false }
@@ -84,7 +84,7 @@ fn file_arg<'w>(alloc: Global) -> Arg<'w>
     Arg::new(alloc, "FILE").help(texts::FILE)
 }
 
-// -o, --output OUT.
+/// -o, --output OUT.
 fn output_arg<'w>(alloc: Global) -> Arg<'w>
     ensures rule { rule_of result ≡ output_rule }
     ensures local { result.global ≡ false }
@@ -96,7 +96,7 @@ fn output_arg<'w>(alloc: Global) -> Arg<'w>
         .help(texts::OUTPUT)
 }
 
-// --align.
+/// --align.
 fn align_arg<'w>(alloc: Global) -> Arg<'w>
     ensures rule { rule_of result ≡ align_rule }
     ensures local { result.global ≡ false }

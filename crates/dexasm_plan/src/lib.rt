@@ -9,11 +9,11 @@
 #![tactic(auto)]
 
 mod command;
-mod law;
+mod laws;
 mod planned;
 mod reading;
 mod texts;
 
-pub use law::lines_are_taken;
+pub use laws::lines_are_taken;
 pub use planned::Plan;
 pub use reading::{plan, usage_status};

@@ -1,4 +1,4 @@
-// What is to be done.
+//! What is to be done.
 ghost use Rattle.std.specs.Prelude.{◌≡◌};
 ghost use Rattle.dexasm_plan.specs.Plans.{makes_file, puts_file};
 
@@ -31,7 +31,7 @@ impl Plan<'_> {
     }
 }
 
-// Whether the job's answer is a .dex file.
+/// Whether the job's answer is a .dex file.
 fn makes_file(job: Job) -> bool
     ensures { result ≡ makes_file job }
 {

@@ -1,4 +1,4 @@
-// The plan that the words ask for.
+//! The plan that the words ask for.
 ghost use Rattle.std.specs.Prelude.{◌≡◌, ◌≢◌, IfOk, IfErr, codes, false, true, option_map};
 ghost use Rattle.std.specs.Option.{option_map_or};
 ghost use Rattle.std.specs.Str.{bytes_eq};
@@ -44,7 +44,7 @@ pub fn plan<'w>(alloc: Global, words: &'w [&'w str]) -> Result<Plan<'w>, Error>
     })
 }
 
-// The path that the word is: `-` stands for a standard stream.
+/// The path that the word is: `-` stands for a standard stream.
 fn path_of<'w>(word: Option<&'w str>) -> Option<&'w str>
     ensures { option_map (λ s. s.now) result ≡ path_named (option_map (λ s. s.now) word.entry) }
 {
@@ -54,7 +54,7 @@ fn path_of<'w>(word: Option<&'w str>) -> Option<&'w str>
     }
 }
 
-// The words as clap reads them: one of the subcommands was met.
+/// The words as clap reads them: one of the subcommands was met.
 fn parse<'w>(alloc: Global, words: &'w [&'w str]) -> Result<ArgMatches<'w>, Error>
     ensures met { IfOk result (λ m. has_subcommand m ≡ true) }
     ensures rows { IfOk result (λ m. subcommand_rows_of m ≡ subcommand_of dexasm (texts_of words.entry.now)) }
@@ -65,7 +65,7 @@ fn parse<'w>(alloc: Global, words: &'w [&'w str]) -> Result<ArgMatches<'w>, Erro
     command(alloc)?.try_get_matches_from(words)
 }
 
-// Whether the flag was given.
+/// Whether the flag was given.
 fn is_given(entries: &ArgMatches<'_>, id: &str) -> bool
     ensures { result ≡ option_map_or (λ t. bytes_eq t (codes "true")) (first_value (found_of entries.now) id.now) false }
 {

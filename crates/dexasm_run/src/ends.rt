@@ -1,4 +1,4 @@
-// What a run reads from and writes to: ends that say whether they failed.
+//! What a run reads from and writes to: ends that say whether they failed.
 ghost use Rattle.std.specs.Prelude.{◌≡◌, ◌||◌, ℕ, Bool, List, Option, true, false, ⊤};
 ghost use Rattle.std.specs.Io.{ReadsAtMost, WritesAtMost};
 ghost use Rattle.std.specs.Io.KnownBytes.{ReadConsumes, WriteAppends};

@@ -1,4 +1,4 @@
-// How a run fails.
+//! How a run fails.
 ghost use Rattle.std.specs.Prelude.{◌≡◌, Some, IfOk, string_bytes};
 ghost use Rattle.dexasm_run.specs.Status.{error_line, exit_status};
 

@@ -1,4 +1,4 @@
-// One run of a job: read all, answer, write all.
+//! One run of a job: read all, answer, write all.
 ghost use Rattle.std.specs.Prelude.{◌≡◌, ◌≢◌, ◌<◌, vec_len, true, false, ⊤, IfOk, length, take};
 ghost use Rattle.std.specs.Io.KnownBytes.{Keeps};
 ghost use Rattle.dexasm_run.specs.Runs.{Answers, AnswersTo, BeginsAnswer, Makes, MatchRun, Refuses, ReadsAll, WritesAll};
@@ -107,7 +107,7 @@ pub fn answer_bytes(
     }
 }
 
-// Out of memory is no refusal of the bytes.
+/// Out of memory is no refusal of the bytes.
 fn refusal(fault: Fault) -> RunFault
     ensures memory { fault.code ≡ 255 → result ≡ RunFault.Memory }
     ensures refused { fault.code ≢ 255 → result ≡ RunFault.Refused fault }
@@ -119,14 +119,14 @@ fn refusal(fault: Fault) -> RunFault
     }
 }
 
-// Room for one `take`.
+/// Room for one `take`.
 fn new_piece(alloc: Global) -> Result<Vec<u8>, AllocError>
     ensures { IfOk result (λ piece. 0 < vec_len piece) }
 {
     vec![in alloc; 0; PIECE]
 }
 
-// All that the source gives up to its end.
+/// All that the source gives up to its end.
 fn read_all<R: Source>(alloc: Global, input: &mut R) -> Result<Vec<u8>, RunFault>
     requires { R.ended input.old ≡ false }
     ensures { ReadsAll (R.remaining input.old) (R.remaining input.new) (R.failed input.new) (R.ended input.new) result }
@@ -137,7 +137,7 @@ fn read_all<R: Source>(alloc: Global, input: &mut R) -> Result<Vec<u8>, RunFault
     }
 }
 
-// All that the source gives up to its end, taken by way of `piece`.
+/// All that the source gives up to its end, taken by way of `piece`.
 fn gather<R: Source>(alloc: Global, input: &mut R, piece: &mut [u8]) -> Result<Vec<u8>, RunFault>
     requires goes_on { R.ended input.old ≡ false }
     requires room { 0 < length piece.old }

@@ -1,4 +1,4 @@
-// An answer on its way to OUT: it is written beside OUT, and takes its place only when it is whole.
+//! An answer on its way to OUT: it is written beside OUT, and takes its place only when it is whole.
 ghost use Rattle.std.specs.Prelude.{◌≡◌, true, false, [], Ok, IfOk, OnOk, string_bytes, ⊤};
 ghost use Rattle.dexasm_world.specs.State.{Passes, place_of};
 ghost use Rattle.dexasm_world.specs.Safe.{part_path, IsAlone, IsSafe, IsDelivered, CanGive, Leaves};
@@ -39,7 +39,7 @@ pub fn deliver<W: World>(
     }
 }
 
-// To what stands at this path, which is no link.
+/// To what stands at this path, which is no link.
 fn deliver_over<W: World>(
     alloc: Global,
     world: &mut W,
@@ -74,7 +74,7 @@ fn deliver_over<W: World>(
     }
 }
 
-// By way of a file beside, whose name is free.
+/// By way of a file beside, whose name is free.
 fn deliver_beside<W: World>(
     alloc: Global,
     world: &mut W,
@@ -107,14 +107,14 @@ fn deliver_beside<W: World>(
     Err(Refusal::Other)
 }
 
-// The path of the file beside, with this number.
+/// The path of the file beside, with this number.
 fn part_name(alloc: Global, path: &str, number: u32) -> Result<String, AllocError>
     ensures { IfOk result (λ name. string_bytes name ≡ part_path path.now number) }
 {
     format!(in alloc; "{path}.{number}.part")
 }
 
-// By way of this new file.
+/// By way of this new file.
 fn deliver_by<W: World>(
     world: &mut W,
     file: W::File,
@@ -148,7 +148,7 @@ fn deliver_by<W: World>(
     }
 }
 
-// The whole answer, in a new file, for good where it is to replace another.
+/// The whole answer, in a new file, for good where it is to replace another.
 fn store<W: World>(
     world: &mut W,
     file: &mut W::File,
@@ -171,7 +171,7 @@ fn store<W: World>(
     }
 }
 
-// The file beside takes OUT's place, or its bytes go there where OUT keeps its place.
+/// The file beside takes OUT's place, or its bytes go there where OUT keeps its place.
 fn install<W: World>(world: &mut W, part: &str, path: &str, answer: &[u8]) -> Result<(), Refusal>
     requires { W.is_known ≡ true → HasFullPart (W.files world.old) part.now path.now answer.now }
     ensures moments { W.is_known ≡ true → Passes (W.files world.old) (W.files world.new)
@@ -194,7 +194,7 @@ fn install<W: World>(world: &mut W, part: &str, path: &str, answer: &[u8]) -> Re
     }
 }
 
-// The bytes of the file beside, in OUT. Where they don't fit there, the file beside stays, and has the whole answer.
+/// The bytes of the file beside, in OUT. Where they don't fit there, the file beside stays, and has the whole answer.
 fn copy_over<W: World>(world: &mut W, part: &str, path: &str, answer: &[u8]) -> Result<(), Refusal>
     requires { W.is_known ≡ true → HasFullPart (W.files world.old) part.now path.now answer.now }
     ensures moments { W.is_known ≡ true → Passes (W.files world.old) (W.files world.new)
@@ -214,7 +214,7 @@ fn copy_over<W: World>(world: &mut W, part: &str, path: &str, answer: &[u8]) -> 
     }
 }
 
-// Writes the answer over what the path leads to, or makes it.
+/// Writes the answer over what the path leads to, or makes it.
 fn overwrite<W: World>(world: &mut W, path: &str, answer: &[u8], keeps: bool) -> Result<(), Refusal>
     ensures moments { W.is_known ≡ true → Passes (W.files world.old) (W.files world.new)
         (Overwrites (place_of (W.files world.old) path.now) (W.files world.old).now) }

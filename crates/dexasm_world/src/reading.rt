@@ -1,4 +1,4 @@
-// All the bytes of a file.
+//! All the bytes of a file.
 ghost use Rattle.std.specs.Prelude.{◌≡◌, ◌<◌, true, vec_len, IfOk, length};
 ghost use Rattle.dexasm_world.specs.Looks.{ReadsFile, ReadsRest};
 
@@ -19,14 +19,14 @@ pub fn read_all<W: World>(alloc: Global, world: &W, path: &str) -> Result<Vec<u8
     }
 }
 
-// Room for one `read`.
+/// Room for one `read`.
 fn new_piece(alloc: Global) -> Result<Vec<u8>, AllocError>
     ensures { IfOk result (λ piece. 0 < vec_len piece) }
 {
     vec![in alloc; 0; PIECE]
 }
 
-// All that the reader has left, taken by way of `piece`.
+/// All that the reader has left, taken by way of `piece`.
 fn gather<W: World>(
     alloc: Global,
     world: &W,

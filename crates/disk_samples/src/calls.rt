@@ -1,4 +1,4 @@
-// The calls on a disk.
+//! The calls on a disk.
 ghost use Rattle.std.specs.Prelude.{true, string_bytes};
 ghost use Rattle.disk_samples.specs.Disks.{files_of};
 ghost use Rattle.disk_samples.specs.Apart.{parts_apart};
@@ -122,7 +122,7 @@ impl World for Disk {
         self.call(Change::Dress(file.0, dress.mode), Outcome::Failed)
     }
 
-    // (half of the piece, rounded up)
+    /// Takes half of the piece, rounded up.
     fn put(&mut self, file: &mut Opened, piece: &[u8]) -> Result<usize, Refusal> {
         let n = piece.len() - piece.len() / 2;
         let Ok(front) = Vec::from_slice(self.alloc, &piece[..n]) else {
@@ -157,7 +157,7 @@ impl World for Disk {
         }
     }
 
-    // (where nothing stands there is nothing to take away)
+    /// Where nothing stands there is nothing to take away.
     fn remove(&mut self, path: &str) -> Result<(), Refusal> {
         if number_at(self.log.as_slice(), path).is_none() {
             return Ok(());
@@ -196,7 +196,7 @@ impl World for Disk {
         }
     }
 
-    // (no system is asked here)
+    /// No system is asked here.
     fn error(&self) -> Option<io::Error> {
         None
     }

@@ -1,4 +1,4 @@
-// What happens on a disk.
+//! What happens on a disk.
 
 /// What happened to the files. A file has a number of its own, and a place is a path.
 #[derive(Drop)]

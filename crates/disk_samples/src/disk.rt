@@ -1,4 +1,4 @@
-// A disk, by what happened to it.
+//! A disk, by what happened to it.
 ghost use Rattle.std.specs.Prelude.{◌+◌, ◌≤◌, length, vec_capacity};
 ghost use Rattle.disk_samples.specs.Logs.{AreAtNames, AreMadeBefore, standing, state_of};
 
@@ -30,7 +30,7 @@ impl Manner {
         is_late: false,
     };
 
-    // Whether the call of this number is to fail.
+    /// Whether the call of this number is to fail.
     pub(crate) fn is_failing(self, call: u64) -> bool {
         call >= self.fails_at && call - self.fails_at < self.failures
     }

@@ -1,4 +1,4 @@
-// What a call does to a disk.
+//! What a call does to a disk.
 ghost use Rattle.std.specs.Prelude.{[], ◌≡◌, ◌≤◌, ◌<◌, ◌⊎◌, ◌∷◌, ◌++◌, MatchBool, is_some, true, vec_capacity, vec_len};
 ghost use Rattle.disk_samples.specs.Logs.{IsFit, state_of};
 ghost use Rattle.disk_samples.specs.Disks.{Attempts, Calls, Gains, TurnsDown, Stays};
@@ -16,7 +16,7 @@ pub(crate) enum Attempt {
 }
 
 impl Disk {
-    // One entry more, where there is room for it and for taking each name away then.
+    /// One entry more, where there is room for it and for taking each name away then.
     pub(crate) fn happen(&mut self, change: Change, outcome: Outcome) -> bool
         requires { IsFit self.old.names.now self.old.log.items change }
         ensures { MatchBool result (Gains self.old self.new (record { change = change; outcome = outcome })) (Stays self.old self.new) }
@@ -28,7 +28,7 @@ impl Disk {
         true
     }
 
-    // Makes the change, or fails, where this call is to fail, before it or after it.
+    /// Makes the change, or fails, where this call is to fail, before it or after it.
     pub(crate) fn attempt(&mut self, change: Change, failure: Outcome) -> Attempt
         requires { IsFit self.old.names.now self.old.log.items change }
         ensures { Attempts change failure self.old self.new result }
@@ -45,7 +45,7 @@ impl Disk {
         }
     }
 
-    // Fails, before the change or after it.
+    /// Fails, before the change or after it.
     fn fail(&mut self, change: Change, failure: Outcome) -> Attempt
         requires { IsFit self.old.names.now self.old.log.items change }
         ensures { Attempts change failure self.old self.new result }
@@ -58,7 +58,7 @@ impl Disk {
         }
     }
 
-    // An attempt, as a call tells it.
+    /// An attempt, as a call tells it.
     pub(crate) fn call(&mut self, change: Change, failure: Outcome) -> Result<(), Refusal>
         requires { IsFit self.old.names.now self.old.log.items change }
         ensures { Calls change failure self.old self.new result }
@@ -70,7 +70,7 @@ impl Disk {
         }
     }
 
-    // A failure that does nothing.
+    /// A failure that does nothing.
     pub(crate) fn refuse(&mut self) -> Refusal
         ensures { TurnsDown self.old self.new result }
     {
@@ -81,7 +81,7 @@ impl Disk {
         }
     }
 
-    // Takes a name away. There is always room for that.
+    /// Takes a name away. There is always room for that.
     pub(crate) fn take_away(&mut self, place: &'static str)
         requires { is_some ((state_of self.old.log.items).stands place.now) ≡ true }
         ensures { Gains self.old self.new (record { change = Change.Remove place.entry; outcome = Outcome.Done }) }
@@ -90,7 +90,7 @@ impl Disk {
     }
 }
 
-// One entry more, where there is room for it.
+/// One entry more, where there is room for it.
 fn add_entry(log: &mut Vec<Entry>, change: Change, outcome: Outcome)
     requires { vec_len log.old < vec_capacity log.old }
     ensures items { log.new.items ≡ log.old.items ++ (record { change = change; outcome = outcome }) ∷ [] }
@@ -99,7 +99,7 @@ fn add_entry(log: &mut Vec<Entry>, change: Change, outcome: Outcome)
     let _ = log.push(Entry { change, outcome });
 }
 
-// The change, or nothing.
+/// The change, or nothing.
 fn made_of(change: Change, is_late: bool) -> Change
     ensures { (result ≡ Change.Nothing) ⊎ (result ≡ change) }
 {

@@ -1,4 +1,4 @@
-// What a log has led to.
+//! What a log has led to.
 ghost use Rattle.std.specs.Prelude.{◌≡◌, ◌≢◌, ◌↔◌, ℕ, List, IfOk, IsTrue, MatchOption, OnOk, bytes_eq, false, if◌then◌else◌, true};
 ghost use Rattle.dexasm_world.specs.State.{FileState};
 ghost use Rattle.disk_samples.specs.Logs.{is_a_name, state_of, step};
@@ -29,7 +29,7 @@ pub(crate) fn number_at(log: &[Entry], place: &str) -> Option<usize>
     number
 }
 
-// The number of the file that stands there after a change.
+/// The number of the file that stands there after a change.
 fn number_after(change: &Change, place: &str, before: Option<usize>) -> Option<usize>
     ensures { (s : FileState) → s.stands place.now ≡ before → (step change.now s).stands place.now ≡ result }
 {
@@ -53,7 +53,7 @@ fn number_after(change: &Change, place: &str, before: Option<usize>) -> Option<u
     }
 }
 
-// What stands at a place where this was put at another.
+/// What stands at a place where this was put at another.
 fn put_at(at: &str, place: &str, put: Option<usize>, before: Option<usize>) -> Option<usize>
     ensures { result ≡ (if bytes_eq place.now at.now then put else before) }
 {
@@ -83,7 +83,7 @@ pub(crate) fn is_shared(log: &[Entry], names: &[&str], place: &str, number: usiz
     false
 }
 
-// Whether this name is another one of the file.
+/// Whether this name is another one of the file.
 fn is_other(log: &[Entry], name: &str, place: &str, number: usize) -> bool
     ensures other { result ≡ true → (name.now ≢ place.now) × ((state_of log.now).stands name.now ≡ Some number) }
     ensures same { result ≡ false → (state_of log.now).stands name.now ≡ Some number → name.now ≡ place.now }
@@ -102,7 +102,7 @@ pub(crate) fn mode_of(log: &[Entry], number: usize) -> u32
     mode
 }
 
-// The mode of a file after a change.
+/// The mode of a file after a change.
 fn mode_after(change: &Change, number: usize, before: u32) -> u32
     ensures { (s : FileState) → (s.file number).mode ≡ before → ((step change.now s).file number).mode ≡ result }
 {
@@ -130,7 +130,7 @@ pub(crate) fn bytes_of(alloc: Global, log: &[Entry], number: usize) -> Result<Ve
     Ok(held)
 }
 
-// Does with the bytes what a change does to a file.
+/// Does with the bytes what a change does to a file.
 fn write_again(change: &Change, number: usize, held: &mut Vec<u8>) -> Result<(), AllocError>
     ensures { OnOk result ((s : FileState) → (s.file number).bytes ≡ held.old.items → ((step change.now s).file number).bytes ≡ held.new.items) }
 {

@@ -1,4 +1,4 @@
-// How a disk is set up, and what is seen of it.
+//! How a disk is set up, and what is seen of it.
 ghost use Rattle.std.specs.Prelude.{◌≡◌, ℕ, IfOk, MatchOption, None, Some, true};
 ghost use Rattle.disk_samples.specs.Logs.{HoldsAt};
 ghost use Rattle.disk_samples.specs.Disks.{files_of};

@@ -36,13 +36,13 @@ fn refused(fault: Fault) -> Error {
     anyhow!("refused {code} {name} at {place}")
 }
 
-// A program made by hand has to be well formed before it is written: a file's always is.
+/// A program made by hand has to be well formed before it is written: a file's always is.
 fn write(alloc: Global, program: &Program<'_>) -> Result<Vec<u8>, Fault> {
     dex_program::well_formed_in(alloc, program)?;
     dex_file::write(alloc, program)
 }
 
-// A line for each class, and one for each of its methods.
+/// A line for each class, and one for each of its methods.
 fn show(alloc: Global, program: &Program<'_>) -> Result<String, Fault> {
     let mut shown = String::new(alloc);
     for class in program.classes {

@@ -1,10 +1,10 @@
-// A program with one thing changed: what isn't copied here is shared with the program that it was.
+//! A program with one thing changed: what isn't copied here is shared with the program that it was.
 use bumpalo::Bump;
 use bumpalo::collections::into_bump_slice;
 use dex_base::Fault;
 use dex_program::{Class, Code, Insn, Method, Program};
 
-// The program with the constant 41 made 42 wherever an instruction of 16 bits loads it.
+/// The program with the constant 41 made 42 wherever an instruction of 16 bits loads it.
 pub(crate) fn patch<'a>(arena: &'a Bump, program: &Program<'a>) -> Result<Program<'a>, Fault> {
     let mut classes = Vec::new(arena);
     for class in program.classes {

@@ -1,5 +1,5 @@
-// Aligning all bodies of a program.
-// Page: "Dalvik bytecode": packed-switch, sparse-switch and fill-array-data refer to payloads at even addresses.
+//! Aligning all bodies of a program.
+//! Page: "Dalvik bytecode": packed-switch, sparse-switch and fill-array-data refer to payloads at even addresses.
 ghost use Rattle.std.specs.Prelude.{◌≡◌, ◌≢◌, map, option_map, IfOk, IfErr, IfSome};
 ghost use Rattle.std.specs.List.{AllByRecursion};
 ghost use Rattle.base_bytes.specs.Fault.{memory};
@@ -18,7 +18,7 @@ use dex_base::Fault;
 use program_types::{Class, Code, Method, Program};
 use std::alloc::Global;
 
-// A body, if there is one.
+/// A body, if there is one.
 fn aligned_body<'a>(
     alloc: Global,
     arena: &'a Bump,
@@ -38,7 +38,7 @@ fn aligned_body<'a>(
     }
 }
 
-// A method.
+/// A method.
 fn aligned_method<'a>(alloc: Global, arena: &'a Bump, one: &Method<'a>) -> Result<Method<'a>, Fault>
     requires formed { IfSome (view.method one.now).code IsFormed }
     ensures ok { IfOk result (λ n. AlignedMethod (view.method one.now) (view.method n)) }
@@ -54,7 +54,7 @@ fn aligned_method<'a>(alloc: Global, arena: &'a Bump, one: &Method<'a>) -> Resul
     })
 }
 
-// Methods.
+/// Methods.
 fn aligned_methods<'a>(
     alloc: Global,
     arena: &'a Bump,
@@ -72,7 +72,7 @@ fn aligned_methods<'a>(
     Ok(into_bump_slice(methods))
 }
 
-// A class.
+/// A class.
 fn aligned_class<'a>(alloc: Global, arena: &'a Bump, one: &Class<'a>) -> Result<Class<'a>, Fault>
     requires formed { CodesHold IsFormed (view.class one.now) }
     ensures ok { IfOk result (λ d. AlignedClass (view.class one.now) (view.class d)) }
@@ -95,7 +95,7 @@ fn aligned_class<'a>(alloc: Global, arena: &'a Bump, one: &Class<'a>) -> Result<
     })
 }
 
-// Classes.
+/// Classes.
 fn aligned_classes<'a>(
     alloc: Global,
     arena: &'a Bump,

@@ -1,4 +1,4 @@
-// Laws of the definitions, each the contract of a function that does nothing else.
+//! Laws of the definitions, each the contract of a function that does nothing else.
 ghost use Rattle.std.specs.Prelude.{◌≡◌};
 ghost use Rattle.base_bytes.specs.declared.fault.Fault.{Fault};
 ghost use Rattle.file_align.specs.Programs.{AlignedProgram, IsTooLong};

@@ -1,5 +1,5 @@
-// From a program to the bytes of its file.
-// Page: "Dalvik Executable format", "File layout".
+//! From a program to the bytes of its file.
+//! Page: "Dalvik Executable format", "File layout".
 ghost use Rattle.std.specs.Prelude.{◌≡◌, ◌≢◌, ◌+◌, ◌<◌, ◌^◌, ◌++◌, IfOk, IfErr, OnOk, IsOkUnless, length};
 ghost use Rattle.base_bytes.specs.Fault.{memory};
 ghost use Rattle.file_layout.specs.Plan.{tables_end};
@@ -28,7 +28,8 @@ use tables_names::Ranks;
 /// The file of a program that is well formed, laid out as `Assembled` says: tables of exactly the needed names, type lists, code items,
 /// texts, static values, class data, map. Equal lists, bodies and arrays stand once.
 ///
-/// Refused are programs that break a limit of the format, by the lowest of 80 to 90 that stands, at its place. 255 is out of memory.
+/// Refused are programs that break a limit of the format, by the fault of the lowest number that stands, at its place. 255 is out of
+/// memory.
 pub fn assemble(alloc: Global, seed: Seed, program: &Program<'_>) -> Result<Vec<u8>, Fault>
     requires kept { WellFormed (view.program program.now) }
     ensures assembled { IfOk result (λ file. Assembled file.items (needed (view.program program.now)) (view.program program.now)) }
@@ -39,7 +40,7 @@ pub fn assemble(alloc: Global, seed: Seed, program: &Program<'_>) -> Result<Vec<
     assemble_in(alloc, seed, &arena, program)
 }
 
-// With an arena for the shorties.
+/// With an arena for the shorties.
 fn assemble_in<'a, 'p: 'a>(
     alloc: Global,
     seed: Seed,
@@ -55,7 +56,7 @@ fn assemble_in<'a, 'p: 'a>(
     assemble_named(alloc, &ranks, &indices, program)
 }
 
-// With the names that it needs, and the indices of what its instructions name and of the members that its classes define.
+/// With the names that it needs, and the indices of what its instructions name and of the members that its classes define.
 fn assemble_named(
     alloc: Global,
     ranks: &Ranks<'_>,
@@ -73,7 +74,7 @@ fn assemble_named(
     Ok(assemble_ranked(alloc, ranks, indices, program)?)
 }
 
-// How many rows each table has.
+/// How many rows each table has.
 fn counts_of(ranks: &Ranks<'_>, program: &Program<'_>) -> Rows
     requires { wide_rows ranks.now (view.program program.now) < 2 ^ 32 }
     ensures { result ≡ rows_of ranks.now (view.program program.now) }
@@ -153,7 +154,7 @@ pub fn codes_part(items: u32, lists_end: u32, end: u32) -> Part
     part(items, lists_end + padding, end)
 }
 
-// Appends the parts of the data.
+/// Appends the parts of the data.
 fn put_data(
     alloc: Global,
     out: &mut Vec<u8>,
@@ -199,7 +200,7 @@ fn put_data(
     })
 }
 
-// The rows of the six tables.
+/// The rows of the six tables.
 fn table_rows(
     alloc: Global,
     ranks: &Ranks<'_>,
@@ -228,7 +229,7 @@ fn table_rows(
     Ok(rows)
 }
 
-// The file of a program within the limits.
+/// The file of a program within the limits.
 fn assemble_ranked(
     alloc: Global,
     ranks: &Ranks<'_>,

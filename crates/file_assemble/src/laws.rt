@@ -1,5 +1,5 @@
-// Laws of what is assembled, each the contract of a function that does nothing.
-// Page: "Dalvik Executable format", "File layout".
+//! Laws of what is assembled, each the contract of a function that does nothing.
+//! Page: "Dalvik Executable format", "File layout".
 ghost use Rattle.std.specs.Prelude.{◌≡◌, ℕ, List};
 ghost use Rattle.program_rules.specs.WellFormed.{WellFormed};
 ghost use Rattle.program_types.specs.Content.{Program};

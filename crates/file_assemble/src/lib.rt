@@ -1,7 +1,7 @@
 //! Whole files, written: the file of a program that keeps the rules and the limits.
 //!
 //! ```
-//! let file = assemble(alloc, seed, &program)?; // 80 to 90 where a limit is broken
+//! let file = assemble(alloc, seed, &program)?; // refused where a limit is broken
 //! ```
 //!
 //! docs/MAP.md says where this crate stands among the others.

@@ -1,6 +1,5 @@
--- The faults of class rows (40 to 47), static values (48 to 51), code (60 to 72) and its registers (73). Each is stated so that
--- it has a meaning for any file; it is asked only where the groups before, and the rows before, hold. Of the rules of a row each says
--- what is asked before it.
+-- The faults of class rows, static values, code and its registers. Each is stated so that it has a meaning for any file; it
+-- is asked only where the groups before, and the rows before, hold. Of the rules of a row each says what is asked before it.
 use Rattle.std.specs.Prelude.{◌≡◌, ◌≢◌, ℕ, ◌<◌, ◌≤◌, ◌⊎◌, ◌==◌, ◌||◌, if◌then◌else◌, MatchBool, None, List, length, Option, Some, slice_index, IfSome}
 use Rattle.std.specs.List.{slice_get}
 use Rattle.base_bytes.specs.declared.fault.Fault.{Fault}
@@ -49,7 +48,7 @@ pub record HasNoInterfaces (b : List ℕ) (i : ℕ) : Type 0 where
   pub row : RowIs b i class flags superclass source
   pub none : (ts : List Units) → ¬ InterfacesAt b (interfaces_off b i) ts
 
--- The row keeps 40 to 43: names and class types, and a list of interfaces.
+-- The row keeps the rules of its head: names and class types, and a list of interfaces.
 pub record HasHead (b : List ℕ) (i : ℕ) (class : Units) : Type 0 where
   pub flags : ℕ
   pub superclass : Option Units
@@ -165,7 +164,7 @@ pub data ClassRowBreaks (b : List ℕ) (i : ℕ) : ℕ → Type 0 where
   ClassData : HasNoClassData b i → ClassRowBreaks b i 44
   Member : {code : ℕ} → MemberBreaks b i code → ClassRowBreaks b i code
 
--- Row i keeps the rules of 40 to 47.
+-- Row i keeps the rules of class rows.
 pub record ClassRowHolds (b : List ℕ) (i : ℕ) : Type 0 where
   pub entries : Entries
   pub class : Class
@@ -213,7 +212,7 @@ pub record ValuesBreak (b : List ℕ) (i : ℕ) (fault : Fault) : Type 0 where
   pub breaks : ArrayBreaksAt (NameIsAt names) b (static_values_off b i) (length entries.statics) own
   pub moved : fault ≡ at_row (row_place b section.class_defs i) own
 
--- ---- code, in two passes: bodies, whichever registers they name (60 to 72), then registers (73)
+-- ---- code, in two passes: bodies, whichever registers they name, then registers
 
 -- The body at an offset.
 pub record SomeBodyStands (b : List ℕ) (place : ℕ) (code : Option Code) : Type 0 where
@@ -233,14 +232,14 @@ BodyHolds b place = (code : Option Code) × BodyAt b place code
 abbrev pub CodeHolds : List ℕ → ℕ → Type 0
 CodeHolds b place = (code : Option Code) × CodeAt b place code
 
--- What a code at an offset breaks, one of 60 to 72.
+-- What the body of a code at an offset breaks.
 pub record BodyFails (b : List ℕ) (place : ℕ) (fault : Fault) : Type 0 where
   pub some : place ≢ 0
   pub names : Names
   pub of_file : AreNamesOf b names
   pub breaks : CodeBreaks (NameIsAt names) b place fault
 
--- What is wrong with the registers of the code at an offset, 73.
+-- What is wrong with the registers of the code at an offset.
 pub record RegistersFail (b : List ℕ) (place : ℕ) (fault : Fault) : Type 0 where
   pub some : place ≢ 0
   pub names : Names
@@ -277,7 +276,7 @@ pub record MethodsBreak (Holds : List ℕ → ℕ → Type 0) (Fails : List ℕ 
 abbrev pub BodiesHold : List ℕ → ℕ → Type 0
 BodiesHold = ClassCodesHold BodyHolds
 
--- A body of row i breaks a rule (60 to 72).
+-- A body of row i breaks a rule.
 abbrev pub BodiesBreak : List ℕ → ℕ → Fault → Type 0
 BodiesBreak = MethodsBreak BodyHolds BodyFails
 
@@ -285,7 +284,7 @@ BodiesBreak = MethodsBreak BodyHolds BodyFails
 abbrev pub RowRegistersHold : List ℕ → ℕ → Type 0
 RowRegistersHold = ClassCodesHold CodeHolds
 
--- The registers of a code of row i don't (73).
+-- The registers of a code of row i don't.
 abbrev pub RowRegistersBreak : List ℕ → ℕ → Fault → Type 0
 RowRegistersBreak = MethodsBreak CodeHolds RegistersFail
 

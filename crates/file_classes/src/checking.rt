@@ -1,5 +1,5 @@
-// The third pass over class_defs where no program is asked for: the faults of `read_classes`. Of a code that is read nothing is
-// kept but what is wrong with its registers.
+//! The third pass over class_defs where no program is asked for: the faults of `read_classes`. Of a code that is read nothing is
+//! kept but what is wrong with its registers.
 ghost use Rattle.std.specs.Prelude.{◌≢◌, ◌⊎◌, IfOk, IfErr, IfSome, IfNone, OnOk, length};
 ghost use Rattle.base_bytes.specs.Fault.{memory};
 ghost use Rattle.dex_container.specs.Layout.{size_of};
@@ -23,7 +23,7 @@ use indexmap::IndexMap;
 use std::alloc::Global;
 use tables_rows::Tables;
 
-// What is wrong with the registers of the code at an offset, if anything is; what has to be kept of it lies in the arena.
+/// What is wrong with the registers of the code at an offset, if anything is; what has to be kept of it lies in the arena.
 fn check_code(
     alloc: Global,
     arena: &Bump,
@@ -42,8 +42,8 @@ fn check_code(
     Ok(past)
 }
 
-// What is wrong with the registers of the code at an offset, if anything is: what is kept of the offset, or what is
-// found now, and kept. After each code the scratch arena is empty again.
+/// What is wrong with the registers of the code at an offset, if anything is: what is kept of the offset, or what is
+/// found now, and kept. After each code the scratch arena is empty again.
 fn check_code_at(
     alloc: Global,
     scratch: &mut Bump,
@@ -69,7 +69,7 @@ fn check_code_at(
     Ok(past)
 }
 
-// The first fault of the registers of a list of methods.
+/// The first fault of the registers of a list of methods.
 fn check_methods(
     alloc: Global,
     scratch: &mut Bump,
@@ -93,7 +93,7 @@ fn check_methods(
     Ok(past)
 }
 
-// The first fault of the registers of row i.
+/// The first fault of the registers of row i.
 fn check_class(
     alloc: Global,
     scratch: &mut Bump,
@@ -119,7 +119,7 @@ fn check_class(
     Ok(first_of(directs, virtuals))
 }
 
-// Looks at the code of all rows, with nothing kept so far.
+/// Looks at the code of all rows, with nothing kept so far.
 fn check_rows(
     alloc: Global,
     scratch: &mut Bump,
@@ -150,7 +150,7 @@ fn check_rows(
     }
 }
 
-/// Looks at the code of all rows, each code once: 60 to 72, the first fault of code, or else 73, the first of registers.
+/// Looks at the code of all rows, each code once: the first fault of a body, or where there is none, the first of registers.
 pub fn check_codes(
     alloc: Global,
     sections: &Sections<'_>,

@@ -1,5 +1,5 @@
-// The second pass over class_defs where no program is asked for: the faults of `read_statics`. Of an array nothing is kept but how many
-// values it has.
+//! The second pass over class_defs where no program is asked for: the faults of `read_statics`. Of an array nothing is kept but how many
+//! values it has.
 ghost use Rattle.std.specs.Prelude.{◌≢◌, ◌<◌, List, IfErr, OnOk};
 ghost use Rattle.base_bytes.specs.Fault.{memory};
 ghost use Rattle.dex_container.specs.Layout.{size_of};
@@ -25,7 +25,7 @@ use indexmap::IndexMap;
 use std::alloc::Global;
 use tables_rows::Tables;
 
-// Looks at the values at an offset, at most so many: what is kept of them, or what is found now, and kept.
+/// Looks at the values at an offset, at most so many: what is kept of them, or what is found now, and kept.
 fn check_array_at(
     sections: &Sections<'_>,
     tables: &Tables<'_>,
@@ -49,7 +49,7 @@ fn check_array_at(
     Ok(())
 }
 
-// The static values of row i.
+/// The static values of row i.
 fn check_row(
     sections: &Sections<'_>,
     tables: &Tables<'_>,
@@ -75,7 +75,7 @@ fn check_row(
     }
 }
 
-/// Looks at the static values of all rows, at each array once: 48 to 51.
+/// Looks at the static values of all rows, at each array once.
 pub fn check_statics(
     alloc: Global,
     sections: &Sections<'_>,

@@ -1,4 +1,4 @@
-// What a class defines, as numbers ("class_data_item"): fault 44.
+//! What a class defines, as numbers ("class_data_item"): fault 44.
 ghost use Rattle.std.specs.Prelude.{ℕ, List, IfOk, IfSome, IfNone, IsOkUnless, map};
 ghost use Rattle.base_bytes.specs.Fault.{memory};
 ghost use Rattle.base_bytes.specs.Grammar.{Takes, NoneBegins, Many};
@@ -54,7 +54,7 @@ impl Drop for Entries {
     }
 }
 
-// A number at the front of the bytes, and what follows it; so with the others.
+/// A number at the front of the bytes, and what follows it; so with the others.
 fn take_number(bytes: &[u8]) -> Option<(u32, &[u8])>
     ensures found { IfSome result (λ x. Takes Spells bytes.now x.0 x.1.now) }
     ensures none { IfNone result (NoneBegins Spells bytes.now) }
@@ -106,7 +106,7 @@ fn take_counts(bytes: &[u8]) -> Option<(Counts, &[u8])>
     ))
 }
 
-// So many entries of fields at the front of the bytes, and what follows them. Memory is asked for as they come.
+/// So many entries of fields at the front of the bytes, and what follows them. Memory is asked for as they come.
 fn take_fields<'b>(
     alloc: Global,
     count: u32,
@@ -128,7 +128,7 @@ fn take_fields<'b>(
     Ok(Some((all, left)))
 }
 
-// So many entries of methods at the front of the bytes, and what follows them. Memory is asked for as they come.
+/// So many entries of methods at the front of the bytes, and what follows them. Memory is asked for as they come.
 fn take_methods<'b>(
     alloc: Global,
     count: u32,
@@ -150,7 +150,7 @@ fn take_methods<'b>(
     Ok(Some((all, left)))
 }
 
-// The class_data_item at the front of the bytes.
+/// The class_data_item at the front of the bytes.
 fn take_entries(alloc: Global, bytes: &[u8]) -> Result<Option<Entries>, Fault>
     ensures found { IfOk result (λ r. IfSome r (λ e. (rest : List ℕ) × Takes (SpellsEntries Spells) bytes.now (entries e) rest)) }
     ensures none { IfOk result (λ r. IfNone r (NoneBegins (SpellsEntries Spells) bytes.now)) }

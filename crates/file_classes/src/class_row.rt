@@ -1,4 +1,4 @@
-// The names and flags of a class row ("class_def_item"): faults 40 and 41.
+//! The names and flags of a class row ("class_def_item"): faults 40 and 41.
 ghost use Rattle.std.specs.Prelude.{◌≡◌, ◌≢◌, ◌↔◌, ◌<◌, ◌≤◌, IfOk, IfErr, IfSome, IfNone, IsTrue, option_map};
 ghost use Rattle.dex_base.specs.Descriptor.{IsClass};
 ghost use Rattle.dex_container.specs.Layout.{size_of};
@@ -56,7 +56,7 @@ pub fn class_word(sections: &Sections<'_>, i: u32, j: u32) -> u32
     u32_at(sections.bytes(), place as usize + 4 * j as usize)
 }
 
-// The type at an index; None past the last row.
+/// The type at an index; None past the last row.
 fn type_at<'a>(sections: &Sections<'_>, tables: &Tables<'a>, index: u32) -> Option<Desc<'a>>
     requires { AreNamesOf sections.now tables.now }
     ensures some { IfSome result (λ t. TypeStands sections.now index (desc t)) }
@@ -70,7 +70,7 @@ fn type_at<'a>(sections: &Sections<'_>, tables: &Tables<'a>, index: u32) -> Opti
     }
 }
 
-// The type at an index, or none for NO_INDEX; None past the last row.
+/// The type at an index, or none for NO_INDEX; None past the last row.
 fn type_or_none<'a>(
     sections: &Sections<'_>,
     tables: &Tables<'a>,
@@ -89,7 +89,7 @@ fn type_or_none<'a>(
     }
 }
 
-// The string at an index, or none for NO_INDEX; None past the last row.
+/// The string at an index, or none for NO_INDEX; None past the last row.
 fn string_or_none<'a>(
     sections: &Sections<'_>,
     tables: &Tables<'a>,
@@ -110,14 +110,14 @@ fn string_or_none<'a>(
     }
 }
 
-// Whether a type is a class type.
+/// Whether a type is a class type.
 fn is_class_type(ty: Desc<'_>) -> bool
     ensures { IsTrue result ↔ IsClass (desc ty.entry) }
 {
     is_class(ty.text.units)
 }
 
-// Whether a superclass, where there is one, is a class type.
+/// Whether a superclass, where there is one, is a class type.
 fn is_class_or_none(superclass: Option<Desc<'_>>) -> bool
     ensures { IsTrue result ↔ IfSome (option_map desc superclass.entry) IsClass }
 {

@@ -1,4 +1,4 @@
-// The first pass over class_defs: all of each class but its static values and its code, faults 40 to 47.
+//! The first pass over class_defs: all of each class but its static values and its code, and the faults of class rows.
 ghost use Rattle.std.specs.Prelude.{◌≡◌, ◌≢◌, ◌<◌, [], IfOk, IfErr, OnOk, map};
 ghost use Rattle.dex_container.specs.Layout.{size_of};
 ghost use Rattle.dex_container.specs.Section as section;
@@ -43,7 +43,7 @@ pub struct Head<'a, 's> {
     pub virtuals: &'s [Bare<'a>],
 }
 
-// The head of row i.
+/// The head of row i.
 #[tactic(auto, using(crate::specs::ClassFaults::InterfaceList, crate::specs::ClassFaults::ClassOrder, crate::specs::ClassFaults::ClassData))]
 fn read_head<'a, 's>(
     alloc: Global,
@@ -93,7 +93,7 @@ fn read_head<'a, 's>(
     })
 }
 
-// The heads of all rows, one after the other.
+/// The heads of all rows, one after the other.
 fn push_heads<'a, 's>(
     alloc: Global,
     arena: &'a Bump,

@@ -1,4 +1,4 @@
-// The interfaces of a class: fault 43.
+//! The interfaces of a class: fault 43.
 ghost use Rattle.std.specs.Prelude.{◌↔◌, ◌<◌, IfOk, IfSome, IfNone, IsTrue, IsOkUnless, OnOk, length, map};
 ghost use Rattle.std.specs.List.{AllByRecursion};
 ghost use Rattle.dex_base.specs.Descriptor.{IsClass};
@@ -20,7 +20,7 @@ use tables_rows::Tables;
 /// How many types are compared pair by pair, without memory.
 const FEW: usize = 8;
 
-// Whether all of the types are class types.
+/// Whether all of the types are class types.
 fn are_classes(types: &[Desc<'_>]) -> bool
     ensures { IsTrue result ↔ AllByRecursion IsClass (map desc types.now) }
 {
@@ -32,7 +32,7 @@ fn are_classes(types: &[Desc<'_>]) -> bool
     true
 }
 
-// Whether none of the first n types is type n.
+/// Whether none of the first n types is type n.
 fn is_new(types: &[Desc<'_>], n: usize) -> bool
     requires { n < length types.now }
     ensures { IsTrue result ↔ IsNotAmong (map desc types.now) n n }
@@ -45,7 +45,7 @@ fn is_new(types: &[Desc<'_>], n: usize) -> bool
     true
 }
 
-// Whether none of a few types stands twice.
+/// Whether none of a few types stands twice.
 fn are_few_distinct(types: &[Desc<'_>]) -> bool
     ensures { IsTrue result ↔ NoTypeTwice (map desc types.now) }
 {
@@ -57,7 +57,7 @@ fn are_few_distinct(types: &[Desc<'_>]) -> bool
     true
 }
 
-// Whether none of many types stands twice, in time that grows with their number.
+/// Whether none of many types stands twice, in time that grows with their number.
 fn are_many_distinct(alloc: Global, types: &[Desc<'_>]) -> Result<bool, Fault>
     ensures ok { IfOk result (λ yes. IsTrue yes ↔ NoTypeTwice (map desc types.now)) }
     ensures memory { IsOkUnless result memory }
@@ -71,7 +71,7 @@ fn are_many_distinct(alloc: Global, types: &[Desc<'_>]) -> Result<bool, Fault>
     Ok(true)
 }
 
-// Whether no type stands twice.
+/// Whether no type stands twice.
 fn are_distinct(alloc: Global, types: &[Desc<'_>]) -> Result<bool, Fault>
     ensures ok { IfOk result (λ yes. IsTrue yes ↔ NoTypeTwice (map desc types.now)) }
     ensures memory { IsOkUnless result memory }
@@ -82,7 +82,7 @@ fn are_distinct(alloc: Global, types: &[Desc<'_>]) -> Result<bool, Fault>
     are_many_distinct(alloc, types)
 }
 
-// The interfaces at an offset, in the arena. None where no list of distinct class types stands there.
+/// The interfaces at an offset, in the arena. None where no list of distinct class types stands there.
 fn read_interfaces<'a>(
     alloc: Global,
     arena: &'a Bump,

@@ -1,12 +1,12 @@
 //! Classes of a file: what a row of class_defs spells, read in three passes over all rows: names and members, static values, code.
 //!
 //! ```
-//! let heads = read_heads(alloc, &arena, &scratch, &sections, &tables)?; // faults 40 to 47
-//! let statics = read_statics(alloc, &arena, &scratch, &sections, &tables, heads)?; // faults 48 to 51
-//! let classes = read_classes(alloc, &arena, &sections, &tables, heads, statics)?; // faults 60 to 73
+//! let heads = read_heads(alloc, &arena, &scratch, &sections, &tables)?; // faults of class rows
+//! let statics = read_statics(alloc, &arena, &scratch, &sections, &tables, heads)?; // faults of values
+//! let classes = read_classes(alloc, &arena, &sections, &tables, heads, statics)?; // faults of code items
 //!
-//! check_statics(alloc, &sections, &tables, heads)?; // faults 48 to 51, where no program is asked for
-//! check_codes(alloc, &sections, &tables, heads)?; // faults 60 to 73
+//! check_statics(alloc, &sections, &tables, heads)?; // faults of values, where no program is asked for
+//! check_codes(alloc, &sections, &tables, heads)?; // faults of code items
 //! ```
 //!
 //! docs/MAP.md says where this crate stands among the others.

@@ -1,4 +1,4 @@
-// The fields and methods of a class, by their indices: faults 45 to 47.
+//! The fields and methods of a class, by their indices: faults 45 to 47.
 ghost use Rattle.std.specs.Prelude.{◌≡◌, ◌≢◌, ◌<◌, ◌^◌, IfOk, IfErr, map};
 ghost use Rattle.base_bytes.specs.Fault.{memory};
 ghost use Rattle.dex_container.specs.Layout.{size_of};
@@ -42,7 +42,7 @@ pub(crate) struct Members<'a, 's> {
     pub virtuals: &'s [Bare<'a>],
 }
 
-// The class whose members are read: the index of its type, its name, and the place of its row, where their faults stand.
+/// The class whose members are read: the index of its type, its name, and the place of its row, where their faults stand.
 #[derive(Clone, Copy)]
 struct Owner<'n> {
     row: u32,
@@ -50,7 +50,7 @@ struct Owner<'n> {
     place: u64,
 }
 
-// The field at an index, which is of this class.
+/// The field at an index, which is of this class.
 #[tactic(auto, using(crate::specs::Reading::IndexIsOut))]
 fn field_at<'a>(
     sections: &Sections<'_>,
@@ -79,7 +79,7 @@ fn field_at<'a>(
     Ok(field)
 }
 
-// The method at an index, which is of this class.
+/// The method at an index, which is of this class.
 #[tactic(auto, using(crate::specs::Reading::IndexIsOut))]
 fn method_at<'a>(
     sections: &Sections<'_>,
@@ -108,7 +108,7 @@ fn method_at<'a>(
     Ok(method)
 }
 
-// The fields of a list of entries, each of this class, in the arena. A fault stands at the class row.
+/// The fields of a list of entries, each of this class, in the arena. A fault stands at the class row.
 fn read_fields<'a>(
     arena: &'a Bump,
     sections: &Sections<'_>,
@@ -139,7 +139,7 @@ fn read_fields<'a>(
     Ok(into_bump_slice(fields))
 }
 
-// The methods of a list of entries, each of this class. A fault stands at the class row.
+/// The methods of a list of entries, each of this class. A fault stands at the class row.
 fn read_bares<'a, 's>(
     scratch: &'s Bump,
     sections: &Sections<'_>,

@@ -1,5 +1,5 @@
-// The third pass over class_defs: the code of methods, faults 60 to 72, which completes the classes. The first fault of
-// registers (73) is kept, and answered where there is no other.
+//! The third pass over class_defs: the code of methods, which completes the classes. The first fault of registers is kept, and answered
+//! where there is no other.
 ghost use Rattle.std.specs.Prelude.{◌≢◌, ◌<◌, ◌≡◌, ◌⊎◌, IfOk, IfErr, IfSome, IfNone, OnOk, Some, length, map, option_map};
 ghost use Rattle.base_bytes.specs.Fault.{memory};
 ghost use Rattle.dex_container.specs.Layout.{size_of};
@@ -26,28 +26,28 @@ use program_types::{Class, Code, Method};
 use std::alloc::Global;
 use tables_rows::Tables;
 
-// The code at an offset, and what is wrong with its registers, if anything is.
+/// The code at an offset, and what is wrong with its registers, if anything is.
 #[derive(Clone, Copy)]
 pub(crate) struct Found<'a> {
     pub(crate) code: Option<&'a Code<'a>>,
     pub(crate) past: Option<Fault>,
 }
 
-// The methods of a list, and the first fault of their registers.
+/// The methods of a list, and the first fault of their registers.
 #[derive(Clone, Copy)]
 struct Methods<'a> {
     list: &'a [Method<'a>],
     past: Option<Fault>,
 }
 
-// The class of a row, and the first fault of its registers.
+/// The class of a row, and the first fault of its registers.
 #[derive(Clone, Copy)]
 struct FoundClass<'a> {
     class: Class<'a>,
     past: Option<Fault>,
 }
 
-// The first of two faults.
+/// The first of two faults.
 pub(crate) fn first_of(first: Option<Fault>, next: Option<Fault>) -> Option<Fault>
     ensures first { IfSome first (λ e. result ≡ Some e) }
     ensures next { IfNone first (result ≡ next) }
@@ -58,7 +58,7 @@ pub(crate) fn first_of(first: Option<Fault>, next: Option<Fault>) -> Option<Faul
     }
 }
 
-// The code at an offset, none at 0.
+/// The code at an offset, none at 0.
 fn read_code_at<'a>(
     alloc: Global,
     arena: &'a Bump,
@@ -86,7 +86,7 @@ fn read_code_at<'a>(
     })
 }
 
-// The code at an offset, none at 0: what is kept of the offset, or what is read now, and kept.
+/// The code at an offset, none at 0: what is kept of the offset, or what is read now, and kept.
 fn code_at<'a>(
     alloc: Global,
     arena: &'a Bump,
@@ -109,7 +109,7 @@ fn code_at<'a>(
     Ok(found)
 }
 
-// The methods of a list, each with its code.
+/// The methods of a list, each with its code.
 fn read_methods<'a>(
     alloc: Global,
     arena: &'a Bump,
@@ -143,7 +143,7 @@ fn read_methods<'a>(
     })
 }
 
-// The class of row i.
+/// The class of row i.
 fn read_class<'a>(
     alloc: Global,
     arena: &'a Bump,
@@ -185,7 +185,7 @@ fn read_class<'a>(
     })
 }
 
-// The static values of row i.
+/// The static values of row i.
 fn statics_at<'a>(sections: &Sections<'_>, statics: &[Statics<'a>], i: u32) -> Statics<'a>
     requires statics { AreRows AreStatics sections.now section.class_defs statics.now }
     requires row { i < size_of sections.now section.class_defs }
@@ -196,7 +196,7 @@ fn statics_at<'a>(sections: &Sections<'_>, statics: &[Statics<'a>], i: u32) -> S
     statics[i as usize]
 }
 
-/// The classes of all rows: 60 to 72, the first fault of code, or else 73, the first of registers.
+/// The classes of all rows; else the first fault of a body, or where there is none, the first of registers.
 pub fn read_classes<'a>(
     alloc: Global,
     arena: &'a Bump,

@@ -1,4 +1,4 @@
-// The order of class rows: fault 42.
+//! The order of class rows: fault 42.
 ghost use Rattle.std.specs.Prelude.{◌≡◌, ◌≢◌, ◌↔◌, ℕ, ◌*◌, ◌<◌, List, IsTrue, length, slice_index};
 ghost use Rattle.dex_container.specs.Layout.{size_of};
 ghost use Rattle.dex_container.specs.Section as section;
@@ -13,7 +13,7 @@ use dex_base::u16_at;
 use dex_container::{Sections, kind, section_of};
 use tables_rows::indexes_or_none;
 
-// Whether the superclass of row i, if it has one, isn't defined here or later.
+/// Whether the superclass of row i, if it has one, isn't defined here or later.
 fn superclass_is_before(sections: &Sections<'_>, places: &Places, i: u32) -> bool
     requires places { ArePlaces sections.now (size_of sections.now section.class_defs) places.now.first.items places.now.last.items }
     requires row { i < size_of sections.now section.class_defs }
@@ -27,7 +27,7 @@ fn superclass_is_before(sections: &Sections<'_>, places: &Places, i: u32) -> boo
     is_undefined(sections, places, i, above)
 }
 
-// Whether none of these types is defined in row i or later.
+/// Whether none of these types is defined in row i or later.
 fn all_are_before(sections: &Sections<'_>, places: &Places, i: u32, types: &[u8]) -> bool
     requires places { ArePlaces sections.now (size_of sections.now section.class_defs) places.now.first.items places.now.last.items }
     requires even { length types.now ≡ 2 * length (halves types.now) }
@@ -42,7 +42,7 @@ fn all_are_before(sections: &Sections<'_>, places: &Places, i: u32, types: &[u8]
     true
 }
 
-// Whether no interface of row i is defined here or later.
+/// Whether no interface of row i is defined here or later.
 fn interfaces_are_before(sections: &Sections<'_>, places: &Places, i: u32) -> bool
     requires places { ArePlaces sections.now (size_of sections.now section.class_defs) places.now.first.items places.now.last.items }
     requires row { i < size_of sections.now section.class_defs }

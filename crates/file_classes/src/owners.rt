@@ -1,4 +1,4 @@
-// Whether a member is of a class: by the index of the class's type, so that long names aren't compared for each member.
+//! Whether a member is of a class: by the index of the class's type, so that long names aren't compared for each member.
 ghost use Rattle.std.specs.Prelude.{◌≡◌, ◌↔◌, ◌<◌, IsTrue};
 ghost use Rattle.dex_container.specs.Layout.{size_of};
 ghost use Rattle.program_types.specs.View.{desc};

@@ -1,4 +1,4 @@
-// Which rows of class_defs define a type.
+//! Which rows of class_defs define a type.
 ghost use Rattle.std.specs.Prelude.{◌≡◌, ◌<◌, ◌↔◌, ◌+◌, IfOk, IsTrue, IsOkUnless, replicate, length, get_or, set, ◌≢◌, ◌^◌};
 ghost use Rattle.base_bytes.specs.Fault.{memory};
 ghost use Rattle.dex_container.specs.Layout.{size_of};
@@ -19,14 +19,14 @@ pub(crate) struct Places {
     pub last: Vec<u32>,
 }
 
-// How many rows type_ids has.
+/// How many rows type_ids has.
 fn type_count(sections: &Sections<'_>) -> u32
     ensures { result ≡ size_of sections.now section.type_ids }
 {
     sections.table(kind::TYPE_ID_ITEM).0
 }
 
-// So many zeros.
+/// So many zeros.
 fn zeros(alloc: Global, count: u32) -> Result<Vec<u32>, Fault>
     ensures ok { IfOk result (λ v. v.items ≡ replicate count 0) }
     ensures memory { IsOkUnless result memory }
@@ -38,7 +38,7 @@ fn zeros(alloc: Global, count: u32) -> Result<Vec<u32>, Fault>
     Ok(all)
 }
 
-// An element.
+/// An element.
 fn at(all: &Vec<u32>, i: u32) -> u32
     requires { i < length all.now.items }
     ensures { result ≡ get_or all.now.items i 0 }
@@ -46,7 +46,7 @@ fn at(all: &Vec<u32>, i: u32) -> u32
     all[i as usize]
 }
 
-// Another element in its place.
+/// Another element in its place.
 fn put(all: &mut Vec<u32>, i: u32, value: u32)
     requires { i < length all.old.items }
     ensures { all.new.items ≡ set all.old.items i value }
@@ -54,7 +54,7 @@ fn put(all: &mut Vec<u32>, i: u32, value: u32)
     all[i as usize] = value;
 }
 
-// Row i is of this type.
+/// Row i is of this type.
 fn mark(first: &mut Vec<u32>, last: &mut Vec<u32>, ty: u32, i: u32)
     requires first { ty < length first.old.items }
     requires last { ty < length last.old.items }

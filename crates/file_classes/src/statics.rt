@@ -1,4 +1,4 @@
-// The second pass over class_defs: static values, faults 48 to 51.
+//! The second pass over class_defs: static values, and their faults.
 ghost use Rattle.std.specs.Prelude.{◌≡◌, ◌≢◌, ◌<◌, IfOk, IfErr, OnOk, map};
 ghost use Rattle.base_bytes.specs.Fault.{memory};
 ghost use Rattle.dex_container.specs.Layout.{size_of};
@@ -32,7 +32,7 @@ pub struct Statics<'a> {
     pub values: &'a [Value<'a>],
 }
 
-// The values at an offset, at most so many: those that are kept of it, or those that are read now, and kept.
+/// The values at an offset, at most so many: those that are kept of it, or those that are read now, and kept.
 fn array_at<'a>(
     alloc: Global,
     arena: &'a Bump,
@@ -59,7 +59,7 @@ fn array_at<'a>(
     Ok(values)
 }
 
-// A fault of a row's array stands at the row, one of a value at the value.
+/// A fault of a row's array stands at the row, one of a value at the value.
 pub(crate) fn at_row(place: u64, found: Fault) -> Fault
     ensures { result ≡ at_row place found }
 {
@@ -70,7 +70,7 @@ pub(crate) fn at_row(place: u64, found: Fault) -> Fault
     }
 }
 
-// The static values of row i.
+/// The static values of row i.
 fn row_statics<'a>(
     alloc: Global,
     arena: &'a Bump,
@@ -106,7 +106,7 @@ fn row_statics<'a>(
     }
 }
 
-// The head of row i.
+/// The head of row i.
 pub(crate) fn head_at<'a, 's>(
     sections: &Sections<'_>,
     heads: &[Head<'a, 's>],

@@ -26,8 +26,8 @@ use std::alloc::Global;
 use tables_numbers::Numbers;
 use value_renumber::renumber_array;
 
-// The byte at which the values stand that stood at an offset, to which they are appended unless equal ones stand
-// already; 0 where there are none.
+/// The byte at which the values stand that stood at an offset, to which they are appended unless equal ones stand
+/// already; 0 where there are none.
 fn add_array(
     alloc: Global,
     out: &mut Vec<u8>,
@@ -55,7 +55,7 @@ fn add_array(
     Ok(moved.put(out, off, bytes)?)
 }
 
-// Appends the values that stood at these offsets.
+/// Appends the values that stood at these offsets.
 fn place_arrays(
     alloc: Global,
     out: &mut Vec<u8>,

@@ -19,10 +19,10 @@ use dex_insn::IndexKind;
 use file_sections::{class_count, class_word, word};
 use tables_numbers::Numbers;
 
-// The index that stands for none.
+/// The index that stands for none.
 const NO_INDEX: u32 = 0xffffffff;
 
-// Where the items of a class stand, 0 for none.
+/// Where the items of a class stand, 0 for none.
 #[derive(Clone, Copy)]
 struct ClassPlaces {
     list: u32,
@@ -30,7 +30,7 @@ struct ClassPlaces {
     array: u32,
 }
 
-// The number of a type that may be none.
+/// The number of a type that may be none.
 fn type_or_none(numbers: &Numbers, index: u32) -> u32
     requires { (b : List ℕ) × (s : Five) × (name : Option Units) × TypeOrNone b numbers.now s index name }
     ensures { (b : List ℕ) (s : Five) (name : Option Units) → TypeOrNone b numbers.now s index name → IndexOrNone (TypeRanks s) result name }
@@ -41,7 +41,7 @@ fn type_or_none(numbers: &Numbers, index: u32) -> u32
     numbers.of(IndexKind::Type, index)
 }
 
-// The number of a string that may be none.
+/// The number of a string that may be none.
 fn string_or_none(numbers: &Numbers, index: u32) -> u32
     requires { (b : List ℕ) × (s : Five) × (name : Option Units) × StringOrNone b numbers.now s index name }
     ensures { (b : List ℕ) (s : Five) (name : Option Units) → StringOrNone b numbers.now s index name → IndexOrNone (StringRanks s) result name }
@@ -52,7 +52,7 @@ fn string_or_none(numbers: &Numbers, index: u32) -> u32
     numbers.of(IndexKind::String, index)
 }
 
-// Appends row i, whose items stand here.
+/// Appends row i, whose items stand here.
 fn put_class(
     rows: &mut Vec<u8>,
     numbers: &Numbers,

@@ -28,14 +28,14 @@ use file_sections::{MethodEntry, Placed, class_count, class_word, entries_at, wo
 use std::alloc::Global;
 use tables_numbers::Numbers;
 
-// Where the body of a method stands, 0 for none, and the number of the method's class.
+/// Where the body of a method stands, 0 for none, and the number of the method's class.
 #[derive(Clone, Copy)]
 struct Body {
     class: u32,
     code: u32,
 }
 
-// The bytes of a body; where a handler is too far the place of the refusal is the class.
+/// The bytes of a body; where a handler is too far the place of the refusal is the class.
 fn renumber_body(
     alloc: Global,
     numbers: &Numbers,
@@ -63,8 +63,8 @@ fn renumber_body(
     }
 }
 
-// The byte at which the body stands that stood at an offset, 4-aligned, to which it is appended unless an equal one
-// stands already; 0 where there is none.
+/// The byte at which the body stands that stood at an offset, 4-aligned, to which it is appended unless an equal one
+/// stands already; 0 where there is none.
 fn add_body(
     alloc: Global,
     out: &mut Vec<u8>,
@@ -93,7 +93,7 @@ fn add_body(
     Ok(moved.put_aligned(out, body.code, bytes)?)
 }
 
-// Appends the codes of these bodies.
+/// Appends the codes of these bodies.
 fn place_bodies(
     alloc: Global,
     out: &mut Vec<u8>,
@@ -123,7 +123,7 @@ fn place_bodies(
     })
 }
 
-// Appends the bodies of the methods of these entries, of the class with this number.
+/// Appends the bodies of the methods of these entries, of the class with this number.
 fn push_bodies(bodies: &mut Vec<Body>, class: u32, entries: &[MethodEntry]) -> Result<(), Fault>
     ensures ok { OnOk result (bodies.new.items ≡ bodies.old.items ++ map (body_of class) entries.now) }
     ensures memory { IsOkUnless result memory }
@@ -137,7 +137,7 @@ fn push_bodies(bodies: &mut Vec<Body>, class: u32, entries: &[MethodEntry]) -> R
     Ok(())
 }
 
-// Appends the bodies of the methods of row i, the direct ones, then the virtual ones.
+/// Appends the bodies of the methods of row i, the direct ones, then the virtual ones.
 fn push_class(
     alloc: Global,
     bodies: &mut Vec<Body>,
@@ -159,7 +159,7 @@ fn push_class(
     Ok(push_bodies(bodies, i, &all.virtuals)?)
 }
 
-// The bodies of all methods: by class, direct methods, then virtual ones.
+/// The bodies of all methods: by class, direct methods, then virtual ones.
 fn all_bodies(alloc: Global, sections: &Sections<'_>) -> Result<Vec<Body>, Fault>
     requires kept { (numbers : Columns) × (p : Program) × Keeps sections.now numbers p }
     ensures ok { IfOk result (λ bodies. (numbers : Columns) (p : Program) → Keeps sections.now numbers p → wide_all wide_body (body_values p) < 2 ^ 32

@@ -28,7 +28,7 @@ use file_sections::{
 use std::alloc::Global;
 use tables_numbers::Numbers;
 
-// Appends the entries of fields.
+/// Appends the entries of fields.
 fn put_fields(out: &mut Vec<u8>, numbers: &Numbers, entries: &[FieldEntry]) -> Result<(), Fault>
     requires few { length numbers.now.fields ≤ 2 ^ 32 }
     requires run { (s : Five) × (class : Descriptor) × (ms : List Member) × IsCarriedRun numbers.now.fields (FieldRanks (NameRanks s) class) (map field_entry entries.now) ms }
@@ -47,7 +47,7 @@ fn put_fields(out: &mut Vec<u8>, numbers: &Numbers, entries: &[FieldEntry]) -> R
     Ok(())
 }
 
-// Appends the entries of methods, whose bodies stand at these places.
+/// Appends the entries of methods, whose bodies stand at these places.
 fn put_methods(
     out: &mut Vec<u8>,
     numbers: &Numbers,
@@ -72,7 +72,7 @@ fn put_methods(
     Ok(())
 }
 
-// Appends how many members of each kind there are.
+/// Appends how many members of each kind there are.
 fn put_counts(out: &mut Vec<u8>, all: &Entries) -> Result<(), Fault>
     requires statics { length all.now.statics.items < 2 ^ 32 }
     requires instances { length all.now.instances.items < 2 ^ 32 }
@@ -87,7 +87,7 @@ fn put_counts(out: &mut Vec<u8>, all: &Entries) -> Result<(), Fault>
     put_uleb(out, all.virtuals.len() as u32)
 }
 
-// Appends the members of a class.
+/// Appends the members of a class.
 fn put_members(
     out: &mut Vec<u8>,
     numbers: &Numbers,
@@ -107,7 +107,7 @@ fn put_members(
     put_methods(out, numbers, &all.virtuals, virtuals)
 }
 
-// Appends the class data of these entries, and answers the byte at which it begins, or 0 where there are none.
+/// Appends the class data of these entries, and answers the byte at which it begins, or 0 where there are none.
 fn add_data(
     out: &mut Vec<u8>,
     numbers: &Numbers,
@@ -130,8 +130,8 @@ fn add_data(
     Ok(place)
 }
 
-// Appends the class data of row i, where the bodies of its methods stand at the first of these places, and answers with
-// its place the other ones.
+/// Appends the class data of row i, where the bodies of its methods stand at the first of these places, and answers with
+/// its place the other ones.
 fn put_class<'c>(
     alloc: Global,
     out: &mut Vec<u8>,

@@ -26,7 +26,7 @@ use std::alloc::Global;
 use tables_numbers::Numbers;
 use tables_rows::{indexes_or_none, proto_parameters};
 
-// Appends the numbers of the types with these indices, of two bytes each.
+/// Appends the numbers of the types with these indices, of two bytes each.
 fn put_numbers(out: &mut Vec<u8>, numbers: &Numbers, indexes: &[u8]) -> Result<(), Fault>
     requires even { length indexes.now ≡ 2 * length (halves indexes.now) }
     requires ranked { (s : Five) × (ts : List Units) × AreRanked numbers.now s (halves indexes.now) ts }
@@ -40,7 +40,7 @@ fn put_numbers(out: &mut Vec<u8>, numbers: &Numbers, indexes: &[u8]) -> Result<(
     Ok(())
 }
 
-// The bytes of the list at an offset, none where it is empty.
+/// The bytes of the list at an offset, none where it is empty.
 fn renumber_list(
     alloc: Global,
     numbers: &Numbers,
@@ -65,8 +65,8 @@ fn renumber_list(
     Ok(bytes)
 }
 
-// The byte at which the list stands that stood at an offset, 4-aligned, to which it is appended unless an equal one
-// stands already; for an empty list the answer is 0.
+/// The byte at which the list stands that stood at an offset, 4-aligned, to which it is appended unless an equal one
+/// stands already; for an empty list the answer is 0.
 fn add_list(
     alloc: Global,
     out: &mut Vec<u8>,
@@ -89,7 +89,7 @@ fn add_list(
     Ok(moved.put_aligned(out, off, bytes)?)
 }
 
-// Appends the lists that stood at these offsets.
+/// Appends the lists that stood at these offsets.
 fn place_lists(
     alloc: Global,
     out: &mut Vec<u8>,
@@ -116,7 +116,7 @@ fn place_lists(
     })
 }
 
-// Appends the offset of the parameters of a prototype, if it is kept.
+/// Appends the offset of the parameters of a prototype, if it is kept.
 fn push_parameters(
     offs: &mut Vec<u32>,
     numbers: &Numbers,
@@ -136,7 +136,7 @@ fn push_parameters(
     Ok(())
 }
 
-// The offset of the parameters of each kept prototype.
+/// The offset of the parameters of each kept prototype.
 fn parameter_offsets(
     alloc: Global,
     numbers: &Numbers,

@@ -27,8 +27,8 @@ impl Drop for Moved {
     }
 }
 
-// The byte at which the item of these bytes stands, to which it is appended unless an equal one stands already; 0 for
-// no byte.
+/// The byte at which the item of these bytes stands, to which it is appended unless an equal one stands already; 0 for
+/// no byte.
 fn item_place(items: &mut Items, out: &mut Vec<u8>, bytes: Vec<u8>) -> Result<u32, Fault>
     requires room { length out.old.items < 2 ^ 32 }
     ensures ok { IfOk result (UsesItem is_empty_list IsItself 1 items.old items.new out.old.items out.new.items bytes.items) }
@@ -40,8 +40,8 @@ fn item_place(items: &mut Items, out: &mut Vec<u8>, bytes: Vec<u8>) -> Result<u3
     Ok(items.put(out, bytes)?)
 }
 
-// The byte, which 4 divides, at which the item of these bytes stands, to which it is appended unless an equal one
-// stands already; 0 for no byte.
+/// The byte, which 4 divides, at which the item of these bytes stands, to which it is appended unless an equal one
+/// stands already; 0 for no byte.
 fn aligned_place(items: &mut Items, out: &mut Vec<u8>, bytes: Vec<u8>) -> Result<u32, Fault>
     requires room { 0 < length bytes.items → length out.old.items + 3 < 2 ^ 32 }
     ensures ok { IfOk result (UsesItem is_empty_list IsItself 4 items.old items.new out.old.items out.new.items bytes.items) }

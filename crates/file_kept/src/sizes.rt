@@ -20,7 +20,7 @@ use file_sections::{plus, times};
 use tables_numbers::Numbers;
 use tables_rows::{indexes_or_none, proto_parameters};
 
-// The text of row i, with a count of five bytes.
+/// The text of row i, with a count of five bytes.
 fn text_size(sections: &Sections<'_>, texts: Section, i: u32) -> u64
     requires texts { IsSectionOf sections.now 0x2002 texts }
     requires text { (t : Units) × StringStands sections.now i t }
@@ -34,7 +34,7 @@ fn text_size(sections: &Sections<'_>, texts: Section, i: u32) -> u64
     plus(5, units_of(units).len() as u64)
 }
 
-// How many bytes the strings of the kept rows up to row i take at most, where those before it take `sum`.
+/// How many bytes the strings of the kept rows up to row i take at most, where those before it take `sum`.
 fn add_string(sum: u64, sections: &Sections<'_>, numbers: &Numbers, texts: Section, i: u32) -> u64
     requires texts { IsSectionOf sections.now 0x2002 texts }
     requires kept { (p : Program) × Keeps sections.now numbers.now p }
@@ -49,7 +49,7 @@ fn add_string(sum: u64, sections: &Sections<'_>, numbers: &Numbers, texts: Secti
     plus(sum, plus(4, text_size(sections, texts, i)))
 }
 
-// How many bytes the kept strings take at most.
+/// How many bytes the kept strings take at most.
 fn strings_size(sections: &Sections<'_>, numbers: &Numbers) -> u64
     requires kept { (p : Program) × Keeps sections.now numbers.now p }
     ensures { (p : Program) → Keeps sections.now numbers.now p
@@ -83,7 +83,7 @@ pub fn list_size(sections: &Sections<'_>, off: u32) -> u64
     }
 }
 
-// How many bytes the prototypes of the kept rows up to row i take at most, where those before it take `sum`.
+/// How many bytes the prototypes of the kept rows up to row i take at most, where those before it take `sum`.
 fn add_proto(sum: u64, sections: &Sections<'_>, numbers: &Numbers, i: u32) -> u64
     requires kept { (p : Program) × Keeps sections.now numbers.now p }
     requires row { i < size_of sections.now section.proto_ids }
@@ -98,7 +98,7 @@ fn add_proto(sum: u64, sections: &Sections<'_>, numbers: &Numbers, i: u32) -> u6
     plus(sum, plus(12, list))
 }
 
-// How many bytes the kept prototypes take at most.
+/// How many bytes the kept prototypes take at most.
 fn protos_size(sections: &Sections<'_>, numbers: &Numbers) -> u64
     requires kept { (p : Program) × Keeps sections.now numbers.now p }
     ensures { (p : Program) → Keeps sections.now numbers.now p

@@ -21,7 +21,7 @@ use tables_rows::{
     MemberTable, member_class, member_kind, member_name, proto_return, proto_shorty, type_string,
 };
 
-// Appends the row of a type, if it is kept.
+/// Appends the row of a type, if it is kept.
 fn put_type(
     rows: &mut Vec<u8>,
     numbers: &Numbers,
@@ -44,7 +44,7 @@ fn put_type(
     )
 }
 
-// Appends the rows of all kept types.
+/// Appends the rows of all kept types.
 fn put_types(rows: &mut Vec<u8>, numbers: &Numbers, sections: &Sections<'_>) -> Result<(), Fault>
     requires kept { (p : Program) × Keeps sections.now numbers.now p }
     ensures ok { OnOk result ((p : Program) → Keeps sections.now numbers.now p → Appends (SpellsTable text_key (SpellsTypeRow (needed p))) rows.old.items rows.new.items (needed p).types) }
@@ -56,7 +56,7 @@ fn put_types(rows: &mut Vec<u8>, numbers: &Numbers, sections: &Sections<'_>) -> 
     Ok(())
 }
 
-// Appends the row of a prototype, if it is kept; `places` has the place of the parameters of each that is.
+/// Appends the row of a prototype, if it is kept; `places` has the place of the parameters of each that is.
 fn put_proto(
     rows: &mut Vec<u8>,
     numbers: &Numbers,
@@ -80,7 +80,7 @@ fn put_proto(
     push_words(rows, &[shorty, ret, place])
 }
 
-// Appends the rows of all kept prototypes.
+/// Appends the rows of all kept prototypes.
 fn put_protos(
     rows: &mut Vec<u8>,
     numbers: &Numbers,
@@ -97,7 +97,7 @@ fn put_protos(
     Ok(())
 }
 
-// Appends the row of a field or a method: its class, its type or prototype, its name.
+/// Appends the row of a field or a method: its class, its type or prototype, its name.
 fn put_member(rows: &mut Vec<u8>, class: u32, kind: u32, name: u32) -> Result<(), Fault>
     requires class { class < 2 ^ 16 }
     requires kind { kind < 2 ^ 16 }
@@ -110,7 +110,7 @@ fn put_member(rows: &mut Vec<u8>, class: u32, kind: u32, name: u32) -> Result<()
     Ok(())
 }
 
-// Appends the row of a field, if it is kept.
+/// Appends the row of a field, if it is kept.
 fn put_field(
     rows: &mut Vec<u8>,
     numbers: &Numbers,
@@ -134,7 +134,7 @@ fn put_field(
     put_member(rows, class, ty, name)
 }
 
-// Appends the rows of all kept fields.
+/// Appends the rows of all kept fields.
 fn put_fields(rows: &mut Vec<u8>, numbers: &Numbers, sections: &Sections<'_>) -> Result<(), Fault>
     requires kept { (p : Program) × Keeps sections.now numbers.now p }
     ensures ok { OnOk result ((p : Program) → Keeps sections.now numbers.now p → Appends (SpellsTable field_ref_key (SpellsFieldRow (needed p))) rows.old.items rows.new.items (needed p).fields) }
@@ -146,7 +146,7 @@ fn put_fields(rows: &mut Vec<u8>, numbers: &Numbers, sections: &Sections<'_>) ->
     Ok(())
 }
 
-// Appends the row of a method, if it is kept.
+/// Appends the row of a method, if it is kept.
 fn put_method(
     rows: &mut Vec<u8>,
     numbers: &Numbers,
@@ -170,7 +170,7 @@ fn put_method(
     put_member(rows, class, proto, name)
 }
 
-// Appends the rows of all kept methods.
+/// Appends the rows of all kept methods.
 fn put_methods(rows: &mut Vec<u8>, numbers: &Numbers, sections: &Sections<'_>) -> Result<(), Fault>
     requires kept { (p : Program) × Keeps sections.now numbers.now p }
     ensures ok { OnOk result ((p : Program) → Keeps sections.now numbers.now p → Appends (SpellsTable method_ref_key (SpellsMethodRow (needed p))) rows.old.items rows.new.items (needed p).methods) }

@@ -24,7 +24,7 @@ use memchr::memchr;
 use std::alloc::Global;
 use tables_numbers::Numbers;
 
-// The string_data_off of row i.
+/// The string_data_off of row i.
 #[tactic(auto, unfolding(tables_rows::specs::RowFields::string_place))]
 fn string_place(sections: &Sections<'_>, i: u32) -> u32
     requires { i < size_of sections.now section.string_ids }
@@ -62,7 +62,7 @@ pub(crate) fn units_of(bytes: &[u8]) -> &[u8]
     }
 }
 
-// Appends the text at the front of the bytes, with the shortest count.
+/// Appends the text at the front of the bytes, with the shortest count.
 fn put_text(out: &mut Vec<u8>, bytes: &[u8]) -> Result<(), Fault>
     requires { (t : Units) × (rest : List ℕ) × Takes SpellsText bytes.now t rest }
     ensures ok { OnOk result ((t : Units) (rest : List ℕ) → Takes SpellsText bytes.now t rest → Appends PacksText out.old.items out.new.items t) }
@@ -77,7 +77,7 @@ fn put_text(out: &mut Vec<u8>, bytes: &[u8]) -> Result<(), Fault>
     Ok(())
 }
 
-// Appends the text of row i, if the row is kept, and the byte at which it begins to the places.
+/// Appends the text of row i, if the row is kept, and the byte at which it begins to the places.
 fn add_text(
     out: &mut Vec<u8>,
     places: &mut Vec<u32>,

@@ -1,5 +1,5 @@
-// The end and the front of a file whose data stands: map, header, rows, signature and checksum.
-// Page: "Dalvik Executable format", "header_item".
+//! The end and the front of a file whose data stands: map, header, rows, signature and checksum.
+//! Page: "Dalvik Executable format", "header_item".
 ghost use Rattle.std.specs.Prelude.{◌≡◌, ℕ, ◌+◌, ◌*◌, ◌++◌, ◌≤◌, ◌<◌, ◌^◌, OnOk, OnErr, IsOkUnless, length, take, drop};
 ghost use Rattle.base_bytes.specs.Fault.{memory};
 ghost use Rattle.base_bytes.specs.Words.{words_bytes};
@@ -22,15 +22,15 @@ const HEADER_SIZE: u32 = 112;
 
 const ENDIAN_CONSTANT: u32 = 0x1234_5678;
 
-// The offset that the header has of a table: 0 where it has no row.
+/// The offset that the header has of a table: 0 where it has no row.
 fn table_offset(rows: u32, begin: u32) -> u32
     ensures { result ≡ table_offset rows begin }
 {
     if rows == 0 { 0 } else { begin }
 }
 
-// The header, in numbers of four bytes. Those of checksum and signature are 0, which `close` fills in; there is no link
-// section.
+/// The header, in numbers of four bytes. Those of checksum and signature are 0, which `close` fills in; there is no link
+/// section.
 fn header_words(r: Rows, map: u32, total: u32) -> [u32; 28]
     requires tables { tables_end r < 2 ^ 32 }
     requires total { tables_end r ≤ total }
@@ -73,7 +73,7 @@ fn header_words(r: Rows, map: u32, total: u32) -> [u32; 28]
     ]
 }
 
-// Writes numbers of four bytes in front. All other bytes stay.
+/// Writes numbers of four bytes in front. All other bytes stay.
 fn put_words(bytes: &mut [u8], words: &[u32])
     requires { 4 * length words.now ≤ length bytes.old }
     ensures { bytes.new ≡ words_bytes words.now ++ drop (4 * length words.now) bytes.old }
@@ -83,7 +83,7 @@ fn put_words(bytes: &mut [u8], words: &[u32])
     }
 }
 
-// Writes the rows of the tables after the header. All other bytes stay.
+/// Writes the rows of the tables after the header. All other bytes stay.
 fn put_rows(bytes: &mut [u8], rows: &[u8])
     requires { 112 + length rows.now ≤ length bytes.old }
     ensures { bytes.new ≡ take 112 bytes.old ++ (rows.now ++ drop (112 + length rows.now) bytes.old) }
@@ -91,7 +91,7 @@ fn put_rows(bytes: &mut [u8], rows: &[u8])
     bytes[112..112 + rows.len()].copy_from_slice(rows);
 }
 
-// Writes header and rows in front, and fills in signature and checksum.
+/// Writes header and rows in front, and fills in signature and checksum.
 fn put_front(bytes: &mut [u8], counts: Rows, map: u32, total: u32, rows: &[u8])
     requires tables { tables_end counts < 2 ^ 32 }
     requires front { tables_end counts ≤ length bytes.old }

@@ -1,5 +1,5 @@
-// The map, which stands at the end of the file.
-// Page: "Dalvik Executable format", "map_list" and "map_item".
+//! The map, which stands at the end of the file.
+//! Page: "Dalvik Executable format", "map_list" and "map_item".
 ghost use Rattle.std.specs.Prelude.{◌≡◌, ℕ, ◌++◌, ◌≤◌, ◌<◌, ◌^◌, OnOk, IfOk, IsOkUnless, length, map, slice_index};
 ghost use Rattle.std.specs.List.{filter};
 ghost use Rattle.base_bytes.specs.Fault.{memory};
@@ -64,7 +64,7 @@ pub fn entries_of(plan: &Plan, place: u32) -> [Entry; 13]
     ]
 }
 
-// How many entries have items.
+/// How many entries have items.
 fn entry_count(entries: &[Entry]) -> u32
     requires { length entries.now ≤ 100 }
     ensures { result ≡ length (filter has_some entries.now) }
@@ -78,7 +78,7 @@ fn entry_count(entries: &[Entry]) -> u32
     count
 }
 
-// Appends the words of an entry, if it has items.
+/// Appends the words of an entry, if it has items.
 fn push_entry(words: &mut Vec<u32>, entry: Entry) -> Result<(), Fault>
     ensures ok { OnOk result (words.new.items ≡ words.old.items ++ entry_words entry) }
     ensures memory { IsOkUnless result memory }
@@ -89,7 +89,7 @@ fn push_entry(words: &mut Vec<u32>, entry: Entry) -> Result<(), Fault>
     Ok(())
 }
 
-// The map of these entries in numbers of four bytes: how many there are, then each; those without items are left out.
+/// The map of these entries in numbers of four bytes: how many there are, then each; those without items are left out.
 fn list_words(alloc: Global, entries: &[Entry]) -> Result<Vec<u32>, Fault>
     requires { length entries.now ≤ 100 }
     ensures ok { IfOk result (λ words. words.items ≡ list_words entries.now) }

@@ -1,5 +1,5 @@
-// Zeros where alignment asks for them.
-// Page: "Dalvik Executable format", "alignment" of each item.
+//! Zeros where alignment asks for them.
+//! Page: "Dalvik Executable format", "alignment" of each item.
 ghost use Rattle.std.specs.Prelude.{◌≡◌, ◌++◌, OnOk, OnErr, IsOkUnless, length};
 ghost use Rattle.base_bytes.specs.Fault.{memory};
 ghost use Rattle.file_layout.specs.Tiles.{zeros, gap};

@@ -1,5 +1,5 @@
-// Which limit the bodies of a program break.
-// Page: "Dalvik Executable format", "code_item"; "Dalvik Executable instruction formats", the widths of fields.
+//! Which limit the bodies of a program break.
+//! Page: "Dalvik Executable format", "code_item"; "Dalvik Executable instruction formats", the widths of fields.
 ghost use Rattle.std.specs.Prelude.{◌≡◌, ℕ, ◌≤◌, ◌∷◌, [], Some, IfOk, IsOkUnless, length, map, option_map, slice_get};
 ghost use Rattle.std.specs.List.{AllByRecursion};
 ghost use Rattle.std.specs.Option.{option_to_list};
@@ -15,7 +15,7 @@ use program_types::{Class, Code, Method};
 use std::alloc::Global;
 use tables_names::Ranks;
 
-// The number of the lowest limit that a body breaks, if it breaks one.
+/// The number of the lowest limit that a body breaks, if it breaks one.
 fn code_number(alloc: Global, ranks: &Ranks<'_>, code: &Code<'_>) -> Result<Option<u16>, Fault>
     requires ready { BodyIsReady ranks.now (view.code code.now) }
     requires few { length ranks.now.types ≤ 65535 }
@@ -33,7 +33,7 @@ fn code_number(alloc: Global, ranks: &Ranks<'_>, code: &Code<'_>) -> Result<Opti
     }
 }
 
-// The number of the lowest limit that the body of a method breaks, if it has one that breaks any.
+/// The number of the lowest limit that the body of a method breaks, if it has one that breaks any.
 fn body_number(
     alloc: Global,
     ranks: &Ranks<'_>,
@@ -50,7 +50,7 @@ fn body_number(
     }
 }
 
-// The lower of two numbers, where there are any.
+/// The lower of two numbers, where there are any.
 fn lower_of(one: Option<u16>, other: Option<u16>) -> Option<u16>
     ensures { result ≡ lower one other }
 {
@@ -63,7 +63,7 @@ fn lower_of(one: Option<u16>, other: Option<u16>) -> Option<u16>
     }
 }
 
-// The number of the lowest limit that a body of methods breaks.
+/// The number of the lowest limit that a body of methods breaks.
 fn methods_number(
     alloc: Global,
     ranks: &Ranks<'_>,
@@ -82,7 +82,7 @@ fn methods_number(
     Ok(least)
 }
 
-// The number of the lowest limit that a body of a class breaks.
+/// The number of the lowest limit that a body of a class breaks.
 fn class_number(alloc: Global, ranks: &Ranks<'_>, class: &Class<'_>) -> Result<Option<u16>, Fault>
     requires ready { AllByRecursion (BodyIsReady ranks.now) (codes_of (view.class class.now)) }
     requires few { length ranks.now.types ≤ 65535 }
@@ -94,7 +94,7 @@ fn class_number(alloc: Global, ranks: &Ranks<'_>, class: &Class<'_>) -> Result<O
     Ok(lower_of(directs, virtuals))
 }
 
-// What is the lowest limit, where a body of this class, which stands after those before, breaks one of this number.
+/// What is the lowest limit, where a body of this class, which stands after those before, breaks one of this number.
 fn earlier_of(lowest: Option<Fault>, number: Option<u16>, class: usize) -> Option<Fault>
     ensures { result ≡ earlier lowest number class }
 {

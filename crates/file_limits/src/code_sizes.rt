@@ -1,5 +1,5 @@
-// How many bytes bodies take at most.
-// Page: "Dalvik Executable format", "code_item".
+//! How many bytes bodies take at most.
+//! Page: "Dalvik Executable format", "code_item".
 ghost use Rattle.std.specs.Prelude.{◌*◌, map, option_map};
 ghost use Rattle.code_fits.specs.Fits.{catches_in, wide_code};
 ghost use Rattle.file_layout.specs.Sections.{wide_all};
@@ -12,7 +12,7 @@ use crate::sums::{plus, times};
 use code_fits::units_of;
 use program_types::{Code, Insn, Method, Try};
 
-// How many bytes instructions take, two a unit.
+/// How many bytes instructions take, two a unit.
 fn insns_size(insns: &[Insn<'_>]) -> u64
     ensures { IsSum result (2 * length_of (map view.insn insns.now)) }
 {
@@ -24,7 +24,7 @@ fn insns_size(insns: &[Insn<'_>]) -> u64
     sum
 }
 
-// How many bytes the catches of tries take at most, two numbers each.
+/// How many bytes the catches of tries take at most, two numbers each.
 fn catches_size(tries: &[Try<'_>]) -> u64
     ensures { IsSum result (10 * catches_in (map view.try tries.now)) }
 {
@@ -35,7 +35,7 @@ fn catches_size(tries: &[Try<'_>]) -> u64
     sum
 }
 
-// How many bytes a body takes at most.
+/// How many bytes a body takes at most.
 fn code_size(code: &Code<'_>) -> u64
     ensures { IsSum result (wide_code (view.code code.now)) }
 {
@@ -44,7 +44,7 @@ fn code_size(code: &Code<'_>) -> u64
     plus(tries, catches_size(code.tries))
 }
 
-// How many bytes the body of a method takes at most: none if it has none.
+/// How many bytes the body of a method takes at most: none if it has none.
 fn body_size(body: Option<&Code<'_>>) -> u64
     ensures { IsSum result (wide_body (option_map (λ c. view.code c.now) body.entry)) }
 {

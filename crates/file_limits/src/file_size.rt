@@ -1,5 +1,5 @@
-// How many bytes a file takes at most.
-// Page: "Dalvik Executable format", "File layout".
+//! How many bytes a file takes at most.
+//! Page: "Dalvik Executable format", "File layout".
 ghost use Rattle.std.specs.Prelude.{◌<◌, ◌↔◌, map, IsTrue};
 ghost use Rattle.file_layout.specs.Sections.{wide_all};
 ghost use Rattle.program_types.specs.View as view;
@@ -13,7 +13,7 @@ use crate::value_sizes::values_size;
 use program_types::{Class, Program};
 use tables_names::Ranks;
 
-// How many bytes the members of a class take at most.
+/// How many bytes the members of a class take at most.
 fn data_size(class: &Class<'_>) -> u64
     ensures { IsSum result (wide_data (view.class class.now)) }
 {
@@ -28,7 +28,7 @@ fn data_size(class: &Class<'_>) -> u64
     plus(plus(20, fields), methods)
 }
 
-// How many bytes what a class adds to a file takes at most.
+/// How many bytes what a class adds to a file takes at most.
 fn class_size(class: &Class<'_>) -> u64
     ensures { IsSum result (wide_class (view.class class.now)) }
 {
@@ -40,7 +40,7 @@ fn class_size(class: &Class<'_>) -> u64
     )
 }
 
-// How many bytes what all classes add to a file takes at most.
+/// How many bytes what all classes add to a file takes at most.
 fn classes_size(classes: &[Class<'_>]) -> u64
     ensures { IsSum result (wide_all wide_class (map view.class classes.now)) }
 {
@@ -51,7 +51,7 @@ fn classes_size(classes: &[Class<'_>]) -> u64
     sum
 }
 
-// How many bytes the header and the names take at most.
+/// How many bytes the header and the names take at most.
 fn names_size(ranks: &Ranks<'_>) -> u64
     ensures { IsSum result (wide_names ranks.now) }
 {

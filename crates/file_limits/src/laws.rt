@@ -1,4 +1,4 @@
-// Laws of the limits, each the contract of a function that does nothing else.
+//! Laws of the limits, each the contract of a function that does nothing else.
 ghost use Rattle.std.specs.Prelude.{◌≡◌};
 ghost use Rattle.base_bytes.specs.declared.fault.Fault.{Fault};
 ghost use Rattle.program_types.specs.Content.{Program};
@@ -10,7 +10,7 @@ pub fn wide_is_by_parts()
     ensures { WideIsByParts }
 {}
 
-/// A program fits exactly if it breaks none of the limits 80 to 90.
+/// A program fits exactly if it breaks none of the limits of a file.
 pub fn limits_are_decided()
     ensures { LimitsAreDecided }
 {}

@@ -2,7 +2,7 @@
 //!
 //! ```
 //! let (ranks, _) = needed_names(alloc, seed, &arena, &program)?;
-//! check_limits(alloc, &ranks, &program)?; // 80 to 90 where a limit is broken
+//! check_limits(alloc, &ranks, &program)?; // refused where a limit is broken
 //! ```
 //!
 //! docs/MAP.md says where this crate stands among the others.

@@ -1,5 +1,5 @@
-// The limits of a file: faults 80 to 90.
-// Page: "Dalvik Executable format", "header_item": type_ids_size and proto_ids_size are at most 65535, file_size has four bytes.
+//! The limits of a file.
+//! Page: "Dalvik Executable format", "header_item": type_ids_size and proto_ids_size are at most 65535, file_size has four bytes.
 ghost use Rattle.std.specs.Prelude.{◌≡◌, ◌≢◌, ℕ, Some, IfErr, OnOk, slice_get};
 ghost use Rattle.std.specs.List.{AllByRecursion};
 ghost use Rattle.base_bytes.specs.Fault.{memory};
@@ -15,7 +15,7 @@ use program_types::Program;
 use std::alloc::Global;
 use tables_names::Ranks;
 
-// What is refused where the file is too big: the lower limit that a body breaks, if it is not how far its handlers are.
+/// What is refused where the file is too big: the lower limit that a body breaks, if it is not how far its handlers are.
 fn too_big_or(broken: Option<Fault>) -> Fault
     ensures { result ≡ or_too_big broken }
 {
@@ -25,9 +25,9 @@ fn too_big_or(broken: Option<Fault>) -> Fault
     }
 }
 
-/// Refuses a program that no file has room for: the lowest of 80 to 90 that stands, at its place. 80 TooManyTypes and 81 TooManyProtos
-/// stand at how many are needed, 82 to 89 at the number of the first class of which a body breaks the limit, 90 TooBig at 0. 255 is
-/// out of memory.
+/// Refuses a program that no file has room for: the fault of the lowest number that stands, at its place. 80 TooManyTypes and
+/// 81 TooManyProtos stand at how many are needed, 82 to 89 at the number of the first class of which a body breaks the limit, 90
+/// TooBig at 0. 255 is out of memory.
 ///
 /// The bodies have to be well formed, and `ranks` to hold what the program needs.
 pub fn check_limits(alloc: Global, ranks: &Ranks<'_>, program: &Program<'_>) -> Result<(), Fault>

@@ -1,4 +1,4 @@
-// Sums that stop at the greatest number of 64 bits, and so are exact as long as they are within the limit of a file.
+//! Sums that stop at the greatest number of 64 bits, and so are exact as long as they are within the limit of a file.
 ghost use Rattle.std.specs.Prelude.{ℕ, ◌+◌, ◌*◌};
 ghost use Rattle.file_limits.specs.Sum.{IsSum};
 

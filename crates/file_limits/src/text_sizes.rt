@@ -1,5 +1,5 @@
-// How many bytes strings, type lists and prototypes take at most.
-// Page: "Dalvik Executable format", "string_data_item", "type_list", "proto_id_item".
+//! How many bytes strings, type lists and prototypes take at most.
+//! Page: "Dalvik Executable format", "string_data_item", "type_list", "proto_id_item".
 ghost use Rattle.std.specs.Prelude.{◌≡◌, ◌∷◌, [], map};
 ghost use Rattle.dex_base.specs.Mutf8.{mutf8_length};
 ghost use Rattle.file_layout.specs.Sections.{wide_all};
@@ -11,7 +11,7 @@ ghost use Rattle.file_limits.specs.Wide.{wide_list, wide_proto, wide_string};
 use crate::sums::{plus, times};
 use program_types::{Desc, Proto, Str};
 
-// How many bytes a unit takes.
+/// How many bytes a unit takes.
 fn unit_length(unit: u16) -> u64
     ensures { result ≡ mutf8_length (unit ∷ []) }
 {
@@ -26,7 +26,7 @@ fn unit_length(unit: u16) -> u64
     }
 }
 
-// How many bytes a string takes at most.
+/// How many bytes a string takes at most.
 fn string_size(text: Str<'_>) -> u64
     ensures { IsSum result (wide_string (key_of_str text.entry)) }
 {

@@ -1,5 +1,5 @@
-// How many bytes static values take at most.
-// Page: "Dalvik Executable format", "encoded_array format", "encoded_value encoding".
+//! How many bytes static values take at most.
+//! Page: "Dalvik Executable format", "encoded_array format", "encoded_value encoding".
 ghost use Rattle.std.specs.Prelude.{map};
 ghost use Rattle.program_types.specs.Content as content;
 ghost use Rattle.program_types.specs.View as view;
@@ -9,7 +9,7 @@ ghost use Rattle.file_limits.specs.Sum.{IsSum};
 use crate::sums::plus;
 use program_types::Value;
 
-// How many bytes a value takes at most.
+/// How many bytes a value takes at most.
 #[cycle(values)]
 fn value_size(one: &Value<'_>) -> u64
     ensures { IsSum result (wide_value (view.value one.now)) }

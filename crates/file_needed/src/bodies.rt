@@ -1,5 +1,5 @@
-// The names that a body mentions.
-// Page: "Dalvik Executable format", "code_item" and "encoded_type_addr_pair"; "Dalvik bytecode" for what an index names.
+//! The names that a body mentions.
+//! Page: "Dalvik Executable format", "code_item" and "encoded_type_addr_pair"; "Dalvik bytecode" for what an index names.
 ghost use Rattle.std.specs.Prelude.{◌≡◌, ◌∷◌, [], map, option_map, OnOk, IsOkUnless};
 ghost use Rattle.std.specs.List.{AllByRecursion, flat_map};
 ghost use Rattle.base_bytes.specs.Fault.{memory};
@@ -13,7 +13,7 @@ use bumpalo::Bump;
 use program_types::{Catch, Code, Fault, Insn, Name, Try, name_of};
 use tables_names::{Needed, Noted};
 
-// Notes the name in an instruction, if it has one.
+/// Notes the name in an instruction, if it has one.
 fn note_insn<'a, 'p: 'a>(
     noted: &mut Noted<'a>,
     arena: &'a Bump,
@@ -29,7 +29,7 @@ fn note_insn<'a, 'p: 'a>(
     }
 }
 
-// Notes the names in instructions.
+/// Notes the names in instructions.
 fn note_insns<'a, 'p: 'a>(
     noted: &mut Noted<'a>,
     arena: &'a Bump,
@@ -61,7 +61,7 @@ pub fn note_body<'a, 'p: 'a>(
     }
 }
 
-// The types that are caught.
+/// The types that are caught.
 fn add_catches<'a, 'p: 'a>(needed: &mut Needed<'a>, catches: &[Catch<'p>]) -> Result<(), Fault>
     ensures added { OnOk result (needed.new ≡ with_names needed.old (map (λ c. OfDesc c.ty) (map view.catch catches.now))) }
     ensures memory { IsOkUnless result memory }
@@ -72,7 +72,7 @@ fn add_catches<'a, 'p: 'a>(needed: &mut Needed<'a>, catches: &[Catch<'p>]) -> Re
     Ok(())
 }
 
-// The types that tries catch.
+/// The types that tries catch.
 fn add_tries<'a, 'p: 'a>(needed: &mut Needed<'a>, tries: &[Try<'p>]) -> Result<(), Fault>
     ensures added { OnOk result (needed.new ≡ with_names needed.old (flat_map names_of_try (map view.try tries.now))) }
     ensures memory { IsOkUnless result memory }

@@ -1,5 +1,5 @@
-// The names that classes mention.
-// Page: "Dalvik Executable format", "class_def_item", "class_data_item".
+//! The names that classes mention.
+//! Page: "Dalvik Executable format", "class_def_item", "class_data_item".
 ghost use Rattle.std.specs.Prelude.{◌≡◌, ◌∷◌, ◌++◌, List, [], map, option_map, IfOk, OnOk, IsOkUnless};
 ghost use Rattle.std.specs.List.{AllByRecursion, flat_map};
 ghost use Rattle.base_bytes.specs.Fault.{memory};
@@ -21,7 +21,7 @@ use program_types::{Class, Desc, Fault, Method, Program, Str};
 use std::alloc::Global;
 use tables_names::{Needed, Noted, Ranks};
 
-// Adds the types, the interfaces of a class.
+/// Adds the types, the interfaces of a class.
 fn add_types<'a, 'p: 'a>(needed: &mut Needed<'a>, types: &[Desc<'p>]) -> Result<(), Fault>
     ensures added { OnOk result (needed.new ≡ with_names needed.old (map OfDesc (map view.desc types.now))) }
     ensures memory { IsOkUnless result memory }
@@ -32,7 +32,7 @@ fn add_types<'a, 'p: 'a>(needed: &mut Needed<'a>, types: &[Desc<'p>]) -> Result<
     Ok(())
 }
 
-// Adds the types that the bodies of methods catch.
+/// Adds the types that the bodies of methods catch.
 fn add_all_caught<'a, 'p: 'a>(needed: &mut Needed<'a>, methods: &[Method<'p>]) -> Result<(), Fault>
     ensures added { OnOk result (needed.new ≡ with_names needed.old (flat_map caught_in_body (map view.method methods.now))) }
     ensures memory { IsOkUnless result memory }
@@ -43,7 +43,7 @@ fn add_all_caught<'a, 'p: 'a>(needed: &mut Needed<'a>, methods: &[Method<'p>]) -
     Ok(())
 }
 
-// Adds the superclass of a class, if it has one.
+/// Adds the superclass of a class, if it has one.
 fn add_superclass<'a, 'p: 'a>(
     needed: &mut Needed<'a>,
     superclass: Option<Desc<'p>>,
@@ -57,7 +57,7 @@ fn add_superclass<'a, 'p: 'a>(
     }
 }
 
-// Adds the source file of a class, if it has one.
+/// Adds the source file of a class, if it has one.
 fn add_source<'a, 'p: 'a>(needed: &mut Needed<'a>, source: Option<Str<'p>>) -> Result<(), Fault>
     ensures added { OnOk result (needed.new ≡ with_names needed.old (if_any (λ t. OfText t ∷ []) (option_map view.str source.entry))) }
     ensures memory { IsOkUnless result memory }
@@ -68,7 +68,7 @@ fn add_source<'a, 'p: 'a>(needed: &mut Needed<'a>, source: Option<Str<'p>>) -> R
     }
 }
 
-// Adds the names that a class mentions, but its own members and what its instructions name.
+/// Adds the names that a class mentions, but its own members and what its instructions name.
 fn add_class<'a, 'p: 'a>(
     needed: &mut Needed<'a>,
     arena: &'a Bump,
@@ -86,7 +86,7 @@ fn add_class<'a, 'p: 'a>(
     add_all_caught(needed, class.virtuals)
 }
 
-// Adds the names that classes mention, but their own members and what instructions name.
+/// Adds the names that classes mention, but their own members and what instructions name.
 fn add_classes<'a, 'p: 'a>(
     needed: &mut Needed<'a>,
     arena: &'a Bump,
@@ -102,7 +102,7 @@ fn add_classes<'a, 'p: 'a>(
     Ok(())
 }
 
-// Notes what the instructions of methods name.
+/// Notes what the instructions of methods name.
 fn note_bodies<'a, 'p: 'a>(
     noted: &mut Noted<'a>,
     arena: &'a Bump,
@@ -118,7 +118,7 @@ fn note_bodies<'a, 'p: 'a>(
     Ok(())
 }
 
-// Notes what the instructions of a class name.
+/// Notes what the instructions of a class name.
 fn note_class<'a, 'p: 'a>(
     noted: &mut Noted<'a>,
     arena: &'a Bump,
@@ -132,7 +132,7 @@ fn note_class<'a, 'p: 'a>(
     note_bodies(noted, arena, class.virtuals)
 }
 
-// Notes what the instructions of classes name.
+/// Notes what the instructions of classes name.
 fn note_classes<'a, 'p: 'a>(
     noted: &mut Noted<'a>,
     arena: &'a Bump,
@@ -148,7 +148,7 @@ fn note_classes<'a, 'p: 'a>(
     Ok(())
 }
 
-// Adds the members that classes define, and notes them.
+/// Adds the members that classes define, and notes them.
 fn note_members<'a, 'p: 'a>(
     noted: &mut Noted<'a>,
     arena: &'a Bump,
@@ -184,7 +184,7 @@ pub fn needed_names<'a, 'p: 'a>(
     gathered(alloc, seed, arena, program)
 }
 
-// The names of each class, gathered and frozen: those that are noted last.
+/// The names of each class, gathered and frozen: those that are noted last.
 fn gathered<'a, 'p: 'a>(
     alloc: Global,
     seed: Seed,

@@ -1,5 +1,5 @@
-// The names that values mention.
-// Page: "Dalvik Executable format", "encoded_value encoding".
+//! The names that values mention.
+//! Page: "Dalvik Executable format", "encoded_value encoding".
 ghost use Rattle.std.specs.Prelude.{◌≡◌, map, OnOk, IsOkUnless};
 ghost use Rattle.std.specs.List.{AllByRecursion};
 ghost use Rattle.base_bytes.specs.Fault.{memory};
@@ -13,7 +13,7 @@ use bumpalo::Bump;
 use program_types::{Fault, Value};
 use tables_names::Needed;
 
-// The name in a value that is no array.
+/// The name in a value that is no array.
 #[tactic(auto, using(program_types::proofs::ValueViews::value_views))]
 fn add_leaf<'a, 'p: 'a>(
     needed: &mut Needed<'a>,
@@ -35,7 +35,7 @@ fn add_leaf<'a, 'p: 'a>(
     }
 }
 
-// The names in a value.
+/// The names in a value.
 #[cycle(values)]
 fn add_value<'a, 'p: 'a>(
     needed: &mut Needed<'a>,

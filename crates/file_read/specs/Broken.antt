@@ -32,7 +32,6 @@ CodeBroken b fault = (i : ℕ) × (i < size_of b section.class_defs) × BodiesBr
 abbrev pub RegisterBroken : List ℕ → Fault → Type 0
 RegisterBroken b fault = (i : ℕ) × (i < size_of b section.class_defs) × RowRegistersBreak b i fault
 
--- A fault of reading stands: in header, map and checksums (1 to 14), a table (20 to 35), a class row (40 to 47), static
--- values (48 to 51), code (60 to 72) or its registers (73).
+-- A fault of reading stands: in header, map and checksums, a table, a class row, static values, code or its registers.
 abbrev pub Broken : List ℕ → Fault → Type 0
 Broken b fault = FrameBreaks b fault.code fault.place ⊎ TableBroken b fault ⊎ ClassBroken b fault ⊎ ValueBroken b fault ⊎ CodeBroken b fault ⊎ RegisterBroken b fault

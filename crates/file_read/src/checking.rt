@@ -1,4 +1,4 @@
-// Whether the bytes of a file mean a program.
+//! Whether the bytes of a file mean a program.
 ghost use Rattle.std.specs.Prelude.{◌≡◌, ◌≢◌, IfErr, OnOk};
 ghost use Rattle.base_bytes.specs.Fault.{memory};
 ghost use Rattle.program_types.specs.Content.{Program};

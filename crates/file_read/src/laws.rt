@@ -1,4 +1,4 @@
-// Laws of reading, each the contract of a function that does nothing.
+//! Laws of reading, each the contract of a function that does nothing.
 ghost use Rattle.std.specs.Prelude.{◌≡◌, ℕ, List};
 ghost use Rattle.base_bytes.specs.declared.fault.Fault.{Fault};
 ghost use Rattle.file_classes.specs.ClassFaults.{IsClassFault, IsValueFault, IsCodeFault, IsRegisterFault};

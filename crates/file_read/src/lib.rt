@@ -1,7 +1,7 @@
 //! Whole files, read: `read` answers the program that a file means, `check` whether it means one.
 //!
 //! ```
-//! let program = read(alloc, &arena, &bytes)?; // 1 to 73, the first fault
+//! let program = read(alloc, &arena, &bytes)?; // refused by the first fault
 //! check(alloc, &bytes)?; // the same fault, and no program is held
 //! ```
 //!
@@ -9,12 +9,12 @@
 #![tactic(auto)]
 
 mod checking;
-mod deciding;
+mod deciding_laws;
 mod laws;
 mod reading;
 
 pub use checking::{check, check_framed};
-pub use deciding::{
+pub use deciding_laws::{
     classes_are_decided, framed_files_are_decided, meaning_is_decided, meanings_are_well_formed,
     meanings_have_rows, rows_are_decided,
 };

@@ -1,4 +1,4 @@
-// From the bytes of a file to its program.
+//! From the bytes of a file to its program.
 ghost use Rattle.std.specs.Prelude.{◌≡◌, ◌≢◌, IfOk, IfErr};
 ghost use Rattle.base_bytes.specs.Fault.{memory};
 ghost use Rattle.program_types.specs.View as view;
@@ -18,9 +18,8 @@ use tables_rows::Tables;
 /// The program that a file means (Dalvik Executable format, version 035): the only one, and well formed, so that `write` and `print`
 /// take it as it is. Its parts lie in the arena; nothing of `bytes` is kept.
 ///
-/// A refusal is the first fault, group by group: header, map and checksums (1 to 14), the five tables of names (20 to 35),
-/// class rows (40 to 47), static values (48 to 51), code (60 to 72), its registers (73); in each group at the first
-/// row that breaks a rule. Places are byte offsets. 255 is out of memory.
+/// A refusal is the first fault, group by group: header, map and checksums, the five tables of names, class rows, static
+/// values, code, its registers; in each group at the first row that breaks a rule. Places are byte offsets. 255 is out of memory.
 ///
 /// ```
 /// use bumpalo::Bump;

@@ -1,5 +1,5 @@
-// The rows of class_defs.
-// Page: "Dalvik Executable format", "class_def_item".
+//! The rows of class_defs.
+//! Page: "Dalvik Executable format", "class_def_item".
 ghost use Rattle.std.specs.Prelude.{◌≡◌, ℕ, ◌<◌, ◌≤◌, ◌^◌, Some, OnOk, IsOkUnless, length, map, option_map, slice_get};
 ghost use Rattle.std.specs.Option.{ForSome};
 ghost use Rattle.base_bytes.specs.Fault.{memory};
@@ -16,10 +16,10 @@ use dex_base::{Fault, push_words};
 use program_types::{Class, Desc, Str};
 use tables_names::Ranks;
 
-// The index that stands for none.
+/// The index that stands for none.
 const NO_INDEX: u32 = 0xffffffff;
 
-// Where the items of a class stand, 0 for none.
+/// Where the items of a class stand, 0 for none.
 #[derive(Clone, Copy)]
 pub struct ClassPlaces {
     pub list: u32,
@@ -27,7 +27,7 @@ pub struct ClassPlaces {
     pub array: u32,
 }
 
-// The index of a type that may be none.
+/// The index of a type that may be none.
 fn type_or_none(ranks: &Ranks<'_>, name: Option<Desc<'_>>) -> u32
     requires held { ForSome (option_map view.desc name) (λ t. HasPlace ranks.now.types (text_key t)) }
     requires few { length ranks.now.types ≤ 65535 }
@@ -39,7 +39,7 @@ fn type_or_none(ranks: &Ranks<'_>, name: Option<Desc<'_>>) -> u32
     }
 }
 
-// The index of a string that may be none.
+/// The index of a string that may be none.
 fn string_or_none(ranks: &Ranks<'_>, name: Option<Str<'_>>) -> u32
     requires held { ForSome (option_map view.str name) (λ t. HasPlace ranks.now.strings (text_key t)) }
     requires few { length ranks.now.strings < 4294967295 }
@@ -51,12 +51,12 @@ fn string_or_none(ranks: &Ranks<'_>, name: Option<Str<'_>>) -> u32
     }
 }
 
-// A number of four bytes is below 2^32.
+/// A number of four bytes is below 2^32.
 fn is_word(number: u32)
     ensures { number < 2 ^ 32 }
 {}
 
-// Appends the row of a class.
+/// Appends the row of a class.
 fn put_class(
     rows: &mut Vec<u8>,
     ranks: &Ranks<'_>,

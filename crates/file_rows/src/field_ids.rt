@@ -1,5 +1,5 @@
-// The rows of field_ids.
-// Page: "Dalvik Executable format", "field_id_item".
+//! The rows of field_ids.
+//! Page: "Dalvik Executable format", "field_id_item".
 ghost use Rattle.std.specs.Prelude.{◌≡◌, ◌<◌, ◌≤◌, ◌^◌, ◌++◌, OnOk, IsOkUnless, length};
 ghost use Rattle.base_bytes.specs.Fault.{memory};
 ghost use Rattle.base_bytes.specs.Fields.{u16_bytes, u32_bytes};
@@ -10,7 +10,7 @@ ghost use Rattle.file_rows.specs.Rows.{SpellsFieldRow, SpellsTable};
 use dex_base::Fault;
 use tables_names::{FieldParts, Ranks};
 
-// Appends the row of a field: class, type, name.
+/// Appends the row of a field: class, type, name.
 fn put_field(rows: &mut Vec<u8>, field: FieldParts) -> Result<(), Fault>
     requires class { field.class < 2 ^ 16 }
     requires ty { field.ty < 2 ^ 16 }

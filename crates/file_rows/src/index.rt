@@ -1,4 +1,4 @@
-// The indices of names that are held: never a refusal.
+//! The indices of names that are held: never a refusal.
 ghost use Rattle.std.specs.Prelude.{◌≤◌, ◌^◌, length};
 ghost use Rattle.tables_names.specs.Indices.{HasPlace};
 ghost use Rattle.tables_names.specs.Keys.{key_of_str, key_of_desc};

@@ -1,4 +1,4 @@
-// Laws of the definitions, each the contract of a function that does nothing else.
+//! Laws of the definitions, each the contract of a function that does nothing else.
 ghost use Rattle.file_rows.specs.AtIndex.{TypeRowsStand, ProtoRowsStand, FieldRowsStand, MethodRowsStand};
 ghost use Rattle.file_rows.specs.Once.{ClassRowsAreOne, NameRowsAreOne};
 

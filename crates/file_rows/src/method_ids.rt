@@ -1,5 +1,5 @@
-// The rows of method_ids.
-// Page: "Dalvik Executable format", "method_id_item".
+//! The rows of method_ids.
+//! Page: "Dalvik Executable format", "method_id_item".
 ghost use Rattle.std.specs.Prelude.{◌≡◌, ◌<◌, ◌≤◌, ◌^◌, ◌++◌, OnOk, IsOkUnless, length};
 ghost use Rattle.base_bytes.specs.Fault.{memory};
 ghost use Rattle.base_bytes.specs.Fields.{u16_bytes, u32_bytes};
@@ -10,7 +10,7 @@ ghost use Rattle.file_rows.specs.Rows.{SpellsMethodRow, SpellsTable};
 use dex_base::Fault;
 use tables_names::{MethodParts, Ranks};
 
-// Appends the row of a method: class, proto, name.
+/// Appends the row of a method: class, proto, name.
 fn put_method(rows: &mut Vec<u8>, method: MethodParts) -> Result<(), Fault>
     requires class { method.class < 2 ^ 16 }
     requires proto { method.proto < 2 ^ 16 }

@@ -1,5 +1,5 @@
-// The rows of proto_ids.
-// Page: "Dalvik Executable format", "proto_id_item".
+//! The rows of proto_ids.
+//! Page: "Dalvik Executable format", "proto_id_item".
 ghost use Rattle.std.specs.Prelude.{◌≡◌, ◌≤◌, ◌^◌, OnOk, IsOkUnless, length};
 ghost use Rattle.base_bytes.specs.Fault.{memory};
 ghost use Rattle.base_bytes.specs.Grammar.{Appends};
@@ -15,7 +15,7 @@ use dex_base::{Fault, push_words};
 use program_types::Proto;
 use tables_names::{ProtoParts, Ranks};
 
-// Appends the row of a proto: shorty, return type, the place of its parameters.
+/// Appends the row of a proto: shorty, return type, the place of its parameters.
 fn put_proto(
     rows: &mut Vec<u8>,
     ranks: &Ranks<'_>,

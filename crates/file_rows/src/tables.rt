@@ -1,5 +1,5 @@
-// The rows of the five tables of names.
-// Page: "Dalvik Executable format", "File layout".
+//! The rows of the five tables of names.
+//! Page: "Dalvik Executable format", "File layout".
 ghost use Rattle.std.specs.Prelude.{◌≡◌, ◌≤◌, ◌^◌, IfOk, IsOkUnless, length};
 ghost use Rattle.base_bytes.specs.Fault.{memory};
 ghost use Rattle.file_rows.specs.Rows.{SpellsRows};

@@ -1,5 +1,5 @@
-// The rows of type_ids.
-// Page: "Dalvik Executable format", "type_id_item".
+//! The rows of type_ids.
+//! Page: "Dalvik Executable format", "type_id_item".
 ghost use Rattle.std.specs.Prelude.{◌≤◌, ◌^◌, OnOk, IsOkUnless, length};
 ghost use Rattle.base_bytes.specs.Fault.{memory};
 ghost use Rattle.base_bytes.specs.Grammar.{Appends};

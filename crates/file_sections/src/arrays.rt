@@ -1,5 +1,5 @@
-// Static values.
-// Page: "Dalvik Executable format", "encoded_array_item".
+//! Static values.
+//! Page: "Dalvik Executable format", "encoded_array_item".
 ghost use Rattle.std.specs.Prelude.{◌≡◌, ◌+◌, ◌<◌, ◌^◌, IfOk, IsOkUnless, length, map};
 ghost use Rattle.base_bytes.specs.Fault.{memory};
 ghost use Rattle.base_bytes.specs.Leb128.{Shortest};
@@ -27,7 +27,7 @@ use program_types::{Program, Value};
 use std::alloc::Global;
 use tables_names::Ranks;
 
-// The byte at which static values stand, to which they are appended unless equal ones stand already; 0 where there are none.
+/// The byte at which static values stand, to which they are appended unless equal ones stand already; 0 where there are none.
 fn add_array(
     alloc: Global,
     out: &mut Vec<u8>,

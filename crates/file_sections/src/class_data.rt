@@ -1,5 +1,5 @@
-// Class data.
-// Page: "Dalvik Executable format", "class_data_item", "encoded_field", "encoded_method".
+//! Class data.
+//! Page: "Dalvik Executable format", "class_data_item", "encoded_field", "encoded_method".
 ghost use Rattle.std.specs.Prelude.{◌≡◌, ℕ, ◌+◌, ◌<◌, ◌≤◌, ◌^◌, Some, IfOk, OnOk, IsOkUnless, length, map, slice_get};
 ghost use Rattle.base_bytes.specs.Fault.{memory};
 ghost use Rattle.base_bytes.specs.Grammar.{Appends};
@@ -47,7 +47,7 @@ pub fn put_method(out: &mut Vec<u8>, step: u32, flags: u32, code: u32) -> Result
     put_uleb(out, code)
 }
 
-// Appends the entries of fields of a class, which have these indices, one by one.
+/// Appends the entries of fields of a class, which have these indices, one by one.
 fn put_fields(
     out: &mut Vec<u8>,
     ranks: &Ranks<'_>,
@@ -71,8 +71,8 @@ fn put_fields(
     Ok(())
 }
 
-// Appends the entries of methods of a class, which have these indices, one by one, and whose bodies stand at these
-// places.
+/// Appends the entries of methods of a class, which have these indices, one by one, and whose bodies stand at these
+/// places.
 fn put_methods(
     out: &mut Vec<u8>,
     ranks: &Ranks<'_>,
@@ -98,7 +98,7 @@ fn put_methods(
     Ok(())
 }
 
-// Appends how many members of each kind there are.
+/// Appends how many members of each kind there are.
 fn put_counts(out: &mut Vec<u8>, class: &Class<'_>) -> Result<(), Fault>
     requires room { wide_data (view.class class.now) < 2 ^ 32 }
     ensures ok { OnOk result (Appends (SpellsCounts (Shortest Spells)) out.old.items out.new.items (length class.now.statics.now, (length class.now.instances.now, (length class.now.directs.now, length class.now.virtuals.now)))) }
@@ -110,7 +110,7 @@ fn put_counts(out: &mut Vec<u8>, class: &Class<'_>) -> Result<(), Fault>
     put_uleb(out, class.virtuals.len() as u32)
 }
 
-// Appends the members of a class: its fields and its methods have these indices, static and direct ones first.
+/// Appends the members of a class: its fields and its methods have these indices, static and direct ones first.
 fn put_members(
     out: &mut Vec<u8>,
     ranks: &Ranks<'_>,
@@ -138,7 +138,7 @@ fn put_members(
     put_methods(out, ranks, virtuals, class.virtuals, virtual_codes)
 }
 
-// Appends the class data of a class, if it has members, and answers the byte at which it begins, or 0.
+/// Appends the class data of a class, if it has members, and answers the byte at which it begins, or 0.
 fn add_data(
     out: &mut Vec<u8>,
     ranks: &Ranks<'_>,

@@ -1,5 +1,5 @@
-// Bodies.
-// Page: "Dalvik Executable format", "code_item".
+//! Bodies.
+//! Page: "Dalvik Executable format", "code_item".
 ghost use Rattle.std.specs.Prelude.{◌≡◌, ℕ, ◌+◌, ◌<◌, ◌≤◌, ◌^◌, ◌++◌, List, Option, Some, IfOk, OnOk, IsOkUnless, length, map, option_map, slice_get};
 ghost use Rattle.std.specs.List.{AllByRecursion, flat_map};
 ghost use Rattle.base_bytes.specs.Fault.{memory};
@@ -25,7 +25,7 @@ use program_types::{Code, Method, Program};
 use std::alloc::Global;
 use tables_names::Ranks;
 
-// How many names the instructions of a body have, if there is one.
+/// How many names the instructions of a body have, if there is one.
 fn named_in(body: Option<&Code<'_>>) -> usize
     ensures { result ≡ length (if_any (λ c. flat_map names_of_insn c.insns) (option_map (λ c. view.code c.now) body.entry)) }
 {
@@ -35,8 +35,8 @@ fn named_in(body: Option<&Code<'_>>) -> usize
     }
 }
 
-// The byte at which a body stands, 4-aligned, to which it is appended unless an equal one stands already; 0 where there is none.
-// What its instructions name has these indices.
+/// The byte at which a body stands, 4-aligned, to which it is appended unless an equal one stands already; 0 where there is none.
+/// What its instructions name has these indices.
 fn add_body(
     alloc: Global,
     out: &mut Vec<u8>,
@@ -61,7 +61,7 @@ fn add_body(
     }
 }
 
-// The places of the bodies of methods, after others. What they name has the first of these indices; it answers those after them.
+/// The places of the bodies of methods, after others. What they name has the first of these indices; it answers those after them.
 fn put_bodies<'r>(
     alloc: Global,
     out: &mut Vec<u8>,

@@ -1,4 +1,4 @@
-// Laws of the definitions, each the contract of a function that does nothing else.
+//! Laws of the definitions, each the contract of a function that does nothing else.
 ghost use Rattle.file_sections.specs.Once.{ClassDataIsOne, TypeListIsOne};
 
 /// By ranks, where each name has one, types have one list, and a class whose bodies have places has one class data.

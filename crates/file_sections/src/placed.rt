@@ -1,5 +1,5 @@
-// Where the items of a part stand.
-// Page: "Dalvik Executable format", where an offset of 0 stands for no item.
+//! Where the items of a part stand.
+//! Page: "Dalvik Executable format", where an offset of 0 stands for no item.
 ghost use Rattle.std.specs.Prelude.{◌≡◌, ◌+◌, ◌<◌, ◌^◌, ◌∷◌, [], ◌++◌, OnOk, IsOkUnless};
 ghost use Rattle.base_bytes.specs.Fault.{memory};
 ghost use Rattle.file_sections.specs.Placing.{items_with};

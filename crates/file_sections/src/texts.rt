@@ -1,5 +1,5 @@
-// Texts.
-// Page: "Dalvik Executable format", "string_data_item".
+//! Texts.
+//! Page: "Dalvik Executable format", "string_data_item".
 ghost use Rattle.std.specs.Prelude.{◌+◌, ◌<◌, ◌≤◌, ◌^◌, IfOk, OnOk, IsOkUnless, length};
 ghost use Rattle.base_bytes.specs.Fault.{memory};
 ghost use Rattle.dex_base.specs.Mutf8.{PacksText};
@@ -14,7 +14,7 @@ use program_types::Str;
 use std::alloc::Global;
 use tables_names::Ranks;
 
-// Appends a text, and answers the byte at which it begins.
+/// Appends a text, and answers the byte at which it begins.
 fn add_string(out: &mut Vec<u8>, text: Str<'_>) -> Result<u32, Fault>
     requires room { length out.old.items + wide_text (view.str text) < 2 ^ 32 }
     ensures ok { IfOk result (Adds PacksText 1 out.old.items out.new.items (view.str text.entry)) }

@@ -1,5 +1,5 @@
-// Type lists.
-// Page: "Dalvik Executable format", "type_list".
+//! Type lists.
+//! Page: "Dalvik Executable format", "type_list".
 ghost use Rattle.std.specs.Prelude.{◌≡◌, ◌+◌, ◌<◌, ◌≤◌, ◌^◌, [], IfOk, OnOk, IsOkUnless, length, map, slice_index_or};
 ghost use Rattle.std.specs.List.{AllByRecursion};
 ghost use Rattle.base_bytes.specs.Fault.{memory};
@@ -22,7 +22,7 @@ use program_types::{Desc, Program};
 use std::alloc::Global;
 use tables_names::Ranks;
 
-// Appends the indices of types.
+/// Appends the indices of types.
 fn put_indices(out: &mut Vec<u8>, ranks: &Ranks<'_>, types: &[Desc<'_>]) -> Result<(), Fault>
     requires held { AllByRecursion (λ t. HasPlace ranks.now.types (text_key t)) (map view.desc types.now) }
     requires few { length ranks.now.types ≤ 65535 }
@@ -35,7 +35,7 @@ fn put_indices(out: &mut Vec<u8>, ranks: &Ranks<'_>, types: &[Desc<'_>]) -> Resu
     Ok(())
 }
 
-// Appends a type list.
+/// Appends a type list.
 fn put_list(out: &mut Vec<u8>, ranks: &Ranks<'_>, types: &[Desc<'_>]) -> Result<(), Fault>
     requires held { AllByRecursion (λ t. HasPlace ranks.now.types (text_key t)) (map view.desc types.now) }
     requires few { length ranks.now.types ≤ 65535 }
@@ -47,7 +47,7 @@ fn put_list(out: &mut Vec<u8>, ranks: &Ranks<'_>, types: &[Desc<'_>]) -> Result<
     put_indices(out, ranks, types)
 }
 
-// The type list of these types.
+/// The type list of these types.
 fn list_bytes(alloc: Global, ranks: &Ranks<'_>, types: &[Desc<'_>]) -> Result<Vec<u8>, Fault>
     requires held { AllByRecursion (λ t. HasPlace ranks.now.types (text_key t)) (map view.desc types.now) }
     requires few { length ranks.now.types ≤ 65535 }
@@ -60,8 +60,8 @@ fn list_bytes(alloc: Global, ranks: &Ranks<'_>, types: &[Desc<'_>]) -> Result<Ve
     Ok(bytes)
 }
 
-// The byte at which the type list of these types stands, 4-aligned, to which it is appended unless an equal one stands already; for no
-// type the answer is 0.
+/// The byte at which the type list of these types stands, 4-aligned, to which it is appended unless an equal one stands already; for no
+/// type the answer is 0.
 fn add_list(
     alloc: Global,
     out: &mut Vec<u8>,
@@ -82,8 +82,8 @@ fn add_list(
     Ok(items.put_aligned(out, bytes)?)
 }
 
-// The byte at which the type list of this number stands, to which it is appended unless an equal one stands already; 0
-// for no type. The lists are the parameters of each prototype, then the interfaces of each class.
+/// The byte at which the type list of this number stands, to which it is appended unless an equal one stands already; 0
+/// for no type. The lists are the parameters of each prototype, then the interfaces of each class.
 fn add_numbered(
     alloc: Global,
     out: &mut Vec<u8>,

@@ -12,7 +12,7 @@ pub struct Item {
     pub bytes: Vec<u8>,
 }
 
-// Eight bytes as one number.
+/// Eight bytes as one number.
 fn long_at(bytes: &[u8], at: usize) -> u64
     requires { at + 8 ≤ length bytes.now }
     ensures { result ≡ long_at bytes.now at }
@@ -20,7 +20,7 @@ fn long_at(bytes: &[u8], at: usize) -> u64
     LittleEndian::read_u64(&bytes[at..])
 }
 
-// Bytes, eight at a time.
+/// Bytes, eight at a time.
 fn hash_longs<H: Hasher>(bytes: &[u8], state: &mut H)
     ensures { state.new ≡ fold H.write state.old (longs bytes.now (length bytes.now / 8)) }
 {

@@ -1,5 +1,5 @@
-// The items of a part, each once, and where they stand.
-// Page: "Dalvik Executable format", "File layout".
+//! The items of a part, each once, and where they stand.
+//! Page: "Dalvik Executable format", "File layout".
 ghost use Rattle.std.specs.Prelude.{◌≡◌, ◌+◌, ◌<◌, ◌^◌, [], ◌++◌, IfOk, OnOk, IsOkUnless, length};
 ghost use Rattle.base_bytes.specs.Fault.{memory};
 ghost use Rattle.file_shared.specs.Once.{PutsOnce};
@@ -93,7 +93,7 @@ impl Items {
     }
 }
 
-// Appends an item, and tells where it stands.
+/// Appends an item, and tells where it stands.
 fn append(out: &mut Vec<u8>, bytes: &[u8]) -> Result<u32, Fault>
     requires room { length out.old.items < 2 ^ 32 }
     ensures place { IfOk result (λ place. place ≡ length out.old.items) }

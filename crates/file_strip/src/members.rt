@@ -1,5 +1,5 @@
-// What the members of a class mention.
-// Page: "Dalvik Executable format", "class_data_item".
+//! What the members of a class mention.
+//! Page: "Dalvik Executable format", "class_data_item".
 ghost use Rattle.std.specs.Prelude.{◌≡◌, List, Option, map, IfOk, OnOk, IsOkUnless};
 ghost use Rattle.std.specs.List.{flat_map};
 ghost use Rattle.base_bytes.specs.Fault.{memory};
@@ -22,7 +22,7 @@ use file_assemble::{FieldEntry, MethodEntry, plus};
 use file_kept::{Marks, mark_code};
 use std::alloc::Global;
 
-// Marks the fields of a list of entries.
+/// Marks the fields of a list of entries.
 pub(crate) fn mark_fields(
     marks: &mut Marks,
     sections: &Sections<'_>,
@@ -42,7 +42,7 @@ pub(crate) fn mark_fields(
     Ok(())
 }
 
-// Looks at the code at an offset, 0 for none, and answers how many bytes it takes at most. One that was looked at before is known.
+/// Looks at the code at an offset, 0 for none, and answers how many bytes it takes at most. One that was looked at before is known.
 fn look_at_code(
     alloc: Global,
     found: &mut Found,
@@ -66,7 +66,7 @@ fn look_at_code(
     Ok(wide)
 }
 
-// Marks the methods of a list of entries, looks at their codes, and answers how many bytes these take at most.
+/// Marks the methods of a list of entries, looks at their codes, and answers how many bytes these take at most.
 pub(crate) fn look_at_methods(
     alloc: Global,
     found: &mut Found,

@@ -1,5 +1,5 @@
-// From a file to the file of what it needs.
-// Page: "Dalvik Executable format", "File layout".
+//! From a file to the file of what it needs.
+//! Page: "Dalvik Executable format", "File layout".
 ghost use Rattle.std.specs.Prelude.{◌≡◌, ◌≢◌, ◌+◌, ◌<◌, ◌↔◌, ℕ, IfOk, IfErr, IsTrue, OnOk, IsOkUnless, length};
 ghost use Rattle.base_bytes.specs.Fault.{memory};
 ghost use Rattle.program_types.specs.Content.{Program};
@@ -29,7 +29,7 @@ use file_kept::{
 use file_layout::{Plan, Rows, finish};
 use std::alloc::Global;
 
-// Whether the file of the kept rows is too big, where its classes take so many bytes at most.
+/// Whether the file of the kept rows is too big, where its classes take so many bytes at most.
 fn is_too_big(sections: &Sections<'_>, numbers: &Numbers, classes: u64) -> bool
     requires kept { (p : Program) × Keeps sections.now numbers.now p }
     ensures { (p : Program) → Keeps sections.now numbers.now p → IsSum classes (wide_all wide_class p) → IsTrue result ↔ (4294967295 < wide p) }
@@ -38,7 +38,7 @@ fn is_too_big(sections: &Sections<'_>, numbers: &Numbers, classes: u64) -> bool
     plus(plus(names, classes), 163) > 4294967295
 }
 
-// How many rows each table has.
+/// How many rows each table has.
 fn counts_of(sections: &Sections<'_>, numbers: &Numbers) -> Rows
     requires kept { (p : Program) × Keeps sections.now numbers.now p }
     ensures { (p : Program) → Keeps sections.now numbers.now p → result ≡ rows_of (needed p) p }
@@ -53,7 +53,7 @@ fn counts_of(sections: &Sections<'_>, numbers: &Numbers) -> Rows
     }
 }
 
-// Appends the parts of the data. 89 where a handler is too far, at the first class that has one.
+/// Appends the parts of the data. 89 where a handler is too far, at the first class that has one.
 fn put_data(
     alloc: Global,
     out: &mut Vec<u8>,
@@ -97,7 +97,7 @@ fn put_data(
     })
 }
 
-// The rows of the six tables, of which proto_ids has so many.
+/// The rows of the six tables, of which proto_ids has so many.
 fn table_rows(
     alloc: Global,
     sections: &Sections<'_>,
@@ -128,7 +128,7 @@ fn table_rows(
     Ok(rows)
 }
 
-// The file of the kept rows, which has room for them. 89 where a handler is too far, at the first class that has one.
+/// The file of the kept rows, which has room for them. 89 where a handler is too far, at the first class that has one.
 fn assemble_kept(
     alloc: Global,
     sections: &Sections<'_>,

@@ -1,5 +1,5 @@
-// What the classes of a file mention, and how many bytes they take at most.
-// Page: "Dalvik Executable format", "class_def_item".
+//! What the classes of a file mention, and how many bytes they take at most.
+//! Page: "Dalvik Executable format", "class_def_item".
 ghost use Rattle.std.specs.Prelude.{◌≡◌, ◌∷◌, ◌<◌, ℕ, List, Option, [], IfOk, OnOk, IsOkUnless};
 ghost use Rattle.std.specs.List.{flat_map};
 ghost use Rattle.base_bytes.specs.Fault.{memory};
@@ -28,11 +28,11 @@ use file_kept::{Marks, list_size, mark_array};
 use indexmap::IndexMap;
 use std::alloc::Global;
 
-// The index that stands for none.
+/// The index that stands for none.
 const NO_INDEX: u32 = 0xffffffff;
 
-// What was found so far: the marks, and of each code and each array that was looked at how many bytes it takes at most; the section in
-// which codes stand.
+/// What was found so far: the marks, and of each code and each array that was looked at how many bytes it takes at most; the section in
+/// which codes stand.
 #[derive(Drop)]
 pub(crate) struct Found {
     pub marks: Marks,
@@ -48,7 +48,7 @@ pub struct Survey {
     pub wide: u64,
 }
 
-// Looks at the static values at an offset, 0 for none, and answers how many bytes they take at most.
+/// Looks at the static values at an offset, 0 for none, and answers how many bytes they take at most.
 fn look_at_values(found: &mut Found, sections: &Sections<'_>, off: u32) -> Result<u64, Fault>
     requires found { HasFound sections.now found.old }
     requires values { (most : ℕ) × (vs : List Value) × StaticsAt sections.now off most vs }
@@ -68,7 +68,7 @@ fn look_at_values(found: &mut Found, sections: &Sections<'_>, off: u32) -> Resul
     Ok(wide)
 }
 
-// Marks the superclass, if there is one.
+/// Marks the superclass, if there is one.
 fn mark_superclass(marks: &mut Marks, sections: &Sections<'_>, index: u32) -> Result<(), Fault>
     requires marks { HasMarks sections.now marks.old }
     requires row { (t : Option Units) × IndexOrNone (TypeStands sections.now) index t }
@@ -83,7 +83,7 @@ fn mark_superclass(marks: &mut Marks, sections: &Sections<'_>, index: u32) -> Re
     Ok(())
 }
 
-// Marks the source file, if there is one.
+/// Marks the source file, if there is one.
 fn mark_source(marks: &mut Marks, sections: &Sections<'_>, index: u32) -> Result<(), Fault>
     requires marks { HasMarks sections.now marks.old }
     requires row { (t : Option Units) × IndexOrNone (StringStands sections.now) index t }
@@ -98,7 +98,7 @@ fn mark_source(marks: &mut Marks, sections: &Sections<'_>, index: u32) -> Result
     Ok(())
 }
 
-// Looks at the members of a class and at its static values, and answers how many bytes its class data, they and the codes take at most.
+/// Looks at the members of a class and at its static values, and answers how many bytes its class data, they and the codes take at most.
 fn look_at_members(
     alloc: Global,
     found: &mut Found,
@@ -123,7 +123,7 @@ fn look_at_members(
     Ok(plus(plus(data, plus(5, array)), plus(directs, virtuals)))
 }
 
-// Marks what the row of a class names: its type, superclass, interfaces and source file.
+/// Marks what the row of a class names: its type, superclass, interfaces and source file.
 fn mark_head(marks: &mut Marks, sections: &Sections<'_>, i: u32) -> Result<(), Fault>
     requires marks { HasMarks sections.now marks.old }
     requires row { i < size_of sections.now section.class_defs }
@@ -142,7 +142,7 @@ fn mark_head(marks: &mut Marks, sections: &Sections<'_>, i: u32) -> Result<(), F
     Ok(())
 }
 
-// Looks at the class of row `i`, and answers how many bytes it takes at most.
+/// Looks at the class of row `i`, and answers how many bytes it takes at most.
 fn look_at_class(
     alloc: Global,
     found: &mut Found,

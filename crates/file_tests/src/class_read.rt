@@ -51,7 +51,7 @@ fn is_shown(alloc: Global, file: &[u8], want: &str) -> Result<bool, Fault> {
     Ok(text_of(alloc, file)?.as_str() == want)
 }
 
-// A name for the case, the file, and its classes as text.
+/// A name for the case, the file, and its classes as text.
 struct Shown(&'static str, Made, &'static str);
 
 impl Case for Shown {
@@ -76,7 +76,7 @@ fn names_of_a_class_are_read(rt: HostRuntime) -> Result<(), Fail> {
     all_hold(rt.alloc(), &CASES)
 }
 
-// A `return-void` alone, with one register.
+/// A `return-void` alone, with one register.
 fn is_return(code: &Code<'_>) -> bool {
     code.registers == 1
         && code.ins == 0

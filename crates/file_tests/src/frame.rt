@@ -79,9 +79,9 @@ fn types_and_prototypes_are_at_most_65535(rt: HostRuntime) -> Result<(), Fail> {
     all_hold(rt.alloc(), &CASES)
 }
 
-// The first two are NIST's examples for FIPS 180-4, whose other ones are shorter than any file. The others here,
-// computed by OpenSSL, are 9, 8, 1 and 0 bytes short of two blocks: with padding the first fills them, the others take
-// three.
+/// The first two are NIST's examples for FIPS 180-4, whose other ones are shorter than any file. The others here,
+/// computed by OpenSSL, are 9, 8, 1 and 0 bytes short of two blocks: with padding the first fills them, the others take
+/// three.
 #[rattlefmt::skip]
 #[test]
 fn signatures_are_the_digests_of_known_texts(rt: HostRuntime) -> Result<(), Fail> {

@@ -44,7 +44,7 @@ fn sizes_offsets_and_counts_that_lie_are_told(rt: HostRuntime) -> Result<(), Fai
     all_hold(rt.alloc(), &CASES)
 }
 
-// What is done to the file at each of some numbers.
+/// What is done to the file at each of some numbers.
 #[derive(Clone, Copy)]
 enum Done {
     // It is cut to so many bytes, so that the size at this place of the header runs past the end.
@@ -54,7 +54,7 @@ enum Done {
     Byte(u8),
 }
 
-// A name for the case, the numbers from which and below which it is done, and what.
+/// A name for the case, the numbers from which and below which it is done, and what.
 struct Each(&'static str, usize, usize, Done);
 
 impl Case for Each {
@@ -99,7 +99,7 @@ fn is_fault_of_it(file: &[u8], told: (u16, u64)) -> bool {
     }
 }
 
-// The offset of the code of the one method, as its class data spells it from 247 on.
+/// The offset of the code of the one method, as its class data spells it from 247 on.
 fn code_off_of(file: &[u8]) -> u64 {
     let (_, spelled) = file.split_at(file.len().min(247));
     match read_uleb(spelled) {

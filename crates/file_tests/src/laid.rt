@@ -9,7 +9,7 @@ use file_layout::{Part, Plan, Rows, finish, pad};
 use std::alloc::Global;
 use std::test::Fail;
 
-// The plan of the file without classes: no row and no item.
+/// The plan of the file without classes: no row and no item.
 fn plan_without_classes() -> Plan
     ensures planned { IsPlanned result }
     ensures tables { tables_end result.rows ≡ 112 }
@@ -37,14 +37,14 @@ fn plan_without_classes() -> Plan
     }
 }
 
-// The file without classes: header and map.
+/// The file without classes: header and map.
 fn laid_without_classes(alloc: Global) -> Result<Vec<u8>, Fault> {
     let mut file = Vec::from_slice(alloc, &[0; 112])?;
     finish(alloc, &mut file, &plan_without_classes(), &[])?;
     Ok(file)
 }
 
-// The data of the file of one class: a code item, four texts, class data.
+/// The data of the file of one class: a code item, four texts, class data.
 static DATA: [u8; 57] = [
     0x01, 0x00, 0x00, 0x00, 0x00, 0x00, 0x00, 0x00, 0x00, 0x00, 0x00, 0x00, 0x01, 0x00, 0x00, 0x00,
     0x0e, 0x00, 0x03, 0x4c, 0x41, 0x3b, 0x00, 0x12, 0x4c, 0x6a, 0x61, 0x76, 0x61, 0x2f, 0x6c, 0x61,
@@ -52,7 +52,7 @@ static DATA: [u8; 57] = [
     0x00, 0x00, 0x00, 0x01, 0x00, 0x00, 0x09, 0xc0, 0x01,
 ];
 
-// The rows of its tables: string_ids, type_ids, proto_ids, method_ids, class_defs.
+/// The rows of its tables: string_ids, type_ids, proto_ids, method_ids, class_defs.
 static ROWS: [u8; 80] = [
     0xd2, 0x00, 0x00, 0x00, 0xd7, 0x00, 0x00, 0x00, 0xeb, 0x00, 0x00, 0x00, 0xee, 0x00, 0x00, 0x00,
     0x00, 0x00, 0x00, 0x00, 0x01, 0x00, 0x00, 0x00, 0x02, 0x00, 0x00, 0x00, 0x02, 0x00, 0x00, 0x00,
@@ -61,7 +61,7 @@ static ROWS: [u8; 80] = [
     0xff, 0xff, 0xff, 0xff, 0x00, 0x00, 0x00, 0x00, 0xf1, 0x00, 0x00, 0x00, 0x00, 0x00, 0x00, 0x00,
 ];
 
-// The plan of the file of one class: where its code item, its texts and its class data stand.
+/// The plan of the file of one class: where its code item, its texts and its class data stand.
 fn plan_of_one_class() -> Plan
     ensures planned { IsPlanned result }
     ensures tables { tables_end result.rows ≡ 192 }
@@ -104,7 +104,7 @@ fn plan_of_one_class() -> Plan
     }
 }
 
-// The file of one class, from its data and its rows.
+/// The file of one class, from its data and its rows.
 fn laid_one_class(alloc: Global, data: &[u8; 57], rows: &[u8; 80]) -> Result<Vec<u8>, Fault> {
     let mut file = Vec::from_slice(alloc, &[0; 192])?;
     file.extend_from_slice(data)?;
@@ -112,14 +112,14 @@ fn laid_one_class(alloc: Global, data: &[u8; 57], rows: &[u8; 80]) -> Result<Vec
     Ok(file)
 }
 
-// So many ones, padded.
+/// So many ones, padded.
 fn padded(alloc: Global, length: usize) -> Result<Vec<u8>, Fault> {
     let mut bytes = vec![in alloc; 1u8; length]?;
     pad(&mut bytes)?;
     Ok(bytes)
 }
 
-// What is laid.
+/// What is laid.
 #[derive(Clone, Copy)]
 enum Made {
     WithoutClasses,
@@ -136,7 +136,7 @@ fn bytes_of(alloc: Global, made: Made) -> Result<Vec<u8>, Fault> {
     }
 }
 
-// The bytes that are wanted.
+/// The bytes that are wanted.
 #[derive(Clone, Copy)]
 enum Want {
     WithoutClasses,
@@ -152,7 +152,7 @@ fn is_wanted(bytes: &[u8], want: Want) -> bool {
     }
 }
 
-// A name for the case, what is laid, and its bytes.
+/// A name for the case, what is laid, and its bytes.
 struct Laid(&'static str, Made, Want);
 
 impl Case for Laid {

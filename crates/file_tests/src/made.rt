@@ -201,7 +201,7 @@ fn missign(file: &mut [u8]) -> bool {
     put_bytes(file, 8, &sum.to_le_bytes())
 }
 
-// The header's first part, how many bytes there are, and a table at 112 of so many rows.
+/// The header's first part, how many bytes there are, and a table at 112 of so many rows.
 fn put_table(file: &mut [u8], at: usize, rows: u32, count: usize) -> bool {
     put_bytes(file, 0, &WITHOUT_CLASSES[..52])
         && put_bytes(file, 32, &length(count).to_le_bytes())
@@ -222,7 +222,7 @@ fn of_code(alloc: Global, tries: u8, units: &[u8], after: &[u8]) -> Result<Vec<u
     file_of_item(alloc, &item)
 }
 
-// So many arrays of one value each, one in the other, and then this.
+/// So many arrays of one value each, one in the other, and then this.
 fn put_nested(arrays: &mut Vec<u8>, depth: u32, inner: &[u8]) -> Result<(), Fault> {
     for _ in 0..depth {
         arrays.extend_from_slice(&[0x01, 0x1c])?;
@@ -241,7 +241,7 @@ fn of_arrays(alloc: Global, arrays: &[u8], rows: &Rows<'_>) -> Result<Vec<u8>, F
     file_of(alloc, &Rows { arrays, ..*rows })
 }
 
-// Each in two bytes.
+/// Each in two bytes.
 fn put_ints(arrays: &mut Vec<u8>, count: u16) -> Result<(), Fault> {
     put_uleb(arrays, u32::from(count))?;
     for number in 0..count {
@@ -257,7 +257,7 @@ fn of_ints(alloc: Global, count: u16) -> Result<Vec<u8>, Fault> {
     of_arrays(alloc, &arrays, &NOTHING)
 }
 
-// Each of four bytes.
+/// Each of four bytes.
 fn put_texts(texts: &mut Vec<u8>, count: u16) -> Result<(), Fault> {
     for number in 0..count {
         put_mutf8(texts, &[0x100u16.saturating_add(number)])?;

@@ -6,7 +6,7 @@ use dex_samples::{Case, ONE_CLASS, all_hold};
 use std::alloc::Global;
 use std::test::Fail;
 
-// What of the file of one class is asked.
+/// What of the file of one class is asked.
 enum Part {
     // how many rows the table of a kind has, and where it begins
     Table(u16, (u32, u32)),
@@ -15,7 +15,7 @@ enum Part {
     Whole,
 }
 
-// A name for the case, and the part.
+/// A name for the case, and the part.
 struct Found(&'static str, Part);
 
 impl Case for Found {

@@ -14,7 +14,7 @@ use std::alloc::Global;
 use std::test::Fail;
 use tables_rows::Tables;
 
-// The file of one class as it is.
+/// The file of one class as it is.
 const OF_ONE: Made = One(0, &[]);
 
 #[derive(Clone, Copy)]
@@ -26,7 +26,7 @@ enum Table {
     Methods,
 }
 
-// What is looked up in a file's tables.
+/// What is looked up in a file's tables.
 #[derive(Clone, Copy)]
 enum Sought {
     // each row, up to the first index that has none, and a space after it
@@ -36,7 +36,7 @@ enum Sought {
     List(u32),
 }
 
-// A name for the case, the file, what is looked up, and it as text: `none` where nothing is found.
+/// A name for the case, the file, what is looked up, and it as text: `none` where nothing is found.
 struct Shown(&'static str, Made, Sought, &'static str);
 
 impl Case for Shown {
@@ -98,7 +98,7 @@ fn put_rows(text: &mut String, tables: &Tables<'_>, table: Table) -> Result<(), 
     Ok(())
 }
 
-// Adds the row, if there is one, and tells whether there is.
+/// Adds the row, if there is one, and tells whether there is.
 fn put_row(
     text: &mut String,
     tables: &Tables<'_>,

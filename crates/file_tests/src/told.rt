@@ -101,7 +101,7 @@ pub fn fault_of(alloc: Global, file: &[u8]) -> (u16, u64) {
     alike(fault_of_read(alloc, file), placed(check(alloc, file).err()))
 }
 
-// Whether a program without classes is read, if any is.
+/// Whether a program without classes is read, if any is.
 fn has_no_classes(alloc: Global, file: &[u8]) -> bool {
     let arena = Bump::new(alloc);
     match read(alloc, &arena, file) {

@@ -8,7 +8,7 @@ use dex_base::fault;
 use dex_samples::all_hold;
 use std::test::Fail;
 
-// Where the arrays begin.
+/// Where the arrays begin.
 const PLACE: u64 = 0x98;
 
 #[rattlefmt::skip]

@@ -44,7 +44,7 @@ fn is_ranked(ranks: &Ranks<'_>, one: &Value<'_>) -> bool
     }
 }
 
-// The names that have ranks.
+/// The names that have ranks.
 #[derive(Clone, Copy)]
 enum Added {
     Nothing,
@@ -54,7 +54,7 @@ enum Added {
     Units(u16),
 }
 
-// The values that are written.
+/// The values that are written.
 #[derive(Clone, Copy)]
 enum Values {
     Given(&'static [Value<'static>]),
@@ -62,7 +62,7 @@ enum Values {
     Same(Value<'static>, u32),
 }
 
-// What is written.
+/// What is written.
 #[derive(Clone, Copy)]
 enum Want {
     // the array of the values
@@ -73,7 +73,7 @@ enum Want {
     Thousand([u8; 3]),
 }
 
-// A name for the case, the names that have ranks, the values, and what is written of them.
+/// A name for the case, the names that have ranks, the values, and what is written of them.
 struct Put(&'static str, Added, Values, Want);
 
 impl Case for Put {
@@ -147,7 +147,7 @@ fn are_ranked(ranks: &Ranks<'_>, all: &[Value<'_>]) -> bool
     }
 }
 
-// Appends the array of these values.
+/// Appends the array of these values.
 fn put_flat(out: &mut Vec<u8>, ranks: &Ranks<'_>, all: &[Value<'_>]) -> Result<(), Fault>
     requires named { AllNamesHold (IsRanked ranks.now) (content.values (map value all.now)) }
     requires small { length all.now ≤ 1000 }
@@ -156,7 +156,7 @@ fn put_flat(out: &mut Vec<u8>, ranks: &Ranks<'_>, all: &[Value<'_>]) -> Result<(
     put_array(out, ranks, all)
 }
 
-// Appends the array of one array of these values.
+/// Appends the array of one array of these values.
 fn put_inner(out: &mut Vec<u8>, ranks: &Ranks<'_>, inner: &[Value<'_>]) -> Result<(), Fault>
     requires named { AllNamesHold (IsRanked ranks.now) (content.values (map value inner.now)) }
     requires small { length inner.now ≤ 1000 }
@@ -165,7 +165,7 @@ fn put_inner(out: &mut Vec<u8>, ranks: &Ranks<'_>, inner: &[Value<'_>]) -> Resul
     put_array(out, ranks, &[Value::Array(inner)])
 }
 
-// Appends the array of these values, none of them an array, and then the array of that array, if both are wanted.
+/// Appends the array of these values, none of them an array, and then the array of that array, if both are wanted.
 fn put_all(
     out: &mut Vec<u8>,
     ranks: &Ranks<'_>,
@@ -181,7 +181,7 @@ fn put_all(
     Ok(())
 }
 
-// They are written after a byte ff.
+/// They are written after a byte ff.
 fn is_written_so(
     alloc: Global,
     ranks: &Ranks<'_>,
@@ -201,7 +201,7 @@ fn is_wanted(out: &[u8], want: Want) -> bool {
     }
 }
 
-// Two arrays of a thousand, the second one in an array.
+/// Two arrays of a thousand, the second one in an array.
 fn are_thousand(put: &[u8], one: [u8; 3]) -> bool {
     put.len() == 6006
         && &put[..2] == [0xe8, 0x07].as_slice()
@@ -310,7 +310,7 @@ fn a_name_is_written_by_its_kind_and_its_rank(rt: HostRuntime) -> Result<(), Fai
     all_hold(rt.alloc(), &CASES)
 }
 
-// Whether a type's number and a number are put one behind the other, each as a value.
+/// Whether a type's number and a number are put one behind the other, each as a value.
 fn are_values_put(alloc: Global) -> Result<bool, Fault> {
     let mut out = Vec::new(alloc);
     put_unsigned(&mut out, 0x18, 300, 4)?;

@@ -12,7 +12,7 @@ use program_types::{Str, Value, is_within_depth};
 use std::alloc::Global;
 use std::test::Fail;
 
-// What an array has.
+/// What an array has.
 enum Want {
     Nothing,
     // this value alone
@@ -35,7 +35,7 @@ impl Want {
     }
 }
 
-// A name for the case, the file, where in it the array stands, and what it has.
+/// A name for the case, the file, where in it the array stands, and what it has.
 struct Read(&'static str, Made, u32, Want);
 
 impl Case for Read {
@@ -49,7 +49,7 @@ impl Case for Read {
     }
 }
 
-// It is also looked at alone.
+/// It is also looked at alone.
 fn is_read_so(alloc: Global, file: &[u8], case: &Read) -> Result<bool, Fault> {
     let most = case.3.count();
     let counted = check_in(alloc, file, case.2, most)?;

@@ -1,5 +1,5 @@
-// Laws of what is assembled, each the contract of a function that does nothing.
-// Page: "Dalvik Executable format", "File layout".
+//! Laws of what is assembled, each the contract of a function that does nothing.
+//! Page: "Dalvik Executable format", "File layout".
 ghost use Rattle.std.specs.Prelude.{◌≡◌, ℕ, ◌<◌, ◌↔◌, List};
 ghost use Rattle.file_strip.specs.Assembled.{Assembled};
 ghost use Rattle.file_read.specs.ClassRows.{InOrder};

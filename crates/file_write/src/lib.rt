@@ -1,7 +1,7 @@
 //! Whole files, written: `write` answers the file of a program, and `strip` the file of what a file means.
 //!
 //! ```
-//! let file = write(alloc, &program)?; // 80 to 90 where a limit is broken
+//! let file = write(alloc, &program)?; // refused where a limit is broken
 //! let small = strip(alloc, &bytes)?;
 //! ```
 //!

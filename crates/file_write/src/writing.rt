@@ -1,5 +1,5 @@
-// From a program to its file, and from a file to one without slack.
-// Page: "Dalvik Executable format", "File layout".
+//! From a program to its file, and from a file to one without slack.
+//! Page: "Dalvik Executable format", "File layout".
 ghost use Rattle.std.specs.Prelude.{◌≡◌, ◌≢◌, ◌≤◌, ℕ, List, IfOk, IfErr, IsOkUnless, OnOk};
 ghost use Rattle.base_bytes.specs.Fault.{memory};
 ghost use Rattle.base_bytes.specs.Fields.{AreBytes};
@@ -20,9 +20,9 @@ use std::alloc::Global;
 /// The file of a well-formed program (Dalvik Executable format, version 035). It means the program, has no slack, and its tables hold
 /// exactly the names that the program needs.
 ///
-/// Refused are programs that break a limit of the format, by the lowest of 80 to 90 that stands, at its place: for 80 and 81 how many
-/// are needed, for 82 to 89 the class's number, for 90 it is 0. What is refused with 80 to 88 is meant by no file at all. 255 is out of
-/// memory.
+/// Refused are programs that break a limit of the format, by the fault of the lowest number that stands, at its place: for 80 and 81
+/// how many are needed, for 82 to 89 the class's number, for 90 it is 0. What is refused with 80 to 88 is meant by no file at all. 255
+/// is out of memory.
 ///
 /// ```
 /// use bumpalo::Bump;
@@ -70,7 +70,7 @@ pub fn write_seeded(alloc: Global, seed: Seed, program: &Program<'_>) -> Result<
 /// The file of what a file means: without names that nothing needs, debugging information, annotations and slack.
 ///
 /// It goes by the rows of the file that came in: no name is read, and no program held. Its five tables of names are no longer than
-/// those of that file. Refused are bytes that `read` refuses (1 to 73), and programs whose handlers are too far in the order of first
+/// those of that file. Refused are bytes that `read` refuses, and programs whose handlers are too far in the order of first
 /// use (89) or that are too big (90), as `write` refuses them.
 ///
 /// ```

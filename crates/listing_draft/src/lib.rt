@@ -1,9 +1,9 @@
 //! A listing that is being read: what is whole so far, what is open, and which line may follow.
 //!
 //! ```text
-//! let mut draft = Draft::new(alloc, seed, bump);
+//! let mut draft = Draft::new(alloc, seed, arena);
 //! draft.stands(found)            // whether a line of this shape may stand here
-//! draft.add(bump, next)?         // false where the line gives again what may be given once
+//! draft.add(arena, next)?         // false where the line gives again what may be given once
 //! draft.add_insn(insn)?          // the same for the line of an instruction, which isn't made
 //! ```
 //!

@@ -7,15 +7,15 @@
 //! docs/MAP.md says where this crate stands among the others.
 #![tactic(auto)]
 
-mod class_law;
-mod code_law;
-mod listing_law;
-mod text_law;
+mod class_laws;
+mod code_laws;
+mod text_laws;
+mod whole_laws;
 
-pub use class_law::{a_class_is_its_lines, classes_are_their_lines};
-pub use code_law::a_code_is_its_lines;
-pub use listing_law::a_listing_is_its_lines;
-pub use text_law::lines_are_read_as_they_say;
+pub use class_laws::{a_class_is_its_lines, classes_are_their_lines};
+pub use code_laws::a_code_is_its_lines;
+pub use text_laws::lines_are_read_as_they_say;
+pub use whole_laws::a_listing_is_its_lines;
 
 // What stands below, for the crates above.
 pub use listing_parse::parse_seeded;

@@ -196,7 +196,7 @@ fn read_byte<'a>(mark: Mark, most: u8, one: Word<'_, '_>) -> Option<Datum<'a>>
 /// What a word says in a slot of the second form. Most slots are of labels, keywords and short numbers: these come first.
 fn read_here<'a, 'b>(
     spelled: &mut Spelled<'a, 'b>,
-    bump: &'a Bump,
+    arena: &'a Bump,
     labels: &Labels<'_>,
     near: usize,
     slot: Slot,
@@ -213,7 +213,7 @@ fn read_here<'a, 'b>(
     match slot {
         Slot::Key(key) => Ok(Some(Datum::Key(key))),
         Slot::Byte(mark, most) => Ok(read_byte(mark, most, one)),
-        _ => read_datum(spelled, bump, slot, one),
+        _ => read_datum(spelled, arena, slot, one),
     }
 }
 
@@ -231,7 +231,7 @@ fn fault_here(slot: Slot) -> u16
 /// at the index `near` is found without hashing its name.
 pub fn read_all<'a, 'b>(
     spelled: &mut Spelled<'a, 'b>,
-    bump: &'a Bump,
+    arena: &'a Bump,
     labels: &Labels<'_>,
     near: usize,
     slots: &[Slot],
@@ -247,7 +247,7 @@ pub fn read_all<'a, 'b>(
     says.clear();
     says.reserve(slots.len())?;
     for i in 0..slots.len() {
-        let Some(said) = read_here(spelled, bump, labels, near, slots[i], words[i])? else {
+        let Some(said) = read_here(spelled, arena, labels, near, slots[i], words[i])? else {
             return Ok(Some(fault_here(slots[i])));
         };
         says.push_reserved(said);

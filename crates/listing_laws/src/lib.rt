@@ -7,12 +7,12 @@
 //! docs/MAP.md says where this crate stands among the others.
 #![tactic(auto)]
 
-mod law;
-mod twice;
+mod laws;
+mod twice_laws;
 mod values;
 
-pub use law::what_is_printed_is_read_again;
-pub use twice::only_what_is_given_twice_is_refused;
+pub use laws::what_is_printed_is_read_again;
+pub use twice_laws::only_what_is_given_twice_is_refused;
 pub use values::values_are_spelled;
 
 // What stands below, for the crates above.

@@ -2,7 +2,7 @@
 //! targets ask for.
 //!
 //! ```text
-//! make_line(bump, Kind::Try, &[Datum::Word(0), Datum::Word(5)])?   // Line::Try(0, 5)
+//! make_line(arena, Kind::Try, &[Datum::Word(0), Datum::Word(5)])?   // Line::Try(0, 5)
 //! may_stand(Stage::Top, Kind::Try)                                 // false: a try stands in code alone
 //! line_needs(&Line::Try(0, 5))                                     // 5
 //! ```

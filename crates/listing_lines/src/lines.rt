@@ -115,23 +115,23 @@ fn flat_line<'a>(kind: Kind, said: &[Datum<'a>]) -> Line<'a>
 
 /// The line of this kind whose slots say this.
 #[tactic(auto, unfolding(crate::specs::Lines::line_of, crate::specs::Lines::takes_memory))]
-pub fn make_line<'a>(bump: &'a Bump, kind: Kind, said: &[Datum<'a>]) -> Result<Line<'a>, Fault>
+pub fn make_line<'a>(arena: &'a Bump, kind: Kind, said: &[Datum<'a>]) -> Result<Line<'a>, Fault>
     ensures ok { IfOk result (λ l. line l ≡ line_of kind (map datum said.now)) }
     ensures memory { IsOkUnless result memory }
 {
     match kind {
         Kind::Given => {
-            let initial = make_value(bump, after(said, 4))?;
+            let initial = make_value(arena, after(said, 4))?;
             Ok(Line::Static(make_member(said), Some(initial)))
         }
         Kind::Packed => {
             let first = int_of(datum_at(said, 0));
-            let targets = words_of(bump, after(said, 1))?;
+            let targets = words_of(arena, after(said, 1))?;
             Ok(Line::Insn(Insn::Packed { first, targets }))
         }
         Kind::Sparse => {
-            let keys = ints_between(bump, said)?;
-            let targets = words_between(bump, after(said, 1))?;
+            let keys = ints_between(arena, said)?;
+            let targets = words_between(arena, after(said, 1))?;
             Ok(Line::Insn(Insn::Sparse { keys, targets }))
         }
         _ => Ok(flat_line(kind, said)),

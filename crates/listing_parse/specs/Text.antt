@@ -186,7 +186,7 @@ pub record IsLate (ls : List (List ℕ)) (place : ℕ) : Type 0 where
   pub whole : state.base.block ≡ at_top
   pub late : state.base.late ≡ Some place
 
--- 110 to 118: all lines are accepted, no block is open and each target is an instruction, but the program breaks a rule; the
+-- All lines are accepted, no block is open and each target is an instruction, but the program breaks a rule; the
 -- place is the number of the class that does.
 pub record IsIllFormed (ls : List (List ℕ)) (code place : ℕ) : Type 0 where
   pub state : Reading

@@ -4,12 +4,12 @@
 #![tactic(auto)]
 
 mod form_line;
-mod law;
+mod laws;
 mod lines;
 mod listing;
 mod reading;
 
 pub use form_line::FormLine;
-pub use law::{one_fault, one_program};
+pub use laws::{one_fault, one_program};
 pub use listing::{parse, parse_seeded};
 pub use reading::Reading;

@@ -121,7 +121,7 @@ fn add_said<'a>(
     draft.add(arena, next)
 }
 
-/// Adds a line that says something of the program; else it is refused: 100 to 104.
+/// Adds a line that says something of the program; else refuses it.
 fn add_says<'a, 'b>(
     scratch: &mut Scratch<'a, 'b>,
     listing: &mut Reading<'a, 'b>,
@@ -151,7 +151,7 @@ fn add_says<'a, 'b>(
     listing.find_labels(found.kind, after)
 }
 
-/// Adds a line that isn't skipped; else it is refused: 100 to 104.
+/// Adds a line that isn't skipped; else refuses it.
 fn add_line<'a, 'b>(
     scratch: &mut Scratch<'a, 'b>,
     listing: &mut Reading<'a, 'b>,
@@ -193,7 +193,7 @@ fn count_line(listing: &mut Reading<'_, '_>)
     listing.draft.count_line();
 }
 
-/// Reads a line; else it is refused: 100 to 104, at its number.
+/// Reads a line; else refuses it, at its number.
 pub(crate) fn read_line<'a, 'b>(
     scratch: &mut Scratch<'a, 'b>,
     listing: &mut Reading<'a, 'b>,

@@ -48,7 +48,7 @@ struct Listed<'a> {
     named: bool,
 }
 
-/// Reads all lines of a text; else the lowest that is refused: 100 to 104.
+/// Reads all lines of a text; else the lowest that is refused.
 fn read_lines<'a>(
     alloc: Global,
     seed: Seed,
@@ -116,10 +116,10 @@ fn read_program<'a>(
 /// The program of a listing: the only one that it is a listing of. It is well formed: it keeps the rules of every file's program, and
 /// each number fits its type.
 ///
-/// The names, slices and values of the program lie in the arena. The lowest line with a fault of 100 to 104 is refused, or
+/// The names, slices and values of the program lie in the arena. The lowest line that is at fault by itself is refused, or
 /// else a text that ends inside a block (106); where there is none, the lowest line with a target that is no instruction of
-/// its code (105); and then the first class that breaks a rule (110 to 118). A fault's place is a line's number, from 1, and
-/// of 110 to 118 the class's, from 0.
+/// its code (105); and then the first class that breaks a rule. A fault's place is a line's number, from 1, and of a
+/// program's rule the class's, from 0.
 ///
 /// ```
 /// use bumpalo::Bump;

@@ -9,14 +9,14 @@
 #![tactic(auto)]
 
 mod blocks;
-mod law;
+mod laws;
 mod lines;
 mod marks;
 mod operands;
 mod values;
 
 pub use blocks::{print, print_1};
-pub use law::{
+pub use laws::{
     printed_instructions_are_read_again, printed_lines_are_read_again,
     printed_values_are_read_again,
 };

@@ -14,12 +14,12 @@
 mod due;
 mod forms;
 mod found;
-mod law;
+mod laws;
 mod shape;
 mod values;
 
 pub use found::Found;
-pub use law::{words_have_one_bare_shape, words_have_one_shape};
+pub use laws::{words_have_one_bare_shape, words_have_one_shape};
 pub use shape::{read_bare_shape, read_shape};
 
 // What stands below, for the crates above.

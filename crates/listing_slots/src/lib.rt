@@ -4,7 +4,7 @@
 //! nothing there; what is printed of a datum says that datum again.
 //!
 //! ```text
-//! read_operands(spelled, bump, &[Slot::Byte(Mark::Register, 15), Slot::Short], words, &mut data)?
+//! read_operands(spelled, arena, &[Slot::Byte(Mark::Register, 15), Slot::Short], words, &mut data)?
 //! // None, and data is [Byte(3), Short(-1)], for the words `v3 -1`; Some(102), Number, for `v16 -1`
 //! ```
 //!
@@ -14,7 +14,7 @@
 mod datum;
 mod key;
 mod kind;
-mod law;
+mod laws;
 mod name_parts;
 mod numbers;
 mod put;
@@ -28,7 +28,7 @@ pub use datum::{
 };
 pub use key::{Key, is_same, key_text, lead_key, payload_key, value_key};
 pub use kind::Kind;
-pub use law::{printed_words_are_read_again, words_say_one_thing};
+pub use laws::{printed_words_are_read_again, words_say_one_thing};
 pub use numbers::read_marked;
 pub use put::{
     put_bits, put_decimal, put_elements, put_field, put_flags, put_key, put_method, put_name,

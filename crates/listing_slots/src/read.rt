@@ -192,7 +192,7 @@ pub(crate) fn read_encoded<'a>(
 /// What a word without quotes says in the slot.
 fn read_unquoted<'a, 'b>(
     spelled: &mut Spelled<'a, 'b>,
-    bump: &'a Bump,
+    arena: &'a Bump,
     slot: Slot,
     text: &'b [u8],
 ) -> Result<Option<Datum<'a>>, Fault>
@@ -205,11 +205,11 @@ fn read_unquoted<'a, 'b>(
         return Ok(read_plain(slot, text));
     }
     if is_name_slot(slot) {
-        return spelled.read(bump, slot, text);
+        return spelled.read(arena, slot, text);
     }
     match slot {
         Slot::Key(key) => Ok(Some(Datum::Key(key))),
-        Slot::Elements => match read_elements(bump, text)? {
+        Slot::Elements => match read_elements(arena, text)? {
             Some(bytes) => Ok(Some(Datum::Elements(bytes))),
             None => Ok(None),
         },
@@ -233,7 +233,7 @@ fn read_quoted<'a>(slot: Slot, units: &'a [u16]) -> Option<Datum<'a>>
 /// What the word says in the slot: a name is read now, or was before.
 pub fn read_datum<'a, 'b>(
     spelled: &mut Spelled<'a, 'b>,
-    bump: &'a Bump,
+    arena: &'a Bump,
     slot: Slot,
     one: Word<'a, 'b>,
 ) -> Result<Option<Datum<'a>>, Fault>
@@ -243,7 +243,7 @@ pub fn read_datum<'a, 'b>(
     ensures memory { IsOkUnless result memory }
 {
     match one {
-        Word::Plain(text) => read_unquoted(spelled, bump, slot, text),
+        Word::Plain(text) => read_unquoted(spelled, arena, slot, text),
         Word::Text(units) => Ok(read_quoted(slot, units)),
     }
 }
@@ -261,7 +261,7 @@ pub fn fault_of(slot: Slot) -> u16
 /// What these words say in these slots; else the fault of the first that says nothing there.
 pub fn read_operands<'a, 'b>(
     spelled: &mut Spelled<'a, 'b>,
-    bump: &'a Bump,
+    arena: &'a Bump,
     slots: &[Slot],
     words: &[Word<'a, 'b>],
     says: &mut Vec<Datum<'a>, &'a Bump>,
@@ -274,7 +274,7 @@ pub fn read_operands<'a, 'b>(
 {
     says.clear();
     for i in 0..slots.len() {
-        let Some(said) = read_datum(spelled, bump, slots[i], words[i])? else {
+        let Some(said) = read_datum(spelled, arena, slots[i], words[i])? else {
             return Ok(Some(fault_of(slots[i])));
         };
         says.push(said)?;

@@ -184,7 +184,7 @@ impl<'a, 'b> Spelled<'a, 'b> {
     /// What a word without quotes says in a name's slot.
     pub(crate) fn read(
         &mut self,
-        bump: &'a Bump,
+        arena: &'a Bump,
         slot: Slot,
         text: &'b [u8],
     ) -> Result<Option<Datum<'a>>, Fault>
@@ -198,7 +198,7 @@ impl<'a, 'b> Spelled<'a, 'b> {
         if let Some(name) = self.find(at, slot, text) {
             return Ok(Some(name));
         }
-        let Some(name) = self.read_anew(bump, slot, text)? else {
+        let Some(name) = self.read_anew(arena, slot, text)? else {
             return Ok(None);
         };
         self.note(name);

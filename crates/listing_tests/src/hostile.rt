@@ -15,7 +15,7 @@ const FIRST: &[u8] =
 const SECOND: &[u8] =
     b"dex 035 listing 2\nclass LA; 0x1\nsuper Ljava/lang/Object;\ndirect m ()V 0x9\ncode 1 0 0\nreturn-void\nend code\nend class\n";
 
-// Whether what is printed of the program is read as one of which the same is printed.
+/// Whether what is printed of the program is read as one of which the same is printed.
 fn is_read_again(alloc: Global, whole: &Program<'_>) -> Result<bool, Fault> {
     let printed = print(alloc, whole)?;
     let arena = Bump::new(alloc);
@@ -23,7 +23,7 @@ fn is_read_again(alloc: Global, whole: &Program<'_>) -> Result<bool, Fault> {
     Ok(print(alloc, &again)?.as_slice() == printed.as_slice())
 }
 
-// Whether the text is read, or has a fault of a listing at one of its nine lines, or of the program at its class.
+/// Whether the text is read, or has a fault of a listing at one of its nine lines, or of the program at its class.
 fn is_well_told(alloc: Global, text: &[u8]) -> Result<bool, Fault> {
     let arena = Bump::new(alloc);
     match parse(alloc, &arena, text) {
@@ -40,7 +40,7 @@ fn is_fault_of_it(fault: &Fault) -> bool {
     }
 }
 
-// What is done to a text at each of its places.
+/// What is done to a text at each of its places.
 #[derive(Clone, Copy)]
 enum Done {
     // the byte is made this one
@@ -49,7 +49,7 @@ enum Done {
     Cut,
 }
 
-// A name for the case, the text, and what is done to it.
+/// A name for the case, the text, and what is done to it.
 struct Each(&'static str, &'static [u8], Done);
 
 impl Case for Each {
@@ -79,8 +79,8 @@ fn is_byte_told(alloc: Global, text: &[u8], at: usize, byte: u8) -> Result<bool,
     is_well_told(alloc, &changed)
 }
 
-// The front of the listing of the second form is read: `dex 035`, `dex 035 listing 2`, or all but the last line feed,
-// each also with what stands after it.
+/// The front of the listing of the second form is read: `dex 035`, `dex 035 listing 2`, or all but the last line feed,
+/// each also with what stands after it.
 fn is_whole(text: &[u8], length: usize) -> bool {
     matches!(length, 7 | 8 | 17 | 18) || length.saturating_add(1) >= text.len()
 }

@@ -23,12 +23,12 @@ pub fn read_bits(count: usize, word: &[u8]) -> Option<u64>
 }
 
 /// The bytes that pairs of hexadecimal digits write, in the arena; none where the word is something else.
-pub fn read_elements<'a>(bump: &'a Bump, word: &[u8]) -> Result<Option<&'a [u8]>, Fault>
+pub fn read_elements<'a>(arena: &'a Bump, word: &[u8]) -> Result<Option<&'a [u8]>, Fault>
     ensures found { IfOk result (λ r. IfSome r (λ bytes. SpellsElements word.now bytes.now)) }
     ensures none { IfOk result (λ r. IfNone r ((bytes : List ℕ) → SpellsElements word.now bytes → ⊥)) }
     ensures memory { IsOkUnless result memory }
 {
-    let mut bytes = Vec::with_capacity(bump, word.len() / 2)?;
+    let mut bytes = Vec::with_capacity(arena, word.len() / 2)?;
     let mut rest = word;
     while let Some((first, tail)) = rest.split_first() {
         let Some((second, after)) = tail.split_first() else {

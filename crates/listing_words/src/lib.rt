@@ -5,7 +5,7 @@
 //! of a float, a descriptor, a field, a method or a prototype, whose grammar is that of the page "Dalvik Executable format".
 //!
 //! ```text
-//! read_words(bump, b"source \"A\\u00e9\"", &mut words)?   // true: `source`, and the text of the units 0x41, 0xe9
+//! read_words(arena, b"source \"A\\u00e9\"", &mut words)?   // true: `source`, and the text of the units 0x41, 0xe9
 //! read_natural(b"0x1f", 255)                              // Some(31)
 //! put_flags(&mut out, 31)?                                // appends `0x1f`
 //! ```
@@ -16,7 +16,7 @@
 mod bits;
 mod cut;
 mod labels;
-mod law;
+mod laws;
 mod names;
 mod numbers;
 mod plain;
@@ -30,7 +30,7 @@ mod words;
 pub use bits::{read_bits, read_elements};
 pub use cut::split_before;
 pub use labels::{is_natural, is_number};
-pub use law::{words_are_read_one_way, written_words_are_read_again};
+pub use laws::{words_are_read_one_way, written_words_are_read_again};
 pub use names::{read_field, read_method, read_name, read_proto};
 pub use numbers::read_natural;
 pub use print::put_text;

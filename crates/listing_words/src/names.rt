@@ -69,26 +69,26 @@ fn read_name_unit(text: &[u8]) -> Option<(u16, &[u8])>
 
 /// The units before the first escape, in a Vec with room for the others, and what stands from it on.
 fn read_plain<'a, 'b>(
-    bump: &'a Bump,
+    arena: &'a Bump,
     word: &'b [u8],
 ) -> Result<(Vec<u16, &'a Bump>, &'b [u8]), Fault>
     ensures taken { IfOk result (λ f. EachTaken TakesNameUnit word.now f.0.items f.1.now) }
     ensures memory { IsOkUnless result memory }
 {
     let (plain, rest) = split_before(b'\\', word);
-    let mut units = Vec::with_capacity(bump, word.len())?;
+    let mut units = Vec::with_capacity(arena, word.len())?;
     units.resize(plain.len(), 0)?;
     widen(&mut units[..], plain);
     Ok((units, rest))
 }
 
 /// The units of a word, decoded into the arena; none where an escape is malformed.
-pub fn read_name<'a>(bump: &'a Bump, word: &[u8]) -> Result<Option<&'a [u16]>, Fault>
+pub fn read_name<'a>(arena: &'a Bump, word: &[u8]) -> Result<Option<&'a [u16]>, Fault>
     ensures found { IfOk result (λ r. IfSome r (λ us. SpellsUnits word.now us.now)) }
     ensures none { IfOk result (λ r. IfNone r ((us : List ℕ) → SpellsUnits word.now us → ⊥)) }
     ensures memory { IsOkUnless result memory }
 {
-    let (mut units, mut rest) = read_plain(bump, word)?;
+    let (mut units, mut rest) = read_plain(arena, word)?;
     while let Some((unit, after)) = read_name_unit(rest) {
         units.push(unit)?;
         rest = after;
@@ -101,14 +101,14 @@ pub fn read_name<'a>(bump: &'a Bump, word: &[u8]) -> Result<Option<&'a [u16]>, F
 
 /// All descriptors at the front, and what follows them.
 fn read_params<'a>(
-    bump: &'a Bump,
+    arena: &'a Bump,
     units: &'a [u16],
 ) -> Result<(Vec<Desc<'a>, &'a Bump>, &'a [u16]), Fault>
     ensures params { IfOk result (λ f. EachTaken TakesDescriptor units.now (map desc f.0.items) f.1.now) }
     ensures all { IfOk result (λ f. NoneAt TakesDescriptor f.1.now) }
     ensures memory { IsOkUnless result memory }
 {
-    let mut params = Vec::new(bump);
+    let mut params = Vec::new(arena);
     let mut rest = units;
     while let Some(n) = descriptor_length(rest) {
         let (text, after) = rest.split_at(n);
@@ -121,12 +121,12 @@ fn read_params<'a>(
 }
 
 /// The prototype after its first parenthesis.
-fn read_proto_tail<'a>(bump: &'a Bump, units: &'a [u16]) -> Result<Option<Proto<'a>>, Fault>
+fn read_proto_tail<'a>(arena: &'a Bump, units: &'a [u16]) -> Result<Option<Proto<'a>>, Fault>
     ensures found { IfOk result (λ r. IfSome r (λ p. IsProtoText (40 ∷ units.now) (proto p))) }
     ensures none { IfOk result (λ r. IfNone r ((p : SaidProto) → IsProtoText (40 ∷ units.now) p → ⊥)) }
     ensures memory { IsOkUnless result memory }
 {
-    let (params, rest) = read_params(bump, units)?;
+    let (params, rest) = read_params(arena, units)?;
     let Some((close, ret)) = rest.split_first() else {
         return Ok(None);
     };
@@ -145,7 +145,7 @@ fn read_proto_tail<'a>(bump: &'a Bump, units: &'a [u16]) -> Result<Option<Proto<
 }
 
 /// The prototype that the units are: `(P..)R`.
-pub fn read_proto<'a>(bump: &'a Bump, units: &'a [u16]) -> Result<Option<Proto<'a>>, Fault>
+pub fn read_proto<'a>(arena: &'a Bump, units: &'a [u16]) -> Result<Option<Proto<'a>>, Fault>
     ensures found { IfOk result (λ r. IfSome r (λ p. IsProtoText units.now (proto p))) }
     ensures none { IfOk result (λ r. IfNone r ((p : SaidProto) → IsProtoText units.now p → ⊥)) }
     ensures memory { IsOkUnless result memory }
@@ -156,7 +156,7 @@ pub fn read_proto<'a>(bump: &'a Bump, units: &'a [u16]) -> Result<Option<Proto<'
     if *open != OPEN {
         return Ok(None);
     }
-    read_proto_tail(bump, inner)
+    read_proto_tail(arena, inner)
 }
 
 /// What stands before the first such unit, and the rest.
@@ -221,7 +221,7 @@ pub fn read_field<'a>(units: &'a [u16]) -> Option<FieldRef<'a>>
 }
 
 /// The method that the units are: `C->n(P..)R`.
-pub fn read_method<'a>(bump: &'a Bump, units: &'a [u16]) -> Result<Option<MethodRef<'a>>, Fault>
+pub fn read_method<'a>(arena: &'a Bump, units: &'a [u16]) -> Result<Option<MethodRef<'a>>, Fault>
     ensures found { IfOk result (λ r. IfSome r (λ m. IsMethodText units.now (method_ref m))) }
     ensures none { IfOk result (λ r. IfNone r ((m : SaidMethod) → IsMethodText units.now m → ⊥)) }
     ensures memory { IsOkUnless result memory }
@@ -229,7 +229,7 @@ pub fn read_method<'a>(bump: &'a Bump, units: &'a [u16]) -> Result<Option<Method
     let Some((class, name, tail)) = split_member(units, OPEN) else {
         return Ok(None);
     };
-    let Some(proto) = read_proto_tail(bump, tail)? else {
+    let Some(proto) = read_proto_tail(arena, tail)? else {
         return Ok(None);
     };
     Ok(Some(MethodRef {
@@ -237,6 +237,6 @@ pub fn read_method<'a>(bump: &'a Bump, units: &'a [u16]) -> Result<Option<Method
             text: Str { units: class },
         },
         name: Str { units: name },
-        proto: bump.try_alloc(proto)?,
+        proto: arena.try_alloc(proto)?,
     }))
 }

@@ -81,13 +81,16 @@ fn read_unit(text: &[u8]) -> Option<(u16, &[u8])>
 }
 
 /// All units that stand at the front.
-fn read_run<'a, 'b>(bump: &'a Bump, text: &'b [u8]) -> Result<(Vec<u16, &'a Bump>, &'b [u8]), Fault>
+fn read_run<'a, 'b>(
+    arena: &'a Bump,
+    text: &'b [u8],
+) -> Result<(Vec<u16, &'a Bump>, &'b [u8]), Fault>
     ensures run { IfOk result (λ f. EachTaken TakesUnit text.now f.0.items f.1.now) }
     ensures within { IfOk result (λ f. length f.1.now ≤ length text.now) }
     ensures all { IfOk result (λ f. NoneAt TakesUnit f.1.now) }
     ensures memory { IsOkUnless result memory }
 {
-    let mut units = Vec::new(bump);
+    let mut units = Vec::new(arena);
     let mut rest = text;
     while let Some((unit, after)) = read_unit(rest) {
         units.push(unit)?;
@@ -98,7 +101,7 @@ fn read_run<'a, 'b>(bump: &'a Bump, text: &'b [u8]) -> Result<(Vec<u16, &'a Bump
 
 /// The units up to a quote, decoded into the arena, and what follows the quote.
 pub(crate) fn read_units<'a, 'b>(
-    bump: &'a Bump,
+    arena: &'a Bump,
     text: &'b [u8],
 ) -> Result<Option<(&'a [u16], &'b [u8])>, Fault>
     ensures found { IfOk result (λ r. IfSome r (λ f. TakesUnits text.now f.0.now f.1.now)) }
@@ -106,7 +109,7 @@ pub(crate) fn read_units<'a, 'b>(
     ensures none { IfOk result (λ r. IfNone r (NoneAt TakesUnits text.now)) }
     ensures memory { IsOkUnless result memory }
 {
-    let (units, end) = read_run(bump, text)?;
+    let (units, end) = read_run(arena, text)?;
     let Some((first, rest)) = end.split_first() else {
         return Ok(None);
     };

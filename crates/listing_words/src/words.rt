@@ -62,7 +62,7 @@ fn is_end(text: &[u8]) -> bool
 
 /// The word at the front, and what follows it.
 fn read_word<'a, 'b>(
-    bump: &'a Bump,
+    arena: &'a Bump,
     line: &'b [u8],
 ) -> Result<Option<(Word<'a, 'b>, &'b [u8])>, Fault>
     ensures found { IfOk result (λ r. IfSome r (λ f. TakesWord line.now (word f.0) f.1.now)) }
@@ -75,7 +75,7 @@ fn read_word<'a, 'b>(
         return Ok(None);
     };
     if *first == b'"' {
-        let Some((units, rest)) = read_units(bump, inner)? else {
+        let Some((units, rest)) = read_units(arena, inner)? else {
             return Ok(None);
         };
         if !is_end(rest) {
@@ -95,7 +95,7 @@ fn read_word<'a, 'b>(
 /// A plain word is a slice of the line; a text in quotes is decoded into the arena. What `words` has where it is false
 /// means nothing.
 pub fn read_words<'a, 'b>(
-    bump: &'a Bump,
+    arena: &'a Bump,
     line: &'b [u8],
     words: &mut Vec<Word<'a, 'b>, &'a Bump>,
 ) -> Result<bool, Fault>
@@ -106,7 +106,7 @@ pub fn read_words<'a, 'b>(
 {
     words.clear();
     let mut rest = line;
-    while let Some((next, after)) = read_word(bump, rest)? {
+    while let Some((next, after)) = read_word(arena, rest)? {
         words.push(next)?;
         rest = after;
     }

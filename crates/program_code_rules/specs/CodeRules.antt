@@ -1,4 +1,4 @@
--- The rules that the code of a program keeps, in the order of their faults: 114 to 118.
+-- The rules that the code of a program keeps, in the order of their faults.
 -- Pages: "Dalvik Executable instruction formats", "The formats"; "Dalvik bytecode": goto, packed-switch, sparse-switch,
 -- fill-array-data; "Dalvik Executable format": code_item, try_item, encoded_catch_handler.
 use Rattle.std.specs.Prelude.{ℕ, ◌<◌, ◌≤◌, length}

@@ -15,7 +15,7 @@ ghost use Rattle.program_code_rules.specs.Parts.{KeyIsBelow};
 
 use program_types::{Code, Format, IndexKind, Insn, Name, format_of, index_kind_of};
 
-// Whether a field of an instruction holds its number: it does, by the number's type, which the first line of each brings into the proof.
+/// Whether a field of an instruction holds its number: it does, by the number's type, which the first line of each brings into the proof.
 fn fits_u8(a: u8) -> bool
     ensures { IsTrue result ↔ (a < 256) }
 {

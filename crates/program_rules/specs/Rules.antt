@@ -84,7 +84,7 @@ pub record ValuesFit (c : Class) : Type 0 where
   pub few : length c.values ≤ length c.statics
   pub deep : AllByRecursion (λ v. depth v ≤ 64) c.values
 
--- ---- code (114 to 118)
+-- ---- code
 
 -- Each body in the class keeps the rule.
 pub record CodesHold (Holds : Code → Type 0) (c : Class) : Type 0 where

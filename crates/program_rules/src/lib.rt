@@ -2,7 +2,7 @@
 //! numbers of instructions (`specs/Rules.antt`).
 //!
 //! ```text
-//! well_formed(&program)?; // 110 to 118, with the number of the first class that breaks a rule
+//! well_formed(&program)?; // else a fault, with the number of the first class that breaks a rule
 //! well_formed_in(alloc, &program)?; // the same, in time that grows with the program
 //! ```
 //!

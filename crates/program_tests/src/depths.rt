@@ -7,7 +7,7 @@ use program_types::{Value, is_within_depth};
 use std::alloc::Global;
 use std::test::Fail;
 
-// A value, and how deep it is.
+/// A value, and how deep it is.
 #[derive(Clone, Copy)]
 enum Depth {
     Of(Value<'static>, u32),
@@ -41,7 +41,7 @@ fn is_so_deep(arena: &Bump, depth: Depth) -> Result<bool, Fault> {
     }
 }
 
-// Whether the value is as deep as that: within this depth, and not within one less.
+/// Whether the value is as deep as that: within this depth, and not within one less.
 fn is_deep(value: &Value<'_>, depth: u32) -> bool {
     is_within_depth(value, depth) && (depth == 0 || !is_within_depth(value, depth - 1))
 }
@@ -66,7 +66,7 @@ pub fn nested<'a>(arena: &'a Bump, value: Value<'a>, arrays: u32) -> Result<Valu
     Ok(value)
 }
 
-// The last one takes no stack.
+/// The last one takes no stack.
 #[rattlefmt::skip]
 #[test]
 fn an_array_is_one_deeper_than_the_deepest_in_it(rt: HostRuntime) -> Result<(), Fail> {

@@ -17,7 +17,7 @@ use std::alloc::Global;
 use std::test::Fail;
 use tables_names::{Needed, Noted, Ranks};
 
-// A name by its parts.
+/// A name by its parts.
 #[derive(Clone, Copy)]
 enum Said {
     Text(&'static str),
@@ -35,7 +35,7 @@ const F: Said = Said::Field("LA;", "f", "I");
 
 const M: Said = Said::Method("LA;", "m", "V", &[]);
 
-// A name of each kind.
+/// A name of each kind.
 static EACH: [Said; 5] = [
     Said::Text("x"),
     Said::Type("[I"),
@@ -44,7 +44,7 @@ static EACH: [Said; 5] = [
     M,
 ];
 
-// What a name can be.
+/// What a name can be.
 static NAMED: [Said; 4] = [
     Said::Text("x"),
     Said::Type("[I"),
@@ -52,7 +52,7 @@ static NAMED: [Said; 4] = [
     Said::Method("LA;", "m", "V", &["J"]),
 ];
 
-// What a prototype is called, its return type, its parameters, its rank among these.
+/// What a prototype is called, its return type, its parameters, its rank among these.
 type Prototype = (&'static str, &'static str, &'static [&'static str], u32);
 
 static PROTOS: [Prototype; 5] = [
@@ -63,7 +63,7 @@ static PROTOS: [Prototype; 5] = [
     ("()I", "I", &[], 0),
 ];
 
-// Which names are added.
+/// Which names are added.
 #[derive(Clone, Copy)]
 enum Added {
     One(Said),
@@ -77,7 +77,7 @@ enum Added {
     Members,
 }
 
-// What is asked of the ranks.
+/// What is asked of the ranks.
 #[derive(Clone, Copy)]
 enum Asked {
     // they are shown so
@@ -176,7 +176,7 @@ fn add_names<'a>(needed: &mut Needed<'a>, arena: &'a Bump, all: &[Said]) -> Resu
     Ok(())
 }
 
-// A prototype is no name.
+/// A prototype is no name.
 fn add_name<'a>(needed: &mut Needed<'a>, arena: &'a Bump, said: Said) -> Result<(), Fault> {
     match said {
         Said::Text(string) => needed.add_name(arena, Name::Text(text(arena, string)?)),
@@ -192,7 +192,7 @@ fn add_name<'a>(needed: &mut Needed<'a>, arena: &'a Bump, said: Said) -> Result<
     }
 }
 
-// Adds these prototypes, each given by its place in the list above, in this order.
+/// Adds these prototypes, each given by its place in the list above, in this order.
 fn add_protos<'a>(needed: &mut Needed<'a>, arena: &'a Bump, order: &[usize]) -> Result<(), Fault> {
     for place in order {
         let (_, ret, params, _) = PROTOS[*place % PROTOS.len()];
@@ -201,7 +201,7 @@ fn add_protos<'a>(needed: &mut Needed<'a>, arena: &'a Bump, order: &[usize]) -> 
     Ok(())
 }
 
-// What LA; defines: LA;->g:J, LA;->m(J)V, LA;->f:I and LA;->m()V.
+/// What LA; defines: LA;->g:J, LA;->m(J)V, LA;->f:I and LA;->m()V.
 fn add_members<'a>(needed: &mut Needed<'a>, arena: &'a Bump) -> Result<(), Fault> {
     add_own_field(needed, arena, "g", "J")?;
     add_own_method(needed, arena, &["J"])?;
@@ -209,7 +209,7 @@ fn add_members<'a>(needed: &mut Needed<'a>, arena: &'a Bump) -> Result<(), Fault
     add_own_method(needed, arena, &[])
 }
 
-// A field that LA; defines.
+/// A field that LA; defines.
 fn add_own_field<'a>(
     needed: &mut Needed<'a>,
     arena: &'a Bump,
@@ -227,7 +227,7 @@ fn own_field<'a>(arena: &'a Bump, name: &str, kind: &str) -> Result<Member<'a>, 
     })
 }
 
-// A method `m` that LA; defines.
+/// A method `m` that LA; defines.
 fn add_own_method<'a>(
     needed: &mut Needed<'a>,
     arena: &'a Bump,
@@ -271,7 +271,7 @@ fn rank_of<'a>(arena: &'a Bump, ranks: &Ranks<'a>, said: Said) -> Result<Option<
     })
 }
 
-// A prototype is no name.
+/// A prototype is no name.
 fn rank_of_name<'a>(arena: &'a Bump, ranks: &Ranks<'a>, said: Said) -> Result<Option<u32>, Fault> {
     Ok(match said {
         Said::Text(string) => ranks.index_of(Name::Text(text(arena, string)?)),
@@ -422,7 +422,7 @@ fn names_of_each_kind_and_members_of_a_class_are_found_by_their_ranks(rt: HostRu
     all_hold(rt.alloc(), &CASES)
 }
 
-// x, LA;->f:I, and x once more.
+/// x, LA;->f:I, and x once more.
 fn note_three<'a>(noted: &mut Noted<'a>, arena: &'a Bump) -> Result<(), Fault> {
     noted.add_name(arena, Name::Text(text(arena, "x")?))?;
     noted.add_name(arena, Name::Field(field(arena, "LA;", "f", "I")?))?;
@@ -436,7 +436,7 @@ fn noted_ranks<'a>(alloc: Global, arena: &'a Bump) -> Result<Vec<usize>, Fault> 
     Ok(numbers)
 }
 
-// The strings are I, LA;, f and x; there is one field.
+/// The strings are I, LA;, f and x; there is one field.
 fn are_noted_so(alloc: Global) -> Result<bool, Fault> {
     let arena = Bump::new(alloc);
     let ranks = noted_ranks(alloc, &arena)?;
@@ -449,7 +449,7 @@ fn one_field<'a>(arena: &'a Bump, name: &str, kind: &str) -> Result<&'a [Member<
     Ok(into_bump_slice(fields))
 }
 
-// `m()V`.
+/// `m()V`.
 fn one_method<'a>(arena: &'a Bump) -> Result<&'a [Method<'a>], Fault>
     ensures { IfOk result (λ all. (class : Descriptor) → AllByRecursion HasShorty (map (method_of_class class) (map view.method all.now))) }
 {
@@ -463,7 +463,7 @@ fn one_method<'a>(arena: &'a Bump) -> Result<&'a [Method<'a>], Fault>
     Ok(into_bump_slice(methods))
 }
 
-// `LA;`, which defines these members.
+/// `LA;`, which defines these members.
 fn class_with<'a>(
     statics: &'a [Member<'a>],
     instances: &'a [Member<'a>],
@@ -486,7 +486,7 @@ fn class_with<'a>(
     }
 }
 
-// The ranks of the members of a class, in the order in which they are noted.
+/// The ranks of the members of a class, in the order in which they are noted.
 fn member_ranks<'a>(alloc: Global, arena: &'a Bump, class: &Class<'a>) -> Result<Vec<usize>, Fault>
     requires { AllByRecursion HasShorty (members_of (view.class class.now)) }
 {
@@ -496,7 +496,7 @@ fn member_ranks<'a>(alloc: Global, arena: &'a Bump, class: &Class<'a>) -> Result
     Ok(ranks)
 }
 
-// LA;->g:J ranks after LA;->f:I.
+/// LA;->g:J ranks after LA;->f:I.
 fn are_members_noted_so(alloc: Global) -> Result<bool, Fault> {
     let arena = Bump::new(alloc);
     let (g, f) = (one_field(&arena, "g", "J")?, one_field(&arena, "f", "I")?);

@@ -19,7 +19,7 @@ enum Named {
     Method(MethodRef<'static>),
 }
 
-// What a name is called, its place among those of its kind, the name.
+/// What a name is called, its place among those of its kind, the name.
 struct Placed(&'static str, usize, Named);
 
 impl Case for Placed {
@@ -27,7 +27,7 @@ impl Case for Placed {
         self.0
     }
 
-    // Each compares with each of its kind as their places do.
+    /// Each compares with each of its kind as their places do.
     fn holds(&self, _alloc: Global) -> Result<bool, Fault> {
         for other in &NAMES {
             if !is_as_places(self, other) {
@@ -45,7 +45,7 @@ fn is_as_places(one: &Placed, other: &Placed) -> bool {
     }
 }
 
-// How two names of one kind compare, and whether they are equal.
+/// How two names of one kind compare, and whether they are equal.
 fn compared(one: &Named, other: &Named) -> Option<(Ordering, bool)> {
     match (one, other) {
         (Named::Text(a), Named::Text(b)) => Some((str_cmp(a, b), str_eq(a, b))),
@@ -79,7 +79,7 @@ const TO_VOID: Proto<'static> = Proto {
     params: &[],
 };
 
-// Those of each kind rise. U+10000 is the units d800 dc00.
+/// Those of each kind rise. U+10000 is the units d800 dc00.
 #[rattlefmt::skip]
 static NAMES: [Placed; 24] = [
     Placed("nothing", 0, Named::Text(Str { units: &[] })),

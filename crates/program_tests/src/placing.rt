@@ -29,7 +29,7 @@ fn is_prototype_placed(arena: &Bump) -> Result<bool, Fault> {
     Ok(placed.ret == VOID && placed.params == [INT, LONGS].as_slice())
 }
 
-// What is placed.
+/// What is placed.
 enum Placed {
     String,
     // what is read of it outlives the arena

@@ -14,7 +14,7 @@ enum Kind {
     Methods,
 }
 
-// What stands before the names of each kind.
+/// What stands before the names of each kind.
 static KINDS: [(&str, Kind); 5] = [
     ("strings: ", Kind::Strings),
     ("\ntypes: ", Kind::Types),
@@ -48,7 +48,7 @@ fn put_names(text: &mut String, ranks: &Ranks<'_>, kind: Kind) -> Result<(), Fau
     Ok(())
 }
 
-// Adds the name of this rank and a space, if there is one, and tells whether there is.
+/// Adds the name of this rank and a space, if there is one, and tells whether there is.
 fn put_name_at(text: &mut String, ranks: &Ranks<'_>, kind: Kind, rank: u32) -> Result<bool, Fault> {
     match kind {
         Kind::Strings => match ranks.string(rank) {

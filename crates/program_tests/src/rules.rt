@@ -13,7 +13,7 @@ use program_types::{
 use std::alloc::Global;
 use std::test::Fail;
 
-// What a program is.
+/// What a program is.
 #[derive(Clone, Copy)]
 enum Given {
     Classes(&'static [Class<'static>]),
@@ -23,7 +23,7 @@ enum Given {
     Nested(u32),
 }
 
-// What the program is, the fault of its first class that breaks a rule, 0 where all keep them, and that class's number.
+/// What the program is, the fault of its first class that breaks a rule, 0 where all keep them, and that class's number.
 struct Ruled(&'static str, Given, u16, u64);
 
 impl Case for Ruled {
@@ -47,7 +47,7 @@ fn answers_so(answer: Result<(), Fault>, case: &Ruled) -> bool {
     }
 }
 
-// Without memory and by hash.
+/// Without memory and by hash.
 fn is_ruled_so<'a>(alloc: Global, classes: &'a [Class<'a>], case: &Ruled) -> bool {
     let program = Program { classes };
     answers_so(well_formed(&program), case)
@@ -93,7 +93,7 @@ fn with_nested<'a>(arena: &'a Bump, arrays: u32) -> Result<&'a [Class<'a>], Faul
     Ok(into_bump_slice(classes))
 }
 
-// The class `LA;` with these static fields, values and methods alone.
+/// The class `LA;` with these static fields, values and methods alone.
 fn class_with<'a>(
     statics: &'a [Member<'a>],
     values: &'a [Value<'a>],
@@ -126,7 +126,7 @@ const G: Str<'static> = Str { units: &[0x67] };
 
 const NO_NAME: Str<'static> = Str { units: &[0x20] };
 
-// `LB;` to `LJ;`
+/// `LB;` to `LJ;`
 #[rattlefmt::skip]
 const NINE: [Desc<'static>; 9] = [
     B,

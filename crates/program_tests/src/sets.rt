@@ -8,7 +8,7 @@ use std::alloc::Global;
 use std::hash::Hash;
 use std::test::Fail;
 
-// Whether of three names, added in turn, the second is the first one, and the third another member of the set.
+/// Whether of three names, added in turn, the second is the first one, and the third another member of the set.
 fn is_added_once<N: Copy + Eq + Hash>(
     set: &mut IndexSet<N>,
     one: N,
@@ -62,7 +62,7 @@ fn is_method_kept_once(alloc: Global, here: &Bump, there: &Bump) -> Result<bool,
     is_kept_once(alloc, *one, *twin, *other)
 }
 
-// A kind of names.
+/// A kind of names.
 #[derive(Clone, Copy)]
 enum Kept {
     String,

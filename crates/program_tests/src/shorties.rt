@@ -7,7 +7,7 @@ use program_types::shorty_of;
 use std::alloc::Global;
 use std::test::Fail;
 
-// What the prototype is, its return type, its parameters, its short form.
+/// What the prototype is, its return type, its parameters, its short form.
 struct Shortened(
     &'static str,
     &'static str,

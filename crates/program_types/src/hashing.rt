@@ -13,7 +13,7 @@ use std::hash::{Hash, Hasher};
 /// The types that have fewer units are hashed whole.
 const PART: usize = 1024;
 
-// Four units as one number.
+/// Four units as one number.
 fn word_at(units: &[u16], at: usize) -> u64
     requires { at + 4 ≤ length units.now }
     ensures { result ≡ packed_word units.now at }
@@ -24,7 +24,7 @@ fn word_at(units: &[u16], at: usize) -> u64
         + u64::from(units[at + 3]) * 281474976710656
 }
 
-// Units, four at a time.
+/// Units, four at a time.
 fn hash_words<H: Hasher>(units: &[u16], state: &mut H)
     ensures { state.new ≡ fold H.write state.old (words units.now (length units.now / 4)) }
 {
@@ -33,7 +33,7 @@ fn hash_words<H: Hasher>(units: &[u16], state: &mut H)
     }
 }
 
-// All units of a string, after their number.
+/// All units of a string, after their number.
 fn hash_units<H: Hasher>(units: &[u16], state: &mut H)
     ensures { state.new ≡ fold H.write state.old (units_input units.now) }
 {
@@ -42,7 +42,7 @@ fn hash_units<H: Hasher>(units: &[u16], state: &mut H)
     u16::hash_slice(&units[units.len() / 4 * 4..], state);
 }
 
-// A type that is a part of a field or a method.
+/// A type that is a part of a field or a method.
 fn hash_part<H: Hasher>(units: &[u16], state: &mut H)
     ensures { state.new ≡ fold H.write state.old (part_input units.now) }
 {
@@ -57,7 +57,7 @@ fn hash_part<H: Hasher>(units: &[u16], state: &mut H)
     state.write_u64(word_at(units, n - 4));
 }
 
-// Types, one after another.
+/// Types, one after another.
 fn hash_parts<H: Hasher>(parts: &[Desc<'_>], state: &mut H)
     ensures { state.new ≡ fold H.write state.old (flat_map (λ d. part_input d.text.units.now) parts.now) }
 {

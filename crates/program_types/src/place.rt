@@ -12,7 +12,7 @@ use dex_insn::Fault;
 /// A string of these units, copied into the arena. Fails only when out of memory.
 pub fn place_str<'a>(arena: &'a Bump, units: &[u16]) -> Result<Str<'a>, Fault>
     ensures ok { IfOk result (λ placed. str placed ≡ units.now) }
-    ensures err { IsOkUnless result memory }
+    ensures memory { IsOkUnless result memory }
 {
     Ok(Str {
         units: arena.try_alloc_slice_copy(units)?,
@@ -28,7 +28,7 @@ pub fn place_descs<'a>(
     requires { All (λ row. row < length table.now) rows.now }
     ensures ok { IfOk result (λ placed.
         map desc placed.now ≡ map (λ row. slice_index_or (map desc table.now) row []) rows.now) }
-    ensures err { IsOkUnless result memory }
+    ensures memory { IsOkUnless result memory }
 {
     let mut found = Vec::with_capacity(arena, rows.len())?;
     for row in rows {
@@ -45,7 +45,7 @@ pub fn place_proto<'a>(
 ) -> Result<&'a Proto<'a>, Fault>
     ensures ok { IfOk result (λ placed.
         proto placed.now ≡ record { ret = desc ret.entry; params = map desc params.now }) }
-    ensures err { IsOkUnless result memory }
+    ensures memory { IsOkUnless result memory }
 {
     Ok(arena.try_alloc(Proto { ret, params })?)
 }

@@ -55,7 +55,7 @@ pub fn shorty_of<'a>(
     requires params { All IsDescriptor (map desc params.now) }
     ensures ok { IfOk result (λ placed.
         str placed ≡ shorty (record { ret = desc ret.entry; params = map desc params.now })) }
-    ensures err { IsOkUnless result memory }
+    ensures memory { IsOkUnless result memory }
 {
     let mut letters = Vec::with_capacity(alloc, params.len() + 1)?;
     letters.push(letter(ret))?;

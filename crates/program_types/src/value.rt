@@ -24,7 +24,7 @@ pub enum Value<'a> {
     Bool(bool),
 }
 
-// A word, and what stands after it.
+/// A word, and what stands after it.
 fn write_after<W: fmt::Write, D: fmt::Display>(
     f: &mut fmt::Formatter<W>,
     word: &str,
@@ -33,7 +33,7 @@ fn write_after<W: fmt::Write, D: fmt::Display>(
     write!(f, "{word} {shown}")
 }
 
-// A value, of an array its word alone.
+/// A value, of an array its word alone.
 fn write_front<W: fmt::Write>(f: &mut fmt::Formatter<W>, one: &Value<'_>) -> fmt::Result {
     match one {
         Value::Byte(n) => write_after(f, "byte", n),

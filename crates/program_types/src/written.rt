@@ -8,7 +8,7 @@ ghost use Rattle.program_types.specs.Written.{glyph, escape_text, name_unit, nam
 use crate::names::{Desc, FieldRef, MethodRef, Proto, Str};
 use std::fmt;
 
-// A hexadecimal digit in lower case.
+/// A hexadecimal digit in lower case.
 fn glyph(digit: u16) -> char
     requires { digit < 16 }
     ensures ascii { result < 128 }
@@ -20,7 +20,7 @@ fn glyph(digit: u16) -> char
     (87 + digit) as u8 as char
 }
 
-// `\uXXXX`
+/// `\uXXXX`
 fn write_escape<W: fmt::Write>(f: &mut fmt::Formatter<W>, unit: u16) -> fmt::Result
     ensures { WritesOnOk W.write_str_gives f.old result (escape_text unit) f.new }
 {
@@ -31,7 +31,7 @@ fn write_escape<W: fmt::Write>(f: &mut fmt::Formatter<W>, unit: u16) -> fmt::Res
     f.write_char(glyph(unit % 16))
 }
 
-// A unit of a name.
+/// A unit of a name.
 fn write_unit<W: fmt::Write>(f: &mut fmt::Formatter<W>, unit: u16) -> fmt::Result
     ensures { WritesOnOk W.write_str_gives f.old result (name_unit unit) f.new }
 {

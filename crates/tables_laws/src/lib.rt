@@ -89,7 +89,7 @@ pub fn files_are_no_shorter()
     ensures { FilesAreNoShorter }
 {}
 
-/// The tables of a framed file hold exactly if none of the faults 20 to 35 stands.
+/// The tables of a framed file hold exactly if no fault of tables stands.
 pub fn tables_hold_without_fault()
     ensures hold { (b : List ℕ) → IsFramed b → ((e : Fault) → ¬ IsTableFault b e) → TablesHold b }
     ensures clear { (b : List ℕ) → IsFramed b → TablesHold b → (e : Fault) → ¬ IsTableFault b e }
@@ -118,7 +118,7 @@ pub fn names_compare_as_rows()
     ensures method { (b : List ℕ) → IsFramed b → TablesHold b → (i j : ℕ) (m n : _) → MethodStands b i m → MethodStands b j n → key_cmp (method_ref_key m) (method_ref_key n) ≡ nat_cmp i j }
 {}
 
-/// The tables of a framed file hold, or one of the faults 20 to 35 stands.
+/// The tables of a framed file hold, or a fault of tables stands.
 pub fn tables_are_decided()
     ensures { (b : List ℕ) → IsFramed b → TablesHold b ⊎ ((e : Fault) × IsTableFault b e) }
 {}

@@ -42,7 +42,7 @@ pub(crate) struct RankOf {
 }
 
 impl RankOf {
-    // The rank of the name with this number.
+    /// The rank of the name with this number.
     fn rank(&self, number: Number) -> usize
         ensures { result ≡ rank_by self.now number }
     {
@@ -54,7 +54,7 @@ impl RankOf {
         }
     }
 
-    // The ranks of the names with these numbers.
+    /// The ranks of the names with these numbers.
     fn ranks(&self, alloc: Global, numbers: &[Number]) -> Result<Vec<usize>, AllocError>
         ensures { IfOk result (λ ranks. ranks.items ≡ map (rank_by self.now) numbers.now) }
     {
@@ -163,7 +163,7 @@ impl<'a> Noted<'a> {
         }
     }
 
-    // As `add_members_of`, but after a refusal some of the members may be noted.
+    /// As `add_members_of`, but after a refusal some of the members may be noted.
     fn note_members_of<'p: 'a>(&mut self, arena: &'a Bump, class: &Class<'p>) -> Result<(), Fault>
         requires { AllByRecursion HasShorty (members_of (view.class class.now)) }
         ensures added { OnOk result (sets self.new.names ≡ with_names (sets self.old.names) (OfDesc (view.desc class.now.ty) ∷ members_of (view.class class.now))) }
@@ -179,7 +179,7 @@ impl<'a> Noted<'a> {
         self.note_methods(arena, number, class.ty, class.virtuals)
     }
 
-    // Adds the type of a class, without a note, and gives its number.
+    /// Adds the type of a class, without a note, and gives its number.
     fn add_class(&mut self, class: Desc<'a>) -> Result<usize, AllocError>
         ensures added { OnOk result (sets self.new.names ≡ with_name (sets self.old.names) (OfDesc (view.desc class.entry))) }
         ensures number { IfOk result (λ n. IsAt self.new.names.types n (key_of_desc class.entry)) }
@@ -191,7 +191,7 @@ impl<'a> Noted<'a> {
         Ok(number)
     }
 
-    // Adds a field of the class with this number, and notes it after the others.
+    /// Adds a field of the class with this number, and notes it after the others.
     fn note_field(&mut self, number: usize, name: &FieldRef<'a>) -> Result<(), AllocError>
         requires { IsAt self.old.names.types number (key_of_desc name.now.class) }
         ensures added { OnOk result (AddsNoted self.old self.new (OfField (view.field_ref name.now) ∷ [])) }
@@ -203,7 +203,7 @@ impl<'a> Noted<'a> {
         Ok(())
     }
 
-    // Adds fields of the class with this number, and notes them after the others.
+    /// Adds fields of the class with this number, and notes them after the others.
     fn note_fields<'p: 'a>(
         &mut self,
         number: usize,
@@ -226,7 +226,7 @@ impl<'a> Noted<'a> {
         Ok(())
     }
 
-    // Adds a method of the class with this number, and notes it after the others.
+    /// Adds a method of the class with this number, and notes it after the others.
     fn note_method(
         &mut self,
         arena: &'a Bump,
@@ -246,7 +246,7 @@ impl<'a> Noted<'a> {
         Ok(())
     }
 
-    // Adds methods of the class with this number, and notes them after the others.
+    /// Adds methods of the class with this number, and notes them after the others.
     fn note_methods<'p: 'a>(
         &mut self,
         arena: &'a Bump,
@@ -284,7 +284,7 @@ impl<'a> Noted<'a> {
     }
 }
 
-// The names with their ranks, and the ranks of those with these numbers.
+/// The names with their ranks, and the ranks of those with these numbers.
 fn ranked<'a>(
     numbered: NumberedNames<'a>,
     numbers: &[Number],

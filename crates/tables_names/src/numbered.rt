@@ -327,7 +327,7 @@ impl<'a> NumberedNames<'a> {
     }
 }
 
-// Three kinds with their ranks.
+/// Three kinds with their ranks.
 fn ranked_parts<'a>(
     alloc: Global,
     strings: NameSet<Str<'a>>,
@@ -352,7 +352,7 @@ fn ranked_parts<'a>(
     })
 }
 
-// Two kinds with their ranks.
+/// Two kinds with their ranks.
 fn ranked_members<'a>(
     alloc: Global,
     parts: &Parts<'a>,

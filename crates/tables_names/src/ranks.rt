@@ -61,7 +61,7 @@ impl<'a> Model for Ranks<'a> {
 }
 
 impl<'a> Ranks<'a> {
-    // Five sets that hold each name's parts, with the ranks of these; and of each name, by its number, the rank.
+    /// Five sets that hold each name's parts, with the ranks of these; and of each name, by its number, the rank.
     pub(crate) fn from_sorted(parts: Parts<'a>, members: Members<'a>) -> (Self, RankOf)
         requires { IsTables record {
           names = record { strings = parts.strings.names; types = parts.types.table.names; protos = parts.protos.table.names; fields = members.fields.table.names; methods = members.methods.table.names };

@@ -11,7 +11,7 @@ ghost use Rattle.tables_names.specs.Rank.{Rising, LookUpAnswers};
 use program_types::{Proto, Str, letter};
 use std::cmp::Ordering;
 
-// The letter of the return type, and then of the parameters.
+/// The letter of the return type, and then of the parameters.
 fn letter_at(name: &Proto<'_>, i: usize) -> u16
     requires { i < length (shorty (proto name.now)) }
     ensures { result ≡ get_or (shorty (proto name.now)) i 0 }
@@ -23,7 +23,7 @@ fn letter_at(name: &Proto<'_>, i: usize) -> u16
     }
 }
 
-// How a text compares with the shorty of a prototype.
+/// How a text compares with the shorty of a prototype.
 fn cmp_shorty(text: Str<'_>, name: &Proto<'_>) -> Ordering
     ensures { result ≡ slice_cmp nat_cmp (str text.entry) (shorty (proto name.now)) }
 {

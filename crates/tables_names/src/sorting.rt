@@ -123,7 +123,7 @@ impl<'a> Numbers<Parts<'a>> for MethodParts {
     }
 }
 
-// The names, each after the ranks of its parts and before its number.
+/// The names, each after the ranks of its parts and before its number.
 fn with_ranks<T, P: Numbers<T>, N: Row>(
     alloc: Global,
     names: &[N],
@@ -142,8 +142,8 @@ fn with_ranks<T, P: Numbers<T>, N: Row>(
     Ok(rows)
 }
 
-// The names of a kind, sorted by the ranks of their parts, and by themselves where these tie; each after these ranks and before
-// its number.
+/// The names of a kind, sorted by the ranks of their parts, and by themselves where these tie; each after these ranks and before
+/// its number.
 fn sorted_rows<T, P: Numbers<T>, N: Row>(
     alloc: Global,
     made: &NamesWithParts<N, P>,
@@ -160,7 +160,7 @@ fn sorted_rows<T, P: Numbers<T>, N: Row>(
     Ok(rows)
 }
 
-// The ranks of the parts of each name.
+/// The ranks of the parts of each name.
 fn parts_of<N: Copy, P: Copy>(alloc: Global, rows: &[(P, N, usize)]) -> Result<Vec<P>, AllocError>
     ensures { IfOk result (λ parts. parts.items ≡ map (λ r. r.0) rows.now) }
 {
@@ -185,7 +185,7 @@ pub(crate) fn names_of<N: Copy, P: Copy>(
     Ok(names)
 }
 
-// Of each name, by its number, the rank: the place of its row, where the rows stand in the order of the ranks. No name is looked up.
+/// Of each name, by its number, the rank: the place of its row, where the rows stand in the order of the ranks. No name is looked up.
 fn ranks_of<N: Row, P: Copy>(
     alloc: Global,
     names: &[N],
@@ -215,7 +215,7 @@ pub(crate) fn at(numbers: &[usize], place: usize) -> usize
     }
 }
 
-// The names, each before its number.
+/// The names, each before its number.
 fn with_numbers<N: Row>(alloc: Global, names: &[N]) -> Result<Vec<((), N, usize)>, AllocError>
     ensures names { IfOk result (λ rows. map (λ r. r.1) rows.items ≡ names.now) }
     ensures numbers { IfOk result (λ rows. All (λ r. IsAt (map N.key names.now) r.2 (N.key r.1)) rows.items) }
@@ -227,7 +227,7 @@ fn with_numbers<N: Row>(alloc: Global, names: &[N]) -> Result<Vec<((), N, usize)
     Ok(rows)
 }
 
-// Names that have no parts, sorted by themselves; each before its number.
+/// Names that have no parts, sorted by themselves; each before its number.
 fn sorted_names<N: Row>(alloc: Global, names: &[N]) -> Result<Vec<((), N, usize)>, AllocError>
     requires { IsDistinct N.eq names.now }
     ensures same { IfOk result (λ rows. map N.key (map (λ r. r.1) rows.items) ≡ set_of (map N.key names.now)) }

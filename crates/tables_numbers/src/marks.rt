@@ -83,7 +83,7 @@ impl Marks {
         })
     }
 
-    // Marks a row of string_ids.
+    /// Marks a row of string_ids.
     fn mark_string(&mut self, index: u32)
         requires { (b : _) × HasMarks b self.old × ((t : _) × StringStands b index t) }
         ensures { (b : _) (t : _) → StringStands b index t → AddsNames b self.old self.new (OfText t ∷ []) }
@@ -91,7 +91,7 @@ impl Marks {
         mark(&mut self.strings, index);
     }
 
-    // Marks a row of type_ids and its text.
+    /// Marks a row of type_ids and its text.
     fn mark_type(&mut self, sections: &Sections<'_>, index: u32)
         requires marks { HasMarks sections.now self.old }
         requires row { (t : _) × TypeStands sections.now index t }
@@ -132,7 +132,7 @@ impl Marks {
         Ok(())
     }
 
-    // Marks a row of proto_ids, its shorty and its types.
+    /// Marks a row of proto_ids, its shorty and its types.
     fn mark_proto(&mut self, sections: &Sections<'_>, index: u32) -> Result<(), Fault>
         requires marks { HasMarks sections.now self.old }
         requires row { (p : Proto) × ProtoStands sections.now index p }
@@ -150,7 +150,7 @@ impl Marks {
         Ok(())
     }
 
-    // Marks a row of field_ids, its class, name and type.
+    /// Marks a row of field_ids, its class, name and type.
     fn mark_field(&mut self, sections: &Sections<'_>, index: u32)
         requires marks { HasMarks sections.now self.old }
         requires row { (f : _) × FieldStands sections.now index f }
@@ -166,7 +166,7 @@ impl Marks {
         mark(&mut self.fields, index);
     }
 
-    // Marks a row of method_ids, its class, name and prototype.
+    /// Marks a row of method_ids, its class, name and prototype.
     fn mark_method(&mut self, sections: &Sections<'_>, index: u32) -> Result<(), Fault>
         requires marks { HasMarks sections.now self.old }
         requires row { (m : _) × MethodStands sections.now index m }

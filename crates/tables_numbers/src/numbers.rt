@@ -50,7 +50,7 @@ impl Numbers {
         self.seed
     }
 
-    // The numbers of the table of these names.
+    /// The numbers of the table of these names.
     fn column(&self, kind: IndexKind) -> &[u32]
         ensures { result.now ≡ column_of self.now kind }
     {

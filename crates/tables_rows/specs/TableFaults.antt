@@ -1,4 +1,4 @@
--- The faults of the five tables, 20 to 35: for each table the rules of a row, in the order in which they are asked, each with what
+-- The faults of the five tables: for each table the rules of a row, in the order in which they are asked, each with what
 -- is asked before it. Each has a meaning for any file; it is asked only where header, map and checksums, the tables before, and the
 -- rows before hold.
 use Rattle.std.specs.Prelude.{◌≡◌, ◌≢◌, ℕ, ◌<◌, ◌≤◌, ◌⊎◌, List}

@@ -1,4 +1,4 @@
-// The table field_ids: each row has a class, a type and a name ("field_id_item").
+//! The table field_ids: each row has a class, a type and a name ("field_id_item").
 ghost use Rattle.std.specs.Prelude.{◌≢◌, ◌<◌, IfOk, IfErr, map};
 ghost use Rattle.dex_container.specs.Fault.{memory};
 ghost use Rattle.dex_container.specs.Layout.{size_of};
@@ -46,7 +46,7 @@ pub(crate) fn read_fields<'a>(
     Ok(into_bump_slice(fields))
 }
 
-// The field of row i, which is above the row before it.
+/// The field of row i, which is above the row before it.
 #[tactic(auto, using(crate::specs::TableFaults::FieldOrder))]
 fn next_field<'a>(
     sections: &Sections<'_>,
@@ -70,7 +70,7 @@ fn next_field<'a>(
     Ok(field)
 }
 
-// The field of row i.
+/// The field of row i.
 #[tactic(auto, using(crate::specs::TableFaults::FieldIndex, crate::specs::TableFaults::FieldKind))]
 fn read_field<'a>(
     sections: &Sections<'_>,

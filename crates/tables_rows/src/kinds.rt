@@ -7,7 +7,7 @@ ghost use Rattle.program_types.specs.View.{desc};
 
 use program_types::Desc;
 
-// The first unit.
+/// The first unit.
 fn head(ty: Desc<'_>) -> u16
     ensures { result ≡ slice_index (desc ty.entry) 0 }
 {

@@ -1,4 +1,4 @@
-// The name at an index of a table that is read.
+//! The name at an index of a table that is read.
 ghost use Rattle.std.specs.Prelude.{◌≡◌, ◌≤◌, IfSome, IfNone, length, map, slice_get};
 ghost use Rattle.dex_container.specs.Layout.{size_of};
 ghost use Rattle.dex_container.specs.Section as section;

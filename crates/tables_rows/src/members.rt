@@ -1,4 +1,4 @@
-// What rows of field_ids and method_ids have in common: the order by class, name, and type or proto.
+//! What rows of field_ids and method_ids have in common: the order by class, name, and type or proto.
 ghost use Rattle.std.specs.Prelude.{◌↔◌, ◌<◌, IsTrue};
 ghost use Rattle.dex_container.specs.Layout.{size_of};
 ghost use Rattle.tables_rows.specs.RowFields.{number_of};
@@ -16,7 +16,7 @@ pub(crate) fn rises(sections: &Sections<'_>, table: MemberTable, i: u32) -> bool
     i == 0 || is_below(sections, table, i - 1, i)
 }
 
-// Whether row i is below row j.
+/// Whether row i is below row j.
 fn is_below(sections: &Sections<'_>, table: MemberTable, i: u32, j: u32) -> bool
     requires i { i < size_of sections.now (number_of table) }
     requires j { j < size_of sections.now (number_of table) }

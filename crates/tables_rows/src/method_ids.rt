@@ -1,4 +1,4 @@
-// The table method_ids: each row has a class, a proto and a name ("method_id_item").
+//! The table method_ids: each row has a class, a proto and a name ("method_id_item").
 ghost use Rattle.std.specs.Prelude.{◌≢◌, ◌<◌, IfOk, IfErr, map};
 ghost use Rattle.dex_container.specs.Fault.{memory};
 ghost use Rattle.dex_container.specs.Layout.{size_of};
@@ -49,7 +49,7 @@ pub(crate) fn read_methods<'a>(
     Ok(into_bump_slice(methods))
 }
 
-// The method of row i, which is above the row before it.
+/// The method of row i, which is above the row before it.
 #[tactic(auto, using(crate::specs::TableFaults::MethodOrder))]
 fn next_method<'a>(
     sections: &Sections<'_>,
@@ -75,7 +75,7 @@ fn next_method<'a>(
     Ok(method)
 }
 
-// The method of row i.
+/// The method of row i.
 #[tactic(auto, using(crate::specs::TableFaults::MethodIndex, crate::specs::TableFaults::MethodKind))]
 fn read_method<'a>(
     sections: &Sections<'_>,

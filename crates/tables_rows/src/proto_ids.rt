@@ -1,4 +1,4 @@
-// The table proto_ids: each row has a shorty, a return type and a list of parameters ("proto_id_item").
+//! The table proto_ids: each row has a shorty, a return type and a list of parameters ("proto_id_item").
 ghost use Rattle.std.specs.Prelude.{◌≡◌, ◌≢◌, ◌↔◌, ◌<◌, ◌*◌, ◌∷◌, IfOk, IfErr, IfSome, IfNone, IsOkUnless, IsTrue, OnOk, length, map};
 ghost use Rattle.std.specs.Cmp.Lexicographic.{slice_cmp};
 ghost use Rattle.std.specs.Ordering.{nat_cmp};
@@ -28,8 +28,8 @@ use program_types::{Desc, Proto, Str, is_void, letter};
 use std::alloc::Global;
 use std::cmp::Ordering;
 
-// What is kept of a list of parameters: its types, and the letter of the return type and the row of the shorty of a row that has them.
-// Another row with these three has the right shorty too, so that its letters needn't be compared with the types.
+/// What is kept of a list of parameters: its types, and the letter of the return type and the row of the shorty of a row that has them.
+/// Another row with these three has the right shorty too, so that its letters needn't be compared with the types.
 #[derive(Clone, Copy)]
 struct Known<'a> {
     params: &'a [Desc<'a>],
@@ -63,7 +63,7 @@ pub(crate) fn read_protos<'a>(
     Ok(into_bump_slice(protos))
 }
 
-// The proto of row i, which is above the row before it.
+/// The proto of row i, which is above the row before it.
 #[tactic(auto, using(crate::specs::TableFaults::ProtoOrder))]
 fn next_proto<'a>(
     arena: &'a Bump,
@@ -92,7 +92,7 @@ fn next_proto<'a>(
     Ok(proto)
 }
 
-// The proto of row i.
+/// The proto of row i.
 #[tactic(auto, using(crate::specs::TableFaults::ProtoIndex, crate::specs::TableFaults::ParameterList, crate::specs::TableFaults::Shorty))]
 fn read_proto<'a>(
     arena: &'a Bump,
@@ -144,7 +144,7 @@ fn read_proto<'a>(
     Ok(Proto { ret, params })
 }
 
-// The parameters of the list at an offset, none of them void.
+/// The parameters of the list at an offset, none of them void.
 fn read_parameters<'a>(
     arena: &'a Bump,
     sections: &Sections<'_>,
@@ -170,8 +170,8 @@ fn read_parameters<'a>(
     Ok(Some(params))
 }
 
-// The parameters of the list at an offset, none of them void, with what is known of the list: what is kept of the
-// offset, or the list that is read now.
+/// The parameters of the list at an offset, none of them void, with what is known of the list: what is kept of the
+/// offset, or the list that is read now.
 fn parameters_at<'a>(
     arena: &'a Bump,
     sections: &Sections<'_>,
@@ -203,7 +203,7 @@ fn parameters_at<'a>(
     }))
 }
 
-// Whether the text is the shorty of these types.
+/// Whether the text is the shorty of these types.
 fn is_shorty(text: Str<'_>, ret: Desc<'_>, params: &[Desc<'_>]) -> bool
     ensures { IsTrue result ↔ (str text.entry ≡ shorty (record { ret = desc ret.entry; params = map desc params.now })) }
 {
@@ -225,7 +225,7 @@ fn is_shorty(text: Str<'_>, ret: Desc<'_>, params: &[Desc<'_>]) -> bool
     true
 }
 
-// Whether row i is above the row before it.
+/// Whether row i is above the row before it.
 fn rises(sections: &Sections<'_>, lists: Section, i: u32) -> bool
     requires framed { IsFramed sections.now }
     requires section { IsSectionOf sections.now 0x1001 lists }
@@ -235,7 +235,7 @@ fn rises(sections: &Sections<'_>, lists: Section, i: u32) -> bool
     i == 0 || is_below(sections, lists, i - 1, i)
 }
 
-// The order of two rows: by return type, and only where that is the same by parameters.
+/// The order of two rows: by return type, and only where that is the same by parameters.
 fn cmp_keys(first: u32, second: u32, a: &[u8], b: &[u8]) -> Ordering
     requires a { length a.now ≡ 2 * length (halves a.now) }
     requires b { length b.now ≡ 2 * length (halves b.now) }
@@ -247,7 +247,7 @@ fn cmp_keys(first: u32, second: u32, a: &[u8], b: &[u8]) -> Ordering
     }
 }
 
-// Whether row i is below row j.
+/// Whether row i is below row j.
 fn is_below(sections: &Sections<'_>, lists: Section, i: u32, j: u32) -> bool
     requires framed { IsFramed sections.now }
     requires section { IsSectionOf sections.now 0x1001 lists }

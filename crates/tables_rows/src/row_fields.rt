@@ -14,7 +14,7 @@ pub enum MemberTable {
 }
 
 impl MemberTable {
-    // The kind of the table in the map.
+    /// The kind of the table in the map.
     fn kind(self) -> u16
         ensures { result ≡ number_of self + 1 }
     {

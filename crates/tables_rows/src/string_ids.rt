@@ -1,4 +1,4 @@
-// The table string_ids: each row is the offset of a string_data_item ("string_id_item", "string_data_item").
+//! The table string_ids: each row is the offset of a string_data_item ("string_id_item", "string_data_item").
 ghost use Rattle.std.specs.Prelude.{◌≢◌, ◌↔◌, ◌<◌, IfOk, IfErr, IsTrue, map};
 ghost use Rattle.dex_container.specs.Fault.{memory};
 ghost use Rattle.dex_container.specs.Layout.{size_of};
@@ -43,7 +43,7 @@ pub(crate) fn read_strings<'a>(
     Ok(into_bump_slice(strings))
 }
 
-// The string of row i, which is above the last one before it.
+/// The string of row i, which is above the last one before it.
 #[tactic(auto, using(crate::specs::TableFaults::StringOrder))]
 fn next_string<'a>(
     alloc: Global,
@@ -68,7 +68,7 @@ fn next_string<'a>(
     Ok(string)
 }
 
-// The string of row i.
+/// The string of row i.
 #[tactic(auto, using(crate::specs::TableFaults::StringPlace, crate::specs::TableFaults::StringSpelling))]
 fn read_string<'a>(
     alloc: Global,
@@ -93,7 +93,7 @@ fn read_string<'a>(
     }
 }
 
-// Whether the string is above the last one.
+/// Whether the string is above the last one.
 fn is_above_last(strings: &[Str<'_>], next: Str<'_>) -> bool
     ensures { IsTrue result ↔ LastIsBelow (map str strings.now) (str next.entry) }
 {

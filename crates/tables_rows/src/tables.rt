@@ -1,4 +1,4 @@
-// The five tables of a file, read: the name of each row.
+//! The five tables of a file, read: the name of each row.
 ghost use Rattle.std.specs.Prelude.{◌≡◌, ◌≢◌, IfOk, IfErr, IfSome, IfNone, IsOkUnless, map, option_map, slice_get};
 ghost use Rattle.program_types.specs.View as view;
 ghost use Rattle.program_types.specs.Content as content;
@@ -53,8 +53,8 @@ impl<'a> Model for Tables<'a> {
 
 impl<'a> Tables<'a> {
     /// The names of the five tables of a file, every row of which must denote a name, used or not, and be above the row
-    /// before it. The faults are 20 to 35, in the order of the tables; in each the lowest row is answered, at its place
-    /// in bytes, and in a row the first fault in the order 20 to 25, 26, 28, 27, 29, 30 to 35. 255 is out of memory.
+    /// before it. The faults are those of the tables, in the order of the tables; in each the lowest row is answered, at
+    /// its place in bytes, and in a row the first fault in FORMAT's order. 255 is out of memory.
     ///
     /// ```
     /// use bumpalo::Bump;
@@ -229,7 +229,7 @@ impl<'a> Tables<'a> {
     }
 }
 
-// The tables, read in their order.
+/// The tables, read in their order.
 fn read_tables<'a>(
     alloc: Global,
     arena: &'a Bump,

@@ -1,4 +1,4 @@
-// The table type_ids: each row is the index of a string, a descriptor ("type_id_item").
+//! The table type_ids: each row is the index of a string, a descriptor ("type_id_item").
 ghost use Rattle.std.specs.Prelude.{◌≢◌, ◌↔◌, ◌<◌, IfOk, IfErr, IsTrue, map};
 ghost use Rattle.dex_container.specs.Fault.{memory};
 ghost use Rattle.dex_container.specs.Layout.{size_of};
@@ -36,7 +36,7 @@ pub(crate) fn read_types<'a>(
     Ok(into_bump_slice(types))
 }
 
-// The type of row i, which is above the row before it.
+/// The type of row i, which is above the row before it.
 #[tactic(auto, using(crate::specs::TableFaults::TypeOrder))]
 fn next_type<'a>(sections: &Sections<'_>, strings: &[Str<'a>], i: u32) -> Result<Desc<'a>, Fault>
     requires strings { AreRows StringStands sections.now section.string_ids (map str strings.now) }
@@ -52,7 +52,7 @@ fn next_type<'a>(sections: &Sections<'_>, strings: &[Str<'a>], i: u32) -> Result
     Ok(ty)
 }
 
-// The type of row i.
+/// The type of row i.
 #[tactic(auto, using(crate::specs::TableFaults::TypeIndex, crate::specs::TableFaults::TypeText))]
 fn read_type<'a>(sections: &Sections<'_>, strings: &[Str<'a>], i: u32) -> Result<Desc<'a>, Fault>
     requires strings { AreRows StringStands sections.now section.string_ids (map str strings.now) }
@@ -70,7 +70,7 @@ fn read_type<'a>(sections: &Sections<'_>, strings: &[Str<'a>], i: u32) -> Result
     Ok(Desc { text })
 }
 
-// Whether row i is above the row before it.
+/// Whether row i is above the row before it.
 fn rises(sections: &Sections<'_>, i: u32) -> bool
     requires { i < size_of sections.now section.type_ids }
     ensures { IsTrue result ↔ RowRises TypeIsBelow sections.now i }

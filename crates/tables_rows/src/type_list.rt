@@ -1,4 +1,4 @@
-// Lists of types, as parameters and interfaces have them ("type_list").
+//! Lists of types, as parameters and interfaces have them ("type_list").
 ghost use Rattle.std.specs.Prelude.{◌≡◌, ◌*◌, ◌+◌, ◌<◌, ℕ, List, IfOk, IfSome, IfNone, IsOkUnless, length, map};
 ghost use Rattle.std.specs.Cmp.Lexicographic.{slice_cmp};
 ghost use Rattle.std.specs.Ordering.{nat_cmp};
@@ -18,7 +18,7 @@ use dex_container::{Fault, Section, Sections, bytes_from, kind, u16_at, u32_at};
 use program_types::Desc;
 use std::cmp::Ordering;
 
-// The indices of the type_list at the front of these bytes, two bytes each.
+/// The indices of the type_list at the front of these bytes, two bytes each.
 fn spelled_indexes(bytes: &[u8]) -> Option<&[u8]>
     ensures some { IfSome result (λ indexes. Begins SpellsIndexes bytes.now (halves indexes.now) (4 + length indexes.now)) }
     ensures even { IfSome result (λ indexes. length indexes.now ≡ 2 * length (halves indexes.now)) }
@@ -34,7 +34,7 @@ fn spelled_indexes(bytes: &[u8]) -> Option<&[u8]>
     Some(&bytes[4..4 + 2 * count])
 }
 
-// The indices of the type_list at an offset.
+/// The indices of the type_list at an offset.
 fn indexes_at<'b>(sections: &Sections<'b>, lists: Section, off: u32) -> Option<&'b [u8]>
     requires section { IsSectionOf sections.now 0x1001 lists }
     ensures some { IfSome result (λ bytes. At SpellsIndexes sections.now 0x1001 4 off (halves bytes.now)) }

@@ -13,7 +13,7 @@ static NAMES: [&str; 4] = ["in.dex", "in.txt", "out", "out.0.part"];
 
 static OLD: [u8; 3] = *b"old";
 
-// What it is called, words, which streams are terminals, what the disk is like, the exit status, what standard error tells, and what OUT holds, if that is new.
+/// What it is called, words, which streams are terminals, what the disk is like, the exit status, what standard error tells, and what OUT holds, if that is new.
 struct Served {
     what: &'static str,
     words: &'static [&'static str],
@@ -41,7 +41,7 @@ fn set(disk: &mut Disk) -> bool {
         && disk.store("out", &OLD, 0o640)
 }
 
-// The status, if standard output has nothing and standard error has what is to be told.
+/// The status, if standard output has nothing and standard error has what is to be told.
 fn status_of(alloc: Global, disk: &mut Disk, case: &Served) -> Option<u8> {
     let mut output = Watched::new(Vec::new(alloc));
     let mut errors = Watched::new(Vec::new(alloc));
@@ -63,7 +63,7 @@ fn status_of(alloc: Global, disk: &mut Disk, case: &Served) -> Option<u8> {
     }
 }
 
-// OUT holds this, in its mode, and nothing stands beside it.
+/// OUT holds this, in its mode, and nothing stands beside it.
 fn has_out(disk: &Disk, bytes: &[u8]) -> Result<bool, AllocError> {
     let is_alone = disk.held("out.0.part")?.is_none();
     match disk.held("out")? {

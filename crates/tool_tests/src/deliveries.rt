@@ -15,7 +15,7 @@ static OLD: [u8; 3] = *b"old";
 
 static ANSWER: [u8; 3] = *b"new";
 
-// What stands at OUT before.
+/// What stands at OUT before.
 #[derive(Clone, Copy)]
 enum Before {
     Nothing,
@@ -23,16 +23,16 @@ enum Before {
     TwoNames,
 }
 
-// What it is called, what stands before, what the disk is like, and a sign for each call that fails, the first one first, up to the run in
-// which no call fails any more:
-//     =  the answer stands in OUT, and nothing beside it
-//     *  the same, but the file beside couldn't be taken away
-//     -  the run failed, OUT is as it was, and nothing stands beside it
-//     +  the run failed, and the whole answer stands beside OUT
-//     p  the run failed, OUT is as it was, and what was begun stands beside it
-//     ~  the run failed, and the answer stands in OUT, and nothing beside it
-//     x  the run failed, and OUT has a front of the answer
-//     ?  anything else
+/// What it is called, what stands before, what the disk is like, and a sign for each call that fails, the first one first, up to the run in
+/// which no call fails any more:
+///     =  the answer stands in OUT, and nothing beside it
+///     *  the same, but the file beside couldn't be taken away
+///     -  the run failed, OUT is as it was, and nothing stands beside it
+///     +  the run failed, and the whole answer stands beside OUT
+///     p  the run failed, OUT is as it was, and what was begun stands beside it
+///     ~  the run failed, and the answer stands in OUT, and nothing beside it
+///     x  the run failed, and OUT has a front of the answer
+///     ?  anything else
 struct Delivered(&'static str, Before, Manner, &'static [u8]);
 
 impl Case for Delivered {
@@ -69,7 +69,7 @@ fn is_held(disk: &Disk, name: &str, bytes: &[u8], mode: u32) -> Result<bool, All
     }
 }
 
-// OUT has these bytes, in its mode, and so has its other name.
+/// OUT has these bytes, in its mode, and so has its other name.
 fn has_out(disk: &Disk, before: Before, bytes: &[u8]) -> Result<bool, AllocError> {
     match before {
         Before::Nothing => is_held(disk, "out", bytes, 0o644),
@@ -88,7 +88,7 @@ fn is_as_before(disk: &Disk, before: Before) -> Result<bool, AllocError> {
     }
 }
 
-// What stands beside OUT: nothing, what was begun, the whole answer.
+/// What stands beside OUT: nothing, what was begun, the whole answer.
 #[derive(Clone, Copy)]
 enum Beside {
     Nothing,
@@ -122,7 +122,7 @@ fn sign_of(is_done: bool, is_old: bool, is_new: bool, beside: Beside) -> u8 {
     }
 }
 
-// The sign of a run over a disk like this.
+/// The sign of a run over a disk like this.
 fn sign_of_run(alloc: Global, before: Before, manner: Manner) -> Result<u8, AllocError> {
     let mut disk = Disk::new(alloc, &NAMES, manner, 64)?;
     set_and_sign(alloc, &mut disk, before)

@@ -12,8 +12,8 @@ const ASSEMBLE: Job = Job::Assemble { align: false };
 
 const ALIGN: Job = Job::Assemble { align: true };
 
-// A name for the case, the job, what is given, and what is answered: by a run, and by the calls that answer bytes, which
-// are lent or given away.
+/// A name for the case, the job, what is given, and what is answered: by a run, and by the calls that answer bytes, which
+/// are lent or given away.
 struct Answered(&'static str, Job, Given, Given);
 
 impl Case for Answered {
@@ -120,7 +120,7 @@ fn each_job_tells_the_fault_of_its_call(rt: HostRuntime) -> Result<(), Fail> {
     all_hold(rt.alloc(), &CASES)
 }
 
-// A name for the case, how a listing is assembled, the listing, and how the file is listed.
+/// A name for the case, how a listing is assembled, the listing, and how the file is listed.
 struct Listed(&'static str, Job, Given, Given);
 
 impl Case for Listed {

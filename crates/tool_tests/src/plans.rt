@@ -6,7 +6,7 @@ use dexasm_command::{Job, plan, usage_status};
 use std::alloc::Global;
 use std::test::Fail;
 
-// What words mean.
+/// What words mean.
 enum Meaning {
     // the job, FILE, OUT
     Plan(Job, Option<&'static str>, Option<&'static str>),

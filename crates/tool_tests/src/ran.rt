@@ -131,7 +131,7 @@ fn is_run_so(alloc: Global, given: &[u8], case: &Run) -> bool {
     is_told_so(done, &seen, output.into_inner().held.as_slice(), case.4)
 }
 
-// What is seen of the ends after a run.
+/// What is seen of the ends after a run.
 #[derive(Drop)]
 struct Seen {
     has_ended: bool,

@@ -45,7 +45,7 @@ fn check_reads_the_whole_file_and_answers(rt: HostRuntime) -> Result<(), Fail> {
     all_hold(rt.alloc(), &CASES)
 }
 
-// Whether a check from a slice into a vector answers ok.
+/// Whether a check from a slice into a vector answers ok.
 fn is_answered_at_once(alloc: Global, given: &[u8]) -> bool {
     let mut input = Watched::new(given);
     let mut output = Watched::new(Vec::new(alloc));
@@ -54,14 +54,14 @@ fn is_answered_at_once(alloc: Global, given: &[u8]) -> bool {
     done.is_ok() && has_ended && output.into_inner().as_slice() == b"ok\n".as_slice()
 }
 
-// Whether an empty piece neither ends a source nor fails.
+/// Whether an empty piece neither ends a source nor fails.
 fn is_no_end() -> bool {
     let mut input = Watched::new(WITHOUT_CLASSES.as_slice());
     let taken = input.take(&mut []);
     matches!(taken, Ok(0)) && !input.ended() && !Source::failed(&input)
 }
 
-// Whether a sink without room takes an empty piece, and fails at a byte.
+/// Whether a sink without room takes an empty piece, and fails at a byte.
 fn is_full() -> bool {
     let mut output = Watched::new(Cursor::new([0u8; 0]));
     let put = output.put(&[]);
@@ -70,7 +70,7 @@ fn is_full() -> bool {
     matches!(put, Ok(0)) && !has_failed && matches!(full, Ok(0)) && Sink::failed(&output)
 }
 
-// What ends do.
+/// What ends do.
 enum Ends {
     SliceAndVector,
     EmptyPiece,
@@ -101,7 +101,7 @@ fn ends_end_and_fail_as_they_tell(rt: HostRuntime) -> Result<(), Fail> {
     all_hold(rt.alloc(), &CASES)
 }
 
-// A failure, its line, its status.
+/// A failure, its line, its status.
 struct Failure(RunFault, &'static str, u8);
 
 impl Case for Failure {

@@ -141,7 +141,7 @@ fn a_writer_that_fails_holds_a_beginning_and_is_not_written_on(rt: HostRuntime) 
     all_hold(rt.alloc(), &CASES)
 }
 
-// Which end of a strip of the file of one class fails after each number of bytes.
+/// Which end of a strip of the file of one class fails after each number of bytes.
 enum Failing {
     Reader,
     Writer,

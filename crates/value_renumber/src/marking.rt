@@ -18,7 +18,7 @@ use dex_container::Sections;
 use dex_value::{SizedType, name_kind, sized_type, unsigned};
 use tables_numbers::Marks;
 
-// Marks the name that these bytes after a head stand for, if they stand for one.
+/// Marks the name that these bytes after a head stand for, if they stand for one.
 fn mark_low(marks: &mut Marks, sections: &Sections<'_>, head: u8, low: &[u8]) -> Result<(), Fault>
     requires marks { HasMarks sections.now marks.old }
     requires low { (v : Value) × IsLow sections.now (head % 32) low.now v }
@@ -37,7 +37,7 @@ fn mark_low(marks: &mut Marks, sections: &Sections<'_>, head: u8, low: &[u8]) ->
     }
 }
 
-// Marks what the value at the front of the bytes names; how many bytes it takes at most, and what follows it.
+/// Marks what the value at the front of the bytes names; how many bytes it takes at most, and what follows it.
 #[cycle(marked)]
 fn mark_value<'b>(
     marks: &mut Marks,
@@ -72,7 +72,7 @@ fn mark_value<'b>(
     }
 }
 
-// Marks what so many values at the front of the bytes name; how many bytes they take at most, and what follows them.
+/// Marks what so many values at the front of the bytes name; how many bytes they take at most, and what follows them.
 #[cycle(marked)]
 fn mark_values<'b>(
     marks: &mut Marks,

@@ -16,7 +16,7 @@ use dex_value::{SizedType, name_kind, number, put_plain, put_unsigned, sized_typ
 use std::alloc::Global;
 use tables_numbers::Numbers;
 
-// Appends the value that these bytes after a head stand for.
+/// Appends the value that these bytes after a head stand for.
 fn renumber_low(out: &mut Vec<u8>, numbers: &Numbers, head: u8, low: &[u8]) -> Result<(), Fault>
     requires { (b : List ℕ) × (s : Five) × (v : Value) × IsCarriedLow b numbers.now s (head % 32) low.now v }
     ensures ok { OnOk result ((b : List ℕ) (s : Five) (v : Value) → IsCarriedLow b numbers.now s (head % 32) low.now v
@@ -39,7 +39,7 @@ fn renumber_low(out: &mut Vec<u8>, numbers: &Numbers, head: u8, low: &[u8]) -> R
     }
 }
 
-// Appends the value at the front of the bytes; what follows it.
+/// Appends the value at the front of the bytes; what follows it.
 #[cycle(renumbered)]
 fn renumber_value<'b>(
     out: &mut Vec<u8>,
@@ -82,7 +82,7 @@ fn renumber_value<'b>(
     }
 }
 
-// Appends so many values at the front of the bytes; what follows them.
+/// Appends so many values at the front of the bytes; what follows them.
 #[cycle(renumbered)]
 fn renumber_values<'b>(
     out: &mut Vec<u8>,

@@ -28,7 +28,7 @@ pub enum Body {
     Handlers(u32),
 }
 
-// How many nops there are, and what stands before and after them.
+/// How many nops there are, and what stands before and after them.
 fn around(one: Body) -> (Option<Insn<'static>>, u32, Insn<'static>) {
     match one {
         Body::Over(count) => (Some(goto(count.saturating_add(1))), count, RETURN),
@@ -71,7 +71,7 @@ fn insns_of<'a>(arena: &'a Bump, one: Body) -> Result<&'a [Insn<'a>], Fault> {
     Ok(into_bump_slice(insns))
 }
 
-// How many tries there are.
+/// How many tries there are.
 fn count_of_tries(one: Body) -> u32 {
     match one {
         Body::Nops(_) | Body::Wide(_) => 1,
@@ -80,7 +80,7 @@ fn count_of_tries(one: Body) -> u32 {
     }
 }
 
-// The try of this number: the units from which and up to which it covers, and where exceptions are handled.
+/// The try of this number: the units from which and up to which it covers, and where exceptions are handled.
 fn try_at(one: Body, number: u32) -> Try<'static> {
     let (from, to, at) = match one {
         Body::Nops(count) => (0, count, 0),
@@ -122,7 +122,7 @@ pub fn of_two<'a>(arena: &'a Bump, one: Body, other: Body) -> Result<Program<'a>
     two_classes(arena, first, second)
 }
 
-// So many zeros.
+/// So many zeros.
 fn zeros<'a>(arena: &'a Bump, count: usize) -> Result<&'a [u8], Fault> {
     let mut bytes = Vec::new(arena);
     bytes.resize(count, 0u8)?;

@@ -29,7 +29,7 @@ pub fn has_bytes(file: &[u8], at: usize, bytes: &[u8]) -> bool {
     at <= file.len() && bytes.len() <= file.len() - at && &file[at..at + bytes.len()] == bytes
 }
 
-// The word at a place of a file, 0 where the file ends before.
+/// The word at a place of a file, 0 where the file ends before.
 fn word_at(file: &[u8], at: usize) -> u32 {
     if at > file.len() || file.len() - at < 4 {
         return 0;
@@ -65,7 +65,7 @@ pub fn begins_with_item(file: &[u8], tries: u8, units: &[u8], after: &[u8]) -> b
         && stands_after(file, units.len().saturating_add(16), after)
 }
 
-// The class data of two methods of one body, which has its code item at 204.
+/// The class data of two methods of one body, which has its code item at 204.
 static ONE_CODE: [u8; 12] = [
     0x00, 0x00, 0x02, 0x00, 0x00, 0x09, 0xcc, 0x01, 0x01, 0x09, 0xcc, 0x01,
 ];

@@ -8,14 +8,14 @@ use file_write::{strip, write};
 use std::alloc::Global;
 use std::test::Fail;
 
-// The file of the program that the bytes mean.
+/// The file of the program that the bytes mean.
 fn written(alloc: Global, file: &[u8]) -> Result<Vec<u8>, Fault> {
     let arena = Bump::new(alloc);
     let program = read(alloc, &arena, file)?;
     write(alloc, &program)
 }
 
-// Whether `strip` gives these bytes, and they are a file.
+/// Whether `strip` gives these bytes, and they are a file.
 fn is_left(alloc: Global, file: &[u8], made: &[u8]) -> bool {
     match strip(alloc, file) {
         Ok(left) => left.as_slice() == made && check(alloc, made).is_ok(),
@@ -37,13 +37,13 @@ fn is_answered_alike(alloc: Global, file: &[u8]) -> bool {
     }
 }
 
-// Whether the file with one byte changed is written as it is stripped, or refused as it is read.
+/// Whether the file with one byte changed is written as it is stripped, or refused as it is read.
 fn is_well_written(alloc: Global, at: usize, byte: u8) -> Result<bool, Fault> {
     let file = closed_with(alloc, &ONE_CLASS, at, &[byte])?;
     Ok(is_answered_alike(alloc, &file))
 }
 
-// A name for the case, and what each byte of the file in turn is made.
+/// A name for the case, and what each byte of the file in turn is made.
 struct Each(&'static str, u8);
 
 impl Case for Each {

@@ -77,7 +77,7 @@ impl Case for Left {
 }
 
 impl Made {
-    // The file before it is changed.
+    /// The file before it is changed.
     fn begun(&self, alloc: Global) -> Result<Vec<u8>, Fault> {
         match *self {
             Made::Written(classes) => file_of(alloc, &Program { classes }),
@@ -97,7 +97,7 @@ impl Made {
         }
     }
 
-    // Changes and closes the file, and tells whether all that is changed has its place.
+    /// Changes and closes the file, and tells whether all that is changed has its place.
     fn finish(&self, file: &mut [u8]) -> bool {
         let placed = self.change(file);
         close_file(file);
@@ -131,7 +131,7 @@ fn put_all(file: &mut [u8], changes: &[(usize, &[u8])]) -> bool {
     true
 }
 
-// The class rows stand at 168 and 200.
+/// The class rows stand at 168 and 200.
 fn put_array_places(file: &mut [u8]) -> bool {
     let at = length(file.len()).saturating_sub(5).to_le_bytes();
     put_bytes(file, 168 + 28, &at) && put_bytes(file, 200 + 28, &at)
@@ -154,7 +154,7 @@ fn is_refused_so(found: Fault, want: Want) -> bool {
     }
 }
 
-// Whether what is left is left as it is.
+/// Whether what is left is left as it is.
 fn is_kept(alloc: Global, left: &[u8]) -> bool {
     match strip(alloc, left) {
         Ok(again) => again.as_slice() == left,

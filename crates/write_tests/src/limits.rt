@@ -11,7 +11,7 @@ use program_types::Program;
 use std::alloc::Global;
 use std::test::Fail;
 
-// What a program has.
+/// What a program has.
 #[derive(Clone, Copy)]
 enum Given {
     // a class whose one method has this body
@@ -24,7 +24,7 @@ enum Given {
     Arrays,
 }
 
-// What is answered.
+/// What is answered.
 #[derive(Clone, Copy)]
 enum Answer {
     Written,
@@ -83,7 +83,7 @@ fn is_aligned<'a>(
     Ok(stands_after(&file, 0, bytes))
 }
 
-// The code item of a switch and its payload, with a nop between the two: 2 registers, 10 units.
+/// The code item of a switch and its payload, with a nop between the two: 2 registers, 10 units.
 const ITEM: &[u8] = &[
     2, 0, 0, 0, 0, 0, 0, 0, 0, 0, 0, 0, 10, 0, 0, 0, 0x2b, 0, 4, 0, 0, 0, 0, 0, 0, 1, 1, 0, 0, 0,
     0, 0, 0, 0, 0, 0,

@@ -19,16 +19,16 @@ const B: Desc<'static> = Desc {
     },
 };
 
-// `m`, the name of the method with a body.
+/// `m`, the name of the method with a body.
 const M: Str<'static> = Str { units: &[0x6d] };
 
-// `()V`.
+/// `()V`.
 static TO_VOID: Proto<'static> = Proto {
     ret: VOID,
     params: &[],
 };
 
-// Two units that rise with the number, each of them one of a name.
+/// Two units that rise with the number, each of them one of a name.
 fn units_of(number: u32) -> [u16; 2] {
     [
         0x100 + (number / 4096 % 4096) as u16,
@@ -41,7 +41,7 @@ pub fn name_of<'a>(arena: &'a Bump, number: u32) -> Result<Str<'a>, Fault> {
     place_str(arena, &units_of(number))
 }
 
-// The class type of this number.
+/// The class type of this number.
 fn type_of<'a>(arena: &'a Bump, number: u32) -> Result<Desc<'a>, Fault> {
     let [first, second] = units_of(number);
     Ok(Desc {
@@ -49,7 +49,7 @@ fn type_of<'a>(arena: &'a Bump, number: u32) -> Result<Desc<'a>, Fault> {
     })
 }
 
-// The field of this number, of type `I` or of a class type of its own.
+/// The field of this number, of type `I` or of a class type of its own.
 fn member<'a>(arena: &'a Bump, number: u32, of_ints: bool) -> Result<Member<'a>, Fault> {
     Ok(Member {
         name: name_of(arena, number)?,
@@ -71,7 +71,7 @@ pub fn fields<'a>(arena: &'a Bump, count: u32, of_ints: bool) -> Result<&'a [Mem
     Ok(into_bump_slice(fields))
 }
 
-// A prototype of its own for each number: two of 300 types.
+/// A prototype of its own for each number: two of 300 types.
 fn proto_of<'a>(arena: &'a Bump, number: u32) -> Result<&'a Proto<'a>, Fault> {
     let first = type_of(arena, number / 300)?;
     let second = type_of(arena, number % 300)?;
@@ -88,7 +88,7 @@ pub enum Has<'a> {
     OwnProto,
 }
 
-// The method of this number.
+/// The method of this number.
 fn method<'a>(arena: &'a Bump, number: u32, has: Has<'a>) -> Result<Method<'a>, Fault> {
     let (proto, code) = match has {
         Has::Body(code) => (&TO_VOID, code),
@@ -144,7 +144,7 @@ pub fn body<'a>(
     })?)
 }
 
-// The method `m()V` with this body, if there is one.
+/// The method `m()V` with this body, if there is one.
 fn with_body<'a>(arena: &'a Bump, code: Option<&'a Code<'a>>) -> Result<&'a [Method<'a>], Fault> {
     if code.is_none() {
         return Ok(&[]);
@@ -175,7 +175,7 @@ pub fn program<'a>(
     })
 }
 
-// The class of this type with these direct methods alone.
+/// The class of this type with these direct methods alone.
 fn with_methods<'a>(ty: Desc<'a>, directs: &'a [Method<'a>]) -> Class<'a> {
     Class {
         ty,

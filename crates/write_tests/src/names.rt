@@ -25,7 +25,7 @@ pub enum Many {
     Jumbo(u32),
 }
 
-// The text after all names of fields.
+/// The text after all names of fields.
 const LAST: Str<'static> = Str { units: &[0xffff] };
 
 fn fields_of<'a>(arena: &'a Bump, many: Many) -> Result<&'a [Member<'a>], Fault> {
@@ -45,7 +45,7 @@ fn methods_of<'a>(arena: &'a Bump, many: Many) -> Result<&'a [Method<'a>], Fault
     }
 }
 
-// The instruction that names one of them.
+/// The instruction that names one of them.
 fn insn_of<'a>(arena: &'a Bump, many: Many) -> Result<Option<Insn<'a>>, Fault> {
     let (a, b) = (0, 0);
     let one = match many {
@@ -76,7 +76,7 @@ fn insn_of<'a>(arena: &'a Bump, many: Many) -> Result<Option<Insn<'a>>, Fault> {
     Ok(Some(one))
 }
 
-// The body in which it stands.
+/// The body in which it stands.
 fn code_of<'a>(arena: &'a Bump, many: Many) -> Result<Option<&'a Code<'a>>, Fault> {
     match insn_of(arena, many)? {
         Some(insn) => {

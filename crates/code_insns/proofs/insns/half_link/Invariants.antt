@@ -8,4 +8,4 @@ use Rattle.code_insns.proofs.Lists.{EachSoFar}
 use Rattle.code_insns.proofs.insns.half_link.Given as goal
 
 abbrev pub invariant-loop-k : goal.invariant-loop-k
-invariant-loop-k l = EachSoFar (λ k. IsHalfLinked (NameIsAt l.tables) l.begins (get_or l.begins k 0) (raw_at (map raw l.insns) k)) (map insn l.half.items) l.k
+invariant-loop-k l = EachSoFar (λ k. IsHalfLinked (NameIsAt l.tables) l.starts (get_or l.starts k 0) (raw_at (map raw l.insns) k)) (map insn l.half.items) l.k

@@ -7,10 +7,10 @@ use Rattle.code_insns.proofs.ReadLaws.{half-payload, half-plain}
 use Rattle.code_insns.proofs.insns.half_linked.Goals as goal
 
 pub returns-then-is_payload-clause-some : goal.returns-then-is_payload-clause-some
-returns-then-is_payload-clause-some c = half-payload (NameIsAt c.args.tables.now) c.args.insns.now c.args.begins.now _ c.args.k _ (search rules) c.empty_payload.ensures
+returns-then-is_payload-clause-some c = half-payload (NameIsAt c.args.tables.now) c.args.insns.now c.args.starts.now _ c.args.k _ (search rules) c.empty_payload.ensures
 
 pub returns-clause-some : goal.returns-clause-some
-returns-clause-some c = weaker _ _ c.link.result (λ i s. half-plain (NameIsAt c.args.tables.now) c.args.insns.now c.args.begins.now _ c.args.k (insn i) s) c.link.ensures.some
+returns-clause-some c = weaker _ _ c.link.result (λ i s. half-plain (NameIsAt c.args.tables.now) c.args.insns.now c.args.starts.now _ c.args.k (insn i) s) c.link.ensures.some
 
 pub returns-clause-none : goal.returns-clause-none
 returns-clause-none c = rw at_raw c.link.ensures.none

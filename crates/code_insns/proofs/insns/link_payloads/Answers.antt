@@ -19,7 +19,7 @@ loop-k-preserved c =
     elim c.if-is_payload.branch [
       | then-is_payload+in_ok-half w ↦ rw w.half-is (put-in_place _ old c.loop-k.half _ c.loop-k.k c.loop-k.invariant inside (rw at_raw w.in_ok-half.ensures.ok))
       | else-is_payload w ↦ rw w.half-is (kept-in_place _ old (map insn c.loop-k.half) c.loop-k.k c.loop-k.invariant
-          (own-linked (NameIsAt c.args.tables.now) c.args.insns.now c.args.begins.now c.requires.table old c.args.origins.now c.requires.half c.requires.origins c.loop-k.k _ l (search rules) refl))
+          (own-linked (NameIsAt c.args.tables.now) c.args.insns.now c.args.starts.now c.requires.table old c.args.origins.now c.requires.half c.requires.origins c.loop-k.k _ l (search rules) refl))
     ]
 
 pub returns-clause-ok : goal.returns-clause-ok
@@ -29,5 +29,5 @@ returns-clause-ok c =
     let m = length-map c.args.insns.now raw in
     let l = c.loop-k-test.false in
     let end : c.loop-k.k ≡ length c.args.insns.now = omega arith in
-    linked-all (NameIsAt c.args.tables.now) c.args.insns.now c.args.begins.now c.requires.table old c.args.origins.now c.requires.half c.requires.origins (map insn c.loop-k.half) c.loop-k.k end
+    linked-all (NameIsAt c.args.tables.now) c.args.insns.now c.args.starts.now c.requires.table old c.args.origins.now c.requires.half c.requires.origins (map insn c.loop-k.half) c.loop-k.k end
     (record { count = (let s = c.loop-k.invariant.count in omega (arith, s, n, m, end)); each = c.loop-k.invariant.done })

@@ -9,4 +9,4 @@ use Rattle.code_insns.proofs.Lists.{EachInPlace}
 use Rattle.code_insns.proofs.insns.link_payloads.Given as goal
 
 abbrev pub invariant-loop-k : goal.invariant-loop-k
-invariant-loop-k l = EachInPlace (λ k. Says (NameIsAt l.tables) (lead l.begins (get_or l.begins (get_or l.origins k 0) 0)) (raw_at (map raw l.insns) k)) (map insn l.initial.half) (map insn l.half) l.k
+invariant-loop-k l = EachInPlace (λ k. Says (NameIsAt l.tables) (lead l.starts (get_or l.starts (get_or l.origins k 0) 0)) (raw_at (map raw l.insns) k)) (map insn l.initial.half) (map insn l.half) l.k

@@ -23,8 +23,8 @@ returns-in_err-check_linked-clause-err c =
       ),
     ))
 
-pub past_registers-past-requires-clause-begins : goal.past_registers-past-requires-clause-begins
-past_registers-past-requires-clause-begins c =
+pub past_registers-past-requires-clause-starts : goal.past_registers-past-requires-clause-starts
+past_registers-past-requires-clause-starts c =
     let N = NameIsAt c.args.tables.now in
     let a = subst (λ (xs : List RawInsn). AreLinked N (map raw xs) (map insn c.in_ok-insns.insns.now)) c.deref.ensures.value c.in_ok-insns.ensures.ok in
     c.deref-4.ensures.value ∙ c.in_ok-walked.ensures.table.is ∙ addresses-same N (map raw c.in_ok-walked.walked.insns.items) (map insn c.in_ok-insns.insns.now) a

@@ -1,5 +1,0 @@
-use Rattle.code_read.proofs.NamesHaveRows.{names-have-rows}
-use Rattle.code_read.proofs.file_codes.names_of_codes_have_rows.Goals as goal
-
-pub returns : goal.returns
-returns c = names-have-rows

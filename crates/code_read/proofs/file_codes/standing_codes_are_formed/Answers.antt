@@ -1,5 +1,0 @@
-use Rattle.code_read.proofs.CodesFormed.{standing-formed}
-use Rattle.code_read.proofs.file_codes.standing_codes_are_formed.Goals as goal
-
-pub returns : goal.returns
-returns c = standing-formed

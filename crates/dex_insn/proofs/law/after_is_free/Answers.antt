@@ -1,8 +1,0 @@
-use Rattle.dex_insn.proofs.Laws.{stands-before, stands-alone}
-use Rattle.dex_insn.proofs.law.after_is_free.Goals as goal
-
-pub returns-clause-more : goal.returns-clause-more
-returns-clause-more c = stands-before
-
-pub returns-clause-less : goal.returns-clause-less
-returns-clause-less c = stands-alone

@@ -1,5 +1,0 @@
-use Rattle.dex_insn.proofs.Laws.{stands-clear}
-use Rattle.dex_insn.proofs.law.clear_where_one_stands.Goals as goal
-
-pub returns : goal.returns
-returns c = stands-clear

@@ -1,5 +1,0 @@
-use Rattle.dex_insn.proofs.OneFault.{one_fault}
-use Rattle.dex_insn.proofs.law.one_fault.Goals as goal
-
-pub returns : goal.returns
-returns c = one_fault

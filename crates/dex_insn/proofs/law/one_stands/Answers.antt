@@ -1,5 +1,0 @@
-use Rattle.dex_insn.proofs.Laws.{one-stands}
-use Rattle.dex_insn.proofs.law.one_stands.Goals as goal
-
-pub returns : goal.returns
-returns c = one-stands

@@ -1,5 +1,0 @@
-use Rattle.dex_insn.proofs.Flaws.{rules_kept}
-use Rattle.dex_insn.proofs.law.rules_are_kept.Goals as goal
-
-pub returns : goal.returns
-returns c = rules_kept

@@ -1,5 +1,0 @@
-use Rattle.dex_insn.proofs.Laws.{stands-whole}
-use Rattle.dex_insn.proofs.law.whole_where_one_stands.Goals as goal
-
-pub returns : goal.returns
-returns c = stands-whole

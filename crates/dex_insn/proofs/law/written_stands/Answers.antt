@@ -1,5 +1,0 @@
-use Rattle.dex_insn.proofs.Laws.{written-stands}
-use Rattle.dex_insn.proofs.law.written_stands.Goals as goal
-
-pub returns : goal.returns
-returns c = written-stands

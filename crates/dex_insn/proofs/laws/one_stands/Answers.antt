@@ -1,0 +1,5 @@
+use Rattle.dex_insn.proofs.Laws.{one-stands}
+use Rattle.dex_insn.proofs.laws.one_stands.Goals as goal
+
+pub returns : goal.returns
+returns c = one-stands

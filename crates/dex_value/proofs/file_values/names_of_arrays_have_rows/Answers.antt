@@ -1,5 +1,0 @@
-use Rattle.dex_value.proofs.FileFaults as law
-use Rattle.dex_value.proofs.file_values.names_of_arrays_have_rows.Goals as goal
-
-pub returns : goal.returns
-returns c = law.names_have_rows

@@ -1,5 +1,0 @@
-use Rattle.file_read.proofs.FileDecided as law
-use Rattle.file_read.proofs.deciding.framed_files_are_decided.Goals as goal
-
-pub returns : goal.returns
-returns c = law.framed_is_decided

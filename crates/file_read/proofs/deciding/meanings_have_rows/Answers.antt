@@ -1,5 +1,0 @@
-use Rattle.file_read.proofs.WellLaws as law
-use Rattle.file_read.proofs.deciding.meanings_have_rows.Goals as goal
-
-pub returns : goal.returns
-returns c = law.program_rows

@@ -1,5 +1,0 @@
-use Rattle.listing_parse.proofs.OneFault.{fault_one}
-use Rattle.listing_parse.proofs.law.one_fault.Goals as goal
-
-pub returns : goal.returns
-returns c = fault_one

@@ -1,5 +1,0 @@
-use Rattle.listing_parse.proofs.ExactLaws.{listing_one, listing_none}
-use Rattle.listing_parse.proofs.law.one_program.Goals as goal
-
-pub returns : goal.returns
-returns c = record { one = listing_one; none = listing_none }

@@ -1,6 +1,0 @@
-use Rattle.listing_print.proofs.PrintedLaws.{value_whole}
-use Rattle.listing_print.proofs.MadeLaws.{value_made}
-use Rattle.listing_print.proofs.law.printed_values_are_read_again.Goals as goal
-
-pub returns : goal.returns
-returns c = record { slots = value_whole; says = value_made }
