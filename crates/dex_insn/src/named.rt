@@ -1,4 +1,5 @@
-//! The opcode of a mnemonic: a table of one slot a mnemonic, found by a hash of its text.
+//! The opcode of a mnemonic: a table of one slot a mnemonic, found by a hash of its text. `tools/mnemonics` writes the two tables,
+//! and says how.
 
 ghost use Rattle.std.specs.Prelude.{ℕ, ◌≡◌, IfSome, IfNone};
 ghost use Rattle.dex_insn.specs.Mnemonics.{IsNamed};
