@@ -261,7 +261,7 @@ def ask_map(file):
 
 
 def framed(data):
-    """The file, where none of the faults 1 to 14 stands."""
+    """The file, where no fault of header, map and checksums stands."""
     ask_header(data)
     file = File(data)
     ask_ranges(file)

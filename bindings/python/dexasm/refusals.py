@@ -8,9 +8,9 @@ from dexasm.code import Code
 from dexasm.members import Class, Method
 from dexasm.names import FieldRef, MethodRef, Type, type_of, unspelled
 
-_BY_LINE = range(100, 107)
+_BY_LINE = range(100, 110)
 # Whose place is a class; and those of them that each instruction breaks or keeps by itself.
-_BY_CLASS = (*range(82, 90), *range(110, 119))
+_BY_CLASS = (*range(82, 90), *range(110, 120))
 _BY_INSN = (110, 115, 118)
 _LEADS_TO_PAYLOAD = ("packed-switch", "sparse-switch", "fill-array-data")
 

@@ -59,8 +59,7 @@ pub fn meanings_have_rows()
     ensures { (b : List ℕ) (p : Program) → Means b p → IsMentionedIn p b }
 {}
 
-/// What a file means is well formed: its numbers and units lie in the ranges of their types, and it keeps the rules of programs, 110
-/// to 118.
+/// What a file means is well formed: its numbers and units lie in the ranges of their types, and it keeps the rules of programs.
 pub fn meanings_are_well_formed()
     ensures { (b : List ℕ) → AreBytes b → (p : Program) → Means b p → WellFormed p }
 {}
