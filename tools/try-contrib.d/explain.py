@@ -1,14 +1,15 @@
 """dexasm-explain: what it says of each refusal, whatever stands at its place."""
 import hashlib
 import json
+import re
 import struct
 import zlib
 
 from lint import replaced, stricter_files
-from trying import ESC, HEAD, LISTING, assembled, check, is_one_line, put, room, run, shell, tool, Tries
+from trying import ESC, HEAD, LISTING, TOP, assembled, check, get, is_one_line, put, room, run, shell, tool, Tries
 
-RANGES = ((1, 15), (20, 36), (40, 52), (60, 74), (80, 91), (100, 107), (110, 119), (255, 256))
-NUMBERS = [number for begin, end in RANGES for number in range(begin, end)]
+PAGES = "".join(get(TOP, f"docs/{name}.md").decode() for name in ("FORMAT", "LISTING"))
+NUMBERS = sorted({int(number) for number in re.findall(r"^\| (\d+) \| [A-Z]\w+ \|", PAGES, re.M)})
 CLASS = b"class LA; 0x1\nsuper Ljava/lang/Object;\n"
 
 
