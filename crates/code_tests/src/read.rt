@@ -5,7 +5,9 @@ use bumpalo::Bump;
 use code_read::read_code;
 use dex_base::{Fault, fault, push_words};
 use dex_container::open;
-use dex_samples::{Case, NOTHING, Rows, all_hold, file_of, item_of, length};
+use dex_samples::{
+    ALL_TO_0, Case, NOTHING, Rows, TryItem, all_hold, file_of, item_of, item_of_tries, length,
+};
 use program_types::Code;
 use std::alloc::Global;
 use std::test::Fail;
@@ -33,8 +35,10 @@ static CODED: Rows<'static> = Rows {
 /// A code item.
 #[derive(Clone, Copy)]
 enum Item {
-    // of 256 registers, no ins, no outs: so many tries, these units, and what stands after them
-    Units(u8, &'static [u8], &'static [u8]),
+    // of 256 registers, no ins, no outs, no tries: these units
+    Units(&'static [u8]),
+    // .. with these try_items, and this list of handlers
+    Tries(&'static [u8], &'static [TryItem], &'static [u8]),
     // of so many registers and ins, no outs, no tries, these units
     Registers(u16, u16, &'static [u8]),
     // these bytes, as the item that is looked for at this place
@@ -66,7 +70,8 @@ impl Case for Read {
 
 fn bytes_of(alloc: Global, item: Item) -> Result<Vec<u8>, Fault> {
     match item {
-        Item::Units(tries, units, after) => item_of(alloc, 256, tries, units, after),
+        Item::Units(units) => item_of(alloc, 256, 0, units, &[]),
+        Item::Tries(units, tries, list) => item_of_tries(alloc, 256, units, tries, list),
         Item::Registers(registers, ins, units) => of_registers(alloc, registers, ins, units),
         Item::At(_, bytes) => Ok(Vec::from_slice(alloc, bytes)?),
     }
@@ -145,47 +150,47 @@ const EIGHT: &[u8] = &[
 fn instructions_and_tries_are_read(rt: HostRuntime) -> Result<(), Fail> {
     static CASES: [Read; 13] = [
         // Instructions as numbers of five digits, one after the other.
-        Read("const/4 v0, -1", Item::Units(0, &[0x12, 0xf0], &[]), Want::Insns(21_801)),
-        Read("goto/32 to itself", Item::Units(0, &[0x2a, 0, 0, 0, 0, 0], &[]), Want::Insns(34_200)),
+        Read("const/4 v0, -1", Item::Units(&[0x12, 0xf0]), Want::Insns(21_801)),
+        Read("goto/32 to itself", Item::Units(&[0x2a, 0, 0, 0, 0, 0]), Want::Insns(34_200)),
         Read(
             "a switch whose target is itself",
-            Item::Units(0, &[0x2b, 0, 4, 0, 0, 0, 0, 0, 0, 1, 1, 0, 7, 0, 0, 0, 0, 0, 0, 0], &[]),
+            Item::Units(&[0x2b, 0, 4, 0, 0, 0, 0, 0, 0, 1, 1, 0, 7, 0, 0, 0, 0, 0, 0, 0]),
             Want::Insns(443021000057001),
         ),
         Read(
             "a switch whose target is the nop after it",
-            Item::Units(0, &[0x2b, 0, 4, 0, 0, 0, 0, 0, 0, 1, 1, 0, 0, 0, 0, 0, 3, 0, 0, 0], &[]),
+            Item::Units(&[0x2b, 0, 4, 0, 0, 0, 0, 0, 0, 1, 1, 0, 0, 0, 0, 0, 3, 0, 0, 0]),
             Want::Insns(443021000050002),
         ),
         // The handlers of each try as three digits each, then its catch-all, its end and its begin.
         Read(
-            "a try of the first unit of const-wide, of 5", Item::Units(1, WIDE, &[0, 0, 0, 0, 1, 0, 1, 0, 1, 0, 0]),
+            "a try of the first unit of const-wide, of 5", Item::Tries(WIDE, &[(0, 1, 1)], ALL_TO_0),
             Want::Tries(10),
         ),
-        Read("a try of const-wide", Item::Units(1, WIDE, &[0, 0, 0, 0, 5, 0, 1, 0, 1, 0, 0]), Want::Tries(10)),
+        Read("a try of const-wide", Item::Tries(WIDE, &[(0, 5, 1)], ALL_TO_0), Want::Tries(10)),
         Read(
-            "a try of const-wide and return-void", Item::Units(1, WIDE, &[0, 0, 0, 0, 6, 0, 1, 0, 1, 0, 0]),
+            "a try of const-wide and return-void", Item::Tries(WIDE, &[(0, 6, 1)], ALL_TO_0),
             Want::Tries(20),
         ),
         Read(
             "a handler of Z at 5 and a catch-all at 7",
-            Item::Units(1, EIGHT, &[0, 0, 0, 0, 2, 0, 1, 0, 1, 0x7f, 3, 5, 7]), Want::Tries(905_720),
+            Item::Tries(EIGHT, &[(0, 2, 1)], &[1, 0x7f, 3, 5, 7]), Want::Tries(905_720),
         ),
         Read(
-            "a handler of LA; and no catch-all", Item::Units(1, EIGHT, &[1, 0, 0, 0, 2, 0, 1, 0, 1, 1, 1, 5]),
+            "a handler of LA; and no catch-all", Item::Tries(EIGHT, &[(1, 2, 1)], &[1, 1, 1, 5]),
             Want::Tries(765_931),
         ),
         Read(
-            "units 1 to 3 of a loop", Item::Units(1, LOOP, &[0, 0, 1, 0, 0, 0, 3, 0, 1, 0, 1, 0, 4]),
+            "units 1 to 3 of a loop", Item::Tries(LOOP, &[(1, 3, 1)], &[1, 0, 4]),
             Want::Tries(331),
         ),
         Read(
-            "the first unit of if-eqz", Item::Units(1, LOOP, &[0, 0, 1, 0, 0, 0, 1, 0, 1, 0, 1, 0, 4]),
+            "the first unit of if-eqz", Item::Tries(LOOP, &[(1, 1, 1)], &[1, 0, 4]),
             Want::Tries(321),
         ),
-        Read("both units of if-eqz", Item::Units(1, LOOP, &[0, 0, 1, 0, 0, 0, 2, 0, 1, 0, 1, 0, 4]), Want::Tries(321)),
+        Read("both units of if-eqz", Item::Tries(LOOP, &[(1, 2, 1)], &[1, 0, 4]), Want::Tries(321)),
         Read(
-            "units 1 to 4 of a loop", Item::Units(1, LOOP, &[0, 0, 1, 0, 0, 0, 4, 0, 1, 0, 1, 0, 4]),
+            "units 1 to 4 of a loop", Item::Tries(LOOP, &[(1, 4, 1)], &[1, 0, 4]),
             Want::Tries(341),
         ),
     ];
@@ -221,27 +226,27 @@ fn places_tries_and_registers_have_their_fault(rt: HostRuntime) -> Result<(), Fa
         // after it.
         Read(
             "all is well",
-            Item::At(CODE_AT, &[1, 0, 0, 0, 0, 0, 1, 0, 0, 0, 0, 0, 5, 0, 0, 0, 0x12, 0, 0x38, 0, 3, 0, 0x28, 0xfe, 0x0e, 0, 0, 0, 1, 0, 0, 0, 3, 0, 1, 0, 1, 0, 4]),
+            Item::Tries(LOOP, &[(1, 3, 1)], &[1, 0, 4]),
             Want::Fault((0, 0)),
         ),
         Read(
             "a count of 0",
-            Item::At(CODE_AT, &[1, 0, 0, 0, 0, 0, 1, 0, 0, 0, 0, 0, 5, 0, 0, 0, 0x12, 0, 0x38, 0, 3, 0, 0x28, 0xfe, 0x0e, 0, 0, 0, 1, 0, 0, 0, 0, 0, 1, 0, 1, 0, 4]),
+            Item::Tries(LOOP, &[(1, 0, 1)], &[1, 0, 4]),
             Want::Fault((fault::TRY, 208)),
         ),
         Read(
             "a count of 5",
-            Item::At(CODE_AT, &[1, 0, 0, 0, 0, 0, 1, 0, 0, 0, 0, 0, 5, 0, 0, 0, 0x12, 0, 0x38, 0, 3, 0, 0x28, 0xfe, 0x0e, 0, 0, 0, 1, 0, 0, 0, 5, 0, 1, 0, 1, 0, 4]),
+            Item::Tries(LOOP, &[(1, 5, 1)], &[1, 0, 4]),
             Want::Fault((fault::TRY, 208)),
         ),
         Read(
             "handler_off 0",
-            Item::At(CODE_AT, &[1, 0, 0, 0, 0, 0, 1, 0, 0, 0, 0, 0, 5, 0, 0, 0, 0x12, 0, 0x38, 0, 3, 0, 0x28, 0xfe, 0x0e, 0, 0, 0, 1, 0, 0, 0, 3, 0, 0, 0, 1, 0, 4]),
+            Item::Tries(LOOP, &[(1, 3, 0)], &[1, 0, 4]),
             Want::Fault((fault::HANDLER, 216)),
         ),
         Read(
             "a catch-all inside if-eqz",
-            Item::At(CODE_AT, &[1, 0, 0, 0, 0, 0, 1, 0, 0, 0, 0, 0, 5, 0, 0, 0, 0x12, 0, 0x38, 0, 3, 0, 0x28, 0xfe, 0x0e, 0, 0, 0, 1, 0, 0, 0, 3, 0, 1, 0, 1, 0, 2]),
+            Item::Tries(LOOP, &[(1, 3, 1)], &[1, 0, 2]),
             Want::Fault((fault::HANDLER, 216)),
         ),
         // Registers are among those of the code.

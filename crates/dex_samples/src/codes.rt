@@ -42,6 +42,52 @@ pub fn item_of(
     Ok(item)
 }
 
+/// A try_item: the unit from which on it covers, how many units it covers, and where in the list its handler begins.
+pub type TryItem = (u32, u16, u16);
+
+/// A list of one handler: a catch-all that leads to unit 0.
+pub const ALL_TO_0: &[u8] = &[1, 0, 0];
+
+/// How many there are, in a byte.
+pub fn count_of(len: usize) -> u8 {
+    match u8::try_from(len) {
+        Ok(count) => count,
+        Err(_) => u8::MAX,
+    }
+}
+
+/// What stands after these units: zeros to a multiple of 4, these try_items, and this list of handlers.
+pub fn after_units(
+    alloc: Global,
+    units: &[u8],
+    tries: &[TryItem],
+    list: &[u8],
+) -> Result<Vec<u8>, Fault> {
+    let mut after = Vec::new(alloc);
+    if units.len() % 4 != 0 {
+        after.extend_from_slice(&[0, 0])?;
+    }
+    for (start, count, handler) in tries {
+        after.extend_from_slice(&start.to_le_bytes())?;
+        after.extend_from_slice(&count.to_le_bytes())?;
+        after.extend_from_slice(&handler.to_le_bytes())?;
+    }
+    after.extend_from_slice(list)?;
+    Ok(after)
+}
+
+/// A code item of so many registers, no ins and no outs: these units, these try_items, and this list of handlers.
+pub fn item_of_tries(
+    alloc: Global,
+    registers: u16,
+    units: &[u8],
+    tries: &[TryItem],
+    list: &[u8],
+) -> Result<Vec<u8>, Fault> {
+    let after = after_units(alloc, units, tries, list)?;
+    item_of(alloc, registers, count_of(tries.len()), units, &after)
+}
+
 /// The file of a class whose one method has this code item.
 pub fn file_of_item(alloc: Global, item: &[u8]) -> Result<Vec<u8>, Fault> {
     // after the item stand 17 bytes of strings

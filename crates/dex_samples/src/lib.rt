@@ -34,6 +34,9 @@ mod arena;
 mod names;
 mod shown;
 
+// Names that are constants.
+pub mod types;
+
 // Files: whole, by edits, from rows, of one code item.
 mod codes;
 mod edits;
@@ -46,7 +49,9 @@ mod written;
 mod ends;
 
 pub use arena::first_unit;
-pub use codes::{file_of_item, item_of, length};
+pub use codes::{
+    ALL_TO_0, TryItem, after_units, count_of, file_of_item, item_of, item_of_tries, length,
+};
 pub use edits::{MISPLACED, close_file, closed_with, put_bytes, with_bytes};
 pub use ends::{TestReader, TestWriter, reader, reader_failing_once, writer, writer_failing_once};
 pub use files::{ONE_CLASS, WITHOUT_CLASSES};

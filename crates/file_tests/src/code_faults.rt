@@ -1,10 +1,10 @@
 //! The faults of code: a file for each, of a class whose one method has a code item that breaks one rule.
 
-use crate::made::Made::{Code, Methods};
+use crate::made::Made::{Code, Methods, Tries};
 use crate::told::Asked::Whole;
 use crate::told::Told;
 use dex_base::fault;
-use dex_samples::all_hold;
+use dex_samples::{ALL_TO_0, all_hold};
 use std::test::Fail;
 
 #[rattlefmt::skip]
@@ -105,57 +105,57 @@ fn each_rule_of_code_has_its_fault(rt: HostRuntime) -> Result<(), Fail> {
         ),
         Told(
             Whole, "a try that begins in an instruction",
-            Code(1, &[0x13, 0, 0, 0, 0x0e, 0], &[0, 0, 1, 0, 0, 0, 1, 0, 1, 0, 1, 0, 0]), (fault::TRY, 228),
+            Tries(&[0x13, 0, 0, 0, 0x0e, 0], &[(1, 1, 1)], ALL_TO_0), (fault::TRY, 228),
         ),
         Told(
-            Whole, "a try that covers nothing", Code(1, &[0x0e, 0, 0x0e, 0], &[0, 0, 0, 0, 0, 0, 1, 0, 1, 0, 0]),
+            Whole, "a try that covers nothing", Tries(&[0x0e, 0, 0x0e, 0], &[(0, 0, 1)], ALL_TO_0),
             (fault::TRY, 224),
         ),
         Told(
-            Whole, "a try past the end", Code(1, &[0x0e, 0, 0x0e, 0], &[1, 0, 0, 0, 2, 0, 1, 0, 1, 0, 0]),
+            Whole, "a try past the end", Tries(&[0x0e, 0, 0x0e, 0], &[(1, 2, 1)], ALL_TO_0),
             (fault::TRY, 224),
         ),
         Told(
             Whole, "tries that overlap",
-            Code(2, &[0x0e, 0, 0x0e, 0], &[0, 0, 0, 0, 2, 0, 1, 0, 1, 0, 0, 0, 1, 0, 1, 0, 1, 0, 0]),
+            Tries(&[0x0e, 0, 0x0e, 0], &[(0, 2, 1), (1, 1, 1)], ALL_TO_0),
             (fault::TRY, 232),
         ),
         Told(
-            Whole, "tries go before handlers", Code(1, &[0x0e, 0, 0x0e, 0], &[0, 0, 0, 0, 3, 0, 1, 0]),
+            Whole, "tries go before handlers", Tries(&[0x0e, 0, 0x0e, 0], &[(0, 3, 1)], &[]),
             (fault::TRY, 224),
         ),
-        Told(Whole, "no list", Code(1, &[0x0e, 0, 0x0e, 0], &[0, 0, 0, 0, 1, 0, 1, 0]), (fault::HANDLER, 232)),
+        Told(Whole, "no list", Tries(&[0x0e, 0, 0x0e, 0], &[(0, 1, 1)], &[]), (fault::HANDLER, 232)),
         Told(
-            Whole, "a list that is cut", Code(1, &[0x0e, 0, 0x0e, 0], &[0, 0, 0, 0, 1, 0, 1, 0, 1, 0]),
+            Whole, "a list that is cut", Tries(&[0x0e, 0, 0x0e, 0], &[(0, 1, 1)], &[1, 0]),
             (fault::HANDLER, 232),
         ),
         Told(
             Whole, "a number that is misspelled",
-            Code(1, &[0x0e, 0, 0x0e, 0], &[0, 0, 0, 0, 1, 0, 1, 0, 1, 0, 0xff, 0xff, 0xff, 0xff, 0xff]),
+            Tries(&[0x0e, 0, 0x0e, 0], &[(0, 1, 1)], &[1, 0, 0xff, 0xff, 0xff, 0xff, 0xff]),
             (fault::HANDLER, 232),
         ),
         Told(
             Whole, "a type that is caught and isn't there",
-            Code(1, &[0x0e, 0, 0x0e, 0], &[0, 0, 0, 0, 1, 0, 1, 0, 1, 1, 3, 0]), (fault::HANDLER, 232),
+            Tries(&[0x0e, 0, 0x0e, 0], &[(0, 1, 1)], &[1, 1, 3, 0]), (fault::HANDLER, 232),
         ),
         Told(
             Whole, "a handler that is no instruction",
-            Code(1, &[0x0e, 0, 0x0e, 0], &[0, 0, 0, 0, 1, 0, 1, 0, 1, 1, 0, 2]), (fault::HANDLER, 232),
+            Tries(&[0x0e, 0, 0x0e, 0], &[(0, 1, 1)], &[1, 1, 0, 2]), (fault::HANDLER, 232),
         ),
         Told(
             Whole, "a catch-all that is no instruction",
-            Code(1, &[0x0e, 0, 0x0e, 0], &[0, 0, 0, 0, 1, 0, 1, 0, 1, 0, 2]), (fault::HANDLER, 232),
+            Tries(&[0x0e, 0, 0x0e, 0], &[(0, 1, 1)], &[1, 0, 2]), (fault::HANDLER, 232),
         ),
         Told(
             Whole, "a handler that no try uses is wrong",
-            Code(1, &[0x0e, 0, 0x0e, 0], &[0, 0, 0, 0, 1, 0, 1, 0, 2, 0, 0, 0, 2]), (fault::HANDLER, 232),
+            Tries(&[0x0e, 0, 0x0e, 0], &[(0, 1, 1)], &[2, 0, 0, 0, 2]), (fault::HANDLER, 232),
         ),
         Told(
-            Whole, "an offset into a handler", Code(1, &[0x0e, 0, 0x0e, 0], &[0, 0, 0, 0, 1, 0, 2, 0, 1, 0, 0]),
+            Whole, "an offset into a handler", Tries(&[0x0e, 0, 0x0e, 0], &[(0, 1, 2)], ALL_TO_0),
             (fault::HANDLER, 232),
         ),
         Told(
-            Whole, "an offset of no handler", Code(1, &[0x0e, 0, 0x0e, 0], &[0, 0, 0, 0, 1, 0, 0, 0, 1, 0, 0]),
+            Whole, "an offset of no handler", Tries(&[0x0e, 0, 0x0e, 0], &[(0, 1, 0)], ALL_TO_0),
             (fault::HANDLER, 232),
         ),
         Told(
@@ -168,7 +168,7 @@ fn each_rule_of_code_has_its_fault(rt: HostRuntime) -> Result<(), Fail> {
         ),
         Told(
             Whole, "no units go before a try that covers what isn't there",
-            Code(1, &[], &[0, 0, 0, 0, 1, 0, 1, 0, 1, 0, 0]), (fault::EMPTY_CODE, 204),
+            Tries(&[], &[(0, 1, 1)], ALL_TO_0), (fault::EMPTY_CODE, 204),
         ),
         Told(
             Whole, "the use of a payload goes before where it leads",
@@ -177,7 +177,7 @@ fn each_rule_of_code_has_its_fault(rt: HostRuntime) -> Result<(), Fail> {
         ),
         Told(
             Whole, "where a switch leads goes before tries",
-            Code(1, &[0x2b, 0, 4, 0, 0, 0, 0, 0, 0, 1, 1, 0, 0, 0, 0, 0, 1, 0, 0, 0], &[1, 0, 0, 0, 1, 0, 1, 0, 1, 0, 0]),
+            Tries(&[0x2b, 0, 4, 0, 0, 0, 0, 0, 0, 1, 1, 0, 0, 0, 0, 0, 1, 0, 0, 0], &[(1, 1, 1)], ALL_TO_0),
             (fault::BRANCH_TARGET, 228),
         ),
         Told(
@@ -208,8 +208,8 @@ fn code_that_keeps_the_rules_is_read_and_the_first_with_a_fault_is_told_of(rt: H
     static CASES: [Told; 8] = [
         // A constant of 16 bits, and a return: what a try covers, a handler that catches a type, a catch-all.
         Told(Whole, "a return", Code(0, &[0x0e, 0], &[]), (0, 0)),
-        Told(Whole, "a try with a catch-all", Code(1, &[0x0e, 0, 0x0e, 0], &[0, 0, 0, 0, 1, 0, 1, 0, 1, 0, 0]), (0, 0)),
-        Told(Whole, "a try with a catch", Code(1, &[0x0e, 0, 0x0e, 0], &[0, 0, 0, 0, 1, 0, 1, 0, 1, 1, 1, 1]), (0, 0)),
+        Told(Whole, "a try with a catch-all", Tries(&[0x0e, 0, 0x0e, 0], &[(0, 1, 1)], ALL_TO_0), (0, 0)),
+        Told(Whole, "a try with a catch", Tries(&[0x0e, 0, 0x0e, 0], &[(0, 1, 1)], &[1, 1, 1, 1]), (0, 0)),
         Told(Whole, "a call", Code(0, &[0x6e, 0x10, 0, 0, 0, 0, 0x0e, 0], &[]), (0, 0)),
         // Of two methods. At 197 an item is misaligned.
         Told(

@@ -7,8 +7,8 @@ use crate::named_rows::{
 use crate::values::NAMES;
 use dex_base::{Fault, adler32, put_mutf8, put_uleb};
 use dex_samples::{
-    NOTHING, ONE_CLASS, Rows, WITHOUT_CLASSES, close_file, file_of, file_of_item, item_of, length,
-    put_bytes,
+    NOTHING, ONE_CLASS, Rows, TryItem, WITHOUT_CLASSES, close_file, file_of, file_of_item, item_of,
+    item_of_tries, length, put_bytes,
 };
 use std::alloc::Global;
 
@@ -66,6 +66,8 @@ pub enum Made {
     Spare(u8),
     /// A code item with so many tries, these units, and what stands after them.
     Code(u8, &'static [u8], &'static [u8]),
+    /// A code item with these units, these try_items, and this list of handlers.
+    Tries(&'static [u8], &'static [TryItem], &'static [u8]),
     /// `ONE_FIELD` with these arrays.
     Values(&'static [u8]),
     /// .. with so many arrays, one in the other, the innermost one empty.
@@ -94,6 +96,7 @@ impl Made {
             Made::Resized(count) | Made::Zeros(_, _, count) => zeros(alloc, count),
             Made::Text(text, times) => repeated(alloc, text, times),
             Made::Code(tries, units, after) => of_code(alloc, tries, units, after),
+            Made::Tries(units, tries, list) => of_tries(alloc, units, tries, list),
             Made::DeepValues(depth) => nested(alloc, depth, &[0], &ONE_FIELD),
             Made::Deep(depth, inner) => nested(alloc, depth, inner, &NOTHING),
             Made::Ints(count) => of_ints(alloc, count),
@@ -219,6 +222,11 @@ fn repeated(alloc: Global, text: &[u8], times: u32) -> Result<Vec<u8>, Fault> {
 
 fn of_code(alloc: Global, tries: u8, units: &[u8], after: &[u8]) -> Result<Vec<u8>, Fault> {
     let item = item_of(alloc, 256, tries, units, after)?;
+    file_of_item(alloc, &item)
+}
+
+fn of_tries(alloc: Global, units: &[u8], tries: &[TryItem], list: &[u8]) -> Result<Vec<u8>, Fault> {
+    let item = item_of_tries(alloc, 256, units, tries, list)?;
     file_of_item(alloc, &item)
 }
 

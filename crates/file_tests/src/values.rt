@@ -3,9 +3,11 @@
 use bumpalo::Bump;
 use dex_base::Fault;
 use dex_container::open;
+use dex_samples::types::VOID;
+pub use dex_samples::types::{A as CLASS, INT};
 use dex_samples::{NOTHING, Rows};
 use dex_value::{check_array, read_array};
-use program_types::{Desc, FieldRef, MethodRef, Proto, Str, Value};
+use program_types::{FieldRef, MethodRef, Proto, Str, Value};
 use std::alloc::Global;
 use tables_rows::Tables;
 
@@ -24,23 +26,6 @@ pub static NAMES: Rows<'static> = Rows {
     fields: &[(1, 0, 3)],
     methods: &[(1, 0, 4)],
     ..NOTHING
-};
-
-/// The type `I`.
-pub const INT: Desc<'static> = Desc {
-    text: Str { units: &[0x49] },
-};
-
-/// The type `LA;`.
-pub const CLASS: Desc<'static> = Desc {
-    text: Str {
-        units: &[0x4c, 0x41, 0x3b],
-    },
-};
-
-/// The type `V`.
-pub const VOID: Desc<'static> = Desc {
-    text: Str { units: &[0x56] },
 };
 
 /// The string `a`.

@@ -2,10 +2,11 @@
 
 use bumpalo::Bump;
 use dex_base::Fault;
+use dex_samples::types::{A, INT};
 use dex_samples::{Case, all_hold, is_so};
 use listing_parse::parse;
 use listing_print::{print, print_1};
-use program_types::{Class, Desc, Member, Program, Str, Value};
+use program_types::{Class, Member, Program, Str, Value};
 use std::alloc::Global;
 use std::test::Fail;
 
@@ -145,20 +146,14 @@ static WITH_UNITS: &str =
 
 /// A class whose one field has the units as its value.
 const NAMED: Class<'static> = Class {
-    ty: Desc {
-        text: Str {
-            units: &[0x4c, 0x41, 0x3b],
-        },
-    },
+    ty: A,
     flags: 1,
     superclass: None,
     interfaces: &[],
     source: None,
     statics: &[Member {
         name: Str { units: &[0x73] },
-        ty: Desc {
-            text: Str { units: &[0x49] },
-        },
+        ty: INT,
         flags: 9,
     }],
     values: &[Value::Text(Str {

@@ -3,10 +3,6 @@
 //! docs/MAP.md says where this crate stands among the others.
 #![tactic(auto)]
 
-// Types as constants.
-#[cfg(test)]
-mod units;
-
 // program_types
 #[cfg(test)]
 mod depths;

@@ -7,10 +7,10 @@ ghost use Rattle.tables_names.specs.Closure.{HasShorty, method_of_class};
 ghost use Rattle.tables_names.specs.Noted.{members_of};
 
 use crate::ranks_shown::shown_ranks;
-use crate::units::A;
 use bumpalo::Bump;
 use bumpalo::collections::into_bump_slice;
 use dex_base::Fault;
+use dex_samples::types::A;
 use dex_samples::{Case, all_hold, field, is_so, method, proto, text, ty};
 use program_types::{Class, Member, Method, Name};
 use std::alloc::Global;

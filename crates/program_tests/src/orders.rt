@@ -1,7 +1,7 @@
 //! The orders of names, which are those of the tables.
 
-use crate::units::{A, AB, B, INT, INTS, LONG, VOID};
 use dex_base::Fault;
+use dex_samples::types::{A, AB, B, INT, INTS, LONG, VOID};
 use dex_samples::{Case, all_hold};
 use program_types::{
     Desc, FieldRef, MethodRef, Proto, Str, desc_cmp, desc_eq, field_ref_cmp, field_ref_eq,

@@ -1,8 +1,8 @@
 //! Names are placed in an arena as they are.
 
-use crate::units::{INT, LONGS, VOID};
 use bumpalo::Bump;
 use dex_base::Fault;
+use dex_samples::types::{INT, LONGS, VOID};
 use dex_samples::{Case, all_hold, first_unit, ty};
 use program_types::{place_descs, place_proto, place_str};
 use std::alloc::Global;

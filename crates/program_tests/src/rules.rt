@@ -1,10 +1,10 @@
 //! Programs that keep their rules, and programs that break one.
 
 use crate::depths::nested;
-use crate::units::{A, B, INT, INTS, VOID};
 use bumpalo::Bump;
 use bumpalo::collections::into_bump_slice;
 use dex_base::{Fault, fault};
+use dex_samples::types::{A, B, INT, INTS, VOID};
 use dex_samples::{Case, all_hold};
 use program_rules::{well_formed, well_formed_in, well_formed_named_in};
 use program_types::{

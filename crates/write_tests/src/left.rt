@@ -7,8 +7,8 @@ use crate::kept::file_of;
 use crate::rows::{EMPTY_LIST, ONE_ARRAY, ONE_LIST, SPARE, TWO_ITEMS};
 use dex_base::Fault;
 use dex_samples::{
-    Case, ONE_CLASS, Rows, WITHOUT_CLASSES, close_file, file_of as file_of_rows, file_of_item,
-    item_of, length, put_bytes,
+    Case, ONE_CLASS, Rows, TryItem, WITHOUT_CLASSES, after_units, close_file, count_of,
+    file_of as file_of_rows, file_of_item, item_of_tries, length, put_bytes,
 };
 use file_write::strip;
 use program_types::{Class, Program};
@@ -31,8 +31,10 @@ pub enum Made {
     OneArray,
     /// `ONE_LIST`.
     OneList,
-    /// A code item with so many tries, these units, and what stands after them.
-    Code(u8, &'static [u8], &'static [u8]),
+    /// A code item with these units and no tries.
+    Code(&'static [u8]),
+    /// A code item with these units, these try_items, and this list of handlers.
+    Tries(&'static [u8], &'static [TryItem], &'static [u8]),
 }
 
 /// What is wanted of it.
@@ -58,8 +60,10 @@ pub enum Want {
     Ends(usize),
     /// It has these words at these places, and these bytes at a place, and is left as it is.
     Placed(&'static [(usize, u32)], usize, &'static [u8]),
-    /// The data of what is left begin with a code item of so many tries, these units, and these bytes after them.
-    Item(u8, &'static [u8], &'static [u8]),
+    /// The data of what is left begin with a code item of these units and no tries.
+    Item(&'static [u8]),
+    /// .. of these units, these try_items, and this list of handlers.
+    Tried(&'static [u8], &'static [TryItem], &'static [u8]),
 }
 
 /// A name for the case, the file, and what is wanted of it.
@@ -82,7 +86,8 @@ impl Made {
         match *self {
             Made::Written(classes) => file_of(alloc, &Program { classes }),
             Made::One(_, _) => Ok(Vec::from_slice(alloc, &ONE_CLASS)?),
-            Made::Code(tries, units, after) => of_code(alloc, tries, units, after),
+            Made::Code(units) => of_tries(alloc, units, &[], &[]),
+            Made::Tries(units, tries, list) => of_tries(alloc, units, tries, list),
             of_rows => file_of_rows(alloc, &of_rows.rows()),
         }
     }
@@ -117,8 +122,8 @@ impl Made {
     }
 }
 
-fn of_code(alloc: Global, tries: u8, units: &[u8], after: &[u8]) -> Result<Vec<u8>, Fault> {
-    let item = item_of(alloc, 2, tries, units, after)?;
+fn of_tries(alloc: Global, units: &[u8], tries: &[TryItem], list: &[u8]) -> Result<Vec<u8>, Fault> {
+    let item = item_of_tries(alloc, 2, units, tries, list)?;
     file_of_item(alloc, &item)
 }
 
@@ -166,8 +171,22 @@ fn is_left_so(alloc: Global, file: &[u8], left: &[u8], want: Want) -> bool {
     match want {
         Want::OneClass => file != left && left == ONE_CLASS.as_slice(),
         Want::OneItem(count) => file.len() == count && is_one_item(left),
-        Want::Item(tries, units, after) => begins_with_item(left, tries, units, after),
+        Want::Item(units) => begins_with_item(left, 0, units, &[]),
+        Want::Tried(units, tries, list) => begins_with_tries(alloc, left, units, tries, list),
         want => file == left && is_as_wanted(alloc, file, want),
+    }
+}
+
+fn begins_with_tries(
+    alloc: Global,
+    left: &[u8],
+    units: &[u8],
+    tries: &[TryItem],
+    list: &[u8],
+) -> bool {
+    match after_units(alloc, units, tries, list) {
+        Ok(after) => begins_with_item(left, count_of(tries.len()), units, &after),
+        Err(_) => false,
     }
 }
 

@@ -33,4 +33,6 @@ mod limits;
 #[cfg(test)]
 mod stripped;
 #[cfg(test)]
+mod uses;
+#[cfg(test)]
 mod whole;

@@ -1,22 +1,12 @@
 //! Names by number, and programs with many members.
 
-use crate::small::{A, VOID};
 use bumpalo::Bump;
 use bumpalo::collections::into_bump_slice;
 use dex_base::Fault;
+use dex_samples::types::{A, B, INT, VOID};
 use program_types::{
     Class, Code, Desc, FieldRef, Insn, Member, Method, MethodRef, Name, Program, Proto, Str, Try,
     place_str,
-};
-
-const INT: Desc<'static> = Desc {
-    text: Str { units: &[0x49] },
-};
-
-const B: Desc<'static> = Desc {
-    text: Str {
-        units: &[0x4c, 0x42, 0x3b],
-    },
 };
 
 /// `m`, the name of the method with a body.

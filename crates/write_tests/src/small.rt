@@ -1,13 +1,7 @@
 //! The program of the file `ONE_CLASS`, and others of few classes.
 
+use dex_samples::types::{A, B, INT, VOID};
 use program_types::{Class, Code, Desc, Insn, Member, Method, Proto, Str, Value};
-
-/// `LA;`.
-pub const A: Desc<'static> = Desc {
-    text: Str {
-        units: &[0x4c, 0x41, 0x3b],
-    },
-};
 
 const OBJECT: Desc<'static> = Desc {
     text: Str {
@@ -16,11 +10,6 @@ const OBJECT: Desc<'static> = Desc {
             0x65, 0x63, 0x74, 0x3b,
         ],
     },
-};
-
-/// `V`.
-pub const VOID: Desc<'static> = Desc {
-    text: Str { units: &[0x56] },
 };
 
 /// Return-void.
@@ -108,16 +97,6 @@ const I: Desc<'static> = Desc {
     text: Str {
         units: &[0x4c, 0x49, 0x3b],
     },
-};
-
-const B: Desc<'static> = Desc {
-    text: Str {
-        units: &[0x4c, 0x42, 0x3b],
-    },
-};
-
-const INT: Desc<'static> = Desc {
-    text: Str { units: &[0x49] },
 };
 
 /// A class that implements `LI;`, with the method `m(LI;)V`.
