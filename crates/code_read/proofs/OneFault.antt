@@ -16,14 +16,14 @@ use Rattle.code_insns.proofs.InsnsOnce.{walks-one}
 use Rattle.code_insns.proofs.OneFault.{fault_at, first_one, insns_one_fault}
 use Rattle.code_read.specs.Item.{insns_size, tries_of, insns_bytes, items_of, tries_begin, list_begin}
 use Rattle.code_read.specs.Tries.{TryHolds}
-use Rattle.code_read.specs.Faults.{TriesBreak, ItemBreaks, CodeBreaks, RegistersBreak, CodeOverruns}
+use Rattle.code_read.specs.Faults.{TriesBreak, try_fault, ItemBreaks, CodeBreaks, RegistersBreak, CodeOverruns}
 use Rattle.code_read.proofs.FaultLaws.{units-even}
 use Rattle.code_read.proofs.CodeLaws.{body_one}
 
 tries_one : (N : ℕ → Name → Type 0) (ss : List ℕ) (size n : ℕ) (items rest : List ℕ) (base : ℕ) (e f : Fault) → TriesBreak N ss size n items rest base e → TriesBreak N ss size n items rest base f → e ≡ f
 tries_one N ss size n items rest base e f (inl x) (inl y) =
     let first = first_one (TryHolds ss size items) (TryHolds ss size items) (TryHolds ss size items) n x.0 y.0 (λ k h. h) (λ k h. h) x.1 y.1 in
-    x.2 ∙ ap (λ (k : ℕ). fault_at 71 (base + 8 * k)) first ∙ sym y.2
+    x.2 ∙ ap (try_fault base) first ∙ sym y.2
 tries_one N ss size n items rest base e f (inl x) (inr y) = absurd (x.1.broken (y.1 x.0 x.1.inside))
 tries_one N ss size n items rest base e f (inr x) (inl y) = absurd (y.1.broken (x.1 y.0 y.1.inside))
 tries_one N ss size n items rest base e f (inr x) (inr y) = x.3 ∙ sym y.3

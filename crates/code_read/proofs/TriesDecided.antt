@@ -10,7 +10,7 @@ use Rattle.code_insns.specs.Symbols.{IsFunctional}
 use Rattle.code_read.specs.Item.{try_start, try_count, try_handler}
 use Rattle.code_read.specs.Handlers.{Handler, handler_at}
 use Rattle.code_read.specs.Tries.{TryHolds, SpellsTry}
-use Rattle.code_read.specs.Faults.{HasHandlers, TriesBreak, list_fault}
+use Rattle.code_read.specs.Faults.{HasHandlers, TriesBreak, list_fault, try_fault}
 use Rattle.code_read.specs.Reading.{ReadTries}
 use Rattle.code_read.proofs.HandlerLaws.{SpellsList-unique}
 use Rattle.code_read.proofs.TryLaws.{no-tries}
@@ -64,7 +64,7 @@ module _ (N : ℕ → Name → Type 0) (names : AreNamesDecided N) (functional :
   pub tries-decided : (size n : ℕ) (items rest : List ℕ) (base : ℕ) → ((ts : List Try) × ReadTries N ss size n items rest ts) ⊎ ((e : Fault) × TriesBreak N ss size n items rest base e)
   tries-decided size zero items rest base = inl ([], no-tries N ss size 0 items rest refl)
   tries-decided size (suc m) items rest base = elim (first-or-all (TryHolds ss size items) (decide-try ss size items) (suc m)) [
-    | inr f ↦ inr (record { code = 71; place = base + 8 * f.0 }, inl (f.0, f.1, refl))
+    | inr f ↦ inr (try_fault base f.0, inl (f.0, f.1, refl))
     | inl hold ↦ elim (decide-handlers (suc m) items rest) [
       | inr none ↦ inr (list_fault (base + 8 * suc m), inr (omega arith, hold, none, refl))
       | inl h ↦ inl (tries-of size m items rest hold h)

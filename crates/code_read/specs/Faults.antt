@@ -30,10 +30,14 @@ pub record HasHandlers (N : ℕ → Name → Type 0) (ss : List ℕ) (n : ℕ) (
 abbrev pub list_fault : ℕ → Fault
 list_fault place = record { code = 72; place = place }
 
+-- the try_item i
+abbrev pub try_fault : ℕ → ℕ → Fault
+try_fault base i = record { code = 71; place = base + 8 * i }
+
 -- What is wrong with tries and handlers: the first try_item that breaks the rules (71), or, where none does, the list (72).
 abbrev pub TriesBreak : (ℕ → Name → Type 0) → List ℕ → ℕ → ℕ → List ℕ → List ℕ → ℕ → Fault → Type 0
 TriesBreak N ss size n items rest base fault =
-    ((i : ℕ) × IsFirstBroken (TryHolds ss size items) (TryHolds ss size items) n i × (fault ≡ record { code = 71; place = base + 8 * i }))
+    ((i : ℕ) × IsFirstBroken (TryHolds ss size items) (TryHolds ss size items) n i × (fault ≡ try_fault base i))
     ⊎ ((0 < n) × AllHold (TryHolds ss size items) n × (¬ HasHandlers N ss n items rest) × (fault ≡ list_fault (base + 8 * n)))
 
 -- ---- the item

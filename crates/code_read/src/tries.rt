@@ -11,7 +11,7 @@ ghost use Rattle.code_read.specs.Tries.{TryHolds};
 ghost use Rattle.code_read.specs.Item.{try_start, try_count, try_handler};
 ghost use Rattle.code_read.specs.Handlers.{SpellsList};
 ghost use Rattle.code_read.specs.HandlerViews.{handler};
-ghost use Rattle.code_read.specs.Faults.{TriesBreak, list_fault};
+ghost use Rattle.code_read.specs.Faults.{TriesBreak, list_fault, try_fault};
 ghost use Rattle.code_read.specs.Reading.{ReadTries, ReadList, TakesTry, TakesTries, NoHandler};
 
 use crate::handlers::{Caught, read_handler, read_number};
@@ -85,7 +85,7 @@ fn check_tries(starts: &[u32], size: u32, items: &[u8], tries: u16, base: u64) -
     ensures ok { OnOk result (AllHold (TryHolds starts.now size items.now) tries) }
     ensures err { IfErr result (λ e. (i : ℕ)
         × IsFirstBroken (TryHolds starts.now size items.now) (TryHolds starts.now size items.now) tries i
-        × (e ≡ record { code = 71; place = base + 8 * i })) }
+        × (e ≡ try_fault base i)) }
 {
     for i in 0..tries {
         if !try_holds(starts, size, items, i as usize) {

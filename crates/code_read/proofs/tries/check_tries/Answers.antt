@@ -1,11 +1,12 @@
-use Rattle.std.proofs.Common.{below_more, rules, ◌+◌, ◌*◌}
+use Rattle.std.proofs.Common.{below_more, rules}
+use Rattle.code_read.specs.Faults.{try_fault}
 use Rattle.code_read.proofs.tries.check_tries.Goals as goal
 
 pub returns-then-not-try_holds-clause-err : goal.returns-then-not-try_holds-clause-err
 returns-then-not-try_holds-clause-err c = rw c.at.ensures (
   c.loop-i.i,
   record { inside = c.loop-i-test.true; broken = λ h. let t = c.try_holds.ensures.1 h in cc; before = c.loop-i.invariant },
-  λ i. record { code = 71; place = c.args.base + 8 * c.from.ensures i },
+  λ i. try_fault c.args.base (c.from.ensures i),
 )
 
 pub loop-i-preserved : goal.loop-i-preserved
