@@ -5,7 +5,7 @@ use Rattle.std.proofs.lemmas.Bool.{cases_lt}
 use Rattle.base_bytes.specs.declared.fault.Fault.{Fault}
 use Rattle.dex_insn.specs.Raw.{Raw}
 use Rattle.dex_insn.specs.Flaws.{IsFaultAt}
-use Rattle.dex_insn.proofs.Laws.{stands-clear}
+use Rattle.dex_insn.proofs.StandingLaws.{stands-clear}
 use Rattle.dex_insn.proofs.OneFault.{one_fault}
 use Rattle.program_types.specs.Content.{Name, Insn}
 use Rattle.program_types.specs.Content as made

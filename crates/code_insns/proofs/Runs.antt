@@ -4,7 +4,7 @@ use Rattle.dex_insn.specs.Raw.{Raw, units, raw}
 use Rattle.dex_insn.specs.RawInsns.{InsnStands}
 use Rattle.base_bytes.specs.declared.fault.Fault.{Fault}
 use Rattle.dex_insn.specs.declared.raw.RawInsn.{RawInsn}
-use Rattle.dex_insn.proofs.Laws.{stands-whole, one-stands, stands-clear}
+use Rattle.dex_insn.proofs.StandingLaws.{stands-whole, one-stands, stands-clear}
 use Rattle.code_insns.specs.Walk.{Run, Walks, starts, IsWalkFault, IsTable}
 use Rattle.program_types.specs.Sizes.{starts_from}
 use Rattle.std.proofs.lemmas.List.{length-map}

@@ -4,7 +4,7 @@ use Rattle.dex_insn.specs.Raw as raw
 use Rattle.dex_insn.specs.Raw.{Raw, units, is_payload}
 use Rattle.dex_insn.specs.RawInsns.{InsnStands}
 use Rattle.dex_insn.specs.Written.{written, IsRaw}
-use Rattle.dex_insn.proofs.Laws.{written-stands}
+use Rattle.dex_insn.proofs.StandingLaws.{written-stands}
 use Rattle.dex_insn.proofs.Spelled.{length_written}
 use Rattle.program_types.specs.Content.{Name, Insn}
 use Rattle.program_types.specs.Content as made

@@ -5,7 +5,7 @@ use Rattle.base_bytes.specs.Fields.{AreBytes}
 use Rattle.base_bytes.specs.declared.fault.Fault.{Fault}
 use Rattle.dex_insn.specs.Raw.{Raw, units}
 use Rattle.dex_insn.proofs.Decided.{insn-decided}
-use Rattle.dex_insn.proofs.Laws.{stands-whole}
+use Rattle.dex_insn.proofs.StandingLaws.{stands-whole}
 use Rattle.code_insns.specs.Walk.{Run, Walks, IsWalkFault}
 use Rattle.code_insns.proofs.Runs.{run-more}
 

@@ -12,7 +12,7 @@ use Rattle.dex_insn.specs.RawInsns.{SpellsInsn, BeginsInsn, IsPayload}
 use Rattle.dex_insn.specs.Written.{IsRaw, written, bytes_of}
 use Rattle.dex_insn.specs.declared.opcode.Format.{Format}
 use Rattle.dex_insn.proofs.Fits.{number-1, number-2, number-4}
-use Rattle.dex_insn.proofs.Laws.{not-payload, is-payload}
+use Rattle.dex_insn.proofs.StandingLaws.{not-payload, is-payload}
 use Rattle.dex_insn.proofs.Unique.{slice-length}
 use Rattle.tables_numbers.specs.Marked.{Columns}
 use Rattle.code_renumber.specs.declared.shapes.Shape.TheVariants.{Plain, Short, Long, Five, Payload}

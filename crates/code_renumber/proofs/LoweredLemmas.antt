@@ -9,7 +9,7 @@ use Rattle.dex_insn.specs.RawInsns.{InsnStands}
 use Rattle.dex_insn.specs.Written.{IsRaw}
 use Rattle.dex_insn.specs.declared.opcode.IndexKind.{IndexKind}
 use Rattle.dex_insn.proofs.Fits.{stands_fits}
-use Rattle.dex_insn.proofs.Laws.{even-of}
+use Rattle.dex_insn.proofs.StandingLaws.{even-of}
 use Rattle.program_types.specs.Content.{Name, Insn}
 use Rattle.program_types.specs.Content as made
 use Rattle.program_types.specs.Formed.{insn_at, insn_payload}

@@ -8,7 +8,7 @@ use Rattle.dex_insn.specs.Opcodes.{index_kind_of}
 use Rattle.dex_insn.specs.Raw as raw
 use Rattle.dex_insn.specs.Raw.{Raw, units}
 use Rattle.dex_insn.specs.RawInsns.{SpellsInsn, InsnStands, IsPayload, register}
-use Rattle.dex_insn.proofs.Laws.{spelled-whole}
+use Rattle.dex_insn.proofs.StandingLaws.{spelled-whole}
 use Rattle.tables_numbers.specs.Marked.{Columns}
 use Rattle.code_renumber.specs.declared.shapes.Shape.TheVariants.{Short, Long, Five}
 use Rattle.code_renumber.specs.Renumbered.{number_in, HasShortNumber}

@@ -4,7 +4,7 @@ use Rattle.std.specs.List.{flat_map}
 use Rattle.std.proofs.lemmas.List.{take_more, take_all, append-nil}
 use Rattle.dex_insn.specs.Raw.{Raw, units}
 use Rattle.dex_insn.specs.RawInsns.{InsnStands}
-use Rattle.dex_insn.proofs.Laws.{one-stands}
+use Rattle.dex_insn.proofs.StandingLaws.{one-stands}
 use Rattle.program_types.specs.Content.{Name, Insn}
 use Rattle.program_types.specs.Content as made
 use Rattle.program_types.specs.Formed.{insn_at}

@@ -9,7 +9,7 @@ use Rattle.dex_insn.specs.Raw as raw
 use Rattle.dex_insn.specs.Raw.{Raw, units}
 use Rattle.dex_insn.specs.RawInsns.{SpellsInsn, InsnStands}
 use Rattle.dex_insn.specs.Written.{written, IsRaw}
-use Rattle.dex_insn.proofs.Laws.{stands-whole}
+use Rattle.dex_insn.proofs.StandingLaws.{stands-whole}
 use Rattle.dex_insn.proofs.Spelled.{length_written}
 use Rattle.tables_numbers.specs.Marked.{Columns}
 use Rattle.code_insns.specs.Walk.{Run, Walks, IsTable, starts, raw_at}

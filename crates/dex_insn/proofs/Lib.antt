@@ -6,7 +6,7 @@ pub mod Unique
 pub mod Flaws
 pub mod More
 pub mod Fits
-pub mod Laws
+pub mod StandingLaws
 pub mod Mnemonics
 pub mod Rows
 pub mod RegisterRuns

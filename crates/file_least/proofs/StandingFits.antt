@@ -16,7 +16,7 @@ use Rattle.dex_insn.specs.RawInsns.{InsnStands, SpellsInsn}
 use Rattle.dex_insn.specs.Written.{IsRaw}
 use Rattle.dex_insn.specs.declared.opcode.IndexKind.{IndexKind}
 use Rattle.dex_insn.proofs.Fits.{number-2, signed-32, stands_fits}
-use Rattle.dex_insn.proofs.Laws.{even-of}
+use Rattle.dex_insn.proofs.StandingLaws.{even-of}
 use Rattle.program_types.specs.Content.{Name, Insn, Try, Code}
 use Rattle.program_types.specs.Content as made
 use Rattle.program_types.specs.Formed.{IsSwitch, insn_at, try_at, insn_payload, insn_targets, insn_leads, RefersToPayload}

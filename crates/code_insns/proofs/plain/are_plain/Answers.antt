@@ -1,5 +1,5 @@
 use Rattle.std.proofs.Common.{◌≡◌, ℕ, ◌+◌, ◌++◌, [], ◌∷◌, get_or, sym, subst, ◌∙◌, arith}
-use Rattle.dex_insn.proofs.Laws.{stands-whole}
+use Rattle.dex_insn.proofs.StandingLaws.{stands-whole}
 use Rattle.dex_insn.specs.RawInsns.{InsnStands}
 use Rattle.program_types.specs.View.{insn}
 use Rattle.tables_rows.specs.Names.{NameIsAt}

@@ -1,6 +1,6 @@
 use Rattle.std.proofs.Common.{◌≡◌, ℕ, ◌+◌, ◌++◌, [], ◌∷◌, List, map, get_or, sym, subst, ap, ◌∙◌, arith}
 use Rattle.std.proofs.lemmas.List.{map-append}
-use Rattle.dex_insn.proofs.Laws.{stands-whole}
+use Rattle.dex_insn.proofs.StandingLaws.{stands-whole}
 use Rattle.dex_insn.specs.RawInsns.{InsnStands}
 use Rattle.program_types.specs.View.{insn}
 use Rattle.program_types.specs.Content.{Insn}

@@ -1,5 +1,5 @@
 use Rattle.std.proofs.Common.{arith}
-use Rattle.dex_insn.proofs.Laws.{spelled-whole}
+use Rattle.dex_insn.proofs.StandingLaws.{spelled-whole}
 use Rattle.code_renumber.proofs.in_place.clear_pad.Goals as goal
 
 pub overflow_mul-front : goal.overflow_mul-front

@@ -1,4 +1,4 @@
-use Rattle.dex_insn.proofs.Laws.{stands-before, stands-alone}
+use Rattle.dex_insn.proofs.StandingLaws.{stands-before, stands-alone}
 use Rattle.dex_insn.proofs.laws.after_is_free.Goals as goal
 
 pub returns-clause-more : goal.returns-clause-more

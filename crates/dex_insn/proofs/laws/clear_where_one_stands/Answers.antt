@@ -1,4 +1,4 @@
-use Rattle.dex_insn.proofs.Laws.{stands-clear}
+use Rattle.dex_insn.proofs.StandingLaws.{stands-clear}
 use Rattle.dex_insn.proofs.laws.clear_where_one_stands.Goals as goal
 
 pub returns : goal.returns

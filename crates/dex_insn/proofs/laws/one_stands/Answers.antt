@@ -1,4 +1,4 @@
-use Rattle.dex_insn.proofs.Laws.{one-stands}
+use Rattle.dex_insn.proofs.StandingLaws.{one-stands}
 use Rattle.dex_insn.proofs.laws.one_stands.Goals as goal
 
 pub returns : goal.returns

@@ -1,4 +1,4 @@
-use Rattle.dex_insn.proofs.Laws.{is-payload, not-payload}
+use Rattle.dex_insn.proofs.StandingLaws.{is-payload, not-payload}
 use Rattle.dex_insn.proofs.laws.payloads_by_identifier.Goals as goal
 
 pub returns-clause-payload : goal.returns-clause-payload
