@@ -7,6 +7,7 @@ pub mod LengthLaws
 pub mod Numbers
 pub mod OptionLaws
 pub mod PlacedLaws
+pub mod SameFields
 pub mod Sequences
 pub mod ShortestLaws
 pub mod Signed

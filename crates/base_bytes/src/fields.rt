@@ -1,12 +1,14 @@
 //! Numbers at a place in bytes, the low byte first, as all fixed numbers of a .dex file.
-ghost use Rattle.std.specs.Prelude.{◌≡◌, ◌+◌, ◌≤◌, ◌++◌, length, take, drop};
+ghost use Rattle.std.specs.Prelude.{◌≡◌, ◌+◌, ◌<◌, ◌≤◌, ◌++◌, length, take, drop};
+ghost use Rattle.std.specs.List.{AllByRecursion};
 ghost use Rattle.base_bytes.specs.Fields.{AreBytes, u16_at, u32_at, u32_bytes};
 
 use byteorder::{ByteOrder, LittleEndian};
 
 /// What the type of a slice of bytes says of its items, for proofs: each is below 256. Does nothing.
 pub fn are_bytes(bytes: &[u8])
-    ensures { AreBytes bytes.now }
+    ensures each { AreBytes bytes.now }
+    ensures all { AllByRecursion (λ byte. byte < 256) bytes.now }
 {}
 
 /// The number of the two bytes at a place, a byte offset.

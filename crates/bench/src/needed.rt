@@ -9,7 +9,7 @@ ghost use Rattle.program_types.specs.View.{desc};
 use crate::words::{number, word};
 use bumpalo::Bump;
 use dex_base::{Fault, fault, is_descriptor};
-use program_types::{Desc, FieldRef, MethodRef, Proto, Str, place_proto, place_str};
+use program_types::{Desc, FieldRef, MethodRef, Proto, Str, alloc_proto, alloc_str};
 use std::alloc::Global;
 use std::io;
 use tables_names::{Needed, Ranks};
@@ -22,7 +22,7 @@ fn numbered<'a>(arena: &'a Bump, number: u32) -> Result<Str<'a>, Fault> {
         units[8 - i] = 97 + (rest % 16) as u16;
         rest /= 16;
     }
-    place_str(arena, &units)
+    alloc_str(arena, &units)
 }
 
 /// Whether all types have a letter in the shorty.
@@ -52,10 +52,10 @@ fn make_parts<'a>(arena: &'a Bump) -> Result<Parts<'a>, Fault> {
         text: numbered(arena, 1)?,
     };
     let int = Desc {
-        text: place_str(arena, &[73])?,
+        text: alloc_str(arena, &[73])?,
     };
     let params = arena.try_alloc_slice_copy(&[class, int])?;
-    let proto = place_proto(arena, int, params)?;
+    let proto = alloc_proto(arena, int, params)?;
     Ok(Parts { class, int, proto })
 }
 

@@ -3,7 +3,7 @@ use Rattle.std.proofs.Common.{◌≡◌, ◌≢◌, ℕ, ◌+◌, ◌<◌, ◌�
 use Rattle.std.specs.Prelude.{option_map}
 use Rattle.std.proofs.lemmas.Bool.{cases_lt}
 use Rattle.std.proofs.lemmas.Bool.Decides.{nat_tests}
-use Rattle.code_insns.specs.Places.{Rises, position, position_at, place, count_below, IsCountBelow}
+use Rattle.code_insns.specs.Places.{Rises, position, position_at, target_at, count_below, IsCountBelow}
 use Rattle.std.proofs.lemmas.Int.{ints}
 
 pub count-is : (ss : List ℕ) (x n : ℕ) → n ≤ length ss → ((k : ℕ) → k < n → get_or ss k 0 < x) → ((k : ℕ) → n ≤ k → k < length ss → x ≤ get_or ss k 0) → n ≡ count_below x ss
@@ -56,13 +56,13 @@ neg : (ss : List ℕ) (z : ℤ) → z <ℤ pos 0 → position_at ss z ≡ None
 neg ss (pos n) h = absurd (omega (arith, ints))
 neg ss (negsuc n) h = refl
 
-pub place-neg : (ss : List ℕ) (base : ℕ) (offset : ℤ) → (pos base +ℤ offset) <ℤ pos 0 → place ss base offset ≡ None
-unfolding place
-place-neg ss base offset h = neg ss (pos base +ℤ offset) h
+pub target-neg : (ss : List ℕ) (base : ℕ) (offset : ℤ) → (pos base +ℤ offset) <ℤ pos 0 → target_at ss base offset ≡ None
+unfolding target_at
+target-neg ss base offset h = neg ss (pos base +ℤ offset) h
 
-pub place-pos : (ss : List ℕ) (base : ℕ) (offset : ℤ) (n : ℕ) → pos n ≡ (pos base +ℤ offset) → place ss base offset ≡ position ss n
-unfolding place
-place-pos ss base offset n e = ap (position_at ss) (sym e)
+pub target-pos : (ss : List ℕ) (base : ℕ) (offset : ℤ) (n : ℕ) → pos n ≡ (pos base +ℤ offset) → target_at ss base offset ≡ position ss n
+unfolding target_at
+target-pos ss base offset n e = ap (position_at ss) (sym e)
 
 cases_eq : (s x : ℕ) → (s ≡ x) ⊎ (s ≢ x)
 cases_eq s x = elim (cases_lt s x) [
@@ -94,11 +94,11 @@ at-there : (ss : List ℕ) (z : ℤ) (n : ℕ) → position_at ss z ≡ Some n �
 at-there ss (pos x) n e = let p = position-there ss x n e in (p.0, ap (λ (y : ℕ). pos y) p.1)
 at-there ss (negsuc x) n e = cc
 
-pub place-there : (ss : List ℕ) (base : ℕ) (offset : ℤ) (n : ℕ) → place ss base offset ≡ Some n → (n < length ss) × (pos (get_or ss n 0) ≡ (pos base +ℤ offset))
-unfolding place
-place-there ss base offset n e = at-there ss (pos base +ℤ offset) n e
+pub target-there : (ss : List ℕ) (base : ℕ) (offset : ℤ) (n : ℕ) → target_at ss base offset ≡ Some n → (n < length ss) × (pos (get_or ss n 0) ≡ (pos base +ℤ offset))
+unfolding target_at
+target-there ss base offset n e = at-there ss (pos base +ℤ offset) n e
 
-pub place-to : (ss : List ℕ) (base n : ℕ) (offset : ℤ) → Rises ss → n < length ss → (pos base +ℤ offset) ≡ pos (get_or ss n 0) → place ss base offset ≡ Some n
-place-to ss base n offset r l e =
-    place-pos ss base offset (get_or ss n 0) (sym e)
+pub target-to : (ss : List ℕ) (base n : ℕ) (offset : ℤ) → Rises ss → n < length ss → (pos base +ℤ offset) ≡ pos (get_or ss n 0) → target_at ss base offset ≡ Some n
+target-to ss base n offset r l e =
+    target-pos ss base offset (get_or ss n 0) (sym e)
     ∙ position-is ss (get_or ss n 0) n l refl (λ k m f. let q = r.each k n m l in absurd (omega arith))

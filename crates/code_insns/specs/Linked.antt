@@ -11,13 +11,13 @@ use Rattle.program_types.specs.declared.payload.Payload.{Payload}
 use Rattle.program_types.specs.declared.payload.Payload.TheVariants as payload
 use Rattle.program_code_rules.specs.First.{AllHold}
 use Rattle.program_code_rules.specs.Branches.{IsOrigin}
-use Rattle.code_insns.specs.Places.{place}
+use Rattle.code_insns.specs.Places.{target_at}
 use Rattle.code_insns.specs.Walk.{Walks, starts, raw_at, address}
 use Rattle.code_insns.specs.Symbols.{Says, InsnHasName}
 
 -- the number of the instruction that an offset leads to from the address `base`: if there is none, the number after the last
 unfoldable pub lead : List ℕ → ℕ → ℤ → ℕ
-lead ss base offset = unwrap_or (place ss base offset) (length ss)
+lead ss base offset = unwrap_or (target_at ss base offset) (length ss)
 
 -- which payload it is
 unfoldable pub payload_of : Raw → Option Payload

@@ -2,7 +2,7 @@
 
 ghost use Rattle.std.specs.Prelude.{◌≡◌, ◌≤◌, length, pos, ◌+ℤ◌, ◌<ℤ◌, IfNone, IfSome};
 ghost use Rattle.code_insns.specs.Linked.{lead};
-ghost use Rattle.code_insns.specs.Places.{Rises, IsCountBelow, count_below, position, place};
+ghost use Rattle.code_insns.specs.Places.{Rises, IsCountBelow, count_below, position, target_at};
 
 /// Where the addresses that are not below `x` begin.
 fn split(starts: &[u32], x: u64) -> usize
@@ -57,10 +57,10 @@ pub fn number_at(starts: &[u32], unit: u64) -> Option<u32>
 }
 
 /// The number of the instruction that is `offset` units from the address `base`.
-fn find(starts: &[u32], base: u32, offset: i32) -> Option<u32>
+fn target_at(starts: &[u32], base: u32, offset: i32) -> Option<u32>
     requires rises { Rises starts.now }
     requires few { length starts.now ≤ 4294967295 }
-    ensures { result ≡ place starts.now base offset }
+    ensures { result ≡ target_at starts.now base offset }
 {
     match unit_at(base, offset) {
         Some(unit) => number_at(starts, unit),
@@ -75,7 +75,7 @@ pub(crate) fn lead(starts: &[u32], base: u32, offset: i32) -> u32
     requires few { length starts.now ≤ 4294967295 }
     ensures { result ≡ lead starts.now base offset }
 {
-    match find(starts, base, offset) {
+    match target_at(starts, base, offset) {
         Some(to) => to,
         None => starts.len() as u32,
     }

@@ -6,7 +6,7 @@ use Rattle.base_bytes.proofs.ShortestLaws.{AllBytes, shortest_one, shortest_sign
 use Rattle.program_types.specs.Content.{Name, OfDesc, Catch}
 use Rattle.code_insns.proofs.PlaceLaws.{position-there}
 use Rattle.code_read.specs.Handlers.{Handler, HasAll, catches_of, AllBy}
-use Rattle.code_put.specs.Packs.{PlaceAt, PacksCatch, PacksHandler}
+use Rattle.code_put.specs.Packs.{AddressAt, PacksCatch, PacksHandler}
 use Rattle.base_bytes.proofs.WeakerLaws.{IsPrefixUnique-weaker, Shortest-weaker}
 use Rattle.base_bytes.proofs.Numbers.{spells_unique}
 use Rattle.base_bytes.proofs.Signed.{signed_unique}
@@ -31,7 +31,7 @@ z-one (negsuc m) (pos zero) e p q = absurd (omega arith)
 z-one (negsuc m) (pos (suc n)) e p q = absurd (p tt)
 
 module _ (N : ℕ → Name → Type 0) (ss : List ℕ) (inj : IsInjective N) where
-  place-once : (a b : List ℕ) (n : ℕ) → AllBytes a → AllBytes b → PlaceAt ss a n → PlaceAt ss b n → a ≡ b
+  place-once : (a b : List ℕ) (n : ℕ) → AllBytes a → AllBytes b → AddressAt ss a n → AddressAt ss b n → a ≡ b
   place-once a b n p q x y =
       let e = (position-there ss x.raw n x.means).1 in let f = (position-there ss y.raw n y.means).1 in
       shortest_one a b x.raw p q x.spelled (subst (λ (k : ℕ). Shortest Spells b k) (sym f ∙ e) y.spelled)

@@ -12,7 +12,7 @@ use Rattle.program_types.specs.Content.{Name, OfDesc, Catch}
 use Rattle.code_insns.specs.Places.{Rises, position}
 use Rattle.code_insns.proofs.PlaceLaws.{position-is}
 use Rattle.code_read.specs.Handlers.{Handler, HasAll, catches_of, TypeBy, AllBy, PartsBy}
-use Rattle.code_put.specs.Packs.{PlaceAt, PacksCatch, PacksHandler}
+use Rattle.code_put.specs.Packs.{AddressAt, PacksCatch, PacksHandler}
 
 -- an instruction's own address
 pub position-own : (ss : List ℕ) (n : ℕ) → Rises ss → n < length ss → position ss (get_or ss n 0) ≡ Some n
@@ -22,16 +22,16 @@ pub via-appends : {U V : Type 0} (G : List ℕ → U → Type 0) (R : U → V �
 via-appends G R old new u v p r = record { bytes = p.bytes; joined = p.joined; spelled = record { raw = u; spelled = p.spelled; means = r } }
 
 module _ (N : ℕ → Name → Type 0) (ss : List ℕ) where
-  pub catch-appends : (old mid new : List ℕ) (index : ℕ) (c : Catch) → Appends (Shortest Spells) old mid index → N index (OfDesc c.ty) → Appends (PlaceAt ss) mid new c.at → Appends (PacksCatch N ss) old new c
+  pub catch-appends : (old mid new : List ℕ) (index : ℕ) (c : Catch) → Appends (Shortest Spells) old mid index → N index (OfDesc c.ty) → Appends (AddressAt ss) mid new c.at → Appends (PacksCatch N ss) old new c
   catch-appends old mid new index c p n q =
       let t = via-appends (Shortest Spells) (λ i ty. N i (OfDesc ty)) old mid index c.ty p n in
-      let a = Then-appends (TypeBy (Shortest Spells) (Shortest SpellsSigned) N ss) (λ _. PlaceAt ss) old mid new c.ty c.at t q in
+      let a = Then-appends (TypeBy (Shortest Spells) (Shortest SpellsSigned) N ss) (λ _. AddressAt ss) old mid new c.ty c.at t q in
       record { bytes = a.bytes; joined = a.joined; spelled = a.spelled }
 
   pub all-none : (z : ℤ) (old : List ℕ) → (HasAll z → ⊥) → Appends (AllBy (Shortest Spells) (Shortest SpellsSigned) N ss z) old old None
   all-none z old lacks = record { bytes = []; joined = sym (append-nil old); spelled = (lacks, refl) }
 
-  pub all-some : (z : ℤ) (old new : List ℕ) (n : ℕ) → HasAll z → Appends (PlaceAt ss) old new n → Appends (AllBy (Shortest Spells) (Shortest SpellsSigned) N ss z) old new (Some n)
+  pub all-some : (z : ℤ) (old new : List ℕ) (n : ℕ) → HasAll z → Appends (AddressAt ss) old new n → Appends (AllBy (Shortest Spells) (Shortest SpellsSigned) N ss z) old new (Some n)
   all-some z old new n has p = record { bytes = p.bytes; joined = p.joined; spelled = (has, p.spelled) }
 
   pub handler-appends : (old a b new : List ℕ) (z : ℤ) (h : Handler) → catches_of z ≡ length h.catches → Appends (Shortest SpellsSigned) old a z → Appends (Each (PacksCatch N ss)) a b h.catches
@@ -64,7 +64,7 @@ module _ (N : ℕ → Name → Type 0) (ss : List ℕ) where
   size (suc n) = refl
 
   pub handler-with : (old a b new : List ℕ) (n at : ℕ) (h : Handler) → h.all ≡ Some at → n ≡ length h.catches → Appends (Shortest SpellsSigned) old a (neg_ℤ (pos n)) → Appends (Each (PacksCatch N ss)) a b h.catches
-      → Appends (PlaceAt ss) b new at → Appends (PacksHandler N ss) old new h
+      → Appends (AddressAt ss) b new at → Appends (PacksHandler N ss) old new h
   handler-with old a b new n at h some e p q r =
       handler-appends old a b new (neg_ℤ (pos n)) h (size n ∙ e) p q
       (subst (λ (o : Option ℕ). Appends (AllBy (Shortest Spells) (Shortest SpellsSigned) N ss (neg_ℤ (pos n))) b new o) (sym some) (all-some (neg_ℤ (pos n)) b new at (has n) r))

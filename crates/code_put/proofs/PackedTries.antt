@@ -14,7 +14,7 @@ use Rattle.program_types.specs.Sizes.{addresses_of, length_of}
 use Rattle.code_insns.specs.Places.{position, count_below}
 use Rattle.code_insns.proofs.PlaceLaws.{count-is}
 use Rattle.code_read.specs.Item.{try_start, try_count, try_handler}
-use Rattle.code_read.specs.Handlers.{Handler, PlaceBy, TypeBy, CatchBy, AllBy, PartsBy, SpellsHandlers, SpellsHandler, PacksHandlers, catches_of, handler_at}
+use Rattle.code_read.specs.Handlers.{Handler, AddressBy, TypeBy, CatchBy, AllBy, PartsBy, SpellsHandlers, SpellsHandler, PacksHandlers, catches_of, handler_at}
 use Rattle.code_read.specs.Tries.{TryHolds, SpellsTries}
 use Rattle.code_put.specs.Fits.{TryFits}
 use Rattle.code_put.specs.Packs.{PacksHandler, PacksHandlersOf, bound_of, covered, item_bytes, items_bytes}
@@ -82,7 +82,7 @@ fields size ss (t ∷ ts) (o ∷ offs) (suc i) e l low near =
 -- ---- handlers: what is packed is spelled
 
 module _ (N : ℕ → Name → Type 0) (ss : List ℕ) where
-  place-weaker : Implies (PlaceBy (Shortest Spells) (Shortest SpellsSigned) N ss) (PlaceBy Spells SpellsSigned N ss)
+  place-weaker : Implies (AddressBy (Shortest Spells) (Shortest SpellsSigned) N ss) (AddressBy Spells SpellsSigned N ss)
   place-weaker bytes n p = record { raw = p.raw; spelled = p.spelled.spelled; means = p.means }
 
   type-weaker : Implies (TypeBy (Shortest Spells) (Shortest SpellsSigned) N ss) (TypeBy Spells SpellsSigned N ss)
@@ -90,7 +90,7 @@ module _ (N : ℕ → Name → Type 0) (ss : List ℕ) where
 
   catch-weaker : Implies (CatchBy (Shortest Spells) (Shortest SpellsSigned) N ss) (CatchBy Spells SpellsSigned N ss)
   catch-weaker bytes c p =
-      Pair-weaker (TypeBy (Shortest Spells) (Shortest SpellsSigned) N ss) (TypeBy Spells SpellsSigned N ss) (PlaceBy (Shortest Spells) (Shortest SpellsSigned) N ss) (PlaceBy Spells SpellsSigned N ss) type-weaker place-weaker bytes (c.ty, c.at) p
+      Pair-weaker (TypeBy (Shortest Spells) (Shortest SpellsSigned) N ss) (TypeBy Spells SpellsSigned N ss) (AddressBy (Shortest Spells) (Shortest SpellsSigned) N ss) (AddressBy Spells SpellsSigned N ss) type-weaker place-weaker bytes (c.ty, c.at) p
 
   all-weaker : (z : ℤ) → Implies (AllBy (Shortest Spells) (Shortest SpellsSigned) N ss z) (AllBy Spells SpellsSigned N ss z)
   all-weaker z bytes None p = p

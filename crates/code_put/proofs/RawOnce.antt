@@ -12,7 +12,7 @@ use Rattle.program_types.specs.Formed.{insn_leads}
 use Rattle.code_insns.specs.Linked.{lead}
 use Rattle.code_insns.specs.Symbols as symbols
 use Rattle.code_insns.specs.Symbols.{Says, linked, name_in}
-use Rattle.code_insns.proofs.PlaceLaws.{place-there}
+use Rattle.code_insns.proofs.PlaceLaws.{target-there}
 use Rattle.code_put.proofs.DistanceLaws.{gap-is, lead-there}
 use Rattle.code_put.proofs.HandlerOnce.{IsInjective}
 use Rattle.code_put.proofs.WordOnce.{ints_once}
@@ -81,7 +81,7 @@ built T w _ i e = built_by _ i 0 (pos 0) [] [] e
 
 led_one : (ss : List ℕ) (at : ℕ) (y z : ℤ) (n : ℕ) → n < length ss → lead ss at y ≡ n → lead ss at z ≡ n → y ≡ z
 led_one ss at y z n l p q =
-    let a = (place-there ss at y n (lead-there ss at n y p l)).1 in let b = (place-there ss at z n (lead-there ss at n z q l)).1 in
+    let a = (target-there ss at y n (lead-there ss at n y p l)).1 in let b = (target-there ss at z n (lead-there ss at n z q l)).1 in
     gap-is (get_or ss n 0) at y (sym a) ∙ sym (gap-is (get_or ss n 0) at z (sym b))
 
 all_led : (ss : List ℕ) (at : ℕ) (ys zs : List ℤ) (ns : List ℕ) → AllByRecursion (λ n. n < length ss) ns → map (lead ss at) ys ≡ ns → map (lead ss at) zs ≡ ns → ys ≡ zs

@@ -1,13 +1,13 @@
 -- Numbers of 32 bits, one after the other, are spelled in one way.
-use Rattle.std.proofs.Common.{◌≡◌, ℕ, zero, suc, ◌+◌, ◌*◌, ◌/◌, ◌%◌, ◌^◌, ◌<◌, List, [], ◌∷◌, length, drop, get_or, refl, sym, ap, ◌∙◌, arith, subst}
-use Rattle.std.proofs.lemmas.List.{get_or-drop}
+use Rattle.std.proofs.Common.{◌≡◌, ℕ, zero, suc, ◌+◌, ◌*◌, ◌/◌, ◌%◌, ◌^◌, ◌<◌, List, [], ◌∷◌, length, get_or, refl, sym, ap, ◌∙◌, arith, subst}
 use Rattle.base_bytes.specs.Fields.{AreBytes, u32_at}
 use Rattle.base_bytes.proofs.FieldBounds.{u32_at-fits}
 use Rattle.base_bytes.proofs.ShortestLaws.{AllBytes}
 use Rattle.dex_insn.specs.Fields.{int_at, signed}
 use Rattle.code_insns.specs.Symbols as symbols
 use Rattle.code_insns.specs.Symbols.{ints_from}
-use Rattle.base_bytes.proofs.ListFacts.{by_half, four_bytes}
+use Rattle.base_bytes.proofs.ListFacts.{by_half}
+use Rattle.base_bytes.proofs.SameFields.{same_word}
 use Rattle.code_put.proofs.IntLaws.{number-u32}
 
 are_of : (b : List ℕ) → AllBytes b → AreBytes b
@@ -23,29 +23,6 @@ same_bytes (x ∷ xs) (y ∷ ys) n h =
     let here = h zero (omega arith) in
     let rest = same_bytes xs ys (omega arith) (λ i lt. h (suc i) (omega arith)) in
     (λ k. here k ∷ rest k)
-
-module _ (b c : List ℕ) (bytes_b : AreBytes b) (bytes_c : AreBytes c) where
-  here_b : (p k : ℕ) → get_or (drop p b) k 0 < 256
-  here_b p k = rw (get_or-drop p b k 0) (bytes_b (p + k))
-
-  here_c : (p k : ℕ) → get_or (drop p c) k 0 < 256
-  here_c p k = rw (get_or-drop p c k 0) (bytes_c (p + k))
-
-  same_word : (p : ℕ) → u32_at b p ≡ u32_at c p → (k : ℕ) → k < 4 → get_or b (p + k) 0 ≡ get_or c (p + k) 0
-  unfolding u32_at
-  same_word p e k lt =
-      let r = four_bytes (get_or (drop p b) 0 0) (get_or (drop p b) 1 0) (get_or (drop p b) 2 0) (get_or (drop p b) 3 0) (get_or (drop p c) 0 0) (get_or (drop p c) 1 0) (get_or (drop p c) 2 0) (get_or (drop p c) 3 0)
-      (here_b p 0) (here_b p 1) (here_b p 2) (here_b p 3) (here_c p 0) (here_c p 1) (here_c p 2) (here_c p 3) e in
-      sym (get_or-drop p b k 0) ∙ pick k lt r ∙ get_or-drop p c k 0
-    where
-      pick : (k : ℕ) → k < 4
-          → (get_or (drop p b) 0 0 ≡ get_or (drop p c) 0 0) × (get_or (drop p b) 1 0 ≡ get_or (drop p c) 1 0) × (get_or (drop p b) 2 0 ≡ get_or (drop p c) 2 0) × (get_or (drop p b) 3 0 ≡ get_or (drop p c) 3 0)
-          → get_or (drop p b) k 0 ≡ get_or (drop p c) k 0
-      pick zero lt r = r.0
-      pick (suc zero) lt r = r.1
-      pick (suc (suc zero)) lt r = r.2
-      pick (suc (suc (suc zero))) lt r = r.3
-      pick (suc (suc (suc (suc k)))) lt r = absurd (omega arith)
 
 int_word : (b c : List ℕ) (i : ℕ) → AreBytes b → AreBytes c → int_at b i ≡ int_at c i → u32_at b (4 * i) ≡ u32_at c (4 * i)
 int_word b c i p q e =

@@ -53,8 +53,8 @@ pub record PutInsns (N : ℕ → Name → Type 0) (is : List Insn) (ss old new :
 -- ---- handlers, by the shortest numbers
 
 -- an instruction, by its address
-abbrev pub PlaceAt : List ℕ → List ℕ → ℕ → Type 0
-PlaceAt ss = Via (Shortest Spells) (λ address n. position ss address ≡ Some n)
+abbrev pub AddressAt : List ℕ → List ℕ → ℕ → Type 0
+AddressAt ss = Via (Shortest Spells) (λ address n. position ss address ≡ Some n)
 
 -- A type and where its handler begins.
 abbrev pub PacksCatch : (ℕ → Name → Type 0) → List ℕ → List ℕ → Catch → Type 0

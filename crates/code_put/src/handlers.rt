@@ -11,11 +11,12 @@ ghost use Rattle.program_types.specs.Formed.{TryFormed};
 ghost use Rattle.program_types.specs.Mentions.{names_of_try};
 ghost use Rattle.tables_names.specs.Closure.{Five, NameRanks};
 ghost use Rattle.code_read.specs.Tries.{handler_of};
-ghost use Rattle.code_put.specs.Packs.{PlaceAt, PacksCatch, PacksHandler, PacksHandlersOf};
+ghost use Rattle.code_put.specs.Packs.{AddressAt, PacksCatch, PacksHandler, PacksHandlersOf};
 ghost use Rattle.code_put.specs.Writing.{Numbers, IsDistinct, IsDistinctOf, IsListed, joined_keys};
 ghost use Rattle.code_put.specs.Fits.{HasIndexBelow, catches_in};
 
 use crate::begins::Begins;
+use base_bytes::are_bytes;
 use dex_base::{Fault, Seed, put_sleb, put_uleb};
 use indexmap::IndexSet;
 use program_types::{Catch, Name, Try};
@@ -23,9 +24,9 @@ use std::alloc::Global;
 use tables_names::Ranks;
 
 /// Appends the address of an instruction.
-fn put_place(out: &mut Vec<u8>, starts: &Begins<'_>, at: u32) -> Result<(), Fault>
+fn put_address(out: &mut Vec<u8>, starts: &Begins<'_>, at: u32) -> Result<(), Fault>
     requires inside { at < length starts.now }
-    ensures ok { OnOk result (Appends (PlaceAt starts.now) out.old.items out.new.items at) }
+    ensures ok { OnOk result (Appends (AddressAt starts.now) out.old.items out.new.items at) }
     ensures memory { IsOkUnless result memory }
 {
     put_uleb(out, starts.at(at))
@@ -48,7 +49,7 @@ fn put_catch(
         unreachable!();
     };
     put_uleb(out, index)?;
-    put_place(out, starts, one.at)
+    put_address(out, starts, one.at)
 }
 
 /// Appends catches, one after the other.
@@ -93,17 +94,9 @@ fn put_handler(
         Some(at) => {
             put_sleb(out, -count)?;
             put_catches(out, ranks, starts, one.catches)?;
-            put_place(out, starts, at)
+            put_address(out, starts, at)
         }
     }
-}
-
-/// What stands in bytes is below 256.
-fn are_bytes(bytes: &[u8])
-    ensures { AllByRecursion (λ byte. byte < 256) bytes.now }
-{
-    // Only for the proof: what holds of each value of its type.
-    let _ = bytes.len();
 }
 
 /// The number of these bytes among those that are held, where they come last if they weren't held.

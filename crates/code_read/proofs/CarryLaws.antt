@@ -9,7 +9,7 @@ use Rattle.dex_insn.specs.Raw.{Raw}
 use Rattle.program_types.specs.Content.{Name, OfDesc, Insn, Try, Code}
 use Rattle.code_insns.specs.Symbols.{Says, InsnNames, name_in}
 use Rattle.code_insns.specs.Linked.{AreLinked, SpellsInsns}
-use Rattle.code_read.specs.Handlers.{Handler, PlaceBy, TypeBy, CatchBy, AllBy, PartsBy, HandlerBy, ListBy, SpellsHandlers, catches_of}
+use Rattle.code_read.specs.Handlers.{Handler, AddressBy, TypeBy, CatchBy, AllBy, PartsBy, HandlerBy, ListBy, SpellsHandlers, catches_of}
 use Rattle.code_read.specs.Tries.{SpellsTries}
 use Rattle.code_read.specs.Code.{SpellsBody, BodyStands, SpellsCode, CodeStands}
 use Rattle.code_read.proofs.StandLaws.{code_body, body_code}
@@ -42,7 +42,7 @@ module _ (M N : ℕ → Name → Type 0) (f : (i : ℕ) (which : Name) → M i w
     type-weaker bytes ty t = record { raw = t.raw; spelled = t.spelled; means = f t.raw (OfDesc ty) t.means }
 
     catch-weaker : Implies (CatchBy U S M ss) (CatchBy U S N ss)
-    catch-weaker bytes c = Pair-weaker (TypeBy U S M ss) (TypeBy U S N ss) (PlaceBy U S M ss) (PlaceBy U S N ss) type-weaker (λ b v p. p) bytes (c.ty, c.at)
+    catch-weaker bytes c = Pair-weaker (TypeBy U S M ss) (TypeBy U S N ss) (AddressBy U S M ss) (AddressBy U S N ss) type-weaker (λ b v p. p) bytes (c.ty, c.at)
 
     all-weaker : (z : ℤ) → Implies (AllBy U S M ss z) (AllBy U S N ss z)
     all-weaker z bytes None p = p

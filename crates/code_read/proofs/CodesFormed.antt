@@ -27,7 +27,7 @@ use Rattle.code_insns.specs.Linked.{SpellsInsns}
 use Rattle.code_insns.proofs.PlaceLaws.{position-there}
 use Rattle.code_insns.proofs.Runs.{run-at, table-of, run-few}
 use Rattle.code_read.specs.Item.{insns_size, tries_of, insns_bytes, items_of, list_begin, units_end, try_start, try_count}
-use Rattle.code_read.specs.Handlers.{Handler, catches_of, SpellsPlace, SpellsCatch, SpellsHandler, SpellsHandlers, handler_at}
+use Rattle.code_read.specs.Handlers.{Handler, catches_of, SpellsAddress, SpellsCatch, SpellsHandler, SpellsHandlers, handler_at}
 use Rattle.code_read.specs.Tries.{SpellsTries, handler_of}
 use Rattle.code_read.specs.Code.{SpellsBody, CodeStands}
 use Rattle.code_read.proofs.FaultLaws.{units-even}
@@ -120,7 +120,7 @@ record HandlerFormed (count : ℕ) (h : Handler) : Type 0 where
   handled : IfNone h.all (h.catches ≢ [])
 
 module _ (N : ℕ → Name → Type 0) (ss : List ℕ) where
-  place-below : (bytes : List ℕ) (n : ℕ) → SpellsPlace N ss bytes n → n < length ss
+  place-below : (bytes : List ℕ) (n : ℕ) → SpellsAddress N ss bytes n → n < length ss
   place-below bytes n s = (position-there ss s.raw n s.means).0
 
   catches-below : (bytes : List ℕ) (cs : List Catch) → Each (SpellsCatch N ss) bytes cs → AllByRecursion (λ c. c.at < length ss) cs

@@ -10,7 +10,7 @@ use Rattle.program_types.specs.Content.{Catch, Name, OfDesc, Descriptor}
 use Rattle.code_insns.specs.Places.{position}
 use Rattle.code_insns.specs.Symbols.{IsFunctional}
 use Rattle.dex_insn.specs.declared.opcode.IndexKind.TheVariants as kind
-use Rattle.code_read.specs.Handlers.{Handler, catches_of, PlaceBy, TypeBy, CatchBy, AllBy, PartsBy, HandlerBy, ListBy, SpellsList}
+use Rattle.code_read.specs.Handlers.{Handler, catches_of, AddressBy, TypeBy, CatchBy, AllBy, PartsBy, HandlerBy, ListBy, SpellsList}
 use Rattle.code_insns.proofs.InsnsOnce.{some-one}
 
 desc_one : (s t : Descriptor) → OfDesc s ≡ OfDesc t → s ≡ t
@@ -31,7 +31,7 @@ handler_same : (p : List Catch × Option ℕ) (h g : Handler) → p ≡ parts h 
 handler_same p h g e f = let s : parts h ≡ parts g = sym e ∙ f in λ i. record { catches = (s i).0; all = (s i).1 }
 
 module _ (U : List ℕ → ℕ → Type 0) (S : List ℕ → ℤ → Type 0) (N : ℕ → Name → Type 0) (ss : List ℕ) (u : IsPrefixUnique U) (s : IsPrefixUnique S) (f : IsFunctional N) where
-  pub place-unique : IsPrefixUnique (PlaceBy U S N ss)
+  pub place-unique : IsPrefixUnique (AddressBy U S N ss)
   place-unique = Via-unique U (λ address n. position ss address ≡ Some n) u (λ a m n p q. some-one (position ss a) m n p q)
 
   pub type-unique : IsPrefixUnique (TypeBy U S N ss)
@@ -39,7 +39,7 @@ module _ (U : List ℕ → ℕ → Type 0) (S : List ℕ → ℤ → Type 0) (N 
 
   pub catch-unique : IsPrefixUnique (CatchBy U S N ss)
   catch-unique a b x y c d p q e =
-      let r = Pair-unique (TypeBy U S N ss) (PlaceBy U S N ss) type-unique place-unique a b x y (pair c) (pair d) p q e in
+      let r = Pair-unique (TypeBy U S N ss) (AddressBy U S N ss) type-unique place-unique a b x y (pair c) (pair d) p q e in
       (r.0, catch_same c d r.1)
 
   pub all-unique : (z : ℤ) → IsPrefixUnique (AllBy U S N ss z)

@@ -13,7 +13,7 @@ use Rattle.base_bytes.proofs.Numbers.{spells_unique}
 use Rattle.base_bytes.proofs.Signed.{signed_unique}
 use Rattle.program_types.specs.Content.{Catch, Name}
 use Rattle.code_insns.specs.Symbols.{IsFunctional}
-use Rattle.code_read.specs.Handlers.{Handler, catches_of, HasAll, AllBy, PartsBy, SpellsPlace, SpellsCatchType, SpellsCatch, SpellsHandler}
+use Rattle.code_read.specs.Handlers.{Handler, catches_of, HasAll, AllBy, PartsBy, SpellsAddress, SpellsCatchType, SpellsCatch, SpellsHandler}
 use Rattle.code_read.proofs.HandlerLaws.{catch-unique}
 
 -- The catch-all, there exactly if the count isn't positive.
@@ -27,12 +27,12 @@ SpellsParts = PartsBy Spells SpellsSigned
 -- ---- catches
 
 module _ (N : ℕ → Name → Type 0) (ss : List ℕ) where
-  pub catch-takes : (bytes mid rest : List ℕ) (c : Catch) → Takes (SpellsCatchType N ss) bytes c.ty mid → Takes (SpellsPlace N ss) mid c.at rest → Takes (SpellsCatch N ss) bytes c rest
+  pub catch-takes : (bytes mid rest : List ℕ) (c : Catch) → Takes (SpellsCatchType N ss) bytes c.ty mid → Takes (SpellsAddress N ss) mid c.at rest → Takes (SpellsCatch N ss) bytes c rest
   catch-takes bytes mid rest c p q =
-      let t = Takes-then (SpellsCatchType N ss) (λ _. SpellsPlace N ss) bytes mid rest c.ty c.at p q in
+      let t = Takes-then (SpellsCatchType N ss) (λ _. SpellsAddress N ss) bytes mid rest c.ty c.at p q in
       record { front = t.front; whole = t.whole; spelled = t.spelled }
 
-  pub catch-none : (bytes : List ℕ) → NoneBegins (Pair (SpellsCatchType N ss) (SpellsPlace N ss)) bytes → NoneBegins (SpellsCatch N ss) bytes
+  pub catch-none : (bytes : List ℕ) → NoneBegins (Pair (SpellsCatchType N ss) (SpellsAddress N ss)) bytes → NoneBegins (SpellsCatch N ss) bytes
   catch-none bytes none front rest c e s = none front rest (c.ty, c.at) e s
 
   pub catches-none : IsFunctional N → (n : ℕ) (bytes left : List ℕ) (cs : List Catch) → Takes (Each (SpellsCatch N ss)) bytes cs left → length cs < n → NoneBegins (SpellsCatch N ss) left → NoneBegins (Many (SpellsCatch N ss) n) bytes
@@ -51,7 +51,7 @@ module _ (N : ℕ → Name → Type 0) (ss : List ℕ) where
   pub all-none : (z : ℤ) (bytes : List ℕ) → (HasAll z → ⊥) → Takes (SpellsCatchAll N ss z) bytes None bytes
   all-none z bytes lacks = record { front = []; whole = refl; spelled = (lacks, refl) }
 
-  pub all-some : (z : ℤ) (bytes rest : List ℕ) (n : ℕ) → HasAll z → Takes (SpellsPlace N ss) bytes n rest → Takes (SpellsCatchAll N ss z) bytes (Some n) rest
+  pub all-some : (z : ℤ) (bytes rest : List ℕ) (n : ℕ) → HasAll z → Takes (SpellsAddress N ss) bytes n rest → Takes (SpellsCatchAll N ss z) bytes (Some n) rest
   all-some z bytes rest n h t = record { front = t.front; whole = t.whole; spelled = (h, t.spelled) }
 
   pub handler-none-number : (bytes : List ℕ) → NoneBegins SpellsSigned bytes → NoneBegins (SpellsHandler N ss) bytes
@@ -62,14 +62,14 @@ module _ (N : ℕ → Name → Type 0) (ss : List ℕ) where
       via-none (Then SpellsSigned (SpellsParts N ss)) _ bytes
       (second-none SpellsSigned (SpellsParts N ss) bytes mid z signed_unique t (Then-none_first (Many (SpellsCatch N ss) (catches_of z)) (λ _. SpellsCatchAll N ss z) mid none))
 
-  pub handler-none-all : IsFunctional N → (z : ℤ) (bytes r1 r2 : List ℕ) (cs : List Catch) → Takes SpellsSigned bytes z r1 → Takes (Many (SpellsCatch N ss) (catches_of z)) r1 cs r2 → HasAll z → NoneBegins (SpellsPlace N ss) r2 → NoneBegins (SpellsHandler N ss) bytes
+  pub handler-none-all : IsFunctional N → (z : ℤ) (bytes r1 r2 : List ℕ) (cs : List Catch) → Takes SpellsSigned bytes z r1 → Takes (Many (SpellsCatch N ss) (catches_of z)) r1 cs r2 → HasAll z → NoneBegins (SpellsAddress N ss) r2 → NoneBegins (SpellsHandler N ss) bytes
   handler-none-all f z bytes r1 r2 cs t q has none =
       via-none (Then SpellsSigned (SpellsParts N ss)) _ bytes
       (second-none SpellsSigned (SpellsParts N ss) bytes r1 z signed_unique t
       (second-none (Many (SpellsCatch N ss) (catches_of z)) (λ _. SpellsCatchAll N ss z) r1 r2 cs (Many-unique (SpellsCatch N ss) (catches_of z) (catch-unique Spells SpellsSigned N ss spells_unique signed_unique f)) q
       (all-refused z r2 has none)))
     where
-      all-refused : (y : ℤ) (bs : List ℕ) → HasAll y → NoneBegins (SpellsPlace N ss) bs → NoneBegins (SpellsCatchAll N ss y) bs
+      all-refused : (y : ℤ) (bs : List ℕ) → HasAll y → NoneBegins (SpellsAddress N ss) bs → NoneBegins (SpellsCatchAll N ss y) bs
       all-refused y bs h p front rest None e s = s.0 h
       all-refused y bs h p front rest (Some k) e s = p front rest k e s.1
 

@@ -15,7 +15,7 @@ use Rattle.program_types.specs.Content.{Name, OfDesc, Descriptor}
 use Rattle.program_types.specs.Kinds.{IsOfKind}
 use Rattle.code_insns.specs.Places.{position}
 use Rattle.code_insns.specs.Symbols.{IsFunctional}
-use Rattle.code_read.specs.Handlers.{Handler, catches_of, HasAll, SpellsPlace, SpellsCatchType, SpellsCatch, SpellsHandler, SpellsList}
+use Rattle.code_read.specs.Handlers.{Handler, catches_of, HasAll, SpellsAddress, SpellsCatchType, SpellsCatch, SpellsHandler, SpellsList}
 use Rattle.code_read.proofs.HandlerLaws.{type-unique, catch-unique, parts-unique, handler-unique}
 use Rattle.code_read.proofs.HandlerReading.{SpellsCatchAll, SpellsParts, all-none, all-some}
 use Rattle.code_read.proofs.Deciding.{decide-then, decide-many, decide-via, decide-sleb, decide-there}
@@ -27,7 +27,7 @@ decide-has-all (pos (suc n)) = inr (λ h. h)
 decide-has-all (negsuc n) = inl tt
 
 module _ (N : ℕ → Name → Type 0) (names : AreNamesDecided N) (functional : IsFunctional N) (ss : List ℕ) where
-  decide-place : (bytes : List ℕ) → DecidedFront (SpellsPlace N ss) bytes
+  decide-place : (bytes : List ℕ) → DecidedFront (SpellsAddress N ss) bytes
   decide-place = decide-via Spells (λ address n. position ss address ≡ Some n) spells_unique decide_uleb (λ address. decide-there (position ss address))
 
   type-there : (i : ℕ) → Decided ((ty : Descriptor) × N i (OfDesc ty))
@@ -41,7 +41,7 @@ module _ (N : ℕ → Name → Type 0) (names : AreNamesDecided N) (functional :
   decide-type = decide-via Spells (λ i ty. N i (OfDesc ty)) spells_unique decide_uleb type-there
 
   decide-catch : (bytes : List ℕ) → DecidedFront (SpellsCatch N ss) bytes
-  decide-catch bytes = elim (decide-then (SpellsCatchType N ss) (λ _. SpellsPlace N ss) (type-unique Spells SpellsSigned N ss spells_unique signed_unique functional) decide-type (λ _. decide-place) bytes) [
+  decide-catch bytes = elim (decide-then (SpellsCatchType N ss) (λ _. SpellsAddress N ss) (type-unique Spells SpellsSigned N ss spells_unique signed_unique functional) decide-type (λ _. decide-place) bytes) [
     | inl x ↦ inl (record { ty = x.0.0; at = x.0.1 }, x.1, record { front = x.2.front; whole = x.2.whole; spelled = x.2.spelled })
     | inr none ↦ inr (λ c rest t. none (c.ty, c.at) rest (record { front = t.front; whole = t.whole; spelled = t.spelled }))
   ]
@@ -55,7 +55,7 @@ module _ (N : ℕ → Name → Type 0) (names : AreNamesDecided N) (functional :
     ]
   ]
     where
-      refused : HasAll z → ((n : ℕ) (rest : List ℕ) → Takes (SpellsPlace N ss) bytes n rest → ⊥) → (o : Option ℕ) (rest : List ℕ) → Takes (SpellsCatchAll N ss z) bytes o rest → ⊥
+      refused : HasAll z → ((n : ℕ) (rest : List ℕ) → Takes (SpellsAddress N ss) bytes n rest → ⊥) → (o : Option ℕ) (rest : List ℕ) → Takes (SpellsCatchAll N ss z) bytes o rest → ⊥
       refused has none None rest t = t.spelled.0 has
       refused has none (Some n) rest t = none n rest (record { front = t.front; whole = t.whole; spelled = t.spelled.1 })
 

@@ -26,8 +26,8 @@ HasAll (negsuc n) = ⊤
 -- instructions.
 module _ (U : List ℕ → ℕ → Type 0) (S : List ℕ → ℤ → Type 0) (N : ℕ → Name → Type 0) (ss : List ℕ) where
   -- an instruction, by its address
-  abbrev pub PlaceBy : List ℕ → ℕ → Type 0
-  PlaceBy = Via U (λ address n. position ss address ≡ Some n)
+  abbrev pub AddressBy : List ℕ → ℕ → Type 0
+  AddressBy = Via U (λ address n. position ss address ≡ Some n)
 
   -- a type, by its index
   abbrev pub TypeBy : List ℕ → Descriptor → Type 0
@@ -35,12 +35,12 @@ module _ (U : List ℕ → ℕ → Type 0) (S : List ℕ → ℤ → Type 0) (N 
 
   -- a type and an instruction
   abbrev pub CatchBy : List ℕ → Catch → Type 0
-  CatchBy bytes c = Pair TypeBy PlaceBy bytes (c.ty, c.at)
+  CatchBy bytes c = Pair TypeBy AddressBy bytes (c.ty, c.at)
 
   -- the instruction for all others, if there is one by the number
   abbrev pub AllBy : ℤ → List ℕ → Option ℕ → Type 0
   AllBy z bytes None = (¬ HasAll z) × (bytes ≡ [])
-  AllBy z bytes (Some n) = HasAll z × PlaceBy bytes n
+  AllBy z bytes (Some n) = HasAll z × AddressBy bytes n
 
   -- the catches that the number says, and what is for all others
   abbrev pub PartsBy : ℤ → List ℕ → List Catch × Option ℕ → Type 0
@@ -59,8 +59,8 @@ module _ (U : List ℕ → ℕ → Type 0) (S : List ℕ → ℤ → Type 0) (N 
     pub each : Placed HandlerBy (length front) back hs
 
 -- all spellings of numbers are read
-abbrev pub SpellsPlace : (ℕ → Name → Type 0) → List ℕ → List ℕ → ℕ → Type 0
-SpellsPlace = PlaceBy Spells SpellsSigned
+abbrev pub SpellsAddress : (ℕ → Name → Type 0) → List ℕ → List ℕ → ℕ → Type 0
+SpellsAddress = AddressBy Spells SpellsSigned
 
 -- The type that a catch names.
 abbrev pub SpellsCatchType : (ℕ → Name → Type 0) → List ℕ → List ℕ → Descriptor → Type 0

@@ -7,7 +7,7 @@ ghost use Rattle.base_bytes.specs.Leb128.{Spells, SpellsSigned};
 ghost use Rattle.program_types.specs.View.{desc, catch};
 ghost use Rattle.code_insns.specs.Names.{NameIsAt};
 ghost use Rattle.code_insns.specs.Places.{Rises};
-ghost use Rattle.code_read.specs.Handlers.{SpellsPlace, SpellsCatchType, SpellsCatch, SpellsHandler};
+ghost use Rattle.code_read.specs.Handlers.{SpellsAddress, SpellsCatchType, SpellsCatch, SpellsHandler};
 ghost use Rattle.code_read.specs.Faults.{list_fault};
 ghost use Rattle.code_read.specs.HandlerViews.{handler};
 
@@ -45,11 +45,11 @@ pub fn read_signed(bytes: &[u8]) -> Option<(i32, &[u8])>
 }
 
 /// The number of the instruction whose address stands at the front, and what follows it.
-fn read_place<'b>(tables: &Tables<'_>, starts: &[u32], bytes: &'b [u8]) -> Option<(u32, &'b [u8])>
+fn read_address<'b>(tables: &Tables<'_>, starts: &[u32], bytes: &'b [u8]) -> Option<(u32, &'b [u8])>
     requires rises { Rises starts.now }
     requires few { length starts.now ≤ 4294967295 }
-    ensures some { IfSome result (λ x. Takes (SpellsPlace (NameIsAt tables.now) starts.now) bytes.now x.0 x.1.now) }
-    ensures none { IfNone result (NoneBegins (SpellsPlace (NameIsAt tables.now) starts.now) bytes.now) }
+    ensures some { IfSome result (λ x. Takes (SpellsAddress (NameIsAt tables.now) starts.now) bytes.now x.0 x.1.now) }
+    ensures none { IfNone result (NoneBegins (SpellsAddress (NameIsAt tables.now) starts.now) bytes.now) }
 {
     // Only for the proof: what holds of each value of its type.
     let _tables = tables;
@@ -86,7 +86,7 @@ fn read_catch<'a, 'b>(
     ensures none { IfNone result (NoneBegins (SpellsCatch (NameIsAt tables.now) starts.now) bytes.now) }
 {
     let (ty, mid) = read_type(tables, starts, bytes)?;
-    let (at, rest) = read_place(tables, starts, mid)?;
+    let (at, rest) = read_address(tables, starts, mid)?;
     Some((Catch { ty, at }, rest))
 }
 
@@ -148,7 +148,7 @@ pub(crate) fn read_handler<'a, 'b>(
     if n > 0 {
         return Ok((Caught { catches, all: None }, rest));
     }
-    let Some((at, after)) = read_place(tables, starts, rest) else {
+    let Some((at, after)) = read_address(tables, starts, rest) else {
         return Err(Fault::at(fault::HANDLER, list));
     };
     Ok((

@@ -23,8 +23,7 @@ pub(crate) fn item_at<'b>(sections: &Sections<'b>, codes: Section, off: u32) -> 
     ensures items { length result.items.now ≡ 8 * result.tries }
     ensures short { length result.list.now < 2 ^ 32 }
 {
-    // Only for the proof: what holds of each value of its type.
-    let _file = sections.bytes();
+    sections.framed();
     let Some(bytes) = bytes_from(sections, kind::CODE_ITEM, codes, off) else {
         unreachable!()
     };

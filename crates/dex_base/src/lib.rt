@@ -37,4 +37,4 @@ pub use simple_name::is_member_name;
 pub use units::cmp_units;
 
 // What stands below, for the crates above.
-pub use base_bytes::widen;
+pub use base_bytes::{are_bytes, widen};

@@ -2,6 +2,7 @@
 ghost use Rattle.std.specs.Prelude.{◌≡◌, ◌≤◌, ◌++◌, length, take};
 ghost use Rattle.dex_container.specs.Closed.{with_signature, SetsSums};
 
+use crate::header_item::{CHECKSUM, FILE_SIZE, SIGNATURE};
 use dex_base::{adler32, put_u32_at};
 use sha1::Sha1;
 
@@ -10,8 +11,8 @@ fn put_signature(bytes: &mut [u8])
     requires { 32 ≤ length bytes.old }
     ensures { bytes.new ≡ take 12 bytes.old ++ with_signature bytes.old }
 {
-    let digest = Sha1::digest(&bytes[32..]);
-    bytes[12..32].copy_from_slice(&digest);
+    let digest = Sha1::digest(&bytes[FILE_SIZE..]);
+    bytes[SIGNATURE..FILE_SIZE].copy_from_slice(&digest);
 }
 
 /// Fills in the SHA-1 signature of the bytes from 32 on (bytes 12 to 31), and then the Adler-32 checksum of the
@@ -32,6 +33,6 @@ pub fn close(bytes: &mut [u8])
     ensures { SetsSums bytes.old bytes.new }
 {
     put_signature(bytes);
-    let checksum = adler32(&bytes[12..]);
-    put_u32_at(bytes, 8, checksum);
+    let checksum = adler32(&bytes[SIGNATURE..]);
+    put_u32_at(bytes, CHECKSUM, checksum);
 }

@@ -4,8 +4,10 @@ ghost use Rattle.dex_container.specs.Layout.{entry_count, kind_at, place_at};
 ghost use Rattle.dex_container.specs.Frame.{HeaderHolds, SectionsHold, MapIsReadable, IsKind, EndsBeforeNext, HeaderEntryHolds, TableEntryHolds, MapEntryHolds, DataEntryHolds, EntryHolds};
 
 use crate::fields::{
-    entry_count, items_at, kind_at, map_place, offset_of, place_at, row_bytes, size_of,
+    data_begin, entry_count, items_at, kind_at, map_place, offset_of, place_at, row_bytes, size_of,
 };
+use crate::header_item::DATA;
+use crate::kind;
 
 /// The kinds of item that version 035 has.
 fn is_kind(kind: u16) -> bool
@@ -53,7 +55,7 @@ fn header_entry_holds(bytes: &[u8], i: usize) -> bool
     requires entry { i < entry_count bytes.now }
     ensures { IsTrue result ↔ HeaderEntryHolds bytes.now i }
 {
-    kind_at(bytes, i) != 0 || (place_at(bytes, i) == 0 && items_at(bytes, i) == 1)
+    kind_at(bytes, i) != kind::HEADER_ITEM || (place_at(bytes, i) == 0 && items_at(bytes, i) == 1)
 }
 
 fn table_entry_holds(bytes: &[u8], i: usize) -> bool
@@ -62,7 +64,7 @@ fn table_entry_holds(bytes: &[u8], i: usize) -> bool
     ensures { IsTrue result ↔ TableEntryHolds bytes.now i }
 {
     let kind = kind_at(bytes, i);
-    if kind == 0 || kind > 6 {
+    if kind == kind::HEADER_ITEM || kind > kind::CLASS_DEF_ITEM {
         return true;
     }
     let k = kind as usize - 1;
@@ -77,7 +79,7 @@ fn map_entry_holds(bytes: &[u8], i: usize) -> bool
     requires entry { i < entry_count bytes.now }
     ensures { IsTrue result ↔ MapEntryHolds bytes.now i }
 {
-    if kind_at(bytes, i) != 0x1000 {
+    if kind_at(bytes, i) != kind::MAP_LIST {
         return true;
     }
     let place = map_place(bytes);
@@ -90,10 +92,10 @@ fn data_entry_holds(bytes: &[u8], i: usize) -> bool
     requires entry { i < entry_count bytes.now }
     ensures { IsTrue result ↔ DataEntryHolds bytes.now i }
 {
-    let begin = u64::from(offset_of(bytes, 6));
-    let end = begin + u64::from(size_of(bytes, 6));
+    let begin = u64::from(data_begin(bytes));
+    let end = begin + u64::from(size_of(bytes, DATA));
     let place = u64::from(place_at(bytes, i));
-    kind_at(bytes, i) < 0x1000 || (begin <= place && place < end)
+    kind_at(bytes, i) < kind::MAP_LIST || (begin <= place && place < end)
 }
 
 /// Whether entry i keeps the rules of the map.
@@ -108,7 +110,7 @@ pub fn entry_holds(bytes: &[u8], i: usize) -> bool
     if !is_rising(bytes, i) || items_at(bytes, i) == 0 {
         return false;
     }
-    if i == 0 && kind_at(bytes, i) != 0 {
+    if i == 0 && kind_at(bytes, i) != kind::HEADER_ITEM {
         return false;
     }
     if !header_entry_holds(bytes, i) || !table_entry_holds(bytes, i) {

@@ -1,8 +1,9 @@
 //! The fields of the header and of the entries of the map, each where Layout says.
 ghost use Rattle.std.specs.Prelude.{◌≡◌, ◌+◌, ◌<◌, ◌≤◌, length};
-ghost use Rattle.dex_container.specs.Layout.{row_bytes, size_of, offset_of, map_place, entry_count, kind_at, items_at, place_at};
+ghost use Rattle.dex_container.specs.Layout.{row_bytes, size_field, size_of, offset_of, data_begin, map_place, entry_place, entry_count, kind_at, items_at, place_at};
 ghost use Rattle.dex_container.specs.Frame.{MapIsReadable};
 
+use crate::header_item::{DATA, MAP_OFF, STRING_IDS_SIZE};
 use dex_base::{u16_at, u32_at};
 
 /// Rows of the six tables, in bytes; the data section is counted in bytes.
@@ -17,6 +18,14 @@ pub fn row_bytes(k: usize) -> u64
     ROW_BYTES[k]
 }
 
+/// Where the header has the size of section k.
+pub fn size_field(k: usize) -> usize
+    requires { k < 7 }
+    ensures { result ≡ size_field k }
+{
+    STRING_IDS_SIZE + 8 * k
+}
+
 /// How many rows section k has; of the data section, how many bytes.
 #[tactic(auto, unfolding(crate::specs::Layout::size_of))]
 pub fn size_of(bytes: &[u8], k: usize) -> u32
@@ -24,7 +33,7 @@ pub fn size_of(bytes: &[u8], k: usize) -> u32
     requires long { 112 ≤ length bytes.now }
     ensures { result ≡ size_of bytes.now k }
 {
-    u32_at(bytes, 56 + 8 * k)
+    u32_at(bytes, size_field(k))
 }
 
 /// Where section k begins.
@@ -34,7 +43,15 @@ pub fn offset_of(bytes: &[u8], k: usize) -> u32
     requires long { 112 ≤ length bytes.now }
     ensures { result ≡ offset_of bytes.now k }
 {
-    u32_at(bytes, 60 + 8 * k)
+    u32_at(bytes, size_field(k) + 4)
+}
+
+/// Where the data section begins.
+pub fn data_begin(bytes: &[u8]) -> u32
+    requires { 112 ≤ length bytes.now }
+    ensures { result ≡ data_begin bytes.now }
+{
+    offset_of(bytes, DATA)
 }
 
 /// Where the map stands.
@@ -43,7 +60,7 @@ pub fn map_place(bytes: &[u8]) -> u32
     requires { 112 ≤ length bytes.now }
     ensures { result ≡ map_place bytes.now }
 {
-    u32_at(bytes, 52)
+    u32_at(bytes, MAP_OFF)
 }
 
 /// How many entries the map has.
@@ -56,6 +73,15 @@ pub fn entry_count(bytes: &[u8]) -> u32
     u32_at(bytes, map_place(bytes) as usize)
 }
 
+/// Where entry i of the map stands.
+pub fn entry_place(bytes: &[u8], i: usize) -> usize
+    requires map { MapIsReadable bytes.now }
+    requires entry { i < entry_count bytes.now }
+    ensures { result ≡ entry_place bytes.now i }
+{
+    map_place(bytes) as usize + 4 + 12 * i
+}
+
 /// The kind that entry i names.
 #[tactic(auto, unfolding(crate::specs::Layout::kind_at))]
 pub fn kind_at(bytes: &[u8], i: usize) -> u16
@@ -63,7 +89,7 @@ pub fn kind_at(bytes: &[u8], i: usize) -> u16
     requires entry { i < entry_count bytes.now }
     ensures { result ≡ kind_at bytes.now i }
 {
-    u16_at(bytes, map_place(bytes) as usize + 4 + 12 * i)
+    u16_at(bytes, entry_place(bytes, i))
 }
 
 /// How many items entry i counts.
@@ -73,7 +99,7 @@ pub fn items_at(bytes: &[u8], i: usize) -> u32
     requires entry { i < entry_count bytes.now }
     ensures { result ≡ items_at bytes.now i }
 {
-    u32_at(bytes, map_place(bytes) as usize + 4 + 12 * i + 4)
+    u32_at(bytes, entry_place(bytes, i) + 4)
 }
 
 /// Where the items of entry i begin.
@@ -83,5 +109,5 @@ pub fn place_at(bytes: &[u8], i: usize) -> u32
     requires entry { i < entry_count bytes.now }
     ensures { result ≡ place_at bytes.now i }
 {
-    u32_at(bytes, map_place(bytes) as usize + 4 + 12 * i + 8)
+    u32_at(bytes, entry_place(bytes, i) + 8)
 }

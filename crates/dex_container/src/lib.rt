@@ -9,6 +9,7 @@ mod closing;
 mod entry;
 mod fields;
 mod header;
+mod header_item;
 pub mod kind;
 mod laws;
 mod map;

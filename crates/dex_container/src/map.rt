@@ -5,7 +5,10 @@ ghost use Rattle.dex_container.specs.Frame.{HeaderHolds, SumsHold, SectionsHold,
 ghost use Rattle.dex_container.specs.Faults.{IsFrameFault};
 
 use crate::entry::entry_holds;
-use crate::fields::{entry_count, kind_at, map_place, offset_of, size_of};
+use crate::fields::{
+    data_begin, entry_count, entry_place, kind_at, map_place, size_field, size_of,
+};
+use crate::header_item::{DATA, MAP_OFF, TABLES};
 use crate::kind;
 use dex_base::{Fault, fault};
 
@@ -15,8 +18,8 @@ fn map_is_placed(bytes: &[u8]) -> bool
     ensures placed { IsTrue result ↔ MapIsPlaced bytes.now }
     ensures readable { IsTrue result → MapIsReadable bytes.now }
 {
-    let begin = u64::from(offset_of(bytes, 6));
-    let end = begin + u64::from(size_of(bytes, 6));
+    let begin = u64::from(data_begin(bytes));
+    let end = begin + u64::from(size_of(bytes, DATA));
     let place = u64::from(map_place(bytes));
     if place % 4 != 0 || place < begin || end < place + 4 {
         return false;
@@ -48,10 +51,7 @@ fn check_entries(bytes: &[u8]) -> Result<(), Fault>
 {
     for i in 0..entry_count(bytes) as usize {
         if !entry_holds(bytes, i) {
-            return Err(Fault::at(
-                fault::MAP_ENTRY,
-                u64::from(map_place(bytes)) + 4 + 12 * i as u64,
-            ));
+            return Err(Fault::at(fault::MAP_ENTRY, entry_place(bytes, i) as u64));
         }
     }
     Ok(())
@@ -66,15 +66,15 @@ pub fn check_map(bytes: &[u8]) -> Result<(), Fault>
     ensures err { IfErr result (IsFrameFault bytes.now) }
 {
     if !map_is_placed(bytes) {
-        return Err(Fault::at(fault::MAP_PLACE, 52));
+        return Err(Fault::at(fault::MAP_PLACE, MAP_OFF as u64));
     }
     check_entries(bytes)?;
     if find_kind(bytes, kind::MAP_LIST).is_none() {
-        return Err(Fault::at(fault::MAP_MISSING, 52));
+        return Err(Fault::at(fault::MAP_MISSING, MAP_OFF as u64));
     }
-    for k in 0..6usize {
+    for k in 0..TABLES {
         if size_of(bytes, k) > 0 && find_kind(bytes, k as u16 + 1).is_none() {
-            return Err(Fault::at(fault::MAP_MISSING, 56 + 8 * k as u64));
+            return Err(Fault::at(fault::MAP_MISSING, size_field(k) as u64));
         }
     }
     Ok(())

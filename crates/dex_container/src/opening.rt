@@ -4,8 +4,10 @@ ghost use Rattle.dex_container.specs.Frame.{IsFramed, HasKind, IsSection, table_
 ghost use Rattle.dex_container.specs.Layout.{entry_count};
 ghost use Rattle.dex_container.specs.Faults.{IsFrameFault};
 
-use crate::fields::{entry_count, offset_of, place_at, size_of};
+use crate::fields::{data_begin, entry_count, offset_of, place_at, size_of};
 use crate::header::check_header;
+use crate::header_item::DATA;
+use crate::kind;
 use crate::map::{check_map, find_kind};
 use crate::sections::check_sections;
 use crate::sums::check_sums;
@@ -47,6 +49,13 @@ impl<'a> Sections<'a> {
         self.bytes
     }
 
+    /// What holds of every open file, for proofs: it is framed. Does nothing.
+    pub fn framed(&self)
+        ensures { IsFramed self.now }
+    {
+        let _file = self.bytes;
+    }
+
     /// How many rows the table of this kind has (1 to 6, as the map numbers them) and at which byte it begins: 0
     /// and 0 where it has no row, or for another kind.
     ///
@@ -62,7 +71,7 @@ impl<'a> Sections<'a> {
         ensures { result ≡ table_of self.now kind }
     {
         let bytes = self.bytes;
-        if kind == 0 || kind > 6 {
+        if kind == kind::HEADER_ITEM || kind > kind::CLASS_DEF_ITEM {
             return (0, 0);
         }
         let k = kind as usize - 1;
@@ -90,7 +99,7 @@ impl<'a> Sections<'a> {
         ensures none { MatchOption result (0x1000 ≤ kind → ¬ HasKind self.now kind) (λ s. 0x1000 ≤ kind) }
     {
         let bytes = self.bytes;
-        if kind < 0x1000 {
+        if kind < kind::MAP_LIST {
             return None;
         }
         let i = find_kind(bytes, kind)?;
@@ -125,7 +134,7 @@ fn section_end(bytes: &[u8], i: usize) -> u32
     ensures value { result ≡ end_at bytes.now i }
     ensures within { result ≤ length bytes.now }
 {
-    let data_end = offset_of(bytes, 6) + size_of(bytes, 6);
+    let data_end = data_begin(bytes) + size_of(bytes, DATA);
     if i + 1 < entry_count(bytes) as usize {
         data_end.min(place_at(bytes, i + 1))
     } else {

@@ -17,8 +17,7 @@ pub fn section_of(sections: &Sections<'_>, kind: u16) -> Section
     ensures value { IsSectionOf sections.now kind result }
     ensures framed { IsFramed sections.now }
 {
-    // Only for the proof: what holds of each value of its type.
-    let _framed = sections.bytes();
+    sections.framed();
     match sections.section(kind) {
         Some((begin, end)) => Section { begin, end },
         None => Section { begin: 0, end: 0 },

@@ -3,7 +3,8 @@ ghost use Rattle.std.specs.Prelude.{◌≡◌, ◌<◌, ◌≤◌, ◌↔◌, le
 ghost use Rattle.dex_container.specs.Frame.{HeaderHolds, SumsHold, SectionsHold, SectionHolds};
 ghost use Rattle.dex_container.specs.Faults.{IsFrameFault};
 
-use crate::fields::{offset_of, row_bytes, size_of};
+use crate::fields::{offset_of, row_bytes, size_field, size_of};
+use crate::header_item::{DATA, PROTO_IDS, SIZE, TYPE_IDS};
 use dex_base::{Fault, fault};
 
 fn section_holds(bytes: &[u8], k: usize) -> bool
@@ -13,9 +14,9 @@ fn section_holds(bytes: &[u8], k: usize) -> bool
 {
     let size = u64::from(size_of(bytes, k));
     let offset = u64::from(offset_of(bytes, k));
-    let is_aligned = k >= 6 || offset % 4 == 0;
+    let is_aligned = k == DATA || offset % 4 == 0;
     let is_within = offset + row_bytes(k) * size <= bytes.len() as u64;
-    size == 0 || is_aligned && 112 <= offset && is_within
+    size == 0 || is_aligned && SIZE as u64 <= offset && is_within
 }
 
 /// The rules of the seven sections, lowest first.
@@ -25,16 +26,16 @@ pub fn check_sections(bytes: &[u8]) -> Result<(), Fault>
     ensures ok { OnOk result (SectionsHold bytes.now) }
     ensures err { IfErr result (IsFrameFault bytes.now) }
 {
-    for k in 0..7 {
+    for k in 0..=DATA {
         if !section_holds(bytes, k) {
-            return Err(Fault::at(fault::SECTION_RANGE, 56 + 8 * k as u64));
+            return Err(Fault::at(fault::SECTION_RANGE, size_field(k) as u64));
         }
     }
-    if size_of(bytes, 1) > 65535 {
-        return Err(Fault::at(fault::TOO_MANY_ROWS, 64));
+    if size_of(bytes, TYPE_IDS) > 65535 {
+        return Err(Fault::at(fault::TOO_MANY_ROWS, size_field(TYPE_IDS) as u64));
     }
-    if size_of(bytes, 2) > 65535 {
-        return Err(Fault::at(fault::TOO_MANY_ROWS, 72));
+    if size_of(bytes, PROTO_IDS) > 65535 {
+        return Err(Fault::at(fault::TOO_MANY_ROWS, size_field(PROTO_IDS) as u64));
     }
     Ok(())
 }

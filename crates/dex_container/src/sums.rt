@@ -3,6 +3,7 @@ ghost use Rattle.std.specs.Prelude.{◌≡◌, ◌≤◌, ◌↔◌, IsTrue, len
 ghost use Rattle.dex_container.specs.Frame.{HeaderHolds, SumsHold, HasChecksum, HasSignature};
 ghost use Rattle.dex_container.specs.Faults.{IsFrameFault};
 
+use crate::header_item as field;
 use dex_base::{Fault, adler32, fault, u32_at};
 use sha1::Sha1;
 
@@ -12,7 +13,7 @@ fn has_checksum(bytes: &[u8]) -> bool
     requires { 12 ≤ length bytes.now }
     ensures { IsTrue result ↔ HasChecksum bytes.now }
 {
-    u32_at(bytes, 8) == adler32(&bytes[12..])
+    u32_at(bytes, field::CHECKSUM) == adler32(&bytes[field::SIGNATURE..])
 }
 
 /// Whether bytes 12 to 31 are the signature of the bytes after them.
@@ -20,8 +21,8 @@ fn has_signature(bytes: &[u8]) -> bool
     requires { 32 ≤ length bytes.now }
     ensures { IsTrue result ↔ HasSignature bytes.now }
 {
-    let digest = Sha1::digest(&bytes[32..]);
-    &bytes[12..32] == digest.as_slice()
+    let digest = Sha1::digest(&bytes[field::FILE_SIZE..]);
+    &bytes[field::SIGNATURE..field::FILE_SIZE] == digest.as_slice()
 }
 
 /// The rules of checksum and signature.
@@ -31,10 +32,10 @@ pub fn check_sums(bytes: &[u8]) -> Result<(), Fault>
     ensures err { IfErr result (IsFrameFault bytes.now) }
 {
     if !has_checksum(bytes) {
-        return Err(Fault::at(fault::CHECKSUM, 8));
+        return Err(Fault::at(fault::CHECKSUM, field::CHECKSUM as u64));
     }
     if !has_signature(bytes) {
-        return Err(Fault::at(fault::SIGNATURE, 12));
+        return Err(Fault::at(fault::SIGNATURE, field::SIGNATURE as u64));
     }
     Ok(())
 }

@@ -56,6 +56,6 @@ pub use table_laws::{
 
 // What stands below, for the crates above.
 pub use dex_base::{
-    Fault, Seed, descriptor_length, fault, is_array, is_class, is_descriptor, is_member_name,
-    read_sleb, read_uleb, u16_at, u32_at, widen,
+    Fault, Seed, are_bytes, descriptor_length, fault, is_array, is_class, is_descriptor,
+    is_member_name, read_sleb, read_uleb, u16_at, u32_at, widen,
 };

@@ -17,5 +17,5 @@
 pub use program_rules::{well_formed, well_formed_in, well_formed_named_in};
 pub use program_types::{
     Catch, Class, Code, Desc, FieldRef, Insn, Member, Method, MethodRef, Name, Program, Proto, Str,
-    Try, Value, place_descs, place_proto, place_str, shorty_of,
+    Try, Value, alloc_descs, alloc_proto, alloc_str, shorty_of,
 };

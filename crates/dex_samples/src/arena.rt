@@ -5,7 +5,7 @@ ghost use Rattle.base_bytes.specs.Fault.{memory};
 
 use bumpalo::Bump;
 use dex_base::Fault;
-use program_types::place_str;
+use program_types::alloc_str;
 use std::alloc::Global;
 
 /// The first unit of a string that lies in an arena of its own, read before the arena ends. Fails only when out of memory.
@@ -14,7 +14,7 @@ pub fn first_unit(alloc: Global, units: &[u16]) -> Result<Option<u16>, Fault>
     ensures memory { IsOkUnless result memory }
 {
     let arena = Bump::new(alloc);
-    let placed = place_str(&arena, units)?;
+    let placed = alloc_str(&arena, units)?;
     let first = placed.units.first().copied();
     drop(arena);
     Ok(first)

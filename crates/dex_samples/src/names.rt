@@ -6,7 +6,7 @@ ghost use Rattle.program_types.specs.View.{desc};
 use bumpalo::Bump;
 use bumpalo::collections::into_bump_slice;
 use dex_base::{Fault, is_descriptor};
-use program_types::{Desc, FieldRef, MethodRef, Proto, Str, place_proto, place_str};
+use program_types::{Desc, FieldRef, MethodRef, Proto, Str, alloc_proto, alloc_str};
 
 /// What is answered of a prototype one of whose types is no descriptor.
 pub const MISSPELLED: Fault = Fault { code: 0, place: 0 };
@@ -17,7 +17,7 @@ pub fn text<'a>(arena: &'a Bump, ascii: &str) -> Result<Str<'a>, Fault> {
     for byte in ascii.as_bytes() {
         units.push(u16::from(*byte))?;
     }
-    place_str(arena, &units)
+    alloc_str(arena, &units)
 }
 
 /// The type of a descriptor, which is not tested.
@@ -49,7 +49,7 @@ pub fn proto<'a>(arena: &'a Bump, ret: &str, params: &[&str]) -> Result<&'a Prot
     for param in params {
         types.push(ty(arena, param)?)?;
     }
-    let placed = place_proto(arena, ty(arena, ret)?, into_bump_slice(types))?;
+    let placed = alloc_proto(arena, ty(arena, ret)?, into_bump_slice(types))?;
     if !has_shorty(placed) {
         return Err(MISSPELLED);
     }

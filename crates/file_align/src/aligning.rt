@@ -135,7 +135,7 @@ pub fn align_all<'a>(
     arena: &'a Bump,
     program: &Program<'a>,
 ) -> Result<Program<'a>, Fault>
-    requires kept { WellFormed (view.program program.now) }
+    requires formed { WellFormed (view.program program.now) }
     ensures ok { IfOk result (λ q. AlignedProgram (view.program program.now) (view.program q)) }
     ensures formed { IfOk result (λ q. WellFormed (view.program q)) }
     ensures err { IfErr result (λ e. e ≢ memory → IsTooLong (view.program program.now) e) }

@@ -8,7 +8,7 @@ use Rattle.dex_base.specs.Descriptor.{IsDescriptor}
 use Rattle.program_types.specs.declared_IndexKind_TheVariants as kind
 use Rattle.file_sections.specs.Fits.{HasIndexBelow, ShortFits, short_name}
 use Rattle.tables_names.specs.Closure.{Five, HasShorty, NameRanks}
-use Rattle.tables_names.specs.Indices.{HasPlace}
+use Rattle.tables_names.specs.Indices.{HasRank}
 use Rattle.tables_names.specs.Needed.{needed}
 use Rattle.tables_names.proofs.IndexLemmas.{mentions_have_indices}
 use Rattle.file_needed.proofs.ClassNames.{source_named, type_named}
@@ -79,13 +79,13 @@ pub types_short : (s : Five) → length s.types ≤ 65535 → (i : Insn) → Sho
 types_short s few i = type_short s few (short_name i)
 
 -- the names in the row of a class are held
-type_held : (s : Five) (o : Option Units) → AllByRecursion (HasIndex (NameRanks s)) (if_any (λ t. OfDesc t ∷ []) o) → ForSome o (λ t. HasPlace s.types (text_key t))
+type_held : (s : Five) (o : Option Units) → AllByRecursion (HasIndex (NameRanks s)) (if_any (λ t. OfDesc t ∷ []) o) → ForSome o (λ t. HasRank s.types (text_key t))
 type_held s None h = λ x e. absurd (cc e)
-type_held s (Some t) h = λ x e. let same : t ≡ x = cc e in subst (λ (u : Units). HasPlace s.types (text_key u)) same h.0
+type_held s (Some t) h = λ x e. let same : t ≡ x = cc e in subst (λ (u : Units). HasRank s.types (text_key u)) same h.0
 
-text_held : (s : Five) (o : Option Units) → AllByRecursion (HasIndex (NameRanks s)) (if_any (λ t. OfText t ∷ []) o) → ForSome o (λ t. HasPlace s.strings (text_key t))
+text_held : (s : Five) (o : Option Units) → AllByRecursion (HasIndex (NameRanks s)) (if_any (λ t. OfText t ∷ []) o) → ForSome o (λ t. HasRank s.strings (text_key t))
 text_held s None h = λ x e. absurd (cc e)
-text_held s (Some t) h = λ x e. let same : t ≡ x = cc e in subst (λ (u : Units). HasPlace s.strings (text_key u)) same h.0
+text_held s (Some t) h = λ x e. let same : t ≡ x = cc e in subst (λ (u : Units). HasRank s.strings (text_key u)) same h.0
 
 pub row_held : (s : Five) (p : Program) (i : ℕ) (c : Class) → s ≡ needed p → slice_get p i ≡ Some c → RowNamesHeld s c
 row_held s p i c e at =

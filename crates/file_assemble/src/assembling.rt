@@ -31,7 +31,7 @@ use tables_names::Ranks;
 /// Refused are programs that break a limit of the format, by the fault of the lowest number that stands, at its place. 255 is out of
 /// memory.
 pub fn assemble(alloc: Global, seed: Seed, program: &Program<'_>) -> Result<Vec<u8>, Fault>
-    requires kept { WellFormed (view.program program.now) }
+    requires formed { WellFormed (view.program program.now) }
     ensures assembled { IfOk result (λ file. Assembled file.items (needed (view.program program.now)) (view.program program.now)) }
     ensures fits { OnOk result (Fits (view.program program.now)) }
     ensures refused { IfErr result (λ e. e ≢ memory → IsLowestLimit (view.program program.now) e) }
@@ -47,7 +47,7 @@ fn assemble_in<'a, 'p: 'a>(
     arena: &'a Bump,
     program: &Program<'p>,
 ) -> Result<Vec<u8>, Fault>
-    requires kept { WellFormed (view.program program.now) }
+    requires formed { WellFormed (view.program program.now) }
     ensures assembled { IfOk result (λ file. Assembled file.items (needed (view.program program.now)) (view.program program.now)) }
     ensures fits { OnOk result (Fits (view.program program.now)) }
     ensures refused { IfErr result (λ e. e ≢ memory → IsLowestLimit (view.program program.now) e) }
@@ -63,7 +63,7 @@ fn assemble_named(
     indices: &[usize],
     program: &Program<'_>,
 ) -> Result<Vec<u8>, Fault>
-    requires kept { WellFormed (view.program program.now) }
+    requires formed { WellFormed (view.program program.now) }
     requires needed { ranks.now ≡ needed (view.program program.now) }
     requires indices { AreRanks ranks.now (named_in_code (view.program program.now) ++ defined_in (view.program program.now)) indices.now }
     ensures assembled { IfOk result (λ file. Assembled file.items (needed (view.program program.now)) (view.program program.now)) }
@@ -163,7 +163,7 @@ fn put_data(
     program: &Program<'_>,
     counts: Rows,
 ) -> Result<Data, Fault>
-    requires kept { WellFormed (view.program program.now) }
+    requires formed { WellFormed (view.program program.now) }
     requires needed { ranks.now ≡ needed (view.program program.now) }
     requires indices { AreRanks ranks.now (named_in_code (view.program program.now) ++ defined_in (view.program program.now)) indices.now }
     requires fits { Fits (view.program program.now) }
@@ -236,7 +236,7 @@ fn assemble_ranked(
     indices: &[usize],
     program: &Program<'_>,
 ) -> Result<Vec<u8>, Fault>
-    requires kept { WellFormed (view.program program.now) }
+    requires formed { WellFormed (view.program program.now) }
     requires needed { ranks.now ≡ needed (view.program program.now) }
     requires indices { AreRanks ranks.now (named_in_code (view.program program.now) ++ defined_in (view.program program.now)) indices.now }
     requires fits { Fits (view.program program.now) }

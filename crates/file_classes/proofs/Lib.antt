@@ -10,7 +10,7 @@ pub mod StaticsLaws
 pub mod MethodLaws
 pub mod OnceLaws
 pub mod SeenLaws
-pub mod KeptLaws
+pub mod CachedLaws
 pub mod MeantLaws
 pub mod OneFault
 -- What stands below, for the crates above.

@@ -1,6 +1,7 @@
 -- Methods with their code, and the class that they complete.
 use Rattle.std.proofs.Common.{◌≡◌, ◌≢◌, ℕ, ◌+◌, ◌<◌, inl, inr, Bool, true, false, List, [], ◌∷◌, ◌++◌, length, map, Option, Some, None, option_map, refl, sym, ap, ◌∙◌, subst, arith, slice_get, get_or}
 use Rattle.std.specs.Prelude.{MatchBool, ◌==◌, IfSome, IfNone}
+use Rattle.std.specs.Option.{option_or}
 use Rattle.file_classes.proofs.StaticsLaws.{at_other, first_class}
 use Rattle.std.proofs.lemmas.Bool.{cases_lt}
 use Rattle.std.proofs.lemmas.List.{length-map, length_push}
@@ -161,13 +162,13 @@ module _ (b : List ℕ) (framed : IsFramed b) (i : ℕ) (h : Head) (is : IsHead 
 -- what the class keeps of the first fault of its registers: that of its direct methods, else that of its virtual ones
 module _ (b : List ℕ) (framed : IsFramed b) (i : ℕ) (h : Head) (is : IsHead b i h) where
   pub class_kept : (d v r : Option Fault) → CodesUpTo CodeHolds RegistersFail b h.directs.now (length h.directs.now) d → CodesUpTo CodeHolds RegistersFail b h.virtuals.now (length h.virtuals.now) v
-      → IfSome d (λ e. r ≡ Some e) → IfNone d (r ≡ v) → IfNone r (RowRegistersHold b i) × IfSome r (RowRegistersBreak b i)
-  class_kept None v r direct virtual kept next = subst (λ (o : Option Fault). IfNone o (RowRegistersHold b i) × IfSome o (RowRegistersBreak b i)) (sym next) (last v virtual.none virtual.some)
+      → r ≡ option_or d v → IfNone r (RowRegistersHold b i) × IfSome r (RowRegistersBreak b i)
+  class_kept None v r direct virtual first = subst (λ (o : Option Fault). IfNone o (RowRegistersHold b i) × IfSome o (RowRegistersBreak b i)) (sym first) (last v virtual.none virtual.some)
     where
       last : (o : Option Fault) → IfNone o ((k : ℕ) (m : Bare) → k < length h.virtuals.now → slice_get h.virtuals.now k ≡ Some m → CodeHolds b m.code) → IfSome o (FirstCodeBreaks CodeHolds RegistersFail b h.virtuals.now) → IfNone o (RowRegistersHold b i) × IfSome o (RowRegistersBreak b i)
       last None n s = (all_hold b framed i h is CodeHolds direct.none n, tt)
       last (Some e) n s = (tt, virtuals_break b framed i h is CodeHolds RegistersFail e direct.none s)
-  class_kept (Some e) v r direct virtual kept next = subst (λ (o : Option Fault). IfNone o (RowRegistersHold b i) × IfSome o (RowRegistersBreak b i)) (sym kept) (tt, directs_break b framed i h is CodeHolds RegistersFail e direct.some)
+  class_kept (Some e) v r direct virtual first = subst (λ (o : Option Fault). IfNone o (RowRegistersHold b i) × IfSome o (RowRegistersBreak b i)) (sym first) (tt, directs_break b framed i h is CodeHolds RegistersFail e direct.some)
 
 -- The registers of all code of the first n rows hold, or this is the first fault.
 pub record RowsUpTo (b : List ℕ) (n : ℕ) (past : Option Fault) : Type 0 where
@@ -189,9 +190,9 @@ module _ (b : List ℕ) where
   }
   rows_more n (Some e) lt u h f = record { none = tt; some = first_class RowRegistersBreak RowRegistersHold b n e lt u.none f }
 
-  pub rows_turn : (n : ℕ) (o next r : Option Fault) → IfSome o (λ e. r ≡ Some e) → IfNone o (r ≡ next) → n < size_of b 5 → RowsUpTo b n o → IfNone next (RowRegistersHold b n) → IfSome next (RowRegistersBreak b n) → RowsUpTo b (n + 1) r
-  rows_turn n None next r kept is lt u h f = subst (λ (x : Option Fault). RowsUpTo b (n + 1) x) (sym is) (rows_more n next lt u h f)
-  rows_turn n (Some e) next r kept is lt u h f = subst (λ (x : Option Fault). RowsUpTo b (n + 1) x) (sym kept) (record { none = tt; some = u.some })
+  pub rows_turn : (n : ℕ) (o next r : Option Fault) → r ≡ option_or o next → n < size_of b 5 → RowsUpTo b n o → IfNone next (RowRegistersHold b n) → IfSome next (RowRegistersBreak b n) → RowsUpTo b (n + 1) r
+  rows_turn n None next r first lt u h f = subst (λ (x : Option Fault). RowsUpTo b (n + 1) x) (sym first) (rows_more n next lt u h f)
+  rows_turn n (Some e) next r first lt u h f = subst (λ (x : Option Fault). RowsUpTo b (n + 1) x) (sym first) (record { none = tt; some = u.some })
 
 -- the bare method that a read past the end of a slice gives
 abbrev no_str : Str
@@ -243,10 +244,10 @@ module _ (b : List ℕ) (ms : List Bare) where
   up_more n m (Some e) lt is u h f = record { none = tt; some = bares_break CodeHolds RegistersFail n m e lt is u.none f }
 
   -- the first of both is kept
-  pub up_turn : (n : ℕ) (m : Bare) (o next r : Option Fault) → IfSome o (λ e. r ≡ Some e) → IfNone o (r ≡ next) → n < length ms → m ≡ get_or ms n no_bare → CodesUpTo CodeHolds RegistersFail b ms n o
+  pub up_turn : (n : ℕ) (m : Bare) (o next r : Option Fault) → r ≡ option_or o next → n < length ms → m ≡ get_or ms n no_bare → CodesUpTo CodeHolds RegistersFail b ms n o
       → IfNone next (CodeHolds b m.code) → IfSome next (RegistersFail b m.code) → CodesUpTo CodeHolds RegistersFail b ms (n + 1) r
-  up_turn n m None next r kept is lt at u h f = subst (λ (x : Option Fault). CodesUpTo CodeHolds RegistersFail b ms (n + 1) x) (sym is) (up_more n m next lt at u h f)
-  up_turn n m (Some e) next r kept is lt at u h f = subst (λ (x : Option Fault). CodesUpTo CodeHolds RegistersFail b ms (n + 1) x) (sym kept) (up_same n e u)
+  up_turn n m None next r first lt at u h f = subst (λ (x : Option Fault). CodesUpTo CodeHolds RegistersFail b ms (n + 1) x) (sym first) (up_more n m next lt at u h f)
+  up_turn n m (Some e) next r first lt at u h f = subst (λ (x : Option Fault). CodesUpTo CodeHolds RegistersFail b ms (n + 1) x) (sym first) (up_same n e u)
 
 -- the body at an offset stands by the names that the file has
 module _ (b : List ℕ) (names : Names) (are : AreNamesOf b names) (off : ℕ) (code : Code) (some : off ≢ 0) (stands : BodyStands (NameIsAt names) b off code) where

@@ -4,7 +4,7 @@ pub mod ClassData
 pub mod Classes
 pub mod ClassFaults
 pub mod Reading
-pub mod Kept
+pub mod Cached
 -- What stands below, for the crates above.
 pub use Rattle.tables_rows.specs.Stands
 pub use Rattle.dex_value.specs.Spelling

@@ -1,4 +1,4 @@
-//! The second pass over class_defs where no program is asked for: the faults of `read_statics`. Of an array nothing is kept but how many
+//! The second pass over class_defs where no program is asked for: the faults of `read_statics`. Of an array nothing is cached but how many
 //! values it has.
 ghost use Rattle.std.specs.Prelude.{◌≢◌, ◌<◌, List, IfErr, OnOk};
 ghost use Rattle.base_bytes.specs.Fault.{memory};
@@ -10,8 +10,8 @@ ghost use Rattle.tables_rows.specs.Sorted.{RowsHold};
 ghost use Rattle.dex_value.specs.Faults.{ArrayBreaksAt};
 ghost use Rattle.dex_value.specs.Standing.{ArrayStands};
 ghost use Rattle.file_classes.specs.ClassFaults.{ValuesBreak, ValuesHold, IsFirstClass};
-ghost use Rattle.tables_rows.specs.Kept.{AreKept};
-ghost use Rattle.file_classes.specs.Kept.{CountsOnce};
+ghost use Rattle.tables_rows.specs.Cached.{AreCached};
+ghost use Rattle.file_classes.specs.Cached.{CountsOnce};
 ghost use Rattle.file_classes.specs.Reading.{IsHead};
 
 use crate::class_row::{class_count, class_place, class_word};
@@ -25,27 +25,27 @@ use indexmap::IndexMap;
 use std::alloc::Global;
 use tables_rows::Tables;
 
-/// Looks at the values at an offset, at most so many: what is kept of them, or what is found now, and kept.
+/// Looks at the values at an offset, at most so many: what is cached for them, or what is found now, and cached.
 fn check_array_at(
     sections: &Sections<'_>,
     tables: &Tables<'_>,
-    kept: &mut IndexMap<u32, u32>,
+    cached: &mut IndexMap<u32, u32>,
     off: u32,
     most: usize,
 ) -> Result<(), Fault>
-    requires kept { AreKept (CountsOnce (NameIsAt tables.now) sections.now) kept.old }
+    requires cached { AreCached (CountsOnce (NameIsAt tables.now) sections.now) cached.old }
     ensures ok { OnOk result ((vs : List Value) × ArrayStands (NameIsAt tables.now) sections.now off most vs) }
-    ensures kept { OnOk result (AreKept (CountsOnce (NameIsAt tables.now) sections.now) kept.new) }
+    ensures cached { OnOk result (AreCached (CountsOnce (NameIsAt tables.now) sections.now) cached.new) }
     ensures broken { IfErr result (λ e. e ≢ memory → ArrayBreaksAt (NameIsAt tables.now) sections.now off most e) }
 {
-    if let Some(found) = kept.get(&off) {
+    if let Some(found) = cached.get(&off) {
         if *found as usize > most {
             return Err(Fault::at(fault::TOO_MANY_VALUES, u64::from(off)));
         }
         return Ok(());
     }
     let count = check_array(tables, sections, off, most)?;
-    kept.insert(off, count)?;
+    cached.insert(off, count)?;
     Ok(())
 }
 
@@ -53,23 +53,23 @@ fn check_array_at(
 fn check_row(
     sections: &Sections<'_>,
     tables: &Tables<'_>,
-    kept: &mut IndexMap<u32, u32>,
+    cached: &mut IndexMap<u32, u32>,
     i: u32,
     head: Head<'_, '_>,
 ) -> Result<(), Fault>
     requires names { AreNamesOf sections.now tables.now }
     requires row { i < size_of sections.now section.class_defs }
-    requires kept { AreKept (CountsOnce (NameIsAt tables.now) sections.now) kept.old }
+    requires cached { AreCached (CountsOnce (NameIsAt tables.now) sections.now) cached.old }
     requires head { IsHead sections.now i head }
     ensures ok { OnOk result (ValuesHold sections.now i) }
-    ensures kept { OnOk result (AreKept (CountsOnce (NameIsAt tables.now) sections.now) kept.new) }
+    ensures cached { OnOk result (AreCached (CountsOnce (NameIsAt tables.now) sections.now) cached.new) }
     ensures err { IfErr result (λ e. e ≢ memory → ValuesBreak sections.now i e) }
 {
     let off = class_word(sections, i, word::STATIC_VALUES_OFF);
     if off == 0 {
         return Ok(());
     }
-    match check_array_at(sections, tables, kept, off, head.statics.len()) {
+    match check_array_at(sections, tables, cached, off, head.statics.len()) {
         Ok(()) => Ok(()),
         Err(fault) => Err(at_row(class_place(sections, i), fault)),
     }
@@ -88,10 +88,10 @@ pub fn check_statics(
     ensures err { IfErr result (λ e. e ≢ memory → IsFirstClass ValuesBreak ValuesHold sections.now e) }
 {
     let count = class_count(sections);
-    let mut kept = IndexMap::new(alloc);
+    let mut cached = IndexMap::new(alloc);
     for i in 0..count {
         let head = head_at(sections, heads, i);
-        check_row(sections, tables, &mut kept, i, head)?;
+        check_row(sections, tables, &mut cached, i, head)?;
     }
     Ok(())
 }

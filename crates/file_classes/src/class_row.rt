@@ -13,13 +13,10 @@ ghost use Rattle.file_classes.specs.Classes.{RowIs};
 ghost use Rattle.file_classes.specs.ClassFaults.{ClassRowBreaks};
 
 use crate::word;
-use dex_base::{Fault, fault, is_class, u32_at};
+use dex_base::{Fault, fault, u32_at};
 use dex_container::{Sections, kind};
-use program_types::{Desc, Str};
+use program_types::{Desc, Str, is_class_type};
 use tables_rows::Tables;
-
-/// The index that stands for none.
-const NO_INDEX: u32 = 0xffffffff;
 
 /// The names and flags of a class.
 #[derive(Clone, Copy)]
@@ -62,15 +59,14 @@ fn type_at<'a>(sections: &Sections<'_>, tables: &Tables<'a>, index: u32) -> Opti
     ensures some { IfSome result (λ t. TypeStands sections.now index (desc t)) }
     ensures none { IfNone result (size_of sections.now section.type_ids ≤ index) }
 {
-    // Only for the proof: what holds of each value of its type.
-    let _file = sections;
+    // By cases: what stands there is proved of one row, and none past the last.
     match tables.type_(index) {
         Some(ty) => Some(ty),
         None => None,
     }
 }
 
-/// The type at an index, or none for NO_INDEX; None past the last row.
+/// The type at an index, or none for `NO_INDEX`; None past the last row.
 fn type_or_none<'a>(
     sections: &Sections<'_>,
     tables: &Tables<'a>,
@@ -80,7 +76,7 @@ fn type_or_none<'a>(
     ensures some { IfSome result (λ t. IndexOrNone (TypeStands sections.now) index (option_map desc t)) }
     ensures none { IfNone result ((index ≢ no_index) × (size_of sections.now section.type_ids ≤ index)) }
 {
-    if index == NO_INDEX {
+    if index == word::NO_INDEX {
         return Some(None);
     }
     match type_at(sections, tables, index) {
@@ -89,7 +85,7 @@ fn type_or_none<'a>(
     }
 }
 
-/// The string at an index, or none for NO_INDEX; None past the last row.
+/// The string at an index, or none for `NO_INDEX`; None past the last row.
 fn string_or_none<'a>(
     sections: &Sections<'_>,
     tables: &Tables<'a>,
@@ -99,22 +95,13 @@ fn string_or_none<'a>(
     ensures some { IfSome result (λ s. IndexOrNone (StringStands sections.now) index (option_map str s)) }
     ensures none { IfNone result ((index ≢ no_index) × (size_of sections.now section.string_ids ≤ index)) }
 {
-    // Only for the proof: what holds of each value of its type.
-    let _file = sections;
-    if index == NO_INDEX {
+    if index == word::NO_INDEX {
         return Some(None);
     }
     match tables.string(index) {
         Some(text) => Some(Some(text)),
         None => None,
     }
-}
-
-/// Whether a type is a class type.
-fn is_class_type(ty: Desc<'_>) -> bool
-    ensures { IsTrue result ↔ IsClass (desc ty.entry) }
-{
-    is_class(ty.text.units)
 }
 
 /// Whether a superclass, where there is one, is a class type.

@@ -9,7 +9,7 @@ ghost use Rattle.tables_rows.specs.Reading.{AreFirst};
 ghost use Rattle.tables_rows.specs.TableFaults.{BreaksAt, IsFirstRow};
 ghost use Rattle.file_classes.specs.ClassFaults.{ClassRowBreaks, ClassRowHolds, ClassRowsHold};
 ghost use Rattle.file_classes.specs.Classes.{InterfacesAt};
-ghost use Rattle.tables_rows.specs.Kept.{AreKept};
+ghost use Rattle.tables_rows.specs.Cached.{AreCached};
 ghost use Rattle.file_classes.specs.Places.{ArePlaces};
 ghost use Rattle.file_classes.specs.Reading.{IsHead};
 
@@ -52,24 +52,23 @@ fn read_head<'a, 's>(
     sections: &Sections<'_>,
     tables: &Tables<'a>,
     places: &Places,
-    kept: &mut IndexMap<u32, &'a [Desc<'a>]>,
+    cached: &mut IndexMap<u32, &'a [Desc<'a>]>,
     i: u32,
 ) -> Result<Head<'a, 's>, Fault>
     requires names { AreNamesOf sections.now tables.now }
     requires places { ArePlaces sections.now (size_of sections.now section.class_defs) places.now.first.items places.now.last.items }
-    requires kept { AreKept (λ off list. InterfacesAt sections.now off (map desc list.now)) kept.old }
+    requires cached { AreCached (λ off list. InterfacesAt sections.now off (map desc list.now)) cached.old }
     requires row { i < size_of sections.now section.class_defs }
     ensures ok { IfOk result (λ h. IsHead sections.now i h) }
     ensures holds { IfOk result (λ _. ClassRowHolds sections.now i) }
-    ensures kept { OnOk result (AreKept (λ off list. InterfacesAt sections.now off (map desc list.now)) kept.new) }
+    ensures cached { OnOk result (AreCached (λ off list. InterfacesAt sections.now off (map desc list.now)) cached.new) }
     ensures err { IfErr result (λ e. e ≢ memory → BreaksAt ClassRowBreaks sections.now section.class_defs i e) }
 {
-    // Only for the proof: what holds of each value of its type.
-    let _file = sections.bytes();
+    sections.framed();
     let place = class_place(sections, i);
     let row = read_row(sections, tables, i)?;
     let list = class_word(sections, i, word::INTERFACES_OFF);
-    let Some(interfaces) = interfaces_at(alloc, arena, sections, tables, kept, list)? else {
+    let Some(interfaces) = interfaces_at(alloc, arena, sections, tables, cached, list)? else {
         return Err(Fault::at(fault::INTERFACE_LIST, place));
     };
     if !is_in_order(sections, places, i) {
@@ -101,18 +100,18 @@ fn push_heads<'a, 's>(
     sections: &Sections<'_>,
     tables: &Tables<'a>,
     places: &Places,
-    kept: &mut IndexMap<u32, &'a [Desc<'a>]>,
+    cached: &mut IndexMap<u32, &'a [Desc<'a>]>,
     heads: &mut Vec<Head<'a, 's>, &'s Bump>,
 ) -> Result<(), Fault>
     requires names { AreNamesOf sections.now tables.now }
     requires places { ArePlaces sections.now (size_of sections.now section.class_defs) places.now.first.items places.now.last.items }
-    requires kept { AreKept (λ off list. InterfacesAt sections.now off (map desc list.now)) kept.old }
+    requires cached { AreCached (λ off list. InterfacesAt sections.now off (map desc list.now)) cached.old }
     requires none { heads.old.items ≡ [] }
     ensures rows { OnOk result (AreFirst IsHead ClassRowHolds sections.now (size_of sections.now section.class_defs) heads.new.items) }
     ensures err { IfErr result (λ e. e ≢ memory → IsFirstRow ClassRowBreaks ClassRowHolds sections.now section.class_defs e) }
 {
     for i in 0..class_count(sections) {
-        let head = read_head(alloc, arena, scratch, sections, tables, places, kept, i)?;
+        let head = read_head(alloc, arena, scratch, sections, tables, places, cached, i)?;
         heads.push(head)?;
     }
     Ok(())
@@ -136,9 +135,16 @@ pub fn read_heads<'a, 's>(
         scratch,
         class_count(sections) as usize,
     )?;
-    let mut kept = IndexMap::new(alloc);
+    let mut cached = IndexMap::new(alloc);
     push_heads(
-        alloc, arena, scratch, sections, tables, &places, &mut kept, &mut heads,
+        alloc,
+        arena,
+        scratch,
+        sections,
+        tables,
+        &places,
+        &mut cached,
+        &mut heads,
     )?;
     Ok(into_bump_slice(heads))
 }

@@ -6,7 +6,7 @@ ghost use Rattle.base_bytes.specs.Fault.{memory};
 ghost use Rattle.program_types.specs.View.{desc};
 ghost use Rattle.tables_rows.specs.Names.{AreNamesOf};
 ghost use Rattle.file_classes.specs.Classes.{NoTypeTwice, InterfacesAt};
-ghost use Rattle.tables_rows.specs.Kept.{AreKept};
+ghost use Rattle.tables_rows.specs.Cached.{AreCached};
 ghost use Rattle.file_classes.specs.Reading.{IsNotAmong};
 
 use bumpalo::Bump;
@@ -95,8 +95,7 @@ fn read_interfaces<'a>(
     ensures none { IfOk result (λ r. IfNone r ((ts : _) → ¬ InterfacesAt sections.now off ts)) }
     ensures memory { IsOkUnless result memory }
 {
-    // Only for the proof: what holds of each value of its type.
-    let _file = sections.bytes();
+    sections.framed();
     let Some(types) = tables.type_list(alloc, arena, sections, off)? else {
         return Ok(None);
     };
@@ -109,29 +108,29 @@ fn read_interfaces<'a>(
     Ok(Some(types))
 }
 
-/// The interfaces at an offset: the list that is kept of it, or the one that is read now, and kept. None where no list of distinct
+/// The interfaces at an offset: the list that is cached for it, or the one that is read now, and cached. None where no list of distinct
 /// class types stands there.
 pub(crate) fn interfaces_at<'a>(
     alloc: Global,
     arena: &'a Bump,
     sections: &Sections<'_>,
     tables: &Tables<'a>,
-    kept: &mut IndexMap<u32, &'a [Desc<'a>]>,
+    cached: &mut IndexMap<u32, &'a [Desc<'a>]>,
     off: u32,
 ) -> Result<Option<&'a [Desc<'a>]>, Fault>
     requires names { AreNamesOf sections.now tables.now }
-    requires kept { AreKept (λ off list. InterfacesAt sections.now off (map desc list.now)) kept.old }
+    requires cached { AreCached (λ off list. InterfacesAt sections.now off (map desc list.now)) cached.old }
     ensures found { IfOk result (λ r. IfSome r (λ list. InterfacesAt sections.now off (map desc list.now))) }
     ensures none { IfOk result (λ r. IfNone r ((ts : _) → ¬ InterfacesAt sections.now off ts)) }
-    ensures kept { OnOk result (AreKept (λ off list. InterfacesAt sections.now off (map desc list.now)) kept.new) }
+    ensures cached { OnOk result (AreCached (λ off list. InterfacesAt sections.now off (map desc list.now)) cached.new) }
     ensures memory { IsOkUnless result memory }
 {
-    if let Some(list) = kept.get(&off) {
+    if let Some(list) = cached.get(&off) {
         return Ok(Some(*list));
     }
     let Some(list) = read_interfaces(alloc, arena, sections, tables, off)? else {
         return Ok(None);
     };
-    kept.insert(off, list)?;
+    cached.insert(off, list)?;
     Ok(Some(list))
 }

@@ -9,7 +9,7 @@ ghost use Rattle.tables_rows.specs.Names.{AreNamesOf, AreRows};
 ghost use Rattle.tables_rows.specs.Sorted.{RowsHold};
 ghost use Rattle.file_classes.specs.Classes.{SpellsClass};
 ghost use Rattle.file_classes.specs.ClassFaults.{BodyAt, BodyHolds, BodyFails, CodeHolds, RegistersFail, BodiesHold, BodiesBreak, RowRegistersHold, RowRegistersBreak, IsFirstClass};
-ghost use Rattle.tables_rows.specs.Kept.{AreKept};
+ghost use Rattle.tables_rows.specs.Cached.{AreCached};
 ghost use Rattle.file_classes.specs.Reading.{IsHead, AreStatics, AreDone, FirstCodeBreaks, CodesUpTo, IsFound, SpellsBodies};
 
 use crate::class_row::class_count;
@@ -47,17 +47,6 @@ struct FoundClass<'a> {
     past: Option<Fault>,
 }
 
-/// The first of two faults.
-pub(crate) fn first_of(first: Option<Fault>, next: Option<Fault>) -> Option<Fault>
-    ensures first { IfSome first (λ e. result ≡ Some e) }
-    ensures next { IfNone first (result ≡ next) }
-{
-    match first {
-        Some(fault) => Some(fault),
-        None => next,
-    }
-}
-
 /// The code at an offset, none at 0.
 fn read_code_at<'a>(
     alloc: Global,
@@ -86,26 +75,26 @@ fn read_code_at<'a>(
     })
 }
 
-/// The code at an offset, none at 0: what is kept of the offset, or what is read now, and kept.
+/// The code at an offset, none at 0: what is cached for the offset, or what is read now, and cached.
 fn code_at<'a>(
     alloc: Global,
     arena: &'a Bump,
     sections: &Sections<'_>,
     tables: &Tables<'a>,
-    kept: &mut IndexMap<u32, Found<'a>>,
+    cached: &mut IndexMap<u32, Found<'a>>,
     off: u32,
 ) -> Result<Found<'a>, Fault>
     requires names { AreNamesOf sections.now tables.now }
-    requires kept { AreKept (IsFound sections.now) kept.old }
+    requires cached { AreCached (IsFound sections.now) cached.old }
     ensures ok { IfOk result (IsFound sections.now off) }
-    ensures kept { OnOk result (AreKept (IsFound sections.now) kept.new) }
+    ensures cached { OnOk result (AreCached (IsFound sections.now) cached.new) }
     ensures err { IfErr result (λ e. e ≢ memory → BodyFails sections.now off e) }
 {
-    if let Some(found) = kept.get(&off) {
+    if let Some(found) = cached.get(&off) {
         return Ok(*found);
     }
     let found = read_code_at(alloc, arena, sections, tables, off)?;
-    kept.insert(off, found)?;
+    cached.insert(off, found)?;
     Ok(found)
 }
 
@@ -115,21 +104,21 @@ fn read_methods<'a>(
     arena: &'a Bump,
     sections: &Sections<'_>,
     tables: &Tables<'a>,
-    kept: &mut IndexMap<u32, Found<'a>>,
+    cached: &mut IndexMap<u32, Found<'a>>,
     bares: &[Bare<'a>],
 ) -> Result<Methods<'a>, Fault>
     requires names { AreNamesOf sections.now tables.now }
-    requires kept { AreKept (IsFound sections.now) kept.old }
+    requires cached { AreCached (IsFound sections.now) cached.old }
     ensures ok { IfOk result (λ x. AreDone sections.now bares.now (length bares.now) (map view.method x.list.now)) }
     ensures past { IfOk result (λ x. CodesUpTo CodeHolds RegistersFail sections.now bares.now (length bares.now) x.past) }
-    ensures kept { OnOk result (AreKept (IsFound sections.now) kept.new) }
+    ensures cached { OnOk result (AreCached (IsFound sections.now) cached.new) }
     ensures err { IfErr result (λ e. e ≢ memory → FirstCodeBreaks BodyHolds BodyFails sections.now bares.now e) }
 {
     let mut methods: Vec<Method<'a>, &'a Bump> = Vec::with_capacity(arena, bares.len())?;
     let mut past = None;
     for bare in bares {
-        let found = code_at(alloc, arena, sections, tables, kept, bare.code)?;
-        past = first_of(past, found.past);
+        let found = code_at(alloc, arena, sections, tables, cached, bare.code)?;
+        past = past.or(found.past);
         methods.push(Method {
             name: bare.method.name,
             proto: bare.method.proto,
@@ -149,25 +138,24 @@ fn read_class<'a>(
     arena: &'a Bump,
     sections: &Sections<'_>,
     tables: &Tables<'a>,
-    kept: &mut IndexMap<u32, Found<'a>>,
+    cached: &mut IndexMap<u32, Found<'a>>,
     i: u32,
     head: Head<'a, '_>,
     statics: Statics<'a>,
 ) -> Result<FoundClass<'a>, Fault>
     requires names { AreNamesOf sections.now tables.now }
-    requires kept { AreKept (IsFound sections.now) kept.old }
+    requires cached { AreCached (IsFound sections.now) cached.old }
     requires head { IsHead sections.now i head }
     requires statics { AreStatics sections.now i statics }
     ensures ok { IfOk result (λ x. SpellsBodies sections.now i (view.class x.class)) }
     ensures hold { IfOk result (λ x. IfNone x.past (RowRegistersHold sections.now i)) }
     ensures past { IfOk result (λ x. IfSome x.past (RowRegistersBreak sections.now i)) }
-    ensures kept { OnOk result (AreKept (IsFound sections.now) kept.new) }
+    ensures cached { OnOk result (AreCached (IsFound sections.now) cached.new) }
     ensures err { IfErr result (λ e. e ≢ memory → BodiesBreak sections.now i e) }
 {
-    // Only for the proof: what holds of each value of its type.
-    let _file = sections.bytes();
-    let directs = read_methods(alloc, arena, sections, tables, kept, head.directs)?;
-    let virtuals = read_methods(alloc, arena, sections, tables, kept, head.virtuals)?;
+    sections.framed();
+    let directs = read_methods(alloc, arena, sections, tables, cached, head.directs)?;
+    let virtuals = read_methods(alloc, arena, sections, tables, cached, head.virtuals)?;
     Ok(FoundClass {
         class: Class {
             ty: head.ty,
@@ -181,7 +169,7 @@ fn read_class<'a>(
             directs: directs.list,
             virtuals: virtuals.list,
         },
-        past: first_of(directs.past, virtuals.past),
+        past: directs.past.or(virtuals.past),
     })
 }
 
@@ -191,8 +179,6 @@ fn statics_at<'a>(sections: &Sections<'_>, statics: &[Statics<'a>], i: u32) -> S
     requires row { i < size_of sections.now section.class_defs }
     ensures { AreStatics sections.now i result }
 {
-    // Only for the proof: what holds of each value of its type.
-    let _file = sections;
     statics[i as usize]
 }
 
@@ -213,17 +199,16 @@ pub fn read_classes<'a>(
     ensures err { IfErr result (λ e. e ≢ memory → IsFirstClass BodiesBreak BodiesHold sections.now e
         ⊎ (RowsHold BodiesHold sections.now (size_of sections.now section.class_defs) × IsFirstClass RowRegistersBreak RowRegistersHold sections.now e)) }
 {
-    // Only for the proof: what holds of each value of its type.
-    let _file = sections.bytes();
+    sections.framed();
     let count = class_count(sections);
-    let mut kept = IndexMap::new(alloc);
+    let mut cached = IndexMap::new(alloc);
     let mut classes: Vec<Class<'a>, &'a Bump> = Vec::with_capacity(arena, count as usize)?;
     let mut past = None;
     for i in 0..count {
         let head = head_at(sections, heads, i);
         let values = statics_at(sections, statics, i);
-        let found = read_class(alloc, arena, sections, tables, &mut kept, i, head, values)?;
-        past = first_of(past, found.past);
+        let found = read_class(alloc, arena, sections, tables, &mut cached, i, head, values)?;
+        past = past.or(found.past);
         classes.push(found.class)?;
     }
     match past {

@@ -49,8 +49,7 @@ fn interfaces_are_before(sections: &Sections<'_>, places: &Places, i: u32) -> bo
     requires within { (indexes : List ℕ) → InterfaceIndexes sections.now i indexes → (k : ℕ) → k < length indexes → slice_index indexes k < size_of sections.now section.type_ids }
     ensures { IsTrue result ↔ ((indexes : List ℕ) → InterfaceIndexes sections.now i indexes → (k : ℕ) → k < length indexes → NoneDefines sections.now i (size_of sections.now section.class_defs) (slice_index indexes k)) }
 {
-    // Only for the proof: what holds of each value of its type.
-    let _file = sections.bytes();
+    sections.framed();
     let lists = section_of(sections, kind::TYPE_LIST);
     let list = class_word(sections, i, word::INTERFACES_OFF);
     match indexes_or_none(sections, lists, list) {

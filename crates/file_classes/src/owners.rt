@@ -23,8 +23,7 @@ pub(crate) fn is_member_of(
     requires class { TypeStands sections.now row (desc class) }
     ensures { IsTrue result ↔ (desc of.now ≡ desc class.entry) }
 {
-    // Only for the proof: what holds of each value of its type.
-    let _file = sections.bytes();
+    sections.framed();
     let named = member_class(sections, table, index);
     if u32::from(named) == row {
         return true;

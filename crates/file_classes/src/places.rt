@@ -106,7 +106,5 @@ pub(crate) fn is_undefined(sections: &Sections<'_>, places: &Places, from: u32, 
     requires within { ty < size_of sections.now section.type_ids }
     ensures { IsTrue result ↔ NoneDefines sections.now from (size_of sections.now section.class_defs) ty }
 {
-    // Only for the proof: what holds of each value of its type.
-    let _file = sections;
     at(&places.last, ty) <= from
 }

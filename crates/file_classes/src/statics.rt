@@ -9,8 +9,8 @@ ghost use Rattle.tables_rows.specs.Sorted.{RowsHold};
 ghost use Rattle.file_classes.specs.ClassFaults.{at_row, ValuesBreak, ValuesHold, IsFirstClass};
 ghost use Rattle.dex_value.specs.Faults.{ArrayBreaksAt};
 ghost use Rattle.dex_value.specs.Standing.{ArrayStands};
-ghost use Rattle.tables_rows.specs.Kept.{AreKept};
-ghost use Rattle.file_classes.specs.Kept.{StandsOnce};
+ghost use Rattle.tables_rows.specs.Cached.{AreCached};
+ghost use Rattle.file_classes.specs.Cached.{StandsOnce};
 ghost use Rattle.file_classes.specs.Reading.{IsHead, AreStatics};
 
 use crate::class_row::{class_count, class_place, class_word};
@@ -32,22 +32,22 @@ pub struct Statics<'a> {
     pub values: &'a [Value<'a>],
 }
 
-/// The values at an offset, at most so many: those that are kept of it, or those that are read now, and kept.
+/// The values at an offset, at most so many: those that are cached for it, or those that are read now, and cached.
 fn array_at<'a>(
     alloc: Global,
     arena: &'a Bump,
     sections: &Sections<'_>,
     tables: &Tables<'a>,
-    kept: &mut IndexMap<u32, &'a [Value<'a>]>,
+    cached: &mut IndexMap<u32, &'a [Value<'a>]>,
     off: u32,
     most: usize,
 ) -> Result<&'a [Value<'a>], Fault>
-    requires kept { AreKept (λ off values. StandsOnce (NameIsAt tables.now) sections.now off (map value values.now)) kept.old }
+    requires cached { AreCached (λ off values. StandsOnce (NameIsAt tables.now) sections.now off (map value values.now)) cached.old }
     ensures ok { IfOk result (λ values. ArrayStands (NameIsAt tables.now) sections.now off most (map value values.now)) }
-    ensures kept { OnOk result (AreKept (λ off values. StandsOnce (NameIsAt tables.now) sections.now off (map value values.now)) kept.new) }
+    ensures cached { OnOk result (AreCached (λ off values. StandsOnce (NameIsAt tables.now) sections.now off (map value values.now)) cached.new) }
     ensures broken { IfErr result (λ e. e ≢ memory → ArrayBreaksAt (NameIsAt tables.now) sections.now off most e) }
 {
-    if let Some(found) = kept.get(&off) {
+    if let Some(found) = cached.get(&off) {
         let values: &'a [Value<'a>] = *found;
         if values.len() > most {
             return Err(Fault::at(fault::TOO_MANY_VALUES, u64::from(off)));
@@ -55,7 +55,7 @@ fn array_at<'a>(
         return Ok(values);
     }
     let values = read_array(alloc, arena, tables, sections, off, most)?;
-    kept.insert(off, values)?;
+    cached.insert(off, values)?;
     Ok(values)
 }
 
@@ -76,16 +76,16 @@ fn row_statics<'a>(
     arena: &'a Bump,
     sections: &Sections<'_>,
     tables: &Tables<'a>,
-    kept: &mut IndexMap<u32, &'a [Value<'a>]>,
+    cached: &mut IndexMap<u32, &'a [Value<'a>]>,
     i: u32,
     head: Head<'a, '_>,
 ) -> Result<Statics<'a>, Fault>
     requires names { AreNamesOf sections.now tables.now }
     requires row { i < size_of sections.now section.class_defs }
-    requires kept { AreKept (λ off values. StandsOnce (NameIsAt tables.now) sections.now off (map value values.now)) kept.old }
+    requires cached { AreCached (λ off values. StandsOnce (NameIsAt tables.now) sections.now off (map value values.now)) cached.old }
     requires head { IsHead sections.now i head }
     ensures ok { IfOk result (λ s. AreStatics sections.now i s) }
-    ensures kept { OnOk result (AreKept (λ off values. StandsOnce (NameIsAt tables.now) sections.now off (map value values.now)) kept.new) }
+    ensures cached { OnOk result (AreCached (λ off values. StandsOnce (NameIsAt tables.now) sections.now off (map value values.now)) cached.new) }
     ensures err { IfErr result (λ e. e ≢ memory → ValuesBreak sections.now i e) }
 {
     let off = class_word(sections, i, word::STATIC_VALUES_OFF);
@@ -97,7 +97,7 @@ fn row_statics<'a>(
         arena,
         sections,
         tables,
-        kept,
+        cached,
         off,
         head.statics.len(),
     ) {
@@ -116,8 +116,6 @@ pub(crate) fn head_at<'a, 's>(
     requires row { i < size_of sections.now section.class_defs }
     ensures { IsHead sections.now i result }
 {
-    // Only for the proof: what holds of each value of its type.
-    let _file = sections;
     heads[i as usize]
 }
 
@@ -137,11 +135,11 @@ pub fn read_statics<'a, 's>(
     ensures err { IfErr result (λ e. e ≢ memory → IsFirstClass ValuesBreak ValuesHold sections.now e) }
 {
     let count = class_count(sections);
-    let mut kept = IndexMap::new(alloc);
+    let mut cached = IndexMap::new(alloc);
     let mut all: Vec<Statics<'a>, &'s Bump> = Vec::with_capacity(scratch, count as usize)?;
     for i in 0..count {
         let head = head_at(sections, heads, i);
-        let statics = row_statics(alloc, arena, sections, tables, &mut kept, i, head)?;
+        let statics = row_statics(alloc, arena, sections, tables, &mut cached, i, head)?;
         all.push(statics)?;
     }
     Ok(into_bump_slice(all))

@@ -5,7 +5,7 @@ use Rattle.indexmap.specs.IndexMap.{IndexMap, IsEmpty, Updates}
 use Rattle.file_layout.specs.Sections.{IsItself, is_empty_list}
 use Rattle.file_shared.specs.Once.{Entry, HasItemAt, PutsOnce}
 use Rattle.file_shared.specs.Sharing.{UsesItem}
-use Rattle.tables_rows.proofs.KeptLaws.{kept_none, kept_more}
+use Rattle.tables_rows.proofs.CachedLaws.{cached_none, cached_more}
 use Rattle.file_kept.specs.Moved.{IsItem, IsPlaced, AreMoved}
 use Rattle.base_bytes.proofs.ListFacts.{slice_left, get_last}
 
@@ -67,13 +67,13 @@ used_placed align kept more old new (x ∷ bytes) place u = put_there align kept
 
 -- nothing is kept yet
 pub moved_none : {S : Type 0} (W : ℕ → List ℕ → Type 0) (kept : List Entry) (places : IndexMap ℕ ℕ S) → IsEmpty places → AreMoved W kept places
-moved_none W kept places e = kept_none (λ off place. (bytes : List ℕ) × W off bytes × IsPlaced kept bytes place) places e
+moved_none W kept places e = cached_none (λ off place. (bytes : List ℕ) × W off bytes × IsPlaced kept bytes place) places e
 
 -- one more is
 pub moved_more : {S : Type 0} (W : ℕ → List ℕ → Type 0) (align : ℕ) (kept more : List Entry) (old new bytes : List ℕ) (off place : ℕ) (places further : IndexMap ℕ ℕ S) → AreMoved W kept places → W off bytes
     → UsesItem is_empty_list IsItself align kept more old new bytes place → Updates nat_eq places further off (Some place) → AreMoved W more further
 moved_more W align kept more old new bytes off place places further m w u up =
-    kept_more (λ off place. (bytes : List ℕ) × W off bytes × IsPlaced more bytes place) places further off place
+    cached_more (λ off place. (bytes : List ℕ) × W off bytes × IsPlaced more bytes place) places further off place
     (λ o q at. let r = m o q at in (r.0, r.1, placed_grows kept more (grows align kept more old new bytes place u) r.0 q r.2))
     (bytes, w, used_placed align kept more old new bytes place u)
     up

@@ -12,7 +12,7 @@ use Rattle.program_types.specs.Content.{Units, Proto, FieldRef, MethodRef, Progr
 use Rattle.program_types.specs.Key.{Key, text_key, proto_key, field_ref_key, method_ref_key}
 use Rattle.program_types.specs.Shorty.{shorty}
 use Rattle.tables_names.specs.Closure.{Five}
-use Rattle.tables_names.specs.Indices.{AreIndices, HasPlace, HaveRows}
+use Rattle.tables_names.specs.Indices.{AreIndices, HasRank, HaveRows}
 use Rattle.tables_names.specs.Needed.{needed}
 use Rattle.tables_names.specs.Rank.{IsAt}
 use Rattle.tables_names.proofs.IndexLemmas.{closed_have_rows}
@@ -152,7 +152,7 @@ ranked_is numbers table index found k r there =
     let same : r.number ≡ found = cc e in
     subst (λ (n : ℕ). IsAt table n k) same r.at
 
-first_place : (table : List Key) (row : List ℕ) (t : Units) (ts : List Units) → AreIndices table row (t ∷ ts) → HasPlace table (text_key t)
+first_place : (table : List Key) (row : List ℕ) (t : Units) (ts : List Units) → AreIndices table row (t ∷ ts) → HasRank table (text_key t)
 first_place table [] t ts a = absurd a
 first_place table (i ∷ row) t ts a = (i, a.0)
 
@@ -160,13 +160,13 @@ module _ (b : List ℕ) (numbers : Columns) (p : Program) (k : Keeps b numbers p
   have : HaveRows (needed p)
   have = closed_have_rows (needed p) k.marked.closed
 
-  text_ranked : (i : ℕ) (t : Units) → HasPlace (needed p).strings (text_key t) → StringStands b i t → Ranked numbers.strings (needed p).strings i (text_key t)
+  text_ranked : (i : ℕ) (t : Units) → HasRank (needed p).strings (text_key t) → StringStands b i t → Ranked numbers.strings (needed p).strings i (text_key t)
   text_ranked i t h st = let r = carried b numbers p k (OfText t) (member_at (needed p).strings h.0 (text_key t) h.1) i st in record { number = r.0; there = r.1; at = r.2 }
 
-  type_ranked : (i : ℕ) (t : Units) → HasPlace (needed p).types (text_key t) → TypeStands b i t → Ranked numbers.types (needed p).types i (text_key t)
+  type_ranked : (i : ℕ) (t : Units) → HasRank (needed p).types (text_key t) → TypeStands b i t → Ranked numbers.types (needed p).types i (text_key t)
   type_ranked i t h st = let r = carried b numbers p k (OfDesc t) (member_at (needed p).types h.0 (text_key t) h.1) i st in record { number = r.0; there = r.1; at = r.2 }
 
-  proto_ranked : (i : ℕ) (q : Proto) → HasPlace (needed p).protos (proto_key q) → ProtoStands b i q → Ranked numbers.protos (needed p).protos i (proto_key q)
+  proto_ranked : (i : ℕ) (q : Proto) → HasRank (needed p).protos (proto_key q) → ProtoStands b i q → Ranked numbers.protos (needed p).protos i (proto_key q)
   proto_ranked i q h st =
       let r = kept_protos_are_ranks b k.marks (needed p) numbers k.tables k.marked k.numbered q (member_at (needed p).protos h.0 (proto_key q) h.1) i st in
       record { number = r.0; there = r.1; at = r.2 }

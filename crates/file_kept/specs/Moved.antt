@@ -4,7 +4,7 @@ use Rattle.std.specs.Prelude.{◌≡◌, ℕ, ◌<◌, Bool, List, [], length, M
 use Rattle.indexmap.specs.IndexMap.{IndexMap}
 use Rattle.file_layout.specs.Sections.{is_empty_list}
 use Rattle.file_shared.specs.Once.{Entry, HasItemAt}
-use Rattle.tables_rows.specs.Kept.{AreKept}
+use Rattle.tables_rows.specs.Cached.{AreCached}
 
 -- These bytes are the item of v: none where v takes none.
 abbrev pub IsItem : {V : Type 0} → (V → Bool) → (List ℕ → V → Type 0) → List ℕ → V → Type 0
@@ -17,4 +17,4 @@ IsPlaced kept bytes place = MatchBool (is_empty_list bytes) (place ≡ 0) (HasIt
 -- W says what is written for what stands at an offset. Each place that is kept by an offset is that of an item that is
 -- written for it.
 abbrev pub AreMoved : {S : Type 0} → (ℕ → List ℕ → Type 0) → List Entry → IndexMap ℕ ℕ S → Type 0
-AreMoved W kept places = AreKept (λ off place. (bytes : List ℕ) × W off bytes × IsPlaced kept bytes place) places
+AreMoved W kept places = AreCached (λ off place. (bytes : List ℕ) × W off bytes × IsPlaced kept bytes place) places

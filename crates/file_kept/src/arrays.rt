@@ -38,10 +38,10 @@ fn add_array(
 ) -> Result<u32, Fault>
     requires values { (s : Five) × (vs : List Value) × IsCarriedStatics sections.now numbers.now s off vs }
     requires room { length out.old.items < 2 ^ 32 }
-    requires kept { AreMoved (WritesStatics sections.now numbers.now) moved.old.items moved.old.places }
+    requires moved { AreMoved (WritesStatics sections.now numbers.now) moved.old.items moved.old.places }
     ensures ok { IfOk result (λ place. (s : Five) (vs : List Value) → IsCarriedStatics sections.now numbers.now s off vs
         → UsesItem is_empty_list (WritesArray s) 1 moved.old.items moved.new.items out.old.items out.new.items vs place) }
-    ensures kept { OnOk result (AreMoved (WritesStatics sections.now numbers.now) moved.new.items moved.new.places) }
+    ensures moved { OnOk result (AreMoved (WritesStatics sections.now numbers.now) moved.new.items moved.new.places) }
     ensures memory { IsOkUnless result memory }
 {
     if off == 0 {

@@ -19,9 +19,6 @@ use dex_insn::IndexKind;
 use file_sections::{class_count, class_word, word};
 use tables_numbers::Numbers;
 
-/// The index that stands for none.
-const NO_INDEX: u32 = 0xffffffff;
-
 /// Where the items of a class stand, 0 for none.
 #[derive(Clone, Copy)]
 struct ClassPlaces {
@@ -35,8 +32,8 @@ fn type_or_none(numbers: &Numbers, index: u32) -> u32
     requires { (b : List ℕ) × (s : Five) × (name : Option Units) × TypeOrNone b numbers.now s index name }
     ensures { (b : List ℕ) (s : Five) (name : Option Units) → TypeOrNone b numbers.now s index name → IndexOrNone (TypeRanks s) result name }
 {
-    if index == NO_INDEX {
-        return NO_INDEX;
+    if index == word::NO_INDEX {
+        return word::NO_INDEX;
     }
     numbers.of(IndexKind::Type, index)
 }
@@ -46,8 +43,8 @@ fn string_or_none(numbers: &Numbers, index: u32) -> u32
     requires { (b : List ℕ) × (s : Five) × (name : Option Units) × StringOrNone b numbers.now s index name }
     ensures { (b : List ℕ) (s : Five) (name : Option Units) → StringOrNone b numbers.now s index name → IndexOrNone (StringRanks s) result name }
 {
-    if index == NO_INDEX {
-        return NO_INDEX;
+    if index == word::NO_INDEX {
+        return word::NO_INDEX;
     }
     numbers.of(IndexKind::String, index)
 }

@@ -76,10 +76,10 @@ fn add_body(
 ) -> Result<u32, Fault>
     requires codes { IsSectionOf sections.now 0x2001 codes }
     requires body { (s : Five) × (v : Option content.Code) × IsCarriedBody sections.now numbers.now s body.code v × (length out.old.items + wide_body v < 2 ^ 32) }
-    requires kept { AreMoved (WritesCarried sections.now numbers.now) moved.old.items moved.old.places }
+    requires moved { AreMoved (WritesCarried sections.now numbers.now) moved.old.items moved.old.places }
     ensures ok { IfOk result (λ place. (s : Five) (v : Option content.Code) → IsCarriedBody sections.now numbers.now s body.code v
         → UsesItem is_bodiless (WritesBody s) 4 moved.old.items moved.new.items out.old.items out.new.items v place) }
-    ensures kept { OnOk result (AreMoved (WritesCarried sections.now numbers.now) moved.new.items moved.new.places) }
+    ensures moved { OnOk result (AreMoved (WritesCarried sections.now numbers.now) moved.new.items moved.new.places) }
     ensures far { IfErr result (λ e. e ≢ memory → (e ≡ record { code = 89; place = body.class })
         × ((s : Five) (v : Option content.Code) → IsCarriedBody sections.now numbers.now s body.code v → IsFar s v)) }
 {

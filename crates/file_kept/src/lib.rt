@@ -7,7 +7,7 @@
 //! let most = names_size(&sections, &numbers); // bytes of the header, of these rows, and of their lists and texts
 //! let lists = put_lists(alloc, &mut out, &numbers, &sections)?; // of kept prototypes, then of classes
 //! let codes = put_codes(alloc, &mut out, &numbers, &sections)?;
-//! let texts = put_texts(alloc, &mut out, &numbers, &sections)?;
+//! let texts = put_strings(alloc, &mut out, &numbers, &sections)?;
 //! let arrays = put_arrays(alloc, &mut out, &numbers, &sections)?;
 //! let datas = put_datas(alloc, &mut out, &numbers, &sections, &codes.places)?;
 //! let rows = name_rows(alloc, &numbers, &sections, &texts.places, &lists.places[..protos])?;
@@ -43,7 +43,7 @@ pub use datas::put_datas;
 pub use lists::put_lists;
 pub use sizes::{list_size, names_size};
 pub use tables::name_rows;
-pub use texts::put_texts;
+pub use texts::put_strings;
 
 // What stands below, for the crates above.
 pub use code_renumber::mark_code;

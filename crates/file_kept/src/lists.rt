@@ -76,10 +76,10 @@ fn add_list(
     off: u32,
 ) -> Result<u32, Fault>
     requires list { (s : Five) × (ts : List Units) × IsCarriedList sections.now numbers.now s off ts × (length out.old.items + wide_list ts < 2 ^ 32) }
-    requires kept { AreMoved (WritesList sections.now numbers.now) moved.old.items moved.old.places }
+    requires moved { AreMoved (WritesList sections.now numbers.now) moved.old.items moved.old.places }
     ensures ok { IfOk result (λ place. (s : Five) (ts : List Units) → IsCarriedList sections.now numbers.now s off ts
         → UsesItem is_empty_list (SpellsRanks s) 4 moved.old.items moved.new.items out.old.items out.new.items ts place) }
-    ensures kept { OnOk result (AreMoved (WritesList sections.now numbers.now) moved.new.items moved.new.places) }
+    ensures moved { OnOk result (AreMoved (WritesList sections.now numbers.now) moved.new.items moved.new.places) }
     ensures memory { IsOkUnless result memory }
 {
     if let Some(place) = moved.find(off) {

@@ -77,7 +77,7 @@ impl Moved {
     pub(crate) fn put(&mut self, out: &mut Vec<u8>, off: u32, bytes: Vec<u8>) -> Result<u32, Fault>
         requires room { length out.old.items < 2 ^ 32 }
         ensures ok { IfOk result (UsesItem is_empty_list IsItself 1 self.old.items self.new.items out.old.items out.new.items bytes.items) }
-        ensures kept { IfOk result (λ place. Updates nat_eq self.old.places self.new.places off (Some place)) }
+        ensures moved { IfOk result (λ place. Updates nat_eq self.old.places self.new.places off (Some place)) }
         ensures memory { IsOkUnless result memory }
     {
         let place = item_place(&mut self.items, out, bytes)?;
@@ -95,7 +95,7 @@ impl Moved {
     ) -> Result<u32, Fault>
         requires room { 0 < length bytes.items → length out.old.items + 3 < 2 ^ 32 }
         ensures ok { IfOk result (UsesItem is_empty_list IsItself 4 self.old.items self.new.items out.old.items out.new.items bytes.items) }
-        ensures kept { IfOk result (λ place. Updates nat_eq self.old.places self.new.places off (Some place)) }
+        ensures moved { IfOk result (λ place. Updates nat_eq self.old.places self.new.places off (Some place)) }
         ensures memory { IsOkUnless result memory }
     {
         let place = aligned_place(&mut self.items, out, bytes)?;

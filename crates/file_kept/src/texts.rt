@@ -106,9 +106,9 @@ fn add_text(
 /// It fails only when out of memory.
 ///
 /// ```
-/// let texts = put_texts(alloc, &mut out, &numbers, &sections)?;
+/// let texts = put_strings(alloc, &mut out, &numbers, &sections)?;
 /// ```
-pub fn put_texts(
+pub fn put_strings(
     alloc: Global,
     out: &mut Vec<u8>,
     numbers: &Numbers,

@@ -15,53 +15,11 @@ use Rattle.file_layout.specs.Plan.{spans_of, header_words, IsWritten}
 use Rattle.file_layout.specs.Spans.{Span, has_items, MapNames}
 use Rattle.file_layout.specs.Once.{part_of}
 use Rattle.file_layout.proofs.PartLaws.{drop_more}
-use Rattle.base_bytes.proofs.ListFacts.{four_bytes}
+use Rattle.base_bytes.proofs.SameFields.{same_half, same_word}
 
 -- the same byte at a place
 abbrev pub SameAt : List ℕ → List ℕ → ℕ → Type 0
 SameAt b c i = get_or b i 0 ≡ get_or c i 0
-
--- ---- bytes of equal numbers
-
-two_bytes : (x y z w : ℕ) → x < 256 → y < 256 → z < 256 → w < 256 → x + 256 * (y + 256 * 0) ≡ z + 256 * (w + 256 * 0) → (x ≡ z) × (y ≡ w)
-two_bytes x y z w a b c d e = (omega arith, omega arith)
-
-module _ (b c : List ℕ) (bytes_b : AreBytes b) (bytes_c : AreBytes c) where
-  moved : (p k : ℕ) → get_or (drop p b) k 0 ≡ get_or (drop p c) k 0 → SameAt b c (p + k)
-  moved p k e = sym (get_or-drop p b k 0) ∙ e ∙ get_or-drop p c k 0
-
-  here_b : (p k : ℕ) → get_or (drop p b) k 0 < 256
-  here_b p k = rw (get_or-drop p b k 0) (bytes_b (p + k))
-
-  here_c : (p k : ℕ) → get_or (drop p c) k 0 < 256
-  here_c p k = rw (get_or-drop p c k 0) (bytes_c (p + k))
-
-  pub same_half : (p : ℕ) → u16_at b p ≡ u16_at c p → (k : ℕ) → k < 2 → SameAt b c (p + k)
-  unfolding u16_at
-  same_half p e k lt =
-      let r = two_bytes (get_or (drop p b) 0 0) (get_or (drop p b) 1 0) (get_or (drop p c) 0 0) (get_or (drop p c) 1 0) (here_b p 0) (here_b p 1) (here_c p 0) (here_c p 1) e in
-      moved p k (pick k lt r)
-    where
-      pick : (k : ℕ) → k < 2 → (get_or (drop p b) 0 0 ≡ get_or (drop p c) 0 0) × (get_or (drop p b) 1 0 ≡ get_or (drop p c) 1 0) → get_or (drop p b) k 0 ≡ get_or (drop p c) k 0
-      pick zero lt r = r.0
-      pick (suc zero) lt r = r.1
-      pick (suc (suc k)) lt r = absurd (omega arith)
-
-  pub same_word : (p : ℕ) → u32_at b p ≡ u32_at c p → (k : ℕ) → k < 4 → SameAt b c (p + k)
-  unfolding u32_at
-  same_word p e k lt =
-      let r = four_bytes (get_or (drop p b) 0 0) (get_or (drop p b) 1 0) (get_or (drop p b) 2 0) (get_or (drop p b) 3 0) (get_or (drop p c) 0 0) (get_or (drop p c) 1 0) (get_or (drop p c) 2 0) (get_or (drop p c) 3 0)
-      (here_b p 0) (here_b p 1) (here_b p 2) (here_b p 3) (here_c p 0) (here_c p 1) (here_c p 2) (here_c p 3) e in
-      moved p k (pick k lt r)
-    where
-      pick : (k : ℕ) → k < 4
-          → (get_or (drop p b) 0 0 ≡ get_or (drop p c) 0 0) × (get_or (drop p b) 1 0 ≡ get_or (drop p c) 1 0) × (get_or (drop p b) 2 0 ≡ get_or (drop p c) 2 0) × (get_or (drop p b) 3 0 ≡ get_or (drop p c) 3 0)
-          → get_or (drop p b) k 0 ≡ get_or (drop p c) k 0
-      pick zero lt r = r.0
-      pick (suc zero) lt r = r.1
-      pick (suc (suc zero)) lt r = r.2
-      pick (suc (suc (suc zero))) lt r = r.3
-      pick (suc (suc (suc (suc k)))) lt r = absurd (omega arith)
 
 -- ---- lists that are the same byte by byte
 

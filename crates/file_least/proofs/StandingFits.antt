@@ -28,7 +28,7 @@ use Rattle.code_insns.specs.Walk.{starts, raw_at, address}
 use Rattle.code_insns.specs.Symbols.{linked, ints, ints_from, InsnNames, name_in}
 use Rattle.code_insns.specs.Linked.{lead, payload_of, IsLinked, SpellsInsns}
 use Rattle.code_insns.specs.Branches.{IsOrigin}
-use Rattle.code_insns.proofs.PlaceLaws.{place-there}
+use Rattle.code_insns.proofs.PlaceLaws.{target-there}
 use Rattle.code_insns.proofs.Runs.{run-at, table-of, length-of_starts}
 use Rattle.code_insns.proofs.LinkLaws.{addresses-same, kind-linked}
 use Rattle.file_read.specs.Item.{insns_size, tries_of, insns_bytes, items_of, units_end, tries_begin, list_begin, try_start, try_count}
@@ -63,7 +63,7 @@ short-index M T w _ f n = tt
 
 -- the distance of where an offset leads is the offset
 distance-is : (ss : List ℕ) (base : ℕ) (z : ℤ) → lead ss base z < length ss → distance_of ss base (lead ss base z) ≡ z
-distance-is ss base z l = let p = (place-there ss base z (lead ss base z) (lead-there ss base (lead ss base z) z refl l)).1 in omega (arith, signs, p)
+distance-is ss base z l = let p = (target-there ss base z (lead ss base z) (lead-there ss base (lead ss base z) z refl l)).1 in omega (arith, signs, p)
 
 offset-fits : (ss : List ℕ) (base : ℕ) (w : Name) (r : Raw) → IsRaw r → AllByRecursion (λ to. to < length ss) (insn_leads (linked (lead ss base) w r)) → BranchFits ss base (linked (lead ss base) w r)
 unfolding linked

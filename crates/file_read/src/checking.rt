@@ -49,8 +49,7 @@ pub fn check_framed(alloc: Global, sections: &Sections<'_>) -> Result<(), Fault>
     ensures only { (p : Program) → Means sections.now p → IfErr result (λ e. e ≡ memory) }
     ensures refused { IfErr result (λ e. e ≢ memory → IsRefused sections.now e) }
 {
-    // Only for the proof: what holds of each value of its type.
-    let _file = sections.bytes();
+    sections.framed();
     let arena = Bump::new(alloc);
     let tables = Tables::read(alloc, &arena, sections)?;
     let heads = read_heads(alloc, &arena, &arena, sections, &tables)?;

@@ -5,7 +5,7 @@ ghost use Rattle.std.specs.Option.{ForSome};
 ghost use Rattle.base_bytes.specs.Fault.{memory};
 ghost use Rattle.base_bytes.specs.Grammar.{Appends, Each};
 ghost use Rattle.file_classes.specs.ClassRows.{IndexOrNone};
-ghost use Rattle.tables_names.specs.Indices.{HasPlace};
+ghost use Rattle.tables_names.specs.Indices.{HasRank};
 ghost use Rattle.program_types.specs.Key.{text_key};
 ghost use Rattle.program_types.specs.View as view;
 ghost use Rattle.file_rows.specs.ClassDefs.{SpellsClassRow, StringRanks, TypeRanks, with_places};
@@ -13,11 +13,9 @@ ghost use Rattle.file_rows.specs.Held.{RowNamesHeld};
 
 use crate::index::{string_index, type_index};
 use dex_base::{Fault, push_words};
+use file_classes::word;
 use program_types::{Class, Desc, Str};
 use tables_names::Ranks;
-
-/// The index that stands for none.
-const NO_INDEX: u32 = 0xffffffff;
 
 /// Where the items of a class stand, 0 for none.
 #[derive(Clone, Copy)]
@@ -29,25 +27,25 @@ pub struct ClassPlaces {
 
 /// The index of a type that may be none.
 fn type_or_none(ranks: &Ranks<'_>, name: Option<Desc<'_>>) -> u32
-    requires held { ForSome (option_map view.desc name) (λ t. HasPlace ranks.now.types (text_key t)) }
+    requires held { ForSome (option_map view.desc name) (λ t. HasRank ranks.now.types (text_key t)) }
     requires few { length ranks.now.types ≤ 65535 }
     ensures { IndexOrNone (TypeRanks ranks.now) result (option_map view.desc name.entry) }
 {
     match name {
         Some(ty) => u32::from(type_index(ranks, ty)),
-        None => NO_INDEX,
+        None => word::NO_INDEX,
     }
 }
 
 /// The index of a string that may be none.
 fn string_or_none(ranks: &Ranks<'_>, name: Option<Str<'_>>) -> u32
-    requires held { ForSome (option_map view.str name) (λ t. HasPlace ranks.now.strings (text_key t)) }
+    requires held { ForSome (option_map view.str name) (λ t. HasRank ranks.now.strings (text_key t)) }
     requires few { length ranks.now.strings < 4294967295 }
     ensures { IndexOrNone (StringRanks ranks.now) result (option_map view.str name.entry) }
 {
     match name {
         Some(text) => string_index(ranks, text),
-        None => NO_INDEX,
+        None => word::NO_INDEX,
     }
 }
 

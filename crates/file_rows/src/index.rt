@@ -1,6 +1,6 @@
 //! The indices of names that are held: never a refusal.
 ghost use Rattle.std.specs.Prelude.{◌≤◌, ◌^◌, length};
-ghost use Rattle.tables_names.specs.Indices.{HasPlace};
+ghost use Rattle.tables_names.specs.Indices.{HasRank};
 ghost use Rattle.tables_names.specs.Keys.{key_of_str, key_of_desc};
 ghost use Rattle.tables_names.specs.Rank.{IsAt};
 ghost use Rattle.program_types.specs.Key.{text_key};
@@ -12,7 +12,7 @@ use tables_names::Ranks;
 
 /// The index of a string that is held.
 pub fn string_index(ranks: &Ranks<'_>, name: Str<'_>) -> u32
-    requires held { HasPlace ranks.now.strings (key_of_str name) }
+    requires held { HasRank ranks.now.strings (key_of_str name) }
     requires few { length ranks.now.strings ≤ 2 ^ 32 }
     ensures { IsAt ranks.now.strings result (key_of_str name.entry) }
 {
@@ -24,7 +24,7 @@ pub fn string_index(ranks: &Ranks<'_>, name: Str<'_>) -> u32
 
 /// The index of the shorty of a prototype, which is held as a string.
 pub fn shorty_index(ranks: &Ranks<'_>, name: &Proto<'_>) -> u32
-    requires held { HasPlace ranks.now.strings (text_key (shorty (view.proto name.now))) }
+    requires held { HasRank ranks.now.strings (text_key (shorty (view.proto name.now))) }
     requires few { length ranks.now.strings ≤ 2 ^ 32 }
     ensures { IsAt ranks.now.strings result (text_key (shorty (view.proto name.now))) }
 {
@@ -36,7 +36,7 @@ pub fn shorty_index(ranks: &Ranks<'_>, name: &Proto<'_>) -> u32
 
 /// The index of a type that is held, where there are at most 65535.
 pub fn type_index(ranks: &Ranks<'_>, name: Desc<'_>) -> u16
-    requires held { HasPlace ranks.now.types (key_of_desc name) }
+    requires held { HasRank ranks.now.types (key_of_desc name) }
     requires few { length ranks.now.types ≤ 65535 }
     ensures { IsAt ranks.now.types result (key_of_desc name.entry) }
 {

@@ -3,7 +3,7 @@
 ghost use Rattle.std.specs.Prelude.{◌≡◌, ◌≤◌, ◌^◌, OnOk, IsOkUnless, length};
 ghost use Rattle.base_bytes.specs.Fault.{memory};
 ghost use Rattle.base_bytes.specs.Grammar.{Appends};
-ghost use Rattle.tables_names.specs.Indices.{HasPlace};
+ghost use Rattle.tables_names.specs.Indices.{HasRank};
 ghost use Rattle.tables_names.specs.Rank.{IsAt};
 ghost use Rattle.program_types.specs.Key.{text_key};
 ghost use Rattle.program_types.specs.Shorty.{shorty};
@@ -23,7 +23,7 @@ fn put_proto(
     parts: ProtoParts,
     place: u32,
 ) -> Result<(), Fault>
-    requires shorty { HasPlace ranks.now.strings (text_key (shorty (view.proto proto.now))) }
+    requires shorty { HasRank ranks.now.strings (text_key (shorty (view.proto proto.now))) }
     requires ret { IsAt ranks.now.types parts.ret (text_key (view.proto proto.now).ret) }
     requires few_strings { length ranks.now.strings ≤ 2 ^ 32 }
     requires few_types { length ranks.now.types ≤ 65535 }

@@ -11,7 +11,7 @@ use Rattle.base_bytes.proofs.GrammarLaws.{Each-push}
 use Rattle.base_bytes.specs.Grammar.{Appends}
 use Rattle.base_bytes.specs.Leb128.{Spells, Shortest}
 use Rattle.file_rows.specs.ClassData.{FieldEntry, MethodEntry, SpellsFieldEntry, SpellsMethodEntry}
-use Rattle.tables_names.proofs.RowLemmas.{keys_compare_as_places}
+use Rattle.tables_names.proofs.RowLemmas.{keys_compare_as_indices}
 use Rattle.tables_names.specs.Closure.{Five, NameRanks, method_of_class}
 use Rattle.tables_names.specs.Rank.{Rising, IsAt}
 use Rattle.program_types.specs.Content.{Units, Descriptor, Member, Method}
@@ -41,7 +41,7 @@ units_same (u ∷ us) = ap (λ (o : Ordering). ordering_then o (slice_cmp nat_cm
 -- of one class the lesser key has the lower rank
 pub rank_rises : (table : List Key) (class : Units) (i j : ℕ) (k l : Key) → Rising table → IsAt table i (class ∷ k) → IsAt table j (class ∷ l) → key_cmp k l ≡ Less → i < j
 rank_rises table class i j k l up at_i at_j less =
-    less_than i j (sym (keys_compare_as_places table i j (class ∷ k) (class ∷ l) up at_i at_j) ∙ ap (λ (o : Ordering). ordering_then o (key_cmp k l)) (units_same class) ∙ less)
+    less_than i j (sym (keys_compare_as_indices table i j (class ∷ k) (class ∷ l) up at_i at_j) ∙ ap (λ (o : Ordering). ordering_then o (key_cmp k l)) (units_same class) ∙ less)
 
 -- the key at k is below the next
 next_above : {A V : Type 0} (key : V → Key) (g : A → V) (xs : List A) (k : ℕ) (d : A) → suc k < length xs → KeysRise (map key (map g xs)) → key_cmp (key (g (get_or xs k d))) (key (g (get_or xs (suc k) d))) ≡ Less

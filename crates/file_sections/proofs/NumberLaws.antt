@@ -4,7 +4,7 @@ use Rattle.std.proofs.lemmas.List.{length-map, get_or-append_right, get_or_appen
 use Rattle.std.specs.List.{AllByRecursion, slice_get}
 use Rattle.file_limits.specs.Wide.{params_of, list_values}
 use Rattle.tables_names.specs.Closure.{Five, IsClosed, NameRanks}
-use Rattle.tables_names.specs.Indices.{HasPlace, AreIndices}
+use Rattle.tables_names.specs.Indices.{HasRank, AreIndices}
 use Rattle.tables_names.specs.Keys.{key_of_proto}
 use Rattle.tables_names.specs.Needed.{needed}
 use Rattle.tables_names.specs.Rank.{IsAt}
@@ -21,12 +21,12 @@ use Rattle.program_types.specs.declared.names.Proto.{Proto}
 use Rattle.program_types.specs.Kinds.{HasIndex}
 use Rattle.file_sections.proofs.Steps.{mapped_at}
 
-placed_all : (s : Five) (ts : List Units) (row : List ℕ) → AreIndices s.types row ts → AllByRecursion (λ t. HasPlace s.types (text_key t)) ts
+placed_all : (s : Five) (ts : List Units) (row : List ℕ) → AreIndices s.types row ts → AllByRecursion (λ t. HasRank s.types (text_key t)) ts
 placed_all s [] row a = tt
 placed_all s (t ∷ ts) [] a = absurd a
 placed_all s (t ∷ ts) (i ∷ row) a = ((i, a.0), placed_all s ts row a.1)
 
-pub params_held : (s : Five) (p : Program) (qs : List Proto) (k : ℕ) (d : Proto) → s ≡ needed p → map key_of_proto qs ≡ s.protos → k < length qs → AllByRecursion (λ t. HasPlace s.types (text_key t)) (map view.desc (get_or qs k d).params.now)
+pub params_held : (s : Five) (p : Program) (qs : List Proto) (k : ℕ) (d : Proto) → s ≡ needed p → map key_of_proto qs ≡ s.protos → k < length qs → AllByRecursion (λ t. HasRank s.types (text_key t)) (map view.desc (get_or qs k d).params.now)
 params_held s p qs k d e m lt =
     let closed = subst (λ (x : Five). IsClosed x) (sym e) (needed_is_least p).1.closed in
     let at : IsAt s.protos k (key_of_proto (get_or qs k d)) = subst (λ (ks : List Key). slice_get ks k ≡ Some (key_of_proto (get_or qs k d))) m (mapped_at key_of_proto qs k d lt) in
@@ -39,7 +39,7 @@ class_named s p cs k d e m lt =
     subst (λ (x : Five). AllByRecursion (HasIndex (NameRanks x)) (names_of_class (view.class (get_or cs k d)))) (sym e)
     (flat_kept (HasIndex (NameRanks (needed p))) names_of_class view.class cs k d lt (subst (λ (x : Program). AllByRecursion (HasIndex (NameRanks (needed p))) (mentions x)) m (mentions_have_indices p)))
 
-types_placed : (s : Five) (ts : List Descriptor) → AllByRecursion (HasIndex (NameRanks s)) (map OfDesc ts) → AllByRecursion (λ t. HasPlace s.types (text_key t)) ts
+types_placed : (s : Five) (ts : List Descriptor) → AllByRecursion (HasIndex (NameRanks s)) (map OfDesc ts) → AllByRecursion (λ t. HasRank s.types (text_key t)) ts
 types_placed s [] h = tt
 types_placed s (t ∷ ts) h = (h.0, types_placed s ts h.1)
 
@@ -72,7 +72,7 @@ list_second s qs cs k d m le lt =
     let n : length (map params_of s.protos) ≡ length qs = length-map s.protos params_of ∙ ap length (sym m) ∙ length-map qs key_of_proto in
     get_or-append_right (map params_of s.protos) (map (λ (c : Class). c.interfaces) (map view.class cs)) (length qs) k [] n le ∙ interfaces_at cs (k - length qs) d (omega (arith, le, lt))
 
-pub interfaces_held : (s : Five) (p : Program) (cs : List made.Class) (k : ℕ) (d : made.Class) → s ≡ needed p → p ≡ map view.class cs → k < length cs → AllByRecursion (λ t. HasPlace s.types (text_key t)) (map view.desc (get_or cs k d).interfaces.now)
+pub interfaces_held : (s : Five) (p : Program) (cs : List made.Class) (k : ℕ) (d : made.Class) → s ≡ needed p → p ≡ map view.class cs → k < length cs → AllByRecursion (λ t. HasRank s.types (text_key t)) (map view.desc (get_or cs k d).interfaces.now)
 interfaces_held s p cs k d e m lt = types_placed s _ (interfaces_named (HasIndex (NameRanks s)) (view.class (get_or cs k d)) (class_named s p cs k d e m lt))
 
 abbrev pub no_proto : Proto

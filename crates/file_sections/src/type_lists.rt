@@ -6,7 +6,7 @@ ghost use Rattle.base_bytes.specs.Fault.{memory};
 ghost use Rattle.base_bytes.specs.Grammar.{Appends};
 ghost use Rattle.program_types.specs.Key.{text_key};
 ghost use Rattle.program_types.specs.View as view;
-ghost use Rattle.tables_names.specs.Indices.{HasPlace};
+ghost use Rattle.tables_names.specs.Indices.{HasRank};
 ghost use Rattle.tables_names.specs.Needed.{needed};
 ghost use Rattle.file_layout.specs.Sections.{is_empty_list, wide_all, Laid};
 ghost use Rattle.file_sections.specs.Lists.{AddsIndices, SpellsRanks};
@@ -24,7 +24,7 @@ use tables_names::Ranks;
 
 /// Appends the indices of types.
 fn put_indices(out: &mut Vec<u8>, ranks: &Ranks<'_>, types: &[Desc<'_>]) -> Result<(), Fault>
-    requires held { AllByRecursion (λ t. HasPlace ranks.now.types (text_key t)) (map view.desc types.now) }
+    requires held { AllByRecursion (λ t. HasRank ranks.now.types (text_key t)) (map view.desc types.now) }
     requires few { length ranks.now.types ≤ 65535 }
     ensures ok { OnOk result (AddsIndices ranks.now out.old.items out.new.items (map view.desc types.now)) }
     ensures memory { IsOkUnless result memory }
@@ -37,7 +37,7 @@ fn put_indices(out: &mut Vec<u8>, ranks: &Ranks<'_>, types: &[Desc<'_>]) -> Resu
 
 /// Appends a type list.
 fn put_list(out: &mut Vec<u8>, ranks: &Ranks<'_>, types: &[Desc<'_>]) -> Result<(), Fault>
-    requires held { AllByRecursion (λ t. HasPlace ranks.now.types (text_key t)) (map view.desc types.now) }
+    requires held { AllByRecursion (λ t. HasRank ranks.now.types (text_key t)) (map view.desc types.now) }
     requires few { length ranks.now.types ≤ 65535 }
     requires short { length types.now < 2 ^ 32 }
     ensures ok { OnOk result (Appends (SpellsRanks ranks.now) out.old.items out.new.items (map view.desc types.now)) }
@@ -49,7 +49,7 @@ fn put_list(out: &mut Vec<u8>, ranks: &Ranks<'_>, types: &[Desc<'_>]) -> Result<
 
 /// The type list of these types.
 fn list_bytes(alloc: Global, ranks: &Ranks<'_>, types: &[Desc<'_>]) -> Result<Vec<u8>, Fault>
-    requires held { AllByRecursion (λ t. HasPlace ranks.now.types (text_key t)) (map view.desc types.now) }
+    requires held { AllByRecursion (λ t. HasRank ranks.now.types (text_key t)) (map view.desc types.now) }
     requires few { length ranks.now.types ≤ 65535 }
     requires short { length types.now < 2 ^ 32 }
     ensures ok { IfOk result (λ bytes. SpellsRanks ranks.now bytes.items (map view.desc types.now)) }
@@ -69,7 +69,7 @@ fn add_list(
     ranks: &Ranks<'_>,
     types: &[Desc<'_>],
 ) -> Result<u32, Fault>
-    requires held { AllByRecursion (λ t. HasPlace ranks.now.types (text_key t)) (map view.desc types.now) }
+    requires held { AllByRecursion (λ t. HasRank ranks.now.types (text_key t)) (map view.desc types.now) }
     requires few { length ranks.now.types ≤ 65535 }
     requires room { length out.old.items + wide_list (map view.desc types.now) < 2 ^ 32 }
     ensures ok { IfOk result (UsesItem is_empty_list (SpellsRanks ranks.now) 4 items.old items.new out.old.items out.new.items (map view.desc types.now)) }

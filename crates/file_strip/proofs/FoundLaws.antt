@@ -23,7 +23,7 @@ use Rattle.program_types.specs.Mentions.{names_of_code, names_of_value}
 use Rattle.tables_names.specs.Closure.{Five, AreRising, Holds, IsClosed, closure_of, with_name, with_names}
 use Rattle.tables_names.proofs.FiveLemmas.{part_adds_nothing}
 use Rattle.tables_names.proofs.NeededLemmas.{holds_part, names_append, with_names-grows, with_names-holds, closure_part}
-use Rattle.tables_rows.specs.Kept.{AreKept}
+use Rattle.tables_rows.specs.Cached.{AreCached}
 use Rattle.file_kept.specs.Marked.{AddsNames, HasMarks, Marked}
 use Rattle.file_strip.specs.Survey.{AreFound, ArrayIsFound, CodeIsFound, FindsNames, HasFound}
 use Rattle.file_strip.specs.declared.survey.Found.{Found}
@@ -47,10 +47,10 @@ still_held s more (n ∷ ns) all = (holds_part s (with_names s more) n (with_nam
 
 -- ---- what was found stays so
 
-pub codes_stay : {S : Type 0} (b : List ℕ) (s : Five) (more : List Name) (m : IndexMap ℕ ℕ S) → AreKept (CodeIsFound b s) m → AreKept (CodeIsFound b (with_names s more)) m
+pub codes_stay : {S : Type 0} (b : List ℕ) (s : Five) (more : List Name) (m : IndexMap ℕ ℕ S) → AreCached (CodeIsFound b s) m → AreCached (CodeIsFound b (with_names s more)) m
 codes_stay b s more m kept off n at = let c = kept off n at in record { wide = c.wide; names = λ code st. still_held s more (names_of_code code) (c.names code st) }
 
-pub arrays_stay : {S : Type 0} (b : List ℕ) (s : Five) (more : List Name) (m : IndexMap ℕ ℕ S) → AreKept (ArrayIsFound b s) m → AreKept (ArrayIsFound b (with_names s more)) m
+pub arrays_stay : {S : Type 0} (b : List ℕ) (s : Five) (more : List Name) (m : IndexMap ℕ ℕ S) → AreCached (ArrayIsFound b s) m → AreCached (ArrayIsFound b (with_names s more)) m
 arrays_stay b s more m kept off n at = let c = kept off n at in record { wide = c.wide; names = λ most vs st. still_held s more (flat_map names_of_value vs) (c.names most vs st) }
 
 pub finds_marked : (b : List ℕ) (old : Found) (marks : Marked) (ns : List Name) → AddsNames b old.marks marks ns → FindsNames b old (record old { marks = marks }) ns

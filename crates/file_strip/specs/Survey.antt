@@ -5,7 +5,7 @@ use Rattle.std.specs.List.{AllByRecursion, flat_map}
 use Rattle.program_types.specs.Content.{Name, OfDesc, OfText, Value, Code, Class, Program, values}
 use Rattle.program_types.specs.Mentions.{field_of_class, if_any, names_of_code, names_of_method, names_of_value}
 use Rattle.tables_names.specs.Closure.{Five, Holds, with_names}
-use Rattle.tables_rows.specs.Kept.{AreKept}
+use Rattle.tables_rows.specs.Cached.{AreCached}
 use Rattle.tables_rows.specs.Stands.{NameStands}
 use Rattle.file_kept.specs.Marked.{AreMarks}
 use Rattle.dex_container.specs.Where.{IsSectionOf}
@@ -35,8 +35,8 @@ pub record ArrayIsFound (b : List ℕ) (s : Five) (off n : ℕ) : Type 0 where
 -- The names s were found: just their rows are marked, what is known of codes and arrays is so, and the section is that of codes.
 pub record AreFound (b : List ℕ) (f : Found) (s : Five) : Type 0 where
   pub marks : AreMarks b f.marks s
-  pub codes : AreKept (CodeIsFound b s) f.codes
-  pub arrays : AreKept (ArrayIsFound b s) f.arrays
+  pub codes : AreCached (CodeIsFound b s) f.codes
+  pub arrays : AreCached (ArrayIsFound b s) f.arrays
   pub section : IsSectionOf b 0x2001 f.section
 
 -- What was found is so of some names.

@@ -24,7 +24,7 @@ use dex_insn::IndexKind;
 use file_assemble::{Data, class_count, codes_part, part, plus, space};
 use file_kept::{
     Numbers, name_rows, names_size, put_arrays, put_classes, put_codes, put_datas, put_lists,
-    put_texts,
+    put_strings,
 };
 use file_layout::{Plan, Rows, finish};
 use std::alloc::Global;
@@ -74,7 +74,7 @@ fn put_data(
     let lists_end = out.len() as u32;
     let codes = put_codes(alloc, out, numbers, sections)?;
     let codes_end = out.len() as u32;
-    let texts = put_texts(alloc, out, numbers, sections)?;
+    let texts = put_strings(alloc, out, numbers, sections)?;
     let texts_end = out.len() as u32;
     let arrays = put_arrays(alloc, out, numbers, sections)?;
     let arrays_end = out.len() as u32;

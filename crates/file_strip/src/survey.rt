@@ -28,9 +28,6 @@ use file_kept::{Marks, list_size, mark_array};
 use indexmap::IndexMap;
 use std::alloc::Global;
 
-/// The index that stands for none.
-const NO_INDEX: u32 = 0xffffffff;
-
 /// What was found so far: the marks, and of each code and each array that was looked at how many bytes it takes at most; the section in
 /// which codes stand.
 #[derive(Drop)]
@@ -76,7 +73,7 @@ fn mark_superclass(marks: &mut Marks, sections: &Sections<'_>, index: u32) -> Re
         → AddsNames sections.now marks.old marks.new (if_any (λ u. OfDesc u ∷ []) t)) }
     ensures memory { IsOkUnless result memory }
 {
-    if index == NO_INDEX {
+    if index == word::NO_INDEX {
         return Ok(());
     }
     marks.mark(sections, IndexKind::Type, index)?;
@@ -91,7 +88,7 @@ fn mark_source(marks: &mut Marks, sections: &Sections<'_>, index: u32) -> Result
         → AddsNames sections.now marks.old marks.new (if_any (λ u. OfText u ∷ []) t)) }
     ensures memory { IsOkUnless result memory }
 {
-    if index == NO_INDEX {
+    if index == word::NO_INDEX {
         return Ok(());
     }
     marks.mark(sections, IndexKind::String, index)?;
@@ -156,8 +153,7 @@ fn look_at_class(
     ensures wide { IfOk result (λ n. (c : Class) → SpellsClass sections.now i c → IsSum n (wide_class c)) }
     ensures memory { IsOkUnless result memory }
 {
-    // Only for the proof: what holds of each value of its type.
-    let _file = sections.bytes();
+    sections.framed();
     mark_head(&mut found.marks, sections, i)?;
     let data = class_word(sections, i, word::CLASS_DATA_OFF);
     let Some(all) = entries_at(alloc, sections, data)? else {

@@ -14,7 +14,7 @@ use Rattle.tables_names.specs.Needed.{needed}
 use Rattle.tables_names.specs.Rank.{IsAt}
 use Rattle.tables_names.proofs.IndexLemmas.{rising_tables_rise}
 use Rattle.tables_names.proofs.NeededLemmas.{needed_is_least}
-use Rattle.tables_names.proofs.RowLemmas.{keys_compare_as_places}
+use Rattle.tables_names.proofs.RowLemmas.{keys_compare_as_indices}
 use Rattle.program_types.specs.Content.{Descriptor, FieldRef, MethodRef, Name, OfDesc, OfField, OfMethod, OfText, Program, Proto, Units}
 use Rattle.program_types.specs.Key.{field_ref_key, method_ref_key, proto_key, text_key}
 use Rattle.program_types.specs.KeyLaws.{ordering_then-equal}
@@ -114,7 +114,7 @@ module _ (b : List ℕ) (s : Five) (p : Program) (a : Assembled b s p) (valid : 
       let eu : u ≡ x = string_one b j u x is_framed_here su (string_stands b s p a valid j x ex) in
       let ev : v ≡ y = string_one b i v y is_framed_here sv (string_stands b s p a valid i y ey) in
       let less : slice_cmp nat_cmp x y ≡ Less =
-      ordering_then-equal (slice_cmp nat_cmp x y) ∙ keys_compare_as_places s.strings j i (text_key x) (text_key y) rising.strings ex ey ∙ sym (nat_cmp_is j i Less lt) in
+      ordering_then-equal (slice_cmp nat_cmp x y) ∙ keys_compare_as_indices s.strings j i (text_key x) (text_key y) rising.strings ex ey ∙ sym (nat_cmp_is j i Less lt) in
       rw (eu, ev) less
 
   types_below : (j i : ℕ) (t u : Descriptor) → j < i → IsAt s.types j (text_key t) → IsAt s.types i (text_key u) → TypeIsBelow b j i

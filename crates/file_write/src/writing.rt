@@ -35,7 +35,7 @@ use std::alloc::Global;
 /// assert_eq!(rt; read(alloc, &arena, &file)?.classes.len(), 1);
 /// ```
 pub fn write(alloc: Global, program: &Program<'_>) -> Result<Vec<u8>, Fault>
-    requires kept { WellFormed (view.program program.now) }
+    requires formed { WellFormed (view.program program.now) }
     ensures file { IfOk result (λ file. IsFileOf (view.program program.now) file.items) }
     ensures fits { OnOk result (Fits (view.program program.now)) }
     ensures only { Fits (view.program program.now) → IsOkUnless result memory }
@@ -57,7 +57,7 @@ pub fn write(alloc: Global, program: &Program<'_>) -> Result<Vec<u8>, Fault>
 /// assert_eq!(rt; file.len(), 140);
 /// ```
 pub fn write_seeded(alloc: Global, seed: Seed, program: &Program<'_>) -> Result<Vec<u8>, Fault>
-    requires kept { WellFormed (view.program program.now) }
+    requires formed { WellFormed (view.program program.now) }
     ensures file { IfOk result (λ file. IsFileOf (view.program program.now) file.items) }
     ensures fits { OnOk result (Fits (view.program program.now)) }
     ensures only { Fits (view.program program.now) → IsOkUnless result memory }

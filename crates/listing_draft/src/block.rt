@@ -148,7 +148,7 @@ impl<'a> Block<'a> {
 
     /// The method that the open code belongs to has it; false where no code is open.
     #[tactic(auto, unfolding(crate::specs::View::block))]
-    fn place_code(&mut self, arena: &'a Bump) -> Result<bool, Fault>
+    fn alloc_code(&mut self, arena: &'a Bump) -> Result<bool, Fault>
         ensures placed { IfOk result (λ yes. MatchBool yes
             (code_ended (block self.old) ≡ Some (class_again (block self.new)))
             (code_ended (block self.old) ≡ None)) }
@@ -170,7 +170,7 @@ impl<'a> Block<'a> {
             (code_ended (block self.old) ≡ None)) }
         ensures memory { IsOkUnless result memory }
     {
-        if !self.place_code(arena)? {
+        if !self.alloc_code(arena)? {
             return Ok(false);
         }
         let code = mem::replace(self, Block::Top);

@@ -67,7 +67,7 @@ fn given_length(all: &[Given<'_>]) -> usize
 }
 
 /// The values of the fields.
-fn place_values<'a>(alloc: &'a Bump, all: &[Given<'a>]) -> Result<&'a [Value<'a>], Fault>
+fn alloc_values<'a>(alloc: &'a Bump, all: &[Given<'a>]) -> Result<&'a [Value<'a>], Fault>
     ensures ok { IfOk result (λ vs. map value vs.now ≡ values_of (map given all.now)) }
     ensures memory { IsOkUnless result memory }
 {
@@ -79,7 +79,7 @@ fn place_values<'a>(alloc: &'a Bump, all: &[Given<'a>]) -> Result<&'a [Value<'a>
     Ok(into_bump_slice(values))
 }
 
-fn place_fields<'a>(alloc: &'a Bump, all: &[Given<'a>]) -> Result<&'a [Member<'a>], Fault>
+fn alloc_fields<'a>(alloc: &'a Bump, all: &[Given<'a>]) -> Result<&'a [Member<'a>], Fault>
     ensures ok { IfOk result (λ ms. map member ms.now ≡ map (λ g. g.field) (map given all.now)) }
     ensures memory { IsOkUnless result memory }
 {
@@ -154,14 +154,14 @@ fn methods_of<'a>(
 
 /// The class that was open.
 #[tactic(auto, unfolding(crate::specs::View::open_class))]
-pub fn place_class<'a>(alloc: &'a Bump, whole: &Open<'a>) -> Result<Class<'a>, Fault>
+pub fn alloc_class<'a>(alloc: &'a Bump, whole: &Open<'a>) -> Result<Class<'a>, Fault>
     ensures ok { IfOk result (λ c. class c ≡ closed (open_class whole.now)) }
     ensures memory { IsOkUnless result memory }
 {
     let interfaces = alloc.try_alloc_slice_copy(whole.interfaces.as_slice())?;
     let givens = givens_of(alloc, &whole.statics)?;
-    let statics = place_fields(alloc, givens)?;
-    let values = place_values(alloc, givens)?;
+    let statics = alloc_fields(alloc, givens)?;
+    let values = alloc_values(alloc, givens)?;
     let instances = instances_of(alloc, &whole.instances)?;
     let directs = methods_of(alloc, &whole.directs)?;
     let virtuals = methods_of(alloc, &whole.virtuals)?;

@@ -4,7 +4,7 @@ ghost use Rattle.std.specs.Prelude.{◌≡◌, Option, Some, None, IfOk, IsOkUnl
 ghost use Rattle.base_bytes.specs.Fault.{memory};
 
 use crate::block::Block;
-use crate::close::place_class;
+use crate::close::alloc_class;
 use crate::open_class::{ClassPart, InClass, Open};
 use crate::open_code::Body;
 use bumpalo::Bump;
@@ -180,7 +180,7 @@ impl<'a> Draft<'a> {
         let Block::Class(class) = &self.block else {
             return Ok(false);
         };
-        let whole = place_class(arena, &class.open)?;
+        let whole = alloc_class(arena, &class.open)?;
         self.done.push(whole)?;
         self.block = Block::Top;
         Ok(true)

@@ -188,7 +188,7 @@ impl<'a> Body<'a> {
 
     /// The code, when its tries are whole.
     #[tactic(auto, unfolding(crate::specs::View::open_body))]
-    pub(crate) fn place_code(&self, arena: &'a Bump) -> Result<Code<'a>, Fault>
+    pub(crate) fn alloc_code(&self, arena: &'a Bump) -> Result<Code<'a>, Fault>
         ensures ok { IfOk result (λ c. code c ≡ whole_code (open_body self.now)) }
         ensures memory { IsOkUnless result memory }
     {
@@ -282,7 +282,7 @@ impl<'a> InCode<'a> {
     {
         let of = self.body.owner;
         self.body.end_try(arena, &self.part, None)?;
-        let whole = arena.try_alloc(self.body.place_code(arena)?)?;
+        let whole = arena.try_alloc(self.body.alloc_code(arena)?)?;
         self.class.put_code(of, whole);
         Ok(())
     }

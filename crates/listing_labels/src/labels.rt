@@ -2,7 +2,7 @@
 
 ghost use Rattle.std.specs.Prelude.{◌≡◌, ◌<◌, ◌+◌, ◌^◌, ◌∷◌, [], Some, map, length, IfOk, IfSome, IfNone, OnOk, IsOkUnless};
 ghost use Rattle.base_bytes.specs.Fault.{memory};
-ghost use Rattle.listing_words.specs.Words.{after_spaces, up_to_space};
+ghost use Rattle.listing_words.specs.Words.{up_to_space};
 ghost use Rattle.listing_words.specs.View.{word};
 ghost use Rattle.listing_slots.specs.Data.{Datum as Said};
 ghost use Rattle.listing_slots.specs.ValidNames.{IsValidDatum, StayValid};
@@ -19,7 +19,7 @@ use bumpalo::Bump;
 use listing_slots::{
     Datum, Key, Mark, Slot, Spelled, fault_of, is_same, key_text, read_datum, read_marked,
 };
-use listing_words::{Fault, Word, fault};
+use listing_words::{Fault, Word, after_spaces, fault};
 
 /// Whether a byte can stand in a label.
 fn is_name_byte(c: u8) -> bool
@@ -58,20 +58,6 @@ pub fn is_label(word: &[u8]) -> bool
         return false;
     };
     *first == b':' && 0 < name.len() && name.len() <= 32 && are_name_bytes(name)
-}
-
-/// The text without the spaces at its front.
-fn after_spaces(text: &[u8]) -> &[u8]
-    ensures { result.now ≡ after_spaces text.now }
-{
-    let mut rest = text;
-    while let Some((first, after)) = rest.split_first() {
-        if *first != b' ' {
-            return rest;
-        }
-        rest = after;
-    }
-    rest
 }
 
 /// What stands before the first space.

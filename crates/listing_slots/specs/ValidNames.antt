@@ -11,9 +11,9 @@ IsValidDatum (named n) = IsValidName n
 IsValidDatum (constant f) = IsValidField f
 IsValidDatum _ = ⊤
 
--- What is known of words that spelled names: how many have a place, and whether a file can have all names that they said.
+-- What is known of words that spelled names: how many can be held, and whether a file can have all names that they said.
 pub record Spellings : Type 0 where
-  pub places : ℕ
+  pub buckets : ℕ
   pub valid : Bool
 
 -- If a file can have all names now, it can have those from before and what these words name.

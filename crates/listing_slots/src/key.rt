@@ -48,7 +48,7 @@ pub fn key_text(key: Key) -> &'static str
 pub fn is_same(a: &[u8], b: &[u8]) -> bool
     ensures { result ≡ same a.now b.now }
 {
-    a.len() == b.len() && a == b
+    a == b
 }
 
 #[tactic(auto, unfolding(crate::specs::Keys::find_key))]

@@ -28,15 +28,15 @@ struct Spelling<'a, 'b> {
     name: Datum<'a>,
 }
 
-/// Words that spelled names, with their names: a word that has its place here isn't read again, nor its name stored again.
+/// Words that spelled names, with their names: a word that stands in its bucket isn't read again, nor its name stored again.
 ///
-/// Each word has one place, by its bytes, and takes it from the word that was there. So a word is compared with one other,
-/// whatever the listing, and the places take the memory that they took at first. Whether a file can have a name is asked
+/// Each word has one bucket, by its bytes, and takes it from the word that was there. So a word is compared with one other,
+/// whatever the listing, and the buckets take the memory that they took at first. Whether a file can have a name is asked
 /// where it is read, so not for each word. A word is read aside, in room that is used again, and its name is made of parts that
-/// the arena has. It stands for the number of places, and whether a file can have all of the names.
+/// the arena has. It stands for the number of buckets, and whether a file can have all of the names.
 #[derive(Drop)]
 pub struct Spelled<'a, 'b> {
-    places: Vec<Option<Spelling<'a, 'b>>>,
+    buckets: Vec<Option<Spelling<'a, 'b>>>,
     valid: bool,
     parts: NameParts<'a>,
     aside: Bump,
@@ -50,9 +50,9 @@ impl<'a, 'b> Model for Spelled<'a, 'b> {
 
     ghost use Rattle.listing_slots.specs.Spelled.{AreSpelled};
 
-    ghost view = { λ s. record { places = length s.places.items; valid = s.valid } };
+    ghost view = { λ s. record { buckets = length s.buckets.items; valid = s.valid } };
 
-    ghost invariant = { λ s. AreSpelled s.valid s.places.items };
+    ghost invariant = { λ s. AreSpelled s.valid s.buckets.items };
 }
 
 /// Whether both are the same slot, one in which names stand.
@@ -85,12 +85,12 @@ fn sum_of(text: &[u8]) -> u64 {
     sum
 }
 
-/// The place of a word among so many; of none it means nothing.
-fn place_of(text: &[u8], places: usize) -> usize {
-    if places == 0 {
+/// The bucket of a word among so many; of none it means nothing.
+fn bucket_of(text: &[u8], buckets: usize) -> usize {
+    if buckets == 0 {
         return 0;
     }
-    (sum_of(text) >> 32) as usize % places
+    (sum_of(text) >> 32) as usize % buckets
 }
 
 /// Whether a file can have what a word names.
@@ -105,15 +105,15 @@ fn is_valid_datum(said: Datum<'_>) -> bool
 }
 
 impl<'a, 'b> Spelled<'a, 'b> {
-    /// No word, and so many places.
-    pub fn new(alloc: Global, seed: Seed, places: usize) -> Result<Self, Fault>
-        ensures none { IfOk result (λ s. s ≡ record { places = places; valid = true }) }
+    /// No word, and so many buckets.
+    pub fn new(alloc: Global, seed: Seed, buckets: usize) -> Result<Self, Fault>
+        ensures none { IfOk result (λ s. s ≡ record { buckets = buckets; valid = true }) }
         ensures memory { IsOkUnless result memory }
     {
         let mut all: Vec<Option<Spelling<'a, 'b>>> = Vec::new(alloc);
-        all.resize(places, None)?;
+        all.resize(buckets, None)?;
         Ok(Spelled {
-            places: all,
+            buckets: all,
             valid: true,
             parts: NameParts::new(alloc, seed),
             aside: Bump::new(alloc),
@@ -127,29 +127,29 @@ impl<'a, 'b> Spelled<'a, 'b> {
         self.valid
     }
 
-    /// What a word said in a slot, if the two are those kept at this place.
+    /// What a word said in a slot, if the two are those in this bucket.
     fn find(&self, at: usize, slot: Slot, text: &[u8]) -> Option<Datum<'a>>
         ensures said { IfSome result (λ d. SpellsSlot slot (plain_word text.now) (datum d)) }
         ensures valid { IfSome result (λ d. IsTrue self.now.valid → IsValidDatum (datum d)) }
     {
-        if at >= self.places.len() {
+        if at >= self.buckets.len() {
             return None;
         }
-        let one = self.places[at]?;
+        let one = self.buckets[at]?;
         if is_same_slot(one.slot, slot) && is_same(one.text, text) {
             return Some(one.name);
         }
         None
     }
 
-    /// Puts a word at a place, where it says this in the slot.
+    /// Puts a word into a bucket, where it says this in the slot.
     fn keep(&mut self, at: usize, slot: Slot, text: &'b [u8], name: Datum<'a>)
         requires said { SpellsSlot slot (plain_word text.now) (datum name) }
         requires valid { IsTrue self.old.valid → IsValidDatum (datum name) }
         ensures { self.new ≡ self.old }
     {
-        if at < self.places.len() {
-            self.places[at] = Some(Spelling { slot, text, name });
+        if at < self.buckets.len() {
+            self.buckets[at] = Some(Spelling { slot, text, name });
         }
     }
 
@@ -194,7 +194,7 @@ impl<'a, 'b> Spelled<'a, 'b> {
         ensures valid { IfOk result (λ r. IfSome r (λ d. StayValid self.old self.new (datum d ∷ []))) }
         ensures memory { IsOkUnless result memory }
     {
-        let at = place_of(text, self.places.len());
+        let at = bucket_of(text, self.buckets.len());
         if let Some(name) = self.find(at, slot, text) {
             return Ok(Some(name));
         }

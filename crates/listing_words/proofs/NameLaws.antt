@@ -14,7 +14,7 @@ use Rattle.listing_words.proofs.TakingLaws.{IsDecided, Each-one}
 takes_has : (text : List ℕ) (u : ℕ) (rest : List ℕ) → TakesNameUnit text u rest → (len : ℕ) × HasNameUnit text u len
 takes_has text u rest h = elim h [
   | inl p ↦ (1, rw p.1 (inl (p.0, refl, omega arith, refl)))
-  | inr p ↦ (6, rw p.joined (inr (refl, omega arith, refl, refl, p.digits.0, p.digits.1, p.digits.2, p.digits.3, p.number)))
+  | inr p ↦ (6, rw p.joined (inr (refl, (omega arith, refl, refl, p.digits.0, p.digits.1, p.digits.2, p.digits.3, p.number))))
 ]
 
 pub name_unit_none : (text : List ℕ) → ((u len : ℕ) → HasNameUnit text u len → ⊥) → NoneAt TakesNameUnit text

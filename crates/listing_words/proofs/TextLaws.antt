@@ -11,7 +11,7 @@ pub takes_has : (text : List ℕ) (u : ℕ) (rest : List ℕ) → TakesUnit text
 takes_has text u rest h = elim h [
   | inl p ↦ (1, rw p.1 (inl (p.0, refl, omega arith, refl)))
   | inr (inl p) ↦ (2, rw p.1 (inr (inl (p.0, refl, omega arith, refl, refl))))
-  | inr (inr p) ↦ (6, rw p.joined (inr (inr (refl, omega arith, refl, refl, p.digits.0, p.digits.1, p.digits.2, p.digits.3, p.number))))
+  | inr (inr p) ↦ (6, rw p.joined (inr (inr (refl, (omega arith, refl, refl, p.digits.0, p.digits.1, p.digits.2, p.digits.3, p.number)))))
 ]
 
 pub unit_none : (text : List ℕ) → ((u len : ℕ) → HasQuotedUnit text u len → ⊥) → NoneAt TakesUnit text

@@ -1,11 +1,11 @@
 -- Names in words: units that stand for themselves or are escaped, and the texts of fields, methods and prototypes.
 -- Page: docs/LISTING.md, "What a word can be"; "Dalvik Executable format", "String syntax".
-use Rattle.std.specs.Prelude.{◌≡◌, ◌≢◌, ℕ, ◌+◌, ◌*◌, ◌<◌, ◌≤◌, ◌==◌, if◌then◌else◌, ◌⊎◌, List, [], ◌∷◌, ◌++◌, length, slice_index}
+use Rattle.std.specs.Prelude.{◌≡◌, ◌≢◌, ℕ, ◌+◌, ◌≤◌, ◌==◌, if◌then◌else◌, ◌⊎◌, List, [], ◌∷◌, ◌++◌, length, slice_index}
 use Rattle.std.specs.List.{flat_map, AllByRecursion}
 use Rattle.program_types.specs.Descriptor.{IsDescriptor, IsMemberName}
 use Rattle.program_types.specs.Content.{Proto, FieldRef, MethodRef}
 use Rattle.listing_words.specs.Taking.{EachTaken}
-use Rattle.listing_words.specs.Texts.{TakesHex, hex}
+use Rattle.listing_words.specs.Texts.{HasHex, TakesHex}
 
 -- One unit: itself, or `\uXXXX`.
 abbrev pub TakesNameUnit : List ℕ → ℕ → List ℕ → Type 0
@@ -42,9 +42,7 @@ pub record IsMethodText (us : List ℕ) (m : MethodRef) : Type 0 where
 abbrev pub HasNameUnit : List ℕ → ℕ → ℕ → Type 0
 HasNameUnit text u len =
     ((u ≢ 92) × (len ≡ 1) × (1 ≤ length text) × (slice_index text 0 ≡ u))
-    ⊎ ((len ≡ 6) × (6 ≤ length text) × (slice_index text 0 ≡ 92) × (slice_index text 1 ≡ 117)
-    × (hex (slice_index text 2) < 16) × (hex (slice_index text 3) < 16) × (hex (slice_index text 4) < 16) × (hex (slice_index text 5) < 16)
-    × (u ≡ hex (slice_index text 2) * 4096 + hex (slice_index text 3) * 256 + hex (slice_index text 4) * 16 + hex (slice_index text 5)))
+    ⊎ ((len ≡ 6) × HasHex text u)
 
 -- A descriptor at the front.
 abbrev pub TakesDescriptor : List ℕ → List ℕ → List ℕ → Type 0

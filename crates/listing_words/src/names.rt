@@ -8,7 +8,7 @@ ghost use Rattle.listing_words.specs.Taking.{NoneAt, EachTaken};
 ghost use Rattle.listing_words.specs.Names.{HasNameUnit, TakesNameUnit, SpellsUnits, TakesDescriptor, IsMemberText, IsProtoText, IsFieldText, IsMethodText, up_to, from};
 
 use crate::cut::split_before;
-use crate::texts::hex;
+use crate::texts::hex_unit;
 use bumpalo::Bump;
 use bumpalo::collections::into_bump_slice;
 use program_types::{
@@ -39,17 +39,7 @@ fn name_unit_at(text: &[u8]) -> Option<(u16, usize)>
     if text[0] != b'\\' {
         return Some((text[0] as u16, 1));
     }
-    if text.len() < 6 {
-        return None;
-    }
-    if text[1] != b'u' {
-        return None;
-    }
-    let a = hex(text[2])?;
-    let b = hex(text[3])?;
-    let c = hex(text[4])?;
-    let d = hex(text[5])?;
-    Some((a * 4096 + b * 256 + c * 16 + d, 6))
+    Some((hex_unit(text)?, 6))
 }
 
 /// The unit at the front, and what follows it.

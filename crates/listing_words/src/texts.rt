@@ -1,8 +1,8 @@
 //! Texts in quotes.
 
-ghost use Rattle.std.specs.Prelude.{ℕ, ◌<◌, ◌≤◌, ◌+◌, ◌*◌, length, IfOk, IfSome, IfNone, SomeIff, IsOkUnless};
+ghost use Rattle.std.specs.Prelude.{◌≡◌, ℕ, ◌<◌, ◌≤◌, ◌+◌, ◌*◌, length, slice_index, IfOk, IfSome, IfNone, SomeIff, IsOkUnless};
 ghost use Rattle.listing_words.specs.Taking.{NoneAt, EachTaken};
-ghost use Rattle.listing_words.specs.Texts.{HasQuotedUnit, TakesUnit, TakesUnits, hex};
+ghost use Rattle.listing_words.specs.Texts.{HasHex, HasQuotedUnit, TakesUnit, TakesUnits, hex};
 ghost use Rattle.program_types.specs.Fault.{memory};
 
 use crate::plain::{BACKSLASH, QUOTE};
@@ -12,7 +12,7 @@ use program_types::Fault;
 
 /// The value of a hexadecimal digit.
 #[tactic(auto, unfolding(crate::specs::Texts::hex))]
-pub(crate) fn hex(c: u8) -> Option<u16>
+fn hex(c: u8) -> Option<u16>
     ensures { SomeIff result (hex c < 16) (hex c) }
 {
     match c {
@@ -21,6 +21,25 @@ pub(crate) fn hex(c: u8) -> Option<u16>
         b'a'..=b'f' => Some((c - b'a' + 10) as u16),
         _ => None,
     }
+}
+
+/// The unit of the escape at the front, which begins with a backslash.
+pub(crate) fn hex_unit(text: &[u8]) -> Option<u16>
+    requires escape { slice_index text.now 0 ≡ 92 }
+    ensures some { IfSome result (HasHex text.now) }
+    ensures none { IfNone result ((u : ℕ) → HasHex text.now u → ⊥) }
+{
+    if text.len() < 6 {
+        return None;
+    }
+    if text[1] != b'u' {
+        return None;
+    }
+    let a = hex(text[2])?;
+    let b = hex(text[3])?;
+    let c = hex(text[4])?;
+    let d = hex(text[5])?;
+    Some(a * 4096 + b * 256 + c * 16 + d)
 }
 
 /// The unit at the front, and how many bytes it takes.
@@ -55,14 +74,7 @@ fn unit_at(text: &[u8]) -> Option<(u16, usize)>
         }
         return None;
     }
-    if text.len() < 6 {
-        return None;
-    }
-    let a = hex(text[2])?;
-    let b = hex(text[3])?;
-    let c = hex(text[4])?;
-    let d = hex(text[5])?;
-    Some((a * 4096 + b * 256 + c * 16 + d, 6))
+    Some((hex_unit(text)?, 6))
 }
 
 /// The unit at the front, and what follows it.

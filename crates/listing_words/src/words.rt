@@ -27,7 +27,7 @@ pub enum Word<'a, 'b> {
 }
 
 /// The text without the spaces at its front.
-fn after_spaces(text: &[u8]) -> &[u8]
+pub fn after_spaces(text: &[u8]) -> &[u8]
     ensures rest { result.now ≡ after_spaces text.now }
     ensures within { length result.now ≤ length text.now }
 {

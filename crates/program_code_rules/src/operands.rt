@@ -13,7 +13,7 @@ ghost use Rattle.program_types.specs.View as view;
 ghost use Rattle.program_code_rules.specs.CodeRules.{FitsFields, OperandsHold};
 ghost use Rattle.program_code_rules.specs.Parts.{KeyIsBelow};
 
-use program_types::{Code, Format, IndexKind, Insn, Name, format_of, index_kind_of};
+use program_types::{Code, Format, IndexKind, Insn, Name, are_bytes, format_of, index_kind_of};
 
 /// Whether a field of an instruction holds its number: it does, by the number's type, which the first line of each brings into the proof.
 fn fits_u8(a: u8) -> bool
@@ -153,11 +153,6 @@ fn are_keys(keys: &[i32]) -> bool
 /// All of the targets are numbers of 32 bits.
 fn are_words(targets: &[u32])
     ensures { AllByRecursion (λ to. to < 4294967296) targets.now }
-{}
-
-/// All of the data are bytes.
-fn are_bytes(bytes: &[u8])
-    ensures { AllByRecursion (λ byte. byte < 256) bytes.now }
 {}
 
 /// Whether a width is one that elements have.

@@ -4,12 +4,12 @@ use bumpalo::Bump;
 use dex_base::Fault;
 use dex_samples::types::{INT, LONGS, VOID};
 use dex_samples::{Case, all_hold, first_unit, ty};
-use program_types::{place_descs, place_proto, place_str};
+use program_types::{alloc_descs, alloc_proto, alloc_str};
 use std::alloc::Global;
 use std::test::Fail;
 
 fn is_string_placed(arena: &Bump) -> Result<bool, Fault> {
-    let placed = place_str(arena, &[0x6d, 0xd800, 0])?;
+    let placed = alloc_str(arena, &[0x6d, 0xd800, 0])?;
     Ok(placed.units == [0x6d, 0xd800, 0].as_slice())
 }
 
@@ -19,13 +19,13 @@ fn is_first_unit_read(alloc: Global) -> Result<bool, Fault> {
 
 fn are_rows_placed(arena: &Bump) -> Result<bool, Fault> {
     let (one, two, three) = (ty(arena, "I")?, ty(arena, "LA;")?, ty(arena, "V")?);
-    let placed = place_descs(arena, &[one, two, three], &[2, 0, 2])?;
+    let placed = alloc_descs(arena, &[one, two, three], &[2, 0, 2])?;
     Ok(placed == [three, one, three].as_slice())
 }
 
 fn is_prototype_placed(arena: &Bump) -> Result<bool, Fault> {
-    let params = place_descs(arena, &[INT, LONGS], &[0, 1])?;
-    let placed = place_proto(arena, VOID, params)?;
+    let params = alloc_descs(arena, &[INT, LONGS], &[0, 1])?;
+    let placed = alloc_proto(arena, VOID, params)?;
     Ok(placed.ret == VOID && placed.params == [INT, LONGS].as_slice())
 }
 

@@ -7,8 +7,8 @@
 //!
 //! ```text
 //! let arena = Bump::new(alloc);
-//! let void = Desc { text: place_str(&arena, &[0x56])? };
-//! let proto = place_proto(&arena, void, &[])?;
+//! let void = Desc { text: alloc_str(&arena, &[0x56])? };
+//! let proto = alloc_proto(&arena, void, &[])?;
 //! let shorty = shorty_of(alloc, &arena, proto.ret, proto.params)?; // `V`
 //! ```
 //!
@@ -37,13 +37,14 @@ mod code;
 mod class;
 
 // What is done with names and values, and how they are shown.
+mod arena;
 mod compare;
 mod depth;
 mod kinds;
-mod place;
 mod shorty;
 mod written;
 
+pub use arena::{alloc_descs, alloc_proto, alloc_str};
 pub use class::{Class, Member, Method, Program, program_law};
 pub use code::{Catch, Code, Try};
 pub use compare::{
@@ -56,12 +57,11 @@ pub use kinds::{is_class_or_array, is_class_type, is_void};
 pub use names::{Desc, FieldRef, MethodRef, Name, Proto, Str};
 pub use parts::{are_alike, is_switch, leads_of, name_of, payload_of, targets_of};
 pub use payload::Payload;
-pub use place::{place_descs, place_proto, place_str};
 pub use shorty::{letter, shorty_laws, shorty_of};
 pub use value::Value;
 
 // What stands below, for the crates above.
 pub use dex_insn::{
-    Fault, Format, IndexKind, Seed, descriptor_length, fault, format_of, index_kind_of,
+    Fault, Format, IndexKind, Seed, are_bytes, descriptor_length, fault, format_of, index_kind_of,
     is_descriptor, is_member_name, widen,
 };

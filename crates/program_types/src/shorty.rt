@@ -6,8 +6,8 @@ ghost use Rattle.dex_insn.specs.Fault.{memory};
 ghost use Rattle.program_types.specs.Shorty.{StandsFor, letter_of, shorty};
 ghost use Rattle.program_types.specs.View.{str, desc};
 
+use crate::arena::alloc_str;
 use crate::names::{Desc, Str};
-use crate::place::place_str;
 use bumpalo::Bump;
 use dex_insn::Fault;
 use std::alloc::Global;
@@ -62,7 +62,7 @@ pub fn shorty_of<'a>(
     for param in params {
         letters.push(letter(*param))?;
     }
-    place_str(arena, &letters)
+    alloc_str(arena, &letters)
 }
 
 /// The law of letters: of a descriptor exactly one letter stands for its type, the one that a shorty has.

@@ -28,8 +28,8 @@ use Rattle.tables_rows.specs.Stands.{StringStands, TypeStands, ProtoStands, Fiel
 use Rattle.tables_rows.proofs.NameLaws.{proto_one, stands_names, row_is}
 use Rattle.tables_rows.proofs.TypeLists.{indexes_of, below_protos}
 use Rattle.tables_names.proofs.IndexLemmas.{units_by_index, texts_by_index}
-use Rattle.tables_names.proofs.RowLemmas.{keys_compare_as_places, place_is_at_least_rank}
-use Rattle.tables_names.proofs.PlaceLemmas.{member_at, place_of, rank_at}
+use Rattle.tables_names.proofs.RowLemmas.{keys_compare_as_indices, index_is_at_least_rank}
+use Rattle.tables_names.proofs.PlaceLemmas.{member_at, member_index, rank_at}
 use Rattle.tables_names.proofs.NeededLemmas.{needed_is_least}
 use Rattle.tables_names.proofs.SubsetLemmas as sub
 use Rattle.tables_laws.specs.FileNames.{five_of, TablesHaveNames, NamesRise, NamesAreClosed, HasRow, FilesHoldNeeded, FilesAreNoShorter, NeededHasRows}
@@ -48,7 +48,7 @@ row_of key (v ∷ vs) (suc i) k e = row_of key vs i k e
 
 -- the row of a member
 member_row : {V : Type 0} (key : V → Key) (names : List V) (k : Key) → is_member (map key names) k ≡ true → (i : ℕ) × (v : V) × (slice_get names i ≡ Some v) × (k ≡ key v)
-member_row key names k h = let at = place_of (map key names) k h in let row = row_of key names at.0 k at.1 in (at.0, row.0, row.1, row.2)
+member_row key names k h = let at = member_index (map key names) k h in let row = row_of key names at.0 k at.1 in (at.0, row.0, row.1, row.2)
 
 -- ---- the names of a file, by index
 
@@ -103,7 +103,7 @@ names_rise b names framed hold are =
     table_rises text_key StringStands StringIsBelow b 0 names.strings are.strings hold.strings (λ j i s t at_j at_i below. sym (ordering_then-equal (units_cmp s t)) ∙ below s t at_j at_i) in
     let types : Rising (map text_key names.types) =
     table_rises text_key TypeStands TypeIsBelow b 1 names.types are.types hold.types (λ j i s t at_j at_i below.
-    keys_compare_as_places (map text_key names.strings) (type_string b j) (type_string b i) (text_key s) (text_key t) strings (string_at b names framed are (type_string b j) s at_j.string) (string_at b names framed are (type_string b i) t at_i.string)
+    keys_compare_as_indices (map text_key names.strings) (type_string b j) (type_string b i) (text_key s) (text_key t) strings (string_at b names framed are (type_string b j) s at_j.string) (string_at b names framed are (type_string b i) t at_i.string)
     ∙ sym (nat_cmp_is (type_string b j) (type_string b i) Less below)) in
     let protos : Rising (map proto_key names.protos) =
     table_rises proto_key ProtoStands ProtoIsBelow b 2 names.protos are.protos hold.protos (λ j i p q at_j at_i below.
@@ -130,7 +130,7 @@ names_rise b names framed hold are =
           same ∙ below);
       methods = table_rises method_ref_key MethodStands (MemberIsBelow 4) b 4 names.methods are.methods hold.methods (λ j i f g at_j at_i below.
           let front = member 4 j i f.class g.class f.name g.name at_j.class at_i.class at_j.name at_i.name in
-          let proto = keys_compare_as_places (map proto_key names.protos) (member_kind b 4 j) (member_kind b 4 i) (proto_key f.proto) (proto_key g.proto) protos (proto_at b names framed are (member_kind b 4 j) f.proto at_j.proto) (proto_at b names framed are (member_kind b 4 i) g.proto at_i.proto) ∙ ordering_then-equal (nat_cmp (member_kind b 4 j) (member_kind b 4 i)) in
+          let proto = keys_compare_as_indices (map proto_key names.protos) (member_kind b 4 j) (member_kind b 4 i) (proto_key f.proto) (proto_key g.proto) protos (proto_at b names framed are (member_kind b 4 j) f.proto at_j.proto) (proto_at b names framed are (member_kind b 4 i) g.proto at_i.proto) ∙ ordering_then-equal (nat_cmp (member_kind b 4 j) (member_kind b 4 i)) in
           let same : key_cmp (method_ref_key f) (method_ref_key g) ≡ slice_cmp nat_cmp (member_class b 4 j ∷ member_name b 4 j ∷ member_kind b 4 j ∷ []) (member_class b 4 i ∷ member_name b 4 i ∷ member_kind b 4 i ∷ []) =
           λ t. ordering_then (front.0 t) (ordering_then (front.1 t) (proto t)) in
           same ∙ below);
@@ -282,11 +282,11 @@ files_are_no_shorter b p framed hold rows =
       protos = no_shorter proto_key ProtoStands b 2 names.protos s.protos are.protos up.protos part.protos;
       fields = no_shorter field_ref_key FieldStands b 3 names.fields s.fields are.fields up.fields part.fields;
       methods = no_shorter method_ref_key MethodStands b 4 names.methods s.methods are.methods up.methods part.methods;
-      string_rank = λ i t st. place_is_at_least_rank s.strings (five_of names).strings i (text_key t) up.strings high.strings part.strings (string_at b names framed are i t st);
-      type_rank = λ i t st. place_is_at_least_rank s.types (five_of names).types i (text_key t) up.types high.types part.types (type_at b names framed are i t st);
-      proto_rank = λ i q st. place_is_at_least_rank s.protos (five_of names).protos i (proto_key q) up.protos high.protos part.protos (proto_at b names framed are i q st);
-      field_rank = λ i f st. place_is_at_least_rank s.fields (five_of names).fields i (field_ref_key f) up.fields high.fields part.fields (field_at b names framed are i f st);
-      method_rank = λ i m st. place_is_at_least_rank s.methods (five_of names).methods i (method_ref_key m) up.methods high.methods part.methods (method_at b names framed are i m st);
+      string_rank = λ i t st. index_is_at_least_rank s.strings (five_of names).strings i (text_key t) up.strings high.strings part.strings (string_at b names framed are i t st);
+      type_rank = λ i t st. index_is_at_least_rank s.types (five_of names).types i (text_key t) up.types high.types part.types (type_at b names framed are i t st);
+      proto_rank = λ i q st. index_is_at_least_rank s.protos (five_of names).protos i (proto_key q) up.protos high.protos part.protos (proto_at b names framed are i q st);
+      field_rank = λ i f st. index_is_at_least_rank s.fields (five_of names).fields i (field_ref_key f) up.fields high.fields part.fields (field_at b names framed are i f st);
+      method_rank = λ i m st. index_is_at_least_rank s.methods (five_of names).methods i (method_ref_key m) up.methods high.methods part.methods (method_at b names framed are i m st);
     }
 
 -- ---- names compare as their rows do
@@ -295,27 +295,27 @@ module _ (b : List ℕ) (framed : IsFramed b) (hold : TablesHold b) where
   pub strings_compare : (i j : ℕ) (s t : Units) → StringStands b i s → StringStands b j t → key_cmp (text_key s) (text_key t) ≡ nat_cmp i j
   strings_compare i j s t x y =
       let found = tables_have_names b hold in
-      keys_compare_as_places (five_of found.0).strings i j (text_key s) (text_key t) (names_rise b found.0 framed hold found.1).strings (string_at b found.0 framed found.1 i s x) (string_at b found.0 framed found.1 j t y)
+      keys_compare_as_indices (five_of found.0).strings i j (text_key s) (text_key t) (names_rise b found.0 framed hold found.1).strings (string_at b found.0 framed found.1 i s x) (string_at b found.0 framed found.1 j t y)
 
   pub types_compare : (i j : ℕ) (s t : Units) → TypeStands b i s → TypeStands b j t → key_cmp (text_key s) (text_key t) ≡ nat_cmp i j
   types_compare i j s t x y =
       let found = tables_have_names b hold in
-      keys_compare_as_places (five_of found.0).types i j (text_key s) (text_key t) (names_rise b found.0 framed hold found.1).types (type_at b found.0 framed found.1 i s x) (type_at b found.0 framed found.1 j t y)
+      keys_compare_as_indices (five_of found.0).types i j (text_key s) (text_key t) (names_rise b found.0 framed hold found.1).types (type_at b found.0 framed found.1 i s x) (type_at b found.0 framed found.1 j t y)
 
   pub protos_compare : (i j : ℕ) (p q : Proto) → ProtoStands b i p → ProtoStands b j q → key_cmp (proto_key p) (proto_key q) ≡ nat_cmp i j
   protos_compare i j p q x y =
       let found = tables_have_names b hold in
-      keys_compare_as_places (five_of found.0).protos i j (proto_key p) (proto_key q) (names_rise b found.0 framed hold found.1).protos (proto_at b found.0 framed found.1 i p x) (proto_at b found.0 framed found.1 j q y)
+      keys_compare_as_indices (five_of found.0).protos i j (proto_key p) (proto_key q) (names_rise b found.0 framed hold found.1).protos (proto_at b found.0 framed found.1 i p x) (proto_at b found.0 framed found.1 j q y)
 
   pub fields_compare : (i j : ℕ) (f g : FieldRef) → FieldStands b i f → FieldStands b j g → key_cmp (field_ref_key f) (field_ref_key g) ≡ nat_cmp i j
   fields_compare i j f g x y =
       let found = tables_have_names b hold in
-      keys_compare_as_places (five_of found.0).fields i j (field_ref_key f) (field_ref_key g) (names_rise b found.0 framed hold found.1).fields (field_at b found.0 framed found.1 i f x) (field_at b found.0 framed found.1 j g y)
+      keys_compare_as_indices (five_of found.0).fields i j (field_ref_key f) (field_ref_key g) (names_rise b found.0 framed hold found.1).fields (field_at b found.0 framed found.1 i f x) (field_at b found.0 framed found.1 j g y)
 
   pub methods_compare : (i j : ℕ) (m n : MethodRef) → MethodStands b i m → MethodStands b j n → key_cmp (method_ref_key m) (method_ref_key n) ≡ nat_cmp i j
   methods_compare i j m n x y =
       let found = tables_have_names b hold in
-      keys_compare_as_places (five_of found.0).methods i j (method_ref_key m) (method_ref_key n) (names_rise b found.0 framed hold found.1).methods (method_at b found.0 framed found.1 i m x) (method_at b found.0 framed found.1 j n y)
+      keys_compare_as_indices (five_of found.0).methods i j (method_ref_key m) (method_ref_key n) (names_rise b found.0 framed hold found.1).methods (method_at b found.0 framed found.1 i m x) (method_at b found.0 framed found.1 j n y)
 
 -- ---- what is needed has rows
 

@@ -15,10 +15,10 @@ use Rattle.tables_names.specs.Rank.{Rising, is_member, IsSubset, IsAt}
 use Rattle.tables_names.specs.Closure.{Five, NameRanks, Holds, proto_closure}
 use Rattle.program_types.specs.Mentions.{mentions}
 use Rattle.tables_names.specs.Needed.{needed}
-use Rattle.tables_names.specs.Indices.{HasPlace, AreIndices, ClosedHaveRows, RisingTablesRise, LookUpsAnswer, MentionsHaveIndices}
+use Rattle.tables_names.specs.Indices.{HasRank, AreIndices, ClosedHaveRows, RisingTablesRise, LookUpsAnswer, MentionsHaveIndices}
 use Rattle.tables_names.proofs.SubsetLemmas.{member_here}
-use Rattle.tables_names.proofs.RowLemmas.{keys_compare_as_places}
-use Rattle.tables_names.proofs.PlaceLemmas.{member_at, place_of, rank_at, index_none}
+use Rattle.tables_names.proofs.RowLemmas.{keys_compare_as_indices}
+use Rattle.tables_names.proofs.PlaceLemmas.{member_at, member_index, rank_at, index_none}
 use Rattle.tables_names.proofs.NeededLemmas.{needed_is_least}
 use Rattle.program_types.proofs.ListFacts.{or_right_2}
 
@@ -32,8 +32,8 @@ look_ups_answer table i k None up few at has =
 -- ---- names that are held have rows
 
 -- the first of a part of a set has an index, and the others are a part
-first_place : (k : Key) (ks table : List Key) → IsSubset (k ∷ ks) table → HasPlace table k
-first_place k ks table part = place_of table k (part.each k (member_here k ks))
+first_place : (k : Key) (ks table : List Key) → IsSubset (k ∷ ks) table → HasRank table k
+first_place k ks table part = member_index table k (part.each k (member_here k ks))
 
 others : (k : Key) (ks table : List Key) → IsSubset (k ∷ ks) table → IsSubset ks table
 others k ks table part = record { each = λ j h. part.each j (or_right_2 (eq_by_cmp key_cmp j k) (is_member ks j) h) }
@@ -75,7 +75,7 @@ closed_have_rows s f =
 -- texts compare as their indices
 pub units_by_index : (table : List Key) (i j : ℕ) (t u : Units) → Rising table → IsAt table i (text_key t) → IsAt table j (text_key u) → units_cmp t u ≡ nat_cmp i j
 units_by_index table i j t u up at_i at_j =
-    ordering_then-equal (units_cmp t u) ∙ keys_compare_as_places table i j (text_key t) (text_key u) up at_i at_j
+    ordering_then-equal (units_cmp t u) ∙ keys_compare_as_indices table i j (text_key t) (text_key u) up at_i at_j
 
 pub texts_by_index : (table : List Key) → Rising table → (xs ys : List ℕ) (ts us : List Units) → AreIndices table xs ts → AreIndices table ys us → key_cmp ts us ≡ slice_cmp nat_cmp xs ys
 texts_by_index table up [] [] [] [] a b = refl
@@ -102,13 +102,13 @@ less_than i j less =
 
 -- keys with rising indices are less
 below : (table : List Key) (i j : ℕ) (a b : Key) → Rising table → i < j → IsAt table i a → IsAt table j b → key_cmp a b ≡ Less
-below table i j a b up lt at_i at_j = keys_compare_as_places table i j a b up at_i at_j ∙ sym (nat_cmp_is i j Less lt)
+below table i j a b up lt at_i at_j = keys_compare_as_indices table i j a b up at_i at_j ∙ sym (nat_cmp_is i j Less lt)
 
 pub rising_tables_rise : RisingTablesRise
 rising_tables_rise s up =
     record {
       types = λ i j a b t u lt at_i at_j at_a at_b.
-          let less : nat_cmp a b ≡ Less = sym (keys_compare_as_places s.strings a b (text_key t) (text_key u) up.strings at_a at_b) ∙ below s.types i j (text_key t) (text_key u) up.types lt at_i at_j in
+          let less : nat_cmp a b ≡ Less = sym (keys_compare_as_indices s.strings a b (text_key t) (text_key u) up.strings at_a at_b) ∙ below s.types i j (text_key t) (text_key u) up.types lt at_i at_j in
           less_than a b less;
       protos = λ i j p q row next lt at_i at_j r n.
           sym (texts_by_index s.types up.types row next (proto_key p) (proto_key q) r n) ∙ below s.protos i j (proto_key p) (proto_key q) up.protos lt at_i at_j;
@@ -122,7 +122,7 @@ rising_tables_rise s up =
       methods = λ i j l m row next lt at_i at_j r n.
           let class = units_by_index s.types r.class n.class l.class m.class up.types r.class_is n.class_is in
           let name = units_by_index s.strings r.name n.name l.name m.name up.strings r.name_is n.name_is in
-          let proto = keys_compare_as_places s.protos r.proto n.proto (proto_key l.proto) (proto_key m.proto) up.protos r.proto_is n.proto_is ∙ ordering_then-equal (nat_cmp r.proto n.proto) in
+          let proto = keys_compare_as_indices s.protos r.proto n.proto (proto_key l.proto) (proto_key m.proto) up.protos r.proto_is n.proto_is ∙ ordering_then-equal (nat_cmp r.proto n.proto) in
           let same : key_cmp (method_ref_key l) (method_ref_key m) ≡ slice_cmp nat_cmp (r.class ∷ r.name ∷ r.proto ∷ []) (n.class ∷ n.name ∷ n.proto ∷ []) =
           λ t. ordering_then (class t) (ordering_then (name t) (proto t)) in
           rw (r.row_is, n.row_is) (sym same ∙ below s.methods i j (method_ref_key l) (method_ref_key m) up.methods lt at_i at_j);
@@ -131,10 +131,10 @@ rising_tables_rise s up =
 -- ---- what a program mentions
 
 pub held_has_index : (s : Five) (name : Name) → Holds s name → (i : ℕ) × NameRanks s i name
-held_has_index s (OfText t) h = place_of s.strings (text_key t) h
-held_has_index s (OfDesc t) h = place_of s.types (text_key t) h
-held_has_index s (OfField f) h = place_of s.fields (field_ref_key f) h
-held_has_index s (OfMethod m) h = place_of s.methods (method_ref_key m) h
+held_has_index s (OfText t) h = member_index s.strings (text_key t) h
+held_has_index s (OfDesc t) h = member_index s.types (text_key t) h
+held_has_index s (OfField f) h = member_index s.fields (field_ref_key f) h
+held_has_index s (OfMethod m) h = member_index s.methods (method_ref_key m) h
 
 each_has_index : (s : Five) (names : List Name) → AllByRecursion (Holds s) names → AllByRecursion (λ name. (i : ℕ) × NameRanks s i name) names
 each_has_index s [] h = tt

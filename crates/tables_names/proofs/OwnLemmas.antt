@@ -14,7 +14,7 @@ use Rattle.tables_names.specs.declared.parts.FieldParts.{FieldParts}
 use Rattle.tables_names.specs.declared.parts.MethodParts.{MethodParts}
 use Rattle.tables_names.proofs.NameSetLemmas.{searched_key}
 use Rattle.tables_names.proofs.NumberLemmas.{zip_get, zip_length}
-use Rattle.tables_names.proofs.PlaceLemmas.{member_at, place_of}
+use Rattle.tables_names.proofs.PlaceLemmas.{member_at, member_index}
 use Rattle.tables_names.proofs.SortingLemmas.{field_cmp, field_ranks_cmp, method_cmp, method_ranks_cmp}
 use Rattle.program_types.proofs.ListFacts.{by_truth}
 
@@ -63,7 +63,7 @@ module _ {P : Type 0} (At : Key → P → Type 0) (k : Key) (p : P) (names : Lis
   part_missing missing =
       by_truth (is_member names k)
       (λ h.
-      let at = place_of names k h in
+      let at = member_index names k h in
       let there = is_part (get_or rows at.0 p) (zip_get At names rows at.0 k p all at.1) in
       true≢false (sym (member_at table there.0 part there.1) ∙ missing))
 

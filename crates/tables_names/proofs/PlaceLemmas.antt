@@ -21,11 +21,11 @@ member_at (x ∷ xs) (suc i) k e = let rest = member_at xs i k e in or_true (eq_
     or_true false b e = e
 
 -- a member is at some place
-pub place_of : (ks : List Key) (k : Key) → is_member ks k ≡ true → (i : ℕ) × (slice_get ks i ≡ Some k)
-place_of [] k e = absurd cc
-place_of (x ∷ xs) k e = elim (or_cases (eq_by_cmp key_cmp k x) _ e) [
+pub member_index : (ks : List Key) (k : Key) → is_member ks k ≡ true → (i : ℕ) × (slice_get ks i ≡ Some k)
+member_index [] k e = absurd cc
+member_index (x ∷ xs) k e = elim (or_cases (eq_by_cmp key_cmp k x) _ e) [
   | inl here ↦ (zero, ap Some (sym (key_cmp-same k x ((Equal-is (key_cmp k x)).0 here))))
-  | inr there ↦ let p = place_of xs k there in (suc p.0, p.1)
+  | inr there ↦ let p = member_index xs k there in (suc p.0, p.1)
 ]
 
 -- the place is the rank
@@ -35,7 +35,7 @@ rank_at ks i k up e = rank-at key_cmp-total key_cmp-same ks i k up (slice_get_wi
 -- what a look-up by name answers is the place of the name
 pub index_some : (ks : List Key) (k : Key) (i : ℕ) → Rising ks → LookUpAnswers ks k (Some i) → slice_get ks i ≡ Some k
 index_some ks k i up has =
-    let p = place_of ks k has.0.0 in
+    let p = member_index ks k has.0.0 in
     let same : p.0 ≡ i = sym (rank_at ks p.0 k up p.1) ∙ sym has.1 in
     subst (λ (n : ℕ). slice_get ks n ≡ Some k) same p.1
 

@@ -7,7 +7,7 @@ use Rattle.std.proofs.lemmas.List.Elements.{All-from_recursion}
 use Rattle.std.proofs.lemmas.Option.{slice_get_within, slice_get-get_or}
 use Rattle.program_types.specs.Key.{Key, key_cmp, units_cmp}
 use Rattle.program_types.specs.KeyLaws.{ordering_then-equal, key_cmp-total, key_cmp-same}
-use Rattle.tables_names.specs.Rank.{Rising, rank_of, is_member, add_all, PlaceIsAtLeastRank, KeysCompareAsPlaces, SetsAreTheirMembers}
+use Rattle.tables_names.specs.Rank.{Rising, rank_of, is_member, add_all, IndexIsAtLeastRank, KeysCompareAsIndices, SetsAreTheirMembers}
 use Rattle.tables_names.specs.Rows.{first_of, text_at, AreTexts, field_of_row, method_of_row, row_cmp, TypesRise, ProtosRise, FieldsRise, MethodsRise}
 use Rattle.tables_names.proofs.RisingLemmas.{rank-at, count-subset, places_cmp, rows_rise, same_rising}
 use Rattle.std.specs.Cmp.{both_ways}
@@ -19,14 +19,14 @@ at_place table i k d at =
     let lt = slice_get_within table i k at in
     let e : Some (get_or table i d) ≡ Some k = sym (slice_get-get_or table i d lt) ∙ at in cc
 
-pub place_is_at_least_rank : PlaceIsAtLeastRank
-place_is_at_least_rank set table i k up high each at =
+pub index_is_at_least_rank : IndexIsAtLeastRank
+index_is_at_least_rank set table i k up high each at =
     let there = rank-at key_cmp-total key_cmp-same table i k high (slice_get_within table i k at) (at_place table i k k at) in
     let le = count-subset key_cmp-total key_cmp-same (λ q. is_lt (key_cmp q k)) set table up each.each in
     subst (λ (n : ℕ). rank_of set k ≤ n) there le
 
-pub keys_compare_as_places : KeysCompareAsPlaces
-keys_compare_as_places table i j a b up at_i at_j =
+pub keys_compare_as_indices : KeysCompareAsIndices
+keys_compare_as_indices table i j a b up at_i at_j =
     (λ t. key_cmp (sym (at_place table i a [] at_i) t) (sym (at_place table j b [] at_j) t)) ∙ places_cmp key_cmp-total key_cmp-same table i j [] up (slice_get_within table i a at_i) (slice_get_within table j b at_j)
 
 -- texts of a rising table compare as their places do

@@ -23,8 +23,8 @@ use Rattle.tables_names.specs.declared.parts.FieldParts.{FieldParts}
 use Rattle.tables_names.specs.declared.parts.MethodParts.{MethodParts}
 use Rattle.tables_names.proofs.NameSetLemmas.{sorted_keys, same_keys}
 use Rattle.tables_names.proofs.IndexLemmas.{units_by_index}
-use Rattle.tables_names.proofs.RowLemmas.{keys_compare_as_places}
-use Rattle.tables_names.proofs.PlaceLemmas.{member_at, place_of}
+use Rattle.tables_names.proofs.RowLemmas.{keys_compare_as_indices}
+use Rattle.tables_names.proofs.PlaceLemmas.{member_at, member_index}
 use Rattle.tables_names.proofs.NumberLemmas.{zip_from, zip_length, zip_get, member_of_set}
 
 -- what the names answer is what their ranks do
@@ -163,7 +163,7 @@ module _ (names table : List Key) (numbers : List ℕ) (stand : RanksOf table na
       zip_from (λ k rank. IsAt table rank k) names ranks 0 (sym long)
       (λ n k at.
       let member : is_member table k ≡ true = ap (λ l. is_member l k) is ∙ member_of_set names k ∙ member_at names n k at in
-      let row = place_of table k member in
+      let row = member_index table k member in
       let its : IsAt names (get_or numbers row.0 0) k = zip_get (λ k n. IsAt names n k) table numbers row.0 k 0 stand row.1 in
       let lt : row.0 < i = omega (arith, slice_get_within table row.0 k row.1, zip_length (λ k n. IsAt names n k) table numbers stand, all) in
       subst (λ (m : ℕ). IsAt table (get_or ranks m 0) k) (once (get_or numbers row.0 0) n k its at) (placed.each row.0 k lt row.1))
@@ -176,7 +176,7 @@ text_ranks strings up (x ∷ o ∷ j) k p q a b = absurd a
 text_ranks strings up (x ∷ []) [] p q a b = absurd b
 text_ranks strings up (x ∷ []) (y ∷ o ∷ k) p q a b = absurd b
 text_ranks strings up (x ∷ []) (y ∷ []) p q a b =
-    same_leads (nat_cmp p.text q.text) (key_cmp (x ∷ []) (y ∷ [])) (sym (keys_compare_as_places strings p.text q.text (x ∷ []) (y ∷ []) up a b))
+    same_leads (nat_cmp p.text q.text) (key_cmp (x ∷ []) (y ∷ [])) (sym (keys_compare_as_indices strings p.text q.text (x ∷ []) (y ∷ []) up a b))
 
 pub ret_ranks : (types : List Key) → Rising types → (j k : Key) (p q : ProtoParts) → ProtoAt types j p → ProtoAt types k q → RanksDecide (nat_cmp p.ret q.ret) (key_cmp j k)
 ret_ranks types up [] k p q a b = absurd a
@@ -216,7 +216,7 @@ module _ (strings types : List Key) (s_up : Rising strings) (t_up : Rising types
     method_ranks_cmp (c ∷ n ∷ x ∷ j) (d ∷ []) p q a b = absurd b
     method_ranks_cmp (c ∷ n ∷ x ∷ j) (d ∷ m ∷ []) p q a b = absurd b
     method_ranks_cmp (c ∷ n ∷ x ∷ j) (d ∷ m ∷ y ∷ k) p q a b =
-        λ i. ordering_then (sym (units_by_index types p.class q.class c d t_up a.0 b.0) i) (ordering_then (sym (units_by_index strings p.name q.name n m s_up a.1 b.1) i) (sym (keys_compare_as_places protos p.proto q.proto (x ∷ j) (y ∷ k) p_up a.2 b.2) i))
+        λ i. ordering_then (sym (units_by_index types p.class q.class c d t_up a.0 b.0) i) (ordering_then (sym (units_by_index strings p.name q.name n m s_up a.1 b.1) i) (sym (keys_compare_as_indices protos p.proto q.proto (x ∷ j) (y ∷ k) p_up a.2 b.2) i))
 
     pub method_ranks_lead : (j k : Key) (p q : MethodParts) → MethodAt types strings protos j p → MethodAt types strings protos k q → RanksDecide (method_cmp p q) (key_cmp j k)
     method_ranks_lead j k p q a b = same_leads (method_cmp p q) (key_cmp j k) (method_ranks_cmp j k p q a b)

@@ -16,8 +16,8 @@ use Rattle.program_types.specs.Mentions.{mentions}
 use Rattle.tables_names.specs.Needed.{needed}
 
 -- a key has an index
-abbrev pub HasPlace : List Key → Key → Type 0
-HasPlace table k = (i : ℕ) × IsAt table i k
+abbrev pub HasRank : List Key → Key → Type 0
+HasRank table k = (i : ℕ) × IsAt table i k
 
 -- the indices of these texts, one by one
 abbrev pub AreIndices : List Key → List ℕ → List Units → Type 0
@@ -49,8 +49,8 @@ pub record IsMethodRow (s : Five) (m : MethodRef) (row : List ℕ) : Type 0 wher
 
 -- Every name that is held has a row: its parts have indices.
 pub record HaveRows (s : Five) : Type 0 where
-  pub types : (i : ℕ) (t : Descriptor) → IsAt s.types i (text_key t) → HasPlace s.strings (text_key t)
-  pub shorties : (i : ℕ) (p : Proto) → IsAt s.protos i (proto_key p) → HasPlace s.strings (text_key (shorty p))
+  pub types : (i : ℕ) (t : Descriptor) → IsAt s.types i (text_key t) → HasRank s.strings (text_key t)
+  pub shorties : (i : ℕ) (p : Proto) → IsAt s.protos i (proto_key p) → HasRank s.strings (text_key (shorty p))
   pub protos : (i : ℕ) (p : Proto) → IsAt s.protos i (proto_key p) → (row : List ℕ) × IsProtoRow s p row
   pub fields : (i : ℕ) (f : FieldRef) → IsAt s.fields i (field_ref_key f) → (row : List ℕ) × IsFieldRow s f row
   pub methods : (i : ℕ) (m : MethodRef) → IsAt s.methods i (method_ref_key m) → (row : List ℕ) × IsMethodRow s m row

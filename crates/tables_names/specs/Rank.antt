@@ -38,13 +38,13 @@ abbrev pub IsAt : List Key → ℕ → Key → Type 0
 IsAt ks i k = slice_get ks i ≡ Some k
 
 -- in a rising list that holds a set, the place of a key is at least its rank in the set
-abbrev pub PlaceIsAtLeastRank : Type 0
-PlaceIsAtLeastRank =
+abbrev pub IndexIsAtLeastRank : Type 0
+IndexIsAtLeastRank =
     (set table : List Key) (i : ℕ) (k : Key) → Rising set → Rising table → IsSubset set table → IsAt table i k → rank_of set k ≤ i
 
 -- in a rising list keys compare as their places do
-abbrev pub KeysCompareAsPlaces : Type 0
-KeysCompareAsPlaces =
+abbrev pub KeysCompareAsIndices : Type 0
+KeysCompareAsIndices =
     (table : List Key) (i j : ℕ) (a b : Key) → Rising table → IsAt table i a → IsAt table j b → key_cmp a b ≡ nat_cmp i j
 
 -- two names compare as these ranks of their parts do, unless the ranks tie

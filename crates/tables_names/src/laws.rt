@@ -1,17 +1,17 @@
 //! Laws over the definitions, for the proofs of crates above.
-ghost use Rattle.tables_names.specs.Rank.{PlaceIsAtLeastRank, KeysCompareAsPlaces, SetsAreTheirMembers};
+ghost use Rattle.tables_names.specs.Rank.{IndexIsAtLeastRank, KeysCompareAsIndices, SetsAreTheirMembers};
 ghost use Rattle.tables_names.specs.Needed.{NeededIsLeast, LeastIsNeeded};
 ghost use Rattle.tables_names.specs.Indices.{ClosedHaveRows, RisingTablesRise, LookUpsAnswer, MentionsHaveIndices};
 ghost use Rattle.tables_names.specs.Rows.{TypesRise, ProtosRise, FieldsRise, MethodsRise};
 
 /// A table of a file is never shorter than what is needed.
-pub fn place_is_at_least_rank()
-    ensures { PlaceIsAtLeastRank }
+pub fn index_is_at_least_rank()
+    ensures { IndexIsAtLeastRank }
 {}
 
 /// Order by names is order by indices.
-pub fn keys_compare_as_places()
-    ensures { KeysCompareAsPlaces }
+pub fn keys_compare_as_indices()
+    ensures { KeysCompareAsIndices }
 {}
 
 /// Types that are sorted by index are sorted by name.

@@ -26,9 +26,9 @@ mod sorting;
 mod laws;
 
 pub use laws::{
-    closed_have_rows, fields_rise, keys_compare_as_places, look_ups_answer, mentions_have_indices,
-    methods_rise, needed_is_least, place_is_at_least_rank, protos_rise, rising_tables_rise,
-    sets_are_their_members, types_rise,
+    closed_have_rows, fields_rise, index_is_at_least_rank, keys_compare_as_indices,
+    look_ups_answer, mentions_have_indices, methods_rise, needed_is_least, protos_rise,
+    rising_tables_rise, sets_are_their_members, types_rise,
 };
 pub use needed::Needed;
 pub use noted::Noted;

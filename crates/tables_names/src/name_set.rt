@@ -12,7 +12,7 @@ use program_types::Seed;
 use std::alloc::{AllocError, Global};
 use std::marker::Model;
 
-/// A set of names, in the order of first need, where the place of a name is its number. It stands for the list of their keys.
+/// A set of names, in the order of first need, where the index of a name is its number. It stands for the list of their keys.
 pub(crate) struct NameSet<N: Row> {
     items: IndexSet<N, Seed>,
 }
@@ -170,14 +170,14 @@ impl<N: Row> Ranked<N> {
         ensures none { IfNone result ((i : ℕ) → i < 2 ^ 32 → ¬ IsAt self.now i (N.key name)) }
     {
         self.rises();
-        match self.place_of(&name) {
+        match self.rank_of(&name) {
             Some(rank) => u32::try_from(rank).ok(),
             None => None,
         }
     }
 
     /// The rank of a name, where it is held.
-    pub(crate) fn place_of(&self, name: &N) -> Option<usize>
+    pub(crate) fn rank_of(&self, name: &N) -> Option<usize>
         ensures some { IfSome result (λ i. IsAt self.now i (N.key name.now)) }
         ensures none { IfNone result (is_member self.now (N.key name.now) ≡ false) }
     {

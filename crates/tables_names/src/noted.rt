@@ -111,7 +111,7 @@ impl<'a> Noted<'a> {
         ensures added { OnOk result (sets self.new.names ≡ with_name (sets self.old.names) (view.name name.entry)) }
         ensures noted { OnOk result ((names : List content.Name) → AreNoted self.old names → AreNoted self.new (names ++ view.name name.entry ∷ [])) }
         ensures partly { OnErr result (AddsPart (sets self.old.names) (sets self.new.names) (with_name (sets self.old.names) (view.name name.entry))) }
-        ensures kept { OnErr result ((names : List content.Name) → AreNoted self.old names → AreNoted self.new names) }
+        ensures stays { OnErr result ((names : List content.Name) → AreNoted self.old names → AreNoted self.new names) }
         ensures memory { IsOkUnless result memory }
     {
         let number = self.numbered.add_name(arena, name)?;
@@ -150,7 +150,7 @@ impl<'a> Noted<'a> {
         ensures added { OnOk result (sets self.new.names ≡ with_names (sets self.old.names) (OfDesc (view.desc class.now.ty) ∷ members_of (view.class class.now))) }
         ensures noted { OnOk result ((names : List content.Name) → AreNoted self.old names → AreNoted self.new (names ++ members_of (view.class class.now))) }
         ensures partly { OnErr result (AddsPart (sets self.old.names) (sets self.new.names) (with_names (sets self.old.names) (OfDesc (view.desc class.now.ty) ∷ members_of (view.class class.now)))) }
-        ensures kept { OnErr result ((names : List content.Name) → AreNoted self.old names → AreNoted self.new names) }
+        ensures stays { OnErr result ((names : List content.Name) → AreNoted self.old names → AreNoted self.new names) }
         ensures memory { IsOkUnless result memory }
     {
         let noted = self.numbers.len();

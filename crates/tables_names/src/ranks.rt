@@ -268,8 +268,8 @@ impl<'a> Ranks<'a> {
         ensures none { IfNone result ((i : ℕ) → i < 2 ^ 32 → ¬ IsAt self.now.fields i (own_field owner (view.str name.entry) (view.desc ty.entry))) }
     {
         self.rise();
-        let name = self.strings.place_of(&name)?;
-        let ty = self.types.names.place_of(&ty)?;
+        let name = self.strings.rank_of(&name)?;
+        let ty = self.types.names.rank_of(&ty)?;
         let own = FieldParts { class, name, ty };
         match self.fields.parts.binary_search(&own) {
             Ok(at) => u32::try_from(at).ok(),
@@ -301,8 +301,8 @@ impl<'a> Ranks<'a> {
         ensures none { IfNone result ((i : ℕ) → i < 2 ^ 32 → ¬ IsAt self.now.methods i (own_method owner (view.str name.entry) (view.proto proto.now))) }
     {
         self.rise();
-        let name = self.strings.place_of(&name)?;
-        let proto = self.protos.names.place_of(proto)?;
+        let name = self.strings.rank_of(&name)?;
+        let proto = self.protos.names.rank_of(proto)?;
         let own = MethodParts { class, name, proto };
         match self.methods.parts.binary_search(&own) {
             Ok(at) => u32::try_from(at).ok(),

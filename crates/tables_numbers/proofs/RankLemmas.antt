@@ -15,7 +15,7 @@ use Rattle.program_types.specs.KeyLaws.{key_cmp-total, key_cmp-same}
 use Rattle.tables_names.specs.Rank.{Rising, IsAt, is_member}
 use Rattle.tables_names.specs.Closure.{Five, Holds, NameRanks, AreRising}
 use Rattle.tables_names.proofs.RisingLemmas.{same_rising}
-use Rattle.tables_names.proofs.PlaceLemmas.{member_at, place_of, rank_at}
+use Rattle.tables_names.proofs.PlaceLemmas.{member_at, member_index, rank_at}
 use Rattle.tables_rows.specs.Names.{Names, AreNamesOf, NameIsAt}
 use Rattle.tables_rows.specs.Stands.{StringStands, TypeStands, ProtoStands, FieldStands, MethodStands, NameStands}
 use Rattle.tables_rows.specs.Sorted.{TablesHold}
@@ -98,7 +98,7 @@ module _ {V : Type 0} (n : ℕ) (Stands : ℕ → V → Type 0) (key : V → Key
       (λ q.
       both_ways (is_member (kept (map key names) column) q) (is_member held q)
       (λ h.
-      let at = place_of (kept (map key names) column) q h in
+      let at = member_index (kept (map key names) column) q h in
       let from = kept_from (map key names) column at.0 q small at.1 in
       let row = row_of key names from.0 q from.1 in
       subst (λ (k : Key). is_member held k ≡ true) (sym row.2) (m.held from.0 row.0 (each from.0 row.0 row.1) from.2))

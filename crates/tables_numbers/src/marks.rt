@@ -115,7 +115,7 @@ impl Marks {
         requires marks { HasMarks sections.now self.old }
         requires list { (ts : _) × TypesAt sections.now off ts }
         ensures marked { OnOk result ((ts : _) → TypesAt sections.now off ts → AddsNames sections.now self.old self.new (map OfDesc ts)) }
-        ensures kept { OnErr result (HasMarks sections.now self.new) }
+        ensures stays { OnErr result (HasMarks sections.now self.new) }
         ensures memory { IsOkUnless result memory }
     {
         if self.lists.contains(&off) {
@@ -137,7 +137,7 @@ impl Marks {
         requires marks { HasMarks sections.now self.old }
         requires row { (p : Proto) × ProtoStands sections.now index p }
         ensures marked { OnOk result ((p : Proto) → ProtoStands sections.now index p → (s : Five) → AreMarks sections.now self.old s → AreMarks sections.now self.new (with_proto s p)) }
-        ensures kept { OnErr result (HasMarks sections.now self.new) }
+        ensures stays { OnErr result (HasMarks sections.now self.new) }
         ensures memory { IsOkUnless result memory }
     {
         if is_marked(&self.protos, index) {
@@ -171,7 +171,7 @@ impl Marks {
         requires marks { HasMarks sections.now self.old }
         requires row { (m : _) × MethodStands sections.now index m }
         ensures marked { OnOk result ((m : _) → MethodStands sections.now index m → AddsNames sections.now self.old self.new (OfMethod m ∷ [])) }
-        ensures kept { OnErr result (HasMarks sections.now self.new) }
+        ensures stays { OnErr result (HasMarks sections.now self.new) }
         ensures memory { IsOkUnless result memory }
     {
         if is_marked(&self.methods, index) {
@@ -201,7 +201,7 @@ impl Marks {
         requires marks { HasMarks sections.now self.old }
         requires row { (which : Name) × IsRowOf sections.now kind index which }
         ensures marked { OnOk result ((which : Name) → IsRowOf sections.now kind index which → AddsNames sections.now self.old self.new (which ∷ [])) }
-        ensures kept { OnErr result (HasMarks sections.now self.new) }
+        ensures stays { OnErr result (HasMarks sections.now self.new) }
         ensures memory { IsOkUnless result memory }
     {
         match kind {

@@ -5,6 +5,6 @@ pub mod ShortyLaws
 pub mod ClearRows
 pub mod NameLaws
 pub mod Marks
-pub mod KeptLaws
+pub mod CachedLaws
 -- What stands below, for the crates above.
 pub use Rattle.dex_container.proofs.PlacesDecided

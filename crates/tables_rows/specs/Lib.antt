@@ -5,7 +5,7 @@ pub mod Stands
 pub mod TableFaults
 pub mod Reading
 pub mod Halves
-pub mod Kept
+pub mod Cached
 pub mod Known
 -- What stands below, for the crates above.
 pub use Rattle.dex_container.specs.Frame

@@ -20,8 +20,6 @@ pub(crate) fn string_at<'a>(
     ensures got { IfSome result (λ s. slice_get (map str strings.now) index ≡ Some (str s)) }
     ensures none { IfNone result (size_of sections.now section.string_ids ≤ index) }
 {
-    // Only for the proof: what holds of each value of its type.
-    let _file = sections;
     strings.get(index as usize).copied()
 }
 
@@ -35,8 +33,6 @@ pub(crate) fn type_at<'a>(
     ensures some { IfSome result (λ t. TypeStands sections.now index (desc t)) }
     ensures none { IfNone result (size_of sections.now section.type_ids ≤ index) }
 {
-    // Only for the proof: what holds of each value of its type.
-    let _file = sections;
     types.get(index as usize).copied()
 }
 
@@ -58,8 +54,6 @@ pub(crate) fn proto_at<'a>(
     ensures some { IfSome result (λ p. ProtoStands sections.now index (proto p.now)) }
     ensures none { IfNone result (size_of sections.now section.proto_ids ≤ index) }
 {
-    // Only for the proof: what holds of each value of its type.
-    let _file = sections;
     let place = index as usize;
     if place < protos.len() {
         Some(&protos[place])

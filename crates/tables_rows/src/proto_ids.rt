@@ -8,7 +8,7 @@ ghost use Rattle.dex_container.specs.Layout.{size_of};
 ghost use Rattle.program_types.specs.View.{str, desc, proto};
 ghost use Rattle.program_types.specs.Shorty.{shorty};
 ghost use Rattle.tables_rows.specs.Halves.{halves};
-ghost use Rattle.tables_rows.specs.Kept.{AreKept};
+ghost use Rattle.tables_rows.specs.Cached.{AreCached};
 ghost use Rattle.tables_rows.specs.Known.{IsKnown};
 ghost use Rattle.tables_rows.specs.Names.{AreRows};
 ghost use Rattle.dex_container.specs.Where.{IsSectionOf};
@@ -28,7 +28,7 @@ use program_types::{Desc, Proto, Str, is_void, letter};
 use std::alloc::Global;
 use std::cmp::Ordering;
 
-/// What is kept of a list of parameters: its types, and the letter of the return type and the row of the shorty of a row that has them.
+/// What is cached for a list of parameters: its types, and the letter of the return type and the row of the shorty of a row that has them.
 /// Another row with these three has the right shorty too, so that its letters needn't be compared with the types.
 #[derive(Clone, Copy)]
 struct Known<'a> {
@@ -54,10 +54,10 @@ pub(crate) fn read_protos<'a>(
 {
     let (count, _) = sections.table(kind::PROTO_ID_ITEM);
     let lists = section_of(sections, kind::TYPE_LIST);
-    let mut kept = IndexMap::new(alloc);
+    let mut cached = IndexMap::new(alloc);
     let mut protos: Vec<Proto<'a>, &'a Bump> = Vec::with_capacity(arena, count as usize)?;
     for i in 0..count {
-        let proto = next_proto(arena, sections, lists, strings, types, &mut kept, i)?;
+        let proto = next_proto(arena, sections, lists, strings, types, &mut cached, i)?;
         protos.push(proto)?;
     }
     Ok(into_bump_slice(protos))
@@ -71,21 +71,21 @@ fn next_proto<'a>(
     lists: Section,
     strings: &[Str<'a>],
     types: &[Desc<'a>],
-    kept: &mut IndexMap<u32, Known<'a>>,
+    cached: &mut IndexMap<u32, Known<'a>>,
     i: u32,
 ) -> Result<Proto<'a>, Fault>
     requires framed { IsFramed sections.now }
     requires section { IsSectionOf sections.now 0x1001 lists }
     requires strings { AreRows StringStands sections.now section.string_ids (map str strings.now) }
     requires types { AreRows TypeStands sections.now section.type_ids (map desc types.now) }
-    requires kept { AreKept (IsKnown sections.now) kept.old }
+    requires cached { AreCached (IsKnown sections.now) cached.old }
     requires row { i < size_of sections.now section.proto_ids }
     ensures ok { IfOk result (λ p. ProtoStands sections.now i (proto p)) }
-    ensures kept { OnOk result (AreKept (IsKnown sections.now) kept.new) }
+    ensures cached { OnOk result (AreCached (IsKnown sections.now) cached.new) }
     ensures holds { IfOk result (λ _. ProtoHolds sections.now i) }
     ensures err { IfErr result (λ e. e ≢ memory → BreaksAt ProtoBreaks sections.now section.proto_ids i e) }
 {
-    let proto = read_proto(arena, sections, lists, strings, types, kept, i)?;
+    let proto = read_proto(arena, sections, lists, strings, types, cached, i)?;
     if !rises(sections, lists, i) {
         return Err(Fault::at(fault::PROTO_ORDER, proto_row(sections, i)));
     }
@@ -100,17 +100,17 @@ fn read_proto<'a>(
     lists: Section,
     strings: &[Str<'a>],
     types: &[Desc<'a>],
-    kept: &mut IndexMap<u32, Known<'a>>,
+    cached: &mut IndexMap<u32, Known<'a>>,
     i: u32,
 ) -> Result<Proto<'a>, Fault>
     requires framed { IsFramed sections.now }
     requires section { IsSectionOf sections.now 0x1001 lists }
     requires strings { AreRows StringStands sections.now section.string_ids (map str strings.now) }
     requires types { AreRows TypeStands sections.now section.type_ids (map desc types.now) }
-    requires kept { AreKept (IsKnown sections.now) kept.old }
+    requires cached { AreCached (IsKnown sections.now) cached.old }
     requires row { i < size_of sections.now section.proto_ids }
     ensures ok { IfOk result (λ p. ProtoStands sections.now i (proto p)) }
-    ensures kept { OnOk result (AreKept (IsKnown sections.now) kept.new) }
+    ensures cached { OnOk result (AreCached (IsKnown sections.now) cached.new) }
     ensures err { IfErr result (λ e. e ≢ memory → BreaksAt ProtoBreaks sections.now section.proto_ids i e) }
 {
     let row = proto_row(sections, i);
@@ -122,7 +122,7 @@ fn read_proto<'a>(
         return Err(Fault::at(fault::PROTO_INDEX, row));
     };
     let off = proto_parameters(sections, i);
-    let Some(known) = parameters_at(arena, sections, lists, types, kept, off)? else {
+    let Some(known) = parameters_at(arena, sections, lists, types, cached, off)? else {
         return Err(Fault::at(fault::PARAMETER_LIST, row));
     };
     let params = known.params;
@@ -133,7 +133,7 @@ fn read_proto<'a>(
     if !is_shorty(text, ret, params) {
         return Err(Fault::at(fault::SHORTY, row));
     }
-    kept.insert(
+    cached.insert(
         off,
         Known {
             params,
@@ -170,25 +170,25 @@ fn read_parameters<'a>(
     Ok(Some(params))
 }
 
-/// The parameters of the list at an offset, none of them void, with what is known of the list: what is kept of the
+/// The parameters of the list at an offset, none of them void, with what is known of the list: what is cached for the
 /// offset, or the list that is read now.
 fn parameters_at<'a>(
     arena: &'a Bump,
     sections: &Sections<'_>,
     lists: Section,
     types: &[Desc<'a>],
-    kept: &IndexMap<u32, Known<'a>>,
+    cached: &IndexMap<u32, Known<'a>>,
     off: u32,
 ) -> Result<Option<Known<'a>>, Fault>
     requires framed { IsFramed sections.now }
     requires section { IsSectionOf sections.now 0x1001 lists }
     requires types { AreRows TypeStands sections.now section.type_ids (map desc types.now) }
-    requires kept { AreKept (IsKnown sections.now) kept.now }
+    requires cached { AreCached (IsKnown sections.now) cached.now }
     ensures found { IfOk result (λ r. IfSome r (λ known. IsKnown sections.now off known)) }
     ensures none { IfOk result (λ r. IfNone r ((ts : _) → ¬ ParametersAt sections.now off ts)) }
     ensures memory { IsOkUnless result memory }
 {
-    if let Some(known) = kept.get(&off) {
+    if let Some(known) = cached.get(&off) {
         return Ok(Some(*known));
     }
     let Some(params) = read_parameters(arena, sections, lists, types, off)? else {

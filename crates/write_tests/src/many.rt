@@ -6,7 +6,7 @@ use dex_base::Fault;
 use dex_samples::types::{A, B, INT, VOID};
 use program_types::{
     Class, Code, Desc, FieldRef, Insn, Member, Method, MethodRef, Name, Program, Proto, Str, Try,
-    place_str,
+    alloc_str,
 };
 
 /// `m`, the name of the method with a body.
@@ -28,14 +28,14 @@ fn units_of(number: u32) -> [u16; 2] {
 
 /// The name of this number: names rise with their numbers, and stand after those of ASCII letters.
 pub fn name_of<'a>(arena: &'a Bump, number: u32) -> Result<Str<'a>, Fault> {
-    place_str(arena, &units_of(number))
+    alloc_str(arena, &units_of(number))
 }
 
 /// The class type of this number.
 fn type_of<'a>(arena: &'a Bump, number: u32) -> Result<Desc<'a>, Fault> {
     let [first, second] = units_of(number);
     Ok(Desc {
-        text: place_str(arena, &[0x4c, first, second, 0x3b])?,
+        text: alloc_str(arena, &[0x4c, first, second, 0x3b])?,
     })
 }
 

@@ -44,7 +44,7 @@ loop-i-preserved c =
     c.loop-i.i _ _ _ c.loop-i.numbers.items _ c.put_handler.new.out.items (let n = length-map c.args.tries.now try in let l = c.loop-i-test.true in omega (arith, n, l)) c.loop-i.invariant
     (subst (λ (t : Try). PacksHandler (NameRanks c.args.ranks.now) c.args.starts.now c.put_handler.new.out.items (handler_of t)) (seen-at c.args.tries.now c.loop-i.i _ c.loop-i-test.true)
     (alone (PacksHandler (NameRanks c.args.ranks.now) c.args.starts.now) _ _ _ c.new-bytes.ensures.items c.in_ok-put_handler.ensures.ok))
-    (subst AllBytes c.deref.ensures.value c.are_bytes.ensures) c.in_ok-number_of.ensures.ok c.in_ok-push.ensures.items
+    (subst AllBytes c.deref.ensures.value c.are_bytes.ensures.all) c.in_ok-number_of.ensures.ok c.in_ok-push.ensures.items
 
 pub returns-clause-ok : goal.returns-clause-ok
 returns-clause-ok c =

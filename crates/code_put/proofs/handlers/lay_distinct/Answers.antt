@@ -54,4 +54,4 @@ returns-clause-ok c = λ s ss ts x.
     let n = t.count in
     let e : c.loop-number.number-index ≡ length c.args.distinct.now.numbers.items = omega (arith, ap length v) in
     laid (NameRanks s) ss ts (seen c.args.distinct.now.handlers.keys) c.args.distinct.now.numbers.items c.in_ok-list.list.bytes.items c.in_ok-list.list.places.items
-    c.loop-number.offsets.items (length ts) refl x.some d c.in_ok-list.ensures.ok (n ∙ e) (λ i l. t.each i (omega (arith, l, e))) (subst AllBytes c.deref.ensures.value c.are_bytes.ensures)
+    c.loop-number.offsets.items (length ts) refl x.some d c.in_ok-list.ensures.ok (n ∙ e) (λ i l. t.each i (omega (arith, l, e))) (subst AllBytes c.deref.ensures.value c.are_bytes.ensures.all)

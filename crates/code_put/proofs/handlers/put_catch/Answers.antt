@@ -9,6 +9,6 @@ unreachable-requires c = let h = c.requires.ranked in c.in_default.ensures.none 
 
 pub returns-clause-ok : goal.returns-clause-ok
 returns-clause-ok c =
-    on_ok_weaker c.put_place.result
+    on_ok_weaker c.put_address.result
     (λ p. catch-appends (NameRanks c.args.ranks.now) c.args.starts.now _ _ _ c.in-Some.index (catch c.args.one.now) c.in_ok-put_uleb.ensures.ok c.in-Some.ensures.some p)
-    c.put_place.ensures.ok
+    c.put_address.ensures.ok

@@ -4,7 +4,7 @@ use Rattle.code_insns.specs.Names.{NameIsAt}
 use Rattle.base_bytes.proofs.GrammarLaws.{Then-none_first}
 use Rattle.base_bytes.proofs.Numbers.{spells_unique}
 use Rattle.base_bytes.proofs.Signed.{signed_unique}
-use Rattle.code_read.specs.Handlers.{SpellsCatchType, SpellsPlace}
+use Rattle.code_read.specs.Handlers.{SpellsCatchType, SpellsAddress}
 use Rattle.base_bytes.specs.Leb128.{Spells, SpellsSigned}
 use Rattle.code_read.proofs.StandLaws.{NameIsAt-functional}
 use Rattle.code_read.proofs.HandlerLaws.{type-unique}
@@ -15,13 +15,13 @@ use Rattle.code_read.proofs.handlers.read_catch.Goals as goal
 pub returns-in_err-ty-clause-none : goal.returns-in_err-ty-clause-none
 returns-in_err-ty-clause-none c =
     let N = NameIsAt c.args.tables.now in let ss = c.args.starts.now in
-    IfNone-always _ (catch-none N ss c.args.bytes.now (Then-none_first (SpellsCatchType N ss) (λ _. SpellsPlace N ss) c.args.bytes.now c.in_err-ty.ensures.none))
+    IfNone-always _ (catch-none N ss c.args.bytes.now (Then-none_first (SpellsCatchType N ss) (λ _. SpellsAddress N ss) c.args.bytes.now c.in_err-ty.ensures.none))
 
 pub returns-in_err-at-clause-none : goal.returns-in_err-at-clause-none
 returns-in_err-at-clause-none c =
     let N = NameIsAt c.args.tables.now in let ss = c.args.starts.now in
     IfNone-always _ (catch-none N ss c.args.bytes.now
-    (second-none (SpellsCatchType N ss) (λ _. SpellsPlace N ss) c.args.bytes.now c.in_ok-ty.mid.now (desc c.in_ok-ty.ty)
+    (second-none (SpellsCatchType N ss) (λ _. SpellsAddress N ss) c.args.bytes.now c.in_ok-ty.mid.now (desc c.in_ok-ty.ty)
     (type-unique Spells SpellsSigned N ss spells_unique signed_unique (NameIsAt-functional c.args.tables.now)) c.in_ok-ty.ensures.some c.in_err-at.ensures.none))
 
 pub returns-clause-some : goal.returns-clause-some

@@ -32,15 +32,15 @@ returns-then-n-gt0-clause-ok c =
     (subst (λ (k : ℕ). Takes (Many (SpellsCatch N ss) k) c.in-Some.pairs.now cs c.in_ok-catches.rest.now) count c.in_ok-catches.ensures.ok)
     (all-none N ss c.in-Some.n c.in_ok-catches.rest.now (lacks-all c.in-Some.n above))
 
-pub returns-in_default-read_place-clause-err : goal.returns-in_default-read_place-clause-err
-returns-in_default-read_place-clause-err c = λ other.
+pub returns-in_default-read_address-clause-err : goal.returns-in_default-read_address-clause-err
+returns-in_default-read_address-clause-err c = λ other.
     let fits : SFits w32 c.in-Some.n = search rules in
     let count : c.unsigned_abs.result ≡ catches_of c.in-Some.n = simp to_z-of_z at c.unsigned_abs.ensures.value in
     let N = NameIsAt c.args.tables.now in let ss = c.args.starts.now in
     let cs = map catch c.in_ok-catches.catches.now in
     handler-none-all N ss (NameIsAt-functional c.args.tables.now) c.in-Some.n c.args.bytes.now c.in-Some.pairs.now c.in_ok-catches.rest.now cs c.in-Some.ensures.some
     (subst (λ (k : ℕ). Takes (Many (SpellsCatch N ss) k) c.in-Some.pairs.now cs c.in_ok-catches.rest.now) count c.in_ok-catches.ensures.ok)
-    (has-all c.in-Some.n (λ h. omega (arith, ints, c.if-n-gt0.false))) c.in_default-read_place.ensures.none
+    (has-all c.in-Some.n (λ h. omega (arith, ints, c.if-n-gt0.false))) c.in_default-read_address.ensures.none
 
 pub returns-clause-ok : goal.returns-clause-ok
 returns-clause-ok c =
@@ -48,6 +48,6 @@ returns-clause-ok c =
     let count : c.unsigned_abs.result ≡ catches_of c.in-Some.n = simp to_z-of_z at c.unsigned_abs.ensures.value in
     let N = NameIsAt c.args.tables.now in let ss = c.args.starts.now in
     let cs = map catch c.in_ok-catches.catches.now in
-    handler-takes N ss c.in-Some.n c.args.bytes.now c.in-Some.pairs.now c.in_ok-catches.rest.now c.in-Some-read_place.after.now _ c.in-Some.ensures.some
+    handler-takes N ss c.in-Some.n c.args.bytes.now c.in-Some.pairs.now c.in_ok-catches.rest.now c.in-Some-read_address.after.now _ c.in-Some.ensures.some
     (subst (λ (k : ℕ). Takes (Many (SpellsCatch N ss) k) c.in-Some.pairs.now cs c.in_ok-catches.rest.now) count c.in_ok-catches.ensures.ok)
-    (all-some N ss c.in-Some.n c.in_ok-catches.rest.now c.in-Some-read_place.after.now c.in-Some-read_place.at (has-all c.in-Some.n (λ h. omega (arith, ints, c.if-n-gt0.false))) c.in-Some-read_place.ensures.some)
+    (all-some N ss c.in-Some.n c.in_ok-catches.rest.now c.in-Some-read_address.after.now c.in-Some-read_address.at (has-all c.in-Some.n (λ h. omega (arith, ints, c.if-n-gt0.false))) c.in-Some-read_address.ensures.some)

@@ -23,8 +23,8 @@ pub renumber_insns-requires-clause-insns : goal.renumber_insns-requires-clause-i
 renumber_insns-requires-clause-insns c =
     let x = c.requires.carried.2 in
     let y = c.item_at-item.ensures.spelled c.requires.carried.1 x.stands in
-    let are : AreBytes c.args.sections.now = subst AreBytes c.bytes.ensures.value c.are_bytes.ensures in
-    (y.raws, y.insns.walk, can_renumber_all c.args.sections.now c.args.off c.args.numbers.now c.requires.carried.0 c.item_at-item.result c.requires.carried.1 x y are c.item_at-item.ensures.framed c.are_bytes-2.ensures c.item_at-item.ensures.units)
+    let are : AreBytes c.args.sections.now = subst AreBytes c.bytes.ensures.value c.are_bytes.ensures.each in
+    (y.raws, y.insns.walk, can_renumber_all c.args.sections.now c.args.off c.args.numbers.now c.requires.carried.0 c.item_at-item.result c.requires.carried.1 x y are c.item_at-item.ensures.framed c.are_bytes-2.ensures.each c.item_at-item.ensures.units)
 
 pub starts_asked-requires-clause-even : goal.starts_asked-requires-clause-even
 starts_asked-requires-clause-even c = let u = c.item_at-item.ensures.units in omega (arith, u)
@@ -39,8 +39,8 @@ pub lay_tries-requires-clause-tries : goal.lay_tries-requires-clause-tries
 lay_tries-requires-clause-tries c =
     let x = c.requires.carried.2 in
     let y = c.item_at-item.ensures.spelled c.requires.carried.1 x.stands in
-    let are : AreBytes c.args.sections.now = subst AreBytes c.bytes.ensures.value c.are_bytes.ensures in
-    (c.args.sections.now, c.requires.carried.0, _, _, carried_tries c.args.sections.now c.args.off c.args.numbers.now c.requires.carried.0 c.item_at-item.result c.requires.carried.1 x y are c.item_at-item.ensures.framed c.are_bytes-2.ensures c.item_at-item.ensures.units)
+    let are : AreBytes c.args.sections.now = subst AreBytes c.bytes.ensures.value c.are_bytes.ensures.each in
+    (c.args.sections.now, c.requires.carried.0, _, _, carried_tries c.args.sections.now c.args.off c.args.numbers.now c.requires.carried.0 c.item_at-item.result c.requires.carried.1 x y are c.item_at-item.ensures.framed c.are_bytes-2.ensures.each c.item_at-item.ensures.units)
 
 pub put_items-requires-clause-rises : goal.put_items-requires-clause-rises
 put_items-requires-clause-rises c =
@@ -51,8 +51,8 @@ pub put_items-requires-clause-count : goal.put_items-requires-clause-count
 put_items-requires-clause-count c =
     let x = c.requires.carried.2 in
     let y = c.item_at-item.ensures.spelled c.requires.carried.1 x.stands in
-    let are : AreBytes c.args.sections.now = subst AreBytes c.bytes.ensures.value c.are_bytes.ensures in
-    let hs = c.in_ok-laid.ensures.ok c.args.sections.now c.requires.carried.0 _ _ (carried_tries c.args.sections.now c.args.off c.args.numbers.now c.requires.carried.0 c.item_at-item.result c.requires.carried.1 x y are c.item_at-item.ensures.framed c.are_bytes-2.ensures c.item_at-item.ensures.units) in
+    let are : AreBytes c.args.sections.now = subst AreBytes c.bytes.ensures.value c.are_bytes.ensures.each in
+    let hs = c.in_ok-laid.ensures.ok c.args.sections.now c.requires.carried.0 _ _ (carried_tries c.args.sections.now c.args.off c.args.numbers.now c.requires.carried.0 c.item_at-item.result c.requires.carried.1 x y are c.item_at-item.ensures.framed c.are_bytes-2.ensures.each c.item_at-item.ensures.units) in
     ap length c.deref-2.ensures.value ∙ hs.offsets.count ∙ count_same (NameStands c.args.sections.now) c.item_at-item.result c.requires.carried.1 y c.item_at-item.ensures.units
 
 pub returns-clause-ok : goal.returns-clause-ok
@@ -60,13 +60,13 @@ returns-clause-ok c = λ s code x.
     let B = c.args.sections.now in
     let I = c.item_at-item.result in
     let y = c.item_at-item.ensures.spelled code x.stands in
-    let are : AreBytes B = subst AreBytes c.bytes.ensures.value c.are_bytes.ensures in
-    let hs = c.in_ok-laid.ensures.ok B s (addresses_of code.insns) code.tries (carried_tries B c.args.off c.args.numbers.now s I code x y are c.item_at-item.ensures.framed c.are_bytes-2.ensures c.item_at-item.ensures.units) in
+    let are : AreBytes B = subst AreBytes c.bytes.ensures.value c.are_bytes.ensures.each in
+    let hs = c.in_ok-laid.ensures.ok B s (addresses_of code.insns) code.tries (carried_tries B c.args.off c.args.numbers.now s I code x y are c.item_at-item.ensures.framed c.are_bytes-2.ensures.each c.item_at-item.ensures.units) in
     let begins : 0 < I.tries → c.deref.result.now ≡ addresses_of code.insns =
-    λ some. c.deref.ensures.value ∙ c.in_ok-starts.ensures.table y.raws y.insns.walk some ∙ addresses_are B c.args.off c.args.numbers.now s I code x y are c.item_at-item.ensures.framed c.are_bytes-2.ensures c.item_at-item.ensures.units in
-    let cover = cover_tries B c.args.off c.args.numbers.now s I code x y are c.item_at-item.ensures.framed c.are_bytes-2.ensures c.item_at-item.ensures.units in
+    λ some. c.deref.ensures.value ∙ c.in_ok-starts.ensures.table y.raws y.insns.walk some ∙ addresses_are B c.args.off c.args.numbers.now s I code x y are c.item_at-item.ensures.framed c.are_bytes-2.ensures.each c.item_at-item.ensures.units in
+    let cover = cover_tries B c.args.off c.args.numbers.now s I code x y are c.item_at-item.ensures.framed c.are_bytes-2.ensures.each c.item_at-item.ensures.units in
     let items = c.in_ok-put_items.ensures.ok code.tries (cover_with I.tries I.items.now (addresses_of code.insns) c.deref.result.now code.tries begins cover) in
-    packed_code B c.args.off c.args.numbers.now s I code x y are c.item_at-item.ensures.framed c.are_bytes-2.ensures c.item_at-item.ensures.units
+    packed_code B c.args.off c.args.numbers.now s I code x y are c.item_at-item.ensures.framed c.are_bytes-2.ensures.each c.item_at-item.ensures.units
     c.in_ok-out.out.items c.put_head.new.out.items c.renumber_insns.new.out.items c.put_padding.new.out.items c.put_items.new.out.items _ c.in_ok-laid.laid.bytes.items c.in_ok-laid.laid.offsets.items
     c.in_ok-out.ensures.items c.in_ok-put_head.ensures.ok (c.in_ok-renumber_insns.ensures.ok y.raws y.insns.walk) (c.in_ok-renumber_insns.ensures.fit y.raws y.insns.walk) (c.in_ok-put_padding.ensures.ok ∙ ap (λ (n : ℕ). c.renumber_insns.new.out.items ++ padding I.size n) c.from.ensures)
     (items ∙ ap (λ z. c.put_padding.new.out.items ++ z)
@@ -84,7 +84,7 @@ returns-in_err-put_items-clause-far c =
           let B = c.args.sections.now in
           let I = c.item_at-item.result in
           let y = c.item_at-item.ensures.spelled code x.stands in
-          let are : AreBytes B = subst AreBytes c.bytes.ensures.value c.are_bytes.ensures in
-          let hs = c.in_ok-laid.ensures.ok B s (addresses_of code.insns) code.tries (carried_tries B c.args.off c.args.numbers.now s I code x y are c.item_at-item.ensures.framed c.are_bytes-2.ensures c.item_at-item.ensures.units) in
+          let are : AreBytes B = subst AreBytes c.bytes.ensures.value c.are_bytes.ensures.each in
+          let hs = c.in_ok-laid.ensures.ok B s (addresses_of code.insns) code.tries (carried_tries B c.args.off c.args.numbers.now s I code x y are c.item_at-item.ensures.framed c.are_bytes-2.ensures.each c.item_at-item.ensures.units) in
           record { list = c.in_ok-laid.laid.bytes.items; offs = c.in_ok-laid.laid.offsets.items; laid = hs; index = f.1; inside = subst (λ (os : List ℕ). f.1 < length os) c.deref-2.ensures.value f.2; far = subst (λ (os : List ℕ). 65535 < get_or os f.1 0) c.deref-2.ensures.value f.3 },
     ))

@@ -45,29 +45,29 @@ renumber_short-requires-in-Five-clause-has c =
     moved_has c.args.numbers.now c.opcode_at-op.result _ _ (sym (ap (λ (z : List ℕ). u16_at z 2) c.clear_unnamed.ensures ∙ named_second c.args.front.now _ five.0)) five.1
 
 pub returns-in-Plain : goal.returns-in-Plain
-returns-in-Plain c = λ r s can. size_is c.args.numbers.now c.args.front.now c.args.front.now _ _ r c.from.ensures (plain_done c.args.numbers.now c.args.front.now _ r c.are_bytes.ensures s can.fits (c.in-Plain.ensures r s))
+returns-in-Plain c = λ r s can. size_is c.args.numbers.now c.args.front.now c.args.front.now _ _ r c.from.ensures (plain_done c.args.numbers.now c.args.front.now _ r c.are_bytes.ensures.each s can.fits (c.in-Plain.ensures r s))
 
 pub returns-in-Short : goal.returns-in-Short
 returns-in-Short c = λ r s can.
     size_is c.args.numbers.now c.args.front.now c.renumber_short.new.front _ _ r c.from-in-Short.ensures
     (new_is c.args.numbers.now c.args.front.now _ _ _ r c.renumber_short.ensures
-    (short_done c.args.numbers.now c.args.front.now c.opcode_at-op.result (u16_at c.args.front.now 2) c.opcode_at-op.ensures _ r (second_unit c.args.front.now) c.are_bytes.ensures s can (c.in-Short.ensures r s)))
+    (short_done c.args.numbers.now c.args.front.now c.opcode_at-op.result (u16_at c.args.front.now 2) c.opcode_at-op.ensures _ r (second_unit c.args.front.now) c.are_bytes.ensures.each s can (c.in-Short.ensures r s)))
 
 pub returns-in-Long : goal.returns-in-Long
 returns-in-Long c = λ r s can.
     new_is c.args.numbers.now c.args.front.now _ _ 3 r c.put_u32_at.ensures
-    (long_done c.args.numbers.now c.args.front.now c.opcode_at-op.result c.u32_at.result c.opcode_at-op.ensures r (c.u32_at.ensures ∙ second_units c.args.front.now) c.are_bytes.ensures s can (c.in-Long.ensures r s) c.number_of-index.result c.number_of-index.ensures (omega arith))
+    (long_done c.args.numbers.now c.args.front.now c.opcode_at-op.result c.u32_at.result c.opcode_at-op.ensures r (c.u32_at.ensures ∙ second_units c.args.front.now) c.are_bytes.ensures.each s can (c.in-Long.ensures r s) c.number_of-index.result c.number_of-index.ensures (omega arith))
 
 pub returns-in-Five : goal.returns-in-Five
 returns-in-Five c = λ r s can.
     let five = five_has c.args.numbers.now c.args.front.now c.opcode_at-op.result (u16_at c.args.front.now 2) c.opcode_at-op.ensures c.requires.0 (second_unit c.args.front.now) c.requires.1 c.requires.2.numbered (c.in-Five.ensures c.requires.0 c.requires.1) in
     new_is c.args.numbers.now c.args.front.now _ _ 3 r (c.renumber_short-in-Five.ensures ∙ subst_named c.args.numbers.now c.args.front.now c.clear_unnamed.new.front _ c.opcode_at-op.result c.clear_unnamed.ensures five.0)
-    (five_done c.args.numbers.now c.args.front.now c.opcode_at-op.result (u16_at c.args.front.now 2) c.opcode_at-op.ensures r (second_unit c.args.front.now) c.are_bytes.ensures s can (c.in-Five.ensures r s))
+    (five_done c.args.numbers.now c.args.front.now c.opcode_at-op.result (u16_at c.args.front.now 2) c.opcode_at-op.ensures r (second_unit c.args.front.now) c.are_bytes.ensures.each s can (c.in-Five.ensures r s))
 
 pub returns-in-Payload : goal.returns-in-Payload
 returns-in-Payload c = λ r s can.
     let p = c.clear_pad.ensures r s in
-    new_is c.args.numbers.now c.args.front.now _ _ _ r p.1 (payload_done c.args.numbers.now c.args.front.now c.clear_pad.result r c.are_bytes.ensures s can.fits (c.in-Payload.ensures r s) p.0)
+    new_is c.args.numbers.now c.args.front.now _ _ _ r p.1 (payload_done c.args.numbers.now c.args.front.now c.clear_pad.result r c.are_bytes.ensures.each s can.fits (c.in-Payload.ensures r s) p.0)
 
 pub clear_pad-requires : goal.clear_pad-requires
 clear_pad-requires c = (c.requires.0, c.requires.1)

@@ -36,7 +36,7 @@ returns-clause-ok c = record {
   key = c.in_ok-written.written.items;
   numbered = c.in_ok-number.ensures.ok;
   written = record {
-    small = all_bytes _ (subst AreBytes c.deref.ensures.value c.are_bytes.ensures);
+    small = all_bytes _ (subst AreBytes c.deref.ensures.value c.are_bytes.ensures.each);
     packs = λ b s ss h rest x. c.in_ok-written.ensures.ok b s ss h rest (subst (λ (l : List ℕ). IsCarriedHandler b c.args.numbers.now s ss l h rest) (sym c.split_at.ensures.back) x);
   };
 }
@@ -45,6 +45,6 @@ pub returns-clause-known : goal.returns-clause-known
 returns-clause-known c =
     known_more c.args.numbers.now c.args.list.now c.args.offsets.now c.args.known.now _ _ c.in_ok-written.written.items c.args.k c.in_ok-number.number (let n = c.requires.count in let i = c.requires.inside in omega (arith, n, i)) c.requires.known c.in_ok-number.ensures.ok
     (record {
-      small = all_bytes _ (subst AreBytes c.deref.ensures.value c.are_bytes.ensures);
+      small = all_bytes _ (subst AreBytes c.deref.ensures.value c.are_bytes.ensures.each);
       packs = λ b s ss h rest x. c.in_ok-written.ensures.ok b s ss h rest (subst (λ (l : List ℕ). IsCarriedHandler b c.args.numbers.now s ss l h rest) (sym c.split_at.ensures.back) x);
     })

@@ -9,7 +9,7 @@ pub returns-in_err-program-clause-refused : goal.returns-in_err-program-clause-r
 returns-in_err-program-clause-refused c = passed _ _ _ c.from_residual.ensures.1 (λ ne. inl (c.in_err-program.ensures.err ne))
 
 pub write_seeded-requires : goal.write_seeded-requires
-write_seeded-requires c = record { kept = c.in_ok-program.ensures.ok.formed }
+write_seeded-requires c = record { formed = c.in_ok-program.ensures.ok.formed }
 
 pub returns-clause-answered : goal.returns-clause-answered
 returns-clause-answered c =

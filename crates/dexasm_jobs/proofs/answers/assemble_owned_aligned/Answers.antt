@@ -9,7 +9,7 @@ pub returns-in_err-program-clause-refused : goal.returns-in_err-program-clause-r
 returns-in_err-program-clause-refused c = passed _ _ _ c.from_residual.ensures.1 (λ ne. inl (c.in_err-program.ensures.err ne))
 
 pub align_all-requires : goal.align_all-requires
-align_all-requires c = record { kept = c.in_ok-program.ensures.ok.formed }
+align_all-requires c = record { formed = c.in_ok-program.ensures.ok.formed }
 
 pub returns-in_err-aligned-clause-refused : goal.returns-in_err-aligned-clause-refused
 returns-in_err-aligned-clause-refused c = passed _ _ _ c.from_residual-in_err-aligned.ensures.1 (λ ne. inr (_, lists _ _ c.in_ok-program.ensures.ok, inl (c.in_err-aligned.ensures.err ne)))

@@ -45,7 +45,7 @@ put_codes-requires-clause-room c =
 
 pub put_codes-requires-clause-can : goal.put_codes-requires-clause-can
 put_codes-requires-clause-can c =
-    λ i k there. class_can c.args.ranks.now (view.program c.args.program.now) i k c.requires.needed c.requires.kept c.requires.fits (room_of c.args.ranks.now (view.program c.args.program.now) c.requires.needed c.requires.fits) there
+    λ i k there. class_can c.args.ranks.now (view.program c.args.program.now) i k c.requires.needed c.requires.formed c.requires.fits (room_of c.args.ranks.now (view.program c.args.program.now) c.requires.needed c.requires.fits) there
 
 pub overflow_cast-codes_end : goal.overflow_cast-codes_end
 overflow_cast-codes_end c =
@@ -96,7 +96,7 @@ put_datas-requires-clause-few c =
 
 pub put_datas-requires-clause-rise : goal.put_datas-requires-clause-rise
 put_datas-requires-clause-rise c =
-    λ i k there. (c.requires.kept.rules i k there).members
+    λ i k there. (c.requires.formed.rules i k there).members
 
 pub put_datas-requires-clause-codes : goal.put_datas-requires-clause-codes
 put_datas-requires-clause-codes c =
@@ -124,7 +124,7 @@ returns-clause-ok c =
     let d = rw c.deref.ensures.value at c.in_ok-datas.ensures.ok in
     rw (c.part.ensures, c.codes_part.ensures, c.part-2.ensures, c.part-3.ensures, c.part-4.ensures, c.requires.counts, e0, e1, e2, e3, e4, e5)
     (laid s p r c.args.out.now.items c.put_lists.new.out.items c.put_codes.new.out.items c.put_strings.new.out.items c.put_arrays.new.out.items c.put_datas.new.out.items at (record { lists = c.in_ok-lists.lists.items; codes = c.in_ok-codes.codes.items; texts = c.in_ok-texts.texts.items; arrays = c.in_ok-arrays.arrays.items; datas = c.in_ok-datas.datas.items }) f
-    (record { lists = c.in_ok-lists.ensures.ok; codes = c.in_ok-codes.ensures.ok; texts = c.in_ok-texts.ensures.ok; arrays = c.in_ok-arrays.ensures.ok; datas = d; once = record { lists = c.in_ok-lists.ensures.once; codes = c.in_ok-codes.ensures.once; texts = c.in_ok-texts.ensures.once; arrays = c.in_ok-arrays.ensures.once; datas = datas_shared p c.requires.kept _ _ } }))
+    (record { lists = c.in_ok-lists.ensures.ok; codes = c.in_ok-codes.ensures.ok; texts = c.in_ok-texts.ensures.ok; arrays = c.in_ok-arrays.ensures.ok; datas = d; once = record { lists = c.in_ok-lists.ensures.once; codes = c.in_ok-codes.ensures.once; texts = c.in_ok-texts.ensures.once; arrays = c.in_ok-arrays.ensures.once; datas = datas_shared p c.requires.formed _ _ } }))
 
 pub codes_part-requires : goal.codes_part-requires
 codes_part-requires c =

@@ -1,11 +1,11 @@
 use Rattle.std.proofs.Common.{sym}
 use Rattle.file_classes.specs.Reading.{IsChecked}
 use Rattle.file_classes.proofs.checking.check_code_at.Goals as goal
-use Rattle.tables_rows.proofs.KeptLaws.{kept_more}
+use Rattle.tables_rows.proofs.CachedLaws.{cached_more}
 
 pub returns-in-Some-clause-ok : goal.returns-in-Some-clause-ok
-returns-in-Some-clause-ok c = c.requires.kept c.args.off c.in-Some.past.now (sym c.in-Some.ensures.value)
+returns-in-Some-clause-ok c = c.requires.cached c.args.off c.in-Some.past.now (sym c.in-Some.ensures.value)
 
-pub returns-clause-kept : goal.returns-clause-kept
-returns-clause-kept c =
-    kept_more (IsChecked c.args.sections.now) c.args.kept.now c.insert.new.self c.args.off c.in_ok-past.past c.requires.kept c.in_ok-past.ensures.ok c.in_ok-insert.ensures.updates
+pub returns-clause-cached : goal.returns-clause-cached
+returns-clause-cached c =
+    cached_more (IsChecked c.args.sections.now) c.args.cached.now c.insert.new.self c.args.off c.in_ok-past.past c.requires.cached c.in_ok-past.ensures.ok c.in_ok-insert.ensures.updates

@@ -1,5 +1,5 @@
 use Rattle.file_classes.proofs.checking.check_codes.Goals as goal
-use Rattle.tables_rows.proofs.KeptLaws.{kept_none}
+use Rattle.tables_rows.proofs.CachedLaws.{cached_none}
 
-pub check_rows-requires-clause-kept : goal.check_rows-requires-clause-kept
-check_rows-requires-clause-kept c = kept_none _ c.new-kept.result c.new-kept.ensures.empty
+pub check_rows-requires-clause-cached : goal.check_rows-requires-clause-cached
+check_rows-requires-clause-cached c = cached_none _ c.new-cached.result c.new-cached.ensures.empty

@@ -10,9 +10,9 @@ loop-bare-preserved c =
     let bare = get_or c.args.bares.now c.loop-bare.bare-index no_bare in
     record {
       hold = bares_more c.args.sections.now c.args.bares.now BodyHolds c.loop-bare.bare-index bare c.loop-bare-test.true refl c.loop-bare.invariant.hold c.in_ok-next.ensures.ok.body;
-      past = up_turn c.args.sections.now c.args.bares.now c.loop-bare.bare-index bare c.loop-bare.past c.in_ok-next.next c.first_of-past.result c.first_of-past.ensures.first c.first_of-past.ensures.next
+      past = up_turn c.args.sections.now c.args.bares.now c.loop-bare.bare-index bare c.loop-bare.past c.in_ok-next.next c.or-past.result c.or-past.ensures
           c.loop-bare-test.true refl c.loop-bare.invariant.past c.in_ok-next.ensures.ok.hold c.in_ok-next.ensures.ok.past;
-      kept = c.in_ok-next.ensures.kept;
+      cached = c.in_ok-next.ensures.cached;
     }
 
 pub returns-in_err-next-clause-err : goal.returns-in_err-next-clause-err

@@ -10,14 +10,14 @@ use Rattle.file_classes.proofs.checking.check_rows.Goals as goal
 use Rattle.base_bytes.proofs.ListFacts.{passed}
 
 pub loop-i-init : goal.loop-i-init
-loop-i-init c = record { hold = λ i lt. absurd (omega (arith, lt)); past = rows_none c.args.sections.now; kept = c.requires.kept }
+loop-i-init c = record { hold = λ i lt. absurd (omega (arith, lt)); past = rows_none c.args.sections.now; cached = c.requires.cached }
 
 pub loop-i-preserved : goal.loop-i-preserved
 loop-i-preserved c = record {
   hold = below_more _ _ c.loop-i.invariant.hold c.in_ok-next.ensures.ok;
-  past = rows_turn c.args.sections.now c.loop-i.i c.loop-i.past c.in_ok-next.next c.first_of-past.result c.first_of-past.ensures.first c.first_of-past.ensures.next
+  past = rows_turn c.args.sections.now c.loop-i.i c.loop-i.past c.in_ok-next.next c.or-past.result c.or-past.ensures
       (omega (arith, c.class_count-count.ensures, c.loop-i-test.true)) c.loop-i.invariant.past c.in_ok-next.ensures.hold c.in_ok-next.ensures.past;
-  kept = c.in_ok-next.ensures.kept;
+  cached = c.in_ok-next.ensures.cached;
 }
 
 pub returns-in_err-next-clause-err : goal.returns-in_err-next-clause-err

@@ -3,15 +3,15 @@ use Rattle.file_classes.specs.ClassFaults.{ValuesBreak, ValuesHold}
 use Rattle.file_classes.proofs.StaticsLaws.{first_class}
 use Rattle.file_classes.proofs.checking_statics.check_statics.Goals as goal
 use Rattle.base_bytes.proofs.ListFacts.{passed}
-use Rattle.tables_rows.proofs.KeptLaws.{kept_none}
+use Rattle.tables_rows.proofs.CachedLaws.{cached_none}
 
 pub loop-i-init : goal.loop-i-init
-loop-i-init c = record { hold = λ i lt. absurd (omega (arith, lt)); kept = kept_none _ c.new-kept.result c.new-kept.ensures.empty }
+loop-i-init c = record { hold = λ i lt. absurd (omega (arith, lt)); cached = cached_none _ c.new-cached.result c.new-cached.ensures.empty }
 
 pub loop-i-preserved : goal.loop-i-preserved
 loop-i-preserved c = record {
   hold = below_more _ _ c.loop-i.invariant.hold c.in_ok-check_row.ensures.ok;
-  kept = c.in_ok-check_row.ensures.kept;
+  cached = c.in_ok-check_row.ensures.cached;
 }
 
 pub returns-in_err-check_row-clause-err : goal.returns-in_err-check_row-clause-err

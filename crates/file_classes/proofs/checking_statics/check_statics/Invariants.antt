@@ -1,12 +1,12 @@
 use Rattle.tables_rows.specs.Names.{NameIsAt}
 use Rattle.tables_rows.specs.Sorted.{RowsHold}
 use Rattle.file_classes.specs.ClassFaults.{ValuesHold}
-use Rattle.tables_rows.specs.Kept.{AreKept}
-use Rattle.file_classes.specs.Kept.{CountsOnce}
+use Rattle.tables_rows.specs.Cached.{AreCached}
+use Rattle.file_classes.specs.Cached.{CountsOnce}
 use Rattle.file_classes.proofs.checking_statics.check_statics.Given as goal
 
 abbrev pub invariant-loop-i : goal.invariant-loop-i
 invariant-loop-i l = record {
   hold : RowsHold ValuesHold l.sections l.i;
-  kept : AreKept (CountsOnce (NameIsAt l.tables) l.sections) l.kept;
+  cached : AreCached (CountsOnce (NameIsAt l.tables) l.sections) l.cached;
 }

@@ -32,7 +32,7 @@ returns-clause-holds c =
 
 pub is_in_order-requires-clause-within : goal.is_in_order-requires-clause-within
 is_in_order-requires-clause-within c =
-    types_have_rows c.args.sections.now c.bytes-file.ensures.framed c.args.i _ _ _ _ (map desc c.in-Some.interfaces.now) c.in_ok-row.ensures.ok (rw (← c.class_word-list.ensures) (rw c.in-Some.is at c.in_ok-interfaces.ensures.found))
+    types_have_rows c.args.sections.now c.framed.ensures c.args.i _ _ _ _ (map desc c.in-Some.interfaces.now) c.in_ok-row.ensures.ok (rw (← c.class_word-list.ensures) (rw c.in-Some.is at c.in_ok-interfaces.ensures.found))
 
 pub returns-in_err-members-clause-err : goal.returns-in_err-members-clause-err
 returns-in_err-members-clause-err c =

@@ -11,7 +11,7 @@ use Rattle.file_classes.specs.Reading.{SpellsBodies}
 use Rattle.file_classes.proofs.StaticsLaws.{first_class}
 use Rattle.file_classes.proofs.MethodLaws.{bodies_hold, rows_none, rows_turn, all_spelled}
 use Rattle.file_classes.proofs.methods.read_classes.Goals as goal
-use Rattle.tables_rows.proofs.KeptLaws.{kept_none}
+use Rattle.tables_rows.proofs.CachedLaws.{cached_none}
 use Rattle.base_bytes.proofs.ListFacts.{passed}
 
 pub returns-in_err-found-clause-err : goal.returns-in_err-found-clause-err
@@ -19,14 +19,14 @@ returns-in_err-found-clause-err c =
     passed _ _ _ c.from_residual-in_err-found.ensures.1 (λ ne. inl (first_class BodiesBreak BodiesHold c.args.sections.now c.loop-i.i _ (omega (arith, c.class_count-count.ensures, c.loop-i-test.true)) c.loop-i.invariant.rows.hold (c.in_err-found.ensures.err ne)))
 
 pub loop-i-init : goal.loop-i-init
-loop-i-init c = record { rows = search rules; past = rows_none c.args.sections.now; kept = kept_none _ c.new-kept.result c.new-kept.ensures.empty }
+loop-i-init c = record { rows = search rules; past = rows_none c.args.sections.now; cached = cached_none _ c.new-cached.result c.new-cached.ensures.empty }
 
 pub loop-i-preserved : goal.loop-i-preserved
 loop-i-preserved c = record {
   rows = rw (c.in_ok-push.ensures.items, map-append) (first_more SpellsBodies BodiesHold c.args.sections.now c.loop-i.i _ (class c.in_ok-found.found.class) c.loop-i.invariant.rows c.in_ok-found.ensures.ok (bodies_hold c.args.sections.now c.loop-i.i (class c.in_ok-found.found.class) c.in_ok-found.ensures.ok));
-  past = rows_turn c.args.sections.now c.loop-i.i c.loop-i.past c.in_ok-found.found.past c.first_of-past.result c.first_of-past.ensures.first c.first_of-past.ensures.next
+  past = rows_turn c.args.sections.now c.loop-i.i c.loop-i.past c.in_ok-found.found.past c.or-past.result c.or-past.ensures
       (omega (arith, c.class_count-count.ensures, c.loop-i-test.true)) c.loop-i.invariant.past c.in_ok-found.ensures.hold c.in_ok-found.ensures.past;
-  kept = c.in_ok-found.ensures.kept;
+  cached = c.in_ok-found.ensures.cached;
 }
 
 pub returns-in-Some-clause-err : goal.returns-in-Some-clause-err
@@ -42,5 +42,5 @@ pub returns-clause-rows : goal.returns-clause-rows
 returns-clause-rows c =
     let b = c.args.sections.now in
     let all : c.loop-i.i ≡ size_of b 5 = omega (arith, c.class_count-count.ensures, c.loop-i-test.false, c.loop-i.auto.i-end) in
-    rw c.into_bump_slice.ensures (all_spelled b c.bytes-file.ensures.framed c.loop-i.i (map class c.loop-i.classes.items) all c.loop-i.invariant.rows
+    rw c.into_bump_slice.ensures (all_spelled b c.framed.ensures c.loop-i.i (map class c.loop-i.classes.items) all c.loop-i.invariant.rows
     (subst (λ (o : Option Fault). IfNone o (RowsHold RowRegistersHold b c.loop-i.i)) c.in-None.is c.loop-i.invariant.past.none))

@@ -11,9 +11,9 @@ pub loop-bare-preserved : goal.loop-bare-preserved
 loop-bare-preserved c = record {
   done = rw (c.in_ok-push.ensures.items, map-append)
       (done_at c.args.sections.now c.args.bares.now c.loop-bare.bare-index (map method c.loop-bare.methods.items) (get_or c.args.bares.now c.loop-bare.bare-index no_bare) _ c.loop-bare.invariant.done c.loop-bare-test.true refl c.in_ok-found.ensures.ok.body);
-  past = up_turn c.args.sections.now c.args.bares.now c.loop-bare.bare-index (get_or c.args.bares.now c.loop-bare.bare-index no_bare) c.loop-bare.past c.in_ok-found.found.past c.first_of-past.result c.first_of-past.ensures.first c.first_of-past.ensures.next
+  past = up_turn c.args.sections.now c.args.bares.now c.loop-bare.bare-index (get_or c.args.bares.now c.loop-bare.bare-index no_bare) c.loop-bare.past c.in_ok-found.found.past c.or-past.result c.or-past.ensures
       c.loop-bare-test.true refl c.loop-bare.invariant.past c.in_ok-found.ensures.ok.hold c.in_ok-found.ensures.ok.past;
-  kept = c.in_ok-found.ensures.kept;
+  cached = c.in_ok-found.ensures.cached;
 }
 
 pub returns-in_err-found-clause-err : goal.returns-in_err-found-clause-err

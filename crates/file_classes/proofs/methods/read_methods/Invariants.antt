@@ -1,7 +1,7 @@
 use Rattle.std.proofs.Common.{map}
 use Rattle.program_types.specs.View.{method}
 use Rattle.file_classes.specs.ClassFaults.{CodeHolds, RegistersFail}
-use Rattle.tables_rows.specs.Kept.{AreKept}
+use Rattle.tables_rows.specs.Cached.{AreCached}
 use Rattle.file_classes.specs.Reading.{AreDone, CodesUpTo, IsFound}
 use Rattle.file_classes.proofs.methods.read_methods.Given as goal
 
@@ -9,5 +9,5 @@ abbrev pub invariant-loop-bare : goal.invariant-loop-bare
 invariant-loop-bare l = record {
   done : AreDone l.sections l.bares l.bare-index (map method l.methods.items);
   past : CodesUpTo CodeHolds RegistersFail l.sections l.bares l.bare-index l.past;
-  kept : AreKept (IsFound l.sections) l.kept;
+  cached : AreCached (IsFound l.sections) l.cached;
 }

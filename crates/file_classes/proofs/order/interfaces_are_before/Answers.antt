@@ -12,6 +12,6 @@ returns-in-Some c =
     let here = halves c.in-Some.types.now in
     let at : InterfaceIndexes b c.args.i here = rw (← c.class_word-list.ensures) c.in-Some.ensures.some in
     let P = λ (xs : List ℕ). (k : ℕ) → k < length xs → NoneDefines b c.args.i (size_of b 5) (slice_index xs k) in (
-      λ t. to_each b c.bytes-file.ensures.framed c.args.i here at P (c.all_are_before.ensures.0 t),
+      λ t. to_each b c.framed.ensures c.args.i here at P (c.all_are_before.ensures.0 t),
       λ all. c.all_are_before.ensures.1 (all here at),
     )

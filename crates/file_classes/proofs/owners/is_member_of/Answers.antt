@@ -10,6 +10,6 @@ returns-then-from-row c =
     let b = c.args.sections.now in
     let same : member_class b (number_of c.args.table) c.args.index ≡ c.args.row = omega arith in
     let here : TypeStands b c.args.row (desc c.args.of.now) = subst (λ z. TypeStands b z (desc c.args.of.now)) same c.requires.member in (
-      λ t. type_one b c.args.row (desc c.args.of.now) (desc c.args.class) c.bytes-file.ensures.framed here c.requires.class,
+      λ t. type_one b c.args.row (desc c.args.of.now) (desc c.args.class) c.framed.ensures here c.requires.class,
       λ e. refl,
     )

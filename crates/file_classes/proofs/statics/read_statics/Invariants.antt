@@ -1,12 +1,12 @@
 use Rattle.std.proofs.Common.{map}
 use Rattle.program_types.specs.View.{value}
 use Rattle.tables_rows.specs.Names.{NameIsAt}
-use Rattle.tables_rows.specs.Kept.{AreKept}
-use Rattle.file_classes.specs.Kept.{StandsOnce}
+use Rattle.tables_rows.specs.Cached.{AreCached}
+use Rattle.file_classes.specs.Cached.{StandsOnce}
 use Rattle.tables_rows.specs.Reading.{AreFirst}
 use Rattle.file_classes.specs.ClassFaults.{ValuesHold}
 use Rattle.file_classes.specs.Reading.{AreStatics}
 use Rattle.file_classes.proofs.statics.read_statics.Given as goal
 
 abbrev pub invariant-loop-i : goal.invariant-loop-i
-invariant-loop-i l = AreFirst AreStatics ValuesHold l.sections l.i l.all.items × AreKept (λ off values. StandsOnce (NameIsAt l.tables) l.sections off (map value values.now)) l.kept
+invariant-loop-i l = AreFirst AreStatics ValuesHold l.sections l.i l.all.items × AreCached (λ off values. StandsOnce (NameIsAt l.tables) l.sections off (map value values.now)) l.cached

@@ -35,8 +35,8 @@ add_array-requires-clause-room c =
     let b = (c.loop-off.invariant.0 c.requires.arrays.0 c.requires.arrays.1 c.requires.arrays.2).laying.bound in
     omega (arith, b, c.requires.arrays.3)
 
-pub add_array-requires-clause-kept : goal.add_array-requires-clause-kept
-add_array-requires-clause-kept c = c.loop-off.invariant.1
+pub add_array-requires-clause-moved : goal.add_array-requires-clause-moved
+add_array-requires-clause-moved c = c.loop-off.invariant.1
 
 pub loop-off-preserved : goal.loop-off-preserved
 loop-off-preserved c = (
@@ -45,7 +45,7 @@ loop-off-preserved c = (
       let n = zip_length (IsCarriedStatics c.args.sections.now c.args.numbers.now s) c.args.offs.now arrays z in
       sharing_next is_empty_list (Shortest (SpellsArray (NameRanks s))) (WritesArray s) 1 wide_array _ _ _ arrays i [] _ _ _ _ _ (array_packs s) (array_one s) (array_most s _) (omega (arith, n, c.loop-off-test.true)) (c.loop-off.invariant.0 s arrays z) c.requires.front
       (c.in_ok-place.ensures.ok s (get_or arrays i []) (zip_at (IsCarriedStatics c.args.sections.now c.args.numbers.now s) c.args.offs.now arrays i [] c.loop-off-test.true z)) c.in_ok-push.ensures.items,
-  c.in_ok-place.ensures.kept,
+  c.in_ok-place.ensures.moved,
 )
 
 pub count-requires : goal.count-requires

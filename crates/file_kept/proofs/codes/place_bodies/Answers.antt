@@ -31,8 +31,8 @@ add_body-requires-clause-body c =
     let b = (c.loop-body.invariant.0 s xs z).0.laying.bound in
     (s, get_or (bodies_alone xs) i None, (carried_at c.args.sections.now c.args.numbers.now s c.args.bodies.now xs i c.loop-body-test.true z).1, omega (arith, w, b, c.requires.bodies.3))
 
-pub add_body-requires-clause-kept : goal.add_body-requires-clause-kept
-add_body-requires-clause-kept c = c.loop-body.invariant.1
+pub add_body-requires-clause-moved : goal.add_body-requires-clause-moved
+add_body-requires-clause-moved c = c.loop-body.invariant.1
 
 pub returns-in_err-place-clause-far : goal.returns-in_err-place-clause-far
 returns-in_err-place-clause-far c =
@@ -61,7 +61,7 @@ loop-body-preserved c = (
             u c.in_ok-push.ensures.items,
         near_more s xs i (0, None) (omega (arith, n.0, c.loop-body-test.true)) (c.loop-body.invariant.0 s xs z).1 (λ f. near_body c.args.sections.now c.args.numbers.now s _ v 4 _ _ _ _ _ x u (subst (IsFar s) (sym (turn_of xs i)) f)),
       ),
-  c.in_ok-place.ensures.kept,
+  c.in_ok-place.ensures.moved,
 )
 
 pub count-requires : goal.count-requires

@@ -17,6 +17,6 @@ unreachable-requires c =
 pub returns-clause-ok : goal.returns-clause-ok
 returns-clause-ok c = λ numbers p k short z.
     let all = c.in-Some.all in
-    let are : AreBytes c.args.sections.now = subst AreBytes c.bytes.ensures.value c.are_bytes.ensures in
+    let are : AreBytes c.args.sections.now = subst AreBytes c.bytes.ensures.value c.are_bytes.ensures.each in
     class_pushed c.args.sections.now numbers p k c.args.i all c.args.bodies.now.items _ _ c.deref.result.now c.deref-2.result.now are c.requires.row (rw c.class_word-data.ensures at (rw c.in-Some.is at c.in_ok-all.ensures.found)) short
     c.deref.ensures.value c.deref-2.ensures.value c.in_ok-push_bodies.ensures.ok c.in_ok-push_bodies-2.ensures.ok z

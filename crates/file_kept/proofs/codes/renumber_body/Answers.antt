@@ -13,4 +13,4 @@ returns-then-fault-eq-HANDLER_TOO_FAR-clause-far c = λ ne. (
 
 pub returns-in-Ok-clause-ok : goal.returns-in-Ok-clause-ok
 returns-in-Ok-clause-ok c = λ s v x.
-    body_item c.args.sections.now c.args.numbers.now s c.args.body.code v c.in-Ok.bytes.items (rw c.deref.ensures.value at c.are_bytes.ensures) x (λ code y. c.in-Ok.ensures.ok s code y)
+    body_item c.args.sections.now c.args.numbers.now s c.args.body.code v c.in-Ok.bytes.items (rw c.deref.ensures.value at c.are_bytes.ensures.each) x (λ code y. c.in-Ok.ensures.ok s code y)

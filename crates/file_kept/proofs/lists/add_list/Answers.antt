@@ -8,7 +8,7 @@ use Rattle.file_kept.proofs.lists.add_list.Goals as goal
 
 pub returns-in-Some-clause-ok : goal.returns-in-Some-clause-ok
 returns-in-Some-clause-ok c = λ s ts x.
-    let m = c.requires.kept c.args.off c.in-Some.place c.in-Some.ensures in
+    let m = c.requires.moved c.args.off c.in-Some.place c.in-Some.ensures in
     item_again is_empty_list (SpellsRanks s) 4 c.args.moved.now.items c.args.out.now.items m.0 ts c.in-Some.place (m.1 s ts x) m.2
 
 pub renumber_list-requires : goal.renumber_list-requires
@@ -25,7 +25,7 @@ put_aligned-requires c = record {
 pub returns-clause-ok : goal.returns-clause-ok
 returns-clause-ok c = λ s ts x. item_used is_empty_list (SpellsRanks s) 4 _ _ _ _ c.in_ok-bytes.bytes.items ts _ (c.in_ok-bytes.ensures.ok s ts x) c.in_ok-put_aligned.ensures.ok
 
-pub returns-clause-kept : goal.returns-clause-kept
-returns-clause-kept c =
-    moved_more (WritesList c.args.sections.now c.args.numbers.now) 4 c.args.moved.now.items c.put_aligned.new.self.items _ _ c.in_ok-bytes.bytes.items c.args.off _ c.args.moved.now.places c.put_aligned.new.self.places c.requires.kept c.in_ok-bytes.ensures.ok
-    c.in_ok-put_aligned.ensures.ok c.in_ok-put_aligned.ensures.kept
+pub returns-clause-moved : goal.returns-clause-moved
+returns-clause-moved c =
+    moved_more (WritesList c.args.sections.now c.args.numbers.now) 4 c.args.moved.now.items c.put_aligned.new.self.items _ _ c.in_ok-bytes.bytes.items c.args.off _ c.args.moved.now.places c.put_aligned.new.self.places c.requires.moved c.in_ok-bytes.ensures.ok
+    c.in_ok-put_aligned.ensures.ok c.in_ok-put_aligned.ensures.moved

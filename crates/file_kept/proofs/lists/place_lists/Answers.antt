@@ -31,8 +31,8 @@ add_list-requires-clause-list c =
     let b = (c.loop-off.invariant.0 s lists z).laying.bound in
     (s, get_or lists i [], zip_at (IsCarriedList c.args.sections.now c.args.numbers.now s) c.args.offs.now lists i [] c.loop-off-test.true z, omega (arith, w, b, c.requires.lists.3))
 
-pub add_list-requires-clause-kept : goal.add_list-requires-clause-kept
-add_list-requires-clause-kept c = c.loop-off.invariant.1
+pub add_list-requires-clause-moved : goal.add_list-requires-clause-moved
+add_list-requires-clause-moved c = c.loop-off.invariant.1
 
 pub loop-off-preserved : goal.loop-off-preserved
 loop-off-preserved c = (
@@ -41,7 +41,7 @@ loop-off-preserved c = (
       let n = zip_length (IsCarriedList c.args.sections.now c.args.numbers.now s) c.args.offs.now lists z in
       sharing_next is_empty_list (SpellsRanks s) (SpellsRanks s) 4 wide_list _ _ _ lists i [] _ _ _ _ _ (list_packs s) (list_one s) (list_most s _) (omega (arith, n, c.loop-off-test.true)) (c.loop-off.invariant.0 s lists z) c.requires.front
       (c.in_ok-place.ensures.ok s (get_or lists i []) (zip_at (IsCarriedList c.args.sections.now c.args.numbers.now s) c.args.offs.now lists i [] c.loop-off-test.true z)) c.in_ok-push.ensures.items,
-  c.in_ok-place.ensures.kept,
+  c.in_ok-place.ensures.moved,
 )
 
 pub count-requires : goal.count-requires

@@ -58,4 +58,4 @@ returns-clause-one c =
 pub returns-clause-formed : goal.returns-clause-formed
 returns-clause-formed c =
     let same = c.in_ok-sections.ensures.framed.0 in
-    well_formed c.args.bytes.now c.are_bytes.ensures _ (rw (← same) (means_these _ _ (rw same c.in_ok-sections.ensures.framed.1) c.in_ok-tables.ensures.hold c.in_ok-heads.ensures.hold c.in_ok-classes.ensures.rows))
+    well_formed c.args.bytes.now c.are_bytes.ensures.each _ (rw (← same) (means_these _ _ (rw same c.in_ok-sections.ensures.framed.1) c.in_ok-tables.ensures.hold c.in_ok-heads.ensures.hold c.in_ok-classes.ensures.rows))

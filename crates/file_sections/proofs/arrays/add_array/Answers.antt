@@ -17,6 +17,6 @@ put-requires-clause-some c =
 
 pub returns-clause-ok : goal.returns-clause-ok
 returns-clause-ok c =
-    array_used c.args.ranks.now _ _ _ _ c.args.values.now _ _ (omega arith) (rw c.deref.ensures.value at c.are_bytes.ensures)
+    array_used c.args.ranks.now _ _ _ _ c.args.values.now _ _ (omega arith) (rw c.deref.ensures.value at c.are_bytes.ensures.each)
     (alone (Shortest (SpellsArray (NameRanks c.args.ranks.now))) _ _ (map view.value c.args.values.now) c.new-bytes.ensures.items c.in_ok-put_array.ensures.ok)
     c.in_ok-put.ensures.ok

@@ -14,4 +14,4 @@ put_aligned-requires-clause-room c =
     omega (arith, r, room)
 
 pub returns-in_ok-put_aligned-in-Some-clause-ok : goal.returns-in_ok-put_aligned-in-Some-clause-ok
-returns-in_ok-put_aligned-in-Some-clause-ok c = rw c.in-Some.is (body_used c.args.ranks.now _ _ _ _ (view.code c.in-Some.code.now) _ _ (rw c.in-Some.is at c.requires.can) (rw c.deref.ensures.value at c.are_bytes.ensures) c.in_ok-item-in-Some.ensures.ok c.in_ok-put_aligned-in-Some.ensures.ok)
+returns-in_ok-put_aligned-in-Some-clause-ok c = rw c.in-Some.is (body_used c.args.ranks.now _ _ _ _ (view.code c.in-Some.code.now) _ _ (rw c.in-Some.is at c.requires.can) (rw c.deref.ensures.value at c.are_bytes.ensures.each) c.in_ok-item-in-Some.ensures.ok c.in_ok-put_aligned-in-Some.ensures.ok)

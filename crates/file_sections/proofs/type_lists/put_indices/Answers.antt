@@ -4,7 +4,7 @@ use Rattle.file_sections.proofs.ListLaws.{indices_none, indices_more}
 use Rattle.std.proofs.lemmas.Slice.{pushed}
 use Rattle.base_bytes.specs.Fields.{u16_bytes}
 use Rattle.program_types.specs.Key.{text_key}
-use Rattle.tables_names.specs.Indices.{HasPlace}
+use Rattle.tables_names.specs.Indices.{HasRank}
 use Rattle.file_sections.proofs.type_lists.put_indices.Goals as goal
 use Rattle.base_bytes.proofs.ListFacts.{all_at}
 
@@ -12,7 +12,7 @@ pub loop-ty-init : goal.loop-ty-init
 loop-ty-init c = indices_none _ _
 
 pub type_index-requires : goal.type_index-requires
-type_index-requires c = record { held = all_at (λ t. HasPlace c.args.ranks.now.types (text_key t)) view.desc c.args.types.now c.loop-ty.ty-index _ c.loop-ty-test.true c.requires.held; few = c.requires.few }
+type_index-requires c = record { held = all_at (λ t. HasRank c.args.ranks.now.types (text_key t)) view.desc c.args.types.now c.loop-ty.ty-index _ c.loop-ty-test.true c.requires.held; few = c.requires.few }
 
 pub loop-ty-preserved : goal.loop-ty-preserved
 unfolding u16_bytes

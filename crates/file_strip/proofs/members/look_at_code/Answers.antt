@@ -2,7 +2,7 @@ use Rattle.std.proofs.Common.{sym, ap, ◌∙◌, subst, Option}
 use Rattle.program_types.specs.Content.{Code}
 use Rattle.program_types.specs.Mentions.{if_any, names_of_code}
 use Rattle.tables_names.specs.Closure.{with_names}
-use Rattle.tables_rows.proofs.KeptLaws.{kept_more}
+use Rattle.tables_rows.proofs.CachedLaws.{cached_more}
 use Rattle.file_assemble.specs.file_limits_Wide.{wide_body}
 use Rattle.file_strip.specs.Survey.{AreFound, CodeIsFound, FindsNames}
 use Rattle.file_strip.proofs.FoundLaws.{arrays_stay, code_is_found, code_there, codes_stay, finds_held}
@@ -27,7 +27,7 @@ returns-clause-found c = λ code at s a.
     let found = names_of_code st.some in
     subst (λ (o : Option Code). AreFound b (record { marks = c.mark_code.new.marks; codes = c.insert.new.self; arrays = c.args.found.now.arrays; section = c.args.found.now.section }) (with_names s (if_any names_of_code o))) (sym st.is) (record {
       marks = c.in_ok-wide.ensures.marked st.some st.stands s a.marks;
-      codes = kept_more (CodeIsFound b (with_names s found)) c.args.found.now.codes c.insert.new.self c.args.off c.in_ok-wide.wide (codes_stay b s found c.args.found.now.codes a.codes)
+      codes = cached_more (CodeIsFound b (with_names s found)) c.args.found.now.codes c.insert.new.self c.args.off c.in_ok-wide.wide (codes_stay b s found c.args.found.now.codes a.codes)
           (code_is_found b s c.args.off c.in_ok-wide.wide st.some a.marks.framed st.stands c.in_ok-wide.ensures.wide) c.in_ok-insert.ensures.updates;
       arrays = arrays_stay b s found c.args.found.now.arrays a.arrays;
       section = a.section;

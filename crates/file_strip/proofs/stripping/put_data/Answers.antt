@@ -43,18 +43,18 @@ overflow_cast-codes_end c =
     let s = and_laid (and_laid (first c.requires.ready c.requires.counts c.requires.front) c.in_ok-lists.ensures.ok) c.in_ok-codes.ensures.ok in
     omega (arith, s.room.small, c.len-codes_end.ensures, c.put_codes.new.out.ok.0)
 
-pub put_texts-requires-clause-front : goal.put_texts-requires-clause-front
-put_texts-requires-clause-front c = (and_laid (and_laid (first c.requires.ready c.requires.counts c.requires.front) c.in_ok-lists.ensures.ok) c.in_ok-codes.ensures.ok).room.some
+pub put_strings-requires-clause-front : goal.put_strings-requires-clause-front
+put_strings-requires-clause-front c = (and_laid (and_laid (first c.requires.ready c.requires.counts c.requires.front) c.in_ok-lists.ensures.ok) c.in_ok-codes.ensures.ok).room.some
 
-pub put_texts-requires-clause-kept : goal.put_texts-requires-clause-kept
-put_texts-requires-clause-kept c =
+pub put_strings-requires-clause-kept : goal.put_strings-requires-clause-kept
+put_strings-requires-clause-kept c =
     let s = and_laid (and_laid (first c.requires.ready c.requires.counts c.requires.front) c.in_ok-lists.ensures.ok) c.in_ok-codes.ensures.ok in
     (s.program, s.ready.keeps, omega (arith, s.room.small))
 
 pub overflow_cast-texts_end : goal.overflow_cast-texts_end
 overflow_cast-texts_end c =
     let s = and_laid (and_laid (and_laid (first c.requires.ready c.requires.counts c.requires.front) c.in_ok-lists.ensures.ok) c.in_ok-codes.ensures.ok) c.in_ok-texts.ensures.ok in
-    omega (arith, s.room.small, c.len-texts_end.ensures, c.put_texts.new.out.ok.0)
+    omega (arith, s.room.small, c.len-texts_end.ensures, c.put_strings.new.out.ok.0)
 
 pub put_arrays-requires-clause-front : goal.put_arrays-requires-clause-front
 put_arrays-requires-clause-front c = (and_laid (and_laid (and_laid (first c.requires.ready c.requires.counts c.requires.front) c.in_ok-lists.ensures.ok) c.in_ok-codes.ensures.ok) c.in_ok-texts.ensures.ok).room.some
@@ -97,13 +97,13 @@ returns-clause-ok c = λ p r.
     let e0 = c.len-tables.ensures ∙ c.args.out.now.ok.0 in
     let e1 = c.len-lists_end.ensures ∙ c.put_lists.new.out.ok.0 in
     let e2 = c.len-codes_end.ensures ∙ c.put_codes.new.out.ok.0 in
-    let e3 = c.len-texts_end.ensures ∙ c.put_texts.new.out.ok.0 in
+    let e3 = c.len-texts_end.ensures ∙ c.put_strings.new.out.ok.0 in
     let e4 = c.len-arrays_end.ensures ∙ c.put_arrays.new.out.ok.0 in
     let e5 = c.len-datas_end.ensures ∙ c.put_datas.new.out.ok.0 in
     let at : Places = record { lists = c.in_ok-lists.lists.places.items; codes = c.in_ok-codes.codes.places.items; texts = c.in_ok-texts.texts.places.items; arrays = c.in_ok-arrays.arrays.places.items; datas = c.in_ok-datas.datas.places.items } in
     let d = rw c.deref.ensures.value at (c.in_ok-datas.ensures.ok p r.keeps) in
     rw (c.part.ensures, c.codes_part.ensures, c.part-2.ensures, c.part-3.ensures, c.part-4.ensures, c.requires.counts p r, e0, e1, e2, e3, e4, e5)
-    (laid s p (room c.args.sections.now c.args.numbers.now p r) c.args.out.now.items c.put_lists.new.out.items c.put_codes.new.out.items c.put_texts.new.out.items c.put_arrays.new.out.items c.put_datas.new.out.items at
+    (laid s p (room c.args.sections.now c.args.numbers.now p r) c.args.out.now.items c.put_lists.new.out.items c.put_codes.new.out.items c.put_strings.new.out.items c.put_arrays.new.out.items c.put_datas.new.out.items at
     (record { lists = c.in_ok-lists.lists.items; codes = c.in_ok-codes.codes.items; texts = c.in_ok-texts.texts.items; arrays = c.in_ok-arrays.arrays.items; datas = c.in_ok-datas.datas.items }) f
     (record {
       lists = c.in_ok-lists.ensures.ok p r.keeps;

@@ -19,7 +19,7 @@ returns-then-is_too_big-clause-refused c = λ ne p m.
     let b = c.args.sections.now in
     let s = c.in_ok-marks.ensures.ok p m.classes in
     let k = keeps_of b c.in_ok-marks.field-0.marks c.number-numbers.result p m s.marks c.number-numbers.ensures in
-    let are = subst (λ (x : List ℕ). AreBytes x) c.bytes.ensures.value c.are_bytes.ensures in
+    let are = subst (λ (x : List ℕ). AreBytes x) c.bytes.ensures.value c.are_bytes.ensures.each in
     subst (λ (e : Fault). IsLowestLimit p e) (sym c.at.ensures) (too_big b p are m ((c.is_too_big.ensures p k s.wide).0 c.if-is_too_big.true))
 
 pub assemble_kept-requires : goal.assemble_kept-requires
@@ -29,7 +29,7 @@ assemble_kept-requires c =
     let m = c.requires.means.1 in
     let s = c.in_ok-marks.ensures.ok p m.classes in
     let k = keeps_of b c.in_ok-marks.field-0.marks c.number-numbers.result p m s.marks c.number-numbers.ensures in
-    let are = subst (λ (x : List ℕ). AreBytes x) c.bytes.ensures.value c.are_bytes.ensures in
+    let are = subst (λ (x : List ℕ). AreBytes x) c.bytes.ensures.value c.are_bytes.ensures.each in
     record { ready = (p, ready_of b c.number-numbers.result p are m k (small_of c.is_too_big.result (wide p) c.if-is_too_big.false (c.is_too_big.ensures p k s.wide).1)) }
 
 pub returns-in_err-assemble_kept-clause-refused : goal.returns-in_err-assemble_kept-clause-refused
@@ -39,7 +39,7 @@ returns-in_err-assemble_kept-clause-refused c =
     let b = c.args.sections.now in
     let s = c.in_ok-marks.ensures.ok p m.classes in
     let k = keeps_of b c.in_ok-marks.field-0.marks c.number-numbers.result p m s.marks c.number-numbers.ensures in
-    let are = subst (λ (x : List ℕ). AreBytes x) c.bytes.ensures.value c.are_bytes.ensures in
+    let are = subst (λ (x : List ℕ). AreBytes x) c.bytes.ensures.value c.are_bytes.ensures.each in
     let small = small_of c.is_too_big.result (wide p) c.if-is_too_big.false (c.is_too_big.ensures p k s.wide).1 in
     let f = c.in_err-assemble_kept.ensures.far ne in
     too_far b p are m _ small f.0 (f.1 p (ready_of b c.number-numbers.result p are m k small)))
@@ -49,7 +49,7 @@ returns-clause-assembled c = λ p m.
     let b = c.args.sections.now in
     let s = c.in_ok-marks.ensures.ok p m.classes in
     let k = keeps_of b c.in_ok-marks.field-0.marks c.number-numbers.result p m s.marks c.number-numbers.ensures in
-    let are = subst (λ (x : List ℕ). AreBytes x) c.bytes.ensures.value c.are_bytes.ensures in
+    let are = subst (λ (x : List ℕ). AreBytes x) c.bytes.ensures.value c.are_bytes.ensures.each in
     let small = small_of c.is_too_big.result (wide p) c.if-is_too_big.false (c.is_too_big.ensures p k s.wide).1 in
     c.in_ok-assemble_kept.ensures.ok p (ready_of b c.number-numbers.result p are m k small)
 
@@ -58,6 +58,6 @@ returns-clause-fits c = λ p m.
     let b = c.args.sections.now in
     let s = c.in_ok-marks.ensures.ok p m.classes in
     let k = keeps_of b c.in_ok-marks.field-0.marks c.number-numbers.result p m s.marks c.number-numbers.ensures in
-    let are = subst (λ (x : List ℕ). AreBytes x) c.bytes.ensures.value c.are_bytes.ensures in
+    let are = subst (λ (x : List ℕ). AreBytes x) c.bytes.ensures.value c.are_bytes.ensures.each in
     let small = small_of c.is_too_big.result (wide p) c.if-is_too_big.false (c.is_too_big.ensures p k s.wide).1 in
     fits_of b p are m (c.in_ok-assemble_kept.ensures.near p (ready_of b c.number-numbers.result p are m k small)) small

@@ -23,13 +23,13 @@ look_at_members-requires-clause-members c =
     let b = c.args.sections.now in
     let k = c.requires.class in
     let e = entries c.in-Some.all in
-    (k.0, subst (λ n. SpellsMembers b e n k.0) (sym c.class_word-values.ensures) (spells_members b c.bytes-file.ensures.framed c.args.i k.0 e k.1 (subst (λ n. EntriesAt b n e) c.class_word-data.ensures (rw c.in-Some.is at c.in_ok-all.ensures.found))))
+    (k.0, subst (λ n. SpellsMembers b e n k.0) (sym c.class_word-values.ensures) (spells_members b c.framed.ensures c.args.i k.0 e k.1 (subst (λ n. EntriesAt b n e) c.class_word-data.ensures (rw c.in-Some.is at c.in_ok-all.ensures.found))))
 
 pub returns-clause-found : goal.returns-clause-found
 returns-clause-found c = λ k s.
     let b = c.args.sections.now in
     let e = entries c.in-Some.all in
-    let m = subst (λ n. SpellsMembers b e n k) (sym c.class_word-values.ensures) (spells_members b c.bytes-file.ensures.framed c.args.i k e s (subst (λ n. EntriesAt b n e) c.class_word-data.ensures (rw c.in-Some.is at c.in_ok-all.ensures.found))) in
+    let m = subst (λ n. SpellsMembers b e n k) (sym c.class_word-values.ensures) (spells_members b c.framed.ensures c.args.i k e s (subst (λ n. EntriesAt b n e) c.class_word-data.ensures (rw c.in-Some.is at c.in_ok-all.ensures.found))) in
     let mid : Found = (record c.args.found.now { marks = c.mark_head.new.marks }) in
     subst (λ (ns : List Name). FindsNames b c.args.found.now c.look_at_members.new.found ns) (class_names k)
     (finds_more b c.args.found.now mid c.look_at_members.new.found (names_of_head k) (names_of_members k)
@@ -39,7 +39,7 @@ pub returns-clause-wide : goal.returns-clause-wide
 returns-clause-wide c = λ k s.
     let b = c.args.sections.now in
     let e = entries c.in-Some.all in
-    let m = subst (λ n. SpellsMembers b e n k) (sym c.class_word-values.ensures) (spells_members b c.bytes-file.ensures.framed c.args.i k e s (subst (λ n. EntriesAt b n e) c.class_word-data.ensures (rw c.in-Some.is at c.in_ok-all.ensures.found))) in
+    let m = subst (λ n. SpellsMembers b e n k) (sym c.class_word-values.ensures) (spells_members b c.framed.ensures c.args.i k e s (subst (λ n. EntriesAt b n e) c.class_word-data.ensures (rw c.in-Some.is at c.in_ok-all.ensures.found))) in
     let list = c.list_size-interfaces.ensures k.interfaces (subst (λ n. TypesAt b n k.interfaces) (sym c.class_word.ensures) s.head.interfaces.types) in
     subst (λ (n : ℕ). IsSum c.plus-2.result n) (omega arith)
     (c.plus-2.ensures (32 + wide_list k.interfaces) (wide_members k) (c.plus.ensures 32 (wide_list k.interfaces) (inl refl) list) (c.in_ok-members.ensures.wide k m))

@@ -4,7 +4,7 @@ use Rattle.std.proofs.lemmas.List.{take_all}
 use Rattle.program_types.specs.Content.{Program}
 use Rattle.program_types.specs.Mentions.{names_of_class}
 use Rattle.tables_names.specs.Closure.{Five, nothing, with_names}
-use Rattle.tables_rows.proofs.KeptLaws.{kept_none}
+use Rattle.tables_rows.proofs.CachedLaws.{cached_none}
 use Rattle.file_kept.specs.Marked.{AreMarks}
 use Rattle.file_layout.specs.Sections.{wide_all}
 use Rattle.file_assemble.specs.Sum.{IsSum}
@@ -15,7 +15,7 @@ use Rattle.file_strip.proofs.survey.look_at_classes.Goals as goal
 
 pub loop-i-init : goal.loop-i-init
 loop-i-init c = record {
-  found = λ p rows. record { marks = c.in_ok-new.ensures.none; codes = kept_none (CodeIsFound c.args.sections.now nothing) c.new-2.result c.new-2.ensures.empty; arrays = kept_none (ArrayIsFound c.args.sections.now nothing) c.new-3.result c.new-3.ensures.empty; section = c.section_of.ensures.value };
+  found = λ p rows. record { marks = c.in_ok-new.ensures.none; codes = cached_none (CodeIsFound c.args.sections.now nothing) c.new-2.result c.new-2.ensures.empty; arrays = cached_none (ArrayIsFound c.args.sections.now nothing) c.new-3.result c.new-3.ensures.empty; section = c.section_of.ensures.value };
   wide = λ p rows. inl refl;
 }
 

@@ -2,7 +2,7 @@ use Rattle.std.proofs.Common.{sym}
 use Rattle.std.specs.List.{flat_map}
 use Rattle.program_types.specs.Mentions.{names_of_value}
 use Rattle.tables_names.specs.Closure.{with_names}
-use Rattle.tables_rows.proofs.KeptLaws.{kept_more}
+use Rattle.tables_rows.proofs.CachedLaws.{cached_more}
 use Rattle.file_strip.specs.Survey.{ArrayIsFound}
 use Rattle.file_strip.proofs.FoundLaws.{array_is_found, array_there, arrays_stay, codes_stay, finds_held}
 use Rattle.file_strip.proofs.survey.look_at_values.Goals as goal
@@ -25,7 +25,7 @@ returns-clause-found c = λ most vs at s a.
     record {
       marks = c.in_ok-wide.ensures.marked most vs st s a.marks;
       codes = codes_stay b s found c.args.found.now.codes a.codes;
-      arrays = kept_more (ArrayIsFound b (with_names s found)) c.args.found.now.arrays c.insert.new.self c.args.off c.in_ok-wide.wide (arrays_stay b s found c.args.found.now.arrays a.arrays)
+      arrays = cached_more (ArrayIsFound b (with_names s found)) c.args.found.now.arrays c.insert.new.self c.args.off c.in_ok-wide.wide (arrays_stay b s found c.args.found.now.arrays a.arrays)
           (array_is_found b s c.args.off c.in_ok-wide.wide most vs a.marks.framed st c.in_ok-wide.ensures.wide) c.in_ok-insert.ensures.updates;
       section = a.section;
     }

@@ -14,7 +14,7 @@ returns-clause-ok c =
     let m = c.in_ok-check_framed.ensures.means.1 in
     let meant = subst (λ x. Means x p) c.in_ok-sections.ensures.framed.0 m in
     let fits = c.in_ok-strip_framed.ensures.fits p m in
-    stripped b c.in_ok-strip_framed.field-0.items p meant fits (file_of c.in_ok-strip_framed.field-0.items p (law.well_formed b c.are_bytes.ensures p meant) fits (c.in_ok-strip_framed.ensures.assembled p m))
+    stripped b c.in_ok-strip_framed.field-0.items p meant fits (file_of c.in_ok-strip_framed.field-0.items p (law.well_formed b c.are_bytes.ensures.each p meant) fits (c.in_ok-strip_framed.ensures.assembled p m))
 
 pub returns-in_err-check_framed-clause-only : goal.returns-in_err-check_framed-clause-only
 returns-in_err-check_framed-clause-only c = λ p m fits.
@@ -33,4 +33,4 @@ returns-in_err-strip_framed-clause-refused c =
     let b = c.args.bytes.now in
     let p = c.in_ok-check_framed.ensures.means.0 in
     let m = c.in_ok-check_framed.ensures.means.1 in
-    passed _ _ _ c.from_residual-in_err-strip_framed.ensures.1 (late_limit b p c.are_bytes.ensures (subst (λ x. Means x p) c.in_ok-sections.ensures.framed.0 m) _ (λ ne. c.in_err-strip_framed.ensures.refused ne p m))
+    passed _ _ _ c.from_residual-in_err-strip_framed.ensures.1 (late_limit b p c.are_bytes.ensures.each (subst (λ x. Means x p) c.in_ok-sections.ensures.framed.0 m) _ (λ ne. c.in_err-strip_framed.ensures.refused ne p m))

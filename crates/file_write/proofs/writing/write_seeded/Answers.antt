@@ -5,7 +5,7 @@ use Rattle.file_write.proofs.writing.write_seeded.Goals as goal
 use Rattle.base_bytes.proofs.ListFacts.{passed}
 
 pub returns-clause-file : goal.returns-clause-file
-returns-clause-file c = file_of c.in_ok-assemble.field-0.items (view.program c.args.program.now) c.requires.kept c.in_ok-assemble.ensures.fits c.in_ok-assemble.ensures.assembled
+returns-clause-file c = file_of c.in_ok-assemble.field-0.items (view.program c.args.program.now) c.requires.formed c.in_ok-assemble.ensures.fits c.in_ok-assemble.ensures.assembled
 
 pub returns-in_err-assemble-clause-only : goal.returns-in_err-assemble-clause-only
 returns-in_err-assemble-clause-only c = λ fits.

@@ -4,7 +4,7 @@ use Rattle.program_types.specs.View.{str, desc}
 use Rattle.tables_rows.specs.Known.{IsKnown}
 use Rattle.tables_rows.specs.Stands.{StringStands, TypeStands}
 use Rattle.tables_rows.specs.TableFaults.{ParametersAt, ParameterList, Shorty}
-use Rattle.tables_rows.proofs.KeptLaws.{kept_more}
+use Rattle.tables_rows.proofs.CachedLaws.{cached_more}
 use Rattle.tables_rows.proofs.RowReading.{string_one}
 use Rattle.tables_rows.specs.RowFields.{proto_shorty}
 use Rattle.tables_rows.proofs.proto_ids.read_proto.Goals as goal
@@ -46,11 +46,11 @@ returns-then-known-shorty-clause-ok c =
       shorty = subst (λ s. StringStands b (proto_shorty b c.args.i) s) (text ∙ ap (λ n. n ∷ map letter_of (map desc c.in-Some-2.known.params.now)) (c.if-known-first.true ∙ c.letter-first.ensures)) (subst (λ n. StringStands b n (str c.in-Some.text)) c.proto_shorty-shorty.ensures c.in-Some.ensures.some);
     }
 
-pub returns-clause-kept : goal.returns-clause-kept
-returns-clause-kept c =
+pub returns-clause-cached : goal.returns-clause-cached
+returns-clause-cached c =
     let b = c.args.sections.now in
     let found = rw c.in-Some-2.is at c.in_ok-known.ensures.found in
-    kept_more (IsKnown b) c.args.kept.now c.insert.new.self c.proto_parameters-off.result (record { params = c.in-Some-2.known.params; letter = c.letter-first.result; shorty = c.proto_shorty-shorty.result }) c.requires.kept (record {
+    cached_more (IsKnown b) c.args.cached.now c.insert.new.self c.proto_parameters-off.result (record { params = c.in-Some-2.known.params; letter = c.letter-first.result; shorty = c.proto_shorty-shorty.result }) c.requires.cached (record {
       list = found.list;
       fits = λ text at. string_one b c.proto_shorty-shorty.result text (str c.in-Some.text) c.requires.framed at c.in-Some.ensures.some ∙ c.if-not-is_shorty.ensures.0 refl ∙ ap (λ n. n ∷ map letter_of (map desc c.in-Some-2.known.params.now)) (sym c.letter-first.ensures);
     }) c.in_ok-insert.ensures.updates

@@ -1,5 +1,5 @@
 use Rattle.std.proofs.Common.{arith, rules}
-use Rattle.tables_rows.proofs.KeptLaws.{kept_none}
+use Rattle.tables_rows.proofs.CachedLaws.{cached_none}
 use Rattle.std.proofs.lemmas.Grind.{common_steps}
 use Rattle.std.proofs.lemmas.List.{map-append}
 use Rattle.program_types.specs.View.{proto}
@@ -15,12 +15,12 @@ returns-in_err-proto-clause-err c =
     passed _ _ _ c.from_residual-in_err-proto.ensures.1 (λ ne. first_row ProtoBreaks ProtoHolds c.args.sections.now 2 c.loop-i.i _ (let t = c.table-count.ensures in let lt = c.loop-i-test.true in grind (arith, common_steps)) c.loop-i.invariant.0.hold (c.in_err-proto.ensures.err ne))
 
 pub loop-i-init : goal.loop-i-init
-loop-i-init c = (search rules, kept_none _ c.new-kept.result c.new-kept.ensures.empty)
+loop-i-init c = (search rules, cached_none _ c.new-cached.result c.new-cached.ensures.empty)
 
 pub loop-i-preserved : goal.loop-i-preserved
 loop-i-preserved c = (
   rw (c.in_ok-push.ensures.items, map-append) (first_more ProtoStands ProtoHolds c.args.sections.now c.loop-i.i _ (proto c.in_ok-proto.proto) c.loop-i.invariant.0 c.in_ok-proto.ensures.ok c.in_ok-proto.ensures.holds),
-  c.in_ok-proto.ensures.kept,
+  c.in_ok-proto.ensures.cached,
 )
 
 pub returns-clause-rows : goal.returns-clause-rows

@@ -1,6 +1,6 @@
 use Rattle.std.proofs.Common.{map}
 use Rattle.program_types.specs.View.{proto}
-use Rattle.tables_rows.specs.Kept.{AreKept}
+use Rattle.tables_rows.specs.Cached.{AreCached}
 use Rattle.tables_rows.specs.Known.{IsKnown}
 use Rattle.tables_rows.specs.Reading.{AreFirst}
 use Rattle.tables_rows.specs.Sorted.{ProtoHolds}
@@ -8,4 +8,4 @@ use Rattle.tables_rows.specs.Stands.{ProtoStands}
 use Rattle.tables_rows.proofs.proto_ids.read_protos.Given as goal
 
 abbrev pub invariant-loop-i : goal.invariant-loop-i
-invariant-loop-i l = AreFirst ProtoStands ProtoHolds l.sections l.i (map proto l.protos.items) × AreKept (IsKnown l.sections) l.kept
+invariant-loop-i l = AreFirst ProtoStands ProtoHolds l.sections l.i (map proto l.protos.items) × AreCached (IsKnown l.sections) l.cached

@@ -16,8 +16,8 @@ pub returns-in_err-number-clause-partly : goal.returns-in_err-number-clause-part
 returns-in_err-number-clause-partly c =
     rw (← c.self.view_is) (refused c.from_residual.result (parts_alone (sets c.self.inside.numbered.names) (sets c.add_name.new.self.names) (name c.args.name) c.in_err-number.ensures.partly))
 
-pub returns-in_err-number-clause-kept : goal.returns-in_err-number-clause-kept
-returns-in_err-number-clause-kept c =
+pub returns-in_err-number-clause-stays : goal.returns-in_err-number-clause-stays
+returns-in_err-number-clause-stays c =
     rw (← c.self.view_is)
     (refused c.from_residual.result (λ names so_far. noted_still c.self.inside.numbered.names c.add_name.new.self.names names c.self.inside.numbers.items c.add_name.ensures.grows so_far))
 
@@ -25,7 +25,7 @@ pub returns-in_err-push-clause-partly : goal.returns-in_err-push-clause-partly
 returns-in_err-push-clause-partly c =
     rw (← c.self.view_is, c.in_ok-number.ensures.added) (refused c.from_residual-in_err-push.result (name_alone (sets c.self.inside.numbered.names) (name c.args.name)))
 
-pub returns-in_err-push-clause-kept : goal.returns-in_err-push-clause-kept
-returns-in_err-push-clause-kept c =
+pub returns-in_err-push-clause-stays : goal.returns-in_err-push-clause-stays
+returns-in_err-push-clause-stays c =
     rw (← c.self.view_is, c.in_err-push.ensures.items)
     (refused c.from_residual-in_err-push.result (λ names so_far. noted_still c.self.inside.numbered.names c.add_name.new.self.names names c.self.inside.numbers.items c.add_name.ensures.grows so_far))

@@ -54,8 +54,8 @@ returns-clause-marked c = λ ts at s a.
     let marked : AreMarks b c.loop-j.self (with_names s (map OfDesc ts)) = subst (λ (us : List Units). AreMarks b c.loop-j.self (with_names s (map OfDesc us))) whole (c.loop-j.invariant ts at s a) in
     list_marked b _ s c.args.off ts _ c.in_ok-insert.ensures.keys at (subst (λ (m : Marked). AreMarks b m (with_names s (map OfDesc ts))) (sym c.self-2.view_is) marked)
 
-pub returns-in_err-insert-clause-kept : goal.returns-in_err-insert-clause-kept
-returns-in_err-insert-clause-kept c =
+pub returns-in_err-insert-clause-stays : goal.returns-in_err-insert-clause-stays
+returns-in_err-insert-clause-stays c =
     let s = with_names c.requires.marks.0 (map OfDesc (take c.loop-j.j c.requires.list.0)) in
     let marked : AreMarks c.args.sections.now c.loop-j.self s = c.loop-j.invariant c.requires.list.0 c.requires.list.1 c.requires.marks.0 c.requires.marks.1 in
     refused c.from_residual.result (s, same_lists c.args.sections.now _ s c.insert.new.self.keys c.in_err-insert.ensures.err (subst (λ (m : Marked). AreMarks c.args.sections.now m s) (sym c.self-2.view_is) marked))

@@ -1,8 +1,0 @@
--- What is decoded of a file, kept by the byte offset at which it stands.
--- Page: "Dalvik Executable format": items that several rows refer to.
-use Rattle.std.specs.Prelude.{◌≡◌, ℕ, nat_eq, Some}
-use Rattle.indexmap.specs.IndexMap.{IndexMap, get}
-
--- Each value that is kept is one that stands at its offset.
-abbrev pub AreKept : {V S : Type 0} → (ℕ → V → Type 0) → IndexMap ℕ V S → Type 0
-AreKept {V} Stands kept = (off : ℕ) (v : V) → get nat_eq kept off ≡ Some v → Stands off v
