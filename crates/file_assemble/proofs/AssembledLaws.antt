@@ -16,7 +16,7 @@ use Rattle.program_types.specs.Content.{Class, Program}
 use Rattle.program_types.specs.Key.{Key}
 use Rattle.file_sections.specs.Rows.{SpellsFieldRow, SpellsMethodRow, SpellsProtoRow, SpellsProtos, SpellsTable, SpellsTypeRow}
 use Rattle.file_sections.specs.Data.{has_no_members, with_code_places}
-use Rattle.file_sections.proofs.SitedLaws.{length-sited}
+use Rattle.file_sections.proofs.file_parts_SitedLaws.{length-sited}
 use Rattle.file_sections.specs.ClassDefs.{ClassWithPlaces, SpellsClassRow}
 use Rattle.file_sections.proofs.ClassRowLaws.{length-seated}
 use Rattle.file_assemble.specs.Assembled.{Assembled, DataIsLaid, DataLies, Places, SpellsTables, rows_of}

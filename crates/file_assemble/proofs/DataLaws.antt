@@ -14,7 +14,7 @@ use Rattle.program_types.specs.Content.{Program}
 use Rattle.file_sections.specs.Codes.{PacksBody, is_bodiless}
 use Rattle.file_sections.specs.Data.{PacksData, has_no_members, with_code_places, wide_with_codes}
 use Rattle.file_sections.specs.Lists.{SpellsRanks}
-use Rattle.file_sections.proofs.SitedLaws.{room_of_sited}
+use Rattle.file_sections.proofs.file_parts_SitedLaws.{room_of_sited}
 use Rattle.file_sections.specs.Spelling.{SpellsArray}
 use Rattle.file_sections.specs.dex_value_Wide.{wide_array}
 use Rattle.file_assemble.specs.Assembled.{Places, DataLies, DataIsLaid, StandOnce, rows_of}

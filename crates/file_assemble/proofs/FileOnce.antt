@@ -32,7 +32,7 @@ use Rattle.file_sections.proofs.ArrayOnce.{array_once}
 use Rattle.file_sections.proofs.CodeOnce.{code_once}
 use Rattle.file_sections.proofs.RowsOnce.{name_rows_once, class_rows_once}
 use Rattle.file_sections.proofs.DataOnce.{data_once}
-use Rattle.file_sections.proofs.ListLaws.{lists_once}
+use Rattle.file_sections.proofs.file_parts_ListLaws.{lists_once}
 use Rattle.file_assemble.proofs.BodyLaws.{bodies_formed}
 use Rattle.base_bytes.proofs.ListFacts.{all_of}
 

@@ -9,20 +9,14 @@ pub mod FileOnce
 -- What stands below, for the crates above.
 pub use Rattle.file_sections.proofs.Carrying
 pub use Rattle.file_sections.proofs.FrontLaws
-pub use Rattle.file_sections.proofs.code_read_CodeLaws
+pub use Rattle.file_sections.proofs.code_read_CodeLaws as CodeLaws
 pub use Rattle.file_sections.proofs.DistinctLaws
 pub use Rattle.file_sections.proofs.PackedLaws
 pub use Rattle.file_sections.proofs.RankLaws
 pub use Rattle.file_sections.proofs.EntryLaws
 pub use Rattle.file_sections.proofs.MemberLaws
 pub use Rattle.file_sections.proofs.OnceLaws as file_classes_OnceLaws
-pub use Rattle.file_sections.proofs.AtLaws
-pub use Rattle.file_sections.proofs.ClassRowLaws
 pub use Rattle.file_sections.proofs.LimitLaws
 pub use Rattle.file_sections.proofs.OneLimit
 pub use Rattle.file_sections.proofs.PartLaws
 pub use Rattle.file_sections.proofs.SumLaws
-pub use Rattle.file_sections.proofs.CodeLaws as file_sections_CodeLaws
-pub use Rattle.file_sections.proofs.DataLaws as file_sections_DataLaws
-pub use Rattle.file_sections.proofs.ListLaws
-pub use Rattle.file_sections.proofs.SitedLaws

@@ -14,12 +14,7 @@ pub use Rattle.file_sections.specs.Classes
 pub use Rattle.file_sections.specs.Reading
 pub use Rattle.file_sections.specs.declared_FieldEntry
 pub use Rattle.file_sections.specs.declared_MethodEntry
-pub use Rattle.file_sections.specs.ClassDefs
-pub use Rattle.file_sections.specs.Rows
 pub use Rattle.file_sections.specs.Limits
 pub use Rattle.file_sections.specs.Sum
 pub use Rattle.file_sections.specs.file_limits_Wide
-pub use Rattle.file_sections.specs.Codes
-pub use Rattle.file_sections.specs.Data
-pub use Rattle.file_sections.specs.Lists
 pub use Rattle.file_sections.specs.Named

@@ -15,10 +15,15 @@ pub mod MeantLaws
 pub mod OneFault
 -- What stands below, for the crates above.
 pub use Rattle.tables_rows.proofs.HalvesLaws
+pub use Rattle.dex_value.proofs.ArrayOnce
 pub use Rattle.dex_value.proofs.ArraysDecided
 pub use Rattle.dex_value.proofs.Carrying
 pub use Rattle.dex_value.proofs.FileFaults
+pub use Rattle.dex_value.proofs.Fitting
+pub use Rattle.dex_value.proofs.FrontLaws
+pub use Rattle.dex_value.proofs.Lengths
 pub use Rattle.dex_value.proofs.Narrow
+pub use Rattle.dex_value.proofs.Places
 pub use Rattle.dex_value.proofs.Ranges
 pub use Rattle.code_read.proofs.PlainLaws
 pub use Rattle.code_read.proofs.CarryLaws

@@ -7,8 +7,11 @@ pub mod Reading
 pub mod Cached
 -- What stands below, for the crates above.
 pub use Rattle.tables_rows.specs.Stands
+pub use Rattle.dex_value.specs.Named
 pub use Rattle.dex_value.specs.Spelling
 pub use Rattle.dex_value.specs.Standing
+pub use Rattle.dex_value.specs.Unique
+pub use Rattle.dex_value.specs.Wide
 pub use Rattle.dex_value.specs.Writing
 pub use Rattle.code_read.specs.Symbols
 pub use Rattle.code_read.specs.Code

@@ -12,8 +12,8 @@ use Rattle.code_renumber.proofs.PackedLaws.{packed-spells}
 use Rattle.code_renumber.specs.Carried.{IsCarriedCode}
 use Rattle.dex_insn.specs.declared.opcode.IndexKind.TheVariants as kind
 use Rattle.file_least.specs.AtLeast.{FitsButHandlers}
-use Rattle.file_sections.specs.Codes.{WritesBody, is_bodiless}
-use Rattle.file_sections.proofs.CodeLaws.{packed_room}
+use Rattle.file_parts.specs.Codes.{WritesBody, is_bodiless}
+use Rattle.file_parts.proofs.CodeLaws.{packed_room}
 use Rattle.file_shared.specs.Once.{Entry}
 use Rattle.file_shared.specs.Sharing.{UsesItem}
 use Rattle.program_types.specs.Content.{Code}

@@ -7,10 +7,10 @@ use Rattle.std.proofs.lemmas.Option.{slice_get_within}
 use Rattle.base_bytes.specs.Grammar.{Appends, Each}
 use Rattle.base_bytes.specs.Words.{words_bytes}
 use Rattle.base_bytes.proofs.GrammarLaws.{Each-appends_more, Each-appends_none}
-use Rattle.file_sections.specs.ClassRows.{IndexOrNone, no_index, class_word}
+use Rattle.file_parts.specs.ClassRows.{IndexOrNone, no_index, class_word}
 use Rattle.file_needed.proofs.ClassNames.{type_named, source_named}
-use Rattle.file_sections.specs.ClassDefs.{ClassWithPlaces, SpellsClassRow, StringRanks, TypeRanks, all_but_first, with_places}
-use Rattle.file_sections.proofs.ClassRowLaws.{length-seated, first_of, others_of, rank_or_none}
+use Rattle.file_parts.specs.ClassDefs.{ClassWithPlaces, SpellsClassRow, StringRanks, TypeRanks, all_but_first, with_places}
+use Rattle.file_parts.proofs.ClassRowLaws.{length-seated, first_of, others_of, rank_or_none}
 use Rattle.program_types.specs.Content.{Class, Program, Units, Name, OfDesc, OfText}
 use Rattle.program_types.specs.Key.{text_key}
 use Rattle.program_types.specs.Mentions.{names_of_class, if_any}

@@ -4,8 +4,8 @@ use Rattle.std.specs.Prelude.{◌⊎◌}
 use Rattle.std.specs.Option.{option_to_list}
 use Rattle.std.proofs.lemmas.List.{map-append}
 use Rattle.code_renumber.specs.Fits.{CodeBreaksLimit}
-use Rattle.file_sections.specs.Limits.{ClassBreaksLimit, IsFirstToBreak, SomeBreaks, codes_in, codes_of}
-use Rattle.file_sections.specs.file_limits_Wide.{bodies_in, bodies_of}
+use Rattle.file_parts.specs.Limits.{ClassBreaksLimit, IsFirstToBreak, SomeBreaks, codes_in, codes_of}
+use Rattle.file_parts.specs.file_limits_Wide.{bodies_in, bodies_of}
 use Rattle.program_types.specs.Content.{Class, Code, Method, Program}
 use Rattle.tables_names.specs.Closure.{Five, NameRanks}
 use Rattle.file_kept.specs.Bodies.{AreNear, IsFar, IsFirstFar, numbered}

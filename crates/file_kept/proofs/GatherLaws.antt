@@ -8,19 +8,19 @@ use Rattle.base_bytes.specs.Fields.{AreBytes}
 use Rattle.code_renumber.proofs.HandlerOnce.{ranks-injective}
 use Rattle.code_renumber.proofs.CodesFormed.{standing-formed}
 use Rattle.dex_container.specs.Layout.{size_of}
-use Rattle.file_sections.specs.ClassData.{Entries, EntriesAt}
-use Rattle.file_sections.specs.Classes.{CodeAt, CodesAre, SomeCodeStands}
-use Rattle.file_sections.specs.ClassRows.{class_word}
-use Rattle.file_sections.specs.Reading.{entries, method_entry}
-use Rattle.file_sections.specs.declared_Entries as held
-use Rattle.file_sections.specs.declared_MethodEntry as held_method
-use Rattle.file_sections.proofs.EntryLaws.{entries_one}
-use Rattle.file_sections.proofs.OnceLaws.{class_one}
+use Rattle.file_parts.specs.ClassData.{Entries, EntriesAt}
+use Rattle.file_parts.specs.Classes.{CodeAt, CodesAre, SomeCodeStands}
+use Rattle.file_parts.specs.ClassRows.{class_word}
+use Rattle.file_parts.specs.Reading.{entries, method_entry}
+use Rattle.file_parts.specs.declared_Entries as held
+use Rattle.file_parts.specs.declared_MethodEntry as held_method
+use Rattle.file_parts.proofs.EntryLaws.{entries_one}
+use Rattle.file_parts.proofs.OnceLaws.{class_one}
 use Rattle.file_least.specs.AtLeast.{AreNoFurther}
 use Rattle.file_least.proofs.StandingFits.{codes-fit}
 use Rattle.file_layout.specs.Sections.{wide_all}
-use Rattle.file_sections.specs.file_limits_Wide.{bodies_in, bodies_of, body_values, wide_body}
-use Rattle.file_sections.proofs.SumLaws.{wide_all_append}
+use Rattle.file_parts.specs.file_limits_Wide.{bodies_in, bodies_of, body_values, wide_body}
+use Rattle.file_parts.proofs.SumLaws.{wide_all_append}
 use Rattle.file_needed.proofs.ClassNames.{directs_kept, virtuals_kept}
 use Rattle.file_needed.proofs.Steps.{left, right}
 use Rattle.program_types.specs.Content.{Class, Code, Descriptor, Method, Name, OfDesc, OfField, OfMethod, OfText, Program}

@@ -26,10 +26,10 @@ use Rattle.tables_rows.proofs.HalvesLaws.{list_or_none_one}
 use Rattle.tables_rows.proofs.TypeLists.{indexes_of}
 use Rattle.file_layout.proofs.SectionLaws.{not_none}
 use Rattle.file_layout.specs.Sections.{is_empty_list}
-use Rattle.file_sections.specs.file_limits_Wide.{list_values, params_of, wide_list}
+use Rattle.file_parts.specs.file_limits_Wide.{list_values, params_of, wide_list}
 use Rattle.file_needed.proofs.ClassNames.{interfaces_named}
-use Rattle.file_sections.specs.Lists.{AddsIndices, SpellsRanks}
-use Rattle.file_sections.proofs.ListLaws.{list_some, halves_push}
+use Rattle.file_parts.specs.Lists.{AddsIndices, SpellsRanks}
+use Rattle.file_parts.proofs.ListLaws.{list_some, halves_push}
 use Rattle.file_kept.specs.Keeping.{Keeps}
 use Rattle.file_kept.specs.Lists.{AreCarriedLists, AreFirstLists, AreRanked, IsCarriedList}
 use Rattle.file_kept.specs.Moved.{IsItem}

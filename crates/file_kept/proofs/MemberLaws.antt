@@ -8,13 +8,13 @@ use Rattle.base_bytes.specs.Grammar.{Appends, Each}
 use Rattle.base_bytes.specs.Leb128.{Spells, Shortest}
 use Rattle.base_bytes.proofs.GrammarLaws.{Each-push}
 use Rattle.dex_container.specs.Layout.{size_of}
-use Rattle.file_sections.specs.ClassData.{Entries, FieldEntry, MethodEntry, SpellsFieldEntry, SpellsMethodEntry, EntriesAre, steps, index_of}
-use Rattle.file_sections.specs.Classes.{IsField, IsMethod, MembersAre}
+use Rattle.file_parts.specs.ClassData.{Entries, FieldEntry, MethodEntry, SpellsFieldEntry, SpellsMethodEntry, EntriesAre, steps, index_of}
+use Rattle.file_parts.specs.Classes.{IsField, IsMethod, MembersAre}
 use Rattle.file_needed.proofs.ClassNames.{statics_named, instances_named, directs_kept, virtuals_kept}
 use Rattle.file_needed.proofs.Steps.{right}
-use Rattle.file_sections.specs.Data.{FieldRanks, MethodRanks, code_offs}
-use Rattle.file_sections.specs.Growing.{AddsFields, AddsMethods}
-use Rattle.file_sections.proofs.RunLaws.{total, total_push, no_run, run_push}
+use Rattle.file_parts.specs.Data.{FieldRanks, MethodRanks, code_offs}
+use Rattle.file_parts.specs.Growing.{AddsFields, AddsMethods}
+use Rattle.file_parts.proofs.RunLaws.{total, total_push, no_run, run_push}
 use Rattle.program_types.specs.Content.{Class, Descriptor, Member, Method, Name, Program}
 use Rattle.program_types.specs.Mentions.{field_of_class, names_of_method}
 use Rattle.tables_names.specs.Closure.{Five, Holds, NameRanks, method_of_class}
@@ -25,7 +25,7 @@ use Rattle.tables_numbers.proofs.RankLemmas.{kept_rows_are_held}
 use Rattle.file_kept.specs.Keeping.{Keeps}
 use Rattle.file_kept.specs.Members.{AreCarriedMembers, IsCarriedRun}
 use Rattle.file_kept.proofs.KeepLaws.{number_is, numbers_long, numbers_rise, carried, class_holds}
-use Rattle.file_sections.proofs.EntryLaws.{entry_at}
+use Rattle.file_parts.proofs.EntryLaws.{entry_at}
 
 -- ---- lists by index
 

@@ -5,20 +5,20 @@ use Rattle.std.specs.List.{flat_map}
 use Rattle.std.proofs.lemmas.List.{take_more, take_all, drop_more, drop_all}
 use Rattle.base_bytes.specs.Grammar.{Appends}
 use Rattle.base_bytes.specs.Leb128.{Spells, Shortest}
-use Rattle.file_sections.specs.ClassData.{Entries, EntriesAt, SpellsCounts}
-use Rattle.file_sections.specs.Classes.{MembersAre}
-use Rattle.file_sections.specs.ClassRows.{class_word}
-use Rattle.file_sections.proofs.EntryLaws.{entries_one}
+use Rattle.file_parts.specs.ClassData.{Entries, EntriesAt, SpellsCounts}
+use Rattle.file_parts.specs.Classes.{MembersAre}
+use Rattle.file_parts.specs.ClassRows.{class_word}
+use Rattle.file_parts.proofs.EntryLaws.{entries_one}
 use Rattle.file_layout.specs.Sections.{Adds, AddsSome, Laid, Laying, wide_all}
 use Rattle.file_layout.proofs.SectionLaws.{adds_some, gap_one, unpadded, length-padded, Laying-start}
 use Rattle.file_layout.specs.Tiles.{gap, zeros}
-use Rattle.file_sections.specs.file_limits_Wide.{bodies_of, body_values, wide_data}
-use Rattle.file_sections.specs.Data.{PacksData, ClassWithCodes, code_offs, has_no_members, method_count, with_code_places, wide_with_codes}
-use Rattle.file_sections.specs.Growing.{AddsFields, AddsMethods}
-use Rattle.file_sections.specs.Placing.{items_with}
-use Rattle.file_sections.proofs.DataLaws.{data_length, some_members}
-use Rattle.file_sections.proofs.LayingLaws.{one_more}
-use Rattle.file_sections.proofs.SitedLaws.{length-sited, room_of_sited, count_of_bodies}
+use Rattle.file_parts.specs.file_limits_Wide.{bodies_of, body_values, wide_data}
+use Rattle.file_parts.specs.Data.{PacksData, ClassWithCodes, code_offs, has_no_members, method_count, with_code_places, wide_with_codes}
+use Rattle.file_parts.specs.Growing.{AddsFields, AddsMethods}
+use Rattle.file_parts.specs.Placing.{items_with}
+use Rattle.file_parts.proofs.DataLaws.{data_length, some_members}
+use Rattle.file_parts.proofs.LayingLaws.{one_more}
+use Rattle.file_parts.proofs.SitedLaws.{length-sited, room_of_sited, count_of_bodies}
 use Rattle.program_types.specs.Content.{Class, Program}
 use Rattle.tables_names.specs.Closure.{Five, NameRanks}
 use Rattle.tables_names.specs.Needed.{needed}

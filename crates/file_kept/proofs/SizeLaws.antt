@@ -7,9 +7,9 @@ use Rattle.base_bytes.specs.Grammar.{Each, Ended, Many}
 use Rattle.dex_base.specs.Mutf8.{SpellsUnit, mutf8_length, unit_bytes}
 use Rattle.dex_container.specs.Layout.{size_of}
 use Rattle.file_layout.specs.Sections.{wide_all}
-use Rattle.file_sections.specs.Sum.{IsSum}
-use Rattle.file_sections.specs.file_limits_Wide.{wide_list, wide_proto, wide_string, wide_text}
-use Rattle.file_sections.proofs.SumLaws.{Adds, wide_all_append}
+use Rattle.file_parts.specs.Sum.{IsSum}
+use Rattle.file_parts.specs.file_limits_Wide.{wide_list, wide_proto, wide_string, wide_text}
+use Rattle.file_parts.proofs.SumLaws.{Adds, wide_all_append}
 use Rattle.program_types.specs.Content.{Units, Program, OfText}
 use Rattle.program_types.specs.Key.{Key, text_key, proto_key}
 use Rattle.tables_names.specs.Needed.{needed}

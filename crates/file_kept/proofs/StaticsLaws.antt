@@ -7,13 +7,13 @@ use Rattle.std.proofs.lemmas.Option.{slice_get_within}
 use Rattle.std.proofs.lemmas.Bool.{ne_eqb}
 use Rattle.base_bytes.specs.Fields.{AreBytes}
 use Rattle.value_renumber.specs.Standing.{ArrayStands}
-use Rattle.file_sections.specs.Classes.{StaticsAt}
+use Rattle.file_parts.specs.Classes.{StaticsAt}
 use Rattle.file_layout.specs.Sections.{is_empty_list}
-use Rattle.file_sections.specs.file_limits_Wide.{array_values}
+use Rattle.file_parts.specs.file_limits_Wide.{array_values}
 use Rattle.file_needed.proofs.ClassNames.{values_kept}
 use Rattle.file_needed.proofs.Steps.{left, right}
-use Rattle.file_sections.specs.Arrays.{WritesArray}
-use Rattle.file_sections.proofs.ArrayLaws.{array_some}
+use Rattle.file_parts.specs.Arrays.{WritesArray}
+use Rattle.file_parts.proofs.ArrayLaws.{array_some}
 use Rattle.file_shared.specs.Once.{Entry}
 use Rattle.file_shared.specs.Sharing.{UsesItem}
 use Rattle.program_types.specs.Content.{Name, OfField, Class, Program, Value, Values, Named, Enum, Array, no_values, more_values, values}

@@ -18,8 +18,8 @@ use Rattle.dex_container.specs.Where.{slice, At, IsSectionOf}
 use Rattle.dex_container.specs.declared.section.Section.{Section}
 use Rattle.file_layout.specs.Sections.{Adds, Laying, never}
 use Rattle.file_layout.proofs.SectionLaws.{Laying-start, Laying-more, gap_one, unpadded}
-use Rattle.file_sections.specs.file_limits_Wide.{text_values, wide_text}
-use Rattle.file_sections.proofs.RoomLaws.{text_some}
+use Rattle.file_parts.specs.file_limits_Wide.{text_values, wide_text}
+use Rattle.file_parts.proofs.RoomLaws.{text_some}
 use Rattle.program_types.specs.Content.{Units, Program, OfText}
 use Rattle.program_types.specs.Key.{Key, text_key}
 use Rattle.tables_names.specs.Needed.{needed}

@@ -4,10 +4,10 @@ use Rattle.std.specs.Prelude.{◌≡◌, ℕ, ◌+◌, ◌==◌, List, [], ◌�
 use Rattle.std.specs.List.{AllByRecursion, AllZip}
 use Rattle.code_renumber.specs.Fits.{CodeBreaksLimit}
 use Rattle.code_renumber.specs.Carried.{IsCarriedCode}
-use Rattle.file_sections.specs.declared_MethodEntry.{MethodEntry}
+use Rattle.file_parts.specs.declared_MethodEntry.{MethodEntry}
 use Rattle.file_least.specs.AtLeast.{FitsButHandlers}
-use Rattle.file_sections.specs.file_limits_Wide.{bodies_of}
-use Rattle.file_sections.specs.Codes.{WritesBody, is_bodiless}
+use Rattle.file_parts.specs.file_limits_Wide.{bodies_of}
+use Rattle.file_parts.specs.Codes.{WritesBody, is_bodiless}
 use Rattle.program_types.specs.Content.{Code, Program}
 use Rattle.program_types.specs.Formed.{IsFormed}
 use Rattle.tables_names.specs.Closure.{Five, NameRanks}

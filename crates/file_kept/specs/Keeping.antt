@@ -2,7 +2,7 @@
 -- Page: "Dalvik Executable format", "File layout".
 use Rattle.std.specs.Prelude.{ℕ, List}
 use Rattle.dex_container.specs.Section as section
-use Rattle.file_sections.specs.Classes.{SpellsClass}
+use Rattle.file_parts.specs.Classes.{SpellsClass}
 use Rattle.program_types.specs.Content.{Program}
 use Rattle.tables_names.specs.Needed.{needed}
 use Rattle.tables_numbers.specs.Marked.{Columns, Marked, AreMarks}

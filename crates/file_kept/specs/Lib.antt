@@ -14,5 +14,10 @@ pub mod Bodies
 -- What stands below, for the crates above.
 pub use Rattle.tables_numbers.specs.Marked
 pub use Rattle.tables_numbers.specs.Numbers
+pub use Rattle.file_parts.specs.ClassDefs
+pub use Rattle.file_parts.specs.Codes
+pub use Rattle.file_parts.specs.Data
+pub use Rattle.file_parts.specs.Lists as file_parts_Lists
+pub use Rattle.file_parts.specs.Rows
 pub use Rattle.file_least.specs.Means
 pub use Rattle.file_least.specs.AtLeast

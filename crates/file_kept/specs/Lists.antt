@@ -3,8 +3,8 @@
 use Rattle.std.specs.Prelude.{◌≡◌, ℕ, ◌≤◌, List, Some, length, map, slice_get, slice_index, take}
 use Rattle.std.specs.List.{AllByRecursion, AllZip}
 use Rattle.file_layout.specs.Sections.{is_empty_list}
-use Rattle.file_sections.specs.Lists.{SpellsRanks}
-use Rattle.file_sections.specs.file_limits_Wide.{params_of}
+use Rattle.file_parts.specs.Lists.{SpellsRanks}
+use Rattle.file_parts.specs.file_limits_Wide.{params_of}
 use Rattle.program_types.specs.Content.{Program, Units, OfDesc}
 use Rattle.program_types.specs.Key.{text_key}
 use Rattle.tables_names.specs.Closure.{Five, NameRanks}

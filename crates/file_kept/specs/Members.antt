@@ -1,8 +1,8 @@
 -- The members of classes by the numbers of kept rows.
 -- Page: "Dalvik Executable format", "class_data_item", "encoded_field", "encoded_method".
 use Rattle.std.specs.Prelude.{◌≡◌, ℕ, ◌+◌, ◌<◌, ◌≤◌, ◌^◌, List, Some, length, slice_get, slice_index}
-use Rattle.file_sections.specs.ClassData.{Entries, index_of, steps}
-use Rattle.file_sections.specs.Data.{FieldRanks, MethodRanks}
+use Rattle.file_parts.specs.ClassData.{Entries, index_of, steps}
+use Rattle.file_parts.specs.Data.{FieldRanks, MethodRanks}
 use Rattle.program_types.specs.Content.{Class}
 use Rattle.tables_names.specs.Closure.{Five, NameRanks}
 use Rattle.tables_numbers.specs.Marked.{Columns}

@@ -2,7 +2,7 @@
 -- Page: "Dalvik Executable format", "class_def_item": superclass_idx, source_file_idx.
 use Rattle.std.specs.Prelude.{ℕ, ◌≤◌, List, Option, length}
 use Rattle.std.specs.Option.{ForSome}
-use Rattle.file_sections.specs.ClassRows.{IndexOrNone, no_index}
+use Rattle.file_parts.specs.ClassRows.{IndexOrNone, no_index}
 use Rattle.program_types.specs.Content.{Units, OfDesc, OfText}
 use Rattle.tables_names.specs.Closure.{Five, NameRanks}
 use Rattle.tables_numbers.specs.Marked.{Columns}

@@ -2,8 +2,8 @@
 -- Page: "Dalvik Executable format", "class_data_item": code_off.
 use Rattle.std.specs.Prelude.{◌≡◌, ℕ, ◌+◌, ◌<◌, ◌≤◌, ◌^◌, List, Some, drop, length, slice_get, take}
 use Rattle.file_layout.specs.Sections.{AddsSome}
-use Rattle.file_sections.specs.file_limits_Wide.{wide_data}
-use Rattle.file_sections.specs.Data.{PacksData, has_no_members, method_count}
+use Rattle.file_parts.specs.file_limits_Wide.{wide_data}
+use Rattle.file_parts.specs.Data.{PacksData, has_no_members, method_count}
 use Rattle.program_types.specs.Content.{Class, Program}
 use Rattle.tables_names.specs.Closure.{NameRanks}
 use Rattle.tables_names.specs.Needed.{needed}

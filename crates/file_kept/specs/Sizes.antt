@@ -2,7 +2,7 @@
 -- Page: "Dalvik Executable format", "string_id_item" and "proto_id_item".
 use Rattle.std.specs.Prelude.{ℕ, List, slice_index, take}
 use Rattle.file_layout.specs.Sections.{wide_all}
-use Rattle.file_sections.specs.Sum.{IsSum}
+use Rattle.file_parts.specs.Sum.{IsSum}
 use Rattle.program_types.specs.Key.{Key}
 
 -- The kept ones of the first n rows, by these numbers, take so much, by W.

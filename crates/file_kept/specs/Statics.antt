@@ -2,9 +2,9 @@
 -- Page: "Dalvik Executable format", "class_def_item": static_values_off; "encoded_array_item".
 use Rattle.std.specs.Prelude.{ℕ, List}
 use Rattle.std.specs.List.{AllZip}
-use Rattle.file_sections.specs.Classes.{StaticsAt}
+use Rattle.file_parts.specs.Classes.{StaticsAt}
 use Rattle.file_layout.specs.Sections.{is_empty_list}
-use Rattle.file_sections.specs.Arrays.{WritesArray}
+use Rattle.file_parts.specs.Arrays.{WritesArray}
 use Rattle.program_types.specs.Content.{Value, values}
 use Rattle.program_types.specs.Mentions.{AllNamesHold}
 use Rattle.tables_names.specs.Closure.{Five, AreRising, NameRanks}

@@ -2,7 +2,7 @@
 -- Page: "Dalvik Executable format", "string_id_item" to "method_id_item".
 use Rattle.std.specs.Prelude.{ℕ, List, slice_index, take}
 use Rattle.base_bytes.specs.Grammar.{Appends}
-use Rattle.file_sections.specs.Rows.{SpellsProtos, SpellsTable}
+use Rattle.file_parts.specs.Rows.{SpellsProtos, SpellsTable}
 use Rattle.program_types.specs.Key.{Key}
 use Rattle.tables_names.specs.Closure.{Five}
 

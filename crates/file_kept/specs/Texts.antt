@@ -3,7 +3,7 @@
 use Rattle.std.specs.Prelude.{ℕ, List, take, drop, slice_index}
 use Rattle.dex_base.specs.Mutf8.{PacksText}
 use Rattle.file_layout.specs.Sections.{Laying, never}
-use Rattle.file_sections.specs.file_limits_Wide.{text_values, wide_text}
+use Rattle.file_parts.specs.file_limits_Wide.{text_values, wide_text}
 use Rattle.program_types.specs.Content.{Program}
 use Rattle.tables_names.specs.Needed.{needed}
 use Rattle.tables_numbers.specs.Marked.{Columns}

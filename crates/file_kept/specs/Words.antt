@@ -3,7 +3,7 @@
 use Rattle.std.specs.Prelude.{◌≡◌, ℕ, ◌<◌, List, length, slice_index}
 use Rattle.dex_container.specs.Layout.{size_of}
 use Rattle.dex_container.specs.Section as section
-use Rattle.file_sections.specs.ClassRows.{class_word}
+use Rattle.file_parts.specs.ClassRows.{class_word}
 
 -- These are the words j of the rows, row by row.
 pub record AreClassWords (b : List ℕ) (j : ℕ) (words : List ℕ) : Type 0 where

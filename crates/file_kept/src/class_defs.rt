@@ -4,8 +4,8 @@ ghost use Rattle.base_bytes.specs.Fault.{memory};
 ghost use Rattle.base_bytes.specs.Grammar.{Appends, Each};
 ghost use Rattle.dex_container.specs.Layout.{size_of};
 ghost use Rattle.dex_container.specs.Section as section;
-ghost use Rattle.file_sections.specs.ClassRows.{IndexOrNone};
-ghost use Rattle.file_sections.specs.ClassDefs.{SpellsClassRow, StringRanks, TypeRanks, with_places};
+ghost use Rattle.file_parts.specs.ClassRows.{IndexOrNone};
+ghost use Rattle.file_parts.specs.ClassDefs.{SpellsClassRow, StringRanks, TypeRanks, with_places};
 ghost use Rattle.program_types.specs.Content.{Program, Units};
 ghost use Rattle.tables_names.specs.Closure.{Five};
 ghost use Rattle.tables_names.specs.Needed.{needed};
@@ -16,7 +16,7 @@ ghost use Rattle.file_kept.specs.ClassRow.{IsRowWithPlaces};
 use dex_base::{Fault, push_words};
 use dex_container::Sections;
 use dex_insn::IndexKind;
-use file_sections::{class_count, class_word, word};
+use file_parts::{class_count, class_word, word};
 use tables_numbers::Numbers;
 
 /// Where the items of a class stand, 0 for none.

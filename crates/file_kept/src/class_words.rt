@@ -5,7 +5,7 @@ ghost use Rattle.file_kept.specs.Words.{AreClassWords};
 
 use dex_base::Fault;
 use dex_container::Sections;
-use file_sections::{class_count, class_word};
+use file_parts::{class_count, class_word};
 use std::alloc::Global;
 
 /// Word j of each row.

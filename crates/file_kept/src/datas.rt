@@ -5,12 +5,12 @@ ghost use Rattle.base_bytes.specs.Grammar.{Appends};
 ghost use Rattle.base_bytes.specs.Leb128.{Spells, Shortest};
 ghost use Rattle.dex_container.specs.Layout.{size_of};
 ghost use Rattle.dex_container.specs.Section as section;
-ghost use Rattle.file_sections.specs.ClassData.{SpellsCounts};
-ghost use Rattle.file_sections.specs.Reading.{entries, field_entry, method_entry};
+ghost use Rattle.file_parts.specs.ClassData.{SpellsCounts};
+ghost use Rattle.file_parts.specs.Reading.{entries, field_entry, method_entry};
 ghost use Rattle.file_layout.specs.Sections.{wide_all, AddsSome, Laid};
-ghost use Rattle.file_sections.specs.file_limits_Wide.{body_values, wide_data};
-ghost use Rattle.file_sections.specs.Data.{FieldRanks, MethodRanks, PacksData, has_no_members, with_code_places, wide_with_codes};
-ghost use Rattle.file_sections.specs.Growing.{AddsFields, AddsMethods};
+ghost use Rattle.file_parts.specs.file_limits_Wide.{body_values, wide_data};
+ghost use Rattle.file_parts.specs.Data.{FieldRanks, MethodRanks, PacksData, has_no_members, with_code_places, wide_with_codes};
+ghost use Rattle.file_parts.specs.Growing.{AddsFields, AddsMethods};
 ghost use Rattle.program_types.specs.Content.{Class, Descriptor, Member, Method, Program};
 ghost use Rattle.tables_names.specs.Closure.{Five, NameRanks};
 ghost use Rattle.tables_names.specs.Needed.{needed};
@@ -21,7 +21,7 @@ ghost use Rattle.file_kept.specs.Sites.{AddsClassData, HasRoom};
 use dex_base::{Fault, put_uleb};
 use dex_container::Sections;
 use dex_insn::IndexKind;
-use file_sections::{
+use file_parts::{
     Entries, FieldEntry, MethodEntry, Placed, class_count, class_word, entries_at, put_field,
     put_method, word,
 };

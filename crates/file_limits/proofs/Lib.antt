@@ -5,12 +5,7 @@ pub mod LimitLaws
 pub mod OneLimit
 pub mod RankLaws
 -- What stands below, for the crates above.
-pub use Rattle.dex_value.proofs.ArrayOnce
-pub use Rattle.dex_value.proofs.Carrying
-pub use Rattle.dex_value.proofs.Fitting
-pub use Rattle.dex_value.proofs.FrontLaws
-pub use Rattle.dex_value.proofs.Lengths
-pub use Rattle.dex_value.proofs.Places
+pub use Rattle.tables_names.proofs.PlaceLemmas
 pub use Rattle.code_fits.proofs.CodeOnce
 pub use Rattle.code_fits.proofs.DistanceLaws
 pub use Rattle.code_fits.proofs.DistinctLaws

@@ -29,4 +29,3 @@ pub use sums::{plus, times};
 
 // What stands below, for the crates above.
 pub use code_fits::{make_item, mentions_in};
-pub use dex_value::put_array;

@@ -1,31 +1,16 @@
 -- Classes with the places of their items, row by row.
-use Rattle.std.proofs.Common.{◌≡◌, ◌≢◌, ℕ, zero, suc, ◌+◌, ◌<◌, ◌≤◌, List, [], ◌∷◌, length, map, take, get_or, refl, sym, ap, ◌∙◌, arith, subst, Some}
+use Rattle.std.proofs.Common.{◌≡◌, ℕ, zero, suc, ◌+◌, ◌<◌, ◌≤◌, List, [], ◌∷◌, length, map, take, get_or, refl, sym, ap, ◌∙◌, arith, subst, Some}
 use Rattle.std.proofs.lemmas.List.{take_more, take_all, length-map}
-use Rattle.std.proofs.lemmas.Option.{slice_get_within, slice_get-map, slice_get-get_or}
+use Rattle.std.proofs.lemmas.Option.{slice_get-map, slice_get-get_or}
 use Rattle.std.specs.Prelude.{option_map}
 use Rattle.std.specs.List.{slice_get}
 use Rattle.base_bytes.specs.Grammar.{Appends, Each}
 use Rattle.base_bytes.proofs.GrammarLaws.{Each-appends_more}
-use Rattle.file_classes.specs.ClassRows.{no_index}
 use Rattle.tables_names.specs.Closure.{Five}
-use Rattle.tables_names.specs.Rank.{IsAt}
-use Rattle.program_types.specs.Content.{Units, Program}
-use Rattle.program_types.specs.Key.{Key, text_key}
 use Rattle.program_types.specs.View as view
 use Rattle.program_types.specs.declared.class.Class as made
-use Rattle.file_rows.specs.ClassDefs.{ClassWithPlaces, SpellsClassRow, first_or_zero, all_but_first, with_places}
-
-pub length-seated : (p : Program) (lists datas arrays : List ℕ) → length (with_places p lists datas arrays) ≡ length p
-length-seated [] lists datas arrays = refl
-length-seated (c ∷ p) lists datas arrays = ap suc (length-seated p (all_but_first lists) (all_but_first datas) (all_but_first arrays))
-
-pub first_of : (xs : List ℕ) → first_or_zero xs ≡ get_or xs 0 0
-first_of [] = refl
-first_of (x ∷ xs) = refl
-
-pub others_of : (xs : List ℕ) (i : ℕ) → get_or (all_but_first xs) i 0 ≡ get_or xs (suc i) 0
-others_of [] i = refl
-others_of (x ∷ xs) i = refl
+use Rattle.file_parts.specs.ClassDefs.{ClassWithPlaces, SpellsClassRow, all_but_first, with_places}
+use Rattle.file_parts.proofs.ClassRowLaws.{length-seated, first_of, others_of}
 
 -- class i with its places
 pub seated_at : (cs : List made.Class) (lists datas arrays : List ℕ) (i : ℕ) (d : made.Class) (n : ClassWithPlaces) → i < length cs
@@ -62,7 +47,3 @@ seated_all s old new cs lists datas arrays i all a =
 -- class i is among those of the program
 pub class_there : (cs : List made.Class) (i : ℕ) (d : made.Class) → i < length cs → slice_get (map view.class cs) i ≡ Some (view.class (get_or cs i d))
 class_there cs i d lt = slice_get-map view.class cs i ∙ ap (option_map view.class) (slice_get-get_or cs i d lt)
-
--- an index of a name that is held is not the one that stands for none
-pub rank_or_none : (table : List Key) (i : ℕ) (t : Units) → length table ≤ no_index → IsAt table i (text_key t) → (i ≢ no_index) × IsAt table i (text_key t)
-rank_or_none table i t few at = let lt = slice_get_within table i (text_key t) at in ((λ e. omega (arith, lt, few, e)), at)

@@ -17,7 +17,7 @@ use Rattle.tables_names.specs.declared.parts.ProtoParts.{ProtoParts}
 use Rattle.tables_names.specs.declared.parts.FieldParts.{FieldParts}
 use Rattle.tables_names.specs.declared.parts.MethodParts.{MethodParts}
 use Rattle.tables_names.proofs.NumberLemmas.{zip_get, zip_length}
-use Rattle.file_rows.specs.Rows.{SpellsTypeRow, SpellsFieldRow, SpellsMethodRow, SpellsTable}
+use Rattle.file_parts.specs.Rows.{SpellsTypeRow, SpellsFieldRow, SpellsMethodRow, SpellsTable}
 use Rattle.file_rows.proofs.RowLaws.{held_at, rows_more, rows_are_table}
 
 -- what stands beside the keys, by place

@@ -1,5 +1,5 @@
 -- Rows of a table, one after the other.
-use Rattle.std.proofs.Common.{◌≡◌, ℕ, zero, suc, ◌+◌, ◌<◌, ◌≤◌, List, [], ◌∷◌, ◌++◌, length, map, take, get_or, refl, sym, ap, ◌∙◌, arith, subst, append_assoc}
+use Rattle.std.proofs.Common.{◌≡◌, ℕ, zero, suc, ◌+◌, ◌<◌, ◌≤◌, List, [], ◌∷◌, length, map, take, get_or, refl, sym, ap, ◌∙◌, arith, subst}
 use Rattle.std.proofs.lemmas.List.{take_more, take_all, map-append}
 use Rattle.std.proofs.lemmas.Option.{slice_get-map, slice_get-get_or}
 use Rattle.std.specs.Prelude.{option_map}
@@ -10,7 +10,7 @@ use Rattle.tables_names.specs.Closure.{Five}
 use Rattle.tables_names.specs.Rank.{IsAt}
 use Rattle.program_types.specs.Content.{Proto}
 use Rattle.program_types.specs.Key.{Key, proto_key}
-use Rattle.file_rows.specs.Rows.{SpellsTable, SpellsProtos, SpellsProtoRow}
+use Rattle.file_parts.specs.Rows.{SpellsTable, SpellsProtos, SpellsProtoRow}
 
 -- what a set has at an index
 pub held_at : {U : Type 0} (key : U → Key) (xs : List U) (table : List Key) (i : ℕ) (d : U) → map key xs ≡ table → i < length xs → IsAt table i (key (get_or xs i d))
@@ -90,15 +90,3 @@ protos_are_table {U = U} view s old new places xs table i n e all a =
         rows = subst (λ (ys : List (ℕ × U)). Each (SpellsProtoRow s) a.bytes (map pair ys)) (take_all i (zip places xs) (omega (arith, l, all))) a.spelled;
       };
     }
-
--- three fields after what there is
-pub three_joined : (old a b new x y z : List ℕ) → a ≡ old ++ x → b ≡ a ++ y → new ≡ b ++ z → new ≡ old ++ (x ++ (y ++ z))
-three_joined old a b new x y z e f g =
-    g ∙ ap (λ (l : List ℕ). l ++ z) (f ∙ ap (λ (l : List ℕ). l ++ y) e ∙ append_assoc old x y) ∙ append_assoc old (x ++ y) z ∙ ap (λ (l : List ℕ). old ++ l) (append_assoc x y z)
-
--- five tables, one after the other
-pub five_joined : (s t p f m ws w x y z : List ℕ) → s ≡ ws → t ≡ s ++ w → p ≡ t ++ x → f ≡ p ++ y → m ≡ f ++ z → m ≡ ws ++ (w ++ (x ++ (y ++ z)))
-five_joined s t p f m ws w x y z a b c d e =
-    e ∙ ap (λ (l : List ℕ). l ++ z) (d ∙ ap (λ (l : List ℕ). l ++ y) c ∙ append_assoc t x y)
-    ∙ append_assoc t (x ++ y) z ∙ ap (λ (l : List ℕ). t ++ l) (append_assoc x y z)
-    ∙ ap (λ (l : List ℕ). l ++ (x ++ (y ++ z))) (b ∙ ap (λ (l : List ℕ). l ++ w) a) ∙ append_assoc ws w (x ++ (y ++ z))

@@ -1,15 +1,29 @@
-pub mod Rows
-pub mod AtIndex
-pub mod ClassDefs
 pub mod Held
-pub mod Once
 -- What stands below, for the crates above.
-pub use Rattle.file_classes.specs.Stands
-pub use Rattle.file_classes.specs.Code
-pub use Rattle.file_classes.specs.ClassData
-pub use Rattle.file_classes.specs.ClassRows
-pub use Rattle.file_classes.specs.Classes
-pub use Rattle.file_classes.specs.Reading
-pub use Rattle.file_classes.specs.declared.class_data.Entries as declared_Entries
-pub use Rattle.file_classes.specs.declared.class_data.FieldEntry as declared_FieldEntry
-pub use Rattle.file_classes.specs.declared.class_data.MethodEntry as declared_MethodEntry
+pub use Rattle.file_parts.specs.Named
+pub use Rattle.file_parts.specs.Spelling
+pub use Rattle.file_parts.specs.Standing
+pub use Rattle.file_parts.specs.dex_value_Wide
+pub use Rattle.file_parts.specs.Code
+pub use Rattle.file_parts.specs.Fits
+pub use Rattle.file_parts.specs.Packs
+pub use Rattle.file_parts.specs.ClassData
+pub use Rattle.file_parts.specs.ClassRows
+pub use Rattle.file_parts.specs.Classes
+pub use Rattle.file_parts.specs.Reading
+pub use Rattle.file_parts.specs.declared_FieldEntry
+pub use Rattle.file_parts.specs.declared_MethodEntry
+pub use Rattle.file_parts.specs.Sections
+pub use Rattle.file_parts.specs.Tiles
+pub use Rattle.file_parts.specs.file_shared_Once as Once
+pub use Rattle.file_parts.specs.Sharing
+pub use Rattle.file_parts.specs.Limits
+pub use Rattle.file_parts.specs.Sum
+pub use Rattle.file_parts.specs.file_limits_Wide
+pub use Rattle.file_parts.specs.Arrays
+pub use Rattle.file_parts.specs.ClassDefs
+pub use Rattle.file_parts.specs.Codes
+pub use Rattle.file_parts.specs.Data
+pub use Rattle.file_parts.specs.Growing
+pub use Rattle.file_parts.specs.Lists
+pub use Rattle.file_parts.specs.Rows

@@ -5,7 +5,7 @@ ghost use Rattle.base_bytes.specs.Fault.{memory};
 ghost use Rattle.base_bytes.specs.Fields.{u16_bytes, u32_bytes};
 ghost use Rattle.base_bytes.specs.Grammar.{Appends};
 ghost use Rattle.program_types.specs.Key.{field_ref_key};
-ghost use Rattle.file_rows.specs.Rows.{SpellsFieldRow, SpellsTable};
+ghost use Rattle.file_parts.specs.Rows.{SpellsFieldRow, SpellsTable};
 
 use dex_base::Fault;
 use tables_names::{FieldParts, Ranks};

@@ -23,15 +23,12 @@ mod type_ids;
 // The rows of class_defs.
 mod class_defs;
 
-// What holds of rows.
-mod laws;
-
 pub use class_defs::put_classes;
 pub use index::{shorty_index, string_index, type_index};
-pub use laws::{rows_are_one, rows_stand_at_their_indices};
 pub use tables::name_rows;
 
 // What stands below, for the crates above.
-pub use file_classes::{
-    Entries, FieldEntry, MethodEntry, class_count, class_word, entries_at, word,
+pub use file_parts::{
+    Entries, FieldEntry, Items, MethodEntry, Placed, check_limits, class_count, class_word,
+    entries_at, make_item, mentions_in, plus, put_array, put_field, put_method, times, word,
 };

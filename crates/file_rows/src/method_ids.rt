@@ -5,7 +5,7 @@ ghost use Rattle.base_bytes.specs.Fault.{memory};
 ghost use Rattle.base_bytes.specs.Fields.{u16_bytes, u32_bytes};
 ghost use Rattle.base_bytes.specs.Grammar.{Appends};
 ghost use Rattle.program_types.specs.Key.{method_ref_key};
-ghost use Rattle.file_rows.specs.Rows.{SpellsMethodRow, SpellsTable};
+ghost use Rattle.file_parts.specs.Rows.{SpellsMethodRow, SpellsTable};
 
 use dex_base::Fault;
 use tables_names::{MethodParts, Ranks};

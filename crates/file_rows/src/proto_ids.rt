@@ -8,7 +8,7 @@ ghost use Rattle.tables_names.specs.Rank.{IsAt};
 ghost use Rattle.program_types.specs.Key.{text_key};
 ghost use Rattle.program_types.specs.Shorty.{shorty};
 ghost use Rattle.program_types.specs.View as view;
-ghost use Rattle.file_rows.specs.Rows.{SpellsProtoRow, SpellsProtos};
+ghost use Rattle.file_parts.specs.Rows.{SpellsProtoRow, SpellsProtos};
 
 use crate::index::shorty_index;
 use dex_base::{Fault, push_words};

@@ -2,7 +2,7 @@
 //! Page: "Dalvik Executable format", "File layout".
 ghost use Rattle.std.specs.Prelude.{◌≡◌, ◌≤◌, ◌^◌, IfOk, IsOkUnless, length};
 ghost use Rattle.base_bytes.specs.Fault.{memory};
-ghost use Rattle.file_rows.specs.Rows.{SpellsRows};
+ghost use Rattle.file_parts.specs.Rows.{SpellsRows};
 
 use crate::field_ids::put_fields;
 use crate::method_ids::put_methods;

@@ -1,85 +1,34 @@
 -- Bodies, one after the other.
-use Rattle.std.proofs.Common.{◌≡◌, ℕ, zero, suc, ◌+◌, ◌<◌, ◌≤◌, false, List, [], ◌∷◌, ◌++◌, length, map, take, drop, get_or, refl, sym, ap, ◌∙◌, arith, subst, length-append, append_assoc, Option, Some, None}
+use Rattle.std.proofs.Common.{◌≡◌, ℕ, zero, suc, ◌+◌, ◌<◌, ◌≤◌, List, [], ◌∷◌, ◌++◌, length, map, take, drop, get_or, refl, sym, ap, ◌∙◌, arith, subst, append_assoc, Option, Some}
 use Rattle.std.proofs.lemmas.List.{take_all, drop_all}
 use Rattle.std.specs.List.{AllByRecursion, flat_map}
-use Rattle.file_limits.proofs.PackedTries.{items-length}
-use Rattle.file_limits.proofs.WrittenLaws.{lowered-length}
-use Rattle.file_limits.proofs.PackedLaws.{length-head, few-padding, packed-spells}
-use Rattle.file_limits.specs.Fits.{wide_code}
-use Rattle.file_limits.specs.Packs.{PacksCode, head_bytes, padding, joined, items_bytes}
-use Rattle.file_layout.specs.Sections.{wide_all}
-use Rattle.file_layout.specs.Tiles.{gap}
-use Rattle.file_shared.specs.Once.{Entry, PutsOnce}
-use Rattle.file_shared.specs.Sharing.{Sharing, UsesItem}
-use Rattle.file_shared.proofs.SharingLaws.{sharing_more, sharing_bound}
-use Rattle.file_rows.proofs.CodeLaws.{SpellsCode-unique}
-use Rattle.file_limits.proofs.code_put_RankLaws.{ranks-functional}
-use Rattle.file_limits.proofs.HandlerOnce.{ranks-injective}
-use Rattle.file_limits.proofs.CodeOnce.{code_once}
+use Rattle.file_rows.proofs.PackedLaws.{packed-spells}
+use Rattle.file_rows.specs.Packs.{PacksCode}
+use Rattle.file_rows.specs.Sections.{wide_all}
+use Rattle.file_rows.specs.Once.{Entry, PutsOnce}
+use Rattle.file_rows.specs.Sharing.{Sharing, UsesItem}
+use Rattle.file_rows.proofs.SharingLaws.{sharing_more, sharing_bound}
 use Rattle.base_bytes.specs.Fields.{AreBytes}
-use Rattle.file_limits.specs.Wide.{bodies_in, bodies_of, wide_body}
-use Rattle.tables_names.specs.Closure.{Five, AreRising, NameRanks}
-use Rattle.program_types.specs.Content.{Name, Code, Class}
+use Rattle.file_rows.specs.file_limits_Wide.{bodies_in, bodies_of, wide_body}
+use Rattle.tables_names.specs.Closure.{Five, NameRanks}
+use Rattle.program_types.specs.Content.{Code, Class}
 use Rattle.program_types.specs.Content as content
-use Rattle.program_types.specs.Sizes.{addresses_of, length_of}
 use Rattle.program_types.specs.View as view
 use Rattle.program_types.specs.declared.class.Class as made
 use Rattle.program_types.specs.declared.class.Method as made_method
-use Rattle.file_sections.proofs.ListLaws.{gap_four}
-use Rattle.file_sections.proofs.RoomLaws.{map_drop}
-use Rattle.file_sections.specs.Codes.{PacksBody, WritesBody, is_bodiless}
+use Rattle.file_rows.proofs.RoomLaws.{map_drop}
+use Rattle.file_rows.specs.Codes.{PacksBody, WritesBody, is_bodiless}
 use Rattle.file_sections.specs.Named.{CanPut}
 use Rattle.base_bytes.proofs.ListFacts.{map_more}
-use Rattle.file_limits.proofs.PartLaws.{map_map}
-
--- ---- how long a body is
-
--- with three zeros before it, it takes no more than its term of the sum
-pub packed_room : (N : ℕ → Name → Type 0) (c : Code) (bytes : List ℕ) → PacksCode N bytes c → (0 < length bytes) × (length bytes + 3 ≤ wide_code c)
-packed_room N c bytes p =
-    let h = head_bytes c (length_of c.insns) in
-    let i = items_bytes (length_of c.insns) (addresses_of c.insns) c.tries p.offsets in
-    let pad = padding (length_of c.insns) (length c.tries) in
-    let lh = length-head c (length_of c.insns) in
-    let lj = lowered-length N c.insns p.raws p.lowered in
-    let lp = few-padding (length_of c.insns) (length c.tries) in
-    let li = items-length (length_of c.insns) (addresses_of c.insns) c.tries p.offsets p.handlers.offsets.count in
-    let short = p.handlers.short in
-    let a = length-append h (joined p.raws ++ (pad ++ (i ++ p.list))) in
-    let b = length-append (joined p.raws) (pad ++ (i ++ p.list)) in
-    let d = length-append pad (i ++ p.list) in
-    let e = length-append i p.list in
-    let w = ap length p.is in
-    (omega arith, omega arith)
+use Rattle.file_rows.proofs.file_limits_PartLaws.{map_map}
+use Rattle.file_rows.proofs.file_parts_CodeLaws.{bodies_packs, bodies_one, bodies_most}
 
 -- ---- one body
-
-pub bodies_packs : (s : Five) (bytes : List ℕ) (v : Option Code) → WritesBody s bytes v → PacksBody (NameRanks s) bytes v
-bodies_packs s bytes None p = absurd p
-bodies_packs s bytes (Some c) p = p.packs
-
--- the bytes of a body have one value
-pub bodies_one : (s : Five) (bytes : List ℕ) (u v : Option Code) → WritesBody s bytes u → WritesBody s bytes v → u ≡ v
-bodies_one s bytes None v p q = absurd p
-bodies_one s bytes (Some c) None p q = absurd q
-bodies_one s bytes (Some c) (Some d) p q = ap (λ (x : Code). Some x) (SpellsCode-unique (NameRanks s) (ranks-functional s) bytes bytes [] [] c d p.spells q.spells refl).1
-
-pub bodies_most : (s : Five) (v : Option Code) → is_bodiless v ≡ false → (bytes : List ℕ) (at : ℕ) → WritesBody s bytes v → gap 4 at + length bytes ≤ wide_body v
-bodies_most s None e bytes at p = absurd p
-bodies_most s (Some c) e bytes at p =
-    let r = (packed_room (NameRanks s) c bytes p.packs).1 in
-    let g = gap_four at in
-    omega (arith, r, g)
 
 pub body_used : (s : Five) (kept more : List Entry) (old new : List ℕ) (c : Code) (bytes : List ℕ) (place : ℕ) → CanPut s c → AreBytes bytes → PacksCode (NameRanks s) bytes c → PutsOnce 4 kept more old new bytes place
     → UsesItem is_bodiless (WritesBody s) 4 kept more old new (Some c) place
 body_used s kept more old new c bytes place can are p u =
     (bytes, record { packs = p; spells = packed-spells (NameRanks s) c can.formed can.fits can.ranked.short bytes p; formed = can.formed; are = are }, u)
-
--- a body has one list of bytes
-pub bodies_once : (s : Five) → AreRising s → (a b : List ℕ) (v : Option Code) → WritesBody s a v → WritesBody s b v → a ≡ b
-bodies_once s rising a b None p q = absurd p
-bodies_once s rising a b (Some c) p q = code_once (NameRanks s) (ranks-injective s rising) c a b p.formed p.are q.are p.packs q.packs
 
 -- ---- the bodies of methods
 

@@ -21,9 +21,9 @@ use Rattle.program_types.specs.View as view
 use Rattle.program_types.specs.declared.class.Member as made
 use Rattle.program_types.specs.declared.class.Method as made_method
 use Rattle.program_rules.specs.Rules.{KeysRise, member_key, method_key}
-use Rattle.file_sections.proofs.RunLaws.{total, total_push, no_run, run_push}
-use Rattle.file_sections.specs.Data.{FieldRanks, MethodRanks}
-use Rattle.file_sections.specs.Growing.{AddsFields, AddsMethods}
+use Rattle.file_rows.proofs.RunLaws.{total, total_push, no_run, run_push}
+use Rattle.file_rows.specs.Data.{FieldRanks, MethodRanks}
+use Rattle.file_rows.specs.Growing.{AddsFields, AddsMethods}
 use Rattle.program_rules.proofs.MemberLaws.{key-at}
 use Rattle.tables_names.proofs.IndexLemmas.{less_than}
 use Rattle.base_bytes.proofs.ListFacts.{map_more}

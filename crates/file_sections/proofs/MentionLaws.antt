@@ -10,7 +10,7 @@ use Rattle.program_types.specs.declared.class.Method as made_method
 use Rattle.program_types.specs.Mentions.{field_of_class}
 use Rattle.tables_names.specs.Closure.{Five, NameRanks, method_of_class}
 use Rattle.tables_names.specs.Noted.{AreRanks}
-use Rattle.file_limits.proofs.MentionLaws.{zip_split}
+use Rattle.file_rows.proofs.MentionLaws.{zip_split}
 use Rattle.file_needed.specs.Bodies.{defined_in, named_in_body, named_in_code}
 use Rattle.file_sections.proofs.NumberLaws.{no_proto}
 use Rattle.file_sections.specs.Named.{fields_of, methods_of}

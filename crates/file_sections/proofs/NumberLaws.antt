@@ -2,7 +2,7 @@
 use Rattle.std.proofs.Common.{◌≡◌, ℕ, zero, suc, ◌+◌, ◌-◌, ◌<◌, ◌≤◌, List, [], ◌∷◌, length, map, get_or, refl, sym, ap, ◌∙◌, arith, subst, length-append, Some, None}
 use Rattle.std.proofs.lemmas.List.{length-map, get_or-append_right, get_or_append_left}
 use Rattle.std.specs.List.{AllByRecursion, slice_get}
-use Rattle.file_limits.specs.Wide.{params_of, list_values}
+use Rattle.file_rows.specs.file_limits_Wide.{params_of, list_values}
 use Rattle.tables_names.specs.Closure.{Five, IsClosed, NameRanks}
 use Rattle.tables_names.specs.Indices.{HasRank, AreIndices}
 use Rattle.tables_names.specs.Keys.{key_of_proto}
@@ -19,7 +19,7 @@ use Rattle.program_types.specs.View as view
 use Rattle.program_types.specs.declared.class.Class as made
 use Rattle.program_types.specs.declared.names.Proto.{Proto}
 use Rattle.program_types.specs.Kinds.{HasIndex}
-use Rattle.file_sections.proofs.Steps.{mapped_at}
+use Rattle.file_rows.proofs.Steps.{mapped_at}
 
 placed_all : (s : Five) (ts : List Units) (row : List ℕ) → AreIndices s.types row ts → AllByRecursion (λ t. HasRank s.types (text_key t)) ts
 placed_all s [] row a = tt

@@ -1,34 +1,12 @@
 -- Classes with the places of their bodies, one by one.
-use Rattle.std.proofs.Common.{◌≡◌, ℕ, zero, suc, ◌+◌, ◌<◌, ◌≤◌, List, [], ◌∷◌, length, map, take, drop, get_or, refl, ap, arith, length-append, length-drop, None}
+use Rattle.std.proofs.Common.{◌≡◌, ℕ, zero, suc, ◌+◌, ◌<◌, ◌≤◌, List, [], ◌∷◌, length, map, take, drop, get_or, refl, arith, length-append, length-drop, None}
 use Rattle.std.proofs.lemmas.List.{length-map}
 use Rattle.std.specs.List.{flat_map}
-use Rattle.file_layout.specs.Sections.{wide_all}
-use Rattle.file_limits.specs.Wide.{bodies_in, bodies_of, body_values, wide_data}
-use Rattle.program_types.specs.Content.{Class, Program}
+use Rattle.file_rows.specs.file_limits_Wide.{bodies_of, body_values}
 use Rattle.program_types.specs.View as view
 use Rattle.program_types.specs.declared.class.Class as made
-use Rattle.file_sections.specs.Data.{ClassWithCodes, method_count, with_code_places, wide_with_codes}
-
-pub length-sited : (p : Program) (codes : List ℕ) → length (with_code_places p codes) ≡ length p
-length-sited [] codes = refl
-length-sited (c ∷ p) codes = ap suc (length-sited p (drop (method_count c) codes))
-
-pub room_of_sited : (p : Program) (codes : List ℕ) → wide_all wide_with_codes (with_code_places p codes) ≡ wide_all wide_data p
-room_of_sited [] codes = refl
-room_of_sited (c ∷ p) codes = let r = room_of_sited p (drop (method_count c) codes) in omega (arith, r)
-
--- the places after those of the first i classes
-abbrev pub rest_after : Program → List ℕ → ℕ → List ℕ
-rest_after p codes zero = codes
-rest_after [] codes (suc i) = codes
-rest_after (c ∷ p) codes (suc i) = rest_after p (drop (method_count c) codes) i
-
-pub count_of_bodies : (c : Class) → length (bodies_of c) ≡ method_count c
-count_of_bodies c =
-    let a = length-append (bodies_in c.directs) (bodies_in c.virtuals) in
-    let d = length-map c.directs (λ m. m.code) in
-    let v = length-map c.virtuals (λ m. m.code) in
-    omega (arith, a, d, v)
+use Rattle.file_rows.specs.Data.{ClassWithCodes, method_count, with_code_places}
+use Rattle.file_rows.proofs.SitedLaws.{rest_after, count_of_bodies}
 
 -- class i with its places
 pub sited_at : (cs : List made.Class) (codes : List ℕ) (i : ℕ) (d : made.Class) (n : ClassWithCodes) → i < length cs

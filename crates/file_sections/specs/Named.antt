@@ -1,7 +1,7 @@
 -- What has to be held of the names of a class, so that its items can be written.
 -- Page: "Dalvik Executable format", "class_data_item", "encoded_array".
 use Rattle.std.specs.Prelude.{◌≤◌, ◌^◌, ◌++◌, List, length, map, Option, IfSome}
-use Rattle.file_limits.specs.Fits.{CanBePut, FitsCode}
+use Rattle.file_rows.specs.Fits.{CanBePut, FitsCode}
 use Rattle.tables_names.specs.Closure.{Five, NameRanks, method_of_class}
 use Rattle.program_types.specs.Content.{Code, Class, Name}
 use Rattle.program_types.specs.Formed.{IsFormed}

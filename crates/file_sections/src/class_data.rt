@@ -4,9 +4,9 @@ ghost use Rattle.std.specs.Prelude.{◌≡◌, ℕ, ◌+◌, ◌<◌, ◌≤◌,
 ghost use Rattle.base_bytes.specs.Fault.{memory};
 ghost use Rattle.base_bytes.specs.Grammar.{Appends};
 ghost use Rattle.base_bytes.specs.Leb128.{Spells, Shortest};
-ghost use Rattle.file_rows.specs.ClassData.{SpellsCounts, SpellsFieldEntry, SpellsMethodEntry};
-ghost use Rattle.file_layout.specs.Sections.{wide_all, AddsSome, Laid};
-ghost use Rattle.file_limits.specs.Wide.{body_values, wide_data};
+ghost use Rattle.file_rows.specs.ClassData.{SpellsCounts};
+ghost use Rattle.file_rows.specs.Sections.{wide_all, AddsSome, Laid};
+ghost use Rattle.file_rows.specs.file_limits_Wide.{body_values, wide_data};
 ghost use Rattle.tables_names.specs.Closure.{NameRanks, method_of_class};
 ghost use Rattle.tables_names.specs.Noted.{AreRanks};
 ghost use Rattle.file_needed.specs.Bodies.{defined_in};
@@ -14,38 +14,15 @@ ghost use Rattle.program_types.specs.Content.{Descriptor};
 ghost use Rattle.program_types.specs.Mentions.{field_of_class};
 ghost use Rattle.program_types.specs.View as view;
 ghost use Rattle.program_rules.specs.Rules.{KeysRise, MembersRise, member_key, method_key};
-ghost use Rattle.file_sections.specs.Data.{PacksData, has_no_members, with_code_places, wide_with_codes};
-ghost use Rattle.file_sections.specs.Growing.{AddsFields, AddsMethods};
+ghost use Rattle.file_rows.specs.Data.{PacksData, has_no_members, with_code_places, wide_with_codes};
+ghost use Rattle.file_rows.specs.Growing.{AddsFields, AddsMethods};
 ghost use Rattle.file_sections.specs.Named.{FewNames, fields_of, methods_of};
 
-use crate::placed::Placed;
 use dex_base::{Fault, put_uleb};
+use file_rows::{Placed, put_field, put_method};
 use program_types::{Class, Member, Method, Program};
 use std::alloc::Global;
 use tables_names::Ranks;
-
-/// Appends a field's entry: how far its index is from that of the entry before, and its flags.
-///
-/// It fails only when out of memory.
-pub fn put_field(out: &mut Vec<u8>, step: u32, flags: u32) -> Result<(), Fault>
-    ensures ok { OnOk result (Appends (SpellsFieldEntry (Shortest Spells)) out.old.items out.new.items (step, flags)) }
-    ensures memory { IsOkUnless result memory }
-{
-    put_uleb(out, step)?;
-    put_uleb(out, flags)
-}
-
-/// Appends a method's entry: the same, and the place of its body.
-///
-/// It fails only when out of memory.
-pub fn put_method(out: &mut Vec<u8>, step: u32, flags: u32, code: u32) -> Result<(), Fault>
-    ensures ok { OnOk result (Appends (SpellsMethodEntry (Shortest Spells)) out.old.items out.new.items (step, (flags, code))) }
-    ensures memory { IsOkUnless result memory }
-{
-    put_uleb(out, step)?;
-    put_uleb(out, flags)?;
-    put_uleb(out, code)
-}
 
 /// Appends the entries of fields of a class, which have these indices, one by one.
 fn put_fields(

@@ -12,9 +12,6 @@
 //! docs/MAP.md says where this crate stands among the others.
 #![tactic(auto)]
 
-// Where items stand.
-mod placed;
-
 // The parts, in the order of the file.
 mod arrays;
 mod class_data;
@@ -22,20 +19,14 @@ mod codes;
 mod texts;
 mod type_lists;
 
-// What holds of spellings.
-mod laws;
-
 pub use arrays::put_arrays;
-pub use class_data::{put_datas, put_field, put_method};
+pub use class_data::put_datas;
 pub use codes::put_codes;
-pub use laws::lists_and_data_are_one;
-pub use placed::Placed;
 pub use texts::put_strings;
 pub use type_lists::put_lists;
 
 // What stands below, for the crates above.
-pub use file_limits::{check_limits, plus, times};
 pub use file_rows::{
-    Entries, FieldEntry, MethodEntry, class_count, class_word, entries_at, name_rows, put_classes,
-    word,
+    Entries, FieldEntry, MethodEntry, check_limits, class_count, class_word, entries_at, name_rows,
+    plus, put_classes, times, word,
 };

@@ -4,12 +4,12 @@ ghost use Rattle.std.specs.Prelude.{◌+◌, ◌<◌, ◌≤◌, ◌^◌, IfOk, 
 ghost use Rattle.base_bytes.specs.Fault.{memory};
 ghost use Rattle.dex_base.specs.Mutf8.{PacksText};
 ghost use Rattle.program_types.specs.View as view;
-ghost use Rattle.file_layout.specs.Sections.{never, wide_all, Adds, Laid};
-ghost use Rattle.file_limits.specs.Wide.{text_values, wide_text};
-ghost use Rattle.file_layout.specs.Tiles.{AreShared};
+ghost use Rattle.file_rows.specs.Sections.{never, wide_all, Adds, Laid};
+ghost use Rattle.file_rows.specs.file_limits_Wide.{text_values, wide_text};
+ghost use Rattle.file_rows.specs.Tiles.{AreShared};
 
-use crate::placed::Placed;
 use dex_base::{Fault, put_mutf8};
+use file_rows::Placed;
 use program_types::Str;
 use std::alloc::Global;
 use tables_names::Ranks;

@@ -12,7 +12,7 @@ use Rattle.file_assemble.specs.dex_value_Wide.{wide_values}
 use Rattle.file_assemble.proofs.FrontLaws.{SpellsArray-unique}
 use Rattle.file_assemble.proofs.Carrying.{NameStands-functional}
 use Rattle.file_assemble.specs.Code.{CodeStands}
-use Rattle.file_assemble.proofs.code_read_CodeLaws.{code_one}
+use Rattle.file_assemble.proofs.CodeLaws.{code_one}
 use Rattle.file_assemble.specs.Fits.{wide_code}
 use Rattle.file_assemble.specs.ClassRows.{IndexOrNone, no_index}
 use Rattle.file_assemble.specs.Classes.{CodeAt, SomeCodeStands, StaticsAt}

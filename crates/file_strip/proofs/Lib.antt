@@ -6,15 +6,15 @@ pub mod WalkLaws
 pub use Rattle.file_assemble.proofs.DistinctLaws
 pub use Rattle.file_assemble.proofs.PackedLaws
 pub use Rattle.file_assemble.proofs.RankLaws
-pub use Rattle.file_assemble.proofs.AtLaws
-pub use Rattle.file_assemble.proofs.ClassRowLaws as file_rows_ClassRowLaws
 pub use Rattle.file_assemble.proofs.LimitLaws
 pub use Rattle.file_assemble.proofs.OneLimit
 pub use Rattle.file_assemble.proofs.PartLaws
-pub use Rattle.file_assemble.proofs.file_sections_CodeLaws as CodeLaws
-pub use Rattle.file_assemble.proofs.file_sections_DataLaws
-pub use Rattle.file_assemble.proofs.ListLaws
-pub use Rattle.file_assemble.proofs.SitedLaws
+pub use Rattle.file_kept.proofs.AtLaws
+pub use Rattle.file_kept.proofs.file_parts_ClassRowLaws
+pub use Rattle.file_kept.proofs.CodeLaws
+pub use Rattle.file_kept.proofs.DataLaws as file_parts_DataLaws
+pub use Rattle.file_kept.proofs.file_parts_ListLaws as ListLaws
+pub use Rattle.file_kept.proofs.SitedLaws
 pub use Rattle.file_assemble.proofs.AssembledLaws
 pub use Rattle.file_assemble.proofs.DataLaws as file_assemble_DataLaws
 pub use Rattle.file_assemble.proofs.FileOnce

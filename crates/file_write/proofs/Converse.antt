@@ -37,7 +37,7 @@ use Rattle.file_strip.specs.Codes.{PacksBody, is_bodiless}
 use Rattle.file_strip.specs.Data.{PacksData, ClassWithCodes, code_offs, has_no_members, method_count, with_code_places, wide_with_codes}
 use Rattle.file_strip.specs.Lists.{SpellsRanks}
 use Rattle.file_strip.proofs.CodeLaws.{packed_room}
-use Rattle.file_strip.proofs.file_sections_DataLaws.{data_length}
+use Rattle.file_strip.proofs.file_parts_DataLaws.{data_length}
 use Rattle.file_strip.proofs.ListLaws.{gap_four, list_most}
 use Rattle.file_strip.proofs.SitedLaws.{count_of_bodies, length-sited, room_of_sited}
 use Rattle.program_rules.specs.WellFormed.{WellFormed}

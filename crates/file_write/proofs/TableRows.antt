@@ -15,7 +15,7 @@ use Rattle.file_read.specs.Classes.{RowIs}
 use Rattle.file_read.proofs.EntryLaws.{entry_at}
 use Rattle.file_strip.specs.ClassDefs.{ClassWithPlaces, SpellsClassRow, StringRanks, TypeRanks, with_places}
 use Rattle.file_strip.specs.Rows.{SpellsFieldRow, SpellsMethodRow, SpellsProtoRow, SpellsProtos, SpellsRows, SpellsTable, SpellsTypeRow}
-use Rattle.file_strip.proofs.file_rows_ClassRowLaws.{length-seated}
+use Rattle.file_strip.proofs.file_parts_ClassRowLaws.{length-seated}
 use Rattle.program_types.specs.Content.{Class, Descriptor, FieldRef, MethodRef, OfDesc, OfField, OfMethod, OfText, Program, Proto, Units}
 use Rattle.program_types.specs.Key.{Key, field_ref_key, method_ref_key, proto_key, text_key}
 use Rattle.program_types.specs.Shorty.{shorty}

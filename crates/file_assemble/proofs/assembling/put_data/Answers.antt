@@ -4,7 +4,7 @@ use Rattle.file_layout.specs.Tiles.{Refers}
 use Rattle.file_sections.specs.file_limits_Wide.{body_values}
 use Rattle.program_types.specs.View as view
 use Rattle.file_sections.specs.Codes.{is_bodiless}
-use Rattle.file_sections.proofs.SitedLaws.{room_of_sited}
+use Rattle.file_sections.proofs.file_parts_SitedLaws.{room_of_sited}
 use Rattle.file_assemble.specs.Assembled.{Places, rows_of}
 use Rattle.file_assemble.proofs.DataLaws.{laid, next}
 use Rattle.file_assemble.proofs.FitsLaws.{after, few_of, room_of}

@@ -1,6 +1,6 @@
 use Rattle.std.proofs.Common.{arith}
 use Rattle.file_layout.specs.Sections.{is_empty_list}
-use Rattle.file_sections.specs.Arrays.{WritesArray}
+use Rattle.file_parts.specs.Arrays.{WritesArray}
 use Rattle.file_kept.specs.Statics.{WritesStatics}
 use Rattle.file_kept.proofs.StaticsLaws.{array_carried, no_array, array_item, eq_off, off_some}
 use Rattle.file_kept.proofs.MovedLaws.{item_again, item_used, moved_more}

@@ -7,9 +7,9 @@ use Rattle.base_bytes.specs.Leb128.{Shortest}
 use Rattle.value_renumber.specs.Spelling.{SpellsArray}
 use Rattle.value_renumber.specs.Wide.{wide_array}
 use Rattle.tables_names.specs.Closure.{NameRanks}
-use Rattle.file_sections.specs.Arrays.{WritesArray}
-use Rattle.file_sections.proofs.LayingLaws.{items_few}
-use Rattle.file_sections.proofs.ArrayLaws.{array_packs, array_one, array_most, arrays_once}
+use Rattle.file_parts.specs.Arrays.{WritesArray}
+use Rattle.file_parts.proofs.LayingLaws.{items_few}
+use Rattle.file_parts.proofs.ArrayLaws.{array_packs, array_one, array_most, arrays_once}
 use Rattle.file_shared.proofs.SharingLaws.{sharing_start, sharing_next, sharing_end, sharing_shared}
 use Rattle.file_kept.specs.Statics.{IsCarriedStatics, WritesStatics}
 use Rattle.file_kept.proofs.ListLaws.{zip_at}

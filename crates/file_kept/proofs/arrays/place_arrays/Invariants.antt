@@ -5,7 +5,7 @@ use Rattle.file_layout.specs.Sections.{is_empty_list}
 use Rattle.base_bytes.specs.Leb128.{Shortest}
 use Rattle.value_renumber.specs.Spelling.{SpellsArray}
 use Rattle.value_renumber.specs.Wide.{wide_array}
-use Rattle.file_sections.specs.Arrays.{WritesArray}
+use Rattle.file_parts.specs.Arrays.{WritesArray}
 use Rattle.file_shared.specs.Sharing.{Sharing}
 use Rattle.file_kept.specs.Statics.{AreCarriedStatics, WritesStatics}
 use Rattle.file_kept.specs.Moved.{AreMoved}

@@ -1,6 +1,6 @@
 use Rattle.std.proofs.Common.{subst, sym}
 use Rattle.tables_names.specs.Needed.{needed}
-use Rattle.file_sections.specs.file_limits_Wide.{array_values}
+use Rattle.file_parts.specs.file_limits_Wide.{array_values}
 use Rattle.file_kept.specs.Words.{AreClassWords}
 use Rattle.file_kept.proofs.StaticsLaws.{class_statics}
 use Rattle.file_kept.proofs.arrays.put_arrays.Goals as goal

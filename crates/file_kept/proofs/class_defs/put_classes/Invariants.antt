@@ -1,6 +1,6 @@
 use Rattle.std.proofs.Common.{take}
 use Rattle.base_bytes.specs.Grammar.{Appends, Each}
-use Rattle.file_sections.specs.ClassDefs.{SpellsClassRow, with_places}
+use Rattle.file_parts.specs.ClassDefs.{SpellsClassRow, with_places}
 use Rattle.program_types.specs.Content.{Program}
 use Rattle.tables_names.specs.Needed.{needed}
 use Rattle.file_kept.specs.Keeping.{Keeps}

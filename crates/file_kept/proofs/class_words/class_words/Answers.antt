@@ -1,5 +1,5 @@
 use Rattle.std.proofs.Common.{◌≡◌, ℕ, ◌∙◌, arith}
-use Rattle.file_sections.specs.ClassRows.{class_word}
+use Rattle.file_parts.specs.ClassRows.{class_word}
 use Rattle.dex_container.specs.Layout.{size_of}
 use Rattle.file_kept.proofs.WordLaws.{words_more}
 use Rattle.file_kept.proofs.class_words.class_words.Goals as goal

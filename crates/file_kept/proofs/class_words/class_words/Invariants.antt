@@ -1,5 +1,5 @@
 use Rattle.std.proofs.Common.{◌≡◌, ◌<◌, ℕ, length, get_or}
-use Rattle.file_sections.specs.ClassRows.{class_word}
+use Rattle.file_parts.specs.ClassRows.{class_word}
 use Rattle.file_kept.proofs.class_words.class_words.Given as goal
 
 abbrev pub invariant-loop-i : goal.invariant-loop-i

@@ -1,5 +1,5 @@
 use Rattle.std.proofs.Common.{arith}
-use Rattle.file_sections.specs.Codes.{WritesBody, is_bodiless}
+use Rattle.file_parts.specs.Codes.{WritesBody, is_bodiless}
 use Rattle.file_kept.specs.Bodies.{WritesCarried}
 use Rattle.file_kept.proofs.BodyLaws.{some_carried}
 use Rattle.file_kept.proofs.MovedLaws.{item_again, item_used, moved_more}

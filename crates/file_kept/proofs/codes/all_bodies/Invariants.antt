@@ -1,6 +1,6 @@
 use Rattle.std.proofs.Common.{◌<◌, ◌^◌}
 use Rattle.file_layout.specs.Sections.{wide_all}
-use Rattle.file_sections.specs.file_limits_Wide.{body_values, wide_body}
+use Rattle.file_parts.specs.file_limits_Wide.{body_values, wide_body}
 use Rattle.program_types.specs.Content.{Program}
 use Rattle.tables_numbers.specs.Marked.{Columns}
 use Rattle.file_kept.specs.Bodies.{AreFirstBodies}

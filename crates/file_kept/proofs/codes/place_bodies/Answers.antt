@@ -3,10 +3,10 @@ use Rattle.std.proofs.lemmas.List.{take_all}
 use Rattle.program_types.specs.Content.{Code}
 use Rattle.tables_names.specs.Closure.{NameRanks}
 use Rattle.file_layout.specs.Tiles.{AreShared}
-use Rattle.file_sections.specs.file_limits_Wide.{wide_body}
-use Rattle.file_sections.specs.Codes.{PacksBody, WritesBody, is_bodiless}
-use Rattle.file_sections.proofs.LayingLaws.{items_few, room_at}
-use Rattle.file_sections.proofs.CodeLaws.{bodies_packs, bodies_one, bodies_most, bodies_once}
+use Rattle.file_parts.specs.file_limits_Wide.{wide_body}
+use Rattle.file_parts.specs.Codes.{PacksBody, WritesBody, is_bodiless}
+use Rattle.file_parts.proofs.LayingLaws.{items_few, room_at}
+use Rattle.file_parts.proofs.CodeLaws.{bodies_packs, bodies_one, bodies_most, bodies_once}
 use Rattle.file_shared.proofs.SharingLaws.{sharing_start, sharing_next, sharing_end, sharing_shared}
 use Rattle.file_kept.specs.Bodies.{AreNear, IsFar, WritesCarried, bodies_alone}
 use Rattle.file_kept.proofs.BodyLaws.{carried_at, first_far, near_body, near_more, owned_long, turn_of}

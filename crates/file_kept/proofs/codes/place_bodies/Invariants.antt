@@ -1,8 +1,8 @@
 use Rattle.std.proofs.Common.{ℕ, List, Option, take, drop}
 use Rattle.program_types.specs.Content.{Code}
 use Rattle.tables_names.specs.Closure.{Five, NameRanks}
-use Rattle.file_sections.specs.file_limits_Wide.{wide_body}
-use Rattle.file_sections.specs.Codes.{PacksBody, WritesBody, is_bodiless}
+use Rattle.file_parts.specs.file_limits_Wide.{wide_body}
+use Rattle.file_parts.specs.Codes.{PacksBody, WritesBody, is_bodiless}
 use Rattle.file_shared.specs.Sharing.{Sharing}
 use Rattle.file_kept.specs.Bodies.{AreNear, AreOwned, WritesCarried, bodies_alone}
 use Rattle.file_kept.specs.Moved.{AreMoved}

@@ -1,6 +1,6 @@
 use Rattle.std.proofs.Common.{ℕ, sym, subst, arith}
 use Rattle.base_bytes.specs.Fields.{AreBytes}
-use Rattle.file_sections.specs.ClassData.{EntriesAt}
+use Rattle.file_parts.specs.ClassData.{EntriesAt}
 use Rattle.file_kept.proofs.GatherLaws.{class_pushed}
 use Rattle.file_kept.proofs.codes.push_class.Goals as goal
 use Rattle.file_kept.proofs.ClassRowLaws.{class_at}

@@ -1,8 +1,8 @@
 use Rattle.std.proofs.Common.{◌+◌, ◌<◌, ◌^◌, List, Option, length, sym, subst, arith}
 use Rattle.file_layout.specs.Sections.{Laid, wide_all}
 use Rattle.file_layout.specs.Tiles.{AreShared}
-use Rattle.file_sections.specs.file_limits_Wide.{wide_body}
-use Rattle.file_sections.specs.Codes.{PacksBody, is_bodiless}
+use Rattle.file_parts.specs.file_limits_Wide.{wide_body}
+use Rattle.file_parts.specs.Codes.{PacksBody, is_bodiless}
 use Rattle.program_types.specs.Content.{Code}
 use Rattle.tables_names.specs.Closure.{NameRanks}
 use Rattle.tables_names.specs.Needed.{needed}

@@ -1,6 +1,6 @@
 use Rattle.std.proofs.Common.{arith}
 use Rattle.std.proofs.lemmas.List.{length-map}
-use Rattle.file_sections.specs.Reading.{field_entry, method_entry}
+use Rattle.file_parts.specs.Reading.{field_entry, method_entry}
 use Rattle.file_kept.proofs.SiteLaws.{data_adds}
 use Rattle.file_kept.proofs.datas.add_data.Goals as goal
 

@@ -3,7 +3,7 @@ use Rattle.std.proofs.lemmas.Result.{on_ok_weaker}
 use Rattle.base_bytes.proofs.GrammarLaws.{Then-appends}
 use Rattle.base_bytes.specs.Grammar.{Appends, Pair}
 use Rattle.base_bytes.specs.Leb128.{Spells, Shortest}
-use Rattle.file_sections.specs.ClassData.{SpellsCounts}
+use Rattle.file_parts.specs.ClassData.{SpellsCounts}
 use Rattle.file_kept.proofs.datas.put_counts.Goals as goal
 
 pub returns-clause-ok : goal.returns-clause-ok

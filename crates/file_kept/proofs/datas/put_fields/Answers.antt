@@ -1,8 +1,8 @@
 use Rattle.std.proofs.Common.{map, get_or, arith}
 use Rattle.std.proofs.lemmas.List.{length-map}
-use Rattle.file_sections.specs.Reading.{field_entry}
-use Rattle.file_sections.specs.declared_FieldEntry as made
-use Rattle.file_sections.proofs.Steps.{mapped_at}
+use Rattle.file_parts.specs.Reading.{field_entry}
+use Rattle.file_parts.specs.declared_FieldEntry as made
+use Rattle.file_parts.proofs.Steps.{mapped_at}
 use Rattle.file_kept.proofs.MemberLaws.{fields_start, fields_index, field_low, field_more, fields_end}
 use Rattle.file_kept.proofs.datas.put_fields.Goals as goal
 

@@ -1,6 +1,6 @@
 use Rattle.std.proofs.Common.{List, map}
-use Rattle.file_sections.specs.Reading.{field_entry}
-use Rattle.file_sections.specs.Data.{FieldRanks}
+use Rattle.file_parts.specs.Reading.{field_entry}
+use Rattle.file_parts.specs.Data.{FieldRanks}
 use Rattle.program_types.specs.Content.{Descriptor, Member}
 use Rattle.tables_names.specs.Closure.{Five, NameRanks}
 use Rattle.file_kept.specs.Members.{IsCarriedRun}

@@ -1,10 +1,10 @@
 use Rattle.std.proofs.Common.{◌≡◌, ◌++◌, ℕ, List, length, map, sym, subst, ap, ◌∙◌, arith, length-drop}
 use Rattle.std.proofs.lemmas.List.{length-map, length-take, take-append-drop}
 use Rattle.std.proofs.lemmas.Result.{on_ok_weaker}
-use Rattle.file_sections.specs.Reading.{field_entry, method_entry}
-use Rattle.file_sections.specs.declared_FieldEntry.{FieldEntry}
-use Rattle.file_sections.specs.declared_MethodEntry.{MethodEntry}
-use Rattle.file_sections.specs.Data.{FieldRanks, MethodRanks}
+use Rattle.file_parts.specs.Reading.{field_entry, method_entry}
+use Rattle.file_parts.specs.declared_FieldEntry.{FieldEntry}
+use Rattle.file_parts.specs.declared_MethodEntry.{MethodEntry}
+use Rattle.file_parts.specs.Data.{FieldRanks, MethodRanks}
 use Rattle.tables_names.specs.Closure.{NameRanks}
 use Rattle.file_kept.specs.Members.{IsCarriedRun}
 use Rattle.file_kept.proofs.SiteLaws.{members_append}

@@ -1,8 +1,8 @@
 use Rattle.std.proofs.Common.{map, get_or, arith, refl}
 use Rattle.std.proofs.lemmas.List.{length-map}
-use Rattle.file_sections.specs.Reading.{method_entry}
-use Rattle.file_sections.specs.declared_MethodEntry as made
-use Rattle.file_sections.proofs.Steps.{mapped_at}
+use Rattle.file_parts.specs.Reading.{method_entry}
+use Rattle.file_parts.specs.declared_MethodEntry as made
+use Rattle.file_parts.proofs.Steps.{mapped_at}
 use Rattle.file_kept.proofs.MemberLaws.{methods_start, methods_index, method_low, method_more, methods_end}
 use Rattle.file_kept.proofs.datas.put_methods.Goals as goal
 

@@ -1,6 +1,6 @@
 use Rattle.std.proofs.Common.{List, map}
-use Rattle.file_sections.specs.Reading.{method_entry}
-use Rattle.file_sections.specs.Data.{MethodRanks}
+use Rattle.file_parts.specs.Reading.{method_entry}
+use Rattle.file_parts.specs.Data.{MethodRanks}
 use Rattle.program_types.specs.Content.{Descriptor, Method}
 use Rattle.tables_names.specs.Closure.{Five, NameRanks}
 use Rattle.file_kept.specs.Members.{IsCarriedRun}

@@ -1,6 +1,6 @@
 use Rattle.std.proofs.Common.{arith}
 use Rattle.file_layout.specs.Sections.{is_empty_list}
-use Rattle.file_sections.specs.Lists.{SpellsRanks}
+use Rattle.file_parts.specs.Lists.{SpellsRanks}
 use Rattle.file_kept.specs.Lists.{WritesList}
 use Rattle.file_kept.proofs.ListLaws.{room_of_bytes}
 use Rattle.file_kept.proofs.MovedLaws.{item_again, item_used, moved_more}

@@ -3,10 +3,10 @@ use Rattle.std.proofs.lemmas.List.{take_all}
 use Rattle.program_types.specs.Content.{Units}
 use Rattle.file_layout.specs.Sections.{is_empty_list}
 use Rattle.file_layout.specs.Tiles.{AreShared}
-use Rattle.file_sections.specs.file_limits_Wide.{wide_list}
-use Rattle.file_sections.specs.Lists.{SpellsRanks}
-use Rattle.file_sections.proofs.LayingLaws.{items_few, room_at}
-use Rattle.file_sections.proofs.ListLaws.{list_packs, list_one, list_most, lists_once}
+use Rattle.file_parts.specs.file_limits_Wide.{wide_list}
+use Rattle.file_parts.specs.Lists.{SpellsRanks}
+use Rattle.file_parts.proofs.LayingLaws.{items_few, room_at}
+use Rattle.file_parts.proofs.ListLaws.{list_packs, list_one, list_most, lists_once}
 use Rattle.file_shared.proofs.SharingLaws.{sharing_start, sharing_next, sharing_end, sharing_shared}
 use Rattle.file_kept.specs.Lists.{IsCarriedList, WritesList}
 use Rattle.file_kept.proofs.ListLaws.{zip_at}

@@ -2,8 +2,8 @@ use Rattle.std.proofs.Common.{List, take, drop}
 use Rattle.program_types.specs.Content.{Units}
 use Rattle.tables_names.specs.Closure.{Five}
 use Rattle.file_layout.specs.Sections.{is_empty_list}
-use Rattle.file_sections.specs.file_limits_Wide.{wide_list}
-use Rattle.file_sections.specs.Lists.{SpellsRanks}
+use Rattle.file_parts.specs.file_limits_Wide.{wide_list}
+use Rattle.file_parts.specs.Lists.{SpellsRanks}
 use Rattle.file_shared.specs.Sharing.{Sharing}
 use Rattle.file_kept.specs.Lists.{AreCarriedLists, WritesList}
 use Rattle.file_kept.specs.Moved.{AreMoved}

@@ -1,6 +1,6 @@
 use Rattle.std.proofs.Common.{List, ℕ, ◌++◌, ap, ◌∙◌}
 use Rattle.tables_names.specs.Needed.{needed}
-use Rattle.file_sections.specs.file_limits_Wide.{list_values}
+use Rattle.file_parts.specs.file_limits_Wide.{list_values}
 use Rattle.file_kept.proofs.ListLaws.{all_lists}
 use Rattle.file_kept.proofs.lists.put_lists.Goals as goal
 

@@ -7,8 +7,8 @@ use Rattle.program_types.specs.Key.{text_key}
 use Rattle.tables_names.specs.Rank.{IsAt}
 use Rattle.tables_rows.specs.Halves.{halves}
 use Rattle.tables_rows.proofs.HalvesLaws.{u16_at-halves}
-use Rattle.file_sections.proofs.ListLaws.{indices_none}
-use Rattle.file_sections.specs.Lists.{AddsIndices}
+use Rattle.file_parts.proofs.ListLaws.{indices_none}
+use Rattle.file_parts.specs.Lists.{AddsIndices}
 use Rattle.file_kept.proofs.ListLaws.{ranked_at, ranked_long, indices_next, same_rank}
 use Rattle.file_kept.proofs.lists.put_numbers.Goals as goal
 

@@ -2,7 +2,7 @@ use Rattle.std.proofs.Common.{List, take}
 use Rattle.program_types.specs.Content.{Units}
 use Rattle.tables_names.specs.Closure.{Five}
 use Rattle.tables_rows.specs.Halves.{halves}
-use Rattle.file_sections.specs.Lists.{AddsIndices}
+use Rattle.file_parts.specs.Lists.{AddsIndices}
 use Rattle.file_kept.specs.Lists.{AreRanked}
 use Rattle.file_kept.proofs.lists.put_numbers.Given as goal
 

@@ -1,6 +1,6 @@
 use Rattle.std.proofs.Common.{List, ℕ, true≢false, refl, sym, subst, arith}
-use Rattle.file_sections.specs.Sum.{IsSum}
-use Rattle.file_sections.specs.file_limits_Wide.{wide_list}
+use Rattle.file_parts.specs.Sum.{IsSum}
+use Rattle.file_parts.specs.file_limits_Wide.{wide_list}
 use Rattle.program_types.specs.Content.{Units}
 use Rattle.tables_rows.specs.Stands.{TypesAt}
 use Rattle.file_kept.proofs.ListLaws.{protos_long}

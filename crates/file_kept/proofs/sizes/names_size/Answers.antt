@@ -1,5 +1,5 @@
 use Rattle.std.proofs.Common.{arith, refl, subst, inl}
-use Rattle.file_sections.specs.Sum.{IsSum}
+use Rattle.file_parts.specs.Sum.{IsSum}
 use Rattle.file_kept.proofs.SizeLaws.{types_count, fields_count, methods_count}
 use Rattle.file_kept.proofs.sizes.names_size.Goals as goal
 

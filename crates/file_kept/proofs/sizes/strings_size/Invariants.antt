@@ -1,4 +1,4 @@
-use Rattle.file_sections.specs.file_limits_Wide.{wide_string}
+use Rattle.file_parts.specs.file_limits_Wide.{wide_string}
 use Rattle.program_types.specs.Content.{Program}
 use Rattle.tables_names.specs.Needed.{needed}
 use Rattle.file_kept.specs.Keeping.{Keeps}

@@ -1,6 +1,6 @@
 use Rattle.std.proofs.Common.{ap, ◌∙◌, ◌++◌, List, ℕ}
 use Rattle.base_bytes.specs.Words.{words_bytes}
-use Rattle.file_sections.proofs.RowLaws.{five_joined}
+use Rattle.file_parts.proofs.RowLaws.{five_joined}
 use Rattle.file_kept.proofs.KeepLaws.{same_lengths}
 use Rattle.file_kept.proofs.tables.name_rows.Goals as goal
 

@@ -1,6 +1,6 @@
 use Rattle.std.proofs.Common.{◌≡◌, ap, ◌∙◌, arith}
 use Rattle.dex_container.specs.Layout.{size_of, offset_of}
-use Rattle.file_sections.specs.Rows.{SpellsTypeRow}
+use Rattle.file_parts.specs.Rows.{SpellsTypeRow}
 use Rattle.program_types.specs.Key.{text_key}
 use Rattle.tables_names.specs.Needed.{needed}
 use Rattle.tables_numbers.proofs.ColumnLemmas.{table_size}

@@ -1,4 +1,4 @@
-use Rattle.file_sections.specs.Rows.{SpellsTypeRow}
+use Rattle.file_parts.specs.Rows.{SpellsTypeRow}
 use Rattle.program_types.specs.Content.{Program}
 use Rattle.program_types.specs.Key.{text_key}
 use Rattle.tables_names.specs.Needed.{needed}

@@ -2,8 +2,8 @@ use Rattle.std.proofs.Common.{◌≡◌, ◌-◌, ℕ, [], length, get_or, sym, 
 use Rattle.dex_base.specs.Mutf8.{PacksText}
 use Rattle.dex_container.specs.Layout.{size_of, offset_of}
 use Rattle.file_layout.specs.Sections.{Laying, never}
-use Rattle.file_sections.specs.file_limits_Wide.{text_values, wide_text}
-use Rattle.file_sections.proofs.ApartLaws.{texts_shared}
+use Rattle.file_parts.specs.file_limits_Wide.{text_values, wide_text}
+use Rattle.file_parts.proofs.ApartLaws.{texts_shared}
 use Rattle.tables_names.specs.Needed.{needed}
 use Rattle.tables_numbers.proofs.ColumnLemmas.{table_size}
 use Rattle.file_kept.specs.Texts.{AreFirstTexts}

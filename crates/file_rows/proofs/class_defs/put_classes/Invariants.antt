@@ -1,7 +1,7 @@
 use Rattle.std.proofs.Common.{map, take}
 use Rattle.base_bytes.specs.Grammar.{Appends, Each}
 use Rattle.program_types.specs.View as view
-use Rattle.file_rows.specs.ClassDefs.{SpellsClassRow, with_places}
+use Rattle.file_parts.specs.ClassDefs.{SpellsClassRow, with_places}
 use Rattle.file_rows.proofs.class_defs.put_classes.Given as goal
 
 abbrev pub invariant-loop-i : goal.invariant-loop-i

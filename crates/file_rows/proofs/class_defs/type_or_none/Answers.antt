@@ -1,6 +1,6 @@
 use Rattle.std.proofs.Common.{arith}
 use Rattle.program_types.specs.View as view
-use Rattle.file_rows.proofs.ClassRowLaws.{rank_or_none}
+use Rattle.file_parts.proofs.ClassRowLaws.{rank_or_none}
 use Rattle.file_rows.proofs.class_defs.type_or_none.Goals as goal
 
 pub returns-in-Some : goal.returns-in-Some

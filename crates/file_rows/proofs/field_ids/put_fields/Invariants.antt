@@ -1,6 +1,6 @@
 use Rattle.std.proofs.Common.{map, take}
 use Rattle.base_bytes.specs.Grammar.{Appends, Each}
-use Rattle.file_rows.specs.Rows.{SpellsFieldRow}
+use Rattle.file_parts.specs.Rows.{SpellsFieldRow}
 use Rattle.file_rows.proofs.PartLaws.{field_of}
 use Rattle.file_rows.proofs.field_ids.put_fields.Given as goal
 

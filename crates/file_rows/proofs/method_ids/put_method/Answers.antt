@@ -1,6 +1,6 @@
 use Rattle.std.proofs.Common.{◌≡◌, ◌++◌, ◌∙◌}
 use Rattle.base_bytes.specs.Fields.{u16_bytes, u32_bytes}
-use Rattle.file_rows.proofs.RowLaws.{three_joined}
+use Rattle.file_parts.proofs.RowLaws.{three_joined}
 use Rattle.file_rows.proofs.method_ids.put_method.Goals as goal
 
 pub returns-clause-ok : goal.returns-clause-ok

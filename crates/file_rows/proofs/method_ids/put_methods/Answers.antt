@@ -2,7 +2,7 @@ use Rattle.std.proofs.Common.{[], arith, get_or}
 use Rattle.base_bytes.proofs.GrammarLaws.{Each-appends_none}
 use Rattle.program_types.specs.Key.{method_ref_key}
 use Rattle.tables_names.specs.Numbers.{MethodAt}
-use Rattle.file_rows.specs.Rows.{SpellsMethodRow}
+use Rattle.file_parts.specs.Rows.{SpellsMethodRow}
 use Rattle.file_rows.proofs.PartLaws.{no_method, part_at, method_of, method_fits, method_row, methods_named, keys_more, keys_are_table}
 use Rattle.file_rows.proofs.method_ids.put_methods.Goals as goal
 

@@ -1,6 +1,6 @@
 use Rattle.std.proofs.Common.{map, take}
 use Rattle.base_bytes.specs.Grammar.{Appends, Each}
-use Rattle.file_rows.specs.Rows.{SpellsMethodRow}
+use Rattle.file_parts.specs.Rows.{SpellsMethodRow}
 use Rattle.file_rows.proofs.PartLaws.{method_of}
 use Rattle.file_rows.proofs.method_ids.put_methods.Given as goal
 

@@ -3,7 +3,7 @@ use Rattle.std.specs.List.{zip}
 use Rattle.base_bytes.specs.Grammar.{Appends, Each}
 use Rattle.program_types.specs.View as view
 use Rattle.program_types.specs.declared.names.Proto.{Proto}
-use Rattle.file_rows.specs.Rows.{SpellsProtoRow}
+use Rattle.file_parts.specs.Rows.{SpellsProtoRow}
 use Rattle.file_rows.proofs.proto_ids.put_protos.Given as goal
 
 abbrev pub invariant-loop-i : goal.invariant-loop-i

@@ -1,6 +1,6 @@
 use Rattle.std.proofs.Common.{◌++◌, ℕ, List, ap, ◌∙◌}
 use Rattle.base_bytes.specs.Words.{words_bytes}
-use Rattle.file_rows.proofs.RowLaws.{five_joined}
+use Rattle.file_parts.proofs.RowLaws.{five_joined}
 use Rattle.file_rows.proofs.tables.name_rows.Goals as goal
 
 pub returns-clause-ok : goal.returns-clause-ok

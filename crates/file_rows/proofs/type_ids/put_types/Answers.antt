@@ -4,7 +4,7 @@ use Rattle.base_bytes.specs.Words.{words_bytes}
 use Rattle.program_types.specs.Key.{text_key}
 use Rattle.base_bytes.proofs.GrammarLaws.{Each-appends_none}
 use Rattle.tables_names.specs.Numbers.{TypeAt}
-use Rattle.file_rows.specs.Rows.{SpellsTypeRow}
+use Rattle.file_parts.specs.Rows.{SpellsTypeRow}
 use Rattle.file_rows.proofs.PartLaws.{no_type, part_at, type_of, type_fits, type_row, types_named, keys_more, keys_are_table}
 use Rattle.file_rows.proofs.type_ids.put_types.Goals as goal
 

@@ -1,6 +1,6 @@
 use Rattle.std.proofs.Common.{map, take}
 use Rattle.base_bytes.specs.Grammar.{Appends, Each}
-use Rattle.file_rows.specs.Rows.{SpellsTypeRow}
+use Rattle.file_parts.specs.Rows.{SpellsTypeRow}
 use Rattle.file_rows.proofs.PartLaws.{type_of}
 use Rattle.file_rows.proofs.type_ids.put_types.Given as goal
 

@@ -2,11 +2,12 @@ use Rattle.std.proofs.Common.{map, arith}
 use Rattle.base_bytes.specs.Leb128.{Shortest}
 use Rattle.tables_names.specs.Closure.{NameRanks}
 use Rattle.program_types.specs.View as view
-use Rattle.file_sections.proofs.ArrayLaws.{array_used, array_some}
-use Rattle.file_limits.proofs.Fitting.{narrow_fits}
-use Rattle.file_limits.specs.Spelling.{SpellsArray}
+use Rattle.file_rows.proofs.ArrayLaws.{array_some}
+use Rattle.file_sections.proofs.ArrayLaws.{array_used}
+use Rattle.file_rows.proofs.Fitting.{narrow_fits}
+use Rattle.file_rows.specs.Spelling.{SpellsArray}
 use Rattle.file_sections.proofs.arrays.add_array.Goals as goal
-use Rattle.file_limits.proofs.HandlerPacks.{alone}
+use Rattle.file_rows.proofs.HandlerPacks.{alone}
 
 pub put_array-requires-clause-counts : goal.put_array-requires-clause-counts
 put_array-requires-clause-counts c = narrow_fits (map view.value c.args.values.now) (omega (arith, c.requires.room))

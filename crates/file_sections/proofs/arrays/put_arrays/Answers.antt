@@ -1,21 +1,22 @@
 use Rattle.std.proofs.Common.{map, ap, sym, arith, refl, subst, List, ◌∙◌}
 use Rattle.std.proofs.lemmas.List.{take_all}
-use Rattle.file_sections.specs.Arrays.{WritesArray}
-use Rattle.file_layout.specs.Tiles.{AreShared}
+use Rattle.file_rows.specs.Arrays.{WritesArray}
+use Rattle.file_rows.specs.Tiles.{AreShared}
 use Rattle.program_types.specs.View as view
 use Rattle.program_types.specs.declared.class.Class.{Class}
-use Rattle.file_sections.proofs.LayingLaws.{items_few, room_of_element, shared_of, shared_all}
-use Rattle.file_layout.specs.Sections.{is_empty_list, wide_all, Laid}
-use Rattle.file_shared.proofs.SharingLaws.{sharing_start, sharing_shared}
+use Rattle.file_rows.proofs.LayingLaws.{items_few, room_of_element, shared_of, shared_all}
+use Rattle.file_rows.specs.Sections.{is_empty_list, wide_all, Laid}
+use Rattle.file_rows.proofs.SharingLaws.{sharing_start, sharing_shared}
 use Rattle.file_sections.proofs.NumberLaws.{no_class}
 use Rattle.base_bytes.specs.Leb128.{Shortest}
 use Rattle.tables_names.specs.Closure.{NameRanks}
 use Rattle.program_types.specs.Content as content
-use Rattle.file_limits.specs.Spelling.{SpellsArray}
-use Rattle.file_limits.specs.dex_value_Wide.{wide_array}
-use Rattle.file_sections.proofs.ArrayLaws.{values_ranked, array_packs, array_one, array_most, arrays_once}
+use Rattle.file_rows.specs.Spelling.{SpellsArray}
+use Rattle.file_rows.specs.dex_value_Wide.{wide_array}
+use Rattle.file_rows.proofs.ArrayLaws.{array_packs, array_one, array_most, arrays_once}
+use Rattle.file_sections.proofs.ArrayLaws.{values_ranked}
 use Rattle.file_sections.proofs.arrays.put_arrays.Goals as goal
-use Rattle.file_limits.proofs.PartLaws.{map_map}
+use Rattle.file_rows.proofs.file_limits_PartLaws.{map_map}
 
 pub loop-class-init : goal.loop-class-init
 loop-class-init c = rw (c.new-places.ensures.items, c.new-items.ensures) (sharing_start is_empty_list (Shortest (SpellsArray (NameRanks c.args.ranks.now))) (WritesArray c.args.ranks.now) 1 wide_array c.args.out.now.items (map (λ (x : Class). map view.value x.values.now) c.args.program.now.classes.now))

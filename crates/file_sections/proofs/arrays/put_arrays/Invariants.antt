@@ -1,13 +1,13 @@
 use Rattle.std.proofs.Common.{map, take, drop}
 use Rattle.program_types.specs.View as view
 use Rattle.program_types.specs.declared.class.Class.{Class}
-use Rattle.file_layout.specs.Sections.{is_empty_list}
-use Rattle.file_shared.specs.Sharing.{Sharing}
+use Rattle.file_rows.specs.Sections.{is_empty_list}
+use Rattle.file_rows.specs.Sharing.{Sharing}
 use Rattle.base_bytes.specs.Leb128.{Shortest}
 use Rattle.tables_names.specs.Closure.{NameRanks}
-use Rattle.file_limits.specs.Spelling.{SpellsArray}
-use Rattle.file_limits.specs.dex_value_Wide.{wide_array}
-use Rattle.file_sections.specs.Arrays.{WritesArray}
+use Rattle.file_rows.specs.Spelling.{SpellsArray}
+use Rattle.file_rows.specs.dex_value_Wide.{wide_array}
+use Rattle.file_rows.specs.Arrays.{WritesArray}
 use Rattle.file_sections.proofs.arrays.put_arrays.Given as goal
 
 abbrev pub invariant-loop-class : goal.invariant-loop-class

@@ -7,7 +7,7 @@ use Rattle.program_types.specs.View as view
 use Rattle.program_types.specs.declared.class.Member.{Member}
 use Rattle.file_sections.proofs.MemberRuns.{fields_start, field_step, fields_more}
 use Rattle.file_sections.proofs.MentionLaws.{member_ranked, no_member}
-use Rattle.file_sections.specs.Growing.{AddsFields}
+use Rattle.file_rows.specs.Growing.{AddsFields}
 use Rattle.file_sections.proofs.class_data.put_fields.Goals as goal
 
 pub loop-i-init : goal.loop-i-init

@@ -6,7 +6,7 @@ use Rattle.program_types.specs.View as view
 use Rattle.program_types.specs.declared.class.Method.{Method}
 use Rattle.file_sections.proofs.MemberRuns.{MethodsTo, methods_start, method_step, methods_more}
 use Rattle.file_sections.proofs.MentionLaws.{member_ranked, no_method}
-use Rattle.file_sections.specs.Growing.{AddsMethods}
+use Rattle.file_rows.specs.Growing.{AddsMethods}
 use Rattle.file_sections.proofs.class_data.put_methods.Goals as goal
 
 pub loop-i-init : goal.loop-i-init

@@ -1,7 +1,8 @@
 use Rattle.std.proofs.Common.{arith}
 use Rattle.tables_names.specs.Closure.{NameRanks}
 use Rattle.program_types.specs.View as view
-use Rattle.file_sections.proofs.CodeLaws.{packed_room, body_used}
+use Rattle.file_rows.proofs.file_parts_CodeLaws.{packed_room}
+use Rattle.file_sections.proofs.CodeLaws.{body_used}
 use Rattle.file_sections.proofs.codes.add_body.Goals as goal
 
 pub put_aligned-requires-clause-some : goal.put_aligned-requires-clause-some

@@ -5,7 +5,7 @@ use Rattle.program_types.specs.declared.class.Method.{Method}
 use Rattle.tables_names.specs.Noted.{AreRanks}
 use Rattle.file_needed.specs.Bodies.{named_in_body}
 use Rattle.file_sections.proofs.MentionLaws.{next_named, no_method}
-use Rattle.file_limits.specs.Wide.{bodies_in}
+use Rattle.file_rows.specs.file_limits_Wide.{bodies_in}
 use Rattle.program_types.specs.View as view
 use Rattle.file_sections.proofs.CodeLaws.{bodies_start, bodies_step, bodies_end, body_at, body_fits}
 use Rattle.file_sections.specs.Named.{BodyCanBePut}

@@ -1,23 +1,24 @@
 use Rattle.std.proofs.Common.{◌+◌, ◌++◌, add-one, suc, map, take, drop, get_or, ap, arith, subst, List, [], Option}
 use Rattle.std.proofs.lemmas.List.{take_all, drop_all}
 use Rattle.std.specs.List.{flat_map}
-use Rattle.file_shared.proofs.SharingLaws.{sharing_start, sharing_shared}
-use Rattle.file_layout.specs.Sections.{wide_all}
-use Rattle.file_limits.proofs.SumLaws.{wide_all_append}
-use Rattle.file_limits.specs.Wide.{bodies_in, bodies_of, body_values, wide_body}
+use Rattle.file_rows.proofs.SharingLaws.{sharing_start, sharing_shared}
+use Rattle.file_rows.specs.Sections.{wide_all}
+use Rattle.file_rows.proofs.SumLaws.{wide_all_append}
+use Rattle.file_rows.specs.file_limits_Wide.{bodies_in, bodies_of, body_values, wide_body}
 use Rattle.tables_names.specs.Closure.{NameRanks}
 use Rattle.tables_names.specs.Noted.{AreRanks}
 use Rattle.program_types.specs.Content as content
 use Rattle.program_types.specs.View as view
 use Rattle.program_types.specs.declared.class.Class.{Class}
-use Rattle.file_sections.proofs.CodeLaws.{Bodies, bodies_once, class_left, first_part, both_parts}
-use Rattle.file_layout.specs.Tiles.{AreShared}
-use Rattle.file_sections.proofs.LayingLaws.{items_few}
+use Rattle.file_rows.proofs.file_parts_CodeLaws.{bodies_once}
+use Rattle.file_sections.proofs.CodeLaws.{Bodies, class_left, first_part, both_parts}
+use Rattle.file_rows.specs.Tiles.{AreShared}
+use Rattle.file_rows.proofs.LayingLaws.{items_few}
 use Rattle.file_sections.proofs.NumberLaws.{no_class}
 use Rattle.file_needed.specs.Bodies.{defined_in, named_in_body, named_in_code}
 use Rattle.file_sections.proofs.MentionLaws.{next_class}
-use Rattle.file_sections.proofs.Steps.{mapped_at}
-use Rattle.file_sections.specs.Codes.{PacksBody, WritesBody, is_bodiless}
+use Rattle.file_rows.proofs.Steps.{mapped_at}
+use Rattle.file_rows.specs.Codes.{PacksBody, WritesBody, is_bodiless}
 use Rattle.file_sections.specs.Named.{BodyCanBePut}
 use Rattle.file_sections.proofs.codes.put_codes.Goals as goal
 use Rattle.base_bytes.proofs.ListFacts.{all_front, all_back}

@@ -1,8 +1,8 @@
 use Rattle.std.proofs.Common.{◌++◌, length, ap, ◌∙◌, sym, arith, length-append}
 use Rattle.dex_base.proofs.TextLaws.{mutf8_length-least, packed_length}
 use Rattle.program_types.specs.View as view
-use Rattle.file_layout.proofs.SectionLaws.{gap_one, unpadded}
-use Rattle.file_sections.proofs.RoomLaws.{text_some}
+use Rattle.file_rows.proofs.SectionLaws.{gap_one, unpadded}
+use Rattle.file_rows.proofs.RoomLaws.{text_some}
 use Rattle.file_sections.proofs.texts.add_string.Goals as goal
 
 pub put_mutf8-requires : goal.put_mutf8-requires

@@ -3,16 +3,16 @@ use Rattle.std.proofs.lemmas.List.{length-map, take_all, drop_all}
 use Rattle.dex_base.specs.Mutf8.{PacksText}
 use Rattle.program_types.specs.View.{str}
 use Rattle.tables_names.specs.Rows.{first_of}
-use Rattle.file_layout.specs.Sections.{never, wide_all, Laying}
-use Rattle.file_layout.proofs.SectionLaws.{Laying-start, Laying-more}
-use Rattle.file_limits.specs.Wide.{wide_text}
+use Rattle.file_rows.specs.Sections.{never, wide_all, Laying}
+use Rattle.file_rows.proofs.SectionLaws.{Laying-start, Laying-more}
+use Rattle.file_rows.specs.file_limits_Wide.{wide_text}
 use Rattle.program_types.specs.Key.{text_key}
-use Rattle.file_layout.specs.Tiles.{AreShared}
-use Rattle.file_sections.proofs.ApartLaws.{texts_shared}
-use Rattle.file_sections.proofs.Steps.{no_str}
-use Rattle.file_sections.proofs.RoomLaws.{texts_of_keys, map_drop, strings_room}
+use Rattle.file_rows.specs.Tiles.{AreShared}
+use Rattle.file_rows.proofs.ApartLaws.{texts_shared}
+use Rattle.file_rows.proofs.RoomLaws.{map_drop}
+use Rattle.file_sections.proofs.RoomLaws.{no_str, texts_of_keys, strings_room}
 use Rattle.file_sections.proofs.texts.put_strings.Goals as goal
-use Rattle.file_limits.proofs.PartLaws.{map_map}
+use Rattle.file_rows.proofs.file_limits_PartLaws.{map_map}
 use Rattle.base_bytes.proofs.ListFacts.{map_more}
 
 pub loop-text-init : goal.loop-text-init

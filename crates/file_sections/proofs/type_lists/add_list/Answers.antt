@@ -1,6 +1,7 @@
 use Rattle.std.proofs.Common.{map, arith}
 use Rattle.program_types.specs.View as view
-use Rattle.file_sections.proofs.ListLaws.{list_room, list_some, list_used}
+use Rattle.file_rows.proofs.ListLaws.{list_some}
+use Rattle.file_sections.proofs.ListLaws.{list_room, list_used}
 use Rattle.file_sections.proofs.type_lists.add_list.Goals as goal
 
 pub list_bytes-requires-clause-short : goal.list_bytes-requires-clause-short

@@ -2,10 +2,10 @@ use Rattle.std.proofs.Common.{◌+◌, ◌-◌, ◌<◌, ◌≤◌, length, ap, 
 use Rattle.program_types.specs.View as view
 use Rattle.file_sections.proofs.NumberLaws.{params_held, list_first, list_second, interfaces_held, list_count, no_proto, no_class}
 use Rattle.std.specs.Prelude.{IfOk}
-use Rattle.file_layout.specs.Sections.{is_empty_list}
-use Rattle.file_shared.specs.Sharing.{UsesItem}
-use Rattle.file_sections.specs.Lists.{SpellsRanks}
-use Rattle.file_limits.specs.Wide.{wide_list}
+use Rattle.file_rows.specs.Sections.{is_empty_list}
+use Rattle.file_rows.specs.Sharing.{UsesItem}
+use Rattle.file_rows.specs.Lists.{SpellsRanks}
+use Rattle.file_rows.specs.file_limits_Wide.{wide_list}
 use Rattle.file_sections.proofs.type_lists.add_numbered.Goals as goal
 
 pub add_list-requires-clause-held : goal.add_list-requires-clause-held

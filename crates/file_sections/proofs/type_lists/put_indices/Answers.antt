@@ -1,6 +1,7 @@
 use Rattle.std.proofs.Common.{◌≡◌, arith, refl}
 use Rattle.program_types.specs.View as view
-use Rattle.file_sections.proofs.ListLaws.{indices_none, indices_more}
+use Rattle.file_rows.proofs.ListLaws.{indices_none}
+use Rattle.file_sections.proofs.ListLaws.{indices_more}
 use Rattle.std.proofs.lemmas.Slice.{pushed}
 use Rattle.base_bytes.specs.Fields.{u16_bytes}
 use Rattle.program_types.specs.Key.{text_key}

@@ -1,13 +1,13 @@
 use Rattle.std.proofs.Common.{arith, [], List, subst}
 use Rattle.program_types.specs.View as view
 use Rattle.file_sections.proofs.NumberLaws.{list_count}
-use Rattle.file_sections.proofs.LayingLaws.{items_few, room_at}
-use Rattle.file_sections.proofs.ListLaws.{list_packs, list_one, list_most, lists_once}
-use Rattle.file_layout.specs.Sections.{is_empty_list}
-use Rattle.file_sections.specs.Lists.{SpellsRanks}
-use Rattle.file_limits.specs.Wide.{wide_list, list_values}
-use Rattle.file_shared.proofs.SharingLaws.{sharing_start, sharing_next, sharing_end, sharing_shared}
-use Rattle.file_layout.specs.Tiles.{AreShared}
+use Rattle.file_rows.proofs.LayingLaws.{items_few, room_at}
+use Rattle.file_rows.proofs.ListLaws.{list_packs, list_one, list_most, lists_once}
+use Rattle.file_rows.specs.Sections.{is_empty_list}
+use Rattle.file_rows.specs.Lists.{SpellsRanks}
+use Rattle.file_rows.specs.file_limits_Wide.{wide_list, list_values}
+use Rattle.file_rows.proofs.SharingLaws.{sharing_start, sharing_next, sharing_end, sharing_shared}
+use Rattle.file_rows.specs.Tiles.{AreShared}
 use Rattle.std.proofs.lemmas.List.{take_all}
 use Rattle.program_types.specs.Content.{Descriptor}
 use Rattle.file_sections.proofs.type_lists.put_lists.Goals as goal

@@ -1,9 +1,9 @@
 use Rattle.std.proofs.Common.{take, drop}
 use Rattle.program_types.specs.View as view
-use Rattle.file_layout.specs.Sections.{is_empty_list}
-use Rattle.file_sections.specs.Lists.{SpellsRanks}
-use Rattle.file_limits.specs.Wide.{wide_list, list_values}
-use Rattle.file_shared.specs.Sharing.{Sharing}
+use Rattle.file_rows.specs.Sections.{is_empty_list}
+use Rattle.file_rows.specs.Lists.{SpellsRanks}
+use Rattle.file_rows.specs.file_limits_Wide.{wide_list, list_values}
+use Rattle.file_rows.specs.Sharing.{Sharing}
 use Rattle.file_sections.proofs.type_lists.put_lists.Given as goal
 
 abbrev pub invariant-loop-number : goal.invariant-loop-number

@@ -2,8 +2,8 @@ use Rattle.std.proofs.Common.{◌≡◌, length, ap, ◌∙◌, arith}
 use Rattle.file_layout.specs.Plan.{tables_end}
 use Rattle.file_layout.specs.Tiles.{Refers}
 use Rattle.file_assemble.specs.file_limits_Wide.{body_values}
-use Rattle.file_assemble.specs.Codes.{is_bodiless}
-use Rattle.file_assemble.proofs.SitedLaws.{room_of_sited}
+use Rattle.file_kept.specs.Codes.{is_bodiless}
+use Rattle.file_kept.proofs.SitedLaws.{room_of_sited}
 use Rattle.file_assemble.specs.Assembled.{Places, rows_of}
 use Rattle.file_assemble.proofs.DataLaws.{laid}
 use Rattle.file_assemble.proofs.OnceLaws.{datas_shared}

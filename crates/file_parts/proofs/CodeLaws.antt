@@ -1,0 +1,62 @@
+-- One body.
+use Rattle.std.proofs.Common.{◌≡◌, ℕ, ◌+◌, ◌<◌, ◌≤◌, false, List, [], ◌++◌, length, refl, ap, arith, length-append, Option, Some, None}
+use Rattle.file_limits.proofs.PackedTries.{items-length}
+use Rattle.file_limits.proofs.WrittenLaws.{lowered-length}
+use Rattle.file_limits.proofs.PackedLaws.{length-head, few-padding}
+use Rattle.file_limits.specs.Fits.{wide_code}
+use Rattle.file_limits.specs.Packs.{PacksCode, head_bytes, padding, joined, items_bytes}
+use Rattle.file_shared.specs.Tiles.{gap}
+use Rattle.file_classes.proofs.CodeLaws.{SpellsCode-unique}
+use Rattle.file_limits.proofs.code_put_RankLaws.{ranks-functional}
+use Rattle.file_limits.proofs.HandlerOnce.{ranks-injective}
+use Rattle.file_limits.proofs.CodeOnce.{code_once}
+use Rattle.file_limits.specs.Wide.{wide_body}
+use Rattle.file_limits.specs.Closure.{Five, AreRising, NameRanks}
+use Rattle.program_types.specs.Content.{Name, Code}
+use Rattle.program_types.specs.Sizes.{addresses_of, length_of}
+use Rattle.file_parts.proofs.ListLaws.{gap_four}
+use Rattle.file_parts.specs.Codes.{PacksBody, WritesBody, is_bodiless}
+
+-- ---- how long a body is
+
+-- with three zeros before it, it takes no more than its term of the sum
+pub packed_room : (N : ℕ → Name → Type 0) (c : Code) (bytes : List ℕ) → PacksCode N bytes c → (0 < length bytes) × (length bytes + 3 ≤ wide_code c)
+packed_room N c bytes p =
+    let h = head_bytes c (length_of c.insns) in
+    let i = items_bytes (length_of c.insns) (addresses_of c.insns) c.tries p.offsets in
+    let pad = padding (length_of c.insns) (length c.tries) in
+    let lh = length-head c (length_of c.insns) in
+    let lj = lowered-length N c.insns p.raws p.lowered in
+    let lp = few-padding (length_of c.insns) (length c.tries) in
+    let li = items-length (length_of c.insns) (addresses_of c.insns) c.tries p.offsets p.handlers.offsets.count in
+    let short = p.handlers.short in
+    let a = length-append h (joined p.raws ++ (pad ++ (i ++ p.list))) in
+    let b = length-append (joined p.raws) (pad ++ (i ++ p.list)) in
+    let d = length-append pad (i ++ p.list) in
+    let e = length-append i p.list in
+    let w = ap length p.is in
+    (omega arith, omega arith)
+
+-- ---- one body
+
+pub bodies_packs : (s : Five) (bytes : List ℕ) (v : Option Code) → WritesBody s bytes v → PacksBody (NameRanks s) bytes v
+bodies_packs s bytes None p = absurd p
+bodies_packs s bytes (Some c) p = p.packs
+
+-- the bytes of a body have one value
+pub bodies_one : (s : Five) (bytes : List ℕ) (u v : Option Code) → WritesBody s bytes u → WritesBody s bytes v → u ≡ v
+bodies_one s bytes None v p q = absurd p
+bodies_one s bytes (Some c) None p q = absurd q
+bodies_one s bytes (Some c) (Some d) p q = ap (λ (x : Code). Some x) (SpellsCode-unique (NameRanks s) (ranks-functional s) bytes bytes [] [] c d p.spells q.spells refl).1
+
+pub bodies_most : (s : Five) (v : Option Code) → is_bodiless v ≡ false → (bytes : List ℕ) (at : ℕ) → WritesBody s bytes v → gap 4 at + length bytes ≤ wide_body v
+bodies_most s None e bytes at p = absurd p
+bodies_most s (Some c) e bytes at p =
+    let r = (packed_room (NameRanks s) c bytes p.packs).1 in
+    let g = gap_four at in
+    omega (arith, r, g)
+
+-- a body has one list of bytes
+pub bodies_once : (s : Five) → AreRising s → (a b : List ℕ) (v : Option Code) → WritesBody s a v → WritesBody s b v → a ≡ b
+bodies_once s rising a b None p q = absurd p
+bodies_once s rising a b (Some c) p q = code_once (NameRanks s) (ranks-injective s rising) c a b p.formed p.are q.are p.packs q.packs

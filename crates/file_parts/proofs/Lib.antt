@@ -1,0 +1,39 @@
+pub mod RowLaws
+pub mod AtLaws
+pub mod ClassRowLaws
+pub mod RowsOnce
+pub mod Steps
+pub mod RoomLaws
+pub mod ListLaws
+pub mod LayingLaws
+pub mod ArrayLaws
+pub mod CodeLaws
+pub mod RunLaws
+pub mod DataLaws
+pub mod SitedLaws
+pub mod ApartLaws
+pub mod GrammarOnce
+pub mod EntryOnce
+pub mod DataOnce
+-- What stands below, for the crates above.
+pub use Rattle.file_classes.proofs.ArrayOnce
+pub use Rattle.file_classes.proofs.Carrying
+pub use Rattle.file_classes.proofs.Fitting
+pub use Rattle.file_classes.proofs.FrontLaws
+pub use Rattle.file_classes.proofs.CodeLaws as code_read_CodeLaws
+pub use Rattle.file_limits.proofs.CodeOnce
+pub use Rattle.file_limits.proofs.DistinctLaws
+pub use Rattle.file_limits.proofs.HandlerOnce
+pub use Rattle.file_limits.proofs.HandlerPacks
+pub use Rattle.file_limits.proofs.MentionLaws
+pub use Rattle.file_limits.proofs.PackedLaws
+pub use Rattle.file_limits.proofs.code_put_RankLaws as RankLaws
+pub use Rattle.file_classes.proofs.EntryLaws
+pub use Rattle.file_classes.proofs.MemberLaws
+pub use Rattle.file_classes.proofs.OnceLaws
+pub use Rattle.file_shared.proofs.SectionLaws
+pub use Rattle.file_shared.proofs.SharingLaws
+pub use Rattle.file_limits.proofs.LimitLaws
+pub use Rattle.file_limits.proofs.OneLimit
+pub use Rattle.file_limits.proofs.PartLaws
+pub use Rattle.file_limits.proofs.SumLaws
