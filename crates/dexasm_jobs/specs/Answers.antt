@@ -1,6 +1,6 @@
 -- What a job answers to the bytes that it is given, and when it refuses them.
 -- Page: docs/PROVED.md; "Dalvik Executable format" for files, docs/LISTING.md for listings.
-use Rattle.std.specs.Prelude.{◌≡◌, ℕ, true, false, ◌⊎◌, List, codes, Result, Ok, Err}
+use Rattle.std.specs.Prelude.{◌≡◌, ℕ, Bool, true, false, ◌⊎◌, List, codes, Result, Ok, Err}
 use Rattle.file_align.specs.Programs.{AlignedProgram, IsTooLong}
 use Rattle.base_bytes.specs.declared.fault.Fault.{Fault}
 use Rattle.file_write.specs.Means.{Means}
@@ -20,48 +20,35 @@ pub record Lists (given : List ℕ) (p : Program) : Type 0 where
   pub text : ListingText given p
   pub formed : WellFormed p
 
--- The listing says a program that fits, and the bytes are its file.
-pub record IsAssembled (given made : List ℕ) : Type 0 where
-  pub program : Program
-  pub listed : Lists given program
-  pub fits : Fits program
-  pub file : IsFileOf program made
-
 -- The one program is the other with each of its codes aligned, and well formed: no code gets too long.
 pub record IsAligned (p q : Program) : Type 0 where
   pub aligned : AlignedProgram p q
   pub formed : WellFormed q
 
--- The bytes made are the file of the listed program with each of its codes aligned.
-pub record IsAssembledAligned (given made : List ℕ) : Type 0 where
-  pub program : Program
-  pub listed : Lists given program
-  pub other : Program
-  pub is : IsAligned program other
-  pub fits : Fits other
-  pub file : IsFileOf other made
+-- The program fits, and the bytes are its file; with align those of the program aligned.
+abbrev pub IsWritten : Bool → Program → List ℕ → Type 0
+IsWritten false p made = Fits p × IsFileOf p made
+IsWritten true p made = (q : Program) × IsAligned p q × Fits q × IsFileOf q made
+
+-- The program breaks a limit of the format; with align a code would be too long when aligned, or else the aligned program breaks one.
+abbrev pub IsUnwritten : Bool → Program → Fault → Type 0
+IsUnwritten false p fault = IsLowestLimit p fault
+IsUnwritten true p fault = IsTooLong p fault ⊎ ((q : Program) × IsAligned p q × IsLowestLimit q fault)
 
 -- The job's answer to these bytes. Check: `ok` and a line feed, where they are a file. List: the listing of the file's program.
 -- Assemble: the file of the listed program, or with align of that program aligned. Strip: the file of the file's program.
 abbrev pub Answer : Job → List ℕ → List ℕ → Type 0
 Answer Check given made = (p : Program) × Means given p × (made ≡ codes "ok\n")
 Answer Listing given made = (p : Program) × Means given p × (made ≡ canon p)
-Answer (Assemble false) given made = IsAssembled given made
-Answer (Assemble true) given made = IsAssembledAligned given made
+Answer (Assemble align) given made = (p : Program) × Lists given p × IsWritten align p made
 Answer Strip given made = IsStripped given made
-
--- A code of the program would be too long when aligned, or else the aligned program breaks a limit of the format.
-abbrev pub IsAlignedUnwritten : Program → Fault → Type 0
-IsAlignedUnwritten p fault = IsTooLong p fault ⊎ ((q : Program) × IsAligned p q × IsLowestLimit q fault)
 
 -- The job refuses these bytes with this fault: they are no file, or no listing, or their program can't be written.
 abbrev pub Refusal : Job → List ℕ → Fault → Type 0
 Refusal Check given fault = IsRefused given fault
 Refusal Listing given fault = IsRefused given fault
-Refusal (Assemble false) given fault =
-    ListingBreaks given fault.code fault.place ⊎ ((p : Program) × Lists given p × IsLowestLimit p fault)
-Refusal (Assemble true) given fault =
-    ListingBreaks given fault.code fault.place ⊎ ((p : Program) × Lists given p × IsAlignedUnwritten p fault)
+Refusal (Assemble align) given fault =
+    ListingBreaks given fault.code fault.place ⊎ ((p : Program) × Lists given p × IsUnwritten align p fault)
 Refusal Strip given fault = IsStripRefused given fault
 
 -- What comes of a job on these bytes, unless memory runs out: its answer, or its refusal.

@@ -1,9 +1,9 @@
 //! The answer to each job.
-ghost use Rattle.std.specs.Prelude.{◌≢◌, IfOk, IfErr, false, true};
+ghost use Rattle.std.specs.Prelude.{◌≢◌, IfOk, IfErr};
 ghost use Rattle.base_bytes.specs.Fault.{memory};
 ghost use Rattle.program_types.specs.View.{program};
-ghost use Rattle.listing_grammar.specs.Text.{IsListing, ListingBreaks};
-ghost use Rattle.dexasm_jobs.specs.Answers.{Answer, Refusal};
+ghost use Rattle.program_rules.specs.WellFormed.{WellFormed};
+ghost use Rattle.dexasm_jobs.specs.Answers.{Answer, Refusal, IsWritten, IsUnwritten};
 
 use bumpalo::Bump;
 use dex_base::{Fault, Seed};
@@ -56,8 +56,7 @@ pub fn answer_seeded(alloc: Global, seed: Seed, job: Job, given: &[u8]) -> Resul
     match job {
         Job::Check => checked(alloc, given),
         Job::List => list(alloc, given),
-        Job::Assemble { align: false } => assemble(alloc, seed, given),
-        Job::Assemble { align: true } => assemble_aligned(alloc, seed, given),
+        Job::Assemble { align } => assemble(alloc, seed, align, given),
         Job::Strip => strip_seeded(alloc, seed, given),
     }
 }
@@ -102,8 +101,7 @@ pub fn answer_owned_seeded(
     ensures refused { IfErr result (λ fault. fault ≢ memory → Refusal job given.items fault) }
 {
     match job {
-        Job::Assemble { align: false } => assemble_owned(alloc, seed, given),
-        Job::Assemble { align: true } => assemble_owned_aligned(alloc, seed, given),
+        Job::Assemble { align } => assemble_owned(alloc, seed, align, given),
         _ => answer_seeded(alloc, seed, job, &given),
     }
 }
@@ -127,57 +125,42 @@ fn list(alloc: Global, given: &[u8]) -> Result<Vec<u8>, Fault>
     print(alloc, &program)
 }
 
-/// The file of the listed program.
-fn assemble(alloc: Global, seed: Seed, given: &[u8]) -> Result<Vec<u8>, Fault>
-    ensures answered { IfOk result (λ made. Answer (Job.Assemble false) given.now made.items) }
-    ensures refused { IfErr result (λ fault. fault ≢ memory → Refusal (Job.Assemble false) given.now fault) }
+/// The file of the listed program, with each code aligned if that is asked.
+fn assemble(alloc: Global, seed: Seed, align: bool, given: &[u8]) -> Result<Vec<u8>, Fault>
+    ensures answered { IfOk result (λ made. Answer (Job.Assemble align) given.now made.items) }
+    ensures refused { IfErr result (λ fault. fault ≢ memory → Refusal (Job.Assemble align) given.now fault) }
 {
     let arena = Bump::new(alloc);
-    let program = parse_seeded(alloc, seed, &arena, given)?;
-    write_seeded(alloc, seed, &program)
+    let listed = parse_seeded(alloc, seed, &arena, given)?;
+    file_of(alloc, seed, &arena, &listed, align)
 }
 
-/// The file of the listed program with each code aligned.
-fn assemble_aligned(alloc: Global, seed: Seed, given: &[u8]) -> Result<Vec<u8>, Fault>
-    ensures answered { IfOk result (λ made. Answer (Job.Assemble true) given.now made.items) }
-    ensures refused { IfErr result (λ fault. fault ≢ memory → Refusal (Job.Assemble true) given.now fault) }
+/// The file of the listed program, as `assemble` answers it. The listing is let go before the file is written.
+fn assemble_owned(alloc: Global, seed: Seed, align: bool, given: Vec<u8>) -> Result<Vec<u8>, Fault>
+    ensures answered { IfOk result (λ made. Answer (Job.Assemble align) given.items made.items) }
+    ensures refused { IfErr result (λ fault. fault ≢ memory → Refusal (Job.Assemble align) given.items fault) }
 {
     let arena = Bump::new(alloc);
-    let program = parse_seeded(alloc, seed, &arena, given)?;
-    let aligned = align_all(alloc, &arena, &program)?;
-    write_seeded(alloc, seed, &aligned)
+    let listed = parse_seeded(alloc, seed, &arena, &given)?;
+    drop(given);
+    file_of(alloc, seed, &arena, &listed, align)
 }
 
-/// The program of a listing, which is let go.
-fn parse_owned<'a>(
+/// The file of a program, with each code aligned if that is asked.
+fn file_of<'a>(
     alloc: Global,
     seed: Seed,
     arena: &'a Bump,
-    given: Vec<u8>,
-) -> Result<Program<'a>, Fault>
-    ensures ok { IfOk result (λ p. IsListing given.items (program p)) }
-    ensures err { IfErr result (λ e. e ≢ memory → ListingBreaks given.items e.code e.place) }
+    listed: &Program<'a>,
+    align: bool,
+) -> Result<Vec<u8>, Fault>
+    requires kept { WellFormed (program listed.now) }
+    ensures written { IfOk result (λ made. IsWritten align (program listed.now) made.items) }
+    ensures refused { IfErr result (λ fault. fault ≢ memory → IsUnwritten align (program listed.now) fault) }
 {
-    parse_seeded(alloc, seed, arena, &given)
-}
-
-/// The file of the listed program, as `assemble` answers it.
-fn assemble_owned(alloc: Global, seed: Seed, given: Vec<u8>) -> Result<Vec<u8>, Fault>
-    ensures answered { IfOk result (λ made. Answer (Job.Assemble false) given.items made.items) }
-    ensures refused { IfErr result (λ fault. fault ≢ memory → Refusal (Job.Assemble false) given.items fault) }
-{
-    let arena = Bump::new(alloc);
-    let program = parse_owned(alloc, seed, &arena, given)?;
-    write_seeded(alloc, seed, &program)
-}
-
-/// The file of the listed program with each code aligned, as `assemble_aligned` answers it.
-fn assemble_owned_aligned(alloc: Global, seed: Seed, given: Vec<u8>) -> Result<Vec<u8>, Fault>
-    ensures answered { IfOk result (λ made. Answer (Job.Assemble true) given.items made.items) }
-    ensures refused { IfErr result (λ fault. fault ≢ memory → Refusal (Job.Assemble true) given.items fault) }
-{
-    let arena = Bump::new(alloc);
-    let program = parse_owned(alloc, seed, &arena, given)?;
-    let aligned = align_all(alloc, &arena, &program)?;
-    write_seeded(alloc, seed, &aligned)
+    if align {
+        let aligned = align_all(alloc, arena, listed)?;
+        return write_seeded(alloc, seed, &aligned);
+    }
+    write_seeded(alloc, seed, listed)
 }

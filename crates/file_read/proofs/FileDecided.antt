@@ -24,11 +24,12 @@ use Rattle.file_read.specs.Broken.{Broken}
 use Rattle.file_classes.specs.ClassRows.{class_word}
 use Rattle.file_classes.specs.ClassData.{MethodEntry, Entries, EntriesAt}
 use Rattle.file_classes.specs.ClassFaults.{ClassRowHolds, ValuesHold, ValuesBreak, at_row, SomeBodyStands, BodyHolds, BodyFails, CodeHolds, RegistersFail, EachCodeHolds, SomeCodeFails, ClassCodesHold, MethodsBreak, BodiesHold, BodiesBreak, RowRegistersHold, RowRegistersBreak, IsFirstClass}
+use Rattle.file_read.specs.Groups.{Classes, Values, Codes, Registers}
 use Rattle.file_read.specs.Means.{Means}
 use Rattle.file_read.specs.Refused.{IsRefused}
 use Rattle.file_classes.proofs.EntryLaws.{entry_at, at_some}
-use Rattle.file_read.proofs.PassLaws.{program_meant}
-use Rattle.file_read.proofs.FirstLaws.{string_first, type_first, proto_first, field_first, method_first, class_first, value_first, code_first, register_first, means_clear}
+use Rattle.file_read.proofs.PassLaws.{program_meant, table_refused}
+use Rattle.file_read.proofs.FirstLaws.{means_clear, refused_broken}
 use Rattle.file_classes.proofs.CodesDecided.{body-decided, registers-decided}
 use Rattle.file_read.specs.FileDeciding.{MeansOrRefused}
 use Rattle.file_read.proofs.ClassesDecided.{classes_are_decided}
@@ -163,40 +164,22 @@ registers_decided b framed tables i h =
 
 pub framed_is_decided : (b : List ℕ) → AreBytes b → IsFramed b → MeansOrRefused b
 framed_is_decided b are framed = elim (tables_are_decided b framed) [
-  | inr f ↦ inr (f.0, inr (inl f.1))
+  | inr f ↦ inr (f.0, table_refused b f.0 f.1)
   | inl tables ↦ elim (classes_are_decided b framed tables) [
-    | inr f ↦ inr (f.0, inr (inr (inl f.1)))
+    | inr f ↦ inr (f.0, (Classes, f.1))
     | inl classes ↦ elim (first_class_break ValuesBreak ValuesHold b (λ i lt. value_row b are framed tables i (classes i lt)) (size_of b 5) (omega arith)) [
-      | inr f ↦ inr (f.0, inr (inr (inr (inl (record { framed = framed; tables = tables; classes = classes; first = f.1 })))))
+      | inr f ↦ inr (f.0, (Values, record { framed = framed; tables = tables; classes = classes; first = f.1 }))
       | inl values ↦
           elim (first_class_break BodiesBreak BodiesHold b (λ i lt. bodies_decided b are framed tables i (classes i lt)) (size_of b 5) (omega arith)) [
-            | inr f ↦ inr (f.0, inr (inr (inr (inr (inl (record { framed = framed; tables = tables; classes = classes; values = values; first = f.1 }))))))
+            | inr f ↦ inr (f.0, (Codes, record { framed = framed; tables = tables; classes = classes; values = values; first = f.1 }))
             | inl bodies ↦ elim (first_class_break RowRegistersBreak RowRegistersHold b (λ i lt. registers_decided b framed tables i (bodies i lt)) (size_of b 5) (omega arith)) [
-              | inr f ↦ inr (f.0, inr (inr (inr (inr (inr (record { framed = framed; tables = tables; classes = classes; values = values; bodies = bodies; first = f.1 }))))))
+              | inr f ↦ inr (f.0, (Registers, record { framed = framed; tables = tables; classes = classes; values = values; bodies = bodies; first = f.1 }))
               | inl methods ↦ inl (program_meant b framed tables classes values methods)
             ]
           ]
     ]
   ]
 ]
-
--- a fault that refuses stands
-pub refused_broken : (b : List ℕ) (e : Fault) → IsRefused b e → Broken b e
-refused_broken b e (inl f) = inl f.stands
-refused_broken b e (inr (inl t)) = inr (inl (elim t [
-  | inl f ↦ inl (string_first b e f).0
-  | inr u ↦ inr (elim u [
-    | inl f ↦ inl (type_first b e f).0
-    | inr v ↦ inr (elim v [
-      | inl f ↦ inl (proto_first b e f).0
-      | inr w ↦ inr (elim w [ inl f ↦ inl (field_first b e f).0 | inr f ↦ inr (method_first b e f).0 ])
-    ])
-  ])
-]))
-refused_broken b e (inr (inr (inl f))) = inr (inr (inl (class_first b e f).0))
-refused_broken b e (inr (inr (inr (inl f)))) = inr (inr (inr (inl (value_first b e f).0)))
-refused_broken b e (inr (inr (inr (inr (inl f))))) = inr (inr (inr (inr (inl (code_first b e f).0))))
-refused_broken b e (inr (inr (inr (inr (inr f))))) = inr (inr (inr (inr (inr (register_first b e f).0))))
 
 -- where no fault stands, a program is meant
 pub meant_without_fault : (b : List ℕ) → MeansOrRefused b → ((f : Fault) → Broken b f → ⊥) → (p : Program) × Means b p

@@ -1,110 +1,78 @@
--- A fault that is answered is broken at its place, and no fault of an earlier group stands.
-use Rattle.std.proofs.Common.{ℕ, inl, inr, List}
+-- A fault that is answered stands, and no fault of an earlier group does.
+use Rattle.std.proofs.Common.{ℕ, List, arith}
 use Rattle.base_bytes.specs.declared.fault.Fault.{Fault}
 use Rattle.dex_container.specs.Frame.{IsFramed}
-use Rattle.dex_container.specs.Faults.{FrameBreaks}
+use Rattle.dex_container.specs.Layout.{size_of}
 use Rattle.dex_container.proofs.Framed.{framed_clear}
-use Rattle.tables_rows.specs.Sorted.{TablesHold}
-use Rattle.tables_rows.specs.TableFaults.{IsStringFault, IsTypeFault, IsProtoFault, IsFieldFault, IsMethodFault, StringBreaks, TypeBreaks, ProtoBreaks, FieldBreaks, MethodBreaks}
+use Rattle.tables_rows.specs.Sorted.{RowsHold, StringsHold, TypesHold, ProtosHold, FieldsHold, MethodsHold}
 use Rattle.tables_rows.proofs.ClearRows.{string_clear, type_clear, proto_clear, field_clear, method_clear}
-use Rattle.file_classes.specs.ClassFaults.{IsClassFault, IsValueFault, IsCodeFault, IsRegisterFault}
-use Rattle.file_read.specs.Broken.{Broken, RowBroken, TableBroken, ClassBroken, ValueBroken, CodeBroken, RegisterBroken}
+use Rattle.file_classes.specs.ClassFaults.{ClassRowsHold, ValuesHold, BodiesHold, RowRegistersHold}
 use Rattle.file_classes.proofs.RowFaults.{class_clear}
 use Rattle.file_classes.proofs.ClearLaws.{values_clear, bodies_clear, methods_clear}
-use Rattle.program_types.specs.Content.{Program}
+use Rattle.file_read.specs.Broken.{Broken, GroupBreaks}
+use Rattle.file_read.specs.Groups.{Group, Frame, Strings, Types, Protos, Fields, Methods, Classes, Values, Codes, Registers, IsBefore}
 use Rattle.file_read.specs.Means.{Means}
+use Rattle.file_read.specs.Refused.{IsGroupFault, IsRefused}
 use Rattle.file_read.proofs.PassLaws.{means_classes, means_values, means_bodies, means_methods}
+use Rattle.program_types.specs.Content.{Program}
 
-tables_clear : (b : List ℕ) → IsFramed b → TablesHold b → (f : Fault) → TableBroken b f → ⊥
-tables_clear b framed hold f (inl p) = string_clear b p.0 f.code (hold.strings p.0 p.1) p.2.breaks
-tables_clear b framed hold f (inr (inl p)) = type_clear b framed p.0 f.code (hold.types p.0 p.1) p.2.breaks
-tables_clear b framed hold f (inr (inr (inl p))) = proto_clear b framed p.0 f.code (hold.protos p.0 p.1) p.2.breaks
-tables_clear b framed hold f (inr (inr (inr (inl p)))) = field_clear b framed p.0 f.code (hold.fields p.0 p.1) p.2.breaks
-tables_clear b framed hold f (inr (inr (inr (inr p)))) = method_clear b framed p.0 f.code (hold.methods p.0 p.1) p.2.breaks
+-- the rules of a group hold
+abbrev GroupHolds : Group → List ℕ → Type 0
+GroupHolds Frame b = IsFramed b
+GroupHolds Strings b = StringsHold b
+GroupHolds Types b = TypesHold b
+GroupHolds Protos b = ProtosHold b
+GroupHolds Fields b = FieldsHold b
+GroupHolds Methods b = MethodsHold b
+GroupHolds Classes b = ClassRowsHold b
+GroupHolds Values b = RowsHold ValuesHold b (size_of b 5)
+GroupHolds Codes b = RowsHold BodiesHold b (size_of b 5)
+GroupHolds Registers b = RowsHold RowRegistersHold b (size_of b 5)
 
-module _ (b : List ℕ) (e : Fault) where
-  -- of a fault of the class rows
-  pub class_first : IsClassFault b e → ClassBroken b e × ((f : Fault) → (FrameBreaks b f.code f.place → ⊥) × (TableBroken b f → ⊥))
-  class_first x = ((x.first.row, x.first.within, x.first.broken), λ f. (framed_clear b x.framed f.code f.place, tables_clear b x.framed x.tables f))
+-- where they do, no fault of it stands
+clear : (b : List ℕ) (g : Group) (f : Fault) → IsFramed b → GroupHolds g b → GroupBreaks g b f → ⊥
+clear b Frame f framed hold x = framed_clear b framed f.code f.place x
+clear b Strings f framed hold x = string_clear b x.0 f.code (hold x.0 x.1) x.2.breaks
+clear b Types f framed hold x = type_clear b framed x.0 f.code (hold x.0 x.1) x.2.breaks
+clear b Protos f framed hold x = proto_clear b framed x.0 f.code (hold x.0 x.1) x.2.breaks
+clear b Fields f framed hold x = field_clear b framed x.0 f.code (hold x.0 x.1) x.2.breaks
+clear b Methods f framed hold x = method_clear b framed x.0 f.code (hold x.0 x.1) x.2.breaks
+clear b Classes f framed hold x = class_clear b framed x.0 f.code (hold x.0 x.1) x.2.breaks
+clear b Values f framed hold x = values_clear b framed x.0 f (hold x.0 x.1) x.2
+clear b Codes f framed hold x = bodies_clear b framed x.0 f (hold x.0 x.1) x.2
+clear b Registers f framed hold x = methods_clear b framed x.0 f (hold x.0 x.1) x.2
 
-  -- of the static values
-  pub value_first : IsValueFault b e → ValueBroken b e × ((f : Fault) → (FrameBreaks b f.code f.place → ⊥) × (TableBroken b f → ⊥) × (ClassBroken b f → ⊥))
-  value_first x = (
-    (x.first.row, x.first.within, x.first.broken),
-    λ f. (framed_clear b x.framed f.code f.place, tables_clear b x.framed x.tables f, λ p. class_clear b x.framed p.0 f.code (x.classes p.0 p.1) p.2.breaks),
-  )
+-- where a fault of a group is answered, the frame and all groups before it hold
+asked : (b : List ℕ) (g h : Group) (e : Fault) → IsGroupFault g b e → IsBefore h g → IsFramed b × GroupHolds h b
+asked b Strings Frame e x before = (x.framed, x.framed)
+asked b Types Frame e x before = (x.framed, x.framed)
+asked b Protos Frame e x before = (x.framed, x.framed)
+asked b Fields Frame e x before = (x.framed, x.framed)
+asked b Methods Frame e x before = (x.framed, x.framed)
+asked b Classes Frame e x before = (x.framed, x.framed)
+asked b Values Frame e x before = (x.framed, x.framed)
+asked b Codes Frame e x before = (x.framed, x.framed)
+asked b Registers Frame e x before = (x.framed, x.framed)
+asked b g h e x before = first_of (assumption x, grind (arith, before))
 
-  -- of the code
-  pub code_first : IsCodeFault b e → CodeBroken b e × ((f : Fault) → (FrameBreaks b f.code f.place → ⊥) × (TableBroken b f → ⊥) × (ClassBroken b f → ⊥) × (ValueBroken b f → ⊥))
-  code_first x = (
-    (x.first.row, x.first.within, x.first.broken),
-    λ f. (
-      framed_clear b x.framed f.code f.place,
-      tables_clear b x.framed x.tables f,
-      (λ p. class_clear b x.framed p.0 f.code (x.classes p.0 p.1) p.2.breaks),
-      λ p. values_clear b x.framed p.0 f (x.values p.0 p.1) p.2,
-    ),
-  )
+pub stands : (b : List ℕ) (g : Group) (e : Fault) → IsGroupFault g b e → GroupBreaks g b e
+stands b Frame e x = x.stands
+stands b g e x = (x.first.row, x.first.within, x.first.broken)
 
-  -- of the registers
-  pub register_first : IsRegisterFault b e → RegisterBroken b e × ((f : Fault) → (FrameBreaks b f.code f.place → ⊥) × (TableBroken b f → ⊥) × (ClassBroken b f → ⊥) × (ValueBroken b f → ⊥) × (CodeBroken b f → ⊥))
-  register_first x = (
-    (x.first.row, x.first.within, x.first.broken),
-    λ f. (
-      framed_clear b x.framed f.code f.place,
-      tables_clear b x.framed x.tables f,
-      (λ p. class_clear b x.framed p.0 f.code (x.classes p.0 p.1) p.2.breaks),
-      (λ p. values_clear b x.framed p.0 f (x.values p.0 p.1) p.2),
-      λ p. bodies_clear b x.framed p.0 f (x.bodies p.0 p.1) p.2,
-    ),
-  )
+pub first : (b : List ℕ) (g h : Group) (e f : Fault) → IsGroupFault g b e → IsBefore h g → GroupBreaks h b f → ⊥
+first b g h e f x before = let hold = asked b g h e x before in clear b h f hold.0 hold.1
+
+-- a fault that refuses stands
+pub refused_broken : (b : List ℕ) (e : Fault) → IsRefused b e → Broken b e
+refused_broken b e x = (x.0, stands b x.0 e x.1)
 
 -- a file that means a program has no fault
+means_holds : (b : List ℕ) (p : Program) → Means b p → (g : Group) → GroupHolds g b
+means_holds b p m Classes = means_classes b p m
+means_holds b p m Values = means_values b p m
+means_holds b p m Codes = means_bodies b p m
+means_holds b p m Registers = means_methods b p m
+means_holds b p m g = assumption m
+
 pub means_clear : (b : List ℕ) (p : Program) → Means b p → (f : Fault) → Broken b f → ⊥
-means_clear b p m f (inl x) = framed_clear b m.framed f.code f.place x
-means_clear b p m f (inr (inl x)) = tables_clear b m.framed m.tables f x
-means_clear b p m f (inr (inr (inl x))) = class_clear b m.framed x.0 f.code (means_classes b p m x.0 x.1) x.2.breaks
-means_clear b p m f (inr (inr (inr (inl x)))) = values_clear b m.framed x.0 f (means_values b p m x.0 x.1) x.2
-means_clear b p m f (inr (inr (inr (inr (inl x))))) = bodies_clear b m.framed x.0 f (means_bodies b p m x.0 x.1) x.2
-means_clear b p m f (inr (inr (inr (inr (inr x))))) = methods_clear b m.framed x.0 f (means_methods b p m x.0 x.1) x.2
-
--- the same among the tables
-module _ (b : List ℕ) (e : Fault) where
-  pub string_first : IsStringFault b e → RowBroken StringBreaks b 0 e × ((f : Fault) → FrameBreaks b f.code f.place → ⊥)
-  string_first x = ((x.first.row, x.first.within, x.first.broken), λ f. framed_clear b x.framed f.code f.place)
-
-  pub type_first : IsTypeFault b e → RowBroken TypeBreaks b 1 e × ((f : Fault) → (FrameBreaks b f.code f.place → ⊥) × (RowBroken StringBreaks b 0 f → ⊥))
-  type_first x = ((x.first.row, x.first.within, x.first.broken), λ f. (framed_clear b x.framed f.code f.place, λ p. string_clear b p.0 f.code (x.strings p.0 p.1) p.2.breaks))
-
-  pub proto_first : IsProtoFault b e → RowBroken ProtoBreaks b 2 e × ((f : Fault) → (FrameBreaks b f.code f.place → ⊥) × (RowBroken StringBreaks b 0 f → ⊥) × (RowBroken TypeBreaks b 1 f → ⊥))
-  proto_first x = (
-    (x.first.row, x.first.within, x.first.broken),
-    λ f. (
-      framed_clear b x.framed f.code f.place,
-      (λ p. string_clear b p.0 f.code (x.strings p.0 p.1) p.2.breaks),
-      λ p. type_clear b x.framed p.0 f.code (x.types p.0 p.1) p.2.breaks,
-    ),
-  )
-
-  pub field_first : IsFieldFault b e → RowBroken FieldBreaks b 3 e × ((f : Fault) → (FrameBreaks b f.code f.place → ⊥) × (RowBroken StringBreaks b 0 f → ⊥) × (RowBroken TypeBreaks b 1 f → ⊥) × (RowBroken ProtoBreaks b 2 f → ⊥))
-  field_first x = (
-    (x.first.row, x.first.within, x.first.broken),
-    λ f. (
-      framed_clear b x.framed f.code f.place,
-      (λ p. string_clear b p.0 f.code (x.strings p.0 p.1) p.2.breaks),
-      (λ p. type_clear b x.framed p.0 f.code (x.types p.0 p.1) p.2.breaks),
-      λ p. proto_clear b x.framed p.0 f.code (x.protos p.0 p.1) p.2.breaks,
-    ),
-  )
-
-  pub method_first : IsMethodFault b e → RowBroken MethodBreaks b 4 e × ((f : Fault) → (FrameBreaks b f.code f.place → ⊥) × (RowBroken StringBreaks b 0 f → ⊥) × (RowBroken TypeBreaks b 1 f → ⊥) × (RowBroken ProtoBreaks b 2 f → ⊥) × (RowBroken FieldBreaks b 3 f → ⊥))
-  method_first x = (
-    (x.first.row, x.first.within, x.first.broken),
-    λ f. (
-      framed_clear b x.framed f.code f.place,
-      (λ p. string_clear b p.0 f.code (x.strings p.0 p.1) p.2.breaks),
-      (λ p. type_clear b x.framed p.0 f.code (x.types p.0 p.1) p.2.breaks),
-      (λ p. proto_clear b x.framed p.0 f.code (x.protos p.0 p.1) p.2.breaks),
-      λ p. field_clear b x.framed p.0 f.code (x.fields p.0 p.1) p.2.breaks,
-    ),
-  )
+means_clear b p m f x = clear b x.0 f m.framed (means_holds b p m x.0) x.1

@@ -6,11 +6,13 @@ use Rattle.dex_container.specs.Layout.{size_of}
 use Rattle.program_types.specs.Content.{Class, Program}
 use Rattle.tables_rows.specs.Names.{AreRows}
 use Rattle.tables_rows.specs.Sorted.{RowsHold, TablesHold}
-use Rattle.tables_rows.specs.TableFaults.{IsFirstRow}
-use Rattle.file_classes.specs.ClassFaults.{ClassRowBreaks, ClassRowHolds, ClassRowsHold, ValuesBreak, ValuesHold, BodiesBreak, BodiesHold, RowRegistersBreak, RowRegistersHold, IsFirstClass, IsCodeFault, IsRegisterFault}
+use Rattle.tables_rows.specs.TableFaults.{IsFirstRow, IsTableFault}
+use Rattle.file_classes.specs.ClassFaults.{ClassRowBreaks, ClassRowHolds, ClassRowsHold, ValuesBreak, ValuesHold, BodiesBreak, BodiesHold, RowRegistersBreak, RowRegistersHold, IsFirstClass}
 use Rattle.file_classes.specs.Classes.{SpellsClass}
 use Rattle.file_classes.specs.ClassRows.{InOrder}
+use Rattle.file_read.specs.Groups.{Strings, Types, Protos, Fields, Methods, Codes, Registers}
 use Rattle.file_read.specs.Means.{Means}
+use Rattle.file_read.specs.Refused.{IsRefused}
 use Rattle.file_classes.proofs.EntryLaws.{entry_at, list_same}
 use Rattle.file_classes.proofs.OnceLaws.{class_one}
 use Rattle.file_classes.proofs.MeantLaws.{build, class_meant}
@@ -65,10 +67,18 @@ pub no_last_fault : (b : List ℕ) (p : Program) (e : Fault) → Means b p → I
 no_last_fault b p e m (inl f) = no_code_fault b p e m f
 no_last_fault b p e m (inr f) = no_register_fault b p e m f.1
 
--- where the passes before it refuse nothing, it refuses by one of its groups
-pub last_refused : (b : List ℕ) (e : Fault) → IsFramed b → TablesHold b → ClassRowsHold b → RowsHold ValuesHold b (size_of b 5) → IsFirstClass BodiesBreak BodiesHold b e ⊎ (RowsHold BodiesHold b (size_of b 5) × IsFirstClass RowRegistersBreak RowRegistersHold b e) → IsCodeFault b e ⊎ IsRegisterFault b e
-last_refused b e framed tables classes values (inl f) = inl (record { framed = framed; tables = tables; classes = classes; values = values; first = f })
-last_refused b e framed tables classes values (inr f) = inr (record { framed = framed; tables = tables; classes = classes; values = values; bodies = f.0; first = f.1 })
+-- the tables refuse by one of their groups
+pub table_refused : (b : List ℕ) (e : Fault) → IsTableFault b e → IsRefused b e
+table_refused b e (inl f) = (Strings, f)
+table_refused b e (inr (inl f)) = (Types, f)
+table_refused b e (inr (inr (inl f))) = (Protos, f)
+table_refused b e (inr (inr (inr (inl f)))) = (Fields, f)
+table_refused b e (inr (inr (inr (inr f)))) = (Methods, f)
+
+-- where the passes before it refuse nothing, the third refuses by one of its groups
+pub last_refused : (b : List ℕ) (e : Fault) → IsFramed b → TablesHold b → ClassRowsHold b → RowsHold ValuesHold b (size_of b 5) → IsFirstClass BodiesBreak BodiesHold b e ⊎ (RowsHold BodiesHold b (size_of b 5) × IsFirstClass RowRegistersBreak RowRegistersHold b e) → IsRefused b e
+last_refused b e framed tables classes values (inl f) = (Codes, record { framed = framed; tables = tables; classes = classes; values = values; first = f })
+last_refused b e framed tables classes values (inr f) = (Registers, record { framed = framed; tables = tables; classes = classes; values = values; bodies = f.0; first = f.1 })
 
 -- the program of classes that the rows spell
 pub means_these : (b : List ℕ) (p : Program) → IsFramed b → TablesHold b → ClassRowsHold b → AreRows SpellsClass b 5 p → Means b p

@@ -1,5 +1,6 @@
 pub mod Broken
 pub mod FileDeciding
+pub mod Groups
 pub mod Means
 pub mod Refused
 -- What stands below, for the crates above.

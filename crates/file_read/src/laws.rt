@@ -1,14 +1,11 @@
 //! Laws of reading, each the contract of a function that does nothing.
 ghost use Rattle.std.specs.Prelude.{◌≡◌, ℕ, List};
 ghost use Rattle.base_bytes.specs.declared.fault.Fault.{Fault};
-ghost use Rattle.file_classes.specs.ClassFaults.{IsClassFault, IsValueFault, IsCodeFault, IsRegisterFault};
-ghost use Rattle.dex_container.specs.Faults.{FrameBreaks};
-ghost use Rattle.dex_container.specs.Section as section;
-ghost use Rattle.file_read.specs.Broken.{RowBroken, TableBroken, ClassBroken, ValueBroken, CodeBroken, RegisterBroken, Broken};
+ghost use Rattle.file_read.specs.Broken.{Broken, GroupBreaks};
+ghost use Rattle.file_read.specs.Groups.{Group, IsBefore};
 ghost use Rattle.file_read.specs.Means.{Means};
-ghost use Rattle.file_read.specs.Refused.{IsRefused};
+ghost use Rattle.file_read.specs.Refused.{IsGroupFault, IsRefused};
 ghost use Rattle.program_types.specs.Content.{Program};
-ghost use Rattle.tables_rows.specs.TableFaults.{StringBreaks, TypeBreaks, ProtoBreaks, FieldBreaks, MethodBreaks, IsStringFault, IsTypeFault, IsProtoFault, IsFieldFault, IsMethodFault};
 
 /// A file means one program.
 pub fn one_program()
@@ -28,13 +25,6 @@ pub fn one_refusal()
 
 /// A fault that is answered stands, and none of an earlier group does.
 pub fn refusals_are_first()
-    ensures string { (b : List ℕ) (e : Fault) → IsStringFault b e → RowBroken StringBreaks b section.string_ids e × ((f : Fault) → ¬ FrameBreaks b f.code f.place) }
-    ensures ty { (b : List ℕ) (e : Fault) → IsTypeFault b e → RowBroken TypeBreaks b section.type_ids e × ((f : Fault) → (¬ FrameBreaks b f.code f.place) × (¬ RowBroken StringBreaks b section.string_ids f)) }
-    ensures proto { (b : List ℕ) (e : Fault) → IsProtoFault b e → RowBroken ProtoBreaks b section.proto_ids e × ((f : Fault) → (¬ FrameBreaks b f.code f.place) × (¬ RowBroken StringBreaks b section.string_ids f) × (¬ RowBroken TypeBreaks b section.type_ids f)) }
-    ensures field { (b : List ℕ) (e : Fault) → IsFieldFault b e → RowBroken FieldBreaks b section.field_ids e × ((f : Fault) → (¬ FrameBreaks b f.code f.place) × (¬ RowBroken StringBreaks b section.string_ids f) × (¬ RowBroken TypeBreaks b section.type_ids f) × (¬ RowBroken ProtoBreaks b section.proto_ids f)) }
-    ensures method { (b : List ℕ) (e : Fault) → IsMethodFault b e → RowBroken MethodBreaks b section.method_ids e × ((f : Fault) → (¬ FrameBreaks b f.code f.place) × (¬ RowBroken StringBreaks b section.string_ids f) × (¬ RowBroken TypeBreaks b section.type_ids f) × (¬ RowBroken ProtoBreaks b section.proto_ids f) × (¬ RowBroken FieldBreaks b section.field_ids f)) }
-    ensures class { (b : List ℕ) (e : Fault) → IsClassFault b e → ClassBroken b e × ((f : Fault) → (¬ FrameBreaks b f.code f.place) × (¬ TableBroken b f)) }
-    ensures value { (b : List ℕ) (e : Fault) → IsValueFault b e → ValueBroken b e × ((f : Fault) → (¬ FrameBreaks b f.code f.place) × (¬ TableBroken b f) × (¬ ClassBroken b f)) }
-    ensures code { (b : List ℕ) (e : Fault) → IsCodeFault b e → CodeBroken b e × ((f : Fault) → (¬ FrameBreaks b f.code f.place) × (¬ TableBroken b f) × (¬ ClassBroken b f) × (¬ ValueBroken b f)) }
-    ensures register { (b : List ℕ) (e : Fault) → IsRegisterFault b e → RegisterBroken b e × ((f : Fault) → (¬ FrameBreaks b f.code f.place) × (¬ TableBroken b f) × (¬ ClassBroken b f) × (¬ ValueBroken b f) × (¬ CodeBroken b f)) }
+    ensures stands { (b : List ℕ) (g : Group) (e : Fault) → IsGroupFault g b e → GroupBreaks g b e }
+    ensures first { (b : List ℕ) (g h : Group) (e f : Fault) → IsGroupFault g b e → IsBefore h g → ¬ GroupBreaks h b f }
 {}

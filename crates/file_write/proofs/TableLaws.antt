@@ -1,5 +1,5 @@
 -- The tables of an assembled file hold, and they hold exactly the needed names.
-use Rattle.std.proofs.Common.{◌≡◌, ℕ, ◌<◌, List, [], ◌∷◌, get_or, refl, sym, ap, ◌∙◌, subst, arith, Some}
+use Rattle.std.proofs.Common.{◌≡◌, ℕ, ◌<◌, List, [], ◌∷◌, get_or, length, refl, sym, ap, ◌∙◌, subst, arith, Some}
 use Rattle.std.proofs.lemmas.Option.{slice_get-get_or}
 use Rattle.std.specs.Cmp.{nat_cmp_is}
 use Rattle.std.specs.Cmp.Lexicographic.{slice_cmp}
@@ -16,7 +16,7 @@ use Rattle.tables_names.proofs.IndexLemmas.{rising_tables_rise}
 use Rattle.tables_names.proofs.NeededLemmas.{needed_is_least}
 use Rattle.tables_names.proofs.RowLemmas.{keys_compare_as_indices}
 use Rattle.program_types.specs.Content.{Descriptor, FieldRef, MethodRef, Name, OfDesc, OfField, OfMethod, OfText, Program, Proto, Units}
-use Rattle.program_types.specs.Key.{field_ref_key, method_ref_key, proto_key, text_key}
+use Rattle.program_types.specs.Key.{Key, field_ref_key, method_ref_key, proto_key, text_key}
 use Rattle.program_types.specs.KeyLaws.{ordering_then-equal}
 use Rattle.program_rules.specs.WellFormed.{WellFormed}
 use Rattle.file_strip.specs.Lists.{SpellsRanks}
@@ -30,7 +30,14 @@ use Rattle.file_strip.specs.Assembled.{Assembled}
 use Rattle.file_write.specs.Least.{HoldsExactly}
 use Rattle.file_write.proofs.NameLaws.{field_stands, method_stands, name_stands, proto_list, proto_stands, ranks_at, ranks_of, string_stands, type_stands, valid_of}
 use Rattle.file_write.proofs.RowLaws.{field_count, field_row, is_framed, method_count, method_row, proto_count, proto_row, string_count, type_count, type_row}
-use Rattle.file_write.proofs.ValidNames.{AreValid, IsFieldKey, IsMethodKey, IsProtoKey, IsTextKey, IsTypeKey, member_is}
+use Rattle.file_write.proofs.ValidNames.{AreValid, IsFieldKey, IsMethodKey, IsProtoKey, IsTextKey, IsTypeKey, Members, member_is}
+
+-- a row of a table has the name of its key, where each key is that of a name
+name_at : {V : Type 0} (key : V → Key) (IsKey : Key → Type 0) → ((k : Key) → IsKey k → (v : V) × (k ≡ key v)) → (keys : List Key) (count i : ℕ) → Members IsKey keys → count ≡ length keys → i < count → (v : V) × IsAt keys i (key v)
+name_at key IsKey named keys count i valid n h =
+    let e = slice_get-get_or keys i [] (omega (arith, h, n)) in
+    let v = named (get_or keys i []) (member_is IsKey keys i (get_or keys i []) valid e) in
+    (v.0, e ∙ ap Some v.1)
 
 module _ (b : List ℕ) (s : Five) (p : Program) (a : Assembled b s p) (valid : AreValid s) (rising : AreRising s) where
   is_framed_here : IsFramed b
@@ -39,39 +46,19 @@ module _ (b : List ℕ) (s : Five) (p : Program) (a : Assembled b s p) (valid : 
   -- ---- each row denotes a name
 
   string_at : (i : ℕ) → i < size_of b 0 → (t : Units) × IsAt s.strings i (text_key t)
-  string_at i h =
-      let n = string_count b s p a in
-      let e = slice_get-get_or s.strings i [] (omega (arith, h, n)) in
-      let k = member_is IsTextKey s.strings i (get_or s.strings i []) valid.strings e in
-      (k.0, e ∙ ap Some k.1)
+  string_at i h = name_at text_key IsTextKey (λ k x. (x.0, x.1)) s.strings _ i valid.strings (string_count b s p a) h
 
   type_at : (i : ℕ) → i < size_of b 1 → (t : Descriptor) × IsAt s.types i (text_key t)
-  type_at i h =
-      let n = type_count b s p a in
-      let e = slice_get-get_or s.types i [] (omega (arith, h, n)) in
-      let k = member_is IsTypeKey s.types i (get_or s.types i []) valid.types e in
-      (k.0, e ∙ ap Some k.1)
+  type_at i h = name_at text_key IsTypeKey (λ k x. (x.0, x.1)) s.types _ i valid.types (type_count b s p a) h
 
   proto_at : (i : ℕ) → i < size_of b 2 → (q : Proto) × IsAt s.protos i (proto_key q)
-  proto_at i h =
-      let n = proto_count b s p a in
-      let e = slice_get-get_or s.protos i [] (omega (arith, h, n)) in
-      let k = member_is IsProtoKey s.protos i (get_or s.protos i []) valid.protos e in
-      (k.0, e ∙ ap Some k.1)
+  proto_at i h = name_at proto_key IsProtoKey (λ k x. (x.0, x.1)) s.protos _ i valid.protos (proto_count b s p a) h
 
   field_at : (i : ℕ) → i < size_of b 3 → (f : FieldRef) × IsAt s.fields i (field_ref_key f)
-  field_at i h =
-      let n = field_count b s p a in
-      let e = slice_get-get_or s.fields i [] (omega (arith, h, n)) in
-      let k = member_is IsFieldKey s.fields i (get_or s.fields i []) valid.fields e in
-      (k.0, e ∙ ap Some k.1)
+  field_at i h = name_at field_ref_key IsFieldKey (λ k x. (x.0, x.1)) s.fields _ i valid.fields (field_count b s p a) h
 
   method_at : (i : ℕ) → i < size_of b 4 → (m : MethodRef) × IsAt s.methods i (method_ref_key m)
-  method_at i h =
-      let n = method_count b s p a in
-      let e = slice_get-get_or s.methods i [] (omega (arith, h, n)) in
-      let k = member_is IsMethodKey s.methods i (get_or s.methods i []) valid.methods e in
-      (k.0, e ∙ ap Some k.1)
+  method_at i h = name_at method_ref_key IsMethodKey (λ k x. (x.0, x.1)) s.methods _ i valid.methods (method_count b s p a) h
 
   -- ---- the indices by which rows are ordered
 

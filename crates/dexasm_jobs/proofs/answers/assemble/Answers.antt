@@ -1,19 +1,17 @@
 use Rattle.std.proofs.Common.{inl, inr}
-use Rattle.std.proofs.lemmas.Result.{IfErr-weaker}
+use Rattle.std.proofs.lemmas.Result.{IfErr-weaker, IfOk-weaker}
 use Rattle.dexasm_jobs.proofs.ListedLaws.{lists}
-use Rattle.dexasm_jobs.proofs.MadeLaws.{made_and}
 use Rattle.dexasm_jobs.proofs.answers.assemble.Goals as goal
 use Rattle.base_bytes.proofs.ListFacts.{passed}
 
-pub returns-in_err-program-clause-refused : goal.returns-in_err-program-clause-refused
-returns-in_err-program-clause-refused c = passed _ _ _ c.from_residual.ensures.1 (λ ne. inl (c.in_err-program.ensures.err ne))
+pub returns-in_err-listed-clause-refused : goal.returns-in_err-listed-clause-refused
+returns-in_err-listed-clause-refused c = passed _ _ _ c.from_residual.ensures.1 (λ ne. inl (c.in_err-listed.ensures.err ne))
 
-pub write_seeded-requires : goal.write_seeded-requires
-write_seeded-requires c = record { formed = c.in_ok-program.ensures.ok.formed }
+pub file_of-requires : goal.file_of-requires
+file_of-requires c = record { kept = c.in_ok-listed.ensures.ok.formed }
 
 pub returns-clause-answered : goal.returns-clause-answered
-returns-clause-answered c =
-    made_and c.write_seeded.result _ _ _ (λ made h f. record { program = _; listed = lists _ _ c.in_ok-program.ensures.ok; fits = f; file = h }) c.write_seeded.ensures.file c.write_seeded.ensures.fits
+returns-clause-answered c = IfOk-weaker c.file_of.result _ _ (λ made h. (_, lists _ _ c.in_ok-listed.ensures.ok, h)) c.file_of.ensures.written
 
 pub returns-clause-refused : goal.returns-clause-refused
-returns-clause-refused c = IfErr-weaker c.write_seeded.result _ _ (λ e h ne. inr (_, lists _ _ c.in_ok-program.ensures.ok, h ne)) c.write_seeded.ensures.refused
+returns-clause-refused c = IfErr-weaker c.file_of.result _ _ (λ e h ne. inr (_, lists _ _ c.in_ok-listed.ensures.ok, h ne)) c.file_of.ensures.refused

@@ -1,24 +1,24 @@
-use Rattle.std.proofs.Common.{inl, inr}
 use Rattle.tables_rows.proofs.ClearRows.{only_memory}
-use Rattle.file_read.proofs.PassLaws.{no_class_fault, no_value_fault, no_last_fault, last_refused, program_meant}
+use Rattle.file_read.proofs.PassLaws.{no_class_fault, no_value_fault, no_last_fault, last_refused, program_meant, table_refused}
+use Rattle.file_read.specs.Groups.{Classes, Values}
 use Rattle.file_read.proofs.checking.check_framed.Goals as goal
 use Rattle.base_bytes.proofs.ListFacts.{passed}
 
 pub returns-in_err-tables-clause-refused : goal.returns-in_err-tables-clause-refused
 returns-in_err-tables-clause-refused c =
-    passed _ _ _ c.from_residual.ensures.1 (λ ne. inr (inl ((c.in_err-tables.ensures.refused ne))))
+    passed _ _ _ c.from_residual.ensures.1 (λ ne. table_refused _ _ (c.in_err-tables.ensures.refused ne))
 
 pub returns-in_err-heads-clause-refused : goal.returns-in_err-heads-clause-refused
 returns-in_err-heads-clause-refused c =
-    passed _ _ _ c.from_residual-in_err-heads.ensures.1 (λ ne. inr (inr (inl ((record { framed = c.framed.ensures; tables = c.in_ok-tables.ensures.hold; first = c.in_err-heads.ensures.err ne })))))
+    passed _ _ _ c.from_residual-in_err-heads.ensures.1 (λ ne. (Classes, record { framed = c.bytes-file.ensures.framed; tables = c.in_ok-tables.ensures.hold; first = c.in_err-heads.ensures.err ne }))
 
 pub returns-in_err-check_statics-clause-refused : goal.returns-in_err-check_statics-clause-refused
 returns-in_err-check_statics-clause-refused c =
-    passed _ _ _ c.from_residual-in_err-check_statics.ensures.1 (λ ne. inr (inr (inr (inl ((record { framed = c.framed.ensures; tables = c.in_ok-tables.ensures.hold; classes = c.in_ok-heads.ensures.hold; first = c.in_err-check_statics.ensures.err ne }))))))
+    passed _ _ _ c.from_residual-in_err-check_statics.ensures.1 (λ ne. (Values, record { framed = c.bytes-file.ensures.framed; tables = c.in_ok-tables.ensures.hold; classes = c.in_ok-heads.ensures.hold; first = c.in_err-check_statics.ensures.err ne }))
 
 pub returns-in_err-check_codes-clause-refused : goal.returns-in_err-check_codes-clause-refused
 returns-in_err-check_codes-clause-refused c =
-    passed _ _ _ c.from_residual-in_err-check_codes.ensures.1 (λ ne. inr (inr (inr (inr ((last_refused _ _ c.framed.ensures c.in_ok-tables.ensures.hold c.in_ok-heads.ensures.hold c.in_ok-check_statics.ensures.hold (c.in_err-check_codes.ensures.err ne)))))))
+    passed _ _ _ c.from_residual-in_err-check_codes.ensures.1 (λ ne. last_refused _ _ c.bytes-file.ensures.framed c.in_ok-tables.ensures.hold c.in_ok-heads.ensures.hold c.in_ok-check_statics.ensures.hold (c.in_err-check_codes.ensures.err ne))
 
 pub returns-in_err-heads-clause-only : goal.returns-in_err-heads-clause-only
 returns-in_err-heads-clause-only c =
