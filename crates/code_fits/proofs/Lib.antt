@@ -8,6 +8,4 @@ pub use Rattle.code_put.proofs.HandlerOnce
 pub use Rattle.code_put.proofs.HandlerPacks
 pub use Rattle.code_put.proofs.MentionLaws
 pub use Rattle.code_put.proofs.PackedLaws
-pub use Rattle.code_put.proofs.PackedTries
 pub use Rattle.code_put.proofs.RankLaws
-pub use Rattle.code_put.proofs.WrittenLaws

@@ -164,7 +164,8 @@ at-most false false = omega arith
 pub few-padding : (s m : ℕ) → length (padding s m) ≤ 2
 few-padding s m = at-most (m == 0) (s % 2 == 0)
 
-pub packed-length : (N : ℕ → Name → Type 0) (c : Code) (bytes : List ℕ) → PacksCode N bytes c → (16 ≤ length bytes) × (length bytes ≤ wide_code c)
+-- with three zeros before it, it takes no more than its term of the sum
+pub packed-length : (N : ℕ → Name → Type 0) (c : Code) (bytes : List ℕ) → PacksCode N bytes c → (16 ≤ length bytes) × (length bytes + 3 ≤ wide_code c)
 packed-length N c bytes p =
     let size = length_of c.insns in
     let n = length c.tries in

@@ -16,7 +16,7 @@ use Rattle.code_read.specs.Handlers.{Handler, catches_of, HasAll, AllBy, SpellsC
 use Rattle.code_put.specs.Packs.{PacksCatch, PacksHandler}
 use Rattle.code_put.proofs.HandlerPacks.{via-appends, catch-appends, all-none, all-some, handler-appends, alone}
 use Rattle.code_renumber.specs.Fronts.{IsCatch, types_of}
-use Rattle.code_renumber.specs.Carried.{AreCarriedCatches, IsCarriedHandler}
+use Rattle.code_renumber.specs.Carried.{CarriedCatches, CarriedHandler}
 use Rattle.code_renumber.proofs.HandlerLemmas.{due_start, NextDue, due_end, no_catch, parts_from, catches_due}
 use Rattle.base_bytes.proofs.GrammarLaws.{Each-appends_none, Each-appends_more}
 
@@ -26,8 +26,8 @@ pub record WrittenCatches (b : List ℕ) (s : Five) (ss old new left : List ℕ)
   pub due : Takes (Each (SpellsCatch (NameStands b) ss)) left (drop turn cs) rest
   pub done : Appends (Each (PacksCatch (NameRanks s) ss)) old new (take turn cs)
 
-pub written_none : (b : List ℕ) (numbers : Columns) (s : Five) (ss out : List ℕ) (n : ℕ) (bytes : List ℕ) (cs : List Catch) (rest : List ℕ) → AreCarriedCatches b numbers s ss n bytes cs rest → WrittenCatches b s ss out out bytes 0 cs rest
-written_none b numbers s ss out n bytes cs rest x = record { due = due_start (SpellsCatch (NameStands b) ss) n bytes cs rest x.taken; done = Each-appends_none (PacksCatch (NameRanks s) ss) out }
+pub written_none : (numbers : Columns) (n : ℕ) (bytes out : List ℕ) (x : CarriedCatches numbers n bytes) → WrittenCatches x.file x.names x.starts out out bytes 0 x.catches x.rest
+written_none numbers n bytes out x = record { due = due_start (SpellsCatch (NameStands x.file) x.starts) n bytes x.catches x.rest x.taken; done = Each-appends_none (PacksCatch (NameRanks x.names) x.starts) out }
 
 -- the rank of the type of the next catch
 pub record RankNext (numbers : Columns) (s : Five) (ty : ℕ) (c : Catch) : Type 0 where
@@ -40,11 +40,11 @@ type_carried P [] k all l = absurd (omega (arith, l))
 type_carried P (c ∷ cs) zero all l = all.0
 type_carried P (c ∷ cs) (suc k) all l = type_carried P cs k all.1 (omega (arith, l))
 
-pub rank_next : (b : List ℕ) (numbers : Columns) (s : Five) (ss bytes : List ℕ) (n turn ty address : ℕ) (after : List ℕ) (cs : List Catch) (rest mid : List ℕ) → turn < n → AreCarriedCatches b numbers s ss n bytes cs rest
-    → IsCatch (NameStands b) ss ty address after (get_or cs turn no_catch) mid → RankNext numbers s ty (get_or cs turn no_catch)
-rank_next b numbers s ss bytes n turn ty address after cs rest mid lt x i =
+pub rank_next : (numbers : Columns) (n : ℕ) (bytes : List ℕ) (x : CarriedCatches numbers n bytes) (turn ty address : ℕ) (after mid : List ℕ) → turn < n
+    → IsCatch (NameStands x.file) x.starts ty address after (get_or x.catches turn no_catch) mid → RankNext numbers x.names ty (get_or x.catches turn no_catch)
+rank_next numbers n bytes x turn ty address after mid lt i =
     let count = x.taken.spelled.0 in
-    let r = type_carried (Carries (NameStands b) (NameRanks s) numbers) cs turn x.carried (omega (arith, lt, count)) ty i.type in
+    let r = type_carried (Carries (NameStands x.file) (NameRanks x.names) numbers) x.catches turn x.carried (omega (arith, lt, count)) ty i.type in
     record { number = r.0; at = r.1; stands = r.2 }
 
 some_same : (o : Option ℕ) (m n : ℕ) → o ≡ Some m → o ≡ Some n → m ≡ n
@@ -63,12 +63,12 @@ written_next b s numbers ss old a m new left after turn ty address index cs rest
       done = subst (λ (l : List Catch). Appends (Each (PacksCatch (NameRanks s) ss)) old new l) (sym (take_more cs turn no_catch lt)) (Each-appends_more (PacksCatch (NameRanks s) ss) old a new (take turn cs) c w.done one);
     }
 
-pub written_all : (b : List ℕ) (numbers : Columns) (s : Five) (ss old new bytes left : List ℕ) (n turn : ℕ) (cs : List Catch) (rest : List ℕ) → n ≤ turn → AreCarriedCatches b numbers s ss n bytes cs rest → WrittenCatches b s ss old new left turn cs rest
-    → Appends (Each (PacksCatch (NameRanks s) ss)) old new cs × (left ≡ rest)
-written_all b numbers s ss old new bytes left n turn cs rest le x w =
+pub written_all : (numbers : Columns) (n : ℕ) (bytes : List ℕ) (x : CarriedCatches numbers n bytes) (old new left : List ℕ) (turn : ℕ) → n ≤ turn → WrittenCatches x.file x.names x.starts old new left turn x.catches x.rest
+    → Appends (Each (PacksCatch (NameRanks x.names) x.starts)) old new x.catches × (left ≡ x.rest)
+written_all numbers n bytes x old new left turn le w =
     let count = x.taken.spelled.0 in (
-      subst (λ (l : List Catch). Appends (Each (PacksCatch (NameRanks s) ss)) old new l) (take_all turn cs (omega (arith, le, count))) w.done,
-      due_end (SpellsCatch (NameStands b) ss) left turn cs rest (omega (arith, le, count)) w.due,
+      subst (λ (l : List Catch). Appends (Each (PacksCatch (NameRanks x.names) x.starts)) old new l) (take_all turn x.catches (omega (arith, le, count))) w.done,
+      due_end (SpellsCatch (NameStands x.file) x.starts) left turn x.catches x.rest (omega (arith, le, count)) w.due,
     )
 
 -- ---- a handler, written
@@ -77,9 +77,11 @@ written_all b numbers s ss old new bytes left n turn cs rest le x w =
 pub place_read : (ss : List ℕ) (a address number : ℕ) → a ≡ address → position ss address ≡ Some number → position ss a ≡ Some number
 place_read ss a address number e p = subst (λ (x : ℕ). position ss x ≡ Some number) (sym e) p
 
-pub carried_catches : (b : List ℕ) (numbers : Columns) (s : Five) (ss bytes : List ℕ) (h : Handler) (rest : List ℕ) (z : ℤ) (mid : List ℕ) (n : ℕ) → n ≡ catches_of z → (p : Takes SpellsSigned bytes z mid) → (x : IsCarriedHandler b numbers s ss bytes h rest)
-    → AreCarriedCatches b numbers s ss n mid h.catches (parts_from (NameStands b) ss bytes h rest z mid p x.taken).left
-carried_catches b numbers s ss bytes h rest z mid n e p x = record { taken = catches_due (NameStands b) ss z mid h rest n e (parts_from (NameStands b) ss bytes h rest z mid p x.taken); carried = x.carried }
+-- the catches of a handler
+abbrev pub carried_catches : (numbers : Columns) (bytes : List ℕ) (z : ℤ) (mid : List ℕ) (n : ℕ) → n ≡ catches_of z → Takes SpellsSigned bytes z mid → CarriedHandler numbers bytes → CarriedCatches numbers n mid
+carried_catches numbers bytes z mid n e p x =
+    let parts = parts_from (NameStands x.file) x.starts bytes x.handler x.rest z mid p x.taken in
+    record { file = x.file; names = x.names; starts = x.starts; catches = x.handler.catches; rest = parts.left; taken = catches_due (NameStands x.file) x.starts z mid x.handler x.rest n e parts; carried = x.carried }
 
 module _ (s : Five) (ss old a m : List ℕ) (z : ℤ) (h : Handler) (count : length h.catches ≡ catches_of z) (first : Appends (Shortest SpellsSigned) old a z) (mid : Appends (Each (PacksCatch (NameRanks s) ss)) a m h.catches) where
   -- without a place for all others

@@ -1,5 +1,5 @@
 -- A code item, taken apart and put together.
-use Rattle.std.proofs.Common.{◌≡◌, ℕ, zero, suc, ◌*◌, ◌<◌, List, [], ◌∷◌, ◌++◌, length, map, refl, sym, ap, subst, ◌∙◌, arith}
+use Rattle.std.proofs.Common.{◌≡◌, ℕ, zero, suc, ◌+◌, ◌*◌, ◌<◌, ◌≤◌, List, [], ◌∷◌, ◌++◌, length, map, refl, sym, ap, subst, ◌∙◌, arith}
 use Rattle.std.specs.List.{AllByRecursion, flat_map}
 use Rattle.base_bytes.specs.Fields.{AreBytes}
 use Rattle.dex_container.specs.Frame.{IsFramed}
@@ -16,10 +16,11 @@ use Rattle.code_insns.specs.Walk.{starts}
 use Rattle.code_insns.proofs.LinkLaws.{addresses-same}
 use Rattle.code_read.specs.Reading.{ReadTries}
 use Rattle.code_read.specs.declared.item.Item.{Item}
+use Rattle.code_put.specs.Fits.{catches_in}
 use Rattle.code_put.specs.Packs.{PutInsns, PacksHandlersOf, PacksCode, joined, padding, items_bytes}
 use Rattle.code_put.proofs.PackLaws.{packed}
 use Rattle.code_renumber.specs.Renumbered.{renumbered, CanBeRenumbered}
-use Rattle.code_renumber.specs.Carried.{IsCarriedCode, AreCarriedTries, head_of}
+use Rattle.code_renumber.specs.Carried.{IsCarriedCode, CarriedTries, head_of}
 use Rattle.code_renumber.specs.Fronts.{SpellsItem}
 use Rattle.code_renumber.specs.Walks.{CoverTries}
 use Rattle.code_renumber.proofs.LoweredLemmas.{can-all, lowered}
@@ -51,17 +52,21 @@ module _ (b : List ℕ) (off : ℕ) (numbers : Columns) (s : Five) (i : Item) (c
   pub addresses_are : starts y.raws ≡ addresses_of c.insns
   addresses_are = addresses-same (NameStands b) y.raws c.insns y.insns.linked
 
-  pub carried_tries : AreCarriedTries b numbers s (addresses_of c.insns) i.size i.tries i.items.now i.list.now c.tries
-  carried_tries = record {
-    read = subst (λ (ss : List ℕ). ReadTries (NameStands b) ss i.size i.tries i.items.now i.list.now c.tries) addresses_are y.tries;
-    rise = x.rise;
-    carried = all_back (Carries (NameStands b) (NameRanks s) numbers) (flat_map names_of_insn c.insns) (flat_map names_of_try c.tries) x.carried;
-    short = let w = x.short in let n = y.tries.tries.count in omega (arith, w, n);
-  }
+  pub tries_read : ReadTries (NameStands b) (addresses_of c.insns) i.size i.tries i.items.now i.list.now c.tries
+  tries_read = subst (λ (ss : List ℕ). ReadTries (NameStands b) ss i.size i.tries i.items.now i.list.now c.tries) addresses_are y.tries
+
+  pub tries_carried : AllByRecursion (Carries (NameStands b) (NameRanks s) numbers) (flat_map names_of_try c.tries)
+  tries_carried = all_back (Carries (NameStands b) (NameRanks s) numbers) (flat_map names_of_insn c.insns) (flat_map names_of_try c.tries) x.carried
+
+  pub tries_short : 26 + 18 * i.tries + 10 * catches_in c.tries ≤ 4294967295
+  tries_short = let w = x.short in let n = y.tries.tries.count in omega (arith, w, n)
+
+  abbrev pub carried_tries : CarriedTries numbers i
+  carried_tries = record { file = b; names = s; starts = addresses_of c.insns; tries = c.tries; read = tries_read; rise = x.rise; carried = tries_carried; short = tries_short }
 
   pub cover_tries : CoverTries (addresses_of c.insns) i.items.now i.tries c.tries
   cover_tries =
-      let r = carried_tries.read.tries in
+      let r = tries_read.tries in
       record { count = r.count; each = λ k l. let t = r.each k l in record { from = t.from; to = t.to } }
 
   pub put_insns_of : (old new : List ℕ) → new ≡ old ++ joined (map (renumbered numbers) y.raws) → AllByRecursion IsRaw (map (renumbered numbers) y.raws) → PutInsns (NameRanks s) c.insns (addresses_of c.insns) old new

@@ -8,7 +8,7 @@ use Rattle.std.proofs.lemmas.Option.{slice_get_within}
 use Rattle.program_types.specs.Content.{Try}
 use Rattle.program_types.specs.Formed.{try_at}
 use Rattle.program_types.specs.Mentions.{names_of_try}
-use Rattle.tables_names.specs.Closure.{Five, NameRanks}
+use Rattle.tables_names.specs.Closure.{NameRanks}
 use Rattle.tables_rows.specs.Stands.{NameStands}
 use Rattle.tables_numbers.specs.Marked.{Columns}
 use Rattle.tables_numbers.specs.Numbers.{Carries}
@@ -18,22 +18,28 @@ use Rattle.code_insns.specs.Places.{position, count_below}
 use Rattle.code_insns.proofs.PlaceLaws.{position-there}
 use Rattle.code_read.specs.Item.{try_start, try_count, try_handler}
 use Rattle.code_read.specs.Tries.{handler_of}
+use Rattle.code_read.specs.declared.item.Item.{Item}
 use Rattle.code_put.specs.Writing.{Numbers}
 use Rattle.code_put.proofs.ListLaws.{all-from}
-use Rattle.code_renumber.specs.Carried.{IsCarriedHandler, AreCarriedTries}
-use Rattle.code_renumber.specs.Walks.{AreListed, IsWrittenOf, AreKnown, CoversTry}
+use Rattle.code_renumber.specs.Carried.{CarriedHandler, CarriedTries}
+use Rattle.code_renumber.specs.Walks.{CarriedList, IsWrittenOf, AreKnown, CoversTry}
 use Rattle.code_renumber.proofs.ListLemmas.{all-part}
 use Rattle.code_renumber.proofs.TryLemmas.{taken_at, all_zero, no_try}
 
 -- ---- with other indices
 
 -- the handler of try i is carried
-pub carried_at : (b : List ℕ) (numbers : Columns) (s : Five) (ss : List ℕ) (size n : ℕ) (items bytes offsets catches : List ℕ) (ts : List Try) → 0 < n → (x : AreCarriedTries b numbers s ss size n items bytes ts) → AreListed x.read.tries.handlers offsets catches
-    → (i k : ℕ) → i < n → position offsets (try_handler items i) ≡ Some k → (after : List ℕ) × IsCarriedHandler b numbers s ss (drop (get_or offsets k 0) bytes) (handler_of (try_at ts i)) after
-carried_at b numbers s ss size n items bytes offsets catches ts some x l i k lt at =
-    let t = taken_at b ss size n items bytes offsets catches ts some x.read l i k lt at in
+pub types_carried : (numbers : Columns) (i : Item) (x : CarriedTries numbers i) (j : ℕ) → j < i.tries → AllByRecursion (Carries (NameStands x.file) (NameRanks x.names) numbers) (names_of_try (try_at x.tries j))
+types_carried numbers i x j lt =
     let count = x.read.tries.count in
-    (t.0, record { taken = t.1; carried = all-part (Carries (NameStands b) (NameRanks s) numbers) names_of_try ts i no_try x.carried (omega (arith, lt, count)) })
+    all-part (Carries (NameStands x.file) (NameRanks x.names) numbers) names_of_try x.tries j no_try x.carried (omega (arith, lt, count))
+
+abbrev pub carried_at : (numbers : Columns) (i : Item) (offsets : List ℕ) → 0 < i.tries → CarriedList numbers i offsets → (j k : ℕ) → j < i.tries → position offsets (try_handler i.items.now j) ≡ Some k
+    → CarriedHandler numbers (drop (get_or offsets k 0) i.list.now)
+carried_at numbers i offsets some x j k lt at =
+    let a = x.all in
+    let t = taken_at a.file a.starts i.size i.tries i.items.now i.list.now offsets x.catches a.tries some a.read x.listed j k lt at in
+    record { file = a.file; names = a.names; starts = a.starts; handler = handler_of (try_at a.tries j); rest = t.0; taken = t.1; carried = types_carried numbers i a j lt }
 
 -- nothing is known
 pub known_none : (numbers : Columns) (bytes offsets known : List ℕ) (keys : List (List ℕ)) → ((k : ℕ) → get_or known k 0 ≡ 0) → AreKnown numbers bytes offsets known keys

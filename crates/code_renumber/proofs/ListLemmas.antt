@@ -14,7 +14,7 @@ use Rattle.code_read.specs.Reading.{ReadTries}
 use Rattle.code_read.specs.Tries.{handler_of}
 use Rattle.code_read.proofs.ListReading.{ReadSome, offsets-rise}
 use Rattle.program_types.specs.Formed.{try_at}
-use Rattle.code_renumber.specs.Walks.{AreListed}
+use Rattle.code_renumber.specs.Fronts.{AreListed}
 use Rattle.base_bytes.proofs.ListFacts.{all_front, all_back, number_one}
 
 -- what holds of the parts of all holds of those of each

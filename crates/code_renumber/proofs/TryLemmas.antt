@@ -3,7 +3,7 @@ use Rattle.std.proofs.Common.{◌≡◌, ℕ, zero, suc, ◌+◌, ◌<◌, ◌�
 use Rattle.std.specs.Prelude.{replicate}
 use Rattle.std.specs.List.{AllByRecursion, flat_map}
 use Rattle.std.proofs.lemmas.Bool.{cases_lt}
-use Rattle.std.proofs.lemmas.List.{take_more, take_all, append-nil, get_or-take, get_or-set_other, length-map}
+use Rattle.std.proofs.lemmas.List.{take_more, take_all, append-nil, get_or-take, get_or-set_other, length-map, length-replicate}
 use Rattle.base_bytes.specs.Grammar.{Takes}
 use Rattle.base_bytes.proofs.Numbers.{some_byte}
 use Rattle.program_types.specs.Content.{Name, Catch, Try}
@@ -22,8 +22,8 @@ use Rattle.code_read.specs.Reading.{ReadTries}
 use Rattle.code_read.specs.Tries.{handler_of}
 use Rattle.code_put.specs.Fits.{catches_in}
 use Rattle.code_put.proofs.DistinctLaws.{catches-more}
-use Rattle.code_renumber.specs.Fronts.{types_of}
-use Rattle.code_renumber.specs.Walks.{MarksOnce, AreListed}
+use Rattle.code_renumber.specs.Fronts.{AreListed, types_of}
+use Rattle.code_renumber.specs.Walks.{MarksOnce}
 use Rattle.code_renumber.proofs.ListLemmas.{all-part, HandlerThere, handler_there}
 use Rattle.code_insns.proofs.InsnsOnce.{some-one}
 
@@ -175,7 +175,18 @@ as_many hs offsets catches l = ap length l.catches_are ∙ length-map hs (λ p. 
 pub number_inside : (items offsets : List ℕ) (i k : ℕ) → position offsets (try_handler items i) ≡ Some k → k < length offsets
 number_inside items offsets i k e = (position-there offsets (try_handler items i) k e).0
 
-pub zeros : (n k : ℕ) → let z : ℕ = 0 in get_or (replicate n z) k z ≡ z
-zeros zero k = refl
-zeros (suc n) zero = refl
-zeros (suc n) (suc k) = zeros n k
+-- .. also where the offsets and the number of the try_item are called otherwise
+pub found_in : (items offsets others : List ℕ) (i j k : ℕ) → others ≡ offsets → j ≡ i → position others (try_handler items j) ≡ Some k → position offsets (try_handler items i) ≡ Some k
+found_in items offsets others i j k o e at =
+    subst (λ (os : List ℕ). position os (try_handler items i) ≡ Some k) o (subst (λ (n : ℕ). position others (try_handler items n) ≡ Some k) e at)
+
+pub zeros : (xs : List ℕ) (n : ℕ) → xs ≡ replicate n 0 → (k : ℕ) → get_or xs k 0 ≡ 0
+zeros xs n e k = subst (λ (ys : List ℕ). get_or ys k 0 ≡ 0) (sym e) (by n k)
+  where
+    by : (n k : ℕ) → let z : ℕ = 0 in get_or (replicate n z) k z ≡ z
+    by zero k = refl
+    by (suc n) zero = refl
+    by (suc n) (suc k) = by n k
+
+pub zeros_long : (xs : List ℕ) (n : ℕ) → xs ≡ replicate n 0 → length xs ≡ n
+zeros_long xs n e = ap length e ∙ length-replicate {A = ℕ} n 0

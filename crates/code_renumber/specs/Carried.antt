@@ -31,21 +31,36 @@ pub record IsCarriedCode (b : List ℕ) (off : ℕ) (numbers : Columns) (s : Fiv
 abbrev pub head_of : Item → List ℕ
 head_of i = u16_bytes i.registers ++ u16_bytes i.ins ++ u16_bytes i.outs ++ u16_bytes i.tries ++ u32_bytes 0 ++ u32_bytes i.size
 
--- So many catches are at the front of the bytes, and by these numbers each type has its rank among the names s.
-pub record AreCarriedCatches (b : List ℕ) (numbers : Columns) (s : Five) (ss : List ℕ) (n : ℕ) (bytes : List ℕ) (cs : List Catch) (rest : List ℕ) : Type 0 where
-  pub taken : Takes (Many (SpellsCatch (NameStands b) ss) n) bytes cs rest
-  pub carried : AllByRecursion (Carries (NameStands b) (NameRanks s) numbers) (types_of cs)
+-- So many catches at the front of the bytes, what follows them, and names among which each of their types has its rank
+-- by these numbers.
+pub record CarriedCatches (numbers : Columns) (n : ℕ) (bytes : List ℕ) : Type 0 where
+  pub file : List ℕ
+  pub names : Five
+  pub starts : List ℕ
+  pub catches : List Catch
+  pub rest : List ℕ
+  pub taken : Takes (Many (SpellsCatch (NameStands file) starts) n) bytes catches rest
+  pub carried : AllByRecursion (Carries (NameStands file) (NameRanks names) numbers) (types_of catches)
 
--- A handler is at the front of the bytes, and by these numbers each type that it catches has its rank among the names
--- s.
-pub record IsCarriedHandler (b : List ℕ) (numbers : Columns) (s : Five) (ss bytes : List ℕ) (h : Handler) (rest : List ℕ) : Type 0 where
-  pub taken : Takes (SpellsHandler (NameStands b) ss) bytes h rest
-  pub carried : AllByRecursion (Carries (NameStands b) (NameRanks s) numbers) (types_of h.catches)
+-- A handler at the front of the bytes, what follows it, and names among which each type that it catches has its rank by
+-- these numbers.
+pub record CarriedHandler (numbers : Columns) (bytes : List ℕ) : Type 0 where
+  pub file : List ℕ
+  pub names : Five
+  pub starts : List ℕ
+  pub handler : Handler
+  pub rest : List ℕ
+  pub taken : Takes (SpellsHandler (NameStands file) starts) bytes handler rest
+  pub carried : AllByRecursion (Carries (NameStands file) (NameRanks names) numbers) (types_of handler.catches)
 
--- The try_items and handlers spell these tries, and by these numbers each type that they catch has its rank among the
--- names s.
-pub record AreCarriedTries (b : List ℕ) (numbers : Columns) (s : Five) (ss : List ℕ) (size n : ℕ) (items rest : List ℕ) (ts : List Try) : Type 0 where
-  pub read : ReadTries (NameStands b) ss size n items rest ts
-  pub rise : AreRising s
-  pub carried : AllByRecursion (Carries (NameStands b) (NameRanks s) numbers) (flat_map names_of_try ts)
-  pub short : 26 + 18 * n + 10 * catches_in ts ≤ 4294967295
+-- The tries of a file that the item's try_items and handlers spell, and names among which each type that they catch has
+-- its rank by these numbers.
+pub record CarriedTries (numbers : Columns) (i : Item) : Type 0 where
+  pub file : List ℕ
+  pub names : Five
+  pub starts : List ℕ
+  pub tries : List Try
+  pub read : ReadTries (NameStands file) starts i.size i.tries i.items.now i.list.now tries
+  pub rise : AreRising names
+  pub carried : AllByRecursion (Carries (NameStands file) (NameRanks names) numbers) (flat_map names_of_try tries)
+  pub short : 26 + 18 * i.tries + 10 * catches_in tries ≤ 4294967295

@@ -1,30 +1,33 @@
 -- What the private functions of handlers and tries say.
-use Rattle.std.specs.Prelude.{ℕ, ◌≡◌, ◌+◌, ◌-◌, ◌<◌, ◌⊎◌, List, map, drop, set, length, slice_index, slice_get, Some}
+use Rattle.std.specs.Prelude.{ℕ, ◌≡◌, ◌+◌, ◌-◌, ◌<◌, ◌⊎◌, List, drop, set, length, slice_index, slice_get, Some}
 use Rattle.std.specs.List.{AllByRecursion}
 use Rattle.base_bytes.specs.Grammar.{Takes}
-use Rattle.program_types.specs.Content.{Name, Try}
+use Rattle.program_types.specs.Content.{Try}
 use Rattle.program_types.specs.Formed.{try_at}
-use Rattle.tables_names.specs.Closure.{Five, NameRanks}
+use Rattle.tables_names.specs.Closure.{NameRanks}
 use Rattle.tables_rows.specs.Stands.{NameStands}
 use Rattle.tables_numbers.specs.Marked.{Columns, Marked, AddsNames}
 use Rattle.code_insns.specs.Places.{position, count_below}
 use Rattle.code_read.specs.Handlers.{Handler, SpellsHandler}
 use Rattle.code_read.specs.Item.{try_start, try_count}
 use Rattle.code_read.specs.Reading.{ReadTries}
+use Rattle.code_read.specs.declared.item.Item.{Item}
 use Rattle.code_put.specs.Packs.{PacksHandler}
 use Rattle.code_put.specs.Writing.{Numbers}
-use Rattle.code_renumber.specs.Fronts.{types_of}
-use Rattle.code_renumber.specs.Carried.{IsCarriedHandler, AreCarriedTries}
+use Rattle.code_renumber.specs.Fronts.{AreListed, types_of}
+use Rattle.code_renumber.specs.declared.handlers.Handlers.{Handlers}
+use Rattle.code_renumber.specs.Carried.{CarriedHandler, CarriedTries}
 
--- The handlers begin at these offsets, and catch so many types.
-pub record AreListed (hs : List (ℕ × Handler)) (offsets catches : List ℕ) : Type 0 where
-  pub offsets_are : offsets ≡ map (λ (p : ℕ × Handler). p.0) hs
-  pub catches_are : catches ≡ map (λ (p : ℕ × Handler). length p.1.catches) hs
+-- The try_items of the item, and handlers at the front of its list, spell tries of the file.
+pub record HasTries (b : List ℕ) (i : Item) : Type 0 where
+  pub starts : List ℕ
+  pub tries : List Try
+  pub read : ReadTries (NameStands b) starts i.size i.tries i.items.now i.list.now tries
 
--- The try_items spell these tries, and so the list of their handlers is listed.
-pub record ListedTries (N : ℕ → Name → Type 0) (ss : List ℕ) (size n : ℕ) (items bytes offsets catches : List ℕ) (ts : List Try) : Type 0 where
-  pub read : ReadTries N ss size n items bytes ts
-  pub listed : AreListed read.tries.handlers offsets catches
+-- The item has tries, and these are the handlers of its list.
+pub record ListedTries (b : List ℕ) (i : Item) (list : Handlers) : Type 0 where
+  pub all : HasTries b i
+  pub listed : AreListed all.read.tries.handlers list.offsets.items list.catches.items
 
 -- Either the handler at this offset was seen before, or it is now and the types that it catches are marked.
 abbrev pub MarksOnce : List ℕ → List ℕ → ℕ → Marked → Marked → List ℕ → List ℕ → ℕ → Type 0
@@ -32,17 +35,16 @@ MarksOnce b bytes offset old new seen more k =
     ((more ≡ set seen k 1) × ((ss : List ℕ) (h : Handler) (rest : List ℕ) → Takes (SpellsHandler (NameStands b) ss) (drop offset bytes) h rest → AddsNames b old new (types_of h.catches)))
     ⊎ ((0 < slice_index seen k) × (more ≡ seen) × (new ≡ old))
 
--- The try_items and handlers spell these tries, by these numbers each type that they catch has its rank among the names
--- s, and the handlers of their list begin at these offsets.
-pub record CarriedList (b : List ℕ) (numbers : Columns) (s : Five) (ss : List ℕ) (size n : ℕ) (items bytes offsets : List ℕ) (ts : List Try) : Type 0 where
-  pub tries : AreCarriedTries b numbers s ss size n items bytes ts
+-- The item has tries that are carried by these numbers, and the handlers of its list begin at these offsets.
+pub record CarriedList (numbers : Columns) (i : Item) (offsets : List ℕ) : Type 0 where
+  pub all : CarriedTries numbers i
   pub catches : List ℕ
-  pub listed : AreListed tries.read.tries.handlers offsets catches
+  pub listed : AreListed all.read.tries.handlers offsets catches
 
 -- The byte string is what is written of the handler at the front of the bytes.
 pub record IsWrittenOf (numbers : Columns) (bytes key : List ℕ) : Type 0 where
   pub small : AllByRecursion (λ byte. byte < 256) key
-  pub packs : (b : List ℕ) (s : Five) (ss : List ℕ) (h : Handler) (rest : List ℕ) → IsCarriedHandler b numbers s ss bytes h rest → PacksHandler (NameRanks s) ss key h
+  pub packs : (x : CarriedHandler numbers bytes) → PacksHandler (NameRanks x.names) x.starts key x.handler
 
 -- What is written of the handler at the front of the bytes is number n of the byte strings that are held after the
 -- call.

@@ -3,15 +3,14 @@ ghost use Rattle.std.specs.Prelude.{◌≡◌, ◌<◌, ◌^◌, ℕ, List, leng
 ghost use Rattle.base_bytes.specs.Fault.{memory};
 ghost use Rattle.base_bytes.specs.Grammar.{Appends, Each, Many, Takes};
 ghost use Rattle.program_types.specs.Content.{Catch};
-ghost use Rattle.tables_names.specs.Closure.{Five, NameRanks};
+ghost use Rattle.tables_names.specs.Closure.{NameRanks};
 ghost use Rattle.tables_rows.specs.Stands.{NameStands};
 ghost use Rattle.tables_numbers.specs.Marked.{HasMarks, AddsNames};
 ghost use Rattle.code_insns.specs.Places.{Rises};
 ghost use Rattle.code_read.specs.Handlers.{Handler, SpellsCatch, SpellsHandler, SpellsList};
 ghost use Rattle.code_put.specs.Packs.{PacksCatch, PacksHandler};
-ghost use Rattle.code_renumber.specs.Carried.{AreCarriedCatches, IsCarriedHandler};
-ghost use Rattle.code_renumber.specs.Fronts.{types_of};
-ghost use Rattle.code_renumber.specs.Walks.{AreListed};
+ghost use Rattle.code_renumber.specs.Carried.{CarriedCatches, CarriedHandler};
+ghost use Rattle.code_renumber.specs.Fronts.{AreListed, types_of};
 
 use crate::fronts::{take_catch, take_number, take_signed};
 use dex_base::{Fault, put_sleb, put_uleb};
@@ -56,6 +55,8 @@ fn skip_handler(bytes: &[u8]) -> (u32, &[u8])
 pub(crate) struct Handlers {
     pub offsets: Vec<u32>,
     pub catches: Vec<u32>,
+    ghost rise: { Rises offsets.items },
+    ghost few: { length offsets.items < 2 ^ 32 },
 }
 
 /// The handlers of the list at the front of the bytes.
@@ -64,8 +65,6 @@ pub(crate) fn list_at(alloc: Global, bytes: &[u8]) -> Result<Handlers, Fault>
     requires list { (b : List ℕ) × (ss : List ℕ) × (hs : _) × (rest : List ℕ) × Takes (SpellsList (NameStands b) ss) bytes.now hs rest }
     ensures ok { IfOk result (λ l. (b ss : List ℕ) (hs : _) (rest : List ℕ) → Takes (SpellsList (NameStands b) ss) bytes.now hs rest
         → AreListed hs l.offsets.items l.catches.items) }
-    ensures rise { IfOk result (λ l. Rises l.offsets.items) }
-    ensures few { IfOk result (λ l. length l.offsets.items < 2 ^ 32) }
     ensures memory { IsOkUnless result memory }
 {
     let mut offsets = Vec::new(alloc);
@@ -129,11 +128,9 @@ fn renumber_catches<'b>(
     count: u32,
     bytes: &'b [u8],
 ) -> Result<&'b [u8], Fault>
-    requires { (b : List ℕ) × (s : Five) × (ss : List ℕ) × (cs : List Catch) × (rest : List ℕ) × AreCarriedCatches b numbers.now s ss count bytes.now cs rest }
-    ensures follows { IfOk result (λ after. (b : List ℕ) (s : Five) (ss : List ℕ) (cs : List Catch) (rest : List ℕ) → AreCarriedCatches b numbers.now s ss count bytes.now cs rest
-        → after.now ≡ rest) }
-    ensures ok { OnOk result ((b : List ℕ) (s : Five) (ss : List ℕ) (cs : List Catch) (rest : List ℕ) → AreCarriedCatches b numbers.now s ss count bytes.now cs rest
-        → Appends (Each (PacksCatch (NameRanks s) ss)) out.old.items out.new.items cs) }
+    requires { CarriedCatches numbers.now count bytes.now }
+    ensures follows { IfOk result (λ after. (x : CarriedCatches numbers.now count bytes.now) → after.now ≡ x.rest) }
+    ensures ok { OnOk result ((x : CarriedCatches numbers.now count bytes.now) → Appends (Each (PacksCatch (NameRanks x.names) x.starts)) out.old.items out.new.items x.catches) }
     ensures memory { IsOkUnless result memory }
 {
     let mut left = bytes;
@@ -152,9 +149,8 @@ pub(crate) fn renumber_handler(
     numbers: &Numbers,
     bytes: &[u8],
 ) -> Result<Vec<u8>, Fault>
-    requires { (b : List ℕ) × (s : Five) × (ss : List ℕ) × (h : Handler) × (rest : List ℕ) × IsCarriedHandler b numbers.now s ss bytes.now h rest }
-    ensures ok { IfOk result (λ out. (b : List ℕ) (s : Five) (ss : List ℕ) (h : Handler) (rest : List ℕ) → IsCarriedHandler b numbers.now s ss bytes.now h rest
-        → PacksHandler (NameRanks s) ss out.items h) }
+    requires { CarriedHandler numbers.now bytes.now }
+    ensures ok { IfOk result (λ out. (x : CarriedHandler numbers.now bytes.now) → PacksHandler (NameRanks x.names) x.starts out.items x.handler) }
     ensures memory { IsOkUnless result memory }
 {
     let mut out = Vec::new(alloc);

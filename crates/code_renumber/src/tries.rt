@@ -5,18 +5,17 @@ ghost use Rattle.base_bytes.specs.Fault.{memory};
 ghost use Rattle.base_bytes.specs.Grammar.{Takes};
 ghost use Rattle.program_types.specs.Content.{Try};
 ghost use Rattle.program_types.specs.Mentions.{names_of_try};
-ghost use Rattle.tables_names.specs.Closure.{Five, NameRanks};
+ghost use Rattle.tables_names.specs.Closure.{NameRanks};
 ghost use Rattle.tables_rows.specs.Stands.{NameStands};
 ghost use Rattle.tables_numbers.specs.Marked.{HasMarks, AddsNames};
 ghost use Rattle.code_insns.specs.Places.{Rises, position, count_below};
 ghost use Rattle.code_read.specs.Handlers.{Handler, SpellsHandler};
 ghost use Rattle.code_read.specs.Item.{try_start, try_count, try_handler};
-ghost use Rattle.code_read.specs.Reading.{ReadTries};
 ghost use Rattle.code_put.specs.Fits.{catches_in};
 ghost use Rattle.code_put.specs.Packs.{PacksHandlersOf, bound_of, item_bytes, items_bytes};
 ghost use Rattle.code_put.specs.Writing.{IsDistinctOf};
-ghost use Rattle.code_renumber.specs.Carried.{IsCarriedHandler, AreCarriedTries};
-ghost use Rattle.code_renumber.specs.Walks.{ListedTries, MarksOnce, CarriedList, GetsNumber, AreKnown, CoversTry, CoverTries};
+ghost use Rattle.code_renumber.specs.Carried.{CarriedHandler, CarriedTries};
+ghost use Rattle.code_renumber.specs.Walks.{HasTries, ListedTries, MarksOnce, CarriedList, GetsNumber, AreKnown, CoversTry, CoverTries};
 
 use crate::handlers::{Handlers, list_at, mark_handler, renumber_handler};
 use base_bytes::are_bytes;
@@ -88,18 +87,10 @@ fn mark_each(
     requires marks { HasMarks sections.now marks.old }
     requires some { 0 < item.now.tries }
     requires items { length item.now.items.now ≡ 8 * item.now.tries }
-    requires rises { Rises list.now.offsets.items }
-    requires few { length list.now.offsets.items < 2 ^ 32 }
-    requires long { length seen.old ≡ length list.now.offsets.items }
-    requires none { (k : ℕ) → slice_index seen.old k ≡ 0 }
-    requires tries { (ss : List ℕ) × (ts : List Try)
-        × ListedTries (NameStands sections.now) ss item.now.size item.now.tries item.now.items.now item.now.list.now list.now.offsets.items list.now.catches.items ts }
-    ensures marked { OnOk result ((ss : List ℕ) (ts : List Try)
-        → ListedTries (NameStands sections.now) ss item.now.size item.now.tries item.now.items.now item.now.list.now list.now.offsets.items list.now.catches.items ts
-        → AddsNames sections.now marks.old marks.new (flat_map names_of_try ts)) }
-    ensures catches { IfOk result (λ n. (ss : List ℕ) (ts : List Try)
-        → ListedTries (NameStands sections.now) ss item.now.size item.now.tries item.now.items.now item.now.list.now list.now.offsets.items list.now.catches.items ts
-        → n ≡ catches_in ts) }
+    requires none { seen.old ≡ replicate (length list.now.offsets.items) 0 }
+    requires tries { ListedTries sections.now item.now list.now }
+    ensures marked { OnOk result ((x : ListedTries sections.now item.now list.now) → AddsNames sections.now marks.old marks.new (flat_map names_of_try x.all.tries)) }
+    ensures catches { IfOk result (λ n. (x : ListedTries sections.now item.now list.now) → n ≡ catches_in x.all.tries) }
     ensures low { IfOk result (λ n. n < 2 ^ 48) }
     ensures memory { IsOkUnless result memory }
 {
@@ -125,11 +116,9 @@ pub(crate) fn mark_tries(
     requires some { 0 < item.now.tries }
     requires items { length item.now.items.now ≡ 8 * item.now.tries }
     requires short { length item.now.list.now < 2 ^ 32 }
-    requires tries { (ss : List ℕ) × (ts : List Try) × ReadTries (NameStands sections.now) ss item.now.size item.now.tries item.now.items.now item.now.list.now ts }
-    ensures marked { OnOk result ((ss : List ℕ) (ts : List Try) → ReadTries (NameStands sections.now) ss item.now.size item.now.tries item.now.items.now item.now.list.now ts
-        → AddsNames sections.now marks.old marks.new (flat_map names_of_try ts)) }
-    ensures catches { IfOk result (λ n. (ss : List ℕ) (ts : List Try) → ReadTries (NameStands sections.now) ss item.now.size item.now.tries item.now.items.now item.now.list.now ts
-        → n ≡ catches_in ts) }
+    requires tries { HasTries sections.now item.now }
+    ensures marked { OnOk result ((x : HasTries sections.now item.now) → AddsNames sections.now marks.old marks.new (flat_map names_of_try x.tries)) }
+    ensures catches { IfOk result (λ n. (x : HasTries sections.now item.now) → n ≡ catches_in x.tries) }
     ensures low { IfOk result (λ n. n < 2 ^ 48) }
     ensures memory { IsOkUnless result memory }
 {
@@ -154,8 +143,7 @@ fn number_of_handler(
     requires count { length known.old ≡ length offsets.now }
     requires few { length handlers.old.keys < 65536 }
     requires known { AreKnown numbers.now list.now offsets.now known.old (map (λ v. v.items) handlers.old.keys) }
-    requires handler { (b : List ℕ) × (s : Five) × (ss : List ℕ) × (h : Handler) × (rest : List ℕ)
-        × IsCarriedHandler b numbers.now s ss (drop (slice_index offsets.now k) list.now) h rest }
+    requires handler { CarriedHandler numbers.now (drop (slice_index offsets.now k) list.now) }
     ensures ok { IfOk result (λ n. GetsNumber numbers.now (drop (slice_index offsets.now k) list.now) (map (λ v. v.items) handlers.old.keys) (map (λ v. v.items) handlers.new.keys) n) }
     ensures known { OnOk result (AreKnown numbers.now list.now offsets.now known.new (map (λ v. v.items) handlers.new.keys)) }
     ensures memory { IsOkUnless result memory }
@@ -191,11 +179,10 @@ fn number_each(
     requires items { length item.now.items.now ≡ 8 * item.now.tries }
     requires rises { Rises offsets.now }
     requires few { length offsets.now < 2 ^ 32 }
-    requires long { length known.old ≡ length offsets.now }
-    requires none { (k : ℕ) → slice_index known.old k ≡ 0 }
-    requires tries { (b : List ℕ) × (s : Five) × (ss : List ℕ) × (ts : List Try) × CarriedList b numbers.now s ss item.now.size item.now.tries item.now.items.now item.now.list.now offsets.now ts }
-    ensures ok { IfOk result (λ d. (b : List ℕ) (s : Five) (ss : List ℕ) (ts : List Try) → CarriedList b numbers.now s ss item.now.size item.now.tries item.now.items.now item.now.list.now offsets.now ts
-        → IsDistinctOf (NameRanks s) ss ts (map (λ v. v.items) d.handlers.keys) d.numbers.items) }
+    requires none { known.old ≡ replicate (length offsets.now) 0 }
+    requires tries { CarriedList numbers.now item.now offsets.now }
+    ensures ok { IfOk result (λ d. (x : CarriedList numbers.now item.now offsets.now)
+        → IsDistinctOf (NameRanks x.all.names) x.all.starts x.all.tries (map (λ v. v.items) d.handlers.keys) d.numbers.items) }
     ensures memory { IsOkUnless result memory }
 {
     let mut handlers = IndexSet::with_hasher(alloc, numbers.seed());
@@ -224,9 +211,9 @@ fn distinct_of(alloc: Global, numbers: &Numbers, item: &Item<'_>) -> Result<Dist
     requires some { 0 < item.now.tries }
     requires items { length item.now.items.now ≡ 8 * item.now.tries }
     requires short { length item.now.list.now < 2 ^ 32 }
-    requires tries { (b : List ℕ) × (s : Five) × (ss : List ℕ) × (ts : List Try) × AreCarriedTries b numbers.now s ss item.now.size item.now.tries item.now.items.now item.now.list.now ts }
-    ensures ok { IfOk result (λ d. (b : List ℕ) (s : Five) (ss : List ℕ) (ts : List Try) → AreCarriedTries b numbers.now s ss item.now.size item.now.tries item.now.items.now item.now.list.now ts
-        → IsDistinctOf (NameRanks s) ss ts (map (λ v. v.items) d.handlers.keys) d.numbers.items) }
+    requires tries { CarriedTries numbers.now item.now }
+    ensures ok { IfOk result (λ d. (x : CarriedTries numbers.now item.now)
+        → IsDistinctOf (NameRanks x.names) x.starts x.tries (map (λ v. v.items) d.handlers.keys) d.numbers.items) }
     ensures memory { IsOkUnless result memory }
 {
     let list = list_at(alloc, item.list)?;
@@ -238,9 +225,8 @@ fn distinct_of(alloc: Global, numbers: &Numbers, item: &Item<'_>) -> Result<Dist
 pub(crate) fn lay_tries(alloc: Global, numbers: &Numbers, item: &Item<'_>) -> Result<Laid, Fault>
     requires items { length item.now.items.now ≡ 8 * item.now.tries }
     requires short { length item.now.list.now < 2 ^ 32 }
-    requires tries { (b : List ℕ) × (s : Five) × (ss : List ℕ) × (ts : List Try) × AreCarriedTries b numbers.now s ss item.now.size item.now.tries item.now.items.now item.now.list.now ts }
-    ensures ok { IfOk result (λ l. (b : List ℕ) (s : Five) (ss : List ℕ) (ts : List Try) → AreCarriedTries b numbers.now s ss item.now.size item.now.tries item.now.items.now item.now.list.now ts
-        → PacksHandlersOf (NameRanks s) ss ts l.bytes.items l.offsets.items) }
+    requires tries { CarriedTries numbers.now item.now }
+    ensures ok { IfOk result (λ l. (x : CarriedTries numbers.now item.now) → PacksHandlersOf (NameRanks x.names) x.starts x.tries l.bytes.items l.offsets.items) }
     ensures memory { IsOkUnless result memory }
 {
     if item.tries == 0 {

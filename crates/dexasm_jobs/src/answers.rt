@@ -154,7 +154,7 @@ fn file_of<'a>(
     listed: &Program<'a>,
     align: bool,
 ) -> Result<Vec<u8>, Fault>
-    requires kept { WellFormed (program listed.now) }
+    requires formed { WellFormed (program listed.now) }
     ensures written { IfOk result (λ made. IsWritten align (program listed.now) made.items) }
     ensures refused { IfErr result (λ fault. fault ≢ memory → IsUnwritten align (program listed.now) fault) }
 {

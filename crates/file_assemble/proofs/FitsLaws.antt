@@ -5,7 +5,7 @@ use Rattle.file_layout.specs.Plan.{tables_end}
 use Rattle.file_layout.specs.Sections.{wide_all}
 use Rattle.file_layout.specs.declared.plan.Rows.{Rows}
 use Rattle.file_sections.specs.Limits.{Fits}
-use Rattle.file_sections.specs.file_limits_Wide.{array_values, bodies_of, body_values, list_values, text_values, wide_body, wide_data, wide_list, wide_of, wide_rows, wide_text}
+use Rattle.file_sections.specs.file_limits_Wide.{array_values, bodies_of, body_values, list_values, text_values, wide, wide_body, wide_data, wide_list, wide_of, wide_rows, wide_text}
 use Rattle.file_sections.proofs.PartLaws.{by_parts}
 use Rattle.file_sections.proofs.SumLaws.{wide_all_append}
 use Rattle.tables_names.specs.Closure.{Five}
@@ -34,8 +34,8 @@ pub record Room (s : Five) (p : Program) : Type 0 where
   pub few_types : length s.types ≤ 65535
   pub few_protos : length s.protos ≤ 65535
 
-pub room_of : (s : Five) (p : Program) → s ≡ needed p → Fits p → Room s p
-room_of s p e f = rw e (record {
+pub room_by_parts : (p : Program) → wide p ≤ 4294967295 → length (needed p).types ≤ 65535 → length (needed p).protos ≤ 65535 → Room (needed p) p
+room_by_parts p small types protos = record {
   rows = _;
   lists = _;
   codes = _;
@@ -49,10 +49,13 @@ room_of s p e f = rw e (record {
   arrays_are = refl;
   datas_are = refl;
   sum = by_parts (needed p) p;
-  whole = let w = f.small in let b = by_parts (needed p) p in omega (arith, w, b);
-  few_types = f.few_types;
-  few_protos = f.few_protos;
-})
+  whole = let b = by_parts (needed p) p in omega (arith, small, b);
+  few_types = types;
+  few_protos = protos;
+}
+
+pub room_of : (s : Five) (p : Program) → s ≡ needed p → Fits p → Room s p
+room_of s p e f = rw e (room_by_parts p f.small f.few_types f.few_protos)
 
 pub few_of : (s : Five) (p : Program) → Room s p → FewNames s
 few_of s p r = record {

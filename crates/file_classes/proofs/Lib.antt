@@ -37,7 +37,6 @@ pub use Rattle.code_read.proofs.NamesHaveRows
 pub use Rattle.code_read.proofs.SaidLaws
 pub use Rattle.code_read.proofs.StandLaws
 pub use Rattle.dex_value.proofs.FileLemmas
-pub use Rattle.dex_value.proofs.NoFault
 pub use Rattle.dex_value.proofs.tables_laws_OneFault
 pub use Rattle.dex_value.proofs.RowsBreak
 pub use Rattle.dex_value.proofs.RowsDecided

@@ -1,4 +1,4 @@
-//! The third pass over class_defs: the code of methods, which completes the classes. The first fault of registers is kept, and answered
+//! The third pass over class_defs: the code of methods, which completes the classes. The first fault of registers is cached, and answered
 //! where there is no other.
 ghost use Rattle.std.specs.Prelude.{◌≢◌, ◌<◌, ◌≡◌, ◌⊎◌, IfOk, IfErr, IfSome, IfNone, OnOk, Some, length, map, option_map};
 ghost use Rattle.base_bytes.specs.Fault.{memory};

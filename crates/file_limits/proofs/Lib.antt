@@ -13,6 +13,4 @@ pub use Rattle.code_fits.proofs.HandlerOnce
 pub use Rattle.code_fits.proofs.HandlerPacks
 pub use Rattle.code_fits.proofs.MentionLaws
 pub use Rattle.code_fits.proofs.PackedLaws
-pub use Rattle.code_fits.proofs.PackedTries
 pub use Rattle.code_fits.proofs.RankLaws as code_put_RankLaws
-pub use Rattle.code_fits.proofs.WrittenLaws

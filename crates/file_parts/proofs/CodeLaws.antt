@@ -1,10 +1,8 @@
 -- One body.
-use Rattle.std.proofs.Common.{◌≡◌, ℕ, ◌+◌, ◌<◌, ◌≤◌, false, List, [], ◌++◌, length, refl, ap, arith, length-append, Option, Some, None}
-use Rattle.file_limits.proofs.PackedTries.{items-length}
-use Rattle.file_limits.proofs.WrittenLaws.{lowered-length}
-use Rattle.file_limits.proofs.PackedLaws.{length-head, few-padding}
+use Rattle.std.proofs.Common.{◌≡◌, ℕ, ◌+◌, ◌<◌, ◌≤◌, false, List, [], length, refl, ap, arith, Option, Some, None}
+use Rattle.file_limits.proofs.PackedLaws.{packed-length}
 use Rattle.file_limits.specs.Fits.{wide_code}
-use Rattle.file_limits.specs.Packs.{PacksCode, head_bytes, padding, joined, items_bytes}
+use Rattle.file_limits.specs.Packs.{PacksCode}
 use Rattle.file_shared.specs.Tiles.{gap}
 use Rattle.file_classes.proofs.CodeLaws.{SpellsCode-unique}
 use Rattle.file_limits.proofs.code_put_RankLaws.{ranks-functional}
@@ -13,29 +11,13 @@ use Rattle.file_limits.proofs.CodeOnce.{code_once}
 use Rattle.file_limits.specs.Wide.{wide_body}
 use Rattle.file_limits.specs.Closure.{Five, AreRising, NameRanks}
 use Rattle.program_types.specs.Content.{Name, Code}
-use Rattle.program_types.specs.Sizes.{addresses_of, length_of}
 use Rattle.file_parts.proofs.ListLaws.{gap_four}
 use Rattle.file_parts.specs.Codes.{PacksBody, WritesBody, is_bodiless}
 
 -- ---- how long a body is
 
--- with three zeros before it, it takes no more than its term of the sum
 pub packed_room : (N : ℕ → Name → Type 0) (c : Code) (bytes : List ℕ) → PacksCode N bytes c → (0 < length bytes) × (length bytes + 3 ≤ wide_code c)
-packed_room N c bytes p =
-    let h = head_bytes c (length_of c.insns) in
-    let i = items_bytes (length_of c.insns) (addresses_of c.insns) c.tries p.offsets in
-    let pad = padding (length_of c.insns) (length c.tries) in
-    let lh = length-head c (length_of c.insns) in
-    let lj = lowered-length N c.insns p.raws p.lowered in
-    let lp = few-padding (length_of c.insns) (length c.tries) in
-    let li = items-length (length_of c.insns) (addresses_of c.insns) c.tries p.offsets p.handlers.offsets.count in
-    let short = p.handlers.short in
-    let a = length-append h (joined p.raws ++ (pad ++ (i ++ p.list))) in
-    let b = length-append (joined p.raws) (pad ++ (i ++ p.list)) in
-    let d = length-append pad (i ++ p.list) in
-    let e = length-append i p.list in
-    let w = ap length p.is in
-    (omega arith, omega arith)
+packed_room N c bytes p = let l = packed-length N c bytes p in (omega (arith, l.0), l.1)
 
 -- ---- one body
 

@@ -5,7 +5,7 @@ ghost use Rattle.std.specs.Option.{ForSome};
 ghost use Rattle.base_bytes.specs.Fault.{memory};
 ghost use Rattle.base_bytes.specs.Grammar.{Appends, Each};
 ghost use Rattle.file_parts.specs.ClassRows.{IndexOrNone};
-ghost use Rattle.tables_names.specs.Indices.{HasPlace};
+ghost use Rattle.tables_names.specs.Indices.{HasRank};
 ghost use Rattle.program_types.specs.Key.{text_key};
 ghost use Rattle.program_types.specs.View as view;
 ghost use Rattle.file_parts.specs.ClassDefs.{SpellsClassRow, StringRanks, TypeRanks, with_places};
@@ -13,6 +13,7 @@ ghost use Rattle.file_rows.specs.Held.{RowNamesHeld};
 
 use crate::index::{string_index, type_index};
 use dex_base::{Fault, push_words};
+use file_parts::word;
 use program_types::{Class, Desc, Str};
 use tables_names::Ranks;
 

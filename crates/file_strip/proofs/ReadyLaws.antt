@@ -8,7 +8,7 @@ use Rattle.base_bytes.specs.declared.fault.Fault.{Fault}
 use Rattle.file_assemble.specs.Fits.{CodeBreaksLimit, FitsCode, HandlerTooFar}
 use Rattle.dex_insn.specs.declared.opcode.IndexKind.TheVariants as kind
 use Rattle.file_assemble.specs.Assembled.{rows_of}
-use Rattle.file_assemble.proofs.FitsLaws.{all_parts, after_tables, HasRoom, Room}
+use Rattle.file_assemble.proofs.FitsLaws.{all_parts, after_tables, HasRoom, Room, room_by_parts}
 use Rattle.file_assemble.proofs.DataLaws.{next}
 use Rattle.file_kept.specs.Keeping.{Keeps}
 use Rattle.file_kept.proofs.RangeLaws.{well_formed}
@@ -21,7 +21,6 @@ use Rattle.file_kept.proofs.VainLaws.{class_fits, only_late}
 use Rattle.file_assemble.specs.Limits as limits
 use Rattle.file_assemble.specs.Limits.{BodyBreaks, ClassBreaksLimit, Fits, IsFirstToBreak, IsLowestLimit, LimitBreaks, TooBig, TooManyProtos, TooManyTypes, codes_of}
 use Rattle.file_assemble.specs.file_limits_Wide.{wide}
-use Rattle.file_assemble.proofs.PartLaws.{by_parts}
 use Rattle.file_kept.specs.Means.{Means}
 use Rattle.file_strip.specs.Ready.{IsReady}
 use Rattle.program_types.specs.Content.{Code, Name, Program}
@@ -48,24 +47,7 @@ ready_of b numbers p are m keeps small = record {
 
 module _ (b : List ℕ) (numbers : Columns) (p : Program) (r : IsReady b numbers p) where
   pub room : Room (needed p) p
-  room = record {
-    rows = _;
-    lists = _;
-    codes = _;
-    texts = _;
-    arrays = _;
-    datas = _;
-    rows_are = refl;
-    lists_are = refl;
-    codes_are = refl;
-    texts_are = refl;
-    arrays_are = refl;
-    datas_are = refl;
-    sum = by_parts (needed p) p;
-    whole = let w = r.small in let x = by_parts (needed p) p in omega (arith, w, x);
-    few_types = r.few_types;
-    few_protos = r.few_protos;
-  }
+  room = room_by_parts p r.small r.few_types r.few_protos
 
 -- So many bytes stand for a program that is ready, and there is room after them for so many more.
 pub record Stands (b : List ℕ) (numbers : Columns) (n : ℕ) (more : Program → ℕ) : Type 0 where

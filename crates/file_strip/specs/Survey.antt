@@ -2,7 +2,7 @@
 -- Page: "Dalvik Executable format", "class_def_item", "class_data_item".
 use Rattle.std.specs.Prelude.{◌≡◌, ℕ, ◌+◌, List, [], ◌∷◌, ◌++◌, map}
 use Rattle.std.specs.List.{AllByRecursion, flat_map}
-use Rattle.program_types.specs.Content.{Name, OfDesc, OfText, Value, Code, Class, Program, values}
+use Rattle.program_types.specs.Content.{Name, OfDesc, OfText, Units, Value, Code, Member, Method, Class, Program, values}
 use Rattle.program_types.specs.Mentions.{field_of_class, if_any, names_of_code, names_of_method, names_of_value}
 use Rattle.tables_names.specs.Closure.{Five, Holds, with_names}
 use Rattle.tables_rows.specs.Cached.{AreCached}
@@ -16,8 +16,11 @@ use Rattle.file_assemble.specs.Fits.{wide_code}
 use Rattle.file_layout.specs.Sections.{wide_all}
 use Rattle.file_assemble.specs.Sum.{IsSum}
 use Rattle.file_assemble.specs.file_limits_Wide.{bodies_of, wide_body, wide_class, wide_data}
-use Rattle.file_assemble.specs.ClassData.{Entries}
-use Rattle.file_assemble.specs.Classes.{CodesAre, MembersAre, StaticsAt}
+use Rattle.file_assemble.specs.ClassData.{Entries, EntriesAre}
+use Rattle.file_assemble.specs.Classes.{CodesAre, IsField, IsMethod, MembersAre, StaticsAt}
+use Rattle.file_assemble.specs.Reading.{field_entry, method_entry}
+use Rattle.file_assemble.specs.declared_FieldEntry.{FieldEntry}
+use Rattle.file_assemble.specs.declared_MethodEntry.{MethodEntry}
 use Rattle.tables_names.specs.Needed.{needed}
 use Rattle.file_strip.specs.declared.survey.Found.{Found}
 use Rattle.file_strip.specs.declared.survey.Survey.{Survey}
@@ -48,6 +51,19 @@ abbrev pub FindsNames : List ℕ → Found → Found → List Name → Type 0
 FindsNames b old new names = (s : Five) → AreFound b old s → AreFound b new (with_names s names)
 
 -- ---- a class
+
+-- The fields of a class that these entries spell.
+pub record HasFields (b : List ℕ) (es : List FieldEntry) : Type 0 where
+  pub class : Units
+  pub fields : List Member
+  pub spelled : EntriesAre (IsField b class) (map field_entry es) fields
+
+-- The methods of a class that these entries spell, with their codes.
+pub record HasMethods (b : List ℕ) (es : List MethodEntry) : Type 0 where
+  pub class : Units
+  pub methods : List Method
+  pub spelled : EntriesAre (IsMethod b class) (map method_entry es) methods
+  pub codes : CodesAre b (map method_entry es) methods
 
 -- These entries, and the values at this offset, spell the members of the class, their codes among them.
 pub record SpellsMembers (b : List ℕ) (e : Entries) (off : ℕ) (c : Class) : Type 0 where

@@ -1,18 +1,16 @@
 //! What the members of a class mention.
 //! Page: "Dalvik Executable format", "class_data_item".
-ghost use Rattle.std.specs.Prelude.{◌≡◌, List, Option, map, IfOk, OnOk, IsOkUnless};
+ghost use Rattle.std.specs.Prelude.{◌≡◌, Option, map, IfOk, OnOk, IsOkUnless};
 ghost use Rattle.std.specs.List.{flat_map};
 ghost use Rattle.base_bytes.specs.Fault.{memory};
-ghost use Rattle.program_types.specs.Content.{Units, Code, Member, Method};
+ghost use Rattle.program_types.specs.Content.{Code};
 ghost use Rattle.program_types.specs.Mentions.{if_any, field_of_class, names_of_code, names_of_method};
 ghost use Rattle.file_kept.specs.Marked.{HasMarks, AddsNames};
 ghost use Rattle.file_layout.specs.Sections.{wide_all};
 ghost use Rattle.file_assemble.specs.Sum.{IsSum};
 ghost use Rattle.file_assemble.specs.file_limits_Wide.{bodies_in, wide_body};
-ghost use Rattle.file_assemble.specs.ClassData.{EntriesAre};
-ghost use Rattle.file_assemble.specs.Classes.{CodeAt, CodesAre, IsField, IsMethod};
-ghost use Rattle.file_assemble.specs.Reading.{field_entry, method_entry};
-ghost use Rattle.file_strip.specs.Survey.{FindsNames, HasFound};
+ghost use Rattle.file_assemble.specs.Classes.{CodeAt};
+ghost use Rattle.file_strip.specs.Survey.{FindsNames, HasFields, HasFound, HasMethods};
 
 use crate::survey::Found;
 use dex_base::Fault;
@@ -29,9 +27,8 @@ pub(crate) fn mark_fields(
     entries: &[FieldEntry],
 ) -> Result<(), Fault>
     requires marks { HasMarks sections.now marks.old }
-    requires run { (class : Units) × (ms : List Member) × EntriesAre (IsField sections.now class) (map field_entry entries.now) ms }
-    ensures marked { OnOk result ((class : Units) (ms : List Member) → EntriesAre (IsField sections.now class) (map field_entry entries.now) ms
-        → AddsNames sections.now marks.old marks.new (map (field_of_class class) ms)) }
+    requires run { HasFields sections.now entries.now }
+    ensures marked { OnOk result ((x : HasFields sections.now entries.now) → AddsNames sections.now marks.old marks.new (map (field_of_class x.class) x.fields)) }
     ensures memory { IsOkUnless result memory }
 {
     let mut index: u32 = 0;
@@ -74,11 +71,9 @@ pub(crate) fn look_at_methods(
     entries: &[MethodEntry],
 ) -> Result<u64, Fault>
     requires found { HasFound sections.now found.old }
-    requires run { (class : Units) × (ms : List Method) × EntriesAre (IsMethod sections.now class) (map method_entry entries.now) ms × CodesAre sections.now (map method_entry entries.now) ms }
-    ensures found { OnOk result ((class : Units) (ms : List Method) → EntriesAre (IsMethod sections.now class) (map method_entry entries.now) ms → CodesAre sections.now (map method_entry entries.now) ms
-        → FindsNames sections.now found.old found.new (flat_map (names_of_method class) ms)) }
-    ensures wide { IfOk result (λ n. (class : Units) (ms : List Method) → EntriesAre (IsMethod sections.now class) (map method_entry entries.now) ms → CodesAre sections.now (map method_entry entries.now) ms
-        → IsSum n (wide_all wide_body (bodies_in ms))) }
+    requires run { HasMethods sections.now entries.now }
+    ensures found { OnOk result ((x : HasMethods sections.now entries.now) → FindsNames sections.now found.old found.new (flat_map (names_of_method x.class) x.methods)) }
+    ensures wide { IfOk result (λ n. (x : HasMethods sections.now entries.now) → IsSum n (wide_all wide_body (bodies_in x.methods))) }
     ensures memory { IsOkUnless result memory }
 {
     let mut index: u32 = 0;

@@ -3,7 +3,7 @@ use Rattle.std.proofs.Common.{ℕ, ℤ, zero, suc, List, Some, None}
 use Rattle.base_bytes.specs.Leb128.{SpellsSigned, Shortest, Spells}
 use Rattle.base_bytes.proofs.PlacedLaws.{Placed-weaker}
 use Rattle.base_bytes.proofs.WeakerLaws.{Implies, Many-weaker, Pair-weaker, Then-weaker}
-use Rattle.file_read.specs.Handlers.{AllBy, Handler, PacksHandlers, PartsBy, PlaceBy, TypeBy, catches_of}
+use Rattle.file_read.specs.Handlers.{AllBy, Handler, PacksHandlers, PartsBy, AddressBy, TypeBy, catches_of}
 use Rattle.file_read.specs.Symbols.{InsnNames, Says, name_in}
 use Rattle.file_strip.specs.Packs.{AreLowered, PacksCatch, PacksCode, PacksHandler, PacksHandlersOf}
 use Rattle.dex_insn.specs.Raw as raw
@@ -41,7 +41,7 @@ module _ (M N : ℕ → Name → Type 0) (f : (i : ℕ) (which : Name) → M i w
 
     catch-weaker : Implies (PacksCatch M ss) (PacksCatch N ss)
     catch-weaker bytes c =
-        Pair-weaker (TypeBy (Shortest Spells) (Shortest SpellsSigned) M ss) (TypeBy (Shortest Spells) (Shortest SpellsSigned) N ss) (PlaceBy (Shortest Spells) (Shortest SpellsSigned) M ss) (PlaceBy (Shortest Spells) (Shortest SpellsSigned) N ss) type-weaker (λ b v p. p) bytes (c.ty, c.at)
+        Pair-weaker (TypeBy (Shortest Spells) (Shortest SpellsSigned) M ss) (TypeBy (Shortest Spells) (Shortest SpellsSigned) N ss) (AddressBy (Shortest Spells) (Shortest SpellsSigned) M ss) (AddressBy (Shortest Spells) (Shortest SpellsSigned) N ss) type-weaker (λ b v p. p) bytes (c.ty, c.at)
 
     all-weaker : (z : ℤ) → Implies (AllBy (Shortest Spells) (Shortest SpellsSigned) M ss z) (AllBy (Shortest Spells) (Shortest SpellsSigned) N ss z)
     all-weaker z bytes None p = p

@@ -25,7 +25,7 @@ use Rattle.dex_value.proofs.Namings.{number_stands}
 use Rattle.dex_value.proofs.Carrying.{NameStands-functional}
 use Rattle.tables_numbers.specs.Marked.{Columns, kind_of}
 use Rattle.tables_numbers.specs.Numbers.{Carries, column_of}
-use Rattle.value_renumber.specs.Walks.{IsLow, IsCarriedLow, IsCarriedValue, AreCarriedValues}
+use Rattle.value_renumber.specs.Walks.{IsLow, CarriedValue, CarriedValues}
 use Rattle.value_renumber.proofs.FrontLemmas.{TakenArray, next_value, values_due}
 use Rattle.value_renumber.specs.Carried.{IsCarriedArray, IsItemOf}
 use Rattle.value_renumber.proofs.NameLemmas.{NamedRow, row_of_low}
@@ -79,8 +79,8 @@ module _ (b : List ℕ) (numbers : Columns) (s : Five) (ty : NameType) (t : ℕ)
   by (Array vs) up r st c = absurd st
   by _ up r st c = let e = r.names in absurd cc
 
-  pub carried_name : (v : Value) → IsCarriedLow b numbers s t low v → CarriedName numbers s (table_of_type ty) (unsigned_of low) t v
-  carried_name v c = by v c.rise (row_of_low b ty t low v is c.low) c.low.stands c.carried
+  pub carried_name : (v : Value) → IsLow b t low v → AreRising s → NamesHold (Carries (NameStands b) (NameRanks s) numbers) v → CarriedName numbers s (table_of_type ty) (unsigned_of low) t v
+  carried_name v stands up c = by v up (row_of_low b ty t low v is stands) stands.stands c
 
 -- ---- a head alone
 
@@ -99,12 +99,16 @@ lone_appends N h old new v joined (BareTrue e i) = alone N h 63 old new v (Boole
 -- ---- an array
 
 -- the values of an array value, as they are due after its count
-pub inner_carried : (b : List ℕ) (numbers : Columns) (s : Five) (tail rest : List ℕ) (v : Value) (n : ℕ) (left : List ℕ) → IsFramed b → AreRising s → NamesHold (Carries (NameStands b) (NameRanks s) numbers) v → (t : TakenArray (NameStands b) tail v rest) → count_of t.vs ≡ n → t.mid ≡ left → AreCarriedValues b numbers s n left (listed t.vs) rest
-inner_carried b numbers s tail rest v n left framed up c t count mid = record {
-  framed = framed;
-  rise = up;
-  taken = subst (λ (l : List ℕ). Takes (Many (SpellsValue (NameStands b)) n) l (listed t.vs) rest) mid (subst (λ (k : ℕ). Takes (Many (SpellsValue (NameStands b)) k) t.mid (listed t.vs) rest) count t.values);
-  carried = subst (λ (ws : Values). AllNamesHold (Carries (NameStands b) (NameRanks s) numbers) ws) (sym (values-listed t.vs)) (subst (λ (x : Value). NamesHold (Carries (NameStands b) (NameRanks s) numbers) x) t.value c);
+abbrev pub inner_carried : (numbers : Columns) (bytes tail : List ℕ) (x : CarriedValue numbers bytes) (n : ℕ) (left : List ℕ) (t : TakenArray (NameStands x.file) tail x.value x.rest) → count_of t.vs ≡ n → t.mid ≡ left → CarriedValues numbers n left
+inner_carried numbers bytes tail x n left t count mid = record {
+  file = x.file;
+  names = x.names;
+  all = listed t.vs;
+  rest = x.rest;
+  framed = x.framed;
+  rise = x.rise;
+  taken = subst (λ (l : List ℕ). Takes (Many (SpellsValue (NameStands x.file)) n) l (listed t.vs) x.rest) mid (subst (λ (k : ℕ). Takes (Many (SpellsValue (NameStands x.file)) k) t.mid (listed t.vs) x.rest) count t.values);
+  carried = subst (λ (ws : Values). AllNamesHold (Carries (NameStands x.file) (NameRanks x.names) numbers) ws) (sym (values-listed t.vs)) (subst (λ (v : Value). NamesHold (Carries (NameStands x.file) (NameRanks x.names) numbers) v) t.value x.carried);
 }
 
 pub array_spelled : (N : ℕ → Name → Type 0) (start one two new : List ℕ) (v : Value) (vs : Values) (n : ℕ) → v ≡ Array vs → count_of vs ≡ n → one ≡ start ++ 28 ∷ [] → Appends (Shortest Spells) one two n → Appends (Each (Shortest (SpellsValue N))) two new (listed vs) → Appends (Shortest (SpellsValue N)) start new v
@@ -125,44 +129,50 @@ pub record Renumbered (b : List ℕ) (s : Five) (old out left : List ℕ) (turn 
   pub done : Appends (Each (Shortest (SpellsValue (NameRanks s)))) old out (take turn vs)
   pub due : Takes (Each (SpellsValue (NameStands b))) left (drop turn vs) rest
 
-pub renumbered_start : (b : List ℕ) (numbers : Columns) (s : Five) (n : ℕ) (bytes : List ℕ) (vs : List Value) (rest old : List ℕ) → AreCarriedValues b numbers s n bytes vs rest → Renumbered b s old old bytes 0 vs rest
-renumbered_start b numbers s n bytes vs rest old c = record {
-  done = Each-appends_none (Shortest (SpellsValue (NameRanks s))) old;
-  due = record { front = c.taken.front; whole = c.taken.whole; spelled = c.taken.spelled.1 };
+pub renumbered_start : (numbers : Columns) (n : ℕ) (bytes : List ℕ) (x : CarriedValues numbers n bytes) (old : List ℕ) → Renumbered x.file x.names old old bytes 0 x.all x.rest
+renumbered_start numbers n bytes x old = record {
+  done = Each-appends_none (Shortest (SpellsValue (NameRanks x.names))) old;
+  due = record { front = x.taken.front; whole = x.taken.whole; spelled = x.taken.spelled.1 };
 }
 
 -- the value that is due next
-pub record NextDue (b : List ℕ) (numbers : Columns) (s : Five) (left : List ℕ) (turn : ℕ) (vs : List Value) (rest : List ℕ) : Type 0 where
+pub record NextDue (numbers : Columns) (b : List ℕ) (s : Five) (left : List ℕ) (turn : ℕ) (vs : List Value) (rest : List ℕ) : Type 0 where
   pub mid : List ℕ
-  pub one : IsCarriedValue b numbers s left (get_or vs turn Null) mid
+  pub taken : Takes (SpellsValue (NameStands b)) left (get_or vs turn Null) mid
+  pub carried : NamesHold (Carries (NameStands b) (NameRanks s) numbers) (get_or vs turn Null)
   pub more : Takes (Each (SpellsValue (NameStands b))) mid (drop (turn + 1) vs) rest
 
-pub next_due : (b : List ℕ) (numbers : Columns) (s : Five) (n : ℕ) (bytes left : List ℕ) (turn : ℕ) (vs : List Value) (rest old out : List ℕ) → turn < n → AreCarriedValues b numbers s n bytes vs rest → Renumbered b s old out left turn vs rest → NextDue b numbers s left turn vs rest
-next_due b numbers s n bytes left turn vs rest old out lt c r =
-    let count = c.taken.spelled.0 in
-    let within : turn < length vs = omega (arith, lt, count) in
-    let x = next_value (NameStands b) n left (get_or vs turn Null) (drop (suc turn) vs) rest (subst (λ (ws : List Value). Takes (Each (SpellsValue (NameStands b))) left ws rest) (drop-cons vs turn Null within) r.due) in
-    record {
-      mid = x.0;
-      one = record { framed = c.framed; rise = c.rise; taken = x.1; carried = all_at (Carries (NameStands b) (NameRanks s) numbers) vs turn within c.carried };
-      more = (let e : suc turn ≡ turn + 1 = omega arith in subst (λ (k : ℕ). Takes (Each (SpellsValue (NameStands b))) x.0 (drop k vs) rest) e x.2);
-    }
+module _ (numbers : Columns) (n : ℕ) (bytes : List ℕ) (x : CarriedValues numbers n bytes) (old out left : List ℕ) (turn : ℕ) (r : Renumbered x.file x.names old out left turn x.all x.rest) where
+  pub next_due : turn < n → NextDue numbers x.file x.names left turn x.all x.rest
+  next_due lt =
+      let count = x.taken.spelled.0 in
+      let within : turn < length x.all = omega (arith, lt, count) in
+      let y = next_value (NameStands x.file) n left (get_or x.all turn Null) (drop (suc turn) x.all) x.rest (subst (λ (ws : List Value). Takes (Each (SpellsValue (NameStands x.file))) left ws x.rest) (drop-cons x.all turn Null within) r.due) in
+      record {
+        mid = y.0;
+        taken = y.1;
+        carried = all_at (Carries (NameStands x.file) (NameRanks x.names) numbers) x.all turn within x.carried;
+        more = (let e : suc turn ≡ turn + 1 = omega arith in subst (λ (k : ℕ). Takes (Each (SpellsValue (NameStands x.file))) y.0 (drop k x.all) x.rest) e y.2);
+      }
 
-pub renumbered_next : (b : List ℕ) (numbers : Columns) (s : Five) (n : ℕ) (bytes left after : List ℕ) (turn : ℕ) (vs : List Value) (rest old out new : List ℕ) → turn < n → AreCarriedValues b numbers s n bytes vs rest → Renumbered b s old out left turn vs rest → (d : NextDue b numbers s left turn vs rest) → after ≡ d.mid → Appends (Shortest (SpellsValue (NameRanks s))) out new (get_or vs turn Null) → Renumbered b s old new after (turn + 1) vs rest
-renumbered_next b numbers s n bytes left after turn vs rest old out new lt c r d follows a =
-    let count = c.taken.spelled.0 in record {
-      done = subst (λ (ws : List Value). Appends (Each (Shortest (SpellsValue (NameRanks s)))) old new ws) (sym (take_more vs turn Null (omega (arith, lt, count))))
-          (Each-appends_more (Shortest (SpellsValue (NameRanks s))) old out new (take turn vs) (get_or vs turn Null) r.done a);
-      due = subst (λ (l : List ℕ). Takes (Each (SpellsValue (NameStands b))) l (drop (turn + 1) vs) rest) (sym follows) d.more;
-    }
+  abbrev pub next_carried : NextDue numbers x.file x.names left turn x.all x.rest → CarriedValue numbers left
+  next_carried d = record { file = x.file; names = x.names; value = get_or x.all turn Null; rest = d.mid; framed = x.framed; rise = x.rise; taken = d.taken; carried = d.carried }
 
-pub renumbered_end : (b : List ℕ) (numbers : Columns) (s : Five) (n : ℕ) (bytes left : List ℕ) (turn : ℕ) (vs : List Value) (rest old out : List ℕ) → n ≤ turn → AreCarriedValues b numbers s n bytes vs rest → Renumbered b s old out left turn vs rest → Appends (Each (Shortest (SpellsValue (NameRanks s)))) old out vs × (left ≡ rest)
-renumbered_end b numbers s n bytes left turn vs rest old out le c r =
-    let count = c.taken.spelled.0 in
-    let all : length vs ≤ turn = omega (arith, le, count) in (
-      subst (λ (ws : List Value). Appends (Each (Shortest (SpellsValue (NameRanks s)))) old out ws) (take_all turn vs all) r.done,
-      none_left (NameStands b) left rest (drop turn vs) (drop_none vs turn all) r.due,
-    )
+  pub renumbered_next : turn < n → (d : NextDue numbers x.file x.names left turn x.all x.rest) (after new : List ℕ) → after ≡ d.mid → Appends (Shortest (SpellsValue (NameRanks x.names))) out new (get_or x.all turn Null) → Renumbered x.file x.names old new after (turn + 1) x.all x.rest
+  renumbered_next lt d after new follows a =
+      let count = x.taken.spelled.0 in record {
+        done = subst (λ (ws : List Value). Appends (Each (Shortest (SpellsValue (NameRanks x.names)))) old new ws) (sym (take_more x.all turn Null (omega (arith, lt, count))))
+            (Each-appends_more (Shortest (SpellsValue (NameRanks x.names))) old out new (take turn x.all) (get_or x.all turn Null) r.done a);
+        due = subst (λ (l : List ℕ). Takes (Each (SpellsValue (NameStands x.file))) l (drop (turn + 1) x.all) x.rest) (sym follows) d.more;
+      }
+
+  pub renumbered_end : n ≤ turn → Appends (Each (Shortest (SpellsValue (NameRanks x.names)))) old out x.all × (left ≡ x.rest)
+  renumbered_end le =
+      let count = x.taken.spelled.0 in
+      let all : length x.all ≤ turn = omega (arith, le, count) in (
+        subst (λ (ws : List Value). Appends (Each (Shortest (SpellsValue (NameRanks x.names)))) old out ws) (take_all turn x.all all) r.done,
+        none_left (NameStands x.file) left x.rest (drop turn x.all) (drop_none x.all turn all) r.due,
+      )
 
 -- ---- indices
 
@@ -178,8 +188,12 @@ index_within numbers table asked i j n same at here =
 
 -- ---- an array of a class
 
-pub values_carried : (b : List ℕ) (off : ℕ) (numbers : Columns) (s : Five) (vs : List Value) (n : ℕ) (bytes left mid rest : List ℕ) → IsFramed b → IsCarriedArray b off numbers s vs → Takes Spells bytes (length vs) mid → Takes Spells bytes n left → Takes (Many (SpellsValue (NameStands b)) (length vs)) mid vs rest → AreCarriedValues b numbers s n left vs rest
+abbrev pub values_carried : (b : List ℕ) (off : ℕ) (numbers : Columns) (s : Five) (vs : List Value) (n : ℕ) (bytes left mid rest : List ℕ) → IsFramed b → IsCarriedArray b off numbers s vs → Takes Spells bytes (length vs) mid → Takes Spells bytes n left → Takes (Many (SpellsValue (NameStands b)) (length vs)) mid vs rest → CarriedValues numbers n left
 values_carried b off numbers s vs n bytes left mid rest framed x p q t = record {
+  file = b;
+  names = s;
+  all = vs;
+  rest = rest;
   framed = framed;
   rise = x.rise;
   taken = values_due (NameStands b) bytes (length vs) n mid left vs rest p q t;

@@ -33,24 +33,36 @@ pub record IsLow (b : List ℕ) (type : ℕ) (low : List ℕ) (v : Value) : Type
   pub few : length low ≤ widest_of type
   pub stands : ValueStands (NameStands b) type low v
 
--- After a head of this type these bytes stand for a value of the file, and by these numbers each name in it has its
--- rank among the names s.
-pub record IsCarriedLow (b : List ℕ) (numbers : Columns) (s : Five) (type : ℕ) (bytes : List ℕ) (v : Value) : Type 0 where
-  pub low : IsLow b type bytes v
-  pub rise : AreRising s
-  pub carried : NamesHold (Carries (NameStands b) (NameRanks s) numbers) v
+-- The value of a file for which these bytes after a head of this type stand, and names among which each name in it has
+-- its rank by these numbers.
+pub record CarriedLow (numbers : Columns) (type : ℕ) (bytes : List ℕ) : Type 0 where
+  pub file : List ℕ
+  pub names : Five
+  pub value : Value
+  pub low : IsLow file type bytes value
+  pub rise : AreRising names
+  pub carried : NamesHold (Carries (NameStands file) (NameRanks names) numbers) value
 
--- At the front of these bytes a value is spelled, and by these numbers each name in it has its rank among the names s.
-pub record IsCarriedValue (b : List ℕ) (numbers : Columns) (s : Five) (bytes : List ℕ) (v : Value) (rest : List ℕ) : Type 0 where
-  pub framed : IsFramed b
-  pub rise : AreRising s
-  pub taken : Takes (SpellsValue (NameStands b)) bytes v rest
-  pub carried : NamesHold (Carries (NameStands b) (NameRanks s) numbers) v
+-- The value of a file that is spelled at the front of these bytes, what follows it, and names among which each name in
+-- it has its rank by these numbers.
+pub record CarriedValue (numbers : Columns) (bytes : List ℕ) : Type 0 where
+  pub file : List ℕ
+  pub names : Five
+  pub value : Value
+  pub rest : List ℕ
+  pub framed : IsFramed file
+  pub rise : AreRising names
+  pub taken : Takes (SpellsValue (NameStands file)) bytes value rest
+  pub carried : NamesHold (Carries (NameStands file) (NameRanks names) numbers) value
 
--- At the front of these bytes n values are spelled, and by these numbers each name in them has its rank among the names
--- s.
-pub record AreCarriedValues (b : List ℕ) (numbers : Columns) (s : Five) (n : ℕ) (bytes : List ℕ) (vs : List Value) (rest : List ℕ) : Type 0 where
-  pub framed : IsFramed b
-  pub rise : AreRising s
-  pub taken : Takes (Many (SpellsValue (NameStands b)) n) bytes vs rest
-  pub carried : AllNamesHold (Carries (NameStands b) (NameRanks s) numbers) (values vs)
+-- The n values of a file that are spelled at the front of these bytes, what follows them, and names among which each
+-- name in them has its rank by these numbers.
+pub record CarriedValues (numbers : Columns) (n : ℕ) (bytes : List ℕ) : Type 0 where
+  pub file : List ℕ
+  pub names : Five
+  pub all : List Value
+  pub rest : List ℕ
+  pub framed : IsFramed file
+  pub rise : AreRising names
+  pub taken : Takes (Many (SpellsValue (NameStands file)) n) bytes all rest
+  pub carried : AllNamesHold (Carries (NameStands file) (NameRanks names) numbers) (values all)

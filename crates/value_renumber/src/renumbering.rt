@@ -7,7 +7,7 @@ ghost use Rattle.dex_value.specs.Spelling.{SpellsValue};
 ghost use Rattle.program_types.specs.Content.{Value};
 ghost use Rattle.tables_names.specs.Closure.{Five, NameRanks};
 ghost use Rattle.value_renumber.specs.Carried.{IsCarriedArray, IsItemOf};
-ghost use Rattle.value_renumber.specs.Walks.{IsCarriedLow, IsCarriedValue, AreCarriedValues};
+ghost use Rattle.value_renumber.specs.Walks.{CarriedLow, CarriedValue, CarriedValues};
 
 use crate::fronts::{ARRAY, array_at, take_number, width_of};
 use dex_base::{Fault, put_uleb};
@@ -18,9 +18,8 @@ use tables_numbers::Numbers;
 
 /// Appends the value that these bytes after a head stand for.
 fn renumber_low(out: &mut Vec<u8>, numbers: &Numbers, head: u8, low: &[u8]) -> Result<(), Fault>
-    requires { (b : List ℕ) × (s : Five) × (v : Value) × IsCarriedLow b numbers.now s (head % 32) low.now v }
-    ensures ok { OnOk result ((b : List ℕ) (s : Five) (v : Value) → IsCarriedLow b numbers.now s (head % 32) low.now v
-        → Appends (Shortest (SpellsValue (NameRanks s))) out.old.items out.new.items v) }
+    requires { CarriedLow numbers.now (head % 32) low.now }
+    ensures ok { OnOk result ((x : CarriedLow numbers.now (head % 32) low.now) → Appends (Shortest (SpellsValue (NameRanks x.names))) out.old.items out.new.items x.value) }
     ensures memory { IsOkUnless result memory }
 {
     let Some(ty) = sized_type(head % 32) else {
@@ -46,10 +45,9 @@ fn renumber_value<'b>(
     numbers: &Numbers,
     bytes: &'b [u8],
 ) -> Result<&'b [u8], Fault>
-    requires { (b : List ℕ) × (s : Five) × (v : Value) × (rest : List ℕ) × IsCarriedValue b numbers.now s bytes.now v rest }
-    ensures follows { IfOk result (λ after. (b : List ℕ) (s : Five) (v : Value) (rest : List ℕ) → IsCarriedValue b numbers.now s bytes.now v rest → after.now ≡ rest) }
-    ensures ok { OnOk result ((b : List ℕ) (s : Five) (v : Value) (rest : List ℕ) → IsCarriedValue b numbers.now s bytes.now v rest
-        → Appends (Shortest (SpellsValue (NameRanks s))) out.old.items out.new.items v) }
+    requires { CarriedValue numbers.now bytes.now }
+    ensures follows { IfOk result (λ after. (x : CarriedValue numbers.now bytes.now) → after.now ≡ x.rest) }
+    ensures ok { OnOk result ((x : CarriedValue numbers.now bytes.now) → Appends (Shortest (SpellsValue (NameRanks x.names))) out.old.items out.new.items x.value) }
     ensures memory { IsOkUnless result memory }
 {
     let Some((head, rest)) = bytes.split_first() else {
@@ -90,10 +88,9 @@ fn renumber_values<'b>(
     count: u32,
     bytes: &'b [u8],
 ) -> Result<&'b [u8], Fault>
-    requires { (b : List ℕ) × (s : Five) × (vs : List Value) × (rest : List ℕ) × AreCarriedValues b numbers.now s count bytes.now vs rest }
-    ensures follows { IfOk result (λ after. (b : List ℕ) (s : Five) (vs : List Value) (rest : List ℕ) → AreCarriedValues b numbers.now s count bytes.now vs rest → after.now ≡ rest) }
-    ensures ok { OnOk result ((b : List ℕ) (s : Five) (vs : List Value) (rest : List ℕ) → AreCarriedValues b numbers.now s count bytes.now vs rest
-        → Appends (Each (Shortest (SpellsValue (NameRanks s)))) out.old.items out.new.items vs) }
+    requires { CarriedValues numbers.now count bytes.now }
+    ensures follows { IfOk result (λ after. (x : CarriedValues numbers.now count bytes.now) → after.now ≡ x.rest) }
+    ensures ok { OnOk result ((x : CarriedValues numbers.now count bytes.now) → Appends (Each (Shortest (SpellsValue (NameRanks x.names)))) out.old.items out.new.items x.all) }
     ensures memory { IsOkUnless result memory }
 {
     let mut left = bytes;

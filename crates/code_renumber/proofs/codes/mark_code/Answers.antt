@@ -44,19 +44,19 @@ pub mark_tries-requires-clause-tries : goal.mark_tries-requires-clause-tries
 mark_tries-requires-clause-tries c =
     let code = c.requires.stands.0 in
     let x = c.item_at-item.ensures.spelled code c.requires.stands.1 in
-    (starts x.raws, code.tries, x.tries)
+    record { starts = starts x.raws; tries = code.tries; read = x.tries }
 
 pub returns-clause-marked : goal.returns-clause-marked
 returns-clause-marked c = λ code a.
     let x = c.item_at-item.ensures.spelled code a in
     adds_more c.args.sections.now c.args.marks.now c.mark_insns.new.marks c.mark_tries.new.marks (flat_map names_of_insn code.insns) (flat_map names_of_try code.tries)
-    (c.in_ok-mark_insns.ensures.marked x.raws code.insns x.insns) (c.in_ok-catches.ensures.marked (starts x.raws) code.tries x.tries)
+    (c.in_ok-mark_insns.ensures.marked x.raws code.insns x.insns) (c.in_ok-catches.ensures.marked (record { starts = starts x.raws; tries = code.tries; read = x.tries }))
 
 pub returns-clause-wide : goal.returns-clause-wide
 returns-clause-wide c = λ code a.
     let N = NameStands c.args.sections.now in
     let x = c.item_at-item.ensures.spelled code a in
-    let w = tried_wide N c.item_at-item.result code x c.item_at-item.ensures.units c.in_ok-catches.catches (c.in_ok-catches.ensures.catches (starts x.raws) code.tries x.tries) in
+    let w = tried_wide N c.item_at-item.result code x c.item_at-item.ensures.units c.in_ok-catches.catches (c.in_ok-catches.ensures.catches (record { starts = starts x.raws; tries = code.tries; read = x.tries })) in
     omega (arith, w, c.from.ensures, c.from-2.ensures)
 
 pub overflow_mul-result-2 : goal.overflow_mul-result-2

@@ -40,7 +40,7 @@ lay_tries-requires-clause-tries c =
     let x = c.requires.carried.2 in
     let y = c.item_at-item.ensures.spelled c.requires.carried.1 x.stands in
     let are : AreBytes c.args.sections.now = subst AreBytes c.bytes.ensures.value c.are_bytes.ensures.each in
-    (c.args.sections.now, c.requires.carried.0, _, _, carried_tries c.args.sections.now c.args.off c.args.numbers.now c.requires.carried.0 c.item_at-item.result c.requires.carried.1 x y are c.item_at-item.ensures.framed c.are_bytes-2.ensures.each c.item_at-item.ensures.units)
+    carried_tries c.args.sections.now c.args.off c.args.numbers.now c.requires.carried.0 c.item_at-item.result c.requires.carried.1 x y are c.item_at-item.ensures.framed c.are_bytes-2.ensures.each c.item_at-item.ensures.units
 
 pub put_items-requires-clause-rises : goal.put_items-requires-clause-rises
 put_items-requires-clause-rises c =
@@ -52,7 +52,7 @@ put_items-requires-clause-count c =
     let x = c.requires.carried.2 in
     let y = c.item_at-item.ensures.spelled c.requires.carried.1 x.stands in
     let are : AreBytes c.args.sections.now = subst AreBytes c.bytes.ensures.value c.are_bytes.ensures.each in
-    let hs = c.in_ok-laid.ensures.ok c.args.sections.now c.requires.carried.0 _ _ (carried_tries c.args.sections.now c.args.off c.args.numbers.now c.requires.carried.0 c.item_at-item.result c.requires.carried.1 x y are c.item_at-item.ensures.framed c.are_bytes-2.ensures.each c.item_at-item.ensures.units) in
+    let hs = c.in_ok-laid.ensures.ok (carried_tries c.args.sections.now c.args.off c.args.numbers.now c.requires.carried.0 c.item_at-item.result c.requires.carried.1 x y are c.item_at-item.ensures.framed c.are_bytes-2.ensures.each c.item_at-item.ensures.units) in
     ap length c.deref-2.ensures.value ∙ hs.offsets.count ∙ count_same (NameStands c.args.sections.now) c.item_at-item.result c.requires.carried.1 y c.item_at-item.ensures.units
 
 pub returns-clause-ok : goal.returns-clause-ok
@@ -61,7 +61,7 @@ returns-clause-ok c = λ s code x.
     let I = c.item_at-item.result in
     let y = c.item_at-item.ensures.spelled code x.stands in
     let are : AreBytes B = subst AreBytes c.bytes.ensures.value c.are_bytes.ensures.each in
-    let hs = c.in_ok-laid.ensures.ok B s (addresses_of code.insns) code.tries (carried_tries B c.args.off c.args.numbers.now s I code x y are c.item_at-item.ensures.framed c.are_bytes-2.ensures.each c.item_at-item.ensures.units) in
+    let hs = c.in_ok-laid.ensures.ok (carried_tries B c.args.off c.args.numbers.now s I code x y are c.item_at-item.ensures.framed c.are_bytes-2.ensures.each c.item_at-item.ensures.units) in
     let begins : 0 < I.tries → c.deref.result.now ≡ addresses_of code.insns =
     λ some. c.deref.ensures.value ∙ c.in_ok-starts.ensures.table y.raws y.insns.walk some ∙ addresses_are B c.args.off c.args.numbers.now s I code x y are c.item_at-item.ensures.framed c.are_bytes-2.ensures.each c.item_at-item.ensures.units in
     let cover = cover_tries B c.args.off c.args.numbers.now s I code x y are c.item_at-item.ensures.framed c.are_bytes-2.ensures.each c.item_at-item.ensures.units in
@@ -85,6 +85,6 @@ returns-in_err-put_items-clause-far c =
           let I = c.item_at-item.result in
           let y = c.item_at-item.ensures.spelled code x.stands in
           let are : AreBytes B = subst AreBytes c.bytes.ensures.value c.are_bytes.ensures.each in
-          let hs = c.in_ok-laid.ensures.ok B s (addresses_of code.insns) code.tries (carried_tries B c.args.off c.args.numbers.now s I code x y are c.item_at-item.ensures.framed c.are_bytes-2.ensures.each c.item_at-item.ensures.units) in
+          let hs = c.in_ok-laid.ensures.ok (carried_tries B c.args.off c.args.numbers.now s I code x y are c.item_at-item.ensures.framed c.are_bytes-2.ensures.each c.item_at-item.ensures.units) in
           record { list = c.in_ok-laid.laid.bytes.items; offs = c.in_ok-laid.laid.offsets.items; laid = hs; index = f.1; inside = subst (λ (os : List ℕ). f.1 < length os) c.deref-2.ensures.value f.2; far = subst (λ (os : List ℕ). 65535 < get_or os f.1 0) c.deref-2.ensures.value f.3 },
     ))

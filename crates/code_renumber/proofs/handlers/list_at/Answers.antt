@@ -46,16 +46,16 @@ returns-clause-ok c = λ b ss hs rest t.
     let ge = c.loop-turn-test.false in
     listed_end (NameStands b) ss (length c.args.bytes.now) c.loop-turn.left.now c.loop-turn._turn hs rest c.loop-turn.offsets.items c.loop-turn.catches.items (omega (arith, ge, n)) (c.loop-turn.invariant b ss hs rest t)
 
-pub returns-clause-rise : goal.returns-clause-rise
-returns-clause-rise c =
+pub invariant_of-result-clause-rise : goal.invariant_of-result-clause-rise
+invariant_of-result-clause-rise c =
     let x = c.requires.list in
     let n = (list_from (NameStands x.0) x.1 c.args.bytes.now x.2 x.3 c.take_number-count.result.0 c.take_number-count.result.1.now c.take_number-count.ensures x.4).0 in
     let ge = c.loop-turn-test.false in
     listed_rise (NameStands x.0) x.1 c.args.bytes.now x.2 x.3 c.take_number-count.result.0 c.take_number-count.result.1.now c.loop-turn.offsets.items c.loop-turn.catches.items c.take_number-count.ensures x.4
     (listed_end (NameStands x.0) x.1 (length c.args.bytes.now) c.loop-turn.left.now c.loop-turn._turn x.2 x.3 c.loop-turn.offsets.items c.loop-turn.catches.items (omega (arith, ge, n)) (c.loop-turn.invariant x.0 x.1 x.2 x.3 x.4))
 
-pub returns-clause-few : goal.returns-clause-few
-returns-clause-few c =
+pub invariant_of-result-clause-few : goal.invariant_of-result-clause-few
+invariant_of-result-clause-few c =
     let x = c.requires.list in
     let n = (list_from (NameStands x.0) x.1 c.args.bytes.now x.2 x.3 c.take_number-count.result.0 c.take_number-count.result.1.now c.take_number-count.ensures x.4).0 in
     let ge = c.loop-turn-test.false in

@@ -2,7 +2,9 @@ use Rattle.std.proofs.Common.{ℕ, List, drop, get_or, refl, sym, subst, inl, ar
 use Rattle.std.proofs.lemmas.List.{length-map}
 use Rattle.base_bytes.specs.Fields.{AreBytes}
 use Rattle.tables_rows.specs.Stands.{NameStands}
-use Rattle.code_renumber.specs.Carried.{IsCarriedHandler}
+use Rattle.tables_names.specs.Closure.{NameRanks}
+use Rattle.code_put.specs.Packs.{PacksHandler}
+use Rattle.code_renumber.specs.Carried.{CarriedHandler}
 use Rattle.code_renumber.proofs.TryLemmas.{handler_some}
 use Rattle.code_renumber.proofs.KnownLemmas.{known_more, all_bytes, number_low}
 use Rattle.code_renumber.proofs.tries.number_of_handler.Goals as goal
@@ -17,13 +19,11 @@ pub split_at-requires : goal.split_at-requires
 split_at-requires c =
     let x = c.requires.handler in
     let at = get_or c.args.offsets.now c.args.k 0 in
-    let s = handler_some (NameStands x.0) x.2 (drop at c.args.list.now) x.3 x.4 x.5.taken in
+    let s = handler_some (NameStands x.file) x.starts (drop at c.args.list.now) x.handler x.rest x.taken in
     omega (arith, s, length-drop at c.args.list.now)
 
 pub renumber_handler-requires : goal.renumber_handler-requires
-renumber_handler-requires c =
-    let x = c.requires.handler in
-    (x.0, x.1, x.2, x.3, x.4, subst (λ (l : List ℕ). IsCarriedHandler x.0 c.args.numbers.now x.1 x.2 l x.3 x.4) (sym c.split_at.ensures.back) x.5)
+renumber_handler-requires c = subst (CarriedHandler c.args.numbers.now) (sym c.split_at.ensures.back) c.requires.handler
 
 pub overflow_add-known : goal.overflow_add-known
 overflow_add-known c =
@@ -37,7 +37,7 @@ returns-clause-ok c = record {
   numbered = c.in_ok-number.ensures.ok;
   written = record {
     small = all_bytes _ (subst AreBytes c.deref.ensures.value c.are_bytes.ensures.each);
-    packs = λ b s ss h rest x. c.in_ok-written.ensures.ok b s ss h rest (subst (λ (l : List ℕ). IsCarriedHandler b c.args.numbers.now s ss l h rest) (sym c.split_at.ensures.back) x);
+    packs = subst (λ (l : List ℕ). (x : CarriedHandler c.args.numbers.now l) → PacksHandler (NameRanks x.names) x.starts c.in_ok-written.written.items x.handler) c.split_at.ensures.back c.in_ok-written.ensures.ok;
   };
 }
 
@@ -46,5 +46,5 @@ returns-clause-known c =
     known_more c.args.numbers.now c.args.list.now c.args.offsets.now c.args.known.now _ _ c.in_ok-written.written.items c.args.k c.in_ok-number.number (let n = c.requires.count in let i = c.requires.inside in omega (arith, n, i)) c.requires.known c.in_ok-number.ensures.ok
     (record {
       small = all_bytes _ (subst AreBytes c.deref.ensures.value c.are_bytes.ensures.each);
-      packs = λ b s ss h rest x. c.in_ok-written.ensures.ok b s ss h rest (subst (λ (l : List ℕ). IsCarriedHandler b c.args.numbers.now s ss l h rest) (sym c.split_at.ensures.back) x);
+      packs = subst (λ (l : List ℕ). (x : CarriedHandler c.args.numbers.now l) → PacksHandler (NameRanks x.names) x.starts c.in_ok-written.written.items x.handler) c.split_at.ensures.back c.in_ok-written.ensures.ok;
     })

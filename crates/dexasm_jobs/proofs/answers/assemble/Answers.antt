@@ -8,7 +8,7 @@ pub returns-in_err-listed-clause-refused : goal.returns-in_err-listed-clause-ref
 returns-in_err-listed-clause-refused c = passed _ _ _ c.from_residual.ensures.1 (λ ne. inl (c.in_err-listed.ensures.err ne))
 
 pub file_of-requires : goal.file_of-requires
-file_of-requires c = record { kept = c.in_ok-listed.ensures.ok.formed }
+file_of-requires c = record { formed = c.in_ok-listed.ensures.ok.formed }
 
 pub returns-clause-answered : goal.returns-clause-answered
 returns-clause-answered c = IfOk-weaker c.file_of.result _ _ (λ made h. (_, lists _ _ c.in_ok-listed.ensures.ok, h)) c.file_of.ensures.written

@@ -1,14 +1,37 @@
-use Rattle.std.proofs.Common.{◌∙◌, sym, ap, subst, arith, refl, Err}
+use Rattle.std.proofs.Common.{◌≡◌, true, ◌∙◌, sym, ap, subst, arith, refl, Err}
 use Rattle.std.proofs.lemmas.Result.{on_ok_weaker}
-use Rattle.dexasm_world.specs.State.{Paths, FileState}
+use Rattle.dexasm_world.specs.State.{Paths, FileState, Files, Passes}
+use Rattle.dexasm_world.specs.Safe.{IsSafe}
 use Rattle.dexasm_world.specs.Steps.{Same}
 use Rattle.dexasm_world.proofs.States.{same_state}
 use Rattle.dexasm_world.proofs.Failing.{taken_was, closed_was, not_made_was}
 use Rattle.dexasm_world.proofs.Leaving.{leaves_clean, leaves_same, leaves_unmade, leaves_brought}
 use Rattle.dexasm_world.proofs.Passing.{stays}
-use Rattle.dexasm_world.proofs.Choosing.{beside_by, safe_at_first, trying, has_part, bringing, delivered, in_place, in_place_delivered, no_room, not_true, true_or, made_keeps, taken_more, taken_at_first}
+use Rattle.dexasm_world.proofs.Choosing.{IsBeside, beside_by, safe_at_first, trying, has_part, bringing, delivered, in_place, in_place_delivered, no_room, not_true, true_or, made_keeps, taken_more, taken_at_first}
 use Rattle.dexasm_world.specs.declared.world.Refusal.TheVariants.{Other}
+use Rattle.dexasm_world.proofs.delivery.deliver_beside.Given as given
 use Rattle.dexasm_world.proofs.delivery.deliver_beside.Goals as goal
+use Rattle.dexasm_world.proofs.delivery.deliver_beside.Goals.{After-make}
+
+-- after a try to make a file beside
+module _ (g : given.Over) (c : After-make g) (k : g.W.World.is_known ≡ true) where
+  abbrev first : Files
+  first = g.W.World.files c.args.world.now
+
+  abbrev before : Files
+  before = g.W.World.files c.loop-number.world
+
+  abbrev after : Files
+  after = g.W.World.files c.make.new.self
+
+  beside : IsBeside first c.args.path.now c.as_str-name.result.now
+  beside = beside_by first c.args.path.now c.as_str-name.result.now c.loop-number.number c.loop-number-test.true (c.as_str-name.ensures.value ∙ c.in-Ok.ensures) (c.requires.plain k) (g.met.W.World.apart c.args.world.now c.args.path.now c.loop-number.number k)
+
+  same : before.now ≡ first.now
+  same = same_state first.now before.now (c.loop-number.invariant.same k)
+
+  tried : Passes first after (IsSafe first c.args.path.now c.args.answer.now)
+  tried = trying first before after c.args.path.now c.as_str-name.result.now c.args.answer.now beside same (c.loop-number.invariant.moments k) (c.make.ensures.moments k)
 
 -- nothing is changed at first
 pub loop-number-init : goal.loop-number-init
@@ -22,122 +45,54 @@ loop-number-init g c =
 
 pub deliver_by-requires-clause-new : goal.deliver_by-requires-clause-new
 deliver_by-requires-clause-new g c k =
-    let f = g.W.World.files c.args.world.now in
-    let a = g.W.World.files c.loop-number.world in
-    let b = g.W.World.files c.make.new.self in
-    let path = c.args.path.now in
-    let part = c.as_str-name.result.now in
-    let beside = beside_by f path part c.loop-number.number c.loop-number-test.true (c.as_str-name.ensures.value ∙ c.in-Ok.ensures) (c.requires.plain k) (g.met.W.World.apart c.args.world.now path c.loop-number.number k) in
-    let so_far = c.loop-number.invariant.moments k in
-    let same = same_state f.now a.now (c.loop-number.invariant.same k) in
-    let tried = trying f a b path part c.args.answer.now beside same so_far (c.make.ensures.moments k) in
-    has_part f a b path part (g.W.File.Handle.number c.in-Ok-make.file) beside so_far.same_paths (c.make.ensures.moments k).same_paths (c.in-Ok-make.ensures.plain k) (c.in-Ok-make.ensures.made k)
+    let m = (goal.at.deliver_by-requires-clause-new g c).After-make in
+    has_part (first g m k) (before g m k) (after g m k) c.args.path.now c.as_str-name.result.now (g.W.File.Handle.number c.in-Ok-make.file) (beside g m k) (c.loop-number.invariant.moments k).same_paths (c.make.ensures.moments k).same_paths (c.in-Ok-make.ensures.plain k) (c.in-Ok-make.ensures.made k)
 
 pub deliver_by-requires-clause-dressed : goal.deliver_by-requires-clause-dressed
 deliver_by-requires-clause-dressed g c k =
-    let f = g.W.World.files c.args.world.now in
-    let a = g.W.World.files c.loop-number.world in
-    let b = g.W.World.files c.make.new.self in
-    let path = c.args.path.now in
-    let part = c.as_str-name.result.now in
-    let beside = beside_by f path part c.loop-number.number c.loop-number-test.true (c.as_str-name.ensures.value ∙ c.in-Ok.ensures) (c.requires.plain k) (g.met.W.World.apart c.args.world.now path c.loop-number.number k) in
-    let so_far = c.loop-number.invariant.moments k in
-    let same = same_state f.now a.now (c.loop-number.invariant.same k) in
-    let tried = trying f a b path part c.args.answer.now beside same so_far (c.make.ensures.moments k) in
-    made_keeps f a b path part (g.W.File.Handle.number c.in-Ok-make.file) beside same so_far.same_paths tried.same_paths (c.in-Ok-make.ensures.plain k) (c.in-Ok-make.ensures.made k) c.args.dress (c.requires.dressed k)
+    let m = (goal.at.deliver_by-requires-clause-dressed g c).After-make in
+    made_keeps (first g m k) (before g m k) (after g m k) c.args.path.now c.as_str-name.result.now (g.W.File.Handle.number c.in-Ok-make.file) (beside g m k) (same g m k) (c.loop-number.invariant.moments k).same_paths (tried g m k).same_paths (c.in-Ok-make.ensures.plain k) (c.in-Ok-make.ensures.made k) c.args.dress (c.requires.dressed k)
 
 pub returns-in-Ok-make-clause-moments : goal.returns-in-Ok-make-clause-moments
 returns-in-Ok-make-clause-moments g c k =
-    let f = g.W.World.files c.args.world.now in
-    let a = g.W.World.files c.loop-number.world in
-    let b = g.W.World.files c.make.new.self in
-    let path = c.args.path.now in
-    let part = c.as_str-name.result.now in
-    let beside = beside_by f path part c.loop-number.number c.loop-number-test.true (c.as_str-name.ensures.value ∙ c.in-Ok.ensures) (c.requires.plain k) (g.met.W.World.apart c.args.world.now path c.loop-number.number k) in
-    let so_far = c.loop-number.invariant.moments k in
-    let same = same_state f.now a.now (c.loop-number.invariant.same k) in
-    let tried = trying f a b path part c.args.answer.now beside same so_far (c.make.ensures.moments k) in
+    let m = (goal.at.returns-in-Ok-make-clause-moments g c).After-make in
     let d = g.W.World.files c.deliver_by.new.world in
-    bringing f a b d path part (g.W.File.Handle.number c.in-Ok-make.file) c.args.answer.now _ beside same so_far.same_paths (c.in-Ok-make.ensures.plain k) (c.in-Ok-make.ensures.made k)
-    (λ give. (ap (λ (x : Paths). x.is_fixed (x.place path)) tried.same_paths ∙ give.free, not_true c.args.is_shared (λ is. c.requires.shared k is give)))
-    tried (c.deliver_by.ensures.moments k)
+    bringing (first g m k) (before g m k) (after g m k) d c.args.path.now c.as_str-name.result.now (g.W.File.Handle.number c.in-Ok-make.file) c.args.answer.now _ (beside g m k) (same g m k) (c.loop-number.invariant.moments k).same_paths (c.in-Ok-make.ensures.plain k) (c.in-Ok-make.ensures.made k)
+    (λ give. (ap (λ (x : Paths). x.is_fixed (x.place c.args.path.now)) (tried g m k).same_paths ∙ give.free, not_true c.args.is_shared (λ is. c.requires.shared k is give)))
+    (tried g m k) (c.deliver_by.ensures.moments k)
 
 pub returns-in-Ok-make-clause-done : goal.returns-in-Ok-make-clause-done
 returns-in-Ok-make-clause-done g c k =
-    let f = g.W.World.files c.args.world.now in
-    let a = g.W.World.files c.loop-number.world in
-    let b = g.W.World.files c.make.new.self in
-    let path = c.args.path.now in
-    let part = c.as_str-name.result.now in
-    let beside = beside_by f path part c.loop-number.number c.loop-number-test.true (c.as_str-name.ensures.value ∙ c.in-Ok.ensures) (c.requires.plain k) (g.met.W.World.apart c.args.world.now path c.loop-number.number k) in
-    let so_far = c.loop-number.invariant.moments k in
-    let same = same_state f.now a.now (c.loop-number.invariant.same k) in
-    let tried = trying f a b path part c.args.answer.now beside same so_far (c.make.ensures.moments k) in
+    let m = (goal.at.returns-in-Ok-make-clause-done g c).After-make in
     let d = g.W.World.files c.deliver_by.new.world in
-    on_ok_weaker c.deliver_by.result (delivered f a b d path part (g.W.File.Handle.number c.in-Ok-make.file) c.args.answer.now _ _ beside same so_far.same_paths tried.same_paths (c.in-Ok-make.ensures.plain k) (c.in-Ok-make.ensures.made k)
-    (λ give. (ap (λ (x : Paths). x.is_fixed (x.place path)) tried.same_paths ∙ give.free, not_true c.args.is_shared (λ is. c.requires.shared k is give))) (true_or c.args.is_shared _ (c.requires.alone k)) (c.deliver_by.ensures.moments k))
+    on_ok_weaker c.deliver_by.result (delivered (first g m k) (before g m k) (after g m k) d c.args.path.now c.as_str-name.result.now (g.W.File.Handle.number c.in-Ok-make.file) c.args.answer.now _ _ (beside g m k) (same g m k) (c.loop-number.invariant.moments k).same_paths (tried g m k).same_paths (c.in-Ok-make.ensures.plain k) (c.in-Ok-make.ensures.made k)
+    (λ give. (ap (λ (x : Paths). x.is_fixed (x.place c.args.path.now)) (tried g m k).same_paths ∙ give.free, not_true c.args.is_shared (λ is. c.requires.shared k is give))) (true_or c.args.is_shared _ (c.requires.alone k)) (c.deliver_by.ensures.moments k))
     (c.deliver_by.ensures.done k)
 
 -- the folder takes no new file
 pub returns-in-Err-Closed-clause-moments : goal.returns-in-Err-Closed-clause-moments
 returns-in-Err-Closed-clause-moments g c k =
-    let f = g.W.World.files c.args.world.now in
-    let a = g.W.World.files c.loop-number.world in
-    let b = g.W.World.files c.make.new.self in
-    let path = c.args.path.now in
-    let part = c.as_str-name.result.now in
-    let beside = beside_by f path part c.loop-number.number c.loop-number-test.true (c.as_str-name.ensures.value ∙ c.in-Ok.ensures) (c.requires.plain k) (g.met.W.World.apart c.args.world.now path c.loop-number.number k) in
-    let so_far = c.loop-number.invariant.moments k in
-    let same = same_state f.now a.now (c.loop-number.invariant.same k) in
-    let tried = trying f a b path part c.args.answer.now beside same so_far (c.make.ensures.moments k) in
+    let m = (goal.at.returns-in-Err-Closed-clause-moments g c).After-make in
     let d = g.W.World.files c.overwrite.new.world in
-    let why = closed_was (Unit {0}) a b part c.in-Err-Closed.field-0 c.in-Err-Closed.field-0-is (c.in-Err-Closed.ensures.why k) in
-    let closed = ap (λ (x : Paths). x.is_closed part) (sym so_far.same_paths) ∙ why.0 in
-    in_place f b d path c.args.answer.now (no_room f path part c.loop-number.number c.loop-number-test.true (c.as_str-name.ensures.value ∙ c.in-Ok.ensures) (c.requires.plain k) (c.loop-number.invariant.taken k) closed) (same_state a.now b.now why.1 ∙ same) tried (c.overwrite.ensures.moments k)
+    let why = closed_was (Unit {0}) (before g m k) (after g m k) c.as_str-name.result.now c.in-Err-Closed.field-0 c.in-Err-Closed.field-0-is (c.in-Err-Closed.ensures.why k) in
+    let closed = ap (λ (x : Paths). x.is_closed c.as_str-name.result.now) (sym (c.loop-number.invariant.moments k).same_paths) ∙ why.0 in
+    in_place (first g m k) (after g m k) d c.args.path.now c.args.answer.now (no_room (first g m k) c.args.path.now c.as_str-name.result.now c.loop-number.number c.loop-number-test.true (c.as_str-name.ensures.value ∙ c.in-Ok.ensures) (c.requires.plain k) (c.loop-number.invariant.taken k) closed) (same_state (before g m k).now (after g m k).now why.1 ∙ same g m k) (tried g m k) (c.overwrite.ensures.moments k)
 
 pub returns-in-Err-Closed-clause-done : goal.returns-in-Err-Closed-clause-done
 returns-in-Err-Closed-clause-done g c k =
-    let f = g.W.World.files c.args.world.now in
-    let a = g.W.World.files c.loop-number.world in
-    let b = g.W.World.files c.make.new.self in
-    let path = c.args.path.now in
-    let part = c.as_str-name.result.now in
-    let beside = beside_by f path part c.loop-number.number c.loop-number-test.true (c.as_str-name.ensures.value ∙ c.in-Ok.ensures) (c.requires.plain k) (g.met.W.World.apart c.args.world.now path c.loop-number.number k) in
-    let so_far = c.loop-number.invariant.moments k in
-    let same = same_state f.now a.now (c.loop-number.invariant.same k) in
-    let tried = trying f a b path part c.args.answer.now beside same so_far (c.make.ensures.moments k) in
+    let m = (goal.at.returns-in-Err-Closed-clause-done g c).After-make in
     let d = g.W.World.files c.overwrite.new.world in
-    let why = closed_was (Unit {0}) a b part c.in-Err-Closed.field-0 c.in-Err-Closed.field-0-is (c.in-Err-Closed.ensures.why k) in
-    let closed = ap (λ (x : Paths). x.is_closed part) (sym so_far.same_paths) ∙ why.0 in
-    on_ok_weaker c.overwrite.result (in_place_delivered f b path c.args.answer.now d.now (no_room f path part c.loop-number.number c.loop-number-test.true (c.as_str-name.ensures.value ∙ c.in-Ok.ensures) (c.requires.plain k) (c.loop-number.invariant.taken k) closed) tried.same_paths (same_state a.now b.now why.1 ∙ same) (c.overwrite.ensures.moments k).last) (c.overwrite.ensures.done k)
+    let why = closed_was (Unit {0}) (before g m k) (after g m k) c.as_str-name.result.now c.in-Err-Closed.field-0 c.in-Err-Closed.field-0-is (c.in-Err-Closed.ensures.why k) in
+    let closed = ap (λ (x : Paths). x.is_closed c.as_str-name.result.now) (sym (c.loop-number.invariant.moments k).same_paths) ∙ why.0 in
+    on_ok_weaker c.overwrite.result (in_place_delivered (first g m k) (after g m k) c.args.path.now c.args.answer.now d.now (no_room (first g m k) c.args.path.now c.as_str-name.result.now c.loop-number.number c.loop-number-test.true (c.as_str-name.ensures.value ∙ c.in-Ok.ensures) (c.requires.plain k) (c.loop-number.invariant.taken k) closed) (tried g m k).same_paths (same_state (before g m k).now (after g m k).now why.1 ∙ same g m k) (c.overwrite.ensures.moments k).last) (c.overwrite.ensures.done k)
 
 pub returns-in-Err-Failed-clause-moments : goal.returns-in-Err-Failed-clause-moments
-returns-in-Err-Failed-clause-moments g c k =
-    let f = g.W.World.files c.args.world.now in
-    let a = g.W.World.files c.loop-number.world in
-    let b = g.W.World.files c.make.new.self in
-    let path = c.args.path.now in
-    let part = c.as_str-name.result.now in
-    let beside = beside_by f path part c.loop-number.number c.loop-number-test.true (c.as_str-name.ensures.value ∙ c.in-Ok.ensures) (c.requires.plain k) (g.met.W.World.apart c.args.world.now path c.loop-number.number k) in
-    let so_far = c.loop-number.invariant.moments k in
-    let same = same_state f.now a.now (c.loop-number.invariant.same k) in
-    let tried = trying f a b path part c.args.answer.now beside same so_far (c.make.ensures.moments k) in
-    tried
+returns-in-Err-Failed-clause-moments g c k = tried g (goal.at.returns-in-Err-Failed-clause-moments g c).After-make k
 
 pub loop-number-preserved : goal.loop-number-preserved
 loop-number-preserved g c =
     record {
-      moments = λ k.
-          let f = g.W.World.files c.args.world.now in
-          let a = g.W.World.files c.loop-number.world in
-          let b = g.W.World.files c.make.new.self in
-          let path = c.args.path.now in
-          let part = c.as_str-name.result.now in
-          let beside = beside_by f path part c.loop-number.number c.loop-number-test.true (c.as_str-name.ensures.value ∙ c.in-Ok.ensures) (c.requires.plain k) (g.met.W.World.apart c.args.world.now path c.loop-number.number k) in
-          let so_far = c.loop-number.invariant.moments k in
-          let same = same_state f.now a.now (c.loop-number.invariant.same k) in
-          let tried = trying f a b path part c.args.answer.now beside same so_far (c.make.ensures.moments k) in
-          tried;
+      moments = λ k. tried g (goal.at.loop-number-preserved g c).After-make k;
       taken = λ k.
           let f = g.W.World.files c.args.world.now in
           let a = g.W.World.files c.loop-number.world in
@@ -152,51 +107,27 @@ loop-number-preserved g c =
 
 pub returns-in-Ok-make-clause-left : goal.returns-in-Ok-make-clause-left
 returns-in-Ok-make-clause-left g c k =
-    let f = g.W.World.files c.args.world.now in
-    let a = g.W.World.files c.loop-number.world in
-    let b = g.W.World.files c.make.new.self in
-    let path = c.args.path.now in
-    let part = c.as_str-name.result.now in
-    let beside = beside_by f path part c.loop-number.number c.loop-number-test.true (c.as_str-name.ensures.value ∙ c.in-Ok.ensures) (c.requires.plain k) (g.met.W.World.apart c.args.world.now path c.loop-number.number k) in
-    let so_far = c.loop-number.invariant.moments k in
-    let same = same_state f.now a.now (c.loop-number.invariant.same k) in
-    let tried = trying f a b path part c.args.answer.now beside same so_far (c.make.ensures.moments k) in
+    let m = (goal.at.returns-in-Ok-make-clause-left g c).After-make in
     let d = g.W.World.files c.deliver_by.new.world in
-    leaves_brought f a b d path part (g.W.File.Handle.number c.in-Ok-make.file) c.args.answer.now _ c.deliver_by.result beside same so_far.same_paths tried.same_paths tried.no_fewer
+    leaves_brought (first g m k) (before g m k) (after g m k) d c.args.path.now c.as_str-name.result.now (g.W.File.Handle.number c.in-Ok-make.file) c.args.answer.now _ c.deliver_by.result (beside g m k) (same g m k) (c.loop-number.invariant.moments k).same_paths (tried g m k).same_paths (tried g m k).no_fewer
     (c.in-Ok-make.ensures.plain k) (c.in-Ok-make.ensures.made k)
-    (λ give. (ap (λ (x : Paths). x.is_fixed (x.place path)) tried.same_paths ∙ give.free, not_true c.args.is_shared (λ is. c.requires.shared k is give)))
+    (λ give. (ap (λ (x : Paths). x.is_fixed (x.place c.args.path.now)) (tried g m k).same_paths ∙ give.free, not_true c.args.is_shared (λ is. c.requires.shared k is give)))
     (c.deliver_by.ensures.moments k) (c.deliver_by.ensures.left k)
 
 pub returns-in-Err-Closed-clause-left : goal.returns-in-Err-Closed-clause-left
 returns-in-Err-Closed-clause-left g c k =
-    let f = g.W.World.files c.args.world.now in
-    let a = g.W.World.files c.loop-number.world in
-    let b = g.W.World.files c.make.new.self in
-    let path = c.args.path.now in
-    let part = c.as_str-name.result.now in
-    let beside = beside_by f path part c.loop-number.number c.loop-number-test.true (c.as_str-name.ensures.value ∙ c.in-Ok.ensures) (c.requires.plain k) (g.met.W.World.apart c.args.world.now path c.loop-number.number k) in
-    let so_far = c.loop-number.invariant.moments k in
-    let same = same_state f.now a.now (c.loop-number.invariant.same k) in
-    let tried = trying f a b path part c.args.answer.now beside same so_far (c.make.ensures.moments k) in
+    let m = (goal.at.returns-in-Err-Closed-clause-left g c).After-make in
     let d = g.W.World.files c.overwrite.new.world in
-    let why = closed_was (Unit {0}) a b part c.in-Err-Closed.field-0 c.in-Err-Closed.field-0-is (c.in-Err-Closed.ensures.why k) in
-    let now = same_state a.now b.now why.1 ∙ same in
-    leaves_clean f d path c.args.answer.now c.overwrite.result
-    (λ p away. (c.overwrite.ensures.moments k).last.names p (λ e. away (e ∙ ap (λ (y : Paths). y.place path) tried.same_paths)) ∙ ap (λ (s : FileState). s.stands p) now)
+    let why = closed_was (Unit {0}) (before g m k) (after g m k) c.as_str-name.result.now c.in-Err-Closed.field-0 c.in-Err-Closed.field-0-is (c.in-Err-Closed.ensures.why k) in
+    let now = same_state (before g m k).now (after g m k).now why.1 ∙ same g m k in
+    leaves_clean (first g m k) d c.args.path.now c.args.answer.now c.overwrite.result
+    (λ p away. (c.overwrite.ensures.moments k).last.names p (λ e. away (e ∙ ap (λ (y : Paths). y.place c.args.path.now) (tried g m k).same_paths)) ∙ ap (λ (s : FileState). s.stands p) now)
 
 pub returns-in-Err-Failed-clause-left : goal.returns-in-Err-Failed-clause-left
 returns-in-Err-Failed-clause-left g c k =
-    let f = g.W.World.files c.args.world.now in
-    let a = g.W.World.files c.loop-number.world in
-    let b = g.W.World.files c.make.new.self in
-    let path = c.args.path.now in
-    let part = c.as_str-name.result.now in
-    let beside = beside_by f path part c.loop-number.number c.loop-number-test.true (c.as_str-name.ensures.value ∙ c.in-Ok.ensures) (c.requires.plain k) (g.met.W.World.apart c.args.world.now path c.loop-number.number k) in
-    let so_far = c.loop-number.invariant.moments k in
-    let same = same_state f.now a.now (c.loop-number.invariant.same k) in
-    let tried = trying f a b path part c.args.answer.now beside same so_far (c.make.ensures.moments k) in
-    let why = not_made_was (Unit {0}) a b part c.in-Err-Failed.field-0 c.in-Err-Failed.refusal c.in-Err-Failed.field-0-is (c.in-Err-Failed.ensures.why k) in
-    leaves_unmade {T = Unit {0}} f a b path c.args.answer.now (Err c.in-Err-Failed.refusal) same so_far.no_fewer why.1
+    let m = (goal.at.returns-in-Err-Failed-clause-left g c).After-make in
+    let why = not_made_was (Unit {0}) (before g m k) (after g m k) c.as_str-name.result.now c.in-Err-Failed.field-0 c.in-Err-Failed.refusal c.in-Err-Failed.field-0-is (c.in-Err-Failed.ensures.why k) in
+    leaves_unmade {T = Unit {0}} (first g m k) (before g m k) (after g m k) c.args.path.now c.args.answer.now (Err c.in-Err-Failed.refusal) (same g m k) (c.loop-number.invariant.moments k).no_fewer why.1
 
 pub returns-clause-left : goal.returns-clause-left
 returns-clause-left g c k = leaves_same {T = Unit {0}} (g.W.World.files c.args.world.now) (g.W.World.files c.loop-number.world) c.args.path.now c.args.answer.now (Err Other) (c.loop-number.invariant.same k)

@@ -10,15 +10,15 @@ returns-in_err-tables-clause-refused c =
 
 pub returns-in_err-heads-clause-refused : goal.returns-in_err-heads-clause-refused
 returns-in_err-heads-clause-refused c =
-    passed _ _ _ c.from_residual-in_err-heads.ensures.1 (λ ne. (Classes, record { framed = c.bytes-file.ensures.framed; tables = c.in_ok-tables.ensures.hold; first = c.in_err-heads.ensures.err ne }))
+    passed _ _ _ c.from_residual-in_err-heads.ensures.1 (λ ne. (Classes, record { framed = c.framed.ensures; tables = c.in_ok-tables.ensures.hold; first = c.in_err-heads.ensures.err ne }))
 
 pub returns-in_err-check_statics-clause-refused : goal.returns-in_err-check_statics-clause-refused
 returns-in_err-check_statics-clause-refused c =
-    passed _ _ _ c.from_residual-in_err-check_statics.ensures.1 (λ ne. (Values, record { framed = c.bytes-file.ensures.framed; tables = c.in_ok-tables.ensures.hold; classes = c.in_ok-heads.ensures.hold; first = c.in_err-check_statics.ensures.err ne }))
+    passed _ _ _ c.from_residual-in_err-check_statics.ensures.1 (λ ne. (Values, record { framed = c.framed.ensures; tables = c.in_ok-tables.ensures.hold; classes = c.in_ok-heads.ensures.hold; first = c.in_err-check_statics.ensures.err ne }))
 
 pub returns-in_err-check_codes-clause-refused : goal.returns-in_err-check_codes-clause-refused
 returns-in_err-check_codes-clause-refused c =
-    passed _ _ _ c.from_residual-in_err-check_codes.ensures.1 (λ ne. last_refused _ _ c.bytes-file.ensures.framed c.in_ok-tables.ensures.hold c.in_ok-heads.ensures.hold c.in_ok-check_statics.ensures.hold (c.in_err-check_codes.ensures.err ne))
+    passed _ _ _ c.from_residual-in_err-check_codes.ensures.1 (λ ne. last_refused _ _ c.framed.ensures c.in_ok-tables.ensures.hold c.in_ok-heads.ensures.hold c.in_ok-check_statics.ensures.hold (c.in_err-check_codes.ensures.err ne))
 
 pub returns-in_err-heads-clause-only : goal.returns-in_err-heads-clause-only
 returns-in_err-heads-clause-only c =

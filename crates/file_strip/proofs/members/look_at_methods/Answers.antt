@@ -20,46 +20,46 @@ pub overflow_add-index : goal.overflow_add-index
 overflow_add-index c =
     let b = c.args.sections.now in
     let d : MethodEntry = (record { step = 0; flags = 0; code = 0 }) in
-    let f = method_step b c.args.entries.now c.loop-entry.entry-index d c.loop-entry-test.true c.loop-entry.index c.loop-entry.invariant.summed c.requires.run.0 c.requires.run.1 c.requires.run.2 in
-    record { fits = method_small b c.loop-entry.found.marks c.requires.run.0 _ _ f.0 (has_marks b c.loop-entry.found c.loop-entry.invariant.known) f.2 }
+    let f = method_step b c.args.entries.now c.loop-entry.entry-index d c.loop-entry-test.true c.loop-entry.index c.loop-entry.invariant.summed c.requires.run.class c.requires.run.methods c.requires.run.spelled in
+    record { fits = method_small b c.loop-entry.found.marks c.requires.run.class _ _ f.0 (has_marks b c.loop-entry.found c.loop-entry.invariant.known) f.2 }
 
 pub mark-requires-clause-row : goal.mark-requires-clause-row
 mark-requires-clause-row c =
     let b = c.args.sections.now in
     let d : MethodEntry = (record { step = 0; flags = 0; code = 0 }) in
-    let f = method_step b c.args.entries.now c.loop-entry.entry-index d c.loop-entry-test.true c.loop-entry.index c.loop-entry.invariant.summed c.requires.run.0 c.requires.run.1 c.requires.run.2 in
-    (self_name c.requires.run.0 f.0, method_row b c.requires.run.0 _ _ f.0 f.2)
+    let f = method_step b c.args.entries.now c.loop-entry.entry-index d c.loop-entry-test.true c.loop-entry.index c.loop-entry.invariant.summed c.requires.run.class c.requires.run.methods c.requires.run.spelled in
+    (self_name c.requires.run.class f.0, method_row b c.requires.run.class _ _ f.0 f.2)
 
 pub look_at_code-requires-clause-found : goal.look_at_code-requires-clause-found
 look_at_code-requires-clause-found c =
     let b = c.args.sections.now in
     let d : MethodEntry = (record { step = 0; flags = 0; code = 0 }) in
-    let f = method_step b c.args.entries.now c.loop-entry.entry-index d c.loop-entry-test.true c.loop-entry.index c.loop-entry.invariant.summed c.requires.run.0 c.requires.run.1 c.requires.run.2 in
-    has_found_after b c.loop-entry.found _ (self_name c.requires.run.0 f.0 ∷ []) c.loop-entry.invariant.known
-    (finds_marked b c.loop-entry.found c.mark.new.self (self_name c.requires.run.0 f.0 ∷ []) (c.in_ok-mark.ensures.marked (self_name c.requires.run.0 f.0) (method_row b c.requires.run.0 _ _ f.0 f.2)))
+    let f = method_step b c.args.entries.now c.loop-entry.entry-index d c.loop-entry-test.true c.loop-entry.index c.loop-entry.invariant.summed c.requires.run.class c.requires.run.methods c.requires.run.spelled in
+    has_found_after b c.loop-entry.found _ (self_name c.requires.run.class f.0 ∷ []) c.loop-entry.invariant.known
+    (finds_marked b c.loop-entry.found c.mark.new.self (self_name c.requires.run.class f.0 ∷ []) (c.in_ok-mark.ensures.marked (self_name c.requires.run.class f.0) (method_row b c.requires.run.class _ _ f.0 f.2)))
 
 pub look_at_code-requires-clause-code : goal.look_at_code-requires-clause-code
 look_at_code-requires-clause-code c =
     let b = c.args.sections.now in
     let d : MethodEntry = (record { step = 0; flags = 0; code = 0 }) in
-    let f = method_step b c.args.entries.now c.loop-entry.entry-index d c.loop-entry-test.true c.loop-entry.index c.loop-entry.invariant.summed c.requires.run.0 c.requires.run.1 c.requires.run.2 in
-    (f.0.code, c.requires.run.3 c.loop-entry.entry-index _ f.0 (there method_entry c.args.entries.now c.loop-entry.entry-index d c.loop-entry-test.true) f.1)
+    let f = method_step b c.args.entries.now c.loop-entry.entry-index d c.loop-entry-test.true c.loop-entry.index c.loop-entry.invariant.summed c.requires.run.class c.requires.run.methods c.requires.run.spelled in
+    (f.0.code, c.requires.run.codes c.loop-entry.entry-index _ f.0 (there method_entry c.args.entries.now c.loop-entry.entry-index d c.loop-entry-test.true) f.1)
 
 pub returns-clause-found : goal.returns-clause-found
-returns-clause-found c = λ class ms run codes.
+returns-clause-found c = λ x.
     let b = c.args.sections.now in
     let es = c.args.entries.now in
     let l = length-map es method_entry in
-    subst (λ (xs : List Method). FindsNames b c.args.found.now c.loop-entry.found (flat_map (names_of_method class) xs))
-    (all_of_run (IsMethod b class) (map method_entry es) ms c.loop-entry.entry-index run (omega (arith, l, c.loop-entry-test.false))) (c.loop-entry.invariant.found class ms run codes)
+    subst (λ (xs : List Method). FindsNames b c.args.found.now c.loop-entry.found (flat_map (names_of_method x.class) xs))
+    (all_of_run (IsMethod b x.class) (map method_entry es) x.methods c.loop-entry.entry-index x.spelled (omega (arith, l, c.loop-entry-test.false))) (c.loop-entry.invariant.found x)
 
 pub returns-clause-wide : goal.returns-clause-wide
-returns-clause-wide c = λ class ms run codes.
+returns-clause-wide c = λ x.
     let b = c.args.sections.now in
     let es = c.args.entries.now in
     let l = length-map es method_entry in
     subst (λ (xs : List Method). IsSum c.loop-entry.sum (wide_all wide_body (bodies_in xs)))
-    (all_of_run (IsMethod b class) (map method_entry es) ms c.loop-entry.entry-index run (omega (arith, l, c.loop-entry-test.false))) (c.loop-entry.invariant.wide class ms run codes)
+    (all_of_run (IsMethod b x.class) (map method_entry es) x.methods c.loop-entry.entry-index x.spelled (omega (arith, l, c.loop-entry-test.false))) (c.loop-entry.invariant.wide x)
 
 pub loop-entry-preserved : goal.loop-entry-preserved
 loop-entry-preserved c =
@@ -67,24 +67,24 @@ loop-entry-preserved c =
     let es = c.args.entries.now in
     let k = c.loop-entry.entry-index in
     let d : MethodEntry = (record { step = 0; flags = 0; code = 0 }) in
-    let own = c.requires.run.0 in
-    let f = method_step b es k d c.loop-entry-test.true c.loop-entry.index c.loop-entry.invariant.summed own c.requires.run.1 c.requires.run.2 in
-    let code = c.requires.run.3 k _ f.0 (there method_entry es k d c.loop-entry-test.true) f.1 in
+    let own = c.requires.run.class in
+    let f = method_step b es k d c.loop-entry-test.true c.loop-entry.index c.loop-entry.invariant.summed own c.requires.run.methods c.requires.run.spelled in
+    let code = c.requires.run.codes k _ f.0 (there method_entry es k d c.loop-entry-test.true) f.1 in
     let mid : Found = (record c.loop-entry.found { marks = c.mark.new.self }) in
     record {
       summed = next_index method_entry es k d c.loop-entry-test.true c.loop-entry.index (get_or es k d).step c.loop-entry.invariant.summed refl;
       small = method_small b c.loop-entry.found.marks own _ _ f.0 (has_marks b c.loop-entry.found c.loop-entry.invariant.known) f.2;
       known = has_found_after b mid c.look_at_code.new.found (if_any names_of_code f.0.code) (has_found_after b c.loop-entry.found mid (self_name own f.0 ∷ []) c.loop-entry.invariant.known
           (finds_marked b c.loop-entry.found c.mark.new.self (self_name own f.0 ∷ []) (c.in_ok-mark.ensures.marked (self_name own f.0) (method_row b own _ _ f.0 f.2)))) (c.in_ok-look_at_code.ensures.found f.0.code code);
-      found = λ class ms run codes.
-          let g = method_step b es k d c.loop-entry-test.true c.loop-entry.index c.loop-entry.invariant.summed class ms run in
-          next_method b c.args.found.now c.loop-entry.found c.look_at_code.new.found class ms k g.0 g.1 (c.loop-entry.invariant.found class ms run codes)
-          (finds_more b c.loop-entry.found mid c.look_at_code.new.found (self_name class g.0 ∷ []) (if_any names_of_code g.0.code)
-          (finds_marked b c.loop-entry.found c.mark.new.self (self_name class g.0 ∷ []) (c.in_ok-mark.ensures.marked (self_name class g.0) (method_row b class _ _ g.0 g.2)))
-          (c.in_ok-look_at_code.ensures.found g.0.code (codes k _ g.0 (there method_entry es k d c.loop-entry-test.true) g.1)));
-      wide = λ class ms run codes.
-          let g = method_step b es k d c.loop-entry-test.true c.loop-entry.index c.loop-entry.invariant.summed class ms run in
-          subst (λ (n : ℕ). IsSum c.plus-sum.result n) (sym (next_body ms k g.0 g.1))
-          (c.plus-sum.ensures (wide_all wide_body (bodies_in (take k ms))) (wide_body g.0.code) (c.loop-entry.invariant.wide class ms run codes)
-          (inl (c.in_ok-look_at_code.ensures.wide g.0.code (codes k _ g.0 (there method_entry es k d c.loop-entry-test.true) g.1))));
+      found = λ x.
+          let g = method_step b es k d c.loop-entry-test.true c.loop-entry.index c.loop-entry.invariant.summed x.class x.methods x.spelled in
+          next_method b c.args.found.now c.loop-entry.found c.look_at_code.new.found x.class x.methods k g.0 g.1 (c.loop-entry.invariant.found x)
+          (finds_more b c.loop-entry.found mid c.look_at_code.new.found (self_name x.class g.0 ∷ []) (if_any names_of_code g.0.code)
+          (finds_marked b c.loop-entry.found c.mark.new.self (self_name x.class g.0 ∷ []) (c.in_ok-mark.ensures.marked (self_name x.class g.0) (method_row b x.class _ _ g.0 g.2)))
+          (c.in_ok-look_at_code.ensures.found g.0.code (x.codes k _ g.0 (there method_entry es k d c.loop-entry-test.true) g.1)));
+      wide = λ x.
+          let g = method_step b es k d c.loop-entry-test.true c.loop-entry.index c.loop-entry.invariant.summed x.class x.methods x.spelled in
+          subst (λ (n : ℕ). IsSum c.plus-sum.result n) (sym (next_body x.methods k g.0 g.1))
+          (c.plus-sum.ensures (wide_all wide_body (bodies_in (take k x.methods))) (wide_body g.0.code) (c.loop-entry.invariant.wide x)
+          (inl (c.in_ok-look_at_code.ensures.wide g.0.code (x.codes k _ g.0 (there method_entry es k d c.loop-entry-test.true) g.1))));
     }

@@ -1,11 +1,10 @@
-use Rattle.std.proofs.Common.{◌≡◌, ◌<◌, ◌^◌, List, map, take}
+use Rattle.std.proofs.Common.{◌≡◌, ◌<◌, ◌^◌, map, take}
 use Rattle.std.specs.Prelude.{sum}
-use Rattle.program_types.specs.Content.{Units, Member}
 use Rattle.program_types.specs.Mentions.{field_of_class}
 use Rattle.file_kept.specs.Marked.{AddsNames, HasMarks}
-use Rattle.file_assemble.specs.ClassData.{EntriesAre, steps}
-use Rattle.file_assemble.specs.Classes.{IsField}
+use Rattle.file_assemble.specs.ClassData.{steps}
 use Rattle.file_assemble.specs.Reading.{field_entry}
+use Rattle.file_strip.specs.Survey.{HasFields}
 use Rattle.file_strip.proofs.members.mark_fields.Given as goal
 
 abbrev pub invariant-loop-entry : goal.invariant-loop-entry
@@ -13,5 +12,5 @@ invariant-loop-entry l = record {
   summed : l.index ≡ sum (take l.entry-index (steps (map field_entry l.entries)));
   small : l.index < 2 ^ 32;
   marks : HasMarks l.sections l.marks;
-  marked : (class : Units) (ms : List Member) → EntriesAre (IsField l.sections class) (map field_entry l.entries) ms → AddsNames l.sections l.fn.marks l.marks (map (field_of_class class) (take l.entry-index ms));
+  marked : (x : HasFields l.sections l.entries) → AddsNames l.sections l.fn.marks l.marks (map (field_of_class x.class) (take l.entry-index x.fields));
 }

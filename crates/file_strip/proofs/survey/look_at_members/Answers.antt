@@ -18,7 +18,7 @@ look_at_values-requires-clause-found c =
     let b = c.args.sections.now in
     let k = c.requires.members in
     let mid : Found = (record c.args.found.now { marks = c.mark_fields.new.marks }) in
-    let h1 = has_found_after b c.args.found.now mid (map (field_of_class k.0.ty) k.0.statics) c.requires.found (finds_marked b c.args.found.now c.mark_fields.new.marks (map (field_of_class k.0.ty) k.0.statics) ((rw c.deref.ensures.value at c.in_ok-mark_fields.ensures.marked) k.0.ty k.0.statics k.1.members.statics)) in
+    let h1 = has_found_after b c.args.found.now mid (map (field_of_class k.0.ty) k.0.statics) c.requires.found (finds_marked b c.args.found.now c.mark_fields.new.marks (map (field_of_class k.0.ty) k.0.statics) ((rw c.deref.ensures.value at c.in_ok-mark_fields.ensures.marked) (record { class = k.0.ty; fields = k.0.statics; spelled = k.1.members.statics }))) in
     h1
 
 pub mark_fields-requires-2-clause-marks : goal.mark_fields-requires-2-clause-marks
@@ -26,7 +26,7 @@ mark_fields-requires-2-clause-marks c =
     let b = c.args.sections.now in
     let k = c.requires.members in
     let mid : Found = (record c.args.found.now { marks = c.mark_fields.new.marks }) in
-    let h1 = has_found_after b c.args.found.now mid (map (field_of_class k.0.ty) k.0.statics) c.requires.found (finds_marked b c.args.found.now c.mark_fields.new.marks (map (field_of_class k.0.ty) k.0.statics) ((rw c.deref.ensures.value at c.in_ok-mark_fields.ensures.marked) k.0.ty k.0.statics k.1.members.statics)) in
+    let h1 = has_found_after b c.args.found.now mid (map (field_of_class k.0.ty) k.0.statics) c.requires.found (finds_marked b c.args.found.now c.mark_fields.new.marks (map (field_of_class k.0.ty) k.0.statics) ((rw c.deref.ensures.value at c.in_ok-mark_fields.ensures.marked) (record { class = k.0.ty; fields = k.0.statics; spelled = k.1.members.statics }))) in
     let h2 = has_found_after b mid c.look_at_values.new.found (flat_map names_of_value k.0.values) h1 (c.in_ok-array.ensures.found k.1.most k.0.values k.1.values) in
     has_marks b c.look_at_values.new.found h2
 
@@ -35,10 +35,10 @@ look_at_methods-requires-clause-found c =
     let b = c.args.sections.now in
     let k = c.requires.members in
     let mid : Found = (record c.args.found.now { marks = c.mark_fields.new.marks }) in
-    let h1 = has_found_after b c.args.found.now mid (map (field_of_class k.0.ty) k.0.statics) c.requires.found (finds_marked b c.args.found.now c.mark_fields.new.marks (map (field_of_class k.0.ty) k.0.statics) ((rw c.deref.ensures.value at c.in_ok-mark_fields.ensures.marked) k.0.ty k.0.statics k.1.members.statics)) in
+    let h1 = has_found_after b c.args.found.now mid (map (field_of_class k.0.ty) k.0.statics) c.requires.found (finds_marked b c.args.found.now c.mark_fields.new.marks (map (field_of_class k.0.ty) k.0.statics) ((rw c.deref.ensures.value at c.in_ok-mark_fields.ensures.marked) (record { class = k.0.ty; fields = k.0.statics; spelled = k.1.members.statics }))) in
     let h2 = has_found_after b mid c.look_at_values.new.found (flat_map names_of_value k.0.values) h1 (c.in_ok-array.ensures.found k.1.most k.0.values k.1.values) in
     let mid2 : Found = (record c.look_at_values.new.found { marks = c.mark_fields-2.new.marks }) in
-    let h3 = has_found_after b c.look_at_values.new.found mid2 (map (field_of_class k.0.ty) k.0.instances) h2 (finds_marked b c.look_at_values.new.found c.mark_fields-2.new.marks (map (field_of_class k.0.ty) k.0.instances) ((rw c.deref-2.ensures.value at c.in_ok-mark_fields-2.ensures.marked) k.0.ty k.0.instances k.1.members.instances)) in
+    let h3 = has_found_after b c.look_at_values.new.found mid2 (map (field_of_class k.0.ty) k.0.instances) h2 (finds_marked b c.look_at_values.new.found c.mark_fields-2.new.marks (map (field_of_class k.0.ty) k.0.instances) ((rw c.deref-2.ensures.value at c.in_ok-mark_fields-2.ensures.marked) (record { class = k.0.ty; fields = k.0.instances; spelled = k.1.members.instances }))) in
     h3
 
 pub look_at_methods-requires-2-clause-found : goal.look_at_methods-requires-2-clause-found
@@ -46,11 +46,11 @@ look_at_methods-requires-2-clause-found c =
     let b = c.args.sections.now in
     let k = c.requires.members in
     let mid : Found = (record c.args.found.now { marks = c.mark_fields.new.marks }) in
-    let h1 = has_found_after b c.args.found.now mid (map (field_of_class k.0.ty) k.0.statics) c.requires.found (finds_marked b c.args.found.now c.mark_fields.new.marks (map (field_of_class k.0.ty) k.0.statics) ((rw c.deref.ensures.value at c.in_ok-mark_fields.ensures.marked) k.0.ty k.0.statics k.1.members.statics)) in
+    let h1 = has_found_after b c.args.found.now mid (map (field_of_class k.0.ty) k.0.statics) c.requires.found (finds_marked b c.args.found.now c.mark_fields.new.marks (map (field_of_class k.0.ty) k.0.statics) ((rw c.deref.ensures.value at c.in_ok-mark_fields.ensures.marked) (record { class = k.0.ty; fields = k.0.statics; spelled = k.1.members.statics }))) in
     let h2 = has_found_after b mid c.look_at_values.new.found (flat_map names_of_value k.0.values) h1 (c.in_ok-array.ensures.found k.1.most k.0.values k.1.values) in
     let mid2 : Found = (record c.look_at_values.new.found { marks = c.mark_fields-2.new.marks }) in
-    let h3 = has_found_after b c.look_at_values.new.found mid2 (map (field_of_class k.0.ty) k.0.instances) h2 (finds_marked b c.look_at_values.new.found c.mark_fields-2.new.marks (map (field_of_class k.0.ty) k.0.instances) ((rw c.deref-2.ensures.value at c.in_ok-mark_fields-2.ensures.marked) k.0.ty k.0.instances k.1.members.instances)) in
-    has_found_after b mid2 c.look_at_methods.new.found (flat_map (names_of_method k.0.ty) k.0.directs) h3 ((rw c.deref-3.ensures.value at c.in_ok-directs.ensures.found) k.0.ty k.0.directs k.1.members.directs k.1.directs)
+    let h3 = has_found_after b c.look_at_values.new.found mid2 (map (field_of_class k.0.ty) k.0.instances) h2 (finds_marked b c.look_at_values.new.found c.mark_fields-2.new.marks (map (field_of_class k.0.ty) k.0.instances) ((rw c.deref-2.ensures.value at c.in_ok-mark_fields-2.ensures.marked) (record { class = k.0.ty; fields = k.0.instances; spelled = k.1.members.instances }))) in
+    has_found_after b mid2 c.look_at_methods.new.found (flat_map (names_of_method k.0.ty) k.0.directs) h3 ((rw c.deref-3.ensures.value at c.in_ok-directs.ensures.found) (record { class = k.0.ty; methods = k.0.directs; spelled = k.1.members.directs; codes = k.1.directs }))
 
 pub returns-clause-found : goal.returns-clause-found
 returns-clause-found c = λ k m.
@@ -62,11 +62,11 @@ returns-clause-found c = λ k m.
     let instances = map (field_of_class k.ty) k.instances in
     let directs = flat_map (names_of_method k.ty) k.directs in
     let virtuals = flat_map (names_of_method k.ty) k.virtuals in
-    let f1 = finds_marked b c.args.found.now c.mark_fields.new.marks statics ((rw c.deref.ensures.value at c.in_ok-mark_fields.ensures.marked) k.ty k.statics m.members.statics) in
+    let f1 = finds_marked b c.args.found.now c.mark_fields.new.marks statics ((rw c.deref.ensures.value at c.in_ok-mark_fields.ensures.marked) (record { class = k.ty; fields = k.statics; spelled = m.members.statics })) in
     let f2 = c.in_ok-array.ensures.found m.most k.values m.values in
-    let f3 = finds_marked b c.look_at_values.new.found c.mark_fields-2.new.marks instances ((rw c.deref-2.ensures.value at c.in_ok-mark_fields-2.ensures.marked) k.ty k.instances m.members.instances) in
-    let f4 = (rw c.deref-3.ensures.value at c.in_ok-directs.ensures.found) k.ty k.directs m.members.directs m.directs in
-    let f5 = (rw c.deref-4.ensures.value at c.in_ok-virtuals.ensures.found) k.ty k.virtuals m.members.virtuals m.virtuals in
+    let f3 = finds_marked b c.look_at_values.new.found c.mark_fields-2.new.marks instances ((rw c.deref-2.ensures.value at c.in_ok-mark_fields-2.ensures.marked) (record { class = k.ty; fields = k.instances; spelled = m.members.instances })) in
+    let f4 = (rw c.deref-3.ensures.value at c.in_ok-directs.ensures.found) (record { class = k.ty; methods = k.directs; spelled = m.members.directs; codes = m.directs }) in
+    let f5 = (rw c.deref-4.ensures.value at c.in_ok-virtuals.ensures.found) (record { class = k.ty; methods = k.virtuals; spelled = m.members.virtuals; codes = m.virtuals }) in
     let g2 = finds_more b c.args.found.now mid c.look_at_values.new.found statics array f1 f2 in
     let g3 = finds_more b c.args.found.now c.look_at_values.new.found mid2 (statics ++ array) instances g2 f3 in
     let g4 = finds_more b c.args.found.now mid2 c.look_at_methods.new.found (statics ++ array ++ instances) directs g3 f4 in
@@ -88,7 +88,7 @@ returns-clause-wide c = λ k m.
     let array = c.plus-2.ensures 5 w (inl refl) (inl (c.in_ok-array.ensures.wide m.most k.values m.values)) in
     let d = wide_all wide_body (bodies_in k.directs) in
     let v = wide_all wide_body (bodies_in k.virtuals) in
-    let bodies = c.plus-4.ensures d v ((rw c.deref-3.ensures.value at c.in_ok-directs.ensures.wide) k.ty k.directs m.members.directs m.directs) ((rw c.deref-4.ensures.value at c.in_ok-virtuals.ensures.wide) k.ty k.virtuals m.members.virtuals m.virtuals) in
+    let bodies = c.plus-4.ensures d v ((rw c.deref-3.ensures.value at c.in_ok-directs.ensures.wide) (record { class = k.ty; methods = k.directs; spelled = m.members.directs; codes = m.directs })) ((rw c.deref-4.ensures.value at c.in_ok-virtuals.ensures.wide) (record { class = k.ty; methods = k.virtuals; spelled = m.members.virtuals; codes = m.virtuals })) in
     let both = wide_all_append wide_body (bodies_in k.directs) (bodies_in k.virtuals) in
     subst (λ (n : ℕ). IsSum c.plus-5.result n) (omega (arith, n1, n2, n3, n4, c1, c2, c3, c4, l1, l2, l3, l4, both))
     (c.plus-5.ensures (20 + (10 * c.len.result + 10 * c.len-2.result) + (15 * c.len-3.result + 15 * c.len-4.result) + (5 + w)) (d + v)

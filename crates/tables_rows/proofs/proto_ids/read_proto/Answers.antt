@@ -2,7 +2,7 @@ use Rattle.std.proofs.Common.{◌∙◌, ◌∷◌, refl, sym, ap, map, subst, t
 use Rattle.program_types.specs.Shorty.{letter_of}
 use Rattle.program_types.specs.View.{str, desc}
 use Rattle.tables_rows.specs.Known.{IsKnown}
-use Rattle.tables_rows.specs.Stands.{StringStands, TypeStands}
+use Rattle.tables_rows.specs.Stands.{StringStands}
 use Rattle.tables_rows.specs.TableFaults.{ParametersAt, ParameterList, Shorty}
 use Rattle.tables_rows.proofs.CachedLaws.{cached_more}
 use Rattle.tables_rows.proofs.RowReading.{string_one}
@@ -12,8 +12,8 @@ use Rattle.tables_rows.proofs.proto_ids.read_proto.Goals as goal
 pub returns-in_default-2-clause-err : goal.returns-in_default-2-clause-err
 returns-in_default-2-clause-err c = λ _. rw c.at-in_default-2.ensures (record {
   breaks = ParameterList (record {
-    shorty = (subst (λ n. StringStands c.args.sections.now n (str c.in-Some.text)) c.proto_shorty-shorty.ensures c.in-Some.ensures.some).row;
-    ret = (subst (λ n. TypeStands c.args.sections.now n (desc c.in-Some-type_at.ret)) c.proto_return.ensures c.in-Some-type_at.ensures.some).row;
+    shorty = (rw c.proto_shorty-shorty.ensures at c.in-Some.ensures.some).row;
+    ret = (rw c.proto_return.ensures at c.in-Some-type_at.ensures.some).row;
     none = λ ts at. (rw c.in_default-2.is at c.in_ok-known.ensures.none) ts (subst (λ n. ParametersAt c.args.sections.now n ts) (sym c.proto_parameters-off.ensures) at);
   });
   place = c.proto_row-row.ensures;
@@ -23,10 +23,10 @@ pub returns-then-not-is_shorty-clause-err : goal.returns-then-not-is_shorty-clau
 returns-then-not-is_shorty-clause-err c = λ _. rw c.at-then-not-is_shorty.ensures (record {
   breaks = Shorty (record {
     proto = record { ret = desc c.in-Some-type_at.ret; params = map desc c.in-Some-2.known.params.now };
-    ret = subst (λ n. TypeStands c.args.sections.now n (desc c.in-Some-type_at.ret)) c.proto_return.ensures c.in-Some-type_at.ensures.some;
-    params = subst (λ n. ParametersAt c.args.sections.now n (map desc c.in-Some-2.known.params.now)) c.proto_parameters-off.ensures (rw c.in-Some-2.is at c.in_ok-known.ensures.found).list;
+    ret = rw c.proto_return.ensures at c.in-Some-type_at.ensures.some;
+    params = rw c.proto_parameters-off.ensures at (rw c.in-Some-2.is at c.in_ok-known.ensures.found).list;
     found = str c.in-Some.text;
-    string = subst (λ n. StringStands c.args.sections.now n (str c.in-Some.text)) c.proto_shorty-shorty.ensures c.in-Some.ensures.some;
+    string = rw c.proto_shorty-shorty.ensures at c.in-Some.ensures.some;
     differs = λ e. true≢false (sym (c.if-not-is_shorty.ensures.1 e));
   });
   place = c.proto_row-row.ensures;
@@ -36,14 +36,14 @@ pub returns-then-known-shorty-clause-ok : goal.returns-then-known-shorty-clause-
 returns-then-known-shorty-clause-ok c =
     let b = c.args.sections.now in
     let found = rw c.in-Some-2.is at c.in_ok-known.ensures.found in
-    let text = found.fits (str c.in-Some.text) (subst (λ n. StringStands b n (str c.in-Some.text)) (sym c.if-known-shorty.true) c.in-Some.ensures.some) in
-    let list = subst (λ n. ParametersAt b n (map desc c.in-Some-2.known.params.now)) c.proto_parameters-off.ensures found.list in
+    let text = found.fits (str c.in-Some.text) (rw (← c.if-known-shorty.true) at c.in-Some.ensures.some) in
+    let list = rw c.proto_parameters-off.ensures at found.list in
     record {
       row = c.requires.row;
-      ret = subst (λ n. TypeStands b n (desc c.in-Some-type_at.ret)) c.proto_return.ensures c.in-Some-type_at.ensures.some;
+      ret = rw c.proto_return.ensures at c.in-Some-type_at.ensures.some;
       params = list.types;
       values = list.values;
-      shorty = subst (λ s. StringStands b (proto_shorty b c.args.i) s) (text ∙ ap (λ n. n ∷ map letter_of (map desc c.in-Some-2.known.params.now)) (c.if-known-first.true ∙ c.letter-first.ensures)) (subst (λ n. StringStands b n (str c.in-Some.text)) c.proto_shorty-shorty.ensures c.in-Some.ensures.some);
+      shorty = subst (λ s. StringStands b (proto_shorty b c.args.i) s) (text ∙ ap (λ n. n ∷ map letter_of (map desc c.in-Some-2.known.params.now)) (c.if-known-first.true ∙ c.letter-first.ensures)) (rw c.proto_shorty-shorty.ensures at c.in-Some.ensures.some);
     }
 
 pub returns-clause-cached : goal.returns-clause-cached

@@ -1,7 +1,5 @@
-use Rattle.std.proofs.Common.{ℕ, ◌+◌, ◌*◌, ◌≤◌, List, length}
-use Rattle.program_types.specs.Content.{Value}
-use Rattle.tables_names.specs.Closure.{Five}
-use Rattle.value_renumber.specs.Walks.{AreCarriedValues}
+use Rattle.std.proofs.Common.{◌+◌, ◌*◌, ◌≤◌, length}
+use Rattle.value_renumber.specs.Walks.{CarriedValues}
 use Rattle.value_renumber.proofs.CarryLemmas.{Renumbered}
 use Rattle.value_renumber.proofs.renumbering.+renumbered.Given as goal
 
@@ -13,6 +11,6 @@ decreases-renumber_values l = 2 * length l.bytes.now + 1
 
 abbrev pub invariant-renumber_values-loop-turn : goal.invariant-renumber_values-loop-turn
 invariant-renumber_values-loop-turn l = record {
-  renumbered : (b : List ℕ) (s : Five) (vs : List Value) (rest : List ℕ) → AreCarriedValues b l.numbers s l.count l.bytes vs rest → Renumbered b s l.fn.out.items l.out.items l.left l._turn vs rest;
+  renumbered : (x : CarriedValues l.numbers l.count l.bytes) → Renumbered x.file x.names l.fn.out.items l.out.items l.left l._turn x.all x.rest;
   short : length l.left ≤ length l.bytes;
 }

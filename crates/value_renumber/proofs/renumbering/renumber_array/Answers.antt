@@ -32,7 +32,7 @@ renumber_values-requires c =
     let a = c.requires.2 in
     let x = c.array_at.ensures.spelled a.most vs a.stands in
     let parts = array_parts (NameStands b) c.array_at.result.now vs x.0 x.1 in
-    (b, s, vs, x.0, values_carried b c.args.off c.args.numbers.now s vs c.take_number-count.result.0 c.array_at.result.now c.take_number-count.result.1.now parts.0 x.0 c.array_at.ensures.framed a parts.1 c.take_number-count.ensures.taken parts.2)
+    values_carried b c.args.off c.args.numbers.now s vs c.take_number-count.result.0 c.array_at.result.now c.take_number-count.result.1.now parts.0 x.0 c.array_at.ensures.framed a parts.1 c.take_number-count.ensures.taken parts.2
 
 pub returns-clause-ok : goal.returns-clause-ok
 returns-clause-ok c = λ s vs a.
@@ -42,4 +42,4 @@ returns-clause-ok c = λ s vs a.
     let one = number_one c.array_at.result.now (length vs) c.take_number-count.result.0 parts.0 c.take_number-count.result.1.now parts.1 c.take_number-count.ensures.taken in
     let empty : c.new-out.result.items ≡ [] = search rules in
     item_is (NameRanks s) c.new-out.result.items c.put_uleb.new.out.items c.renumber_values.new.out.items c.take_number-count.result.0 vs empty one.0 c.if-count-eq0.false c.in_ok-put_uleb.ensures.ok
-    (c.in_ok-renumber_values.ensures.ok b s vs x.0 (values_carried b c.args.off c.args.numbers.now s vs c.take_number-count.result.0 c.array_at.result.now c.take_number-count.result.1.now parts.0 x.0 c.array_at.ensures.framed a parts.1 c.take_number-count.ensures.taken parts.2))
+    (c.in_ok-renumber_values.ensures.ok (values_carried b c.args.off c.args.numbers.now s vs c.take_number-count.result.0 c.array_at.result.now c.take_number-count.result.1.now parts.0 x.0 c.array_at.ensures.framed a parts.1 c.take_number-count.ensures.taken parts.2))

@@ -14,10 +14,10 @@ use Rattle.value_renumber.proofs.NameLemmas.{named_four}
 use Rattle.value_renumber.proofs.renumbering.renumber_low.Goals as goal
 
 pub number-one-requires-clause-few : goal.number-one-requires-clause-few
-number-one-requires-clause-few c = subst (λ (k : ℕ). length c.args.low.now ≤ widest_of k) (sym (sym (ap sized_code c.in-Number.is) ∙ c.in-Some.ensures.some)) c.requires.3.low.few
+number-one-requires-clause-few c = subst (λ (k : ℕ). length c.args.low.now ≤ widest_of k) (sym (sym (ap sized_code c.in-Number.is) ∙ c.in-Some.ensures.some)) c.requires.low.few
 
 pub number-one-requires-clause-some : goal.number-one-requires-clause-some
-number-one-requires-clause-some c = c.requires.3.low.some
+number-one-requires-clause-some c = c.requires.low.some
 
 pub put_plain-requires : goal.put_plain-requires
 put_plain-requires c = number_plain (number_code c.in-Number.ty) c.args.low.now (value c.number-one.result) c.number-one.ensures
@@ -28,31 +28,32 @@ returns-in-Number-clause-ok c =
     let one = value c.number-one.result in
     let is : IsNumber _ low one = subst (λ (k : ℕ). IsNumber k low one) (sym (ap sized_code c.in-Number.is) ∙ c.in-Some.ensures.some) c.number-one.ensures in
     on_ok_weaker c.put_plain.result
-    (λ f b s v x. subst (λ (w : Value). Appends (Shortest (SpellsValue (NameRanks s))) c.args.out.now.items c.put_plain.new.out.items w) (number_is b _ low v one x.low is) (f s))
+    (λ f x. subst (λ (w : Value). Appends (Shortest (SpellsValue (NameRanks x.names))) c.args.out.now.items c.put_plain.new.out.items w) (number_is x.file _ low x.value one x.low is) (f x.names))
     c.put_plain.ensures.ok
 
 pub unsigned-index-requires-clause-some : goal.unsigned-index-requires-clause-some
-unsigned-index-requires-clause-some c = c.requires.3.low.some
+unsigned-index-requires-clause-some c = c.requires.low.some
 
 pub unsigned-index-requires-clause-few : goal.unsigned-index-requires-clause-few
 unsigned-index-requires-clause-few c =
     let four = named_four c.in-Name.ty in
     let is = ap widest_of (sym (ap sized_code c.in-Name.is) ∙ c.in-Some.ensures.some) in
-    let few = c.requires.3.low.few in
+    let few = c.requires.low.few in
     omega (arith, four, is, few)
 
 pub overflow_cast-index : goal.overflow_cast-index
 overflow_cast-index c =
     let four = named_four c.in-Name.ty in
     let is = ap widest_of (sym (ap sized_code c.in-Name.is) ∙ c.in-Some.ensures.some) in
-    let few = c.requires.3.low.few in
+    let few = c.requires.low.few in
     let fits = c.unsigned-index.ensures.index (omega (arith, four, is, few)) in
     omega (arith, fits)
 
 pub of-row-requires : goal.of-row-requires
 of-row-requires c =
     let ty = c.in-Name.ty in
-    let n = carried_name c.requires.0 c.args.numbers.now c.requires.1 ty _ c.args.low.now (sym (ap sized_code c.in-Name.is) ∙ c.in-Some.ensures.some) c.requires.2 c.requires.3 in
+    let x = c.requires in
+    let n = carried_name x.file c.args.numbers.now x.names ty _ c.args.low.now (sym (ap sized_code c.in-Name.is) ∙ c.in-Some.ensures.some) x.value x.low x.rise x.carried in
     index_within c.args.numbers.now (table_of_type ty) c.name_kind.result (unsigned_of c.args.low.now) c.unsigned-index.result n.number c.name_kind.ensures c.unsigned-index.ensures.value n.at
 
 pub returns-in-Name-clause-ok : goal.returns-in-Name-clause-ok
@@ -62,8 +63,8 @@ returns-in-Name-clause-ok c =
     let old = c.args.out.now.items in
     let new = c.put_unsigned.new.out.items in
     on_ok_weaker c.put_unsigned.result
-    (λ a b s v x.
-    let n = carried_name b c.args.numbers.now s ty _ low (sym (ap sized_code c.in-Name.is) ∙ c.in-Some.ensures.some) v x in
+    (λ a x.
+    let n = carried_name x.file c.args.numbers.now x.names ty _ low (sym (ap sized_code c.in-Name.is) ∙ c.in-Some.ensures.some) x.value x.low x.rise x.carried in
     n.appends old new
     (subst (λ (m : ℕ). Appends (Shortest (UnsignedAs (c.args.head % 32) 4)) old new m)
     (c.from.ensures ∙ number_at c.args.numbers.now (table_of_type ty) c.name_kind.result (unsigned_of low) c.unsigned-index.result n.number c.of-row.result c.name_kind.ensures c.unsigned-index.ensures.value c.of-row.ensures n.at) a))
@@ -72,6 +73,6 @@ returns-in-Name-clause-ok c =
 pub unreachable-requires : goal.unreachable-requires
 unreachable-requires c =
     let none = c.in_default.ensures.none in
-    let some = c.requires.3.low.some in
-    let few = c.requires.3.low.few in
+    let some = c.requires.low.some in
+    let few = c.requires.low.few in
     omega (arith, none, some, few)
