@@ -2,7 +2,7 @@
 use Rattle.std.proofs.Common.{◌≡◌, ℕ, List, Bool, true, false, sym, ap, ◌∙◌, subst}
 use Rattle.dexasm_job.specs.declared.job.Job.{Job}
 use Rattle.dexasm_job.specs.declared.job.Job.TheVariants.{Check, List as Listing, Assemble, Strip}
-use Rattle.dexasm_jobs.specs.Answers.{Answer, IsWritten, Lists}
+use Rattle.dexasm_jobs.specs.Answers.{Answer, IsAssembled, Lists}
 use Rattle.file_align.specs.Programs.{AlignedProgram}
 use Rattle.file_write.proofs.RangeLaws.{well_formed}
 use Rattle.file_write.proofs.PassLaws.{program_one}
@@ -19,7 +19,7 @@ use Rattle.listing_grammar.specs.declared_Form_TheVariants.{Two}
 use Rattle.file_align.proofs.OneAligned.{program_aligned_one}
 
 -- a program has one file, and one aligned
-written_once : (align : Bool) (p q : Program) (a b : List ℕ) → p ≡ q → IsWritten align p a → IsWritten align q b → a ≡ b
+written_once : (align : Bool) (p q : Program) (a b : List ℕ) → p ≡ q → IsAssembled align p a → IsAssembled align q b → a ≡ b
 written_once false p q a b same x y = file_one p a b x.1 (subst (λ (r : Program). IsFileOf r b) (sym same) y.1)
 written_once true p q a b same x y =
     let one = program_aligned_one p x.0 y.0 x.1.aligned (subst (λ (r : Program). AlignedProgram r y.0) (sym same) y.1.aligned) in

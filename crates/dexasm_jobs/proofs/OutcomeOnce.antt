@@ -3,7 +3,7 @@ use Rattle.std.proofs.Common.{◌≡◌, ℕ, List, Bool, true, false, inl, inr,
 use Rattle.base_bytes.specs.declared.fault.Fault.{Fault}
 use Rattle.dexasm_job.specs.declared.job.Job.{Job}
 use Rattle.dexasm_job.specs.declared.job.Job.TheVariants.{Check, List as Listing, Assemble, Strip}
-use Rattle.dexasm_jobs.specs.Answers.{Answer, IsAligned, IsWritten, IsUnwritten, Outcome, Refusal}
+use Rattle.dexasm_jobs.specs.Answers.{Answer, IsAligned, IsAssembled, IsUnassembled, Outcome, Refusal}
 use Rattle.dexasm_jobs.proofs.AnswerOnce.{answer_once, listed_one}
 use Rattle.dexasm_jobs.proofs.ListedLaws.{is_read}
 use Rattle.file_align.specs.Programs.{AlignedProgram}
@@ -30,7 +30,7 @@ aligned_one p q r s same a b = program_aligned_one q r s (subst (λ (x : Program
 
 -- ---- an answer or a refusal
 
-written_not_unwritten : (align : Bool) (p q : Program) (made : List ℕ) (f : Fault) → p ≡ q → IsWritten align p made → IsUnwritten align q f → ⊥
+written_not_unwritten : (align : Bool) (p q : Program) (made : List ℕ) (f : Fault) → p ≡ q → IsAssembled align p made → IsUnassembled align q f → ⊥
 written_not_unwritten false p q made f same x limit = not_limited p q f same x.0 limit
 written_not_unwritten true p q made f same x (inl long) = too_long_unformed q x.0 f long (subst (λ (r : Program). AlignedProgram r x.0) same x.1.aligned) x.1.formed
 written_not_unwritten true p q made f same x (inr limit) = not_limited x.0 limit.0 f (aligned_one p q x.0 limit.0 same x.1 limit.1) x.2 limit.2
@@ -51,7 +51,7 @@ listing_refused_one given e f a b =
     let code = same.0 in let place = same.1 in
     (λ k. record { code = code k; place = place k })
 
-unwritten_once : (align : Bool) (p q : Program) (e f : Fault) → p ≡ q → IsUnwritten align p e → IsUnwritten align q f → e ≡ f
+unwritten_once : (align : Bool) (p q : Program) (e f : Fault) → p ≡ q → IsUnassembled align p e → IsUnassembled align q f → e ≡ f
 unwritten_once false p q e f same x y = limits_one p q e f same x y
 unwritten_once true p q e f same (inl x) (inl y) = x.is ∙ sym y.is
 unwritten_once true p q e f same (inl x) (inr y) = absurd (too_long_unformed p y.0 e x (subst (λ (r : Program). AlignedProgram r y.0) (sym same) y.1.aligned) y.1.formed)

@@ -26,21 +26,21 @@ pub record IsAligned (p q : Program) : Type 0 where
   pub formed : WellFormed q
 
 -- The program fits, and the bytes are its file; with align those of the program aligned.
-abbrev pub IsWritten : Bool → Program → List ℕ → Type 0
-IsWritten false p made = Fits p × IsFileOf p made
-IsWritten true p made = (q : Program) × IsAligned p q × Fits q × IsFileOf q made
+abbrev pub IsAssembled : Bool → Program → List ℕ → Type 0
+IsAssembled false p made = Fits p × IsFileOf p made
+IsAssembled true p made = (q : Program) × IsAligned p q × Fits q × IsFileOf q made
 
 -- The program breaks a limit of the format; with align a code would be too long when aligned, or else the aligned program breaks one.
-abbrev pub IsUnwritten : Bool → Program → Fault → Type 0
-IsUnwritten false p fault = IsLowestLimit p fault
-IsUnwritten true p fault = IsTooLong p fault ⊎ ((q : Program) × IsAligned p q × IsLowestLimit q fault)
+abbrev pub IsUnassembled : Bool → Program → Fault → Type 0
+IsUnassembled false p fault = IsLowestLimit p fault
+IsUnassembled true p fault = IsTooLong p fault ⊎ ((q : Program) × IsAligned p q × IsLowestLimit q fault)
 
 -- The job's answer to these bytes. Check: `ok` and a line feed, where they are a file. List: the listing of the file's program.
 -- Assemble: the file of the listed program, or with align of that program aligned. Strip: the file of the file's program.
 abbrev pub Answer : Job → List ℕ → List ℕ → Type 0
 Answer Check given made = (p : Program) × Means given p × (made ≡ codes "ok\n")
 Answer Listing given made = (p : Program) × Means given p × (made ≡ canon p)
-Answer (Assemble align) given made = (p : Program) × Lists given p × IsWritten align p made
+Answer (Assemble align) given made = (p : Program) × Lists given p × IsAssembled align p made
 Answer Strip given made = IsStripped given made
 
 -- The job refuses these bytes with this fault: they are no file, or no listing, or their program can't be written.
@@ -48,7 +48,7 @@ abbrev pub Refusal : Job → List ℕ → Fault → Type 0
 Refusal Check given fault = IsRefused given fault
 Refusal Listing given fault = IsRefused given fault
 Refusal (Assemble align) given fault =
-    ListingBreaks given fault.code fault.place ⊎ ((p : Program) × Lists given p × IsUnwritten align p fault)
+    ListingBreaks given fault.code fault.place ⊎ ((p : Program) × Lists given p × IsUnassembled align p fault)
 Refusal Strip given fault = IsStripRefused given fault
 
 -- What comes of a job on these bytes, unless memory runs out: its answer, or its refusal.

@@ -3,7 +3,7 @@ ghost use Rattle.std.specs.Prelude.{◌≢◌, IfOk, IfErr};
 ghost use Rattle.base_bytes.specs.Fault.{memory};
 ghost use Rattle.program_types.specs.View.{program};
 ghost use Rattle.program_rules.specs.WellFormed.{WellFormed};
-ghost use Rattle.dexasm_jobs.specs.Answers.{Answer, Refusal, IsWritten, IsUnwritten};
+ghost use Rattle.dexasm_jobs.specs.Answers.{Answer, Refusal, IsAssembled, IsUnassembled};
 
 use bumpalo::Bump;
 use dex_base::{Fault, Seed};
@@ -155,8 +155,8 @@ fn file_of<'a>(
     align: bool,
 ) -> Result<Vec<u8>, Fault>
     requires formed { WellFormed (program listed.now) }
-    ensures written { IfOk result (λ made. IsWritten align (program listed.now) made.items) }
-    ensures refused { IfErr result (λ fault. fault ≢ memory → IsUnwritten align (program listed.now) fault) }
+    ensures written { IfOk result (λ made. IsAssembled align (program listed.now) made.items) }
+    ensures refused { IfErr result (λ fault. fault ≢ memory → IsUnassembled align (program listed.now) fault) }
 {
     if align {
         let aligned = align_all(alloc, arena, listed)?;

@@ -9,7 +9,7 @@ ghost use Rattle.file_layout.specs.Finished.{Finishes, IsFronted};
 
 use crate::map_list::{entries_of, map_after};
 use crate::padding::gap_after;
-use crate::plan::{Plan, Rows};
+use crate::plan::{HEADER_SIZE, Plan, Rows};
 use crate::ranges::are_words;
 use base_bytes::{Fault, are_bytes, put_u32_at};
 use dex_container::close;
@@ -17,8 +17,6 @@ use std::alloc::Global;
 
 // The magic of version 035: `dex`, a line feed, `035` and a zero.
 const MAGIC: [u32; 2] = [0x0a78_6564, 0x0035_3330];
-
-const HEADER_SIZE: u32 = 112;
 
 const ENDIAN_CONSTANT: u32 = 0x1234_5678;
 
@@ -88,7 +86,8 @@ fn put_rows(bytes: &mut [u8], rows: &[u8])
     requires { 112 + length rows.now ≤ length bytes.old }
     ensures { bytes.new ≡ take 112 bytes.old ++ (rows.now ++ drop (112 + length rows.now) bytes.old) }
 {
-    bytes[112..112 + rows.len()].copy_from_slice(rows);
+    let begin = HEADER_SIZE as usize;
+    bytes[begin..begin + rows.len()].copy_from_slice(rows);
 }
 
 /// Writes header and rows in front, and fills in signature and checksum.

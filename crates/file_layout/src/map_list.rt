@@ -9,7 +9,7 @@ ghost use Rattle.file_layout.specs.Plan.{tables_end, spans_of};
 ghost use Rattle.file_layout.specs.Tiles.{zeros, gap};
 
 use crate::padding::pad_after;
-use crate::plan::{Part, Plan};
+use crate::plan::{HEADER_SIZE, Part, Plan};
 use crate::ranges::are_words;
 use base_bytes::{Fault, push_words};
 use dex_container::kind;
@@ -49,7 +49,7 @@ pub fn entries_of(plan: &Plan, place: u32) -> [Entry; 13]
     let rows = plan.rows;
     [
         Entry::new(kind::HEADER_ITEM, 1, 0),
-        Entry::new(kind::STRING_ID_ITEM, rows.strings, 112),
+        Entry::new(kind::STRING_ID_ITEM, rows.strings, HEADER_SIZE),
         Entry::new(kind::TYPE_ID_ITEM, rows.types, rows.type_ids_begin()),
         Entry::new(kind::PROTO_ID_ITEM, rows.protos, rows.proto_ids_begin()),
         Entry::new(kind::FIELD_ID_ITEM, rows.fields, rows.field_ids_begin()),

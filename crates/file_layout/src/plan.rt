@@ -3,6 +3,9 @@
 ghost use Rattle.std.specs.Prelude.{◌≡◌, ◌<◌, ◌^◌};
 ghost use Rattle.file_layout.specs.Plan.{type_ids_begin, proto_ids_begin, field_ids_begin, method_ids_begin, class_defs_begin, tables_end};
 
+/// How many bytes the header takes, after which the tables begin.
+pub(crate) const HEADER_SIZE: u32 = 112;
+
 /// How many rows each table has.
 #[derive(Clone, Copy)]
 pub struct Rows {
@@ -41,7 +44,7 @@ impl Rows {
         requires { tables_end self < 2 ^ 32 }
         ensures { result ≡ type_ids_begin self }
     {
-        112 + 4 * self.strings
+        HEADER_SIZE + 4 * self.strings
     }
 
     /// The byte at which `proto_ids` begins, after `type_ids`.

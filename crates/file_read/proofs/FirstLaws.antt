@@ -10,7 +10,7 @@ use Rattle.file_classes.specs.ClassFaults.{ClassRowsHold, ValuesHold, BodiesHold
 use Rattle.file_classes.proofs.RowFaults.{class_clear}
 use Rattle.file_classes.proofs.ClearLaws.{values_clear, bodies_clear, methods_clear}
 use Rattle.file_read.specs.Broken.{Broken, GroupBreaks}
-use Rattle.file_read.specs.Groups.{Group, Frame, Strings, Types, Protos, Fields, Methods, Classes, Values, Codes, Registers, IsBefore}
+use Rattle.file_read.specs.Groups.{Group, Frame, Strings, Types, Protos, Fields, Methods, Classes, Values, Codes, Registers, IsAskedBefore}
 use Rattle.file_read.specs.Means.{Means}
 use Rattle.file_read.specs.Refused.{IsGroupFault, IsRefused}
 use Rattle.file_read.proofs.PassLaws.{means_classes, means_values, means_bodies, means_methods}
@@ -43,7 +43,7 @@ clear b Codes f framed hold x = bodies_clear b framed x.0 f (hold x.0 x.1) x.2
 clear b Registers f framed hold x = methods_clear b framed x.0 f (hold x.0 x.1) x.2
 
 -- where a fault of a group is answered, the frame and all groups before it hold
-asked : (b : List ℕ) (g h : Group) (e : Fault) → IsGroupFault g b e → IsBefore h g → IsFramed b × GroupHolds h b
+asked : (b : List ℕ) (g h : Group) (e : Fault) → IsGroupFault g b e → IsAskedBefore h g → IsFramed b × GroupHolds h b
 asked b Strings Frame e x before = (x.framed, x.framed)
 asked b Types Frame e x before = (x.framed, x.framed)
 asked b Protos Frame e x before = (x.framed, x.framed)
@@ -59,7 +59,7 @@ pub stands : (b : List ℕ) (g : Group) (e : Fault) → IsGroupFault g b e → G
 stands b Frame e x = x.stands
 stands b g e x = (x.first.row, x.first.within, x.first.broken)
 
-pub first : (b : List ℕ) (g h : Group) (e f : Fault) → IsGroupFault g b e → IsBefore h g → GroupBreaks h b f → ⊥
+pub first : (b : List ℕ) (g h : Group) (e f : Fault) → IsGroupFault g b e → IsAskedBefore h g → GroupBreaks h b f → ⊥
 first b g h e f x before = let hold = asked b g h e x before in clear b h f hold.0 hold.1
 
 -- a fault that refuses stands

@@ -29,5 +29,5 @@ turn Codes = 8
 turn Registers = 9
 
 -- The one group is asked before the other.
-abbrev pub IsBefore : Group → Group → Type 0
-IsBefore h g = turn h < turn g
+abbrev pub IsAskedBefore : Group → Group → Type 0
+IsAskedBefore h g = turn h < turn g

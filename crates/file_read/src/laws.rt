@@ -2,7 +2,7 @@
 ghost use Rattle.std.specs.Prelude.{◌≡◌, ℕ, List};
 ghost use Rattle.base_bytes.specs.declared.fault.Fault.{Fault};
 ghost use Rattle.file_read.specs.Broken.{Broken, GroupBreaks};
-ghost use Rattle.file_read.specs.Groups.{Group, IsBefore};
+ghost use Rattle.file_read.specs.Groups.{Group, IsAskedBefore};
 ghost use Rattle.file_read.specs.Means.{Means};
 ghost use Rattle.file_read.specs.Refused.{IsGroupFault, IsRefused};
 ghost use Rattle.program_types.specs.Content.{Program};
@@ -26,5 +26,5 @@ pub fn one_refusal()
 /// A fault that is answered stands, and none of an earlier group does.
 pub fn refusals_are_first()
     ensures stands { (b : List ℕ) (g : Group) (e : Fault) → IsGroupFault g b e → GroupBreaks g b e }
-    ensures first { (b : List ℕ) (g h : Group) (e f : Fault) → IsGroupFault g b e → IsBefore h g → ¬ GroupBreaks h b f }
+    ensures first { (b : List ℕ) (g h : Group) (e f : Fault) → IsGroupFault g b e → IsAskedBefore h g → ¬ GroupBreaks h b f }
 {}
