@@ -5,17 +5,14 @@ use Rattle.base_bytes.proofs.TakesLaws.{Takes-unique}
 use Rattle.base_bytes.specs.Fields.{AreBytes}
 use Rattle.base_bytes.specs.Grammar.{Takes}
 use Rattle.base_bytes.specs.Leb128.{Spells}
-use Rattle.std.proofs.Common.{if◌then◌else◌, lit<, Bool, Err, List, Ok, Result, Some, [], ap, arith, false, get_or, inl, inr, length, map, nat_lt, pos, refl, subst, suc, sym, take, true, zero, ℕ, ◌*◌, ◌++◌, ◌+◌, ◌-ℤ◌, ◌-◌, ◌<◌, ◌||◌, ◌∷◌, ◌≡◌, ◌⊎◌}
+use Rattle.std.proofs.Common.{if◌then◌else◌, lit<, Bool, Err, List, Ok, Option, Result, Some, [], ap, arith, drop, false, get_or, inl, inr, length, length-drop, map, nat_lt, not, pos, refl, subst, suc, sym, take, take_all, true, zero, ℕ, ◌*◌, ◌++◌, ◌+◌, ◌-ℤ◌, ◌-◌, ◌<◌, ◌||◌, ◌∙◌, ◌∷◌, ◌≡◌, ◌⊎◌}
+use Rattle.std.proofs.lemmas.Option.{slice_get-get_or, slice_get-map}
 use Rattle.std.proofs.lemmas.Bool.Decides.{nat_tests}
 use Rattle.std.proofs.lemmas.Int.{ints}
 use Rattle.std.proofs.lemmas.List.{map-append, take_more}
 use Rattle.std.specs.List.{AllByRecursion, AllZip, slice_get}
-use Rattle.std.specs.Prelude.{IfErr}
+use Rattle.std.specs.Prelude.{IfErr, option_map}
 use Rattle.std.specs.Result.{IsErrAnd}
-
-pub by_truth : (b : Bool) → (b ≡ true → ⊥) → b ≡ false
-by_truth true h = absurd (h refl)
-by_truth false h = refl
 
 pub by_kind : (b : Bool) → (b ≡ true) ⊎ (b ≡ false)
 by_kind true = inl refl
@@ -37,17 +34,6 @@ take_bytes zero bytes are i = lit< tt
 take_bytes (suc n) [] are i = lit< tt
 take_bytes (suc n) (x ∷ xs) are zero = are 0
 take_bytes (suc n) (x ∷ xs) are (suc i) = take_bytes n xs (λ j. are (suc j)) i
-
-pub or_right : (a b : Bool) → (a || b) ≡ false → (a ≡ false) × (b ≡ false)
-or_right true b e = absurd cc
-or_right false b e = (refl, e)
-
-pub or_left : (a b : Bool) → a ≡ true → (a || b) ≡ true
-or_left a b e = rw e refl
-
-pub or_right_2 : (a b : Bool) → b ≡ true → (a || b) ≡ true
-or_right_2 true b e = refl
-or_right_2 false b e = e
 
 pub by_half : (x y h m : ℕ) → x < m → y < m → (if nat_lt x h then pos x else pos x -ℤ pos m) ≡ (if nat_lt y h then pos y else pos y -ℤ pos m) → x ≡ y
 by_half x y h m p q e = grind (arith, nat_tests, ints)
@@ -94,6 +80,9 @@ slice_left (y ∷ xs) ys (suc k) x at = slice_left xs ys k x at
 pub some_inj : {A : Type 0} (x y : A) → Some x ≡ Some y → x ≡ y
 some_inj x y e = cc
 
+pub some_one : {A : Type 0} (o : Option A) (x y : A) → o ≡ Some x → o ≡ Some y → x ≡ y
+some_one o x y p q = cc
+
 pub passed : {T E : Type 0} (r : Result T E) (e : E) (P : E → Type 0) → IsErrAnd r (λ x. x ≡ e) → P e → IfErr r P
 passed (Ok v) e P h p = absurd h
 passed (Err x) e P h p = subst P (sym h) p
@@ -121,3 +110,35 @@ all_at P f (x ∷ xs) (suc i) d l h = all_at P f xs i d (omega arith) h.1
 pub all_map : {A B : Type 0} (P : B → Type 0) (f : A → B) (xs : List A) → AllByRecursion (λ x. P (f x)) xs → AllByRecursion P (map f xs)
 all_map P f [] h = tt
 all_map P f (x ∷ xs) h = (h.0, all_map P f xs h.1)
+
+pub all_weaker : {A : Type 0} (P Q : A → Type 0) → ((x : A) → P x → Q x) → (xs : List A) → AllByRecursion P xs → AllByRecursion Q xs
+all_weaker P Q f [] h = tt
+all_weaker P Q f (x ∷ xs) h = (f x h.0, all_weaker P Q f xs h.1)
+
+pub all_get : {A : Type 0} (P : A → Type 0) (xs : List A) (k : ℕ) (x : A) → AllByRecursion P xs → slice_get xs k ≡ Some x → P x
+all_get P [] k x h at = absurd cc
+all_get P (y ∷ xs) zero x h at = let e : y ≡ x = cc in subst P e h.0
+all_get P (y ∷ xs) (suc k) x h at = all_get P xs k x h.1 at
+
+pub zip_weaker : {A B : Type 0} (R S : A → B → Type 0) → ((x : A) (y : B) → R x y → S x y) → (xs : List A) (ys : List B) → AllZip R xs ys → AllZip S xs ys
+zip_weaker R S f [] [] h = tt
+zip_weaker R S f [] (y ∷ ys) h = absurd h
+zip_weaker R S f (x ∷ xs) [] h = absurd h
+zip_weaker R S f (x ∷ xs) (y ∷ ys) h = (f x y h.0, zip_weaker R S f xs ys h.1)
+
+pub zip_append : {A B : Type 0} (R : A → B → Type 0) (xs us : List A) (ys vs : List B) → AllZip R xs ys → AllZip R us vs → AllZip R (xs ++ us) (ys ++ vs)
+zip_append R [] us [] vs z w = w
+zip_append R [] us (y ∷ ys) vs z w = absurd z
+zip_append R (x ∷ xs) us [] vs z w = absurd z
+zip_append R (x ∷ xs) us (y ∷ ys) vs z w = (z.0, zip_append R xs us ys vs z.1 w)
+
+-- what `&xs[k..]` is
+pub rest_is : (k : ℕ) (xs : List ℕ) → take (length xs - k) (drop k xs) ≡ drop k xs
+rest_is k xs = take_all (length xs - k) (drop k xs) (omega (arith, length-drop k xs))
+
+pub map_at : {A B : Type 0} (f : A → B) (xs : List A) (i : ℕ) (d : A) → i < length xs → slice_get (map f xs) i ≡ Some (f (get_or xs i d))
+map_at f xs i d lt = slice_get-map f xs i ∙ ap (option_map f) (slice_get-get_or xs i d lt)
+
+pub not_true : (b : Bool) → not b ≡ true → b ≡ false
+not_true true e = absurd cc
+not_true false e = refl

@@ -7,8 +7,8 @@ use Rattle.std.specs.declared.hash.FoldHasher.{FoldHasher}
 use Rattle.base_bytes.specs.declared.seed.Seed.{Seed}
 
 -- the hasher of a seed, to which no unit of a key was fed yet
-abbrev pub begun : Seed → FoldHasher
-begun s = s.begun
+abbrev pub hasher_of : Seed → FoldHasher
+hasher_of s = s.begun
 
 -- the hasher that was fed a number
 abbrev pub fed_with : ℕ → FoldHasher

@@ -1,7 +1,7 @@
 //! What hashes begin with.
 ghost use Rattle.std.specs.Prelude.{◌≡◌};
 ghost use Rattle.std.specs.Hash.FoldHasher.{initial};
-ghost use Rattle.base_bytes.specs.Begun.{begun, fed_with};
+ghost use Rattle.base_bytes.specs.Begun.{hasher_of, fed_with};
 
 use std::hash::{BuildHasher, FoldHasher, Hasher};
 
@@ -24,7 +24,7 @@ pub struct Seed {
 impl Seed {
     /// The seed of a number.
     pub fn new(number: u64) -> Seed
-        ensures { begun result ≡ fed_with number }
+        ensures { hasher_of result ≡ fed_with number }
     {
         let mut begun = FoldHasher::default();
         begun.write_u64(number);
@@ -33,7 +33,7 @@ impl Seed {
 
     /// The seed of who draws none: always the same.
     pub fn fixed() -> Seed
-        ensures { begun result ≡ initial }
+        ensures { hasher_of result ≡ initial }
     {
         Seed {
             begun: FoldHasher::default(),
@@ -44,7 +44,7 @@ impl Seed {
 impl BuildHasher for Seed {
     type Hasher = FoldHasher;
 
-    ghost build_hasher = { begun };
+    ghost build_hasher = { hasher_of };
 
     fn build_hasher(&self) -> FoldHasher {
         self.begun

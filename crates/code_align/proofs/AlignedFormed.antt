@@ -13,6 +13,7 @@ use Rattle.program_types.specs.Operands.{IsOperand}
 use Rattle.program_types.specs.Formed.{insn_at, try_at, insn_payload, insn_wants, insn_reach, insn_branch, insn_short_branch, insn_targets, insn_registers, AreAmong, AreAlike, IsSwitch, RefersToPayload, IsTarget, TargetHolds, PayloadHolds, TryFormed, IsFormed}
 use Rattle.code_align.specs.Aligned.{with_nops, PadsPayloads, nops_to, moved, moved_insn, moved_catch, moved_try, padded, Aligned}
 use Rattle.code_align.proofs.PadLaws.{length-with_nops, pads-count}
+use Rattle.base_bytes.proofs.OptionLaws.{IfSome-map}
 
 -- ---- the new numbers rise
 
@@ -171,10 +172,6 @@ none-moved f None [] h = absurd (h refl)
 none-moved f None (c ∷ cs) h = λ e. cc
 none-moved f (Some k) cs h = tt
 
-some-moved : (f : ℕ → ℕ) (P Q : ℕ → Type 0) (o : Option ℕ) → ((t : ℕ) → P t → Q (f t)) → IfSome o P → IfSome (option_map f o) Q
-some-moved f P Q None g h = tt
-some-moved f P Q (Some t) g h = g t h
-
 -- ---- the code
 
 module _ (c : Code) (ps : List Bool) (good : PadsPayloads ps c.insns) (formed : IsFormed c) where
@@ -243,9 +240,9 @@ module _ (c : Code) (ps : List Bool) (good : PadsPayloads ps c.insns) (formed : 
       let now = map (moved_insn (moved ps)) (with_nops ps c.insns) in
       record {
         lands = subst (λ (o : Option ℕ). IfSome o (IsTarget (map (moved_insn (moved ps)) (with_nops ps c.insns)))) (sym (branch-same (moved ps) (insn_at c.insns j)))
-            (some-moved (moved ps) (IsTarget c.insns) (IsTarget (map (moved_insn (moved ps)) (with_nops ps c.insns))) (insn_branch (insn_at c.insns j)) target-moved t.lands);
+            (IfSome-map (moved ps) (IsTarget c.insns) (IsTarget (map (moved_insn (moved ps)) (with_nops ps c.insns))) (insn_branch (insn_at c.insns j)) target-moved t.lands);
         moves = subst (λ (o : Option ℕ). IfSome o (λ to. to ≢ moved ps j)) (sym (short-same (moved ps) (insn_at c.insns j)))
-            (some-moved (moved ps) (λ to. to ≢ j) (λ to. to ≢ moved ps j) (insn_short_branch (insn_at c.insns j)) (λ to ne e. ne (moved-one ps to j e)) t.moves);
+            (IfSome-map (moved ps) (λ to. to ≢ j) (λ to. to ≢ moved ps j) (insn_short_branch (insn_at c.insns j)) (λ to ne e. ne (moved-one ps to j e)) t.moves);
         all = subst (λ (ts : List ℕ). AllByRecursion (IsTarget (map (moved_insn (moved ps)) (with_nops ps c.insns))) ts) (sym (targets-same (moved ps) (insn_at c.insns j)))
             (all-moved (moved ps) (IsTarget c.insns) (IsTarget (map (moved_insn (moved ps)) (with_nops ps c.insns))) (insn_targets (insn_at c.insns j)) target-moved t.all);
       }
@@ -333,7 +330,7 @@ module _ (c : Code) (ps : List Bool) (good : PadsPayloads ps c.insns) (formed : 
         places = subst (λ (x : Try). AllByRecursion (λ y. y.at < length (map (moved_insn (moved ps)) (with_nops ps c.insns))) x.catches) (sym e)
             (catches-moved (moved ps) (length c.insns) (length (map (moved_insn (moved ps)) (with_nops ps c.insns))) (try_at c.tries i).catches below-new t.places);
         last = subst (λ (x : Try). IfSome x.catch_all (λ k. k < length (map (moved_insn (moved ps)) (with_nops ps c.insns)))) (sym e)
-            (some-moved (moved ps) (λ k. k < length c.insns) (λ k. k < length (map (moved_insn (moved ps)) (with_nops ps c.insns))) (try_at c.tries i).catch_all below-new t.last);
+            (IfSome-map (moved ps) (λ k. k < length c.insns) (λ k. k < length (map (moved_insn (moved ps)) (with_nops ps c.insns))) (try_at c.tries i).catch_all below-new t.last);
         handled = subst (λ (x : Try). IfNone x.catch_all (x.catches ≢ [])) (sym e) (none-moved (moved ps) (try_at c.tries i).catch_all (try_at c.tries i).catches t.handled);
       }
 

@@ -11,6 +11,7 @@ use Rattle.program_types.specs.declared.payload.Payload.{Payload}
 use Rattle.code_put.proofs.Lists.{at-old, at-new}
 use Rattle.code_align.specs.Aligned.{PayloadsEven, with_nops, PadsPayloads, nops_to, moved, moved_insn, padded, Aligned}
 use Rattle.code_align.specs.Aligning.{is_there, is_odd, pads_from, AreMovedNumbers}
+use Rattle.std.proofs.Math.Seq.{take-length}
 
 -- how many are true
 unfoldable pub trues : List Bool → ℕ
@@ -106,10 +107,6 @@ unfolding trues
 nops-end [] = refl
 nops-end (p ∷ ps) = ap (λ (n : ℕ). (if p then 1 else 0) + n) (nops-end ps)
 
-take-all : (ps : List Bool) → take (length ps) ps ≡ ps
-take-all [] = refl
-take-all (p ∷ ps) = ap (λ (qs : List Bool). p ∷ qs) (take-all ps)
-
 -- The first k numbers are there, with so many nops before them.
 pub record SomeMoved (ps : List Bool) (k : ℕ) (ns : List ℕ) (nops : ℕ) : Type 0 where
   pub count : length ns ≡ k
@@ -146,7 +143,7 @@ moved-more ps k ns new nops more at p l e m a s n =
 pub end-is : (ps : List Bool) (ns : List ℕ) (nops k : ℕ) → k ≡ length ps → SomeMoved ps k ns nops → length ps + nops ≡ moved ps (length ps)
 end-is ps ns nops k e s =
     let a = s.sum in
-    let t : trues (take k ps) ≡ trues ps = ap (λ (j : ℕ). trues (take j ps)) e ∙ ap trues (take-all ps) in
+    let t : trues (take k ps) ≡ trues ps = ap (λ (j : ℕ). trues (take j ps)) e ∙ ap trues (take-length ps) in
     omega (arith, nops-end ps)
 
 pub moved-all : (ps : List Bool) (ns new : List ℕ) (nops at k : ℕ) → k ≡ length ps → SomeMoved ps k ns nops → at ≡ length ps + nops → new ≡ ns ++ at ∷ [] → AreMovedNumbers ps new

@@ -3,7 +3,6 @@ pub mod BreakLaws
 -- What stands below, for the crates above.
 pub use Rattle.code_put.proofs.CodeOnce
 pub use Rattle.code_put.proofs.DistanceLaws
-pub use Rattle.code_put.proofs.DistinctLaws
 pub use Rattle.code_put.proofs.HandlerOnce
 pub use Rattle.code_put.proofs.HandlerPacks
 pub use Rattle.code_put.proofs.MentionLaws

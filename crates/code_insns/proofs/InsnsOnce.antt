@@ -1,5 +1,5 @@
 -- Units spell one list of instructions at most.
-use Rattle.std.proofs.Common.{◌≡◌, ℕ, ℤ, ◌<◌, ◌/◌, List, [], ◌∷◌, length, get_or, refl, ap, sym, ◌∙◌, arith, zero, suc, Option, Some, None, subst, inl, inr}
+use Rattle.std.proofs.Common.{◌≡◌, ℕ, ℤ, ◌<◌, ◌/◌, List, length, ap, sym, ◌∙◌, arith, Option, Some, None, subst, inl, inr}
 use Rattle.dex_insn.specs.Raw as raw
 use Rattle.dex_insn.specs.Raw.{Raw}
 use Rattle.dex_insn.specs.Opcodes.{index_kind_of}
@@ -16,18 +16,8 @@ use Rattle.code_insns.specs.Symbols.{linked, Says, IndexStandsFor, name_in, IsFu
 use Rattle.code_insns.specs.Linked.{lead, payload_of, AreLinked, SpellsInsns}
 use Rattle.code_insns.proofs.Runs.{run-once}
 use Rattle.code_insns.proofs.LinkLaws.{IsLike, kind-linked, wants-linked, reach-linked, own-origin, origin-like}
-
-pub same-list : {A : Type 0} (xs ys : List A) (d : A) → length xs ≡ length ys → ((k : ℕ) → k < length xs → get_or xs k d ≡ get_or ys k d) → xs ≡ ys
-same-list [] [] d e h = refl
-same-list [] (y ∷ ys) d e h = absurd (omega arith)
-same-list (x ∷ xs) [] d e h = absurd (omega arith)
-same-list (x ∷ xs) (y ∷ ys) d e h =
-    let a = h zero (omega arith) in
-    let b = same-list xs ys d (omega arith) (λ k l. h (suc k) (omega arith)) in
-    cc
-
-pub some-one : {A : Type 0} (o : Option A) (x y : A) → o ≡ Some x → o ≡ Some y → x ≡ y
-some-one o x y p q = cc
+use Rattle.std.proofs.lemmas.List.{ext_get_or}
+use Rattle.base_bytes.proofs.ListFacts.{some_one}
 
 pub origin-one : (is : List Insn) (k m n : ℕ) → IsOrigin is k m → IsOrigin is k n → m ≡ n
 origin-one is k m n p q = elim p [
@@ -81,7 +71,7 @@ module _ (N : ℕ → Name → Type 0) (rs : List Raw) (is js : List Insn) (p : 
   pub linked-one : IsFunctional N → is ≡ js
   linked-one f =
       let n = p.count in let m = q.count in
-      same-list is js (made.I10x 0) (omega (arith, n, m))
+      ext_get_or (made.I10x 0) is js (omega (arith, n, m))
       (λ k l.
       let x = p.each k (omega (arith, l, n)) in
       let y = q.each k (omega (arith, l, n)) in
@@ -96,10 +86,10 @@ insns-one N us rs is js f p q = linked-one N rs is js p.linked q.linked f
 
 -- in the tables of a file an index stands for one name
 pub NameIsAt-functional : (names : Names) → IsFunctional (NameIsAt names)
-NameIsAt-functional names kind.String i (OfText m) (OfText n) a b p q = ap OfText (some-one _ m n p q)
-NameIsAt-functional names kind.Type i (OfDesc m) (OfDesc n) a b p q = ap OfDesc (some-one _ m n p q)
-NameIsAt-functional names kind.Field i (OfField m) (OfField n) a b p q = ap OfField (some-one _ m n p q)
-NameIsAt-functional names kind.Method i (OfMethod m) (OfMethod n) a b p q = ap OfMethod (some-one _ m n p q)
+NameIsAt-functional names kind.String i (OfText m) (OfText n) a b p q = ap OfText (some_one _ m n p q)
+NameIsAt-functional names kind.Type i (OfDesc m) (OfDesc n) a b p q = ap OfDesc (some_one _ m n p q)
+NameIsAt-functional names kind.Field i (OfField m) (OfField n) a b p q = ap OfField (some_one _ m n p q)
+NameIsAt-functional names kind.Method i (OfMethod m) (OfMethod n) a b p q = ap OfMethod (some_one _ m n p q)
 NameIsAt-functional names kind.String i (OfText m) _ a b p q = absurd b
 NameIsAt-functional names kind.Type i (OfDesc m) _ a b p q = absurd b
 NameIsAt-functional names kind.Field i (OfField m) _ a b p q = absurd b

@@ -9,4 +9,5 @@ pub mod OneFault
 pub mod Lists
 pub mod ReadLaws
 -- What stands below, for the crates above.
+pub use Rattle.program_code_rules.proofs.OperandLaws
 pub use Rattle.tables_rows.proofs.NameLaws

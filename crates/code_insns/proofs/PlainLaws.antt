@@ -1,9 +1,8 @@
 -- Codes that have nothing to do with payloads: the rules of payloads and switches hold in them, and so do those of branches.
-use Rattle.std.proofs.Common.{◌≡◌, ℕ, ℤ, ◌+◌, ◌<◌, ◌≤◌, ◌/◌, List, [], ◌∷◌, ◌++◌, length, take, get_or, refl, ap, sym, ◌∙◌, arith, Option, Some, None, subst, false, true, nat_eq, inl, inr, length-append}
-use Rattle.std.specs.Prelude.{IfSome}
+use Rattle.std.proofs.Common.{◌≡◌, ℕ, ℤ, ◌+◌, ◌<◌, ◌≤◌, ◌/◌, List, [], ◌∷◌, ◌++◌, length, take, get_or, refl, ap, sym, ◌∙◌, arith, Option, None, subst, false, true, nat_eq, inl, inr}
 use Rattle.std.proofs.lemmas.Bool.{cases_lt}
 use Rattle.std.proofs.lemmas.Bool.Decides.{nat_tests}
-use Rattle.std.proofs.lemmas.List.{get_or_append_left, take_more, take_all}
+use Rattle.std.proofs.lemmas.List.{get_or_append_left, take_more, take_all, length_push}
 use Rattle.std.proofs.Math.Seq.{get_or-append_seam}
 use Rattle.dex_insn.specs.Raw as raw
 use Rattle.dex_insn.specs.Raw.{Raw, units, is_payload}
@@ -19,6 +18,7 @@ use Rattle.code_insns.specs.Symbols.{linked, Says}
 use Rattle.code_insns.specs.Linked.{lead, AreLinked, KeepRules}
 use Rattle.code_insns.specs.Plain.{is_plain, SaysAtOnce, ArePlain}
 use Rattle.code_insns.proofs.Runs.{run-more, starts-more, length-of_starts, table-of}
+use Rattle.std.proofs.lemmas.Option.{IfSome_then}
 
 -- it is no payload, and refers to none
 plain-kind : (T : ℤ → ℕ) (w : Name) (r : Raw) → is_plain r ≡ true → (insn_payload (linked T w r) ≡ None) × (insn_wants (linked T w r) ≡ None)
@@ -41,10 +41,6 @@ unfolding insn_payload insn_targets
 no-targets (content.Packed first to) e = absurd cc
 no-targets (content.Sparse keys to) e = absurd cc
 no-targets _ e = refl
-
-pub weaker : {A : Type 0} (P Q : A → Type 0) (o : Option A) → ((x : A) → P x → Q x) → IfSome o P → IfSome o Q
-weaker P Q None f h = tt
-weaker P Q (Some x) f h = f x h
 
 -- what is said of each raw instruction of a code
 record SaidPlainly (N : ℕ → Name → Type 0) (rs : List Raw) (is : List Insn) : Type 0 where
@@ -69,7 +65,7 @@ module _ (N : ℕ → Name → Type 0) (rs : List Raw) (is : List Insn) (s : Sai
         let n = s.count in
         let m : k < length rs = omega (arith, l, n) in
         record {
-          lands = weaker (λ to. to < length rs) (IsTarget is) (insn_branch (insn_at is k)) (λ to h. record { inside = omega (arith, h, n); plain = no-payload to h }) (s.leads k m).inside;
+          lands = IfSome_then (insn_branch (insn_at is k)) {P = λ to. to < length rs} {Q = IsTarget is} (s.leads k m).inside (λ to h. record { inside = omega (arith, h, n); plain = no-payload to h });
           moves = (s.leads k m).moves;
           all = rw (no-targets (insn_at is k) (no-payload k m)) tt;
         };
@@ -100,9 +96,6 @@ insn_front is i k lt = get_or_append_left is (i ∷ []) (content.I10x 0) k lt
 
 insn_last : (is : List Insn) (i : Insn) → insn_at (is ++ i ∷ []) (length is) ≡ i
 insn_last is i = get_or-append_seam is i [] (content.I10x 0)
-
-size_more : {V : Type 0} (xs : List V) (x : V) → length (xs ++ x ∷ []) ≡ length xs + 1
-size_more xs x = length-append xs (x ∷ [])
 
 -- From the first unit to this one such instructions stand, which begin at the first k of these units, and say these.
 pub record PlainRun (N : ℕ → Name → Type 0) (us begins : List ℕ) (count : ℕ) (is : List Insn) (k at : ℕ) : Type 0 where
@@ -136,8 +129,8 @@ module _ (N : ℕ → Name → Type 0) (us begins : List ℕ) (count : ℕ) wher
     pub turned : k < length begins → get_or begins k 0 ≡ at → InsnStands us at r → SaysAtOnce N begins count (get_or begins k 0) k r i → PlainRun N us begins count (is ++ i ∷ []) (k + 1) (at + units r)
     turned inside here stands one = record {
       raws = p.raws ++ r ∷ [];
-      count_is = size_more p.raws r ∙ ap (λ (n : ℕ). n + 1) p.count_is;
-      said = size_more is i ∙ ap (λ (n : ℕ). n + 1) p.said;
+      count_is = length_push p.raws r ∙ ap (λ (n : ℕ). n + 1) p.count_is;
+      said = length_push is i ∙ ap (λ (n : ℕ). n + 1) p.said;
       run = run-more us 0 p.raws at r p.run stands;
       begins_are = take_more begins k 0 inside ∙ ap (λ (x : ℕ). take k begins ++ x ∷ []) here ∙ ap (λ (xs : List ℕ). xs ++ at ∷ []) p.begins_are ∙ sym (starts-more us 0 p.raws at r p.run);
       each = each_more one;

@@ -1,11 +1,11 @@
 -- Instructions end to end.
 use Rattle.std.proofs.Common.{◌≡◌, ℕ, ◌+◌, ◌*◌, ◌/◌, ◌<◌, ◌≤◌, ◌++◌, List, [], ◌∷◌, length, map, get_or, refl, ap, sym, ◌∙◌, subst, arith, zero, suc}
-use Rattle.dex_insn.specs.Raw.{Raw, units, raw}
+use Rattle.dex_insn.specs.Raw.{Raw, units, raw, I10x}
 use Rattle.dex_insn.specs.RawInsns.{InsnStands}
 use Rattle.base_bytes.specs.declared.fault.Fault.{Fault}
 use Rattle.dex_insn.specs.declared.raw.RawInsn.{RawInsn}
 use Rattle.dex_insn.proofs.StandingLaws.{stands-whole, one-stands, stands-clear}
-use Rattle.code_insns.specs.Walk.{Run, Walks, starts, IsWalkFault, IsTable}
+use Rattle.code_insns.specs.Walk.{Run, Walks, starts, raw_at, address, IsWalkFault, IsTable}
 use Rattle.program_types.specs.Sizes.{starts_from}
 use Rattle.std.proofs.lemmas.List.{length-map}
 
@@ -57,6 +57,10 @@ pub run-at : (us : List ℕ) (a : ℕ) (rs : List Raw) (e k : ℕ) (d : Raw) →
 run-at us a [] e k d h l = absurd (omega arith)
 run-at us a (r ∷ rs) e zero d h l = h.0
 run-at us a (r ∷ rs) e (suc k) d h l = run-at us (a + units r) rs e k d h.1 (omega arith)
+
+pub stands-at : (us : List ℕ) (rs : List Raw) → Walks us rs → (k : ℕ) → k < length rs → InsnStands us (address rs k) (raw_at rs k)
+unfolding raw_at
+stands-at us rs w k l = run-at us 0 rs (length us / 2) k (I10x 0) w.run l
 
 map-more : (xs : List RawInsn) (x : RawInsn) → map raw (xs ++ x ∷ []) ≡ map raw xs ++ raw x ∷ []
 map-more [] x = refl

@@ -13,7 +13,7 @@ use dex_insn::Fault;
 use std::alloc::Global;
 use tables_rows::Tables;
 
-/// What is known of instructions that keep all rules.
+/// What is known of instructions that keep all rules but, maybe, that of registers.
 #[derive(Drop)]
 pub struct Checked {
     /// The unit at which each begins.

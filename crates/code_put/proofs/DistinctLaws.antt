@@ -16,14 +16,9 @@ use Rattle.code_insns.specs.Places.{Rises}
 use Rattle.code_put.specs.Packs.{IsFirstUse, PacksHandler, PacksCatch}
 use Rattle.code_put.specs.Writing.{Numbers, IsDistinct, joined_keys}
 use Rattle.code_put.proofs.ListLaws.{all-at}
-use Rattle.base_bytes.proofs.ListFacts.{zip_length, zip_more, get_last}
+use Rattle.base_bytes.proofs.ListFacts.{zip_length, zip_more, get_last, slice_left, all_get, all_append}
 
 -- ---- elements
-
-get-old : {A : Type 0} (xs : List A) (x : A) (k : ℕ) (y : A) → slice_get xs k ≡ Some y → slice_get (xs ++ x ∷ []) k ≡ Some y
-get-old [] x k y e = absurd cc
-get-old (z ∷ xs) x zero y e = e
-get-old (z ∷ xs) x (suc k) y e = get-old xs x k y e
 
 pub zip-left : {A B : Type 0} (R : A → B → Type 0) (xs : List A) (ys : List B) (k : ℕ) (x : A) → AllZip R xs ys → slice_get xs k ≡ Some x → (y : B) × (slice_get ys k ≡ Some y) × R x y
 zip-left R [] ys k x h e = absurd cc
@@ -37,15 +32,6 @@ zip-right R [] (b ∷ ys) k y h e = absurd h
 zip-right R (a ∷ xs) [] k y h e = absurd cc
 zip-right {A} {B} R (a ∷ xs) (b ∷ ys) zero y h e = let q : b ≡ y = cc in (a, refl, subst (λ (z : B). R a z) q h.0)
 zip-right R (a ∷ xs) (b ∷ ys) (suc k) y h e = zip-right R xs ys k y h.1 e
-
-pub all-get : {A : Type 0} (P : A → Type 0) (xs : List A) (k : ℕ) (x : A) → AllByRecursion P xs → slice_get xs k ≡ Some x → P x
-all-get P [] k x h e = absurd cc
-all-get P (y ∷ xs) zero x h e = subst P (let q : y ≡ x = cc in q) h.0
-all-get P (y ∷ xs) (suc k) x h e = all-get P xs k x h.1 e
-
-pub all-more : {A : Type 0} (P : A → Type 0) (xs : List A) (x : A) → AllByRecursion P xs → P x → AllByRecursion P (xs ++ x ∷ [])
-all-more P [] x h p = (p, tt)
-all-more P (y ∷ xs) x h p = (h.0, all-more P xs x h.1 p)
 
 -- ---- numbers that rise
 
@@ -151,17 +137,17 @@ module _ (N : ℕ → Name → Type 0) (ss : List ℕ) (ts : List Try)
         subst (λ (ks : List (List ℕ)). IsDistinct N ss ts (i + 1) ks more) (sym fresh.1) (subst (λ (ns : List ℕ). IsDistinct N ss ts (i + 1) (old ++ bytes ∷ []) ns) (sym m) (record {
           handlers = hs;
           spelled = zip_more (PacksHandler N ss) old d.handlers bytes h d.spelled p;
-          bytes = all-more AllBytes old bytes d.bytes small;
+          bytes = all_append AllBytes old (bytes ∷ []) d.bytes (small, tt);
           count = let c = d.count in omega (arith, length-append numbers (n ∷ []));
           few = let f = d.few in omega (arith, length-append old (bytes ∷ []));
           short = let f = d.short in let t = catches-more ts i in let j = joined-more old bytes in let k = handler-most N ss bytes (handler_of (try_at ts i)) p in omega (arith, ap length j, length-append (joined_keys old) bytes);
-          each = numbered hs (λ k x e. get-old d.handlers h k x e) (let q : length d.handlers ≡ n = omega arith in subst (λ (k : ℕ). slice_get hs k ≡ Some h) q (get_last d.handlers h));
+          each = numbered hs (λ k x e. slice_left d.handlers (h ∷ []) k x e) (let q : length d.handlers ≡ n = omega arith in subst (λ (k : ℕ). slice_get hs k ≡ Some h) q (get_last d.handlers h));
           order = record {
             firsts = d.order.firsts ++ i ∷ [];
             each = zip_more (IsFirstUse ts) d.handlers d.order.firsts h i d.order.each (record { inside = inside; uses = refl; first = first-here fresh.2 });
             rise = rises-more d.order.firsts i d.order.rise d.early;
           };
-          early = all-more (λ (k : ℕ). k < i + 1) d.order.firsts i (all-below i d.order.firsts d.early) (omega arith);
+          early = all_append (λ (k : ℕ). k < i + 1) d.order.firsts (i ∷ []) (all-below i d.order.firsts d.early) (omega arith, tt);
         }))
   ]
     where
@@ -182,7 +168,7 @@ module _ (N : ℕ → Name → Type 0) (ss : List ℕ) (ts : List Try)
       none-before : (j : ℕ) → ((k : ℕ) → slice_get old k ≡ Some bytes → ⊥) → handler_of (try_at ts j) ≡ handler_of (try_at ts i) → j < i → ⊥
       none-before j none e l =
           let z = zip-right (PacksHandler N ss) old d.handlers (get_or numbers j 0) (handler_of (try_at ts j)) d.spelled (d.each j l) in
-          let b = all-get AllBytes old (get_or numbers j 0) z.0 d.bytes z.1 in
+          let b = all_get AllBytes old (get_or numbers j 0) z.0 d.bytes z.1 in
           let same = once z.0 bytes (handler_of (try_at ts i)) b small (subst (λ (x : Handler). PacksHandler N ss z.0 x) e z.2) p in
           none (get_or numbers j 0) (z.1 ∙ ap (λ (x : List ℕ). Some x) same)
 

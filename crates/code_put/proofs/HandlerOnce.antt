@@ -12,8 +12,9 @@ use Rattle.base_bytes.proofs.Numbers.{spells_unique}
 use Rattle.base_bytes.proofs.Signed.{signed_unique}
 use Rattle.tables_names.specs.Closure.{Five, AreRising, NameRanks}
 use Rattle.code_read.proofs.HandlerLaws.{handler-unique}
-use Rattle.code_put.proofs.RankLaws.{rank-one, ranks-functional}
+use Rattle.code_put.proofs.RankLaws.{ranks-functional}
 use Rattle.base_bytes.proofs.ListFacts.{all_front, all_back}
+use Rattle.tables_names.proofs.PlaceLemmas.{rank_one}
 
 -- a name has one index
 abbrev pub IsInjective : (ℕ → Name → Type 0) → Type 0
@@ -74,7 +75,7 @@ module _ (N : ℕ → Name → Type 0) (ss : List ℕ) (inj : IsInjective N) whe
 -- ---- over ranks
 
 pub ranks-injective : (ranks : Five) → AreRising ranks → IsInjective (NameRanks ranks)
-ranks-injective ranks r i j which p q = rank-one ranks i j which r p q
+ranks-injective ranks r i j which p q = rank_one ranks i j which r p q
 
 pub packs-unique : (ranks : Five) (ss : List ℕ) → IsPrefixUnique (PacksHandler (NameRanks ranks) ss)
 packs-unique ranks ss =

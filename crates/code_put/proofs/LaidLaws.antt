@@ -17,9 +17,9 @@ use Rattle.code_insns.proofs.Lists.{at-old, at-new}
 use Rattle.code_put.specs.Fits.{catches_in}
 use Rattle.code_put.specs.Packs.{AreByFirstUse, PacksHandler, PacksHandlersOf}
 use Rattle.code_put.specs.Writing.{IsDistinct, IsListed, joined_keys, places_from}
-use Rattle.code_put.proofs.ListLaws.{take-whole}
 use Rattle.code_put.proofs.ListedLaws.{bytes-few}
 use Rattle.base_bytes.proofs.ListFacts.{zip_length}
+use Rattle.std.proofs.lemmas.List.{take_all}
 
 -- the handlers, each with its place
 abbrev placed_of : ℕ → List (List ℕ) → List Handler → List (ℕ × Handler)
@@ -99,7 +99,7 @@ module _ (N : ℕ → Name → Type 0) (ss : List ℕ) where
         bytes = bytes;
         short =
             let s = d.short in
-            let w : catches_in (take n ts) ≡ catches_in ts = ap catches_in (take-whole ts n (omega arith)) in
+            let w : catches_in (take n ts) ≡ catches_in ts = ap catches_in (take_all n ts (omega arith)) in
             let f = bytes-few keys list l.front [] (length keys) (append-nil list ∙ l.is) l.count in
             omega arith;
       }
@@ -122,7 +122,7 @@ module _ (N : ℕ → Name → Type 0) (ss : List ℕ) where
   pub listed-few : (ts : List Try) (keys : List (List ℕ)) (numbers : List ℕ) (n : ℕ) → n ≡ length ts → IsDistinct N ss ts n keys numbers → 26 + 18 * n + 10 * catches_in ts ≤ 4294967295 → 5 + length (joined_keys keys) ≤ 4294967295
   listed-few ts keys numbers n e d h =
       let s = d.short in
-      let w : catches_in (take n ts) ≡ catches_in ts = ap catches_in (take-whole ts n (omega arith)) in
+      let w : catches_in (take n ts) ≡ catches_in ts = ap catches_in (take_all n ts (omega arith)) in
       omega arith
 
   -- each number is that of a handler

@@ -14,9 +14,9 @@ use Rattle.code_insns.specs.Places.{Rises}
 use Rattle.code_put.specs.Packs.{IsFirstUse, PacksHandler, PacksHandlersOf}
 use Rattle.code_put.proofs.DistinctLaws.{zip-left}
 use Rattle.code_put.proofs.HandlerOnce.{IsInjective, handler-once, two-parts}
-use Rattle.code_put.proofs.WordOnce.{same_bytes}
 use Rattle.dex_insn.proofs.Mnemonics.{equal}
-use Rattle.code_insns.proofs.InsnsOnce.{some-one}
+use Rattle.std.proofs.lemmas.Grind.{same_number_lists}
+use Rattle.base_bytes.proofs.ListFacts.{some_one}
 
 -- ---- things in the order of their first use
 
@@ -80,8 +80,8 @@ rise-at : (xs : List ℕ) (k l x y : ℕ) → Rises xs → k < l → slice_get x
 rise-at xs k l x y r lt a b =
     let inside = slice_get_within xs l y b in
     let less = r.each k l lt inside in
-    let p : get_or xs k 0 ≡ x = some-one (slice_get xs k) _ _ (slice_get-get_or xs k 0 (omega (arith, lt, inside))) a in
-    let q : get_or xs l 0 ≡ y = some-one (slice_get xs l) _ _ (slice_get-get_or xs l 0 inside) b in
+    let p : get_or xs k 0 ≡ x = some_one (slice_get xs k) _ _ (slice_get-get_or xs k 0 (omega (arith, lt, inside))) a in
+    let q : get_or xs l 0 ≡ y = some_one (slice_get xs l) _ _ (slice_get-get_or xs l 0 inside) b in
     omega (arith, less, p, q)
 
 second-get : (hs : List (ℕ × Handler)) (k : ℕ) (r : ℕ × Handler) → slice_get hs k ≡ Some r → slice_get (map (λ (p : ℕ × Handler). p.1) hs) k ≡ Some r.1
@@ -184,7 +184,7 @@ module _ (N : ℕ → Name → Type 0) (ss : List ℕ) (inj : IsInjective N) whe
         let l = list-once (length ts) la lb p.handlers q.handlers e p.bytes q.bytes p.spelled q.spelled in
         let a = p.offsets.count in let b = q.offsets.count in (
           l.0,
-          same_bytes oa ob (a ∙ sym b) (λ i li.
+          same_number_lists oa ob (a ∙ sym b) (λ i li.
               offset-once la oa p i (get_or oa i 0) (get_or ob i 0) (p.offsets.each i (omega arith))
               (ap (λ (hs : List (ℕ × Handler)). handler_at hs (get_or ob i 0)) l.1 ∙ q.offsets.each i (omega arith))),
         )

@@ -1,5 +1,5 @@
 -- Elements of lists.
-use Rattle.std.proofs.Common.{◌≡◌, ℕ, ◌+◌, ◌<◌, ◌≤◌, ◌++◌, subst, List, [], ◌∷◌, map, length, get_or, drop, take, refl, ap, arith, zero, suc}
+use Rattle.std.proofs.Common.{◌≡◌, ℕ, ◌+◌, ◌<◌, ◌++◌, subst, List, [], ◌∷◌, map, length, get_or, take, refl, ap, arith, zero, suc}
 use Rattle.std.specs.List.{AllByRecursion}
 
 pub all-at : {A : Type 0} (P : A → Type 0) (xs : List A) (k : ℕ) (d : A) → AllByRecursion P xs → k < length xs → P (get_or xs k d)
@@ -10,18 +10,6 @@ all-at P (x ∷ xs) (suc k) d h l = all-at P xs k d h.1 (omega arith)
 pub all-from : {A : Type 0} (P : A → Type 0) (xs : List A) (d : A) → ((k : ℕ) → k < length xs → P (get_or xs k d)) → AllByRecursion P xs
 all-from P [] d h = tt
 all-from P (x ∷ xs) d h = (h zero (omega arith), all-from P xs d (λ k l. h (suc k) (omega arith)))
-
-pub take-whole : {A : Type 0} (xs : List A) (k : ℕ) → length xs ≤ k → take k xs ≡ xs
-take-whole [] zero l = refl
-take-whole [] (suc k) l = refl
-take-whole (x ∷ xs) zero l = absurd (omega arith)
-take-whole {A} (x ∷ xs) (suc k) l = ap (λ (ys : List A). x ∷ ys) (take-whole xs k (omega arith))
-
-pub drop-whole : {A : Type 0} (xs : List A) (k : ℕ) → length xs ≤ k → drop k xs ≡ []
-drop-whole [] zero l = refl
-drop-whole [] (suc k) l = refl
-drop-whole (x ∷ xs) zero l = absurd (omega arith)
-drop-whole (x ∷ xs) (suc k) l = drop-whole xs k (omega arith)
 
 -- what holds of the views of all holds of that of each
 pub all-view : {A B : Type 0} (P : B → Type 0) (f : A → B) (xs : List A) (k : ℕ) (d : A) → AllByRecursion P (map f xs) → k < length xs → P (f (get_or xs k d))

@@ -1,13 +1,12 @@
 -- Byte strings after a count, and their places.
 use Rattle.std.proofs.Common.{◌≡◌, ℕ, ◌+◌, ◌≤◌, ◌++◌, List, [], ◌∷◌, map, length, drop, ap, sym, ◌∙◌, arith, subst, Some, Vec, Global, append_assoc, append-nil, length-append}
 use Rattle.std.specs.Prelude.{slice_get, option_map}
-use Rattle.std.proofs.lemmas.List.{drop_more, length-map}
+use Rattle.std.proofs.lemmas.List.{drop_more, length-map, drop_all}
 use Rattle.std.proofs.lemmas.Option.{slice_get-map, slice_get_within, get_or_from_slice_get}
 use Rattle.base_bytes.specs.Grammar.{Appends}
 use Rattle.base_bytes.specs.Leb128.{Spells, Shortest}
 use Rattle.code_put.specs.Writing.{joined_keys, places_from, IsListed}
 use Rattle.code_put.proofs.HandlerPacks.{alone}
-use Rattle.code_put.proofs.ListLaws.{drop-whole}
 
 abbrev Held : Type 0
 Held = Vec ℕ Global
@@ -31,10 +30,10 @@ places-turn keys k at after key places more all e f m h =
     ∙ ap (λ (n : ℕ). places ++ at ∷ places_from n (drop (k + 1) keys)) f ∙ ap (λ (z : List ℕ). places ++ z) (sym (ap (places_from at) (next keys k key e))) ∙ h
 
 pub bytes-end : (keys : List (List ℕ)) (k : ℕ) (bytes all : List ℕ) → length keys ≤ k → bytes ++ joined_keys (drop k keys) ≡ all → bytes ≡ all
-bytes-end keys k bytes all l h = sym (append-nil bytes) ∙ ap (λ (z : List (List ℕ)). bytes ++ joined_keys z) (sym (drop-whole keys k l)) ∙ h
+bytes-end keys k bytes all l h = sym (append-nil bytes) ∙ ap (λ (z : List (List ℕ)). bytes ++ joined_keys z) (sym (drop_all k keys l)) ∙ h
 
 pub places-end : (keys : List (List ℕ)) (k at : ℕ) (places all : List ℕ) → length keys ≤ k → places ++ places_from at (drop k keys) ≡ all → places ≡ all
-places-end keys k at places all l h = sym (append-nil places) ∙ ap (λ (z : List (List ℕ)). places ++ places_from at z) (sym (drop-whole keys k l)) ∙ h
+places-end keys k at places all l h = sym (append-nil places) ∙ ap (λ (z : List (List ℕ)). places ++ places_from at z) (sym (drop_all k keys l)) ∙ h
 
 pub bytes-few : (keys : List (List ℕ)) (bytes front rest : List ℕ) (n : ℕ) → bytes ++ rest ≡ front ++ joined_keys keys → Shortest Spells front n → length bytes ≤ 5 + length (joined_keys keys)
 bytes-few keys bytes front rest n e s = let l = s.spelled.short in omega (arith, ap length e, length-append bytes rest, length-append front (joined_keys keys))

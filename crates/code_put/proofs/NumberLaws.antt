@@ -8,7 +8,7 @@ use Rattle.std.proofs.lemmas.Option.{slice_get-map}
 use Rattle.std.proofs.lemmas.List.{length-map, map-append}
 use Rattle.indexmap.specs.IndexSet.{insert_key}
 use Rattle.code_put.specs.Writing.{Numbers}
-use Rattle.base_bytes.proofs.ListFacts.{or_right}
+use Rattle.std.proofs.lemmas.Bool.{or_parts}
 
 abbrev Held : Type 0
 Held = Vec ℕ Global
@@ -22,12 +22,12 @@ same v w = bytes_eq v.items w.items
 
 none-there : (ks : List Held) (b : Held) (k : ℕ) → list_any (same b) ks ≡ false → slice_get (map items ks) k ≡ Some b.items → ⊥
 none-there [] b k e g = cc
-none-there (x ∷ xs) b zero e g = let o = or_right (same b x) (list_any (same b) xs) e in let t = (bytes_eq-Decides b.items x.items).1 cc in let f = o.0 in cc
-none-there (x ∷ xs) b (suc k) e g = none-there xs b k (or_right (same b x) (list_any (same b) xs) e).1 g
+none-there (x ∷ xs) b zero e g = let o = or_parts (same b x) (list_any (same b) xs) e in let t = (bytes_eq-Decides b.items x.items).1 cc in let f = o.0 in cc
+none-there (x ∷ xs) b (suc k) e g = none-there xs b k (or_parts (same b x) (list_any (same b) xs) e).1 g
 
 last-place : (ks : List Held) (b : Held) → list_any (same b) ks ≡ false → position_or_len (same b) ks ≡ length ks
 last-place [] b e = refl
-last-place (x ∷ xs) b e = let o = or_right (same b x) (list_any (same b) xs) e in let r = last-place xs b o.1 in rw o.0 (omega arith)
+last-place (x ∷ xs) b e = let o = or_parts (same b x) (list_any (same b) xs) e in let r = last-place xs b o.1 in rw o.0 (omega arith)
 
 by-test : (t : Bool) (ks new : List Held) (b : Held) (n : ℕ) → list_any (same b) ks ≡ t → new ≡ (if t then ks else ks ++ b ∷ []) → n ≡ position_or_len (same b) ks
     → (map items new ≡ map items ks) ⊎ ((n ≡ length (map items ks)) × (map items new ≡ map items ks ++ b.items ∷ []) × ((k : ℕ) → slice_get (map items ks) k ≡ Some b.items → ⊥))

@@ -1,6 +1,6 @@
 -- Addresses as sums.
 use Rattle.std.proofs.Common.{◌≡◌, ℕ, ◌+◌, ◌<◌, ◌≤◌, ◌++◌, List, [], ◌∷◌, map, length, get_or, drop, refl, ap, sym, ◌∙◌, arith, zero, suc, append_assoc, append-nil, subst}
-use Rattle.std.proofs.lemmas.List.{get_or-map}
+use Rattle.std.proofs.lemmas.List.{get_or-map, drop_all}
 use Rattle.program_types.specs.View.{insn}
 use Rattle.program_types.specs.Content as content
 use Rattle.program_types.specs.declared.insn.Insn.{Insn}
@@ -12,12 +12,6 @@ rest-is : (xs : List ℕ) (k : ℕ) → k < length xs → drop k xs ≡ get_or x
 rest-is [] k l = absurd (omega arith)
 rest-is (x ∷ xs) zero l = refl
 rest-is (x ∷ xs) (suc k) l = let e : suc (k + 1) ≡ suc k + 1 = omega arith in subst (λ (m : ℕ). drop k xs ≡ get_or xs k 0 ∷ drop m (x ∷ xs)) e (rest-is xs k (omega arith))
-
-none-left : (xs : List ℕ) (k : ℕ) → length xs ≤ k → drop k xs ≡ []
-none-left [] zero l = refl
-none-left [] (suc k) l = refl
-none-left (x ∷ xs) zero l = absurd (omega arith)
-none-left (x ∷ xs) (suc k) l = none-left xs k (omega arith)
 
 pub starts-turn : (all xs whole : List ℕ) (at k n : ℕ) → k < length xs → n ≡ get_or xs k 0 → all ++ starts_from at (drop k xs) ≡ whole → (all ++ at ∷ []) ++ starts_from (at + n) (drop (k + 1) xs) ≡ whole
 starts-turn all xs whole at k n l e h =
@@ -32,11 +26,11 @@ sum-turn xs at k n t l e h =
     omega arith
 
 pub starts-end : (all xs whole : List ℕ) (at k : ℕ) → length xs ≤ k → all ++ starts_from at (drop k xs) ≡ whole → all ≡ whole
-starts-end all xs whole at k l h = sym (append-nil all) ∙ ap (λ (ys : List ℕ). all ++ starts_from at ys) (sym (none-left xs k l)) ∙ h
+starts-end all xs whole at k l h = sym (append-nil all) ∙ ap (λ (ys : List ℕ). all ++ starts_from at ys) (sym (drop_all k xs l)) ∙ h
 
 pub sum-end : (xs : List ℕ) (at k t : ℕ) → length xs ≤ k → at + total (drop k xs) ≡ t → at ≡ t
 unfolding total
-sum-end xs at k t l h = let s : total (drop k xs) ≡ 0 = ap total (none-left xs k l) in omega arith
+sum-end xs at k t l h = let s : total (drop k xs) ≡ 0 = ap total (drop_all k xs l) in omega arith
 
 -- instruction k in a list of instructions
 pub insn-at : (xs : List Insn) (k : ℕ) (x : Insn) → k < length xs → x ≡ get_or xs k x → insn x ≡ insn_at (map insn xs) k

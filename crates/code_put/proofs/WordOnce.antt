@@ -9,20 +9,12 @@ use Rattle.code_insns.specs.Symbols.{ints_from}
 use Rattle.base_bytes.proofs.ListFacts.{by_half}
 use Rattle.base_bytes.proofs.SameFields.{same_word}
 use Rattle.code_put.proofs.IntLaws.{number-u32}
+use Rattle.std.proofs.lemmas.Grind.{same_number_lists}
 
 are_of : (b : List ℕ) → AllBytes b → AreBytes b
 are_of [] h i = omega arith
 are_of (x ∷ xs) h zero = h.0
 are_of (x ∷ xs) h (suc i) = are_of xs h.1 i
-
-pub same_bytes : (b c : List ℕ) → length b ≡ length c → ((i : ℕ) → i < length b → get_or b i 0 ≡ get_or c i 0) → b ≡ c
-same_bytes [] [] n h = refl
-same_bytes [] (y ∷ ys) n h = absurd (omega arith)
-same_bytes (x ∷ xs) [] n h = absurd (omega arith)
-same_bytes (x ∷ xs) (y ∷ ys) n h =
-    let here = h zero (omega arith) in
-    let rest = same_bytes xs ys (omega arith) (λ i lt. h (suc i) (omega arith)) in
-    (λ k. here k ∷ rest k)
 
 int_word : (b c : List ℕ) (i : ℕ) → AreBytes b → AreBytes c → int_at b i ≡ int_at c i → u32_at b (4 * i) ≡ u32_at c (4 * i)
 int_word b c i p q e =
@@ -49,7 +41,7 @@ unfolding symbols.ints
 ints_once b c p q m n e =
     let r = from_same b c 0 (length b / 4) (length c / 4) e in
     let l : length b ≡ length c = let s = r.0 in omega (arith, s, m, n) in
-    same_bytes b c l (λ i lt.
+    same_number_lists b c l (λ i lt.
     (let k = i / 4 in
     let j = i % 4 in
     let there : 4 * k + j ≡ i = omega arith in

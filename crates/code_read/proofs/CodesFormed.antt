@@ -14,10 +14,9 @@ use Rattle.dex_insn.specs.Raw.{Raw}
 use Rattle.dex_insn.specs.RawInsns.{InsnStands}
 use Rattle.dex_insn.proofs.Fits.{stands_fits}
 use Rattle.program_types.specs.Content.{Name, Catch, Insn, Try, Code}
-use Rattle.program_types.specs.Formed.{AreAlike, WantsPayload, wanted_by, insn_at, try_at, insn_wants, insn_reach, insn_branch, insn_targets, insn_leads, RefersToPayload, IsTarget, TargetHolds, PayloadHolds, TryFormed, RegistersHold, IsFormed}
+use Rattle.program_types.specs.Formed.{WantsPayload, wanted_by, insn_at, try_at, insn_wants, insn_reach, insn_branch, insn_targets, insn_leads, RefersToPayload, IsTarget, TargetHolds, PayloadHolds, TryFormed, RegistersHold, IsFormed}
 use Rattle.program_types.specs.Operands.{IsOperand}
 use Rattle.program_types.specs.Content as made
-use Rattle.program_types.specs.declared.payload.Payload.{Payload}
 use Rattle.program_types.specs.declared.payload.Payload.TheVariants as payload
 use Rattle.code_insns.specs.Stands.{NameStands}
 use Rattle.code_insns.specs.Places.{count_below, Rises}
@@ -35,18 +34,10 @@ use Rattle.code_read.proofs.HandlerReading.{SpellsCatchAll}
 use Rattle.code_read.proofs.ItemLaws.{begins_late}
 use Rattle.code_read.proofs.NamesHaveRows.{at-offset}
 use Rattle.code_read.proofs.SaidLaws.{raw-bytes, operand-said}
-use Rattle.base_bytes.proofs.ListFacts.{take_bytes}
-
-pub all-weaker : {A : Type 0} (P Q : A → Type 0) (xs : List A) → ((x : A) → P x → Q x) → AllByRecursion P xs → AllByRecursion Q xs
-all-weaker P Q [] f h = tt
-all-weaker P Q (x ∷ xs) f h = (f x h.0, all-weaker P Q xs f h.1)
+use Rattle.base_bytes.proofs.ListFacts.{take_bytes, all_weaker}
+use Rattle.code_insns.proofs.OperandLaws.{alike_itself}
 
 -- ---- instructions
-
-wants-any : (p : Payload) → AreAlike (Some p) (Some p)
-wants-any payload.PackedSwitch = tt
-wants-any payload.SparseSwitch = tt
-wants-any payload.Array = tt
 
 run-some : (us : List ℕ) (rs : List Raw) (e : ℕ) → Run us 0 rs e → 0 < e → 0 < length rs
 run-some us [] e h l = omega (arith, h, l)
@@ -60,9 +51,9 @@ leads-inside is k t p (made.I20t op to) e = ((subst (λ (i : Insn). IfSome (insn
 leads-inside is k t p (made.I30t op to) e = ((subst (λ (i : Insn). IfSome (insn_branch i) (IsTarget is)) e t.lands).inside, tt)
 leads-inside is k t p (made.I21t op a to) e = ((subst (λ (i : Insn). IfSome (insn_branch i) (IsTarget is)) e t.lands).inside, tt)
 leads-inside is k t p (made.I22t op a b to) e = ((subst (λ (i : Insn). IfSome (insn_branch i) (IsTarget is)) e t.lands).inside, tt)
-leads-inside is k t p (made.I31t op a to) e = ((subst (λ (i : Insn). WantsPayload (insn_wants i) → RefersToPayload is k (insn_reach i)) e p.refers (wants-any (wanted_by op))).payload, tt)
-leads-inside is k t p (made.Packed first to) e = all-weaker _ _ to (λ n h. h.inside) (subst (λ (i : Insn). AllByRecursion (IsTarget is) (insn_targets i)) e t.all)
-leads-inside is k t p (made.Sparse keys to) e = all-weaker _ _ to (λ n h. h.inside) (subst (λ (i : Insn). AllByRecursion (IsTarget is) (insn_targets i)) e t.all)
+leads-inside is k t p (made.I31t op a to) e = ((subst (λ (i : Insn). WantsPayload (insn_wants i) → RefersToPayload is k (insn_reach i)) e p.refers (alike_itself (wanted_by op))).payload, tt)
+leads-inside is k t p (made.Packed first to) e = all_weaker _ _ (λ n h. h.inside) to (subst (λ (i : Insn). AllByRecursion (IsTarget is) (insn_targets i)) e t.all)
+leads-inside is k t p (made.Sparse keys to) e = all_weaker _ _ (λ n h. h.inside) to (subst (λ (i : Insn). AllByRecursion (IsTarget is) (insn_targets i)) e t.all)
 leads-inside is k t p _ e = tt
 
 module _ (N : ℕ → Name → Type 0) (us : List ℕ) (rs : List Raw) (is : List Insn) (s : SpellsInsns N us rs is) where

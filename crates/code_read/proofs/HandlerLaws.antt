@@ -11,7 +11,7 @@ use Rattle.code_insns.specs.Places.{position}
 use Rattle.code_insns.specs.Symbols.{IsFunctional}
 use Rattle.dex_insn.specs.declared.opcode.IndexKind.TheVariants as kind
 use Rattle.code_read.specs.Handlers.{Handler, catches_of, AddressBy, TypeBy, CatchBy, AllBy, PartsBy, HandlerBy, ListBy, SpellsList}
-use Rattle.code_insns.proofs.InsnsOnce.{some-one}
+use Rattle.base_bytes.proofs.ListFacts.{some_one}
 
 desc_one : (s t : Descriptor) → OfDesc s ≡ OfDesc t → s ≡ t
 desc_one s t e = cc
@@ -32,7 +32,7 @@ handler_same p h g e f = let s : parts h ≡ parts g = sym e ∙ f in λ i. reco
 
 module _ (U : List ℕ → ℕ → Type 0) (S : List ℕ → ℤ → Type 0) (N : ℕ → Name → Type 0) (ss : List ℕ) (u : IsPrefixUnique U) (s : IsPrefixUnique S) (f : IsFunctional N) where
   pub place-unique : IsPrefixUnique (AddressBy U S N ss)
-  place-unique = Via-unique U (λ address n. position ss address ≡ Some n) u (λ a m n p q. some-one (position ss a) m n p q)
+  place-unique = Via-unique U (λ address n. position ss address ≡ Some n) u (λ a m n p q. some_one (position ss a) m n p q)
 
   pub type-unique : IsPrefixUnique (TypeBy U S N ss)
   type-unique = Via-unique U (λ i ty. N i (OfDesc ty)) u (λ i m n p q. desc_one m n (f kind.Type i (OfDesc m) (OfDesc n) tt tt p q))

@@ -22,6 +22,3 @@ pub mod TriesDecided
 pub mod TriesOnce
 pub mod TryLaws
 pub mod WalkDecided
--- What stands below, for the crates above.
-pub use Rattle.code_insns.proofs.PlainLaws
-pub use Rattle.tables_laws.proofs.FileLemmas

@@ -24,10 +24,10 @@ use Rattle.code_read.specs.HandlerViews.{handler}
 use Rattle.code_read.specs.declared.handlers.Caught.{Caught}
 
 -- the offsets, and the handlers
-abbrev offs : List (ℕ × Handler) → List ℕ
+abbrev pub offs : List (ℕ × Handler) → List ℕ
 offs ps = map (λ (p : ℕ × Handler). p.0) ps
 
-abbrev hans : List (ℕ × Handler) → List Handler
+abbrev pub hans : List (ℕ × Handler) → List Handler
 hans ps = map (λ (p : ℕ × Handler). p.1) ps
 
 found_case : (t : Bool) (ps : List (ℕ × Handler)) (q : Handler) (off k : ℕ) (h : Handler) → (if t then Some 0 else option_map (λ (n : ℕ). n + 1) (position (offs ps) off)) ≡ Some k → slice_get (q ∷ hans ps) k ≡ Some h
@@ -118,7 +118,8 @@ pub record SomeTaken (ss items offsets : List ℕ) (hs : List Handler) (ts : Lis
 pub taken-none : (ss items offsets : List ℕ) (hs : List Handler) (xs : List Held) → xs ≡ [] → SomeTaken ss items offsets hs (map try xs) 0
 taken-none ss items offsets hs xs e = record { count = ap (λ (l : List Held). length (map try l)) e; each = λ j l. absurd (omega arith) }
 
-abbrev no_try : Try
+-- past the end of a list
+abbrev pub no_try : Try
 no_try = record { from = 0; to = 0; catches = []; catch_all = None }
 
 pub taken-more : (ss items offsets : List ℕ) (hs : List Handler) (k : ℕ) (xs new : List Held) (x : Held) → SomeTaken ss items offsets hs (map try xs) k → TakesTry ss items offsets hs k (try x) → new ≡ xs ++ x ∷ [] → SomeTaken ss items offsets hs (map try new) (k + 1)

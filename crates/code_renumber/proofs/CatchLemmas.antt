@@ -19,6 +19,7 @@ use Rattle.code_renumber.specs.Fronts.{IsCatch, types_of}
 use Rattle.code_renumber.specs.Carried.{CarriedCatches, CarriedHandler}
 use Rattle.code_renumber.proofs.HandlerLemmas.{due_start, NextDue, due_end, no_catch, parts_from, catches_due}
 use Rattle.base_bytes.proofs.GrammarLaws.{Each-appends_none, Each-appends_more}
+use Rattle.base_bytes.proofs.ListFacts.{some_one}
 
 -- ---- catches, written
 
@@ -47,15 +48,12 @@ rank_next numbers n bytes x turn ty address after mid lt i =
     let r = type_carried (Carries (NameStands x.file) (NameRanks x.names) numbers) x.catches turn x.carried (omega (arith, lt, count)) ty i.type in
     record { number = r.0; at = r.1; stands = r.2 }
 
-some_same : (o : Option ℕ) (m n : ℕ) → o ≡ Some m → o ≡ Some n → m ≡ n
-some_same o m n p q = cc
-
 pub written_next : (b : List ℕ) (s : Five) (numbers : Columns) (ss old a m new left after : List ℕ) (turn ty address index : ℕ) (cs : List Catch) (rest : List ℕ) → turn < length cs → WrittenCatches b s ss old a left turn cs rest
     → (d : NextDue (SpellsCatch (NameStands b) ss) left turn cs no_catch rest) → IsCatch (NameStands b) ss ty address after (get_or cs turn no_catch) d.mid → RankNext numbers s ty (get_or cs turn no_catch)
     → slice_get (column_of numbers kind.Type) ty ≡ Some index → Appends (Shortest Spells) a m index → Appends (Shortest Spells) m new address → WrittenCatches b s ss old new after (turn + 1) cs rest
 written_next b s numbers ss old a m new left after turn ty address index cs rest lt w d i r at p q =
     let c = get_or cs turn no_catch in
-    let same : r.number ≡ index = some_same (slice_get (column_of numbers kind.Type) ty) r.number index r.at at in
+    let same : r.number ≡ index = some_one (slice_get (column_of numbers kind.Type) ty) r.number index r.at at in
     let place = via-appends (Shortest Spells) (λ address n. position ss address ≡ Some n) m new address c.at q i.place in
     let one = catch-appends (NameRanks s) ss a m new index c p (subst (λ (k : ℕ). NameRanks s k (OfDesc c.ty)) same r.stands) place in
     record {

@@ -1,7 +1,7 @@
 -- Catches and handlers at the front of bytes.
-use Rattle.std.proofs.Common.{◌≡◌, ℕ, ℤ, zero, suc, ◌+◌, ◌<◌, ◌≤◌, List, [], ◌∷◌, ◌++◌, length, take, drop, get_or, Option, Some, None, refl, sym, ap, subst, ◌∙◌, arith, append_assoc}
+use Rattle.std.proofs.Common.{◌≡◌, ℕ, ℤ, suc, ◌+◌, ◌<◌, ◌≤◌, List, [], ◌∷◌, ◌++◌, length, take, drop, get_or, Option, Some, None, refl, sym, ap, subst, ◌∙◌, arith, append_assoc}
 use Rattle.std.proofs.Math.Seq.{drop-cons}
-use Rattle.std.proofs.lemmas.List.{take_more, take_all, map-append}
+use Rattle.std.proofs.lemmas.List.{take_more, take_all, map-append, drop_all}
 use Rattle.base_bytes.specs.Grammar.{Takes, Each, Many}
 use Rattle.base_bytes.specs.Leb128.{Spells, SpellsSigned}
 use Rattle.base_bytes.proofs.Signed.{signed_unique}
@@ -84,18 +84,12 @@ module _ {V : Type 0} (G : List ℕ → V → Type 0) where
         more = (let e : suc turn ≡ turn + 1 = omega arith in subst (λ (k : ℕ). Takes (Each G) x.0 (drop k vs) rest) e x.2);
       }
 
-  drop_none : (vs : List V) (i : ℕ) → length vs ≤ i → drop i vs ≡ []
-  drop_none [] zero le = refl
-  drop_none [] (suc i) le = refl
-  drop_none (v ∷ vs) zero le = absurd (omega (arith, le))
-  drop_none (v ∷ vs) (suc i) le = drop_none vs i (omega (arith, le))
-
   none_left : (left rest : List ℕ) (vs : List V) → vs ≡ [] → Takes (Each G) left vs rest → left ≡ rest
   none_left left rest [] e t = t.whole ∙ ap (λ l. l ++ rest) t.spelled
   none_left left rest (v ∷ vs) e t = absurd cc
 
   pub due_end : (left : List ℕ) (turn : ℕ) (vs : List V) (rest : List ℕ) → length vs ≤ turn → Takes (Each G) left (drop turn vs) rest → left ≡ rest
-  due_end left turn vs rest le t = none_left left rest (drop turn vs) (drop_none vs turn le) t
+  due_end left turn vs rest le t = none_left left rest (drop turn vs) (drop_all turn vs le) t
 
 -- past the end of a list
 abbrev pub no_catch : Catch

@@ -1,5 +1,5 @@
 -- Handlers that are written once each, and try_items.
-use Rattle.std.proofs.Common.{◌≡◌, ℕ, zero, suc, ◌+◌, ◌-◌, ◌<◌, ◌≤◌, inl, inr, List, [], ◌∷◌, ◌++◌, length, drop, get_or, set, min, Some, sym, ap, subst, ◌∙◌, arith, append_assoc}
+use Rattle.std.proofs.Common.{◌≡◌, ℕ, ◌+◌, ◌-◌, ◌<◌, ◌≤◌, inl, inr, List, [], ◌∷◌, ◌++◌, length, drop, get_or, set, min, Some, sym, ap, subst, ◌∙◌, arith, append_assoc}
 use Rattle.std.specs.Prelude.{slice_get}
 use Rattle.std.specs.List.{AllByRecursion}
 use Rattle.std.proofs.lemmas.Bool.{cases_lt}
@@ -24,7 +24,9 @@ use Rattle.code_put.proofs.ListLaws.{all-from}
 use Rattle.code_renumber.specs.Carried.{CarriedHandler, CarriedTries}
 use Rattle.code_renumber.specs.Walks.{CarriedList, IsWrittenOf, AreKnown, CoversTry}
 use Rattle.code_renumber.proofs.ListLemmas.{all-part}
-use Rattle.code_renumber.proofs.TryLemmas.{taken_at, all_zero, no_try}
+use Rattle.code_renumber.proofs.TryLemmas.{taken_at, all_zero}
+use Rattle.base_bytes.proofs.ListFacts.{slice_left}
+use Rattle.code_read.proofs.TryLaws.{no_try}
 
 -- ---- with other indices
 
@@ -45,15 +47,10 @@ carried_at numbers i offsets some x j k lt at =
 pub known_none : (numbers : Columns) (bytes offsets known : List ℕ) (keys : List (List ℕ)) → ((k : ℕ) → get_or known k 0 ≡ 0) → AreKnown numbers bytes offsets known keys
 known_none numbers bytes offsets known keys z k l = absurd (all_zero known z k l)
 
-get_kept : (xs : List (List ℕ)) (x : List ℕ) (k : ℕ) (y : List ℕ) → slice_get xs k ≡ Some y → slice_get (xs ++ x ∷ []) k ≡ Some y
-get_kept [] x k y e = absurd cc
-get_kept (z ∷ xs) x zero y e = e
-get_kept (z ∷ xs) x (suc k) y e = get_kept xs x k y e
-
 still_held : (keys new : List (List ℕ)) (key : List ℕ) (n : ℕ) (k : ℕ) (y : List ℕ) → Numbers keys new key n → slice_get keys k ≡ Some y → slice_get new k ≡ Some y
 still_held keys new key n k y m e = elim m.is_new [
   | inl same ↦ subst (λ (ks : List (List ℕ)). slice_get ks k ≡ Some y) (sym same) e
-  | inr fresh ↦ subst (λ (ks : List (List ℕ)). slice_get ks k ≡ Some y) (sym fresh.1) (get_kept keys key k y e)
+  | inr fresh ↦ subst (λ (ks : List (List ℕ)). slice_get ks k ≡ Some y) (sym fresh.1) (slice_left keys (key ∷ []) k y e)
 ]
 
 -- one handler more is known

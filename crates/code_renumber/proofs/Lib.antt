@@ -18,7 +18,6 @@ pub mod LoweredLemmas
 pub mod CodeLemmas
 -- What stands below, for the crates above.
 pub use Rattle.code_read.proofs.CodesFormed
-pub use Rattle.code_put.proofs.DistinctLaws
 pub use Rattle.code_put.proofs.HandlerOnce
 pub use Rattle.code_put.proofs.LayoutOnce
 pub use Rattle.code_put.proofs.PackedLaws

@@ -16,6 +16,7 @@ use Rattle.code_read.proofs.ListReading.{ReadSome, offsets-rise}
 use Rattle.program_types.specs.Formed.{try_at}
 use Rattle.code_renumber.specs.Fronts.{AreListed}
 use Rattle.base_bytes.proofs.ListFacts.{all_front, all_back, number_one}
+use Rattle.code_read.proofs.TryLaws.{offs, hans}
 
 -- what holds of the parts of all holds of those of each
 pub all-part : {A B : Type 0} (P : B → Type 0) (f : A → List B) (xs : List A) (k : ℕ) (d : A) → AllByRecursion P (flat_map f xs) → k < length xs → AllByRecursion P (f (get_or xs k d))
@@ -23,13 +24,7 @@ all-part P f [] k d all l = absurd (omega (arith, l))
 all-part P f (x ∷ xs) zero d all l = all_front P (f x) (flat_map f xs) all
 all-part P f (x ∷ xs) (suc k) d all l = all-part P f xs k d (all_back P (f x) (flat_map f xs) all) (omega (arith, l))
 
--- the offsets, the handlers, and how many types each catches
-abbrev pub offs : List (ℕ × Handler) → List ℕ
-offs ps = map (λ (p : ℕ × Handler). p.0) ps
-
-abbrev pub hans : List (ℕ × Handler) → List Handler
-hans ps = map (λ (p : ℕ × Handler). p.1) ps
-
+-- how many types each catches
 abbrev pub counts : List (ℕ × Handler) → List ℕ
 counts ps = map (λ (p : ℕ × Handler). length p.1.catches) ps
 

@@ -1,11 +1,10 @@
 -- The instructions of a code, renumbered, are those that are written of it.
-use Rattle.std.proofs.Common.{◌≡◌, ℕ, ◌/◌, ◌<◌, List, length, map, sym, ap, subst, ◌∙◌, arith}
+use Rattle.std.proofs.Common.{◌≡◌, ℕ, ◌<◌, List, length, map, sym, ap, subst, ◌∙◌, arith}
 use Rattle.std.specs.List.{AllByRecursion, flat_map}
 use Rattle.std.proofs.lemmas.List.{length-map, get_or-map}
 use Rattle.base_bytes.specs.Fields.{AreBytes}
 use Rattle.dex_insn.specs.Raw as raw
 use Rattle.dex_insn.specs.Raw.{Raw}
-use Rattle.dex_insn.specs.RawInsns.{InsnStands}
 use Rattle.dex_insn.specs.Written.{IsRaw}
 use Rattle.dex_insn.specs.declared.opcode.IndexKind.{IndexKind}
 use Rattle.dex_insn.proofs.Fits.{stands_fits}
@@ -19,7 +18,7 @@ use Rattle.tables_numbers.specs.Marked.{Columns}
 use Rattle.tables_numbers.specs.Numbers.{Carries}
 use Rattle.code_insns.specs.Walk.{starts, raw_at, address}
 use Rattle.code_insns.specs.Linked.{lead, SpellsInsns}
-use Rattle.code_insns.proofs.Runs.{run-at}
+use Rattle.code_insns.proofs.Runs.{stands-at}
 use Rattle.code_insns.proofs.LinkLaws.{addresses-same, kind-linked}
 use Rattle.code_put.specs.Fits.{ShortFits}
 use Rattle.code_put.specs.Packs.{IsLowered, AreLowered}
@@ -31,10 +30,6 @@ use Rattle.code_renumber.proofs.NumberLemmas.{Carried, renumbered_says, can_renu
 
 module _ (N M : ℕ → Name → Type 0) (numbers : Columns) (us : List ℕ) (rs : List Raw) (is : List Insn) (s : SpellsInsns N us rs is) (are : AreBytes us)
     (carried : AllByRecursion (Carries N M numbers) (flat_map names_of_insn is)) where
-  stands-at : (k : ℕ) → k < length rs → InsnStands us (address rs k) (raw_at rs k)
-  unfolding raw_at
-  stands-at k l = run-at us 0 rs (length us / 2) k (raw.I10x 0) s.walk.run l
-
   carried-at : (k : ℕ) → k < length rs → Carried N M numbers (insn_at is k)
   carried-at k l = let n = s.linked.count in all-part (Carries N M numbers) names_of_insn is k (made.I10x 0) carried (omega (arith, l, n))
 
@@ -46,7 +41,7 @@ module _ (N M : ℕ → Name → Type 0) (numbers : Columns) (us : List ℕ) (rs
       let x = s.linked.each k l in
       let n = s.linked.count in
       record {
-        fits = stands_fits us (address rs k) (raw_at rs k) are (stands-at k l);
+        fits = stands_fits us (address rs k) (raw_at rs k) are (stands-at us rs s.walk k l);
         numbered = can_renumber N M numbers (lead (starts rs) (address rs x.origin)) (raw_at rs k) (insn_at is k) x.says (carried-at k l) (λ table. fits table k (omega (arith, l, n)));
       })
 
@@ -68,7 +63,7 @@ module _ (N M : ℕ → Name → Type 0) (numbers : Columns) (us : List ℕ) (rs
             size = renumbered_units numbers (raw_at rs k) ∙ units-at N us rs is s k l;
             kind = renumbered_payload numbers (raw_at rs k) ∙ sym (kind-linked _ _ (raw_at rs k)) ∙ ap insn_payload x.says.symbol;
           };
-          even = λ p. even-of us (address rs k) (raw_at rs k) (stands-at k l) (sym (renumbered_kind numbers (raw_at rs k)) ∙ p);
+          even = λ p. even-of us (address rs k) (raw_at rs k) (stands-at us rs s.walk k l) (sym (renumbered_kind numbers (raw_at rs k)) ∙ p);
         }
 
     pub lowered : AreLowered M is (addresses_of is) (map (renumbered numbers) rs)

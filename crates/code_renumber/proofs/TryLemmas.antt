@@ -1,5 +1,5 @@
 -- Tries, one by one.
-use Rattle.std.proofs.Common.{◌≡◌, ℕ, zero, suc, ◌+◌, ◌<◌, ◌≤◌, inl, inr, List, [], ◌∷◌, ◌++◌, length, take, drop, get_or, set, Some, None, refl, sym, ap, subst, ◌∙◌, arith, append_assoc, length-append}
+use Rattle.std.proofs.Common.{◌≡◌, ℕ, zero, suc, ◌+◌, ◌<◌, ◌≤◌, inl, inr, List, [], ◌∷◌, ◌++◌, length, take, drop, get_or, set, Some, refl, sym, ap, subst, ◌∙◌, arith, append_assoc, length-append}
 use Rattle.std.specs.Prelude.{replicate}
 use Rattle.std.specs.List.{AllByRecursion, flat_map}
 use Rattle.std.proofs.lemmas.Bool.{cases_lt}
@@ -25,11 +25,8 @@ use Rattle.code_put.proofs.DistinctLaws.{catches-more}
 use Rattle.code_renumber.specs.Fronts.{AreListed, types_of}
 use Rattle.code_renumber.specs.Walks.{MarksOnce}
 use Rattle.code_renumber.proofs.ListLemmas.{all-part, HandlerThere, handler_there}
-use Rattle.code_insns.proofs.InsnsOnce.{some-one}
-
--- past the end of a list
-abbrev pub no_try : Try
-no_try = record { from = 0; to = 0; catches = []; catch_all = None }
+use Rattle.code_read.proofs.TryLaws.{no_try}
+use Rattle.base_bytes.proofs.ListFacts.{some_one}
 
 -- a handler takes some byte
 pub handler_some : (N : ℕ → Name → Type 0) (ss bytes : List ℕ) (h : Handler) (rest : List ℕ) → Takes (SpellsHandler N ss) bytes h rest → 0 < length bytes
@@ -87,13 +84,13 @@ module _ (b : List ℕ) (ss : List ℕ) (size n : ℕ) (items bytes offsets catc
   pub taken_at : (i k : ℕ) → i < n → position offsets (try_handler items i) ≡ Some k → (after : List ℕ) × Takes (SpellsHandler (NameStands b) ss) (drop (get_or offsets k 0) bytes) (handler_of (try_at ts i)) after
   taken_at i k lt at =
       let h = there i lt in
-      let same : h.number ≡ k = some-one (position offsets (try_handler items i)) h.number k h.at at in
+      let same : h.number ≡ k = some_one (position offsets (try_handler items i)) h.number k h.at at in
       (h.after, subst (λ (m : ℕ). Takes (SpellsHandler (NameStands b) ss) (drop (get_or offsets m 0) bytes) (handler_of (try_at ts i)) h.after) same h.taken)
 
   pub count_there : (i k : ℕ) → i < n → position offsets (try_handler items i) ≡ Some k → get_or catches k 0 ≡ length (try_at ts i).catches
   count_there i k lt at =
       let h = there i lt in
-      let same : h.number ≡ k = some-one (position offsets (try_handler items i)) h.number k h.at at in
+      let same : h.number ≡ k = some_one (position offsets (try_handler items i)) h.number k h.at at in
       subst (λ (m : ℕ). get_or catches m 0 ≡ length (try_at ts i).catches) same h.count
 
   same_catches : (i j k : ℕ) → i < n → j < n → position offsets (try_handler items i) ≡ Some k → position offsets (try_handler items j) ≡ Some k → names_of_try (try_at ts j) ≡ names_of_try (try_at ts i)
@@ -102,7 +99,7 @@ module _ (b : List ℕ) (ss : List ℕ) (size n : ℕ) (items bytes offsets catc
       let x = (r.tries.each i lt).handler in
       let y = (r.tries.each j ltj).handler in
       let h : handler_of (try_at ts j) ≡ handler_of (try_at ts i) =
-      some-one (handler_at r.tries.handlers (try_handler items i)) (handler_of (try_at ts j)) (handler_of (try_at ts i)) (subst (λ (o : ℕ). handler_at r.tries.handlers o ≡ Some (handler_of (try_at ts j))) off y) x in
+      some_one (handler_at r.tries.handlers (try_handler items i)) (handler_of (try_at ts j)) (handler_of (try_at ts i)) (subst (λ (o : ℕ). handler_at r.tries.handlers o ≡ Some (handler_of (try_at ts j))) off y) x in
       ap (λ (g : Handler). types_of g.catches) h
 
   held_again : (i j k : ℕ) → i < n → j < i → position offsets (try_handler items i) ≡ Some k → position offsets (try_handler items j) ≡ Some k → (s : Five) → AllByRecursion (Holds (with_names s (flat_map names_of_try (take i ts)))) (names_of_try (try_at ts i))

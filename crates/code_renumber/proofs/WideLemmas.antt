@@ -1,5 +1,5 @@
 -- How many bytes a code takes at most, by its item.
-use Rattle.std.proofs.Common.{◌≡◌, ℕ, ◌+◌, ◌*◌, List, [], ◌∷◌, ◌++◌, length, refl, sym, ap, ◌∙◌, arith, append-nil}
+use Rattle.std.proofs.Common.{◌≡◌, ℕ, ◌+◌, ◌*◌, List, [], ◌++◌, length, sym, ap, ◌∙◌, arith, append-nil}
 use Rattle.std.specs.List.{flat_map}
 use Rattle.base_bytes.specs.Fields.{u16_bytes, u32_bytes}
 use Rattle.program_types.specs.Content.{Name, Try, Code}
@@ -11,10 +11,7 @@ use Rattle.code_put.specs.Packs.{head_bytes}
 use Rattle.code_renumber.specs.Carried.{head_of}
 use Rattle.code_renumber.specs.Fronts.{SpellsItem}
 use Rattle.code_renumber.proofs.UnitLemmas.{length-is}
-
-no_tries : (ts : List Try) → length ts ≡ 0 → ts ≡ []
-no_tries [] e = refl
-no_tries (t ∷ ts) e = absurd (omega (arith, e))
+use Rattle.std.proofs.lemmas.List.{nil_from_length}
 
 module _ (N : ℕ → Name → Type 0) (i : Item) (c : Code) (x : SpellsItem N i c) (units : length i.units.now ≡ 2 * i.size) where
   pub size_same : length_of c.insns ≡ i.size
@@ -26,12 +23,12 @@ module _ (N : ℕ → Name → Type 0) (i : Item) (c : Code) (x : SpellsItem N i
   -- without tries
   pub plain_names : i.tries ≡ 0 → flat_map names_of_insn c.insns ≡ names_of_code c
   plain_names none =
-      let e : c.tries ≡ [] = no_tries c.tries (count_same ∙ none) in
+      let e : c.tries ≡ [] = nil_from_length c.tries (count_same ∙ none) in
       sym (append-nil (flat_map names_of_insn c.insns)) ∙ ap (λ (ts : List Try). flat_map names_of_insn c.insns ++ flat_map names_of_try ts) (sym e)
 
   pub plain_wide : i.tries ≡ 0 → 26 + 2 * i.size ≡ wide_code c
   plain_wide none =
-      let e : c.tries ≡ [] = no_tries c.tries (count_same ∙ none) in
+      let e : c.tries ≡ [] = nil_from_length c.tries (count_same ∙ none) in
       let k : catches_in c.tries ≡ 0 = ap catches_in e in
       let s = size_same in
       let n = count_same in

@@ -1,5 +1,5 @@
 -- Instructions one after the other, with other indices.
-use Rattle.std.proofs.Common.{◌≡◌, ℕ, ◌+◌, ◌-◌, ◌*◌, ◌/◌, ◌<◌, ◌≤◌, List, [], ◌∷◌, ◌++◌, length, map, take, drop, refl, sym, ap, subst, ◌∙◌, arith, append_assoc, length-append, length-drop, take_all}
+use Rattle.std.proofs.Common.{◌≡◌, ℕ, ◌+◌, ◌-◌, ◌*◌, ◌/◌, ◌<◌, ◌≤◌, List, [], ◌∷◌, ◌++◌, length, map, take, drop, refl, sym, ap, subst, ◌∙◌, arith, append_assoc, length-append, length-drop}
 use borrow.Rule.Slice.PartMut.{put_mid}
 use Rattle.std.specs.List.{AllByRecursion}
 use Rattle.std.proofs.lemmas.List.{append-nil, drop-drop}
@@ -22,9 +22,6 @@ use Rattle.code_renumber.proofs.NumberLemmas.{renumbered_units}
 use Rattle.code_renumber.proofs.WalkLemmas.{run-meets, stands_next}
 
 -- ---- the units from one on
-
-pub rest_is : (k : ℕ) (xs : List ℕ) → take (length xs - k) (drop k xs) ≡ drop k xs
-rest_is k xs = take_all (length xs - k) (drop k xs) (omega (arith, length-drop k xs))
 
 pub put_back : (xs buf : List ℕ) (k : ℕ) → put_mid k (length xs - k) xs buf ≡ take k xs ++ buf
 put_back xs buf k =

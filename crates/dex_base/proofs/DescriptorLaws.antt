@@ -3,7 +3,7 @@ use Rattle.std.proofs.Common.{◌≡◌, ℕ, zero, suc, ◌+◌, ◌-◌, ◌<�
 use Rattle.std.proofs.Math.Seq.{take-add}
 use Rattle.std.proofs.lemmas.Bool.{cases_order}
 use Rattle.std.proofs.lemmas.List.{length-append, length-drop, take-append-drop, append_cancel_left, drop_more, drop-drop, get_or-drop, get_or-take, get_or-replicate, get_or-append_right, get_or_append_left, length-replicate, take_more, take_all, length-take-le, append-nil, drop_at}
-use Rattle.dex_base.specs.Descriptor.{IsSimpleName, Joins, IsClass, IsElement, IsFieldType, IsDescriptor, HasFront, NoFront, IsPrefixFree}
+use Rattle.dex_base.specs.Descriptor.{IsSimpleName, Joins, IsArray, IsClass, IsElement, IsFieldType, IsDescriptor, HasFront, NoFront, IsPrefixFree}
 use Rattle.dex_base.specs.Names.{IsRun, IsClassTail, IsDepth}
 use Rattle.dex_base.proofs.NameUnits.{element_not_open, primitive_not_class}
 use Rattle.dex_base.proofs.NameLaws.{none_at_stop, run_simple, run_whole}
@@ -180,3 +180,8 @@ class_by_head units (inr (suc n, el, small, p, e)) h = let f : ◌≡◌ {A = �
 
 pub class_is_descriptor : (units : List ℕ) → IsClass units → IsDescriptor units × (get_or units 0 0 ≡ 76)
 class_is_descriptor units c = (inr (0, units, omega arith, inr c, refl), ap (λ l. get_or l 0 0) c.2)
+
+-- what has methods, a class or an array, is a type
+pub owner_is_descriptor : (units : List ℕ) → IsClass units ⊎ IsArray units → IsDescriptor units
+owner_is_descriptor units (inl c) = (class_is_descriptor units c).0
+owner_is_descriptor units (inr a) = a.0

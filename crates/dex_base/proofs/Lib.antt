@@ -12,5 +12,6 @@ pub use Rattle.base_bytes.proofs.AdlerSums
 pub use Rattle.base_bytes.proofs.Deciding
 pub use Rattle.base_bytes.proofs.FieldBounds
 pub use Rattle.base_bytes.proofs.ListFacts
+pub use Rattle.base_bytes.proofs.OptionLaws
 pub use Rattle.base_bytes.proofs.OrderLaws
 pub use Rattle.base_bytes.proofs.TakesLaws

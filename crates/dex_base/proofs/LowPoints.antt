@@ -4,6 +4,7 @@ use Rattle.std.specs.Bool.{Decides}
 use Rattle.std.proofs.lemmas.Bool.Decides.{nat_tests}
 use Rattle.dex_base.specs.Descriptor.{IsNamePoint}
 use Rattle.dex_base.specs.declared.simple_name.TheConstants.{LOW_POINTS}
+use Rattle.std.proofs.lemmas.Bool.{and_parts}
 
 -- a letter, a digit, `$`, `-` or `_`
 abbrev pub is_low : ℕ → Bool
@@ -22,10 +23,6 @@ same-is false false e = refl
 same-is true false e = absurd (cc)
 same-is false true e = absurd (cc)
 
-pub both : (a b : Bool) → (a && b) ≡ true → (a ≡ true) × (b ≡ true)
-both true b e = (refl, e)
-both false b e = absurd (cc)
-
 -- each byte is `.` exactly if its place is no such character, from a place on
 abbrev says : ℕ → List ℕ → Bool
 says c [] = true
@@ -36,8 +33,8 @@ all_say = refl
 
 said : (c : ℕ) (bs : List ℕ) (i : ℕ) → says c bs ≡ true → i < length bs → not (nat_eq (get_or bs i 0) 46) ≡ is_low (i + c)
 said c [] i e lt = absurd (omega arith)
-said c (b ∷ bs) zero e lt = same-is (not (nat_eq b 46)) (is_low c) (both _ _ e).0 ∙ ap is_low (let at : c ≡ 0 + c = omega arith in at)
-said c (b ∷ bs) (suc i) e lt = said (suc c) bs i (both _ _ e).1 (omega arith) ∙ ap is_low (let at : i + suc c ≡ suc i + c = omega arith in at)
+said c (b ∷ bs) zero e lt = same-is (not (nat_eq b 46)) (is_low c) (and_parts _ _ e).0 ∙ ap is_low (let at : c ≡ 0 + c = omega arith in at)
+said c (b ∷ bs) (suc i) e lt = said (suc c) bs i (and_parts _ _ e).1 (omega arith) ∙ ap is_low (let at : i + suc c ≡ suc i + c = omega arith in at)
 
 pub low_points : (c : ℕ) → c < 128 → IsTrue (not (nat_eq (get_or LOW_POINTS c 0) 46)) ↔ IsNamePoint c
 low_points c lt = let d = is_low-decides c lt in subst (λ (b : Bool). IsTrue b ↔ IsNamePoint c) (sym (said 0 LOW_POINTS c all_say lt ∙ ap is_low (let at : c + 0 ≡ c = omega arith in at))) (d.0, d.1)

@@ -4,16 +4,9 @@ use Rattle.std.proofs.lemmas.Bool.{cases_lt}
 use Rattle.std.specs.List.{flat_map, All, AllByRecursion}
 use Rattle.dex_base.specs.Descriptor.{IsWithin, IsNamePoint, point_units, IsSimpleName, IsMemberName, Joins, IsClassName, IsClass, IsPrimitive, IsElement, IsFieldType, IsDescriptor, IsPrefixFree}
 use Rattle.dex_base.proofs.NameLaws.{units_one, units_two}
+use Rattle.base_bytes.proofs.ListFacts.{all_append, all_weaker}
 
 -- ---- all elements
-
-pub all_append : (P : ℕ → Type 0) (xs ys : List ℕ) → AllByRecursion P xs → AllByRecursion P ys → AllByRecursion P (xs ++ ys)
-all_append P [] ys p q = q
-all_append P (x ∷ xs) ys p q = (p.0, all_append P xs ys p.1 q)
-
-pub all_weaker : (P Q : ℕ → Type 0) → ((x : ℕ) → P x → Q x) → (xs : List ℕ) → AllByRecursion P xs → AllByRecursion Q xs
-all_weaker P Q f [] p = tt
-all_weaker P Q f (x ∷ xs) p = (f x p.0, all_weaker P Q f xs p.1)
 
 pub all_replicate : (P : ℕ → Type 0) (n x : ℕ) → P x → AllByRecursion P (replicate n x)
 all_replicate P zero x p = tt

@@ -5,13 +5,13 @@ use Rattle.std.proofs.lemmas.List.Sums.{sum_by-cons, sum_by_more}
 use Rattle.base_bytes.specs.Grammar.{IsPrefixUnique, Each, Counted}
 use Rattle.base_bytes.specs.Leb128.{Spells, Shortest}
 use Rattle.dex_base.specs.Mutf8.{unit_bytes, SpellsUnit, SpellsText, PacksText, mutf8_length}
-use Rattle.std.specs.List.{AllByRecursion}
 use Rattle.base_bytes.proofs.Numbers.{spells_unique}
 use Rattle.base_bytes.proofs.ShortestLaws.{AllBytes, shortest_one}
 use Rattle.dex_base.proofs.UnitLaws.{bytes_one, bytes_zero, bytes_two, bytes_three, unit_unique}
 use Rattle.base_bytes.proofs.GrammarLaws.{Counted-unique, Ended-unique}
 use Rattle.base_bytes.proofs.WeakerLaws.{Implies, Shortest-weaker, Counted-weaker, Ended-weaker}
 use Rattle.base_bytes.proofs.LengthLaws.{IsAtMost, Spells-most, Shortest-most, Counted-most, Ended-most}
+use Rattle.base_bytes.proofs.ListFacts.{all_front}
 
 pub text_unique : IsPrefixUnique SpellsText
 text_unique = Ended-unique (Counted Spells SpellsUnit) (Counted-unique Spells SpellsUnit spells_unique unit_unique)
@@ -65,10 +65,6 @@ each_same (u ∷ units) a b p q =
     let r = each_same units p.1 q.1 p.4 q.4 in
     let s = p.2 in let t = q.2 in
     cc
-
-all_front : (P : ℕ → Type 0) (xs ys : List ℕ) → AllByRecursion P (xs ++ ys) → AllByRecursion P xs
-all_front P [] ys p = tt
-all_front P (x ∷ xs) ys p = (p.0, all_front P xs ys p.1)
 
 -- the bytes of a written text are decided by its units
 pub packed_one : (a b units : List ℕ) → AllBytes a → AllBytes b → PacksText a units → PacksText b units → a ≡ b

@@ -1,5 +1,5 @@
 use Rattle.std.proofs.Common.{◌≡◌, ℕ, ◌+◌, ◌*◌, ◌/◌, ◌-◌, ◌<◌, ◌≤◌, zero, suc, List, ◌++◌, length, take, drop, refl, sym, ap, ◌∙◌, arith, lit≤, lit<, get_or-take, length-drop, length-take, length-append}
-use Rattle.std.proofs.lemmas.List.{take_all, take-take, drop-drop, drop_at, take_at, take-append-le}
+use Rattle.std.proofs.lemmas.List.{take-take, drop-drop, drop_at, take_at, take-append-le}
 use borrow.Rule.Slice.PartMut.{put_mid}
 use Rattle.dex_base.specs.Fields.{u32_bytes, u16_at, u32_at}
 use Rattle.dex_base.specs.Adler32.{adler32}
@@ -10,18 +10,15 @@ use Rattle.dex_base.proofs.FieldBounds.{u32_at-bytes, u32_at-append, length-u32_
 use Rattle.sha1.specs.Sha1.{sha1, digest_bytes, hash_after, padded_message}
 use Rattle.dex_container.specs.Frame.{HasChecksum, HasSignature, HasMagic, HasVersion}
 use Rattle.dex_container.specs.Closed.{with_signature, SetsSums}
+use Rattle.dex_base.proofs.ListFacts.{rest_is}
 
 -- the bytes before 8 stay, then the checksum of all after it
 unfoldable pub with_sums : List ℕ → List ℕ
 with_sums b = take 8 b ++ (u32_bytes (adler32 (with_signature b)) ++ with_signature b)
 
--- what `&xs[n..]` is
-pub tail_is : (xs : List ℕ) (n : ℕ) → take (length xs - n) (drop n xs) ≡ drop n xs
-tail_is xs n = take_all _ (drop n xs) (simp length-drop (omega arith))
-
 pub signed_by_parts : (b d : List ℕ) → d ≡ sha1 (take (length b - 32) (drop 32 b)) → put_mid 12 20 b d ≡ take 12 b ++ with_signature b
 unfolding with_signature
-signed_by_parts b d e = rw (e, tail_is b 32, drop-drop 20 12 b) refl
+signed_by_parts b d e = rw (e, rest_is 32 b, drop-drop 20 12 b) refl
 
 pub closed_by_parts : (b s : List ℕ) (n : ℕ) → 32 ≤ length b → s ≡ take 12 b ++ with_signature b → n ≡ adler32 (take (length s - 12) (drop 12 s))
     → take 8 s ++ (u32_bytes n ++ drop 12 s) ≡ with_sums b
@@ -31,7 +28,7 @@ closed_by_parts b s n long e sum =
     let back : drop 12 s ≡ with_signature b = rw e (drop_at (take 12 b) (with_signature b) 12 front) in
     let first : take 8 s ≡ take 8 b =
     rw e (take-append-le 8 (take 12 b) (with_signature b) (omega arith) ∙ take-take 8 12 b (lit≤ tt)) in
-    rw (sum, tail_is s 12, back, first) refl
+    rw (sum, rest_is 12 s, back, first) refl
 
 length-digest_bytes : (h : List ℕ) (n : ℕ) → length (digest_bytes h n) ≡ n * 4
 unfolding digest_bytes

@@ -27,7 +27,7 @@ fn map_is_placed(bytes: &[u8]) -> bool
     place + 4 + 12 * u64::from(entry_count(bytes)) <= end
 }
 
-/// The first entry of a kind, if there is one.
+/// An entry of a kind, if there is one.
 pub fn find_kind(bytes: &[u8], kind: u16) -> Option<usize>
     requires map { MapIsReadable bytes.now }
     ensures { MatchOption result (¬ HasKind bytes.now kind) (λ i. (i < entry_count bytes.now) × (kind_at bytes.now i ≡ kind)) }

@@ -17,7 +17,6 @@ pub use Rattle.dex_base.proofs.Deciding
 pub use Rattle.dex_base.proofs.ListFacts
 pub use Rattle.dex_base.proofs.OrderLaws
 pub use Rattle.dex_base.proofs.DescriptorLaws
-pub use Rattle.dex_base.proofs.LowPoints
 pub use Rattle.dex_base.proofs.NameLaws
 pub use Rattle.dex_base.proofs.NameUnits
 pub use Rattle.dex_base.proofs.NamesDecided

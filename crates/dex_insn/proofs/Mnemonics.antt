@@ -3,7 +3,7 @@ use Rattle.std.proofs.Common.{◌≡◌, ◌≢◌, ℕ, zero, suc, ◌+◌, Boo
 use Rattle.std.proofs.lemmas.Bool.Decides.{nat_tests}
 use Rattle.dex_insn.specs.Mnemonics.{mnemonics, IsNamed}
 use Rattle.dex_insn.specs.Named.{candidate}
-use Rattle.dex_base.proofs.LowPoints.{both}
+use Rattle.std.proofs.lemmas.Bool.{and_parts}
 
 -- each text, the first of which is row n, has the slot of its row
 abbrev slots_hold : ℕ → List (List ℕ) → Bool
@@ -21,9 +21,9 @@ equal a b e = grind (arith, nat_tests)
 row : (n : ℕ) (ts : List (List ℕ)) (i : ℕ) (t : List ℕ) → slots_hold n ts ≡ true → t ≢ [] → get_or ts i [] ≡ t → candidate t ≡ n + i
 row n [] i t e some is = absurd (some (sym is))
 row n ([] ∷ ts) zero t e some is = absurd (some (sym is))
-row n ((c ∷ cs) ∷ ts) zero t e some is = rw (← is) (equal (candidate (c ∷ cs)) n (both _ _ e).0 ∙ omega arith)
+row n ((c ∷ cs) ∷ ts) zero t e some is = rw (← is) (equal (candidate (c ∷ cs)) n (and_parts _ _ e).0 ∙ omega arith)
 row n ([] ∷ ts) (suc i) t e some is = row (n + 1) ts i t e some is ∙ omega arith
-row n ((c ∷ cs) ∷ ts) (suc i) t e some is = row (n + 1) ts i t (both _ _ e).1 some is ∙ omega arith
+row n ((c ∷ cs) ∷ ts) (suc i) t e some is = row (n + 1) ts i t (and_parts _ _ e).1 some is ∙ omega arith
 
 -- the opcode of a mnemonic is in its slot
 pub named_slot : (op : ℕ) (text : List ℕ) → IsNamed op text → candidate text ≡ op

@@ -5,7 +5,7 @@ use Rattle.dex_insn.specs.Opcodes.{formats, index_kinds, format_of, index_kind_o
 use Rattle.dex_insn.specs.Mnemonics.{mnemonics, mnemonic_of, IsNamed, is_mnemonic_byte}
 use Rattle.dex_insn.specs.declared.opcode.Format.{Format}
 use Rattle.dex_insn.specs.declared.opcode.IndexKind.{IndexKind}
-use Rattle.dex_base.proofs.LowPoints.{both}
+use Rattle.std.proofs.lemmas.Bool.{and_parts}
 
 abbrev same_bool : Bool → Bool → Bool
 same_bool true true = true
@@ -33,8 +33,8 @@ row-agrees [] ks i f e is = absurd (cc)
 row-agrees (g ∷ fs) [] i f e is = absurd (cc)
 row-agrees (None ∷ fs) (k ∷ ks) zero f e is = absurd (cc)
 row-agrees (None ∷ fs) (k ∷ ks) (suc i) f e is = row-agrees fs ks i f e is
-row-agrees (Some g ∷ fs) (k ∷ ks) zero f e is = let h = same-is (format_has_index g) (names_table k) (both _ _ e).0 in let s : g ≡ f = cc in rw (← s) h
-row-agrees (Some g ∷ fs) (k ∷ ks) (suc i) f e is = row-agrees fs ks i f (both _ _ e).1 is
+row-agrees (Some g ∷ fs) (k ∷ ks) zero f e is = let h = same-is (format_has_index g) (names_table k) (and_parts _ _ e).0 in let s : g ≡ f = cc in rw (← s) h
+row-agrees (Some g ∷ fs) (k ∷ ks) (suc i) f e is = row-agrees fs ks i f (and_parts _ _ e).1 is
 
 -- the index kind of an opcode names a table exactly if its format has an index
 pub kind_agrees : (op : ℕ) (f : Format) → format_of op ≡ Some f → format_has_index f ≡ names_table (index_kind_of op)
@@ -92,8 +92,8 @@ all_plain = refl
 
 row-plain : (ts : List (List ℕ)) (i : ℕ) → list_all (list_all is_mnemonic_byte) ts ≡ true → list_all is_mnemonic_byte (get_or ts i []) ≡ true
 row-plain [] i e = refl
-row-plain (t ∷ ts) zero e = (both _ _ e).0
-row-plain (t ∷ ts) (suc i) e = row-plain ts i (both _ _ e).1
+row-plain (t ∷ ts) zero e = (and_parts _ _ e).0
+row-plain (t ∷ ts) (suc i) e = row-plain ts i (and_parts _ _ e).1
 
 -- a mnemonic has lower-case letters, digits, `-` and `/` alone
 pub mnemonic_plain : (op : ℕ) → list_all is_mnemonic_byte (mnemonic_of op) ≡ true

@@ -1,15 +1,14 @@
 -- What writing appends.
-use Rattle.std.proofs.Common.{◌≡◌, ℕ, ◌+◌, ◌^◌, ◌<◌, ◌≤◌, List, [], ◌∷◌, ◌++◌, length, take, drop, get_or, map, refl, sym, ap, subst, ◌∙◌, append_assoc, arith, add-one, Result, Ok, Err, OnErr}
-use Rattle.std.proofs.Math.Seq.{drop-cons}
+use Rattle.std.proofs.Common.{◌≡◌, ℕ, ◌+◌, ◌^◌, ◌<◌, ◌≤◌, List, [], ◌∷◌, ◌++◌, length, take, get_or, map, refl, sym, ap, subst, ◌∙◌, append_assoc, arith, Result, Ok, Err, OnErr}
 use Rattle.std.proofs.lemmas.List.{length-append, length-map, map-append, take_more}
 use Rattle.base_bytes.specs.Grammar.{Appends, Each}
 use Rattle.base_bytes.specs.Leb128.{Spells, Shortest}
 use Rattle.base_bytes.proofs.GrammarLaws.{Each-appends_more}
-use Rattle.program_types.specs.Content.{Name, OfText, OfDesc, OfField, OfMethod, FieldRef, Value, Float, Enum, Array, Values, more_values, values}
+use Rattle.program_types.specs.Content.{Name, OfField, FieldRef, Value, Float, Enum, Array, Values, more_values, values}
 use Rattle.program_types.specs.declared.value.Value as made
 use Rattle.program_types.specs.View.{value}
 use Rattle.tables_names.specs.Closure.{Five, AreRising, NameRanks}
-use Rattle.tables_names.proofs.PlaceLemmas.{rank_at}
+use Rattle.tables_names.proofs.PlaceLemmas.{rank_one}
 use Rattle.dex_value.specs.Spelling.{unsigned_of, SpellsValue, SpellsArray, count_of}
 use Rattle.program_types.specs.Mentions.{NamesHold, AllNamesHold}
 use Rattle.dex_value.specs.Named.{IsRanked}
@@ -17,15 +16,9 @@ use Rattle.dex_value.specs.Counts.{CountsFit, AllCountsFit}
 use Rattle.dex_value.specs.Wide.{wide_value, wide_values}
 use Rattle.dex_value.specs.Writing.{UnsignedAs, HighAs, IndexAs, HoldsMore}
 use Rattle.dex_value.proofs.Lists.{count_of-values, each-values, values-each}
+use Rattle.program_types.proofs.Nesting.{from, from_next}
 
 -- ---- one value
-
--- a name has one rank
-one_rank : (s : Five) (i j : ℕ) (which : Name) → AreRising s → NameRanks s i which → NameRanks s j which → i ≡ j
-one_rank s i j (OfText t) r p q = sym (rank_at s.strings i _ r.strings p) ∙ rank_at s.strings j _ r.strings q
-one_rank s i j (OfDesc t) r p q = sym (rank_at s.types i _ r.types p) ∙ rank_at s.types j _ r.types q
-one_rank s i j (OfField t) r p q = sym (rank_at s.fields i _ r.fields p) ∙ rank_at s.fields j _ r.fields q
-one_rank s i j (OfMethod t) r p q = sym (rank_at s.methods i _ r.methods p) ∙ rank_at s.methods j _ r.methods q
 
 -- the shortest spelling of its rank is that of a name
 pub index_appends : (s : Five) (code i : ℕ) (which : Name) (old new : List ℕ) → AreRising s → NameRanks s i which → Appends (Shortest (UnsignedAs code 4)) old new i → Appends (Shortest (IndexAs (NameRanks s) code)) old new which
@@ -37,7 +30,7 @@ index_appends s code i which old new rise n a =
       spelled = record {
         spelled = record { low = p.low; some = p.some; few = p.few; bytes = p.bytes; joined = p.joined; means = subst (λ (j : ℕ). NameRanks s j which) p.means n };
         least = λ other o. a.spelled.least other
-            (record { low = o.low; some = o.some; few = o.few; bytes = o.bytes; joined = o.joined; means = one_rank s i (unsigned_of o.low) which rise n o.means });
+            (record { low = o.low; some = o.some; few = o.few; bytes = o.bytes; joined = o.joined; means = rank_one s i (unsigned_of o.low) which rise n o.means });
       };
     }
 
@@ -48,13 +41,6 @@ pub enum_appends : (N : ℕ → Name → Type 0) (f : FieldRef) (old new : List 
 enum_appends N f old new a = record { bytes = a.bytes; joined = a.joined; spelled = record { spelled = a.spelled.spelled; least = a.spelled.least } }
 
 -- ---- values
-
--- the values from a place on
-abbrev pub from : List made.Value → ℕ → Values
-from xs i = values (map value (drop i xs))
-
-pub from_next : (xs : List made.Value) (i : ℕ) (d : made.Value) → i < length xs → from xs i ≡ more_values (value (get_or xs i d)) (from xs (i + 1))
-from_next xs i d some = rw (add-one, drop-cons xs i d some) refl
 
 -- the values before a place are written, and those from it on can be
 pub record Writing (s : Five) (old out : List ℕ) (xs : List made.Value) (i : ℕ) : Type 0 where

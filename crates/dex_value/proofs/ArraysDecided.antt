@@ -24,8 +24,8 @@ use Rattle.dex_value.specs.Reading.{ValueStands}
 use Rattle.dex_value.proofs.Taking.{takes_sized, takes_alone, takes_array, takes_static, takes_deep, takes_many, own_breaks}
 use Rattle.base_bytes.specs.Fields.{AreBytes}
 use Rattle.dex_value.specs.FileArrays.{ArrayIsDecided}
-use Rattle.tables_rows.proofs.HalvesLaws.{drop_are}
 use Rattle.base_bytes.proofs.ListFacts.{take_bytes}
+use Rattle.base_bytes.proofs.FieldBounds.{drop-AreBytes}
 
 -- ---- bytes
 
@@ -246,7 +246,7 @@ file_names b hold i t is = elim (cases_eq t 23) [
 inside : (b : List ℕ) → AreBytes b → IsFramed b → TablesHold b → (off most : ℕ) (s : HasSection b 0x2005) → s.begin ≤ off → off < s.end → ArrayIsDecided b off most
 inside b are framed hold off most s low high =
     let bytes = take (s.end - off) (drop off b) in
-    elim (array_decided (NameStands b) (file_names b hold) off s.end most bytes (take_bytes (s.end - off) (drop off b) (drop_are off b are))) [
+    elim (array_decided (NameStands b) (file_names b hold) off s.end most bytes (take_bytes (s.end - off) (drop off b) (drop-AreBytes b off are))) [
       | inl x ↦
           let few = x.5 in let n = x.6 in
           inl (

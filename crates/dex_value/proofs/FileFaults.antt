@@ -1,5 +1,5 @@
 -- A fault stands exactly where no array does; and the names in an array that stands have rows.
-use Rattle.std.proofs.Common.{ℕ, inl, inr, List, [], ◌∷◌, ◌++◌, ◌-◌, take, drop, sym, subst}
+use Rattle.std.proofs.Common.{ℕ, inl, inr, List, [], ◌∷◌, ◌-◌, take, drop, sym, subst}
 use Rattle.std.specs.List.{AllByRecursion, flat_map}
 use Rattle.base_bytes.specs.declared.fault.Fault.{Fault}
 use Rattle.base_bytes.specs.Grammar.{Takes, Each}
@@ -18,6 +18,7 @@ use Rattle.dex_value.proofs.Refusing.{array_none}
 use Rattle.base_bytes.specs.Fields.{AreBytes}
 use Rattle.dex_value.proofs.Carrying.{NameStands-functional}
 use Rattle.dex_value.proofs.ArraysDecided.{arrays_are_decided}
+use Rattle.base_bytes.proofs.ListFacts.{all_append}
 
 pub stands_without_fault : (b : List ℕ) → IsFramed b → (off most : ℕ) (vs : List Value) → ArrayStands (NameStands b) b off most vs → (e : Fault) → ArrayBreaksAt (NameStands b) b off most e → ⊥
 stands_without_fault b framed off most vs a e (inl u) = outside_none (NameStands b) b off most vs u.0 a
@@ -32,10 +33,6 @@ pub stands_where_no_fault : (b : List ℕ) → AreBytes b → IsFramed b → Tab
 stands_where_no_fault b are framed hold off most none = elim (arrays_are_decided b are framed hold off most) [ inl x ↦ x | inr f ↦ absurd (none f.0 f.1) ]
 
 -- ---- names
-
-all_append : (P : Name → Type 0) (xs ys : List Name) → AllByRecursion P xs → AllByRecursion P ys → AllByRecursion P (xs ++ ys)
-all_append P [] ys p q = q
-all_append P (x ∷ xs) ys p q = (p.0, all_append P xs ys p.1 q)
 
 module _ (N : ℕ → Name → Type 0) where
   -- an index stands for the name

@@ -13,8 +13,9 @@ use Rattle.dex_value.specs.Standing.{Shallow}
 use Rattle.dex_value.specs.Unique.{IsFunctionalByType}
 use Rattle.dex_value.specs.Faults.{IsNameOfType}
 use Rattle.dex_value.specs.Reading.{ValueStands}
-use Rattle.dex_value.proofs.Lists.{listed, values-listed, length-listed, each-listed}
+use Rattle.dex_value.proofs.Lists.{length-listed, each-listed}
 use Rattle.dex_value.proofs.Fronts.{SizedFront, ArrayFront, LoneFront, BareNull, BareFalse, BareTrue, Front, front}
+use Rattle.program_types.proofs.Nesting.{listed, values-listed}
 
 -- ---- one value of bytes after a head
 

@@ -14,7 +14,6 @@ pub mod NumberOnce
 pub mod OneFault
 pub mod Places
 pub mod Ranges
-pub mod RankOnce
 pub mod Refusing
 pub mod Taking
 pub mod Weaker

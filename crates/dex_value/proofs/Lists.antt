@@ -6,15 +6,7 @@ use Rattle.program_types.specs.Content.{Name, Value, Values, no_values, more_val
 use Rattle.program_types.specs.Depth.{depth, greatest_depth}
 use Rattle.dex_value.specs.Spelling.{SpellsValue, SpellsValues, count_of}
 use Rattle.dex_value.specs.Standing.{Shallow}
-
--- as a list
-abbrev pub listed : Values → List Value
-listed no_values = []
-listed (more_values v vs) = v ∷ listed vs
-
-pub values-listed : (vs : Values) → values (listed vs) ≡ vs
-values-listed no_values = refl
-values-listed (more_values v vs) = ap (more_values v) (values-listed vs)
+use Rattle.program_types.proofs.Nesting.{listed}
 
 pub length-listed : (vs : Values) → length (listed vs) ≡ count_of vs
 length-listed no_values = refl

@@ -15,9 +15,10 @@ use Rattle.dex_value.specs.Standing.{Shallow}
 use Rattle.dex_value.specs.Unique.{IsFunctionalByType}
 use Rattle.dex_value.specs.Faults.{widest_of, IsSizedHead, IsLoneHead, IsUnknown, IsTooDeep, IsEnded, IsCut, HasNoCount, IsNameOfType, NamesNothing, OwnBreaks, NextBreaks, InsideBreaks, ValueBreaks, ArrayBreaks}
 use Rattle.dex_value.specs.Reading.{ValueStands}
-use Rattle.dex_value.proofs.Lists.{listed, each-shallow}
+use Rattle.dex_value.proofs.Lists.{each-shallow}
 use Rattle.dex_value.proofs.Fronts.{SizedFront, ArrayFront, Front, front}
 use Rattle.dex_value.proofs.FrontLaws.{cons_head, first_of_lone, sized_not_array, array_depth, array_each, shallow_unique}
+use Rattle.program_types.proofs.Nesting.{listed}
 
 -- the first byte of a front
 first_is : (bytes front after ra rest : List ℕ) (h k : ℕ) → front ≡ h ∷ ra → bytes ≡ front ++ after → bytes ≡ k ∷ rest → (h ≡ k) × (ra ++ after ≡ rest)

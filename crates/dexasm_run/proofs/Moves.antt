@@ -4,14 +4,6 @@ use Rattle.std.specs.Io.KnownBytes.{Appends, Consumes}
 use Rattle.std.proofs.Math.Seq.{take-add}
 use Rattle.std.proofs.lemmas.Bool.Decides.{nat_tests}
 
-pub Consumes-trans : (a b c : Option (List ℕ)) (front rest : List ℕ) → Consumes a b front
-    → Consumes b c rest → Consumes a c (front ++ rest)
-Consumes-trans None b c front rest p q = tt
-Consumes-trans (Some x) None c front rest p q = absurd p
-Consumes-trans (Some x) (Some y) None front rest p q = absurd q
-Consumes-trans (Some x) (Some y) (Some z) front rest p q =
-    p ∙ ap (λ l. front ++ l) q ∙ sym (append_assoc front rest z)
-
 -- the front of a list was written, and then n more
 pub Appends-more : (a b c : Option (List ℕ)) (all : List ℕ) (done n : ℕ) → Appends a b (take done all)
     → Appends b c (take n (drop done all)) → Appends a c (take (done + n) all)

@@ -21,10 +21,6 @@ either false P d = inr (λ p. let e = d.1 p in cc)
 pub same_place_or_not : (p q : Path) → (p ≡ q) ⊎ (p ≢ q)
 same_place_or_not p q = either (bytes_eq p q) (p ≡ q) (bytes_eq-Decides p q)
 
-pub not_true : (b : Bool) → (b ≡ true → ⊥) → b ≡ false
-not_true true h = absurd (h refl)
-not_true false h = refl
-
 pub true_or : (b : Bool) (A : Type 0) → (b ≡ false → A) → (b ≡ true) ⊎ A
 true_or true A h = inl refl
 true_or false A h = inr (h refl)

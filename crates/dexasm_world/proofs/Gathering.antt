@@ -1,18 +1,12 @@
 -- Two reads in a row.
 use Rattle.std.specs.Prelude.{Result, Vec}
 use Rattle.std.specs.Global.{Global}
-use Rattle.std.proofs.Common.{Ok, Err, inr, ◌≡◌, ℕ, List, ◌++◌, Option, None, Some, take, sym, ap, ◌∙◌, append_assoc, append-nil, subst}
+use Rattle.std.proofs.Common.{Ok, Err, inr, ◌≡◌, ℕ, List, ◌++◌, Option, None, Some, take, sym, ap, ◌∙◌, append-nil, subst}
 use Rattle.std.specs.Io.KnownBytes.{Consumes, IsAtEnd}
 use Rattle.dexasm_world.specs.State.{Path, Files, place_of}
 use Rattle.dexasm_world.specs.Looks.{Gives, IsHeld, IsBarredAt, CantBeRead, ReadsFile, ReadsRest}
 use Rattle.dexasm_world.specs.declared.world.Refusal.{Refusal}
 use Rattle.dexasm_world.proofs.Failing.{refused_by}
-
-pub consumes_on : (a b c : Option (List ℕ)) (front rest : List ℕ) → Consumes a b front → Consumes b c rest → Consumes a c (front ++ rest)
-consumes_on None b c front rest p q = tt
-consumes_on (Some x) None c front rest p q = absurd p
-consumes_on (Some x) (Some y) None front rest p q = absurd q
-consumes_on (Some x) (Some y) (Some z) front rest p q = p ∙ ap (λ l. front ++ l) q ∙ sym (append_assoc front rest z)
 
 -- a read of nothing after the bytes given
 pub consumes_none : (a b c : Option (List ℕ)) (given piece : List ℕ) (n : ℕ) → n ≡ 0 → Consumes a b given → Consumes b c (take n piece) → Consumes a c given

@@ -7,9 +7,9 @@ use Rattle.code_align.proofs.PadLaws.{aligned-one}
 use Rattle.file_align.specs.Programs.{Pairwise, AlignedBody, AlignedMethod, AlignedClass, AlignedProgram, IsShort, IsTooLong}
 use Rattle.file_align.proofs.WellLaws.{codes_turned, program_formed}
 use Rattle.program_code_rules.proofs.OperandLaws.{formed_operands}
-use Rattle.program_rules.proofs.AllLaws.{all-turned}
 use Rattle.program_rules.specs.Rules.{CodesHold}
 use Rattle.program_rules.specs.WellFormed.{WellFormed}
+use Rattle.base_bytes.proofs.ListFacts.{all_weaker}
 
 pairs_one : {A : Type 0} (R : A → A → Type 0) → ((x y z : A) → R x y → R x z → y ≡ z) → (xs ys zs : List A) → Pairwise R xs ys → Pairwise R xs zs → ys ≡ zs
 pairs_one R one [] [] [] p q = refl
@@ -48,4 +48,4 @@ program_aligned_one p q r x y = pairs_one AlignedClass class_one p q r x y
 
 pub too_long_unformed : (p q : Program) (fault : Fault) → IsTooLong p fault → AlignedProgram p q → WellFormed q → ⊥
 too_long_unformed p q fault long aligned well =
-    long.each q aligned (all-turned (CodesHold IsFormed) (CodesHold IsShort) (codes_turned IsShort (λ c f. (formed_operands c f).few)) q (program_formed q well))
+    long.each q aligned (all_weaker (CodesHold IsFormed) (CodesHold IsShort) (codes_turned IsShort (λ c f. (formed_operands c f).few)) q (program_formed q well))

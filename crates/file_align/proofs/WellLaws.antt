@@ -16,7 +16,8 @@ use Rattle.program_rules.specs.WellFormed.{WellFormed}
 use Rattle.program_rules.specs.Rules.{NamesAreValid, KeysRise, MembersRise, AreDistinct, OrderHolds, ValuesFit, CodesHold, ClassHolds, member_key, method_key}
 use Rattle.program_rules.specs.Valid.{IsValidName}
 use Rattle.program_rules.proofs.FormedLaws.{class_formed}
-use Rattle.program_rules.proofs.AllLaws.{all-turned}
+use Rattle.base_bytes.proofs.ListFacts.{all_weaker}
+use Rattle.std.proofs.lemmas.Option.{IfSome_then}
 
 -- ---- bodies that keep the rules are well formed, and the other way round
 
@@ -32,14 +33,10 @@ pub program_formed : (p : Program) → WellFormed p → AllByRecursion (CodesHol
 program_formed p w =
     classes_formed p (λ i c e r. let h = w.rules i c e in class_formed c h.operands h.targets h.payloads h.tries h.registers r) w.ranges
 
-some_turned : (P Q : Code → Type 0) → ((c : Code) → P c → Q c) → (o : Option Code) → IfSome o P → IfSome o Q
-some_turned P Q h None a = tt
-some_turned P Q h (Some c) a = h c a
-
 pub codes_turned : (Q : Code → Type 0) → ((c : Code) → IsFormed c → Q c) → (c : Class) → CodesHold IsFormed c → CodesHold Q c
 codes_turned Q h c f = record {
-  directs = all-turned (λ (m : Method). IfSome m.code IsFormed) (λ (m : Method). IfSome m.code Q) (λ m a. some_turned IsFormed Q h m.code a) c.directs f.directs;
-  virtuals = all-turned (λ (m : Method). IfSome m.code IsFormed) (λ (m : Method). IfSome m.code Q) (λ m a. some_turned IsFormed Q h m.code a) c.virtuals f.virtuals;
+  directs = all_weaker (λ (m : Method). IfSome m.code IsFormed) (λ (m : Method). IfSome m.code Q) (λ m a. IfSome_then m.code {P = IsFormed} {Q = Q} a h) c.directs f.directs;
+  virtuals = all_weaker (λ (m : Method). IfSome m.code IsFormed) (λ (m : Method). IfSome m.code Q) (λ m a. IfSome_then m.code {P = IsFormed} {Q = Q} a h) c.virtuals f.virtuals;
 }
 
 -- ---- ranges

@@ -2,7 +2,6 @@
 use Rattle.std.proofs.Common.{◌≡◌, ℕ, zero, suc, List, [], ◌∷◌, ◌++◌, refl, Option, Some}
 use Rattle.std.specs.Prelude.{IfSome}
 use Rattle.std.specs.List.{AllByRecursion, flat_map, slice_get}
-use Rattle.file_sections.proofs.DistinctLaws.{all-get}
 use Rattle.file_sections.specs.file_limits_Wide.{bodies_in, bodies_of, body_values}
 use Rattle.program_types.specs.Content.{Class, Code, Method, Program}
 use Rattle.program_types.specs.Formed.{IsFormed}
@@ -10,6 +9,7 @@ use Rattle.program_rules.specs.Ranges.{ClassInRange}
 use Rattle.program_rules.specs.Rules.{CodesHold}
 use Rattle.program_rules.specs.WellFormed.{WellFormed}
 use Rattle.program_rules.proofs.FormedLaws.{class_formed}
+use Rattle.base_bytes.proofs.ListFacts.{all_get}
 
 abbrev AreFormed : List (Option Code) → Type 0
 AreFormed bodies = AllByRecursion (λ (o : Option Code). IfSome o IsFormed) bodies
@@ -31,5 +31,5 @@ all_formed (c ∷ p) h =
 
 pub bodies_formed : (p : Program) → WellFormed p → (n : ℕ) (o : Option Code) → slice_get (body_values p) n ≡ Some o → IfSome o IsFormed
 bodies_formed p w n o e =
-    all-get (λ (x : Option Code). IfSome x IsFormed) (body_values p) n o
-    (all_formed p (λ i c at. (let k = w.rules i c at in class_formed c k.operands k.targets k.payloads k.tries k.registers (all-get ClassInRange p i c w.ranges at)))) e
+    all_get (λ (x : Option Code). IfSome x IsFormed) (body_values p) n o
+    (all_formed p (λ i c at. (let k = w.rules i c at in class_formed c k.operands k.targets k.payloads k.tries k.registers (all_get ClassInRange p i c w.ranges at)))) e

@@ -10,9 +10,7 @@ pub mod FileOnce
 pub use Rattle.file_sections.proofs.Carrying
 pub use Rattle.file_sections.proofs.FrontLaws
 pub use Rattle.file_sections.proofs.code_read_CodeLaws as CodeLaws
-pub use Rattle.file_sections.proofs.DistinctLaws
 pub use Rattle.file_sections.proofs.PackedLaws
-pub use Rattle.file_sections.proofs.RankLaws
 pub use Rattle.file_sections.proofs.EntryLaws
 pub use Rattle.file_sections.proofs.MemberLaws
 pub use Rattle.file_sections.proofs.OnceLaws as file_classes_OnceLaws

@@ -4,7 +4,6 @@ use Rattle.std.specs.Prelude.{IfSome}
 use Rattle.std.specs.List.{AllByRecursion, flat_map, slice_get}
 use Rattle.std.specs.Option.{option_to_list}
 use Rattle.file_sections.specs.Fits.{FitsCode}
-use Rattle.file_sections.proofs.DistinctLaws.{all-get}
 use Rattle.file_layout.specs.Sections.{wide_all}
 use Rattle.file_sections.specs.Limits.{Fits, BodyIsReady, method_code, codes_in, codes_of}
 use Rattle.file_sections.specs.file_limits_Wide.{bodies_in, bodies_of, wide_body}
@@ -21,20 +20,15 @@ use Rattle.program_rules.proofs.FormedLaws.{class_formed}
 use Rattle.file_sections.specs.Named.{BodyCanBePut, FewNames}
 use Rattle.file_assemble.proofs.FitsLaws.{Room, back_small, class_small, few_of, front_small}
 use Rattle.file_assemble.proofs.NamedLaws.{all_below, class_ranked, types_short}
-use Rattle.base_bytes.proofs.ListFacts.{all_append, all_back, all_front}
+use Rattle.base_bytes.proofs.ListFacts.{all_append, all_back, all_front, all_get}
 
--- what is said of a body in a method
-pub record KeepsAll (s : Five) (c : Code) : Type 0 where
-  pub formed : IsFormed c
-  pub ranked : AllByRecursion (HasIndex (NameRanks s)) (names_of_code c)
-
-body_kept : (s : Five) (o : Option Code) → IfSome o IsFormed → AllByRecursion (HasIndex (NameRanks s)) (if_any names_of_code o) → IfSome o (KeepsAll s)
+body_kept : (s : Five) (o : Option Code) → IfSome o IsFormed → AllByRecursion (HasIndex (NameRanks s)) (if_any names_of_code o) → IfSome o (BodyIsReady s)
 body_kept s None f n = tt
 body_kept s (Some code) f n = record { formed = f; ranked = n }
 
 -- all bodies of methods
 abbrev pub MethodsKeep : Five → List Method → Type 0
-MethodsKeep s ms = AllByRecursion (λ (m : Method). IfSome m.code (KeepsAll s)) ms
+MethodsKeep s ms = AllByRecursion (λ (m : Method). IfSome m.code (BodyIsReady s)) ms
 
 methods_keep : (s : Five) (class : Descriptor) (ms : List Method) → AllByRecursion (λ (m : Method). IfSome m.code IsFormed) ms
     → AllByRecursion (HasIndex (NameRanks s)) (flat_map (names_of_method class) ms) → MethodsKeep s ms
@@ -52,7 +46,7 @@ class_keeps : (s : Five) (p : Program) (i : ℕ) (c : Class) → s ≡ needed p 
 class_keeps s p i c e w at =
     let named = class_ranked s p i c e at in
     let k = w.rules i c at in
-    let formed = class_formed c k.operands k.targets k.payloads k.tries k.registers (all-get ClassInRange p i c w.ranges at) in
+    let formed = class_formed c k.operands k.targets k.payloads k.tries k.registers (all_get ClassInRange p i c w.ranges at) in
     record {
       directs = methods_keep s c.ty c.directs formed.directs (directs_kept (HasIndex (NameRanks s)) c named);
       virtuals = methods_keep s c.ty c.virtuals formed.virtuals (virtuals_kept (HasIndex (NameRanks s)) c named);
@@ -60,9 +54,9 @@ class_keeps s p i c e w at =
 
 -- ---- ready for the limits
 
-one_ready : (s : Five) (o : Option Code) → IfSome o (KeepsAll s) → AllByRecursion (BodyIsReady s) (option_to_list o)
+one_ready : (s : Five) (o : Option Code) → IfSome o (BodyIsReady s) → AllByRecursion (BodyIsReady s) (option_to_list o)
 one_ready s None h = tt
-one_ready s (Some c) h = (record { formed = h.formed; ranked = h.ranked }, tt)
+one_ready s (Some c) h = (h, tt)
 
 all_ready : (s : Five) (ms : List Method) → MethodsKeep s ms → AllByRecursion (BodyIsReady s) (codes_in ms)
 all_ready s [] h = tt
@@ -75,7 +69,7 @@ class_ready s p i c e w at =
 
 -- ---- ready to be written
 
-one_can : (s : Five) → FewNames s → length s.types ≤ 65535 → (o : Option Code) → IfSome o (KeepsAll s) → AllByRecursion (FitsCode (NameRanks s)) (option_to_list o) → wide_body o ≤ 4294967295 → BodyCanBePut s o
+one_can : (s : Five) → FewNames s → length s.types ≤ 65535 → (o : Option Code) → IfSome o (BodyIsReady s) → AllByRecursion (FitsCode (NameRanks s)) (option_to_list o) → wide_body o ≤ 4294967295 → BodyCanBePut s o
 one_can s few types None k f small = tt
 one_can s few types (Some c) k f small = record {
   formed = k.formed;

@@ -1,14 +1,12 @@
 -- Class rows, their interfaces and their order.
-use Rattle.std.proofs.Common.{◌≡◌, ◌≢◌, ℕ, zero, suc, ◌+◌, ◌*◌, ◌/◌, ◌<◌, ◌≤◌, inl, inr, List, [], ◌∷◌, length, map, get_or, Option, Some, None, option_map, sym, ap, ◌∙◌, subst, arith, slice_get}
+use Rattle.std.proofs.Common.{◌≡◌, ◌≢◌, ℕ, ◌+◌, ◌*◌, ◌/◌, ◌<◌, ◌≤◌, inl, inr, List, length, Option, Some, None, sym, ap, ◌∙◌, subst, arith, slice_get}
 use Rattle.std.specs.List.{AllByRecursion}
 use Rattle.std.proofs.lemmas.Bool.{cases_lt}
-use Rattle.std.proofs.lemmas.Option.{slice_get_within, slice_get-get_or, slice_get-map}
+use Rattle.std.proofs.lemmas.Option.{slice_get_within}
 use Rattle.dex_base.specs.Descriptor.{IsClass}
 use Rattle.dex_container.specs.Frame.{IsFramed}
 use Rattle.dex_container.specs.Layout.{size_of}
 use Rattle.program_types.specs.Content.{Units}
-use Rattle.program_types.specs.View.{desc}
-use Rattle.program_types.specs.declared.names.Desc.{Desc}
 use Rattle.tables_rows.specs.Names.{AreRows}
 use Rattle.tables_rows.specs.Stands.{TypesAt}
 use Rattle.tables_rows.proofs.TypeLists.{types_one}
@@ -30,16 +28,6 @@ row_missing S b k i names rows none = elim (cases_lt i (length names)) [
     differ x e = cc
 
 -- ---- interfaces
-
--- what holds of all holds of each
-pub all_at : (P : Units → Type 0) (ts : List Units) (k : ℕ) (t : Units) → AllByRecursion P ts → slice_get ts k ≡ Some t → P t
-all_at P [] k t all at = absurd cc
-all_at P (u ∷ us) zero t all at = let e : u ≡ t = cc in subst P e all.0
-all_at P (u ∷ us) (suc k) t all at = all_at P us k t all.1 at
-
--- a type in memory, by its number
-pub type_there : (xs : List Desc) (k : ℕ) (d : Desc) → k < length xs → slice_get (map desc xs) k ≡ Some (desc (get_or xs k d))
-type_there xs k d lt = slice_get-map desc xs k ∙ ap (option_map desc) (slice_get-get_or xs k d lt)
 
 same_some : {A : Type 0} (x y : A) → ◌≡◌ {A = Option A} (Some x) (Some y) → x ≡ y
 same_some x y e = cc

@@ -25,7 +25,6 @@ pub use Rattle.dex_value.proofs.Lengths
 pub use Rattle.dex_value.proofs.Narrow
 pub use Rattle.dex_value.proofs.Places
 pub use Rattle.dex_value.proofs.Ranges
-pub use Rattle.code_read.proofs.PlainLaws
 pub use Rattle.code_read.proofs.CarryLaws
 pub use Rattle.code_read.proofs.CodeLaws
 pub use Rattle.code_read.proofs.CodesDecided

@@ -13,6 +13,7 @@ use Rattle.tables_rows.proofs.HalvesLaws.{list_or_none_one}
 use Rattle.tables_rows.proofs.TypeLists.{indexes_of}
 use Rattle.file_classes.specs.Classes.{RowIs, InterfacesAt}
 use Rattle.file_classes.specs.Places.{ArePlaces, TypesHaveRows}
+use Rattle.std.proofs.lemmas.List.{length-set}
 
 abbrev zero_list : ℕ → List ℕ
 zero_list m = replicate m 0
@@ -21,11 +22,6 @@ zero_at : (m t : ℕ) → get_or (zero_list m) t 0 ≡ 0
 zero_at zero t = refl
 zero_at (suc m) zero = refl
 zero_at (suc m) (suc t) = zero_at m t
-
-set_size : (xs : List ℕ) (i y : ℕ) → length (set xs i y) ≡ length xs
-set_size [] i y = refl
-set_size (x ∷ xs) zero y = refl
-set_size (x ∷ xs) (suc i) y = ap suc (set_size xs i y)
 
 set_other : (xs : List ℕ) (i j y : ℕ) → j ≢ i → get_or (set xs i y) j 0 ≡ get_or xs j 0
 set_other [] i j y not = refl
@@ -78,8 +74,8 @@ module _ (b : List ℕ) where
     places_first first new p =
         let size = p.firsts in
         record {
-          firsts = set_size first ty (n + 1) ∙ p.firsts;
-          lasts = set_size last ty (n + 1) ∙ p.lasts;
+          firsts = length-set first ty (n + 1) ∙ p.firsts;
+          lasts = length-set last ty (n + 1) ∙ p.lasts;
           none = λ t lt zero_at. elim (cases_eq t ty) [
             | inl e ↦ let here = get_or-set_at first ty t (n + 1) 0 e (omega (arith, size, in_table)) in absurd (omega (arith, here, zero_at))
             | inr not ↦ let here = set_other first ty t (n + 1) not in none_more b 0 n t (λ x. not (sym x ∙ sym is)) (p.none t lt (omega (arith, here, zero_at)))
@@ -98,7 +94,7 @@ module _ (b : List ℕ) where
     pub places_again : (first : List ℕ) → get_or first ty 0 ≢ 0 → ArePlaces b n first last → ArePlaces b (n + 1) first (set last ty (n + 1))
     places_again first old p = record {
       firsts = p.firsts;
-      lasts = set_size last ty (n + 1) ∙ p.lasts;
+      lasts = length-set last ty (n + 1) ∙ p.lasts;
       none = λ t lt zero_at. elim (cases_eq t ty) [
         | inl e ↦ absurd (old (ap (λ (x : ℕ). get_or first x 0) (sym e) ∙ zero_at))
         | inr not ↦ none_more b 0 n t (λ x. not (sym x ∙ sym is)) (p.none t lt zero_at)

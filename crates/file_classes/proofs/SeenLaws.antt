@@ -8,7 +8,7 @@ use Rattle.program_types.specs.View.{desc}
 use Rattle.program_types.specs.declared.names.Desc.{Desc}
 use Rattle.file_classes.specs.Classes.{NoTypeTwice}
 use Rattle.file_classes.specs.Reading.{IsNotAmong}
-use Rattle.file_classes.proofs.HeadLaws.{type_there}
+use Rattle.base_bytes.proofs.ListFacts.{map_at}
 
 module _ (eq : Desc → Desc → Bool) (decides : (x y : Desc) → Decides (eq x y) (desc x ≡ desc y)) where
   -- what is found stands at a place
@@ -36,10 +36,10 @@ module _ (eq : Desc → Desc → Bool) (decides : (x y : Desc) → Decides (eq x
   pub new_type : (types ks : List Desc) (n : ℕ) (d : Desc) → ks ≡ take n types → n < length types → list_any (eq (get_or types n d)) ks ≡ false → IsNotAmong (map desc types) n n
   new_type types ks n d are lt free j t less at_j at_n =
       let l : length ks ≡ n = ap length are ∙ length-take-le n types (omega arith) in
-      let held : slice_get (map desc ks) j ≡ Some (desc (get_or ks j d)) = type_there ks j d (omega arith) in
+      let held : slice_get (map desc ks) j ≡ Some (desc (get_or ks j d)) = map_at desc ks j d (omega arith) in
       let same : get_or ks j d ≡ get_or types j d = ap (λ z. get_or z j d) are ∙ get_or-take n types j d less in
-      let there : slice_get (map desc types) j ≡ Some (desc (get_or types j d)) = type_there types j d (omega arith) in
-      let last : slice_get (map desc types) n ≡ Some (desc (get_or types n d)) = type_there types n d lt in
+      let there : slice_get (map desc types) j ≡ Some (desc (get_or types j d)) = map_at desc types j d (omega arith) in
+      let last : slice_get (map desc types) n ≡ Some (desc (get_or types n d)) = map_at desc types n d lt in
       none (get_or types n d) ks free j (held ∙ ap (λ z. Some (desc z)) same ∙ sym there ∙ at_j ∙ sym at_n ∙ last)
 
   pub old_type : (types ks : List Desc) (n : ℕ) (d : Desc) → ks ≡ take n types → n < length types → list_any (eq (get_or types n d)) ks ≡ true → NoTypeTwice (map desc types) → ⊥
@@ -47,10 +47,10 @@ module _ (eq : Desc → Desc → Bool) (decides : (x y : Desc) → Decides (eq x
       let p = found (get_or types n d) ks held in
       let l : length ks ≡ n = ap length are ∙ length-take-le n types (omega arith) in
       let less : p.0 < n = omega (arith, l, p.1) in
-      let here : slice_get (map desc ks) p.0 ≡ Some (desc (get_or ks p.0 d)) = type_there ks p.0 d p.1 in
+      let here : slice_get (map desc ks) p.0 ≡ Some (desc (get_or ks p.0 d)) = map_at desc ks p.0 d p.1 in
       let same : get_or ks p.0 d ≡ get_or types p.0 d = ap (λ z. get_or z p.0 d) are ∙ get_or-take n types p.0 d less in
-      let there : slice_get (map desc types) p.0 ≡ Some (desc (get_or types p.0 d)) = type_there types p.0 d (omega (arith, less, lt)) in
-      let last : slice_get (map desc types) n ≡ Some (desc (get_or types n d)) = type_there types n d lt in
+      let there : slice_get (map desc types) p.0 ≡ Some (desc (get_or types p.0 d)) = map_at desc types p.0 d (omega (arith, less, lt)) in
+      let last : slice_get (map desc types) n ≡ Some (desc (get_or types n d)) = map_at desc types n d lt in
       let one : p.0 ≡ n = distinct p.0 n (desc (get_or types n d)) (there ∙ ap (λ z. Some (desc z)) (sym same) ∙ sym here ∙ p.2) last in
       omega (arith, one, less)
 

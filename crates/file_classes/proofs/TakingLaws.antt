@@ -10,18 +10,10 @@ use Rattle.dex_container.proofs.Standing.{at_place, stands_at, stands_not, mod_o
 use Rattle.base_bytes.specs.Grammar.{NoneBegins, Takes, IsPrefixUnique, Then, Pair, Each, Many}
 use Rattle.base_bytes.specs.Leb128.{Spells}
 use Rattle.base_bytes.proofs.GrammarLaws.{Then-none_first, Many-none, Many-unique}
-use Rattle.base_bytes.proofs.TakesLaws.{Begins-from_takes, Takes-unique, Takes-then, Then-takes, NoneBegins-from_takes, Takes-each_push}
+use Rattle.base_bytes.proofs.TakesLaws.{Begins-from_takes, Takes-then, Takes-each_push}
 use Rattle.file_classes.specs.ClassData.{FieldEntry, MethodEntry, Entries, counts_of, lists_of, SpellsFieldEntry, SpellsMethodEntry, SpellsCounts, SpellsLists, SpellsEntries, no_entries, EntriesAt}
 use Rattle.file_classes.proofs.EntryLaws.{at_some, field_unique, method_unique, counts_unique}
-
--- after a front that is known stands nothing of the second
-pub then_none : {V W : Type 0} (G : List ℕ → V → Type 0) (H : V → List ℕ → W → Type 0) → IsPrefixUnique G → (bytes mid : List ℕ) (v : V) → Takes G bytes v mid → NoneBegins (H v) mid → NoneBegins (Then G H) bytes
-then_none {V} {W} G H one bytes mid v t none =
-    NoneBegins-from_takes (Then G H) bytes (λ p rest u.
-    let s = Then-takes G H bytes rest p u in
-    let same = Takes-unique G bytes v p.0 mid s.0 one t s.1 in
-    let back = s.2 in
-    none back.front rest p.1 (same.1 ∙ back.whole) (subst (λ (x : V). H x back.front p.1) (sym same.0) back.spelled))
+use Rattle.base_bytes.proofs.ViaLaws.{second-none}
 
 -- ---- so many of one kind
 
@@ -66,7 +58,7 @@ module _ (bytes : List ℕ) where
 
   module _ (n : ℕ × (ℕ × (ℕ × ℕ))) (lists : List ℕ) (counted : Takes (SpellsCounts Spells) bytes n lists) where
     none_lists : NoneBegins (SpellsLists Spells n) lists → NoneBegins (SpellsEntries Spells) bytes
-    none_lists none = none_whole (then_none (SpellsCounts Spells) (SpellsLists Spells) counts_unique bytes lists n counted none)
+    none_lists none = none_whole (second-none (SpellsCounts Spells) (SpellsLists Spells) bytes lists n counts_unique counted none)
 
     abbrev Third : List ℕ → List MethodEntry × List MethodEntry → Type 0
     Third = Pair (Methods n.1.1.0) (Methods n.1.1.1)
@@ -79,21 +71,21 @@ module _ (bytes : List ℕ) where
 
     module _ (statics : List FieldEntry) (second : List ℕ) (one : Takes (Fields n.0) lists statics second) where
       after_first : NoneBegins Second second → NoneBegins (SpellsEntries Spells) bytes
-      after_first none = none_lists (then_none (Fields n.0) (λ (_ : List FieldEntry). Second) (fields_unique n.0) lists second statics one none)
+      after_first none = none_lists (second-none (Fields n.0) (λ (_ : List FieldEntry). Second) lists second statics (fields_unique n.0) one none)
 
       pub none_second : NoneBegins (Fields n.1.0) second → NoneBegins (SpellsEntries Spells) bytes
       none_second none = after_first (Then-none_first (Fields n.1.0) (λ (_ : List FieldEntry). Third) second none)
 
       module _ (instances : List FieldEntry) (third : List ℕ) (two : Takes (Fields n.1.0) second instances third) where
         after_second : NoneBegins Third third → NoneBegins (SpellsEntries Spells) bytes
-        after_second none = after_first (then_none (Fields n.1.0) (λ (_ : List FieldEntry). Third) (fields_unique n.1.0) second third instances two none)
+        after_second none = after_first (second-none (Fields n.1.0) (λ (_ : List FieldEntry). Third) second third instances (fields_unique n.1.0) two none)
 
         pub none_third : NoneBegins (Methods n.1.1.0) third → NoneBegins (SpellsEntries Spells) bytes
         none_third none = after_second (Then-none_first (Methods n.1.1.0) (λ (_ : List MethodEntry). Methods n.1.1.1) third none)
 
         module _ (directs : List MethodEntry) (fourth : List ℕ) (three : Takes (Methods n.1.1.0) third directs fourth) where
           pub none_fourth : NoneBegins (Methods n.1.1.1) fourth → NoneBegins (SpellsEntries Spells) bytes
-          none_fourth none = after_second (then_none (Methods n.1.1.0) (λ (_ : List MethodEntry). Methods n.1.1.1) (methods_unique n.1.1.0) third fourth directs three none)
+          none_fourth none = after_second (second-none (Methods n.1.1.0) (λ (_ : List MethodEntry). Methods n.1.1.1) third fourth directs (methods_unique n.1.1.0) three none)
 
           pub entries_taken : (virtuals : List MethodEntry) (rest : List ℕ) → Takes (Methods n.1.1.1) fourth virtuals rest
               → Takes (SpellsEntries Spells) bytes (record { statics = statics; instances = instances; directs = directs; virtuals = virtuals }) rest

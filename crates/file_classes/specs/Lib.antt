@@ -13,7 +13,6 @@ pub use Rattle.dex_value.specs.Standing
 pub use Rattle.dex_value.specs.Unique
 pub use Rattle.dex_value.specs.Wide
 pub use Rattle.dex_value.specs.Writing
-pub use Rattle.code_read.specs.Symbols
 pub use Rattle.code_read.specs.Code
 pub use Rattle.code_read.specs.Faults
 pub use Rattle.code_read.specs.Handlers

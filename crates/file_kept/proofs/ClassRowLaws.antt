@@ -24,6 +24,8 @@ use Rattle.file_kept.specs.Keeping.{Keeps}
 use Rattle.file_kept.specs.Names.{StringOrNone, TypeOrNone}
 use Rattle.file_kept.specs.ClassRow.{IsRowWithPlaces}
 use Rattle.file_kept.proofs.KeepLaws.{few_types, few_strings, carried, class_holds}
+use Rattle.base_bytes.proofs.ListFacts.{some_inj}
+use Rattle.file_parts.proofs.EntryLaws.{entry_at}
 
 -- ---- a name that may be none
 
@@ -45,20 +47,17 @@ pub string_within : (b : List ℕ) (numbers : Columns) (s : Five) (index : ℕ) 
 string_within b numbers s index None e x = absurd (e x.stands)
 string_within b numbers s index (Some t) e x = let r = x.carried t refl index x.stands.1 in slice_get_within numbers.strings index r.0 r.1
 
-pub same : (a b : ℕ) → Some a ≡ Some b → a ≡ b
-same a b e = cc
-
 pub some_type : (b : List ℕ) (numbers : Columns) (s : Five) (index number : ℕ) (name : Option Units) → index ≢ no_index → TypeOrNone b numbers s index name → slice_get numbers.types index ≡ Some number → IndexOrNone (TypeRanks s) number name
 some_type b numbers s index number None e x at = absurd (e x.stands)
 some_type b numbers s index number (Some t) e x at =
     let r = x.carried t refl index x.stands.1 in
-    rank_or_none s.types number t x.few (subst (λ (n : ℕ). IsAt s.types n (text_key t)) (same r.0 number (sym r.1 ∙ at)) r.2)
+    rank_or_none s.types number t x.few (subst (λ (n : ℕ). IsAt s.types n (text_key t)) (some_inj r.0 number (sym r.1 ∙ at)) r.2)
 
 pub some_string : (b : List ℕ) (numbers : Columns) (s : Five) (index number : ℕ) (name : Option Units) → index ≢ no_index → StringOrNone b numbers s index name → slice_get numbers.strings index ≡ Some number → IndexOrNone (StringRanks s) number name
 some_string b numbers s index number None e x at = absurd (e x.stands)
 some_string b numbers s index number (Some t) e x at =
     let r = x.carried t refl index x.stands.1 in
-    rank_or_none s.strings number t x.few (subst (λ (n : ℕ). IsAt s.strings n (text_key t)) (same r.0 number (sym r.1 ∙ at)) r.2)
+    rank_or_none s.strings number t x.few (subst (λ (n : ℕ). IsAt s.strings n (text_key t)) (some_inj r.0 number (sym r.1 ∙ at)) r.2)
 
 -- ---- the names of a class's row
 
@@ -76,7 +75,7 @@ module _ (b : List ℕ) (numbers : Columns) (p : Program) (k : Keeps b numbers p
   pub class_number : (number : ℕ) → slice_get numbers.types (class_word b i 0) ≡ Some number → IsAt (needed p).types number (text_key c.ty)
   class_number number there =
       let r = carried b numbers p k (OfDesc c.ty) (type_named (Holds (needed p)) c names).0 (class_word b i 0) (k.classes.each i c at).head.row.named in
-      subst (λ (n : ℕ). IsAt (needed p).types n (text_key c.ty)) (same r.0 number (sym r.1 ∙ there)) r.2
+      subst (λ (n : ℕ). IsAt (needed p).types n (text_key c.ty)) (some_inj r.0 number (sym r.1 ∙ there)) r.2
 
   pub class_within : class_word b i 0 < length numbers.types
   class_within =
@@ -133,15 +132,10 @@ seated_at (d ∷ p) lists datas arrays (suc i) c n at =
     seated_at p (all_but_first lists) (all_but_first datas) (all_but_first arrays) i c n at
     ∙ rw (others_of lists i, others_of datas i, others_of arrays i) refl
 
-pub class_at : (p : Program) (i : ℕ) → i < length p → (c : Class) × (slice_get p i ≡ Some c)
-class_at [] i lt = absurd (omega (arith, lt))
-class_at (c ∷ p) zero lt = (c, refl)
-class_at (c ∷ p) (suc i) lt = class_at p i (omega (arith, lt))
-
 pub seated_next : (p : Program) (old mid new : List ℕ) (lists datas arrays : List ℕ) (i : ℕ) → i < length p → Appends (Each (SpellsClassRow (needed p))) old mid (take i (with_places p lists datas arrays))
     → IsRowWithPlaces p i (get_or lists i 0) (get_or datas i 0) (get_or arrays i 0) mid new → Appends (Each (SpellsClassRow (needed p))) old new (take (i + 1) (with_places p lists datas arrays))
 seated_next p old mid new lists datas arrays i lt rows row =
-    let c = class_at p i lt in
+    let c = entry_at p i lt in
     let all : List ClassWithPlaces = with_places p lists datas arrays in
     let n : ClassWithPlaces = record { class = c.0; list = 0; class_data = 0; array = 0 } in
     let many = length-seated p lists datas arrays in

@@ -22,7 +22,6 @@ use Rattle.file_layout.specs.Sections.{wide_all}
 use Rattle.file_parts.specs.file_limits_Wide.{bodies_in, bodies_of, body_values, wide_body}
 use Rattle.file_parts.proofs.SumLaws.{wide_all_append}
 use Rattle.file_needed.proofs.ClassNames.{directs_kept, virtuals_kept}
-use Rattle.file_needed.proofs.Steps.{left, right}
 use Rattle.program_types.specs.Content.{Class, Code, Descriptor, Method, Name, OfDesc, OfField, OfMethod, OfText, Program}
 use Rattle.program_types.specs.Mentions.{if_any, names_of_code, names_of_method}
 use Rattle.tables_names.specs.Closure.{Five, Holds, NameRanks}
@@ -37,8 +36,8 @@ use Rattle.file_kept.proofs.KeepLaws.{carried, class_holds, number_is}
 use Rattle.file_kept.proofs.FarLaws.{pairs}
 use Rattle.file_least.proofs.RowsFrom.{ranked_holds}
 use Rattle.tables_numbers.proofs.ColumnLemmas.{before_few}
-use Rattle.base_bytes.proofs.ListFacts.{some_inj}
-use Rattle.file_kept.proofs.ClassRowLaws.{class_at}
+use Rattle.base_bytes.proofs.ListFacts.{some_inj, all_front, all_back}
+use Rattle.file_parts.proofs.EntryLaws.{entry_at, list_same}
 
 -- ---- no number is above its row
 
@@ -104,8 +103,8 @@ module _ (b : List ℕ) (numbers : Columns) (p : Program) (k : Keeps b numbers p
   methods_owned n class [] (m ∷ ms) are count codes held short = absurd (omega (arith, count))
   methods_owned n class (e ∷ es) [] are count codes held short = absurd (omega (arith, count))
   methods_owned n class (e ∷ es) (m ∷ ms) are count codes held short = (
-    record { class = refl; body = body_carried e.code m.code are (left (Holds (needed p)) (if_any names_of_code m.code) (flat_map (names_of_method class) ms) held.1) (omega (arith, short)) (codes 0 (method_entry e) m refl refl) },
-    methods_owned n class es ms are (omega (arith, count)) (λ j x y at_x at_y. codes (suc j) x y at_x at_y) (right (Holds (needed p)) (if_any names_of_code m.code) (flat_map (names_of_method class) ms) held.1) (omega (arith, short)),
+    record { class = refl; body = body_carried e.code m.code are (all_front (Holds (needed p)) (if_any names_of_code m.code) (flat_map (names_of_method class) ms) held.1) (omega (arith, short)) (codes 0 (method_entry e) m refl refl) },
+    methods_owned n class es ms are (omega (arith, count)) (λ j x y at_x at_y. codes (suc j) x y at_x at_y) (all_back (Holds (needed p)) (if_any names_of_code m.code) (flat_map (names_of_method class) ms) held.1) (omega (arith, short)),
   )
 
 owned_append : (b : List ℕ) (numbers : Columns) (s : Five) (es fs : List Body) (xs ys : List (ℕ × Option Code)) → AreOwned b numbers s es xs → AreOwned b numbers s fs ys → AreOwned b numbers s (es ++ fs) (xs ++ ys)
@@ -178,7 +177,7 @@ module _ (b : List ℕ) (numbers : Columns) (p : Program) (k : Keeps b numbers p
       → directs ≡ all.directs.items → virtuals ≡ all.virtuals.items → mid ≡ old ++ map (body_of i) directs → new ≡ mid ++ map (body_of i) virtuals → AreFirstBodies b numbers p i old → AreFirstBodies b numbers p (i + 1) new
   class_pushed i all old mid new directs virtuals are lt stands short e1 e2 m n z =
       let count = k.classes.count in
-      let x = class_at p i (omega (arith, count, lt)) in
+      let x = entry_at p i (omega (arith, count, lt)) in
       class_next i x.0 all old new x.1 are stands short (pushed_twice i old mid new all.directs.items all.virtuals.items directs virtuals e1 e2 m n) z
 
   pub all_pushed : (i : ℕ) (es : List Body) → i ≡ size_of b 5 → AreFirstBodies b numbers p i es → AreOwned b numbers (needed p) es (numbered 0 p)
@@ -202,17 +201,8 @@ alone p = alone_from 0 p
 
 -- ---- one file means one program
 
-lists_same : (p q : Program) → length p ≡ length q → ((i : ℕ) (c d : Class) → slice_get p i ≡ Some c → slice_get q i ≡ Some d → c ≡ d) → p ≡ q
-lists_same [] [] n each = refl
-lists_same [] (d ∷ q) n each = absurd (omega (arith, n))
-lists_same (c ∷ p) [] n each = absurd (omega (arith, n))
-lists_same (c ∷ p) (d ∷ q) n each =
-    let e = each 0 c d refl refl in
-    let r = lists_same p q (omega (arith, n)) (λ i x y at_x at_y. each (suc i) x y at_x at_y) in
-    λ j. e j ∷ r j
-
 pub program_one : (b : List ℕ) (numbers : Columns) (p q : Program) → Keeps b numbers p → Keeps b numbers q → p ≡ q
-program_one b numbers p q k l = lists_same p q (k.classes.count ∙ sym l.classes.count) (λ i c d at_c at_d. class_one b k.marked.framed i c d (k.classes.each i c at_c) (l.classes.each i d at_d))
+program_one b numbers p q k l = list_same p q (k.classes.count ∙ sym l.classes.count) (λ i c d at_c at_d. class_one b k.marked.framed i c d (k.classes.each i c at_c) (l.classes.each i d at_d))
 
 -- so the room for the bodies of one is that for the other's
 pub short_of : (b : List ℕ) (numbers : Columns) (p q : Program) → Keeps b numbers p → Keeps b numbers q → (n : ℕ) → n + wide_all wide_body (body_values p) < 2 ^ 32 → wide_all wide_body (body_values q) < 2 ^ 32

@@ -14,9 +14,8 @@ use Rattle.tables_numbers.specs.Numbers.{Counts, IsKept, Carries}
 use Rattle.tables_numbers.proofs.ColumnLemmas.{before_next, before_few}
 use Rattle.tables_numbers.proofs.RankLemmas.{kept_rows_are_ranks, totals_are_lengths}
 use Rattle.tables_rows.specs.Stands.{NameStands}
-use Rattle.file_needed.proofs.Steps.{left, right}
 use Rattle.file_kept.specs.Keeping.{Keeps}
-use Rattle.base_bytes.proofs.ListFacts.{some_inj}
+use Rattle.base_bytes.proofs.ListFacts.{some_inj, all_front, all_back}
 
 -- ---- one column
 
@@ -104,8 +103,8 @@ class_in : (P : Name → Type 0) (p : Program) (i : ℕ) (c : Class) → slice_g
 class_in P [] i c at all = absurd cc
 class_in P (d ∷ p) zero c at all =
     let e : d ≡ c = cc in
-    subst (λ (x : Class). AllByRecursion P (names_of_class x)) e (left P (names_of_class d) (flat_map names_of_class p) all)
-class_in P (d ∷ p) (suc i) c at all = class_in P p i c at (right P (names_of_class d) (flat_map names_of_class p) all)
+    subst (λ (x : Class). AllByRecursion P (names_of_class x)) e (all_front P (names_of_class d) (flat_map names_of_class p) all)
+class_in P (d ∷ p) (suc i) c at all = class_in P p i c at (all_back P (names_of_class d) (flat_map names_of_class p) all)
 
 pub class_holds : (p : Program) (i : ℕ) (c : Class) → slice_get p i ≡ Some c → AllByRecursion (Holds (needed p)) (names_of_class c)
 class_holds p i c at = class_in (Holds (needed p)) p i c at (needed_is_least p).1.holds

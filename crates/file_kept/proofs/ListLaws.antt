@@ -36,8 +36,7 @@ use Rattle.file_kept.specs.Moved.{IsItem}
 use Rattle.file_kept.specs.Words.{AreClassWords}
 use Rattle.file_kept.proofs.KeepLaws.{number_is, numbers_long, next_kept, next_not_kept, first_number, few_types, all_carried, class_holds}
 use Rattle.tables_numbers.proofs.MarkLemmas.{all_held}
-use Rattle.base_bytes.proofs.ListFacts.{zip_length, zip_more}
-use Rattle.code_renumber.proofs.DistinctLaws.{all-more}
+use Rattle.base_bytes.proofs.ListFacts.{zip_length, zip_more, zip_append, all_append}
 
 -- ---- the numbers of types
 
@@ -63,13 +62,9 @@ indices_next s old mid new bytes k ts j lt a n b small at =
     (record {
       indexes = a.indexes ++ k ∷ [];
       whole = n ∙ ap (λ (l : List ℕ). l ++ bytes) a.whole ∙ append_assoc old (halves_bytes a.indexes) bytes ∙ ap (λ (l : List ℕ). old ++ l) (ap (λ (l : List ℕ). halves_bytes a.indexes ++ l) b ∙ sym (halves_push a.indexes k));
-      small = all-more (λ (i : ℕ). i < 2 ^ 16) a.indexes k a.small small;
+      small = all_append (λ (i : ℕ). i < 2 ^ 16) a.indexes (k ∷ []) a.small (small, tt);
       named = zip_more (λ (i : ℕ) (t : Units). IsAt s.types i (text_key t)) a.indexes (take j ts) k (get_or ts j []) a.named at;
     })
-
--- a row has one number
-pub same_rank : (numbers : List ℕ) (i number found : ℕ) → slice_get numbers i ≡ Some number → slice_get numbers i ≡ Some found → number ≡ found
-same_rank numbers i number found a b = let e : Some number ≡ Some found = sym a ∙ b in cc e
 
 -- ---- a list
 
@@ -125,12 +120,6 @@ zip_at R [] ys i d lt z = absurd (omega (arith, lt))
 zip_at R (x ∷ xs) [] i d lt z = absurd z
 zip_at R (x ∷ xs) (y ∷ ys) zero d lt z = z.0
 zip_at R (x ∷ xs) (y ∷ ys) (suc i) d lt z = zip_at R xs ys i d (omega (arith, lt)) z.1
-
-pub zip_append : {B : Type 0} (R : ℕ → B → Type 0) (xs more : List ℕ) (ys further : List B) → AllZip R xs ys → AllZip R more further → AllZip R (xs ++ more) (ys ++ further)
-zip_append R [] more [] further z w = w
-zip_append R [] more (y ∷ ys) further z w = absurd z
-zip_append R (x ∷ xs) more [] further z w = absurd z
-zip_append R (x ∷ xs) more (y ∷ ys) further z w = (z.0, zip_append R xs more ys further z.1 w)
 
 pub zip_of : {B : Type 0} (R : ℕ → B → Type 0) (xs : List ℕ) (ys : List B) → length xs ≡ length ys → ((i : ℕ) (y : B) → slice_get ys i ≡ Some y → R (get_or xs i 0) y) → AllZip R xs ys
 zip_of R [] [] n each = tt

@@ -3,7 +3,7 @@ use Rattle.std.proofs.Common.{◌≡◌, ℕ, zero, suc, ◌+◌, ◌-◌, ◌^�
 use Rattle.std.specs.Prelude.{sum}
 use Rattle.std.specs.List.{AllByRecursion, flat_map}
 use Rattle.std.proofs.lemmas.List.{take_more, take_all, length-map, map-append}
-use Rattle.std.proofs.lemmas.Option.{slice_get_within, slice_get-get_or, slice_get-map}
+use Rattle.std.proofs.lemmas.Option.{slice_get_within, slice_get-map, get_or_from_slice_get}
 use Rattle.base_bytes.specs.Grammar.{Appends, Each}
 use Rattle.base_bytes.specs.Leb128.{Spells, Shortest}
 use Rattle.base_bytes.proofs.GrammarLaws.{Each-push}
@@ -11,7 +11,6 @@ use Rattle.dex_container.specs.Layout.{size_of}
 use Rattle.file_parts.specs.ClassData.{Entries, FieldEntry, MethodEntry, SpellsFieldEntry, SpellsMethodEntry, EntriesAre, steps, index_of}
 use Rattle.file_parts.specs.Classes.{IsField, IsMethod, MembersAre}
 use Rattle.file_needed.proofs.ClassNames.{statics_named, instances_named, directs_kept, virtuals_kept}
-use Rattle.file_needed.proofs.Steps.{right}
 use Rattle.file_parts.specs.Data.{FieldRanks, MethodRanks, code_offs}
 use Rattle.file_parts.specs.Growing.{AddsFields, AddsMethods}
 use Rattle.file_parts.proofs.RunLaws.{total, total_push, no_run, run_push}
@@ -26,14 +25,12 @@ use Rattle.file_kept.specs.Keeping.{Keeps}
 use Rattle.file_kept.specs.Members.{AreCarriedMembers, IsCarriedRun}
 use Rattle.file_kept.proofs.KeepLaws.{number_is, numbers_long, numbers_rise, carried, class_holds}
 use Rattle.file_parts.proofs.EntryLaws.{entry_at}
+use Rattle.base_bytes.proofs.ListFacts.{all_back}
 
 -- ---- lists by index
 
-value_at : {A : Type 0} (xs : List A) (i : ℕ) (x d : A) → slice_get xs i ≡ Some x → get_or xs i d ≡ x
-value_at xs i x d at = let e : Some (get_or xs i d) ≡ Some x = sym (slice_get-get_or xs i d (slice_get_within xs i x at)) ∙ at in cc e
-
 step_at : {R : Type 0} (es : List (ℕ × R)) (i : ℕ) (e : ℕ × R) → slice_get es i ≡ Some e → get_or (steps es) i 0 ≡ e.0
-step_at {R} es i e at = value_at (steps es) i e.0 0 (slice_get-map (λ (x : ℕ × R). x.0) es i ∙ ap (option_map (λ (x : ℕ × R). x.0)) at)
+step_at {R} es i e at = get_or_from_slice_get (steps es) i e.0 0 (slice_get-map (λ (x : ℕ × R). x.0) es i ∙ ap (option_map (λ (x : ℕ × R). x.0)) at)
 
 -- the index of an entry is that of the entry before and a step more
 pub index_next : {R : Type 0} (es : List (ℕ × R)) (i : ℕ) (e : ℕ × R) → slice_get es i ≡ Some e → index_of (steps es) i ≡ sum (take i (steps es)) + e.0
@@ -113,7 +110,7 @@ module _ {R V : Type 0} (column : List ℕ) (M : ℕ → ℕ × R → V → Type
       let t = s.sum_is in
       let p = total_push outs (x.number - last, rest) in
       let w = slice_get_within vs i x.value x.value_is in
-      let done : take i vs ++ x.value ∷ [] ≡ take (i + 1) vs = ap (λ (v : V). take i vs ++ v ∷ []) (sym (value_at vs i x.value x.value x.value_is)) ∙ sym (take_more vs i x.value w) in
+      let done : take i vs ++ x.value ∷ [] ≡ take (i + 1) vs = ap (λ (v : V). take i vs ++ v ∷ []) (sym (get_or_from_slice_get vs i x.value x.value x.value_is)) ∙ sym (take_more vs i x.value w) in
       record {
         low = low;
         next = record {
@@ -260,7 +257,7 @@ all_at P f (y ∷ xs) (suc i) x at all = all_at P f xs i x at all.1
 flat_at : (P : Name → Type 0) (class : Descriptor) (ms : List Method) (i : ℕ) (m : Method) → slice_get ms i ≡ Some m → AllByRecursion P (flat_map (names_of_method class) ms) → P (method_of_class class m)
 flat_at P class [] i m at all = absurd cc
 flat_at P class (n ∷ ms) zero m at all = let e : n ≡ m = cc in subst (λ (x : Method). P (method_of_class class x)) e all.0
-flat_at P class (n ∷ ms) (suc i) m at all = flat_at P class ms i m at (right P (names_of_method class n) (flat_map (names_of_method class) ms) all)
+flat_at P class (n ∷ ms) (suc i) m at all = flat_at P class ms i m at (all_back P (names_of_method class n) (flat_map (names_of_method class) ms) all)
 
 index_less : {R : Type 0} (es : List (ℕ × R)) (i : ℕ) → i + 1 < length es → 0 < get_or (steps es) (i + 1) 0 → index_of (steps es) i < index_of (steps es) (i + 1)
 index_less {R} es i lt some =

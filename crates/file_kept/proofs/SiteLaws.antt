@@ -18,7 +18,7 @@ use Rattle.file_parts.specs.Growing.{AddsFields, AddsMethods}
 use Rattle.file_parts.specs.Placing.{items_with}
 use Rattle.file_parts.proofs.DataLaws.{data_length, some_members}
 use Rattle.file_parts.proofs.LayingLaws.{one_more}
-use Rattle.file_parts.proofs.SitedLaws.{length-sited, room_of_sited, count_of_bodies}
+use Rattle.file_parts.proofs.SitedLaws.{length-sited, room_of_sited, count_of_bodies, rest_after}
 use Rattle.program_types.specs.Content.{Class, Program}
 use Rattle.tables_names.specs.Closure.{Five, NameRanks}
 use Rattle.tables_names.specs.Needed.{needed}
@@ -27,19 +27,13 @@ use Rattle.file_kept.specs.Keeping.{Keeps}
 use Rattle.file_kept.specs.Members.{AreCarriedMembers}
 use Rattle.file_kept.specs.Sites.{AddsClassData, HasRoom}
 use Rattle.file_kept.proofs.MemberLaws.{members_carried}
-use Rattle.file_kept.proofs.ClassRowLaws.{class_at}
-
--- the places after those of the first n classes
-abbrev pub places_after : Program → List ℕ → ℕ → List ℕ
-places_after p codes zero = codes
-places_after [] codes (suc n) = codes
-places_after (c ∷ p) codes (suc n) = places_after p (drop (method_count c) codes) n
+use Rattle.file_parts.proofs.EntryLaws.{entry_at}
 
 -- The class data of the first n classes is laid after `old`, and these places of bodies are left.
 abbrev pub ClassDataIsLaid : Program → List ℕ → List ℕ → List ℕ → ℕ → List ℕ → List ℕ → ℕ → Type 0
 ClassDataIsLaid p codes old out n rest places items =
     Laying has_no_members (PacksData (NameRanks (needed p))) 1 wide_with_codes old out (take n (with_code_places p codes)) (drop n (with_code_places p codes)) (with_code_places p codes) places items
-    × (rest ≡ places_after p codes n)
+    × (rest ≡ rest_after p codes n)
 
 -- ---- one class
 
@@ -102,17 +96,17 @@ counted numbers s e c m = record { statics = sym m.statics.count; instances = sy
 
 -- ---- class by class
 
-sited_at : (p : Program) (codes : List ℕ) (i : ℕ) (c : Class) (n : ClassWithCodes) → slice_get p i ≡ Some c → get_or (with_code_places p codes) i n ≡ record { class = c; codes = take (method_count c) (places_after p codes i) }
+sited_at : (p : Program) (codes : List ℕ) (i : ℕ) (c : Class) (n : ClassWithCodes) → slice_get p i ≡ Some c → get_or (with_code_places p codes) i n ≡ record { class = c; codes = take (method_count c) (rest_after p codes i) }
 sited_at [] codes i c n at = absurd cc
 sited_at (d ∷ p) codes zero c n at = let e : d ≡ c = cc in ap (λ (x : Class). record { class = x; codes = take (method_count x) codes }) e
 sited_at (d ∷ p) codes (suc i) c n at = sited_at p (drop (method_count d) codes) i c n at
 
-rest_next : (p : Program) (codes : List ℕ) (i : ℕ) (c : Class) → slice_get p i ≡ Some c → places_after p codes (suc i) ≡ drop (method_count c) (places_after p codes i)
+rest_next : (p : Program) (codes : List ℕ) (i : ℕ) (c : Class) → slice_get p i ≡ Some c → rest_after p codes (suc i) ≡ drop (method_count c) (rest_after p codes i)
 rest_next [] codes i c at = absurd cc
 rest_next (d ∷ p) codes zero c at = let e : d ≡ c = cc in ap (λ (x : Class). drop (method_count x) codes) e
 rest_next (d ∷ p) codes (suc i) c at = rest_next p (drop (method_count d) codes) i c at
 
-rest_enough : (p : Program) (codes : List ℕ) (i : ℕ) (c : Class) → slice_get p i ≡ Some c → length codes ≡ length (body_values p) → method_count c ≤ length (places_after p codes i)
+rest_enough : (p : Program) (codes : List ℕ) (i : ℕ) (c : Class) → slice_get p i ≡ Some c → length codes ≡ length (body_values p) → method_count c ≤ length (rest_after p codes i)
 rest_enough [] codes i c at e = absurd cc
 rest_enough (d ∷ p) codes zero c at e =
     let same : d ≡ c = cc in
@@ -142,11 +136,11 @@ sited_room p codes old out rest places i items lt e room s c at =
 pub sited_next : (p : Program) (codes old out new rest others places more : List ℕ) (i items place count : ℕ) → i < length p → 0 < length old → ClassDataIsLaid p codes old out i rest places items → AddsClassData p i rest others out new place
     → more ≡ places ++ place ∷ [] → count ≡ items_with place items → ClassDataIsLaid p codes old new (i + 1) others more count
 sited_next p codes old out new rest others places more i items place count lt front s a m n =
-    let x = class_at p i lt in
+    let x = entry_at p i lt in
     let c = x.0 in
     let G = PacksData (NameRanks (needed p)) in
     let vs = with_code_places p codes in
-    let v : ClassWithCodes = record { class = c; codes = take (method_count c) (places_after p codes i) } in
+    let v : ClassWithCodes = record { class = c; codes = take (method_count c) (rest_after p codes i) } in
     let len = length-sited p codes in
     let own : get_or vs i v ≡ v = sited_at p codes i c v x.1 in
     let adds : AddsSome has_no_members G 1 out new v place = subst (λ (l : List ℕ). AddsSome has_no_members G 1 out new (record { class = c; codes = take (method_count c) l }) place) s.1 (a c x.1).1 in
@@ -156,7 +150,7 @@ sited_next p codes old out new rest others places more i items place count lt fr
     let after = one_more has_no_members G 1 wide_with_codes old out new (take i vs) (drop (i + 1) vs) vs v places more place items count before front adds (adds_bound (needed p) out new v place adds) m n in
     let next : suc i ≡ i + 1 = omega arith in (
       subst (λ (ys : List ClassWithCodes). Laying has_no_members G 1 wide_with_codes old new ys (drop (i + 1) vs) vs more count) done after,
-      (a c x.1).0 ∙ ap (drop (method_count c)) s.1 ∙ sym (rest_next p codes i c x.1) ∙ ap (places_after p codes) next,
+      (a c x.1).0 ∙ ap (drop (method_count c)) s.1 ∙ sym (rest_next p codes i c x.1) ∙ ap (rest_after p codes) next,
     )
   where
     adds_bound : (s : Five) (old new : List ℕ) (v : ClassWithCodes) (place : ℕ) → AddsSome has_no_members (PacksData (NameRanks s)) 1 old new v place → length new ≤ length old + wide_with_codes v

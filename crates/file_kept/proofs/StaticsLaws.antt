@@ -11,7 +11,6 @@ use Rattle.file_parts.specs.Classes.{StaticsAt}
 use Rattle.file_layout.specs.Sections.{is_empty_list}
 use Rattle.file_parts.specs.file_limits_Wide.{array_values}
 use Rattle.file_needed.proofs.ClassNames.{values_kept}
-use Rattle.file_needed.proofs.Steps.{left, right}
 use Rattle.file_parts.specs.Arrays.{WritesArray}
 use Rattle.file_parts.proofs.ArrayLaws.{array_some}
 use Rattle.file_shared.specs.Once.{Entry}
@@ -30,6 +29,7 @@ use Rattle.file_kept.specs.Statics.{AreCarriedStatics, IsCarriedStatics}
 use Rattle.file_kept.specs.Words.{AreClassWords}
 use Rattle.file_kept.proofs.KeepLaws.{carried, class_holds}
 use Rattle.file_kept.proofs.ListLaws.{zip_of}
+use Rattle.base_bytes.proofs.ListFacts.{all_front, all_back}
 
 pub eq_off : {off : ℕ} → off ≡ 0 → (off == 0) ≡ true
 eq_off e = rw e refl
@@ -63,7 +63,7 @@ mutual
 
   values_hold : (P Q : Name → Type 0) → ((n : Name) → P n → Q n) → (vs : Values) → AllByRecursion P (names_of_values vs) → AllNamesHold Q vs
   values_hold P Q f no_values h = tt
-  values_hold P Q f (more_values v vs) h = (value_hold P Q f v (left P (names_of_value v) (names_of_values vs) h), values_hold P Q f vs (right P (names_of_value v) (names_of_values vs) h))
+  values_hold P Q f (more_values v vs) h = (value_hold P Q f v (all_front P (names_of_value v) (names_of_values vs) h), values_hold P Q f vs (all_back P (names_of_value v) (names_of_values vs) h))
 
 -- the static values of the classes
 pub class_statics : (b : List ℕ) (numbers : Columns) (p : Program) → Keeps b numbers p → (words : List ℕ) → AreClassWords b 7 words → AreCarriedStatics b numbers (needed p) words (array_values p)

@@ -32,7 +32,7 @@ use Rattle.tables_rows.specs.Stands.{StringStands}
 use Rattle.file_kept.specs.Keeping.{Keeps}
 use Rattle.file_kept.specs.Texts.{AreFirstTexts}
 use Rattle.file_kept.proofs.KeepLaws.{number_is, numbers_long, next_kept, next_not_kept, first_number, carried}
-use Rattle.dex_base.proofs.NameUnits.{all_append}
+use Rattle.base_bytes.proofs.ListFacts.{all_append}
 
 -- ---- no unit has a zero byte
 

@@ -1,6 +1,6 @@
 -- Files of one plan have one header and one map.
 use Rattle.std.proofs.Common.{◌≡◌, ℕ, zero, suc, ◌+◌, ◌*◌, ◌-◌, ◌/◌, ◌%◌, ◌<◌, ◌≤◌, List, [], ◌∷◌, ◌++◌, length, take, drop, get_or, refl, sym, ap, ◌∙◌, arith, subst, Bool, true, false, inl, inr}
-use Rattle.std.proofs.lemmas.List.{get_or-drop, length-drop, take-append-drop}
+use Rattle.std.proofs.lemmas.List.{get_or-drop, length-drop, take-append-drop, drop-drop}
 use Rattle.std.proofs.lemmas.Bool.{cases_lt}
 use Rattle.std.specs.Prelude.{slice_index, nat_lt, if◌then◌else◌}
 use Rattle.std.specs.List.{filter}
@@ -14,7 +14,6 @@ use Rattle.file_layout.specs.declared.plan.Plan.{Plan}
 use Rattle.file_layout.specs.Plan.{spans_of, header_words, IsWritten}
 use Rattle.file_layout.specs.Spans.{Span, has_items, MapNames}
 use Rattle.file_layout.specs.Once.{part_of}
-use Rattle.file_layout.proofs.PartLaws.{drop_more}
 use Rattle.base_bytes.proofs.SameFields.{same_half, same_word}
 
 -- the same byte at a place
@@ -75,7 +74,7 @@ closed_once b c bytes_b bytes_c n long s t front back =
     ])
   where
     twelve : (xs : List ℕ) → drop 20 (drop 12 xs) ≡ drop 32 xs
-    twelve xs = drop_more 12 20 xs
+    twelve xs = drop-drop 20 12 xs
 
 -- ---- magic and version
 

@@ -9,6 +9,7 @@ use Rattle.file_layout.specs.Once.{HasOneSpelling, HaveOneSpelling, part_of, Are
 use Rattle.file_layout.specs.Tiles.{gap, Tiles, Done, Item, add_place, distinct_places, Among, AreShared, Refers, Lays}
 use Rattle.file_layout.proofs.TileLaws.{Tiles-le, Tiles-among, refers_some, zip_there, add_place-fresh, add_place-known}
 use Rattle.file_layout.proofs.PartLaws.{slice_are, length_slice, part_item, part_none}
+use Rattle.base_bytes.proofs.ListFacts.{all_append}
 
 -- ---- places that are seen
 
@@ -20,10 +21,6 @@ seen_holds P (q ∷ qs) p h e = by_test (eqb q p) refl e (λ g. seen_holds P qs 
     by_test : (t : Bool) → eqb q p ≡ t → (t || list_any (λ x. eqb x p) qs) ≡ true → (list_any (λ x. eqb x p) qs ≡ true → P p) → P p
     by_test true s g more = let same : q ≡ p = grind (arith, s) in subst P same h.0
     by_test false s g more = more g
-
-holds_more : (P : ℕ → Type 0) (seen : List ℕ) (p : ℕ) → AllByRecursion P seen → P p → AllByRecursion P (seen ++ p ∷ [])
-holds_more P [] p h k = (k, tt)
-holds_more P (q ∷ qs) p h k = (h.0, holds_more P qs p h.1 k)
 
 -- places are added at the end
 pub grows : (places seen : List ℕ) → (more : List ℕ) × (fold add_place seen places ≡ seen ++ more)
@@ -38,7 +35,7 @@ grows (p ∷ ps) seen = by_test (eqb p 0 || list_any (λ q. eqb q p) seen) refl 
 
 -- ---- items
 
-abbrev firsts : {V : Type 0} → List (ℕ × V) → List ℕ
+abbrev pub firsts : {V : Type 0} → List (ℕ × V) → List ℕ
 firsts {V} items = map (λ (x : ℕ × V). x.0) items
 
 -- at a place one value stands
@@ -53,7 +50,7 @@ one_there p v w (Item next some spelled rest) (inr e) (inl f) =
 one_there p v w (Item next some spelled rest) (inr e) (inr f) = one_there p v w rest e f
 
 -- where no item is left, the end is reached
-tiles_none : {V : Type 0} {G : List ℕ → V → Type 0} {align : ℕ} {b : List ℕ} {at end : ℕ} {items : List (ℕ × V)} → Tiles G align b at end items → firsts items ≡ [] → (at ≡ end) × (items ≡ [])
+pub tiles_none : {V : Type 0} {G : List ℕ → V → Type 0} {align : ℕ} {b : List ℕ} {at end : ℕ} {items : List (ℕ × V)} → Tiles G align b at end items → firsts items ≡ [] → (at ≡ end) × (items ≡ [])
 tiles_none Done e = (refl, refl)
 tiles_none (Item next some spelled rest) e = absurd (cc e)
 
@@ -199,7 +196,7 @@ module _ {V : Type 0} (none : V → Bool) (G : List ℕ → V → Type 0) (align
       let sights : seen ++ q ∷ [] ≡ seen ++ p ∷ [] = ap (λ (l : ℕ). seen ++ l ∷ []) (sym place) in
       item_first at p q u x ps qs us ws front back (uses ∙ sym takes) (subst (λ (l : V). HasOneSpelling G l) (sym uses) (once n v is))
       (λ next left right. go next us ws (seen ++ p ∷ []) left right (λ l y g. here l y (inr g)) (λ l y g. there l y (inr g)) first
-      (subst (λ (l : List ℕ). fold add_place l qs ≡ l ++ firsts ws) sights second) (holds_more Known seen p k known))
+      (subst (λ (l : List ℕ). fold add_place l qs ≡ l ++ firsts ws) sights second) (all_append Known seen (p ∷ []) k (known, tt)))
 
   new_one : (v : V) (p q n : ℕ) (ps qs : List ℕ) (xs ys : List (ℕ × V)) (at : ℕ) (seen : List ℕ) → Tiles G align b at end xs → Tiles G align c at last ys → Within xs items → Within ys more
       → fold add_place seen (p ∷ ps) ≡ seen ++ firsts xs → fold add_place seen (q ∷ qs) ≡ seen ++ firsts ys

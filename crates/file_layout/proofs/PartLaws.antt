@@ -1,7 +1,7 @@
 -- Parts of bytes.
-use Rattle.std.proofs.Common.{◌≡◌, ℕ, zero, suc, ◌+◌, ◌-◌, ◌≤◌, List, [], ◌∷◌, ◌++◌, length, take, drop, refl, sym, ap, ◌∙◌, arith}
+use Rattle.std.proofs.Common.{◌≡◌, ℕ, ◌+◌, ◌-◌, ◌≤◌, List, [], ◌++◌, length, take, drop, ap, ◌∙◌, arith}
 use Rattle.std.proofs.Math.Seq.{take-add}
-use Rattle.std.proofs.lemmas.List.{get_or-drop, length-drop}
+use Rattle.std.proofs.lemmas.List.{get_or-drop, length-drop, length-take-le, drop-drop}
 use Rattle.base_bytes.specs.Fields.{AreBytes}
 use Rattle.dex_container.specs.Where.{slice}
 use Rattle.file_layout.specs.Once.{part_of}
@@ -12,27 +12,13 @@ pub slice_are : (b : List ℕ) (place size : ℕ) → AreBytes b → AreBytes (s
 unfolding slice
 slice_are b place size h = take_bytes size (drop place b) (λ i. rw (get_or-drop place b i 0) (h (place + i)))
 
-length_take : (n : ℕ) (xs : List ℕ) → n ≤ length xs → length (take n xs) ≡ n
-length_take zero xs h = refl
-length_take (suc n) [] h = absurd (omega arith)
-length_take (suc n) (x ∷ xs) h = ap suc (length_take n xs (omega arith))
-
 pub length_slice : (b : List ℕ) (place size : ℕ) → place + size ≤ length b → length (slice b place size) ≡ size
 unfolding slice
-length_slice b place size h = length_take size (drop place b) (let l = length-drop place b in omega (arith, h, l))
-
-drop_nil : (n : ℕ) → drop {A = ℕ} n [] ≡ []
-drop_nil zero = refl
-drop_nil (suc n) = refl
-
-pub drop_more : (m n : ℕ) (xs : List ℕ) → drop n (drop m xs) ≡ drop (m + n) xs
-drop_more zero n xs = let e : n ≡ 0 + n = omega arith in ap (λ (k : ℕ). drop k xs) e
-drop_more (suc m) n [] = drop_nil n ∙ sym (drop_nil (suc m + n))
-drop_more (suc m) n (x ∷ xs) = let e : suc (m + n) ≡ suc m + n = omega arith in drop_more m n xs ∙ ap (λ (k : ℕ). drop k (x ∷ xs)) e
+length_slice b place size h = length-take-le size (drop place b) (let l = length-drop place b in omega (arith, h, l))
 
 pub slice_more : (b : List ℕ) (at m n : ℕ) → slice b at (m + n) ≡ slice b at m ++ slice b (at + m) n
 unfolding slice
-slice_more b at m n = take-add m n (drop at b) ∙ ap (λ (t : List ℕ). take m (drop at b) ++ take n t) (drop_more at m b)
+slice_more b at m n = take-add m n (drop at b) ∙ ap (λ (t : List ℕ). take m (drop at b) ++ take n t) (drop-drop m at b)
 
 -- a part, cut at a place between
 pub part_cut : (b : List ℕ) (from mid to : ℕ) → from ≤ mid → mid ≤ to → part_of b from to ≡ part_of b from mid ++ part_of b mid to

@@ -7,6 +7,7 @@ use Rattle.file_layout.specs.declared.plan.Part.{Part}
 use Rattle.file_layout.specs.Sections.{IsItself, is_empty_list}
 use Rattle.file_layout.specs.Parts.{SectionReaches, HasPart}
 use Rattle.file_layout.proofs.TileLaws.{Tiles-among}
+use Rattle.base_bytes.proofs.ListFacts.{zip_weaker}
 
 some_among : {V : Type 0} (items : List (ℕ × V)) (place : ℕ) (v : V) → Among items place v → 0 < length items
 some_among [] place v a = absurd a
@@ -52,12 +53,6 @@ zip_at R [] (y ∷ ys) i z h e = absurd h
 zip_at R (x ∷ xs) [] i y h e = absurd h
 zip_at R (x ∷ xs) (y ∷ ys) zero z h e = let s : y ≡ z = cc e in subst (R x) s h.0
 zip_at R (x ∷ xs) (y ∷ ys) (suc i) z h e = zip_at R xs ys i z h.1 e
-
-pub zip_weaker : {A B : Type 0} (R S : A → B → Type 0) → ((x : A) (y : B) → R x y → S x y) → (xs : List A) (ys : List B) → AllZip R xs ys → AllZip S xs ys
-zip_weaker R S f [] [] h = tt
-zip_weaker R S f [] (y ∷ ys) h = absurd h
-zip_weaker R S f (x ∷ xs) [] h = absurd h
-zip_weaker R S f (x ∷ xs) (y ∷ ys) h = (f x y h.0, zip_weaker R S f xs ys h.1)
 
 -- lists that are their own bytes, in a part
 pub lists_stand : (b : List ℕ) (kind : ℕ) (p : Part) (vs : List (List ℕ)) (places : List ℕ) → HasPart b kind p → Lays is_empty_list IsItself 4 p.begin p.end b vs places p.items → AllZip (AtOrNone IsItself b kind 4) places vs

@@ -12,7 +12,7 @@ use Rattle.dex_container.specs.Where.{slice}
 use Rattle.dex_insn.specs.Fields.{number, int_at}
 use Rattle.dex_insn.specs.Raw as raw
 use Rattle.dex_insn.specs.Raw.{Raw, is_payload}
-use Rattle.dex_insn.specs.RawInsns.{InsnStands, SpellsInsn}
+use Rattle.dex_insn.specs.RawInsns.{SpellsInsn}
 use Rattle.dex_insn.specs.Written.{IsRaw}
 use Rattle.dex_insn.specs.declared.opcode.IndexKind.{IndexKind}
 use Rattle.dex_insn.proofs.Fits.{number-2, signed-32, stands_fits}
@@ -29,7 +29,7 @@ use Rattle.code_insns.specs.Symbols.{linked, ints, ints_from, InsnNames, name_in
 use Rattle.code_insns.specs.Linked.{lead, payload_of, IsLinked, SpellsInsns}
 use Rattle.code_insns.specs.Branches.{IsOrigin}
 use Rattle.code_insns.proofs.PlaceLaws.{target-there}
-use Rattle.code_insns.proofs.Runs.{run-at, table-of, length-of_starts}
+use Rattle.code_insns.proofs.Runs.{table-of, length-of_starts, stands-at}
 use Rattle.code_insns.proofs.LinkLaws.{addresses-same, kind-linked}
 use Rattle.file_read.specs.Item.{insns_size, tries_of, insns_bytes, items_of, units_end, tries_begin, list_begin, try_start, try_count}
 use Rattle.file_read.specs.Tries.{SpellsTries}
@@ -43,7 +43,7 @@ use Rattle.file_read.proofs.SaidLaws.{slice-bytes}
 use Rattle.file_read.proofs.CodesFormed.{leads-inside, count-most, not-below, from-at, u16-fits}
 use Rattle.file_limits.proofs.DistanceLaws.{lead-there}
 use Rattle.base_bytes.proofs.ListFacts.{take_bytes}
-use Rattle.code_insns.proofs.PlainLaws.{weaker}
+use Rattle.std.proofs.lemmas.Option.{IfSome_then}
 
 -- ---- indices
 
@@ -88,12 +88,8 @@ targets-fit ss base w us (raw.Sparse keys offsets) are h t = ints-fit ss base of
 targets-fit ss base w us _ are h t = tt
 
 module _ (M : ℕ → Name → Type 0) (us : List ℕ) (rs : List Raw) (is : List Insn) (s : SpellsInsns M us rs is) (are : AreBytes us) where
-  stands-at : (k : ℕ) → k < length rs → InsnStands us (address rs k) (raw_at rs k)
-  unfolding raw_at
-  stands-at k l = run-at us 0 rs (length us / 2) k (raw.I10x 0) s.walk.run l
-
   raw-fits : (k : ℕ) → k < length rs → IsRaw (raw_at rs k)
-  raw-fits k l = stands_fits us (address rs k) (raw_at rs k) are (stands-at k l)
+  raw-fits k l = stands_fits us (address rs k) (raw_at rs k) are (stands-at us rs s.walk k l)
 
   -- what an instruction leads to is one
   led-inside : (k : ℕ) → k < length is → AllByRecursion (λ to. to < length (starts rs)) (insn_leads (insn_at is k))
@@ -104,9 +100,9 @@ module _ (M : ℕ → Name → Type 0) (us : List ℕ) (rs : List Raw) (is : Lis
   short-at : (N : ℕ → Name → Type 0) → ((which : Name) (j n : ℕ) → M j which → N n which → n ≤ j) → (kind : IndexKind) (k : ℕ) → k < length rs → ShortFits N kind (insn_at is k)
   short-at N low kind k l =
       let x = s.linked.each k l in
-      weaker (HasShort M) (λ which. IsOfKind kind which → (n : ℕ) → N n which → n < 65536) (short_name (insn_at is k))
-      (λ which h _ n r. let a = low which h.0 n h.2 r in let b = h.1 in omega (arith, a, b))
+      IfSome_then (short_name (insn_at is k)) {P = HasShort M} {Q = λ which. IsOfKind kind which → (n : ℕ) → N n which → n < 65536}
       (subst (λ (i : Insn). IfSome (short_name i) (HasShort M)) x.says.symbol (short-index M _ (name_in (insn_at is k)) (raw_at rs k) (raw-fits k l) x.says.named))
+      (λ which h _ n r. let a = low which h.0 n h.2 r in let b = h.1 in omega (arith, a, b))
 
   branch-at : (k : ℕ) → k < length rs → BranchFits (starts rs) (address rs k) (insn_at is k)
   unfolding insn_payload
@@ -129,7 +125,7 @@ module _ (M : ℕ → Name → Type 0) (us : List ℕ) (rs : List Raw) (is : Lis
   targets-at : (j k : ℕ) → k < length rs → RefersToPayload is j k → TargetsFit (starts rs) (address rs j) (insn_at is k)
   unfolding insn_payload insn_targets
   targets-at j k l f = by (s.linked.each k l).origin (s.linked.each k l).counts (subst (TargetsFit (starts rs) (address rs (s.linked.each k l).origin)) (s.linked.each k l).says.symbol
-      (targets-fit (starts rs) (address rs (s.linked.each k l).origin) (name_in (insn_at is k)) (drop (2 * address rs k) us) (raw_at rs k) (drop-AreBytes us (2 * address rs k) are) (stands-at k l).spelled
+      (targets-fit (starts rs) (address rs (s.linked.each k l).origin) (name_in (insn_at is k)) (drop (2 * address rs k) us) (raw_at rs k) (drop-AreBytes us (2 * address rs k) are) (stands-at us rs s.walk k l).spelled
       (subst (λ (i : Insn). AllByRecursion (λ to. to < length (starts rs)) (insn_targets i)) (sym (s.linked.each k l).says.symbol) (targets-inside _ (insn_at is k) (led-inside k m)))))
     where
       m : k < length is
@@ -164,7 +160,7 @@ module _ (M : ℕ → Name → Type 0) (us : List ℕ) (rs : List Raw) (is : Lis
   payload-is _ h = absurd (h refl)
 
   even-at : (k : ℕ) → k < length rs → IsEven is (starts rs) k
-  even-at k l h = even-of us (address rs k) (raw_at rs k) (stands-at k l) (payload-is (raw_at rs k) (λ e. h (ap insn_payload (sym (s.linked.each k l).says.symbol) ∙ kind-linked _ _ (raw_at rs k) ∙ e)))
+  even-at k l h = even-of us (address rs k) (raw_at rs k) (stands-at us rs s.walk k l) (payload-is (raw_at rs k) (λ e. h (ap insn_payload (sym (s.linked.each k l).says.symbol) ∙ kind-linked _ _ (raw_at rs k) ∙ e)))
 
 -- ---- tries
 

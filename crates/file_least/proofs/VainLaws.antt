@@ -16,12 +16,11 @@ use Rattle.tables_names.specs.Closure.{Five, NameRanks}
 use Rattle.tables_names.specs.Needed.{needed}
 use Rattle.program_types.specs.Content.{Class, Code, Method, Name, Program, Units}
 use Rattle.file_read.specs.Means.{Means}
-use Rattle.file_read.proofs.WellLaws.{all_from, run_entry}
+use Rattle.file_read.proofs.WellLaws.{run_entry}
 use Rattle.file_least.specs.AtLeast.{AreNoFurther, FitsButHandlers}
 use Rattle.file_least.proofs.RowsFrom.{holds_at_least, no_further}
 use Rattle.file_least.proofs.StandingFits.{standing-fits}
-use Rattle.file_limits.proofs.DistinctLaws.{all-get}
-use Rattle.base_bytes.proofs.ListFacts.{all_append}
+use Rattle.base_bytes.proofs.ListFacts.{all_append, all_get, all_there}
 
 -- ---- a code
 
@@ -59,7 +58,7 @@ module _ (b : List ℕ) (are : AreBytes b) (framed : IsFramed b) (names : Five) 
       by false s = subst (λ (x : Option Code). IfSome x Fits) (sym s.is) (standing-fits b are framed off s.some s.stands names low)
 
   methods_fit : (class : Units) (es : List MethodEntry) (ms : List Method) → EntriesAre (IsMethod b class) es ms → CodesAre b es ms → AllByRecursion Fits (codes_in ms)
-  methods_fit class es ms run codes = all_codes Fits ms (all_from ms (λ k m at.
+  methods_fit class es ms run codes = all_codes Fits ms (all_there _ ms (λ k m at.
       let x = run_entry (IsMethod b class) es ms run k m at in
       code_fits x.0.1.1 m.code (codes k x.0 m x.1 at)))
 
@@ -75,7 +74,7 @@ module _ (b : List ℕ) (p : Program) (are : AreBytes b) (m : Means b p) where
   class_far : (n i : ℕ) → ClassBreaksLimit (NameRanks (needed p)) n p i → n ≡ 89
   class_far n i h =
       let fits = class_fits b are m.framed (needed p) (no_further b p m) i h.class (m.classes.each i h.class h.there) in
-      only_far (NameRanks (needed p)) h.body.code n (all-get (FitsButHandlers (NameRanks (needed p))) (codes_of h.class) h.body.index h.body.code fits h.body.there) h.body.breaks
+      only_far (NameRanks (needed p)) h.body.code n (all_get (FitsButHandlers (NameRanks (needed p))) (codes_of h.class) h.body.index h.body.code fits h.body.there) h.body.breaks
 
   -- a limit that the program breaks
   pub only_late : (n place : ℕ) → LimitBreaks p n place → (n ≡ 89) ⊎ (n ≡ 90)

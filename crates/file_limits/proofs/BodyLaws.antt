@@ -10,7 +10,7 @@ use Rattle.code_fits.proofs.BreakLaws.{fits_clear}
 use Rattle.program_types.specs.Content.{Name, Code, Class, Program}
 use Rattle.file_limits.specs.Limits.{SomeBreaks, ClassBreaksLimit, IsFirstToBreak, codes_of}
 use Rattle.file_limits.specs.Lowest.{IsLowestBroken, IsLowestOf, lower, earlier}
-use Rattle.base_bytes.proofs.ListFacts.{get_last, slice_split, all_append}
+use Rattle.base_bytes.proofs.ListFacts.{get_last, slice_split, all_append, slice_left}
 
 -- ---- one body
 
@@ -85,11 +85,6 @@ both_least N cs ds (Some k) (Some n) x y = record {
 
 -- ---- classes, one after the other
 
-get_front : {V : Type 0} (xs : List V) (v w : V) (i : ℕ) → slice_get xs i ≡ Some w → slice_get (xs ++ v ∷ []) i ≡ Some w
-get_front [] v w i e = absurd (cc e)
-get_front (x ∷ xs) v w zero e = e
-get_front (x ∷ xs) v w (suc i) e = get_front xs v w i e
-
 module _ (N : ℕ → Name → Type 0) (p : Program) (c : Class) where
   split_class : (m i : ℕ) → ClassBreaksLimit N m (p ++ c ∷ []) i → ClassBreaksLimit N m p i ⊎ ((i ≡ length p) × SomeBreaks N m (codes_of c))
   split_class m i h = elim (slice_split p c h.class i h.there) [
@@ -98,7 +93,7 @@ module _ (N : ℕ → Name → Type 0) (p : Program) (c : Class) where
   ]
 
   lift_class : (m i : ℕ) → ClassBreaksLimit N m p i → ClassBreaksLimit N m (p ++ c ∷ []) i
-  lift_class m i h = record { class = h.class; there = get_front p c h.class i h.there; body = h.body }
+  lift_class m i h = record { class = h.class; there = slice_left p (c ∷ []) i h.class h.there; body = h.body }
 
   last_class : (m : ℕ) → SomeBreaks N m (codes_of c) → ClassBreaksLimit N m (p ++ c ∷ []) (length p)
   last_class m s = record { class = c; there = get_last p c; body = s }

@@ -8,7 +8,6 @@ pub mod RankLaws
 pub use Rattle.tables_names.proofs.PlaceLemmas
 pub use Rattle.code_fits.proofs.CodeOnce
 pub use Rattle.code_fits.proofs.DistanceLaws
-pub use Rattle.code_fits.proofs.DistinctLaws
 pub use Rattle.code_fits.proofs.HandlerOnce
 pub use Rattle.code_fits.proofs.HandlerPacks
 pub use Rattle.code_fits.proofs.MentionLaws

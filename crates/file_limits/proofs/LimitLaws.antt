@@ -12,7 +12,7 @@ use Rattle.program_types.specs.Content.{Name, Code, Program}
 use Rattle.file_limits.specs.Limits.{BodyBreaks, ClassBreaksLimit, Fits, HandlerTooFar, IsFirstToBreak, IsLowestLimit, LimitBreaks, TooBig, TooManyProtos, TooManyTypes, codes_of}
 use Rattle.file_limits.specs.Lowest.{IsLowestOf, or_too_big}
 use Rattle.file_limits.specs.Wide.{wide}
-use Rattle.base_bytes.proofs.ListFacts.{all_there}
+use Rattle.base_bytes.proofs.ListFacts.{all_there, some_inj}
 
 abbrev N : Program → ℕ → Name → Type 0
 N p = NameRanks (needed p)
@@ -41,9 +41,6 @@ body_breaks p n place other f = let r = class_range p n place f.here in let high
   where
     below : (n : ℕ) → n ≤ 89 → n ≢ 89 → n ≤ 88
     below n high other = ⊎_elim (λ (lt : n < 89). omega (arith, lt)) (λ (le : 89 ≤ n). absurd (other (omega (arith, high, le)))) (cases_lt n 89)
-
-some_inj : (f g : Fault) → Some f ≡ Some g → f ≡ g
-some_inj f g e = cc
 
 -- no lower limit stands than that of the bodies, where types and protos are few
 module _ (p : Program) (few_types : length (needed p).types ≤ 65535) (few_protos : length (needed p).protos ≤ 65535) where

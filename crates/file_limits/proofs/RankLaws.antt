@@ -1,10 +1,9 @@
 -- Bodies one by one, and the names in them.
-use Rattle.std.proofs.Common.{◌≡◌, ℕ, zero, suc, ◌+◌, ◌<◌, ◌≤◌, List, [], ◌∷◌, ◌++◌, map, take, get_or, length, sym, ap, ◌∙◌, arith, subst, Option, Some, append_assoc, append-nil}
+use Rattle.std.proofs.Common.{◌≡◌, ℕ, zero, suc, ◌+◌, ◌<◌, ◌≤◌, List, [], ◌∷◌, ◌++◌, map, take, get_or, length, sym, ap, ◌∙◌, arith, subst, Option, append_assoc, append-nil}
 use Rattle.std.proofs.lemmas.List.{length-map, length-take}
-use Rattle.std.proofs.lemmas.Option.{slice_get_within, slice_get-map, slice_get-get_or}
-use Rattle.std.specs.Prelude.{option_map}
+use Rattle.std.proofs.lemmas.Option.{slice_get_within}
 use Rattle.std.specs.Option.{option_to_list}
-use Rattle.std.specs.List.{AllByRecursion, flat_map, slice_get}
+use Rattle.std.specs.List.{AllByRecursion, flat_map}
 use Rattle.base_bytes.specs.declared.fault.Fault.{Fault}
 use Rattle.code_fits.specs.Fits.{HasIndexBelow}
 use Rattle.tables_names.specs.Closure.{Five, NameRanks}
@@ -59,10 +58,6 @@ methods_more N ms i d least number new lt e a b =
     (subst (IsLowestBroken N (codes_in (map view.method (take i ms)) ++ option_to_list (view.method (get_or ms i d)).code)) (sym e) (both_least N _ _ least number a b))
 
 -- ---- classes
-
--- one of the classes
-pub class_there : (cs : List Class) (i : ℕ) (d : Class) → i < length cs → slice_get (map view.class cs) i ≡ Some (view.class (get_or cs i d))
-class_there cs i d lt = slice_get-map view.class cs i ∙ ap (option_map view.class) (slice_get-get_or cs i d lt)
 
 -- one more class
 pub classes_more : (N : ℕ → Name → Type 0) (cs : List Class) (i : ℕ) (d : Class) (lowest new : Option Fault) (number : Option ℕ) → i < length cs → new ≡ earlier lowest number i

@@ -1,12 +1,11 @@
 -- Sums of sizes.
-use Rattle.std.proofs.Common.{◌≡◌, ℕ, zero, suc, ◌+◌, ◌-◌, ◌*◌, ◌<◌, ◌≤◌, List, [], ◌∷◌, ◌++◌, map, take, get_or, length, sym, ap, ◌∙◌, arith, subst, inl, inr}
+use Rattle.std.proofs.Common.{◌≡◌, ℕ, ◌+◌, ◌-◌, ◌*◌, ◌<◌, List, [], ◌∷◌, ◌++◌, map, take, get_or, length, sym, ap, ◌∙◌, arith, subst, inl, inr}
 use Rattle.std.proofs.lemmas.List.{take_more, map-append, length-map}
 use Rattle.std.proofs.lemmas.List.Sums.{sum_by-append}
 use Rattle.dex_base.specs.Mutf8.{mutf8_length, unit_bytes}
 use Rattle.file_layout.specs.Sections.{wide_all}
 use Rattle.program_types.specs.Content as content
 use Rattle.program_types.specs.Content.{values, Insn}
-use Rattle.program_types.specs.Depth.{depth, greatest_depth}
 use Rattle.program_types.specs.Sizes.{insn_units, length_of, total}
 use Rattle.program_types.specs.View.{value, desc, insn}
 use Rattle.program_types.specs.declared.insn.Insn as held
@@ -51,11 +50,6 @@ text_more sum more new xs i d lt add s m =
 pub some_list : (xs : List Desc) (r : ℕ) → 0 < length xs → IsSum r (7 + 2 * length xs) → IsSum r (wide_list (map desc xs))
 some_list [] r e s = absurd (omega (arith, e))
 some_list (x ∷ xs) r e s = let n = length-map xs desc in subst (IsSum r) (omega (arith, n)) s
-
-pub value_less : (xs : List made.Value) (i : ℕ) (d : made.Value) → i < length xs → depth (value (get_or xs i d)) ≤ greatest_depth (values (map value xs))
-value_less [] i d lt = absurd (omega (arith, lt))
-value_less (x ∷ xs) zero d lt = omega arith
-value_less (x ∷ xs) (suc i) d lt = let r = value_less xs i d (omega (arith, lt)) in omega (arith, r)
 
 -- ---- bodies
 

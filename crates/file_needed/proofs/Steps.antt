@@ -1,5 +1,5 @@
 -- Steps of loops over names.
-use Rattle.std.proofs.Common.{◌≡◌, ℕ, zero, suc, ◌+◌, ◌<◌, ◌≤◌, List, [], ◌∷◌, ◌++◌, map, take, get_or, length, refl, sym, ap, ◌∙◌, arith, append_assoc, subst}
+use Rattle.std.proofs.Common.{◌≡◌, ℕ, zero, suc, ◌+◌, ◌<◌, List, [], ◌∷◌, ◌++◌, map, take, get_or, length, refl, sym, ap, ◌∙◌, arith, append_assoc, subst}
 use Rattle.std.specs.Prelude.{Result, Ok, Err, OnOk}
 use Rattle.std.proofs.lemmas.List.{append-nil, take_more, map-append}
 use Rattle.std.proofs.lemmas.List.Sums.{fold_push}
@@ -10,11 +10,10 @@ use Rattle.tables_names.specs.Noted.{AddsNoted, AreNoted, Notes}
 use Rattle.tables_names.proofs.NotedLemmas.{notes_both}
 use Rattle.program_types.specs.Content as content
 use Rattle.program_types.specs.Content.{Name, values}
-use Rattle.program_types.specs.Depth.{depth, greatest_depth}
 use Rattle.program_types.specs.Mentions.{names_of_value, names_of_values}
 use Rattle.program_types.specs.View.{value}
 use Rattle.program_types.specs.declared.value.Value.{Value}
-use Rattle.base_bytes.proofs.ListFacts.{map_more}
+use Rattle.base_bytes.proofs.ListFacts.{map_more, all_front, all_back}
 
 -- one more name, of an element
 pub names_more : {A B : Type 0} (f : B → Name) (g : A → B) (s l new : Five) (xs : List A) (i : ℕ) (d : A) → i < length xs → l ≡ with_names s (map f (map g (take i xs))) → new ≡ with_name l (f (g (get_or xs i d)))
@@ -39,23 +38,10 @@ values_more s l new xs i d lt e n =
     n ∙ ap (λ q. with_names q (names_of_value (value (get_or xs i d)))) e ∙ sym (names_append s (names_of_values (values (map value (take i xs)))) (names_of_value (value (get_or xs i d))))
     ∙ sym (ap (λ vs. with_names s (names_of_values (values vs))) m ∙ ap (with_names s) (names_push (map value (take i xs)) (value (get_or xs i d))))
 
-pub left : (P : Name → Type 0) (xs ys : List Name) → AllByRecursion P (xs ++ ys) → AllByRecursion P xs
-left P [] ys h = tt
-left P (x ∷ xs) ys h = (h.0, left P xs ys h.1)
-
-pub right : (P : Name → Type 0) (xs ys : List Name) → AllByRecursion P (xs ++ ys) → AllByRecursion P ys
-right P [] ys h = h
-right P (x ∷ xs) ys h = right P xs ys h.1
-
 pub value_kept : (P : Name → Type 0) (xs : List Value) (i : ℕ) (d : Value) → i < length xs → AllByRecursion P (names_of_values (values (map value xs))) → AllByRecursion P (names_of_value (value (get_or xs i d)))
 value_kept P [] i d lt h = absurd (omega (arith, lt))
-value_kept P (x ∷ xs) zero d lt h = left P (names_of_value (value x)) (names_of_values (values (map value xs))) h
-value_kept P (x ∷ xs) (suc i) d lt h = value_kept P xs i d (omega (arith, lt)) (right P (names_of_value (value x)) (names_of_values (values (map value xs))) h)
-
-pub value_less : (xs : List Value) (i : ℕ) (d : Value) → i < length xs → depth (value (get_or xs i d)) ≤ greatest_depth (values (map value xs))
-value_less [] i d lt = absurd (omega (arith, lt))
-value_less (x ∷ xs) zero d lt = omega arith
-value_less (x ∷ xs) (suc i) d lt = let r = value_less xs i d (omega (arith, lt)) in omega (arith, r)
+value_kept P (x ∷ xs) zero d lt h = all_front P (names_of_value (value x)) (names_of_values (values (map value xs))) h
+value_kept P (x ∷ xs) (suc i) d lt h = value_kept P xs i d (omega (arith, lt)) (all_back P (names_of_value (value x)) (names_of_values (values (map value xs))) h)
 
 -- names of elements, one after the other
 flat_push : {V : Type 0} (f : V → List Name) (vs : List V) (v : V) → flat_map f (vs ++ v ∷ []) ≡ flat_map f vs ++ f v
@@ -75,8 +61,8 @@ flat_more f g s l new xs i d lt e n =
 
 pub flat_kept : {A V : Type 0} (P : Name → Type 0) (f : V → List Name) (g : A → V) (xs : List A) (i : ℕ) (d : A) → i < length xs → AllByRecursion P (flat_map f (map g xs)) → AllByRecursion P (f (g (get_or xs i d)))
 flat_kept P f g [] i d lt h = absurd (omega (arith, lt))
-flat_kept P f g (x ∷ xs) zero d lt h = left P (f (g x)) (flat_map f (map g xs)) h
-flat_kept P f g (x ∷ xs) (suc i) d lt h = flat_kept P f g xs i d (omega (arith, lt)) (right P (f (g x)) (flat_map f (map g xs)) h)
+flat_kept P f g (x ∷ xs) zero d lt h = all_front P (f (g x)) (flat_map f (map g xs)) h
+flat_kept P f g (x ∷ xs) (suc i) d lt h = flat_kept P f g xs i d (omega (arith, lt)) (all_back P (f (g x)) (flat_map f (map g xs)) h)
 
 -- ---- names that are noted
 

@@ -1,7 +1,7 @@
 -- Arrays by rank.
 use Rattle.std.proofs.Common.{◌≡◌, ℕ, ◌+◌, ◌<◌, ◌≤◌, List, [], length, refl, ap, false, arith}
 use Rattle.base_bytes.specs.Leb128.{Shortest}
-use Rattle.program_types.specs.Content.{Units, FieldRef, MethodRef, OfText, OfDesc, OfField, OfMethod, Value}
+use Rattle.program_types.specs.Content.{OfText, OfDesc, OfField, OfMethod, Value}
 use Rattle.file_limits.specs.Closure.{AreRising, Five, NameRanks}
 use Rattle.file_classes.specs.Spelling.{SpellsArray}
 use Rattle.file_classes.specs.Wide.{wide_array}
@@ -9,14 +9,14 @@ use Rattle.file_classes.proofs.Lengths.{SpellsArray-most}
 use Rattle.file_classes.proofs.Places.{SpellsArray-least}
 use Rattle.file_shared.specs.Sections.{is_empty_list}
 use Rattle.file_shared.specs.Tiles.{gap}
-use Rattle.program_types.specs.Key.{text_key, field_ref_key, method_ref_key}
 use Rattle.file_classes.specs.Unique.{IsFunctionalByType}
 use Rattle.file_classes.proofs.FrontLaws.{SpellsArray-unique}
 use Rattle.file_shared.proofs.SectionLaws.{gap_one}
 use Rattle.file_limits.proofs.HandlerOnce.{ranks-injective}
 use Rattle.file_classes.proofs.ArrayOnce.{array_once}
 use Rattle.file_parts.specs.Arrays.{WritesArray}
-use Rattle.file_limits.proofs.code_put_RankLaws.{keys-one}
+use Rattle.file_limits.proofs.PlaceLemmas.{one_key}
+use Rattle.program_types.proofs.KeysTell.{text_told, field_told, method_told}
 
 -- ---- an array that is written once
 
@@ -36,23 +36,11 @@ array_most s vs e bytes at p =
     let m = SpellsArray-most (NameRanks s) bytes vs p.packs.spelled in
     omega (arith, g, m)
 
-text_one : (s t : Units) → text_key s ≡ text_key t → s ≡ t
-text_one s t e = cc
-
-field_one : (f g : FieldRef) → field_ref_key f ≡ field_ref_key g → f ≡ g
-field_one f g e = let a : f.class ≡ g.class = cc in let b : f.name ≡ g.name = cc in let c : f.ty ≡ g.ty = cc in λ i. record { class = a i; name = b i; ty = c i }
-
-method_one : (f g : MethodRef) → method_ref_key f ≡ method_ref_key g → f ≡ g
-method_one f g e =
-    let a : f.class ≡ g.class = cc in let b : f.name ≡ g.name = cc in
-    let r : f.proto.ret ≡ g.proto.ret = cc in let p : f.proto.params ≡ g.proto.params = cc in
-    λ i. record { class = a i; name = b i; proto = record { ret = r i; params = p i } }
-
 ranks_functional : (s : Five) → IsFunctionalByType (NameRanks s)
-ranks_functional s i (OfText m) (OfText n) e p q = ap OfText (text_one m n (keys-one s.strings i _ _ p q))
-ranks_functional s i (OfDesc m) (OfDesc n) e p q = ap OfDesc (text_one m n (keys-one s.types i _ _ p q))
-ranks_functional s i (OfField m) (OfField n) e p q = ap OfField (field_one m n (keys-one s.fields i _ _ p q))
-ranks_functional s i (OfMethod m) (OfMethod n) e p q = ap OfMethod (method_one m n (keys-one s.methods i _ _ p q))
+ranks_functional s i (OfText m) (OfText n) e p q = ap OfText (text_told m n (one_key s.strings i _ _ p q))
+ranks_functional s i (OfDesc m) (OfDesc n) e p q = ap OfDesc (text_told m n (one_key s.types i _ _ p q))
+ranks_functional s i (OfField m) (OfField n) e p q = ap OfField (field_told m n (one_key s.fields i _ _ p q))
+ranks_functional s i (OfMethod m) (OfMethod n) e p q = ap OfMethod (method_told m n (one_key s.methods i _ _ p q))
 ranks_functional s i _ _ e p q = absurd (omega arith)
 
 -- the bytes of an array have one value

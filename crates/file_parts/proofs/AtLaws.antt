@@ -8,9 +8,10 @@ use Rattle.base_bytes.specs.Grammar.{Each}
 use Rattle.base_bytes.specs.Words.{words_bytes}
 use Rattle.file_limits.specs.Closure.{Five}
 use Rattle.file_limits.specs.Rank.{IsAt}
-use Rattle.program_types.specs.Content.{Units, Descriptor, Proto, FieldRef, MethodRef}
+use Rattle.program_types.specs.Content.{Descriptor, Proto, FieldRef, MethodRef}
 use Rattle.program_types.specs.Key.{Key, text_key, proto_key, field_ref_key, method_ref_key}
 use Rattle.file_parts.specs.Rows.{SpellsTable, SpellsProtos, SpellsTypeRow, SpellsProtoRow, SpellsFieldRow, SpellsMethodRow}
+use Rattle.program_types.proofs.KeysTell.{text_told, proto_told, field_told, method_told}
 
 -- pieces of one size: piece i begins i sizes after the front
 pub each_at : {V : Type 0} (G : List ℕ → V → Type 0) (size : ℕ) → ((bytes : List ℕ) (v : V) → G bytes v → length bytes ≡ size)
@@ -32,30 +33,6 @@ named_at : {V : Type 0} (key : V → Key) → ((v w : V) → key v ≡ key w →
 named_at key one [] i v e = absurd (cc e)
 named_at key one (x ∷ names) zero v e = ap Some (one x v (cc e))
 named_at key one (x ∷ names) (suc i) v e = named_at key one names i v e
-
-text_one : (t u : Units) → text_key t ≡ text_key u → t ≡ u
-text_one t u e = cc e
-
-pub proto_one : (p q : Proto) → proto_key p ≡ proto_key q → p ≡ q
-proto_one p q e =
-    let ret : p.ret ≡ q.ret = cc e in
-    let params : p.params ≡ q.params = cc e in
-    λ i. record { ret = ret i; params = params i }
-
-field_one : (f g : FieldRef) → field_ref_key f ≡ field_ref_key g → f ≡ g
-field_one f g e =
-    let class : f.class ≡ g.class = cc e in
-    let name : f.name ≡ g.name = cc e in
-    let ty : f.ty ≡ g.ty = cc e in
-    λ i. record { class = class i; name = name i; ty = ty i }
-
-method_one : (m n : MethodRef) → method_ref_key m ≡ method_ref_key n → m ≡ n
-method_one m n e =
-    let class : m.class ≡ n.class = cc e in
-    let name : m.name ≡ n.name = cc e in
-    let key : proto_key m.proto ≡ proto_key n.proto = cc e in
-    let proto = proto_one m.proto n.proto key in
-    λ i. record { class = class i; name = name i; proto = proto i }
 
 -- the row of a name in a table
 row_of : {V : Type 0} (key : V → Key) → ((v w : V) → key v ≡ key w → v ≡ w) → (G : List ℕ → V → Type 0) (size : ℕ) → ((bytes : List ℕ) (v : V) → G bytes v → length bytes ≡ size)
@@ -80,18 +57,18 @@ unfolding u16_bytes u32_bytes
 method_size s bytes m r = ap length r.whole
 
 pub type_row : (s : Five) (bytes : List ℕ) (i : ℕ) (t : Descriptor) → SpellsTable text_key (SpellsTypeRow s) bytes s.types → IsAt s.types i (text_key t) → SpellsTypeRow s (take 4 (drop (4 * i) bytes)) t
-type_row s bytes i t rows at = row_of text_key text_one (SpellsTypeRow s) 4 (type_size s) bytes s.types i t rows at
+type_row s bytes i t rows at = row_of text_key text_told (SpellsTypeRow s) 4 (type_size s) bytes s.types i t rows at
 
 pub field_row : (s : Five) (bytes : List ℕ) (i : ℕ) (f : FieldRef) → SpellsTable field_ref_key (SpellsFieldRow s) bytes s.fields → IsAt s.fields i (field_ref_key f) → SpellsFieldRow s (take 8 (drop (8 * i) bytes)) f
-field_row s bytes i f rows at = row_of field_ref_key field_one (SpellsFieldRow s) 8 (field_size s) bytes s.fields i f rows at
+field_row s bytes i f rows at = row_of field_ref_key field_told (SpellsFieldRow s) 8 (field_size s) bytes s.fields i f rows at
 
 pub method_row : (s : Five) (bytes : List ℕ) (i : ℕ) (m : MethodRef) → SpellsTable method_ref_key (SpellsMethodRow s) bytes s.methods → IsAt s.methods i (method_ref_key m) → SpellsMethodRow s (take 8 (drop (8 * i) bytes)) m
-method_row s bytes i m rows at = row_of method_ref_key method_one (SpellsMethodRow s) 8 (method_size s) bytes s.methods i m rows at
+method_row s bytes i m rows at = row_of method_ref_key method_told (SpellsMethodRow s) 8 (method_size s) bytes s.methods i m rows at
 
 -- the pair of a place and a proto
 paired_at : (names : List (ℕ × Proto)) (i : ℕ) (p : Proto) → IsAt (map (λ (x : ℕ × Proto). proto_key x.1) names) i (proto_key p) → slice_get names i ≡ Some (get_or (map (λ (x : ℕ × Proto). x.0) names) i 0, p)
 paired_at [] i p e = absurd (cc e)
-paired_at (x ∷ names) zero p e = let same = proto_one x.1 p (cc e) in ap (λ (q : Proto). Some (x.0, q)) same
+paired_at (x ∷ names) zero p e = let same = proto_told x.1 p (cc e) in ap (λ (q : Proto). Some (x.0, q)) same
 paired_at (x ∷ names) (suc i) p e = paired_at names i p e
 
 pub proto_row : (s : Five) (places bytes : List ℕ) (i : ℕ) (p : Proto) → SpellsProtos s places bytes s.protos → IsAt s.protos i (proto_key p) → SpellsProtoRow s (take 12 (drop (12 * i) bytes)) (get_or places i 0, p)

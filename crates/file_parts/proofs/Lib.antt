@@ -2,7 +2,6 @@ pub mod RowLaws
 pub mod AtLaws
 pub mod ClassRowLaws
 pub mod RowsOnce
-pub mod Steps
 pub mod RoomLaws
 pub mod ListLaws
 pub mod LayingLaws
@@ -22,12 +21,10 @@ pub use Rattle.file_classes.proofs.Fitting
 pub use Rattle.file_classes.proofs.FrontLaws
 pub use Rattle.file_classes.proofs.CodeLaws as code_read_CodeLaws
 pub use Rattle.file_limits.proofs.CodeOnce
-pub use Rattle.file_limits.proofs.DistinctLaws
 pub use Rattle.file_limits.proofs.HandlerOnce
 pub use Rattle.file_limits.proofs.HandlerPacks
 pub use Rattle.file_limits.proofs.MentionLaws
 pub use Rattle.file_limits.proofs.PackedLaws
-pub use Rattle.file_limits.proofs.code_put_RankLaws as RankLaws
 pub use Rattle.file_classes.proofs.EntryLaws
 pub use Rattle.file_classes.proofs.MemberLaws
 pub use Rattle.file_classes.proofs.OnceLaws

@@ -14,8 +14,9 @@ use Rattle.file_shared.specs.Sections.{is_empty_list}
 use Rattle.file_limits.specs.Indices.{AreIndices}
 use Rattle.file_parts.specs.Lists.{AddsIndices, SpellsRanks}
 use Rattle.file_limits.specs.Wide.{wide_list}
-use Rattle.file_limits.proofs.code_put_RankLaws.{keys-one}
 use Rattle.base_bytes.proofs.ListFacts.{zip_length}
+use Rattle.file_limits.proofs.PlaceLemmas.{one_key}
+use Rattle.program_types.proofs.KeysTell.{text_told}
 
 pub indices_none : (s : Five) (old : List ℕ) → AddsIndices s old old []
 unfolding halves_bytes
@@ -52,9 +53,6 @@ list_most s (t ∷ ts) e bytes at p =
     let g = gap_four at in
     omega (arith, l, g)
 
-text_one : (t u : Units) → text_key t ≡ text_key u → t ≡ u
-text_one t u e = cc e
-
 pub named_one : (s : Five) (is : List ℕ) (ts us : List Units) → AreIndices s.types is ts → AreIndices s.types is us → ts ≡ us
 named_one s [] [] [] p q = refl
 named_one s [] [] (u ∷ us) p q = absurd q
@@ -62,7 +60,7 @@ named_one s [] (t ∷ ts) us p q = absurd p
 named_one s (i ∷ is) [] us p q = absurd p
 named_one s (i ∷ is) (t ∷ ts) [] p q = absurd q
 named_one s (i ∷ is) (t ∷ ts) (u ∷ us) p q =
-    let a = text_one t u (keys-one s.types i (text_key t) (text_key u) p.0 q.0) in
+    let a = text_told t u (one_key s.types i (text_key t) (text_key u) p.0 q.0) in
     let b = named_one s is ts us p.1 q.1 in
     λ j. a j ∷ b j
 

@@ -11,7 +11,7 @@ use Rattle.file_limits.specs.Closure.{Five, AreRising}
 use Rattle.file_classes.specs.ClassRows.{IndexOrNone}
 use Rattle.file_parts.specs.Rows.{SpellsTypeRow, SpellsProtoRow, SpellsFieldRow, SpellsMethodRow, SpellsTable, SpellsRows}
 use Rattle.file_parts.specs.ClassDefs.{ClassWithPlaces, SpellsClassRow}
-use Rattle.file_classes.proofs.FileLemmas.{one_place}
+use Rattle.file_limits.proofs.PlaceLemmas.{one_place}
 
 -- the same of two keys that are equal
 place_same : (ks : List Key) (i j : ℕ) (k l : Key) → Rising ks → k ≡ l → IsAt ks i k → IsAt ks j l → i ≡ j

@@ -29,8 +29,9 @@ use Rattle.file_classes.specs.ClassRows.{class_word}
 use Rattle.file_classes.specs.ClassData.{FieldEntry, MethodEntry, Entries, no_entries, SpellsFieldEntry, SpellsMethodEntry, SpellsEntries, EntriesAt, EntriesAre}
 use Rattle.file_classes.specs.Classes.{IsField, IsMethod, StaticsAt, CodesAre, SpellsClass}
 use Rattle.file_read.specs.Means.{Means}
-use Rattle.file_read.proofs.WellLaws.{all_from, run_entry, class_rows, code_formed, rules_hold}
-use Rattle.file_classes.proofs.PlainLaws.{weaker}
+use Rattle.file_read.proofs.WellLaws.{run_entry, class_rows, code_formed, rules_hold}
+use Rattle.base_bytes.proofs.ListFacts.{all_there}
+use Rattle.std.proofs.lemmas.Option.{IfSome_then}
 
 -- ---- names
 
@@ -158,16 +159,16 @@ flags_fit b place e st = by (place == 0) st
 
 module _ (b : List ℕ) (class : Units) where
   fields_range : (es : List FieldEntry) (ms : List Member) → EntriesAre (IsField b class) es ms → ((k : ℕ) (x : FieldEntry) → slice_get es k ≡ Some x → x.1 < 4294967296) → AllByRecursion MemberInRange ms
-  fields_range es ms run fit = all_from ms (λ k m at.
+  fields_range es ms run fit = all_there _ ms (λ k m at.
       let x = run_entry (IsField b class) es ms run k m at in
       subst (λ (n : ℕ). n < 4294967296) (sym x.2.flags) (fit k x.0 x.1))
 
   methods_range : AreBytes b → IsFramed b → (es : List MethodEntry) (ms : List Method) → EntriesAre (IsMethod b class) es ms → CodesAre b es ms → ((k : ℕ) (x : MethodEntry) → slice_get es k ≡ Some x → x.1.0 < 4294967296) → AllByRecursion DefinedInRange ms
-  methods_range are framed es ms run codes fit = all_from ms (λ k m at.
+  methods_range are framed es ms run codes fit = all_there _ ms (λ k m at.
       let x = run_entry (IsMethod b class) es ms run k m at in
       record {
         flags = subst (λ (n : ℕ). n < 4294967296) (sym x.2.flags) (fit k x.0 x.1);
-        code = weaker IsFormed CodeInRange m.code (λ c f. record { registers = f.registers; ins = f.ins; outs = f.outs }) (code_formed b are framed x.0.1.1 m.code (codes k x.0 m x.1 at));
+        code = IfSome_then m.code {P = IsFormed} {Q = CodeInRange} (code_formed b are framed x.0.1.1 m.code (codes k x.0 m x.1 at)) (λ c f. record { registers = f.registers; ins = f.ins; outs = f.outs });
       })
 
 -- ---- a program
@@ -191,4 +192,4 @@ class_range b are framed i c s =
     }
 
 pub well_formed : (b : List ℕ) → AreBytes b → (p : Program) → Means b p → WellFormed p
-well_formed b are p m = record { ranges = all_from p (λ i c at. class_range b are m.framed i c (m.classes.each i c at)); rules = rules_hold b are p m }
+well_formed b are p m = record { ranges = all_there _ p (λ i c at. class_range b are m.framed i c (m.classes.each i c at)); rules = rules_hold b are p m }

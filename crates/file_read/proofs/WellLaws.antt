@@ -1,5 +1,5 @@
 -- What a file means is well formed, and has rows for its names.
-use Rattle.std.proofs.Common.{◌≡◌, ◌≢◌, ℕ, zero, suc, ◌+◌, ◌<◌, ◌≤◌, Bool, true, false, List, [], ◌∷◌, ◌++◌, length, map, take, Option, Some, None, refl, sym, ap, ◌∙◌, subst, arith, slice_get, get_or}
+use Rattle.std.proofs.Common.{◌≡◌, ◌≢◌, ℕ, zero, suc, ◌+◌, ◌<◌, ◌≤◌, Bool, true, false, List, [], ◌∷◌, length, map, take, Option, Some, None, refl, sym, ap, ◌∙◌, subst, arith, slice_get, get_or}
 use Rattle.std.specs.Prelude.{MatchBool, ◌==◌, slice_index, sum, IfSome}
 use Rattle.std.specs.List.{AllByRecursion, AllZip, flat_map}
 use Rattle.std.specs.Cmp.{nat_cmp_is}
@@ -10,7 +10,7 @@ use Rattle.std.specs.declared.cmp.Ordering.TheVariants.{Less}
 use Rattle.std.proofs.lemmas.Cmp.{tied_itself}
 use Rattle.std.proofs.lemmas.Grind.{common_steps}
 use Rattle.std.proofs.lemmas.List.{length-map}
-use Rattle.std.proofs.lemmas.Option.{slice_get_within}
+use Rattle.std.proofs.lemmas.Option.{slice_get_within, IfSome_then}
 use Rattle.dex_container.specs.Frame.{IsFramed}
 use Rattle.dex_container.specs.Layout.{size_of}
 use Rattle.dex_base.specs.Descriptor.{IsClass}
@@ -40,7 +40,7 @@ use Rattle.program_rules.proofs.OperandLaws.{formed_operands}
 use Rattle.program_rules.specs.CodeRules.{OperandsHold, TargetsHold, PayloadsHold, TriesHold}
 use Rattle.file_classes.proofs.CodesFormed.{standing-formed}
 use Rattle.file_classes.proofs.NamesHaveRows as codes
-use Rattle.file_classes.proofs.PlainLaws.{weaker}
+use Rattle.base_bytes.proofs.ListFacts.{all_append, all_there}
 
 -- ---- a name that stands is one of its kind
 
@@ -63,10 +63,6 @@ all_valid b [] all = tt
 all_valid b (n ∷ ns) all = (name_valid b all.0.0 n all.0.1, all_valid b ns all.1)
 
 -- ---- names have rows
-
-all_append : (P : Name → Type 0) (xs ys : List Name) → AllByRecursion P xs → AllByRecursion P ys → AllByRecursion P (xs ++ ys)
-all_append P [] ys p q = q
-all_append P (x ∷ xs) ys p q = (p.0, all_append P xs ys p.1 q)
 
 all_map : {V : Type 0} (P : Name → Type 0) (f : V → Name) (vs : List V) → ((k : ℕ) (v : V) → slice_get vs k ≡ Some v → P (f v)) → AllByRecursion P (map f vs)
 all_map P f [] each = tt
@@ -187,10 +183,6 @@ of_type [] j t is = absurd cc
 of_type (c ∷ cs) zero t is = (c, refl, cc)
 of_type (c ∷ cs) (suc j) t is = of_type cs j t is
 
-pub all_from : {V : Type 0} {P : V → Type 0} (vs : List V) → ((k : ℕ) (v : V) → slice_get vs k ≡ Some v → P v) → AllByRecursion P vs
-all_from [] each = tt
-all_from (v ∷ vs) each = (each 0 v refl, all_from vs (λ k. each (suc k)))
-
 are_distinct : (ts : List Units) → classes.NoTypeTwice ts → AreDistinct ts
 are_distinct ts d k within j less same =
     let t = entry_at ts k within in
@@ -228,7 +220,7 @@ module _ (b : List ℕ) (p : Program) (m : Means b p) where
       record {
         once = λ j lt is. let d = of_type p j c.ty is in order.once j (omega arith) lt (defines j (class_word b i 0) d.0 c.ty d.1 d.2 s.head.row.named);
         superclass = above_none i (class_word b i 2) c.superclass s.head.row.above order.superclass;
-        interfaces = all_from c.interfaces (λ k t there. let x = zip_at (TypeStands b) list.indexes c.interfaces list.named k t there in none_is i (slice_index list.indexes k) t (order.interfaces list.indexes list.spelled k x.0) x.1);
+        interfaces = all_there _ c.interfaces (λ k t there. let x = zip_at (TypeStands b) list.indexes c.interfaces list.named k t there in none_is i (slice_index list.indexes k) t (order.interfaces list.indexes list.spelled k x.0) x.1);
         distinct = are_distinct c.interfaces s.head.interfaces.distinct;
       }
 
@@ -252,9 +244,9 @@ module _ (b : List ℕ) (are : AreBytes b) (framed : IsFramed b) where
       by false s = subst (λ (x : Option Code). IfSome x IsFormed) (sym s.is) (standing-formed b are framed off s.some s.stands)
 
   codes_formed : (class : Units) (es : List MethodEntry) (ms : List Method) → EntriesAre (IsMethod b class) es ms → CodesAre b es ms → (Holds : Code → Type 0) → ((c : Code) → IsFormed c → Holds c) → AllByRecursion (λ (v : Method). IfSome v.code Holds) ms
-  codes_formed class es ms run are_codes Holds f = all_from ms (λ k v at.
+  codes_formed class es ms run are_codes Holds f = all_there _ ms (λ k v at.
       let x = run_entry (IsMethod b class) es ms run k v at in
-      weaker IsFormed Holds v.code f (code_formed x.0.1.1 v.code (are_codes k x.0 v x.1 at)))
+      IfSome_then v.code {P = IsFormed} {Q = Holds} (code_formed x.0.1.1 v.code (are_codes k x.0 v x.1 at)) f)
 
   class_codes : (i : ℕ) (c : Class) → SpellsClass b i c → (Holds : Code → Type 0) → ((d : Code) → IsFormed d → Holds d) → CodesHold Holds c
   class_codes i c s Holds f = record {

@@ -4,7 +4,6 @@ pub mod Groups
 pub mod Means
 pub mod Refused
 -- What stands below, for the crates above.
-pub use Rattle.file_classes.specs.Symbols
 pub use Rattle.file_classes.specs.Code
 pub use Rattle.file_classes.specs.Handlers
 pub use Rattle.file_classes.specs.Item

@@ -1,9 +1,6 @@
 -- Classes with the places of their items, row by row.
-use Rattle.std.proofs.Common.{◌≡◌, ℕ, zero, suc, ◌+◌, ◌<◌, ◌≤◌, List, [], ◌∷◌, length, map, take, get_or, refl, sym, ap, ◌∙◌, arith, subst, Some}
+use Rattle.std.proofs.Common.{◌≡◌, ℕ, zero, suc, ◌+◌, ◌<◌, ◌≤◌, List, [], ◌∷◌, length, map, take, get_or, refl, sym, ◌∙◌, arith, subst}
 use Rattle.std.proofs.lemmas.List.{take_more, take_all, length-map}
-use Rattle.std.proofs.lemmas.Option.{slice_get-map, slice_get-get_or}
-use Rattle.std.specs.Prelude.{option_map}
-use Rattle.std.specs.List.{slice_get}
 use Rattle.base_bytes.specs.Grammar.{Appends, Each}
 use Rattle.base_bytes.proofs.GrammarLaws.{Each-appends_more}
 use Rattle.tables_names.specs.Closure.{Five}
@@ -43,7 +40,3 @@ seated_all s old new cs lists datas arrays i all a =
     let many = length-seated (map view.class cs) lists datas arrays in
     let same = length-map cs view.class in
     subst (λ (vs : List ClassWithPlaces). Appends (Each (SpellsClassRow s)) old new vs) (take_all i (with_places (map view.class cs) lists datas arrays) (omega (arith, all, many, same))) a
-
--- class i is among those of the program
-pub class_there : (cs : List made.Class) (i : ℕ) (d : made.Class) → i < length cs → slice_get (map view.class cs) i ≡ Some (view.class (get_or cs i d))
-class_there cs i d lt = slice_get-map view.class cs i ∙ ap (option_map view.class) (slice_get-get_or cs i d lt)

@@ -8,12 +8,10 @@ pub use Rattle.file_parts.proofs.Fitting
 pub use Rattle.file_parts.proofs.FrontLaws
 pub use Rattle.file_parts.proofs.code_read_CodeLaws
 pub use Rattle.file_parts.proofs.CodeOnce
-pub use Rattle.file_parts.proofs.DistinctLaws
 pub use Rattle.file_parts.proofs.HandlerOnce
 pub use Rattle.file_parts.proofs.HandlerPacks
 pub use Rattle.file_parts.proofs.MentionLaws
 pub use Rattle.file_parts.proofs.PackedLaws
-pub use Rattle.file_parts.proofs.RankLaws
 pub use Rattle.file_parts.proofs.EntryLaws
 pub use Rattle.file_parts.proofs.MemberLaws
 pub use Rattle.file_parts.proofs.OnceLaws
@@ -36,4 +34,3 @@ pub use Rattle.file_parts.proofs.RoomLaws
 pub use Rattle.file_parts.proofs.RowsOnce
 pub use Rattle.file_parts.proofs.RunLaws
 pub use Rattle.file_parts.proofs.SitedLaws
-pub use Rattle.file_parts.proofs.Steps

@@ -16,9 +16,10 @@ use Rattle.tables_names.specs.declared.parts.TypeParts.{TypeParts}
 use Rattle.tables_names.specs.declared.parts.ProtoParts.{ProtoParts}
 use Rattle.tables_names.specs.declared.parts.FieldParts.{FieldParts}
 use Rattle.tables_names.specs.declared.parts.MethodParts.{MethodParts}
-use Rattle.tables_names.proofs.NumberLemmas.{zip_get, zip_length}
+use Rattle.tables_names.proofs.NumberLemmas.{zip_get}
 use Rattle.file_parts.specs.Rows.{SpellsTypeRow, SpellsFieldRow, SpellsMethodRow, SpellsTable}
 use Rattle.file_rows.proofs.RowLaws.{held_at, rows_more, rows_are_table}
+use Rattle.base_bytes.proofs.ListFacts.{zip_length}
 
 -- what stands beside the keys, by place
 pub part_at : {P : Type 0} (R : Key → P → Type 0) (keys : List Key) (parts : List P) (i : ℕ) (p : P) → AllZip R keys parts → i < length parts → R (get_or keys i []) (get_or parts i p)

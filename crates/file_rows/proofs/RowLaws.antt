@@ -11,6 +11,7 @@ use Rattle.tables_names.specs.Rank.{IsAt}
 use Rattle.program_types.specs.Content.{Proto}
 use Rattle.program_types.specs.Key.{Key, proto_key}
 use Rattle.file_parts.specs.Rows.{SpellsTable, SpellsProtos, SpellsProtoRow}
+use Rattle.file_parts.proofs.PartLaws.{map_map}
 
 -- what a set has at an index
 pub held_at : {U : Type 0} (key : U → Key) (xs : List U) (table : List Key) (i : ℕ) (d : U) → map key xs ≡ table → i < length xs → IsAt table i (key (get_or xs i d))
@@ -23,17 +24,13 @@ rows_more {V = V} view G old mid new xs i d lt rows row =
     subst (λ (vs : List V). Appends (Each G) old new vs) (sym (map-append view (take i xs) (get_or xs i d ∷ [])) ∙ ap (map view) (sym (take_more xs i d lt)))
     (Each-appends_more G old mid new (map view (take i xs)) (view (get_or xs i d)) rows row)
 
-map_twice : {U V W : Type 0} (f : U → V) (g : V → W) (xs : List U) → map g (map f xs) ≡ map (λ x. g (f x)) xs
-map_twice f g [] = refl
-map_twice f g (x ∷ xs) = ap (λ l. g (f x) ∷ l) (map_twice f g xs)
-
 -- all rows are a table
 pub rows_are_table : {U V : Type 0} (view : U → V) (key : V → Key) (G : List ℕ → V → Type 0) (old new : List ℕ) (xs : List U) (table : List Key) (i : ℕ)
     → map (λ x. key (view x)) xs ≡ table → length xs ≤ i → Appends (Each G) old new (map view (take i xs)) → Appends (SpellsTable key G) old new table
 rows_are_table {U = U} view key G old new xs table i e all a = record {
   bytes = a.bytes;
   joined = a.joined;
-  spelled = record { names = map view xs; keys = map_twice view key xs ∙ e; rows = subst (λ (ys : List U). Each G a.bytes (map view ys)) (take_all i xs all) a.spelled };
+  spelled = record { names = map view xs; keys = map_map key view xs ∙ e; rows = subst (λ (ys : List U). Each G a.bytes (map view ys)) (take_all i xs all) a.spelled };
 }
 
 -- ---- protos, each with a place
@@ -85,8 +82,8 @@ protos_are_table {U = U} view s old new places xs table i n e all a =
       joined = a.joined;
       spelled = record {
         names = map pair (zip places xs);
-        keys = map_twice pair (λ (p : ℕ × Proto). proto_key p.1) (zip places xs) ∙ zip_seconds (λ (x : U). proto_key (view x)) places xs n ∙ e;
-        places_are = map_twice pair (λ (p : ℕ × Proto). p.0) (zip places xs) ∙ zip_firsts places xs n;
+        keys = map_map (λ (p : ℕ × Proto). proto_key p.1) pair (zip places xs) ∙ zip_seconds (λ (x : U). proto_key (view x)) places xs n ∙ e;
+        places_are = map_map (λ (p : ℕ × Proto). p.0) pair (zip places xs) ∙ zip_firsts places xs n;
         rows = subst (λ (ys : List (ℕ × U)). Each (SpellsProtoRow s) a.bytes (map pair ys)) (take_all i (zip places xs) (omega (arith, l, all))) a.spelled;
       };
     }

@@ -23,7 +23,7 @@ use Rattle.file_sections.proofs.NumberLaws.{class_named}
 use Rattle.file_rows.proofs.SectionLaws.{not_none}
 use Rattle.base_bytes.specs.Fields.{AreBytes}
 use Rattle.file_rows.specs.Arrays.{WritesArray}
-use Rattle.file_needed.proofs.Steps.{left, right}
+use Rattle.base_bytes.proofs.ListFacts.{all_front, all_back}
 
 ranked : (s : Five) → FewNames s → (n : Name) → HasIndex (NameRanks s) n → IsRanked s n
 ranked s k (OfText t) h = let w = slice_get_within s.strings h.0 _ h.1 in record { rank = h.0; small = omega (arith, w, k.strings); stands = h.1 }
@@ -40,7 +40,7 @@ mutual
 
   all_ranked : (s : Five) → FewNames s → (vs : Values) → AllByRecursion (HasIndex (NameRanks s)) (names_of_values vs) → AllNamesHold (IsRanked s) vs
   all_ranked s k no_values h = tt
-  all_ranked s k (more_values v vs) h = (value_ranked s k v (left (HasIndex (NameRanks s)) (names_of_value v) (names_of_values vs) h), all_ranked s k vs (right (HasIndex (NameRanks s)) (names_of_value v) (names_of_values vs) h))
+  all_ranked s k (more_values v vs) h = (value_ranked s k v (all_front (HasIndex (NameRanks s)) (names_of_value v) (names_of_values vs) h), all_ranked s k vs (all_back (HasIndex (NameRanks s)) (names_of_value v) (names_of_values vs) h))
 
 pub values_ranked : (s : Five) (p : Program) (cs : List class.Class) (k : ℕ) (d : class.Class) → s ≡ needed p → FewNames s → p ≡ map view.class cs → k < length cs → AllNamesHold (IsRanked s) (values (map view.value (get_or cs k d).values.now))
 values_ranked s p cs k d e f m lt = all_ranked s f _ (values_kept (HasIndex (NameRanks s)) (view.class (get_or cs k d)) (class_named s p cs k d e m lt))

@@ -13,10 +13,8 @@ pub use Rattle.file_rows.proofs.Carrying
 pub use Rattle.file_rows.proofs.FrontLaws
 pub use Rattle.file_rows.proofs.code_read_CodeLaws
 pub use Rattle.file_rows.proofs.CodeOnce
-pub use Rattle.file_rows.proofs.DistinctLaws
 pub use Rattle.file_rows.proofs.HandlerOnce
 pub use Rattle.file_rows.proofs.PackedLaws
-pub use Rattle.file_rows.proofs.RankLaws
 pub use Rattle.file_rows.proofs.EntryLaws
 pub use Rattle.file_rows.proofs.MemberLaws
 pub use Rattle.file_rows.proofs.OnceLaws

@@ -16,8 +16,7 @@ use Rattle.file_rows.specs.Once.{Entry, PutsOnce}
 use Rattle.file_rows.specs.Sharing.{UsesItem}
 use Rattle.file_rows.specs.Lists.{AddsIndices, SpellsRanks}
 use Rattle.file_rows.specs.file_limits_Wide.{wide_list}
-use Rattle.file_rows.proofs.DistinctLaws.{all-more}
-use Rattle.base_bytes.proofs.ListFacts.{zip_length, zip_more, map_more}
+use Rattle.base_bytes.proofs.ListFacts.{zip_length, zip_more, map_more, all_append}
 use Rattle.file_rows.proofs.ListLaws.{halves_push}
 
 pub indices_more : (s : Five) (old mid new bytes : List ℕ) (k : ℕ) (xs : List Desc) (i : ℕ) (d : Desc) → i < length xs → AddsIndices s old mid (map view.desc (take i xs)) → new ≡ mid ++ bytes → bytes ≡ u16_bytes k → k < 2 ^ 16 → IsAt s.types k (text_key (view.desc (get_or xs i d))) → AddsIndices s old new (map view.desc (take (i + 1) xs))
@@ -26,7 +25,7 @@ indices_more s old mid new bytes k xs i d lt a n b small at =
     (record {
       indexes = a.indexes ++ k ∷ [];
       whole = n ∙ ap (λ (l : List ℕ). l ++ bytes) a.whole ∙ append_assoc old (halves_bytes a.indexes) bytes ∙ ap (λ (l : List ℕ). old ++ l) (ap (λ (l : List ℕ). halves_bytes a.indexes ++ l) b ∙ sym (halves_push a.indexes k));
-      small = all-more (λ (j : ℕ). j < 2 ^ 16) a.indexes k a.small small;
+      small = all_append (λ (j : ℕ). j < 2 ^ 16) a.indexes (k ∷ []) a.small (small, tt);
       named = zip_more (λ (j : ℕ) (t : Units). IsAt s.types j (text_key t)) a.indexes (map view.desc (take i xs)) k (view.desc (get_or xs i d)) a.named at;
     })
 

@@ -19,7 +19,7 @@ use Rattle.program_types.specs.View as view
 use Rattle.program_types.specs.declared.class.Class as made
 use Rattle.program_types.specs.declared.names.Proto.{Proto}
 use Rattle.program_types.specs.Kinds.{HasIndex}
-use Rattle.file_rows.proofs.Steps.{mapped_at}
+use Rattle.base_bytes.proofs.ListFacts.{map_at}
 
 placed_all : (s : Five) (ts : List Units) (row : List ℕ) → AreIndices s.types row ts → AllByRecursion (λ t. HasRank s.types (text_key t)) ts
 placed_all s [] row a = tt
@@ -29,7 +29,7 @@ placed_all s (t ∷ ts) (i ∷ row) a = ((i, a.0), placed_all s ts row a.1)
 pub params_held : (s : Five) (p : Program) (qs : List Proto) (k : ℕ) (d : Proto) → s ≡ needed p → map key_of_proto qs ≡ s.protos → k < length qs → AllByRecursion (λ t. HasRank s.types (text_key t)) (map view.desc (get_or qs k d).params.now)
 params_held s p qs k d e m lt =
     let closed = subst (λ (x : Five). IsClosed x) (sym e) (needed_is_least p).1.closed in
-    let at : IsAt s.protos k (key_of_proto (get_or qs k d)) = subst (λ (ks : List Key). slice_get ks k ≡ Some (key_of_proto (get_or qs k d))) m (mapped_at key_of_proto qs k d lt) in
+    let at : IsAt s.protos k (key_of_proto (get_or qs k d)) = subst (λ (ks : List Key). slice_get ks k ≡ Some (key_of_proto (get_or qs k d))) m (map_at key_of_proto qs k d lt) in
     let row = (closed_have_rows s closed).protos k (view.proto (get_or qs k d)) at in
     (placed_all s (proto_key (view.proto (get_or qs k d))) row.0 row.1).1
 

@@ -25,5 +25,5 @@ abbrev pub item_input : Item → List (List ℕ)
 item_input one = bytes_input one.bytes.items
 
 -- equal items feed the same
-pub respects : (x y : Item) → IsTrue (pointwise nat_eq x.bytes.items y.bytes.items) → item_input x ≡ item_input y
-respects x y same = ap bytes_input (same_text x.bytes.items y.bytes.items (sym same))
+pub item_respects : (x y : Item) → IsTrue (pointwise nat_eq x.bytes.items y.bytes.items) → item_input x ≡ item_input y
+item_respects x y same = ap bytes_input (same_text x.bytes.items y.bytes.items (sym same))

@@ -30,11 +30,11 @@ fn hash_longs<H: Hasher>(bytes: &[u8], state: &mut H)
 }
 
 impl Hash for Item {
-    ghost use Rattle.file_shared.specs.Hashing.{respects};
+    ghost use Rattle.file_shared.specs.Hashing.{item_respects};
 
     ghost hash_input = { item_input };
 
-    ghost respects_eq = { respects };
+    ghost respects_eq = { item_respects };
 
     fn hash<H: Hasher>(&self, state: &mut H) {
         let bytes = self.bytes.as_slice();

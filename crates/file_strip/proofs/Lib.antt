@@ -3,14 +3,12 @@ pub mod FoundLaws
 pub mod ReadyLaws
 pub mod WalkLaws
 -- What stands below, for the crates above.
-pub use Rattle.file_assemble.proofs.DistinctLaws
 pub use Rattle.file_assemble.proofs.PackedLaws
-pub use Rattle.file_assemble.proofs.RankLaws
 pub use Rattle.file_assemble.proofs.LimitLaws
 pub use Rattle.file_assemble.proofs.OneLimit
 pub use Rattle.file_assemble.proofs.PartLaws
 pub use Rattle.file_kept.proofs.AtLaws
-pub use Rattle.file_kept.proofs.file_parts_ClassRowLaws
+pub use Rattle.file_kept.proofs.file_parts_ClassRowLaws as ClassRowLaws
 pub use Rattle.file_kept.proofs.CodeLaws
 pub use Rattle.file_kept.proofs.DataLaws as file_parts_DataLaws
 pub use Rattle.file_kept.proofs.file_parts_ListLaws as ListLaws
@@ -24,4 +22,3 @@ pub use Rattle.file_assemble.proofs.OnceLaws
 pub use Rattle.file_assemble.proofs.ReadyLaws as file_assemble_ReadyLaws
 pub use Rattle.file_kept.proofs.RowsFrom
 pub use Rattle.file_kept.proofs.VainLaws
-pub use Rattle.file_kept.proofs.ClassRowLaws as file_kept_ClassRowLaws

@@ -151,8 +151,8 @@ fn assemble_kept(
 /// The file of the program that a file means, as `assemble` writes it: tables of exactly the needed names, type lists, code items,
 /// texts, static values, class data, map; equal items stand once.
 ///
-/// Refused are programs whose handlers are too far in the order of first use (89, at the first such class) or that are too big (90,
-/// at 0); no file means a program that breaks a limit before these. 255 is out of memory. Hashes begin with the seed.
+/// Refused are programs that are too big (90, at 0), and else those whose handlers are too far in the order of first use (89, at the
+/// first such class); no file means a program that breaks a limit before these. 255 is out of memory. Hashes begin with the seed.
 ///
 /// ```
 /// let sections = open(&bytes)?;

@@ -4,25 +4,14 @@ use Rattle.base_bytes.specs.Leb128.{SpellsSigned, Shortest, Spells}
 use Rattle.base_bytes.proofs.PlacedLaws.{Placed-weaker}
 use Rattle.base_bytes.proofs.WeakerLaws.{Implies, Many-weaker, Pair-weaker, Then-weaker}
 use Rattle.file_read.specs.Handlers.{AllBy, Handler, PacksHandlers, PartsBy, AddressBy, TypeBy, catches_of}
-use Rattle.file_read.specs.Symbols.{InsnNames, Says, name_in}
 use Rattle.file_strip.specs.Packs.{AreLowered, PacksCatch, PacksCode, PacksHandler, PacksHandlersOf}
 use Rattle.dex_insn.specs.Raw as raw
 use Rattle.dex_insn.specs.Raw.{Raw}
 use Rattle.program_types.specs.Content.{Code, Insn, Name, OfDesc, Try}
+use Rattle.file_read.proofs.CarryLaws.{says-weaker}
 
 module _ (M N : ℕ → Name → Type 0) (f : (i : ℕ) (which : Name) → M i which → N i which) where
   -- ---- instructions
-
-  names-weaker : (r : Raw) (which : Name) → InsnNames M r which → InsnNames N r which
-  names-weaker (raw.I21c op a i) w p = record { kind = p.kind; stands = f i w p.stands }
-  names-weaker (raw.I22c op a b i) w p = record { kind = p.kind; stands = f i w p.stands }
-  names-weaker (raw.I31c op a i) w p = record { kind = p.kind; stands = f i w p.stands }
-  names-weaker (raw.I35c op n regs i) w p = record { kind = p.kind; stands = f i w p.stands }
-  names-weaker (raw.I3rc op n first i) w p = record { kind = p.kind; stands = f i w p.stands }
-  names-weaker _ w p = tt
-
-  says-weaker : (T : ℤ → ℕ) (r : Raw) (i : Insn) → Says M T r i → Says N T r i
-  says-weaker T r i s = record { symbol = s.symbol; named = names-weaker r (name_in i) s.named }
 
   lowered-weaker : (is : List Insn) (ss : List ℕ) (rs : List Raw) → AreLowered M is ss rs → AreLowered N is ss rs
   lowered-weaker is ss rs l = record {
@@ -30,7 +19,7 @@ module _ (M N : ℕ → Name → Type 0) (f : (i : ℕ) (which : Name) → M i w
     each = λ k lt.
         let e = l.each k lt in
         let o = e.lowers in
-        record { origin = e.origin; counts = e.counts; lowers = record { says = says-weaker _ _ _ o.says; fits = o.fits; size = o.size; kind = o.kind }; even = e.even };
+        record { origin = e.origin; counts = e.counts; lowers = record { says = says-weaker M N f _ _ _ o.says; fits = o.fits; size = o.size; kind = o.kind }; even = e.even };
   }
 
   -- ---- handlers

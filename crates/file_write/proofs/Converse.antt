@@ -26,7 +26,6 @@ use Rattle.file_layout.specs.Sections.{is_empty_list, never}
 use Rattle.file_layout.specs.Spans.{has_items}
 use Rattle.file_layout.specs.Tiles.{gap}
 use Rattle.file_layout.proofs.PartLaws.{length_slice, slice_more}
-use Rattle.file_layout.proofs.StandLaws.{zip_weaker}
 use Rattle.file_layout.proofs.TileLaws.{Tiles-le}
 use Rattle.file_strip.specs.Wide.{array_values, bodies_in, bodies_of, body_values, list_values, params_of, text_values, wide_body, wide_list, wide_of, wide_text}
 use Rattle.file_strip.proofs.PartLaws.{by_parts}
@@ -49,7 +48,6 @@ use Rattle.tables_names.specs.Rank.{IsAt}
 use Rattle.tables_names.specs.Rows.{first_of}
 use Rattle.tables_names.proofs.NeededLemmas.{needed_is_least}
 use Rattle.tables_rows.specs.RowFields.{proto_parameters, string_place}
-use Rattle.dex_value.proofs.RankOnce.{rank_one}
 use Rattle.file_write.specs.Least.{HoldsExactly}
 use Rattle.file_write.specs.Packed.{Packed, SomeCode, SomeMembers, SomeTypes, SomeValues, array_places, code_places, data_places, list_places, table_end, text_places, words_of_rows}
 use Rattle.file_write.proofs.MapNamed.{HasRows, follows, is_written, part_says}
@@ -57,9 +55,10 @@ use Rattle.file_write.proofs.Readings.{AreEntriesOf, AreIndicesOf, IsBodyOf, mem
 use Rattle.file_write.proofs.Room.{laid_room}
 use Rattle.file_write.proofs.Retold.{IsTold, retold, retold_shared, zip_one}
 use Rattle.file_write.proofs.TableBytes.{length-words_of, word_or, words_zip}
-use Rattle.file_write.proofs.TableRows.{class_rows, name_rows, names_size, same_key}
-use Rattle.file_write.proofs.Told.{all_bodies_zip, bodies_zip, body_is_told, map_was, members_are_told, text_is_told, types_are_told, values_are_told, was_sited, zip_both}
-use Rattle.base_bytes.proofs.ListFacts.{zip_length}
+use Rattle.file_write.proofs.TableRows.{class_rows, name_rows, names_size}
+use Rattle.file_write.proofs.Told.{all_bodies_zip, bodies_zip, body_is_told, map_was, members_are_told, text_is_told, types_are_told, values_are_told, was_sited}
+use Rattle.base_bytes.proofs.ListFacts.{zip_length, zip_append, zip_weaker}
+use Rattle.tables_names.proofs.PlaceLemmas.{rank_one, one_key}
 
 -- ---- the file
 
@@ -103,7 +102,7 @@ module _ (b : List ℕ) (p : Program) (m : Means b p) (x : HoldsExactly b (neede
   bodies i e c by at =
       let q = same_entries i e c by at in
       let r = members i e c by at in
-      zip_both (CodeAt b) (code_offs e.directs) (code_offs e.virtuals) (bodies_in c.directs) (bodies_in c.virtuals)
+      zip_append (CodeAt b) (code_offs e.directs) (code_offs e.virtuals) (bodies_in c.directs) (bodies_in c.virtuals)
       (bodies_zip b e.directs c.directs r.directs.count (subst (λ (y : Entries). CodesAre b y.directs c.directs) q (m.classes.each i c at).directs))
       (bodies_zip b e.virtuals c.virtuals r.virtuals.count (subst (λ (y : Entries). CodesAre b y.virtuals c.virtuals) q (m.classes.each i c at).virtuals))
 
@@ -132,11 +131,11 @@ module _ (b : List ℕ) (p : Program) (m : Means b p) (x : HoldsExactly b (neede
 
   lists_told : AllZip ListTold (list_places b) (list_values (needed p) p)
   lists_told =
-      zip_both ListTold (words_of_rows (proto_parameters b) (size_of b 2)) (words_of_rows (λ i. interfaces_off b i) (size_of b 5)) (map params_of (needed p).protos) (map (λ (c : Class). c.interfaces) p)
+      zip_append ListTold (words_of_rows (proto_parameters b) (size_of b 2)) (words_of_rows (λ i. interfaces_off b i) (size_of b 5)) (map params_of (needed p).protos) (map (λ (c : Class). c.interfaces) p)
       (words_zip ListTold (proto_parameters b) (size_of b 2) (map params_of (needed p).protos) (x.protos ∙ sym (length-map (needed p).protos params_of)) (λ i ts lt at.
       let w = map_was params_of (needed p).protos i ts at in
       let r = m.tables.protos i lt in
-      let e = same_key (needed p).protos i w.0 (proto_key r.name) w.1 (x.only_proto i r.name r.stands) in
+      let e = one_key (needed p).protos i w.0 (proto_key r.name) w.1 (x.only_proto i r.name r.stands) in
       subst (λ (us : List Descriptor). ListTold (proto_parameters b i) us) (sym (ap params_of e) ∙ w.2)
       (types_are_told b (needed p) framed x.each x.only (proto_parameters b i) r.name.params r.stands.params)))
       (words_zip ListTold (λ i. interfaces_off b i) (size_of b 5) (map (λ (c : Class). c.interfaces) p) (class_count ∙ sym (length-map p (λ (c : Class). c.interfaces))) (λ i ts lt at.
@@ -163,7 +162,7 @@ module _ (b : List ℕ) (p : Program) (m : Means b p) (x : HoldsExactly b (neede
       words_zip TextTold (string_place b) (size_of b 0) (text_values (needed p)) (x.strings ∙ sym (length-map (needed p).strings first_of)) (λ i t lt at.
       let w = map_was first_of (needed p).strings i t at in
       let r = m.tables.strings i lt in
-      let e = same_key (needed p).strings i w.0 (text_key r.name) w.1 (x.only i (OfText r.name) r.stands) in
+      let e = one_key (needed p).strings i w.0 (text_key r.name) w.1 (x.only i (OfText r.name) r.stands) in
       subst (λ (u : Units). TextTold (string_place b i) u) (sym (ap first_of e) ∙ w.2)
       (text_is_told b (needed p) framed x.each x.only (string_place b i) r.name (text_after (string_place b i) r.name r.stands.text) r.stands.text))
 

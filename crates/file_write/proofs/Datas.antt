@@ -16,6 +16,7 @@ use Rattle.program_types.specs.Content.{Name}
 use Rattle.file_strip.specs.Data.{PacksData, ClassWithCodes, code_offs, has_no_members, method_count}
 use Rattle.tables_rows.specs.Stands.{NameStands}
 use Rattle.file_write.proofs.Members.{empty_run, entries_spelled, members_stand}
+use Rattle.std.proofs.lemmas.Bool.{and_parts}
 
 -- At this place stands the class data of a class, none at 0: its members, and its bodies by their places.
 pub record DataStands (b : List ℕ) (place : ℕ) (v : ClassWithCodes) : Type 0 where
@@ -32,30 +33,22 @@ none_long : (xs : List ℕ) → length xs ≡ 0 → [] ≡ xs
 none_long [] e = refl
 none_long (x ∷ xs) e = absurd (omega (arith, e))
 
-and_left : (x y : Bool) → (x && y) ≡ true → x ≡ true
-and_left true y e = refl
-and_left false y e = e
-
-and_right : (x y : Bool) → (x && y) ≡ true → y ≡ true
-and_right true y e = e
-and_right false y e = absurd cc
-
 module _ (b : List ℕ) (s : Five) (stand : (i : ℕ) (which : Name) → NameRanks s i which → NameStands b i which) (part : Part) (vs : List ClassWithCodes) (places : List ℕ)
     (has : HasPart b 0x2000 part) (l : Lays has_no_members (PacksData (NameRanks s)) 1 part.begin part.end b vs places part.items) where
   no_data : (place : ℕ) (v : ClassWithCodes) → length v.codes ≡ method_count v.class → place ≡ 0 → has_no_members v ≡ true → DataStands b place v
   no_data place v n z e =
-      let abc = and_left (is_empty_list v.class.statics && is_empty_list v.class.instances && is_empty_list v.class.directs) (is_empty_list v.class.virtuals) e in
-      let ab = and_left (is_empty_list v.class.statics && is_empty_list v.class.instances) (is_empty_list v.class.directs) abc in
-      let ds = empty_is v.class.directs (and_right (is_empty_list v.class.statics && is_empty_list v.class.instances) (is_empty_list v.class.directs) abc) in
-      let ws = empty_is v.class.virtuals (and_right (is_empty_list v.class.statics && is_empty_list v.class.instances && is_empty_list v.class.directs) (is_empty_list v.class.virtuals) e) in
+      let abc = (and_parts (is_empty_list v.class.statics && is_empty_list v.class.instances && is_empty_list v.class.directs) (is_empty_list v.class.virtuals) e).0 in
+      let ab = (and_parts (is_empty_list v.class.statics && is_empty_list v.class.instances) (is_empty_list v.class.directs) abc).0 in
+      let ds = empty_is v.class.directs (and_parts (is_empty_list v.class.statics && is_empty_list v.class.instances) (is_empty_list v.class.directs) abc).1 in
+      let ws = empty_is v.class.virtuals (and_parts (is_empty_list v.class.statics && is_empty_list v.class.instances && is_empty_list v.class.directs) (is_empty_list v.class.virtuals) e).1 in
       let dn = ap length ds in
       let wn = ap length ws in
       record {
         entries = no_entries;
         there = at_none place (◌≡◌ {A = Entries} no_entries no_entries) (At (SpellsEntries Spells) b 0x2000 1 place no_entries) z refl;
         members = record {
-          statics = empty_run (IsField b v.class.ty) v.class.statics (empty_is v.class.statics (and_left (is_empty_list v.class.statics) (is_empty_list v.class.instances) ab));
-          instances = empty_run (IsField b v.class.ty) v.class.instances (empty_is v.class.instances (and_right (is_empty_list v.class.statics) (is_empty_list v.class.instances) ab));
+          statics = empty_run (IsField b v.class.ty) v.class.statics (empty_is v.class.statics (and_parts (is_empty_list v.class.statics) (is_empty_list v.class.instances) ab).0);
+          instances = empty_run (IsField b v.class.ty) v.class.instances (empty_is v.class.instances (and_parts (is_empty_list v.class.statics) (is_empty_list v.class.instances) ab).1);
           directs = empty_run (IsMethod b v.class.ty) v.class.directs ds;
           virtuals = empty_run (IsMethod b v.class.ty) v.class.virtuals ws;
         };

@@ -1,6 +1,6 @@
 -- An assembled file is packed.
 use Rattle.std.proofs.Common.{◌≡◌, ℕ, zero, suc, ◌+◌, ◌<◌, List, [], ◌∷◌, ◌++◌, length, drop, get_or, refl, sym, ap, ◌∙◌, subst, arith, Some, slice_get, length-append, length-drop}
-use Rattle.std.proofs.lemmas.List.{take-append-drop}
+use Rattle.std.proofs.lemmas.List.{take-append-drop, nil_from_length}
 use Rattle.std.proofs.lemmas.Option.{slice_get-get_or}
 use Rattle.std.specs.Prelude.{if◌then◌else◌, ◌==◌}
 use Rattle.std.specs.List.{flat_map}
@@ -54,10 +54,6 @@ record AllData (b : List ℕ) (place : ℕ → ℕ) (count : ℕ) (codes : List 
   each : (k : ℕ) (e : Entries) → slice_get entries k ≡ Some e → EntriesAt b (place k) e
   places : codes ≡ flat_map code_places entries
 
-none_left : (xs : List ℕ) → length xs ≡ 0 → xs ≡ []
-none_left [] e = refl
-none_left (x ∷ xs) e = absurd (omega (arith, e))
-
 -- an element of a list that begins with another
 each_of : {E : Type 0} (P : ℕ → E → Type 0) (x : E) (xs : List E) → P 0 x → ((k : ℕ) (e : E) → slice_get xs k ≡ Some e → P (suc k) e) → (k : ℕ) (e : E) → slice_get (x ∷ xs) k ≡ Some e → P k e
 each_of P x xs first rest zero e at = let same : x ≡ e = cc at in subst (P 0) same first
@@ -65,7 +61,7 @@ each_of P x xs first rest (suc k) e at = rest k e at
 
 all_data : (b : List ℕ) (place : ℕ → ℕ) (p : Program) (codes : List ℕ) → length codes ≡ length (body_values p)
     → ((i : ℕ) (c : Class) → slice_get p i ≡ Some c → DataStands b (place i) (own_sited c (rest_after p codes i))) → AllData b place (length p) codes
-all_data b place [] codes n f = record { entries = []; many = refl; each = λ k e at. absurd (cc at); places = none_left codes n }
+all_data b place [] codes n f = record { entries = []; many = refl; each = λ k e at. absurd (cc at); places = nil_from_length codes n }
 all_data b place (c ∷ p) codes n f =
     let d = f 0 c refl in
     let m = length-append (bodies_of c) (body_values p) in

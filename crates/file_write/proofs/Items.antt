@@ -4,8 +4,7 @@ use Rattle.std.specs.Prelude.{MatchBool, ◌==◌, ◌||◌, if◌then◌else◌
 use Rattle.std.specs.List.{AllByRecursion, AllZip, fold, list_any, slice_get}
 use Rattle.std.proofs.lemmas.Bool.{eq-eqb}
 use Rattle.file_layout.specs.Tiles.{Among, Lays, Refers, add_place, distinct_places}
-use Rattle.program_rules.proofs.AllLaws.{all-turned}
-use Rattle.file_strip.proofs.DistinctLaws.{all-more}
+use Rattle.base_bytes.proofs.ListFacts.{all_weaker, all_append}
 
 -- ---- a place has one item
 
@@ -17,7 +16,7 @@ add_kept P seen place h f = by (place == 0) (list_any (λ q. q == place) seen) (
     by : (x y : Bool) → (place ≡ 0 → x ≡ true) → AllByRecursion P (if x || y then seen else seen ++ place ∷ [])
     by true y g = h
     by false true g = h
-    by false false g = all-more P seen place h (f (λ e. let z = g e in (cc z)))
+    by false false g = all_append P seen (place ∷ []) h (f (λ e. let z = g e in (cc z)), tt)
 
 fold_kept : (P : ℕ → Type 0) (places seen : List ℕ) → AllByRecursion P seen → AllByRecursion (λ q. q ≢ 0 → P q) places → AllByRecursion P (fold add_place seen places)
 fold_kept P [] seen h f = h
@@ -47,7 +46,7 @@ refers_kept none items [] (v ∷ vs) z = absurd z
 refers_kept none items (place ∷ places) [] z = absurd z
 refers_kept {V = V} none items (place ∷ places) (v ∷ vs) z = (
   by (none v) refl z.0,
-  all-turned (λ (q : ℕ). q ≢ 0 → HasItem none items places vs q) (λ (q : ℕ). q ≢ 0 → HasItem none items (place ∷ places) (v ∷ vs) q)
+  all_weaker (λ (q : ℕ). q ≢ 0 → HasItem none items places vs q) (λ (q : ℕ). q ≢ 0 → HasItem none items (place ∷ places) (v ∷ vs) q)
       (λ q h n. one_later none items places vs place v q (h n)) places (refers_kept none items places vs z.1),
 )
   where

@@ -19,11 +19,7 @@ use Rattle.file_layout.proofs.TileLaws.{Tiles-le}
 use Rattle.file_strip.proofs.file_assemble_DataLaws.{tiles_take}
 use Rattle.file_write.specs.Packed.{IsPackedSection, MapIsPacked, MapSays, TablesArePacked, table_end}
 use Rattle.file_write.proofs.Sections.{first_place}
-
--- the first of a list of facts, and the others
-infixr 5 ◌&◌
-◌&◌ : {A B : Type 0} → A → B → A × B
-◌&◌ x y = (x, y)
+use Rattle.file_layout.proofs.Named.{◌&◌}
 
 -- ---- entries that rise name spans that do
 

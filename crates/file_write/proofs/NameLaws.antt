@@ -11,7 +11,7 @@ use Rattle.dex_container.specs.Where.{At, AtOrNone}
 use Rattle.file_layout.specs.Sections.{is_empty_list, never}
 use Rattle.file_layout.specs.Tiles.{Refers}
 use Rattle.file_layout.proofs.FrameLaws.{lists_part, strings_part}
-use Rattle.file_layout.proofs.StandLaws.{at_item, at_list, even_four, even_one, zip_at, zip_weaker}
+use Rattle.file_layout.proofs.StandLaws.{at_item, at_list, even_four, even_one, zip_at}
 use Rattle.file_strip.specs.Wide.{list_values, params_of, text_values}
 use Rattle.tables_names.specs.Closure.{Five, NameRanks}
 use Rattle.tables_names.specs.Indices.{AreIndices}
@@ -30,9 +30,9 @@ use Rattle.tables_rows.specs.Stands.{FieldStands, MethodStands, NameStands, Prot
 use Rattle.file_strip.specs.Assembled.{Assembled}
 use Rattle.file_strip.proofs.NamedLaws.{mentions_hold}
 use Rattle.file_write.proofs.RowLaws.{field_count, field_row, method_count, method_row, proto_count, proto_row, string_count, string_row, type_count, type_row}
-use Rattle.file_write.proofs.ValidNames.{AreValid, IsFieldKey, IsMethodKey, IsProtoKey, IsTypeKey, field_same, member_is, method_same, needed_valid, text_same}
-use Rattle.base_bytes.proofs.ListFacts.{slice_left}
-use Rattle.file_strip.proofs.AtLaws.{proto_one}
+use Rattle.file_write.proofs.ValidNames.{AreValid, IsFieldKey, IsMethodKey, IsProtoKey, IsTypeKey, member_is, needed_valid}
+use Rattle.base_bytes.proofs.ListFacts.{slice_left, zip_weaker}
+use Rattle.program_types.proofs.KeysTell.{text_told, proto_told, field_told, method_told}
 
 pub back_get : {V : Type 0} (xs ys : List V) (i : ℕ) (v : V) → slice_get ys i ≡ Some v → slice_get (xs ++ ys) (length xs + i) ≡ Some v
 back_get [] ys i v e = let k : 0 + i ≡ i = omega arith in rw k e
@@ -81,7 +81,7 @@ module _ (b : List ℕ) (s : Five) (p : Program) (a : Assembled b s p) (valid : 
       record {
         row = omega (arith, lt, n);
         string = string_stands (type_string b i) t (type_row b s p a i t e);
-        descriptor = subst IsDescriptor (text_same k.0 t (sym k.1)) k.2;
+        descriptor = subst IsDescriptor (text_told k.0 t (sym k.1)) k.2;
       }
 
   -- ---- lists of types
@@ -122,7 +122,7 @@ module _ (b : List ℕ) (s : Five) (p : Program) (a : Assembled b s p) (valid : 
       let n = proto_count b s p a in
       let r = proto_row b s p a i q e in
       let k = member_is IsProtoKey s.protos i (proto_key q) valid.protos e in
-      let h = subst IsValidProto (proto_one k.0 q (sym k.1)) k.2 in
+      let h = subst IsValidProto (proto_told k.0 q (sym k.1)) k.2 in
       record {
         row = omega (arith, lt, n);
         ret = type_stands (proto_return b i) q.ret r.ret_is;
@@ -137,7 +137,7 @@ module _ (b : List ℕ) (s : Five) (p : Program) (a : Assembled b s p) (valid : 
       let n = field_count b s p a in
       let r = field_row b s p a i f e in
       let k = member_is IsFieldKey s.fields i (field_ref_key f) valid.fields e in
-      let h = subst IsValidField (field_same k.0 f (sym k.1)) k.2 in
+      let h = subst IsValidField (field_told k.0 f (sym k.1)) k.2 in
       record {
         row = omega (arith, lt, n);
         class = type_stands (member_class b 3 i) f.class r.class_is;
@@ -154,7 +154,7 @@ module _ (b : List ℕ) (s : Five) (p : Program) (a : Assembled b s p) (valid : 
       let n = method_count b s p a in
       let r = method_row b s p a i m e in
       let k = member_is IsMethodKey s.methods i (method_ref_key m) valid.methods e in
-      let h = subst IsValidMethod (method_same k.0 m (sym k.1)) k.2 in
+      let h = subst IsValidMethod (method_told k.0 m (sym k.1)) k.2 in
       record {
         row = omega (arith, lt, n);
         class = type_stands (member_class b 4 i) m.class r.class_is;

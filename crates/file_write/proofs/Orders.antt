@@ -16,7 +16,7 @@ use Rattle.program_rules.specs.Rules.{IsOfType, NoneFrom, OrderHolds}
 use Rattle.tables_rows.specs.Stands.{SpellsIndexes}
 use Rattle.tables_rows.proofs.HalvesLaws.{list_or_none_one}
 use Rattle.file_write.proofs.RowLaws.{ClassRowIs}
-use Rattle.file_strip.proofs.DistinctLaws.{all-get}
+use Rattle.base_bytes.proofs.ListFacts.{all_get}
 
 -- an index is that of one type
 one_type : (s : Five) (i j : ℕ) (t u : Descriptor) → i ≡ j → TypeRanks s i t → TypeRanks s j u → t ≡ u
@@ -54,5 +54,5 @@ module _ (b : List ℕ) (s : Five) (p : Program) (many : size_of b 5 ≡ length 
         let l : k < length xs = let n = ap length same in omega (arith, n, within) in
         let found = indexed s xs c.interfaces k named l in
         let at_k : TypeRanks s (get_or indexes k 0) found.0 = subst (λ (ys : List ℕ). TypeRanks s (get_or ys k 0) found.0) (sym same) found.2 in
-        none_defines i (size_of b 5) (get_or indexes k 0) found.0 (omega arith) at_k (λ j low high. all-get (NoneFrom p i) c.interfaces k found.0 o.interfaces found.1 j low);
+        none_defines i (size_of b 5) (get_or indexes k 0) found.0 (omega arith) at_k (λ j low high. all_get (NoneFrom p i) c.interfaces k found.0 o.interfaces found.1 j low);
   }

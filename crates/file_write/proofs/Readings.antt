@@ -31,10 +31,9 @@ use Rattle.tables_rows.specs.Stands.{NameStands}
 use Rattle.dex_value.specs.Spelling.{SpellsArray}
 use Rattle.dex_value.proofs.Weaker.{SpellsArray-weaker}
 use Rattle.file_write.proofs.Codes.{PacksCode-weaker}
-use Rattle.file_strip.proofs.RankLaws.{keys-one}
-use Rattle.base_bytes.proofs.ListFacts.{all_append, zip_length}
+use Rattle.base_bytes.proofs.ListFacts.{all_append, zip_length, all_get}
 use Rattle.file_read.proofs.EntryLaws.{entry_at}
-use Rattle.file_strip.proofs.DistinctLaws.{all-get}
+use Rattle.tables_names.proofs.PlaceLemmas.{one_key}
 
 -- ---- type lists
 
@@ -124,7 +123,7 @@ fields_told s c d es ms ns some p q =
     let f : FieldRef = record { class = c; name = m.0.name; ty = m.0.ty } in
     let g : FieldRef = record { class = d; name = n.0.name; ty = n.0.ty } in
     let x = p.each 0 e.0 m.0 e.1 m.1 in let y = q.each 0 e.0 n.0 e.1 n.1 in
-    field_class f g (keys-one s.fields (index_of (steps es) 0) (field_ref_key f) (field_ref_key g) x.field y.field)
+    field_class f g (one_key s.fields (index_of (steps es) 0) (field_ref_key f) (field_ref_key g) x.field y.field)
 
 methods_told : (s : Five) (c d : Descriptor) (es : List MethodEntry) (ms ns : List Method) → 0 < length ms → EntriesAre (MethodRanks (NameRanks s) c) es ms → EntriesAre (MethodRanks (NameRanks s) d) es ns → c ≡ d
 methods_told s c d es ms ns some p q =
@@ -133,7 +132,7 @@ methods_told s c d es ms ns some p q =
     let f : MethodRef = record { class = c; name = m.0.name; proto = m.0.proto } in
     let g : MethodRef = record { class = d; name = n.0.name; proto = n.0.proto } in
     let x = p.each 0 e.0 m.0 e.1 m.1 in let y = q.each 0 e.0 n.0 e.1 n.1 in
-    method_class f g (keys-one s.methods (index_of (steps es) 0) (method_ref_key f) (method_ref_key g) x.method y.method)
+    method_class f g (one_key s.methods (index_of (steps es) 0) (method_ref_key f) (method_ref_key g) x.method y.method)
 
 class_told : (s : Five) (e : Entries) (c d : Class) → 0 < length c.statics + length c.instances + length c.directs + length c.virtuals
     → MembersRank (NameRanks s) e c → MembersRank (NameRanks s) e d → c.ty ≡ d.ty
@@ -163,5 +162,5 @@ all_bodies P (c ∷ p) f = all_append P (bodies_of c) (flat_map bodies_of p) (f 
 
 pub bodies_can : (p : Program) → WellFormed p → Fits p → (n : ℕ) (o : Option Code) → slice_get (body_values p) n ≡ Some o → BodyCanBePut (needed p) o
 bodies_can p w fits n o at =
-    all-get (BodyCanBePut (needed p)) (body_values p) n o
+    all_get (BodyCanBePut (needed p)) (body_values p) n o
     (all_bodies (BodyCanBePut (needed p)) p (λ i c e. class_can (needed p) p i c refl w fits (room_of (needed p) p refl fits) e)) at

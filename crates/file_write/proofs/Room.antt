@@ -1,5 +1,5 @@
 -- Items that are laid once each take no more room than all values would.
-use Rattle.std.proofs.Common.{◌≡◌, ◌≢◌, ℕ, ◌+◌, ◌<◌, ◌≤◌, Bool, true, false, List, [], ◌∷◌, ◌++◌, length, map, refl, sym, ap, ◌∙◌, subst, arith, append_assoc, append-nil, inl, inr}
+use Rattle.std.proofs.Common.{◌≡◌, ◌≢◌, ℕ, ◌+◌, ◌<◌, ◌≤◌, Bool, true, false, List, [], ◌∷◌, ◌++◌, length, refl, sym, ap, ◌∙◌, subst, arith, append_assoc, append-nil, inl, inr}
 use Rattle.std.proofs.lemmas.List.{append_cancel_left}
 use Rattle.std.specs.Prelude.{MatchBool, ◌==◌}
 use Rattle.std.specs.List.{AllByRecursion, AllZip, fold, list_any}
@@ -8,14 +8,7 @@ use Rattle.file_layout.specs.Sections.{wide_all}
 use Rattle.file_layout.specs.Tiles.{Among, Done, Item, Lays, Refers, Tiles, add_place, distinct_places, gap}
 use Rattle.file_layout.proofs.PartLaws.{length_slice}
 use Rattle.file_layout.proofs.TileLaws.{Tiles-le, refers_some}
-use Rattle.file_layout.proofs.LayingOnce.{grows, one_there}
-
-abbrev firsts : {V : Type 0} → List (ℕ × V) → List ℕ
-firsts {V} items = map (λ (x : ℕ × V). x.0) items
-
-tiles_none : {V : Type 0} {G : List ℕ → V → Type 0} {align : ℕ} {b : List ℕ} {at end : ℕ} {items : List (ℕ × V)} → Tiles G align b at end items → firsts items ≡ [] → at ≡ end
-tiles_none Done e = refl
-tiles_none (Item next some spelled rest) e = absurd (cc e)
+use Rattle.file_layout.proofs.LayingOnce.{grows, one_there, firsts, tiles_none}
 
 -- The first item, and what is after it.
 record FirstOf {V : Type 0} (G : List ℕ → V → Type 0) (align : ℕ) (b : List ℕ) (at end place : ℕ) (ps : List ℕ) (items : List (ℕ × V)) : Type 0 where
@@ -73,7 +66,7 @@ module _ {V : Type 0} (none : V → Bool) (G : List ℕ → V → Type 0) (align
   walk : (ps : List ℕ) (vs : List V) (items : List (ℕ × V)) (seen : List ℕ) (at : ℕ) → AllZip (Refers none all) ps vs → AllByRecursion Fit vs → Tiles G align b at end items
       → ((place : ℕ) (v : V) → Among items place v → Among all place v) → fold add_place seen ps ≡ seen ++ firsts items → end ≤ at + wide_all wide vs
   walk [] [] items seen at z f t i o =
-      let e = tiles_none t (append_cancel_left seen (firsts items) [] (sym o ∙ sym (append-nil seen))) in omega (arith, e)
+      let e = (tiles_none t (append_cancel_left seen (firsts items) [] (sym o ∙ sym (append-nil seen)))).0 in omega (arith, e)
   walk [] (v ∷ vs) items seen at z f t i o = absurd z
   walk (p ∷ ps) [] items seen at z f t i o = absurd z
   walk (p ∷ ps) (v ∷ vs) items seen at z f t i o = by (p == 0) (list_any (λ q. q == p) seen) refl refl (λ us s n y k e. walk ps vs us s n z.1 f.1 y k e)

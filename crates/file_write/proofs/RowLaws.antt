@@ -8,7 +8,7 @@ use Rattle.base_bytes.proofs.FieldBounds.{u32_at-fits}
 use Rattle.base_bytes.specs.Fields.{u16_at, u32_at}
 use Rattle.file_read.specs.ClassRows.{IndexOrNone, class_word}
 use Rattle.file_strip.specs.ClassDefs.{SpellsClassRow, StringRanks, TypeRanks, all_but_first, with_places}
-use Rattle.file_strip.proofs.file_parts_ClassRowLaws.{first_of, length-seated, others_of}
+use Rattle.file_strip.proofs.ClassRowLaws.{first_of, length-seated, others_of}
 use Rattle.dex_container.specs.Frame.{IsFramed}
 use Rattle.dex_container.specs.Layout.{offset_of, size_of}
 use Rattle.file_layout.specs.Header.{HasHeader}

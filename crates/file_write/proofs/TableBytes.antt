@@ -12,8 +12,8 @@ use Rattle.file_layout.proofs.PartLaws.{slice_more}
 use Rattle.tables_rows.proofs.HalvesLaws.{u32_bytes-u32_at}
 use Rattle.file_write.specs.Packed.{words_of_rows}
 use Rattle.file_write.proofs.Retold.{zip_of}
-use Rattle.file_strip.proofs.file_kept_ClassRowLaws.{same}
 use Rattle.base_bytes.proofs.WordsBytes.{words_bytes-push}
+use Rattle.base_bytes.proofs.ListFacts.{some_inj}
 
 -- ---- numbers
 
@@ -110,12 +110,12 @@ words_zip R word n vs e f =
     zip_of R (words_of_rows word n) vs (l ∙ e) (λ i place v p q.
     let w = slice_get_within (words_of_rows word n) i place p in
     let lt : i < n = omega (arith, w, l) in
-    subst (λ (k : ℕ). R k v) (same (word i) place (sym (word_got word n i lt) ∙ p)) (f i v lt q))
+    subst (λ (k : ℕ). R k v) (some_inj (word i) place (sym (word_got word n i lt) ∙ p)) (f i v lt q))
 
 pub word_or : (word : ℕ → ℕ) (n i : ℕ) → i < n → word i ≡ get_or (words_of_rows word n) i 0
 word_or word n i lt =
     let l = length-words_of word n in
-    same (word i) (get_or (words_of_rows word n) i 0) (sym (word_got word n i lt) ∙ slice_get-get_or (words_of_rows word n) i 0 (omega (arith, l, lt)))
+    some_inj (word i) (get_or (words_of_rows word n) i 0) (sym (word_got word n i lt) ∙ slice_get-get_or (words_of_rows word n) i 0 (omega (arith, l, lt)))
 
 -- ---- names by their keys
 

@@ -15,7 +15,7 @@ use Rattle.file_read.specs.Classes.{RowIs}
 use Rattle.file_read.proofs.EntryLaws.{entry_at}
 use Rattle.file_strip.specs.ClassDefs.{ClassWithPlaces, SpellsClassRow, StringRanks, TypeRanks, with_places}
 use Rattle.file_strip.specs.Rows.{SpellsFieldRow, SpellsMethodRow, SpellsProtoRow, SpellsProtos, SpellsRows, SpellsTable, SpellsTypeRow}
-use Rattle.file_strip.proofs.file_parts_ClassRowLaws.{length-seated}
+use Rattle.file_strip.proofs.ClassRowLaws.{length-seated}
 use Rattle.program_types.specs.Content.{Class, Descriptor, FieldRef, MethodRef, OfDesc, OfField, OfMethod, OfText, Program, Proto, Units}
 use Rattle.program_types.specs.Key.{Key, field_ref_key, method_ref_key, proto_key, text_key}
 use Rattle.program_types.specs.Shorty.{shorty}
@@ -27,15 +27,13 @@ use Rattle.file_write.specs.Least.{HoldsExactly}
 use Rattle.file_write.specs.Packed.{TablesArePacked, table_end, text_places, words_of_rows}
 use Rattle.file_write.proofs.RowLaws.{seated_is}
 use Rattle.file_write.proofs.TableBytes.{beside, beside_got, beside_keys, beside_places, half_bytes, key_got, length-words_of, names_from, rows_part, word_bytes, word_got, words_part}
-use Rattle.file_strip.proofs.file_kept_ClassRowLaws.{same as same_number}
 use Rattle.file_layout.proofs.PartLaws.{slice_more}
+use Rattle.tables_names.proofs.PlaceLemmas.{one_key}
+use Rattle.base_bytes.proofs.ListFacts.{some_inj}
 
 u16_fits : (b : List ℕ) (p : ℕ) → AreBytes b → u16_at b p < 2 ^ 16
 unfolding u16_at
 u16_fits b p are = let d = drop-AreBytes b p are in omega (arith, d 0, d 1)
-
-pub same_key : (ks : List Key) (i : ℕ) (u v : Key) → slice_get ks i ≡ Some u → slice_get ks i ≡ Some v → u ≡ v
-same_key ks i u v p q = cc
 
 module _ (b : List ℕ) (s : Five) (are : AreBytes b) (x : HoldsExactly b s) (t : TablesHold b) (k : TablesArePacked b) (long : table_end b 6 ≤ length b) where
   -- a table that has a row begins where the table before it ends
@@ -163,7 +161,7 @@ module _ (b : List ℕ) (s : Five) (are : AreBytes b) (x : HoldsExactly b s) (t 
   named key Stands Below n keys many rows only i k at =
       let l = slice_get_within keys i k at in
       let r = rows i (omega (arith, many, l)) in
-      (r.name, same_key keys i (key r.name) k (only i r.name r.stands) at)
+      (r.name, one_key keys i (key r.name) k (only i r.name r.stands) at)
 
   -- ---- the tables of names
 
@@ -207,7 +205,7 @@ module _ (b : List ℕ) (s : Five) (are : AreBytes b) (x : HoldsExactly b s) (t 
             let g = beside_got places r.0 i v got in
             let at = key_got proto_key s.protos r.0 i v.1 r.1 g.1 in
             let lt = slice_get_within s.protos i (proto_key v.1) at in
-            let place : proto_parameters b i ≡ v.0 = same_number (proto_parameters b i) v.0 (sym (word_got (proto_parameters b) (size_of b 2) i (omega (arith, lt, many))) ∙ g.0) in
+            let place : proto_parameters b i ≡ v.0 = some_inj (proto_parameters b i) v.0 (sym (word_got (proto_parameters b) (size_of b 2) i (omega (arith, lt, many))) ∙ g.0) in
             subst (λ (q : ℕ). SpellsProtoRow s (slice b (table_end b 2 + 12 * i) 12) (q, v.1)) place (proto_row i v.1 (x.each_proto i v.1 at))));
       }
 

@@ -21,7 +21,6 @@ use Rattle.file_read.proofs.EntryLaws.{entries_unique}
 use Rattle.file_read.proofs.OnceLaws.{one_of_kind}
 use Rattle.file_layout.specs.Sections.{is_empty_list, never}
 use Rattle.file_layout.proofs.SectionLaws.{not_none}
-use Rattle.file_layout.proofs.StandLaws.{zip_weaker}
 use Rattle.file_strip.specs.Wide.{bodies_in, bodies_of, body_values}
 use Rattle.file_strip.specs.Codes.{PacksBody, is_bodiless}
 use Rattle.file_strip.specs.Data.{FieldRanks, MembersRank, MethodRanks, PacksData, ClassWithCodes, code_offs, has_no_members, method_count, with_code_places}
@@ -38,7 +37,7 @@ use Rattle.file_write.proofs.Codes.{PacksCode-weaker}
 use Rattle.file_write.proofs.Members.{entries_spelled, run_weaker}
 use Rattle.file_write.proofs.Readings.{AreEntriesOf, AreIndicesOf, IsBodyOf, shortest_same}
 use Rattle.file_write.proofs.Retold.{IsTold, told_made, zip_of}
-use Rattle.base_bytes.proofs.ListFacts.{zip_length}
+use Rattle.base_bytes.proofs.ListFacts.{zip_length, zip_append, zip_weaker}
 
 -- two spellings that begin at one place are of one value
 one_at : {V : Type 0} (G : List ℕ → V → Type 0) → IsPrefixUnique G → (b : List ℕ) (place m n : ℕ) (v w : V) → G (slice b place m) v → G (slice b place n) w → w ≡ v
@@ -161,12 +160,6 @@ module _ (b : List ℕ) (s : Five) (framed : IsFramed b) (each : (i : ℕ) (whic
 
 -- ---- bodies and class data of all classes
 
-pub zip_both : {A B : Type 0} (R : A → B → Type 0) (xs us : List A) (ys vs : List B) → AllZip R xs ys → AllZip R us vs → AllZip R (xs ++ us) (ys ++ vs)
-zip_both R [] us [] vs z y = y
-zip_both R [] us (b ∷ ys) vs z y = absurd z
-zip_both R (a ∷ xs) us [] vs z y = absurd z
-zip_both R (a ∷ xs) us (b ∷ ys) vs z y = (z.0, zip_both R xs us ys vs z.1 y)
-
 -- an element of a list that another is made of
 pub map_was : {A B : Type 0} (f : A → B) (xs : List A) (i : ℕ) (y : B) → slice_get (map f xs) i ≡ Some y → (x : A) × (slice_get xs i ≡ Some x) × (f x ≡ y)
 map_was f [] i y e = absurd (cc e)
@@ -189,7 +182,7 @@ all_bodies_zip R [] [] n f = tt
 all_bodies_zip R [] (c ∷ p) n f = absurd (omega (arith, n))
 all_bodies_zip R (e ∷ es) [] n f = absurd (omega (arith, n))
 all_bodies_zip R (e ∷ es) (c ∷ p) n f =
-    zip_both R (code_places e) (flat_map code_places es) (bodies_of c) (body_values p) (f zero e c refl refl) (all_bodies_zip R es p (omega (arith, n)) (λ i d k x y. f (suc i) d k x y))
+    zip_append R (code_places e) (flat_map code_places es) (bodies_of c) (body_values p) (f zero e c refl refl) (all_bodies_zip R es p (omega (arith, n)) (λ i d k x y. f (suc i) d k x y))
 
 -- A class with the places of its own bodies, which its entries have.
 pub record WasSited (p : Program) (es : List Entries) (i : ℕ) (v : ClassWithCodes) : Type 0 where

@@ -1,9 +1,9 @@
 -- The names that a program needs are ones that a file can have, if those that it mentions are.
-use Rattle.std.proofs.Common.{◌≡◌, ℕ, true, List, [], ◌∷◌, map, refl, sym, subst, inl, inr, ◌⊎◌, true≢false, lit≤}
+use Rattle.std.proofs.Common.{◌≡◌, ℕ, true, List, [], ◌∷◌, map, refl, sym, subst, inl, inr, true≢false}
 use Rattle.std.specs.List.{AllByRecursion}
 use Rattle.std.specs.Ordering.{eq_by_cmp}
 use Rattle.std.specs.Cmp.{Equal-is}
-use Rattle.dex_base.specs.Descriptor.{IsArray, IsClass, IsDescriptor}
+use Rattle.dex_base.specs.Descriptor.{IsDescriptor}
 use Rattle.tables_names.specs.Closure.{Five, closure_of, join, nothing, shorty_of_texts, with_name, with_names}
 use Rattle.tables_names.specs.Needed.{needed}
 use Rattle.tables_names.specs.Rank.{IsAt, add_all, is_member}
@@ -14,27 +14,8 @@ use Rattle.program_types.specs.Key.{Key, field_ref_key, key_cmp, method_ref_key,
 use Rattle.program_types.specs.KeyLaws.{key_cmp-same}
 use Rattle.program_types.specs.Mentions.{mentions}
 use Rattle.program_rules.specs.Valid.{IsValidField, IsValidMethod, IsValidName, IsValidProto, IsValueType}
-use Rattle.file_strip.proofs.AtLaws.{proto_one}
-
--- ---- a name is told by its key
-
-pub text_same : (t u : Units) → text_key t ≡ text_key u → t ≡ u
-text_same t u e = cc e
-
-pub field_same : (f g : FieldRef) → field_ref_key f ≡ field_ref_key g → f ≡ g
-field_same f g e =
-    let class : f.class ≡ g.class = cc e in
-    let name : f.name ≡ g.name = cc e in
-    let ty : f.ty ≡ g.ty = cc e in
-    λ i. record { class = class i; name = name i; ty = ty i }
-
-pub method_same : (m n : MethodRef) → method_ref_key m ≡ method_ref_key n → m ≡ n
-method_same m n e =
-    let class : m.class ≡ n.class = cc e in
-    let name : m.name ≡ n.name = cc e in
-    let key : proto_key m.proto ≡ proto_key n.proto = cc e in
-    let proto = proto_one m.proto n.proto key in
-    λ i. record { class = class i; name = name i; proto = proto i }
+use Rattle.dex_base.proofs.DescriptorLaws.{class_is_descriptor, owner_is_descriptor}
+use Rattle.base_bytes.proofs.ListFacts.{all_weaker}
 
 -- ---- what holds of each key of a set
 
@@ -106,17 +87,6 @@ types_in : (ts : List Units) → AllByRecursion IsDescriptor ts → Members IsTy
 types_in [] h = none_in IsTypeKey
 types_in (t ∷ ts) h = one_more IsTypeKey (text_key t) (map text_key ts) (t, refl, h.0) (types_in ts h.1)
 
-class_type : (t : Units) → IsClass t → IsDescriptor t
-class_type t c = inr (0, t, lit≤ tt, inr c, refl)
-
-class_or_array : (t : Units) → IsClass t ⊎ IsArray t → IsDescriptor t
-class_or_array t (inl c) = class_type t c
-class_or_array t (inr a) = a.0
-
-values_types : (ts : List Units) → AllByRecursion IsValueType ts → AllByRecursion IsDescriptor ts
-values_types [] h = tt
-values_types (t ∷ ts) h = (h.0.descriptor, values_types ts h.1)
-
 valid_closure : (n : Name) → IsValidName n → AreValid (closure_of n)
 valid_closure (OfText t) h = record {
   strings = texts_in (t ∷ []);
@@ -134,14 +104,14 @@ valid_closure (OfDesc t) h = record {
 }
 valid_closure (OfField f) h = record {
   strings = texts_in (f.class ∷ f.name ∷ f.ty ∷ []);
-  types = types_in (f.class ∷ f.ty ∷ []) (class_type f.class h.class, (h.ty.descriptor, tt));
+  types = types_in (f.class ∷ f.ty ∷ []) ((class_is_descriptor f.class h.class).0, (h.ty.descriptor, tt));
   protos = none_in IsProtoKey;
   fields = one_more IsFieldKey (field_ref_key f) [] (f, refl, h) (none_in IsFieldKey);
   methods = none_in IsMethodKey;
 }
 valid_closure (OfMethod m) h = record {
   strings = texts_in (m.class ∷ m.name ∷ shorty_of_texts (proto_key m.proto) ∷ proto_key m.proto);
-  types = types_in (m.class ∷ proto_key m.proto) (class_or_array m.class h.class, (h.proto.ret, values_types m.proto.params h.proto.params));
+  types = types_in (m.class ∷ proto_key m.proto) (owner_is_descriptor m.class h.class, (h.proto.ret, all_weaker IsValueType IsDescriptor (λ t value. value.descriptor) m.proto.params h.proto.params));
   protos = one_more IsProtoKey (proto_key m.proto) [] (m.proto, refl, h.proto) (none_in IsProtoKey);
   fields = none_in IsFieldKey;
   methods = one_more IsMethodKey (method_ref_key m) [] (m, refl, h) (none_in IsMethodKey);

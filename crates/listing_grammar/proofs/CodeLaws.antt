@@ -4,13 +4,13 @@ use Rattle.std.specs.List.{flat_map}
 use Rattle.std.proofs.lemmas.List.{append-nil}
 use Rattle.program_types.specs.Content.{Insn, Catch, Try, Code, Class}
 use Rattle.listing_lines.specs.Lines.{Line, open_code, end_code, insn_line, try_line, catch_line, catch_all_line}
-use Rattle.listing_lines.specs.Places.{is_in_code}
 use Rattle.listing_lines.specs.Needs.{Need, first_late, earliest}
-use Rattle.listing_parse.specs.States.{Open, Owner, Body, OpenTry, at_members, CodePart, at_insns, after_try, in_try, in_class, in_code, State, code_stage, begun, noted, with_insn, with_tries, try_of, whole_code, with_code_at, add, inside}
+use Rattle.listing_parse.specs.States.{Open, Owner, Body, OpenTry, at_members, CodePart, at_insns, after_try, in_try, in_class, in_code, State, begun, noted, with_insn, with_tries, try_of, whole_code, with_code_at, add, inside}
 use Rattle.listing_grammar.specs.Codes.{Numbered, said, insn_lines, catch_lines, catch_all_lines, try_lines, inner_lines, code_lines, late_line}
 use Rattle.listing_grammar.specs.Runs.{at_line, Runs, is_outside, after_its_method, with_its_code, RunsBehindCode}
 use Rattle.listing_grammar.proofs.LateLaws.{needs_from, late_is}
 use Rattle.listing_grammar.proofs.Numbering.{none_said, Front, more_front, Behind}
+use Rattle.listing_parse.proofs.StageLaws.{code_goes_on}
 
 -- ---- runs
 
@@ -87,11 +87,6 @@ coding p done late o b n = record { done = done; block = in_code o b p; lines = 
 
 abbrev ended : List Class → Option ℕ → Open → Owner → Code → List Need → ℕ → State
 ended done late o m c needs n = record { done = done; block = in_class (with_code_at o m c) at_members; lines = n; late = earliest late (first_late (length c.insns) needs) }
-
--- The code's end may stand wherever in it.
-code_goes_on : (p : CodePart) → is_in_code (code_stage p) ≡ true
-code_goes_on at_insns = refl
-code_goes_on _ = refl
 
 -- ---- what is read is the text of a code
 

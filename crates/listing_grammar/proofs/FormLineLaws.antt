@@ -13,7 +13,8 @@ use Rattle.listing_labels.specs.Labels.{is_mark}
 use Rattle.listing_parse.specs.Text.{is_second, begins_mark}
 use Rattle.listing_parse.proofs.ShapeLaws.{all_at}
 use Rattle.listing_slots.proofs.KeyLaws.{same_true}
-use Rattle.base_bytes.proofs.ListFacts.{by_kind}
+use Rattle.base_bytes.proofs.ListFacts.{by_kind, not_true}
+use Rattle.listing_parse.proofs.FormLineLaws.{not_second}
 
 -- ---- keywords
 
@@ -47,10 +48,6 @@ one_after (s ∷ []) w (v ∷ (x ∷ ws)) e h = absurd (by (has_form s v) h)
     by false k = cc
 one_after (s ∷ (r ∷ ss)) w ws e h = absurd cc
 
-second_first : (text : List ℕ) (ws : List Word) → same (codes "dex") text ≡ false → is_second (plain_word text ∷ ws) ≡ false
-second_first text (a ∷ (b ∷ (c ∷ []))) e = rw e refl
-second_first text _ e = refl
-
 one_slot : (r row : Row) → Some row ≡ Some r → length r.1 ≡ 1 → length row.1 ≡ 1
 one_slot r row e h = let q : r ≡ row = cc in subst (λ (x : Row). length x.1 ≡ 1) q h
 
@@ -60,8 +57,8 @@ other_key lead text e f = subst (λ t. same (codes "dex") t ≡ false) (same_tru
 keyed_second : (lead : Key) (text : List ℕ) (after : List Word) (row : Row) → same (key_text lead) text ≡ true → Some row ≡ key_row lead after → have_forms row.1 after ≡ true → is_second (plain_word text ∷ after) ≡ false
 unfolding key_row key_text same
 keyed_second key.Dex text after row e h f = one_after row.1 (plain_word text) after (one_slot _ row h refl) f
-keyed_second key.Class text after row e h f = second_first text after (other_key key.Class text e refl)
-keyed_second k text after row e h f = second_first text after (other_key k text e refl)
+keyed_second key.Class text after row e h f = not_second text after (other_key key.Class text e refl)
+keyed_second k text after row e h f = not_second text after (other_key k text e refl)
 
 -- ---- a label
 
@@ -71,10 +68,6 @@ no_mark m = not (is_mark m)
 mnemonics_free : list_all no_mark mnemonics ≡ true
 unfolding mnemonics
 mnemonics_free = refl
-
-not_true : (b : Bool) → not b ≡ true → b ≡ false
-not_true true e = absurd cc
-not_true false e = refl
 
 named_free : (op : ℕ) (text : List ℕ) → IsNamed op text → is_mark text ≡ false
 named_free op text n = not_true (is_mark text) (subst (λ t. no_mark t ≡ true) n.is (all_at no_mark mnemonics op [] mnemonics_free refl))
@@ -95,7 +88,7 @@ pub no_line_of_form : (ws : List Word) (sh : Shape) → HasBareShape ws sh → (
 unfolding key_text
 no_line_of_form ws sh (inl b) =
     let n : same (codes "dex") b.text ≡ false = (none_each lead_keys b.text b.no_lead).0 in
-    (ap is_second b.words ∙ second_first b.text b.after n, ap begins_mark b.insn.words ∙ insn_free b.insn.text b.insn.after b.row b.insn.has_row)
+    (ap is_second b.words ∙ not_second b.text b.after n, ap begins_mark b.insn.words ∙ insn_free b.insn.text b.insn.after b.row b.insn.has_row)
 no_line_of_form ws sh (inr b) = (
   ap is_second b.words ∙ keyed_second b.keyed.lead b.text b.after b.row (found_same lead_keys b.text b.keyed.lead b.keyed.found) b.keyed.has_row b.keyed.forms,
   ap begins_mark b.words ∙ found_free lead_keys b.text b.keyed.lead b.keyed.found,

@@ -17,7 +17,7 @@ use Rattle.listing_parse.specs.Members.{is_held, put_in}
 use Rattle.listing_parse.specs.States.{with_code}
 use Rattle.listing_grammar.specs.Classes.{Rise, AreSorted}
 use Rattle.listing_labels.proofs.OrderLaws.{lt_less}
-use Rattle.base_bytes.proofs.ListFacts.{by_kind}
+use Rattle.base_bytes.proofs.ListFacts.{by_kind, all_weaker}
 
 -- ---- keys
 
@@ -53,10 +53,6 @@ module _ {X : Type 0} (key : X → Key) where
     | inr e ↦ rw e (a.0, put_all P x ys h a.1)
   ]
 
-  below_all : (k q : Key) (ks : List Key) → key_cmp k q ≡ Less → AllByRecursion (λ r. key_cmp q r ≡ Less) ks → AllByRecursion (λ r. key_cmp k r ≡ Less) ks
-  below_all k q [] e a = tt
-  below_all k q (r ∷ ks) e a = (key_cmp-total.trans k q r e a.0, below_all k q ks e a.1)
-
   put_rises : (x : X) (ys : List X) → Rise (map key ys) → is_held key (key x) ys ≡ false → Rise (map key (put_in key x ys))
   put_rises x [] h n = (tt, tt)
   put_rises x (y ∷ ys) h n =
@@ -64,7 +60,7 @@ module _ {X : Type 0} (key : X → Key) where
       by (put_rises x ys h.1 (second_false (is_eq o) (is_held key (key x) ys) n)) (is_lt o) refl
     where
       by : Rise (map key (put_in key x ys)) → (b : Bool) → is_lt (key_cmp (key x) (key y)) ≡ b → Rise (map key (put_in key x (y ∷ ys)))
-      by m true e = let l = lt_less (key_cmp (key x) (key y)) e in rw e ((l, below_all (key x) (key y) (map key ys) l h.0), h)
+      by m true e = let l = lt_less (key_cmp (key x) (key y)) e in rw e ((l, all_weaker (λ r. key_cmp (key y) r ≡ Less) (λ r. key_cmp (key x) r ≡ Less) (λ r after. key_cmp-total.trans (key x) (key y) r l after) (map key ys) h.0), h)
       by m false e =
           let f = first_false (is_eq (key_cmp (key x) (key y))) (is_held key (key x) ys) n in
           rw e (put_all (λ q. key_cmp (key y) q ≡ Less) x ys (is_above (key x) (key y) e f) h.0, m)

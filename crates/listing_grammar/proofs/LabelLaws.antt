@@ -1,7 +1,7 @@
 -- The labels of a code are those that stand among its instructions.
 use Rattle.std.proofs.Common.{◌≡◌, ℕ, ◌+◌, ◌≤◌, ◌==◌, Bool, true, false, inl, inr, if◌then◌else◌, List, [], ◌∷◌, ◌++◌, Option, Some, None, IfSome, is_some, refl, sym, ap, subst, ◌∙◌, append_assoc, rules}
 use Rattle.std.specs.List.{AllByRecursion}
-use Rattle.std.proofs.lemmas.Bool.{eqb-true}
+use Rattle.std.proofs.lemmas.Bool.{eqb-true, and_parts}
 use Rattle.std.proofs.lemmas.List.{append-nil, map-append}
 use Rattle.listing_words.specs.Words.{Word, plain_word, HasWords}
 use Rattle.listing_slots.specs.declared.key.Key.{Key}
@@ -27,8 +27,8 @@ use Rattle.listing_grammar.specs.Texts.{SaysLine, IsLabelLine, label_names, Wher
 use Rattle.listing_grammar.proofs.FormLineLaws.{none_each, found_same, no_line_of_form}
 use Rattle.listing_grammar.proofs.HeadLaws.{same_true, distinct_last}
 use Rattle.listing_grammar.proofs.LineSteps.{insn_said, insn_as, labels_by}
-use Rattle.dex_base.proofs.LowPoints.{both}
 use Rattle.base_bytes.proofs.ListFacts.{by_kind}
+use Rattle.listing_labels.proofs.LookLaws.{look_after, with_new}
 
 -- ---- names of labels
 
@@ -52,19 +52,9 @@ unknown w es e = no_some (lookup w es) (among_names w es ∙ e)
 pub names_append : (es fs : List Label) → label_names (es ++ fs) ≡ label_names es ++ label_names fs
 names_append es fs = map-append (λ (l : Label). l.name) es fs
 
-pub with_new : (es : List Label) (l : Label) → lookup l.name es ≡ None → with_label es l ≡ es ++ l ∷ []
-with_new es l e = rw e refl
-
 -- None of those before has the name.
 pub new_name : (es : List Label) (l : Label) (fs : List Label) → NoneTwice (label_names (es ++ (l ∷ fs))) → lookup l.name es ≡ None
 new_name es l fs h = unknown l.name es (distinct_last (label_names es) l.name (label_names fs) (subst NoneTwice (names_append es (l ∷ fs)) h))
-
-look_after : (w : List ℕ) (es fs : List Label) → lookup w es ≡ None → lookup w (es ++ fs) ≡ lookup w fs
-look_after w [] fs h = refl
-look_after w (e ∷ es) fs h = elim (by_kind (same w e.name)) [
-  | inl f ↦ let z : Some e ≡ None = rw f at h in absurd cc
-  | inr f ↦ let z : lookup w es ≡ None = rw f at h in rw f (look_after w es fs z)
-]
 
 pub look_front : (w : List ℕ) (es fs : List Label) (l : Label) → lookup w es ≡ Some l → lookup w (es ++ fs) ≡ Some l
 look_front w [] fs l h = absurd cc
@@ -220,7 +210,7 @@ no_mark es k l x s = by s.has_shape
 
 pub label_marks : (name : List ℕ) → is_label name ≡ true → is_mark name ≡ true
 label_marks [] e = absurd cc
-label_marks (c ∷ cs) e = (both (c == 58) _ e).0
+label_marks (c ∷ cs) e = (and_parts (c == 58) _ e).0
 
 -- ---- labels ahead
 
@@ -232,7 +222,7 @@ AheadIs (after_insns labels) pre n ls = (k : ℕ) → labels_ahead pre (n + 1) k
 label_stop : (name : List ℕ) → is_label name ≡ true → is_stop name ≡ false
 unfolding same key_text
 label_stop [] e = absurd cc
-label_stop (c ∷ cs) e = let h : c ≡ 58 = eqb-true c 58 (both (c == 58) _ e).0 in rw h refl
+label_stop (c ∷ cs) e = let h : c ≡ 58 = eqb-true c 58 (and_parts (c == 58) _ e).0 in rw h refl
 
 -- A label's line, where labels are looked for ahead.
 pub label_ahead : (pre : List Label) (line k : ℕ) (form : Form) (l : List ℕ) (ls : List (List ℕ)) (name : List ℕ) → IsLabelLine form l name

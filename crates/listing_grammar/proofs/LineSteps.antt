@@ -25,7 +25,7 @@ use Rattle.listing_grammar.specs.Texts.{is_numbered, SaysLine}
 use Rattle.listing_grammar.specs.Runs.{line_stands, Steps}
 use Rattle.listing_grammar.proofs.FormLineLaws.{no_line_of_form}
 use Rattle.listing_grammar.proofs.LateLaws.{mapped, chosen}
-use Rattle.dex_base.proofs.LowPoints.{both}
+use Rattle.std.proofs.lemmas.Bool.{and_parts}
 
 -- A listing that was read to this state.
 abbrev pub rd : Form → List Label → State → Reading
@@ -160,7 +160,7 @@ line_of_form_nothing One es s ws sh h f = by (is_second ws) refl
 line_of_form_nothing Two es s ws sh h f = let n = no_line_of_form ws sh h in rw (n.0, n.1) refl
 
 numbered_here : (form : Form) (s : State) (sh : Shape) → may_stand_in_form form s sh ≡ true → (may_stand (stage_of s.block) sh.kind ≡ true) × (is_numbered form (insn_count s.block) sh ≡ true)
-numbered_here One s sh e = both (may_stand (stage_of s.block) sh.kind) (if is_insn sh.kind then is_number sh.label (insn_count s.block) else true) e
+numbered_here One s sh e = and_parts (may_stand (stage_of s.block) sh.kind) (if is_insn sh.kind then is_number sh.label (insn_count s.block) else true) e
 numbered_here Two s sh e = (e, refl)
 
 number_there : (k : ℕ) (s : State) (sh : Shape) (a : Bool) → is_insn sh.kind ≡ a → (a ≡ true → insn_count s.block ≡ k) → is_numbered One k sh ≡ true → is_numbered One (insn_count s.block) sh ≡ true

@@ -15,7 +15,8 @@ use Rattle.listing_grammar.specs.Runs.{at_line, Steps, Runs, is_outside, with_it
 use Rattle.listing_grammar.proofs.LateLaws.{earliest_none, none_late, all_lead, neither_late, runs_late}
 use Rattle.listing_grammar.proofs.CodeLaws.{again, code_read, text_runs}
 use Rattle.listing_grammar.proofs.HeldLaws.{ArePut, code_put}
-use Rattle.listing_grammar.proofs.Numbering.{Splits, Front, more_front, front_then, Behind, goes, starts, splits, none_said, length_after, within, after_class, class_goes_on, class_open}
+use Rattle.listing_grammar.proofs.Numbering.{Splits, Front, more_front, front_then, Behind, goes, starts, splits, none_said, length_after, within, after_class, class_open}
+use Rattle.listing_parse.proofs.StageLaws.{class_goes_on}
 
 -- ---- one member more
 

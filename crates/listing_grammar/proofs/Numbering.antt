@@ -1,10 +1,9 @@
 -- Lines and their numbers.
-use Rattle.std.proofs.Common.{◌≡◌, ℕ, ◌≤◌, true, List, [], ◌∷◌, ◌++◌, length, Option, refl, sym, ap, subst, ◌∙◌, append_assoc, arith}
+use Rattle.std.proofs.Common.{◌≡◌, ℕ, ◌≤◌, List, [], ◌∷◌, ◌++◌, length, Option, refl, sym, ap, subst, ◌∙◌, append_assoc, arith}
 use Rattle.std.proofs.lemmas.List.{map-append, length-append}
 use Rattle.program_types.specs.Content.{Class}
 use Rattle.listing_lines.specs.Lines.{Line}
-use Rattle.listing_lines.specs.Places.{is_in_class}
-use Rattle.listing_parse.specs.States.{Open, ClassPart, at_heads, at_top, in_class, class_stage, closed, State}
+use Rattle.listing_parse.specs.States.{Open, ClassPart, at_top, in_class, closed, State}
 use Rattle.listing_grammar.specs.Codes.{Numbered, said}
 use Rattle.listing_grammar.specs.Runs.{at_line, Runs, Steps}
 
@@ -91,11 +90,6 @@ within p done late o n = record { done = done; block = in_class o p; lines = n; 
 -- After a whole class.
 abbrev pub after_class : List Class → Option ℕ → Open → ℕ → State
 after_class done late o n = record { done = done ++ closed o ∷ []; block = at_top; lines = n; late = late }
-
--- A member or the class's end may stand wherever in a class.
-pub class_goes_on : (p : ClassPart) → is_in_class (class_stage p) ≡ true
-class_goes_on at_heads = refl
-class_goes_on _ = refl
 
 -- A class that is open isn't whole.
 pub class_open : (p : ClassPart) (done : List Class) (late : Option ℕ) (o : Open) (n : ℕ) (t : State) → t.block ≡ at_top → t ≡ at_line (within p done late o n) t.lines → ⊥

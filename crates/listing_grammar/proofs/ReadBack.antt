@@ -23,8 +23,9 @@ use Rattle.listing_grammar.specs.Texts.{SaysLine, IsLabelLine, opens_code, is_of
 use Rattle.listing_grammar.proofs.CodeLaws.{again}
 use Rattle.listing_grammar.proofs.HeadLaws.{distinct_more}
 use Rattle.listing_grammar.proofs.LineSteps.{rd, insn_said, labels_by, out, insns, later, part_of, part_after, part_moves, out_is, insns_is, later_is, renumbered, line_step}
-use Rattle.listing_grammar.proofs.LabelLaws.{not_named, names_append, with_new, look_front, found_le, ahead_extends, label_ahead, insn_ahead, end_ahead, ends_insns, NoLabels}
+use Rattle.listing_grammar.proofs.LabelLaws.{not_named, names_append, look_front, found_le, ahead_extends, label_ahead, insn_ahead, end_ahead, ends_insns, NoLabels}
 use Rattle.listing_grammar.proofs.ReadOn.{same_labels, within_place, none_by, end_by, out_goes}
+use Rattle.listing_labels.proofs.LookLaws.{with_new}
 
 -- ---- what an line_of_form tells
 

@@ -58,3 +58,17 @@ pub kept : (same_key : Bor (List ℕ) → Bor (List ℕ) → Bool) → ((j k : B
 kept same_key t k p first es new back e n b =
     let f : is_some (lookup k.now (map label es)) ≡ true = sym (known (Some first) (lookup k.now (map label es)) (e ∙ found_place k.now (same_key k) (t k) es)) in
     rw f (ap (map label) (b ∙ rw n (put_back same_key k p first es e)))
+
+-- ---- a label by its name
+
+-- what isn't in front is looked for after
+pub look_after : (name : List ℕ) (es fs : List Label) → lookup name es ≡ None → lookup name (es ++ fs) ≡ lookup name fs
+look_after name [] fs h = refl
+look_after name (e ∷ es) fs h = elim (by_kind (same name e.name)) [
+  | inl y ↦ let z : Some e ≡ None = rw y at h in absurd cc
+  | inr n ↦ let z : lookup name es ≡ None = rw n at h in rw n (look_after name es fs z)
+]
+
+-- a new one goes last
+pub with_new : (es : List Label) (l : Label) → lookup l.name es ≡ None → with_label es l ≡ es ++ l ∷ []
+with_new es l h = rw h refl

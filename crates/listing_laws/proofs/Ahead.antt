@@ -3,7 +3,7 @@ use Rattle.std.proofs.Common.{◌≡◌, ◌≢◌, ℕ, ◌+◌, ◌<◌, ◌�
 use Rattle.std.specs.Fmt.{decimal}
 use Rattle.std.specs.Str.Parse.{digits_value}
 use Rattle.std.proofs.lemmas.Fmt.{decimal_is_IsNumeral}
-use Rattle.std.proofs.lemmas.Bool.{cases_eq}
+use Rattle.std.proofs.lemmas.Bool.{cases_eq, false_from_ne_true}
 use Rattle.std.proofs.lemmas.List.{append-nil}
 use Rattle.program_types.specs.Content.{Insn}
 use Rattle.listing_words.specs.Words.{Word, plain_word, up_to_space, IsWritable, line_bytes}
@@ -22,8 +22,9 @@ use Rattle.listing_laws.proofs.RunLaws.{IsLine, line_first, line_is, graphic_lin
 use Rattle.listing_laws.proofs.FormWords.{label_written}
 use Rattle.listing_laws.proofs.InsnRuns.{insn_words, insn_is, insn_is_other, insn_line_is, insn_written, insn_shown}
 use Rattle.listing_words.proofs.PrintLaws.{starts, up_to_end}
-use Rattle.base_bytes.proofs.ListFacts.{by_kind, by_truth}
+use Rattle.base_bytes.proofs.ListFacts.{by_kind}
 use Rattle.listing_slots.proofs.KeyLaws.{same_true}
+use Rattle.listing_labels.proofs.LookLaws.{look_after, with_new}
 
 -- ---- the labels that are printed
 
@@ -58,29 +59,21 @@ names_same j k h g e =
     sym (decimal_is_IsNumeral j h).1 ∙ ap (digits_value 10) (after_two 58 76 (decimal j) (decimal k) e) ∙ (decimal_is_IsNumeral k g).1
 
 names_differ : (j k : ℕ) → j < 2 ^ 64 → k < 2 ^ 64 → j ≢ k → same (label_name j) (label_name k) ≡ false
-names_differ j k h g n = by_truth (same (label_name j) (label_name k)) (λ e. n (names_same j k h g (same_true (label_name j) (label_name k) e)))
-
--- what isn't in front is looked for after
-lookup_after : (name : List ℕ) (es fs : List Label) → lookup name es ≡ None → lookup name (es ++ fs) ≡ lookup name fs
-lookup_after name [] fs h = refl
-lookup_after name (e ∷ es) fs h = elim (by_kind (same name e.name)) [
-  | inl y ↦ let z : Some e ≡ None = rw y at h in absurd cc
-  | inr n ↦ let z : lookup name es ≡ None = rw n at h in rw n (lookup_after name es fs z)
-]
+names_differ j k h g n = false_from_ne_true (same (label_name j) (label_name k)) (λ e. n (names_same j k h g (same_true (label_name j) (label_name k) e)))
 
 pub none_before : (k : ℕ) → AreBefore [] k
 none_before k j l h = refl
 
 pub before_more : (ns : List ℕ) (es : List Label) (n k : ℕ) → AreBefore es k → k < 2 ^ 64 → AreBefore (es ++ marked ns n k) (k + 1)
 before_more ns es n k h g j l m = elim (by_kind (is_named ns k)) [
-  | inl y ↦ rw y (lookup_after (label_name j) es (label_of n k ∷ []) (h j (omega arith) m) ∙ rw (names_differ j k m g (λ e. omega arith)) refl)
+  | inl y ↦ rw y (look_after (label_name j) es (label_of n k ∷ []) (h j (omega arith) m) ∙ rw (names_differ j k m g (λ e. omega arith)) refl)
   | inr x ↦ rw x (ap (lookup (label_name j)) (append-nil es) ∙ h j (omega arith) m)
 ]
 
 -- ---- the label of a named instruction is found
 
 pub found_here : (ns : List ℕ) (es fs : List Label) (n k : ℕ) → AreBefore es k → k < 2 ^ 64 → is_named ns k ≡ true → lookup (label_name k) (es ++ (marked ns n k ++ fs)) ≡ Some (label_of n k)
-found_here ns es fs n k h g y = rw y (lookup_after (label_name k) es (label_of n k ∷ fs) (h k (omega arith) g) ∙ rw (same_refl (label_name k)) refl)
+found_here ns es fs n k h g y = rw y (look_after (label_name k) es (label_of n k ∷ fs) (h k (omega arith) g) ∙ rw (same_refl (label_name k)) refl)
 
 found_last : (ns : List ℕ) (es : List Label) (n k : ℕ) → AreBefore es k → k < 2 ^ 64 → is_named ns k ≡ true → lookup (label_name k) (es ++ marked ns n k) ≡ Some (label_of n k)
 found_last ns es n k h g y = ap (λ fs. lookup (label_name k) (es ++ fs)) (sym (append-nil (marked ns n k))) ∙ found_here ns es [] n k h g y
@@ -123,9 +116,6 @@ label_no_stop : (k : ℕ) → is_stop (label_name k) ≡ false
 unfolding same key_text
 label_no_stop k = refl
 
-goes_last : (es : List Label) (l : Label) → lookup l.name es ≡ None → with_label es l ≡ es ++ l ∷ []
-goes_last es l h = rw h refl
-
 named_ahead : (es : List Label) (n k : ℕ) (text : List ℕ) → lookup (label_name k) es ≡ None → k < 2 ^ 64 → labels_ahead es (n + 1) k (lines (label_text k ++ text)) ≡ labels_ahead (es ++ label_of n k ∷ []) (n + 1 + 1) k (lines text)
 named_ahead es n k text h g =
     let w = label_first k g in
@@ -133,7 +123,7 @@ named_ahead es n k text h g =
     ap (labels_ahead es (n + 1) k) e
     ∙ ahead_marks es (n + 1) k (label_name k) (lines text) refl (ap is_stop w ∙ label_no_stop k) (ap is_mark w)
     ∙ ap (λ name. labels_ahead (with_label es (record { name = name; line = n + 1; number = k })) (n + 1 + 1) k (lines text)) w
-    ∙ ap (λ fs. labels_ahead fs (n + 1 + 1) k (lines text)) (goes_last es (label_of n k) h)
+    ∙ ap (λ fs. labels_ahead fs (n + 1 + 1) k (lines text)) (with_new es (label_of n k) h)
 
 mark_ahead : (ns : List ℕ) (es : List Label) (n k : ℕ) (text : List ℕ) → lookup (label_name k) es ≡ None → k < 2 ^ 64
     → labels_ahead es (n + 1) k (lines (label_if_named Two ns k ++ text)) ≡ labels_ahead (es ++ marked ns n k) (past_mark ns n k + 1) k (lines text)

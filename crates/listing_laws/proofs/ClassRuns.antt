@@ -17,7 +17,7 @@ use Rattle.listing_words.proofs.PrintLaws.{line_again}
 use Rattle.listing_slots.proofs.ShownLaws.{word_written}
 use Rattle.listing_print.specs.Printed.{keyed_text}
 use Rattle.listing_print.specs.Canon.{statics_text, fields_text, methods_text, class_text, first_text, text_in}
-use Rattle.listing_laws.proofs.Runs.{bare, RunsInto, RunsTo, outside, within, class_goes_on}
+use Rattle.listing_laws.proofs.Runs.{bare, RunsInto, RunsTo, outside, within}
 use Rattle.listing_laws.proofs.Printable.{givens, ClassFits, IsPrintable}
 use Rattle.listing_laws.proofs.ClassRules.{printable}
 use Rattle.listing_laws.proofs.RunLaws.{runs_joined, runs_join, runs_whole, line_runs, words_line}
@@ -27,6 +27,7 @@ use Rattle.listing_laws.proofs.InClass.{InClass, in_then}
 use Rattle.listing_laws.proofs.HeadRuns.{headed, heads_run}
 use Rattle.listing_laws.proofs.FieldRuns.{instances_run, statics_run, fields_again, values_again}
 use Rattle.listing_laws.proofs.MethodRuns.{directs_run, virtuals_run}
+use Rattle.listing_parse.proofs.StageLaws.{class_goes_on}
 
 -- the class, open, with its heads and with all its members
 abbrev heads_of : Class → Open

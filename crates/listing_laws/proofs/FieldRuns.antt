@@ -13,10 +13,11 @@ use Rattle.listing_print.specs.Printed.{line_operands, keyed_text}
 use Rattle.listing_print.specs.Canon.{statics_text}
 use Rattle.listing_print.specs.Reading.{FitOperands}
 use Rattle.listing_lines.specs.declared.form.Form.{Form}
-use Rattle.listing_laws.proofs.Runs.{bare, RunsTo, within, class_goes_on}
+use Rattle.listing_laws.proofs.Runs.{bare, RunsTo, within}
 use Rattle.listing_laws.proofs.Printable.{KeysAreSorted, AllBelow, FieldFits, GivenFits, givens}
 use Rattle.listing_laws.proofs.KeyedLaws.{keyed_runs}
 use Rattle.listing_laws.proofs.InClass.{InClass, with_last, each_runs}
+use Rattle.listing_parse.proofs.StageLaws.{class_goes_on}
 
 -- ---- instance fields
 

@@ -24,7 +24,7 @@ use Rattle.listing_laws.proofs.FreeSlots.{AreFree, row_is_free, value_is_free, s
 use Rattle.listing_laws.specs.Values.{word_of_key, SayGiven, IsReadAsValue, IsReadAsLine}
 use Rattle.listing_laws.proofs.SpelledValues.{spelled_is_read, plain_form}
 use Rattle.listing_laws.proofs.ReadValues.{read_is_spelled, key_is}
-use Rattle.dex_base.proofs.LowPoints.{both}
+use Rattle.std.proofs.lemmas.Bool.{and_parts}
 
 -- the slots of such a line, whose value has these
 abbrev given_slots : List Slot → List Slot
@@ -36,10 +36,10 @@ parts_say : (a b c d : Word) (rest : List Word) (x y z e : Datum) (es : List Dat
     → SpellsSlots (given_slots ss) (a ∷ b ∷ c ∷ d ∷ rest) (x ∷ y ∷ z ∷ e ∷ es) → line_of kind.Given (x ∷ y ∷ z ∷ e ∷ es) ≡ static_line m (Some v) → SayGiven (a ∷ b ∷ c ∷ d ∷ rest) m v
 unfolding line_of have_forms text_of type_of word_of
 parts_say a b c d rest x y z e es ss m v h f g l =
-    let f0 = both (has_form slot.Member a) (have_forms (slot.Desc ∷ flags ∷ slot.Key key.Equals ∷ ss) (b ∷ c ∷ d ∷ rest)) f in
-    let f1 = both (has_form slot.Desc b) (have_forms (flags ∷ slot.Key key.Equals ∷ ss) (c ∷ d ∷ rest)) f0.1 in
-    let f2 = both (has_form flags c) (have_forms (slot.Key key.Equals ∷ ss) (d ∷ rest)) f1.1 in
-    let f3 = both (has_form (slot.Key key.Equals) d) (have_forms ss rest) f2.1 in
+    let f0 = and_parts (has_form slot.Member a) (have_forms (slot.Desc ∷ flags ∷ slot.Key key.Equals ∷ ss) (b ∷ c ∷ d ∷ rest)) f in
+    let f1 = and_parts (has_form slot.Desc b) (have_forms (flags ∷ slot.Key key.Equals ∷ ss) (c ∷ d ∷ rest)) f0.1 in
+    let f2 = and_parts (has_form flags c) (have_forms (slot.Key key.Equals ∷ ss) (d ∷ rest)) f1.1 in
+    let f3 = and_parts (has_form (slot.Key key.Equals) d) (have_forms ss rest) f2.1 in
     let name = g.0 in
     let ty = g.1.0 in
     let number = g.1.1.0 in

@@ -1,5 +1,5 @@
 -- Printed heads of a class, one after the other.
-use Rattle.std.proofs.Common.{◌≡◌, ℕ, zero, suc, ◌+◌, ◌<◌, ◌⊎◌, inl, inr, Bool, true, false, List, [], ◌∷◌, ◌++◌, length, Option, Some, None, refl, sym, ap, subst, ◌∙◌, append_assoc, arith}
+use Rattle.std.proofs.Common.{◌≡◌, ℕ, suc, ◌+◌, ◌<◌, ◌⊎◌, inl, inr, Bool, true, false, List, [], ◌∷◌, ◌++◌, length, Option, Some, None, refl, sym, ap, subst, ◌∙◌, append_assoc, arith}
 use Rattle.std.specs.List.{AllByRecursion, flat_map, slice_get}
 use Rattle.std.proofs.lemmas.List.{append-nil, length-append}
 use Rattle.program_types.specs.Content.{Units, Descriptor, Class}
@@ -18,6 +18,7 @@ use Rattle.listing_laws.proofs.RunLaws.{runs_join}
 use Rattle.listing_laws.proofs.KeyedLaws.{keyed_runs}
 use Rattle.listing_laws.proofs.CodeRuns.{nothing_runs}
 use Rattle.listing_slots.proofs.KeyLaws.{same_true}
+use Rattle.base_bytes.proofs.ListFacts.{slice_left}
 
 -- A class that has its heads so far, and no members.
 abbrev pub headed : Class → Option Descriptor → List Descriptor → Option Units → Open
@@ -52,11 +53,6 @@ among_at (e ∷ es) d h = elim (any_more d e es (same d e) refl h) [
   | inr s ↦ let y = among_at es d s in (suc y.0, omega (arith, y.1), y.2)
 ]
 
-get_front : (xs ys : List Descriptor) (j : ℕ) (t : Descriptor) → slice_get xs j ≡ Some t → slice_get (xs ++ ys) j ≡ Some t
-get_front [] ys j t h = absurd cc
-get_front (x ∷ xs) ys zero t h = h
-get_front (x ∷ xs) ys (suc j) t h = get_front xs ys j t h
-
 get_after : (xs : List Descriptor) (t : Descriptor) (ys : List Descriptor) → slice_get (xs ++ (t ∷ ys)) (length xs) ≡ Some t
 get_after [] t ys = refl
 get_after (x ∷ xs) t ys = get_after xs t ys
@@ -66,7 +62,7 @@ not_before : (before : List Descriptor) (d : Descriptor) (rest : List Descriptor
 not_before before d rest false e h = e
 not_before before d rest true e h =
     let y = among_at before d e in
-    absurd (h (length before) (omega (arith, length-append before (d ∷ rest))) y.0 y.1 (get_front before (d ∷ rest) y.0 d y.2 ∙ sym (get_after before d rest)))
+    absurd (h (length before) (omega (arith, length-append before (d ∷ rest))) y.0 y.1 (slice_left before (d ∷ rest) y.0 d y.2 ∙ sym (get_after before d rest)))
 
 interface_step : (form : Form) (done : List Class) (n : ℕ) (c : Class) (u : Option Descriptor) (before : List Descriptor) (d : Descriptor) → InterfaceFits d → is_among before d ≡ false
     → RunsTo (bare form) (within at_heads done (headed c u before None) None n) (keyed_text (implements_line d)) (within at_heads done (headed c u (before ++ d ∷ []) None) None (n + 1))

@@ -5,13 +5,12 @@ use Rattle.std.specs.List.{AllByRecursion, list_all}
 use Rattle.std.specs.Fmt.{decimal}
 use Rattle.std.specs.Str.Parse.{AllDigits}
 use Rattle.std.proofs.lemmas.Fmt.{decimal_is_IsNumeral}
-use Rattle.std.proofs.lemmas.Bool.{ne_eqb}
+use Rattle.std.proofs.lemmas.Bool.{ne_eqb, and_parts}
 use Rattle.dex_insn.specs.declared.opcode.Format.{Format}
 use Rattle.dex_insn.specs.declared.opcode.Format.TheVariants as format
 use Rattle.dex_insn.specs.Opcodes.{format_of}
 use Rattle.dex_insn.specs.Mnemonics.{mnemonics, mnemonic_of, is_mnemonic_byte}
 use Rattle.dex_insn.proofs.Rows.{used_named, mnemonic_plain}
-use Rattle.dex_base.proofs.NameUnits.{all_append}
 use Rattle.program_types.specs.Content as content
 use Rattle.program_types.specs.Content.{Insn}
 use Rattle.listing_words.specs.Words.{Word, plain_word, IsGraphic, IsWritable, line_bytes}
@@ -42,7 +41,8 @@ use Rattle.listing_laws.proofs.Runs.{RunsTo, frame, at}
 use Rattle.listing_laws.proofs.RunLaws.{IsLine, line_runs, line_is, words_line, spaced_words}
 use Rattle.listing_laws.proofs.FormWords.{words_written, text_is_in, TargetsAreMarked, spelled_in}
 use Rattle.listing_laws.proofs.KeyedLaws.{not_line_of_form, no_line_of_form}
-use Rattle.dex_base.proofs.LowPoints.{both}
+use Rattle.base_bytes.proofs.ListFacts.{all_append, not_true}
+use Rattle.listing_parse.proofs.FormLineLaws.{not_second}
 
 -- ---- its words are written
 
@@ -51,11 +51,11 @@ mnemonic_byte c e = grind arith
 
 mnemonic_bytes : (cs : List ℕ) → list_all is_mnemonic_byte cs ≡ true → AllByRecursion IsGraphic cs
 mnemonic_bytes [] e = tt
-mnemonic_bytes (c ∷ cs) e = let b = mnemonic_byte c (both _ _ e).0 in ((omega arith, b.1), mnemonic_bytes cs (both _ _ e).1)
+mnemonic_bytes (c ∷ cs) e = let b = mnemonic_byte c (and_parts _ _ e).0 in ((omega arith, b.1), mnemonic_bytes cs (and_parts _ _ e).1)
 
 plain_written : (cs : List ℕ) → cs ≢ [] → list_all is_mnemonic_byte cs ≡ true → IsWritable (plain_word cs)
 plain_written [] s e = absurd (s refl)
-plain_written (c ∷ cs) s e = let b = mnemonic_byte c (both _ _ e).0 in (omega arith, (λ q. omega arith), mnemonic_bytes (c ∷ cs) e)
+plain_written (c ∷ cs) s e = let b = mnemonic_byte c (and_parts _ _ e).0 in (omega arith, (λ q. omega arith), mnemonic_bytes (c ∷ cs) e)
 
 mnemonic_written : (op : ℕ) (f : Format) → format_of op ≡ Some f → IsWritable (plain_word (mnemonic_of op))
 mnemonic_written op f e = plain_written (mnemonic_of op) (used_named op f e) (mnemonic_plain op)
@@ -146,10 +146,6 @@ unfolding same key_text
 insn_other (content.Packed first targets) = refl
 insn_other _ = search (rules, mnemonic_other)
 
-not_true : (b : Bool) → not b ≡ true → b ≡ false
-not_true false e = refl
-not_true true e = absurd cc
-
 -- what such a word is not
 pub record IsOther (m : List ℕ) : Type 0 where
   pub shown : (rest : List ℕ) → is_skipped (m ++ rest) ≡ false
@@ -160,14 +156,14 @@ pub record IsOther (m : List ℕ) : Type 0 where
 other_begins : (m : List ℕ) → 0 < length m → begins_other m ≡ true → ((rest : List ℕ) → is_skipped (m ++ rest) ≡ false) × (is_mark m ≡ false)
 other_begins [] s e = absurd (omega arith)
 other_begins (c ∷ cs) s e =
-    let a = both (not (c == 32)) (not (c == 35) && not (c == 58)) e in
-    let b = both (not (c == 35)) (not (c == 58)) a.1 in
+    let a = and_parts (not (c == 32)) (not (c == 35) && not (c == 58)) e in
+    let b = and_parts (not (c == 35)) (not (c == 58)) a.1 in
     ((λ rest. rw (not_true (c == 32) a.0, not_true (c == 35) b.0) refl), not_true (c == 58) b.1)
 
 other_is : (m : List ℕ) → 0 < length m → is_other m ≡ true → IsOther m
 other_is m s e =
-    let a = both (begins_other m) (not (is_stop m) && not (same (codes "dex") m)) e in
-    let b = both (not (is_stop m)) (not (same (codes "dex") m)) a.1 in
+    let a = and_parts (begins_other m) (not (is_stop m) && not (same (codes "dex") m)) e in
+    let b = and_parts (not (is_stop m)) (not (same (codes "dex") m)) a.1 in
     let c = other_begins m s a.0 in
     record { shown = c.0; mark = c.1; stop = not_true (is_stop m) b.0; first = not_true (same (codes "dex") m) b.1 }
 
@@ -198,10 +194,6 @@ not_start _ a = absurd cc
 plain_line_of_form : (es : List Label) (s : State) (ws : List Word) → is_start (stage_of s.block) ≡ false → line_of_form (at (frame One es) s) ws ≡ line_of_form.Nothing
 unfolding line_of_form
 plain_line_of_form es s ws h = rw h (not_line_of_form (is_second ws) (line_of_form.Refused 103))
-
-not_second : (m : List ℕ) (ws : List Word) → same (codes "dex") m ≡ false → is_second (plain_word m ∷ ws) ≡ false
-not_second m (a ∷ b ∷ c ∷ []) h = rw h refl
-not_second m _ h = refl
 
 insn_line_of_form : (form : Form) (es : List Label) (s : State) (k : ℕ) (i : Insn) → OpcodeFits i → is_start (stage_of s.block) ≡ false → line_of_form (at (frame form es) s) (insn_words form k i) ≡ line_of_form.Nothing
 insn_line_of_form One es s k i o h = plain_line_of_form es s (insn_words One k i) h

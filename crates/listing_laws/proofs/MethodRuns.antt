@@ -14,12 +14,13 @@ use Rattle.listing_lines.specs.Places.{may_stand}
 use Rattle.listing_parse.specs.States.{Open, ClassPart, at_members, after_method, add, inside, with_direct, with_virtual, with_code, with_code_at}
 use Rattle.listing_print.specs.Printed.{keyed_text}
 use Rattle.listing_print.specs.Canon.{body_text, direct_text, virtual_text}
-use Rattle.listing_laws.proofs.Runs.{bare, RunsTo, within, class_goes_on}
+use Rattle.listing_laws.proofs.Runs.{bare, RunsTo, within}
 use Rattle.listing_laws.proofs.Printable.{KeysAreSorted, AllBelow, BodyFits, MethodFits}
 use Rattle.listing_laws.proofs.KeyedLaws.{keyed_runs}
 use Rattle.listing_laws.proofs.CodeRuns.{nothing_runs}
 use Rattle.listing_laws.proofs.WholeCode.{code_runs}
 use Rattle.listing_laws.proofs.InClass.{InClass, in_then, with_last, code_skips, each_runs}
+use Rattle.listing_parse.proofs.StageLaws.{class_goes_on}
 
 -- ---- the code of the method that was read last
 

@@ -1,14 +1,15 @@
 -- Names that a file can have are written in their slots.
-use Rattle.std.proofs.Common.{ℕ, ◌<◌, ◌^◌, ◌⊎◌, inl, inr, List, [], ◌∷◌, ◌++◌, refl, arith}
+use Rattle.std.proofs.Common.{ℕ, ◌<◌, ◌^◌, List, [], ◌∷◌, ◌++◌, arith}
 use Rattle.std.specs.List.{flat_map, AllByRecursion}
-use Rattle.dex_base.specs.Descriptor.{IsClass, IsArray, IsDescriptor}
-use Rattle.dex_base.proofs.NameUnits.{all_append}
+use Rattle.dex_base.specs.Descriptor.{IsDescriptor}
 use Rattle.program_types.specs.Content.{Descriptor, Proto, Name, OfText, OfDesc, OfField, OfMethod, AreUnits}
 use Rattle.program_rules.specs.Valid.{IsValueType, IsValidProto, IsValidName}
 use Rattle.program_rules.specs.Ranges.{ProtoInRange, NameInRange}
 use Rattle.listing_words.specs.Written.{proto_units}
 use Rattle.listing_slots.specs.Shown.{IsProto, FitsSlot}
 use Rattle.listing_print.specs.Operands.{name_operand}
+use Rattle.base_bytes.proofs.ListFacts.{all_append, all_weaker}
+use Rattle.dex_base.proofs.DescriptorLaws.{class_is_descriptor, owner_is_descriptor}
 
 -- The name is one that a file can have, and its units are of 16 bits.
 abbrev pub IsNamed : Name → Type 0
@@ -16,17 +17,6 @@ IsNamed n = IsValidName n × NameInRange n
 
 abbrev IsUnit : ℕ → Type 0
 IsUnit u = u < 2 ^ 16
-
-class_descriptor : (units : List ℕ) → IsClass units → IsDescriptor units
-class_descriptor units c = inr (0, units, omega arith, inr c, refl)
-
-owner : (units : List ℕ) → IsClass units ⊎ IsArray units → IsDescriptor units
-owner units (inl c) = class_descriptor units c
-owner units (inr a) = a.0
-
-params_descriptors : (ps : List Descriptor) → AllByRecursion IsValueType ps → AllByRecursion IsDescriptor ps
-params_descriptors [] h = tt
-params_descriptors (p ∷ ps) h = (h.0.descriptor, params_descriptors ps h.1)
 
 params_units : (ps : List Descriptor) → AllByRecursion AreUnits ps → AreUnits (flat_map (λ t. t) ps)
 params_units [] h = tt
@@ -36,7 +26,7 @@ units_of : (p : Proto) → ProtoInRange p → AreUnits (proto_units p)
 units_of p r = (omega arith, all_append IsUnit (flat_map (λ t. t) p.params) (41 ∷ p.ret) (params_units p.params r.params) (omega arith, r.ret))
 
 pub proto_fits : (p : Proto) → IsValidProto p → ProtoInRange p → IsProto p
-proto_fits p v r = record { params = params_descriptors p.params v.params; ret = v.ret; units = units_of p r }
+proto_fits p v r = record { params = all_weaker IsValueType IsDescriptor (λ t value. value.descriptor) p.params v.params; ret = v.ret; units = units_of p r }
 
 member_units : (class name tail : List ℕ) → AreUnits class → AreUnits name → AreUnits tail → AreUnits (class ++ (45 ∷ 62 ∷ (name ++ tail)))
 member_units class name tail c n t = all_append IsUnit class (45 ∷ 62 ∷ (name ++ tail)) c (omega arith, (omega arith, all_append IsUnit name tail n t))
@@ -45,15 +35,15 @@ pub name_fits : (n : Name) → IsNamed n → FitsSlot (name_operand n).slot (nam
 name_fits (OfText us) (v, r) = r
 name_fits (OfDesc d) (v, r) = (v, r)
 name_fits (OfField f) (v, r) = record {
-  class = class_descriptor f.class v.class;
+  class = (class_is_descriptor f.class v.class).0;
   name = v.name;
   ty = v.ty.descriptor;
   units = member_units f.class f.name (58 ∷ f.ty) r.class r.name (omega arith, r.ty);
 }
 name_fits (OfMethod m) (v, r) = record {
-  class = owner m.class v.class;
+  class = owner_is_descriptor m.class v.class;
   name = v.name;
-  params = params_descriptors m.proto.params v.proto.params;
+  params = all_weaker IsValueType IsDescriptor (λ t value. value.descriptor) m.proto.params v.proto.params;
   ret = v.proto.ret;
   units = member_units m.class m.name (proto_units m.proto) r.class r.name (units_of m.proto r.proto);
 }

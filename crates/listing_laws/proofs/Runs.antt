@@ -1,10 +1,9 @@
 -- Whole lines in front of a text.
-use Rattle.std.proofs.Common.{◌≡◌, ℕ, ◌≤◌, true, List, [], ◌++◌, Option, None, refl}
+use Rattle.std.proofs.Common.{◌≡◌, ℕ, ◌≤◌, List, [], ◌++◌, Option, None}
 use Rattle.std.specs.List.{AllByRecursion}
 use Rattle.program_types.specs.Content.{Catch, Try, Class}
-use Rattle.listing_lines.specs.Places.{is_in_class, is_in_code}
 use Rattle.listing_lines.specs.Needs.{Need}
-use Rattle.listing_parse.specs.States.{State, Open, ClassPart, at_heads, Body, CodePart, at_insns, in_try, at_top, in_class, in_code, class_stage, code_stage, all_tries}
+use Rattle.listing_parse.specs.States.{State, Open, ClassPart, Body, CodePart, at_insns, in_try, at_top, in_class, in_code, all_tries}
 use Rattle.listing_labels.specs.Lines.{lines}
 use Rattle.listing_lines.specs.declared.form.Form.{Form}
 use Rattle.listing_labels.specs.Labels.{Label}
@@ -58,16 +57,6 @@ among done o late b n = coding at_insns done o late b n
 -- A try is open, with these catches.
 abbrev pub trying : ℕ → ℕ → List Catch → CodePart
 trying from to xs = in_try (record { from = from; to = to; catches = xs })
-
--- A member or the class's end may stand wherever in a class.
-pub class_goes_on : (p : ClassPart) → is_in_class (class_stage p) ≡ true
-class_goes_on at_heads = refl
-class_goes_on _ = refl
-
--- A try or the code's end may stand wherever in a code.
-pub code_goes_on : (p : CodePart) → is_in_code (code_stage p) ≡ true
-code_goes_on at_insns = refl
-code_goes_on _ = refl
 
 -- The code with these tries.
 abbrev pub with_handlers : Body → List Try → List Need → Body

@@ -2,7 +2,7 @@
 use Rattle.std.proofs.Common.{◌≡◌, ℕ, ◌+◌, ◌<◌, ◌≤◌, ◌^◌, ◌==◌, true, List, [], ◌∷◌, ◌++◌, length, map, take, ℤ, Option, Some, refl, ◌∙◌, arith, rules}
 use Rattle.std.specs.List.{AllByRecursion, flat_map}
 use Rattle.std.proofs.Math.Nat.{min-eq_left, le-max_left, le-max_right}
-use Rattle.std.proofs.lemmas.Bool.{eq-eqb}
+use Rattle.std.proofs.lemmas.Bool.{eq-eqb, or_left, or_right}
 use Rattle.std.proofs.lemmas.List.Folds.{list_any-append}
 use Rattle.program_types.specs.Content as content
 use Rattle.program_types.specs.Formed.{insn_leads}
@@ -17,7 +17,7 @@ use Rattle.listing_print.specs.Canon.{try_numbers, code_numbers, is_named}
 use Rattle.listing_print.specs.Reading.{FitOperands}
 use Rattle.listing_laws.proofs.FormWords.{TargetIsMarked, TargetsAreMarked, first_marked}
 use Rattle.listing_laws.proofs.Ahead.{labels_from, none_before, found_each}
-use Rattle.base_bytes.proofs.ListFacts.{or_right_2, or_left, all_append}
+use Rattle.base_bytes.proofs.ListFacts.{all_append}
 
 -- Each named number up to the count is marked by its label.
 abbrev pub MarkAll : Form → List ℕ → List Label → ℕ → Type 0
@@ -89,7 +89,7 @@ named_left : (xs ys : List ℕ) (j : ℕ) → is_named xs j ≡ true → is_name
 named_left xs ys j e = list_any-append (λ n. n == j) xs ys ∙ or_left (is_named xs j) (is_named ys j) e
 
 named_right : (xs ys : List ℕ) (j : ℕ) → is_named ys j ≡ true → is_named (xs ++ ys) j ≡ true
-named_right xs ys j e = list_any-append (λ n. n == j) xs ys ∙ or_right_2 (is_named xs j) (is_named ys j) e
+named_right xs ys j e = list_any-append (λ n. n == j) xs ys ∙ or_right (is_named xs j) (is_named ys j) e
 
 -- All that these numbers name, those name.
 abbrev pub AreAmong : List ℕ → List ℕ → Type 0
@@ -97,7 +97,7 @@ AreAmong xs ns = (j : ℕ) → is_named xs j ≡ true → is_named ns j ≡ true
 
 pub each_named : (xs ns : List ℕ) → AreAmong xs ns → AreNamed ns xs
 each_named [] ns h = tt
-each_named (x ∷ xs) ns h = (h x (or_left (x == x) (is_named xs x) (eq-eqb x x refl)), each_named xs ns (λ j e. h j (or_right_2 (x == j) (is_named xs j) e)))
+each_named (x ∷ xs) ns h = (h x (or_left (x == x) (is_named xs x) (eq-eqb x x refl)), each_named xs ns (λ j e. h j (or_right (x == j) (is_named xs j) e)))
 
 -- Of all these, each names what is named.
 pub all_named : {X : Type 0} (f : X → List ℕ) (xs : List X) (ns : List ℕ) → AreAmong (flat_map f xs) ns → AllByRecursion (λ x. AreNamed ns (f x)) xs

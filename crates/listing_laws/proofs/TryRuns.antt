@@ -14,13 +14,14 @@ use Rattle.listing_print.specs.Reading.{FitOperands}
 use Rattle.listing_lines.specs.declared.form.Form.{Form}
 use Rattle.listing_lines.specs.declared.form.Form.TheVariants.{One, Two}
 use Rattle.listing_labels.specs.Labels.{Label}
-use Rattle.listing_laws.proofs.Runs.{Frame, RunsTo, NeedsFit, coding, trying, code_goes_on, with_handlers, Tried}
+use Rattle.listing_laws.proofs.Runs.{Frame, RunsTo, NeedsFit, coding, trying, with_handlers, Tried}
 use Rattle.listing_laws.proofs.Printable.{CatchFits, CatchAllFits, TryFits}
 use Rattle.listing_laws.proofs.RunLaws.{runs_join}
 use Rattle.listing_laws.proofs.FormWords.{TargetsAreMarked, first_marked}
 use Rattle.listing_laws.proofs.KeyedLaws.{try_line_runs}
 use Rattle.listing_laws.proofs.CodeRuns.{nothing_runs, need_fits}
 use Rattle.listing_laws.proofs.Targets.{MarkAll, AreNamed}
+use Rattle.listing_parse.proofs.StageLaws.{code_goes_on}
 
 need_more : Body → Catch → ℕ → Body
 need_more b x n = record b { needs = with_need b.needs (n + 1) (x.at + 1) }

@@ -24,7 +24,7 @@ use Rattle.listing_parse.specs.Text.{Reading, Reads, labels_after}
 use Rattle.listing_print.specs.Printed.{line_operands, keyed_text, keyed_text_in}
 use Rattle.listing_print.specs.Canon.{try_numbers, code_numbers, insns_text, catches_text, catch_all_text, try_text, code_text}
 use Rattle.listing_print.specs.Reading.{words_in, FitOperands}
-use Rattle.listing_laws.proofs.Runs.{Frame, bare, frame, at, RunsInto, RunsTo, NeedsFit, within, coding, among, code_goes_on, with_handlers}
+use Rattle.listing_laws.proofs.Runs.{Frame, bare, frame, at, RunsInto, RunsTo, NeedsFit, within, coding, among, with_handlers}
 use Rattle.listing_laws.proofs.Printable.{TryFits, CodeFits}
 use Rattle.listing_laws.proofs.RunLaws.{runs_joined, line_first, line_is, spaced_words}
 use Rattle.listing_laws.proofs.KeyedLaws.{keyed_words, keyed_is, keyed_is_line, key_shown, end_line_runs, code_line_reads}
@@ -32,6 +32,7 @@ use Rattle.listing_laws.proofs.Ahead.{labels_from, none_before, word_first, insn
 use Rattle.listing_laws.proofs.Targets.{MarkAll, labels_mark, all_named, insns_among, tries_among}
 use Rattle.listing_laws.proofs.CodeRuns.{AreAhead, insns_run}
 use Rattle.listing_laws.proofs.TryRuns.{tries_run}
+use Rattle.listing_parse.proofs.StageLaws.{code_goes_on}
 
 none_late : (c : ℕ) (needs : List Need) → NeedsFit c needs → first_late c needs ≡ None
 unfolding first_late

@@ -6,7 +6,7 @@ use Rattle.listing_slots.specs.Data.{Datum}
 use Rattle.listing_slots.specs.Slots.{SpellsSlot, SpellsSlots, has_form, have_forms}
 use Rattle.listing_shapes.specs.declared.due.Due.{Due}
 use Rattle.listing_shapes.specs.Shapes.{slot_at, due_after_word, is_whole, value_slots}
-use Rattle.dex_base.proofs.LowPoints.{both}
+use Rattle.std.proofs.lemmas.Bool.{and_parts}
 
 -- from what is due, the words say this, and then a value is whole
 abbrev pub Runs : Due → List Word → List Datum → Type 0
@@ -29,7 +29,7 @@ run_of d [] ss (x ∷ ds) e f g = absurd (subst (λ (ts : List Slot). SpellsSlot
 run_of d (w ∷ ws) ss [] e f g = absurd (subst (λ (ts : List Slot). SpellsSlots ts (w ∷ ws) []) (more_of (slot_at d w) (value_slots (due_after_word d w) ws) ss e).2 g)
 run_of d (w ∷ ws) ss (x ∷ ds) e f g =
     let m = more_of (slot_at d w) (value_slots (due_after_word d w) ws) ss e in
-    let b = both (has_form (slot_at d w) w) (have_forms m.0 ws) (subst (λ (ts : List Slot). have_forms ts (w ∷ ws) ≡ true) m.2 f) in
+    let b = and_parts (has_form (slot_at d w) w) (have_forms m.0 ws) (subst (λ (ts : List Slot). have_forms ts (w ∷ ws) ≡ true) m.2 f) in
     let h : SpellsSlots (slot_at d w ∷ m.0) (w ∷ ws) (x ∷ ds) = subst (λ (ts : List Slot). SpellsSlots ts (w ∷ ws) (x ∷ ds)) m.2 g in
     (b.0, h.0, run_of (due_after_word d w) ws m.0 ds m.1 b.1 h.1)
 

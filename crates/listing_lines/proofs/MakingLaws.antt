@@ -1,11 +1,10 @@
 -- Values in the making.
-use Rattle.std.proofs.Common.{◌≡◌, ℕ, ◌+◌, ◌<◌, ◌≤◌, List, [], ◌∷◌, ◌++◌, length, get_or, drop, take, map, refl, sym, ap, ◌∙◌, arith, drop_of_length-le, min, inl, inr}
+use Rattle.std.proofs.Common.{◌≡◌, ℕ, ◌+◌, ◌<◌, ◌≤◌, List, [], ◌∷◌, ◌++◌, length, get_or, drop, take, map, refl, sym, ap, ◌∙◌, arith, drop_of_length-le, min}
 use Rattle.std.specs.Prelude.{fold, reverse}
 use Rattle.listing_slots.specs.Data.{Datum, said}
 use Rattle.listing_slots.specs.View.{datum}
 use Rattle.listing_slots.specs.declared.datum.Datum.{Datum as Made}
-use Rattle.std.proofs.lemmas.Bool.{cases_lt}
-use Rattle.std.proofs.lemmas.List.{reverse-append, take-map, drop-map, take_all}
+use Rattle.std.proofs.lemmas.List.{reverse-append, take-map, drop-map, take_min, drop_min}
 use Rattle.program_types.specs.Content as content
 use Rattle.program_types.specs.Content.{Value}
 use Rattle.program_types.specs.View.{value}
@@ -16,18 +15,6 @@ use Rattle.listing_slots.specs.declared.key.Key.TheVariants as key
 use Rattle.listing_lines.specs.declared.making.Making.{Making as InMaking}
 use Rattle.listing_lines.specs.MakingView.{making}
 use Rattle.listing_lines.specs.Lines.{Making, with_word, value_of, first_value}
-
-pub take_least : {X : Type 0} (n : ℕ) (xs : List X) → take (min n (length xs)) xs ≡ take n xs
-take_least n xs = elim (cases_lt n (length xs)) [
-  | inl h ↦ let e : min n (length xs) ≡ n = omega arith in rw e refl
-  | inr h ↦ let e : min n (length xs) ≡ length xs = omega arith in rw (e, take_all (length xs) xs (omega arith)) (sym (take_all n xs h))
-]
-
-drop_least : {X : Type 0} (n : ℕ) (xs : List X) → drop (min n (length xs)) xs ≡ drop n xs
-drop_least n xs = elim (cases_lt n (length xs)) [
-  | inl h ↦ let e : min n (length xs) ≡ n = omega arith in rw e refl
-  | inr h ↦ let e : min n (length xs) ≡ length xs = omega arith in rw (e, drop_of_length-le xs {i = length xs} (omega arith)) (sym (drop_of_length-le xs {i = n} h))
-]
 
 pub fold_end : (m : Making) (ds : List Made) (i : ℕ) → length ds ≤ i → fold with_word m (map datum (drop i ds)) ≡ m
 fold_end m ds i h = rw (drop_of_length-le ds {i = i} h) refl
@@ -43,8 +30,8 @@ pub close_one : (vs new : List Value) (bs cs : List ℕ) (begin cut : ℕ) → b
     → ◌≡◌ {A = Making} (record { values = new; begins = reverse cs }) (with_word (record { values = vs; begins = reverse bs }) (said key.Close))
 close_one vs new bs cs begin cut e f g =
     let r : reverse bs ≡ begin ∷ reverse cs = ap reverse e ∙ reverse-append cs (begin ∷ []) in
-    let t : take cut vs ≡ take begin vs = rw f (take_least begin vs) in
-    let d : drop cut vs ≡ drop begin vs = rw f (drop_least begin vs) in
+    let t : take cut vs ≡ take begin vs = rw f (take_min begin vs) in
+    let d : drop cut vs ≡ drop begin vs = rw f (drop_min begin vs) in
     rw (r, g, t, d) refl
 
 pub values_cut : (vs : List Put) (cut : ℕ) (inner : List Put) → inner ≡ drop cut vs → map value (take cut vs) ++ content.Array (content.values (map value inner)) ∷ [] ≡ take cut (map value vs) ++ content.Array (content.values (drop cut (map value vs))) ∷ []

@@ -1,4 +1,4 @@
-//! Lines made of what their slots say.
+//! Instructions, fields and methods made of what their slots say.
 
 ghost use Rattle.std.specs.Prelude.{◌≡◌, map, Some};
 ghost use Rattle.program_types.specs.View.{insn, member, method};

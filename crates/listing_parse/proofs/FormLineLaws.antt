@@ -1,5 +1,5 @@
 -- Lines that say nothing of the program.
-use Rattle.std.proofs.Common.{◌≡◌, ◌≢◌, ℕ, ◌==◌, Bool, true, false, List, [], ◌∷◌, Option, Some, None, length, map, refl, ap, ◌∙◌, arith}
+use Rattle.std.proofs.Common.{◌≡◌, ◌≢◌, ℕ, ◌==◌, Bool, true, false, List, [], ◌∷◌, Option, Some, None, length, map, refl, ap, ◌∙◌, arith, codes}
 use Rattle.std.proofs.lemmas.Bool.{eq-eqb, ne_eqb}
 use Rattle.listing_labels.specs.Labels.{Label, is_label, lookup}
 use Rattle.listing_labels.specs.View.{place_in}
@@ -14,6 +14,7 @@ use Rattle.listing_parse.specs.Text.{Reading, is_on, is_second, line_of_label, l
 use Rattle.listing_parse.specs.declared.form_line.FormLine.{FormLine}
 use Rattle.listing_parse.specs.declared.form_line.FormLine.TheVariants.{Nothing, Refused, First, Mark}
 use Rattle.base_bytes.proofs.ListFacts.{or_last}
+use Rattle.listing_slots.specs.Keys.{same}
 
 -- the place is of this line
 abbrev place_on : ℕ → Option Place → Bool
@@ -31,6 +32,10 @@ pub label_there : (r : Reading) (w : List ℕ) (p : Place) → is_label w ≡ tr
 label_there r w p a b e = rw (a, on_place r.base.lines (lookup w r.labels), b, ne_eqb p.line r.base.lines e) refl
 
 -- ---- the first line of the second form
+
+pub not_second : (text : List ℕ) (ws : List Word) → same (codes "dex") text ≡ false → is_second (plain_word text ∷ ws) ≡ false
+not_second text (a ∷ b ∷ c ∷ []) e = rw e refl
+not_second text _ e = refl
 
 pub second_first : (r : Reading) (ws : List Word) → is_second ws ≡ true → is_start (stage_of r.base.block) ≡ true → First ≡ line_of_form r ws
 unfolding line_of_form

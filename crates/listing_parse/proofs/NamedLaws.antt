@@ -1,6 +1,6 @@
 -- What the instructions name, after a line more.
 use Rattle.std.proofs.Common.{◌≡◌, ℕ, Bool, true, false, if◌then◌else◌, List, [], ◌∷◌, ◌++◌, Option, Some, None, zero, suc, sym, subst, rules}
-use Rattle.std.specs.Prelude.{⊤, IfSome, option_map}
+use Rattle.std.specs.Prelude.{⊤, IfSome}
 use Rattle.std.specs.List.{AllByRecursion}
 use Rattle.std.specs.Ordering.{is_eq, is_lt}
 use Rattle.base_bytes.proofs.ListFacts.{all_append}
@@ -22,16 +22,13 @@ use Rattle.listing_draft.specs.Members.{Given, given_key, is_held, put_in, with_
 use Rattle.listing_draft.specs.States.{Open, Owner, ClassPart, at_heads, at_members, after_method, Body, CodePart, after_try, Block, at_top, in_class, in_code, State, stage_of, opened, closed, with_code, with_code_at, is_among, with_static, with_instance, with_direct, with_virtual, with_superclass, with_source, with_interface, at_part, class_line, begun, noted, with_tries, with_catch, is_in_try, whole_code, code_line, inside, class_of, owner_of, with_body, code_ended, late_in, with_block, add}
 use Rattle.listing_parse.specs.Named.{MethodsAreNamed, OpenIsNamed, BlockIsNamed, StateIsNamed, ReadingIsNamed}
 use Rattle.listing_parse.specs.Text.{Reading, begin, in_second, line_counted}
+use Rattle.base_bytes.proofs.OptionLaws.{IfSome-map}
 
 -- ---- of one of two, and of what may be missing
 
 either_way : {A : Type 0} (P : A → Type 0) (b : Bool) (x y : A) → P x → P y → P (if b then x else y)
 either_way P true x y p q = p
 either_way P false x y p q = q
-
-if_mapped : {A B : Type 0} (P : A → Type 0) (Q : B → Type 0) (f : A → B) → ((a : A) → P a → Q (f a)) → (o : Option A) → IfSome o P → IfSome (option_map f o) Q
-if_mapped P Q f g None h = tt
-if_mapped P Q f g (Some a) h = g a h
 
 any : {A : Type 0} (o : Option A) → IfSome o (λ (a : A). ⊤)
 any None = tt
@@ -83,7 +80,7 @@ member_named : (m : Method) (ms : List Method) → IfSome m.code InsnsAreNamed �
 member_named m ms n h = either_way (λ (o : Option (List Method)). IfSome o MethodsAreNamed) (is_held method_key (method_key m) ms) None (Some (put_in method_key m ms)) tt (put_named m ms n h)
 
 part_named : (p : ClassPart) (o : Option Open) → IfSome o OpenIsNamed → IfSome (at_part p o) (λ (q : Open × ClassPart). OpenIsNamed q.0)
-part_named p o h = if_mapped OpenIsNamed (λ (q : Open × ClassPart). OpenIsNamed q.0) (λ c. (c, p)) (λ c k. k) o h
+part_named p o h = IfSome-map (λ c. (c, p)) OpenIsNamed (λ (q : Open × ClassPart). OpenIsNamed q.0) o (λ c k. k) h
 
 superclass_named : (o : Open) (d : Descriptor) → OpenIsNamed o → IfSome (with_superclass o d) OpenIsNamed
 unfolding with_superclass
@@ -99,19 +96,19 @@ interface_named o d h = either_way (λ (x : Option Open). IfSome x OpenIsNamed) 
 
 static_named : (o : Open) (g : Given) → OpenIsNamed o → IfSome (with_static o g) OpenIsNamed
 unfolding with_static
-static_named o g h = if_mapped (λ (gs : List Given). ⊤) OpenIsNamed (λ gs. record o { statics = gs }) (λ gs t. h) (with_member given_key g o.statics) (any (with_member given_key g o.statics))
+static_named o g h = IfSome-map (λ gs. record o { statics = gs }) (λ (gs : List Given). ⊤) OpenIsNamed (with_member given_key g o.statics) (λ gs t. h) (any (with_member given_key g o.statics))
 
 instance_named : (o : Open) (m : Member) → OpenIsNamed o → IfSome (with_instance o m) OpenIsNamed
 unfolding with_instance
-instance_named o m h = if_mapped (λ (ms : List Member). ⊤) OpenIsNamed (λ ms. record o { instances = ms }) (λ ms t. h) (with_member member_key m o.instances) (any (with_member member_key m o.instances))
+instance_named o m h = IfSome-map (λ ms. record o { instances = ms }) (λ (ms : List Member). ⊤) OpenIsNamed (with_member member_key m o.instances) (λ ms t. h) (any (with_member member_key m o.instances))
 
 direct_named : (o : Open) (m : Method) → IfSome m.code InsnsAreNamed → OpenIsNamed o → IfSome (with_direct o m) OpenIsNamed
 unfolding with_direct
-direct_named o m n h = if_mapped MethodsAreNamed OpenIsNamed (λ ms. record o { directs = ms }) (λ ms k. (k, h.1)) (with_member method_key m o.directs) (member_named m o.directs n h.0)
+direct_named o m n h = IfSome-map (λ ms. record o { directs = ms }) MethodsAreNamed OpenIsNamed (with_member method_key m o.directs) (λ ms k. (k, h.1)) (member_named m o.directs n h.0)
 
 virtual_named : (o : Open) (m : Method) → IfSome m.code InsnsAreNamed → OpenIsNamed o → IfSome (with_virtual o m) OpenIsNamed
 unfolding with_virtual
-virtual_named o m n h = if_mapped MethodsAreNamed OpenIsNamed (λ ms. record o { virtuals = ms }) (λ ms k. (h.0, k)) (with_member method_key m o.virtuals) (member_named m o.virtuals n h.1)
+virtual_named o m n h = IfSome-map (λ ms. record o { virtuals = ms }) MethodsAreNamed OpenIsNamed (with_member method_key m o.virtuals) (λ ms k. (h.0, k)) (member_named m o.virtuals n h.1)
 
 class_line_named : (o : Open) (l : Line) → LineIsNamed l → OpenIsNamed o → IfSome (class_line o l) (λ (q : Open × ClassPart). OpenIsNamed q.0)
 class_line_named o (super_line d) n h = part_named at_heads (with_superclass o d) (superclass_named o d h)
@@ -131,7 +128,7 @@ BodyIsNamed q = AllByRecursion InsnIsNamed q.0.insns
 code_line_named : (b : Body) (p : CodePart) (l : Line) → LineIsNamed l → AllByRecursion InsnIsNamed b.insns → IfSome (code_line b p l) BodyIsNamed
 code_line_named b p (insn_line i) n h = all_append InsnIsNamed b.insns (i ∷ []) h (n, tt)
 code_line_named b p (try_line from to) n h = h
-code_line_named b p (catch_line d k) n h = if_mapped (λ (q : CodePart). ⊤) BodyIsNamed (λ q. (b, q)) (λ q t. h) (with_catch p (record { ty = d; at = k })) (any (with_catch p (record { ty = d; at = k })))
+code_line_named b p (catch_line d k) n h = IfSome-map (λ q. (b, q)) (λ (q : CodePart). ⊤) BodyIsNamed (with_catch p (record { ty = d; at = k })) (λ q t. h) (any (with_catch p (record { ty = d; at = k })))
 code_line_named b p (catch_all_line k) n h = either_way (λ (o : Option (Body × CodePart)). IfSome o BodyIsNamed) (is_in_try p) (Some (with_tries b p (Some k), after_try)) None h tt
 code_line_named b p _ n h = tt
 
@@ -139,8 +136,8 @@ code_line_named b p _ n h = tt
 
 inside_named : (k : Block) (n : ℕ) (l : Line) → LineIsNamed l → BlockIsNamed k → IfSome (inside k n l) BlockIsNamed
 unfolding inside
-inside_named (in_class o p) n l m h = if_mapped (λ (q : Open × ClassPart). OpenIsNamed q.0) BlockIsNamed (λ q. in_class q.0 q.1) (λ q k. k) (class_line o l) (class_line_named o l m h)
-inside_named (in_code o b p) n l m h = if_mapped BodyIsNamed BlockIsNamed (λ q. in_code o q.0 q.1) (λ q k. (h.0, k)) (code_line (noted b n l) p l) (code_line_named (noted b n l) p l m h.1)
+inside_named (in_class o p) n l m h = IfSome-map (λ q. in_class q.0 q.1) (λ (q : Open × ClassPart). OpenIsNamed q.0) BlockIsNamed (class_line o l) (λ q k. k) (class_line_named o l m h)
+inside_named (in_code o b p) n l m h = IfSome-map (λ q. in_code o q.0 q.1) BodyIsNamed BlockIsNamed (code_line (noted b n l) p l) (λ q k. (h.0, k)) (code_line_named (noted b n l) p l m h.1)
 inside_named _ n l m h = tt
 
 class_of_named : (k : Block) → BlockIsNamed k → IfSome (class_of k) OpenIsNamed
@@ -162,11 +159,11 @@ unfolding add
 add_named s first_line n h = either_way (λ (o : Option State). IfSome o StateIsNamed) (is_start (stage_of s.block)) (Some (with_block s at_top)) None (record { done = h.done; block = tt }) tt
 add_named s (open_class d f) n h = either_way (λ (o : Option State). IfSome o StateIsNamed) (is_top (stage_of s.block)) (Some (with_block s (in_class (opened d f) at_heads))) None (record { done = h.done; block = (tt, tt) }) tt
 add_named s end_class n h =
-    if_mapped OpenIsNamed StateIsNamed (λ o. record s { done = s.done ++ closed o ∷ []; block = at_top })
-    (λ o k. record { done = all_append (CodesHold InsnsAreNamed) s.done (closed o ∷ []) h.done (record { directs = k.0; virtuals = k.1 }, tt); block = tt }) (class_of s.block) (class_of_named s.block h.block)
-add_named s (open_code r i u) n h = if_mapped (λ (w : Owner). ⊤) StateIsNamed (λ w. with_block s (with_body s.block (begun w r i u))) (λ w t. record { done = h.done; block = with_body_named s.block (begun w r i u) h.block tt }) (owner_of s.block) (any (owner_of s.block))
-add_named s end_code n h = if_mapped BlockIsNamed StateIsNamed (λ b. record s { block = b; late = earliest s.late (late_in s.block) }) (λ b k. record { done = h.done; block = k }) (code_ended s.block) (code_ended_named s.block h.block)
-add_named s l n h = if_mapped BlockIsNamed StateIsNamed (λ b. with_block s b) (λ b k. record { done = h.done; block = k }) (inside s.block s.lines l) (inside_named s.block s.lines l n h.block)
+    IfSome-map (λ o. record s { done = s.done ++ closed o ∷ []; block = at_top }) OpenIsNamed StateIsNamed (class_of s.block)
+    (λ o k. record { done = all_append (CodesHold InsnsAreNamed) s.done (closed o ∷ []) h.done (record { directs = k.0; virtuals = k.1 }, tt); block = tt }) (class_of_named s.block h.block)
+add_named s (open_code r i u) n h = IfSome-map (λ w. with_block s (with_body s.block (begun w r i u))) (λ (w : Owner). ⊤) StateIsNamed (owner_of s.block) (λ w t. record { done = h.done; block = with_body_named s.block (begun w r i u) h.block tt }) (any (owner_of s.block))
+add_named s end_code n h = IfSome-map (λ b. record s { block = b; late = earliest s.late (late_in s.block) }) BlockIsNamed StateIsNamed (code_ended s.block) (λ b k. record { done = h.done; block = k }) (code_ended_named s.block h.block)
+add_named s l n h = IfSome-map (λ b. with_block s b) BlockIsNamed StateIsNamed (inside s.block s.lines l) (λ b k. record { done = h.done; block = k }) (inside_named s.block s.lines l n h.block)
 
 -- ---- a reading
 

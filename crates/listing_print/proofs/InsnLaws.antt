@@ -2,7 +2,7 @@
 use Rattle.std.proofs.Common.{◌≡◌, ℕ, ℤ, zero, suc, ◌-◌, ◌*◌, ◌<◌, ◌≤◌, ◌^◌, Bool, true, false, inl, inr, List, [], ◌∷◌, ◌++◌, length, get_or, map, take, drop, replicate, Option, Some, None, refl, sym, ap, ◌∙◌, arith, rules}
 use Rattle.std.specs.List.{list_all}
 use Rattle.std.specs.Fmt.{decimal}
-use Rattle.std.proofs.lemmas.Bool.{eq-eqb}
+use Rattle.std.proofs.lemmas.Bool.{eq-eqb, and_parts}
 use Rattle.std.proofs.lemmas.List.{length-take}
 use Rattle.dex_insn.specs.declared.opcode.Format.{Format}
 use Rattle.dex_insn.specs.declared.opcode.Format.TheVariants as format
@@ -32,7 +32,6 @@ use Rattle.listing_print.specs.Printed.{insn_word}
 use Rattle.listing_print.specs.Reading.{slots_of, data_of, words_in, FitOperands, insn_kind, IsNameOfOpcode, OpcodeFits}
 use Rattle.listing_print.proofs.PrintedLaws.{forms_in, join_in, slots_join}
 use Rattle.listing_slots.proofs.ShownLaws.{natural_printed}
-use Rattle.dex_base.proofs.LowPoints.{both}
 
 -- the row of an opcode, where its operands are these
 plain_row : (op : ℕ) (f : Format) (ws : List Word) (ss : List Slot) → format_of op ≡ Some f → ss ≡ plain_slots (Some f) (index_kind_of op) ws → IsInsnRow (mnemonic_of op) ws (kind.Plain op, ss)
@@ -204,8 +203,8 @@ none_is (Some k) e = absurd cc
 
 pub all_at : (P : List ℕ → Bool) (xs : List (List ℕ)) (i : ℕ) → list_all P xs ≡ true → P [] ≡ true → P (get_or xs i []) ≡ true
 all_at P [] i a e = e
-all_at P (x ∷ xs) zero a e = (both (P x) (list_all P xs) a).0
-all_at P (x ∷ xs) (suc i) a e = all_at P xs i (both (P x) (list_all P xs) a).1 e
+all_at P (x ∷ xs) zero a e = (and_parts (P x) (list_all P xs) a).0
+all_at P (x ∷ xs) (suc i) a e = all_at P xs i (and_parts (P x) (list_all P xs) a).1 e
 
 mnemonics_free : list_all (λ m. is_none (find_key lead_keys m)) mnemonics ≡ true
 unfolding mnemonics find_key same key_text

@@ -1,5 +1,5 @@
 -- What the printed words of a value say makes the value.
-use Rattle.std.proofs.Common.{◌≡◌, Bool, true, false, List, [], ◌∷◌, ◌++◌, length, take, drop, refl, sym, ap, ◌∙◌, append_assoc}
+use Rattle.std.proofs.Common.{◌≡◌, Bool, true, false, List, [], ◌∷◌, ◌++◌, length, refl, sym, ap, ◌∙◌, append_assoc}
 use Rattle.std.specs.Prelude.{fold}
 use Rattle.std.proofs.lemmas.List.{append-nil}
 use Rattle.program_types.specs.Content as content
@@ -9,23 +9,8 @@ use Rattle.listing_slots.specs.Data.{Datum, said}
 use Rattle.listing_lines.specs.Lines.{Making, with_word, with_value, value_of, first_value}
 use Rattle.listing_print.specs.Operands.{Operand, keyword, named_operands, value_operands, values_operands}
 use Rattle.listing_print.specs.Reading.{data_of}
-
--- the values one by one
-abbrev pub list_of : Values → List Value
-list_of no_values = []
-list_of (more_values v vs) = v ∷ list_of vs
-
-values_of_list : (vs : Values) → content.values (list_of vs) ≡ vs
-values_of_list no_values = refl
-values_of_list (more_values v vs) = ap (more_values v) (values_of_list vs)
-
-take_front : (xs ys : List Value) → take (length xs) (xs ++ ys) ≡ xs
-take_front [] ys = refl
-take_front (x ∷ xs) ys = ap (λ t. x ∷ t) (take_front xs ys)
-
-drop_front : (xs ys : List Value) → drop (length xs) (xs ++ ys) ≡ ys
-drop_front [] ys = refl
-drop_front (x ∷ xs) ys = drop_front xs ys
+use Rattle.std.proofs.Math.Seq.{take-append_seam, drop-append_seam}
+use Rattle.program_types.proofs.Nesting.{listed, values-listed}
 
 pub data_join : (os ps : List Operand) → data_of (os ++ ps) ≡ data_of os ++ data_of ps
 data_join [] ps = refl
@@ -42,8 +27,8 @@ one_more : (m : Making) (v : Value) (vs : List Value) → with_values (with_valu
 one_more m v vs = ap (λ xs. record { values = xs; begins = m.begins }) (append_assoc m.values (v ∷ []) vs)
 
 -- a whole array
-array_made : (m : Making) (vs : Values) → with_word (record { values = m.values ++ list_of vs; begins = length m.values ∷ m.begins }) (said key.Close) ≡ with_value m (content.Array vs)
-array_made m vs = rw (take_front m.values (list_of vs), drop_front m.values (list_of vs), values_of_list vs) refl
+array_made : (m : Making) (vs : Values) → with_word (record { values = m.values ++ listed vs; begins = length m.values ∷ m.begins }) (said key.Close) ≡ with_value m (content.Array vs)
+array_made m vs = rw (take-append_seam m.values (listed vs), drop-append_seam m.values (listed vs), values-listed vs) refl
 
 named_fold : (which : Name) (m : Making) (rest : List Datum) → fold with_word m (data_of (named_operands which) ++ rest) ≡ fold with_word (with_value m (content.Named which)) rest
 named_fold (OfText us) m rest = refl
@@ -63,14 +48,14 @@ mutual
   value_fold (content.Boolean b) m rest = truth_fold b m rest
   value_fold _ m rest = refl
 
-  pub values_fold : (vs : Values) (m : Making) (rest : List Datum) → fold with_word m (data_of (values_operands vs) ++ rest) ≡ fold with_word (with_values m (list_of vs)) rest
+  pub values_fold : (vs : Values) (m : Making) (rest : List Datum) → fold with_word m (data_of (values_operands vs) ++ rest) ≡ fold with_word (with_values m (listed vs)) rest
   values_fold no_values m rest = ap (λ x. fold with_word x rest) (no_more m)
   values_fold (more_values v vs) m rest =
       ap (λ ds. fold with_word m (ds ++ rest)) (data_join (value_operands v) (values_operands vs))
       ∙ ap (fold with_word m) (append_assoc (data_of (value_operands v)) (data_of (values_operands vs)) rest)
       ∙ value_fold v m (data_of (values_operands vs) ++ rest)
       ∙ values_fold vs (with_value m v) rest
-      ∙ ap (λ x. fold with_word x rest) (one_more m v (list_of vs))
+      ∙ ap (λ x. fold with_word x rest) (one_more m v (listed vs))
 
 pub value_made : (v : Value) → value_of (data_of (value_operands v)) ≡ v
 unfolding value_of

@@ -20,6 +20,7 @@ use Rattle.listing_shapes.specs.declared.due.Due.TheVariants as due
 use Rattle.listing_shapes.specs.Shapes.{value_slots, slot_at, due_after_word, due_after, due_of_key}
 use Rattle.listing_print.specs.Reading.{slots_of, data_of, words_in, FitOperands}
 use Rattle.listing_print.specs.Operands.{Operand, shown_in, target_word, keyword, named_operands, truth_key, value_operands, values_operands}
+use Rattle.listing_shapes.proofs.ValueSlotLaws.{after_slots}
 
 -- ---- operands as slots, data and words
 
@@ -84,10 +85,6 @@ mutual
       ∙ sym (words_join (value_operands v) (values_operands vs))
 
 -- ---- the slots of a value
-
--- after the words of a value, what is due after it
-abbrev pub after_slots : List Slot → Option (List Slot) → Option (List Slot)
-after_slots done more = option_map (λ ss. done ++ ss) more
 
 after_more : (a b : List Slot) (more : Option (List Slot)) → after_slots a (after_slots b more) ≡ after_slots (a ++ b) more
 after_more a b None = refl

@@ -52,7 +52,7 @@ operand s d = record { slot = s; says = d }
 abbrev pub keyword : Key → Operand
 keyword k = operand (slot.Key k) (said k)
 
--- A register of four bits, of eight and of sixteen; a target; a count.
+-- A register of four bits.
 abbrev pub v4 : ℕ → Operand
 v4 n = operand register4 (byte n)
 

@@ -94,7 +94,7 @@ fn put_braces(out: &mut Vec<u8>, regs: &[u8], which: Name<'_>) -> Result<(), All
 }
 
 /// Appends the first `n` of the registers in braces, and a name.
-#[tactic(auto, using(listing_lines::proofs::MakingLaws::take_least))]
+#[tactic(auto, using(std::proofs::lemmas::List::take_min))]
 fn put_call(out: &mut Vec<u8>, n: u8, regs: [u8; 5], which: Name<'_>) -> Result<(), AllocError>
     ensures ok { OnOk result (out.new.items ≡ out.old.items ++ operand_text (keyword Key.Open ∷ (map v4 (take n regs) ++ (keyword Key.Close ∷ name_operand (name which.entry) ∷ [])))) }
 {

@@ -18,7 +18,7 @@ use Rattle.listing_slots.specs.Keys.{key_text, same, find_key, lead_keys, payloa
 use Rattle.listing_slots.specs.Slots.{has_form, have_forms}
 use Rattle.listing_shapes.specs.Shapes.{Shape, Row, BeginsWithKey, BeginsWithInsn, IsPlainRow, IsInsnRow, HasShape, HasBareShape, key_row, payload_row, onto_row, pairs, target}
 use Rattle.listing_slots.proofs.KeyLaws.{same_true}
-use Rattle.dex_base.proofs.LowPoints.{both}
+use Rattle.std.proofs.lemmas.Bool.{and_parts}
 
 -- ---- no keyword ends in `:`
 
@@ -50,7 +50,7 @@ found_free : (ks : List Key) (text : List ℕ) (k : Key) → list_all (λ k. fre
 unfolding find_key
 found_free [] text k a e = absurd cc
 found_free (j ∷ ks) text k a e =
-    let b = both (free (ends (key_text j))) (list_all (λ k. free (ends (key_text k))) ks) a in
+    let b = and_parts (free (ends (key_text j))) (list_all (λ k. free (ends (key_text k))) ks) a in
     elim (chosen (same (key_text j) text) j (find_key ks text) k e) [
       | inl f ↦ same_free (key_text j) text f.0 b.0
       | inr f ↦ found_free ks text k b.1 f.1
@@ -75,8 +75,8 @@ none_of k (Some j) e f = cc
 
 pub all_at : (P : List ℕ → Bool) (xs : List (List ℕ)) (i : ℕ) (d : List ℕ) → list_all P xs ≡ true → P d ≡ true → P (get_or xs i d) ≡ true
 all_at P [] i d a e = e
-all_at P (x ∷ xs) zero d a e = (both (P x) (list_all P xs) a).0
-all_at P (x ∷ xs) (suc i) d a e = all_at P xs i d (both (P x) (list_all P xs) a).1 e
+all_at P (x ∷ xs) zero d a e = (and_parts (P x) (list_all P xs) a).0
+all_at P (x ∷ xs) (suc i) d a e = all_at P xs i d (and_parts (P x) (list_all P xs) a).1 e
 
 mnemonics_free : list_all (λ m. no_key (find_key payload_keys m)) mnemonics ≡ true
 unfolding mnemonics find_key same key_text
@@ -290,7 +290,7 @@ unfolding have_forms
 forms_length [] [] e = refl
 forms_length [] (w ∷ ws) e = absurd cc
 forms_length (s ∷ ss) [] e = absurd cc
-forms_length (s ∷ ss) (w ∷ ws) e = let i = forms_length ss ws (both (has_form s w) (have_forms ss ws) e).1 in omega arith
+forms_length (s ∷ ss) (w ∷ ws) e = let i = forms_length ss ws (and_parts (has_form s w) (have_forms ss ws) e).1 in omega arith
 
 -- ---- words in memory
 
@@ -316,10 +316,6 @@ insn_lengths words after x k ss e b =
 
 -- ---- without numbers
 
--- a keyword is none where there is none
-pub no_key_row : (text : List ℕ) (ws : List Word) (row : Row) → None ≡ find_key lead_keys text → BeginsWithKey text ws row → ⊥
-no_key_row text ws row e b = leadless text ws e row b
-
 pub bare_one : (ws : List Word) (s t : Shape) → HasBareShape ws s → HasBareShape ws t → s ≡ t
 bare_one ws s t p q = elim p [
   | inl a ↦ elim q [
@@ -331,13 +327,13 @@ bare_one ws s t p q = elim p [
     | inr b ↦
         let i = a.words in let j = b.words in
         let m : b.text ≡ a.text = cc in
-        absurd (no_key_row a.text b.after b.row a.no_lead (subst (λ (u : List ℕ). BeginsWithKey u b.after b.row) m b.keyed))
+        absurd (leadless a.text b.after a.no_lead b.row (subst (λ (u : List ℕ). BeginsWithKey u b.after b.row) m b.keyed))
   ]
   | inr a ↦ elim q [
     | inl b ↦
         let i = a.words in let j = b.words in
         let m : a.text ≡ b.text = cc in
-        absurd (no_key_row b.text a.after a.row b.no_lead (subst (λ (u : List ℕ). BeginsWithKey u a.after a.row) m a.keyed))
+        absurd (leadless b.text a.after b.no_lead a.row (subst (λ (u : List ℕ). BeginsWithKey u a.after a.row) m a.keyed))
     | inr b ↦
         let i = a.words in let j = b.words in
         let m : a.text ≡ b.text = cc in let n : a.after ≡ b.after = cc in
@@ -371,7 +367,7 @@ bare_only ws after text e f refuse s h = elim h [
   | inl a ↦ refuse a.row a.insn
   | inr a ↦
       let w = a.words in let i : a.text ≡ text = cc in
-      no_key_row text a.after a.row f (subst (λ (u : List ℕ). BeginsWithKey u a.after a.row) i a.keyed)
+      leadless text a.after f a.row (subst (λ (u : List ℕ). BeginsWithKey u a.after a.row) i a.keyed)
 ]
 
 pub bare_shape : (ws after : List Word) (text : List ℕ) (row : Row) → ws ≡ plain_word text ∷ after → None ≡ find_key lead_keys text → BeginsWithInsn ws row → HasBareShape ws (record { kind = row.0; label = []; slots = row.1; words = drop 1 ws })

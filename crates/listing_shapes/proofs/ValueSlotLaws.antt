@@ -7,24 +7,25 @@ use Rattle.listing_slots.specs.declared.slot.Slot.{Slot}
 use Rattle.listing_shapes.specs.declared.due.Due.{Due}
 use Rattle.listing_shapes.specs.Shapes.{slot_at, due_after_word, is_whole, value_slots}
 
-abbrev pub onto : List Slot → Option (List Slot) → Option (List Slot)
-onto done more = option_map (λ ss. done ++ ss) more
+-- after the slots of some words, what is due after them
+abbrev pub after_slots : List Slot → Option (List Slot) → Option (List Slot)
+after_slots done more = option_map (λ ss. done ++ ss) more
 
-onto_push : (done : List Slot) (s : Slot) (more : Option (List Slot)) → onto done (option_map (λ ss. s ∷ ss) more) ≡ onto (done ++ s ∷ []) more
-onto_push done s None = refl
-onto_push done s (Some ss) = ap Some (sym (append_assoc done (s ∷ []) ss))
+after_push : (done : List Slot) (s : Slot) (more : Option (List Slot)) → after_slots done (option_map (λ ss. s ∷ ss) more) ≡ after_slots (done ++ s ∷ []) more
+after_push done s None = refl
+after_push done s (Some ss) = ap Some (sym (append_assoc done (s ∷ []) ss))
 
 pub value_more : (done : List Slot) (d : Due) (ws : List Made) (i : ℕ) (x : Made) → i < length ws
-    → onto done (value_slots d (map word (drop i ws))) ≡ onto (done ++ slot_at d (word (get_or ws i x)) ∷ []) (value_slots (due_after_word d (word (get_or ws i x))) (map word (drop (i + 1) ws)))
+    → after_slots done (value_slots d (map word (drop i ws))) ≡ after_slots (done ++ slot_at d (word (get_or ws i x)) ∷ []) (value_slots (due_after_word d (word (get_or ws i x))) (map word (drop (i + 1) ws)))
 unfolding value_slots
-value_more done d ws i x h = let e : drop i ws ≡ get_or ws i x ∷ drop (i + 1) ws = rw add-one (drop-cons ws i x h) in rw e (onto_push done (slot_at d (word (get_or ws i x))) (value_slots (due_after_word d (word (get_or ws i x))) (map word (drop (i + 1) ws))))
+value_more done d ws i x h = let e : drop i ws ≡ get_or ws i x ∷ drop (i + 1) ws = rw add-one (drop-cons ws i x h) in rw e (after_push done (slot_at d (word (get_or ws i x))) (value_slots (due_after_word d (word (get_or ws i x))) (map word (drop (i + 1) ws))))
 
 pub value_end : (d : Due) (ws : List Made) (i : ℕ) → length ws ≤ i → value_slots d (map word (drop i ws)) ≡ (if is_whole d then Some [] else None)
 unfolding value_slots
 value_end d ws i h = rw (drop_of_length-le ws {i = i} h) refl
 
-pub ends : (old done : List Slot) (b : Bool) (all rest : Option (List Slot)) → onto old all ≡ onto done rest → rest ≡ (if b then Some [] else None)
-    → MatchBool b (onto old all ≡ Some done) (all ≡ None)
-ends old done true all rest e f = e ∙ ap (onto done) f ∙ ap Some (append-nil done)
+pub ends : (old done : List Slot) (b : Bool) (all rest : Option (List Slot)) → after_slots old all ≡ after_slots done rest → rest ≡ (if b then Some [] else None)
+    → MatchBool b (after_slots old all ≡ Some done) (all ≡ None)
+ends old done true all rest e f = e ∙ ap (after_slots done) f ∙ ap Some (append-nil done)
 ends old done false None rest e f = refl
-ends old done false (Some ss) rest e f = let g = e ∙ ap (onto done) f in absurd cc
+ends old done false (Some ss) rest e f = let g = e ∙ ap (after_slots done) f in absurd cc

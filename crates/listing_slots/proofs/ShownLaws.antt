@@ -5,14 +5,13 @@ use Rattle.std.specs.Char.{digit_value}
 use Rattle.std.specs.Str.Parse.{AllDigits}
 use Rattle.std.specs.Fmt.{decimal, signed_decimal}
 use Rattle.std.proofs.lemmas.Fmt.{decimal_is_IsNumeral}
-use Rattle.std.proofs.lemmas.Bool.{ltb-true, eq-eqb}
+use Rattle.std.proofs.lemmas.Bool.{ltb-true, eq-eqb, and_parts}
 use Rattle.listing_words.specs.Descriptor.{IsMemberName}
 use Rattle.listing_words.specs.Content.{OfText, OfDesc, OfField, OfMethod}
 use Rattle.listing_words.specs.Numbers.{SpellsNatural}
 use Rattle.listing_words.specs.Words.{Word, IsGraphic, IsWritable, plain_word}
 use Rattle.listing_words.specs.Written.{hex_digits, hex_width, flags_text, elements_text, name_text, proto_units, field_units, method_units}
 use Rattle.listing_words.proofs.WrittenLaws.{bits_again, flags_again, elements_again, name_again, name_writable, hex_graphic, hex_length}
-use Rattle.listing_words.proofs.NameUnits.{all_append}
 use Rattle.listing_slots.specs.declared.key.Key.{Key}
 use Rattle.listing_slots.specs.declared.key.Key.TheVariants as key
 use Rattle.listing_slots.specs.declared.slot.Mark.{Mark}
@@ -24,8 +23,8 @@ use Rattle.listing_slots.specs.Data.{Datum, byte, half, word, wide, tiny, short,
 use Rattle.listing_slots.specs.Slots.{mark_text, SpellsNumber, SpellsInteger, IsSignedWithin, SpellsSlot, SpellsSlots, has_form}
 use Rattle.listing_slots.specs.Shown.{shown, FitsSlot}
 use Rattle.listing_words.proofs.dex_base_NameLaws.{simple_some}
-use Rattle.listing_words.proofs.LowPoints.{both}
 use Rattle.listing_words.proofs.Letters.{descriptor_some}
+use Rattle.base_bytes.proofs.ListFacts.{all_append}
 
 pub natural_printed : (n : ℕ) → n < 2 ^ 64 → SpellsNatural (decimal n) n
 natural_printed n h = let d = decimal_is_IsNumeral n h in inl (d.0, sym d.1)
@@ -122,15 +121,15 @@ is_word (c ∷ cs) = ltb 34 c && list_all (λ b. ltb 32 b && ltb b 127) (c ∷ c
 all_graphic : (cs : List ℕ) → list_all (λ b. ltb 32 b && ltb b 127) cs ≡ true → AllByRecursion IsGraphic cs
 all_graphic [] e = tt
 all_graphic (c ∷ cs) e =
-    let x = both (ltb 32 c && ltb c 127) (list_all (λ b. ltb 32 b && ltb b 127) cs) e in
-    let y = both (ltb 32 c) (ltb c 127) x.0 in
+    let x = and_parts (ltb 32 c && ltb c 127) (list_all (λ b. ltb 32 b && ltb b 127) cs) e in
+    let y = and_parts (ltb 32 c) (ltb c 127) x.0 in
     let a = ltb-true 32 c y.0 in
     ((omega arith, ltb-true c 127 y.1), all_graphic cs x.1)
 
 pub word_written : (cs : List ℕ) → is_word cs ≡ true → IsWritable (plain_word cs)
 word_written [] e = absurd cc
 word_written (c ∷ cs) e =
-    let x = both (ltb 34 c) (list_all (λ b. ltb 32 b && ltb b 127) (c ∷ cs)) e in
+    let x = and_parts (ltb 34 c) (list_all (λ b. ltb 32 b && ltb b 127) (c ∷ cs)) e in
     let a = ltb-true 34 c x.0 in
     (omega arith, (λ q. omega arith), all_graphic (c ∷ cs) x.1)
 

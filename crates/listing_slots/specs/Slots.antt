@@ -1,4 +1,4 @@
--- What a word says in a slot, and how it is printed.
+-- What a word says in a slot.
 -- Page: docs/LISTING.md, "What a word can be", "Faults".
 use Rattle.std.specs.Prelude.{◌≡◌, ℕ, ◌≤◌, ◌⊎◌, ℤ, pos, negsuc, Bool, true, false, ◌&&◌, if◌then◌else◌, List, [], ◌∷◌, ◌++◌}
 use Rattle.listing_words.specs.Descriptor.{IsDescriptor, IsMemberName}

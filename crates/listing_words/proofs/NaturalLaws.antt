@@ -1,30 +1,29 @@
 -- Numbers as tests and as spellings.
 use Rattle.std.proofs.Common.{◌≡◌, ℕ, ◌<◌, ◌≤◌, Bool, true, false, ltb, ◌&&◌, inl, inr, List, [], ◌∷◌, length, drop, refl, sym, subst, ◌∙◌, arith, eqb}
-use Rattle.std.proofs.lemmas.Bool.{lt-ltb, ltb-true, eqb-true}
+use Rattle.std.proofs.lemmas.Bool.{lt-ltb, ltb-true, eqb-true, and_parts}
 use Rattle.std.specs.List.{list_all}
 use Rattle.std.specs.Char.{digit_value}
 use Rattle.std.specs.Str.Parse.{IsNumeral, AllDigits, digits_value}
 use Rattle.listing_words.specs.Numbers.{SpellsNatural, all_digits, has_prefix, is_natural, natural_value, is_number}
-use Rattle.program_types.proofs.LowPoints.{both}
 
 digits_true : (radix : ℕ) (ds : List ℕ) → list_all (λ c. ltb (digit_value c) radix) ds ≡ true → AllDigits radix ds
 digits_true radix [] e = tt
-digits_true radix (c ∷ cs) e = let b = both (ltb (digit_value c) radix) (list_all (λ c. ltb (digit_value c) radix) cs) e in (ltb-true (digit_value c) radix b.0, digits_true radix cs b.1)
+digits_true radix (c ∷ cs) e = let b = and_parts (ltb (digit_value c) radix) (list_all (λ c. ltb (digit_value c) radix) cs) e in (ltb-true (digit_value c) radix b.0, digits_true radix cs b.1)
 
 true_digits : (radix : ℕ) (ds : List ℕ) → AllDigits radix ds → list_all (λ c. ltb (digit_value c) radix) ds ≡ true
 true_digits radix [] h = refl
 true_digits radix (c ∷ cs) h = rw (lt-ltb (digit_value c) radix h.0) (true_digits radix cs h.1)
 
 numeral_of : (radix : ℕ) (ds : List ℕ) → all_digits radix ds ≡ true → IsNumeral radix ds
-numeral_of radix ds e = let b = both (ltb 0 (length ds)) (list_all (λ c. ltb (digit_value c) radix) ds) e in (ltb-true 0 (length ds) b.0, digits_true radix ds b.1)
+numeral_of radix ds e = let b = and_parts (ltb 0 (length ds)) (list_all (λ c. ltb (digit_value c) radix) ds) e in (ltb-true 0 (length ds) b.0, digits_true radix ds b.1)
 
 of_numeral : (radix : ℕ) (ds : List ℕ) → IsNumeral radix ds → all_digits radix ds ≡ true
 of_numeral radix ds h = rw (lt-ltb 0 (length ds) h.0) (true_digits radix ds h.1)
 
 prefix_of : (w : List ℕ) → has_prefix w ≡ true → w ≡ 48 ∷ 120 ∷ drop 2 w
 prefix_of [] e = absurd cc
-prefix_of (a ∷ []) e = let b = both (eqb a 48) (eqb 0 120) e in absurd cc
-prefix_of (a ∷ c ∷ ds) e = let b = both (eqb a 48) (eqb c 120) e in let i = eqb-true a 48 b.0 in let j = eqb-true c 120 b.1 in cc
+prefix_of (a ∷ []) e = let b = and_parts (eqb a 48) (eqb 0 120) e in absurd cc
+prefix_of (a ∷ c ∷ ds) e = let b = and_parts (eqb a 48) (eqb c 120) e in let i = eqb-true a 48 b.0 in let j = eqb-true c 120 b.1 in cc
 
 no_prefix : (w : List ℕ) → AllDigits 10 w → has_prefix w ≡ true → ⊥
 no_prefix w a e = let b = subst (AllDigits 10) (prefix_of w e) a in let c : digit_value 120 < 10 = b.1.0 in omega arith

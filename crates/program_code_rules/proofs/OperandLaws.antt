@@ -12,7 +12,7 @@ use Rattle.program_code_rules.specs.CodeRules.{FitsFields, OperandsHold, Targets
 
 -- ---- from the rules to operands
 
-alike_itself : (p : Payload) → AreAlike (Some p) (Some p)
+pub alike_itself : (p : Payload) → AreAlike (Some p) (Some p)
 alike_itself payload.PackedSwitch = tt
 alike_itself _ = tt
 

@@ -4,9 +4,7 @@ use Rattle.std.proofs.lemmas.Bool.{cases_lt}
 use Rattle.program_types.specs.Content.{Insn}
 use Rattle.program_types.specs.Formed.{insn_at, insn_payload, insn_reach, IsSwitch, RefersToPayload}
 use Rattle.program_code_rules.specs.Branches.{IsOrigin, AreOrigins, IsSwitchSoFar, AreSwitchesSoFar}
-
-refers-one : (is : List Insn) (j k n : ℕ) → RefersToPayload is j k → RefersToPayload is j n → k ≡ n
-refers-one is j k n u v = let a = u.leads in let b = v.leads in cc
+use Rattle.program_code_rules.proofs.UseLaws.{refers-one}
 
 -- instruction j is no switch of it, or it is
 switch-same : (is : List Insn) (m k j : ℕ) → IsSwitchSoFar is m k j → (IsSwitch (insn_payload (insn_at is k)) → RefersToPayload is m k → ⊥) → IsSwitchSoFar is (m + 1) k j

@@ -8,7 +8,7 @@ use Rattle.program_code_rules.specs.Uses.{CountsUses, AreUses, used_again}
 use Rattle.program_code_rules.specs.declared.payloads.Use.{Use}
 use Rattle.program_code_rules.specs.declared.payloads.Use.TheVariants as users
 
-refers-one : (is : List Insn) (j k n : ℕ) → RefersToPayload is j k → RefersToPayload is j n → k ≡ n
+pub refers-one : (is : List Insn) (j k n : ℕ) → RefersToPayload is j k → RefersToPayload is j n → k ≡ n
 refers-one is j k n u v = let a = u.leads in let b = v.leads in cc
 
 -- instruction j refers to it, or not

@@ -22,8 +22,3 @@ all-joined P f (x ∷ xs) h = all_append P (f x) (flat_map f xs) h.0 (all-joined
 pub all-made : {A B : Type 0} (P : B → Type 0) (f : A → B) (xs : List A) → AllByRecursion P (map f xs) → AllByRecursion (λ x. P (f x)) xs
 all-made P f [] h = tt
 all-made P f (x ∷ xs) h = (h.0, all-made P f xs h.1)
-
--- one claim for another
-pub all-turned : {A : Type 0} (P Q : A → Type 0) → ((x : A) → P x → Q x) → (xs : List A) → AllByRecursion P xs → AllByRecursion Q xs
-all-turned P Q g [] h = tt
-all-turned P Q g (x ∷ xs) h = (g x h.0, all-turned P Q g xs h.1)

@@ -13,8 +13,8 @@ use Rattle.program_types.specs.Mentions.{if_any, names_of_value, names_of_values
 use Rattle.program_rules.specs.Valid.{IsValidName}
 use Rattle.program_rules.specs.Rules.{IsBelowNext, NamesAreValid}
 use Rattle.program_rules.specs.Parts.{FieldIsValid, MethodIsValid}
-use Rattle.program_rules.proofs.AllLaws.{all-lists, all-joined, all-made, all-turned}
-use Rattle.base_bytes.proofs.ListFacts.{all_front, all_back, all_append, all_map}
+use Rattle.program_rules.proofs.AllLaws.{all-lists, all-joined, all-made}
+use Rattle.base_bytes.proofs.ListFacts.{all_front, all_back, all_append, all_map, all_weaker}
 
 -- ---- keys
 
@@ -96,19 +96,19 @@ source-whole None = tt
 source-whole (Some s) = (tt, tt)
 
 fields-own : (class : Descriptor) (ms : List Member) → AllByRecursion IsValidName (map (field_of_class class) ms) → AllByRecursion FieldIsValid ms
-fields-own class ms h = all-turned (λ m. IsValidName (field_of_class class m)) FieldIsValid (field-own class) ms (all-made IsValidName (field_of_class class) ms h)
+fields-own class ms h = all_weaker (λ m. IsValidName (field_of_class class m)) FieldIsValid (field-own class) ms (all-made IsValidName (field_of_class class) ms h)
 
 fields-whole : (class : Descriptor) → IsClass class → (ms : List Member) → AllByRecursion FieldIsValid ms → AllByRecursion IsValidName (map (field_of_class class) ms)
-fields-whole class is ms h = all_map IsValidName (field_of_class class) ms (all-turned FieldIsValid (λ m. IsValidName (field_of_class class m)) (field-whole class is) ms h)
+fields-whole class is ms h = all_map IsValidName (field_of_class class) ms (all_weaker FieldIsValid (λ m. IsValidName (field_of_class class m)) (field-whole class is) ms h)
 
 methods-own : (class : Descriptor) (ms : List Method) → AllByRecursion IsValidName (flat_map (names_of_method class) ms) → AllByRecursion MethodIsValid ms
-methods-own class ms h = all-turned (λ m. AllByRecursion IsValidName (names_of_method class m)) MethodIsValid (method-own class) ms (all-lists IsValidName (names_of_method class) ms h)
+methods-own class ms h = all_weaker (λ m. AllByRecursion IsValidName (names_of_method class m)) MethodIsValid (method-own class) ms (all-lists IsValidName (names_of_method class) ms h)
 
 methods-whole : (class : Descriptor) → IsClass class → (ms : List Method) → AllByRecursion MethodIsValid ms → AllByRecursion IsValidName (flat_map (names_of_method class) ms)
-methods-whole class is ms h = all-joined IsValidName (names_of_method class) ms (all-turned MethodIsValid (λ m. AllByRecursion IsValidName (names_of_method class m)) (method-whole class is) ms h)
+methods-whole class is ms h = all-joined IsValidName (names_of_method class) ms (all_weaker MethodIsValid (λ m. AllByRecursion IsValidName (names_of_method class m)) (method-whole class is) ms h)
 
 interfaces-whole : (ts : List Descriptor) → AllByRecursion IsClass ts → AllByRecursion IsValidName (map OfDesc ts)
-interfaces-whole ts h = all_map IsValidName OfDesc ts (all-turned IsClass IsDescriptor (λ t is. (class_is_descriptor t is).0) ts h)
+interfaces-whole ts h = all_map IsValidName OfDesc ts (all_weaker IsClass IsDescriptor (λ t is. (class_is_descriptor t is).0) ts h)
 
 -- the parts of the names of a class, in their order after its type and superclass
 abbrev front_names : Class → List Name
@@ -136,7 +136,7 @@ class-parts c h =
       superclass = h.superclass;
       interfaces = h.interfaces;
       statics = fields-own c.ty c.statics (all_back P (front_names c) v4 h4);
-      values = all-turned (λ v. AllByRecursion P (names_of_value v)) (NamesHold P) names-value c.values (all-lists P names_of_value c.values (all_back P f4 v5 h5));
+      values = all_weaker (λ v. AllByRecursion P (names_of_value v)) (NamesHold P) names-value c.values (all-lists P names_of_value c.values (all_back P f4 v5 h5));
       instances = fields-own c.ty c.instances (all_back P f5 v6 h6);
       directs = methods-own c.ty c.directs (all_back P f6 v7 h7);
       virtuals = methods-own c.ty c.virtuals (all_back P f7 v8 h8);
@@ -155,7 +155,7 @@ class-whole c p =
     let s = if_any (λ s. OfText s ∷ []) c.source in
     let f3 = all_append P (a ++ b) s (all_append P a b (above-whole c.superclass p.superclass) (interfaces-whole c.interfaces p.interfaces)) (source-whole c.source) in
     let f4 = all_append P (front_names c) v4 f3 (fields-whole c.ty p.class c.statics p.statics) in
-    let f5 = all_append P (front_names c ++ v4) v5 f4 (all-joined P names_of_value c.values (all-turned (NamesHold P) (λ v. AllByRecursion P (names_of_value v)) value-names c.values p.values)) in
+    let f5 = all_append P (front_names c ++ v4) v5 f4 (all-joined P names_of_value c.values (all_weaker (NamesHold P) (λ v. AllByRecursion P (names_of_value v)) value-names c.values p.values)) in
     let f6 = all_append P (front_names c ++ v4 ++ v5) v6 f5 (fields-whole c.ty p.class c.instances p.instances) in
     let f7 = all_append P (front_names c ++ v4 ++ v5 ++ v6) v7 f6 (methods-whole c.ty p.class c.directs p.directs) in
     let f8 = all_append P (front_names c ++ v4 ++ v5 ++ v6 ++ v7) v8 f7 (methods-whole c.ty p.class c.virtuals p.virtuals) in

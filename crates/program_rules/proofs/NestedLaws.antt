@@ -1,13 +1,12 @@
 -- What is left of the names in a value.
-use Rattle.std.proofs.Common.{◌≡◌, ℕ, ◌+◌, ◌<◌, ◌≤◌, List, [], ◌∷◌, map, length, get_or, drop, arith, add-one, refl, sym, subst, zero, suc}
+use Rattle.std.proofs.Common.{◌≡◌, ℕ, ◌+◌, ◌<◌, ◌≤◌, List, [], ◌∷◌, map, length, get_or, drop, arith, refl, sym, subst, zero, suc}
 use Rattle.std.specs.Prelude.{◌↔◌}
-use Rattle.std.proofs.Math.Seq.{drop-cons}
 use Rattle.program_types.specs.Content as content
 use Rattle.program_types.specs.Content.{Values, Array, more_values, values}
 use Rattle.program_types.specs.Depth.{depth, greatest_depth}
 use Rattle.program_types.specs.View.{value}
 use Rattle.program_types.specs.declared.value.Value.{Value as Held}
-use Rattle.program_types.proofs.Nesting.{from}
+use Rattle.program_types.proofs.Nesting.{from, from_next, value_less}
 use Rattle.program_rules.specs.Nested.{IsGood, AreGood, IsWalked, IsLook, IsSoFar}
 use Rattle.program_rules.specs.declared.nested.Walked.{Walked}
 use Rattle.program_rules.specs.declared.nested.Walked.TheVariants as walked
@@ -19,25 +18,17 @@ abbrev pub rest_of : Look → ℕ
 rest_of (look.One left) = depth (value left.now) + 1
 rest_of _ = 0
 
-from-next : (xs : List Held) (i : ℕ) (d : Held) → i < length xs → from xs i ≡ more_values (value (get_or xs i d)) (from xs (i + 1))
-from-next xs i d l = rw (add-one, drop-cons xs i d l) refl
-
 pub good-at : (xs : List Held) (i : ℕ) (d : Held) → i < length xs → AreGood (from xs 0) → IsGood (value (get_or xs i d))
 good-at [] i d l h = absurd (omega arith)
 good-at (x ∷ xs) zero d l h = h.0
 good-at (x ∷ xs) (suc i) d l h = good-at xs i d (omega arith) h.1
 
-deep-at : (xs : List Held) (i : ℕ) (d : Held) → i < length xs → depth (value (get_or xs i d)) ≤ greatest_depth (from xs 0)
-deep-at [] i d l = absurd (omega arith)
-deep-at (x ∷ xs) zero d l = omega arith
-deep-at (x ∷ xs) (suc i) d l = let r = deep-at xs i d (omega arith) in omega arith
-
 -- the first value that is left
 pub one-left : (xs : List Held) (i : ℕ) (d : Held) (left : content.Value) → i < length xs → AreGood (from xs 0) ↔ AreGood (from xs i) → IsGood (value (get_or xs i d)) ↔ IsGood left → depth left ≤ depth (value (get_or xs i d)) → (AreGood (from xs 0) ↔ (IsGood left × AreGood (from xs (i + 1)))) × (depth left ≤ greatest_depth (from xs 0))
 one-left xs i d left l h k m =
-    let e = from-next xs i d l in
+    let e = from_next xs i d l in
     let g : AreGood (from xs 0) ↔ AreGood (more_values (value (get_or xs i d)) (from xs (i + 1))) = subst (λ (vs : Values). AreGood (from xs 0) ↔ AreGood vs) e h in
-    let deep = deep-at xs i d l in
+    let deep = value_less xs i d l in
     ((λ a. let p = g.0 a in (k.0 p.0, p.1), λ p. g.1 (k.1 p.0, p.1)), omega arith)
 
 -- one after the other: what is left of what is left

@@ -9,15 +9,10 @@ use Rattle.base_bytes.specs.declared.fault.Fault.{Fault}
 use Rattle.program_types.specs.Content as content
 use Rattle.program_types.specs.View.{class, desc}
 use Rattle.program_types.specs.declared.class.Class.{Class}
-use Rattle.program_types.specs.declared.names.Desc.{Desc}
 use Rattle.program_rules.specs.Ranges.{ClassInRange}
 use Rattle.program_rules.specs.Rules.{ClassHolds, ClassBreaks, RuleBreaks}
 use Rattle.program_rules.specs.WellFormed.{WellFormed}
-use Rattle.base_bytes.proofs.ListFacts.{all_there}
-
--- what stands in two Somes that are one
-pub some-same : {A : Type 0} {x y : A} → Some x ≡ Some y → x ≡ y
-some-same e = cc
+use Rattle.base_bytes.proofs.ListFacts.{all_there, some_inj}
 
 -- class j
 pub class-at : (xs : List Class) (j : ℕ) (d : Class) → j < length xs → slice_get (map class xs) j ≡ Some (class (get_or xs j d))
@@ -26,10 +21,6 @@ class-at xs j d l = slice_get-map class xs j ∙ ap (option_map class) (slice_ge
 -- is of its type
 pub type-at : (xs : List Class) (j : ℕ) (d : Class) → j < length xs → slice_get (map (λ c. c.ty) (map class xs)) j ≡ Some (desc (get_or xs j d).ty)
 type-at xs j d l = slice_get-map (λ (c : content.Class). c.ty) (map class xs) j ∙ ap (option_map (λ (c : content.Class). c.ty)) (class-at xs j d l)
-
--- type j of a list
-pub desc-at : (xs : List Desc) (j : ℕ) (d : Desc) → j < length xs → slice_get (map desc xs) j ≡ Some (desc (get_or xs j d))
-desc-at xs j d l = slice_get-map desc xs j ∙ ap (option_map desc) (slice_get-get_or xs j d l)
 
 -- one element more of a walk
 pub all-step : {A B : Type 0} (P : B → Type 0) (f : A → B) (W : Type 0) (xs : List A) (i : ℕ) (d : A) → i < length xs → W ↔ AllByRecursion P (map f (drop i xs)) → P (f (get_or xs i d)) → W ↔ AllByRecursion P (map f (drop (i + 1) xs))
@@ -51,7 +42,7 @@ pub one-more : (xs : List Class) (i : ℕ) (d : Class) → i < length xs → Kep
 one-more xs i d l h k r = λ j c m g.
     below_more (λ (n : ℕ). (c : content.Class) → slice_get (map class xs) n ≡ Some c → ClassHolds (map class xs) n c × ClassInRange c) i
     (λ n b e f. h n e b f)
-    (λ e f. subst (λ (x : content.Class). ClassHolds (map class xs) i x × ClassInRange x) (some-same (sym (class-at xs i d l) ∙ f)) (k, r)) j m c g
+    (λ e f. subst (λ (x : content.Class). ClassHolds (map class xs) i x × ClassInRange x) (some_inj _ _ (sym (class-at xs i d l) ∙ f)) (k, r)) j m c g
 
 pub all-kept : (xs : List Class) (n : ℕ) → length xs ≤ n → Kept (map class xs) n → WellFormed (map class xs)
 all-kept xs n l h =

@@ -5,8 +5,8 @@ use Rattle.std.specs.List.{AllByRecursion, flat_map}
 use Rattle.program_types.specs.Content.{Units, OfText, OfDesc, Value, Values, Named, Enum, Array, no_values, more_values, Try, Code, Member, Method, Class, AreUnits}
 use Rattle.program_types.specs.Mentions.{if_any, names_of_value, names_of_values, names_of_insn, names_of_try, names_of_code, field_of_class, names_of_method, NamesHold, AllNamesHold}
 use Rattle.program_rules.specs.Ranges.{ProtoInRange, NameInRange, ValueInRange, MemberInRange, CodeInRange, DefinedInRange, ClassInRange}
-use Rattle.program_rules.proofs.AllLaws.{all-joined, all-turned}
-use Rattle.base_bytes.proofs.ListFacts.{all_append, all_map}
+use Rattle.program_rules.proofs.AllLaws.{all-joined}
+use Rattle.base_bytes.proofs.ListFacts.{all_append, all_map, all_weaker}
 
 -- What each part of a class is known to be.
 pub record FieldFits (m : Member) : Type 0 where
@@ -45,7 +45,7 @@ pub code-names : (c : Code) → AllByRecursion (λ i. AllByRecursion NameInRange
     → AllByRecursion NameInRange (names_of_code c)
 code-names c is ts = all_append NameInRange (flat_map names_of_insn c.insns) (flat_map names_of_try c.tries)
     (all-joined NameInRange names_of_insn c.insns is)
-    (all-joined NameInRange names_of_try c.tries (all-turned (λ t. AllByRecursion (λ c. AreUnits c.ty) t.catches) (λ t. AllByRecursion NameInRange (names_of_try t)) try-names c.tries ts))
+    (all-joined NameInRange names_of_try c.tries (all_weaker (λ t. AllByRecursion (λ c. AreUnits c.ty) t.catches) (λ t. AllByRecursion NameInRange (names_of_try t)) try-names c.tries ts))
 
 body-counts : (o : Option Code) → IfSome o CodeFits → IfSome o CodeInRange
 body-counts None h = tt
@@ -95,8 +95,8 @@ methods-names t h (m ∷ ms) f = all_append NameInRange (names_of_method t m) (f
 pub class-whole : (c : Class) → Parts c → ClassInRange c
 class-whole c p =
     let P = NameInRange in
-    let in_fields = λ (ms : List Member) (f : AllByRecursion FieldFits ms). all-turned FieldFits MemberInRange (λ m h. h.flags) ms f in
-    let in_methods = λ (ms : List Method) (f : AllByRecursion MethodFits ms). all-turned MethodFits DefinedInRange method-numbers ms f in
+    let in_fields = λ (ms : List Member) (f : AllByRecursion FieldFits ms). all_weaker FieldFits MemberInRange (λ m h. h.flags) ms f in
+    let in_methods = λ (ms : List Method) (f : AllByRecursion MethodFits ms). all_weaker MethodFits DefinedInRange method-numbers ms f in
     let a1 = if_any (λ t. OfDesc t ∷ []) c.superclass in
     let a2 = map OfDesc c.interfaces in
     let a3 = if_any (λ s. OfText s ∷ []) c.source in
@@ -116,7 +116,7 @@ class-whole c p =
       flags = p.flags;
       names = (p.class, h8);
       statics = in_fields c.statics p.statics;
-      values = all-turned ValueFits ValueInRange (λ v h. h.0) c.values p.values;
+      values = all_weaker ValueFits ValueInRange (λ v h. h.0) c.values p.values;
       instances = in_fields c.instances p.instances;
       directs = in_methods c.directs p.directs;
       virtuals = in_methods c.virtuals p.virtuals;

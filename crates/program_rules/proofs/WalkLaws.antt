@@ -6,9 +6,9 @@ use Rattle.program_types.specs.Content.{OfDesc, Catch, Try}
 use Rattle.program_types.specs.View.{insn, try, code}
 use Rattle.program_types.specs.declared.code.Code.{Code}
 use Rattle.program_types.specs.Mentions.{names_of_insn, names_of_try, names_of_code}
-use Rattle.program_rules.proofs.AllLaws.{all-lists, all-joined, all-made, all-turned}
+use Rattle.program_rules.proofs.AllLaws.{all-lists, all-joined, all-made}
 use Rattle.program_rules.specs.Valid.{IsValidName, InsnsAreNamed}
-use Rattle.base_bytes.proofs.ListFacts.{all_front, all_back, all_append, all_map}
+use Rattle.base_bytes.proofs.ListFacts.{all_front, all_back, all_append, all_map, all_weaker}
 
 -- what is asked of the names in a body's tries
 abbrev CatchesAreValid : Try → Type 0
@@ -25,7 +25,7 @@ code-parts c h =
     let is = map insn c.insns.now in
     let ts = map try c.tries.now in (
       all-lists IsValidName names_of_insn is (all_front IsValidName (flat_map names_of_insn is) (flat_map names_of_try ts) h),
-      all-turned (λ t. AllByRecursion IsValidName (names_of_try t)) CatchesAreValid caught ts (all-lists IsValidName names_of_try ts (all_back IsValidName (flat_map names_of_insn is) (flat_map names_of_try ts) h)),
+      all_weaker (λ t. AllByRecursion IsValidName (names_of_try t)) CatchesAreValid caught ts (all-lists IsValidName names_of_try ts (all_back IsValidName (flat_map names_of_insn is) (flat_map names_of_try ts) h)),
     )
 
 pub code-whole : (c : Code) → InsnsAreNamed (code c) → AllByRecursion CatchesAreValid (map try c.tries.now) → AllByRecursion IsValidName (names_of_code (code c))
@@ -33,4 +33,4 @@ code-whole c i t =
     let is = map insn c.insns.now in
     let ts = map try c.tries.now in
     all_append IsValidName (flat_map names_of_insn is) (flat_map names_of_try ts) (all-joined IsValidName names_of_insn is i)
-    (all-joined IsValidName names_of_try ts (all-turned CatchesAreValid (λ t. AllByRecursion IsValidName (names_of_try t)) catching ts t))
+    (all-joined IsValidName names_of_try ts (all_weaker CatchesAreValid (λ t. AllByRecursion IsValidName (names_of_try t)) catching ts t))

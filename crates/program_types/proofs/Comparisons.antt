@@ -11,7 +11,7 @@ use Rattle.program_types.specs.declared.names.Proto.{Proto}
 use lib.Pointwise.{pointwise}
 
 -- what the derived `==` of each kind computes
-abbrev units_eq : List ℕ → List ℕ → Bool
+abbrev pub units_eq : List ℕ → List ℕ → Bool
 units_eq = pointwise nat_eq
 
 abbrev descs_eq : List Desc → List Desc → Bool

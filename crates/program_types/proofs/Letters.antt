@@ -1,8 +1,11 @@
 -- The letters of descriptors, by their first unit.
-use Rattle.std.proofs.Common.{◌≡◌, ◌≢◌, ◌∙◌, inl, inr, ap, sym, refl, ℕ, zero, suc, ◌<◌, ◌≤◌, List, [], ◌∷◌, ◌++◌, length, arith, length-append}
+use Rattle.std.proofs.Common.{◌≡◌, ◌≢◌, ◌∙◌, inl, inr, ap, sym, refl, ℕ, zero, suc, ◌<◌, ◌≤◌, List, [], ◌∷◌, ◌++◌, length, map, get_or, arith, length-append}
+use Rattle.std.proofs.lemmas.List.{length-map}
 use Rattle.std.specs.Prelude.{replicate, slice_index}
 use Rattle.dex_insn.specs.Descriptor.{IsPrimitive, IsElement, IsDescriptor}
 use Rattle.program_types.specs.Shorty.{StandsFor, letter_of}
+use Rattle.program_types.specs.View.{desc}
+use Rattle.program_types.specs.declared.names.Desc.{Desc}
 
 -- a primitive type's letter is no `[`
 primitive_other : (c : ℕ) → IsPrimitive c → c ≢ 91
@@ -66,3 +69,16 @@ letter_only units one is (inl (inr array, letter)) = letter ∙ sym (letter_arra
 letter_only units one is (inr alone) =
     let is_one : IsDescriptor (one ∷ []) = rw alone at is in
     rw (alone, letter_other (one ∷ []) (one_other one is_one)) refl
+
+-- ---- the letters of a list
+
+abbrev pub letters : List Desc → List ℕ
+letters params = map letter_of (map desc params)
+
+pub letter_at : (params : List Desc) (k : ℕ) (d : Desc) → k < length params → get_or (letters params) k 0 ≡ letter_of (desc (get_or params k d))
+letter_at [] k d lt = absurd (omega (arith, lt))
+letter_at (x ∷ xs) zero d lt = refl
+letter_at (x ∷ xs) (suc k) d lt = letter_at xs k d (omega (arith, lt))
+
+pub length-letters : (params : List Desc) → length (letters params) ≡ length params
+length-letters params = length-map (map desc params) letter_of ∙ length-map params desc

@@ -1,4 +1,5 @@
 pub mod Comparisons
+pub mod KeysTell
 pub mod Letters
 pub mod Nesting
 pub mod ValueViews
@@ -7,7 +8,6 @@ pub use Rattle.dex_insn.proofs.Deciding
 pub use Rattle.dex_insn.proofs.ListFacts
 pub use Rattle.dex_insn.proofs.OrderLaws
 pub use Rattle.dex_insn.proofs.DescriptorLaws
-pub use Rattle.dex_insn.proofs.LowPoints
 pub use Rattle.dex_insn.proofs.NameLaws
 pub use Rattle.dex_insn.proofs.NameUnits
 pub use Rattle.dex_insn.proofs.NamesDecided

@@ -48,15 +48,15 @@ method_input m =
     ++ (str_input m.name ++ (part_input m.proto.now.ret.text.units.now ++ fed.slice (λ (d : Desc). part_input d.text.units.now) m.proto.now.params.now))
 
 -- equal strings feed the same
-pub respects : (x y : Str) → IsTrue (pointwise nat_eq x.units.now y.units.now) → str_input x ≡ str_input y
-respects x y same = ap units_input (same_text x.units.now y.units.now (sym same))
+pub str_respects : (x y : Str) → IsTrue (pointwise nat_eq x.units.now y.units.now) → str_input x ≡ str_input y
+str_respects x y same = ap units_input (same_text x.units.now y.units.now (sym same))
 
 -- types that say the same feed the same
 part_alike : Alike same_type (λ d. part_input d.text.units.now)
 part_alike = record { fed = λ d e same. ap part_input (same_text d.text.units.now e.text.units.now (sym same)) }
 
 str_alike : Alike (λ (s t : Str). pointwise nat_eq s.units.now t.units.now) str_input
-str_alike = record { fed = respects }
+str_alike = record { fed = str_respects }
 
 parts_alike : Alike (pointwise same_type) (fed.slice (λ (d : Desc). part_input d.text.units.now))
 parts_alike = items_Alike part_alike

@@ -67,11 +67,11 @@ fn hash_parts<H: Hasher>(parts: &[Desc<'_>], state: &mut H)
 }
 
 impl Hash for Str<'_> {
-    ghost use Rattle.program_types.specs.Hashing.{str_input, respects};
+    ghost use Rattle.program_types.specs.Hashing.{str_input, str_respects};
 
     ghost hash_input = { str_input };
 
-    ghost respects_eq = { respects };
+    ghost respects_eq = { str_respects };
 
     fn hash<H: Hasher>(&self, state: &mut H) {
         hash_units(self.units, state);

@@ -17,7 +17,7 @@ use Rattle.tables_names.specs.Key.{Key, key_cmp, units_cmp, text_key, proto_key,
 use Rattle.tables_names.specs.KeyLaws.{key_cmp-total, ordering_then-equal}
 use Rattle.tables_names.specs.Shorty.{shorty}
 use Rattle.tables_names.specs.Rank.{Rising, IsAt, IsSubset, is_member, add_all}
-use Rattle.tables_names.specs.Closure.{IsPart, Holds, proto_closure, Five, AreRising}
+use Rattle.tables_names.specs.Closure.{IsPart, Holds, proto_closure, AreRising}
 use Rattle.tables_names.specs.Indices.{AreIndices}
 use Rattle.tables_rows.specs.Names.{Names, AreRows, AreNamesOf}
 use Rattle.tables_names.specs.Mentions.{mentions}
@@ -29,10 +29,11 @@ use Rattle.tables_rows.proofs.NameLaws.{proto_one, stands_names, row_is}
 use Rattle.tables_rows.proofs.TypeLists.{indexes_of, below_protos}
 use Rattle.tables_names.proofs.IndexLemmas.{units_by_index, texts_by_index}
 use Rattle.tables_names.proofs.RowLemmas.{keys_compare_as_indices, index_is_at_least_rank}
-use Rattle.tables_names.proofs.PlaceLemmas.{member_at, member_index, rank_at}
-use Rattle.tables_names.proofs.NeededLemmas.{needed_is_least}
+use Rattle.tables_names.proofs.PlaceLemmas.{member_at, member_index, one_place}
+use Rattle.tables_names.proofs.NeededLemmas.{needed_is_least, holds_part}
 use Rattle.tables_names.proofs.SubsetLemmas as sub
 use Rattle.tables_laws.specs.FileNames.{five_of, TablesHaveNames, NamesRise, NamesAreClosed, HasRow, FilesHoldNeeded, FilesAreNoShorter, NeededHasRows}
+use Rattle.tables_names.proofs.ListFacts.{all_weaker}
 
 -- ---- rows and their keys
 
@@ -76,10 +77,6 @@ module _ (b : List ℕ) (names : Names) (framed : IsFramed b) (are : AreNamesOf 
 
 -- ---- they rise
 
-all_above : (k x : Key) → key_cmp k x ≡ Less → (ys : List Key) → AllByRecursion (λ y. key_cmp x y ≡ Less) ys → AllByRecursion (λ y. key_cmp k y ≡ Less) ys
-all_above k x e [] all = tt
-all_above k x e (y ∷ ys) all = (key_cmp-total.trans k x y e all.0, all_above k x e ys all.1)
-
 rising_rows : {V : Type 0} (key : V → Key) (names : List V) → ((i : ℕ) (v w : V) → slice_get names i ≡ Some v → slice_get names (suc i) ≡ Some w → key_cmp (key v) (key w) ≡ Less) → Rising (map key names)
 unfolding IsStrictlySortedBy
 rising_rows key [] each = tt
@@ -87,7 +84,7 @@ rising_rows key (v ∷ []) each = (tt, tt)
 rising_rows key (v ∷ w ∷ vs) each =
     let first = each 0 v w refl refl in
     let rest = rising_rows key (w ∷ vs) (λ i. each (suc i)) in
-    ((first, all_above (key v) (key w) first (map key vs) rest.0), rest)
+    ((first, all_weaker (λ y. key_cmp (key w) y ≡ Less) (λ y. key_cmp (key v) y ≡ Less) (λ y after. key_cmp-total.trans (key v) (key w) y first after) (map key vs) rest.0), rest)
 
 -- rows that each are above the row before
 table_rises : {V : Type 0} (key : V → Key) (S : List ℕ → ℕ → V → Type 0) (Below : List ℕ → ℕ → ℕ → Type 0) (b : List ℕ) (k : ℕ) (names : List V) → AreRows S b k names → RowsHold (RowHolds S Below) b (size_of b k) → ((j i : ℕ) (v w : V) → S b j v → S b i w → Below b j i → key_cmp (key v) (key w) ≡ Less) → Rising (map key names)
@@ -346,18 +343,12 @@ held_row b names are (OfMethod m) h =
     let same : row.1 ≡ m = (λ k. record { class = class k; name = name k; proto = record { ret = ret k; params = params k } }) in
     (row.0, subst (λ (x : MethodRef). MethodStands b row.0 x) same (are.methods.each row.0 row.1 row.2))
 
-holds_more : (s t : Five) → IsPart s t → (name : Name) → Holds s name → Holds t name
-holds_more s t part (OfText u) h = part.strings.each (text_key u) h
-holds_more s t part (OfDesc u) h = part.types.each (text_key u) h
-holds_more s t part (OfField f) h = part.fields.each (field_ref_key f) h
-holds_more s t part (OfMethod m) h = part.methods.each (method_ref_key m) h
-
 pub needed_has_rows : NeededHasRows
 needed_has_rows b p framed hold rows =
     let found = tables_have_names b hold in
     let part = files_hold_needed b found.0 p framed found.1 rows in
     record {
-      names = λ name h. held_row b found.0 found.1 name (holds_more (needed p) (five_of found.0) part name h);
+      names = λ name h. held_row b found.0 found.1 name (holds_part (needed p) (five_of found.0) name part h);
       protos = λ q h.
           let row = member_row proto_key found.0.protos (proto_key q) (part.protos.each (proto_key q) h) in
           let e = row.3 in
@@ -368,9 +359,6 @@ needed_has_rows b p framed hold rows =
     }
 
 -- ---- a name has one row
-
-pub one_place : (table : List Key) (i j : ℕ) (k : Key) → Rising table → IsAt table i k → IsAt table j k → i ≡ j
-one_place table i j k up at_i at_j = sym (rank_at table i k up at_i) ∙ rank_at table j k up at_j
 
 module _ (b : List ℕ) (framed : IsFramed b) (hold : TablesHold b) (i j : ℕ) where
   pub proto_row_one : (p : Proto) → ProtoStands b i p → ProtoStands b j p → i ≡ j

@@ -1,6 +1,6 @@
 -- Names by index: the rows of names that are held, and their order.
 use Rattle.std.proofs.Common.{◌≡◌, ℕ, ◌<◌, ◌≤◌, List, [], ◌∷◌, map, Some, None, refl, sym, ap, ◌∙◌, arith, ⊎_elim}
-use Rattle.std.proofs.lemmas.Bool.{cases_lt}
+use Rattle.std.proofs.lemmas.Bool.{cases_lt, or_right}
 use Rattle.std.specs.Ordering.{nat_cmp, ordering_then, eq_by_cmp}
 use Rattle.std.specs.declared.cmp.Ordering.TheVariants.{Less, Equal, Greater}
 use Rattle.std.specs.Cmp.{nat_cmp_is}
@@ -20,7 +20,6 @@ use Rattle.tables_names.proofs.SubsetLemmas.{member_here}
 use Rattle.tables_names.proofs.RowLemmas.{keys_compare_as_indices}
 use Rattle.tables_names.proofs.PlaceLemmas.{member_at, member_index, rank_at, index_none}
 use Rattle.tables_names.proofs.NeededLemmas.{needed_is_least}
-use Rattle.program_types.proofs.ListFacts.{or_right_2}
 
 -- ---- look-ups
 
@@ -36,7 +35,7 @@ first_place : (k : Key) (ks table : List Key) → IsSubset (k ∷ ks) table → 
 first_place k ks table part = member_index table k (part.each k (member_here k ks))
 
 others : (k : Key) (ks table : List Key) → IsSubset (k ∷ ks) table → IsSubset ks table
-others k ks table part = record { each = λ j h. part.each j (or_right_2 (eq_by_cmp key_cmp j k) (is_member ks j) h) }
+others k ks table part = record { each = λ j h. part.each j (or_right (eq_by_cmp key_cmp j k) (is_member ks j) h) }
 
 -- texts that a table has, have indices
 indices_of : (table : List Key) (texts : List Units) → IsSubset (map text_key texts) table → (row : List ℕ) × AreIndices table row texts

@@ -15,5 +15,6 @@ pub mod NumberedNamesLemmas
 pub mod NotedLemmas
 -- What stands below, for the crates above.
 pub use Rattle.program_types.proofs.Deciding
+pub use Rattle.program_types.proofs.ListFacts
 pub use Rattle.program_types.proofs.NamesDecided
 pub use Rattle.program_types.proofs.TextsDecided

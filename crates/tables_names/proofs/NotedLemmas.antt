@@ -12,8 +12,9 @@ use Rattle.tables_names.specs.declared.noted.Number.TheVariants.{Text, Desc, Fie
 use Rattle.tables_names.specs.declared.noted.RankOf.{RankOf}
 use Rattle.tables_names.proofs.FiveLemmas.{IsPart-trans, all_added, parts_in_field, parts_in_method, wider}
 use Rattle.tables_names.proofs.NeededLemmas.{members_more, members_split, names_append, with_names-grows}
-use Rattle.tables_names.proofs.NumberLemmas.{AllGrow-refl, AllGrow-trans, zip_push, zip_weaker, rank_there}
+use Rattle.tables_names.proofs.NumberLemmas.{AllGrow-refl, AllGrow-trans, rank_there}
 use Rattle.tables_names.proofs.SubsetLemmas as sub
+use Rattle.program_types.proofs.ListFacts.{zip_more, zip_weaker}
 
 number_stays : (old new : Five) → AllGrow old new → (name : Name) (n : Number) → NumberIs old name n → NumberIs new name n
 number_stays old new g (OfText t) (Text n) at = g.strings.each n (text_key t) at
@@ -56,7 +57,7 @@ noted_still old new names numbers g = zip_weaker (NumberIs old) (NumberIs new) (
 -- one more name
 pub noted_more : (old new : Five) (names : List Name) (numbers pushed : List Number) (name : Name) (n : Number) → AllGrow old new → AllZip (NumberIs old) names numbers → NumberIs new name n → pushed ≡ numbers ++ n ∷ [] → AllZip (NumberIs new) (names ++ name ∷ []) pushed
 noted_more old new names numbers pushed name n g so_far here is =
-    rw is (zip_push (NumberIs new) names numbers name n (noted_still old new names numbers g so_far) here)
+    rw is (zip_more (NumberIs new) names numbers name n (noted_still old new names numbers g so_far) here)
 
 module _ (s t : Five) (rank_of : RankOf) (leads : LeadsTo s t rank_of) where
   number_leads : (name : Name) (n : Number) → NumberIs s name n → NameRanks t (rank_by rank_of n) name

@@ -1,5 +1,5 @@
 -- Names in the order of first need, and beside each the places of its parts.
-use Rattle.std.proofs.Common.{◌≡◌, ℕ, zero, suc, ◌<◌, Bool, true, false, List, [], ◌∷◌, ◌++◌, length, get_or, refl, sym, ap, ◌∙◌, arith, if◌then◌else◌, Some, slice_get, subst}
+use Rattle.std.proofs.Common.{◌≡◌, ℕ, zero, suc, ◌<◌, Bool, true, false, List, [], ◌∷◌, ◌++◌, length, get_or, refl, sym, ◌∙◌, arith, if◌then◌else◌, Some, slice_get, subst}
 use Rattle.std.specs.List.{AllZip}
 use Rattle.std.proofs.lemmas.List.Sums.{fold_push}
 use Rattle.program_types.specs.Key.{Key, text_key}
@@ -15,28 +15,11 @@ use Rattle.tables_names.proofs.RisingLemmas.{insert_key-member}
 use Rattle.tables_names.proofs.UnionLemmas.{rising-add_all, is_member-add_all, rising-none}
 use Rattle.tables_names.proofs.FiveLemmas.{closed-strings, closed-types, closed-protos, closed-fields, closed-methods}
 use Rattle.program_types.proofs.ListFacts.{slice_left}
+use Rattle.program_types.proofs.ListFacts.{zip_more, zip_weaker}
 
 -- ---- lists
 
 module _ {A B : Type 0} where
-  pub zip_push : (R : A → B → Type 0) (xs : List A) (ys : List B) (x : A) (y : B) → AllZip R xs ys → R x y → AllZip R (xs ++ x ∷ []) (ys ++ y ∷ [])
-  zip_push R [] [] x y all here = (here, tt)
-  zip_push R [] (b ∷ ys) x y all here = absurd all
-  zip_push R (a ∷ xs) [] x y all here = absurd all
-  zip_push R (a ∷ xs) (b ∷ ys) x y all here = (all.0, zip_push R xs ys x y all.1 here)
-
-  pub zip_weaker : (R S : A → B → Type 0) → ((x : A) (y : B) → R x y → S x y) → (xs : List A) (ys : List B) → AllZip R xs ys → AllZip S xs ys
-  zip_weaker R S f [] [] all = tt
-  zip_weaker R S f [] (b ∷ ys) all = absurd all
-  zip_weaker R S f (a ∷ xs) [] all = absurd all
-  zip_weaker R S f (a ∷ xs) (b ∷ ys) all = (f a b all.0, zip_weaker R S f xs ys all.1)
-
-  pub zip_length : (R : A → B → Type 0) (xs : List A) (ys : List B) → AllZip R xs ys → length xs ≡ length ys
-  zip_length R [] [] all = refl
-  zip_length R [] (b ∷ ys) all = absurd all
-  zip_length R (a ∷ xs) [] all = absurd all
-  zip_length R (a ∷ xs) (b ∷ ys) all = ap suc (zip_length R xs ys all.1)
-
   pub zip_get : (R : A → B → Type 0) (xs : List A) (ys : List B) (i : ℕ) (x : A) (y : B) → AllZip R xs ys → slice_get xs i ≡ Some x → R x (get_or ys i y)
   zip_get R [] ys i x y all e = absurd (cc e)
   zip_get R (a ∷ xs) [] i x y all e = absurd all
@@ -149,7 +132,7 @@ module _ (o : Order) (is : InOrderOfNeed o) (k : Key) where
       record {
         closed = rw set_pushed (closed-types (sets s) is.closed k there);
         parts = record {
-          types = zip_push (TypeAt s.strings) s.types o.types k p is.parts.types at;
+          types = zip_more (TypeAt s.strings) s.types o.types k p is.parts.types at;
           protos = zip_weaker (ProtoAt s.types) (ProtoAt types) (protos_stay s.types types g) s.protos o.protos is.parts.protos;
           fields = zip_weaker (FieldAt s.types s.strings) (FieldAt types s.strings) (fields_stay s.types types s.strings s.strings g same) s.fields o.fields is.parts.fields;
           methods = zip_weaker (MethodAt s.types s.strings s.protos) (MethodAt types s.strings s.protos) (methods_stay s.types types s.strings s.strings s.protos s.protos g same (Grows-refl s.protos)) s.methods o.methods is.parts.methods;
@@ -165,7 +148,7 @@ module _ (o : Order) (is : InOrderOfNeed o) (k : Key) where
         closed = rw set_pushed (closed-protos (sets s) is.closed k there);
         parts = record {
           types = is.parts.types;
-          protos = zip_push (ProtoAt s.types) s.protos o.protos k p is.parts.protos at;
+          protos = zip_more (ProtoAt s.types) s.protos o.protos k p is.parts.protos at;
           fields = is.parts.fields;
           methods = zip_weaker (MethodAt s.types s.strings s.protos) (MethodAt s.types s.strings protos) (methods_stay s.types s.types s.strings s.strings s.protos protos (Grows-refl s.types) (Grows-refl s.strings) g) s.methods o.methods is.parts.methods;
         };
@@ -179,7 +162,7 @@ module _ (o : Order) (is : InOrderOfNeed o) (k : Key) where
         parts = record {
           types = is.parts.types;
           protos = is.parts.protos;
-          fields = zip_push (FieldAt s.types s.strings) s.fields o.fields k p is.parts.fields at;
+          fields = zip_more (FieldAt s.types s.strings) s.fields o.fields k p is.parts.fields at;
           methods = is.parts.methods;
         };
       }
@@ -193,7 +176,7 @@ module _ (o : Order) (is : InOrderOfNeed o) (k : Key) where
           types = is.parts.types;
           protos = is.parts.protos;
           fields = is.parts.fields;
-          methods = zip_push (MethodAt s.types s.strings s.protos) s.methods o.methods k p is.parts.methods at;
+          methods = zip_more (MethodAt s.types s.strings s.protos) s.methods o.methods k p is.parts.methods at;
         };
       }
 

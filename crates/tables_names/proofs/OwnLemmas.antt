@@ -1,5 +1,5 @@
 -- A member of a class is found by the ranks of its parts, which stand beside the names.
-use Rattle.std.proofs.Common.{◌≡◌, ℕ, ◌<◌, true, false, List, [], ◌∷◌, map, length, get_or, refl, sym, ap, ◌∙◌, arith, MatchResult, Result, Ok, Err, subst, true≢false}
+use Rattle.std.proofs.Common.{◌≡◌, ℕ, ◌<◌, true, false, List, [], ◌∷◌, length, get_or, refl, sym, ap, ◌∙◌, arith, MatchResult, Result, Ok, Err, subst, true≢false}
 use Rattle.std.specs.declared.cmp.Ordering.{Ordering}
 use Rattle.std.specs.Ordering.{ordering_index}
 use Rattle.std.specs.List.{AllZip}
@@ -13,14 +13,12 @@ use Rattle.tables_names.specs.Numbers.{FieldAt, MethodAt}
 use Rattle.tables_names.specs.declared.parts.FieldParts.{FieldParts}
 use Rattle.tables_names.specs.declared.parts.MethodParts.{MethodParts}
 use Rattle.tables_names.proofs.NameSetLemmas.{searched_key}
-use Rattle.tables_names.proofs.NumberLemmas.{zip_get, zip_length}
+use Rattle.tables_names.proofs.NumberLemmas.{zip_get}
 use Rattle.tables_names.proofs.PlaceLemmas.{member_at, member_index}
 use Rattle.tables_names.proofs.SortingLemmas.{field_cmp, field_ranks_cmp, method_cmp, method_ranks_cmp}
-use Rattle.program_types.proofs.ListFacts.{by_truth}
-
-map_same : (xs : List Key) → map (λ q. q) xs ≡ xs
-map_same [] = refl
-map_same (x ∷ xs) = ap (λ l. x ∷ l) (map_same xs)
+use Rattle.std.proofs.lemmas.Bool.{false_from_ne_true}
+use Rattle.program_types.proofs.ListFacts.{zip_length}
+use Rattle.std.proofs.lemmas.List.{map-id}
 
 -- ---- rows that compare as the names beside them do
 
@@ -52,7 +50,7 @@ module _ {P : Type 0} (At : Key → P → Type 0) (ord : P → Ordering) (k : Ke
   row_searched : Rising names → (r : Result ℕ ℕ) → IsSearchInRange r (length rows) → IsBinarySearchResult ord rows r → MatchResult r (λ i. (is_member names k ≡ true) × (rank_of names k ≡ i)) (λ i. is_member names k ≡ false)
   row_searched up r range is =
       let same = zip_length At names rows all in
-      let id = map_same names in
+      let id = map-id names in
       let in_range : IsSearchInRange r (length names) = subst (λ (n : ℕ). IsSearchInRange r n) (sym same) range in
       subst (λ (l : List Key). MatchResult r (λ i. (is_member l k ≡ true) × (rank_of l k ≡ i)) (λ i. is_member l k ≡ false)) id
       (searched_key (λ q. q) names k (subst (λ (l : List Key). Rising l) (sym id) up) (λ j. key_cmp j k) (λ j. refl) r in_range (among_names r range is))
@@ -61,7 +59,7 @@ module _ {P : Type 0} (At : Key → P → Type 0) (ord : P → Ordering) (k : Ke
 module _ {P : Type 0} (At : Key → P → Type 0) (k : Key) (p : P) (names : List Key) (rows : List P) (all : AllZip At names rows) (table : List Key) (part : Key) (is_part : (q : P) → At k q → (i : ℕ) × IsAt table i part) where
   part_missing : is_member table part ≡ false → is_member names k ≡ false
   part_missing missing =
-      by_truth (is_member names k)
+      false_from_ne_true (is_member names k)
       (λ h.
       let at = member_index names k h in
       let there = is_part (get_or rows at.0 p) (zip_get At names rows at.0 k p all at.1) in

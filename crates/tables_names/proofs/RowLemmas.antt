@@ -1,10 +1,10 @@
 -- The laws over the definitions.
-use Rattle.std.proofs.Common.{◌≡◌, ℕ, ◌<◌, ◌≤◌, List, [], ◌∷◌, map, length, get_or, Some, refl, sym, ◌∙◌, subst, slice_get}
+use Rattle.std.proofs.Common.{◌≡◌, ℕ, ◌<◌, ◌≤◌, List, [], ◌∷◌, map, length, refl, sym, ◌∙◌, subst}
 use Rattle.std.specs.Ordering.{nat_cmp, is_lt, ordering_then}
 use Rattle.std.specs.List.{AllByRecursion}
 use Rattle.std.specs.Cmp.Lexicographic.{slice_cmp}
 use Rattle.std.proofs.lemmas.List.Elements.{All-from_recursion}
-use Rattle.std.proofs.lemmas.Option.{slice_get_within, slice_get-get_or}
+use Rattle.std.proofs.lemmas.Option.{slice_get_within, get_or_from_slice_get}
 use Rattle.program_types.specs.Key.{Key, key_cmp, units_cmp}
 use Rattle.program_types.specs.KeyLaws.{ordering_then-equal, key_cmp-total, key_cmp-same}
 use Rattle.tables_names.specs.Rank.{Rising, rank_of, is_member, add_all, IndexIsAtLeastRank, KeysCompareAsIndices, SetsAreTheirMembers}
@@ -13,21 +13,15 @@ use Rattle.tables_names.proofs.RisingLemmas.{rank-at, count-subset, places_cmp, 
 use Rattle.std.specs.Cmp.{both_ways}
 use Rattle.tables_names.proofs.UnionLemmas.{rising-add_all, is_member-add_all, rising-none}
 
--- what a look-up that answers k says of the element
-at_place : (table : List Key) (i : ℕ) (k d : Key) → slice_get table i ≡ Some k → get_or table i d ≡ k
-at_place table i k d at =
-    let lt = slice_get_within table i k at in
-    let e : Some (get_or table i d) ≡ Some k = sym (slice_get-get_or table i d lt) ∙ at in cc
-
 pub index_is_at_least_rank : IndexIsAtLeastRank
 index_is_at_least_rank set table i k up high each at =
-    let there = rank-at key_cmp-total key_cmp-same table i k high (slice_get_within table i k at) (at_place table i k k at) in
+    let there = rank-at key_cmp-total key_cmp-same table i k high (slice_get_within table i k at) (get_or_from_slice_get table i k k at) in
     let le = count-subset key_cmp-total key_cmp-same (λ q. is_lt (key_cmp q k)) set table up each.each in
     subst (λ (n : ℕ). rank_of set k ≤ n) there le
 
 pub keys_compare_as_indices : KeysCompareAsIndices
 keys_compare_as_indices table i j a b up at_i at_j =
-    (λ t. key_cmp (sym (at_place table i a [] at_i) t) (sym (at_place table j b [] at_j) t)) ∙ places_cmp key_cmp-total key_cmp-same table i j [] up (slice_get_within table i a at_i) (slice_get_within table j b at_j)
+    (λ t. key_cmp (sym (get_or_from_slice_get table i a [] at_i) t) (sym (get_or_from_slice_get table j b [] at_j) t)) ∙ places_cmp key_cmp-total key_cmp-same table i j [] up (slice_get_within table i a at_i) (slice_get_within table j b at_j)
 
 -- texts of a rising table compare as their places do
 texts_cmp : (table : List Key) (i j : ℕ) → Rising table → AreTexts table → i < length table → j < length table → units_cmp (text_at table i) (text_at table j) ≡ nat_cmp i j

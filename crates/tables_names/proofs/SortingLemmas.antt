@@ -24,8 +24,9 @@ use Rattle.tables_names.specs.declared.parts.MethodParts.{MethodParts}
 use Rattle.tables_names.proofs.NameSetLemmas.{sorted_keys, same_keys}
 use Rattle.tables_names.proofs.IndexLemmas.{units_by_index}
 use Rattle.tables_names.proofs.RowLemmas.{keys_compare_as_indices}
-use Rattle.tables_names.proofs.PlaceLemmas.{member_at, member_index}
-use Rattle.tables_names.proofs.NumberLemmas.{zip_from, zip_length, zip_get, member_of_set}
+use Rattle.tables_names.proofs.PlaceLemmas.{member_at, member_index, one_key}
+use Rattle.tables_names.proofs.NumberLemmas.{zip_from, zip_get, member_of_set}
+use Rattle.program_types.proofs.ListFacts.{zip_length}
 
 -- what the names answer is what their ranks do
 same_leads : (ranks names : Ordering) → ranks ≡ names → RanksDecide ranks names
@@ -111,10 +112,6 @@ module _ {N : Type 0} (key : N → Key) where
   numbers_stand Has [] all = tt
   numbers_stand Has (y ∷ ys) all = (all zero y (omega arith), numbers_stand Has ys (λ i d lt. all (suc i) d (omega (arith, lt))))
 
--- one place has one name
-pub one_name : (names : List Key) (i : ℕ) (j k : Key) → IsAt names i j → IsAt names i k → j ≡ k
-one_name names i j k p q = cc
-
 -- ---- ranks that are written at the numbers of the names
 
 -- for each of the first i rows there stands, at the number of its name, a rank of the name
@@ -146,7 +143,7 @@ module _ (names table : List Key) (numbers : List ℕ) (stand : RanksOf table na
             let its : IsAt names n k = zip_get (λ k n. IsAt names n k) table numbers j k 0 stand at in
             elim (cases_eq n m) [
               | inl same ↦
-                  (let one : own ≡ k = one_name names m own k named (subst (λ (q : ℕ). IsAt names q k) same its) in
+                  (let one : own ≡ k = one_key names m own k named (subst (λ (q : ℕ). IsAt names q k) same its) in
                   let value : get_or new n 0 ≡ i = ap (λ l. get_or l n 0) is ∙ get_or-set_at old m n i 0 same room in
                   subst (λ (q : ℕ). IsAt table q k) (sym value) (here ∙ ap Some one))
               | inr other ↦

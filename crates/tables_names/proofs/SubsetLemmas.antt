@@ -7,7 +7,7 @@ use Rattle.program_types.specs.Key.{Key, key_cmp}
 use Rattle.program_types.specs.KeyLaws.{key_cmp-total, key_cmp-same}
 use Rattle.tables_names.specs.Rank.{Rising, insert_key, is_member, add_all, IsSubset}
 use Rattle.tables_names.proofs.RisingLemmas.{insert_key-member, is_member-insert_key, is_member-fold}
-use Rattle.program_types.proofs.ListFacts.{or_left, or_right_2}
+use Rattle.std.proofs.lemmas.Bool.{or_left, or_right}
 
 pub or_cases : (a b : Bool) → (a || b) ≡ true → (a ≡ true) ⊎ (b ≡ true)
 or_cases true b h = inl refl
@@ -33,7 +33,7 @@ IsSubset-cons x ks js here rest =
 
 pub IsSubset-tail : (x : Key) (ks js : List Key) → IsSubset ks js → IsSubset ks (x ∷ js)
 IsSubset-tail x ks js f =
-    record { each = λ k h. or_right_2 (eq_by_cmp key_cmp k x) _ (f.each k h) }
+    record { each = λ k h. or_right (eq_by_cmp key_cmp k x) _ (f.each k h) }
 
 pub IsSubset-append : (ks js : List Key) → IsSubset ks (ks ++ js)
 IsSubset-append ks js =
@@ -41,7 +41,7 @@ IsSubset-append ks js =
 
 pub IsSubset-insert : (ks : List Key) (x : Key) → IsSubset ks (insert_key ks x)
 IsSubset-insert ks x =
-    record { each = λ k h. is_member-insert_key key_cmp-total key_cmp-same ks x k ∙ or_right_2 (eq_by_cmp key_cmp k x) _ h }
+    record { each = λ k h. is_member-insert_key key_cmp-total key_cmp-same ks x k ∙ or_right (eq_by_cmp key_cmp k x) _ h }
 
 pub member_inserted : (ks : List Key) (x : Key) → is_member (insert_key ks x) x ≡ true
 member_inserted ks x = is_member-insert_key key_cmp-total key_cmp-same ks x x ∙ member_here x ks
@@ -60,7 +60,7 @@ IsSubset-add_left ks more =
 
 pub IsSubset-add_right : (ks more : List Key) → IsSubset more (add_all ks more)
 IsSubset-add_right ks more =
-    record { each = λ k h. is_member-fold key_cmp-total key_cmp-same ks more k ∙ or_right_2 (is_member ks k) _ h }
+    record { each = λ k h. is_member-fold key_cmp-total key_cmp-same ks more k ∙ or_right (is_member ks k) _ h }
 
 pub IsSubset-add_all : (ks more js : List Key) → IsSubset ks js → IsSubset more js → IsSubset (add_all ks more) js
 IsSubset-add_all ks more js f g =
@@ -71,7 +71,7 @@ pub added_cases : (ks more : List Key) (k : Key) → is_member (add_all ks more)
 added_cases ks more k h = or_cases (is_member ks k) _ (sym (is_member-fold key_cmp-total key_cmp-same ks more k) ∙ h)
 
 pub member_middle : (ks : List Key) (x : Key) (js : List Key) → is_member (ks ++ x ∷ js) x ≡ true
-member_middle ks x js = list_any-append (eq_by_cmp key_cmp x) ks (x ∷ js) ∙ or_right_2 (is_member ks x) _ (member_here x js)
+member_middle ks x js = list_any-append (eq_by_cmp key_cmp x) ks (x ∷ js) ∙ or_right (is_member ks x) _ (member_here x js)
 
 pub IsSubset-one : (x : Key) (js : List Key) → is_member js x ≡ true → IsSubset (x ∷ []) js
 IsSubset-one x js here = IsSubset-cons x [] js here (IsSubset-nil js)

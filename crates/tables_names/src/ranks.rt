@@ -21,7 +21,7 @@ use program_types::{Desc, FieldRef, MethodRef, Name, Proto, Seed, Str};
 use std::marker::Model;
 
 /// The needed names of each of the five kinds, each with its rank: how many of its kind are less. It stands for the
-/// five sets, and takes no memory.
+/// five sets; to look a name up takes no memory.
 pub struct Ranks<'a> {
     strings: Ranked<Str<'a>>,
     types: Table<Desc<'a>, TypeParts>,

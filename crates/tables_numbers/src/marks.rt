@@ -106,7 +106,7 @@ impl Marks {
 
     /// Marks the types of the list at an offset, 0 for none. A list that comes again is looked at once.
     ///
-    /// It fails only when out of memory, and then some of the types may be marked.
+    /// It fails only when out of memory; which of the types are marked then isn't promised.
     ///
     /// ```
     /// marks.mark_list(&sections, proto_parameters(&sections, 3))?; // the parameters of prototype 3
@@ -187,7 +187,7 @@ impl Marks {
 
     /// Marks a row of the table of these names, and the rows of its parts. Of a row that is marked nothing is read.
     ///
-    /// It fails only when out of memory: then the row isn't marked, but some of its parts may be.
+    /// It fails only when out of memory; which of these rows are marked then isn't promised.
     ///
     /// ```
     /// marks.mark(&sections, IndexKind::Method, 7)?; // row 7 of method_ids, its class, name and prototype, and their parts

@@ -1,5 +1,5 @@
 -- Numbers of two bytes, and the bytes of a type_list.
-use Rattle.std.proofs.Common.{Bool, true, false, ◌≡◌, ℕ, zero, suc, ◌+◌, ◌*◌, ◌-◌, ◌^◌, ◌%◌, ◌/◌, ◌<◌, ◌≤◌, List, [], ◌∷◌, ◌++◌, length, take, drop, get_or, refl, sym, ap, ◌∙◌, arith, length-take, length-drop, length-append, get_or-drop}
+use Rattle.std.proofs.Common.{Bool, true, false, ◌≡◌, ℕ, zero, suc, ◌+◌, ◌*◌, ◌-◌, ◌^◌, ◌%◌, ◌/◌, ◌<◌, ◌≤◌, List, [], ◌∷◌, ◌++◌, length, take, drop, get_or, refl, sym, ap, ◌∙◌, arith, length-take, length-drop, length-append}
 use Rattle.std.proofs.lemmas.List.{take_at, drop_at}
 use Rattle.std.proofs.Math.Seq.{take-add}
 use Rattle.std.specs.List.{AllByRecursion}
@@ -14,6 +14,7 @@ use Rattle.tables_rows.specs.Stands.{SpellsIndexes}
 use Rattle.dex_container.specs.Where.{slice, At, AtOrNone, IsInSection}
 use Rattle.dex_container.proofs.Standing.{at_place, At-one}
 use Rattle.dex_container.proofs.ListFacts.{take_bytes}
+use Rattle.dex_container.proofs.FieldBounds.{drop-AreBytes}
 
 -- ---- numbers and their bytes
 
@@ -94,14 +95,11 @@ spelled_numbers bytes indexes s =
       numbers = rw (s.spelled, back) (sym (halves-halves_bytes indexes [] s.small));
     }
 
-pub drop_are : (n : ℕ) (b : List ℕ) → AreBytes b → AreBytes (drop n b)
-drop_are n b are i = rw (get_or-drop n b i 0) (are (n + i))
-
 -- the list at the front of these bytes
 pub list_begins : (rest : List ℕ) (count : ℕ) → AreBytes rest → count ≡ u32_at rest 0 → 4 + 2 * count ≤ length rest → Begins SpellsIndexes rest (halves (take (2 * count) (drop 4 rest))) (4 + 2 * count)
 list_begins rest count are is long =
     let tail = take (2 * count) (drop 4 rest) in
-    let below : AreBytes tail = take_bytes (2 * count) (drop 4 rest) (drop_are 4 rest are) in
+    let below : AreBytes tail = take_bytes (2 * count) (drop 4 rest) (drop-AreBytes rest 4 are) in
     let even : length tail ≡ 2 * count = simp (length-take, length-drop) (omega (arith, long)) in
     let n : length (halves tail) ≡ count = length-halves count tail even in
     record {

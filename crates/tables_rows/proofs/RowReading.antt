@@ -1,6 +1,5 @@
 -- Tables that are read row by row.
-use Rattle.std.proofs.Common.{◌≡◌, ℕ, ◌+◌, ◌-◌, take, drop, ◌<◌, ◌≤◌, List, [], ◌∷◌, ◌++◌, length, map, Option, Some, None, option_map, sym, subst, ap, ◌∙◌, arith, slice_get, get_or, inl, inr}
-use Rattle.std.specs.Prelude.{IfSome, IfNone}
+use Rattle.std.proofs.Common.{◌≡◌, ℕ, ◌+◌, ◌-◌, take, drop, ◌<◌, ◌≤◌, List, [], ◌∷◌, ◌++◌, length, map, Option, Some, option_map, sym, subst, ap, ◌∙◌, arith, slice_get, get_or, inl, inr}
 use Rattle.std.proofs.lemmas.List.{length-map, length_push}
 use Rattle.std.proofs.lemmas.Option.{slice_get-get_or, slice_get-map, slice_get_within}
 use Rattle.std.proofs.lemmas.Bool.{cases_lt}
@@ -102,12 +101,3 @@ rises_from Below b i some below j is = let e : i - 1 ≡ j = omega (arith, is, s
 
 pub rises_to : (Below : List ℕ → ℕ → ℕ → Type 0) (b : List ℕ) (i : ℕ) → 0 < i → RowRises Below b i → Below b (i - 1) i
 rises_to Below b i some rises = rises (i - 1) (omega (arith, some))
-
--- a fact that follows for whatever is there, or is not
-pub some_weaker : {A : Type 0} (r : Option A) (P Q : A → Type 0) → ((x : A) → P x → Q x) → IfSome r P → IfSome r Q
-some_weaker (Some x) P Q f p = f x p
-some_weaker None P Q f p = tt
-
-pub none_weaker : {A : Type 0} (r : Option A) (P Q : Type 0) → (P → Q) → IfNone r P → IfNone r Q
-none_weaker (Some x) P Q f p = tt
-none_weaker None P Q f p = f p

@@ -1,7 +1,7 @@
 -- Values that are spelled anew.
 use Rattle.std.proofs.Common.{◌≡◌, ℕ, zero, suc, ◌+◌, ◌<◌, ◌≤◌, List, [], ◌∷◌, ◌++◌, length, take, drop, get_or, Some, slice_get, refl, sym, ap, subst, ◌∙◌, arith, true, false, rules}
 use Rattle.std.proofs.Math.Seq.{drop-cons}
-use Rattle.std.proofs.lemmas.List.{take_more, take_all}
+use Rattle.std.proofs.lemmas.List.{take_more, take_all, drop_all}
 use Rattle.base_bytes.specs.Grammar.{Appends, Takes, Each, Many}
 use Rattle.base_bytes.specs.Leb128.{Spells, Shortest}
 use Rattle.base_bytes.proofs.GrammarLaws.{Each-appends_none, Each-appends_more}
@@ -17,10 +17,10 @@ use Rattle.dex_value.specs.Named.{IsPlain}
 use Rattle.dex_value.specs.Reading.{name_code, table_of_type, IsNumber, ValueStands}
 use Rattle.dex_value.specs.Spelling.{unsigned_of, value_type_of, SpellsValue, SpellsArray, count_of}
 use Rattle.dex_value.specs.Writing.{UnsignedAs, IndexAs}
-use Rattle.dex_value.proofs.Appending.{index_appends, array_appends, array_value_appends}
+use Rattle.dex_value.proofs.Appending.{index_appends, array_appends, array_value_appends, enum_appends}
 use Rattle.dex_value.proofs.FrontLaws.{stands_one}
 use Rattle.dex_value.proofs.Fronts.{LoneFront, BareNull, BareFalse, BareTrue}
-use Rattle.dex_value.proofs.Lists.{listed, length-listed, values-listed}
+use Rattle.dex_value.proofs.Lists.{length-listed}
 use Rattle.dex_value.proofs.Namings.{number_stands}
 use Rattle.dex_value.proofs.Carrying.{NameStands-functional}
 use Rattle.tables_numbers.specs.Marked.{Columns, kind_of}
@@ -30,7 +30,8 @@ use Rattle.value_renumber.proofs.FrontLemmas.{TakenArray, next_value, values_due
 use Rattle.value_renumber.specs.Carried.{IsCarriedArray, IsItemOf}
 use Rattle.value_renumber.proofs.NameLemmas.{NamedRow, row_of_low}
 use Rattle.base_bytes.proofs.ListFacts.{some_inj}
-use Rattle.value_renumber.proofs.MarkLemmas.{drop_none, none_left}
+use Rattle.value_renumber.proofs.MarkLemmas.{none_left}
+use Rattle.program_types.proofs.Nesting.{listed, values-listed}
 
 -- ---- a value of bytes after its head
 
@@ -50,9 +51,6 @@ pub record CarriedName (numbers : Columns) (s : Five) (table : IndexKind) (i t :
 
 named_appends : (N : ℕ → Name → Type 0) (which : Name) (old new : List ℕ) → Appends (Shortest (IndexAs N (value_type_of which))) old new which → Appends (Shortest (SpellsValue N)) old new (Named which)
 named_appends N which old new a = record { bytes = a.bytes; joined = a.joined; spelled = record { spelled = a.spelled.spelled; least = a.spelled.least } }
-
-enum_appends : (N : ℕ → Name → Type 0) (f : _) (old new : List ℕ) → Appends (Shortest (IndexAs N 27)) old new (OfField f) → Appends (Shortest (SpellsValue N)) old new (Enum f)
-enum_appends N f old new a = record { bytes = a.bytes; joined = a.joined; spelled = record { spelled = a.spelled.spelled; least = a.spelled.least } }
 
 module _ (b : List ℕ) (numbers : Columns) (s : Five) (ty : NameType) (t : ℕ) (low : List ℕ) (is : name_code ty ≡ t) where
   column_at : (which : Name) (table : IndexKind) (number : ℕ) → kind_of which ≡ table → slice_get (column_of numbers (kind_of which)) (unsigned_of low) ≡ Some number → slice_get (column_of numbers table) (unsigned_of low) ≡ Some number
@@ -171,7 +169,7 @@ module _ (numbers : Columns) (n : ℕ) (bytes : List ℕ) (x : CarriedValues num
       let count = x.taken.spelled.0 in
       let all : length x.all ≤ turn = omega (arith, le, count) in (
         subst (λ (ws : List Value). Appends (Each (Shortest (SpellsValue (NameRanks x.names)))) old out ws) (take_all turn x.all all) r.done,
-        none_left (NameStands x.file) left x.rest (drop turn x.all) (drop_none x.all turn all) r.due,
+        none_left (NameStands x.file) left x.rest (drop turn x.all) (drop_all turn x.all all) r.due,
       )
 
 -- ---- indices

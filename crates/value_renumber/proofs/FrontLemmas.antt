@@ -13,8 +13,9 @@ use Rattle.dex_value.specs.Reading.{ValueStands}
 use Rattle.dex_value.specs.Spelling.{SpellsValue, SpellsValues, SpellsArray, count_of}
 use Rattle.dex_value.proofs.Fronts.{SizedFront, LoneFront, Front, front}
 use Rattle.dex_value.proofs.FrontLaws.{cons_head, first_of_lone, sized_not_array, sized_not_lone}
-use Rattle.dex_value.proofs.Lists.{listed, length-listed}
+use Rattle.dex_value.proofs.Lists.{length-listed}
 use Rattle.base_bytes.proofs.ListFacts.{number_one}
+use Rattle.program_types.proofs.Nesting.{listed}
 
 -- the head of a value without bytes after it
 abbrev pub IsLone : ℕ → Type 0

@@ -1,7 +1,7 @@
 -- What values name is marked.
-use Rattle.std.proofs.Common.{◌≡◌, ℕ, zero, suc, ◌+◌, ◌*◌, ◌<◌, ◌≤◌, List, [], ◌∷◌, ◌++◌, length, take, drop, get_or, refl, sym, ap, subst, ◌∙◌, arith, append_assoc}
+use Rattle.std.proofs.Common.{◌≡◌, ℕ, suc, ◌+◌, ◌*◌, ◌<◌, ◌≤◌, List, [], ◌∷◌, ◌++◌, length, take, drop, get_or, refl, sym, ap, subst, ◌∙◌, arith, append_assoc}
 use Rattle.std.proofs.Math.Seq.{drop-cons}
-use Rattle.std.proofs.lemmas.List.{take_more, take_all, length-append, append-nil, take-append-drop}
+use Rattle.std.proofs.lemmas.List.{take_more, take_all, length-append, append-nil, take-append-drop, drop_all}
 use Rattle.std.specs.List.{flat_map}
 use Rattle.base_bytes.specs.Grammar.{Takes, Each, Many}
 use Rattle.program_types.specs.Content.{Name, Value, Null, values}
@@ -9,12 +9,12 @@ use Rattle.program_types.specs.Mentions.{names_of_value}
 use Rattle.tables_rows.specs.Stands.{NameStands}
 use Rattle.dex_value.specs.Spelling.{SpellsValue}
 use Rattle.dex_value.specs.Wide.{wide_value, wide_values}
-use Rattle.dex_value.proofs.Lists.{listed, values-listed}
 use Rattle.tables_numbers.specs.Marked.{Marked, AddsNames}
 use Rattle.tables_numbers.proofs.MarkLemmas.{adds_none, adds_more}
 use Rattle.value_renumber.specs.Walks.{MarksValue, MarksValues}
 use Rattle.value_renumber.proofs.FrontLemmas.{TakenArray, IsLone, taken_lone, next_value}
 use Rattle.value_renumber.proofs.NameLemmas.{names-listed, each_wide, lone_wide, lone_names}
+use Rattle.program_types.proofs.Nesting.{listed, values-listed}
 
 -- ---- lists of names
 
@@ -96,19 +96,13 @@ pub none_left : (N : ℕ → Name → Type 0) (left rest : List ℕ) (vs : List 
 none_left N left rest [] e t = t.whole ∙ ap (λ l. l ++ rest) t.spelled
 none_left N left rest (v ∷ vs) e t = absurd cc
 
-pub drop_none : (vs : List Value) (i : ℕ) → length vs ≤ i → drop i vs ≡ []
-drop_none [] zero le = refl
-drop_none [] (suc i) le = refl
-drop_none (v ∷ vs) zero le = absurd (omega (arith, le))
-drop_none (v ∷ vs) (suc i) le = drop_none vs i (omega (arith, le))
-
 pub walked_end : (b : List ℕ) (n : ℕ) (bytes left : List ℕ) (turn : ℕ) (vs : List Value) (rest : List ℕ) (old new : Marked) (sum : ℕ) → n ≤ turn → Takes (Many (SpellsValue (NameStands b)) n) bytes vs rest → Walked b old new sum left turn vs rest → MarksValues b old new vs rest sum left
 walked_end b n bytes left turn vs rest old new sum le t w =
     let count = t.spelled.0 in
     let all : length vs ≤ turn = omega (arith, le, count) in
     let whole : take turn vs ≡ vs = take_all turn vs all in
     record {
-      follows = none_left (NameStands b) left rest (drop turn vs) (drop_none vs turn all) w.due;
+      follows = none_left (NameStands b) left rest (drop turn vs) (drop_all turn vs all) w.due;
       wide = w.wide ∙ ap (λ (ws : List Value). wide_values (values ws)) whole;
       marked = subst (λ (ws : List Value). AddsNames b old new (flat_map names_of_value ws)) whole w.marked;
     }

@@ -15,10 +15,11 @@ use Rattle.dex_value.specs.Reading.{name_code, number_code, table_of_type, Value
 use Rattle.dex_value.specs.Spelling.{unsigned_of, Sized, SpellsValue, SpellsValues}
 use Rattle.dex_value.specs.Wide.{wide_value, wide_values}
 use Rattle.dex_value.proofs.Fronts.{LoneFront, BareNull, BareFalse, BareTrue}
-use Rattle.dex_value.proofs.Lists.{listed, each-values}
+use Rattle.dex_value.proofs.Lists.{each-values}
 use Rattle.tables_rows.specs.Stands.{NameStands}
 use Rattle.tables_numbers.specs.Marked.{kind_of, IsRowOf}
 use Rattle.value_renumber.specs.Walks.{IsLow}
+use Rattle.program_types.proofs.Nesting.{listed}
 
 -- ---- the name of a value of bytes after its head
 

@@ -1,12 +1,12 @@
 use Rattle.std.proofs.Common.{◌<◌, List, map, take, length, sym, subst, arith}
-use Rattle.std.proofs.lemmas.List.{length-map}
+use Rattle.std.proofs.lemmas.List.{length-map, take_all}
 use Rattle.base_bytes.specs.Grammar.{Appends, Each}
 use Rattle.program_types.specs.Content.{Catch, OfDesc}
 use Rattle.program_types.specs.View.{catch}
 use Rattle.tables_names.specs.Closure.{NameRanks}
 use Rattle.code_put.specs.Fits.{HasIndexBelow}
 use Rattle.code_put.specs.Packs.{PacksCatch}
-use Rattle.code_put.proofs.ListLaws.{all-view, take-view, take-whole}
+use Rattle.code_put.proofs.ListLaws.{all-view, take-view}
 use Rattle.code_put.proofs.handlers.put_catches.Goals as goal
 use Rattle.base_bytes.proofs.GrammarLaws.{Each-appends_none, Each-appends_more}
 
@@ -29,4 +29,4 @@ pub returns-clause-ok : goal.returns-clause-ok
 returns-clause-ok c =
     let m = length-map c.args.catches.now catch in
     subst (λ (cs : List Catch). Appends (Each (PacksCatch (NameRanks c.args.ranks.now) c.args.starts.now)) c.args.out.now.items c.loop-one.out.items cs)
-    (take-whole (map catch c.args.catches.now) c.loop-one.one-index (omega arith)) c.loop-one.invariant
+    (take_all c.loop-one.one-index (map catch c.args.catches.now) (omega arith)) c.loop-one.invariant

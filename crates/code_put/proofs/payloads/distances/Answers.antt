@@ -3,10 +3,10 @@ use Rattle.std.specs.Prelude.{FitsSigned}
 use Rattle.std.specs.Int.{w32}
 use mir.Val.{SFits}
 use Rattle.std.proofs.lemmas.Int.{to_z-of_z}
-use Rattle.std.proofs.lemmas.List.{take_more, length-append, map-append}
+use Rattle.std.proofs.lemmas.List.{take_more, length-append, map-append, take_all}
 use Rattle.code_insns.specs.Linked.{lead}
 use Rattle.code_put.specs.Fits.{distance_of}
-use Rattle.code_put.proofs.ListLaws.{all-at, take-whole}
+use Rattle.code_put.proofs.ListLaws.{all-at}
 use Rattle.code_put.proofs.payloads.distances.Goals as goal
 
 pub distance-requires-clause-inside : goal.distance-requires-clause-inside
@@ -32,4 +32,4 @@ loop-to-preserved c =
     }
 
 pub returns-clause-ok : goal.returns-clause-ok
-returns-clause-ok c = c.loop-to.invariant.so_far ∙ take-whole c.args.targets.now c.loop-to.to-index (omega arith)
+returns-clause-ok c = c.loop-to.invariant.so_far ∙ take_all c.loop-to.to-index c.args.targets.now (omega arith)

@@ -5,9 +5,9 @@ use Rattle.std.proofs.lemmas.Int.{to_z-of_z}
 use Rattle.base_bytes.specs.Fields.{u32_bytes}
 use Rattle.base_bytes.proofs.FieldBounds.{length-u32_bytes}
 use Rattle.code_insns.specs.Symbols.{ints}
-use Rattle.code_put.proofs.ListLaws.{drop-whole}
 use Rattle.code_put.proofs.IntLaws.{ints-none, ints-turn}
 use Rattle.code_put.proofs.payloads.int_bytes.Goals as goal
+use Rattle.std.proofs.lemmas.List.{drop_all}
 
 pub loop-number-init : goal.loop-number-init
 loop-number-init c = record {
@@ -28,4 +28,4 @@ loop-number-preserved c =
 
 pub returns-clause-ok : goal.returns-clause-ok
 returns-clause-ok c =
-    sym (append-nil (ints c.loop-number.bytes.items)) ∙ ap (λ (l : List ℤ). ints c.loop-number.bytes.items ++ l) (sym (drop-whole c.args.numbers.now c.loop-number.number-index (omega arith))) ∙ c.loop-number.invariant.so_far
+    sym (append-nil (ints c.loop-number.bytes.items)) ∙ ap (λ (l : List ℤ). ints c.loop-number.bytes.items ++ l) (sym (drop_all c.loop-number.number-index c.args.numbers.now (omega arith))) ∙ c.loop-number.invariant.so_far

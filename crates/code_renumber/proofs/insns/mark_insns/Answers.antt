@@ -3,8 +3,9 @@ use Rattle.std.specs.List.{flat_map}
 use Rattle.program_types.specs.Mentions.{names_of_insn}
 use Rattle.tables_numbers.proofs.MarkLemmas.{has_marks_after}
 use Rattle.code_renumber.proofs.WalkLemmas.{MarkedTo, says_next, marked_start, marked_more, marked_end}
-use Rattle.code_renumber.proofs.WrittenLemmas.{rest_is, next_in}
+use Rattle.code_renumber.proofs.WrittenLemmas.{next_in}
 use Rattle.code_renumber.proofs.insns.mark_insns.Goals as goal
+use Rattle.base_bytes.proofs.ListFacts.{rest_is}
 
 pub loop-at-init : goal.loop-at-init
 loop-at-init c = record { marked = λ rs is s. marked_start c.args.sections.now c.args.marks.now c.args.units.now is; inside = omega arith }

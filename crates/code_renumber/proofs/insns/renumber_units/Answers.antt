@@ -1,7 +1,8 @@
 use Rattle.std.proofs.Common.{◌≡◌, ◌/◌, ◌*◌, ℕ, List, length, subst, ◌∙◌, arith}
 use Rattle.code_renumber.specs.InPlace.{IsRenumbered}
-use Rattle.code_renumber.proofs.WrittenLemmas.{rest_is, put_back, next_in, can_next, written_start, written_left, written_more, written_end, written_fit}
+use Rattle.code_renumber.proofs.WrittenLemmas.{put_back, next_in, can_next, written_start, written_left, written_more, written_end, written_fit}
 use Rattle.code_renumber.proofs.insns.renumber_units.Goals as goal
+use Rattle.base_bytes.proofs.ListFacts.{rest_is}
 
 pub loop-at-init : goal.loop-at-init
 loop-at-init c = record { written = written_start c.args.numbers.now c.args.units.now; inside = omega arith }

@@ -1,6 +1,7 @@
 use Rattle.std.proofs.Common.{◌≡◌, ◌/◌, ◌+◌, ◌*◌, ℕ, length, sym, subst, arith}
-use Rattle.code_renumber.proofs.WrittenLemmas.{rest_is, BegunTo, next_in, begun_start, begun_more, begun_table}
+use Rattle.code_renumber.proofs.WrittenLemmas.{BegunTo, next_in, begun_start, begun_more, begun_table}
 use Rattle.code_renumber.proofs.insns.starts_of.Goals as goal
+use Rattle.base_bytes.proofs.ListFacts.{rest_is}
 
 pub loop-at-init : goal.loop-at-init
 loop-at-init c = record { begun = begun_start c.args.units.now c.new-starts.result.items c.new-starts.ensures.items; inside = omega arith }

@@ -1,7 +1,8 @@
 use Rattle.std.proofs.Common.{rules, ◌≡◌, subst, sym, ◌∙◌}
 use Rattle.std.specs.Io.KnownBytes.{Consumes}
-use Rattle.dexasm_run.proofs.Moves.{Consumes-end, is_end, Consumes-trans}
+use Rattle.dexasm_run.proofs.Moves.{Consumes-end, is_end}
 use Rattle.dexasm_run.proofs.running.gather.Goals as goal
+use Rattle.std.proofs.KnownBytes.{Consumes-trans}
 
 pub returns-then-n-eq0 : goal.returns-then-n-eq0
 returns-then-n-eq0 g c =

@@ -7,11 +7,12 @@ use Rattle.dexasm_world.proofs.States.{same_state}
 use Rattle.dexasm_world.proofs.Failing.{taken_was, closed_was, not_made_was}
 use Rattle.dexasm_world.proofs.Leaving.{leaves_clean, leaves_same, leaves_unmade, leaves_brought}
 use Rattle.dexasm_world.proofs.Passing.{stays}
-use Rattle.dexasm_world.proofs.Choosing.{IsBeside, beside_by, safe_at_first, trying, has_part, bringing, delivered, in_place, in_place_delivered, no_room, not_true, true_or, made_keeps, taken_more, taken_at_first}
+use Rattle.dexasm_world.proofs.Choosing.{IsBeside, beside_by, safe_at_first, trying, has_part, bringing, delivered, in_place, in_place_delivered, no_room, true_or, made_keeps, taken_more, taken_at_first}
 use Rattle.dexasm_world.specs.declared.world.Refusal.TheVariants.{Other}
 use Rattle.dexasm_world.proofs.delivery.deliver_beside.Given as given
 use Rattle.dexasm_world.proofs.delivery.deliver_beside.Goals as goal
 use Rattle.dexasm_world.proofs.delivery.deliver_beside.Goals.{After-make}
+use Rattle.std.proofs.lemmas.Bool.{false_from_ne_true}
 
 -- after a try to make a file beside
 module _ (g : given.Over) (c : After-make g) (k : g.W.World.is_known ≡ true) where
@@ -58,7 +59,7 @@ returns-in-Ok-make-clause-moments g c k =
     let m = (goal.at.returns-in-Ok-make-clause-moments g c).After-make in
     let d = g.W.World.files c.deliver_by.new.world in
     bringing (first g m k) (before g m k) (after g m k) d c.args.path.now c.as_str-name.result.now (g.W.File.Handle.number c.in-Ok-make.file) c.args.answer.now _ (beside g m k) (same g m k) (c.loop-number.invariant.moments k).same_paths (c.in-Ok-make.ensures.plain k) (c.in-Ok-make.ensures.made k)
-    (λ give. (ap (λ (x : Paths). x.is_fixed (x.place c.args.path.now)) (tried g m k).same_paths ∙ give.free, not_true c.args.is_shared (λ is. c.requires.shared k is give)))
+    (λ give. (ap (λ (x : Paths). x.is_fixed (x.place c.args.path.now)) (tried g m k).same_paths ∙ give.free, false_from_ne_true c.args.is_shared (λ is. c.requires.shared k is give)))
     (tried g m k) (c.deliver_by.ensures.moments k)
 
 pub returns-in-Ok-make-clause-done : goal.returns-in-Ok-make-clause-done
@@ -66,7 +67,7 @@ returns-in-Ok-make-clause-done g c k =
     let m = (goal.at.returns-in-Ok-make-clause-done g c).After-make in
     let d = g.W.World.files c.deliver_by.new.world in
     on_ok_weaker c.deliver_by.result (delivered (first g m k) (before g m k) (after g m k) d c.args.path.now c.as_str-name.result.now (g.W.File.Handle.number c.in-Ok-make.file) c.args.answer.now _ _ (beside g m k) (same g m k) (c.loop-number.invariant.moments k).same_paths (tried g m k).same_paths (c.in-Ok-make.ensures.plain k) (c.in-Ok-make.ensures.made k)
-    (λ give. (ap (λ (x : Paths). x.is_fixed (x.place c.args.path.now)) (tried g m k).same_paths ∙ give.free, not_true c.args.is_shared (λ is. c.requires.shared k is give))) (true_or c.args.is_shared _ (c.requires.alone k)) (c.deliver_by.ensures.moments k))
+    (λ give. (ap (λ (x : Paths). x.is_fixed (x.place c.args.path.now)) (tried g m k).same_paths ∙ give.free, false_from_ne_true c.args.is_shared (λ is. c.requires.shared k is give))) (true_or c.args.is_shared _ (c.requires.alone k)) (c.deliver_by.ensures.moments k))
     (c.deliver_by.ensures.done k)
 
 -- the folder takes no new file
@@ -111,7 +112,7 @@ returns-in-Ok-make-clause-left g c k =
     let d = g.W.World.files c.deliver_by.new.world in
     leaves_brought (first g m k) (before g m k) (after g m k) d c.args.path.now c.as_str-name.result.now (g.W.File.Handle.number c.in-Ok-make.file) c.args.answer.now _ c.deliver_by.result (beside g m k) (same g m k) (c.loop-number.invariant.moments k).same_paths (tried g m k).same_paths (tried g m k).no_fewer
     (c.in-Ok-make.ensures.plain k) (c.in-Ok-make.ensures.made k)
-    (λ give. (ap (λ (x : Paths). x.is_fixed (x.place c.args.path.now)) (tried g m k).same_paths ∙ give.free, not_true c.args.is_shared (λ is. c.requires.shared k is give)))
+    (λ give. (ap (λ (x : Paths). x.is_fixed (x.place c.args.path.now)) (tried g m k).same_paths ∙ give.free, false_from_ne_true c.args.is_shared (λ is. c.requires.shared k is give)))
     (c.deliver_by.ensures.moments k) (c.deliver_by.ensures.left k)
 
 pub returns-in-Err-Closed-clause-left : goal.returns-in-Err-Closed-clause-left

@@ -1,9 +1,10 @@
 use Rattle.std.proofs.lemmas.Result.{IfOk-weaker}
 use Rattle.dex_container.specs.Where.{IsSectionOf}
-use Rattle.tables_rows.proofs.RowReading.{some_weaker, none_weaker}
 use Rattle.file_classes.specs.Reading.{entries}
 use Rattle.file_classes.proofs.TakingLaws.{entries_outside, entries_found, entries_not}
 use Rattle.file_classes.proofs.class_data.entries_at.Goals as goal
+use Rattle.std.proofs.lemmas.Option.{IfSome_then}
+use Rattle.base_bytes.proofs.OptionLaws.{IfNone-weaker}
 
 pub returns-in_default-clause-none : goal.returns-in_default-clause-none
 returns-in_default-clause-none c = λ e. entries_outside c.args.sections.now c.args.off c.if-off-eq0.false e c.in_default.ensures.none
@@ -12,12 +13,12 @@ pub returns-clause-found : goal.returns-clause-found
 returns-clause-found c =
     let is : IsSectionOf c.args.sections.now 0x2000 c.section_of-section.result = assumption c.section_of-section.ensures in
     IfOk-weaker c.take_entries.result _ _
-    (λ r found. some_weaker r _ _ (λ e t. entries_found c.args.sections.now c.args.off c.if-off-eq0.false c.in-Some.bytes.now c.section_of-section.result is c.in-Some.ensures.value (entries e) t.0 c.in-Some.ensures.low c.in-Some.ensures.high t.1) found)
+    (λ r found. IfSome_then r found (λ e t. entries_found c.args.sections.now c.args.off c.if-off-eq0.false c.in-Some.bytes.now c.section_of-section.result is c.in-Some.ensures.value (entries e) t.0 c.in-Some.ensures.low c.in-Some.ensures.high t.1))
     c.take_entries.ensures.found
 
 pub returns-clause-none : goal.returns-clause-none
 returns-clause-none c =
     let is : IsSectionOf c.args.sections.now 0x2000 c.section_of-section.result = assumption c.section_of-section.ensures in
     IfOk-weaker c.take_entries.result _ _
-    (λ r none. none_weaker r _ _ (λ nothing e. entries_not c.args.sections.now c.args.off c.if-off-eq0.false c.in-Some.bytes.now c.section_of-section.result is c.in-Some.ensures.value e nothing) none)
+    (λ r none. IfNone-weaker r (λ nothing e. entries_not c.args.sections.now c.args.off c.if-off-eq0.false c.in-Some.bytes.now c.section_of-section.result is c.in-Some.ensures.value e nothing) none)
     c.take_entries.ensures.none

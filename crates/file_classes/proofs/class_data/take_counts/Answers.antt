@@ -5,12 +5,12 @@ use Rattle.base_bytes.proofs.Numbers.{spells_unique}
 use Rattle.base_bytes.proofs.TakesLaws.{Takes-then}
 use Rattle.file_classes.specs.ClassData.{SpellsMethodEntry}
 use Rattle.file_classes.specs.Reading.{method_entry}
-use Rattle.file_classes.proofs.TakingLaws.{then_none}
 use Rattle.file_classes.proofs.class_data.take_counts.Goals as goal
+use Rattle.base_bytes.proofs.ViaLaws.{second-none}
 
 pub returns-in_err-others-clause-none : goal.returns-in_err-others-clause-none
 returns-in_err-others-clause-none c =
-    IfNone-always _ (then_none Spells (λ (_ : ℕ). SpellsMethodEntry Spells) spells_unique c.args.bytes.now c.in_ok-statics.after.now c.in_ok-statics.statics c.in_ok-statics.ensures.found c.in_err-others.ensures.none)
+    IfNone-always _ (second-none Spells (λ (_ : ℕ). SpellsMethodEntry Spells) c.args.bytes.now c.in_ok-statics.after.now c.in_ok-statics.statics spells_unique c.in_ok-statics.ensures.found c.in_err-others.ensures.none)
 
 pub returns-clause-found : goal.returns-clause-found
 returns-clause-found c =

@@ -2,13 +2,13 @@ use Rattle.base_bytes.proofs.OptionLaws.{IfNone-always}
 use Rattle.base_bytes.specs.Leb128.{Spells}
 use Rattle.base_bytes.proofs.Numbers.{spells_unique}
 use Rattle.base_bytes.proofs.TakesLaws.{Takes-then}
-use Rattle.file_classes.proofs.TakingLaws.{then_none}
 use Rattle.file_classes.proofs.class_data.take_field.Goals as goal
 use Rattle.std.proofs.Common.{ℕ}
+use Rattle.base_bytes.proofs.ViaLaws.{second-none}
 
 pub returns-in_err-flags-clause-none : goal.returns-in_err-flags-clause-none
 returns-in_err-flags-clause-none c =
-    IfNone-always _ (then_none Spells (λ (_ : ℕ). Spells) spells_unique c.args.bytes.now c.in_ok-step.after.now c.in_ok-step.step c.in_ok-step.ensures.found c.in_err-flags.ensures.none)
+    IfNone-always _ (second-none Spells (λ (_ : ℕ). Spells) c.args.bytes.now c.in_ok-step.after.now c.in_ok-step.step spells_unique c.in_ok-step.ensures.found c.in_err-flags.ensures.none)
 
 pub returns-clause-found : goal.returns-clause-found
 returns-clause-found c =

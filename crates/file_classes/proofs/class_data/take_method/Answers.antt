@@ -5,12 +5,12 @@ use Rattle.base_bytes.proofs.Numbers.{spells_unique}
 use Rattle.base_bytes.proofs.TakesLaws.{Takes-then}
 use Rattle.file_classes.specs.ClassData.{SpellsFieldEntry}
 use Rattle.file_classes.specs.Reading.{field_entry}
-use Rattle.file_classes.proofs.TakingLaws.{then_none}
 use Rattle.file_classes.proofs.class_data.take_method.Goals as goal
+use Rattle.base_bytes.proofs.ViaLaws.{second-none}
 
 pub returns-in_err-field-clause-none : goal.returns-in_err-field-clause-none
 returns-in_err-field-clause-none c =
-    IfNone-always _ (then_none Spells (λ (_ : ℕ). SpellsFieldEntry Spells) spells_unique c.args.bytes.now c.in_ok-step.after.now c.in_ok-step.step c.in_ok-step.ensures.found c.in_err-field.ensures.none)
+    IfNone-always _ (second-none Spells (λ (_ : ℕ). SpellsFieldEntry Spells) c.args.bytes.now c.in_ok-step.after.now c.in_ok-step.step spells_unique c.in_ok-step.ensures.found c.in_err-field.ensures.none)
 
 pub returns-clause-found : goal.returns-clause-found
 returns-clause-found c =

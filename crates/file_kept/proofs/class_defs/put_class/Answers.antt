@@ -3,15 +3,16 @@ use Rattle.std.proofs.lemmas.Result.{on_ok_weaker}
 use Rattle.base_bytes.specs.Words.{words_bytes}
 use Rattle.file_kept.specs.Names.{StringOrNone, TypeOrNone}
 use Rattle.tables_names.specs.Needed.{needed}
-use Rattle.file_kept.proofs.ClassRowLaws.{class_at, class_within, superclass, source, class_row}
+use Rattle.file_kept.proofs.ClassRowLaws.{class_within, superclass, source, class_row}
 use Rattle.file_kept.proofs.class_defs.put_class.Goals as goal
+use Rattle.file_parts.proofs.EntryLaws.{entry_at}
 
 pub of-requires : goal.of-requires
 of-requires c =
     let p = c.requires.kept.0 in
     let k = c.requires.kept.1 in
     let n = k.classes.count in
-    let x = class_at p c.args.i (omega (arith, n, c.requires.row)) in
+    let x = entry_at p c.args.i (omega (arith, n, c.requires.row)) in
     subst (λ (i : ℕ). i < length c.args.numbers.now.types) (sym c.class_word.ensures) (class_within c.args.sections.now c.args.numbers.now p k c.args.i x.0 x.1)
 
 pub type_or_none-requires : goal.type_or_none-requires
@@ -20,7 +21,7 @@ type_or_none-requires c =
     let p = c.requires.kept.0 in
     let k = c.requires.kept.1 in
     let n = k.classes.count in
-    let x = class_at p c.args.i (omega (arith, n, c.requires.row)) in
+    let x = entry_at p c.args.i (omega (arith, n, c.requires.row)) in
     (b, needed p, x.0.superclass, subst (λ (i : ℕ). TypeOrNone b c.args.numbers.now (needed p) i x.0.superclass) (sym c.class_word-3.ensures) (superclass b c.args.numbers.now p k c.args.i x.0 x.1))
 
 pub string_or_none-requires : goal.string_or_none-requires
@@ -29,7 +30,7 @@ string_or_none-requires c =
     let p = c.requires.kept.0 in
     let k = c.requires.kept.1 in
     let n = k.classes.count in
-    let x = class_at p c.args.i (omega (arith, n, c.requires.row)) in
+    let x = entry_at p c.args.i (omega (arith, n, c.requires.row)) in
     (b, needed p, x.0.source, subst (λ (i : ℕ). StringOrNone b c.args.numbers.now (needed p) i x.0.source) (sym c.class_word-4.ensures) (source b c.args.numbers.now p k c.args.i x.0 x.1))
 
 pub returns-clause-ok : goal.returns-clause-ok

@@ -3,14 +3,14 @@ use Rattle.base_bytes.specs.Fields.{AreBytes}
 use Rattle.file_parts.specs.ClassData.{EntriesAt}
 use Rattle.file_kept.proofs.GatherLaws.{class_pushed}
 use Rattle.file_kept.proofs.codes.push_class.Goals as goal
-use Rattle.file_kept.proofs.ClassRowLaws.{class_at}
+use Rattle.file_parts.proofs.EntryLaws.{entry_at}
 
 pub unreachable-requires : goal.unreachable-requires
 unreachable-requires c =
     let p = c.requires.kept.1 in
     let k = c.requires.kept.2 in
     let n = k.classes.count in
-    let x = class_at p c.args.i (omega (arith, n, c.requires.row)) in
+    let x = entry_at p c.args.i (omega (arith, n, c.requires.row)) in
     let st = k.classes.each c.args.i x.0 x.1 in
     (rw c.in_default.is at c.in_ok-all.ensures.none) st.entries (subst (λ (o : ℕ). EntriesAt c.args.sections.now o st.entries) (sym c.class_word-data.ensures) st.head.class_data)
 

@@ -8,13 +8,13 @@ use Rattle.tables_names.specs.Closure.{NameRanks}
 use Rattle.tables_names.specs.Needed.{needed}
 use Rattle.file_kept.proofs.SiteLaws.{entries_carried}
 use Rattle.file_kept.proofs.datas.put_class.Goals as goal
-use Rattle.file_kept.proofs.ClassRowLaws.{class_at}
+use Rattle.file_parts.proofs.EntryLaws.{entry_at}
 
 pub unreachable-requires : goal.unreachable-requires
 unreachable-requires c =
     let k = c.requires.kept.1 in
     let n = k.classes.count in
-    let x = class_at c.requires.kept.0 c.args.i (omega (arith, n, c.requires.row)) in
+    let x = entry_at c.requires.kept.0 c.args.i (omega (arith, n, c.requires.row)) in
     let st = k.classes.each c.args.i x.0 x.1 in
     (rw c.in_default.is at c.in_ok-all.ensures.none) st.entries (subst (λ (o : ℕ). EntriesAt c.args.sections.now o st.entries) (sym c.class_word-data.ensures) st.head.class_data)
 
@@ -24,7 +24,7 @@ split_at-requires c =
     let p = c.requires.kept.0 in
     let k = c.requires.kept.1 in
     let n = k.classes.count in
-    let x = class_at p c.args.i (omega (arith, n, c.requires.row)) in
+    let x = entry_at p c.args.i (omega (arith, n, c.requires.row)) in
     let all = c.in-Some.all in
     let m = entries_carried b c.args.numbers.now p k c.args.i x.0 (entries all) x.1 (rw c.class_word-data.ensures at (rw c.in-Some.is at c.in_ok-all.ensures.found)) in
     let d = m.directs.count in let v = m.virtuals.count in
@@ -38,7 +38,7 @@ add_data-requires-clause-members c =
     let p = c.requires.kept.0 in
     let k = c.requires.kept.1 in
     let n = k.classes.count in
-    let x = class_at p c.args.i (omega (arith, n, c.requires.row)) in
+    let x = entry_at p c.args.i (omega (arith, n, c.requires.row)) in
     let m = entries_carried b c.args.numbers.now p k c.args.i x.0 (entries c.in-Some.all) x.1 (rw c.class_word-data.ensures at (rw c.in-Some.is at c.in_ok-all.ensures.found)) in
     (needed p, x.0, m, (c.requires.kept.2 x.0 x.1).0)
 
@@ -48,7 +48,7 @@ add_data-requires-clause-codes c =
     let p = c.requires.kept.0 in
     let k = c.requires.kept.1 in
     let n = k.classes.count in
-    let x = class_at p c.args.i (omega (arith, n, c.requires.row)) in
+    let x = entry_at p c.args.i (omega (arith, n, c.requires.row)) in
     let all = c.in-Some.all in
     let m = entries_carried b c.args.numbers.now p k c.args.i x.0 (entries all) x.1 (rw c.class_word-data.ensures at (rw c.in-Some.is at c.in_ok-all.ensures.found)) in
     let d = m.directs.count in let v = m.virtuals.count in

@@ -9,8 +9,9 @@ use Rattle.tables_rows.specs.Halves.{halves}
 use Rattle.tables_rows.proofs.HalvesLaws.{u16_at-halves}
 use Rattle.file_parts.proofs.ListLaws.{indices_none}
 use Rattle.file_parts.specs.Lists.{AddsIndices}
-use Rattle.file_kept.proofs.ListLaws.{ranked_at, ranked_long, indices_next, same_rank}
+use Rattle.file_kept.proofs.ListLaws.{ranked_at, ranked_long, indices_next}
 use Rattle.file_kept.proofs.lists.put_numbers.Goals as goal
+use Rattle.base_bytes.proofs.ListFacts.{some_one}
 
 pub loop-j-init : goal.loop-j-init
 loop-j-init c = λ s ts r. indices_none s c.args.out.now.items
@@ -31,7 +32,7 @@ overflow_cast-number c =
     let lt : c.loop-j.j < length xs = omega (arith, c.loop-j-test.true, c.requires.even) in
     let r = ranked_at numbers s xs c.requires.ranked.1 c.loop-j.j lt c.requires.ranked.2 in
     let there = subst (λ (n : ℕ). slice_get numbers.types n ≡ Some c.of-number.result) (c.from.ensures ∙ c.u16_at.ensures ∙ u16_at-halves c.args.indexes.now c.loop-j.j lt) c.of-number.ensures in
-    let same = same_rank numbers.types (get_or xs c.loop-j.j 0) r.0 c.of-number.result r.1 there in
+    let same = some_one (slice_get numbers.types (get_or xs c.loop-j.j 0)) r.0 c.of-number.result r.1 there in
     omega (arith, same, r.3)
 
 pub loop-j-preserved : goal.loop-j-preserved
@@ -43,7 +44,7 @@ loop-j-preserved c = λ s ts x.
     let lt : j < length xs = omega (arith, c.loop-j-test.true, c.requires.even) in
     let r = ranked_at numbers s xs ts j lt x in
     let there = subst (λ (n : ℕ). slice_get numbers.types n ≡ Some c.of-number.result) (c.from.ensures ∙ c.u16_at.ensures ∙ u16_at-halves c.args.indexes.now j lt) c.of-number.ensures in
-    let same = same_rank numbers.types (get_or xs j 0) r.0 c.of-number.result r.1 there in
+    let same = some_one (slice_get numbers.types (get_or xs j 0)) r.0 c.of-number.result r.1 there in
     let bytes : c.to_le_bytes.result ≡ u16_bytes c.of-number.result = c.to_le_bytes.ensures in
     indices_next s c.args.out.now.items _ _ c.to_le_bytes.result c.of-number.result ts j r.4 (c.loop-j.invariant s ts x) (pushed c.to_le_bytes.result refl c.in_ok-extend_from_slice.was c.extend_from_slice.ensures.items) bytes (omega (arith, same, r.3))
     (subst (λ (n : ℕ). IsAt s.types n (text_key (get_or ts j []))) same r.2)

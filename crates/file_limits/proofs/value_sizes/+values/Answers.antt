@@ -6,8 +6,9 @@ use Rattle.program_types.specs.View as view
 use Rattle.program_types.specs.declared.value.Value as made
 use Rattle.dex_value.specs.Wide.{wide_value}
 use Rattle.file_limits.specs.Sum.{IsSum}
-use Rattle.file_limits.proofs.SumLaws.{values_room_more, value_less}
+use Rattle.file_limits.proofs.SumLaws.{values_room_more}
 use Rattle.file_limits.proofs.value_sizes.+values.Goals as goal
+use Rattle.program_types.proofs.Nesting.{value_less}
 
 pub value_size-returns-in-Array : goal.value_size-returns-in-Array
 value_size-returns-in-Array t c = rw (c.in-Array.is, value_array c.in-Array.all) (c.plus.ensures 6 _ (inl refl) c.values_size.ensures)

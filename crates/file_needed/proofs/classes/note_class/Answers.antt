@@ -5,14 +5,14 @@ use Rattle.tables_names.specs.Closure.{HasShorty}
 use Rattle.program_types.specs.View as view
 use Rattle.file_needed.specs.Bodies.{named_in_body}
 use Rattle.tables_names.proofs.NotedLemmas.{notes_both}
-use Rattle.file_needed.proofs.Steps.{left, right}
 use Rattle.file_needed.proofs.classes.note_class.Goals as goal
+use Rattle.base_bytes.proofs.ListFacts.{all_front, all_back}
 
 pub note_bodies-requires : goal.note_bodies-requires
-note_bodies-requires c = left HasShorty (flat_map named_in_body (map view.method c.args.class.now.directs.now)) (flat_map named_in_body (map view.method c.args.class.now.virtuals.now)) c.requires
+note_bodies-requires c = all_front HasShorty (flat_map named_in_body (map view.method c.args.class.now.directs.now)) (flat_map named_in_body (map view.method c.args.class.now.virtuals.now)) c.requires
 
 pub note_bodies-requires-2 : goal.note_bodies-requires-2
-note_bodies-requires-2 c = right HasShorty (flat_map named_in_body (map view.method c.args.class.now.directs.now)) (flat_map named_in_body (map view.method c.args.class.now.virtuals.now)) c.requires
+note_bodies-requires-2 c = all_back HasShorty (flat_map named_in_body (map view.method c.args.class.now.directs.now)) (flat_map named_in_body (map view.method c.args.class.now.virtuals.now)) c.requires
 
 pub returns-clause-added : goal.returns-clause-added
 returns-clause-added c =

@@ -6,8 +6,9 @@ use Rattle.program_types.specs.Depth.{depth, greatest_depth}
 use Rattle.program_types.specs.Mentions.{names_of_value}
 use Rattle.program_types.specs.View.{value}
 use Rattle.program_types.specs.declared.value.Value as made
-use Rattle.file_needed.proofs.Steps.{values_more, value_kept, value_less}
+use Rattle.file_needed.proofs.Steps.{values_more, value_kept}
 use Rattle.file_needed.proofs.values.+values.Goals as goal
+use Rattle.program_types.proofs.Nesting.{value_less}
 
 pub add_values-add_value-requires : goal.add_values-add_value-requires
 add_values-add_value-requires t c =

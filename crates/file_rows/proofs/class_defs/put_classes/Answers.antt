@@ -1,8 +1,10 @@
-use Rattle.file_rows.proofs.ClassRowLaws.{class_there, seated_all, seated_more}
+use Rattle.file_rows.proofs.ClassRowLaws.{seated_all, seated_more}
 use Rattle.file_rows.proofs.class_defs.put_classes.Goals as goal
+use Rattle.base_bytes.proofs.ListFacts.{map_at}
+use Rattle.program_types.specs.View as view
 
 pub put_class-requires-clause-held : goal.put_class-requires-clause-held
-put_class-requires-clause-held c = c.requires.held c.loop-i.i _ (class_there c.args.classes.now c.loop-i.i _ c.loop-i-test.true)
+put_class-requires-clause-held c = c.requires.held c.loop-i.i _ (map_at view.class c.args.classes.now c.loop-i.i _ c.loop-i-test.true)
 
 pub loop-i-preserved : goal.loop-i-preserved
 loop-i-preserved c =

@@ -3,11 +3,11 @@ use Rattle.std.proofs.lemmas.List.{length-map}
 use Rattle.tables_names.specs.Keys.{key_of_proto}
 use Rattle.tables_names.specs.Numbers.{ProtoAt}
 use Rattle.tables_names.proofs.IndexLemmas.{closed_have_rows}
-use Rattle.tables_names.proofs.NumberLemmas.{zip_length}
 use Rattle.program_types.specs.View as view
 use Rattle.file_rows.proofs.PartLaws.{ret_at}
 use Rattle.file_rows.proofs.RowLaws.{held_at, protos_more, protos_are_table}
 use Rattle.file_rows.proofs.proto_ids.put_protos.Goals as goal
+use Rattle.base_bytes.proofs.ListFacts.{zip_length}
 
 pub put_proto-requires-clause-shorty : goal.put_proto-requires-clause-shorty
 put_proto-requires-clause-shorty c =

@@ -11,9 +11,9 @@ use Rattle.file_rows.proofs.LayingLaws.{items_few, laid_all, placed_more, room_a
 use Rattle.file_sections.proofs.NumberLaws.{no_class}
 use Rattle.file_rows.proofs.SitedLaws.{length-sited, rest_after, room_of_sited}
 use Rattle.file_sections.proofs.SitedLaws.{count_in, rest_enough, rest_next, sited_at, no_sited}
-use Rattle.file_rows.proofs.Steps.{mapped_at}
 use Rattle.file_rows.specs.Data.{PacksData, ClassWithCodes, has_no_members, with_code_places, wide_with_codes}
 use Rattle.file_sections.proofs.class_data.put_datas.Goals as goal
+use Rattle.base_bytes.proofs.ListFacts.{map_at}
 
 pub loop-class-init : goal.loop-class-init
 loop-class-init c = (
@@ -59,7 +59,7 @@ add_data-requires-clause-methods c =
     subst (AreRanks c.args.ranks.now (methods_of (view.class k))) (sym (c.split_at-in-loop-class.ensures.front ∙ ap (λ (l : List ℕ). take (length k.directs.now + length k.virtuals.now) l) others ∙ ap (λ (j : ℕ). take j (drop (length (fields_of (view.class k))) c.loop-class.members.now)) (sym (methods_count k)))) next.3
 
 pub add_data-requires-clause-rise : goal.add_data-requires-clause-rise
-add_data-requires-clause-rise c = c.requires.rise c.loop-class.class-index _ (mapped_at view.class c.args.program.now.classes.now c.loop-class.class-index _ c.loop-class-test.true)
+add_data-requires-clause-rise c = c.requires.rise c.loop-class.class-index _ (map_at view.class c.args.program.now.classes.now c.loop-class.class-index _ c.loop-class-test.true)
 
 pub add_data-requires-clause-room : goal.add_data-requires-clause-room
 add_data-requires-clause-room c =

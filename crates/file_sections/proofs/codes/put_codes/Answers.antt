@@ -17,11 +17,10 @@ use Rattle.file_rows.proofs.LayingLaws.{items_few}
 use Rattle.file_sections.proofs.NumberLaws.{no_class}
 use Rattle.file_needed.specs.Bodies.{defined_in, named_in_body, named_in_code}
 use Rattle.file_sections.proofs.MentionLaws.{next_class}
-use Rattle.file_rows.proofs.Steps.{mapped_at}
 use Rattle.file_rows.specs.Codes.{PacksBody, WritesBody, is_bodiless}
 use Rattle.file_sections.specs.Named.{BodyCanBePut}
 use Rattle.file_sections.proofs.codes.put_codes.Goals as goal
-use Rattle.base_bytes.proofs.ListFacts.{all_front, all_back}
+use Rattle.base_bytes.proofs.ListFacts.{all_front, all_back, map_at}
 
 pub loop-class-init : goal.loop-class-init
 loop-class-init c =
@@ -32,7 +31,7 @@ loop-class-init c =
 
 pub put_bodies-requires-clause-can : goal.put_bodies-requires-clause-can
 put_bodies-requires-clause-can c =
-    all_front (BodyCanBePut c.args.ranks.now) _ _ (c.requires.can c.loop-class.class-index _ (mapped_at view.class c.args.program.now.classes.now c.loop-class.class-index _ c.loop-class-test.true))
+    all_front (BodyCanBePut c.args.ranks.now) _ _ (c.requires.can c.loop-class.class-index _ (map_at view.class c.args.program.now.classes.now c.loop-class.class-index _ c.loop-class-test.true))
 
 pub put_bodies-requires-clause-room : goal.put_bodies-requires-clause-room
 put_bodies-requires-clause-room c =
@@ -44,7 +43,7 @@ put_bodies-requires-clause-room c =
 pub put_bodies-requires-in-loop-class-clause-can : goal.put_bodies-requires-in-loop-class-clause-can
 put_bodies-requires-in-loop-class-clause-can c =
     all_back (BodyCanBePut c.args.ranks.now) (bodies_in (map view.method (get_or c.args.program.now.classes.now c.loop-class.class-index no_class).directs.now)) (bodies_in (map view.method (get_or c.args.program.now.classes.now c.loop-class.class-index no_class).virtuals.now))
-    (c.requires.can c.loop-class.class-index _ (mapped_at view.class c.args.program.now.classes.now c.loop-class.class-index no_class c.loop-class-test.true))
+    (c.requires.can c.loop-class.class-index _ (map_at view.class c.args.program.now.classes.now c.loop-class.class-index no_class c.loop-class-test.true))
 
 pub put_bodies-requires-in-loop-class-clause-room : goal.put_bodies-requires-in-loop-class-clause-room
 put_bodies-requires-in-loop-class-clause-room c =

@@ -3,8 +3,8 @@ use Rattle.std.proofs.lemmas.Bool.{cases_lt}
 use Rattle.program_types.specs.Shorty.{shorty}
 use Rattle.program_types.specs.View.{str, proto}
 use Rattle.program_types.proofs.OrderLaws.{cmp_equal, cmp_unequal, cmp_end}
-use Rattle.tables_names.proofs.ShortyLemmas.{length-letters}
 use Rattle.tables_names.proofs.shorty.cmp_shorty.Goals as goal
+use Rattle.program_types.proofs.Letters.{length-letters}
 
 pub returns-in_default : goal.returns-in_default
 returns-in_default c =

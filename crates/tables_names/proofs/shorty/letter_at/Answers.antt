@@ -1,8 +1,9 @@
 use Rattle.std.proofs.Common.{arith, ◌∙◌, sym}
 use Rattle.program_types.specs.Shorty.{letter_of}
 use Rattle.program_types.specs.View.{desc}
-use Rattle.tables_names.proofs.ShortyLemmas.{letter_after, length-letters}
+use Rattle.tables_names.proofs.ShortyLemmas.{letter_after}
 use Rattle.tables_names.proofs.shorty.letter_at.Goals as goal
+use Rattle.program_types.proofs.Letters.{length-letters}
 
 pub returns-else-i-eq0 : goal.returns-else-i-eq0
 returns-else-i-eq0 c =

@@ -1,7 +1,8 @@
 use Rattle.std.proofs.Common.{◌≡◌, ◌+◌, get_or, refl, sym, subst, ◌∙◌, true≢false, arith, inl, inr}
 use Rattle.std.proofs.lemmas.Bool.{cases_lt}
-use Rattle.tables_rows.proofs.ShortyLaws.{letters, letter_at, letters_are, letter_is, length-letters}
+use Rattle.tables_rows.proofs.ShortyLaws.{letters_are, letter_is}
 use Rattle.tables_rows.proofs.proto_ids.is_shorty.Goals as goal
+use Rattle.program_types.proofs.Letters.{letters, letter_at, length-letters}
 
 pub returns-then-units-i : goal.returns-then-units-i
 returns-then-units-i c =

@@ -4,12 +4,12 @@ use Rattle.program_types.specs.Content.{Null}
 use Rattle.program_types.specs.Mentions.{names_of_value}
 use Rattle.tables_rows.specs.Stands.{NameStands}
 use Rattle.dex_value.specs.Spelling.{SpellsValue, count_of}
-use Rattle.dex_value.proofs.Lists.{listed}
 use Rattle.tables_numbers.proofs.MarkLemmas.{has_marks_after}
 use Rattle.value_renumber.proofs.FrontLemmas.{taken_some, taken_array, taken_low, low_of, values_due, taken_short}
 use Rattle.value_renumber.proofs.MarkLemmas.{array_marked, lone_marked, walked_start, next_due, walked_next, walked_few, walked_end, values_few, next_wide}
 use Rattle.value_renumber.proofs.NameLemmas.{low_wide}
 use Rattle.value_renumber.proofs.marking.+marked.Goals as goal
+use Rattle.program_types.proofs.Nesting.{listed}
 
 pub mark_value-unreachable-requires : goal.mark_value-unreachable-requires
 mark_value-unreachable-requires t c =
