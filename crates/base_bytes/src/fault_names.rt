@@ -144,7 +144,6 @@ fn row_in<'a>(table: &[Row<&'a str>], number: u16) -> Row<&'a str>
 }
 
 /// The row of a number in the table.
-#[tactic(auto, unfolding(crate::specs::Fault::numbers, crate::specs::Fault::names, crate::specs::Fault::sentences))]
 fn row_of(number: u16) -> Row<&'static str>
     ensures name { result.name.now ≡ fault_name number }
     ensures says { result.says.now ≡ fault_sentence number }

@@ -31,15 +31,25 @@ fn main(rt: HostRuntime) -> io::Result<()> {
     if matches!(name, "all" | "tables" | "code") {
         rt.stdin().read_to_end(&mut bytes)?;
     }
+    run(&rt, name, &words, &bytes)
+}
+
+/// Does what is named with these words, on these bytes.
+fn run(
+    rt: &(impl Print + Alloc<A = Global>),
+    name: &str,
+    words: &[&str],
+    bytes: &[u8],
+) -> io::Result<()> {
     match name {
-        "codecs" => codecs::run(&rt, &words),
-        "insns" => insns::run(&rt, &words),
-        "needed" => needed::run(&rt, &words),
-        "tables" => tables::run(&rt, &words, &bytes),
-        "code" => code::run(&rt, &words, &bytes),
-        "listing" => listing::run(&rt, &words),
-        "all" => run_all(&rt, &bytes),
-        _ => println!(&rt; "bench codecs|insns|needed|tables|code|listing|all WORD .."),
+        "codecs" => codecs::run(rt, words),
+        "insns" => insns::run(rt, words),
+        "needed" => needed::run(rt, words),
+        "tables" => tables::run(rt, words, bytes),
+        "code" => code::run(rt, words, bytes),
+        "listing" => listing::run(rt, words),
+        "all" => run_all(rt, bytes),
+        _ => println!(rt; "bench codecs|insns|needed|tables|code|listing|all WORD .."),
     }
 }
 

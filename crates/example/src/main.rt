@@ -21,14 +21,19 @@ fn main(rt: HostRuntime) -> Result<()> {
         bail!("usage: example FILE OUT");
     };
     let bytes = fs::read(&rt, file.as_str())?;
-    let arena = Bump::new(rt.alloc());
-    let program = dex_file::read(rt.alloc(), &arena, &bytes).map_err(refused)?;
-    let shown = show(rt.alloc(), &program).map_err(refused)?;
+    let (shown, made) = shown_and_patched(rt.alloc(), &bytes).map_err(refused)?;
     rt.stdout().write_all(shown.as_bytes())?;
-    let patched = patch(&arena, &program).map_err(refused)?;
-    let made = write(rt.alloc(), &patched).map_err(refused)?;
     fs::write(&rt, out.as_str(), &made)?;
     Ok(())
+}
+
+/// What is printed of a file, and the file that is written.
+fn shown_and_patched(alloc: Global, file: &[u8]) -> Result<(String, Vec<u8>), Fault> {
+    let arena = Bump::new(alloc);
+    let program = dex_file::read(alloc, &arena, file)?;
+    let shown = show(alloc, &program)?;
+    let patched = patch(&arena, &program)?;
+    Ok((shown, write(alloc, &patched)?))
 }
 
 fn refused(fault: Fault) -> Error {

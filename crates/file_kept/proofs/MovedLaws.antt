@@ -1,7 +1,7 @@
 -- Items that are kept by the offset at which they stood.
 use Rattle.std.proofs.Common.{◌≡◌, ℕ, ◌<◌, Bool, true, false, nat_eq, List, [], ◌∷◌, length, refl, sym, subst, arith, Some, inl, inr}
 use Rattle.std.specs.Prelude.{MatchBool}
-use Rattle.indexmap.specs.IndexMap.{IndexMap, IsEmpty, Updates}
+use Rattle.std.specs.HashMap.{HashMap, IsEmpty, Updates}
 use Rattle.file_layout.specs.Sections.{IsItself, is_empty_list}
 use Rattle.file_shared.specs.Once.{Entry, HasItemAt, PutsOnce}
 use Rattle.file_shared.specs.Sharing.{UsesItem}
@@ -66,11 +66,11 @@ used_placed align kept more old new [] place u = u.0
 used_placed align kept more old new (x ∷ bytes) place u = put_there align kept more old new (x ∷ bytes) place (bytes_put align kept more old new (x ∷ bytes) place (omega arith) u)
 
 -- nothing is kept yet
-pub moved_none : {S : Type 0} (W : ℕ → List ℕ → Type 0) (kept : List Entry) (places : IndexMap ℕ ℕ S) → IsEmpty places → AreMoved W kept places
+pub moved_none : {S : Type 0} (W : ℕ → List ℕ → Type 0) (kept : List Entry) (places : HashMap ℕ ℕ S) → IsEmpty places → AreMoved W kept places
 moved_none W kept places e = cached_none (λ off place. (bytes : List ℕ) × W off bytes × IsPlaced kept bytes place) places e
 
 -- one more is
-pub moved_more : {S : Type 0} (W : ℕ → List ℕ → Type 0) (align : ℕ) (kept more : List Entry) (old new bytes : List ℕ) (off place : ℕ) (places further : IndexMap ℕ ℕ S) → AreMoved W kept places → W off bytes
+pub moved_more : {S : Type 0} (W : ℕ → List ℕ → Type 0) (align : ℕ) (kept more : List Entry) (old new bytes : List ℕ) (off place : ℕ) (places further : HashMap ℕ ℕ S) → AreMoved W kept places → W off bytes
     → UsesItem is_empty_list IsItself align kept more old new bytes place → Updates nat_eq places further off (Some place) → AreMoved W more further
 moved_more W align kept more old new bytes off place places further m w u up =
     cached_more (λ off place. (bytes : List ℕ) × W off bytes × IsPlaced more bytes place) places further off place

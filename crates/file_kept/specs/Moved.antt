@@ -1,7 +1,7 @@
 -- Items of a file that are written anew in another: what stood at one offset is written once.
 -- Page: "Dalvik Executable format": items that several rows refer to.
 use Rattle.std.specs.Prelude.{◌≡◌, ℕ, ◌<◌, Bool, List, [], length, MatchBool}
-use Rattle.indexmap.specs.IndexMap.{IndexMap}
+use Rattle.std.specs.HashMap.{HashMap}
 use Rattle.file_layout.specs.Sections.{is_empty_list}
 use Rattle.file_shared.specs.Once.{Entry, HasItemAt}
 use Rattle.tables_rows.specs.Cached.{AreCached}
@@ -16,5 +16,5 @@ IsPlaced kept bytes place = MatchBool (is_empty_list bytes) (place ≡ 0) (HasIt
 
 -- W says what is written for what stands at an offset. Each place that is kept by an offset is that of an item that is
 -- written for it.
-abbrev pub AreMoved : {S : Type 0} → (ℕ → List ℕ → Type 0) → List Entry → IndexMap ℕ ℕ S → Type 0
+abbrev pub AreMoved : {S : Type 0} → (ℕ → List ℕ → Type 0) → List Entry → HashMap ℕ ℕ S → Type 0
 AreMoved W kept places = AreCached (λ off place. (bytes : List ℕ) × W off bytes × IsPlaced kept bytes place) places

@@ -2,19 +2,19 @@
 //! once.
 ghost use Rattle.std.specs.Prelude.{◌≡◌, ◌+◌, ◌<◌, ◌^◌, [], nat_eq, Some, IfOk, IfSome, IsOkUnless, length};
 ghost use Rattle.base_bytes.specs.Fault.{memory};
-ghost use Rattle.indexmap.specs.IndexMap.{IsEmpty, Updates, get};
+ghost use Rattle.std.specs.HashMap.{IsEmpty, Updates, get};
 ghost use Rattle.file_layout.specs.Sections.{IsItself, is_empty_list};
 ghost use Rattle.file_shared.specs.Sharing.{UsesItem};
 
 use dex_base::{Fault, Seed};
 use file_shared::Items;
-use indexmap::IndexMap;
 use std::alloc::Global;
+use std::collections::HashMap;
 
 /// The items of a part, by their bytes and by where they stood.
 pub(crate) struct Moved {
     pub items: Items,
-    pub places: IndexMap<u32, u32>,
+    pub places: HashMap<u32, u32>,
 }
 
 // As that of `Items`.
@@ -61,7 +61,7 @@ impl Moved {
     {
         Moved {
             items: Items::new(alloc, seed),
-            places: IndexMap::new(alloc),
+            places: HashMap::new(alloc),
         }
     }
 

@@ -3,7 +3,7 @@ use Rattle.std.proofs.Common.{◌≡◌, ℕ, List, [], ◌∷◌, ◌++◌, ref
 use Rattle.std.specs.Prelude.{MatchBool, ◌==◌}
 use Rattle.std.proofs.lemmas.Bool.{eqb-true}
 use Rattle.std.specs.List.{AllByRecursion, flat_map}
-use Rattle.indexmap.specs.IndexMap.{IndexMap}
+use Rattle.std.specs.HashMap.{HashMap}
 use Rattle.dex_container.specs.Frame.{IsFramed}
 use Rattle.dex_container.proofs.Standing.{At-one}
 use Rattle.file_assemble.specs.Spelling.{SpellsArray}
@@ -47,10 +47,10 @@ still_held s more (n ∷ ns) all = (holds_part s (with_names s more) n (with_nam
 
 -- ---- what was found stays so
 
-pub codes_stay : {S : Type 0} (b : List ℕ) (s : Five) (more : List Name) (m : IndexMap ℕ ℕ S) → AreCached (CodeIsFound b s) m → AreCached (CodeIsFound b (with_names s more)) m
+pub codes_stay : {S : Type 0} (b : List ℕ) (s : Five) (more : List Name) (m : HashMap ℕ ℕ S) → AreCached (CodeIsFound b s) m → AreCached (CodeIsFound b (with_names s more)) m
 codes_stay b s more m kept off n at = let c = kept off n at in record { wide = c.wide; names = λ code st. still_held s more (names_of_code code) (c.names code st) }
 
-pub arrays_stay : {S : Type 0} (b : List ℕ) (s : Five) (more : List Name) (m : IndexMap ℕ ℕ S) → AreCached (ArrayIsFound b s) m → AreCached (ArrayIsFound b (with_names s more)) m
+pub arrays_stay : {S : Type 0} (b : List ℕ) (s : Five) (more : List Name) (m : HashMap ℕ ℕ S) → AreCached (ArrayIsFound b s) m → AreCached (ArrayIsFound b (with_names s more)) m
 arrays_stay b s more m kept off n at = let c = kept off n at in record { wide = c.wide; names = λ most vs st. still_held s more (flat_map names_of_value vs) (c.names most vs st) }
 
 pub finds_marked : (b : List ℕ) (old : Found) (marks : Marked) (ns : List Name) → AddsNames b old.marks marks ns → FindsNames b old (record old { marks = marks }) ns

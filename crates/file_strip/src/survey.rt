@@ -25,16 +25,16 @@ use dex_container::{Section, Sections, kind, section_of};
 use dex_insn::IndexKind;
 use file_assemble::{Entries, class_count, class_word, entries_at, plus, times, word};
 use file_kept::{Marks, list_size, mark_array};
-use indexmap::IndexMap;
 use std::alloc::Global;
+use std::collections::HashMap;
 
 /// What was found so far: the marks, and of each code and each array that was looked at how many bytes it takes at most; the section in
 /// which codes stand.
 #[derive(Drop)]
 pub(crate) struct Found {
     pub marks: Marks,
-    pub codes: IndexMap<u32, u64>,
-    pub arrays: IndexMap<u32, u64>,
+    pub codes: HashMap<u32, u64>,
+    pub arrays: HashMap<u32, u64>,
     pub section: Section,
 }
 
@@ -176,8 +176,8 @@ pub fn look_at_classes(alloc: Global, seed: Seed, sections: &Sections<'_>) -> Re
 {
     let mut found = Found {
         marks: Marks::new(alloc, seed, sections)?,
-        codes: IndexMap::new(alloc),
-        arrays: IndexMap::new(alloc),
+        codes: HashMap::new(alloc),
+        arrays: HashMap::new(alloc),
         section: section_of(sections, kind::CODE_ITEM),
     };
     let mut wide: u64 = 0;

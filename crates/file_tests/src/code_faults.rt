@@ -9,8 +9,8 @@ use std::test::Fail;
 
 #[rattlefmt::skip]
 #[test]
-fn each_rule_of_code_has_its_fault(rt: HostRuntime) -> Result<(), Fail> {
-    static CASES: [Told; 54] = [
+fn instructions_and_branches_have_their_faults(rt: HostRuntime) -> Result<(), Fail> {
+    static CASES: [Told; 23] = [
         // The item begins at 204, the units at 220.
         Told(Whole, "no units", Code(0, &[], &[]), (fault::EMPTY_CODE, 204)),
         Told(Whole, "an opcode that is unused", Code(0, &[0x0e, 0x00, 0x3e, 0x00], &[]), (fault::OPCODE, 222)),
@@ -68,6 +68,15 @@ fn each_rule_of_code_has_its_fault(rt: HostRuntime) -> Result<(), Fail> {
             Whole, "branches go before payloads", Code(0, &[0x2b, 0, 3, 0, 0, 0, 0x28, 0x00], &[]),
             (fault::BRANCH_ZERO, 226),
         ),
+    ];
+    all_hold(rt.alloc(), &CASES)
+}
+
+#[rattlefmt::skip]
+#[test]
+fn payloads_have_their_faults(rt: HostRuntime) -> Result<(), Fail> {
+    static CASES: [Told; 13] = [
+        // The item begins at 204, the units at 220.
         Told(
             Whole, "a switch to no payload", Code(0, &[0x2b, 0, 3, 0, 0, 0, 0x0e, 0x00], &[]),
             (fault::PAYLOAD_USE, 220),
@@ -103,6 +112,39 @@ fn each_rule_of_code_has_its_fault(rt: HostRuntime) -> Result<(), Fail> {
             Code(0, &[0x2b, 0, 4, 0, 0, 0, 0, 0, 0, 1, 1, 0, 0, 0, 0, 0, 4, 0, 0, 0], &[]),
             (fault::BRANCH_TARGET, 228),
         ),
+        Told(
+            Whole, "the use of a payload goes before where it leads",
+            Code(0, &[0x2b, 0, 6, 0, 0, 0, 0x2b, 0, 0xff, 0xff, 0xff, 0xff, 0, 1, 1, 0, 0, 0, 0, 0, 1, 0, 0, 0], &[]),
+            (fault::PAYLOAD_USE, 226),
+        ),
+        Told(
+            Whole, "where a switch leads goes before tries",
+            Tries(&[0x2b, 0, 4, 0, 0, 0, 0, 0, 0, 1, 1, 0, 0, 0, 0, 0, 1, 0, 0, 0], &[(1, 1, 1)], ALL_TO_0),
+            (fault::BRANCH_TARGET, 228),
+        ),
+        Told(
+            Whole, "a sparse switch to the payload of a packed one",
+            Code(0, &[0x2b, 0, 6, 0, 0, 0, 0x2c, 0, 3, 0, 0, 0, 0, 1, 0, 0, 0, 0, 0, 0], &[]),
+            (fault::PAYLOAD_USE, 226),
+        ),
+        Told(
+            Whole, "a switch that leads nowhere after a payload that nothing uses",
+            Code(0, &[0, 1, 0, 0, 0, 0, 0, 0, 0x2b, 0, 0xff, 0xff, 0xff, 0xff], &[]), (fault::PAYLOAD_USE, 220),
+        ),
+        Told(
+            Whole, "a switch that leads nowhere before a payload that nothing uses",
+            Code(0, &[0x2b, 0, 0xff, 0xff, 0xff, 0xff, 0, 0, 0, 1, 0, 0, 0, 0, 0, 0], &[]),
+            (fault::PAYLOAD_USE, 220),
+        ),
+    ];
+    all_hold(rt.alloc(), &CASES)
+}
+
+#[rattlefmt::skip]
+#[test]
+fn tries_and_handlers_have_their_faults(rt: HostRuntime) -> Result<(), Fail> {
+    static CASES: [Told; 18] = [
+        // The item begins at 204, the units at 220.
         Told(
             Whole, "a try that begins in an instruction",
             Tries(&[0x13, 0, 0, 0, 0x0e, 0], &[(1, 1, 1)], ALL_TO_0), (fault::TRY, 228),
@@ -171,32 +213,8 @@ fn each_rule_of_code_has_its_fault(rt: HostRuntime) -> Result<(), Fail> {
             Tries(&[], &[(0, 1, 1)], ALL_TO_0), (fault::EMPTY_CODE, 204),
         ),
         Told(
-            Whole, "the use of a payload goes before where it leads",
-            Code(0, &[0x2b, 0, 6, 0, 0, 0, 0x2b, 0, 0xff, 0xff, 0xff, 0xff, 0, 1, 1, 0, 0, 0, 0, 0, 1, 0, 0, 0], &[]),
-            (fault::PAYLOAD_USE, 226),
-        ),
-        Told(
-            Whole, "where a switch leads goes before tries",
-            Tries(&[0x2b, 0, 4, 0, 0, 0, 0, 0, 0, 1, 1, 0, 0, 0, 0, 0, 1, 0, 0, 0], &[(1, 1, 1)], ALL_TO_0),
-            (fault::BRANCH_TARGET, 228),
-        ),
-        Told(
             Whole, "try_items that are cut go before no units", Code(1, &[], &[0, 0, 0, 0, 1, 0, 1]),
             (fault::CODE_PLACE, 204),
-        ),
-        Told(
-            Whole, "a sparse switch to the payload of a packed one",
-            Code(0, &[0x2b, 0, 6, 0, 0, 0, 0x2c, 0, 3, 0, 0, 0, 0, 1, 0, 0, 0, 0, 0, 0], &[]),
-            (fault::PAYLOAD_USE, 226),
-        ),
-        Told(
-            Whole, "a switch that leads nowhere after a payload that nothing uses",
-            Code(0, &[0, 1, 0, 0, 0, 0, 0, 0, 0x2b, 0, 0xff, 0xff, 0xff, 0xff], &[]), (fault::PAYLOAD_USE, 220),
-        ),
-        Told(
-            Whole, "a switch that leads nowhere before a payload that nothing uses",
-            Code(0, &[0x2b, 0, 0xff, 0xff, 0xff, 0xff, 0, 0, 0, 1, 0, 0, 0, 0, 0, 0], &[]),
-            (fault::PAYLOAD_USE, 220),
         ),
     ];
     all_hold(rt.alloc(), &CASES)

@@ -138,6 +138,7 @@ impl Made {
         }
     }
 
+    // The rows are in three functions, since a function that names many constants is expensive to prove.
     fn rows(&self) -> Rows<'static> {
         match *self {
             Made::OfOneClass => OF_ONE_CLASS,
@@ -145,18 +146,32 @@ impl Made {
             Made::OfNamed | Made::Named(_, _) | Made::Both(_, _) => NAMED,
             Made::Strings(strings) => Rows { strings, ..NOTHING },
             Made::OfLists => LISTS,
+            _ => self.proto_rows(),
+        }
+    }
+
+    fn proto_rows(&self) -> Rows<'static> {
+        match *self {
             Made::Protos(protos) => Rows {
                 protos,
                 ..TWO_PROTOS
             },
             Made::OfVoid => OF_VOID,
-            Made::Classes(classes) => Rows {
-                classes,
-                ..TWO_CLASSES
-            },
             Made::Parameterless(protos) => Rows {
                 protos,
                 ..PARAMETERLESS
+            },
+            Made::FarApart => FAR_APART,
+            Made::Spare(_) => SPARE,
+            _ => self.class_rows(),
+        }
+    }
+
+    fn class_rows(&self) -> Rows<'static> {
+        match *self {
+            Made::Classes(classes) => Rows {
+                classes,
+                ..TWO_CLASSES
             },
             Made::Members(class_data) => Rows {
                 class_data,
@@ -166,8 +181,6 @@ impl Made {
                 class_data,
                 ..TWO_METHODS
             },
-            Made::FarApart => FAR_APART,
-            Made::Spare(_) => SPARE,
             Made::Values(arrays) => Rows {
                 arrays,
                 ..ONE_FIELD

@@ -273,17 +273,16 @@ fn rank_of<'a>(arena: &'a Bump, ranks: &Ranks<'a>, said: Said) -> Result<Option<
 
 /// A prototype is no name.
 fn rank_of_name<'a>(arena: &'a Bump, ranks: &Ranks<'a>, said: Said) -> Result<Option<u32>, Fault> {
-    Ok(match said {
-        Said::Text(string) => ranks.index_of(Name::Text(text(arena, string)?)),
-        Said::Type(descriptor) => ranks.index_of(Name::Desc(ty(arena, descriptor)?)),
-        Said::Field(class, name, kind) => {
-            ranks.index_of(Name::Field(field(arena, class, name, kind)?))
-        }
+    let name = match said {
+        Said::Text(string) => Name::Text(text(arena, string)?),
+        Said::Type(descriptor) => Name::Desc(ty(arena, descriptor)?),
+        Said::Field(class, name, kind) => Name::Field(field(arena, class, name, kind)?),
         Said::Method(class, name, ret, params) => {
-            ranks.index_of(Name::Method(method(arena, class, name, ret, params)?))
+            Name::Method(method(arena, class, name, ret, params)?)
         }
-        Said::Proto(_, _) => None,
-    })
+        Said::Proto(_, _) => return Ok(None),
+    };
+    Ok(ranks.index_of(name))
 }
 
 fn are_protos_ranked<'a>(arena: &'a Bump, ranks: &Ranks<'a>) -> Result<bool, Fault> {

@@ -2,7 +2,6 @@
 
 use crate::depths::nested;
 use bumpalo::Bump;
-use bumpalo::collections::into_bump_slice;
 use dex_base::{Fault, fault};
 use dex_samples::types::{A, B, INT, INTS, VOID};
 use dex_samples::{Case, all_hold};
@@ -62,11 +61,8 @@ fn is_body_ruled_so(alloc: Global, code: &Code<'_>, case: &Ruled) -> Result<bool
 }
 
 fn with_body<'a>(arena: &'a Bump, code: &'a Code<'a>) -> Result<&'a [Class<'a>], Fault> {
-    let mut directs = Vec::new(arena);
-    directs.push(method_with(code))?;
-    let mut classes = Vec::new(arena);
-    classes.push(class_with(&[], &[], into_bump_slice(directs)))?;
-    Ok(into_bump_slice(classes))
+    let directs = arena.try_alloc_slice_copy(&[method_with(code)])?;
+    Ok(arena.try_alloc_slice_copy(&[class_with(&[], &[], directs)])?)
 }
 
 fn method_with<'a>(code: &'a Code<'a>) -> Method<'a> {
@@ -83,14 +79,9 @@ fn is_nested_ruled_so(alloc: Global, arrays: u32, case: &Ruled) -> Result<bool, 
 }
 
 fn with_nested<'a>(arena: &'a Bump, arrays: u32) -> Result<&'a [Class<'a>], Fault> {
-    let value = nested(arena, Value::Null, arrays)?;
-    let mut values = Vec::new(arena);
-    values.push(value)?;
-    let mut statics = Vec::new(arena);
-    statics.push(FIELD)?;
-    let mut classes = Vec::new(arena);
-    classes.push(class_with(into_bump_slice(statics), into_bump_slice(values), &[]))?;
-    Ok(into_bump_slice(classes))
+    let values = arena.try_alloc_slice_copy(&[nested(arena, Value::Null, arrays)?])?;
+    let statics = arena.try_alloc_slice_copy(&[FIELD])?;
+    Ok(arena.try_alloc_slice_copy(&[class_with(statics, values, &[])])?)
 }
 
 /// The class `LA;` with these static fields, values and methods alone.
@@ -210,8 +201,8 @@ const COVER: Try<'static> = Try {
 
 #[rattlefmt::skip]
 #[test]
-fn names_kinds_of_types_and_the_orders_of_members_classes_and_values_are_ruled(rt: HostRuntime) -> Result<(), Fail> {
-    static CASES: [Ruled; 25] = [
+fn names_and_kinds_of_types_are_ruled(rt: HostRuntime) -> Result<(), Fail> {
+    static CASES: [Ruled; 7] = [
         Ruled("no class", Given::Classes(&[]), 0, 0),
         Ruled(
             "a class with a field, a method and a superclass",
@@ -236,6 +227,14 @@ fn names_kinds_of_types_and_the_orders_of_members_classes_and_values_are_ruled(r
             Given::Classes(&[Class { virtuals: &[Method { proto: &Proto { ret: INT, params: &[VOID] }, ..METHOD }], ..EMPTY }]),
             fault::PROGRAM_NAME, 0,
         ),
+    ];
+    all_hold(rt.alloc(), &CASES)
+}
+
+#[rattlefmt::skip]
+#[test]
+fn what_a_class_holds_is_ruled(rt: HostRuntime) -> Result<(), Fail> {
+    static CASES: [Ruled; 8] = [
         Ruled(
             "a virtual method with an opcode of another format",
             Given::Classes(&[Class { virtuals: &[Method { code: Some(&Code { insns: &[Insn::I10x { op: 0x01 }], ..BODY }), ..METHOD }], ..EMPTY }]),
@@ -255,6 +254,21 @@ fn names_kinds_of_types_and_the_orders_of_members_classes_and_values_are_ruled(r
             "a method given twice", Given::Classes(&[Class { directs: &[METHOD, METHOD], ..EMPTY }]),
             fault::PROGRAM_MEMBER_ORDER, 0,
         ),
+        Ruled(
+            "a value and no static field",
+            Given::Classes(&[Class { values: &[Value::Null], instances: &[FIELD], ..EMPTY }]), fault::PROGRAM_VALUES,
+            0,
+        ),
+        Ruled("a value of 64 arrays, one in the other", Given::Nested(64), 0, 0),
+        Ruled("a value of 65", Given::Nested(65), fault::PROGRAM_VALUES, 0),
+    ];
+    all_hold(rt.alloc(), &CASES)
+}
+
+#[rattlefmt::skip]
+#[test]
+fn the_order_of_classes_is_ruled(rt: HostRuntime) -> Result<(), Fail> {
+    static CASES: [Ruled; 5] = [
         Ruled("a class after its superclass", Given::Classes(&[EMPTY, Class { superclass: Some(A), ..SECOND }]), 0, 0),
         Ruled(
             "a class before its superclass", Given::Classes(&[Class { superclass: Some(B), ..EMPTY }, SECOND]),
@@ -269,6 +283,14 @@ fn names_kinds_of_types_and_the_orders_of_members_classes_and_values_are_ruled(r
             "a class before its superclass that is defined twice",
             Given::Classes(&[EMPTY, Class { superclass: Some(A), ..SECOND }, EMPTY]), fault::PROGRAM_CLASS_ORDER, 1,
         ),
+    ];
+    all_hold(rt.alloc(), &CASES)
+}
+
+#[rattlefmt::skip]
+#[test]
+fn interfaces_are_ruled_and_the_first_class_with_a_fault_is_told(rt: HostRuntime) -> Result<(), Fail> {
+    static CASES: [Ruled; 5] = [
         Ruled("nine interfaces", Given::Classes(&[Class { interfaces: &NINE, ..EMPTY }]), 0, 0),
         Ruled(
             "nine interfaces and the first again", Given::Classes(&[SECOND, Class { interfaces: &TEN, ..EMPTY }]),
@@ -288,21 +310,14 @@ fn names_kinds_of_types_and_the_orders_of_members_classes_and_values_are_ruled(r
             Given::Classes(&[Class { superclass: Some(A), ..EMPTY }, Class { statics: &[Member { name: NO_NAME, ..FIELD }], ..SECOND }]),
             fault::PROGRAM_CLASS_ORDER, 0,
         ),
-        Ruled(
-            "a value and no static field",
-            Given::Classes(&[Class { values: &[Value::Null], instances: &[FIELD], ..EMPTY }]), fault::PROGRAM_VALUES,
-            0,
-        ),
-        Ruled("a value of 64 arrays, one in the other", Given::Nested(64), 0, 0),
-        Ruled("a value of 65", Given::Nested(65), fault::PROGRAM_VALUES, 0),
     ];
     all_hold(rt.alloc(), &CASES)
 }
 
 #[rattlefmt::skip]
 #[test]
-fn instructions_payloads_and_tries_are_ruled(rt: HostRuntime) -> Result<(), Fail> {
-    static CASES: [Ruled; 28] = [
+fn instructions_are_ruled(rt: HostRuntime) -> Result<(), Fail> {
+    static CASES: [Ruled; 14] = [
         Ruled("return-void", Given::Body(&BODY), 0, 0),
         Ruled("no instruction", Given::Body(&Code { insns: &[], ..BODY }), fault::PROGRAM_OPERAND, 0),
         Ruled(
@@ -347,6 +362,14 @@ fn instructions_payloads_and_tries_are_ruled(rt: HostRuntime) -> Result<(), Fail
             fault::PROGRAM_REGISTER, 0,
         ),
         Ruled("ins past the registers", Given::Body(&Code { ins: 2, ..BODY }), fault::PROGRAM_REGISTER, 0),
+    ];
+    all_hold(rt.alloc(), &CASES)
+}
+
+#[rattlefmt::skip]
+#[test]
+fn payloads_are_ruled(rt: HostRuntime) -> Result<(), Fail> {
+    static CASES: [Ruled; 8] = [
         Ruled(
             "a switch and its payload",
             Given::Body(&Code { insns: &[Insn::I31t { op: 0x2b, a: 0, to: 1 }, Insn::Packed { first: 0, targets: &[0] }], ..BODY }),
@@ -387,6 +410,14 @@ fn instructions_payloads_and_tries_are_ruled(rt: HostRuntime) -> Result<(), Fail
             Given::Body(&Code { insns: &[Insn::I31t { op: 0x26, a: 0, to: 4294967295 }], ..BODY }),
             fault::PROGRAM_PAYLOAD_USE, 0,
         ),
+    ];
+    all_hold(rt.alloc(), &CASES)
+}
+
+#[rattlefmt::skip]
+#[test]
+fn tries_are_ruled(rt: HostRuntime) -> Result<(), Fail> {
+    static CASES: [Ruled; 6] = [
         Ruled("a try with a handler", Given::Body(&Code { tries: &[COVER], ..BODY }), 0, 0),
         Ruled(
             "a try that covers nothing", Given::Body(&Code { tries: &[Try { to: 0, ..COVER }], ..BODY }),

@@ -1,5 +1,5 @@
-//! The names of one kind that are needed: a hashed set in the order of first need, and, once no name is added, beside it the
-//! names in the order of their ranks. The set is never hashed a second time.
+//! The names of one kind that are needed, in the order of first need, and a hashed map of their numbers; once no name is added, beside
+//! the map the names in the order of their ranks. No name is hashed a second time.
 ghost use Rattle.std.specs.Prelude.{◌≡◌, ◌<◌, ◌^◌, ℕ, List, [], ◌∷◌, ◌++◌, map, false, true, OnOk, OnErr, IfOk, IfSome, IfNone, option_map, slice_get};
 ghost use Rattle.std.specs.List.{IsDistinct};
 ghost use Rattle.tables_names.specs.Rank.{Rising, is_member, LookUpAnswers, IsAt};
@@ -7,30 +7,39 @@ ghost use Rattle.tables_names.specs.Numbers.{with_last, RanksNames};
 
 use crate::row::Row;
 use crate::sorting::names_of;
-use indexmap::IndexSet;
 use program_types::Seed;
 use std::alloc::{AllocError, Global};
+use std::collections::HashMap;
+use std::collections::hash_map::Entry;
 use std::marker::Model;
 
-/// A set of names, in the order of first need, where the index of a name is its number. It stands for the list of their keys.
+/// A set of names, in the order of first need, where the place of a name is its number. It stands for the list of their keys.
 pub(crate) struct NameSet<N: Row> {
-    items: IndexSet<N, Seed>,
+    numbers: HashMap<N, usize, Seed>,
+    names: Vec<N>,
 }
 
 // Each place where a set is let go is proved: here it is one call, and derived it would be all that the set owns.
 impl<N: Row> Drop for NameSet<N> {
     fn drop(self) {
-        let NameSet { items: _ } = self;
+        let NameSet {
+            numbers: _,
+            names: _,
+        } = self;
     }
 }
 
 impl<N: Row> Model for NameSet<N> {
     ghost use Rattle.std.specs.Prelude.{List, map};
+    ghost use Rattle.std.specs.HashMap.{get};
     ghost use Rattle.program_types.specs.Key.{Key};
+    ghost use Rattle.tables_names.specs.Numbers.{NumbersSet};
 
     ghost Value = { List Key };
 
-    ghost view = { λ h. map N.key h.items.keys };
+    ghost view = { λ h. map N.key h.names.items };
+
+    ghost invariant = { λ h. NumbersSet N.key N.eq (get N.eq h.numbers) h.names.items };
 }
 
 impl<N: Row> NameSet<N> {
@@ -39,7 +48,8 @@ impl<N: Row> NameSet<N> {
         ensures { result ≡ [] }
     {
         NameSet {
-            items: IndexSet::with_hasher(alloc, seed),
+            numbers: HashMap::with_hasher(alloc, seed),
+            names: Vec::new(alloc),
         }
     }
 
@@ -48,7 +58,7 @@ impl<N: Row> NameSet<N> {
         ensures some { IfSome result (λ n. IsAt self.now n (N.key name.now)) }
         ensures none { IfNone result (is_member self.now (N.key name.now) ≡ false) }
     {
-        self.items.get_index_of(name)
+        self.numbers.get(name).copied()
     }
 
     /// Adds a name after the others, if it isn't there yet, and gives its number.
@@ -57,8 +67,16 @@ impl<N: Row> NameSet<N> {
         ensures number { IfOk result (λ n. IsAt self.new n (N.key name)) }
         ensures unchanged { OnErr result (self.new ≡ self.old) }
     {
-        let (number, _) = self.items.insert_full(name)?;
-        Ok(number)
+        self.names.reserve(1)?;
+        match self.numbers.entry(name)? {
+            Entry::Occupied(entry) => Ok(*entry.into_mut()), // after `get` a proof would not know the map
+            Entry::Vacant(entry) => {
+                let number = self.names.len();
+                entry.insert(number);
+                self.names.push(name)?; // there is room
+                Ok(number)
+            }
+        }
     }
 
     /// The names, in the order of first need.
@@ -66,7 +84,7 @@ impl<N: Row> NameSet<N> {
         ensures keys { map N.key result.now ≡ self.now }
         ensures distinct { IsDistinct N.eq result.now }
     {
-        self.items.as_slice()
+        &self.names
     }
 
     /// The same names with their ranks: those of these rows, in their order, and of each, by its number, its rank.
@@ -81,9 +99,9 @@ impl<N: Row> NameSet<N> {
     {
         let names = names_of(alloc, rows)?;
         let ranks = Vec::from_slice(alloc, ranks)?;
-        let NameSet { items } = self;
+        let NameSet { numbers, names: _ } = self;
         Ok(Ranked {
-            items,
+            numbers,
             names,
             ranks,
         })
@@ -132,10 +150,10 @@ pub(crate) struct Table<N: Row, P: Copy> {
     pub(crate) parts: Vec<P>,
 }
 
-/// A set of names that stays, in the order of first need, and beside it the names in the order of their ranks and of each, by its
-/// number, its rank. It stands for the rising list of their keys.
+/// A set of names that stays: of each its number, the names in the order of their ranks, and of each number the rank. It stands for
+/// the rising list of their keys.
 pub(crate) struct Ranked<N: Row> {
-    items: IndexSet<N, Seed>,
+    numbers: HashMap<N, usize, Seed>,
     names: Vec<N>,
     ranks: Vec<usize>,
 }
@@ -143,7 +161,7 @@ pub(crate) struct Ranked<N: Row> {
 impl<N: Row> Drop for Ranked<N> {
     fn drop(self) {
         let Ranked {
-            items: _,
+            numbers: _,
             names: _,
             ranks: _,
         } = self;
@@ -153,13 +171,14 @@ impl<N: Row> Drop for Ranked<N> {
 impl<N: Row> Model for Ranked<N> {
     ghost use Rattle.std.specs.Prelude.{List, map};
     ghost use Rattle.program_types.specs.Key.{Key};
-    ghost use Rattle.tables_names.specs.Numbers.{RanksNames};
+    ghost use Rattle.std.specs.HashMap.{get};
+    ghost use Rattle.tables_names.specs.Numbers.{NumbersTable};
 
     ghost Value = { List Key };
 
     ghost view = { λ h. map N.key h.names.items };
 
-    ghost invariant = { λ h. RanksNames (map N.key h.items.keys) (map N.key h.names.items) h.ranks.items };
+    ghost invariant = { λ h. NumbersTable N.key (get N.eq h.numbers) (map N.key h.names.items) h.ranks.items };
 }
 
 impl<N: Row> Ranked<N> {
@@ -181,8 +200,8 @@ impl<N: Row> Ranked<N> {
         ensures some { IfSome result (λ i. IsAt self.now i (N.key name.now)) }
         ensures none { IfNone result (is_member self.now (N.key name.now) ≡ false) }
     {
-        match self.items.get_index_of(name) {
-            Some(number) => Some(self.ranks[number]),
+        match self.numbers.get(name) {
+            Some(number) => Some(self.ranks[*number]),
             None => None,
         }
     }
@@ -196,7 +215,7 @@ impl<N: Row> Ranked<N> {
 
     /// What its hashes begin with.
     pub(crate) fn seed(&self) -> Seed {
-        *self.items.hasher()
+        *self.numbers.hasher()
     }
 
     /// The keys strictly rise.
@@ -204,7 +223,7 @@ impl<N: Row> Ranked<N> {
         ensures { Rising self.now }
     {
         // Only for the proof: what holds of each value of its type.
-        let _ = &self.items;
+        let _ = &self.numbers;
     }
 
     /// The name with this rank.

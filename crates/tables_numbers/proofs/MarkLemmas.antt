@@ -1,10 +1,8 @@
 -- The marks of the five tables.
-use Rattle.std.proofs.Common.{◌≡◌, ℕ, zero, suc, ◌+◌, ◌<◌, length, take, List, [], ◌∷◌, ◌++◌, map, get_or, set, refl, sym, ap, ◌∙◌, subst, arith, nat_eq, Bool, true, false, ◌||◌, if◌then◌else◌, true≢false, ◌⊎◌, inl, inr}
+use Rattle.std.proofs.Common.{◌≡◌, ℕ, zero, suc, ◌+◌, ◌<◌, length, take, List, [], ◌∷◌, ◌++◌, map, get_or, set, refl, sym, ap, ◌∙◌, subst, arith, nat_eq, Bool, true, false, cond, true≢false, ◌⊎◌, inl, inr}
 use Rattle.std.specs.List.{AllByRecursion, AllZip, list_any}
 use Rattle.std.proofs.lemmas.List.{take_more, map-append}
 use Rattle.std.proofs.lemmas.Bool.{eqb-true}
-use Rattle.indexmap.specs.IndexSet.{insert_key as insert_last}
-use Rattle.std.proofs.lemmas.List.Folds.{list_any-append}
 use Rattle.dex_container.specs.Frame.{IsFramed}
 use Rattle.dex_container.specs.Layout.{size_of}
 use Rattle.program_types.specs.Content.{Units, Proto, FieldRef, MethodRef, Name, OfText, OfDesc, OfField, OfMethod}
@@ -161,23 +159,22 @@ proto_marked b m s i p xs is up st marks =
 -- ---- a list
 
 -- one more offset
-kept_cases : (offsets more : List ℕ) (off other : ℕ) → more ≡ insert_last nat_eq offsets off → IsOneOf more other → IsOneOf offsets other ⊎ (other ≡ off)
-kept_cases offsets more off other is h = by (list_any (nat_eq off) offsets) (subst (λ (xs : List ℕ). IsOneOf xs other) is h)
-  where
-    last : (t : Bool) → nat_eq other off ≡ t → (list_any (nat_eq other) offsets || (t || false)) ≡ true → IsOneOf offsets other ⊎ (other ≡ off)
-    last true e h = inr (eqb-true other off e)
-    last false e h = elim (sub.or_cases (list_any (nat_eq other) offsets) false h) [ inl x ↦ inl x | inr x ↦ absurd cc ]
+abbrev HasMore : List ℕ → List ℕ → ℕ → Type 0
+HasMore offsets more off = (other : ℕ) → list_any (nat_eq other) more ≡ cond (nat_eq off other) true (list_any (nat_eq other) offsets)
 
-    by : (t : Bool) → IsOneOf (if t then offsets else offsets ++ off ∷ []) other → IsOneOf offsets other ⊎ (other ≡ off)
-    by true h = inl h
-    by false h = last (nat_eq other off) refl (sym (list_any-append (nat_eq other) offsets (off ∷ [])) ∙ h)
+kept_cases : (offsets more : List ℕ) (off other : ℕ) → HasMore offsets more off → IsOneOf more other → IsOneOf offsets other ⊎ (other ≡ off)
+kept_cases offsets more off other is h = by (nat_eq off other) refl (sym (is other) ∙ h)
+  where
+    by : (t : Bool) → nat_eq off other ≡ t → cond t true (list_any (nat_eq other) offsets) ≡ true → IsOneOf offsets other ⊎ (other ≡ off)
+    by true e h = inr (sym (eqb-true off other e))
+    by false e h = inl h
 
 -- the types of a list are held once they are marked
 pub all_held : (s : Five) (ts : List Units) → AllByRecursion (Holds s) (map OfDesc ts) → AllByRecursion (λ t. Holds s (OfDesc t)) ts
 all_held s [] all = tt
 all_held s (t ∷ ts) all = (all.0, all_held s ts all.1)
 
-pub list_marked : (b : List ℕ) (m : Marked) (s : Five) (off : ℕ) (ts : List Units) (more : List ℕ) → more ≡ insert_last nat_eq m.lists off → TypesAt b off ts → AreMarks b m (with_names s (map OfDesc ts)) → AreMarks b (record m { lists = more }) (with_names s (map OfDesc ts))
+pub list_marked : (b : List ℕ) (m : Marked) (s : Five) (off : ℕ) (ts : List Units) (more : List ℕ) → HasMore m.lists more off → TypesAt b off ts → AreMarks b m (with_names s (map OfDesc ts)) → AreMarks b (record m { lists = more }) (with_names s (map OfDesc ts))
 list_marked b m s off ts more is at a = record {
   framed = a.framed;
   closed = a.closed;

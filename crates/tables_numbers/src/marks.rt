@@ -12,8 +12,8 @@ use crate::numbers::Numbers;
 use base_bytes::Seed;
 use dex_container::{Sections, kind, section_of};
 use dex_insn::{Fault, IndexKind, u16_at};
-use indexmap::IndexSet;
 use std::alloc::Global;
+use std::collections::HashSet;
 use std::marker::Model;
 use tables_rows::{
     MemberTable, indexes_or_none, member_class, member_kind, member_name, proto_parameters,
@@ -30,7 +30,7 @@ pub struct Marks {
     protos: Vec<u32>,
     fields: Vec<u32>,
     methods: Vec<u32>,
-    lists: IndexSet<u32, Seed>,
+    lists: HashSet<u32, Seed>,
 }
 
 // Each place where marks are let go is proved: here it is one call, and derived it would be all that they own.
@@ -79,7 +79,7 @@ impl Marks {
             protos: unmarked(alloc, sections.table(kind::PROTO_ID_ITEM).0)?,
             fields: unmarked(alloc, sections.table(kind::FIELD_ID_ITEM).0)?,
             methods: unmarked(alloc, sections.table(kind::METHOD_ID_ITEM).0)?,
-            lists: IndexSet::with_hasher(alloc, seed),
+            lists: HashSet::with_hasher(alloc, seed),
         })
     }
 

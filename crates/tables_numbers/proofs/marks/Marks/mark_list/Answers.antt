@@ -52,7 +52,7 @@ returns-clause-marked c = λ ts at s a.
     let count = types_count b c.args.off xs ts c.section_of-lists.ensures.framed c.in-Some.ensures.some at in
     let whole : take j ts ≡ ts = take_all j ts (omega (arith, c.loop-j-test.false, c.in-Some.ensures.even, count)) in
     let marked : AreMarks b c.loop-j.self (with_names s (map OfDesc ts)) = subst (λ (us : List Units). AreMarks b c.loop-j.self (with_names s (map OfDesc us))) whole (c.loop-j.invariant ts at s a) in
-    list_marked b _ s c.args.off ts _ c.in_ok-insert.ensures.keys at (subst (λ (m : Marked). AreMarks b m (with_names s (map OfDesc ts))) (sym c.self-2.view_is) marked)
+    list_marked b _ s c.args.off ts _ c.in_ok-insert.ensures.updates.0 at (subst (λ (m : Marked). AreMarks b m (with_names s (map OfDesc ts))) (sym c.self-2.view_is) marked)
 
 pub returns-in_err-insert-clause-stays : goal.returns-in_err-insert-clause-stays
 returns-in_err-insert-clause-stays c =
