@@ -9,8 +9,8 @@ use std::test::Fail;
 
 #[rattlefmt::skip]
 #[test]
-fn programs_built_by_hand_are_written_and_read_again(rt: HostRuntime) -> Result<(), Fail> {
-    static CASES: [Left; 11] = [
+fn programs_built_by_hand_are_written(rt: HostRuntime) -> Result<(), Fail> {
+    static CASES: [Left; 4] = [
         Left("no class", Written(&[]), IsWithout),
         Left("a class built by hand", Written(&[ONE]), IsOne),
         // The list of the one parameter stands from 204 to 210, after it two zeros and the code item. The map
@@ -21,10 +21,25 @@ fn programs_built_by_hand_are_written_and_read_again(rt: HostRuntime) -> Result<
             Placed(&[(52, 276), (360, 204), (364, 0x2001), (368, 1), (372, 212)], 268, &[0, 0, 1, 0, 0, 9, 0xd4, 1]),
         ),
         Left(".. and the file ends with the map", Written(&[WITH_PARAMETER]), Ends(412)),
+    ];
+    all_hold(rt.alloc(), &CASES)
+}
+
+#[rattlefmt::skip]
+#[test]
+fn programs_that_are_written_are_read_again(rt: HostRuntime) -> Result<(), Fail> {
+    static CASES: [Left; 3] = [
         Left("no class, read again", Written(&[]), Classes(0)),
         Left("one method, read again", Written(&[ONE]), Classes(1)),
         Left("two methods, read again", Written(&[TWO]), Classes(1)),
-        // Items of equal content, of several uses, stand once.
+    ];
+    all_hold(rt.alloc(), &CASES)
+}
+
+#[rattlefmt::skip]
+#[test]
+fn items_of_equal_content_stand_once(rt: HostRuntime) -> Result<(), Fail> {
+    static CASES: [Left; 4] = [
         Left("bodies of one class", Written(&[TWO]), OneItem(392)),
         Left("type lists", Written(WITH_LISTS), Items(0x1001, 1)),
         Left("bodies", Written(WITH_BODIES), Items(0x2001, 1)),
