@@ -3,7 +3,7 @@ use Rattle.std.proofs.Common.{◌≡◌, ℕ, ◌+◌, ◌<◌, Bool, true, fals
 use Rattle.std.specs.declared.cmp.Ordering.{Ordering}
 use Rattle.std.specs.declared.cmp.Ordering.TheVariants.{Less, Greater}
 use Rattle.std.specs.Ordering.{is_eq, is_lt, eq_by_cmp, ordering_reverse}
-use Rattle.std.specs.Cmp.{IsEquivalence, Equal-is, tied_itself}
+use Rattle.std.specs.Cmp.{IsEquivalence, Equal-is, eq_by_cmp_equiv, tied_itself}
 use Rattle.std.specs.Option.{SomeIff, MatchOption}
 use Rattle.std.specs.Result.{OkIff, result_ok}
 use Rattle.std.specs.List.{list_any, IsDistinct, AllWithin}
@@ -35,13 +35,7 @@ module _ {N : Type 0} (key : N → Key) (eq : N → N → Bool) (by_key : (x y :
 
   -- others have two
   two_keys : (x y : N) → eq x y ≡ false → eq_by_cmp key_cmp (key y) (key x) ≡ false
-  two_keys x y e = by (eq_by_cmp key_cmp (key y) (key x)) refl
-    where
-      by : (b : Bool) → eq_by_cmp key_cmp (key y) (key x) ≡ b → eq_by_cmp key_cmp (key y) (key x) ≡ false
-      by true t =
-          let same : key y ≡ key x = key_cmp-same (key y) (key x) ((Equal-is (key_cmp (key y) (key x))).0 t) in
-          absurd (true≢false (sym (by_key x y ∙ (λ i. is_eq (key_cmp (key x) (same i))) ∙ ap is_eq (tied_itself key_cmp-total (key x))) ∙ e))
-      by false t = t
+  two_keys x y e = (eq_by_cmp_equiv key_cmp-total).symm (key y) (key x) ∙ sym (by_key x y) ∙ e
 
   -- what is there once more, with its number, changes nothing
   module _ (number new : N → Option ℕ) (xs : List N) (x : N) (v : ℕ) where

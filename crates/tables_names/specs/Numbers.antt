@@ -101,12 +101,12 @@ pub record RanksNames (names table : List Key) (ranks : List ℕ) : Type 0 where
 
 -- ---- what a look-up by a name answers
 
--- the names of a set, and of each, by its key, the number, which is its place among them
+-- of a name that is one of these, which differ, its number, the place where it stands; of another name nothing
 pub record NumbersSet {N : Type 0} (key : N → Key) (eq : N → N → Bool) (number : N → Option ℕ) (names : List N) : Type 0 where
   pub each : (name : N) → MatchOption (number name) (is_member (map key names) (key name) ≡ false) (λ n. IsAt (map key names) n (key name))
   pub distinct : IsDistinct eq names
 
--- .. by which the rank stands that it has in a table of just these names
+-- of a name that is in the table its number, at which its rank stands; of another name nothing
 pub record NumbersTable {N : Type 0} (key : N → Key) (number : N → Option ℕ) (table : List Key) (ranks : List ℕ) : Type 0 where
   pub each : (name : N) → MatchOption (number name) (is_member table (key name) ≡ false) (λ n. (n < length ranks) × IsAt table (slice_index ranks n) (key name))
   pub rises : Rising table

@@ -1,5 +1,5 @@
 //! The names of one kind that are needed, in the order of first need, and a hashed map of their numbers; once no name is added, beside
-//! the map the names in the order of their ranks. No name is hashed a second time.
+//! the map the names in the order of their ranks. The map is never made anew.
 ghost use Rattle.std.specs.Prelude.{◌≡◌, ◌<◌, ◌^◌, ℕ, List, [], ◌∷◌, ◌++◌, map, false, true, OnOk, OnErr, IfOk, IfSome, IfNone, option_map, slice_get};
 ghost use Rattle.std.specs.List.{IsDistinct};
 ghost use Rattle.tables_names.specs.Rank.{Rising, is_member, LookUpAnswers, IsAt};
